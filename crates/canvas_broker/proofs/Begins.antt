@@ -1,0 +1,90 @@
+-- The first pass keeps the rule, and so does each new one.
+use Rattle.std.proofs.Common.{◌≡◌, ◌≢◌, ℕ, ◌<◌, List, [], ◌∷◌, length, set, refl, sym, ap, subst, ⊎_elim, arith}
+use Rattle.std.proofs.lemmas.Bool.{false≢true}
+use mathlib.Core.Option.{some}
+use lib.ListN.{get_elem?, length-append}
+use Rattle.std.proofs.lemmas.List.{length-set}
+use Rattle.crossbeam_queue.specs.Fifo.{Forks, Admits}
+use Rattle.crossbeam_queue.proofs.Lists.{at_set}
+use Rattle.canvas_task.specs.History.{live, NoneBy}
+use Rattle.canvas_task.proofs.Histories.{In}
+use Rattle.canvas_broker.specs.Rule.{callers, Fits, Kept, view_of, root, newcomer, rooted}
+use Rattle.canvas_broker.specs.declared.view.View.{View}
+use Rattle.canvas_broker.proofs.Keeps.{All, none_of_none, old_caller, all_set, at_push}
+
+module _ {E : Type 0} where
+  pub begins : Kept [] (view_of (newcomer {E = E}) ∷ [])
+  begins =
+      let only : (j : ℕ) (u : View E) → get_elem? (view_of newcomer ∷ []) j ≡ some u → view_of newcomer ≡ u =
+      λ j u e. ⊎_elim (λ (t : (j < 0) × (get_elem? [] j ≡ some u)). absurd (omega (arith, t.0))) (λ (t : (j ≡ 0) × (view_of newcomer ≡ u)). t.1) (at_push [] (view_of newcomer) u j e) in (
+        [],
+        λ c. 0,
+        record {
+          legal = tt;
+          replays = refl;
+          numbered = λ c i. absurd (false≢true i);
+          fits = λ j u e. subst (λ (x : View E). Fits [] (λ c. 0) j x.knows) (only j u e) (([], refl, tt), (λ c i. absurd (false≢true i)), (λ i. absurd (false≢true i)), tt);
+          begun = λ _. (refl, λ j u e. ap (λ (x : View E). callers x.knows) (sym (only j u e)));
+          opened = omega arith;
+        },
+      )
+
+  -- a new pass does no harm
+  pub admits : Admits Kept (view_of (newcomer {E = E}))
+  admits items views h =
+      let log = h.0 in let owner = h.1 in let kept = h.2 in (
+        log,
+        owner,
+        record {
+          legal = kept.legal;
+          replays = kept.replays;
+          numbered = kept.numbered;
+          opened = let y = kept.opened in omega (arith, length-append views (view_of (newcomer {E = E}) ∷ []));
+          begun = λ e.
+              let first : get_elem? views 0 ≡ some (view_of newcomer) = ⊎_elim (λ (t : (0 < length views) × (get_elem? views 0 ≡ some (view_of newcomer))). t.1)
+              (λ (t : (0 ≡ length views) × (view_of newcomer ≡ view_of newcomer)). let y = kept.opened in let x : 0 ≡ length views = t.0 in absurd (omega (arith, y, x)))
+              (at_push views (view_of newcomer) (view_of newcomer) 0 e) in
+              let b = kept.begun first in (
+                b.0,
+                λ j u e'. ⊎_elim (λ (t : (j < length views) × (get_elem? views j ≡ some u)). b.1 j u t.1) (λ (t : (j ≡ length views) × (view_of newcomer ≡ u)). ap (λ (x : View E). callers x.knows) (sym t.1))
+                    (at_push views (view_of newcomer) u j e'),
+              );
+          fits = λ j u e. ⊎_elim (λ (t : (j < length views) × (get_elem? views j ≡ some u)). kept.fits j u t.1)
+              (λ (t : (j ≡ length views) × (view_of newcomer ≡ u)). subst (λ (x : View E). Fits log owner j x.knows) t.1
+              ((log, refl, none_of_none log), (λ c i. absurd (false≢true i)), (λ i. absurd (false≢true i)), tt))
+              (at_push views (view_of newcomer) u j e);
+        },
+      )
+
+  -- the first pass becomes the first caller
+  pub roots : Forks Kept 0 (view_of (newcomer {E = E})) (view_of root) (view_of newcomer)
+  roots items views h at =
+      let log = h.0 in let owner = h.1 in let kept = h.2 in let b = kept.begun at in
+      let owner' : ℕ → ℕ = λ c. 0 in
+      let vs : List (View E) = set views 0 (view_of root) in
+      let F : ℕ → View E → Type 0 = λ j u. Fits log owner' j u.knows in
+      let old : All F vs = all_set F views 0 (view_of root)
+      ((log, refl, subst (λ l. NoneBy (0 ∷ []) l) (sym b.0) tt), (λ c i. (refl, subst (λ l. In c (live l)) (sym b.0) i)), (λ i. i), tt)
+      (λ j u apart e. let f = kept.fits j u e in (f.0, (λ c i. absurd (false≢true (subst (λ l. In c l) (b.1 j u e) i))), f.2, f.3)) in
+      let size : length vs ≡ length views = length-set views 0 (view_of root) in (
+        log,
+        owner',
+        record {
+          legal = kept.legal;
+          replays = kept.replays;
+          numbered = kept.numbered;
+          opened = let y = kept.opened in omega (arith, size, length-append vs (view_of (newcomer {E = E}) ∷ []));
+          begun = λ e. absurd (⊎_elim
+              (λ (t : (0 < length vs) × (get_elem? vs 0 ≡ some (view_of newcomer))). ⊎_elim (λ (s : (0 ≡ 0) × (view_of root ≡ view_of newcomer)). old_caller 0 (view_of root) refl s.1)
+              (λ (s : (0 ≢ 0) × (get_elem? views 0 ≡ some (view_of newcomer))). s.0 refl) (at_set views 0 0 (view_of root) (view_of newcomer) t.1))
+              (λ (t : (0 ≡ length vs) × (view_of newcomer ≡ view_of newcomer)). let y = kept.opened in let x : 0 ≡ length vs = t.0 in omega (arith, y, x, size))
+              (at_push vs (view_of newcomer) (view_of newcomer) 0 e));
+          fits = λ j u e. ⊎_elim (λ (t : (j < length vs) × (get_elem? vs j ≡ some u)). old j u t.1)
+              (λ (t : (j ≡ length vs) × (view_of newcomer ≡ u)). subst (λ (x : View E). Fits log owner' j x.knows) t.1
+              ((log, refl, none_of_none log), (λ c i. absurd (false≢true i)), (λ i. absurd (false≢true i)), tt))
+              (at_push vs (view_of newcomer) u j e);
+        },
+      )
+
+  pub roots_at : (pass : ℕ) (v : View E) → pass ≡ 0 → v ≡ view_of newcomer → Forks Kept pass v (rooted v) (view_of newcomer)
+  roots_at pass v z e = subst (λ (y : ℕ × View E). Forks Kept y.0 y.1 (view_of root) (view_of newcomer)) (λ i. (sym z i, sym e i)) roots

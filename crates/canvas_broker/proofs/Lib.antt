@@ -1,0 +1,5 @@
+pub mod Joins
+pub mod Keeps
+pub mod Begins
+pub mod Batches
+pub mod Made

@@ -1,0 +1,24 @@
+//! Reading a canvas's text, as far as one can be long.
+
+use std::alloc::Global;
+use std::io::{self, Read};
+
+/// One byte more than the longest text, so that a longer one shows.
+const MOST_BYTES: usize = 1_048_577;
+
+const CHUNK: usize = 8192;
+
+/// Reads at most `MOST_BYTES` bytes in at most that many reads. A text that doesn't end within them is a fault.
+pub(crate) fn read_text<R: Read>(alloc: Global, reader: &mut R) -> io::Result<Vec<u8>> {
+    let mut text = Vec::new(alloc);
+    let mut chunk = [0u8; CHUNK];
+    for _ in 0..MOST_BYTES {
+        let room = MOST_BYTES.saturating_sub(text.len()).min(CHUNK);
+        let count = reader.read(&mut chunk[..room])?;
+        if count == 0 {
+            return Ok(text);
+        }
+        text.extend_from_slice(&chunk[..count])?;
+    }
+    Err(io::Error::from(io::ErrorKind::Other))
+}

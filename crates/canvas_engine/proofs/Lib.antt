@@ -1,0 +1,7 @@
+pub mod Seen
+pub mod Begun
+pub mod Queues
+pub mod PlainStates
+pub mod RowLookups
+pub mod ReportLemmas
+pub mod SameText

@@ -1,0 +1,15 @@
+use Rattle.std.proofs.Common.{◌≡◌, subst, IfOk}
+use Rattle.canvas_sig.specs.Normal.{normal}
+use Rattle.canvas_sig.specs.Tree.{Tree, numbered}
+use Rattle.canvas_rewrite.specs.Frozen.{tree_of}
+use Rattle.canvas_rewrite.specs.Same.{IsSame}
+use Rattle.canvas_engine.proofs.Begun.{on_ok}
+use Rattle.canvas_engine.proofs.text.plan_of.Goals as goal
+
+pub returns-clause-tree : goal.returns-clause-tree
+returns-clause-tree c =
+    let P : Tree → Type 0 = λ t. IfOk c.freeze.result (λ plan. tree_of plan ≡ numbered t) in subst P c.in_ok-line.ensures.value c.freeze.ensures.tree
+
+pub returns-clause-same : goal.returns-clause-same
+returns-clause-same c =
+    let P : Tree → Type 0 = λ t. IsSame t c.args.canvas.now in on_ok c.freeze.result _ (subst P c.in_ok-line.ensures.value c.in_ok-line.ensures.meaning)

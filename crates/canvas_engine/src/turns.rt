@@ -1,0 +1,156 @@
+ghost use Rattle.std.specs.Prelude.{◌≡◌, ◌≢◌, ◌++◌, ◌∷◌, ◌<◌, ◌≤◌, [], Some, OnOk, OnErr, IfOk, IfErr, IsTrue, length, map};
+ghost use Rattle.canvas_rewrite.specs.Eval.{skip, nothing};
+ghost use Rattle.canvas_rewrite.specs.FrozenView.{task_in};
+ghost use Rattle.canvas_engine.specs.Plain.{are_plain, states_of, Begins};
+ghost use Rattle.canvas_rewrite.specs.Frozen.{elements_of, tree_of};
+ghost use Rattle.canvas_rewrite.specs.States.{states};
+ghost use Rattle.canvas_engine.specs.Runs.{HasBegun, IsRunFault};
+ghost use Rattle.canvas_engine.specs.Messages.{message_states, option_states, queued_states};
+
+use crate::message::Message;
+use crate::{Cause, Report, RunFault};
+use canvas_rewrite::{FrozenTask, Plan};
+use canvas_task::{Fault, ListOf, Memory, Outcome};
+use std::alloc::Global;
+use std::collections::VecDeque;
+
+/// Stores the outcome of the next task.
+fn store(rows: &mut Vec<Option<Outcome>>, outcome: Outcome) -> Result<(), Memory>
+    ensures ok { OnOk result (rows.new.items ≡ rows.old.items ++ Some outcome ∷ []) }
+    ensures err { OnErr result (rows.new.items ≡ rows.old.items) }
+{
+    rows.push(Some(outcome))?;
+    Ok(())
+}
+
+/// Stores the same exception for each of some tasks.
+fn skip_all(
+    tasks: &[FrozenTask],
+    fault: &Fault,
+    rows: &mut Vec<Option<Outcome>>,
+) -> Result<(), Memory>
+    ensures ok { OnOk result (rows.new.items ≡ rows.old.items ++ states_of (map task_in tasks.now) (skip fault.now)) }
+    ensures err { OnErr result (Begins rows.new.items (rows.old.items ++ states_of (map task_in tasks.now) (skip fault.now))) }
+{
+    for _task in tasks {
+        store(rows, Outcome::Failure(*fault))?;
+    }
+    Ok(())
+}
+
+/// Puts a message, if there is one, into an empty queue.
+fn publish<'p>(
+    message: Option<Message<'p>>,
+    queue: &mut VecDeque<Message<'p>>,
+) -> Result<(), Memory>
+    requires { queue.old.items ≡ [] }
+    ensures states { OnOk result (queued_states queue.new.items ≡ option_states message.entry) }
+    ensures few { length queue.new.items ≤ 1 }
+    ensures err { OnErr result (queue.new.items ≡ []) }
+{
+    match message {
+        Some(message) => {
+            queue.push_back(message)?;
+            Ok(())
+        }
+        None => Ok(()),
+    }
+}
+
+/// Runs a message: stores its task's outcome, and publishes what follows, or skips it where the task failed.
+fn run_message<'p>(
+    alloc: Global,
+    message: Message<'p>,
+    queue: &mut VecDeque<Message<'p>>,
+    rows: &mut Vec<Option<Outcome>>,
+) -> Result<(), Memory>
+    requires { queue.old.items ≡ [] }
+    ensures ok { OnOk result (rows.new.items ++ queued_states queue.new.items ≡ rows.old.items ++ message_states message.entry) }
+    ensures more { OnOk result (length rows.old.items < length rows.new.items) }
+    ensures few { OnOk result (length queue.new.items ≤ 1) }
+    ensures err { OnErr result (Begins rows.new.items (rows.old.items ++ message_states message.entry)) }
+{
+    let outcome = message.outcome();
+    let rest = message.rest();
+    store(rows, outcome)?;
+    match outcome {
+        Outcome::Success(number) => publish(Message::first(alloc, rest, Some(number))?, queue),
+        Outcome::Failure(fault) => skip_all(rest, &fault, rows),
+    }
+}
+
+/// Runs messages until there are none.
+fn drain<'p>(
+    alloc: Global,
+    queue: &mut VecDeque<Message<'p>>,
+    rows: &mut Vec<Option<Outcome>>,
+) -> Result<(), Memory>
+    requires { length queue.old.items ≤ 1 }
+    ensures ok { OnOk result (rows.new.items ≡ rows.old.items ++ queued_states queue.old.items) }
+    ensures err { OnErr result (Begins rows.new.items (rows.old.items ++ queued_states queue.old.items)) }
+{
+    while let Some(message) = queue.pop_front() {
+        run_message(alloc, message, queue, rows)?;
+    }
+    Ok(())
+}
+
+/// Runs tasks one after another.
+fn run_tasks(
+    alloc: Global,
+    tasks: &[FrozenTask],
+    rows: &mut Vec<Option<Outcome>>,
+) -> Result<(), Memory>
+    ensures ok { OnOk result (rows.new.items ≡ rows.old.items ++ states_of (map task_in tasks.now) nothing) }
+    ensures err { OnErr result (Begins rows.new.items (rows.old.items ++ states_of (map task_in tasks.now) nothing)) }
+{
+    let mut queue = VecDeque::new(alloc);
+    publish(Message::first(alloc, tasks, None)?, &mut queue)?;
+    drain(alloc, &mut queue, rows)
+}
+
+/// Runs a plan with one worker. On an Err the rows are what it has stored, if it began.
+fn run_alone(alloc: Global, plan: &Plan) -> Result<Report, Option<Report>>
+    requires { IsTrue (are_plain (elements_of plan.now)) }
+    ensures ok { IfOk result (λ report. report.rows ≡ states (tree_of plan.now)) }
+    ensures err { IfErr result (λ rows. HasBegun rows (states (tree_of plan.now))) }
+{
+    let tasks = plan.line().tasks.get();
+    let Ok(mut rows) = Vec::with_capacity(alloc, plan.tasks() as usize) else {
+        return Err(None);
+    };
+    let ran = run_tasks(alloc, tasks, &mut rows);
+    let report = Report {
+        rows: ListOf::of(rows),
+    };
+    match ran {
+        Ok(()) => Ok(report),
+        Err(Memory) => Err(Some(report)),
+    }
+}
+
+/// Runs a plan on one thread. Today it takes one worker and no turns, and a plan of tasks alone.
+pub fn run_turns(
+    alloc: Global,
+    plan: &Plan,
+    workers: u32,
+    turns: &[u32],
+) -> Result<Report, RunFault>
+    requires { IsTrue (are_plain (elements_of plan.now)) }
+    ensures ok { IfOk result (λ report. (workers ≡ 1) × (turns.now ≡ []) × (report.rows ≡ states (tree_of plan.now))) }
+    ensures err { IfErr result (IsRunFault workers turns.now (states (tree_of plan.now))) }
+{
+    if workers != 1 {
+        return Err(RunFault::BadWorkers);
+    }
+    if !turns.is_empty() {
+        return Err(RunFault::BadTurn);
+    }
+    match run_alone(alloc, plan) {
+        Ok(report) => Ok(report),
+        Err(rows) => Err(RunFault::Halted {
+            cause: Cause::Memory,
+            rows,
+        }),
+    }
+}

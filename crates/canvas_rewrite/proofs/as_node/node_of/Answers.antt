@@ -1,0 +1,12 @@
+use Rattle.std.proofs.Common.{sym, subst}
+use Rattle.canvas_sig.specs.Tree.{Tree}
+use Rattle.canvas_rewrite.specs.FrozenView.{line_of}
+use Rattle.canvas_rewrite.specs.Same.{IsSame}
+use Rattle.canvas_rewrite.specs.View.{line_view}
+use Rattle.canvas_rewrite.proofs.CompactLaw.{compact_same}
+use Rattle.canvas_rewrite.proofs.as_node.node_of.Goals as goal
+
+pub returns-clause-meaning : goal.returns-clause-meaning
+returns-clause-meaning c =
+    let l = line_of c.args.line.now in
+    subst (λ t. IsSame t (line_view c.args.line.now)) (sym c.in_ok-line_node.ensures) (compact_same l)

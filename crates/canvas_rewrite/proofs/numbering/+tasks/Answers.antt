@@ -1,0 +1,25 @@
+use Rattle.std.proofs.Common.{rules, ◌≡◌, ◌∙◌, ◌+◌, ℕ, arith, map, ap, sym, refl}
+use Rattle.canvas_sig.specs.View.{task_view}
+use Rattle.canvas_sig.specs.declared.task_sig.TaskSig.{TaskSig, out-TaskSig}
+use Rattle.canvas_rewrite.specs.Numbering.{tasks_in, tasks_from}
+use Rattle.canvas_rewrite.proofs.FrozenViews.{task_counted, made_as}
+use Rattle.canvas_rewrite.proofs.numbering.+tasks.Goals as goal
+
+pub freeze_task-freeze_tasks-requires : goal.freeze_task-freeze_tasks-requires
+freeze_task-freeze_tasks-requires t c =
+    let s : TaskSig = c.args.sig.now in
+    let same : tasks_in (map task_view c.deref.result.now) ≡ tasks_in (map task_view (out-TaskSig s).links) = ap (λ ss. tasks_in (map task_view ss)) (c.deref.ensures.value ∙ c.get.ensures) in
+    (omega (arith, same, task_counted s), (omega arith, omega (arith, same, c.requires.few, task_counted s)))
+
+pub freeze_task-freeze_tasks-requires-2 : goal.freeze_task-freeze_tasks-requires-2
+freeze_task-freeze_tasks-requires-2 t c =
+    let s : TaskSig = c.args.sig.now in
+    let same : tasks_in (map task_view c.deref.result.now) ≡ tasks_in (map task_view (out-TaskSig s).links) = ap (λ ss. tasks_in (map task_view ss)) (c.deref.ensures.value ∙ c.get.ensures) in
+    let same_too : tasks_in (map task_view c.deref-2.result.now) ≡ tasks_in (map task_view (out-TaskSig s).errbacks) = ap (λ ss. tasks_in (map task_view ss)) (c.deref-2.ensures.value ∙ c.get-2.ensures) in
+    (omega (arith, same_too, task_counted s), (omega (arith, c.in_ok-links.ensures.next), omega (arith, same, same_too, c.in_ok-links.ensures.next, c.requires.few, task_counted s)))
+
+pub freeze_task-returns-clause-value : goal.freeze_task-returns-clause-value
+freeze_task-returns-clause-value t c =
+    made_as c.args.sig.now _ _ _ _ _ _ _ _ _ _ c.task_no-no.ensures c.in_ok-name.ensures.cases c.in_ok-args.ensures c.in_ok-kwargs.ensures
+    (ap (map _) c.of.ensures ∙ c.in_ok-links.ensures.value) (c.deref.ensures.value ∙ c.get.ensures) c.in_ok-links.ensures.next
+    (ap (map _) c.of-2.ensures ∙ c.in_ok-errbacks.ensures.value) (c.deref-2.ensures.value ∙ c.get-2.ensures)

@@ -1,0 +1,13 @@
+use Rattle.std.proofs.Common.{◌≡◌, subst}
+use Rattle.canvas_rewrite.specs.Frozen.{names, tree_of}
+use Rattle.canvas_rewrite.specs.Report.{names as named_tasks, counted_from}
+use Rattle.canvas_rewrite.proofs.NamesInOrder.{plan_names}
+use Rattle.canvas_rewrite.proofs.plan.Plan.name.Goals as goal
+
+pub returns-in-Some-clause-in_order : goal.returns-in-Some-clause-in_order
+returns-in-Some-clause-in_order c =
+    subst (λ l. named_tasks (tree_of l) ≡ counted_from 1 (names l)) c.self.view_is (plan_names _ c.self.invariant.planned)
+
+pub returns-in-None-clause-in_order : goal.returns-in-None-clause-in_order
+returns-in-None-clause-in_order c =
+    subst (λ l. named_tasks (tree_of l) ≡ counted_from 1 (names l)) c.self.view_is (plan_names _ c.self.invariant.planned)

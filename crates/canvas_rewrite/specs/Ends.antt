@@ -1,0 +1,13 @@
+-- The tasks whose outcomes are a canvas's result.
+use Rattle.std.specs.Prelude.{ℕ, Bool, true, false, List, [], ◌∷◌}
+use Rattle.canvas_rewrite.specs.declared.ends.Ends.{Ends}
+use Rattle.canvas_rewrite.specs.declared.ends.Ends.TheVariants.{One, Many}
+
+-- whether the result is a list
+abbrev pub is_list : Ends → Bool
+is_list (One task) = false
+is_list (Many tasks) = true
+
+abbrev pub tasks_of : Ends → List ℕ
+tasks_of (One task) = task ∷ []
+tasks_of (Many tasks) = tasks.now

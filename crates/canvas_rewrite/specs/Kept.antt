@@ -1,0 +1,20 @@
+-- What a plan keeps beside its line: all of it is said by the line.
+use Rattle.std.specs.Prelude.{◌≡◌, ℕ, Bool, List, map}
+use Rattle.canvas_rewrite.specs.Frozen.{count_line, line_groups, teams, ends_of, in_group, names}
+use Rattle.canvas_rewrite.specs.Placed.{bare}
+use Rattle.canvas_rewrite.specs.FrozenView.{p_line_view, line_in}
+use Rattle.canvas_rewrite.specs.Planned.{IsPlan}
+use Rattle.canvas_rewrite.specs.Teams.{team}
+use Rattle.canvas_rewrite.specs.declared.frozen.FrozenLine.{FrozenLine}
+use Rattle.canvas_rewrite.specs.declared.groups.Group.{Group}
+
+pub record Keeps (line : FrozenLine) (tasks count : ℕ) (its_names : List (List ℕ)) (groups : List Group) (ends : List ℕ) (list : Bool) : Type 0 where
+  -- nothing in the line has a place
+  pub placeless : p_line_view line ≡ bare (line_in line)
+  pub planned : IsPlan (line_in line)
+  pub counted : tasks ≡ count_line (line_in line)
+  pub teamed : count ≡ line_groups (line_in line)
+  pub named : its_names ≡ names (line_in line)
+  pub grouped : map team groups ≡ teams (line_in line)
+  pub ended : ends ≡ ends_of (line_in line)
+  pub listed : list ≡ in_group (line_in line)

@@ -1,0 +1,36 @@
+-- What a canvas that passed every check is, and so is its normal line.
+use Rattle.std.specs.Prelude.{◌≡◌, ◌≤◌, false}
+use Rattle.canvas_sig.specs.Tree.{Task, task, Tasks, no_tasks, and_task, Tree, one, chain, group, chord, Trees, no_trees, and_tree, IsFull, count, count_groups}
+use Rattle.canvas_sig.specs.Reach.{reach}
+use Rattle.canvas_sig.specs.Limits.{nests_group, most_tasks, most_groups, most_reach}
+use Rattle.canvas_sig.specs.Writable.{CallFits}
+
+-- each task's call has a name and arguments that a signature may have
+abbrev mutual
+  pub TaskSound : Task → Type 0
+  TaskSound (task k call links errbacks) = CallFits call × TasksSound links × TasksSound errbacks
+
+  pub TasksSound : Tasks → Type 0
+  TasksSound no_tasks = Unit {0}
+  TasksSound (and_task t ts) = TaskSound t × TasksSound ts
+
+abbrev mutual
+  pub IsSound : Tree → Type 0
+  IsSound (one t) = TaskSound t
+  IsSound (chain ts) = AreSound ts
+  IsSound (group g ms) = AreSound ms
+  IsSound (chord g h b) = AreSound h × IsSound b
+
+  pub AreSound : Trees → Type 0
+  AreSound no_trees = Unit {0}
+  AreSound (and_tree t ts) = IsSound t × AreSound ts
+
+pub record IsRunnable (t : Tree) : Type 0 where
+  pub sound : IsSound t
+  -- no chain is empty
+  pub full : IsFull t
+  -- each member of a group or header ends in a task
+  pub members_end : nests_group t ≡ false
+  pub few_tasks : count t ≤ most_tasks
+  pub few_groups : count_groups t ≤ most_groups
+  pub near : reach 0 t ≤ most_reach

@@ -1,0 +1,26 @@
+-- The data that a line stands for: its tasks, and then its group or chord.
+use Rattle.std.specs.Prelude.{List, [], ◌∷◌, map, Option, Some, None, Box}
+use Rattle.std.specs.declared.alloc.Global.{Global}
+use Rattle.canvas_sig.specs.Tree.{Tree, one, chain, group, chord, Trees, no_trees, and_tree}
+use Rattle.canvas_sig.specs.declared.task_sig.TaskSig.{TaskSig}
+use Rattle.canvas_sig.specs.View.{task_view}
+use Rattle.canvas_rewrite.specs.declared.line.Line.{Line}
+use Rattle.canvas_rewrite.specs.Frozen.{elements_of}
+use Rattle.canvas_rewrite.specs.FrozenView.{line_of}
+
+-- each member is a line, as a chain of its elements
+abbrev pub chains : List Trees → Trees
+chains [] = no_trees
+chains (l ∷ ls) = and_tree (chain l) (chains ls)
+
+-- a group, or a chord where there is a body
+abbrev pub group_or_chord : List Trees → Option Trees → Tree
+group_or_chord members None = group 0 (chains members)
+group_or_chord members (Some body) = chord 0 (chains members) (chain body)
+
+abbrev pub elements : Line → Trees
+elements l = elements_of (line_of l)
+
+-- a line is evaluated as the chain of its elements
+abbrev pub line_view : Line → Tree
+line_view l = chain (elements l)

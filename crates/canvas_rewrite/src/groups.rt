@@ -1,0 +1,121 @@
+// What a plan keeps beside its line.
+ghost use Rattle.std.specs.Prelude.{◌≡◌, ◌++◌, IfOk, map, OnOk};
+ghost use Rattle.canvas_rewrite.specs.Frozen.{ends_of, teams, in_group};
+ghost use Rattle.canvas_rewrite.specs.FrozenView.{line_in, end_in};
+ghost use Rattle.canvas_rewrite.specs.Numbering.{lines_ends, lines_all_teams};
+ghost use Rattle.canvas_rewrite.specs.Teams.{team};
+
+use crate::{FrozenEnd, FrozenLine};
+use canvas_task::TaskNo;
+use std::alloc::{AllocError, Global};
+
+/// A group or chord, with the last tasks of its members.
+#[derive(Drop)]
+pub(crate) struct Group {
+    pub(crate) chord: bool,
+    pub(crate) members: Vec<TaskNo>,
+}
+
+/// The tasks that the line ends in, put behind the others.
+#[cycle(ends)]
+pub(crate) fn push_ends(line: &FrozenLine, ends: &mut Vec<TaskNo>) -> Result<(), AllocError>
+    ensures { OnOk result (ends.new.items ≡ ends.old.items ++ ends_of (line_in line.now)) }
+{
+    match &line.tail {
+        Some(end) => push_end(end, ends),
+        None => match line.tasks.get().last() {
+            Some(task) => {
+                ends.push(task.no)?;
+                Ok(())
+            }
+            None => Ok(()),
+        },
+    }
+}
+
+#[cycle(ends)]
+fn push_end(end: &FrozenEnd, ends: &mut Vec<TaskNo>) -> Result<(), AllocError>
+    ensures { OnOk result (ends.new.items ≡ ends.old.items ++ ends_of (end_in end.now)) }
+{
+    match &end.body {
+        Some(body) => push_ends(body, ends),
+        None => push_all(end.members.get(), ends),
+    }
+}
+
+#[cycle(ends)]
+fn push_all(lines: &[FrozenLine], ends: &mut Vec<TaskNo>) -> Result<(), AllocError>
+    ensures { OnOk result (ends.new.items ≡ ends.old.items ++ lines_ends (map line_in lines.now)) }
+{
+    for line in lines {
+        push_ends(line, ends)?;
+    }
+    Ok(())
+}
+
+/// Whether the line ends in a group, or in a chord whose body ends so.
+pub(crate) fn is_in_group(line: &FrozenLine) -> bool
+    ensures { result ≡ in_group (line_in line.now) }
+{
+    match &line.tail {
+        Some(end) => match &end.body {
+            Some(body) => is_in_group(body),
+            None => true,
+        },
+        None => false,
+    }
+}
+
+/// The groups and chords of the line in file order, put behind the others.
+#[cycle(groups)]
+pub(crate) fn push_groups(
+    alloc: Global,
+    line: &FrozenLine,
+    groups: &mut Vec<Group>,
+) -> Result<(), AllocError>
+    ensures { OnOk result (map team groups.new.items ≡ map team groups.old.items ++ teams (line_in line.now)) }
+{
+    match &line.tail {
+        Some(end) => push_group(alloc, end, groups),
+        None => Ok(()),
+    }
+}
+
+#[cycle(groups)]
+fn push_group(alloc: Global, end: &FrozenEnd, groups: &mut Vec<Group>) -> Result<(), AllocError>
+    ensures { OnOk result (map team groups.new.items ≡ map team groups.old.items ++ teams (end_in end.now)) }
+{
+    let mut members = Vec::new(alloc);
+    push_all(end.members.get(), &mut members)?;
+    match &end.body {
+        Some(body) => {
+            groups.push(Group {
+                chord: true,
+                members,
+            })?;
+            push_all_groups(alloc, end.members.get(), groups)?;
+            push_groups(alloc, body, groups)
+        }
+        None => {
+            groups.push(Group {
+                chord: false,
+                members,
+            })?;
+            push_all_groups(alloc, end.members.get(), groups)
+        }
+    }
+}
+
+#[cycle(groups)]
+fn push_all_groups(
+    alloc: Global,
+    lines: &[FrozenLine],
+    groups: &mut Vec<Group>,
+) -> Result<(), AllocError>
+    ensures { OnOk result (map team groups.new.items ≡ map team groups.old.items ++ lines_all_teams (map line_in lines.now)) }
+{
+    for line in lines {
+        push_groups(alloc, line, groups)?;
+    }
+    Ok(())
+}

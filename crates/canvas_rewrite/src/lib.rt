@@ -1,0 +1,23 @@
+//! Normal lines of canvases, their numbers, and the plan of a run.
+#![tactic(auto)]
+
+mod as_node;
+mod ends;
+mod frozen;
+mod groups;
+mod growing;
+mod line;
+mod names;
+mod numbering;
+mod plan;
+mod rewriting;
+
+pub use as_node::node_of;
+pub use ends::Ends;
+pub use frozen::{Carried, FrozenEnd, FrozenLine, FrozenTask, Place};
+pub use line::{Line, LineEnd};
+pub use plan::{Plan, freeze};
+pub use rewriting::normalise;
+
+#[cfg(test)]
+mod tests;

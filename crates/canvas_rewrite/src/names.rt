@@ -1,0 +1,62 @@
+// The names of a line's tasks.
+ghost use Rattle.std.specs.Prelude.{◌≡◌, ◌++◌, OnOk, map};
+ghost use Rattle.canvas_rewrite.specs.Frozen.{task_names, names};
+ghost use Rattle.canvas_rewrite.specs.FrozenView.{task_in, line_in, end_in};
+ghost use Rattle.canvas_rewrite.specs.Numbering.{tasks_all_names, lines_all_names};
+
+use crate::{FrozenEnd, FrozenLine, FrozenTask};
+use canvas_task::TextOf;
+use std::alloc::AllocError;
+
+/// The names of the task, its links and its error callbacks, put behind the others.
+#[cycle(task_names)]
+fn push_task(task: &FrozenTask, found: &mut Vec<TextOf>) -> Result<(), AllocError>
+    ensures { OnOk result (found.new.items ≡ found.old.items ++ task_names (task_in task.now)) }
+{
+    found.push(task.name.clone()?)?;
+    push_tasks(task.links.get(), found)?;
+    push_tasks(task.errbacks.get(), found)
+}
+
+#[cycle(task_names)]
+fn push_tasks(tasks: &[FrozenTask], found: &mut Vec<TextOf>) -> Result<(), AllocError>
+    ensures { OnOk result (found.new.items ≡ found.old.items ++ tasks_all_names (map task_in tasks.now)) }
+{
+    for task in tasks {
+        push_task(task, found)?;
+    }
+    Ok(())
+}
+
+/// The names of the line's tasks in file order, put behind the others.
+#[cycle(line_names)]
+pub(crate) fn push_names(line: &FrozenLine, found: &mut Vec<TextOf>) -> Result<(), AllocError>
+    ensures { OnOk result (found.new.items ≡ found.old.items ++ names (line_in line.now)) }
+{
+    push_tasks(line.tasks.get(), found)?;
+    match &line.tail {
+        Some(end) => push_end(end, found),
+        None => Ok(()),
+    }
+}
+
+#[cycle(line_names)]
+fn push_end(end: &FrozenEnd, found: &mut Vec<TextOf>) -> Result<(), AllocError>
+    ensures { OnOk result (found.new.items ≡ found.old.items ++ names (end_in end.now)) }
+{
+    push_lines(end.members.get(), found)?;
+    match &end.body {
+        Some(body) => push_names(body, found),
+        None => Ok(()),
+    }
+}
+
+#[cycle(line_names)]
+fn push_lines(lines: &[FrozenLine], found: &mut Vec<TextOf>) -> Result<(), AllocError>
+    ensures { OnOk result (found.new.items ≡ found.old.items ++ lines_all_names (map line_in lines.now)) }
+{
+    for line in lines {
+        push_names(line, found)?;
+    }
+    Ok(())
+}

@@ -1,0 +1,151 @@
+// Numbers in file order.
+ghost use Rattle.std.specs.Prelude.{◌≡◌, ◌≤◌, ◌+◌, IfOk, map};
+ghost use Rattle.canvas_sig.specs.Tree.{count_task, number_task};
+ghost use Rattle.canvas_sig.specs.View.{task_view};
+ghost use Rattle.canvas_rewrite.specs.Frozen.{count_line, line_groups, number_line};
+ghost use Rattle.canvas_rewrite.specs.Placed.{bare, bare_task};
+ghost use Rattle.canvas_rewrite.specs.FrozenView.{line_of, end_of, p_task_view, p_line_view, p_end_view};
+ghost use Rattle.canvas_rewrite.specs.Numbering.{most, tasks_from, tasks_in, lines_from, lines_count, lines_teams, HasRoom};
+
+use crate::{FrozenEnd, FrozenLine, FrozenTask, Line, LineEnd};
+use canvas_sig::TaskSig;
+use canvas_task::{GroupNo, ListOf, TaskNo, copy_args, copy_kwargs};
+use std::alloc::{AllocError, Global};
+
+fn task_no(number: u32) -> TaskNo
+    requires { 1 ≤ number }
+    ensures { result ≡ number }
+{
+    TaskNo::new(number).unwrap()
+}
+
+fn group_no(number: u32) -> GroupNo
+    requires { 1 ≤ number }
+    ensures { result ≡ number }
+{
+    GroupNo::new(number).unwrap()
+}
+
+/// The task, numbered from `next` on, and the number after its last.
+#[cycle(tasks)]
+#[tactic(auto, using(crate::proofs::FrozenViews::task_counted))]
+fn freeze_task(alloc: Global, sig: &TaskSig, next: &mut u32) -> Result<FrozenTask, AllocError>
+    requires first { 1 ≤ next.old }
+    requires few { next.old + count_task (task_view sig.now) ≤ most }
+    ensures value { IfOk result (λ t. p_task_view t ≡ bare_task (number_task next.old (task_view sig.now))) }
+    ensures next { IfOk result (λ _. next.new ≡ next.old + count_task (task_view sig.now)) }
+{
+    let no = task_no(*next);
+    *next += 1;
+    let name = sig.name.clone()?;
+    let args = copy_args(&sig.args)?;
+    let kwargs = copy_kwargs(alloc, &sig.kwargs)?;
+    let links = freeze_tasks(alloc, sig.links.get(), next)?;
+    let errbacks = freeze_tasks(alloc, sig.errbacks.get(), next)?;
+    Ok(FrozenTask {
+        no,
+        name,
+        args,
+        kwargs,
+        immutable: sig.immutable,
+        links: ListOf::of(links),
+        errbacks: ListOf::of(errbacks),
+        place: None,
+    })
+}
+
+#[cycle(tasks)]
+fn freeze_tasks(
+    alloc: Global,
+    sigs: &[TaskSig],
+    next: &mut u32,
+) -> Result<Vec<FrozenTask>, AllocError>
+    requires first { 1 ≤ next.old }
+    requires few { next.old + tasks_in (map task_view sigs.now) ≤ most }
+    ensures value { IfOk result (λ ts. map p_task_view ts.items ≡ tasks_from next.old (map task_view sigs.now)) }
+    ensures next { IfOk result (λ _. next.new ≡ next.old + tasks_in (map task_view sigs.now)) }
+{
+    let mut frozen = Vec::new(alloc);
+    for sig in sigs {
+        frozen.push(freeze_task(alloc, sig, next)?)?;
+    }
+    Ok(frozen)
+}
+
+/// The line, its tasks and groups numbered from `task` and `group` on, and the numbers after its last.
+#[cycle(lines)]
+pub(crate) fn freeze_line(
+    alloc: Global,
+    line: &Line,
+    task: &mut u32,
+    group: &mut u32,
+) -> Result<FrozenLine, AllocError>
+    requires { HasRoom task.old group.old (count_line (line_of line.now)) (line_groups (line_of line.now)) }
+    ensures value { IfOk result (λ l. p_line_view l ≡ bare (number_line task.old group.old (line_of line.now))) }
+    ensures task { IfOk result (λ _. task.new ≡ task.old + count_line (line_of line.now)) }
+    ensures group { IfOk result (λ _. group.new ≡ group.old + line_groups (line_of line.now)) }
+{
+    let tasks = ListOf::of(freeze_tasks(alloc, line.tasks.get(), task)?);
+    match &line.tail {
+        None => Ok(FrozenLine { tasks, tail: None }),
+        Some(end) => {
+            let end = freeze_end(alloc, end, task, group)?;
+            let tail = Box::new(alloc, end)?;
+            Ok(FrozenLine {
+                tasks,
+                tail: Some(tail),
+            })
+        }
+    }
+}
+
+#[cycle(lines)]
+fn freeze_end(
+    alloc: Global,
+    end: &LineEnd,
+    task: &mut u32,
+    group: &mut u32,
+) -> Result<FrozenEnd, AllocError>
+    requires { HasRoom task.old group.old (count_line (end_of end.now)) (line_groups (end_of end.now)) }
+    ensures value { IfOk result (λ e. p_end_view e ≡ bare (number_line task.old group.old (end_of end.now))) }
+    ensures task { IfOk result (λ _. task.new ≡ task.old + count_line (end_of end.now)) }
+    ensures group { IfOk result (λ _. group.new ≡ group.old + line_groups (end_of end.now)) }
+{
+    let number = group_no(*group);
+    *group += 1;
+    let members = ListOf::of(freeze_lines(alloc, end.members.get(), task, group)?);
+    match &end.body {
+        None => Ok(FrozenEnd {
+            group: number,
+            members,
+            body: None,
+        }),
+        Some(body) => {
+            let body = freeze_line(alloc, body, task, group)?;
+            Ok(FrozenEnd {
+                group: number,
+                members,
+                body: Some(body),
+            })
+        }
+    }
+}
+
+#[cycle(lines)]
+fn freeze_lines(
+    alloc: Global,
+    lines: &[Line],
+    task: &mut u32,
+    group: &mut u32,
+) -> Result<Vec<FrozenLine>, AllocError>
+    requires { HasRoom task.old group.old (lines_count (map line_of lines.now)) (lines_teams (map line_of lines.now)) }
+    ensures value { IfOk result (λ ls. map p_line_view ls.items ≡ lines_from task.old group.old (map line_of lines.now)) }
+    ensures task { IfOk result (λ _. task.new ≡ task.old + lines_count (map line_of lines.now)) }
+    ensures group { IfOk result (λ _. group.new ≡ group.old + lines_teams (map line_of lines.now)) }
+{
+    let mut frozen = Vec::new(alloc);
+    for line in lines {
+        frozen.push(freeze_line(alloc, line, task, group)?)?;
+    }
+    Ok(frozen)
+}

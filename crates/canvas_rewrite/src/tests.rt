@@ -1,0 +1,92 @@
+use crate::{Ends, Plan, freeze, node_of, normalise};
+use canvas_sig::{read_canvas, write_node};
+use canvas_task::{GroupNo, TaskNo};
+use std::alloc::Global;
+use std::test::Fail;
+
+/// A chord of two sums and their sum, followed by a product.
+const CHORD_AND_TASK: &str =
+    r#"{"args":[],"immutable":false,"kwargs":{"tasks":[{"args":[],"immutable":false,"kwargs":{"body":{"args":[],"immutable":false,"kwargs":{},"options":{},"subtask_type":null,"task":"tasks.xsum"},"header":[{"args":[1,1],"immutable":false,"kwargs":{},"options":{},"subtask_type":null,"task":"tasks.add"},{"args":[2,2],"immutable":false,"kwargs":{},"options":{},"subtask_type":null,"task":"tasks.add"}]},"options":{},"subtask_type":"chord","task":"celery.chord"},{"args":[2],"immutable":false,"kwargs":{},"options":{},"subtask_type":null,"task":"tasks.mul"}]},"options":{},"subtask_type":"chain","task":"celery.chain"}"#;
+
+const ITS_NORMAL_TEXT: &str =
+    r#"{"args":[],"immutable":false,"kwargs":{"body":{"args":[],"immutable":false,"kwargs":{"tasks":[{"args":[],"immutable":false,"kwargs":{},"options":{},"subtask_type":null,"task":"tasks.xsum"},{"args":[2],"immutable":false,"kwargs":{},"options":{},"subtask_type":null,"task":"tasks.mul"}]},"options":{},"subtask_type":"chain","task":"celery.chain"},"header":[{"args":[1,1],"immutable":false,"kwargs":{},"options":{},"subtask_type":null,"task":"tasks.add"},{"args":[2,2],"immutable":false,"kwargs":{},"options":{},"subtask_type":null,"task":"tasks.add"}]},"options":{},"subtask_type":"chord","task":"celery.chord"}"#;
+
+const CHAIN_IN_A_CHAIN: &str =
+    r#"{"args":[],"immutable":false,"kwargs":{"tasks":[{"args":[],"immutable":false,"kwargs":{"tasks":[{"args":[1,1],"immutable":false,"kwargs":{},"options":{},"subtask_type":null,"task":"tasks.add"}]},"options":{},"subtask_type":"chain","task":"celery.chain"},{"args":[2],"immutable":false,"kwargs":{},"options":{},"subtask_type":null,"task":"tasks.mul"}]},"options":{},"subtask_type":"chain","task":"celery.chain"}"#;
+
+const FLATTENED: &str =
+    r#"{"args":[],"immutable":false,"kwargs":{"tasks":[{"args":[1,1],"immutable":false,"kwargs":{},"options":{},"subtask_type":null,"task":"tasks.add"},{"args":[2],"immutable":false,"kwargs":{},"options":{},"subtask_type":null,"task":"tasks.mul"}]},"options":{},"subtask_type":"chain","task":"celery.chain"}"#;
+
+const CHAIN_OF_ONE: &str =
+    r#"{"args":[],"immutable":false,"kwargs":{"tasks":[{"args":[1,1],"immutable":false,"kwargs":{},"options":{},"subtask_type":null,"task":"tasks.add"}]},"options":{},"subtask_type":"chain","task":"celery.chain"}"#;
+
+const TASK_ALONE: &str =
+    r#"{"args":[1,1],"immutable":false,"kwargs":{},"options":{},"subtask_type":null,"task":"tasks.add"}"#;
+
+const GROUP_OF_TEN: &str =
+    r#"{"args":[],"immutable":false,"kwargs":{"tasks":[{"args":[0,0],"immutable":false,"kwargs":{},"options":{},"subtask_type":null,"task":"tasks.add"},{"args":[1,1],"immutable":false,"kwargs":{},"options":{},"subtask_type":null,"task":"tasks.add"},{"args":[2,2],"immutable":false,"kwargs":{},"options":{},"subtask_type":null,"task":"tasks.add"},{"args":[3,3],"immutable":false,"kwargs":{},"options":{},"subtask_type":null,"task":"tasks.add"},{"args":[4,4],"immutable":false,"kwargs":{},"options":{},"subtask_type":null,"task":"tasks.add"},{"args":[5,5],"immutable":false,"kwargs":{},"options":{},"subtask_type":null,"task":"tasks.add"},{"args":[6,6],"immutable":false,"kwargs":{},"options":{},"subtask_type":null,"task":"tasks.add"},{"args":[7,7],"immutable":false,"kwargs":{},"options":{},"subtask_type":null,"task":"tasks.add"},{"args":[8,8],"immutable":false,"kwargs":{},"options":{},"subtask_type":null,"task":"tasks.add"},{"args":[9,9],"immutable":false,"kwargs":{},"options":{},"subtask_type":null,"task":"tasks.add"}]},"options":{},"subtask_type":"group","task":"celery.group"}"#;
+
+/// A chord of three tasks, whose body has an error callback.
+const CHORD: &str =
+    r#"{"args":[],"immutable":false,"kwargs":{"body":{"args":[],"immutable":false,"kwargs":{},"options":{"link_error":[{"args":[],"immutable":false,"kwargs":{},"options":{},"subtask_type":null,"task":"tasks.log_error"}]},"subtask_type":null,"task":"tasks.xsum"},"header":[{"args":[4,4],"immutable":false,"kwargs":{},"options":{},"subtask_type":null,"task":"tasks.add"},{"args":[1,0],"immutable":false,"kwargs":{},"options":{},"subtask_type":null,"task":"tasks.div"},{"args":[8,8],"immutable":false,"kwargs":{},"options":{},"subtask_type":null,"task":"tasks.add"}]},"options":{},"subtask_type":"chord","task":"celery.chord"}"#;
+
+fn plan_of(alloc: Global, text: &str) -> Result<Plan, Fail> {
+    let canvas = read_canvas(alloc, text.as_bytes())?;
+    Ok(freeze(alloc, &normalise(alloc, &canvas)?)?)
+}
+
+fn normal_text(alloc: Global, text: &str) -> Result<String, Fail> {
+    let canvas = read_canvas(alloc, text.as_bytes())?;
+    let line = normalise(alloc, &canvas)?;
+    Ok(write_node(alloc, &node_of(alloc, &line)?)?)
+}
+
+#[test]
+fn normal_texts(rt: HostRuntime) -> Result<(), Fail> {
+    let alloc = rt.alloc();
+    for (text, normal) in [
+        (CHORD_AND_TASK, ITS_NORMAL_TEXT),
+        (CHAIN_IN_A_CHAIN, FLATTENED),
+        (CHAIN_OF_ONE, TASK_ALONE),
+    ] {
+        assert_eq!(rt; normal_text(alloc, text)?.as_str(), normal);
+        assert_eq!(rt; normal_text(alloc, normal)?.as_str(), normal);
+    }
+    Ok(())
+}
+
+#[test]
+fn plan_of_a_chord_and_a_task(rt: HostRuntime) -> Result<(), Fail> {
+    let plan = plan_of(rt.alloc(), CHORD_AND_TASK)?;
+    let last = TaskNo::new(4).ok_or("four")?;
+    assert_eq!(rt; plan.tasks(), 4);
+    assert_eq!(rt; plan.name(last), Some("tasks.mul"));
+    assert_eq!(rt; plan.name(TaskNo::new(5).ok_or("five")?), None);
+    assert!(rt; matches!(plan.ends(), Ends::One(task) if task.get() == 4));
+    Ok(())
+}
+
+#[test]
+fn plan_of_a_chord(rt: HostRuntime) -> Result<(), Fail> {
+    let plan = plan_of(rt.alloc(), CHORD)?;
+    let first = GroupNo::new(1).ok_or("one")?;
+    let second = GroupNo::new(2).ok_or("two")?;
+    assert_eq!(rt; plan.groups(), 1);
+    assert_eq!(rt; plan.size_of(first), Some(3));
+    assert_eq!(rt; plan.size_of(second), None);
+    assert_eq!(rt; plan.members(second).len(), 0);
+    let members = plan.members(first);
+    assert_eq!(rt; members.len(), 3);
+    for (i, member) in members.iter().enumerate() {
+        assert_eq!(rt; member.get() as usize, i + 1);
+    }
+    Ok(())
+}
+
+#[test]
+fn ends_of_a_group(rt: HostRuntime) -> Result<(), Fail> {
+    let plan = plan_of(rt.alloc(), GROUP_OF_TEN)?;
+    assert_eq!(rt; plan.size_of(GroupNo::new(1).ok_or("one")?), None);
+    assert!(rt; matches!(plan.ends(), Ends::Many(tasks) if tasks.len() == 10));
+    Ok(())
+}

@@ -1,0 +1,46 @@
+-- One level of reading.
+use Rattle.std.proofs.Common.{◌≡◌, ◌≢◌, ℕ, zero, suc, ◌-◌, List, [], ◌∷◌, ◌++◌, map, Result, Ok, Err, refl, sym, ap, ◌∙◌, arith}
+use Rattle.std.specs.Prelude.{codes}
+use Rattle.std.proofs.lemmas.List.{map_push}
+use Rattle.serde_json.specs.Data.{Data}
+use Rattle.canvas_sig.specs.declared.fault.SigFault.{SigFault}
+use Rattle.canvas_sig.specs.declared.fault.SigFault.TheVariants.{Memory}
+use Rattle.canvas_sig.specs.Fields.{field, args, kwargs, link, link_error, listed, members, as_list, text_of, is_true}
+use Rattle.canvas_sig.specs.Reading.{Fails, each, arg_reading, named_reading, task_with, linked_with, task_reading, tree_with, tree_reading}
+use Rattle.canvas_sig.specs.Tree.{Task}
+use Rattle.canvas_sig.specs.View.{task_view}
+use Rattle.canvas_sig.specs.declared.task_sig.TaskSig.{TaskSig}
+use Rattle.canvas_sig.specs.declared.task_sig.TaskSig.TheViews.{roll-TaskSig}
+use Rattle.canvas_sig.specs.declared.task_sig.TaskSig.TheOpen.{TaskSig-F}
+use Rattle.canvas_sig.proofs.Each.{onto, one_more}
+use Rattle.canvas_sig.proofs.Views as seen
+
+pub task_level_below : (n : ℕ) (d : Data) → n ≢ 0 → task_reading n d ≡ linked_with (task_reading (n - 1)) d
+task_level_below zero d h = absurd (h refl)
+task_level_below (suc n) d h = let e : suc n - 1 ≡ n = omega arith in ap (λ m. linked_with (task_reading m) d) (sym e)
+
+pub tree_level_below : (n : ℕ) (d : Data) → n ≢ 0 → tree_reading n d ≡ tree_with (task_reading (n - 1)) (tree_reading (n - 1)) d
+tree_level_below zero d h = absurd (h refl)
+tree_level_below (suc n) d h = let e : suc n - 1 ≡ n = omega arith in ap (λ m. tree_with (task_reading m) (tree_reading m) d) (sym e)
+
+pub fails_with : {Y : Type 0} (e : SigFault) (r : Result Y SigFault) → r ≡ Err e → Fails e r
+fails_with Memory r h = tt
+fails_with e r h = h
+
+-- a task whose parts were read
+pub made : (f : Data → Result Task SigFault) (d : Data) (r : TaskSig-F TaskSig)
+    → each arg_reading (listed (args d)) ≡ Ok r.args
+    → each named_reading (members (kwargs d)) ≡ Ok r.kwargs
+    → each f (as_list (link d)) ≡ Ok (map task_view r.links)
+    → each f (as_list (link_error d)) ≡ Ok (map task_view r.errbacks)
+    → text_of (field (codes "task") d) ≡ r.name
+    → is_true (field (codes "immutable") d) ≡ r.immutable
+    → task_with f d ≡ Ok (task_view (roll-TaskSig r))
+made f d r a k l e n i = rw (a, k, l, e, n, i) (ap Ok (sym (seen.made r.name r.args r.kwargs r.immutable r.links r.errbacks)))
+
+-- one more was read, and seen by a view
+pub next_seen : {X Y : Type 0} (view : X → Y) (f : Data → Result Y SigFault) (xs new : List X) (x : X) (d : Data) (left now : List Data)
+    → new ≡ xs ++ x ∷ [] → f d ≡ Ok (view x) → left ≡ d ∷ now → onto (map view xs) (each f left) ≡ onto (map view new) (each f now)
+next_seen {X} {Y} view f xs new x d left now pushed read next =
+    ap (λ ds. onto (map view xs) (each f ds)) next ∙ one_more f (map view xs) d now (view x) read
+    ∙ ap (λ (ys : List Y). onto ys (each f now)) (sym (ap (map view) pushed ∙ map_push view xs x))

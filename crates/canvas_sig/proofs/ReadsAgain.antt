@@ -1,0 +1,114 @@
+-- The text that a canvas is written as is refused by nothing, and reads as the canvas.
+use Rattle.std.proofs.Common.{◌≡◌, ℕ, suc, ◌≤◌, pos, negsuc, List, length, Bool, true, false, Option, Some, None, Result, Ok, Err, IfOk, String, Global, string_bytes, refl, sym, ap, ◌∙◌, arith}
+use Rattle.std.specs.Prelude.{nat_lt, ◌||◌, if◌then◌else◌}
+use Rattle.std.specs.Str.{IsUtf8}
+use Rattle.std.proofs.lemmas.Bool.{ltb-false, le-ltb}
+use Rattle.std.proofs.lemmas.Str.{is_utf8-from_IsUtf8, IsUtf8-string_bytes}
+use Rattle.json.specs.Tree.{HasNumbers, ItemsHaveNumbers, MembersHaveNumbers, json_tokens}
+use Rattle.json.specs.Lex.{tokens}
+use Rattle.json.specs.Print.{IsNumber}
+use Rattle.json.proofs.Printed.Decimals.{IsNumber-decimal, IsNumber-signed_decimal}
+use Rattle.json.proofs.Printed.Tokens.{tokens-print}
+use Rattle.json.proofs.Printed.Trees.{ArePrintable-json_tokens}
+use Rattle.serde_json.specs.Data.{Num, unsigned, negative, float, Data, null, boolean, number, string, array, object, Items, no_items, item, Members, no_members, member, depth}
+use Rattle.serde_json.specs.Read.{read, max_depth}
+use Rattle.serde_json.specs.Written.{number_text, outline, items_outline, members_outline, compact_text}
+use Rattle.serde_json.proofs.Texts.{print-outline}
+use Rattle.canvas_sig.specs.declared.fault.SigFault.{SigFault}
+use Rattle.canvas_sig.specs.declared.fault.SigFault.TheVariants.{TooLarge}
+use Rattle.canvas_sig.specs.CanvasText.{most_bytes, json_of, json_fault, fault, Reads}
+use Rattle.canvas_sig.specs.Clean.{IsWhole, IsClean, AreClean, MembersClean, behind}
+use Rattle.canvas_sig.specs.Faults.{signature_fault, tree_of, judged}
+use Rattle.canvas_sig.specs.Limits.{most_nesting, tree_fault, nests_group, is_too_deep}
+use Rattle.canvas_sig.specs.Nesting.{nesting}
+use Rattle.canvas_sig.specs.Reading.{◌or_else◌, fault_if, tree_reading}
+use Rattle.canvas_sig.specs.Tree.{Tree}
+use Rattle.canvas_sig.specs.Writable.{IsCanvas}
+use Rattle.canvas_sig.specs.Writing.{tree_wire}
+use Rattle.canvas_sig.proofs.CleanWire.{tree_clean, tree_depth}
+use Rattle.canvas_sig.proofs.Law.{tree_judged}
+use Rattle.canvas_sig.proofs.RoundTrip.{tree_back}
+use Rattle.canvas_sig.proofs.WholeText.{text_again}
+
+-- ---- the text reads as the value
+
+whole_number : (n : Num) → IsWhole n → IsNumber (number_text n)
+whole_number (unsigned n) h = IsNumber-decimal n h
+whole_number (negative (pos n)) h = absurd h
+whole_number (negative (negsuc n)) h = IsNumber-signed_decimal (negsuc n) h
+whole_number (float x) h = absurd h
+
+mutual
+  clean_numbers : (d : Data) → IsClean d → HasNumbers (outline d)
+  clean_numbers null h = tt
+  clean_numbers (boolean b) h = tt
+  clean_numbers (number n) h = whole_number n h
+  clean_numbers (string s) h = tt
+  clean_numbers (array ds) h = items_numbers ds h
+  clean_numbers (object ms) h = members_numbers no_members ms h
+
+  items_numbers : (ds : Items) → AreClean ds → ItemsHaveNumbers (items_outline ds)
+  items_numbers no_items h = tt
+  items_numbers (item d ds) h = (clean_numbers d h.0, items_numbers ds h.1)
+
+  members_numbers : (before ms : Members) → MembersClean before ms → MembersHaveNumbers (members_outline ms)
+  members_numbers before no_members h = tt
+  members_numbers before (member k d ms) h = (clean_numbers d h.1, members_numbers (behind before k d) ms h.2)
+
+pub text_read : (d : Data) → IsClean d → depth d ≤ max_depth → read (compact_text d) ≡ Some d
+text_read d clean low =
+    text_again d (compact_text d) clean low
+    (ap tokens (sym (print-outline d)) ∙ tokens-print (json_tokens (outline d)) (ArePrintable-json_tokens (outline d) (clean_numbers d clean)))
+
+-- ---- no refusal
+
+judged_ok : {A : Type 0} (f : Option SigFault) (x y : A) → judged f x ≡ Ok y → (f ≡ None) × (x ≡ y)
+judged_ok None x y h = (refl, cc)
+judged_ok (Some e) x y h = absurd cc
+
+not_refused : (b : Bool) (e : SigFault) (o : Option SigFault) → (if b then Some e else o) ≡ None → (b ≡ false) × (o ≡ None)
+not_refused true e o h = absurd cc
+not_refused false e o h = (refl, h)
+
+either_false : (a b : Bool) → (a || b) ≡ false → a ≡ false
+either_false true b h = absurd cc
+either_false false b h = refl
+
+nothing_first : (b : Bool) (e : SigFault) (o : Option SigFault) → b ≡ false → o ≡ None → (fault_if b e or_else o) ≡ None
+nothing_first true e o h k = absurd cc
+nothing_first false e o h k = k
+
+nothing_then : (f g : Option SigFault) → f ≡ None → g ≡ None → (f or_else g) ≡ None
+nothing_then None g h k = k
+nothing_then (Some e) g h k = h
+
+not_deep : (t : Tree) → tree_fault t ≡ None → nesting t ≤ most_nesting
+not_deep t h =
+    let rest = (not_refused (nests_group t) _ _ h).1 in
+    let deep = (not_refused (is_too_deep t) _ _ rest).0 in
+    ltb-false most_nesting (nesting t) (either_false (nat_lt most_nesting (nesting t)) _ deep)
+
+reads_as : (t : Tree) (d : Data) → tree_reading (suc max_depth) d ≡ Ok t → (signature_fault d ≡ None) × (tree_of d ≡ t)
+unfolding signature_fault tree_of
+reads_as t d h = judged_ok (signature_fault d) (tree_of d) t (sym (tree_judged (suc max_depth) d) ∙ h)
+
+no_refusal : (t : Tree) (d : Data) (text : List ℕ) → length text ≤ most_bytes → json_of text ≡ Some d → signature_fault d ≡ None → tree_of d ≡ t → tree_fault t ≡ None
+    → fault text ≡ None
+no_refusal t d text short json first spells within =
+    nothing_first (nat_lt most_bytes (length text)) TooLarge (json_fault (json_of text)) (le-ltb most_bytes (length text) short)
+    (ap json_fault json ∙ nothing_then (signature_fault d) (tree_fault (tree_of d)) first (ap tree_fault spells ∙ within))
+
+pub reads_again : (t : Tree) (text : List ℕ) → IsCanvas t → text ≡ compact_text (tree_wire t) → IsUtf8 text → length text ≤ most_bytes → (fault text ≡ None) × Reads text t
+reads_again t text canvas is utf8 short =
+    let low = not_deep t canvas.within in
+    let d = tree_wire t in
+    let json : json_of text ≡ Some d =
+    ap (λ b. if b then read text else None) (is_utf8-from_IsUtf8 text utf8) ∙ ap read is ∙ text_read d (tree_clean t canvas.fits) (omega (arith, tree_depth t)) in
+    let spelled = reads_as t d (tree_back (suc max_depth) t canvas.fits (omega arith)) in
+    (no_refusal t d text short json spelled.0 spelled.1 canvas.within, (d, json, spelled.1))
+
+-- What a writer of the tree u returned reads as the canvas that u is.
+pub written_again : {E : Type 0} (r : Result (String Global) E) (u t : Tree) → u ≡ t → IsCanvas t → IfOk r (λ s. string_bytes s ≡ compact_text (tree_wire u))
+    → IfOk r (λ s. length (string_bytes s) ≤ most_bytes → (fault (string_bytes s) ≡ None) × Reads (string_bytes s) t)
+written_again (Ok s) u t same canvas is = λ short. reads_again t (string_bytes s) canvas (is ∙ ap (λ x. compact_text (tree_wire x)) same) (IsUtf8-string_bytes s) short
+written_again (Err e) u t same canvas is = tt

@@ -1,0 +1,8 @@
+use Rattle.std.proofs.Common.{◌≡◌, map, drop}
+use Rattle.serde_json.specs.View.{view}
+use Rattle.canvas_sig.specs.Reading.{each, arg_reading}
+use Rattle.canvas_sig.proofs.Each.{onto}
+use Rattle.canvas_sig.proofs.arguments.read_args.Given as goal
+
+abbrev pub invariant-loop-value : goal.invariant-loop-value
+invariant-loop-value l = each arg_reading (map view l.values) ≡ onto l.args.items (each arg_reading (map view (drop l.value-index l.values)))

@@ -1,0 +1,28 @@
+use Rattle.std.proofs.Common.{◌≡◌, ◌+◌, ◌*◌, map, drop}
+use Rattle.serde_json.specs.View.{view}
+use Rattle.canvas_sig.specs.Reading.{each, task_reading}
+use Rattle.canvas_sig.specs.View.{task_view}
+use Rattle.canvas_sig.proofs.Each.{onto}
+use Rattle.canvas_sig.proofs.reader.+read_task.Given as goal
+
+abbrev pub invariant-read_all_linked-loop-value : goal.invariant-read_all_linked-loop-value
+invariant-read_all_linked-loop-value l =
+    each (task_reading l.left) (map view l.values) ≡ onto (map task_view l.tasks.items) (each (task_reading l.left) (map view (drop l.value-index l.values)))
+
+abbrev pub decreases-read_linked : goal.decreases-read_linked
+decreases-read_linked l = 6 * l.left
+
+abbrev pub decreases-read_all_linked : goal.decreases-read_all_linked
+decreases-read_all_linked l = 6 * l.left + 1
+
+abbrev pub decreases-read_one_or_more : goal.decreases-read_one_or_more
+decreases-read_one_or_more l = 6 * l.left + 2
+
+abbrev pub decreases-read_link : goal.decreases-read_link
+decreases-read_link l = 6 * l.left + 3
+
+abbrev pub decreases-read_task : goal.decreases-read_task
+decreases-read_task l = 6 * l.left + 4
+
+abbrev pub decreases-read_checked_link : goal.decreases-read_checked_link
+decreases-read_checked_link l = 6 * l.left + 5

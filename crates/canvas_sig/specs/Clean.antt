@@ -1,0 +1,40 @@
+-- Values that are read again as they were written: whole numbers of 64 bits, and members in the order of their names.
+use Rattle.std.specs.Prelude.{◌≡◌, ℕ, ◌<◌, ◌^◌, pos, negsuc, List}
+use Rattle.std.specs.Ordering.{nat_cmp}
+use Rattle.std.specs.declared.cmp.Ordering.TheVariants.{Greater}
+use Rattle.std.specs.Cmp.Lexicographic.{slice_cmp}
+use Rattle.serde_json.specs.Data.{Num, unsigned, negative, float, Data, null, boolean, number, string, array, object, Items, no_items, item, Members, no_members, member}
+
+abbrev pub IsWhole : Num → Type 0
+IsWhole (unsigned n) = n < 2 ^ 64
+IsWhole (negative (pos n)) = ⊥
+IsWhole (negative (negsuc n)) = n < 2 ^ 63
+IsWhole (float x) = ⊥
+
+-- k is above each name
+abbrev pub IsAbove : List ℕ → Members → Type 0
+IsAbove k no_members = Unit {0}
+IsAbove k (member l d ms) = (slice_cmp nat_cmp k l ≡ Greater) × IsAbove k ms
+
+-- a member behind those before
+abbrev pub behind : Members → List ℕ → Data → Members
+behind no_members k d = member k d no_members
+behind (member l e ms) k d = member l e (behind ms k d)
+
+abbrev mutual
+  pub IsClean : Data → Type 0
+  IsClean null = Unit {0}
+  IsClean (boolean b) = Unit {0}
+  IsClean (number n) = IsWhole n
+  IsClean (string s) = Unit {0}
+  IsClean (array ds) = AreClean ds
+  IsClean (object ms) = MembersClean no_members ms
+
+  pub AreClean : Items → Type 0
+  AreClean no_items = Unit {0}
+  AreClean (item d ds) = IsClean d × AreClean ds
+
+  -- behind those before, in their order
+  pub MembersClean : Members → Members → Type 0
+  MembersClean before no_members = Unit {0}
+  MembersClean before (member k d ms) = IsAbove k before × IsClean d × MembersClean (behind before k d) ms

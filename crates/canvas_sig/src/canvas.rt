@@ -1,0 +1,107 @@
+//! Canvases: signatures that passed every check.
+
+ghost use Rattle.std.specs.Prelude.{◌≡◌, ◌≢◌, IfOk, IfErr};
+ghost use Rattle.serde_json.specs.View.{view as json_view};
+ghost use Rattle.canvas_sig.specs.declared.fault.SigFault.TheVariants.{Memory};
+ghost use Rattle.canvas_sig.specs.CanvasText.{json_of, json_reading, signature_reading, fault, Reads};
+ghost use Rattle.canvas_sig.specs.NodeFaults.{node_fault};
+ghost use Rattle.canvas_sig.specs.Reading.{Gives};
+ghost use Rattle.canvas_sig.specs.View.{view};
+ghost use Rattle.canvas_sig.specs.Writable.{IsCanvas};
+
+use crate::composed::check_node;
+use crate::limits::limit_fault;
+use crate::reader::read_node;
+use crate::{Node, SigFault};
+use serde_json::Value;
+use std::alloc::Global;
+use std::marker::Model;
+
+/// The longest text that is read, in bytes.
+const MOST_BYTES: usize = 1_048_576;
+
+/// One more than the levels that JSON is read to, so that no signature is cut off.
+const MOST_LEVELS: u32 = 128;
+
+/// A signature that passed every check. Two canvases are equal where they have the same content.
+#[derive(Drop)]
+pub struct Canvas {
+    node: Node,
+}
+
+impl Model for Canvas {
+    ghost use Rattle.canvas_sig.specs.Tree.{Tree};
+    ghost use Rattle.canvas_sig.specs.TreeCode.{tree_code};
+
+    ghost Value = { Tree };
+
+    ghost coded = { tree_code };
+
+    ghost use Rattle.canvas_sig.specs.View.{view as tree_view};
+    ghost use Rattle.canvas_sig.specs.Writable.{IsCanvas};
+
+    ghost view = { λ c. tree_view c.node };
+
+    ghost invariant = { λ c. IsCanvas (tree_view c.node) };
+}
+
+impl Canvas {
+    /// Checks a composed signature. A text can't spell most of its faults: only names, numbers and empty chains are looked at,
+    /// and then the limits of a canvas.
+    pub fn of(_alloc: Global, node: Node) -> Result<Canvas, SigFault>
+        ensures ok { IfOk result (λ canvas. (node_fault (view node) ≡ None) × (canvas ≡ view node)) }
+        ensures err { IfErr result (λ e. node_fault (view node) ≡ Some e) }
+    {
+        check_node(&node)?;
+        match limit_fault(&node) {
+            Some(fault) => Err(fault),
+            None => Ok(Canvas { node }),
+        }
+    }
+
+    pub fn node(&self) -> &Node
+        ensures seen { view result.now ≡ self.now }
+        ensures checked { IsCanvas self.now }
+    {
+        &self.node
+    }
+}
+
+fn parsed(alloc: Global, bytes: &[u8]) -> Result<Value, SigFault>
+    ensures { Gives json_view result (json_reading (json_of bytes.now)) }
+{
+    match Value::from_slice(alloc, bytes) {
+        Ok(value) => Ok(value),
+        Err(error) => Err(if error.is_memory() {
+            SigFault::Memory
+        } else {
+            SigFault::NotJson
+        }),
+    }
+}
+
+fn read_signature(alloc: Global, bytes: &[u8]) -> Result<Node, SigFault>
+    ensures { Gives view result (signature_reading bytes.now) }
+{
+    if bytes.len() > MOST_BYTES {
+        return Err(SigFault::TooLarge);
+    }
+    let value = parsed(alloc, bytes)?;
+    read_node(alloc, &value, MOST_LEVELS)
+}
+
+/// The canvas that a text spells, or its first refusal.
+#[tactic(auto, using(crate::proofs::TextLemmas::fails_refused))]
+pub fn read_canvas(alloc: Global, bytes: &[u8]) -> Result<Canvas, SigFault>
+    ensures ok { IfOk result (λ canvas. (fault bytes.now ≡ None) × Reads bytes.now canvas) }
+    ensures err { IfErr result (λ e. e ≢ Memory → fault bytes.now ≡ Some e) }
+{
+    let node = read_signature(alloc, bytes)?;
+    match limit_fault(&node) {
+        Some(fault) => Err(fault),
+        None => Ok(Canvas { node }),
+    }
+}
+
+#[cfg(test)]
+mod tests;

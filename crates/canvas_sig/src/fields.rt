@@ -1,0 +1,114 @@
+//! Look-ups in a signature, and tests of what they found.
+
+ghost use Rattle.std.specs.Prelude.{◌≡◌, map};
+ghost use Rattle.serde_json.specs.View.{view};
+ghost use Rattle.canvas_sig.specs.Fields.{found, kwarg, option, is_null, is_list, is_true, is_flag, is_list_or_null, is_object_or_null, is_link, is_empty, listed};
+
+use serde_json::Value;
+
+pub(crate) fn is_null(field: Option<&Value>) -> bool
+    ensures { result ≡ is_null (found field.entry) }
+{
+    matches!(field, None | Some(Value::Null))
+}
+
+pub(crate) fn is_true(field: Option<&Value>) -> bool
+    ensures { result ≡ is_true (found field.entry) }
+{
+    match field {
+        Some(Value::Bool(b)) => *b,
+        _ => false,
+    }
+}
+
+pub(crate) fn is_flag(field: Option<&Value>) -> bool
+    ensures { result ≡ is_flag (found field.entry) }
+{
+    matches!(field, None | Some(Value::Null | Value::Bool(_)))
+}
+
+pub(crate) fn is_list_or_null(field: Option<&Value>) -> bool
+    ensures { result ≡ is_list_or_null (found field.entry) }
+{
+    matches!(field, None | Some(Value::Null | Value::Array(_)))
+}
+
+pub(crate) fn is_object_or_null(field: Option<&Value>) -> bool
+    ensures { result ≡ is_object_or_null (found field.entry) }
+{
+    matches!(field, None | Some(Value::Null | Value::Object(_)))
+}
+
+pub(crate) fn is_link(field: Option<&Value>) -> bool
+    ensures { result ≡ is_link (found field.entry) }
+{
+    matches!(
+        field,
+        None | Some(Value::Null | Value::Array(_) | Value::Object(_))
+    )
+}
+
+pub(crate) fn is_list(field: Option<&Value>) -> bool
+    ensures { result ≡ is_list (found field.entry) }
+{
+    matches!(field, Some(Value::Array(_)))
+}
+
+/// Null, or a list of nothing.
+pub(crate) fn is_empty(field: Option<&Value>) -> bool
+    ensures { result ≡ is_empty (found field.entry) }
+{
+    match field {
+        Some(value) => is_empty_value(value),
+        None => true,
+    }
+}
+
+fn is_empty_value(value: &Value) -> bool
+    ensures { result ≡ is_empty (view value.now) }
+{
+    match value {
+        Value::Null => true,
+        Value::Array(values) => values.is_empty(),
+        _ => false,
+    }
+}
+
+fn items(value: &Value) -> &[Value]
+    ensures { map view result.now ≡ listed (view value.now) }
+{
+    match value {
+        Value::Array(values) => values,
+        _ => &[],
+    }
+}
+
+/// The items of a list.
+pub(crate) fn listed(field: Option<&Value>) -> &[Value]
+    ensures { map view result.now ≡ listed (found field.entry) }
+{
+    match field {
+        Some(value) => items(value),
+        None => &[],
+    }
+}
+
+/// A member of the keyword arguments.
+pub(crate) fn kwarg_of<'v>(value: &'v Value, name: &str) -> Option<&'v Value>
+    ensures { found result ≡ kwarg name.now (view value.now) }
+{
+    match value.get("kwargs") {
+        Some(kwargs) => kwargs.get(name),
+        None => None,
+    }
+}
+
+/// A member of the options.
+pub(crate) fn option_of<'v>(value: &'v Value, name: &str) -> Option<&'v Value>
+    ensures { found result ≡ option name.now (view value.now) }
+{
+    match value.get("options") {
+        Some(options) => options.get(name),
+        None => None,
+    }
+}

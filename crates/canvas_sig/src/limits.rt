@@ -1,0 +1,47 @@
+//! The refusals of a whole canvas.
+
+ghost use Rattle.std.specs.Prelude.{◌≡◌};
+ghost use Rattle.canvas_sig.specs.Limits.{is_too_deep, is_too_many, tree_fault};
+ghost use Rattle.canvas_sig.specs.View.{view};
+
+use crate::counting::{groups_left, tasks_left};
+use crate::group_nesting::ending;
+use crate::nesting::nests_within;
+use crate::reach::{LineReach, onto_reach, whole};
+use crate::{Node, SigFault};
+
+const MOST_NESTING: u32 = 8;
+
+const MOST_REACH: u32 = 32;
+
+const MOST_TASKS: u32 = 1024;
+
+const MOST_GROUPS: u32 = 1024;
+
+fn is_too_deep(node: &Node) -> bool
+    ensures { result ≡ is_too_deep (view node.now) }
+{
+    !nests_within(node, MOST_NESTING) || whole(onto_reach(node, LineReach::Empty, 0)) > MOST_REACH
+}
+
+fn is_too_many(node: &Node) -> bool
+    ensures { result ≡ is_too_many (view node.now) }
+{
+    tasks_left(node, MOST_TASKS).is_none() || groups_left(node, MOST_GROUPS).is_none()
+}
+
+/// The first refusal of a canvas whose signatures are in order. Its cost grows with the canvas alone.
+pub(crate) fn limit_fault(node: &Node) -> Option<SigFault>
+    ensures { result ≡ tree_fault (view node.now) }
+{
+    if ending(node).is_none() {
+        return Some(SigFault::NestedGroup);
+    }
+    if is_too_deep(node) {
+        return Some(SigFault::TooDeep);
+    }
+    if is_too_many(node) {
+        return Some(SigFault::TooMany);
+    }
+    None
+}

@@ -1,0 +1,37 @@
+//! What a signature stands for.
+
+ghost use Rattle.std.specs.Prelude.{◌≡◌};
+ghost use Rattle.canvas_sig.specs.Fields.{found};
+ghost use Rattle.canvas_sig.specs.Reading.{primitive_of, primitive_named};
+
+use serde_json::Value;
+
+#[derive(Clone, Copy, Drop)]
+pub(crate) enum Primitive {
+    Task,
+    Chain,
+    Group,
+    Chord,
+}
+
+fn primitive_named(name: &str) -> Option<Primitive>
+    ensures { result ≡ primitive_named name.now }
+{
+    match name {
+        "chain" => Some(Primitive::Chain),
+        "group" => Some(Primitive::Group),
+        "chord" => Some(Primitive::Chord),
+        _ => None,
+    }
+}
+
+/// What a `subtask_type` says.
+pub(crate) fn primitive_of(field: Option<&Value>) -> Option<Primitive>
+    ensures { result ≡ primitive_of (found field.entry) }
+{
+    match field {
+        None | Some(Value::Null) => Some(Primitive::Task),
+        Some(Value::String(name)) => primitive_named(name),
+        _ => None,
+    }
+}

@@ -1,0 +1,222 @@
+//! Reading signatures, with the signatures in them, out of JSON values.
+
+ghost use Rattle.std.specs.Prelude.{◌≡◌, map, string_bytes, IfOk, Some};
+ghost use Rattle.serde_json.specs.View.{view};
+ghost use Rattle.canvas_sig.specs.declared.primitive.Primitive.TheVariants.{Chain, Group, Chord};
+ghost use Rattle.canvas_sig.specs.Fields.{found, as_list, text_of};
+ghost use Rattle.canvas_sig.specs.Reading.{Gives, each, task_with, linked_with, task_reading, header_reading, tree_as, tree_with, tree_reading, members_in};
+ghost use Rattle.canvas_sig.specs.View.{task_view, trees_of, view as tree_view};
+
+use crate::arguments::{read_args, read_kwargs};
+use crate::fault::SigFault;
+use crate::fields::{is_list, is_true, kwarg_of, listed, option_of};
+use crate::node::Node;
+use crate::own_fault::own_fault;
+use crate::primitive::{Primitive, primitive_of};
+use crate::task_sig::TaskSig;
+use canvas_task::{ListOf, MapOf, TextOf};
+use serde_json::Value;
+use std::alloc::{AllocError, Global};
+
+/// The text of a name, empty where there is none.
+fn text_of(alloc: Global, field: Option<&Value>) -> Result<String, AllocError>
+    ensures { IfOk result (λ s. string_bytes s ≡ text_of (found field.entry)) }
+{
+    match field {
+        Some(Value::String(text)) => text.clone(),
+        _ => Ok(String::new(alloc)),
+    }
+}
+
+/// The link or error callback that a value stands for; signatures in it nest at most `left` deep.
+#[cycle(read_task)]
+#[tactic(auto, using(crate::proofs::Level::task_level_below))]
+fn read_linked(alloc: Global, value: &Value, left: u32) -> Result<TaskSig, SigFault>
+    ensures { Gives task_view result (task_reading left (view value.now)) }
+{
+    if left == 0 {
+        return Err(SigFault::TooDeep);
+    }
+    read_checked_link(alloc, value, left - 1)
+}
+
+#[cycle(read_task)]
+#[tactic(auto, using(crate::proofs::Level::fails_with))]
+fn read_checked_link(alloc: Global, value: &Value, left: u32) -> Result<TaskSig, SigFault>
+    ensures { Gives task_view result (linked_with (task_reading left) (view value.now)) }
+{
+    match own_fault(value, true) {
+        Some(fault) => Err(fault),
+        None => read_task(alloc, value, left),
+    }
+}
+
+/// The task that a value without a fault of its own stands for.
+#[cycle(read_task)]
+fn read_task(alloc: Global, value: &Value, left: u32) -> Result<TaskSig, SigFault>
+    ensures { Gives task_view result (task_with (task_reading left) (view value.now)) }
+{
+    let args = read_args(alloc, listed(value.get("args")))?;
+    let kwargs = read_kwargs(alloc, value.get("kwargs"))?;
+    let links = read_link(alloc, option_of(value, "link"), left)?;
+    let errbacks = read_link(alloc, option_of(value, "link_error"), left)?;
+    let name = text_of(alloc, value.get("task"))?;
+    Ok(TaskSig {
+        name: TextOf::of(name),
+        args: ListOf::of(args),
+        kwargs: MapOf::of(kwargs),
+        immutable: is_true(value.get("immutable")),
+        links: ListOf::of(links),
+        errbacks: ListOf::of(errbacks),
+    })
+}
+
+/// The signatures in a list, one signature, or none.
+#[cycle(read_task)]
+fn read_link(alloc: Global, field: Option<&Value>, left: u32) -> Result<Vec<TaskSig>, SigFault>
+    ensures { Gives (λ v. map task_view v.items) result (each (task_reading left) (as_list (found field.entry))) }
+{
+    match field {
+        None => Ok(Vec::new(alloc)),
+        Some(value) => read_one_or_more(alloc, value, left),
+    }
+}
+
+#[cycle(read_task)]
+fn read_one_or_more(alloc: Global, value: &Value, left: u32) -> Result<Vec<TaskSig>, SigFault>
+    ensures { Gives (λ v. map task_view v.items) result (each (task_reading left) (as_list (view value.now))) }
+{
+    match value {
+        Value::Null => Ok(Vec::new(alloc)),
+        Value::Array(values) => read_all_linked(alloc, values, left),
+        _ => {
+            let mut tasks = Vec::new(alloc);
+            tasks.push(read_linked(alloc, value, left)?)?;
+            Ok(tasks)
+        }
+    }
+}
+
+#[cycle(read_task)]
+fn read_all_linked(alloc: Global, values: &[Value], left: u32) -> Result<Vec<TaskSig>, SigFault>
+    ensures { Gives (λ v. map task_view v.items) result (each (task_reading left) (map view values.now)) }
+{
+    let mut tasks = Vec::new(alloc);
+    for value in values {
+        tasks.push(read_linked(alloc, value, left)?)?;
+    }
+    Ok(tasks)
+}
+
+/// The members of a group; nothing else has any.
+fn members_in(alloc: Global, node: Node) -> Vec<Node>
+    ensures { trees_of (map tree_view result.items) ≡ members_in (tree_view node) }
+{
+    match node {
+        Node::Group(members) => members.into_plain(),
+        _ => Vec::new(alloc),
+    }
+}
+
+/// The canvas that a value stands for; signatures in it nest at most `left` deep.
+#[cycle(read_node)]
+#[tactic(auto, using(crate::proofs::Level::tree_level_below))]
+pub(crate) fn read_node(alloc: Global, value: &Value, left: u32) -> Result<Node, SigFault>
+    ensures { Gives tree_view result (tree_reading left (view value.now)) }
+{
+    if left == 0 {
+        return Err(SigFault::TooDeep);
+    }
+    read_checked(alloc, value, left - 1)
+}
+
+#[cycle(read_node)]
+#[tactic(auto, using(crate::proofs::Level::fails_with))]
+fn read_checked(alloc: Global, value: &Value, left: u32) -> Result<Node, SigFault>
+    ensures { Gives tree_view result (tree_with (task_reading left) (tree_reading left) (view value.now)) }
+{
+    match own_fault(value, false) {
+        Some(fault) => Err(fault),
+        None => read_as(alloc, value, primitive_of(value.get("subtask_type")), left),
+    }
+}
+
+/// What a value without a fault of its own stands for.
+#[cycle(read_node)]
+fn read_as(
+    alloc: Global,
+    value: &Value,
+    primitive: Option<Primitive>,
+    left: u32,
+) -> Result<Node, SigFault>
+    ensures { Gives tree_view result (tree_as (task_reading left) (tree_reading left) primitive (view value.now)) }
+{
+    match primitive {
+        Some(Primitive::Chain) => read_chain(alloc, value, left),
+        Some(Primitive::Group) => read_group(alloc, value, left),
+        Some(Primitive::Chord) => read_chord(alloc, value, left),
+        _ => Ok(Node::Task(read_task(alloc, value, left)?)),
+    }
+}
+
+#[cycle(read_node)]
+fn read_chain(alloc: Global, value: &Value, left: u32) -> Result<Node, SigFault>
+    ensures { Gives tree_view result (tree_as (task_reading left) (tree_reading left) (Some Chain) (view value.now)) }
+{
+    let nodes = read_all(alloc, listed(kwarg_of(value, "tasks")), left)?;
+    Ok(Node::Chain(ListOf::of(nodes)))
+}
+
+#[cycle(read_node)]
+fn read_group(alloc: Global, value: &Value, left: u32) -> Result<Node, SigFault>
+    ensures { Gives tree_view result (tree_as (task_reading left) (tree_reading left) (Some Group) (view value.now)) }
+{
+    let nodes = read_all(alloc, listed(kwarg_of(value, "tasks")), left)?;
+    Ok(Node::Group(ListOf::of(nodes)))
+}
+
+#[cycle(read_node)]
+fn read_chord(alloc: Global, value: &Value, left: u32) -> Result<Node, SigFault>
+    ensures { Gives tree_view result (tree_as (task_reading left) (tree_reading left) (Some Chord) (view value.now)) }
+{
+    let header = read_header(alloc, kwarg_of(value, "header"), left)?;
+    let body = read_member(alloc, kwarg_of(value, "body"), left)?;
+    Ok(Node::Chord {
+        header: ListOf::of(header),
+        body: Box::new(alloc, body)?,
+    })
+}
+
+/// The canvas that a member stands for; one that is missing is null.
+#[cycle(read_node)]
+fn read_member(alloc: Global, field: Option<&Value>, left: u32) -> Result<Node, SigFault>
+    ensures { Gives tree_view result (tree_reading left (found field.entry)) }
+{
+    match field {
+        Some(value) => read_node(alloc, value, left),
+        None => read_node(alloc, &Value::Null, left),
+    }
+}
+
+/// The members of a header, which is a list, or one group signature.
+#[cycle(read_node)]
+fn read_header(alloc: Global, field: Option<&Value>, left: u32) -> Result<Vec<Node>, SigFault>
+    ensures { Gives (λ v. trees_of (map tree_view v.items)) result (header_reading (tree_reading left) (found field.entry)) }
+{
+    if is_list(field) {
+        return read_all(alloc, listed(field), left);
+    }
+    let group = read_member(alloc, field, left)?;
+    Ok(members_in(alloc, group))
+}
+
+#[cycle(read_node)]
+fn read_all(alloc: Global, values: &[Value], left: u32) -> Result<Vec<Node>, SigFault>
+    ensures { Gives (λ v. map tree_view v.items) result (each (tree_reading left) (map view values.now)) }
+{
+    let mut nodes = Vec::new(alloc);
+    for value in values {
+        nodes.push(read_node(alloc, value, left)?)?;
+    }
+    Ok(nodes)
+}

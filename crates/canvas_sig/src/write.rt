@@ -1,0 +1,39 @@
+//! Writing signatures as JSON.
+
+ghost use Rattle.std.specs.Prelude.{◌≡◌, ◌≤◌, IfOk, length, string_bytes};
+ghost use Rattle.serde_json.specs.Written.{compact_text};
+ghost use Rattle.canvas_sig.specs.CanvasText.{most_bytes, fault, Reads};
+ghost use Rattle.canvas_sig.specs.Writing.{tree_wire};
+ghost use Rattle.canvas_sig.specs.View.{view};
+
+mod arguments;
+mod node;
+mod task;
+mod value;
+
+use crate::{Canvas, Node};
+use canvas_task::Memory;
+use json::Writer;
+use node::write_tree;
+use std::alloc::Global;
+pub use value::write_arg;
+
+/// A signature as compact JSON.
+pub fn write_node(alloc: Global, node: &Node) -> Result<String, Memory>
+    ensures { IfOk result (λ text. string_bytes text ≡ compact_text (tree_wire (view node.now))) }
+{
+    let mut out = Writer::new(Vec::new(alloc));
+    write_tree(&mut out, node)?;
+    Ok(String::from_utf8(out.into_inner()).unwrap())
+}
+
+/// A canvas as compact JSON. Where the text isn't too large to be read, it reads as the canvas again.
+pub fn write_canvas(alloc: Global, canvas: &Canvas) -> Result<String, Memory>
+    ensures text { IfOk result (λ text. string_bytes text ≡ compact_text (tree_wire canvas.now)) }
+    ensures reads_back { IfOk result (λ text. length (string_bytes text) ≤ most_bytes → (fault (string_bytes text) ≡ None) × Reads (string_bytes text) canvas.now) }
+{
+    write_node(alloc, canvas.node())
+}
+
+#[cfg(test)]
+mod tests;

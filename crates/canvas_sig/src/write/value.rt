@@ -1,0 +1,33 @@
+//! One argument as a JSON value.
+
+ghost use Rattle.std.specs.Prelude.{◌≡◌, IfOk, map};
+ghost use Rattle.serde_json.specs.View.{view};
+ghost use Rattle.canvas_sig.specs.Reading.{arg_reading};
+ghost use Rattle.canvas_sig.specs.Writable.{ArgFits};
+ghost use Rattle.canvas_sig.specs.Writing.{number_wire, arg_wire};
+
+use canvas_task::{Arg, Memory};
+use serde_json::Value;
+use std::alloc::Global;
+
+fn number_values(alloc: Global, numbers: &[i64]) -> Result<Vec<Value>, Memory>
+    ensures { IfOk result (λ values. map view values.items ≡ map number_wire numbers.now) }
+{
+    let mut values = Vec::new(alloc);
+    for number in numbers {
+        values.push(Value::from(*number))?;
+    }
+    Ok(values)
+}
+
+/// The JSON value that an argument is written as, which reads as the argument where its numbers are in range.
+pub fn write_arg(alloc: Global, arg: &Arg) -> Result<Value, Memory>
+    ensures value { IfOk result (λ value. view value ≡ arg_wire arg.now) }
+    ensures reads_back { IfOk result (λ value. ArgFits arg.now → arg_reading (view value) ≡ Ok arg.now) }
+{
+    match arg {
+        Arg::Num(number) => Ok(Value::from(*number)),
+        Arg::List(numbers) => Ok(Value::Array(number_values(alloc, numbers.get())?)),
+        Arg::Text(text) => Ok(Value::String(text.get().clone()?)),
+    }
+}

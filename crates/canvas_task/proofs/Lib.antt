@@ -1,0 +1,4 @@
+pub mod IdentifierLemmas
+pub mod Named
+pub mod Copies
+pub mod Histories

@@ -1,0 +1,166 @@
+-- Histories of an object that several callers share: who called, what, and what was answered, in one order.
+--     Entry C R              one line of a history: a caller makes another, takes one in, or makes a call C with the reply R. Callers are numbers, and 0 is the first
+--     live, named, joined log    the callers that are live after the history, in the order of their making; those that a `split` names, and those that a `join` takes in
+--     heir log c             the caller as whose own the calls of c count: c, or the one that took it in, or the one that took that one in
+--     own log p              the entries by p and by the callers that it took in
+--     made_by p log          the entries by p itself
+--     state_of log           the object's state after the history
+--     Allowed log e          the entry e may follow the history
+--     Legal log              each entry is allowed after those before it
+--     Sole log p             no other caller than p is live
+--     AllOthers p es, NoneBy cs es    no entry is by p, or by one of the callers
+use Rattle.std.specs.Prelude.{◌≡◌, ℕ, Bool, true, false, cond, not, ◌||◌, List, [], ◌∷◌, ◌++◌, filter, ◌==◌, ◌⊎◌}
+use Rattle.std.specs.Coded.{Coded, code_by, coded×, coded⊎, coded_ℕ}
+use mathlib.Core.Logic.{inl, inr}
+use mathlib.Core.Path.{refl}
+
+pub data Entry (C R : Type 0) : Type 0 where
+  split : ℕ → ℕ → Entry C R
+  join : ℕ → ℕ → Entry C R
+  calls : ℕ → C → R → Entry C R
+
+-- whether the number stands in the list
+abbrev pub among : ℕ → List ℕ → Bool
+among c [] = false
+among c (k ∷ ks) = (k == c) || among c ks
+
+-- the list without that number
+abbrev pub without : ℕ → List ℕ → List ℕ
+without c cs = filter (λ k. not (k == c)) cs
+
+module _ {C R : Type 0} where
+  -- the caller of an entry
+  abbrev pub by_of : Entry C R → ℕ
+  by_of (split p q) = p
+  by_of (join p q) = p
+  by_of (calls p c r) = p
+
+  -- the live callers after one more entry
+  abbrev pub live_after : List ℕ → Entry C R → List ℕ
+  live_after cs (split p q) = cs ++ q ∷ []
+  live_after cs (join p q) = without q cs
+  live_after cs (calls p c r) = cs
+
+  abbrev pub live_from : List ℕ → List (Entry C R) → List ℕ
+  live_from cs [] = cs
+  live_from cs (e ∷ es) = live_from (live_after cs e) es
+
+  -- the callers that are live after the history
+  abbrev pub live : List (Entry C R) → List ℕ
+  live log = live_from (0 ∷ []) log
+
+  -- the callers that a split of the history names
+  abbrev pub named : List (Entry C R) → List ℕ
+  named [] = []
+  named (split p q ∷ es) = q ∷ named es
+  named (join p q ∷ es) = named es
+  named (calls p c r ∷ es) = named es
+
+  -- the callers that a join of the history takes in
+  abbrev pub joined : List (Entry C R) → List ℕ
+  joined [] = []
+  joined (split p q ∷ es) = joined es
+  joined (join p q ∷ es) = q ∷ joined es
+  joined (calls p c r ∷ es) = joined es
+
+  -- as whose own c's calls count after one more entry
+  abbrev pub heir_after : ℕ → Entry C R → ℕ
+  heir_after c (split p q) = c
+  heir_after c (join p q) = cond (c == q) p c
+  heir_after c (calls p d r) = c
+
+  abbrev pub heir : List (Entry C R) → ℕ → ℕ
+  heir [] c = c
+  heir (e ∷ es) c = heir es (heir_after c e)
+
+  -- the entries by p itself
+  abbrev pub made_by : ℕ → List (Entry C R) → List (Entry C R)
+  made_by p log = filter (λ e. by_of e == p) log
+
+  -- p's own calls: the entries by p and by the callers that it took in
+  abbrev pub own : List (Entry C R) → ℕ → List (Entry C R)
+  own log p = filter (λ e. heir log (by_of e) == p) log
+
+  -- no other caller than p is live
+  abbrev pub Sole : List (Entry C R) → ℕ → Type 0
+  Sole log p = live log ≡ p ∷ []
+
+  -- an entry by a caller other than p
+  abbrev pub IsOther : ℕ → Entry C R → Type 0
+  IsOther p e = (by_of e == p) ≡ false
+
+  -- entries by callers other than p
+  abbrev pub AllOthers : ℕ → List (Entry C R) → Type 0
+  AllOthers p [] = Unit {0}
+  AllOthers p (e ∷ es) = IsOther p e × AllOthers p es
+
+  -- entries by none of the callers
+  abbrev pub NoneBy : List ℕ → List (Entry C R) → Type 0
+  NoneBy cs [] = Unit {0}
+  NoneBy cs (e ∷ es) = (among (by_of e) cs ≡ false) × NoneBy cs es
+
+  -- the one list begins with the other
+  abbrev pub StartsWith : List (Entry C R) → List (Entry C R) → Type 0
+  StartsWith log seen = (rest : List (Entry C R)) × (log ≡ seen ++ rest)
+
+  -- the one list begins with the other, and goes on with no entry by one of these
+  abbrev pub Since : List ℕ → List (Entry C R) → List (Entry C R) → Type 0
+  Since cs log seen = (rest : List (Entry C R)) × (log ≡ seen ++ rest) × NoneBy cs rest
+
+-- The one-thread object: its state before any call, what a call answers in a state, and the state that it leaves.
+-- May log s p c: the caller p may make the call c after the history log, which leaves the state s. `λ log s p c. Unit {0}` asks nothing
+module _ {C R S : Type 0} (first : S) (answer : S → C → R) (next : S → C → S) (May : List (Entry C R) → S → ℕ → C → Type 0) where
+  abbrev pub state_after : S → Entry C R → S
+  state_after s (split p q) = s
+  state_after s (join p q) = s
+  state_after s (calls p c r) = next s c
+
+  abbrev pub state_from : S → List (Entry C R) → S
+  state_from s [] = s
+  state_from s (e ∷ es) = state_from (state_after s e) es
+
+  -- what the history replays to
+  abbrev pub state_of : List (Entry C R) → S
+  state_of log = state_from first log
+
+  -- the entry is by a live caller, names what it may, and has the object's reply
+  abbrev pub Allowed : List (Entry C R) → Entry C R → Type 0
+  Allowed log (split p q) = (among p (live log) ≡ true) × ((q == 0) ≡ false) × (among q (named log) ≡ false)
+  Allowed log (join p q) = (among p (live log) ≡ true) × (among q (live log) ≡ true) × ((q == p) ≡ false)
+  Allowed log (calls p c r) = (among p (live log) ≡ true) × (r ≡ answer (state_of log) c) × May log (state_of log) p c
+
+  abbrev pub LegalFrom : List (Entry C R) → List (Entry C R) → Type 0
+  LegalFrom before [] = Unit {0}
+  LegalFrom before (e ∷ es) = Allowed before e × LegalFrom (before ++ e ∷ []) es
+
+  abbrev pub Legal : List (Entry C R) → Type 0
+  Legal log = LegalFrom [] log
+
+  -- The call clause: what was seen, entries that aren't p's, and the entry of this call. The whole is legal, and where no other caller was live nothing stands in between
+  abbrev pub Follows : ℕ → List (Entry C R) → Entry C R → List (Entry C R) → Type 0
+  Follows p seen e seen' =
+      (between : List (Entry C R))
+      × (seen' ≡ seen ++ (between ++ e ∷ [])) × AllOthers p between × Legal seen' × (Sole seen p → between ≡ [])
+
+-- how an entry is stored: as one of its three kinds
+abbrev Kinds : Type 0 → Type 0 → Type 0
+Kinds C R = (ℕ × ℕ) ⊎ ((ℕ × ℕ) ⊎ (ℕ × (C × R)))
+
+module _ {C R : Type 0} where
+  abbrev kind_of : Entry C R → Kinds C R
+  kind_of (split p q) = inl (p, q)
+  kind_of (join p q) = inr (inl (p, q))
+  kind_of (calls p c r) = inr (inr (p, (c, r)))
+
+  abbrev of_kind : Kinds C R → Entry C R
+  of_kind (inl x) = split x.0 x.1
+  of_kind (inr (inl x)) = join x.0 x.1
+  of_kind (inr (inr x)) = calls x.0 x.1.0 x.1.1
+
+  pub of_kind_of : (e : Entry C R) → of_kind (kind_of e) ≡ e
+  of_kind_of (split p q) = refl
+  of_kind_of (join p q) = refl
+  of_kind_of (calls p c r) = refl
+
+  abbrev pub entry_coded : Coded C → Coded R → Coded (Entry C R)
+  entry_coded c r = code_by (Kinds C R) (coded⊎ (coded× coded_ℕ coded_ℕ) (coded⊎ (coded× coded_ℕ coded_ℕ) (coded× coded_ℕ (coded× c r)))) kind_of of_kind of_kind_of

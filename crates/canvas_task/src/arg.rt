@@ -1,0 +1,56 @@
+ghost use Rattle.std.specs.Prelude.{◌≡◌, IfOk};
+ghost use Rattle.canvas_task.specs.Entries.{named};
+
+use crate::{ListOf, MapOf, TextOf};
+use std::alloc::{AllocError, Global};
+use std::collections::BTreeMap;
+
+/// An argument of a task.
+#[derive(Debug, Drop, PartialEq)]
+pub enum Arg {
+    Num(i64),
+    List(ListOf<i64>),
+    Text(TextOf),
+}
+
+impl Clone for Arg {
+    ghost is_clone = { λ a b. b ≡ a };
+
+    fn clone(&self) -> Result<Arg, AllocError> {
+        match self {
+            Arg::Num(n) => Ok(Arg::Num(*n)),
+            Arg::List(ns) => Ok(Arg::List(ns.clone()?)),
+            Arg::Text(t) => Ok(Arg::Text(t.clone()?)),
+        }
+    }
+}
+
+/// A copy of a list of arguments.
+pub fn copy_args(args: &ListOf<Arg>) -> Result<ListOf<Arg>, AllocError>
+    ensures { IfOk result (λ copy. copy ≡ args.now) }
+{
+    args.clone()
+}
+
+/// A copy, entry by entry, of a map. The kit's own `clone` of a map may be refused for
+/// another cause than memory.
+fn copy_entries(
+    alloc: Global,
+    map: &BTreeMap<String, Arg>,
+) -> Result<BTreeMap<String, Arg>, AllocError>
+    ensures { IfOk result (λ copy. named copy.entries ≡ named map.now.entries) }
+{
+    let mut copy = BTreeMap::new(alloc);
+    for (name, arg) in map.iter() {
+        let key = name.clone()?;
+        drop(copy.insert(key, arg.clone()?)?);
+    }
+    Ok(copy)
+}
+
+/// A copy of keyword arguments.
+pub fn copy_kwargs(alloc: Global, kwargs: &MapOf<Arg>) -> Result<MapOf<Arg>, AllocError>
+    ensures { IfOk result (λ copy. copy ≡ kwargs.now) }
+{
+    Ok(MapOf::of(copy_entries(alloc, kwargs.get())?))
+}

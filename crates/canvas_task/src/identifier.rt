@@ -1,0 +1,104 @@
+ghost use Rattle.std.specs.Prelude.{◌≡◌, ◌<◌, ◌≤◌, ◌^◌, Some, None, option_map, MatchOption};
+ghost use Rattle.canvas_task.specs.Identifiers.{task_text, group_text, task_named, group_named, identifier, number_of, task_mark, group_mark, number_at_end};
+ghost use Rattle.uuid.specs.Text.{hyphenated_text, lower};
+
+use crate::{GroupNo, TaskNo};
+use std::fmt;
+use uuid::Uuid;
+
+const TASK_MARK: u8 = 0x80;
+
+const GROUP_MARK: u8 = 0x90;
+
+/// The sixteen bytes of a number.
+fn identifier(mark: u8, n: u32) -> [u8; 16]
+    ensures { result ≡ identifier mark n }
+{
+    let [a, b, c, d] = n.to_be_bytes();
+    [0, 0, 0, 0, 0, 0, 0x80, 0, mark, 0, 0, 0, a, b, c, d]
+}
+
+/// The identifier of a task.
+fn task_id(task: TaskNo) -> Uuid
+    ensures { result ≡ identifier task_mark task }
+{
+    Uuid::from_bytes(identifier(TASK_MARK, task.get()))
+}
+
+/// A task is printed as its identifier.
+impl fmt::Display for TaskNo {
+    ghost use Rattle.std.specs.Prelude.{Some};
+    ghost use Rattle.canvas_task.specs.Identifiers.{task_text};
+
+    ghost output = { λ task. Some (task_text task) };
+
+    fn fmt<W: fmt::Write>(&self, f: &mut fmt::Formatter<W>) -> fmt::Result {
+        let id = task_id(*self);
+        write!(f, "{id}")
+    }
+}
+
+/// The text of an identifier.
+fn text_of(bytes: [u8; 16]) -> [u8; 36]
+    ensures { result ≡ hyphenated_text lower bytes }
+{
+    let id = Uuid::from_bytes(bytes);
+    let mut buffer = [0u8; 36];
+    let text = id.hyphenated().encode_lower(&mut buffer);
+    let mut out = [0u8; 36];
+    out.copy_from_slice(text.as_bytes());
+    out
+}
+
+/// The number that sixteen bytes name.
+fn number_of(mark: u8, id: &[u8; 16]) -> Option<u32>
+    ensures { result ≡ number_of mark id.now }
+{
+    let [z0, z1, z2, z3, z4, z5, v, z7, m, z9, z10, z11, a, b, c, d] = *id;
+    if [z0, z1, z2, z3, z4, z5, v, z7, m, z9, z10, z11]
+        != [0, 0, 0, 0, 0, 0, 0x80, 0, mark, 0, 0, 0]
+    {
+        return None;
+    }
+    let n = u32::from_be_bytes([a, b, c, d]);
+    if n == 0 { None } else { Some(n) }
+}
+
+/// The text of a task's identifier.
+pub fn task_text(task: TaskNo) -> [u8; 36]
+    ensures value { result ≡ task_text task }
+    ensures reads_back { task_named result ≡ Some task }
+    ensures no_group { group_named result ≡ None }
+{
+    text_of(identifier(TASK_MARK, task.get()))
+}
+
+/// The text of a group's or chord's identifier.
+pub fn group_text(group: GroupNo) -> [u8; 36]
+    ensures value { result ≡ group_text group }
+    ensures reads_back { group_named result ≡ Some group }
+    ensures no_task { task_named result ≡ None }
+{
+    text_of(identifier(GROUP_MARK, group.get()))
+}
+
+/// The task that a text names, in any form of a UUID: hyphenated or not, in braces or after
+/// `urn:uuid:`, in either case.
+pub fn task_of_text(text: &str) -> Option<TaskNo>
+    ensures { result ≡ task_named text.now }
+{
+    match Uuid::parse_str(text) {
+        Ok(id) => TaskNo::new(number_of(TASK_MARK, id.as_bytes())?),
+        Err(_) => None,
+    }
+}
+
+/// The group or chord that a text names, in any form of a UUID.
+pub fn group_of_text(text: &str) -> Option<GroupNo>
+    ensures { result ≡ group_named text.now }
+{
+    match Uuid::parse_str(text) {
+        Ok(id) => GroupNo::new(number_of(GROUP_MARK, id.as_bytes())?),
+        Err(_) => None,
+    }
+}

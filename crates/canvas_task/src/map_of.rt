@@ -1,0 +1,50 @@
+ghost use Rattle.std.specs.Prelude.{◌≡◌};
+ghost use Rattle.canvas_task.specs.Entries.{named};
+
+use std::collections::BTreeMap;
+use std::fmt;
+use std::marker::Model;
+
+/// A map that contracts see as its entries in the order of their names.
+#[derive(Drop)]
+pub struct MapOf<T> {
+    map: BTreeMap<String, T>,
+}
+
+impl<T> Model for MapOf<T> {
+    ghost use Rattle.std.specs.Prelude.{List, ℕ};
+    ghost use Rattle.std.specs.Coded.{coded_list, coded×, coded_ℕ};
+    ghost use Rattle.canvas_task.specs.Entries.{named};
+
+    ghost Value = { List (List ℕ × T) };
+
+    ghost coded = { coded_list (coded× (coded_list coded_ℕ) T.code) };
+
+    ghost view = { λ m. named m.map.entries };
+}
+
+impl<T> MapOf<T> {
+    pub fn of(map: BTreeMap<String, T>) -> MapOf<T>
+        ensures { result ≡ named map.entries }
+    {
+        MapOf { map }
+    }
+
+    pub fn get(&self) -> &BTreeMap<String, T>
+        ensures { named result.now.entries ≡ self.now }
+    {
+        &self.map
+    }
+
+    pub fn into_plain(self) -> BTreeMap<String, T>
+        ensures { named result.entries ≡ self }
+    {
+        self.map
+    }
+}
+
+impl<T: fmt::Debug> fmt::Debug for MapOf<T> {
+    fn fmt<W: fmt::Write>(&self, f: &mut fmt::Formatter<W>) -> fmt::Result {
+        self.map.fmt(f)
+    }
+}

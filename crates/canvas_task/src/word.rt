@@ -1,0 +1,104 @@
+//! An outcome as one number, so that a single atomic word can hold it.
+ghost use Rattle.std.specs.Prelude.{◌≡◌, ◌<◌, ◌≤◌, ◌^◌, Some, IfSome};
+ghost use Rattle.canvas_task.specs.Words.{NumberInRange, kind_code, kind_of_code, why_code, why_of_code, fault_of, fault_word, word, outcome_named};
+
+use crate::{Fault, Kind, Outcome, TaskNo, Why};
+
+/// What the number of a success is shifted by, so that the least of them has the word 1.
+const SHIFT: i64 = (1 << 60) + 1;
+
+const GREATEST_SUCCESS: u64 = (1 << 61) + 1;
+
+const FAILURES: u64 = 1 << 63;
+
+const TASKS: u64 = 1 << 32;
+
+fn kind_code(kind: Kind) -> u64
+    ensures { result ≡ kind_code kind }
+{
+    match kind {
+        Kind::BadCall => 0,
+        Kind::ZeroDivision => 1,
+        Kind::Overflow => 2,
+        Kind::NotRegistered => 3,
+    }
+}
+
+fn why_code(why: Why) -> u64
+    ensures { result ≡ why_code why }
+{
+    match why {
+        Why::Plain(kind) => kind_code(kind),
+        Why::Chord => 4,
+    }
+}
+
+fn kind_of_code(code: u64) -> Option<Kind>
+    ensures { result ≡ kind_of_code code }
+{
+    match code {
+        0 => Some(Kind::BadCall),
+        1 => Some(Kind::ZeroDivision),
+        2 => Some(Kind::Overflow),
+        3 => Some(Kind::NotRegistered),
+        _ => None,
+    }
+}
+
+fn why_of_code(code: u64) -> Option<Why>
+    ensures { result ≡ why_of_code code }
+{
+    if code == 4 {
+        return Some(Why::Chord);
+    }
+    Some(Why::Plain(kind_of_code(code)?))
+}
+
+fn fault_of(dep: u64, code: u64) -> Option<Fault>
+    ensures { result ≡ fault_of dep code }
+{
+    if dep == 0 {
+        return Some(Fault::Plain(kind_of_code(code)?));
+    }
+    if dep >= TASKS {
+        return None;
+    }
+    let dep = TaskNo::new(dep as u32)?;
+    let why = why_of_code(code)?;
+    Some(Fault::Chord { dep, why })
+}
+
+/// The word of an outcome. The word 0 is left for a task that has no outcome yet.
+pub fn word_of(outcome: &Outcome) -> u64
+    requires { NumberInRange outcome.now }
+    ensures value { result ≡ word outcome.now }
+    ensures not_pending { 1 ≤ result }
+    ensures reads_back { outcome_named result ≡ Some outcome.now }
+{
+    match outcome {
+        Outcome::Success(n) => (*n + SHIFT) as u64,
+        Outcome::Failure(Fault::Plain(kind)) => FAILURES + kind_code(*kind),
+        Outcome::Failure(Fault::Chord { dep, why }) => {
+            FAILURES + 16 * u64::from(dep.get()) + why_code(*why)
+        }
+    }
+}
+
+/// The outcome that a word stands for, if it is one's.
+pub fn outcome_of(found: u64) -> Option<Outcome>
+    ensures value { result ≡ outcome_named found }
+    ensures its_word { IfSome result (λ o. word o ≡ found) }
+    ensures in_range { IfSome result NumberInRange }
+{
+    if found == 0 {
+        return None;
+    }
+    if found <= GREATEST_SUCCESS {
+        return Some(Outcome::Success(found as i64 - SHIFT));
+    }
+    if found < FAILURES {
+        return None;
+    }
+    let rest = found - FAILURES;
+    Some(Outcome::Failure(fault_of(rest / 16, rest % 16)?))
+}
