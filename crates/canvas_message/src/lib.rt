@@ -1,9 +1,15 @@
 //! Messages, as a queue carries them.
 #![tactic(auto)]
 
+mod draft;
 mod envelope;
+mod fault;
+mod message;
 
+pub use draft::Draft;
 pub use envelope::Envelope;
+pub use fault::MessageFault;
+pub use message::Message;
 
 #[cfg(test)]
 mod tests;
