@@ -1,1 +1,2 @@
 pub mod WireRows
+pub mod RoundTrip

@@ -30,7 +30,7 @@ abbrev pub size_ok : ℕ → Bool
 size_ok n = nat_lt 0 n && nat_le n most_members
 
 -- keyword arguments stand in the order of their names, each name once
-abbrev is_less : Ordering → Bool
+abbrev pub is_less : Ordering → Bool
 is_less Less = true
 is_less o = false
 
