@@ -1,2 +1,3 @@
 pub mod WireRows
 pub mod RoundTrip
+pub mod MessageBack

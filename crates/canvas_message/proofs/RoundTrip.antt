@@ -418,7 +418,7 @@ mutual
       let p = chord_parts last g ms b ok in
       alone_chord size g ms b n p.here (members_back n (line_reach c b) ms p.members (omega arith)) (line_back n c last None b p.body (omega arith))
 
-  elements_back : (n c : ℕ) (last : Bool) (l : PLine) → line_ok last l ≡ true → greatest_reach c l ≤ n
+  pub elements_back : (n c : ℕ) (last : Bool) (l : PLine) → line_ok last l ≡ true → greatest_reach c l ≤ n
       → elements_with (step_reading n) (last_reading n) (items (elements_wire l)) ≡ Ok l
   elements_back n c last p_stop ok low = absurd cc
   elements_back zero c last (p_step (p_task k call links errbacks place) p_stop) ok low = absurd (omega arith)
@@ -449,3 +449,7 @@ mutual
   members_back n c (and_p_line m ms) ok low =
       let p = both (line_ok false m && not (in_group (strip m))) (members_ok ms) ok in
       rw (line_back n c false None m (both (line_ok false m) (not (in_group (strip m))) p.0).0 (omega arith), members_back n c ms p.1 (omega arith)) refl
+
+pub step_back : (n : ℕ) (t : PTask) → task_ok false t ≡ true → task_reach 0 t ≤ n → step_reading n (task_wire None t) ≡ Ok t
+step_back zero (p_task k call links errbacks place) ok low = absurd (omega arith)
+step_back (suc n) t ok low = step_task None t n (task_back n 0 false false None t ok low)
