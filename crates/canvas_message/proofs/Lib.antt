@@ -1,3 +1,6 @@
 pub mod WireRows
 pub mod RoundTrip
+pub mod CleanLines
+pub mod Wholes
 pub mod MessageBack
+pub mod CleanMessage

@@ -25,6 +25,7 @@ use Rattle.canvas_message.specs.Reading.{◌so◌, must, some_or, refused_as, is
 use Rattle.canvas_message.specs.declared.fault.MessageFault.TheVariants.{BadEmbed}
 use Rattle.canvas_message.specs.Wire.{task_id, parent_id, place_id, task_wire, tasks_wire, carried_wire, group_wire, chord_wire, line_wire, elements_wire, members_wire, onto_reversed, list_or_null, embed_wire, body_wire, headers_wire, properties_wire}
 use Rattle.canvas_message.proofs.RoundTrip.{call_fits, task_id_back, group_id_back, listed_tasks, tasks_listed, task_parts, tasks_back, place_back, step_back, elements_back}
+use Rattle.canvas_message.proofs.Wholes.{RestFits, Whole, as_content, whole}
 
 -- ---- what follows on the line
 
@@ -132,17 +133,6 @@ chain_read l s =
 
 -- ---- what goes with the call
 
--- what follows fits on a line that begins with another task
-abbrev RestFits : PLine → Type 0
-RestFits p_stop = Unit {0}
-RestFits l = (line_ok true l ≡ true) × (greatest_reach 0 l ≤ 32)
-
-some_fits : (l : PLine) → line_ok true l ≡ true → greatest_reach 0 l ≤ 32 → RestFits l
-some_fits p_stop ok low = tt
-some_fits (p_step t l) ok low = (ok, low)
-some_fits (p_group_end g ms) ok low = (ok, low)
-some_fits (p_chord_end g ms b) ok low = (ok, low)
-
 rest_back : (l : PLine) → RestFits l → chain_reading (listed (list_or_null (onto_reversed (elements_wire l) no_items))) ≡ Ok l
 rest_back p_stop h = refl
 rest_back (p_step t l) h = chain_read (p_step t l) (split levels 0 true (p_step t l) h.0 (omega (arith, h.1)))
@@ -152,76 +142,6 @@ rest_back (p_chord_end g ms b) h = chain_read (p_chord_end g ms b) (split levels
 list_ok : (ds : Items) → is_list_or_null (list_or_null ds) ≡ true
 list_ok no_items = refl
 list_ok (item d ds) = refl
-
-place_named : (last : Bool) (p : PPlace) → place_ok last p ≡ true → is_group_or_null (place_id p) ≡ true
-place_named last p_nowhere ok = refl
-place_named last (p_group g) ok = rw (group_id_back g (both last (is_number g) ok).1) refl
-place_named last (p_chord g size body) ok =
-    let p = both (last && is_number g && size_ok size) (line_ok true body) ok in
-    let q = both (last && is_number g) (size_ok size) p.0 in
-    rw (group_id_back g (both last (is_number g) q.0).1) refl
-
--- a message by its parts
-record Whole (parent : Option ℕ) (k : ℕ) (call : Call) (links errbacks : PTasks) (place : PPlace) (rest : PLine) : Type 0 where
-  known : parent_ok parent ≡ true
-  mutable : call.immutable ≡ false
-  here : is_number k ≡ true
-  called : CallFits call
-  linked : tasks_ok links ≡ true
-  failing : tasks_ok errbacks ≡ true
-  named : is_group_or_null (place_id place) ≡ true
-  placed : place_with (line_reading levels) (place_id place) (carried_wire place) ≡ Ok place
-  following : RestFits rest
-  low : max (tasks_reach links) (tasks_reach errbacks) ≤ 32
-
-abbrev as_content : Option ℕ → ℕ → Call → PTasks → PTasks → PPlace → PLine → Content
-as_content parent k call links errbacks place rest = record { parent = parent; own = p_task k call links errbacks place; rest = rest }
-
-whole_by : (last : Bool) (parent : Option ℕ) (k : ℕ) (call : Call) (links errbacks : PTasks) (place : PPlace) (rest : PLine)
-    → parent_ok parent ≡ true → call.immutable ≡ false → task_ok last (p_task k call links errbacks place) ≡ true → task_reach 0 (p_task k call links errbacks place) ≤ 32 → RestFits rest
-    → Whole parent k call links errbacks place rest
-whole_by last parent k call links errbacks place rest known mutable ok low following =
-    let p = task_parts last k call links errbacks place ok in
-    record {
-      known = known;
-      mutable = mutable;
-      here = p.here;
-      called = p.called;
-      linked = p.linked;
-      failing = p.failing;
-      named = place_named last place p.placed;
-      placed = place_back levels last place p.placed (omega (arith, low));
-      following = following;
-      low = omega (arith, low);
-    }
-
-not_true : (b : Bool) → not b ≡ true → b ≡ false
-not_true true h = absurd cc
-not_true false h = refl
-
--- what the line of a message says of the message's own task and of what follows
-by_line : (parent : Option ℕ) (k : ℕ) (call : Call) (links errbacks : PTasks) (place : PPlace) (rest : PLine)
-    → parent_ok parent ≡ true → call.immutable ≡ false → line_ok true (p_step (p_task k call links errbacks place) rest) ≡ true
-    → line_reach 0 (p_step (p_task k call links errbacks place) rest) ≤ 32 → Whole parent k call links errbacks place rest
-by_line parent k call links errbacks place p_stop known mutable ok low = whole_by true parent k call links errbacks place p_stop known mutable ok low tt
-by_line parent k call links errbacks place (p_step t l) known mutable ok low =
-    let p = both (task_ok false (p_task k call links errbacks place)) (line_ok true (p_step t l)) ok in
-    whole_by false parent k call links errbacks place (p_step t l) known mutable p.0 (omega (arith, low)) (some_fits (p_step t l) p.1 (omega (arith, low)))
-by_line parent k call links errbacks place (p_group_end g ms) known mutable ok low =
-    let p = both (task_ok false (p_task k call links errbacks place)) (line_ok true (p_group_end g ms)) ok in
-    whole_by false parent k call links errbacks place (p_group_end g ms) known mutable p.0 (omega (arith, low)) (some_fits (p_group_end g ms) p.1 (omega (arith, low)))
-by_line parent k call links errbacks place (p_chord_end g ms b) known mutable ok low =
-    let p = both (task_ok false (p_task k call links errbacks place)) (line_ok true (p_chord_end g ms b)) ok in
-    whole_by false parent k call links errbacks place (p_chord_end g ms b) known mutable p.0 (omega (arith, low)) (some_fits (p_chord_end g ms b) p.1 (omega (arith, low)))
-
-whole : (parent : Option ℕ) (k : ℕ) (call : Call) (links errbacks : PTasks) (place : PPlace) (rest : PLine)
-    → fits (as_content parent k call links errbacks place rest) ≡ true → Whole parent k call links errbacks place rest
-whole parent k call links errbacks place rest h =
-    let l = p_step (p_task k call links errbacks place) rest in
-    let p = both (parent_ok parent && not call.immutable && line_ok true l) (nat_le (line_reach 0 l) 32) h in
-    let q = both (parent_ok parent && not call.immutable) (line_ok true l) p.0 in
-    let r = both (parent_ok parent) (not call.immutable) q.0 in
-    by_line parent k call links errbacks place rest r.0 (not_true call.immutable r.1) q.1 (leb-true (line_reach 0 l) 32 p.1)
 
 -- ---- the message
 

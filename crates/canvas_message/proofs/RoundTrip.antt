@@ -335,12 +335,12 @@ first_then : (n : ℕ) (t : PTask) (d : Data) (ds : List Data) (l : PLine) → t
 first_then n t d ds l first others = rw (step_task None t n first, others) refl
 
 -- what is true of a chord's parts
-record Chord (last : Bool) (g : ℕ) (ms : PLines) (b : PLine) : Type 0 where
-  here : is_number g ≡ true
-  members : members_ok ms ≡ true
-  body : line_ok last b ≡ true
+pub record Chord (last : Bool) (g : ℕ) (ms : PLines) (b : PLine) : Type 0 where
+  pub here : is_number g ≡ true
+  pub members : members_ok ms ≡ true
+  pub body : line_ok last b ≡ true
 
-chord_parts : (last : Bool) (g : ℕ) (ms : PLines) (b : PLine) → line_ok last (p_chord_end g ms b) ≡ true → Chord last g ms b
+pub chord_parts : (last : Bool) (g : ℕ) (ms : PLines) (b : PLine) → line_ok last (p_chord_end g ms b) ≡ true → Chord last g ms b
 chord_parts last g ms b ok =
     let p = both (is_number g && nat_le (how_many ms) 1024 && members_ok ms) (line_ok last b) ok in
     let q = both (is_number g && nat_le (how_many ms) 1024) (members_ok ms) p.0 in
