@@ -4,3 +4,4 @@ pub mod CleanLines
 pub mod Wholes
 pub mod MessageBack
 pub mod CleanMessage
+pub mod EnvelopeBack
