@@ -5,3 +5,4 @@ pub mod Wholes
 pub mod MessageBack
 pub mod CleanMessage
 pub mod EnvelopeBack
+pub mod FitsOn
