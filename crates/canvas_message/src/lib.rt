@@ -5,6 +5,7 @@ mod draft;
 mod envelope;
 mod fault;
 mod message;
+mod read;
 
 pub use draft::Draft;
 pub use envelope::Envelope;

@@ -1,0 +1,5 @@
+//! Reading messages.
+
+mod frozen;
+mod identifiers;
+mod made;
