@@ -1,10 +1,10 @@
 -- Frozen tasks, lines and ends, made of what was read.
-use Rattle.std.proofs.Common.{◌≡◌, ◌∙◌, ◌≤◌, ◌<◌, ◌+◌, ◌-◌, ℕ, Bool, length, get_or, take, arith, List, [], ◌∷◌, ◌++◌, map, Option, Some, None, Result, Ok, Err, refl, sym, ap, rules}
+use Rattle.std.proofs.Common.{◌≡◌, ◌∙◌, ◌≢◌, ◌≤◌, ◌<◌, ◌+◌, ◌-◌, ℕ, Bool, length, get_or, take, drop, reverse, arith, List, [], ◌∷◌, ◌++◌, map, Option, Some, None, Result, Ok, Err, refl, sym, ap, rules}
 use Rattle.std.proofs.Math.Seq.{take-length}
-use Rattle.std.proofs.lemmas.List.{map_push, take_more}
+use Rattle.std.proofs.lemmas.List.{map_push, take_more, reverse-append}
 use Rattle.std.specs.Prelude.{codes}
-use Rattle.serde_json.specs.Data.{Data}
-use Rattle.serde_json.specs.View.{view}
+use Rattle.serde_json.specs.Data.{Data, array}
+use Rattle.serde_json.specs.View.{view, items_of}
 use Rattle.serde_json.specs.declared.value.Value.{Value}
 use Rattle.canvas_task.specs.declared.arg.Arg.{Arg}
 use Rattle.canvas_sig.specs.Fields.{field, option, args, kwargs, tasks, header, body, link, link_error, listed, members, as_list, text_of, is_true}
@@ -20,8 +20,10 @@ use Rattle.canvas_rewrite.specs.declared.frozen.FrozenEnd.{roll-FrozenEnd}
 use Rattle.canvas_rewrite.specs.declared.frozen.Place.{Place}
 use Rattle.canvas_rewrite.proofs.FrozenViews.{made_line, made_group, made_chord}
 use Rattle.canvas_message.specs.View.{place_seen}
-use Rattle.canvas_message.specs.Elements.{line_with}
-use Rattle.canvas_message.specs.FrozenReading.{task_of, group_of, known, place_with, task_with, group_with, chord_with, elements_with}
+use Rattle.canvas_message.specs.Elements.{line_with, reversed_with, element_view}
+use Rattle.canvas_message.specs.Reading.{parts_of, chain_reading}
+use Rattle.canvas_message.specs.declared.read.made.Element.{Element}
+use Rattle.canvas_message.specs.FrozenReading.{task_of, group_of, known, place_with, task_with, group_with, chord_with, elements_with, step_reading, last_reading, levels}
 
 -- ---- tasks
 
@@ -109,3 +111,34 @@ last_item xs x some is =
 pub no_items : (xs : List Value) → length xs < 1 → map view xs ≡ []
 no_items [] few = refl
 no_items (x ∷ xs) few = absurd (omega (arith, few))
+
+map_reverse : (ts : List FrozenTask) → map p_task_view (reverse ts) ≡ reverse (map p_task_view ts)
+map_reverse [] = refl
+map_reverse (t ∷ ts) =
+    ap (map p_task_view) (reverse-append (t ∷ []) ts) ∙ map_push p_task_view (reverse ts) t ∙ ap (λ xs. xs ++ p_task_view t ∷ []) (map_reverse ts)
+    ∙ sym (reverse-append (p_task_view t ∷ []) (map p_task_view ts))
+
+-- the line whose last element is given first
+pub reversed_read : (s : Data → Result PTask SigFault) (e : Data → Result PLine SigFault) (d : Data) (ds : List Data) (x : Element) (ts new : List FrozenTask) (l : FrozenLine)
+    → e d ≡ Ok (element_view x) → each s ds ≡ Ok (map p_task_view ts) → new ≡ reverse ts
+    → p_line_view l ≡ p_steps (map p_task_view new) (element_view x) → reversed_with s e d ds ≡ Ok (p_line_view l)
+reversed_read s e d ds x ts new l hd hs turned made =
+    rw (hd, hs) (ap Ok (ap (λ xs. p_steps xs (element_view x)) (sym (ap (map p_task_view) turned ∙ map_reverse ts)) ∙ sym made))
+
+-- what follows on a line of at least one element
+pub chain_starts : (xs : List Value) (x : Value) → 1 ≤ length xs → x ≡ get_or xs 0 x
+    → chain_reading (map view xs) ≡ reversed_with (step_reading levels) (last_reading levels) (view x) (map view (take (length xs - 1) (drop 1 xs)))
+chain_starts [] x some is = absurd (omega (arith, some))
+chain_starts (y ∷ ys) x some is =
+    let others : length (y ∷ ys) - 1 ≡ length ys = omega arith in
+    ap (λ z. reversed_with (step_reading levels) (last_reading levels) (view z) (map view ys)) (sym is)
+    ∙ ap (λ zs. reversed_with (step_reading levels) (last_reading levels) (view x) (map view zs)) (sym (ap (λ k. take k ys) others ∙ take-length ys))
+
+-- ---- the items of a body
+
+pub not_three : (vs : List Value) → length vs ≢ 3 → parts_of (array (items_of (map view vs))) ≡ None
+not_three [] other = refl
+not_three (a ∷ []) other = refl
+not_three (a ∷ b ∷ []) other = refl
+not_three (a ∷ b ∷ c ∷ []) other = absurd (other refl)
+not_three (a ∷ b ∷ c ∷ d ∷ vs) other = refl
