@@ -6,3 +6,4 @@ pub mod Reading
 pub mod Codes
 pub mod ContentCode
 pub mod View
+pub mod Parts

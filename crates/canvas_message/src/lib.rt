@@ -4,6 +4,7 @@
 mod draft;
 mod envelope;
 mod fault;
+mod fits;
 mod message;
 
 pub use draft::Draft;
