@@ -1,8 +1,14 @@
 -- The reach past the limit is the same whatever is past it.
-use Rattle.std.proofs.Common.{◌≡◌, ◌∙◌, ℕ, ◌+◌, max, arith, List, [], ◌∷◌, map, Bool, true, false, refl, sym, ap}
+use Rattle.std.proofs.Common.{◌≡◌, ◌∙◌, ℕ, ◌+◌, ◌-◌, max, arith, List, [], ◌∷◌, ◌++◌, map, length, Option, Some, None, Box, Global, Bool, true, false, refl, sym, ap, subst}
 use Rattle.canvas_sig.specs.LineReach.{capped, above}
 use Rattle.canvas_rewrite.specs.Placed.{PTask, p_task, PLine, p_stop, p_step, p_group_end, p_chord_end, PLines, no_p_lines, and_p_line}
 use Rattle.canvas_rewrite.specs.FrozenView.{p_tasks_of, p_steps}
+use Rattle.canvas_rewrite.specs.FrozenView.{p_lines_of, p_task_view, p_line_view, p_end_view}
+use Rattle.canvas_rewrite.specs.declared.frozen.FrozenTask.{FrozenTask, out-FrozenTask}
+use Rattle.canvas_rewrite.specs.declared.frozen.FrozenLine.{FrozenLine, out-FrozenLine}
+use Rattle.canvas_rewrite.specs.declared.frozen.FrozenEnd.{FrozenEnd, out-FrozenEnd}
+use Rattle.canvas_message.proofs.Seen.{task_seen, line_none, line_some, line_last, end_none, end_some}
+use Rattle.canvas_message.specs.View.{place_seen}
 use Rattle.canvas_message.specs.Fits.{task_reach, tasks_reach, place_reach, line_reach, greatest_reach, members_reach}
 use Rattle.canvas_message.specs.Parts.{is_stop, is_longer}
 use Rattle.canvas_message.proofs.FitLemmas.{never_stops}
@@ -101,3 +107,50 @@ mutual
   pub members_capped : (c : ℕ) (ms : PLines) → capped (members_reach (capped c) ms) ≡ capped (members_reach c ms)
   members_capped c no_p_lines = refl
   members_capped c (and_p_line m ms) = capped_max _ _ _ _ (line_capped c m) (members_capped c ms)
+
+-- ---- what the code has reckoned
+
+pub of_task : (t : FrozenTask) (c l e p : ℕ) → l ≡ capped (tasks_reach (p_tasks_of (map p_task_view (out-FrozenTask t).links)))
+    → e ≡ capped (tasks_reach (p_tasks_of (map p_task_view (out-FrozenTask t).errbacks))) → p ≡ capped (place_reach (place_seen (out-FrozenTask t).place))
+    → above (max (max l e) (max p c)) ≡ capped (task_reach c (p_task_view t))
+of_task t c l e p hl he hp = omega (arith, hl, he, hp) ∙ ap (λ x. capped (task_reach c x)) (sym (task_seen t))
+
+chord_reached : (r m following members : ℕ) → following ≡ capped r → members ≡ capped m → above (max members following) ≡ capped (1 + max r m)
+chord_reached r m following members h i = omega (arith, h, i)
+
+pub of_chord : (t : FrozenEnd) (b : FrozenLine) → (out-FrozenEnd t).body ≡ Some b → (c following members : ℕ) (ls : List FrozenLine) → ls ≡ (out-FrozenEnd t).members
+    → following ≡ capped (line_reach c (p_line_view b)) → members ≡ capped (members_reach following (p_lines_of (map p_line_view ls)))
+    → above (max members following) ≡ capped (line_reach c (p_end_view t))
+of_chord t b e c following members ls same hf hm =
+    let r : ℕ = line_reach c (p_line_view b) in
+    let ms : PLines = p_lines_of (map p_line_view (out-FrozenEnd t).members) in
+    let seen : members ≡ capped (members_reach r ms) =
+    hm ∙ ap (λ x. capped (members_reach following (p_lines_of (map p_line_view x)))) same ∙ ap (λ x. capped (members_reach x ms)) hf ∙ members_capped r ms in
+    chord_reached r (members_reach r ms) following members hf seen ∙ ap (λ l. capped (line_reach c l)) (sym (end_some t b e))
+
+pub of_group : (t : FrozenEnd) → (out-FrozenEnd t).body ≡ None → (c members : ℕ) (ls : List FrozenLine) → ls ≡ (out-FrozenEnd t).members
+    → members ≡ capped (members_reach 0 (p_lines_of (map p_line_view ls))) → above members ≡ capped (line_reach c (p_end_view t))
+of_group t e c members ls same hm =
+    let ms : PLines = p_lines_of (map p_line_view (out-FrozenEnd t).members) in
+    let seen : members ≡ capped (members_reach 0 ms) = hm ∙ ap (λ x. capped (members_reach 0 (p_lines_of (map p_line_view x)))) same in
+    let more : above members ≡ capped (1 + members_reach 0 ms) = omega (arith, seen) in
+    more ∙ ap (λ l. capped (line_reach c l)) (sym (end_none t e))
+
+end_by : (c : ℕ) (t : FrozenEnd) (o : Option FrozenLine) → (out-FrozenEnd t).body ≡ o → IsOne c (p_end_view t)
+end_by c t None e = subst (IsOne c) (sym (end_none t e)) (one_group c (out-FrozenEnd t).group (p_lines_of (map p_line_view (out-FrozenEnd t).members)))
+end_by c t (Some b) e = subst (IsOne c) (sym (end_some t b e)) (one_chord c (out-FrozenEnd t).group (p_lines_of (map p_line_view (out-FrozenEnd t).members)) (p_line_view b))
+
+two : (a b x y : ℕ) → a ≡ capped x → b ≡ capped y → max a b ≡ capped (max x y)
+two a b x y h i = omega (arith, h, i)
+
+pub of_some : (l : FrozenLine) (b : Box FrozenEnd Global) → (out-FrozenLine l).tail ≡ Some b → (c front last : ℕ) (ts : List FrozenTask) (t : FrozenEnd) → ts ≡ (out-FrozenLine l).tasks → t ≡ b.value
+    → front ≡ capped (tasks_reach (p_tasks_of (map p_task_view ts))) → last ≡ capped (line_reach c (p_end_view t)) → max front last ≡ capped (greatest_reach c (p_line_view l))
+of_some l b e c front last ts t same there hf hl =
+    two front last _ _ (hf ∙ ap (λ x. capped (tasks_reach (p_tasks_of (map p_task_view x)))) same) (hl ∙ ap (λ x. capped (line_reach c (p_end_view x))) there)
+    ∙ ap capped (sym (ap (greatest_reach c) (line_some l b e) ∙ steps_greatest c (map p_task_view (out-FrozenLine l).tasks) (p_end_view b.value) (end_by c b.value (out-FrozenEnd b.value).body refl)))
+
+pub of_last : (l : FrozenLine) → (out-FrozenLine l).tail ≡ None → (c front last : ℕ) (ts : List FrozenTask) (t : FrozenTask) → (out-FrozenLine l).tasks ≡ ts ++ t ∷ []
+    → front ≡ capped (tasks_reach (p_tasks_of (map p_task_view ts))) → last ≡ capped (task_reach c (p_task_view t)) → max front last ≡ capped (greatest_reach c (p_line_view l))
+of_last l e c front last ts t same hf hl =
+    two front last _ _ hf hl
+    ∙ ap capped (sym (ap (greatest_reach c) (line_last l e ts t same) ∙ steps_greatest c (map p_task_view ts) (p_step (p_task_view t) p_stop) (one_task c (p_task_view t))))

@@ -1,5 +1,5 @@
 -- What the types of the code say, by the parts in them.
-use Rattle.std.proofs.Common.{◌≡◌, ◌∙◌, ℕ, List, [], ◌∷◌, ◌++◌, map, Option, Some, None, Box, Global, refl, sym, ap, rules}
+use Rattle.std.proofs.Common.{◌≡◌, ◌∙◌, ℕ, List, [], ◌∷◌, ◌++◌, map, length, Option, Some, None, Box, Global, refl, sym, ap, rules}
 use Rattle.std.proofs.lemmas.List.{map-append}
 use Rattle.canvas_sig.specs.Tree.{Call}
 use Rattle.canvas_rewrite.specs.Placed.{PTask, p_task, PPlace, p_nowhere, p_group, p_chord, PLine, p_stop, p_step, p_group_end, p_chord_end}
@@ -46,6 +46,13 @@ end_none t e = search (rules, block.the_lemmas)
 pub end_some : (t : FrozenEnd) (b : FrozenLine) → (out-FrozenEnd t).body ≡ Some b
     → p_end_view t ≡ p_chord_end (out-FrozenEnd t).group (p_lines_of (map p_line_view (out-FrozenEnd t).members)) (p_line_view b)
 end_some t b e = search (rules, block.the_lemmas)
+
+empty_by : (ts : List FrozenTask) → length ts ≡ 0 → p_steps (map p_task_view ts) p_stop ≡ p_stop
+empty_by [] h = refl
+empty_by (t ∷ ts) h = absurd cc
+
+pub line_empty : (l : FrozenLine) → (out-FrozenLine l).tail ≡ None → (ts : List FrozenTask) → ts ≡ (out-FrozenLine l).tasks → length ts ≡ 0 → p_line_view l ≡ p_stop
+line_empty l e ts same h = line_none l e ∙ ap (λ xs. p_steps (map p_task_view xs) p_stop) (sym same) ∙ empty_by ts h
 
 -- ---- the last task of a line
 

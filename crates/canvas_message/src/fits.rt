@@ -56,13 +56,17 @@ pub(crate) fn following(rest: &Option<FrozenLine>) -> Option<&FrozenLine>
     ensures { MatchOption result (rest_seen rest.now ≡ p_stop) (λ l. (rest_seen rest.now ≡ p_line_view l.now) × (is_stop (p_line_view l.now) ≡ false)) }
 {
     match rest {
-        Some(line) => {
-            if line.tail.is_none() && line.tasks.get().is_empty() {
-                return None;
-            }
-            Some(line)
-        }
+        Some(line) => { if is_stop(line) { None } else { Some(line) } }
         None => None,
+    }
+}
+
+fn is_stop(line: &FrozenLine) -> bool
+    ensures { result ≡ is_stop (p_line_view line.now) }
+{
+    match &line.tail {
+        Some(_) => false,
+        None => line.tasks.get().as_slice().is_empty(),
     }
 }
 

@@ -1,10 +1,10 @@
 //! Whether numbers, names and places are in order.
 
-ghost use Rattle.std.specs.Prelude.{◌≡◌, ◌&&◌, not, map, false};
+ghost use Rattle.std.specs.Prelude.{◌≡◌, map, false, nat_le};
 ghost use Rattle.canvas_task.specs.Entries.{named};
 ghost use Rattle.canvas_rewrite.specs.FrozenView.{p_tasks_of, p_lines_of, p_task_view, p_line_view, p_end_view};
-ghost use Rattle.canvas_message.specs.Fits.{is_number, call_ok, size_ok, task_ok, tasks_ok, place_ok, line_ok, members_ok};
-ghost use Rattle.canvas_message.specs.View.{place_view, place_seen};
+ghost use Rattle.canvas_message.specs.Fits.{is_number, call_ok, size_ok, task_ok, tasks_ok, place_ok, line_ok, members_ok, how_many, most_members};
+ghost use Rattle.canvas_message.specs.View.{place_seen};
 
 use canvas_rewrite::parts::is_in_group;
 use canvas_rewrite::{FrozenEnd, FrozenLine, FrozenTask, Place};
@@ -14,6 +14,8 @@ use std::collections::BTreeMap;
 
 /// The most members that a header may have.
 const MOST_MEMBERS: usize = 1024;
+
+const MOST_SIZE: u32 = 1024;
 
 pub(super) fn is_task(task: TaskNo) -> bool
     ensures { result ≡ is_number task }
@@ -30,7 +32,13 @@ fn is_group(group: GroupNo) -> bool
 fn is_size(size: u32) -> bool
     ensures { result ≡ size_ok size }
 {
-    size > 0 && size <= 1024
+    size > 0 && size <= MOST_SIZE
+}
+
+fn is_header(members: &[FrozenLine]) -> bool
+    ensures { result ≡ nat_le (how_many (p_lines_of (map p_line_view members.now))) most_members }
+{
+    members.len() <= MOST_MEMBERS
 }
 
 /// A call's name, its numbers, and the order of its keyword arguments.
@@ -99,16 +107,15 @@ pub(super) fn line_fits(line: &FrozenLine, last: bool) -> bool
 fn end_fits(end: &FrozenEnd, last: bool) -> bool
     ensures { result ≡ line_ok last (p_end_view end.now) }
 {
-    if !is_group(end.group) {
-        return false;
-    }
+    let members = end.members.get().as_slice();
     match &end.body {
         Some(body) => {
-            end.members.get().len() <= MOST_MEMBERS
-                && members_fit(end.members.get())
+            is_group(end.group)
+                && is_header(members)
+                && members_fit(members)
                 && line_fits(body, last)
         }
-        None => members_fit(end.members.get()),
+        None => is_group(end.group) && members_fit(members),
     }
 }
 

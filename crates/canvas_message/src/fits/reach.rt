@@ -55,8 +55,8 @@ fn is_longer(line: &FrozenLine) -> bool
     ensures { result ≡ is_longer (p_line_view line.now) }
 {
     match &line.tail {
-        Some(_) => !line.tasks.get().is_empty(),
-        None => line.tasks.get().len() > 1,
+        Some(_) => !line.tasks.get().as_slice().is_empty(),
+        None => line.tasks.get().as_slice().len() > 1,
     }
 }
 
