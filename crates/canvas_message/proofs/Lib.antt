@@ -1,3 +1,6 @@
 pub mod Levels
 pub mod Made
 pub mod Texts
+pub mod Seen
+pub mod FitLemmas
+pub mod ReachLemmas

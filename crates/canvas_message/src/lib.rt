@@ -5,6 +5,7 @@ mod decoding;
 mod draft;
 mod envelope;
 mod fault;
+mod fits;
 mod message;
 mod read;
 
