@@ -42,11 +42,7 @@ fn given_of(alloc: Global, args: &Value, kwargs: &Value) -> Result<Given, Messag
     }
 }
 
-fn embed_of(
-    alloc: Global,
-    group: Option<&Value>,
-    embed: &Value,
-) -> Result<Embed, MessageFault>
+fn embed_of(alloc: Global, group: Option<&Value>, embed: &Value) -> Result<Embed, MessageFault>
     ensures { Gives embed_view result (refused_as BadEmbed (embed_reading (found group.entry) (view embed.now))) }
 {
     match read_embed(alloc, group, embed) {

@@ -1,4 +1,4 @@
-use Rattle.std.proofs.Common.{map, rules}
+use Rattle.std.proofs.Common.{map}
 use Rattle.serde_json.specs.View.{view}
 use Rattle.canvas_message.specs.FrozenReading.{step_reading, last_reading}
 use Rattle.canvas_message.proofs.Made.{reversed_read}
