@@ -1,5 +1,6 @@
 -- What a message says, as data (Celery task message protocol, version 2).
-use Rattle.std.specs.Prelude.{ℕ, Option}
+use Rattle.std.specs.Prelude.{ℕ, Bool, false, List, Option, Some, None}
+use Rattle.canvas_task.specs.declared.arg.Arg.{Arg}
 use Rattle.canvas_sig.specs.Tree.{Call}
 use Rattle.canvas_rewrite.specs.Placed.{PTask, p_task, PTasks, PPlace, PLine, p_step}
 
