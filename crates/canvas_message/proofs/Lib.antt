@@ -6,3 +6,9 @@ pub mod MessageBack
 pub mod CleanMessage
 pub mod EnvelopeBack
 pub mod FitsOn
+pub mod Levels
+pub mod Made
+pub mod Texts
+pub mod Seen
+pub mod FitLemmas
+pub mod ReachLemmas

@@ -6,3 +6,5 @@ pub mod Reading
 pub mod Codes
 pub mod ContentCode
 pub mod View
+pub mod Elements
+pub mod Parts
