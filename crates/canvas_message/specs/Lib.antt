@@ -7,3 +7,4 @@ pub mod Codes
 pub mod ContentCode
 pub mod View
 pub mod Parts
+pub mod Tokens

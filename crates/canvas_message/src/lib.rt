@@ -2,12 +2,15 @@
 #![tactic(auto)]
 
 mod draft;
+mod encoding;
 mod envelope;
 mod fault;
 mod fits;
 mod message;
+mod write;
 
 pub use draft::Draft;
+pub use encoding::encode;
 pub use envelope::Envelope;
 pub use fault::MessageFault;
 pub use message::Message;
