@@ -12,7 +12,7 @@ ghost use Rattle.canvas_message.specs.Content.{links_of, errbacks_of, place_of};
 ghost use Rattle.canvas_message.specs.Tokens.{named_tokens, following_wire};
 ghost use Rattle.canvas_message.specs.Wire.{tasks_wire, carried_wire, list_or_null, embed_wire, properties_wire, headers_wire, body_wire};
 
-use crate::write::embed::{write_callbacks, write_carried, write_following};
+use crate::write::embed::{write_callbacks_and_chain, write_chord_and_errbacks};
 use crate::write::identifiers::{write_origin, write_place_member, write_task_member, write_text};
 use crate::{Envelope, Message};
 use canvas_sig::parts::{write_args, write_named};
@@ -21,18 +21,12 @@ use json::Writer;
 use std::alloc::{AllocError, Global};
 use std::collections::BTreeMap;
 
-fn write_content_type(out: &mut Writer) -> Result<(), AllocError>
-    ensures { Appends result out.old out.new (begin_object ∷ key (codes "content_encoding") ∷ string (codes "utf-8") ∷ key (codes "content_type") ∷ string (codes "application/json") ∷ []) }
-{
-    out.begin_object()?;
-    write_text(out, "content_encoding", "utf-8")?;
-    write_text(out, "content_type", "application/json")
-}
-
 fn write_properties(out: &mut Writer, message: &Message) -> Result<(), AllocError>
     ensures { Appends result out.old out.new (data_tokens (properties_wire message.now)) }
 {
-    write_content_type(out)?;
+    out.begin_object()?;
+    write_text(out, "content_encoding", "utf-8")?;
+    write_text(out, "content_type", "application/json")?;
     write_task_member(out, "correlation_id", message.task)?;
     out.end_object()
 }
@@ -63,30 +57,11 @@ fn write_keywords(out: &mut Writer, kwargs: &BTreeMap<String, Arg>) -> Result<()
     write_named(out, kwargs)
 }
 
-fn write_links(out: &mut Writer, message: &Message) -> Result<(), AllocError>
-    ensures { Appends result out.old out.new (begin_object ∷ (named_tokens (codes "callbacks") (list_or_null (tasks_wire (links_of message.now.own))) ++ named_tokens (codes "chain") (following_wire message.now.rest))) }
-{
-    out.begin_object()?;
-    out.key("callbacks")?;
-    write_callbacks(out, message.links.get())?;
-    out.key("chain")?;
-    write_following(out, &message.rest)
-}
-
-fn write_place(out: &mut Writer, message: &Message) -> Result<(), AllocError>
-    ensures { Appends result out.old out.new (named_tokens (codes "chord") (carried_wire (place_of message.now.own)) ++ named_tokens (codes "errbacks") (list_or_null (tasks_wire (errbacks_of message.now.own)))) }
-{
-    out.key("chord")?;
-    write_carried(out, &message.place)?;
-    out.key("errbacks")?;
-    write_callbacks(out, message.errbacks.get())
-}
-
 fn write_embed(out: &mut Writer, message: &Message) -> Result<(), AllocError>
     ensures { Appends result out.old out.new (data_tokens (embed_wire message.now)) }
 {
-    write_links(out, message)?;
-    write_place(out, message)?;
+    write_callbacks_and_chain(out, message.links.get(), &message.rest)?;
+    write_chord_and_errbacks(out, &message.place, message.errbacks.get())?;
     out.end_object()
 }
 

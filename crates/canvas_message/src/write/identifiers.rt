@@ -53,7 +53,7 @@ pub(super) fn write_group_id(out: &mut Writer, group: GroupNo) -> Result<(), All
     write_id(out, &group_text(group))
 }
 
-fn write_parent(out: &mut Writer, parent: Option<TaskNo>) -> Result<(), AllocError>
+fn write_parent_id(out: &mut Writer, parent: Option<TaskNo>) -> Result<(), AllocError>
     ensures { Appends result out.old out.new (data_tokens (parent_id parent)) }
 {
     match parent {
@@ -72,15 +72,7 @@ fn write_place_id(out: &mut Writer, place: &Option<Place>) -> Result<(), AllocEr
     }
 }
 
-/// The members `parent_id` and `root_id`: the first task of a run is the root of all.
-pub(crate) fn write_origin(out: &mut Writer, parent: Option<TaskNo>) -> Result<(), AllocError>
-    ensures { Appends result out.old out.new (named_tokens (codes "parent_id") (parent_id parent) ++ named_tokens (codes "root_id") (task_id 1)) }
-{
-    out.key("parent_id")?;
-    write_parent(out, parent)?;
-    write_task_member(out, "root_id", root())
-}
-
+/// The first task of a run is the root of all.
 fn root() -> TaskNo
     ensures { result ≡ 1 }
 {
@@ -94,4 +86,19 @@ pub(crate) fn write_place_member(out: &mut Writer, place: &Option<Place>) -> Res
     out.begin_object()?;
     out.key("group")?;
     write_place_id(out, place)
+}
+
+fn write_parent(out: &mut Writer, parent: Option<TaskNo>) -> Result<(), AllocError>
+    ensures { Appends result out.old out.new (named_tokens (codes "parent_id") (parent_id parent)) }
+{
+    out.key("parent_id")?;
+    write_parent_id(out, parent)
+}
+
+/// The members `parent_id` and `root_id`.
+pub(crate) fn write_origin(out: &mut Writer, parent: Option<TaskNo>) -> Result<(), AllocError>
+    ensures { Appends result out.old out.new (named_tokens (codes "parent_id") (parent_id parent) ++ named_tokens (codes "root_id") (task_id 1)) }
+{
+    write_parent(out, parent)?;
+    write_task_member(out, "root_id", root())
 }
