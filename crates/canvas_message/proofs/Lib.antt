@@ -11,4 +11,7 @@ pub mod Made
 pub mod Texts
 pub mod Seen
 pub mod FitLemmas
+pub mod Identifiers
 pub mod ReachLemmas
+pub mod TaskTokens
+pub mod LineTokens

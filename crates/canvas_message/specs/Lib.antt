@@ -8,3 +8,4 @@ pub mod ContentCode
 pub mod View
 pub mod Elements
 pub mod Parts
+pub mod Tokens

@@ -29,7 +29,10 @@ pub mod parts {
     pub use crate::own_fault::{is_name, is_text, own_fault};
     pub use crate::primitive::{Primitive, primitive_of};
     pub use crate::reader::text_of;
-    pub use crate::write::parts::{write_args, write_flag, write_named};
+    pub use crate::write::parts::{
+        write_args, write_closing, write_end, write_flag, write_front, write_kind, write_kwargs,
+        write_named,
+    };
 }
 
 pub use arguments::read_arg;

@@ -20,7 +20,8 @@ pub use value::write_arg;
 
 pub mod parts {
     pub use super::arguments::{write_args, write_named};
-    pub use super::task::write_flag;
+    pub use super::node::{write_closing, write_kind};
+    pub use super::task::{write_end, write_flag, write_front, write_kwargs};
 }
 
 /// A signature as compact JSON.

@@ -22,7 +22,7 @@ fn write_opening(out: &mut Writer) -> Result<(), AllocError>
 }
 
 /// The last two members, and the closing brace.
-fn write_kind(out: &mut Writer, kind: &str, name: &str) -> Result<(), AllocError>
+pub fn write_kind(out: &mut Writer, kind: &str, name: &str) -> Result<(), AllocError>
     ensures { Appends result out.old out.new (kind_tokens (string kind.now) ++ name_tokens name.now) }
 {
     out.key("subtask_type")?;
@@ -33,7 +33,7 @@ fn write_kind(out: &mut Writer, kind: &str, name: &str) -> Result<(), AllocError
 }
 
 /// What stands behind the keyword arguments of a chain, group or chord.
-fn write_closing(out: &mut Writer, kind: &str, name: &str) -> Result<(), AllocError>
+pub fn write_closing(out: &mut Writer, kind: &str, name: &str) -> Result<(), AllocError>
     ensures { Appends result out.old out.new (closing_tokens (string kind.now) name.now) }
 {
     out.key("options")?;

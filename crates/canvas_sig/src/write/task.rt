@@ -16,7 +16,7 @@ use std::alloc::AllocError;
 use std::collections::BTreeMap;
 
 /// The opening brace of a signature, and its positional arguments.
-pub(super) fn write_front(out: &mut Writer, args: &[Arg]) -> Result<(), AllocError>
+pub fn write_front(out: &mut Writer, args: &[Arg]) -> Result<(), AllocError>
     ensures { Appends result out.old out.new (front_tokens (args_wire args.now)) }
 {
     out.begin_object()?;
@@ -33,7 +33,8 @@ pub fn write_flag(out: &mut Writer, immutable: bool) -> Result<(), AllocError>
     out.boolean(immutable)
 }
 
-fn write_kwargs(out: &mut Writer, kwargs: &BTreeMap<String, Arg>) -> Result<(), AllocError>
+/// The member `kwargs` of a task.
+pub fn write_kwargs(out: &mut Writer, kwargs: &BTreeMap<String, Arg>) -> Result<(), AllocError>
     ensures { Appends result out.old out.new (kwargs_tokens (kwargs_wire (named kwargs.now.entries))) }
 {
     out.key("kwargs")?;
@@ -56,7 +57,7 @@ fn write_call(
 }
 
 /// The last members of a task, and the closing brace.
-fn write_end(out: &mut Writer, name: &str) -> Result<(), AllocError>
+pub fn write_end(out: &mut Writer, name: &str) -> Result<(), AllocError>
     ensures { Appends result out.old out.new (kind_tokens null ++ name_tokens name.now) }
 {
     out.key("subtask_type")?;
