@@ -1,5 +1,8 @@
-use crate::{Ends, Plan, freeze, node_of, normalise};
-use canvas_sig::{read_canvas, write_node};
+//! Normal texts and plans of canvases, worked out by hand.
+
+use crate::lines::is_line_of;
+use canvas_rewrite::{Ends, Plan, freeze, normalise};
+use canvas_sig::read_canvas;
 use canvas_task::{GroupNo, TaskNo};
 use std::alloc::Global;
 use std::test::Fail;
@@ -35,24 +38,16 @@ fn plan_of(alloc: Global, text: &str) -> Result<Plan, Fail> {
     Ok(freeze(alloc, &normalise(alloc, &canvas)?)?)
 }
 
-fn normal_text(alloc: Global, text: &str) -> Result<String, Fail> {
-    let canvas = read_canvas(alloc, text.as_bytes())?;
-    let line = normalise(alloc, &canvas)?;
-    Ok(write_node(alloc, &node_of(alloc, &line)?)?)
-}
-
 #[test]
-fn normal_texts(rt: HostRuntime) -> Result<(), Fail> {
-    let alloc = rt.alloc();
+fn normal_texts(rt: HostRuntime) {
     for (text, normal) in [
         (CHORD_AND_TASK, ITS_NORMAL_TEXT),
         (CHAIN_IN_A_CHAIN, FLATTENED),
         (CHAIN_OF_ONE, TASK_ALONE),
     ] {
-        assert_eq!(rt; normal_text(alloc, text)?.as_str(), normal);
-        assert_eq!(rt; normal_text(alloc, normal)?.as_str(), normal);
+        assert!(rt; is_line_of(rt.alloc(), text, normal), "{text}");
+        assert!(rt; is_line_of(rt.alloc(), normal, normal), "{text}");
     }
-    Ok(())
 }
 
 #[test]
