@@ -5,3 +5,4 @@ pub mod PlainStates
 pub mod RowLookups
 pub mod ReportLemmas
 pub mod SameText
+pub mod FirstFits

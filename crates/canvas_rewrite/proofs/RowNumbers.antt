@@ -75,7 +75,7 @@ in_order (r ∷ rows) k (suc n) h =
     let tail : numbers rows ≡ numbers_from (suc k) n = cc in
     ap (λ rs. (k, r.1) ∷ rs) (in_order rows (suc k) n tail) ∙ ap (λ j. (j, r.1) ∷ rows) (sym head)
 
-same_number : (k : ℕ) → (k == k) ≡ true
+pub same_number : (k : ℕ) → (k == k) ≡ true
 same_number k = grind (arith, nat_tests)
 
 other_number : (j k : ℕ) → j < k → (j == k) ≡ false

@@ -54,7 +54,7 @@ fn push_all(lines: &[FrozenLine], ends: &mut Vec<TaskNo>) -> Result<(), AllocErr
 }
 
 /// Whether the line ends in a group, or in a chord whose body ends so.
-pub(crate) fn is_in_group(line: &FrozenLine) -> bool
+pub fn is_in_group(line: &FrozenLine) -> bool
     ensures { result ≡ in_group (line_in line.now) }
 {
     match &line.tail {

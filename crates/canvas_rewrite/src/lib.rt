@@ -12,6 +12,11 @@ mod numbering;
 mod plan;
 mod rewriting;
 
+/// What messages, which carry lines, look at them with.
+pub mod parts {
+    pub use crate::groups::is_in_group;
+}
+
 pub use as_node::node_of;
 pub use ends::Ends;
 pub use frozen::{Carried, FrozenEnd, FrozenLine, FrozenTask, Place};

@@ -31,7 +31,7 @@ arg_clean (arg.Num n) h = whole n h
 arg_clean (arg.List ns) h = numbers_clean ns h
 arg_clean (arg.Text s) h = tt
 
-args_clean : (args : List Arg) → ArgsFit args → AreClean (args_wire args)
+pub args_clean : (args : List Arg) → ArgsFit args → AreClean (args_wire args)
 args_clean [] h = tt
 args_clean (a ∷ args) h = (arg_clean a h.0, args_clean args h.1)
 
@@ -40,12 +40,12 @@ args_clean (a ∷ args) h = (arg_clean a h.0, args_clean args h.1)
 above : (k l : List ℕ) → slice_cmp nat_cmp l k ≡ Less → slice_cmp nat_cmp k l ≡ Greater
 above k l h = nat_list_cmp_total.antisymm k l ∙ ap ordering_reverse h
 
-above_behind : (k l : List ℕ) (d : Data) (before : Members) → IsAbove k before → slice_cmp nat_cmp k l ≡ Greater → IsAbove k (behind before l d)
+pub above_behind : (k l : List ℕ) (d : Data) (before : Members) → IsAbove k before → slice_cmp nat_cmp k l ≡ Greater → IsAbove k (behind before l d)
 above_behind k l d no_members h more = (more, tt)
 above_behind k l d (member j e ms) h more = (h.0, above_behind k l d ms h.1 more)
 
 -- each name is above those before
-abbrev AreAbove : Members → List (List ℕ × Arg) → Type 0
+abbrev pub AreAbove : Members → List (List ℕ × Arg) → Type 0
 AreAbove before [] = Unit {0}
 AreAbove before (e ∷ es) = IsAbove e.0 before × AreAbove before es
 
@@ -53,12 +53,12 @@ one_more : (k : List ℕ) (d : Data) (before : Members) (es : List (List ℕ × 
 one_more k d before [] h low = tt
 one_more k d before (e ∷ es) h low = (above_behind e.0 k d before h.0 (above e.0 k low.0), one_more k d before es h.1 low.1)
 
-kwargs_clean : (before : Members) (es : List (List ℕ × Arg)) → KwargsFit es → Ascends es → AreAbove before es → MembersClean before (kwargs_wire es)
+pub kwargs_clean : (before : Members) (es : List (List ℕ × Arg)) → KwargsFit es → Ascends es → AreAbove before es → MembersClean before (kwargs_wire es)
 kwargs_clean before [] h up first = tt
 kwargs_clean before (e ∷ es) h up first =
     (first.0, arg_clean e.1 h.0, kwargs_clean (behind before e.0 (arg_wire e.1)) es h.1 up.1 (one_more e.0 (arg_wire e.1) before es first.1 up.0))
 
-all_above : (es : List (List ℕ × Arg)) → AreAbove no_members es
+pub all_above : (es : List (List ℕ × Arg)) → AreAbove no_members es
 all_above [] = tt
 all_above (e ∷ es) = (tt, all_above es)
 
@@ -134,11 +134,11 @@ arg_depth (arg.Num n) = omega arith
 arg_depth (arg.List ns) = omega (arith, numbers_depth ns)
 arg_depth (arg.Text s) = omega arith
 
-args_depth : (args : List Arg) → items_depth (args_wire args) ≤ 1
+pub args_depth : (args : List Arg) → items_depth (args_wire args) ≤ 1
 args_depth [] = omega arith
 args_depth (a ∷ args) = omega (arith, arg_depth a, args_depth args)
 
-kwargs_depth : (es : List (List ℕ × Arg)) → members_depth (kwargs_wire es) ≤ 1
+pub kwargs_depth : (es : List (List ℕ × Arg)) → members_depth (kwargs_wire es) ≤ 1
 kwargs_depth [] = omega arith
 kwargs_depth (e ∷ es) = omega (arith, arg_depth e.1, kwargs_depth es)
 

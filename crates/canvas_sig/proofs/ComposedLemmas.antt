@@ -16,7 +16,7 @@ use Rattle.canvas_sig.specs.declared.node.Node.{Node}
 use Rattle.canvas_sig.specs.declared.task_sig.TaskSig.{TaskSig, out-TaskSig}
 use Rattle.canvas_sig.proofs.Views.{task_seen}
 
-both : (a b : Bool) → (a && b) ≡ true → (a ≡ true) × (b ≡ true)
+pub both : (a b : Bool) → (a && b) ≡ true → (a ≡ true) × (b ≡ true)
 both true b h = (refl, h)
 both false b h = absurd cc
 
@@ -31,11 +31,11 @@ arg_fits (arg.Num n) h = h
 arg_fits (arg.List ns) h = numbers_fit ns h
 arg_fits (arg.Text s) h = tt
 
-args_fit : (args : List Arg) → list_all arg_ok args ≡ true → ArgsFit args
+pub args_fit : (args : List Arg) → list_all arg_ok args ≡ true → ArgsFit args
 args_fit [] h = tt
 args_fit (a ∷ args) h = let p = both (arg_ok a) (list_all arg_ok args) h in (arg_fits a p.0, args_fit args p.1)
 
-kwargs_fit : (es : List (List ℕ × Arg)) → list_all (λ e. arg_ok e.1) es ≡ true → KwargsFit es
+pub kwargs_fit : (es : List (List ℕ × Arg)) → list_all (λ e. arg_ok e.1) es ≡ true → KwargsFit es
 kwargs_fit [] h = tt
 kwargs_fit (e ∷ es) h = let p = both (arg_ok e.1) (list_all (λ e. arg_ok e.1) es) h in (arg_fits e.1 p.0, kwargs_fit es p.1)
 

@@ -53,34 +53,34 @@ arg_numbers (arg.Num n) h = rw (number_back n h) h
 arg_numbers (arg.List ns) h = numbers_fit ns h
 arg_numbers (arg.Text s) h = refl
 
-args_back : (args : List Arg) → ArgsFit args → each arg_reading (items (args_wire args)) ≡ Ok args
+pub args_back : (args : List Arg) → ArgsFit args → each arg_reading (items (args_wire args)) ≡ Ok args
 args_back [] h = refl
 args_back (a ∷ args) h = rw (arg_back a h.0, args_back args h.1) refl
 
-args_kinds : (args : List Arg) → list_all kind_ok (items (args_wire args)) ≡ true
+pub args_kinds : (args : List Arg) → list_all kind_ok (items (args_wire args)) ≡ true
 args_kinds [] = refl
 args_kinds (a ∷ args) = rw (arg_kind a, args_kinds args) refl
 
-args_numbers : (args : List Arg) → ArgsFit args → list_all numbers_ok (items (args_wire args)) ≡ true
+pub args_numbers : (args : List Arg) → ArgsFit args → list_all numbers_ok (items (args_wire args)) ≡ true
 args_numbers [] h = refl
 args_numbers (a ∷ args) h = rw (arg_numbers a h.0, args_numbers args h.1) refl
 
-kwargs_back : (es : List (List ℕ × Arg)) → KwargsFit es → each named_reading (entries (kwargs_wire es)) ≡ Ok es
+pub kwargs_back : (es : List (List ℕ × Arg)) → KwargsFit es → each named_reading (entries (kwargs_wire es)) ≡ Ok es
 kwargs_back [] h = refl
 kwargs_back (e ∷ es) h = rw (arg_back e.1 h.0, kwargs_back es h.1) refl
 
-kwargs_kinds : (es : List (List ℕ × Arg)) → list_all kind_ok (map (λ e. e.1) (entries (kwargs_wire es))) ≡ true
+pub kwargs_kinds : (es : List (List ℕ × Arg)) → list_all kind_ok (map (λ e. e.1) (entries (kwargs_wire es))) ≡ true
 kwargs_kinds [] = refl
 kwargs_kinds (e ∷ es) = rw (arg_kind e.1, kwargs_kinds es) refl
 
-kwargs_numbers : (es : List (List ℕ × Arg)) → KwargsFit es → list_all numbers_ok (map (λ e. e.1) (entries (kwargs_wire es))) ≡ true
+pub kwargs_numbers : (es : List (List ℕ × Arg)) → KwargsFit es → list_all numbers_ok (map (λ e. e.1) (entries (kwargs_wire es))) ≡ true
 kwargs_numbers [] h = refl
 kwargs_numbers (e ∷ es) h = rw (arg_numbers e.1 h.0, kwargs_numbers es h.1) refl
 
 -- ---- options
 
 -- what a look-up of a list finds: null where it was left out
-abbrev list_or_null : Items → Data
+abbrev pub list_or_null : Items → Data
 list_or_null no_items = null
 list_or_null (item d ds) = array (item d ds)
 
@@ -102,11 +102,11 @@ no_chord no_items (item e es) = refl
 no_chord (item d ds) no_items = refl
 no_chord (item d ds) (item e es) = refl
 
-link_ok : (ds : Items) → is_link (list_or_null ds) ≡ true
+pub link_ok : (ds : Items) → is_link (list_or_null ds) ≡ true
 link_ok no_items = refl
 link_ok (item d ds) = refl
 
-as_items : (ds : Items) → as_list (list_or_null ds) ≡ items ds
+pub as_items : (ds : Items) → as_list (list_or_null ds) ≡ items ds
 as_items no_items = refl
 as_items (item d ds) = refl
 

@@ -101,7 +101,7 @@ pub fn read_arg(alloc: Global, value: &Value) -> Result<Arg, SigFault>
     }
 }
 
-pub(crate) fn read_args(alloc: Global, values: &[Value]) -> Result<Vec<Arg>, SigFault>
+pub fn read_args(alloc: Global, values: &[Value]) -> Result<Vec<Arg>, SigFault>
     ensures { Gives (λ v. v.items) result (each arg_reading (map view values.now)) }
 {
     let mut args = Vec::new(alloc);
@@ -132,10 +132,7 @@ fn read_members(alloc: Global, value: &Value) -> Result<Map<String, Arg>, SigFau
     }
 }
 
-pub(crate) fn read_kwargs(
-    alloc: Global,
-    field: Option<&Value>,
-) -> Result<Map<String, Arg>, SigFault>
+pub fn read_kwargs(alloc: Global, field: Option<&Value>) -> Result<Map<String, Arg>, SigFault>
     ensures { Gives (λ m. named m.entries) result (each named_reading (members (found field.entry))) }
 {
     match field {

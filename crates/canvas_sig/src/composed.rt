@@ -30,13 +30,15 @@ fn arg_fits(arg: &Arg) -> bool
     }
 }
 
-fn args_fit(args: &[Arg]) -> bool
+/// Whether each number in them is in range.
+pub fn args_fit(args: &[Arg]) -> bool
     ensures { result ≡ list_all arg_ok args.now }
 {
     args.iter().all(|arg| arg_fits(arg))
 }
 
-fn kwargs_fit(kwargs: &BTreeMap<String, Arg>) -> bool
+/// The same of keyword arguments, which stand in the order of their names.
+pub fn kwargs_fit(kwargs: &BTreeMap<String, Arg>) -> bool
     ensures fit { result ≡ list_all (λ e. arg_ok e.1) (named kwargs.now.entries) }
     ensures ordered { Ascends (named kwargs.now.entries) }
 {

@@ -6,13 +6,15 @@ ghost use Rattle.canvas_sig.specs.Fields.{found, kwarg, option, is_null, is_list
 
 use serde_json::Value;
 
-pub(crate) fn is_null(field: Option<&Value>) -> bool
+/// Null, or missing.
+pub fn is_null(field: Option<&Value>) -> bool
     ensures { result ≡ is_null (found field.entry) }
 {
     matches!(field, None | Some(Value::Null))
 }
 
-pub(crate) fn is_true(field: Option<&Value>) -> bool
+/// The word `true`.
+pub fn is_true(field: Option<&Value>) -> bool
     ensures { result ≡ is_true (found field.entry) }
 {
     match field {
@@ -27,13 +29,15 @@ pub(crate) fn is_flag(field: Option<&Value>) -> bool
     matches!(field, None | Some(Value::Null | Value::Bool(_)))
 }
 
-pub(crate) fn is_list_or_null(field: Option<&Value>) -> bool
+/// A list, null, or missing.
+pub fn is_list_or_null(field: Option<&Value>) -> bool
     ensures { result ≡ is_list_or_null (found field.entry) }
 {
     matches!(field, None | Some(Value::Null | Value::Array(_)))
 }
 
-pub(crate) fn is_object_or_null(field: Option<&Value>) -> bool
+/// An object, null, or missing.
+pub fn is_object_or_null(field: Option<&Value>) -> bool
     ensures { result ≡ is_object_or_null (found field.entry) }
 {
     matches!(field, None | Some(Value::Null | Value::Object(_)))
@@ -48,7 +52,8 @@ pub(crate) fn is_link(field: Option<&Value>) -> bool
     )
 }
 
-pub(crate) fn is_list(field: Option<&Value>) -> bool
+/// A list.
+pub fn is_list(field: Option<&Value>) -> bool
     ensures { result ≡ is_list (found field.entry) }
 {
     matches!(field, Some(Value::Array(_)))
@@ -84,7 +89,7 @@ fn items(value: &Value) -> &[Value]
 }
 
 /// The items of a list.
-pub(crate) fn listed(field: Option<&Value>) -> &[Value]
+pub fn listed(field: Option<&Value>) -> &[Value]
     ensures { map view result.now ≡ listed (found field.entry) }
 {
     match field {
@@ -94,7 +99,7 @@ pub(crate) fn listed(field: Option<&Value>) -> &[Value]
 }
 
 /// A member of the keyword arguments.
-pub(crate) fn kwarg_of<'v>(value: &'v Value, name: &str) -> Option<&'v Value>
+pub fn kwarg_of<'v>(value: &'v Value, name: &str) -> Option<&'v Value>
     ensures { found result ≡ kwarg name.now (view value.now) }
 {
     match value.get("kwargs") {
@@ -104,7 +109,7 @@ pub(crate) fn kwarg_of<'v>(value: &'v Value, name: &str) -> Option<&'v Value>
 }
 
 /// A member of the options.
-pub(crate) fn option_of<'v>(value: &'v Value, name: &str) -> Option<&'v Value>
+pub fn option_of<'v>(value: &'v Value, name: &str) -> Option<&'v Value>
     ensures { found result ≡ option name.now (view value.now) }
 {
     match value.get("options") {

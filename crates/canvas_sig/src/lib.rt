@@ -19,6 +19,19 @@ mod reader;
 mod task_sig;
 mod write;
 
+/// What messages, which carry signatures, read and write them with.
+pub mod parts {
+    pub use crate::arguments::{read_args, read_kwargs};
+    pub use crate::composed::{args_fit, kwargs_fit};
+    pub use crate::fields::{
+        is_list, is_list_or_null, is_null, is_object_or_null, is_true, kwarg_of, listed, option_of,
+    };
+    pub use crate::own_fault::{is_name, is_text, own_fault};
+    pub use crate::primitive::{Primitive, primitive_of};
+    pub use crate::reader::text_of;
+    pub use crate::write::parts::{write_args, write_flag, write_named};
+}
+
 pub use arguments::read_arg;
 pub use canvas::{Canvas, read_canvas};
 pub use copy::{copy_sig, copy_sigs};

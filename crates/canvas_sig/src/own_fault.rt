@@ -17,7 +17,8 @@ use crate::primitive::{Primitive, primitive_of};
 use canvas_task::name_ok;
 use serde_json::{Map, Value};
 
-fn is_name(field: Option<&Value>) -> bool
+/// Whether a member is the name of a task.
+pub fn is_name(field: Option<&Value>) -> bool
     ensures { result ≡ is_name (found field.entry) }
 {
     match field {
@@ -26,7 +27,8 @@ fn is_name(field: Option<&Value>) -> bool
     }
 }
 
-fn is_text(field: Option<&Value>, text: &str) -> bool
+/// Whether a member is this text.
+pub fn is_text(field: Option<&Value>, text: &str) -> bool
     ensures { result ≡ is_text text.now (found field.entry) }
 {
     match field {
@@ -268,7 +270,7 @@ fn fault_as(value: &Value, primitive: Primitive, linked: bool) -> Option<SigFaul
 }
 
 /// The first of a signature's own faults; `linked` says that it is a link or an error callback.
-pub(crate) fn own_fault(value: &Value, linked: bool) -> Option<SigFault>
+pub fn own_fault(value: &Value, linked: bool) -> Option<SigFault>
     ensures { result ≡ own_fault linked (view value.now) }
 {
     if not_signature(value) {

@@ -7,7 +7,7 @@ ghost use Rattle.canvas_sig.specs.Reading.{primitive_of, primitive_named};
 use serde_json::Value;
 
 #[derive(Clone, Copy, Drop)]
-pub(crate) enum Primitive {
+pub enum Primitive {
     Task,
     Chain,
     Group,
@@ -26,7 +26,7 @@ fn primitive_named(name: &str) -> Option<Primitive>
 }
 
 /// What a `subtask_type` says.
-pub(crate) fn primitive_of(field: Option<&Value>) -> Option<Primitive>
+pub fn primitive_of(field: Option<&Value>) -> Option<Primitive>
     ensures { result ≡ primitive_of (found field.entry) }
 {
     match field {

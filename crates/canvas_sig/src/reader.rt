@@ -19,7 +19,7 @@ use serde_json::Value;
 use std::alloc::{AllocError, Global};
 
 /// The text of a name, empty where there is none.
-fn text_of(alloc: Global, field: Option<&Value>) -> Result<String, AllocError>
+pub fn text_of(alloc: Global, field: Option<&Value>) -> Result<String, AllocError>
     ensures { IfOk result (λ s. string_bytes s ≡ text_of (found field.entry)) }
 {
     match field {

@@ -18,6 +18,11 @@ use node::write_tree;
 use std::alloc::Global;
 pub use value::write_arg;
 
+pub mod parts {
+    pub use super::arguments::{write_args, write_named};
+    pub use super::task::write_flag;
+}
+
 /// A signature as compact JSON.
 pub fn write_node(alloc: Global, node: &Node) -> Result<String, Memory>
     ensures { IfOk result (λ text. string_bytes text ≡ compact_text (tree_wire (view node.now))) }

@@ -2,3 +2,4 @@ pub mod IdentifierLemmas
 pub mod Named
 pub mod Copies
 pub mod Histories
+pub mod InRange

@@ -41,7 +41,7 @@ fn write_argument(out: &mut Writer, arg: &Arg) -> Result<(), AllocError>
 }
 
 /// The rest of a list of arguments.
-pub(super) fn write_args(out: &mut Writer, args: &[Arg]) -> Result<(), AllocError>
+pub fn write_args(out: &mut Writer, args: &[Arg]) -> Result<(), AllocError>
     ensures { Appends result out.old out.new (rest_tokens (args_wire args.now)) }
 {
     for arg in args {
@@ -51,7 +51,7 @@ pub(super) fn write_args(out: &mut Writer, args: &[Arg]) -> Result<(), AllocErro
 }
 
 /// The rest of an object of keyword arguments.
-pub(super) fn write_named(out: &mut Writer, args: &BTreeMap<String, Arg>) -> Result<(), AllocError>
+pub fn write_named(out: &mut Writer, args: &BTreeMap<String, Arg>) -> Result<(), AllocError>
     ensures { Appends result out.old out.new (rest_members (kwargs_wire (named args.now.entries))) }
 {
     for (name, arg) in args.iter() {

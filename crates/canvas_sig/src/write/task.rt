@@ -25,7 +25,8 @@ pub(super) fn write_front(out: &mut Writer, args: &[Arg]) -> Result<(), AllocErr
     write_args(out, args)
 }
 
-pub(super) fn write_flag(out: &mut Writer, immutable: bool) -> Result<(), AllocError>
+/// The member `immutable`.
+pub fn write_flag(out: &mut Writer, immutable: bool) -> Result<(), AllocError>
     ensures { Appends result out.old out.new (flag_tokens immutable) }
 {
     out.key("immutable")?;

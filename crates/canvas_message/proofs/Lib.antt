@@ -1,0 +1,14 @@
+pub mod WireRows
+pub mod RoundTrip
+pub mod CleanLines
+pub mod Wholes
+pub mod MessageBack
+pub mod CleanMessage
+pub mod EnvelopeBack
+pub mod FitsOn
+pub mod Levels
+pub mod Made
+pub mod Texts
+pub mod Seen
+pub mod FitLemmas
+pub mod ReachLemmas

@@ -1,0 +1,10 @@
+pub mod Content
+pub mod Fits
+pub mod Wire
+pub mod FrozenReading
+pub mod Reading
+pub mod Codes
+pub mod ContentCode
+pub mod View
+pub mod Elements
+pub mod Parts

@@ -1,0 +1,124 @@
+//! Reading messages out of envelopes.
+
+ghost use Rattle.std.specs.Prelude.{◌≡◌, IfOk};
+ghost use Rattle.serde_json.specs.View.{view};
+ghost use Rattle.canvas_sig.specs.Fields.{found};
+ghost use Rattle.canvas_message.specs.declared.fault.MessageFault.TheVariants.{BadArgs, BadEmbed};
+ghost use Rattle.canvas_message.specs.Elements.{given_view, embed_view};
+ghost use Rattle.canvas_message.specs.Reading.{Gives, refused_as, given_reading, embed_reading, checked, content_of, message_reading, json_reading, envelope_reading};
+ghost use Rattle.canvas_message.specs.View.{draft_view};
+
+use crate::read::{
+    Embed, Given, Parts, is_json, is_version_2, parts_of, read_embed, read_given, read_id, task_of,
+};
+use crate::{Draft, Envelope, Message, MessageFault};
+use canvas_sig::SigFault;
+use canvas_sig::parts::text_of;
+use canvas_task::{TaskNo, TextOf};
+use serde_json::Value;
+use std::alloc::{AllocError, Global};
+
+/// The JSON value that a text is.
+fn parsed(alloc: Global, bytes: &[u8]) -> Result<Value, MessageFault>
+    ensures { Gives view result (json_reading bytes.now) }
+{
+    match Value::from_slice(alloc, bytes) {
+        Ok(value) => Ok(value),
+        Err(error) => Err(if error.is_memory() {
+            MessageFault::Memory
+        } else {
+            MessageFault::NotJson
+        }),
+    }
+}
+
+fn given_of(alloc: Global, args: &Value, kwargs: &Value) -> Result<Given, MessageFault>
+    ensures { Gives given_view result (refused_as BadArgs (given_reading (view args.now) (view kwargs.now))) }
+{
+    match read_given(alloc, args, kwargs) {
+        Ok(given) => Ok(given),
+        Err(SigFault::Memory) => Err(MessageFault::Memory),
+        Err(_) => Err(MessageFault::BadArgs),
+    }
+}
+
+fn embed_of(alloc: Global, group: Option<&Value>, embed: &Value) -> Result<Embed, MessageFault>
+    ensures { Gives embed_view result (refused_as BadEmbed (embed_reading (found group.entry) (view embed.now))) }
+{
+    match read_embed(alloc, group, embed) {
+        Ok(embed) => Ok(embed),
+        Err(SigFault::Memory) => Err(MessageFault::Memory),
+        Err(_) => Err(MessageFault::BadEmbed),
+    }
+}
+
+fn draft_of(
+    alloc: Global,
+    headers: &Value,
+    task: TaskNo,
+    given: Given,
+    embed: Embed,
+) -> Result<Draft, AllocError>
+    ensures { IfOk result (λ d. draft_view d ≡ content_of (view headers.now) task (given_view given) (embed_view embed)) }
+{
+    let name = TextOf::of(text_of(alloc, headers.get("task"))?);
+    let Given { args, kwargs } = given;
+    let Embed {
+        links,
+        errbacks,
+        place,
+        rest,
+    } = embed;
+    Ok(Draft {
+        task,
+        name,
+        parent: task_of(headers.get("parent_id")),
+        place,
+        args,
+        kwargs,
+        links,
+        errbacks,
+        rest,
+    })
+}
+
+/// The message, where its places, sizes and reach are in order.
+fn checked(draft: Draft) -> Result<Message, MessageFault>
+    ensures { Gives (λ m. m) result (checked (draft_view draft)) }
+{
+    match Message::of(draft) {
+        Some(message) => Ok(message),
+        None => Err(MessageFault::BadEmbed),
+    }
+}
+
+fn read_message(
+    alloc: Global,
+    properties: &Value,
+    headers: &Value,
+    body: &Value,
+) -> Result<Message, MessageFault>
+    ensures { Gives (λ m. m) result (message_reading (view properties.now) (view headers.now) (view body.now)) }
+{
+    if !is_version_2(headers) {
+        return Err(MessageFault::NotVersion2);
+    }
+    let task = read_id(properties, headers).ok_or(MessageFault::BadId)?;
+    if !is_json(properties) {
+        return Err(MessageFault::BadContentType);
+    }
+    let parts = parts_of(body).ok_or(MessageFault::BadBody)?;
+    let given = given_of(alloc, parts.args, parts.kwargs)?;
+    let embed = embed_of(alloc, headers.get("group"), parts.embed)?;
+    checked(draft_of(alloc, headers, task, given, embed)?)
+}
+
+/// The message that three texts stand for, or the first reason why they stand for none.
+pub fn decode(alloc: Global, envelope: &Envelope) -> Result<Message, MessageFault>
+    ensures { Gives (λ m. m) result (envelope_reading envelope.now.properties envelope.now.headers envelope.now.body) }
+{
+    let properties = parsed(alloc, envelope.properties.get())?;
+    let headers = parsed(alloc, envelope.headers.get())?;
+    let body = parsed(alloc, envelope.body.get())?;
+    read_message(alloc, &properties, &headers, &body)
+}
