@@ -110,5 +110,5 @@ fn nested_canvases(rt: HostRuntime) {
             }
         }
     }
-    assert!(rt; compared >= 30);
+    assert_eq!(rt; compared, 441);
 }
