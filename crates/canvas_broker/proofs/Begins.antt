@@ -1,5 +1,5 @@
 -- The first pass keeps the rule, and so does each new one.
-use Rattle.std.proofs.Common.{◌≡◌, ◌≢◌, ℕ, ◌<◌, List, [], ◌∷◌, length, set, refl, sym, ap, subst, ⊎_elim, arith}
+use Rattle.std.proofs.Common.{◌≡◌, ◌≢◌, ℕ, ◌<◌, List, [], ◌∷◌, length, set, inl, refl, sym, ap, subst, ⊎_elim, arith}
 use Rattle.std.proofs.lemmas.Bool.{false≢true}
 use mathlib.Core.Option.{some}
 use lib.ListN.{get_elem?, length-append}
@@ -7,7 +7,7 @@ use Rattle.std.proofs.lemmas.List.{length-set}
 use Rattle.crossbeam_queue.specs.Fifo.{Forks, Admits}
 use Rattle.crossbeam_queue.proofs.Lists.{at_set}
 use Rattle.canvas_task.specs.History.{live, NoneBy}
-use Rattle.canvas_task.proofs.Histories.{In}
+use Rattle.canvas_task.proofs.Histories.{In, in_cases}
 use Rattle.canvas_broker.specs.Rule.{callers, Fits, Kept, view_of, root, newcomer, rooted}
 use Rattle.canvas_broker.specs.declared.view.View.{View}
 use Rattle.canvas_broker.proofs.Keeps.{All, none_of_none, old_caller, all_set, at_push}
@@ -23,7 +23,7 @@ module _ {E : Type 0} where
           legal = tt;
           replays = refl;
           numbered = λ c i. absurd (false≢true i);
-          fits = λ j u e. subst (λ (x : View E). Fits [] (λ c. 0) j x.knows) (only j u e) (([], refl, tt), (λ c i. absurd (false≢true i)), (λ i. absurd (false≢true i)), tt);
+          fits = λ j u e. subst (λ (x : View E). Fits [] (λ c. 0) j x.knows) (only j u e) (([], refl, tt), (λ c i. absurd (false≢true i)), (λ i. absurd (false≢true i)), tt, (λ c i. absurd (false≢true i)));
           begun = λ _. (refl, λ j u e. ap (λ (x : View E). callers x.knows) (sym (only j u e)));
           opened = omega arith;
         },
@@ -51,7 +51,7 @@ module _ {E : Type 0} where
               );
           fits = λ j u e. ⊎_elim (λ (t : (j < length views) × (get_elem? views j ≡ some u)). kept.fits j u t.1)
               (λ (t : (j ≡ length views) × (view_of newcomer ≡ u)). subst (λ (x : View E). Fits log owner j x.knows) t.1
-              ((log, refl, none_of_none log), (λ c i. absurd (false≢true i)), (λ i. absurd (false≢true i)), tt))
+              ((log, refl, none_of_none log), (λ c i. absurd (false≢true i)), (λ i. absurd (false≢true i)), tt, (λ c i. absurd (false≢true i))))
               (at_push views (view_of newcomer) u j e);
         },
       )
@@ -64,8 +64,8 @@ module _ {E : Type 0} where
       let vs : List (View E) = set views 0 (view_of root) in
       let F : ℕ → View E → Type 0 = λ j u. Fits log owner' j u.knows in
       let old : All F vs = all_set F views 0 (view_of root)
-      ((log, refl, subst (λ l. NoneBy (0 ∷ []) l) (sym b.0) tt), (λ c i. (refl, subst (λ l. In c (live l)) (sym b.0) i)), (λ i. i), tt)
-      (λ j u apart e. let f = kept.fits j u e in (f.0, (λ c i. absurd (false≢true (subst (λ l. In c l) (b.1 j u e) i))), f.2, f.3)) in
+      ((log, refl, subst (λ l. NoneBy (0 ∷ []) l) (sym b.0) tt), (λ c i. (refl, subst (λ l. In c (live l)) (sym b.0) i)), (λ i. i), tt, (λ c i. ⊎_elim (λ (z : 0 ≡ c). inl (sym z)) (λ t. absurd (false≢true t)) (in_cases c 0 [] i)))
+      (λ j u apart e. let f = kept.fits j u e in (f.0, (λ c i. absurd (false≢true (subst (λ l. In c l) (b.1 j u e) i))), f.2, f.3, f.4)) in
       let size : length vs ≡ length views = length-set views 0 (view_of root) in (
         log,
         owner',
@@ -81,7 +81,7 @@ module _ {E : Type 0} where
               (at_push vs (view_of newcomer) (view_of newcomer) 0 e));
           fits = λ j u e. ⊎_elim (λ (t : (j < length vs) × (get_elem? vs j ≡ some u)). old j u t.1)
               (λ (t : (j ≡ length vs) × (view_of newcomer ≡ u)). subst (λ (x : View E). Fits log owner' j x.knows) t.1
-              ((log, refl, none_of_none log), (λ c i. absurd (false≢true i)), (λ i. absurd (false≢true i)), tt))
+              ((log, refl, none_of_none log), (λ c i. absurd (false≢true i)), (λ i. absurd (false≢true i)), tt, (λ c i. absurd (false≢true i))))
               (at_push vs (view_of newcomer) u j e);
         },
       )

@@ -8,7 +8,7 @@ use Rattle.std.proofs.lemmas.List.{length-set}
 use Rattle.crossbeam_queue.specs.Fifo.{Pushes, Pops, Forks, Merges, Learns}
 use Rattle.crossbeam_queue.proofs.Lists.{at_set, set_again}
 use Rattle.canvas_task.specs.History.{split, join, calls, among, by_of, live_after, live_from, live, named, state_from, Allowed, NoneBy, Since, Sole}
-use Rattle.canvas_task.proofs.Histories.{In, in_cases, in_here, in_left, in_right, in_append, live_append, named_append, live_named, state_append, legal_append, legal_right}
+use Rattle.canvas_task.proofs.Histories.{In, in_cases, in_here, in_left, in_right, in_append, live_append, named_append, live_named, state_append, legal_append, legal_left, legal_right, was_there}
 use Rattle.canvas_broker.specs.Broker.{Doing, publish, take, Line, Known, known, told, answer, next, May, IsLegal, queue_of, Orderly, Extends, IsReady}
 use Rattle.canvas_broker.specs.Rule.{envelopes, Heard, callers, Fits, IsKept, Kept, view_of, Publishes, Splits, Takes, Misses, parted, child, longer, united, spent, newcomer}
 use Rattle.canvas_broker.specs.declared.view.View.{View}
@@ -67,6 +67,14 @@ module _ {E : Type 0} where
   pub none_of_none : (xs : List (Line E)) → NoneBy [] xs
   none_of_none [] = tt
   none_of_none (x ∷ xs) = (refl, none_of_none xs)
+
+  -- ---- callers that a list names
+  is_live : (c : ℕ) (log : List (Line E)) → In c (live log) → (c ≡ 0) ⊎ In c (named log)
+  is_live c log h = ⊎_elim (λ t. ⊎_elim (λ (z : 0 ≡ c). inl (sym z)) (λ u. absurd (false≢true u)) (in_cases c 0 [] t)) (λ t. inr t) (live_named c (0 ∷ []) log h)
+
+  is_later : (c : ℕ) (cs : List ℕ) (xs log : List (Line E)) → Since cs log xs → (c ≡ 0) ⊎ In c (named xs) → (c ≡ 0) ⊎ In c (named log)
+  is_later c cs xs log g h =
+      ⊎_elim (λ z. inl z) (λ t. inr (subst (λ l. In c (named l)) (sym g.1) (subst (λ l. In c l) (sym (named_append xs g.0)) (in_left c (named xs) (named g.0) t)))) h
 
   -- ---- the first pass has begun
   begun_of : (views : List (View E)) (log : List (Line E)) (owner : ℕ → ℕ) → (get_elem? views 0 ≡ some (view_of newcomer) → (log ≡ []) × ((j : ℕ) (u : View E) → get_elem? views j ≡ some u → callers u.knows ≡ []))
@@ -158,6 +166,10 @@ module _ {E : Type 0} where
         let F : ℕ → View E → Type 0 = λ j u. Fits log' owner' j u.knows in
         let alive' : (c : ℕ) → In c (live_from (live log) js) → In c (live log') =
         λ c h. subst (λ l. In c l) (sym (live_append (0 ∷ []) log (tail_of v e) ∙ live_append (live log) js (e ∷ []))) (stays c (live_from (live log) js) h) in
+        let mine : (c : ℕ) → In c (live_from cs js ++ qs) → (owner' c ≡ pass) × In c (live log') =
+        λ c h. ⊎_elim
+        (λ (t : In c (live_from cs js)). let m = orderly_within p c cs js orderly t in (same c (alive c m) ∙ owned c m, alive' c (orderly_part p c cs (live log) js orderly alive t)))
+        (λ (t : In c qs). born c t) (in_append c (live_from cs js) qs h) in
         record {
           legal = legal_tail e may;
           replays = state_append [] answer next May [] log (tail_of v e) ∙ (state_append [] answer next May (queue_of log) js (e ∷ [])
@@ -167,11 +179,10 @@ module _ {E : Type 0} where
           begun = λ e'. absurd (begun_of views log owner kept.begun pass v (view_of (known p (live_from cs js) log' [] qs)) at ready.0 (old_caller p (view_of (known p (live_from cs js) log' [] qs)) (orderly_left p cs js orderly)) e');
           fits = all_set F views pass (view_of (known p (live_from cs js) log' [] qs)) (
             ([], sym (append-nil log'), tt),
-            (λ c h. ⊎_elim
-                (λ (t : In c (live_from cs js)). let m = orderly_within p c cs js orderly t in (same c (alive c m) ∙ owned c m, alive' c (orderly_part p c cs (live log) js orderly alive t)))
-                (λ (t : In c qs). born c t) (in_append c (live_from cs js) qs h)),
+            mine,
             (λ _. orderly_left p cs js orderly),
             tt,
+            (λ c h. is_live c log' (mine c h).1),
           )
               (λ j u n e'.
               let f = kept.fits j u e' in
@@ -186,6 +197,7 @@ module _ {E : Type 0} where
                 (λ c h. let t = f.1 c h in (same c t.1 ∙ t.0, alive' c (orderly_stays p c cs (live log) js orderly (λ x. false≢true (sym (apart c x) ∙ h)) t.1))),
                 f.2,
                 f.3,
+                f.4,
               ));
         }
 
@@ -324,6 +336,7 @@ module _ {E : Type 0} where
             (rw (ne_eqb c q (λ z. false≢true (sym new ∙ subst (λ k. In k v.knows.mine) z m))) t.0, t.1)),
         f.2,
         tt,
+        (λ c i. f.4 c (in_left c v.knows.mine v.knows.unborn (subst (λ l. In c l) (append-nil v.knows.mine) i))),
       )
       (λ j u apart e.
       let g = kept.fits j u e in (
@@ -331,6 +344,7 @@ module _ {E : Type 0} where
         (λ c i. let t = g.1 c i in (rw (ne_eqb c q (λ z. apart (sym t.0 ∙ (ap owner z ∙ (f.1 q q_here).0)))) t.0, t.1)),
         g.2,
         g.3,
+        g.4,
       )) in
       let young : F n (child v) = (
         (f.0.0, f.0.1, none_less (callers v.knows) (v.knows.unborn ++ []) f.0.0 (λ c i. in_right c v.knows.mine v.knows.unborn (subst (λ l. In c l) (append-nil v.knows.unborn) i)) f.0.2),
@@ -338,6 +352,7 @@ module _ {E : Type 0} where
             (rw (eq-eqb c q (only c m)) refl, (f.1 c (in_right c v.knows.mine v.knows.unborn m)).1)),
         (λ here. here),
         tt,
+        (λ c i. f.4 c (in_right c v.knows.mine v.knows.unborn (subst (λ l. In c l) (append-nil v.knows.unborn) i))),
       ) in (
         log,
         owner',
@@ -399,8 +414,21 @@ module _ {E : Type 0} where
       subst G (sym e) (([], sym (append-nil xs), tt), (m.0, m.1, none_left ds m.0 f.0 (subst (λ l. NoneBy ds l) m.2 g.2))))
       (cases_Bool (nat_lt (length xs) (length ys)))
 
-  pub hears : (pass : ℕ) (v : View E) → Learns Kept pass v (Heard v)
-  hears pass v items views h at = (h.2.fits pass v at).3
+  pub hears : (pass : ℕ) (v : View E) → In v.knows.name v.knows.mine → Learns Kept pass v (Heard v)
+  hears pass v here items views h at =
+      let log = h.0 in let kept = h.2 in let f = kept.fits pass v at in
+      let whole : IsLegal (v.knows.seen ++ f.0.0) = subst (λ l. IsLegal l) f.0.1 kept.legal in
+      let alive : (c : ℕ) → In c v.knows.mine → In c (live v.knows.seen) =
+      λ c i. let m = in_left c v.knows.mine v.knows.unborn i in
+      was_there [] answer next May v.knows.seen f.0.0 (legal_right [] answer next May [] v.knows.seen f.0.0 whole) c (f.4 c m) (subst (λ l. In c (live l)) f.0.1 (f.1 c m).1) in (
+        f.3,
+        legal_append [] answer next May [] v.knows.seen v.knows.owed (legal_left [] answer next May [] v.knows.seen f.0.0 whole)
+            (orderly_legal v.knows.name v.knows.mine v.knows.owed v.knows.seen (f.2 here) alive),
+      )
+
+  -- a pass that takes in another answers for itself still
+  pub united_ready : (v w u : View E) → u ≡ united v w → In v.knows.name v.knows.mine → In u.knows.name u.knows.mine
+  united_ready v w u e h = subst (λ (x : View E). In x.knows.name x.knows.mine) (sym e) (in_left v.knows.name v.knows.mine w.knows.mine h)
 
   pub merges : (pass : ℕ) (v : View E) (other : ℕ) (w : View E) → IsReady v.knows → IsReady w.knows → Merges Kept pass v other w (united v w) spent
   merges pass v other w ready ready' items views h at two at' =
@@ -430,6 +458,10 @@ module _ {E : Type 0} where
             (in_append c cs ds (no_more (cs ++ ds) c i))),
         (λ _. orderly_both v.knows.name w.knows.name cs ds v.knows.owed w.knows.owed (f.2 ready.0) (g.2 ready'.0) ready.0 ready'.0 apart),
         (goes.0, (goes.1, tt)),
+        (λ c i. ⊎_elim
+            (λ (t : In c cs). is_later c cs v.knows.seen (longer v.knows.seen w.knows.seen) goes.0 (f.4 c (in_left c cs v.knows.unborn t)))
+            (λ (t : In c ds). is_later c ds w.knows.seen (longer v.knows.seen w.knows.seen) goes.1 (g.4 c (in_left c ds w.knows.unborn t)))
+            (in_append c cs ds (no_more (cs ++ ds) c i))),
       ))
       (λ j u n e far.
       let k = kept.fits j u e in (
@@ -437,6 +469,7 @@ module _ {E : Type 0} where
         (λ c i. let t = k.1 c i in (rw (ne_eqb (owner c) other (λ z. far (sym t.0 ∙ z))) t.0, t.1)),
         k.2,
         k.3,
+        k.4,
       )) in (
         log,
         owner',
@@ -450,7 +483,7 @@ module _ {E : Type 0} where
               (old_caller v.knows.name (united v w) (in_left v.knows.name v.knows.mine w.knows.mine ready.0)) t.1)
               (at_set vs other 0 spent (view_of newcomer) e));
           fits = all_set F vs other spent
-              ((log, refl, none_of_none log), (λ c i. absurd (false≢true i)), (λ i. absurd (false≢true i)), tt)
+              ((log, refl, none_of_none log), (λ c i. absurd (false≢true i)), (λ i. absurd (false≢true i)), tt, (λ c i. absurd (false≢true i)))
               (λ j u far e. now j u e far);
         },
       )

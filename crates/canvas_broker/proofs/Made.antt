@@ -2,10 +2,10 @@
 use Rattle.std.specs.Prelude.{MatchOption, IfSome, IfNone}
 use Rattle.std.proofs.Common.{◌≡◌, ℕ, false, List, [], ◌∷◌, ◌++◌, ◌==◌, Option, Some, None, refl, sym, ap, ◌∙◌, subst, append_assoc, ⊎_elim}
 use Rattle.std.proofs.lemmas.Bool.{false≢true, eq-eqb, ne_eqb}
-use Rattle.canvas_task.specs.History.{split, calls, by_of, named, Allowed, NoneBy, made_by}
+use Rattle.canvas_task.specs.History.{split, calls, by_of, named, Allowed, NoneBy, made_by, Sole, AllJoined}
 use Rattle.canvas_task.proofs.Histories.{In, legal_right}
 use Rattle.canvas_broker.specs.Broker.{take, Line, Known, told, answer, next, May, IsLegal, queue_of, Extends, Recorded, Own, HoldsNothing, Parts, ExtendsBy, Batched, takes_of}
-use Rattle.canvas_task.proofs.Histories.{made_append, fresh_at, was_named}
+use Rattle.canvas_task.proofs.Histories.{made_append, fresh_at, was_named, all_joined}
 
 module _ {E : Type 0} where
   made_none : (p : ℕ) (cs : List ℕ) (xs : List (Line E)) → In p cs → NoneBy cs xs → made_by p xs ≡ []
@@ -58,3 +58,7 @@ module _ {E : Type 0} where
       let legal : IsLegal (before ++ e ∷ []) = subst (λ l. IsLegal l) whole x.3 in
       let apart : (v.name == new.name) ≡ false = other before v.name new.name (legal_right [] answer next May [] before (e ∷ []) legal).0 in
       ap (λ (k : Known E). made_by new.name k.seen) d.6 ∙ (ap (λ l. made_by new.name l) whole ∙ fresh_at [] answer next May v.name new.name before legal apart)
+
+  -- where all other callers have been taken in, the first is the only one that is live
+  pub leaves_one : (v : Known E) → IsLegal (told v) → AllJoined (told v) → Sole (told v) 0
+  leaves_one v l all = all_joined [] answer next May (told v) l all

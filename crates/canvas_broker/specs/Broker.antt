@@ -100,11 +100,12 @@ module _ {E : Type 0} where
       (w.name ≡ v.name) × (w.mine ≡ live_from v.mine v.owed) × (w.owed ≡ []) × (w.unborn ≡ []) × (among v.name w.mine ≡ true)
       × Extends v (split v.name new.name) w.seen × (new ≡ known (length (named w.seen)) (length (named w.seen) ∷ []) w.seen [] [])
 
-  -- after a join: the list begins with both lists, and is one of them. The joins are owed
+  -- after a join: the list begins with both lists, and is one of them. The joins are owed, and with them it is legal
   abbrev pub Unites : Known E → Known E → Known E → Type 0
   Unites v w both =
       (both.name ≡ v.name) × (both.mine ≡ v.mine ++ w.mine) × (among v.name both.mine ≡ true) × (both.unborn ≡ []) × (both.owed ≡ v.owed ++ (w.owed ++ join v.name w.name ∷ []))
       × Since v.mine both.seen v.seen × Since w.mine both.seen w.seen × ((both.seen ≡ v.seen) ⊎ (both.seen ≡ w.seen))
+      × IsLegal (told both)
 
   -- the entries that the caller has made itself are those that it had made, then its own of the joins that it owed and of these
   abbrev pub Own : Known E → List (Line E) → List (Line E) → Type 0

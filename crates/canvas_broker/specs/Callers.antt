@@ -2,8 +2,8 @@
 use Rattle.std.specs.Prelude.{◌≡◌, ℕ, List, [], ◌∷◌, ◌++◌, ◌⊎◌, length}
 use Rattle.std.specs.Global.{Global}
 use Rattle.crossbeam_queue.specs.SegTies.{SegId}
-use Rattle.canvas_task.specs.History.{split, join, live_from, named, Since}
-use Rattle.canvas_broker.specs.Broker.{Line, Known, known, Own, HoldsNothing, Extends, ExtendsBy, takes_of}
+use Rattle.canvas_task.specs.History.{split, join, live_from, named, Since, Sole, AllJoined}
+use Rattle.canvas_broker.specs.Broker.{Line, Known, known, told, IsLegal, Own, HoldsNothing, Extends, ExtendsBy, takes_of}
 
 -- A pass: the broker that it is of, its caller's number, the callers for which it answers (itself, and those that it took in since its last entry),
 -- the beginning of the history that it has seen, and the joins that it owes, which come right before its next entry
@@ -48,3 +48,11 @@ module _ {E : Type 0} where
   -- where, by what the pass has seen and the joins that it owes, no other caller is live, the history replays to the empty queue
   abbrev pub Empties : Caller E → Type 0
   Empties p = HoldsNothing (knows_of p)
+
+  -- what the pass has seen, with the joins that it owes, is a legal history
+  abbrev pub IsHistory : Caller E → Type 0
+  IsHistory p = IsLegal (told (knows_of p))
+
+  -- where all other callers have been taken in, by what the pass has seen and the joins that it owes, the first is the only one that is live
+  abbrev pub LeavesOne : Caller E → Type 0
+  LeavesOne p = AllJoined (told (knows_of p)) → Sole (told (knows_of p)) 0

@@ -1,9 +1,9 @@
 -- The broker's rule: there is one legal history, the queue holds what it replays to, and each pass has seen a beginning of it in which all entries by its callers stand.
-use Rattle.std.specs.Prelude.{◌≡◌, ℕ, ◌<◌, ◌≤◌, true, List, [], ◌∷◌, ◌++◌, Option, Some, None, length, slice_index_or, cond, nat_lt}
+use Rattle.std.specs.Prelude.{◌≡◌, ℕ, ◌<◌, ◌≤◌, true, List, [], ◌∷◌, ◌++◌, Option, Some, None, ◌⊎◌, length, slice_index_or, cond, nat_lt}
 use mathlib.Core.Option.{some}
 use lib.ListN.{get_elem?}
 use Rattle.canvas_task.specs.History.{join, calls, among, live, named, NoneBy}
-use Rattle.canvas_broker.specs.Broker.{publish, take, Line, Known, known, IsLegal, queue_of, Orderly, GoesOn, Extends, Recorded, Made, Batched}
+use Rattle.canvas_broker.specs.Broker.{publish, take, Line, Known, known, told, IsLegal, queue_of, Orderly, GoesOn, Extends, Recorded, Made, Batched}
 use Rattle.canvas_broker.specs.declared.view.View.{View}
 
 module _ {E : Type 0} where
@@ -17,13 +17,14 @@ module _ {E : Type 0} where
   abbrev pub callers : Known E → List ℕ
   callers v = v.mine ++ v.unborn
 
-  -- a pass has seen a beginning of the history with all entries by its callers. These are live, and no other pass answers for them
+  -- a pass has seen a beginning of the history with all entries by its callers. These are live, no other pass answers for them, and it has seen them named
   abbrev pub Fits : List (Line E) → (ℕ → ℕ) → ℕ → Known E → Type 0
   Fits log owner pass v =
       ((rest : List (Line E)) × (log ≡ v.seen ++ rest) × NoneBy (callers v) rest)
       × ((c : ℕ) → among c (callers v) ≡ true → (owner c ≡ pass) × (among c (live log) ≡ true))
       × (among v.name v.mine ≡ true → Orderly v.name v.mine v.owed)
       × GoesOn v.seen v.heard
+      × ((c : ℕ) → among c (callers v) ≡ true → (c ≡ 0) ⊎ (among c (named v.seen) ≡ true))
 
   abbrev pub view_of : Known E → View E
   view_of k = record { marker = record {}; knows = k }
@@ -88,9 +89,9 @@ module _ {E : Type 0} where
     heard = (v.knows.mine, v.knows.seen) ∷ (w.knows.mine, w.knows.seen) ∷ [];
   }
 
-  -- what a pass learns of the lists that its own goes on from
+  -- what a pass learns of the lists that its own goes on from, and of its own with the joins that it owes
   abbrev pub Heard : View E → List (Option E) → Type 0
-  Heard v items = GoesOn v.knows.seen v.knows.heard
+  Heard v items = GoesOn v.knows.seen v.knows.heard × IsLegal (told v.knows)
 
   abbrev pub spent : View E
   spent = view_of (known 0 [] [] [] [])

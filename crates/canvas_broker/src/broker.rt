@@ -2,7 +2,7 @@
 ghost use Rattle.std.specs.Prelude.{◌≡◌, ◌≢◌, [], ◌∷◌, Some, None, IfOk, IfNone, IfSome, OnOk, MatchResult, MatchOption};
 ghost use Rattle.canvas_task.specs.History.{calls, split, made_by};
 ghost use Rattle.canvas_broker.specs.Broker.{publish, take, takes_of};
-ghost use Rattle.canvas_broker.specs.Callers.{Stands, Fits, Parted, Joined, Took, Adds, Empties};
+ghost use Rattle.canvas_broker.specs.Callers.{Stands, Fits, Parted, Joined, Took, Adds, Empties, IsHistory, LeavesOne};
 
 use crate::Refused;
 use crate::batch::{Batch, get_batch};
@@ -135,6 +135,8 @@ impl Broker {
         requires { (pass.old.of ≡ self.now) × (other.of ≡ self.now) }
         ensures broker { pass.new.of ≡ self.now }
         ensures call { Joined pass.old other pass.new }
+        ensures legal { IsHistory pass.new }
+        ensures alone { LeavesOne pass.new }
     {
         let BrokerPass { pass: theirs } = other;
         unite(rt, &self.queue, &mut pass.pass, theirs);

@@ -1,7 +1,9 @@
 use canvas_message::Envelope;
+use thiserror::Error;
 
 /// An envelope that was not published, because memory was refused.
-#[derive(Drop)]
+#[derive(Debug, Drop, Error, PartialEq)]
+#[error("the message was refused")]
 pub struct Refused {
     pub envelope: Envelope,
 }

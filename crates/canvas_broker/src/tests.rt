@@ -235,3 +235,85 @@ fn batches_keep_the_order(rt: HostRuntime) -> Result<(), Fail> {
     assert!(rt; rounds(&rt, rt.alloc()).is_some_and(|filled| 0 < filled));
     Ok(())
 }
+
+/// What was accepted of 40 numbered envelopes, as the sum of their numbers. None where a refused one came back as another.
+fn accepted<R: Wait>(
+    rt: &R,
+    alloc: Global,
+    broker: &Broker,
+    mut pass: BrokerPass,
+) -> (BrokerPass, Option<u64>)
+    requires { pass.of ≡ broker.now }
+    ensures { result.0.of ≡ broker.now }
+{
+    let mut sum = 0u64;
+    for number in 1..41u64 {
+        if let Some(envelope) = numbered(alloc, number) {
+            match broker.publish(rt, &mut pass, envelope) {
+                Ok(()) => sum = sum.wrapping_add(number),
+                Err(refused) if number_of(&refused.envelope) == number => {}
+                Err(_) => return (pass, None),
+            }
+        }
+    }
+    (pass, Some(sum))
+}
+
+/// The sum of the numbers that are left. None where they don't rise.
+fn left<R: Wait>(rt: &R, broker: &Broker, mut pass: BrokerPass) -> Option<u64>
+    requires { pass.of ≡ broker.now }
+{
+    let mut sum = 0u64;
+    let mut last = 0u64;
+    for _ in rt.forever() {
+        match broker.take(rt, &mut pass) {
+            Some(envelope) if last < number_of(&envelope) => {
+                last = number_of(&envelope);
+                sum = sum.wrapping_add(last);
+            }
+            Some(_) => return None,
+            None => break,
+        }
+    }
+    Some(sum)
+}
+
+/// Whether a broker holds what was accepted, with a split in between that may be refused.
+fn holds_accepted<R: Wait>(rt: &R, alloc: Global) -> bool {
+    let Ok((broker, pass)) = Broker::new(alloc) else {
+        return true;
+    };
+    let (mut pass, sum) = accepted(rt, alloc, &broker, pass);
+    if let Ok(other) = broker.split(rt, &mut pass) {
+        broker.join(rt, &mut pass, other);
+    }
+    sum.is_some() && left(rt, &broker, pass) == sum
+}
+
+/// The same of the queue of one thread.
+fn plain_holds_accepted(alloc: Global) -> bool {
+    let mut broker = PlainBroker::new(alloc);
+    let mut sum = 0u64;
+    for number in 1..41u64 {
+        if let Some(envelope) = numbered(alloc, number) {
+            match broker.publish(envelope) {
+                Ok(()) => sum = sum.wrapping_add(number),
+                Err(refused) if number_of(&refused.envelope) == number => {}
+                Err(_) => return false,
+            }
+        }
+    }
+    for _ in 1..41u64 {
+        if let Some(envelope) = broker.take() {
+            sum = sum.wrapping_sub(number_of(&envelope));
+        }
+    }
+    sum == 0 && broker.is_empty()
+}
+
+/// It has to pass whichever of its allocations is refused.
+#[test]
+fn refusals_change_nothing(rt: HostRuntime) {
+    assert!(rt; holds_accepted(&rt, rt.alloc()));
+    assert!(rt; plain_holds_accepted(rt.alloc()));
+}

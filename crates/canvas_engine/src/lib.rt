@@ -13,6 +13,3 @@ pub use fault::{Cause, RunFault};
 pub use report::{Report, report_text};
 pub use text::{TextFault, rows_text, run_text};
 pub use turns::run_turns;
-
-#[cfg(test)]
-mod tests;

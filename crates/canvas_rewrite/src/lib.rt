@@ -23,6 +23,3 @@ pub use frozen::{Carried, FrozenEnd, FrozenLine, FrozenTask, Place};
 pub use line::{Line, LineEnd};
 pub use plan::{Plan, freeze};
 pub use rewriting::normalise;
-
-#[cfg(test)]
-mod tests;

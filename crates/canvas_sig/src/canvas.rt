@@ -102,6 +102,3 @@ pub fn read_canvas(alloc: Global, bytes: &[u8]) -> Result<Canvas, SigFault>
         None => Ok(Canvas { node }),
     }
 }
-
-#[cfg(test)]
-mod tests;

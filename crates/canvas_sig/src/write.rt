@@ -40,6 +40,3 @@ pub fn write_canvas(alloc: Global, canvas: &Canvas) -> Result<String, Memory>
 {
     write_node(alloc, canvas.node())
 }
-
-#[cfg(test)]
-mod tests;

@@ -1,7 +1,7 @@
 -- Lemmas on histories: of two lists put together, of the callers that are live, and of the entries that one caller has made.
 use Rattle.std.proofs.Common.{◌≡◌, ℕ, Bool, true, false, cond, not, ◌||◌, List, [], ◌∷◌, ◌++◌, ◌==◌, ◌⊎◌, inl, inr, refl, sym, ap, ◌∙◌, subst, append_assoc, append-nil, ⊎_elim}
 use Rattle.std.proofs.lemmas.Bool.{false≢true, eqb-true, eqb-false, eq-eqb, ne_eqb, cases_Bool}
-use Rattle.canvas_task.specs.History.{Entry, split, join, calls, among, without, by_of, live_after, live_from, live, named, joined, made_by, AllOthers, Sole, state_after, state_from, Allowed, LegalFrom, Legal}
+use Rattle.canvas_task.specs.History.{Entry, split, join, calls, among, without, by_of, live_after, live_from, live, named, joined, made_by, AllJoined, AllOthers, Sole, state_after, state_from, Allowed, LegalFrom, Legal}
 
 -- the number stands in the list
 abbrev pub In : ℕ → List ℕ → Type 0
@@ -256,6 +256,11 @@ module _ {C R S : Type 0} (first : S) (answer : S → C → R) (next : S → C �
   once before (join p q ∷ es) l c was i = once (before ++ join p q ∷ []) es l.1 c (still before (join p q) c was) i
   once before (calls p d r ∷ es) l c was i = once (before ++ calls p d r ∷ []) es l.1 c (still before (calls p d r) c was) i
 
+  -- who was there already, and is live later, was live
+  pub was_there : (before es : List (Entry C R)) → LegalFrom first answer next May before es → (c : ℕ) → (c ≡ 0) ⊎ In c (named before) → In c (live (before ++ es)) → In c (live before)
+  was_there before es l c was i =
+      ⊎_elim (λ t. t) (λ t. absurd (once before es l c was t)) (live_named c (live before) es (subst (λ xs. In c xs) (live_append (0 ∷ []) before es) i))
+
   ended : (before : List (Entry C R)) (p q : ℕ) (es : List (Entry C R)) → LegalFrom first answer next May before (join p q ∷ es) → In q (live (before ++ join p q ∷ es)) → ⊥
   ended before p q es l i =
       let e : Entry C R = join p q in
@@ -274,8 +279,8 @@ module _ {C R S : Type 0} (first : S) (answer : S → C → R) (next : S → C �
   gone before (calls p d r ∷ es) l c j i = gone (before ++ calls p d r ∷ []) es l.1 c j (subst (λ x. In c (live x)) (sym (append_assoc before (calls p d r ∷ []) es)) i)
 
   -- where each caller that was made has been taken in, and the first has not, no other is live
-  pub all_joined : (log : List (Entry C R)) → Legal first answer next May log → among 0 (joined log) ≡ false → ((c : ℕ) → In c (named log) → In c (joined log)) → Sole log 0
-  all_joined log l z all =
-      let front : live log ≡ 0 ∷ live_from [] log = first_stays [] log z in
+  pub all_joined : (log : List (Entry C R)) → Legal first answer next May log → AllJoined log → Sole log 0
+  all_joined log l all =
+      let front : live log ≡ 0 ∷ live_from [] log = first_stays [] log all.0 in
       front ∙ ap (λ xs. 0 ∷ xs) (no_members (live_from [] log) (λ c i.
-      gone [] log l c (all c (⊎_elim (λ t. absurd (false≢true t)) (λ t. t) (live_named c [] log i))) (subst (λ xs. In c xs) (sym front) (in_later c 0 (live_from [] log) i))))
+      gone [] log l c (all.1 c (⊎_elim (λ t. absurd (false≢true t)) (λ t. t) (live_named c [] log i))) (subst (λ xs. In c xs) (sym front) (in_later c 0 (live_from [] log) i))))

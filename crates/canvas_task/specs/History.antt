@@ -8,6 +8,7 @@
 --     Allowed log e          the entry e may follow the history
 --     Legal log              each entry is allowed after those before it
 --     Sole log p             no other caller than p is live
+--     AllJoined log          each caller but the first has been taken in
 --     AllOthers p es, NoneBy cs es    no entry is by p, or by one of the callers
 use Rattle.std.specs.Prelude.{◌≡◌, ℕ, Bool, true, false, cond, not, ◌||◌, List, [], ◌∷◌, ◌++◌, filter, ◌==◌, ◌⊎◌}
 use Rattle.std.specs.Coded.{Coded, code_by, coded×, coded⊎, coded_ℕ}
@@ -80,6 +81,10 @@ module _ {C R : Type 0} where
   -- p's own calls: the entries by p and by the callers that it took in
   abbrev pub own : List (Entry C R) → ℕ → List (Entry C R)
   own log p = filter (λ e. heir log (by_of e) == p) log
+
+  -- each caller that a split of the history names has been taken in, and the first has not
+  abbrev pub AllJoined : List (Entry C R) → Type 0
+  AllJoined log = (among 0 (joined log) ≡ false) × ((c : ℕ) → among c (named log) ≡ true → among c (joined log) ≡ true)
 
   -- no other caller than p is live
   abbrev pub Sole : List (Entry C R) → ℕ → Type 0

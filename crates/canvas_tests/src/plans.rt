@@ -1,5 +1,8 @@
-use crate::{Ends, Plan, freeze, node_of, normalise};
-use canvas_sig::{read_canvas, write_node};
+//! Normal texts and plans of canvases, worked out by hand.
+
+use crate::lines::is_line_of;
+use canvas_rewrite::{Ends, Plan, freeze, normalise};
+use canvas_sig::read_canvas;
 use canvas_task::{GroupNo, TaskNo};
 use std::alloc::Global;
 use std::test::Fail;
@@ -30,54 +33,62 @@ const GROUP_OF_TEN: &str =
 const CHORD: &str =
     r#"{"args":[],"immutable":false,"kwargs":{"body":{"args":[],"immutable":false,"kwargs":{},"options":{"link_error":[{"args":[],"immutable":false,"kwargs":{},"options":{},"subtask_type":null,"task":"tasks.log_error"}]},"subtask_type":null,"task":"tasks.xsum"},"header":[{"args":[4,4],"immutable":false,"kwargs":{},"options":{},"subtask_type":null,"task":"tasks.add"},{"args":[1,0],"immutable":false,"kwargs":{},"options":{},"subtask_type":null,"task":"tasks.div"},{"args":[8,8],"immutable":false,"kwargs":{},"options":{},"subtask_type":null,"task":"tasks.add"}]},"options":{},"subtask_type":"chord","task":"celery.chord"}"#;
 
-fn plan_of(alloc: Global, text: &str) -> Result<Plan, Fail> {
-    let canvas = read_canvas(alloc, text.as_bytes())?;
-    Ok(freeze(alloc, &normalise(alloc, &canvas)?)?)
-}
-
-fn normal_text(alloc: Global, text: &str) -> Result<String, Fail> {
-    let canvas = read_canvas(alloc, text.as_bytes())?;
-    let line = normalise(alloc, &canvas)?;
-    Ok(write_node(alloc, &node_of(alloc, &line)?)?)
+fn plan_of(alloc: Global, text: &str) -> Option<Plan> {
+    match read_canvas(alloc, text.as_bytes()) {
+        Ok(canvas) => match normalise(alloc, &canvas) {
+            Ok(line) => freeze(alloc, &line).ok(),
+            Err(_) => None,
+        },
+        Err(_) => None,
+    }
 }
 
 #[test]
-fn normal_texts(rt: HostRuntime) -> Result<(), Fail> {
-    let alloc = rt.alloc();
+fn normal_texts(rt: HostRuntime) {
     for (text, normal) in [
         (CHORD_AND_TASK, ITS_NORMAL_TEXT),
         (CHAIN_IN_A_CHAIN, FLATTENED),
         (CHAIN_OF_ONE, TASK_ALONE),
     ] {
-        assert_eq!(rt; normal_text(alloc, text)?.as_str(), normal);
-        assert_eq!(rt; normal_text(alloc, normal)?.as_str(), normal);
+        assert!(rt; is_line_of(rt.alloc(), text, normal), "{text}");
+        assert!(rt; is_line_of(rt.alloc(), normal, normal), "{text}");
     }
-    Ok(())
+}
+
+/// Whether a task has a name, or none.
+fn is_named(plan: &Plan, task: u32, name: Option<&str>) -> bool {
+    match TaskNo::new(task) {
+        Some(task) => plan.name(task) == name,
+        None => false,
+    }
+}
+
+/// The size of a chord, and how many members there are.
+fn size_of(plan: &Plan, group: u32) -> (Option<u32>, usize) {
+    match GroupNo::new(group) {
+        Some(group) => (plan.size_of(group), plan.members(group).len()),
+        None => (None, 0),
+    }
 }
 
 #[test]
 fn plan_of_a_chord_and_a_task(rt: HostRuntime) -> Result<(), Fail> {
-    let plan = plan_of(rt.alloc(), CHORD_AND_TASK)?;
-    let last = TaskNo::new(4).ok_or("four")?;
+    let plan = plan_of(rt.alloc(), CHORD_AND_TASK).ok_or("no plan")?;
     assert_eq!(rt; plan.tasks(), 4);
-    assert_eq!(rt; plan.name(last), Some("tasks.mul"));
-    assert_eq!(rt; plan.name(TaskNo::new(5).ok_or("five")?), None);
+    assert!(rt; is_named(&plan, 4, Some("tasks.mul")));
+    assert!(rt; is_named(&plan, 5, None));
     assert!(rt; matches!(plan.ends(), Ends::One(task) if task.get() == 4));
     Ok(())
 }
 
 #[test]
 fn plan_of_a_chord(rt: HostRuntime) -> Result<(), Fail> {
-    let plan = plan_of(rt.alloc(), CHORD)?;
-    let first = GroupNo::new(1).ok_or("one")?;
-    let second = GroupNo::new(2).ok_or("two")?;
+    let plan = plan_of(rt.alloc(), CHORD).ok_or("no plan")?;
     assert_eq!(rt; plan.groups(), 1);
-    assert_eq!(rt; plan.size_of(first), Some(3));
-    assert_eq!(rt; plan.size_of(second), None);
-    assert_eq!(rt; plan.members(second).len(), 0);
-    let members = plan.members(first);
-    assert_eq!(rt; members.len(), 3);
-    for (i, member) in members.iter().enumerate() {
+    assert_eq!(rt; size_of(&plan, 1), (Some(3), 3));
+    assert_eq!(rt; size_of(&plan, 2), (None, 0));
+    let first = GroupNo::new(1).ok_or("one")?;
+    for (i, member) in plan.members(first).iter().enumerate() {
         assert_eq!(rt; member.get() as usize, i + 1);
     }
     Ok(())
@@ -85,8 +96,8 @@ fn plan_of_a_chord(rt: HostRuntime) -> Result<(), Fail> {
 
 #[test]
 fn ends_of_a_group(rt: HostRuntime) -> Result<(), Fail> {
-    let plan = plan_of(rt.alloc(), GROUP_OF_TEN)?;
-    assert_eq!(rt; plan.size_of(GroupNo::new(1).ok_or("one")?), None);
+    let plan = plan_of(rt.alloc(), GROUP_OF_TEN).ok_or("no plan")?;
+    assert_eq!(rt; size_of(&plan, 1), (None, 10));
     assert!(rt; matches!(plan.ends(), Ends::Many(tasks) if tasks.len() == 10));
     Ok(())
 }

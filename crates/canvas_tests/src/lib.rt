@@ -1,0 +1,21 @@
+//! Tests over tables of texts. They stand here, so that no crate is proved a second time for them.
+#![tactic(auto)]
+
+#[cfg(test)]
+mod composed;
+#[cfg(test)]
+mod definition;
+#[cfg(test)]
+mod lines;
+#[cfg(test)]
+mod notation;
+#[cfg(test)]
+mod plans;
+#[cfg(test)]
+mod reading;
+#[cfg(test)]
+mod refusals;
+#[cfg(test)]
+mod runs;
+#[cfg(test)]
+mod writing;

@@ -1,0 +1,86 @@
+//! A short notation of canvases. A small letter is a task of that name, `*` a task with a link and an error callback, `C(..)` a
+//! chain, `G(..)` a group, `H[..|..]` a chord with its header and body, and a digit stands for itself.
+
+use canvas_sig::{Node, read_canvas, write_node};
+use std::alloc::{AllocError, Global};
+
+/// What a sign other than a small letter stands for.
+fn piece(sign: char) -> &'static str {
+    match sign {
+        'C' => r#"{"task":"x","subtask_type":"chain","kwargs":{"tasks":"#,
+        'G' => r#"{"task":"x","subtask_type":"group","kwargs":{"tasks":"#,
+        'H' => r#"{"task":"x","subtask_type":"chord","kwargs":{"header":"#,
+        '(' | '[' => "[",
+        ')' => "]}}",
+        '|' => r#"],"body":"#,
+        ']' => "}}",
+        ',' => ",",
+        '7' => "7",
+        '*' => r#"{"task":"x","options":{"link":{"task":"y"},"link_error":{"task":"z"}}}"#,
+        _ => "",
+    }
+}
+
+/// The JSON text of a canvas.
+pub fn json_of(alloc: Global, notation: &str) -> Result<String, AllocError> {
+    let mut text = String::new(alloc);
+    for sign in notation.chars() {
+        if sign.is_ascii_lowercase() {
+            text.push_str(r#"{"task":""#)?;
+            text.push(sign)?;
+            text.push_str(r#""}"#)?;
+        } else {
+            text.push_str(piece(sign))?;
+        }
+    }
+    Ok(text)
+}
+
+/// A primitive over a part that is given several times.
+pub fn repeated(
+    alloc: Global,
+    primitive: char,
+    part: &str,
+    count: u32,
+) -> Result<String, AllocError> {
+    let mut notation = String::new(alloc);
+    notation.push(primitive)?;
+    notation.push('(')?;
+    for i in 0..count {
+        if i > 0 {
+            notation.push(',')?;
+        }
+        notation.push_str(part)?;
+    }
+    notation.push(')')?;
+    Ok(notation)
+}
+
+/// A notation with a part in the place of its `_`.
+pub fn filled(alloc: Global, frame: &str, part: &str) -> Result<String, AllocError> {
+    let mut notation = String::new(alloc);
+    for sign in frame.chars() {
+        if sign == '_' {
+            notation.push_str(part)?;
+        } else {
+            notation.push(sign)?;
+        }
+    }
+    Ok(notation)
+}
+
+/// Whether a signature is written as this text.
+pub fn is_text(alloc: Global, node: &Node, text: &str) -> bool {
+    match write_node(alloc, node) {
+        Ok(found) => found.as_str() == text,
+        Err(_) => false,
+    }
+}
+
+/// Whether a text is a canvas that is written so.
+pub fn is_written(alloc: Global, text: &str, written: &str) -> bool {
+    match read_canvas(alloc, text.as_bytes()) {
+        Ok(canvas) => is_text(alloc, canvas.node(), written),
+        Err(_) => false,
+    }
+}
