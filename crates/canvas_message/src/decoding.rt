@@ -124,4 +124,6 @@ pub fn decode(alloc: Global, envelope: &Envelope) -> Result<Message, MessageFaul
 }
 
 #[cfg(test)]
+mod embed_tests;
+#[cfg(test)]
 mod tests;

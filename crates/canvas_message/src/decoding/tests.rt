@@ -27,7 +27,7 @@ const CHORD: &str =
 
 /// A text where `%` and `@` begin the identifiers of tasks and groups, `$` a frozen task, `&` a group
 /// and `^` a chord.
-fn filled(alloc: Global, text: &str) -> Result<String, AllocError> {
+pub(super) fn filled(alloc: Global, text: &str) -> Result<String, AllocError> {
     let mut all = String::new(alloc);
     for c in text.chars() {
         match c {
@@ -82,7 +82,7 @@ fn code_of(alloc: Global, properties: &str, headers: &str, body: &str) -> Result
 }
 
 /// The same of a call without arguments, and what goes with it.
-fn embed_code(alloc: Global, headers: &str, embed: &str) -> Result<u8, AllocError> {
+pub(super) fn embed_code(alloc: Global, headers: &str, embed: &str) -> Result<u8, AllocError> {
     let body = format!(in alloc; "[[],{{}},{embed}]")?;
     code_of(alloc, PLAIN, headers, &body)
 }
