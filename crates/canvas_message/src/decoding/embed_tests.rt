@@ -1,0 +1,299 @@
+//! What goes with a call, and its refusals: all of them 7.
+
+use super::tests::{embed_code, filled};
+use std::alloc::{AllocError, Global};
+use std::test::Fail;
+
+const HEADERS: &str = r#"{"id":"%1","task":"x"}"#;
+
+const GROUP_HEADERS: &str = r#"{"group":"@1","id":"%1","task":"x"}"#;
+
+#[test]
+fn callbacks(rt: HostRuntime) -> Result<(), Fail> {
+    let alloc = rt.alloc();
+    for (code, embed) in [
+        (0, "null"),
+        (0, r#"{"chord":null,"other":7}"#),
+        (0, r#"{"callbacks":[],"errbacks":[],"chain":[]}"#),
+        (
+            0,
+            r#"{"callbacks":[$2"}},$3"},"immutable":true}],"errbacks":[$4"},"args":["a"],"chord_size":"b"}]}"#,
+        ),
+        (
+            0,
+            r#"{"callbacks":[$2","link":$3"}},"link_error":[$4"}},$5"}}]}}]}"#,
+        ),
+        (7, "7"),
+        (7, "[]"),
+        (7, r#"{"callbacks":{}}"#),
+        (7, r#"{"callbacks":$2"}}}"#),
+        (7, r#"{"errbacks":7}"#),
+        (7, r#"{"chain":{}}"#),
+        (7, r#"{"chord":[]}"#),
+        (7, r#"{"callbacks":[null]}"#),
+        (7, r#"{"errbacks":[[]]}"#),
+        (7, r#"{"callbacks":[{"task":"x"}]}"#),
+        (
+            7,
+            r#"{"callbacks":[{"task":"x","options":{"task_id":null}}]}"#,
+        ),
+        (
+            7,
+            r#"{"callbacks":[{"task":"x","options":{"task_id":"@2"}}]}"#,
+        ),
+        (7, r#"{"callbacks":[$0"}}]}"#),
+        (7, r#"{"callbacks":[&1"},"kwargs":{"tasks":[]}}]}"#),
+        (
+            7,
+            r#"{"callbacks":[{"task":"x","subtask_type":"chain","kwargs":{"tasks":[$2"}}]}}]}"#,
+        ),
+        (7, r#"{"callbacks":[$2"},"subtask_type":"starmap"}]}"#),
+        (7, r#"{"callbacks":[$2"},"args":7}]}"#),
+        (7, r#"{"callbacks":[$2"},"args":[1.5]}]}"#),
+        (7, r#"{"callbacks":[$2"},"immutable":1}]}"#),
+        (7, r#"{"callbacks":[$2","link":7}}]}"#),
+        (7, r#"{"callbacks":[$2","link":[{"task":"x"}]}}]}"#),
+        (7, r#"{"callbacks":[$2","group_id":"@1"}}]}"#),
+        (
+            7,
+            r#"{"errbacks":[$2","link_error":$3","group_id":"@1"}}}}]}"#,
+        ),
+    ] {
+        assert_eq!(rt; embed_code(alloc, HEADERS, embed)?, code, "{embed}");
+    }
+    Ok(())
+}
+
+#[test]
+fn chains(rt: HostRuntime) -> Result<(), Fail> {
+    let alloc = rt.alloc();
+    for (code, embed) in [
+        (0, r#"{"chain":[$3"}},$2"}}]}"#),
+        (0, r#"{"chain":[&1"},"kwargs":{"tasks":[]}},$2"}}]}"#),
+        (
+            0,
+            r#"{"chain":[&1"},"kwargs":{"tasks":[$2"}},{"task":"x","subtask_type":"chain","kwargs":{"tasks":[$3"}},$4"}}]}}]}}]}"#,
+        ),
+        (
+            0,
+            r#"{"chain":[^1"},"kwargs":{"header":[],"body":$2"}}}}]}"#,
+        ),
+        (
+            0,
+            r#"{"chain":[^1"},"kwargs":{"header":[$2"}}],"body":&2"},"kwargs":{"tasks":[]}}}}]}"#,
+        ),
+        (
+            0,
+            r#"{"chain":[&1"},"kwargs":{"tasks":[^2"},"kwargs":{"header":[],"body":$2"}}}}]}}]}"#,
+        ),
+        (7, r#"{"chain":[null]}"#),
+        (7, r#"{"chain":[{"task":"x"}]}"#),
+        (
+            7,
+            r#"{"chain":[{"task":"x","subtask_type":"chain","kwargs":{"tasks":[$2"}}]}}]}"#,
+        ),
+        (7, r#"{"chain":[$2"}},&1"},"kwargs":{"tasks":[]}}]}"#),
+        (
+            7,
+            r#"{"chain":[{"task":"x","subtask_type":"group","kwargs":{"tasks":[]}}]}"#,
+        ),
+        (7, r#"{"chain":[&0"},"kwargs":{"tasks":[]}}]}"#),
+        (7, r#"{"chain":[&1"},"kwargs":{"tasks":{}}}]}"#),
+        (7, r#"{"chain":[&1"},"args":[1],"kwargs":{"tasks":[]}}]}"#),
+        (
+            7,
+            r#"{"chain":[&1","chord":$2"}}},"kwargs":{"tasks":[]}}]}"#,
+        ),
+        (
+            7,
+            r#"{"chain":[&1"},"kwargs":{"tasks":[&2"},"kwargs":{"tasks":[]}}]}}]}"#,
+        ),
+        (
+            7,
+            r#"{"chain":[&1"},"kwargs":{"tasks":[{"task":"x","subtask_type":"chain","kwargs":{"tasks":[]}}]}}]}"#,
+        ),
+        (
+            7,
+            r#"{"chain":[&1"},"kwargs":{"tasks":[{"task":"x","subtask_type":"chain","kwargs":{"tasks":[&2"},"kwargs":{"tasks":[]}},$2"}}]}}]}}]}"#,
+        ),
+        (7, r#"{"chain":[^1"},"kwargs":{"body":$2"}}}}]}"#),
+        (
+            7,
+            r#"{"chain":[^1"},"kwargs":{"header":&2"},"kwargs":{"tasks":[]}},"body":$2"}}}}]}"#,
+        ),
+        (7, r#"{"chain":[^1"},"kwargs":{"header":[]}}]}"#),
+        (
+            7,
+            r#"{"chain":[^1"},"kwargs":{"header":[&2"},"kwargs":{"tasks":[]}}],"body":$2"}}}}]}"#,
+        ),
+    ] {
+        assert_eq!(rt; embed_code(alloc, HEADERS, embed)?, code, "{embed}");
+    }
+    Ok(())
+}
+
+/// A place stands on the last task of a line, and its members have none yet.
+#[test]
+fn places(rt: HostRuntime) -> Result<(), Fail> {
+    let alloc = rt.alloc();
+    for (code, headers, embed) in [
+        (0, GROUP_HEADERS, "null"),
+        (0, GROUP_HEADERS, r#"{"chain":[]}"#),
+        (0, GROUP_HEADERS, r#"{"chord":$2"},"chord_size":1}}"#),
+        (
+            0,
+            GROUP_HEADERS,
+            r#"{"chord":{"task":"x","subtask_type":"chain","kwargs":{"tasks":[$2"}},$3","group_id":"@2"}}]},"chord_size":1024}}"#,
+        ),
+        (
+            0,
+            GROUP_HEADERS,
+            r#"{"chord":&2"},"kwargs":{"tasks":[$2"}}]},"chord_size":3}}"#,
+        ),
+        (0, HEADERS, r#"{"chain":[$3","group_id":"@1"}},$2"}}]}"#),
+        (
+            0,
+            HEADERS,
+            r#"{"chain":[$2","group_id":"@1","chord":$3"},"chord_size":2}}}]}"#,
+        ),
+        (
+            0,
+            HEADERS,
+            r#"{"chain":[^1"},"kwargs":{"header":[],"body":$2","group_id":"@2"}}}}]}"#,
+        ),
+        (7, HEADERS, r#"{"chord":$2"},"chord_size":1}}"#),
+        (7, GROUP_HEADERS, r#"{"chain":[$2"}}]}"#),
+        (
+            7,
+            GROUP_HEADERS,
+            r#"{"chord":$2"},"chord_size":1},"chain":[$3"}}]}"#,
+        ),
+        (7, GROUP_HEADERS, r#"{"chord":{"task":"x","chord_size":1}}"#),
+        (
+            7,
+            GROUP_HEADERS,
+            r#"{"chord":{"task":"x","subtask_type":"chain","kwargs":{"tasks":[]},"chord_size":1}}"#,
+        ),
+        (
+            7,
+            GROUP_HEADERS,
+            r#"{"chord":{"task":"x","subtask_type":"chain","kwargs":{"tasks":[$2","group_id":"@2"}},$3"}}]},"chord_size":1}}"#,
+        ),
+        (
+            7,
+            GROUP_HEADERS,
+            r#"{"chord":&2"},"kwargs":{"tasks":[$2","group_id":"@2"}}]},"chord_size":1}}"#,
+        ),
+        (7, HEADERS, r#"{"chain":[$3"}},$2","group_id":"@1"}}]}"#),
+        (
+            7,
+            HEADERS,
+            r#"{"chain":[$2","chord":$3"},"chord_size":2}}}]}"#,
+        ),
+        (
+            7,
+            HEADERS,
+            r#"{"chain":[$2","group_id":"@1","chord":$3"}}}}]}"#,
+        ),
+        (7, HEADERS, r#"{"chain":[$2","group_id":"%1"}}]}"#),
+        (
+            7,
+            HEADERS,
+            r#"{"chain":[&1"},"kwargs":{"tasks":[$2","group_id":"@1"}}]}}]}"#,
+        ),
+        (
+            7,
+            HEADERS,
+            r#"{"chain":[^1"},"kwargs":{"header":[$2","group_id":"@1"}}],"body":$3"}}}}]}"#,
+        ),
+    ] {
+        assert_eq!(rt; embed_code(alloc, headers, embed)?, code, "{embed}");
+    }
+    Ok(())
+}
+
+#[test]
+fn sizes(rt: HostRuntime) -> Result<(), Fail> {
+    let alloc = rt.alloc();
+    for (code, size) in [
+        (0, "1"),
+        (0, "1024"),
+        (7, "0"),
+        (7, "1025"),
+        (7, "-1"),
+        (7, "3.0"),
+        (7, "null"),
+        (7, r#""3""#),
+        (7, "4294967297"),
+    ] {
+        let embed = format!(in alloc; r#"{{"chord":$2"}},"chord_size":{size}}}}}"#)?;
+        assert_eq!(rt; embed_code(alloc, GROUP_HEADERS, &embed)?, code, "{size}");
+    }
+    Ok(())
+}
+
+/// A task several times, with commas between.
+fn tasks(alloc: Global, count: u32) -> Result<String, AllocError> {
+    let mut all = String::from_str(alloc, r#"$2"}}"#)?;
+    for _ in 1..count {
+        all.push_str(r#",$2"}}"#)?;
+    }
+    Ok(all)
+}
+
+#[test]
+fn many_members(rt: HostRuntime) -> Result<(), Fail> {
+    let alloc = rt.alloc();
+    for (count, code) in [(1024, 0), (1025, 7)] {
+        let members = tasks(alloc, count)?;
+        let chord = format!(in alloc;
+            r#"{{"chain":[^1"}},"kwargs":{{"header":[{members}],"body":$3"}}}}}}}}]}}"#
+        )?;
+        assert_eq!(rt;
+            embed_code(alloc, HEADERS, &chord)?,
+            code,
+            "a header of {count}"
+        );
+        let group = format!(in alloc; r#"{{"chain":[&1"}},"kwargs":{{"tasks":[{members}]}}}}]}}"#)?;
+        assert_eq!(rt;
+            embed_code(alloc, HEADERS, &group)?,
+            0,
+            "a group of {count}"
+        );
+    }
+    Ok(())
+}
+
+/// A body that carries a body, and so on.
+fn carried(alloc: Global, bodies: u32) -> Result<String, AllocError> {
+    let mut text = filled(alloc, r#"$2"},"chord_size":1}"#)?;
+    for _ in 1..bodies {
+        text = format!(in alloc; r#"$2","group_id":"@1","chord":{text}}},"chord_size":1}}"#)?;
+    }
+    Ok(text)
+}
+
+#[test]
+fn reach(rt: HostRuntime) -> Result<(), Fail> {
+    let alloc = rt.alloc();
+    for (bodies, code) in [(31, 0), (32, 7)] {
+        let embed = format!(in alloc; r#"{{"chord":{}}}"#, carried(alloc, bodies)?)?;
+        assert_eq!(rt;
+            embed_code(alloc, GROUP_HEADERS, &embed)?,
+            code,
+            "{bodies} bodies"
+        );
+    }
+    for (bodies, code) in [(30, 0), (31, 7)] {
+        let embed = format!(in alloc;
+            r#"{{"chain":[$2","group_id":"@1","chord":{}}}}}]}}"#,
+            carried(alloc, bodies)?
+        )?;
+        assert_eq!(rt;
+            embed_code(alloc, HEADERS, &embed)?,
+            code,
+            "{bodies} bodies on the line"
+        );
+    }
+    Ok(())
+}

@@ -1,0 +1,395 @@
+//! Envelopes and their refusals. The numbers were worked out by hand from the rules of messages.
+
+use super::decode;
+use crate::{Envelope, Message, MessageFault};
+use canvas_task::{ListOf, TaskNo};
+use std::alloc::{AllocError, Global};
+use std::test::Fail;
+
+const PROPERTIES: &str =
+    r#"{"content_encoding":"utf-8","content_type":"application/json","correlation_id":"%1"}"#;
+
+const HEADERS: &str =
+    r#"{"group":null,"id":"%1","lang":"rs","parent_id":null,"root_id":"%1","task":"tasks.add"}"#;
+
+const BODY: &str =
+    r#"[[4,4],{},{"callbacks":null,"chain":[{"args":[8],"immutable":false,"kwargs":{},"options":{"task_id":"%2"},"subtask_type":null,"task":"tasks.mul"}],"chord":null,"errbacks":null}]"#;
+
+const PLAIN: &str = r#"{"content_type":"application/json","content_encoding":"utf-8"}"#;
+
+const TASK: &str = r#"{"task":"x","options":{"task_id":"00000000-0000-8000-8000-00000000000"#;
+
+const GROUP: &str =
+    r#"{"task":"x","subtask_type":"group","options":{"group_id":"00000000-0000-8000-9000-00000000000"#;
+
+const CHORD: &str =
+    r#"{"task":"x","subtask_type":"chord","options":{"group_id":"00000000-0000-8000-9000-00000000000"#;
+
+/// A text where `%` and `@` begin the identifiers of tasks and groups, `$` a frozen task, `&` a group
+/// and `^` a chord.
+pub(super) fn filled(alloc: Global, text: &str) -> Result<String, AllocError> {
+    let mut all = String::new(alloc);
+    for c in text.chars() {
+        match c {
+            '%' => all.push_str("00000000-0000-8000-8000-00000000000")?,
+            '@' => all.push_str("00000000-0000-8000-9000-00000000000")?,
+            '$' => all.push_str(TASK)?,
+            '&' => all.push_str(GROUP)?,
+            '^' => all.push_str(CHORD)?,
+            c => all.push(c)?,
+        }
+    }
+    Ok(all)
+}
+
+fn copy(alloc: Global, text: &[u8]) -> Result<ListOf<u8>, AllocError> {
+    let mut bytes = Vec::new(alloc);
+    bytes.extend_from_slice(text)?;
+    Ok(ListOf::of(bytes))
+}
+
+fn read(
+    alloc: Global,
+    properties: &[u8],
+    headers: &[u8],
+    body: &[u8],
+) -> Result<Message, MessageFault> {
+    let envelope = Envelope {
+        properties: copy(alloc, properties)?,
+        headers: copy(alloc, headers)?,
+        body: copy(alloc, body)?,
+    };
+    decode(alloc, &envelope)
+}
+
+/// The number of a refusal, 0 where there is none.
+fn number_of(read: Result<Message, MessageFault>) -> u8 {
+    match read {
+        Ok(_) => 0,
+        Err(fault) => fault.code(),
+    }
+}
+
+fn code_of(alloc: Global, properties: &str, headers: &str, body: &str) -> Result<u8, AllocError> {
+    let (properties, headers) = (filled(alloc, properties)?, filled(alloc, headers)?);
+    let body = filled(alloc, body)?;
+    Ok(number_of(read(
+        alloc,
+        properties.as_bytes(),
+        headers.as_bytes(),
+        body.as_bytes(),
+    )))
+}
+
+/// The same of a call without arguments, and what goes with it.
+pub(super) fn embed_code(alloc: Global, headers: &str, embed: &str) -> Result<u8, AllocError> {
+    let body = format!(in alloc; "[[],{{}},{embed}]")?;
+    code_of(alloc, PLAIN, headers, &body)
+}
+
+#[test]
+fn written_texts(rt: HostRuntime) -> Result<(), Fail> {
+    let alloc = rt.alloc();
+    for (properties, headers, body) in [
+        (PROPERTIES, HEADERS, BODY),
+        (
+            r#"{"content_encoding":"utf-8","content_type":"application/json","correlation_id":"%2"}"#,
+            r#"{"group":null,"id":"%2","lang":"rs","parent_id":"%1","root_id":"%1","task":"tasks.mul"}"#,
+            r#"[[8,8],{},{"callbacks":null,"chain":null,"chord":null,"errbacks":null}]"#,
+        ),
+        (
+            PLAIN,
+            r#"{"group":"@1","id":"%2","lang":"rs","parent_id":null,"root_id":"%1","task":"tasks.div"}"#,
+            r#"[[1,0],{},{"callbacks":null,"chain":null,"chord":{"args":[],"chord_size":3,"immutable":false,"kwargs":{},"options":{"link_error":[{"args":[],"immutable":false,"kwargs":{},"options":{"task_id":"%5"},"subtask_type":null,"task":"tasks.log_error"}],"task_id":"%4"},"subtask_type":null,"task":"tasks.xsum"},"errbacks":null}]"#,
+        ),
+        (
+            PLAIN,
+            r#"{"group":null,"id":"%5","lang":"rs","parent_id":"%4","root_id":"%1","task":"tasks.log_error"}"#,
+            r#"[["%4"],{},{"callbacks":null,"chain":null,"chord":null,"errbacks":null}]"#,
+        ),
+        (
+            PROPERTIES,
+            r#"{"task":"tasks.add","lang":"py","id":"%1","root_id":"%1","parent_id":null,"group":null,"retries":0,"origin":"a","eta":null}"#,
+            BODY,
+        ),
+        (PROPERTIES, HEADERS, "[[2,2],{},null]"),
+    ] {
+        assert_eq!(rt;
+            code_of(alloc, properties, headers, body)?,
+            0,
+            "{headers} {body}"
+        );
+    }
+    Ok(())
+}
+
+#[test]
+fn fields_of_a_message(rt: HostRuntime) -> Result<(), Fail> {
+    let alloc = rt.alloc();
+    let headers = filled(
+        alloc,
+        r#"{"group":"@3","id":"%1","parent_id":"%7","task":"tasks.add"}"#,
+    )?;
+    let body = filled(
+        alloc,
+        r#"[["a",5],{"k":[]},{"callbacks":[$2"}}],"errbacks":[$3"}},$4"}}]}]"#,
+    )?;
+    let message = read(alloc, PLAIN.as_bytes(), headers.as_bytes(), body.as_bytes())?;
+    assert_eq!(rt; message.task.get(), 1);
+    assert_eq!(rt; message.name.get().as_str(), "tasks.add");
+    assert_eq!(rt; message.parent, TaskNo::new(7));
+    assert_eq!(rt; message.args.get().len(), 2);
+    assert_eq!(rt; message.kwargs.get().len(), 1);
+    assert_eq!(rt; message.links.get().len(), 1);
+    assert_eq!(rt; message.errbacks.get().len(), 2);
+    assert!(rt; message.place.is_some());
+    assert!(rt; message.rest.is_none());
+    Ok(())
+}
+
+/// A text that was cut anywhere isn't JSON.
+#[test]
+fn cut_texts(rt: HostRuntime) -> Result<(), Fail> {
+    let alloc = rt.alloc();
+    let (properties, headers) = (filled(alloc, PROPERTIES)?, filled(alloc, HEADERS)?);
+    let body = filled(alloc, BODY)?;
+    let (properties, headers) = (properties.as_bytes(), headers.as_bytes());
+    let body = body.as_bytes();
+    for length in 0..properties.len() {
+        let read = read(alloc, &properties[..length], headers, body);
+        assert_eq!(rt; number_of(read), 1, "properties after {length} bytes");
+    }
+    for length in 0..headers.len() {
+        let read = read(alloc, properties, &headers[..length], body);
+        assert_eq!(rt; number_of(read), 1, "headers after {length} bytes");
+    }
+    for length in 0..body.len() {
+        let read = read(alloc, properties, headers, &body[..length]);
+        assert_eq!(rt; number_of(read), 1, "body after {length} bytes");
+    }
+    Ok(())
+}
+
+#[test]
+fn properties(rt: HostRuntime) -> Result<(), Fail> {
+    let alloc = rt.alloc();
+    for (code, properties) in [
+        (0, PLAIN),
+        (
+            0,
+            r#"{"content_type":"application/json","content_encoding":"utf-8","reply_to":7,"correlation_id":"{00000000-0000-8000-8000-000000000001}"}"#,
+        ),
+        (
+            0,
+            r#"{"content_type":"application/json","content_encoding":"utf-8","correlation_id":"urn:uuid:%1"}"#,
+        ),
+        (
+            0,
+            r#"{"content_type":"application/json","content_encoding":"utf-8","correlation_id":"00000000000080008000000000000001"}"#,
+        ),
+        (
+            0,
+            r#"{"content_type":"application/json","content_encoding":"utf-8","correlation_id":"%2","correlation_id":"%1"}"#,
+        ),
+        (1, ""),
+        (1, "{} 7"),
+        (1, r#"{"reply_to":1e400}"#),
+        (3, "[]"),
+        (3, "null"),
+        (3, r#""application/json""#),
+        (
+            3,
+            r#"{"content_type":"application/json","content_encoding":"utf-8","correlation_id":null}"#,
+        ),
+        (
+            3,
+            r#"{"content_type":"application/json","content_encoding":"utf-8","correlation_id":7}"#,
+        ),
+        (
+            3,
+            r#"{"content_type":"application/json","content_encoding":"utf-8","correlation_id":"x"}"#,
+        ),
+        (
+            3,
+            r#"{"content_type":"application/json","content_encoding":"utf-8","correlation_id":"%2"}"#,
+        ),
+        (
+            3,
+            r#"{"content_type":"application/json","content_encoding":"utf-8","correlation_id":"@1"}"#,
+        ),
+        (
+            3,
+            r#"{"content_type":"text/plain","content_encoding":"utf-8","correlation_id":"%2"}"#,
+        ),
+        (4, "{}"),
+        (
+            4,
+            r#"{"content_type":"text/plain","content_encoding":"utf-8"}"#,
+        ),
+        (4, r#"{"content_type":null,"content_encoding":"utf-8"}"#),
+        (4, r#"{"content_encoding":"utf-8"}"#),
+        (4, r#"{"content_type":"application/json"}"#),
+        (
+            4,
+            r#"{"content_type":"application/json","content_encoding":"UTF-8"}"#,
+        ),
+        (
+            4,
+            r#"{"content_type":"application/json","content_encoding":7}"#,
+        ),
+    ] {
+        assert_eq!(rt;
+            code_of(alloc, properties, HEADERS, BODY)?,
+            code,
+            "{properties}"
+        );
+    }
+    Ok(())
+}
+
+#[test]
+fn headers(rt: HostRuntime) -> Result<(), Fail> {
+    let alloc = rt.alloc();
+    for (code, headers) in [
+        (0, r#"{"id":"%1","task":"x"}"#),
+        (0, r#"{"id":"%A","task":"x"}"#),
+        (
+            0,
+            r#"{"id":"{00000000-0000-8000-8000-0000FFFFFFFF}","task":"x"}"#,
+        ),
+        (0, r#"{"id":"urn:uuid:%1","task":"x"}"#),
+        (0, r#"{"id":"00000000000080008000000000000001","task":"x"}"#),
+        (
+            0,
+            r#"{"id":"%1","task":"!~","lang":7,"root_id":"x","shadow":[],"timelimit":[1,2]}"#,
+        ),
+        (0, r#"{"id":"%1","task":"x","parent_id":"@1"}"#),
+        (0, r#"{"id":"%1","task":"x","parent_id":7}"#),
+        (0, r#"{"id":"%1","task":"x","group":"@1"}"#),
+        (0, r#"{"id":"%1","task":"x","group":"urn:uuid:@F"}"#),
+        (1, "{'task':7}"),
+        (2, "[]"),
+        (2, "null"),
+        (2, "{}"),
+        (2, r#"{"id":"%1"}"#),
+        (2, r#"{"id":"%1","task":null}"#),
+        (2, r#"{"id":"%1","task":7}"#),
+        (2, r#"{"id":"%1","task":""}"#),
+        (2, r#"{"id":"%1","task":"a b"}"#),
+        (2, r#"{"id":"%1","task":"\u007f"}"#),
+        (2, r#"{"id":"x","task":["x"],"group":7}"#),
+        (3, r#"{"task":"x"}"#),
+        (3, r#"{"id":null,"task":"x"}"#),
+        (3, r#"{"id":1,"task":"x"}"#),
+        (3, r#"{"id":"x","task":"x"}"#),
+        (3, r#"{"id":"","task":"x"}"#),
+        (3, r#"{"id":["%1"],"task":"x"}"#),
+        (3, r#"{"id":"%0","task":"x"}"#),
+        (3, r#"{"id":"@1","task":"x"}"#),
+        (
+            3,
+            r#"{"id":"00000000-0000-7000-8000-000000000001","task":"x"}"#,
+        ),
+        (
+            3,
+            r#"{"id":"00000000-0000-8000-8000-000100000001","task":"x"}"#,
+        ),
+        (
+            3,
+            r#"{"id":"00000000-0000-8000-a000-000000000001","task":"x"}"#,
+        ),
+        (3, r#"{"id":"%1","task":"x","group":"%1"}"#),
+        (3, r#"{"id":"%1","task":"x","group":"@0"}"#),
+        (3, r#"{"id":"%1","task":"x","group":"x"}"#),
+        (3, r#"{"id":"%1","task":"x","group":7}"#),
+    ] {
+        assert_eq!(rt;
+            code_of(alloc, PLAIN, headers, "[[],{},null]")?,
+            code,
+            "{headers}"
+        );
+    }
+    Ok(())
+}
+
+#[test]
+fn lengths_of_names(rt: HostRuntime) -> Result<(), Fail> {
+    let alloc = rt.alloc();
+    let mut name = String::new(alloc);
+    for length in 0..130 {
+        let headers = format!(in alloc; r#"{{"id":"%1","task":"{name}"}}"#)?;
+        let code = if 1 <= length && length <= 128 { 0 } else { 2 };
+        assert_eq!(rt;
+            code_of(alloc, PLAIN, &headers, "[[],{},null]")?,
+            code,
+            "{length}"
+        );
+        name.push('x')?;
+    }
+    Ok(())
+}
+
+#[test]
+fn bodies(rt: HostRuntime) -> Result<(), Fail> {
+    let alloc = rt.alloc();
+    for (code, body) in [
+        (0, "[[],null,null]"),
+        (0, r#"[["a",[1,2],[],-3],{"b":[],"a":"x"},null]"#),
+        (0, "[[1152921504606846976,-1152921504606846976],{},{}]"),
+        (1, "[[1e400],{},null]"),
+        (5, "null"),
+        (5, "{}"),
+        (5, "[]"),
+        (5, "[[2,2],{}]"),
+        (5, "[[],{},null,null]"),
+        (5, "[[1.5],{}]"),
+        (6, "[null,{},null]"),
+        (6, "[{},{},null]"),
+        (6, r#"["a",{},null]"#),
+        (6, "[[],[],null]"),
+        (6, r#"[[],"k",null]"#),
+        (6, "[[1.5],{},null]"),
+        (6, "[[-0],{},null]"),
+        (6, "[[null],{},null]"),
+        (6, "[[true],{},null]"),
+        (6, "[[{}],{},null]"),
+        (6, r#"[[["a"]],{},null]"#),
+        (6, "[[1152921504606846977],{},null]"),
+        (6, "[[[1,-1152921504606846977]],{},null]"),
+        (6, r#"[[],{"a":null},null]"#),
+        (6, r#"[[],{"a":1e2},null]"#),
+        (6, "[[1.5],{},7]"),
+        (7, "[[2,2],{},7]"),
+        (7, "[[],{},[]]"),
+        (7, r#"[[],{},"x"]"#),
+    ] {
+        assert_eq!(rt; code_of(alloc, PROPERTIES, HEADERS, body)?, code, "{body}");
+    }
+    Ok(())
+}
+
+/// The first refusal in their order decides.
+#[test]
+fn several_faults(rt: HostRuntime) -> Result<(), Fail> {
+    let alloc = rt.alloc();
+    for (code, properties, headers, body) in [
+        (1, "{", "{}", "{}"),
+        (1, "[]", "{}", "["),
+        (1, "[]", r#"{"task":"#, "{}"),
+        (2, "[]", r#"{"id":"%1"}"#, "{}"),
+        (2, "{}", "7", "[[1.5],{},7]"),
+        (3, "{}", r#"{"task":"x"}"#, "{}"),
+        (3, "[]", HEADERS, "[[1.5],{},7]"),
+        (4, "{}", HEADERS, "{}"),
+        (4, "{}", HEADERS, "[[1.5],{},7]"),
+        (5, PROPERTIES, HEADERS, "[[1.5],7]"),
+        (6, PROPERTIES, HEADERS, r#"[7,{},{"chain":7}]"#),
+    ] {
+        assert_eq!(rt;
+            code_of(alloc, properties, headers, body)?,
+            code,
+            "{properties} {headers} {body}"
+        );
+    }
+    Ok(())
+}
