@@ -2,10 +2,9 @@
 use Rattle.std.proofs.Common.{◌≡◌, List, [], ◌∷◌, ◌++◌, map, append_assoc, ap, ◌∙◌, Some, Result, Ok, Err, OnErr, OnOk}
 use Rattle.canvas_task.specs.declared.outcome.Outcome.{Outcome}
 use Rattle.canvas_rewrite.specs.Eval.{State, passed_on}
-use Rattle.canvas_rewrite.specs.FrozenView.{task_in}
 use Rattle.canvas_engine.specs.Plain.{Begins, states_of}
-use Rattle.canvas_engine.specs.Messages.{outcome_of, message_states}
-use Rattle.canvas_engine.specs.declared.message.Message.{Message}
+use Rattle.canvas_message.specs.Content.{Content}
+use Rattle.canvas_engine.specs.Messages.{outcome_of, content_states, steps_in}
 
 pub one_more : (rows before : List State) (s : State) (more : List State) → rows ≡ before ++ s ∷ [] → Begins rows (before ++ (s ∷ more))
 one_more rows before s more e = (more, ap (λ xs. xs ++ more) e ∙ append_assoc before (s ∷ []) more)
@@ -22,10 +21,10 @@ on_err (Ok x) P h = tt
 on_err (Err e) P h = h
 
 -- the store of a message's own outcome, and what it leaves to be done
-pub stored : (rows before : List State) (m : Message) (o : Outcome) → o ≡ outcome_of m → rows ≡ before ++ Some o ∷ [] → Begins rows (before ++ message_states m)
-stored rows before m o is e =
-    let rest = states_of (map task_in m.rest.now) (passed_on (Some (outcome_of m))) in
-    one_more rows before (Some (outcome_of m)) rest (e ∙ ap (λ x. before ++ Some x ∷ []) is)
+pub stored : (rows before : List State) (c : Content) (o : Outcome) → o ≡ outcome_of c → rows ≡ before ++ Some o ∷ [] → Begins rows (before ++ content_states c)
+stored rows before c o is e =
+    let rest = states_of (steps_in c.rest) (passed_on (Some (outcome_of c))) in
+    one_more rows before (Some (outcome_of c)) rest (e ∙ ap (λ x. before ++ Some x ∷ []) is)
 
 pub on_ok : {X E : Type 0} (r : Result X E) (P : Type 0) → P → OnOk r P
 on_ok (Ok x) P h = h

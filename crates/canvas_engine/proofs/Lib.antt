@@ -5,4 +5,7 @@ pub mod PlainStates
 pub mod RowLookups
 pub mod ReportLemmas
 pub mod SameText
+pub mod LineTasks
 pub mod FirstFits
+pub mod FirstMessage
+pub mod NextMessage

@@ -1,16 +1,19 @@
-ghost use Rattle.std.specs.Prelude.{◌≡◌, ◌≢◌, ◌++◌, ◌∷◌, ◌<◌, ◌≤◌, [], Some, OnOk, OnErr, IfOk, IfErr, IsTrue, length, map};
+ghost use Rattle.std.specs.Prelude.{◌≡◌, ◌≢◌, ◌++◌, ◌∷◌, ◌+◌, ◌<◌, ◌≤◌, [], Some, OnOk, OnErr, IfOk, IfErr, IsTrue, length, map};
 ghost use Rattle.canvas_rewrite.specs.Eval.{skip, nothing};
 ghost use Rattle.canvas_rewrite.specs.FrozenView.{task_in};
 ghost use Rattle.canvas_engine.specs.Plain.{are_plain, states_of, Begins};
 ghost use Rattle.canvas_rewrite.specs.Frozen.{elements_of, tree_of};
 ghost use Rattle.canvas_rewrite.specs.States.{states};
 ghost use Rattle.canvas_engine.specs.Runs.{HasBegun, IsRunFault};
-ghost use Rattle.canvas_engine.specs.Messages.{message_states, option_states, queued_states};
+ghost use Rattle.canvas_message.specs.View.{rest_seen};
+ghost use Rattle.canvas_task.specs.Apply.{IsInRange};
+ghost use Rattle.canvas_engine.specs.Messages.{outcome_of, steps_in, content_states, option_states, envelope_states, queued_states};
 
-use crate::message::Message;
+use crate::message::{first_message, next_message};
 use crate::{Cause, Report, RunFault};
-use canvas_rewrite::{FrozenTask, Plan};
-use canvas_task::{Fault, ListOf, Memory, Outcome};
+use canvas_message::{Envelope, Message, MessageFault, decode, encode};
+use canvas_rewrite::{FrozenLine, FrozenTask, Plan};
+use canvas_task::{Fault, ListOf, Memory, Outcome, apply};
 use std::alloc::Global;
 use std::collections::VecDeque;
 
@@ -39,73 +42,114 @@ fn skip_all(
 }
 
 /// Puts a message, if there is one, into an empty queue.
-fn publish<'p>(
-    message: Option<Message<'p>>,
-    queue: &mut VecDeque<Message<'p>>,
+fn publish(
+    alloc: Global,
+    message: Option<Message>,
+    queue: &mut VecDeque<Envelope>,
 ) -> Result<(), Memory>
     requires { queue.old.items ≡ [] }
-    ensures states { OnOk result (queued_states queue.new.items ≡ option_states message.entry) }
+    ensures states { OnOk result (queued_states queue.new.items ≡ option_states message) }
     ensures few { length queue.new.items ≤ 1 }
     ensures err { OnErr result (queue.new.items ≡ []) }
 {
     match message {
         Some(message) => {
-            queue.push_back(message)?;
+            queue.push_back(encode(alloc, &message)?)?;
             Ok(())
         }
         None => Ok(()),
     }
 }
 
+/// What the task of a message answers.
+fn outcome_of(message: &Message) -> Outcome
+    ensures value { result ≡ outcome_of message.now }
+    ensures in_range { IsInRange result }
+{
+    apply(message.name.get(), message.args.get(), message.kwargs.get())
+}
+
+fn steps(rest: &Option<FrozenLine>) -> &[FrozenTask]
+    ensures { map task_in result.now ≡ steps_in (rest_seen rest.now) }
+{
+    match rest {
+        Some(line) => line.tasks.get(),
+        None => &[],
+    }
+}
+
+/// The tasks that follow a message's own.
+fn followers(message: &Message) -> &[FrozenTask]
+    ensures { map task_in result.now ≡ steps_in message.now.rest }
+{
+    steps(&message.rest)
+}
+
 /// Runs a message: stores its task's outcome, and publishes what follows, or skips it where the task failed.
-fn run_message<'p>(
+fn run_message(
     alloc: Global,
-    message: Message<'p>,
-    queue: &mut VecDeque<Message<'p>>,
+    message: Message,
+    queue: &mut VecDeque<Envelope>,
     rows: &mut Vec<Option<Outcome>>,
 ) -> Result<(), Memory>
     requires { queue.old.items ≡ [] }
-    ensures ok { OnOk result (rows.new.items ++ queued_states queue.new.items ≡ rows.old.items ++ message_states message.entry) }
+    ensures ok { OnOk result (rows.new.items ++ queued_states queue.new.items ≡ rows.old.items ++ content_states message) }
     ensures more { OnOk result (length rows.old.items < length rows.new.items) }
     ensures few { OnOk result (length queue.new.items ≤ 1) }
-    ensures err { OnErr result (Begins rows.new.items (rows.old.items ++ message_states message.entry)) }
+    ensures err { OnErr result (Begins rows.new.items (rows.old.items ++ content_states message)) }
 {
-    let outcome = message.outcome();
-    let rest = message.rest();
+    let outcome = outcome_of(&message);
     store(rows, outcome)?;
     match outcome {
-        Outcome::Success(number) => publish(Message::first(alloc, rest, Some(number))?, queue),
-        Outcome::Failure(fault) => skip_all(rest, &fault, rows),
+        Outcome::Success(number) => publish(alloc, next_message(message, number)?, queue),
+        Outcome::Failure(fault) => skip_all(followers(&message), &fault, rows),
+    }
+}
+
+/// Runs what an envelope holds. What isn't a message is dropped.
+fn run_envelope(
+    alloc: Global,
+    envelope: &Envelope,
+    queue: &mut VecDeque<Envelope>,
+    rows: &mut Vec<Option<Outcome>>,
+) -> Result<(), Memory>
+    requires { queue.old.items ≡ [] }
+    ensures ok { OnOk result (rows.new.items ++ queued_states queue.new.items ≡ rows.old.items ++ envelope_states envelope.now) }
+    ensures more { OnOk result (length rows.old.items + length queue.new.items ≤ length rows.new.items) }
+    ensures few { OnOk result (length queue.new.items ≤ 1) }
+    ensures err { OnErr result (Begins rows.new.items (rows.old.items ++ envelope_states envelope.now)) }
+{
+    match decode(alloc, envelope) {
+        Ok(message) => run_message(alloc, message, queue, rows),
+        Err(MessageFault::Memory) => Err(Memory),
+        Err(_) => Ok(()),
     }
 }
 
 /// Runs messages until there are none.
-fn drain<'p>(
+fn drain(
     alloc: Global,
-    queue: &mut VecDeque<Message<'p>>,
+    queue: &mut VecDeque<Envelope>,
     rows: &mut Vec<Option<Outcome>>,
 ) -> Result<(), Memory>
     requires { length queue.old.items ≤ 1 }
     ensures ok { OnOk result (rows.new.items ≡ rows.old.items ++ queued_states queue.old.items) }
     ensures err { OnErr result (Begins rows.new.items (rows.old.items ++ queued_states queue.old.items)) }
 {
-    while let Some(message) = queue.pop_front() {
-        run_message(alloc, message, queue, rows)?;
+    while let Some(envelope) = queue.pop_front() {
+        run_envelope(alloc, &envelope, queue, rows)?;
     }
     Ok(())
 }
 
-/// Runs tasks one after another.
-fn run_tasks(
-    alloc: Global,
-    tasks: &[FrozenTask],
-    rows: &mut Vec<Option<Outcome>>,
-) -> Result<(), Memory>
-    ensures ok { OnOk result (rows.new.items ≡ rows.old.items ++ states_of (map task_in tasks.now) nothing) }
-    ensures err { OnErr result (Begins rows.new.items (rows.old.items ++ states_of (map task_in tasks.now) nothing)) }
+/// Runs the tasks of a plan, one after another.
+fn run_tasks(alloc: Global, plan: &Plan, rows: &mut Vec<Option<Outcome>>) -> Result<(), Memory>
+    requires { IsTrue (are_plain (elements_of plan.now)) }
+    ensures ok { OnOk result (rows.new.items ≡ rows.old.items ++ states (tree_of plan.now)) }
+    ensures err { OnErr result (Begins rows.new.items (rows.old.items ++ states (tree_of plan.now))) }
 {
     let mut queue = VecDeque::new(alloc);
-    publish(Message::first(alloc, tasks, None)?, &mut queue)?;
+    publish(alloc, first_message(alloc, plan)?, &mut queue)?;
     drain(alloc, &mut queue, rows)
 }
 
@@ -115,11 +159,10 @@ fn run_alone(alloc: Global, plan: &Plan) -> Result<Report, Option<Report>>
     ensures ok { IfOk result (λ report. report.rows ≡ states (tree_of plan.now)) }
     ensures err { IfErr result (λ rows. HasBegun rows (states (tree_of plan.now))) }
 {
-    let tasks = plan.line().tasks.get();
     let Ok(mut rows) = Vec::with_capacity(alloc, plan.tasks() as usize) else {
         return Err(None);
     };
-    let ran = run_tasks(alloc, tasks, &mut rows);
+    let ran = run_tasks(alloc, plan, &mut rows);
     let report = Report {
         rows: ListOf::of(rows),
     };

@@ -3,7 +3,7 @@ use Rattle.std.proofs.Common.{◌≡◌, ℕ, zero, suc, List, [], ◌∷◌, Bo
 use Rattle.std.specs.Prelude.{ℤ, pos, negsuc, ◌+ℤ◌, ◌*ℤ◌, if◌then◌else◌}
 use Rattle.canvas_task.specs.Numbers.{in_range, floor_div, total}
 use Rattle.canvas_task.specs.Identifiers.{task_named}
-use Rattle.canvas_task.specs.Apply.{Text, Job, add, mul, div, xsum, ident, log_error, checked, quotient, logged, answer, answer_filled, of_job, apply, job_named, bound_to, parameters}
+use Rattle.canvas_task.specs.Apply.{IsInRange, Text, Job, add, mul, div, xsum, ident, log_error, checked, quotient, logged, answer, answer_filled, of_job, apply, job_named, bound_to, parameters}
 use Rattle.canvas_task.specs.declared.arg.Arg.{Arg}
 use Rattle.canvas_task.specs.declared.arg.Arg.TheVariants as arg
 use Rattle.canvas_task.specs.declared.outcome.Fault.TheVariants.{Plain}
@@ -11,28 +11,23 @@ use Rattle.canvas_task.specs.declared.outcome.Kind.TheVariants.{Overflow}
 use Rattle.canvas_task.specs.declared.outcome.Outcome.{Outcome}
 use Rattle.canvas_task.specs.declared.outcome.Outcome.TheVariants.{Success, Failure}
 
--- a success is of a number in range
-abbrev pub Fits : Outcome → Type 0
-Fits (Success n) = in_range n ≡ true
-Fits (Failure f) = Unit {0}
-
-checked_by : (n : ℤ) (b : Bool) → in_range n ≡ b → Fits (if b then Success n else Failure (Plain Overflow))
+checked_by : (n : ℤ) (b : Bool) → in_range n ≡ b → IsInRange (if b then Success n else Failure (Plain Overflow))
 checked_by n true h = h
 checked_by n false h = tt
 
-checked_fits : (n : ℤ) → Fits (checked n)
+checked_fits : (n : ℤ) → IsInRange (checked n)
 checked_fits n = checked_by n (in_range n) refl
 
-quotient_fits : (x y : ℤ) → Fits (quotient x y)
+quotient_fits : (x y : ℤ) → IsInRange (quotient x y)
 quotient_fits x (pos zero) = tt
 quotient_fits x (pos (suc n)) = checked_fits (floor_div x (pos (suc n)))
 quotient_fits x (negsuc n) = checked_fits (floor_div x (negsuc n))
 
-logged_fits : (o : Option ℕ) → Fits (logged o)
+logged_fits : (o : Option ℕ) → IsInRange (logged o)
 logged_fits None = tt
 logged_fits (Some k) = checked_fits (pos k)
 
-answer_fits : (job : Job) (args : List Arg) → Fits (answer job args)
+answer_fits : (job : Job) (args : List Arg) → IsInRange (answer job args)
 answer_fits add (arg.Num x ∷ arg.Num y ∷ []) = checked_fits (x +ℤ y)
 answer_fits mul (arg.Num x ∷ arg.Num y ∷ []) = checked_fits (x *ℤ y)
 answer_fits div (arg.Num x ∷ arg.Num y ∷ []) = quotient_fits x y
@@ -41,13 +36,13 @@ answer_fits ident (arg.Num x ∷ []) = checked_fits x
 answer_fits log_error (arg.Text uuid ∷ []) = logged_fits (task_named uuid)
 answer_fits job args = tt
 
-filled_fits : (job : Job) (o : Option (List Arg)) → Fits (answer_filled job o)
+filled_fits : (job : Job) (o : Option (List Arg)) → IsInRange (answer_filled job o)
 filled_fits job None = tt
 filled_fits job (Some args) = answer_fits job args
 
-of_job_fits : (o : Option Job) (args : List Arg) (named : List (Text × Arg)) → Fits (of_job o args named)
+of_job_fits : (o : Option Job) (args : List Arg) (named : List (Text × Arg)) → IsInRange (of_job o args named)
 of_job_fits None args named = tt
 of_job_fits (Some job) args named = filled_fits job (bound_to (parameters job) args named)
 
-pub apply_fits : (name : Text) (args : List Arg) (named : List (Text × Arg)) → Fits (apply name args named)
+pub apply_fits : (name : Text) (args : List Arg) (named : List (Text × Arg)) → IsInRange (apply name args named)
 apply_fits name args named = of_job_fits (job_named name) args named

@@ -1,6 +1,6 @@
 -- The table of tasks: what a call answers, by the task's name, its positional arguments and its keyword arguments.
 -- Numbers are whole and unbounded here; only a result that lies outside the range overflows.
-use Rattle.std.specs.Prelude.{ℕ, zero, if◌then◌else◌, List, [], ◌∷◌, Option, Some, None, codes, ℤ, pos, ◌+ℤ◌, ◌*ℤ◌}
+use Rattle.std.specs.Prelude.{◌≡◌, ℕ, zero, true, if◌then◌else◌, List, [], ◌∷◌, Option, Some, None, codes, ℤ, pos, ◌+ℤ◌, ◌*ℤ◌}
 use Rattle.std.specs.List.{list_all, list_any}
 use Rattle.std.specs.Str.{bytes_eq}
 use Rattle.canvas_task.specs.Numbers.{in_range, floor_div, total}
@@ -109,3 +109,8 @@ of_job (Some job) args named = answer_filled job (bound_to (parameters job) args
 -- what a call answers
 abbrev pub apply : Text → List Arg → List (Text × Arg) → Outcome
 apply name args named = of_job (job_named name) args named
+
+-- a success is of a number in range
+abbrev pub IsInRange : Outcome → Type 0
+IsInRange (Success n) = in_range n ≡ true
+IsInRange (Failure f) = Unit {0}

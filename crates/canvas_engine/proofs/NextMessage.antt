@@ -1,0 +1,87 @@
+-- The message that follows another, and the states that it stands for.
+use Rattle.std.proofs.Common.{◌≡◌, ℕ, List, [], ◌∷◌, ◌++◌, map, Bool, true, Option, Some, None, Result, Ok, Err, OnOk, OnErr, append_assoc, length, length-append, ◌<◌, arith, refl, sym, ap, subst, ◌∙◌}
+use Rattle.std.specs.Prelude.{ℤ, if◌then◌else◌}
+use Rattle.canvas_task.specs.Apply.{IsInRange, apply}
+use Rattle.canvas_task.proofs.InRange.{apply_fits}
+use Rattle.canvas_task.specs.Numbers.{in_range}
+use Rattle.canvas_task.specs.declared.arg.Arg.{Arg}
+use Rattle.canvas_task.specs.declared.arg.Arg.TheVariants as arg
+use Rattle.canvas_task.specs.declared.outcome.Outcome.{Outcome}
+use Rattle.canvas_task.specs.declared.outcome.Outcome.TheVariants.{Success, Failure}
+use Rattle.canvas_sig.specs.Tree.{Call}
+use Rattle.canvas_rewrite.specs.Eval.{num, State, passed_on}
+use Rattle.canvas_rewrite.specs.FrozenView.{p_tasks_of, p_task_view}
+use Rattle.canvas_rewrite.specs.Placed.{PTask, p_task, PLine, p_step, strip_task}
+use Rattle.canvas_rewrite.specs.declared.frozen.FrozenTask.{FrozenTask, out-FrozenTask}
+use Rattle.canvas_rewrite.specs.declared.frozen.FrozenLine.{FrozenLine}
+use Rattle.canvas_message.specs.Content.{Content, number_of}
+use Rattle.canvas_message.specs.Fits.{fits}
+use Rattle.canvas_message.specs.View.{content, place_seen, rest_seen}
+use Rattle.canvas_message.proofs.FitsOn.{given, next, started, next_fits}
+use Rattle.canvas_message.proofs.Seen.{called, task_seen}
+use Rattle.canvas_engine.specs.Plain.{states_of, Begins}
+use Rattle.canvas_message.specs.declared.fault.MessageFault.{MessageFault}
+use Rattle.canvas_engine.specs.Messages.{steps_in, outcome_of, content_states, read_states}
+use Rattle.canvas_engine.proofs.Begun.{stored, on_err}
+
+-- the fields of the message that follows
+next_is : (c : Content) (t : FrozenTask) (rest : Option FrozenLine) (n : ℤ) (args : List Arg) (k : ℕ) → k ≡ number_of c.own
+    → args ≡ (if (out-FrozenTask t).immutable then (out-FrozenTask t).args else arg.Num n ∷ (out-FrozenTask t).args)
+    → content (Some k) (out-FrozenTask t).no (out-FrozenTask t).name args (out-FrozenTask t).kwargs (out-FrozenTask t).links (out-FrozenTask t).errbacks (out-FrozenTask t).place rest
+    ≡ next c (p_task_view t) (rest_seen rest) n
+next_is c t rest n args k hk ha = rw (hk, ha) (ap (λ x. record { parent = Some (number_of c.own); own = started x n; rest = rest_seen rest }) (sym (task_seen t)))
+
+pub next_ok : (c : Content) (t : FrozenTask) (rest : Option FrozenLine) (n : ℤ) (args : List Arg) (k : ℕ) → fits c ≡ true → in_range n ≡ true → c.rest ≡ p_step (p_task_view t) (rest_seen rest)
+    → k ≡ number_of c.own → args ≡ (if (out-FrozenTask t).immutable then (out-FrozenTask t).args else arg.Num n ∷ (out-FrozenTask t).args)
+    → fits (content (Some k) (out-FrozenTask t).no (out-FrozenTask t).name args (out-FrozenTask t).kwargs (out-FrozenTask t).links (out-FrozenTask t).errbacks (out-FrozenTask t).place rest) ≡ true
+next_ok c t rest n args k ok h split hk ha = ap fits (next_is c t rest n args k hk ha) ∙ next_fits c (p_task_view t) (rest_seen rest) n h split ok
+
+started_states : (c : Content) (t : PTask) (l : PLine) (n : ℤ) → content_states (next c t l n) ≡ states_of (strip_task t ∷ steps_in l) (num n)
+started_states c (p_task k call links errbacks place) l n = refl
+
+pub next_states : (c : Content) (t : FrozenTask) (rest : Option FrozenLine) (n : ℤ) (args : List Arg) (k : ℕ) → c.rest ≡ p_step (p_task_view t) (rest_seen rest)
+    → k ≡ number_of c.own → args ≡ (if (out-FrozenTask t).immutable then (out-FrozenTask t).args else arg.Num n ∷ (out-FrozenTask t).args)
+    → content_states (content (Some k) (out-FrozenTask t).no (out-FrozenTask t).name args (out-FrozenTask t).kwargs (out-FrozenTask t).links (out-FrozenTask t).errbacks (out-FrozenTask t).place rest)
+    ≡ states_of (steps_in c.rest) (num n)
+next_states c t rest n args k split hk ha =
+    ap content_states (next_is c t rest n args k hk ha) ∙ started_states c (p_task_view t) (rest_seen rest) n ∙ ap (λ l. states_of (steps_in l) (num n)) (sym split)
+
+-- ---- a message that was run
+
+pub number_fits : (o : Outcome) (n : ℤ) → o ≡ Success n → IsInRange o → in_range n ≡ true
+number_fits o n e h = subst IsInRange e h
+
+map_ok : {X E : Type 0} (r : Result X E) (P Q : Type 0) → OnOk r P → (P → Q) → OnOk r Q
+map_ok (Ok x) P Q h f = f h
+map_ok (Err e) P Q h f = tt
+
+pub went_on : {X E : Type 0} (r : Result X E) (rows before left next : List State) (c : Content) (o : Outcome) (n : ℤ) → o ≡ outcome_of c → o ≡ Success n → rows ≡ before ++ Some o ∷ []
+    → OnOk r (left ≡ next) → next ≡ states_of (steps_in c.rest) (num n) → OnOk r (rows ++ left ≡ before ++ content_states c)
+went_on r rows before left next c o n is e stored published more =
+    map_ok r _ _ published (λ q.
+    ap (λ xs. xs ++ left) stored ∙ append_assoc before (Some o ∷ []) left ∙ ap (λ xs. before ++ (Some o ∷ xs)) (q ∙ more)
+    ∙ ap (λ x. before ++ (Some o ∷ states_of (steps_in c.rest) (passed_on (Some x)))) (sym e) ∙ ap (λ x. before ++ (Some x ∷ states_of (steps_in c.rest) (passed_on (Some x)))) is)
+
+pub refused : {X E : Type 0} (r : Result X E) (rows before : List State) (c : Content) (o : Outcome) → o ≡ outcome_of c → rows ≡ before ++ Some o ∷ [] → OnErr r (Begins rows (before ++ content_states c))
+refused r rows before c o is stored_ = on_err r _ (stored rows before c o is stored_)
+
+longer_by : (before rows new xs : List State) (s : State) → rows ≡ before ++ s ∷ [] → new ≡ rows ++ xs → length before < length new
+longer_by before rows new xs s h k =
+    let mid : length rows ≡ length (before ++ s ∷ []) = ap length h in
+    let all : length new ≡ length (rows ++ xs) = ap length k in
+    omega (arith, mid, all, length-append before (s ∷ []), length-append rows xs)
+
+pub grown : {X E : Type 0} (r : Result X E) (before rows new xs : List State) (s : State) → rows ≡ before ++ s ∷ [] → OnOk r (new ≡ rows ++ xs) → OnOk r (length before < length new)
+grown r before rows new xs s h ok = map_ok r _ _ ok (longer_by before rows new xs s h)
+
+map_err : {X E : Type 0} (r : Result X E) (P Q : Type 0) → OnErr r P → (P → Q) → OnErr r Q
+map_err (Ok x) P Q h f = tt
+map_err (Err e) P Q h f = f h
+
+-- what an envelope that reads as a message stands for
+pub read_begins : {X E : Type 0} (r : Result X E) (rows before : List State) (read : Result Content MessageFault) (c : Content) → read ≡ Ok c
+    → OnErr r (Begins rows (before ++ content_states c)) → OnErr r (Begins rows (before ++ read_states read))
+read_begins r rows before read c e h = map_err r _ _ h (λ b. subst (λ x. Begins rows (before ++ read_states x)) (sym e) b)
+
+pub answer_fits : (o : Outcome) (name : List ℕ) (args : List Arg) (kwargs : List (List ℕ × Arg)) → o ≡ apply name args kwargs → IsInRange o
+answer_fits o name args kwargs e = subst IsInRange (sym e) (apply_fits name args kwargs)
