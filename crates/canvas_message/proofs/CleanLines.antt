@@ -196,9 +196,13 @@ list_depth k (item d ds) more = omega arith
 
 options_depth : (k : ℕ) (l e : Items) (g c : Data) → members_depth (task_options k l e g c) ≤ max (max (depth c) (depth g)) (1 + max (items_depth l) (items_depth e))
 options_depth k l e g c =
-    omega (arith, null_depth (codes "chord") c (member_unless_null (codes "group_id") g (member_unless_empty (codes "link") l (member_unless_empty (codes "link_error") e (id_member k)))),
-    null_depth (codes "group_id") g (member_unless_empty (codes "link") l (member_unless_empty (codes "link_error") e (id_member k))),
-    list_depth (codes "link") l (member_unless_empty (codes "link_error") e (id_member k)), list_depth (codes "link_error") e (id_member k))
+    omega (
+      arith,
+      null_depth (codes "chord") c (member_unless_null (codes "group_id") g (member_unless_empty (codes "link") l (member_unless_empty (codes "link_error") e (id_member k)))),
+      null_depth (codes "group_id") g (member_unless_empty (codes "link") l (member_unless_empty (codes "link_error") e (id_member k))),
+      list_depth (codes "link") l (member_unless_empty (codes "link_error") e (id_member k)),
+      list_depth (codes "link_error") e (id_member k),
+    )
 
 frozen_depth : (size : Option ℕ) (args : Items) (immutable : Bool) (kwargs options : Members) (kind : Data) (name : List ℕ) → depth kind ≡ 0
     → depth (frozen size args immutable kwargs options kind name) ≤ 2 + max (items_depth args) (max (members_depth kwargs) (members_depth options))
@@ -223,8 +227,17 @@ task_level : (size : Option ℕ) (k n : ℕ) (call : Call) (l e : Items) (place 
     → depth (call_wire size call (task_options k l e (place_id place) (carried_wire place))) ≤ 3 + 3 * (1 + n)
 task_level size k n call l e place hl he hc =
     let o = task_options k l e (place_id place) (carried_wire place) in
-    omega (arith, frozen_depth size (args_wire call.args) call.immutable (kwargs_wire call.kwargs) o null call.name refl, args_depth call.args, kwargs_depth call.kwargs,
-    options_depth k l e (place_id place) (carried_wire place), place_id_depth place, hl, he, hc)
+    omega (
+      arith,
+      frozen_depth size (args_wire call.args) call.immutable (kwargs_wire call.kwargs) o null call.name refl,
+      args_depth call.args,
+      kwargs_depth call.kwargs,
+      options_depth k l e (place_id place) (carried_wire place),
+      place_id_depth place,
+      hl,
+      he,
+      hc,
+    )
 
 mutual
   pub task_depth : (c : ℕ) (size : Option ℕ) (t : PTask) → depth (task_wire size t) ≤ 3 + 3 * task_reach c t

@@ -69,8 +69,18 @@ embed_clean links errbacks place rest l e c r = (
 embed_depth : (links errbacks : PTasks) (place : PPlace) (rest : PLine) → max (max (tasks_reach links) (tasks_reach errbacks)) (place_reach place) ≤ 32 → RestFits rest
     → depth (embed_of links errbacks place rest) ≤ 101
 embed_depth links errbacks place rest low r =
-    omega (arith, low, list_or_null_depth (tasks_wire links), list_or_null_depth (tasks_wire errbacks), list_or_null_depth (onto_reversed (elements_wire rest) no_items),
-    reversed_depth (elements_wire rest) no_items, rest_depth rest r, tasks_depth links, tasks_depth errbacks, carried_depth place)
+    omega (
+      arith,
+      low,
+      list_or_null_depth (tasks_wire links),
+      list_or_null_depth (tasks_wire errbacks),
+      list_or_null_depth (onto_reversed (elements_wire rest) no_items),
+      reversed_depth (elements_wire rest) no_items,
+      rest_depth rest r,
+      tasks_depth links,
+      tasks_depth errbacks,
+      carried_depth place,
+    )
 
 -- the texts of a message are clean, and nest no deeper than JSON is read
 pub record Texts (c : Content) : Type 0 where

@@ -174,7 +174,7 @@ parent_back (Some k) h = task_id_back k h
 
 content_back : (parent : Option ℕ) (k : ℕ) (call : Call) (links errbacks : PTasks) (place : PPlace) (rest : PLine) → Whole parent k call links errbacks place rest
     → content_of (headers_wire (as_content parent k call links errbacks place rest)) k (record { args = call.args; kwargs = call.kwargs })
-        (record { links = listed_tasks links; errbacks = listed_tasks errbacks; place = place; rest = rest })
+    (record { links = listed_tasks links; errbacks = listed_tasks errbacks; place = place; rest = rest })
     ≡ as_content parent k call links errbacks place rest
 content_back parent k call links errbacks place rest w =
     rw (parent_back parent w.known, tasks_listed links, tasks_listed errbacks)
@@ -187,7 +187,7 @@ kept false c h = absurd cc
 message_of : (parent : Option ℕ) (k : ℕ) (call : Call) (links errbacks : PTasks) (place : PPlace) (rest : PLine)
     → fits (as_content parent k call links errbacks place rest) ≡ true
     → message_reading (properties_wire (as_content parent k call links errbacks place rest)) (headers_wire (as_content parent k call links errbacks place rest))
-        (body_wire (as_content parent k call links errbacks place rest))
+    (body_wire (as_content parent k call links errbacks place rest))
     ≡ Ok (as_content parent k call links errbacks place rest)
 message_of parent k call links errbacks place rest h =
     let w = whole parent k call links errbacks place rest h in
@@ -200,7 +200,7 @@ message_of parent k call links errbacks place rest h =
 
 message_at : (parent : Option ℕ) (own : PTask) (rest : PLine) → fits (record { parent = parent; own = own; rest = rest }) ≡ true
     → message_reading (properties_wire (record { parent = parent; own = own; rest = rest })) (headers_wire (record { parent = parent; own = own; rest = rest }))
-        (body_wire (record { parent = parent; own = own; rest = rest }))
+    (body_wire (record { parent = parent; own = own; rest = rest }))
     ≡ Ok (record { parent = parent; own = own; rest = rest })
 message_at parent (p_task k call links errbacks place) rest h = message_of parent k call links errbacks place rest h
 

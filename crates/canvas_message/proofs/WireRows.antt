@@ -47,8 +47,8 @@ in_a_header =
     record {
       parent = None;
       own =
-        p_task 2 (call (codes "tasks.div") (arg.Num (pos 1) ∷ arg.Num (pos 0) ∷ [])) no_p_tasks no_p_tasks
-        (p_chord 1 3 (p_step (p_task 4 (call (codes "tasks.xsum") []) no_p_tasks (and_p_task (alone 5 (call (codes "tasks.log_error") [])) no_p_tasks) p_nowhere) p_stop));
+          p_task 2 (call (codes "tasks.div") (arg.Num (pos 1) ∷ arg.Num (pos 0) ∷ [])) no_p_tasks no_p_tasks
+          (p_chord 1 3 (p_step (p_task 4 (call (codes "tasks.xsum") []) no_p_tasks (and_p_task (alone 5 (call (codes "tasks.log_error") [])) no_p_tasks) p_nowhere) p_stop));
       rest = p_stop;
     }
 

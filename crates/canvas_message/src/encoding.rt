@@ -1,6 +1,6 @@
 //! The envelope of a message.
 
-ghost use Rattle.std.specs.Prelude.{◌≡◌, IfOk, ◌++◌, ◌∷◌, [], codes};
+ghost use Rattle.std.specs.Prelude.{◌≡◌, true, Ok, IfOk, ◌++◌, ◌∷◌, [], codes};
 ghost use Rattle.json.specs.Token.{begin_array, begin_object, string, key};
 ghost use Rattle.json.specs.Print.{print};
 ghost use Rattle.serde_json.specs.Data.{array, object};
@@ -9,6 +9,9 @@ ghost use Rattle.canvas_task.specs.Entries.{named};
 ghost use Rattle.serde_json.specs.Written.{compact_text};
 ghost use Rattle.canvas_sig.specs.Tokens.{Appends, data_tokens};
 ghost use Rattle.canvas_message.specs.Content.{links_of, errbacks_of, place_of};
+ghost use Rattle.std.specs.Str.{IsUtf8};
+ghost use Rattle.canvas_message.specs.Fits.{fits};
+ghost use Rattle.canvas_message.specs.Reading.{envelope_reading};
 ghost use Rattle.canvas_message.specs.Tokens.{named_tokens, following_wire};
 ghost use Rattle.canvas_message.specs.Wire.{tasks_wire, carried_wire, list_or_null, embed_wire, properties_wire, headers_wire, body_wire};
 
@@ -22,12 +25,14 @@ use std::alloc::{AllocError, Global};
 use std::collections::BTreeMap;
 
 fn write_properties(out: &mut Writer, message: &Message) -> Result<(), AllocError>
-    ensures { Appends result out.old out.new (data_tokens (properties_wire message.now)) }
+    ensures tokens { Appends result out.old out.new (data_tokens (properties_wire message.now)) }
+    ensures checked { fits message.now ≡ true }
 {
+    let task = message.task;
     out.begin_object()?;
     write_text(out, "content_encoding", "utf-8")?;
     write_text(out, "content_type", "application/json")?;
-    write_task_member(out, "correlation_id", message.task)?;
+    write_task_member(out, "correlation_id", task)?;
     out.end_object()
 }
 
@@ -76,7 +81,8 @@ fn write_body(out: &mut Writer, message: &Message) -> Result<(), AllocError>
 
 /// The bytes that were written.
 fn text_of(out: Writer) -> ListOf<u8>
-    ensures { result ≡ out.before ++ print out.tokens }
+    ensures value { result ≡ out.before ++ print out.tokens }
+    ensures utf8 { IsUtf8 (print out.tokens) }
 {
     ListOf::of(out.into_inner())
 }
@@ -88,7 +94,9 @@ fn new_writer(alloc: Global) -> Writer
 }
 
 fn properties_of(alloc: Global, message: &Message) -> Result<ListOf<u8>, AllocError>
-    ensures { IfOk result (λ text. text ≡ compact_text (properties_wire message.now)) }
+    ensures value { IfOk result (λ text. text ≡ compact_text (properties_wire message.now)) }
+    ensures utf8 { IfOk result (λ text. IsUtf8 text) }
+    ensures checked { fits message.now ≡ true }
 {
     let mut out = new_writer(alloc);
     write_properties(&mut out, message)?;
@@ -96,7 +104,8 @@ fn properties_of(alloc: Global, message: &Message) -> Result<ListOf<u8>, AllocEr
 }
 
 fn headers_of(alloc: Global, message: &Message) -> Result<ListOf<u8>, AllocError>
-    ensures { IfOk result (λ text. text ≡ compact_text (headers_wire message.now)) }
+    ensures value { IfOk result (λ text. text ≡ compact_text (headers_wire message.now)) }
+    ensures utf8 { IfOk result (λ text. IsUtf8 text) }
 {
     let mut out = new_writer(alloc);
     write_headers(&mut out, message)?;
@@ -104,16 +113,18 @@ fn headers_of(alloc: Global, message: &Message) -> Result<ListOf<u8>, AllocError
 }
 
 fn body_of(alloc: Global, message: &Message) -> Result<ListOf<u8>, AllocError>
-    ensures { IfOk result (λ text. text ≡ compact_text (body_wire message.now)) }
+    ensures value { IfOk result (λ text. text ≡ compact_text (body_wire message.now)) }
+    ensures utf8 { IfOk result (λ text. IsUtf8 text) }
 {
     let mut out = new_writer(alloc);
     write_body(&mut out, message)?;
     Ok(text_of(out))
 }
 
-/// The three texts of a message.
+/// The three texts of a message, which are read as the message.
 pub fn encode(alloc: Global, message: &Message) -> Result<Envelope, Memory>
     ensures texts { IfOk result (λ e. (e.properties ≡ compact_text (properties_wire message.now)) × (e.headers ≡ compact_text (headers_wire message.now)) × (e.body ≡ compact_text (body_wire message.now))) }
+    ensures reads_back { IfOk result (λ e. envelope_reading e.properties e.headers e.body ≡ Ok message.now) }
 {
     Ok(Envelope {
         properties: properties_of(alloc, message)?,

@@ -5,8 +5,8 @@ use Rattle.canvas_message.specs.Wire.{properties_wire}
 use Rattle.canvas_sig.proofs.Writers.{after_ok, then_tokens}
 use Rattle.canvas_message.proofs.encoding.write_properties.Goals as goal
 
-pub returns : goal.returns
-returns c =
+pub returns-clause-tokens : goal.returns-clause-tokens
+returns-clause-tokens c =
     let begun = c.in_ok-begin_object.ensures in
     let first = then_tokens c.args.out.now c.begin_object.new.self c.write_text.new.out (begin_object ∷ []) _ (begun.ok, begun.room.0) c.in_ok-write_text.ensures in
     let second = then_tokens c.args.out.now c.write_text.new.out c.write_text-2.new.out _ _ first c.in_ok-write_text-2.ensures in
