@@ -276,23 +276,18 @@ fn carried(alloc: Global, bodies: u32) -> Result<String, AllocError> {
 #[test]
 fn reach(rt: HostRuntime) -> Result<(), Fail> {
     let alloc = rt.alloc();
-    for (bodies, code) in [(31, 0), (32, 7)] {
-        let embed = format!(in alloc; r#"{{"chord":{}}}"#, carried(alloc, bodies)?)?;
+    let (own, last) = (r#"{"chord":"#, r#"{"chain":[$2","group_id":"@1","chord":"#);
+    for (headers, before, after, bodies, code) in [
+        (GROUP_HEADERS, own, "}", 31, 0),
+        (GROUP_HEADERS, own, "}", 32, 7),
+        (HEADERS, last, "}}]}", 30, 0),
+        (HEADERS, last, "}}]}", 31, 7),
+    ] {
+        let embed = format!(in alloc; "{before}{}{after}", carried(alloc, bodies)?)?;
         assert_eq!(rt;
-            embed_code(alloc, GROUP_HEADERS, &embed)?,
+            embed_code(alloc, headers, &embed)?,
             code,
-            "{bodies} bodies"
-        );
-    }
-    for (bodies, code) in [(30, 0), (31, 7)] {
-        let embed = format!(in alloc;
-            r#"{{"chain":[$2","group_id":"@1","chord":{}}}}}]}}"#,
-            carried(alloc, bodies)?
-        )?;
-        assert_eq!(rt;
-            embed_code(alloc, HEADERS, &embed)?,
-            code,
-            "{bodies} bodies on the line"
+            "{before} {bodies} bodies"
         );
     }
     Ok(())

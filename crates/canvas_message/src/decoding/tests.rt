@@ -149,23 +149,40 @@ fn fields_of_a_message(rt: HostRuntime) -> Result<(), Fail> {
 
 /// A text that was cut anywhere isn't JSON.
 #[test]
-fn cut_texts(rt: HostRuntime) -> Result<(), Fail> {
+fn cut_properties(rt: HostRuntime) -> Result<(), Fail> {
+    let alloc = rt.alloc();
+    let (text, headers) = (filled(alloc, PROPERTIES)?, filled(alloc, HEADERS)?);
+    let body = filled(alloc, BODY)?;
+    for length in 0..text.len() {
+        let cut = &text.as_bytes()[..length];
+        let read = read(alloc, cut, headers.as_bytes(), body.as_bytes());
+        assert_eq!(rt; number_of(read), 1, "after {length} bytes");
+    }
+    Ok(())
+}
+
+#[test]
+fn cut_headers(rt: HostRuntime) -> Result<(), Fail> {
+    let alloc = rt.alloc();
+    let (properties, text) = (filled(alloc, PROPERTIES)?, filled(alloc, HEADERS)?);
+    let body = filled(alloc, BODY)?;
+    for length in 0..text.len() {
+        let cut = &text.as_bytes()[..length];
+        let read = read(alloc, properties.as_bytes(), cut, body.as_bytes());
+        assert_eq!(rt; number_of(read), 1, "after {length} bytes");
+    }
+    Ok(())
+}
+
+#[test]
+fn cut_bodies(rt: HostRuntime) -> Result<(), Fail> {
     let alloc = rt.alloc();
     let (properties, headers) = (filled(alloc, PROPERTIES)?, filled(alloc, HEADERS)?);
-    let body = filled(alloc, BODY)?;
-    let (properties, headers) = (properties.as_bytes(), headers.as_bytes());
-    let body = body.as_bytes();
-    for length in 0..properties.len() {
-        let read = read(alloc, &properties[..length], headers, body);
-        assert_eq!(rt; number_of(read), 1, "properties after {length} bytes");
-    }
-    for length in 0..headers.len() {
-        let read = read(alloc, properties, &headers[..length], body);
-        assert_eq!(rt; number_of(read), 1, "headers after {length} bytes");
-    }
-    for length in 0..body.len() {
-        let read = read(alloc, properties, headers, &body[..length]);
-        assert_eq!(rt; number_of(read), 1, "body after {length} bytes");
+    let text = filled(alloc, BODY)?;
+    for length in 0..text.len() {
+        let cut = &text.as_bytes()[..length];
+        let read = read(alloc, properties.as_bytes(), headers.as_bytes(), cut);
+        assert_eq!(rt; number_of(read), 1, "after {length} bytes");
     }
     Ok(())
 }
