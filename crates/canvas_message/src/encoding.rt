@@ -1,6 +1,7 @@
 //! The envelope of a message.
 
 ghost use Rattle.std.specs.Prelude.{◌≡◌, IfOk, ◌++◌, ◌∷◌, [], codes};
+ghost use Rattle.std.specs.Str.{IsUtf8};
 ghost use Rattle.json.specs.Token.{begin_array, begin_object, string, key};
 ghost use Rattle.json.specs.Print.{print};
 ghost use Rattle.serde_json.specs.Data.{array, object};
@@ -76,7 +77,8 @@ fn write_body(out: &mut Writer, message: &Message) -> Result<(), AllocError>
 
 /// The bytes that were written.
 fn text_of(out: Writer) -> ListOf<u8>
-    ensures { result ≡ out.before ++ print out.tokens }
+    ensures bytes { result ≡ out.before ++ print out.tokens }
+    ensures utf8 { IsUtf8 (print out.tokens) }
 {
     ListOf::of(out.into_inner())
 }
@@ -88,7 +90,8 @@ fn new_writer(alloc: Global) -> Writer
 }
 
 fn properties_of(alloc: Global, message: &Message) -> Result<ListOf<u8>, AllocError>
-    ensures { IfOk result (λ text. text ≡ compact_text (properties_wire message.now)) }
+    ensures text { IfOk result (λ text. text ≡ compact_text (properties_wire message.now)) }
+    ensures utf8 { IfOk result (λ text. IsUtf8 text) }
 {
     let mut out = new_writer(alloc);
     write_properties(&mut out, message)?;
@@ -96,7 +99,8 @@ fn properties_of(alloc: Global, message: &Message) -> Result<ListOf<u8>, AllocEr
 }
 
 fn headers_of(alloc: Global, message: &Message) -> Result<ListOf<u8>, AllocError>
-    ensures { IfOk result (λ text. text ≡ compact_text (headers_wire message.now)) }
+    ensures text { IfOk result (λ text. text ≡ compact_text (headers_wire message.now)) }
+    ensures utf8 { IfOk result (λ text. IsUtf8 text) }
 {
     let mut out = new_writer(alloc);
     write_headers(&mut out, message)?;
@@ -104,7 +108,8 @@ fn headers_of(alloc: Global, message: &Message) -> Result<ListOf<u8>, AllocError
 }
 
 fn body_of(alloc: Global, message: &Message) -> Result<ListOf<u8>, AllocError>
-    ensures { IfOk result (λ text. text ≡ compact_text (body_wire message.now)) }
+    ensures text { IfOk result (λ text. text ≡ compact_text (body_wire message.now)) }
+    ensures utf8 { IfOk result (λ text. IsUtf8 text) }
 {
     let mut out = new_writer(alloc);
     write_body(&mut out, message)?;
