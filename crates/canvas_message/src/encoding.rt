@@ -119,6 +119,7 @@ fn body_of(alloc: Global, message: &Message) -> Result<ListOf<u8>, AllocError>
 /// The three texts of a message.
 pub fn encode(alloc: Global, message: &Message) -> Result<Envelope, Memory>
     ensures texts { IfOk result (λ e. (e.properties ≡ compact_text (properties_wire message.now)) × (e.headers ≡ compact_text (headers_wire message.now)) × (e.body ≡ compact_text (body_wire message.now))) }
+    ensures utf8 { IfOk result (λ e. IsUtf8 e.properties × IsUtf8 e.headers × IsUtf8 e.body) }
 {
     Ok(Envelope {
         properties: properties_of(alloc, message)?,
