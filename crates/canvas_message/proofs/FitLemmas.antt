@@ -1,13 +1,10 @@
 -- What the checks of a message's parts have seen.
-use Rattle.std.proofs.Common.{◌≡◌, ◌∙◌, ℕ, suc, List, [], ◌∷◌, ◌++◌, map, length, arith, Option, Some, None, Box, Global, Bool, true, false, refl, sym, ap, subst}
+use Rattle.std.proofs.Common.{◌≡◌, ◌∙◌, ℕ, suc, List, [], ◌∷◌, ◌++◌, map, length, arith, Option, Some, None, Box, Global, Bool, true, false, refl, sym, ap}
 use Rattle.std.specs.Prelude.{◌&&◌, ◌==◌, not, nat_lt}
 use Rattle.std.proofs.lemmas.Bool.Decides.{nat_tests}
-use Rattle.std.specs.Ordering.{nat_cmp}
-use Rattle.std.specs.Cmp.Lexicographic.{slice_cmp}
-use Rattle.std.specs.declared.cmp.Ordering.TheVariants.{Less}
 use Rattle.canvas_task.specs.declared.arg.Arg.{Arg}
 use Rattle.canvas_sig.specs.Writable.{IsBelow, Ascends}
-use Rattle.canvas_rewrite.specs.Placed.{PTask, p_task, PPlace, PLine, p_stop, p_step, p_group_end, p_chord_end}
+use Rattle.canvas_rewrite.specs.Placed.{PTask, PLine, p_stop, p_step, p_group_end, p_chord_end}
 use Rattle.canvas_rewrite.specs.FrozenView.{p_tasks_of, p_lines_of, p_steps}
 use Rattle.canvas_rewrite.specs.FrozenView.{p_task_view, p_line_view, p_end_view}
 use Rattle.canvas_rewrite.specs.declared.frozen.FrozenTask.{FrozenTask}

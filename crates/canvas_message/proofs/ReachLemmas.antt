@@ -1,5 +1,5 @@
 -- The reach past the limit is the same whatever is past it.
-use Rattle.std.proofs.Common.{◌≡◌, ◌∙◌, ℕ, ◌+◌, ◌-◌, max, arith, List, [], ◌∷◌, ◌++◌, map, length, Option, Some, None, Box, Global, Bool, true, false, refl, sym, ap, subst}
+use Rattle.std.proofs.Common.{◌≡◌, ◌∙◌, ℕ, ◌+◌, max, arith, List, [], ◌∷◌, ◌++◌, map, Option, Some, None, Box, Global, true, false, refl, sym, ap, subst}
 use Rattle.canvas_sig.specs.LineReach.{capped, above}
 use Rattle.canvas_rewrite.specs.Placed.{PTask, p_task, PLine, p_stop, p_step, p_group_end, p_chord_end, PLines, no_p_lines, and_p_line}
 use Rattle.canvas_rewrite.specs.FrozenView.{p_tasks_of, p_steps}
@@ -7,7 +7,7 @@ use Rattle.canvas_rewrite.specs.FrozenView.{p_lines_of, p_task_view, p_line_view
 use Rattle.canvas_rewrite.specs.declared.frozen.FrozenTask.{FrozenTask, out-FrozenTask}
 use Rattle.canvas_rewrite.specs.declared.frozen.FrozenLine.{FrozenLine, out-FrozenLine}
 use Rattle.canvas_rewrite.specs.declared.frozen.FrozenEnd.{FrozenEnd, out-FrozenEnd}
-use Rattle.canvas_message.proofs.Seen.{task_seen, line_none, line_some, line_last, end_none, end_some}
+use Rattle.canvas_message.proofs.Seen.{task_seen, line_some, line_last, end_none, end_some}
 use Rattle.canvas_message.specs.View.{place_seen}
 use Rattle.canvas_message.specs.Fits.{task_reach, tasks_reach, place_reach, line_reach, greatest_reach, members_reach}
 use Rattle.canvas_message.specs.Parts.{is_stop, is_longer}

@@ -1,13 +1,11 @@
 -- The tokens of JSON that a message is written as.
 use Rattle.std.specs.Prelude.{ℕ, Bool, false, List, [], ◌∷◌, ◌++◌, Option, Some, None, decimal, codes}
-use Rattle.json.specs.Token.{Token, begin_array, end_array, begin_object, end_object, key, string, number}
-use Rattle.serde_json.specs.Data.{Data, null, Items, no_items, item, Members}
-use Rattle.canvas_task.specs.declared.arg.Arg.{Arg}
-use Rattle.canvas_sig.specs.Tokens.{data_tokens, rest_tokens, rest_members, front_tokens, flag_tokens, kwargs_tokens, link_tokens, member_tokens, kind_tokens, name_tokens}
-use Rattle.canvas_sig.specs.Writing.{args_wire, kwargs_wire}
-use Rattle.canvas_rewrite.specs.Placed.{PTask, PPlace, p_nowhere, p_group, p_chord, PLine, p_stop, p_step, p_group_end, p_chord_end, PLines, no_p_lines}
-use Rattle.canvas_message.specs.Content.{Content, number_of, call_of, links_of, errbacks_of, place_of}
-use Rattle.canvas_message.specs.Wire.{task_id, group_id, parent_id, place_id, group_options, task_wire, tasks_wire, carried_wire, line_wire, elements_wire, onto_reversed, list_or_null, embed_wire}
+use Rattle.json.specs.Token.{Token, begin_object, end_object, key, number}
+use Rattle.serde_json.specs.Data.{Data, null, Items, no_items, Members}
+use Rattle.canvas_sig.specs.Tokens.{data_tokens, front_tokens, flag_tokens, kwargs_tokens, link_tokens, member_tokens, kind_tokens, name_tokens}
+use Rattle.canvas_rewrite.specs.Placed.{PTask, PPlace, PLine, p_stop, p_step, p_group_end, p_chord_end, PLines, no_p_lines}
+use Rattle.canvas_message.specs.Content.{number_of, links_of, errbacks_of, place_of}
+use Rattle.canvas_message.specs.Wire.{task_id, group_id, place_id, task_wire, tasks_wire, carried_wire, line_wire, elements_wire, onto_reversed, list_or_null}
 
 -- a member
 abbrev pub named_tokens : List ℕ → Data → List Token

@@ -132,3 +132,6 @@ pub fn encode(alloc: Global, message: &Message) -> Result<Envelope, Memory>
         body: body_of(alloc, message)?,
     })
 }
+
+#[cfg(test)]
+mod tests;

@@ -1,13 +1,13 @@
-use Rattle.std.proofs.Common.{rules, ◌≡◌, [], ◌∷◌, ◌++◌, map, codes, Some, None, sym, ap, ap₂, ◌∙◌, append_assoc, append-nil, refl}
+use Rattle.std.proofs.Common.{rules, [], ◌∷◌, ◌++◌, map, codes, Some, None, sym, ap, ap₂, ◌∙◌, append-nil, refl}
 use Rattle.json.specs.Token.{key, end_array}
 use Rattle.canvas_sig.specs.Tokens.{data_tokens, link_tokens}
 use Rattle.canvas_rewrite.specs.FrozenView.{p_tasks_of, p_task_view, p_line_view, p_end_view}
-use Rattle.canvas_message.specs.Tokens.{each_tokens, tail_tokens, named_tokens}
+use Rattle.canvas_message.specs.Tokens.{named_tokens}
 use Rattle.canvas_message.specs.Wire.{tasks_wire, line_wire, elements_wire}
 use Rattle.canvas_rewrite.specs.declared.frozen.Carried.{out-Carried}
 use Rattle.canvas_sig.proofs.Writers.{after_ok, then_tokens}
-use Rattle.canvas_message.proofs.TaskTokens.{task_tokens, a_chord, chain_written, task_written, chord_written, group_written, some_link, links_are, alike}
-use Rattle.canvas_message.proofs.LineTokens.{elements_written, no_tail, a_tail, is_end, is_chain_to_end, is_task, is_chain}
+use Rattle.canvas_message.proofs.TaskTokens.{a_chord, chain_written, task_written, chord_written, group_written, some_link, links_are, alike}
+use Rattle.canvas_message.proofs.LineTokens.{elements_written, no_tail, a_tail, is_chain_to_end, is_task, is_chain}
 use Rattle.canvas_message.proofs.write.frozen.+write_task.Goals as goal
 
 pub write_chain-returns : goal.write_chain-returns
