@@ -122,8 +122,3 @@ pub fn decode(alloc: Global, envelope: &Envelope) -> Result<Message, MessageFaul
     let body = parsed(alloc, envelope.body.get())?;
     read_message(alloc, &properties, &headers, &body)
 }
-
-#[cfg(test)]
-mod embed_tests;
-#[cfg(test)]
-mod tests;

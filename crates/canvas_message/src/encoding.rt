@@ -132,6 +132,3 @@ pub fn encode(alloc: Global, message: &Message) -> Result<Envelope, Memory>
         body: body_of(alloc, message)?,
     })
 }
-
-#[cfg(test)]
-mod tests;

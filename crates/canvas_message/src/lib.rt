@@ -17,6 +17,3 @@ pub use encoding::encode;
 pub use envelope::Envelope;
 pub use fault::MessageFault;
 pub use message::Message;
-
-#[cfg(test)]
-mod tests;

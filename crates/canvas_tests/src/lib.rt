@@ -6,7 +6,13 @@ mod composed;
 #[cfg(test)]
 mod definition;
 #[cfg(test)]
+mod embeds;
+#[cfg(test)]
+mod envelopes;
+#[cfg(test)]
 mod lines;
+#[cfg(test)]
+mod messages;
 #[cfg(test)]
 mod notation;
 #[cfg(test)]

@@ -12,4 +12,4 @@ invariant_of-result c =
     (search rules)
     (c.in_ok-with_input.ensures
     ∙ ap (λ n. if (out-FrozenTask c.in-Some-split_first.task).immutable then (out-FrozenTask c.in-Some-split_first.task).args else Num n ∷ (out-FrozenTask c.in-Some-split_first.task).args)
-      (to_z-of_z w64 c.args.input (search rules)))
+    (to_z-of_z w64 c.args.input (search rules)))

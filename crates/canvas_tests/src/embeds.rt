@@ -1,6 +1,6 @@
 //! What goes with a call, and its refusals: all of them 7.
 
-use super::tests::{embed_code, filled};
+use crate::envelopes::{embed_code, filled};
 use std::alloc::{AllocError, Global};
 use std::test::Fail;
 

@@ -1,6 +1,6 @@
 //! Texts of messages, as the definition has them.
 
-use crate::{Draft, Message, encode};
+use canvas_message::{Draft, Message, encode};
 use canvas_rewrite::{Carried, FrozenLine, FrozenTask, Place};
 use canvas_task::{Arg, GroupNo, ListOf, MapOf, TaskNo, TextOf};
 use std::alloc::{AllocError, Global};

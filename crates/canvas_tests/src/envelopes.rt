@@ -1,7 +1,6 @@
 //! Envelopes and their refusals. The numbers were worked out by hand from the rules of messages.
 
-use super::decode;
-use crate::{Envelope, Message, MessageFault};
+use canvas_message::{Envelope, Message, MessageFault, decode};
 use canvas_task::{ListOf, TaskNo};
 use std::alloc::{AllocError, Global};
 use std::test::Fail;
@@ -27,7 +26,7 @@ const CHORD: &str =
 
 /// A text where `%` and `@` begin the identifiers of tasks and groups, `$` a frozen task, `&` a group
 /// and `^` a chord.
-pub(super) fn filled(alloc: Global, text: &str) -> Result<String, AllocError> {
+pub(crate) fn filled(alloc: Global, text: &str) -> Result<String, AllocError> {
     let mut all = String::new(alloc);
     for c in text.chars() {
         match c {
@@ -82,7 +81,7 @@ fn code_of(alloc: Global, properties: &str, headers: &str, body: &str) -> Result
 }
 
 /// The same of a call without arguments, and what goes with it.
-pub(super) fn embed_code(alloc: Global, headers: &str, embed: &str) -> Result<u8, AllocError> {
+pub(crate) fn embed_code(alloc: Global, headers: &str, embed: &str) -> Result<u8, AllocError> {
     let body = format!(in alloc; "[[],{{}},{embed}]")?;
     code_of(alloc, PLAIN, headers, &body)
 }
