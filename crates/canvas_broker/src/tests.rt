@@ -236,18 +236,19 @@ fn batches_keep_the_order(rt: HostRuntime) -> Result<(), Fail> {
     Ok(())
 }
 
-/// What was accepted of 40 numbered envelopes, as the sum of their numbers. None where a refused one came back as another.
+/// What was accepted of the envelopes numbered from 1 up to `end`, as the sum of their numbers. None where a refused one came back as another.
 fn accepted<R: Wait>(
     rt: &R,
     alloc: Global,
     broker: &Broker,
     mut pass: BrokerPass,
+    end: u64,
 ) -> (BrokerPass, Option<u64>)
     requires { pass.of ≡ broker.now }
     ensures { result.0.of ≡ broker.now }
 {
     let mut sum = 0u64;
-    for number in 1..41u64 {
+    for number in 1..end {
         if let Some(envelope) = numbered(alloc, number) {
             match broker.publish(rt, &mut pass, envelope) {
                 Ok(()) => sum = sum.wrapping_add(number),
@@ -278,12 +279,13 @@ fn left<R: Wait>(rt: &R, broker: &Broker, mut pass: BrokerPass) -> Option<u64>
     Some(sum)
 }
 
-/// Whether a broker holds what was accepted, with a split in between that may be refused.
-fn holds_accepted<R: Wait>(rt: &R, alloc: Global) -> bool {
+/// Whether a broker holds what was accepted, with a split in between that may be refused. The split's mark takes memory
+/// where it begins a block of the queue.
+fn holds_accepted<R: Wait>(rt: &R, alloc: Global, end: u64) -> bool {
     let Ok((broker, pass)) = Broker::new(alloc) else {
         return true;
     };
-    let (mut pass, sum) = accepted(rt, alloc, &broker, pass);
+    let (mut pass, sum) = accepted(rt, alloc, &broker, pass, end);
     if let Ok(other) = broker.split(rt, &mut pass) {
         broker.join(rt, &mut pass, other);
     }
@@ -314,6 +316,7 @@ fn plain_holds_accepted(alloc: Global) -> bool {
 /// It has to pass whichever of its allocations is refused.
 #[test]
 fn refusals_change_nothing(rt: HostRuntime) {
-    assert!(rt; holds_accepted(&rt, rt.alloc()));
+    assert!(rt; holds_accepted(&rt, rt.alloc(), 31));
+    assert!(rt; holds_accepted(&rt, rt.alloc(), 41));
     assert!(rt; plain_holds_accepted(rt.alloc()));
 }
