@@ -4,7 +4,8 @@ use Rattle.canvas_task.specs.declared.outcome.Outcome.{Outcome}
 use Rattle.canvas_rewrite.specs.Eval.{State, passed_on}
 use Rattle.canvas_engine.specs.Plain.{Begins, states_of}
 use Rattle.canvas_message.specs.Content.{Content}
-use Rattle.canvas_engine.specs.Messages.{outcome_of, content_states, steps_in}
+use Rattle.canvas_message.specs.Effects.{outcome_of}
+use Rattle.canvas_engine.specs.Messages.{content_states, steps_in}
 
 pub one_more : (rows before : List State) (s : State) (more : List State) → rows ≡ before ++ s ∷ [] → Begins rows (before ++ (s ∷ more))
 one_more rows before s more e = (more, ap (λ xs. xs ++ more) e ∙ append_assoc before (s ∷ []) more)

@@ -1,138 +1,148 @@
--- The first message of a plan of tasks, and the states that it stands for.
-use Rattle.std.proofs.Common.{◌≡◌, ℕ, List, [], ◌∷◌, ◌++◌, map, length, Bool, true, false, ◌&&◌, Option, Some, None, Box, Global, refl, sym, ap, ap₂, subst, ◌∙◌, true≢false}
-use Rattle.std.specs.Prelude.{if◌then◌else◌}
+-- What a plan of tasks begins with, and the states that it stands for.
+use Rattle.std.proofs.Common.{◌≡◌, ℕ, List, [], ◌∷◌, ◌++◌, map, Bool, true, false, ◌&&◌, Option, Some, None, refl, sym, ap, ap₂, subst, ◌∙◌, option_to_list, length, length-append, arith}
+use Rattle.std.specs.Prelude.{ℤ, if◌then◌else◌}
 use Rattle.canvas_task.specs.Apply.{apply}
-use Rattle.canvas_task.specs.declared.arg.Arg.{Arg}
+use Rattle.canvas_task.specs.declared.outcome.Outcome.{Outcome}
+use Rattle.canvas_task.specs.declared.outcome.Outcome.TheVariants.{Success, Failure}
 use Rattle.canvas_sig.specs.Tree.{Call, Task, task, Tasks, no_tasks, and_task}
-use Rattle.canvas_rewrite.specs.Eval.{Flow, nothing, State, state, passed_on, arguments}
-use Rattle.canvas_rewrite.specs.Frozen.{Line, stop, step, elements_of, tree_of, number_line}
-use Rattle.canvas_rewrite.specs.FrozenView.{p_steps, steps, p_task_view, p_line_view, task_in, line_in}
-use Rattle.canvas_rewrite.specs.Placed.{PTask, p_task, no_p_tasks, p_nowhere, PLine, p_stop, p_step, strip, strip_task, bare, bare_task}
-use Rattle.canvas_rewrite.specs.Planned.{IsPlan}
+use Rattle.canvas_rewrite.specs.Eval.{Flow, nothing, num, State, state, passed_on, eval_chain, arguments}
+use Rattle.canvas_rewrite.specs.Frozen.{Line, stop, step, group_end, chord_end, elements_of, tree_of, number_line}
+use Rattle.canvas_rewrite.specs.Placed.{PTask, p_task, PTasks, no_p_tasks, and_p_task, PPlace, p_nowhere, p_group, p_chord, PLine, p_stop, p_step, p_group_end, p_chord_end, bare, bare_task, strip_task}
 use Rattle.canvas_rewrite.specs.States.{states}
-use Rattle.canvas_rewrite.specs.declared.frozen.FrozenTask.{FrozenTask, out-FrozenTask}
-use Rattle.canvas_rewrite.specs.declared.frozen.FrozenLine.{FrozenLine, out-FrozenLine, roll-FrozenLine}
-use Rattle.canvas_rewrite.specs.declared.frozen.FrozenEnd.{FrozenEnd}
-use Rattle.canvas_rewrite.proofs.FrozenViews.{made_line}
-use Rattle.canvas_rewrite.proofs.Numbered.{strip_bare}
-use Rattle.canvas_rewrite.proofs.PlanLines.{in_none}
-use Rattle.canvas_message.specs.Content.{Content}
-use Rattle.canvas_message.specs.Fits.{fits}
-use Rattle.canvas_message.specs.View.{content, rest_seen}
-use Rattle.canvas_engine.specs.Plain.{is_plain_task, are_plain, states_of, Begins}
-use Rattle.canvas_engine.specs.Messages.{steps_in, lone, lone_line, outcome_of, content_states, option_states}
-use Rattle.canvas_engine.proofs.FirstFits.{whole, opening, first_content, first_fits}
-use Rattle.canvas_engine.proofs.PlainStates.{both, plain_states}
-use Rattle.canvas_engine.proofs.Seen.{call_in, task_seen, plain_ended}
+use Rattle.canvas_rewrite.proofs.RowNumbers.{states_in}
+use Rattle.canvas_message.specs.Content.{Content, line}
+use Rattle.canvas_message.specs.Effects.{after, first_messages, message, outcome_of}
+use Rattle.canvas_message.specs.Flowing as flowing
+use Rattle.canvas_message.specs.Placing.{last_at, placed, end_place}
+use Rattle.canvas_engine.specs.Plain.{is_plain_task, are_plain, states_of}
+use Rattle.canvas_engine.specs.Messages.{steps_in, is_lone, is_lone_task, option_lone, content_states, option_states}
+use Rattle.canvas_engine.proofs.PlainStates.{both, numbered_states}
 
--- ---- copies
+-- ---- lines of tasks alone
 
-each_lone : (ts : List FrozenTask) → map (λ t. lone (task_in t)) ts ≡ map lone (map task_in ts)
-each_lone [] = refl
-each_lone (t ∷ ts) = ap (λ xs. lone (task_in t) ∷ xs) (each_lone ts)
+-- at most one message, of a line of such tasks, with these states
+abbrev pub Alone : List Content → List State → Type 0
+Alone [] ss = [] ≡ ss
+Alone (m ∷ []) ss = (content_states m ≡ ss) × (is_lone (line m) ≡ true)
+Alone (m ∷ n ∷ ms) ss = ⊥
 
-pub copied_line : (copies ts : List FrozenTask) → map p_task_view copies ≡ map (λ t. lone (task_in t)) ts
-    → p_line_view (roll-FrozenLine (record { tasks = copies; tail = None })) ≡ lone_line (map task_in ts)
-copied_line copies ts h = made_line copies ∙ ap (λ xs. p_steps xs p_stop) (h ∙ each_lone ts)
+tasks_in : Line → List Task
+tasks_in stop = []
+tasks_in (step t l) = t ∷ tasks_in l
+tasks_in (group_end g ms) = []
+tasks_in (chord_end g ms b) = []
 
--- ---- a plan of tasks alone
+rows_of : (l : Line) (x : Flow) → are_plain (elements_of l) ≡ true → states_in (eval_chain (elements_of l) x).rows ≡ states_of (tasks_in l) x
+unfolding tasks_in
+rows_of stop x h = refl
+rows_of (step (task k call no_tasks no_tasks) l) x h = ap (λ ss. state call (Some x) ∷ ss) (rows_of l (passed_on (state call (Some x))) h)
+rows_of (step (task k call (and_task t ls) es) l) x h = absurd cc
+rows_of (step (task k call no_tasks (and_task t es)) l) x h = absurd cc
+rows_of (group_end g ms) x h = absurd cc
+rows_of (chord_end g ms b) x h = absurd cc
 
--- the tasks that a plan begins with
-abbrev first_tasks : Line → List Task
-first_tasks l = steps_in (bare l)
+steps_of_bare : (l : Line) → are_plain (elements_of l) ≡ true → steps_in (bare l) ≡ tasks_in l
+unfolding tasks_in
+steps_of_bare stop h = refl
+steps_of_bare (step (task k call no_tasks no_tasks) l) h = ap (λ ts. task k call no_tasks no_tasks ∷ ts) (steps_of_bare l h)
+steps_of_bare (step (task k call (and_task t ls) es) l) h = absurd cc
+steps_of_bare (step (task k call no_tasks (and_task t es)) l) h = absurd cc
+steps_of_bare (group_end g ms) h = absurd cc
+steps_of_bare (chord_end g ms b) h = absurd cc
 
-by_tail : (all : Line) (l : FrozenLine) (o : Option (Box FrozenEnd Global)) → (out-FrozenLine l).tail ≡ o → line_in l ≡ all → are_plain (elements_of all) ≡ true
-    → all ≡ steps (map task_in (out-FrozenLine l).tasks) stop
-by_tail all l None e same plain = sym same ∙ in_none l e
-by_tail all l (Some b) e same plain = absurd (true≢false (sym plain ∙ ap (λ x. are_plain (elements_of x)) (sym same) ∙ sym (plain_ended l b e)))
+lone_bare : (l : Line) → are_plain (elements_of l) ≡ true → is_lone (bare l) ≡ true
+lone_bare stop h = refl
+lone_bare (step (task k call no_tasks no_tasks) l) h = lone_bare l h
+lone_bare (step (task k call (and_task t ls) es) l) h = absurd cc
+lone_bare (step (task k call no_tasks (and_task t es)) l) h = absurd cc
+lone_bare (group_end g ms) h = absurd cc
+lone_bare (chord_end g ms b) h = absurd cc
 
-pub whole_is : (all : Line) (l : FrozenLine) → p_line_view l ≡ bare all → are_plain (elements_of all) ≡ true → all ≡ steps (map task_in (out-FrozenLine l).tasks) stop
-whole_is all l seen plain = by_tail all l (out-FrozenLine l).tail refl (ap strip seen ∙ strip_bare all) plain
+-- ---- nothing in such a line has a place
 
-lone_is : (t : Task) → is_plain_task t ≡ true → lone t ≡ bare_task t
-lone_is (task k call no_tasks no_tasks) h = refl
-lone_is (task k call (and_task t ts) errbacks) h = absurd cc
-lone_is (task k call no_tasks (and_task t ts)) h = absurd cc
+-- the call of a task that stands alone
+alone_as : (P : PTask → Type 0) → ((k : ℕ) (call : Call) → P (p_task k call no_p_tasks no_p_tasks p_nowhere)) → (t : PTask) → is_lone_task t ≡ true → P t
+alone_as P f (p_task k call no_p_tasks no_p_tasks p_nowhere) h = f k call
+alone_as P f (p_task k call no_p_tasks no_p_tasks (p_group g)) h = absurd cc
+alone_as P f (p_task k call no_p_tasks no_p_tasks (p_chord g n b)) h = absurd cc
+alone_as P f (p_task k call no_p_tasks (and_p_task t es) place) h = absurd cc
+alone_as P f (p_task k call (and_p_task t ls) es place) h = absurd cc
 
-lone_lines : (ts : List Task) → are_plain (elements_of (steps ts stop)) ≡ true → lone_line ts ≡ bare (steps ts stop)
-lone_lines [] h = refl
-lone_lines (t ∷ ts) h = let p = both _ _ h in ap₂ p_step (lone_is t p.0) (lone_lines ts p.1)
+lone_place : (l : PLine) → is_lone l ≡ true → end_place l ≡ p_nowhere
+lone_place p_stop h = refl
+lone_place (p_step t p_stop) h = alone_as (λ u. end_place (p_step u p_stop) ≡ p_nowhere) (λ k call. refl) t (both (is_lone_task t) true h).0
+lone_place (p_step t (p_step u l)) h = lone_place (p_step u l) (both (is_lone_task t) (is_lone (p_step u l)) h).1
+lone_place (p_step t (p_group_end g ms)) h = let p = both (is_lone_task t) false h in absurd cc
+lone_place (p_step t (p_chord_end g ms b)) h = let p = both (is_lone_task t) false h in absurd cc
+lone_place (p_group_end g ms) h = absurd cc
+lone_place (p_chord_end g ms b) h = absurd cc
 
-stripped_is : (t : Task) → is_plain_task t ≡ true → strip_task (bare_task t) ≡ t
-stripped_is (task k call no_tasks no_tasks) h = refl
-stripped_is (task k call (and_task t ts) errbacks) h = absurd cc
-stripped_is (task k call no_tasks (and_task t ts)) h = absurd cc
+last_lone : (t : PTask) (l : PLine) → is_lone_task t ≡ true → last_at p_nowhere t l ≡ t
+last_lone t p_stop h = alone_as (λ u. last_at p_nowhere u p_stop ≡ u) (λ k call. refl) t h
+last_lone t (p_step u l) h = alone_as (λ v. last_at p_nowhere v (p_step u l) ≡ v) (λ k call. refl) t h
+last_lone t (p_group_end g ms) h = alone_as (λ v. last_at p_nowhere v (p_group_end g ms) ≡ v) (λ k call. refl) t h
+last_lone t (p_chord_end g ms b) h = alone_as (λ v. last_at p_nowhere v (p_chord_end g ms b) ≡ v) (λ k call. refl) t h
 
-steps_are : (ts : List Task) → are_plain (elements_of (steps ts stop)) ≡ true → steps_in (bare (steps ts stop)) ≡ ts
-steps_are [] h = refl
-steps_are (t ∷ ts) h = let p = both _ _ h in ap₂ (λ x xs. x ∷ xs) (stripped_is t p.0) (steps_are ts p.1)
+placed_lone : (l : PLine) → is_lone l ≡ true → placed p_nowhere l ≡ l
+placed_lone p_stop h = refl
+placed_lone (p_step t l) h = let p = both (is_lone_task t) (is_lone l) h in ap₂ p_step (last_lone t l p.0) (placed_lone l p.1)
+placed_lone (p_group_end g ms) h = absurd cc
+placed_lone (p_chord_end g ms b) h = absurd cc
 
--- ---- the message of the first task
+-- ---- messages of such lines
 
-content_is : (t : FrozenTask) (ts : List Task) (name : List ℕ) (args : List Arg) (kwargs : List (List ℕ × Arg)) (ls es : List FrozenTask) (rest : Option FrozenLine)
-    → name ≡ (out-FrozenTask t).name → args ≡ (out-FrozenTask t).args → kwargs ≡ (out-FrozenTask t).kwargs → ls ≡ [] → es ≡ [] → rest_seen rest ≡ lone_line ts
-    → are_plain (elements_of (steps ts stop)) ≡ true → content None (out-FrozenTask t).no name args kwargs ls es None rest ≡ first_content (task_in t) (steps ts stop)
-content_is t ts name args kwargs ls es rest hn ha hk hl he hr plain =
-    rw (hn, ha, hk, hl, he, hr, lone_lines ts plain) (sym (ap (λ x. first_content x (steps ts stop)) (task_seen t)))
+-- of a task that is run with an input, by what evaluation says of it
+message_alone : (u : Option ℕ) (t : PTask) (x : flowing.Input) (l : PLine) → is_lone_task t ≡ true → is_lone l ≡ true
+    → (content_states (message u t x l) ≡ states_of (strip_task t ∷ steps_in l) (flowing.input_flow x)) × (is_lone (line (message u t x l)) ≡ true)
+message_alone u t x l h more =
+    alone_as (λ v. (content_states (message u v x l) ≡ states_of (strip_task v ∷ steps_in l) (flowing.input_flow x)) × (is_lone (line (message u v x l)) ≡ true)) (λ k call. (refl, more)) t h
 
-by_flag : (b : Bool) (args : List Arg) → (if b then args else [] ++ args) ≡ args
-by_flag true args = refl
-by_flag false args = refl
+first_alone : (l : Line) → are_plain (elements_of l) ≡ true → Alone (first_messages l) (states_of (tasks_in l) nothing)
+unfolding tasks_in
+first_alone stop h = refl
+first_alone (step t l) h =
+    let lone : is_lone (bare (step t l)) ≡ true = lone_bare (step t l) h in
+    let p = both (is_lone_task (bare_task t)) (is_lone (bare l)) lone in
+    let its = message_alone None (bare_task t) flowing.nothing (bare l) p.0 p.1 in
+    let same : message None (last_at p_nowhere (bare_task t) (bare l)) flowing.nothing (placed p_nowhere (bare l)) ≡ message None (bare_task t) flowing.nothing (bare l) =
+    ap₂ (λ v r. message None v flowing.nothing r) (last_lone (bare_task t) (bare l) p.0) (placed_lone (bare l) p.1) in
+    (ap content_states same ∙ its.0 ∙ ap (λ ts. states_of ts nothing) (steps_of_bare (step t l) h), ap (λ m. is_lone (line m)) same ∙ its.1)
+first_alone (group_end g ms) h = absurd cc
+first_alone (chord_end g ms b) h = absurd cc
 
-arguments_are : (call : Call) → arguments call nothing ≡ call.args
-arguments_are call = by_flag call.immutable call.args
+-- the messages that a plan of tasks begins with
+pub plan_begins : (l : Line) → number_line 1 1 l ≡ l → are_plain (elements_of l) ≡ true → Alone (first_messages l) (states (tree_of l))
+plan_begins l numbered h = subst (Alone (first_messages l)) (sym (numbered_states l (sym numbered) ∙ rows_of l nothing h)) (first_alone l h)
 
-opening_states : (t : Task) (l : Line) → is_plain_task t ≡ true → content_states (first_content t l) ≡ states_of (steps_in (bare (step t l))) nothing
-opening_states (task k call no_tasks no_tasks) l h =
-    ap (λ args. Some (apply call.name args call.kwargs) ∷ states_of (steps_in (bare l)) (passed_on (Some (apply call.name args call.kwargs)))) (sym (arguments_are call))
-opening_states (task k call (and_task t ts) errbacks) l h = absurd cc
-opening_states (task k call no_tasks (and_task t ts)) l h = absurd cc
+-- and those that follow a task that succeeds
+next_alone : (parent : Option ℕ) (k : ℕ) (call : Call) (l : PLine) (n : ℤ) → is_lone l ≡ true
+    → Alone (after (record { parent = parent; own = p_task k call no_p_tasks no_p_tasks p_nowhere; rest = l }) (Success n)).messages (states_of (steps_in l) (num n))
+next_alone parent k call p_stop n h = refl
+next_alone parent k call (p_step t l) n h =
+    let p = both (is_lone_task t) (is_lone l) h in
+    let its = message_alone (Some k) t (flowing.number n) l p.0 p.1 in
+    let same : message (Some k) (last_at (end_place (p_step t l)) t l) (flowing.number n) (placed (end_place (p_step t l)) l) ≡ message (Some k) t (flowing.number n) l =
+    ap (λ q. message (Some k) (last_at q t l) (flowing.number n) (placed q l)) (lone_place (p_step t l) h)
+    ∙ ap₂ (λ v r. message (Some k) v (flowing.number n) r) (last_lone t l p.0) (placed_lone l p.1) in
+    (ap content_states same ∙ its.0, ap (λ m. is_lone (line m)) same ∙ its.1)
+next_alone parent k call (p_group_end g ms) n h = absurd cc
+next_alone parent k call (p_chord_end g ms b) n h = absurd cc
 
--- all of them
-pub plan_states : (all : Line) (l : FrozenLine) → p_line_view l ≡ bare all → all ≡ number_line 1 1 all → are_plain (elements_of all) ≡ true
-    → states_of (first_tasks all) nothing ≡ states (tree_of all)
-plan_states all l seen numbered plain =
-    let e = whole_is all l seen plain in
-    let same : line_in l ≡ all = ap strip seen ∙ strip_bare all in
-    ap (λ x. states_of (first_tasks x) nothing) e
-    ∙ ap (λ ts. states_of ts nothing) (steps_are (map task_in (out-FrozenLine l).tasks) (ap (λ x. are_plain (elements_of x)) (sym e) ∙ plain))
-    ∙ plain_states l (map task_in (out-FrozenLine l).tasks) refl (same ∙ numbered ∙ ap (number_line 1 1) (sym same)) (ap (λ x. are_plain (elements_of x)) same ∙ plain)
-    ∙ ap (λ x. states (tree_of x)) same
+pub goes_on : (c : Content) (n : ℤ) → is_lone (line c) ≡ true → Alone (after c (Success n)).messages (states_of (steps_in c.rest) (num n))
+goes_on c n h =
+    let p = both (is_lone_task c.own) (is_lone c.rest) h in
+    alone_as (λ t. Alone (after (record { parent = c.parent; own = t; rest = c.rest }) (Success n)).messages (states_of (steps_in c.rest) (num n)))
+    (λ k call. next_alone c.parent k call c.rest n p.1) c.own p.0
 
--- a plan's tasks, by what its line lends
-pub record First (all : Line) (t : FrozenTask) (ts : List FrozenTask) : Type 0 where
-  pub is : all ≡ step (task_in t) (steps (map task_in ts) stop)
-  pub here : is_plain_task (task_in t) ≡ true
-  pub later : are_plain (elements_of (steps (map task_in ts) stop)) ≡ true
+-- ---- the only message of a list
 
-pub first_of : (all : Line) (l : FrozenLine) (lent : List FrozenTask) (t : FrozenTask) (ts : List FrozenTask) → p_line_view l ≡ bare all → are_plain (elements_of all) ≡ true
-    → lent ≡ (out-FrozenLine l).tasks → lent ≡ t ∷ ts → First all t ts
-first_of all l lent t ts seen plain same split =
-    let e : all ≡ step (task_in t) (steps (map task_in ts) stop) = whole_is all l seen plain ∙ ap (λ xs. steps (map task_in xs) stop) (sym same ∙ split) in
-    let p = both (is_plain_task (task_in t)) (are_plain (elements_of (steps (map task_in ts) stop))) (ap (λ x. are_plain (elements_of x)) (sym e) ∙ plain) in
-    record { is = e; here = p.0; later = p.1 }
-
-pub first_ok : (all : Line) (t : FrozenTask) (ts : List FrozenTask) (name : List ℕ) (args : List Arg) (kwargs : List (List ℕ × Arg)) (ls es : List FrozenTask) (rest : Option FrozenLine)
-    → First all t ts → IsPlan all → are_plain (elements_of all) ≡ true
-    → name ≡ (out-FrozenTask t).name → args ≡ (out-FrozenTask t).args → kwargs ≡ (out-FrozenTask t).kwargs → ls ≡ [] → es ≡ [] → rest_seen rest ≡ lone_line (map task_in ts)
-    → fits (content None (out-FrozenTask t).no name args kwargs ls es None rest) ≡ true
-first_ok all t ts name args kwargs ls es rest f plan plain hn ha hk hl he hr =
-    ap fits (content_is t (map task_in ts) name args kwargs ls es rest hn ha hk hl he hr f.later) ∙ first_fits all (task_in t) (steps (map task_in ts) stop) f.is plan plain
-
-pub first_states : (all : Line) (l : FrozenLine) (t : FrozenTask) (ts : List FrozenTask) (name : List ℕ) (args : List Arg) (kwargs : List (List ℕ × Arg)) (ls es : List FrozenTask) (rest : Option FrozenLine)
-    → First all t ts → p_line_view l ≡ bare all → all ≡ number_line 1 1 all → are_plain (elements_of all) ≡ true
-    → name ≡ (out-FrozenTask t).name → args ≡ (out-FrozenTask t).args → kwargs ≡ (out-FrozenTask t).kwargs → ls ≡ [] → es ≡ [] → rest_seen rest ≡ lone_line (map task_in ts)
-    → content_states (content None (out-FrozenTask t).no name args kwargs ls es None rest) ≡ states (tree_of all)
-first_states all l t ts name args kwargs ls es rest f seen numbered plain hn ha hk hl he hr =
-    ap content_states (content_is t (map task_in ts) name args kwargs ls es rest hn ha hk hl he hr f.later) ∙ opening_states (task_in t) (steps (map task_in ts) stop) f.here
-    ∙ ap (λ x. states_of (first_tasks x) nothing) (sym f.is) ∙ plan_states all l seen numbered plain
-
-empty : {A : Type 0} (xs : List A) → length xs ≡ 0 → xs ≡ []
-empty [] h = refl
-empty (x ∷ xs) h = absurd cc
-
-pub no_first : (all : Line) (l : FrozenLine) (lent : List FrozenTask) → p_line_view l ≡ bare all → all ≡ number_line 1 1 all → are_plain (elements_of all) ≡ true
-    → lent ≡ (out-FrozenLine l).tasks → length lent ≡ 0 → [] ≡ states (tree_of all)
-no_first all l lent seen numbered plain same none =
-    ap (λ x. states_of (first_tasks x) nothing) (sym (whole_is all l seen plain ∙ ap (λ xs. steps (map task_in xs) stop) (sym same ∙ empty lent none)))
-    ∙ plan_states all l seen numbered plain
+pub popped : (m : Option Content) (old left : List Content) (ss : List State) → old ≡ left ++ option_to_list m → (m ≡ None → length old ≡ 0) → Alone old ss
+    → (option_states m ≡ ss) × (option_lone m ≡ true)
+popped None [] left ss h none alone = (alone, refl)
+popped (Some c) [] left ss h none alone =
+    let long : 0 ≡ length (left ++ c ∷ []) = ap length h in absurd (omega (arith, long, length-append left (c ∷ [])))
+popped None (x ∷ []) left ss h none alone = let short : 1 ≡ 0 = none refl in absurd (omega (arith, short))
+popped (Some c) (x ∷ []) [] ss h none alone = let same : x ≡ c = cc in subst (λ m. (content_states m ≡ ss) × (is_lone (line m) ≡ true)) same alone
+popped (Some c) (x ∷ []) (y ∷ ys) ss h none alone =
+    let long : 1 ≡ length ((y ∷ ys) ++ c ∷ []) = ap length h in absurd (omega (arith, long, length-append ys (c ∷ [])))
+popped m (x ∷ y ∷ xs) left ss h none alone = elim alone [ ]

@@ -6,6 +6,5 @@ pub mod RowLookups
 pub mod ReportLemmas
 pub mod SameText
 pub mod LineTasks
-pub mod FirstFits
 pub mod FirstMessage
 pub mod NextMessage

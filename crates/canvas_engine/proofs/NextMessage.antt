@@ -1,5 +1,5 @@
--- The message that follows another, and the states that it stands for.
-use Rattle.std.proofs.Common.{◌≡◌, ℕ, List, [], ◌∷◌, ◌++◌, map, Bool, true, Option, Some, None, Result, Ok, Err, OnOk, OnErr, append_assoc, length, length-append, ◌<◌, arith, refl, sym, ap, subst, ◌∙◌}
+-- A message that was run, and the states that it stands for.
+use Rattle.std.proofs.Common.{◌≡◌, ℕ, List, [], ◌∷◌, ◌++◌, map, Bool, true, Option, Some, None, Result, Ok, Err, OnOk, OnErr, append_assoc, length, length-append, ◌<◌, arith, refl, sym, ap, subst, ◌∙◌, option_to_list}
 use Rattle.std.specs.Prelude.{ℤ, if◌then◌else◌}
 use Rattle.canvas_task.specs.Apply.{IsInRange, apply}
 use Rattle.canvas_task.proofs.InRange.{apply_fits}
@@ -14,42 +14,20 @@ use Rattle.canvas_rewrite.specs.FrozenView.{p_tasks_of, p_task_view}
 use Rattle.canvas_rewrite.specs.Placed.{PTask, p_task, PLine, p_step, strip_task}
 use Rattle.canvas_rewrite.specs.declared.frozen.FrozenTask.{FrozenTask, out-FrozenTask}
 use Rattle.canvas_rewrite.specs.declared.frozen.FrozenLine.{FrozenLine}
-use Rattle.canvas_message.specs.Content.{Content, number_of}
+use Rattle.canvas_message.specs.Content.{Content, line}
+use Rattle.canvas_message.specs.Effects.{outcome_of}
 use Rattle.canvas_message.specs.Fits.{fits}
 use Rattle.canvas_message.specs.View.{content, place_seen, rest_seen}
 use Rattle.canvas_message.proofs.FitsOn.{given, next, started, next_fits}
 use Rattle.canvas_message.proofs.Seen.{called, task_seen}
 use Rattle.canvas_engine.specs.Plain.{states_of, Begins}
 use Rattle.canvas_message.specs.declared.fault.MessageFault.{MessageFault}
-use Rattle.canvas_engine.specs.Messages.{steps_in, outcome_of, content_states, read_states}
+use Rattle.canvas_engine.specs.Messages.{steps_in, content_states, option_states, read_states, read_lone, is_lone, option_lone}
+use Rattle.canvas_message.specs.Effects.{after}
 use Rattle.canvas_engine.proofs.Begun.{stored, on_err}
-
--- the fields of the message that follows
-next_is : (c : Content) (t : FrozenTask) (rest : Option FrozenLine) (n : ℤ) (args : List Arg) (k : ℕ) → k ≡ number_of c.own
-    → args ≡ (if (out-FrozenTask t).immutable then (out-FrozenTask t).args else arg.Num n ∷ (out-FrozenTask t).args)
-    → content (Some k) (out-FrozenTask t).no (out-FrozenTask t).name args (out-FrozenTask t).kwargs (out-FrozenTask t).links (out-FrozenTask t).errbacks (out-FrozenTask t).place rest
-    ≡ next c (p_task_view t) (rest_seen rest) n
-next_is c t rest n args k hk ha = rw (hk, ha) (ap (λ x. record { parent = Some (number_of c.own); own = started x n; rest = rest_seen rest }) (sym (task_seen t)))
-
-pub next_ok : (c : Content) (t : FrozenTask) (rest : Option FrozenLine) (n : ℤ) (args : List Arg) (k : ℕ) → fits c ≡ true → in_range n ≡ true → c.rest ≡ p_step (p_task_view t) (rest_seen rest)
-    → k ≡ number_of c.own → args ≡ (if (out-FrozenTask t).immutable then (out-FrozenTask t).args else arg.Num n ∷ (out-FrozenTask t).args)
-    → fits (content (Some k) (out-FrozenTask t).no (out-FrozenTask t).name args (out-FrozenTask t).kwargs (out-FrozenTask t).links (out-FrozenTask t).errbacks (out-FrozenTask t).place rest) ≡ true
-next_ok c t rest n args k ok h split hk ha = ap fits (next_is c t rest n args k hk ha) ∙ next_fits c (p_task_view t) (rest_seen rest) n h split ok
-
-started_states : (c : Content) (t : PTask) (l : PLine) (n : ℤ) → content_states (next c t l n) ≡ states_of (strip_task t ∷ steps_in l) (num n)
-started_states c (p_task k call links errbacks place) l n = refl
-
-pub next_states : (c : Content) (t : FrozenTask) (rest : Option FrozenLine) (n : ℤ) (args : List Arg) (k : ℕ) → c.rest ≡ p_step (p_task_view t) (rest_seen rest)
-    → k ≡ number_of c.own → args ≡ (if (out-FrozenTask t).immutable then (out-FrozenTask t).args else arg.Num n ∷ (out-FrozenTask t).args)
-    → content_states (content (Some k) (out-FrozenTask t).no (out-FrozenTask t).name args (out-FrozenTask t).kwargs (out-FrozenTask t).links (out-FrozenTask t).errbacks (out-FrozenTask t).place rest)
-    ≡ states_of (steps_in c.rest) (num n)
-next_states c t rest n args k split hk ha =
-    ap content_states (next_is c t rest n args k hk ha) ∙ started_states c (p_task_view t) (rest_seen rest) n ∙ ap (λ l. states_of (steps_in l) (num n)) (sym split)
+use Rattle.canvas_engine.proofs.FirstMessage.{Alone, goes_on, popped}
 
 -- ---- a message that was run
-
-pub number_fits : (o : Outcome) (n : ℤ) → o ≡ Success n → IsInRange o → in_range n ≡ true
-number_fits o n e h = subst IsInRange e h
 
 map_ok : {X E : Type 0} (r : Result X E) (P Q : Type 0) → OnOk r P → (P → Q) → OnOk r Q
 map_ok (Ok x) P Q h f = f h
@@ -85,3 +63,14 @@ read_begins r rows before read c e h = map_err r _ _ h (λ b. subst (λ x. Begin
 
 pub answer_fits : (o : Outcome) (name : List ℕ) (args : List Arg) (kwargs : List (List ℕ × Arg)) → o ≡ apply name args kwargs → IsInRange o
 answer_fits o name args kwargs e = subst IsInRange (sym e) (apply_fits name args kwargs)
+
+-- what is published of an envelope that reads as a message
+pub read_alone : (read : Result Content MessageFault) (c : Content) → read ≡ Ok c → read_lone read ≡ true → is_lone (line c) ≡ true
+read_alone read c same h = sym (ap read_lone same) ∙ h
+
+-- ---- the message that comes next
+
+pub next_states : (o : Outcome) (m : Option Content) (old left : List Content) (c : Content) → old ≡ (after c o).messages → old ≡ left ++ option_to_list m → (m ≡ None → length old ≡ 0) → is_lone (line c) ≡ true
+    → (n : ℤ) → o ≡ Success n → (option_states m ≡ states_of (steps_in c.rest) (num n)) × (option_lone m ≡ true)
+next_states o m old left c made popped_ none h n is =
+    popped m old left (states_of (steps_in c.rest) (num n)) popped_ none (subst (λ ms. Alone ms (states_of (steps_in c.rest) (num n))) (sym (made ∙ ap (λ x. (after c x).messages) is)) (goes_on c n h))

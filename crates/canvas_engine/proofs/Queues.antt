@@ -1,8 +1,9 @@
 -- A message that is run leaves less to be done.
-use Rattle.std.proofs.Common.{◌≡◌, ℕ, ◌<◌, ◌≤◌, ◌+◌, List, [], ◌∷◌, ◌++◌, length, length-append, append-nil, refl, arith, ap, sym, ◌∙◌}
+use Rattle.std.proofs.Common.{◌≡◌, ℕ, ◌<◌, ◌≤◌, ◌+◌, List, [], ◌∷◌, ◌++◌, length, length-append, append-nil, true, refl, arith, ap, sym, ◌∙◌}
 use Rattle.canvas_rewrite.specs.Eval.{State}
 use Rattle.canvas_message.specs.declared.envelope.Envelope.{Envelope}
-use Rattle.canvas_engine.specs.Messages.{envelope_states, queued_states}
+use Rattle.canvas_engine.specs.Messages.{envelope_lone, envelope_states, queued_lone, queued_states}
+use Rattle.canvas_engine.proofs.PlainStates.{both}
 
 pub no_others : (q popped : List Envelope) (e : Envelope) → q ≡ e ∷ popped → length q ≤ 1 → popped ≡ []
 no_others q [] e h low = refl
@@ -16,3 +17,6 @@ smaller rows after q left popped e h low same more =
     let one : length q ≡ 1 = ap length alone in
     let lengths : length (after ++ queued_states left) ≡ length (rows ++ envelope_states e) = ap length same in
     omega (arith, all, one, lengths, length-append after (queued_states left), length-append rows (envelope_states e))
+
+pub front_lone : (q popped : List Envelope) (e : Envelope) → q ≡ e ∷ popped → queued_lone q ≡ true → envelope_lone e ≡ true
+front_lone q popped e h lone = (both (envelope_lone e) (queued_lone popped) (sym (ap queued_lone h) ∙ lone)).0

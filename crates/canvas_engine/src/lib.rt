@@ -2,7 +2,6 @@
 #![tactic(auto)]
 
 mod fault;
-mod message;
 mod plain;
 mod report;
 mod report_rows;

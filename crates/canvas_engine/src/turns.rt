@@ -1,5 +1,5 @@
-ghost use Rattle.std.specs.Prelude.{◌≡◌, ◌≢◌, ◌++◌, ◌∷◌, ◌+◌, ◌<◌, ◌≤◌, [], Some, OnOk, OnErr, IfOk, IfErr, IsTrue, length, map};
-ghost use Rattle.canvas_rewrite.specs.Eval.{skip, nothing};
+ghost use Rattle.std.specs.Prelude.{◌≡◌, ◌≢◌, ◌++◌, ◌∷◌, ◌+◌, ◌<◌, ◌≤◌, [], Some, OnOk, OnErr, IfOk, IfErr, IsTrue, length, map, true, ℤ};
+ghost use Rattle.canvas_rewrite.specs.Eval.{skip, num};
 ghost use Rattle.canvas_rewrite.specs.FrozenView.{task_in};
 ghost use Rattle.canvas_engine.specs.Plain.{are_plain, states_of, Begins};
 ghost use Rattle.canvas_rewrite.specs.Frozen.{elements_of, tree_of};
@@ -7,11 +7,14 @@ ghost use Rattle.canvas_rewrite.specs.States.{states};
 ghost use Rattle.canvas_engine.specs.Runs.{HasBegun, IsRunFault};
 ghost use Rattle.canvas_message.specs.View.{rest_seen};
 ghost use Rattle.canvas_task.specs.Apply.{IsInRange};
-ghost use Rattle.canvas_engine.specs.Messages.{outcome_of, steps_in, content_states, option_states, envelope_states, queued_states};
+ghost use Rattle.canvas_message.specs.Content.{line};
+ghost use Rattle.canvas_message.specs.Effects.{outcome_of};
+ghost use Rattle.canvas_engine.specs.Messages.{steps_in, is_lone, option_lone, content_states, option_states, envelope_lone, envelope_states, queued_lone, queued_states};
+ghost use Rattle.canvas_task.specs.Words.{NumberInRange};
+ghost use Rattle.canvas_task.specs.declared.outcome.Outcome.TheVariants.{Success};
 
-use crate::message::{first_message, next_message};
 use crate::{Cause, Report, RunFault};
-use canvas_message::{Envelope, Message, MessageFault, decode, encode};
+use canvas_message::{Envelope, Message, MessageFault, decode, encode, first_messages};
 use canvas_rewrite::{FrozenLine, FrozenTask, Plan};
 use canvas_task::{Fault, ListOf, Memory, Outcome, apply};
 use std::alloc::Global;
@@ -47,8 +50,10 @@ fn publish(
     message: Option<Message>,
     queue: &mut VecDeque<Envelope>,
 ) -> Result<(), Memory>
-    requires { queue.old.items ≡ [] }
+    requires empty { queue.old.items ≡ [] }
+    requires lone { option_lone message ≡ true }
     ensures states { OnOk result (queued_states queue.new.items ≡ option_states message) }
+    ensures lone { queued_lone queue.new.items ≡ true }
     ensures few { length queue.new.items ≤ 1 }
     ensures err { OnErr result (queue.new.items ≡ []) }
 {
@@ -85,6 +90,28 @@ fn followers(message: &Message) -> &[FrozenTask]
     steps(&message.rest)
 }
 
+/// The message that a plan of tasks begins with, if there is a task.
+fn begin(alloc: Global, plan: &Plan) -> Result<Option<Message>, Memory>
+    requires { IsTrue (are_plain (elements_of plan.now)) }
+    ensures states { IfOk result (λ m. option_states m ≡ states (tree_of plan.now)) }
+    ensures lone { IfOk result (λ m. option_lone m ≡ true) }
+{
+    let mut messages = first_messages(alloc, plan)?;
+    Ok(messages.pop())
+}
+
+/// The message that follows another on its line, if one does.
+fn go_on(alloc: Global, message: Message, outcome: &Outcome) -> Result<Option<Message>, Memory>
+    requires lone { is_lone (line message) ≡ true }
+    requires outcome { NumberInRange outcome.now }
+    ensures states { IfOk result (λ m. (n : ℤ) → outcome.now ≡ Success n → option_states m ≡ states_of (steps_in message.rest) (num n)) }
+    ensures lone { IfOk result (λ m. (n : ℤ) → outcome.now ≡ Success n → option_lone m ≡ true) }
+{
+    let todo = message.into_todo(alloc, outcome)?;
+    let mut messages = todo.messages.into_plain();
+    Ok(messages.pop())
+}
+
 /// Runs a message: stores its task's outcome, and publishes what follows, or skips it where the task failed.
 fn run_message(
     alloc: Global,
@@ -92,8 +119,10 @@ fn run_message(
     queue: &mut VecDeque<Envelope>,
     rows: &mut Vec<Option<Outcome>>,
 ) -> Result<(), Memory>
-    requires { queue.old.items ≡ [] }
+    requires empty { queue.old.items ≡ [] }
+    requires lone { is_lone (line message) ≡ true }
     ensures ok { OnOk result (rows.new.items ++ queued_states queue.new.items ≡ rows.old.items ++ content_states message) }
+    ensures lone { queued_lone queue.new.items ≡ true }
     ensures more { OnOk result (length rows.old.items < length rows.new.items) }
     ensures few { OnOk result (length queue.new.items ≤ 1) }
     ensures err { OnErr result (Begins rows.new.items (rows.old.items ++ content_states message)) }
@@ -101,7 +130,7 @@ fn run_message(
     let outcome = outcome_of(&message);
     store(rows, outcome)?;
     match outcome {
-        Outcome::Success(number) => publish(alloc, next_message(message, number)?, queue),
+        Outcome::Success(_) => publish(alloc, go_on(alloc, message, &outcome)?, queue),
         Outcome::Failure(fault) => skip_all(followers(&message), &fault, rows),
     }
 }
@@ -113,8 +142,10 @@ fn run_envelope(
     queue: &mut VecDeque<Envelope>,
     rows: &mut Vec<Option<Outcome>>,
 ) -> Result<(), Memory>
-    requires { queue.old.items ≡ [] }
+    requires empty { queue.old.items ≡ [] }
+    requires lone { envelope_lone envelope.now ≡ true }
     ensures ok { OnOk result (rows.new.items ++ queued_states queue.new.items ≡ rows.old.items ++ envelope_states envelope.now) }
+    ensures lone { queued_lone queue.new.items ≡ true }
     ensures more { OnOk result (length rows.old.items + length queue.new.items ≤ length rows.new.items) }
     ensures few { OnOk result (length queue.new.items ≤ 1) }
     ensures err { OnErr result (Begins rows.new.items (rows.old.items ++ envelope_states envelope.now)) }
@@ -132,7 +163,8 @@ fn drain(
     queue: &mut VecDeque<Envelope>,
     rows: &mut Vec<Option<Outcome>>,
 ) -> Result<(), Memory>
-    requires { length queue.old.items ≤ 1 }
+    requires few { length queue.old.items ≤ 1 }
+    requires lone { queued_lone queue.old.items ≡ true }
     ensures ok { OnOk result (rows.new.items ≡ rows.old.items ++ queued_states queue.old.items) }
     ensures err { OnErr result (Begins rows.new.items (rows.old.items ++ queued_states queue.old.items)) }
 {
@@ -149,7 +181,7 @@ fn run_tasks(alloc: Global, plan: &Plan, rows: &mut Vec<Option<Outcome>>) -> Res
     ensures err { OnErr result (Begins rows.new.items (rows.old.items ++ states (tree_of plan.now))) }
 {
     let mut queue = VecDeque::new(alloc);
-    publish(alloc, first_message(alloc, plan)?, &mut queue)?;
+    publish(alloc, begin(alloc, plan)?, &mut queue)?;
     drain(alloc, &mut queue, rows)
 }
 

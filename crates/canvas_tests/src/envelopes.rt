@@ -47,7 +47,7 @@ fn copy(alloc: Global, text: &[u8]) -> Result<ListOf<u8>, AllocError> {
     Ok(ListOf::of(bytes))
 }
 
-fn read(
+pub(crate) fn read(
     alloc: Global,
     properties: &[u8],
     headers: &[u8],

@@ -2,13 +2,19 @@
 #![tactic(auto)]
 
 #[cfg(test)]
+mod backends;
+#[cfg(test)]
 mod composed;
 #[cfg(test)]
 mod definition;
 #[cfg(test)]
+mod effects;
+#[cfg(test)]
 mod embeds;
 #[cfg(test)]
 mod envelopes;
+#[cfg(test)]
+mod forged;
 #[cfg(test)]
 mod lines;
 #[cfg(test)]

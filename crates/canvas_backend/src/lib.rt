@@ -1,0 +1,16 @@
+//! The backend: outcomes of tasks and counts of returned members that threads share, with one legal history of its calls, and the same for one thread.
+#![tactic(auto)]
+
+mod backend;
+mod knowledge;
+mod laws;
+mod plain;
+mod roster;
+mod rule;
+mod slot;
+mod stored;
+
+pub use backend::{Backend, BackendSeat};
+pub use laws::{all_first, first_may, no_more, reads_first, still_may};
+pub use plain::PlainBackend;
+pub use stored::Stored;

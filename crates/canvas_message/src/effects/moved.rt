@@ -1,0 +1,137 @@
+//! What follows a message that is given up: the next task of its line takes over what it carries.
+
+ghost use Rattle.std.specs.Prelude.{◌≡◌, true, false, IfOk, MatchOption};
+ghost use Rattle.canvas_task.specs.Numbers.{in_range};
+ghost use Rattle.canvas_task.specs.Words.{NumberInRange};
+ghost use Rattle.canvas_task.specs.declared.outcome.Outcome.TheVariants.{Success};
+ghost use Rattle.canvas_rewrite.specs.FrozenView.{p_line_view, p_task_view};
+ghost use Rattle.canvas_rewrite.specs.Placed.{p_step};
+ghost use Rattle.canvas_message.specs.Effects.{after, message};
+ghost use Rattle.canvas_message.specs.Fits.{fits};
+ghost use Rattle.canvas_message.specs.Todos.{todo_view};
+ghost use Rattle.canvas_message.specs.View.{rest_seen};
+ghost use Rattle.canvas_message.specs.Walks.{input_seen, begins_with_task};
+
+use super::started::{call_back, parent_of, put_input};
+use super::{after, todo_of};
+use crate::input::Input;
+use crate::{Message, Todo};
+use canvas_rewrite::{FrozenLine, FrozenTask};
+use canvas_task::{ListOf, Memory, Outcome, TaskNo};
+use std::alloc::{AllocError, Global};
+
+impl Message {
+    /// What follows the end of this message's task, as `after` says, where the message isn't needed any more: the task that follows it
+    /// on its line takes over what it carries, and no copy is made of that.
+    pub fn into_todo(self, alloc: Global, outcome: &Outcome) -> Result<Todo, Memory>
+        requires { NumberInRange outcome.now }
+        ensures { IfOk result (λ todo. todo_view todo ≡ after self outcome.now) }
+    {
+        match outcome {
+            Outcome::Success(number) => {
+                if has_next(&self.rest) {
+                    Ok(hand_on(alloc, self, *number)?)
+                } else {
+                    after(alloc, &self, outcome)
+                }
+            }
+            Outcome::Failure(_) => after(alloc, &self, outcome),
+        }
+    }
+}
+
+/// Whether a task comes next on a line.
+fn has_next(rest: &Option<FrozenLine>) -> bool
+    ensures { result ≡ begins_with_task (rest_seen rest.now) }
+{
+    match rest {
+        Some(line) => !line.tasks.get().is_empty(),
+        None => false,
+    }
+}
+
+/// The task that comes next on a line, and what follows it.
+fn take_next(line: FrozenLine) -> Option<(FrozenTask, Option<FrozenLine>)>
+    ensures { MatchOption result (begins_with_task (p_line_view line) ≡ false) (λ p. p_line_view line ≡ p_step (p_task_view p.0) (rest_seen p.1)) }
+{
+    let FrozenLine { tasks, tail } = line;
+    let mut tasks = tasks.into_plain();
+    if tasks.is_empty() {
+        return None;
+    }
+    let next = tasks.remove(0);
+    if tasks.is_empty() && tail.is_none() {
+        return Some((next, None));
+    }
+    let tasks = ListOf::of(tasks);
+    Some((next, Some(FrozenLine { tasks, tail })))
+}
+
+fn take_rest(rest: Option<FrozenLine>) -> Option<(FrozenTask, Option<FrozenLine>)>
+    ensures { MatchOption result (begins_with_task (rest_seen rest) ≡ false) (λ p. rest_seen rest ≡ p_step (p_task_view p.0) (rest_seen p.1)) }
+{
+    match rest {
+        Some(line) => take_next(line),
+        None => None,
+    }
+}
+
+/// The message of a task that is run, which takes over what the task carries.
+fn message_from(
+    alloc: Global,
+    task: FrozenTask,
+    input: &Input,
+    parent: &Option<TaskNo>,
+    rest: Option<FrozenLine>,
+) -> Result<Message, AllocError>
+    requires { fits (message parent.now (p_task_view task) (input_seen input.now) (rest_seen rest)) ≡ true }
+    ensures { IfOk result (λ m. m ≡ message parent.now (p_task_view task) (input_seen input.now) (rest_seen rest)) }
+{
+    let FrozenTask {
+        no,
+        name,
+        args,
+        kwargs,
+        immutable,
+        links,
+        errbacks,
+        place,
+    } = task;
+    let args = put_input(alloc, args, immutable, input)?;
+    Ok(Message {
+        task: no,
+        name,
+        parent: parent_of(input, parent),
+        place,
+        args,
+        kwargs,
+        links,
+        errbacks,
+        rest,
+    })
+}
+
+/// The end of a task that succeeded and that another follows.
+fn hand_on(alloc: Global, message: Message, number: i64) -> Result<Todo, AllocError>
+    requires number { in_range number ≡ true }
+    requires next { begins_with_task message.rest ≡ true }
+    ensures { IfOk result (λ todo. todo_view todo ≡ after message (Success number)) }
+{
+    let Message {
+        task,
+        links,
+        rest,
+        ..
+    } = message;
+    let input = Input::Number(number);
+    let parent = Some(task);
+    let mut messages = Vec::new(alloc);
+    call_back(alloc, links.get(), &input, &parent, &mut messages)?;
+    match take_rest(rest) {
+        Some((next, rest)) => {
+            messages.push(message_from(alloc, next, &input, &parent, rest)?)?;
+            todo_of(Vec::new(alloc), messages, None)
+        }
+        None => todo_of(Vec::new(alloc), messages, None),
+    }
+}

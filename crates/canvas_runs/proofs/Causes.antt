@@ -1,0 +1,180 @@
+-- Each publish is by the caller that brought its event about, and a chord is completed at most once.
+use Rattle.std.proofs.Common.{⊎_elim, ◌≡◌, ℕ, suc, ◌≤◌, Bool, true, false, cond, eqb, List, [], ◌∷◌, length, Option, Some, None, refl, sym, ap, subst, ◌∙◌, inl, inr, arith}
+use Rattle.std.proofs.lemmas.Bool.{eqb-true, eq-eqb}
+use Rattle.canvas_task.specs.declared.outcome.Outcome.{Outcome}
+use Rattle.canvas_task.specs.History.{Entry, split, join, calls}
+use Rattle.canvas_rewrite.specs.Frozen.{Line, members}
+use Rattle.canvas_rewrite.specs.Planned.{IsPlan}
+use Rattle.canvas_rewrite.proofs.Members.{plan_apart}
+use Rattle.canvas_message.specs.Content.{Content, number_of}
+use Rattle.canvas_message.specs.Events.{In, Event, start, running, end_of, completion, DoesIn}
+use Rattle.canvas_message.specs.Job as job
+use Rattle.canvas_message.specs.declared.envelope.Envelope.{Envelope}
+use Rattle.canvas_backend.specs.declared.stored.Stored.TheVariants.{First, Again}
+use Rattle.canvas_backend.specs.Backend.{Log, Call, Reply, store, part, read, was, count, found, no_results}
+use Rattle.canvas_broker.specs.Broker.{Line as Entries, publish, take}
+use Rattle.canvas_runs.specs.Causes.{Brought, ByCause, ByItsCause, completes_one, completions}
+use Rattle.canvas_runs.specs.Following.{asking, replied}
+use Rattle.canvas_runs.specs.Calls.{published, BackendCall, stored, returned, has_read}
+use Rattle.canvas_runs.specs.Lists.{by, total, seconds}
+use Rattle.canvas_runs.specs.Logs.{queue_calls, table_calls}
+use Rattle.canvas_runs.specs.Run.{Run}
+use Rattle.canvas_runs.specs.Book.{book_of}
+use Rattle.canvas_runs.specs.Worker.{sealed, opened}
+use Rattle.canvas_runs.proofs.Bridges.{table_is, table_starts, publish_in}
+use Rattle.canvas_runs.proofs.Facts.{X, form, Does, order, value, once}
+use Rattle.canvas_runs.proofs.FirstLaw.{inner_run}
+use Rattle.canvas_runs.proofs.Histories.{GoodPublish, each_seconds}
+use Rattle.canvas_runs.proofs.OnceEach.{shows, shows_once, publishes_task, of_opened, is_event, one_caller}
+use Rattle.canvas_runs.proofs.Right.{IsRunSealed, publishes_right}
+use Rattle.canvas_runs.proofs.Sums.{total-le, find_heavy}
+use Rattle.canvas_runs.proofs.Words.{in_each}
+
+-- ---- entries and calls
+
+by_in : {A : Type 0} (p : ℕ) (c : A) (es : List (ℕ × A)) → In c (by p es) → In (p, c) es
+by_in p c [] i = elim i [ ]
+by_in {A} p c (e ∷ es) i = go (eqb e.0 p) refl (λ k. by_in p c es k) i
+  where
+    go : (b : Bool) → eqb e.0 p ≡ b → (In c (by p es) → In (p, c) es) → In c (cond b (e.1 ∷ by p es) (by p es)) → In (p, c) (e ∷ es)
+    go true h f (inl s) = inl (λ j. (sym (eqb-true e.0 p h) j, s j))
+    go true h f (inr k) = inr (f k)
+    go false h f k = inr (f k)
+
+in_by : {A : Type 0} (p : ℕ) (c : A) (es : List (ℕ × A)) → In (p, c) es → In c (by p es)
+in_by p c [] i = elim i [ ]
+in_by {A} p c (e ∷ es) (inl s) = subst (λ b. In c (cond b (e.1 ∷ by p es) (by p es))) (sym (eq-eqb e.0 p (sym (ap (λ (x : ℕ × A). x.0) s)))) (inl (ap (λ (x : ℕ × A). x.1) s))
+in_by p c (e ∷ es) (inr i) = go (eqb e.0 p) (in_by p c es i)
+  where
+    go : (b : Bool) → In c (by p es) → In c (cond b (e.1 ∷ by p es) (by p es))
+    go true k = inr k
+    go false k = k
+
+publish_by : (es : List (Entries Envelope)) (p : ℕ) (e : Envelope) (a : Option Envelope) → In (calls p (publish e) a) es → In (p, published e) (queue_calls es)
+publish_by [] p e a i = elim i [ ]
+publish_by (split q r ∷ es) p e a (inl s) = absurd (cc)
+publish_by (split q r ∷ es) p e a (inr i) = publish_by es p e a i
+publish_by (join q r ∷ es) p e a (inl s) = absurd (cc)
+publish_by (join q r ∷ es) p e a (inr i) = publish_by es p e a i
+publish_by (calls q (publish d) r ∷ es) p e a (inl s) = let who : p ≡ q = cc in let same : e ≡ d = cc in inl (λ j. (who j, published (same j)))
+publish_by (calls q (publish d) r ∷ es) p e a (inr i) = inr (publish_by es p e a i)
+publish_by (calls q take None ∷ es) p e a (inl s) = absurd (cc)
+publish_by (calls q take None ∷ es) p e a (inr i) = publish_by es p e a i
+publish_by (calls q take (Some d) ∷ es) p e a (inl s) = absurd (cc)
+publish_by (calls q take (Some d) ∷ es) p e a (inr i) = inr (publish_by es p e a i)
+
+-- the entry of a call
+abbrev row : ℕ × BackendCall Outcome → Entry Call Reply
+row x = calls x.0 (asking x.1) (replied x.1)
+
+row_in : (es : Log) (x : ℕ × BackendCall Outcome) → In x (table_calls es) → In (row x) es
+row_in [] x i = elim i [ ]
+row_in (split q r ∷ es) x i = inr (row_in es x i)
+row_in (join q r ∷ es) x i = inr (row_in es x i)
+row_in (calls q (store u w) (was First) ∷ es) x (inl s) = inl (ap row s)
+row_in (calls q (store u w) (was First) ∷ es) x (inr i) = inr (row_in es x i)
+row_in (calls q (store u w) (was Again) ∷ es) x (inl s) = inl (ap row s)
+row_in (calls q (store u w) (was Again) ∷ es) x (inr i) = inr (row_in es x i)
+row_in (calls q (part g t) (count n) ∷ es) x (inl s) = inl (ap row s)
+row_in (calls q (part g t) (count n) ∷ es) x (inr i) = inr (row_in es x i)
+row_in (calls q (read t) (found o) ∷ es) x (inl s) = inl (ap row s)
+row_in (calls q (read t) (found o) ∷ es) x (inr i) = inr (row_in es x i)
+row_in (calls q c a ∷ es) x i = inr (row_in es x i)
+
+heavy_total : {A : Type 0} (w : A → ℕ) (xs : List A) (x : A) → In x xs → w x ≤ total w xs
+heavy_total w [] x i = elim i [ ]
+heavy_total w (y ∷ xs) x (inl e) = let h = ap w e in omega arith
+heavy_total w (y ∷ xs) x (inr i) = let h = heavy_total w xs x i in omega arith
+
+module _ (l : Line) (plan : IsPlan l) (r : Run l) where
+  -- what shows an event
+  brought : (p : ℕ) (v : Event) (c : BackendCall Outcome) → (shows (X l plan) v c ≡ 0 → ⊥) → In (row (p, c)) r.table → Brought l p r.table v
+  brought p v (stored t o false) d i = absurd (d refl)
+  brought p v (has_read t o) d i = absurd (d refl)
+  brought p start (stored t o true) d i = absurd (d refl)
+  brought p (running k) (stored t o true) d i = absurd (d refl)
+  brought p (completion g) (stored t o true) d i = absurd (d refl)
+  brought p (end_of k) (stored t o true) d i = go (eqb t k) refl d
+    where
+      go : (b : Bool) → eqb t k ≡ b → (◌≡◌ {A = ℕ} (cond b 1 0) 0 → ⊥) → Brought l p r.table (end_of k)
+      go true e d = (o, subst (λ n. In (calls p (store n o) (was First)) r.table) (eqb-true t k e) i)
+      go false e d = absurd (d refl)
+  brought p v (returned h t n) d i = go (eqb (suc n) (length (members l h))) refl v d
+    where
+      go : (b : Bool) → eqb (suc n) (length (members l h)) ≡ b → (v : Event) → (◌≡◌ {A = ℕ} (cond b (is_event (completion h) v) 0) 0 → ⊥) → Brought l p r.table v
+      go false e v d = absurd (d refl)
+      go true e start d = absurd (d refl)
+      go true e (running k) d = absurd (d refl)
+      go true e (end_of k) d = absurd (d refl)
+      go true e (completion g) d = same (eqb h g) refl d
+        where
+          same : (b : Bool) → eqb h g ≡ b → (◌≡◌ {A = ℕ} (cond b 1 0) 0 → ⊥) → Brought l p r.table (completion g)
+          same true f d =
+              let is : h ≡ g = eqb-true h g f in
+              (t, n, subst (λ k. In (calls p (part k t) (count n)) r.table) is i, subst (λ k. suc n ≡ length (members l k)) is (eqb-true (suc n) (length (members l h)) e))
+          same false f d = absurd (d refl)
+
+  at_start : (p : ℕ) (v : Event) → 1 ≤ cond (eqb p 0) (is_event start v) 0 → Brought l p r.table v
+  at_start p v m = go (eqb p 0) refl v m
+    where
+      go : (b : Bool) → eqb p 0 ≡ b → (v : Event) → 1 ≤ cond b (is_event start v) 0 → Brought l p r.table v
+      go false e v m = absurd (omega arith)
+      go true e start m = eqb-true p 0 e
+      go true e (running k) m = absurd (omega arith)
+      go true e (end_of k) m = absurd (omega arith)
+      go true e (completion g) m = absurd (omega arith)
+
+  -- a publish, with the message that its envelope opens as
+  caused : (p : ℕ) (e : Envelope) (a : Option Envelope) → In (calls p (publish e) a) r.queue → (c : Content) × (v : Event) × (e ≡ sealed c) × DoesIn l v (job.publish c) × Brought l p r.table v × (opened (book_of l) e ≡ Some c)
+  caused p e a i =
+      let there : In (p, published e) (queue_calls r.queue) = publish_by r.queue p e a i in
+      let good : IsRunSealed (X l plan) (form l plan) (Does l plan) (order l plan) (value l plan) (inner_run l plan r) e =
+      in_each (GoodPublish (IsRunSealed (X l plan) (form l plan) (Does l plan) (order l plan) (value l plan) (inner_run l plan r))) (seconds (queue_calls r.queue))
+      (each_seconds (GoodPublish (IsRunSealed (X l plan) (form l plan) (Does l plan) (order l plan) (value l plan) (inner_run l plan r))) (queue_calls r.queue)
+      (publishes_right (X l plan) (form l plan) (Does l plan) (order l plan) (value l plan) (inner_run l plan r))) (published e) (publish_in r.queue p e a i) in
+      let c : Content = good.0 in
+      let k : ℕ = number_of c.own in
+      let v : Event = good.4.0 in
+      let does : DoesIn l v (job.publish c) = good.4.1 in
+      let weight : publishes_task (X l plan) k (published e) ≡ 1 =
+      ap (λ x. of_opened (X l plan) k x) (ap (X l plan).opened good.1 ∙ (order l plan).opened c good.3 good.2) ∙ ap (λ b. cond b 1 0) (eq-eqb k k refl) in
+      let calls_of : ℕ = total (publishes_task (X l plan) k) (by p (queue_calls r.queue)) in
+      let some : publishes_task (X l plan) k (published e) ≤ calls_of = heavy_total (publishes_task (X l plan) k) (by p (queue_calls r.queue)) (published e) (in_by p (published e) (queue_calls r.queue) there) in
+      let bound = one_caller (X l plan) (form l plan) (Does l plan) (order l plan) (value l plan) (once l plan) (inner_run l plan r) k v
+      (λ w n other q. (once l plan).event w v n c other does q) p in
+      let shown : Brought l p r.table v = ⊎_elim
+      (λ (z : total (shows (X l plan) v) (by p (table_calls r.table)) ≡ 0). at_start p v (omega (arith, weight, some, bound, z)))
+      (λ (h : (x : BackendCall Outcome) × In x (by p (table_calls r.table)) × (shows (X l plan) v x ≡ 0 → ⊥)).
+      brought p v h.0 h.2 (row_in r.table (p, h.0) (by_in p h.0 (table_calls r.table) h.1)))
+      (find_heavy (shows (X l plan) v) (by p (table_calls r.table))) in
+      (c, v, good.1, does, shown, ap (opened (book_of l)) good.1 ∙ (order l plan).opened c good.3 good.2)
+
+  pub by_cause : ByCause l r.queue r.table
+  by_cause p e a i = let k = caused p e a i in (k.0, k.1, k.2, k.3, k.4)
+
+  same_message : (c d : Content) → ◌≡◌ {A = Option Content} (Some c) (Some d) → c ≡ d
+  same_message c d e = cc
+
+  pub by_its_cause : ByItsCause l r.queue r.table
+  by_its_cause v c does p e a i opens =
+      let k = caused p e a i in
+      let same : k.0 ≡ c = same_message k.0 c (sym k.5 ∙ opens) in
+      subst (λ w. Brought l p r.table w) ((once l plan).event k.1 v k.0 c k.3 does (ap (λ (d : Content). number_of d.own) same)) k.4
+
+  -- a chord is completed at most once
+  completes_less : (g : ℕ) (c : BackendCall Outcome) → completes_one l g c ≤ shows (X l plan) (completion g) c
+  completes_less g (stored t o true) = omega arith
+  completes_less g (stored t o false) = omega arith
+  completes_less g (has_read t o) = omega arith
+  completes_less g (returned h t n) = go (eqb h g) refl
+    where
+      go : (b : Bool) → eqb h g ≡ b → cond b (cond (eqb (suc n) (length (members l g))) 1 0) 0 ≤ cond (eqb (suc n) (length (members l h))) (cond b 1 0) 0
+      go false e = omega arith
+      go true e = subst (λ k. cond (eqb (suc n) (length (members l k))) 1 0 ≤ cond (eqb (suc n) (length (members l h))) 1 0) (eqb-true h g e) (omega arith)
+
+  pub completed_once : (g : ℕ) → completions l g r.table ≤ 1
+  completed_once g =
+      let table = table_is l (plan_apart l plan) [] r.table no_results [] [] refl (table_starts l (plan_apart l plan)) r.table_legal in
+      let less = total-le (completes_one l g) (shows (X l plan) (completion g)) (completes_less g) (seconds (table_calls r.table)) in
+      let once = shows_once (X l plan) (completion g) (seconds (table_calls r.table)) table in
+      omega (arith, less, once)

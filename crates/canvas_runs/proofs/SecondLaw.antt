@@ -1,0 +1,240 @@
+-- The second part of the law, over the product's histories: a closed run does all that evaluation does, each thing once.
+use Rattle.std.proofs.Common.{⊎_elim, ◌≡◌, ℕ, suc, ◌+◌, ◌≤◌, Bool, true, false, cond, eqb, List, [], ◌∷◌, ◌++◌, map, length, Some, None, refl, sym, ap, subst, ◌∙◌, inl, inr, arith}
+use Rattle.std.proofs.lemmas.Bool.{eqb-true, eq-eqb}
+use Rattle.canvas_task.specs.declared.outcome.Outcome.{Outcome}
+use Rattle.canvas_rewrite.specs.Eval as eval
+use Rattle.canvas_rewrite.specs.Frozen.{Line, members, size}
+use Rattle.canvas_rewrite.specs.FrozenView.{Load}
+use Rattle.canvas_rewrite.specs.Planned.{IsPlan}
+use Rattle.canvas_rewrite.proofs.Members.{plan_apart}
+use Rattle.canvas_message.specs.Content.{Content, number_of}
+use Rattle.canvas_message.specs.Events.{In, Event, start}
+use Rattle.canvas_message.specs.Flowing.{run, nothing}
+use Rattle.canvas_message.specs.Job.{Job, store, publish, hand_in}
+use Rattle.canvas_message.specs.declared.envelope.Envelope.{Envelope}
+use Rattle.canvas_backend.specs.Backend as results
+use Rattle.canvas_backend.specs.Roster.{roster_of}
+use Rattle.canvas_runs.specs.Book.{book_of}
+use Rattle.canvas_runs.specs.Calls.{BrokerCall, published, took, BackendCall, stored, returned, has_read, IsDrained}
+use Rattle.canvas_runs.specs.Law.{its_state, IsRun, IsPart, of_task, publishes_one, takes_one_of, publishes, takes, stores_one, stores, returns_one, returns, SecondPart}
+use Rattle.canvas_runs.specs.Lists.{Each, total, seconds, firsts}
+use Rattle.canvas_runs.specs.Logs.{queue_calls, table_calls}
+use Rattle.canvas_runs.specs.Run.{Run, Closed}
+use Rattle.canvas_runs.specs.Worker.{sealed, opened}
+use Rattle.canvas_runs.proofs.Backing.{open_none}
+use Rattle.canvas_runs.proofs.Bridges.{drained_is, stored_stays}
+use Rattle.canvas_runs.proofs.Canvas as plan_facts
+use Rattle.canvas_runs.proofs.Canvas.{messages_of, total-same}
+use Rattle.canvas_runs.proofs.Carrying.{content, sent, all_sent, load}
+use Rattle.canvas_runs.proofs.Drained.{IsDone, first_done, published_done, header_done}
+use Rattle.canvas_runs.proofs.Effects.{Jobs, enter, after, body_after, outcome_of}
+use Rattle.canvas_runs.proofs.Evaluation as evaluation
+use Rattle.canvas_runs.proofs.Facts as facts
+use Rattle.canvas_runs.proofs.Facts.{X, form, Does, order, value, once, keeping, its_backs, p, Formed', FormedPart'}
+use Rattle.canvas_runs.proofs.FirstLaw.{has_state, state_has, inner_run, stored_right, first_part}
+use Rattle.canvas_runs.proofs.Frozen.{nowhere, Carried, Message}
+use Rattle.canvas_runs.proofs.Meaning.{After, Beyond}
+use Rattle.canvas_runs.proofs.Parts.{Kept}
+use Rattle.canvas_runs.proofs.Scripts.{ended_script, completed_script, first_sent}
+use Rattle.canvas_runs.proofs.Sized.{SizedJob, after_sized, body_sized, enter_sized, plan_sized}
+use Rattle.canvas_runs.proofs.Started.{run_stores, messages_publish}
+use Rattle.canvas_runs.proofs.StoredOnce.{stores_task, kept_once}
+use Rattle.canvas_runs.proofs.Sums.{total-append, find_heavy}
+use Rattle.canvas_runs.proofs.Tables.{Distinct, part_of, part_once}
+use Rattle.canvas_runs.proofs.Trees.{AJob}
+use Rattle.canvas_runs.proofs.Whole.{from_kinds, items_done}
+use Rattle.canvas_runs.proofs.Words.{each_weaker, each_both, in_each}
+
+in_total : {A : Type 0} (w : A → ℕ) (xs : List A) (x : A) → In x xs → w x ≤ total w xs
+in_total w [] x i = elim i [ ]
+in_total w (y ∷ xs) x (inl e) = let h = ap w e in omega arith
+in_total w (y ∷ xs) x (inr i) = let h = in_total w xs x i in omega arith
+
+each_unsent : (P : Job Content Load Outcome → Type 0) (js : Jobs) → Each P (all_sent js) → Each (λ x. P (sent x)) js
+each_unsent P [] a = tt
+each_unsent P (j ∷ js) a = (a.0, each_unsent P js a.1)
+
+module _ (l : Line) (plan : IsPlan l) (r : Run l) (c : Closed l r) where
+  drained : IsDrained [] (seconds (queue_calls r.queue))
+  drained = drained_is [] r.queue [] refl r.queue_legal c.drained
+
+  abbrev Finished : Job Content Load Outcome → Type 0
+  Finished j = IsDone (X l plan) (form l plan) (Does l plan) (order l plan) (value l plan) (once l plan) (keeping l plan) (its_backs l plan) (inner_run l plan r) c.all_sent drained c.all_used c.all_ended j
+
+  -- ---- as the proof has the jobs, with their form
+
+  abbrev FormedJob : AJob → Type 0
+  FormedJob (store t o) = Unit {0}
+  FormedJob (publish m) = Formed' l plan m
+  FormedJob (hand_in g t d) = FormedPart' l plan g t d
+
+  abbrev Made : AJob → Type 0
+  Made x = Finished (sent x) × FormedJob x
+
+  later_formed : (j : ℕ) (x : AJob) → After (plan_facts.X (p l plan)) (plan_facts.form (p l plan)) j x × SizedJob (size l) (members l) x → FormedJob x
+  later_formed j (store t o) a = tt
+  later_formed j (publish m) a = (a.0.1, a.1)
+  later_formed j (hand_in g t d) a = (a.0.1, a.1)
+
+  beyond_formed : (g : ℕ) (x : AJob) → Beyond (plan_facts.X (p l plan)) (plan_facts.form (p l plan)) g x × SizedJob (size l) (members l) x → FormedJob x
+  beyond_formed g (store t o) a = tt
+  beyond_formed g (publish m) a = (a.0.1, a.1)
+  beyond_formed g (hand_in h t d) a = (a.0.1, a.1)
+
+  after_formed : (m : Message) (o : Outcome) → Formed' l plan m → Each FormedJob (after m o)
+  after_formed m o f =
+      each_weaker (later_formed m.no) (after m o)
+      (each_both (After (plan_facts.X (p l plan)) (plan_facts.form (p l plan)) m.no) (SizedJob (size l) (members l)) (after m o) ((plan_facts.order (p l plan)).ended m o f.0) (after_sized (size l) (members l) m o f.1))
+
+  body_formed : (g t : ℕ) (d : Carried) (fs : List (ℕ × Outcome)) → FormedPart' l plan g t d → firsts fs ≡ members l g → Each FormedJob (body_after d fs)
+  body_formed g t d fs f same =
+      each_weaker (beyond_formed g) (body_after d fs)
+      (each_both (Beyond (plan_facts.X (p l plan)) (plan_facts.form (p l plan)) g) (SizedJob (size l) (members l)) (body_after d fs) ((plan_facts.order (p l plan)).completed g t d fs f.0 same) (body_sized (size l) (members l) d fs f.1))
+
+  script : (m : Message) → Made (publish m) → Made (store m.no (outcome_of m)) × Each Made (after m (outcome_of m))
+  script m d =
+      let done = published_done (X l plan) (form l plan) (Does l plan) (order l plan) (value l plan) (once l plan) (keeping l plan) (its_backs l plan) (inner_run l plan r) c.all_sent drained c.all_used c.all_ended (content m) d.0 in
+      let jobs : Each Finished (all_sent (after m (outcome_of m))) = subst (Each Finished) (ended_script (members l) (p l plan).limit m (outcome_of m) d.1.0) done.1 in
+      ((done.0, tt), each_both (λ x. Finished (sent x)) FormedJob (after m (outcome_of m)) (each_unsent Finished (after m (outcome_of m)) jobs) (after_formed m (outcome_of m) d.1))
+
+  some_member : (g k : ℕ) (d : Carried) (ns : List ℕ) → length ns ≡ suc k → Each (λ t. Made (hand_in g t d)) ns → (t : ℕ) × FormedPart' l plan g t d
+  some_member g k d [] e a = absurd (omega (arith, e))
+  some_member g k d (n ∷ ns) e a = (n, a.0.1)
+
+  completes : (g k : ℕ) (d : Carried) → Distinct (members l g) → length (members l g) ≡ suc k → Each (λ t. Made (hand_in g t d)) (members l g)
+      → (fs : List (ℕ × Outcome)) × (firsts fs ≡ members l g) × Each (λ f. Kept (members l) (evaluation.evaluated l) f.0 f.1) fs × Each Made (body_after d fs)
+  completes g k d distinct many all =
+      let done = header_done (X l plan) (form l plan) (Does l plan) (order l plan) (value l plan) (once l plan) (keeping l plan) (its_backs l plan) (inner_run l plan r) c.all_sent drained c.all_used c.all_ended g k (load d) distinct many
+      (each_weaker (λ t h. h.0) (members l g) all) in
+      let one = some_member g k d (members l g) many all in
+      let jobs : Each Finished (all_sent (body_after d done.0)) = subst (Each Finished) (completed_script (members l) (p l plan).limit g one.0 d done.0 one.1.0) done.3 in (
+        done.0,
+        done.1,
+        each_weaker (λ f h. (h.0, facts.stored l plan h.0 f.0 f.1 h.1)) done.0 done.2,
+        each_both (λ x. Finished (sent x)) FormedJob (body_after d done.0) (each_unsent Finished (body_after d done.0) jobs) (body_formed g one.0 d done.0 one.1 done.1),
+      )
+
+  -- ---- the first messages
+
+  messages_sized : (js : Jobs) → Each (SizedJob (size l) (members l)) js → (m : Message) → In m (messages_of js) → SizedJob (size l) (members l) (publish m)
+  messages_sized [] a m i = elim i [ ]
+  messages_sized (store t o ∷ js) a m i = messages_sized js a.1 m i
+  messages_sized (publish n ∷ js) a m (inl e) = subst (λ u. SizedJob (size l) (members l) (publish u)) (sym e) a.0
+  messages_sized (publish n ∷ js) a m (inr i) = messages_sized js a.1 m i
+  messages_sized (hand_in g t d ∷ js) a m i = messages_sized js a.1 m i
+
+  map_in : (ms : List Message) (m : Message) → In m ms → In (content m) (map content ms)
+  map_in [] m i = elim i [ ]
+  map_in (n ∷ ms) m (inl e) = inl (ap content e)
+  map_in (n ∷ ms) m (inr i) = inr (map_in ms m i)
+
+  abbrev first_jobs : Jobs
+  first_jobs = enter l (run nothing) nowhere 0 None
+
+  first_made : (m : Message) → In m (messages_of first_jobs) → Made (publish m)
+  first_made m i = (
+    first_done (X l plan) (form l plan) (Does l plan) (order l plan) (value l plan) (once l plan) (keeping l plan) (its_backs l plan) (inner_run l plan r) c.all_sent drained c.all_used c.all_ended (content m)
+        (subst (In (content m)) (sym (first_sent (members l) (p l plan).limit l (p l plan).numbered)) (map_in (messages_of first_jobs) m i)),
+    (
+      in_each (plan_facts.form (p l plan)).Formed (messages_of first_jobs) (plan_facts.order (p l plan)).first m i,
+      messages_sized first_jobs (enter_sized (size l) (members l) l (run nothing) nowhere 0 None (plan_sized l plan) tt) m i,
+    ),
+  )
+
+  started : Each Made first_jobs
+  started =
+      from_kinds Made first_jobs (subst (Each Made) (sym (run_stores l nothing nowhere 0 None)) tt) (messages_publish Made first_jobs first_made)
+      (subst (Each Made) (sym (open_none (members l) l (run nothing) nowhere 0 None 1 (p l plan).limit tt (p l plan).numbered)) tt)
+
+  -- ---- all that the evaluation does is done
+
+  all_made : Each (λ i. Made i.1) (evaluation.evaluated l)
+  all_made = items_done (members l) Made (evaluation.evaluated l) script completes (plan_facts.one_outcome (p l plan)) l (run nothing) nowhere 0 start 1 (p l plan).limit (p l plan).numbered (λ i z. z) started
+
+  finished : (v : Event) (j : Job Content Load Outcome) → Does l plan v j → Finished j
+  finished v j i =
+      let x = facts.does_back l plan v j i in
+      subst Finished (sym x.1) (in_each (λ i. Made i.1) (evaluation.evaluated l) all_made (v, x.0) x.2).0
+
+  -- ---- how often
+
+  published_one : (d : Content) → IsRun l d → publishes l (number_of d.own) r.queue ≡ 1
+  published_one d i =
+      let done = finished i.0 (publish d) i.1 in
+      let few = (first_part l plan r).published_once (number_of d.own) in
+      let here = in_total (publishes_one l (number_of d.own)) (seconds (queue_calls r.queue)) (published (sealed d)) done.2 in
+      let mine : publishes_one l (number_of d.own) (published (sealed d)) ≡ 1 =
+      ap (of_task l (number_of d.own)) ((order l plan).opened d done.0 done.1) ∙ ap (λ b. cond b 1 0) (eq-eqb (number_of d.own) (number_of d.own) refl) in
+      omega arith
+
+  drained_total : (k : ℕ) (q : List Envelope) (cs : List (BrokerCall Envelope)) → IsDrained q cs →
+      total (takes_one_of l k) cs ≡ total (λ e. of_task l k (opened (book_of l) e)) q + total (publishes_one l k) cs
+  drained_total k q [] same = let s : total (λ e. of_task l k (opened (book_of l) e)) q ≡ 0 = ap (total (λ e. of_task l k (opened (book_of l) e))) same in omega arith
+  drained_total k q (published e ∷ cs) d =
+      let t = drained_total k (q ++ e ∷ []) cs d in
+      omega (arith, total-append (λ e. of_task l k (opened (book_of l) e)) q (e ∷ []))
+  drained_total k q (took None ∷ cs) d = let t = drained_total k q cs d in omega arith
+  drained_total k q (took (Some e) ∷ cs) (rest, same, d) =
+      let t = drained_total k rest cs d in
+      let s : total (λ e. of_task l k (opened (book_of l) e)) q ≡ of_task l k (opened (book_of l) e) + total (λ e. of_task l k (opened (book_of l) e)) rest = ap (total (λ e. of_task l k (opened (book_of l) e))) same in
+      omega arith
+
+  taken_once : (k : ℕ) → takes l k r.queue ≡ publishes l k r.queue
+  taken_once k = let t = drained_total k [] (seconds (queue_calls r.queue)) drained in omega arith
+
+  store_weight : (k : ℕ) (x : BackendCall Outcome) → stores_one l k x ≡ stores_task (X l plan) k x
+  store_weight k (stored t o b) = refl
+  store_weight k (returned g m n) = refl
+  store_weight k (has_read t o) = refl
+
+  stored_once : (t : ℕ) (o : Outcome) → its_state l t ≡ Some o → stores l t r.table ≡ 1
+  stored_once t o e =
+      let has = state_has l plan t o e in
+      let done = finished has.0 (store t o) has.1 in
+      let few = kept_once (X l plan) (form l plan) (Does l plan) (order l plan) (value l plan) (once l plan) (keeping l plan) (inner_run l plan r) t in
+      let same = total-same (stores_one l t) (stores_task (X l plan) t) (store_weight t) (seconds (table_calls r.table)) in
+      let here = in_total (stores_one l t) (seconds (table_calls r.table)) (stored t o true) done in
+      let mine : stores_one l t (stored t o true) ≡ 1 = ap (λ b. cond b 1 0) (eq-eqb t t refl) in
+      omega arith
+
+  pending_none : (t : ℕ) → its_state l t ≡ None → stores l t r.table ≡ 0
+  pending_none t none = ⊎_elim (λ z. z) (λ h. absurd (heavy h.0 h.1 h.2)) (find_heavy (stores_one l t) (seconds (table_calls r.table)))
+    where
+      no_state : (o : Outcome) → its_state l t ≡ Some o → ⊥
+      no_state o e = let bad : ◌≡◌ {A = eval.State} None (Some o) = sym none ∙ e in cc
+
+      named : (u : ℕ) (b : Bool) → eqb u t ≡ b → (◌≡◌ {A = ℕ} (cond b 1 0) 0 → ⊥) → u ≡ t
+      named u true e d = eqb-true _ _ e
+      named u false e d = absurd (d refl)
+
+      heavy : (x : BackendCall Outcome) → In x (seconds (table_calls r.table)) → (stores_one l t x ≡ 0 → ⊥) → ⊥
+      heavy (stored u o b) i d = no_state o (subst (λ k. its_state l k ≡ Some o) (named u (eqb u t) refl d) (has_state l plan u o (stored_right l plan r u o b i)))
+      heavy (returned g m n) i d = d refl
+      heavy (has_read u o) i d = d refl
+
+  part_weight : (g m : ℕ) (x : BackendCall Outcome) → returns_one l g m x ≡ part_of g m x
+  part_weight g m (stored u q b) = refl
+  part_weight g m (returned h t n) = refl
+  part_weight g m (has_read u q) = refl
+
+  returned_once : (g t : ℕ) → IsPart l g t → returns l g t r.table ≡ 1
+  returned_once g t (d, v, i) =
+      let done = finished v (hand_in g t d) i in
+      let few = (part_once g t [] [] (seconds (table_calls r.table)) (inner_run l plan r).table).0 in
+      let same = total-same (returns_one l g t) (part_of g t) (part_weight g t) (seconds (table_calls r.table)) in
+      let here = in_total (returns_one l g t) (seconds (table_calls r.table)) (returned g t done.0) done.1 in
+      let mine : returns_one l g t (returned g t done.0) ≡ 1 = ap (λ b. cond b (cond (eqb t t) 1 0) 0) (eq-eqb g g refl) ∙ ap (λ b. cond b 1 0) (eq-eqb t t refl) in
+      omega arith
+
+  rows_are : (t : ℕ) → (results.results (roster_of l) r.table).outcomes t ≡ its_state l t
+  rows_are t = ⊎_elim (λ none. by_state none (its_state l t) refl) (λ e. e) ((first_part l plan r).rows t)
+    where
+      by_state : (results.results (roster_of l) r.table).outcomes t ≡ None → (s : eval.State) → its_state l t ≡ s → (results.results (roster_of l) r.table).outcomes t ≡ its_state l t
+      by_state none None e = none ∙ sym e
+      by_state none (Some o) e =
+          let has = state_has l plan t o e in
+          let there = stored_stays l (plan_apart l plan) t o true r.table results.no_results (finished has.0 (store t o) has.1) in
+          absurd (let bad : ◌≡◌ {A = eval.State} None (Some there.0) = sym none ∙ there.1 in cc)
+
+  pub second_part : SecondPart l r
+  second_part = record { rows = rows_are; published = published_one; taken = taken_once; stored = stored_once; pending = pending_none; returned = returned_once }

@@ -1,0 +1,164 @@
+-- A step in front of what is followed from then on.
+use Rattle.std.proofs.Common.{◌≡◌, ℕ, zero, suc, ◌+◌, ◌≤◌, List, [], ◌∷◌, ◌++◌, length, map, Option, Some, refl, sym, ap, ◌∙◌, subst, append_assoc, append-nil, arith}
+use Rattle.canvas_task.specs.declared.outcome.Outcome.{Outcome}
+use Rattle.canvas_task.specs.History.{calls, live_from}
+use Rattle.canvas_task.proofs.Histories.{legal_left}
+use Rattle.canvas_message.specs.declared.envelope.Envelope.{Envelope}
+use Rattle.canvas_backend.specs.Roster.{Roster}
+use Rattle.canvas_broker.specs.Broker as broker
+use Rattle.canvas_broker.specs.Broker.{Line as Entries, answer, next, May, IsLegal, takes_of, told}
+use Rattle.canvas_broker.specs.Callers.{Took}
+use Rattle.canvas_runs.specs.Core.{Ask, Reply, take, send, taken, sent, IsCoreRun, left_after}
+use Rattle.canvas_runs.specs.Following.{Pass, Seat, Stood, Makes, Serves, Working, Followed}
+use Rattle.canvas_runs.specs.Calls.{BrokerCall, took, BackendCall, Follows, follows_all, follows_publish, follows_list_take, follows_core_take, broker_call, broker_calls, backend_call, backend_calls, takes_one}
+use Rattle.std.specs.Prelude.{slice_get}
+use Rattle.canvas_runs.specs.Lists.{Each, total, at}
+use Rattle.canvas_runs.specs.Steps.{OnlyBare, Called, FromHeld, Batched}
+use Rattle.canvas_runs.specs.Tally.{Tally, Adds, IsTally, Counted, most, often, is_taken, is_published, is_first, is_part, is_dropped}
+use Rattle.canvas_runs.specs.Worker.{working}
+use Rattle.canvas_runs.proofs.Sums.{total-append}
+use Rattle.canvas_runs.proofs.Words.{each_append}
+
+makes_append : (cs ds : List (BrokerCall Envelope)) (p q r : Pass) → Makes p cs q → Makes q ds r → Makes p (cs ++ ds) r
+makes_append [] ds p q r f g = subst (λ x. Makes x ds r) f g
+makes_append (c ∷ cs) ds p q r f g = (f.0, f.1, makes_append cs ds f.0 q r f.2 g)
+
+pub serves_append : (plan : Roster) (cs ds : List (BackendCall Outcome)) (s t u : Seat) → Serves plan s cs t → Serves plan t ds u → Serves plan s (cs ++ ds) u
+serves_append plan [] ds s t u f g = subst (λ x. Serves plan x ds u) f g
+serves_append plan (c ∷ cs) ds s t u f g = (f.0, f.1, serves_append plan cs ds f.0 t u f.2 g)
+
+-- takes of a batch, as calls
+abbrev taking_all : List Envelope → List (BrokerCall Envelope)
+taking_all [] = []
+taking_all (e ∷ es) = took (Some e) ∷ taking_all es
+
+-- takes that stand side by side stand one after the other
+took_makes : (p q : Pass) (es : List Envelope) → Took p es q → Makes p (taking_all es) q
+took_makes p q [] t = t
+took_makes p q (e ∷ []) t = (q, t, refl)
+took_makes p q (e ∷ d ∷ es) t =
+    let x = t.4 in
+    let call : Entries Envelope = calls p.name broker.take (Some e) in
+    let rest : List (Entries Envelope) = takes_of p.name (d ∷ es) in
+    let mid : Pass = record { of = p.of; name = p.name; mine = live_from p.mine p.owed; seen = p.seen ++ (x.0 ++ (p.owed ++ call ∷ [])); owed = [] } in
+    let shape : q.seen ≡ mid.seen ++ rest =
+    x.1 ∙ (ap (λ l. p.seen ++ (x.0 ++ l)) (sym (append_assoc p.owed (call ∷ []) rest)) ∙ (ap (λ l. p.seen ++ l) (sym (append_assoc x.0 (p.owed ++ call ∷ []) rest)) ∙ sym (append_assoc p.seen (x.0 ++ (p.owed ++ call ∷ [])) rest))) in
+    let legal : IsLegal mid.seen = legal_left [] answer next May [] mid.seen rest (subst (λ l. IsLegal l) shape x.3) in
+    (mid, (refl, refl, refl, refl, (x.0, refl, x.2, legal, x.4)), took_makes mid q (d ∷ es) (t.0, t.1, t.2, t.3, ([], shape, tt, x.3, λ _. refl)))
+
+batch_follows : (es : List Envelope) (ts : List (Option Envelope)) (cs ls : List (BrokerCall Envelope)) → Follows (ts ++ map Some es) cs ls → Follows ts cs (taking_all es ++ ls)
+batch_follows [] ts cs ls f = subst (λ xs. Follows xs cs ls) (append-nil ts) f
+batch_follows (e ∷ es) ts cs ls f = follows_list_take (batch_follows es (ts ++ Some e ∷ []) cs ls (subst (λ xs. Follows xs cs ls) (sym (append_assoc ts (Some e ∷ []) (map Some es))) f))
+
+map_more : (xs ys : List Envelope) → ◌≡◌ {A = List (Option Envelope)} (map Some (xs ++ ys)) (map Some xs ++ map Some ys)
+map_more [] ys = refl
+map_more (x ∷ xs) ys = ap (λ l. Some x ∷ l) (map_more xs ys)
+
+batch_stood : (es : List Envelope) → Each Stood (taking_all es)
+batch_stood [] = tt
+batch_stood (e ∷ es) = (tt, batch_stood es)
+
+batch_takes : (es : List Envelope) → total takes_one (taking_all es) ≡ length es
+batch_takes [] = refl
+batch_takes (e ∷ es) = let k = batch_takes es in omega (arith, k)
+
+longer : (xs ys : List Envelope) → length (xs ++ ys) ≡ length xs + length ys
+longer [] ys = omega arith
+longer (x ∷ xs) ys = let k = longer xs ys in omega (arith, k)
+
+more_added : (x y a b n : ℕ) → Adds x (a + 0) y → Adds y b n → Adds x (a + b) n
+more_added x y a b n e f = omega (arith, e, f)
+
+module _ (plan : Roster) where
+  counted_more : (a : Ask Envelope Outcome) (r : Reply Envelope Outcome) (run : List (Ask Envelope Outcome × Reply Envelope Outcome)) (t u v : Tally) → Counted plan ((a, r) ∷ []) t u → Counted plan run u v → Counted plan ((a, r) ∷ run) t v
+  counted_more a r run t u v c d = record {
+    taken = more_added t.taken u.taken (is_taken a r) (often is_taken run) v.taken c.taken d.taken;
+    published = more_added t.published u.published (is_published a r) (often is_published run) v.published c.published d.published;
+    first = more_added t.first u.first (is_first a r) (often is_first run) v.first c.first d.first;
+    parts = more_added t.parts u.parts (is_part a r) (often is_part run) v.parts c.parts d.parts;
+    dropped = more_added t.dropped u.dropped (is_dropped plan a r) (often (is_dropped plan) run) v.dropped c.dropped d.dropped;
+  }
+
+  call_stood : (a : Ask Envelope Outcome) (r : Reply Envelope Outcome) → Each Stood (broker_call (working plan) a r)
+  call_stood take (taken (Some e)) = (tt, tt)
+  call_stood (send e) sent = (tt, tt)
+  call_stood a r = tt
+
+  call_follows : (a : Ask Envelope Outcome) (r : Reply Envelope Outcome) (held : List Envelope) (cs ls : List (BrokerCall Envelope)) → OnlyBare plan a r held → Follows (map Some held) cs ls
+      → Follows (map Some held) (broker_call (working plan) a r ++ cs) (broker_call (working plan) a r ++ ls)
+  call_follows take (taken (Some e)) held cs ls b f =
+      subst (λ hs. Follows (map Some hs) (took (Some e) ∷ cs) (took (Some e) ∷ ls)) (sym b) (follows_list_take (follows_core_take (subst (λ hs. Follows (map Some hs) cs ls) b f)))
+  call_follows (send e) sent held cs ls b f = follows_publish f
+  call_follows a r held cs ls b f = f
+
+  none_added : (n : ℕ) → n ≤ most → Adds n 0 n
+  none_added n h = omega (arith, h)
+
+  pub rests : (w : Working) → IsTally w.tally → Followed plan w w
+  rests w t = record {
+    counts = record { taken = none_added w.tally.taken t.0; published = none_added w.tally.published t.1; first = none_added w.tally.first t.2; parts = none_added w.tally.parts t.3; dropped = none_added w.tally.dropped t.4 };
+    run = [];
+    is_core = tt;
+    reads = tt;
+    leaves = refl;
+    made = [];
+    stood = tt;
+    follows = follows_all;
+    used = omega arith;
+    makes = refl;
+    serves = refl;
+  }
+
+  pub call_first : (w v x : Working) (a : Ask Envelope Outcome) (r : Reply Envelope Outcome) → Called plan w v a r → Followed plan v x → Followed plan w x
+  call_first w v x a r s f =
+      let call : List (BrokerCall Envelope) = broker_call (working plan) a r in
+      record {
+        run = (a, r) ∷ f.run;
+        is_core = (s.0.asked, (s.0.suits, s.0.back), subst (λ u. IsCoreRun (working plan) u f.run) s.0.left f.is_core);
+        reads = (s.0.member, f.reads);
+        counts = counted_more a r f.run w.tally v.tally x.tally s.0.counts f.counts;
+        leaves = subst (λ u. left_after (working plan) u f.run ≡ x.left) s.0.left f.leaves;
+        made = call ++ f.made;
+        stood = each_append Stood call f.made (call_stood a r) f.stood;
+        follows = call_follows a r w.held (broker_calls (working plan) f.run) f.made s.2 (subst (λ hs. Follows (map Some hs) (broker_calls (working plan) f.run) f.made) s.1 f.follows);
+        used = (let same : length v.held ≡ length w.held = ap length s.1 in omega (arith, same, f.used, total-append takes_one call f.made, total-append takes_one call (broker_calls (working plan) f.run)));
+        makes = makes_append call f.made w.pass v.pass x.pass s.3 f.makes;
+        serves = serves_append plan (backend_call (working plan) a r) (backend_calls (working plan) f.run) w.seat v.seat x.seat s.4 f.serves;
+      }
+
+  pub held_first : (w v x : Working) (e : Envelope) → FromHeld plan w v e → Followed plan v x → Followed plan w x
+  held_first w v x e s f = record {
+    run = (take, taken (Some e)) ∷ f.run;
+    is_core = (s.0.asked, (s.0.suits, s.0.back), subst (λ u. IsCoreRun (working plan) u f.run) s.0.left f.is_core);
+    reads = (s.0.member, f.reads);
+    counts = counted_more take (taken (Some e)) f.run w.tally v.tally x.tally s.0.counts f.counts;
+    leaves = subst (λ u. left_after (working plan) u f.run ≡ x.left) s.0.left f.leaves;
+    made = f.made;
+    stood = f.stood;
+    follows = subst (λ hs. Follows (map Some hs) (took (Some e) ∷ broker_calls (working plan) f.run) f.made) (sym s.1) (follows_core_take f.follows);
+    used = (let same : length w.held ≡ length (e ∷ v.held) = ap length s.1 in omega (arith, same, f.used));
+    makes = subst (λ p. Makes p f.made x.pass) s.2 f.makes;
+    serves = subst (λ p. Serves plan p (backend_calls (working plan) f.run) x.seat) s.3 f.serves;
+  }
+
+  pub batch_first : (w v x : Working) (es : List Envelope) → Batched w v es → Followed plan v x → Followed plan w x
+  batch_first w v x es s f = record {
+    run = f.run;
+    is_core = subst (λ u. IsCoreRun (working plan) u f.run) s.3 f.is_core;
+    reads = f.reads;
+    counts = subst (λ t. Counted plan f.run t x.tally) s.4 f.counts;
+    leaves = subst (λ u. left_after (working plan) u f.run ≡ x.left) s.3 f.leaves;
+    made = taking_all es ++ f.made;
+    stood = each_append Stood (taking_all es) f.made (batch_stood es) f.stood;
+    follows = batch_follows es (map Some w.held) (broker_calls (working plan) f.run) f.made
+        (subst (λ xs. Follows xs (broker_calls (working plan) f.run) f.made) (ap (λ hs. map Some hs) s.0 ∙ map_more w.held es) f.follows);
+    used = (let same : length v.held ≡ length (w.held ++ es) = ap length s.0 in omega (arith, same, longer w.held es, f.used, total-append takes_one (taking_all es) f.made, batch_takes es));
+    makes = makes_append (taking_all es) f.made w.pass v.pass x.pass (took_makes w.pass v.pass es s.1) f.makes;
+    serves = subst (λ p. Serves plan p (backend_calls (working plan) f.run) x.seat) s.2 f.serves;
+  }
+
+-- the member of a place, as a backend answers it
+pub at_get : (i : ℕ) (xs : List ℕ) → at i xs ≡ slice_get xs i
+at_get i [] = refl
+at_get zero (x ∷ xs) = refl
+at_get (suc i) (x ∷ xs) = at_get i xs

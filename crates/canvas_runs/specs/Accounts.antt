@@ -1,0 +1,54 @@
+-- What the one list of all calls of a run has of each caller: worker 0's calls, and for the workers, numbered from 1 in the order of their making, just theirs.
+use Rattle.std.specs.Prelude.{ℕ, suc, ◌≡◌, List, [], ◌∷◌, ◌++◌}
+use Rattle.canvas_task.specs.declared.outcome.Outcome.{Outcome}
+use Rattle.canvas_task.specs.History.{Entry, split, join, calls, named, made_by, Sole}
+use Rattle.canvas_message.specs.declared.envelope.Envelope.{Envelope}
+use Rattle.canvas_backend.specs.Backend as backend
+use Rattle.canvas_backend.specs.Roster.{Roster}
+use Rattle.canvas_broker.specs.Broker as broker
+use Rattle.canvas_runs.specs.Crew.{Mate, numbers}
+use Rattle.canvas_runs.specs.Following.{doing, given, asking, replied}
+use Rattle.canvas_runs.specs.Calls.{BrokerCall, BackendCall, backend_calls}
+use Rattle.canvas_runs.specs.Worker.{working}
+
+abbrev pub splits_of : {C R : Type 0} → List ℕ → List (Entry C R)
+splits_of [] = []
+splits_of (q ∷ qs) = split 0 q ∷ splits_of qs
+
+abbrev pub joins_of : {C R : Type 0} → List ℕ → List (Entry C R)
+joins_of [] = []
+joins_of (q ∷ qs) = join 0 q ∷ joins_of qs
+
+-- these calls by caller n
+abbrev pub entries : ℕ → List (BrokerCall Envelope) → List (broker.Line Envelope)
+entries n [] = []
+entries n (c ∷ cs) = calls n (doing c) (given c) ∷ entries n cs
+
+abbrev pub rows : ℕ → List (BackendCall Outcome) → backend.Log
+rows n [] = []
+rows n (c ∷ cs) = calls n (asking c) (replied c) ∷ rows n cs
+
+module _ (plan : Roster) where
+  abbrev pub HasEach : ℕ → List (Mate plan) → List (broker.Line Envelope) → Type 0
+  HasEach k [] log = Unit
+  HasEach k (m ∷ ms) log = (made_by k log ≡ entries k m.followed.made) × HasEach (suc k) ms log
+
+  abbrev pub HasRows : ℕ → List (Mate plan) → backend.Log → Type 0
+  HasRows k [] log = Unit
+  HasRows k (m ∷ ms) log = (made_by k log ≡ rows k (backend_calls (working plan) m.followed.run)) × HasRows (suc k) ms log
+
+  -- of the broker: what worker 0 called before and after it took in the workers
+  pub record Accounts (mates : List (Mate plan)) (first last : List (BrokerCall Envelope)) (log : List (broker.Line Envelope)) : Type 0 where
+    pub legal : broker.IsLegal log
+    pub own : made_by 0 log ≡ (splits_of (numbers 1 mates) ++ entries 0 first) ++ (joins_of (numbers 1 mates) ++ entries 0 last)
+    pub each : HasEach 1 mates log
+    pub names : named log ≡ numbers 1 mates
+    pub sole : Sole log 0
+
+  -- of the backend, where worker 0 calls after it took in the workers
+  pub record Ledger (mates : List (Mate plan)) (last : List (BackendCall Outcome)) (log : backend.Log) : Type 0 where
+    pub legal : backend.IsLegal plan log
+    pub own : made_by 0 log ≡ (splits_of (numbers 1 mates) ++ joins_of (numbers 1 mates)) ++ rows 0 last
+    pub each : HasRows 1 mates log
+    pub names : named log ≡ numbers 1 mates
+    pub sole : Sole log 0

@@ -1,0 +1,136 @@
+-- Scripts of messages, as a machine: what is left to do after each answered ask.
+use Rattle.std.specs.Prelude.{ℕ, suc, eqb, cond, ◌≡◌, Bool, true, false, List, [], ◌∷◌, ◌++◌, length, Option, Some, None}
+use Rattle.canvas_message.specs.Job.{Job, store, publish, hand_in}
+use Rattle.canvas_runs.specs.Protocol.{Protocol}
+
+pub data Ask (E O : Type 0) : Type 0 where
+  take : Ask E O
+  send : E → Ask E O
+  keep : ℕ → O → Ask E O
+  part : ℕ → ℕ → Ask E O
+  read : ℕ → ℕ → Ask E O
+  pause : Ask E O
+  end : Ask E O
+
+pub data Reply (E O : Type 0) : Type 0 where
+  taken : Option E → Reply E O
+  sent : Reply E O
+  refused : Reply E O
+  -- true for First, false for Again
+  kept : Bool → Reply E O
+  counted : ℕ → Reply E O
+  found : ℕ → Option O → Reply E O
+  rested : Bool → Reply E O
+
+pub data State (M C O : Type 0) : Type 0 where
+  taking : State M C O
+  resting : State M C O
+  -- after a rest answered with no more
+  over : State M C O
+  -- after a refused publish
+  failed : State M C O
+  -- a message taken, its own outcome not stored yet
+  owning : M → State M C O
+  -- these jobs left; whether the latest store answered First
+  doing : List (Job M C O) → Bool → State M C O
+  -- the members' outcomes of this completed chord found so far
+  reading : ℕ → C → List (ℕ × O) → State M C O
+
+module _ (X : Protocol) where
+  abbrev pub Jobs : Type 0
+  Jobs = List (Job X.Message X.Carried X.Outcome)
+
+  abbrev pub Doing : Type 0
+  Doing = State X.Message X.Carried X.Outcome
+
+  abbrev pub Asked : Type 0
+  Asked = Ask X.Envelope X.Outcome
+
+  abbrev pub Answer : Type 0
+  Answer = Reply X.Envelope X.Outcome
+
+  -- a part is handed in only where the latest store answered First; where nothing is left the script ends
+  abbrev pub settled : Jobs → Bool → Doing
+  settled [] b = taking
+  settled (hand_in g t c ∷ js) false = taking
+  settled (j ∷ js) b = doing (j ∷ js) b
+
+  abbrev pub job_ask : Job X.Message X.Carried X.Outcome → Asked
+  job_ask (store t o) = keep t o
+  job_ask (publish m) = send (X.sealed m)
+  job_ask (hand_in g t c) = part g t
+
+  abbrev pub ask : Doing → Asked
+  ask taking = take
+  ask resting = pause
+  ask over = end
+  ask failed = end
+  ask (owning m) = keep (X.no m) (X.outcome m)
+  ask (doing [] b) = end
+  ask (doing (j ∷ js) b) = job_ask j
+  ask (reading g c fs) = read g (length fs)
+
+  abbrev pub opens : Option X.Message → Doing
+  opens None = taking
+  opens (Some m) = owning m
+
+  abbrev pub owned : X.Message → Bool → Doing
+  owned m true = settled (X.ended m (X.outcome m)) true
+  owned m false = taking
+
+  -- the header's count before this part
+  abbrev pub handed_in : ℕ → X.Carried → ℕ → Doing
+  handed_in g c n = cond (eqb (suc n) (X.size c)) (reading g c []) taking
+
+  abbrev pub job_done : Job X.Message X.Carried X.Outcome → Jobs → Bool → Answer → Doing
+  job_done (store t o) js b (kept a) = settled js a
+  job_done (publish m) js b sent = settled js b
+  job_done (hand_in g t c) js b (counted n) = handed_in g c n
+  job_done j js b r = failed
+
+  abbrev pub all_read : ℕ → X.Carried → List (ℕ × X.Outcome) → Doing
+  all_read g c fs = cond (eqb (length fs) (X.size c)) (settled (X.completed c fs) false) (reading g c fs)
+
+  abbrev pub answered : Doing → Answer → Doing
+  answered taking (taken None) = resting
+  answered taking (taken (Some e)) = opens (X.opened e)
+  answered resting (rested true) = taking
+  answered resting (rested false) = over
+  answered (owning m) (kept a) = owned m a
+  answered (doing (j ∷ js) b) r = job_done j js b r
+  answered (reading g c fs) (found t (Some o)) = all_read g c (fs ++ (t, o) ∷ [])
+  answered (reading g c fs) (found t None) = taking
+  answered s r = failed
+
+  -- by kind alone
+  abbrev pub Suits : Asked → Answer → Type 0
+  Suits take (taken x) = Unit
+  Suits (send e) sent = Unit
+  Suits (send e) refused = Unit
+  Suits (keep t o) (kept a) = Unit
+  Suits (part g t) (counted n) = Unit
+  Suits (read g i) (found t x) = Unit
+  Suits pause (rested a) = Unit
+  Suits a r = ⊥
+
+  -- what is left to do after a core run
+  abbrev pub left_after : Doing → List (Asked × Answer) → Doing
+  left_after s [] = s
+  left_after s (x ∷ xs) = left_after (answered s x.1) xs
+
+  -- not inside the script of an envelope
+  abbrev pub Between : Doing → Type 0
+  Between taking = Unit
+  Between resting = Unit
+  Between over = Unit
+  Between s = ⊥
+
+  -- where a message is published, its envelope reads as the message
+  abbrev pub ReadsBack : Doing → Type 0
+  ReadsBack (doing (publish m ∷ js) b) = X.Back m
+  ReadsBack s = Unit
+
+  -- scripts one after the other from a state on, the last perhaps cut short
+  abbrev pub IsCoreRun : Doing → List (Asked × Answer) → Type 0
+  IsCoreRun s [] = Unit
+  IsCoreRun s (x ∷ xs) = (x.0 ≡ ask s) × (Suits x.0 x.1 × ReadsBack s) × IsCoreRun (answered s x.1) xs

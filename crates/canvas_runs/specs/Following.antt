@@ -1,0 +1,93 @@
+-- What it is for a worker's pass and seat to have followed a core run, from where they stood.
+--     Makes p cs q           the pass p has made these broker calls and is q then: each stands in the one legal history of its queue, after all that p had seen
+--     Serves plan s cs t     the same of a seat and its backend calls
+--     Followed plan w v        from w on the worker's pass and seat have followed a core run, and it is v then
+use Rattle.std.specs.Prelude.{◌+◌, ◌≡◌, true, false, List, [], ◌∷◌, length, map, Option, Some, None}
+use Rattle.canvas_task.specs.declared.outcome.Outcome.{Outcome}
+use Rattle.canvas_task.specs.History.{calls}
+use Rattle.canvas_rewrite.specs.FrozenView.{Load}
+use Rattle.canvas_message.specs.Content.{Content}
+use Rattle.canvas_message.specs.declared.envelope.Envelope.{Envelope}
+use Rattle.canvas_backend.specs.declared.stored.Stored.TheVariants.{First, Again}
+use Rattle.canvas_backend.specs.Backend.{Call, Reply, store, part, read, was, count, found}
+use Rattle.canvas_backend.specs.Callers as seats
+use Rattle.canvas_backend.specs.Roster.{Roster}
+use Rattle.canvas_broker.specs.Broker.{Doing, publish, take}
+use Rattle.canvas_broker.specs.Callers as passes
+use Rattle.canvas_runs.specs.Core.{State, taking, IsCoreRun, left_after, Between}
+use Rattle.canvas_runs.specs.Calls.{BrokerCall, published, took, BackendCall, stored, returned, has_read, Follows, AskedAndAnswered, broker_calls, backend_calls, ReadsMembers, takes_one}
+use Rattle.canvas_runs.specs.Lists.{Each, total}
+use Rattle.canvas_runs.specs.Tally.{Tally, none_yet, Counted}
+use Rattle.canvas_runs.specs.Worker.{working}
+
+abbrev pub Pass : Type 0
+Pass = passes.Caller Envelope
+
+abbrev pub Seat : Type 0
+Seat = seats.Caller
+
+-- what a broker call asks, and what it was answered
+abbrev pub doing : BrokerCall Envelope → Doing Envelope
+doing (published e) = publish e
+doing (took x) = take
+
+abbrev pub given : BrokerCall Envelope → Option Envelope
+given (published e) = None
+given (took x) = x
+
+-- a take that found nothing stands in no history
+abbrev pub Stood : BrokerCall Envelope → Type 0
+Stood (published e) = Unit
+Stood (took (Some e)) = Unit
+Stood (took None) = ⊥
+
+-- what a backend call asks, and what it was answered
+abbrev pub asking : BackendCall Outcome → Call
+asking (stored t o b) = store t o
+asking (returned g t n) = part g t
+asking (has_read t x) = read t
+
+abbrev pub replied : BackendCall Outcome → Reply
+replied (stored t o true) = was First
+replied (stored t o false) = was Again
+replied (returned g t n) = count n
+replied (has_read t x) = found x
+
+abbrev pub Makes : Pass → List (BrokerCall Envelope) → Pass → Type 0
+Makes p [] q = q ≡ p
+Makes p (c ∷ cs) q = (between : Pass) × passes.Stands p (calls p.name (doing c) (given c)) between × Makes between cs q
+
+abbrev pub Serves : Roster → Seat → List (BackendCall Outcome) → Seat → Type 0
+Serves plan s [] t = t ≡ s
+Serves plan s (c ∷ cs) t = (between : Seat) × seats.Stands plan s (calls s.name (asking c) (replied c)) between × Serves plan between cs t
+
+-- a worker: its pass and its seat, what its core has left to do, the envelopes that it took and has not given to its core, and its counts
+pub record Working : Type 0 where
+  pub pass : Pass
+  pub seat : Seat
+  pub left : State Content Load Outcome
+  pub held : List Envelope
+  pub tally : Tally
+
+-- with this pass and this seat, before its first call
+abbrev pub begins : Pass → Seat → Working
+begins p s = record { pass = p; seat = s; left = taking; held = []; tally = none_yet }
+
+-- not inside a script, with no envelope left over
+abbrev pub IsDone : Roster → Working → Type 0
+IsDone plan w = Between (working plan) w.left × (w.held ≡ [])
+
+pub record Followed (plan : Roster) (w v : Working) : Type 0 where
+  pub run : List (AskedAndAnswered (working plan))
+  pub is_core : IsCoreRun (working plan) w.left run
+  -- a read is of the member that it names
+  pub reads : ReadsMembers (working plan) run
+  pub counts : Counted plan run w.tally v.tally
+  pub leaves : left_after (working plan) w.left run ≡ v.left
+  -- the calls of its pass. A take may stand before the core's
+  pub made : List (BrokerCall Envelope)
+  pub stood : Each Stood made
+  pub follows : Follows (map Some w.held) (broker_calls (working plan) run) made
+  pub used : length w.held + total takes_one made ≡ total takes_one (broker_calls (working plan) run) + length v.held
+  pub makes : Makes w.pass made v.pass
+  pub serves : Serves plan w.seat (backend_calls (working plan) run) v.seat

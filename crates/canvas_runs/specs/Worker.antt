@@ -1,0 +1,57 @@
+-- The worker of a plan: its messages are those of Celery's task message protocol, version 2, and its effects those of the user
+-- guide's Canvas chapter.
+use Rattle.std.specs.Prelude.{◌≡◌, ℕ, if◌then◌else◌, List, [], Option, Some, None, Result, Ok, Err}
+use Rattle.serde_json.specs.Written.{compact_text}
+use Rattle.canvas_task.specs.declared.outcome.Outcome.{Outcome}
+use Rattle.canvas_rewrite.specs.Frozen.{Line}
+use Rattle.canvas_rewrite.specs.FrozenView.{Load}
+use Rattle.canvas_message.specs.Content.{Content, number_of}
+use Rattle.canvas_message.specs.Effects.{outcome_of, after, body_after, first_messages, script}
+use Rattle.canvas_message.specs.Reading.{envelope_reading}
+use Rattle.canvas_message.specs.Wire.{properties_wire, headers_wire, body_wire}
+use Rattle.canvas_message.specs.declared.envelope.Envelope.{Envelope}
+use Rattle.canvas_message.specs.declared.fault.MessageFault.{MessageFault}
+use Rattle.canvas_backend.specs.Roster.{Roster, roster_of, members}
+use Rattle.canvas_runs.specs.Book.{Book, book_on, message_known}
+use Rattle.canvas_runs.specs.Protocol.{Protocol}
+
+-- the envelope of a message
+abbrev pub sealed : Content → Envelope
+sealed c = record { properties = compact_text (properties_wire c); headers = compact_text (headers_wire c); body = compact_text (body_wire c) }
+
+abbrev pub reading : Envelope → Result Content MessageFault
+reading e = envelope_reading e.properties e.headers e.body
+
+-- the message of an envelope, if it is one and names nothing that the book doesn't know
+abbrev pub known_one : Book → Result Content MessageFault → Option Content
+known_one book (Ok c) = if message_known book c then Some c else None
+known_one book (Err e) = None
+
+abbrev pub opened : Book → Envelope → Option Content
+opened book e = known_one book (reading e)
+
+-- of what a plan says, with these first messages
+abbrev pub worker_on : Roster → List Content → Protocol
+worker_on plan ms = record {
+  Envelope = Envelope;
+  Message = Content;
+  Carried = Load;
+  Outcome = Outcome;
+  no = λ c. number_of c.own;
+  outcome = outcome_of;
+  ended = λ c o. script (after c o);
+  completed = λ c es. script (body_after c es);
+  size = λ c. c.size;
+  sealed = sealed;
+  Back = λ c. reading (sealed c) ≡ Ok c;
+  opened = opened (book_on plan);
+  members = members plan;
+  first = ms;
+}
+
+abbrev pub worker : Line → Protocol
+worker l = worker_on (roster_of l) (first_messages l)
+
+-- a worker itself needs no first messages
+abbrev pub working : Roster → Protocol
+working plan = worker_on plan []

@@ -1,0 +1,72 @@
+//! Runs of canvases as data: what a worker asks, which histories of the queue and of the table of results a run has, and the law of
+//! whole runs. There is no running code here: each function has an empty body, and its contract is a law.
+#![tactic(auto)]
+
+ghost use Rattle.std.specs.Prelude.{◌≡◌, ℕ};
+ghost use Rattle.canvas_backend.specs.Backend.{results};
+ghost use Rattle.canvas_backend.specs.Roster.{roster_of};
+ghost use Rattle.canvas_rewrite.specs.Eval.{state_of, meaning};
+ghost use Rattle.canvas_rewrite.specs.Frozen.{Line, tree_of};
+ghost use Rattle.canvas_rewrite.specs.Planned.{IsPlan};
+ghost use Rattle.canvas_sig.specs.Normal.{normal};
+ghost use Rattle.canvas_sig.specs.Tree.{Tree, IsFull, numbered};
+ghost use Rattle.canvas_runs.specs.Callers.{OneList, OneTable, IsARun, ReadsHeld, RowsMay, RowsAre, CanvasRowsMay, CanvasRowsAre, PublishesByCause, PublishesByItsCause, PublishesOnce, CompletesOnce};
+ghost use Rattle.canvas_runs.specs.Rows.{RowsOfWell, RowsOfAny, TalliesCount, ARunStands};
+ghost use Rattle.canvas_runs.specs.StepLaws.{Rests, CallFirst, HeldFirst, BatchFirst};
+ghost use Rattle.canvas_runs.specs.Crew.{AreMates, AreRan};
+ghost use Rattle.canvas_runs.specs.Law.{FirstPart, SecondPart};
+ghost use Rattle.canvas_runs.specs.Run.{Run, Closed};
+
+/// The law of runs. Whatever the number of workers and the order of their calls, a run of a plan stores only the outcomes that
+/// evaluating its canvas gives, and publishes only the messages of tasks that are run, each once. A run that is closed stores
+/// all these outcomes, publishes all these messages and returns all these parts, each once. So each task of the canvas has the
+/// state that evaluating the canvas gives.
+pub fn law_of_runs()
+    ensures every_run { (l : Line) → IsPlan l → (r : Run l) → FirstPart l r }
+    ensures closed_runs { (l : Line) → IsPlan l → (r : Run l) → Closed l r → SecondPart l r }
+    ensures of_canvas { (c : Tree) → IsFull c → (l : Line) → IsPlan l → tree_of l ≡ numbered (normal c) → (r : Run l) → Closed l r → (t : ℕ) → (results (roster_of l) r.table).outcomes t ≡ state_of t (meaning c) }
+{}
+
+/// What each caller saw makes a run. Where worker 0 has made the passes and the seats of the workers, has taken all in again, and each
+/// has followed a core run, the one legal list of broker calls and that of backend calls have of each worker just its calls, in
+/// order. They are those of a run, and where all ended well the run is closed.
+pub fn runs_of_callers()
+    ensures passes { OneList }
+    ensures seats { OneTable }
+    ensures run { IsARun }
+    ensures reads { ReadsHeld }
+    ensures mates { AreMates }
+    ensures sides { AreRan }
+{}
+
+/// The law of runs, for what each caller saw. By the joined seat's list each task is pending or has the state that evaluating the
+/// canvas gives, and where all ended well it has that state. A message is published at most once, by the caller that brought
+/// about the event that runs its task: a body's first messages by the caller of the one completing part.
+pub fn law_of_callers()
+    ensures rows_may { RowsMay }
+    ensures rows_are { RowsAre }
+    ensures canvas_rows_may { CanvasRowsMay }
+    ensures canvas_rows_are { CanvasRowsAre }
+    ensures by_cause { PublishesByCause }
+    ensures by_its_cause { PublishesByItsCause }
+    ensures published_once { PublishesOnce }
+    ensures completed_once { CompletesOnce }
+{}
+
+/// Where a worker does nothing that is followed, and a step in front of what is followed is followed with it: an ask of its core
+/// answered by its pass or seat, one answered from the envelopes that it holds, and a batch taken.
+pub fn steps_of_workers()
+    ensures rests { Rests }
+    ensures call_first { CallFirst }
+    ensures held_first { HeldFirst }
+    ensures batch_first { BatchFirst }
+{}
+
+/// The rows that worker 0 reads at the end, each task once: those of a run that ended well are the states that evaluating the plan
+/// gives, and those of any run are these, or pending.
+pub fn rows_of_runs()
+    ensures well { RowsOfWell }
+    ensures any { RowsOfAny }
+    ensures tallies { TalliesCount }
+    ensures one { ARunStands }
+{}

@@ -1,0 +1,408 @@
+//! The backend: what its calls answer on one thread, by a seat, and by sixteen seats in threads.
+
+ghost use Rattle.std.specs.Prelude.{◌≡◌, ◌≢◌, ◌≤◌, IsTrue, IfSome, All};
+ghost use Rattle.canvas_backend.specs.Roster.{is_chord, is_member};
+ghost use Rattle.canvas_task.specs.Words.{NumberInRange};
+ghost use Rattle.canvas_backend.specs.Backend.{no_results};
+ghost use Rattle.canvas_backend.specs.Plain.{held};
+
+use canvas_backend::{Backend, BackendSeat, PlainBackend, Stored};
+use canvas_rewrite::{Plan, freeze, normalise};
+use canvas_sig::read_canvas;
+use canvas_task::{Fault, GroupNo, Kind, Outcome, TaskNo, Why};
+use std::alloc::{AllocError, Global};
+use std::test::*;
+use std::thread::{Threads, for_each_mut};
+
+/// A chord of three tasks, whose body has an error callback.
+const CHORD: &str =
+    r#"{"task":"x","subtask_type":"chord","kwargs":{"header":[{"task":"tasks.add","args":[4,4]},{"task":"tasks.div","args":[1,0]},{"task":"tasks.add","args":[8,8]}],"body":{"task":"tasks.xsum","options":{"link_error":[{"task":"tasks.log_error"}]}}}}"#;
+
+const EMPTY_GROUP: &str = r#"{"task":"x","subtask_type":"group","kwargs":{"tasks":[]}}"#;
+
+const ZERO_DIVISION: Outcome = Outcome::Failure(Fault::Plain(Kind::ZeroDivision));
+
+fn plan_of(alloc: Global, text: &str) -> Option<Plan> {
+    match read_canvas(alloc, text.as_bytes()) {
+        Ok(canvas) => match normalise(alloc, &canvas) {
+            Ok(line) => freeze(alloc, &line).ok(),
+            Err(_) => None,
+        },
+        Err(_) => None,
+    }
+}
+
+/// A group of a hundred tasks, then their sum.
+fn hundred(alloc: Global) -> Result<String, AllocError> {
+    let mut text = String::from_str(
+        alloc,
+        r#"{"task":"x","subtask_type":"chain","kwargs":{"tasks":[{"task":"x","subtask_type":"group","kwargs":{"tasks":["#,
+    )?;
+    text.push_str(r#"{"task":"tasks.add"}"#)?;
+    for _ in 1..100u32 {
+        text.push_str(r#",{"task":"tasks.add"}"#)?;
+    }
+    text.push_str(r#"]}},{"task":"tasks.xsum"}]}}"#)?;
+    Ok(text)
+}
+
+/// What the plan of three members says, by its own calls.
+fn plain_says(backend: &PlainBackend, group: GroupNo, none: GroupNo, task: TaskNo) -> bool {
+    backend.size(group) == Some(3)
+        && backend.size(none).is_none()
+        && backend
+            .member(group, 0)
+            .is_some_and(|first| first.get() == 1)
+        && backend.member(group, 3).is_none()
+        && !backend.is_member(none, task)
+}
+
+fn says(backend: &Backend, group: GroupNo, none: GroupNo, task: TaskNo) -> bool {
+    backend.size(group) == Some(3)
+        && backend.size(none).is_none()
+        && backend
+            .member(group, 0)
+            .is_some_and(|first| first.get() == 1)
+        && backend.member(group, 3).is_none()
+        && !backend.is_member(none, task)
+}
+
+/// Whether a task is one that a chord waits for.
+fn plain_waits(backend: &PlainBackend, group: GroupNo, task: TaskNo) -> bool
+    ensures { IsTrue result → (task ≤ backend.now.plan.tasks) × IsTrue (is_chord backend.now.plan group) × IsTrue (is_member backend.now.plan group task) }
+{
+    backend.knows(task) && backend.size(group).is_some() && backend.is_member(group, task)
+}
+
+fn waits(backend: &Backend, group: GroupNo, task: TaskNo) -> bool
+    ensures { IsTrue result → (task ≤ backend.now.plan.tasks) × IsTrue (is_chord backend.now.plan group) × IsTrue (is_member backend.now.plan group task) }
+{
+    backend.knows(task) && backend.size(group).is_some() && backend.is_member(group, task)
+}
+
+/// What three members' parts answer on one thread, the second member's first.
+fn plain_parts(
+    backend: &mut PlainBackend,
+    group: GroupNo,
+    one: TaskNo,
+    two: TaskNo,
+    three: TaskNo,
+    body: TaskNo,
+) -> Option<(u64, u64, u64)>
+    requires empty { held backend.old ≡ no_results }
+    requires apart { (one ≢ two) × (three ≢ two) × (three ≢ one) }
+{
+    if !plain_waits(backend, group, one) || !plain_waits(backend, group, two) {
+        return None;
+    }
+    if !plain_waits(backend, group, three) || !backend.knows(body) {
+        return None;
+    }
+    let stored = backend.store(two, &ZERO_DIVISION);
+    let again = backend.store(two, &Outcome::Success(5));
+    let kept = backend.read(two);
+    let none = backend.read(body);
+    let first = backend.part(group, two);
+    backend.store(one, &Outcome::Success(8));
+    let second = backend.part(group, one);
+    backend.store(three, &Outcome::Success(16));
+    let third = backend.part(group, three);
+    let found = stored == Stored::First && again == Stored::Again;
+    if found && kept == Some(ZERO_DIVISION) && none.is_none() {
+        Some((first, second, third))
+    } else {
+        None
+    }
+}
+
+/// What one thread's parts answer.
+fn by_hand(alloc: Global) -> Option<(u64, u64, u64)> {
+    let plan = plan_of(alloc, CHORD)?;
+    let mut backend = PlainBackend::new(alloc, &plan).ok()?;
+    let group = GroupNo::new(1)?;
+    let one = TaskNo::new(1)?;
+    let two = TaskNo::new(2)?;
+    let three = TaskNo::new(3)?;
+    let body = TaskNo::new(4)?;
+    if !plain_says(&backend, group, GroupNo::new(2)?, two) || backend.knows(TaskNo::new(6)?) {
+        return None;
+    }
+    plain_parts(&mut backend, group, one, two, three, body)
+}
+
+#[test]
+fn one_thread_counts_parts(rt: HostRuntime) -> Result<(), Fail> {
+    assert_eq!(rt; by_hand(rt.alloc()), Some((0, 1, 2)));
+    Ok(())
+}
+
+/// The same through one seat.
+fn parts(
+    backend: &Backend,
+    seat: &mut BackendSeat,
+    group: GroupNo,
+    one: TaskNo,
+    two: TaskNo,
+    three: TaskNo,
+    body: TaskNo,
+) -> Option<(u64, u64, u64)>
+    requires { seat.old.of ≡ backend.now.id }
+    ensures { seat.new.of ≡ backend.now.id }
+{
+    if !waits(backend, group, two) || !backend.knows(body) {
+        return None;
+    }
+    match backend.store(seat, two, &ZERO_DIVISION) {
+        Stored::First => {
+            let again = backend.store(seat, two, &Outcome::Success(5));
+            let kept = backend.read(seat, two);
+            let none = backend.read(seat, body);
+            let first = backend.part(seat, group, two);
+            let second = stores_and_returns(backend, seat, group, one, &Outcome::Success(8))?;
+            let third = stores_and_returns(backend, seat, group, three, &Outcome::Success(16))?;
+            if again == Stored::Again && kept == Some(ZERO_DIVISION) && none.is_none() {
+                Some((first, second, third))
+            } else {
+                None
+            }
+        }
+        Stored::Again => None,
+    }
+}
+
+/// Stores an outcome and returns the part, where the store was the first.
+fn stores_and_returns(
+    backend: &Backend,
+    seat: &mut BackendSeat,
+    group: GroupNo,
+    task: TaskNo,
+    outcome: &Outcome,
+) -> Option<u64>
+    requires seat { seat.old.of ≡ backend.now.id }
+    requires outcome { NumberInRange outcome.now }
+    ensures { seat.new.of ≡ backend.now.id }
+{
+    if !waits(backend, group, task) {
+        return None;
+    }
+    match backend.store(seat, task, outcome) {
+        Stored::First => Some(backend.part(seat, group, task)),
+        Stored::Again => None,
+    }
+}
+
+/// What a seat's parts answer, and what a seat that is split off reads.
+fn by_seats(alloc: Global) -> Option<((u64, u64, u64), Option<Outcome>)> {
+    let plan = plan_of(alloc, CHORD)?;
+    let (backend, mut seat) = Backend::new(alloc, &plan).ok()?;
+    let group = GroupNo::new(1)?;
+    let one = TaskNo::new(1)?;
+    let two = TaskNo::new(2)?;
+    let three = TaskNo::new(3)?;
+    let body = TaskNo::new(4)?;
+    if !says(&backend, group, GroupNo::new(2)?, two) || backend.knows(TaskNo::new(6)?) {
+        return None;
+    }
+    let counts = parts(&backend, &mut seat, group, one, two, three, body)?;
+    let mut other = backend.split(&mut seat).ok()?;
+    let read = if backend.knows(two) {
+        backend.read(&mut other, two)
+    } else {
+        None
+    };
+    backend.join(&mut seat, other);
+    Some((counts, read))
+}
+
+#[test]
+fn seats_count_parts(rt: HostRuntime) -> Result<(), Fail> {
+    assert_eq!(rt;
+        by_seats(rt.alloc()),
+        Some(((0, 1, 2), Some(ZERO_DIVISION)))
+    );
+    Ok(())
+}
+
+/// Whether an outcome that a seat stores is what it reads.
+fn comes_back(backend: &Backend, seat: &mut BackendSeat, task: TaskNo, outcome: &Outcome) -> bool
+    requires seat { seat.old.of ≡ backend.now.id }
+    requires outcome { NumberInRange outcome.now }
+    ensures { seat.new.of ≡ backend.now.id }
+{
+    if !backend.knows(task) {
+        return false;
+    }
+    backend.store(seat, task, outcome) == Stored::First
+        && backend.read(seat, task) == Some(*outcome)
+}
+
+/// Whether outcomes come back: the least and the greatest number, 0, and a failure of either kind.
+fn all_come_back(alloc: Global) -> Option<bool> {
+    let plan = plan_of(alloc, CHORD)?;
+    let (backend, mut seat) = Backend::new(alloc, &plan).ok()?;
+    let two = TaskNo::new(2)?;
+    let fault = Fault::Chord {
+        dep: two,
+        why: Why::Plain(Kind::ZeroDivision),
+    };
+    let least = Outcome::Success(-1152921504606846976);
+    let greatest = Outcome::Success(1152921504606846976);
+    let bad_call = Outcome::Failure(Fault::Plain(Kind::BadCall));
+    Some(
+        comes_back(&backend, &mut seat, TaskNo::new(1)?, &least)
+            && comes_back(&backend, &mut seat, two, &greatest)
+            && comes_back(&backend, &mut seat, TaskNo::new(3)?, &Outcome::Success(0))
+            && comes_back(&backend, &mut seat, TaskNo::new(4)?, &bad_call)
+            && comes_back(
+                &backend,
+                &mut seat,
+                TaskNo::new(5)?,
+                &Outcome::Failure(fault),
+            ),
+    )
+}
+
+#[test]
+fn outcomes_come_back(rt: HostRuntime) -> Result<(), Fail> {
+    assert_eq!(rt; all_come_back(rt.alloc()), Some(true));
+    Ok(())
+}
+
+/// One caller's share of the members, and what came of it.
+#[derive(Drop)]
+struct Share {
+    number: u32,
+    seat: Option<BackendSeat>,
+    completed: u32,
+    found: u32,
+}
+
+/// What a member's outcome is in these tests: one that no other member has.
+fn outcome_of_member(task: TaskNo) -> Outcome
+    ensures { NumberInRange result }
+{
+    Outcome::Failure(Fault::Chord {
+        dep: task,
+        why: Why::Chord,
+    })
+}
+
+/// How many of the members have their outcome.
+fn outcomes_found(backend: &Backend, seat: &mut BackendSeat, group: GroupNo) -> u32
+    requires { seat.old.of ≡ backend.now.id }
+    ensures { seat.new.of ≡ backend.now.id }
+{
+    let mut found = 0u32;
+    for index in 0..100u32 {
+        if let Some(task) = backend.member(group, index) {
+            if backend.knows(task) && backend.read(seat, task) == Some(outcome_of_member(task)) {
+                found = found.wrapping_add(1);
+            }
+        }
+    }
+    found
+}
+
+/// Stores and returns each sixteenth member. Where a part completes the chord, the seat reads all of them.
+fn stores_share(
+    backend: &Backend,
+    group: GroupNo,
+    seat: &mut BackendSeat,
+    number: u32,
+) -> (u32, u32)
+    requires { seat.old.of ≡ backend.now.id }
+    ensures { seat.new.of ≡ backend.now.id }
+{
+    let mut completed = 0u32;
+    let mut found = 0u32;
+    for index in 0..100u32 {
+        if index % 16 == number {
+            if let Some(task) = backend.member(group, index) {
+                let outcome = outcome_of_member(task);
+                if stores_and_returns(backend, seat, group, task, &outcome) == Some(99) {
+                    completed = completed.wrapping_add(1);
+                    found = found.wrapping_add(outcomes_found(backend, seat, group));
+                }
+            }
+        }
+    }
+    (completed, found)
+}
+
+fn does_share(backend: &Backend, group: GroupNo, share: &mut Share)
+    requires { IfSome share.old.seat (λ s. s.of ≡ backend.now.id) }
+{
+    if let Some(mut seat) = share.seat.take() {
+        let (completed, found) = stores_share(backend, group, &mut seat, share.number);
+        share.completed = completed;
+        share.found = found;
+        share.seat = Some(seat);
+    }
+}
+
+/// Sixteen shares, each with a seat of its own.
+fn dealt(alloc: Global, backend: &Backend, mut seat: BackendSeat) -> Option<Vec<Share>>
+    requires { seat.of ≡ backend.now.id }
+    ensures { IfSome result (λ v. All (λ s. IfSome s.seat (λ t. t.of ≡ backend.now.id)) v.items) }
+{
+    let mut shares = Vec::new(alloc);
+    for number in 0..16u32 {
+        let other = backend.split(&mut seat).ok()?;
+        let share = Share {
+            number,
+            seat: Some(other),
+            completed: 0,
+            found: 0,
+        };
+        shares.push(share).ok()?;
+    }
+    Some(shares)
+}
+
+fn do_shares<R: Threads + Sync>(rt: &R, backend: &Backend, group: GroupNo, shares: &mut [Share])
+    requires { All (λ s. IfSome s.seat (λ t. t.of ≡ backend.now.id)) shares.old }
+{
+    let each = |_: usize, share: &mut Share|
+        requires { IfSome share.now.seat (λ s. s.of ≡ backend.now.id) }
+    { does_share(backend, group, share) };
+    for_each_mut(rt, shares, 16, &each);
+}
+
+/// How many parts of a hundred members complete, and how many outcomes the seats that returned these read, over sixteen seats in threads.
+fn in_threads<R: Threads + Sync>(rt: &R, alloc: Global) -> Option<(u32, u32)> {
+    let text = hundred(alloc).ok()?;
+    let plan = plan_of(alloc, text.as_str())?;
+    let (backend, seat) = Backend::new(alloc, &plan).ok()?;
+    let mut shares = dealt(alloc, &backend, seat)?;
+    do_shares(rt, &backend, GroupNo::new(1)?, shares.as_mut_slice());
+    let mut completed = 0u32;
+    let mut found = 0u32;
+    for share in shares {
+        completed = completed.wrapping_add(share.completed);
+        found = found.wrapping_add(share.found);
+    }
+    Some((completed, found))
+}
+
+#[test]
+fn one_part_completes(rt: HostRuntime) -> Result<(), Fail> {
+    for _ in 0..200u32 {
+        assert_eq!(rt; in_threads(&rt, rt.alloc()), Some((1, 100)));
+    }
+    Ok(())
+}
+
+/// Whether the backend of a plan with no tasks splits a seat and takes it in.
+fn splits_and_joins(alloc: Global) -> Option<bool> {
+    let plan = plan_of(alloc, EMPTY_GROUP)?;
+    let (backend, mut seat) = Backend::new(alloc, &plan).ok()?;
+    let other = backend.split(&mut seat).ok()?;
+    backend.join(&mut seat, other);
+    Some(!backend.knows(TaskNo::new(1)?))
+}
+
+#[test]
+fn no_tasks_have_seats(rt: HostRuntime) -> Result<(), Fail> {
+    assert_eq!(rt; splits_and_joins(rt.alloc()), Some(true));
+    Ok(())
+}

@@ -1,0 +1,421 @@
+//! What follows the ends of tasks in messages that no canvas gives: numbers in any order and twice, chords in raised chords, empty
+//! headers, groups behind raised tasks, immutable bodies. The messages stand in a short notation; what follows was worked out apart from
+//! this program, by evaluating each line event by event.
+
+ghost use Rattle.std.specs.Prelude.{IfSome, All};
+ghost use Rattle.canvas_task.specs.Words.{NumberInRange};
+
+use crate::envelopes::{filled, read};
+use canvas_message::{Message, PartCall, Todo, after, body_after};
+use canvas_rewrite::{FrozenLine, Place};
+use canvas_task::{Arg, Fault, Kind, Outcome, TaskNo, Why};
+use std::alloc::{AllocError, Global};
+use std::test::*;
+
+/// Messages: the task; its links; its error callbacks; what follows it on its line, the last first; its group, and the body of its chord; and
+/// what follows where it succeeds with 7, and where it fails.
+const ENDS: [[&str; 8]; 33] = [
+    ["9", "", "", "i3';", "", "", "3<9(7)", "3=z"],
+    ["2", "", "", "i8';,i1';,i8';", "", "", "8<2(7)+18", "1=z 8=z 8=z"],
+    ["5", "i7';,i6';,j7';", "i4';,i3';", "i2';", "", "", "2<5(7) 6<5(7) 7<5(7) 7<5()", "2=z 3<5(#5) 4<5(#5)"],
+    ["4", "i4';", "i4';", "i4';,i4';", "", "", "4<4(7) 4<4(7)+4", "4=z 4=z 4<4(#4)"],
+    ["3", "", "", "", "1", "S2k9'Lib';]Eia';];", "!1:3/2", "!1:3/2"],
+    ["3", "", "", "i2'P1'KS2k9'Lib';]Eia';];;,i7';", "", "", "7<3(7)+2", "2=z 7=z !1:2/2"],
+    ["3", "", "", "", "5", "", "", ""],
+    ["3", "", "", "i2'P5';", "", "", "2<3(7)@5", "2=z"],
+    ["1", "", "", "G2(i6';,i4';,j5';)", "", "", "4<1(7)@2 5<1()@2 6<1(7)@2", "4=z 5=z 6=z"],
+    ["1", "", "", "H2[Ci6';,i3';),i4';|i2'P1'KS2k9'Lib';]Eia';];;;", "", "", "4<1(7)@2/2 6<1(7)+3", "2=z 3=z 4=z 6=z !1:2/2"],
+    ["1", "", "", "H3[i6';,i4';|Ci9';,i8'Ei7';];);", "", "", "4<1(7)@3/2 6<1(7)@3/2", "4=z 6=z 8=z 9=z"],
+    ["1", "", "", "H2[|i5';;", "", "", "5<1(none)", "5=z"],
+    ["1", "", "", "H2[|H3[|i5'Li6';]P1'KS2k9'Lib';]Eia';];;;;", "", "", "5<1(none)@1/2", "5=z !1:5/2"],
+    ["1", "", "", "H2[|G3(i5';,H4[|i2';;);", "", "", "2<1(none)@3 5<1(none)@3", "2=z 5=z"],
+    ["1", "", "", "H2[H3[|i6';;,i4';|i5';;", "", "", "4<1(7)@2/2 6<1(none)@2/2", "4=z 5=z 6=z"],
+    ["1", "", "", "G2()", "", "", "", ""],
+    ["1", "", "", "H2[|j5'Li6';];;", "", "", "5<1()", "5=z"],
+    ["1", "", "", "i4';,j5'Li3';];", "", "", "5<1()+4", "4=z 5=z"],
+    ["1", "", "", "H2[H3[i5';,i4';|i6';;,i7';|i8'P1'KS2k9'Lib';]Eia';];;;", "", "", "4<1(7)@3/2 5<1(7)@3/2 7<1(7)@2/2", "4=z 5=z 6=z 7=z 8=z !1:8/2"],
+    ["1", "", "", "H2[i9';|H3[i8';|i7'P1'KS2k9'Lib';]Eia';];;;;,i2';", "", "", "2<1(7)+H2", "2=z 7=z 8=z 9=z !1:7/2"],
+    ["6", "", "", "i1';,i2';,i3';,i4';,i5';", "", "", "5<6(7)+4321", "1=z 2=z 3=z 4=z 5=z"],
+    ["1", "i1';", "", "G1(i1';,i1';)", "", "", "1<1(7) 1<1(7)@1 1<1(7)@1", "1=z 1=z"],
+    ["7", "i3'Li2';];", "i5'Ei6';];", "", "1", "S2k9'Lib';]Eia';];", "3<7(7) !1:7/2", "5<7(#7) !1:7/2"],
+    ["7", "i3';", "", "", "9", "S1ci8';,i2'P4'KS2k1';;)", "3<7(7) !9:7/1", "!9:7/1"],
+    ["7", "", "", "H9[i5';,i4';,i6';|H8[i3';|i2'P4'KS2k1';;;;", "", "", "4<7(7)@9/3 5<7(7)@9/3 6<7(7)@9/3", "2=z 3=z 4=z 5=z 6=z !4:2/2"],
+    ["7", "", "", "H9[|H8[i3';,i2';|i5'P4'KS2k1';;;;", "", "", "2<7(none)@8/2 3<7(none)@8/2", "2=z 3=z 5=z !4:5/2"],
+    ["7", "", "", "H9[|G8(i3';,i2';);", "", "", "2<7(none)@8 3<7(none)@8", "2=z 3=z"],
+    ["7", "", "", "G8(Ci9';,i3';),Ci2';,H1[i4';|i5';;))", "", "", "2<7(7)+H1 9<7(7)+3", "2=z 3=z 4=z 5=z 9=z"],
+    ["7", "", "", "G8(i3';),jc';", "", "", "c<7()+G8", "3=z c=z"],
+    ["7", "", "", "G8(j3'Li2';];,i3';)", "", "", "3<7()@8 3<7(7)@8", "3=z 3=z"],
+    ["a", "", "", "H3[Ci2';,H4[i9';|i8';;),H5[|H6[|i7';;;|i6'P2';;", "", "", "2<a(7)+H4 7<a(none)@3/2", "2=z 6=z 7=z 8=z 9=z"],
+    ["a", "", "", "H3[ia';,ia';|ia'P3'KS2ka';;;", "", "", "a<a(7)@3/2 a<a(7)@3/2", "a=z a=z a=z !3:a/2"],
+    ["d", "", "", "H2[ic';|ib'Ei9';]P1'KS2kf'P7';;;,ie';", "", "", "e<d(7)+H2", "b=z c=z e=z !1:b/2"],
+];
+
+/// Bodies of chords, as a place carries them; the outcomes of their members; and what these start.
+const BODIES: [[&str; 3]; 29] = [
+    ["S2ci9'Lib';]Eia';,i8';];,i5';)", "3=4 2=5", "9<-(4.5)+5"],
+    ["S2ci9'Lib';]Eia';,i8';];,i5';)", "3=4 2:z", "5=C2z 9=C2z 8<9(#9) a<9(#9)"],
+    ["S2ci9'Lib';]Eia';,i8';];,i5';)", "3:C7z 2:z", "5=C3C 9=C3C 8<9(#9) a<9(#9)"],
+    ["S2m9'Ei4';]P6'KS3kc';;", "3=4 2=5", "9<-()@6/3"],
+    ["S2m9'Ei4';]P6'KS3kc';;", "3=4 2:z", "9=C2z 4<9(#9) !6:9/3"],
+    ["S2ci9';,i5'P6'KS3kc';;)", "3=4 2=5", "9<-(4.5)+5"],
+    ["S2ci9';,i5'P6'KS3kc';;)", "3:C7z 2:z", "5=C3C 9=C3C !6:5/3"],
+    ["S2ci9'Ei7';];,G4(i6';,i5';))", "3=4 2=5", "9<-(4.5)+G4"],
+    ["S2ci9'Ei7';];,G4(i6';,i5';))", "3=4 2:z", "5=C2z 6=C2z 9=C2z 7<9(#9)"],
+    ["S2g4(i9'Ei7';];,Ci6'Ei5';];,i8';))", "3=4 2=5", "6<-(4.5)+8 9<-(4.5)@4"],
+    ["S2g4(i9'Ei7';];,Ci6'Ei5';];,i8';))", "3=4 2:z", "6=C2z 8=C2z 9=C2z 5<6(#6) 7<9(#9)"],
+    ["S2g4(i9'Ei7';];,Ci6'Ei5';];,i8';))", "3:C7z 2:z", "6=C3C 8=C3C 9=C3C 5<6(#6) 7<9(#9)"],
+    ["S2h4[i9'Ei7';];,Ci6';,i8';)|i5'Ei4';]P6'KS3kc';;;", "3=4 2=5", "6<-(4.5)+8 9<-(4.5)@4/2"],
+    ["S2h4[i9'Ei7';];,Ci6';,i8';)|i5'Ei4';]P6'KS3kc';;;", "3=4 2:z", "5=C9C 6=C2z 8=C2z 9=C2z 4<5(#5) 7<9(#9) !6:5/3"],
+    ["S2h4[i9'Ei7';];,Ci6';,i8';)|i5'Ei4';]P6'KS3kc';;;", "3:C7z 2:z", "5=C9C 6=C3C 8=C3C 9=C3C 4<5(#5) 7<9(#9) !6:5/3"],
+    ["S2h4[H5[i9';,i8';|i7';;,i6';|i5';;", "3=4 2=5", "6<-(4.5)@4/2 8<-(4.5)@5/2 9<-(4.5)@5/2"],
+    ["S2h4[H5[i9';,i8';|i7';;,i6';|i5';;", "3=4 2:z", "5=C7C 6=C2z 7=C9C 8=C2z 9=C2z"],
+    ["S2h4[i6';,H5[i9';|i7'Ei3';];;|H7[id';|i5'P6'KS3kc';;;;", "3=4 2=5", "6<-(4.5)@4/2 9<-(4.5)@5/1"],
+    ["S2h4[i6';,H5[i9';|i7'Ei3';];;|H7[id';|i5'P6'KS3kc';;;;", "3=4 2:z", "5=CdC 6=C2z 7=C9C 9=C2z d=C6C 3<7(#7) !6:5/3"],
+    ["S2h4[|i5'Ei4';]P6'KS1kc';;;", "3=4 2=5", "5<-(none)@6/1"],
+    ["S2h4[|i5'Ei4';]P6'KS1kc';;;", "3=4 2:z", "5=C2z 4<5(#5) !6:5/1"],
+    ["S2h4[|H5[|i6';;;", "3=4 2=5", "6<-(none)"],
+    ["S2h4[|H5[|i6';;;", "3=4 2:z", "6=C2z"],
+    ["S2h4[H5[|i9';;|i6';;", "3=4 2=5", "9<-(none)@4/1"],
+    ["S2h4[H5[|i9';;|i6';;", "3=4 2:z", "6=C9C 9=C2z"],
+    ["S2g4()", "3=4 2=5", ""],
+    ["S2g4()", "3=4 2:z", ""],
+    ["S1k9'P3';", "4=0", "9<-(0)@3"],
+    ["S1k9'P3';", "4:z", "9=C4z"],
+];
+
+/// What a sign of the notation stands for; a digit stands for itself. `i5';` is task 5, `j` an immutable one, `L..]` and `E..]` its links and
+/// error callbacks, `P1'` its group and `K` its chord's body; `G1(..)` is a group, `H1[..|..;` a chord with its header and body, `C..)` a
+/// chain. `S2` begins a body with its size, and goes on with `k`, `m`, `g`, `h` or `c` for `i`, `j`, `G`, `H` or `C`.
+fn piece(sign: char) -> &'static str {
+    match sign {
+        'i' => r#"{"task":"tasks.ident","options":{"task_id":"00000000-0000-8000-8000-00000000000"#,
+        'k' => r#","task":"tasks.ident","options":{"task_id":"00000000-0000-8000-8000-00000000000"#,
+        'j' => {
+            r#"{"task":"tasks.ident","immutable":true,"options":{"task_id":"00000000-0000-8000-8000-00000000000"#
+        }
+        'm' => {
+            r#","task":"tasks.ident","immutable":true,"options":{"task_id":"00000000-0000-8000-8000-00000000000"#
+        }
+        'G' => {
+            r#"{"task":"x","subtask_type":"group","options":{"group_id":"00000000-0000-8000-9000-00000000000"#
+        }
+        'g' => {
+            r#","task":"x","subtask_type":"group","options":{"group_id":"00000000-0000-8000-9000-00000000000"#
+        }
+        'H' => {
+            r#"{"task":"x","subtask_type":"chord","options":{"group_id":"00000000-0000-8000-9000-00000000000"#
+        }
+        'h' => {
+            r#","task":"x","subtask_type":"chord","options":{"group_id":"00000000-0000-8000-9000-00000000000"#
+        }
+        'C' => r#"{"task":"x","subtask_type":"chain","kwargs":{"tasks":["#,
+        'c' => r#","task":"x","subtask_type":"chain","kwargs":{"tasks":["#,
+        'P' => r#","group_id":"00000000-0000-8000-9000-00000000000"#,
+        'K' => r#","chord":"#,
+        'S' => r#"{"chord_size":"#,
+        'L' => r#","link":["#,
+        'E' => r#","link_error":["#,
+        '(' => r#""},"kwargs":{"tasks":["#,
+        '[' => r#""},"kwargs":{"header":["#,
+        '|' => r#"],"body":"#,
+        ')' => "]}}",
+        ']' => "]",
+        ';' => "}}",
+        '\'' => "\"",
+        _ => "",
+    }
+}
+
+/// Puts the JSON of a notation behind a text. A hexadecimal digit follows the signs that begin an identifier, and `S`.
+fn push_json(text: &mut String, notation: &str) -> Result<(), AllocError> {
+    let mut number = false;
+    for sign in notation.chars() {
+        if number || sign == ',' {
+            text.push(sign)?;
+            number = false;
+        } else {
+            text.push_str(piece(sign))?;
+            number = matches!(sign, 'i' | 'k' | 'j' | 'm' | 'G' | 'g' | 'H' | 'h' | 'P' | 'S');
+        }
+    }
+    Ok(())
+}
+
+const PROPERTIES: &str = r#"{"content_encoding":"utf-8","content_type":"application/json"}"#;
+
+fn headers_of(alloc: Global, task: &str, group: &str) -> Result<String, AllocError> {
+    let text = if group.is_empty() {
+        format!(in alloc; r#"{{"id":"%{task}","task":"tasks.ident"}}"#)?
+    } else {
+        format!(in alloc; r#"{{"group":"@{group}","id":"%{task}","task":"tasks.ident"}}"#)?
+    };
+    filled(alloc, &text)
+}
+
+fn body_of(
+    alloc: Global,
+    links: &str,
+    errbacks: &str,
+    chain: &str,
+    chord: &str,
+) -> Result<String, AllocError> {
+    let mut text = String::from_str(alloc, r#"[[],{},{"callbacks":["#)?;
+    push_json(&mut text, links)?;
+    text.push_str(r#"],"errbacks":["#)?;
+    push_json(&mut text, errbacks)?;
+    text.push_str(r#"],"chain":["#)?;
+    push_json(&mut text, chain)?;
+    text.push_str(r#"],"chord":"#)?;
+    if chord.is_empty() {
+        text.push_str("null")?;
+    } else {
+        push_json(&mut text, chord)?;
+    }
+    text.push_str("}]")?;
+    Ok(text)
+}
+
+fn message_of(alloc: Global, task: &str, group: &str, body: &str) -> Option<Message> {
+    match headers_of(alloc, task, group) {
+        Ok(headers) => read(
+            alloc,
+            PROPERTIES.as_bytes(),
+            headers.as_bytes(),
+            body.as_bytes(),
+        )
+        .ok(),
+        Err(_) => None,
+    }
+}
+
+// ---- what follows, in the notation of the tables
+
+fn push_number(text: &mut String, number: u32) -> Result<(), AllocError> {
+    text.push(char::from_digit(number % 16, 16).unwrap_or('?'))
+}
+
+/// `z` where a division by zero is named, and `C` with the task that it names where a header's failure is.
+fn push_outcome(text: &mut String, outcome: &Outcome) -> Result<(), AllocError> {
+    match outcome {
+        Outcome::Success(_) => text.push('?'),
+        Outcome::Failure(Fault::Plain(_)) => text.push('z'),
+        Outcome::Failure(Fault::Chord { dep, why }) => {
+            text.push('C')?;
+            push_number(text, dep.get())?;
+            text.push(if matches!(why, Why::Chord) { 'C' } else { 'z' })
+        }
+    }
+}
+
+fn push_numbers(text: &mut String, numbers: &[i64]) -> Result<(), AllocError> {
+    if numbers.is_empty() {
+        return text.push_str("none");
+    }
+    let mut first = true;
+    for number in numbers {
+        if !first {
+            text.push('.')?;
+        }
+        first = false;
+        write!(text, "{number}")?;
+    }
+    Ok(())
+}
+
+fn push_arg(text: &mut String, arg: &Arg) -> Result<(), AllocError> {
+    match arg {
+        Arg::Num(number) => write!(text, "{number}"),
+        Arg::List(numbers) => push_numbers(text, numbers.get()),
+        Arg::Text(task) => {
+            text.push('#')?;
+            text.push(task.get().chars().last().unwrap_or('?'))
+        }
+    }
+}
+
+fn push_place(text: &mut String, place: &Place) -> Result<(), AllocError> {
+    text.push('@')?;
+    push_number(text, place.group.get())?;
+    match &place.chord {
+        Some(carried) => {
+            let size = carried.size;
+            write!(text, "/{size}")
+        }
+        None => Ok(()),
+    }
+}
+
+fn push_rest(text: &mut String, rest: &FrozenLine) -> Result<(), AllocError> {
+    text.push('+')?;
+    for task in rest.tasks.get() {
+        push_number(text, task.no.get())?;
+    }
+    match &rest.tail {
+        Some(end) => {
+            text.push(if end.body.is_some() { 'H' } else { 'G' })?;
+            push_number(text, end.group.get())
+        }
+        None => Ok(()),
+    }
+}
+
+fn push_message(text: &mut String, message: &Message) -> Result<(), AllocError> {
+    push_number(text, message.task.get())?;
+    text.push('<')?;
+    match message.parent {
+        Some(parent) => push_number(text, parent.get())?,
+        None => text.push('-')?,
+    }
+    text.push('(')?;
+    for arg in message.args.get() {
+        push_arg(text, arg)?;
+    }
+    text.push(')')?;
+    if let Some(place) = &message.place {
+        push_place(text, place)?;
+    }
+    match &message.rest {
+        Some(rest) => push_rest(text, rest),
+        None => Ok(()),
+    }
+}
+
+fn push_part(text: &mut String, part: &PartCall) -> Result<(), AllocError> {
+    text.push('!')?;
+    push_number(text, part.group.get())?;
+    text.push(':')?;
+    push_number(text, part.task.get())?;
+    let size = part.chord.size;
+    write!(text, "/{size}")
+}
+
+fn shown(alloc: Global, todo: &Todo) -> Result<String, AllocError> {
+    let mut text = String::new(alloc);
+    for store in todo.stores.get() {
+        push_number(&mut text, store.0.get())?;
+        text.push('=')?;
+        push_outcome(&mut text, &store.1)?;
+        text.push(' ')?;
+    }
+    for message in todo.messages.get() {
+        push_message(&mut text, message)?;
+        text.push(' ')?;
+    }
+    if let Some(part) = &todo.part {
+        push_part(&mut text, part)?;
+    }
+    Ok(text)
+}
+
+fn is_shown(alloc: Global, todo: &Todo, text: &str) -> bool {
+    match shown(alloc, todo) {
+        Ok(found) => found.as_str().trim_end() == text,
+        Err(_) => false,
+    }
+}
+
+// ---- ends of tasks
+
+const FAILS: Outcome = Outcome::Failure(Fault::Plain(Kind::ZeroDivision));
+
+/// Whether this follows the end of a message's task, by reference and where the message is given up.
+fn follows(alloc: Global, message: Message, outcome: &Outcome, text: &str) -> bool
+    requires { NumberInRange outcome.now }
+{
+    let lent = match after(alloc, &message, outcome) {
+        Ok(todo) => is_shown(alloc, &todo, text),
+        Err(_) => false,
+    };
+    lent && match message.into_todo(alloc, outcome) {
+        Ok(todo) => is_shown(alloc, &todo, text),
+        Err(_) => false,
+    }
+}
+
+fn ends_so(alloc: Global, row: &[&str; 8], outcome: &Outcome, text: &str) -> bool
+    requires { NumberInRange outcome.now }
+{
+    let [task, links, errbacks, chain, group, chord, _, _] = *row;
+    match body_of(alloc, links, errbacks, chain, chord) {
+        Ok(body) => match message_of(alloc, task, group, &body) {
+            Some(message) => follows(alloc, message, outcome, text),
+            None => false,
+        },
+        Err(_) => false,
+    }
+}
+
+#[test]
+fn ends_of_tasks(rt: HostRuntime) {
+    for row in &ENDS {
+        assert!(rt; ends_so(rt.alloc(), row, &Outcome::Success(7), row[6]), "{}: {}", row[0], row[6]);
+        assert!(rt; ends_so(rt.alloc(), row, &FAILS, row[7]), "{}: {}", row[0], row[7]);
+    }
+}
+
+// ---- bodies
+
+fn number_of(sign: Option<char>) -> Option<TaskNo> {
+    TaskNo::new(sign?.to_digit(16)?)
+}
+
+/// The outcome behind a task's number: a number from 0 to 9, a division by zero, or a header's failure.
+fn outcome_of(text: &str) -> Option<(TaskNo, Outcome)>
+    ensures { IfSome result (λ e. NumberInRange e.1) }
+{
+    let mut signs = text.chars();
+    let task = number_of(signs.next())?;
+    if signs.next()? == '=' {
+        return match signs.next()? {
+            '4' => Some((task, Outcome::Success(4))),
+            '5' => Some((task, Outcome::Success(5))),
+            _ => Some((task, Outcome::Success(0))),
+        };
+    }
+    if signs.next()? == 'z' {
+        return Some((task, FAILS));
+    }
+    let dep = number_of(signs.next())?;
+    let why = Why::Plain(Kind::ZeroDivision);
+    Some((task, Outcome::Failure(Fault::Chord { dep, why })))
+}
+
+fn outcomes_of(alloc: Global, text: &str) -> Option<Vec<(TaskNo, Outcome)>>
+    ensures { IfSome result (λ v. All (λ e. NumberInRange e.1) v.items) }
+{
+    let mut outcomes = Vec::new(alloc);
+    for word in text.split_whitespace() {
+        let outcome = outcome_of(word)?;
+        if outcomes.push(outcome).is_err() {
+            return None;
+        }
+    }
+    Some(outcomes)
+}
+
+/// The part of chord 1 whose members carry this body.
+fn part_of(alloc: Global, chord: &str) -> Option<PartCall> {
+    let body = body_of(alloc, "", "", "", chord).ok()?;
+    let message = message_of(alloc, "3", "1", &body)?;
+    match message.into_todo(alloc, &Outcome::Success(7)) {
+        Ok(todo) => todo.part,
+        Err(_) => None,
+    }
+}
+
+fn starts_so(alloc: Global, row: &[&str; 3]) -> bool {
+    let (Some(part), Some(outcomes)) = (part_of(alloc, row[0]), outcomes_of(alloc, row[1])) else {
+        return false;
+    };
+    match body_after(alloc, &part.chord, &outcomes) {
+        Ok(todo) => is_shown(alloc, &todo, row[2]),
+        Err(_) => false,
+    }
+}
+
+#[test]
+fn bodies_of_chords(rt: HostRuntime) {
+    for row in &BODIES {
+        assert!(rt; starts_so(rt.alloc(), row), "{} {}: {}", row[0], row[1], row[2]);
+    }
+}
