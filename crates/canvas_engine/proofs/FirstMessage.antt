@@ -1,5 +1,5 @@
 -- What a plan of tasks begins with, and the states that it stands for.
-use Rattle.std.proofs.Common.{◌≡◌, ℕ, List, [], ◌∷◌, ◌++◌, map, Bool, true, false, ◌&&◌, Option, Some, None, refl, sym, ap, ap₂, subst, ◌∙◌, option_to_list, length, length-append, arith}
+use Rattle.std.proofs.Common.{◌≡◌, ℕ, List, [], ◌∷◌, ◌++◌, map, Bool, true, false, ◌&&◌, Option, Some, None, refl, sym, ap, ap₂, subst, ◌∙◌, option_to_list, length, length-append, arith, MatchOption, ◌+◌}
 use Rattle.std.specs.Prelude.{ℤ, if◌then◌else◌}
 use Rattle.canvas_task.specs.Apply.{apply}
 use Rattle.canvas_task.specs.declared.outcome.Outcome.{Outcome}
@@ -8,6 +8,7 @@ use Rattle.canvas_sig.specs.Tree.{Call, Task, task, Tasks, no_tasks, and_task}
 use Rattle.canvas_rewrite.specs.Eval.{Flow, nothing, num, State, state, passed_on, eval_chain, arguments}
 use Rattle.canvas_rewrite.specs.Frozen.{Line, stop, step, group_end, chord_end, elements_of, tree_of, number_line}
 use Rattle.canvas_rewrite.specs.Placed.{PTask, p_task, PTasks, no_p_tasks, and_p_task, PPlace, p_nowhere, p_group, p_chord, PLine, p_stop, p_step, p_group_end, p_chord_end, bare, bare_task, strip_task}
+use Rattle.canvas_rewrite.specs.Planned.{IsPlan}
 use Rattle.canvas_rewrite.specs.States.{states}
 use Rattle.canvas_rewrite.proofs.RowNumbers.{states_in}
 use Rattle.canvas_message.specs.Content.{Content, line}
@@ -91,11 +92,17 @@ placed_lone (p_chord_end g ms b) h = absurd cc
 
 -- ---- messages of such lines
 
+runs : (call : Call) (x : flowing.Input) → state call (Some (flowing.input_flow x)) ≡ Some (apply call.name (arguments call (flowing.input_flow x)) call.kwargs)
+runs call flowing.nothing = refl
+runs call (flowing.number n) = refl
+runs call (flowing.numbers ns) = refl
+runs call (flowing.ident k) = refl
+
 -- of a task that is run with an input, by what evaluation says of it
 message_alone : (u : Option ℕ) (t : PTask) (x : flowing.Input) (l : PLine) → is_lone_task t ≡ true → is_lone l ≡ true
     → (content_states (message u t x l) ≡ states_of (strip_task t ∷ steps_in l) (flowing.input_flow x)) × (is_lone (line (message u t x l)) ≡ true)
 message_alone u t x l h more =
-    alone_as (λ v. (content_states (message u v x l) ≡ states_of (strip_task v ∷ steps_in l) (flowing.input_flow x)) × (is_lone (line (message u v x l)) ≡ true)) (λ k call. (refl, more)) t h
+    alone_as (λ v. (content_states (message u v x l) ≡ states_of (strip_task v ∷ steps_in l) (flowing.input_flow x)) × (is_lone (line (message u v x l)) ≡ true)) (λ k call. (sym (ap (λ s. s ∷ states_of (steps_in l) (passed_on s)) (runs call x)), more)) t h
 
 first_alone : (l : Line) → are_plain (elements_of l) ≡ true → Alone (first_messages l) (states_of (tasks_in l) nothing)
 unfolding tasks_in
@@ -146,3 +153,19 @@ popped (Some c) (x ∷ []) [] ss h none alone = let same : x ≡ c = cc in subst
 popped (Some c) (x ∷ []) (y ∷ ys) ss h none alone =
     let long : 1 ≡ length ((y ∷ ys) ++ c ∷ []) = ap length h in absurd (omega (arith, long, length-append ys (c ∷ [])))
 popped m (x ∷ y ∷ xs) left ss h none alone = elim alone [ ]
+
+none_of : (m : Option Content) (n left : ℕ) → MatchOption m ((n ≡ 0) × (left ≡ 0)) (λ x. left + 1 ≡ n) → m ≡ None → n ≡ 0
+none_of None n left h e = h.0
+none_of (Some c) n left h e = absurd cc
+
+pub begun : (l : Line) (m : Option Content) (old left : List Content) (n more : ℕ) → IsPlan l → are_plain (elements_of l) ≡ true → old ≡ first_messages l → old ≡ left ++ option_to_list m
+    → n ≡ length old → MatchOption m ((n ≡ 0) × (more ≡ 0)) (λ x. more + 1 ≡ n) → (option_states m ≡ states (tree_of l)) × (option_lone m ≡ true)
+begun l m old left n more plan h made split many cases =
+    popped m old left (states (tree_of l)) split (λ e. sym many ∙ none_of m n more cases e) (subst (λ ms. Alone ms (states (tree_of l))) (sym made) (plan_begins l plan.numbered h))
+
+pub gone_on : (o : Outcome) (m : Option Content) (old left : List Content) (c : Content) (n more : ℕ) → old ≡ (after c o).messages → old ≡ left ++ option_to_list m → is_lone (line c) ≡ true
+    → n ≡ length old → MatchOption m ((n ≡ 0) × (more ≡ 0)) (λ x. more + 1 ≡ n)
+    → (z : ℤ) → o ≡ Success z → (option_states m ≡ states_of (steps_in c.rest) (num z)) × (option_lone m ≡ true)
+gone_on o m old left c n more made split h many cases z is =
+    popped m old left (states_of (steps_in c.rest) (num z)) split (λ e. sym many ∙ none_of m n more cases e)
+    (subst (λ ms. Alone ms (states_of (steps_in c.rest) (num z))) (sym (made ∙ ap (λ x. (after c x).messages) is)) (goes_on c z h))

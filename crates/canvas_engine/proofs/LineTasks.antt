@@ -12,7 +12,7 @@ use Rattle.canvas_rewrite.specs.declared.frozen.FrozenEnd.{FrozenEnd, out-Frozen
 use Rattle.canvas_message.specs.View.{rest_seen}
 use Rattle.canvas_message.proofs.Seen.{line_none, line_some, end_none, end_some}
 use Rattle.canvas_engine.specs.Plain.{is_plain_task, are_plain, states_of}
-use Rattle.canvas_engine.specs.Messages.{steps_in, lone, lone_line}
+use Rattle.canvas_engine.specs.Messages.{steps_in}
 use Rattle.canvas_engine.proofs.PlainStates.{both}
 
 steps_then : (ts : List FrozenTask) (l : PLine) → steps_in (p_steps (map p_task_view ts) l) ≡ map task_in ts ++ steps_in l

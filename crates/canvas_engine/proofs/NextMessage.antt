@@ -1,5 +1,5 @@
 -- A message that was run, and the states that it stands for.
-use Rattle.std.proofs.Common.{◌≡◌, ℕ, List, [], ◌∷◌, ◌++◌, map, Bool, true, Option, Some, None, Result, Ok, Err, OnOk, OnErr, append_assoc, length, length-append, ◌<◌, arith, refl, sym, ap, subst, ◌∙◌, option_to_list}
+use Rattle.std.proofs.Common.{◌≡◌, ℕ, List, [], ◌∷◌, ◌++◌, map, Bool, true, Option, Some, None, Result, Ok, Err, OnOk, OnErr, append_assoc, length, length-append, ◌<◌, arith, refl, sym, ap, subst, ◌∙◌}
 use Rattle.std.specs.Prelude.{ℤ, if◌then◌else◌}
 use Rattle.canvas_task.specs.Apply.{IsInRange, apply}
 use Rattle.canvas_task.proofs.InRange.{apply_fits}
@@ -22,10 +22,8 @@ use Rattle.canvas_message.proofs.FitsOn.{given, next, started, next_fits}
 use Rattle.canvas_message.proofs.Seen.{called, task_seen}
 use Rattle.canvas_engine.specs.Plain.{states_of, Begins}
 use Rattle.canvas_message.specs.declared.fault.MessageFault.{MessageFault}
-use Rattle.canvas_engine.specs.Messages.{steps_in, content_states, option_states, read_states, read_lone, is_lone, option_lone}
-use Rattle.canvas_message.specs.Effects.{after}
+use Rattle.canvas_engine.specs.Messages.{steps_in, content_states, read_states, read_lone, is_lone}
 use Rattle.canvas_engine.proofs.Begun.{stored, on_err}
-use Rattle.canvas_engine.proofs.FirstMessage.{Alone, goes_on, popped}
 
 -- ---- a message that was run
 
@@ -67,10 +65,3 @@ answer_fits o name args kwargs e = subst IsInRange (sym e) (apply_fits name args
 -- what is published of an envelope that reads as a message
 pub read_alone : (read : Result Content MessageFault) (c : Content) → read ≡ Ok c → read_lone read ≡ true → is_lone (line c) ≡ true
 read_alone read c same h = sym (ap read_lone same) ∙ h
-
--- ---- the message that comes next
-
-pub next_states : (o : Outcome) (m : Option Content) (old left : List Content) (c : Content) → old ≡ (after c o).messages → old ≡ left ++ option_to_list m → (m ≡ None → length old ≡ 0) → is_lone (line c) ≡ true
-    → (n : ℤ) → o ≡ Success n → (option_states m ≡ states_of (steps_in c.rest) (num n)) × (option_lone m ≡ true)
-next_states o m old left c made popped_ none h n is =
-    popped m old left (states_of (steps_in c.rest) (num n)) popped_ none (subst (λ ms. Alone ms (states_of (steps_in c.rest) (num n))) (sym (made ∙ ap (λ x. (after c x).messages) is)) (goes_on c n h))

@@ -14,10 +14,9 @@ use Rattle.canvas_rewrite.specs.declared.frozen.FrozenEnd.{FrozenEnd}
 use Rattle.canvas_rewrite.proofs.EndLemmas.{ends_of_tree}
 use Rattle.canvas_rewrite.proofs.Numbered.{strip_bare}
 use Rattle.canvas_rewrite.proofs.PlanLines.{in_none, ends_last, ends_never}
-use Rattle.canvas_engine.specs.Messages.{call_of}
 use Rattle.canvas_engine.specs.Named.{named}
 use Rattle.canvas_engine.specs.Plain.{is_plain_task, are_plain}
-use Rattle.canvas_engine.proofs.Seen.{task_seen, call_seen, plain_ended}
+use Rattle.canvas_engine.proofs.Seen.{task_seen, call_of, call_seen, plain_ended}
 use Rattle.canvas_engine.proofs.PlainStates.{both}
 
 -- ---- the line of one more task

@@ -14,7 +14,6 @@ use Rattle.canvas_rewrite.specs.declared.frozen.FrozenLine.{FrozenLine, out-Froz
 use Rattle.canvas_rewrite.specs.declared.frozen.FrozenEnd.{FrozenEnd, out-FrozenEnd}
 use Rattle.canvas_rewrite.proofs.PlanLines.{in_none, in_some, in_group, in_chord}
 use Rattle.canvas_engine.specs.Plain.{is_plain_task, are_plain, is_plain_element}
-use Rattle.canvas_engine.specs.Messages.{call_of}
 
 stripped : (ts : List FrozenTask) → strip_tasks (p_tasks_of (map p_task_view ts)) ≡ tasks_of (map task_in ts)
 stripped [] = refl
@@ -28,6 +27,9 @@ task_seen t =
     ap strip_task (ftask.fold_out-FrozenTask Load PLine PLine PTask PPlace carried_step p_end_step p_line_step p_task_step place_step t)
     ∙ ap (λ ls. task (out-FrozenTask t).no (call_in t) ls (strip_tasks (p_tasks_of (map p_task_view (out-FrozenTask t).errbacks)))) (stripped (out-FrozenTask t).links)
     ∙ ap (task (out-FrozenTask t).no (call_in t) (tasks_of (map task_in (out-FrozenTask t).links))) (stripped (out-FrozenTask t).errbacks)
+
+abbrev pub call_of : Task → Call
+call_of (task k call links errbacks) = call
 
 pub call_seen : (t : FrozenTask) → call_of (task_in t) ≡ call_in t
 call_seen t = ap call_of (task_seen t)

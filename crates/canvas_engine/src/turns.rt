@@ -3,6 +3,7 @@ ghost use Rattle.canvas_rewrite.specs.Eval.{skip, num};
 ghost use Rattle.canvas_rewrite.specs.FrozenView.{task_in};
 ghost use Rattle.canvas_engine.specs.Plain.{are_plain, states_of, Begins};
 ghost use Rattle.canvas_rewrite.specs.Frozen.{elements_of, tree_of};
+ghost use Rattle.canvas_rewrite.specs.Planned.{IsPlan};
 ghost use Rattle.canvas_rewrite.specs.States.{states};
 ghost use Rattle.canvas_engine.specs.Runs.{HasBegun, IsRunFault};
 ghost use Rattle.canvas_message.specs.View.{rest_seen};
@@ -92,7 +93,8 @@ fn followers(message: &Message) -> &[FrozenTask]
 
 /// The message that a plan of tasks begins with, if there is a task.
 fn begin(alloc: Global, plan: &Plan) -> Result<Option<Message>, Memory>
-    requires { IsTrue (are_plain (elements_of plan.now)) }
+    requires plain { IsTrue (are_plain (elements_of plan.now)) }
+    requires planned { IsPlan plan.now }
     ensures states { IfOk result (λ m. option_states m ≡ states (tree_of plan.now)) }
     ensures lone { IfOk result (λ m. option_lone m ≡ true) }
 {
@@ -130,7 +132,7 @@ fn run_message(
     let outcome = outcome_of(&message);
     store(rows, outcome)?;
     match outcome {
-        Outcome::Success(_) => publish(alloc, go_on(alloc, message, &outcome)?, queue),
+        Outcome::Success(_number) => publish(alloc, go_on(alloc, message, &outcome)?, queue),
         Outcome::Failure(fault) => skip_all(followers(&message), &fault, rows),
     }
 }
@@ -176,7 +178,8 @@ fn drain(
 
 /// Runs the tasks of a plan, one after another.
 fn run_tasks(alloc: Global, plan: &Plan, rows: &mut Vec<Option<Outcome>>) -> Result<(), Memory>
-    requires { IsTrue (are_plain (elements_of plan.now)) }
+    requires plain { IsTrue (are_plain (elements_of plan.now)) }
+    requires planned { IsPlan plan.now }
     ensures ok { OnOk result (rows.new.items ≡ rows.old.items ++ states (tree_of plan.now)) }
     ensures err { OnErr result (Begins rows.new.items (rows.old.items ++ states (tree_of plan.now))) }
 {
