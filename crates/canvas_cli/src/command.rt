@@ -2,19 +2,34 @@
 
 use crate::input::read_text;
 use crate::refusal::Refusal;
-use crate::words::{Asked, read_words};
+use crate::words::{Verb, bad_text, read_words};
 use canvas_engine::{Cause, Report, RunFault, TextFault, rows_text, run_text};
 use canvas_rewrite::{node_of, normalise};
-use canvas_sig::{Canvas, SigFault, read_canvas, write_node};
+use canvas_sig::{Canvas, read_canvas, write_node};
 use canvas_task::Memory;
 use clap::error::ErrorKind;
 use std::alloc::Global;
-use std::fs;
+use std::fmt::Display;
 use std::io::{self, Read, Write};
-use std::rt::Files;
+use std::rt::{Env, Files};
+use std::{env, fs};
+
+/// The words that the program was started with, behind its name.
+pub fn given_words<S: Env + AllocGlobal>(rt: &S) -> io::Result<Vec<String>> {
+    Ok(env::args(rt)?.skip(1).collect(rt.alloc())?)
+}
+
+/// Refuses words that can't be had, for want of memory or since one isn't UTF-8. The answer is the status.
+pub fn refuse_words<E: Write>(alloc: Global, error: &io::Error, err: &mut E) -> u8 {
+    let refusal = match error.kind() {
+        io::ErrorKind::OutOfMemory => Refusal::Memory,
+        _ => Refusal::from(bad_text(alloc)),
+    };
+    refuse(&refusal, err)
+}
 
 /// Runs the program: `words` are those after its name, `input` is what the file `-` stands for.
-/// The report, or help, goes to `out`, and one line on why there is none to `err`. The answer is the status:
+/// The report, or help, goes to `out`, and to `err` why there is none. The answer is the status:
 /// 0 where it ran, 1 where it was refused, and 2 where it ended early.
 pub fn command<S: Files + AllocGlobal, R: Read, W: Write, E: Write>(
     rt: &S,
@@ -23,76 +38,54 @@ pub fn command<S: Files + AllocGlobal, R: Read, W: Write, E: Write>(
     out: &mut W,
     err: &mut E,
 ) -> u8 {
-    let alloc = rt.alloc();
-    let Ok(words) = named_words(alloc, words) else {
-        return refuse(alloc, &Refusal::Memory, err);
-    };
-    match answer(rt, &words, input, out) {
+    match answer(rt, words, input, out) {
         Ok(()) => 0,
-        Err(refusal) => refuse(alloc, &refusal, err),
+        Err(refusal) => refuse(&refusal, err),
     }
 }
 
-/// The words behind the program's name.
-fn named_words<'w>(alloc: Global, words: &'w [String]) -> Result<Vec<&'w str>, Memory> {
-    let mut all = Vec::new(alloc);
-    all.push("canvas")?;
-    for word in words {
-        all.push(word.as_str())?;
-    }
-    Ok(all)
-}
-
-/// Prints why there is no answer. Where that can't be printed either, the status is all that is left.
-fn refuse<E: Write>(alloc: Global, refusal: &Refusal, err: &mut E) -> u8 {
-    if let Ok(text) = format!(in alloc; "{refusal}") {
-        let _ = err.write_all(text.as_bytes());
-        let _ = err.flush();
-    }
+/// Prints why there is no answer, piece by piece, since there may be no memory for a text. Where that can't be printed
+/// either, the status is all that is left.
+fn refuse<E: Write>(refusal: &Refusal, err: &mut E) -> u8 {
+    let _ = write_and_flush(err, refusal);
     refusal.status()
 }
 
-fn print<'w, W: Write>(out: &mut W, text: &str) -> Result<(), Refusal<'w>> {
+fn print<'w, W: Write, D: Display>(out: &mut W, text: &D) -> Result<(), Refusal<'w>> {
     match write_and_flush(out, text) {
         Ok(()) => Ok(()),
         Err(_) => Err(Refusal::CannotWrite),
     }
 }
 
-fn write_and_flush<W: Write>(out: &mut W, text: &str) -> io::Result<()> {
-    out.write_all(text.as_bytes())?;
+fn write_and_flush<W: Write, D: Display>(out: &mut W, text: &D) -> io::Result<()> {
+    write!(out, "{text}")?;
     out.flush()
 }
 
 fn answer<'w, S: Files + AllocGlobal, R: Read, W: Write>(
     rt: &S,
-    words: &'w [&'w str],
+    words: &'w [String],
     input: &mut R,
     out: &mut W,
 ) -> Result<(), Refusal<'w>> {
     let alloc = rt.alloc();
-    match read_words(alloc, words) {
-        Ok(Asked::Run { file }) => {
-            let text = text_of(rt, file, input)?;
-            run(alloc, &text, out)
-        }
-        Ok(Asked::Normal { file }) => {
-            let text = text_of(rt, file, input)?;
-            print(out, &normal_text(alloc, &text)?)
-        }
-        Err(error) => help(alloc, error, out),
+    let asked = match read_words(alloc, words) {
+        Ok(asked) => asked,
+        Err(error) => return help(error, out),
+    };
+    let text = text_of(rt, asked.file, input)?;
+    match asked.verb {
+        Verb::Run => run(alloc, &text, out),
+        Verb::Normal => print(out, &normal_text(alloc, &text)?),
     }
 }
 
 /// Help is an answer; any other thing that the words' parser says is a refusal.
-fn help<'w, W: Write>(alloc: Global, error: clap::Error, out: &mut W) -> Result<(), Refusal<'w>> {
+fn help<'w, W: Write>(error: clap::Error, out: &mut W) -> Result<(), Refusal<'w>> {
     match error.kind() {
-        ErrorKind::DisplayHelp => match format!(in alloc; "{error}") {
-            Ok(text) => print(out, &text),
-            Err(_) => Err(Refusal::Memory),
-        },
-        ErrorKind::OutOfMemory => Err(Refusal::Memory),
-        _ => Err(Refusal::Words(error)),
+        ErrorKind::DisplayHelp => print(out, &error),
+        _ => Err(Refusal::from(error)),
     }
 }
 
@@ -126,14 +119,8 @@ fn unread<'w>(error: &io::Error, file: &'w str) -> Refusal<'w> {
 
 /// The normal line of a canvas as JSON, with a line feed.
 fn normal_text<'w>(alloc: Global, text: &[u8]) -> Result<String, Refusal<'w>> {
-    match read_canvas(alloc, text) {
-        Ok(canvas) => match line_text(alloc, &canvas) {
-            Ok(text) => Ok(text),
-            Err(Memory) => Err(Refusal::Memory),
-        },
-        Err(SigFault::Memory) => Err(Refusal::Memory),
-        Err(fault) => Err(Refusal::Canvas(fault)),
-    }
+    let canvas = read_canvas(alloc, text)?;
+    Ok(line_text(alloc, &canvas)?)
 }
 
 fn line_text(alloc: Global, canvas: &Canvas) -> Result<String, Memory> {
@@ -147,8 +134,7 @@ fn line_text(alloc: Global, canvas: &Canvas) -> Result<String, Memory> {
 fn run<'w, W: Write>(alloc: Global, text: &[u8], out: &mut W) -> Result<(), Refusal<'w>> {
     match run_text(alloc, text, 1, &[]) {
         Ok(report) => print(out, &report),
-        Err(TextFault::Sig(SigFault::Memory)) => Err(Refusal::Memory),
-        Err(TextFault::Sig(fault)) => Err(Refusal::Canvas(fault)),
+        Err(TextFault::Sig(fault)) => Err(Refusal::from(fault)),
         Err(TextFault::Run(fault)) => Err(early(alloc, text, fault, out)),
         Err(TextFault::Memory) => Err(Refusal::Memory),
     }

@@ -1,24 +1,29 @@
 //! Reading a canvas's text, as far as one can be long.
 
 use std::alloc::Global;
-use std::io::{self, Read};
+use std::io::{self, ErrorKind, Read};
 
 /// One byte more than the longest text, so that a longer one shows.
 const MOST_BYTES: usize = 1_048_577;
 
 const CHUNK: usize = 8192;
 
-/// Reads at most `MOST_BYTES` bytes in at most that many reads. A text that doesn't end within them is a fault.
+/// Reads at most `MOST_BYTES` bytes in at most that many reads, of which those that are interrupted are some. Where
+/// these end before the text does, that is a fault.
 pub(crate) fn read_text<R: Read>(alloc: Global, reader: &mut R) -> io::Result<Vec<u8>> {
     let mut text = Vec::new(alloc);
     let mut chunk = [0u8; CHUNK];
     for _ in 0..MOST_BYTES {
         let room = MOST_BYTES.saturating_sub(text.len()).min(CHUNK);
-        let count = reader.read(&mut chunk[..room])?;
-        if count == 0 {
+        match reader.read(&mut chunk[..room]) {
+            Ok(0) => return Ok(text),
+            Ok(count) => text.extend_from_slice(&chunk[..count])?,
+            Err(error) if error.kind() == ErrorKind::Interrupted => {}
+            Err(error) => return Err(error),
+        }
+        if text.len() >= MOST_BYTES {
             return Ok(text);
         }
-        text.extend_from_slice(&chunk[..count])?;
     }
-    Err(io::Error::from(io::ErrorKind::Other))
+    Err(io::Error::from(ErrorKind::Other))
 }

@@ -1,10 +1,12 @@
 //! Why the program ends without all that it was asked for.
 
-use canvas_engine::{Cause, RunFault, TextFault};
 use canvas_sig::SigFault;
+use canvas_task::Memory;
+use clap::error::ErrorKind;
 use std::fmt;
 
-/// The reason, which is printed as one line on standard error, and decides the status.
+/// The reason, which is printed as one line on standard error, and decides the status. What the parser of words says
+/// may have several lines.
 #[derive(Drop)]
 pub(crate) enum Refusal<'w> {
     /// The command line, with what the parser of words says of it.
@@ -27,6 +29,30 @@ impl Refusal<'_> {
             Refusal::Memory | Refusal::Stopped => 2,
             _ => 1,
         }
+    }
+}
+
+impl<'w> From<clap::Error> for Refusal<'w> {
+    fn from(error: clap::Error) -> Refusal<'w> {
+        match error.kind() {
+            ErrorKind::OutOfMemory => Refusal::Memory,
+            _ => Refusal::Words(error),
+        }
+    }
+}
+
+impl<'w> From<SigFault> for Refusal<'w> {
+    fn from(fault: SigFault) -> Refusal<'w> {
+        match fault {
+            SigFault::Memory => Refusal::Memory,
+            _ => Refusal::Canvas(fault),
+        }
+    }
+}
+
+impl<'w> From<Memory> for Refusal<'w> {
+    fn from(_refused: Memory) -> Refusal<'w> {
+        Refusal::Memory
     }
 }
 

@@ -1,0 +1,160 @@
+//! Help, and words that are refused.
+
+use super::answers;
+use crate::command::refuse_words;
+use crate::help::NOTES;
+use canvas_sig::SigFault;
+use std::io::{self, ErrorKind};
+use std::test::Fail;
+
+/// What stands above the notes.
+const COMMANDS: &str = "\
+Runs Celery canvases: chains, groups and chords of tasks
+
+Usage: canvas <COMMAND>
+
+Commands:
+  run     Runs a canvas and prints the state and result of each task
+  normal  Prints a canvas's normal line as JSON
+  help    Print this message or the help of the given subcommand(s)
+
+Options:
+  -h, --help  Print help
+";
+
+const RUN_HELP: &str = "\
+Runs a canvas and prints the state and result of each task
+
+Usage: canvas run <FILE>
+
+Arguments:
+  <FILE>  The canvas as JSON; `-` is standard input
+
+Options:
+  -h, --help  Print help
+";
+
+const NORMAL_HELP: &str = "\
+Prints a canvas's normal line as JSON
+
+Usage: canvas normal <FILE>
+
+Arguments:
+  <FILE>  The canvas as JSON; `-` is standard input
+
+Options:
+  -h, --help  Print help
+";
+
+const NO_COMMAND: &str = "\
+error: 'canvas' requires a subcommand but one was not provided
+  [subcommands: run, normal, help]
+
+Usage: canvas <COMMAND>
+
+For more information, try '--help'.
+";
+
+const NO_FILE: &str = "\
+error: the following required arguments were not provided:
+  <FILE>
+
+Usage: canvas run <FILE>
+
+For more information, try '--help'.
+";
+
+const OTHER_COMMAND: &str = "\
+error: unrecognized subcommand 'walk'
+
+Usage: canvas <COMMAND>
+
+For more information, try '--help'.
+";
+
+const TWO_FILES: &str = "\
+error: unexpected argument '-' found
+
+Usage: canvas run <FILE>
+
+For more information, try '--help'.
+";
+
+const OTHER_OPTION: &str = "\
+error: unexpected argument '--workers' found
+
+  tip: to pass '--workers' as a value, use '-- --workers'
+
+Usage: canvas run <FILE>
+
+For more information, try '--help'.
+";
+
+const NOT_UTF_8: &str = "\
+error: invalid UTF-8 was detected in one or more arguments
+
+Usage: canvas <COMMAND>
+
+For more information, try '--help'.
+";
+
+#[test]
+fn help(rt: HostRuntime) -> Result<(), Fail> {
+    let text = format!(in rt.alloc(); "{COMMANDS}\n{NOTES}\n")?;
+    for line in ["--help", "-h", "help"] {
+        assert!(rt; answers(&rt, line, "", 0, &text, ""), "{line}");
+    }
+    Ok(())
+}
+
+#[test]
+fn help_names_each_refusal(rt: HostRuntime) -> Result<(), Fail> {
+    for fault in [
+        SigFault::TooLarge,
+        SigFault::NotJson,
+        SigFault::NotSignature,
+        SigFault::UnknownPrimitive,
+        SigFault::BadArgs,
+        SigFault::BadNumber,
+        SigFault::OnCanvas,
+        SigFault::Frozen,
+        SigFault::EmptyChain,
+        SigFault::NestedGroup,
+        SigFault::TooDeep,
+        SigFault::TooMany,
+        SigFault::Memory,
+    ] {
+        let code = fault.code();
+        let line = format!(in rt.alloc(); "\n  {code:>2} {fault} ")?;
+        assert!(rt; NOTES.contains(line.as_str()), "{fault}");
+    }
+    Ok(())
+}
+
+#[test]
+fn words_of_commands(rt: HostRuntime) {
+    for (line, status, out, err) in [
+        ("run --help", 0, RUN_HELP, ""),
+        ("normal --help", 0, NORMAL_HELP, ""),
+        ("", 1, "", NO_COMMAND),
+        ("run", 1, "", NO_FILE),
+        ("walk -", 1, "", OTHER_COMMAND),
+        ("run - -", 1, "", TWO_FILES),
+        ("run --workers 2 -", 1, "", OTHER_OPTION),
+    ] {
+        assert!(rt; answers(&rt, line, "", status, out, err), "{line}");
+    }
+}
+
+/// Whether words that can't be had are refused with a status and a text.
+fn refuses(rt: &HostRuntime, kind: ErrorKind, status: u8, err: &str) -> bool {
+    let mut told: Vec<u8> = Vec::new(rt.alloc());
+    refuse_words(rt.alloc(), &io::Error::from(kind), &mut told) == status
+        && told.as_slice() == err.as_bytes()
+}
+
+#[test]
+fn words_that_cannot_be_had(rt: HostRuntime) {
+    assert!(rt; refuses(&rt, ErrorKind::InvalidData, 1, NOT_UTF_8));
+    assert!(rt; refuses(&rt, ErrorKind::OutOfMemory, 2, "canvas: memory refused\n"));
+}
