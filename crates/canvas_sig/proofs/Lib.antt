@@ -20,3 +20,4 @@ pub mod ReadsAgain
 pub mod InOrder
 pub mod Fitting
 pub mod JsonTexts
+pub mod NormalEnds

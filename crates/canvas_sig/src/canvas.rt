@@ -46,8 +46,8 @@ impl Model for Canvas {
 }
 
 impl Canvas {
-    /// Checks a composed signature. A text can't spell most of its faults: only names, numbers and empty chains are looked at,
-    /// and then the limits of a canvas.
+    /// Checks a composed signature: names, numbers and empty chains, signature by signature, and then the limits of a canvas.
+    /// A text can spell these faults too; its other faults are of its JSON, and no composed signature has them.
     pub fn of(_alloc: Global, node: Node) -> Result<Canvas, SigFault>
         ensures ok { IfOk result (λ canvas. (node_fault (view node) ≡ None) × (canvas ≡ view node)) }
         ensures err { IfErr result (λ e. node_fault (view node) ≡ Some e) }
