@@ -2,6 +2,7 @@
 use Rattle.std.proofs.Common.{◌≡◌, ℕ, List, [], ◌∷◌, map, true, false, Bool, refl, sym, ap, ◌∙◌, subst}
 use Rattle.std.specs.Prelude.{ℤ, ◌&&◌, ◌==◌, Some, None, Result, Ok, Err, OnOk, length}
 use Rattle.std.specs.List.{list_all}
+use Rattle.canvas_task.specs.Entries.{Ascends}
 use Rattle.canvas_task.specs.Name.{name_ok}
 use Rattle.canvas_task.specs.Numbers.{in_range}
 use Rattle.canvas_task.specs.declared.arg.Arg.{Arg}
@@ -10,7 +11,7 @@ use Rattle.canvas_sig.specs.NodeFaults.{arg_ok, its_call, call_fault, task_fault
 use Rattle.canvas_sig.specs.Reading.{◌or_else◌}
 use Rattle.canvas_sig.specs.Tree.{chain}
 use Rattle.canvas_sig.specs.View.{task_view, tasks_of, view, trees_of}
-use Rattle.canvas_sig.specs.Writable.{NumbersFit, ArgFits, ArgsFit, KwargsFit, Ascends, CallFits, TaskFits, TasksFit, TreeFits, TreesFit}
+use Rattle.canvas_sig.specs.Writable.{NumbersFit, ArgFits, ArgsFit, KwargsFit, CallFits, TaskFits, TasksFit, TreeFits, TreesFit}
 use Rattle.canvas_sig.specs.declared.fault.SigFault.{SigFault}
 use Rattle.canvas_sig.specs.declared.node.Node.{Node}
 use Rattle.canvas_sig.specs.declared.task_sig.TaskSig.{TaskSig, out-TaskSig}

@@ -21,3 +21,5 @@ pub mod InOrder
 pub mod Fitting
 pub mod JsonTexts
 pub mod NormalEnds
+pub mod ArgumentLaw
+pub mod Depth

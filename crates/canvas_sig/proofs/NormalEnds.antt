@@ -1,5 +1,5 @@
 -- What a line ends in, before and after it is rewritten.
-use Rattle.std.proofs.Common.{◌≡◌, Bool, true, false, ◌||◌, refl, ap, ◌∙◌}
+use Rattle.std.proofs.Common.{◌≡◌, Bool, false, ◌||◌, refl, ◌∙◌}
 use Rattle.canvas_sig.specs.Limits.{nests_group, some_nests_group, some_ends_in_group}
 use Rattle.canvas_sig.specs.Normal.{onto, all_onto, normal}
 use Rattle.canvas_sig.specs.Tree.{Tree, one, chain, group, chord, Trees, no_trees, and_tree, IsFull, AreFull, ends_in_group, last_in_group}

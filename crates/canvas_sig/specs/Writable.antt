@@ -1,8 +1,6 @@
 -- The signatures that can be written and read again: what a canvas holds.
 use Rattle.std.specs.Prelude.{◌≡◌, ℕ, true, List, [], ◌∷◌, None, ℤ}
-use Rattle.std.specs.Ordering.{nat_cmp}
-use Rattle.std.specs.declared.cmp.Ordering.TheVariants.{Less}
-use Rattle.std.specs.Cmp.Lexicographic.{slice_cmp}
+use Rattle.canvas_task.specs.Entries.{Ascends}
 use Rattle.canvas_task.specs.Name.{name_ok}
 use Rattle.canvas_task.specs.Numbers.{in_range}
 use Rattle.canvas_task.specs.declared.arg.Arg.{Arg}
@@ -28,16 +26,6 @@ ArgsFit (a ∷ args) = ArgFits a × ArgsFit args
 abbrev pub KwargsFit : List (List ℕ × Arg) → Type 0
 KwargsFit [] = Unit {0}
 KwargsFit (e ∷ es) = ArgFits e.1 × KwargsFit es
-
--- ---- keyword arguments stand in the order of their names, each name once
-
-abbrev pub IsBelow : List ℕ → List (List ℕ × Arg) → Type 0
-IsBelow k [] = Unit {0}
-IsBelow k (e ∷ es) = (slice_cmp nat_cmp k e.0 ≡ Less) × IsBelow k es
-
-abbrev pub Ascends : List (List ℕ × Arg) → Type 0
-Ascends [] = Unit {0}
-Ascends (e ∷ es) = IsBelow e.0 es × Ascends es
 
 -- ---- whole signatures, not numbered yet
 
