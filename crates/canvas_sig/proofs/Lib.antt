@@ -23,3 +23,4 @@ pub mod JsonTexts
 pub mod NormalEnds
 pub mod ArgumentLaw
 pub mod Depth
+pub mod Fits

@@ -27,6 +27,7 @@ use Rattle.canvas_sig.specs.Writing.{tree_wire}
 use Rattle.canvas_sig.proofs.CleanWire.{tree_clean, tree_depth}
 use Rattle.canvas_sig.proofs.Depth.{fault_enough, tree_enough}
 use Rattle.canvas_sig.proofs.Law.{tree_judged}
+use Rattle.canvas_sig.proofs.Fits.{canvas_fits, canvas_within}
 use Rattle.canvas_sig.proofs.RoundTrip.{tree_back}
 use Rattle.canvas_sig.proofs.WholeText.{text_again}
 
@@ -92,13 +93,15 @@ no_refusal t d text short json first spells within =
 
 pub reads_again : (t : Tree) (text : List ℕ) → IsCanvas t → text ≡ compact_text (tree_wire t) → IsUtf8 text → length text ≤ most_bytes → reading text ≡ Ok t
 reads_again t text canvas is utf8 short =
-    let low = not_deep t canvas.within in
+    let fits = canvas_fits t canvas in
+    let within = canvas_within t canvas in
+    let low = not_deep t within in
     let d = tree_wire t in
     let near : depth d ≤ max_depth = omega (arith, tree_depth t) in
     let json : json_of text ≡ Some d =
-    ap (λ b. if b then read text else None) (is_utf8-from_IsUtf8 text utf8) ∙ ap read is ∙ text_read d (tree_clean t canvas.fits) near in
-    let spelled = reads_as t d near (tree_back (suc max_depth) t canvas.fits (omega arith)) in
-    no_refusal t d text short json spelled.0 spelled.1 canvas.within
+    ap (λ b. if b then read text else None) (is_utf8-from_IsUtf8 text utf8) ∙ ap read is ∙ text_read d (tree_clean t fits) near in
+    let spelled = reads_as t d near (tree_back (suc max_depth) t fits (omega arith)) in
+    no_refusal t d text short json spelled.0 spelled.1 within
 
 -- What a writer of the tree u returned reads as the canvas that u is.
 pub written_again : {E : Type 0} (r : Result (String Global) E) (u t : Tree) → u ≡ t → IsCanvas t → IfOk r (λ s. string_bytes s ≡ compact_text (tree_wire u))

@@ -16,6 +16,7 @@ use Rattle.canvas_sig.specs.Writable.{IsCanvas}
 use Rattle.serde_json.proofs.Nesting.{depth-read}
 use Rattle.canvas_sig.proofs.Depth.{fault_enough, tree_enough}
 use Rattle.canvas_sig.proofs.Law.{tree_judged}
+use Rattle.canvas_sig.proofs.Fits.{is_canvas as of_fits}
 use Rattle.canvas_sig.proofs.Fitting.{fits_read}
 
 judged_ok : {A : Type 0} (o : Option SigFault) (x t : A) → judged o x ≡ Ok t → (o ≡ None) × (x ≡ t)
@@ -78,11 +79,9 @@ refused_whole bytes t e h limits = limits_decide bytes t (what_was_read bytes t 
 pub is_canvas : (bytes : Text) (t : Tree) → signature_reading bytes ≡ Ok t → tree_fault t ≡ None → IsCanvas t
 is_canvas bytes t h limits =
     let r = what_was_read bytes t h in
-    record {
-      fits = fits_read bytes (suc max_depth) r.its_json t (read_json_of (is_utf8 bytes) (read_json bytes) r.its_json r.json)
-      (signature_judged bytes r.its_json r.json ∙ ap (λ o. judged o (tree_of r.its_json)) r.fine ∙ ap Ok r.tree);
-      within = limits;
-    }
+    of_fits t
+    (fits_read bytes (suc max_depth) r.its_json t (read_json_of (is_utf8 bytes) (read_json bytes) r.its_json r.json)
+    (signature_judged bytes r.its_json r.json ∙ ap (λ o. judged o (tree_of r.its_json)) r.fine ∙ ap Ok r.tree)) limits
 
 canvas_later : (d : Data) (e : SigFault) → signature_fault d ≡ Some e → canvas_reading d ≡ Err e
 canvas_later d e h = ap (λ f. judged (f or_else tree_fault (tree_of d)) (tree_of d)) h

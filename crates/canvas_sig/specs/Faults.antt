@@ -66,7 +66,7 @@ abbrev pub tree_within : ℕ → Data → Tree
 tree_within zero d = one (task_within zero d)
 tree_within (suc n) d = tree_from (task_within (suc n) d) (tree_within n) (primitive_of (subtype d)) d
 
--- ---- as deep as the value is, which leaves nothing out
+-- ---- as deep as the value is: a greater number changes nothing, and without any a fault is that of `fault_by_parts` of proofs/Depth
 
 unfoldable pub signature_fault : Data → Option SigFault
 signature_fault d = fault_within (depth d) false d
