@@ -172,6 +172,24 @@ enough_trees (suc m) (suc n) d low h =
     same_from n (tree_within m) (tree_within n) (λ x l. enough_trees m n x l (omega arith)) (task_within (suc m) d) (task_within (suc n) d)
     (primitive_of (subtype d)) d (enough_task (suc m) (suc n) d low h) low
 
+-- what is spelled, with no number
+pub task_by_parts : (d : Data) → task_within (depth d) d
+    ≡ task 0 (call_of d) (tasks_of (map (λ x. task_within (depth x) x) (as_list (link d)))) (tasks_of (map (λ x. task_within (depth x) x) (as_list (link_error d))))
+task_by_parts d =
+    let n = depth d in
+    let same : (x : Data) → depth x ≤ n → task_within n x ≡ task_within (depth x) x = λ x l. enough_task n (depth x) x (omega arith) l in
+    sym (enough_task (suc n) n d (omega arith) (omega arith))
+    ∙ ap₂ (λ ls es. task 0 (call_of d) (tasks_of ls) (tasks_of es))
+    (same_map n (task_within n) (λ x. task_within (depth x) x) same (as_list (link d)) (link_low (codes "link") d n (omega arith)))
+    (same_map n (task_within n) (λ x. task_within (depth x) x) same (as_list (link_error d)) (link_low (codes "link_error") d n (omega arith)))
+
+pub tree_by_parts : (d : Data) → tree_within (depth d) d ≡ tree_from (task_within (depth d) d) (λ x. tree_within (depth x) x) (primitive_of (subtype d)) d
+tree_by_parts d =
+    let n = depth d in
+    sym (enough_trees (suc n) n d (omega arith) (omega arith))
+    ∙ same_from n (tree_within n) (λ x. tree_within (depth x) x) (λ x l. enough_trees n (depth x) x (omega arith) l) (task_within (suc n) d) (task_within n d)
+    (primitive_of (subtype d)) d (enough_task (suc n) n d (omega arith) (omega arith)) (omega arith)
+
 -- ---- a counter that starts above the depth
 
 pub fault_enough : (m : ℕ) (d : Data) → depth d < m → fault_left m false d ≡ signature_fault d

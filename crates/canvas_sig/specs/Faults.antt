@@ -66,7 +66,8 @@ abbrev pub tree_within : ℕ → Data → Tree
 tree_within zero d = one (task_within zero d)
 tree_within (suc n) d = tree_from (task_within (suc n) d) (tree_within n) (primitive_of (subtype d)) d
 
--- ---- as deep as the value is: a greater number changes nothing, and without any a fault is that of `fault_by_parts` of proofs/Depth
+-- ---- As deep as the value is. A greater number changes nothing: `fault_by_parts`, `task_by_parts` and `tree_by_parts` of proofs/Depth
+-- say the same with no number at all.
 
 unfoldable pub signature_fault : Data → Option SigFault
 signature_fault d = fault_within (depth d) false d

@@ -22,7 +22,8 @@ abbrev pub most_groups : ℕ
 most_groups = 1024
 
 -- Whether a member of a group or of a header ends in a group, anywhere in the canvas. It is said of the canvas as it was written, and
--- says the same of the members' normal lines, since rewriting keeps what a line ends in: `nested_in_lines` of proofs/NormalEnds.
+-- says the same of the members' normal lines, since rewriting keeps what a line ends in where no chain is empty, which is refused
+-- before: `nested_in_lines` of proofs/NormalEnds.
 abbrev mutual
   pub nests_group : Tree → Bool
   nests_group (one t) = false

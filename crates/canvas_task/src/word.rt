@@ -86,8 +86,8 @@ pub fn word_of(outcome: &Outcome) -> u64
     }
 }
 
-#[tactic(auto, using(crate::proofs::WordLemmas::no_word))]
 /// The outcome that a word stands for, if it is one's.
+#[tactic(auto, using(crate::proofs::WordLemmas::no_word))]
 pub fn outcome_of(found: u64) -> Option<Outcome>
     ensures value { result ≡ outcome_named found }
     ensures its_word { IfSome result (λ o. word o ≡ found) }
