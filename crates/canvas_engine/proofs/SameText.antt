@@ -1,6 +1,6 @@
 -- What a plan says of the canvas that it was made from.
 use Rattle.std.proofs.Common.{◌≡◌, ℕ, ◌+◌, Bool, true, false, ◌&&◌, List, [], map, Some, None, Result, Ok, Err, IfOk, IfErr, String, Global, string_bytes, refl, sym, ap, ◌∙◌, subst, inr}
-use Rattle.canvas_sig.specs.CanvasText.{fault, Reads}
+use Rattle.canvas_sig.specs.CanvasText.{reading}
 use Rattle.canvas_sig.specs.Fields.{Text}
 use Rattle.canvas_sig.specs.declared.fault.SigFault.TheVariants.{UnknownPrimitive}
 use Rattle.canvas_engine.specs.Texts.{IsCanvasText, IsRefused, IsPlanFault, IsPlanOf, IsReadFault, IsTextFault}
@@ -62,13 +62,13 @@ same_fault c all workers turns f h e is = let P : List State → Type 0 = λ s. 
 
 -- ---- what a text answers, by what its plan answers
 
-pub refused : (bytes : Text) (c : Tree) → (fault bytes ≡ None) × Reads bytes c → is_plain c ≡ false → IsRefused bytes UnknownPrimitive
-refused bytes c read not = inr (c, record { fine = read.0; reads = read.1 }, not, refl)
+pub refused : (bytes : Text) (c : Tree) → reading bytes ≡ Ok c → is_plain c ≡ false → IsRefused bytes UnknownPrimitive
+refused bytes c read not = inr (c, read, not, refl)
 
-pub planned : (bytes : Text) (c : Tree) (all : Line) (l : FrozenLine) (b : Bool) → (fault bytes ≡ None) × Reads bytes c → IsSame (normal c) c → tree_of all ≡ numbered (normal c)
+pub planned : (bytes : Text) (c : Tree) (all : Line) (l : FrozenLine) (b : Bool) → reading bytes ≡ Ok c → IsSame (normal c) c → tree_of all ≡ numbered (normal c)
     → p_line_view l ≡ bare all → b ≡ are_plain (elements_of (line_in l)) → b ≡ true → IsPlanOf bytes c all
 planned bytes c all l b read h e seen is holds = record {
-  text = record { fine = read.0; reads = read.1 };
+  text = read;
   same = h;
   plain = sym (plain_line c all l b e seen is) ∙ holds;
   tree = e;

@@ -1,6 +1,6 @@
 -- Why a text has no report.
-use Rattle.std.specs.Prelude.{◌≡◌, ℕ, true, false, List, Some, None, ◌⊎◌}
-use Rattle.canvas_sig.specs.CanvasText.{fault, Reads}
+use Rattle.std.specs.Prelude.{◌≡◌, ℕ, true, false, List, Ok, Err, ◌⊎◌}
+use Rattle.canvas_sig.specs.CanvasText.{reading}
 use Rattle.canvas_sig.specs.Fields.{Text}
 use Rattle.canvas_sig.specs.Normal.{normal}
 use Rattle.canvas_sig.specs.Tree.{Tree, numbered}
@@ -15,14 +15,13 @@ use Rattle.canvas_engine.specs.Runs.{IsRunFault}
 use Rattle.canvas_engine.specs.declared.text.TextFault.{TextFault}
 use Rattle.canvas_engine.specs.declared.text.TextFault.TheVariants.{Sig, Run, Memory}
 
--- the text reads as the canvas, and nothing refuses it
-pub record IsCanvasText (bytes : Text) (c : Tree) : Type 0 where
-  pub fine : fault bytes ≡ None
-  pub reads : Reads bytes c
+-- the text reads as the canvas
+abbrev pub IsCanvasText : Text → Tree → Type 0
+IsCanvasText bytes c = reading bytes ≡ Ok c
 
 -- Refused as it is read; or, today, its canvas has more than tasks, one after another.
 abbrev pub IsRefused : Text → SigFault → Type 0
-IsRefused bytes e = (fault bytes ≡ Some e) ⊎ ((c : Tree) × IsCanvasText bytes c × (is_plain c ≡ false) × (e ≡ UnknownPrimitive))
+IsRefused bytes e = (reading bytes ≡ Err e) ⊎ ((c : Tree) × IsCanvasText bytes c × (is_plain c ≡ false) × (e ≡ UnknownPrimitive))
 
 abbrev pub IsReadFault : Text → TextFault → Type 0
 IsReadFault bytes (Sig e) = IsRefused bytes e

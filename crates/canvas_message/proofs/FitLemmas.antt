@@ -3,7 +3,7 @@ use Rattle.std.proofs.Common.{◌≡◌, ◌∙◌, ℕ, suc, List, [], ◌∷�
 use Rattle.std.specs.Prelude.{◌&&◌, ◌==◌, not, nat_lt}
 use Rattle.std.proofs.lemmas.Bool.Decides.{nat_tests}
 use Rattle.canvas_task.specs.declared.arg.Arg.{Arg}
-use Rattle.canvas_sig.specs.Writable.{IsBelow, Ascends}
+use Rattle.canvas_task.specs.Entries.{IsBelow, Ascends}
 use Rattle.canvas_rewrite.specs.Placed.{PTask, PLine, p_stop, p_step, p_group_end, p_chord_end}
 use Rattle.canvas_rewrite.specs.FrozenView.{p_tasks_of, p_lines_of, p_steps}
 use Rattle.canvas_rewrite.specs.FrozenView.{p_task_view, p_line_view, p_end_view}

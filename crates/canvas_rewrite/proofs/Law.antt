@@ -1,7 +1,7 @@
 -- The normal line means what the canvas means.
-use Rattle.std.proofs.Common.{◌≡◌, ℕ, Bool, List, [], ◌∷◌, ◌++◌, append_assoc, refl, sym, ap, ◌∙◌}
+use Rattle.std.proofs.Common.{◌≡◌, ℕ, List, [], ◌∷◌, ◌++◌, append_assoc, refl, sym, ap, ◌∙◌}
 use Rattle.std.proofs.lemmas.List.{append-nil}
-use Rattle.canvas_sig.specs.Tree.{ends_in_group, last_in_group, Task, task, Tree, one, chain, group, chord, Trees, no_trees, and_tree, IsFull, AreFull}
+use Rattle.canvas_sig.specs.Tree.{Task, task, Tree, one, chain, group, chord, Trees, no_trees, and_tree, IsFull, AreFull}
 use Rattle.canvas_rewrite.specs.Eval.{Flow, Rows, Meaning, ends, last_ends, all_ends, behind, and_then, group_value, with_states, as_group, eval, eval_chain, member_rows, task_meaning}
 use Rattle.canvas_sig.specs.Normal.{onto, all_onto, normal_all, normal}
 
@@ -52,33 +52,6 @@ mutual
   pub ends_members : (ms : Trees) → AreFull ms → all_ends (normal_all ms) ≡ all_ends ms
   ends_members no_trees h = refl
   ends_members (and_tree t ts) h = ap (λ es. es ++ all_ends (normal_all ts)) (ends_onto t no_trees h.0) ∙ ap (λ es. ends t ++ es) (ends_members ts h.1)
-
-abbrev in_group_after : Trees → Bool → Bool
-in_group_after no_trees b = b
-in_group_after (and_tree t ts) b = last_in_group (and_tree t ts)
-
-found_in_group : (t : Tree) (after : Trees) (b : Bool) → IsFull t → in_group_after (onto t after) b ≡ last_in_group (onto t after)
-found_in_group (one t) after b h = refl
-found_in_group (chain no_trees) after b h = absurd h
-found_in_group (chain (and_tree t ts)) after b h = found_in_group t (all_onto ts after) b h.0
-found_in_group (group g ms) no_trees b h = refl
-found_in_group (group g ms) (and_tree u us) b h = refl
-found_in_group (chord g ms c) after b h = refl
-
-mutual
-  pub in_group_onto : (t : Tree) (after : Trees) → IsFull t → last_in_group (onto t after) ≡ in_group_after after (ends_in_group t)
-  in_group_onto (one t) no_trees h = refl
-  in_group_onto (one t) (and_tree u us) h = refl
-  in_group_onto (chain ts) after h = in_group_all ts after h
-  in_group_onto (group g ms) no_trees h = refl
-  in_group_onto (group g ms) (and_tree u us) h = refl
-  in_group_onto (chord g ms b) after h = in_group_onto b after h.1
-
-  in_group_all : (ts after : Trees) → IsFull (chain ts) → last_in_group (all_onto ts after) ≡ in_group_after after (last_in_group ts)
-  in_group_all no_trees after h = absurd h
-  in_group_all (and_tree t no_trees) after h = in_group_onto t after h.0
-  in_group_all (and_tree t (and_tree u us)) after h =
-      in_group_onto t (all_onto (and_tree u us) after) h.0 ∙ found_in_group u (all_onto us after) _ h.1.0 ∙ in_group_all (and_tree u us) after h.1
 
 -- ---- the law
 

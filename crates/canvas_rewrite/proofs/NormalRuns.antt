@@ -8,10 +8,11 @@ use Rattle.canvas_sig.specs.Limits.{nests_group, some_nests_group, some_ends_in_
 use Rattle.canvas_sig.specs.Nesting.{nesting}
 use Rattle.canvas_sig.specs.Normal.{onto, all_onto, normal_all, normal}
 use Rattle.canvas_sig.specs.Reach.{reach, line_reach, members_reach, task_reach, tasks_reach}
-use Rattle.canvas_sig.specs.Writable.{CallFits, TaskFits, TasksFit, TreeFits, TreesFit, IsCanvas}
+use Rattle.canvas_sig.specs.Writable.{CallFits, IsCanvas}
+use Rattle.canvas_sig.proofs.Fits.{TaskFits, TasksFit, TreeFits, TreesFit, canvas_fits, canvas_within}
 use Rattle.canvas_rewrite.specs.Same.{IsSame}
 use Rattle.canvas_rewrite.specs.Runnable.{TaskSound, TasksSound, IsSound, AreSound, IsRunnable}
-use Rattle.canvas_rewrite.proofs.Law.{in_group_onto}
+use Rattle.canvas_sig.proofs.NormalEnds.{in_group_onto}
 use Rattle.canvas_rewrite.proofs.Numbers.{count_normal_tree, groups_normal_tree, full_number, same}
 
 -- ---- no chain of a normal line is empty
@@ -115,9 +116,9 @@ passes false e o h = (refl, h)
 
 pub runs : (c : Tree) → IsCanvas c → IsRunnable (normal c)
 runs c h =
-    let parts_of = fits_sound c h.fits in
+    let parts_of = fits_sound c (canvas_fits c h) in
     let full : IsFull c = parts_of.1 in
-    let nested = passes (nests_group c) NestedGroup _ h.within in
+    let nested = passes (nests_group c) NestedGroup _ (canvas_within c h) in
     let deep = passes (is_too_deep c) TooDeep _ nested.1 in
     let many = passes (is_too_many c) TooMany None deep.1 in
     let parts = or_parts (nat_lt most_nesting (nesting c)) (nat_lt most_reach (reach 0 (normal c))) deep.0 in
@@ -136,7 +137,7 @@ runs c h =
 -- a canvas and its normal line mean the same
 pub same_line : (c s : Tree) → IsCanvas c → s ≡ normal c → IsSame s c × IsRunnable s
 same_line c s h e =
-    (subst (λ t. IsSame t c) (sym e) (same c (fits_sound c h.fits).1), subst IsRunnable (sym e) (runs c h))
+    (subst (λ t. IsSame t c) (sym e) (same c (fits_sound c (canvas_fits c h)).1), subst IsRunnable (sym e) (runs c h))
 
 -- ---- numbers change nothing of it
 

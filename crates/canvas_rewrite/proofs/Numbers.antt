@@ -4,7 +4,8 @@ use Rattle.canvas_sig.specs.Tree.{ends_in_group, Task, task, Tree, one, chain, g
 use Rattle.canvas_rewrite.specs.Eval.{Flow, eval, ends}
 use Rattle.canvas_rewrite.specs.Same.{IsSame}
 use Rattle.canvas_sig.specs.Normal.{onto, all_onto, normal_all, normal}
-use Rattle.canvas_rewrite.proofs.Law.{normal_keeps, normal_keeps_ends, in_group_onto}
+use Rattle.canvas_sig.proofs.NormalEnds.{in_group_onto}
+use Rattle.canvas_rewrite.proofs.Law.{normal_keeps, normal_keeps_ends}
 
 -- ---- counts
 

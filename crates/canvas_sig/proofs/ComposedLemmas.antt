@@ -2,7 +2,7 @@
 use Rattle.std.proofs.Common.{◌≡◌, ℕ, List, [], ◌∷◌, map, true, false, Bool, refl, sym, ap, ◌∙◌, subst}
 use Rattle.std.specs.Prelude.{ℤ, ◌&&◌, ◌==◌, Some, None, Result, Ok, Err, OnOk, length}
 use Rattle.std.specs.List.{list_all}
-use Rattle.canvas_task.specs.Name.{name_ok}
+use Rattle.canvas_task.specs.Entries.{Ascends}
 use Rattle.canvas_task.specs.Numbers.{in_range}
 use Rattle.canvas_task.specs.declared.arg.Arg.{Arg}
 use Rattle.canvas_task.specs.declared.arg.Arg.TheVariants as arg
@@ -10,7 +10,7 @@ use Rattle.canvas_sig.specs.NodeFaults.{arg_ok, its_call, call_fault, task_fault
 use Rattle.canvas_sig.specs.Reading.{◌or_else◌}
 use Rattle.canvas_sig.specs.Tree.{chain}
 use Rattle.canvas_sig.specs.View.{task_view, tasks_of, view, trees_of}
-use Rattle.canvas_sig.specs.Writable.{NumbersFit, ArgFits, ArgsFit, KwargsFit, Ascends, CallFits, TaskFits, TasksFit, TreeFits, TreesFit}
+use Rattle.canvas_sig.specs.Writable.{NumbersFit, ArgFits, ArgsFit, KwargsFit, TaskComposed, TasksComposed}
 use Rattle.canvas_sig.specs.declared.fault.SigFault.{SigFault}
 use Rattle.canvas_sig.specs.declared.node.Node.{Node}
 use Rattle.canvas_sig.specs.declared.task_sig.TaskSig.{TaskSig, out-TaskSig}
@@ -45,19 +45,17 @@ call_seen : (s : TaskSig) → its_call (task_view s)
     ≡ record { name = (out-TaskSig s).name; args = (out-TaskSig s).args; kwargs = (out-TaskSig s).kwargs; immutable = (out-TaskSig s).immutable }
 call_seen s = ap its_call (task_seen s)
 
-pub call_fits : (s : TaskSig) → name_ok (out-TaskSig s).name ≡ true → list_all arg_ok (out-TaskSig s).args ≡ true
-    → list_all (λ e. arg_ok e.1) (out-TaskSig s).kwargs ≡ true → Ascends (out-TaskSig s).kwargs → CallFits (its_call (task_view s))
-call_fits s n a k o =
-    subst CallFits (sym (call_seen s)) (record { name = n; args = args_fit (out-TaskSig s).args a; kwargs = kwargs_fit (out-TaskSig s).kwargs k; ordered = o })
+pub call_ordered : (s : TaskSig) → Ascends (out-TaskSig s).kwargs → Ascends (its_call (task_view s)).kwargs
+call_ordered s o = subst (λ c. Ascends c.kwargs) (sym (call_seen s)) o
 
 pub task_faults : (s : TaskSig) → task_fault (task_view s)
     ≡ (call_fault (its_call (task_view s)) or_else tasks_fault (tasks_of (map task_view (out-TaskSig s).links)) or_else tasks_fault (tasks_of (map task_view (out-TaskSig s).errbacks)))
 task_faults s =
     ap task_fault (task_seen s) ∙ ap (λ c. call_fault c or_else tasks_fault (tasks_of (map task_view (out-TaskSig s).links)) or_else tasks_fault (tasks_of (map task_view (out-TaskSig s).errbacks))) (sym (call_seen s))
 
-pub task_fits : (s : TaskSig) → CallFits (its_call (task_view s)) → TasksFit (tasks_of (map task_view (out-TaskSig s).links)) → TasksFit (tasks_of (map task_view (out-TaskSig s).errbacks))
-    → TaskFits (task_view s)
-task_fits s c ls es = subst TaskFits (sym (task_seen s)) (refl, subst CallFits (call_seen s) c, ls, es)
+pub task_composed : (s : TaskSig) → Ascends (its_call (task_view s)).kwargs → TasksComposed (tasks_of (map task_view (out-TaskSig s).links))
+    → TasksComposed (tasks_of (map task_view (out-TaskSig s).errbacks)) → TaskComposed (task_view s)
+task_composed s o ls es = subst TaskComposed (sym (task_seen s)) (refl, subst (λ c. Ascends c.kwargs) (call_seen s) o, ls, es)
 
 -- ---- one check after the other
 
@@ -78,7 +76,3 @@ on_ok (Err e) P Q h f = tt
 pub chain_faults : (ns : List Node) → (length ns == 0) ≡ false → all_fault (trees_of (map view ns)) ≡ signatures_fault (chain (trees_of (map view ns)))
 chain_faults [] h = absurd cc
 chain_faults (n ∷ ns) h = refl
-
-pub chain_fits : (ns : List Node) → (length ns == 0) ≡ false → TreesFit (trees_of (map view ns)) → TreeFits (chain (trees_of (map view ns)))
-chain_fits [] h fits = absurd cc
-chain_fits (n ∷ ns) h fits = fits

@@ -1,29 +1,27 @@
 -- A signature without a fault, that was read from a text, can be written and read again.
-use Rattle.std.proofs.Common.{◌≡◌, ℕ, zero, suc, ℤ, List, [], ◌∷◌, ◌++◌, map, Less, Bool, true, false, Option, Some, None, Ok, String, Global, string_bytes, string_cmp, refl, sym, ap, subst, ◌∙◌}
+use Rattle.std.proofs.Common.{◌≡◌, ℕ, zero, suc, ℤ, List, [], ◌∷◌, ◌++◌, map, Bool, true, false, Option, Some, None, Ok, refl, sym, ap, subst, ◌∙◌}
 use Rattle.std.specs.Prelude.{codes, not, ◌||◌}
-use Rattle.std.specs.List.{list_all, AllByRecursion}
-use Rattle.std.specs.List.Sorted.{IsStrictlySortedBy}
-use Rattle.std.specs.Map.{keys_of}
+use Rattle.std.specs.List.{list_all}
 use Rattle.std.proofs.lemmas.Bool.{and_parts}
 use Rattle.serde_json.specs.Data.{Data, null, boolean, number, string, array, object, no_items, item, Members, no_members, member}
 use Rattle.serde_json.specs.Find.{as_i64}
 use Rattle.serde_json.specs.Read.{read}
-use Rattle.canvas_task.specs.Entries.{named}
+use Rattle.canvas_task.specs.Entries.{IsBelow, Ascends}
 use Rattle.canvas_task.specs.Name.{name_ok}
 use Rattle.canvas_task.specs.Numbers.{in_range}
-use Rattle.canvas_task.specs.declared.arg.Arg.{Arg}
 use Rattle.canvas_sig.specs.declared.fault.SigFault.{SigFault}
 use Rattle.canvas_sig.specs.declared.fault.SigFault.TheVariants.{NotSignature, BadArgs, BadNumber, OnCanvas, Frozen, EmptyChain}
 use Rattle.canvas_sig.specs.declared.primitive.Primitive.{Primitive}
 use Rattle.canvas_sig.specs.declared.primitive.Primitive.TheVariants as kind
 use Rattle.canvas_sig.specs.Fields.{Text, field, subtype, args, kwargs, tasks, header, body, link, link_error, items, entries, listed, as_list, members, text_of, is_number, is_null, is_list, is_empty, is_object}
-use Rattle.canvas_sig.specs.Reading.{◌or_else◌, fault_if, is_name, primitive_of, some_in_range, number_ok, kind_ok, numbers_ok, args_ok, is_group, not_signature, bad_args, bad_number, on_canvas, frozen, empty_chain, fault_as, own_fault, members_in, tree_reading}
-use Rattle.canvas_sig.specs.Faults.{first_fault, in_kwargs, fault_within, some_or_zero, number_of, argument_of, named_of, call_of, task_within, header_of, tree_from, tree_within, judged}
+use Rattle.canvas_sig.specs.Reading.{◌or_else◌, fault_if, judged, some_or_zero, number_of, argument_of, is_name, primitive_of, some_in_range, number_ok, kind_ok, numbers_ok, args_ok, is_group, not_signature, bad_args, bad_number, on_canvas, frozen, empty_chain, fault_as, own_fault, members_in, tree_reading}
+use Rattle.canvas_sig.specs.Faults.{first_fault, in_kwargs, named_of, call_of, task_within, header_of, tree_from, tree_within}
 use Rattle.canvas_sig.specs.Tree.{Task, Tree, one, chain, group, chord}
 use Rattle.canvas_sig.specs.View.{tasks_of, trees_of}
-use Rattle.canvas_sig.specs.Writable.{NumbersFit, ArgFits, ArgsFit, KwargsFit, IsBelow, Ascends, CallFits, TaskFits, TasksFit, TreeFits, TreesFit}
+use Rattle.canvas_sig.specs.Writable.{NumbersFit, ArgFits, ArgsFit, KwargsFit, CallFits}
+use Rattle.canvas_sig.proofs.Fits.{TaskFits, TasksFit, TreeFits, TreesFit}
 use Rattle.canvas_sig.proofs.InOrder.{IsBefore, IsSorted, MembersSorted, AllSorted, all_items, all_in_list, all_listed, field_sorted, read_sorted}
-use Rattle.canvas_sig.proofs.Law.{quiet, neither, back, Fine, fine, only_task, tree_judged}
+use Rattle.canvas_sig.proofs.Law.{fault_left, quiet, neither, back, Fine, fine, only_task, tree_judged}
 
 -- ---- arguments
 
@@ -128,32 +126,32 @@ link_sorted k d sorted = all_in_list (field k (field (codes "options") d)) (fiel
 record Quiet (n : ℕ) (linked : Bool) (d : Data) : Type 0 where
   signature : not_signature d ≡ false
   its_own : fault_as linked d (primitive_of (subtype d)) ≡ None
-  inside : first_fault (fault_within n false) (in_kwargs (primitive_of (subtype d)) d) ≡ None
-  links : first_fault (fault_within n true) (as_list (link d)) ≡ None
-  errbacks : first_fault (fault_within n true) (as_list (link_error d)) ≡ None
+  inside : first_fault (fault_left n false) (in_kwargs (primitive_of (subtype d)) d) ≡ None
+  links : first_fault (fault_left n true) (as_list (link d)) ≡ None
+  errbacks : first_fault (fault_left n true) (as_list (link_error d)) ≡ None
 
-all_quiet : (n : ℕ) (linked : Bool) (d : Data) → fault_within (suc n) linked d ≡ None → Quiet n linked d
+all_quiet : (n : ℕ) (linked : Bool) (d : Data) → fault_left (suc n) linked d ≡ None → Quiet n linked d
 all_quiet n linked d h =
     let first = both_quiet (own_fault linked d) _ h in
-    let next = both_quiet (first_fault (fault_within n false) (in_kwargs (primitive_of (subtype d)) d)) _ first.1 in
-    let last = both_quiet (first_fault (fault_within n true) (as_list (link d))) _ next.1 in
+    let next = both_quiet (first_fault (fault_left n false) (in_kwargs (primitive_of (subtype d)) d)) _ first.1 in
+    let last = both_quiet (first_fault (fault_left n true) (as_list (link d))) _ next.1 in
     let its = quiet (not_signature d) NotSignature _ first.0 in
     record { signature = its.0; its_own = its.1; inside = next.0; links = last.0; errbacks = last.1 }
 
-linked_task : (n : ℕ) (d : Data) → fault_within n true d ≡ None → primitive_of (subtype d) ≡ Some kind.Task
+linked_task : (n : ℕ) (d : Data) → fault_left n true d ≡ None → primitive_of (subtype d) ≡ Some kind.Task
 linked_task zero d h = absurd cc
 linked_task (suc n) d h = only_task d (primitive_of (subtype d)) (all_quiet n true d h).its_own
 
-task_fits : (n : ℕ) (linked : Bool) (d : Data) → IsSorted d → fault_within n linked d ≡ None → primitive_of (subtype d) ≡ Some kind.Task → TaskFits (task_within n d)
+task_fits : (n : ℕ) (linked : Bool) (d : Data) → IsSorted d → fault_left n linked d ≡ None → primitive_of (subtype d) ≡ Some kind.Task → TaskFits (task_within n d)
 task_fits zero linked d sorted h is = absurd cc
 task_fits (suc n) linked d sorted h is =
     let q = all_quiet n linked d h in
-    let fits : (x : Data) → IsSorted x → fault_within n true x ≡ None → TaskFits (task_within n x) = λ x s none. task_fits n true x s none (linked_task n x none) in
+    let fits : (x : Data) → IsSorted x → fault_left n true x ≡ None → TaskFits (task_within n x) = λ x s none. task_fits n true x s none (linked_task n x none) in
     let call = call_fits linked d sorted q.signature (fine linked kind.Task d (ap (fault_as linked d) (sym is) ∙ q.its_own)) in (
       refl,
       call,
-      each_task (task_within n) (fault_within n true) fits (as_list (link d)) (link_sorted (codes "link") d sorted) q.links,
-      each_task (task_within n) (fault_within n true) fits (as_list (link_error d)) (link_sorted (codes "link_error") d sorted) q.errbacks,
+      each_task (task_within n) (fault_left n true) fits (as_list (link d)) (link_sorted (codes "link") d sorted) q.links,
+      each_task (task_within n) (fault_left n true) fits (as_list (link_error d)) (link_sorted (codes "link_error") d sorted) q.errbacks,
     )
 
 -- ---- canvases
@@ -215,11 +213,11 @@ level_fits t f g fits (Some kind.Chord) d sorted its inside alone =
     let parts = first_then g (as_list (header d)) (body d) inside in
     (refl, header_fits f g fits (header d) list (kwarg_sorted (codes "header") d sorted) parts.0, fits (body d) (kwarg_sorted (codes "body") d sorted) parts.1)
 
-tree_fits : (n : ℕ) (d : Data) → IsSorted d → fault_within n false d ≡ None → TreeFits (tree_within n d)
+tree_fits : (n : ℕ) (d : Data) → IsSorted d → fault_left n false d ≡ None → TreeFits (tree_within n d)
 tree_fits zero d sorted h = absurd cc
 tree_fits (suc n) d sorted h =
     let q = all_quiet n false d h in
-    level_fits (task_within (suc n) d) (tree_within n) (fault_within n false) (tree_fits n) (primitive_of (subtype d)) d sorted q.its_own q.inside
+    level_fits (task_within (suc n) d) (tree_within n) (fault_left n false) (tree_fits n) (primitive_of (subtype d)) d sorted q.its_own q.inside
     (task_fits (suc n) false d sorted h)
 
 judged_ok : {A : Type 0} (f : Option SigFault) (x y : A) → judged f x ≡ Ok y → (f ≡ None) × (x ≡ y)
@@ -229,17 +227,5 @@ judged_ok (Some e) x y h = absurd cc
 -- What was read of a text fits.
 pub fits_read : (text : Text) (n : ℕ) (d : Data) (t : Tree) → read text ≡ Some d → tree_reading n d ≡ Ok t → TreeFits t
 fits_read text n d t json h =
-    let spelled = judged_ok (fault_within n false d) (tree_within n d) t (sym (tree_judged n d) ∙ h) in
+    let spelled = judged_ok (fault_left n false d) (tree_within n d) t (sym (tree_judged n d) ∙ h) in
     subst TreeFits spelled.1 (tree_fits n d (read_sorted text d json) spelled.0)
-
--- ---- keyword arguments of a map
-
-below_named : (k : String Global) (es : List (String Global × Arg)) → AllByRecursion (λ l. string_cmp k l ≡ Less) (keys_of es) → IsBelow (string_bytes k) (named es)
-below_named k [] h = tt
-below_named k (e ∷ es) h = (h.0, below_named k es h.1)
-
--- A map has its entries in the order of their names.
-pub named_ascend : (es : List (String Global × Arg)) → IsStrictlySortedBy string_cmp (keys_of es) → Ascends (named es)
-unfolding IsStrictlySortedBy
-named_ascend [] h = tt
-named_ascend (e ∷ es) h = (below_named e.0 es h.0, named_ascend es h.1)

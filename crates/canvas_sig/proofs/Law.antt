@@ -1,46 +1,26 @@
 -- Reading gives the first fault in file order, or the canvas that the value spells.
-use Rattle.std.proofs.Common.{◌≡◌, ℕ, zero, suc, ℤ, List, [], ◌∷◌, ◌++◌, map, Bool, true, false, Option, Some, None, Result, Ok, refl, sym, ap, ap₂, subst, ◌∙◌}
+use Rattle.std.proofs.Common.{◌≡◌, ℕ, zero, suc, List, [], ◌∷◌, ◌++◌, map, Bool, true, false, Option, Some, None, Result, Ok, refl, sym, ap, ap₂, subst, ◌∙◌}
 use Rattle.std.specs.Prelude.{codes, not, ◌&&◌, ◌||◌}
 use Rattle.std.specs.List.{list_all}
 use Rattle.serde_json.specs.Data.{Data, null, boolean, number, string, array, object, no_items, item}
-use Rattle.serde_json.specs.Find.{as_i64}
 use Rattle.canvas_sig.specs.declared.fault.SigFault.{SigFault}
-use Rattle.canvas_sig.specs.declared.fault.SigFault.TheVariants.{NotSignature, BadArgs, BadNumber, OnCanvas}
+use Rattle.canvas_sig.specs.declared.fault.SigFault.TheVariants.{NotSignature, BadArgs, BadNumber, OnCanvas, TooDeep}
 use Rattle.canvas_sig.specs.declared.primitive.Primitive.{Primitive}
 use Rattle.canvas_sig.specs.declared.primitive.Primitive.TheVariants as kind
-use Rattle.canvas_sig.specs.Fields.{Text, field, subtype, args, kwargs, tasks, header, body, link, link_error, items, listed, as_list, members, is_number, is_null, is_list, is_true, is_empty, is_list_or_null, is_object_or_null, is_link}
+use Rattle.canvas_sig.specs.Fields.{Text, field, subtype, args, kwargs, tasks, header, body, link, link_error, items, listed, as_list, members, is_null, is_list, is_true, is_empty, is_list_or_null, is_object_or_null, is_link}
 use Rattle.canvas_sig.specs.Tree.{Task, task, Tree, one, chain, group, chord, Trees}
 use Rattle.canvas_sig.specs.View.{tasks_of, trees_of}
-use Rattle.canvas_sig.specs.Reading.{◌>>=◌, ◌or_else◌, unless, fault_if, each, whole, number_reading, arg_reading, named_reading, kind_ok, numbers_ok, number_ok, some_in_range, args_ok, is_group, not_signature, bad_members, bad_args, bad_number, on_canvas, primitive_of, fault_as, own_fault, task_with, task_reading, members_in, header_reading, tree_as, tree_reading}
-use Rattle.canvas_sig.specs.Faults.{first_fault, in_kwargs, fault_within, some_or_zero, number_of, argument_of, named_of, call_of, task_within, header_of, tree_from, tree_within, judged}
+use Rattle.canvas_sig.specs.Reading.{◌>>=◌, ◌or_else◌, unless, fault_if, judged, each, argument_of, arg_reading, named_reading, kind_ok, numbers_ok, args_ok, is_group, not_signature, bad_members, bad_args, bad_number, on_canvas, primitive_of, fault_as, own_fault, task_with, task_reading, members_in, header_reading, tree_as, tree_reading}
+use Rattle.canvas_sig.specs.Faults.{first_fault, in_kwargs, named_of, call_of, task_within, header_of, tree_from, tree_within}
 
 -- ---- arguments that are of their kinds and in range
-
-whole_is : (o : Option ℤ) → some_in_range o ≡ true → whole o ≡ Ok (some_or_zero o)
-whole_is None h = absurd cc
-whole_is (Some z) h = rw h refl
 
 both : (a b : Bool) → (a && b) ≡ true → (a ≡ true) × (b ≡ true)
 both true b h = (refl, h)
 both false b h = absurd cc
 
-number_is : (d : Data) → is_number d ≡ true → number_ok d ≡ true → number_reading d ≡ Ok (number_of d)
-number_is (number n) k h = whole_is (as_i64 n) h
-number_is d k h = absurd cc
-
-numbers_are : (ds : List Data) → list_all is_number ds ≡ true → list_all number_ok ds ≡ true → each number_reading ds ≡ Ok (map number_of ds)
-numbers_are [] k h = refl
-numbers_are (d ∷ ds) k h =
-    let p = both _ _ k in let q = both _ _ h in
-    rw (number_is d p.0 q.0, numbers_are ds p.1 q.1) refl
-
 arg_is : (d : Data) → kind_ok d ≡ true → numbers_ok d ≡ true → arg_reading d ≡ Ok (argument_of d)
-arg_is (number n) k h = rw (whole_is (as_i64 n) h) refl
-arg_is (string s) k h = refl
-arg_is (array ds) k h = rw (k, numbers_are (items ds) k h) refl
-arg_is null k h = absurd cc
-arg_is (boolean b) k h = absurd cc
-arg_is (object ms) k h = absurd cc
+arg_is d k h = rw (k, h) refl
 
 args_are : (ds : List Data) → list_all kind_ok ds ≡ true → list_all numbers_ok ds ≡ true → each arg_reading ds ≡ Ok (map argument_of ds)
 args_are [] k h = refl
@@ -223,14 +203,20 @@ tree_level g q t gs f k c fs d (Some e) h = refl
 tree_level g q t gs f k c fs d None h =
     kind_level g q t gs f k c fs d (primitive_of (subtype d)) (quiet (not_signature d) NotSignature (fault_as false d (primitive_of (subtype d))) h).1
 
--- ---- to any depth
+-- ---- as far as a counter goes
 
-task_judged : (n : ℕ) (d : Data) → task_reading n d ≡ judged (fault_within n true d) (task_within n d)
+abbrev pub fault_left : ℕ → Bool → Data → Option SigFault
+fault_left zero linked d = Some TooDeep
+fault_left (suc n) linked d =
+    own_fault linked d or_else first_fault (fault_left n false) (in_kwargs (primitive_of (subtype d)) d)
+    or_else first_fault (fault_left n true) (as_list (link d)) or_else first_fault (fault_left n true) (as_list (link_error d))
+
+task_judged : (n : ℕ) (d : Data) → task_reading n d ≡ judged (fault_left n true d) (task_within n d)
 task_judged zero d = refl
-task_judged (suc n) d = linked_level (task_reading n) (fault_within n false) (fault_within n true) (task_within n) (task_judged n) d (own_fault true d) refl
+task_judged (suc n) d = linked_level (task_reading n) (fault_left n false) (fault_left n true) (task_within n) (task_judged n) d (own_fault true d) refl
 
 -- the order of refusals, and what is read where there is none
-pub tree_judged : (n : ℕ) (d : Data) → tree_reading n d ≡ judged (fault_within n false d) (tree_within n d)
+pub tree_judged : (n : ℕ) (d : Data) → tree_reading n d ≡ judged (fault_left n false d) (tree_within n d)
 tree_judged zero d = refl
 tree_judged (suc n) d =
-    tree_level (task_reading n) (fault_within n true) (task_within n) (task_judged n) (tree_reading n) (fault_within n false) (tree_within n) (tree_judged n) d (own_fault false d) refl
+    tree_level (task_reading n) (fault_left n true) (task_within n) (task_judged n) (tree_reading n) (fault_left n false) (tree_within n) (tree_judged n) d (own_fault false d) refl

@@ -20,3 +20,7 @@ pub mod ReadsAgain
 pub mod InOrder
 pub mod Fitting
 pub mod JsonTexts
+pub mod NormalEnds
+pub mod ArgumentLaw
+pub mod Depth
+pub mod Fits

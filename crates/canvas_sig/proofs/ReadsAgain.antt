@@ -1,5 +1,5 @@
 -- The text that a canvas is written as is refused by nothing, and reads as the canvas.
-use Rattle.std.proofs.Common.{◌≡◌, ℕ, suc, ◌≤◌, pos, negsuc, List, length, Bool, true, false, Option, Some, None, Result, Ok, Err, IfOk, String, Global, string_bytes, refl, sym, ap, ◌∙◌, arith}
+use Rattle.std.proofs.Common.{◌≡◌, ℕ, suc, ◌≤◌, pos, negsuc, List, length, Bool, true, false, Option, Some, None, Result, Ok, Err, IfOk, String, Global, string_bytes, refl, sym, ap, ap₂, ◌∙◌, arith}
 use Rattle.std.specs.Prelude.{nat_lt, ◌||◌, if◌then◌else◌}
 use Rattle.std.specs.Str.{IsUtf8}
 use Rattle.std.proofs.lemmas.Bool.{ltb-false, le-ltb}
@@ -15,18 +15,19 @@ use Rattle.serde_json.specs.Read.{read, max_depth}
 use Rattle.serde_json.specs.Written.{number_text, outline, items_outline, members_outline, compact_text}
 use Rattle.serde_json.proofs.Texts.{print-outline}
 use Rattle.canvas_sig.specs.declared.fault.SigFault.{SigFault}
-use Rattle.canvas_sig.specs.declared.fault.SigFault.TheVariants.{TooLarge}
-use Rattle.canvas_sig.specs.CanvasText.{most_bytes, json_of, json_fault, fault, Reads}
+use Rattle.canvas_sig.specs.CanvasText.{most_bytes, json_of, reading}
 use Rattle.canvas_sig.specs.Clean.{IsWhole, IsClean, AreClean, MembersClean, behind}
-use Rattle.canvas_sig.specs.Faults.{signature_fault, tree_of, judged}
+use Rattle.canvas_sig.specs.Faults.{signature_fault, tree_of}
 use Rattle.canvas_sig.specs.Limits.{most_nesting, tree_fault, nests_group, is_too_deep}
 use Rattle.canvas_sig.specs.Nesting.{nesting}
-use Rattle.canvas_sig.specs.Reading.{◌or_else◌, fault_if, tree_reading}
+use Rattle.canvas_sig.specs.Reading.{judged, tree_reading}
 use Rattle.canvas_sig.specs.Tree.{Tree}
 use Rattle.canvas_sig.specs.Writable.{IsCanvas}
 use Rattle.canvas_sig.specs.Writing.{tree_wire}
 use Rattle.canvas_sig.proofs.CleanWire.{tree_clean, tree_depth}
+use Rattle.canvas_sig.proofs.Depth.{fault_enough, tree_enough}
 use Rattle.canvas_sig.proofs.Law.{tree_judged}
+use Rattle.canvas_sig.proofs.Fits.{canvas_fits, canvas_within}
 use Rattle.canvas_sig.proofs.RoundTrip.{tree_back}
 use Rattle.canvas_sig.proofs.WholeText.{text_again}
 
@@ -74,41 +75,36 @@ either_false : (a b : Bool) → (a || b) ≡ false → a ≡ false
 either_false true b h = absurd cc
 either_false false b h = refl
 
-nothing_first : (b : Bool) (e : SigFault) (o : Option SigFault) → b ≡ false → o ≡ None → (fault_if b e or_else o) ≡ None
-nothing_first true e o h k = absurd cc
-nothing_first false e o h k = k
-
-nothing_then : (f g : Option SigFault) → f ≡ None → g ≡ None → (f or_else g) ≡ None
-nothing_then None g h k = k
-nothing_then (Some e) g h k = h
-
 not_deep : (t : Tree) → tree_fault t ≡ None → nesting t ≤ most_nesting
 not_deep t h =
     let rest = (not_refused (nests_group t) _ _ h).1 in
     let deep = (not_refused (is_too_deep t) _ _ rest).0 in
     ltb-false most_nesting (nesting t) (either_false (nat_lt most_nesting (nesting t)) _ deep)
 
-reads_as : (t : Tree) (d : Data) → tree_reading (suc max_depth) d ≡ Ok t → (signature_fault d ≡ None) × (tree_of d ≡ t)
-unfolding signature_fault tree_of
-reads_as t d h = judged_ok (signature_fault d) (tree_of d) t (sym (tree_judged (suc max_depth) d) ∙ h)
+reads_as : (t : Tree) (d : Data) → depth d ≤ max_depth → tree_reading (suc max_depth) d ≡ Ok t → (signature_fault d ≡ None) × (tree_of d ≡ t)
+reads_as t d low h =
+    judged_ok (signature_fault d) (tree_of d) t
+    (sym (tree_judged (suc max_depth) d ∙ ap₂ judged (fault_enough (suc max_depth) d (omega (arith, low))) (tree_enough (suc max_depth) d (omega (arith, low)))) ∙ h)
 
 no_refusal : (t : Tree) (d : Data) (text : List ℕ) → length text ≤ most_bytes → json_of text ≡ Some d → signature_fault d ≡ None → tree_of d ≡ t → tree_fault t ≡ None
-    → fault text ≡ None
+    → reading text ≡ Ok t
 no_refusal t d text short json first spells within =
-    nothing_first (nat_lt most_bytes (length text)) TooLarge (json_fault (json_of text)) (le-ltb most_bytes (length text) short)
-    (ap json_fault json ∙ nothing_then (signature_fault d) (tree_fault (tree_of d)) first (ap tree_fault spells ∙ within))
+    rw (le-ltb most_bytes (length text) short, json, first, spells, within) refl
 
-pub reads_again : (t : Tree) (text : List ℕ) → IsCanvas t → text ≡ compact_text (tree_wire t) → IsUtf8 text → length text ≤ most_bytes → (fault text ≡ None) × Reads text t
+pub reads_again : (t : Tree) (text : List ℕ) → IsCanvas t → text ≡ compact_text (tree_wire t) → IsUtf8 text → length text ≤ most_bytes → reading text ≡ Ok t
 reads_again t text canvas is utf8 short =
-    let low = not_deep t canvas.within in
+    let fits = canvas_fits t canvas in
+    let within = canvas_within t canvas in
+    let low = not_deep t within in
     let d = tree_wire t in
+    let near : depth d ≤ max_depth = omega (arith, tree_depth t) in
     let json : json_of text ≡ Some d =
-    ap (λ b. if b then read text else None) (is_utf8-from_IsUtf8 text utf8) ∙ ap read is ∙ text_read d (tree_clean t canvas.fits) (omega (arith, tree_depth t)) in
-    let spelled = reads_as t d (tree_back (suc max_depth) t canvas.fits (omega arith)) in
-    (no_refusal t d text short json spelled.0 spelled.1 canvas.within, (d, json, spelled.1))
+    ap (λ b. if b then read text else None) (is_utf8-from_IsUtf8 text utf8) ∙ ap read is ∙ text_read d (tree_clean t fits) near in
+    let spelled = reads_as t d near (tree_back (suc max_depth) t fits (omega arith)) in
+    no_refusal t d text short json spelled.0 spelled.1 within
 
 -- What a writer of the tree u returned reads as the canvas that u is.
 pub written_again : {E : Type 0} (r : Result (String Global) E) (u t : Tree) → u ≡ t → IsCanvas t → IfOk r (λ s. string_bytes s ≡ compact_text (tree_wire u))
-    → IfOk r (λ s. length (string_bytes s) ≤ most_bytes → (fault (string_bytes s) ≡ None) × Reads (string_bytes s) t)
+    → IfOk r (λ s. length (string_bytes s) ≤ most_bytes → reading (string_bytes s) ≡ Ok t)
 written_again (Ok s) u t same canvas is = λ short. reads_again t (string_bytes s) canvas (is ∙ ap (λ x. compact_text (tree_wire x)) same) (IsUtf8-string_bytes s) short
 written_again (Err e) u t same canvas is = tt

@@ -12,9 +12,10 @@ use Rattle.canvas_sig.specs.Fields.{field, items, entries, as_list, is_number, i
 use Rattle.canvas_sig.specs.Tree.{Call, Task, task, Tasks, no_tasks, and_task, Tree, one, chain, group, chord, Trees, no_trees, and_tree}
 use Rattle.canvas_sig.specs.Nesting.{task_nesting, tasks_nesting, nesting, all_nesting}
 use Rattle.canvas_sig.specs.View.{tasks_of, trees_of}
-use Rattle.canvas_sig.specs.Reading.{each, number_reading, arg_reading, named_reading, kind_ok, numbers_ok, number_ok, own_fault, task_with, task_reading, tree_reading}
+use Rattle.canvas_sig.specs.Reading.{each, number_of, arg_reading, named_reading, kind_ok, numbers_ok, number_ok, own_fault, task_with, task_reading, tree_reading}
 use Rattle.canvas_sig.specs.Writing.{numbers_wire, arg_wire, args_wire, kwargs_wire, options_wire, call_wire, task_wire, tasks_wire, primitive_wire, chord_members, tree_wire, trees_wire}
-use Rattle.canvas_sig.specs.Writable.{NumbersFit, ArgFits, ArgsFit, KwargsFit, CallFits, TaskFits, TasksFit, TreeFits, TreesFit}
+use Rattle.canvas_sig.specs.Writable.{NumbersFit, ArgFits, ArgsFit, KwargsFit, CallFits}
+use Rattle.canvas_sig.proofs.Fits.{TaskFits, TasksFit, TreeFits, TreesFit}
 
 -- ---- arguments
 
@@ -26,9 +27,9 @@ number_back : (n : ℤ) → in_range n ≡ true → as_i64 (of_integer n) ≡ So
 number_back (pos n) h = rw (below n h) refl
 number_back (negsuc n) h = refl
 
-numbers_back : (ns : List ℤ) → NumbersFit ns → each number_reading (items (numbers_wire ns)) ≡ Ok ns
+numbers_back : (ns : List ℤ) → NumbersFit ns → map number_of (items (numbers_wire ns)) ≡ ns
 numbers_back [] h = refl
-numbers_back (n ∷ ns) h = rw (number_back n h.0, h.0, numbers_back ns h.1) refl
+numbers_back (n ∷ ns) h = rw (number_back n h.0, numbers_back ns h.1) refl
 
 are_numbers : (ns : List ℤ) → list_all is_number (items (numbers_wire ns)) ≡ true
 are_numbers [] = refl
@@ -40,7 +41,7 @@ numbers_fit (n ∷ ns) h = rw (number_back n h.0, h.0, numbers_fit ns h.1) refl
 
 pub arg_back : (a : Arg) → ArgFits a → arg_reading (arg_wire a) ≡ Ok a
 arg_back (arg.Num n) h = rw (number_back n h, h) refl
-arg_back (arg.List ns) h = rw (are_numbers ns, numbers_back ns h) refl
+arg_back (arg.List ns) h = rw (are_numbers ns, numbers_fit ns h, numbers_back ns h) refl
 arg_back (arg.Text s) h = refl
 
 arg_kind : (a : Arg) → kind_ok (arg_wire a) ≡ true

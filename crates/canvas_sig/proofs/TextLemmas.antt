@@ -1,19 +1,22 @@
 -- The first refusal of a text, from what reading gave.
-use Rattle.std.proofs.Common.{◌≡◌, ◌≢◌, suc, Bool, true, false, Option, Some, None, Result, Ok, Err, refl, sym, ap, ◌∙◌}
+use Rattle.std.proofs.Common.{◌≡◌, ◌≢◌, suc, Bool, true, false, Option, Some, None, Result, Ok, Err, refl, sym, ap, ap₂, ◌∙◌, arith}
 use Rattle.std.specs.Prelude.{if◌then◌else◌, length, nat_lt}
 use Rattle.serde_json.specs.Data.{Data}
 use Rattle.serde_json.specs.Read.{max_depth, read as read_json}
 use Rattle.std.specs.Str.{is_utf8}
 use Rattle.canvas_sig.specs.declared.fault.SigFault.{SigFault}
 use Rattle.canvas_sig.specs.declared.fault.SigFault.TheVariants.{TooLarge, NotJson, Memory}
-use Rattle.canvas_sig.specs.CanvasText.{most_bytes, json_of, json_fault, fault, Reads, json_reading, signature_reading}
-use Rattle.canvas_sig.specs.Faults.{signature_fault, tree_of, judged}
+use Rattle.canvas_sig.specs.CanvasText.{most_bytes, json_of, canvas_reading, json_canvas, reading, json_reading, signature_reading}
+use Rattle.canvas_sig.specs.Faults.{signature_fault, tree_of}
 use Rattle.canvas_sig.specs.Fields.{Text}
 use Rattle.canvas_sig.specs.Limits.{tree_fault}
-use Rattle.canvas_sig.specs.Reading.{◌>>=◌, ◌or_else◌, fault_if, unless, Fails, tree_reading}
+use Rattle.canvas_sig.specs.Reading.{◌>>=◌, ◌or_else◌, fault_if, judged, unless, Fails, tree_reading}
 use Rattle.canvas_sig.specs.Tree.{Tree}
 use Rattle.canvas_sig.specs.Writable.{IsCanvas}
+use Rattle.serde_json.proofs.Nesting.{depth-read}
+use Rattle.canvas_sig.proofs.Depth.{fault_enough, tree_enough}
 use Rattle.canvas_sig.proofs.Law.{tree_judged}
+use Rattle.canvas_sig.proofs.Fits.{is_canvas as of_fits}
 use Rattle.canvas_sig.proofs.Fitting.{fits_read}
 
 judged_ok : {A : Type 0} (o : Option SigFault) (x t : A) → judged o x ≡ Ok t → (o ≡ None) × (x ≡ t)
@@ -24,58 +27,69 @@ judged_err : {A : Type 0} (o : Option SigFault) (x : A) (e : SigFault) → judge
 judged_err None x e h = absurd cc
 judged_err (Some f) x e h = let same : f ≡ e = cc in ap Some same
 
+read_json_of : (b : Bool) (o : Option Data) (d : Data) → (if b then o else None) ≡ Some d → o ≡ Some d
+read_json_of true o d h = h
+read_json_of false o d h = absurd cc
+
+-- the JSON of a text nests no deeper than the counter goes
+signature_judged : (bytes : Text) (d : Data) → json_of bytes ≡ Some d → tree_reading (suc max_depth) d ≡ judged (signature_fault d) (tree_of d)
+signature_judged bytes d json =
+    let low = depth-read bytes d (read_json_of (is_utf8 bytes) (read_json bytes) d json) in
+    tree_judged (suc max_depth) d ∙ ap₂ judged (fault_enough (suc max_depth) d (omega (arith, low))) (tree_enough (suc max_depth) d (omega (arith, low)))
+
 -- what was read, and where it has no fault of its signatures
-module _ (f : Data → Result Tree SigFault) (k : Data → Option SigFault) (c : Data → Tree) (is : (d : Data) → f d ≡ judged (k d) (c d)) where
-  was_read : (b : Bool) (o : Option Data) (t : Tree) → unless (fault_if b TooLarge) (json_reading o >>= f) ≡ Ok t
+module _ (f : Data → Result Tree SigFault) (k : Data → Option SigFault) (c : Data → Tree) where
+  was_read : (b : Bool) (o : Option Data) (t : Tree) → ((d : Data) → o ≡ Some d → f d ≡ judged (k d) (c d)) → unless (fault_if b TooLarge) (json_reading o >>= f) ≡ Ok t
       → (b ≡ false) × ((d : Data) × (o ≡ Some d) × (k d ≡ None) × (c d ≡ t))
-  was_read true o t h = absurd cc
-  was_read false None t h = absurd cc
-  was_read false (Some d) t h = let p = judged_ok (k d) (c d) t (sym (is d) ∙ h) in (refl, (d, refl, p.0, p.1))
+  was_read true o t is h = absurd cc
+  was_read false None t is h = absurd cc
+  was_read false (Some d) t is h = let p = judged_ok (k d) (c d) t (sym (is d refl) ∙ h) in (refl, (d, refl, p.0, p.1))
 
-  was_refused : (g : Option Data → Option SigFault) → g None ≡ Some NotJson → ((d : Data) (e : SigFault) → k d ≡ Some e → g (Some d) ≡ Some e)
-      → (b : Bool) (o : Option Data) (e : SigFault) → unless (fault_if b TooLarge) (json_reading o >>= f) ≡ Err e → (fault_if b TooLarge or_else g o) ≡ Some e
-  was_refused g none some true o e h = let same : TooLarge ≡ e = cc in ap Some same
-  was_refused g none some false None e h = let same : NotJson ≡ e = cc in none ∙ ap Some same
-  was_refused g none some false (Some d) e h = some d e (judged_err (k d) (c d) e (sym (is d) ∙ h))
+  was_refused : (g : Option Data → Result Tree SigFault) → g None ≡ Err NotJson → ((d : Data) (e : SigFault) → k d ≡ Some e → g (Some d) ≡ Err e)
+      → (b : Bool) (o : Option Data) (e : SigFault) → ((d : Data) → o ≡ Some d → f d ≡ judged (k d) (c d))
+      → unless (fault_if b TooLarge) (json_reading o >>= f) ≡ Err e → (if b then Err TooLarge else g o) ≡ Err e
+  was_refused g none some true o e is h = let same : TooLarge ≡ e = cc in ap Err same
+  was_refused g none some false None e is h = let same : NotJson ≡ e = cc in none ∙ ap Err same
+  was_refused g none some false (Some d) e is h = some d e (judged_err (k d) (c d) e (sym (is d refl) ∙ h))
 
-signature_judged : (d : Data) → tree_reading (suc max_depth) d ≡ judged (signature_fault d) (tree_of d)
-unfolding signature_fault tree_of
-signature_judged d = tree_judged (suc max_depth) d
+-- what was read of a text
+record WasRead (bytes : Text) (t : Tree) : Type 0 where
+  short : nat_lt most_bytes (length bytes) ≡ false
+  its_json : Data
+  json : json_of bytes ≡ Some its_json
+  fine : signature_fault its_json ≡ None
+  tree : tree_of its_json ≡ t
 
-then_limits : (d : Data) (t : Tree) (o : Option SigFault) → signature_fault d ≡ None → tree_of d ≡ t → tree_fault t ≡ o → json_fault (Some d) ≡ o
-then_limits d t o none is limits = ap (λ f. f or_else tree_fault (tree_of d)) none ∙ ap tree_fault is ∙ limits
+what_was_read : (bytes : Text) (t : Tree) → signature_reading bytes ≡ Ok t → WasRead bytes t
+what_was_read bytes t h =
+    let read = was_read (tree_reading (suc max_depth)) signature_fault tree_of (nat_lt most_bytes (length bytes)) (json_of bytes) t (signature_judged bytes) h in
+    record { short = read.0; its_json = read.1.0; json = read.1.1; fine = read.1.2; tree = read.1.3 }
 
 -- a text whose signatures have no fault is refused by the limits alone
-pub limits_decide : (bytes : Text) (t : Tree) (o : Option SigFault) → signature_reading bytes ≡ Ok t → tree_fault t ≡ o → fault bytes ≡ o
-limits_decide bytes t o h limits =
-    let read = was_read (tree_reading (suc max_depth)) signature_fault tree_of signature_judged (nat_lt most_bytes (length bytes)) (json_of bytes) t h in
-    rw read.0 (ap json_fault read.1.1 ∙ then_limits read.1.0 t o read.1.2 read.1.3 limits)
+limits_decide : (bytes : Text) (t : Tree) → WasRead bytes t → reading bytes ≡ judged (tree_fault t) t
+limits_decide bytes t r =
+    rw (r.short, r.json, r.fine, r.tree) refl
 
-pub spells : (bytes : Text) (t : Tree) → signature_reading bytes ≡ Ok t → Reads bytes t
-spells bytes t h =
-    let read = was_read (tree_reading (suc max_depth)) signature_fault tree_of signature_judged (nat_lt most_bytes (length bytes)) (json_of bytes) t h in
-    (read.1.0, read.1.1, read.1.3)
+pub read_whole : (bytes : Text) (t : Tree) → signature_reading bytes ≡ Ok t → tree_fault t ≡ None → reading bytes ≡ Ok t
+read_whole bytes t h limits = limits_decide bytes t (what_was_read bytes t h) ∙ ap (λ f. judged f t) limits
 
-json_read : (b : Bool) (o : Option Data) (d : Data) → (if b then o else None) ≡ Some d → o ≡ Some d
-json_read true o d h = h
-json_read false o d h = absurd cc
+pub refused_whole : (bytes : Text) (t : Tree) (e : SigFault) → signature_reading bytes ≡ Ok t → tree_fault t ≡ Some e → reading bytes ≡ Err e
+refused_whole bytes t e h limits = limits_decide bytes t (what_was_read bytes t h) ∙ ap (λ f. judged f t) limits
 
 pub is_canvas : (bytes : Text) (t : Tree) → signature_reading bytes ≡ Ok t → tree_fault t ≡ None → IsCanvas t
 is_canvas bytes t h limits =
-    let read = was_read (tree_reading (suc max_depth)) signature_fault tree_of signature_judged (nat_lt most_bytes (length bytes)) (json_of bytes) t h in
-    let d = read.1.0 in
-    record {
-      fits = fits_read bytes (suc max_depth) d t (json_read (is_utf8 bytes) (read_json bytes) d read.1.1) (signature_judged d ∙ ap (λ o. judged o (tree_of d)) read.1.2 ∙ ap Ok read.1.3);
-      within = limits;
-    }
+    let r = what_was_read bytes t h in
+    of_fits t
+    (fits_read bytes (suc max_depth) r.its_json t (read_json_of (is_utf8 bytes) (read_json bytes) r.its_json r.json)
+    (signature_judged bytes r.its_json r.json ∙ ap (λ o. judged o (tree_of r.its_json)) r.fine ∙ ap Ok r.tree)) limits
 
-json_later : (d : Data) (e : SigFault) → signature_fault d ≡ Some e → json_fault (Some d) ≡ Some e
-json_later d e h = ap (λ f. f or_else tree_fault (tree_of d)) h
+canvas_later : (d : Data) (e : SigFault) → signature_fault d ≡ Some e → canvas_reading d ≡ Err e
+canvas_later d e h = ap (λ f. judged (f or_else tree_fault (tree_of d)) (tree_of d)) h
 
-refused : (bytes : Text) (e : SigFault) → signature_reading bytes ≡ Err e → fault bytes ≡ Some e
+refused : (bytes : Text) (e : SigFault) → signature_reading bytes ≡ Err e → reading bytes ≡ Err e
 refused bytes e h =
-    was_refused (tree_reading (suc max_depth)) signature_fault tree_of signature_judged json_fault refl json_later (nat_lt most_bytes (length bytes)) (json_of bytes) e h
+    was_refused (tree_reading (suc max_depth)) signature_fault tree_of json_canvas refl canvas_later (nat_lt most_bytes (length bytes)) (json_of bytes) e (signature_judged bytes) h
 
-pub fails_refused : (bytes : Text) (e : SigFault) → Fails e (signature_reading bytes) → e ≢ Memory → fault bytes ≡ Some e
+pub fails_refused : (bytes : Text) (e : SigFault) → Fails e (signature_reading bytes) → e ≢ Memory → reading bytes ≡ Err e
 fails_refused bytes Memory h other = absurd (other refl)
 fails_refused bytes e h other = refused bytes e h

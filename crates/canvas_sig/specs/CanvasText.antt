@@ -1,12 +1,12 @@
--- The refusal of a text, and the canvas that it stands for.
-use Rattle.std.specs.Prelude.{◌≡◌, ℕ, if◌then◌else◌, suc, length, Option, Some, None, Result, Ok, Err, nat_lt}
+-- The canvas that a text spells, or its first refusal.
+use Rattle.std.specs.Prelude.{ℕ, if◌then◌else◌, suc, length, Option, Some, None, Result, Ok, Err, nat_lt}
 use Rattle.std.specs.Str.{is_utf8}
 use Rattle.serde_json.specs.Data.{Data}
 use Rattle.serde_json.specs.Read.{read, max_depth}
 use Rattle.canvas_sig.specs.declared.fault.SigFault.{SigFault}
 use Rattle.canvas_sig.specs.declared.fault.SigFault.TheVariants.{TooLarge, NotJson}
 use Rattle.canvas_sig.specs.Fields.{Text}
-use Rattle.canvas_sig.specs.Reading.{◌>>=◌, ◌or_else◌, fault_if, unless, tree_reading}
+use Rattle.canvas_sig.specs.Reading.{◌>>=◌, ◌or_else◌, fault_if, judged, unless, tree_reading}
 use Rattle.canvas_sig.specs.Faults.{signature_fault, tree_of}
 use Rattle.canvas_sig.specs.Limits.{tree_fault}
 use Rattle.canvas_sig.specs.Tree.{Tree}
@@ -19,17 +19,17 @@ most_bytes = 1048576
 abbrev pub json_of : Text → Option Data
 json_of bytes = if is_utf8 bytes then read bytes else None
 
-abbrev pub json_fault : Option Data → Option SigFault
-json_fault None = Some NotJson
-json_fault (Some d) = signature_fault d or_else tree_fault (tree_of d)
+-- the canvas that a JSON value spells, where neither a signature nor the whole canvas is refused
+abbrev pub canvas_reading : Data → Result Tree SigFault
+canvas_reading d = judged (signature_fault d or_else tree_fault (tree_of d)) (tree_of d)
 
--- the first refusal of a text, or none
-abbrev pub fault : Text → Option SigFault
-fault bytes = fault_if (nat_lt most_bytes (length bytes)) TooLarge or_else json_fault (json_of bytes)
+abbrev pub json_canvas : Option Data → Result Tree SigFault
+json_canvas None = Err NotJson
+json_canvas (Some d) = canvas_reading d
 
--- the text spells the canvas
-abbrev pub Reads : Text → Tree → Type 0
-Reads bytes c = (d : Data) × (json_of bytes ≡ Some d) × (tree_of d ≡ c)
+-- the canvas that a text spells, or its first refusal
+abbrev pub reading : Text → Result Tree SigFault
+reading bytes = if nat_lt most_bytes (length bytes) then Err TooLarge else json_canvas (json_of bytes)
 
 -- ---- reading, as the code goes
 

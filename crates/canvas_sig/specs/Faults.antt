@@ -1,16 +1,12 @@
 -- The first fault of a signature in file order, and apart from it the canvas that a signature without one spells.
-use Rattle.std.specs.Prelude.{ℕ, zero, suc, Bool, true, false, List, [], ◌∷◌, ◌++◌, map, Option, Some, None, Result, Ok, Err, codes, ℤ, pos}
-use Rattle.serde_json.specs.Data.{Data, number, string, array}
-use Rattle.serde_json.specs.Find.{as_i64}
-use Rattle.serde_json.specs.Read.{max_depth}
+use Rattle.std.specs.Prelude.{ℕ, zero, suc, Bool, true, false, List, [], ◌∷◌, ◌++◌, map, Option, Some, None, codes}
+use Rattle.serde_json.specs.Data.{Data, array, depth}
 use Rattle.canvas_task.specs.declared.arg.Arg.{Arg}
-use Rattle.canvas_task.specs.declared.arg.Arg.TheVariants as arg
 use Rattle.canvas_sig.specs.declared.fault.SigFault.{SigFault}
-use Rattle.canvas_sig.specs.declared.fault.SigFault.TheVariants.{TooDeep}
 use Rattle.canvas_sig.specs.declared.primitive.Primitive.{Primitive}
 use Rattle.canvas_sig.specs.declared.primitive.Primitive.TheVariants as kind
 use Rattle.canvas_sig.specs.Fields.{Text, field, subtype, args, kwargs, tasks, header, body, link, link_error, items, listed, as_list, members, is_true, text_of}
-use Rattle.canvas_sig.specs.Reading.{◌or_else◌, own_fault, primitive_of, members_in}
+use Rattle.canvas_sig.specs.Reading.{◌or_else◌, argument_of, own_fault, primitive_of, members_in}
 use Rattle.canvas_sig.specs.Tree.{Call, Task, task, Tree, one, chain, group, chord, Trees}
 use Rattle.canvas_sig.specs.View.{tasks_of, trees_of}
 
@@ -28,27 +24,15 @@ in_kwargs (Some kind.Chord) d = as_list (header d) ++ body d ∷ []
 in_kwargs p d = []
 
 -- A signature before those in it, and these in the order tasks; header, body; link, link_error. The first with a fault decides.
--- A header that is a group signature is a signature of its own.
+-- A header that is a group signature is a signature of its own. The number bounds how deep arrays and objects nest in the value:
+-- where it is 0 nothing stands in it.
 abbrev pub fault_within : ℕ → Bool → Data → Option SigFault
-fault_within zero linked d = Some TooDeep
+fault_within zero linked d = own_fault linked d
 fault_within (suc n) linked d =
     own_fault linked d or_else first_fault (fault_within n false) (in_kwargs (primitive_of (subtype d)) d)
     or_else first_fault (fault_within n true) (as_list (link d)) or_else first_fault (fault_within n true) (as_list (link_error d))
 
 -- ---- what a signature without a fault reads as
-
-abbrev pub some_or_zero : Option ℤ → ℤ
-some_or_zero None = pos 0
-some_or_zero (Some z) = z
-
-abbrev pub number_of : Data → ℤ
-number_of (number n) = some_or_zero (as_i64 n)
-number_of d = pos 0
-
-abbrev pub argument_of : Data → Arg
-argument_of (string s) = arg.Text s
-argument_of (array ds) = arg.List (map number_of (items ds))
-argument_of d = arg.Num (number_of d)
 
 abbrev pub named_of : Text × Data → Text × Arg
 named_of e = (e.0, argument_of e.1)
@@ -82,15 +66,11 @@ abbrev pub tree_within : ℕ → Data → Tree
 tree_within zero d = one (task_within zero d)
 tree_within (suc n) d = tree_from (task_within (suc n) d) (tree_within n) (primitive_of (subtype d)) d
 
--- ---- to any depth that JSON reads at
+-- ---- As deep as the value is. A greater number changes nothing: `fault_by_parts`, `task_by_parts` and `tree_by_parts` of proofs/Depth
+-- say the same with no number at all.
 
 unfoldable pub signature_fault : Data → Option SigFault
-signature_fault d = fault_within (suc max_depth) false d
+signature_fault d = fault_within (depth d) false d
 
 unfoldable pub tree_of : Data → Tree
-tree_of d = tree_within (suc max_depth) d
-
--- a fault, or the value where there is none
-abbrev pub judged : {A : Type 0} → Option SigFault → A → Result A SigFault
-judged None x = Ok x
-judged (Some e) x = Err e
+tree_of d = tree_within (depth d) d

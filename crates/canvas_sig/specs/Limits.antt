@@ -21,7 +21,9 @@ most_tasks = 1024
 abbrev pub most_groups : ℕ
 most_groups = 1024
 
--- whether a member of a group or of a header ends in a group, anywhere in the canvas
+-- Whether a member of a group or of a header ends in a group, anywhere in the canvas. It is said of the canvas as it was written, and
+-- says the same of the members' normal lines, since rewriting keeps what a line ends in where no chain is empty, which is refused
+-- before: `nested_in_lines` of proofs/NormalEnds.
 abbrev mutual
   pub nests_group : Tree → Bool
   nests_group (one t) = false

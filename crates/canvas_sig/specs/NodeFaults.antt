@@ -1,4 +1,5 @@
--- The refusals of a canvas that was composed: what a text can't spell, or what no canvas holds.
+-- The refusals of a canvas that was composed: a text can spell each of them too, and is then refused for the same reason. What else
+-- refuses a text is of its JSON, and can't be composed.
 use Rattle.std.specs.Prelude.{Bool, true, not, ◌&&◌, Option, Some, None, Result, Ok, Err}
 use Rattle.std.specs.List.{list_all}
 use Rattle.canvas_task.specs.Name.{name_ok}

@@ -1,5 +1,5 @@
 -- The signature that a JSON value stands for, or its first fault, as reading finds it.
-use Rattle.std.specs.Prelude.{◌≡◌, ℕ, zero, suc, Bool, true, false, not, ◌&&◌, ◌||◌, if◌then◌else◌, List, [], ◌∷◌, Option, Some, None, Result, Ok, Err, codes, ℤ}
+use Rattle.std.specs.Prelude.{◌≡◌, ℕ, zero, suc, Bool, true, false, not, ◌&&◌, ◌||◌, if◌then◌else◌, List, [], ◌∷◌, map, Option, Some, None, Result, Ok, Err, codes, ℤ, pos}
 use Rattle.std.specs.List.{list_all}
 use Rattle.std.specs.Str.{bytes_eq}
 use Rattle.serde_json.specs.Data.{Data, null, number, string, array}
@@ -45,6 +45,11 @@ abbrev pub unless : {A : Type 0} → Option SigFault → Result A SigFault → R
 unless None read = read
 unless (Some e) read = Err e
 
+-- a fault, or the value where there is none
+abbrev pub judged : {A : Type 0} → Option SigFault → A → Result A SigFault
+judged None x = Ok x
+judged (Some e) x = Err e
+
 -- each in turn
 abbrev pub each : {A B : Type 0} → (A → Result B SigFault) → List A → Result (List B) SigFault
 each f [] = Ok []
@@ -52,22 +57,53 @@ each f (x ∷ xs) = f x >>= λ y. each f xs >>= λ ys. Ok (y ∷ ys)
 
 -- ---- arguments: a whole number in range, a text, or a list of whole numbers in range
 
-abbrev pub whole : Option ℤ → Result ℤ SigFault
-whole None = Err BadNumber
-whole (Some z) = if in_range z then Ok z else Err BadNumber
+-- of an allowed kind: a number, a text, or a list of numbers
+abbrev pub kind_ok : Data → Bool
+kind_ok (number n) = true
+kind_ok (string s) = true
+kind_ok (array ds) = list_all is_number (items ds)
+kind_ok d = false
 
-abbrev pub number_reading : Data → Result ℤ SigFault
-number_reading (number n) = whole (as_i64 n)
-number_reading d = Err BadNumber
+abbrev pub some_in_range : Option ℤ → Bool
+some_in_range None = false
+some_in_range (Some z) = in_range z
 
-abbrev pub list_reading : List Data → Result Arg SigFault
-list_reading ds = if list_all is_number ds then (each number_reading ds >>= λ ns. Ok (arg.List ns)) else Err BadArgs
+abbrev pub number_ok : Data → Bool
+number_ok (number n) = some_in_range (as_i64 n)
+number_ok d = true
 
+-- each number in it is whole and in range
+abbrev pub numbers_ok : Data → Bool
+numbers_ok (array ds) = list_all number_ok (items ds)
+numbers_ok d = number_ok d
+
+-- the first fault of an argument
+abbrev pub arg_fault : Data → Option SigFault
+arg_fault d = fault_if (not (kind_ok d)) BadArgs or_else fault_if (not (numbers_ok d)) BadNumber
+
+abbrev pub some_or_zero : Option ℤ → ℤ
+some_or_zero None = pos 0
+some_or_zero (Some z) = z
+
+abbrev pub number_of : Data → ℤ
+number_of (number n) = some_or_zero (as_i64 n)
+number_of d = pos 0
+
+-- what one without a fault stands for
+abbrev pub argument_of : Data → Arg
+argument_of (string s) = arg.Text s
+argument_of (array ds) = arg.List (map number_of (items ds))
+argument_of d = arg.Num (number_of d)
+
+-- the argument that a value stands for, or its fault
 abbrev pub arg_reading : Data → Result Arg SigFault
-arg_reading (number n) = whole (as_i64 n) >>= λ z. Ok (arg.Num z)
-arg_reading (string s) = Ok (arg.Text s)
-arg_reading (array ds) = list_reading (items ds)
-arg_reading d = Err BadArgs
+arg_reading d = judged (arg_fault d) (argument_of d)
+
+-- whether reading it asks for memory: a text does, and so does a list of numbers that isn't empty
+abbrev pub takes_memory : Data → Bool
+takes_memory (string s) = true
+takes_memory (array ds) = not (is_empty (array ds)) && kind_ok (array ds)
+takes_memory d = false
 
 abbrev pub named_reading : Text × Data → Result (Text × Arg) SigFault
 named_reading e = arg_reading e.1 >>= λ a. Ok (e.0, a)
@@ -89,26 +125,6 @@ abbrev pub primitive_of : Data → Option Primitive
 primitive_of null = Some kind.Task
 primitive_of (string s) = primitive_named s
 primitive_of d = None
-
-abbrev pub some_in_range : Option ℤ → Bool
-some_in_range None = false
-some_in_range (Some z) = in_range z
-
-abbrev pub number_ok : Data → Bool
-number_ok (number n) = some_in_range (as_i64 n)
-number_ok d = true
-
--- an argument of an allowed kind: a number, a text, or a list of numbers
-abbrev pub kind_ok : Data → Bool
-kind_ok (number n) = true
-kind_ok (string s) = true
-kind_ok (array ds) = list_all is_number (items ds)
-kind_ok d = false
-
--- each number in an argument is whole and in range
-abbrev pub numbers_ok : Data → Bool
-numbers_ok (array ds) = list_all number_ok (items ds)
-numbers_ok d = number_ok d
 
 abbrev pub args_ok : (Data → Bool) → Data → Bool
 args_ok f d = list_all f (listed (args d)) && list_all f (contents (kwargs d))
@@ -162,6 +178,23 @@ abbrev pub own_fault : Bool → Data → Option SigFault
 own_fault linked d = fault_if (not_signature d) NotSignature or_else fault_as linked d (primitive_of (subtype d))
 
 -- ---- reading, as the code goes
+
+abbrev pub whole : Option ℤ → Result ℤ SigFault
+whole None = Err BadNumber
+whole (Some z) = if in_range z then Ok z else Err BadNumber
+
+abbrev pub number_reading : Data → Result ℤ SigFault
+number_reading (number n) = whole (as_i64 n)
+number_reading d = Err BadNumber
+
+abbrev pub list_reading : List Data → Result Arg SigFault
+list_reading ds = if list_all is_number ds then (each number_reading ds >>= λ ns. Ok (arg.List ns)) else Err BadArgs
+
+abbrev pub arg_steps : Data → Result Arg SigFault
+arg_steps (number n) = whole (as_i64 n) >>= λ z. Ok (arg.Num z)
+arg_steps (string s) = Ok (arg.Text s)
+arg_steps (array ds) = list_reading (items ds)
+arg_steps d = Err BadArgs
 
 -- a task, by what reads its links and error callbacks
 abbrev pub task_with : (Data → Result Task SigFault) → Data → Result Task SigFault

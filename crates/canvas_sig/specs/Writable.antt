@@ -1,13 +1,11 @@
--- The signatures that can be written and read again: what a canvas holds.
+-- What a canvas holds.
 use Rattle.std.specs.Prelude.{◌≡◌, ℕ, true, List, [], ◌∷◌, None, ℤ}
-use Rattle.std.specs.Ordering.{nat_cmp}
-use Rattle.std.specs.declared.cmp.Ordering.TheVariants.{Less}
-use Rattle.std.specs.Cmp.Lexicographic.{slice_cmp}
+use Rattle.canvas_task.specs.Entries.{Ascends}
 use Rattle.canvas_task.specs.Name.{name_ok}
 use Rattle.canvas_task.specs.Numbers.{in_range}
 use Rattle.canvas_task.specs.declared.arg.Arg.{Arg}
 use Rattle.canvas_task.specs.declared.arg.Arg.TheVariants as arg
-use Rattle.canvas_sig.specs.Limits.{tree_fault}
+use Rattle.canvas_sig.specs.NodeFaults.{node_fault}
 use Rattle.canvas_sig.specs.Tree.{Call, Task, task, Tasks, no_tasks, and_task, Tree, one, chain, group, chord, Trees, no_trees, and_tree}
 
 -- ---- numbers are in range
@@ -29,46 +27,34 @@ abbrev pub KwargsFit : List (List ℕ × Arg) → Type 0
 KwargsFit [] = Unit {0}
 KwargsFit (e ∷ es) = ArgFits e.1 × KwargsFit es
 
--- ---- keyword arguments stand in the order of their names, each name once
-
-abbrev pub IsBelow : List ℕ → List (List ℕ × Arg) → Type 0
-IsBelow k [] = Unit {0}
-IsBelow k (e ∷ es) = (slice_cmp nat_cmp k e.0 ≡ Less) × IsBelow k es
-
-abbrev pub Ascends : List (List ℕ × Arg) → Type 0
-Ascends [] = Unit {0}
-Ascends (e ∷ es) = IsBelow e.0 es × Ascends es
-
--- ---- whole signatures, not numbered yet
-
 pub record CallFits (call : Call) : Type 0 where
   pub name : name_ok call.name ≡ true
   pub args : ArgsFit call.args
   pub kwargs : KwargsFit call.kwargs
   pub ordered : Ascends call.kwargs
 
+-- ---- not numbered yet, and each name of a keyword argument once, in the order of the names
+
 abbrev mutual
-  pub TaskFits : Task → Type 0
-  TaskFits (task k call links errbacks) = (k ≡ 0) × CallFits call × TasksFit links × TasksFit errbacks
+  pub TaskComposed : Task → Type 0
+  TaskComposed (task k call links errbacks) = (k ≡ 0) × Ascends call.kwargs × TasksComposed links × TasksComposed errbacks
 
-  pub TasksFit : Tasks → Type 0
-  TasksFit no_tasks = Unit {0}
-  TasksFit (and_task t ts) = TaskFits t × TasksFit ts
+  pub TasksComposed : Tasks → Type 0
+  TasksComposed no_tasks = Unit {0}
+  TasksComposed (and_task t ts) = TaskComposed t × TasksComposed ts
 
--- no chain is empty
 abbrev mutual
-  pub TreeFits : Tree → Type 0
-  TreeFits (one t) = TaskFits t
-  TreeFits (chain no_trees) = ⊥
-  TreeFits (chain (and_tree t ts)) = TreeFits t × TreesFit ts
-  TreeFits (group g ms) = (g ≡ 0) × TreesFit ms
-  TreeFits (chord g h b) = (g ≡ 0) × TreesFit h × TreeFits b
+  pub IsComposed : Tree → Type 0
+  IsComposed (one t) = TaskComposed t
+  IsComposed (chain ts) = AreComposed ts
+  IsComposed (group g ms) = (g ≡ 0) × AreComposed ms
+  IsComposed (chord g h b) = (g ≡ 0) × AreComposed h × IsComposed b
 
-  pub TreesFit : Trees → Type 0
-  TreesFit no_trees = Unit {0}
-  TreesFit (and_tree t ts) = TreeFits t × TreesFit ts
+  pub AreComposed : Trees → Type 0
+  AreComposed no_trees = Unit {0}
+  AreComposed (and_tree t ts) = IsComposed t × AreComposed ts
 
--- what a canvas holds can be written and read again, and no limit refuses it
+-- what a canvas holds: nothing refuses it
 pub record IsCanvas (c : Tree) : Type 0 where
-  pub fits : TreeFits c
-  pub within : tree_fault c ≡ None
+  pub fine : node_fault c ≡ None
+  pub composed : IsComposed c

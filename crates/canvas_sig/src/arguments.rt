@@ -1,13 +1,14 @@
 //! Reading the arguments of a task out of JSON values.
 
-ghost use Rattle.std.specs.Prelude.{◌≡◌, map, string_bytes};
+ghost use Rattle.std.specs.Prelude.{◌≡◌, ◌≢◌, ◌<◌, map, length, string_bytes, IsTrue, IfErr};
 ghost use Rattle.std.specs.List.{list_all};
 ghost use Rattle.serde_json.specs.Find.{as_i64};
 ghost use Rattle.serde_json.specs.View.{view, number_view};
 ghost use Rattle.canvas_task.specs.Entries.{named};
 ghost use Rattle.canvas_task.specs.Numbers.{in_range};
+ghost use Rattle.canvas_sig.specs.declared.fault.SigFault.TheVariants.{Memory};
 ghost use Rattle.canvas_sig.specs.Fields.{found, seen, members, is_number};
-ghost use Rattle.canvas_sig.specs.Reading.{Gives, each, some_in_range, whole, number_reading, list_reading, arg_reading, named_reading};
+ghost use Rattle.canvas_sig.specs.Reading.{Gives, each, some_in_range, whole, number_reading, list_reading, arg_reading, named_reading, takes_memory};
 
 use crate::fault::SigFault;
 use canvas_task::{Arg, ListOf, TextOf};
@@ -35,7 +36,8 @@ pub(crate) fn is_in_range(number: &Number) -> bool
 
 /// A whole number in range.
 fn whole(number: &Number) -> Result<i64, SigFault>
-    ensures { Gives (λ n. n) result (whole (as_i64 (number_view number.now))) }
+    ensures reading { Gives (λ n. n) result (whole (as_i64 (number_view number.now))) }
+    ensures memory { IfErr result (λ e. e ≢ Memory) }
 {
     match number.as_i64() {
         None => Err(SigFault::BadNumber),
@@ -51,7 +53,8 @@ fn whole(number: &Number) -> Result<i64, SigFault>
 
 /// A whole number in range, where the value is a number.
 fn read_number(value: &Value) -> Result<i64, SigFault>
-    ensures { Gives (λ n. n) result (number_reading (view value.now)) }
+    ensures reading { Gives (λ n. n) result (number_reading (view value.now)) }
+    ensures memory { IfErr result (λ e. e ≢ Memory) }
 {
     match value {
         Value::Number(number) => whole(number),
@@ -71,7 +74,8 @@ pub(crate) fn all_numbers(values: &[Value]) -> bool
 }
 
 fn read_numbers(alloc: Global, values: &[Value]) -> Result<Vec<i64>, SigFault>
-    ensures { Gives (λ v. v.items) result (each number_reading (map view values.now)) }
+    ensures reading { Gives (λ v. v.items) result (each number_reading (map view values.now)) }
+    ensures memory { IfErr result (λ e. e ≡ Memory → 0 < length values.now) }
 {
     let mut numbers = Vec::new(alloc);
     for value in values {
@@ -81,7 +85,8 @@ fn read_numbers(alloc: Global, values: &[Value]) -> Result<Vec<i64>, SigFault>
 }
 
 fn read_list(alloc: Global, values: &[Value]) -> Result<Arg, SigFault>
-    ensures { Gives (λ a. a) result (list_reading (map view values.now)) }
+    ensures reading { Gives (λ a. a) result (list_reading (map view values.now)) }
+    ensures memory { IfErr result (λ e. e ≡ Memory → (0 < length values.now) × IsTrue (list_all is_number (map view values.now))) }
 {
     if !all_numbers(values) {
         return Err(SigFault::BadArgs);
@@ -89,9 +94,11 @@ fn read_list(alloc: Global, values: &[Value]) -> Result<Arg, SigFault>
     Ok(Arg::List(ListOf::of(read_numbers(alloc, values)?)))
 }
 
-/// The argument that a value stands for.
+/// The argument that a value stands for, or its fault. Memory is asked for by a text and by a list of numbers alone.
+#[tactic(auto, using(crate::proofs::ArgumentLaw::reads_so))]
 pub fn read_arg(alloc: Global, value: &Value) -> Result<Arg, SigFault>
-    ensures { Gives (λ a. a) result (arg_reading (view value.now)) }
+    ensures reading { Gives (λ a. a) result (arg_reading (view value.now)) }
+    ensures memory { IfErr result (λ e. e ≡ Memory → IsTrue (takes_memory (view value.now))) }
 {
     match value {
         Value::Number(number) => Ok(Arg::Num(whole(number)?)),

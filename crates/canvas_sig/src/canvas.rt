@@ -1,9 +1,9 @@
 //! Canvases: signatures that passed every check.
 
-ghost use Rattle.std.specs.Prelude.{◌≡◌, ◌≢◌, IfOk, IfErr};
+ghost use Rattle.std.specs.Prelude.{◌≡◌, ◌≢◌, Ok, Err, IfOk, IfErr, MatchResult};
 ghost use Rattle.serde_json.specs.View.{view as json_view};
 ghost use Rattle.canvas_sig.specs.declared.fault.SigFault.TheVariants.{Memory};
-ghost use Rattle.canvas_sig.specs.CanvasText.{json_of, json_reading, signature_reading, fault, Reads};
+ghost use Rattle.canvas_sig.specs.CanvasText.{json_of, json_reading, signature_reading, reading};
 ghost use Rattle.canvas_sig.specs.NodeFaults.{node_fault};
 ghost use Rattle.canvas_sig.specs.Reading.{Gives};
 ghost use Rattle.canvas_sig.specs.View.{view};
@@ -46,8 +46,8 @@ impl Model for Canvas {
 }
 
 impl Canvas {
-    /// Checks a composed signature. A text can't spell most of its faults: only names, numbers and empty chains are looked at,
-    /// and then the limits of a canvas.
+    /// Checks a composed signature: names, numbers and empty chains, signature by signature, and then the limits of a canvas.
+    /// A text can spell these faults too; its other faults are of its JSON, and no composed signature has them.
     pub fn of(_alloc: Global, node: Node) -> Result<Canvas, SigFault>
         ensures ok { IfOk result (λ canvas. (node_fault (view node) ≡ None) × (canvas ≡ view node)) }
         ensures err { IfErr result (λ e. node_fault (view node) ≡ Some e) }
@@ -93,8 +93,7 @@ fn read_signature(alloc: Global, bytes: &[u8]) -> Result<Node, SigFault>
 /// The canvas that a text spells, or its first refusal.
 #[tactic(auto, using(crate::proofs::TextLemmas::fails_refused))]
 pub fn read_canvas(alloc: Global, bytes: &[u8]) -> Result<Canvas, SigFault>
-    ensures ok { IfOk result (λ canvas. (fault bytes.now ≡ None) × Reads bytes.now canvas) }
-    ensures err { IfErr result (λ e. e ≢ Memory → fault bytes.now ≡ Some e) }
+    ensures { MatchResult result (λ canvas. reading bytes.now ≡ Ok canvas) (λ e. e ≢ Memory → reading bytes.now ≡ Err e) }
 {
     let node = read_signature(alloc, bytes)?;
     match limit_fault(&node) {

@@ -2,12 +2,12 @@
 
 ghost use Rattle.std.specs.Prelude.{◌≡◌, map, OnOk};
 ghost use Rattle.std.specs.List.{list_all};
-ghost use Rattle.canvas_task.specs.Entries.{named};
+ghost use Rattle.canvas_task.specs.Entries.{named, Ascends};
 ghost use Rattle.canvas_task.specs.Numbers.{in_range};
 ghost use Rattle.canvas_sig.specs.NodeFaults.{fault_of, arg_ok, its_call, call_fault, task_fault, tasks_fault, signatures_fault, all_fault};
 ghost use Rattle.canvas_sig.specs.Tree.{chain};
 ghost use Rattle.canvas_sig.specs.View.{task_view, view, tasks_of, trees_of};
-ghost use Rattle.canvas_sig.specs.Writable.{Ascends, CallFits, TaskFits, TasksFit, TreeFits, TreesFit};
+ghost use Rattle.canvas_sig.specs.Writable.{TaskComposed, TasksComposed, IsComposed, AreComposed};
 
 use crate::arguments::fits;
 use crate::{Node, SigFault, TaskSig};
@@ -52,7 +52,7 @@ pub fn kwargs_fit(kwargs: &BTreeMap<String, Arg>) -> bool
 
 fn check_call(sig: &TaskSig) -> Result<(), SigFault>
     ensures fault { fault_of result ≡ call_fault (its_call (task_view sig.now)) }
-    ensures fits { OnOk result (CallFits (its_call (task_view sig.now))) }
+    ensures ordered { OnOk result (Ascends (its_call (task_view sig.now)).kwargs) }
 {
     if !name_ok(sig.name.get()) {
         return Err(SigFault::NotSignature);
@@ -66,7 +66,7 @@ fn check_call(sig: &TaskSig) -> Result<(), SigFault>
 #[cycle(check_task)]
 fn check_task(sig: &TaskSig) -> Result<(), SigFault>
     ensures fault { fault_of result ≡ task_fault (task_view sig.now) }
-    ensures fits { OnOk result (TaskFits (task_view sig.now)) }
+    ensures composed { OnOk result (TaskComposed (task_view sig.now)) }
 {
     check_call(sig)?;
     check_tasks(sig.links.get())?;
@@ -76,7 +76,7 @@ fn check_task(sig: &TaskSig) -> Result<(), SigFault>
 #[cycle(check_task)]
 fn check_tasks(sigs: &[TaskSig]) -> Result<(), SigFault>
     ensures fault { fault_of result ≡ tasks_fault (tasks_of (map task_view sigs.now)) }
-    ensures fits { OnOk result (TasksFit (tasks_of (map task_view sigs.now))) }
+    ensures composed { OnOk result (TasksComposed (tasks_of (map task_view sigs.now))) }
 {
     for sig in sigs {
         check_task(sig)?;
@@ -88,7 +88,7 @@ fn check_tasks(sigs: &[TaskSig]) -> Result<(), SigFault>
 #[cycle(check_node)]
 pub(crate) fn check_node(node: &Node) -> Result<(), SigFault>
     ensures fault { fault_of result ≡ signatures_fault (view node.now) }
-    ensures fits { OnOk result (TreeFits (view node.now)) }
+    ensures composed { OnOk result (IsComposed (view node.now)) }
 {
     match node {
         Node::Task(sig) => check_task(sig),
@@ -104,7 +104,7 @@ pub(crate) fn check_node(node: &Node) -> Result<(), SigFault>
 #[cycle(check_node)]
 fn check_chain(nodes: &[Node]) -> Result<(), SigFault>
     ensures fault { fault_of result ≡ signatures_fault (chain (trees_of (map view nodes.now))) }
-    ensures fits { OnOk result (TreeFits (chain (trees_of (map view nodes.now)))) }
+    ensures composed { OnOk result (IsComposed (chain (trees_of (map view nodes.now)))) }
 {
     if nodes.is_empty() {
         return Err(SigFault::EmptyChain);
@@ -115,7 +115,7 @@ fn check_chain(nodes: &[Node]) -> Result<(), SigFault>
 #[cycle(check_node)]
 fn check_nodes(nodes: &[Node]) -> Result<(), SigFault>
     ensures fault { fault_of result ≡ all_fault (trees_of (map view nodes.now)) }
-    ensures fits { OnOk result (TreesFit (trees_of (map view nodes.now))) }
+    ensures composed { OnOk result (AreComposed (trees_of (map view nodes.now))) }
 {
     for node in nodes {
         check_node(node)?;

@@ -5,37 +5,24 @@ ghost use Rattle.canvas_sig.specs.declared.fault.SigFault.TheVariants.{Memory};
 ghost use Rattle.canvas_sig.specs.Codes.{code_of};
 
 use std::alloc::{AllocError, AllocFailed};
-use thiserror::Error;
+use std::fmt;
 
 /// Why a text isn't a canvas; where there are several reasons, the first in this order.
 /// The faults of single signatures, from `NotSignature` to `EmptyChain`, go signature by signature in file order.
-#[derive(Clone, Copy, Debug, Drop, Error, PartialEq, Eq)]
+#[derive(Clone, Copy, Debug, Drop, PartialEq, Eq)]
 pub enum SigFault {
-    #[error("TooLarge")]
     TooLarge,
-    #[error("NotJson")]
     NotJson,
-    #[error("NotSignature")]
     NotSignature,
-    #[error("UnknownPrimitive")]
     UnknownPrimitive,
-    #[error("BadArgs")]
     BadArgs,
-    #[error("BadNumber")]
     BadNumber,
-    #[error("OnCanvas")]
     OnCanvas,
-    #[error("Frozen")]
     Frozen,
-    #[error("EmptyChain")]
     EmptyChain,
-    #[error("NestedGroup")]
     NestedGroup,
-    #[error("TooDeep")]
     TooDeep,
-    #[error("TooMany")]
     TooMany,
-    #[error("Memory")]
     Memory,
 }
 
@@ -61,6 +48,33 @@ impl SigFault {
         }
     }
 }
+
+impl fmt::Display for SigFault {
+    ghost use Rattle.std.specs.Prelude.{Some};
+    ghost use Rattle.canvas_sig.specs.Codes.{name_of};
+
+    ghost output = { λ fault. Some (name_of fault) };
+
+    fn fmt<W: fmt::Write>(&self, f: &mut fmt::Formatter<W>) -> fmt::Result {
+        match self {
+            SigFault::TooLarge => f.write_str("TooLarge"),
+            SigFault::NotJson => f.write_str("NotJson"),
+            SigFault::NotSignature => f.write_str("NotSignature"),
+            SigFault::UnknownPrimitive => f.write_str("UnknownPrimitive"),
+            SigFault::BadArgs => f.write_str("BadArgs"),
+            SigFault::BadNumber => f.write_str("BadNumber"),
+            SigFault::OnCanvas => f.write_str("OnCanvas"),
+            SigFault::Frozen => f.write_str("Frozen"),
+            SigFault::EmptyChain => f.write_str("EmptyChain"),
+            SigFault::NestedGroup => f.write_str("NestedGroup"),
+            SigFault::TooDeep => f.write_str("TooDeep"),
+            SigFault::TooMany => f.write_str("TooMany"),
+            SigFault::Memory => f.write_str("Memory"),
+        }
+    }
+}
+
+impl std::error::Error for SigFault {}
 
 impl From<AllocError> for SigFault {
     ghost from_gives = { λ _ e. e ≡ Memory };

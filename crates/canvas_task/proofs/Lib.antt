@@ -3,3 +3,5 @@ pub mod Named
 pub mod Copies
 pub mod Histories
 pub mod InRange
+pub mod WordLemmas
+pub mod Ascending

@@ -1,5 +1,5 @@
 -- The word of an outcome: one number of 64 bits for each, 0 being left for a task that is pending.
-use Rattle.std.specs.Prelude.{ℕ, ◌+◌, ◌-◌, ◌*◌, ◌/◌, ◌%◌, ◌^◌, ◌==◌, IsTrue, if◌then◌else◌, nat_le, nat_lt, pos, ◌+ℤ◌, ◌-ℤ◌, nat_abs, Option, Some, None, option_map}
+use Rattle.std.specs.Prelude.{◌≡◌, ℕ, ◌≤◌, ◌<◌, ◌+◌, ◌-◌, ◌*◌, ◌/◌, ◌%◌, ◌^◌, ◌==◌, true, if◌then◌else◌, nat_le, nat_lt, pos, ◌+ℤ◌, ◌-ℤ◌, nat_abs, Option, Some, None, option_map}
 use Rattle.canvas_task.specs.Numbers.{in_range}
 use Rattle.canvas_task.specs.declared.outcome.Kind.{Kind}
 use Rattle.canvas_task.specs.declared.outcome.Kind.TheVariants.{BadCall, ZeroDivision, Overflow, NotRegistered}
@@ -10,10 +10,11 @@ use Rattle.canvas_task.specs.declared.outcome.Fault.TheVariants.{Plain, Chord}
 use Rattle.canvas_task.specs.declared.outcome.Outcome.{Outcome}
 use Rattle.canvas_task.specs.declared.outcome.Outcome.TheVariants.{Success, Failure}
 
--- the number of a success is one that a task may answer
-abbrev pub NumberInRange : Outcome → Type 0
-NumberInRange (Success n) = IsTrue (in_range n)
-NumberInRange (Failure f) = Unit {0}
+-- what an outcome holds: a success a number in range, a failed header the number of a task, from 1 and of 32 bits
+abbrev pub IsHeld : Outcome → Type 0
+IsHeld (Success n) = in_range n ≡ true
+IsHeld (Failure (Plain kind)) = Unit {0}
+IsHeld (Failure (Chord dep w)) = (1 ≤ dep) × (dep < 2 ^ 32)
 
 -- what a failure's word adds for its kind, and for why a member of a header failed
 abbrev pub kind_code : Kind → ℕ

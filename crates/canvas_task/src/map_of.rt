@@ -1,5 +1,5 @@
 ghost use Rattle.std.specs.Prelude.{◌≡◌};
-ghost use Rattle.canvas_task.specs.Entries.{named};
+ghost use Rattle.canvas_task.specs.Entries.{named, Ascends};
 
 use std::collections::BTreeMap;
 use std::fmt;
@@ -14,30 +14,36 @@ pub struct MapOf<T> {
 impl<T> Model for MapOf<T> {
     ghost use Rattle.std.specs.Prelude.{List, ℕ};
     ghost use Rattle.std.specs.Coded.{coded_list, coded×, coded_ℕ};
-    ghost use Rattle.canvas_task.specs.Entries.{named};
+    ghost use Rattle.canvas_task.specs.Entries.{named, Ascends};
 
     ghost Value = { List (List ℕ × T) };
 
     ghost coded = { coded_list (coded× (coded_list coded_ℕ) T.code) };
 
     ghost view = { λ m. named m.map.entries };
+
+    ghost invariant = { λ m. Ascends (named m.map.entries) };
 }
 
 impl<T> MapOf<T> {
     pub fn of(map: BTreeMap<String, T>) -> MapOf<T>
         ensures { result ≡ named map.entries }
     {
+        // An iterator's contract says that the entries of a map ascend.
+        let _entries = map.iter();
         MapOf { map }
     }
 
     pub fn get(&self) -> &BTreeMap<String, T>
-        ensures { named result.now.entries ≡ self.now }
+        ensures entries { named result.now.entries ≡ self.now }
+        ensures ordered { Ascends self.now }
     {
         &self.map
     }
 
     pub fn into_plain(self) -> BTreeMap<String, T>
-        ensures { named result.entries ≡ self }
+        ensures entries { named result.entries ≡ self }
+        ensures ordered { Ascends self }
     {
         self.map
     }

@@ -1,6 +1,8 @@
 //! An outcome as one number, so that a single atomic word can hold it.
-ghost use Rattle.std.specs.Prelude.{◌≡◌, ◌<◌, ◌≤◌, ◌^◌, Some, IfSome};
-ghost use Rattle.canvas_task.specs.Words.{NumberInRange, kind_code, kind_of_code, why_code, why_of_code, fault_of, fault_word, word, outcome_named};
+ghost use Rattle.std.specs.Prelude.{◌≡◌, ◌≢◌, ◌<◌, ◌≤◌, ◌^◌, Some, IfSome, IfNone};
+ghost use Rattle.canvas_task.specs.Apply.{IsInRange};
+ghost use Rattle.canvas_task.specs.declared.outcome.Outcome.{Outcome};
+ghost use Rattle.canvas_task.specs.Words.{IsHeld, kind_code, kind_of_code, why_code, why_of_code, fault_of, fault_word, word, outcome_named};
 
 use crate::{Fault, Kind, Outcome, TaskNo, Why};
 
@@ -70,7 +72,7 @@ fn fault_of(dep: u64, code: u64) -> Option<Fault>
 
 /// The word of an outcome. The word 0 is left for a task that has no outcome yet.
 pub fn word_of(outcome: &Outcome) -> u64
-    requires { NumberInRange outcome.now }
+    requires { IsInRange outcome.now }
     ensures value { result ≡ word outcome.now }
     ensures not_pending { 1 ≤ result }
     ensures reads_back { outcome_named result ≡ Some outcome.now }
@@ -85,10 +87,12 @@ pub fn word_of(outcome: &Outcome) -> u64
 }
 
 /// The outcome that a word stands for, if it is one's.
+#[tactic(auto, using(crate::proofs::WordLemmas::no_word))]
 pub fn outcome_of(found: u64) -> Option<Outcome>
     ensures value { result ≡ outcome_named found }
     ensures its_word { IfSome result (λ o. word o ≡ found) }
-    ensures in_range { IfSome result NumberInRange }
+    ensures in_range { IfSome result IsInRange }
+    ensures no_word { IfNone result ((o : Outcome) → IsHeld o → word o ≢ found) }
 {
     if found == 0 {
         return None;

@@ -1,4 +1,4 @@
-use Rattle.std.proofs.Common.{◌≡◌, [], ◌∷◌, ◌++◌, string_bytes, sym, ap, ◌∙◌, subst, append_assoc, Ok, refl}
+use Rattle.std.proofs.Common.{◌≡◌, [], ◌∷◌, ◌++◌, string_bytes, sym, ap, ◌∙◌, subst, append_assoc, Ok}
 use Rattle.std.specs.List.Sorted.{IsStrictlySortedBy}
 use Rattle.std.specs.Map.{keys_of}
 use Rattle.std.specs.String.{string_cmp}
@@ -6,7 +6,7 @@ use Rattle.serde_json.specs.View.{view}
 use Rattle.serde_json.proofs.Views.{Entry}
 use Rattle.canvas_task.specs.Entries.{named}
 use Rattle.canvas_sig.specs.Fields.{seen}
-use Rattle.canvas_sig.specs.Reading.{each, named_reading}
+use Rattle.canvas_sig.specs.Reading.{◌>>=◌, each, named_reading}
 use Rattle.canvas_sig.proofs.Each.{onto, one_more}
 use Rattle.canvas_sig.proofs.Named.{goes_last, names_last}
 use Rattle.canvas_sig.proofs.arguments.read_named.Goals as goal
@@ -21,7 +21,8 @@ loop-name-preserved c =
     let sorted = subst (λ es. IsStrictlySortedBy string_cmp (keys_of es)) all c.iter-name-items.ensures.ordered in
     let key : string_bytes c.in_ok-key.key ≡ string_bytes e.0 = c.in_ok-key.ensures.cases in
     let last = ap named c.in_ok-insert.ensures.entries ∙ goes_last l.args.entries done e left c.in_ok-key.key c.in_ok-read_arg.field-0 l.invariant.2 key sorted in
-    let read : named_reading (string_bytes e.0, view e.1) ≡ Ok (string_bytes c.in_ok-key.key, c.in_ok-read_arg.field-0) = rw (c.in_ok-read_arg.ensures, key) refl in (
+    let read : named_reading (string_bytes e.0, view e.1) ≡ Ok (string_bytes c.in_ok-key.key, c.in_ok-read_arg.field-0) =
+    ap (λ r. r >>= λ a. Ok (string_bytes e.0, a)) c.in_ok-read_arg.ensures.reading ∙ ap (λ k. Ok (k, c.in_ok-read_arg.field-0)) (sym key) in (
       done ++ e ∷ [],
       all ∙ sym (append_assoc done (e ∷ []) left),
       names_last l.args.entries done e c.in_ok-key.key c.in_ok-read_arg.field-0 _ l.invariant.2 key last,

@@ -1,11 +1,11 @@
 use Rattle.std.proofs.Common.{◌≡◌, map, drop}
 use Rattle.canvas_sig.specs.NodeFaults.{all_fault}
 use Rattle.canvas_sig.specs.View.{view, trees_of}
-use Rattle.canvas_sig.specs.Writable.{TreesFit}
+use Rattle.canvas_sig.specs.Writable.{AreComposed}
 use Rattle.canvas_sig.proofs.composed.+check_node.Given as goal
 
 abbrev pub invariant-check_nodes-loop-node : goal.invariant-check_nodes-loop-node
 invariant-check_nodes-loop-node l = record {
   same : all_fault (trees_of (map view l.nodes)) ≡ all_fault (trees_of (map view (drop l.node-index l.nodes)));
-  enough : TreesFit (trees_of (map view (drop l.node-index l.nodes))) → TreesFit (trees_of (map view l.nodes));
+  enough : AreComposed (trees_of (map view (drop l.node-index l.nodes))) → AreComposed (trees_of (map view l.nodes));
 }

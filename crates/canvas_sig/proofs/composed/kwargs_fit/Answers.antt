@@ -1,4 +1,4 @@
-use Rattle.canvas_sig.proofs.Fitting.{named_ascend}
+use Rattle.canvas_task.proofs.Ascending.{named_ascend}
 use Rattle.canvas_sig.proofs.composed.kwargs_fit.Goals as goal
 
 pub returns-then-not-arg_fits-clause-ordered : goal.returns-then-not-arg_fits-clause-ordered

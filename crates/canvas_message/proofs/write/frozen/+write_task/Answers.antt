@@ -77,4 +77,4 @@ pub write_task-returns : goal.write_task-returns
 write_task-returns t c =
     let front = then_tokens c.args.out.now c.write_call.new.out c.write_options.new.out _ _ c.in_ok-write_call.ensures c.in_ok-write_options.ensures in
     after_ok c.write_end.result c.args.out.now c.write_options.new.out c.write_end.new.out _ _ _ front c.write_end.ensures
-    (task_written c.args.size c.args.task.now _ _ _ (c.deref.ensures.value ∙ c.get.ensures) c.get-2.ensures (c.deref-2.ensures ∙ c.get-3.ensures))
+    (task_written c.args.size c.args.task.now _ _ _ (c.deref.ensures.value ∙ c.get.ensures) c.get-2.ensures.entries (c.deref-2.ensures ∙ c.get-3.ensures))
