@@ -1,3 +1,4 @@
+pub mod Said
 pub mod Seen
 pub mod Begun
 pub mod Queues

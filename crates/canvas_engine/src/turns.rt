@@ -154,8 +154,10 @@ fn run_envelope(
 {
     match decode(alloc, envelope) {
         Ok(message) => run_message(alloc, message, queue, rows),
-        Err(MessageFault::Memory) => Err(Memory),
-        Err(_) => Ok(()),
+        Err(fault) => match fault {
+            MessageFault::Memory => Err(Memory),
+            _ => Ok(()),
+        },
     }
 }
 

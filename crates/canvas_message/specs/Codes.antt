@@ -1,5 +1,5 @@
--- The numbers of the refusals.
-use Rattle.std.specs.Prelude.{ℕ}
+-- The numbers of the refusals, and their names.
+use Rattle.std.specs.Prelude.{ℕ, List, codes}
 use Rattle.canvas_message.specs.declared.fault.MessageFault.{MessageFault}
 use Rattle.canvas_message.specs.declared.fault.MessageFault.TheVariants.{NotJson, NotVersion2, BadId, BadContentType, BadBody, BadArgs, BadEmbed, Memory}
 
@@ -12,3 +12,14 @@ code_of BadBody = 5
 code_of BadArgs = 6
 code_of BadEmbed = 7
 code_of Memory = 8
+
+-- as a refusal is printed
+abbrev pub name_of : MessageFault → List ℕ
+name_of NotJson = codes "NotJson"
+name_of NotVersion2 = codes "NotVersion2"
+name_of BadId = codes "BadId"
+name_of BadContentType = codes "BadContentType"
+name_of BadBody = codes "BadBody"
+name_of BadArgs = codes "BadArgs"
+name_of BadEmbed = codes "BadEmbed"
+name_of Memory = codes "Memory"

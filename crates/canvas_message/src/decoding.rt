@@ -1,11 +1,12 @@
 //! Reading messages out of envelopes.
 
-ghost use Rattle.std.specs.Prelude.{◌≡◌, IfOk};
+ghost use Rattle.std.specs.Prelude.{◌≡◌, ◌≢◌, IfOk, IfErr};
 ghost use Rattle.serde_json.specs.View.{view};
 ghost use Rattle.canvas_sig.specs.Fields.{found};
-ghost use Rattle.canvas_message.specs.declared.fault.MessageFault.TheVariants.{BadArgs, BadEmbed};
+ghost use Rattle.canvas_message.specs.declared.fault.MessageFault.TheVariants.{BadArgs, BadEmbed, Memory};
 ghost use Rattle.canvas_message.specs.Elements.{given_view, embed_view};
-ghost use Rattle.canvas_message.specs.Reading.{Gives, refused_as, given_reading, embed_reading, checked, content_of, message_reading, json_reading, envelope_reading};
+ghost use Rattle.canvas_message.specs.EnvelopeFaults.{Says, envelope_fault};
+ghost use Rattle.canvas_message.specs.Reading.{Gives, refused_as, given_reading, embed_reading, checked, content_of, message_reading, json_reading};
 ghost use Rattle.canvas_message.specs.View.{draft_view};
 
 use crate::read::{
@@ -113,9 +114,10 @@ fn read_message(
     checked(draft_of(alloc, headers, task, given, embed)?)
 }
 
-/// The message that three texts stand for, or the first reason why they stand for none.
+/// The message that three texts say, or the first refusal of them.
 pub fn decode(alloc: Global, envelope: &Envelope) -> Result<Message, MessageFault>
-    ensures { Gives (λ m. m) result (envelope_reading envelope.now.properties envelope.now.headers envelope.now.body) }
+    ensures ok { IfOk result (λ m. Says envelope.now.properties envelope.now.headers envelope.now.body m) }
+    ensures err { IfErr result (λ e. e ≢ Memory → envelope_fault envelope.now.properties envelope.now.headers envelope.now.body ≡ Some e) }
 {
     let properties = parsed(alloc, envelope.properties.get())?;
     let headers = parsed(alloc, envelope.headers.get())?;

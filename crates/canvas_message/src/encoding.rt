@@ -11,7 +11,7 @@ ghost use Rattle.canvas_sig.specs.Tokens.{Appends, data_tokens};
 ghost use Rattle.canvas_message.specs.Content.{links_of, errbacks_of, place_of};
 ghost use Rattle.std.specs.Str.{IsUtf8};
 ghost use Rattle.canvas_message.specs.Fits.{fits};
-ghost use Rattle.canvas_message.specs.Reading.{envelope_reading};
+ghost use Rattle.canvas_message.specs.EnvelopeFaults.{Says};
 ghost use Rattle.canvas_message.specs.Tokens.{named_tokens, following_wire};
 ghost use Rattle.canvas_message.specs.Wire.{tasks_wire, carried_wire, list_or_null, embed_wire, properties_wire, headers_wire, body_wire};
 
@@ -124,7 +124,7 @@ fn body_of(alloc: Global, message: &Message) -> Result<ListOf<u8>, AllocError>
 /// The three texts of a message, which are read as the message.
 pub fn encode(alloc: Global, message: &Message) -> Result<Envelope, Memory>
     ensures texts { IfOk result (λ e. (e.properties ≡ compact_text (properties_wire message.now)) × (e.headers ≡ compact_text (headers_wire message.now)) × (e.body ≡ compact_text (body_wire message.now))) }
-    ensures reads_back { IfOk result (λ e. envelope_reading e.properties e.headers e.body ≡ Ok message.now) }
+    ensures reads_back { IfOk result (λ e. Says e.properties e.headers e.body message.now) }
 {
     Ok(Envelope {
         properties: properties_of(alloc, message)?,

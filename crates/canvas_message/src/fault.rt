@@ -5,26 +5,19 @@ ghost use Rattle.canvas_message.specs.declared.fault.MessageFault.TheVariants.{M
 ghost use Rattle.canvas_message.specs.Codes.{code_of};
 
 use std::alloc::{AllocError, AllocFailed};
-use thiserror::Error;
+use std::error::Error;
+use std::fmt;
 
 /// Why three texts aren't a message; where there are several reasons, the first in this order.
-#[derive(Clone, Copy, Debug, Drop, Error, PartialEq, Eq)]
+#[derive(Clone, Copy, Debug, Drop, PartialEq, Eq)]
 pub enum MessageFault {
-    #[error("NotJson")]
     NotJson,
-    #[error("NotVersion2")]
     NotVersion2,
-    #[error("BadId")]
     BadId,
-    #[error("BadContentType")]
     BadContentType,
-    #[error("BadBody")]
     BadBody,
-    #[error("BadArgs")]
     BadArgs,
-    #[error("BadEmbed")]
     BadEmbed,
-    #[error("Memory")]
     Memory,
 }
 
@@ -45,6 +38,28 @@ impl MessageFault {
         }
     }
 }
+
+impl fmt::Display for MessageFault {
+    ghost use Rattle.std.specs.Prelude.{Some};
+    ghost use Rattle.canvas_message.specs.Codes.{name_of};
+
+    ghost output = { λ fault. Some (name_of fault) };
+
+    fn fmt<W: fmt::Write>(&self, f: &mut fmt::Formatter<W>) -> fmt::Result {
+        match self {
+            MessageFault::NotJson => f.write_str("NotJson"),
+            MessageFault::NotVersion2 => f.write_str("NotVersion2"),
+            MessageFault::BadId => f.write_str("BadId"),
+            MessageFault::BadContentType => f.write_str("BadContentType"),
+            MessageFault::BadBody => f.write_str("BadBody"),
+            MessageFault::BadArgs => f.write_str("BadArgs"),
+            MessageFault::BadEmbed => f.write_str("BadEmbed"),
+            MessageFault::Memory => f.write_str("Memory"),
+        }
+    }
+}
+
+impl Error for MessageFault {}
 
 impl From<AllocError> for MessageFault {
     ghost from_gives = { λ _ e. e ≡ Memory };

@@ -1,14 +1,15 @@
 //! What a message of about 100 KB costs, as ratios to the JSON library's own reading and writing of its body.
-//! It measures where it is given a word, and else does nothing.
+//! It measures where it is given a word, and else does nothing. Where something fails it says what, and gives no ratio.
 #![tactic(auto)]
 
+use anyhow::Result;
 use canvas_message::{Envelope, Message, decode, encode};
 use canvas_task::ListOf;
 use serde_json::Value;
 use std::alloc::{AllocError, Global};
+use std::env;
 use std::rt::Clock;
 use std::time::Instant;
-use std::{env, io};
 
 const ROUNDS: u32 = 40;
 
@@ -47,47 +48,37 @@ fn envelope_of(alloc: Global, body: &str) -> Result<Envelope, AllocError> {
     })
 }
 
-/// The time since then in nanoseconds, 0 where the clock can't be read.
-fn nanoseconds(start: io::Result<Instant>, clock: &impl Clock) -> u128 {
-    let Ok(start) = start else {
-        return 0;
-    };
-    match start.elapsed(clock) {
-        Ok(time) => time.as_nanos(),
-        Err(_) => 0,
+/// The time of some readings in nanoseconds.
+fn parsing(clock: &impl Clock, alloc: Global, text: &str) -> Result<u128> {
+    let start = Instant::now(clock)?;
+    for _ in 0..ROUNDS {
+        drop(Value::from_str(alloc, text)?);
     }
+    Ok(start.elapsed(clock)?.as_nanos())
 }
 
-fn parsing(clock: &impl Clock, alloc: Global, text: &str) -> u128 {
-    let start = Instant::now(clock);
+fn decoding(clock: &impl Clock, alloc: Global, envelope: &Envelope) -> Result<u128> {
+    let start = Instant::now(clock)?;
     for _ in 0..ROUNDS {
-        drop(Value::from_str(alloc, text));
+        drop(decode(alloc, envelope)?);
     }
-    nanoseconds(start, clock)
+    Ok(start.elapsed(clock)?.as_nanos())
 }
 
-fn decoding(clock: &impl Clock, alloc: Global, envelope: &Envelope) -> u128 {
-    let start = Instant::now(clock);
+fn printing(clock: &impl Clock, alloc: Global, value: &Value) -> Result<u128> {
+    let start = Instant::now(clock)?;
     for _ in 0..ROUNDS {
-        drop(decode(alloc, envelope));
+        drop(value.to_string(alloc)?);
     }
-    nanoseconds(start, clock)
+    Ok(start.elapsed(clock)?.as_nanos())
 }
 
-fn printing(clock: &impl Clock, alloc: Global, value: &Value) -> u128 {
-    let start = Instant::now(clock);
+fn encoding(clock: &impl Clock, alloc: Global, message: &Message) -> Result<u128> {
+    let start = Instant::now(clock)?;
     for _ in 0..ROUNDS {
-        drop(value.to_string(alloc));
+        drop(encode(alloc, message)?);
     }
-    nanoseconds(start, clock)
-}
-
-fn encoding(clock: &impl Clock, alloc: Global, message: &Message) -> u128 {
-    let start = Instant::now(clock);
-    for _ in 0..ROUNDS {
-        drop(encode(alloc, message));
-    }
-    nanoseconds(start, clock)
+    Ok(start.elapsed(clock)?.as_nanos())
 }
 
 /// The first time in hundredths of the second.
@@ -95,57 +86,27 @@ fn hundredths(time: u128, unit: u128) -> u128 {
     time.saturating_mul(100) / unit.max(1)
 }
 
-fn reading_ratio(clock: &impl Clock, alloc: Global, body: &str) -> u128 {
-    match envelope_of(alloc, body) {
-        Ok(envelope) => hundredths(
-            decoding(clock, alloc, &envelope),
-            parsing(clock, alloc, body),
-        ),
-        Err(_) => 0,
-    }
+fn reading_ratio(clock: &impl Clock, alloc: Global, body: &str) -> Result<u128> {
+    let envelope = envelope_of(alloc, body)?;
+    let time = decoding(clock, alloc, &envelope)?;
+    Ok(hundredths(time, parsing(clock, alloc, body)?))
 }
 
-fn message_of(alloc: Global, body: &str) -> Option<Message> {
-    match envelope_of(alloc, body) {
-        Ok(envelope) => decode(alloc, &envelope).ok(),
-        Err(_) => None,
-    }
+fn writing_ratio(clock: &impl Clock, alloc: Global, body: &str) -> Result<u128> {
+    let message = decode(alloc, &envelope_of(alloc, body)?)?;
+    let value = Value::from_str(alloc, body)?;
+    let time = encoding(clock, alloc, &message)?;
+    Ok(hundredths(time, printing(clock, alloc, &value)?))
 }
 
-fn encode_time(clock: &impl Clock, alloc: Global, body: &str) -> u128 {
-    match message_of(alloc, body) {
-        Some(message) => encoding(clock, alloc, &message),
-        None => 0,
-    }
-}
-
-fn print_time(clock: &impl Clock, alloc: Global, body: &str) -> u128 {
-    match Value::from_str(alloc, body) {
-        Ok(value) => printing(clock, alloc, &value),
-        Err(_) => 0,
-    }
-}
-
-/// Both ratios: that of reading, and that of writing.
-fn ratios(clock: &impl Clock, alloc: Global) -> (u128, u128) {
-    match body_text(alloc) {
-        Ok(body) => (
-            reading_ratio(clock, alloc, &body),
-            hundredths(
-                encode_time(clock, alloc, &body),
-                print_time(clock, alloc, &body),
-            ),
-        ),
-        Err(_) => (0, 0),
-    }
-}
-
-fn main(rt: HostRuntime) -> io::Result<()> {
-    let words = env::args(&rt)?.count();
-    if words < 2 {
+fn main(rt: HostRuntime) -> Result<()> {
+    if env::args(&rt)?.count() < 2 {
         return Ok(());
     }
-    let (reading, writing) = ratios(&rt, rt.alloc());
+    let body = body_text(rt.alloc())?;
+    let reading = reading_ratio(&rt, rt.alloc(), &body)?;
+    let writing = writing_ratio(&rt, rt.alloc(), &body)?;
     println!(rt; "decode, in hundredths of Value::from_str: {reading}")?;
-    println!(rt; "encode, in hundredths of Value::to_string: {writing}")
+    println!(rt; "encode, in hundredths of Value::to_string: {writing}")?;
+    Ok(())
 }
