@@ -22,7 +22,7 @@ use Rattle.canvas_message.proofs.FitsOn.{given, next, started, next_fits}
 use Rattle.canvas_message.proofs.Seen.{called, task_seen}
 use Rattle.canvas_engine.specs.Plain.{states_of, Begins}
 use Rattle.canvas_message.specs.declared.fault.MessageFault.{MessageFault}
-use Rattle.canvas_engine.specs.Messages.{steps_in, content_states, read_states, read_lone, is_lone}
+use Rattle.canvas_engine.specs.Messages.{steps_in, content_states, read_lone, is_lone}
 use Rattle.canvas_engine.proofs.Begun.{stored, on_err}
 
 -- ---- a message that was run
@@ -49,15 +49,6 @@ longer_by before rows new xs s h k =
 
 pub grown : {X E : Type 0} (r : Result X E) (before rows new xs : List State) (s : State) → rows ≡ before ++ s ∷ [] → OnOk r (new ≡ rows ++ xs) → OnOk r (length before < length new)
 grown r before rows new xs s h ok = map_ok r _ _ ok (longer_by before rows new xs s h)
-
-map_err : {X E : Type 0} (r : Result X E) (P Q : Type 0) → OnErr r P → (P → Q) → OnErr r Q
-map_err (Ok x) P Q h f = tt
-map_err (Err e) P Q h f = f h
-
--- what an envelope that reads as a message stands for
-pub read_begins : {X E : Type 0} (r : Result X E) (rows before : List State) (read : Result Content MessageFault) (c : Content) → read ≡ Ok c
-    → OnErr r (Begins rows (before ++ content_states c)) → OnErr r (Begins rows (before ++ read_states read))
-read_begins r rows before read c e h = map_err r _ _ h (λ b. subst (λ x. Begins rows (before ++ read_states x)) (sym e) b)
 
 pub answer_fits : (o : Outcome) (name : List ℕ) (args : List Arg) (kwargs : List (List ℕ × Arg)) → o ≡ apply name args kwargs → IsInRange o
 answer_fits o name args kwargs e = subst IsInRange (sym e) (apply_fits name args kwargs)

@@ -11,7 +11,7 @@ ghost use Rattle.canvas_task.specs.Apply.{IsInRange};
 ghost use Rattle.canvas_message.specs.Content.{line};
 ghost use Rattle.canvas_message.specs.Effects.{outcome_of};
 ghost use Rattle.canvas_engine.specs.Messages.{steps_in, is_lone, option_lone, content_states, option_states, envelope_lone, envelope_states, queued_lone, queued_states};
-ghost use Rattle.canvas_task.specs.Words.{NumberInRange};
+ghost use Rattle.canvas_task.specs.Apply.{IsInRange};
 ghost use Rattle.canvas_task.specs.declared.outcome.Outcome.TheVariants.{Success};
 
 use crate::{Cause, Report, RunFault};
@@ -105,7 +105,7 @@ fn begin(alloc: Global, plan: &Plan) -> Result<Option<Message>, Memory>
 /// The message that follows another on its line, if one does.
 fn go_on(alloc: Global, message: Message, outcome: &Outcome) -> Result<Option<Message>, Memory>
     requires lone { is_lone (line message) ≡ true }
-    requires outcome { NumberInRange outcome.now }
+    requires outcome { IsInRange outcome.now }
     ensures states { IfOk result (λ m. (n : ℤ) → outcome.now ≡ Success n → option_states m ≡ states_of (steps_in message.rest) (num n)) }
     ensures lone { IfOk result (λ m. (n : ℤ) → outcome.now ≡ Success n → option_lone m ≡ true) }
 {

@@ -3,7 +3,7 @@ use Rattle.std.proofs.Common.{◌≡◌, ◌∙◌, ℕ, Bool, true, false, List
 use Rattle.std.specs.List.{list_all}
 use Rattle.std.proofs.lemmas.List.Elements.{All-head, All-tail}
 use Rattle.canvas_task.specs.Numbers.{in_range}
-use Rattle.canvas_task.specs.Words.{NumberInRange}
+use Rattle.canvas_task.specs.Apply.{IsInRange}
 use Rattle.canvas_message.proofs.FitsOn.{all_true, next, next_fits}
 use Rattle.std.specs.Prelude.{ℤ, ◌&&◌, not, nat_le}
 use Rattle.canvas_task.specs.declared.outcome.Fault.{Fault}
@@ -305,11 +305,11 @@ after_all c es ns h hn =
     ∙ ap (λ x. effect_of (enter l x (end_place l) 0 None)) (sym (ap in_front (gathered_all es (sym h)))) ∙ sym (ap (λ z. body_after z es) (carried_seen c))
 
 -- the numbers of outcomes in range are in range
-successes_fit : (es : List (ℕ × Outcome)) → All (λ e. NumberInRange e.1) es → list_all in_range (successes es) ≡ true
+successes_fit : (es : List (ℕ × Outcome)) → All (λ e. IsInRange e.1) es → list_all in_range (successes es) ≡ true
 successes_fit [] h = refl
 successes_fit ((k, Success n) ∷ es) h =
-    all_true (in_range n) (list_all in_range (successes es)) (All-head (λ e. NumberInRange e.1) (k, Success n) es h) (successes_fit es (All-tail (λ e. NumberInRange e.1) (k, Success n) es h))
-successes_fit ((k, Failure f) ∷ es) h = successes_fit es (All-tail (λ e. NumberInRange e.1) (k, Failure f) es h)
+    all_true (in_range n) (list_all in_range (successes es)) (All-head (λ e. IsInRange e.1) (k, Success n) es h) (successes_fit es (All-tail (λ e. IsInRange e.1) (k, Success n) es h))
+successes_fit ((k, Failure f) ∷ es) h = successes_fit es (All-tail (λ e. IsInRange e.1) (k, Failure f) es h)
 
-pub numbers_fit : (es : List (ℕ × Outcome)) (ns : List ℤ) → ns ≡ successes es → All (λ e. NumberInRange e.1) es → list_all in_range ns ≡ true
+pub numbers_fit : (es : List (ℕ × Outcome)) (ns : List ℤ) → ns ≡ successes es → All (λ e. IsInRange e.1) es → list_all in_range ns ≡ true
 numbers_fit es ns same h = ap (list_all in_range) same ∙ successes_fit es h

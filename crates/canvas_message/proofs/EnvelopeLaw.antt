@@ -9,9 +9,9 @@ use Rattle.std.specs.Option.{option_and_then}
 use Rattle.serde_json.specs.Data.{Data, null, array, item, no_items}
 use Rattle.serde_json.specs.Find.{get}
 use Rattle.canvas_sig.specs.CanvasText.{json_of}
-use Rattle.canvas_sig.specs.Faults.{argument_of, named_of}
+use Rattle.canvas_sig.specs.Faults.{named_of}
 use Rattle.canvas_sig.specs.Fields.{Text, field, listed, members, contents, is_null, is_list, is_object, is_object_or_null, is_list_or_null}
-use Rattle.canvas_sig.specs.Reading.{fault_if, each, arg_reading, named_reading, is_name, is_text}
+use Rattle.canvas_sig.specs.Reading.{fault_if, each, argument_of, arg_reading, named_reading, is_name, is_text}
 use Rattle.canvas_sig.specs.declared.fault.SigFault.{SigFault}
 use Rattle.canvas_sig.specs.declared.fault.SigFault.TheVariants.{BadArgs}
 use Rattle.canvas_rewrite.specs.Placed.{PTask, PLine, p_step}

@@ -5,11 +5,11 @@ use Rattle.std.specs.Prelude.{codes, not, ◌&&◌, ◌||◌, if◌then◌else�
 use Rattle.std.specs.List.{list_all, list_any}
 use Rattle.serde_json.specs.Data.{Data, null, boolean, number, string, array, object}
 use Rattle.serde_json.specs.Find.{as_i64}
-use Rattle.canvas_task.specs.declared.arg.Arg.TheVariants as arg
+use Rattle.canvas_task.specs.declared.arg.Arg.{Arg}
 use Rattle.canvas_task.specs.Numbers.{in_range}
-use Rattle.canvas_sig.specs.Faults.{some_or_zero, number_of, argument_of, named_of, call_of}
+use Rattle.canvas_sig.specs.Faults.{named_of, call_of}
 use Rattle.canvas_sig.specs.Fields.{Text, field, subtype, option, args, kwargs, tasks, header, body, link, link_error, items, listed, as_list, members, contents, is_null, is_list, is_number}
-use Rattle.canvas_sig.specs.Reading.{◌>>=◌, ◌or_else◌, fault_if, unless, each, whole, number_reading, arg_reading, named_reading, some_in_range, number_ok, kind_ok, numbers_ok, args_ok, not_signature, bad_args, fault_as, own_fault, primitive_of}
+use Rattle.canvas_sig.specs.Reading.{◌>>=◌, ◌or_else◌, fault_if, unless, judged, each, some_or_zero, number_of, argument_of, arg_reading, named_reading, kind_ok, numbers_ok, args_ok, not_signature, bad_args, fault_as, own_fault, primitive_of}
 use Rattle.canvas_sig.specs.declared.fault.SigFault.{SigFault}
 use Rattle.canvas_sig.specs.declared.fault.SigFault.TheVariants.{NotSignature, UnknownPrimitive, BadArgs, BadNumber, OnCanvas, Frozen, TooMany}
 use Rattle.canvas_sig.specs.declared.primitive.Primitive.{Primitive}
@@ -58,46 +58,17 @@ unless_seen (Some e) r c y h = refl
 
 -- ---- arguments
 
-neither_ok : (a b : Bool) → (not a || not b) ≡ not (a && b)
-neither_ok true b = refl
-neither_ok false b = refl
-
-in_range_seen : (b : Bool) (z : ℤ) → seen (if b then Ok z else Err BadNumber) ≡ but_for (not b) z
-in_range_seen true z = refl
-in_range_seen false z = refl
-
-whole_seen : (o : Option ℤ) → seen (whole o) ≡ but_for (not (some_in_range o)) (some_or_zero o)
-whole_seen None = refl
-whole_seen (Some z) = in_range_seen (in_range z) z
-
-number_seen : (d : Data) → is_number d ≡ true → seen (number_reading d) ≡ but_for (not (number_ok d)) (number_of d)
-number_seen (number n) h = whole_seen (as_i64 n)
-number_seen d h = absurd cc
-
 both_of : (a b : Bool) → (a && b) ≡ true → (a ≡ true) × (b ≡ true)
 both_of true b h = (refl, h)
 both_of false b h = absurd cc
 
-numbers_seen : (ds : List Data) → list_all is_number ds ≡ true → seen (each number_reading ds) ≡ but_for (not (list_all number_ok ds)) (map number_of ds)
-numbers_seen [] h = refl
-numbers_seen (d ∷ ds) h =
-    let p = both_of (is_number d) (list_all is_number ds) h in
-    then_seen (number_reading d) (λ y. each number_reading ds >>= λ ys. Ok (y ∷ ys)) (not (number_ok d)) (not (list_all number_ok ds)) (number_of d) (number_of d ∷ map number_of ds)
-    (number_seen d p.0) (made_seen (each number_reading ds) (λ ys. number_of d ∷ ys) (not (list_all number_ok ds)) (map number_of ds) (numbers_seen ds p.1))
-    ∙ ap (λ b. but_for b (number_of d ∷ map number_of ds)) (neither_ok (number_ok d) (list_all number_ok ds))
-
-list_seen : (ds : List Data) (b : Bool) → list_all is_number ds ≡ b
-    → seen (if b then (each number_reading ds >>= λ ns. Ok (arg.List ns)) else Err BadArgs) ≡ but_for (not b || not (list_all number_ok ds)) (arg.List (map number_of ds))
-list_seen ds true h = made_seen (each number_reading ds) (λ ns. arg.List ns) (not (list_all number_ok ds)) (map number_of ds) (numbers_seen ds h)
-list_seen ds false h = refl
+judged_seen : (a b : Bool) (e f : SigFault) (x : Arg) → seen (judged (fault_if a e or_else fault_if b f) x) ≡ but_for (a || b) x
+judged_seen true b e f x = refl
+judged_seen false true e f x = refl
+judged_seen false false e f x = refl
 
 pub argument_seen : (d : Data) → seen (arg_reading d) ≡ but_for (bad_argument d) (argument_of d)
-argument_seen (number n) = made_seen (whole (as_i64 n)) (λ z. arg.Num z) (not (some_in_range (as_i64 n))) (some_or_zero (as_i64 n)) (whole_seen (as_i64 n))
-argument_seen (string s) = refl
-argument_seen (array ds) = list_seen (items ds) (list_all is_number (items ds)) refl
-argument_seen null = refl
-argument_seen (boolean b) = refl
-argument_seen (object ms) = refl
+argument_seen d = judged_seen (not (kind_ok d)) (not (numbers_ok d)) BadArgs BadNumber (argument_of d)
 
 pub named_seen : (e : Text × Data) → seen (named_reading e) ≡ but_for (bad_argument e.1) (named_of e)
 named_seen e = made_seen (arg_reading e.1) (λ a. (e.0, a)) (bad_argument e.1) (argument_of e.1) (argument_seen e.1)

@@ -3,9 +3,9 @@
 use Rattle.std.specs.Prelude.{ℕ, zero, suc, ℤ, pos, false, if◌then◌else◌, List, [], ◌∷◌, map, reverse, Option, Some, unwrap_or, codes}
 use Rattle.serde_json.specs.Data.{Data, null, array, item, no_items}
 use Rattle.canvas_sig.specs.CanvasText.{json_of}
-use Rattle.canvas_sig.specs.Faults.{number_of, argument_of, named_of, call_of}
+use Rattle.canvas_sig.specs.Faults.{named_of, call_of}
 use Rattle.canvas_sig.specs.Fields.{Text, field, subtype, option, tasks, header, body, link, link_error, listed, as_list, members, text_of, is_null}
-use Rattle.canvas_sig.specs.Reading.{primitive_of}
+use Rattle.canvas_sig.specs.Reading.{number_of, argument_of, primitive_of}
 use Rattle.canvas_sig.specs.declared.primitive.Primitive.{Primitive}
 use Rattle.canvas_sig.specs.declared.primitive.Primitive.TheVariants as kind
 use Rattle.canvas_rewrite.specs.FrozenView.{p_tasks_of, p_lines_of}

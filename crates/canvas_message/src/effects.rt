@@ -3,7 +3,7 @@
 ghost use Rattle.std.specs.Prelude.{◌≡◌, ◌++◌, true, None, IfOk, OnOk, All};
 ghost use Rattle.std.specs.Option.{option_map};
 ghost use Rattle.canvas_task.specs.Numbers.{in_range};
-ghost use Rattle.canvas_task.specs.Words.{NumberInRange};
+ghost use Rattle.canvas_task.specs.Apply.{IsInRange};
 ghost use Rattle.canvas_task.specs.declared.outcome.Outcome.TheVariants.{Success, Failure};
 ghost use Rattle.canvas_rewrite.specs.FrozenView.{p_line_view};
 ghost use Rattle.canvas_message.specs.Carrying.{is_whole, place_stands, carried_ok, input_ok};
@@ -52,7 +52,7 @@ pub fn first_messages(alloc: Global, plan: &Plan) -> Result<Vec<Message>, Memory
 
 /// What follows the end of a message's task.
 pub fn after(alloc: Global, message: &Message, outcome: &Outcome) -> Result<Todo, Memory>
-    requires { NumberInRange outcome.now }
+    requires { IsInRange outcome.now }
     ensures { IfOk result (λ todo. todo_view todo ≡ after message.now outcome.now) }
 {
     match outcome {
@@ -68,7 +68,7 @@ pub fn body_after(
     outcomes: &[(TaskNo, Outcome)],
 ) -> Result<Todo, Memory>
     requires carried { carried_ok (carried_view carried.now) ≡ true }
-    requires outcomes { All (λ e. NumberInRange e.1) outcomes.now }
+    requires outcomes { All (λ e. IsInRange e.1) outcomes.now }
     ensures { IfOk result (λ todo. todo_view todo ≡ body_after (carried_view carried.now) outcomes.now) }
 {
     match failure_of(outcomes) {

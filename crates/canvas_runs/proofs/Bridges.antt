@@ -15,7 +15,8 @@ use Rattle.canvas_backend.specs.Backend.{Log, Call, Reply, Results, no_results, 
 use Rattle.canvas_backend.specs.Roster.{roster_of}
 use Rattle.canvas_backend.proofs.HistoryLaws.{member_test}
 use Rattle.canvas_broker.specs.Broker.{Line as Entries, publish, take, answer, next, May}
-use Rattle.canvas_runs.specs.Calls.{published, stored, returned, IsQueue, IsDrained, IsTable, FirstWins, handed}
+use Rattle.canvas_runs.specs.Calls.{published, stored, returned}
+use Rattle.canvas_runs.proofs.Replay.{IsQueue, IsDrained, IsTable, FirstWins, handed}
 use Rattle.canvas_runs.specs.Lists.{Each, total, seconds, look_up}
 use Rattle.canvas_runs.specs.Logs.{queue_calls, table_calls}
 use Rattle.canvas_runs.proofs.Words.{each_weaker}

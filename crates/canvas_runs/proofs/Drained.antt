@@ -8,7 +8,8 @@ use Rattle.canvas_runs.specs.Protocol.{Protocol}
 use Rattle.canvas_runs.specs.Core.{taking, reading, left_after, Between, handed_in}
 use Rattle.canvas_message.specs.Events.{Event}
 use Rattle.canvas_runs.proofs.Meaning.{JobOf, Form, Ordered, Has, Evaluates, Once, KeptOnce}
-use Rattle.canvas_runs.specs.Calls.{BrokerCall, published, took, BackendCall, stored, returned, has_read, IsDrained, takes_one, Follows, follows_all, follows_publish, follows_list_take, follows_core_take, broker_calls, backend_calls}
+use Rattle.canvas_runs.specs.Calls.{BrokerCall, published, took, BackendCall, stored, returned, has_read, takes_one, Follows, follows_all, follows_publish, follows_list_take, follows_core_take, broker_calls, backend_calls}
+use Rattle.canvas_runs.proofs.Replay.{IsDrained}
 use Rattle.canvas_runs.proofs.Run.{Run}
 use Rattle.canvas_runs.specs.Run.{IsRead, published_all}
 use Rattle.canvas_runs.proofs.Words.{in_left, in_right, in_each, each_weaker, each_left}

@@ -2,7 +2,8 @@
 use Rattle.std.proofs.Common.{◌≡◌, ℕ, Bool, true, false, cond, eqb, List, [], ◌∷◌, ◌++◌, Option, Some, None, refl, sym, subst}
 use Rattle.std.proofs.lemmas.Bool.{eqb-true, eq-eqb}
 use Rattle.canvas_runs.specs.Lists.{Each, by, seconds, look_up}
-use Rattle.canvas_runs.specs.Calls.{BrokerCall, published, took, BackendCall, stored, returned, has_read, IsQueue, IsTable, Follows, follows_all, follows_publish, follows_list_take, follows_core_take}
+use Rattle.canvas_runs.specs.Calls.{BrokerCall, published, took, BackendCall, stored, returned, has_read, Follows, follows_all, follows_publish, follows_list_take, follows_core_take}
+use Rattle.canvas_runs.proofs.Replay.{IsQueue, IsTable}
 use Rattle.canvas_runs.proofs.Words.{each_append}
 
 module _ {E : Type 0} (Good : E → Type 0) where

@@ -1,3 +1,4 @@
+pub mod Replay
 pub mod Meaning
 pub mod Run
 pub mod Words

@@ -4,7 +4,8 @@ use Rattle.canvas_runs.specs.Lists.{Each, by, seconds}
 use Rattle.canvas_runs.specs.Run.{IsRead, published_all}
 use Rattle.canvas_runs.specs.Protocol.{Protocol}
 use Rattle.canvas_runs.specs.Core.{IsCoreRun, taking}
-use Rattle.canvas_runs.specs.Calls.{BrokerCall, BackendCall, IsQueue, IsTable, Follows, AskedAndAnswered, broker_calls, backend_calls, ReadsMembers}
+use Rattle.canvas_runs.specs.Calls.{BrokerCall, BackendCall, Follows, AskedAndAnswered, broker_calls, backend_calls, ReadsMembers}
+use Rattle.canvas_runs.proofs.Replay.{IsQueue, IsTable}
 
 pub record Run (X : Protocol) : Type 0 where
   pub workers : ℕ

@@ -15,7 +15,8 @@ use Rattle.canvas_message.specs.declared.envelope.Envelope.{Envelope}
 use Rattle.canvas_backend.specs.Backend as results
 use Rattle.canvas_backend.specs.Roster.{roster_of}
 use Rattle.canvas_runs.specs.Book.{book_of}
-use Rattle.canvas_runs.specs.Calls.{BrokerCall, published, took, BackendCall, stored, returned, has_read, IsDrained}
+use Rattle.canvas_runs.specs.Calls.{BrokerCall, published, took, BackendCall, stored, returned, has_read}
+use Rattle.canvas_runs.proofs.Replay.{IsDrained}
 use Rattle.canvas_runs.specs.Law.{its_state, IsRun, IsPart, of_task, publishes_one, takes_one_of, publishes, takes, stores_one, stores, returns_one, returns, SecondPart}
 use Rattle.canvas_runs.specs.Lists.{Each, total, seconds, firsts}
 use Rattle.canvas_runs.specs.Logs.{queue_calls, table_calls}

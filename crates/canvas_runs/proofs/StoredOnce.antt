@@ -7,7 +7,8 @@ use Rattle.canvas_runs.specs.Protocol.{Protocol}
 use Rattle.canvas_runs.specs.Core.{taken, sent, refused, kept, counted, found, rested, taking, resting, owning, doing, reading, Jobs, Doing, Asked, Answer, settled, opens, all_read, ask, answered, IsCoreRun}
 use Rattle.canvas_message.specs.Events.{Event, start, running, end_of, completion}
 use Rattle.canvas_runs.proofs.Meaning.{JobOf, Form, names, keeps, Ordered, IsRun, Evaluates, Once, KeptOnce}
-use Rattle.canvas_runs.specs.Calls.{BrokerCall, published, took, BackendCall, stored, returned, has_read, IsQueue, IsTable, FirstWins, kept_first, Follows, follows_all, follows_publish, follows_list_take, follows_core_take, broker_call, backend_call, broker_calls, backend_calls, ReadsMembers, reads_member}
+use Rattle.canvas_runs.specs.Calls.{BrokerCall, published, took, BackendCall, stored, returned, has_read, Follows, follows_all, follows_publish, follows_list_take, follows_core_take, broker_call, backend_call, broker_calls, backend_calls, ReadsMembers, reads_member}
+use Rattle.canvas_runs.proofs.Replay.{IsQueue, IsTable, FirstWins, kept_first}
 use Rattle.canvas_runs.proofs.Run.{Run}
 use Rattle.canvas_runs.specs.Run.{IsRead, published_all}
 use Rattle.canvas_runs.proofs.Words.{in_each, cond_cases}

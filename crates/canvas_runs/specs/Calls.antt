@@ -1,7 +1,6 @@
--- The broker's and the backend's lists as one-thread objects, and what it is for a caller's calls to follow a core run.
-use Rattle.std.specs.Prelude.{ℕ, suc, eqb, cond, ◌≡◌, Bool, true, false, List, [], ◌∷◌, ◌++◌, Option, Some, None}
-use Rattle.canvas_message.specs.Events.{In}
-use Rattle.canvas_runs.specs.Lists.{Each, look_up, at}
+-- The calls that a core run makes of the queue and of the table of results, and what it is for a caller's calls in a history to follow them.
+use Rattle.std.specs.Prelude.{ℕ, ◌≡◌, Bool, List, [], ◌∷◌, ◌++◌, Option, Some, None}
+use Rattle.canvas_runs.specs.Lists.{Each, at}
 use Rattle.canvas_runs.specs.Protocol.{Protocol}
 use Rattle.canvas_runs.specs.Core.{Ask, Reply, take, send, keep, part, read, taken, sent, kept, counted, found}
 
@@ -14,46 +13,11 @@ pub data BackendCall (O : Type 0) : Type 0 where
   returned : ℕ → ℕ → ℕ → BackendCall O
   has_read : ℕ → Option O → BackendCall O
 
--- each take answers the front of the queue
-abbrev pub IsQueue : {E : Type 0} → List E → List (BrokerCall E) → Type 0
-IsQueue q [] = Unit
-IsQueue q (published e ∷ cs) = IsQueue (q ++ e ∷ []) cs
-IsQueue q (took None ∷ cs) = (q ≡ []) × IsQueue q cs
-IsQueue {E} q (took (Some e) ∷ cs) = (rest : List E) × (q ≡ e ∷ rest) × IsQueue rest cs
-
--- each take answers the front of the queue, and none is left
-abbrev pub IsDrained : {E : Type 0} → List E → List (BrokerCall E) → Type 0
-IsDrained q [] = q ≡ []
-IsDrained q (published e ∷ cs) = IsDrained (q ++ e ∷ []) cs
-IsDrained q (took None ∷ cs) = IsDrained q cs
-IsDrained {E} q (took (Some e) ∷ cs) = (rest : List E) × (q ≡ e ∷ rest) × IsDrained rest cs
-
 -- 1 where the call takes an envelope
 abbrev pub takes_one : {E : Type 0} → BrokerCall E → ℕ
 takes_one (published e) = 0
 takes_one (took None) = 0
 takes_one (took (Some e)) = 1
-
--- how many of the members handed in are the group's
-abbrev pub handed : ℕ → List (ℕ × ℕ) → ℕ
-handed g [] = 0
-handed g (e ∷ es) = cond (eqb e.0 g) (suc (handed g es)) (handed g es)
-
--- what a store answers, and the outcomes after it
-abbrev pub FirstWins : {O : Type 0} → Option O → Bool → Type 0
-FirstWins None b = b ≡ true
-FirstWins (Some o) b = b ≡ false
-
-abbrev pub kept_first : {O : Type 0} → Bool → ℕ → O → List (ℕ × O) → List (ℕ × O)
-kept_first true t o os = (t, o) ∷ os
-kept_first false t o os = os
-
--- over the outcomes and the members handed in so far
-abbrev pub IsTable : {O : Type 0} → List (ℕ × O) → List (ℕ × ℕ) → List (BackendCall O) → Type 0
-IsTable os ps [] = Unit
-IsTable os ps (stored t o b ∷ cs) = FirstWins (look_up t os) b × IsTable (kept_first b t o os) ps cs
-IsTable os ps (returned g m n ∷ cs) = (n ≡ handed g ps) × (In (g, m) ps → ⊥) × IsTable os ((g, m) ∷ ps) cs
-IsTable os ps (has_read t o ∷ cs) = (o ≡ look_up t os) × IsTable os ps cs
 
 -- The takes that stand in the list and not yet in the core run; then the core run's calls and the list's: publishes in order, takes in order,
 -- each take in the list where the core run has it or before.

@@ -2,7 +2,7 @@
 
 ghost use Rattle.std.specs.Prelude.{◌≡◌, ◌≢◌, ◌≤◌, IsTrue, IfSome, All};
 ghost use Rattle.canvas_backend.specs.Roster.{is_chord, is_member};
-ghost use Rattle.canvas_task.specs.Words.{NumberInRange};
+ghost use Rattle.canvas_task.specs.Apply.{IsInRange};
 ghost use Rattle.canvas_backend.specs.Backend.{no_results};
 ghost use Rattle.canvas_backend.specs.Plain.{held};
 
@@ -179,7 +179,7 @@ fn stores_and_returns(
     outcome: &Outcome,
 ) -> Option<u64>
     requires seat { seat.old.of ≡ backend.now.id }
-    requires outcome { NumberInRange outcome.now }
+    requires outcome { IsInRange outcome.now }
     ensures { seat.new.of ≡ backend.now.id }
 {
     if !waits(backend, group, task) {
@@ -226,7 +226,7 @@ fn seats_count_parts(rt: HostRuntime) -> Result<(), Fail> {
 /// Whether an outcome that a seat stores is what it reads.
 fn comes_back(backend: &Backend, seat: &mut BackendSeat, task: TaskNo, outcome: &Outcome) -> bool
     requires seat { seat.old.of ≡ backend.now.id }
-    requires outcome { NumberInRange outcome.now }
+    requires outcome { IsInRange outcome.now }
     ensures { seat.new.of ≡ backend.now.id }
 {
     if !backend.knows(task) {
@@ -279,7 +279,7 @@ struct Share {
 
 /// What a member's outcome is in these tests: one that no other member has.
 fn outcome_of_member(task: TaskNo) -> Outcome
-    ensures { NumberInRange result }
+    ensures { IsInRange result }
 {
     Outcome::Failure(Fault::Chord {
         dep: task,

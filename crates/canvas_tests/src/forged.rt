@@ -3,7 +3,7 @@
 //! this program, by evaluating each line event by event.
 
 ghost use Rattle.std.specs.Prelude.{IfSome, All};
-ghost use Rattle.canvas_task.specs.Words.{NumberInRange};
+ghost use Rattle.canvas_task.specs.Apply.{IsInRange};
 
 use crate::envelopes::{filled, read};
 use canvas_message::{Message, PartCall, Todo, after, body_after};
@@ -604,7 +604,7 @@ const FAILS: Outcome = Outcome::Failure(Fault::Plain(Kind::ZeroDivision));
 
 /// Whether this follows the end of a message's task, by reference and where the message is given up.
 fn follows(alloc: Global, message: Message, outcome: &Outcome, text: &str) -> bool
-    requires { NumberInRange outcome.now }
+    requires { IsInRange outcome.now }
 {
     let lent = match after(alloc, &message, outcome) {
         Ok(todo) => is_shown(alloc, &todo, text),
@@ -617,7 +617,7 @@ fn follows(alloc: Global, message: Message, outcome: &Outcome, text: &str) -> bo
 }
 
 fn ends_so(alloc: Global, row: &[&str; 8], outcome: &Outcome, text: &str) -> bool
-    requires { NumberInRange outcome.now }
+    requires { IsInRange outcome.now }
 {
     let [task, links, errbacks, chain, group, chord, _, _] = *row;
     match body_of(alloc, links, errbacks, chain, chord) {
@@ -655,7 +655,7 @@ fn number_of(sign: Option<char>) -> Option<TaskNo> {
 
 /// The outcome behind a task's number: a number from 0 to 9, a division by zero, or a header's failure.
 fn outcome_of(text: &str) -> Option<(TaskNo, Outcome)>
-    ensures { IfSome result (λ e. NumberInRange e.1) }
+    ensures { IfSome result (λ e. IsInRange e.1) }
 {
     let mut signs = text.chars();
     let task = number_of(signs.next())?;
@@ -675,7 +675,7 @@ fn outcome_of(text: &str) -> Option<(TaskNo, Outcome)>
 }
 
 fn outcomes_of(alloc: Global, text: &str) -> Option<Vec<(TaskNo, Outcome)>>
-    ensures { IfSome result (λ v. All (λ e. NumberInRange e.1) v.items) }
+    ensures { IfSome result (λ v. All (λ e. IsInRange e.1) v.items) }
 {
     let mut outcomes = Vec::new(alloc);
     for word in text.split_whitespace() {

@@ -2,7 +2,7 @@
 
 ghost use Rattle.std.specs.Prelude.{◌≡◌, true, false, IfOk, MatchOption};
 ghost use Rattle.canvas_task.specs.Numbers.{in_range};
-ghost use Rattle.canvas_task.specs.Words.{NumberInRange};
+ghost use Rattle.canvas_task.specs.Apply.{IsInRange};
 ghost use Rattle.canvas_task.specs.declared.outcome.Outcome.TheVariants.{Success};
 ghost use Rattle.canvas_rewrite.specs.FrozenView.{p_line_view, p_task_view};
 ghost use Rattle.canvas_rewrite.specs.Placed.{p_step};
@@ -24,7 +24,7 @@ impl Message {
     /// What follows the end of this message's task, as `after` says, where the message isn't needed any more: the task that follows it
     /// on its line takes over what it carries, and no copy is made of that.
     pub fn into_todo(self, alloc: Global, outcome: &Outcome) -> Result<Todo, Memory>
-        requires { NumberInRange outcome.now }
+        requires { IsInRange outcome.now }
         ensures { IfOk result (λ todo. todo_view todo ≡ after self outcome.now) }
     {
         match outcome {
