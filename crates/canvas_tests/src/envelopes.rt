@@ -5,16 +5,16 @@ use canvas_task::{ListOf, TaskNo};
 use std::alloc::{AllocError, Global};
 use std::test::Fail;
 
-const PROPERTIES: &str =
+pub(crate) const PROPERTIES: &str =
     r#"{"content_encoding":"utf-8","content_type":"application/json","correlation_id":"%1"}"#;
 
-const HEADERS: &str =
+pub(crate) const HEADERS: &str =
     r#"{"group":null,"id":"%1","lang":"rs","parent_id":null,"root_id":"%1","task":"tasks.add"}"#;
 
-const BODY: &str =
+pub(crate) const BODY: &str =
     r#"[[4,4],{},{"callbacks":null,"chain":[{"args":[8],"immutable":false,"kwargs":{},"options":{"task_id":"%2"},"subtask_type":null,"task":"tasks.mul"}],"chord":null,"errbacks":null}]"#;
 
-const PLAIN: &str = r#"{"content_type":"application/json","content_encoding":"utf-8"}"#;
+pub(crate) const PLAIN: &str = r#"{"content_type":"application/json","content_encoding":"utf-8"}"#;
 
 const TASK: &str = r#"{"task":"x","options":{"task_id":"00000000-0000-8000-8000-00000000000"#;
 
@@ -39,6 +39,11 @@ pub(crate) fn filled(alloc: Global, text: &str) -> Result<String, AllocError> {
         }
     }
     Ok(all)
+}
+
+/// The bytes of such a text.
+pub(crate) fn bytes_of(alloc: Global, text: &str) -> Result<ListOf<u8>, AllocError> {
+    Ok(ListOf::of(filled(alloc, text)?.into_bytes()))
 }
 
 fn copy(alloc: Global, text: &[u8]) -> Result<ListOf<u8>, AllocError> {
@@ -84,42 +89,6 @@ fn code_of(alloc: Global, properties: &str, headers: &str, body: &str) -> Result
 pub(crate) fn embed_code(alloc: Global, headers: &str, embed: &str) -> Result<u8, AllocError> {
     let body = format!(in alloc; "[[],{{}},{embed}]")?;
     code_of(alloc, PLAIN, headers, &body)
-}
-
-#[test]
-fn written_texts(rt: HostRuntime) -> Result<(), Fail> {
-    let alloc = rt.alloc();
-    for (properties, headers, body) in [
-        (PROPERTIES, HEADERS, BODY),
-        (
-            r#"{"content_encoding":"utf-8","content_type":"application/json","correlation_id":"%2"}"#,
-            r#"{"group":null,"id":"%2","lang":"rs","parent_id":"%1","root_id":"%1","task":"tasks.mul"}"#,
-            r#"[[8,8],{},{"callbacks":null,"chain":null,"chord":null,"errbacks":null}]"#,
-        ),
-        (
-            PLAIN,
-            r#"{"group":"@1","id":"%2","lang":"rs","parent_id":null,"root_id":"%1","task":"tasks.div"}"#,
-            r#"[[1,0],{},{"callbacks":null,"chain":null,"chord":{"args":[],"chord_size":3,"immutable":false,"kwargs":{},"options":{"link_error":[{"args":[],"immutable":false,"kwargs":{},"options":{"task_id":"%5"},"subtask_type":null,"task":"tasks.log_error"}],"task_id":"%4"},"subtask_type":null,"task":"tasks.xsum"},"errbacks":null}]"#,
-        ),
-        (
-            PLAIN,
-            r#"{"group":null,"id":"%5","lang":"rs","parent_id":"%4","root_id":"%1","task":"tasks.log_error"}"#,
-            r#"[["%4"],{},{"callbacks":null,"chain":null,"chord":null,"errbacks":null}]"#,
-        ),
-        (
-            PROPERTIES,
-            r#"{"task":"tasks.add","lang":"py","id":"%1","root_id":"%1","parent_id":null,"group":null,"retries":0,"origin":"a","eta":null}"#,
-            BODY,
-        ),
-        (PROPERTIES, HEADERS, "[[2,2],{},null]"),
-    ] {
-        assert_eq!(rt;
-            code_of(alloc, properties, headers, body)?,
-            0,
-            "{headers} {body}"
-        );
-    }
-    Ok(())
 }
 
 #[test]
