@@ -65,7 +65,10 @@ fn numbers(rt: HostRuntime) {
         ("1152921504606846976", 1 << 60),
         ("-1152921504606846976", -(1 << 60)),
     ] {
-        assert!(rt; is_argument(rt.alloc(), text, &Ok(Arg::Num(number))), "{text}");
+        assert!(rt;
+            is_argument(rt.alloc(), text, &Ok(Arg::Num(number))),
+            "{text}"
+        );
     }
 }
 
