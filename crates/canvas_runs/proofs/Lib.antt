@@ -47,3 +47,4 @@ pub mod Rows
 pub mod Tallies
 pub mod Mates
 pub mod Witness
+pub mod ChordRuns

@@ -16,3 +16,4 @@ pub mod Accounts
 pub mod Causes
 pub mod Callers
 pub mod Rows
+pub mod Witness

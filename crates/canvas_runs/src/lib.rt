@@ -2,8 +2,8 @@
 //! whole runs. There is no running code here: each function has an empty body, and its contract is a law.
 #![tactic(auto)]
 
-ghost use Rattle.std.specs.Prelude.{◌≡◌, ℕ};
-ghost use Rattle.canvas_backend.specs.Backend.{results};
+ghost use Rattle.std.specs.Prelude.{◌≡◌, ◌≤◌, ℕ};
+ghost use Rattle.canvas_backend.specs.Backend.{IsLegal, results};
 ghost use Rattle.canvas_backend.specs.Roster.{roster_of};
 ghost use Rattle.canvas_rewrite.specs.Eval.{state_of, meaning};
 ghost use Rattle.canvas_rewrite.specs.Frozen.{Line, tree_of};
@@ -11,20 +11,30 @@ ghost use Rattle.canvas_rewrite.specs.Planned.{IsPlan};
 ghost use Rattle.canvas_sig.specs.Normal.{normal};
 ghost use Rattle.canvas_sig.specs.Tree.{Tree, IsFull, numbered};
 ghost use Rattle.canvas_runs.specs.Callers.{OneList, OneTable, IsARun, ReadsHeld, RowsMay, RowsAre, CanvasRowsMay, CanvasRowsAre, PublishesByCause, PublishesByItsCause, PublishesOnce, CompletesOnce};
+ghost use Rattle.canvas_runs.specs.Causes.{completions};
 ghost use Rattle.canvas_runs.specs.Rows.{RowsOfWell, RowsOfAny, TalliesCount, ARunStands};
 ghost use Rattle.canvas_runs.specs.StepLaws.{Rests, CallFirst, HeldFirst, BatchFirst};
 ghost use Rattle.canvas_runs.specs.Crew.{AreMates, AreRan};
 ghost use Rattle.canvas_runs.specs.Law.{FirstPart, SecondPart};
 ghost use Rattle.canvas_runs.specs.Run.{Run, Closed};
+ghost use Rattle.canvas_runs.specs.Witness.{small, queue, table, lost_part};
 
 /// The law of runs. Whatever the number of workers and the order of their calls, a run of a plan stores only the outcomes that
 /// evaluating its canvas gives, and publishes only the messages of tasks that are run, each once. A run that is closed stores
 /// all these outcomes, publishes all these messages and returns all these parts, each once. So each task of the canvas has the
-/// state that evaluating the canvas gives.
+/// state that evaluating the canvas gives. In every run each chord is completed at most once.
 pub fn law_of_runs()
     ensures every_run { (l : Line) → IsPlan l → (r : Run l) → FirstPart l r }
     ensures closed_runs { (l : Line) → IsPlan l → (r : Run l) → Closed l r → SecondPart l r }
+    ensures completed_once { (l : Line) → IsPlan l → (r : Run l) → (g : ℕ) → completions l g r.table ≤ 1 }
     ensures of_canvas { (c : Tree) → IsFull c → (l : Line) → IsPlan l → tree_of l ≡ numbered (normal c) → (r : Run l) → Closed l r → (t : ℕ) → (results (roster_of l) r.table).outcomes t ≡ state_of t (meaning c) }
+{}
+
+/// There is something of which the law speaks: a chord of two sums and the sum of both has a closed run by two workers, with these
+/// histories. A history in which both parts find that none was returned before is none of the table.
+pub fn runs_of_a_chord()
+    ensures stands { (r : Run small) × (r.queue ≡ queue) × (r.table ≡ table) × Closed small r }
+    ensures none_lost { IsLegal (roster_of small) lost_part → ⊥ }
 {}
 
 /// What each caller saw makes a run. Where worker 0 has made the passes and the seats of the workers, has taken all in again, and each
