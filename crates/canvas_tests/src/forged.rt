@@ -677,6 +677,7 @@ fn outcome_of(text: &str) -> Option<(TaskNo, Outcome)>
 fn outcomes_of(alloc: Global, text: &str) -> Option<Vec<(TaskNo, Outcome)>>
     ensures { IfSome result (λ v. All (λ e. IsInRange e.1) v.items) }
 {
+    let _none: Option<Fault> = None;
     let mut outcomes = Vec::new(alloc);
     for word in text.split_whitespace() {
         let outcome = outcome_of(word)?;
