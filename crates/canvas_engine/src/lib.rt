@@ -9,7 +9,8 @@ mod text;
 mod turn_list;
 mod turns;
 
-pub use fault::{Cause, RunFault};
+pub use canvas_worker::Cause;
+pub use fault::RunFault;
 pub use report::{Report, report_text};
 pub use text::{TextFault, rows_text, run_text};
 pub use turn_list::read_turns;
