@@ -1,3 +1,4 @@
 pub mod Correct
 pub mod Texts
 pub mod ReportRows
+pub mod Steps
