@@ -23,7 +23,7 @@ use Rattle.canvas_backend.specs.Backend.{Results, no_results, first_or, next_of,
 use Rattle.canvas_backend.specs.Roster.{roster_of, members}
 use Rattle.canvas_broker.specs.Broker as broker
 use Rattle.canvas_runs.specs.Core.{Ask, Reply, take, send, keep, part, read, pause, end, taken, sent, kept, counted, found, rested, State, taking, resting, over, failed, owning, doing, reading, ask, left_after, ReadsBack}
-use Rattle.canvas_runs.specs.Lists.{by, at}
+use Rattle.canvas_runs.specs.Lists.{Each, by, at}
 use Rattle.canvas_runs.specs.Worker.{worker, sealed}
 
 -- an answered ask of a worker
@@ -80,6 +80,10 @@ module _ (l : Line) where
   abbrev pub queue_after : List Step → List Envelope
   queue_after before = queue_from (map sealed (first_messages l)) before
 
+  -- the envelopes of the first messages read back as these
+  abbrev pub FirstsRead : Type 0
+  FirstsRead = Each (worker l).Back (first_messages l)
+
   abbrev pub left : List Step → ℕ → State Content Load Outcome
   left before p = left_after (worker l) taking (by p before)
 
@@ -129,6 +133,7 @@ abbrev pub Begins : List ℕ → List ℕ → ℕ → Type 0
 Begins us ts n = (k : ℕ) × (rest : List ℕ) × (us ++ rest ≡ ts ++ rounds n k)
 
 pub record RanWhole (l : Line) (n : ℕ) (ts : List ℕ) : Type 0 where
+  pub opens_back : FirstsRead l
   pub turns : List ℕ
   pub further : ℕ
   pub follow : turns ≡ ts ++ rounds n further
@@ -137,6 +142,7 @@ pub record RanWhole (l : Line) (n : ℕ) (ts : List ℕ) : Type 0 where
   pub ended : AllEnded l n steps
 
 pub record RanUntil (l : Line) (n : ℕ) (ts : List ℕ) (most : ℕ) : Type 0 where
+  pub opens_back : FirstsRead l
   pub turns : List ℕ
   pub begin : Begins turns ts n
   pub steps : List Step
