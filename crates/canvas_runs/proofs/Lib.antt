@@ -48,3 +48,6 @@ pub mod Tallies
 pub mod Mates
 pub mod Witness
 pub mod ChordRuns
+pub mod Turning
+pub mod TurnLogs
+pub mod TurnRuns

@@ -16,4 +16,5 @@ pub mod Accounts
 pub mod Causes
 pub mod Callers
 pub mod Rows
+pub mod Turns
 pub mod Witness
