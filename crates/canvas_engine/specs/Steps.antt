@@ -5,13 +5,13 @@ use Rattle.canvas_task.specs.declared.outcome.Outcome.{Outcome}
 use Rattle.canvas_rewrite.specs.Frozen.{Line}
 use Rattle.canvas_message.specs.Effects.{first_messages}
 use Rattle.canvas_message.specs.declared.envelope.Envelope.{Envelope}
-use Rattle.canvas_backend.specs.Backend.{Results, first_or, count_of}
+use Rattle.canvas_backend.specs.Backend.{Results, no_results, first_or, count_of}
 use Rattle.canvas_backend.specs.Plain.{Shelf, held}
 use Rattle.canvas_backend.specs.Roster.{Roster, roster_of, members, is_chord, is_member}
 use Rattle.canvas_broker.specs.Broker as broker
 use Rattle.canvas_runs.specs.Core.{take, send, keep, part, read, pause, end, taken, sent, kept, counted, found, rested, taking, left_after, ReadsBack, IsCoreRun}
 use Rattle.canvas_runs.specs.Lists.{Each, by, at}
-use Rattle.canvas_runs.specs.Turns.{Step, Turned, HasEnded, IsWorker, AllEnded, Begins, rounds, queue_after, queue_next, results_after, results_next, says_first}
+use Rattle.canvas_runs.specs.Turns.{Step, Turned, HasEnded, IsWorker, AllEnded, Begins, round, rounds, queue_after, queue_next, results_after, results_next, says_first}
 use Rattle.canvas_runs.specs.Worker.{worker}
 use Rattle.canvas_worker.specs.Asks.{Asked, Answer}
 use Rattle.canvas_worker.specs.Books.{no_book, book_in}
@@ -73,6 +73,7 @@ IsCoreAt l xs p c = (c.left ≡ left_after (enveloped (roster_of l)) taking (by 
 -- After these turns and steps of at most so many. An envelope of a first message reads back as the message.
 pub record Reached (l : Line) (n most : ℕ) (us : List ℕ) (xs : List Step) (s : Stage) : Type 0 where
   pub opens : Each (worker l).Back (first_messages l)
+  pub are : All (IsWorker n) us
   pub turned : Turned l n [] us xs
   pub runs : (p : ℕ) → IsCoreRun (enveloped (roster_of l)) taking (by p xs)
   pub queue_is : s.queue ≡ queue_after l xs
@@ -117,6 +118,15 @@ abbrev pub IsHalt : Cause → Line → ℕ → ℕ → List ℕ → Stage → Ty
 IsHalt Memory l n most us s = IsHalfway l n s
 IsHalt Stopped l n most us s = IsStopped l n most us s
 
+-- The first i turns of a round have been taken, after the turns us and the steps xs with so many left: whether one answered an ask.
+abbrev pub IsPartOfRound : Bool → Line → ℕ → ℕ → List ℕ → List Step → ℕ → ℕ → Stage → Type 0
+IsPartOfRound true l n most us xs i steps s = HasReached l n most (us ++ round i) s × (s.steps < steps)
+IsPartOfRound false l n most us xs i steps s = Reached l n most (us ++ round i) xs s × ((p : ℕ) → IsWorker i p → HasEnded l xs p)
+
+abbrev pub IsHaltInRound : Cause → Line → ℕ → ℕ → List ℕ → Stage → Type 0
+IsHaltInRound Memory l n most us s = IsHalfway l n s
+IsHaltInRound Stopped l n most us s = (i : ℕ) × (i ≤ n) × IsStopped l n most (us ++ round i) s
+
 -- why a run by these turns and then in rotation ended early
 abbrev pub IsEarlyEnd : Cause → Line → ℕ → ℕ → List ℕ → Stage → Type 0
 IsEarlyEnd Memory l n most turns s = IsHalfway l n s
@@ -132,3 +142,11 @@ pub record IsDone (l : Line) (n most : ℕ) (turns : List ℕ) (s : Stage) : Typ
 -- cores that have done nothing yet
 abbrev pub AreNew : List Standing → Type 0
 AreNew cores = All (λ c. c ≡ begun) cores
+
+-- a stage before its first publish
+pub record IsNew (l : Line) (n : ℕ) (s : Stage) : Type 0 where
+  pub plan_is : s.table.plan ≡ roster_of l
+  pub table_is : held s.table ≡ no_results
+  pub queue_is : s.queue ≡ []
+  pub many : length s.cores.items ≡ n
+  pub new : AreNew s.cores.items

@@ -15,7 +15,7 @@ ghost use Rattle.canvas_worker.specs.Asks.{shown};
 ghost use Rattle.canvas_worker.specs.Standing.{Standing, asked, is_inside};
 ghost use Rattle.canvas_worker.specs.declared.ask.Ask.TheVariants as ask;
 ghost use Rattle.canvas_engine.specs.Correct.{rows_of};
-ghost use Rattle.canvas_engine.specs.Steps.{MayAsk, AreInRange, Stepped, IsTried, AreNew, Reached, HasReached, IsTurn, IsHalt};
+ghost use Rattle.canvas_engine.specs.Steps.{MayAsk, AreInRange, Stepped, IsTried, AreNew, Reached, HasReached, IsTurn, IsHalt, IsNew};
 
 use crate::Cause;
 use canvas_backend::PlainBackend;
@@ -132,9 +132,7 @@ impl Stage {
         workers: u32,
         steps: u128,
     ) -> Result<Stage, Memory>
-        ensures plan { IfOk result (λ s. s.table.plan ≡ roster_of plan.now) }
-        ensures empty { IfOk result (λ s. (held s.table ≡ no_results) × (s.queue ≡ [])) }
-        ensures workers { IfOk result (λ s. (length s.cores.items ≡ workers) × AreNew s.cores.items) }
+        ensures new { IfOk result (λ s. IsNew plan.now workers s) }
         ensures steps { IfOk result (λ s. s.steps ≡ steps) }
     {
         let cores = new_cores(alloc, workers)?;
@@ -174,10 +172,9 @@ impl Stage {
 
     /// A worker's turn: one ask of it is answered, unless it is at its end. Whether one was.
     pub(crate) fn turn(&mut self, alloc: Global, plan: &Plan, worker: u32) -> Result<bool, Cause>
-        requires worker { IsWorker (length self.old.cores.items) worker }
-        requires reached { (most : ℕ) × (us : List ℕ) × HasReached plan.now (length self.old.cores.items) most us self.old }
-        ensures ok { IfOk result (λ b. (most : ℕ) (us : List ℕ) (xs : List Step) → Reached plan.now (length self.old.cores.items) most us xs self.old → IsTurn b plan.now (length self.old.cores.items) most us xs worker self.new) }
-        ensures err { IfErr result (λ cause. (most : ℕ) (us : List ℕ) (xs : List Step) → Reached plan.now (length self.old.cores.items) most us xs self.old → IsHalt cause plan.now (length self.old.cores.items) most us self.new) }
+        requires { (n : ℕ) × (most : ℕ) × (us : List ℕ) × IsWorker n worker × HasReached plan.now n most us self.old }
+        ensures ok { IfOk result (λ b. (n : ℕ) (most : ℕ) (us : List ℕ) (xs : List Step) → Reached plan.now n most us xs self.old → IsTurn b plan.now n most us xs worker self.new) }
+        ensures err { IfErr result (λ cause. (n : ℕ) (most : ℕ) (us : List ℕ) (xs : List Step) → Reached plan.now n most us xs self.old → IsHalt cause plan.now n most us self.new) }
     {
         let index = worker as usize - 1;
         let ask = self.cores[index].next();
