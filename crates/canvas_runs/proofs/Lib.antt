@@ -51,3 +51,5 @@ pub mod ChordRuns
 pub mod Turning
 pub mod TurnLogs
 pub mod TurnRuns
+pub mod TurnStates
+pub mod TurnWalk
