@@ -53,3 +53,5 @@ pub mod TurnLogs
 pub mod TurnRuns
 pub mod TurnStates
 pub mod TurnWalk
+pub mod RowRanges
+pub mod TurnLaw

@@ -1,9 +1,9 @@
 -- The histories of a run by turns: worker 0 makes the workers and publishes the first messages, and then each step that is a call stands with its worker.
 use Rattle.std.proofs.Common.{◌≡◌, ◌≢◌, ℕ, zero, suc, ◌+◌, ◌≤◌, Bool, true, false, cond, eqb, ◌==◌, List, [], ◌∷◌, ◌++◌, map, Option, Some, None, refl, sym, ap, ap₂, ◌∙◌, subst, append_assoc, append-nil, eq-eqb, ne_eqb, ⊎_elim, inl, inr, ◌⊎◌, arith, IsTrue}
-use Rattle.std.proofs.lemmas.Bool.{false≢true, eqb-true, cases_Bool}
+use Rattle.std.proofs.lemmas.Bool.{false≢true, eqb-true, eqb-false, cases_Bool}
 use Rattle.canvas_task.specs.declared.outcome.Outcome.{Outcome}
 use Rattle.canvas_task.specs.History.{Entry, split, join, calls, among, live, live_from, named, heir, state_from, state_of, Allowed, Legal}
-use Rattle.canvas_task.proofs.Histories.{In, in_left, in_right, in_append, in_here, in_cases, named_append, live_append, state_append, legal_append, OnlyCalls}
+use Rattle.canvas_task.proofs.Histories.{In, in_left, in_right, in_append, in_here, in_later, in_cases, named_append, live_append, state_append, legal_append, OnlyCalls}
 use Rattle.canvas_message.specs.declared.envelope.Envelope.{Envelope}
 use Rattle.canvas_backend.specs.declared.stored.Stored.TheVariants.{First, Again}
 use Rattle.canvas_backend.specs.Backend as results
@@ -31,7 +31,7 @@ round_has (suc n) p h =
     (λ (e : (p == suc n) ≡ false). in_left p (round n) (suc n ∷ []) (round_has n p (h.0, below e))) (cases_Bool (p == suc n))
   where
     below : (p == suc n) ≡ false → p ≤ n
-    below e = let apart : p ≢ suc n = Rattle.std.proofs.lemmas.Bool.eqb-false p (suc n) e in omega (arith, apart, h.1)
+    below e = let apart : p ≢ suc n = eqb-false p (suc n) e in omega (arith, apart, h.1)
 
 -- ---- splits, and calls after them
 
@@ -81,7 +81,7 @@ module _ {C R : Type 0} where
       ap live m.is ∙ (live_append (0 ∷ []) (splits_of (round n)) m.rest ∙ (only_live (live (splits_of (round n))) m.rest m.only ∙ live_splits C R (0 ∷ []) (round n)))
 
   pub worker_lives : (n p : ℕ) (log : List (Entry C R)) → Made n log → IsWorker n p → among p (live log) ≡ true
-  worker_lives n p log m w = subst (λ ls. In p ls) (sym (made_live n log m)) (Rattle.canvas_task.proofs.Histories.in_later p 0 (round n) (round_has n p w))
+  worker_lives n p log m w = subst (λ ls. In p ls) (sym (made_live n log m)) (in_later p 0 (round n) (round_has n p w))
 
   pub first_lives : (n : ℕ) (log : List (Entry C R)) → Made n log → among 0 (live log) ≡ true
   first_lives n log m = subst (λ ls. In 0 ls) (sym (made_live n log m)) (in_here 0 (round n))

@@ -1,8 +1,8 @@
 -- A run by turns is a run: its two histories, and each worker's steps as its core run.
 use Rattle.std.proofs.Common.{◌≡◌, ◌≢◌, ℕ, zero, suc, ◌+◌, Bool, true, false, cond, eqb, List, [], ◌∷◌, ◌++◌, map, Option, Some, None, refl, sym, ap, ap₂, ◌∙◌, subst, append_assoc, append-nil, arith, IsTrue, ne_eqb, eq-eqb}
 use Rattle.canvas_task.specs.declared.outcome.Outcome.{Outcome}
-use Rattle.canvas_task.specs.History.{Entry, calls, among, live}
-use Rattle.canvas_task.proofs.Histories.{OnlyCalls, state_append, legal_append}
+use Rattle.canvas_task.specs.History.{calls, among, live, state_from, LegalFrom}
+use Rattle.canvas_task.proofs.Histories.{OnlyCalls, live_append, state_append, legal_append}
 use Rattle.canvas_rewrite.specs.Frozen.{Line}
 use Rattle.canvas_message.specs.Effects.{first_messages}
 use Rattle.canvas_message.specs.declared.envelope.Envelope.{Envelope}
@@ -116,10 +116,10 @@ module _ (l : Line) where
   -- ---- the histories stay legal
 
   abbrev QueueLegal : List (broker.Line Envelope) → List (broker.Line Envelope) → Type 0
-  QueueLegal before es = Rattle.canvas_task.specs.History.LegalFrom [] broker.answer broker.next broker.May before es
+  QueueLegal before es = LegalFrom [] broker.answer broker.next broker.May before es
 
   abbrev queue_from_log : List Envelope → List (broker.Line Envelope) → List Envelope
-  queue_from_log q es = Rattle.canvas_task.specs.History.state_from [] broker.answer broker.next broker.May q es
+  queue_from_log q es = state_from [] broker.answer broker.next broker.May q es
 
   -- what a step adds to a history of the queue
   queue_adds : (n : ℕ) (xs : List Step) (p : ℕ) (a : Ask Envelope Outcome) (r : Reply Envelope Outcome) (log : List (broker.Line Envelope)) → among p (live log) ≡ true → broker.queue_of log ≡ queue_after l xs
@@ -134,10 +134,10 @@ module _ (l : Line) where
   queue_adds n xs p a r log alive is h = elim h [ ]
 
   abbrev TableLegal : results.Log → results.Log → Type 0
-  TableLegal before es = Rattle.canvas_task.specs.History.LegalFrom no_results (reply_of (roster_of l)) next_of (results.May (roster_of l)) before es
+  TableLegal before es = LegalFrom no_results (reply_of (roster_of l)) next_of (results.May (roster_of l)) before es
 
   abbrev table_from_log : Results → results.Log → Results
-  table_from_log s es = Rattle.canvas_task.specs.History.state_from no_results (reply_of (roster_of l)) next_of (results.May (roster_of l)) s es
+  table_from_log s es = state_from no_results (reply_of (roster_of l)) next_of (results.May (roster_of l)) s es
 
   -- the part may be returned
   abbrev pub MayPart : results.Log → ℕ → Ask Envelope Outcome → Type 0
@@ -184,7 +184,7 @@ module _ (l : Line) where
   published_legal : (log : List (broker.Line Envelope)) (es : List Envelope) → among 0 (live log) ≡ true → QueueLegal log (entries 0 (published_all es))
   published_legal log [] alive = tt
   published_legal log (e ∷ es) alive =
-      ((alive, refl, tt), published_legal (log ++ calls 0 (broker.publish e) None ∷ []) es (subst (λ ls. among 0 ls ≡ true) (sym (Rattle.canvas_task.proofs.Histories.live_append (0 ∷ []) log (calls 0 (broker.publish e) None ∷ []))) alive))
+      ((alive, refl, tt), published_legal (log ++ calls 0 (broker.publish e) None ∷ []) es (subst (λ ls. among 0 ls ≡ true) (sym (live_append (0 ∷ []) log (calls 0 (broker.publish e) None ∷ []))) alive))
 
   published_state : (q es : List Envelope) → queue_from_log q (entries 0 (published_all es)) ≡ q ++ es
   published_state q [] = sym (append-nil q)

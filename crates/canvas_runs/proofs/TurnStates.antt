@@ -192,7 +192,7 @@ module _ (l : Line) (plan : IsPlan l) where
 
   -- ---- the header whose last part is returned is stored
 
-  was_in : (log : results.Log) (t : ℕ) (o : Outcome) → results.WasFirst log t o → (q : Outcome) × ((results.results P log).outcomes t ≡ Some q)
+  pub was_in : (log : results.Log) (t : ℕ) (o : Outcome) → results.WasFirst log t o → (q : Outcome) × ((results.results P log).outcomes t ≡ Some q)
   was_in log t o f =
       let call = calls f.caller (results.store t o) (was First) in
       let there : In call log = subst (In call) (sym f.is) (in_right f.before (call ∷ f.rest) call (inl refl)) in

@@ -1,5 +1,5 @@
 -- What holds after each step of a run by turns.
-use Rattle.std.proofs.Common.{◌≡◌, ◌≢◌, ◌⊎◌, ℕ, zero, suc, ◌≤◌, ◌||◌, Bool, true, false, cond, eqb, ◌==◌, List, [], ◌∷◌, ◌++◌, length, Option, Some, None, refl, sym, ap, ◌∙◌, subst, append_assoc, append-nil, inl, inr, ⊎_elim, ne_eqb, arith}
+use Rattle.std.proofs.Common.{◌≡◌, ◌≢◌, ◌⊎◌, ℕ, zero, suc, ◌≤◌, ◌||◌, Bool, true, false, cond, eqb, ◌==◌, List, [], ◌∷◌, ◌++◌, length, map, Option, Some, None, refl, sym, ap, ◌∙◌, subst, append_assoc, append-nil, inl, inr, ⊎_elim, ne_eqb, arith}
 use Rattle.std.proofs.lemmas.Bool.{cases_eq}
 use Rattle.canvas_task.specs.declared.outcome.Outcome.{Outcome}
 use Rattle.canvas_rewrite.specs.Frozen.{Line}
@@ -165,13 +165,10 @@ module _ (l : Line) where
             core = λ q. (core_next q).0;
             reads = λ q. (core_next q).1;
             queue_legal = queue.0;
-            queue_is = queue.1 ∙ sym (queue_more (map_of l) xs x);
+            queue_is = queue.1 ∙ sym (queue_more (map sealed (first_messages l)) xs x);
             table_legal = table.0;
             table_is = table.1 ∙ sym (results_more no_results xs x);
           }
-        where
-          map_of : Line → List Envelope
-          map_of l = Rattle.std.specs.Prelude.map sealed (first_messages l)
 
       ready_next : (q : ℕ) → IsWorker n q → Ready l plan n (xs ++ x ∷ []) q (left l (xs ++ x ∷ []) q)
       ready_next q u = elim (cases_eq p q) [
@@ -188,7 +185,7 @@ module _ (l : Line) where
       idle_stays i =
           let own = stays_outside n xs (left l xs p) r i.empty (i.outside p w) h in
           record {
-            empty = queue_more (Rattle.std.specs.Prelude.map sealed (first_messages l)) xs x ∙ own.1;
+            empty = queue_more (map sealed (first_messages l)) xs x ∙ own.1;
             outside = λ q u. elim (cases_eq p q) [
               | inl same ↦ subst (λ v. is_inside (left l (xs ++ x ∷ []) v) ≡ false) same (ap is_inside (left_here l xs p a r) ∙ own.0)
               | inr apart ↦ ap is_inside (left_other l xs q p a r apart) ∙ i.outside q u

@@ -17,4 +17,5 @@ pub mod Causes
 pub mod Callers
 pub mod Rows
 pub mod Turns
+pub mod TurnLaws
 pub mod Witness

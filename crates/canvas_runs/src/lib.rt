@@ -17,6 +17,7 @@ ghost use Rattle.canvas_runs.specs.StepLaws.{Rests, CallFirst, HeldFirst, BatchF
 ghost use Rattle.canvas_runs.specs.Crew.{AreMates, AreRan};
 ghost use Rattle.canvas_runs.specs.Law.{FirstPart, SecondPart};
 ghost use Rattle.canvas_runs.specs.Run.{Run, Closed};
+ghost use Rattle.canvas_runs.specs.TurnLaws.{TurnsAreRuns, TurnRowsMay, TurnRowsAre, TurnsEmpty, WholeRows, NextAnswerable, HeldInRange};
 ghost use Rattle.canvas_runs.specs.Witness.{small, queue, table, lost_part};
 
 /// The law of runs. Whatever the number of workers and the order of their calls, a run of a plan stores only the outcomes that
@@ -79,4 +80,19 @@ pub fn rows_of_runs()
     ensures any { RowsOfAny }
     ensures tallies { TalliesCount }
     ensures one { ARunStands }
+{}
+
+/// Runs by turns, on one thread: a turn answers one ask of one worker by what the queue and the table say then. Whatever the number
+/// of workers and the list of turns, it is a run, closed where all have ended, so the law of runs speaks of it: each task is pending
+/// or has the state that evaluating the plan gives, and has that state where all have ended. What a worker asks next can be answered:
+/// a task that it names is one of the plan's, its part is of a chord's member that is stored and was not returned, and a member that
+/// it reads is stored.
+pub fn laws_of_turns()
+    ensures runs { TurnsAreRuns }
+    ensures rows_may { TurnRowsMay }
+    ensures rows_are { TurnRowsAre }
+    ensures emptied { TurnsEmpty }
+    ensures whole { WholeRows }
+    ensures answerable { NextAnswerable }
+    ensures in_range { HeldInRange }
 {}
