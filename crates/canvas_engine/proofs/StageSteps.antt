@@ -1,6 +1,7 @@
 -- One answered ask of one worker is one more step of the run.
-use Rattle.std.proofs.Common.{◌≡◌, ◌≢◌, ◌⊎◌, inl, inr, ℕ, zero, suc, ◌+◌, ◌<◌, Bool, true, false, List, [], ◌∷◌, ◌++◌, map, length, length-append, Option, Some, None, refl, sym, ap, ◌∙◌, subst, arith}
+use Rattle.std.proofs.Common.{◌≡◌, ◌≢◌, ◌⊎◌, inl, inr, ℕ, zero, suc, ◌+◌, ◌<◌, Bool, true, false, List, [], ◌∷◌, ◌++◌, map, length, length-append, Option, Some, None, refl, sym, ap, ◌∙◌, subst, eqb, arith}
 use Rattle.std.specs.Prelude.{◌||◌, slice_get}
+use Rattle.std.proofs.lemmas.Bool.{eqb-true, eqb-false}
 use Rattle.std.specs.List.{list_any}
 use Rattle.canvas_task.specs.declared.outcome.Outcome.{Outcome}
 use Rattle.canvas_rewrite.specs.Frozen.{Line}
@@ -152,19 +153,28 @@ module _ (l : Line) (n most : ℕ) (us : List ℕ) (xs : List Step) (s : Stage) 
           ((a, r), record {
             opens = reached.opens;
             turned = turned_so r step.reads_back step.answers;
-            runs = λ q. runs_now q ys mine;
+            runs = λ q. runs_now q a r mine;
             queue_is = step.queue_is ∙ ap (λ q. queue_next q a) reached.queue_is ∙ sym (queue_more _ xs x);
             plan_is = step.plan_is ∙ reached.plan_is;
             table_is = step.table_is ∙ ap (λ t. results_next t a) reached.table_is ∙ sym (results_more _ xs x);
             many = put.0 ∙ reached.many;
-            cores_are = λ j d e. core_now j d x c' left_new in_new (put.1 j d e);
+            cores_are = λ j d e. core_now j d a r c' left_new in_new (put.1 j d e);
             count = omega (arith, reached.count, fewer, length-append xs (x ∷ []));
           })
         where
           same_answer : (z : Left) (r : Answer) → answered (enveloped_by (book_of l)) z r ≡ answered (enveloped (roster_of l)) z r
           same_answer z r = refl
-          runs_now : (q : ℕ) (ys : List Step) → IsCoreRun (enveloped (roster_of l)) taking (by (suc i) ys) → IsCoreRun (enveloped (roster_of l)) taking (by q ys)
-          runs_now q ys mine = ?
-          core_now : (j : ℕ) (d : Standing) (x : Step) (c' : Standing) → c'.left ≡ left_after (enveloped (roster_of l)) taking (by (suc i) (xs ++ x ∷ [])) → c'.is_out ≡ false
-              → ((j ≡ i) × (d ≡ c')) ⊎ ((j ≢ i) × (slice_get s.cores.items j ≡ Some d)) → IsCoreAt l (xs ++ x ∷ []) (suc j) d
-          core_now j d x c' here out h = ?
+          runs_now : (q : ℕ) (a : Asked) (r : Answer) → IsCoreRun (enveloped (roster_of l)) taking (by (suc i) (xs ++ (suc i, (a, r)) ∷ [])) → IsCoreRun (enveloped (roster_of l)) taking (by q (xs ++ (suc i, (a, r)) ∷ []))
+          runs_now q a r mine = go (eqb (suc i) q) refl
+            where
+              go : (b : Bool) → eqb (suc i) q ≡ b → IsCoreRun (enveloped (roster_of l)) taking (by q (xs ++ (suc i, (a, r)) ∷ []))
+              go true e = subst (λ m. IsCoreRun (enveloped (roster_of l)) taking (by m (xs ++ (suc i, (a, r)) ∷ []))) (eqb-true (suc i) q e) mine
+              go false e = subst (IsCoreRun (enveloped (roster_of l)) taking) (sym (by_other q (suc i) xs (a, r) (eqb-false (suc i) q e))) (reached.runs q)
+          core_now : (j : ℕ) (d : Standing) (a : Asked) (r : Answer) (c' : Standing) → c'.left ≡ left_after (enveloped (roster_of l)) taking (by (suc i) (xs ++ (suc i, (a, r)) ∷ [])) → c'.is_out ≡ false
+              → ((j ≡ i) × (d ≡ c')) ⊎ ((j ≢ i) × (slice_get s.cores.items j ≡ Some d)) → IsCoreAt l (xs ++ (suc i, (a, r)) ∷ []) (suc j) d
+          core_now j d a r c' here out (inl h) =
+              (ap (λ z. z.left) h.1 ∙ here ∙ ap (λ m. left_after (enveloped (roster_of l)) taking (by (suc m) (xs ++ (suc i, (a, r)) ∷ []))) (sym h.0), ap (λ z. z.is_out) h.1 ∙ out)
+          core_now j d a r c' here out (inr h) =
+              let was = reached.cores_are j d h.1 in
+              let apart : suc i ≢ suc j = λ e. h.0 (omega (arith, e)) in
+              (was.0 ∙ sym (ap (left_after (enveloped (roster_of l)) taking) (by_other (suc j) (suc i) xs (a, r) apart)), was.1)
