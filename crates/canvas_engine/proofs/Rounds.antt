@@ -14,15 +14,15 @@ rounds_more n k ts = append_assoc ts (rounds n k) (round n) ∙ ap (λ r. ts ++ 
 abbrev Goes : ℕ → ℕ → Type 0
 Goes n i = (rest : List ℕ) × (round i ++ rest ≡ round n)
 
+end_or : (n i : ℕ) → (i ≡ suc n) ⊎ (i < suc n) → (i ≤ n → Goes n i) → Goes (suc n) i
+end_or n i (inl e) f = ([], append-nil (round i) ∙ ap round e)
+end_or n i (inr k) f =
+    let g = f (omega (arith, k)) in
+    (g.0 ++ suc n ∷ [], sym (append_assoc (round i) g.0 (suc n ∷ [])) ∙ ap (λ r. r ++ suc n ∷ []) g.1)
+
 round_begins : (n i : ℕ) → i ≤ n → Goes n i
 round_begins zero i h = let none : i ≡ 0 = omega (arith, h) in ([], ap (λ m. round m ++ []) none)
-round_begins (suc n) i h = go (eq-or-lt_of_le h)
-  where
-    on : Goes n i → Goes (suc n) i
-    on g = (g.0 ++ suc n ∷ [], sym (append_assoc (round i) g.0 (suc n ∷ [])) ∙ ap (λ r. r ++ suc n ∷ []) g.1)
-    go : (i ≡ suc n) ⊎ (i < suc n) → Goes (suc n) i
-    go (inl e) = ([], append-nil (round i) ∙ ap round e)
-    go (inr k) = on (round_begins n i (omega (arith, k)))
+round_begins (suc n) i h = end_or n i (eq-or-lt_of_le h) (λ k. round_begins n i k)
 
 -- in the middle of a round
 pub begins_in_round : (n k i : ℕ) (ts : List ℕ) → i ≤ n → Begins ((ts ++ rounds n k) ++ round i) ts n

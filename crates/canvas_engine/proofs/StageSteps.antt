@@ -14,8 +14,9 @@ use Rattle.canvas_backend.specs.Plain.{Shelf, held}
 use Rattle.canvas_backend.specs.Roster.{Roster, roster_of, members}
 use Rattle.canvas_runs.specs.Book.{Book, book_on, book_of}
 use Rattle.canvas_runs.specs.Core.{Ask, Reply, take, send, keep, part, read, pause, end, taken, sent, kept, counted, found, rested, State, taking, resting, over, failed, owning, doing, reading, ask, answered, left_after, Suits, ReadsBack, IsCoreRun}
-use Rattle.canvas_runs.specs.Lists.{by}
-use Rattle.canvas_runs.specs.Turns.{Step, Turned, Answers, HasEnded, left, queue_after, queue_next, results_after, results_next, holds_more, some_inside, is_queued, is_inside as is_worker_inside}
+use Rattle.canvas_runs.specs.Lists.{Each, by}
+use Rattle.canvas_runs.specs.TurnLaws.{ByTurns}
+use Rattle.canvas_runs.specs.Turns.{Step, IsWorker, Turned, Answers, HasEnded, left, queue_after, queue_next, results_after, results_next, holds_more, some_inside, is_queued, is_inside as is_worker_inside}
 use Rattle.canvas_runs.specs.Worker.{worker}
 use Rattle.canvas_runs.proofs.Turning.{by_more, by_other, left_more, core_more, queue_more, results_more, turned_skip, turned_step}
 use Rattle.canvas_worker.specs.Asks.{Asked, Answer}
@@ -83,6 +84,10 @@ module _ (l : Line) (xs : List Step) where
       ∙ inside_from cs (suc k) (λ i d e. h (suc i) d e ∙ ap (λ m. is_worker_inside (left l xs (suc m))) (omega arith))
       ∙ ap (λ m. some_inside l m xs) (omega arith)
 
+each_more : {n : ℕ} (us : List ℕ) (p : ℕ) → Each (IsWorker n) us → IsWorker n p → Each (IsWorker n) (us ++ p ∷ [])
+each_more [] p a w = (w, tt)
+each_more (u ∷ us) p a w = (a.0, each_more us p a.1 w)
+
 -- ---- the worker that a core stands for
 
 module _ (l : Line) (n most : ℕ) (us : List ℕ) (xs : List Step) (s : Stage) (reached : Reached l n most us xs s) where
@@ -92,7 +97,7 @@ module _ (l : Line) (n most : ℕ) (us : List ℕ) (xs : List Step) (s : Stage) 
   pub more_is : (is_queued s.queue || list_any (λ c. is_inside c.left) s.cores.items) ≡ holds_more l n xs
   more_is =
       let one : (i : ℕ) (c : Standing) → slice_get s.cores.items i ≡ Some c → is_inside c.left ≡ is_worker_inside (left l xs (suc (0 + i))) = λ i c e.
-          ap is_inside (reached.cores_are i c e).0 ∙ inside_alike _ _ (together (suc i)).1.alike in
+          ap is_inside (reached.cores_are i c e).0 ∙ inside_alike _ _ (together (suc i)).1.alike ∙ ap (λ m. is_worker_inside (left l xs (suc m))) (omega arith) in
       ap (λ q. is_queued q || list_any (λ c. is_inside c.left) s.cores.items) reached.queue_is
       ∙ ap (λ b. is_queued (queue_after l xs) || b) (sym (or_none (list_any (λ c. is_inside c.left) s.cores.items)) ∙ inside_from l xs s.cores.items 0 one ∙ ap (λ m. some_inside l m xs) reached.many)
 
@@ -123,15 +128,16 @@ module _ (l : Line) (n most : ℕ) (us : List ℕ) (xs : List Step) (s : Stage) 
 
       pub turned_so : (r : Answer) → ReadsBack (enveloped_by no_book) c.left → AnswersNow s.table.plan s.queue (held s.table) more (asked c.left) r
           → Turned l n [] (us ++ suc i ∷ []) (xs ++ (suc i, (asked c.left, r)) ∷ [])
-      turned_so r back h = turned_step l n us xs (suc i) (asked c.left) r reached.turned (worker_back back) (same_ask back) (answered_so r h)
+      turned_so r back h = turned_step l n us xs (suc i) (asked c.left) r reached.by_turns.turned (worker_back back) (same_ask back) (answered_so r h)
 
       -- the cores are as they were, but for the one
       abbrev pub IsPut : List Standing → Standing → List Standing → Type 0
       IsPut old d new = (length new ≡ length old) × ((j : ℕ) (e : Standing) → slice_get new j ≡ Some e → ((j ≡ i) × (e ≡ d)) ⊎ ((j ≢ i) × (slice_get old j ≡ Some e)))
 
-      pub stepped : (s' : Stage) (c' : Standing) → IsPlan l → Stepped more c s.queue s.table c' s'.queue s'.table → IsPut s.cores.items c' s'.cores.items → s.steps ≡ suc s'.steps
+      pub stepped : (s' : Stage) (c' : Standing) → IsWorker n (suc i) → Stepped more c s.queue s.table c' s'.queue s'.table → IsPut s.cores.items c' s'.cores.items → s.steps ≡ suc s'.steps
           → IsTurn true l n most us xs (suc i) s'
-      stepped s' c' plan step put fewer =
+      stepped s' c' worker step put fewer =
+          let plan = reached.by_turns.plan in
           let p = suc i in
           let a = asked c.left in
           let r = step.reply in
@@ -151,8 +157,12 @@ module _ (l : Line) (n most : ℕ) (us : List ℕ) (xs : List Step) (s : Stage) 
               ∙ sym (ap (left_after X taking) (by_more p xs (a, r)) ∙ left_more X taking (by p xs) (a, r)) in
           let in_new : c'.is_out ≡ false = ap (λ d. d.is_out) step.core in
           ((a, r), record {
-            opens = reached.opens;
-            turned = turned_so r step.reads_back step.answers;
+            by_turns = record {
+              plan = plan;
+              opens_back = reached.by_turns.opens_back;
+              workers = each_more us p reached.by_turns.workers worker;
+              turned = turned_so r step.reads_back step.answers;
+            };
             runs = λ q. runs_now q a r mine;
             queue_is = step.queue_is ∙ ap (λ q. queue_next q a) reached.queue_is ∙ sym (queue_more _ xs x);
             plan_is = step.plan_is ∙ reached.plan_is;

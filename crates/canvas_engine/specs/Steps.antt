@@ -1,18 +1,19 @@
 -- Where a run on one thread stands, and what one ask of one of its workers changes.
-use Rattle.std.specs.Prelude.{◌≡◌, ◌≤◌, ◌<◌, ◌+◌, ◌⊎◌, ℕ, Bool, true, false, suc, IsTrue, All, List, [], ◌∷◌, ◌++◌, length, Option, Some, None, slice_get}
+use Rattle.std.specs.Prelude.{◌≡◌, ◌≤◌, ◌<◌, ◌+◌, ◌⊎◌, ℕ, Bool, true, false, suc, IsTrue, All, List, [], ◌∷◌, ◌++◌, length, Option, Some, None, Ok, slice_get}
 use Rattle.canvas_task.specs.Apply.{IsInRange}
 use Rattle.canvas_task.specs.declared.outcome.Outcome.{Outcome}
 use Rattle.canvas_rewrite.specs.Frozen.{Line}
-use Rattle.canvas_message.specs.Effects.{first_messages}
 use Rattle.canvas_message.specs.declared.envelope.Envelope.{Envelope}
 use Rattle.canvas_backend.specs.Backend.{Results, no_results, first_or, count_of}
 use Rattle.canvas_backend.specs.Plain.{Shelf, held}
 use Rattle.canvas_backend.specs.Roster.{Roster, roster_of, members, is_chord, is_member}
 use Rattle.canvas_broker.specs.Broker as broker
 use Rattle.canvas_runs.specs.Core.{take, send, keep, part, read, pause, end, taken, sent, kept, counted, found, rested, taking, left_after, ReadsBack, IsCoreRun}
-use Rattle.canvas_runs.specs.Lists.{Each, by, at}
+use Rattle.canvas_runs.specs.Lists.{by, at}
 use Rattle.canvas_runs.specs.Turns.{Step, Turned, HasEnded, IsWorker, AllEnded, Begins, round, rounds, queue_after, queue_next, results_after, results_next, says_first}
-use Rattle.canvas_runs.specs.Worker.{worker}
+use Rattle.canvas_runs.specs.TurnLaws.{ByTurns}
+use Rattle.canvas_runs.specs.Worker.{reading, sealed}
+use Rattle.canvas_message.specs.Content.{Content}
 use Rattle.canvas_worker.specs.Asks.{Asked, Answer}
 use Rattle.canvas_worker.specs.Books.{no_book, book_in}
 use Rattle.canvas_worker.specs.Enveloped.{enveloped, enveloped_by}
@@ -37,7 +38,7 @@ AnswersNow plan queue results more a r = ⊥
 abbrev pub MayAsk : Roster → Results → Asked → Type 0
 MayAsk plan results (keep t o) = t ≤ plan.tasks
 MayAsk plan results (part g t) = IsTrue (is_chord plan g) × IsTrue (is_member plan g t) × ((results.outcomes t ≡ None → ⊥) × (results.returned t ≡ false))
-MayAsk plan results (read g i) = i < length (members plan g)
+MayAsk plan results (read g i) = (t : ℕ) × (at i (members plan g) ≡ Some t) × (t ≤ plan.tasks)
 MayAsk plan results a = Unit {0}
 
 -- each outcome that is stored has its number in range
@@ -70,11 +71,9 @@ IsTried more c queue table table' = (table'.plan ≡ table.plan) × ((held table
 abbrev pub IsCoreAt : Line → List Step → ℕ → Standing → Type 0
 IsCoreAt l xs p c = (c.left ≡ left_after (enveloped (roster_of l)) taking (by p xs)) × (c.is_out ≡ false)
 
--- After these turns and steps of at most so many. An envelope of a first message reads back as the message.
+-- after these turns, which made these steps of at most so many
 pub record Reached (l : Line) (n most : ℕ) (us : List ℕ) (xs : List Step) (s : Stage) : Type 0 where
-  pub opens : Each (worker l).Back (first_messages l)
-  pub are : All (IsWorker n) us
-  pub turned : Turned l n [] us xs
+  pub by_turns : ByTurns l n us xs
   pub runs : (p : ℕ) → IsCoreRun (enveloped (roster_of l)) taking (by p xs)
   pub queue_is : s.queue ≡ queue_after l xs
   pub plan_is : s.table.plan ≡ roster_of l
@@ -98,9 +97,7 @@ IsTurn false l n most us xs p s = HasEnded l xs p × Reached l n most (us ++ p �
 pub record IsHalfway (l : Line) (n : ℕ) (s : Stage) : Type 0 where
   pub turns : List ℕ
   pub steps : List Step
-  pub opens : Each (worker l).Back (first_messages l)
-  pub are : All (IsWorker n) turns
-  pub turned : Turned l n [] turns steps
+  pub by_turns : ByTurns l n turns steps
   pub plan_is : s.table.plan ≡ roster_of l
   pub table_is : held s.table ≡ results_after steps
 
@@ -138,6 +135,10 @@ pub record IsDone (l : Line) (n most : ℕ) (turns : List ℕ) (s : Stage) : Typ
   pub steps : List Step
   pub reached : Reached l n most (turns ++ rounds n further) steps s
   pub ended : AllEnded l n steps
+
+-- the envelope of a message reads back as the message
+abbrev pub ReadsAs : Content → Type 0
+ReadsAs c = reading (sealed c) ≡ Ok c
 
 -- cores that have done nothing yet
 abbrev pub AreNew : List Standing → Type 0

@@ -1,5 +1,5 @@
 //! The workers of a run on one thread, with the queue and the table of results that they share.
-ghost use Rattle.std.specs.Prelude.{◌≡◌, ◌≤◌, ◌+◌, ℕ, Bool, Some, false, true, not, ◌||◌, [], List, map, length, IfOk, IfErr, OnOk, OnErr, IsTrue, slice_get};
+ghost use Rattle.std.specs.Prelude.{◌≡◌, ◌≤◌, ◌+◌, ◌++◌, ◌∷◌, ℕ, Bool, Some, false, true, not, ◌||◌, [], List, map, length, IfOk, IfErr, OnOk, OnErr, IsTrue, slice_get};
 ghost use Rattle.std.specs.List.{list_any};
 ghost use Rattle.canvas_rewrite.specs.Frozen.{count_line};
 ghost use Rattle.canvas_rewrite.specs.Planned.{IsPlan};
@@ -7,20 +7,23 @@ ghost use Rattle.canvas_message.specs.Effects.{first_messages};
 ghost use Rattle.canvas_backend.specs.Backend.{no_results};
 ghost use Rattle.canvas_backend.specs.Plain.{held};
 ghost use Rattle.canvas_backend.specs.Roster.{roster_of};
-ghost use Rattle.canvas_runs.specs.Core.{end};
+ghost use Rattle.canvas_runs.specs.Core.{end, ReadsBack};
 ghost use Rattle.canvas_runs.specs.Lists.{Each};
-ghost use Rattle.canvas_runs.specs.Turns.{Step, IsWorker, is_queued};
-ghost use Rattle.canvas_runs.specs.Worker.{worker, sealed};
+ghost use Rattle.canvas_message.specs.declared.envelope.Envelope.{Envelope};
+ghost use Rattle.canvas_runs.specs.Turns.{Step, IsWorker, FirstsRead, is_queued};
+ghost use Rattle.canvas_runs.specs.Worker.{sealed};
 ghost use Rattle.canvas_worker.specs.Asks.{shown};
+ghost use Rattle.canvas_worker.specs.Books.{no_book};
+ghost use Rattle.canvas_worker.specs.Enveloped.{enveloped_by};
 ghost use Rattle.canvas_worker.specs.Standing.{Standing, asked, is_inside};
 ghost use Rattle.canvas_worker.specs.declared.ask.Ask.TheVariants as ask;
 ghost use Rattle.canvas_engine.specs.Correct.{rows_of};
-ghost use Rattle.canvas_engine.specs.Steps.{MayAsk, AreInRange, Stepped, IsTried, AreNew, Reached, HasReached, IsTurn, IsHalt, IsNew};
+ghost use Rattle.canvas_engine.specs.Steps.{MayAsk, AreInRange, Stepped, IsTried, ReadsAs, AreNew, Reached, HasReached, IsTurn, IsHalt, IsNew};
 
 use crate::Cause;
 use canvas_backend::PlainBackend;
 use canvas_broker::PlainBroker;
-use canvas_message::{encode, first_messages};
+use canvas_message::{Message, encode, first_messages};
 use canvas_rewrite::Plan;
 use canvas_task::{GroupNo, Memory, Outcome, TaskNo};
 use canvas_worker::{Ask, Core, Reply};
@@ -34,6 +37,7 @@ fn publish(
     table: &PlainBackend,
 ) -> Result<(), Memory>
     requires inside { core.old.is_out ≡ false }
+    requires reads_back { ReadsBack (enveloped_by no_book) core.old.left }
     requires asks { shown (asked core.old.left) ≡ ask.Publish }
     ensures { OnOk result ((more : Bool) → Stepped more core.old queue.old table.now core.new queue.new table.now) }
 {
@@ -55,6 +59,7 @@ fn read(
     place: u32,
 ) -> Result<(), Memory>
     requires inside { core.old.is_out ≡ false }
+    requires reads_back { ReadsBack (enveloped_by no_book) core.old.left }
     requires asks { shown (asked core.old.left) ≡ ask.Read group place }
     requires may { MayAsk table.now.plan (held table.now) (asked core.old.left) }
     requires in_range { AreInRange (held table.now) }
@@ -96,6 +101,41 @@ fn step(
         Ask::Rest => core.answer(alloc, table, Reply::Rested { more }),
         Ask::End => Ok(()),
     }
+}
+
+fn publish_message(
+    alloc: Global,
+    queue: &mut PlainBroker,
+    message: &Message,
+) -> Result<(), Memory>
+    ensures queue { OnOk result (queue.new ≡ queue.old ++ sealed message.now ∷ []) }
+    ensures back { OnOk result (ReadsAs message.now) }
+{
+    match encode(alloc, message) {
+        Ok(envelope) => match queue.publish(envelope) {
+            Ok(()) => Ok(()),
+            Err(_refused) => Err(Memory),
+        },
+        Err(Memory) => Err(Memory),
+    }
+}
+
+/// Publishes messages in their order.
+fn publish_all(
+    alloc: Global,
+    queue: &mut PlainBroker,
+    messages: &[Message],
+) -> Result<(), Memory>
+    ensures queue { OnOk result (queue.new ≡ queue.old ++ map sealed messages.now) }
+    ensures back { OnOk result (Each ReadsAs messages.now) }
+{
+    for message in messages {
+        match publish_message(alloc, queue, message) {
+            Ok(()) => (),
+            Err(Memory) => return Err(Memory),
+        }
+    }
+    Ok(())
 }
 
 /// The workers, numbered from 1, with what they share, and how many asks may still be answered.
@@ -149,18 +189,13 @@ impl Stage {
     pub(crate) fn open(&mut self, alloc: Global, plan: &Plan) -> Result<(), Memory>
         requires { self.old.queue ≡ [] }
         ensures queue { OnOk result (self.new.queue ≡ map sealed (first_messages plan.now)) }
-        ensures back { OnOk result (Each (worker plan.now).Back (first_messages plan.now)) }
+        ensures back { OnOk result (FirstsRead plan.now) }
         ensures others { (self.new.table ≡ self.old.table) × (self.new.cores ≡ self.old.cores) × (self.new.steps ≡ self.old.steps) }
     {
-        let messages = first_messages(alloc, plan)?;
-        for message in &messages {
-            let envelope = encode(alloc, message)?;
-            match self.queue.publish(envelope) {
-                Ok(()) => (),
-                Err(_refused) => return Err(Memory),
-            }
+        match first_messages(alloc, plan) {
+            Ok(messages) => publish_all(alloc, &mut self.queue, &messages),
+            Err(Memory) => Err(Memory),
         }
-        Ok(())
     }
 
     /// Whether the queue holds something or a worker is inside a message.
@@ -194,15 +229,24 @@ impl Stage {
         }
     }
 
-    /// Fills the rows with the outcomes that are stored.
-    pub(crate) fn read_rows(&self, rows: &mut [Option<Outcome>])
-        requires { length rows.old ≡ self.now.table.plan.tasks }
-        ensures { rows.new ≡ rows_of self.now.table.plan.tasks (held self.now.table) }
+    fn row(&self, number: u32) -> Option<Outcome>
+        requires { number ≤ self.now.table.plan.tasks }
+        ensures { 1 ≤ number → result ≡ (held self.now.table).outcomes number }
     {
-        for index in 0..rows.len() {
-            if let Some(task) = TaskNo::new(index as u32 + 1) {
-                rows[index] = self.table.read(task);
-            }
+        match TaskNo::new(number) {
+            Some(task) => self.table.read(task),
+            None => None,
+        }
+    }
+
+    /// Fills the rows, one for each task, with the outcomes that are stored.
+    pub(crate) fn read_rows(&self, plan: &Plan, rows: &mut [Option<Outcome>])
+        requires plan { self.now.table.plan ≡ roster_of plan.now }
+        requires rows { length rows.old ≡ count_line plan.now }
+        ensures { rows.new ≡ rows_of (count_line plan.now) (held self.now.table) }
+    {
+        for index in 0..plan.tasks() {
+            rows[index as usize] = self.row(index + 1);
         }
     }
 }

@@ -1,11 +1,11 @@
-ghost use Rattle.std.specs.Prelude.{◌≡◌, ◌≢◌, ◌≤◌, ◌<◌, ◌×◌, ℕ, All, List, [], length, IfOk, IfErr, OnOk, OnErr};
+ghost use Rattle.std.specs.Prelude.{◌≡◌, ◌≢◌, ◌≤◌, ◌<◌, ℕ, All, List, [], length, IfOk, IfErr, OnOk, OnErr, MatchBool};
 ghost use Rattle.canvas_rewrite.specs.Frozen.{count_line, tree_of};
 ghost use Rattle.canvas_rewrite.specs.States.{states};
 ghost use Rattle.canvas_backend.specs.Backend.{no_results};
 ghost use Rattle.canvas_backend.specs.Plain.{held};
 ghost use Rattle.canvas_backend.specs.Roster.{roster_of};
 ghost use Rattle.canvas_runs.specs.Turns.{Step, IsWorker};
-ghost use Rattle.canvas_engine.specs.Correct.{AreWorkers, AreTurns, IsAsked, IsWhole, IsWholeWithin, IsRunFault, IsFaultWithin};
+ghost use Rattle.canvas_engine.specs.Correct.{AreWorkers, AreTurns, IsAsked, rows_of, IsWhole, IsWholeWithin, IsRunFault, IsFaultWithin};
 ghost use Rattle.canvas_engine.specs.Steps.{Reached, HasReached, IsNew, IsPartOfRound, IsHaltInRound, IsDone, IsEarlyEnd};
 
 use crate::stage::Stage;
@@ -103,17 +103,21 @@ fn run_stage(
 fn new_rows(alloc: Global, plan: &Plan) -> Result<Vec<Option<Outcome>>, Memory>
     ensures { IfOk result (λ rows. length rows.items ≡ count_line plan.now) }
 {
-    let rows = Vec::from_elem(alloc, None, plan.tasks() as usize)?;
-    Ok(rows)
+    let pending: Option<Outcome> = None;
+    match Vec::from_elem(alloc, pending, plan.tasks() as usize) {
+        Ok(rows) => Ok(rows),
+        Err(_) => Err(Memory),
+    }
 }
 
 /// The report of a stage, whose rows were reserved.
-fn report_of(stage: &Stage, rows: Vec<Option<Outcome>>) -> Report
-    requires { length rows.items ≡ stage.now.table.plan.tasks }
-    ensures { result.rows ≡ rows_of stage.now.table.plan.tasks (held stage.now.table) }
+fn report_of(stage: &Stage, plan: &Plan, rows: Vec<Option<Outcome>>) -> Report
+    requires plan { stage.now.table.plan ≡ roster_of plan.now }
+    requires rows { length rows.items ≡ count_line plan.now }
+    ensures { result.rows ≡ rows_of (count_line plan.now) (held stage.now.table) }
 {
     let mut rows = rows;
-    stage.read_rows(&mut rows);
+    stage.read_rows(plan, &mut rows);
     Report {
         rows: ListOf::of(rows),
     }
@@ -144,10 +148,10 @@ fn run_steps(
         });
     };
     match run_stage(alloc, &mut stage, plan, workers, turns) {
-        Ok(()) => Ok(report_of(&stage, rows)),
+        Ok(()) => Ok(report_of(&stage, plan, rows)),
         Err(cause) => Err(RunFault::Halted {
             cause,
-            rows: Some(report_of(&stage, rows)),
+            rows: Some(report_of(&stage, plan, rows)),
         }),
     }
 }
