@@ -34,7 +34,7 @@ use Rattle.canvas_runs.proofs.SecondLaw.{second_part}
 use Rattle.canvas_runs.proofs.TurnLogs.{in_round, table_calls_append}
 use Rattle.canvas_runs.proofs.TurnRuns.{Lawful, run, closed, table_log}
 use Rattle.canvas_runs.proofs.TurnStates.{Good, good_left, Ready, part_may, was_in}
-use Rattle.canvas_runs.proofs.TurnWalk.{Holds, holds_first, holds_turned}
+use Rattle.canvas_runs.proofs.TurnWalk.{Holds, ended_over, holds_first, holds_turned}
 use Rattle.canvas_runs.proofs.Words.{in_each, each_append, length-firsts}
 
 -- ---- the numbers 1 to n, again and again, are workers'
@@ -71,21 +71,8 @@ module _ (l : Line) (n : ℕ) (us : List ℕ) (xs : List Step) (t : ByTurns l n 
   abbrev pub the_run : Run l
   the_run = run l t.opens_back n xs holds.lawful
 
-  -- a worker that has ended has done so after its rest
-  ended_over : (p : ℕ) (s : Doing (worker l)) → Ready l t.plan n xs p s → ask (worker l) s ≡ end → s ≡ over
-  ended_over p taking k e = absurd cc
-  ended_over p resting k e = absurd cc
-  ended_over p over k e = refl
-  ended_over p failed k e = absurd k
-  ended_over p (owning m) k e = absurd cc
-  ended_over p (doing [] b) k e = absurd k
-  ended_over p (doing (store u o ∷ js) b) k e = absurd cc
-  ended_over p (doing (publish m ∷ js) b) k e = absurd cc
-  ended_over p (doing (hand_in g u c ∷ js) b) k e = absurd cc
-  ended_over p (reading g c fs) k e = absurd cc
-
   pub is_over : (p : ℕ) → IsWorker n p → HasEnded l xs p → left l xs p ≡ over
-  is_over p w e = ended_over p (left l xs p) (holds.ready p w) e
+  is_over p w e = ended_over l t.plan t.opens_back n xs p (left l xs p) (holds.ready p w) e
 
   pub is_empty : 1 ≤ n → AllEnded l n xs → queue_after l xs ≡ []
   is_empty some all = let w : IsWorker n 1 = (omega arith, some) in (holds.idle 1 w (is_over 1 w (all 1 w))).empty

@@ -34,7 +34,7 @@ no_takes : (es : List Envelope) → total takes_one (published_all es) ≡ 0
 no_takes [] = refl
 no_takes (e ∷ es) = let k = no_takes es in omega (arith, k)
 
-stood_all : (es : List Envelope) → Each Stood (published_all es)
+pub stood_all : (es : List Envelope) → Each Stood (published_all es)
 stood_all [] = tt
 stood_all (e ∷ es) = (tt, stood_all es)
 
@@ -210,7 +210,7 @@ module _ (l : Line) where
 
   -- ---- each worker's calls are those of its steps
 
-  call_stood : (a : Ask Envelope Outcome) (r : Reply Envelope Outcome) → Each Stood (broker_call (worker l) a r)
+  pub call_stood : (a : Ask Envelope Outcome) (r : Reply Envelope Outcome) → Each Stood (broker_call (worker l) a r)
   call_stood take (taken (Some e)) = (tt, tt)
   call_stood (send e) sent = (tt, tt)
   call_stood a r = tt

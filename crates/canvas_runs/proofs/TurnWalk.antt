@@ -114,6 +114,19 @@ module _ (l : Line) where
   ends_idle n xs s r h e = elim h [ ]
 
   module _ (plan : IsPlan l) (back : FirstsRead l) where
+    -- a worker that has ended has done so after its rest
+    pub ended_over : (n : ℕ) (xs : List Step) (p : ℕ) (s : Doing (worker l)) → Ready l plan n xs p s → ask (worker l) s ≡ end → s ≡ over
+    ended_over n xs p taking k e = absurd cc
+    ended_over n xs p resting k e = absurd cc
+    ended_over n xs p over k e = refl
+    ended_over n xs p failed k e = absurd k
+    ended_over n xs p (owning m) k e = absurd cc
+    ended_over n xs p (doing [] b) k e = absurd k
+    ended_over n xs p (doing (store u o ∷ js) b) k e = absurd cc
+    ended_over n xs p (doing (publish m ∷ js) b) k e = absurd cc
+    ended_over n xs p (doing (hand_in g u c ∷ js) b) k e = absurd cc
+    ended_over n xs p (reading g c fs) k e = absurd cc
+
     -- what holds after these steps
     pub record Holds (n : ℕ) (xs : List Step) : Type 0 where
       pub lawful : Lawful l n xs

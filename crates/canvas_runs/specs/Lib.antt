@@ -18,4 +18,5 @@ pub mod Callers
 pub mod Rows
 pub mod Turns
 pub mod TurnLaws
+pub mod Going
 pub mod Witness

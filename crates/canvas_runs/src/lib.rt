@@ -18,6 +18,7 @@ ghost use Rattle.canvas_runs.specs.Crew.{AreMates, AreRan};
 ghost use Rattle.canvas_runs.specs.Law.{FirstPart, SecondPart};
 ghost use Rattle.canvas_runs.specs.Run.{Run, Closed};
 ghost use Rattle.canvas_runs.specs.TurnLaws.{TurnsAreRuns, TurnRowsMay, TurnRowsAre, TurnsEmpty, WholeRows, NextAnswerable, HeldInRange};
+ghost use Rattle.canvas_runs.specs.Going.{FewSteps, StepsFit, RoundsGo};
 ghost use Rattle.canvas_runs.specs.Witness.{small, queue, table, lost_part};
 
 /// The law of runs. Whatever the number of workers and the order of their calls, a run of a plan stores only the outcomes that
@@ -95,4 +96,13 @@ pub fn laws_of_turns()
     ensures whole { WholeRows }
     ensures answerable { NextAnswerable }
     ensures in_range { HeldInRange }
+{}
+
+/// A run by turns ends. In rotation a round in which nobody asks for anything is the last, and of each two rounds one has a call of
+/// the queue or of the table, of which there are few: each task is published, taken, stored and its part returned at most once. So the
+/// steps are fewer than a count of 128 bits holds.
+pub fn ends_of_turns()
+    ensures few { FewSteps }
+    ensures fit { StepsFit }
+    ensures rounds { RoundsGo }
 {}
