@@ -58,3 +58,4 @@ pub mod TurnLaw
 pub mod TurnSums
 pub mod TurnRounds
 pub mod TurnEnds
+pub mod ChordTurns

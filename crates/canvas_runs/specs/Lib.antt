@@ -20,3 +20,4 @@ pub mod Turns
 pub mod TurnLaws
 pub mod Going
 pub mod Witness
+pub mod TurnWitness
