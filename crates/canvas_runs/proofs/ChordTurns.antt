@@ -1,14 +1,14 @@
 -- A chord's run by turns of two workers.
-use Rattle.std.proofs.Common.{◌≡◌, ◌≢◌, ◌∙◌, ◌⊎◌, ◌||◌, ◌≤◌, ℕ, suc, Bool, true, false, List, [], ◌∷◌, ◌++◌, Option, Some, None, refl, sym, ap, ap₂, subst, inl, inr, arith}
+use Rattle.std.proofs.Common.{◌≡◌, ◌∙◌, ◌||◌, ℕ, true, false, List, [], ◌∷◌, ◌++◌, Option, Some, None, refl, sym, ap, ap₂, subst, inl, inr, arith}
 use Rattle.std.proofs.lemmas.Bool.{cases_eq}
 use Rattle.canvas_task.specs.declared.outcome.Outcome.{Outcome}
 use Rattle.canvas_message.specs.Content.{Content}
 use Rattle.canvas_message.specs.declared.envelope.Envelope.{Envelope}
 use Rattle.canvas_runs.specs.Book.{book_of}
 use Rattle.canvas_runs.specs.Calls.{AskedAndAnswered}
-use Rattle.canvas_runs.specs.Core.{Ask, Reply, take, send, keep, part, read, pause, end, taken, sent, kept, counted, found, rested, taking, resting, over, ask, opens, answered, left_after, ReadsBack, Doing}
+use Rattle.canvas_runs.specs.Core.{Ask, Reply, take, send, keep, part, read, pause, taken, sent, kept, counted, found, rested, taking, ask, opens, left_after, ReadsBack, Doing}
 use Rattle.canvas_runs.specs.Protocol.{Protocol}
-use Rattle.canvas_runs.specs.Turns.{Step, left, is_inside, Answers, HasEnded, Turned, all_taken, skips, takes, IsWorker, AllEnded, RanWhole, FirstsRead, rounds}
+use Rattle.canvas_runs.specs.Turns.{Step, left, is_inside, Answers, HasEnded, Turned, all_taken, skips, takes, AllEnded, RanWhole, rounds}
 use Rattle.canvas_runs.specs.TurnWitness.{listed, steps, hasty}
 use Rattle.canvas_runs.specs.Witness.{small, first_sum, second_sum, whole_sum, two, four, six}
 use Rattle.canvas_runs.specs.Worker.{worker, sealed, opened}

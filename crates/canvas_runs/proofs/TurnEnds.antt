@@ -1,22 +1,21 @@
 -- A run by turns ends: it has few steps.
-use Rattle.std.proofs.Common.{◌≡◌, ◌≢◌, ◌⊎◌, ℕ, zero, suc, ◌+◌, ◌-◌, ◌*◌, ◌^◌, ◌≤◌, ◌<◌, List, [], ◌∷◌, ◌++◌, length, refl, sym, ap, ◌∙◌, subst, append_assoc, append-nil, inl, inr, ⊎_elim, arith, suc-mul, suc-add, zero-add, zero-mul, mul-le-mul_right}
+use Rattle.std.proofs.Common.{◌≡◌, ℕ, zero, suc, ◌+◌, ◌-◌, ◌*◌, ◌^◌, ◌≤◌, ◌<◌, List, [], ◌∷◌, ◌++◌, length, refl, sym, ap, ◌∙◌, subst, append_assoc, append-nil, ⊎_elim, arith, suc-mul, suc-add, zero-add, zero-mul, mul-le-mul_right}
 use Rattle.std.proofs.lemmas.Nat.{mul-le}
 use Rattle.std.proofs.lemmas.Bool.{cases_lt}
 use Rattle.std.proofs.lemmas.List.{length-append}
 use Rattle.canvas_rewrite.specs.Frozen.{Line, count_line}
-use Rattle.canvas_runs.specs.Core.{ask, end}
+use Rattle.canvas_rewrite.specs.Planned.{IsPlan}
 use Rattle.canvas_runs.specs.Going.{most_calls, most_steps}
 use Rattle.canvas_runs.specs.Lists.{Each}
 use Rattle.canvas_runs.specs.TurnLaws.{ByTurns}
-use Rattle.canvas_runs.specs.Turns.{Step, IsWorker, HasEnded, Turned, all_taken, skips, takes, AllEnded, round, rounds, Begins}
+use Rattle.canvas_runs.specs.Turns.{Step, IsWorker, HasEnded, Turned, skips, AllEnded, round, rounds, Begins, RanUntil}
 use Rattle.canvas_runs.proofs.Sums.{total-append}
-use Rattle.canvas_runs.proofs.TurnLaw.{holds}
-use Rattle.canvas_runs.proofs.TurnLogs.{round_has}
-use Rattle.canvas_runs.proofs.TurnRounds.{pair, pairs, pairs_go, none_further, each_round}
+use Rattle.canvas_runs.proofs.TurnLaw.{until_turns}
+use Rattle.canvas_runs.proofs.TurnRounds.{pairs, pairs_go, none_further, each_round}
 use Rattle.canvas_runs.proofs.TurnSums.{calls_of, calls_in, few_calls}
 use Rattle.canvas_runs.proofs.TurnWalk.{holds_first, holds_turned}
 use Rattle.canvas_runs.proofs.Turning.{turned_part, few_steps}
-use Rattle.canvas_runs.proofs.Words.{each_append, each_left, each_right}
+use Rattle.canvas_runs.proofs.Words.{each_left, each_right}
 
 -- ---- lists
 
@@ -116,6 +115,9 @@ module _ (l : Line) (n : ℕ) (us : List ℕ) (xs : List Step) (t : ByTurns l n 
       let same = whole_length ts in
       ⊎_elim (λ short. let a = few_steps l n [] us xs t.turned in omega (arith, a, short, same))
       (λ long. let m = more_turns ts rest k e long in let a = all_done ts m.0 m.1 in omega (arith, a, same)) (cases_lt (length us) (length (whole ts)))
+
+pub stops_soon : (l : Line) → IsPlan l → (n : ℕ) (ts : List ℕ) (most : ℕ) → 1 ≤ n → Each (IsWorker n) ts → RanUntil l n ts most → most ≤ most_steps l n (length ts)
+stops_soon l plan n ts most some w r = let a = few l n r.turns r.steps (until_turns l plan n ts most w r) some ts r.begin in omega (arith, a, r.many)
 
 pub steps_fit : (l : Line) (n k : ℕ) → count_line l < 2 ^ 32 → n ≤ 16 → k < 2 ^ 64 → most_steps l n k < 2 ^ 127
 steps_fit l n k tasks workers listed =

@@ -1,7 +1,6 @@
 -- Of each two rounds one has a call, until all have ended.
-use Rattle.std.proofs.Common.{◌≡◌, ◌≢◌, ◌⊎◌, ℕ, zero, suc, ◌+◌, ◌*◌, ◌≤◌, ◌<◌, ◌||◌, Bool, true, false, cond, eqb, List, [], ◌∷◌, ◌++◌, length, Option, Some, None, refl, sym, ap, ◌∙◌, subst, append_assoc, append-nil, inl, inr, ⊎_elim, ne_eqb, eq-eqb, arith, suc-mul}
-use Rattle.std.proofs.lemmas.Bool.{cases_eq, cases_Bool, false≢true}
-use Rattle.std.proofs.lemmas.List.{length-append}
+use Rattle.std.proofs.Common.{◌≡◌, ◌≢◌, ◌⊎◌, ℕ, zero, suc, ◌+◌, ◌≤◌, ◌||◌, Bool, true, false, cond, eqb, List, [], ◌∷◌, ◌++◌, Some, None, refl, sym, ap, ◌∙◌, subst, append_assoc, append-nil, inl, inr, ⊎_elim, ne_eqb, eq-eqb, arith}
+use Rattle.std.proofs.lemmas.Bool.{cases_eq, false≢true}
 use Rattle.canvas_task.specs.declared.outcome.Outcome.{Outcome}
 use Rattle.canvas_task.proofs.Histories.{In, in_cases}
 use Rattle.canvas_rewrite.specs.Frozen.{Line}
@@ -9,9 +8,9 @@ use Rattle.canvas_rewrite.specs.Planned.{IsPlan}
 use Rattle.canvas_message.specs.Job.{store, publish, hand_in}
 use Rattle.canvas_message.specs.declared.envelope.Envelope.{Envelope}
 use Rattle.canvas_broker.specs.Broker as broker
-use Rattle.canvas_runs.specs.Core.{Ask, Reply, take, send, keep, part, read, pause, end, taken, sent, refused, kept, counted, found, rested, taking, resting, over, failed, owning, doing, reading, ask, answered, Doing}
+use Rattle.canvas_runs.specs.Core.{Ask, Reply, end, taken, sent, kept, counted, found, rested, taking, resting, over, failed, owning, doing, reading, ask, answered, Doing}
 use Rattle.canvas_runs.specs.Lists.{Each, total}
-use Rattle.canvas_runs.specs.Turns.{Step, is_inside, is_queued, queue_next, queue_after, left, IsWorker, Answers, FirstsRead, some_inside, holds_more, HasEnded, Turned, all_taken, skips, takes, AllEnded, round, rounds}
+use Rattle.canvas_runs.specs.Turns.{Step, is_inside, is_queued, queue_next, queue_after, left, IsWorker, Answers, FirstsRead, some_inside, holds_more, HasEnded, Turned, all_taken, skips, takes, AllEnded, round}
 use Rattle.canvas_runs.specs.Worker.{worker, sealed}
 use Rattle.canvas_message.specs.Effects.{first_messages}
 use Rattle.std.specs.Prelude.{map}
@@ -21,7 +20,7 @@ use Rattle.canvas_runs.proofs.TurnLogs.{round_has}
 use Rattle.canvas_runs.proofs.TurnStates.{Ready}
 use Rattle.canvas_runs.proofs.TurnSums.{calls_of, calls_in}
 use Rattle.canvas_runs.proofs.TurnWalk.{Idle, Holds, ended_over, holds_step, holds_turned, idle_more, idle_stays}
-use Rattle.canvas_runs.proofs.Turning.{Parted, turned_part, few_steps, queue_more, left_here, left_other}
+use Rattle.canvas_runs.proofs.Turning.{turned_part, queue_more, left_here, left_other}
 use Rattle.canvas_runs.proofs.Words.{each_append, each_left, each_weaker}
 
 -- how often the worker has a turn

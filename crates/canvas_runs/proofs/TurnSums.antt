@@ -1,5 +1,5 @@
 -- The steps of a run by turns that are calls are few.
-use Rattle.std.proofs.Common.{◌≡◌, ◌≢◌, ◌⊎◌, ℕ, zero, suc, ◌+◌, ◌*◌, ◌≤◌, ◌<◌, Bool, true, false, cond, eqb, List, [], ◌∷◌, ◌++◌, length, map, Option, Some, None, refl, sym, ap, ap₂, ◌∙◌, subst, inl, inr, ⊎_elim, ne_eqb, eq-eqb, arith, add-mul, mul-add, mul-le-mul_left, mul-suc}
+use Rattle.std.proofs.Common.{◌≡◌, ◌≢◌, ℕ, zero, suc, ◌+◌, ◌*◌, ◌≤◌, ◌<◌, Bool, true, false, cond, eqb, List, [], ◌∷◌, ◌++◌, length, Option, Some, None, refl, sym, ap, ap₂, ◌∙◌, subst, inl, inr, ⊎_elim, eq-eqb, arith, add-mul, mul-add, mul-le-mul_left}
 use Rattle.std.proofs.lemmas.Bool.{cases_eq, eqb-true}
 use Rattle.std.proofs.lemmas.List.{length-append}
 use Rattle.canvas_task.specs.declared.outcome.Outcome.{Outcome}
@@ -13,19 +13,18 @@ use Rattle.canvas_message.specs.Job.{store, publish, hand_in}
 use Rattle.canvas_message.specs.declared.envelope.Envelope.{Envelope}
 use Rattle.canvas_backend.proofs.HistoryLaws.{member_test}
 use Rattle.canvas_backend.proofs.Rosters.{roster_sound}
-use Rattle.canvas_backend.specs.Roster.{roster_of}
 use Rattle.canvas_runs.specs.Accounts.{splits_of, entries, rows}
 use Rattle.canvas_runs.specs.Book.{book_of}
-use Rattle.canvas_runs.specs.Calls.{BrokerCall, published, took, BackendCall, stored, returned, has_read, broker_call, backend_call, broker_calls, backend_calls, takes_one, AskedAndAnswered, reads_member, ReadsMembers}
-use Rattle.canvas_runs.specs.Core.{Ask, Reply, take, send, keep, part, read, pause, end, taken, sent, refused, kept, counted, found, rested, taking, resting, over, failed, owning, doing, reading, ask, answered, Doing, Jobs, settled, opens, IsCoreRun}
+use Rattle.canvas_runs.specs.Calls.{BrokerCall, published, took, BackendCall, stored, returned, has_read, broker_call, backend_call, backend_calls, takes_one, AskedAndAnswered, reads_member, ReadsMembers}
+use Rattle.canvas_runs.specs.Core.{Ask, Reply, keep, part, read, taken, sent, kept, counted, found, rested, taking, resting, owning, doing, reading, ask, answered, Doing, Jobs, settled, opens, IsCoreRun}
 use Rattle.canvas_runs.specs.Going.{most_calls}
 use Rattle.canvas_runs.specs.Law.{of_task, publishes_one}
-use Rattle.canvas_runs.specs.Lists.{Each, by, at, total, seconds, firsts}
+use Rattle.canvas_runs.specs.Lists.{Each, by, at, total, seconds}
 use Rattle.canvas_runs.specs.Logs.{queue_calls, table_calls}
 use Rattle.canvas_runs.specs.Run.{Run, published_all}
 use Rattle.canvas_runs.specs.Tally.{publishing, returning}
 use Rattle.canvas_runs.specs.TurnLaws.{ByTurns}
-use Rattle.canvas_runs.specs.Turns.{Step, IsWorker, round}
+use Rattle.canvas_runs.specs.Turns.{Step, round}
 use Rattle.canvas_runs.specs.Worker.{worker, opened}
 use Rattle.canvas_runs.proofs.Facts.{X, form, Does, order, value, once, keeping}
 use Rattle.canvas_runs.proofs.FirstLaw.{first_part, inner_run, stored_right, has_state}
@@ -37,7 +36,7 @@ use Rattle.canvas_runs.proofs.Replay.{IsQueue}
 use Rattle.canvas_runs.proofs.Right.{right_goods, right_closed, answers_right, publishes_right, IsRunSealed}
 use Rattle.canvas_runs.proofs.RowRanges.{state_task}
 use Rattle.canvas_runs.proofs.StoredOnce.{stores_task, kept_once}
-use Rattle.canvas_runs.proofs.Sums.{total-append, sum_to, sum_to-le, sum_to-both, sum_to-same, total_by, total-le, find_heavy}
+use Rattle.canvas_runs.proofs.Sums.{total-append, sum_to, sum_to-le, sum_to-both, total_by, find_heavy}
 use Rattle.canvas_runs.proofs.Tables.{part_of, part_once}
 use Rattle.canvas_runs.proofs.TurnLaw.{holds, the_run}
 use Rattle.canvas_runs.proofs.TurnLogs.{tag, queue_calls_append, queue_calls_splits, queue_calls_entries, table_calls_append, table_calls_splits, table_calls_rows}

@@ -1,7 +1,9 @@
 -- How many steps a run by turns takes at most.
-use Rattle.std.specs.Prelude.{ℕ, suc, ◌≡◌, ◌≤◌, ◌<◌, ◌+◌, ◌*◌, ◌^◌, List, [], length}
+use Rattle.std.specs.Prelude.{ℕ, suc, ◌≤◌, ◌<◌, ◌+◌, ◌*◌, ◌^◌, List, [], length}
 use Rattle.canvas_rewrite.specs.Frozen.{Line, count_line}
-use Rattle.canvas_runs.specs.Turns.{Step, Begins, Turned, AllEnded, round}
+use Rattle.canvas_rewrite.specs.Planned.{IsPlan}
+use Rattle.canvas_runs.specs.Lists.{Each}
+use Rattle.canvas_runs.specs.Turns.{Step, Begins, Turned, AllEnded, round, IsWorker, RanUntil}
 use Rattle.canvas_runs.specs.TurnLaws.{ByTurns}
 
 -- The steps that are calls: each task is published, taken and stored at most once, and its part returned at most once. A part completes a header at most,
@@ -15,6 +17,10 @@ most_steps l n k = k + 2 * suc (most_calls l) * n
 
 abbrev pub FewSteps : Type 0
 FewSteps = (l : Line) (n : ℕ) (ts us : List ℕ) (xs : List Step) → 1 ≤ n → ByTurns l n us xs → Begins us ts n → length xs ≤ most_steps l n (length ts)
+
+-- so a run that stops at a number of steps with a worker going on stops at one that is no greater
+abbrev pub StopsSoon : Type 0
+StopsSoon = (l : Line) → IsPlan l → (n : ℕ) (ts : List ℕ) (most : ℕ) → 1 ≤ n → Each (IsWorker n) ts → RanUntil l n ts most → most ≤ most_steps l n (length ts)
 
 -- fewer than a count of 128 bits holds
 abbrev pub StepsFit : Type 0

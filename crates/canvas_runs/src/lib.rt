@@ -17,8 +17,8 @@ ghost use Rattle.canvas_runs.specs.StepLaws.{Rests, CallFirst, HeldFirst, BatchF
 ghost use Rattle.canvas_runs.specs.Crew.{AreMates, AreRan};
 ghost use Rattle.canvas_runs.specs.Law.{FirstPart, SecondPart};
 ghost use Rattle.canvas_runs.specs.Run.{Run, Closed};
-ghost use Rattle.canvas_runs.specs.TurnLaws.{TurnsAreRuns, TurnRowsMay, TurnRowsAre, TurnsEmpty, WholeRows, NextAnswerable, HeldInRange};
-ghost use Rattle.canvas_runs.specs.Going.{FewSteps, StepsFit, RoundsGo};
+ghost use Rattle.canvas_runs.specs.TurnLaws.{TurnsAreRuns, TurnRowsMay, TurnRowsAre, TurnsEmpty, TurnStatesMay, TurnStatesAre, WholeTurns, UntilTurns, NextAnswerable, HeldInRange};
+ghost use Rattle.canvas_runs.specs.Going.{FewSteps, StopsSoon, StepsFit, RoundsGo};
 ghost use Rattle.canvas_runs.specs.Turns.{Turned, RanWhole};
 ghost use Rattle.canvas_runs.specs.TurnWitness.{listed, steps, hasty};
 ghost use Rattle.canvas_runs.specs.Witness.{small, queue, table, lost_part};
@@ -95,7 +95,10 @@ pub fn laws_of_turns()
     ensures rows_may { TurnRowsMay }
     ensures rows_are { TurnRowsAre }
     ensures emptied { TurnsEmpty }
-    ensures whole { WholeRows }
+    ensures states_may { TurnStatesMay }
+    ensures states_are { TurnStatesAre }
+    ensures whole { WholeTurns }
+    ensures until { UntilTurns }
     ensures answerable { NextAnswerable }
     ensures in_range { HeldInRange }
 {}
@@ -105,6 +108,7 @@ pub fn laws_of_turns()
 /// steps are fewer than a count of 128 bits holds.
 pub fn ends_of_turns()
     ensures few { FewSteps }
+    ensures stops { StopsSoon }
     ensures fit { StepsFit }
     ensures rounds { RoundsGo }
 {}
