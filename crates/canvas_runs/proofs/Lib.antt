@@ -55,3 +55,7 @@ pub mod TurnStates
 pub mod TurnWalk
 pub mod RowRanges
 pub mod TurnLaw
+pub mod TurnSums
+pub mod TurnRounds
+pub mod TurnEnds
+pub mod ChordTurns

@@ -1,29 +1,28 @@
 -- The laws of runs by turns.
-use Rattle.std.proofs.Common.{◌≡◌, ◌≢◌, ◌⊎◌, ℕ, zero, suc, ◌+◌, ◌≤◌, ◌<◌, Bool, true, false, cond, eqb, List, [], ◌∷◌, ◌++◌, length, Option, Some, None, IsTrue, count_by, refl, sym, ap, ◌∙◌, subst, append-nil, inl, inr, ⊎_elim, ne_eqb, arith}
+use Rattle.std.proofs.Common.{◌≡◌, ◌≢◌, ◌⊎◌, ℕ, zero, suc, ◌+◌, ◌≤◌, ◌<◌, true, cond, List, [], ◌∷◌, length, map, Option, Some, None, refl, sym, ap, ap₂, ◌∙◌, subst, inl, inr, ⊎_elim, ne_eqb, arith}
 use Rattle.std.proofs.lemmas.Bool.{cases_eq, cases_Bool, false≢true, eq-eqb, le-leb, leb-true}
 use Rattle.std.proofs.lemmas.List.{length-append}
 use Rattle.std.specs.Prelude.{leb}
 use Rattle.canvas_task.specs.Apply.{IsInRange}
 use Rattle.canvas_task.specs.declared.outcome.Outcome.{Outcome}
 use Rattle.canvas_rewrite.specs.Eval as eval
-use Rattle.canvas_rewrite.specs.Frozen.{Line}
+use Rattle.canvas_rewrite.specs.Frozen.{Line, count_line, tree_of}
+use Rattle.canvas_rewrite.specs.States.{states, numbers_from}
+use Rattle.canvas_rewrite.proofs.Numbered.{count_elements}
 use Rattle.canvas_rewrite.specs.Planned.{IsPlan}
 use Rattle.canvas_message.specs.Events.{In}
-use Rattle.canvas_message.specs.Effects.{first_messages}
 use Rattle.canvas_message.specs.Job.{store, publish, hand_in}
 use Rattle.canvas_backend.proofs.HistoryLaws.{member_test}
 use Rattle.canvas_backend.proofs.Rosters.{roster_sound}
-use Rattle.canvas_backend.specs.Backend as results
-use Rattle.canvas_backend.specs.Backend.{no_results}
-use Rattle.canvas_backend.specs.Roster.{Roster, roster_of, members, is_chord, is_member, times}
-use Rattle.canvas_runs.specs.Core.{Ask, take, send, keep, part, read, pause, end, taking, resting, over, failed, owning, doing, reading, ask, left_after, Between, Doing}
+use Rattle.canvas_backend.specs.Roster.{roster_of, members}
+use Rattle.canvas_runs.specs.Core.{taking, resting, over, failed, owning, doing, reading, ask, left_after, Between, Doing}
 use Rattle.canvas_runs.specs.Law.{its_state}
 use Rattle.canvas_runs.specs.Lists.{Each, by, at, firsts}
+use Rattle.canvas_runs.specs.Rows.{EachMay}
 use Rattle.canvas_runs.specs.Run.{Run, Closed}
-use Rattle.canvas_runs.specs.TurnLaws.{ByTurns, RunOf, Answerable}
-use Rattle.canvas_runs.specs.Turns.{Step, results_after, IsWorker, FirstsRead, queue_after, left, Turned, HasEnded, AllEnded, RanWhole, round, rounds}
+use Rattle.canvas_runs.specs.TurnLaws.{ByTurns, RunOf, Answerable, held_rows}
+use Rattle.canvas_runs.specs.Turns.{Step, results_after, IsWorker, queue_after, left, HasEnded, AllEnded, RanWhole, RanUntil, round, rounds}
 use Rattle.canvas_runs.specs.Worker.{worker}
-use Rattle.canvas_runs.proofs.Bridges.{stored_stays, store_in}
 use Rattle.canvas_runs.proofs.Facts.{X, form, Does, order, value}
 use Rattle.canvas_runs.proofs.Finish.{at_in}
 use Rattle.canvas_runs.proofs.FirstLaw.{first_part, has_state}
@@ -31,11 +30,10 @@ use Rattle.canvas_runs.proofs.Knowing.{found as among_members}
 use Rattle.canvas_runs.proofs.Right.{right_closed}
 use Rattle.canvas_runs.proofs.RowRanges.{state_range, state_task}
 use Rattle.canvas_runs.proofs.SecondLaw.{second_part}
-use Rattle.canvas_runs.proofs.TurnLogs.{in_round, table_calls_append}
-use Rattle.canvas_runs.proofs.TurnRuns.{Lawful, run, closed, table_log}
+use Rattle.canvas_runs.proofs.TurnRuns.{run, closed, table_log}
 use Rattle.canvas_runs.proofs.TurnStates.{Good, good_left, Ready, part_may, was_in}
-use Rattle.canvas_runs.proofs.TurnWalk.{Holds, holds_first, holds_turned}
-use Rattle.canvas_runs.proofs.Words.{in_each, each_append, length-firsts}
+use Rattle.canvas_runs.proofs.TurnWalk.{Holds, ended_over, holds_first, holds_turned}
+use Rattle.canvas_runs.proofs.Words.{in_each, each_append, each_left, length-firsts}
 
 -- ---- the numbers 1 to n, again and again, are workers'
 
@@ -71,21 +69,8 @@ module _ (l : Line) (n : ℕ) (us : List ℕ) (xs : List Step) (t : ByTurns l n 
   abbrev pub the_run : Run l
   the_run = run l t.opens_back n xs holds.lawful
 
-  -- a worker that has ended has done so after its rest
-  ended_over : (p : ℕ) (s : Doing (worker l)) → Ready l t.plan n xs p s → ask (worker l) s ≡ end → s ≡ over
-  ended_over p taking k e = absurd cc
-  ended_over p resting k e = absurd cc
-  ended_over p over k e = refl
-  ended_over p failed k e = absurd k
-  ended_over p (owning m) k e = absurd cc
-  ended_over p (doing [] b) k e = absurd k
-  ended_over p (doing (store u o ∷ js) b) k e = absurd cc
-  ended_over p (doing (publish m ∷ js) b) k e = absurd cc
-  ended_over p (doing (hand_in g u c ∷ js) b) k e = absurd cc
-  ended_over p (reading g c fs) k e = absurd cc
-
   pub is_over : (p : ℕ) → IsWorker n p → HasEnded l xs p → left l xs p ≡ over
-  is_over p w e = ended_over p (left l xs p) (holds.ready p w) e
+  is_over p w e = ended_over l t.plan t.opens_back n xs p (left l xs p) (holds.ready p w) e
 
   pub is_empty : 1 ≤ n → AllEnded l n xs → queue_after l xs ≡ []
   is_empty some all = let w : IsWorker n 1 = (omega arith, some) in (holds.idle 1 w (is_over 1 w (all 1 w))).empty
@@ -174,6 +159,29 @@ module _ (l : Line) (n : ℕ) (us : List ℕ) (xs : List Step) (t : ByTurns l n 
   pub next_answerable : (p : ℕ) → IsWorker n p → Answerable (roster_of l) xs (ask (worker l) (left l xs p))
   next_answerable p w = answerable p (left l xs p) (good_left l t.plan t.opens_back n xs holds.lawful p) (holds.ready p w)
 
+-- ---- rows, task by task
+
+module _ (f g : ℕ → eval.State) where
+  map_same : ((k : ℕ) → f k ≡ g k) → (ks : List ℕ) → map f ks ≡ map g ks
+  map_same same [] = refl
+  map_same same (k ∷ ks) = ap₂ (λ (a : eval.State) (b : List eval.State). a ∷ b) (same k) (map_same same ks)
+
+  map_may : ((k : ℕ) → (f k ≡ None) ⊎ (f k ≡ g k)) → (ks : List ℕ) → EachMay (map f ks) (map g ks)
+  map_may same [] = tt
+  map_may same (k ∷ ks) = (same k, map_may same ks)
+
+module _ (l : Line) (n : ℕ) (us : List ℕ) (xs : List Step) (t : ByTurns l n us xs) where
+  its_rows : map (its_state l) (numbers_from 1 (count_line l)) ≡ states (tree_of l)
+  its_rows = ap (λ k. map (its_state l) (numbers_from 1 k)) (sym (count_elements l))
+
+  pub states_are : 1 ≤ n → AllEnded l n xs → held_rows l xs ≡ states (tree_of l)
+  states_are some all = map_same (results_after xs).outcomes (its_state l) (rows_are l n us xs t some all) (numbers_from 1 (count_line l)) ∙ its_rows
+
+  pub states_may : EachMay (held_rows l xs) (states (tree_of l))
+  states_may = subst (EachMay (held_rows l xs)) its_rows (map_may (results_after xs).outcomes (its_state l) (rows_may l n us xs t) (numbers_from 1 (count_line l)))
+
+-- ---- lists of turns with the rotation behind them
+
 pub whole_turns : (l : Line) → IsPlan l → (n : ℕ) (ts : List ℕ) → Each (IsWorker n) ts → (r : RanWhole l n ts) → ByTurns l n r.turns r.steps
 whole_turns l plan n ts w r = record {
   plan = plan;
@@ -182,5 +190,10 @@ whole_turns l plan n ts w r = record {
   turned = r.turned;
 }
 
-pub whole_rows : (l : Line) → IsPlan l → (n : ℕ) (ts : List ℕ) → 1 ≤ n → Each (IsWorker n) ts → (r : RanWhole l n ts) → (t : ℕ) → (results_after r.steps).outcomes t ≡ its_state l t
-whole_rows l plan n ts some w r t = rows_are l n r.turns r.steps (whole_turns l plan n ts w r) some r.ended t
+pub until_turns : (l : Line) → IsPlan l → (n : ℕ) (ts : List ℕ) (most : ℕ) → Each (IsWorker n) ts → (r : RanUntil l n ts most) → ByTurns l n r.turns r.steps
+until_turns l plan n ts most w r = record {
+  plan = plan;
+  opens_back = r.opens_back;
+  workers = each_left (IsWorker n) r.turns r.begin.1 (subst (Each (IsWorker n)) (sym r.begin.2) (each_append (IsWorker n) ts (rounds n r.begin.0) w (rounds_workers n r.begin.0)));
+  turned = r.turned;
+}

@@ -1,9 +1,9 @@
 -- The histories of a run by turns: worker 0 makes the workers and publishes the first messages, and then each step that is a call stands with its worker.
-use Rattle.std.proofs.Common.{◌≡◌, ◌≢◌, ℕ, zero, suc, ◌+◌, ◌≤◌, Bool, true, false, cond, eqb, ◌==◌, List, [], ◌∷◌, ◌++◌, map, Option, Some, None, refl, sym, ap, ap₂, ◌∙◌, subst, append_assoc, append-nil, eq-eqb, ne_eqb, ⊎_elim, inl, inr, ◌⊎◌, arith, IsTrue}
+use Rattle.std.proofs.Common.{◌≡◌, ◌≢◌, ℕ, zero, suc, ◌≤◌, Bool, true, false, cond, eqb, ◌==◌, List, [], ◌∷◌, ◌++◌, Some, None, refl, sym, ap, ◌∙◌, subst, append_assoc, append-nil, ne_eqb, ⊎_elim, arith}
 use Rattle.std.proofs.lemmas.Bool.{false≢true, eqb-true, eqb-false, cases_Bool}
 use Rattle.canvas_task.specs.declared.outcome.Outcome.{Outcome}
-use Rattle.canvas_task.specs.History.{Entry, split, join, calls, among, live, live_from, named, heir, state_from, state_of, Allowed, Legal}
-use Rattle.canvas_task.proofs.Histories.{In, in_left, in_right, in_append, in_here, in_later, in_cases, named_append, live_append, state_append, legal_append, OnlyCalls}
+use Rattle.canvas_task.specs.History.{Entry, split, join, calls, among, live, live_from, named, heir, state_from, Legal}
+use Rattle.canvas_task.proofs.Histories.{In, in_left, in_right, in_append, in_here, in_later, in_cases, live_append, legal_append, OnlyCalls}
 use Rattle.canvas_message.specs.declared.envelope.Envelope.{Envelope}
 use Rattle.canvas_backend.specs.declared.stored.Stored.TheVariants.{First, Again}
 use Rattle.canvas_backend.specs.Backend as results

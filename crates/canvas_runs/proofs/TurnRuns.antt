@@ -1,5 +1,5 @@
 -- A run by turns is a run: its two histories, and each worker's steps as its core run.
-use Rattle.std.proofs.Common.{◌≡◌, ◌≢◌, ℕ, zero, suc, ◌+◌, Bool, true, false, cond, eqb, List, [], ◌∷◌, ◌++◌, map, Option, Some, None, refl, sym, ap, ap₂, ◌∙◌, subst, append_assoc, append-nil, arith, IsTrue, ne_eqb, eq-eqb}
+use Rattle.std.proofs.Common.{◌≡◌, ℕ, zero, suc, ◌+◌, Bool, true, false, cond, eqb, List, [], ◌∷◌, ◌++◌, map, Some, None, refl, sym, ap, ap₂, ◌∙◌, subst, append_assoc, append-nil, arith, ne_eqb}
 use Rattle.canvas_task.specs.declared.outcome.Outcome.{Outcome}
 use Rattle.canvas_task.specs.History.{calls, among, live, state_from, LegalFrom}
 use Rattle.canvas_task.proofs.Histories.{OnlyCalls, live_append, state_append, legal_append}
@@ -13,8 +13,8 @@ use Rattle.canvas_backend.specs.Backend.{Results, no_results, first_or, next_of,
 use Rattle.canvas_backend.specs.Roster.{roster_of}
 use Rattle.canvas_broker.specs.Broker as broker
 use Rattle.canvas_runs.specs.Accounts.{splits_of, entries, rows}
-use Rattle.canvas_runs.specs.Core.{Ask, Reply, take, send, keep, part, read, pause, end, taken, sent, refused, kept, counted, found as found_it, rested, taking, over, left_after, IsCoreRun, Between}
-use Rattle.canvas_runs.specs.Calls.{BrokerCall, published, took, BackendCall, stored, returned, has_read, Follows, follows_all, follows_publish, follows_list_take, follows_core_take, broker_call, broker_calls, backend_call, backend_calls, ReadsMembers, takes_one}
+use Rattle.canvas_runs.specs.Core.{Ask, Reply, take, send, keep, part, read, pause, taken, sent, kept, counted, found as found_it, rested, taking, IsCoreRun, Between}
+use Rattle.canvas_runs.specs.Calls.{BrokerCall, published, took, BackendCall, stored, Follows, follows_all, follows_publish, follows_list_take, follows_core_take, broker_call, broker_calls, backend_call, backend_calls, ReadsMembers, takes_one}
 use Rattle.canvas_runs.specs.Following.{Stood, replied}
 use Rattle.canvas_runs.specs.Lists.{Each, by, total}
 use Rattle.canvas_runs.specs.Logs.{queue_calls, table_calls}
@@ -22,7 +22,7 @@ use Rattle.canvas_runs.specs.Run.{Run, Closed, published_all}
 use Rattle.canvas_runs.specs.Turns.{Step, queue_next, results_next, results_after, says_first, queue_after, left, round, IsWorker, Answers, FirstsRead}
 use Rattle.canvas_runs.specs.Worker.{worker, sealed}
 use Rattle.canvas_runs.proofs.Sums.{total-append}
-use Rattle.canvas_runs.proofs.TurnLogs.{Made, worker_lives, first_lives, made_more, only_append, splits_legal, splits_state, tag, by_tag, entries_only, queue_calls_append, queue_calls_splits, queue_calls_entries, rows_only, table_calls_append, table_calls_splits, table_calls_rows}
+use Rattle.canvas_runs.proofs.TurnLogs.{Made, worker_lives, first_lives, only_append, splits_legal, splits_state, by_tag, entries_only, queue_calls_append, queue_calls_splits, queue_calls_entries, rows_only, table_calls_append, table_calls_splits, table_calls_rows}
 use Rattle.canvas_runs.proofs.Turning.{by_append}
 
 pub follows_same : {E : Type 0} (cs : List (BrokerCall E)) → Follows [] cs cs
@@ -34,7 +34,7 @@ no_takes : (es : List Envelope) → total takes_one (published_all es) ≡ 0
 no_takes [] = refl
 no_takes (e ∷ es) = let k = no_takes es in omega (arith, k)
 
-stood_all : (es : List Envelope) → Each Stood (published_all es)
+pub stood_all : (es : List Envelope) → Each Stood (published_all es)
 stood_all [] = tt
 stood_all (e ∷ es) = (tt, stood_all es)
 
@@ -210,7 +210,7 @@ module _ (l : Line) where
 
   -- ---- each worker's calls are those of its steps
 
-  call_stood : (a : Ask Envelope Outcome) (r : Reply Envelope Outcome) → Each Stood (broker_call (worker l) a r)
+  pub call_stood : (a : Ask Envelope Outcome) (r : Reply Envelope Outcome) → Each Stood (broker_call (worker l) a r)
   call_stood take (taken (Some e)) = (tt, tt)
   call_stood (send e) sent = (tt, tt)
   call_stood a r = tt

@@ -1,11 +1,10 @@
 -- What a worker has left to do, after the steps of a run by turns: the parts still to come may be returned, and the members of a header that is read are stored.
-use Rattle.std.proofs.Common.{◌≡◌, ◌≢◌, ◌⊎◌, ℕ, zero, suc, ◌≤◌, Bool, true, false, cond, eqb, ◌==◌, List, [], ◌∷◌, ◌++◌, length, Option, Some, None, IsTrue, is_some, refl, sym, ap, ◌∙◌, subst, append_assoc, append-nil, inl, inr, ⊎_elim, ne_eqb, arith}
+use Rattle.std.proofs.Common.{◌≡◌, ◌≢◌, ℕ, suc, Bool, true, false, eqb, ◌==◌, List, [], ◌∷◌, ◌++◌, length, Option, Some, None, is_some, refl, sym, ap, ◌∙◌, subst, append-nil, inl, ne_eqb, arith}
 use Rattle.std.proofs.lemmas.Bool.{eqb-true}
 use Rattle.std.specs.Prelude.{if◌then◌else◌}
 use Rattle.canvas_task.specs.declared.outcome.Outcome.{Outcome}
-use Rattle.canvas_task.specs.History.{calls, among, live, AllOthers, IsOther}
+use Rattle.canvas_task.specs.History.{calls, among, live, AllOthers}
 use Rattle.canvas_rewrite.specs.Frozen.{Line}
-use Rattle.canvas_rewrite.specs.FrozenView.{Load}
 use Rattle.canvas_rewrite.specs.Planned.{IsPlan}
 use Rattle.canvas_rewrite.proofs.Members.{plan_apart}
 use Rattle.canvas_message.specs.Content.{Content}
@@ -18,22 +17,21 @@ use Rattle.canvas_backend.specs.Backend as results
 use Rattle.canvas_backend.specs.Backend.{Results, no_results, kept_or, was, count, MayReturn}
 use Rattle.canvas_backend.specs.Roster.{Roster, roster_of}
 use Rattle.canvas_runs.specs.Accounts.{rows}
-use Rattle.canvas_runs.specs.Calls.{BackendCall, stored, returned, has_read, backend_call, reads_member, ReadsMembers, AskedAndAnswered}
-use Rattle.canvas_runs.specs.Core.{Ask, Reply, take, send, keep, part, read, pause, end, taken, sent, refused, kept, counted, found, rested, State, taking, resting, over, failed, owning, doing, reading, settled, ask, opens, answered, left_after, IsCoreRun, Between, Doing, Jobs}
-use Rattle.canvas_runs.specs.Following.{asking, replied}
-use Rattle.canvas_runs.specs.Lists.{Each, by, firsts}
+use Rattle.canvas_runs.specs.Calls.{BackendCall, stored, has_read, backend_call, reads_member, ReadsMembers, AskedAndAnswered}
+use Rattle.canvas_runs.specs.Core.{Ask, Reply, take, send, keep, part, read, taken, sent, kept, counted, found, rested, taking, resting, over, failed, owning, doing, reading, settled, ask, opens, answered, left_after, IsCoreRun, Doing, Jobs}
+use Rattle.canvas_runs.specs.Following.{replied}
+use Rattle.canvas_runs.specs.Lists.{Each, by}
 use Rattle.canvas_runs.specs.Protocol.{Protocol}
-use Rattle.canvas_runs.specs.Run.{Run}
 use Rattle.canvas_runs.specs.Turns.{Step, results_next, results_after, left, IsWorker, Answers, FirstsRead}
 use Rattle.canvas_runs.specs.Worker.{worker}
 use Rattle.canvas_runs.proofs.Bridges.{stored_stays, store_in}
-use Rattle.canvas_runs.proofs.Facts.{X, form, Does, order, value, its_backs, p as plan_of}
-use Rattle.canvas_runs.proofs.Finish.{Backed, backed_more}
+use Rattle.canvas_runs.proofs.Facts.{X, form, Does, order, value, its_backs}
+use Rattle.canvas_runs.proofs.Finish.{Backed}
 use Rattle.canvas_runs.proofs.FirstLaw.{inner_run, first_part}
 use Rattle.canvas_runs.proofs.Keeps.{GoodState, GoodAnswer, Goods, Closed, next_good, more_found, all_found}
 use Rattle.canvas_runs.proofs.Knowing.{found as among_members}
 use Rattle.canvas_runs.proofs.Right.{right_goods, right_closed, answers_right}
-use Rattle.canvas_runs.proofs.TurnLogs.{worker_lives, made_heir}
+use Rattle.canvas_runs.proofs.TurnLogs.{worker_lives}
 use Rattle.canvas_runs.proofs.TurnRuns.{Lawful, run, table_log, table_log_more, table_made, MayPart}
 use Rattle.canvas_runs.proofs.Turning.{by_more, results_more}
 use Rattle.canvas_runs.proofs.Words.{in_right, in_each, each_right, each_weaker, each_from_in, cond_cases}

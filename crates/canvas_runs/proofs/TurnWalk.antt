@@ -1,5 +1,5 @@
 -- What holds after each step of a run by turns.
-use Rattle.std.proofs.Common.{◌≡◌, ◌≢◌, ◌⊎◌, ℕ, zero, suc, ◌≤◌, ◌||◌, Bool, true, false, cond, eqb, ◌==◌, List, [], ◌∷◌, ◌++◌, length, map, Option, Some, None, refl, sym, ap, ◌∙◌, subst, append_assoc, append-nil, inl, inr, ⊎_elim, ne_eqb, arith}
+use Rattle.std.proofs.Common.{◌≡◌, ℕ, zero, suc, ◌||◌, Bool, true, false, cond, eqb, List, [], ◌∷◌, ◌++◌, length, map, Option, Some, None, refl, sym, ap, ◌∙◌, subst, append_assoc, append-nil, inl, inr, arith}
 use Rattle.std.proofs.lemmas.Bool.{cases_eq}
 use Rattle.canvas_task.specs.declared.outcome.Outcome.{Outcome}
 use Rattle.canvas_rewrite.specs.Frozen.{Line}
@@ -9,17 +9,15 @@ use Rattle.canvas_message.specs.Content.{Content}
 use Rattle.canvas_message.specs.Effects.{first_messages}
 use Rattle.canvas_message.specs.Job.{store, publish, hand_in}
 use Rattle.canvas_message.specs.declared.envelope.Envelope.{Envelope}
-use Rattle.canvas_backend.specs.Backend as results
 use Rattle.canvas_backend.specs.Backend.{no_results}
-use Rattle.canvas_backend.specs.Roster.{roster_of}
 use Rattle.canvas_broker.specs.Broker as broker
 use Rattle.canvas_runs.specs.Calls.{ReadsMembers, AskedAndAnswered, reads_member}
-use Rattle.canvas_runs.specs.Core.{Ask, Reply, take, send, keep, part, read, pause, end, taken, sent, refused, kept, counted, found, rested, State, taking, resting, over, failed, owning, doing, reading, settled, ask, opens, owned, handed_in, all_read, answered, left_after, IsCoreRun, ReadsBack, Between, Doing, Jobs}
+use Rattle.canvas_runs.specs.Core.{Ask, Reply, end, taken, sent, kept, counted, found, rested, taking, resting, over, failed, owning, doing, reading, settled, ask, opens, answered, IsCoreRun, ReadsBack, Doing, Jobs}
 use Rattle.canvas_runs.specs.Lists.{Each, by}
-use Rattle.canvas_runs.specs.Turns.{Step, is_inside, is_queued, queue_next, queue_after, queue_from, results_after, left, IsWorker, Answers, FirstsRead, some_inside, holds_more, HasEnded, Turned, all_taken, skips, takes, AllEnded}
+use Rattle.canvas_runs.specs.Turns.{Step, is_inside, is_queued, queue_next, queue_after, left, IsWorker, Answers, FirstsRead, some_inside, holds_more, Turned, all_taken, skips, takes}
 use Rattle.canvas_runs.specs.Worker.{worker, sealed}
-use Rattle.canvas_runs.proofs.TurnRuns.{Lawful, queue_log, table_log, queue_starts, table_starts, queue_stays, table_stays}
-use Rattle.canvas_runs.proofs.TurnStates.{Good, good_left, Ready, part_may, other_ready, own_ready}
+use Rattle.canvas_runs.proofs.TurnRuns.{Lawful, queue_starts, table_starts, queue_stays, table_stays}
+use Rattle.canvas_runs.proofs.TurnStates.{good_left, Ready, part_may, other_ready, own_ready}
 use Rattle.canvas_runs.proofs.Turning.{by_more, by_other, core_more, queue_more, results_more, left_here, left_other, answers_suit}
 use Rattle.canvas_runs.proofs.Words.{each_append}
 
@@ -114,6 +112,19 @@ module _ (l : Line) where
   ends_idle n xs s r h e = elim h [ ]
 
   module _ (plan : IsPlan l) (back : FirstsRead l) where
+    -- a worker that has ended has done so after its rest
+    pub ended_over : (n : ℕ) (xs : List Step) (p : ℕ) (s : Doing (worker l)) → Ready l plan n xs p s → ask (worker l) s ≡ end → s ≡ over
+    ended_over n xs p taking k e = absurd cc
+    ended_over n xs p resting k e = absurd cc
+    ended_over n xs p over k e = refl
+    ended_over n xs p failed k e = absurd k
+    ended_over n xs p (owning m) k e = absurd cc
+    ended_over n xs p (doing [] b) k e = absurd k
+    ended_over n xs p (doing (store u o ∷ js) b) k e = absurd cc
+    ended_over n xs p (doing (publish m ∷ js) b) k e = absurd cc
+    ended_over n xs p (doing (hand_in g u c ∷ js) b) k e = absurd cc
+    ended_over n xs p (reading g c fs) k e = absurd cc
+
     -- what holds after these steps
     pub record Holds (n : ℕ) (xs : List Step) : Type 0 where
       pub lawful : Lawful l n xs

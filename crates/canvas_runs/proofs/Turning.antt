@@ -1,14 +1,12 @@
 -- Turns, one after the other: what one more step changes, and turns put together and taken apart.
-use Rattle.std.proofs.Common.{◌≡◌, ◌≢◌, ℕ, suc, ◌≤◌, Bool, true, false, cond, eqb, List, [], ◌∷◌, ◌++◌, length, Option, Some, None, refl, sym, ap, ◌∙◌, subst, append_assoc, append-nil, eq-eqb, ne_eqb, arith}
+use Rattle.std.proofs.Common.{◌≡◌, ◌≢◌, ℕ, ◌≤◌, Bool, true, false, cond, eqb, List, [], ◌∷◌, ◌++◌, length, refl, sym, ap, ◌∙◌, subst, append_assoc, append-nil, eq-eqb, ne_eqb, arith}
 use Rattle.canvas_task.specs.declared.outcome.Outcome.{Outcome}
 use Rattle.canvas_rewrite.specs.Frozen.{Line}
-use Rattle.canvas_rewrite.specs.FrozenView.{Load}
-use Rattle.canvas_message.specs.Content.{Content}
 use Rattle.canvas_message.specs.declared.envelope.Envelope.{Envelope}
 use Rattle.canvas_backend.specs.Backend.{Results}
-use Rattle.canvas_runs.specs.Core.{Ask, Reply, take, send, keep, part, read, pause, end, taken, sent, refused, kept, counted, found, rested, State, taking, ask, answered, left_after, Suits, ReadsBack, IsCoreRun}
-use Rattle.canvas_runs.specs.Calls.{AskedAndAnswered, reads_member, ReadsMembers}
-use Rattle.canvas_runs.specs.Lists.{Each, by}
+use Rattle.canvas_runs.specs.Core.{Ask, Reply, take, send, keep, part, read, pause, taken, sent, kept, counted, found, rested, State, taking, ask, answered, left_after, Suits, ReadsBack, IsCoreRun}
+use Rattle.canvas_runs.specs.Calls.{AskedAndAnswered, reads_member}
+use Rattle.canvas_runs.specs.Lists.{by}
 use Rattle.canvas_runs.specs.Protocol.{Protocol}
 use Rattle.canvas_runs.specs.Turns.{Step, queue_next, results_next, queue_from, results_from, left, Answers, HasEnded, Turned, all_taken, skips, takes}
 use Rattle.canvas_runs.specs.Worker.{worker}

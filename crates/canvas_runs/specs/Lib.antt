@@ -18,4 +18,6 @@ pub mod Callers
 pub mod Rows
 pub mod Turns
 pub mod TurnLaws
+pub mod Going
 pub mod Witness
+pub mod TurnWitness

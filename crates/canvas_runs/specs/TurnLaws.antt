@@ -1,19 +1,22 @@
 -- What follows from taking turns: a run by turns is a run, so the law of runs speaks of it.
-use Rattle.std.specs.Prelude.{ℕ, ◌≡◌, ◌≢◌, ◌≤◌, ◌<◌, ◌⊎◌, false, IsTrue, List, [], ◌++◌, length, Some, None}
+use Rattle.std.specs.Prelude.{ℕ, ◌≡◌, ◌≢◌, ◌≤◌, ◌<◌, ◌⊎◌, false, IsTrue, List, [], length, map, Some, None}
 use Rattle.canvas_task.specs.Apply.{IsInRange}
 use Rattle.canvas_task.specs.declared.outcome.Outcome.{Outcome}
-use Rattle.canvas_rewrite.specs.Frozen.{Line}
+use Rattle.canvas_rewrite.specs.Eval.{State}
+use Rattle.canvas_rewrite.specs.Frozen.{Line, count_line, tree_of}
 use Rattle.canvas_rewrite.specs.Planned.{IsPlan}
+use Rattle.canvas_rewrite.specs.States.{states, numbers_from}
 use Rattle.canvas_message.specs.Effects.{first_messages}
 use Rattle.canvas_message.specs.declared.envelope.Envelope.{Envelope}
 use Rattle.canvas_backend.specs.Backend.{results}
 use Rattle.canvas_backend.specs.Roster.{Roster, roster_of, members, is_chord, is_member}
 use Rattle.canvas_broker.specs.Broker.{queue_of}
-use Rattle.canvas_runs.specs.Core.{Ask, take, send, keep, part, read, pause, end, ask}
+use Rattle.canvas_runs.specs.Core.{Ask, keep, part, read, ask}
 use Rattle.canvas_runs.specs.Law.{its_state}
 use Rattle.canvas_runs.specs.Lists.{Each, by, at}
+use Rattle.canvas_runs.specs.Rows.{EachMay}
 use Rattle.canvas_runs.specs.Run.{Run, Closed}
-use Rattle.canvas_runs.specs.Turns.{Step, results_after, IsWorker, FirstsRead, queue_after, left, Turned, AllEnded, RanWhole}
+use Rattle.canvas_runs.specs.Turns.{Step, results_after, IsWorker, FirstsRead, queue_after, left, Turned, AllEnded, RanWhole, RanUntil}
 use Rattle.canvas_runs.specs.Worker.{worker}
 
 -- a plan's run by these turns of workers 1 to n, with these steps
@@ -47,9 +50,22 @@ TurnRowsAre = (l : Line) (n : ℕ) (us : List ℕ) (xs : List Step) → ByTurns 
 abbrev pub TurnsEmpty : Type 0
 TurnsEmpty = (l : Line) (n : ℕ) (us : List ℕ) (xs : List Step) → ByTurns l n us xs → 1 ≤ n → AllEnded l n xs → queue_after l xs ≡ []
 
--- so it is of a list of turns with the rotation behind it
-abbrev pub WholeRows : Type 0
-WholeRows = (l : Line) → IsPlan l → (n : ℕ) (ts : List ℕ) → 1 ≤ n → Each (IsWorker n) ts → (r : RanWhole l n ts) → (t : ℕ) → (results_after r.steps).outcomes t ≡ its_state l t
+-- The outcomes held, task by task: the states that evaluation gives where all have ended, and these or pending at any time.
+abbrev pub held_rows : Line → List Step → List State
+held_rows l xs = map (results_after xs).outcomes (numbers_from 1 (count_line l))
+
+abbrev pub TurnStatesAre : Type 0
+TurnStatesAre = (l : Line) (n : ℕ) (us : List ℕ) (xs : List Step) → ByTurns l n us xs → 1 ≤ n → AllEnded l n xs → held_rows l xs ≡ states (tree_of l)
+
+abbrev pub TurnStatesMay : Type 0
+TurnStatesMay = (l : Line) (n : ℕ) (us : List ℕ) (xs : List Step) → ByTurns l n us xs → EachMay (held_rows l xs) (states (tree_of l))
+
+-- a list of turns with the rotation behind it, whole or up to a number of steps, is such a run
+abbrev pub WholeTurns : Type 0
+WholeTurns = (l : Line) → IsPlan l → (n : ℕ) (ts : List ℕ) → Each (IsWorker n) ts → (r : RanWhole l n ts) → ByTurns l n r.turns r.steps
+
+abbrev pub UntilTurns : Type 0
+UntilTurns = (l : Line) → IsPlan l → (n : ℕ) (ts : List ℕ) (most : ℕ) → Each (IsWorker n) ts → (r : RanUntil l n ts most) → ByTurns l n r.turns r.steps
 
 -- ---- what a worker asks next can be answered
 

@@ -9,7 +9,7 @@
 --     AllEnded l n before   after these steps no worker asks for anything more
 --     RanWhole l n ts       the turns of the list and then as many rounds as it takes until all have ended
 --     RanUntil l n ts steps    the turns of the list, and then turns in rotation, up to so many steps, with some worker that has not ended
-use Rattle.std.specs.Prelude.{ℕ, zero, suc, ◌≡◌, ◌≤◌, ◌||◌, Bool, true, false, List, [], ◌∷◌, ◌++◌, map, length, Option, Some, None}
+use Rattle.std.specs.Prelude.{ℕ, zero, suc, ◌≡◌, ◌≤◌, ◌||◌, Bool, true, false, List, [], ◌∷◌, ◌++◌, map, length, Some}
 use Rattle.canvas_task.specs.declared.outcome.Outcome.{Outcome}
 use Rattle.canvas_rewrite.specs.Frozen.{Line}
 use Rattle.canvas_rewrite.specs.FrozenView.{Load}
