@@ -133,34 +133,29 @@ fn goes_on(alloc: Global, backend: &PlainBackend, desk: &mut Desk, core: &mut Co
     }
 }
 
-fn desk_of(alloc: Global, plan: &Plan) -> Option<Desk> {
+/// A queue of the messages that a plan begins with.
+fn queue_of(alloc: Global, plan: &Plan) -> Option<PlainBroker> {
+    let messages = first_messages(alloc, plan).ok()?;
     let mut queue = PlainBroker::new(alloc);
-    match first_messages(alloc, plan) {
-        Ok(messages) => {
-            for message in messages {
-                match encode(alloc, &message) {
-                    Ok(envelope) => {
-                        if queue.publish(envelope).is_err() {
-                            return None;
-                        }
-                    }
-                    Err(_) => return None,
-                }
-            }
+    for message in messages {
+        let envelope = encode(alloc, &message).ok()?;
+        if queue.publish(envelope).is_err() {
+            return None;
         }
-        Err(_) => return None,
     }
-    match (
-        Vec::from_elem(alloc, None, plan.tasks() as usize),
-        Vec::from_elem(alloc, 0, plan.groups() as usize),
-    ) {
-        (Ok(rows), Ok(counts)) => Some(Desk {
-            queue,
-            rows,
-            counts,
-        }),
-        _ => None,
-    }
+    Some(queue)
+}
+
+fn desk_of(alloc: Global, plan: &Plan) -> Option<Desk> {
+    let _none: Option<Fault> = None;
+    let queue = queue_of(alloc, plan)?;
+    let rows = Vec::from_elem(alloc, None, plan.tasks() as usize).ok()?;
+    let counts = Vec::from_elem(alloc, 0, plan.groups() as usize).ok()?;
+    Some(Desk {
+        queue,
+        rows,
+        counts,
+    })
 }
 
 fn has_asked(
@@ -285,7 +280,13 @@ fn failed_header(rt: HostRuntime) {
                 Ask::Take,
                 Ask::Rest,
             ],
-            &[Some(eight), Some(ZERO_DIVISION), Some(sixteen), Some(by_2), Some(four)]
+            &[
+                Some(eight),
+                Some(ZERO_DIVISION),
+                Some(sixteen),
+                Some(by_2),
+                Some(four)
+            ]
         )
     );
 }
