@@ -10,7 +10,7 @@ use Rattle.canvas_rewrite.specs.Frozen.{Line, count_line, members, size}
 use Rattle.canvas_rewrite.specs.Planned.{IsPlan}
 use Rattle.canvas_rewrite.proofs.Members.{member_known}
 use Rattle.canvas_backend.specs.Roster.{roster_of}
-use Rattle.canvas_runs.specs.Book.{Book, book_of}
+use Rattle.canvas_runs.specs.Book.{book_of}
 use Rattle.canvas_worker.specs.Books.{book_in}
 
 some_times : (k : ℕ) (xs : List ℕ) → among k xs ≡ true → 0 < count_by (λ x. x == k) xs

@@ -1,8 +1,8 @@
 -- What names only what a book knows, by the parts of the code's types.
-use Rattle.std.proofs.Common.{◌≡◌, ◌∙◌, ℕ, List, [], ◌∷◌, ◌++◌, map, length, Option, Some, None, Box, Global, Bool, true, false, refl, sym, ap, rules, arith}
-use Rattle.std.specs.Prelude.{◌&&◌, ◌==◌}
+use Rattle.std.proofs.Common.{◌≡◌, ◌∙◌, ℕ, List, [], ◌∷◌, ◌++◌, map, length, Some, None, Box, Global, Bool, true, false, refl, sym, ap, arith}
+use Rattle.std.specs.Prelude.{◌&&◌}
 use Rattle.std.proofs.lemmas.List.{map-append}
-use Rattle.canvas_rewrite.specs.Placed.{PTask, PLine, p_task, p_stop, p_step, p_group_end, p_chord_end}
+use Rattle.canvas_rewrite.specs.Placed.{PTask, PLine, p_stop}
 use Rattle.canvas_rewrite.specs.FrozenView.{p_tasks_of, p_lines_of, p_steps, p_task_view, p_line_view, p_end_view}
 use Rattle.canvas_rewrite.specs.declared.frozen.FrozenTask.{FrozenTask, out-FrozenTask}
 use Rattle.canvas_rewrite.specs.declared.frozen.FrozenLine.{FrozenLine, out-FrozenLine}
@@ -10,7 +10,7 @@ use Rattle.canvas_rewrite.specs.declared.frozen.FrozenEnd.{FrozenEnd, out-Frozen
 use Rattle.canvas_message.specs.Content.{number_of}
 use Rattle.canvas_message.specs.Fits.{how_many}
 use Rattle.canvas_message.specs.Placing.{last_task}
-use Rattle.canvas_message.proofs.Seen.{task_seen, line_none, line_some, end_none, end_some}
+use Rattle.canvas_message.proofs.Seen.{task_seen, line_none, line_some, end_some}
 use Rattle.canvas_runs.specs.Book.{Book, task_known, tasks_known, line_known, members_known, is_size}
 use Rattle.canvas_worker.specs.Lasts.{last_number}
 

@@ -1,16 +1,15 @@
 -- One ask and answer more, as a core takes them.
-use Rattle.std.proofs.Common.{◌≡◌, ◌∙◌, ℕ, ◌+◌, ◌≤◌, min, Bool, true, false, List, [], ◌∷◌, ◌++◌, Option, Some, None, refl, sym, ap, ap₂, subst, arith}
+use Rattle.std.proofs.Common.{◌≡◌, ◌∙◌, ℕ, ◌+◌, min, Bool, true, false, List, [], ◌∷◌, ◌++◌, None, refl, sym, ap, arith}
 use Rattle.std.specs.Prelude.{if◌then◌else◌, is_some}
 use Rattle.canvas_message.specs.Job.{store, publish, hand_in}
-use Rattle.canvas_message.specs.declared.envelope.Envelope.{Envelope}
 use Rattle.canvas_runs.specs.Book.{Book}
 use Rattle.canvas_runs.specs.Core as C
 use Rattle.canvas_runs.specs.Core.{taking, resting, over, failed, owning, doing, reading, taken, sent, refused, kept, counted, found, rested, ask, answered, left_after, Suits, ReadsBack, IsCoreRun}
 use Rattle.canvas_worker.specs.Asks.{Asked, Answer, suits, shown, replied}
 use Rattle.canvas_worker.specs.Asks as asks
-use Rattle.canvas_worker.specs.Enveloped.{enveloped_by, blank}
-use Rattle.canvas_worker.specs.Leading.{left_by, drops_from, Leads, NoneLead, OneMoreLeads, HandedLeads, HandsOut}
-use Rattle.canvas_worker.specs.Standing.{Left, Standing, asked, most, drops, unsent, begun, after_reply, held_out, handed}
+use Rattle.canvas_worker.specs.Enveloped.{enveloped_by}
+use Rattle.canvas_worker.specs.Leading.{left_by, drops_from, NoneLead, OneMoreLeads, HandedLeads, HandsOut}
+use Rattle.canvas_worker.specs.Standing.{Left, asked, most, drops, unsent}
 use Rattle.canvas_worker.specs.declared.ask.Reply.{Reply}
 use Rattle.canvas_worker.specs.declared.ask.Reply.TheVariants as R
 

@@ -6,3 +6,4 @@ pub mod Stores
 pub mod ScriptsMade
 pub mod Opening
 pub mod Leading
+pub mod PlanBooks

@@ -1,5 +1,5 @@
 -- The message of an envelope that a book knows.
-use Rattle.std.proofs.Common.{◌≡◌, ◌∙◌, Bool, true, false, Option, Some, None, Ok, Err, sym, ap}
+use Rattle.std.proofs.Common.{◌≡◌, ◌∙◌, Bool, true, false, Some, None, sym, ap}
 use Rattle.std.specs.Prelude.{if◌then◌else◌}
 use Rattle.canvas_message.specs.Content.{Content}
 use Rattle.canvas_message.specs.EnvelopeFaults.{envelope_fault, Says}

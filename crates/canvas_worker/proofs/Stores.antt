@@ -1,11 +1,10 @@
 -- What a worker stores besides a message's own outcome are failures.
-use Rattle.std.proofs.Common.{◌≡◌, ◌<◌, ℕ, Bool, true, false, List, [], ◌∷◌, ◌++◌, Option, Some, None, sym, ap, subst, arith}
+use Rattle.std.proofs.Common.{◌≡◌, ◌<◌, ℕ, Bool, true, false, List, [], ◌∷◌, ◌++◌, Option, Some, None, sym, subst, arith}
 use Rattle.std.specs.Prelude.{All, if◌then◌else◌, nat_lt}
 use Rattle.std.proofs.lemmas.List.Elements.{All-cons}
 use Rattle.canvas_task.specs.Apply.{IsInRange}
 use Rattle.canvas_task.specs.declared.outcome.Outcome.{Outcome}
 use Rattle.canvas_task.specs.declared.outcome.Outcome.TheVariants.{Success, Failure}
-use Rattle.canvas_rewrite.specs.Eval as eval
 use Rattle.canvas_rewrite.specs.FrozenView.{Load}
 use Rattle.canvas_rewrite.specs.Placed.{PTasks, no_p_tasks, and_p_task, PPlace, p_nowhere, p_group, p_chord, PLine, p_stop, p_step, p_group_end, p_chord_end, PLines, no_p_lines, and_p_line}
 use Rattle.canvas_message.specs.Content.{Content, line, number_of, links_of, errbacks_of}

@@ -1,10 +1,14 @@
 -- Which asks and answers lead to a core that a contract shows: what it has left to do is what they leave, and it counts the envelopes
 -- that they dropped.
 use Rattle.std.specs.Prelude.{◌≡◌, ℕ, ◌+◌, min, if◌then◌else◌, true, false, List, [], ◌∷◌, ◌++◌}
+use Rattle.canvas_rewrite.specs.Frozen.{Line}
+use Rattle.canvas_rewrite.specs.Planned.{IsPlan}
+use Rattle.canvas_backend.specs.Roster.{roster_of}
 use Rattle.canvas_runs.specs.Book.{Book}
 use Rattle.canvas_runs.specs.Core.{taking, answered, left_after, ReadsBack, IsCoreRun}
 use Rattle.canvas_worker.specs.Asks.{Asked, Answer, suits, shown, sent, replied}
-use Rattle.canvas_worker.specs.Enveloped.{enveloped_by}
+use Rattle.canvas_worker.specs.Books.{book_in}
+use Rattle.canvas_worker.specs.Enveloped.{enveloped, enveloped_by}
 use Rattle.canvas_worker.specs.Standing.{Left, Standing, asked, most, drops, unsent, begun, after_reply, held_out, handed}
 use Rattle.canvas_worker.specs.declared.ask.Reply.{Reply}
 
@@ -39,3 +43,9 @@ HandedLeads = (book : Book) (xs : List (Asked × Answer)) (s : Standing) → Lea
 
 abbrev pub HandsOut : Type 0
 HandsOut = (book : Book) (xs : List (Asked × Answer)) (s : Standing) → Leads book xs s → s.is_out ≡ false → held_out s ≡ sent (asked (left_by book xs))
+
+-- What leads to a core whose book is a backend of a plan is a core run of that plan's worker, with the same left to do.
+abbrev pub PlanLeads : Type 0
+PlanLeads =
+    (l : Line) → IsPlan l → (xs : List (Asked × Answer)) (s : Standing) → Leads (book_in (roster_of l)) xs s
+    → IsCoreRun (enveloped (roster_of l)) taking xs × (left_by (book_in (roster_of l)) xs ≡ left_after (enveloped (roster_of l)) taking xs)

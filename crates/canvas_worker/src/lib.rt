@@ -14,7 +14,7 @@ mod sealing;
 mod stages;
 
 ghost use Rattle.canvas_worker.specs.Cores.{CoresAreWorkers};
-ghost use Rattle.canvas_worker.specs.Leading.{NoneLead, OneMoreLeads, HandedLeads, HandsOut};
+ghost use Rattle.canvas_worker.specs.Leading.{NoneLead, OneMoreLeads, HandedLeads, HandsOut, PlanLeads};
 
 pub use ask::{Ask, Reply};
 pub use book::Book;
@@ -32,4 +32,5 @@ pub fn law_of_answers()
     ensures one_more { OneMoreLeads }
     ensures handed { HandedLeads }
     ensures hands_out { HandsOut }
+    ensures plan { PlanLeads }
 {}
