@@ -5,3 +5,4 @@ pub mod TurnTexts
 pub mod Rounds
 pub mod StageSteps
 pub mod StageAsks
+pub mod StageTurns

@@ -84,7 +84,7 @@ module _ (l : Line) (xs : List Step) where
       ∙ inside_from cs (suc k) (λ i d e. h (suc i) d e ∙ ap (λ m. is_worker_inside (left l xs (suc m))) (omega arith))
       ∙ ap (λ m. some_inside l m xs) (omega arith)
 
-each_more : {n : ℕ} (us : List ℕ) (p : ℕ) → Each (IsWorker n) us → IsWorker n p → Each (IsWorker n) (us ++ p ∷ [])
+pub each_more : {n : ℕ} (us : List ℕ) (p : ℕ) → Each (IsWorker n) us → IsWorker n p → Each (IsWorker n) (us ++ p ∷ [])
 each_more [] p a w = (w, tt)
 each_more (u ∷ us) p a w = (a.0, each_more us p a.1 w)
 
@@ -99,7 +99,7 @@ module _ (l : Line) (n most : ℕ) (us : List ℕ) (xs : List Step) (s : Stage) 
       let one : (i : ℕ) (c : Standing) → slice_get s.cores.items i ≡ Some c → is_inside c.left ≡ is_worker_inside (left l xs (suc (0 + i))) = λ i c e.
           ap is_inside (reached.cores_are i c e).0 ∙ inside_alike _ _ (together (suc i)).1.alike ∙ ap (λ m. is_worker_inside (left l xs (suc m))) (omega arith) in
       ap (λ q. is_queued q || list_any (λ c. is_inside c.left) s.cores.items) reached.queue_is
-      ∙ ap (λ b. is_queued (queue_after l xs) || b) (sym (or_none (list_any (λ c. is_inside c.left) s.cores.items)) ∙ inside_from l xs s.cores.items 0 one ∙ ap (λ m. some_inside l m xs) reached.many)
+      ∙ ap (λ b. is_queued (queue_after l xs) || b) (sym (or_none (list_any (λ c. is_inside c.left) s.cores.items)) ∙ inside_from l xs s.cores.items 0 one ∙ ap (λ m. some_inside l m xs) (omega (arith, reached.many)))
 
   -- the core at place i
   module _ (i : ℕ) (c : Standing) (here : slice_get s.cores.items i ≡ Some c) where

@@ -1,5 +1,5 @@
 //! The workers of a run on one thread, with the queue and the table of results that they share.
-ghost use Rattle.std.specs.Prelude.{◌≡◌, ◌≤◌, ◌+◌, ◌++◌, ◌∷◌, ℕ, Bool, Some, false, true, not, ◌||◌, [], List, map, length, IfOk, IfErr, OnOk, OnErr, IsTrue, slice_get};
+ghost use Rattle.std.specs.Prelude.{◌≡◌, ◌≤◌, ◌<◌, ◌+◌, ◌++◌, ◌∷◌, ℕ, Bool, Some, false, true, not, ◌||◌, [], List, map, length, IfOk, IfErr, OnOk, OnErr, IsTrue, MatchBool, slice_get};
 ghost use Rattle.std.specs.List.{list_any};
 ghost use Rattle.canvas_rewrite.specs.Frozen.{count_line};
 ghost use Rattle.canvas_rewrite.specs.Planned.{IsPlan};
@@ -7,7 +7,7 @@ ghost use Rattle.canvas_message.specs.Effects.{first_messages};
 ghost use Rattle.canvas_backend.specs.Backend.{no_results};
 ghost use Rattle.canvas_backend.specs.Plain.{held};
 ghost use Rattle.canvas_backend.specs.Roster.{roster_of};
-ghost use Rattle.canvas_runs.specs.Core.{end, ReadsBack};
+ghost use Rattle.canvas_runs.specs.Core.{end, pause, ReadsBack};
 ghost use Rattle.canvas_runs.specs.Lists.{Each};
 ghost use Rattle.canvas_message.specs.declared.envelope.Envelope.{Envelope};
 ghost use Rattle.canvas_runs.specs.Turns.{Step, IsWorker, FirstsRead, is_queued};
@@ -138,6 +138,17 @@ fn publish_all(
     Ok(())
 }
 
+/// Whether a worker asks for nothing more.
+fn has_ended(core: &Core) -> bool
+    ensures end { MatchBool result (asked core.now.left ≡ end) (asked core.now.left ≡ end → ⊥) }
+    ensures reads_back { core.now.is_out ≡ false → ReadsBack (enveloped_by no_book) core.now.left }
+{
+    match core.next() {
+        Ask::End => true,
+        _ => false,
+    }
+}
+
 /// The workers, numbered from 1, with what they share, and how many asks may still be answered.
 #[derive(Drop)]
 pub(crate) struct Stage {
@@ -205,6 +216,17 @@ impl Stage {
         !self.queue.is_empty() || is_any_inside(&self.cores)
     }
 
+    /// What a worker that rests is told.
+    fn tells_more(&self, index: usize) -> bool
+        requires { index < length self.now.cores.items }
+        ensures { (core : Standing) → slice_get self.now.cores.items index ≡ Some core → asked core.left ≡ pause → result ≡ (is_queued self.now.queue || list_any (λ c. is_inside c.left) self.now.cores.items) }
+    {
+        match self.cores[index].next() {
+            Ask::Rest => self.holds_more(),
+            _ => false,
+        }
+    }
+
     /// A worker's turn: one ask of it is answered, unless it is at its end. Whether one was.
     pub(crate) fn turn(&mut self, alloc: Global, plan: &Plan, worker: u32) -> Result<bool, Cause>
         requires { (n : ℕ) × (most : ℕ) × (us : List ℕ) × IsWorker n worker × HasReached plan.now n most us self.old }
@@ -212,14 +234,13 @@ impl Stage {
         ensures err { IfErr result (λ cause. (n : ℕ) (most : ℕ) (us : List ℕ) (xs : List Step) → Reached plan.now n most us xs self.old → IsHalt cause plan.now n most us self.new) }
     {
         let index = worker as usize - 1;
-        let ask = self.cores[index].next();
-        if matches!(ask, Ask::End) {
+        if has_ended(&self.cores[index]) {
             return Ok(false);
         }
         if self.steps == 0 {
             return Err(Cause::Stopped);
         }
-        let more = matches!(ask, Ask::Rest) && self.holds_more();
+        let more = self.tells_more(index);
         match step(alloc, &mut self.cores[index], &mut self.queue, &mut self.table, more) {
             Ok(()) => {
                 self.steps -= 1;

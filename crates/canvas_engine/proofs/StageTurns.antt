@@ -1,0 +1,154 @@
+-- A worker's turn: what the queue, the table and the worker's core were tells what may be asked, and what is there after it.
+use Rattle.std.proofs.Common.{◌≡◌, ◌≢◌, ◌≤◌, ◌<◌, ◌+◌, ◌-◌, ◌⊎◌, inl, inr, ℕ, zero, suc, Bool, true, false, List, [], ◌∷◌, ◌++◌, length, Option, Some, None, refl, sym, ap, ◌∙◌, subst, arith}
+use Rattle.std.specs.Prelude.{◌||◌, slice_get, slice_set}
+use Rattle.std.specs.List.{list_any}
+use Rattle.canvas_task.specs.declared.outcome.Outcome.{Outcome}
+use Rattle.canvas_rewrite.specs.Frozen.{Line}
+use Rattle.canvas_message.specs.declared.envelope.Envelope.{Envelope}
+use Rattle.canvas_backend.specs.Backend.{Results}
+use Rattle.canvas_backend.specs.Plain.{Shelf, held}
+use Rattle.canvas_backend.specs.Roster.{Roster, roster_of}
+use Rattle.canvas_runs.specs.Core.{take, send, keep, part, read, pause, end, ReadsBack, ask}
+use Rattle.canvas_runs.specs.TurnLaws.{Answerable}
+use Rattle.canvas_runs.specs.Turns.{Step, IsWorker, HasEnded, results_after, results_next, left, holds_more, is_queued}
+use Rattle.canvas_runs.specs.Worker.{worker}
+use Rattle.canvas_runs.proofs.TurnLaw.{next_answerable, held_range}
+use Rattle.canvas_runs.proofs.Turning.{results_more, turned_skip}
+use Rattle.canvas_worker.specs.Asks.{Asked, Answer}
+use Rattle.canvas_worker.specs.Books.{no_book}
+use Rattle.canvas_worker.specs.Enveloped.{enveloped_by}
+use Rattle.canvas_worker.specs.Standing.{Standing, asked, is_inside}
+use Rattle.canvas_worker.specs.declared.cause.Cause.TheVariants.{Memory, Stopped}
+use Rattle.canvas_engine.specs.Steps.{MayAsk, AreInRange, Stepped, IsTried, Tried, Reached, HasReached, IsTurn, IsHalt, IsHalfway, IsStopped}
+use Rattle.canvas_engine.specs.declared.stage.Stage.{Stage}
+use Rattle.canvas_engine.proofs.StageSteps.{IsPut, each_more, has_ended, not_ended, same_ask, more_is, stepped, turned_so}
+
+-- what is there after a core was put back at its place
+put_at : (cores : List Standing) (i : ℕ) (d : Standing) (j : ℕ) (e : Standing) → slice_get (slice_set cores i d) j ≡ Some e → ((j ≡ i) × (e ≡ d)) ⊎ ((j ≢ i) × (slice_get cores j ≡ Some e))
+put_at [] i d j e h = inr ((λ q. absurd (nothing j h)), h)
+  where
+    nothing : (k : ℕ) → slice_get [] k ≡ Some e → ⊥
+    nothing zero h = cc
+    nothing (suc k) h = cc
+put_at (c ∷ cs) zero d zero e h = inl (refl, cc)
+put_at (c ∷ cs) zero d (suc j) e h = inr ((λ q. absurd (omega (arith, q))), h)
+put_at (c ∷ cs) (suc i) d zero e h = inr ((λ q. absurd (omega (arith, q))), h)
+put_at (c ∷ cs) (suc i) d (suc j) e h = further (put_at cs i d j e h)
+  where
+    further : ((j ≡ i) × (e ≡ d)) ⊎ ((j ≢ i) × (slice_get cs j ≡ Some e)) → ((suc j ≡ suc i) × (e ≡ d)) ⊎ ((suc j ≢ suc i) × (slice_get cs j ≡ Some e))
+    further (inl x) = inl (ap suc x.0, x.1)
+    further (inr x) = inr ((λ q. x.0 (omega (arith, q))), x.1)
+
+put_length : (cores : List Standing) (i : ℕ) (d : Standing) → length (slice_set cores i d) ≡ length cores
+put_length [] i d = refl
+put_length (c ∷ cs) zero d = refl
+put_length (c ∷ cs) (suc i) d = ap suc (put_length cs i d)
+
+-- what can be answered may be asked
+may_of : (plan : Roster) (xs : List Step) (a : Asked) → Answerable plan xs a → MayAsk plan (results_after xs) a
+may_of plan xs take h = tt
+may_of plan xs (send e) h = tt
+may_of plan xs (keep t o) h = h.0
+may_of plan xs (part g t) h = (h.0, h.1, (h.2, h.3))
+may_of plan xs (read g i) h = (h.0, h.2, h.3)
+may_of plan xs pause h = tt
+may_of plan xs end h = tt
+
+abbrev pub HasTurn : Line → ℕ → Stage → Type 0
+HasTurn l p s = (n : ℕ) × (most : ℕ) × (us : List ℕ) × IsWorker n p × HasReached l n most us s
+
+module _ (l : Line) (p : ℕ) (s : Stage) (turn : HasTurn l p s) where
+  pub is_place : p - 1 < length s.cores.items
+  is_place = omega (arith, turn.3.0, turn.3.1, turn.4.1.many)
+
+  same_number : suc (p - 1) ≡ p
+  same_number = omega (arith, turn.3.0)
+
+  module _ (core : Standing) (here : slice_get s.cores.items (p - 1) ≡ Some core) where
+    pub not_out : core.is_out ≡ false
+    not_out = (turn.4.1.cores_are (p - 1) core here).1
+
+    module _ (n most : ℕ) (us : List ℕ) (xs : List Step) (reached : Reached l n most us xs s) where
+      own : IsWorker n p
+      own = (turn.3.0, omega (arith, turn.3.1, turn.4.1.many, reached.many))
+
+      pub skipped : ReadsBack (enveloped_by no_book) core.left → asked core.left ≡ end → HasEnded l xs p × Reached l n most (us ++ p ∷ []) xs s
+      skipped back e =
+          let ended : HasEnded l xs p = subst (HasEnded l xs) same_number (has_ended l n most us xs s reached (p - 1) core here back e) in
+          (ended, record {
+            by_turns = record {
+              plan = reached.by_turns.plan;
+              opens_back = reached.by_turns.opens_back;
+              workers = each_more us p reached.by_turns.workers own;
+              turned = turned_skip l n us xs p reached.by_turns.turned ended;
+            };
+            runs = reached.runs;
+            queue_is = reached.queue_is;
+            plan_is = reached.plan_is;
+            table_is = reached.table_is;
+            many = reached.many;
+            cores_are = reached.cores_are;
+            count = reached.count;
+          })
+
+      pub stopped : ReadsBack (enveloped_by no_book) core.left → (asked core.left ≡ end → ⊥) → s.steps ≡ 0 → IsStopped l n most us s
+      stopped back going none = record {
+        steps = xs;
+        reached = reached;
+        none_left = none;
+        going = p;
+        is_worker = own;
+        has_more = λ e. not_ended l n most us xs s reached (p - 1) core here back going (subst (HasEnded l xs) (sym same_number) e);
+      }
+
+      may_here : ReadsBack (enveloped_by no_book) core.left → MayAsk (roster_of l) (results_after xs) (asked core.left)
+      may_here back =
+          may_of (roster_of l) xs (asked core.left)
+          (subst (Answerable (roster_of l) xs) (sym (same_ask l n most us xs s reached (p - 1) core here back))
+          (next_answerable l n us xs reached.by_turns (suc (p - 1)) (subst (IsWorker n) (sym same_number) own)))
+
+      pub may_ask : ReadsBack (enveloped_by no_book) core.left → MayAsk s.table.plan (held s.table) (asked core.left)
+      may_ask back =
+          subst (λ plan. MayAsk plan (held s.table) (asked core.left)) (sym reached.plan_is)
+          (subst (λ t. MayAsk (roster_of l) t (asked core.left)) (sym reached.table_is) (may_here back))
+
+      pub held_in_range : AreInRange (held s.table)
+      held_in_range t o e = (held_range l n us xs reached.by_turns t o (ap (λ (r : Results). r.outcomes t) (sym reached.table_is) ∙ e)).1
+
+      module _ (more : Bool) (told : asked core.left ≡ pause → more ≡ (is_queued s.queue || list_any (λ c. is_inside c.left) s.cores.items)) where
+        more_so : asked core.left ≡ pause → more ≡ holds_more l n xs
+        more_so e = told e ∙ more_is l n most us xs s reached
+
+        pub went : (s' : Stage) (core' : Standing) → Stepped more core s.queue s.table core' s'.queue s'.table → s'.cores.items ≡ slice_set s.cores.items (p - 1) core' → s.steps ≡ suc s'.steps → IsTurn true l n most us xs p s'
+        went s' core' step put fewer =
+            let as_put : IsPut l n most us xs s reached (p - 1) core here more more_so s.cores.items core' s'.cores.items =
+                (ap length put ∙ put_length s.cores.items (p - 1) core', λ j e h. put_at s.cores.items (p - 1) core' j e (ap (λ cs. slice_get cs j) (sym put) ∙ h)) in
+            subst (λ q. IsTurn true l n most us xs q s') same_number
+            (stepped l n most us xs s reached (p - 1) core here more more_so s' core' (subst (IsWorker n) (sym same_number) own) step as_put fewer)
+
+        pub halfway : (s' : Stage) → IsTried more core s.queue s.table s'.table → IsHalfway l n s'
+        halfway s' tried = go tried.1
+          where
+            go : (held s'.table ≡ held s.table) ⊎ Tried more core s.queue s.table s'.table → IsHalfway l n s'
+            go (inl same) = record { turns = us; steps = xs; by_turns = reached.by_turns; plan_is = tried.0 ∙ reached.plan_is; table_is = same ∙ reached.table_is }
+            go (inr t) =
+                let x : Step = (suc (p - 1), (asked core.left, t.reply)) in
+                record {
+                  turns = us ++ suc (p - 1) ∷ [];
+                  steps = xs ++ x ∷ [];
+                  by_turns = record {
+                    plan = reached.by_turns.plan;
+                    opens_back = reached.by_turns.opens_back;
+                    workers = each_more us (suc (p - 1)) reached.by_turns.workers (subst (IsWorker n) (sym same_number) own);
+                    turned = turned_so l n most us xs s reached (p - 1) core here more more_so t.reply t.reads_back t.answers;
+                  };
+                  plan_is = tried.0 ∙ reached.plan_is;
+                  table_is = t.table_is ∙ ap (λ r. results_next r (asked core.left)) reached.table_is ∙ sym (results_more _ xs x);
+                }
+
+pub same_core : (cores : List Standing) (i : ℕ) (c d : Standing) → slice_get cores i ≡ Some c → slice_get cores i ≡ Some d → c ≡ d
+same_core cores i c d e f = let both : Some c ≡ Some d = sym e ∙ f in cc
+
+pub one_fewer : (k : ℕ) → (k ≡ 0 → ⊥) → k ≡ suc (k - 1)
+one_fewer zero h = absurd (h refl)
+one_fewer (suc k) h = omega arith
