@@ -132,3 +132,30 @@ none_taken l n before (p ∷ us) (skips e t) = (e, none_taken l n before us t)
 
 pub rounds_go : (l : Line) (n : ℕ) (before : List Step) → Turned l n before (round n) [] → AllEnded l n before
 rounds_go l n before t p w = each_round n (HasEnded l before) (none_taken l n before (round n) t) p w
+
+-- ---- turns of the list so far, and turns in rotation so far
+
+pub begins_list : (n : ℕ) (us rest ts : List ℕ) → us ++ rest ≡ ts → Begins us ts n
+begins_list n us rest ts e = (0, rest, e ∙ sym (append-nil ts))
+
+-- a round has begun with its first turns
+round_begins : (n i : ℕ) → i ≤ n → (rest : List ℕ) × (round i ++ rest ≡ round n)
+round_begins n i h = ⊎_elim (λ less. further n less) (λ more. let same : i ≡ n = omega (arith, h, more) in whole_round i n same) (cases_lt i n)
+  where
+    whole_round : (j m : ℕ) → j ≡ m → (rest : List ℕ) × (round j ++ rest ≡ round m)
+    whole_round j m same = ([], append-nil (round j) ∙ ap round same)
+
+    onward : (m : ℕ) → (rest : List ℕ) × (round i ++ rest ≡ round m) → (rest : List ℕ) × (round i ++ rest ≡ round (suc m))
+    onward m r = (r.0 ++ suc m ∷ [], sym (append_assoc (round i) r.0 (suc m ∷ [])) ∙ ap (λ l. l ++ suc m ∷ []) r.1)
+
+    further : (m : ℕ) → i < m → (rest : List ℕ) × (round i ++ rest ≡ round m)
+    further zero less = absurd (omega (arith, less))
+    further (suc m) less = onward m (⊎_elim (λ l. further m l) (λ more. let same : i ≡ m = omega (arith, less, more) in whole_round i m same) (cases_lt i m))
+
+pub begins_rotation : (n k i : ℕ) (ts : List ℕ) → i ≤ n → Begins ((ts ++ rounds n k) ++ round i) ts n
+begins_rotation n k i ts h =
+    let r = round_begins n i h in (
+      suc k,
+      r.0,
+      append_assoc (ts ++ rounds n k) (round i) r.0 ∙ (ap (λ l. (ts ++ rounds n k) ++ l) r.1 ∙ (append_assoc ts (rounds n k) (round n) ∙ ap (λ l. ts ++ l) (sym (rounds_next n k)))),
+    )
