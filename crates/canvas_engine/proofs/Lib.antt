@@ -2,7 +2,7 @@ pub mod RowLookups
 pub mod ReportLines
 pub mod SameText
 pub mod TurnTexts
-pub mod Rounds
 pub mod StageSteps
 pub mod StageAsks
 pub mod StageTurns
+pub mod RoundTurns

@@ -1,8 +1,10 @@
 -- Where a run on one thread stands, and what one ask of one of its workers changes.
-use Rattle.std.specs.Prelude.{◌≡◌, ◌≤◌, ◌<◌, ◌+◌, ◌⊎◌, ℕ, Bool, true, false, suc, IsTrue, All, List, [], ◌∷◌, ◌++◌, length, Option, Some, None, Ok, slice_get}
+use Rattle.std.specs.Prelude.{◌≡◌, ◌≤◌, ◌<◌, ◌+◌, ◌⊎◌, ℕ, Bool, true, false, suc, IsTrue, All, List, [], ◌∷◌, ◌++◌, map, length, Option, Some, None, Ok, slice_get}
 use Rattle.canvas_task.specs.Apply.{IsInRange}
 use Rattle.canvas_task.specs.declared.outcome.Outcome.{Outcome}
+use Rattle.canvas_rewrite.specs.Eval.{State}
 use Rattle.canvas_rewrite.specs.Frozen.{Line}
+use Rattle.canvas_rewrite.specs.States.{numbers_from}
 use Rattle.canvas_message.specs.declared.envelope.Envelope.{Envelope}
 use Rattle.canvas_backend.specs.Backend.{Results, no_results, first_or, count_of}
 use Rattle.canvas_backend.specs.Plain.{Shelf, held}
@@ -21,6 +23,10 @@ use Rattle.canvas_worker.specs.Standing.{Standing, asked, after_reply, begun}
 use Rattle.canvas_worker.specs.declared.cause.Cause.{Cause}
 use Rattle.canvas_worker.specs.declared.cause.Cause.TheVariants.{Memory, Stopped}
 use Rattle.canvas_engine.specs.declared.stage.Stage.{Stage}
+
+-- the outcome of each of so many tasks, by number
+abbrev pub rows_of : ℕ → Results → List State
+rows_of tasks results = map results.outcomes (numbers_from 1 tasks)
 
 -- ---- one ask
 

@@ -5,8 +5,8 @@ ghost use Rattle.canvas_backend.specs.Backend.{no_results};
 ghost use Rattle.canvas_backend.specs.Plain.{held};
 ghost use Rattle.canvas_backend.specs.Roster.{roster_of};
 ghost use Rattle.canvas_runs.specs.Turns.{Step, IsWorker};
-ghost use Rattle.canvas_engine.specs.Correct.{AreWorkers, AreTurns, IsAsked, rows_of, IsWhole, IsWholeWithin, IsRunFault, IsFaultWithin};
-ghost use Rattle.canvas_engine.specs.Steps.{Reached, HasReached, IsNew, IsPartOfRound, IsHaltInRound, IsDone, IsEarlyEnd};
+ghost use Rattle.canvas_engine.specs.Correct.{AreWorkers, AreTurns, IsAsked, IsWhole, IsWholeWithin, IsRunFault, IsFaultWithin};
+ghost use Rattle.canvas_engine.specs.Steps.{rows_of, Reached, HasReached, IsNew, IsPartOfRound, IsHaltInRound, IsDone, IsEarlyEnd};
 
 use crate::stage::Stage;
 use crate::{Cause, Report, RunFault};
@@ -26,8 +26,7 @@ fn run_round(alloc: Global, stage: &mut Stage, plan: &Plan, workers: u32) -> Res
     let mut answered = false;
     for index in 0..workers {
         match stage.turn(alloc, plan, index + 1) {
-            Ok(true) => answered = true,
-            Ok(false) => (),
+            Ok(is_answered) => answered |= is_answered,
             Err(cause) => return Err(cause),
         }
     }

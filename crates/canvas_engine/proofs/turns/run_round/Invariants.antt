@@ -1,0 +1,9 @@
+use Rattle.std.proofs.Common.{◌≡◌, ℕ, List}
+use Rattle.canvas_runs.specs.Turns.{Step}
+use Rattle.canvas_engine.specs.Steps.{Reached, IsPartOfRound}
+use Rattle.canvas_engine.proofs.turns.run_round.Given as goal
+
+-- a part of the round has been taken
+abbrev pub invariant-loop-index : goal.invariant-loop-index
+invariant-loop-index l =
+    (most : ℕ) (us : List ℕ) (xs : List Step) → Reached l.plan l.workers most us xs l.fn.stage → IsPartOfRound l.answered l.plan l.workers most us xs l.index l.fn.stage.steps l.stage

@@ -1,0 +1,11 @@
+use Rattle.std.proofs.Common.{ℕ, ◌++◌}
+use Rattle.canvas_runs.specs.Turns.{rounds}
+use Rattle.canvas_engine.specs.Steps.{HasReached}
+use Rattle.canvas_engine.proofs.turns.run_rounds.Given as goal
+
+-- some rounds have been taken behind the list
+abbrev pub invariant-loop-cause : goal.invariant-loop-cause
+invariant-loop-cause l = (most : ℕ) → HasReached l.plan l.workers most l.turns l.fn.stage → (k : ℕ) × HasReached l.plan l.workers most (l.turns ++ rounds l.workers k) l.stage
+
+abbrev pub decreases-loop-cause : goal.decreases-loop-cause
+decreases-loop-cause l = l.stage.steps
