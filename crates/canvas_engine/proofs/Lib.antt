@@ -5,3 +5,5 @@ pub mod TurnTexts
 pub mod Rounds
 pub mod StageSteps
 pub mod StageAsks
+pub mod Opening
+pub mod ReadRows

@@ -104,10 +104,8 @@ fn new_rows(alloc: Global, plan: &Plan) -> Result<Vec<Option<Outcome>>, Memory>
     ensures { IfOk result (λ rows. length rows.items ≡ count_line plan.now) }
 {
     let pending: Option<Outcome> = None;
-    match Vec::from_elem(alloc, pending, plan.tasks() as usize) {
-        Ok(rows) => Ok(rows),
-        Err(_) => Err(Memory),
-    }
+    let rows = Vec::from_elem(alloc, pending, plan.tasks() as usize)?;
+    Ok(rows)
 }
 
 /// The report of a stage, whose rows were reserved.
