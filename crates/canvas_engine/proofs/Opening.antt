@@ -1,6 +1,5 @@
 -- The envelopes of messages in the queue, and that they read back.
 use Rattle.std.proofs.Common.{◌≡◌, ℕ, suc, ◌+◌, ◌<◌, List, [], ◌∷◌, ◌++◌, length, map, get_or, drop, Ok, refl, sym, ap, ◌∙◌, subst, append_assoc, add-one, drop-cons}
-use Rattle.std.proofs.lemmas.List.Elements.{All-append, All-cons, All-nil}
 use Rattle.canvas_sig.specs.Fields.{Text}
 use Rattle.serde_json.specs.Written.{compact_text}
 use Rattle.canvas_message.specs.Content.{Content}
@@ -10,8 +9,7 @@ use Rattle.canvas_message.specs.declared.envelope.Envelope.{Envelope}
 use Rattle.canvas_message.proofs.EnvelopeLaw.{says_reading}
 use Rattle.canvas_runs.specs.Lists.{Each}
 use Rattle.canvas_runs.specs.Worker.{reading, sealed}
-use Rattle.canvas_worker.specs.Standing.{Standing, begun}
-use Rattle.canvas_engine.specs.Steps.{AreNew, ReadsAs}
+use Rattle.canvas_engine.specs.Steps.{ReadsAs}
 
 of_texts : Text → Text → Text → Envelope
 of_texts p h b = record { properties = p; headers = h; body = b }
@@ -42,10 +40,3 @@ queued_more ms i m before after all h is e so_far =
 
 pub back_more : (ms : List Content) (i : ℕ) (m : Content) (all : Type 0) → i < length ms → m ≡ get_or ms i m → ReadsAs m → (Each ReadsAs (drop i ms) → all) → Each ReadsAs (drop (i + 1) ms) → all
 back_more ms i m all h is back so_far further = so_far (subst (Each ReadsAs) (sym (here ms i m h is)) (back, further))
-
--- ---- one core after the other
-
-pub new_more : (cores : List Standing) (c : Standing) → c ≡ begun → AreNew cores → AreNew (cores ++ c ∷ [])
-new_more cores c e new =
-    let P : Standing → Type 0 = λ d. d ≡ begun in
-    All-append P cores (c ∷ []) new (All-cons P c [] e (All-nil P))
