@@ -103,7 +103,11 @@ fn step(
     }
 }
 
-fn publish_message(alloc: Global, queue: &mut PlainBroker, message: &Message) -> Result<(), Memory>
+fn publish_message(
+    alloc: Global,
+    queue: &mut PlainBroker,
+    message: &Message,
+) -> Result<(), Memory>
     ensures queue { OnOk result (queue.new ≡ queue.old ++ sealed message.now ∷ []) }
     ensures back { OnOk result (ReadsAs message.now) }
 {
@@ -117,7 +121,11 @@ fn publish_message(alloc: Global, queue: &mut PlainBroker, message: &Message) ->
 }
 
 /// Publishes messages in their order.
-fn publish_all(alloc: Global, queue: &mut PlainBroker, messages: &[Message]) -> Result<(), Memory>
+fn publish_all(
+    alloc: Global,
+    queue: &mut PlainBroker,
+    messages: &[Message],
+) -> Result<(), Memory>
     ensures queue { OnOk result (queue.new ≡ queue.old ++ map sealed messages.now) }
     ensures back { OnOk result (Each ReadsAs messages.now) }
 {
@@ -212,13 +220,7 @@ impl Stage {
             return Err(Cause::Stopped);
         }
         let more = matches!(ask, Ask::Rest) && self.holds_more();
-        match step(
-            alloc,
-            &mut self.cores[index],
-            &mut self.queue,
-            &mut self.table,
-            more,
-        ) {
+        match step(alloc, &mut self.cores[index], &mut self.queue, &mut self.table, more) {
             Ok(()) => {
                 self.steps -= 1;
                 Ok(true)
