@@ -6,3 +6,5 @@ pub mod StageSteps
 pub mod StageAsks
 pub mod StageTurns
 pub mod RoundTurns
+pub mod Opening
+pub mod ReadRows

@@ -30,7 +30,7 @@ one_more ns i rows before after all e so_far =
     let up : i + 1 ≡ suc i = omega arith in
     let on : suc i ≡ 1 + i = omega arith in
     let written : after ≡ before ++ line_if (1 + i) (slice_get ns i) rows =
-        e ∙ ap (λ m. before ++ line_if m (name_at ns m) rows) up ∙ ap (λ m. before ++ line_if m (slice_get ns i) rows) on in
+    e ∙ ap (λ m. before ++ line_if m (name_at ns m) rows) up ∙ ap (λ m. before ++ line_if m (slice_get ns i) rows) on in
     ap (λ m. after ++ lines (counted_from (1 + m) (drop m ns)) rows) up
     ∙ ap (λ x. x ++ lines (counted_from (1 + suc i) (drop (suc i) ns)) rows) written
     ∙ append_assoc before (line_if (1 + i) (slice_get ns i) rows) (lines (counted_from (1 + suc i) (drop (suc i) ns)) rows)

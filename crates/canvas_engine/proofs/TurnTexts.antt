@@ -36,7 +36,7 @@ is_read {E} bs turn r high p is =
     let few : digits_value 10 bs < 2 ^ 32 = subst (λ x. digits_value 10 x < 2 ^ 32) same q.0.1 in
     let value : turn ≡ digits_value 10 bs = q.1 ∙ ap (digits_value 10) same in
     let back : decimal (digits_value 10 bs) ≡ bs =
-        decimal-digits_value (numerals_by_value _ tells_digits) bs numeral.1 numeral.0 (λ z. absurd (omega (arith, z, high))) (omega (arith, few)) in
+    decimal-digits_value (numerals_by_value _ tells_digits) bs numeral.1 numeral.0 (λ z. absurd (omega (arith, z, high))) (omega (arith, few)) in
     (omega (arith, few, value), sym back ∙ ap decimal (sym value))
 
 pub only_that : (turn t : ℕ) (bs : List ℕ) → turn < 2 ^ 32 → t < 2 ^ 32 → bs ≡ decimal turn → bs ≡ decimal t → turn ≡ t
@@ -92,9 +92,10 @@ positive bs (suc n) high e = omega arith
 -- what was split off
 pub split_off : (bs first behind : List ℕ) → first ≡ before_first is_comma bs → behind ≡ after_first is_comma bs → position_or_len is_comma bs < length bs
     → (slice_split is_comma bs ≡ first ∷ slice_split is_comma behind) × (length behind < length bs)
-split_off bs first behind e f h =
-    (slice_split_first is_comma bs 0 h ∙ ap (λ x. x ∷ slice_split is_comma (after_first is_comma bs)) (sym e) ∙ ap (λ x. first ∷ slice_split is_comma x) (sym f),
-    omega (arith, h, ap length f, length-drop (position_or_len is_comma bs + 1) bs))
+split_off bs first behind e f h = (
+  slice_split_first is_comma bs 0 h ∙ ap (λ x. x ∷ slice_split is_comma (after_first is_comma bs)) (sym e) ∙ ap (λ x. first ∷ slice_split is_comma x) (sym f),
+  omega (arith, h, ap length f, length-drop (position_or_len is_comma bs + 1) bs),
+)
 
 pub split_or_not : (bs : List ℕ) (r : Option (Bor (List ℕ) × Bor (List ℕ)))
     → MatchOption r (position_or_len is_comma bs ≡ length bs) (λ x. (x.0.now ≡ before_first is_comma bs) × (x.1.now ≡ after_first is_comma bs) × (position_or_len is_comma bs < length bs))

@@ -57,11 +57,7 @@ fn push_rows(text: &mut String, plan: &Plan, rows: &[Option<Outcome>]) -> Result
 }
 
 /// Values, each behind a comma.
-fn push_further(
-    text: &mut String,
-    tasks: &[TaskNo],
-    rows: &[Option<Outcome>],
-) -> Result<(), Memory>
+fn push_further(text: &mut String, tasks: &[TaskNo], rows: &[Option<Outcome>]) -> Result<(), Memory>
     ensures { OnOk result (string_bytes text.new ≡ string_bytes text.old ++ listed_behind (with_states (rows_from 1 rows.now) tasks.now)) }
 {
     for task in tasks {
@@ -71,11 +67,7 @@ fn push_further(
     Ok(())
 }
 
-fn push_values(
-    text: &mut String,
-    tasks: &[TaskNo],
-    rows: &[Option<Outcome>],
-) -> Result<(), Memory>
+fn push_values(text: &mut String, tasks: &[TaskNo], rows: &[Option<Outcome>]) -> Result<(), Memory>
     ensures { OnOk result (string_bytes text.new ≡ string_bytes text.old ++ listed (with_states (rows_from 1 rows.now) tasks.now)) }
 {
     match tasks.split_first() {
@@ -89,11 +81,7 @@ fn push_values(
 }
 
 /// The result of a canvas: a value, or the list of a group's.
-fn push_result(
-    text: &mut String,
-    ends: &Ends<'_>,
-    rows: &[Option<Outcome>],
-) -> Result<(), Memory>
+fn push_result(text: &mut String, ends: &Ends<'_>, rows: &[Option<Outcome>]) -> Result<(), Memory>
     ensures { OnOk result (string_bytes text.new ≡ string_bytes text.old ++ result_text (is_list ends.now) (with_states (rows_from 1 rows.now) (tasks_of ends.now))) }
 {
     match ends {

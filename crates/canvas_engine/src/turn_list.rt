@@ -33,13 +33,7 @@ fn read_turn(text: &str, workers: u32) -> Option<u32>
         return None;
     }
     match text.parse::<u32>() {
-        Ok(turn) => {
-            if turn <= workers {
-                Some(turn)
-            } else {
-                None
-            }
-        }
+        Ok(turn) => { if turn <= workers { Some(turn) } else { None } }
         Err(_) => None,
     }
 }

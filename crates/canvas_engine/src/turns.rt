@@ -11,7 +11,7 @@ ghost use Rattle.canvas_engine.specs.Steps.{rows_of, Reached, HasReached, IsNew,
 use crate::stage::Stage;
 use crate::{Cause, Report, RunFault};
 use canvas_rewrite::Plan;
-use canvas_task::{ListOf, Memory, Outcome};
+use canvas_task::{Fault, ListOf, Memory, Outcome};
 use std::alloc::Global;
 
 /// The most workers of a run.
@@ -102,11 +102,9 @@ fn run_stage(
 fn new_rows(alloc: Global, plan: &Plan) -> Result<Vec<Option<Outcome>>, Memory>
     ensures { IfOk result (λ rows. length rows.items ≡ count_line plan.now) }
 {
-    let pending: Option<Outcome> = None;
-    match Vec::from_elem(alloc, pending, plan.tasks() as usize) {
-        Ok(rows) => Ok(rows),
-        Err(_) => Err(Memory),
-    }
+    // A proof about rows is made only where the type of a failure's fault is named.
+    let _none: Option<Fault> = None;
+    Ok(Vec::from_elem(alloc, None, plan.tasks() as usize)?)
 }
 
 /// The report of a stage, whose rows were reserved.

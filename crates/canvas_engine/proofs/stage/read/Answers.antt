@@ -22,7 +22,7 @@ returns-in-Some c =
     let table = c.args.table.now in
     let old = c.args.core.now in
     each_queue c.answer.result (λ more queue. Stepped more old queue table c.answer.new.self queue table) (λ more queue.
-        answered_ok c.answer.result more old c.answer.new.self queue queue table table (C.read c.args.group c.args.place) (C.found c.in-Some.task c.read.result)
-        (is_read c.args.group c.args.place (asked old.left) (sym c.requires.asks))
-        (at_place c.args.place (members table.plan c.args.group) ∙ sym c.in-Some.ensures, found_says c.read.result _ c.read.ensures.reply)
-        c.requires.reads_back refl refl refl c.answer.ensures.ok)
+    answered_ok c.answer.result more old c.answer.new.self queue queue table table (C.read c.args.group c.args.place) (C.found c.in-Some.task c.read.result)
+    (is_read c.args.group c.args.place (asked old.left) (sym c.requires.asks))
+    (at_place c.args.place (members table.plan c.args.group) ∙ sym c.in-Some.ensures, found_says c.read.result _ c.read.ensures.reply)
+    c.requires.reads_back refl refl refl c.answer.ensures.ok)

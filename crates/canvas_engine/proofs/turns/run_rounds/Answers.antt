@@ -1,4 +1,4 @@
-use Rattle.std.proofs.Common.{ℕ, Bool, true, false, ◌++◌, subst}
+use Rattle.std.proofs.Common.{suc, ◌++◌, subst}
 use Rattle.canvas_runs.specs.Turns.{rounds}
 use Rattle.canvas_engine.specs.Steps.{IsPartOfRound}
 use Rattle.canvas_engine.proofs.RoundTurns.{another_round, halt_in_rounds, last_round}
@@ -20,7 +20,7 @@ loop-cause-preserved c = λ most reached.
     let us = c.args.turns.now ++ rounds c.args.workers here.0 in
     let part = c.in-Ok-true.ensures.ok most us here.1.0 here.1.1 in
     let whole = subst (λ b. IsPartOfRound b c.args.plan.now c.args.workers most us here.1.0 c.args.workers c.loop-cause.stage.steps c.run_round.new.stage) c.in-Ok-true.field-0-test part in
-    (_, another_round c.args.plan.now c.args.workers most c.args.turns.now here.0 c.run_round.new.stage whole.0)
+    (suc here.0, another_round c.args.plan.now c.args.workers most c.args.turns.now here.0 c.run_round.new.stage whole.0)
 
 pub returns-in-Ok-false-clause-ok : goal.returns-in-Ok-false-clause-ok
 returns-in-Ok-false-clause-ok c = λ most reached.
