@@ -62,7 +62,9 @@ fn small(outcome: Option<Outcome>) -> Option<Outcome>
     }
 }
 
-fn publish(queue: &mut PlainBroker, envelope: Envelope) -> Reply {
+fn publish(queue: &mut PlainBroker, envelope: Envelope) -> Reply
+    ensures { FoundInRange result }
+{
     match queue.publish(envelope) {
         Ok(()) => Reply::Published,
         Err(refused) => Reply::NotPublished(refused.envelope),
@@ -237,69 +239,67 @@ fn group(number: u32) -> GroupNo
 
 #[test]
 fn one_task(rt: HostRuntime) {
-    let four = Outcome::Success(4);
-    assert!(rt;
-        asks_so(
-            rt.alloc(),
-            ONE,
-            &[Ask::Take, Ask::Store(task(1), four), Ask::Take, Ask::Rest],
-            &[Some(four)]
-        )
-    );
+    let asks = [
+        Ask::Take,
+        Ask::Store(task(1), Outcome::Success(4)),
+        Ask::Take,
+        Ask::Rest,
+    ];
+    assert!(rt; asks_so(rt.alloc(), ONE, &asks, &[Some(Outcome::Success(4))]));
+}
+
+/// What a task fails with whose header's second member failed.
+fn raised_by_2() -> Outcome {
+    Outcome::Failure(Fault::Chord {
+        dep: task(2),
+        why: Why::Plain(Kind::ZeroDivision),
+    })
 }
 
 #[test]
 fn failed_header(rt: HostRuntime) {
-    let by_2 = Outcome::Failure(Fault::Chord {
-        dep: task(2),
-        why: Why::Plain(Kind::ZeroDivision),
-    });
-    let (eight, sixteen) = (Outcome::Success(8), Outcome::Success(16));
-    let four = Outcome::Success(4);
-    assert!(rt;
-        asks_so(
-            rt.alloc(),
-            CHORD,
-            &[
-                Ask::Take,
-                Ask::Store(task(1), eight),
-                Ask::Part(group(1), task(1)),
-                Ask::Take,
-                Ask::Store(task(2), ZERO_DIVISION),
-                Ask::Part(group(1), task(2)),
-                Ask::Take,
-                Ask::Store(task(3), sixteen),
-                Ask::Part(group(1), task(3)),
-                Ask::Read(group(1), 0),
-                Ask::Read(group(1), 1),
-                Ask::Read(group(1), 2),
-                Ask::Store(task(4), by_2),
-                Ask::Publish,
-                Ask::Take,
-                Ask::Store(task(5), four),
-                Ask::Take,
-                Ask::Rest,
-            ],
-            &[
-                Some(eight),
-                Some(ZERO_DIVISION),
-                Some(sixteen),
-                Some(by_2),
-                Some(four)
-            ]
-        )
-    );
+    let asks = [
+        Ask::Take,
+        Ask::Store(task(1), Outcome::Success(8)),
+        Ask::Part(group(1), task(1)),
+        Ask::Take,
+        Ask::Store(task(2), ZERO_DIVISION),
+        Ask::Part(group(1), task(2)),
+        Ask::Take,
+        Ask::Store(task(3), Outcome::Success(16)),
+        Ask::Part(group(1), task(3)),
+        Ask::Read(group(1), 0),
+        Ask::Read(group(1), 1),
+        Ask::Read(group(1), 2),
+        Ask::Store(task(4), raised_by_2()),
+        Ask::Publish,
+        Ask::Take,
+        Ask::Store(task(5), Outcome::Success(4)),
+        Ask::Take,
+        Ask::Rest,
+    ];
+    let rows = [
+        Some(Outcome::Success(8)),
+        Some(ZERO_DIVISION),
+        Some(Outcome::Success(16)),
+        Some(raised_by_2()),
+        Some(Outcome::Success(4)),
+    ];
+    assert!(rt; asks_so(rt.alloc(), CHORD, &asks, &rows));
 }
 
 #[test]
 fn header_in_a_header(rt: HostRuntime) {
-    assert!(rt;
-        ends_so(
-            rt.alloc(),
-            NESTED,
-            &[1, 2, 3, 5, 10, 1, 11].map(|number| Some(Outcome::Success(number)))
-        )
-    );
+    let rows = [
+        Some(Outcome::Success(1)),
+        Some(Outcome::Success(2)),
+        Some(Outcome::Success(3)),
+        Some(Outcome::Success(5)),
+        Some(Outcome::Success(10)),
+        Some(Outcome::Success(1)),
+        Some(Outcome::Success(11)),
+    ];
+    assert!(rt; ends_so(rt.alloc(), NESTED, &rows));
 }
 
 // ---- what cores drop
