@@ -1,11 +1,3 @@
-pub mod Said
-pub mod Seen
-pub mod Begun
-pub mod Queues
-pub mod PlainStates
 pub mod RowLookups
-pub mod ReportLemmas
+pub mod ReportLines
 pub mod SameText
-pub mod LineTasks
-pub mod FirstMessage
-pub mod NextMessage

@@ -1,5 +1,3 @@
-pub mod Plain
-pub mod Messages
-pub mod Runs
-pub mod Named
+pub mod Correct
 pub mod Texts
+pub mod ReportRows

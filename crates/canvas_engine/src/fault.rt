@@ -1,13 +1,4 @@
-use crate::Report;
-
-/// Why a run ended before its canvas.
-#[derive(Clone, Copy, Debug, Drop, PartialEq, Eq)]
-pub enum Cause {
-    /// A growth was refused.
-    Memory,
-    /// The run was asked to stop.
-    Stopped,
-}
+use crate::{Cause, Report};
 
 /// Why a run has no whole report.
 #[derive(Drop)]

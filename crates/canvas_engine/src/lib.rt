@@ -2,13 +2,16 @@
 #![tactic(auto)]
 
 mod fault;
-mod plain;
 mod report;
 mod report_rows;
+mod stage;
 mod text;
+mod turn_list;
 mod turns;
 
-pub use fault::{Cause, RunFault};
+pub use canvas_worker::Cause;
+pub use fault::RunFault;
 pub use report::{Report, report_text};
 pub use text::{TextFault, rows_text, run_text};
-pub use turns::run_turns;
+pub use turn_list::read_turns;
+pub use turns::{run_turns, run_turns_within};

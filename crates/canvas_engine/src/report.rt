@@ -1,15 +1,14 @@
-ghost use Rattle.std.specs.Prelude.{◌≡◌, ◌++◌, false, IsTrue, IfOk, OnOk, map, string_bytes};
+ghost use Rattle.std.specs.Prelude.{◌≡◌, ◌++◌, ◌+◌, IfOk, OnOk, string_bytes};
+ghost use Rattle.canvas_rewrite.specs.Ends.{is_list, tasks_of};
 ghost use Rattle.canvas_rewrite.specs.Eval.{with_states};
-ghost use Rattle.canvas_rewrite.specs.Frozen.{stop, elements_of, ends_of, tree_of};
-ghost use Rattle.canvas_rewrite.specs.FrozenView.{steps, task_in};
-ghost use Rattle.canvas_rewrite.specs.Report.{lines, report_of, result_text};
+ghost use Rattle.canvas_rewrite.specs.Frozen.{name_of, tree_of};
+ghost use Rattle.canvas_rewrite.specs.Report.{names as named, lines, listed, report_of, result_text};
 ghost use Rattle.canvas_rewrite.specs.States.{rows_from};
-ghost use Rattle.canvas_engine.specs.Plain.{are_plain};
-ghost use Rattle.canvas_engine.specs.Named.{named};
+ghost use Rattle.canvas_engine.specs.ReportRows.{line_if, listed_behind};
 
 use crate::report_rows::{State, push_row};
-use canvas_rewrite::{FrozenTask, Plan};
-use canvas_task::{ListOf, Memory, Outcome};
+use canvas_rewrite::{Ends, Plan};
+use canvas_task::{ListOf, Memory, Outcome, TaskNo};
 use std::alloc::Global;
 
 /// What a run has stored: row k - 1 is of task k. A row of None, and one that is missing, is of a task that is pending.
@@ -18,46 +17,109 @@ pub struct Report {
     pub rows: ListOf<Option<Outcome>>,
 }
 
-fn push_rows(
+/// The line of a task, if the plan has it.
+fn push_task(
     text: &mut String,
-    tasks: &[FrozenTask],
+    plan: &Plan,
+    task: TaskNo,
     rows: &[Option<Outcome>],
 ) -> Result<(), Memory>
-    ensures { OnOk result (string_bytes text.new ≡ string_bytes text.old ++ lines (map named tasks.now) (rows_from 1 rows.now)) }
+    ensures { OnOk result (string_bytes text.new ≡ string_bytes text.old ++ line_if task (name_of plan.now task) (rows_from 1 rows.now)) }
 {
-    for task in tasks {
-        let state = State::of(rows, task.no);
-        push_row(text, task.no, task.name.get(), &state)?;
+    match plan.name(task) {
+        Some(name) => push_row(text, task, name, &State::of(rows, task)),
+        None => Ok(()),
+    }
+}
+
+fn push_number(
+    text: &mut String,
+    plan: &Plan,
+    number: u32,
+    rows: &[Option<Outcome>],
+) -> Result<(), Memory>
+    ensures { OnOk result (string_bytes text.new ≡ string_bytes text.old ++ line_if number (name_of plan.now number) (rows_from 1 rows.now)) }
+{
+    match TaskNo::new(number) {
+        Some(task) => push_task(text, plan, task, rows),
+        None => Ok(()),
+    }
+}
+
+/// The lines of all tasks, in the order of their numbers.
+fn push_rows(text: &mut String, plan: &Plan, rows: &[Option<Outcome>]) -> Result<(), Memory>
+    ensures { OnOk result (string_bytes text.new ≡ string_bytes text.old ++ lines (named (tree_of plan.now)) (rows_from 1 rows.now)) }
+{
+    for index in 0..plan.tasks() {
+        push_number(text, plan, index + 1, rows)?;
     }
     Ok(())
 }
 
-fn push_result(
+/// Values, each behind a comma.
+fn push_further(
     text: &mut String,
-    tasks: &[FrozenTask],
+    tasks: &[TaskNo],
     rows: &[Option<Outcome>],
 ) -> Result<(), Memory>
-    ensures { OnOk result (string_bytes text.new ≡ string_bytes text.old ++ result_text false (with_states (rows_from 1 rows.now) (ends_of (steps (map task_in tasks.now) stop)))) }
+    ensures { OnOk result (string_bytes text.new ≡ string_bytes text.old ++ listed_behind (with_states (rows_from 1 rows.now) tasks.now)) }
 {
-    if let Some(task) = tasks.last() {
-        let state = State::of(rows, task.no);
-        write!(text, "{state}")?;
+    for task in tasks {
+        let state = State::of(rows, *task);
+        write!(text, ", {state}")?;
     }
     Ok(())
+}
+
+fn push_values(
+    text: &mut String,
+    tasks: &[TaskNo],
+    rows: &[Option<Outcome>],
+) -> Result<(), Memory>
+    ensures { OnOk result (string_bytes text.new ≡ string_bytes text.old ++ listed (with_states (rows_from 1 rows.now) tasks.now)) }
+{
+    match tasks.split_first() {
+        Some((first, further)) => {
+            let state = State::of(rows, *first);
+            write!(text, "{state}")?;
+            push_further(text, further, rows)
+        }
+        None => Ok(()),
+    }
+}
+
+/// The result of a canvas: a value, or the list of a group's.
+fn push_result(
+    text: &mut String,
+    ends: &Ends<'_>,
+    rows: &[Option<Outcome>],
+) -> Result<(), Memory>
+    ensures { OnOk result (string_bytes text.new ≡ string_bytes text.old ++ result_text (is_list ends.now) (with_states (rows_from 1 rows.now) (tasks_of ends.now))) }
+{
+    match ends {
+        Ends::One(task) => {
+            let state = State::of(rows, *task);
+            write!(text, "{state}")?;
+            Ok(())
+        }
+        Ends::Many(tasks) => {
+            text.push_str("[")?;
+            push_values(text, tasks, rows)?;
+            text.push_str("]")?;
+            Ok(())
+        }
+    }
 }
 
 /// The report of a plan: a line for each task in the order of their numbers, and one for the result.
-/// Today it takes a plan of tasks alone.
 pub fn report_text(alloc: Global, plan: &Plan, report: &Report) -> Result<String, Memory>
-    requires { IsTrue (are_plain (elements_of plan.now)) }
     ensures { IfOk result (λ text. string_bytes text ≡ report_of (tree_of plan.now) (rows_from 1 report.now.rows)) }
 {
-    let tasks = plan.line().tasks.get();
     let rows = report.rows.get();
     let mut text = String::new(alloc);
-    push_rows(&mut text, tasks, rows)?;
+    push_rows(&mut text, plan, rows)?;
     text.push_str("result ")?;
-    push_result(&mut text, tasks, rows)?;
+    push_result(&mut text, &plan.ends(), rows)?;
     text.push_str("\n")?;
     Ok(text)
 }

@@ -1,14 +1,13 @@
-ghost use Rattle.std.specs.Prelude.{◌≡◌, [], IfOk, IfErr, OnOk, IsTrue, true, string_bytes};
+ghost use Rattle.std.specs.Prelude.{◌≡◌, IfOk, IfErr, OnOk, string_bytes};
 ghost use Rattle.canvas_sig.specs.Normal.{normal};
 ghost use Rattle.canvas_sig.specs.Tree.{Tree, numbered};
-ghost use Rattle.canvas_rewrite.specs.Frozen.{elements_of, tree_of};
+ghost use Rattle.canvas_rewrite.specs.Frozen.{tree_of};
 ghost use Rattle.canvas_rewrite.specs.Report.{report, report_of};
 ghost use Rattle.canvas_rewrite.specs.Same.{IsSame};
 ghost use Rattle.canvas_rewrite.specs.States.{rows_from, states};
-ghost use Rattle.canvas_engine.specs.Plain.{are_plain, is_plain};
+ghost use Rattle.canvas_engine.specs.Correct.{IsAsked};
 ghost use Rattle.canvas_engine.specs.Texts.{IsCanvasText, IsPlanFault, IsPlanOf, IsReadFault, IsTextFault};
 
-use crate::plain::is_plain;
 use crate::{Report, RunFault, report_text, run_turns};
 use canvas_rewrite::{Plan, freeze, normalise};
 use canvas_sig::{Canvas, SigFault, read_canvas};
@@ -46,8 +45,7 @@ fn plan_of(alloc: Global, canvas: &Canvas) -> Result<Plan, Memory>
     freeze(alloc, &line)
 }
 
-/// The canvas of a text, with its plan. Today a canvas with more than tasks, one after another, is refused as a primitive
-/// that isn't known.
+/// The canvas of a text, with its plan.
 fn read_plan(alloc: Global, bytes: &[u8]) -> Result<Plan, TextFault>
     ensures ok { IfOk result (λ plan. (c : Tree) × IsPlanOf bytes.now c plan) }
     ensures err { IfErr result (IsReadFault bytes.now) }
@@ -57,18 +55,15 @@ fn read_plan(alloc: Global, bytes: &[u8]) -> Result<Plan, TextFault>
         Err(SigFault::Memory) => return Err(TextFault::Memory),
         Err(fault) => return Err(TextFault::Sig(fault)),
     };
-    let plan = plan_of(alloc, &canvas)?;
-    if is_plain(plan.line()) {
-        Ok(plan)
-    } else {
-        Err(TextFault::Sig(SigFault::UnknownPrimitive))
+    match plan_of(alloc, &canvas) {
+        Ok(plan) => Ok(plan),
+        Err(Memory) => Err(TextFault::Memory),
     }
 }
 
 /// Runs a plan, and writes its report.
 fn plan_text(alloc: Global, plan: &Plan, workers: u32, turns: &[u32]) -> Result<String, TextFault>
-    requires { IsTrue (are_plain (elements_of plan.now)) }
-    ensures ok { IfOk result (λ text. (workers ≡ 1) × (turns.now ≡ []) × (string_bytes text ≡ report_of (tree_of plan.now) (rows_from 1 (states (tree_of plan.now))))) }
+    ensures ok { IfOk result (λ text. IsAsked workers turns.now × (string_bytes text ≡ report_of (tree_of plan.now) (rows_from 1 (states (tree_of plan.now))))) }
     ensures err { IfErr result (IsPlanFault workers turns.now (states (tree_of plan.now))) }
 {
     match run_turns(alloc, plan, workers, turns) {
@@ -78,14 +73,13 @@ fn plan_text(alloc: Global, plan: &Plan, workers: u32, turns: &[u32]) -> Result<
 }
 
 /// Reads a canvas, runs it on one thread, and writes its report. The faults of the text come first, then those of the run.
-/// Today a canvas with more than tasks, one after another, is refused as a primitive that isn't known.
 pub fn run_text(
     alloc: Global,
     bytes: &[u8],
     workers: u32,
     turns: &[u32],
 ) -> Result<String, TextFault>
-    ensures ok { IfOk result (λ text. (c : Tree) × IsCanvasText bytes.now c × (is_plain c ≡ true) × (workers ≡ 1) × (turns.now ≡ []) × (string_bytes text ≡ report c)) }
+    ensures ok { IfOk result (λ text. (c : Tree) × IsCanvasText bytes.now c × IsAsked workers turns.now × (string_bytes text ≡ report c)) }
     ensures err { IfErr result (IsTextFault bytes.now workers turns.now) }
 {
     let plan = read_plan(alloc, bytes)?;
@@ -94,7 +88,7 @@ pub fn run_text(
 
 /// The report of rows that a run of a text has stored: the canvas is read again, since such a run gives back its rows alone.
 pub fn rows_text(alloc: Global, bytes: &[u8], report: &Report) -> Result<String, TextFault>
-    ensures ok { IfOk result (λ text. (c : Tree) × IsCanvasText bytes.now c × (is_plain c ≡ true) × (string_bytes text ≡ report_of (numbered c) (rows_from 1 report.now.rows))) }
+    ensures ok { IfOk result (λ text. (c : Tree) × IsCanvasText bytes.now c × (string_bytes text ≡ report_of (numbered c) (rows_from 1 report.now.rows))) }
     ensures err { IfErr result (IsReadFault bytes.now) }
 {
     let plan = read_plan(alloc, bytes)?;

@@ -1,9 +1,17 @@
-use Rattle.std.proofs.Common.{◌∙◌}
+use Rattle.std.proofs.Common.{◌++◌, ◌∙◌, ap, sym, arith, string_bytes}
+use Rattle.canvas_rewrite.specs.Frozen.{names}
+use Rattle.canvas_rewrite.specs.Report.{lines}
 use Rattle.canvas_rewrite.specs.States.{rows_from}
-use Rattle.canvas_engine.proofs.ReportLemmas.{one_more}
+use Rattle.canvas_rewrite.proofs.NamesInOrder.{plan_names}
+use Rattle.canvas_engine.proofs.ReportLines.{one_more, all_written, names_long}
 use Rattle.canvas_engine.proofs.report.push_rows.Goals as goal
 
-pub loop-task-preserved : goal.loop-task-preserved
-loop-task-preserved c =
-    one_more c.args.tasks.now _ c.task-item.result (rows_from 1 c.args.rows.now) _ _ _ _ _ c.loop-task-test.true c.task-item.is
-    (c.deref.ensures ∙ c.get.ensures) c.of-state.ensures c.in_ok-push_row.ensures c.loop-task.invariant
+pub loop-index-preserved : goal.loop-index-preserved
+loop-index-preserved c =
+    one_more (names c.args.plan.now) c.loop-index.index (rows_from 1 c.args.rows.now) _ _ _ c.in_ok-push_number.ensures c.loop-index.invariant
+
+pub returns : goal.returns
+returns c =
+    all_written (names c.args.plan.now) c.loop-index.index (rows_from 1 c.args.rows.now) _ _
+    (omega (arith, names_long c.args.plan.now, c.tasks-index-end.ensures.value, c.loop-index-test.false, c.loop-index.auto.index-end)) c.loop-index.invariant
+    ∙ ap (λ ns. string_bytes c.args.text.now ++ lines ns (rows_from 1 c.args.rows.now)) (sym (plan_names c.args.plan.now c.tasks-index-end.ensures.planned))

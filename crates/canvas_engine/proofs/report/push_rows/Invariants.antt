@@ -1,11 +1,11 @@
-use Rattle.std.proofs.Common.{◌≡◌, ◌++◌, map, drop, string_bytes}
-use Rattle.canvas_rewrite.specs.Report.{lines}
+use Rattle.std.proofs.Common.{◌≡◌, ◌++◌, ◌+◌, drop, string_bytes}
+use Rattle.canvas_rewrite.specs.Frozen.{names}
+use Rattle.canvas_rewrite.specs.Report.{counted_from, lines}
 use Rattle.canvas_rewrite.specs.States.{rows_from}
-use Rattle.canvas_engine.specs.Named.{named}
 use Rattle.canvas_engine.proofs.report.push_rows.Given as goal
 
 -- the text so far, and the lines still to come
-abbrev pub invariant-loop-task : goal.invariant-loop-task
-invariant-loop-task l =
-    string_bytes l.text ++ lines (map named (drop l.task-index l.tasks)) (rows_from 1 l.rows)
-    ≡ string_bytes l.fn.text ++ lines (map named l.tasks) (rows_from 1 l.rows)
+abbrev pub invariant-loop-index : goal.invariant-loop-index
+invariant-loop-index l =
+    string_bytes l.text ++ lines (counted_from (1 + l.index) (drop l.index (names l.plan))) (rows_from 1 l.rows)
+    ≡ string_bytes l.fn.text ++ lines (counted_from 1 (names l.plan)) (rows_from 1 l.rows)

@@ -3,7 +3,7 @@ use Rattle.canvas_sig.specs.Normal.{normal}
 use Rattle.canvas_sig.specs.Tree.{Tree, numbered}
 use Rattle.canvas_rewrite.specs.Frozen.{tree_of}
 use Rattle.canvas_rewrite.specs.Same.{IsSame}
-use Rattle.canvas_engine.proofs.Begun.{on_ok}
+use Rattle.canvas_engine.proofs.SameText.{on_ok}
 use Rattle.canvas_engine.proofs.text.plan_of.Goals as goal
 
 pub returns-clause-tree : goal.returns-clause-tree

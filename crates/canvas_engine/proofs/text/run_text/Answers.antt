@@ -1,9 +1,6 @@
 use Rattle.canvas_engine.proofs.SameText.{ran_text, ran_fault}
 use Rattle.canvas_engine.proofs.text.run_text.Goals as goal
 
-pub plan_text-requires : goal.plan_text-requires
-plan_text-requires c = c.in_ok-plan.ensures.ok.1.runs
-
 pub returns-clause-ok : goal.returns-clause-ok
 returns-clause-ok c =
     let plan = c.in_ok-plan.ensures.ok in

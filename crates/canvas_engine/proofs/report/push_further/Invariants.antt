@@ -1,0 +1,11 @@
+use Rattle.std.proofs.Common.{◌≡◌, ◌++◌, drop, string_bytes}
+use Rattle.canvas_rewrite.specs.Eval.{with_states}
+use Rattle.canvas_rewrite.specs.States.{rows_from}
+use Rattle.canvas_engine.specs.ReportRows.{listed_behind}
+use Rattle.canvas_engine.proofs.report.push_further.Given as goal
+
+-- the text so far, and the values still to come
+abbrev pub invariant-loop-task : goal.invariant-loop-task
+invariant-loop-task l =
+    string_bytes l.text ++ listed_behind (with_states (rows_from 1 l.rows) (drop l.task-index l.tasks))
+    ≡ string_bytes l.fn.text ++ listed_behind (with_states (rows_from 1 l.rows) l.tasks)

@@ -1,0 +1,11 @@
+use Rattle.std.proofs.Common.{◌≡◌, ◌++◌, ◌∙◌, OnOk, ap, rules, subst, string_bytes}
+use Rattle.canvas_rewrite.specs.Report.{value_text}
+use Rattle.canvas_rewrite.specs.States.{rows_from}
+use Rattle.canvas_engine.proofs.ReportLines.{values}
+use Rattle.canvas_engine.proofs.report.push_values.Goals as goal
+
+pub returns-in_ok-write-in-Some : goal.returns-in_ok-write-in-Some
+returns-in_ok-write-in-Some c =
+    subst (λ x. OnOk c.push_further.result (string_bytes c.push_further.new.text ≡ x))
+    (values c.in-Some.first.now c.in-Some.further.now c.args.tasks.now (rows_from 1 c.args.rows.now) _ _ (search rules)
+    (c.in_ok-write-in-Some.ensures.bytes ∙ ap (λ s. string_bytes c.args.text.now ++ value_text s) c.of-state.ensures)) c.push_further.ensures

@@ -1,0 +1,14 @@
+-- Pieces of a report, as they are written one after the other.
+use Rattle.std.specs.Prelude.{ℕ, List, [], ◌∷◌, ◌++◌, Option, Some, None, codes}
+use Rattle.canvas_rewrite.specs.Eval.{Rows, state_of}
+use Rattle.canvas_rewrite.specs.Report.{Text, line, value_text}
+
+-- the line of a task that has this name
+abbrev pub line_if : ℕ → Option Text → Rows → Text
+line_if k None rows = []
+line_if k (Some name) rows = line (k, name) (state_of k rows)
+
+-- values behind a first one
+abbrev pub listed_behind : Rows → Text
+listed_behind [] = []
+listed_behind (e ∷ es) = codes ", " ++ value_text e.1 ++ listed_behind es

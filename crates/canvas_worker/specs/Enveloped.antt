@@ -1,0 +1,68 @@
+-- The worker of a plan where each message is kept as its envelope, as a core keeps it (Celery task message protocol, version 2).
+-- `law_of_cores` leads from here to the worker whose messages are what the envelopes say.
+use Rattle.std.specs.Prelude.{◌≡◌, ℕ, Bool, ◌&&◌, if◌then◌else◌, List, [], map, Option, Some, None, is_none, Ok}
+use Rattle.canvas_task.specs.declared.outcome.Outcome.{Outcome}
+use Rattle.canvas_rewrite.specs.FrozenView.{Load}
+use Rattle.canvas_message.specs.Content.{Content, number_of}
+use Rattle.canvas_message.specs.Effects.{outcome_of, after, body_after, script}
+use Rattle.canvas_message.specs.EnvelopeContent.{content_said}
+use Rattle.canvas_message.specs.EnvelopeFaults.{envelope_fault}
+use Rattle.canvas_message.specs.Fits.{fits}
+use Rattle.canvas_message.specs.Job.{Job, store, publish, hand_in}
+use Rattle.canvas_message.specs.declared.envelope.Envelope.{Envelope}
+use Rattle.canvas_backend.specs.Roster.{Roster, members}
+use Rattle.canvas_runs.specs.Book.{Book, book_on}
+use Rattle.canvas_runs.specs.Protocol.{Protocol}
+use Rattle.canvas_runs.specs.Worker.{sealed, reading, opened}
+
+-- what the texts say, whether they are refused or not
+abbrev pub said : Envelope → Content
+said e = content_said e.headers e.body
+
+-- an envelope without texts, which is refused: it stands for one that isn't there
+abbrev pub blank : Envelope
+blank = record { properties = []; headers = []; body = [] }
+
+-- a content that a message may have, and whose texts nothing refuses
+abbrev pub is_sendable : Content → Bool
+is_sendable c = fits c && is_none (envelope_fault (sealed c).properties (sealed c).headers (sealed c).body)
+
+abbrev pub envelope_of : Content → Envelope
+envelope_of c = if is_sendable c then sealed c else blank
+
+-- a job by its message's envelope
+abbrev pub enclosed : Job Content Load Outcome → Job Envelope Load Outcome
+enclosed (store t o) = store t o
+enclosed (publish c) = publish (envelope_of c)
+enclosed (hand_in g t l) = hand_in g t l
+
+-- the envelope where it is that of a message
+abbrev pub kept : Option Content → Envelope → Option Envelope
+kept None e = None
+kept (Some c) e = Some e
+
+-- of what a book knows, and of the last tasks of groups' members
+abbrev pub enveloped_on : Book → (ℕ → List ℕ) → Protocol
+enveloped_on book lasts = record {
+  Envelope = Envelope;
+  Message = Envelope;
+  Carried = Load;
+  Outcome = Outcome;
+  no = λ e. number_of (said e).own;
+  outcome = λ e. outcome_of (said e);
+  ended = λ e o. map enclosed (script (after (said e) o));
+  completed = λ c es. map enclosed (script (body_after c es));
+  size = λ c. c.size;
+  sealed = λ e. e;
+  Back = λ e. reading e ≡ Ok (said e);
+  opened = λ e. kept (opened book e) e;
+  members = lasts;
+  first = [];
+}
+
+abbrev pub enveloped : Roster → Protocol
+enveloped plan = enveloped_on (book_on plan) (members plan)
+
+-- that of a book alone, for what a core asks and what an answer leads to
+abbrev pub enveloped_by : Book → Protocol
+enveloped_by book = enveloped_on book (λ g. [])

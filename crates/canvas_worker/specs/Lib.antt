@@ -1,0 +1,9 @@
+pub mod Books
+pub mod Enveloped
+pub mod Asks
+pub mod Standing
+pub mod Lasts
+pub mod Scripts
+pub mod Phases
+pub mod Codes
+pub mod Cores

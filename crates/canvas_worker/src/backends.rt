@@ -1,0 +1,44 @@
+//! Backends know their plan.
+
+ghost use Rattle.std.specs.Prelude.{refl};
+ghost use Rattle.canvas_worker.specs.Books.{book_in};
+
+use crate::Book;
+use canvas_backend::{Backend, PlainBackend};
+use canvas_task::{GroupNo, TaskNo};
+
+impl Book for PlainBackend {
+    ghost book = { λ b. book_in b.plan };
+
+    ghost from_one = { λ b g. refl };
+
+    fn knows(&self, task: TaskNo) -> bool {
+        self.knows(task)
+    }
+
+    fn size(&self, group: GroupNo) -> Option<u32> {
+        self.size(group)
+    }
+
+    fn is_member(&self, group: GroupNo, task: TaskNo) -> bool {
+        task.get() != 0 && self.is_member(group, task)
+    }
+}
+
+impl Book for Backend {
+    ghost book = { λ b. book_in b.plan };
+
+    ghost from_one = { λ b g. refl };
+
+    fn knows(&self, task: TaskNo) -> bool {
+        self.knows(task)
+    }
+
+    fn size(&self, group: GroupNo) -> Option<u32> {
+        self.size(group)
+    }
+
+    fn is_member(&self, group: GroupNo, task: TaskNo) -> bool {
+        task.get() != 0 && self.is_member(group, task)
+    }
+}

@@ -1,0 +1,223 @@
+//! What a worker has left to do.
+
+ghost use Rattle.std.specs.Prelude.{◌≡◌, ◌≤◌, ◌+◌, min, true, false, Some, OnOk, OnErr, IfOk, IfSome};
+ghost use Rattle.canvas_worker.specs.Asks.{suits, shown, replied, StoresInRange, FoundInRange};
+ghost use Rattle.canvas_worker.specs.Books.{no_book};
+ghost use Rattle.canvas_runs.specs.Core.{ReadsBack, taking, taken};
+ghost use Rattle.canvas_worker.specs.Phases.{left_of, is_out};
+ghost use Rattle.canvas_worker.specs.Standing.{asked, begun, after_reply, failing, held_out, handed, waiting, most, is_inside};
+ghost use Rattle.canvas_worker.specs.Enveloped.{enveloped_by, said};
+ghost use Rattle.canvas_runs.specs.Worker.{opened};
+
+use crate::known::message_known;
+use crate::phase::{Phase, rested, returned};
+use crate::stages::Owned;
+use crate::{Ask, Book, Reply};
+use canvas_message::{Envelope, Message, MessageFault, decode};
+use canvas_task::Memory;
+use std::alloc::Global;
+use std::marker::Model;
+use std::mem;
+
+/// The scripts of messages, one after the other. Contracts see what is left to do.
+///
+/// All that a message or a completed header needs is built before its first store or publish.
+#[derive(Drop)]
+pub struct Core {
+    phase: Phase,
+    dropped: u64,
+}
+
+impl Model for Core {
+    ghost use Rattle.canvas_worker.specs.Phases.{left_of, is_out};
+    ghost use Rattle.canvas_worker.specs.Standing.{Standing};
+    ghost use Rattle.std.specs.Coded.{codes};
+    ghost use Rattle.canvas_message.specs.ContentCode.{content_code};
+    ghost use Rattle.canvas_worker.specs.Codes.{load_code};
+
+    ghost Value = { Standing };
+
+    ghost coded = { Prim.hlevel (codes, content_code, load_code) };
+
+    ghost view = { λ c. record { left = left_of c.phase; is_out = is_out c.phase; dropped = c.dropped } };
+}
+
+/// The message of an envelope, unless it is one to drop.
+fn open<B: Book>(alloc: Global, book: &B, envelope: &Envelope) -> Result<Option<Message>, Memory>
+    ensures value { IfOk result (λ m. m ≡ opened (B.book book.now) envelope.now) }
+    ensures message { IfOk result (λ m. IfSome m (λ c. said envelope.now ≡ c)) }
+{
+    match decode(alloc, envelope) {
+        Ok(message) => {
+            if message_known(book, &message) {
+                Ok(Some(message))
+            } else {
+                Ok(None)
+            }
+        }
+        Err(MessageFault::Memory) => Err(Memory),
+        Err(_) => Ok(None),
+    }
+}
+
+impl Core {
+    /// A core that has nothing to do yet.
+    pub fn new(_alloc: Global) -> Core
+        ensures { result ≡ begun }
+    {
+        Core {
+            phase: Phase::Taking,
+            dropped: 0,
+        }
+    }
+
+    /// What the core asks for.
+    pub fn next(&self) -> Ask
+        ensures ask { result ≡ shown (asked self.now.left) }
+        ensures in_range { StoresInRange (asked self.now.left) }
+        ensures reads_back { self.now.is_out ≡ false → ReadsBack (enveloped_by no_book) self.now.left }
+    {
+        match &self.phase {
+            Phase::Taking => Ask::Take,
+            Phase::Resting => Ask::Rest,
+            Phase::Over => Ask::End,
+            Phase::Failed => Ask::End,
+            Phase::Owning(owned) => Ask::Store(owned.task, owned.outcome),
+            Phase::Storing(storing) => Ask::Store(storing.task, storing.outcome),
+            Phase::Publishing(_) => Ask::Publish,
+            Phase::Returning(part) => Ask::Part(part.group, part.task),
+            Phase::Reading(reading) => Ask::Read(reading.group, reading.found.len() as u32),
+        }
+    }
+
+    /// Hands out the envelope that is to be published, once.
+    pub fn envelope(&mut self) -> Option<Envelope>
+        ensures value { result ≡ held_out self.old }
+        ensures core { self.new ≡ handed self.old }
+    {
+        match &mut self.phase {
+            Phase::Publishing(publishing) => publishing.envelope.take(),
+            _ => None,
+        }
+    }
+
+    /// Whether the core is inside the script of an envelope.
+    pub fn is_inside(&self) -> bool
+        ensures { result ≡ is_inside self.now.left }
+    {
+        match &self.phase {
+            Phase::Taking => false,
+            Phase::Resting => false,
+            Phase::Over => false,
+            Phase::Failed => false,
+            _ => true,
+        }
+    }
+
+    /// How many envelopes were dropped.
+    pub fn dropped(&self) -> u64
+        ensures { result ≡ self.now.dropped }
+    {
+        self.dropped
+    }
+
+    /// Answers what the core asks for. Where memory was refused the core has failed.
+    pub fn answer<B: Book>(&mut self, alloc: Global, book: &B, reply: Reply) -> Result<(), Memory>
+        requires suits { suits (shown (asked self.old.left)) reply ≡ true }
+        requires in_range { FoundInRange reply }
+        ensures ok { OnOk result (self.new ≡ after_reply (B.book book.now) self.old (replied reply)) }
+        ensures err { OnErr result (self.new ≡ failing self.old) }
+    {
+        match mem::replace(&mut self.phase, Phase::Failed) {
+            Phase::Taking => self.take_in(alloc, book, reply),
+            Phase::Resting => {
+                self.set(rested(&reply));
+                Ok(())
+            }
+            Phase::Over => {
+                self.set(Phase::Failed);
+                Ok(())
+            }
+            Phase::Failed => {
+                self.set(Phase::Failed);
+                Ok(())
+            }
+            Phase::Owning(owned) => {
+                self.set(owned.answered(&reply));
+                Ok(())
+            }
+            Phase::Storing(storing) => {
+                self.set(storing.answered(&reply));
+                Ok(())
+            }
+            Phase::Publishing(publishing) => {
+                self.set(publishing.answered(&reply));
+                Ok(())
+            }
+            Phase::Returning(part) => {
+                self.set(returned(alloc, part, &reply));
+                Ok(())
+            }
+            Phase::Reading(reading) => {
+                let phase = reading.answered(alloc, &reply)?;
+                self.set(phase);
+                Ok(())
+            }
+        }
+    }
+
+    fn set(&mut self, phase: Phase)
+        ensures value { self.new ≡ record { left = left_of phase; is_out = is_out phase; dropped = self.old.dropped } }
+        ensures most { self.old.dropped ≤ most }
+    {
+        let _dropped = self.dropped;
+        self.phase = phase;
+    }
+
+    /// The answer to a take. It stays as it was where memory was refused.
+    fn take_in<B: Book>(&mut self, alloc: Global, book: &B, reply: Reply) -> Result<(), Memory>
+        ensures ok { OnOk result (self.new ≡ after_reply (B.book book.now) (waiting self.old.dropped) (replied reply)) }
+        ensures err { OnErr result (self.new ≡ self.old) }
+    {
+        match reply {
+            Reply::Taken(Some(envelope)) => self.take_up(alloc, book, envelope),
+            Reply::Taken(None) => {
+                self.set(Phase::Resting);
+                Ok(())
+            }
+            _ => {
+                self.set(Phase::Failed);
+                Ok(())
+            }
+        }
+    }
+
+    fn take_up<B: Book>(
+        &mut self,
+        alloc: Global,
+        book: &B,
+        envelope: Envelope,
+    ) -> Result<(), Memory>
+        ensures ok { OnOk result (self.new ≡ after_reply (B.book book.now) (waiting self.old.dropped) (taken (Some envelope))) }
+        ensures err { OnErr result (self.new ≡ self.old) }
+    {
+        match open(alloc, book, &envelope)? {
+            Some(message) => {
+                let owned = Owned::of(alloc, envelope, message)?;
+                self.set(Phase::Owning(owned));
+                Ok(())
+            }
+            None => {
+                self.drop_one();
+                Ok(())
+            }
+        }
+    }
+
+    fn drop_one(&mut self)
+        ensures { self.new ≡ record { left = taking; is_out = false; dropped = min most (self.old.dropped + 1) } }
+    {
+        self.dropped = self.dropped.saturating_add(1);
+        self.phase = Phase::Taking;
+    }
+}

@@ -1,0 +1,26 @@
+//! Workers of a plan: what one does next, without the queue and the backend that answer it.
+#![tactic(auto)]
+
+mod ask;
+mod backends;
+mod book;
+mod cause;
+mod core_run;
+mod known;
+mod phase;
+mod script;
+mod sealed;
+mod sealing;
+mod stages;
+
+ghost use Rattle.canvas_worker.specs.Cores.{CoresAreWorkers};
+
+pub use ask::{Ask, Reply};
+pub use book::Book;
+pub use cause::Cause;
+pub use core_run::Core;
+
+/// A core keeps messages as their envelopes. The asks and answers of a core are those of the worker that the law of runs speaks of.
+pub fn law_of_cores()
+    ensures { CoresAreWorkers }
+{}

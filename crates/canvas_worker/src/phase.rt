@@ -1,0 +1,245 @@
+//! Where a core stands in the script of a message.
+
+ghost use Rattle.std.specs.Prelude.{◌≡◌, ◌<◌, ◌++◌, ◌∷◌, [], Ok, IfOk, IfSome, All, true, length, map, unwrap_or};
+ghost use Rattle.std.specs.Option.{option_map};
+ghost use Rattle.canvas_task.specs.Apply.{IsInRange};
+ghost use Rattle.canvas_message.specs.Carrying.{carried_ok};
+ghost use Rattle.canvas_message.specs.Effects.{after, outcome_of, script as whole, parted};
+ghost use Rattle.canvas_message.specs.Elements.{carried_view};
+ghost use Rattle.canvas_message.specs.Job.{store, publish, hand_in};
+ghost use Rattle.canvas_message.specs.Todos.{part_view};
+ghost use Rattle.canvas_worker.specs.Asks.{replied, is_first, FoundInRange};
+ghost use Rattle.canvas_worker.specs.Books.{no_book};
+ghost use Rattle.canvas_runs.specs.Core.{settled, handed_in, all_read, answered, owning, doing, resting, reading as state_reading};
+ghost use Rattle.canvas_worker.specs.Phases.{IsAt};
+ghost use Rattle.canvas_worker.specs.Scripts.{jobs_of};
+ghost use Rattle.canvas_worker.specs.Enveloped.{enveloped_by, said, enclosed, blank};
+
+use crate::Reply;
+use crate::script::Script;
+use crate::sealed::Sealed;
+use crate::sealing::script_of;
+use crate::stages::{Owned, Publishing, Reading, Storing};
+use canvas_backend::Stored;
+use canvas_message::{Envelope, Message, PartCall, body_after};
+use canvas_rewrite::Carried;
+use canvas_task::{Memory, Outcome, TaskNo, apply};
+use std::alloc::Global;
+
+#[derive(Drop)]
+pub(crate) enum Phase {
+    Taking,
+    Resting,
+    Over,
+    Failed,
+    Owning(Owned),
+    Storing(Storing),
+    Publishing(Publishing),
+    Returning(PartCall),
+    Reading(Reading),
+}
+
+fn part_or_take(part: Option<PartCall>, first: bool) -> Phase
+    ensures { IsAt result (settled (enveloped_by no_book) (map enclosed (parted (option_map part_view part))) first) }
+{
+    match part {
+        Some(part) => {
+            if first {
+                Phase::Returning(part)
+            } else {
+                Phase::Taking
+            }
+        }
+        None => Phase::Taking,
+    }
+}
+
+/// What is next in a script.
+fn settle(script: Script) -> Phase
+    ensures { IsAt result (settled (enveloped_by no_book) (jobs_of script) script.first) }
+{
+    let Script {
+        mut stores,
+        mut publishes,
+        part,
+        first,
+    } = script;
+    if let Some((task, outcome)) = stores.pop_front() {
+        let script = Script {
+            stores,
+            publishes,
+            part,
+            first,
+        };
+        return Phase::Storing(Storing {
+            task,
+            outcome,
+            script,
+        });
+    }
+    match publishes.pop_front() {
+        Some(Sealed { envelope }) => Phase::Publishing(Publishing {
+            envelope: Some(envelope),
+            script: Script {
+                stores,
+                publishes,
+                part,
+                first,
+            },
+        }),
+        None => part_or_take(part, first),
+    }
+}
+
+/// The same, where the latest store is answered.
+fn settle_after(script: Script, stored: &Stored) -> Phase
+    ensures { IsAt result (settled (enveloped_by no_book) (jobs_of script) (is_first stored.now)) }
+{
+    let Script {
+        stores,
+        publishes,
+        part,
+        first: _,
+    } = script;
+    settle(Script {
+        stores,
+        publishes,
+        part,
+        first: matches!(stored, Stored::First),
+    })
+}
+
+/// What the call of a message answers.
+fn outcome_of(message: &Message) -> Outcome
+    ensures value { result ≡ outcome_of message.now }
+    ensures in_range { IsInRange result }
+{
+    apply(message.name.get(), message.args.get(), message.kwargs.get())
+}
+
+fn size_of(carried: &Carried) -> u32
+    ensures { result ≡ (carried_view carried.now).size }
+{
+    carried.size
+}
+
+impl Owned {
+    /// An envelope that was taken, with all that its message needs built.
+    pub(crate) fn of(alloc: Global, envelope: Envelope, message: Message) -> Result<Owned, Memory>
+        requires { said envelope ≡ message }
+        ensures { IfOk result (λ o. o.envelope ≡ envelope) }
+    {
+        let task = message.task;
+        let outcome = outcome_of(&message);
+        let script = script_of(alloc, message.into_todo(alloc, &outcome)?, true)?;
+        Ok(Owned {
+            envelope,
+            task,
+            outcome,
+            script,
+        })
+    }
+
+    pub(crate) fn answered(self, reply: &Reply) -> Phase
+        ensures { IsAt result (answered (enveloped_by no_book) (owning self.envelope) (replied reply.now)) }
+    {
+        match reply {
+            Reply::Stored(Stored::First) => settle(self.script),
+            Reply::Stored(Stored::Again) => Phase::Taking,
+            _ => Phase::Failed,
+        }
+    }
+}
+
+impl Storing {
+    pub(crate) fn answered(self, reply: &Reply) -> Phase
+        ensures { IsAt result (answered (enveloped_by no_book) (doing (store self.task self.outcome ∷ jobs_of self.script) self.script.first) (replied reply.now)) }
+    {
+        match reply {
+            Reply::Stored(stored) => settle_after(self.script, stored),
+            _ => Phase::Failed,
+        }
+    }
+}
+
+impl Publishing {
+    pub(crate) fn answered(self, reply: &Reply) -> Phase
+        ensures { IsAt result (answered (enveloped_by no_book) (doing (publish (unwrap_or self.envelope blank) ∷ jobs_of self.script) self.script.first) (replied reply.now)) }
+    {
+        match reply {
+            Reply::Published => settle(self.script),
+            _ => Phase::Failed,
+        }
+    }
+}
+
+/// Where the part was the last of its header, the members are read.
+fn counted(alloc: Global, part: PartCall, count: u64) -> Phase
+    ensures { IsAt result (handed_in (enveloped_by no_book) part.group (carried_view part.chord) count) }
+{
+    let size = u64::from(size_of(&part.chord));
+    if count < size && count + 1 == size {
+        Phase::Reading(Reading {
+            group: part.group,
+            chord: part.chord,
+            found: Vec::new(alloc),
+        })
+    } else {
+        Phase::Taking
+    }
+}
+
+pub(crate) fn returned(alloc: Global, part: PartCall, reply: &Reply) -> Phase
+    ensures { IsAt result (answered (enveloped_by no_book) (doing (hand_in part.group part.task (carried_view part.chord) ∷ []) true) (replied reply.now)) }
+{
+    match reply {
+        Reply::Counted(count) => counted(alloc, part, *count),
+        _ => Phase::Failed,
+    }
+}
+
+pub(crate) fn rested(reply: &Reply) -> Phase
+    ensures { IsAt result (answered (enveloped_by no_book) resting (replied reply.now)) }
+{
+    match reply {
+        Reply::Rested { more: true } => Phase::Taking,
+        Reply::Rested { more: false } => Phase::Over,
+        _ => Phase::Failed,
+    }
+}
+
+impl Reading {
+    /// The outcome of one more member. After the last, all that the body needs is built.
+    fn add(self, alloc: Global, task: TaskNo, outcome: Outcome) -> Result<Phase, Memory>
+        requires { IsInRange outcome }
+        ensures { IfOk result (λ p. IsAt p (all_read (enveloped_by no_book) self.group (carried_view self.chord) (self.found.items ++ (task, outcome) ∷ []))) }
+    {
+        let Reading {
+            group,
+            chord,
+            mut found,
+        } = self;
+        found.push((task, outcome))?;
+        if found.len() == size_of(&chord) as usize {
+            let todo = body_after(alloc, &chord, &found)?;
+            Ok(settle(script_of(alloc, todo, false)?))
+        } else {
+            Ok(Phase::Reading(Reading {
+                group,
+                chord,
+                found,
+            }))
+        }
+    }
+
+    pub(crate) fn answered(self, alloc: Global, reply: &Reply) -> Result<Phase, Memory>
+        requires { FoundInRange reply.now }
+        ensures { IfOk result (λ p. IsAt p (answered (enveloped_by no_book) (state_reading self.group (carried_view self.chord) self.found.items) (replied reply.now))) }
+    {
+        match reply {
+            Reply::Found(task, Some(outcome)) => self.add(alloc, *task, *outcome),
+            Reply::Found(_, None) => Ok(Phase::Taking),
+            _ => Ok(Phase::Failed),
+        }
+    }
+}

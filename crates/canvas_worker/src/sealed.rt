@@ -1,0 +1,25 @@
+//! Envelopes that are to be published.
+
+ghost use Rattle.std.specs.Prelude.{◌≡◌, Ok, IfOk};
+ghost use Rattle.std.specs.Coded.{codes};
+ghost use Rattle.canvas_message.specs.ContentCode.{content_code};
+ghost use Rattle.canvas_runs.specs.Worker.{reading};
+ghost use Rattle.canvas_worker.specs.Enveloped.{said, envelope_of};
+
+use canvas_message::{Envelope, Message, encode};
+use canvas_task::Memory;
+use std::alloc::Global;
+
+/// An envelope that a message can be read from.
+#[derive(Drop)]
+pub(crate) struct Sealed {
+    pub envelope: Envelope,
+    ghost back: { reading envelope ≡ Ok (said envelope) } by { Prim.hlevel (codes, content_code) },
+}
+
+pub(crate) fn seal(alloc: Global, message: &Message) -> Result<Sealed, Memory>
+    ensures { IfOk result (λ s. s.envelope ≡ envelope_of message.now) }
+{
+    let envelope = encode(alloc, message)?;
+    Ok(Sealed { envelope })
+}

@@ -1,0 +1,63 @@
+//! The parts of a message's script that a core can be in.
+
+ghost use Rattle.std.specs.Prelude.{◌≡◌, ◌<◌, Ok, All, true, length, map};
+ghost use Rattle.std.specs.Option.{ForSome};
+ghost use Rattle.std.proofs.Props.{props};
+ghost use Rattle.std.specs.Coded.{codes};
+ghost use Rattle.canvas_task.specs.Apply.{IsInRange};
+ghost use Rattle.canvas_message.specs.Carrying.{carried_ok};
+ghost use Rattle.canvas_message.specs.Content.{number_of};
+ghost use Rattle.canvas_message.specs.ContentCode.{content_code};
+ghost use Rattle.canvas_message.specs.Effects.{after, outcome_of, script as whole};
+ghost use Rattle.canvas_message.specs.Elements.{carried_view};
+ghost use Rattle.canvas_runs.specs.Worker.{reading};
+ghost use Rattle.canvas_worker.specs.Codes.{load_code, range_prop};
+ghost use Rattle.canvas_worker.specs.Enveloped.{said, enclosed};
+ghost use Rattle.canvas_worker.specs.Scripts.{jobs_of};
+
+use crate::script::Script;
+use canvas_message::Envelope;
+use canvas_rewrite::Carried;
+use canvas_task::{GroupNo, Outcome, TaskNo};
+
+/// An envelope whose task's outcome isn't stored yet, with all that follows where that store is the first.
+#[derive(Drop)]
+pub(crate) struct Owned {
+    pub envelope: Envelope,
+    pub task: TaskNo,
+    pub outcome: Outcome,
+    pub script: Script,
+    ghost number: { task ≡ number_of (said envelope).own },
+    ghost value: { outcome ≡ outcome_of (said envelope) },
+    ghost jobs: { jobs_of script ≡ map enclosed (whole (after (said envelope) (outcome_of (said envelope)))) } by { Prim.hlevel (props, codes, content_code, load_code) },
+    ghost first: { script.first ≡ true },
+    ghost in_range: { IsInRange outcome } by { range_prop outcome },
+}
+
+/// A store of a script.
+#[derive(Drop)]
+pub(crate) struct Storing {
+    pub task: TaskNo,
+    pub outcome: Outcome,
+    pub script: Script,
+    ghost in_range: { IsInRange outcome } by { range_prop outcome },
+}
+
+/// A publish of a script, with its envelope until that is handed out.
+#[derive(Drop)]
+pub(crate) struct Publishing {
+    pub envelope: Option<Envelope>,
+    pub script: Script,
+    ghost back: { ForSome envelope (λ e. reading e ≡ Ok (said e)) } by { Prim.hlevel (props, codes, content_code) },
+}
+
+/// A completed header whose members' outcomes are being read.
+#[derive(Drop)]
+pub(crate) struct Reading {
+    pub group: GroupNo,
+    pub chord: Carried,
+    pub found: Vec<(TaskNo, Outcome)>,
+    ghost fits: { carried_ok (carried_view chord) ≡ true },
+    ghost few: { length found.items < (carried_view chord).size },
+    ghost numbers: { All (λ e. IsInRange e.1) found.items } by { Prim.hlevel (props, range_prop) },
+}
