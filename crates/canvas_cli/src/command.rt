@@ -163,7 +163,8 @@ fn run<'w, W: Write>(
 /// Why a run has no whole report. What it stored is printed.
 fn early<'w, W: Write>(alloc: Global, text: &[u8], fault: RunFault, out: &mut W) -> Refusal<'w> {
     if let RunFault::Halted {
-        rows: Some(report), ..
+        rows: Some(report),
+        ..
     } = &fault
     {
         print_rows(alloc, text, report, out);

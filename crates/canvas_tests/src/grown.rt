@@ -18,11 +18,7 @@ struct Part {
 }
 
 /// A call that needs no input, and takes none.
-fn whole_call(
-    alloc: Global,
-    name: &str,
-    numbers: &[i64],
-) -> Result<TaskSig, AllocError> {
+fn whole_call(alloc: Global, name: &str, numbers: &[i64]) -> Result<TaskSig, AllocError> {
     let mut sig = call(alloc, name, numbers)?;
     sig.immutable = true;
     Ok(sig)
@@ -175,7 +171,12 @@ fn group(alloc: Global, parts: Vec<Part>) -> Result<Part, AllocError> {
 }
 
 /// A chord with a sum for its body, or a body that begins with one, or any.
-fn chord(alloc: Global, dice: &mut Dice, header: Vec<Part>, body: Part) -> Result<Part, AllocError> {
+fn chord(
+    alloc: Global,
+    dice: &mut Dice,
+    header: Vec<Part>,
+    body: Part,
+) -> Result<Part, AllocError> {
     let header = members(alloc, header)?;
     let is_open = body.is_open;
     let body = match dice.roll(8) {

@@ -41,9 +41,9 @@ impl Flow {
         match self {
             Flow::Number(number) => Ok(Some(Arg::Num(*number))),
             Flow::Numbers(numbers) => Ok(Some(Arg::List(ListOf::of(numbers.to_vec(alloc)?)))),
-            Flow::Failed(task) => Ok(Some(Arg::Text(TextOf::of(
-                format!(in alloc; "00000000-0000-8000-8000-0000{task:08x}")?,
-            )))),
+            Flow::Failed(task) => Ok(Some(Arg::Text(TextOf::of(format!(in alloc;
+                "00000000-0000-8000-8000-0000{task:08x}"
+            )?)))),
             _ => Ok(None),
         }
     }

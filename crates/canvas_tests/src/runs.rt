@@ -94,30 +94,65 @@ fn spells(alloc: Global, frame: &str, calls: &str, report: &str) -> bool {
 #[test]
 fn chains_and_links(rt: HostRuntime) {
     for (frame, calls, report) in [
-        ("C(.,.)", "add:4,4 mul:8", "#1 tasks.add SUCCESS 8\n#2 tasks.mul SUCCESS 64\nresult 64\n"),
-        ("C(.,!)", "add:2,2 add:4,4", "#1 tasks.add SUCCESS 4\n#2 tasks.add SUCCESS 8\nresult 8\n"),
-        ("C(.,.)", "div:1,0 mul:2", concat!(
-            "#1 tasks.div FAILURE ZeroDivisionError\n",
-            "#2 tasks.mul FAILURE ZeroDivisionError\n",
-            "result ZeroDivisionError\n")),
-        ("C(C(.),.)", "add:1,1 mul:2", "#1 tasks.add SUCCESS 2\n#2 tasks.mul SUCCESS 4\nresult 4\n"),
-        ("+.,.>", "add:1,1 mul:3 div:0", concat!(
-            "#1 tasks.add SUCCESS 2\n",
-            "#2 tasks.mul SUCCESS 6\n",
-            "#3 tasks.div FAILURE ZeroDivisionError\n",
-            "result 2\n")),
-        ("+.>", "div:1,0 ident:", concat!(
-            "#1 tasks.div FAILURE ZeroDivisionError\n",
-            "#2 tasks.ident PENDING -\n",
-            "result ZeroDivisionError\n")),
-        ("C(?.>,?.>)", "div:1,0 log_error: mul:2 log_error:", concat!(
-            "#1 tasks.div FAILURE ZeroDivisionError\n",
-            "#2 tasks.log_error SUCCESS 1\n",
-            "#3 tasks.mul FAILURE ZeroDivisionError\n",
-            "#4 tasks.log_error PENDING -\n",
-            "result ZeroDivisionError\n")),
+        (
+            "C(.,.)",
+            "add:4,4 mul:8",
+            "#1 tasks.add SUCCESS 8\n#2 tasks.mul SUCCESS 64\nresult 64\n",
+        ),
+        (
+            "C(.,!)",
+            "add:2,2 add:4,4",
+            "#1 tasks.add SUCCESS 4\n#2 tasks.add SUCCESS 8\nresult 8\n",
+        ),
+        (
+            "C(.,.)",
+            "div:1,0 mul:2",
+            concat!(
+                "#1 tasks.div FAILURE ZeroDivisionError\n",
+                "#2 tasks.mul FAILURE ZeroDivisionError\n",
+                "result ZeroDivisionError\n"
+            ),
+        ),
+        (
+            "C(C(.),.)",
+            "add:1,1 mul:2",
+            "#1 tasks.add SUCCESS 2\n#2 tasks.mul SUCCESS 4\nresult 4\n",
+        ),
+        (
+            "+.,.>",
+            "add:1,1 mul:3 div:0",
+            concat!(
+                "#1 tasks.add SUCCESS 2\n",
+                "#2 tasks.mul SUCCESS 6\n",
+                "#3 tasks.div FAILURE ZeroDivisionError\n",
+                "result 2\n"
+            ),
+        ),
+        (
+            "+.>",
+            "div:1,0 ident:",
+            concat!(
+                "#1 tasks.div FAILURE ZeroDivisionError\n",
+                "#2 tasks.ident PENDING -\n",
+                "result ZeroDivisionError\n"
+            ),
+        ),
+        (
+            "C(?.>,?.>)",
+            "div:1,0 log_error: mul:2 log_error:",
+            concat!(
+                "#1 tasks.div FAILURE ZeroDivisionError\n",
+                "#2 tasks.log_error SUCCESS 1\n",
+                "#3 tasks.mul FAILURE ZeroDivisionError\n",
+                "#4 tasks.log_error PENDING -\n",
+                "result ZeroDivisionError\n"
+            ),
+        ),
     ] {
-        assert!(rt; spells(rt.alloc(), frame, calls, report), "{frame} of {calls}");
+        assert!(rt;
+            spells(rt.alloc(), frame, calls, report),
+            "{frame} of {calls}"
+        );
     }
 }
 
@@ -126,28 +161,54 @@ fn groups_and_chords(rt: HostRuntime) {
     for (frame, calls, report) in [
         ("H[|.]", "xsum:", "#1 tasks.xsum SUCCESS 0\nresult 0\n"),
         ("G()", "", "result []\n"),
-        ("G(.,.)", "add:1,1 mul:2,3", "#1 tasks.add SUCCESS 2\n#2 tasks.mul SUCCESS 6\nresult [2, 6]\n"),
-        ("H[.,.,.|?.>]", "add:4,4 div:1,0 add:8,8 xsum: log_error:", A_FAILED_MEMBER),
-        ("C(.,G(.,.),.)", "div:1,0 add:1 add:2 xsum:", concat!(
-            "#1 tasks.div FAILURE ZeroDivisionError\n",
-            "#2 tasks.add FAILURE ZeroDivisionError\n",
-            "#3 tasks.add FAILURE ZeroDivisionError\n",
-            "#4 tasks.xsum FAILURE ZeroDivisionError\n",
-            "result ZeroDivisionError\n")),
-        ("H[H[.|.],.|.]", "div:1,0 xsum: add:1,1 xsum:", concat!(
-            "#1 tasks.div FAILURE ZeroDivisionError\n",
-            "#2 tasks.xsum FAILURE ChordError: Dependency #1 raised ZeroDivisionError\n",
-            "#3 tasks.add SUCCESS 2\n",
-            "#4 tasks.xsum FAILURE ChordError: Dependency #2 raised ChordError\n",
-            "result ChordError: Dependency #2 raised ChordError\n")),
-        ("C(H[.,.|.],.)", "add:1,1 add:2,2 xsum: mul:2", concat!(
-            "#1 tasks.add SUCCESS 2\n",
-            "#2 tasks.add SUCCESS 4\n",
-            "#3 tasks.xsum SUCCESS 6\n",
-            "#4 tasks.mul SUCCESS 12\n",
-            "result 12\n")),
+        (
+            "G(.,.)",
+            "add:1,1 mul:2,3",
+            "#1 tasks.add SUCCESS 2\n#2 tasks.mul SUCCESS 6\nresult [2, 6]\n",
+        ),
+        (
+            "H[.,.,.|?.>]",
+            "add:4,4 div:1,0 add:8,8 xsum: log_error:",
+            A_FAILED_MEMBER,
+        ),
+        (
+            "C(.,G(.,.),.)",
+            "div:1,0 add:1 add:2 xsum:",
+            concat!(
+                "#1 tasks.div FAILURE ZeroDivisionError\n",
+                "#2 tasks.add FAILURE ZeroDivisionError\n",
+                "#3 tasks.add FAILURE ZeroDivisionError\n",
+                "#4 tasks.xsum FAILURE ZeroDivisionError\n",
+                "result ZeroDivisionError\n"
+            ),
+        ),
+        (
+            "H[H[.|.],.|.]",
+            "div:1,0 xsum: add:1,1 xsum:",
+            concat!(
+                "#1 tasks.div FAILURE ZeroDivisionError\n",
+                "#2 tasks.xsum FAILURE ChordError: Dependency #1 raised ZeroDivisionError\n",
+                "#3 tasks.add SUCCESS 2\n",
+                "#4 tasks.xsum FAILURE ChordError: Dependency #2 raised ChordError\n",
+                "result ChordError: Dependency #2 raised ChordError\n"
+            ),
+        ),
+        (
+            "C(H[.,.|.],.)",
+            "add:1,1 add:2,2 xsum: mul:2",
+            concat!(
+                "#1 tasks.add SUCCESS 2\n",
+                "#2 tasks.add SUCCESS 4\n",
+                "#3 tasks.xsum SUCCESS 6\n",
+                "#4 tasks.mul SUCCESS 12\n",
+                "result 12\n"
+            ),
+        ),
     ] {
-        assert!(rt; spells(rt.alloc(), frame, calls, report), "{frame} of {calls}");
+        assert!(rt;
+            spells(rt.alloc(), frame, calls, report),
+            "{frame} of {calls}"
+        );
     }
 }
 
@@ -164,25 +225,43 @@ pub const A_FAILED_MEMBER: &str = concat!(
 #[test]
 fn failed_headers(rt: HostRuntime) {
     for (frame, calls, report) in [
-        ("C(G(.),G(?.>,.))", "div:1,0 add:1 log_error: mul:2", concat!(
-            "#1 tasks.div FAILURE ZeroDivisionError\n",
-            "#2 tasks.add FAILURE ChordError: Dependency #1 raised ZeroDivisionError\n",
-            "#3 tasks.log_error SUCCESS 2\n",
-            "#4 tasks.mul FAILURE ChordError: Dependency #1 raised ZeroDivisionError\n",
-            "result [ChordError: Dependency #1 raised ZeroDivisionError, ChordError: Dependency #1 raised ZeroDivisionError]\n")),
-        ("C(G(.),H[.,.|.])", "div:1,0 add:1 add:2 xsum:", concat!(
-            "#1 tasks.div FAILURE ZeroDivisionError\n",
-            "#2 tasks.add FAILURE ChordError: Dependency #1 raised ZeroDivisionError\n",
-            "#3 tasks.add FAILURE ChordError: Dependency #1 raised ZeroDivisionError\n",
-            "#4 tasks.xsum FAILURE ChordError: Dependency #2 raised ChordError\n",
-            "result ChordError: Dependency #2 raised ChordError\n")),
+        (
+            "C(G(.),G(?.>,.))",
+            "div:1,0 add:1 log_error: mul:2",
+            concat!(
+                "#1 tasks.div FAILURE ZeroDivisionError\n",
+                "#2 tasks.add FAILURE ChordError: Dependency #1 raised ZeroDivisionError\n",
+                "#3 tasks.log_error SUCCESS 2\n",
+                "#4 tasks.mul FAILURE ChordError: Dependency #1 raised ZeroDivisionError\n",
+                "result [ChordError: Dependency #1 raised ZeroDivisionError, ChordError: Dependency #1 raised ZeroDivisionError]\n"
+            ),
+        ),
+        (
+            "C(G(.),H[.,.|.])",
+            "div:1,0 add:1 add:2 xsum:",
+            concat!(
+                "#1 tasks.div FAILURE ZeroDivisionError\n",
+                "#2 tasks.add FAILURE ChordError: Dependency #1 raised ZeroDivisionError\n",
+                "#3 tasks.add FAILURE ChordError: Dependency #1 raised ZeroDivisionError\n",
+                "#4 tasks.xsum FAILURE ChordError: Dependency #2 raised ChordError\n",
+                "result ChordError: Dependency #2 raised ChordError\n"
+            ),
+        ),
         // A header with no members passes the exception on as it is.
-        ("C(G(.),H[|.])", "div:1,0 xsum:", concat!(
-            "#1 tasks.div FAILURE ZeroDivisionError\n",
-            "#2 tasks.xsum FAILURE ChordError: Dependency #1 raised ZeroDivisionError\n",
-            "result ChordError: Dependency #1 raised ZeroDivisionError\n")),
+        (
+            "C(G(.),H[|.])",
+            "div:1,0 xsum:",
+            concat!(
+                "#1 tasks.div FAILURE ZeroDivisionError\n",
+                "#2 tasks.xsum FAILURE ChordError: Dependency #1 raised ZeroDivisionError\n",
+                "result ChordError: Dependency #1 raised ZeroDivisionError\n"
+            ),
+        ),
     ] {
-        assert!(rt; spells(rt.alloc(), frame, calls, report), "{frame} of {calls}");
+        assert!(rt;
+            spells(rt.alloc(), frame, calls, report),
+            "{frame} of {calls}"
+        );
     }
 }
 
@@ -201,7 +280,9 @@ fn pairs_report(alloc: Global, count: u32) -> Result<String, Memory> {
     let mut task = 1u32;
     for _ in 0..count {
         let sum = task.saturating_add(1);
-        short.push_str(&format!(in alloc; "#{task} tasks.ident SUCCESS 1\n#{sum} tasks.xsum SUCCESS 1\n")?)?;
+        short.push_str(&format!(in alloc;
+            "#{task} tasks.ident SUCCESS 1\n#{sum} tasks.xsum SUCCESS 1\n"
+        )?)?;
         task = sum.saturating_add(1);
     }
     short.push_str("result 1\n")?;
@@ -233,12 +314,21 @@ fn refusals(rt: HostRuntime) {
         ("{", 2),
         ("[1]", 3),
         (r#"{"task":"x","subtask_type":"starmap"}"#, 4),
-        (r#"{"task":"x","subtask_type":"chord","kwargs":{"header":[]}}"#, 5),
+        (
+            r#"{"task":"x","subtask_type":"chord","kwargs":{"header":[]}}"#,
+            5,
+        ),
         (r#"{"task":"tasks.add","args":[1.5,1]}"#, 6),
         (r#"{"task":"tasks.mul","args":[1152921504606846977]}"#, 6),
-        (r#"{"task":"x","subtask_type":"chain","args":[1],"kwargs":{"tasks":[{"task":"y"}]}}"#, 7),
+        (
+            r#"{"task":"x","subtask_type":"chain","args":[1],"kwargs":{"tasks":[{"task":"y"}]}}"#,
+            7,
+        ),
         (r#"{"task":"x","options":{"chord":{}}}"#, 8),
-        (r#"{"task":"x","subtask_type":"chain","kwargs":{"tasks":[]}}"#, 9),
+        (
+            r#"{"task":"x","subtask_type":"chain","kwargs":{"tasks":[]}}"#,
+            9,
+        ),
     ] {
         assert_eq!(rt; code_of(rt.alloc(), text), code, "{text}");
     }
@@ -270,9 +360,18 @@ fn limits(rt: HostRuntime) -> Result<(), Fail> {
     }
     let groups = repeated(rt.alloc(), 'C', "G()", 29)?;
     let chain = filled(rt.alloc(), "C(_,.)", &groups)?;
-    for (part, count, code) in [(".", 1024, 0), (".", 1025, 12), (chain.as_str(), 35, 0), (chain.as_str(), 40, 12)] {
+    for (part, count, code) in [
+        (".", 1024, 0),
+        (".", 1025, 12),
+        (chain.as_str(), 35, 0),
+        (chain.as_str(), 40, 12),
+    ] {
         let frame = repeated(rt.alloc(), 'G', part, count)?;
-        assert_eq!(rt; code_of_frame(rt.alloc(), &frame), code, "{count} of {part}");
+        assert_eq!(rt;
+            code_of_frame(rt.alloc(), &frame),
+            code,
+            "{count} of {part}"
+        );
     }
     Ok(())
 }

@@ -4,7 +4,9 @@ use crate::notation::{filled, repeated};
 use crate::plans::plan_of;
 use crate::runs::A_FAILED_MEMBER;
 use crate::spelled;
-use canvas_engine::{Cause, RunFault, read_turns, report_text, run_text, run_turns, run_turns_within};
+use canvas_engine::{
+    Cause, RunFault, read_turns, report_text, run_text, run_turns, run_turns_within,
+};
 use canvas_rewrite::Plan;
 use canvas_task::Memory;
 use std::alloc::Global;
@@ -28,7 +30,22 @@ fn lists_of_turns(rt: HostRuntime) {
     assert!(rt; reads(rt.alloc(), "", 2, &[]));
     assert!(rt; reads(rt.alloc(), "10,16", 16, &[10, 16]));
     for list in [
-        "1,,2", "3", "0", "01", "+1", "-1", " 1", "1 ", "1, 2", ",", "1,", ",1", "1;2", "x", "1.", "4294967297",
+        "1,,2",
+        "3",
+        "0",
+        "01",
+        "+1",
+        "-1",
+        " 1",
+        "1 ",
+        "1, 2",
+        ",",
+        "1,",
+        ",1",
+        "1;2",
+        "x",
+        "1.",
+        "4294967297",
         "18446744073709551617",
     ] {
         assert!(rt; is_bad_list(rt.alloc(), list, 2), "{list}");
@@ -56,14 +73,14 @@ fn doubles(alloc: Global, count: u32) -> Result<String, Memory> {
 }
 
 /// The lines of these calls, with the text behind them.
-fn doubled(alloc: Global, count: u32, result: &str) -> Result<String, Memory> {
+fn doubled(alloc: Global, count: u32, last: &str) -> Result<String, Memory> {
     let mut short = String::new(alloc);
     for i in 0..count {
         let task = i.saturating_add(1);
         let double = i.saturating_mul(2);
         short.push_str(&format!(in alloc; "#{task} tasks.add SUCCESS {double}\n")?)?;
     }
-    short.push_str(result)?;
+    short.push_str(last)?;
     spelled::report(alloc, &short)
 }
 
@@ -71,7 +88,11 @@ fn doubled(alloc: Global, count: u32, result: &str) -> Result<String, Memory> {
 fn a_group_of_ten(rt: HostRuntime) -> Result<(), Fail> {
     let frame = repeated(rt.alloc(), 'G', ".", 10)?;
     let text = spelled::canvas(rt.alloc(), &frame, &doubles(rt.alloc(), 10)?)?;
-    let report = doubled(rt.alloc(), 10, "result [0, 2, 4, 6, 8, 10, 12, 14, 16, 18]\n")?;
+    let report = doubled(
+        rt.alloc(),
+        10,
+        "result [0, 2, 4, 6, 8, 10, 12, 14, 16, 18]\n",
+    )?;
     for list in ["", "4,3,2,1", "2,2,2,2,2,2,2", "1,2,3,4,4,4,3,1,2"] {
         assert!(rt; reports(rt.alloc(), &text, 4, list, &report), "{list}");
     }
@@ -85,9 +106,21 @@ fn a_hundred_and_their_sum(rt: HostRuntime) -> Result<(), Fail> {
     let mut calls = doubles(rt.alloc(), 100)?;
     calls.push_str("xsum:")?;
     let text = spelled::canvas(rt.alloc(), &frame, &calls)?;
-    let report = doubled(rt.alloc(), 100, "#101 tasks.xsum SUCCESS 9900\nresult 9900\n")?;
-    for (workers, list) in [(1, ""), (3, "3,3,1"), (16, ""), (16, "16,5,5,5,5,16,16,16,1")] {
-        assert!(rt; reports(rt.alloc(), &text, workers, list, &report), "{workers} with {list}");
+    let report = doubled(
+        rt.alloc(),
+        100,
+        "#101 tasks.xsum SUCCESS 9900\nresult 9900\n",
+    )?;
+    for (workers, list) in [
+        (1, ""),
+        (3, "3,3,1"),
+        (16, ""),
+        (16, "16,5,5,5,5,16,16,16,1"),
+    ] {
+        assert!(rt;
+            reports(rt.alloc(), &text, workers, list, &report),
+            "{workers} with {list}"
+        );
     }
     Ok(())
 }
@@ -113,7 +146,11 @@ fn two_failed_members(rt: HostRuntime) -> Result<(), Fail> {
 
 /// A chord with a member that fails.
 fn failing(alloc: Global) -> Result<String, Memory> {
-    spelled::canvas(alloc, "H[.,.,.|?.>]", "add:4,4 div:1,0 add:8,8 xsum: log_error:")
+    spelled::canvas(
+        alloc,
+        "H[.,.,.|?.>]",
+        "add:4,4 div:1,0 add:8,8 xsum: log_error:",
+    )
 }
 
 #[test]
@@ -141,7 +178,15 @@ fn workers_and_turns(rt: HostRuntime) -> Result<(), Fail> {
     let text = failing(rt.alloc())?;
     match plan_of(rt.alloc(), &text) {
         Some(plan) => {
-            for (workers, turn, end) in [(0, 1, 1), (17, 1, 1), (17, 18, 1), (2, 3, 2), (2, 0, 2), (2, 2, 0), (16, 16, 0)] {
+            for (workers, turn, end) in [
+                (0, 1, 1),
+                (17, 1, 1),
+                (17, 18, 1),
+                (2, 3, 2),
+                (2, 0, 2),
+                (2, 2, 0),
+                (16, 16, 0),
+            ] {
                 let found = end_of(rt.alloc(), &plan, workers, &[turn]);
                 assert_eq!(rt; found, end, "{workers} workers, turn {turn}");
             }
@@ -155,10 +200,12 @@ fn workers_and_turns(rt: HostRuntime) -> Result<(), Fail> {
 fn within(alloc: Global, plan: &Plan, steps: u64) -> Option<(String, bool)> {
     match run_turns_within(alloc, plan, 1, &[], steps) {
         Ok(report) => with_end(report_text(alloc, plan, &report), true),
-        Err(RunFault::Halted {
-            cause: Cause::Stopped,
-            rows: Some(report),
-        }) => with_end(report_text(alloc, plan, &report), false),
+        Err(
+            RunFault::Halted {
+                cause: Cause::Stopped,
+                rows: Some(report),
+            },
+        ) => with_end(report_text(alloc, plan, &report), false),
         Err(_) => None,
     }
 }
@@ -189,12 +236,31 @@ fn steps_of_two_tasks(rt: HostRuntime) -> Result<(), Fail> {
     match plan_of(rt.alloc(), &text) {
         Some(plan) => {
             for (steps, report, ends) in [
-                (0, "#1 tasks.add PENDING -\n#2 tasks.mul PENDING -\nresult -\n", false),
-                (2, "#1 tasks.add SUCCESS 8\n#2 tasks.mul PENDING -\nresult -\n", false),
-                (6, "#1 tasks.add SUCCESS 8\n#2 tasks.mul SUCCESS 64\nresult 64\n", false),
-                (7, "#1 tasks.add SUCCESS 8\n#2 tasks.mul SUCCESS 64\nresult 64\n", true),
+                (
+                    0,
+                    "#1 tasks.add PENDING -\n#2 tasks.mul PENDING -\nresult -\n",
+                    false,
+                ),
+                (
+                    2,
+                    "#1 tasks.add SUCCESS 8\n#2 tasks.mul PENDING -\nresult -\n",
+                    false,
+                ),
+                (
+                    6,
+                    "#1 tasks.add SUCCESS 8\n#2 tasks.mul SUCCESS 64\nresult 64\n",
+                    false,
+                ),
+                (
+                    7,
+                    "#1 tasks.add SUCCESS 8\n#2 tasks.mul SUCCESS 64\nresult 64\n",
+                    true,
+                ),
             ] {
-                assert!(rt; is_within(rt.alloc(), &plan, steps, report, ends), "{steps} steps");
+                assert!(rt;
+                    is_within(rt.alloc(), &plan, steps, report, ends),
+                    "{steps} steps"
+                );
             }
         }
         None => assert!(rt; false),
@@ -205,10 +271,9 @@ fn steps_of_two_tasks(rt: HostRuntime) -> Result<(), Fail> {
 /// Whether each line of a report is that of another, or of a task that is pending. The results aside.
 fn is_pending_or(found: &str, whole: &str) -> bool {
     found.lines().count() == whole.lines().count()
-        && found
-            .lines()
-            .zip(whole.lines())
-            .all(|(line, other)| line == other || line.ends_with("PENDING -") || line.starts_with("result "))
+        && found.lines().zip(whole.lines()).all(|(line, other)| line == other
+            || line.ends_with("PENDING -")
+            || line.starts_with("result "))
 }
 
 /// Whether a run of some steps has the rows of a report, or pending ones; None where it ends.
