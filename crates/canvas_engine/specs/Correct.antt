@@ -3,7 +3,8 @@
 --     AreWorkers n          1 to 16 workers
 --     AreTurns n turns      each turn is of one of them
 --     PendingOr rows states each row is pending or the state of its task
---     IsWhole l n turns most rows    rows of a run by these turns, and then in rotation, that went on until all workers had ended, by at most so many steps
+--     IsWhole l n turns rows    rows of a run by these turns, and then in rotation, that went on until all workers had ended
+--     IsWholeWithin l n turns most rows    of at most so many steps
 --     IsCut l n turns steps rows     rows of a run that was cut off after so many steps, with some worker that had not ended
 use Rattle.std.specs.Prelude.{◌≡◌, ◌≤◌, ◌⊎◌, ℕ, List, [], ◌∷◌, All, length, map, Option, Some, None}
 use Rattle.canvas_rewrite.specs.Eval.{State}
@@ -35,12 +36,14 @@ PendingOr rows ss = ⊥
 abbrev pub rows_of : ℕ → Results → List State
 rows_of tasks results = map results.outcomes (numbers_from 1 tasks)
 
-pub record IsWhole (l : Line) (n : ℕ) (turns : List ℕ) (most : ℕ) (rows : List State) : Type 0 where
+pub record IsWhole (l : Line) (n : ℕ) (turns : List ℕ) (rows : List State) : Type 0 where
   pub run : RanWhole l n turns
-  pub few : length run.steps ≤ most
   pub held : rows ≡ rows_of (count_line l) (results_after run.steps)
   -- what evaluating the plan's tree gives
   pub are : rows ≡ states (tree_of l)
+
+abbrev pub IsWholeWithin : Line → ℕ → List ℕ → ℕ → List State → Type 0
+IsWholeWithin l n turns most rows = (whole : IsWhole l n turns rows) × (length whole.run.steps ≤ most)
 
 pub record IsCut (l : Line) (n : ℕ) (turns : List ℕ) (steps : ℕ) (rows : List State) : Type 0 where
   pub run : RanUntil l n turns steps

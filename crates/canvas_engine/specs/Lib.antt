@@ -1,3 +1,5 @@
 pub mod Correct
 pub mod Texts
+pub mod TurnList
 pub mod ReportRows
+pub mod Steps

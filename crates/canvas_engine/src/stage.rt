@@ -1,13 +1,142 @@
 //! The workers of a run on one thread, with the queue and the table of results that they share.
+ghost use Rattle.std.specs.Prelude.{◌≡◌, ◌≤◌, ◌+◌, ◌++◌, ◌∷◌, ℕ, Bool, Some, false, true, not, ◌||◌, [], List, map, length, IfOk, IfErr, OnOk, OnErr, IsTrue, slice_get};
+ghost use Rattle.std.specs.List.{list_any};
+ghost use Rattle.canvas_rewrite.specs.Frozen.{count_line};
+ghost use Rattle.canvas_rewrite.specs.Planned.{IsPlan};
+ghost use Rattle.canvas_message.specs.Effects.{first_messages};
+ghost use Rattle.canvas_backend.specs.Backend.{no_results};
+ghost use Rattle.canvas_backend.specs.Plain.{held};
+ghost use Rattle.canvas_backend.specs.Roster.{roster_of};
+ghost use Rattle.canvas_runs.specs.Core.{end, ReadsBack};
+ghost use Rattle.canvas_runs.specs.Lists.{Each};
+ghost use Rattle.canvas_message.specs.declared.envelope.Envelope.{Envelope};
+ghost use Rattle.canvas_runs.specs.Turns.{Step, IsWorker, FirstsRead, is_queued};
+ghost use Rattle.canvas_runs.specs.Worker.{sealed};
+ghost use Rattle.canvas_worker.specs.Asks.{shown};
+ghost use Rattle.canvas_worker.specs.Books.{no_book};
+ghost use Rattle.canvas_worker.specs.Enveloped.{enveloped_by};
+ghost use Rattle.canvas_worker.specs.Standing.{Standing, asked, is_inside};
+ghost use Rattle.canvas_worker.specs.declared.ask.Ask.TheVariants as ask;
+ghost use Rattle.canvas_engine.specs.Correct.{rows_of};
+ghost use Rattle.canvas_engine.specs.Steps.{MayAsk, AreInRange, Stepped, IsTried, ReadsAs, AreNew, Reached, HasReached, IsTurn, IsHalt, IsNew};
 
 use crate::Cause;
 use canvas_backend::PlainBackend;
 use canvas_broker::PlainBroker;
-use canvas_message::{encode, first_messages};
+use canvas_message::{Message, encode, first_messages};
 use canvas_rewrite::Plan;
 use canvas_task::{GroupNo, Memory, Outcome, TaskNo};
 use canvas_worker::{Ask, Core, Reply};
 use std::alloc::Global;
+
+/// Publishes what a worker hands out.
+fn publish(
+    alloc: Global,
+    core: &mut Core,
+    queue: &mut PlainBroker,
+    table: &PlainBackend,
+) -> Result<(), Memory>
+    requires inside { core.old.is_out ≡ false }
+    requires reads_back { ReadsBack (enveloped_by no_book) core.old.left }
+    requires asks { shown (asked core.old.left) ≡ ask.Publish }
+    ensures { OnOk result ((more : Bool) → Stepped more core.old queue.old table.now core.new queue.new table.now) }
+{
+    match core.envelope() {
+        Some(envelope) => match queue.publish(envelope) {
+            Ok(()) => core.answer(alloc, table, Reply::Published),
+            Err(_refused) => Err(Memory),
+        },
+        None => Err(Memory),
+    }
+}
+
+/// Reads the outcome of a chord's member.
+fn read(
+    alloc: Global,
+    core: &mut Core,
+    table: &PlainBackend,
+    group: GroupNo,
+    place: u32,
+) -> Result<(), Memory>
+    requires inside { core.old.is_out ≡ false }
+    requires reads_back { ReadsBack (enveloped_by no_book) core.old.left }
+    requires asks { shown (asked core.old.left) ≡ ask.Read group place }
+    requires may { MayAsk table.now.plan (held table.now) (asked core.old.left) }
+    requires in_range { AreInRange (held table.now) }
+    ensures { OnOk result ((more : Bool) (queue : List Envelope) → Stepped more core.old queue table.now core.new queue table.now) }
+{
+    match table.member(group, place) {
+        Some(task) => core.answer(alloc, table, Reply::Found(task, table.read(task))),
+        None => Err(Memory),
+    }
+}
+
+/// One ask of a worker, answered by the queue and the table. A worker that rests is told whether there is more.
+fn step(
+    alloc: Global,
+    core: &mut Core,
+    queue: &mut PlainBroker,
+    table: &mut PlainBackend,
+    more: bool,
+) -> Result<(), Memory>
+    requires inside { core.old.is_out ≡ false }
+    requires may { MayAsk table.old.plan (held table.old) (asked core.old.left) }
+    requires in_range { AreInRange (held table.old) }
+    requires going { asked core.old.left ≡ end → ⊥ }
+    ensures ok { OnOk result (Stepped more core.old queue.old table.old core.new queue.new table.new) }
+    ensures err { OnErr result (IsTried more core.old queue.old table.old table.new) }
+{
+    match core.next() {
+        Ask::Take => core.answer(alloc, table, Reply::Taken(queue.take())),
+        Ask::Publish => publish(alloc, core, queue, table),
+        Ask::Store(task, outcome) => {
+            let stored = table.store(task, &outcome);
+            core.answer(alloc, table, Reply::Stored(stored))
+        }
+        Ask::Part(group, task) => {
+            let count = table.part(group, task);
+            core.answer(alloc, table, Reply::Counted(count))
+        }
+        Ask::Read(group, place) => read(alloc, core, table, group, place),
+        Ask::Rest => core.answer(alloc, table, Reply::Rested { more }),
+        Ask::End => Ok(()),
+    }
+}
+
+fn publish_message(
+    alloc: Global,
+    queue: &mut PlainBroker,
+    message: &Message,
+) -> Result<(), Memory>
+    ensures queue { OnOk result (queue.new ≡ queue.old ++ sealed message.now ∷ []) }
+    ensures back { OnOk result (ReadsAs message.now) }
+{
+    match encode(alloc, message) {
+        Ok(envelope) => match queue.publish(envelope) {
+            Ok(()) => Ok(()),
+            Err(_refused) => Err(Memory),
+        },
+        Err(Memory) => Err(Memory),
+    }
+}
+
+/// Publishes messages in their order.
+fn publish_all(
+    alloc: Global,
+    queue: &mut PlainBroker,
+    messages: &[Message],
+) -> Result<(), Memory>
+    ensures queue { OnOk result (queue.new ≡ queue.old ++ map sealed messages.now) }
+    ensures back { OnOk result (Each ReadsAs messages.now) }
+{
+    for message in messages {
+        match publish_message(alloc, queue, message) {
+            Ok(()) => (),
+            Err(Memory) => return Err(Memory),
+        }
+    }
+    Ok(())
+}
 
 /// The workers, numbered from 1, with what they share, and how many asks may still be answered.
 #[derive(Drop)]
@@ -19,12 +148,20 @@ pub(crate) struct Stage {
 }
 
 /// Workers that have asked for nothing yet.
-fn new_cores(alloc: Global, workers: u32) -> Result<Vec<Core>, Memory> {
+fn new_cores(alloc: Global, workers: u32) -> Result<Vec<Core>, Memory>
+    ensures { IfOk result (λ cores. (length cores.items ≡ workers) × AreNew cores.items) }
+{
     let mut cores = Vec::new(alloc);
     for _worker in 0..workers {
         cores.push(Core::new(alloc))?;
     }
     Ok(cores)
+}
+
+fn is_any_inside(cores: &[Core]) -> bool
+    ensures { result ≡ list_any (λ c. is_inside c.left) cores.now }
+{
+    cores.iter().any(|core| core.is_inside())
 }
 
 impl Stage {
@@ -34,98 +171,82 @@ impl Stage {
         plan: &Plan,
         workers: u32,
         steps: u128,
-    ) -> Result<Stage, Memory> {
+    ) -> Result<Stage, Memory>
+        ensures new { IfOk result (λ s. IsNew plan.now workers s) }
+        ensures steps { IfOk result (λ s. s.steps ≡ steps) }
+    {
+        let cores = new_cores(alloc, workers)?;
+        let table = PlainBackend::new(alloc, plan)?;
         Ok(Stage {
             queue: PlainBroker::new(alloc),
-            table: PlainBackend::new(alloc, plan)?,
-            cores: new_cores(alloc, workers)?,
+            table,
+            cores,
             steps,
         })
     }
 
     /// Publishes the messages of the tasks that start at once.
-    pub(crate) fn open(&mut self, alloc: Global, plan: &Plan) -> Result<(), Memory> {
-        let messages = first_messages(alloc, plan)?;
-        for message in &messages {
-            let envelope = encode(alloc, message)?;
-            if self.queue.publish(envelope).is_err() {
-                return Err(Memory);
-            }
+    pub(crate) fn open(&mut self, alloc: Global, plan: &Plan) -> Result<(), Memory>
+        requires { self.old.queue ≡ [] }
+        ensures queue { OnOk result (self.new.queue ≡ map sealed (first_messages plan.now)) }
+        ensures back { OnOk result (FirstsRead plan.now) }
+        ensures others { (self.new.table ≡ self.old.table) × (self.new.cores ≡ self.old.cores) × (self.new.steps ≡ self.old.steps) }
+    {
+        match first_messages(alloc, plan) {
+            Ok(messages) => publish_all(alloc, &mut self.queue, &messages),
+            Err(Memory) => Err(Memory),
         }
-        Ok(())
     }
 
     /// Whether the queue holds something or a worker is inside a message.
-    fn holds_more(&self) -> bool {
-        !self.queue.is_empty() || self.cores.iter().any(|core| core.is_inside())
-    }
-
-    /// Publishes what a worker hands out.
-    fn publish(&mut self, index: usize) -> Result<Reply, Memory> {
-        match self.cores[index].envelope() {
-            Some(envelope) => match self.queue.publish(envelope) {
-                Ok(()) => Ok(Reply::Published),
-                Err(_refused) => Err(Memory),
-            },
-            None => Err(Memory),
-        }
-    }
-
-    /// The outcome of a member of a chord.
-    fn found(&self, group: GroupNo, place: u32) -> Reply {
-        match self.table.member(group, place) {
-            Some(task) => Reply::Found(task, self.table.read(task)),
-            None => Reply::Rested { more: false },
-        }
-    }
-
-    fn store(&mut self, task: TaskNo, outcome: &Outcome) -> Reply {
-        Reply::Stored(self.table.store(task, outcome))
-    }
-
-    /// What the queue and the table answer to an ask of a worker; None at its end.
-    fn reply(&mut self, index: usize) -> Result<Option<Reply>, Memory> {
-        match self.cores[index].next() {
-            Ask::End => Ok(None),
-            Ask::Take => Ok(Some(Reply::Taken(self.queue.take()))),
-            Ask::Publish => Ok(Some(self.publish(index)?)),
-            Ask::Store(task, outcome) => Ok(Some(self.store(task, &outcome))),
-            Ask::Part(group, task) => Ok(Some(Reply::Counted(self.table.part(group, task)))),
-            Ask::Read(group, place) => Ok(Some(self.found(group, place))),
-            Ask::Rest => Ok(Some(Reply::Rested {
-                more: self.holds_more(),
-            })),
-        }
+    fn holds_more(&self) -> bool
+        ensures { result ≡ (is_queued self.now.queue || list_any (λ c. is_inside c.left) self.now.cores.items) }
+    {
+        !self.queue.is_empty() || is_any_inside(&self.cores)
     }
 
     /// A worker's turn: one ask of it is answered, unless it is at its end. Whether one was.
-    pub(crate) fn turn(&mut self, alloc: Global, worker: u32) -> Result<bool, Cause> {
+    pub(crate) fn turn(&mut self, alloc: Global, plan: &Plan, worker: u32) -> Result<bool, Cause>
+        requires { (n : ℕ) × (most : ℕ) × (us : List ℕ) × IsWorker n worker × HasReached plan.now n most us self.old }
+        ensures ok { IfOk result (λ b. (n : ℕ) (most : ℕ) (us : List ℕ) (xs : List Step) → Reached plan.now n most us xs self.old → IsTurn b plan.now n most us xs worker self.new) }
+        ensures err { IfErr result (λ cause. (n : ℕ) (most : ℕ) (us : List ℕ) (xs : List Step) → Reached plan.now n most us xs self.old → IsHalt cause plan.now n most us self.new) }
+    {
         let index = worker as usize - 1;
-        if matches!(self.cores[index].next(), Ask::End) {
+        let ask = self.cores[index].next();
+        if matches!(ask, Ask::End) {
             return Ok(false);
         }
         if self.steps == 0 {
             return Err(Cause::Stopped);
         }
-        match self.reply(index) {
-            Ok(Some(reply)) => match self.cores[index].answer(alloc, &self.table, reply) {
-                Ok(()) => {
-                    self.steps -= 1;
-                    Ok(true)
-                }
-                Err(Memory) => Err(Cause::Memory),
-            },
-            Ok(None) => Ok(false),
+        let more = matches!(ask, Ask::Rest) && self.holds_more();
+        match step(alloc, &mut self.cores[index], &mut self.queue, &mut self.table, more) {
+            Ok(()) => {
+                self.steps -= 1;
+                Ok(true)
+            }
             Err(Memory) => Err(Cause::Memory),
         }
     }
 
-    /// Fills the rows with the outcomes that are stored.
-    pub(crate) fn read_rows(&self, rows: &mut [Option<Outcome>]) {
-        for index in 0..rows.len() {
-            if let Some(task) = TaskNo::new(index as u32 + 1) {
-                rows[index] = self.table.read(task);
-            }
+    fn row(&self, number: u32) -> Option<Outcome>
+        requires { number ≤ self.now.table.plan.tasks }
+        ensures { 1 ≤ number → result ≡ (held self.now.table).outcomes number }
+    {
+        match TaskNo::new(number) {
+            Some(task) => self.table.read(task),
+            None => None,
+        }
+    }
+
+    /// Fills the rows, one for each task, with the outcomes that are stored.
+    pub(crate) fn read_rows(&self, plan: &Plan, rows: &mut [Option<Outcome>])
+        requires plan { self.now.table.plan ≡ roster_of plan.now }
+        requires rows { length rows.old ≡ count_line plan.now }
+        ensures { rows.new ≡ rows_of (count_line plan.now) (held self.now.table) }
+    {
+        for index in 0..plan.tasks() {
+            rows[index as usize] = self.row(index + 1);
         }
     }
 }

@@ -1,58 +1,126 @@
+ghost use Rattle.std.specs.Prelude.{◌≡◌, ◌≢◌, ◌≤◌, ◌<◌, ℕ, All, List, [], length, IfOk, IfErr, OnOk, OnErr, MatchBool};
+ghost use Rattle.canvas_rewrite.specs.Frozen.{count_line, tree_of};
+ghost use Rattle.canvas_rewrite.specs.States.{states};
+ghost use Rattle.canvas_backend.specs.Backend.{no_results};
+ghost use Rattle.canvas_backend.specs.Plain.{held};
+ghost use Rattle.canvas_backend.specs.Roster.{roster_of};
+ghost use Rattle.canvas_runs.specs.Turns.{Step, IsWorker};
+ghost use Rattle.canvas_engine.specs.Correct.{AreWorkers, AreTurns, IsAsked, rows_of, IsWhole, IsWholeWithin, IsRunFault, IsFaultWithin};
+ghost use Rattle.canvas_engine.specs.Steps.{Reached, HasReached, IsNew, IsPartOfRound, IsHaltInRound, IsDone, IsEarlyEnd};
+
 use crate::stage::Stage;
 use crate::{Cause, Report, RunFault};
 use canvas_rewrite::Plan;
 use canvas_task::{ListOf, Memory, Outcome};
 use std::alloc::Global;
 
+/// The most workers of a run.
+const WORKERS: u32 = 16;
+
 /// A turn of each worker, from the first to the last. Whether an ask was answered.
-fn run_round(alloc: Global, stage: &mut Stage, workers: u32) -> Result<bool, Cause> {
+fn run_round(alloc: Global, stage: &mut Stage, plan: &Plan, workers: u32) -> Result<bool, Cause>
+    requires { (most : ℕ) × (us : List ℕ) × HasReached plan.now workers most us stage.old }
+    ensures ok { IfOk result (λ b. (most : ℕ) (us : List ℕ) (xs : List Step) → Reached plan.now workers most us xs stage.old → IsPartOfRound b plan.now workers most us xs workers stage.old.steps stage.new) }
+    ensures err { IfErr result (λ cause. (most : ℕ) (us : List ℕ) (xs : List Step) → Reached plan.now workers most us xs stage.old → IsHaltInRound cause plan.now workers most us stage.new) }
+{
     let mut answered = false;
     for index in 0..workers {
-        if stage.turn(alloc, index + 1)? {
-            answered = true;
+        match stage.turn(alloc, plan, index + 1) {
+            Ok(true) => answered = true,
+            Ok(false) => (),
+            Err(cause) => return Err(cause),
         }
     }
     Ok(answered)
 }
 
-/// The turns of a list, then those in rotation until all workers are at their ends.
-fn run_stage(
-    alloc: Global,
-    stage: &mut Stage,
-    workers: u32,
-    turns: &[u32],
-) -> Result<(), Cause> {
-    for worker in turns {
-        stage.turn(alloc, *worker)?;
-    }
-    while run_round(alloc, stage, workers)? {}
-    Ok(())
-}
-
-/// Publishes the first messages, and runs.
-fn open_and_run(
+/// The turns of a list.
+fn run_list(
     alloc: Global,
     stage: &mut Stage,
     plan: &Plan,
     workers: u32,
     turns: &[u32],
-) -> Result<(), Cause> {
+) -> Result<(), Cause>
+    requires reached { (most : ℕ) × Reached plan.now workers most [] [] stage.old }
+    requires turns { AreTurns workers turns.now }
+    ensures ok { OnOk result ((most : ℕ) → Reached plan.now workers most [] [] stage.old → HasReached plan.now workers most turns.now stage.new) }
+    ensures err { IfErr result (λ cause. (most : ℕ) → Reached plan.now workers most [] [] stage.old → IsEarlyEnd cause plan.now workers most turns.now stage.new) }
+{
+    for worker in turns {
+        match stage.turn(alloc, plan, *worker) {
+            Ok(_answered) => (),
+            Err(cause) => return Err(cause),
+        }
+    }
+    Ok(())
+}
+
+/// Turns in rotation, until all workers are at their ends.
+fn run_rounds(
+    alloc: Global,
+    stage: &mut Stage,
+    plan: &Plan,
+    workers: u32,
+    turns: &[u32],
+) -> Result<(), Cause>
+    requires { (most : ℕ) × HasReached plan.now workers most turns.now stage.old }
+    ensures ok { OnOk result ((most : ℕ) → HasReached plan.now workers most turns.now stage.old → IsDone plan.now workers most turns.now stage.new) }
+    ensures err { IfErr result (λ cause. (most : ℕ) → HasReached plan.now workers most turns.now stage.old → IsEarlyEnd cause plan.now workers most turns.now stage.new) }
+{
+    loop {
+        match run_round(alloc, stage, plan, workers) {
+            Ok(true) => (),
+            Ok(false) => return Ok(()),
+            Err(cause) => return Err(cause),
+        }
+    }
+}
+
+/// Publishes the first messages, and runs.
+fn run_stage(
+    alloc: Global,
+    stage: &mut Stage,
+    plan: &Plan,
+    workers: u32,
+    turns: &[u32],
+) -> Result<(), Cause>
+    requires new { IsNew plan.now workers stage.old }
+    requires turns { AreTurns workers turns.now }
+    ensures ok { OnOk result (IsDone plan.now workers stage.old.steps turns.now stage.new) }
+    ensures err { IfErr result (λ cause. IsEarlyEnd cause plan.now workers stage.old.steps turns.now stage.new) }
+{
     match stage.open(alloc, plan) {
-        Ok(()) => run_stage(alloc, stage, workers, turns),
+        Ok(()) => match run_list(alloc, stage, plan, workers, turns) {
+            Ok(()) => run_rounds(alloc, stage, plan, workers, turns),
+            Err(cause) => Err(cause),
+        },
         Err(Memory) => Err(Cause::Memory),
     }
 }
 
-/// A run before its first publish, with a row for each task.
-fn set_up(
-    alloc: Global,
-    plan: &Plan,
-    workers: u32,
-    steps: u128,
-) -> Result<(Stage, Vec<Option<Outcome>>), Memory> {
-    let rows = Vec::from_elem(alloc, None, plan.tasks() as usize)?;
-    let stage = Stage::new(alloc, plan, workers, steps)?;
-    Ok((stage, rows))
+/// Rows that hold nothing yet, one for each task.
+fn new_rows(alloc: Global, plan: &Plan) -> Result<Vec<Option<Outcome>>, Memory>
+    ensures { IfOk result (λ rows. length rows.items ≡ count_line plan.now) }
+{
+    let pending: Option<Outcome> = None;
+    match Vec::from_elem(alloc, pending, plan.tasks() as usize) {
+        Ok(rows) => Ok(rows),
+        Err(_) => Err(Memory),
+    }
+}
+
+/// The report of a stage, whose rows were reserved.
+fn report_of(stage: &Stage, plan: &Plan, rows: Vec<Option<Outcome>>) -> Report
+    requires plan { stage.now.table.plan ≡ roster_of plan.now }
+    requires rows { length rows.items ≡ count_line plan.now }
+    ensures { result.rows ≡ rows_of (count_line plan.now) (held stage.now.table) }
+{
+    let mut rows = rows;
+    stage.read_rows(plan, &mut rows);
+    Report {
+        rows: ListOf::of(rows),
+    }
 }
 
 /// Runs a plan, at most so many asks being answered.
@@ -62,48 +130,57 @@ fn run_steps(
     workers: u32,
     turns: &[u32],
     steps: u128,
-) -> Result<Report, RunFault> {
-    let Ok((mut stage, mut rows)) = set_up(alloc, plan, workers, steps) else {
+) -> Result<Report, RunFault>
+    requires { IsAsked workers turns.now }
+    ensures ok { IfOk result (λ report. IsWholeWithin plan.now workers turns.now steps report.rows) }
+    ensures err { IfErr result (IsFaultWithin plan.now workers turns.now steps) }
+{
+    let Ok(rows) = new_rows(alloc, plan) else {
         return Err(RunFault::Halted {
             cause: Cause::Memory,
             rows: None,
         });
     };
-    let ran = open_and_run(alloc, &mut stage, plan, workers, turns);
-    stage.read_rows(&mut rows);
-    let report = Report {
-        rows: ListOf::of(rows),
+    let Ok(mut stage) = Stage::new(alloc, plan, workers, steps) else {
+        return Err(RunFault::Halted {
+            cause: Cause::Memory,
+            rows: None,
+        });
     };
-    match ran {
-        Ok(()) => Ok(report),
+    match run_stage(alloc, &mut stage, plan, workers, turns) {
+        Ok(()) => Ok(report_of(&stage, plan, rows)),
         Err(cause) => Err(RunFault::Halted {
             cause,
-            rows: Some(report),
+            rows: Some(report_of(&stage, plan, rows)),
         }),
     }
 }
 
-/// The most workers of a run.
-const WORKERS: u32 = 16;
-
-fn are_turns(turns: &[u32], workers: u32) -> bool {
+fn are_turns(turns: &[u32], workers: u32) -> bool
+    ensures { MatchBool result (AreTurns workers turns.now) (AreTurns workers turns.now → ⊥) }
+{
     turns.iter().all(|turn| *turn >= 1 && *turn <= workers)
 }
 
+/// Checks what is asked for, then runs.
 fn run_checked(
     alloc: Global,
     plan: &Plan,
     workers: u32,
     turns: &[u32],
     steps: u128,
-) -> Result<Report, RunFault> {
+) -> Result<Report, RunFault>
+    ensures ok { IfOk result (λ report. IsAsked workers turns.now × IsWholeWithin plan.now workers turns.now steps report.rows) }
+    ensures err { IfErr result (IsFaultWithin plan.now workers turns.now steps) }
+{
     if workers < 1 || workers > WORKERS {
         return Err(RunFault::BadWorkers);
     }
-    if !are_turns(turns, workers) {
-        return Err(RunFault::BadTurn);
+    if are_turns(turns, workers) {
+        run_steps(alloc, plan, workers, turns, steps)
+    } else {
+        Err(RunFault::BadTurn)
     }
-    run_steps(alloc, plan, workers, turns, steps)
 }
 
 /// Runs a plan with 1 to 16 workers on one thread. Each turn lets that worker have one ask answered; after the list the workers take
@@ -113,7 +190,10 @@ pub fn run_turns(
     plan: &Plan,
     workers: u32,
     turns: &[u32],
-) -> Result<Report, RunFault> {
+) -> Result<Report, RunFault>
+    ensures ok { IfOk result (λ report. IsAsked workers turns.now × IsWhole plan.now workers turns.now report.rows) }
+    ensures err { IfErr result (IsRunFault workers turns.now (states (tree_of plan.now))) }
+{
     run_checked(alloc, plan, workers, turns, u128::MAX)
 }
 
@@ -124,6 +204,9 @@ pub fn run_turns_within(
     workers: u32,
     turns: &[u32],
     steps: u64,
-) -> Result<Report, RunFault> {
+) -> Result<Report, RunFault>
+    ensures ok { IfOk result (λ report. IsAsked workers turns.now × IsWholeWithin plan.now workers turns.now steps report.rows) }
+    ensures err { IfErr result (IsFaultWithin plan.now workers turns.now steps) }
+{
     run_checked(alloc, plan, workers, turns, steps as u128)
 }

@@ -64,22 +64,22 @@ ascii_9 : are_ascii (compact_text (body_wire whole_sum)) ≡ true
 unfolding serde_json_on_literals digits by_index
 ascii_9 = refl
 
-first_back : reading (sealed first_sum) ≡ Ok first_sum
+pub first_back : reading (sealed first_sum) ≡ Ok first_sum
 first_back = envelope_back first_sum _ _ _ refl refl refl refl (IsUtf8-are_ascii _ ascii_1) (IsUtf8-are_ascii _ ascii_2) (IsUtf8-are_ascii _ ascii_3)
 
-second_back : reading (sealed second_sum) ≡ Ok second_sum
+pub second_back : reading (sealed second_sum) ≡ Ok second_sum
 second_back = envelope_back second_sum _ _ _ refl refl refl refl (IsUtf8-are_ascii _ ascii_4) (IsUtf8-are_ascii _ ascii_5) (IsUtf8-are_ascii _ ascii_6)
 
-whole_back : reading (sealed whole_sum) ≡ Ok whole_sum
+pub whole_back : reading (sealed whole_sum) ≡ Ok whole_sum
 whole_back = envelope_back whole_sum _ _ _ refl refl refl refl (IsUtf8-are_ascii _ ascii_7) (IsUtf8-are_ascii _ ascii_8) (IsUtf8-are_ascii _ ascii_9)
 
-first_opens : opened (book_of small) (sealed first_sum) ≡ Some first_sum
+pub first_opens : opened (book_of small) (sealed first_sum) ≡ Some first_sum
 first_opens = ap (known_one (book_of small)) first_back
 
-second_opens : opened (book_of small) (sealed second_sum) ≡ Some second_sum
+pub second_opens : opened (book_of small) (sealed second_sum) ≡ Some second_sum
 second_opens = ap (known_one (book_of small)) second_back
 
-whole_opens : opened (book_of small) (sealed whole_sum) ≡ Some whole_sum
+pub whole_opens : opened (book_of small) (sealed whole_sum) ≡ Some whole_sum
 whole_opens = ap (known_one (book_of small)) whole_back
 
 -- ---- the callers 0, 1 and 2, and all others

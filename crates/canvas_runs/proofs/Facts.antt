@@ -33,7 +33,7 @@ use Rattle.canvas_runs.proofs.Frozen.{nowhere, Carried, carried, Message, last_f
 use Rattle.canvas_runs.proofs.Knowing.{message_is}
 use Rattle.canvas_runs.proofs.Meaning.{Form, After, Beyond, Ordered, Evaluates, Once, KeptOnce, publishes, keeps, names, Has}
 use Rattle.canvas_runs.proofs.Scripts.{ended_script, completed_script, first_sent}
-use Rattle.canvas_runs.proofs.Sized.{SizedMessage, SizedCarried, SizedJob, after_sized, body_sized, enter_sized, plan_sized}
+use Rattle.canvas_runs.proofs.Sized.{SizedMessage, SizedJob, after_sized, body_sized, enter_sized, plan_sized}
 use Rattle.canvas_runs.proofs.Trees.{AJob, items_followed}
 use Rattle.canvas_runs.proofs.Whole.{from_kind}
 use Rattle.canvas_runs.proofs.Words.{each_append, each_weaker, each_both, in_each}
@@ -151,7 +151,7 @@ module _ (l : Line) (plan : IsPlan l) where
   Formed' m = Formed p.members p.limit m × SizedMessage (size l) (members l) m
 
   abbrev pub FormedPart' : ℕ → ℕ → Carried → Type 0
-  FormedPart' g t c = FormedPart p.members p.limit g t c × SizedCarried (size l) (members l) c
+  FormedPart' g t c = FormedPart p.members p.limit g t c × SizedJob (size l) (members l) (hand_in g t c)
 
   abbrev pub form : Form X
   form = record {
@@ -249,7 +249,7 @@ module _ (l : Line) (plan : IsPlan l) where
       subst (λ d. Each (Beyond X form g) (X.completed d fs)) (sym e)
       (subst (Each (Beyond X form g)) (sym (completed_script (members l) p.limit g t c fs f.0))
       (each_sent (Beyond X form g) (body_after c fs) (each_weaker (beyond g) (body_after c fs)
-      (each_both (Beyond (plan_facts.X p) (plan_facts.form p) g) (SizedJob (size l) (members l)) (body_after c fs) ((plan_facts.order p).completed g t c fs f.0 same) (body_sized (size l) (members l) c fs f.1)))))
+      (each_both (Beyond (plan_facts.X p) (plan_facts.form p) g) (SizedJob (size l) (members l)) (body_after c fs) ((plan_facts.order p).completed g t c fs f.0 same) (body_sized (size l) (members l) c fs f.1.1)))))
 
   load_size : (c : Carried) → (load c).size ≡ plan_facts.carried_size c
   load_size (carried n body q) = refl

@@ -48,3 +48,14 @@ pub mod Tallies
 pub mod Mates
 pub mod Witness
 pub mod ChordRuns
+pub mod Turning
+pub mod TurnLogs
+pub mod TurnRuns
+pub mod TurnStates
+pub mod TurnWalk
+pub mod RowRanges
+pub mod TurnLaw
+pub mod TurnSums
+pub mod TurnRounds
+pub mod TurnEnds
+pub mod ChordTurns

@@ -90,7 +90,7 @@ module _ (l : Line) (plan : IsPlan l) (r : Run l) (c : Closed l r) where
   body_formed : (g t : ℕ) (d : Carried) (fs : List (ℕ × Outcome)) → FormedPart' l plan g t d → firsts fs ≡ members l g → Each FormedJob (body_after d fs)
   body_formed g t d fs f same =
       each_weaker (beyond_formed g) (body_after d fs)
-      (each_both (Beyond (plan_facts.X (p l plan)) (plan_facts.form (p l plan)) g) (SizedJob (size l) (members l)) (body_after d fs) ((plan_facts.order (p l plan)).completed g t d fs f.0 same) (body_sized (size l) (members l) d fs f.1))
+      (each_both (Beyond (plan_facts.X (p l plan)) (plan_facts.form (p l plan)) g) (SizedJob (size l) (members l)) (body_after d fs) ((plan_facts.order (p l plan)).completed g t d fs f.0 same) (body_sized (size l) (members l) d fs f.1.1))
 
   script : (m : Message) → Made (publish m) → Made (store m.no (outcome_of m)) × Each Made (after m (outcome_of m))
   script m d =

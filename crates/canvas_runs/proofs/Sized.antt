@@ -44,7 +44,7 @@ module _ (sizes : ℕ → Option ℕ) (table : ℕ → List ℕ) where
   abbrev pub SizedJob : AJob → Type 0
   SizedJob (store t o) = Unit {0}
   SizedJob (publish m) = SizedMessage m
-  SizedJob (hand_in g t c) = SizedCarried c
+  SizedJob (hand_in g t c) = HasSize g × SizedCarried c
 
   calls_sized : (ts : Tasks) (x : Input) (u : Option ℕ) → Each SizedJob (callbacks ts x u)
   calls_sized no_tasks x u = tt
@@ -53,7 +53,7 @@ module _ (sizes : ℕ → Option ℕ) (table : ℕ → List ℕ) where
   stop_sized : (p : Place) (t : ℕ) → SizedPlace p → Each SizedJob (at_stop p t)
   stop_sized nowhere t s = tt
   stop_sized (in_group g) t s = tt
-  stop_sized (in_chord g c) t s = (s.1, tt)
+  stop_sized (in_chord g c) t s = (s, tt)
 
   place_sized : (g : ℕ) (ms : Lines) (body : Line) (p : Place) → HasSize g → SizedLine body → SizedPlace p → SizedPlace (members_place g ms body p)
   place_sized g no_lines body p h b s = tt

@@ -16,4 +16,8 @@ pub mod Accounts
 pub mod Causes
 pub mod Callers
 pub mod Rows
+pub mod Turns
+pub mod TurnLaws
+pub mod Going
 pub mod Witness
+pub mod TurnWitness

@@ -2,7 +2,7 @@
 //! whole runs. There is no running code here: each function has an empty body, and its contract is a law.
 #![tactic(auto)]
 
-ghost use Rattle.std.specs.Prelude.{◌≡◌, ◌≤◌, ℕ};
+ghost use Rattle.std.specs.Prelude.{◌≡◌, ◌≤◌, ℕ, List, []};
 ghost use Rattle.canvas_backend.specs.Backend.{IsLegal, results};
 ghost use Rattle.canvas_backend.specs.Roster.{roster_of};
 ghost use Rattle.canvas_rewrite.specs.Eval.{state_of, meaning};
@@ -17,6 +17,10 @@ ghost use Rattle.canvas_runs.specs.StepLaws.{Rests, CallFirst, HeldFirst, BatchF
 ghost use Rattle.canvas_runs.specs.Crew.{AreMates, AreRan};
 ghost use Rattle.canvas_runs.specs.Law.{FirstPart, SecondPart};
 ghost use Rattle.canvas_runs.specs.Run.{Run, Closed};
+ghost use Rattle.canvas_runs.specs.TurnLaws.{TurnsAreRuns, TurnRowsMay, TurnRowsAre, TurnsEmpty, TurnStatesMay, TurnStatesAre, WholeTurns, UntilTurns, NextAnswerable, HeldInRange};
+ghost use Rattle.canvas_runs.specs.Going.{FewSteps, StopsSoon, StepsFit, RoundsGo};
+ghost use Rattle.canvas_runs.specs.Turns.{Turned, RanWhole};
+ghost use Rattle.canvas_runs.specs.TurnWitness.{listed, steps, hasty};
 ghost use Rattle.canvas_runs.specs.Witness.{small, queue, table, lost_part};
 
 /// The law of runs. Whatever the number of workers and the order of their calls, a run of a plan stores only the outcomes that
@@ -79,4 +83,40 @@ pub fn rows_of_runs()
     ensures any { RowsOfAny }
     ensures tallies { TalliesCount }
     ensures one { ARunStands }
+{}
+
+/// Runs by turns, on one thread: a turn answers one ask of one worker by what the queue and the table say then. Whatever the number
+/// of workers and the list of turns, it is a run, closed where all have ended, so the law of runs speaks of it: each task is pending
+/// or has the state that evaluating the plan gives, and has that state where all have ended. What a worker asks next can be answered:
+/// a task that it names is one of the plan's, its part is of a chord's member that is stored and was not returned, and a member that
+/// it reads is stored.
+pub fn laws_of_turns()
+    ensures runs { TurnsAreRuns }
+    ensures rows_may { TurnRowsMay }
+    ensures rows_are { TurnRowsAre }
+    ensures emptied { TurnsEmpty }
+    ensures states_may { TurnStatesMay }
+    ensures states_are { TurnStatesAre }
+    ensures whole { WholeTurns }
+    ensures until { UntilTurns }
+    ensures answerable { NextAnswerable }
+    ensures in_range { HeldInRange }
+{}
+
+/// A run by turns ends. In rotation a round in which nobody asks for anything is the last, and of each two rounds one has a call of
+/// the queue or of the table, of which there are few: each task is published, taken, stored and its part returned at most once. So the
+/// steps are fewer than a count of 128 bits holds.
+pub fn ends_of_turns()
+    ensures few { FewSteps }
+    ensures stops { StopsSoon }
+    ensures fit { StepsFit }
+    ensures rounds { RoundsGo }
+{}
+
+/// There is something of which the laws of turns speak: by a list of eleven turns and two rounds behind it two workers run the chord of
+/// two sums and the sum of both, with these steps. By no turns is a worker told that nothing more will come while another one is
+/// inside the script of a message.
+pub fn turns_of_a_chord()
+    ensures stands { (r : RanWhole small 2 listed) × (r.steps ≡ steps) × (r.further ≡ 2) }
+    ensures none_hasty { (us : List ℕ) → Turned small 2 [] us hasty → ⊥ }
 {}

@@ -1,18 +1,18 @@
 //! Cores, answered by hand: what they ask, and what they drop.
 
-ghost use Rattle.std.specs.Prelude.{IfSome};
+ghost use Rattle.std.specs.Prelude.{◌≤◌, IfSome};
 ghost use Rattle.canvas_task.specs.Apply.{IsInRange};
 ghost use Rattle.canvas_worker.specs.Asks.{FoundInRange};
 
+use crate::envelopes::{PLAIN, bytes_of};
 use canvas_backend::{PlainBackend, Stored};
 use canvas_broker::PlainBroker;
 use canvas_message::{Envelope, encode, first_messages};
 use canvas_rewrite::{Plan, freeze, normalise};
 use canvas_sig::read_canvas;
-use canvas_task::{Fault, GroupNo, Kind, ListOf, Outcome, TaskNo, Why};
+use canvas_task::{Fault, GroupNo, Kind, Outcome, TaskNo, Why};
 use canvas_worker::{Ask, Core, Reply};
-use std::alloc::Global;
-use std::fmt::Write;
+use std::alloc::{AllocError, Global};
 
 const ONE: &str = r#"{"task":"tasks.add","args":[2,2]}"#;
 
@@ -133,34 +133,29 @@ fn goes_on(alloc: Global, backend: &PlainBackend, desk: &mut Desk, core: &mut Co
     }
 }
 
-fn desk_of(alloc: Global, plan: &Plan) -> Option<Desk> {
+/// A queue of the messages that a plan begins with.
+fn queue_of(alloc: Global, plan: &Plan) -> Option<PlainBroker> {
+    let messages = first_messages(alloc, plan).ok()?;
     let mut queue = PlainBroker::new(alloc);
-    match first_messages(alloc, plan) {
-        Ok(messages) => {
-            for message in messages {
-                match encode(alloc, &message) {
-                    Ok(envelope) => {
-                        if queue.publish(envelope).is_err() {
-                            return None;
-                        }
-                    }
-                    Err(_) => return None,
-                }
-            }
+    for message in messages {
+        let envelope = encode(alloc, &message).ok()?;
+        if queue.publish(envelope).is_err() {
+            return None;
         }
-        Err(_) => return None,
     }
-    match (
-        Vec::from_elem(alloc, None, plan.tasks() as usize),
-        Vec::from_elem(alloc, 0, plan.groups() as usize),
-    ) {
-        (Ok(rows), Ok(counts)) => Some(Desk {
-            queue,
-            rows,
-            counts,
-        }),
-        _ => None,
-    }
+    Some(queue)
+}
+
+fn desk_of(alloc: Global, plan: &Plan) -> Option<Desk> {
+    let _none: Option<Fault> = None;
+    let queue = queue_of(alloc, plan)?;
+    let rows = Vec::from_elem(alloc, None, plan.tasks() as usize).ok()?;
+    let counts = Vec::from_elem(alloc, 0, plan.groups() as usize).ok()?;
+    Some(Desk {
+        queue,
+        rows,
+        counts,
+    })
 }
 
 fn has_asked(
@@ -178,26 +173,65 @@ fn has_asked(
     core.next() == Ask::End && core.dropped() == 0 && !core.is_inside()
 }
 
-/// Whether a core on its own asks this for a canvas, and then is at its end.
+/// Whether a core on its own comes to its end within this many asks.
+fn has_ended(
+    alloc: Global,
+    backend: &PlainBackend,
+    desk: &mut Desk,
+    core: &mut Core,
+    most: u32,
+) -> bool {
+    for _ in 0..most {
+        if core.next() == Ask::End {
+            return core.dropped() == 0;
+        }
+        if !goes_on(alloc, backend, desk, core) {
+            return false;
+        }
+    }
+    false
+}
+
+/// A plan, a backend of it, and its first messages.
+fn start(alloc: Global, text: &str) -> Option<(PlainBackend, Desk)> {
+    let plan = plan_of(alloc, text)?;
+    let desk = desk_of(alloc, &plan)?;
+    match PlainBackend::new(alloc, &plan) {
+        Ok(backend) => Some((backend, desk)),
+        Err(_) => None,
+    }
+}
+
+/// Whether a core on its own asks this for a canvas, and leaves these outcomes.
 fn asks_so(alloc: Global, text: &str, asks: &[Ask], rows: &[Option<Outcome>]) -> bool {
-    match plan_of(alloc, text) {
-        Some(plan) => match (PlainBackend::new(alloc, &plan), desk_of(alloc, &plan)) {
-            (Ok(backend), Some(desk)) => {
-                let (mut desk, mut core) = (desk, Core::new(alloc));
-                has_asked(alloc, &backend, &mut desk, &mut core, asks)
-                    && desk.rows.as_slice() == rows
-            }
-            _ => false,
-        },
+    match start(alloc, text) {
+        Some((backend, desk)) => {
+            let (mut desk, mut core) = (desk, Core::new(alloc));
+            has_asked(alloc, &backend, &mut desk, &mut core, asks) && desk.rows.as_slice() == rows
+        }
         None => false,
     }
 }
 
-fn task(number: u32) -> TaskNo {
+fn ends_so(alloc: Global, text: &str, rows: &[Option<Outcome>]) -> bool {
+    match start(alloc, text) {
+        Some((backend, desk)) => {
+            let (mut desk, mut core) = (desk, Core::new(alloc));
+            has_ended(alloc, &backend, &mut desk, &mut core, 100) && desk.rows.as_slice() == rows
+        }
+        None => false,
+    }
+}
+
+fn task(number: u32) -> TaskNo
+    requires { 1 ≤ number }
+{
     TaskNo::new(number).unwrap()
 }
 
-fn group(number: u32) -> GroupNo {
+fn group(number: u32) -> GroupNo
+    requires { 1 ≤ number }
+{
     GroupNo::new(number).unwrap()
 }
 
@@ -220,11 +254,8 @@ fn failed_header(rt: HostRuntime) {
         dep: task(2),
         why: Why::Plain(Kind::ZeroDivision),
     });
-    let (eight, sixteen, four) = (
-        Outcome::Success(8),
-        Outcome::Success(16),
-        Outcome::Success(4),
-    );
+    let (eight, sixteen) = (Outcome::Success(8), Outcome::Success(16));
+    let four = Outcome::Success(4);
     assert!(rt;
         asks_so(
             rt.alloc(),
@@ -258,4 +289,182 @@ fn failed_header(rt: HostRuntime) {
             ]
         )
     );
+}
+
+#[test]
+fn header_in_a_header(rt: HostRuntime) {
+    assert!(rt;
+        ends_so(
+            rt.alloc(),
+            NESTED,
+            &[1, 2, 3, 5, 10, 1, 11].map(|number| Some(Outcome::Success(number)))
+        )
+    );
+}
+
+// ---- what cores drop
+
+/// The message of the second member of the chord, changed: its task, its group, its parent, and how many members it says there are.
+fn member(
+    alloc: Global,
+    task: &str,
+    group: &str,
+    parent: &str,
+    size: &str,
+) -> Result<Envelope, AllocError> {
+    let properties = format!(in alloc;
+        r#"{{"content_encoding":"utf-8","content_type":"application/json","correlation_id":"%{task}"}}"#
+    )?;
+    let headers = format!(in alloc;
+        r#"{{"group":"@{group}","id":"%{task}","lang":"rs","parent_id":{parent},"root_id":"%1","task":"tasks.div"}}"#
+    )?;
+    let body = format!(in alloc;
+        r#"[[1,0],{{}},{{"callbacks":null,"chain":null,"chord":{{"args":[],"chord_size":{size},"immutable":false,"kwargs":{{}},"options":{{"link_error":[{{"args":[],"immutable":false,"kwargs":{{}},"options":{{"task_id":"%5"}},"subtask_type":null,"task":"tasks.log_error"}}],"task_id":"%4"}},"subtask_type":null,"task":"tasks.xsum"}},"errbacks":null}}]"#
+    )?;
+    Ok(Envelope {
+        properties: bytes_of(alloc, &properties)?,
+        headers: bytes_of(alloc, &headers)?,
+        body: bytes_of(alloc, &body)?,
+    })
+}
+
+fn answers(alloc: Global, backend: &PlainBackend, core: &mut Core, reply: Reply) -> bool
+    requires { FoundInRange reply }
+{
+    core.next().suits(&reply) && core.answer(alloc, backend, reply).is_ok()
+}
+
+/// Whether a core that is given an envelope counts it and asks for the next.
+fn is_dropped(alloc: Global, backend: &PlainBackend, core: &mut Core, envelope: Envelope) -> bool {
+    let before = core.dropped();
+    answers(alloc, backend, core, Reply::Taken(Some(envelope)))
+        && core.next() == Ask::Take
+        && core.dropped() == before.saturating_add(1)
+}
+
+fn drops(alloc: Global, backend: &PlainBackend, core: &mut Core, row: &[&str; 4]) -> bool {
+    let [task, group, parent, size] = *row;
+    match member(alloc, task, group, parent, size) {
+        Ok(envelope) => is_dropped(alloc, backend, core, envelope),
+        Err(_) => false,
+    }
+}
+
+/// Whether a core takes up the message as it is, and stores its outcome first.
+fn takes(alloc: Global, backend: &PlainBackend, core: &mut Core) -> bool {
+    match member(alloc, "2", "1", "null", "3") {
+        Ok(envelope) => {
+            answers(alloc, backend, core, Reply::Taken(Some(envelope)))
+                && core.next() == Ask::Store(task(2), ZERO_DIVISION)
+                && core.is_inside()
+        }
+        Err(_) => false,
+    }
+}
+
+/// Whether each of some messages is dropped, and then one that is in order taken up.
+fn drops_all(alloc: Global, rows: &[[&str; 4]]) -> bool {
+    match start(alloc, CHORD) {
+        Some((backend, _desk)) => {
+            let mut core = Core::new(alloc);
+            for row in rows {
+                if !drops(alloc, &backend, &mut core, row) {
+                    return false;
+                }
+            }
+            core.dropped() == rows.len() as u64 && takes(alloc, &backend, &mut core)
+        }
+        None => false,
+    }
+}
+
+#[test]
+fn forged_messages(rt: HostRuntime) {
+    assert!(rt;
+        drops_all(
+            rt.alloc(),
+            &[
+                ["9", "1", "null", "3"],
+                ["2", "1", "null", "4"],
+                ["2", "2", "null", "3"],
+                ["4", "1", "null", "3"],
+                ["2", "1", "\"%9\"", "3"],
+            ]
+        )
+    );
+}
+
+/// Whether headers without a name are dropped.
+fn drops_nameless(alloc: Global) -> bool {
+    match (start(alloc, ONE), nameless(alloc)) {
+        (Some((backend, _desk)), Ok(envelope)) => {
+            is_dropped(alloc, &backend, &mut Core::new(alloc), envelope)
+        }
+        _ => false,
+    }
+}
+
+fn nameless(alloc: Global) -> Result<Envelope, AllocError> {
+    Ok(Envelope {
+        properties: bytes_of(alloc, PLAIN)?,
+        headers: bytes_of(alloc, r#"{"id":"%1"}"#)?,
+        body: bytes_of(alloc, "[[2,2],{},null]")?,
+    })
+}
+
+#[test]
+fn headers_without_a_name(rt: HostRuntime) {
+    assert!(rt; drops_nameless(rt.alloc()));
+}
+
+// ---- what ends a script
+
+/// Whether a message that was stored before has no effect.
+fn ends_again(alloc: Global) -> bool {
+    match start(alloc, NESTED) {
+        Some((backend, desk)) => {
+            let (mut queue, mut core) = (desk.queue, Core::new(alloc));
+            answers(alloc, &backend, &mut core, Reply::Taken(queue.take()))
+                && answers(alloc, &backend, &mut core, Reply::Stored(Stored::Again))
+                && core.next() == Ask::Take
+                && core.dropped() == 0
+        }
+        None => false,
+    }
+}
+
+#[test]
+fn stored_again(rt: HostRuntime) {
+    assert!(rt; ends_again(rt.alloc()));
+}
+
+/// Whether a core whose envelope is refused is at its end.
+fn ends_refused(alloc: Global, backend: &PlainBackend, core: &mut Core) -> bool {
+    match core.envelope() {
+        Some(envelope) => {
+            core.envelope().is_none()
+                && core.next() == Ask::Publish
+                && answers(alloc, backend, core, Reply::NotPublished(envelope))
+                && core.next() == Ask::End
+                && !core.is_inside()
+        }
+        None => false,
+    }
+}
+
+fn fails(alloc: Global) -> bool {
+    match start(alloc, NESTED) {
+        Some((backend, desk)) => {
+            let (mut queue, mut core) = (desk.queue, Core::new(alloc));
+            answers(alloc, &backend, &mut core, Reply::Taken(queue.take()))
+                && answers(alloc, &backend, &mut core, Reply::Stored(Stored::First))
+                && ends_refused(alloc, &backend, &mut core)
+        }
+        None => false,
+    }
+}
+
+#[test]
+fn publish_refused(rt: HostRuntime) {
+    assert!(rt; fails(rt.alloc()));
 }

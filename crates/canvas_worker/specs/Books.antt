@@ -1,5 +1,5 @@
 -- What a worker knows of its plan where it asks a backend.
-use Rattle.std.specs.Prelude.{ℕ, Bool, false, not, ◌&&◌, ◌==◌, None, nat_le}
+use Rattle.std.specs.Prelude.{false, not, ◌&&◌, ◌==◌, None, nat_le}
 use Rattle.canvas_backend.specs.Roster.{Roster, size, is_member}
 use Rattle.canvas_runs.specs.Book.{Book}
 

@@ -1,12 +1,12 @@
 -- How what a core has left to do is stored, so that a type may have it as its value; and that it tells no more than a fact.
-use Rattle.std.specs.Prelude.{◌≡◌, ℕ, zero, false, [], IsTrue, Option, Some, None, refl}
+use Rattle.std.specs.Prelude.{ℕ, zero, false, [], Option, Some, None, refl}
 use Rattle.std.specs.Coded.{Coded, code_by}
 use Rattle.std.proofs.Props.{props}
 use Rattle.canvas_task.specs.Apply.{IsInRange}
 use Rattle.canvas_task.specs.declared.outcome.Outcome.{Outcome}
 use Rattle.canvas_task.specs.declared.outcome.Outcome.TheVariants.{Success, Failure}
 use Rattle.canvas_rewrite.specs.FrozenView.{Load}
-use Rattle.canvas_rewrite.specs.Placed.{PTask, p_task, no_p_tasks, p_nowhere}
+use Rattle.canvas_rewrite.specs.Placed.{p_task, no_p_tasks, p_nowhere}
 use Rattle.canvas_message.specs.Content.{Content}
 use Rattle.canvas_message.specs.ContentCode.{content_code}
 

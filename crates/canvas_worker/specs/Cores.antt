@@ -1,5 +1,5 @@
 -- How a core, which keeps messages as their envelopes, goes with the worker that keeps what they say.
-use Rattle.std.specs.Prelude.{◌≡◌, ℕ, Bool, List, [], ◌∷◌, map}
+use Rattle.std.specs.Prelude.{◌≡◌, List, map}
 use Rattle.canvas_task.specs.declared.outcome.Outcome.{Outcome}
 use Rattle.canvas_rewrite.specs.Frozen.{Line}
 use Rattle.canvas_rewrite.specs.FrozenView.{Load}

@@ -7,3 +7,4 @@ pub mod Scripts
 pub mod Phases
 pub mod Codes
 pub mod Cores
+pub mod Leading

@@ -1,8 +1,8 @@
 -- What the parts of a core stand for.
-use Rattle.std.specs.Prelude.{◌≡◌, ℕ, Bool, true, false, [], ◌∷◌, is_some, not, unwrap_or}
+use Rattle.std.specs.Prelude.{◌≡◌, Bool, true, false, [], ◌∷◌, is_some, not, unwrap_or}
 use Rattle.canvas_message.specs.Elements.{carried_view}
 use Rattle.canvas_message.specs.Job.{store, publish, hand_in}
-use Rattle.canvas_runs.specs.Core.{State, taking, resting, over, failed, owning, doing, reading}
+use Rattle.canvas_runs.specs.Core.{taking, resting, over, failed, owning, doing, reading}
 use Rattle.canvas_worker.specs.Enveloped.{blank}
 use Rattle.canvas_worker.specs.Standing.{Left}
 use Rattle.canvas_worker.specs.Scripts.{jobs_of}

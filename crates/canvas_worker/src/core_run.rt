@@ -55,8 +55,10 @@ fn open<B: Book>(alloc: Global, book: &B, envelope: &Envelope) -> Result<Option<
                 Ok(None)
             }
         }
-        Err(MessageFault::Memory) => Err(Memory),
-        Err(_) => Ok(None),
+        Err(fault) => match fault {
+            MessageFault::Memory => Err(Memory),
+            _ => Ok(None),
+        },
     }
 }
 

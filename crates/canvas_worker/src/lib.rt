@@ -14,6 +14,7 @@ mod sealing;
 mod stages;
 
 ghost use Rattle.canvas_worker.specs.Cores.{CoresAreWorkers};
+ghost use Rattle.canvas_worker.specs.Leading.{NoneLead, OneMoreLeads, HandedLeads, HandsOut, PlanLeads};
 
 pub use ask::{Ask, Reply};
 pub use book::Book;
@@ -23,4 +24,13 @@ pub use core_run::Core;
 /// A core keeps messages as their envelopes. The asks and answers of a core are those of the worker that the law of runs speaks of.
 pub fn law_of_cores()
     ensures { CoresAreWorkers }
+{}
+
+/// The asks and answers of a core lead to it: what it has left to do, and how many envelopes it dropped, follow from them alone.
+pub fn law_of_answers()
+    ensures none { NoneLead }
+    ensures one_more { OneMoreLeads }
+    ensures handed { HandedLeads }
+    ensures hands_out { HandsOut }
+    ensures plan { PlanLeads }
 {}

@@ -1,0 +1,16 @@
+use Rattle.std.proofs.Common.{◌≡◌, ◌++◌, All, map, length}
+use Rattle.std.specs.Fmt.{decimal}
+use Rattle.std.specs.List.{slice_split}
+use denote.Text.{Utf8}
+use denote.Shadow.{shadow}
+use Rattle.canvas_runs.specs.Turns.{IsWorker}
+use Rattle.canvas_engine.specs.TurnList.{is_comma}
+use Rattle.canvas_engine.proofs.turn_list.read_pieces.Given as goal
+
+-- the turns so far, and the pieces still to come
+abbrev pub invariant-loop-first : goal.invariant-loop-first
+invariant-loop-first l =
+    shadow (Utf8 l.rest) × All (IsWorker l.workers) l.turns.items × (slice_split is_comma l.text ≡ map decimal l.turns.items ++ slice_split is_comma l.rest)
+
+abbrev pub decreases-loop-first : goal.decreases-loop-first
+decreases-loop-first l = length l.rest

@@ -1,0 +1,238 @@
+-- A chord's run by turns of two workers.
+use Rattle.std.proofs.Common.{◌≡◌, ◌∙◌, ◌||◌, ℕ, true, false, List, [], ◌∷◌, ◌++◌, Option, Some, None, refl, sym, ap, ap₂, subst, inl, inr, arith}
+use Rattle.std.proofs.lemmas.Bool.{cases_eq}
+use Rattle.canvas_task.specs.declared.outcome.Outcome.{Outcome}
+use Rattle.canvas_message.specs.Content.{Content}
+use Rattle.canvas_message.specs.declared.envelope.Envelope.{Envelope}
+use Rattle.canvas_runs.specs.Book.{book_of}
+use Rattle.canvas_runs.specs.Calls.{AskedAndAnswered}
+use Rattle.canvas_runs.specs.Core.{Ask, Reply, take, send, keep, part, read, pause, taken, sent, kept, counted, found, rested, taking, ask, opens, left_after, ReadsBack, Doing}
+use Rattle.canvas_runs.specs.Protocol.{Protocol}
+use Rattle.canvas_runs.specs.Turns.{Step, left, is_inside, Answers, HasEnded, Turned, all_taken, skips, takes, AllEnded, RanWhole, rounds}
+use Rattle.canvas_runs.specs.TurnWitness.{listed, steps, hasty}
+use Rattle.canvas_runs.specs.Witness.{small, first_sum, second_sum, whole_sum, two, four, six}
+use Rattle.canvas_runs.specs.Worker.{worker, sealed, opened}
+use Rattle.canvas_runs.proofs.ChordRuns.{first_back, second_back, whole_back, first_opens, second_opens, whole_opens}
+
+abbrev X : Protocol
+X = worker small
+
+-- ---- what a worker asks, by the message that its envelope reads as
+
+record Asks (s : Doing X) (a : Ask Envelope Outcome) : Type 0 where
+  pub back : ReadsBack X s
+  pub asks : a ≡ ask X s
+
+behind : (o : Option Content) (c : Content) (ys : List (AskedAndAnswered X)) (a : Ask Envelope Outcome) → o ≡ Some c → Asks (left_after X (opens X (Some c)) ys) a → Asks (left_after X (opens X o) ys) a
+behind o c ys a e k = subst (λ x. Asks (left_after X (opens X x) ys) a) (sym e) k
+
+abbrev whole_taken : AskedAndAnswered X
+whole_taken = (take, taken (Some (sealed whole_sum)))
+
+abbrev first_own : List (AskedAndAnswered X)
+first_own = (keep 1 two, kept true) ∷ (part 1 1, counted 0) ∷ []
+
+abbrev second_own : List (AskedAndAnswered X)
+second_own = (keep 2 four, kept true) ∷ (part 1 2, counted 1) ∷ (read 1 0, found 1 (Some two)) ∷ (read 1 1, found 2 (Some four)) ∷ (send (sealed whole_sum), sent) ∷ []
+
+abbrev whole_own : List (AskedAndAnswered X)
+whole_own = (keep 3 six, kept true) ∷ []
+
+-- the first worker's states after its first message, and after its second
+first_state : (ys : List (AskedAndAnswered X)) → left_after X (opens X (opened (book_of small) (sealed first_sum))) ys ≡ left_after X (opens X (Some first_sum)) ys
+first_state ys = ap (λ o. left_after X (opens X o) ys) first_opens
+
+second_state : (ys : List (AskedAndAnswered X)) → left_after X (opens X (opened (book_of small) (sealed second_sum))) ys ≡ left_after X (opens X (Some second_sum)) ys
+second_state ys = ap (λ o. left_after X (opens X o) ys) second_opens
+
+third_state : (ys : List (AskedAndAnswered X)) → left_after X (opens X (opened (book_of small) (sealed first_sum))) (first_own ++ whole_taken ∷ ys) ≡ left_after X (opens X (Some whole_sum)) ys
+third_state ys = first_state (first_own ++ whole_taken ∷ ys) ∙ ap (λ o. left_after X (opens X o) ys) whole_opens
+
+by_first : (ys : List (AskedAndAnswered X)) (a : Ask Envelope Outcome) → Asks (left_after X (opens X (Some first_sum)) ys) a → Asks (left_after X (opens X (opened (book_of small) (sealed first_sum))) ys) a
+by_first ys a k = subst (λ s. Asks s a) (sym (first_state ys)) k
+
+by_second : (ys : List (AskedAndAnswered X)) (a : Ask Envelope Outcome) → Asks (left_after X (opens X (Some second_sum)) ys) a → Asks (left_after X (opens X (opened (book_of small) (sealed second_sum))) ys) a
+by_second ys a k = subst (λ s. Asks s a) (sym (second_state ys)) k
+
+by_third : (ys : List (AskedAndAnswered X)) (a : Ask Envelope Outcome) → Asks (left_after X (opens X (Some whole_sum)) ys) a → Asks (left_after X (opens X (opened (book_of small) (sealed first_sum))) (first_own ++ whole_taken ∷ ys)) a
+by_third ys a k = subst (λ s. Asks s a) (sym (third_state ys)) k
+
+plainly : (s : Doing X) (a : Ask Envelope Outcome) → ReadsBack X s → a ≡ ask X s → Asks s a
+plainly s a b e = record { back = b; asks = e }
+
+-- ---- one turn
+
+turn : (before : List Step) (p : ℕ) (a : Ask Envelope Outcome) (r : Reply Envelope Outcome) (us : List ℕ) (xs : List Step) → Asks (left small before p) a → Answers small 2 before a r
+    → Turned small 2 (before ++ (p, (a, r)) ∷ []) us xs → Turned small 2 before (p ∷ us) ((p, (a, r)) ∷ xs)
+turn before p a r us xs k h t = takes k.back k.asks h t
+
+-- ---- the steps one after the other
+
+abbrev b0 : List Step
+b0 = []
+
+abbrev b1 : List Step
+b1 = b0 ++ (1, (take, taken (Some (sealed first_sum)))) ∷ []
+
+abbrev b2 : List Step
+b2 = b1 ++ (2, (take, taken (Some (sealed second_sum)))) ∷ []
+
+abbrev b3 : List Step
+b3 = b2 ++ (1, (keep 1 two, kept true)) ∷ []
+
+abbrev b4 : List Step
+b4 = b3 ++ (1, (part 1 1, counted 0)) ∷ []
+
+abbrev b5 : List Step
+b5 = b4 ++ (2, (keep 2 four, kept true)) ∷ []
+
+abbrev b6 : List Step
+b6 = b5 ++ (2, (part 1 2, counted 1)) ∷ []
+
+abbrev b7 : List Step
+b7 = b6 ++ (2, (read 1 0, found 1 (Some two))) ∷ []
+
+abbrev b8 : List Step
+b8 = b7 ++ (2, (read 1 1, found 2 (Some four))) ∷ []
+
+abbrev b9 : List Step
+b9 = b8 ++ (2, (send (sealed whole_sum), sent)) ∷ []
+
+abbrev b10 : List Step
+b10 = b9 ++ (1, (take, taken (Some (sealed whole_sum)))) ∷ []
+
+abbrev b11 : List Step
+b11 = b10 ++ (1, (keep 3 six, kept true)) ∷ []
+
+abbrev b12 : List Step
+b12 = b11 ++ (1, (take, taken None)) ∷ []
+
+abbrev b13 : List Step
+b13 = b12 ++ (2, (take, taken None)) ∷ []
+
+abbrev b14 : List Step
+b14 = b13 ++ (1, (pause, rested false)) ∷ []
+
+abbrev b15 : List Step
+b15 = b14 ++ (2, (pause, rested false)) ∷ []
+
+-- nobody is inside a script then
+all_out_13 : Answers small 2 b13 pause (rested false)
+all_out_13 = ap₂ (λ s u. is_inside s || (is_inside u || false)) (sym (second_state (second_own ++ (take, taken None) ∷ []))) (sym (third_state (whole_own ++ (take, taken None) ∷ [])))
+
+-- nobody is inside a script then
+all_out_14 : Answers small 2 b14 pause (rested false)
+all_out_14 = ap₂ (λ s u. is_inside s || (is_inside u || false)) (sym (second_state (second_own ++ (take, taken None) ∷ []))) (sym (third_state (whole_own ++ (take, taken None) ∷ (pause, rested false) ∷ [])))
+
+from_14 : Turned small 2 b14 (2 ∷ []) ((2, (pause, rested false)) ∷ [])
+from_14 = turn b14 2 (pause) (rested false) ([]) ([]) (by_second (second_own ++ (take, taken None) ∷ []) pause (plainly _ pause tt refl)) all_out_14 all_taken
+
+from_13 : Turned small 2 b13 (1 ∷ 2 ∷ []) ((1, (pause, rested false)) ∷ (2, (pause, rested false)) ∷ [])
+from_13 = turn b13 1 (pause) (rested false) (2 ∷ []) ((2, (pause, rested false)) ∷ []) (by_third (whole_own ++ (take, taken None) ∷ []) pause (plainly _ pause tt refl)) all_out_13 from_14
+
+from_12 : Turned small 2 b12 (2 ∷ 1 ∷ 2 ∷ []) ((2, (take, taken None)) ∷ (1, (pause, rested false)) ∷ (2, (pause, rested false)) ∷ [])
+from_12 = turn b12 2 (take) (taken None) (1 ∷ 2 ∷ []) ((1, (pause, rested false)) ∷ (2, (pause, rested false)) ∷ []) (by_second second_own take (plainly _ take tt refl)) refl from_13
+
+from_11 : Turned small 2 b11 (1 ∷ 2 ∷ 1 ∷ 2 ∷ []) ((1, (take, taken None)) ∷ (2, (take, taken None)) ∷ (1, (pause, rested false)) ∷ (2, (pause, rested false)) ∷ [])
+from_11 = turn b11 1 (take) (taken None) (2 ∷ 1 ∷ 2 ∷ []) ((2, (take, taken None)) ∷ (1, (pause, rested false)) ∷ (2, (pause, rested false)) ∷ []) (by_third whole_own take (plainly _ take tt refl)) refl from_12
+
+from_10 : Turned small 2 b10 (1 ∷ 1 ∷ 2 ∷ 1 ∷ 2 ∷ []) ((1, (keep 3 six, kept true)) ∷ (1, (take, taken None)) ∷ (2, (take, taken None)) ∷ (1, (pause, rested false)) ∷ (2, (pause, rested false)) ∷ [])
+from_10 = turn b10 1 (keep 3 six) (kept true) (1 ∷ 2 ∷ 1 ∷ 2 ∷ []) ((1, (take, taken None)) ∷ (2, (take, taken None)) ∷ (1, (pause, rested false)) ∷ (2, (pause, rested false)) ∷ []) (by_third [] (keep 3 six) (plainly _ (keep 3 six) tt refl)) refl from_11
+
+from_9 : Turned small 2 b9 (1 ∷ 1 ∷ 1 ∷ 2 ∷ 1 ∷ 2 ∷ []) ((1, (take, taken (Some (sealed whole_sum)))) ∷ (1, (keep 3 six, kept true)) ∷ (1, (take, taken None)) ∷ (2, (take, taken None)) ∷ (1, (pause, rested false)) ∷ (2, (pause, rested false)) ∷ [])
+from_9 = turn b9 1 (take) (taken (Some (sealed whole_sum))) (1 ∷ 1 ∷ 2 ∷ 1 ∷ 2 ∷ []) ((1, (keep 3 six, kept true)) ∷ (1, (take, taken None)) ∷ (2, (take, taken None)) ∷ (1, (pause, rested false)) ∷ (2, (pause, rested false)) ∷ []) (by_first first_own take (plainly _ take tt refl)) refl from_10
+
+from_8 : Turned small 2 b8 (2 ∷ 1 ∷ 1 ∷ 1 ∷ 2 ∷ 1 ∷ 2 ∷ []) ((2, (send (sealed whole_sum), sent)) ∷ (1, (take, taken (Some (sealed whole_sum)))) ∷ (1, (keep 3 six, kept true)) ∷ (1, (take, taken None)) ∷ (2, (take, taken None)) ∷ (1, (pause, rested false)) ∷ (2, (pause, rested false)) ∷ [])
+from_8 = turn b8 2 (send (sealed whole_sum)) (sent) (1 ∷ 1 ∷ 1 ∷ 2 ∷ 1 ∷ 2 ∷ []) ((1, (take, taken (Some (sealed whole_sum)))) ∷ (1, (keep 3 six, kept true)) ∷ (1, (take, taken None)) ∷ (2, (take, taken None)) ∷ (1, (pause, rested false)) ∷ (2, (pause, rested false)) ∷ []) (by_second ((keep 2 four, kept true) ∷ (part 1 2, counted 1) ∷ (read 1 0, found 1 (Some two)) ∷ (read 1 1, found 2 (Some four)) ∷ []) (send (sealed whole_sum)) (plainly _ (send (sealed whole_sum)) whole_back refl)) tt from_9
+
+from_7 : Turned small 2 b7 (2 ∷ 2 ∷ 1 ∷ 1 ∷ 1 ∷ 2 ∷ 1 ∷ 2 ∷ []) ((2, (read 1 1, found 2 (Some four))) ∷ (2, (send (sealed whole_sum), sent)) ∷ (1, (take, taken (Some (sealed whole_sum)))) ∷ (1, (keep 3 six, kept true)) ∷ (1, (take, taken None)) ∷ (2, (take, taken None)) ∷ (1, (pause, rested false)) ∷ (2, (pause, rested false)) ∷ [])
+from_7 = turn b7 2 (read 1 1) (found 2 (Some four)) (2 ∷ 1 ∷ 1 ∷ 1 ∷ 2 ∷ 1 ∷ 2 ∷ []) ((2, (send (sealed whole_sum), sent)) ∷ (1, (take, taken (Some (sealed whole_sum)))) ∷ (1, (keep 3 six, kept true)) ∷ (1, (take, taken None)) ∷ (2, (take, taken None)) ∷ (1, (pause, rested false)) ∷ (2, (pause, rested false)) ∷ []) (by_second ((keep 2 four, kept true) ∷ (part 1 2, counted 1) ∷ (read 1 0, found 1 (Some two)) ∷ []) (read 1 1) (plainly _ (read 1 1) tt refl)) (refl, refl) from_8
+
+from_6 : Turned small 2 b6 (2 ∷ 2 ∷ 2 ∷ 1 ∷ 1 ∷ 1 ∷ 2 ∷ 1 ∷ 2 ∷ []) ((2, (read 1 0, found 1 (Some two))) ∷ (2, (read 1 1, found 2 (Some four))) ∷ (2, (send (sealed whole_sum), sent)) ∷ (1, (take, taken (Some (sealed whole_sum)))) ∷ (1, (keep 3 six, kept true)) ∷ (1, (take, taken None)) ∷ (2, (take, taken None)) ∷ (1, (pause, rested false)) ∷ (2, (pause, rested false)) ∷ [])
+from_6 = turn b6 2 (read 1 0) (found 1 (Some two)) (2 ∷ 2 ∷ 1 ∷ 1 ∷ 1 ∷ 2 ∷ 1 ∷ 2 ∷ []) ((2, (read 1 1, found 2 (Some four))) ∷ (2, (send (sealed whole_sum), sent)) ∷ (1, (take, taken (Some (sealed whole_sum)))) ∷ (1, (keep 3 six, kept true)) ∷ (1, (take, taken None)) ∷ (2, (take, taken None)) ∷ (1, (pause, rested false)) ∷ (2, (pause, rested false)) ∷ []) (by_second ((keep 2 four, kept true) ∷ (part 1 2, counted 1) ∷ []) (read 1 0) (plainly _ (read 1 0) tt refl)) (refl, refl) from_7
+
+from_5 : Turned small 2 b5 (2 ∷ 2 ∷ 2 ∷ 2 ∷ 1 ∷ 1 ∷ 1 ∷ 2 ∷ 1 ∷ 2 ∷ []) ((2, (part 1 2, counted 1)) ∷ (2, (read 1 0, found 1 (Some two))) ∷ (2, (read 1 1, found 2 (Some four))) ∷ (2, (send (sealed whole_sum), sent)) ∷ (1, (take, taken (Some (sealed whole_sum)))) ∷ (1, (keep 3 six, kept true)) ∷ (1, (take, taken None)) ∷ (2, (take, taken None)) ∷ (1, (pause, rested false)) ∷ (2, (pause, rested false)) ∷ [])
+from_5 = turn b5 2 (part 1 2) (counted 1) (2 ∷ 2 ∷ 2 ∷ 1 ∷ 1 ∷ 1 ∷ 2 ∷ 1 ∷ 2 ∷ []) ((2, (read 1 0, found 1 (Some two))) ∷ (2, (read 1 1, found 2 (Some four))) ∷ (2, (send (sealed whole_sum), sent)) ∷ (1, (take, taken (Some (sealed whole_sum)))) ∷ (1, (keep 3 six, kept true)) ∷ (1, (take, taken None)) ∷ (2, (take, taken None)) ∷ (1, (pause, rested false)) ∷ (2, (pause, rested false)) ∷ []) (by_second ((keep 2 four, kept true) ∷ []) (part 1 2) (plainly _ (part 1 2) tt refl)) refl from_6
+
+from_4 : Turned small 2 b4 (2 ∷ 2 ∷ 2 ∷ 2 ∷ 2 ∷ 1 ∷ 1 ∷ 1 ∷ 2 ∷ 1 ∷ 2 ∷ []) ((2, (keep 2 four, kept true)) ∷ (2, (part 1 2, counted 1)) ∷ (2, (read 1 0, found 1 (Some two))) ∷ (2, (read 1 1, found 2 (Some four))) ∷ (2, (send (sealed whole_sum), sent)) ∷ (1, (take, taken (Some (sealed whole_sum)))) ∷ (1, (keep 3 six, kept true)) ∷ (1, (take, taken None)) ∷ (2, (take, taken None)) ∷ (1, (pause, rested false)) ∷ (2, (pause, rested false)) ∷ [])
+from_4 = turn b4 2 (keep 2 four) (kept true) (2 ∷ 2 ∷ 2 ∷ 2 ∷ 1 ∷ 1 ∷ 1 ∷ 2 ∷ 1 ∷ 2 ∷ []) ((2, (part 1 2, counted 1)) ∷ (2, (read 1 0, found 1 (Some two))) ∷ (2, (read 1 1, found 2 (Some four))) ∷ (2, (send (sealed whole_sum), sent)) ∷ (1, (take, taken (Some (sealed whole_sum)))) ∷ (1, (keep 3 six, kept true)) ∷ (1, (take, taken None)) ∷ (2, (take, taken None)) ∷ (1, (pause, rested false)) ∷ (2, (pause, rested false)) ∷ []) (by_second [] (keep 2 four) (plainly _ (keep 2 four) tt refl)) refl from_5
+
+from_3 : Turned small 2 b3 (1 ∷ 2 ∷ 2 ∷ 2 ∷ 2 ∷ 2 ∷ 1 ∷ 1 ∷ 1 ∷ 2 ∷ 1 ∷ 2 ∷ []) ((1, (part 1 1, counted 0)) ∷ (2, (keep 2 four, kept true)) ∷ (2, (part 1 2, counted 1)) ∷ (2, (read 1 0, found 1 (Some two))) ∷ (2, (read 1 1, found 2 (Some four))) ∷ (2, (send (sealed whole_sum), sent)) ∷ (1, (take, taken (Some (sealed whole_sum)))) ∷ (1, (keep 3 six, kept true)) ∷ (1, (take, taken None)) ∷ (2, (take, taken None)) ∷ (1, (pause, rested false)) ∷ (2, (pause, rested false)) ∷ [])
+from_3 = turn b3 1 (part 1 1) (counted 0) (2 ∷ 2 ∷ 2 ∷ 2 ∷ 2 ∷ 1 ∷ 1 ∷ 1 ∷ 2 ∷ 1 ∷ 2 ∷ []) ((2, (keep 2 four, kept true)) ∷ (2, (part 1 2, counted 1)) ∷ (2, (read 1 0, found 1 (Some two))) ∷ (2, (read 1 1, found 2 (Some four))) ∷ (2, (send (sealed whole_sum), sent)) ∷ (1, (take, taken (Some (sealed whole_sum)))) ∷ (1, (keep 3 six, kept true)) ∷ (1, (take, taken None)) ∷ (2, (take, taken None)) ∷ (1, (pause, rested false)) ∷ (2, (pause, rested false)) ∷ []) (by_first ((keep 1 two, kept true) ∷ []) (part 1 1) (plainly _ (part 1 1) tt refl)) refl from_4
+
+from_2 : Turned small 2 b2 (1 ∷ 1 ∷ 2 ∷ 2 ∷ 2 ∷ 2 ∷ 2 ∷ 1 ∷ 1 ∷ 1 ∷ 2 ∷ 1 ∷ 2 ∷ []) ((1, (keep 1 two, kept true)) ∷ (1, (part 1 1, counted 0)) ∷ (2, (keep 2 four, kept true)) ∷ (2, (part 1 2, counted 1)) ∷ (2, (read 1 0, found 1 (Some two))) ∷ (2, (read 1 1, found 2 (Some four))) ∷ (2, (send (sealed whole_sum), sent)) ∷ (1, (take, taken (Some (sealed whole_sum)))) ∷ (1, (keep 3 six, kept true)) ∷ (1, (take, taken None)) ∷ (2, (take, taken None)) ∷ (1, (pause, rested false)) ∷ (2, (pause, rested false)) ∷ [])
+from_2 = turn b2 1 (keep 1 two) (kept true) (1 ∷ 2 ∷ 2 ∷ 2 ∷ 2 ∷ 2 ∷ 1 ∷ 1 ∷ 1 ∷ 2 ∷ 1 ∷ 2 ∷ []) ((1, (part 1 1, counted 0)) ∷ (2, (keep 2 four, kept true)) ∷ (2, (part 1 2, counted 1)) ∷ (2, (read 1 0, found 1 (Some two))) ∷ (2, (read 1 1, found 2 (Some four))) ∷ (2, (send (sealed whole_sum), sent)) ∷ (1, (take, taken (Some (sealed whole_sum)))) ∷ (1, (keep 3 six, kept true)) ∷ (1, (take, taken None)) ∷ (2, (take, taken None)) ∷ (1, (pause, rested false)) ∷ (2, (pause, rested false)) ∷ []) (by_first [] (keep 1 two) (plainly _ (keep 1 two) tt refl)) refl from_3
+
+from_1 : Turned small 2 b1 (2 ∷ 1 ∷ 1 ∷ 2 ∷ 2 ∷ 2 ∷ 2 ∷ 2 ∷ 1 ∷ 1 ∷ 1 ∷ 2 ∷ 1 ∷ 2 ∷ []) ((2, (take, taken (Some (sealed second_sum)))) ∷ (1, (keep 1 two, kept true)) ∷ (1, (part 1 1, counted 0)) ∷ (2, (keep 2 four, kept true)) ∷ (2, (part 1 2, counted 1)) ∷ (2, (read 1 0, found 1 (Some two))) ∷ (2, (read 1 1, found 2 (Some four))) ∷ (2, (send (sealed whole_sum), sent)) ∷ (1, (take, taken (Some (sealed whole_sum)))) ∷ (1, (keep 3 six, kept true)) ∷ (1, (take, taken None)) ∷ (2, (take, taken None)) ∷ (1, (pause, rested false)) ∷ (2, (pause, rested false)) ∷ [])
+from_1 = turn b1 2 (take) (taken (Some (sealed second_sum))) (1 ∷ 1 ∷ 2 ∷ 2 ∷ 2 ∷ 2 ∷ 2 ∷ 1 ∷ 1 ∷ 1 ∷ 2 ∷ 1 ∷ 2 ∷ []) ((1, (keep 1 two, kept true)) ∷ (1, (part 1 1, counted 0)) ∷ (2, (keep 2 four, kept true)) ∷ (2, (part 1 2, counted 1)) ∷ (2, (read 1 0, found 1 (Some two))) ∷ (2, (read 1 1, found 2 (Some four))) ∷ (2, (send (sealed whole_sum), sent)) ∷ (1, (take, taken (Some (sealed whole_sum)))) ∷ (1, (keep 3 six, kept true)) ∷ (1, (take, taken None)) ∷ (2, (take, taken None)) ∷ (1, (pause, rested false)) ∷ (2, (pause, rested false)) ∷ []) (plainly taking take tt refl) refl from_2
+
+from_0 : Turned small 2 b0 (1 ∷ 2 ∷ 1 ∷ 1 ∷ 2 ∷ 2 ∷ 2 ∷ 2 ∷ 2 ∷ 1 ∷ 1 ∷ 1 ∷ 2 ∷ 1 ∷ 2 ∷ []) ((1, (take, taken (Some (sealed first_sum)))) ∷ (2, (take, taken (Some (sealed second_sum)))) ∷ (1, (keep 1 two, kept true)) ∷ (1, (part 1 1, counted 0)) ∷ (2, (keep 2 four, kept true)) ∷ (2, (part 1 2, counted 1)) ∷ (2, (read 1 0, found 1 (Some two))) ∷ (2, (read 1 1, found 2 (Some four))) ∷ (2, (send (sealed whole_sum), sent)) ∷ (1, (take, taken (Some (sealed whole_sum)))) ∷ (1, (keep 3 six, kept true)) ∷ (1, (take, taken None)) ∷ (2, (take, taken None)) ∷ (1, (pause, rested false)) ∷ (2, (pause, rested false)) ∷ [])
+from_0 = turn b0 1 (take) (taken (Some (sealed first_sum))) (2 ∷ 1 ∷ 1 ∷ 2 ∷ 2 ∷ 2 ∷ 2 ∷ 2 ∷ 1 ∷ 1 ∷ 1 ∷ 2 ∷ 1 ∷ 2 ∷ []) ((2, (take, taken (Some (sealed second_sum)))) ∷ (1, (keep 1 two, kept true)) ∷ (1, (part 1 1, counted 0)) ∷ (2, (keep 2 four, kept true)) ∷ (2, (part 1 2, counted 1)) ∷ (2, (read 1 0, found 1 (Some two))) ∷ (2, (read 1 1, found 2 (Some four))) ∷ (2, (send (sealed whole_sum), sent)) ∷ (1, (take, taken (Some (sealed whole_sum)))) ∷ (1, (keep 3 six, kept true)) ∷ (1, (take, taken None)) ∷ (2, (take, taken None)) ∷ (1, (pause, rested false)) ∷ (2, (pause, rested false)) ∷ []) (plainly taking take tt refl) refl from_1
+
+-- ---- the whole
+
+ends_first : HasEnded small steps 1
+ends_first = ap (ask X) (third_state (whole_own ++ (take, taken None) ∷ (pause, rested false) ∷ []))
+
+ends_second : HasEnded small steps 2
+ends_second = ap (ask X) (second_state (second_own ++ (take, taken None) ∷ (pause, rested false) ∷ []))
+
+all_ended : AllEnded small 2 steps
+all_ended p w = elim (cases_eq p 1) [
+  | inl e ↦ subst (HasEnded small steps) (sym e) ends_first
+  | inr f ↦ let same : p ≡ 2 = omega (arith, w.0, w.1, f) in subst (HasEnded small steps) (sym same) ends_second
+]
+
+abbrev Stands : Type 0
+Stands = (r : RanWhole small 2 listed) × (r.steps ≡ steps) × (r.further ≡ 2)
+
+pub stands : Stands
+stands = (record { opens_back = (first_back, (second_back, tt)); turns = listed ++ rounds 2 2; further = 2; follow = refl; steps = steps; turned = from_0; ended = all_ended }, refl, refl)
+
+-- ---- the near miss
+
+-- what the first step of some turns is answered, and the turns behind it
+record Peeled (before : List Step) (x : Step) (xs : List Step) : Type 0 where
+  pub answers : Answers small 2 before x.1.0 x.1.1
+  pub turns : List ℕ
+  pub behind : Turned small 2 (before ++ x ∷ []) turns xs
+
+peeled : (before : List Step) (us : List ℕ) (x : Step) (xs : List Step) → Turned small 2 before us (x ∷ xs) → Peeled before x xs
+peeled before [] x xs t = elim t [ ]
+peeled before (p ∷ us) x xs (skips e t) = peeled before us x xs t
+peeled before (p ∷ us) (q, (a, r)) xs (takes b e h t) = record { answers = h; turns = us; behind = t }
+
+abbrev h0 : List Step
+h0 = []
+
+abbrev h1 : List Step
+h1 = h0 ++ (1, (take, taken (Some (sealed first_sum)))) ∷ []
+
+abbrev h2 : List Step
+h2 = h1 ++ (1, (keep 1 two, kept true)) ∷ []
+
+abbrev h3 : List Step
+h3 = h2 ++ (1, (part 1 1, counted 0)) ∷ []
+
+abbrev h4 : List Step
+h4 = h3 ++ (1, (take, taken (Some (sealed second_sum)))) ∷ []
+
+abbrev h5 : List Step
+h5 = h4 ++ (2, (take, taken None)) ∷ []
+
+abbrev second_taken : AskedAndAnswered X
+second_taken = (take, taken (Some (sealed second_sum)))
+
+is_busy : is_inside (left small h5 1) ≡ true
+is_busy = ap is_inside (first_state (first_own ++ second_taken ∷ []) ∙ ap (opens X) second_opens)
+
+pub none_hasty : (us : List ℕ) → Turned small 2 [] us hasty → ⊥
+none_hasty us t =
+    let x1 = peeled h0 us (1, (take, taken (Some (sealed first_sum)))) _ t in
+    let x2 = peeled h1 x1.turns (1, (keep 1 two, kept true)) _ x1.behind in
+    let x3 = peeled h2 x2.turns (1, (part 1 1, counted 0)) _ x2.behind in
+    let x4 = peeled h3 x3.turns (1, (take, taken (Some (sealed second_sum)))) _ x3.behind in
+    let x5 = peeled h4 x4.turns (2, (take, taken None)) _ x4.behind in
+    let x6 = peeled h5 x5.turns (2, (pause, rested false)) _ x5.behind in
+    let wrong : false ≡ true = x6.answers ∙ ap (λ b. b || false) is_busy in
+    absurd cc

@@ -1,0 +1,134 @@
+-- A run by turns ends: it has few steps.
+use Rattle.std.proofs.Common.{◌≡◌, ℕ, zero, suc, ◌+◌, ◌-◌, ◌*◌, ◌^◌, ◌≤◌, ◌<◌, List, [], ◌∷◌, ◌++◌, length, refl, sym, ap, ◌∙◌, subst, append_assoc, append-nil, ⊎_elim, arith, suc-mul, suc-add, zero-add, zero-mul, mul-le-mul_right}
+use Rattle.std.proofs.lemmas.Nat.{mul-le}
+use Rattle.std.proofs.lemmas.Bool.{cases_lt}
+use Rattle.std.proofs.lemmas.List.{length-append}
+use Rattle.canvas_rewrite.specs.Frozen.{Line, count_line}
+use Rattle.canvas_rewrite.specs.Planned.{IsPlan}
+use Rattle.canvas_runs.specs.Going.{most_calls, most_steps}
+use Rattle.canvas_runs.specs.Lists.{Each}
+use Rattle.canvas_runs.specs.TurnLaws.{ByTurns}
+use Rattle.canvas_runs.specs.Turns.{Step, IsWorker, HasEnded, Turned, skips, AllEnded, round, rounds, Begins, RanUntil}
+use Rattle.canvas_runs.proofs.Sums.{total-append}
+use Rattle.canvas_runs.proofs.TurnLaw.{until_turns}
+use Rattle.canvas_runs.proofs.TurnRounds.{pairs, pairs_go, none_further, each_round}
+use Rattle.canvas_runs.proofs.TurnSums.{calls_of, calls_in, few_calls}
+use Rattle.canvas_runs.proofs.TurnWalk.{holds_first, holds_turned}
+use Rattle.canvas_runs.proofs.Turning.{turned_part, few_steps}
+use Rattle.canvas_runs.proofs.Words.{each_left, each_right}
+
+-- ---- lists
+
+-- where two lists begin with the same, the longer one goes on from the shorter one
+goes_on : (us zs rest ws : List ℕ) → us ++ rest ≡ zs ++ ws → length zs ≤ length us → (vs : List ℕ) × (us ≡ zs ++ vs)
+goes_on us [] rest ws e h = (us, refl)
+goes_on [] (z ∷ zs) rest ws e h = absurd (omega (arith, h))
+goes_on (u ∷ us) (z ∷ zs) rest ws e h =
+    let same : u ≡ z = cc in
+    let tails : us ++ rest ≡ zs ++ ws = cc in
+    let r = goes_on us zs rest ws tails (omega (arith, h)) in
+    (r.0, ap (λ l. u ∷ l) r.1 ∙ ap (λ k. k ∷ zs ++ r.0) same)
+
+pub round_length : (n : ℕ) → length (round n) ≡ n
+round_length zero = refl
+round_length (suc n) = let r = round_length n in omega (arith, r, length-append (round n) (suc n ∷ []))
+
+pub rounds_length : (n k : ℕ) → length (rounds n k) ≡ k * n
+rounds_length n zero = sym (zero-mul n)
+rounds_length n (suc k) = let r = rounds_length n k in omega (arith, r, round_length n, length-append (round n) (rounds n k), suc-mul k n)
+
+pub rounds_more : (n k j : ℕ) → rounds n (k + j) ≡ rounds n k ++ rounds n j
+rounds_more n zero j = ap (rounds n) (zero-add j)
+rounds_more n (suc k) j =
+    ap (rounds n) (suc-add k j) ∙ (ap (λ l. round n ++ l) (rounds_more n k j) ∙ sym (append_assoc (round n) (rounds n k) (rounds n j)))
+
+-- one more round at the end
+pub rounds_next : (n k : ℕ) → rounds n (suc k) ≡ rounds n k ++ round n
+rounds_next n zero = append-nil (round n)
+rounds_next n (suc k) = ap (λ l. round n ++ l) (rounds_next n k) ∙ sym (append_assoc (round n) (rounds n k) (round n))
+
+abbrev twice : ℕ → ℕ
+twice zero = zero
+twice (suc m) = suc (suc (twice m))
+
+twice_is : (m : ℕ) → twice m ≡ 2 * m
+twice_is zero = refl
+twice_is (suc m) = let r = twice_is m in omega (arith, r)
+
+module _ (l : Line) (n : ℕ) (us : List ℕ) (xs : List Step) (t : ByTurns l n us xs) (some : 1 ≤ n) where
+  abbrev some_pairs : ℕ → List ℕ
+  some_pairs m = pairs l t.plan t.opens_back n m
+
+  two_rounds : (m : ℕ) → rounds n (twice m) ≡ some_pairs m
+  two_rounds zero = refl
+  two_rounds (suc m) = ap (λ g. round n ++ (round n ++ g)) (two_rounds m) ∙ sym (append_assoc (round n) (round n) (some_pairs m))
+
+  abbrev busy : ℕ
+  busy = suc (most_calls l)
+
+  -- the turns of the list, and rotation by which all have ended
+  abbrev whole : List ℕ → List ℕ
+  whole ts = ts ++ rounds n (2 * busy)
+
+  whole_length : (ts : List ℕ) → length (whole ts) ≡ most_steps l n (length ts)
+  whole_length ts = let a = length-append ts (rounds n (2 * busy)) in let b = rounds_length n (2 * busy) in omega (arith, a, b)
+
+  -- by then all have ended
+  all_done : (ts vs : List ℕ) → us ≡ whole ts ++ vs → length xs ≤ length (whole ts)
+  all_done ts vs e =
+      let workers : Each (IsWorker n) (whole ts ++ vs) = subst (Each (IsWorker n)) e t.workers in
+      let firsts : Each (IsWorker n) (whole ts) = each_left (IsWorker n) (whole ts) vs workers in
+      let cut = turned_part l n [] (whole ts) vs xs (subst (λ z. Turned l n [] z xs) e t.turned) in
+      let parts = turned_part l n [] ts (rounds n (2 * busy)) cut.0 cut.3 in
+      let before = holds_turned l t.plan t.opens_back n [] ts parts.0 (each_left (IsWorker n) ts (rounds n (2 * busy)) firsts) (holds_first l t.plan t.opens_back n) parts.3 in
+      let rotation : Turned l n parts.0 (some_pairs busy) parts.1 = subst (λ z. Turned l n parts.0 z parts.1) (ap (rounds n) (sym (twice_is busy)) ∙ two_rounds busy) parts.4 in
+      let sums : calls_in l xs ≡ calls_in l cut.0 + calls_in l cut.1 = ap (calls_in l) cut.2 ∙ total-append (λ x. calls_of l x.1) cut.0 cut.1 in
+      let parted : calls_in l cut.0 ≡ calls_in l parts.0 + calls_in l parts.1 = ap (calls_in l) parts.2 ∙ total-append (λ x. calls_of l x.1) parts.0 parts.1 in
+      let lengths : length xs ≡ length cut.0 + length cut.1 = ap length cut.2 ∙ length-append cut.0 cut.1 in
+      let fewer = few_steps l n [] (whole ts) cut.0 cut.3 in
+      ⊎_elim
+      (λ done.
+      let stop = none_further l t.plan t.opens_back n cut.0 vs cut.1 (subst (AllEnded l n) (sym parts.2) done) (each_right (IsWorker n) (whole ts) vs workers) cut.4 in
+      let none : length cut.1 ≡ 0 = ap length stop in
+      omega (arith, lengths, none, fewer))
+      (λ many. absurd (let few = few_calls l n us xs t in omega (arith, many, few, sums, parted)))
+      (pairs_go l t.plan t.opens_back n some busy parts.0 parts.1 before rotation)
+
+  -- turns that are more than these begin with them
+  more_turns : (ts rest : List ℕ) (k : ℕ) → us ++ rest ≡ ts ++ rounds n k → length (whole ts) ≤ length us → (vs : List ℕ) × (us ≡ whole ts ++ vs)
+  more_turns ts rest k e h = ⊎_elim (λ less. absurd (too_few less)) (λ more. further more) (cases_lt k (2 * busy))
+    where
+      too_few : k < 2 * busy → ⊥
+      too_few less =
+          let a : length us + length rest ≡ length ts + k * n = sym (length-append us rest) ∙ (ap length e ∙ (length-append ts (rounds n k) ∙ ap (λ m. length ts + m) (rounds_length n k))) in
+          let b : length (whole ts) ≡ length ts + 2 * busy * n = length-append ts (rounds n (2 * busy)) ∙ ap (λ m. length ts + m) (rounds_length n (2 * busy)) in
+          let c : suc k * n ≤ 2 * busy * n = mul-le-mul_right n less in
+          omega (arith, a, b, c, suc-mul k n, h, some)
+
+      further : 2 * busy ≤ k → (vs : List ℕ) × (us ≡ whole ts ++ vs)
+      further more =
+          let count : k ≡ 2 * busy + (k - 2 * busy) = omega (arith, more) in
+          goes_on us (whole ts) rest (rounds n (k - 2 * busy)) (e ∙ (ap (λ j. ts ++ rounds n j) count ∙ (ap (λ g. ts ++ g) (rounds_more n (2 * busy) (k - 2 * busy)) ∙ sym (append_assoc ts (rounds n (2 * busy)) (rounds n (k - 2 * busy)))))) h
+
+  pub few : (ts : List ℕ) → Begins us ts n → length xs ≤ most_steps l n (length ts)
+  few ts (k, rest, e) =
+      let same = whole_length ts in
+      ⊎_elim (λ short. let a = few_steps l n [] us xs t.turned in omega (arith, a, short, same))
+      (λ long. let m = more_turns ts rest k e long in let a = all_done ts m.0 m.1 in omega (arith, a, same)) (cases_lt (length us) (length (whole ts)))
+
+pub stops_soon : (l : Line) → IsPlan l → (n : ℕ) (ts : List ℕ) (most : ℕ) → 1 ≤ n → Each (IsWorker n) ts → RanUntil l n ts most → most ≤ most_steps l n (length ts)
+stops_soon l plan n ts most some w r = let a = few l n r.turns r.steps (until_turns l plan n ts most w r) some ts r.begin in omega (arith, a, r.many)
+
+pub steps_fit : (l : Line) (n k : ℕ) → count_line l < 2 ^ 32 → n ≤ 16 → k < 2 ^ 64 → most_steps l n k < 2 ^ 127
+steps_fit l n k tasks workers listed =
+    let a = mul-le (count_line l + 4) (suc (count_line l)) 4294967299 4294967296 (omega (arith, tasks)) (omega (arith, tasks)) in
+    let b = mul-le (2 * suc (most_calls l)) n (2 * (4294967299 * 4294967296 + 1)) 16 (omega (arith, a)) workers in
+    omega (arith, b, listed)
+
+-- a round without a step
+none_taken : (l : Line) (n : ℕ) (before : List Step) (us : List ℕ) → Turned l n before us [] → Each (HasEnded l before) us
+none_taken l n before [] t = tt
+none_taken l n before (p ∷ us) (skips e t) = (e, none_taken l n before us t)
+
+pub rounds_go : (l : Line) (n : ℕ) (before : List Step) → Turned l n before (round n) [] → AllEnded l n before
+rounds_go l n before t p w = each_round n (HasEnded l before) (none_taken l n before (round n) t) p w

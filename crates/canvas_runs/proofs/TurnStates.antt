@@ -1,0 +1,245 @@
+-- What a worker has left to do, after the steps of a run by turns: the parts still to come may be returned, and the members of a header that is read are stored.
+use Rattle.std.proofs.Common.{◌≡◌, ◌≢◌, ℕ, suc, Bool, true, false, eqb, ◌==◌, List, [], ◌∷◌, ◌++◌, length, Option, Some, None, is_some, refl, sym, ap, ◌∙◌, subst, append-nil, inl, ne_eqb, arith}
+use Rattle.std.proofs.lemmas.Bool.{eqb-true}
+use Rattle.std.specs.Prelude.{if◌then◌else◌}
+use Rattle.canvas_task.specs.declared.outcome.Outcome.{Outcome}
+use Rattle.canvas_task.specs.History.{calls, among, live, AllOthers}
+use Rattle.canvas_rewrite.specs.Frozen.{Line}
+use Rattle.canvas_rewrite.specs.Planned.{IsPlan}
+use Rattle.canvas_rewrite.proofs.Members.{plan_apart}
+use Rattle.canvas_message.specs.Content.{Content}
+use Rattle.canvas_message.specs.Events.{In}
+use Rattle.canvas_message.specs.Job.{store, publish, hand_in}
+use Rattle.canvas_message.specs.declared.envelope.Envelope.{Envelope}
+use Rattle.canvas_backend.proofs.HistoryLaws.{all_first, keeps_first, still_free, first_may, still_may}
+use Rattle.canvas_backend.specs.declared.stored.Stored.TheVariants.{First, Again}
+use Rattle.canvas_backend.specs.Backend as results
+use Rattle.canvas_backend.specs.Backend.{Results, no_results, kept_or, was, count, MayReturn}
+use Rattle.canvas_backend.specs.Roster.{Roster, roster_of}
+use Rattle.canvas_runs.specs.Accounts.{rows}
+use Rattle.canvas_runs.specs.Calls.{BackendCall, stored, has_read, backend_call, reads_member, ReadsMembers, AskedAndAnswered}
+use Rattle.canvas_runs.specs.Core.{Ask, Reply, take, send, keep, part, read, taken, sent, kept, counted, found, rested, taking, resting, over, failed, owning, doing, reading, settled, ask, opens, answered, left_after, IsCoreRun, Doing, Jobs}
+use Rattle.canvas_runs.specs.Following.{replied}
+use Rattle.canvas_runs.specs.Lists.{Each, by}
+use Rattle.canvas_runs.specs.Protocol.{Protocol}
+use Rattle.canvas_runs.specs.Turns.{Step, results_next, results_after, left, IsWorker, Answers, FirstsRead}
+use Rattle.canvas_runs.specs.Worker.{worker}
+use Rattle.canvas_runs.proofs.Bridges.{stored_stays, store_in}
+use Rattle.canvas_runs.proofs.Facts.{X, form, Does, order, value, its_backs}
+use Rattle.canvas_runs.proofs.Finish.{Backed}
+use Rattle.canvas_runs.proofs.FirstLaw.{inner_run, first_part}
+use Rattle.canvas_runs.proofs.Keeps.{GoodState, GoodAnswer, Goods, Closed, next_good, more_found, all_found}
+use Rattle.canvas_runs.proofs.Knowing.{found as among_members}
+use Rattle.canvas_runs.proofs.Right.{right_goods, right_closed, answers_right}
+use Rattle.canvas_runs.proofs.TurnLogs.{worker_lives}
+use Rattle.canvas_runs.proofs.TurnRuns.{Lawful, run, table_log, table_log_more, table_made, MayPart}
+use Rattle.canvas_runs.proofs.Turning.{by_more, results_more}
+use Rattle.canvas_runs.proofs.Words.{in_right, in_each, each_right, each_weaker, each_from_in, cond_cases}
+
+-- what is left after a core run is good, where the answers are
+module _ (Y : Protocol) (G : Goods Y) (k : Closed Y G) where
+  pub left_good : (s : Doing Y) (xs : List (AskedAndAnswered Y)) → GoodState Y G s → IsCoreRun Y s xs → ReadsMembers Y xs → Each (λ x. GoodAnswer Y G x.1) xs → GoodState Y G (left_after Y s xs)
+  left_good s [] good c m a = good
+  left_good s (x ∷ xs) good c m a = left_good (answered Y s x.1) xs (next_good Y G k s x.1 good (subst (λ z. reads_member Y z x.1) c.0 m.0) a.0) c.2 m.1 a.1
+
+rows_others : (p q : ℕ) (cs : List (BackendCall Outcome)) → q ≢ p → AllOthers p (rows q cs)
+rows_others p q [] apart = tt
+rows_others p q (c ∷ cs) apart = (ne_eqb q p apart, rows_others p q cs apart)
+
+kept_stays : (s : Results) (a : Ask Envelope Outcome) (t : ℕ) (o : Outcome) → s.outcomes t ≡ Some o → (results_next s a).outcomes t ≡ Some o
+kept_stays s (keep u w) t o e = go (t == u)
+  where
+    go : (b : Bool) → (if b then kept_or (s.outcomes t) w else s.outcomes t) ≡ Some o
+    go true = ap (λ y. kept_or y w) e
+    go false = e
+kept_stays s (part g u) t o e = e
+kept_stays s a t o e = e
+
+module _ (l : Line) (plan : IsPlan l) where
+  abbrev pub Good : Doing (worker l) → Type 0
+  Good s = GoodState (worker l) (right_goods (X l plan) (form l plan) (Does l plan)) s
+
+  abbrev pub P : Roster
+  P = roster_of l
+
+  pub good_left : (back : FirstsRead l) (n : ℕ) (xs : List Step) (s : Lawful l n xs) (p : ℕ) → Good (left l xs p)
+  good_left back n xs s p =
+      left_good (worker l) (right_goods (X l plan) (form l plan) (Does l plan)) (right_closed (X l plan) (form l plan) (Does l plan) (order l plan) (value l plan)) taking (by p xs) tt (s.core p) (s.reads p)
+      (answers_right (X l plan) (form l plan) (Does l plan) (order l plan) (value l plan) (inner_run l plan (run l back n xs s)) p)
+
+  abbrev pub GoodReply : Reply Envelope Outcome → Type 0
+  GoodReply r = GoodAnswer (worker l) (right_goods (X l plan) (form l plan) (Does l plan)) r
+
+  good_answer : (back : FirstsRead l) (n : ℕ) (xs : List Step) (p : ℕ) (a : Ask Envelope Outcome) (r : Reply Envelope Outcome) → Lawful l n (xs ++ (p, (a, r)) ∷ []) → GoodReply r
+  good_answer back n xs p a r s =
+      (each_right (λ (x : AskedAndAnswered (worker l)). GoodReply x.1) (by p xs) ((a, r) ∷ [])
+      (subst (Each (λ (x : AskedAndAnswered (worker l)). GoodReply x.1)) (by_more p xs (a, r))
+      (answers_right (X l plan) (form l plan) (Does l plan) (order l plan) (value l plan) (inner_run l plan (run l back n (xs ++ (p, (a, r)) ∷ []) s)) p))).0
+
+  -- ---- what is known of states
+
+  abbrev pub IsStored : List Step → ℕ → Type 0
+  IsStored xs t = (o : Outcome) × ((results_after xs).outcomes t ≡ Some o)
+
+  abbrev pub May : ℕ → List Step → ℕ → ℕ → Type 0
+  May n xs p t = MayReturn P (table_log l n xs) p t
+
+  abbrev pub Ready : ℕ → List Step → ℕ → Doing (worker l) → Type 0
+  Ready n xs p taking = Unit {0}
+  Ready n xs p resting = Unit {0}
+  Ready n xs p over = Unit {0}
+  Ready n xs p failed = ⊥
+  Ready n xs p (owning m) = Unit {0}
+  Ready n xs p (doing [] b) = ⊥
+  Ready n xs p (doing (j ∷ js) b) = (us : List ℕ) × Backed (worker l) us (j ∷ js) × Each (May n xs p) us
+  Ready n xs p (reading g c fs) = Each (IsStored xs) ((worker l).members g) × (eqb (length fs) c.size ≡ false)
+
+  settled_ready : (n : ℕ) (xs : List Step) (p : ℕ) (us : List ℕ) (js : Jobs (worker l)) (b : Bool) → Backed (worker l) us js → Each (May n xs p) us → Ready n xs p (settled (worker l) js b)
+  settled_ready n xs p us [] b k m = tt
+  settled_ready n xs p us (store t o ∷ js) true k m = (us, k, m)
+  settled_ready n xs p us (store t o ∷ js) false k m = (us, k, m)
+  settled_ready n xs p us (publish c ∷ js) true k m = (us, k, m)
+  settled_ready n xs p us (publish c ∷ js) false k m = (us, k, m)
+  settled_ready n xs p us (hand_in g t c ∷ js) true k m = (us, k, m)
+  settled_ready n xs p us (hand_in g t c ∷ js) false k m = tt
+
+  -- ---- a part that comes next may be returned
+
+  pub part_may : (n : ℕ) (xs : List Step) (p : ℕ) (s : Doing (worker l)) → results.results P (table_log l n xs) ≡ results_after xs → Good s → Ready n xs p s → MayPart l (table_log l n xs) p (ask (worker l) s)
+  part_may n xs p taking is good k = tt
+  part_may n xs p resting is good k = tt
+  part_may n xs p over is good k = tt
+  part_may n xs p failed is good k = tt
+  part_may n xs p (owning m) is good k = tt
+  part_may n xs p (doing [] b) is good k = tt
+  part_may n xs p (doing (store t o ∷ js) b) is good k = tt
+  part_may n xs p (doing (publish m ∷ js) b) is good k = tt
+  part_may n xs p (doing (hand_in g t c ∷ js) b) is good k =
+      let mine = in_each (May n xs p) k.0 k.2 t k.1.0 in
+      let formed = good.0.0 in
+      (ap is_some formed.2.1.0, among_members t ((worker l).members g) ((order l plan).member g t c formed), mine.own, mine.free)
+  part_may n xs p (reading g c fs) is good k = tt
+
+  -- ---- another worker's step changes nothing of it
+
+  pub other_may : (n : ℕ) (xs : List Step) (p q : ℕ) (a : Ask Envelope Outcome) (r : Reply Envelope Outcome) (t : ℕ) → IsWorker n p → q ≢ p → results.IsLegal P (table_log l n (xs ++ (q, (a, r)) ∷ [])) → May n xs p t → May n (xs ++ (q, (a, r)) ∷ []) p t
+  other_may n xs p q a r t w apart legal m =
+      let new : results.Log = rows q (backend_call (worker l) a r) in
+      let more = table_log_more l n xs (q, (a, r)) in
+      let lawful : results.IsLegal P (table_log l n xs ++ new) = subst (results.IsLegal P) more legal in
+      let alive : among p (live (table_log l n xs ++ new)) ≡ true = subst (λ g. among p (live g) ≡ true) more (worker_lives n p (table_log l n (xs ++ (q, (a, r)) ∷ [])) (table_made l n (xs ++ (q, (a, r)) ∷ [])) w) in
+      subst (λ g. MayReturn P g p t) (sym more) (record {
+        own = keeps_first P (table_log l n xs) new p t lawful m.alive alive m.own;
+        free = still_free P (table_log l n xs) new p t lawful (rows_others p q (backend_call (worker l) a r) apart) m.alive alive m.own m.free;
+        alive = alive;
+      })
+
+  pub stored_more : (xs : List Step) (x : Step) (t : ℕ) → IsStored xs t → IsStored (xs ++ x ∷ []) t
+  stored_more xs x t k = (k.0, ap (λ s. s.outcomes t) (results_more no_results xs x) ∙ kept_stays (results_after xs) x.1.0 t k.0 k.1)
+
+  pub other_ready : (n : ℕ) (xs : List Step) (p q : ℕ) (a : Ask Envelope Outcome) (r : Reply Envelope Outcome) → IsWorker n p → q ≢ p → results.IsLegal P (table_log l n (xs ++ (q, (a, r)) ∷ []))
+      → (s : Doing (worker l)) → Ready n xs p s → Ready n (xs ++ (q, (a, r)) ∷ []) p s
+  other_ready n xs p q a r w apart legal taking k = tt
+  other_ready n xs p q a r w apart legal resting k = tt
+  other_ready n xs p q a r w apart legal over k = tt
+  other_ready n xs p q a r w apart legal failed k = k
+  other_ready n xs p q a r w apart legal (owning m) k = tt
+  other_ready n xs p q a r w apart legal (doing [] b) k = k
+  other_ready n xs p q a r w apart legal (doing (j ∷ js) b) k = (k.0, k.1, each_weaker (λ t m. other_may n xs p q a r t w apart legal m) k.0 k.2)
+  other_ready n xs p q a r w apart legal (reading g c fs) k = (each_weaker (λ t m. stored_more xs (q, (a, r)) t m) ((worker l).members g) k.0, k.1)
+
+  -- ---- nor does a call of its own that returns no part
+
+  abbrev NotPart : Ask Envelope Outcome → Type 0
+  NotPart (part g t) = ⊥
+  NotPart a = Unit {0}
+
+  abbrev OwnMay : results.Log → results.Log → ℕ → ℕ → Type 0
+  OwnMay log new p t = results.IsLegal P (log ++ new) → MayReturn P log p t → MayReturn P (log ++ new) p t
+
+  one_own : (log : results.Log) (p t : ℕ) (c : results.Call) (r : results.Reply) → ((g : ℕ) → c ≢ results.part g t) → OwnMay log (calls p c r ∷ []) p t
+  one_own log p t c r other legal m = still_may P p t c r log (log ++ calls p c r ∷ []) other m ([], refl, tt, legal, λ e. refl)
+
+  own_step : (log : results.Log) (p t : ℕ) (a : Ask Envelope Outcome) (r : Reply Envelope Outcome) → NotPart a → OwnMay log (rows p (backend_call (worker l) a r)) p t
+  own_step log p t (keep u o) (kept b) plain = one_own log p t (results.store u o) (replied (stored u o b)) (λ g e. absurd cc)
+  own_step log p t (part g u) r plain = absurd plain
+  own_step log p t (read g i) (found u x) plain = one_own log p t (results.read u) (replied (has_read u x)) (λ g e. absurd cc)
+  own_step log p t a r plain = λ legal m. subst (λ g. MayReturn P g p t) (sym (append-nil log)) m
+
+  pub own_may : (n : ℕ) (xs : List Step) (p : ℕ) (a : Ask Envelope Outcome) (r : Reply Envelope Outcome) (t : ℕ) → NotPart a → results.IsLegal P (table_log l n (xs ++ (p, (a, r)) ∷ [])) → May n xs p t → May n (xs ++ (p, (a, r)) ∷ []) p t
+  own_may n xs p a r t plain legal m =
+      let more = table_log_more l n xs (p, (a, r)) in
+      subst (λ g. MayReturn P g p t) (sym more) (own_step (table_log l n xs) p t a r plain (subst (results.IsLegal P) more legal) m)
+
+  -- a task that the worker has just stored
+  pub stored_may : (n : ℕ) (xs : List Step) (p t : ℕ) (o : Outcome) → results.IsLegal P (table_log l n (xs ++ (p, (keep t o, kept true)) ∷ [])) → May n (xs ++ (p, (keep t o, kept true)) ∷ []) p t
+  stored_may n xs p t o legal =
+      let more = table_log_more l n xs (p, (keep t o, kept true)) in
+      let call = calls p (results.store t o) (was First) in
+      subst (λ g. MayReturn P g p t) (sym more) (first_may P p t o (table_log l n xs) (table_log l n xs ++ call ∷ []) ([], refl, tt, subst (results.IsLegal P) more legal, λ e. refl))
+
+  -- each store answers first
+  pub first_answer : (back : FirstsRead l) (n : ℕ) (xs : List Step) (p t : ℕ) (o : Outcome) (b : Bool) → Lawful l n (xs ++ (p, (keep t o, kept b)) ∷ []) → b ≡ true
+  first_answer back n xs p t o true s = refl
+  first_answer back n xs p t o false s =
+      let call = calls p (results.store t o) (was Again) in
+      let there : In call (table_log l n (xs ++ (p, (keep t o, kept false)) ∷ [])) =
+      subst (In call) (sym (table_log_more l n xs (p, (keep t o, kept false)))) (in_right (table_log l n xs) (call ∷ []) call (inl refl)) in
+      let wrong : Again ≡ First = ((first_part l plan (run l back n (xs ++ (p, (keep t o, kept false)) ∷ []) s)).stored p t o Again there).1 in
+      absurd cc
+
+  -- ---- the header whose last part is returned is stored
+
+  pub was_in : (log : results.Log) (t : ℕ) (o : Outcome) → results.WasFirst log t o → (q : Outcome) × ((results.results P log).outcomes t ≡ Some q)
+  was_in log t o f =
+      let call = calls f.caller (results.store t o) (was First) in
+      let there : In call log = subst (In call) (sym f.is) (in_right f.before (call ∷ f.rest) call (inl refl)) in
+      stored_stays l (plan_apart l plan) t o true log no_results (store_in log f.caller t o First there)
+
+  header_stored : (n : ℕ) (xs : List Step) (p g t m : ℕ) → results.results P (table_log l n xs) ≡ results_after xs → results.IsLegal P (table_log l n (xs ++ (p, (part g t, counted m)) ∷ [])) → suc m ≡ length ((worker l).members g)
+      → Each (IsStored (xs ++ (p, (part g t, counted m)) ∷ [])) ((worker l).members g)
+  header_stored n xs p g t m is legal full =
+      let x : Step = (p, (part g t, counted m)) in
+      each_from_in ((worker l).members g) (λ u i.
+      let w = all_first P (table_log l n (xs ++ x ∷ [])) (table_log l n xs) [] p g t m legal (table_log_more l n xs x) full u (among_members u ((worker l).members g) i) in
+      let k = was_in (table_log l n xs) u w.0 w.1 in
+      stored_more xs x u (k.0, ap (λ s. s.outcomes u) (sym is) ∙ k.1))
+
+  -- ---- what is left after the worker's own step
+
+  pub own_ready : (back : FirstsRead l) (n : ℕ) (xs : List Step) (p : ℕ) (s : Doing (worker l)) (r : Reply Envelope Outcome) → results.results P (table_log l n xs) ≡ results_after xs → Good s → Ready n xs p s → Answers l n xs (ask (worker l) s) r
+      → Lawful l n (xs ++ (p, (ask (worker l) s, r)) ∷ []) → Ready n (xs ++ (p, (ask (worker l) s, r)) ∷ []) p (answered (worker l) s r)
+  own_ready back n xs p taking (taken None) is good k h law = tt
+  own_ready back n xs p taking (taken (Some e)) is good k h law = go ((worker l).opened e)
+    where
+      go : (x : Option Content) → Ready n (xs ++ (p, (take, taken (Some e))) ∷ []) p (opens (worker l) x)
+      go None = tt
+      go (Some m) = tt
+  own_ready back n xs p resting (rested true) is good k h law = tt
+  own_ready back n xs p resting (rested false) is good k h law = tt
+  own_ready back n xs p (owning m) (kept true) is good k h law =
+      let us : List ℕ = (worker l).no m ∷ [] in
+      settled_ready n (xs ++ (p, (keep ((worker l).no m) ((worker l).outcome m), kept true)) ∷ []) p us ((worker l).ended m ((worker l).outcome m)) true ((its_backs l plan).ended m ((worker l).outcome m) good.0)
+      (stored_may n xs p ((worker l).no m) ((worker l).outcome m) law.table_legal, tt)
+  own_ready back n xs p (owning m) (kept false) is good k h law = tt
+  own_ready back n xs p (doing (store t o ∷ js) d) (kept true) is good k h law =
+      settled_ready n (xs ++ (p, (keep t o, kept true)) ∷ []) p (t ∷ k.0) js true k.1
+      (stored_may n xs p t o law.table_legal, each_weaker (λ u m. own_may n xs p (keep t o) (kept true) u tt law.table_legal m) k.0 k.2)
+  own_ready back n xs p (doing (store t o ∷ js) d) (kept false) is good k h law = absurd (let wrong : false ≡ true = first_answer back n xs p t o false law in cc)
+  own_ready back n xs p (doing (publish m ∷ js) d) sent is good k h law =
+      settled_ready n (xs ++ (p, (send ((worker l).sealed m), sent)) ∷ []) p k.0 js d k.1
+      (each_weaker (λ u f. own_may n xs p (send ((worker l).sealed m)) sent u tt law.table_legal f) k.0 k.2)
+  own_ready back n xs p (doing (hand_in g t c ∷ js) d) (counted i) is good k h law =
+      cond_cases (Ready n (xs ++ (p, (part g t, counted i)) ∷ []) p) (eqb (suc i) c.size) (reading g c []) taking
+      (λ full. let size : suc i ≡ c.size = eqb-true _ _ full in
+      (header_stored n xs p g t i is law.table_legal (size ∙ (order l plan).size g t c good.0.0), subst (λ z. eqb 0 z ≡ false) size (ne_eqb 0 (suc i) (λ e. omega (arith, e)))))
+      (λ less. tt)
+  own_ready back n xs p (reading g c fs) (found t (Some o)) is good k h law =
+      let x : Step = (p, (read g (length fs), found t (Some o))) in
+      let state = more_found (worker l) (right_goods (X l plan) (form l plan) (Does l plan)) (right_closed (X l plan) (form l plan) (Does l plan) (order l plan) (value l plan)) g c fs t o good h.0 (good_answer back n xs p (read g (length fs)) (found t (Some o)) law) in
+      cond_cases (Ready n (xs ++ x ∷ []) p) (eqb (length (fs ++ (t, o) ∷ [])) c.size) (settled (worker l) ((worker l).completed c (fs ++ (t, o) ∷ [])) false) (reading g c (fs ++ (t, o) ∷ []))
+      (λ full. settled_ready n (xs ++ x ∷ []) p [] ((worker l).completed c (fs ++ (t, o) ∷ [])) false
+      ((its_backs l plan).completed g state.0 c (fs ++ (t, o) ∷ []) state.1.0 (all_found (worker l) (right_goods (X l plan) (form l plan) (Does l plan)) (right_closed (X l plan) (form l plan) (Does l plan) (order l plan) (value l plan)) g c (fs ++ (t, o) ∷ []) state full)) tt)
+      (λ less. (each_weaker (λ u m. stored_more xs x u m) ((worker l).members g) k.0, less))
+  own_ready back n xs p (reading g c fs) (found t None) is good k h law = tt
+  own_ready back n xs p s r is good k h law = elim h [ ]

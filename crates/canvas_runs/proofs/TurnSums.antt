@@ -1,0 +1,377 @@
+-- The steps of a run by turns that are calls are few.
+use Rattle.std.proofs.Common.{◌≡◌, ◌≢◌, ℕ, zero, suc, ◌+◌, ◌*◌, ◌≤◌, ◌<◌, Bool, true, false, cond, eqb, List, [], ◌∷◌, ◌++◌, length, Option, Some, None, refl, sym, ap, ap₂, ◌∙◌, subst, inl, inr, ⊎_elim, eq-eqb, arith, add-mul, mul-add, mul-le-mul_left}
+use Rattle.std.proofs.lemmas.Bool.{cases_eq, eqb-true}
+use Rattle.std.proofs.lemmas.List.{length-append}
+use Rattle.canvas_task.specs.declared.outcome.Outcome.{Outcome}
+use Rattle.canvas_rewrite.specs.Frozen.{Line, count_line, members}
+use Rattle.canvas_rewrite.specs.FrozenView.{Load}
+use Rattle.canvas_rewrite.specs.Planned.{times}
+use Rattle.canvas_rewrite.proofs.Members.{plan_apart}
+use Rattle.canvas_message.specs.Content.{Content, number_of}
+use Rattle.canvas_message.specs.Events.{In, running}
+use Rattle.canvas_message.specs.Job.{store, publish, hand_in}
+use Rattle.canvas_message.specs.declared.envelope.Envelope.{Envelope}
+use Rattle.canvas_backend.proofs.HistoryLaws.{member_test}
+use Rattle.canvas_backend.proofs.Rosters.{roster_sound}
+use Rattle.canvas_runs.specs.Accounts.{splits_of, entries, rows}
+use Rattle.canvas_runs.specs.Book.{book_of}
+use Rattle.canvas_runs.specs.Calls.{BrokerCall, published, took, BackendCall, stored, returned, has_read, broker_call, backend_call, backend_calls, takes_one, AskedAndAnswered, reads_member, ReadsMembers}
+use Rattle.canvas_runs.specs.Core.{Ask, Reply, keep, part, read, taken, sent, kept, counted, found, rested, taking, resting, owning, doing, reading, ask, answered, Doing, Jobs, settled, opens, IsCoreRun}
+use Rattle.canvas_runs.specs.Going.{most_calls}
+use Rattle.canvas_runs.specs.Law.{of_task, publishes_one}
+use Rattle.canvas_runs.specs.Lists.{Each, by, at, total, seconds}
+use Rattle.canvas_runs.specs.Logs.{queue_calls, table_calls}
+use Rattle.canvas_runs.specs.Run.{Run, published_all}
+use Rattle.canvas_runs.specs.Tally.{publishing, returning}
+use Rattle.canvas_runs.specs.TurnLaws.{ByTurns}
+use Rattle.canvas_runs.specs.Turns.{Step, round}
+use Rattle.canvas_runs.specs.Worker.{worker, opened}
+use Rattle.canvas_runs.proofs.Facts.{X, form, Does, order, value, once, keeping}
+use Rattle.canvas_runs.proofs.FirstLaw.{first_part, inner_run, stored_right, has_state}
+use Rattle.canvas_runs.proofs.Histories.{GoodPublish, each_seconds, each_from_by}
+use Rattle.canvas_runs.proofs.Keeps.{Goods, Closed, GoodAsk, GoodAnswer, GoodState, goods_from_careful, keeps, next_good}
+use Rattle.canvas_runs.proofs.Knowing.{found as among_members}
+use Rattle.canvas_runs.proofs.Meaning.{Form, IsRun}
+use Rattle.canvas_runs.proofs.Replay.{IsQueue}
+use Rattle.canvas_runs.proofs.Right.{right_goods, right_closed, answers_right, publishes_right, IsRunSealed}
+use Rattle.canvas_runs.proofs.RowRanges.{state_task}
+use Rattle.canvas_runs.proofs.StoredOnce.{stores_task, kept_once}
+use Rattle.canvas_runs.proofs.Sums.{total-append, sum_to, sum_to-le, sum_to-both, total_by, find_heavy}
+use Rattle.canvas_runs.proofs.Tables.{part_of, part_once}
+use Rattle.canvas_runs.proofs.TurnLaw.{holds, the_run}
+use Rattle.canvas_runs.proofs.TurnLogs.{tag, queue_calls_append, queue_calls_splits, queue_calls_entries, table_calls_append, table_calls_splits, table_calls_rows}
+use Rattle.canvas_runs.proofs.TurnRuns.{queue_lines, table_lines, queue_log, table_log, table_by, firsts as first_envelopes, call_stood, stood_all}
+use Rattle.canvas_runs.proofs.Words.{each_append, each_weaker, each_from_in, in_each, cond_cases}
+
+-- ---- sums
+
+picked : (n t : ℕ) → t ≤ n → 1 ≤ sum_to n (λ k. cond (eqb t k) 1 0)
+picked zero t l = let same : t ≡ 0 = omega (arith, l) in subst (λ u. 1 ≤ cond (eqb u 0) 1 0) (sym same) (omega arith)
+picked (suc n) t l = elim (cases_eq t (suc n)) [
+  | inl e ↦ let one : ◌≡◌ {A = ℕ} (cond (eqb t (suc n)) 1 0) 1 = ap (λ b. cond b 1 0) (eq-eqb t (suc n) e) in omega (arith, one)
+  | inr f ↦ let r = picked n t (omega (arith, l, f)) in omega (arith, r)
+]
+
+ones : (n : ℕ) (f : ℕ → ℕ) → ((k : ℕ) → f k ≤ 1) → sum_to n f ≤ suc n
+ones zero f l = l 0
+ones (suc n) f l = let r = ones n f l in let h = l (suc n) in omega (arith, r, h)
+
+-- Where each element is of some number up to n, and no number has two, there are n + 1 at most.
+spread : {A : Type 0} (w : A → ℕ) (v : ℕ → A → ℕ) (n : ℕ) (xs : List A) → Each (λ x. w x ≤ sum_to n (λ k. v k x)) xs → ((k : ℕ) → total (v k) xs ≤ 1) → total w xs ≤ suc n
+spread {A} w v n xs each one = let a = below xs each in let b = ones n (λ k. total (v k) xs) one in omega (arith, a, b)
+  where
+    below : (ys : List A) → Each (λ x. w x ≤ sum_to n (λ k. v k x)) ys → total w ys ≤ sum_to n (λ k. total (v k) ys)
+    below [] e = omega arith
+    below (y ∷ ys) e = let r = below ys e.1 in omega (arith, r, e.0, sum_to-both n (λ k. v k y) (λ k. total (v k) ys))
+
+sum_to-times : (n a : ℕ) (f : ℕ → ℕ) → sum_to n (λ p. a * f p) ≡ a * sum_to n f
+sum_to-times zero a f = refl
+sum_to-times (suc n) a f = let r = sum_to-times n a f in omega (arith, r, mul-add a (sum_to n f) (f (suc n)))
+
+total-le-each : {A : Type 0} (w v : A → ℕ) (xs : List A) → Each (λ x. w x ≤ v x) xs → total w xs ≤ total v xs
+total-le-each w v [] e = omega arith
+total-le-each w v (x ∷ xs) e = let r = total-le-each w v xs e.1 in omega (arith, r, e.0)
+
+total-tag : {A : Type 0} (w : A → ℕ) (p : ℕ) (cs : List A) → total w (seconds (tag p cs)) ≡ total w cs
+total-tag w p [] = refl
+total-tag w p (c ∷ cs) = ap (λ k. w c + k) (total-tag w p cs)
+
+seconds-append : {A B : Type 0} (xs ys : List (A × B)) → seconds (xs ++ ys) ≡ seconds xs ++ seconds ys
+seconds-append [] ys = refl
+seconds-append (x ∷ xs) ys = ap (λ l. x.1 ∷ l) (seconds-append xs ys)
+
+total-seconds : {A : Type 0} (w : A → ℕ) (xs : List (ℕ × A)) → total (λ x. w x.1) xs ≡ total w (seconds xs)
+total-seconds w [] = refl
+total-seconds w (x ∷ xs) = ap (λ k. w x.1 + k) (total-seconds w xs)
+
+-- what is taken was published
+takes_few : (q : List Envelope) (cs : List (BrokerCall Envelope)) → IsQueue q cs → total takes_one cs ≤ length q + total publishing cs
+takes_few q [] k = omega arith
+takes_few q (published e ∷ cs) k = let r = takes_few (q ++ e ∷ []) cs k in omega (arith, r, length-append q (e ∷ []))
+takes_few q (took None ∷ cs) k = let r = takes_few q cs k.1 in omega (arith, r)
+takes_few q (took (Some e) ∷ cs) (rest, same, k) = let r = takes_few rest cs k in let many : length q ≡ suc (length rest) = ap length same in omega (arith, r, many)
+
+abbrev pub keeping_one : BackendCall Outcome → ℕ
+keeping_one (stored t o b) = 1
+keeping_one (returned g t n) = 0
+keeping_one (has_read t x) = 0
+
+abbrev pub reading_one : BackendCall Outcome → ℕ
+reading_one (stored t o b) = 0
+reading_one (returned g t n) = 0
+reading_one (has_read t x) = 1
+
+abbrev part_by : ℕ → BackendCall Outcome → ℕ
+part_by k (stored t o b) = 0
+part_by k (returned g t n) = cond (eqb t k) 1 0
+part_by k (has_read t x) = 0
+
+at_within : (i : ℕ) (xs : List ℕ) (t : ℕ) → at i xs ≡ Some t → i < length xs
+at_within i [] t e = absurd cc
+at_within zero (x ∷ xs) t e = omega arith
+at_within (suc i) (x ∷ xs) t e = let r = at_within i xs t e in omega (arith, r)
+
+module _ (l : Line) where
+  -- whether a step is a call
+  abbrev pub in_queue : (BrokerCall Envelope → ℕ) → AskedAndAnswered (worker l) → ℕ
+  in_queue w y = total w (broker_call (worker l) y.0 y.1)
+
+  abbrev pub in_table : (BackendCall Outcome → ℕ) → AskedAndAnswered (worker l) → ℕ
+  in_table w y = total w (backend_call (worker l) y.0 y.1)
+
+  abbrev pub calls_of : AskedAndAnswered (worker l) → ℕ
+  calls_of y = (in_queue publishing y + in_queue takes_one y) + (in_table keeping_one y + in_table returning y + in_table reading_one y)
+
+  abbrev pub calls_in : List Step → ℕ
+  calls_in xs = total (λ x. calls_of x.1) xs
+
+  lines_total : (w : BrokerCall Envelope → ℕ) (xs : List Step) → total w (seconds (queue_calls (queue_lines l xs))) ≡ total (λ x. in_queue w x.1) xs
+  lines_total w [] = refl
+  lines_total w (x ∷ xs) =
+      let call : List (BrokerCall Envelope) = broker_call (worker l) x.1.0 x.1.1 in
+      ap (λ g. total w (seconds g)) (queue_calls_append (entries x.0 call) (queue_lines l xs) ∙ ap (λ g. g ++ queue_calls (queue_lines l xs)) (queue_calls_entries x.0 call (call_stood l x.1.0 x.1.1)))
+      ∙ (ap (total w) (seconds-append (tag x.0 call) (queue_calls (queue_lines l xs)))
+      ∙ (total-append w (seconds (tag x.0 call)) (seconds (queue_calls (queue_lines l xs))) ∙ ap₂ (λ a b. a + b) (total-tag w x.0 call) (lines_total w xs)))
+
+  rows_total : (w : BackendCall Outcome → ℕ) (xs : List Step) → total w (seconds (table_calls (table_lines l xs))) ≡ total (λ x. in_table w x.1) xs
+  rows_total w [] = refl
+  rows_total w (x ∷ xs) =
+      let call : List (BackendCall Outcome) = backend_call (worker l) x.1.0 x.1.1 in
+      ap (λ g. total w (seconds g)) (table_calls_append (rows x.0 call) (table_lines l xs) ∙ ap (λ g. g ++ table_calls (table_lines l xs)) (table_calls_rows x.0 call))
+      ∙ (ap (total w) (seconds-append (tag x.0 call) (table_calls (table_lines l xs)))
+      ∙ (total-append w (seconds (tag x.0 call)) (seconds (table_calls (table_lines l xs))) ∙ ap₂ (λ a b. a + b) (total-tag w x.0 call) (rows_total w xs)))
+
+  queue_total : (w : BrokerCall Envelope → ℕ) (n : ℕ) (xs : List Step) → total (λ x. in_queue w x.1) xs ≤ total w (seconds (queue_calls (queue_log l n xs)))
+  queue_total w n xs =
+      let opening = entries 0 (published_all (first_envelopes l)) in
+      let same : total w (seconds (queue_calls (queue_log l n xs))) ≡ total w (published_all (first_envelopes l)) + total (λ x. in_queue w x.1) xs =
+      ap (λ g. total w (seconds g)) (queue_calls_append (splits_of (round n)) (opening ++ queue_lines l xs) ∙ ap (λ g. g ++ queue_calls (opening ++ queue_lines l xs)) (queue_calls_splits (round n)))
+      ∙ (ap (λ g. total w (seconds g)) (queue_calls_append opening (queue_lines l xs) ∙ ap (λ g. g ++ queue_calls (queue_lines l xs)) (queue_calls_entries 0 (published_all (first_envelopes l)) (stood_all (first_envelopes l))))
+      ∙ (ap (total w) (seconds-append (tag 0 (published_all (first_envelopes l))) (queue_calls (queue_lines l xs)))
+      ∙ (total-append w (seconds (tag 0 (published_all (first_envelopes l)))) (seconds (queue_calls (queue_lines l xs))) ∙ ap₂ (λ a b. a + b) (total-tag w 0 (published_all (first_envelopes l))) (lines_total w xs)))) in
+      omega (arith, same)
+
+  table_total : (w : BackendCall Outcome → ℕ) (n : ℕ) (xs : List Step) → total w (seconds (table_calls (table_log l n xs))) ≡ total (λ x. in_table w x.1) xs
+  table_total w n xs =
+      ap (λ g. total w (seconds g)) (table_calls_append (splits_of (round n)) (table_lines l xs) ∙ ap (λ g. g ++ table_calls (table_lines l xs)) (table_calls_splits (round n)))
+      ∙ rows_total w xs
+
+  parts_sum : (xs : List Step) → calls_in xs ≡ (total (λ x. in_queue publishing x.1) xs + total (λ x. in_queue takes_one x.1) xs) + (total (λ x. in_table keeping_one x.1) xs + total (λ x. in_table returning x.1) xs + total (λ x. in_table reading_one x.1) xs)
+  parts_sum [] = refl
+  parts_sum (x ∷ xs) = let r = parts_sum xs in omega (arith, r)
+
+module _ (l : Line) (n : ℕ) (us : List ℕ) (xs : List Step) (t : ByTurns l n us xs) where
+  abbrev R : Run l
+  R = the_run l n us xs t
+
+  abbrev Q : List (BrokerCall Envelope)
+  Q = seconds (queue_calls R.queue)
+
+  abbrev B : List (BackendCall Outcome)
+  B = seconds (table_calls R.table)
+
+  abbrev T : ℕ
+  T = count_line l
+
+  abbrev F : Form (X l t.plan)
+  F = form l t.plan
+
+  abbrev G : Goods (worker l)
+  G = right_goods (X l t.plan) (form l t.plan) (Does l t.plan)
+
+  -- ---- publishes
+
+  run_task : (c : Content) → F.Formed c → IsRun (X l t.plan) (Does l t.plan) c → number_of c.own ≤ T
+  run_task c f r = (state_task l t.plan (number_of c.own) ((worker l).outcome c) (has_state l t.plan (number_of c.own) ((worker l).outcome c) (running (number_of c.own), (value l t.plan).own c r))).1
+
+  publish_picked : (c : BrokerCall Envelope) → GoodPublish (IsRunSealed (X l t.plan) (form l t.plan) (Does l t.plan) (order l t.plan) (value l t.plan) (inner_run l t.plan R)) c → publishing c ≤ sum_to T (λ k. publishes_one l k c)
+  publish_picked (took x) g = omega arith
+  publish_picked (published e) (m, same, back, formed, runs) =
+      let opens : opened (book_of l) e ≡ Some m = ap (opened (book_of l)) same ∙ (order l t.plan).opened m formed back in
+      subst (λ o. 1 ≤ sum_to T (λ k. of_task l k o)) (sym opens) (picked T (number_of m.own) (run_task m formed runs))
+
+  publishes_few : total publishing Q ≤ suc T
+  publishes_few =
+      spread publishing (publishes_one l) T Q
+      (each_weaker publish_picked Q (each_seconds (GoodPublish (IsRunSealed (X l t.plan) (form l t.plan) (Does l t.plan) (order l t.plan) (value l t.plan) (inner_run l t.plan R))) (queue_calls R.queue)
+      (publishes_right (X l t.plan) (form l t.plan) (Does l t.plan) (order l t.plan) (value l t.plan) (inner_run l t.plan R))))
+      (λ k. (first_part l t.plan R).published_once k)
+
+  -- ---- stores
+
+  stores_few : total keeping_one B ≤ suc T
+  stores_few = spread keeping_one (stores_task (X l t.plan)) T B (each_from_in B stored_picked)
+      (λ k. kept_once (X l t.plan) (form l t.plan) (Does l t.plan) (order l t.plan) (value l t.plan) (once l t.plan) (keeping l t.plan) (inner_run l t.plan R) k)
+    where
+      stored_picked : (c : BackendCall Outcome) → In c B → keeping_one c ≤ sum_to T (λ k. stores_task (X l t.plan) k c)
+      stored_picked (stored u o b) i = picked T u (state_task l t.plan u o (has_state l t.plan u o (stored_right l t.plan R u o b i))).1
+      stored_picked (returned g u m) i = omega arith
+      stored_picked (has_read u x) i = omega arith
+
+  -- ---- parts
+
+  abbrev OfMember : BackendCall Outcome → Type 0
+  OfMember (stored u o b) = Unit {0}
+  OfMember (returned g u m) = In u (members l g)
+  OfMember (has_read u x) = Unit {0}
+
+  member_step : (a : Ask Envelope Outcome) (r : Reply Envelope Outcome) → GoodAsk (worker l) G a → Each OfMember (backend_call (worker l) a r)
+  member_step (keep u o) (kept b) g = (tt, tt)
+  member_step (part h u) (counted m) g = ((order l t.plan).member h u g.0 g.1.0, tt)
+  member_step (read h i) (found u x) g = (tt, tt)
+  member_step a r g = tt
+
+  member_steps : (ys : List (AskedAndAnswered (worker l))) → Each (λ y. GoodAsk (worker l) G y.0) ys → Each OfMember (backend_calls (worker l) ys)
+  member_steps [] g = tt
+  member_steps (y ∷ ys) g = each_append OfMember _ _ (member_step y.0 y.1 g.0) (member_steps ys g.1)
+
+  its_answers : (p : ℕ) → Each (λ (y : AskedAndAnswered (worker l)). GoodAnswer (worker l) G y.1) (by p xs)
+  its_answers p = answers_right (X l t.plan) (form l t.plan) (Does l t.plan) (order l t.plan) (value l t.plan) (inner_run l t.plan R) p
+
+  abbrev its_closed : Closed (worker l) G
+  its_closed = right_closed (X l t.plan) (form l t.plan) (Does l t.plan) (order l t.plan) (value l t.plan)
+
+  its_asks : (p : ℕ) → Each (λ (y : AskedAndAnswered (worker l)). GoodAsk (worker l) G y.0) (by p xs)
+  its_asks p = goods_from_careful (worker l) G (by p xs) (keeps (worker l) G its_closed taking (by p xs) tt (R.is_core p) (R.reads p)) (its_answers p)
+
+  all_members : Each OfMember B
+  all_members = each_from_by OfMember (table_calls R.table) (λ p. subst (Each OfMember) (sym (table_by l n xs p)) (member_steps (by p xs) (its_asks p)))
+
+  some_times : (g u : ℕ) → In u (members l g) → 0 < times l u g
+  some_times g u i = let some = (member_test u (members l g)).0 (among_members u (members l g) i) in omega (arith, some)
+
+  member_task : (g u : ℕ) → In u (members l g) → u ≤ T
+  member_task g u i = (roster_sound l t.plan).known g u (some_times g u i)
+
+  part_task : (k : ℕ) → total (part_by k) B ≤ 1
+  part_task k = ⊎_elim (λ z. omega (arith, z)) (λ h. heavy h.0 h.1 h.2) (find_heavy (part_by k) B)
+    where
+      named : (u : ℕ) (b : Bool) → eqb u k ≡ b → ◌≢◌ {A = ℕ} (cond b 1 0) 0 → u ≡ k
+      named u true e d = eqb-true _ _ e
+      named u false e d = absurd (d refl)
+
+      same_group : (g h u : ℕ) → In k (members l g) → In u (members l h) → (b : Bool) → eqb u k ≡ b → cond b 1 0 ≤ cond (eqb h g) (cond b 1 0) 0
+      same_group g h u i j true e =
+          let there : In k (members l h) = subst (λ v. In v (members l h)) (eqb-true _ _ e) j in
+          let groups : h ≡ g = (plan_apart l t.plan g k (some_times g k i)).1 h (some_times h k there) in
+          subst (λ b. 1 ≤ cond b 1 0) (sym (eq-eqb h g groups)) (omega arith)
+      same_group g h u i j false e = omega arith
+
+      few : (g : ℕ) → In k (members l g) → (c : BackendCall Outcome) → OfMember c → part_by k c ≤ part_of g k c
+      few g i (stored u o b) m = omega arith
+      few g i (returned h u j) m = same_group g h u i m (eqb u k) refl
+      few g i (has_read u x) m = omega arith
+
+      heavy : (c : BackendCall Outcome) → In c B → part_by k c ≢ 0 → total (part_by k) B ≤ 1
+      heavy (stored u o b) i d = absurd (d refl)
+      heavy (returned g u m) i d =
+          let here : In k (members l g) = subst (λ v. In v (members l g)) (named u (eqb u k) refl d) (in_each OfMember B all_members (returned g u m) i) in
+          let a = total-le-each (part_by k) (part_of g k) B (each_weaker (few g here) B all_members) in
+          let b = (part_once g k [] [] B (inner_run l t.plan R).table).0 in
+          omega (arith, a, b)
+      heavy (has_read u x) i d = absurd (d refl)
+
+  parts_few : total returning B ≤ suc T
+  parts_few = spread returning part_by T B (each_weaker part_picked B all_members) part_task
+    where
+      part_picked : (c : BackendCall Outcome) → OfMember c → returning c ≤ sum_to T (λ k. part_by k c)
+      part_picked (stored u o b) m = omega arith
+      part_picked (returned g u j) m = picked T u (member_task g u m)
+      part_picked (has_read u x) m = omega arith
+
+  -- ---- reads: those of the header that is read are still to come
+
+  abbrev Still : Doing (worker l) → ℕ → Type 0
+  Still (reading g c fs) k = length fs + k ≡ c.size
+  Still s k = k ≡ 0
+
+  abbrev Y : Type 0
+  Y = AskedAndAnswered (worker l)
+
+  -- what a step reads, and what is still to be read behind it, is covered by what was to be read and by the parts that it returns
+  abbrev Covers : Doing (worker l) → Reply Envelope Outcome → Type 0
+  Covers s r =
+      (k : ℕ) → Still s k → (j : ℕ) × Still (answered (worker l) s r) j × (in_table l reading_one (ask (worker l) s, r) + j ≤ k + T * in_table l returning (ask (worker l) s, r))
+
+  settled_still : (js : Jobs (worker l)) (b : Bool) → Still (settled (worker l) js b) 0
+  settled_still [] b = refl
+  settled_still (store u o ∷ js) true = refl
+  settled_still (store u o ∷ js) false = refl
+  settled_still (publish m ∷ js) true = refl
+  settled_still (publish m ∷ js) false = refl
+  settled_still (hand_in g u c ∷ js) true = refl
+  settled_still (hand_in g u c ∷ js) false = refl
+
+  opens_still : (x : Option Content) → Still (opens (worker l) x) 0
+  opens_still None = refl
+  opens_still (Some m) = refl
+
+  few_members : (g : ℕ) → length (members l g) ≤ T
+  few_members g = (roster_sound l t.plan).few_members g
+
+  header_few : (g u : ℕ) (c : Load) → F.FormedPart g u c → c.size ≤ T
+  header_few g u c f = let a = (order l t.plan).size g u c f in let b = few_members g in omega (arith, a, b)
+
+  covers : (s : Doing (worker l)) (r : Reply Envelope Outcome) → GoodState (worker l) G s → reads_member (worker l) (ask (worker l) s) r → Covers s r
+  covers taking (taken None) p m k e = (0, refl, omega arith)
+  covers taking (taken (Some e)) p m k h = (0, opens_still ((worker l).opened e), omega arith)
+  covers resting (rested true) p m k e = (0, refl, omega arith)
+  covers (owning c) (kept true) p m k e = (0, settled_still ((worker l).ended c ((worker l).outcome c)) true, omega arith)
+  covers (owning c) (kept false) p m k e = (0, refl, omega arith)
+  covers (doing (store u o ∷ js) b) (kept a) p m k e = (0, settled_still js a, omega arith)
+  covers (doing (publish c ∷ js) b) sent p m k e = (0, settled_still js b, omega arith)
+  covers (doing (hand_in g u c ∷ js) b) (counted i) p m k e =
+      let few = header_few g u c p.0.0 in
+      cond_cases (λ s. (j : ℕ) × Still s j × (0 + j ≤ k + T * (1 + 0))) (eqb (suc i) c.size) (reading g c []) taking
+      (λ full. (c.size, omega arith, omega (arith, few)))
+      (λ less. (0, refl, omega arith))
+  covers (reading g c fs) (found u (Some o)) p m k e =
+      let many = (order l t.plan).size g p.0 c p.1.0 in
+      let within = at_within (length fs) (members l g) u m in
+      let more : length (fs ++ (u, o) ∷ []) ≡ length fs + 1 = length-append fs ((u, o) ∷ []) in
+      cond_cases (λ s. (j : ℕ) × Still s j × ((1 + 0) + j ≤ k + T * 0)) (eqb (length (fs ++ (u, o) ∷ [])) c.size) (settled (worker l) ((worker l).completed c (fs ++ (u, o) ∷ [])) false) (reading g c (fs ++ (u, o) ∷ []))
+      (λ full. (0, settled_still ((worker l).completed c (fs ++ (u, o) ∷ [])) false, omega (arith, many, within, e)))
+      (λ less. one_less k (length fs) c.size (length (fs ++ (u, o) ∷ [])) e more (omega (arith, many, within)))
+    where
+      one_less : (k a size b : ℕ) → a + k ≡ size → b ≡ a + 1 → a < size → (j : ℕ) × (b + j ≡ size) × ((1 + 0) + j ≤ k + T * 0)
+      one_less zero a size b e f h = absurd (omega (arith, e, h))
+      one_less (suc k) a size b e f h = (k, omega (arith, e, f), omega arith)
+  covers (reading g c fs) (found u None) p m k e =
+      let many = (order l t.plan).size g p.0 c p.1.0 in
+      let within = at_within (length fs) (members l g) u m in
+      (0, refl, omega (arith, many, within, e))
+  covers s r p m k e = (0, refl, omega arith)
+
+  reads_of : (s : Doing (worker l)) (ys : List Y) → GoodState (worker l) G s → IsCoreRun (worker l) s ys → ReadsMembers (worker l) ys → Each (λ (y : Y). GoodAnswer (worker l) G y.1) ys → (k : ℕ) → Still s k
+      → total (in_table l reading_one) ys ≤ k + T * total (in_table l returning) ys
+  reads_of s [] p c m a k e = omega arith
+  reads_of s (y ∷ ys) p c m a k e =
+      let mine = subst (λ z. reads_member (worker l) z y.1) c.0 m.0 in
+      let step = covers s y.1 p mine k e in
+      let rest = reads_of (answered (worker l) s y.1) ys (next_good (worker l) G its_closed s y.1 p mine a.0) c.2 m.1 a.1 step.0 step.1 in
+      let step' : in_table l reading_one y + step.0 ≤ k + T * in_table l returning y = subst (λ z. in_table l reading_one (z, y.1) + step.0 ≤ k + T * in_table l returning (z, y.1)) (sym c.0) step.2 in
+      omega (arith, rest, step', mul-add T (in_table l returning y) (total (in_table l returning) ys))
+
+  reads_few : total (λ x. in_table l reading_one x.1) xs ≤ T * total (λ x. in_table l returning x.1) xs
+  reads_few =
+      let below : Each (λ (x : Step). x.0 ≤ n) xs = each_weaker (λ x w. w.1) xs (holds l n us xs t).workers in
+      let a = total-seconds (in_table l reading_one) xs ∙ total_by (in_table l reading_one) n xs below in
+      let b = total-seconds (in_table l returning) xs ∙ total_by (in_table l returning) n xs below in
+      let c = sum_to-le n (λ p. total (in_table l reading_one) (by p xs)) (λ p. T * total (in_table l returning) (by p xs)) (λ p. let h = reads_of taking (by p xs) tt (R.is_core p) (R.reads p) (its_answers p) 0 refl in omega (arith, h)) in
+      let d = sum_to-times n T (λ p. total (in_table l returning) (by p xs)) in
+      let e : T * total (λ x. in_table l returning x.1) xs ≡ T * sum_to n (λ p. total (in_table l returning) (by p xs)) = ap (λ k. T * k) b in
+      omega (arith, a, c, d, e)
+
+  -- ---- all of them
+
+  pub few_calls : calls_in l xs ≤ most_calls l
+  few_calls =
+      let sum = parts_sum l xs in
+      let sends = queue_total l publishing n xs in
+      let taken_some = queue_total l takes_one n xs in
+      let fewer = takes_few [] Q (inner_run l t.plan R).queue in
+      let kept_all = table_total l keeping_one n xs in
+      let parts = table_total l returning n xs in
+      let bounded : T * total (λ x. in_table l returning x.1) xs ≤ T * suc T = mul-le-mul_left T (omega (arith, parts, parts_few)) in
+      let whole : (T + 4) * suc T ≡ T * suc T + 4 * suc T = add-mul T 4 (suc T) in
+      omega (arith, sum, sends, taken_some, fewer, kept_all, parts, publishes_few, stores_few, parts_few, reads_few, bounded, whole)

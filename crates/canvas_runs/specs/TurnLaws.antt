@@ -1,0 +1,84 @@
+-- What follows from taking turns: a run by turns is a run, so the law of runs speaks of it.
+use Rattle.std.specs.Prelude.{ℕ, ◌≡◌, ◌≢◌, ◌≤◌, ◌<◌, ◌⊎◌, false, IsTrue, List, [], length, map, Some, None}
+use Rattle.canvas_task.specs.Apply.{IsInRange}
+use Rattle.canvas_task.specs.declared.outcome.Outcome.{Outcome}
+use Rattle.canvas_rewrite.specs.Eval.{State}
+use Rattle.canvas_rewrite.specs.Frozen.{Line, count_line, tree_of}
+use Rattle.canvas_rewrite.specs.Planned.{IsPlan}
+use Rattle.canvas_rewrite.specs.States.{states, numbers_from}
+use Rattle.canvas_message.specs.Effects.{first_messages}
+use Rattle.canvas_message.specs.declared.envelope.Envelope.{Envelope}
+use Rattle.canvas_backend.specs.Backend.{results}
+use Rattle.canvas_backend.specs.Roster.{Roster, roster_of, members, is_chord, is_member}
+use Rattle.canvas_broker.specs.Broker.{queue_of}
+use Rattle.canvas_runs.specs.Core.{Ask, keep, part, read, ask}
+use Rattle.canvas_runs.specs.Law.{its_state}
+use Rattle.canvas_runs.specs.Lists.{Each, by, at}
+use Rattle.canvas_runs.specs.Rows.{EachMay}
+use Rattle.canvas_runs.specs.Run.{Run, Closed}
+use Rattle.canvas_runs.specs.Turns.{Step, results_after, IsWorker, FirstsRead, queue_after, left, Turned, AllEnded, RanWhole, RanUntil}
+use Rattle.canvas_runs.specs.Worker.{worker}
+
+-- a plan's run by these turns of workers 1 to n, with these steps
+pub record ByTurns (l : Line) (n : ℕ) (us : List ℕ) (xs : List Step) : Type 0 where
+  pub plan : IsPlan l
+  pub opens_back : FirstsRead l
+  pub workers : Each (IsWorker n) us
+  pub turned : Turned l n [] us xs
+
+-- the steps are those of a run, each worker's its core run, which is closed where all have ended
+pub record RunOf (l : Line) (n : ℕ) (xs : List Step) : Type 0 where
+  pub run : Run l
+  pub core : (p : ℕ) → run.core p ≡ by p xs
+  pub opening : run.opening ≡ first_messages l
+  pub closing : run.closing ≡ []
+  pub queue : queue_of run.queue ≡ queue_after l xs
+  pub table : results (roster_of l) run.table ≡ results_after xs
+  pub closed : 1 ≤ n → AllEnded l n xs → Closed l run
+
+abbrev pub TurnsAreRuns : Type 0
+TurnsAreRuns = (l : Line) (n : ℕ) (us : List ℕ) (xs : List Step) → ByTurns l n us xs → RunOf l n xs
+
+-- each task is pending, or has the state that evaluation gives
+abbrev pub TurnRowsMay : Type 0
+TurnRowsMay = (l : Line) (n : ℕ) (us : List ℕ) (xs : List Step) → ByTurns l n us xs → (t : ℕ) → ((results_after xs).outcomes t ≡ None) ⊎ ((results_after xs).outcomes t ≡ its_state l t)
+
+-- where all have ended each task has that state, and nothing is left on the queue
+abbrev pub TurnRowsAre : Type 0
+TurnRowsAre = (l : Line) (n : ℕ) (us : List ℕ) (xs : List Step) → ByTurns l n us xs → 1 ≤ n → AllEnded l n xs → (t : ℕ) → (results_after xs).outcomes t ≡ its_state l t
+
+abbrev pub TurnsEmpty : Type 0
+TurnsEmpty = (l : Line) (n : ℕ) (us : List ℕ) (xs : List Step) → ByTurns l n us xs → 1 ≤ n → AllEnded l n xs → queue_after l xs ≡ []
+
+-- The outcomes held, task by task: the states that evaluation gives where all have ended, and these or pending at any time.
+abbrev pub held_rows : Line → List Step → List State
+held_rows l xs = map (results_after xs).outcomes (numbers_from 1 (count_line l))
+
+abbrev pub TurnStatesAre : Type 0
+TurnStatesAre = (l : Line) (n : ℕ) (us : List ℕ) (xs : List Step) → ByTurns l n us xs → 1 ≤ n → AllEnded l n xs → held_rows l xs ≡ states (tree_of l)
+
+abbrev pub TurnStatesMay : Type 0
+TurnStatesMay = (l : Line) (n : ℕ) (us : List ℕ) (xs : List Step) → ByTurns l n us xs → EachMay (held_rows l xs) (states (tree_of l))
+
+-- a list of turns with the rotation behind it, whole or up to a number of steps, is such a run
+abbrev pub WholeTurns : Type 0
+WholeTurns = (l : Line) → IsPlan l → (n : ℕ) (ts : List ℕ) → Each (IsWorker n) ts → (r : RanWhole l n ts) → ByTurns l n r.turns r.steps
+
+abbrev pub UntilTurns : Type 0
+UntilTurns = (l : Line) → IsPlan l → (n : ℕ) (ts : List ℕ) (most : ℕ) → Each (IsWorker n) ts → (r : RanUntil l n ts most) → ByTurns l n r.turns r.steps
+
+-- ---- what a worker asks next can be answered
+
+-- a store is of a task of the plan; a part is of a chord's member that is stored and not returned; a read is of a place of the chord whose member is stored
+abbrev pub Answerable : Roster → List Step → Ask Envelope Outcome → Type 0
+Answerable plan xs (keep t o) = (t ≤ plan.tasks) × IsInRange o
+Answerable plan xs (part g t) = IsTrue (is_chord plan g) × IsTrue (is_member plan g t) × ((results_after xs).outcomes t ≢ None) × ((results_after xs).returned t ≡ false)
+Answerable plan xs (read g i) = (t : ℕ) × (i < length (members plan g)) × (at i (members plan g) ≡ Some t) × (t ≤ plan.tasks) × ((o : Outcome) × ((results_after xs).outcomes t ≡ Some o) × IsInRange o)
+Answerable plan xs a = Unit {0}
+
+abbrev pub NextAnswerable : Type 0
+NextAnswerable = (l : Line) (n : ℕ) (us : List ℕ) (xs : List Step) → ByTurns l n us xs → (p : ℕ) → IsWorker n p → Answerable (roster_of l) xs (ask (worker l) (left l xs p))
+
+-- every outcome held is in range
+abbrev pub HeldInRange : Type 0
+HeldInRange = (l : Line) (n : ℕ) (us : List ℕ) (xs : List Step) → ByTurns l n us xs → (t : ℕ) (o : Outcome) → (results_after xs).outcomes t ≡ Some o → (t ≤ (roster_of l).tasks) × IsInRange o

@@ -1,0 +1,154 @@
+-- Runs by turns, on one thread: workers numbered 1 to n share the one-thread queue and the one-thread table of results, and each turn lets one
+-- worker have one ask answered. The Canvas user guide names no order between workers, so a list of turns names one; after it the workers take turns
+-- in rotation, from 1 to n and again, until all have ended. A worker that has ended skips its turn.
+--     Step                  a worker's ask with its answer
+--     left, queue_after, results_after    what a worker has left to do, what is queued and what is stored after these steps
+--     Answers l n before a r    the reply r to the ask a is what the queue and the table say at that time; a worker that asks whether there will be more
+--                           to do is told so while something is queued or some worker is inside the script of a message
+--     Turned l n before us xs    after the steps before, the turns us are taken, and the steps xs are those that they make
+--     AllEnded l n before   after these steps no worker asks for anything more
+--     RanWhole l n ts       the turns of the list and then as many rounds as it takes until all have ended
+--     RanUntil l n ts steps    the turns of the list, and then turns in rotation, up to so many steps, with some worker that has not ended
+use Rattle.std.specs.Prelude.{ℕ, zero, suc, ◌≡◌, ◌≤◌, ◌||◌, Bool, true, false, List, [], ◌∷◌, ◌++◌, map, length, Some}
+use Rattle.canvas_task.specs.declared.outcome.Outcome.{Outcome}
+use Rattle.canvas_rewrite.specs.Frozen.{Line}
+use Rattle.canvas_rewrite.specs.FrozenView.{Load}
+use Rattle.canvas_message.specs.Content.{Content}
+use Rattle.canvas_message.specs.Effects.{first_messages}
+use Rattle.canvas_message.specs.declared.envelope.Envelope.{Envelope}
+use Rattle.canvas_backend.specs.declared.stored.Stored.{Stored}
+use Rattle.canvas_backend.specs.declared.stored.Stored.TheVariants.{First, Again}
+use Rattle.canvas_backend.specs.Backend as results
+use Rattle.canvas_backend.specs.Backend.{Results, no_results, first_or, next_of, count_of}
+use Rattle.canvas_backend.specs.Roster.{roster_of, members}
+use Rattle.canvas_broker.specs.Broker as broker
+use Rattle.canvas_runs.specs.Core.{Ask, Reply, take, send, keep, part, read, pause, end, taken, sent, kept, counted, found, rested, State, taking, resting, over, failed, owning, doing, reading, ask, left_after, ReadsBack}
+use Rattle.canvas_runs.specs.Lists.{Each, by, at}
+use Rattle.canvas_runs.specs.Worker.{worker, sealed}
+
+-- an answered ask of a worker
+abbrev pub Step : Type 0
+Step = ℕ × (Ask Envelope Outcome × Reply Envelope Outcome)
+
+-- inside the script of a message
+abbrev pub is_inside : State Content Load Outcome → Bool
+is_inside taking = false
+is_inside resting = false
+is_inside over = false
+is_inside failed = false
+is_inside (owning m) = true
+is_inside (doing js b) = true
+is_inside (reading g c fs) = true
+
+-- what an ask leaves of the queue, and of the results
+abbrev pub queue_next : List Envelope → Ask Envelope Outcome → List Envelope
+queue_next q take = broker.next q broker.take
+queue_next q (send e) = broker.next q (broker.publish e)
+queue_next q a = q
+
+abbrev pub results_next : Results → Ask Envelope Outcome → Results
+results_next s (keep t o) = next_of s (results.store t o)
+results_next s (part g t) = next_of s (results.part g t)
+results_next s a = s
+
+abbrev pub queue_from : List Envelope → List Step → List Envelope
+queue_from q [] = q
+queue_from q (x ∷ xs) = queue_from (queue_next q x.1.0) xs
+
+abbrev pub results_from : Results → List Step → Results
+results_from s [] = s
+results_from s (x ∷ xs) = results_from (results_next s x.1.0) xs
+
+-- with the table empty at first
+abbrev pub results_after : List Step → Results
+results_after before = results_from no_results before
+
+abbrev pub is_queued : List Envelope → Bool
+is_queued [] = false
+is_queued (e ∷ es) = true
+
+abbrev pub says_first : Stored → Bool
+says_first First = true
+says_first Again = false
+
+-- one of the workers 1 to n
+abbrev pub IsWorker : ℕ → ℕ → Type 0
+IsWorker n p = (1 ≤ p) × (p ≤ n)
+
+module _ (l : Line) where
+  -- with the first messages queued at first
+  abbrev pub queue_after : List Step → List Envelope
+  queue_after before = queue_from (map sealed (first_messages l)) before
+
+  -- the envelopes of the first messages read back as these
+  abbrev pub FirstsRead : Type 0
+  FirstsRead = Each (worker l).Back (first_messages l)
+
+  abbrev pub left : List Step → ℕ → State Content Load Outcome
+  left before p = left_after (worker l) taking (by p before)
+
+  -- one of the workers 1 to n is inside the script of a message
+  abbrev pub some_inside : ℕ → List Step → Bool
+  some_inside zero before = false
+  some_inside (suc n) before = is_inside (left before (suc n)) || some_inside n before
+
+  abbrev pub holds_more : ℕ → List Step → Bool
+  holds_more n before = is_queued (queue_after before) || some_inside n before
+
+  abbrev pub Answers : ℕ → List Step → Ask Envelope Outcome → Reply Envelope Outcome → Type 0
+  Answers n before take (taken x) = x ≡ broker.answer (queue_after before) broker.take
+  Answers n before (send e) sent = Unit {0}
+  Answers n before (keep t o) (kept b) = b ≡ says_first (first_or ((results_after before).outcomes t))
+  Answers n before (part g t) (counted m) = m ≡ count_of (roster_of l) (results_after before) g
+  Answers n before (read g i) (found t x) = (at i (members (roster_of l) g) ≡ Some t) × (x ≡ (results_after before).outcomes t)
+  Answers n before pause (rested m) = m ≡ holds_more n before
+  Answers n before a r = ⊥
+
+  -- the worker asks for nothing more
+  abbrev pub HasEnded : List Step → ℕ → Type 0
+  HasEnded before p = ask (worker l) (left before p) ≡ end
+
+  -- Steps before, turns, the steps that the turns make. An envelope that is sent reads back as its message.
+  pub data Turned (n : ℕ) : List Step → List ℕ → List Step → Type 0 where
+    all_taken : {before : List Step} → Turned n before [] []
+    skips : {before : List Step} {p : ℕ} {us : List ℕ} {xs : List Step} → HasEnded before p → Turned n before us xs → Turned n before (p ∷ us) xs
+    takes : {before : List Step} {p : ℕ} {a : Ask Envelope Outcome} {r : Reply Envelope Outcome} {us : List ℕ} {xs : List Step}
+        → ReadsBack (worker l) (left before p) → a ≡ ask (worker l) (left before p) → Answers n before a r
+        → Turned n (before ++ (p, (a, r)) ∷ []) us xs → Turned n before (p ∷ us) ((p, (a, r)) ∷ xs)
+
+  abbrev pub AllEnded : ℕ → List Step → Type 0
+  AllEnded n before = (p : ℕ) → IsWorker n p → HasEnded before p
+
+-- the numbers 1 to n, and so many times
+abbrev pub round : ℕ → List ℕ
+round zero = []
+round (suc n) = round n ++ suc n ∷ []
+
+abbrev pub rounds : ℕ → ℕ → List ℕ
+rounds n zero = []
+rounds n (suc k) = round n ++ rounds n k
+
+-- the turns so far are the first of the list's and then those in rotation
+abbrev pub Begins : List ℕ → List ℕ → ℕ → Type 0
+Begins us ts n = (k : ℕ) × (rest : List ℕ) × (us ++ rest ≡ ts ++ rounds n k)
+
+pub record RanWhole (l : Line) (n : ℕ) (ts : List ℕ) : Type 0 where
+  pub opens_back : FirstsRead l
+  pub turns : List ℕ
+  pub further : ℕ
+  pub follow : turns ≡ ts ++ rounds n further
+  pub steps : List Step
+  pub turned : Turned l n [] turns steps
+  pub ended : AllEnded l n steps
+
+pub record RanUntil (l : Line) (n : ℕ) (ts : List ℕ) (most : ℕ) : Type 0 where
+  pub opens_back : FirstsRead l
+  pub turns : List ℕ
+  pub begin : Begins turns ts n
+  pub steps : List Step
+  pub turned : Turned l n [] turns steps
+  pub many : length steps ≡ most
+  -- a worker that has not ended
+  pub going : ℕ
+  pub is_worker : IsWorker n going
+  pub has_more : HasEnded l steps going → ⊥

@@ -1,0 +1,222 @@
+-- A core run over envelopes is one of the worker over what they say.
+use Rattle.std.proofs.Common.{◌≡◌, ◌∙◌, ℕ, suc, Bool, true, false, cond, eqb, List, [], ◌∷◌, ◌++◌, map, length, Option, Some, None, Result, Ok, Err, refl, sym, ap, ap₂, subst}
+use Rattle.std.specs.Prelude.{if◌then◌else◌}
+use Rattle.canvas_task.specs.declared.outcome.Outcome.{Outcome}
+use Rattle.canvas_rewrite.specs.Frozen.{Line}
+use Rattle.canvas_rewrite.specs.FrozenView.{Load}
+use Rattle.canvas_message.specs.Content.{Content, number_of}
+use Rattle.canvas_message.specs.Effects.{outcome_of, after, body_after, script}
+use Rattle.canvas_message.specs.Job.{Job, store, publish, hand_in}
+use Rattle.canvas_message.specs.declared.envelope.Envelope.{Envelope}
+use Rattle.canvas_message.specs.declared.fault.MessageFault.{MessageFault}
+use Rattle.canvas_backend.specs.Roster.{roster_of}
+use Rattle.canvas_runs.specs.Book.{Book, book_on, message_known}
+use Rattle.canvas_runs.specs.Core.{take, send, keep, part, read, pause, taken, sent, refused, kept, counted, found, rested, State, taking, resting, over, failed, owning, doing, reading as state_reading, settled, opens, owned, job_done, ask, answered, Suits, ReadsBack, Between, left_after, IsCoreRun}
+use Rattle.canvas_runs.specs.Protocol.{Protocol}
+use Rattle.canvas_runs.specs.Worker.{worker, reading, known_one, opened}
+use Rattle.canvas_worker.specs.Asks.{Asked, Answer}
+use Rattle.canvas_worker.specs.Cores.{IsAlike, GoTogether, CoresAreWorkers}
+use Rattle.canvas_worker.specs.Enveloped.{said, enclosed, enveloped, kept as kept_envelope}
+use Rattle.canvas_worker.specs.Standing.{Left}
+use Rattle.canvas_worker.proofs.Sendable.{envelope_so, said_of}
+
+module _ (l : Line) where
+  abbrev X : Protocol
+  X = enveloped (roster_of l)
+
+  abbrev Y : Protocol
+  Y = worker l
+
+  abbrev Doing : Type 0
+  Doing = State Content Load Outcome
+
+  abbrev Jobs : Type 0
+  Jobs = List (Job Content Load Outcome)
+
+  abbrev book : Book
+  book = book_on (roster_of l)
+
+  -- ---- scripts
+
+  settled_alike : (ks : Jobs) (b : Bool) → IsAlike (settled X (map enclosed ks) b) (settled Y ks b)
+  settled_alike [] b = tt
+  settled_alike (store t o ∷ ks) true = (refl, refl)
+  settled_alike (store t o ∷ ks) false = (refl, refl)
+  settled_alike (publish c ∷ ks) true = (refl, refl)
+  settled_alike (publish c ∷ ks) false = (refl, refl)
+  settled_alike (hand_in g t c ∷ ks) true = (refl, refl)
+  settled_alike (hand_in g t c ∷ ks) false = tt
+
+  job_alike : (k : Job Content Load Outcome) (ks : Jobs) (b : Bool) (r : Answer) → IsAlike (job_done X (enclosed k) (map enclosed ks) b r) (job_done Y k ks b r)
+  job_alike (store t o) ks b (kept a) = settled_alike ks a
+  job_alike (publish c) ks b sent = settled_alike ks b
+  job_alike (hand_in g t c) ks b (counted n) = part_alike (eqb (suc n) c.size)
+    where
+      part_alike : (z : Bool) → IsAlike (cond z (state_reading g c []) taking) (cond z (state_reading g c []) taking)
+      part_alike true = (refl, (refl, refl))
+      part_alike false = tt
+  job_alike (store t o) ks b r = tt
+  job_alike (publish c) ks b r = tt
+  job_alike (hand_in g t c) ks b r = tt
+
+  -- ---- what was taken
+
+  known_so : (r : Result Content MessageFault) (c : Content) → known_one book r ≡ Some c → r ≡ Ok c
+  known_so (Ok d) c h = by (message_known book d) h
+    where
+      by : (z : Bool) → (if z then Some d else None) ≡ Some c → ◌≡◌ {A = Result Content MessageFault} (Ok d) (Ok c)
+      by true h = cc
+      by false h = absurd cc
+  known_so (Err e) c h = absurd cc
+
+  opens_alike : (e : Envelope) (o : Option Content) → opened book e ≡ o → IsAlike (opens X (kept_envelope o e)) (opens Y o)
+  opens_alike e None is = tt
+  opens_alike e (Some c) is = said_of e c (known_so (reading e) c is)
+
+  -- ---- members
+
+  read_alike : (g : ℕ) (c : Load) (fs : List (ℕ × Outcome)) (z : Bool)
+      → IsAlike (cond z (settled X (map enclosed (script (body_after c fs))) false) (state_reading g c fs)) (cond z (settled Y (script (body_after c fs)) false) (state_reading g c fs))
+  read_alike g c fs true = settled_alike (script (body_after c fs)) false
+  read_alike g c fs false = (refl, (refl, refl))
+
+  -- ---- answers
+
+  step_owning : (e : Envelope) (c : Content) → said e ≡ c → (a : Bool) → IsAlike (owned X e a) (owned Y c a)
+  step_owning e c is true = subst (λ d. IsAlike (owned X e true) (owned Y d true)) is (settled_alike (script (after (said e) (outcome_of (said e)))) true)
+  step_owning e c is false = tt
+
+  step_doing : (js : List (Job Envelope Load Outcome)) (b : Bool) (ks : Jobs) (d : Bool) (r : Answer) → js ≡ map enclosed ks → b ≡ d → IsAlike (answered X (doing js b) r) (answered Y (doing ks d) r)
+  step_doing js b [] d r is same = subst (λ x. IsAlike (answered X (doing x b) r) failed) (sym is) tt
+  step_doing js b (k ∷ ks) d r is same =
+      subst (λ x. IsAlike (answered X (doing x b) r) (job_done Y k ks d r)) (sym is) (subst (λ x. IsAlike (job_done X (enclosed k) (map enclosed ks) b r) (job_done Y k ks x r)) same (job_alike k ks b r))
+
+  step_reading : (g : ℕ) (c : Load) (fs : List (ℕ × Outcome)) (r : Answer) → IsAlike (answered X (state_reading g c fs) r) (answered Y (state_reading g c fs) r)
+  step_reading g c fs (found t (Some o)) = read_alike g c (fs ++ (t, o) ∷ []) (eqb (length (fs ++ (t, o) ∷ [])) c.size)
+  step_reading g c fs (found t None) = tt
+  step_reading g c fs (taken x) = tt
+  step_reading g c fs sent = tt
+  step_reading g c fs refused = tt
+  step_reading g c fs (kept a) = tt
+  step_reading g c fs (counted n) = tt
+  step_reading g c fs (rested a) = tt
+
+  step_taking : (r : Answer) → IsAlike (answered X taking r) (answered Y taking r)
+  step_taking (taken None) = tt
+  step_taking (taken (Some e)) = opens_alike e (opened book e) refl
+  step_taking sent = tt
+  step_taking refused = tt
+  step_taking (kept a) = tt
+  step_taking (counted n) = tt
+  step_taking (found t o) = tt
+  step_taking (rested a) = tt
+
+  step_resting : (r : Answer) → IsAlike (answered X resting r) (answered Y resting r)
+  step_resting (rested true) = tt
+  step_resting (rested false) = tt
+  step_resting (taken x) = tt
+  step_resting sent = tt
+  step_resting refused = tt
+  step_resting (kept a) = tt
+  step_resting (counted n) = tt
+  step_resting (found t o) = tt
+
+  step_own : (e : Envelope) (c : Content) (r : Answer) → said e ≡ c → IsAlike (answered X (owning e) r) (answered Y (owning c) r)
+  step_own e c (kept a) is = step_owning e c is a
+  step_own e c (taken x) is = tt
+  step_own e c sent is = tt
+  step_own e c refused is = tt
+  step_own e c (counted n) is = tt
+  step_own e c (found t o) is = tt
+  step_own e c (rested a) is = tt
+
+  step : (s : Left) (t : Doing) (r : Answer) → IsAlike s t → IsAlike (answered X s r) (answered Y t r)
+  step taking taking r a = step_taking r
+  step resting resting r a = step_resting r
+  step over over r a = tt
+  step failed failed r a = tt
+  step (owning e) (owning c) r a = step_own e c r a
+  step (doing js b) (doing ks d) r a = step_doing js b ks d r a.0 a.1
+  step (state_reading g c fs) (state_reading h d gs) r a =
+      subst (λ x. IsAlike (answered X (state_reading g c fs) r) (answered Y (state_reading x d gs) r)) a.0
+      (subst (λ x. IsAlike (answered X (state_reading g c fs) r) (answered Y (state_reading g x gs) r)) a.1.0
+      (subst (λ x. IsAlike (answered X (state_reading g c fs) r) (answered Y (state_reading g c x) r)) a.1.1 (step_reading g c fs r)))
+  step s t r a = absurd a
+
+  -- ---- asks
+
+  job_asks : (k : Job Content Load Outcome) (ks : Jobs) (b d : Bool) → ReadsBack X (doing (enclosed k ∷ map enclosed ks) b)
+      → (ask Y (doing (k ∷ ks) d) ≡ ask X (doing (enclosed k ∷ map enclosed ks) b)) × ReadsBack Y (doing (k ∷ ks) d)
+  job_asks (store t o) ks b d back = (refl, tt)
+  job_asks (publish c) ks b d back = let so = envelope_so c back in (ap (λ e. send e) (sym so.0), so.1)
+  job_asks (hand_in g t c) ks b d back = (refl, tt)
+
+  jobs_ask : (js : List (Job Envelope Load Outcome)) (b : Bool) (ks : Jobs) (d : Bool) → js ≡ map enclosed ks → ReadsBack X (doing js b)
+      → (ask Y (doing ks d) ≡ ask X (doing js b)) × ReadsBack Y (doing ks d)
+  jobs_ask js b [] d is back = subst (λ x. (ask Y (doing [] d) ≡ ask X (doing x b)) × ReadsBack Y (doing [] d)) (sym is) (refl, tt)
+  jobs_ask js b (k ∷ ks) d is back =
+      subst (λ x. (ask Y (doing (k ∷ ks) d) ≡ ask X (doing x b)) × ReadsBack Y (doing (k ∷ ks) d)) (sym is) (job_asks k ks b d (subst (λ x. ReadsBack X (doing x b)) is back))
+
+  asks : (s : Left) (t : Doing) → IsAlike s t → ReadsBack X s → (ask Y t ≡ ask X s) × ReadsBack Y t
+  asks taking taking a back = (refl, tt)
+  asks resting resting a back = (refl, tt)
+  asks over over a back = (refl, tt)
+  asks failed failed a back = (refl, tt)
+  asks (owning e) (owning c) a back = (ap (λ d. keep (number_of d.own) (outcome_of d)) (sym a), tt)
+  asks (doing js b) (doing ks d) a back = jobs_ask js b ks d a.0 back
+  asks (state_reading g c fs) (state_reading h d gs) a back = (ap₂ (λ x y. read x (length y)) (sym a.0) (sym a.1.1), tt)
+  asks s t a back = absurd a
+
+  suits_alike : (a : Asked) (r : Answer) → Suits X a r → Suits Y a r
+  suits_alike take (taken x) h = h
+  suits_alike (send e) sent h = h
+  suits_alike (send e) refused h = h
+  suits_alike (keep t o) (kept a) h = h
+  suits_alike (part g t) (counted n) h = h
+  suits_alike (read g i) (found t x) h = h
+  suits_alike pause (rested a) h = h
+  suits_alike a r h = h
+
+  -- ---- between scripts
+
+  closed_alike : (s : Left) (t : Doing) → IsAlike s t → Between X s → Between Y t
+  closed_alike taking taking a h = tt
+  closed_alike resting resting a h = tt
+  closed_alike over over a h = tt
+  closed_alike failed failed a h = h
+  closed_alike (owning e) (owning c) a h = h
+  closed_alike (doing js b) (doing ks d) a h = h
+  closed_alike (state_reading g c fs) (state_reading k d gs) a h = h
+  closed_alike s t a h = absurd a
+
+  closes_alike : (s : Left) (t : Doing) → IsAlike s t → Between Y t → Between X s
+  closes_alike taking taking a h = tt
+  closes_alike resting resting a h = tt
+  closes_alike over over a h = tt
+  closes_alike failed failed a h = h
+  closes_alike (owning e) (owning c) a h = h
+  closes_alike (doing js b) (doing ks d) a h = h
+  closes_alike (state_reading g c fs) (state_reading k d gs) a h = h
+  closes_alike s t a h = absurd a
+
+  -- ---- whole runs
+
+  together : (s : Left) (t : Doing) → IsAlike s t → GoTogether l s t
+  together s t a = record {
+    alike = a;
+    asks = λ back. (asks s t a back).0;
+    reads_back = λ back. (asks s t a back).1;
+    closed = closed_alike s t a;
+    closes = closes_alike s t a;
+  }
+
+  pub carried : (s : Left) (t : Doing) (xs : List (Asked × Answer)) → IsAlike s t → IsCoreRun X s xs
+      → IsCoreRun Y t xs × GoTogether l (left_after X s xs) (left_after Y t xs)
+  carried s t [] a run = (tt, together s t a)
+  carried s t (x ∷ xs) a run =
+      let here = asks s t a run.1.1 in
+      let after = carried (answered X s x.1) (answered Y t x.1) xs (step s t x.1 a) run.2 in
+      ((run.0 ∙ sym here.0, (suits_alike x.0 x.1 run.1.0, here.1), after.0), after.1)
+
+pub cores_are_workers : CoresAreWorkers
+cores_are_workers l xs run = carried l taking taking xs tt run
