@@ -127,13 +127,31 @@ fn sum(alloc: Global) -> Result<Node, AllocError> {
     Ok(Node::Task(call(alloc, "tasks.xsum", &[])?))
 }
 
-/// Takes some parts for a chain. Most that give a list are followed by a sum over it.
+fn sum_behind_nothing(alloc: Global) -> Result<Node, AllocError> {
+    let body = sum(alloc)?;
+    Ok(Node::Chord {
+        header: ListOf::of(Vec::new(alloc)),
+        body: Box::new(alloc, body)?,
+    })
+}
+
+/// What follows a list: mostly a sum over it, and now and then one behind an empty header.
+fn push_sum(alloc: Global, dice: &mut Dice, nodes: &mut Vec<Node>) -> Result<(), AllocError> {
+    match dice.roll(8) {
+        0 => {}
+        1..=2 => nodes.push(sum_behind_nothing(alloc)?)?,
+        _ => nodes.push(sum(alloc)?)?,
+    }
+    Ok(())
+}
+
+/// Takes some parts for a chain. Most that give a list are followed by a sum.
 fn chain(alloc: Global, dice: &mut Dice, parts: Vec<Part>) -> Result<Part, AllocError> {
     let mut nodes = Vec::new(alloc);
     let mut is_open = false;
     for part in parts {
-        if is_open && dice.roll(8) > 0 {
-            nodes.push(sum(alloc)?)?;
+        if is_open {
+            push_sum(alloc, dice, &mut nodes)?;
         }
         is_open = part.is_open;
         nodes.push(part.node)?;
