@@ -3,7 +3,7 @@
 use crate::input::read_text;
 use crate::refusal::Refusal;
 use crate::words::{Verb, bad_text, read_words};
-use canvas_engine::{Cause, Report, RunFault, TextFault, rows_text, run_text};
+use canvas_engine::{Report, RunFault, TextFault, read_turns, rows_text, run_text};
 use canvas_rewrite::{node_of, normalise};
 use canvas_sig::{Canvas, read_canvas, write_node};
 use canvas_task::Memory;
@@ -74,10 +74,24 @@ fn answer<'w, S: Files + AllocGlobal, R: Read, W: Write>(
         Ok(asked) => asked,
         Err(error) => return help(error, out),
     };
-    let text = text_of(rt, asked.file, input)?;
     match asked.verb {
-        Verb::Run => run(alloc, &text, out),
-        Verb::Normal => print(out, &normal_text(alloc, &text)?),
+        Verb::Run { workers, turns } => {
+            let turns = turns_of(alloc, turns, workers)?;
+            let text = text_of(rt, asked.file, input)?;
+            run(alloc, &text, workers, &turns, out)
+        }
+        Verb::Normal => {
+            let text = text_of(rt, asked.file, input)?;
+            print(out, &normal_text(alloc, &text)?)
+        }
+    }
+}
+
+/// The turns of a list.
+fn turns_of<'w>(alloc: Global, list: &str, workers: u32) -> Result<Vec<u32>, Refusal<'w>> {
+    match read_turns(alloc, list, workers) {
+        Ok(turns) => Ok(turns),
+        Err(fault) => Err(Refusal::from(fault)),
     }
 }
 
@@ -131,8 +145,14 @@ fn line_text(alloc: Global, canvas: &Canvas) -> Result<String, Memory> {
 }
 
 /// Runs a canvas and prints its report; where it ended early, what it had stored.
-fn run<'w, W: Write>(alloc: Global, text: &[u8], out: &mut W) -> Result<(), Refusal<'w>> {
-    match run_text(alloc, text, 1, &[]) {
+fn run<'w, W: Write>(
+    alloc: Global,
+    text: &[u8],
+    workers: u32,
+    turns: &[u32],
+    out: &mut W,
+) -> Result<(), Refusal<'w>> {
+    match run_text(alloc, text, workers, turns) {
         Ok(report) => print(out, &report),
         Err(TextFault::Sig(fault)) => Err(Refusal::from(fault)),
         Err(TextFault::Run(fault)) => Err(early(alloc, text, fault, out)),
@@ -140,20 +160,16 @@ fn run<'w, W: Write>(alloc: Global, text: &[u8], out: &mut W) -> Result<(), Refu
     }
 }
 
+/// Why a run has no whole report. What it stored is printed.
 fn early<'w, W: Write>(alloc: Global, text: &[u8], fault: RunFault, out: &mut W) -> Refusal<'w> {
-    match fault {
-        RunFault::BadWorkers => Refusal::BadWorkers,
-        RunFault::BadTurn => Refusal::BadTurn,
-        RunFault::Halted { cause, rows } => {
-            if let Some(report) = rows {
-                print_rows(alloc, text, &report, out);
-            }
-            match cause {
-                Cause::Memory => Refusal::Memory,
-                Cause::Stopped => Refusal::Stopped,
-            }
-        }
+    if let RunFault::Halted {
+        rows: Some(report),
+        ..
+    } = &fault
+    {
+        print_rows(alloc, text, report, out);
     }
+    Refusal::from(fault)
 }
 
 fn print_rows<W: Write>(alloc: Global, text: &[u8], report: &Report, out: &mut W) {

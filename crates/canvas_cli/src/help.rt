@@ -1,10 +1,13 @@
 //! What help says beside the commands.
 
-/// What runs today, what a normal line is, and what the statuses and the codes of refusals mean.
+/// What is printed, what turns and a normal line are, and what the statuses and the codes of refusals mean.
 pub(crate) const NOTES: &str = "\
-What runs today: tasks, one after another, with one worker. Where the normal line of a canvas has a
-group or a chord, or a task has a link or an error callback, `run` refuses it (4 UnknownPrimitive).
-`normal` takes every canvas.
+A report has a line for each task, `ID NAME STATE VALUE`, in the order of the file: a task, its links,
+its error callbacks, then what follows; a header before its body. Its last line is the result.
+
+At a turn a worker makes one step, such as to take a message or to store an outcome. Whatever the
+workers and their turns, the report of a canvas is the same. A list of turns is decimal numbers from 1,
+separated by single commas, with no sign, space or leading zero: another is refused (BadTurn).
 
 The normal line of a canvas means the same as the canvas: some tasks, then at most one group or chord.
 A chain in a chain is flattened, and a group or chord that something follows is a chord whose body is

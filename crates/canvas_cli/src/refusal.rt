@@ -1,5 +1,6 @@
 //! Why the program ends without all that it was asked for.
 
+use canvas_engine::{Cause, RunFault};
 use canvas_sig::SigFault;
 use canvas_task::Memory;
 use clap::error::ErrorKind;
@@ -46,6 +47,19 @@ impl<'w> From<SigFault> for Refusal<'w> {
         match fault {
             SigFault::Memory => Refusal::Memory,
             _ => Refusal::Canvas(fault),
+        }
+    }
+}
+
+impl<'w> From<RunFault> for Refusal<'w> {
+    fn from(fault: RunFault) -> Refusal<'w> {
+        match fault {
+            RunFault::BadWorkers => Refusal::BadWorkers,
+            RunFault::BadTurn => Refusal::BadTurn,
+            RunFault::Halted { cause, .. } => match cause {
+                Cause::Memory => Refusal::Memory,
+                Cause::Stopped => Refusal::Stopped,
+            },
         }
     }
 }

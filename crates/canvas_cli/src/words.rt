@@ -1,23 +1,31 @@
 //! The words of the command line.
 
 use crate::help::NOTES;
+use clap::builder::ValueParser;
 use clap::error::ErrorKind;
 use clap::{Arg, ArgMatches, Command, Error};
-use std::alloc::Global;
+use std::alloc::{AllocError, Global};
 
 /// What is done with a canvas.
 #[derive(Clone, Copy)]
-pub(crate) enum Verb {
-    /// Its run, and the report.
-    Run,
+pub(crate) enum Verb<'w> {
+    /// Its run by some workers under a list of turns, and the report.
+    Run { workers: u32, turns: &'w str },
     /// Its normal line, as JSON.
     Normal,
 }
 
-impl Verb {
-    fn of(name: &str) -> Option<Verb> {
+impl<'w> Verb<'w> {
+    fn of(name: &str, given: &ArgMatches<'w>) -> Option<Verb<'w>> {
         match name {
-            "run" => Some(Verb::Run),
+            "run" => Some(Verb::Run {
+                workers: given.get_one::<u32>("workers")?,
+                turns: "",
+            }),
+            "turns" => Some(Verb::Run {
+                workers: given.get_one::<u32>("workers")?,
+                turns: given.get_str("turns").unwrap_or(""),
+            }),
             "normal" => Some(Verb::Normal),
             _ => None,
         }
@@ -27,7 +35,7 @@ impl Verb {
 /// What the words ask for.
 #[derive(Clone, Copy)]
 pub(crate) struct Asked<'w> {
-    pub(crate) verb: Verb,
+    pub(crate) verb: Verb<'w>,
     /// Where the canvas is.
     pub(crate) file: &'w str,
 }
@@ -35,7 +43,7 @@ pub(crate) struct Asked<'w> {
 impl<'w> Asked<'w> {
     fn of(matches: &ArgMatches<'w>) -> Option<Asked<'w>> {
         let (name, given) = matches.subcommand()?;
-        let verb = Verb::of(name)?;
+        let verb = Verb::of(name, given)?;
         let file = given.get_str("FILE")?;
         Some(Asked { verb, file })
     }
@@ -47,21 +55,53 @@ fn file_argument<'a>(alloc: Global) -> Arg<'a> {
         .help("The canvas as JSON; `-` is standard input")
 }
 
-fn program<'a>(alloc: Global) -> Result<Command<'a>, Error> {
-    let run = Command::new(alloc, "run")
+fn workers_argument<'a>(alloc: Global) -> Arg<'a> {
+    Arg::new(alloc, "workers")
+        .long("workers")
+        .value_name("N")
+        .value_parser(ValueParser::unsigned(1, 16))
+        .default_value("1")
+        .help("How many workers run it, from 1 to 16")
+}
+
+fn turns_argument<'a>(alloc: Global) -> Arg<'a> {
+    Arg::new(alloc, "turns")
+        .long("turns")
+        .value_name("LIST")
+        .help("Which worker goes on at each turn, as 1,2,2; behind the list they take turns from 1")
+}
+
+fn run_command<'a>(alloc: Global) -> Result<Command<'a>, AllocError> {
+    Command::new(alloc, "run")
         .about("Runs a canvas and prints the state and result of each task")
-        .arg(file_argument(alloc))?;
-    let normal = Command::new(alloc, "normal")
+        .arg(file_argument(alloc))?
+        .arg(workers_argument(alloc))
+}
+
+fn turns_command<'a>(alloc: Global) -> Result<Command<'a>, AllocError> {
+    Command::new(alloc, "turns")
+        .about("Runs a canvas with its workers taking turns by a list, and prints the same")
+        .arg(file_argument(alloc))?
+        .arg(workers_argument(alloc))?
+        .arg(turns_argument(alloc))
+}
+
+fn normal_command<'a>(alloc: Global) -> Result<Command<'a>, AllocError> {
+    Command::new(alloc, "normal")
         .about("Prints a canvas's normal line as JSON")
-        .arg(file_argument(alloc))?;
+        .arg(file_argument(alloc))
+}
+
+fn program<'a>(alloc: Global) -> Result<Command<'a>, Error> {
     let program = Command::new(alloc, "canvas")
         .about("Runs Celery canvases: chains, groups and chords of tasks")
         .after_help(NOTES)
         .no_binary_name(true)
         .bin_name("canvas")?
         .subcommand_required(true)
-        .subcommand(run)?
-        .subcommand(normal)?;
+        .subcommand(run_command(alloc)?)?
+        .subcommand(turns_command(alloc)?)?
+        .subcommand(normal_command(alloc)?)?;
     Ok(program)
 }
 

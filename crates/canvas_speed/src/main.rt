@@ -1,7 +1,13 @@
-//! What a message of about 100 KB costs, as ratios to the JSON library's own reading and writing of its body.
+//! What a message of about 100 KB costs, as ratios to the JSON library's own reading and writing of its body, and how fast large
+//! canvases run.
 //! It measures where it is given a word, and else does nothing. Where something fails it says what, and gives no ratio.
 #![tactic(auto)]
 
+mod canvases;
+mod runs;
+
+use crate::canvases::{chain, chord, group, nested_chords};
+use crate::runs::speed_of;
 use anyhow::Result;
 use canvas_message::{Envelope, Message, decode, encode};
 use canvas_task::ListOf;
@@ -99,6 +105,22 @@ fn writing_ratio(clock: &impl Clock, alloc: Global, body: &str) -> Result<u128> 
     Ok(hundredths(time, printing(clock, alloc, &value)?))
 }
 
+fn print_speed(rt: &HostRuntime, name: &str, text: &str) -> Result<()> {
+    let speed = speed_of(rt, rt.alloc(), text)?;
+    let (tasks, rate, ratio) = (speed.tasks, speed.tasks_a_second, speed.ratio);
+    println!(rt;
+        "{name}, {tasks} tasks: {rate} tasks a second, {ratio} hundredths of its messages' encode and decode"
+    )?;
+    Ok(())
+}
+
+fn print_speeds(rt: &HostRuntime) -> Result<()> {
+    print_speed(rt, "chain", &chain(rt.alloc())?)?;
+    print_speed(rt, "group", &group(rt.alloc())?)?;
+    print_speed(rt, "chord", &chord(rt.alloc())?)?;
+    print_speed(rt, "nested chords", &nested_chords(rt.alloc())?)
+}
+
 fn main(rt: HostRuntime) -> Result<()> {
     if env::args(&rt)?.count() < 2 {
         return Ok(());
@@ -108,5 +130,5 @@ fn main(rt: HostRuntime) -> Result<()> {
     let writing = writing_ratio(&rt, rt.alloc(), &body)?;
     println!(rt; "decode, in hundredths of Value::from_str: {reading}")?;
     println!(rt; "encode, in hundredths of Value::to_string: {writing}")?;
-    Ok(())
+    print_speeds(&rt)
 }

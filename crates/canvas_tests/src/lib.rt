@@ -12,6 +12,8 @@ mod cores;
 #[cfg(test)]
 mod definition;
 #[cfg(test)]
+mod dice;
+#[cfg(test)]
 mod effects;
 #[cfg(test)]
 mod embeds;
@@ -20,11 +22,17 @@ mod envelopes;
 #[cfg(test)]
 mod forged;
 #[cfg(test)]
+mod generated;
+#[cfg(test)]
+mod grown;
+#[cfg(test)]
 mod lines;
 #[cfg(test)]
 mod messages;
 #[cfg(test)]
 mod notation;
+#[cfg(test)]
+mod plain;
 #[cfg(test)]
 mod plans;
 #[cfg(test)]
@@ -33,5 +41,9 @@ mod reading;
 mod refusals;
 #[cfg(test)]
 mod runs;
+#[cfg(test)]
+mod spelled;
+#[cfg(test)]
+mod turns;
 #[cfg(test)]
 mod writing;

@@ -5,7 +5,7 @@ use canvas_sig::{Node, read_canvas, write_node};
 use std::alloc::{AllocError, Global};
 
 /// What a sign other than a small letter stands for.
-fn piece(sign: char) -> &'static str {
+pub fn piece(sign: char) -> &'static str {
     match sign {
         'C' => r#"{"task":"x","subtask_type":"chain","kwargs":{"tasks":"#,
         'G' => r#"{"task":"x","subtask_type":"group","kwargs":{"tasks":"#,

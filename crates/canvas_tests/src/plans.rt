@@ -33,7 +33,7 @@ const GROUP_OF_TEN: &str =
 const CHORD: &str =
     r#"{"args":[],"immutable":false,"kwargs":{"body":{"args":[],"immutable":false,"kwargs":{},"options":{"link_error":[{"args":[],"immutable":false,"kwargs":{},"options":{},"subtask_type":null,"task":"tasks.log_error"}]},"subtask_type":null,"task":"tasks.xsum"},"header":[{"args":[4,4],"immutable":false,"kwargs":{},"options":{},"subtask_type":null,"task":"tasks.add"},{"args":[1,0],"immutable":false,"kwargs":{},"options":{},"subtask_type":null,"task":"tasks.div"},{"args":[8,8],"immutable":false,"kwargs":{},"options":{},"subtask_type":null,"task":"tasks.add"}]},"options":{},"subtask_type":"chord","task":"celery.chord"}"#;
 
-fn plan_of(alloc: Global, text: &str) -> Option<Plan> {
+pub fn plan_of(alloc: Global, text: &str) -> Option<Plan> {
     match read_canvas(alloc, text.as_bytes()) {
         Ok(canvas) => match normalise(alloc, &canvas) {
             Ok(line) => freeze(alloc, &line).ok(),
@@ -72,7 +72,7 @@ fn size_of(plan: &Plan, group: u32) -> (Option<u32>, usize) {
 }
 
 #[test]
-fn plan_of_a_chord_and_a_task(rt: HostRuntime) -> Result<(), Fail> {
+pub fn plan_of_a_chord_and_a_task(rt: HostRuntime) -> Result<(), Fail> {
     let plan = plan_of(rt.alloc(), CHORD_AND_TASK).ok_or("no plan")?;
     assert_eq!(rt; plan.tasks(), 4);
     assert!(rt; is_named(&plan, 4, Some("tasks.mul")));
@@ -82,7 +82,7 @@ fn plan_of_a_chord_and_a_task(rt: HostRuntime) -> Result<(), Fail> {
 }
 
 #[test]
-fn plan_of_a_chord(rt: HostRuntime) -> Result<(), Fail> {
+pub fn plan_of_a_chord(rt: HostRuntime) -> Result<(), Fail> {
     let plan = plan_of(rt.alloc(), CHORD).ok_or("no plan")?;
     assert_eq!(rt; plan.groups(), 1);
     assert_eq!(rt; size_of(&plan, 1), (Some(3), 3));

@@ -1,8 +1,10 @@
-//! Reports of canvases, worked out by hand from the tasks' table and the rules of a failure.
+//! Reports of canvases run by one worker, worked out by hand from the tasks' table and the rules of canvases.
 
+use crate::notation::{filled, repeated};
+use crate::spelled;
 use canvas_engine::{Report, RunFault, TextFault, rows_text, run_text};
 use canvas_sig::SigFault;
-use canvas_task::{ListOf, Outcome};
+use canvas_task::{ListOf, Memory, Outcome};
 use std::alloc::Global;
 use std::test::Fail;
 
@@ -78,82 +80,300 @@ fn tasks_alone(rt: HostRuntime) {
     }
 }
 
-/// Whether two tasks, one after the other, have states and a value.
-fn are_two(alloc: Global, text: &str, first: &str, second: &str, value: &str) -> bool {
-    match format!(in alloc;
-        "00000000-0000-8000-8000-000000000001 {first}\n00000000-0000-8000-8000-000000000002 {second}\nresult {value}\n"
-    ) {
-        Ok(report) => reports(alloc, text, &report),
+/// Whether the canvas of a frame and its calls has a report.
+fn spells(alloc: Global, frame: &str, calls: &str, report: &str) -> bool {
+    match spelled::canvas(alloc, frame, calls) {
+        Ok(text) => match spelled::report(alloc, report) {
+            Ok(report) => reports(alloc, &text, &report),
+            Err(_) => false,
+        },
         Err(_) => false,
     }
 }
 
 #[test]
-fn chains(rt: HostRuntime) {
-    for (text, first, second, value) in [
+fn chains_and_links(rt: HostRuntime) {
+    for (frame, calls, report) in [
         (
-            ADD_THEN_MUL,
-            "tasks.add SUCCESS 8",
-            "tasks.mul SUCCESS 64",
-            "64",
-        ),
-        // The second is immutable.
-        (
-            r#"{"task":"celery.chain","subtask_type":"chain","kwargs":{"tasks":[
-        {"task":"tasks.add","args":[2,2]},{"task":"tasks.add","args":[4,4],"immutable":true}]}}"#,
-            "tasks.add SUCCESS 4",
-            "tasks.add SUCCESS 8",
-            "8",
+            "C(.,.)",
+            "add:4,4 mul:8",
+            "#1 tasks.add SUCCESS 8\n#2 tasks.mul SUCCESS 64\nresult 64\n",
         ),
         (
-            r#"{"task":"celery.chain","subtask_type":"chain","kwargs":{"tasks":[
-        {"task":"tasks.div","args":[1,0]},{"task":"tasks.mul","args":[2]}]}}"#,
-            "tasks.div FAILURE ZeroDivisionError",
-            "tasks.mul FAILURE ZeroDivisionError",
-            "ZeroDivisionError",
+            "C(.,!)",
+            "add:2,2 add:4,4",
+            "#1 tasks.add SUCCESS 4\n#2 tasks.add SUCCESS 8\nresult 8\n",
         ),
         (
-            r#"{"task":"c","subtask_type":"chain","kwargs":{"tasks":[
-        {"task":"c","subtask_type":"chain","kwargs":{"tasks":[{"task":"tasks.add","args":[1,1]}]}},
-        {"task":"tasks.mul","args":[2]}]}}"#,
-            "tasks.add SUCCESS 2",
-            "tasks.mul SUCCESS 4",
-            "4",
+            "C(.,.)",
+            "div:1,0 mul:2",
+            concat!(
+                "#1 tasks.div FAILURE ZeroDivisionError\n",
+                "#2 tasks.mul FAILURE ZeroDivisionError\n",
+                "result ZeroDivisionError\n"
+            ),
+        ),
+        (
+            "C(C(.),.)",
+            "add:1,1 mul:2",
+            "#1 tasks.add SUCCESS 2\n#2 tasks.mul SUCCESS 4\nresult 4\n",
+        ),
+        (
+            "+.,.>",
+            "add:1,1 mul:3 div:0",
+            concat!(
+                "#1 tasks.add SUCCESS 2\n",
+                "#2 tasks.mul SUCCESS 6\n",
+                "#3 tasks.div FAILURE ZeroDivisionError\n",
+                "result 2\n"
+            ),
+        ),
+        (
+            "+.>",
+            "div:1,0 ident:",
+            concat!(
+                "#1 tasks.div FAILURE ZeroDivisionError\n",
+                "#2 tasks.ident PENDING -\n",
+                "result ZeroDivisionError\n"
+            ),
+        ),
+        (
+            "C(?.>,?.>)",
+            "div:1,0 log_error: mul:2 log_error:",
+            concat!(
+                "#1 tasks.div FAILURE ZeroDivisionError\n",
+                "#2 tasks.log_error SUCCESS 1\n",
+                "#3 tasks.mul FAILURE ZeroDivisionError\n",
+                "#4 tasks.log_error PENDING -\n",
+                "result ZeroDivisionError\n"
+            ),
         ),
     ] {
-        assert!(rt; are_two(rt.alloc(), text, first, second, value), "{text}");
-    }
-}
-
-/// Whether a text is refused with a fault of the reading.
-fn is_refused(alloc: Global, text: &str, fault: SigFault) -> bool {
-    match run_text(alloc, text.as_bytes(), 1, &[]) {
-        Err(TextFault::Sig(found)) => found == fault,
-        _ => false,
+        assert!(rt;
+            spells(rt.alloc(), frame, calls, report),
+            "{frame} of {calls}"
+        );
     }
 }
 
 #[test]
-fn refusals(rt: HostRuntime) {
-    for (text, fault) in [
-        ("{", SigFault::NotJson),
-        ("[1]", SigFault::NotSignature),
+fn groups_and_chords(rt: HostRuntime) {
+    for (frame, calls, report) in [
+        ("H[|.]", "xsum:", "#1 tasks.xsum SUCCESS 0\nresult 0\n"),
+        ("G()", "", "result []\n"),
         (
-            r#"{"task":"x","subtask_type":"chain","kwargs":{"tasks":[]}}"#,
-            SigFault::EmptyChain,
-        ),
-        // What doesn't run yet.
-        (
-            r#"{"task":"x","subtask_type":"group","kwargs":{"tasks":[]}}"#,
-            SigFault::UnknownPrimitive,
+            "G(.,.)",
+            "add:1,1 mul:2,3",
+            "#1 tasks.add SUCCESS 2\n#2 tasks.mul SUCCESS 6\nresult [2, 6]\n",
         ),
         (
-            r#"{"task":"x","options":{"link":[{"task":"y"}]}}"#,
-            SigFault::UnknownPrimitive,
+            "H[.,.,.|?.>]",
+            "add:4,4 div:1,0 add:8,8 xsum: log_error:",
+            A_FAILED_MEMBER,
+        ),
+        (
+            "C(.,G(.,.),.)",
+            "div:1,0 add:1 add:2 xsum:",
+            concat!(
+                "#1 tasks.div FAILURE ZeroDivisionError\n",
+                "#2 tasks.add FAILURE ZeroDivisionError\n",
+                "#3 tasks.add FAILURE ZeroDivisionError\n",
+                "#4 tasks.xsum FAILURE ZeroDivisionError\n",
+                "result ZeroDivisionError\n"
+            ),
+        ),
+        (
+            "H[H[.|.],.|.]",
+            "div:1,0 xsum: add:1,1 xsum:",
+            concat!(
+                "#1 tasks.div FAILURE ZeroDivisionError\n",
+                "#2 tasks.xsum FAILURE ChordError: Dependency #1 raised ZeroDivisionError\n",
+                "#3 tasks.add SUCCESS 2\n",
+                "#4 tasks.xsum FAILURE ChordError: Dependency #2 raised ChordError\n",
+                "result ChordError: Dependency #2 raised ChordError\n"
+            ),
+        ),
+        (
+            "C(H[.,.|.],.)",
+            "add:1,1 add:2,2 xsum: mul:2",
+            concat!(
+                "#1 tasks.add SUCCESS 2\n",
+                "#2 tasks.add SUCCESS 4\n",
+                "#3 tasks.xsum SUCCESS 6\n",
+                "#4 tasks.mul SUCCESS 12\n",
+                "result 12\n"
+            ),
         ),
     ] {
-        assert!(rt; is_refused(rt.alloc(), text, fault), "{text}");
+        assert!(rt;
+            spells(rt.alloc(), frame, calls, report),
+            "{frame} of {calls}"
+        );
     }
+}
+
+/// A chord with a member that fails: its body fails with an exception of its own, and runs its error callback.
+pub const A_FAILED_MEMBER: &str = concat!(
+    "#1 tasks.add SUCCESS 8\n",
+    "#2 tasks.div FAILURE ZeroDivisionError\n",
+    "#3 tasks.add SUCCESS 16\n",
+    "#4 tasks.xsum FAILURE ChordError: Dependency #2 raised ZeroDivisionError\n",
+    "#5 tasks.log_error SUCCESS 4\n",
+    "result ChordError: Dependency #2 raised ZeroDivisionError\n"
+);
+
+#[test]
+fn failed_headers(rt: HostRuntime) {
+    for (frame, calls, report) in [
+        (
+            "C(G(.),G(?.>,.))",
+            "div:1,0 add:1 log_error: mul:2",
+            concat!(
+                "#1 tasks.div FAILURE ZeroDivisionError\n",
+                "#2 tasks.add FAILURE ChordError: Dependency #1 raised ZeroDivisionError\n",
+                "#3 tasks.log_error SUCCESS 2\n",
+                "#4 tasks.mul FAILURE ChordError: Dependency #1 raised ZeroDivisionError\n",
+                "result [ChordError: Dependency #1 raised ZeroDivisionError, ChordError: Dependency #1 raised ZeroDivisionError]\n"
+            ),
+        ),
+        (
+            "C(G(.),H[.,.|.])",
+            "div:1,0 add:1 add:2 xsum:",
+            concat!(
+                "#1 tasks.div FAILURE ZeroDivisionError\n",
+                "#2 tasks.add FAILURE ChordError: Dependency #1 raised ZeroDivisionError\n",
+                "#3 tasks.add FAILURE ChordError: Dependency #1 raised ZeroDivisionError\n",
+                "#4 tasks.xsum FAILURE ChordError: Dependency #2 raised ChordError\n",
+                "result ChordError: Dependency #2 raised ChordError\n"
+            ),
+        ),
+        // A header with no members passes the exception on as it is.
+        (
+            "C(G(.),H[|.])",
+            "div:1,0 xsum:",
+            concat!(
+                "#1 tasks.div FAILURE ZeroDivisionError\n",
+                "#2 tasks.xsum FAILURE ChordError: Dependency #1 raised ZeroDivisionError\n",
+                "result ChordError: Dependency #1 raised ZeroDivisionError\n"
+            ),
+        ),
+    ] {
+        assert!(rt;
+            spells(rt.alloc(), frame, calls, report),
+            "{frame} of {calls}"
+        );
+    }
+}
+
+/// A chain of pairs of a group and a sum over it.
+fn pairs(alloc: Global, count: u32) -> Result<String, Memory> {
+    let frame = repeated(alloc, 'C', "G(.),.", count)?;
+    let mut calls = String::from_str(alloc, "ident:1 xsum:")?;
+    for _ in 1..count {
+        calls.push_str(" ident: xsum:")?;
+    }
+    spelled::canvas(alloc, &frame, &calls)
+}
+
+fn pairs_report(alloc: Global, count: u32) -> Result<String, Memory> {
+    let mut short = String::new(alloc);
+    let mut task = 1u32;
+    for _ in 0..count {
+        let sum = task.saturating_add(1);
+        short.push_str(&format!(in alloc;
+            "#{task} tasks.ident SUCCESS 1\n#{sum} tasks.xsum SUCCESS 1\n"
+        )?)?;
+        task = sum.saturating_add(1);
+    }
+    short.push_str("result 1\n")?;
+    spelled::report(alloc, &short)
+}
+
+/// The number of a text's refusal, 0 where it runs.
+fn code_of(alloc: Global, text: &str) -> u8 {
+    match run_text(alloc, text.as_bytes(), 1, &[]) {
+        Ok(_) => 0,
+        Err(TextFault::Sig(fault)) => fault.code(),
+        Err(_) => u8::MAX,
+    }
+}
+
+#[test]
+fn pairs_of_a_group_and_a_sum(rt: HostRuntime) -> Result<(), Fail> {
+    let ten = pairs(rt.alloc(), 10)?;
+    let report = pairs_report(rt.alloc(), 10)?;
+    assert!(rt; reports(rt.alloc(), &ten, &report));
+    let eleven = pairs(rt.alloc(), 11)?;
+    assert_eq!(rt; code_of(rt.alloc(), &eleven), 11);
+    Ok(())
+}
+
+#[test]
+fn refusals(rt: HostRuntime) {
+    for (text, code) in [
+        ("{", 2),
+        ("[1]", 3),
+        (r#"{"task":"x","subtask_type":"starmap"}"#, 4),
+        (
+            r#"{"task":"x","subtask_type":"chord","kwargs":{"header":[]}}"#,
+            5,
+        ),
+        (r#"{"task":"tasks.add","args":[1.5,1]}"#, 6),
+        (r#"{"task":"tasks.mul","args":[1152921504606846977]}"#, 6),
+        (
+            r#"{"task":"x","subtask_type":"chain","args":[1],"kwargs":{"tasks":[{"task":"y"}]}}"#,
+            7,
+        ),
+        (r#"{"task":"x","options":{"chord":{}}}"#, 8),
+        (
+            r#"{"task":"x","subtask_type":"chain","kwargs":{"tasks":[]}}"#,
+            9,
+        ),
+    ] {
+        assert_eq!(rt; code_of(rt.alloc(), text), code, "{text}");
+    }
+}
+
+/// The number of a frame's refusal; each call is the same sum.
+fn code_of_frame(alloc: Global, frame: &str) -> u8 {
+    let mut calls = String::new(alloc);
+    for sign in frame.chars() {
+        if sign == '.' && calls.push_str("add:1,1 ").is_err() {
+            return u8::MAX;
+        }
+    }
+    match spelled::canvas(alloc, frame, &calls) {
+        Ok(text) => code_of(alloc, &text),
+        Err(_) => u8::MAX,
+    }
+}
+
+#[test]
+fn limits(rt: HostRuntime) -> Result<(), Fail> {
+    for (frame, code) in [
+        ("G(G(.))", 10),
+        ("G(H[.|G(.)])", 10),
+        ("C(C(C(C(C(C(C(.)))))))", 0),
+        ("C(C(C(C(C(C(C(C(.))))))))", 11),
+    ] {
+        assert_eq!(rt; code_of_frame(rt.alloc(), frame), code, "{frame}");
+    }
+    let groups = repeated(rt.alloc(), 'C', "G()", 29)?;
+    let chain = filled(rt.alloc(), "C(_,.)", &groups)?;
+    for (part, count, code) in [
+        (".", 1024, 0),
+        (".", 1025, 12),
+        (chain.as_str(), 35, 0),
+        (chain.as_str(), 40, 12),
+    ] {
+        let frame = repeated(rt.alloc(), 'G', part, count)?;
+        assert_eq!(rt;
+            code_of_frame(rt.alloc(), &frame),
+            code,
+            "{count} of {part}"
+        );
+    }
+    Ok(())
 }
 
 /// The first fault of a run with workers and turns: 1 of the text, 2 of the workers, 3 of the turns.
@@ -169,10 +389,12 @@ fn fault_of(alloc: Global, text: &[u8], workers: u32, turns: &[u32]) -> u8 {
 #[test]
 fn faults_in_order(rt: HostRuntime) {
     let chain = ADD_THEN_MUL.as_bytes();
-    assert_eq!(rt; fault_of(rt.alloc(), b"{", 2, &[7]), 1);
-    assert_eq!(rt; fault_of(rt.alloc(), chain, 2, &[7]), 2);
+    assert_eq!(rt; fault_of(rt.alloc(), b"{", 17, &[7]), 1);
+    assert_eq!(rt; fault_of(rt.alloc(), chain, 17, &[18]), 2);
     assert_eq!(rt; fault_of(rt.alloc(), chain, 0, &[]), 2);
-    assert_eq!(rt; fault_of(rt.alloc(), chain, 1, &[1]), 3);
+    assert_eq!(rt; fault_of(rt.alloc(), chain, 2, &[1, 3]), 3);
+    assert_eq!(rt; fault_of(rt.alloc(), chain, 2, &[0]), 3);
+    assert_eq!(rt; fault_of(rt.alloc(), chain, 16, &[16]), 0);
 }
 
 /// Whether rows over a text are printed so.

@@ -15,6 +15,7 @@ Usage: canvas <COMMAND>
 
 Commands:
   run     Runs a canvas and prints the state and result of each task
+  turns   Runs a canvas with its workers taking turns by a list, and prints the same
   normal  Prints a canvas's normal line as JSON
   help    Print this message or the help of the given subcommand(s)
 
@@ -25,13 +26,28 @@ Options:
 const RUN_HELP: &str = "\
 Runs a canvas and prints the state and result of each task
 
-Usage: canvas run <FILE>
+Usage: canvas run [OPTIONS] <FILE>
 
 Arguments:
   <FILE>  The canvas as JSON; `-` is standard input
 
 Options:
-  -h, --help  Print help
+      --workers <N>  How many workers run it, from 1 to 16 [default: 1]
+  -h, --help         Print help
+";
+
+const TURNS_HELP: &str = "\
+Runs a canvas with its workers taking turns by a list, and prints the same
+
+Usage: canvas turns [OPTIONS] <FILE>
+
+Arguments:
+  <FILE>  The canvas as JSON; `-` is standard input
+
+Options:
+      --workers <N>   How many workers run it, from 1 to 16 [default: 1]
+      --turns <LIST>  Which worker goes on at each turn, as 1,2,2; behind the list they take turns from 1
+  -h, --help          Print help
 ";
 
 const NORMAL_HELP: &str = "\
@@ -48,7 +64,7 @@ Options:
 
 const NO_COMMAND: &str = "\
 error: 'canvas' requires a subcommand but one was not provided
-  [subcommands: run, normal, help]
+  [subcommands: run, turns, normal, help]
 
 Usage: canvas <COMMAND>
 
@@ -75,7 +91,7 @@ For more information, try '--help'.
 const TWO_FILES: &str = "\
 error: unexpected argument '-' found
 
-Usage: canvas run <FILE>
+Usage: canvas run [OPTIONS] <FILE>
 
 For more information, try '--help'.
 ";
@@ -85,7 +101,25 @@ error: unexpected argument '--workers' found
 
   tip: to pass '--workers' as a value, use '-- --workers'
 
-Usage: canvas run <FILE>
+Usage: canvas normal <FILE>
+
+For more information, try '--help'.
+";
+
+const NO_WORKERS: &str = "\
+error: invalid value '0' for '--workers <N>': 0 is not in 1..=16
+
+For more information, try '--help'.
+";
+
+const MANY_WORKERS: &str = "\
+error: invalid value '17' for '--workers <N>': 17 is not in 1..=16
+
+For more information, try '--help'.
+";
+
+const NO_NUMBER: &str = "\
+error: invalid value 'x' for '--workers <N>': invalid digit found in string
 
 For more information, try '--help'.
 ";
@@ -135,12 +169,16 @@ fn help_names_each_refusal(rt: HostRuntime) -> Result<(), Fail> {
 fn words_of_commands(rt: HostRuntime) {
     for (line, status, out, err) in [
         ("run --help", 0, RUN_HELP, ""),
+        ("turns --help", 0, TURNS_HELP, ""),
         ("normal --help", 0, NORMAL_HELP, ""),
         ("", 1, "", NO_COMMAND),
         ("run", 1, "", NO_FILE),
         ("walk -", 1, "", OTHER_COMMAND),
         ("run - -", 1, "", TWO_FILES),
-        ("run --workers 2 -", 1, "", OTHER_OPTION),
+        ("normal --workers 2 -", 1, "", OTHER_OPTION),
+        ("run --workers 0 -", 1, "", NO_WORKERS),
+        ("turns --workers 17 nosuch", 1, "", MANY_WORKERS),
+        ("turns --turns=, --workers=x -", 1, "", NO_NUMBER),
     ] {
         assert!(rt; answers(&rt, line, "", status, out, err), "{line}");
     }

@@ -58,6 +58,65 @@ fn texts_and_statuses(rt: HostRuntime) {
     }
 }
 
+/// A chord with a member that fails, whose body has an error callback.
+const FAILED_MEMBER: &str = r#"{"task":"c","subtask_type":"chord","kwargs":{
+    "header":[{"task":"tasks.add","args":[4,4]},{"task":"tasks.div","args":[1,0]},{"task":"tasks.add","args":[8,8]}],
+    "body":{"task":"tasks.xsum","options":{"link_error":{"task":"tasks.log_error"}}}}}"#;
+
+const CHORD_ERROR: &str = concat!(
+    "00000000-0000-8000-8000-000000000001 tasks.add SUCCESS 8\n",
+    "00000000-0000-8000-8000-000000000002 tasks.div FAILURE ZeroDivisionError\n",
+    "00000000-0000-8000-8000-000000000003 tasks.add SUCCESS 16\n",
+    "00000000-0000-8000-8000-000000000004 tasks.xsum FAILURE ChordError: Dependency 00000000-0000-8000-8000-000000000002 raised ZeroDivisionError\n",
+    "00000000-0000-8000-8000-000000000005 tasks.log_error SUCCESS 4\n",
+    "result ChordError: Dependency 00000000-0000-8000-8000-000000000002 raised ZeroDivisionError\n"
+);
+
+const BAD_TURN: &str = "canvas: refused BadTurn\n";
+
+#[test]
+fn workers_and_turns(rt: HostRuntime) {
+    for (line, input, status, out, err) in [
+        ("run --workers 2 -", FAILED_MEMBER, 0, CHORD_ERROR, ""),
+        ("run - --workers=16", FAILED_MEMBER, 0, CHORD_ERROR, ""),
+        ("turns -", FAILED_MEMBER, 0, CHORD_ERROR, ""),
+        (
+            "turns --workers 2 --turns 1,2,2,2,1 -",
+            FAILED_MEMBER,
+            0,
+            CHORD_ERROR,
+            "",
+        ),
+        (
+            "turns --workers=2 --turns=2,2,2,2,2,2 -",
+            FAILED_MEMBER,
+            0,
+            CHORD_ERROR,
+            "",
+        ),
+        ("turns --turns= -", ADD_THEN_MUL, 0, REPORT, ""),
+        ("turns --turns=1,1 -", ADD_THEN_MUL, 0, REPORT, ""),
+        ("turns nosuch", "", 1, "", "canvas: cannot read nosuch\n"),
+        // A list is read before the file.
+        ("turns --turns 2 nosuch", "", 1, "", BAD_TURN),
+        ("turns --workers 2 --turns 1,,2 nosuch", "", 1, "", BAD_TURN),
+        ("turns --turns=-1 -", "{", 1, "", BAD_TURN),
+        ("turns --turns=01 -", ADD_THEN_MUL, 1, "", BAD_TURN),
+        (
+            "turns --turns=1 -",
+            "{",
+            1,
+            "",
+            "canvas: refused 2 NotJson\n",
+        ),
+    ] {
+        assert!(rt;
+            answers(&rt, line, input, status, out, err),
+            "{line} of {input}"
+        );
+    }
+}
+
 /// A chain of pairs of a group and a sum over it.
 fn pairs(alloc: Global, count: u32) -> Result<String, AllocError> {
     let mut text = String::new(alloc);

@@ -1,0 +1,78 @@
+//! Large canvases.
+
+use anyhow::Result;
+use canvas_rewrite::{Plan, freeze, normalise};
+use canvas_sig::read_canvas;
+use std::alloc::{AllocError, Global};
+
+const ADD: &str = r#"{"task":"tasks.add","args":[1]}"#;
+
+const SUM: &str = r#"{"task":"tasks.xsum"}"#;
+
+const FIRST: &str = r#"{"task":"tasks.add","args":[1,1]}"#;
+
+fn push_list(text: &mut String, first: &str, more: &str, count: u32) -> Result<(), AllocError> {
+    text.push('[')?;
+    text.push_str(first)?;
+    for _ in 1..count {
+        text.push(',')?;
+        text.push_str(more)?;
+    }
+    text.push(']')?;
+    Ok(())
+}
+
+/// A chain or group of so many tasks.
+fn list_text(
+    alloc: Global,
+    kind: &str,
+    first: &str,
+    more: &str,
+    count: u32,
+) -> Result<String, AllocError> {
+    let mut text = String::from_str(alloc, r#"{"task":"c","subtask_type":""#)?;
+    text.push_str(kind)?;
+    text.push_str(r#"","kwargs":{"tasks":"#)?;
+    push_list(&mut text, first, more, count)?;
+    text.push_str("}}")?;
+    Ok(text)
+}
+
+/// A chord with so many members and a sum.
+fn chord_text(alloc: Global, member: &str, count: u32) -> Result<String, AllocError> {
+    let mut text = String::from_str(
+        alloc,
+        r#"{"task":"c","subtask_type":"chord","kwargs":{"header":"#,
+    )?;
+    push_list(&mut text, member, member, count)?;
+    text.push_str(r#","body":"#)?;
+    text.push_str(SUM)?;
+    text.push_str("}}")?;
+    Ok(text)
+}
+
+pub(crate) fn chain(alloc: Global) -> Result<String, AllocError> {
+    list_text(alloc, "chain", FIRST, ADD, 200)
+}
+
+pub(crate) fn group(alloc: Global) -> Result<String, AllocError> {
+    list_text(alloc, "group", FIRST, FIRST, 1_000)
+}
+
+pub(crate) fn chord(alloc: Global) -> Result<String, AllocError> {
+    chord_text(alloc, FIRST, 1_000)
+}
+
+/// A chord of ten chords of ten chords of eight tasks, each into a sum.
+pub(crate) fn nested_chords(alloc: Global) -> Result<String, AllocError> {
+    let inner = chord_text(alloc, FIRST, 8)?;
+    let middle = chord_text(alloc, &inner, 10)?;
+    chord_text(alloc, &middle, 10)
+}
+
+/// The plan of a canvas's text.
+pub(crate) fn plan_of(alloc: Global, text: &str) -> Result<Plan> {
+    let canvas = read_canvas(alloc, text.as_bytes())?;
+    let line = normalise(alloc, &canvas)?;
+    Ok(freeze(alloc, &line)?)
+}
