@@ -8,3 +8,4 @@ pub mod StageTurns
 pub mod RoundTurns
 pub mod Opening
 pub mod ReadRows
+pub mod WholeRuns

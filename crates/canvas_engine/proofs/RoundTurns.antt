@@ -68,11 +68,11 @@ module _ (l : Line) (n most : ℕ) (us : List ℕ) (xs : List Step) where
 
 module _ (l : Line) (n most : ℕ) (ts : List ℕ) where
   pub halt_in_list : (cause : Cause) (us rest : List ℕ) (s : Stage) → us ++ rest ≡ ts → IsHalt cause l n most us s → IsEarlyEnd cause l n most ts s
-  halt_in_list Memory us rest s e halt = halt
+  halt_in_list Memory us rest s e halt = (halt.plan_is, inr halt)
   halt_in_list Stopped us rest s e halt = (us, begins_list n us rest ts e, halt)
 
   pub halt_in_rounds : (cause : Cause) (k : ℕ) (s : Stage) → IsHaltInRound cause l n most (ts ++ rounds n k) s → IsEarlyEnd cause l n most ts s
-  halt_in_rounds Memory k s halt = halt
+  halt_in_rounds Memory k s halt = (halt.plan_is, inr halt)
   halt_in_rounds Stopped k s halt = ((ts ++ rounds n k) ++ round halt.0, begins_rotation n k halt.0 ts halt.1, halt.2)
 
   pub another_round : (k : ℕ) (s : Stage) → HasReached l n most ((ts ++ rounds n k) ++ round n) s → HasReached l n most (ts ++ rounds n (suc k)) s

@@ -132,7 +132,7 @@ IsHaltInRound Stopped l n most us s = (i : ℕ) × (i ≤ n) × IsStopped l n mo
 
 -- why a run by these turns and then in rotation ended early
 abbrev pub IsEarlyEnd : Cause → Line → ℕ → ℕ → List ℕ → Stage → Type 0
-IsEarlyEnd Memory l n most turns s = IsHalfway l n s
+IsEarlyEnd Memory l n most turns s = (s.table.plan ≡ roster_of l) × ((held s.table ≡ no_results) ⊎ IsHalfway l n s)
 IsEarlyEnd Stopped l n most turns s = (us : List ℕ) × Begins us turns n × IsStopped l n most us s
 
 -- the turns of a list, and rounds, after which all workers have ended

@@ -1,9 +1,11 @@
-ghost use Rattle.std.specs.Prelude.{◌≡◌, ◌≢◌, ◌≤◌, ◌<◌, ℕ, All, List, [], length, IfOk, IfErr, OnOk, OnErr, MatchBool};
+ghost use Rattle.std.specs.Prelude.{◌≡◌, ◌≢◌, ◌≤◌, ◌<◌, ◌*◌, ◌^◌, suc, ℕ, All, List, [], length, IfOk, IfErr, OnOk, OnErr, MatchBool};
 ghost use Rattle.canvas_rewrite.specs.Frozen.{count_line, tree_of};
+ghost use Rattle.canvas_rewrite.specs.Planned.{IsPlan};
 ghost use Rattle.canvas_rewrite.specs.States.{states};
 ghost use Rattle.canvas_backend.specs.Backend.{no_results};
 ghost use Rattle.canvas_backend.specs.Plain.{held};
 ghost use Rattle.canvas_backend.specs.Roster.{roster_of};
+ghost use Rattle.canvas_runs.specs.Going.{most_steps};
 ghost use Rattle.canvas_runs.specs.Turns.{Step, IsWorker};
 ghost use Rattle.canvas_engine.specs.Correct.{AreWorkers, AreTurns, IsAsked, IsWhole, IsWholeWithin, IsRunFault, IsFaultWithin};
 ghost use Rattle.canvas_engine.specs.Steps.{rows_of, Reached, HasReached, IsNew, IsPartOfRound, IsHaltInRound, IsDone, IsEarlyEnd};
@@ -84,6 +86,7 @@ fn run_stage(
     workers: u32,
     turns: &[u32],
 ) -> Result<(), Cause>
+    requires planned { IsPlan plan.now }
     requires new { IsNew plan.now workers stage.old }
     requires turns { AreTurns workers turns.now }
     ensures ok { OnOk result (IsDone plan.now workers stage.old.steps turns.now stage.new) }
@@ -100,7 +103,8 @@ fn run_stage(
 
 /// Rows that hold nothing yet, one for each task.
 fn new_rows(alloc: Global, plan: &Plan) -> Result<Vec<Option<Outcome>>, Memory>
-    ensures { IfOk result (λ rows. length rows.items ≡ count_line plan.now) }
+    ensures rows { IfOk result (λ rows. length rows.items ≡ count_line plan.now) }
+    ensures planned { IsPlan plan.now }
 {
     // A proof about rows is made only where the type of a failure's fault is named.
     let _none: Option<Fault> = None;
@@ -180,6 +184,25 @@ fn run_checked(
     }
 }
 
+/// One more than the asks that a run of the plan may have.
+fn more_than_all(plan: &Plan, workers: u32, turns: &[u32]) -> u128
+    ensures value { result ≡ suc (most_steps plan.now workers (length turns.now)) }
+    ensures planned { IsPlan plan.now }
+{
+    let tasks = plan.tasks() as u128;
+    let calls = product(tasks + 4, tasks + 1);
+    turns.len() as u128 + product(2 * (calls + 1), workers as u128) + 1
+}
+
+fn product(left: u128, right: u128) -> u128
+    requires left { left < 2 ^ 80 }
+    requires right { right < 2 ^ 40 }
+    ensures value { result ≡ left * right }
+    ensures small { result < 2 ^ 120 }
+{
+    left * right
+}
+
 /// Runs a plan with 1 to 16 workers on one thread. Each turn lets that worker have one ask answered; after the list the workers take
 /// turns in rotation from 1, until all are at their ends. A worker at its end skips its turn.
 pub fn run_turns(
@@ -191,7 +214,8 @@ pub fn run_turns(
     ensures ok { IfOk result (λ report. IsAsked workers turns.now × IsWhole plan.now workers turns.now report.rows) }
     ensures err { IfErr result (IsRunFault workers turns.now (states (tree_of plan.now))) }
 {
-    run_checked(alloc, plan, workers, turns, u128::MAX)
+    let steps = more_than_all(plan, workers, turns);
+    run_checked(alloc, plan, workers, turns, steps)
 }
 
 /// As `run_turns`, but halted, as stopped, once `steps` asks have been answered and some worker isn't at its end.
