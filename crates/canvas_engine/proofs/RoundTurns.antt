@@ -34,9 +34,10 @@ module _ (l : Line) (n most : ℕ) (us : List ℕ) (xs : List Step) where
   pub part_of_round : (b : Bool) (i p j steps : ℕ) (s s' : Stage) → p ≡ suc i → j ≡ suc i → length xs + steps ≡ most → IsPartOfRound b l n most us xs i steps s → OneTurn false p s s'
       → IsPartOfRound b l n most us xs j steps s'
   part_of_round true i p j steps s s' e f start part turn =
-      let got = turn n most (us ++ round i) part.0.0 part.0.1 in
-      ((part.0.0, subst (λ vs. Reached l n most vs part.0.0 s') (turns_so i p e ∙ ap (λ k. us ++ round k) (sym f)) got.1),
-      omega (arith, part.1, part.0.1.count, got.1.count))
+      let got = turn n most (us ++ round i) part.0.0 part.0.1 in (
+        (part.0.0, subst (λ vs. Reached l n most vs part.0.0 s') (turns_so i p e ∙ ap (λ k. us ++ round k) (sym f)) got.1),
+        omega (arith, part.1, part.0.1.count, got.1.count),
+      )
   part_of_round false i p j steps s s' e f start part turn =
       let got = turn n most (us ++ round i) xs part.0 in
       (subst (λ vs. Reached l n most vs xs s') (turns_so i p e ∙ ap (λ k. us ++ round k) (sym f)) got.1, λ q w. ended_too i p e part.1 got.0 q (subst (λ k. IsWorker k q) f w))

@@ -99,7 +99,7 @@ handed_out x c out e = is_send x (asked c.left) (sym (e ∙ ap (λ b. if b then 
 -- an envelope that was handed out makes no difference once it is published
 same_left : (book : Book) (s : Left) (d : ℕ)
     → ◌≡◌ {A = Standing} (record { left = answered (enveloped_by book) (unsent s) C.sent; is_out = false; dropped = min most (d + drops book (unsent s) C.sent) })
-      (record { left = answered (enveloped_by book) s C.sent; is_out = false; dropped = min most (d + drops book s C.sent) })
+    (record { left = answered (enveloped_by book) s C.sent; is_out = false; dropped = min most (d + drops book s C.sent) })
 same_left book C.taking d = refl
 same_left book C.resting d = refl
 same_left book C.over d = refl
@@ -140,12 +140,15 @@ module _ {E : Type 0} (result : Result (Unit {0}) E) (more : Bool) (c c' : Stand
     where
       go : (x : Result (Unit {0}) E) → OnErr x (IsTried more c queue table table')
       go (Ok u) = tt
-      go (Err x) = (plan, inr (record {
-        reply = r;
-        answers = subst (λ z. AnswersNow table.plan queue (held table) more z r) (sym is) answers;
-        reads_back = back;
-        table_is = t ∙ ap (results_next (held table)) (sym is);
-      }))
+      go (Err x) = (
+        plan,
+        inr (record {
+          reply = r;
+          answers = subst (λ z. AnswersNow table.plan queue (held table) more z r) (sym is) answers;
+          reads_back = back;
+          table_is = t ∙ ap (results_next (held table)) (sym is);
+        }),
+      )
 
 -- nothing was stored
 pub not_stored : {E : Type 0} (result : Result (Unit {0}) E) (more : Bool) (c : Standing) (queue : List Envelope) (table : Shelf) → OnErr result (IsTried more c queue table table)

@@ -97,7 +97,7 @@ module _ (l : Line) (n most : ℕ) (us : List ℕ) (xs : List Step) (s : Stage) 
   pub more_is : (is_queued s.queue || list_any (λ c. is_inside c.left) s.cores.items) ≡ holds_more l n xs
   more_is =
       let one : (i : ℕ) (c : Standing) → slice_get s.cores.items i ≡ Some c → is_inside c.left ≡ is_worker_inside (left l xs (suc (0 + i))) = λ i c e.
-          ap is_inside (reached.cores_are i c e).0 ∙ inside_alike _ _ (together (suc i)).1.alike ∙ ap (λ m. is_worker_inside (left l xs (suc m))) (omega arith) in
+      ap is_inside (reached.cores_are i c e).0 ∙ inside_alike _ _ (together (suc i)).1.alike ∙ ap (λ m. is_worker_inside (left l xs (suc m))) (omega arith) in
       ap (λ q. is_queued q || list_any (λ c. is_inside c.left) s.cores.items) reached.queue_is
       ∙ ap (λ b. is_queued (queue_after l xs) || b) (sym (or_none (list_any (λ c. is_inside c.left) s.cores.items)) ∙ inside_from l xs s.cores.items 0 one ∙ ap (λ m. some_inside l m xs) (omega (arith, reached.many)))
 
@@ -149,37 +149,41 @@ module _ (l : Line) (n most : ℕ) (us : List ℕ) (xs : List Step) (s : Stage) 
           let back : ReadsBack X (left_after X taking (by p xs)) = subst (ReadsBack X) env_left step.reads_back in
           let mine : IsCoreRun X taking (by p ys) = subst (IsCoreRun X taking) (sym (by_more p xs (a, r))) (core_more X taking (by p xs) (a, r) (reached.runs p) asks suits back) in
           let left_new : c'.left ≡ left_after X taking (by p ys) =
-              ap (λ d. d.left) step.core
-              ∙ ap (λ z. answered (enveloped_by (book_in z)) c.left r) reached.plan_is
-              ∙ ap (λ b. answered (enveloped_by b) c.left r) (books_alike l plan)
-              ∙ same_answer c.left r
-              ∙ ap (λ z. answered X z r) env_left
-              ∙ sym (ap (left_after X taking) (by_more p xs (a, r)) ∙ left_more X taking (by p xs) (a, r)) in
-          let in_new : c'.is_out ≡ false = ap (λ d. d.is_out) step.core in
-          ((a, r), record {
-            by_turns = record {
-              plan = plan;
-              opens_back = reached.by_turns.opens_back;
-              workers = each_more us p reached.by_turns.workers worker;
-              turned = turned_so r step.reads_back step.answers;
-            };
-            runs = λ q. runs_now q a r mine;
-            queue_is = step.queue_is ∙ ap (λ q. queue_next q a) reached.queue_is ∙ sym (queue_more _ xs x);
-            plan_is = step.plan_is ∙ reached.plan_is;
-            table_is = step.table_is ∙ ap (λ t. results_next t a) reached.table_is ∙ sym (results_more _ xs x);
-            many = put.0 ∙ reached.many;
-            cores_are = λ j d e. core_now j d a r c' left_new in_new (put.1 j d e);
-            count = omega (arith, reached.count, fewer, length-append xs (x ∷ []));
-          })
+          ap (λ d. d.left) step.core
+          ∙ ap (λ z. answered (enveloped_by (book_in z)) c.left r) reached.plan_is
+          ∙ ap (λ b. answered (enveloped_by b) c.left r) (books_alike l plan)
+          ∙ same_answer c.left r
+          ∙ ap (λ z. answered X z r) env_left
+          ∙ sym (ap (left_after X taking) (by_more p xs (a, r)) ∙ left_more X taking (by p xs) (a, r)) in
+          let in_new : c'.is_out ≡ false = ap (λ d. d.is_out) step.core in (
+            (a, r),
+            record {
+              by_turns = record {
+                plan = plan;
+                opens_back = reached.by_turns.opens_back;
+                workers = each_more us p reached.by_turns.workers worker;
+                turned = turned_so r step.reads_back step.answers;
+              };
+              runs = λ q. runs_now q a r mine;
+              queue_is = step.queue_is ∙ ap (λ q. queue_next q a) reached.queue_is ∙ sym (queue_more _ xs x);
+              plan_is = step.plan_is ∙ reached.plan_is;
+              table_is = step.table_is ∙ ap (λ t. results_next t a) reached.table_is ∙ sym (results_more _ xs x);
+              many = put.0 ∙ reached.many;
+              cores_are = λ j d e. core_now j d a r c' left_new in_new (put.1 j d e);
+              count = omega (arith, reached.count, fewer, length-append xs (x ∷ []));
+            },
+          )
         where
           same_answer : (z : Left) (r : Answer) → answered (enveloped_by (book_of l)) z r ≡ answered (enveloped (roster_of l)) z r
           same_answer z r = refl
+
           runs_now : (q : ℕ) (a : Asked) (r : Answer) → IsCoreRun (enveloped (roster_of l)) taking (by (suc i) (xs ++ (suc i, (a, r)) ∷ [])) → IsCoreRun (enveloped (roster_of l)) taking (by q (xs ++ (suc i, (a, r)) ∷ []))
           runs_now q a r mine = go (eqb (suc i) q) refl
             where
               go : (b : Bool) → eqb (suc i) q ≡ b → IsCoreRun (enveloped (roster_of l)) taking (by q (xs ++ (suc i, (a, r)) ∷ []))
               go true e = subst (λ m. IsCoreRun (enveloped (roster_of l)) taking (by m (xs ++ (suc i, (a, r)) ∷ []))) (eqb-true (suc i) q e) mine
               go false e = subst (IsCoreRun (enveloped (roster_of l)) taking) (sym (by_other q (suc i) xs (a, r) (eqb-false (suc i) q e))) (reached.runs q)
+
           core_now : (j : ℕ) (d : Standing) (a : Asked) (r : Answer) (c' : Standing) → c'.left ≡ left_after (enveloped (roster_of l)) taking (by (suc i) (xs ++ (suc i, (a, r)) ∷ [])) → c'.is_out ≡ false
               → ((j ≡ i) × (d ≡ c')) ⊎ ((j ≢ i) × (slice_get s.cores.items j ≡ Some d)) → IsCoreAt l (xs ++ (suc i, (a, r)) ∷ []) (suc j) d
           core_now j d a r c' here out (inl h) =

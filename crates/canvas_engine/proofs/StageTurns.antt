@@ -74,22 +74,24 @@ module _ (l : Line) (p : ℕ) (s : Stage) (turn : HasTurn l p s) where
 
       pub skipped : ReadsBack (enveloped_by no_book) core.left → asked core.left ≡ end → HasEnded l xs p × Reached l n most (us ++ p ∷ []) xs s
       skipped back e =
-          let ended : HasEnded l xs p = subst (HasEnded l xs) same_number (has_ended l n most us xs s reached (p - 1) core here back e) in
-          (ended, record {
-            by_turns = record {
-              plan = reached.by_turns.plan;
-              opens_back = reached.by_turns.opens_back;
-              workers = each_more us p reached.by_turns.workers own;
-              turned = turned_skip l n us xs p reached.by_turns.turned ended;
-            };
-            runs = reached.runs;
-            queue_is = reached.queue_is;
-            plan_is = reached.plan_is;
-            table_is = reached.table_is;
-            many = reached.many;
-            cores_are = reached.cores_are;
-            count = reached.count;
-          })
+          let ended : HasEnded l xs p = subst (HasEnded l xs) same_number (has_ended l n most us xs s reached (p - 1) core here back e) in (
+            ended,
+            record {
+              by_turns = record {
+                plan = reached.by_turns.plan;
+                opens_back = reached.by_turns.opens_back;
+                workers = each_more us p reached.by_turns.workers own;
+                turned = turned_skip l n us xs p reached.by_turns.turned ended;
+              };
+              runs = reached.runs;
+              queue_is = reached.queue_is;
+              plan_is = reached.plan_is;
+              table_is = reached.table_is;
+              many = reached.many;
+              cores_are = reached.cores_are;
+              count = reached.count;
+            },
+          )
 
       pub stopped : ReadsBack (enveloped_by no_book) core.left → (asked core.left ≡ end → ⊥) → s.steps ≡ 0 → IsStopped l n most us s
       stopped back going none = record {
@@ -122,7 +124,7 @@ module _ (l : Line) (p : ℕ) (s : Stage) (turn : HasTurn l p s) where
         pub went : (s' : Stage) (core' : Standing) → Stepped more core s.queue s.table core' s'.queue s'.table → s'.cores.items ≡ slice_set s.cores.items (p - 1) core' → s.steps ≡ suc s'.steps → IsTurn true l n most us xs p s'
         went s' core' step put fewer =
             let as_put : IsPut l n most us xs s reached (p - 1) core here more more_so s.cores.items core' s'.cores.items =
-                (ap length put ∙ put_length s.cores.items (p - 1) core', λ j e h. put_at s.cores.items (p - 1) core' j e (ap (λ cs. slice_get cs j) (sym put) ∙ h)) in
+            (ap length put ∙ put_length s.cores.items (p - 1) core', λ j e h. put_at s.cores.items (p - 1) core' j e (ap (λ cs. slice_get cs j) (sym put) ∙ h)) in
             subst (λ q. IsTurn true l n most us xs q s') same_number
             (stepped l n most us xs s reached (p - 1) core here more more_so s' core' (subst (IsWorker n) (sym same_number) own) step as_put fewer)
 

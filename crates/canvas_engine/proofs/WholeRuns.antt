@@ -79,20 +79,22 @@ module _ (l : Line) (n most : ℕ) (ts : List ℕ) (rows : List State) (s : Stag
   pub whole_rows : 1 ≤ n → IsDone l n most ts s → IsWholeWithin l n ts most rows
   whole_rows some done =
       let by_turns = done.reached.by_turns in
-      let same : rows ≡ held_rows l done.steps = are ∙ ap (rows_of (count_line l)) done.reached.table_is in
-      (record {
-        run = record {
-          opens_back = by_turns.opens_back;
-          turns = ts ++ rounds n done.further;
-          further = done.further;
-          follow = refl;
-          steps = done.steps;
-          turned = by_turns.turned;
-          ended = done.ended;
-        };
-        held = same;
-        are = same ∙ states_are l n _ done.steps by_turns some done.ended;
-      }, omega (arith, done.reached.count))
+      let same : rows ≡ held_rows l done.steps = are ∙ ap (rows_of (count_line l)) done.reached.table_is in (
+        record {
+          run = record {
+            opens_back = by_turns.opens_back;
+            turns = ts ++ rounds n done.further;
+            further = done.further;
+            follow = refl;
+            steps = done.steps;
+            turned = by_turns.turned;
+            ended = done.ended;
+          };
+          held = same;
+          are = same ∙ states_are l n _ done.steps by_turns some done.ended;
+        },
+        omega (arith, done.reached.count),
+      )
 
   none_yet : (f : ℕ → State) (ks : List ℕ) → EachMay (map (λ k. None) ks) (map f ks)
   none_yet f [] = tt
@@ -139,3 +141,7 @@ never_stopped l n most ts (Halted Memory rows) plan e h = h
 never_stopped l n most ts (Halted Stopped None) plan e h = absurd h.1
 never_stopped l n most ts (Halted Stopped (Some report)) plan e h =
     let soon = stops_soon l plan n ts most h.0.0.0 (each_of (IsWorker n) ts h.0.1) h.1.run in absurd (omega (arith, soon, e))
+
+pub never_stopped_in : {T : Type 0} (l : Line) (n most : ℕ) (ts : List ℕ) (r : Result T RunFault) → IsPlan l → most ≡ suc (most_steps l n (length ts)) → IfErr r (IsFaultWithin l n ts most) → IfErr r (IsRunFault n ts (states (tree_of l)))
+never_stopped_in l n most ts (Ok x) plan e h = tt
+never_stopped_in l n most ts (Err f) plan e h = never_stopped l n most ts f plan e h

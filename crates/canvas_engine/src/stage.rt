@@ -102,11 +102,7 @@ fn step(
     }
 }
 
-fn publish_message(
-    alloc: Global,
-    queue: &mut PlainBroker,
-    message: &Message,
-) -> Result<(), Memory>
+fn publish_message(alloc: Global, queue: &mut PlainBroker, message: &Message) -> Result<(), Memory>
     ensures queue { OnOk result (queue.new ≡ queue.old ++ sealed message.now ∷ []) }
     ensures back { OnOk result (ReadsAs message.now) }
 {
@@ -120,11 +116,7 @@ fn publish_message(
 }
 
 /// Publishes messages in their order.
-fn publish_all(
-    alloc: Global,
-    queue: &mut PlainBroker,
-    messages: &[Message],
-) -> Result<(), Memory>
+fn publish_all(alloc: Global, queue: &mut PlainBroker, messages: &[Message]) -> Result<(), Memory>
     ensures queue { OnOk result (queue.new ≡ queue.old ++ map sealed messages.now) }
     ensures back { OnOk result (Each ReadsAs messages.now) }
 {
@@ -240,7 +232,13 @@ impl Stage {
             return Err(Cause::Stopped);
         }
         let more = self.tells_more(index);
-        match step(alloc, &mut self.cores[index], &mut self.queue, &mut self.table, more) {
+        match step(
+            alloc,
+            &mut self.cores[index],
+            &mut self.queue,
+            &mut self.table,
+            more,
+        ) {
             Ok(()) => {
                 self.steps -= 1;
                 Ok(true)

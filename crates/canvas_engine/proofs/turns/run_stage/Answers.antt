@@ -8,9 +8,11 @@ run_list-requires-clause-reached c =
     (c.args.stage.now.steps, starts c.args.plan.now c.args.workers c.args.stage.now c.open.new.self c.requires.planned c.requires.new c.in-Ok.ensures.queue c.in-Ok.ensures.back c.open.ensures.others.0 c.open.ensures.others.1 c.open.ensures.others.2)
 
 pub run_rounds-requires : goal.run_rounds-requires
-run_rounds-requires c =
-    (c.args.stage.now.steps, c.in-Ok-run_list.ensures.ok c.args.stage.now.steps
-    (starts c.args.plan.now c.args.workers c.args.stage.now c.open.new.self c.requires.planned c.requires.new c.in-Ok.ensures.queue c.in-Ok.ensures.back c.open.ensures.others.0 c.open.ensures.others.1 c.open.ensures.others.2))
+run_rounds-requires c = (
+  c.args.stage.now.steps,
+  c.in-Ok-run_list.ensures.ok c.args.stage.now.steps
+      (starts c.args.plan.now c.args.workers c.args.stage.now c.open.new.self c.requires.planned c.requires.new c.in-Ok.ensures.queue c.in-Ok.ensures.back c.open.ensures.others.0 c.open.ensures.others.1 c.open.ensures.others.2),
+)
 
 pub returns-in-Ok-run_list-clause-ok : goal.returns-in-Ok-run_list-clause-ok
 returns-in-Ok-run_list-clause-ok c =
