@@ -1,5 +1,5 @@
 -- The envelopes of messages in the queue, and that they read back.
-use Rattle.std.proofs.Common.{◌≡◌, ℕ, suc, ◌+◌, ◌<◌, List, [], ◌∷◌, ◌++◌, length, map, get_or, drop, Ok, refl, sym, ap, ◌∙◌, subst, append_assoc, add-one, drop-cons}
+use Rattle.std.proofs.Common.{◌≡◌, ℕ, suc, ◌+◌, ◌<◌, List, [], ◌∷◌, ◌++◌, length, map, get_or, drop, sym, ap, ◌∙◌, subst, append_assoc, add-one, drop-cons}
 use Rattle.canvas_sig.specs.Fields.{Text}
 use Rattle.serde_json.specs.Written.{compact_text}
 use Rattle.canvas_message.specs.Content.{Content}

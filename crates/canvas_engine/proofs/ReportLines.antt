@@ -1,5 +1,5 @@
 -- The lines of a report, one task after the other, and the values of its result.
-use Rattle.std.proofs.Common.{◌≡◌, Bool, ℕ, zero, suc, ◌+◌, ◌≤◌, ◌<◌, List, [], ◌∷◌, ◌++◌, length, drop, get_or, map, Option, Some, None, refl, sym, ap, ◌∙◌, append_assoc, append-nil, arith, add-one, drop-cons, length-append}
+use Rattle.std.proofs.Common.{◌≡◌, Bool, ℕ, zero, suc, ◌+◌, List, [], ◌∷◌, ◌++◌, length, drop, refl, sym, ap, ◌∙◌, append_assoc, append-nil, arith, length-append}
 use Rattle.std.proofs.lemmas.List.{drop_all}
 use Rattle.std.specs.Prelude.{slice_get, codes}
 use Rattle.canvas_rewrite.specs.Eval.{Rows, State, state_of, with_states}
@@ -42,16 +42,6 @@ pub all_written : (ns : List Text) (n : ℕ) (rows : Rows) (before all : Text) �
 all_written ns n rows before all long so_far =
     let none : drop n ns ≡ [] = drop_all n ns (omega (arith, long)) in
     sym (append-nil before) ∙ ap (λ xs. before ++ lines (counted_from (1 + n) xs) rows) (sym none) ∙ so_far
-
--- one more value behind a comma
-pub value_behind : (ks : List ℕ) (i k : ℕ) (rows : Rows) (before after all : Text) → i < length ks → k ≡ get_or ks i k → after ≡ before ++ (codes ", " ++ value_text (state_of k rows))
-    → before ++ listed_behind (with_states rows (drop i ks)) ≡ all → after ++ listed_behind (with_states rows (drop (i + 1) ks)) ≡ all
-value_behind ks i k rows before after all h is e so_far =
-    let here : drop i ks ≡ k ∷ drop (i + 1) ks = drop-cons ks i k h ∙ ap (λ x. x ∷ drop (suc i) ks) (sym is) ∙ ap (λ n. k ∷ drop n ks) (sym (add-one i)) in
-    let rest = listed_behind (with_states rows (drop (i + 1) ks)) in
-    ap (λ x. x ++ rest) e ∙ append_assoc before (codes ", " ++ value_text (state_of k rows)) rest
-    ∙ ap (λ x. before ++ x) (append_assoc (codes ", ") (value_text (state_of k rows)) rest)
-    ∙ ap (λ xs. before ++ listed_behind (with_states rows xs)) (sym here) ∙ so_far
 
 -- a first value, and those behind it
 pub first_value : (e : ℕ × State) (es : Rows) → value_text e.1 ++ listed_behind es ≡ listed (e ∷ es)

@@ -1,16 +1,15 @@
 -- Turns of a list and of rounds, one after the other.
-use Rattle.std.proofs.Common.{◌≡◌, ◌≢◌, ◌≤◌, ◌<◌, ◌+◌, ◌⊎◌, inl, inr, ℕ, zero, suc, Bool, true, false, ◌∷◌, [], List, ◌++◌, All, take, drop, length, length-append, get_or, refl, sym, ap, ◌∙◌, subst, append_assoc, append-nil, arith}
+use Rattle.std.proofs.Common.{◌≡◌, ◌≤◌, ◌<◌, ◌+◌, ◌⊎◌, inl, inr, ℕ, suc, Bool, true, false, ◌∷◌, [], List, ◌++◌, take, length, length-append, get_or, sym, ap, ◌∙◌, subst, append_assoc, arith}
 use Rattle.std.specs.Prelude.{◌||◌}
 use Rattle.std.proofs.Math.Nat.{eq-or-lt_of_le}
 use Rattle.std.proofs.Math.Seq.{take-suc}
 use Rattle.std.proofs.lemmas.List.{take_all}
 use Rattle.canvas_rewrite.specs.Frozen.{Line}
-use Rattle.canvas_runs.specs.Lists.{Each}
-use Rattle.canvas_runs.specs.Turns.{Step, IsWorker, HasEnded, Begins, round, rounds}
+use Rattle.canvas_runs.specs.Turns.{Step, IsWorker, HasEnded, round, rounds}
 use Rattle.canvas_runs.proofs.TurnEnds.{begins_list, begins_rotation, rounds_next}
 use Rattle.canvas_worker.specs.declared.cause.Cause.{Cause}
 use Rattle.canvas_worker.specs.declared.cause.Cause.TheVariants.{Memory, Stopped}
-use Rattle.canvas_engine.specs.Steps.{Reached, HasReached, IsTurn, IsHalt, IsStopped, IsPartOfRound, IsHaltInRound, IsEarlyEnd, IsDone}
+use Rattle.canvas_engine.specs.Steps.{Reached, HasReached, IsTurn, IsHalt, IsPartOfRound, IsHaltInRound, IsEarlyEnd, IsDone}
 use Rattle.canvas_engine.specs.declared.stage.Stage.{Stage}
 
 module _ (l : Line) (n most : ℕ) (us : List ℕ) (xs : List Step) where
@@ -20,9 +19,6 @@ module _ (l : Line) (n most : ℕ) (us : List ℕ) (xs : List Step) where
 
   turns_so : (i p : ℕ) → p ≡ suc i → (us ++ round i) ++ p ∷ [] ≡ us ++ round (suc i)
   turns_so i p e = append_assoc us (round i) (p ∷ []) ∙ ap (λ q. us ++ (round i ++ q ∷ [])) e
-
-  pub round_begins : (s : Stage) → Reached l n most us xs s → IsPartOfRound false l n most us xs 0 s.steps s
-  round_begins s reached = (subst (λ vs. Reached l n most vs xs s) (sym (append-nil us)) reached, λ p w. absurd (omega (arith, w.0, w.1)))
 
   ended_too : (i p : ℕ) → p ≡ suc i → ((q : ℕ) → IsWorker i q → HasEnded l xs q) → HasEnded l xs p → (q : ℕ) → IsWorker (suc i) q → HasEnded l xs q
   ended_too i p e before here q w = go (eq-or-lt_of_le w.1)
@@ -107,9 +103,6 @@ list_more b l n most ts i s s' h r turn =
     let next = turn_reached b l n most (take i ts) r.0 (get_or ts i 0) s' (turn n most (take i ts) r.0 r.1) in
     let up : suc i ≡ i + 1 = omega arith in
     subst (λ us. HasReached l n most us s') (sym (take-suc ts i 0 h) ∙ ap (λ j. take j ts) up) next
-
-pub round_reached : (b : Bool) (l : Line) (n most : ℕ) (us : List ℕ) (xs : List Step) (steps : ℕ) (s : Stage) → IsPartOfRound b l n most us xs n steps s → HasReached l n most (us ++ round n) s
-round_reached b l n most us xs steps s part = part_reached l n most us xs b n steps s part
 
 pub all_taken : (l : Line) (n most : ℕ) (ts : List ℕ) (i : ℕ) (s : Stage) → length ts ≤ i → HasReached l n most (take i ts) s → HasReached l n most ts s
 all_taken l n most ts i s h r = subst (λ us. HasReached l n most us s) (take_all i ts h) r

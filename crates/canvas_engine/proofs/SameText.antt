@@ -11,7 +11,7 @@ use Rattle.canvas_rewrite.specs.States.{states, rows_from}
 use Rattle.canvas_rewrite.proofs.RowNumbers.{states_in, states_listed}
 use Rattle.canvas_rewrite.proofs.SameReport.{same_report, same_report_of}
 use Rattle.canvas_engine.specs.Correct.{IsAsked, IsRunFault}
-use Rattle.canvas_engine.specs.Texts.{IsCanvasText, IsPlanFault, IsPlanOf, IsReadFault, IsTextFault}
+use Rattle.canvas_engine.specs.Texts.{IsCanvasText, IsPlanFault, IsPlanOf, IsTextFault}
 use Rattle.canvas_engine.specs.declared.fault.RunFault.{RunFault}
 use Rattle.canvas_engine.specs.declared.text.TextFault.{TextFault}
 use Rattle.canvas_engine.specs.declared.text.TextFault.TheVariants as a_fault
@@ -47,9 +47,3 @@ module _ (bytes : Text) (c : Tree) (all : Line) (plan : IsPlanOf bytes c all) wh
 
   pub rows_reported : (rows : Rows) (text : Text) → text ≡ report_of (tree_of all) rows → (x : Tree) × IsCanvasText bytes x × (text ≡ report_of (numbered x) rows)
   rows_reported rows text e = (c, plan.text, e ∙ ap (λ t. report_of t rows) plan.tree ∙ same_report_of c rows plan.same)
-
--- a text whose reading fails has that fault for a run too
-pub read_fault : (bytes : Text) (workers : ℕ) (turns : List ℕ) (f : TextFault) → IsReadFault bytes f → IsTextFault bytes workers turns f
-read_fault bytes workers turns (a_fault.Sig e) h = h
-read_fault bytes workers turns (a_fault.Run f) h = absurd h
-read_fault bytes workers turns a_fault.Memory h = tt

@@ -1,7 +1,6 @@
 -- What one ask of a core is, and what its answer leaves.
-use Rattle.std.proofs.Common.{◌≡◌, ◌≤◌, ◌<◌, ◌+◌, ◌⊎◌, inl, inr, ℕ, zero, suc, Bool, true, false, min, List, [], ◌∷◌, ◌++◌, Option, Some, None, Result, Ok, Err, OnOk, OnErr, refl, sym, ap, ◌∙◌, subst}
+use Rattle.std.proofs.Common.{◌≡◌, ◌+◌, inr, ℕ, zero, suc, Bool, false, min, List, [], ◌∷◌, Option, Some, None, Result, Ok, Err, OnOk, OnErr, refl, sym, ap, ◌∙◌, subst}
 use Rattle.std.specs.Prelude.{slice_get, if◌then◌else◌}
-use Rattle.canvas_task.specs.Apply.{IsInRange}
 use Rattle.canvas_task.specs.declared.outcome.Outcome.{Outcome}
 use Rattle.canvas_message.specs.Job.{store, publish, hand_in}
 use Rattle.canvas_message.specs.declared.envelope.Envelope.{Envelope}
@@ -9,32 +8,21 @@ use Rattle.canvas_backend.specs.declared.stored.Stored.{Stored}
 use Rattle.canvas_backend.specs.declared.stored.Stored.TheVariants.{First, Again}
 use Rattle.canvas_backend.specs.Backend as results
 use Rattle.canvas_backend.specs.Backend.{Results, first_or, count_of}
-use Rattle.canvas_backend.specs.Plain.{Shelf, held, IsPlainCall}
-use Rattle.canvas_backend.specs.Roster.{Roster}
+use Rattle.canvas_backend.specs.Plain.{Shelf, held}
 use Rattle.canvas_runs.specs.Book.{Book}
 use Rattle.canvas_runs.specs.Core as C
 use Rattle.canvas_runs.specs.Core.{ReadsBack, answered}
 use Rattle.canvas_runs.specs.Lists.{at}
 use Rattle.canvas_runs.specs.Turns.{queue_next, results_next, says_first}
-use Rattle.canvas_worker.specs.Asks.{Asked, Answer, shown, sent, is_first, replied, FoundInRange}
+use Rattle.canvas_worker.specs.Asks.{Asked, Answer, shown, sent, is_first, FoundInRange}
 use Rattle.canvas_worker.specs.Books.{no_book, book_in}
 use Rattle.canvas_worker.specs.Enveloped.{enveloped_by}
 use Rattle.canvas_worker.specs.Standing.{Standing, Left, asked, after_reply, handed, unsent, held_out, drops, most}
-use Rattle.canvas_worker.specs.declared.ask.Ask.{Ask}
-use Rattle.canvas_worker.specs.declared.ask.Ask.TheVariants.{Take, Publish, Store, Part, Read, Rest, End}
+use Rattle.canvas_worker.specs.declared.ask.Ask.TheVariants.{Store, Part, Read}
 use Rattle.canvas_worker.specs.declared.ask.Reply.TheVariants as R
-use Rattle.canvas_engine.specs.Steps.{AnswersNow, AreInRange, Stepped, Tried, IsTried}
+use Rattle.canvas_engine.specs.Steps.{AnswersNow, AreInRange, Stepped, IsTried}
 
 -- ---- which ask is shown
-
-pub is_take : (a : Asked) → Take ≡ shown a → a ≡ C.take
-is_take C.take e = refl
-is_take (C.send x) e = absurd cc
-is_take (C.keep t o) e = absurd cc
-is_take (C.part g t) e = absurd cc
-is_take (C.read g i) e = absurd cc
-is_take C.pause e = absurd cc
-is_take C.end e = absurd cc
 
 pub is_store : (t : ℕ) (o : Outcome) (a : Asked) → Store t o ≡ shown a → a ≡ C.keep t o
 is_store t o C.take e = absurd cc
@@ -62,27 +50,6 @@ is_read g i (C.part h u) e = absurd cc
 is_read g i (C.read h j) e = cc
 is_read g i C.pause e = absurd cc
 is_read g i C.end e = absurd cc
-
-pub is_pause : (a : Asked) → Rest ≡ shown a → a ≡ C.pause
-is_pause C.take e = absurd cc
-is_pause (C.send x) e = absurd cc
-is_pause (C.keep u w) e = absurd cc
-is_pause (C.part h u) e = absurd cc
-is_pause (C.read h i) e = absurd cc
-is_pause C.pause e = refl
-is_pause C.end e = absurd cc
-
-pub is_end : (a : Asked) → End ≡ shown a → a ≡ C.end
-is_end C.take e = absurd cc
-is_end (C.send x) e = absurd cc
-is_end (C.keep u w) e = absurd cc
-is_end (C.part h u) e = absurd cc
-is_end (C.read h i) e = absurd cc
-is_end C.pause e = absurd cc
-is_end C.end e = refl
-
-pub is_rest : (a : Asked) → a ≡ C.pause → shown a ≡ Rest
-is_rest a e = ap shown e
 
 pub is_send : (x : Envelope) (a : Asked) → sent a ≡ Some x → a ≡ C.send x
 is_send x C.take e = absurd cc
@@ -149,15 +116,6 @@ module _ {E : Type 0} (result : Result (Unit {0}) E) (more : Bool) (c c' : Stand
           table_is = t ∙ ap (results_next (held table)) (sym is);
         }),
       )
-
--- nothing was stored
-pub not_stored : {E : Type 0} (result : Result (Unit {0}) E) (more : Bool) (c : Standing) (queue : List Envelope) (table : Shelf) → OnErr result (IsTried more c queue table table)
-not_stored (Ok u) more c queue table = tt
-not_stored (Err x) more c queue table = (refl, inl refl)
-
-pub for_each : {E : Type 0} (result : Result (Unit {0}) E) (P : Bool → Type 0) (more : Bool) → OnOk result ((b : Bool) → P b) → OnOk result (P more)
-for_each (Ok u) P more h = h more
-for_each (Err x) P more h = tt
 
 pub of_each : {E : Type 0} (result : Result (Unit {0}) E) (P : Bool → Type 0) → ((b : Bool) → OnOk result (P b)) → OnOk result ((b : Bool) → P b)
 of_each (Ok u) P h = h

@@ -1,29 +1,27 @@
 -- One answered ask of one worker is one more step of the run.
-use Rattle.std.proofs.Common.{◌≡◌, ◌≢◌, ◌⊎◌, inl, inr, ℕ, zero, suc, ◌+◌, ◌<◌, Bool, true, false, List, [], ◌∷◌, ◌++◌, map, length, length-append, Option, Some, None, refl, sym, ap, ◌∙◌, subst, eqb, arith}
+use Rattle.std.proofs.Common.{◌≡◌, ◌≢◌, ◌⊎◌, inl, inr, ℕ, suc, ◌+◌, Bool, true, false, List, [], ◌∷◌, ◌++◌, length, length-append, Some, refl, sym, ap, ◌∙◌, subst, eqb, arith}
 use Rattle.std.specs.Prelude.{◌||◌, slice_get}
 use Rattle.std.proofs.lemmas.Bool.{eqb-true, eqb-false}
 use Rattle.std.specs.List.{list_any}
 use Rattle.canvas_task.specs.declared.outcome.Outcome.{Outcome}
 use Rattle.canvas_rewrite.specs.Frozen.{Line}
 use Rattle.canvas_rewrite.specs.FrozenView.{Load}
-use Rattle.canvas_rewrite.specs.Planned.{IsPlan}
 use Rattle.canvas_message.specs.Content.{Content}
 use Rattle.canvas_message.specs.declared.envelope.Envelope.{Envelope}
 use Rattle.canvas_backend.specs.Backend.{Results}
-use Rattle.canvas_backend.specs.Plain.{Shelf, held}
-use Rattle.canvas_backend.specs.Roster.{Roster, roster_of, members}
-use Rattle.canvas_runs.specs.Book.{Book, book_on, book_of}
-use Rattle.canvas_runs.specs.Core.{Ask, Reply, take, send, keep, part, read, pause, end, taken, sent, kept, counted, found, rested, State, taking, resting, over, failed, owning, doing, reading, ask, answered, left_after, Suits, ReadsBack, IsCoreRun}
+use Rattle.canvas_backend.specs.Plain.{held}
+use Rattle.canvas_backend.specs.Roster.{Roster, roster_of}
+use Rattle.canvas_runs.specs.Book.{book_of}
+use Rattle.canvas_runs.specs.Core.{take, send, keep, part, read, pause, end, taken, sent, kept, counted, found, rested, State, taking, resting, over, failed, owning, doing, reading, ask, answered, left_after, Suits, ReadsBack, IsCoreRun}
 use Rattle.canvas_runs.specs.Lists.{Each, by}
-use Rattle.canvas_runs.specs.TurnLaws.{ByTurns}
 use Rattle.canvas_runs.specs.Turns.{Step, IsWorker, Turned, Answers, HasEnded, left, queue_after, queue_next, results_after, results_next, holds_more, some_inside, is_queued, is_inside as is_worker_inside}
 use Rattle.canvas_runs.specs.Worker.{worker}
-use Rattle.canvas_runs.proofs.Turning.{by_more, by_other, left_more, core_more, queue_more, results_more, turned_skip, turned_step}
+use Rattle.canvas_runs.proofs.Turning.{by_more, by_other, left_more, core_more, queue_more, results_more, turned_step}
 use Rattle.canvas_worker.specs.Asks.{Asked, Answer}
 use Rattle.canvas_worker.specs.Books.{no_book, book_in}
-use Rattle.canvas_worker.specs.Cores.{CoresAreWorkers, GoTogether, IsAlike}
+use Rattle.canvas_worker.specs.Cores.{GoTogether, IsAlike}
 use Rattle.canvas_worker.specs.Enveloped.{enveloped, enveloped_by}
-use Rattle.canvas_worker.specs.Standing.{Standing, Left, asked, after_reply, is_inside}
+use Rattle.canvas_worker.specs.Standing.{Standing, Left, asked, is_inside}
 use Rattle.canvas_worker.proofs.Books.{books_alike}
 use Rattle.canvas_worker.proofs.CoreLaw.{cores_are_workers}
 use Rattle.canvas_engine.specs.Steps.{AnswersNow, Stepped, IsTurn, IsCoreAt, Reached}

@@ -1,25 +1,21 @@
 -- A worker's turn: what the queue, the table and the worker's core were tells what may be asked, and what is there after it.
-use Rattle.std.proofs.Common.{◌≡◌, ◌≢◌, ◌≤◌, ◌<◌, ◌+◌, ◌-◌, ◌⊎◌, inl, inr, ℕ, zero, suc, Bool, true, false, List, [], ◌∷◌, ◌++◌, length, Option, Some, None, refl, sym, ap, ◌∙◌, subst, arith}
+use Rattle.std.proofs.Common.{◌≡◌, ◌≢◌, ◌<◌, ◌-◌, ◌⊎◌, inl, inr, ℕ, zero, suc, Bool, true, false, List, [], ◌∷◌, ◌++◌, length, Some, refl, sym, ap, ◌∙◌, subst, arith}
 use Rattle.std.specs.Prelude.{◌||◌, slice_get, slice_set}
 use Rattle.std.specs.List.{list_any}
-use Rattle.canvas_task.specs.declared.outcome.Outcome.{Outcome}
 use Rattle.canvas_rewrite.specs.Frozen.{Line}
-use Rattle.canvas_message.specs.declared.envelope.Envelope.{Envelope}
 use Rattle.canvas_backend.specs.Backend.{Results}
-use Rattle.canvas_backend.specs.Plain.{Shelf, held}
+use Rattle.canvas_backend.specs.Plain.{held}
 use Rattle.canvas_backend.specs.Roster.{Roster, roster_of}
-use Rattle.canvas_runs.specs.Core.{take, send, keep, part, read, pause, end, ReadsBack, ask}
+use Rattle.canvas_runs.specs.Core.{take, send, keep, part, read, pause, end, ReadsBack}
 use Rattle.canvas_runs.specs.TurnLaws.{Answerable}
-use Rattle.canvas_runs.specs.Turns.{Step, IsWorker, HasEnded, results_after, results_next, left, holds_more, is_queued}
-use Rattle.canvas_runs.specs.Worker.{worker}
+use Rattle.canvas_runs.specs.Turns.{Step, IsWorker, HasEnded, results_after, results_next, holds_more, is_queued}
 use Rattle.canvas_runs.proofs.TurnLaw.{next_answerable, held_range}
 use Rattle.canvas_runs.proofs.Turning.{results_more, turned_skip}
-use Rattle.canvas_worker.specs.Asks.{Asked, Answer}
+use Rattle.canvas_worker.specs.Asks.{Asked}
 use Rattle.canvas_worker.specs.Books.{no_book}
 use Rattle.canvas_worker.specs.Enveloped.{enveloped_by}
 use Rattle.canvas_worker.specs.Standing.{Standing, asked, is_inside}
-use Rattle.canvas_worker.specs.declared.cause.Cause.TheVariants.{Memory, Stopped}
-use Rattle.canvas_engine.specs.Steps.{MayAsk, AreInRange, Stepped, IsTried, Tried, Reached, HasReached, IsTurn, IsHalt, IsHalfway, IsStopped}
+use Rattle.canvas_engine.specs.Steps.{MayAsk, AreInRange, Stepped, IsTried, Tried, Reached, HasReached, IsTurn, IsHalfway, IsStopped}
 use Rattle.canvas_engine.specs.declared.stage.Stage.{Stage}
 use Rattle.canvas_engine.proofs.StageSteps.{IsPut, each_more, has_ended, not_ended, same_ask, more_is, stepped, turned_so}
 

@@ -1,5 +1,5 @@
 -- A run from its first publish to its end, and the rows that it leaves.
-use Rattle.std.proofs.Common.{◌≡◌, ◌≢◌, ◌≤◌, ◌<◌, ◌+◌, ◌*◌, ◌^◌, ◌⊎◌, inl, inr, ℕ, zero, suc, Bool, false, All, List, [], ◌∷◌, ◌++◌, map, length, get_or, Option, Some, None, Result, Ok, Err, OnOk, IfErr, refl, sym, ap, ◌∙◌, subst, arith}
+use Rattle.std.proofs.Common.{◌≡◌, ◌≤◌, ◌⊎◌, inl, inr, ℕ, zero, suc, All, List, [], ◌∷◌, ◌++◌, map, length, get_or, Some, None, Result, Ok, Err, OnOk, IfErr, refl, sym, ap, ◌∙◌, subst, arith}
 use Rattle.std.specs.Prelude.{slice_get}
 use Rattle.std.proofs.lemmas.Option.{slice_get_within}
 use Rattle.canvas_rewrite.specs.Eval.{State}
@@ -8,23 +8,22 @@ use Rattle.canvas_rewrite.proofs.Numbered.{count_elements}
 use Rattle.canvas_rewrite.specs.Planned.{IsPlan}
 use Rattle.canvas_rewrite.specs.States.{numbers_from, states}
 use Rattle.canvas_message.specs.Effects.{first_messages}
-use Rattle.canvas_backend.specs.Backend.{Results, no_results}
+use Rattle.canvas_backend.specs.Backend.{no_results}
 use Rattle.canvas_backend.specs.Plain.{held}
-use Rattle.canvas_backend.specs.Roster.{roster_of}
 use Rattle.canvas_runs.specs.Going.{most_steps}
-use Rattle.canvas_runs.specs.Lists.{Each, by}
+use Rattle.canvas_runs.specs.Lists.{Each}
 use Rattle.canvas_runs.specs.Law.{its_state}
 use Rattle.canvas_runs.specs.Rows.{EachMay}
-use Rattle.canvas_runs.specs.TurnLaws.{ByTurns, held_rows}
-use Rattle.canvas_runs.specs.Turns.{Step, IsWorker, FirstsRead, all_taken, results_after, rounds}
+use Rattle.canvas_runs.specs.TurnLaws.{held_rows}
+use Rattle.canvas_runs.specs.Turns.{IsWorker, FirstsRead, all_taken, rounds}
 use Rattle.canvas_runs.specs.Worker.{sealed}
 use Rattle.canvas_runs.proofs.TurnEnds.{stops_soon}
 use Rattle.canvas_runs.proofs.TurnLaw.{states_are, states_may}
 use Rattle.canvas_worker.specs.Standing.{Standing, begun}
 use Rattle.canvas_worker.specs.declared.cause.Cause.{Cause}
 use Rattle.canvas_worker.specs.declared.cause.Cause.TheVariants.{Memory, Stopped}
-use Rattle.canvas_engine.specs.Correct.{AreTurns, IsAsked, IsWhole, IsWholeWithin, IsCut, GivesRows, IsRunFault, IsFaultWithin}
-use Rattle.canvas_engine.specs.Steps.{rows_of, IsNew, AreNew, IsCoreAt, Reached, IsHalfway, IsStopped, IsEarlyEnd, IsDone}
+use Rattle.canvas_engine.specs.Correct.{IsAsked, IsWholeWithin, IsCut, IsRunFault, IsFaultWithin}
+use Rattle.canvas_engine.specs.Steps.{rows_of, IsNew, AreNew, IsCoreAt, Reached, IsHalfway, IsEarlyEnd, IsDone}
 use Rattle.canvas_engine.specs.declared.report.Report.{Report}
 use Rattle.canvas_engine.specs.declared.fault.RunFault.{RunFault}
 use Rattle.canvas_engine.specs.declared.fault.RunFault.TheVariants.{BadWorkers, BadTurn, Halted}
@@ -57,9 +56,6 @@ starts l n old s plan new queue back table cores steps = record {
   cores_are = λ i c here. new_core l old.cores.items new.new i c (ap (λ cs. slice_get cs.items i) (sym cores) ∙ here);
   count = omega (arith, steps);
 }
-
-pub unopened : (l : Line) (n most : ℕ) (ts : List ℕ) (old s : Stage) → IsNew l n old → s.table ≡ old.table → IsEarlyEnd Memory l n most ts s
-unopened l n most ts old s new table = (ap (λ t. t.plan) table ∙ new.plan_is, inl (ap held table ∙ new.table_is))
 
 -- ---- how it ends
 

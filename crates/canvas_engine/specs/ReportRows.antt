@@ -1,5 +1,5 @@
 -- Pieces of a report, as they are written one after the other.
-use Rattle.std.specs.Prelude.{ℕ, List, [], ◌∷◌, ◌++◌, Option, Some, None, codes}
+use Rattle.std.specs.Prelude.{ℕ, [], ◌∷◌, ◌++◌, Option, Some, None, codes}
 use Rattle.canvas_rewrite.specs.Eval.{Rows, state_of}
 use Rattle.canvas_rewrite.specs.Report.{Text, line, value_text}
 

@@ -1,5 +1,5 @@
 -- Where a run on one thread stands, and what one ask of one of its workers changes.
-use Rattle.std.specs.Prelude.{◌≡◌, ◌≤◌, ◌<◌, ◌+◌, ◌⊎◌, ℕ, Bool, true, false, suc, IsTrue, All, List, [], ◌∷◌, ◌++◌, map, length, Option, Some, None, Ok, slice_get}
+use Rattle.std.specs.Prelude.{◌≡◌, ◌≤◌, ◌<◌, ◌+◌, ◌⊎◌, ℕ, Bool, true, false, suc, IsTrue, All, List, [], ◌∷◌, ◌++◌, map, length, Some, None, Ok, slice_get}
 use Rattle.canvas_task.specs.Apply.{IsInRange}
 use Rattle.canvas_task.specs.declared.outcome.Outcome.{Outcome}
 use Rattle.canvas_rewrite.specs.Eval.{State}
@@ -10,9 +10,9 @@ use Rattle.canvas_backend.specs.Backend.{Results, no_results, first_or, count_of
 use Rattle.canvas_backend.specs.Plain.{Shelf, held}
 use Rattle.canvas_backend.specs.Roster.{Roster, roster_of, members, is_chord, is_member}
 use Rattle.canvas_broker.specs.Broker as broker
-use Rattle.canvas_runs.specs.Core.{take, send, keep, part, read, pause, end, taken, sent, kept, counted, found, rested, taking, left_after, ReadsBack, IsCoreRun}
+use Rattle.canvas_runs.specs.Core.{take, send, keep, part, read, pause, taken, sent, kept, counted, found, rested, taking, left_after, ReadsBack, IsCoreRun}
 use Rattle.canvas_runs.specs.Lists.{by, at}
-use Rattle.canvas_runs.specs.Turns.{Step, Turned, HasEnded, IsWorker, AllEnded, Begins, round, rounds, queue_after, queue_next, results_after, results_next, says_first}
+use Rattle.canvas_runs.specs.Turns.{Step, HasEnded, IsWorker, AllEnded, Begins, round, rounds, queue_after, queue_next, results_after, results_next, says_first}
 use Rattle.canvas_runs.specs.TurnLaws.{ByTurns}
 use Rattle.canvas_runs.specs.Worker.{reading, sealed}
 use Rattle.canvas_message.specs.Content.{Content}

@@ -1,5 +1,5 @@
 -- The report of a text: of the canvas that it reads as; or why there is none.
-use Rattle.std.specs.Prelude.{◌≡◌, ℕ, List, Result, Ok, Err}
+use Rattle.std.specs.Prelude.{◌≡◌, ℕ, List, Ok, Err}
 use Rattle.canvas_sig.specs.CanvasText.{reading}
 use Rattle.canvas_sig.specs.Fields.{Text}
 use Rattle.canvas_sig.specs.Normal.{normal}

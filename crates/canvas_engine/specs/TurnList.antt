@@ -1,11 +1,11 @@
 -- The text of a list of turns: the decimal numbers of workers, with a comma between two.
-use Rattle.std.specs.Prelude.{◌≡◌, ◌==◌, ℕ, All, Bool, List, [], ◌∷◌, map, Option, Some, None}
+use Rattle.std.specs.Prelude.{◌≡◌, ◌==◌, ℕ, All, Bool, List, [], ◌∷◌, map, None}
 use Rattle.std.specs.Fmt.{decimal}
 use Rattle.std.specs.List.{slice_split}
 use Rattle.canvas_runs.specs.Turns.{IsWorker}
 use Rattle.canvas_worker.specs.declared.cause.Cause.TheVariants.{Memory}
 use Rattle.canvas_engine.specs.declared.fault.RunFault.{RunFault}
-use Rattle.canvas_engine.specs.declared.fault.RunFault.TheVariants.{BadWorkers, BadTurn, Halted}
+use Rattle.canvas_engine.specs.declared.fault.RunFault.TheVariants.{BadTurn, Halted}
 
 abbrev pub is_comma : ℕ → Bool
 is_comma b = b == 44

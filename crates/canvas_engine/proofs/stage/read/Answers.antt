@@ -1,5 +1,4 @@
-use Rattle.std.proofs.Common.{◌≡◌, ◌≤◌, Bool, List, Some, OnOk, refl, sym, ap, ◌∙◌, subst}
-use Rattle.canvas_message.specs.declared.envelope.Envelope.{Envelope}
+use Rattle.std.proofs.Common.{◌≤◌, refl, sym, ◌∙◌, subst}
 use Rattle.canvas_backend.specs.Plain.{held}
 use Rattle.canvas_backend.specs.Roster.{members}
 use Rattle.canvas_runs.specs.Core as C

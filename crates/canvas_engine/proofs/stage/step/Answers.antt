@@ -1,4 +1,3 @@
-use Rattle.std.proofs.Common.{sym, ap, refl}
 use Rattle.canvas_runs.specs.Core as C
 use Rattle.canvas_worker.specs.Asks.{is_first}
 use Rattle.canvas_worker.specs.Standing.{asked}

@@ -1,5 +1,4 @@
 use Rattle.std.proofs.Common.{◌≡◌, subst, IfOk}
-use Rattle.canvas_sig.specs.Normal.{normal}
 use Rattle.canvas_sig.specs.Tree.{Tree, numbered}
 use Rattle.canvas_rewrite.specs.Frozen.{tree_of}
 use Rattle.canvas_rewrite.specs.Same.{IsSame}

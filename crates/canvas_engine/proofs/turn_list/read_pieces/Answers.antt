@@ -1,7 +1,5 @@
-use Rattle.std.proofs.Common.{◌≡◌, ◌++◌, ◌∷◌, [], ◌∙◌, ap, sym, map, rules}
+use Rattle.std.proofs.Common.{◌++◌, ◌∙◌, ap, sym, map, rules}
 use Rattle.std.specs.Fmt.{decimal}
-use Rattle.std.specs.List.{slice_split}
-use Rattle.canvas_engine.specs.TurnList.{is_comma}
 use Rattle.canvas_engine.proofs.TurnTexts.{read_more, read_last, none_here, pieces_are}
 use Rattle.canvas_engine.proofs.turn_list.read_pieces.Goals as goal
 

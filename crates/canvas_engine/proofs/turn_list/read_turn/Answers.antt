@@ -1,4 +1,4 @@
-use Rattle.std.proofs.Common.{sym, ◌∙◌, arith}
+use Rattle.std.proofs.Common.{arith}
 use Rattle.canvas_engine.proofs.TurnTexts.{not_plain, is_read, only_that, not_read, positive}
 use Rattle.canvas_engine.proofs.turn_list.read_turn.Goals as goal
 

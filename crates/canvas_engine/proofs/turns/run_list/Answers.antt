@@ -1,4 +1,4 @@
-use Rattle.std.proofs.Common.{ℕ, take, drop, get_or, arith, ap, sym, subst}
+use Rattle.std.proofs.Common.{take, drop}
 use Rattle.std.proofs.lemmas.List.{take-append-drop}
 use Rattle.canvas_engine.proofs.RoundTurns.{all_taken, halt_in_list, list_more}
 use Rattle.canvas_engine.proofs.turns.run_list.Goals as goal

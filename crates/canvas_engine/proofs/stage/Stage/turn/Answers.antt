@@ -1,10 +1,10 @@
-use Rattle.std.proofs.Common.{◌≡◌, ◌-◌, Some, refl, sym, subst, arith}
+use Rattle.std.proofs.Common.{◌≡◌, ◌-◌, Some, refl, subst}
 use Rattle.std.specs.Prelude.{slice_get}
 use Rattle.std.proofs.lemmas.Option.{slice_get_read}
-use Rattle.canvas_runs.specs.Core.{end, ReadsBack}
+use Rattle.canvas_runs.specs.Core.{ReadsBack}
 use Rattle.canvas_worker.specs.Books.{no_book}
 use Rattle.canvas_worker.specs.Enveloped.{enveloped_by}
-use Rattle.canvas_worker.specs.Standing.{Standing, asked}
+use Rattle.canvas_worker.specs.Standing.{Standing}
 use Rattle.canvas_engine.proofs.StageTurns.{is_place, not_out, skipped, stopped, may_ask, held_in_range, went, halfway, same_core, one_fewer}
 use Rattle.canvas_engine.proofs.stage.Stage.turn.Goals as goal
 
