@@ -17,7 +17,7 @@ use canvas_task::{Fault, ListOf, Memory, Outcome};
 use std::alloc::Global;
 
 /// The most workers of a run.
-const WORKERS: u32 = 16;
+pub(crate) const WORKERS: u32 = 16;
 
 /// A turn of each worker, from the first to the last. Whether an ask was answered.
 fn run_round(alloc: Global, stage: &mut Stage, plan: &Plan, workers: u32) -> Result<bool, Cause>
@@ -102,7 +102,7 @@ fn run_stage(
 }
 
 /// Rows that hold nothing yet, one for each task.
-fn new_rows(alloc: Global, plan: &Plan) -> Result<Vec<Option<Outcome>>, Memory>
+pub(crate) fn new_rows(alloc: Global, plan: &Plan) -> Result<Vec<Option<Outcome>>, Memory>
     ensures rows { IfOk result (λ rows. length rows.items ≡ count_line plan.now) }
     ensures planned { IsPlan plan.now }
 {
