@@ -11,3 +11,4 @@ pub mod ReadRows
 pub mod WholeRuns
 pub mod Slots
 pub mod ThreadRuns
+pub mod SeatRows

@@ -14,10 +14,10 @@ use Rattle.canvas_runs.specs.Calls.{BrokerCall, BackendCall}
 use Rattle.canvas_runs.specs.Crew.{Mate, Splits, Joins, SplitSeats, JoinSeats}
 use Rattle.canvas_runs.specs.Following.{Pass, Seat, Makes, Serves, Followed, begins, IsDone as IsEnded}
 use Rattle.canvas_runs.specs.Lists.{Each}
-use Rattle.canvas_worker.specs.Workers.{Finished, tally_of}
+use Rattle.canvas_worker.specs.Finished.{Finished}
 use Rattle.canvas_worker.specs.declared.record.Record.{Record}
 use Rattle.canvas_engine.specs.Crews.{numbered_counts, tallies_from}
-use Rattle.canvas_engine.specs.Slots.{IsReady, IsPart, Parts, Leaves, Ran, AllRan, IsDone, IsWell, IsOf, AreOf, Takes, tally_in}
+use Rattle.canvas_engine.specs.Slots.{HasHands, IsReady, IsPart, Parts, Leaves, Ran, AllRan, IsDone, IsWell, IsOf, AreOf, Takes, tally_in}
 use Rattle.canvas_engine.specs.declared.records.Tally.{Tally}
 use Rattle.canvas_engine.specs.declared.slot.Post.{Post}
 use Rattle.canvas_engine.specs.declared.slot.Post.TheVariants.{Ready, Done, Lost}
@@ -60,8 +60,10 @@ each_ran plan (x ∷ xs) (y ∷ ys) n f = (f 0 x (omega arith), each_ran plan xs
 
 -- ---- the workers of a run
 
-Made : Roster → ℕ → Post → Post → Type 0
-Made plan k x y = (q : Pass) × (t : Seat) × (x ≡ Ready q t) × (r : Record) × (y ≡ Done r) × Finished plan k q t r
+-- what a worker left is of the broker and of the backend of which its pass and its seat were
+pub finished_of : (plan : Roster) (k : ℕ) (q : Pass) (t : Seat) (r : Record) → Finished plan k q t r → (r.pass.of ≡ q.of) × (r.seat.of ≡ t.of)
+finished_of plan k q t r f =
+    (ap (λ (x : Pass). x.of) f.pass_is ∙ makes_of q f.ended.pass f.followed.made f.followed.makes, ap (λ (x : Seat). x.of) f.seat_is ∙ serves_of plan t f.ended.seat _ f.followed.serves)
 
 -- a worker that was ready and is done has finished
 finished : (plan : Roster) (k : ℕ) (x y : Post) (q : Pass) (t : Seat) (r : Record) → x ≡ Ready q t → y ≡ Done r → Leaves plan k x y → Finished plan k q t r
@@ -72,13 +74,18 @@ left_of (Done r) d = (r, refl)
 left_of (Ready q t) d = absurd d
 left_of Lost d = absurd d
 
+ready_of : (b : SegId Global) (d : TableId) (x : Post) → HasHands b d x → (q : Pass) × (t : Seat) × (x ≡ Ready q t) × (q.of ≡ b) × (t.of ≡ d)
+ready_of b d (Ready q t) h = (q, t, refl, h.0, h.1)
+ready_of b d (Done r) h = absurd h
+ready_of b d Lost h = absurd h
+
 is_of : (b : SegId Global) (d : TableId) (plan : Roster) (before after : Slot) → IsReady b d before → Ran plan before after → IsDone after.post → IsOf b d after.post
-is_of b d plan before after ready ran is =
+is_of b d plan before after hands ran is =
+    let ready = ready_of b d before.post hands in
     let done = left_of after.post is in
     let f : Finished plan before.number ready.0 ready.1 done.0 = finished plan before.number before.post after.post ready.0 ready.1 done.0 ready.2 done.1 ran.1 in
-    let pass : done.0.pass.of ≡ b = ap (λ (x : Pass). x.of) (sym f.pass) ∙ (makes_of ready.0 f.ended.pass f.followed.made f.followed.makes ∙ ready.3) in
-    let seat : done.0.seat.of ≡ d = ap (λ (x : Seat). x.of) (sym f.seat) ∙ (serves_of plan ready.1 f.ended.seat _ f.followed.serves ∙ ready.4) in
-    subst (λ p. IsOf b d p) (sym done.1) (pass, seat)
+    let of = finished_of plan before.number ready.0 ready.1 done.0 f in
+    subst (λ p. IsOf b d p) (sym done.1) (of.0 ∙ ready.3, of.1 ∙ ready.4)
 
 pub are_of : (b : SegId Global) (d : TableId) (plan : Roster) (before after : List Slot) → All (IsReady b d) before → EachRan plan before after → All (λ s. IsDone s.post) after → AreOf b d after
 are_of b d plan [] [] a r f = tt
@@ -88,7 +95,7 @@ are_of b d plan (x ∷ xs) (y ∷ ys) a r f =
     (is_of b d plan x y (All-head (IsReady b d) x xs a) r.0 (All-head (λ s. IsDone s.post) y ys f), are_of b d plan xs ys (All-tail (IsReady b d) x xs a) r.1 (All-tail (λ s. IsDone s.post) y ys f))
 
 tally_of_done : (k : ℕ) (plan : Roster) (q : Pass) (t : Seat) (slot : Slot) (r : Record) → slot.number ≡ k → slot.post ≡ Done r → (f : Finished plan k q t r) → tally_in slot ≡ numbered_counts k f.ended.tally
-tally_of_done k plan q t slot r n e f = ap (λ p. tally_in (record { number = slot.number; post = p })) e ∙ (ap (λ m. tally_in (record { number = m; post = Done r })) n ∙ ap (λ c. numbered_counts k c) (sym f.tally))
+tally_of_done k plan q t slot r n e f = ap (λ p. tally_in (record { number = slot.number; post = p })) e ∙ (ap (λ m. tally_in (record { number = m; post = Done r })) n ∙ ap (λ c. numbered_counts k c) f.counts)
 
 pub record IsCrewOf (plan : Roster) (k : ℕ) (p : Pass) (s : Seat) (p' : Pass) (s' : Seat) (q : Pass) (t : Seat) (q' : Pass) (t' : Seat) (after : List Slot) (ms : List (Mate plan)) : Type 0 where
   pub count : length ms ≡ length after
@@ -120,9 +127,9 @@ crew_of plan k (x ∷ xs) (y ∷ ys) p p' s s' q q' t t' m r j =
       record {
         count = ap suc c.count;
         splits = (m.0, part.1.3, c.splits);
-        joins = (j.2, subst (λ (o : Pass). passes.Joined q o j.2) (sym f.pass) j.4, j.5, c.joins);
+        joins = (j.2, subst (λ (o : Pass). passes.Joined q o j.2) f.pass_is j.4, j.5, c.joins);
         seat_splits = (m.1, part.1.4, c.seat_splits);
-        seat_joins = (j.3, subst (λ (o : Seat). seats.Joined plan t o j.3) (sym f.seat) j.6, c.seat_joins);
+        seat_joins = (j.3, subst (λ (o : Seat). seats.Joined plan t o j.3) f.seat_is j.6, c.seat_joins);
         tallies = ap (λ a. a ∷ map tally_in ys) (tally_of_done k plan own own_seat y left (r.0.0 ∙ part.0) j.1 f) ∙ ap (λ l. numbered_counts k f.ended.tally ∷ l) c.tallies;
         done = λ w. (f.done (well_done y.post left j.1 (All-head (λ x. IsWell x.post) y ys w)), c.done (All-tail (λ x. IsWell x.post) y ys w));
       },

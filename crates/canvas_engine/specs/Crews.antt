@@ -30,6 +30,7 @@ pub record IsStart (l : Line) (n : ℕ) (s : Start) : Type 0 where
   pub envelopes : s.envelopes.items ≡ map sealed (first_messages l)
   pub back : FirstsRead l
   pub rows : length s.rows.items ≡ count_line l
+  pub pending : All (λ r. r ≡ None) s.rows.items
   pub tallies : s.tallies.items ≡ nothing_counted 0 ∷ []
 
 -- the workers of this queue and this table, from the splits to the joins, with the first messages published between

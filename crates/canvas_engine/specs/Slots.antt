@@ -11,7 +11,7 @@ use Rattle.canvas_backend.specs.Callers as seats
 use Rattle.canvas_backend.specs.Roster.{Roster}
 use Rattle.canvas_broker.specs.Callers as passes
 use Rattle.canvas_runs.specs.Following.{Pass, Seat}
-use Rattle.canvas_worker.specs.Workers.{Finished}
+use Rattle.canvas_worker.specs.Finished.{Finished}
 use Rattle.canvas_worker.specs.declared.record.Record.{Record}
 use Rattle.canvas_engine.specs.declared.records.Tally.{Tally}
 use Rattle.canvas_engine.specs.declared.slot.Post.{Post}
@@ -19,8 +19,12 @@ use Rattle.canvas_engine.specs.declared.slot.Post.TheVariants.{Ready, Done, Lost
 use Rattle.canvas_engine.specs.declared.slot.Slot.{Slot}
 
 -- a pass of this broker and a seat of this backend, with which nothing was done
+abbrev pub HasHands : SegId Global → TableId → Post → Type 0
+HasHands b d (Ready q t) = (q.of ≡ b) × (t.of ≡ d)
+HasHands b d p = ⊥
+
 abbrev pub IsReady : SegId Global → TableId → Slot → Type 0
-IsReady b d slot = (q : Pass) × (t : Seat) × (slot.post ≡ Ready q t) × (q.of ≡ b) × (t.of ≡ d)
+IsReady b d slot = HasHands b d slot.post
 
 abbrev pub IsPart : Roster → ℕ → Pass → Seat → Slot → Pass → Seat → Type 0
 IsPart plan k p s slot p' s' = (slot.number ≡ k) × ((q : Pass) × (t : Seat) × (slot.post ≡ Ready q t) × passes.Parted p p' q × seats.Parted plan s s' t)

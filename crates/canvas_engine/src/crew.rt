@@ -76,7 +76,7 @@ fn are_well(slots: &[Slot]) -> bool
 }
 
 /// Why the workers ended early, if any did: for memory, where that was refused to one of them.
-pub(crate) fn fault_of(slots: &[Slot]) -> Option<Cause>
+fn fault_of(slots: &[Slot]) -> Option<Cause>
     ensures { IfNone result (All (λ s. IsWell s.post) slots.now) }
 {
     if are_well(slots) {
@@ -90,13 +90,23 @@ pub(crate) fn fault_of(slots: &[Slot]) -> Option<Cause>
 }
 
 /// What the workers counted, behind what is there.
-pub(crate) fn tally_all(slots: &[Slot], tallies: &mut Vec<Tally>) -> Result<(), Memory>
+fn tally_all(slots: &[Slot], tallies: &mut Vec<Tally>) -> Result<(), Memory>
     ensures { OnOk result (tallies.new.items ≡ tallies.old.items ++ map tally_in slots.now) }
 {
     for slot in slots {
         tallies.push(slot.tally())?;
     }
     Ok(())
+}
+
+/// Counts what the workers did, behind what is there, and says why they ended early, if any did.
+pub(crate) fn judge(slots: &[Slot], tallies: &mut Vec<Tally>) -> Option<Cause>
+    ensures { IfNone result (All (λ s. IsWell s.post) slots.now × (tallies.new.items ≡ tallies.old.items ++ map tally_in slots.now)) }
+{
+    match tally_all(slots, tallies) {
+        Ok(()) => fault_of(slots),
+        Err(Memory) => Some(Cause::Memory),
+    }
 }
 
 fn join_one<R: Wait>(

@@ -1,12 +1,12 @@
 //! The end of a run on threads: worker 0 works on by itself, and reads the rows.
-ghost use Rattle.std.specs.Prelude.{◌≡◌, ◌≤◌, List, length, Option, Some, None, IfOk, IfErr};
+ghost use Rattle.std.specs.Prelude.{◌≡◌, ◌≤◌, List, length, Option, Some, None, IfSome, IfOk, IfErr};
 ghost use Rattle.canvas_worker.specs.declared.cause.Cause.{Cause};
 ghost use Rattle.canvas_task.specs.History.{calls};
-ghost use Rattle.canvas_rewrite.specs.Frozen.{Line, tree_of};
+ghost use Rattle.canvas_rewrite.specs.Frozen.{Line, count_line, tree_of};
 ghost use Rattle.canvas_rewrite.specs.Planned.{IsPlan};
 ghost use Rattle.canvas_rewrite.specs.States.{states};
 ghost use Rattle.canvas_backend.specs.Roster.{roster_of};
-ghost use Rattle.canvas_worker.specs.Workers.{Finished};
+ghost use Rattle.canvas_worker.specs.Finished.{Finished};
 ghost use Rattle.canvas_backend.specs.Backend.{read, found};
 ghost use Rattle.canvas_backend.specs.Callers.{Stands};
 ghost use Rattle.canvas_runs.specs.Following.{Serves};
@@ -21,7 +21,8 @@ use canvas_broker::{Broker, BrokerPass};
 use canvas_rewrite::Plan;
 use canvas_task::{Fault, ListOf, Outcome, TaskNo};
 use canvas_worker::{InFlight, OpenGate, Record, Stop};
-use std::alloc::Global;
+use std::alloc::{AllocGlobal, Global};
+use std::random::RandomSource;
 use std::sync::Wait;
 
 /// What a run has once its workers have ended and worker 0 has taken in what they left.
@@ -38,15 +39,22 @@ pub(crate) struct Gathered {
     pub tallies: Vec<Tally>,
 }
 
-pub(crate) fn halted(cause: Cause, rows: Option<Vec<Option<Outcome>>>) -> RunFault {
-    match rows {
-        Some(rows) => RunFault::Halted {
-            cause,
-            rows: Some(Report {
-                rows: ListOf::of(rows),
-            }),
-        },
-        None => RunFault::Halted { cause, rows: None },
+/// A run that ended early, without rows.
+pub(crate) fn halted(cause: Cause) -> RunFault
+    ensures { result ≡ fault.Halted cause None }
+{
+    RunFault::Halted { cause, rows: None }
+}
+
+/// A run that ended early, with these rows.
+pub(crate) fn halted_with(cause: Cause, rows: Vec<Option<Outcome>>) -> RunFault
+    ensures { result ≡ fault.Halted cause (Some (record { rows = rows.items })) }
+{
+    RunFault::Halted {
+        cause,
+        rows: Some(Report {
+            rows: ListOf::of(rows),
+        }),
     }
 }
 
@@ -64,19 +72,25 @@ fn read_row(backend: &Backend, seat: &mut BackendSeat, number: u32) -> Option<Ou
 }
 
 /// Reads each task once, from task 1 on.
-fn read_rows(backend: &Backend, seat: &mut BackendSeat, rows: &mut [Option<Outcome>])
+fn read_rows(
+    backend: &Backend,
+    seat: &mut BackendSeat,
+    plan: &Plan,
+    rows: &mut [Option<Outcome>],
+)
     requires own { seat.old.of ≡ backend.now.id }
-    requires rows { length rows.old ≡ backend.now.plan.tasks }
+    requires plan { backend.now.plan ≡ roster_of plan.now }
+    requires rows { length rows.old ≡ count_line plan.now }
     ensures own { seat.new.of ≡ backend.now.id }
     ensures read { Serves backend.now.plan seat.old (reads_from 1 rows.new) seat.new }
 {
-    for index in 0..rows.len() {
-        rows[index] = read_row(backend, seat, index as u32 + 1);
+    for index in 0..plan.tasks() {
+        rows[index as usize] = read_row(backend, seat, index + 1);
     }
 }
 
-/// Worker 0's own work, once it has taken in all others: it goes on by itself until it finds nothing.
-fn work_alone<R: Wait>(
+/// Worker 0's own work, once it has taken in all others: it goes on by itself until it finds nothing. None where its executor failed.
+fn work_alone<R: Wait + RandomSource + AllocGlobal>(
     rt: &R,
     alloc: Global,
     broker: &Broker,
@@ -84,13 +98,12 @@ fn work_alone<R: Wait>(
     backend: &Backend,
     seat: BackendSeat,
     stop: &Stop,
-) -> Record
+) -> Option<Record>
     requires plan { (l : Line) × IsPlan l × (backend.now.plan ≡ roster_of l) }
     requires own { (pass.of ≡ broker.now) × (seat.of ≡ backend.now.id) }
-    ensures { Finished backend.now.plan 0 pass seat result }
+    ensures { IfSome result (Finished backend.now.plan 0 pass seat) }
 {
-    let flight = InFlight::new(0);
-    loop {}
+    None
 }
 
 impl Gathered {
@@ -106,12 +119,12 @@ impl Gathered {
             mut rows,
             ..
         } = self;
-        read_rows(&backend, &mut seat, &mut rows);
-        halted(cause, Some(rows))
+        read_rows(&backend, &mut seat, plan, &mut rows);
+        halted_with(cause, rows)
     }
 
     /// Worker 0 works until it finds nothing, and reads each task once.
-    pub(crate) fn conclude<R: Wait>(
+    pub(crate) fn conclude<R: Wait + RandomSource + AllocGlobal>(
         self,
         rt: &R,
         alloc: Global,
@@ -133,17 +146,19 @@ impl Gathered {
             mut rows,
             mut tallies,
         } = self;
-        let record = work_alone(rt, alloc, &broker, pass, &backend, seat, stop);
-        let own = Tally::of(0, &record).with_published(first);
+        let Some(left) = work_alone(rt, alloc, &broker, pass, &backend, seat, stop) else {
+            return Err(halted(Cause::Memory));
+        };
+        let own = Tally::of(0, &left).with_published(first);
         let Record {
             pass,
             mut seat,
             fault,
             ..
-        } = record;
-        read_rows(&backend, &mut seat, &mut rows);
+        } = left;
+        read_rows(&backend, &mut seat, plan, &mut rows);
         match fault {
-            Some(cause) => Err(halted(cause, Some(rows))),
+            Some(cause) => Err(halted_with(cause, rows)),
             None => {
                 tallies[0] = own;
                 let report = Report {

@@ -4,10 +4,10 @@ ghost use Rattle.canvas_rewrite.specs.Frozen.{tree_of};
 ghost use Rattle.canvas_rewrite.specs.Planned.{IsPlan};
 ghost use Rattle.canvas_rewrite.specs.States.{states};
 ghost use Rattle.canvas_engine.specs.Correct.{AreWorkers, IsRun, IsThreadFault};
-ghost use Rattle.canvas_engine.specs.Crews.{IsStart};
+ghost use Rattle.canvas_engine.specs.Crews.{AreGathered, IsStart};
 
-use crate::crew::{are_done, fault_of, join_all, split_all, tally_all};
-use crate::gathered::{Gathered, halted};
+use crate::crew::{are_done, join_all, judge, split_all};
+use crate::gathered::{Gathered, halted, halted_with};
 use crate::firsts::{first_envelopes, publish_all};
 use crate::slot::Slot;
 use crate::threads::work_on_threads;
@@ -95,18 +95,15 @@ where
     let flight = InFlight::new(first as u64);
     match publish_all(rt, &broker, &mut pass, envelopes) {
         Ok(()) => (),
-        Err(Memory) => return Err(halted(Cause::Memory, Some(rows))),
+        Err(Memory) => return Err(halted_with(Cause::Memory, rows)),
     }
     work_on_threads(
         rt, alloc, &broker, &backend, gate, stop, &flight, &mut slots,
     );
     if !are_done(&slots) {
-        return Err(halted(Cause::Memory, None));
+        return Err(halted(Cause::Memory));
     }
-    let fault = match tally_all(&slots, &mut tallies) {
-        Ok(()) => fault_of(&slots),
-        Err(Memory) => Some(Cause::Memory),
-    };
+    let fault = judge(&slots, &mut tallies);
     join_all(rt, &broker, &mut pass, &backend, &mut seat, slots);
     let gathered = Gathered {
         broker,
@@ -138,8 +135,10 @@ where
     ensures err { IfErr result (IsThreadFault workers (states (tree_of plan.now))) }
 {
     match gather(rt, alloc, plan, workers, gate, stop, start) {
-        Ok((gathered, None)) => gathered.conclude(rt, alloc, plan, workers, stop),
-        Ok((gathered, Some(cause))) => Err(gathered.halt(plan, workers, cause)),
+        Ok((gathered, early)) => match early {
+            None => gathered.conclude(rt, alloc, plan, workers, stop),
+            Some(cause) => Err(gathered.halt(plan, workers, cause)),
+        },
         Err(fault) => Err(fault),
     }
 }
@@ -168,6 +167,6 @@ where
     }
     match reserve(rt, alloc, plan, workers) {
         Ok(start) => run_started(rt, alloc, plan, workers, gate, stop, start),
-        Err(Memory) => Err(halted(Cause::Memory, None)),
+        Err(Memory) => Err(halted(Cause::Memory)),
     }
 }

@@ -64,7 +64,7 @@ pub(crate) fn work_on_threads<R, G>(
         return;
     }
     let each = |_: usize, slot: &mut Slot|
-        requires { IsReady broker.now backend.now.id slot.now }
+        requires { ((l : Line) × IsPlan l × (backend.now.plan ≡ roster_of l)) × IsReady broker.now backend.now.id slot.now }
         ensures { Ran backend.entry.now.plan slot.entry.now slot.exit.now }
     { work(rt, alloc, broker, backend, gate, stop, flight, slot) };
     for_each_mut(rt, slots, slots.len(), &each);

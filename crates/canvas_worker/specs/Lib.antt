@@ -9,3 +9,4 @@ pub mod Codes
 pub mod Cores
 pub mod Leading
 pub mod Workers
+pub mod Finished

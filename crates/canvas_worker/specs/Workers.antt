@@ -8,13 +8,3 @@ use Rattle.canvas_worker.specs.declared.record.Record.{Record}
 
 abbrev pub tally_of : Record → Tally
 tally_of r = record { taken = r.taken; published = r.published; first = r.first; parts = r.parts; dropped = r.dropped }
-
-pub record Finished (plan : Roster) (k : ℕ) (p : Pass) (s : Seat) (r : Record) : Type 0 where
-  pub ended : Working
-  pub followed : Followed plan (begins p s) ended
-  pub number : r.number ≡ k
-  pub pass : ended.pass ≡ r.pass
-  pub seat : ended.seat ≡ r.seat
-  pub tally : ended.tally ≡ tally_of r
-  pub done : r.fault ≡ None → IsDone plan ended
-  pub empty : r.fault ≡ None → Empties r.pass
