@@ -5,7 +5,7 @@ ghost use Rattle.canvas_rewrite.specs.Frozen.{tree_of};
 ghost use Rattle.canvas_rewrite.specs.Report.{report, report_of};
 ghost use Rattle.canvas_rewrite.specs.Same.{IsSame};
 ghost use Rattle.canvas_rewrite.specs.States.{rows_from, states};
-ghost use Rattle.canvas_engine.specs.Correct.{IsAsked};
+ghost use Rattle.canvas_engine.specs.Correct.{IsAsked, IsRunFault};
 ghost use Rattle.canvas_engine.specs.Texts.{IsCanvasText, IsPlanFault, IsPlanOf, IsReadFault, IsTextFault};
 
 use crate::{Report, RunFault, report_text, run_turns};
@@ -64,7 +64,7 @@ fn read_plan(alloc: Global, bytes: &[u8]) -> Result<Plan, TextFault>
 /// Runs a plan, and writes its report.
 fn plan_text(alloc: Global, plan: &Plan, workers: u32, turns: &[u32]) -> Result<String, TextFault>
     ensures ok { IfOk result (λ text. IsAsked workers turns.now × (string_bytes text ≡ report_of (tree_of plan.now) (rows_from 1 (states (tree_of plan.now))))) }
-    ensures err { IfErr result (IsPlanFault workers turns.now (states (tree_of plan.now))) }
+    ensures err { IfErr result (IsPlanFault (IsRunFault workers turns.now (states (tree_of plan.now)))) }
 {
     match run_turns(alloc, plan, workers, turns) {
         Ok(report) => Ok(report_text(alloc, plan, &report)?),
@@ -80,7 +80,7 @@ pub fn run_text(
     turns: &[u32],
 ) -> Result<String, TextFault>
     ensures ok { IfOk result (λ text. (c : Tree) × IsCanvasText bytes.now c × IsAsked workers turns.now × (string_bytes text ≡ report c)) }
-    ensures err { IfErr result (IsTextFault bytes.now workers turns.now) }
+    ensures err { IfErr result (IsTextFault bytes.now (IsRunFault workers turns.now)) }
 {
     let plan = read_plan(alloc, bytes)?;
     plan_text(alloc, &plan, workers, turns)
