@@ -30,7 +30,7 @@ use Rattle.canvas_runs.specs.Tally.{Tally as Counts, Adds, EachCounts, most, non
 use Rattle.canvas_runs.specs.Worker.{sealed, worker}
 use Rattle.canvas_runs.proofs.Causes.{by_cause, completed_once, by_its_cause}
 use Rattle.canvas_runs.proofs.FirstLaw.{first_part}
-use Rattle.canvas_runs.proofs.FromCrew.{the_run, the_closed}
+use Rattle.canvas_runs.proofs.FromCrew.{passes, seats, the_run, the_closed}
 use Rattle.canvas_runs.proofs.Rows.{rows_of_well, rows_of_any}
 use Rattle.canvas_runs.proofs.Tallies.{tallies_count}
 use Rattle.canvas_worker.specs.Finished.{Finished}
@@ -149,6 +149,8 @@ module _ (l : Line) (n : ℕ) (b : SegId Global) (d : Desk) (pass : Pass) (seat 
           objects = (of, seat_of, plan);
           ran = whole;
           workers = c.count;
+          calls = (passes l r.pass after this).1;
+          entries = seats l r.pass after this;
           run = run;
           queue = refl;
           table = refl;

@@ -147,6 +147,7 @@ impl Gathered {
             mut tallies,
         } = self;
         let Some(left) = work_alone(rt, alloc, &broker, pass, &backend, seat, stop) else {
+            stop.ask();
             return Err(halted(Cause::Memory));
         };
         let own = Tally::of(0, &left).with_published(first);
