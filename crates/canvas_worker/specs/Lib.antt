@@ -8,5 +8,3 @@ pub mod Phases
 pub mod Codes
 pub mod Cores
 pub mod Leading
-pub mod Workers
-pub mod Finished

@@ -6,10 +6,8 @@ mod backends;
 mod book;
 mod cause;
 mod core_run;
-mod flags;
 mod known;
 mod phase;
-mod record;
 mod script;
 mod sealed;
 mod sealing;
@@ -22,8 +20,6 @@ pub use ask::{Ask, Reply};
 pub use book::Book;
 pub use cause::Cause;
 pub use core_run::Core;
-pub use flags::{Gate, InFlight, OpenGate, Stop};
-pub use record::Record;
 
 /// A core keeps messages as their envelopes. The asks and answers of a core are those of the worker that the law of runs speaks of.
 pub fn law_of_cores()
