@@ -6,6 +6,7 @@ mod backends;
 mod book;
 mod cause;
 mod core_run;
+mod due;
 mod known;
 mod phase;
 mod script;
