@@ -8,3 +8,6 @@ pub mod Opening
 pub mod Leading
 pub mod PlanBooks
 pub mod Dues
+pub mod KnownJobs
+pub mod KnownScripts
+pub mod Seats
