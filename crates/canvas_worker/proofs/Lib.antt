@@ -7,3 +7,7 @@ pub mod ScriptsMade
 pub mod Opening
 pub mod Leading
 pub mod PlanBooks
+pub mod Dues
+pub mod KnownJobs
+pub mod KnownScripts
+pub mod Seats

@@ -8,3 +8,4 @@ pub mod Phases
 pub mod Codes
 pub mod Cores
 pub mod Leading
+pub mod Seats

@@ -6,6 +6,7 @@ mod backends;
 mod book;
 mod cause;
 mod core_run;
+mod due;
 mod known;
 mod phase;
 mod script;
@@ -15,6 +16,7 @@ mod stages;
 
 ghost use Rattle.canvas_worker.specs.Cores.{CoresAreWorkers};
 ghost use Rattle.canvas_worker.specs.Leading.{NoneLead, OneMoreLeads, HandedLeads, HandsOut, PlanLeads};
+ghost use Rattle.canvas_worker.specs.Seats.{WaitingCan, CanAsk, CanGoOn};
 
 pub use ask::{Ask, Reply};
 pub use book::Book;
@@ -33,4 +35,12 @@ pub fn law_of_answers()
     ensures handed { HandedLeads }
     ensures hands_out { HandsOut }
     ensures plan { PlanLeads }
+{}
+
+/// What a worker asks its backend is what that lets its seat do. The worker knows of no other: this follows from what it has left to
+/// do, and from what its seat has seen.
+pub fn law_of_seats()
+    ensures starts { WaitingCan }
+    ensures allows { CanAsk }
+    ensures goes_on { CanGoOn }
 {}
