@@ -7,3 +7,4 @@ pub mod ScriptsMade
 pub mod Opening
 pub mod Leading
 pub mod PlanBooks
+pub mod Stepping
