@@ -8,3 +8,4 @@ pub mod Opening
 pub mod Leading
 pub mod PlanBooks
 pub mod Stepping
+pub mod Shown

@@ -74,13 +74,13 @@ pub record Ready (w : Work) : Type 0 where
   pub can : Can w.desk.plan w.seat w.core.left
   pub counts : IsTally (progress w).tally
 
--- What one poll does at most: one ask of the core is answered, or a batch is taken, or an ask is answered by the first of a batch that was taken for it.
+-- What one poll does at most: one ask of the core is answered, or a batch is taken, or an ask is answered by an envelope that is held or
+-- of a batch that was taken for it. A take of one envelope is a batch of one.
 pub data Moves (plan : Roster) (p q : Progress) : Type 0 where
   stays : q ≡ p → Moves plan p q
   calls : (a : Asked) (r : Answer) → Called plan p q a r → Moves plan p q
-  from_held : (e : Envelope) → FromHeld plan p q e → Moves plan p q
   takes : (es : List Envelope) → Batched p q es → Moves plan p q
-  from_batch : (es : List Envelope) (e : Envelope) (between : Progress) → Batched p between es → FromHeld plan between q e → Moves plan p q
+  gives : (es : List Envelope) (e : Envelope) (between : Progress) → Batched p between es → FromHeld plan between q e → Moves plan p q
 
 -- what a poll leaves that is pending
 pub record GoesOn (w v : Work) : Type 0 where

@@ -38,10 +38,11 @@ impl InFlight {
 
     /// Sleeps for a little while, unless the count changes before.
     pub(crate) fn nap<R: Wait>(&self, rt: &R) {
-        let count = self.count.load(Ordering::SeqCst);
+        let Ok(count) = u32::try_from(self.count.load(Ordering::SeqCst)) else {
+            return;
+        };
         if count != 0 {
-            self.count
-                .park_timeout(rt, count as u32, Duration::from_micros(NAP));
+            self.count.park_timeout(rt, count, Duration::from_micros(NAP));
         }
     }
 }

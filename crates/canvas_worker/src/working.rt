@@ -49,10 +49,15 @@ pub(crate) struct Working<'a, R: Wait, G: Gate> {
 }
 
 impl<'a, R: Wait, G: Gate> Model for Working<'a, R, G> {
+    ghost use Rattle.std.specs.Coded.{codes};
+    ghost use Rattle.canvas_message.specs.ContentCode.{content_code};
+    ghost use Rattle.canvas_worker.specs.Codes.{load_code};
     ghost use Rattle.canvas_worker.specs.Held.{held_in};
     ghost use Rattle.canvas_worker.specs.Work.{Work};
 
     ghost Value = { Work };
+
+    ghost coded = { Prim.hlevel (codes, content_code, load_code) };
 
     ghost view = { λ w. record { broker = w.broker.now; desk = w.backend.now; number = w.number; pass = w.pass; seat = w.seat; core = w.core; held = held_in w.source; taken = w.taken; published = w.published; first = w.first; parts = w.parts } };
 }
@@ -226,16 +231,18 @@ impl<'a, R: Wait, G: Gate> Working<'a, R, G> {
         ensures { MatchResult result (GoesOn self.entry) (Ends self.entry) }
     {
         let (rt, broker) = (self.rt, self.broker);
-        let Some(envelope) = self.core.envelope() else {
-            unreachable!()
-        };
-        self.flight.add();
-        match broker.publish(rt, &mut self.pass, envelope) {
-            Ok(()) => {
-                self.published = self.published.saturating_add(1);
-                self.replies(Reply::Published)
+        match self.core.envelope() {
+            Some(envelope) => {
+                self.flight.add();
+                match broker.publish(rt, &mut self.pass, envelope) {
+                    Ok(()) => {
+                        self.published = self.published.saturating_add(1);
+                        self.replies(Reply::Published)
+                    }
+                    Err(_refused) => Err(self.fails()),
+                }
             }
-            Err(_) => Err(self.fails()),
+            None => unreachable!(),
         }
     }
 
