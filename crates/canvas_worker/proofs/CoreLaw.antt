@@ -11,7 +11,7 @@ use Rattle.canvas_message.specs.declared.envelope.Envelope.{Envelope}
 use Rattle.canvas_message.specs.declared.fault.MessageFault.{MessageFault}
 use Rattle.canvas_backend.specs.Roster.{roster_of}
 use Rattle.canvas_runs.specs.Book.{Book, book_on, message_known}
-use Rattle.canvas_runs.specs.Core.{take, send, keep, part, read, pause, taken, sent, refused, kept, counted, found, rested, State, taking, resting, over, failed, owning, doing, reading as state_reading, settled, opens, owned, job_done, ask, answered, Suits, ReadsBack, Between, left_after, IsCoreRun}
+use Rattle.canvas_runs.specs.Core.{take, send, keep, part, read, pause, taken, sent, refused, kept, counted, found, rested, State, taking, resting, over, failed, owning, doing, reading as state_reading, is_due, settled, opens, owned, job_done, ask, answered, Suits, ReadsBack, Between, left_after, IsCoreRun}
 use Rattle.canvas_runs.specs.Protocol.{Protocol}
 use Rattle.canvas_runs.specs.Worker.{worker, reading, known_one, opened}
 use Rattle.canvas_worker.specs.Asks.{Asked, Answer}
@@ -47,8 +47,14 @@ module _ (l : Line) where
   settled_alike (hand_in g t c ∷ ks) true = (refl, refl)
   settled_alike (hand_in g t c ∷ ks) false = tt
 
+  due_alike : (t : ℕ) (ks : Jobs) → is_due t (map enclosed ks) ≡ is_due t ks
+  due_alike t [] = refl
+  due_alike t (store u o ∷ ks) = due_alike t ks
+  due_alike t (publish c ∷ ks) = due_alike t ks
+  due_alike t (hand_in g u c ∷ ks) = refl
+
   job_alike : (k : Job Content Load Outcome) (ks : Jobs) (b : Bool) (r : Answer) → IsAlike (job_done X (enclosed k) (map enclosed ks) b r) (job_done Y k ks b r)
-  job_alike (store t o) ks b (kept a) = settled_alike ks a
+  job_alike (store t o) ks b (kept a) = subst (λ z. IsAlike (settled X (map enclosed ks) (cond z a b)) (settled Y ks (cond (is_due t ks) a b))) (sym (due_alike t ks)) (settled_alike ks (cond (is_due t ks) a b))
   job_alike (publish c) ks b sent = settled_alike ks b
   job_alike (hand_in g t c) ks b (counted n) = part_alike (eqb (suc n) c.size)
     where

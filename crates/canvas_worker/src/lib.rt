@@ -6,6 +6,7 @@ mod backends;
 mod book;
 mod cause;
 mod core_run;
+mod due;
 mod gate;
 mod in_flight;
 mod known;
@@ -23,6 +24,7 @@ mod working;
 ghost use Rattle.canvas_worker.specs.Cores.{CoresAreWorkers};
 ghost use Rattle.canvas_worker.specs.Finished.{WorkersStart, WorkersFinish};
 ghost use Rattle.canvas_worker.specs.Leading.{NoneLead, OneMoreLeads, HandedLeads, HandsOut, PlanLeads};
+ghost use Rattle.canvas_worker.specs.Seats.{WaitingCan, CanAsk, CanGoOn};
 ghost use Rattle.canvas_worker.specs.StepLaws.{Rests, CallFirst, HeldFirst, BatchFirst};
 
 pub use ask::{Ask, Reply};
@@ -47,6 +49,14 @@ pub fn law_of_answers()
     ensures handed { HandedLeads }
     ensures hands_out { HandsOut }
     ensures plan { PlanLeads }
+{}
+
+/// What a worker asks its backend is what that lets its seat do. The worker knows of no other: this follows from what it has left to
+/// do, and from what its seat has seen.
+pub fn law_of_seats()
+    ensures starts { WaitingCan }
+    ensures allows { CanAsk }
+    ensures goes_on { CanGoOn }
 {}
 
 /// Where a worker does nothing that is followed, and a step in front of what is followed is followed with it: an ask of its core
