@@ -7,9 +7,8 @@ pub mod ScriptsMade
 pub mod Opening
 pub mod Leading
 pub mod PlanBooks
-<<<<<<< HEAD
 pub mod Stepping
 pub mod Shown
-=======
 pub mod Dues
->>>>>>> f039108bed05e44bd060e07f915665e66be7fcc3
+pub mod Asking
+pub mod Turns
