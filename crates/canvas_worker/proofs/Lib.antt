@@ -12,3 +12,5 @@ pub mod Shown
 pub mod Dues
 pub mod Asking
 pub mod Turns
+pub mod Telling
+pub mod Giving

@@ -108,6 +108,19 @@ rests_over (C.doing (publish m ∷ js) b) e = absurd cc
 rests_over (C.doing (hand_in g t l ∷ js) b) e = absurd cc
 rests_over (C.reading g l fs) e = absurd cc
 
+-- and only one that waits to take
+pub takes_taking : (s : Left) → asked s ≡ C.take → s ≡ C.taking
+takes_taking C.taking e = refl
+takes_taking C.resting e = absurd cc
+takes_taking C.over e = absurd cc
+takes_taking C.failed e = absurd cc
+takes_taking (C.owning m) e = absurd cc
+takes_taking (C.doing [] b) e = absurd cc
+takes_taking (C.doing (store t o ∷ js) b) e = absurd cc
+takes_taking (C.doing (publish m ∷ js) b) e = absurd cc
+takes_taking (C.doing (hand_in g t l ∷ js) b) e = absurd cc
+takes_taking (C.reading g l fs) e = absurd cc
+
 unread_lost : (o : Option Content) → unread o ≡ is_lost o
 unread_lost None = refl
 unread_lost (Some c) = refl
