@@ -25,6 +25,7 @@ use Rattle.canvas_worker.specs.declared.record.Record.{Record}
 use Rattle.canvas_worker.proofs.Asking.{same_book, may_go_on}
 use Rattle.canvas_worker.proofs.Shown.{drops_so, takes_taking}
 
+use Rattle.canvas_worker.proofs.Resting.{given_never}
 use Rattle.canvas_worker.proofs.Turns.{unchanged, one_more, tallied, some_none}
 
 -- ---- an envelope given to the core
@@ -107,6 +108,7 @@ module _ (w u : Work) (es : List Envelope) (e : Envelope) (ready : Ready w) (x :
       plan = (ready.plan.0, ready.plan.1, ap (λ (d : Desk). d.plan) x.desk ∙ ready.plan.2);
       inside = refl;
       can = subst (λ (d : Desk). Can d.plan u.seat core.left) (sym x.desk) can;
+      bare = λ rests. absurd (given_never plan e (subst (λ s. answered (enveloped plan) s (C.taken (Some e)) ≡ C.resting) (takes_taking w.core.left x.asked_is) rests));
       counts = tallied plan C.take (C.taken (Some e)) (progress w).tally (progress given).tally counted;
     };
     moved = gives es e between batched from_held;

@@ -14,3 +14,4 @@ pub mod Asking
 pub mod Turns
 pub mod Telling
 pub mod Giving
+pub mod Resting

@@ -49,6 +49,7 @@ pub record Asks (w u : Work) (a : Asked) (r : Answer) : Type 0 where
   pub first : Adds w.first (is_first a r + 0) u.first
   pub parts : Adds w.parts (is_part a r + 0) u.parts
   pub same_drops : u.core.dropped ≡ w.core.dropped
+  pub still : answered (enveloped w.desk.plan) w.core.left r ≡ C.resting → u.held ≡ []
   pub none_dropped : is_dropped w.desk.plan a r ≡ 0
   pub core : after_reply (book_in w.desk.plan) u.core r ≡ after_reply (book_in w.desk.plan) w.core r
 
@@ -107,6 +108,7 @@ module _ (w u : Work) (a : Asked) (r : Answer) (ready : Ready w) (x : Asks w u a
     plan = (ready.plan.0, ready.plan.1, ap (λ (d : Desk). d.plan) x.desk ∙ ready.plan.2);
     inside = refl;
     can = subst (λ (d : Desk). Can d.plan u.seat core.left) (sym x.desk) can;
+    bare = x.still;
     counts = tallied plan a r (progress w).tally after.tally counted;
   }
 
@@ -125,3 +127,20 @@ module _ (w u : Work) (a : Asked) (r : Answer) (ready : Ready w) (x : Asks w u a
   pub well : (result : Result Work Record) → MatchResult result (λ v. v ≡ told u r) (Leaves (lost u) (Some Memory)) → MatchResult result (GoesOn w) (Ends w)
   well (Ok v) e = told_is v e
   well (Err s) e = fails s e
+
+  -- a worker that ends without a fault
+  pub ends_well : (v : Work) → v ≡ told u r → (s : Record) → Leaves v None s → after.left ≡ C.over → after.held ≡ [] → Ends w s
+  ends_well v e s leaves over bare =
+      let is : v ≡ with_core u core = e ∙ ap (λ c. with_core u c) core_is in
+      record {
+        ended = after;
+        counted = tallied plan a r (progress w).tally after.tally counted;
+        moved = calls a r called;
+        is_of = record {
+          same_number = leaves.same_number ∙ ap (λ (z : Work). z.number) is ∙ x.number;
+          pass = leaves.pass ∙ ap (λ (z : Work). z.pass) is;
+          seat = leaves.seat ∙ ap (λ (z : Work). z.seat) is;
+          counts = leaves.counts ∙ ap (λ (z : Work). (progress z).tally) is;
+          whole = λ _. (over, bare);
+        };
+      }

@@ -7,7 +7,7 @@ use Rattle.canvas_rewrite.specs.Planned.{IsPlan}
 use Rattle.canvas_message.specs.declared.envelope.Envelope.{Envelope}
 use Rattle.canvas_backend.specs.Callers.{Desk}
 use Rattle.canvas_backend.specs.Roster.{Roster, roster_of}
-use Rattle.canvas_runs.specs.Core.{over}
+use Rattle.canvas_runs.specs.Core.{resting, over}
 use Rattle.canvas_runs.specs.Following.{Pass, Seat}
 use Rattle.canvas_runs.specs.Tally.{Tally, IsTally}
 use Rattle.canvas_worker.specs.Asks.{Asked, Answer}
@@ -65,13 +65,15 @@ abbrev pub one_taken : Work → Work
 one_taken w =
     record { broker = w.broker; desk = w.desk; number = w.number; pass = w.pass; seat = w.seat; core = w.core; held = w.held; taken = min most (w.taken + 1); published = w.published; first = w.first; parts = w.parts }
 
--- its pass is of its broker, its seat of its backend, which is one of a plan, and the backend lets the seat do what is left
+-- its pass is of its broker, its seat of its backend, which is one of a plan, and the backend lets the seat do what is left; a worker that rests
+-- holds nothing
 pub record Ready (w : Work) : Type 0 where
   pub of : w.pass.of ≡ w.broker
   pub home : w.seat.of ≡ w.desk.id
   pub plan : (l : Line) × IsPlan l × (w.desk.plan ≡ roster_of l)
   pub inside : w.core.is_out ≡ false
   pub can : Can w.desk.plan w.seat w.core.left
+  pub bare : w.core.left ≡ resting → w.held ≡ []
   pub counts : IsTally (progress w).tally
 
 -- What one poll does at most: one ask of the core is answered, or a batch is taken, or an ask is answered by an envelope that is held or
