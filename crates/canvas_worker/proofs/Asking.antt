@@ -10,15 +10,10 @@ use Rattle.canvas_runs.specs.Following.{Seat, Serves}
 use Rattle.canvas_worker.specs.Asks.{Answer}
 use Rattle.canvas_worker.specs.Books.{book_in}
 use Rattle.canvas_worker.specs.Enveloped.{enveloped}
-use Rattle.canvas_worker.specs.Seats.{Can, Allowed, CanAsk, CanGoOn}
+use Rattle.canvas_worker.specs.Seats.{Can, Allowed}
 use Rattle.canvas_worker.specs.Standing.{Left, asked}
 use Rattle.canvas_worker.proofs.Books.{books_alike}
-
-can_ask : CanAsk
-can_ask = ?
-
-can_go_on : CanGoOn
-can_go_on = ?
+use Rattle.canvas_worker.proofs.Seats.{can_ask, can_go_on}
 
 -- what is known of a plan
 abbrev IsOf : Roster → Type 0

@@ -1,6 +1,5 @@
 -- A core run over envelopes is one of the worker over what they say.
-use Rattle.std.proofs.Common.{◌≡◌, ◌∙◌, ℕ, suc, Bool, true, false, cond, eqb, List, [], ◌∷◌, ◌++◌, map, length, Option, Some, None, Result, Ok, Err, refl, sym, ap, ap₂, subst}
-use Rattle.std.specs.Prelude.{if◌then◌else◌}
+use Rattle.std.proofs.Common.{◌≡◌, ◌∙◌, ℕ, suc, Bool, true, false, cond, eqb, List, [], ◌∷◌, ◌++◌, map, length, Option, Some, None, refl, sym, ap, ap₂, subst}
 use Rattle.canvas_task.specs.declared.outcome.Outcome.{Outcome}
 use Rattle.canvas_rewrite.specs.Frozen.{Line}
 use Rattle.canvas_rewrite.specs.FrozenView.{Load}
@@ -8,16 +7,16 @@ use Rattle.canvas_message.specs.Content.{Content, number_of}
 use Rattle.canvas_message.specs.Effects.{outcome_of, after, body_after, script}
 use Rattle.canvas_message.specs.Job.{Job, store, publish, hand_in}
 use Rattle.canvas_message.specs.declared.envelope.Envelope.{Envelope}
-use Rattle.canvas_message.specs.declared.fault.MessageFault.{MessageFault}
 use Rattle.canvas_backend.specs.Roster.{roster_of}
-use Rattle.canvas_runs.specs.Book.{Book, book_on, message_known}
+use Rattle.canvas_runs.specs.Book.{Book, book_on}
 use Rattle.canvas_runs.specs.Core.{take, send, keep, part, read, pause, taken, sent, refused, kept, counted, found, rested, State, taking, resting, over, failed, owning, doing, reading as state_reading, is_due, settled, opens, owned, job_done, ask, answered, Suits, ReadsBack, Between, left_after, IsCoreRun}
 use Rattle.canvas_runs.specs.Protocol.{Protocol}
-use Rattle.canvas_runs.specs.Worker.{worker, reading, known_one, opened}
+use Rattle.canvas_runs.specs.Worker.{worker, opened}
 use Rattle.canvas_worker.specs.Asks.{Asked, Answer}
 use Rattle.canvas_worker.specs.Cores.{IsAlike, GoTogether, CoresAreWorkers}
 use Rattle.canvas_worker.specs.Enveloped.{said, enclosed, enveloped, kept as kept_envelope}
 use Rattle.canvas_worker.specs.Standing.{Left}
+use Rattle.canvas_worker.proofs.Opening.{opened_as}
 use Rattle.canvas_worker.proofs.Sendable.{envelope_so, said_of}
 
 module _ (l : Line) where
@@ -67,17 +66,9 @@ module _ (l : Line) where
 
   -- ---- what was taken
 
-  known_so : (r : Result Content MessageFault) (c : Content) → known_one book r ≡ Some c → r ≡ Ok c
-  known_so (Ok d) c h = by (message_known book d) h
-    where
-      by : (z : Bool) → (if z then Some d else None) ≡ Some c → ◌≡◌ {A = Result Content MessageFault} (Ok d) (Ok c)
-      by true h = cc
-      by false h = absurd cc
-  known_so (Err e) c h = absurd cc
-
   opens_alike : (e : Envelope) (o : Option Content) → opened book e ≡ o → IsAlike (opens X (kept_envelope o e)) (opens Y o)
   opens_alike e None is = tt
-  opens_alike e (Some c) is = said_of e c (known_so (reading e) c is)
+  opens_alike e (Some c) is = said_of e c (opened_as book e c is).0
 
   -- ---- members
 

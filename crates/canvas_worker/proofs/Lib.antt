@@ -15,3 +15,6 @@ pub mod Turns
 pub mod Telling
 pub mod Giving
 pub mod Resting
+pub mod KnownJobs
+pub mod KnownScripts
+pub mod Seats
