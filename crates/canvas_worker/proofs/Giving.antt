@@ -128,6 +128,10 @@ module _ (w u : Work) (es : List Envelope) (e : Envelope) (ready : Ready w) (x :
     is_of = record { same_number = leaves.same_number ∙ x.number; pass = leaves.pass; seat = leaves.seat ∙ x.seat; counts = leaves.counts ∙ same_tally; whole = λ none. absurd (some_none Memory (sym leaves.fault_is ∙ none)) };
   }
 
-  pub given_well : (result : Result Work Record) → MatchResult result (λ v. v ≡ one_taken (told u (C.taken (Some e)))) (Leaves (lost u) (Some Memory)) → MatchResult result (GoesOn w) (Ends w)
-  given_well (Ok v) is = told_is v is
-  given_well (Err s) is = fails s is
+  well : (result : Result Work Record) → MatchResult result (λ v. v ≡ one_taken (told u (C.taken (Some e)))) (Leaves (lost u) (Some Memory)) → MatchResult result (GoesOn w) (Ends w)
+  well (Ok v) is = told_is v is
+  well (Err s) is = fails s is
+
+pub given_well : (w u : Work) (es : List Envelope) (e : Envelope) (result : Result Work Record) → MatchResult result (λ v. v ≡ one_taken (told u (C.taken (Some e)))) (Leaves (lost u) (Some Memory)) → Ready w → Takes w u es e
+    → MatchResult result (GoesOn w) (Ends w)
+given_well w u es e result is ready x = well w u es e ready x result is

@@ -8,9 +8,14 @@ use Rattle.canvas_backend.specs.Roster.{Roster}
 use Rattle.canvas_runs.specs.Core as C
 use Rattle.canvas_runs.specs.Core.{taken, sent, refused, kept, counted, found, rested, taking, resting, over, failed, owning, doing, reading, settled, opens, owned, handed_in, job_done, all_read, answered}
 use Rattle.canvas_runs.specs.Protocol.{Protocol}
-use Rattle.canvas_worker.specs.Asks.{Answer}
+use Rattle.canvas_worker.specs.Asks.{Asked, Answer}
 use Rattle.canvas_worker.specs.Enveloped.{enveloped}
 use Rattle.canvas_worker.specs.Standing.{Left, asked}
+
+-- an ask other than a take
+abbrev pub Busy : Asked → Type 0
+Busy C.take = ⊥
+Busy a = Unit {0}
 
 module _ (plan : Roster) where
   abbrev X : Protocol
@@ -53,7 +58,7 @@ module _ (plan : Roster) where
   pub given_never : (x : Envelope) → answered X taking (taken (Some x)) ≡ resting → ⊥
   given_never x e = opens_never (X.opened x) e
 
-  pub never_rests : (s : Left) (r : Answer) → (asked s ≡ C.take → ⊥) → answered X s r ≡ resting → ⊥
+  never_rests : (s : Left) (r : Answer) → (asked s ≡ C.take → ⊥) → answered X s r ≡ resting → ⊥
   never_rests taking r not e = not refl
   never_rests resting (rested true) not e = cc
   never_rests resting (rested false) not e = cc
@@ -67,3 +72,6 @@ module _ (plan : Roster) where
   never_rests (reading g c fs) (found t (Some o)) not e = read_never g c (fs ++ (t, o) ∷ []) (eqb (length (fs ++ (t, o) ∷ [])) (X.size c)) e
   never_rests (reading g c fs) (found t None) not e = cc
   never_rests (reading g c fs) r not e = cc
+
+  pub busy_never : (s : Left) (r : Answer) (a : Asked) → asked s ≡ a → Busy a → answered X s r ≡ resting → ⊥
+  busy_never s r a is busy rests = never_rests s r (λ takes. subst (λ b. Busy b) (sym is ∙ takes) busy) rests

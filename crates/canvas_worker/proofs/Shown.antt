@@ -1,6 +1,6 @@
 -- Which ask of the machine is the one that is shown, and what a core that was told leaves.
 use Rattle.std.proofs.Common.{◌≡◌, ◌∙◌, ℕ, ◌+◌, min, Bool, true, false, List, [], ◌∷◌, Option, Some, None, refl, sym, ap, ap₂, arith}
-use Rattle.std.specs.Prelude.{if◌then◌else◌}
+use Rattle.std.specs.Prelude.{if◌then◌else◌, slice_get}
 use Rattle.canvas_task.specs.declared.outcome.Outcome.{Outcome}
 use Rattle.canvas_message.specs.Content.{Content}
 use Rattle.canvas_message.specs.Job.{store, publish, hand_in}
@@ -139,3 +139,11 @@ drops_so plan (C.doing (store t o ∷ js) b) r = refl
 drops_so plan (C.doing (publish m ∷ js) b) r = refl
 drops_so plan (C.doing (hand_in g t l ∷ js) b) r = refl
 drops_so plan (C.reading g l fs) r = refl
+
+-- ---- members
+
+pub same_place : (xs : List ℕ) (i t u : ℕ) → slice_get xs i ≡ Some t → slice_get xs i ≡ Some u → t ≡ u
+same_place xs i t u e f = cc
+
+pub no_place : (xs : List ℕ) (i t : ℕ) → slice_get xs i ≡ Some t → slice_get xs i ≡ None → ⊥
+no_place xs i t e f = cc

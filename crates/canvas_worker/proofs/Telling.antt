@@ -23,7 +23,7 @@ use Rattle.canvas_worker.specs.declared.cause.Cause.{Cause}
 use Rattle.canvas_worker.specs.declared.cause.Cause.TheVariants.{Memory, Stopped}
 use Rattle.canvas_worker.specs.declared.record.Record.{Record}
 use Rattle.canvas_worker.proofs.Asking.{same_book, may_go_on}
-use Rattle.canvas_worker.proofs.Shown.{drops_so}
+use Rattle.canvas_worker.proofs.Shown.{drops_so, rests_over}
 
 use Rattle.canvas_worker.proofs.Turns.{unchanged, one_more, tallied, some_none}
 
@@ -124,13 +124,13 @@ module _ (w u : Work) (a : Asked) (r : Answer) (ready : Ready w) (x : Asks w u a
     is_of = record { same_number = leaves.same_number ∙ x.number; pass = leaves.pass; seat = leaves.seat; counts = leaves.counts; whole = λ none. absurd (some_none Memory (sym leaves.fault_is ∙ none)) };
   }
 
-  pub well : (result : Result Work Record) → MatchResult result (λ v. v ≡ told u r) (Leaves (lost u) (Some Memory)) → MatchResult result (GoesOn w) (Ends w)
+  well : (result : Result Work Record) → MatchResult result (λ v. v ≡ told u r) (Leaves (lost u) (Some Memory)) → MatchResult result (GoesOn w) (Ends w)
   well (Ok v) e = told_is v e
   well (Err s) e = fails s e
 
   -- a worker that ends without a fault
-  pub ends_well : (v : Work) → v ≡ told u r → (s : Record) → Leaves v None s → after.left ≡ C.over → after.held ≡ [] → Ends w s
-  ends_well v e s leaves over bare =
+  ends_so : (v : Work) → v ≡ told u r → (s : Record) → Leaves v None s → after.left ≡ C.over → after.held ≡ [] → Ends w s
+  ends_so v e s leaves over bare =
       let is : v ≡ with_core u core = e ∙ ap (λ c. with_core u c) core_is in
       record {
         ended = after;
@@ -144,3 +144,16 @@ module _ (w u : Work) (a : Asked) (r : Answer) (ready : Ready w) (x : Asks w u a
           whole = λ _. (over, bare);
         };
       }
+
+pub asked_well : (w u : Work) (a : Asked) (r : Answer) (result : Result Work Record) → MatchResult result (λ v. v ≡ told u r) (Leaves (lost u) (Some Memory)) → Ready w → Asks w u a r → MatchResult result (GoesOn w) (Ends w)
+asked_well w u a r result is ready x = well w u a r ready x result is
+
+-- where memory was refused, to the core or to the queue
+pub ends_badly : (w u : Work) (a : Asked) (r : Answer) (s : Record) → Leaves u (Some Memory) s → Ready w → Asks w u a r → Ends w s
+ends_badly w u a r s is ready x = fails w u a r ready x s (record { same_number = is.same_number; pass = is.pass; seat = is.seat; counts = is.counts; fault_is = is.fault_is })
+
+-- a worker that is told that no more will come
+pub rests_well : (w u v : Work) (s : Record) → v ≡ told u (C.rested false) → Leaves v None s → Ready w → Asks w u C.pause (C.rested false) → Ends w s
+rests_well w u v s is leaves ready x =
+    let rests : w.core.left ≡ C.resting = rests_over w.core.left x.asked_is in
+    ends_so w u C.pause (C.rested false) ready x v is s leaves (ap (λ l. answered (enveloped w.desk.plan) l (C.rested false)) rests) (x.held ∙ ready.bare rests)

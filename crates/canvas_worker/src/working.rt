@@ -249,6 +249,7 @@ impl<'a, R: Wait, G: Gate> Working<'a, R, G> {
     fn stores(mut self, task: TaskNo, outcome: Outcome) -> Result<Working<'a, R, G>, Record>
         requires ready { Ready self }
         requires asks { shown (asked self.core.left) ≡ ask.Store task outcome }
+        requires reads_back { ReadsBack (enveloped_by no_book) self.core.left }
         requires in_range { IsInRange outcome }
         ensures { MatchResult result (GoesOn self.entry) (Ends self.entry) }
     {
@@ -266,6 +267,7 @@ impl<'a, R: Wait, G: Gate> Working<'a, R, G> {
     fn returns(mut self, group: GroupNo, task: TaskNo) -> Result<Working<'a, R, G>, Record>
         requires ready { Ready self }
         requires asks { shown (asked self.core.left) ≡ ask.Part group task }
+        requires reads_back { ReadsBack (enveloped_by no_book) self.core.left }
         ensures { MatchResult result (GoesOn self.entry) (Ends self.entry) }
     {
         let backend = self.backend;
@@ -277,6 +279,7 @@ impl<'a, R: Wait, G: Gate> Working<'a, R, G> {
     fn reads(mut self, group: GroupNo, place: u32) -> Result<Working<'a, R, G>, Record>
         requires ready { Ready self }
         requires asks { shown (asked self.core.left) ≡ ask.Read group place }
+        requires reads_back { ReadsBack (enveloped_by no_book) self.core.left }
         ensures { MatchResult result (GoesOn self.entry) (Ends self.entry) }
     {
         let backend = self.backend;
@@ -292,6 +295,7 @@ impl<'a, R: Wait, G: Gate> Working<'a, R, G> {
     fn rests(self) -> Result<Working<'a, R, G>, Record>
         requires ready { Ready self }
         requires asks { shown (asked self.core.left) ≡ ask.Rest }
+        requires reads_back { ReadsBack (enveloped_by no_book) self.core.left }
         ensures { MatchResult result (GoesOn self.entry) (Ends self.entry) }
     {
         if self.has_more() {

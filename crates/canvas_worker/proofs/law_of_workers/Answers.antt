@@ -1,5 +1,5 @@
 use Rattle.canvas_worker.proofs.Turns.{ends_here}
-use Rattle.canvas_worker.proofs.Telling.{well}
+use Rattle.canvas_worker.proofs.Telling.{asked_well}
 use Rattle.canvas_worker.proofs.Giving.{given_well}
 use Rattle.canvas_worker.proofs.law_of_workers.Goals as goal
 
