@@ -1,5 +1,5 @@
 -- Which ask of the machine is the one that is shown, and what a core that was told leaves.
-use Rattle.std.proofs.Common.{◌≡◌, ◌∙◌, ℕ, ◌+◌, min, Bool, true, false, List, [], ◌∷◌, Option, Some, None, refl, sym, ap, ap₂, arith}
+use Rattle.std.proofs.Common.{◌≡◌, ◌∙◌, ℕ, ◌+◌, min, Bool, true, false, List, [], ◌∷◌, Option, Some, None, refl, sym, ap, ap₂, subst, arith}
 use Rattle.std.specs.Prelude.{if◌then◌else◌, slice_get}
 use Rattle.canvas_task.specs.declared.outcome.Outcome.{Outcome}
 use Rattle.canvas_message.specs.Content.{Content}
@@ -11,6 +11,8 @@ use Rattle.canvas_runs.specs.Core as C
 use Rattle.canvas_runs.specs.Tally.{is_dropped, is_lost}
 use Rattle.canvas_runs.specs.Worker.{opened}
 use Rattle.canvas_worker.specs.Asks.{Asked, Answer, shown, sent}
+use Rattle.canvas_worker.specs.Books.{no_book}
+use Rattle.canvas_worker.specs.Enveloped.{enveloped_by}
 use Rattle.canvas_worker.specs.Standing.{Standing, Left, asked, unread, drops, held_out, handed, after_reply, most}
 use Rattle.canvas_worker.specs.declared.ask.Ask.TheVariants.{Take, Publish, Store, Part, Read, Rest}
 use Rattle.canvas_worker.proofs.Leading.{unsent_answered, unsent_drops}
@@ -120,6 +122,10 @@ takes_taking (C.doing (store t o ∷ js) b) e = absurd cc
 takes_taking (C.doing (publish m ∷ js) b) e = absurd cc
 takes_taking (C.doing (hand_in g t l ∷ js) b) e = absurd cc
 takes_taking (C.reading g l fs) e = absurd cc
+
+-- and has nothing to publish
+pub reads_back : (s : Left) → asked s ≡ C.take → C.ReadsBack (enveloped_by no_book) s
+reads_back s e = subst (λ l. C.ReadsBack (enveloped_by no_book) l) (sym (takes_taking s e)) tt
 
 unread_lost : (o : Option Content) → unread o ≡ is_lost o
 unread_lost None = refl

@@ -152,6 +152,9 @@ asked_well w u a r result is ready x = well w u a r ready x result is
 pub ends_badly : (w u : Work) (a : Asked) (r : Answer) (s : Record) → Leaves u (Some Memory) s → Ready w → Asks w u a r → Ends w s
 ends_badly w u a r s is ready x = fails w u a r ready x s (record { same_number = is.same_number; pass = is.pass; seat = is.seat; counts = is.counts; fault_is = is.fault_is })
 
+pub asked_badly : (w u : Work) (a : Asked) (r : Answer) (s : Record) → Leaves (lost u) (Some Memory) s → Ready w → Asks w u a r → Ends w s
+asked_badly w u a r s is ready x = fails w u a r ready x s is
+
 -- a worker that is told that no more will come
 pub rests_well : (w u v : Work) (s : Record) → v ≡ told u (C.rested false) → Leaves v None s → Ready w → Asks w u C.pause (C.rested false) → Ends w s
 rests_well w u v s is leaves ready x =
