@@ -18,3 +18,5 @@ pub mod Resting
 pub mod KnownJobs
 pub mod KnownScripts
 pub mod Seats
+pub mod Moving
+pub mod Finishing
