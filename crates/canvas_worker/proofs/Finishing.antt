@@ -6,6 +6,7 @@ use Rattle.canvas_rewrite.specs.FrozenView.{Load}
 use Rattle.canvas_rewrite.specs.Planned.{IsPlan}
 use Rattle.canvas_message.specs.Content.{Content}
 use Rattle.canvas_backend.specs.Roster.{Roster, roster_of}
+use Rattle.canvas_broker.specs.Callers.{Empties}
 use Rattle.canvas_runs.specs.Core.{State, taking, resting, over, answered, left_after, Between, IsCoreRun}
 use Rattle.canvas_runs.specs.Following.{Pass, Seat, Working, Followed, begins, IsDone}
 use Rattle.canvas_runs.specs.Worker.{worker, working}
@@ -48,7 +49,7 @@ module _ (l : Line) where
     serves = w.serves;
   }
 
-  closed : (pass : Pass) (seat : Seat) (p : Progress) (w : Worked (roster_of l) (starting pass seat) p) → (p.left ≡ over) × (p.held ≡ []) → IsDone (roster_of l) (carried p w.run)
+  closed : (pass : Pass) (seat : Seat) (p : Progress) (w : Worked (roster_of l) (starting pass seat) p) → (p.left ≡ over) × (p.held ≡ []) × Empties p.pass → IsDone (roster_of l) (carried p w.run)
   closed pass seat p w whole =
       let together : GoTogether l (left_after (enveloped (roster_of l)) taking w.run) (left_after (worker l) taking w.run) = (cores_are_workers l w.run w.is_core).1 in
       let between : Between (enveloped (roster_of l)) (left_after (enveloped (roster_of l)) taking w.run) = subst (λ s. Between (enveloped (roster_of l)) s) (sym (w.leaves ∙ whole.0)) tt in
@@ -61,7 +62,7 @@ workers_start l plan broker desk number pass seat is of home = record {
   plan = (l, plan, is);
   inside = refl;
   can = tt;
-  bare = λ rests. absurd (never rests);
+  rested = λ rests. absurd (never rests);
   counts = (omega arith, omega arith, omega arith, omega arith, omega arith);
 }
   where
@@ -79,4 +80,5 @@ workers_finish l plan broker desk number pass seat is r f =
       seat_is = f.is_of.seat;
       counts = f.is_of.counts;
       done = λ none. closed l pass seat f.ended worked (f.is_of.whole none);
+      empty = λ none. subst (λ p. Empties p) (sym f.is_of.pass) (f.is_of.whole none).2;
     }
