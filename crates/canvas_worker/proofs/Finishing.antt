@@ -62,7 +62,7 @@ workers_start l plan broker desk number pass seat is of home = record {
   plan = (l, plan, is);
   inside = refl;
   can = tt;
-  bare = λ rests. absurd (never rests);
+  rested = λ rests. absurd (never rests);
   counts = (omega arith, omega arith, omega arith, omega arith, omega arith);
 }
   where
@@ -80,5 +80,5 @@ workers_finish l plan broker desk number pass seat is r f =
       seat_is = f.is_of.seat;
       counts = f.is_of.counts;
       done = λ none. closed l pass seat f.ended worked (f.is_of.whole none);
-      empty = λ none. subst Empties (sym f.is_of.pass) (f.is_of.whole none).2;
+      empty = λ none. subst (λ p. Empties p) (sym f.is_of.pass) (f.is_of.whole none).2;
     }

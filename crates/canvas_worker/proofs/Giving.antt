@@ -108,7 +108,7 @@ module _ (w u : Work) (es : List Envelope) (e : Envelope) (ready : Ready w) (x :
       plan = (ready.plan.0, ready.plan.1, ap (λ (d : Desk). d.plan) x.desk ∙ ready.plan.2);
       inside = refl;
       can = subst (λ (d : Desk). Can d.plan u.seat core.left) (sym x.desk) can;
-      bare = λ rests. absurd (given_never plan e (subst (λ s. answered (enveloped plan) s (C.taken (Some e)) ≡ C.resting) (takes_taking w.core.left x.asked_is) rests));
+      rested = λ rests. absurd (given_never plan e (subst (λ s. answered (enveloped plan) s (C.taken (Some e)) ≡ C.resting) (takes_taking w.core.left x.asked_is) rests));
       counts = tallied plan C.take (C.taken (Some e)) (progress w).tally (progress given).tally counted;
     };
     moved = gives es e between batched from_held;

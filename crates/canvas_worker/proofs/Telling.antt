@@ -4,7 +4,7 @@ use Rattle.std.specs.Prelude.{MatchResult}
 use Rattle.canvas_message.specs.declared.envelope.Envelope.{Envelope}
 use Rattle.canvas_backend.specs.Callers.{Desk}
 use Rattle.canvas_backend.specs.Roster.{Roster}
-use Rattle.canvas_broker.specs.Callers.{Empties, Took}
+use Rattle.canvas_broker.specs.Callers.{Empties}
 use Rattle.canvas_runs.specs.Book.{Book, book_on}
 use Rattle.canvas_runs.specs.Calls.{broker_call, backend_call, reads_member}
 use Rattle.canvas_runs.specs.Core as C
@@ -108,7 +108,7 @@ module _ (w u : Work) (a : Asked) (r : Answer) (ready : Ready w) (x : Asks w u a
     plan = (ready.plan.0, ready.plan.1, ap (λ (d : Desk). d.plan) x.desk ∙ ready.plan.2);
     inside = refl;
     can = subst (λ (d : Desk). Can d.plan u.seat core.left) (sym x.desk) can;
-    bare = x.still;
+    rested = x.still;
     counts = tallied plan a r (progress w).tally after.tally counted;
   }
 
@@ -129,8 +129,8 @@ module _ (w u : Work) (a : Asked) (r : Answer) (ready : Ready w) (x : Asks w u a
   well (Err s) e = fails s e
 
   -- a worker that ends without a fault
-  ends_so : (v : Work) → v ≡ told u r → (s : Record) → Leaves v None s → after.left ≡ C.over → after.held ≡ [] → Empties after.pass → Ends w s
-  ends_so v e s leaves over bare empty =
+  ends_so : (v : Work) → v ≡ told u r → (s : Record) → Leaves v None s → (after.left ≡ C.over) × (after.held ≡ []) × Empties after.pass → Ends w s
+  ends_so v e s leaves whole =
       let is : v ≡ with_core u core = e ∙ ap (λ c. with_core u c) core_is in
       record {
         ended = after;
@@ -141,7 +141,7 @@ module _ (w u : Work) (a : Asked) (r : Answer) (ready : Ready w) (x : Asks w u a
           pass = leaves.pass ∙ ap (λ (z : Work). z.pass) is;
           seat = leaves.seat ∙ ap (λ (z : Work). z.seat) is;
           counts = leaves.counts ∙ ap (λ (z : Work). (progress z).tally) is;
-          whole = λ _. (over, bare, empty);
+          whole = λ _. whole;
         };
       }
 
@@ -159,5 +159,4 @@ asked_badly w u a r s is ready x = fails w u a r ready x s is
 pub rests_well : (w u v : Work) (s : Record) → v ≡ told u (C.rested false) → Leaves v None s → Ready w → Asks w u C.pause (C.rested false) → Ends w s
 rests_well w u v s is leaves ready x =
     let rests : w.core.left ≡ C.resting = rests_over w.core.left x.asked_is in
-    ends_so w u C.pause (C.rested false) ready x v is s leaves (ap (λ l. answered (enveloped w.desk.plan) l (C.rested false)) rests) (x.held ∙ (ready.bare rests).0)
-    (subst Empties (sym x.makes) (ready.bare rests).1)
+    ends_so w u C.pause (C.rested false) ready x v is s leaves (ap (λ l. answered (enveloped w.desk.plan) l (C.rested false)) rests, x.held ∙ (ready.rested rests).0, subst (λ p. Empties p) (sym x.makes) (ready.rested rests).1)

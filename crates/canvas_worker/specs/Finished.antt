@@ -11,8 +11,8 @@ use Rattle.canvas_runs.specs.Following.{Pass, Seat, Working, Followed, begins, I
 use Rattle.canvas_worker.specs.Work.{Ready, Gives, begun, tally_of}
 use Rattle.canvas_worker.specs.declared.record.Record.{Record}
 
--- The record's pass and seat have followed a core run from where they were given to the worker; without a fault it ended outside of scripts, and its
--- last take found nothing.
+-- The record's pass and seat have followed a core run from where they were given to the worker; without a fault it ended outside of scripts, and the last
+-- take found nothing.
 pub record Finished (plan : Roster) (number : ℕ) (pass : Pass) (seat : Seat) (r : Record) : Type 0 where
   pub same_number : r.number ≡ number
   pub ended : Working

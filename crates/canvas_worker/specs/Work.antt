@@ -66,15 +66,15 @@ abbrev pub one_taken : Work → Work
 one_taken w =
     record { broker = w.broker; desk = w.desk; number = w.number; pass = w.pass; seat = w.seat; core = w.core; held = w.held; taken = min most (w.taken + 1); published = w.published; first = w.first; parts = w.parts }
 
--- its pass is of its broker, its seat of its backend, which is one of a plan, and the backend lets the seat do what is left; a worker that rests
--- holds nothing
+-- its pass is of its broker, its seat of its backend, which is one of a plan, and the backend lets the seat do what is left. A worker that rests
+-- holds nothing, and its last take found nothing
 pub record Ready (w : Work) : Type 0 where
   pub of : w.pass.of ≡ w.broker
   pub home : w.seat.of ≡ w.desk.id
   pub plan : (l : Line) × IsPlan l × (w.desk.plan ≡ roster_of l)
   pub inside : w.core.is_out ≡ false
   pub can : Can w.desk.plan w.seat w.core.left
-  pub bare : w.core.left ≡ resting → (w.held ≡ []) × Empties w.pass
+  pub rested : w.core.left ≡ resting → (w.held ≡ []) × Empties w.pass
   pub counts : IsTally (progress w).tally
 
 -- What one poll does at most: one ask of the core is answered, or a batch is taken, or an ask is answered by an envelope that is held or
@@ -104,7 +104,7 @@ pub record Leaves (w : Work) (fault : Option Cause) (r : Record) : Type 0 where
   pub counts : tally_of r ≡ (progress w).tally
   pub fault_is : r.fault ≡ fault
 
--- a record is that of a worker with this number that is here. Without a fault the last ask was a rest answered with no more, and all that was taken was given
+-- a record is that of a worker with this number that is here. Without a fault the last ask was a rest answered with no more, all that was taken was given
 -- to the core, and the last take found nothing
 pub record IsOf (number : ℕ) (p : Progress) (r : Record) : Type 0 where
   pub same_number : r.number ≡ number

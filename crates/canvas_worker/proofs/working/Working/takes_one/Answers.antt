@@ -2,7 +2,7 @@ use Rattle.std.proofs.Common.{rules, ◌≡◌, refl, sym, subst, ap, ◌∙◌,
 use Rattle.canvas_task.specs.History.{calls}
 use Rattle.canvas_message.specs.declared.envelope.Envelope.{Envelope}
 use Rattle.canvas_broker.specs.Broker as broker
-use Rattle.canvas_broker.specs.Callers.{Empties, Stands, Took}
+use Rattle.canvas_broker.specs.Callers.{Stands, Empties}
 use Rattle.canvas_runs.specs.Core as C
 use Rattle.canvas_worker.specs.Held.{held_in}
 use Rattle.canvas_worker.specs.Standing.{asked}
@@ -41,8 +41,7 @@ returns-in-None g c =
     let u : Work = record { broker = c.self.inside.broker.now; desk = c.self.inside.backend.now; number = c.self.inside.number; pass = c.take.new.pass; seat = c.self.inside.seat; core = c.self.inside.core; held = held_in c.after_none.result; taken = c.self.inside.taken; published = c.self.inside.published; first = c.self.inside.first; parts = c.self.inside.parts } in
     let asks : asked w.core.left ≡ C.take = is_take (asked w.core.left) c.requires.asks in
     let bare : u.held ≡ [] = search rules in
-    let same : u.pass ≡ w.pass = search rules in
-    let empty : Empties u.pass = subst Empties (sym same) (search rules) in
+    let empty : Empties u.pass = search rules in
     asked_well w u C.take (C.taken None) c.answers.result c.answers.ensures c.requires.ready (record {
       asked_is = asks;
       suits = tt;
