@@ -1,13 +1,16 @@
 -- What a run on threads promises, from what worker 0 has taken in, its own work and its reads.
-use Rattle.std.proofs.Common.{◌≡◌, ◌∙◌, ℕ, suc, ◌+◌, List, [], ◌∷◌, ◌++◌, All, length, map, min, Option, Some, None, inl, refl, sym, ap, subst, append-nil, arith}
+use Rattle.std.proofs.Common.{◌≡◌, ◌∙◌, ℕ, zero, suc, ◌+◌, List, [], ◌∷◌, ◌++◌, All, length, map, min, Option, Some, None, inl, refl, sym, ap, subst, append-nil, arith}
 use Rattle.std.proofs.lemmas.List.Elements.{All-head, All-tail}
+use Rattle.std.specs.Prelude.{IfNone}
 use Rattle.std.specs.Global.{Global}
 use Rattle.crossbeam_queue.specs.SegTies.{SegId}
 use Rattle.atomic_table.specs.Seated.{TableId}
-use Rattle.canvas_rewrite.specs.Eval.{State}
+use Rattle.canvas_sig.specs.Tree.{count}
+use Rattle.canvas_rewrite.specs.Eval.{State, state_of, eval, nothing}
 use Rattle.canvas_rewrite.specs.Frozen.{Line, count_line, tree_of}
 use Rattle.canvas_rewrite.specs.Planned.{IsPlan}
-use Rattle.canvas_rewrite.specs.States.{states}
+use Rattle.canvas_rewrite.specs.States.{states, numbers_from}
+use Rattle.canvas_rewrite.proofs.Numbered.{count_elements}
 use Rattle.canvas_message.specs.Content.{Content}
 use Rattle.canvas_message.specs.Effects.{first_messages}
 use Rattle.canvas_message.specs.declared.envelope.Envelope.{Envelope}
@@ -24,10 +27,10 @@ use Rattle.canvas_runs.specs.Lists.{Each}
 use Rattle.canvas_runs.specs.Rows.{reads_from, RanTo, RanWell, EachMay}
 use Rattle.canvas_runs.specs.Run.{IsRead, published_all}
 use Rattle.canvas_runs.specs.Tally.{Tally as Counts, Adds, EachCounts, most, none_yet}
-use Rattle.canvas_runs.specs.Worker.{worker}
+use Rattle.canvas_runs.specs.Worker.{sealed, worker}
 use Rattle.canvas_runs.proofs.Causes.{by_cause, completed_once, by_its_cause}
 use Rattle.canvas_runs.proofs.FirstLaw.{first_part}
-use Rattle.canvas_runs.proofs.FromCrew.{the_run, the_closed}
+use Rattle.canvas_runs.proofs.FromCrew.{passes, seats, the_run, the_closed}
 use Rattle.canvas_runs.proofs.Rows.{rows_of_well, rows_of_any}
 use Rattle.canvas_runs.proofs.Tallies.{tallies_count}
 use Rattle.canvas_worker.specs.Finished.{Finished}
@@ -35,8 +38,8 @@ use Rattle.canvas_worker.specs.declared.record.Record.{Record}
 use Rattle.canvas_worker.specs.declared.cause.Cause.{Cause}
 use Rattle.canvas_worker.specs.declared.cause.Cause.TheVariants.{Memory, Stopped}
 use Rattle.canvas_engine.specs.Correct.{AreWorkers, IsRun, IsThreadFault, AreTallies, counts_of}
-use Rattle.canvas_engine.specs.Crews.{Crew, IsStart, tallies_from}
-use Rattle.canvas_engine.specs.Slots.{AllRan, IsWell, Takes, tally_in}
+use Rattle.canvas_engine.specs.Crews.{Crew, IsStart, IsWellGathered, tallies_from}
+use Rattle.canvas_engine.specs.Slots.{AllRan, IsWell, Takes, nothing_counted, tally_in}
 use Rattle.canvas_engine.specs.declared.running.Start.{Start}
 use Rattle.canvas_engine.specs.declared.slot.Slot.{Slot}
 use Rattle.canvas_engine.proofs.Slots.{each_ran, crew_of}
@@ -146,6 +149,8 @@ module _ (l : Line) (n : ℕ) (b : SegId Global) (d : Desk) (pass : Pass) (seat 
           objects = (of, seat_of, plan);
           ran = whole;
           workers = c.count;
+          calls = (passes l r.pass after this).1;
+          entries = seats l r.pass after this;
           run = run;
           queue = refl;
           table = refl;
@@ -164,6 +169,22 @@ module _ (l : Line) (n : ℕ) (b : SegId Global) (d : Desk) (pass : Pass) (seat 
 pub halted_may : (n : ℕ) (ss : List State) (cause : Cause) (rows : List State) → AreWorkers n → EachMay rows ss → IsThreadFault n ss (Halted cause (Some (record { rows = rows })))
 halted_may n ss Memory rows w may = (w, may)
 halted_may n ss Stopped rows w may = (w, may)
+
+long_numbers : (k n : ℕ) → length (numbers_from k n) ≡ n
+long_numbers k zero = refl
+long_numbers k (suc n) = ap suc (long_numbers (suc k) n)
+
+long_map : {X Y : Type 0} (f : X → Y) (xs : List X) → length (map f xs) ≡ length xs
+long_map f [] = refl
+long_map f (x ∷ xs) = ap suc (long_map f xs)
+
+-- there is a state for each task
+pub long_states : (l : Line) → length (states (tree_of l)) ≡ count_line l
+long_states l = long_map (λ k. state_of k (eval (tree_of l) nothing).rows) (numbers_from 1 (count (tree_of l))) ∙ (long_numbers 1 (count (tree_of l)) ∙ count_elements l)
+
+-- and an envelope for each message
+pub long_envelopes : (es : List Envelope) (ms : List Content) → es ≡ map sealed ms → length es ≡ length ms
+long_envelopes es ms e = ap (λ (xs : List Envelope). length xs) e ∙ long_map sealed ms
 
 -- rows that hold nothing
 pub pending_may : (rows ss : List State) → length rows ≡ length ss → All (λ s. s ≡ None) rows → EachMay rows ss
@@ -223,3 +244,15 @@ gathered l n s start sent after p t made ran many taken =
       c.tallies,
       c.done,
     )
+
+pub if_none : {X : Type 0} {P Q : Type 0} (x : Option X) → (P → Q) → IfNone x P → IfNone x Q
+if_none None f p = f p
+if_none (Some a) f p = tt
+
+-- where none of them ended with a fault
+pub well_gathered : (l : Line) (ms : List (Mate (roster_of l))) (xs after : List Slot) (before counted : List Tally) → xs ≡ after → before ≡ nothing_counted 0 ∷ [] → map tally_in after ≡ tallies_from 1 ms
+    → (All (λ x. IsWell x.post) after → Each (λ (m : Mate (roster_of l)). IsDone (roster_of l) m.ended) ms) → All (λ x. IsWell x.post) xs × (counted ≡ before ++ map tally_in xs) → IsWellGathered l ms counted
+well_gathered l ms xs after before counted same b t d w = record {
+  done = d (subst (All (λ x. IsWell x.post)) same w.0);
+  tallies = w.1 ∙ (ap (λ ts. ts ++ map tally_in xs) b ∙ ap (λ ts. nothing_counted 0 ∷ ts) (ap (λ ys. map tally_in ys) same ∙ t));
+}

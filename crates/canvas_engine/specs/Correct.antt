@@ -8,7 +8,7 @@
 --     IsWhole l n turns rows    rows of a run by these turns, and then in rotation, that went on until all workers had ended
 --     IsWholeWithin l n turns most rows    of at most so many steps
 --     IsCut l n turns steps rows     rows of a run that was cut off after so many steps, with some worker that had not ended
-use Rattle.std.specs.Prelude.{◌≡◌, ◌≤◌, ℕ, suc, List, [], ◌∷◌, All, length, Option, Some, None}
+use Rattle.std.specs.Prelude.{◌≡◌, ◌≤◌, ℕ, suc, List, [], ◌∷◌, ◌++◌, All, length, map, Option, Some, None}
 use Rattle.canvas_rewrite.specs.Eval.{State}
 use Rattle.canvas_rewrite.specs.Frozen.{Line, tree_of}
 use Rattle.canvas_rewrite.specs.States.{states}
@@ -16,12 +16,15 @@ use Rattle.canvas_message.specs.declared.envelope.Envelope.{Envelope}
 use Rattle.canvas_backend.specs.Backend.{Log}
 use Rattle.canvas_backend.specs.Roster.{roster_of}
 use Rattle.canvas_broker.specs.Broker.{Line as Entries}
+use Rattle.canvas_runs.specs.Accounts.{Accounts, Ledger}
 use Rattle.canvas_runs.specs.Callers.{queue_of}
+use Rattle.canvas_runs.specs.Calls.{backend_calls}
 use Rattle.canvas_runs.specs.Causes.{ByCause, ByItsCause, completions}
 use Rattle.canvas_runs.specs.Law.{publishes}
 use Rattle.canvas_runs.specs.Rows.{EachMay, RanWell}
-use Rattle.canvas_runs.specs.Run.{Run, Closed}
+use Rattle.canvas_runs.specs.Run.{Run, Closed, published_all}
 use Rattle.canvas_runs.specs.Tally.{Tally as Counts, CountsOf}
+use Rattle.canvas_runs.specs.Worker.{sealed, working}
 use Rattle.canvas_runs.specs.TurnLaws.{held_rows}
 use Rattle.canvas_runs.specs.Turns.{IsWorker, RanWhole, RanUntil}
 use Rattle.canvas_engine.specs.declared.records.Records.{Records}
@@ -94,7 +97,10 @@ pub record IsRun (l : Line) (n : ℕ) (rows : List State) (r : Records) : Type 0
   -- Each of the n workers, and worker 0, has followed a core run, and all ended between scripts. Worker 0 published all first messages before, and read each task at the end: these are the rows.
   pub ran : RanWell l r.pass r.seat rows
   pub workers : length ran.to.ran.mates ≡ n
-  -- the broker's one legal history and the backend's are those of a closed run of the plan
+  -- The broker has one legal history, and the backend one. Of each worker they have just its calls, each once and in its order; worker i is the i-th that is named in each.
+  pub calls : Accounts (roster_of l) ran.to.ran.mates (published_all (map sealed ran.to.ran.opening)) ran.to.ran.works.made (queue_of r.pass)
+  pub entries : Ledger (roster_of l) ran.to.ran.mates (backend_calls (working (roster_of l)) ran.to.ran.works.run ++ ran.to.ran.closing) r.seat.seen
+  -- they are those of a closed run of the plan
   pub run : Run l
   pub queue : run.queue ≡ queue_of r.pass
   pub table : run.table ≡ r.seat.seen

@@ -20,7 +20,8 @@ use canvas_backend::{Backend, BackendSeat};
 use canvas_broker::{Broker, BrokerPass};
 use canvas_rewrite::Plan;
 use canvas_task::{Fault, ListOf, Outcome, TaskNo};
-use canvas_worker::{InFlight, OpenGate, Record, Stop};
+use canvas_worker::{InFlight, OpenGate, Record, Stop, Worker};
+use futures::executor::block_on;
 use std::alloc::{AllocGlobal, Global};
 use std::random::RandomSource;
 use std::sync::Wait;
@@ -103,7 +104,14 @@ fn work_alone<R: Wait + RandomSource + AllocGlobal>(
     requires own { (pass.of ≡ broker.now) × (seat.of ≡ backend.now.id) }
     ensures { IfSome result (Finished backend.now.plan 0 pass seat) }
 {
-    None
+    let flight = InFlight::new(0);
+    let worker = Worker::new(
+        rt, alloc, 0, broker, pass, backend, seat, &OpenGate, stop, &flight,
+    );
+    match block_on(rt, worker) {
+        Ok(left) => Some(left),
+        Err(_) => None,
+    }
 }
 
 impl Gathered {
@@ -147,6 +155,7 @@ impl Gathered {
             mut tallies,
         } = self;
         let Some(left) = work_alone(rt, alloc, &broker, pass, &backend, seat, stop) else {
+            stop.ask();
             return Err(halted(Cause::Memory));
         };
         let own = Tally::of(0, &left).with_published(first);

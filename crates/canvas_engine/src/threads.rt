@@ -9,7 +9,7 @@ ghost use Rattle.canvas_engine.specs.Slots.{IsReady, Ran, AllRan};
 use crate::slot::{Post, Slot};
 use canvas_backend::Backend;
 use canvas_broker::Broker;
-use canvas_worker::{Gate, InFlight, Stop};
+use canvas_worker::{Gate, InFlight, Stop, Worker};
 use futures::executor::block_on;
 use std::alloc::{AllocGlobal, Global};
 use std::mem;
@@ -36,7 +36,13 @@ fn work<R, G>(
 {
     match mem::replace(&mut slot.post, Post::Lost) {
         Post::Ready(pass, seat) => {
-            stop.ask()
+            let worker = Worker::new(
+                rt, alloc, slot.number, broker, pass, backend, seat, gate, stop, flight,
+            );
+            match block_on(rt, worker) {
+                Ok(left) => slot.post = Post::Done(left),
+                Err(_) => stop.ask(),
+            }
         }
         Post::Done(_) => unreachable!(),
         Post::Lost => unreachable!(),

@@ -8,6 +8,8 @@ mod backends;
 #[cfg(test)]
 mod composed;
 #[cfg(test)]
+mod core_parts;
+#[cfg(test)]
 mod cores;
 #[cfg(test)]
 mod definition;
