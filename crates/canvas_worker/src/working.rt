@@ -321,6 +321,7 @@ impl<'a, R: Wait, G: Gate> Working<'a, R, G> {
     }
 
     /// One poll: at most one ask of the core is answered. The record, where the worker has ended.
+    #[tactic(auto, using(crate::proofs::Turns::ends_here))]
     pub(crate) fn turn(self) -> Result<Working<'a, R, G>, Record>
         requires { Ready self }
         ensures { MatchResult result (GoesOn self.entry) (Ends self.entry) }
