@@ -1,0 +1,13 @@
+//! Tests of workers as futures, and of runs on threads.
+#![tactic(auto)]
+
+#[cfg(test)]
+mod gates;
+#[cfg(test)]
+mod grown_runs;
+#[cfg(test)]
+mod polls;
+#[cfg(test)]
+mod rows;
+#[cfg(test)]
+mod stops;
