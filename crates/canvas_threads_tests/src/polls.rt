@@ -106,7 +106,11 @@ where
     let text = spelled::canvas(alloc, "C(.,.)", "add:4,4 mul:8").ok()?;
     let plan = plan_of(alloc, &text)?;
     let (record, polls) = polled(rt, alloc, &plan, gate)?;
-    if is_of_two(&record) { Some(polls) } else { None }
+    if is_of_two(&record) {
+        Some(polls)
+    } else {
+        None
+    }
 }
 
 /// To take, to store and to publish are three for the first task, and to take and to store two for the second; then a batch that is

@@ -169,8 +169,14 @@ fn texts_on_threads(rt: HostRuntime) -> Result<(), Fail> {
     let failing = a_failed_member(rt.alloc())?;
     let nothing = nothing(rt.alloc())?;
     for workers in [1, 2, 16] {
-        assert!(rt; reports(&rt, rt.alloc(), &failing, workers), "{workers} workers");
-        assert!(rt; reports(&rt, rt.alloc(), &nothing, workers), "{workers} workers");
+        assert!(rt;
+            reports(&rt, rt.alloc(), &failing, workers),
+            "{workers} workers"
+        );
+        assert!(rt;
+            reports(&rt, rt.alloc(), &nothing, workers),
+            "{workers} workers"
+        );
     }
     Ok(())
 }
@@ -191,7 +197,10 @@ fn numbers_of_workers(rt: HostRuntime) -> Result<(), Fail> {
     let failing = a_failed_member(rt.alloc())?;
     let plan = plan_of(rt.alloc(), &failing.text).ok_or("no plan")?;
     for workers in [0, 17, 4_294_967_295] {
-        assert!(rt; is_refused(&rt, rt.alloc(), &plan, workers), "{workers} workers");
+        assert!(rt;
+            is_refused(&rt, rt.alloc(), &plan, workers),
+            "{workers} workers"
+        );
     }
     Ok(())
 }

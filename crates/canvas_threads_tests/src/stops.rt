@@ -133,7 +133,10 @@ fn stopped_by_a_gate(rt: HostRuntime) -> Result<(), Fail> {
         assert_eq!(rt; rows, Some(most as usize + 1), "after {most}");
         for workers in [2, 16] {
             let rows = stopped_after(&rt, rt.alloc(), &hundred, workers, most);
-            assert!(rt; rows.is_some_and(|rows| rows > most as usize && rows <= 100), "{workers} workers, after {most}");
+            assert!(rt;
+                rows.is_some_and(|rows| rows > most as usize && rows <= 100),
+                "{workers} workers, after {most}"
+            );
         }
     }
     Ok(())
