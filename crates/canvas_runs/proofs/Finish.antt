@@ -1,10 +1,11 @@
 -- A core run that ends between scripts has done all that it owes.
-use Rattle.std.proofs.Common.{⊎_elim, ◌≡◌, ◌⊎◌, ℕ, zero, suc, Bool, true, false, cond, eqb, List, [], ◌∷◌, ◌++◌, length, Option, Some, None, refl, sym, ap, subst, inl, inr, append_assoc}
+use Rattle.std.proofs.Common.{⊎_elim, ◌≡◌, ◌⊎◌, ℕ, zero, suc, Bool, true, false, cond, eqb, List, [], ◌∷◌, ◌++◌, length, Option, Some, None, refl, sym, ap, subst, ◌∙◌, inl, inr, append_assoc}
+use Rattle.std.proofs.lemmas.Bool.{eq-eqb}
 use Rattle.canvas_message.specs.Events.{In}
 use Rattle.canvas_runs.specs.Lists.{Each, firsts, at}
 use Rattle.canvas_message.specs.Job.{store, publish, hand_in}
 use Rattle.canvas_runs.specs.Protocol.{Protocol}
-use Rattle.canvas_runs.specs.Core.{keep, taken, sent, kept, counted, found, rested, taking, resting, over, failed, owning, doing, reading, Jobs, Doing, Asked, Answer, settled, ask, opens, handed_in, answered, ReadsBack, IsCoreRun, left_after, Between}
+use Rattle.canvas_runs.specs.Core.{keep, taken, sent, kept, counted, found, rested, taking, resting, over, failed, owning, doing, reading, Jobs, Doing, Asked, Answer, is_due, settled, ask, opens, handed_in, answered, ReadsBack, IsCoreRun, left_after, Between}
 use Rattle.canvas_message.specs.Events.{Event}
 use Rattle.canvas_runs.proofs.Meaning.{JobOf, Form, Ordered, Has, Evaluates}
 use Rattle.canvas_runs.specs.Calls.{BrokerCall, published, took, BackendCall, stored, returned, has_read, broker_call, backend_call, broker_calls, backend_calls, ReadsMembers, reads_member}
@@ -69,6 +70,22 @@ module _ (X : Protocol) where
   backed_more us vs (publish m ∷ js) f b = backed_more us vs js f b
   backed_more us vs (hand_in g t c ∷ js) f b = (f t b.0, b.1)
 
+  -- a store of another task leaves the part as it was
+  not_due : (t : ℕ) (us : List ℕ) (js : Jobs X) → is_due t js ≡ false → Backed (t ∷ us) js → Backed us js
+  not_due t us [] n b = tt
+  not_due t us (store u o ∷ js) n b = not_due t (u ∷ us) js n (backed_more (u ∷ t ∷ us) (t ∷ u ∷ us) js swapped b)
+    where
+      swapped : (v : ℕ) → In v (u ∷ t ∷ us) → In v (t ∷ u ∷ us)
+      swapped v (inl e) = inr (inl e)
+      swapped v (inr (inl e)) = inl e
+      swapped v (inr (inr i)) = inr (inr i)
+  not_due t us (publish m ∷ js) n b = not_due t us js n b
+  not_due t us (hand_in g u c ∷ js) n (inl e, last) = absurd (true_false (sym (eq-eqb t u (sym e)) ∙ n))
+    where
+      true_false : true ≡ false → ⊥
+      true_false e = cc
+  not_due t us (hand_in g u c ∷ js) n (inr i, last) = (i, last)
+
   nothing_in : (vs : List ℕ) (u : ℕ) → In u [] → In u vs
   nothing_in vs u i = elim i [ ]
 
@@ -115,7 +132,7 @@ module _ (X : Protocol) where
     known_step resting (rested true) us rest p b q g k = k us tt
     known_step (owning m) (kept true) us rest p b q g k = k (X.no m ∷ us) (settled_backed (X.no m ∷ us) (X.ended m (X.outcome m)) true (backed_more (X.no m ∷ []) (X.no m ∷ us) (X.ended m (X.outcome m)) (λ u i. ⊎_elim (λ e. inl e) (λ z. elim z [ ]) i) (backs.ended m (X.outcome m) p.0)))
     known_step (owning m) (kept false) us rest p b q g k = k (X.no m ∷ us) tt
-    known_step (doing (store t o ∷ js) d) (kept a) us rest p b q g k = k (t ∷ us) (settled_backed (t ∷ us) js a b)
+    known_step (doing (store t o ∷ js) d) (kept a) us rest p b q g k = k (t ∷ us) (settled_backed (t ∷ us) js (cond (is_due t js) a d) b)
     known_step (doing (publish m ∷ js) d) sent us rest p b q g k = k us (settled_backed us js d b)
     known_step (doing (hand_in h t c ∷ js) d) (counted i) us rest p b q g k =
         (b.0, order.member h t c p.0.0, k (counted_in X.members h i us) (cond_cases (StateBacked (counted_in X.members h i us)) (eqb (suc i) (X.size c)) _ _ (λ e. tt) (λ e. tt)))
@@ -179,6 +196,15 @@ module _ (X : Protocol) where
       settled_ready us (hand_in g t c ∷ js) true p h = (p, h)
       settled_ready us (hand_in g t c ∷ js) false p h = tt
 
+      -- where a store answered First
+      first_due : (t : ℕ) (js : Jobs X) (a d : Bool) → a ≡ true → (d ≡ true) ⊎ Backed (t ∷ []) js → (cond (is_due t js) a d ≡ true) ⊎ Backed [] js
+      first_due t js a d f h = go (is_due t js) refl h
+        where
+          go : (z : Bool) → is_due t js ≡ z → (d ≡ true) ⊎ Backed (t ∷ []) js → (cond z a d ≡ true) ⊎ Backed [] js
+          go true e h = inl f
+          go false e (inl same) = inl same
+          go false e (inr b) = inr (not_due t [] js e b)
+
       settled_owed : (js : Jobs X) (b : Bool) → (b ≡ true) ⊎ Backed [] js → Owed (settled X js b) → Each Done js
       settled_owed [] b h d = tt
       settled_owed (store t o ∷ js) true h d = d
@@ -204,7 +230,7 @@ module _ (X : Protocol) where
       tail_step (owning m) (kept true) us rest p b q g k f =
           (X.no m ∷ us, settled_ready (X.no m ∷ us) (X.ended m (X.outcome m)) true (backed_more (X.no m ∷ []) (X.no m ∷ us) (X.ended m (X.outcome m)) (λ u i. ⊎_elim (λ e. inl e) (λ z. elim z [ ]) i) (backs.ended m (X.outcome m) p.0)) (inl refl), k)
       tail_step (owning m) (kept false) us rest p b q g k f = (X.no m ∷ us, tt, k)
-      tail_step (doing (store t o ∷ js) d) (kept a) us rest p b q g k f = (t ∷ us, settled_ready (t ∷ us) js a b.0 (inl f.0), k)
+      tail_step (doing (store t o ∷ js) d) (kept a) us rest p b q g k f = (t ∷ us, settled_ready (t ∷ us) js (cond (is_due t js) a d) b.0 (first_due t js a d f.0 b.1), k)
       tail_step (doing (publish m ∷ js) d) sent us rest p b q g k f = (us, settled_ready us js d b.0 b.1, k)
       tail_step (doing (hand_in h t c ∷ js) d) (counted i) us rest p b q g k f =
           (counted_in X.members h i us, go (eqb (suc i) (X.size c)) (eqb (suc i) (length (X.members h))) (ap (eqb (suc i)) (order.size h t c p.0.0)), k)
@@ -244,7 +270,7 @@ module _ (X : Protocol) where
           not_first e = cc
       owed_step (doing [] d) r us rest p b q g k f i j l o z = tt
       owed_step (doing (store t w ∷ js) d) (kept a) us rest p b q g k f i j l o z =
-          (subst (λ e. In (stored t w e) backend) (f.0) (j (stored t w a) (inl refl)), settled_owed js a (inl f.0) o)
+          (subst (λ e. In (stored t w e) backend) (f.0) (j (stored t w a) (inl refl)), settled_owed js (cond (is_due t js) a d) (first_due t js a d f.0 b.1) o)
       owed_step (doing (publish m ∷ js) d) sent us rest p b q g k f i j l o z = ((p.0.0, z, i (published (X.sealed m)) (inl refl)), settled_owed js d b.1 o)
       owed_step (doing (hand_in h t c ∷ js) d) (counted n) us rest p b q g k f i j l o z =
           ((n, j (returned h t n) (inl refl), p.0.0, l), subst (Each Done) (sym b.0.1) tt)

@@ -1,11 +1,11 @@
 -- What a core run keeps: where all that it takes and reads is good, so is all that it sends, stores and hands in.
-use Rattle.std.proofs.Common.{◌≡◌, ℕ, suc, ◌+◌, Bool, true, false, eqb, List, [], ◌∷◌, ◌++◌, length, Option, Some, None, refl, sym, ap, subst, ◌∙◌, arith, append_assoc, append-nil}
+use Rattle.std.proofs.Common.{◌≡◌, ℕ, suc, ◌+◌, Bool, true, false, cond, eqb, List, [], ◌∷◌, ◌++◌, length, Option, Some, None, refl, sym, ap, subst, ◌∙◌, arith, append_assoc, append-nil}
 use Rattle.std.proofs.lemmas.Bool.{eqb-true}
 use Rattle.std.proofs.lemmas.List.{length-append}
 use Rattle.canvas_runs.specs.Lists.{Each, firsts, at}
 use Rattle.canvas_message.specs.Job.{Job, store, publish, hand_in}
 use Rattle.canvas_runs.specs.Protocol.{Protocol}
-use Rattle.canvas_runs.specs.Core.{send, keep, part, taken, sent, kept, counted, found, rested, taking, resting, over, failed, owning, doing, reading, Jobs, Doing, Asked, Answer, settled, ask, opens, all_read, answered, ReadsBack, IsCoreRun}
+use Rattle.canvas_runs.specs.Core.{send, keep, part, taken, sent, kept, counted, found, rested, taking, resting, over, failed, owning, doing, reading, Jobs, Doing, Asked, Answer, is_due, settled, ask, opens, all_read, answered, ReadsBack, IsCoreRun}
 use Rattle.canvas_runs.specs.Calls.{reads_member, ReadsMembers}
 use Rattle.canvas_runs.proofs.Words.{each_append, firsts-append, length-firsts, cond_cases, at_front}
 
@@ -114,7 +114,7 @@ module _ (X : Protocol) (Y : Goods X) where
     next_good resting (rested true) p q g = tt
     next_good (owning m) (kept true) p q g = settled_good _ true (k.ended m p)
     next_good (owning m) (kept false) p q g = tt
-    next_good (doing (store t o ∷ js) b) (kept a) p q g = settled_good js a p.1
+    next_good (doing (store t o ∷ js) b) (kept a) p q g = settled_good js (cond (is_due t js) a b) p.1
     next_good (doing (publish m ∷ js) b) sent p q g = settled_good js b p.1
     next_good (doing (hand_in n t c ∷ js) b) (counted i) p q g = cond_cases GoodState (eqb (suc i) (X.size c)) _ _ (λ e. (t, p.0, X.members n, refl, tt)) (λ e. tt)
     next_good (reading n c fs) (found t (Some o)) p q g = one_found n c _ (more_found n c fs t o p q g)

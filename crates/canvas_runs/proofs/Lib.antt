@@ -42,7 +42,6 @@ pub mod Causes
 pub mod Closing
 pub mod Starting
 pub mod Snoc
-pub mod Stepping
 pub mod Rows
 pub mod Tallies
 pub mod Mates

@@ -4,7 +4,7 @@ use Rattle.std.proofs.lemmas.Bool.{eqb-true, eq-eqb}
 use Rattle.canvas_runs.specs.Lists.{Each, total, by, seconds, look_up}
 use Rattle.canvas_message.specs.Job.{store, publish, hand_in}
 use Rattle.canvas_runs.specs.Protocol.{Protocol}
-use Rattle.canvas_runs.specs.Core.{taken, sent, refused, kept, counted, found, rested, taking, resting, owning, doing, reading, Jobs, Doing, Asked, Answer, settled, opens, all_read, ask, answered, ReadsBack, IsCoreRun}
+use Rattle.canvas_runs.specs.Core.{taken, sent, refused, kept, counted, found, rested, taking, resting, owning, doing, reading, Jobs, Doing, Asked, Answer, is_due, settled, opens, all_read, ask, answered, ReadsBack, IsCoreRun}
 use Rattle.canvas_message.specs.Events.{Event, start, running, end_of, completion}
 use Rattle.canvas_runs.proofs.Meaning.{JobOf, Form, names, publishes, Ordered, Evaluates, Once}
 use Rattle.canvas_runs.specs.Calls.{BrokerCall, published, took, BackendCall, stored, returned, has_read, Follows, follows_all, follows_publish, follows_list_take, follows_core_take, broker_call, backend_call, broker_calls, backend_calls, ReadsMembers, reads_member}
@@ -179,8 +179,7 @@ module _ (X : Protocol) where
         let small = within (end_of (X.no m)) _ (value.ended m p.0 p.1) (once.at_end k m p.0) in
         let left = debt_settled (X.ended m (X.outcome m)) true in omega arith
     one_step (owning m) (kept false) p q g y = omega arith
-    one_step (doing (store t o ∷ js) b) (kept true) p q g y = let left = debt_settled js true in omega arith
-    one_step (doing (store t o ∷ js) b) (kept false) p q g y = let left = debt_settled js false in omega arith
+    one_step (doing (store t o ∷ js) b) (kept a) p q g y = let left = debt_settled js (cond (is_due t js) a b) in omega arith
     one_step (doing (publish m ∷ js) b) sent p q g y =
         let left = debt_settled js b in
         let mine : of_opened k (X.opened (X.sealed m)) ≡ names X k m = ap (of_opened k) (order.opened m p.0.0 y) in omega (arith, mine)

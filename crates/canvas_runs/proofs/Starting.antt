@@ -6,7 +6,7 @@ use Rattle.canvas_message.specs.Content.{Content}
 use Rattle.canvas_message.specs.Job.{Job, store, publish, hand_in}
 use Rattle.canvas_message.specs.declared.envelope.Envelope.{Envelope}
 use Rattle.canvas_backend.specs.Roster.{Roster}
-use Rattle.canvas_runs.specs.Core.{Ask, Reply, take, send, keep, part, read, pause, taken, sent, refused, kept, counted, found, rested, State, taking, resting, over, failed, owning, doing, reading, settled, opens, owned, job_done, all_read, ask, answered, Suits, ReadsBack, Between, left_after, IsCoreRun}
+use Rattle.canvas_runs.specs.Core.{Ask, Reply, take, send, keep, part, read, pause, taken, sent, refused, kept, counted, found, rested, State, taking, resting, over, failed, owning, doing, reading, is_due, settled, opens, owned, job_done, all_read, ask, answered, Suits, ReadsBack, Between, left_after, IsCoreRun}
 use Rattle.canvas_runs.specs.Protocol.{Protocol}
 use Rattle.canvas_runs.specs.Calls.{AskedAndAnswered, broker_call, backend_call, broker_calls, backend_calls, reads_member, ReadsMembers}
 use Rattle.canvas_runs.specs.Worker.{worker_on, working}
@@ -51,7 +51,7 @@ module _ (plan : Roster) (ms : List Content) where
   all_read_same g c fs = ap (λ s. cond (eqb (length fs) (X.size c)) s (reading g c fs)) (settled_same (X.completed c fs) false)
 
   job_done_same : (j : Job Content Load Outcome) (js : Jobs) (b : Bool) (r : Answers) → job_done Y j js b r ≡ job_done X j js b r
-  job_done_same (store t o) js b (kept a) = settled_same js a
+  job_done_same (store t o) js b (kept a) = settled_same js (cond (is_due t js) a b)
   job_done_same (publish m) js b sent = settled_same js b
   job_done_same (hand_in g t c) js b (counted n) = refl
   job_done_same j js b r = refl

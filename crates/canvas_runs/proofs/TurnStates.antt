@@ -1,5 +1,5 @@
 -- What a worker has left to do, after the steps of a run by turns: the parts still to come may be returned, and the members of a header that is read are stored.
-use Rattle.std.proofs.Common.{◌≡◌, ◌≢◌, ℕ, suc, Bool, true, false, eqb, ◌==◌, List, [], ◌∷◌, ◌++◌, length, Option, Some, None, is_some, refl, sym, ap, ◌∙◌, subst, append-nil, inl, ne_eqb, arith}
+use Rattle.std.proofs.Common.{◌≡◌, ◌≢◌, ℕ, suc, Bool, true, false, cond, eqb, ◌==◌, List, [], ◌∷◌, ◌++◌, length, Option, Some, None, is_some, refl, sym, ap, ◌∙◌, subst, append-nil, inl, ne_eqb, arith}
 use Rattle.std.proofs.lemmas.Bool.{eqb-true}
 use Rattle.std.specs.Prelude.{if◌then◌else◌}
 use Rattle.canvas_task.specs.declared.outcome.Outcome.{Outcome}
@@ -18,7 +18,7 @@ use Rattle.canvas_backend.specs.Backend.{Results, no_results, kept_or, was, coun
 use Rattle.canvas_backend.specs.Roster.{Roster, roster_of}
 use Rattle.canvas_runs.specs.Accounts.{rows}
 use Rattle.canvas_runs.specs.Calls.{BackendCall, stored, has_read, backend_call, reads_member, ReadsMembers, AskedAndAnswered}
-use Rattle.canvas_runs.specs.Core.{Ask, Reply, take, send, keep, part, read, taken, sent, kept, counted, found, rested, taking, resting, over, failed, owning, doing, reading, settled, ask, opens, answered, left_after, IsCoreRun, Doing, Jobs}
+use Rattle.canvas_runs.specs.Core.{Ask, Reply, take, send, keep, part, read, taken, sent, kept, counted, found, rested, taking, resting, over, failed, owning, doing, reading, is_due, settled, ask, opens, answered, left_after, IsCoreRun, Doing, Jobs}
 use Rattle.canvas_runs.specs.Following.{replied}
 use Rattle.canvas_runs.specs.Lists.{Each, by}
 use Rattle.canvas_runs.specs.Protocol.{Protocol}
@@ -223,7 +223,7 @@ module _ (l : Line) (plan : IsPlan l) where
       (stored_may n xs p ((worker l).no m) ((worker l).outcome m) law.table_legal, tt)
   own_ready back n xs p (owning m) (kept false) is good k h law = tt
   own_ready back n xs p (doing (store t o ∷ js) d) (kept true) is good k h law =
-      settled_ready n (xs ++ (p, (keep t o, kept true)) ∷ []) p (t ∷ k.0) js true k.1
+      settled_ready n (xs ++ (p, (keep t o, kept true)) ∷ []) p (t ∷ k.0) js (cond (is_due t js) true d) k.1
       (stored_may n xs p t o law.table_legal, each_weaker (λ u m. own_may n xs p (keep t o) (kept true) u tt law.table_legal m) k.0 k.2)
   own_ready back n xs p (doing (store t o ∷ js) d) (kept false) is good k h law = absurd (let wrong : false ≡ true = first_answer back n xs p t o false law in cc)
   own_ready back n xs p (doing (publish m ∷ js) d) sent is good k h law =

@@ -16,7 +16,7 @@ use Rattle.canvas_backend.proofs.Rosters.{roster_sound}
 use Rattle.canvas_runs.specs.Accounts.{splits_of, entries, rows}
 use Rattle.canvas_runs.specs.Book.{book_of}
 use Rattle.canvas_runs.specs.Calls.{BrokerCall, published, took, BackendCall, stored, returned, has_read, broker_call, backend_call, backend_calls, takes_one, AskedAndAnswered, reads_member, ReadsMembers}
-use Rattle.canvas_runs.specs.Core.{Ask, Reply, keep, part, read, taken, sent, kept, counted, found, rested, taking, resting, owning, doing, reading, ask, answered, Doing, Jobs, settled, opens, IsCoreRun}
+use Rattle.canvas_runs.specs.Core.{Ask, Reply, keep, part, read, taken, sent, kept, counted, found, rested, taking, resting, owning, doing, reading, ask, answered, Doing, Jobs, is_due, settled, opens, IsCoreRun}
 use Rattle.canvas_runs.specs.Going.{most_calls}
 use Rattle.canvas_runs.specs.Law.{of_task, publishes_one}
 use Rattle.canvas_runs.specs.Lists.{Each, by, at, total, seconds}
@@ -318,7 +318,7 @@ module _ (l : Line) (n : ℕ) (us : List ℕ) (xs : List Step) (t : ByTurns l n 
   covers resting (rested true) p m k e = (0, refl, omega arith)
   covers (owning c) (kept true) p m k e = (0, settled_still ((worker l).ended c ((worker l).outcome c)) true, omega arith)
   covers (owning c) (kept false) p m k e = (0, refl, omega arith)
-  covers (doing (store u o ∷ js) b) (kept a) p m k e = (0, settled_still js a, omega arith)
+  covers (doing (store u o ∷ js) b) (kept a) p m k e = (0, settled_still js (cond (is_due u js) a b), omega arith)
   covers (doing (publish c ∷ js) b) sent p m k e = (0, settled_still js b, omega arith)
   covers (doing (hand_in g u c ∷ js) b) (counted i) p m k e =
       let few = header_few g u c p.0.0 in

@@ -12,7 +12,7 @@ use Rattle.canvas_message.specs.declared.envelope.Envelope.{Envelope}
 use Rattle.canvas_backend.specs.Backend.{no_results}
 use Rattle.canvas_broker.specs.Broker as broker
 use Rattle.canvas_runs.specs.Calls.{ReadsMembers, AskedAndAnswered, reads_member}
-use Rattle.canvas_runs.specs.Core.{Ask, Reply, end, taken, sent, kept, counted, found, rested, taking, resting, over, failed, owning, doing, reading, settled, ask, opens, answered, IsCoreRun, ReadsBack, Doing, Jobs}
+use Rattle.canvas_runs.specs.Core.{Ask, Reply, end, taken, sent, kept, counted, found, rested, taking, resting, over, failed, owning, doing, reading, is_due, settled, ask, opens, answered, IsCoreRun, ReadsBack, Doing, Jobs}
 use Rattle.canvas_runs.specs.Lists.{Each, by}
 use Rattle.canvas_runs.specs.Turns.{Step, is_inside, is_queued, queue_next, queue_after, left, IsWorker, Answers, FirstsRead, some_inside, holds_more, Turned, all_taken, skips, takes}
 use Rattle.canvas_runs.specs.Worker.{worker, sealed}
@@ -104,7 +104,7 @@ module _ (l : Line) where
   ends_idle n xs resting (rested false) h e = sym h
   ends_idle n xs (owning m) (kept true) h e = absurd (settled_on ((worker l).ended m ((worker l).outcome m)) true e)
   ends_idle n xs (owning m) (kept false) h e = absurd cc
-  ends_idle n xs (doing (store t o ∷ js) b) (kept a) h e = absurd (settled_on js a e)
+  ends_idle n xs (doing (store t o ∷ js) b) (kept a) h e = absurd (settled_on js (cond (is_due t js) a b) e)
   ends_idle n xs (doing (publish m ∷ js) b) sent h e = absurd (settled_on js b e)
   ends_idle n xs (doing (hand_in g t c ∷ js) b) (counted i) h e = absurd (handed_on (eqb (suc i) c.size) g c e)
   ends_idle n xs (reading g c fs) (found t (Some o)) h e = absurd (read_on (eqb (length (fs ++ (t, o) ∷ [])) c.size) ((worker l).completed c (fs ++ (t, o) ∷ [])) g c (fs ++ (t, o) ∷ []) e)

@@ -31,10 +31,17 @@ pub data State (M C O : Type 0) : Type 0 where
   failed : State M C O
   -- a message taken, its own outcome not stored yet
   owning : M → State M C O
-  -- these jobs left; whether the latest store answered First
+  -- these jobs left; whether the latest store of the task whose part is due answered First
   doing : List (Job M C O) → Bool → State M C O
   -- the members' outcomes of this completed chord found so far
   reading : ℕ → C → List (ℕ × O) → State M C O
+
+-- whether a part of the task is due
+abbrev pub is_due : {M C O : Type 0} → ℕ → List (Job M C O) → Bool
+is_due t [] = false
+is_due t (store u o ∷ js) = is_due t js
+is_due t (publish m ∷ js) = is_due t js
+is_due t (hand_in g u c ∷ js) = eqb t u
 
 module _ (X : Protocol) where
   abbrev pub Jobs : Type 0
@@ -49,7 +56,7 @@ module _ (X : Protocol) where
   abbrev pub Answer : Type 0
   Answer = Reply X.Envelope X.Outcome
 
-  -- a part is handed in only where the latest store answered First; where nothing is left the script ends
+  -- a part is handed in only where the latest store of its task answered First; where nothing is left the script ends
   abbrev pub settled : Jobs → Bool → Doing
   settled [] b = taking
   settled (hand_in g t c ∷ js) false = taking
@@ -83,7 +90,7 @@ module _ (X : Protocol) where
   handed_in g c n = cond (eqb (suc n) (X.size c)) (reading g c []) taking
 
   abbrev pub job_done : Job X.Message X.Carried X.Outcome → Jobs → Bool → Answer → Doing
-  job_done (store t o) js b (kept a) = settled js a
+  job_done (store t o) js b (kept a) = settled js (cond (is_due t js) a b)
   job_done (publish m) js b sent = settled js b
   job_done (hand_in g t c) js b (counted n) = handed_in g c n
   job_done j js b r = failed

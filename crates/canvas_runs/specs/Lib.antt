@@ -9,8 +9,6 @@ pub mod Run
 pub mod Law
 pub mod Tally
 pub mod Following
-pub mod Steps
-pub mod StepLaws
 pub mod Crew
 pub mod Accounts
 pub mod Causes

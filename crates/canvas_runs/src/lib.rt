@@ -13,7 +13,6 @@ ghost use Rattle.canvas_sig.specs.Tree.{Tree, IsFull, numbered};
 ghost use Rattle.canvas_runs.specs.Callers.{OneList, OneTable, IsARun, ReadsHeld, RowsMay, RowsAre, CanvasRowsMay, CanvasRowsAre, PublishesByCause, PublishesByItsCause, PublishesOnce, CompletesOnce};
 ghost use Rattle.canvas_runs.specs.Causes.{completions};
 ghost use Rattle.canvas_runs.specs.Rows.{RowsOfWell, RowsOfAny, TalliesCount, ARunStands};
-ghost use Rattle.canvas_runs.specs.StepLaws.{Rests, CallFirst, HeldFirst, BatchFirst};
 ghost use Rattle.canvas_runs.specs.Crew.{AreMates, AreRan};
 ghost use Rattle.canvas_runs.specs.Law.{FirstPart, SecondPart};
 ghost use Rattle.canvas_runs.specs.Run.{Run, Closed};
@@ -65,15 +64,6 @@ pub fn law_of_callers()
     ensures by_its_cause { PublishesByItsCause }
     ensures published_once { PublishesOnce }
     ensures completed_once { CompletesOnce }
-{}
-
-/// Where a worker does nothing that is followed, and a step in front of what is followed is followed with it: an ask of its core
-/// answered by its pass or seat, one answered from the envelopes that it holds, and a batch taken.
-pub fn steps_of_workers()
-    ensures rests { Rests }
-    ensures call_first { CallFirst }
-    ensures held_first { HeldFirst }
-    ensures batch_first { BatchFirst }
 {}
 
 /// The rows that worker 0 reads at the end, each task once: those of a run that ended well are the states that evaluating the plan

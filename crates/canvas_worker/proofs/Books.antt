@@ -36,6 +36,9 @@ any_among : (k : ℕ) (xs : List ℕ) → list_any (λ x. x == k) xs ≡ among k
 any_among k [] = refl
 any_among k (x ∷ xs) = ap (λ b. (x == k) || b) (any_among k xs)
 
+pub no_member_zero : (l : Line) → IsPlan l → (g : ℕ) → list_any (λ x. x == 0) (members l g) ≡ false
+no_member_zero l plan g = any_among 0 (members l g) ∙ no_zero l plan g
+
 suc_not : (k : ℕ) → (suc k == 0) ≡ false
 suc_not k = grind (arith, nat_tests)
 

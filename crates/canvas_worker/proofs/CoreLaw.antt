@@ -1,6 +1,5 @@
 -- A core run over envelopes is one of the worker over what they say.
-use Rattle.std.proofs.Common.{◌≡◌, ◌∙◌, ℕ, suc, Bool, true, false, cond, eqb, List, [], ◌∷◌, ◌++◌, map, length, Option, Some, None, Result, Ok, Err, refl, sym, ap, ap₂, subst}
-use Rattle.std.specs.Prelude.{if◌then◌else◌}
+use Rattle.std.proofs.Common.{◌≡◌, ◌∙◌, ℕ, suc, Bool, true, false, cond, eqb, List, [], ◌∷◌, ◌++◌, map, length, Option, Some, None, refl, sym, ap, ap₂, subst}
 use Rattle.canvas_task.specs.declared.outcome.Outcome.{Outcome}
 use Rattle.canvas_rewrite.specs.Frozen.{Line}
 use Rattle.canvas_rewrite.specs.FrozenView.{Load}
@@ -8,16 +7,16 @@ use Rattle.canvas_message.specs.Content.{Content, number_of}
 use Rattle.canvas_message.specs.Effects.{outcome_of, after, body_after, script}
 use Rattle.canvas_message.specs.Job.{Job, store, publish, hand_in}
 use Rattle.canvas_message.specs.declared.envelope.Envelope.{Envelope}
-use Rattle.canvas_message.specs.declared.fault.MessageFault.{MessageFault}
 use Rattle.canvas_backend.specs.Roster.{roster_of}
-use Rattle.canvas_runs.specs.Book.{Book, book_on, message_known}
-use Rattle.canvas_runs.specs.Core.{take, send, keep, part, read, pause, taken, sent, refused, kept, counted, found, rested, State, taking, resting, over, failed, owning, doing, reading as state_reading, settled, opens, owned, job_done, ask, answered, Suits, ReadsBack, Between, left_after, IsCoreRun}
+use Rattle.canvas_runs.specs.Book.{Book, book_on}
+use Rattle.canvas_runs.specs.Core.{take, send, keep, part, read, pause, taken, sent, refused, kept, counted, found, rested, State, taking, resting, over, failed, owning, doing, reading as state_reading, is_due, settled, opens, owned, job_done, ask, answered, Suits, ReadsBack, Between, left_after, IsCoreRun}
 use Rattle.canvas_runs.specs.Protocol.{Protocol}
-use Rattle.canvas_runs.specs.Worker.{worker, reading, known_one, opened}
+use Rattle.canvas_runs.specs.Worker.{worker, opened}
 use Rattle.canvas_worker.specs.Asks.{Asked, Answer}
 use Rattle.canvas_worker.specs.Cores.{IsAlike, GoTogether, CoresAreWorkers}
 use Rattle.canvas_worker.specs.Enveloped.{said, enclosed, enveloped, kept as kept_envelope}
 use Rattle.canvas_worker.specs.Standing.{Left}
+use Rattle.canvas_worker.proofs.Opening.{opened_as}
 use Rattle.canvas_worker.proofs.Sendable.{envelope_so, said_of}
 
 module _ (l : Line) where
@@ -47,8 +46,14 @@ module _ (l : Line) where
   settled_alike (hand_in g t c ∷ ks) true = (refl, refl)
   settled_alike (hand_in g t c ∷ ks) false = tt
 
+  due_alike : (t : ℕ) (ks : Jobs) → is_due t (map enclosed ks) ≡ is_due t ks
+  due_alike t [] = refl
+  due_alike t (store u o ∷ ks) = due_alike t ks
+  due_alike t (publish c ∷ ks) = due_alike t ks
+  due_alike t (hand_in g u c ∷ ks) = refl
+
   job_alike : (k : Job Content Load Outcome) (ks : Jobs) (b : Bool) (r : Answer) → IsAlike (job_done X (enclosed k) (map enclosed ks) b r) (job_done Y k ks b r)
-  job_alike (store t o) ks b (kept a) = settled_alike ks a
+  job_alike (store t o) ks b (kept a) = subst (λ z. IsAlike (settled X (map enclosed ks) (cond z a b)) (settled Y ks (cond (is_due t ks) a b))) (sym (due_alike t ks)) (settled_alike ks (cond (is_due t ks) a b))
   job_alike (publish c) ks b sent = settled_alike ks b
   job_alike (hand_in g t c) ks b (counted n) = part_alike (eqb (suc n) c.size)
     where
@@ -61,17 +66,9 @@ module _ (l : Line) where
 
   -- ---- what was taken
 
-  known_so : (r : Result Content MessageFault) (c : Content) → known_one book r ≡ Some c → r ≡ Ok c
-  known_so (Ok d) c h = by (message_known book d) h
-    where
-      by : (z : Bool) → (if z then Some d else None) ≡ Some c → ◌≡◌ {A = Result Content MessageFault} (Ok d) (Ok c)
-      by true h = cc
-      by false h = absurd cc
-  known_so (Err e) c h = absurd cc
-
   opens_alike : (e : Envelope) (o : Option Content) → opened book e ≡ o → IsAlike (opens X (kept_envelope o e)) (opens Y o)
   opens_alike e None is = tt
-  opens_alike e (Some c) is = said_of e c (known_so (reading e) c is)
+  opens_alike e (Some c) is = said_of e c (opened_as book e c is).0
 
   -- ---- members
 

@@ -38,7 +38,7 @@ unsent_shown (doing (publish e ∷ js) b) = refl
 unsent_shown (doing (hand_in g t c ∷ js) b) = refl
 unsent_shown (reading g c fs) = refl
 
-unsent_answered : (book : Book) (s : Left) (r : Answer) → answered (enveloped_by book) (unsent s) r ≡ answered (enveloped_by book) s r
+pub unsent_answered : (book : Book) (s : Left) (r : Answer) → answered (enveloped_by book) (unsent s) r ≡ answered (enveloped_by book) s r
 unsent_answered book (doing (publish e ∷ js) b) sent = refl
 unsent_answered book (doing (publish e ∷ js) b) refused = refl
 unsent_answered book (doing (publish e ∷ js) b) (taken x) = refl
@@ -48,7 +48,7 @@ unsent_answered book (doing (publish e ∷ js) b) (found t x) = refl
 unsent_answered book (doing (publish e ∷ js) b) (rested a) = refl
 unsent_answered book s r = refl
 
-unsent_drops : (book : Book) (s : Left) (r : Answer) → drops book (unsent s) r ≡ drops book s r
+pub unsent_drops : (book : Book) (s : Left) (r : Answer) → drops book (unsent s) r ≡ drops book s r
 unsent_drops book taking r = refl
 unsent_drops book (doing (publish e ∷ js) b) r = refl
 unsent_drops book s r = refl

@@ -7,3 +7,16 @@ pub mod ScriptsMade
 pub mod Opening
 pub mod Leading
 pub mod PlanBooks
+pub mod Stepping
+pub mod Shown
+pub mod Dues
+pub mod Asking
+pub mod Turns
+pub mod Telling
+pub mod Giving
+pub mod Resting
+pub mod KnownJobs
+pub mod KnownScripts
+pub mod Seats
+pub mod Moving
+pub mod Finishing

@@ -8,3 +8,10 @@ pub mod Phases
 pub mod Codes
 pub mod Cores
 pub mod Leading
+pub mod Progress
+pub mod Steps
+pub mod StepLaws
+pub mod Seats
+pub mod Held
+pub mod Work
+pub mod Finished

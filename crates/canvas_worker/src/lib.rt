@@ -1,4 +1,4 @@
-//! Workers of a plan: what one does next, without the queue and the backend that answer it.
+//! Workers of a plan: what one does next, and how it does that at a broker and a backend that it shares with others.
 #![tactic(auto)]
 
 mod ask;
@@ -6,20 +6,36 @@ mod backends;
 mod book;
 mod cause;
 mod core_run;
+mod due;
+mod gate;
+mod in_flight;
 mod known;
 mod phase;
+mod record;
 mod script;
 mod sealed;
 mod sealing;
+mod source;
 mod stages;
+mod stop;
+mod worker;
+mod working;
 
 ghost use Rattle.canvas_worker.specs.Cores.{CoresAreWorkers};
+ghost use Rattle.canvas_worker.specs.Finished.{WorkersStart, WorkersFinish};
 ghost use Rattle.canvas_worker.specs.Leading.{NoneLead, OneMoreLeads, HandedLeads, HandsOut, PlanLeads};
+ghost use Rattle.canvas_worker.specs.Seats.{WaitingCan, CanAsk, CanGoOn};
+ghost use Rattle.canvas_worker.specs.StepLaws.{Rests, CallFirst, HeldFirst, BatchFirst};
 
 pub use ask::{Ask, Reply};
 pub use book::Book;
 pub use cause::Cause;
 pub use core_run::Core;
+pub use gate::{Gate, OpenGate};
+pub use in_flight::InFlight;
+pub use record::Record;
+pub use stop::Stop;
+pub use worker::Worker;
 
 /// A core keeps messages as their envelopes. The asks and answers of a core are those of the worker that the law of runs speaks of.
 pub fn law_of_cores()
@@ -33,4 +49,27 @@ pub fn law_of_answers()
     ensures handed { HandedLeads }
     ensures hands_out { HandsOut }
     ensures plan { PlanLeads }
+{}
+
+/// What a worker asks its backend is what that lets its seat do. The worker knows of no other: this follows from what it has left to
+/// do, and from what its seat has seen.
+pub fn law_of_seats()
+    ensures starts { WaitingCan }
+    ensures allows { CanAsk }
+    ensures goes_on { CanGoOn }
+{}
+
+/// Where a worker does nothing that is followed, and a step in front of what is followed is followed with it: an ask of its core
+/// answered by its pass or seat, one answered from the envelopes that it holds, and a batch taken.
+pub fn steps_of_workers()
+    ensures rests { Rests }
+    ensures call_first { CallFirst }
+    ensures held_first { HeldFirst }
+    ensures batch_first { BatchFirst }
+{}
+
+/// At a backend of a plan a new worker may be polled, and its record says what its pass and its seat have followed.
+pub fn law_of_workers()
+    ensures starts { WorkersStart }
+    ensures finishes { WorkersFinish }
 {}

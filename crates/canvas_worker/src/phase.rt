@@ -1,6 +1,6 @@
 //! Where a core stands in the script of a message.
 
-ghost use Rattle.std.specs.Prelude.{◌≡◌, ◌<◌, ◌++◌, ◌∷◌, [], Ok, IfOk, IfSome, All, true, length, map, unwrap_or};
+ghost use Rattle.std.specs.Prelude.{◌≡◌, ◌<◌, ◌++◌, ◌∷◌, [], Ok, IfOk, IfSome, All, true, cond, length, map, unwrap_or};
 ghost use Rattle.std.specs.Option.{option_map};
 ghost use Rattle.canvas_task.specs.Apply.{IsInRange};
 ghost use Rattle.canvas_message.specs.Carrying.{carried_ok};
@@ -10,12 +10,13 @@ ghost use Rattle.canvas_message.specs.Job.{store, publish, hand_in};
 ghost use Rattle.canvas_message.specs.Todos.{part_view};
 ghost use Rattle.canvas_worker.specs.Asks.{replied, is_first, FoundInRange};
 ghost use Rattle.canvas_worker.specs.Books.{no_book};
-ghost use Rattle.canvas_runs.specs.Core.{settled, handed_in, all_read, answered, owning, doing, resting, reading as state_reading};
+ghost use Rattle.canvas_runs.specs.Core.{is_due, settled, handed_in, all_read, answered, owning, doing, resting, reading as state_reading};
 ghost use Rattle.canvas_worker.specs.Phases.{IsAt};
 ghost use Rattle.canvas_worker.specs.Scripts.{jobs_of};
 ghost use Rattle.canvas_worker.specs.Enveloped.{enveloped_by, said, enclosed, blank};
 
 use crate::Reply;
+use crate::due::latest;
 use crate::script::Script;
 use crate::sealed::Sealed;
 use crate::sealing::script_of;
@@ -91,10 +92,11 @@ fn settle(script: Script) -> Phase
     }
 }
 
-/// The same, where the latest store is answered.
-fn settle_after(script: Script, stored: &Stored) -> Phase
-    ensures { IsAt result (settled (enveloped_by no_book) (jobs_of script) (is_first stored.now)) }
+/// The same, where a store is answered.
+fn settle_after(script: Script, task: TaskNo, stored: &Stored) -> Phase
+    ensures { IsAt result (settled (enveloped_by no_book) (jobs_of script) (cond (is_due task (jobs_of script)) (is_first stored.now) script.first)) }
 {
+    let first = latest(&script, task, stored);
     let Script {
         stores,
         publishes,
@@ -105,7 +107,7 @@ fn settle_after(script: Script, stored: &Stored) -> Phase
         stores,
         publishes,
         part,
-        first: matches!(stored, Stored::First),
+        first,
     })
 }
 
@@ -156,7 +158,7 @@ impl Storing {
         ensures { IsAt result (answered (enveloped_by no_book) (doing (store self.task self.outcome ∷ jobs_of self.script) self.script.first) (replied reply.now)) }
     {
         match reply {
-            Reply::Stored(stored) => settle_after(self.script, stored),
+            Reply::Stored(stored) => settle_after(self.script, self.task, stored),
             _ => Phase::Failed,
         }
     }

@@ -9,13 +9,14 @@ use Rattle.canvas_broker.specs.Broker as broker
 use Rattle.canvas_broker.specs.Broker.{Line as Entries, answer, next, May, IsLegal, takes_of, told}
 use Rattle.canvas_broker.specs.Callers.{Took}
 use Rattle.canvas_runs.specs.Core.{Ask, Reply, take, send, taken, sent, IsCoreRun, left_after}
-use Rattle.canvas_runs.specs.Following.{Pass, Seat, Stood, Makes, Serves, Working, Followed}
+use Rattle.canvas_runs.specs.Following.{Pass, Seat, Stood, Makes, Serves}
+use Rattle.canvas_worker.specs.Progress.{Progress, Worked}
 use Rattle.canvas_runs.specs.Calls.{BrokerCall, took, BackendCall, Follows, follows_all, follows_publish, follows_list_take, follows_core_take, broker_call, broker_calls, backend_call, backend_calls, takes_one}
 use Rattle.std.specs.Prelude.{slice_get}
 use Rattle.canvas_runs.specs.Lists.{Each, total, at}
-use Rattle.canvas_runs.specs.Steps.{OnlyBare, Called, FromHeld, Batched}
+use Rattle.canvas_worker.specs.Steps.{OnlyBare, Called, FromHeld, Batched}
 use Rattle.canvas_runs.specs.Tally.{Tally, Adds, IsTally, Counted, most, often, is_taken, is_published, is_first, is_part, is_dropped}
-use Rattle.canvas_runs.specs.Worker.{working}
+use Rattle.canvas_worker.specs.Enveloped.{enveloped}
 use Rattle.canvas_runs.proofs.Sums.{total-append}
 use Rattle.canvas_runs.proofs.Words.{each_append}
 
@@ -79,13 +80,13 @@ module _ (plan : Roster) where
     dropped = more_added t.dropped u.dropped (is_dropped plan a r) (often (is_dropped plan) run) v.dropped c.dropped d.dropped;
   }
 
-  call_stood : (a : Ask Envelope Outcome) (r : Reply Envelope Outcome) → Each Stood (broker_call (working plan) a r)
+  call_stood : (a : Ask Envelope Outcome) (r : Reply Envelope Outcome) → Each Stood (broker_call (enveloped plan) a r)
   call_stood take (taken (Some e)) = (tt, tt)
   call_stood (send e) sent = (tt, tt)
   call_stood a r = tt
 
   call_follows : (a : Ask Envelope Outcome) (r : Reply Envelope Outcome) (held : List Envelope) (cs ls : List (BrokerCall Envelope)) → OnlyBare plan a r held → Follows (map Some held) cs ls
-      → Follows (map Some held) (broker_call (working plan) a r ++ cs) (broker_call (working plan) a r ++ ls)
+      → Follows (map Some held) (broker_call (enveloped plan) a r ++ cs) (broker_call (enveloped plan) a r ++ ls)
   call_follows take (taken (Some e)) held cs ls b f =
       subst (λ hs. Follows (map Some hs) (took (Some e) ∷ cs) (took (Some e) ∷ ls)) (sym b) (follows_list_take (follows_core_take (subst (λ hs. Follows (map Some hs) cs ls) b f)))
   call_follows (send e) sent held cs ls b f = follows_publish f
@@ -94,7 +95,7 @@ module _ (plan : Roster) where
   none_added : (n : ℕ) → n ≤ most → Adds n 0 n
   none_added n h = omega (arith, h)
 
-  pub rests : (w : Working) → IsTally w.tally → Followed plan w w
+  pub rests : (w : Progress) → IsTally w.tally → Worked plan w w
   rests w t = record {
     counts = record { taken = none_added w.tally.taken t.0; published = none_added w.tally.published t.1; first = none_added w.tally.first t.2; parts = none_added w.tally.parts t.3; dropped = none_added w.tally.dropped t.4 };
     run = [];
@@ -109,52 +110,52 @@ module _ (plan : Roster) where
     serves = refl;
   }
 
-  pub call_first : (w v x : Working) (a : Ask Envelope Outcome) (r : Reply Envelope Outcome) → Called plan w v a r → Followed plan v x → Followed plan w x
+  pub call_first : (w v x : Progress) (a : Ask Envelope Outcome) (r : Reply Envelope Outcome) → Called plan w v a r → Worked plan v x → Worked plan w x
   call_first w v x a r s f =
-      let call : List (BrokerCall Envelope) = broker_call (working plan) a r in
+      let call : List (BrokerCall Envelope) = broker_call (enveloped plan) a r in
       record {
         run = (a, r) ∷ f.run;
-        is_core = (s.0.asked, (s.0.suits, s.0.back), subst (λ u. IsCoreRun (working plan) u f.run) s.0.left f.is_core);
+        is_core = (s.0.asked, (s.0.suits, s.0.back), subst (λ u. IsCoreRun (enveloped plan) u f.run) s.0.left f.is_core);
         reads = (s.0.member, f.reads);
         counts = counted_more a r f.run w.tally v.tally x.tally s.0.counts f.counts;
-        leaves = subst (λ u. left_after (working plan) u f.run ≡ x.left) s.0.left f.leaves;
+        leaves = subst (λ u. left_after (enveloped plan) u f.run ≡ x.left) s.0.left f.leaves;
         made = call ++ f.made;
         stood = each_append Stood call f.made (call_stood a r) f.stood;
-        follows = call_follows a r w.held (broker_calls (working plan) f.run) f.made s.2 (subst (λ hs. Follows (map Some hs) (broker_calls (working plan) f.run) f.made) s.1 f.follows);
-        used = (let same : length v.held ≡ length w.held = ap length s.1 in omega (arith, same, f.used, total-append takes_one call f.made, total-append takes_one call (broker_calls (working plan) f.run)));
+        follows = call_follows a r w.held (broker_calls (enveloped plan) f.run) f.made s.2 (subst (λ hs. Follows (map Some hs) (broker_calls (enveloped plan) f.run) f.made) s.1 f.follows);
+        used = (let same : length v.held ≡ length w.held = ap length s.1 in omega (arith, same, f.used, total-append takes_one call f.made, total-append takes_one call (broker_calls (enveloped plan) f.run)));
         makes = makes_append call f.made w.pass v.pass x.pass s.3 f.makes;
-        serves = serves_append plan (backend_call (working plan) a r) (backend_calls (working plan) f.run) w.seat v.seat x.seat s.4 f.serves;
+        serves = serves_append plan (backend_call (enveloped plan) a r) (backend_calls (enveloped plan) f.run) w.seat v.seat x.seat s.4 f.serves;
       }
 
-  pub held_first : (w v x : Working) (e : Envelope) → FromHeld plan w v e → Followed plan v x → Followed plan w x
+  pub held_first : (w v x : Progress) (e : Envelope) → FromHeld plan w v e → Worked plan v x → Worked plan w x
   held_first w v x e s f = record {
     run = (take, taken (Some e)) ∷ f.run;
-    is_core = (s.0.asked, (s.0.suits, s.0.back), subst (λ u. IsCoreRun (working plan) u f.run) s.0.left f.is_core);
+    is_core = (s.0.asked, (s.0.suits, s.0.back), subst (λ u. IsCoreRun (enveloped plan) u f.run) s.0.left f.is_core);
     reads = (s.0.member, f.reads);
     counts = counted_more take (taken (Some e)) f.run w.tally v.tally x.tally s.0.counts f.counts;
-    leaves = subst (λ u. left_after (working plan) u f.run ≡ x.left) s.0.left f.leaves;
+    leaves = subst (λ u. left_after (enveloped plan) u f.run ≡ x.left) s.0.left f.leaves;
     made = f.made;
     stood = f.stood;
-    follows = subst (λ hs. Follows (map Some hs) (took (Some e) ∷ broker_calls (working plan) f.run) f.made) (sym s.1) (follows_core_take f.follows);
+    follows = subst (λ hs. Follows (map Some hs) (took (Some e) ∷ broker_calls (enveloped plan) f.run) f.made) (sym s.1) (follows_core_take f.follows);
     used = (let same : length w.held ≡ length (e ∷ v.held) = ap length s.1 in omega (arith, same, f.used));
     makes = subst (λ p. Makes p f.made x.pass) s.2 f.makes;
-    serves = subst (λ p. Serves plan p (backend_calls (working plan) f.run) x.seat) s.3 f.serves;
+    serves = subst (λ p. Serves plan p (backend_calls (enveloped plan) f.run) x.seat) s.3 f.serves;
   }
 
-  pub batch_first : (w v x : Working) (es : List Envelope) → Batched w v es → Followed plan v x → Followed plan w x
+  pub batch_first : (w v x : Progress) (es : List Envelope) → Batched w v es → Worked plan v x → Worked plan w x
   batch_first w v x es s f = record {
     run = f.run;
-    is_core = subst (λ u. IsCoreRun (working plan) u f.run) s.3 f.is_core;
+    is_core = subst (λ u. IsCoreRun (enveloped plan) u f.run) s.3 f.is_core;
     reads = f.reads;
     counts = subst (λ t. Counted plan f.run t x.tally) s.4 f.counts;
-    leaves = subst (λ u. left_after (working plan) u f.run ≡ x.left) s.3 f.leaves;
+    leaves = subst (λ u. left_after (enveloped plan) u f.run ≡ x.left) s.3 f.leaves;
     made = taking_all es ++ f.made;
     stood = each_append Stood (taking_all es) f.made (batch_stood es) f.stood;
-    follows = batch_follows es (map Some w.held) (broker_calls (working plan) f.run) f.made
-        (subst (λ xs. Follows xs (broker_calls (working plan) f.run) f.made) (ap (λ hs. map Some hs) s.0 ∙ map_more w.held es) f.follows);
+    follows = batch_follows es (map Some w.held) (broker_calls (enveloped plan) f.run) f.made
+        (subst (λ xs. Follows xs (broker_calls (enveloped plan) f.run) f.made) (ap (λ hs. map Some hs) s.0 ∙ map_more w.held es) f.follows);
     used = (let same : length v.held ≡ length (w.held ++ es) = ap length s.0 in omega (arith, same, longer w.held es, f.used, total-append takes_one (taking_all es) f.made, batch_takes es));
     makes = makes_append (taking_all es) f.made w.pass v.pass x.pass (took_makes w.pass v.pass es s.1) f.makes;
-    serves = subst (λ p. Serves plan p (backend_calls (working plan) f.run) x.seat) s.2 f.serves;
+    serves = subst (λ p. Serves plan p (backend_calls (enveloped plan) f.run) x.seat) s.2 f.serves;
   }
 
 -- the member of a place, as a backend answers it

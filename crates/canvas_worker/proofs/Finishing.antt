@@ -1,0 +1,84 @@
+-- What a new worker's record says in words of the worker that the law of runs speaks of.
+use Rattle.std.proofs.Common.{◌≡◌, ◌∙◌, ℕ, List, [], ◌∷◌, None, refl, sym, ap, subst, arith}
+use Rattle.canvas_task.specs.declared.outcome.Outcome.{Outcome}
+use Rattle.canvas_rewrite.specs.Frozen.{Line}
+use Rattle.canvas_rewrite.specs.FrozenView.{Load}
+use Rattle.canvas_rewrite.specs.Planned.{IsPlan}
+use Rattle.canvas_message.specs.Content.{Content}
+use Rattle.canvas_backend.specs.Roster.{Roster, roster_of}
+use Rattle.canvas_broker.specs.Callers.{Empties}
+use Rattle.canvas_runs.specs.Core.{State, taking, resting, over, answered, left_after, Between, IsCoreRun}
+use Rattle.canvas_runs.specs.Following.{Pass, Seat, Working, Followed, begins, IsDone}
+use Rattle.canvas_runs.specs.Worker.{worker, working}
+use Rattle.canvas_worker.specs.Asks.{Asked, Answer}
+use Rattle.canvas_worker.specs.Cores.{GoTogether}
+use Rattle.canvas_worker.specs.Enveloped.{enveloped}
+use Rattle.canvas_worker.specs.Finished.{Finished, WorkersStart, WorkersFinish}
+use Rattle.canvas_worker.specs.Progress.{Progress, Worked, starting}
+use Rattle.canvas_worker.specs.Standing.{Left}
+use Rattle.canvas_worker.specs.Work.{begun, Ready, Gives, IsOf}
+use Rattle.canvas_worker.specs.declared.record.Record.{Record}
+use Rattle.canvas_worker.proofs.CoreLaw.{cores_are_workers}
+
+-- a worker needs no first messages
+module _ (l : Line) where
+  run_same : (s : State Content Load Outcome) (xs : List (Asked × Answer)) → IsCoreRun (worker l) s xs → IsCoreRun (working (roster_of l)) s xs
+  run_same s [] r = tt
+  run_same s (x ∷ xs) r = (r.0, r.1, run_same (answered (working (roster_of l)) s x.1) xs r.2)
+
+  left_same : (s : State Content Load Outcome) (xs : List (Asked × Answer)) → left_after (worker l) s xs ≡ left_after (working (roster_of l)) s xs
+  left_same s [] = refl
+  left_same s (x ∷ xs) = left_same (answered (working (roster_of l)) s x.1) xs
+
+  -- the same point of the same worker
+  abbrev carried : Progress → List (Asked × Answer) → Working
+  carried p xs = record { pass = p.pass; seat = p.seat; left = left_after (working (roster_of l)) taking xs; held = p.held; tally = p.tally }
+
+  followed : (pass : Pass) (seat : Seat) (p : Progress) (w : Worked (roster_of l) (starting pass seat) p) → Followed (roster_of l) (begins pass seat) (carried p w.run)
+  followed pass seat p w = record {
+    run = w.run;
+    is_core = run_same taking w.run (cores_are_workers l w.run w.is_core).0;
+    reads = w.reads;
+    counts = w.counts;
+    leaves = refl;
+    made = w.made;
+    stood = w.stood;
+    follows = w.follows;
+    used = w.used;
+    makes = w.makes;
+    serves = w.serves;
+  }
+
+  closed : (pass : Pass) (seat : Seat) (p : Progress) (w : Worked (roster_of l) (starting pass seat) p) → (p.left ≡ over) × (p.held ≡ []) × Empties p.pass → IsDone (roster_of l) (carried p w.run)
+  closed pass seat p w whole =
+      let together : GoTogether l (left_after (enveloped (roster_of l)) taking w.run) (left_after (worker l) taking w.run) = (cores_are_workers l w.run w.is_core).1 in
+      let between : Between (enveloped (roster_of l)) (left_after (enveloped (roster_of l)) taking w.run) = subst (λ s. Between (enveloped (roster_of l)) s) (sym (w.leaves ∙ whole.0)) tt in
+      (subst (λ s. Between (working (roster_of l)) s) (left_same taking w.run) (together.closed between), whole.1)
+
+pub workers_start : WorkersStart
+workers_start l plan broker desk number pass seat is of home = record {
+  of = of;
+  home = home;
+  plan = (l, plan, is);
+  inside = refl;
+  can = tt;
+  rested = λ rests. absurd (never rests);
+  counts = (omega arith, omega arith, omega arith, omega arith, omega arith);
+}
+  where
+    never : ◌≡◌ {A = Left} taking resting → ⊥
+    never e = cc
+
+pub workers_finish : WorkersFinish
+workers_finish l plan broker desk number pass seat is r f =
+    let worked : Worked (roster_of l) (starting pass seat) f.ended = subst (λ (p : Roster). Worked p (starting pass seat) f.ended) is f.worked in
+    record {
+      same_number = f.is_of.same_number;
+      ended = carried l f.ended worked.run;
+      followed = followed l pass seat f.ended worked;
+      pass_is = f.is_of.pass;
+      seat_is = f.is_of.seat;
+      counts = f.is_of.counts;
+      done = λ none. closed l pass seat f.ended worked (f.is_of.whole none);
+      empty = λ none. subst (λ p. Empties p) (sym f.is_of.pass) (f.is_of.whole none).2;
+    }

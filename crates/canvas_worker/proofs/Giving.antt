@@ -1,0 +1,137 @@
+-- An ask of a core that is answered with an envelope.
+use Rattle.std.proofs.Common.{◌≡◌, ◌∙◌, ℕ, ◌+◌, ◌≤◌, min, Bool, false, List, [], ◌∷◌, ◌++◌, Option, Some, None, Result, Ok, Err, refl, sym, ap, ap₂, subst, arith}
+use Rattle.std.specs.Prelude.{MatchResult}
+use Rattle.canvas_message.specs.declared.envelope.Envelope.{Envelope}
+use Rattle.canvas_backend.specs.Callers.{Desk}
+use Rattle.canvas_backend.specs.Roster.{Roster}
+use Rattle.canvas_broker.specs.Callers.{Took}
+use Rattle.canvas_runs.specs.Book.{Book, book_on}
+use Rattle.canvas_runs.specs.Calls.{broker_call, backend_call, reads_member}
+use Rattle.canvas_runs.specs.Core as C
+use Rattle.canvas_runs.specs.Core.{answered, Suits, ReadsBack}
+use Rattle.canvas_runs.specs.Following.{Seat, Makes, Serves}
+use Rattle.canvas_runs.specs.Tally.{Tally, IsTally, Counted, Adds, is_taken, is_published, is_first, is_part, is_dropped, most}
+use Rattle.canvas_worker.specs.Asks.{Asked, Answer}
+use Rattle.canvas_worker.specs.Books.{book_in, no_book}
+use Rattle.canvas_worker.specs.Enveloped.{enveloped, enveloped_by}
+use Rattle.canvas_worker.specs.Progress.{Progress}
+use Rattle.canvas_worker.specs.Seats.{Can}
+use Rattle.canvas_worker.specs.Standing.{Standing, Left, asked, drops, after_reply}
+use Rattle.canvas_worker.specs.Steps.{Answered, OnlyBare, Called, Batched, FromHeld}
+use Rattle.canvas_worker.specs.Work.{Work, progress, with_core, told, lost, one_taken, Ready, Moves, stays, calls, takes, gives, GoesOn, Leaves, IsOf, Ends}
+use Rattle.canvas_worker.specs.declared.cause.Cause.{Cause}
+use Rattle.canvas_worker.specs.declared.cause.Cause.TheVariants.{Memory, Stopped}
+use Rattle.canvas_worker.specs.declared.record.Record.{Record}
+use Rattle.canvas_worker.proofs.Asking.{same_book, may_go_on}
+use Rattle.canvas_worker.proofs.Shown.{drops_so, takes_taking}
+
+use Rattle.canvas_worker.proofs.Resting.{given_never}
+use Rattle.canvas_worker.proofs.Turns.{unchanged, one_more, tallied, some_none}
+
+-- ---- an envelope given to the core
+
+same_tallies : {a b c d n p q r s m : ℕ} → a ≡ p → b ≡ q → c ≡ r → d ≡ s → n ≡ m
+    → ◌≡◌ {A = Tally} (record { taken = a; published = b; first = c; parts = d; dropped = n }) (record { taken = p; published = q; first = r; parts = s; dropped = m })
+same_tallies e f g h i = cc
+
+-- Where from w on es were taken, and e is the first of all that is held then; u is the worker before its core is given it.
+pub record Takes (w u : Work) (es : List Envelope) (e : Envelope) : Type 0 where
+  pub asked_is : asked w.core.left ≡ C.take
+  pub broker : u.broker ≡ w.broker
+  pub desk : u.desk ≡ w.desk
+  pub number : u.number ≡ w.number
+  pub of : u.pass.of ≡ w.broker
+  pub seat : u.seat ≡ w.seat
+  pub core : u.core ≡ w.core
+  pub took : Took w.pass es u.pass
+  pub held : w.held ++ es ≡ e ∷ u.held
+  pub taken : u.taken ≡ w.taken
+  pub published : u.published ≡ w.published
+  pub first : u.first ≡ w.first
+  pub parts : u.parts ≡ w.parts
+
+module _ (w u : Work) (es : List Envelope) (e : Envelope) (ready : Ready w) (x : Takes w u es e) where
+  abbrev plan : Roster
+  plan = w.desk.plan
+
+  -- with what was taken, before the core is given any of it
+  abbrev between : Progress
+  between = record { pass = u.pass; seat = w.seat; left = w.core.left; held = w.held ++ es; tally = (progress w).tally }
+
+  batched : Batched (progress w) between es
+  batched = (refl, x.took, refl, refl, refl)
+
+  abbrev core : Standing
+  core = record { left = answered (enveloped plan) w.core.left (C.taken (Some e)); is_out = false; dropped = min most (w.core.dropped + is_dropped plan C.take (C.taken (Some e))) }
+
+  core_is : after_reply (book_in u.desk.plan) u.core (C.taken (Some e)) ≡ core
+  core_is =
+      let so : drops (book_on plan) w.core.left (C.taken (Some e)) ≡ is_dropped plan C.take (C.taken (Some e)) = drops_so plan w.core.left (C.taken (Some e)) ∙ ap (λ b. is_dropped plan b (C.taken (Some e))) x.asked_is in
+      ap (λ (d : Desk). after_reply (book_in d.plan) u.core (C.taken (Some e))) x.desk ∙ ap (λ c. after_reply (book_in plan) c (C.taken (Some e))) x.core
+      ∙ ap (λ b. after_reply b w.core (C.taken (Some e))) (same_book plan ready.plan)
+      ∙ ap (λ (n : ℕ). record { left = answered (enveloped plan) w.core.left (C.taken (Some e)); is_out = false; dropped = min most (w.core.dropped + n) }) so
+
+  abbrev given : Work
+  given = one_taken (with_core u core)
+
+  added : (n m k : ℕ) → m ≡ min most (n + k) → Adds n (k + 0) m
+  added n m k h = omega (arith, h)
+
+  counted : Counted plan ((C.take, C.taken (Some e)) ∷ []) (progress w).tally (progress given).tally
+  counted = record {
+    taken = one_more w.taken (min most (u.taken + 1)) (ap (λ n. min most (n + 1)) x.taken);
+    published = unchanged w.published u.published ready.counts.1 x.published;
+    first = unchanged w.first u.first ready.counts.2 x.first;
+    parts = unchanged w.parts u.parts ready.counts.3 x.parts;
+    dropped = added w.core.dropped core.dropped (is_dropped plan C.take (C.taken (Some e))) refl;
+  }
+
+  back : ReadsBack (enveloped plan) w.core.left
+  back = subst (λ s. ReadsBack (enveloped plan) s) (sym (takes_taking w.core.left x.asked_is)) tt
+
+  from_held : FromHeld plan between (progress given) e
+  from_held = (record { asked = sym x.asked_is; suits = tt; back = back; member = tt; counts = counted; left = refl }, x.held, refl, x.seat)
+
+  can : Can plan u.seat core.left
+  can =
+      may_go_on plan ready.plan w.seat u.seat w.core.left (C.taken (Some e)) ready.can (subst (λ b. Suits (enveloped plan) b (C.taken (Some e))) (sym x.asked_is) tt)
+      (subst (λ b. Serves plan w.seat (backend_call (enveloped plan) b (C.taken (Some e))) u.seat) (sym x.asked_is) x.seat)
+
+  goes : GoesOn w given
+  goes = record {
+    broker = x.broker;
+    desk = x.desk;
+    number = x.number;
+    ready = record {
+      of = x.of ∙ sym x.broker;
+      home = ap (λ (s : Seat). s.of) x.seat ∙ ready.home ∙ sym (ap (λ (d : Desk). d.id) x.desk);
+      plan = (ready.plan.0, ready.plan.1, ap (λ (d : Desk). d.plan) x.desk ∙ ready.plan.2);
+      inside = refl;
+      can = subst (λ (d : Desk). Can d.plan u.seat core.left) (sym x.desk) can;
+      rested = λ rests. absurd (given_never plan e (subst (λ s. answered (enveloped plan) s (C.taken (Some e)) ≡ C.resting) (takes_taking w.core.left x.asked_is) rests));
+      counts = tallied plan C.take (C.taken (Some e)) (progress w).tally (progress given).tally counted;
+    };
+    moved = gives es e between batched from_held;
+  }
+
+  told_is : (v : Work) → v ≡ one_taken (told u (C.taken (Some e))) → GoesOn w v
+  told_is v is = subst (λ z. GoesOn w z) (sym (is ∙ ap (λ c. one_taken (with_core u c)) core_is)) goes
+
+  same_tally : (progress (lost u)).tally ≡ (progress w).tally
+  same_tally = same_tallies x.taken x.published x.first x.parts (ap (λ (c : Standing). c.dropped) x.core)
+
+  fails : (s : Record) → Leaves (lost u) (Some Memory) s → Ends w s
+  fails s leaves = record {
+    ended = between;
+    counted = ready.counts;
+    moved = takes es batched;
+    is_of = record { same_number = leaves.same_number ∙ x.number; pass = leaves.pass; seat = leaves.seat ∙ x.seat; counts = leaves.counts ∙ same_tally; whole = λ none. absurd (some_none Memory (sym leaves.fault_is ∙ none)) };
+  }
+
+  well : (result : Result Work Record) → MatchResult result (λ v. v ≡ one_taken (told u (C.taken (Some e)))) (Leaves (lost u) (Some Memory)) → MatchResult result (GoesOn w) (Ends w)
+  well (Ok v) is = told_is v is
+  well (Err s) is = fails s is
+
+pub given_well : (w u : Work) (es : List Envelope) (e : Envelope) (result : Result Work Record) → MatchResult result (λ v. v ≡ one_taken (told u (C.taken (Some e)))) (Leaves (lost u) (Some Memory)) → Ready w → Takes w u es e
+    → MatchResult result (GoesOn w) (Ends w)
+given_well w u es e result is ready x = well w u es e ready x result is

@@ -1,0 +1,210 @@
+-- What a worker does of a message or a header that a plan knows: each store is of the plan's tasks, and the part is that of a chord's member, whose
+-- task is the one that ended or is stored before.
+use Rattle.std.proofs.Common.{⊎_elim, ◌≡◌, ◌⊎◌, ◌≤◌, ◌∙◌, ℕ, Bool, true, false, true≢false, List, [], ◌∷◌, ◌++◌, Option, Some, None, refl, sym, ap, inl, inr}
+use Rattle.std.proofs.lemmas.Bool.{and_parts, leb-true}
+use Rattle.std.specs.Prelude.{◌&&◌, IsTrue, nat_le}
+use Rattle.canvas_task.specs.declared.outcome.Outcome.{Outcome}
+use Rattle.canvas_task.specs.declared.outcome.Outcome.TheVariants.{Success, Failure}
+use Rattle.canvas_rewrite.specs.FrozenView.{Load}
+use Rattle.canvas_rewrite.specs.Placed.{PTask, p_task, PTasks, no_p_tasks, and_p_task, PPlace, p_nowhere, p_group, p_chord, PLine, p_stop, p_step, p_group_end, p_chord_end, PLines, no_p_lines, and_p_line}
+use Rattle.canvas_message.specs.Content.{Content, line, number_of, links_of, errbacks_of}
+use Rattle.canvas_message.specs.Effects.{Jobs, callbacks, part_of, fault_behind, when_empty, enter, enter_all, called, header}
+use Rattle.canvas_message.specs.Events.{In}
+use Rattle.canvas_message.specs.Fits.{how_many}
+use Rattle.canvas_message.specs.Flowing.{Input, number, numbers, ident, Flow, run, skip, raise, after_outcome}
+use Rattle.canvas_message.specs.Job.{Job, store, publish, hand_in}
+use Rattle.canvas_message.specs.Placing.{last_at, placed, end_place, last_task}
+use Rattle.canvas_message.proofs.FitsOn.{all_true}
+use Rattle.canvas_backend.specs.Roster.{Roster, size, is_member}
+use Rattle.canvas_runs.specs.Book.{Book, book_on, is_size, task_known, tasks_known, place_known, line_known, members_known, parent_known, message_known}
+use Rattle.canvas_runs.specs.Lists.{Each}
+use Rattle.canvas_runs.proofs.Words.{each_append, in_left, in_right}
+use Rattle.canvas_worker.specs.Seats.{Carries}
+
+-- a store of the task is among the jobs
+abbrev pub Stored : Jobs → ℕ → Type 0
+Stored js d = (o : Outcome) × In (store d o) js
+
+-- or the task is k
+abbrev pub Behind : ℕ → Jobs → ℕ → Type 0
+Behind k js d = (d ≡ k) ⊎ Stored js d
+
+stored_here : (n : ℕ) (o : Outcome) (js : Jobs) (d : ℕ) → Behind n js d → Stored (store n o ∷ js) d
+stored_here n o js d (inl e) = (o, inl (ap (λ y. store y o) e))
+stored_here n o js d (inr s) = (s.0, inr s.1)
+
+stored_left : (js ks : Jobs) (d : ℕ) → Stored js d → Stored (js ++ ks) d
+stored_left js ks d s = (s.0, in_left js ks (store d s.0) s.1)
+
+stored_right : (js ks : Jobs) (d : ℕ) → Stored ks d → Stored (js ++ ks) d
+stored_right js ks d s = (s.0, in_right js ks (store d s.0) s.1)
+
+-- what the end of a message's task does, and what completes a header, in file order
+abbrev pub ended_jobs : Content → Outcome → Jobs
+ended_jobs c o =
+    called (links_of c.own) (errbacks_of c.own) (number_of c.own) o ++ enter c.rest (after_outcome o) (end_place (line c)) (number_of c.own) (Some (number_of c.own))
+
+abbrev pub body_jobs : Load → List (ℕ × Outcome) → Jobs
+body_jobs c es = enter c.body (header es) (end_place c.body) 0 None
+
+module _ (plan : Roster) where
+  abbrev book : Book
+  book = book_on plan
+
+  -- ---- where lines end
+
+  -- the last task of a line is a member of its place
+  end_known : (l : PLine) (k : ℕ) → line_known book l ≡ true → place_known book (last_task k l) (end_place l) ≡ true
+  end_known p_stop k h = refl
+  end_known (p_step (p_task n call ls es p) p_stop) k h =
+      let own = (and_parts (task_known book (p_task n call ls es p)) true h).0 in
+      (and_parts (nat_le n plan.tasks && tasks_known book ls && tasks_known book es) (place_known book n p) own).1
+  end_known (p_step t (p_step u l)) k h = end_known (p_step u l) (number_of t) (and_parts (task_known book t) (line_known book (p_step u l)) h).1
+  end_known (p_step t (p_group_end g ms)) k h = refl
+  end_known (p_step t (p_chord_end g ms b)) k h = end_known (p_chord_end g ms b) (number_of t) (and_parts (task_known book t) (line_known book (p_chord_end g ms b)) h).1
+  end_known (p_group_end g ms) k h = refl
+  end_known (p_chord_end g ms b) k h = end_known b 0 (and_parts (is_size (how_many ms) (size plan g) && members_known book g ms) (line_known book b) h).1
+
+  last_known : (t : PTask) (rest : PLine) (p : PPlace) → task_known book t ≡ true → place_known book (last_task (number_of t) rest) p ≡ true → task_known book (last_at p t rest) ≡ true
+  last_known (p_task n call ls es own) p_stop p h q =
+      let before : Bool = nat_le n plan.tasks && tasks_known book ls && tasks_known book es in
+      all_true before (place_known book n p) (and_parts before (place_known book n own) h).0 q
+  last_known (p_task n call ls es own) (p_step u l) p h q = h
+  last_known (p_task n call ls es own) (p_group_end g ms) p h q = h
+  last_known (p_task n call ls es own) (p_chord_end g ms b) p h q = h
+
+  placed_known : (l : PLine) (p : PPlace) (k : ℕ) → line_known book l ≡ true → place_known book (last_task k l) p ≡ true → line_known book (placed p l) ≡ true
+  placed_known p_stop p k h q = refl
+  placed_known (p_step t rest) p k h q =
+      let parts = and_parts (task_known book t) (line_known book rest) h in
+      all_true (task_known book (last_at p t rest)) (line_known book (placed p rest)) (last_known t rest p parts.0 q) (placed_known rest p (number_of t) parts.1 q)
+  placed_known (p_group_end g ms) p k h q = h
+  placed_known (p_chord_end g ms b) p k h q =
+      let before : Bool = is_size (how_many ms) (size plan g) && members_known book g ms in
+      let parts = and_parts before (line_known book b) h in
+      all_true before (line_known book (placed p b)) parts.0 (placed_known b p 0 parts.1 q)
+
+  number_known : (t : PTask) → task_known book t ≡ true → number_of t ≤ plan.tasks
+  number_known (p_task n call ls es p) h =
+      let ends = (and_parts (nat_le n plan.tasks && tasks_known book ls && tasks_known book es) (place_known book n p) h).0 in
+      let links = (and_parts (nat_le n plan.tasks && tasks_known book ls) (tasks_known book es) ends).0 in
+      leb-true n plan.tasks (and_parts (nat_le n plan.tasks) (tasks_known book ls) links).0
+
+  pub own_known : (c : Content) → message_known book c ≡ true → number_of c.own ≤ plan.tasks
+  own_known c h = number_known c.own (and_parts (task_known book c.own) (line_known book c.rest) (and_parts (parent_known book c.parent) (line_known book (line c)) h).1).0
+
+  -- ---- jobs
+
+  -- Q says of which tasks a part may be
+  abbrev pub Known : (ℕ → Type 0) → Job Content Load Outcome → Type 0
+  Known Q (store t o) = t ≤ plan.tasks
+  Known Q (publish m) = Unit {0}
+  Known Q (hand_in g t c) = IsTrue (is_member plan g t) × Carries plan g c × Q t
+
+  callbacks_known : (Q : ℕ → Type 0) (ts : PTasks) (x : Input) (u : Option ℕ) → Each (Known Q) (callbacks ts x u)
+  callbacks_known Q no_p_tasks x u = tt
+  callbacks_known Q (and_p_task t ts) x u = (tt, callbacks_known Q ts x u)
+
+  called_known : (Q : ℕ → Type 0) (links errbacks : PTasks) (k : ℕ) (o : Outcome) → Each (Known Q) (called links errbacks k o)
+  called_known Q links errbacks k (Success n) = callbacks_known Q links (number n) (Some k)
+  called_known Q links errbacks k (Failure f) = callbacks_known Q errbacks (ident k) (Some k)
+
+  part_known : (p : PPlace) (k : ℕ) → place_known book k p ≡ true → Each (Known (Behind k (part_of p k))) (part_of p k)
+  part_known p_nowhere k q = tt
+  part_known (p_group g) k q = tt
+  part_known (p_chord g n body) k q =
+      let parts = and_parts (is_member plan g k && is_size n (size plan g)) (line_known book body) q in
+      let first = and_parts (is_member plan g k) (is_size n (size plan g)) parts.0 in
+      ((first.0, (first.1, parts.1), inl refl), tt)
+
+  empty_known : (ms : PLines) (js : Jobs) → Each (Known (Stored js)) js → Each (Known (Stored (when_empty ms js))) (when_empty ms js)
+  empty_known no_p_lines js h = h
+  empty_known (and_p_line m ms) js h = tt
+
+  module _ (none : (g : ℕ) → is_member plan g 0 ≡ false) where
+    -- a part may be of other tasks, too; none is of task 0
+    known_more : (Q R : ℕ → Type 0) (js : Jobs) → ((d : ℕ) → (d ≡ 0 → ⊥) → Q d → R d) → Each (Known Q) js → Each (Known R) js
+    known_more Q R [] f h = tt
+    known_more Q R (store t o ∷ js) f h = (h.0, known_more Q R js f h.1)
+    known_more Q R (publish m ∷ js) f h = (tt, known_more Q R js f h.1)
+    known_more Q R (hand_in g t c ∷ js) f h =
+        ((h.0.0, h.0.1, f t (λ e. true≢false (sym h.0.0 ∙ (ap (is_member plan g) e ∙ none g))) h.0.2), known_more Q R js f h.1)
+
+    both_known : (js ks : Jobs) → Each (Known (Stored js)) js → Each (Known (Stored ks)) ks → Each (Known (Stored (js ++ ks))) (js ++ ks)
+    both_known js ks a b =
+        each_append (Known (Stored (js ++ ks))) js ks (known_more (Stored js) (Stored (js ++ ks)) js (λ d z s. stored_left js ks d s) a)
+        (known_more (Stored ks) (Stored (js ++ ks)) ks (λ d z s. stored_right js ks d s) b)
+
+    -- where no task is behind a line
+    alone_known : (js : Jobs) → Each (Known (Behind 0 js)) js → Each (Known (Stored js)) js
+    alone_known js h = known_more (Behind 0 js) (Stored js) js (λ d z s. ⊎_elim (λ e. absurd (z e)) (λ y. y) s) h
+
+    any_known : (k : ℕ) (js : Jobs) → Each (Known (Stored js)) js → Each (Known (Behind k js)) js
+    any_known k js h = known_more (Stored js) (Behind k js) js (λ d z s. inr s) h
+
+    -- after jobs that return no part
+    after_known : (k n : ℕ) (o : Outcome) (cs js : Jobs) → Each (Known (Behind k (store n o ∷ (cs ++ js)))) cs → Each (Known (Behind n js)) js → Each (Known (Behind k (store n o ∷ (cs ++ js)))) (cs ++ js)
+    after_known k n o cs js a b =
+        each_append (Known (Behind k (store n o ∷ (cs ++ js)))) cs js a
+        (known_more (Behind n js) (Behind k (store n o ∷ (cs ++ js))) js
+        (λ d z s. inr (stored_here n o (cs ++ js) d (⊎_elim (λ e. inl e) (λ y. inr (stored_right cs js d y)) s))) b)
+
+    mutual
+      enter_known : (l : PLine) (x : Flow) (p : PPlace) (k : ℕ) (u : Option ℕ) → line_known book l ≡ true → place_known book (last_task k l) p ≡ true
+          → Each (Known (Behind k (enter l x p k u))) (enter l x p k u)
+      enter_known p_stop x p k u h q = part_known p k q
+      enter_known (p_step t rest) (run x) p k u h q = (tt, tt)
+      enter_known (p_step t rest) (skip f) p k u h q =
+          let parts = and_parts (task_known book t) (line_known book rest) h in
+          (number_known t parts.0, after_known k (number_of t) (Failure f) [] (enter rest (skip f) p (number_of t) u) tt (enter_known rest (skip f) p (number_of t) u parts.1 q))
+      enter_known (p_step t rest) (raise f) p k u h q =
+          let parts = and_parts (task_known book t) (line_known book rest) h in
+          (number_known t parts.0, after_known k (number_of t) (Failure f) (callbacks (errbacks_of t) (ident (number_of t)) u) (enter rest (skip f) p (number_of t) u)
+          (callbacks_known _ (errbacks_of t) (ident (number_of t)) u) (enter_known rest (skip f) p (number_of t) u parts.1 q))
+      enter_known (p_group_end g ms) x p k u h q = any_known k (enter_all ms x (p_group g) u) (all_known g ms x (p_group g) u h (λ n i. i))
+      enter_known (p_chord_end g ms body) (run x) p k u h q =
+          let parts = and_parts (is_size (how_many ms) (size plan g) && members_known book g ms) (line_known book body) h in
+          let first = and_parts (is_size (how_many ms) (size plan g)) (members_known book g ms) parts.0 in
+          let js : Jobs = enter_all ms (run x) (p_chord g (how_many ms) (placed p body)) u in
+          let ks : Jobs = enter body (run (numbers [])) p 0 u in
+          any_known k (js ++ when_empty ms ks) (both_known js (when_empty ms ks)
+          (all_known g ms (run x) (p_chord g (how_many ms) (placed p body)) u first.1 (λ n i.
+          all_true (is_member plan g n && is_size (how_many ms) (size plan g)) (line_known book (placed p body))
+          (all_true (is_member plan g n) (is_size (how_many ms) (size plan g)) i first.0) (placed_known body p 0 parts.1 q)))
+          (empty_known ms ks (alone_known ks (enter_known body (run (numbers [])) p 0 u parts.1 q))))
+      enter_known (p_chord_end g ms body) (skip f) p k u h q =
+          let parts = and_parts (is_size (how_many ms) (size plan g) && members_known book g ms) (line_known book body) h in
+          let first = and_parts (is_size (how_many ms) (size plan g)) (members_known book g ms) parts.0 in
+          let js : Jobs = enter_all ms (skip f) p_nowhere u in
+          let ks : Jobs = enter body (skip f) p 0 u in
+          any_known k (js ++ ks) (both_known js ks (all_known g ms (skip f) p_nowhere u first.1 (λ n i. refl)) (alone_known ks (enter_known body (skip f) p 0 u parts.1 q)))
+      enter_known (p_chord_end g ms body) (raise f) p k u h q =
+          let parts = and_parts (is_size (how_many ms) (size plan g) && members_known book g ms) (line_known book body) h in
+          let first = and_parts (is_size (how_many ms) (size plan g)) (members_known book g ms) parts.0 in
+          let js : Jobs = enter_all ms (raise f) p_nowhere u in
+          let ks : Jobs = enter body (raise (fault_behind ms f)) p 0 u in
+          any_known k (js ++ ks) (both_known js ks (all_known g ms (raise f) p_nowhere u first.1 (λ n i. refl)) (alone_known ks (enter_known body (raise (fault_behind ms f)) p 0 u parts.1 q)))
+
+      all_known : (g : ℕ) (ms : PLines) (x : Flow) (p : PPlace) (u : Option ℕ) → members_known book g ms ≡ true → ((n : ℕ) → is_member plan g n ≡ true → place_known book n p ≡ true)
+          → Each (Known (Stored (enter_all ms x p u))) (enter_all ms x p u)
+      all_known g no_p_lines x p u h f = tt
+      all_known g (and_p_line m ms) x p u h f =
+          let parts = and_parts (is_member plan g (last_task 0 m) && line_known book m) (members_known book g ms) h in
+          let first = and_parts (is_member plan g (last_task 0 m)) (line_known book m) parts.0 in
+          both_known (enter m x p 0 u) (enter_all ms x p u) (alone_known (enter m x p 0 u) (enter_known m x p 0 u first.1 (f (last_task 0 m) first.0))) (all_known g ms x p u parts.1 f)
+
+    -- ---- effects
+
+    pub ended_known : (c : Content) (o : Outcome) → message_known book c ≡ true → Each (Known (Behind (number_of c.own) (ended_jobs c o))) (ended_jobs c o)
+    ended_known c o h =
+        let k : ℕ = number_of c.own in
+        let js : Jobs = called (links_of c.own) (errbacks_of c.own) k o in
+        let ks : Jobs = enter c.rest (after_outcome o) (end_place (line c)) k (Some k) in
+        let whole = (and_parts (parent_known book c.parent) (line_known book (line c)) h).1 in
+        let rest = (and_parts (task_known book c.own) (line_known book c.rest) whole).1 in
+        each_append (Known (Behind k (js ++ ks))) js ks (called_known (Behind k (js ++ ks)) (links_of c.own) (errbacks_of c.own) k o)
+        (known_more (Behind k ks) (Behind k (js ++ ks)) ks (λ d z s. ⊎_elim (λ e. inl e) (λ y. inr (stored_right js ks d y)) s)
+        (enter_known c.rest (after_outcome o) (end_place (line c)) k (Some k) rest (end_known (line c) 0 whole)))
+
+    pub body_known : (c : Load) (es : List (ℕ × Outcome)) → line_known book c.body ≡ true → Each (Known (Stored (body_jobs c es))) (body_jobs c es)
+    body_known c es h = alone_known (body_jobs c es) (enter_known c.body (header es) (end_place c.body) 0 None h (end_known c.body 0 h))

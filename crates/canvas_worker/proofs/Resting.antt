@@ -1,0 +1,77 @@
+-- A core rests only after a take that found nothing.
+use Rattle.std.proofs.Common.{◌≡◌, ◌∙◌, ℕ, suc, Bool, true, false, cond, eqb, List, [], ◌∷◌, ◌++◌, length, Option, Some, None, refl, sym, ap, subst}
+use Rattle.canvas_task.specs.declared.outcome.Outcome.{Outcome}
+use Rattle.canvas_rewrite.specs.FrozenView.{Load}
+use Rattle.canvas_message.specs.Job.{Job, store, publish, hand_in}
+use Rattle.canvas_message.specs.declared.envelope.Envelope.{Envelope}
+use Rattle.canvas_backend.specs.Roster.{Roster}
+use Rattle.canvas_runs.specs.Core as C
+use Rattle.canvas_runs.specs.Core.{taken, sent, refused, kept, counted, found, rested, taking, resting, over, failed, owning, doing, reading, settled, opens, owned, handed_in, job_done, all_read, answered}
+use Rattle.canvas_runs.specs.Protocol.{Protocol}
+use Rattle.canvas_worker.specs.Asks.{Asked, Answer}
+use Rattle.canvas_worker.specs.Enveloped.{enveloped}
+use Rattle.canvas_worker.specs.Standing.{Left, asked}
+
+-- an ask other than a take
+abbrev pub Busy : Asked → Type 0
+Busy C.take = ⊥
+Busy a = Unit {0}
+
+module _ (plan : Roster) where
+  abbrev X : Protocol
+  X = enveloped plan
+
+  abbrev Jobs : Type 0
+  Jobs = List (Job Envelope Load Outcome)
+
+  settled_never : (js : Jobs) (b : Bool) → settled X js b ≡ resting → ⊥
+  settled_never [] b e = cc
+  settled_never (store t o ∷ js) true e = cc
+  settled_never (store t o ∷ js) false e = cc
+  settled_never (publish m ∷ js) true e = cc
+  settled_never (publish m ∷ js) false e = cc
+  settled_never (hand_in g t c ∷ js) true e = cc
+  settled_never (hand_in g t c ∷ js) false e = cc
+
+  opens_never : (o : Option Envelope) → opens X o ≡ resting → ⊥
+  opens_never None e = cc
+  opens_never (Some m) e = cc
+
+  owned_never : (m : Envelope) (a : Bool) → owned X m a ≡ resting → ⊥
+  owned_never m true e = settled_never (X.ended m (X.outcome m)) true e
+  owned_never m false e = cc
+
+  counted_never : (g : ℕ) (c : Load) (z : Bool) → ◌≡◌ {A = Left} (cond z (reading g c []) taking) resting → ⊥
+  counted_never g c true e = cc
+  counted_never g c false e = cc
+
+  read_never : (g : ℕ) (c : Load) (fs : List (ℕ × Outcome)) (z : Bool) → cond z (settled X (X.completed c fs) false) (reading g c fs) ≡ resting → ⊥
+  read_never g c fs true e = settled_never (X.completed c fs) false e
+  read_never g c fs false e = cc
+
+  job_never : (j : Job Envelope Load Outcome) (js : Jobs) (b : Bool) (r : Answer) → job_done X j js b r ≡ resting → ⊥
+  job_never (store t o) js b (kept a) e = settled_never js (cond (C.is_due t js) a b) e
+  job_never (publish m) js b sent e = settled_never js b e
+  job_never (hand_in g t c) js b (counted n) e = counted_never g c (eqb (suc n) (X.size c)) e
+  job_never j js b r e = cc
+
+  pub given_never : (x : Envelope) → answered X taking (taken (Some x)) ≡ resting → ⊥
+  given_never x e = opens_never (X.opened x) e
+
+  never_rests : (s : Left) (r : Answer) → (asked s ≡ C.take → ⊥) → answered X s r ≡ resting → ⊥
+  never_rests taking r not e = not refl
+  never_rests resting (rested true) not e = cc
+  never_rests resting (rested false) not e = cc
+  never_rests resting r not e = cc
+  never_rests over r not e = cc
+  never_rests failed r not e = cc
+  never_rests (owning m) (kept a) not e = owned_never m a e
+  never_rests (owning m) r not e = cc
+  never_rests (doing [] b) r not e = cc
+  never_rests (doing (j ∷ js) b) r not e = job_never j js b r e
+  never_rests (reading g c fs) (found t (Some o)) not e = read_never g c (fs ++ (t, o) ∷ []) (eqb (length (fs ++ (t, o) ∷ [])) (X.size c)) e
+  never_rests (reading g c fs) (found t None) not e = cc
+  never_rests (reading g c fs) r not e = cc
+
+  pub busy_never : (s : Left) (r : Answer) (a : Asked) → asked s ≡ a → Busy a → answered X s r ≡ resting → ⊥
+  busy_never s r a is busy rests = never_rests s r (λ takes. subst (λ b. Busy b) (sym is ∙ takes) busy) rests

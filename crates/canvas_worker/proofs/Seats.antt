@@ -1,0 +1,183 @@
+-- A backend lets a worker's seat do all that the worker has left to do.
+use Rattle.std.proofs.Common.{⊎_elim, ◌≡◌, ◌≤◌, ◌<◌, ◌+◌, ◌∙◌, ℕ, suc, Bool, true, false, cond, eqb, List, [], ◌∷◌, ◌++◌, map, length, length-append, slice_get, get_or, Option, Some, None, is_some, refl, sym, ap, subst, inl, inr, arith}
+use Rattle.std.specs.Prelude.{IsTrue, if◌then◌else◌}
+use Rattle.std.proofs.lemmas.Bool.{eqb-true, eqb-false}
+use Rattle.std.proofs.lemmas.Option.{slice_get_cases}
+use Rattle.canvas_task.specs.declared.outcome.Outcome.{Outcome}
+use Rattle.canvas_task.specs.History.{calls}
+use Rattle.canvas_rewrite.specs.Frozen.{Line, Team, team_at, team_members, team_size}
+use Rattle.canvas_rewrite.specs.FrozenView.{Load}
+use Rattle.canvas_rewrite.specs.Planned.{IsPlan}
+use Rattle.canvas_rewrite.proofs.Members.{all_known}
+use Rattle.canvas_message.specs.Content.{Content, number_of}
+use Rattle.canvas_message.specs.Effects.{outcome_of, after, body_after, script}
+use Rattle.canvas_message.specs.Job.{store, publish, hand_in}
+use Rattle.canvas_message.specs.declared.envelope.Envelope.{Envelope}
+use Rattle.canvas_backend.specs.Backend as results
+use Rattle.canvas_backend.specs.Backend.{Call, Reply, IsCall, MayReturn}
+use Rattle.canvas_backend.specs.Roster.{Roster, roster_of, members, is_chord, is_member}
+use Rattle.canvas_backend.proofs.HistoryLaws.{first_may, still_may}
+use Rattle.canvas_runs.specs.Book.{book_on, is_size, line_known, message_known}
+use Rattle.canvas_runs.specs.Calls.{stored, backend_call}
+use Rattle.canvas_runs.specs.Core.{taken, sent, kept, counted, found, rested, taking, resting, over, failed, owning, doing, reading, is_due, settled, opens, answered}
+use Rattle.canvas_runs.specs.Following.{Seat, Serves, replied}
+use Rattle.canvas_runs.specs.Worker.{opened}
+use Rattle.canvas_worker.specs.Asks.{Answer}
+use Rattle.canvas_worker.specs.Enveloped.{said, enclosed, enveloped, kept as kept_envelope}
+use Rattle.canvas_worker.specs.Scripts.{Jobs}
+use Rattle.canvas_worker.specs.Seats.{Carries, InPlan, MayHandIn, Can, Allowed, WaitingCan, CanAsk, CanGoOn}
+use Rattle.canvas_worker.specs.Standing.{Left, asked}
+use Rattle.canvas_worker.proofs.Books.{no_member_zero}
+use Rattle.canvas_worker.proofs.KnownJobs.{Stored, Behind, own_known, ended_jobs, body_jobs, ended_known, body_known}
+use Rattle.canvas_worker.proofs.KnownScripts.{script_known, script_may}
+use Rattle.canvas_worker.proofs.Opening.{opened_as}
+use Rattle.canvas_worker.proofs.Sendable.{said_of}
+
+pub waiting_can : WaitingCan
+waiting_can plan s = tt
+
+module _ (plan : Roster) where
+  -- ---- where the seat has made a call
+
+  -- what it may return it still may
+  abbrev Keeps : Seat → Seat → Type 0
+  Keeps s t = (d : ℕ) → MayReturn plan s.seen s.name d → MayReturn plan t.seen t.name d
+
+  still_in : (s t : Seat) (b : Bool) (js : Jobs) → Keeps s t → MayHandIn plan s b js → MayHandIn plan t b js
+  still_in s t b [] k h = tt
+  still_in s t b (store d o ∷ js) k h = λ n. still_in s t b js k (h n)
+  still_in s t b (publish e ∷ js) k h = still_in s t b js k h
+  still_in s t b (hand_in g d c ∷ js) k h = λ e. k d (h e)
+
+  -- the store of the task whose part is due
+  due_in : (s : Seat) (d : ℕ) (b : Bool) (js : Jobs) → is_due d js ≡ true → (b ≡ true → MayReturn plan s.seen s.name d) → MayHandIn plan s b js
+  due_in s d b [] e m = tt
+  due_in s d b (store u o ∷ js) e m = λ n. due_in s d b js e m
+  due_in s d b (publish x ∷ js) e m = due_in s d b js e m
+  due_in s d b (hand_in g u c ∷ js) e m = subst (λ z. b ≡ true → MayReturn plan s.seen s.name z) (eqb-true d u e) m
+
+  store_in : (s t : Seat) (d : ℕ) (a b : Bool) (js : Jobs) → Keeps s t → (a ≡ true → MayReturn plan t.seen t.name d) → (is_due d js ≡ false → MayHandIn plan s b js) → MayHandIn plan t (cond (is_due d js) a b) js
+  store_in s t d a b js k m h = go (is_due d js) refl
+    where
+      go : (z : Bool) → is_due d js ≡ z → MayHandIn plan t (cond z a b) js
+      go true e = due_in t d a js e m
+      go false e = still_in s t b js k (h e)
+
+  settled_can : (s : Seat) (b : Bool) (js : Jobs) → InPlan plan js → MayHandIn plan s b js → Can plan s (settled (enveloped plan) js b)
+  settled_can s b [] i m = tt
+  settled_can s true (store t o ∷ js) i m = (i, m, tt)
+  settled_can s false (store t o ∷ js) i m = (i, m, tt)
+  settled_can s true (publish e ∷ js) i m = (i, m, tt)
+  settled_can s false (publish e ∷ js) i m = (i, m, tt)
+  settled_can s true (hand_in g t c ∷ js) i m = (i, m, refl)
+  settled_can s false (hand_in g t c ∷ js) i m = tt
+
+  -- the one call of a seat
+  served : (s t : Seat) (c : results.Call) (r : results.Reply) → IsCall plan s.name s.seen t.seen (calls s.name c r) → t.name ≡ s.name → ((g d : ℕ) → c ≡ results.part g d → ⊥) → Keeps s t
+  served s t c r call name other d m = subst (λ n. MayReturn plan t.seen n d) (sym name) (still_may plan s.name d c r s.seen t.seen (λ g. other g d) m call)
+
+  first_of : (s t : Seat) (d : ℕ) (o : Outcome) (a : Bool) → IsCall plan s.name s.seen t.seen (calls s.name (results.store d o) (replied (stored d o a))) → t.name ≡ s.name → a ≡ true → MayReturn plan t.seen t.name d
+  first_of s t d o true call name e = subst (λ n. MayReturn plan t.seen n d) (sym name) (first_may plan s.name d o s.seen t.seen call)
+  first_of s t d o false call name e = absurd cc
+
+  -- ---- messages
+
+  opened_can : (s : Seat) (e : Envelope) (o : Option Content) → opened (book_on plan) e ≡ o → Can plan s (opens (enveloped plan) (kept_envelope o e))
+  opened_can s e None is = tt
+  opened_can s e (Some c) is = is ∙ ap Some (sym (said_of e c (opened_as (book_on plan) e c is).0))
+
+  -- ---- chords
+
+  chord_size : (t : Option Team) (n : ℕ) → is_size n (team_size t) ≡ true → IsTrue (is_some (team_size t)) × (length (team_members t) ≡ n)
+  chord_size None n h = absurd cc
+  chord_size (Some t) n h = go t.chord h
+    where
+      go : (b : Bool) → is_size n (if b then Some (length t.members) else None) ≡ true → IsTrue (is_some (if b then Some (length t.members) else None)) × (length t.members ≡ n)
+      go true e = (refl, eqb-true (length t.members) n e)
+      go false e = absurd cc
+
+  carried_size : (g : ℕ) (c : Load) → Carries plan g c → IsTrue (is_chord plan g) × (length (members plan g) ≡ c.size)
+  carried_size g c h = chord_size (team_at plan.teams g) c.size h.0
+
+  -- where a part may be the last of its header
+  handed_can : (s : Seat) (g : ℕ) (c : Load) (n : ℕ) → Carries plan g c → Can plan s (cond (eqb (suc n) c.size) (reading g c []) taking)
+  handed_can s g c n h = go (eqb (suc n) c.size) refl
+    where
+      go : (z : Bool) → eqb (suc n) c.size ≡ z → Can plan s (cond z (reading g c []) taking)
+      go true e = (h, let full : suc n ≡ c.size = eqb-true (suc n) c.size e in omega (arith, full))
+      go false e = tt
+
+module _ (l : Line) (is_plan : IsPlan l) where
+  abbrev plan : Roster
+  plan = roster_of l
+
+  none : (g : ℕ) → is_member plan g 0 ≡ false
+  none g = no_member_zero l is_plan g
+
+  ended_can : (s : Seat) (c : Content) → message_known (book_on plan) c ≡ true → MayReturn plan s.seen s.name (number_of c.own) → Can plan s (settled (enveloped plan) (map enclosed (script (after c (outcome_of c)))) true)
+  ended_can s c h m =
+      let k : ℕ = number_of c.own in
+      let js = ended_jobs c (outcome_of c) in
+      let known = ended_known plan none c (outcome_of c) h in
+      settled_can plan s true (map enclosed (script (after c (outcome_of c)))) (script_known plan (Behind k js) js known)
+      (script_may plan s true (Behind k js) js (λ d q. ⊎_elim (λ e. inr (λ t. subst (λ z. MayReturn plan s.seen s.name z) (sym e) m)) (λ y. inl y) q) known)
+
+  completed_can : (s : Seat) (c : Load) (es : List (ℕ × Outcome)) → line_known (book_on plan) c.body ≡ true → Can plan s (settled (enveloped plan) (map enclosed (script (body_after c es))) false)
+  completed_can s c es h =
+      let js = body_jobs c es in
+      let known = body_known plan none c es h in
+      settled_can plan s false (map enclosed (script (body_after c es))) (script_known plan (Stored js) js known) (script_may plan s false (Stored js) js (λ d q. inl q) known)
+
+  member_there : (g i : ℕ) → i < length (members plan g) → (t : ℕ) × (slice_get (members plan g) i ≡ Some t) × (t ≤ plan.tasks)
+  member_there g i h =
+      ⊎_elim (λ (x : (t : ℕ) × (i < length (members plan g)) × (slice_get (members plan g) i ≡ Some t) × (get_or (members plan g) i t ≡ t)).
+      (x.0, x.2, subst (λ t. t ≤ plan.tasks) x.3 (all_known l is_plan g i x.0 h)))
+      (λ (y : (length (members plan g) ≤ i) × (slice_get (members plan g) i ≡ None)). absurd (let past = y.0 in omega (arith, h)))
+      (slice_get_cases (members plan g) i).1
+
+  -- ---- asks
+
+  asks : (s : Seat) (left : Left) → Can plan s left → Allowed plan s (asked left)
+  asks s taking c = tt
+  asks s resting c = tt
+  asks s over c = tt
+  asks s failed c = tt
+  asks s (owning e) c = own_known plan (said e) (opened_as (book_on plan) e (said e) c).1
+  asks s (doing [] b) c = tt
+  asks s (doing (store t o ∷ js) b) c = c.0.0
+  asks s (doing (publish e ∷ js) b) c = tt
+  asks s (doing (hand_in g t h ∷ js) b) c = ((carried_size plan g h c.0.1).0, c.0.0, c.1 c.2)
+  asks s (reading g h fs) c = member_there g (length fs) (subst (λ n. length fs < n) (sym (carried_size plan g h c.0).1) c.1)
+
+  -- ---- answers
+
+  goes_on : (s t : Seat) (left : Left) (r : Answer) → Can plan s left → Serves plan s (backend_call (enveloped plan) (asked left) r) t → Can plan t (answered (enveloped plan) left r)
+  goes_on s t taking (taken None) c call = tt
+  goes_on s t taking (taken (Some e)) c call = opened_can plan t e (opened (book_on plan) e) refl
+  goes_on s t resting (rested true) c call = tt
+  goes_on s t resting (rested false) c call = tt
+  goes_on s t (owning e) (kept true) c (u, stands, same) =
+      ended_can t (said e) (opened_as (book_on plan) e (said e) c).1
+      (subst (λ v. MayReturn plan v.seen v.name (number_of (said e).own)) (sym same)
+      (first_of plan s u (number_of (said e).own) (outcome_of (said e)) true stands.2 stands.1 refl))
+  goes_on s t (owning e) (kept false) c call = tt
+  goes_on s t (doing (store d o ∷ js) b) (kept a) c (u, stands, same) =
+      subst (λ v. Can plan v (settled (enveloped plan) js (cond (is_due d js) a b))) (sym same)
+      (settled_can plan u (cond (is_due d js) a b) js c.0.1
+      (store_in plan s u d a b js (served plan s u (results.store d o) (replied (stored d o a)) stands.2 stands.1 (λ g k e. absurd cc)) (first_of plan s u d o a stands.2 stands.1) c.1))
+  goes_on s t (doing (publish e ∷ js) b) sent c same = subst (λ v. Can plan v (settled (enveloped plan) js b)) (sym same) (settled_can plan s b js c.0 c.1)
+  goes_on s t (doing (hand_in g d h ∷ js) b) (counted n) c call = handed_can plan t g h n c.0.1
+  goes_on s t (reading g h fs) (found d (Some o)) c call = go (eqb (length (fs ++ (d, o) ∷ [])) h.size) refl
+    where
+      go : (z : Bool) → eqb (length (fs ++ (d, o) ∷ [])) h.size ≡ z
+          → Can plan t (cond z (settled (enveloped plan) (map enclosed (script (body_after h (fs ++ (d, o) ∷ [])))) false) (reading g h (fs ++ (d, o) ∷ [])))
+      go true e = completed_can t h (fs ++ (d, o) ∷ []) c.0.1
+      go false e = (c.0, let more : length (fs ++ (d, o) ∷ []) ≡ length fs + 1 = length-append fs ((d, o) ∷ []) in let apart = eqb-false (length (fs ++ (d, o) ∷ [])) h.size e in let before = c.1 in omega (arith, more, apart, before))
+  goes_on s t (reading g h fs) (found d None) c call = tt
+  goes_on s t left r c call = tt
+
+pub can_ask : CanAsk
+can_ask l is_plan s left c = asks l is_plan s left c
+
+pub can_go_on : CanGoOn
+can_go_on l is_plan s t left r c suits call = goes_on l is_plan s t left r c call

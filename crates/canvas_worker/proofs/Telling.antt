@@ -1,0 +1,162 @@
+-- An ask of a core that its broker or its backend answered.
+use Rattle.std.proofs.Common.{◌≡◌, ◌∙◌, ℕ, ◌+◌, ◌≤◌, min, Bool, false, List, [], ◌∷◌, ◌++◌, Option, Some, None, Result, Ok, Err, refl, sym, ap, ap₂, subst, arith}
+use Rattle.std.specs.Prelude.{MatchResult}
+use Rattle.canvas_message.specs.declared.envelope.Envelope.{Envelope}
+use Rattle.canvas_backend.specs.Callers.{Desk}
+use Rattle.canvas_backend.specs.Roster.{Roster}
+use Rattle.canvas_broker.specs.Callers.{Empties}
+use Rattle.canvas_runs.specs.Book.{Book, book_on}
+use Rattle.canvas_runs.specs.Calls.{broker_call, backend_call, reads_member}
+use Rattle.canvas_runs.specs.Core as C
+use Rattle.canvas_runs.specs.Core.{answered, Suits, ReadsBack}
+use Rattle.canvas_runs.specs.Following.{Seat, Makes, Serves}
+use Rattle.canvas_runs.specs.Tally.{Tally, IsTally, Counted, Adds, is_taken, is_published, is_first, is_part, is_dropped, most}
+use Rattle.canvas_worker.specs.Asks.{Asked, Answer}
+use Rattle.canvas_worker.specs.Books.{book_in, no_book}
+use Rattle.canvas_worker.specs.Enveloped.{enveloped, enveloped_by}
+use Rattle.canvas_worker.specs.Progress.{Progress}
+use Rattle.canvas_worker.specs.Seats.{Can}
+use Rattle.canvas_worker.specs.Standing.{Standing, Left, asked, drops, after_reply}
+use Rattle.canvas_worker.specs.Steps.{Answered, OnlyBare, Called, Batched, FromHeld}
+use Rattle.canvas_worker.specs.Work.{Work, progress, with_core, told, lost, one_taken, Ready, Moves, stays, calls, takes, gives, GoesOn, Leaves, IsOf, Ends}
+use Rattle.canvas_worker.specs.declared.cause.Cause.{Cause}
+use Rattle.canvas_worker.specs.declared.cause.Cause.TheVariants.{Memory, Stopped}
+use Rattle.canvas_worker.specs.declared.record.Record.{Record}
+use Rattle.canvas_worker.proofs.Asking.{same_book, may_go_on}
+use Rattle.canvas_worker.proofs.Shown.{drops_so, rests_over}
+
+use Rattle.canvas_worker.proofs.Turns.{unchanged, one_more, tallied, some_none}
+
+-- ---- one ask answered by the broker or the backend
+
+-- Where from w on its broker or its backend was asked a, and answered r; u is the worker before its core is told.
+pub record Asks (w u : Work) (a : Asked) (r : Answer) : Type 0 where
+  pub asked_is : asked w.core.left ≡ a
+  pub suits : Suits (enveloped w.desk.plan) a r
+  pub back : ReadsBack (enveloped_by no_book) w.core.left
+  pub member : reads_member (enveloped w.desk.plan) a r
+  pub broker : u.broker ≡ w.broker
+  pub desk : u.desk ≡ w.desk
+  pub number : u.number ≡ w.number
+  pub of : u.pass.of ≡ w.broker
+  pub home : u.seat.of ≡ w.desk.id
+  pub held : u.held ≡ w.held
+  pub bare : OnlyBare w.desk.plan a r w.held
+  pub makes : Makes w.pass (broker_call (enveloped w.desk.plan) a r) u.pass
+  pub serves : Serves w.desk.plan w.seat (backend_call (enveloped w.desk.plan) a r) u.seat
+  pub taken : Adds w.taken (is_taken a r + 0) u.taken
+  pub published : Adds w.published (is_published a r + 0) u.published
+  pub first : Adds w.first (is_first a r + 0) u.first
+  pub parts : Adds w.parts (is_part a r + 0) u.parts
+  pub same_drops : u.core.dropped ≡ w.core.dropped
+  pub still : answered (enveloped w.desk.plan) w.core.left r ≡ C.resting → (u.held ≡ []) × Empties u.pass
+  pub none_dropped : is_dropped w.desk.plan a r ≡ 0
+  pub core : after_reply (book_in w.desk.plan) u.core r ≡ after_reply (book_in w.desk.plan) w.core r
+
+module _ (w u : Work) (a : Asked) (r : Answer) (ready : Ready w) (x : Asks w u a r) where
+  abbrev plan : Roster
+  plan = w.desk.plan
+
+  -- where the worker is once its core is told
+  abbrev after : Progress
+  after = record {
+    pass = u.pass;
+    seat = u.seat;
+    left = answered (enveloped plan) w.core.left r;
+    held = u.held;
+    tally = record { taken = u.taken; published = u.published; first = u.first; parts = u.parts; dropped = u.core.dropped };
+  }
+
+  no_more : (n m k : ℕ) → n ≤ most → m ≡ n → k ≡ 0 → min most (n + k) ≡ m
+  no_more n m k h e z = omega (arith, h, e, z)
+
+  none_lost : (n m k : ℕ) → n ≤ most → m ≡ n → k ≡ 0 → Adds n (k + 0) m
+  none_lost n m k h e z = omega (arith, h, e, z)
+
+  counted : Counted plan ((a, r) ∷ []) (progress w).tally after.tally
+  counted = record {
+    taken = x.taken;
+    published = x.published;
+    first = x.first;
+    parts = x.parts;
+    dropped = none_lost w.core.dropped u.core.dropped (is_dropped plan a r) ready.counts.4 x.same_drops x.none_dropped;
+  }
+
+  pub called : Called plan (progress w) after a r
+  called = (record { asked = sym x.asked_is; suits = x.suits; back = x.back; member = x.member; counts = counted; left = refl }, x.held, x.bare, x.makes, x.serves)
+
+  can : Can plan u.seat (answered (enveloped plan) w.core.left r)
+  can =
+      may_go_on plan ready.plan w.seat u.seat w.core.left r ready.can (subst (λ b. Suits (enveloped plan) b r) (sym x.asked_is) x.suits)
+      (subst (λ b. Serves plan w.seat (backend_call (enveloped plan) b r) u.seat) (sym x.asked_is) x.serves)
+
+  -- the core that was told
+  abbrev core : Standing
+  core = record { left = answered (enveloped plan) w.core.left r; is_out = false; dropped = u.core.dropped }
+
+  core_is : after_reply (book_in u.desk.plan) u.core r ≡ core
+  core_is =
+      let so : drops (book_on plan) w.core.left r ≡ is_dropped plan a r = drops_so plan w.core.left r ∙ ap (λ b. is_dropped plan b r) x.asked_is in
+      let dropped : min most (w.core.dropped + drops (book_on plan) w.core.left r) ≡ u.core.dropped = no_more w.core.dropped u.core.dropped (drops (book_on plan) w.core.left r) ready.counts.4 x.same_drops (so ∙ x.none_dropped) in
+      ap (λ (d : Desk). after_reply (book_in d.plan) u.core r) x.desk ∙ x.core ∙ ap (λ b. after_reply b w.core r) (same_book plan ready.plan)
+      ∙ ap (λ (n : ℕ). record { left = answered (enveloped plan) w.core.left r; is_out = false; dropped = n }) dropped
+
+  ready_then : Ready (with_core u core)
+  ready_then = record {
+    of = x.of ∙ sym x.broker;
+    home = x.home ∙ sym (ap (λ (d : Desk). d.id) x.desk);
+    plan = (ready.plan.0, ready.plan.1, ap (λ (d : Desk). d.plan) x.desk ∙ ready.plan.2);
+    inside = refl;
+    can = subst (λ (d : Desk). Can d.plan u.seat core.left) (sym x.desk) can;
+    rested = x.still;
+    counts = tallied plan a r (progress w).tally after.tally counted;
+  }
+
+  told_is : (v : Work) → v ≡ told u r → GoesOn w v
+  told_is v e =
+      subst (λ z. GoesOn w z) (sym (e ∙ ap (λ c. with_core u c) core_is)) (record { broker = x.broker; desk = x.desk; number = x.number; ready = ready_then; moved = calls a r called })
+
+  fails : (s : Record) → Leaves (lost u) (Some Memory) s → Ends w s
+  fails s leaves = record {
+    ended = after;
+    counted = tallied plan a r (progress w).tally after.tally counted;
+    moved = calls a r called;
+    is_of = record { same_number = leaves.same_number ∙ x.number; pass = leaves.pass; seat = leaves.seat; counts = leaves.counts; whole = λ none. absurd (some_none Memory (sym leaves.fault_is ∙ none)) };
+  }
+
+  well : (result : Result Work Record) → MatchResult result (λ v. v ≡ told u r) (Leaves (lost u) (Some Memory)) → MatchResult result (GoesOn w) (Ends w)
+  well (Ok v) e = told_is v e
+  well (Err s) e = fails s e
+
+  -- a worker that ends without a fault
+  ends_so : (v : Work) → v ≡ told u r → (s : Record) → Leaves v None s → (after.left ≡ C.over) × (after.held ≡ []) × Empties after.pass → Ends w s
+  ends_so v e s leaves whole =
+      let is : v ≡ with_core u core = e ∙ ap (λ c. with_core u c) core_is in
+      record {
+        ended = after;
+        counted = tallied plan a r (progress w).tally after.tally counted;
+        moved = calls a r called;
+        is_of = record {
+          same_number = leaves.same_number ∙ ap (λ (z : Work). z.number) is ∙ x.number;
+          pass = leaves.pass ∙ ap (λ (z : Work). z.pass) is;
+          seat = leaves.seat ∙ ap (λ (z : Work). z.seat) is;
+          counts = leaves.counts ∙ ap (λ (z : Work). (progress z).tally) is;
+          whole = λ _. whole;
+        };
+      }
+
+pub asked_well : (w u : Work) (a : Asked) (r : Answer) (result : Result Work Record) → MatchResult result (λ v. v ≡ told u r) (Leaves (lost u) (Some Memory)) → Ready w → Asks w u a r → MatchResult result (GoesOn w) (Ends w)
+asked_well w u a r result is ready x = well w u a r ready x result is
+
+-- where memory was refused, to the core or to the queue
+pub ends_badly : (w u : Work) (a : Asked) (r : Answer) (s : Record) → Leaves u (Some Memory) s → Ready w → Asks w u a r → Ends w s
+ends_badly w u a r s is ready x = fails w u a r ready x s (record { same_number = is.same_number; pass = is.pass; seat = is.seat; counts = is.counts; fault_is = is.fault_is })
+
+pub asked_badly : (w u : Work) (a : Asked) (r : Answer) (s : Record) → Leaves (lost u) (Some Memory) s → Ready w → Asks w u a r → Ends w s
+asked_badly w u a r s is ready x = fails w u a r ready x s is
+
+-- a worker that is told that no more will come
+pub rests_well : (w u v : Work) (s : Record) → v ≡ told u (C.rested false) → Leaves v None s → Ready w → Asks w u C.pause (C.rested false) → Ends w s
+rests_well w u v s is leaves ready x =
+    let rests : w.core.left ≡ C.resting = rests_over w.core.left x.asked_is in
+    ends_so w u C.pause (C.rested false) ready x v is s leaves (ap (λ l. answered (enveloped w.desk.plan) l (C.rested false)) rests, x.held ∙ (ready.rested rests).0, subst (λ p. Empties p) (sym x.makes) (ready.rested rests).1)

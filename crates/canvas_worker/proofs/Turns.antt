@@ -1,0 +1,59 @@
+-- What one turn of a worker leaves.
+use Rattle.std.proofs.Common.{◌≡◌, ◌∙◌, ℕ, ◌+◌, ◌≤◌, min, Bool, false, List, [], ◌∷◌, ◌++◌, Option, Some, None, Result, Ok, Err, refl, sym, ap, ap₂, subst, arith}
+use Rattle.std.specs.Prelude.{MatchResult}
+use Rattle.canvas_message.specs.declared.envelope.Envelope.{Envelope}
+use Rattle.canvas_backend.specs.Callers.{Desk}
+use Rattle.canvas_backend.specs.Roster.{Roster}
+use Rattle.canvas_broker.specs.Callers.{Took}
+use Rattle.canvas_runs.specs.Book.{Book, book_on}
+use Rattle.canvas_runs.specs.Calls.{broker_call, backend_call, reads_member}
+use Rattle.canvas_runs.specs.Core as C
+use Rattle.canvas_runs.specs.Core.{answered, Suits, ReadsBack}
+use Rattle.canvas_runs.specs.Following.{Seat, Makes, Serves}
+use Rattle.canvas_runs.specs.Tally.{Tally, IsTally, Counted, Adds, is_taken, is_published, is_first, is_part, is_dropped, most}
+use Rattle.canvas_worker.specs.Asks.{Asked, Answer}
+use Rattle.canvas_worker.specs.Books.{book_in, no_book}
+use Rattle.canvas_worker.specs.Enveloped.{enveloped, enveloped_by}
+use Rattle.canvas_worker.specs.Progress.{Progress}
+use Rattle.canvas_worker.specs.Seats.{Can}
+use Rattle.canvas_worker.specs.Standing.{Standing, Left, asked, drops, after_reply}
+use Rattle.canvas_worker.specs.Steps.{Answered, OnlyBare, Called, Batched, FromHeld}
+use Rattle.canvas_worker.specs.Work.{Work, progress, with_core, told, lost, one_taken, Ready, Moves, stays, calls, takes, gives, GoesOn, Leaves, IsOf, Ends}
+use Rattle.canvas_worker.specs.declared.cause.Cause.{Cause}
+use Rattle.canvas_worker.specs.declared.cause.Cause.TheVariants.{Memory, Stopped}
+use Rattle.canvas_worker.specs.declared.record.Record.{Record}
+use Rattle.canvas_worker.proofs.Asking.{same_book, may_go_on}
+use Rattle.canvas_worker.proofs.Shown.{drops_so}
+
+-- ---- counts
+
+pub unchanged : (n m : ℕ) → n ≤ most → m ≡ n → Adds n (0 + 0) m
+unchanged n m h e = omega (arith, h, e)
+
+pub one_more : (n m : ℕ) → m ≡ min most (n + 1) → Adds n (1 + 0) m
+one_more n m e = omega (arith, e)
+
+within : (n k m : ℕ) → Adds n k m → m ≤ most
+within n k m e = omega (arith, e)
+
+pub tallied : (plan : Roster) (a : Asked) (r : Answer) (t u : Tally) → Counted plan ((a, r) ∷ []) t u → IsTally u
+tallied plan a r t u c = (
+  within t.taken (is_taken a r + 0) u.taken c.taken,
+  within t.published (is_published a r + 0) u.published c.published,
+  within t.first (is_first a r + 0) u.first c.first,
+  within t.parts (is_part a r + 0) u.parts c.parts,
+  within t.dropped (is_dropped plan a r + 0) u.dropped c.dropped,
+)
+
+-- ---- a worker that ends at once
+
+pub some_none : (c : Cause) → ◌≡◌ {A = Option Cause} (Some c) None → ⊥
+some_none c e = cc
+
+pub ends_here : (w : Work) (c : Cause) (r : Record) → Ready w → Leaves w (Some c) r → Ends w r
+ends_here w c r ready leaves = record {
+  ended = progress w;
+  counted = ready.counts;
+  moved = stays refl;
+  is_of = record { same_number = leaves.same_number; pass = leaves.pass; seat = leaves.seat; counts = leaves.counts; whole = λ none. absurd (some_none c (sym leaves.fault_is ∙ none)) };
+}

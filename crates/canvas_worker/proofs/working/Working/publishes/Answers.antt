@@ -1,0 +1,72 @@
+use Rattle.std.proofs.Common.{rules, ◌≡◌, refl, sym, subst, ap, ◌∙◌, true, false, Some, None, [], ◌∷◌, ◌++◌, ◌≤◌, ℕ, arith}
+use Rattle.canvas_runs.specs.Core as C
+use Rattle.canvas_worker.specs.Held.{held_in}
+use Rattle.canvas_worker.specs.Standing.{asked}
+use Rattle.canvas_worker.specs.Work.{Work}
+use Rattle.canvas_worker.proofs.Resting.{busy_never}
+use Rattle.canvas_worker.proofs.Turns.{unchanged, one_more}
+use Rattle.canvas_worker.specs.Books.{book_in}
+use Rattle.canvas_worker.specs.Standing.{handed, after_reply}
+use Rattle.canvas_worker.proofs.Shown.{handed_out, handed_same}
+use Rattle.canvas_worker.proofs.Telling.{asked_well, ends_badly}
+use Rattle.canvas_worker.proofs.working.Working.publishes.Goals as goal
+
+pub returns-in-Ok : goal.returns-in-Ok
+returns-in-Ok g c =
+    let w : Work = c.args.self in
+    let u : Work = record { broker = c.self.inside.broker.now; desk = c.self.inside.backend.now; number = c.self.inside.number; pass = c.publish.new.pass; seat = c.self.inside.seat; core = c.envelope.new.self; held = held_in c.self.inside.source; taken = c.self.inside.taken; published = c.saturating_add.result; first = c.self.inside.first; parts = c.self.inside.parts } in
+    let asks : asked w.core.left ≡ C.send c.in-Some.envelope = handed_out c.in-Some.envelope w.core c.requires.ready.inside (search rules) in
+    let core : u.core ≡ handed w.core = search rules in
+    asked_well w u (C.send c.in-Some.envelope) C.sent c.replies.result c.replies.ensures c.requires.ready (record {
+      asked_is = asks;
+      suits = tt;
+      back = c.requires.reads_back;
+      member = tt;
+      broker = search rules;
+      desk = search rules;
+      number = search rules;
+      of = search rules;
+      home = search rules;
+      held = search rules;
+      bare = tt;
+      makes = search rules;
+      serves = search rules;
+      taken = unchanged w.taken u.taken c.requires.ready.counts.0 (search rules);
+      published = one_more w.published u.published (search rules);
+      first = unchanged w.first u.first c.requires.ready.counts.2 (search rules);
+      parts = unchanged w.parts u.parts c.requires.ready.counts.3 (search rules);
+      same_drops = search rules;
+      still = λ rests. absurd (busy_never w.desk.plan w.core.left C.sent (C.send c.in-Some.envelope) asks tt rests);
+      none_dropped = refl;
+      core = ap (λ z. after_reply (book_in w.desk.plan) z C.sent) core ∙ handed_same (book_in w.desk.plan) w.core C.sent;
+    })
+
+pub returns-in-Err : goal.returns-in-Err
+returns-in-Err g c =
+    let w : Work = c.args.self in
+    let u : Work = record { broker = c.self.inside.broker.now; desk = c.self.inside.backend.now; number = c.self.inside.number; pass = c.publish.new.pass; seat = c.self.inside.seat; core = c.envelope.new.self; held = held_in c.self.inside.source; taken = c.self.inside.taken; published = c.self.inside.published; first = c.self.inside.first; parts = c.self.inside.parts } in
+    let asks : asked w.core.left ≡ C.send c.in-Some.envelope = handed_out c.in-Some.envelope w.core c.requires.ready.inside (search rules) in
+    let core : u.core ≡ handed w.core = search rules in
+    ends_badly w u (C.send c.in-Some.envelope) C.refused c.fails.result c.fails.ensures c.requires.ready (record {
+      asked_is = asks;
+      suits = tt;
+      back = c.requires.reads_back;
+      member = tt;
+      broker = search rules;
+      desk = search rules;
+      number = search rules;
+      of = search rules;
+      home = search rules;
+      held = search rules;
+      bare = tt;
+      makes = search rules;
+      serves = search rules;
+      taken = unchanged w.taken u.taken c.requires.ready.counts.0 (search rules);
+      published = unchanged w.published u.published c.requires.ready.counts.1 (search rules);
+      first = unchanged w.first u.first c.requires.ready.counts.2 (search rules);
+      parts = unchanged w.parts u.parts c.requires.ready.counts.3 (search rules);
+      same_drops = search rules;
+      still = λ rests. absurd (busy_never w.desk.plan w.core.left C.refused (C.send c.in-Some.envelope) asks tt rests);
+      none_dropped = refl;
+      core = ap (λ z. after_reply (book_in w.desk.plan) z C.refused) core ∙ handed_same (book_in w.desk.plan) w.core C.refused;
+    })

@@ -1,0 +1,57 @@
+use Rattle.std.proofs.Common.{rules, ◌≡◌, refl, sym, subst, ap, ◌∙◌, true, false, Some, None, [], ◌∷◌, ◌++◌, ◌≤◌, ℕ, arith}
+use Rattle.canvas_runs.specs.Core as C
+use Rattle.canvas_worker.specs.Held.{held_in}
+use Rattle.canvas_worker.specs.Standing.{asked}
+use Rattle.canvas_worker.specs.Work.{Work}
+use Rattle.canvas_worker.proofs.Resting.{busy_never}
+use Rattle.canvas_worker.proofs.Turns.{unchanged, one_more}
+use Rattle.std.specs.Prelude.{slice_get}
+use Rattle.canvas_backend.specs.Roster.{members}
+use Rattle.canvas_worker.specs.Seats.{Allowed}
+use Rattle.canvas_worker.proofs.Asking.{may_ask}
+use Rattle.canvas_worker.proofs.Shown.{is_read, same_place, no_place}
+use Rattle.canvas_worker.proofs.Stepping.{at_get}
+use Rattle.canvas_worker.proofs.Telling.{asked_well}
+use Rattle.canvas_worker.proofs.working.Working.reads.Goals as goal
+
+pub read-found-requires-clause-task : goal.read-found-requires-clause-task
+read-found-requires-clause-task g c =
+    let w : Work = c.args.self in
+    let same : w.desk ≡ c.self.inside.backend.now = search rules in
+    let may : Allowed w.desk.plan w.seat (C.read c.args.group c.args.place) = subst (Allowed w.desk.plan w.seat) (is_read c.args.group c.args.place (asked w.core.left) c.requires.asks) (may_ask w.desk.plan c.requires.ready.plan w.seat w.core.left c.requires.ready.can) in
+    subst (λ d. c.in-Some.task ≤ d.plan.tasks) same (subst (λ t. t ≤ w.desk.plan.tasks) (same_place (members w.desk.plan c.args.group) c.args.place may.0 c.in-Some.task may.1 (search rules)) may.2)
+
+pub unreachable-requires : goal.unreachable-requires
+unreachable-requires g c =
+    let w : Work = c.args.self in
+    let may : Allowed w.desk.plan w.seat (C.read c.args.group c.args.place) = subst (Allowed w.desk.plan w.seat) (is_read c.args.group c.args.place (asked w.core.left) c.requires.asks) (may_ask w.desk.plan c.requires.ready.plan w.seat w.core.left c.requires.ready.can) in
+    no_place (members w.desk.plan c.args.group) c.args.place may.0 may.1 (search rules)
+
+pub returns : goal.returns
+returns g c =
+    let w : Work = c.args.self in
+    let u : Work = record { broker = c.self.inside.broker.now; desk = c.self.inside.backend.now; number = c.self.inside.number; pass = c.self.inside.pass; seat = c.read-found.new.seat; core = c.self.inside.core; held = held_in c.self.inside.source; taken = c.self.inside.taken; published = c.self.inside.published; first = c.self.inside.first; parts = c.self.inside.parts } in
+    let asks : asked w.core.left ≡ C.read c.args.group c.args.place = is_read c.args.group c.args.place (asked w.core.left) c.requires.asks in
+    asked_well w u (C.read c.args.group c.args.place) (C.found c.in-Some.task c.read-found.result) c.replies.result c.replies.ensures c.requires.ready (record {
+      asked_is = asks;
+      suits = tt;
+      back = c.requires.reads_back;
+      member = at_get c.args.place (members w.desk.plan c.args.group) ∙ search rules;
+      broker = search rules;
+      desk = search rules;
+      number = search rules;
+      of = search rules;
+      home = search rules;
+      held = search rules;
+      bare = tt;
+      makes = search rules;
+      serves = search rules;
+      taken = unchanged w.taken u.taken c.requires.ready.counts.0 (search rules);
+      published = unchanged w.published u.published c.requires.ready.counts.1 (search rules);
+      first = unchanged w.first u.first c.requires.ready.counts.2 (search rules);
+      parts = unchanged w.parts u.parts c.requires.ready.counts.3 (search rules);
+      same_drops = search rules;
+      still = λ rests. absurd (busy_never w.desk.plan w.core.left (C.found c.in-Some.task c.read-found.result) (C.read c.args.group c.args.place) asks tt rests);
+      none_dropped = refl;
+      core = search rules;
+    })

@@ -1,0 +1,39 @@
+use Rattle.std.proofs.Common.{rules, ◌≡◌, refl, sym, subst, ap, ◌∙◌, true, false, Some, None, [], ◌∷◌, ◌++◌, ◌≤◌, ℕ, arith}
+use Rattle.canvas_runs.specs.Core as C
+use Rattle.canvas_worker.specs.Held.{held_in}
+use Rattle.canvas_worker.specs.Standing.{asked}
+use Rattle.canvas_worker.specs.Work.{Work}
+use Rattle.canvas_worker.proofs.Resting.{busy_never}
+use Rattle.canvas_worker.proofs.Turns.{unchanged, one_more}
+use Rattle.canvas_worker.proofs.Shown.{is_part}
+use Rattle.canvas_worker.proofs.Telling.{asked_well}
+use Rattle.canvas_worker.proofs.working.Working.returns.Goals as goal
+
+pub returns : goal.returns
+returns g c =
+    let w : Work = c.args.self in
+    let u : Work = record { broker = c.self.inside.broker.now; desk = c.self.inside.backend.now; number = c.self.inside.number; pass = c.self.inside.pass; seat = c.part-count.new.seat; core = c.self.inside.core; held = held_in c.self.inside.source; taken = c.self.inside.taken; published = c.self.inside.published; first = c.self.inside.first; parts = c.saturating_add.result } in
+    let asks : asked w.core.left ≡ C.part c.args.group c.args.task = is_part c.args.group c.args.task (asked w.core.left) c.requires.asks in
+    asked_well w u (C.part c.args.group c.args.task) (C.counted c.part-count.result) c.replies.result c.replies.ensures c.requires.ready (record {
+      asked_is = asks;
+      suits = tt;
+      back = c.requires.reads_back;
+      member = tt;
+      broker = search rules;
+      desk = search rules;
+      number = search rules;
+      of = search rules;
+      home = search rules;
+      held = search rules;
+      bare = tt;
+      makes = search rules;
+      serves = search rules;
+      taken = unchanged w.taken u.taken c.requires.ready.counts.0 (search rules);
+      published = unchanged w.published u.published c.requires.ready.counts.1 (search rules);
+      first = unchanged w.first u.first c.requires.ready.counts.2 (search rules);
+      parts = one_more w.parts u.parts (search rules);
+      same_drops = search rules;
+      still = λ rests. absurd (busy_never w.desk.plan w.core.left (C.counted c.part-count.result) (C.part c.args.group c.args.task) asks tt rests);
+      none_dropped = refl;
+      core = search rules;
+    })

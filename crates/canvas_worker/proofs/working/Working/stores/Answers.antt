@@ -1,0 +1,77 @@
+use Rattle.std.proofs.Common.{rules, ◌≡◌, refl, sym, subst, ap, ◌∙◌, true, false, Some, None, [], ◌∷◌, ◌++◌, ◌≤◌, ℕ, arith}
+use Rattle.canvas_runs.specs.Core as C
+use Rattle.canvas_worker.specs.Held.{held_in}
+use Rattle.canvas_worker.specs.Standing.{asked}
+use Rattle.canvas_worker.specs.Work.{Work}
+use Rattle.canvas_worker.proofs.Resting.{busy_never}
+use Rattle.canvas_worker.proofs.Turns.{unchanged, one_more}
+use Rattle.canvas_worker.specs.Seats.{Allowed}
+use Rattle.canvas_worker.proofs.Asking.{may_ask}
+use Rattle.canvas_worker.proofs.Shown.{is_store}
+use Rattle.canvas_worker.proofs.Telling.{asked_well}
+use Rattle.canvas_worker.proofs.working.Working.stores.Goals as goal
+
+pub store-requires-clause-task : goal.store-requires-clause-task
+store-requires-clause-task g c =
+    let w : Work = c.args.self in
+    let same : w.desk ≡ c.self.inside.backend.now = search rules in
+    subst (λ d. c.args.task ≤ d.plan.tasks) same
+    (subst (Allowed w.desk.plan w.seat) (is_store c.args.task c.args.outcome (asked w.core.left) c.requires.asks) (may_ask w.desk.plan c.requires.ready.plan w.seat w.core.left c.requires.ready.can))
+
+pub returns-in-First : goal.returns-in-First
+returns-in-First g c =
+    let w : Work = c.args.self in
+    let u : Work = record { broker = c.self.inside.broker.now; desk = c.self.inside.backend.now; number = c.self.inside.number; pass = c.self.inside.pass; seat = c.store.new.seat; core = c.self.inside.core; held = held_in c.self.inside.source; taken = c.self.inside.taken; published = c.self.inside.published; first = c.saturating_add.result; parts = c.self.inside.parts } in
+    let asks : asked w.core.left ≡ C.keep c.args.task c.args.outcome = is_store c.args.task c.args.outcome (asked w.core.left) c.requires.asks in
+    asked_well w u (C.keep c.args.task c.args.outcome) (C.kept true) c.replies.result c.replies.ensures c.requires.ready (record {
+      asked_is = asks;
+      suits = tt;
+      back = c.requires.reads_back;
+      member = tt;
+      broker = search rules;
+      desk = search rules;
+      number = search rules;
+      of = search rules;
+      home = search rules;
+      held = search rules;
+      bare = tt;
+      makes = search rules;
+      serves = search rules;
+      taken = unchanged w.taken u.taken c.requires.ready.counts.0 (search rules);
+      published = unchanged w.published u.published c.requires.ready.counts.1 (search rules);
+      first = one_more w.first u.first (search rules);
+      parts = unchanged w.parts u.parts c.requires.ready.counts.3 (search rules);
+      same_drops = search rules;
+      still = λ rests. absurd (busy_never w.desk.plan w.core.left (C.kept true) (C.keep c.args.task c.args.outcome) asks tt rests);
+      none_dropped = refl;
+      core = search rules;
+    })
+
+pub returns-in-Again : goal.returns-in-Again
+returns-in-Again g c =
+    let w : Work = c.args.self in
+    let u : Work = record { broker = c.self.inside.broker.now; desk = c.self.inside.backend.now; number = c.self.inside.number; pass = c.self.inside.pass; seat = c.store.new.seat; core = c.self.inside.core; held = held_in c.self.inside.source; taken = c.self.inside.taken; published = c.self.inside.published; first = c.self.inside.first; parts = c.self.inside.parts } in
+    let asks : asked w.core.left ≡ C.keep c.args.task c.args.outcome = is_store c.args.task c.args.outcome (asked w.core.left) c.requires.asks in
+    asked_well w u (C.keep c.args.task c.args.outcome) (C.kept false) c.replies-in-Again.result c.replies-in-Again.ensures c.requires.ready (record {
+      asked_is = asks;
+      suits = tt;
+      back = c.requires.reads_back;
+      member = tt;
+      broker = search rules;
+      desk = search rules;
+      number = search rules;
+      of = search rules;
+      home = search rules;
+      held = search rules;
+      bare = tt;
+      makes = search rules;
+      serves = search rules;
+      taken = unchanged w.taken u.taken c.requires.ready.counts.0 (search rules);
+      published = unchanged w.published u.published c.requires.ready.counts.1 (search rules);
+      first = unchanged w.first u.first c.requires.ready.counts.2 (search rules);
+      parts = unchanged w.parts u.parts c.requires.ready.counts.3 (search rules);
+      same_drops = search rules;
+      still = λ rests. absurd (busy_never w.desk.plan w.core.left (C.kept false) (C.keep c.args.task c.args.outcome) asks tt rests);
+      none_dropped = refl;
+      core = search rules;
+    })

@@ -1,0 +1,36 @@
+use Rattle.std.proofs.Common.{rules, ◌≡◌, refl, sym, subst, ap, ◌∙◌, true, false, Some, None, [], ◌∷◌, ◌++◌, List, append-nil}
+use Rattle.canvas_task.specs.History.{calls}
+use Rattle.canvas_message.specs.declared.envelope.Envelope.{Envelope}
+use Rattle.canvas_broker.specs.Broker as broker
+use Rattle.canvas_broker.specs.Callers.{Stands, Took}
+use Rattle.canvas_runs.specs.Core as C
+use Rattle.canvas_worker.specs.Held.{held_in}
+use Rattle.canvas_worker.specs.Standing.{asked}
+use Rattle.canvas_worker.specs.Work.{Work}
+use Rattle.canvas_worker.proofs.Giving.{given_well}
+use Rattle.canvas_worker.proofs.Shown.{is_take}
+use Rattle.canvas_worker.proofs.working.Working.takes_batch.Goals as goal
+
+pub returns-in-Some : goal.returns-in-Some
+returns-in-Some g c =
+    let w : Work = c.args.self in
+    let u : Work = record { broker = c.self.inside.broker.now; desk = c.self.inside.backend.now; number = c.self.inside.number; pass = c.take_batch-batch.new.pass; seat = c.self.inside.seat; core = c.self.inside.core; held = c.next.new.self; taken = c.self.inside.taken; published = c.self.inside.published; first = c.self.inside.first; parts = c.self.inside.parts } in
+    let e : Envelope = c.in-Some.envelope in
+    let es : List Envelope = c.take_batch-batch.result in
+    let took : Took w.pass es u.pass = search rules in
+    let rest : es ≡ e ∷ u.held = search rules in
+    given_well w u es e c.gives.result c.gives.ensures c.requires.ready (record {
+      asked_is = is_take (asked w.core.left) c.requires.asks;
+      broker = search rules;
+      desk = search rules;
+      number = search rules;
+      of = search rules;
+      seat = search rules;
+      core = search rules;
+      took = took;
+      held = ap (λ h. h ++ es) c.requires.bare ∙ rest;
+      taken = search rules;
+      published = search rules;
+      first = search rules;
+      parts = search rules;
+    })

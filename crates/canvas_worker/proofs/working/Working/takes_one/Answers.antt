@@ -1,0 +1,67 @@
+use Rattle.std.proofs.Common.{rules, ◌≡◌, refl, sym, subst, ap, ◌∙◌, true, false, Some, None, [], ◌∷◌, ◌++◌, List, append-nil}
+use Rattle.canvas_task.specs.History.{calls}
+use Rattle.canvas_message.specs.declared.envelope.Envelope.{Envelope}
+use Rattle.canvas_broker.specs.Broker as broker
+use Rattle.canvas_broker.specs.Callers.{Stands, Empties}
+use Rattle.canvas_runs.specs.Core as C
+use Rattle.canvas_worker.specs.Held.{held_in}
+use Rattle.canvas_worker.specs.Standing.{asked}
+use Rattle.canvas_worker.specs.Work.{Work}
+use Rattle.canvas_worker.proofs.Giving.{given_well}
+use Rattle.canvas_worker.proofs.Shown.{is_take, reads_back}
+use Rattle.canvas_worker.proofs.Telling.{asked_well}
+use Rattle.canvas_worker.proofs.Turns.{unchanged}
+use Rattle.canvas_worker.proofs.working.Working.takes_one.Goals as goal
+
+pub returns-in-Some : goal.returns-in-Some
+returns-in-Some g c =
+    let w : Work = c.args.self in
+    let u : Work = record { broker = c.self.inside.broker.now; desk = c.self.inside.backend.now; number = c.self.inside.number; pass = c.take.new.pass; seat = c.self.inside.seat; core = c.self.inside.core; held = []; taken = c.self.inside.taken; published = c.self.inside.published; first = c.self.inside.first; parts = c.self.inside.parts } in
+    let e : Envelope = c.in-Some.envelope in
+    let stands : Stands w.pass (calls w.pass.name broker.take (Some e)) u.pass = search rules in
+    given_well w u (e ∷ []) e c.gives.result c.gives.ensures c.requires.ready (record {
+      asked_is = is_take (asked w.core.left) c.requires.asks;
+      broker = search rules;
+      desk = search rules;
+      number = search rules;
+      of = search rules;
+      seat = search rules;
+      core = search rules;
+      took = stands;
+      held = ap (λ h. h ++ e ∷ []) c.requires.bare;
+      taken = search rules;
+      published = search rules;
+      first = search rules;
+      parts = search rules;
+    })
+
+pub returns-in-None : goal.returns-in-None
+returns-in-None g c =
+    let w : Work = c.args.self in
+    let u : Work = record { broker = c.self.inside.broker.now; desk = c.self.inside.backend.now; number = c.self.inside.number; pass = c.take.new.pass; seat = c.self.inside.seat; core = c.self.inside.core; held = held_in c.after_none.result; taken = c.self.inside.taken; published = c.self.inside.published; first = c.self.inside.first; parts = c.self.inside.parts } in
+    let asks : asked w.core.left ≡ C.take = is_take (asked w.core.left) c.requires.asks in
+    let bare : u.held ≡ [] = search rules in
+    let empty : Empties u.pass = search rules in
+    asked_well w u C.take (C.taken None) c.answers.result c.answers.ensures c.requires.ready (record {
+      asked_is = asks;
+      suits = tt;
+      back = reads_back w.core.left asks;
+      member = tt;
+      broker = search rules;
+      desk = search rules;
+      number = search rules;
+      of = search rules;
+      home = search rules;
+      held = bare ∙ sym c.requires.bare;
+      bare = tt;
+      makes = search rules;
+      serves = search rules;
+      taken = unchanged w.taken u.taken c.requires.ready.counts.0 (search rules);
+      published = unchanged w.published u.published c.requires.ready.counts.1 (search rules);
+      first = unchanged w.first u.first c.requires.ready.counts.2 (search rules);
+      parts = unchanged w.parts u.parts c.requires.ready.counts.3 (search rules);
+      same_drops = search rules;
+      still = λ _. (bare, empty);
+      none_dropped = refl;
+      core = search rules;
+    })

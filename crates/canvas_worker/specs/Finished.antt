@@ -1,0 +1,35 @@
+-- What a new worker's record says, where its backend is one of a plan: in words of the worker that the law of runs speaks of.
+use Rattle.std.specs.Prelude.{◌≡◌, ℕ, None}
+use Rattle.std.specs.Global.{Global}
+use Rattle.crossbeam_queue.specs.SegTies.{SegId}
+use Rattle.canvas_rewrite.specs.Frozen.{Line}
+use Rattle.canvas_rewrite.specs.Planned.{IsPlan}
+use Rattle.canvas_backend.specs.Callers.{Desk}
+use Rattle.canvas_backend.specs.Roster.{Roster, roster_of}
+use Rattle.canvas_broker.specs.Callers.{Empties}
+use Rattle.canvas_runs.specs.Following.{Pass, Seat, Working, Followed, begins, IsDone}
+use Rattle.canvas_worker.specs.Work.{Ready, Gives, begun, tally_of}
+use Rattle.canvas_worker.specs.declared.record.Record.{Record}
+
+-- The record's pass and seat have followed a core run from where they were given to the worker; without a fault it ended outside of scripts, and the last
+-- take found nothing.
+pub record Finished (plan : Roster) (number : ℕ) (pass : Pass) (seat : Seat) (r : Record) : Type 0 where
+  pub same_number : r.number ≡ number
+  pub ended : Working
+  pub followed : Followed plan (begins pass seat) ended
+  pub pass_is : r.pass ≡ ended.pass
+  pub seat_is : r.seat ≡ ended.seat
+  pub counts : tally_of r ≡ ended.tally
+  pub done : r.fault ≡ None → IsDone plan ended
+  pub empty : r.fault ≡ None → Empties r.pass
+
+-- a new worker may be polled
+abbrev pub WorkersStart : Type 0
+WorkersStart =
+    (l : Line) → IsPlan l → (broker : SegId Global) (desk : Desk) (number : ℕ) (pass : Pass) (seat : Seat) → desk.plan ≡ roster_of l → pass.of ≡ broker → seat.of ≡ desk.id
+    → Ready (begun broker desk number pass seat)
+
+abbrev pub WorkersFinish : Type 0
+WorkersFinish =
+    (l : Line) → IsPlan l → (broker : SegId Global) (desk : Desk) (number : ℕ) (pass : Pass) (seat : Seat) → desk.plan ≡ roster_of l → (r : Record)
+    → Gives (begun broker desk number pass seat) r → Finished (roster_of l) number pass seat r

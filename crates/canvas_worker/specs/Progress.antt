@@ -1,0 +1,39 @@
+-- How far a worker is, and what it is for its pass and its seat to have followed a core run from there. Messages are kept as their envelopes.
+use Rattle.std.specs.Prelude.{◌+◌, ◌≡◌, List, [], length, map, Some}
+use Rattle.canvas_message.specs.declared.envelope.Envelope.{Envelope}
+use Rattle.canvas_backend.specs.Roster.{Roster}
+use Rattle.canvas_runs.specs.Calls.{BrokerCall, Follows, AskedAndAnswered, broker_calls, backend_calls, ReadsMembers, takes_one}
+use Rattle.canvas_runs.specs.Core.{taking, IsCoreRun, left_after}
+use Rattle.canvas_runs.specs.Following.{Pass, Seat, Stood, Makes, Serves}
+use Rattle.canvas_runs.specs.Lists.{Each, total}
+use Rattle.canvas_runs.specs.Tally.{Tally, none_yet, Counted}
+use Rattle.canvas_worker.specs.Enveloped.{enveloped}
+use Rattle.canvas_worker.specs.Standing.{Left}
+
+-- its pass and its seat, what its core has left to do, the envelopes that it took and has not given to its core, and its counts
+pub record Progress : Type 0 where
+  pub pass : Pass
+  pub seat : Seat
+  pub left : Left
+  pub held : List Envelope
+  pub tally : Tally
+
+-- with this pass and this seat, before the first call
+abbrev pub starting : Pass → Seat → Progress
+starting p s = record { pass = p; seat = s; left = taking; held = []; tally = none_yet }
+
+-- from w on its pass and its seat have followed a core run, and it is at v then
+pub record Worked (plan : Roster) (w v : Progress) : Type 0 where
+  pub run : List (AskedAndAnswered (enveloped plan))
+  pub is_core : IsCoreRun (enveloped plan) w.left run
+  -- a read is of the member that it names
+  pub reads : ReadsMembers (enveloped plan) run
+  pub counts : Counted plan run w.tally v.tally
+  pub leaves : left_after (enveloped plan) w.left run ≡ v.left
+  -- the calls of its pass. A take may stand before the core's
+  pub made : List (BrokerCall Envelope)
+  pub stood : Each Stood made
+  pub follows : Follows (map Some w.held) (broker_calls (enveloped plan) run) made
+  pub used : length w.held + total takes_one made ≡ total takes_one (broker_calls (enveloped plan) run) + length v.held
+  pub makes : Makes w.pass made v.pass
+  pub serves : Serves plan w.seat (backend_calls (enveloped plan) run) v.seat

@@ -1,0 +1,70 @@
+-- What a backend lets a worker's seat do: it may do all that the worker has left to do, whatever other workers do. It follows from what is left and from
+-- what the seat has seen, for each envelope that is opened, also for one that no plan's run has.
+use Rattle.std.specs.Prelude.{◌≡◌, ◌≤◌, ◌<◌, ℕ, Bool, true, false, IsTrue, [], ◌∷◌, length, Some, slice_get}
+use Rattle.canvas_rewrite.specs.Frozen.{Line}
+use Rattle.canvas_rewrite.specs.FrozenView.{Load}
+use Rattle.canvas_rewrite.specs.Planned.{IsPlan}
+use Rattle.canvas_message.specs.Job.{store, publish, hand_in}
+use Rattle.canvas_backend.specs.Backend.{MayReturn}
+use Rattle.canvas_backend.specs.Roster.{Roster, roster_of, members, size, is_chord, is_member}
+use Rattle.canvas_runs.specs.Book.{book_on, is_size, line_known}
+use Rattle.canvas_runs.specs.Calls.{backend_call}
+use Rattle.canvas_runs.specs.Core.{keep, part, read, taking, owning, doing, reading, answered, is_due, Suits}
+use Rattle.canvas_runs.specs.Following.{Seat, Serves}
+use Rattle.canvas_runs.specs.Worker.{opened}
+use Rattle.canvas_worker.specs.Asks.{Asked, Answer}
+use Rattle.canvas_worker.specs.Enveloped.{said, enveloped}
+use Rattle.canvas_worker.specs.Scripts.{Jobs}
+use Rattle.canvas_worker.specs.Standing.{Left, asked}
+
+module _ (plan : Roster) where
+  -- what a member of this chord carries names only what the plan has
+  abbrev pub Carries : ℕ → Load → Type 0
+  Carries g c = (is_size c.size (size plan g) ≡ true) × (line_known (book_on plan) c.body ≡ true)
+
+  -- each task that is stored is the plan's, and each part is that of a chord's member
+  abbrev pub InPlan : Jobs → Type 0
+  InPlan [] = Unit {0}
+  InPlan (store t o ∷ js) = (t ≤ plan.tasks) × InPlan js
+  InPlan (publish e ∷ js) = InPlan js
+  InPlan (hand_in g t c ∷ js) = IsTrue (is_member plan g t) × Carries g c × InPlan js
+
+  -- The seat may return the part that is due if its task's latest store was the first, unless that task is still to be stored.
+  abbrev pub MayHandIn : Seat → Bool → Jobs → Type 0
+  MayHandIn s b [] = Unit {0}
+  MayHandIn s b (store t o ∷ js) = is_due t js ≡ false → MayHandIn s b js
+  MayHandIn s b (publish e ∷ js) = MayHandIn s b js
+  MayHandIn s b (hand_in g t c ∷ js) = b ≡ true → MayReturn plan s.seen s.name t
+
+  -- a part comes next only where that store was the first
+  abbrev pub IsNext : Bool → Jobs → Type 0
+  IsNext b (hand_in g t c ∷ js) = b ≡ true
+  IsNext b js = Unit {0}
+
+  -- the backend lets the seat do what is left to do
+  abbrev pub Can : Seat → Left → Type 0
+  Can s (owning e) = opened (book_on plan) e ≡ Some (said e)
+  Can s (doing js b) = InPlan js × MayHandIn s b js × IsNext b js
+  Can s (reading g c fs) = Carries g c × (length fs < c.size)
+  Can s left = Unit {0}
+
+  -- the backend lets the seat ask this, and a read is of a member that there is
+  abbrev pub Allowed : Seat → Asked → Type 0
+  Allowed s (keep t o) = t ≤ plan.tasks
+  Allowed s (part g t) = IsTrue (is_chord plan g) × IsTrue (is_member plan g t) × MayReturn plan s.seen s.name t
+  Allowed s (read g i) = (t : ℕ) × (slice_get (members plan g) i ≡ Some t) × (t ≤ plan.tasks)
+  Allowed s a = Unit {0}
+
+-- a worker that waits for an envelope can go on
+abbrev pub WaitingCan : Type 0
+WaitingCan = (plan : Roster) (s : Seat) → Can plan s taking
+
+-- what can be done may be asked
+abbrev pub CanAsk : Type 0
+CanAsk = (l : Line) → IsPlan l → (s : Seat) (left : Left) → Can (roster_of l) s left → Allowed (roster_of l) s (asked left)
+
+-- and once it is asked and answered, and the seat has made the call, what is left can be done
+abbrev pub CanGoOn : Type 0
+CanGoOn =
+    (l : Line) → IsPlan l → (s t : Seat) (left : Left) (r : Answer) → Can (roster_of l) s left → Suits (enveloped (roster_of l)) (asked left) r
+    → Serves (roster_of l) s (backend_call (enveloped (roster_of l)) (asked left) r) t → Can (roster_of l) t (answered (enveloped (roster_of l)) left r)

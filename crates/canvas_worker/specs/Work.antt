@@ -1,0 +1,127 @@
+-- What contracts see of a worker, what one of its polls leaves, and what its record says.
+use Rattle.std.specs.Prelude.{◌≡◌, ◌+◌, ℕ, min, false, List, [], Option, None}
+use Rattle.std.specs.Global.{Global}
+use Rattle.crossbeam_queue.specs.SegTies.{SegId}
+use Rattle.canvas_rewrite.specs.Frozen.{Line}
+use Rattle.canvas_rewrite.specs.Planned.{IsPlan}
+use Rattle.canvas_message.specs.declared.envelope.Envelope.{Envelope}
+use Rattle.canvas_backend.specs.Callers.{Desk}
+use Rattle.canvas_backend.specs.Roster.{Roster, roster_of}
+use Rattle.canvas_broker.specs.Callers.{Empties}
+use Rattle.canvas_runs.specs.Core.{resting, over}
+use Rattle.canvas_runs.specs.Following.{Pass, Seat}
+use Rattle.canvas_runs.specs.Tally.{Tally, IsTally}
+use Rattle.canvas_worker.specs.Asks.{Asked, Answer}
+use Rattle.canvas_worker.specs.Books.{book_in}
+use Rattle.canvas_worker.specs.Progress.{Progress, Worked}
+use Rattle.canvas_worker.specs.Seats.{Can}
+use Rattle.canvas_worker.specs.Standing.{Standing, most, begun as new_core, after_reply, failing}
+use Rattle.canvas_worker.specs.Steps.{Called, FromHeld, Batched}
+use Rattle.canvas_worker.specs.declared.cause.Cause.{Cause}
+use Rattle.canvas_worker.specs.declared.record.Record.{Record}
+
+-- a worker in the middle of its work: the broker and the backend that it works at, its number, its pass and its seat, its core, the envelopes that
+-- it took and has not given to its core, and its counts
+pub record Work : Type 0 where
+  pub broker : SegId Global
+  pub desk : Desk
+  pub number : ℕ
+  pub pass : Pass
+  pub seat : Seat
+  pub core : Standing
+  pub held : List Envelope
+  pub taken : ℕ
+  pub published : ℕ
+  pub first : ℕ
+  pub parts : ℕ
+
+-- a worker that has done nothing yet
+abbrev pub begun : SegId Global → Desk → ℕ → Pass → Seat → Work
+begun broker desk number pass seat =
+    record { broker = broker; desk = desk; number = number; pass = pass; seat = seat; core = new_core; held = []; taken = 0; published = 0; first = 0; parts = 0 }
+
+abbrev pub progress : Work → Progress
+progress w = record {
+  pass = w.pass;
+  seat = w.seat;
+  left = w.core.left;
+  held = w.held;
+  tally = record { taken = w.taken; published = w.published; first = w.first; parts = w.parts; dropped = w.core.dropped };
+}
+
+-- the same worker with its core as it is here
+abbrev pub with_core : Work → Standing → Work
+with_core w c =
+    record { broker = w.broker; desk = w.desk; number = w.number; pass = w.pass; seat = w.seat; core = c; held = w.held; taken = w.taken; published = w.published; first = w.first; parts = w.parts }
+
+-- its core was answered; and where memory was refused for that
+abbrev pub told : Work → Answer → Work
+told w r = with_core w (after_reply (book_in w.desk.plan) w.core r)
+
+abbrev pub lost : Work → Work
+lost w = with_core w (failing w.core)
+
+-- one more envelope was given to its core
+abbrev pub one_taken : Work → Work
+one_taken w =
+    record { broker = w.broker; desk = w.desk; number = w.number; pass = w.pass; seat = w.seat; core = w.core; held = w.held; taken = min most (w.taken + 1); published = w.published; first = w.first; parts = w.parts }
+
+-- its pass is of its broker, its seat of its backend, which is one of a plan, and the backend lets the seat do what is left. A worker that rests
+-- holds nothing, and its last take found nothing
+pub record Ready (w : Work) : Type 0 where
+  pub of : w.pass.of ≡ w.broker
+  pub home : w.seat.of ≡ w.desk.id
+  pub plan : (l : Line) × IsPlan l × (w.desk.plan ≡ roster_of l)
+  pub inside : w.core.is_out ≡ false
+  pub can : Can w.desk.plan w.seat w.core.left
+  pub rested : w.core.left ≡ resting → (w.held ≡ []) × Empties w.pass
+  pub counts : IsTally (progress w).tally
+
+-- What one poll does at most: one ask of the core is answered, or a batch is taken, or an ask is answered by an envelope that is held or
+-- of a batch that was taken for it. A take of one envelope is a batch of one.
+pub data Moves (plan : Roster) (p q : Progress) : Type 0 where
+  stays : q ≡ p → Moves plan p q
+  calls : (a : Asked) (r : Answer) → Called plan p q a r → Moves plan p q
+  takes : (es : List Envelope) → Batched p q es → Moves plan p q
+  gives : (es : List Envelope) (e : Envelope) (between : Progress) → Batched p between es → FromHeld plan between q e → Moves plan p q
+
+-- what a poll leaves that is pending
+pub record GoesOn (w v : Work) : Type 0 where
+  pub broker : v.broker ≡ w.broker
+  pub desk : v.desk ≡ w.desk
+  pub number : v.number ≡ w.number
+  pub ready : Ready v
+  pub moved : Moves w.desk.plan (progress w) (progress v)
+
+abbrev pub tally_of : Record → Tally
+tally_of r = record { taken = r.taken; published = r.published; first = r.first; parts = r.parts; dropped = r.dropped }
+
+-- the record that a worker makes as it ends
+pub record Leaves (w : Work) (fault : Option Cause) (r : Record) : Type 0 where
+  pub same_number : r.number ≡ w.number
+  pub pass : r.pass ≡ w.pass
+  pub seat : r.seat ≡ w.seat
+  pub counts : tally_of r ≡ (progress w).tally
+  pub fault_is : r.fault ≡ fault
+
+-- a record is that of a worker with this number that is here. Without a fault the last ask was a rest answered with no more, all that was taken was given
+-- to the core, and the last take found nothing
+pub record IsOf (number : ℕ) (p : Progress) (r : Record) : Type 0 where
+  pub same_number : r.number ≡ number
+  pub pass : r.pass ≡ p.pass
+  pub seat : r.seat ≡ p.seat
+  pub counts : tally_of r ≡ p.tally
+  pub whole : r.fault ≡ None → (p.left ≡ over) × (p.held ≡ []) × Empties p.pass
+
+-- what a poll leaves that is ready
+pub record Ends (w : Work) (r : Record) : Type 0 where
+  pub ended : Progress
+  pub counted : IsTally ended.tally
+  pub moved : Moves w.desk.plan (progress w) ended
+  pub is_of : IsOf w.number ended r
+
+-- From here on the pass and the seat of the record have followed a core run, whose counts the record has.
+pub record Gives (w : Work) (r : Record) : Type 0 where
+  pub ended : Progress
+  pub worked : Worked w.desk.plan (progress w) ended
+  pub is_of : IsOf w.number ended r

@@ -1,0 +1,48 @@
+//! The count that tells idle workers whether more may come.
+
+use std::sync::Wait;
+use std::sync::atomic::{AtomicU64, Ordering};
+use std::time::Duration;
+
+/// For how many microseconds a worker sleeps at most that has found nothing a few times in a row.
+const NAP: u64 = 100;
+
+/// How many messages are in flight: published, and neither done nor dropped. No claim rests on it.
+#[derive(Drop)]
+pub struct InFlight {
+    count: AtomicU64,
+}
+
+impl InFlight {
+    /// With so many messages that are published already.
+    pub fn new(count: u64) -> InFlight {
+        InFlight {
+            count: AtomicU64::new(count),
+        }
+    }
+
+    pub(crate) fn add(&self) {
+        self.count.fetch_add(1, Ordering::SeqCst);
+    }
+
+    /// One message is done or dropped, unless the worker is inside its script.
+    pub(crate) fn done_unless(&self, is_inside: bool) {
+        if !is_inside {
+            self.count.fetch_sub(1, Ordering::SeqCst);
+        }
+    }
+
+    pub(crate) fn is_some(&self) -> bool {
+        self.count.load(Ordering::SeqCst) != 0
+    }
+
+    /// Sleeps for a little while, unless the count changes before.
+    pub(crate) fn nap<R: Wait>(&self, rt: &R) {
+        let Ok(count) = u32::try_from(self.count.load(Ordering::SeqCst)) else {
+            return;
+        };
+        if count != 0 {
+            self.count.park_timeout(rt, count, Duration::from_micros(NAP));
+        }
+    }
+}

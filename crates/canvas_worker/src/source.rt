@@ -1,0 +1,48 @@
+//! Where a worker's next envelope comes from.
+
+ghost use Rattle.std.specs.Prelude.{◌≡◌, [], ◌∷◌, Some, MatchOption};
+ghost use Rattle.canvas_worker.specs.Held.{held_in};
+
+use canvas_broker::Batch;
+use canvas_message::Envelope;
+
+/// A worker takes one by one until it is given its first envelope, so that no worker holds back what another could begin with.
+/// From then on it takes batches, and one alone after a batch of none.
+#[derive(Drop)]
+pub(crate) enum Source {
+    /// Nothing was given yet.
+    First,
+    /// What is left of a batch.
+    Batched(Batch),
+    /// A batch is due.
+    Next,
+    /// The latest batch had none.
+    Alone,
+}
+
+impl Source {
+    /// The next of the batch that is held.
+    pub(crate) fn next(&mut self) -> Option<Envelope>
+        ensures { MatchOption result ((held_in self.old ≡ []) × (held_in self.new ≡ [])) (λ e. held_in self.old ≡ e ∷ held_in self.new) }
+    {
+        match self {
+            Source::Batched(batch) => batch.next(),
+            _ => None,
+        }
+    }
+
+    /// Whether one envelope is to be taken, and no batch.
+    pub(crate) fn is_alone(&self) -> bool {
+        matches!(self, Source::First | Source::Alone)
+    }
+
+    /// After a take that found nothing.
+    pub(crate) fn after_none(&self) -> Source
+        ensures { held_in result ≡ [] }
+    {
+        match self {
+            Source::First => Source::First,
+            _ => Source::Next,
+        }
+    }
+}

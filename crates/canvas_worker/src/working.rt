@@ -1,0 +1,347 @@
+//! A worker in the middle of its work.
+
+ghost use Rattle.std.specs.Prelude.{◌≡◌, [], Some, MatchResult, true};
+ghost use Rattle.canvas_task.specs.Apply.{IsInRange};
+ghost use Rattle.canvas_runs.specs.Core.{ReadsBack, taken};
+ghost use Rattle.canvas_worker.specs.Asks.{suits, shown, replied, FoundInRange};
+ghost use Rattle.canvas_worker.specs.Books.{no_book};
+ghost use Rattle.canvas_worker.specs.Enveloped.{enveloped_by};
+ghost use Rattle.canvas_worker.specs.Standing.{asked};
+ghost use Rattle.canvas_worker.specs.Work.{Ready, GoesOn, Ends, Leaves, begun, told, lost, one_taken};
+ghost use Rattle.canvas_worker.specs.declared.ask.Ask.TheVariants as ask;
+ghost use Rattle.canvas_worker.specs.declared.cause.Cause.TheVariants.{Memory};
+
+use crate::source::Source;
+use crate::{Ask, Cause, Core, Gate, InFlight, Record, Reply, Stop};
+use canvas_backend::{Backend, BackendSeat, Stored};
+use canvas_broker::{Broker, BrokerPass};
+use canvas_message::Envelope;
+use canvas_task::{GroupNo, Outcome, TaskNo};
+use std::alloc::Global;
+use std::marker::Model;
+use std::sync::Wait;
+
+/// After so many takes in a row that found nothing a worker sleeps before it takes again.
+const PATIENCE: u32 = 8;
+
+/// What a worker has, until it ends.
+#[derive(Drop)]
+pub(crate) struct Working<'a, R: Wait, G: Gate> {
+    rt: &'a R,
+    alloc: Global,
+    number: u32,
+    broker: &'a Broker,
+    pass: BrokerPass,
+    backend: &'a Backend,
+    seat: BackendSeat,
+    gate: &'a G,
+    stop: &'a Stop,
+    flight: &'a InFlight,
+    core: Core,
+    source: Source,
+    taken: u64,
+    published: u64,
+    first: u64,
+    parts: u64,
+    // Whether a message was taken of which nothing is stored yet, and how many takes in a row have found nothing. No clause reads them.
+    is_fresh: bool,
+    idle: u32,
+}
+
+impl<'a, R: Wait, G: Gate> Model for Working<'a, R, G> {
+    ghost use Rattle.std.specs.Coded.{codes};
+    ghost use Rattle.canvas_message.specs.ContentCode.{content_code};
+    ghost use Rattle.canvas_worker.specs.Codes.{load_code};
+    ghost use Rattle.canvas_worker.specs.Held.{held_in};
+    ghost use Rattle.canvas_worker.specs.Work.{Work};
+
+    ghost Value = { Work };
+
+    ghost coded = { Prim.hlevel (codes, content_code, load_code) };
+
+    ghost view = { λ w. record { broker = w.broker.now; desk = w.backend.now; number = w.number; pass = w.pass; seat = w.seat; core = w.core; held = held_in w.source; taken = w.taken; published = w.published; first = w.first; parts = w.parts } };
+}
+
+impl<'a, R: Wait, G: Gate> Working<'a, R, G> {
+    pub(crate) fn new(
+        rt: &'a R,
+        alloc: Global,
+        number: u32,
+        broker: &'a Broker,
+        pass: BrokerPass,
+        backend: &'a Backend,
+        seat: BackendSeat,
+        gate: &'a G,
+        stop: &'a Stop,
+        flight: &'a InFlight,
+    ) -> Working<'a, R, G>
+        ensures { result ≡ begun broker.now backend.now number pass seat }
+    {
+        Working {
+            rt,
+            alloc,
+            number,
+            broker,
+            pass,
+            backend,
+            seat,
+            gate,
+            stop,
+            flight,
+            core: Core::new(alloc),
+            source: Source::First,
+            taken: 0,
+            published: 0,
+            first: 0,
+            parts: 0,
+            is_fresh: false,
+            idle: 0,
+        }
+    }
+
+    /// The record. What is left of a batch is dropped.
+    fn ends(self, fault: Option<Cause>) -> Record
+        ensures { Leaves self.entry fault result }
+    {
+        let dropped = self.core.dropped();
+        Record {
+            number: self.number,
+            taken: self.taken,
+            published: self.published,
+            first: self.first,
+            parts: self.parts,
+            dropped,
+            pass: self.pass,
+            seat: self.seat,
+            fault,
+        }
+    }
+
+    /// The record where memory was refused. The others are asked to end too.
+    fn fails(self) -> Record
+        ensures { Leaves self.entry (Some Memory) result }
+    {
+        self.stop.ask();
+        self.ends(Some(Cause::Memory))
+    }
+
+    /// Answers the core.
+    fn answers(mut self, reply: Reply) -> Result<Working<'a, R, G>, Record>
+        requires suits { suits (shown (asked self.core.left)) reply ≡ true }
+        requires in_range { FoundInRange reply }
+        ensures { MatchResult result (λ v. v ≡ told self.entry (replied reply)) (Leaves (lost self.entry) (Some Memory)) }
+    {
+        let (alloc, backend) = (self.alloc, self.backend);
+        match self.core.answer(alloc, backend, reply) {
+            Ok(()) => Ok(self),
+            Err(_) => Err(self.fails()),
+        }
+    }
+
+    /// Answers the core inside the script of a message, which may end with that.
+    fn replies(self, reply: Reply) -> Result<Working<'a, R, G>, Record>
+        requires suits { suits (shown (asked self.core.left)) reply ≡ true }
+        requires in_range { FoundInRange reply }
+        ensures { MatchResult result (λ v. v ≡ told self.entry (replied reply)) (Leaves (lost self.entry) (Some Memory)) }
+    {
+        match self.answers(reply) {
+            Ok(next) => {
+                next.flight.done_unless(next.core.is_inside());
+                Ok(next)
+            }
+            Err(record) => Err(record),
+        }
+    }
+
+    /// Gives an envelope to the core.
+    fn gives(mut self, envelope: Envelope) -> Result<Working<'a, R, G>, Record>
+        requires { shown (asked self.core.left) ≡ ask.Take }
+        ensures { MatchResult result (λ v. v ≡ one_taken (told self.entry (taken (Some envelope)))) (Leaves (lost self.entry) (Some Memory)) }
+    {
+        self.is_fresh = true;
+        self.idle = 0;
+        match self.replies(Reply::Taken(Some(envelope))) {
+            Ok(mut next) => {
+                next.taken = next.taken.saturating_add(1);
+                Ok(next)
+            }
+            Err(record) => Err(record),
+        }
+    }
+
+    fn takes_one(mut self) -> Result<Working<'a, R, G>, Record>
+        requires ready { Ready self }
+        requires asks { shown (asked self.core.left) ≡ ask.Take }
+        requires bare { self.held ≡ [] }
+        ensures { MatchResult result (GoesOn self.entry) (Ends self.entry) }
+    {
+        let (rt, broker) = (self.rt, self.broker);
+        match broker.take(rt, &mut self.pass) {
+            Some(envelope) => {
+                self.source = Source::Next;
+                self.gives(envelope)
+            }
+            None => {
+                self.source = self.source.after_none();
+                self.idle = self.idle.saturating_add(1);
+                self.answers(Reply::Taken(None))
+            }
+        }
+    }
+
+    fn takes_batch(mut self) -> Result<Working<'a, R, G>, Record>
+        requires ready { Ready self }
+        requires asks { shown (asked self.core.left) ≡ ask.Take }
+        requires bare { self.held ≡ [] }
+        ensures { MatchResult result (GoesOn self.entry) (Ends self.entry) }
+    {
+        let (rt, broker) = (self.rt, self.broker);
+        let mut batch = broker.take_batch(rt, &mut self.pass);
+        match batch.next() {
+            Some(envelope) => {
+                self.source = Source::Batched(batch);
+                self.gives(envelope)
+            }
+            None => {
+                self.source = Source::Alone;
+                Ok(self)
+            }
+        }
+    }
+
+    fn takes(mut self) -> Result<Working<'a, R, G>, Record>
+        requires ready { Ready self }
+        requires asks { shown (asked self.core.left) ≡ ask.Take }
+        ensures { MatchResult result (GoesOn self.entry) (Ends self.entry) }
+    {
+        if let Some(envelope) = self.source.next() {
+            return self.gives(envelope);
+        }
+        if self.source.is_alone() {
+            self.takes_one()
+        } else {
+            self.takes_batch()
+        }
+    }
+
+    fn publishes(mut self) -> Result<Working<'a, R, G>, Record>
+        requires ready { Ready self }
+        requires asks { shown (asked self.core.left) ≡ ask.Publish }
+        requires reads_back { ReadsBack (enveloped_by no_book) self.core.left }
+        ensures { MatchResult result (GoesOn self.entry) (Ends self.entry) }
+    {
+        let (rt, broker) = (self.rt, self.broker);
+        match self.core.envelope() {
+            Some(envelope) => {
+                self.flight.add();
+                match broker.publish(rt, &mut self.pass, envelope) {
+                    Ok(()) => {
+                        self.published = self.published.saturating_add(1);
+                        self.replies(Reply::Published)
+                    }
+                    Err(_refused) => Err(self.fails()),
+                }
+            }
+            None => unreachable!(),
+        }
+    }
+
+    fn stores(mut self, task: TaskNo, outcome: Outcome) -> Result<Working<'a, R, G>, Record>
+        requires ready { Ready self }
+        requires asks { shown (asked self.core.left) ≡ ask.Store task outcome }
+        requires reads_back { ReadsBack (enveloped_by no_book) self.core.left }
+        requires in_range { IsInRange outcome }
+        ensures { MatchResult result (GoesOn self.entry) (Ends self.entry) }
+    {
+        let backend = self.backend;
+        self.is_fresh = false;
+        match backend.store(&mut self.seat, task, &outcome) {
+            Stored::First => {
+                self.first = self.first.saturating_add(1);
+                self.replies(Reply::Stored(Stored::First))
+            }
+            Stored::Again => self.replies(Reply::Stored(Stored::Again)),
+        }
+    }
+
+    fn returns(mut self, group: GroupNo, task: TaskNo) -> Result<Working<'a, R, G>, Record>
+        requires ready { Ready self }
+        requires asks { shown (asked self.core.left) ≡ ask.Part group task }
+        requires reads_back { ReadsBack (enveloped_by no_book) self.core.left }
+        ensures { MatchResult result (GoesOn self.entry) (Ends self.entry) }
+    {
+        let backend = self.backend;
+        let count = backend.part(&mut self.seat, group, task);
+        self.parts = self.parts.saturating_add(1);
+        self.replies(Reply::Counted(count))
+    }
+
+    fn reads(mut self, group: GroupNo, place: u32) -> Result<Working<'a, R, G>, Record>
+        requires ready { Ready self }
+        requires asks { shown (asked self.core.left) ≡ ask.Read group place }
+        requires reads_back { ReadsBack (enveloped_by no_book) self.core.left }
+        ensures { MatchResult result (GoesOn self.entry) (Ends self.entry) }
+    {
+        let backend = self.backend;
+        match backend.member(group, place) {
+            Some(task) => {
+                let found = backend.read(&mut self.seat, task);
+                self.replies(Reply::Found(task, found))
+            }
+            None => unreachable!(),
+        }
+    }
+
+    fn rests(self) -> Result<Working<'a, R, G>, Record>
+        requires ready { Ready self }
+        requires asks { shown (asked self.core.left) ≡ ask.Rest }
+        requires reads_back { ReadsBack (enveloped_by no_book) self.core.left }
+        ensures { MatchResult result (GoesOn self.entry) (Ends self.entry) }
+    {
+        if self.has_more() {
+            return self.answers(Reply::Rested { more: true });
+        }
+        match self.answers(Reply::Rested { more: false }) {
+            Ok(next) => Err(next.ends(None)),
+            Err(record) => Err(record),
+        }
+    }
+
+    /// Whether a message is in flight. A worker that has been patient sleeps before it is told so.
+    fn has_more(&self) -> bool {
+        if self.idle > PATIENCE {
+            self.flight.nap(self.rt);
+        }
+        self.flight.is_some()
+    }
+
+    /// Whether the gate holds back a message that was just taken.
+    fn is_held_back(&self, task: TaskNo) -> bool {
+        self.is_fresh && !self.gate.go(self.number, task)
+    }
+
+    /// One poll: at most one ask of the core is answered. The record, where the worker has ended.
+    pub(crate) fn turn(self) -> Result<Working<'a, R, G>, Record>
+        requires { Ready self }
+        ensures { MatchResult result (GoesOn self.entry) (Ends self.entry) }
+    {
+        if self.stop.asked() {
+            return Err(self.ends(Some(Cause::Stopped)));
+        }
+        match self.core.next() {
+            Ask::Take => self.takes(),
+            Ask::Publish => self.publishes(),
+            Ask::Store(task, outcome) => {
+                if self.is_held_back(task) {
+                    Ok(self)
+                } else {
+                    self.stores(task, outcome)
+                }
+            }
+            Ask::Part(group, task) => self.returns(group, task),
+            Ask::Read(group, place) => self.reads(group, place),
+            Ask::Rest => self.rests(),
+            Ask::End => Err(self.fails()),
+        }
+    }
+}
