@@ -5,7 +5,7 @@ ghost use Rattle.canvas_worker.specs.Work.{Ready};
 
 use canvas_backend::Backend;
 use canvas_broker::{Broker, BrokerPass};
-use canvas_message::{encode, first_messages};
+use canvas_message::{Envelope, encode, first_messages};
 use canvas_rewrite::Plan;
 use canvas_samples::sample::plan_of;
 use canvas_samples::spelled;
@@ -41,7 +41,18 @@ impl<R: Wait, G: Gate> Future for Counted<'_, R, G> {
     }
 }
 
-/// Whether the first messages of a plan are published.
+/// The envelope of the message that a plan begins with, if there is one.
+fn first_envelope(alloc: Global, plan: &Plan) -> Option<Envelope> {
+    match first_messages(alloc, plan) {
+        Ok(mut messages) => match messages.pop() {
+            Some(message) => encode(alloc, &message).ok(),
+            None => None,
+        },
+        Err(_) => None,
+    }
+}
+
+/// Whether it is published.
 fn publishes<R: Wait>(
     rt: &R,
     alloc: Global,
@@ -52,18 +63,9 @@ fn publishes<R: Wait>(
     requires { pass.old.of ≡ broker.now }
     ensures { pass.new.of ≡ broker.now }
 {
-    match first_messages(alloc, plan) {
-        Ok(messages) => {
-            let mut is_whole = true;
-            for message in messages {
-                is_whole = match encode(alloc, &message) {
-                    Ok(envelope) => broker.publish(rt, pass, envelope).is_ok(),
-                    Err(_) => false,
-                } && is_whole;
-            }
-            is_whole
-        }
-        Err(_) => false,
+    match first_envelope(alloc, plan) {
+        Some(envelope) => broker.publish(rt, pass, envelope).is_ok(),
+        None => false,
     }
 }
 
