@@ -7,8 +7,8 @@ ghost use Rattle.canvas_backend.specs.Backend.{no_results};
 ghost use Rattle.canvas_backend.specs.Plain.{held};
 
 use canvas_backend::{Backend, BackendSeat, PlainBackend, Stored};
-use canvas_rewrite::{Plan, freeze, normalise};
-use canvas_sig::read_canvas;
+use canvas_rewrite::Plan;
+use canvas_samples::sample::plan_of;
 use canvas_task::{Fault, GroupNo, Kind, Outcome, TaskNo, Why};
 use std::alloc::{AllocError, Global};
 use std::test::*;
@@ -21,16 +21,6 @@ const CHORD: &str =
 const EMPTY_GROUP: &str = r#"{"task":"x","subtask_type":"group","kwargs":{"tasks":[]}}"#;
 
 const ZERO_DIVISION: Outcome = Outcome::Failure(Fault::Plain(Kind::ZeroDivision));
-
-fn plan_of(alloc: Global, text: &str) -> Option<Plan> {
-    match read_canvas(alloc, text.as_bytes()) {
-        Ok(canvas) => match normalise(alloc, &canvas) {
-            Ok(line) => freeze(alloc, &line).ok(),
-            Err(_) => None,
-        },
-        Err(_) => None,
-    }
-}
 
 /// A group of a hundred tasks, then their sum.
 fn hundred(alloc: Global) -> Result<String, AllocError> {

@@ -8,8 +8,8 @@ use crate::envelopes::{PLAIN, bytes_of};
 use canvas_backend::{PlainBackend, Stored};
 use canvas_broker::PlainBroker;
 use canvas_message::{Envelope, encode, first_messages};
-use canvas_rewrite::{Plan, freeze, normalise};
-use canvas_sig::read_canvas;
+use canvas_rewrite::Plan;
+use canvas_samples::sample::plan_of;
 use canvas_task::{Fault, GroupNo, Kind, Outcome, TaskNo, Why};
 use canvas_worker::{Ask, Core, Reply};
 use std::alloc::{AllocError, Global};
@@ -25,16 +25,6 @@ const NESTED: &str =
     r#"{"task":"x","subtask_type":"chord","kwargs":{"header":[{"task":"x","subtask_type":"chain","kwargs":{"tasks":[{"task":"tasks.add","args":[0,1]},{"task":"x","subtask_type":"group","kwargs":{"tasks":[{"task":"tasks.add","args":[1]},{"task":"tasks.add","args":[2]}]}},{"task":"tasks.xsum"},{"task":"tasks.mul","args":[2]}]}},{"task":"tasks.add","args":[0,1]}],"body":{"task":"tasks.xsum"}}}"#;
 
 pub(crate) const ZERO_DIVISION: Outcome = Outcome::Failure(Fault::Plain(Kind::ZeroDivision));
-
-fn plan_of(alloc: Global, text: &str) -> Option<Plan> {
-    match read_canvas(alloc, text.as_bytes()) {
-        Ok(canvas) => match normalise(alloc, &canvas) {
-            Ok(line) => freeze(alloc, &line).ok(),
-            Err(_) => None,
-        },
-        Err(_) => None,
-    }
-}
 
 // ---- what cores ask
 

@@ -1,18 +1,11 @@
 //! Generated canvases, run by some workers under some turns, against the rules of canvases alone.
 
-use crate::dice::Dice;
-use crate::grown::canvas;
-use crate::plain::states_of;
 use canvas_engine::run_turns;
-use canvas_rewrite::{Plan, freeze, normalise};
-use canvas_sig::{Canvas, SigFault};
+use canvas_rewrite::Plan;
+use canvas_samples::dice::Dice;
+use canvas_samples::sample::grow;
 use canvas_task::{Memory, Outcome};
 use std::alloc::{AllocError, Global};
-
-fn plan_of(alloc: Global, canvas: &Canvas) -> Result<Plan, Memory> {
-    let line = normalise(alloc, canvas)?;
-    freeze(alloc, &line)
-}
 
 /// Up to forty turns of workers.
 fn some_turns(alloc: Global, dice: &mut Dice, workers: u32) -> Result<Vec<u32>, AllocError> {
@@ -35,27 +28,13 @@ fn stores(alloc: Global, dice: &mut Dice, plan: &Plan, states: &[Option<Outcome>
     }
 }
 
-/// Whether a canvas's run gives each task the state that the rules do.
-fn agrees(alloc: Global, dice: &mut Dice, canvas: &Canvas) -> bool {
-    match states_of(alloc, canvas.node()) {
-        Ok(states) => match plan_of(alloc, canvas) {
-            Ok(plan) => stores(alloc, dice, &plan, &states),
-            Err(_) => false,
-        },
-        Err(_) => false,
-    }
-}
-
-/// The same of the canvas that a seed gives; None where that is refused.
+/// Whether the run of a seed's canvas gives each task the state that the rules do; None where the canvas is refused.
 fn compare(alloc: Global, seed: u32) -> Option<bool> {
     let mut dice = Dice::new(seed);
-    match canvas(alloc, &mut dice) {
-        Ok(node) => match Canvas::of(alloc, node) {
-            Ok(canvas) => Some(agrees(alloc, &mut dice, &canvas)),
-            Err(SigFault::Memory) => Some(false),
-            Err(_) => None,
-        },
-        Err(_) => Some(false),
+    match grow(alloc, &mut dice) {
+        Ok(Some(grown)) => Some(stores(alloc, &mut dice, &grown.plan, grown.states.get())),
+        Ok(None) => None,
+        Err(Memory) => Some(false),
     }
 }
 

@@ -6,15 +6,11 @@ mod alike;
 #[cfg(test)]
 mod backends;
 #[cfg(test)]
-mod composed;
-#[cfg(test)]
 mod core_parts;
 #[cfg(test)]
 mod cores;
 #[cfg(test)]
 mod definition;
-#[cfg(test)]
-mod dice;
 #[cfg(test)]
 mod effects;
 #[cfg(test)]
@@ -26,15 +22,9 @@ mod forged;
 #[cfg(test)]
 mod generated;
 #[cfg(test)]
-mod grown;
-#[cfg(test)]
 mod lines;
 #[cfg(test)]
 mod messages;
-#[cfg(test)]
-mod notation;
-#[cfg(test)]
-mod plain;
 #[cfg(test)]
 mod plans;
 #[cfg(test)]
@@ -43,8 +33,6 @@ mod reading;
 mod refusals;
 #[cfg(test)]
 mod runs;
-#[cfg(test)]
-mod spelled;
 #[cfg(test)]
 mod turns;
 #[cfg(test)]

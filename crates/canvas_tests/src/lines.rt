@@ -1,8 +1,8 @@
 //! The normal lines of canvases that nest chains, groups and chords in each other.
 
 use crate::definition::normal_text;
-use crate::notation::{filled, is_text, json_of};
 use canvas_rewrite::{node_of, normalise};
+use canvas_samples::notation::{filled, is_text, json_of};
 use canvas_sig::{Canvas, SigFault, read_canvas};
 use std::alloc::Global;
 

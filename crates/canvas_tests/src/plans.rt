@@ -1,10 +1,9 @@
 //! Normal texts and plans of canvases, worked out by hand.
 
 use crate::lines::is_line_of;
-use canvas_rewrite::{Ends, Plan, freeze, normalise};
-use canvas_sig::read_canvas;
+use canvas_rewrite::{Ends, Plan};
+use canvas_samples::sample::plan_of;
 use canvas_task::{GroupNo, TaskNo};
-use std::alloc::Global;
 use std::test::Fail;
 
 /// A chord of two sums and their sum, followed by a product.
@@ -32,16 +31,6 @@ const GROUP_OF_TEN: &str =
 /// A chord of three tasks, whose body has an error callback.
 const CHORD: &str =
     r#"{"args":[],"immutable":false,"kwargs":{"body":{"args":[],"immutable":false,"kwargs":{},"options":{"link_error":[{"args":[],"immutable":false,"kwargs":{},"options":{},"subtask_type":null,"task":"tasks.log_error"}]},"subtask_type":null,"task":"tasks.xsum"},"header":[{"args":[4,4],"immutable":false,"kwargs":{},"options":{},"subtask_type":null,"task":"tasks.add"},{"args":[1,0],"immutable":false,"kwargs":{},"options":{},"subtask_type":null,"task":"tasks.div"},{"args":[8,8],"immutable":false,"kwargs":{},"options":{},"subtask_type":null,"task":"tasks.add"}]},"options":{},"subtask_type":"chord","task":"celery.chord"}"#;
-
-pub fn plan_of(alloc: Global, text: &str) -> Option<Plan> {
-    match read_canvas(alloc, text.as_bytes()) {
-        Ok(canvas) => match normalise(alloc, &canvas) {
-            Ok(line) => freeze(alloc, &line).ok(),
-            Err(_) => None,
-        },
-        Err(_) => None,
-    }
-}
 
 #[test]
 fn normal_texts(rt: HostRuntime) {

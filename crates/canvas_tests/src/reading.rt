@@ -1,6 +1,6 @@
 //! Canvases and arguments, with what they are read as.
 
-use crate::notation::is_written;
+use canvas_samples::notation::is_written;
 use canvas_sig::{SigFault, read_arg};
 use canvas_task::{Arg, ListOf, TextOf};
 use serde_json::Value;

@@ -1,6 +1,6 @@
 //! Texts and their refusals. The numbers were worked out by hand from the rules of the grammar.
 
-use crate::notation::{json_of, repeated};
+use canvas_samples::notation::{json_of, repeated};
 use canvas_sig::read_canvas;
 use std::alloc::Global;
 

@@ -1,8 +1,9 @@
 //! Reports of canvases run by one worker, worked out by hand from the tasks' table and the rules of canvases.
 
-use crate::notation::{filled, repeated};
-use crate::spelled;
 use canvas_engine::{Report, RunFault, TextFault, rows_text, run_text};
+use canvas_samples::notation::{filled, repeated};
+use canvas_samples::spelled;
+use canvas_samples::worked::A_FAILED_MEMBER;
 use canvas_sig::SigFault;
 use canvas_task::{ListOf, Memory, Outcome};
 use std::alloc::Global;
@@ -211,16 +212,6 @@ fn groups_and_chords(rt: HostRuntime) {
         );
     }
 }
-
-/// A chord with a member that fails: its body fails with an exception of its own, and runs its error callback.
-pub const A_FAILED_MEMBER: &str = concat!(
-    "#1 tasks.add SUCCESS 8\n",
-    "#2 tasks.div FAILURE ZeroDivisionError\n",
-    "#3 tasks.add SUCCESS 16\n",
-    "#4 tasks.xsum FAILURE ChordError: Dependency #2 raised ZeroDivisionError\n",
-    "#5 tasks.log_error SUCCESS 4\n",
-    "result ChordError: Dependency #2 raised ZeroDivisionError\n"
-);
 
 #[test]
 fn failed_headers(rt: HostRuntime) {

@@ -1,13 +1,11 @@
 //! Runs by several workers under lists of turns, and runs of some steps.
 
-use crate::notation::{filled, repeated};
-use crate::plans::plan_of;
-use crate::runs::A_FAILED_MEMBER;
-use crate::spelled;
 use canvas_engine::{
     Cause, RunFault, read_turns, report_text, run_text, run_turns, run_turns_within,
 };
 use canvas_rewrite::Plan;
+use canvas_samples::sample::plan_of;
+use canvas_samples::{spelled, worked};
 use canvas_task::Memory;
 use std::alloc::Global;
 use std::test::Fail;
@@ -63,54 +61,21 @@ fn reports(alloc: Global, text: &str, workers: u32, list: &str, report: &str) ->
     }
 }
 
-/// The calls `add(i, i)` for the numbers below one.
-fn doubles(alloc: Global, count: u32) -> Result<String, Memory> {
-    let mut calls = String::new(alloc);
-    for i in 0..count {
-        calls.push_str(&format!(in alloc; "add:{i},{i} ")?)?;
-    }
-    Ok(calls)
-}
-
-/// The lines of these calls, with the text behind them.
-fn doubled(alloc: Global, count: u32, last: &str) -> Result<String, Memory> {
-    let mut short = String::new(alloc);
-    for i in 0..count {
-        let task = i.saturating_add(1);
-        let double = i.saturating_mul(2);
-        short.push_str(&format!(in alloc; "#{task} tasks.add SUCCESS {double}\n")?)?;
-    }
-    short.push_str(last)?;
-    spelled::report(alloc, &short)
-}
-
 #[test]
 fn a_group_of_ten(rt: HostRuntime) -> Result<(), Fail> {
-    let frame = repeated(rt.alloc(), 'G', ".", 10)?;
-    let text = spelled::canvas(rt.alloc(), &frame, &doubles(rt.alloc(), 10)?)?;
-    let report = doubled(
-        rt.alloc(),
-        10,
-        "result [0, 2, 4, 6, 8, 10, 12, 14, 16, 18]\n",
-    )?;
+    let ten = worked::a_group_of_ten(rt.alloc())?;
     for list in ["", "4,3,2,1", "2,2,2,2,2,2,2", "1,2,3,4,4,4,3,1,2"] {
-        assert!(rt; reports(rt.alloc(), &text, 4, list, &report), "{list}");
+        assert!(rt;
+            reports(rt.alloc(), &ten.text, 4, list, &ten.report),
+            "{list}"
+        );
     }
     Ok(())
 }
 
 #[test]
 fn a_hundred_and_their_sum(rt: HostRuntime) -> Result<(), Fail> {
-    let group = repeated(rt.alloc(), 'G', ".", 100)?;
-    let frame = filled(rt.alloc(), "C(_,.)", &group)?;
-    let mut calls = doubles(rt.alloc(), 100)?;
-    calls.push_str("xsum:")?;
-    let text = spelled::canvas(rt.alloc(), &frame, &calls)?;
-    let report = doubled(
-        rt.alloc(),
-        100,
-        "#101 tasks.xsum SUCCESS 9900\nresult 9900\n",
-    )?;
+    let hundred = worked::a_hundred_and_their_sum(rt.alloc())?;
     for (workers, list) in [
         (1, ""),
         (3, "3,3,1"),
@@ -118,7 +83,7 @@ fn a_hundred_and_their_sum(rt: HostRuntime) -> Result<(), Fail> {
         (16, "16,5,5,5,5,16,16,16,1"),
     ] {
         assert!(rt;
-            reports(rt.alloc(), &text, workers, list, &report),
+            reports(rt.alloc(), &hundred.text, workers, list, &hundred.report),
             "{workers} with {list}"
         );
     }
@@ -144,21 +109,14 @@ fn two_failed_members(rt: HostRuntime) -> Result<(), Fail> {
     Ok(())
 }
 
-/// A chord with a member that fails.
-fn failing(alloc: Global) -> Result<String, Memory> {
-    spelled::canvas(
-        alloc,
-        "H[.,.,.|?.>]",
-        "add:4,4 div:1,0 add:8,8 xsum: log_error:",
-    )
-}
-
 #[test]
 fn a_failed_member(rt: HostRuntime) -> Result<(), Fail> {
-    let text = failing(rt.alloc())?;
-    let report = spelled::report(rt.alloc(), A_FAILED_MEMBER)?;
+    let failing = worked::a_failed_member(rt.alloc())?;
     for list in ["", "1,2,2,2,1", "2,2,2,2,2,2", "1,2,1,2,1,2,2,2,2,1,1"] {
-        assert!(rt; reports(rt.alloc(), &text, 2, list, &report), "{list}");
+        assert!(rt;
+            reports(rt.alloc(), &failing.text, 2, list, &failing.report),
+            "{list}"
+        );
     }
     Ok(())
 }
@@ -175,8 +133,8 @@ fn end_of(alloc: Global, plan: &Plan, workers: u32, turns: &[u32]) -> u8 {
 
 #[test]
 fn workers_and_turns(rt: HostRuntime) -> Result<(), Fail> {
-    let text = failing(rt.alloc())?;
-    match plan_of(rt.alloc(), &text) {
+    let failing = worked::a_failed_member(rt.alloc())?;
+    match plan_of(rt.alloc(), &failing.text) {
         Some(plan) => {
             for (workers, turn, end) in [
                 (0, 1, 1),
@@ -287,12 +245,11 @@ fn stops(alloc: Global, plan: &Plan, steps: u64, whole: &str) -> Option<bool> {
 
 #[test]
 fn steps_of_a_chord(rt: HostRuntime) -> Result<(), Fail> {
-    let text = failing(rt.alloc())?;
-    let report = spelled::report(rt.alloc(), A_FAILED_MEMBER)?;
+    let failing = worked::a_failed_member(rt.alloc())?;
     let mut ended = 0u64;
-    if let Some(plan) = plan_of(rt.alloc(), &text) {
+    if let Some(plan) = plan_of(rt.alloc(), &failing.text) {
         for steps in 0..100 {
-            match stops(rt.alloc(), &plan, steps, &report) {
+            match stops(rt.alloc(), &plan, steps, &failing.report) {
                 Some(is_right) => assert!(rt; is_right, "{steps} steps"),
                 None => ended = ended.wrapping_add(1),
             }

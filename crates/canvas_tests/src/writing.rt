@@ -1,7 +1,7 @@
 //! Canvases and arguments that were composed, with their texts.
 
-use crate::composed::{call, calls};
-use crate::notation::{is_text, is_written};
+use canvas_samples::composed::{call, calls};
+use canvas_samples::notation::{is_text, is_written};
 use canvas_sig::{Canvas, Node, SigFault, TaskSig, write_arg, write_canvas};
 use canvas_task::{Arg, ListOf, MapOf, TextOf};
 use serde_json::Value;
