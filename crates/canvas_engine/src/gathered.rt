@@ -73,12 +73,7 @@ fn read_row(backend: &Backend, seat: &mut BackendSeat, number: u32) -> Option<Ou
 }
 
 /// Reads each task once, from task 1 on.
-fn read_rows(
-    backend: &Backend,
-    seat: &mut BackendSeat,
-    plan: &Plan,
-    rows: &mut [Option<Outcome>],
-)
+fn read_rows(backend: &Backend, seat: &mut BackendSeat, plan: &Plan, rows: &mut [Option<Outcome>])
     requires own { seat.old.of ≡ backend.now.id }
     requires plan { backend.now.plan ≡ roster_of plan.now }
     requires rows { length rows.old ≡ count_line plan.now }

@@ -7,8 +7,8 @@ ghost use Rattle.canvas_engine.specs.Correct.{AreWorkers, IsRun, IsThreadFault};
 ghost use Rattle.canvas_engine.specs.Crews.{AreGathered, IsStart};
 
 use crate::crew::{are_done, join_all, judge, split_all};
-use crate::gathered::{Gathered, halted, halted_with};
 use crate::firsts::{first_envelopes, publish_all};
+use crate::gathered::{Gathered, halted, halted_with};
 use crate::slot::Slot;
 use crate::threads::work_on_threads;
 use crate::turns::{WORKERS, new_rows};
@@ -48,9 +48,7 @@ fn reserve<R: Wait>(rt: &R, alloc: Global, plan: &Plan, workers: u32) -> Result<
     let envelopes = first_envelopes(alloc, plan)?;
     let (broker, mut pass) = Broker::new(alloc)?;
     let (backend, mut seat) = Backend::new(alloc, plan)?;
-    let slots = split_all(
-        rt, alloc, &broker, &mut pass, &backend, &mut seat, workers,
-    )?;
+    let slots = split_all(rt, alloc, &broker, &mut pass, &backend, &mut seat, workers)?;
     Ok(Start {
         broker,
         pass,

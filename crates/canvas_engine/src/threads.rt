@@ -27,7 +27,8 @@ fn work<R, G>(
     stop: &Stop,
     flight: &InFlight,
     slot: &mut Slot,
-) where
+)
+where
     R: Wait + RandomSource + AllocGlobal,
     G: Gate,
     requires plan { (l : Line) × IsPlan l × (backend.now.plan ≡ roster_of l) }
@@ -37,7 +38,16 @@ fn work<R, G>(
     match mem::replace(&mut slot.post, Post::Lost) {
         Post::Ready(pass, seat) => {
             let worker = Worker::new(
-                rt, alloc, slot.number, broker, pass, backend, seat, gate, stop, flight,
+                rt,
+                alloc,
+                slot.number,
+                broker,
+                pass,
+                backend,
+                seat,
+                gate,
+                stop,
+                flight,
             );
             match block_on(rt, worker) {
                 Ok(left) => slot.post = Post::Done(left),
@@ -59,7 +69,8 @@ pub(crate) fn work_on_threads<R, G>(
     stop: &Stop,
     flight: &InFlight,
     slots: &mut [Slot],
-) where
+)
+where
     R: Threads + Wait + RandomSource + AllocGlobal + Sync,
     G: Gate + Sync,
     requires plan { (l : Line) × IsPlan l × (backend.now.plan ≡ roster_of l) }

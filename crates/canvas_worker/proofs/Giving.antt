@@ -24,7 +24,6 @@ use Rattle.canvas_worker.specs.declared.cause.Cause.TheVariants.{Memory, Stopped
 use Rattle.canvas_worker.specs.declared.record.Record.{Record}
 use Rattle.canvas_worker.proofs.Asking.{same_book, may_go_on}
 use Rattle.canvas_worker.proofs.Shown.{drops_so, takes_taking}
-
 use Rattle.canvas_worker.proofs.Resting.{given_never}
 use Rattle.canvas_worker.proofs.Turns.{unchanged, one_more, tallied, some_none}
 

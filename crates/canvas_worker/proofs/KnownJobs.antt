@@ -158,9 +158,11 @@ module _ (plan : Roster) where
           let parts = and_parts (task_known book t) (line_known book rest) h in
           (number_known t parts.0, after_known k (number_of t) (Failure f) [] (enter rest (skip f) p (number_of t) u) tt (enter_known rest (skip f) p (number_of t) u parts.1 q))
       enter_known (p_step t rest) (raise f) p k u h q =
-          let parts = and_parts (task_known book t) (line_known book rest) h in
-          (number_known t parts.0, after_known k (number_of t) (Failure f) (callbacks (errbacks_of t) (ident (number_of t)) u) (enter rest (skip f) p (number_of t) u)
-          (callbacks_known _ (errbacks_of t) (ident (number_of t)) u) (enter_known rest (skip f) p (number_of t) u parts.1 q))
+          let parts = and_parts (task_known book t) (line_known book rest) h in (
+            number_known t parts.0,
+            after_known k (number_of t) (Failure f) (callbacks (errbacks_of t) (ident (number_of t)) u) (enter rest (skip f) p (number_of t) u)
+                (callbacks_known _ (errbacks_of t) (ident (number_of t)) u) (enter_known rest (skip f) p (number_of t) u parts.1 q),
+          )
       enter_known (p_group_end g ms) x p k u h q = any_known k (enter_all ms x (p_group g) u) (all_known g ms x (p_group g) u h (λ n i. i))
       enter_known (p_chord_end g ms body) (run x) p k u h q =
           let parts = and_parts (is_size (how_many ms) (size plan g) && members_known book g ms) (line_known book body) h in

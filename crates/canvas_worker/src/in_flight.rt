@@ -42,7 +42,8 @@ impl InFlight {
             return;
         };
         if count != 0 {
-            self.count.park_timeout(rt, count, Duration::from_micros(NAP));
+            self.count
+                .park_timeout(rt, count, Duration::from_micros(NAP));
         }
     }
 }
