@@ -3,7 +3,9 @@
 use crate::input::read_text;
 use crate::refusal::Refusal;
 use crate::words::{Verb, bad_text, read_words};
-use canvas_engine::{Report, RunFault, TextFault, read_turns, rows_text, run_text};
+use canvas_engine::{
+    OpenGate, Report, RunFault, Stop, TextFault, read_turns, rows_text, run_text, run_text_threads,
+};
 use canvas_rewrite::{node_of, normalise};
 use canvas_sig::{Canvas, read_canvas, write_node};
 use canvas_task::Memory;
@@ -11,7 +13,10 @@ use clap::error::ErrorKind;
 use std::alloc::Global;
 use std::fmt::Display;
 use std::io::{self, Read, Write};
+use std::random::RandomSource;
 use std::rt::{Env, Files};
+use std::sync::Wait;
+use std::thread::Threads;
 use std::{env, fs};
 
 /// The words that the program was started with, behind its name.
@@ -31,13 +36,16 @@ pub fn refuse_words<E: Write>(alloc: Global, error: &io::Error, err: &mut E) -> 
 /// Runs the program: `words` are those after its name, `input` is what the file `-` stands for.
 /// The report, or help, goes to `out`, and to `err` why there is none. The answer is the status:
 /// 0 where it ran, 1 where it was refused, and 2 where it ended early.
-pub fn command<S: Files + AllocGlobal, R: Read, W: Write, E: Write>(
+pub fn command<S, R: Read, W: Write, E: Write>(
     rt: &S,
     words: &[String],
     input: &mut R,
     out: &mut W,
     err: &mut E,
-) -> u8 {
+) -> u8
+where
+    S: Files + Threads + Wait + RandomSource + AllocGlobal + Sync,
+{
     match answer(rt, words, input, out) {
         Ok(()) => 0,
         Err(refusal) => refuse(&refusal, err),
@@ -63,22 +71,31 @@ fn write_and_flush<W: Write, D: Display>(out: &mut W, text: &D) -> io::Result<()
     out.flush()
 }
 
-fn answer<'w, S: Files + AllocGlobal, R: Read, W: Write>(
+fn answer<'w, S, R: Read, W: Write>(
     rt: &S,
     words: &'w [String],
     input: &mut R,
     out: &mut W,
-) -> Result<(), Refusal<'w>> {
+) -> Result<(), Refusal<'w>>
+where
+    S: Files + Threads + Wait + RandomSource + AllocGlobal + Sync,
+{
     let alloc = rt.alloc();
     let asked = match read_words(alloc, words) {
         Ok(asked) => asked,
         Err(error) => return help(error, out),
     };
     match asked.verb {
-        Verb::Run { workers, turns } => {
+        Verb::Run { workers } => {
+            let text = text_of(rt, asked.file, input)?;
+            let ran = run_text_threads(rt, alloc, &text, workers, &OpenGate, &Stop::new());
+            print_run(alloc, &text, ran, out)
+        }
+        Verb::Turns { workers, turns } => {
             let turns = turns_of(alloc, turns, workers)?;
             let text = text_of(rt, asked.file, input)?;
-            run(alloc, &text, workers, &turns, out)
+            let ran = run_text(alloc, &text, workers, &turns);
+            print_run(alloc, &text, ran, out)
         }
         Verb::Normal => {
             let text = text_of(rt, asked.file, input)?;
@@ -144,15 +161,14 @@ fn line_text(alloc: Global, canvas: &Canvas) -> Result<String, Memory> {
     Ok(text)
 }
 
-/// Runs a canvas and prints its report; where it ended early, what it had stored.
-fn run<'w, W: Write>(
+/// Prints the report of a text's run; where it ended early, what it had stored.
+fn print_run<'w, W: Write>(
     alloc: Global,
     text: &[u8],
-    workers: u32,
-    turns: &[u32],
+    ran: Result<String, TextFault>,
     out: &mut W,
 ) -> Result<(), Refusal<'w>> {
-    match run_text(alloc, text, workers, turns) {
+    match ran {
         Ok(report) => print(out, &report),
         Err(TextFault::Sig(fault)) => Err(Refusal::from(fault)),
         Err(TextFault::Run(fault)) => Err(early(alloc, text, fault, out)),

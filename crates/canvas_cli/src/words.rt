@@ -9,8 +9,10 @@ use std::alloc::{AllocError, Global};
 /// What is done with a canvas.
 #[derive(Clone, Copy)]
 pub(crate) enum Verb<'w> {
-    /// Its run by some workers under a list of turns, and the report.
-    Run { workers: u32, turns: &'w str },
+    /// Its run by some workers on threads, and the report.
+    Run { workers: u32 },
+    /// Its run by some workers that take turns by a list, and the report.
+    Turns { workers: u32, turns: &'w str },
     /// Its normal line, as JSON.
     Normal,
 }
@@ -20,9 +22,8 @@ impl<'w> Verb<'w> {
         match name {
             "run" => Some(Verb::Run {
                 workers: given.get_one::<u32>("workers")?,
-                turns: "",
             }),
-            "turns" => Some(Verb::Run {
+            "turns" => Some(Verb::Turns {
                 workers: given.get_one::<u32>("workers")?,
                 turns: given.get_str("turns").unwrap_or(""),
             }),

@@ -9,3 +9,6 @@ pub mod RoundTurns
 pub mod Opening
 pub mod ReadRows
 pub mod WholeRuns
+pub mod Slots
+pub mod ThreadRuns
+pub mod SeatRows

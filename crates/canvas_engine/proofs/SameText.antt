@@ -1,5 +1,5 @@
 -- What a plan says of the canvas that it was made from.
-use Rattle.std.proofs.Common.{◌≡◌, ℕ, List, Result, Ok, Err, IfOk, IfErr, OnOk, String, Global, string_bytes, sym, ap, ◌∙◌, subst}
+use Rattle.std.proofs.Common.{◌≡◌, List, Result, Ok, Err, IfOk, IfErr, OnOk, String, Global, string_bytes, sym, ap, ◌∙◌, subst}
 use Rattle.canvas_sig.specs.Fields.{Text}
 use Rattle.canvas_sig.specs.Normal.{normal}
 use Rattle.canvas_sig.specs.Tree.{Tree, numbered}
@@ -10,7 +10,6 @@ use Rattle.canvas_rewrite.specs.Same.{IsSame}
 use Rattle.canvas_rewrite.specs.States.{states, rows_from}
 use Rattle.canvas_rewrite.proofs.RowNumbers.{states_in, states_listed}
 use Rattle.canvas_rewrite.proofs.SameReport.{same_report, same_report_of}
-use Rattle.canvas_engine.specs.Correct.{IsAsked, IsRunFault}
 use Rattle.canvas_engine.specs.Texts.{IsCanvasText, IsPlanFault, IsPlanOf, IsTextFault}
 use Rattle.canvas_engine.specs.declared.fault.RunFault.{RunFault}
 use Rattle.canvas_engine.specs.declared.text.TextFault.{TextFault}
@@ -26,24 +25,20 @@ same_states c all h e = ap states e ∙ states_listed (normal c) ∙ ap (λ m. s
 pub same_text : (c : Tree) (all : Line) → IsSame (normal c) c → tree_of all ≡ numbered (normal c) → report_of (tree_of all) (rows_from 1 (states (tree_of all))) ≡ report c
 same_text c all h e = ap (λ t. report_of t (rows_from 1 (states t))) e ∙ same_report c h
 
-same_fault : (c : Tree) (all : Line) (workers : ℕ) (turns : List ℕ) (f : RunFault) → IsSame (normal c) c → tree_of all ≡ numbered (normal c)
-    → IsRunFault workers turns (states (tree_of all)) f → IsRunFault workers turns (states (numbered c)) f
-same_fault c all workers turns f h e is = let P : List State → Type 0 = λ s. IsRunFault workers turns s f in subst P (same_states c all h e) is
-
 -- ---- what a text answers, by what its plan answers
 
 module _ (bytes : Text) (c : Tree) (all : Line) (plan : IsPlanOf bytes c all) where
-  pub ran_text : (workers : ℕ) (turns : List ℕ) (r : Result (String Global) TextFault)
-      → IfOk r (λ text. IsAsked workers turns × (string_bytes text ≡ report_of (tree_of all) (rows_from 1 (states (tree_of all)))))
-      → IfOk r (λ text. (x : Tree) × IsCanvasText bytes x × IsAsked workers turns × (string_bytes text ≡ report x))
-  ran_text workers turns (Ok text) k = (c, plan.text, k.0, k.1 ∙ same_text c all plan.same plan.tree)
-  ran_text workers turns (Err f) k = tt
+  pub ran_text : (Asked : Type 0) (r : Result (String Global) TextFault)
+      → IfOk r (λ text. Asked × (string_bytes text ≡ report_of (tree_of all) (rows_from 1 (states (tree_of all)))))
+      → IfOk r (λ text. (x : Tree) × IsCanvasText bytes x × Asked × (string_bytes text ≡ report x))
+  ran_text Asked (Ok text) k = (c, plan.text, k.0, k.1 ∙ same_text c all plan.same plan.tree)
+  ran_text Asked (Err f) k = tt
 
-  pub ran_fault : (workers : ℕ) (turns : List ℕ) (r : Result (String Global) TextFault) → IfErr r (IsPlanFault workers turns (states (tree_of all))) → IfErr r (IsTextFault bytes workers turns)
-  ran_fault workers turns (Ok text) k = tt
-  ran_fault workers turns (Err (a_fault.Sig f)) k = absurd k
-  ran_fault workers turns (Err (a_fault.Run f)) k = (c, plan.text, same_fault c all workers turns f plan.same plan.tree k)
-  ran_fault workers turns (Err a_fault.Memory) k = tt
+  pub ran_fault : (Says : List State → RunFault → Type 0) (r : Result (String Global) TextFault) → IfErr r (IsPlanFault (Says (states (tree_of all)))) → IfErr r (IsTextFault bytes Says)
+  ran_fault Says (Ok text) k = tt
+  ran_fault Says (Err (a_fault.Sig f)) k = absurd k
+  ran_fault Says (Err (a_fault.Run f)) k = let P : List State → Type 0 = λ ss. Says ss f in (c, plan.text, subst P (same_states c all plan.same plan.tree) k)
+  ran_fault Says (Err a_fault.Memory) k = tt
 
   pub rows_reported : (rows : Rows) (text : Text) → text ≡ report_of (tree_of all) rows → (x : Tree) × IsCanvasText bytes x × (text ≡ report_of (numbered x) rows)
   rows_reported rows text e = (c, plan.text, e ∙ ap (λ t. report_of t rows) plan.tree ∙ same_report_of c rows plan.same)

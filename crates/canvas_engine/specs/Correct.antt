@@ -1,18 +1,34 @@
--- What a run on one thread promises, whatever the number of workers and the order of their turns: each task has the state that evaluating the
--- canvas gives, as the Canvas user guide has it. A run that is cut off has rows that are pending, or these.
+-- What a run promises, whatever the number of workers and the order of their calls or turns: each task has the state that evaluating the
+-- canvas gives, as the Canvas user guide has it. A run that ended early has rows that are pending, or these.
+--     IsRun l n rows records           rows of a run on threads, with what its queue, its table and its workers saw and counted
+--     IsThreadFault n states fault     why a run on threads has no whole report
 --     AreWorkers n          1 to 16 workers
 --     AreTurns n turns      each turn is of one of them
 --     EachMay rows states each row is pending or the state of its task
 --     IsWhole l n turns rows    rows of a run by these turns, and then in rotation, that went on until all workers had ended
 --     IsWholeWithin l n turns most rows    of at most so many steps
 --     IsCut l n turns steps rows     rows of a run that was cut off after so many steps, with some worker that had not ended
-use Rattle.std.specs.Prelude.{◌≡◌, ◌≤◌, ℕ, List, All, length, Option, Some, None}
+use Rattle.std.specs.Prelude.{◌≡◌, ◌≤◌, ℕ, suc, List, [], ◌∷◌, ◌++◌, All, length, map, Option, Some, None}
 use Rattle.canvas_rewrite.specs.Eval.{State}
 use Rattle.canvas_rewrite.specs.Frozen.{Line, tree_of}
 use Rattle.canvas_rewrite.specs.States.{states}
-use Rattle.canvas_runs.specs.Rows.{EachMay}
+use Rattle.canvas_message.specs.declared.envelope.Envelope.{Envelope}
+use Rattle.canvas_backend.specs.Backend.{Log}
+use Rattle.canvas_backend.specs.Roster.{roster_of}
+use Rattle.canvas_broker.specs.Broker.{Line as Entries}
+use Rattle.canvas_runs.specs.Accounts.{Accounts, Ledger}
+use Rattle.canvas_runs.specs.Callers.{queue_of}
+use Rattle.canvas_runs.specs.Calls.{backend_calls}
+use Rattle.canvas_runs.specs.Causes.{ByCause, ByItsCause, completions}
+use Rattle.canvas_runs.specs.Law.{publishes}
+use Rattle.canvas_runs.specs.Rows.{EachMay, RanWell}
+use Rattle.canvas_runs.specs.Run.{Run, Closed, published_all}
+use Rattle.canvas_runs.specs.Tally.{Tally as Counts, CountsOf}
+use Rattle.canvas_runs.specs.Worker.{sealed, working}
 use Rattle.canvas_runs.specs.TurnLaws.{held_rows}
 use Rattle.canvas_runs.specs.Turns.{IsWorker, RanWhole, RanUntil}
+use Rattle.canvas_engine.specs.declared.records.Records.{Records}
+use Rattle.canvas_engine.specs.declared.records.Tally.{Tally}
 use Rattle.canvas_engine.specs.declared.report.Report.{Report}
 use Rattle.canvas_worker.specs.declared.cause.Cause.TheVariants.{Memory, Stopped}
 use Rattle.canvas_engine.specs.declared.fault.RunFault.{RunFault}
@@ -64,3 +80,46 @@ IsFaultWithin l n turns steps BadWorkers = AreWorkers n → ⊥
 IsFaultWithin l n turns steps BadTurn = AreWorkers n × (AreTurns n turns → ⊥)
 IsFaultWithin l n turns steps (Halted Memory rows) = IsAsked n turns × GivesRows rows (states (tree_of l))
 IsFaultWithin l n turns steps (Halted Stopped rows) = IsAsked n turns × GivesCut rows l n turns steps
+
+-- ---- on threads
+
+abbrev pub counts_of : Tally → Counts
+counts_of t = record { taken = t.taken; published = t.published; first = t.first; parts = t.parts; dropped = t.dropped }
+
+-- of workers numbered from k on: each tally counts the entries of its worker in both lists, and nothing was dropped
+abbrev pub AreTallies : List (Entries Envelope) → Log → ℕ → List Tally → Type 0
+AreTallies queue table k [] = Unit {0}
+AreTallies queue table k (t ∷ ts) = (t.number ≡ k) × CountsOf queue table k (counts_of t) × AreTallies queue table (suc k) ts
+
+pub record IsRun (l : Line) (n : ℕ) (rows : List State) (r : Records) : Type 0 where
+  -- the pass and the seat are of this queue and this table, which is one of the plan
+  pub objects : (r.pass.of ≡ r.broker) × (r.seat.of ≡ r.backend.id) × (r.backend.plan ≡ roster_of l)
+  -- Each of the n workers, and worker 0, has followed a core run, and all ended between scripts. Worker 0 published all first messages before, and read each task at the end: these are the rows.
+  pub ran : RanWell l r.pass r.seat rows
+  pub workers : length ran.to.ran.mates ≡ n
+  -- The broker has one legal history, and the backend one. Of each worker they have just its calls, each once and in its order; worker i is the i-th that is named in each.
+  pub calls : Accounts (roster_of l) ran.to.ran.mates (published_all (map sealed ran.to.ran.opening)) ran.to.ran.works.made (queue_of r.pass)
+  pub entries : Ledger (roster_of l) ran.to.ran.mates (backend_calls (working (roster_of l)) ran.to.ran.works.run ++ ran.to.ran.closing) r.seat.seen
+  -- they are those of a closed run of the plan
+  pub run : Run l
+  pub queue : run.queue ≡ queue_of r.pass
+  pub table : run.table ≡ r.seat.seen
+  pub closed : Closed l run
+  -- what worker 0 counted, and each further one, in the order of their numbers
+  pub tallies : AreTallies (queue_of r.pass) r.seat.seen 0 r.workers
+  pub each_tally : length r.workers ≡ suc n
+  -- each message is published at most once, by the worker that brought about the event which runs its task: a body's by the one whose part completed its header
+  pub once : (k : ℕ) → publishes l k (queue_of r.pass) ≤ 1
+  pub by_cause : ByCause l (queue_of r.pass) r.seat.seen
+  pub by_its_cause : ByItsCause l (queue_of r.pass) r.seat.seen
+  pub completed_once : (g : ℕ) → completions l g r.seat.seen ≤ 1
+  -- what evaluating the plan's tree gives
+  pub are : rows ≡ states (tree_of l)
+
+-- Why a run on threads has no whole report, where these are the states. Without rows it is for memory that was refused: before the first publish, or to an executor.
+abbrev pub IsThreadFault : ℕ → List State → RunFault → Type 0
+IsThreadFault n ss BadWorkers = AreWorkers n → ⊥
+IsThreadFault n ss BadTurn = ⊥
+IsThreadFault n ss (Halted Memory rows) = AreWorkers n × GivesRows rows ss
+IsThreadFault n ss (Halted Stopped None) = ⊥
+IsThreadFault n ss (Halted Stopped (Some report)) = AreWorkers n × EachMay report.rows ss

@@ -3,3 +3,5 @@ pub mod Texts
 pub mod TurnList
 pub mod ReportRows
 pub mod Steps
+pub mod Slots
+pub mod Crews

@@ -1,17 +1,26 @@
 //! Runs of canvases and their reports.
 #![tactic(auto)]
 
+mod crew;
 mod fault;
+mod firsts;
+mod gathered;
+mod records;
 mod report;
 mod report_rows;
+mod running;
+mod slot;
 mod stage;
 mod text;
+mod threads;
 mod turn_list;
 mod turns;
 
-pub use canvas_worker::Cause;
+pub use canvas_worker::{Cause, Gate, OpenGate, Stop};
 pub use fault::RunFault;
+pub use records::{Records, Tally};
 pub use report::{Report, report_text};
-pub use text::{TextFault, rows_text, run_text};
+pub use running::run;
+pub use text::{TextFault, rows_text, run_text, run_text_threads};
 pub use turn_list::read_turns;
 pub use turns::{run_turns, run_turns_within};

@@ -5,14 +5,18 @@ ghost use Rattle.canvas_rewrite.specs.Frozen.{tree_of};
 ghost use Rattle.canvas_rewrite.specs.Report.{report, report_of};
 ghost use Rattle.canvas_rewrite.specs.Same.{IsSame};
 ghost use Rattle.canvas_rewrite.specs.States.{rows_from, states};
-ghost use Rattle.canvas_engine.specs.Correct.{IsAsked};
+ghost use Rattle.canvas_engine.specs.Correct.{AreWorkers, IsAsked, IsRunFault, IsThreadFault};
 ghost use Rattle.canvas_engine.specs.Texts.{IsCanvasText, IsPlanFault, IsPlanOf, IsReadFault, IsTextFault};
 
-use crate::{Report, RunFault, report_text, run_turns};
+use crate::{Report, RunFault, report_text, run, run_turns};
 use canvas_rewrite::{Plan, freeze, normalise};
 use canvas_sig::{Canvas, SigFault, read_canvas};
 use canvas_task::Memory;
-use std::alloc::Global;
+use canvas_worker::{Gate, Stop};
+use std::alloc::{AllocGlobal, Global};
+use std::random::RandomSource;
+use std::sync::Wait;
+use std::thread::Threads;
 
 /// Why a text has no report.
 #[derive(Drop)]
@@ -61,10 +65,10 @@ fn read_plan(alloc: Global, bytes: &[u8]) -> Result<Plan, TextFault>
     }
 }
 
-/// Runs a plan, and writes its report.
+/// Runs a plan on one thread, and writes its report.
 fn plan_text(alloc: Global, plan: &Plan, workers: u32, turns: &[u32]) -> Result<String, TextFault>
     ensures ok { IfOk result (λ text. IsAsked workers turns.now × (string_bytes text ≡ report_of (tree_of plan.now) (rows_from 1 (states (tree_of plan.now))))) }
-    ensures err { IfErr result (IsPlanFault workers turns.now (states (tree_of plan.now))) }
+    ensures err { IfErr result (IsPlanFault (IsRunFault workers turns.now (states (tree_of plan.now)))) }
 {
     match run_turns(alloc, plan, workers, turns) {
         Ok(report) => Ok(report_text(alloc, plan, &report)?),
@@ -80,10 +84,51 @@ pub fn run_text(
     turns: &[u32],
 ) -> Result<String, TextFault>
     ensures ok { IfOk result (λ text. (c : Tree) × IsCanvasText bytes.now c × IsAsked workers turns.now × (string_bytes text ≡ report c)) }
-    ensures err { IfErr result (IsTextFault bytes.now workers turns.now) }
+    ensures err { IfErr result (IsTextFault bytes.now (IsRunFault workers turns.now)) }
 {
     let plan = read_plan(alloc, bytes)?;
     plan_text(alloc, &plan, workers, turns)
+}
+
+/// Runs a plan on threads, and writes its report.
+fn plan_text_threads<R, G>(
+    rt: &R,
+    alloc: Global,
+    plan: &Plan,
+    workers: u32,
+    gate: &G,
+    stop: &Stop,
+) -> Result<String, TextFault>
+where
+    R: Threads + Wait + RandomSource + AllocGlobal + Sync,
+    G: Gate + Sync,
+    ensures ok { IfOk result (λ text. AreWorkers workers × (string_bytes text ≡ report_of (tree_of plan.now) (rows_from 1 (states (tree_of plan.now))))) }
+    ensures err { IfErr result (IsPlanFault (IsThreadFault workers (states (tree_of plan.now)))) }
+{
+    match run(rt, alloc, plan, workers, gate, stop) {
+        Ok((report, _records)) => Ok(report_text(alloc, plan, &report)?),
+        Err(fault) => Err(TextFault::Run(fault)),
+    }
+}
+
+/// Reads a canvas, runs it with 1 to 16 workers on threads, and writes its report. The faults of the text come first, then those of the run.
+/// `gate` and `stop` are those of `run`.
+pub fn run_text_threads<R, G>(
+    rt: &R,
+    alloc: Global,
+    bytes: &[u8],
+    workers: u32,
+    gate: &G,
+    stop: &Stop,
+) -> Result<String, TextFault>
+where
+    R: Threads + Wait + RandomSource + AllocGlobal + Sync,
+    G: Gate + Sync,
+    ensures ok { IfOk result (λ text. (c : Tree) × IsCanvasText bytes.now c × AreWorkers workers × (string_bytes text ≡ report c)) }
+    ensures err { IfErr result (IsTextFault bytes.now (IsThreadFault workers)) }
+{
+    let plan = read_plan(alloc, bytes)?;
+    plan_text_threads(rt, alloc, &plan, workers, gate, stop)
 }
 
 /// The report of rows that a run of a text has stored: the canvas is read again, since such a run gives back its rows alone.

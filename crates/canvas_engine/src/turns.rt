@@ -1,4 +1,4 @@
-ghost use Rattle.std.specs.Prelude.{◌≡◌, ◌≢◌, ◌≤◌, ◌<◌, ◌*◌, ◌^◌, suc, ℕ, All, List, [], length, IfOk, IfErr, OnOk, OnErr, MatchBool};
+ghost use Rattle.std.specs.Prelude.{◌≡◌, ◌≢◌, ◌≤◌, ◌<◌, ◌*◌, ◌^◌, suc, ℕ, All, List, [], None, length, IfOk, IfErr, OnOk, OnErr, MatchBool};
 ghost use Rattle.canvas_rewrite.specs.Frozen.{count_line, tree_of};
 ghost use Rattle.canvas_rewrite.specs.Planned.{IsPlan};
 ghost use Rattle.canvas_rewrite.specs.States.{states};
@@ -17,7 +17,7 @@ use canvas_task::{Fault, ListOf, Memory, Outcome};
 use std::alloc::Global;
 
 /// The most workers of a run.
-const WORKERS: u32 = 16;
+pub(crate) const WORKERS: u32 = 16;
 
 /// A turn of each worker, from the first to the last. Whether an ask was answered.
 fn run_round(alloc: Global, stage: &mut Stage, plan: &Plan, workers: u32) -> Result<bool, Cause>
@@ -102,8 +102,9 @@ fn run_stage(
 }
 
 /// Rows that hold nothing yet, one for each task.
-fn new_rows(alloc: Global, plan: &Plan) -> Result<Vec<Option<Outcome>>, Memory>
+pub(crate) fn new_rows(alloc: Global, plan: &Plan) -> Result<Vec<Option<Outcome>>, Memory>
     ensures rows { IfOk result (λ rows. length rows.items ≡ count_line plan.now) }
+    ensures pending { IfOk result (λ rows. All (λ s. s ≡ None) rows.items) }
     ensures planned { IsPlan plan.now }
 {
     // A proof about rows is made only where the type of a failure's fault is named.

@@ -12,7 +12,7 @@ use Rattle.canvas_task.specs.declared.arg.Arg.TheVariants as arg
 use Rattle.canvas_sig.specs.NodeFaults.{arg_ok, numbers_ok}
 use Rattle.canvas_sig.specs.Tree.{Call}
 use Rattle.canvas_task.specs.Entries.{IsBelow, Ascends}
-use Rattle.canvas_sig.specs.Writable.{NumbersFit, ArgFits, ArgsFit, KwargsFit, CallFits}
+use Rattle.canvas_sig.proofs.FittingCalls.{NumbersFit, ArgFits, ArgsFit, KwargsFit, CallFits}
 use Rattle.canvas_sig.proofs.ComposedLemmas.{both}
 use Rattle.canvas_rewrite.specs.Eval.{Flow, num, arguments}
 use Rattle.canvas_rewrite.specs.Placed.{PTask, p_task, PTasks, PPlace, PLine, p_stop, p_step, p_group_end, p_chord_end, PLines}

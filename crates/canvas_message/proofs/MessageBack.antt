@@ -10,7 +10,7 @@ use Rattle.canvas_task.specs.Name.{name_ok}
 use Rattle.canvas_sig.specs.Fields.{field, items, listed, is_list_or_null, is_null}
 use Rattle.canvas_sig.specs.Reading.{each}
 use Rattle.canvas_sig.specs.Tree.{Call}
-use Rattle.canvas_sig.specs.Writable.{CallFits}
+use Rattle.canvas_sig.proofs.FittingCalls.{CallFits}
 use Rattle.canvas_sig.specs.Writing.{args_wire, kwargs_wire}
 use Rattle.canvas_sig.specs.declared.fault.SigFault.{SigFault}
 use Rattle.canvas_sig.proofs.ComposedLemmas.{both}

@@ -15,7 +15,7 @@ use Rattle.canvas_sig.specs.NodeFaults.{arg_ok, numbers_ok}
 use Rattle.canvas_sig.specs.Reading.{◌or_else◌, fault_if, each, arg_reading, named_reading, primitive_of, own_fault}
 use Rattle.canvas_sig.specs.Tree.{Call}
 use Rattle.canvas_task.specs.Entries.{IsBelow, Ascends}
-use Rattle.canvas_sig.specs.Writable.{ArgsFit, KwargsFit, CallFits}
+use Rattle.canvas_sig.proofs.FittingCalls.{ArgsFit, KwargsFit, CallFits}
 use Rattle.canvas_sig.specs.Writing.{args_wire, kwargs_wire, number_wire, member_unless_empty, tasks_member, chord_members}
 use Rattle.canvas_sig.specs.declared.fault.SigFault.{SigFault}
 use Rattle.canvas_sig.specs.declared.fault.SigFault.TheVariants.{Frozen}

@@ -3,7 +3,7 @@ use Rattle.std.proofs.Common.{◌≡◌, ℕ, ◌≤◌, max, Bool, true, false,
 use Rattle.std.specs.Prelude.{◌&&◌, not, nat_le}
 use Rattle.std.proofs.lemmas.Bool.{leb-true}
 use Rattle.canvas_sig.specs.Tree.{Call}
-use Rattle.canvas_sig.specs.Writable.{CallFits}
+use Rattle.canvas_sig.proofs.FittingCalls.{CallFits}
 use Rattle.canvas_sig.proofs.ComposedLemmas.{both}
 use Rattle.canvas_sig.specs.Clean.{IsClean}
 use Rattle.canvas_rewrite.specs.Placed.{PTask, p_task, PTasks, PPlace, p_nowhere, p_group, p_chord, PLine, p_stop, p_step, p_group_end, p_chord_end, PLines}

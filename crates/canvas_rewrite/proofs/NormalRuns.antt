@@ -8,8 +8,8 @@ use Rattle.canvas_sig.specs.Limits.{nests_group, some_nests_group, some_ends_in_
 use Rattle.canvas_sig.specs.Nesting.{nesting}
 use Rattle.canvas_sig.specs.Normal.{onto, all_onto, normal_all, normal}
 use Rattle.canvas_sig.specs.Reach.{reach, line_reach, members_reach, task_reach, tasks_reach}
-use Rattle.canvas_sig.specs.Writable.{CallFits, IsCanvas}
-use Rattle.canvas_sig.proofs.Fits.{TaskFits, TasksFit, TreeFits, TreesFit, canvas_fits, canvas_within}
+use Rattle.canvas_sig.specs.Writable.{IsCanvas}
+use Rattle.canvas_sig.proofs.Fits.{call_fine, TaskFits, TasksFit, TreeFits, TreesFit, canvas_fits, canvas_within}
 use Rattle.canvas_rewrite.specs.Same.{IsSame}
 use Rattle.canvas_rewrite.specs.Runnable.{TaskSound, TasksSound, IsSound, AreSound, IsRunnable}
 use Rattle.canvas_sig.proofs.NormalEnds.{in_group_onto}
@@ -71,7 +71,7 @@ mutual
 
 mutual
   task_sound : (t : Task) → TaskFits t → TaskSound t
-  task_sound (task k call ls es) h = (h.1, tasks_sound ls h.2, tasks_sound es h.3)
+  task_sound (task k call ls es) h = (call_fine call h.1, h.1.ordered, tasks_sound ls h.2, tasks_sound es h.3)
 
   tasks_sound : (ts : Tasks) → TasksFit ts → TasksSound ts
   tasks_sound no_tasks h = tt
@@ -143,7 +143,7 @@ same_line c s h e =
 
 mutual
   sound_number_task : (t : Task) (k : ℕ) → TaskSound t → TaskSound (number_task k t)
-  sound_number_task (task _ call ls es) k h = (h.0, sound_number_tasks ls _ h.1, sound_number_tasks es _ h.2)
+  sound_number_task (task _ call ls es) k h = (h.0, h.1, sound_number_tasks ls _ h.2, sound_number_tasks es _ h.3)
 
   sound_number_tasks : (ts : Tasks) (k : ℕ) → TasksSound ts → TasksSound (number_tasks k ts)
   sound_number_tasks no_tasks k h = tt

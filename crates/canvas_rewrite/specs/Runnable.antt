@@ -1,14 +1,15 @@
 -- What a canvas that passed every check is, and so is its normal line.
-use Rattle.std.specs.Prelude.{◌≡◌, ◌≤◌, false}
+use Rattle.std.specs.Prelude.{◌≡◌, ◌≤◌, false, None}
+use Rattle.canvas_task.specs.Entries.{Ascends}
 use Rattle.canvas_sig.specs.Tree.{Task, task, Tasks, no_tasks, and_task, Tree, one, chain, group, chord, Trees, no_trees, and_tree, IsFull, count, count_groups}
 use Rattle.canvas_sig.specs.Reach.{reach}
+use Rattle.canvas_sig.specs.NodeFaults.{call_fault}
 use Rattle.canvas_sig.specs.Limits.{nests_group, most_tasks, most_groups, most_reach}
-use Rattle.canvas_sig.specs.Writable.{CallFits}
 
--- each task's call has a name and arguments that a signature may have
+-- nothing refuses a task's call, and the names of its keyword arguments ascend
 abbrev mutual
   pub TaskSound : Task → Type 0
-  TaskSound (task k call links errbacks) = CallFits call × TasksSound links × TasksSound errbacks
+  TaskSound (task k call links errbacks) = (call_fault call ≡ None) × Ascends call.kwargs × TasksSound links × TasksSound errbacks
 
   pub TasksSound : Tasks → Type 0
   TasksSound no_tasks = Unit {0}

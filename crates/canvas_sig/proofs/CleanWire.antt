@@ -15,7 +15,7 @@ use Rattle.canvas_sig.specs.Tree.{Call, Task, task, Tasks, no_tasks, and_task, T
 use Rattle.canvas_sig.specs.Nesting.{task_nesting, tasks_nesting, nesting, all_nesting}
 use Rattle.canvas_sig.specs.Writing.{numbers_wire, arg_wire, args_wire, kwargs_wire, options_wire, call_wire, task_wire, tasks_wire, primitive_wire, tasks_member, chord_members, tree_wire, trees_wire}
 use Rattle.canvas_task.specs.Entries.{IsBelow, Ascends}
-use Rattle.canvas_sig.specs.Writable.{NumbersFit, ArgFits, ArgsFit, KwargsFit, CallFits}
+use Rattle.canvas_sig.proofs.FittingCalls.{NumbersFit, ArgFits, ArgsFit, KwargsFit, CallFits}
 use Rattle.canvas_sig.proofs.Fits.{TaskFits, TasksFit, TreeFits, TreesFit}
 
 -- ---- arguments

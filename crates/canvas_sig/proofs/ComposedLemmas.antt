@@ -10,7 +10,8 @@ use Rattle.canvas_sig.specs.NodeFaults.{arg_ok, its_call, call_fault, task_fault
 use Rattle.canvas_sig.specs.Reading.{◌or_else◌}
 use Rattle.canvas_sig.specs.Tree.{chain}
 use Rattle.canvas_sig.specs.View.{task_view, tasks_of, view, trees_of}
-use Rattle.canvas_sig.specs.Writable.{NumbersFit, ArgFits, ArgsFit, KwargsFit, TaskComposed, TasksComposed}
+use Rattle.canvas_sig.specs.Writable.{TaskComposed, TasksComposed}
+use Rattle.canvas_sig.proofs.FittingCalls.{NumbersFit, ArgFits, ArgsFit, KwargsFit}
 use Rattle.canvas_sig.specs.declared.fault.SigFault.{SigFault}
 use Rattle.canvas_sig.specs.declared.node.Node.{Node}
 use Rattle.canvas_sig.specs.declared.task_sig.TaskSig.{TaskSig, out-TaskSig}
@@ -26,7 +27,7 @@ numbers_fit : (ns : List ℤ) → list_all in_range ns ≡ true → NumbersFit n
 numbers_fit [] h = tt
 numbers_fit (n ∷ ns) h = let p = both (in_range n) (list_all in_range ns) h in (p.0, numbers_fit ns p.1)
 
-arg_fits : (a : Arg) → arg_ok a ≡ true → ArgFits a
+pub arg_fits : (a : Arg) → arg_ok a ≡ true → ArgFits a
 arg_fits (arg.Num n) h = h
 arg_fits (arg.List ns) h = numbers_fit ns h
 arg_fits (arg.Text s) h = tt

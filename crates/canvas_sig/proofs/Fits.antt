@@ -13,7 +13,8 @@ use Rattle.canvas_sig.specs.Limits.{tree_fault}
 use Rattle.canvas_sig.specs.NodeFaults.{arg_ok, numbers_ok, call_fault, task_fault, tasks_fault, signatures_fault, all_fault}
 use Rattle.canvas_sig.specs.Reading.{◌or_else◌, fault_if}
 use Rattle.canvas_sig.specs.Tree.{Call, Task, task, Tasks, no_tasks, and_task, Tree, one, chain, group, chord, Trees, no_trees, and_tree}
-use Rattle.canvas_sig.specs.Writable.{NumbersFit, ArgFits, ArgsFit, KwargsFit, CallFits, TaskComposed, TasksComposed, IsComposed, AreComposed, IsCanvas}
+use Rattle.canvas_sig.specs.Writable.{TaskComposed, TasksComposed, IsComposed, AreComposed, IsCanvas}
+use Rattle.canvas_sig.proofs.FittingCalls.{NumbersFit, ArgFits, ArgsFit, KwargsFit, CallFits}
 use Rattle.canvas_sig.proofs.ComposedLemmas.{both, args_fit, kwargs_fit}
 
 abbrev mutual
@@ -47,7 +48,7 @@ no_fault_if : (b : Bool) (e : SigFault) → fault_if (not b) e ≡ None → b �
 no_fault_if true e h = refl
 no_fault_if false e h = absurd cc
 
-call_fits : (call : Call) → call_fault call ≡ None → Ascends call.kwargs → CallFits call
+pub call_fits : (call : Call) → call_fault call ≡ None → Ascends call.kwargs → CallFits call
 call_fits call h o =
     let parts = neither_fault (fault_if (not (name_ok call.name)) NotSignature) _ h in
     let numbers = both (list_all arg_ok call.args) _ (no_fault_if (numbers_ok call) BadNumber parts.1) in
@@ -109,7 +110,7 @@ kwargs_are : (es : List (List ℕ × Arg)) → KwargsFit es → list_all (λ e. 
 kwargs_are [] h = refl
 kwargs_are (e ∷ es) h = rw (arg_is e.1 h.0, kwargs_are es h.1) refl
 
-call_fine : (call : Call) → CallFits call → call_fault call ≡ None
+pub call_fine : (call : Call) → CallFits call → call_fault call ≡ None
 call_fine call fits = rw (fits.name, args_are call.args fits.args, kwargs_are call.kwargs fits.kwargs) refl
 
 mutual

@@ -18,7 +18,7 @@ use Rattle.canvas_sig.specs.Reading.{◌or_else◌, fault_if, judged, some_or_ze
 use Rattle.canvas_sig.specs.Faults.{first_fault, in_kwargs, named_of, call_of, task_within, header_of, tree_from, tree_within}
 use Rattle.canvas_sig.specs.Tree.{Task, Tree, one, chain, group, chord}
 use Rattle.canvas_sig.specs.View.{tasks_of, trees_of}
-use Rattle.canvas_sig.specs.Writable.{NumbersFit, ArgFits, ArgsFit, KwargsFit, CallFits}
+use Rattle.canvas_sig.proofs.FittingCalls.{NumbersFit, ArgFits, ArgsFit, KwargsFit, CallFits}
 use Rattle.canvas_sig.proofs.Fits.{TaskFits, TasksFit, TreeFits, TreesFit}
 use Rattle.canvas_sig.proofs.InOrder.{IsBefore, IsSorted, MembersSorted, AllSorted, all_items, all_in_list, all_listed, field_sorted, read_sorted}
 use Rattle.canvas_sig.proofs.Law.{fault_left, quiet, neither, back, Fine, fine, only_task, tree_judged}

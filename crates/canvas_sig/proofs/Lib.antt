@@ -24,3 +24,4 @@ pub mod NormalEnds
 pub mod ArgumentLaw
 pub mod Depth
 pub mod Fits
+pub mod FittingCalls

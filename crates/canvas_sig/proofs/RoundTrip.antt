@@ -14,7 +14,7 @@ use Rattle.canvas_sig.specs.Nesting.{task_nesting, tasks_nesting, nesting, all_n
 use Rattle.canvas_sig.specs.View.{tasks_of, trees_of}
 use Rattle.canvas_sig.specs.Reading.{each, number_of, arg_reading, named_reading, kind_ok, numbers_ok, number_ok, own_fault, task_with, task_reading, tree_reading}
 use Rattle.canvas_sig.specs.Writing.{numbers_wire, arg_wire, args_wire, kwargs_wire, options_wire, call_wire, task_wire, tasks_wire, primitive_wire, chord_members, tree_wire, trees_wire}
-use Rattle.canvas_sig.specs.Writable.{NumbersFit, ArgFits, ArgsFit, KwargsFit, CallFits}
+use Rattle.canvas_sig.proofs.FittingCalls.{NumbersFit, ArgFits, ArgsFit, KwargsFit, CallFits}
 use Rattle.canvas_sig.proofs.Fits.{TaskFits, TasksFit, TreeFits, TreesFit}
 
 -- ---- arguments

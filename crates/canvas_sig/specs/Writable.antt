@@ -1,37 +1,8 @@
 -- What a canvas holds.
-use Rattle.std.specs.Prelude.{◌≡◌, ℕ, true, List, [], ◌∷◌, None, ℤ}
+use Rattle.std.specs.Prelude.{◌≡◌, ℕ, None}
 use Rattle.canvas_task.specs.Entries.{Ascends}
-use Rattle.canvas_task.specs.Name.{name_ok}
-use Rattle.canvas_task.specs.Numbers.{in_range}
-use Rattle.canvas_task.specs.declared.arg.Arg.{Arg}
-use Rattle.canvas_task.specs.declared.arg.Arg.TheVariants as arg
 use Rattle.canvas_sig.specs.NodeFaults.{node_fault}
-use Rattle.canvas_sig.specs.Tree.{Call, Task, task, Tasks, no_tasks, and_task, Tree, one, chain, group, chord, Trees, no_trees, and_tree}
-
--- ---- numbers are in range
-
-abbrev pub NumbersFit : List ℤ → Type 0
-NumbersFit [] = Unit {0}
-NumbersFit (n ∷ ns) = (in_range n ≡ true) × NumbersFit ns
-
-abbrev pub ArgFits : Arg → Type 0
-ArgFits (arg.Num n) = in_range n ≡ true
-ArgFits (arg.List ns) = NumbersFit ns
-ArgFits (arg.Text s) = Unit {0}
-
-abbrev pub ArgsFit : List Arg → Type 0
-ArgsFit [] = Unit {0}
-ArgsFit (a ∷ args) = ArgFits a × ArgsFit args
-
-abbrev pub KwargsFit : List (List ℕ × Arg) → Type 0
-KwargsFit [] = Unit {0}
-KwargsFit (e ∷ es) = ArgFits e.1 × KwargsFit es
-
-pub record CallFits (call : Call) : Type 0 where
-  pub name : name_ok call.name ≡ true
-  pub args : ArgsFit call.args
-  pub kwargs : KwargsFit call.kwargs
-  pub ordered : Ascends call.kwargs
+use Rattle.canvas_sig.specs.Tree.{Task, task, Tasks, no_tasks, and_task, Tree, one, chain, group, chord, Trees, no_trees, and_tree}
 
 -- ---- not numbered yet, and each name of a keyword argument once, in the order of the names
 

@@ -70,6 +70,12 @@ pub(crate) fn nested_chords(alloc: Global) -> Result<String, AllocError> {
     chord_text(alloc, &middle, 10)
 }
 
+/// A group of sixteen chains of sixty tasks: sixteen messages at a time, most of which carry long chains.
+pub(crate) fn wide_chains(alloc: Global) -> Result<String, AllocError> {
+    let member = list_text(alloc, "chain", FIRST, ADD, 60)?;
+    list_text(alloc, "group", &member, &member, 16)
+}
+
 /// The plan of a canvas's text.
 pub(crate) fn plan_of(alloc: Global, text: &str) -> Result<Plan> {
     let canvas = read_canvas(alloc, text.as_bytes())?;

@@ -1,20 +1,25 @@
 //! What a message of about 100 KB costs, as ratios to the JSON library's own reading and writing of its body, and how fast large
-//! canvases run.
+//! canvases run, by turns and on threads.
 //! It measures where it is given a word, and else does nothing. Where something fails it says what, and gives no ratio.
 #![tactic(auto)]
 
 mod canvases;
 mod runs;
+mod threads;
 
-use crate::canvases::{chain, chord, group, nested_chords};
+use crate::canvases::{chain, chord, group, nested_chords, wide_chains};
 use crate::runs::speed_of;
+use crate::threads::thread_speed_of;
 use anyhow::Result;
 use canvas_message::{Envelope, Message, decode, encode};
 use canvas_task::ListOf;
 use serde_json::Value;
 use std::alloc::{AllocError, Global};
 use std::env;
+use std::random::RandomSource;
 use std::rt::Clock;
+use std::sync::Wait;
+use std::thread::Threads;
 use std::time::Instant;
 
 const ROUNDS: u32 = 40;
@@ -118,7 +123,31 @@ fn print_speeds(rt: &HostRuntime) -> Result<()> {
     print_speed(rt, "chain", &chain(rt.alloc())?)?;
     print_speed(rt, "group", &group(rt.alloc())?)?;
     print_speed(rt, "chord", &chord(rt.alloc())?)?;
-    print_speed(rt, "nested chords", &nested_chords(rt.alloc())?)
+    print_speed(rt, "nested chords", &nested_chords(rt.alloc())?)?;
+    print_speed(rt, "group of chains", &wide_chains(rt.alloc())?)
+}
+
+fn print_thread_speed<R>(rt: &R, name: &str, text: &str) -> Result<()>
+where
+    R: Print + Clock + Threads + Wait + RandomSource + AllocGlobal + Sync,
+{
+    let speed = thread_speed_of(rt, rt.alloc(), text)?;
+    let (one, many) = (speed.one, speed.many);
+    println!(rt;
+        "{name}, on threads: one worker takes {one} hundredths of the time by turns, and {many} hundredths of that of four workers"
+    )?;
+    Ok(())
+}
+
+fn print_thread_speeds<R>(rt: &R) -> Result<()>
+where
+    R: Print + Clock + Threads + Wait + RandomSource + AllocGlobal + Sync,
+{
+    print_thread_speed(rt, "chain", &chain(rt.alloc())?)?;
+    print_thread_speed(rt, "group", &group(rt.alloc())?)?;
+    print_thread_speed(rt, "chord", &chord(rt.alloc())?)?;
+    print_thread_speed(rt, "nested chords", &nested_chords(rt.alloc())?)?;
+    print_thread_speed(rt, "group of chains", &wide_chains(rt.alloc())?)
 }
 
 fn main(rt: HostRuntime) -> Result<()> {
@@ -130,5 +159,6 @@ fn main(rt: HostRuntime) -> Result<()> {
     let writing = writing_ratio(&rt, rt.alloc(), &body)?;
     println!(rt; "decode, in hundredths of Value::from_str: {reading}")?;
     println!(rt; "encode, in hundredths of Value::to_string: {writing}")?;
-    print_speeds(&rt)
+    print_speeds(&rt)?;
+    print_thread_speeds(&rt)
 }

@@ -17,20 +17,20 @@ use std::alloc::{AllocError, Global};
 const ONE: &str = r#"{"task":"tasks.add","args":[2,2]}"#;
 
 /// A chord of three tasks of which one fails; its body has an error callback.
-const CHORD: &str =
+pub(crate) const CHORD: &str =
     r#"{"task":"x","subtask_type":"chord","kwargs":{"header":[{"task":"tasks.add","args":[4,4]},{"task":"tasks.div","args":[1,0]},{"task":"tasks.add","args":[8,8]}],"body":{"task":"tasks.xsum","options":{"link_error":{"task":"tasks.log_error"}}}}}"#;
 
 /// A chord in a header, behind a group that became a chord.
 const NESTED: &str =
     r#"{"task":"x","subtask_type":"chord","kwargs":{"header":[{"task":"x","subtask_type":"chain","kwargs":{"tasks":[{"task":"tasks.add","args":[0,1]},{"task":"x","subtask_type":"group","kwargs":{"tasks":[{"task":"tasks.add","args":[1]},{"task":"tasks.add","args":[2]}]}},{"task":"tasks.xsum"},{"task":"tasks.mul","args":[2]}]}},{"task":"tasks.add","args":[0,1]}],"body":{"task":"tasks.xsum"}}}"#;
 
-const ZERO_DIVISION: Outcome = Outcome::Failure(Fault::Plain(Kind::ZeroDivision));
+pub(crate) const ZERO_DIVISION: Outcome = Outcome::Failure(Fault::Plain(Kind::ZeroDivision));
 
 // ---- what cores ask
 
 /// What answers a core: a queue, outcomes by task and counts by chord.
 #[derive(Drop)]
-struct Desk {
+pub(crate) struct Desk {
     queue: PlainBroker,
     rows: Vec<Option<Outcome>>,
     counts: Vec<u64>,
@@ -185,7 +185,7 @@ fn has_ended(
 }
 
 /// A plan, a backend of it, and its first messages.
-fn start(alloc: Global, text: &str) -> Option<(PlainBackend, Desk)> {
+pub(crate) fn start(alloc: Global, text: &str) -> Option<(PlainBackend, Desk)> {
     let plan = plan_of(alloc, text)?;
     let desk = desk_of(alloc, &plan)?;
     match PlainBackend::new(alloc, &plan) {
@@ -215,13 +215,13 @@ fn ends_so(alloc: Global, text: &str, rows: &[Option<Outcome>]) -> bool {
     }
 }
 
-fn task(number: u32) -> TaskNo
+pub(crate) fn task(number: u32) -> TaskNo
     requires { 1 ≤ number }
 {
     TaskNo::new(number).unwrap()
 }
 
-fn group(number: u32) -> GroupNo
+pub(crate) fn group(number: u32) -> GroupNo
     requires { 1 ≤ number }
 {
     GroupNo::new(number).unwrap()
@@ -318,7 +318,7 @@ fn member(
     })
 }
 
-fn answers(alloc: Global, backend: &PlainBackend, core: &mut Core, reply: Reply) -> bool
+pub(crate) fn answers(alloc: Global, backend: &PlainBackend, core: &mut Core, reply: Reply) -> bool
     requires { FoundInRange reply }
 {
     core.next().suits(&reply) && core.answer(alloc, backend, reply).is_ok()

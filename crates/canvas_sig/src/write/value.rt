@@ -1,9 +1,9 @@
 //! One argument as a JSON value.
 
-ghost use Rattle.std.specs.Prelude.{◌≡◌, IfOk, map};
+ghost use Rattle.std.specs.Prelude.{◌≡◌, IfOk, map, true};
 ghost use Rattle.serde_json.specs.View.{view};
+ghost use Rattle.canvas_sig.specs.NodeFaults.{arg_ok};
 ghost use Rattle.canvas_sig.specs.Reading.{arg_reading};
-ghost use Rattle.canvas_sig.specs.Writable.{ArgFits};
 ghost use Rattle.canvas_sig.specs.Writing.{number_wire, arg_wire};
 
 use canvas_task::{Arg, Memory};
@@ -23,7 +23,7 @@ fn number_values(alloc: Global, numbers: &[i64]) -> Result<Vec<Value>, Memory>
 /// The JSON value that an argument is written as, which reads as the argument where its numbers are in range.
 pub fn write_arg(alloc: Global, arg: &Arg) -> Result<Value, Memory>
     ensures value { IfOk result (λ value. view value ≡ arg_wire arg.now) }
-    ensures reads_back { IfOk result (λ value. ArgFits arg.now → arg_reading (view value) ≡ Ok arg.now) }
+    ensures reads_back { IfOk result (λ value. arg_ok arg.now ≡ true → arg_reading (view value) ≡ Ok arg.now) }
 {
     match arg {
         Arg::Num(number) => Ok(Value::from(*number)),

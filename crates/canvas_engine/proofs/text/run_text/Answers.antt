@@ -1,12 +1,13 @@
+use Rattle.canvas_engine.specs.Correct.{IsAsked, IsRunFault}
 use Rattle.canvas_engine.proofs.SameText.{ran_text, ran_fault}
 use Rattle.canvas_engine.proofs.text.run_text.Goals as goal
 
 pub returns-clause-ok : goal.returns-clause-ok
 returns-clause-ok c =
     let plan = c.in_ok-plan.ensures.ok in
-    ran_text c.args.bytes.now plan.0 c.in_ok-plan.plan plan.1 c.args.workers c.args.turns.now c.plan_text.result c.plan_text.ensures.ok
+    ran_text c.args.bytes.now plan.0 c.in_ok-plan.plan plan.1 (IsAsked c.args.workers c.args.turns.now) c.plan_text.result c.plan_text.ensures.ok
 
 pub returns-clause-err : goal.returns-clause-err
 returns-clause-err c =
     let plan = c.in_ok-plan.ensures.ok in
-    ran_fault c.args.bytes.now plan.0 c.in_ok-plan.plan plan.1 c.args.workers c.args.turns.now c.plan_text.result c.plan_text.ensures.err
+    ran_fault c.args.bytes.now plan.0 c.in_ok-plan.plan plan.1 (IsRunFault c.args.workers c.args.turns.now) c.plan_text.result c.plan_text.ensures.err

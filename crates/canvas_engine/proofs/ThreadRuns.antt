@@ -1,0 +1,258 @@
+-- What a run on threads promises, from what worker 0 has taken in, its own work and its reads.
+use Rattle.std.proofs.Common.{◌≡◌, ◌∙◌, ℕ, zero, suc, ◌+◌, List, [], ◌∷◌, ◌++◌, All, length, map, min, Option, Some, None, inl, refl, sym, ap, subst, append-nil, arith}
+use Rattle.std.proofs.lemmas.List.Elements.{All-head, All-tail}
+use Rattle.std.specs.Prelude.{IfNone}
+use Rattle.std.specs.Global.{Global}
+use Rattle.crossbeam_queue.specs.SegTies.{SegId}
+use Rattle.atomic_table.specs.Seated.{TableId}
+use Rattle.canvas_sig.specs.Tree.{count}
+use Rattle.canvas_rewrite.specs.Eval.{State, state_of, eval, nothing}
+use Rattle.canvas_rewrite.specs.Frozen.{Line, count_line, tree_of}
+use Rattle.canvas_rewrite.specs.Planned.{IsPlan}
+use Rattle.canvas_rewrite.specs.States.{states, numbers_from}
+use Rattle.canvas_rewrite.proofs.Numbered.{count_elements}
+use Rattle.canvas_message.specs.Content.{Content}
+use Rattle.canvas_message.specs.Effects.{first_messages}
+use Rattle.canvas_message.specs.declared.envelope.Envelope.{Envelope}
+use Rattle.canvas_backend.specs.Backend.{Log}
+use Rattle.canvas_backend.specs.Callers.{Desk}
+use Rattle.canvas_backend.specs.Roster.{Roster, roster_of}
+use Rattle.canvas_broker.specs.Broker.{Line as Entries}
+use Rattle.canvas_broker.specs.Callers.{Empties}
+use Rattle.canvas_runs.specs.Calls.{BackendCall, follows_all}
+use Rattle.canvas_runs.specs.Callers.{queue_of}
+use Rattle.canvas_runs.specs.Crew.{Mate, Ran, EndedWell, OwnTally, first_pass, first_seat}
+use Rattle.canvas_runs.specs.Following.{Pass, Seat, Makes, Serves, Working, begins, IsDone, Followed}
+use Rattle.canvas_runs.specs.Lists.{Each}
+use Rattle.canvas_runs.specs.Rows.{reads_from, RanTo, RanWell, EachMay}
+use Rattle.canvas_runs.specs.Run.{IsRead, published_all}
+use Rattle.canvas_runs.specs.Tally.{Tally as Counts, Adds, EachCounts, most, none_yet}
+use Rattle.canvas_runs.specs.Worker.{sealed, worker}
+use Rattle.canvas_runs.proofs.Causes.{by_cause, completed_once, by_its_cause}
+use Rattle.canvas_runs.proofs.FirstLaw.{first_part}
+use Rattle.canvas_runs.proofs.FromCrew.{passes, seats, the_run, the_closed}
+use Rattle.canvas_runs.proofs.Rows.{rows_of_well, rows_of_any}
+use Rattle.canvas_runs.proofs.Tallies.{tallies_count}
+use Rattle.canvas_worker.specs.Finished.{Finished}
+use Rattle.canvas_worker.specs.declared.record.Record.{Record}
+use Rattle.canvas_worker.specs.declared.cause.Cause.{Cause}
+use Rattle.canvas_worker.specs.declared.cause.Cause.TheVariants.{Memory, Stopped}
+use Rattle.canvas_engine.specs.Correct.{AreWorkers, IsRun, IsThreadFault, AreTallies, counts_of}
+use Rattle.canvas_engine.specs.Crews.{Crew, IsStart, IsWellGathered, tallies_from}
+use Rattle.canvas_engine.specs.Slots.{AllRan, IsWell, Takes, nothing_counted, tally_in}
+use Rattle.canvas_engine.specs.declared.running.Start.{Start}
+use Rattle.canvas_engine.specs.declared.slot.Slot.{Slot}
+use Rattle.canvas_engine.proofs.Slots.{each_ran, crew_of}
+use Rattle.canvas_engine.specs.declared.fault.RunFault.TheVariants.{Halted}
+use Rattle.canvas_engine.specs.declared.records.Records.{Records}
+use Rattle.canvas_engine.specs.declared.records.Tally.{Tally}
+
+pub reads_are_reads : (k : ℕ) (rows : List State) → Each IsRead (reads_from k rows)
+reads_are_reads k [] = tt
+reads_are_reads k (s ∷ ss) = (tt, reads_are_reads (suc k) ss)
+
+module _ (l : Line) (n : ℕ) (queue : SegId Global) (table : TableId) (pass : Pass) (seat : Seat) (c : Crew l n queue table pass seat) where
+  -- worker 0 works on, and reads
+  abbrev pub ran_with : (own : Working) → Followed (roster_of l) (begins pass seat) own → (last : Pass) → last ≡ own.pass → (at : Seat) → own.seat ≡ at → (after : Seat) (rows : List State)
+      → Serves (roster_of l) at (reads_from 1 rows) after → Ran l last after
+  ran_with own follows last e at f after rows reads = record {
+    mates = c.mates;
+    opening = first_messages l;
+    unsent = [];
+    opens = sym (append-nil (first_messages l));
+    opens_back = c.back;
+    queue = queue;
+    pass_parted = c.pass_parted;
+    pass_sent = c.pass_sent;
+    pass_joined = pass;
+    splits = c.splits;
+    sends = c.sends;
+    joins = c.joins;
+    table = table;
+    seat_parted = c.seat_parted;
+    seat_joined = seat;
+    seat_splits = c.seat_splits;
+    seat_joins = c.seat_joins;
+    own = own;
+    works = follows;
+    last = e;
+    closing = reads_from 1 rows;
+    closes = reads_are_reads 1 rows;
+    ends = subst (λ (x : Seat). Serves (roster_of l) x (reads_from 1 rows) after) (sym f) reads;
+  }
+
+  abbrev pub ran_to : (own : Working) → Followed (roster_of l) (begins pass seat) own → (last : Pass) → last ≡ own.pass → (at : Seat) → own.seat ≡ at → (after : Seat) (rows : List State)
+      → Serves (roster_of l) at (reads_from 1 rows) after → length rows ≡ count_line l → RanTo l last after rows
+  ran_to own follows last e at f after rows reads many = record { ran = ran_with own follows last e at f after rows reads; read = refl; each = many }
+
+  -- a run that ended early: each row is pending or its task's state
+  pub rows_may : IsPlan l → (own : Working) → Followed (roster_of l) (begins pass seat) own → (at : Seat) → own.seat ≡ at → (after : Seat) (rows : List State)
+      → Serves (roster_of l) at (reads_from 1 rows) after → length rows ≡ count_line l → EachMay rows (states (tree_of l))
+  rows_may planned own follows at f after rows reads many = rows_of_any l planned own.pass after rows (ran_to own follows own.pass refl at f after rows reads many)
+
+  -- a run that ended well
+  module _ (r : Record) (f : Finished (roster_of l) 0 pass seat r) (fine : r.fault ≡ None) (done : Each (λ (m : Mate (roster_of l)). IsDone (roster_of l) m.ended) c.mates) where
+    pub ended_well : (after : Seat) (rows : List State) (reads : Serves (roster_of l) r.seat (reads_from 1 rows) after)
+        → EndedWell l r.pass after (ran_with f.ended f.followed r.pass f.pass_is r.seat (sym f.seat_is) after rows reads)
+    ended_well after rows reads = record { all_sent = refl; empty = f.empty fine; own = f.done fine; each = done }
+
+    abbrev pub ran_well : (after : Seat) (rows : List State) → Serves (roster_of l) r.seat (reads_from 1 rows) after → length rows ≡ count_line l → RanWell l r.pass after rows
+    ran_well after rows reads many = record { to = ran_to f.ended f.followed r.pass f.pass_is r.seat (sym f.seat_is) after rows reads many; well = ended_well after rows reads }
+
+-- ---- counts
+
+tallies_are : {plan : _} (queue : List (Entries Envelope)) (table : Log) (k : ℕ) (ms : List (Mate plan)) → EachCounts queue table k (map (λ (m : Mate plan). m.ended.tally) ms) → AreTallies queue table k (tallies_from k ms)
+tallies_are queue table k [] c = tt
+tallies_are queue table k (m ∷ ms) c = (refl, c.0, tallies_are queue table (suc k) ms c.1)
+
+long_tallies : {plan : _} (k : ℕ) (ms : List (Mate plan)) → length (tallies_from k ms) ≡ length ms
+long_tallies k [] = refl
+long_tallies k (m ∷ ms) = ap suc (long_tallies (suc k) ms)
+
+-- the halves of a sum in the other order
+swapped : (a b : ℕ) → min most (a + b) ≡ min most (b + a)
+swapped a b = let same : a + b ≡ b + a = omega arith in ap (λ n. min most n) same
+
+module _ (l : Line) (n : ℕ) (b : SegId Global) (d : Desk) (pass : Pass) (seat : Seat) (c : Crew l n b d.id pass seat) (planned : IsPlan l) where
+  module _ (r : Record) (f : Finished (roster_of l) 0 pass seat r) (fine : r.fault ≡ None) (done : Each (λ (m : Mate (roster_of l)). IsDone (roster_of l) m.ended) c.mates) (after : Seat) (rows : List State)
+      (reads : Serves (roster_of l) r.seat (reads_from 1 rows) after) (many : length rows ≡ count_line l) where
+    abbrev whole : RanWell l r.pass after rows
+    whole = ran_well l n b d.id pass seat c r f fine done after rows reads many
+
+    abbrev this : Ran l r.pass after
+    this = whole.to.ran
+
+    -- worker 0's counts, the first messages among them
+    abbrev own_counts : Counts
+    own_counts = record { taken = r.taken; published = min most (r.published + length (first_messages l)); first = r.first; parts = r.parts; dropped = r.dropped }
+
+    own_tally : OwnTally l r.pass after this own_counts
+    own_tally = (
+      ap (λ (t : Counts). t.taken) f.counts,
+      swapped r.published (length (first_messages l)) ∙ ap (λ (t : Counts). min most (length (first_messages l) + t.published)) f.counts,
+      ap (λ (t : Counts). t.first) f.counts,
+      ap (λ (t : Counts). t.parts) f.counts,
+      ap (λ (t : Counts). t.dropped) f.counts,
+    )
+
+    abbrev records_of : List Tally → Records
+    records_of ts = record { broker = b; pass = r.pass; backend = d; seat = after; workers = ts }
+
+    abbrev all_tallies : List Tally
+    all_tallies = record { number = 0; taken = r.taken; published = min most (r.published + length (first_messages l)); first = r.first; parts = r.parts; dropped = r.dropped } ∷ tallies_from 1 c.mates
+
+    pub is_run : r.pass.of ≡ b → after.of ≡ d.id → d.plan ≡ roster_of l → IsRun l n rows (records_of all_tallies)
+    is_run of seat_of plan =
+        let counted = tallies_count l planned r.pass after this whole.well own_counts own_tally in
+        let run = the_run l r.pass after this in
+        record {
+          objects = (of, seat_of, plan);
+          ran = whole;
+          workers = c.count;
+          calls = (passes l r.pass after this).1;
+          entries = seats l r.pass after this;
+          run = run;
+          queue = refl;
+          table = refl;
+          closed = the_closed l r.pass after this whole.well;
+          tallies = (refl, counted.0, tallies_are (queue_of r.pass) after.seen 1 c.mates counted.1);
+          each_tally = ap suc (long_tallies 1 c.mates ∙ c.count);
+          once = λ k. (first_part l planned run).published_once k;
+          by_cause = by_cause l planned run;
+          by_its_cause = by_its_cause l planned run;
+          completed_once = λ g. completed_once l planned run g;
+          are = rows_of_well l planned r.pass after rows whole;
+        }
+
+-- ---- runs that ended early
+
+pub halted_may : (n : ℕ) (ss : List State) (cause : Cause) (rows : List State) → AreWorkers n → EachMay rows ss → IsThreadFault n ss (Halted cause (Some (record { rows = rows })))
+halted_may n ss Memory rows w may = (w, may)
+halted_may n ss Stopped rows w may = (w, may)
+
+long_numbers : (k n : ℕ) → length (numbers_from k n) ≡ n
+long_numbers k zero = refl
+long_numbers k (suc n) = ap suc (long_numbers (suc k) n)
+
+long_map : {X Y : Type 0} (f : X → Y) (xs : List X) → length (map f xs) ≡ length xs
+long_map f [] = refl
+long_map f (x ∷ xs) = ap suc (long_map f xs)
+
+-- there is a state for each task
+pub long_states : (l : Line) → length (states (tree_of l)) ≡ count_line l
+long_states l = long_map (λ k. state_of k (eval (tree_of l) nothing).rows) (numbers_from 1 (count (tree_of l))) ∙ (long_numbers 1 (count (tree_of l)) ∙ count_elements l)
+
+-- and an envelope for each message
+pub long_envelopes : (es : List Envelope) (ms : List Content) → es ≡ map sealed ms → length es ≡ length ms
+long_envelopes es ms e = ap (λ (xs : List Envelope). length xs) e ∙ long_map sealed ms
+
+-- rows that hold nothing
+pub pending_may : (rows ss : List State) → length rows ≡ length ss → All (λ s. s ≡ None) rows → EachMay rows ss
+pending_may [] [] e p = tt
+pending_may [] (s ∷ ss) e p = absurd (omega (arith, e))
+pending_may (r ∷ rs) [] e p = absurd (omega (arith, e))
+pending_may (r ∷ rs) (s ∷ ss) e p = (inl (All-head (λ s. s ≡ None) r rs p), pending_may rs ss (omega (arith, e)) (All-tail (λ s. s ≡ None) r rs p))
+
+-- with nothing done
+still : (plan : Roster) (p : Pass) (s : Seat) → Followed plan (begins p s) (begins p s)
+still plan p s = record {
+  run = [];
+  is_core = tt;
+  reads = tt;
+  counts = record { taken = refl; published = refl; first = refl; parts = refl; dropped = refl };
+  leaves = refl;
+  made = [];
+  stood = tt;
+  follows = follows_all;
+  used = refl;
+  makes = refl;
+  serves = refl;
+}
+
+-- the rows that worker 0 reads where it has done nothing else
+pub unworked_may : (l : Line) (n : ℕ) (queue : SegId Global) (table : TableId) (pass : Pass) (seat : Seat) → Crew l n queue table pass seat → IsPlan l → (after : Seat) (rows : List State)
+    → Serves (roster_of l) seat (reads_from 1 rows) after → length rows ≡ count_line l → EachMay rows (states (tree_of l))
+unworked_may l n queue table pass seat c planned after rows reads many = rows_may l n queue table pass seat c planned (begins pass seat) (still (roster_of l) pass seat) seat refl after rows reads many
+
+-- and those that it reads where it has worked, however that ended
+pub worked_may : (l : Line) (n : ℕ) (queue : SegId Global) (table : TableId) (pass : Pass) (seat : Seat) → Crew l n queue table pass seat → IsPlan l → (r : Record) → Finished (roster_of l) 0 pass seat r → (after : Seat) (rows : List State)
+    → Serves (roster_of l) r.seat (reads_from 1 rows) after → length rows ≡ count_line l → EachMay rows (states (tree_of l))
+worked_may l n queue table pass seat c planned r f after rows reads many = rows_may l n queue table pass seat c planned f.ended f.followed r.seat (sym f.seat_is) after rows reads many
+
+-- ---- what worker 0 has taken in
+
+pub gathered : (l : Line) (n : ℕ) (s : Start) (start : IsStart l n s) (sent : Pass) (after : List Slot) (p : Pass) (t : Seat) → Makes s.pass (published_all s.envelopes.items) sent → AllRan s.backend.plan s.slots.items after → length after ≡ length s.slots.items
+    → Takes s.backend.plan sent s.seat after p t
+    → (c : Crew l n s.broker s.backend.id p t) × (map tally_in after ≡ tallies_from 1 c.mates) × (All (λ x. IsWell x.post) after → Each (λ (m : Mate (roster_of l)). IsDone (roster_of l) m.ended) c.mates)
+gathered l n s start sent after p t made ran many taken =
+    let each = each_ran (roster_of l) s.slots.items after many (subst (λ plan. AllRan plan s.slots.items after) start.plan ran) in
+    let all = crew_of (roster_of l) 1 s.slots.items after (first_pass s.broker) s.pass (first_seat s.backend.id) s.seat sent p s.seat t start.parts each (subst (λ plan. Takes plan sent s.seat after p t) start.plan taken) in
+    let c = all.1 in (
+      record {
+        mates = all.0;
+        count = c.count ∙ (many ∙ start.count);
+        pass_parted = s.pass;
+        pass_sent = sent;
+        splits = c.splits;
+        sends = subst (λ es. Makes s.pass (published_all es) sent) start.envelopes made;
+        back = start.back;
+        joins = c.joins;
+        seat_parted = s.seat;
+        seat_splits = c.seat_splits;
+        seat_joins = c.seat_joins;
+      },
+      c.tallies,
+      c.done,
+    )
+
+pub if_none : {X : Type 0} {P Q : Type 0} (x : Option X) → (P → Q) → IfNone x P → IfNone x Q
+if_none None f p = f p
+if_none (Some a) f p = tt
+
+-- where none of them ended with a fault
+pub well_gathered : (l : Line) (ms : List (Mate (roster_of l))) (xs after : List Slot) (before counted : List Tally) → xs ≡ after → before ≡ nothing_counted 0 ∷ [] → map tally_in after ≡ tallies_from 1 ms
+    → (All (λ x. IsWell x.post) after → Each (λ (m : Mate (roster_of l)). IsDone (roster_of l) m.ended) ms) → All (λ x. IsWell x.post) xs × (counted ≡ before ++ map tally_in xs) → IsWellGathered l ms counted
+well_gathered l ms xs after before counted same b t d w = record {
+  done = d (subst (All (λ x. IsWell x.post)) same w.0);
+  tallies = w.1 ∙ (ap (λ ts. ts ++ map tally_in xs) b ∙ ap (λ ts. nothing_counted 0 ∷ ts) (ap (λ ys. map tally_in ys) same ∙ t));
+}

@@ -1,0 +1,21 @@
+use Rattle.std.proofs.Common.{rules, ◌≡◌, ◌∷◌, sym, subst}
+use Rattle.std.specs.Vec.Iter.{into_iter_items}
+use Rattle.canvas_backend.specs.Callers as seats
+use Rattle.canvas_broker.specs.Callers as passes
+use Rattle.canvas_engine.specs.Slots.{AreOf, Takes}
+use Rattle.canvas_engine.specs.declared.slot.Post.TheVariants.{Done}
+use Rattle.canvas_engine.proofs.crew.join_all.Goals as goal
+
+pub loop-slot-preserved : goal.loop-slot-preserved
+loop-slot-preserved g c =
+    let items : into_iter_items c.loop-slot.slot-iterator ≡ c.in-Some.slot ∷ into_iter_items c.next.new.self = search rules in
+    let post : c.in-Some.slot.post ≡ Done c.in-Done.left = search rules in
+    let passes : passes.Joined c.loop-slot.pass c.in-Done.left.pass c.join_one.new.pass × passes.IsHistory c.join_one.new.pass = search rules in
+    let seats : seats.Joined c.args.backend.now.plan c.loop-slot.seat c.in-Done.left.seat c.join_one.new.seat = search rules in (
+      tt,
+      tt,
+      search rules,
+      (subst (λ l. AreOf c.args.broker.now c.args.backend.now.id l) items c.loop-slot.invariant.3).1,
+      λ p s t. c.loop-slot.invariant.4 p s
+          (subst (λ l. Takes c.args.backend.now.plan c.loop-slot.pass c.loop-slot.seat l p s) (sym items) (c.in-Done.left, post, c.join_one.new.pass, c.join_one.new.seat, passes.0, passes.1, seats, t)),
+    )

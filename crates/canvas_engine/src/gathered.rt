@@ -1,0 +1,187 @@
+//! The end of a run on threads: worker 0 works on by itself, and reads the rows.
+ghost use Rattle.std.specs.Prelude.{◌≡◌, ◌≤◌, List, length, Option, Some, None, IfSome, IfOk, IfErr};
+ghost use Rattle.canvas_worker.specs.declared.cause.Cause.{Cause};
+ghost use Rattle.canvas_task.specs.History.{calls};
+ghost use Rattle.canvas_rewrite.specs.Frozen.{Line, count_line, tree_of};
+ghost use Rattle.canvas_rewrite.specs.Planned.{IsPlan};
+ghost use Rattle.canvas_rewrite.specs.States.{states};
+ghost use Rattle.canvas_backend.specs.Roster.{roster_of};
+ghost use Rattle.canvas_worker.specs.Finished.{Finished};
+ghost use Rattle.canvas_backend.specs.Backend.{read, found};
+ghost use Rattle.canvas_backend.specs.Callers.{Stands};
+ghost use Rattle.canvas_runs.specs.Following.{Serves};
+ghost use Rattle.canvas_runs.specs.Rows.{reads_from};
+ghost use Rattle.canvas_engine.specs.Correct.{AreWorkers, IsRun, IsThreadFault};
+ghost use Rattle.canvas_engine.specs.Crews.{AreGathered};
+ghost use Rattle.canvas_engine.specs.declared.fault.RunFault.TheVariants as fault;
+
+use crate::{Cause, Records, Report, RunFault, Tally};
+use canvas_backend::{Backend, BackendSeat};
+use canvas_broker::{Broker, BrokerPass};
+use canvas_rewrite::Plan;
+use canvas_task::{Fault, ListOf, Outcome, TaskNo};
+use canvas_worker::{InFlight, OpenGate, Record, Stop, Worker};
+use futures::executor::block_on;
+use std::alloc::{AllocGlobal, Global};
+use std::random::RandomSource;
+use std::sync::Wait;
+
+/// What a run has once its workers have ended and worker 0 has taken in what they left.
+#[derive(Drop)]
+pub(crate) struct Gathered {
+    pub broker: Broker,
+    pub pass: BrokerPass,
+    pub backend: Backend,
+    pub seat: BackendSeat,
+    /// How many messages were published before the workers began.
+    pub first: usize,
+    pub rows: Vec<Option<Outcome>>,
+    /// Worker 0's, still to be counted, and the others'.
+    pub tallies: Vec<Tally>,
+}
+
+/// A run that ended early, without rows.
+pub(crate) fn halted(cause: Cause) -> RunFault
+    ensures { result ≡ fault.Halted cause None }
+{
+    RunFault::Halted { cause, rows: None }
+}
+
+/// A run that ended early, with these rows.
+pub(crate) fn halted_with(cause: Cause, rows: Vec<Option<Outcome>>) -> RunFault
+    ensures { result ≡ fault.Halted cause (Some (record { rows = rows.items })) }
+{
+    RunFault::Halted {
+        cause,
+        rows: Some(Report {
+            rows: ListOf::of(rows),
+        }),
+    }
+}
+
+/// The outcome that the table has of a task.
+fn read_row(backend: &Backend, seat: &mut BackendSeat, number: u32) -> Option<Outcome>
+    requires own { seat.old.of ≡ backend.now.id }
+    requires task { (1 ≤ number) × (number ≤ backend.now.plan.tasks) }
+    ensures own { seat.new.of ≡ backend.now.id }
+    ensures read { Stands backend.now.plan seat.old (calls seat.old.name (read number) (found result)) seat.new }
+{
+    match TaskNo::new(number) {
+        Some(task) => backend.read(seat, task),
+        None => unreachable!(),
+    }
+}
+
+/// Reads each task once, from task 1 on.
+fn read_rows(
+    backend: &Backend,
+    seat: &mut BackendSeat,
+    plan: &Plan,
+    rows: &mut [Option<Outcome>],
+)
+    requires own { seat.old.of ≡ backend.now.id }
+    requires plan { backend.now.plan ≡ roster_of plan.now }
+    requires rows { length rows.old ≡ count_line plan.now }
+    ensures own { seat.new.of ≡ backend.now.id }
+    ensures read { Serves backend.now.plan seat.old (reads_from 1 rows.new) seat.new }
+{
+    for index in 0..plan.tasks() {
+        rows[index as usize] = read_row(backend, seat, index + 1);
+    }
+}
+
+/// Worker 0's own work, once it has taken in all others: it goes on by itself until it finds nothing. None where its executor failed.
+fn work_alone<R: Wait + RandomSource + AllocGlobal>(
+    rt: &R,
+    alloc: Global,
+    broker: &Broker,
+    pass: BrokerPass,
+    backend: &Backend,
+    seat: BackendSeat,
+    stop: &Stop,
+) -> Option<Record>
+    requires plan { (l : Line) × IsPlan l × (backend.now.plan ≡ roster_of l) }
+    requires own { (pass.of ≡ broker.now) × (seat.of ≡ backend.now.id) }
+    ensures { IfSome result (Finished backend.now.plan 0 pass seat) }
+{
+    let flight = InFlight::new(0);
+    let worker = Worker::new(
+        rt, alloc, 0, broker, pass, backend, seat, &OpenGate, stop, &flight,
+    );
+    match block_on(rt, worker) {
+        Ok(left) => Some(left),
+        Err(_) => None,
+    }
+}
+
+impl Gathered {
+    /// The fault of a run that ended early, with the rows that it has.
+    pub(crate) fn halt(self, plan: &Plan, workers: u32, cause: Cause) -> RunFault
+        requires workers { AreWorkers workers }
+        requires gathered { (cause : Option Cause) × AreGathered plan.now workers cause self }
+        ensures { IsThreadFault workers (states (tree_of plan.now)) result }
+    {
+        let Gathered {
+            backend,
+            mut seat,
+            mut rows,
+            ..
+        } = self;
+        read_rows(&backend, &mut seat, plan, &mut rows);
+        halted_with(cause, rows)
+    }
+
+    /// Worker 0 works until it finds nothing, and reads each task once.
+    pub(crate) fn conclude<R: Wait + RandomSource + AllocGlobal>(
+        self,
+        rt: &R,
+        alloc: Global,
+        plan: &Plan,
+        workers: u32,
+        stop: &Stop,
+    ) -> Result<(Report, Records), RunFault>
+        requires workers { AreWorkers workers }
+        requires gathered { AreGathered plan.now workers None self }
+        ensures ok { IfOk result (λ r. IsRun plan.now workers r.0.rows r.1) }
+        ensures err { IfErr result (IsThreadFault workers (states (tree_of plan.now))) }
+    {
+        let Gathered {
+            broker,
+            pass,
+            backend,
+            seat,
+            first,
+            mut rows,
+            mut tallies,
+        } = self;
+        let Some(left) = work_alone(rt, alloc, &broker, pass, &backend, seat, stop) else {
+            stop.ask();
+            return Err(halted(Cause::Memory));
+        };
+        let own = Tally::of(0, &left).with_published(first);
+        let Record {
+            pass,
+            mut seat,
+            fault,
+            ..
+        } = left;
+        read_rows(&backend, &mut seat, plan, &mut rows);
+        match fault {
+            Some(cause) => Err(halted_with(cause, rows)),
+            None => {
+                tallies[0] = own;
+                let report = Report {
+                    rows: ListOf::of(rows),
+                };
+                let records = Records {
+                    broker,
+                    pass,
+                    backend,
+                    seat,
+                    workers: ListOf::of(tallies),
+                };
+                Ok((report, records))
+            }
+        }
+    }
+}

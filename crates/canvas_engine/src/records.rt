@@ -1,0 +1,70 @@
+//! What a run on threads leaves besides its report.
+ghost use Rattle.std.specs.Prelude.{◌≡◌, ◌+◌, min};
+ghost use Rattle.canvas_engine.specs.Slots.{counts, nothing_counted};
+ghost use Rattle.canvas_runs.specs.Tally.{most};
+
+use canvas_backend::{Backend, BackendSeat};
+use canvas_broker::{Broker, BrokerPass};
+use canvas_task::ListOf;
+use canvas_worker::Record;
+
+/// What a worker counted: envelopes taken, publishes accepted, stores that were the first of their task, parts returned and envelopes
+/// dropped. A count stays at its greatest value.
+#[derive(Clone, Copy, Debug, PartialEq, Eq)]
+pub struct Tally {
+    pub number: u32,
+    pub taken: u64,
+    pub published: u64,
+    pub first: u64,
+    pub parts: u64,
+    pub dropped: u64,
+}
+
+impl Tally {
+    pub(crate) fn none(number: u32) -> Tally
+        ensures { result ≡ nothing_counted number }
+    {
+        Tally {
+            number,
+            taken: 0,
+            published: 0,
+            first: 0,
+            parts: 0,
+            dropped: 0,
+        }
+    }
+
+    pub(crate) fn of(number: u32, left: &Record) -> Tally
+        ensures { result ≡ counts number left.now }
+    {
+        Tally {
+            number,
+            taken: left.taken,
+            published: left.published,
+            first: left.first,
+            parts: left.parts,
+            dropped: left.dropped,
+        }
+    }
+
+    /// With further publishes.
+    pub(crate) fn with_published(self, further: usize) -> Tally
+        ensures { result ≡ record { number = self.number; taken = self.taken; published = min most (self.published + further); first = self.first; parts = self.parts; dropped = self.dropped } }
+    {
+        Tally {
+            published: self.published.saturating_add(further as u64),
+            ..self
+        }
+    }
+}
+
+/// The queue and the table of results of a run, with worker 0's pass and seat, into which those of all others were joined, and what
+/// each worker counted, from worker 0 on.
+#[derive(Drop)]
+pub struct Records {
+    pub broker: Broker,
+    pub pass: BrokerPass,
+    pub backend: Backend,
+    pub seat: BackendSeat,
+    pub workers: ListOf<Tally>,
+}

@@ -1,0 +1,172 @@
+//! Runs on threads.
+ghost use Rattle.std.specs.Prelude.{◌≡◌, IfOk, IfErr};
+ghost use Rattle.canvas_rewrite.specs.Frozen.{tree_of};
+ghost use Rattle.canvas_rewrite.specs.Planned.{IsPlan};
+ghost use Rattle.canvas_rewrite.specs.States.{states};
+ghost use Rattle.canvas_engine.specs.Correct.{AreWorkers, IsRun, IsThreadFault};
+ghost use Rattle.canvas_engine.specs.Crews.{AreGathered, IsStart};
+
+use crate::crew::{are_done, join_all, judge, split_all};
+use crate::gathered::{Gathered, halted, halted_with};
+use crate::firsts::{first_envelopes, publish_all};
+use crate::slot::Slot;
+use crate::threads::work_on_threads;
+use crate::turns::{WORKERS, new_rows};
+use crate::{Cause, Records, Report, RunFault, Tally};
+use canvas_backend::{Backend, BackendSeat};
+use canvas_broker::{Broker, BrokerPass};
+use canvas_message::Envelope;
+use canvas_rewrite::Plan;
+use canvas_task::{Fault, Memory, Outcome};
+use canvas_worker::{Gate, InFlight, Stop};
+use std::alloc::{AllocGlobal, Global};
+use std::random::RandomSource;
+use std::sync::Wait;
+use std::thread::Threads;
+
+/// What a run has before its first publish.
+#[derive(Drop)]
+pub(crate) struct Start {
+    broker: Broker,
+    pass: BrokerPass,
+    backend: Backend,
+    seat: BackendSeat,
+    slots: Vec<Slot>,
+    envelopes: Vec<Envelope>,
+    rows: Vec<Option<Outcome>>,
+    tallies: Vec<Tally>,
+}
+
+/// All that a run reserves: its rows and tallies, its first envelopes, its queue and its table with a pass and a seat for each worker.
+fn reserve<R: Wait>(rt: &R, alloc: Global, plan: &Plan, workers: u32) -> Result<Start, Memory>
+    ensures { IfOk result (IsStart plan.now workers) }
+{
+    let _none: Option<Fault> = None;
+    let rows = new_rows(alloc, plan)?;
+    let mut tallies = Vec::with_capacity(alloc, workers as usize + 1)?;
+    tallies.push(Tally::none(0))?;
+    let envelopes = first_envelopes(alloc, plan)?;
+    let (broker, mut pass) = Broker::new(alloc)?;
+    let (backend, mut seat) = Backend::new(alloc, plan)?;
+    let slots = split_all(
+        rt, alloc, &broker, &mut pass, &backend, &mut seat, workers,
+    )?;
+    Ok(Start {
+        broker,
+        pass,
+        backend,
+        seat,
+        slots,
+        envelopes,
+        rows,
+        tallies,
+    })
+}
+
+/// Publishes the first messages, has the workers work, and takes in what they left. Why they ended early, if any did, stands beside.
+fn gather<R, G>(
+    rt: &R,
+    alloc: Global,
+    plan: &Plan,
+    workers: u32,
+    gate: &G,
+    stop: &Stop,
+    start: Start,
+) -> Result<(Gathered, Option<Cause>), RunFault>
+where
+    R: Threads + Wait + RandomSource + AllocGlobal + Sync,
+    G: Gate + Sync,
+    requires workers { AreWorkers workers }
+    requires start { IsStart plan.now workers start }
+    ensures ok { IfOk result (λ r. AreGathered plan.now workers r.1 r.0) }
+    ensures err { IfErr result (IsThreadFault workers (states (tree_of plan.now))) }
+{
+    let Start {
+        broker,
+        mut pass,
+        backend,
+        mut seat,
+        mut slots,
+        envelopes,
+        rows,
+        mut tallies,
+    } = start;
+    let first = envelopes.len();
+    let flight = InFlight::new(first as u64);
+    match publish_all(rt, &broker, &mut pass, envelopes) {
+        Ok(()) => (),
+        Err(Memory) => return Err(halted_with(Cause::Memory, rows)),
+    }
+    work_on_threads(
+        rt, alloc, &broker, &backend, gate, stop, &flight, &mut slots,
+    );
+    if !are_done(&slots) {
+        return Err(halted(Cause::Memory));
+    }
+    let fault = judge(&slots, &mut tallies);
+    join_all(rt, &broker, &mut pass, &backend, &mut seat, slots);
+    let gathered = Gathered {
+        broker,
+        pass,
+        backend,
+        seat,
+        first,
+        rows,
+        tallies,
+    };
+    Ok((gathered, fault))
+}
+
+fn run_started<R, G>(
+    rt: &R,
+    alloc: Global,
+    plan: &Plan,
+    workers: u32,
+    gate: &G,
+    stop: &Stop,
+    start: Start,
+) -> Result<(Report, Records), RunFault>
+where
+    R: Threads + Wait + RandomSource + AllocGlobal + Sync,
+    G: Gate + Sync,
+    requires workers { AreWorkers workers }
+    requires start { IsStart plan.now workers start }
+    ensures ok { IfOk result (λ r. IsRun plan.now workers r.0.rows r.1) }
+    ensures err { IfErr result (IsThreadFault workers (states (tree_of plan.now))) }
+{
+    match gather(rt, alloc, plan, workers, gate, stop, start) {
+        Ok((gathered, early)) => match early {
+            None => gathered.conclude(rt, alloc, plan, workers, stop),
+            Some(cause) => Err(gathered.halt(plan, workers, cause)),
+        },
+        Err(fault) => Err(fault),
+    }
+}
+
+/// Runs a plan with 1 to 16 workers, each on a thread of its own where one can be made and else on this one. The workers, numbered from
+/// 1, work until no message is in flight; then this thread, as worker 0, joins what they have seen, works until it finds nothing and reads
+/// each task once.
+///
+/// `gate` is asked between a worker's take and its first store. A worker to which memory is refused asks `stop`, which ends all others early.
+pub fn run<R, G>(
+    rt: &R,
+    alloc: Global,
+    plan: &Plan,
+    workers: u32,
+    gate: &G,
+    stop: &Stop,
+) -> Result<(Report, Records), RunFault>
+where
+    R: Threads + Wait + RandomSource + AllocGlobal + Sync,
+    G: Gate + Sync,
+    ensures ok { IfOk result (λ r. AreWorkers workers × IsRun plan.now workers r.0.rows r.1) }
+    ensures err { IfErr result (IsThreadFault workers (states (tree_of plan.now))) }
+{
+    if workers < 1 || workers > WORKERS {
+        return Err(RunFault::BadWorkers);
+    }
+    match reserve(rt, alloc, plan, workers) {
+        Ok(start) => run_started(rt, alloc, plan, workers, gate, stop, start),
+        Err(Memory) => Err(halted(Cause::Memory)),
+    }
+}

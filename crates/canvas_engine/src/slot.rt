@@ -1,0 +1,72 @@
+//! A worker's place in a run.
+ghost use Rattle.std.specs.Prelude.{◌≡◌, MatchBool};
+ghost use Rattle.canvas_engine.specs.Slots.{IsDone, IsWell, tally_in};
+
+use crate::{Cause, Tally};
+use canvas_backend::BackendSeat;
+use canvas_broker::BrokerPass;
+use canvas_worker::Record;
+
+/// What stands at a worker's place.
+#[derive(Drop)]
+pub(crate) enum Post {
+    /// What the worker begins with.
+    Ready(BrokerPass, BackendSeat),
+    /// What it left.
+    Done(Record),
+    /// Its executor failed; its pass and its seat are lost.
+    Lost,
+}
+
+/// The place of one worker.
+#[derive(Drop)]
+pub(crate) struct Slot {
+    pub number: u32,
+    pub post: Post,
+}
+
+impl Slot {
+    pub(crate) fn is_done(&self) -> bool
+        ensures { MatchBool result (IsDone self.now.post) (IsDone self.now.post → ⊥) }
+    {
+        match &self.post {
+            Post::Done(_) => true,
+            Post::Ready(..) => false,
+            Post::Lost => false,
+        }
+    }
+
+    /// Whether the worker ended without a fault.
+    pub(crate) fn is_well(&self) -> bool
+        ensures { MatchBool result (IsWell self.now.post) (IsWell self.now.post → ⊥) }
+    {
+        match &self.post {
+            Post::Done(record) => record.fault.is_none(),
+            Post::Ready(..) => false,
+            Post::Lost => false,
+        }
+    }
+
+    /// Whether a growth was refused to the worker.
+    pub(crate) fn lacks_memory(&self) -> bool {
+        match &self.post {
+            Post::Done(record) => match &record.fault {
+                Some(Cause::Memory) => true,
+                Some(Cause::Stopped) => false,
+                None => false,
+            },
+            Post::Ready(..) => false,
+            Post::Lost => true,
+        }
+    }
+
+    pub(crate) fn tally(&self) -> Tally
+        ensures { result ≡ tally_in self.now }
+    {
+        match &self.post {
+            Post::Done(record) => Tally::of(self.number, record),
+            Post::Ready(..) => Tally::none(self.number),
+            Post::Lost => Tally::none(self.number),
+        }
+    }
+}

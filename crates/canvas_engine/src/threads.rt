@@ -1,0 +1,77 @@
+//! Workers on threads.
+ghost use Rattle.std.specs.Prelude.{◌≡◌, All};
+ghost use denote.Param.Send.{IsSync, IsSend};
+ghost use Rattle.canvas_rewrite.specs.Frozen.{Line};
+ghost use Rattle.canvas_rewrite.specs.Planned.{IsPlan};
+ghost use Rattle.canvas_backend.specs.Roster.{roster_of};
+ghost use Rattle.canvas_engine.specs.Slots.{IsReady, Ran, AllRan};
+
+use crate::slot::{Post, Slot};
+use canvas_backend::Backend;
+use canvas_broker::Broker;
+use canvas_worker::{Gate, InFlight, Stop, Worker};
+use futures::executor::block_on;
+use std::alloc::{AllocGlobal, Global};
+use std::mem;
+use std::random::RandomSource;
+use std::sync::Wait;
+use std::thread::{Threads, for_each_mut};
+
+/// Runs one worker to its end on this thread.
+fn work<R, G>(
+    rt: &R,
+    alloc: Global,
+    broker: &Broker,
+    backend: &Backend,
+    gate: &G,
+    stop: &Stop,
+    flight: &InFlight,
+    slot: &mut Slot,
+) where
+    R: Wait + RandomSource + AllocGlobal,
+    G: Gate,
+    requires plan { (l : Line) × IsPlan l × (backend.now.plan ≡ roster_of l) }
+    requires ready { IsReady broker.now backend.now.id slot.old }
+    ensures { Ran backend.now.plan slot.old slot.new }
+{
+    match mem::replace(&mut slot.post, Post::Lost) {
+        Post::Ready(pass, seat) => {
+            let worker = Worker::new(
+                rt, alloc, slot.number, broker, pass, backend, seat, gate, stop, flight,
+            );
+            match block_on(rt, worker) {
+                Ok(left) => slot.post = Post::Done(left),
+                Err(_) => stop.ask(),
+            }
+        }
+        Post::Done(_) => unreachable!(),
+        Post::Lost => unreachable!(),
+    }
+}
+
+/// Runs each worker on a thread of its own, or on this one where none can be made.
+pub(crate) fn work_on_threads<R, G>(
+    rt: &R,
+    alloc: Global,
+    broker: &Broker,
+    backend: &Backend,
+    gate: &G,
+    stop: &Stop,
+    flight: &InFlight,
+    slots: &mut [Slot],
+) where
+    R: Threads + Wait + RandomSource + AllocGlobal + Sync,
+    G: Gate + Sync,
+    requires plan { (l : Line) × IsPlan l × (backend.now.plan ≡ roster_of l) }
+    requires ready { All (IsReady broker.now backend.now.id) slots.old }
+    ensures { AllRan backend.now.plan slots.old slots.new }
+{
+    if slots.is_empty() {
+        return;
+    }
+    let each = |_: usize, slot: &mut Slot|
+        requires { ((l : Line) × IsPlan l × (backend.now.plan ≡ roster_of l)) × IsReady broker.now backend.now.id slot.now }
+        ensures { Ran backend.entry.now.plan slot.entry.now slot.exit.now }
+    { work(rt, alloc, broker, backend, gate, stop, flight, slot) };
+    for_each_mut(rt, slots, slots.len(), &each);
+}
