@@ -2,4 +2,12 @@
 #![tactic(auto)]
 
 #[cfg(test)]
+mod gates;
+#[cfg(test)]
+mod grown_runs;
+#[cfg(test)]
 mod polls;
+#[cfg(test)]
+mod rows;
+#[cfg(test)]
+mod stops;
