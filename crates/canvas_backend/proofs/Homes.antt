@@ -5,7 +5,7 @@ use Rattle.std.proofs.lemmas.Option.{slice_get_cases}
 use Rattle.std.specs.List.{list_any}
 use mathlib.Core.Logic.{dite}
 use native.Mathlib.Decide.{ℕ_discrete}
-use Rattle.canvas_rewrite.specs.Frozen.{Line, count_line, line_groups, Team, team_members}
+use Rattle.canvas_semantics.specs.Line.{Line, count_line, line_groups, Team, team_members}
 use Rattle.canvas_rewrite.specs.Planned.{IsPlan}
 use Rattle.canvas_rewrite.proofs.InOrder.{teams_length}
 use Rattle.canvas_rewrite.proofs.Members.{plan_apart, member_known}

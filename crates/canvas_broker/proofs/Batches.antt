@@ -5,8 +5,8 @@ use mathlib.Core.Option.{some, some-ne-none}
 use lib.ListN.{get_elem?}
 use Rattle.crossbeam_queue.specs.Fifo.{PopsMany}
 use Rattle.crossbeam_queue.proofs.Lists.{set_again, set_here}
-use Rattle.canvas_task.specs.History.{calls, live_from, named, Allowed}
-use Rattle.canvas_task.proofs.Histories.{In}
+use Rattle.canvas_history.specs.History.{calls, live_from, named, Allowed}
+use Rattle.canvas_history.proofs.Histories.{In}
 use Rattle.canvas_broker.specs.Broker.{take, Line, known, answer, next, May, IsLegal, queue_of, IsReady, takes_of}
 use Rattle.canvas_broker.specs.Rule.{envelopes, IsKept, Kept, view_of, TakesAll}
 use Rattle.canvas_broker.specs.declared.view.View.{View}

@@ -6,8 +6,8 @@ use lib.ListN.{get_elem?, length-append}
 use Rattle.std.proofs.lemmas.List.{length-set}
 use Rattle.crossbeam_queue.specs.Fifo.{Forks, Admits}
 use Rattle.crossbeam_queue.proofs.Lists.{at_set}
-use Rattle.canvas_task.specs.History.{live, NoneBy}
-use Rattle.canvas_task.proofs.Histories.{In, in_cases}
+use Rattle.canvas_history.specs.History.{live, NoneBy}
+use Rattle.canvas_history.proofs.Histories.{In, in_cases}
 use Rattle.canvas_broker.specs.Rule.{callers, Fits, Kept, view_of, root, newcomer, rooted}
 use Rattle.canvas_broker.specs.declared.view.View.{View}
 use Rattle.canvas_broker.proofs.Keeps.{All, none_of_none, old_caller, all_set, at_push}

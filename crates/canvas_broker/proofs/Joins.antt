@@ -1,8 +1,8 @@
 -- The joins that a pass owes: they are legal after any history in which its callers are live, and touch no other caller.
 use Rattle.std.proofs.Common.{◌≡◌, ℕ, false, List, [], ◌∷◌, ◌++◌, refl, sym, subst}
 use Rattle.std.proofs.lemmas.Bool.{ne_eqb}
-use Rattle.canvas_task.specs.History.{split, join, calls, among, without, live_after, live_from, live, named, NoneBy, state_from, LegalFrom}
-use Rattle.canvas_task.proofs.Histories.{In, in_left, in_right, in_without, in_within, live_append}
+use Rattle.canvas_history.specs.History.{split, join, calls, among, without, live_after, live_from, live, named, NoneBy, state_from, LegalFrom}
+use Rattle.canvas_history.proofs.Histories.{In, in_left, in_right, in_without, in_within, live_append}
 use Rattle.canvas_broker.specs.Broker.{Line, answer, next, May, Orderly}
 
 module _ {E : Type 0} where

@@ -7,8 +7,8 @@ use lib.ListN.{get_elem?, length-append}
 use Rattle.std.proofs.lemmas.List.{length-set}
 use Rattle.crossbeam_queue.specs.Fifo.{Pushes, Pops, Forks, Merges, Learns}
 use Rattle.crossbeam_queue.proofs.Lists.{at_set, set_again}
-use Rattle.canvas_task.specs.History.{split, join, calls, among, by_of, live_after, live_from, live, named, state_from, Allowed, NoneBy, Since, Sole}
-use Rattle.canvas_task.proofs.Histories.{In, in_cases, in_here, in_left, in_right, in_append, live_append, named_append, live_named, state_append, legal_append, legal_left, legal_right, was_there}
+use Rattle.canvas_history.specs.History.{split, join, calls, among, by_of, live_after, live_from, live, named, state_from, Allowed, NoneBy, Since, Sole}
+use Rattle.canvas_history.proofs.Histories.{In, in_cases, in_here, in_left, in_right, in_append, live_append, named_append, live_named, state_append, legal_append, legal_left, legal_right, was_there}
 use Rattle.canvas_broker.specs.Broker.{Doing, publish, take, Line, Known, known, told, answer, next, May, IsLegal, queue_of, Orderly, Extends, IsReady}
 use Rattle.canvas_broker.specs.Rule.{envelopes, Heard, callers, Fits, IsKept, Kept, view_of, Publishes, Splits, Takes, Misses, parted, child, longer, united, spent, newcomer}
 use Rattle.canvas_broker.specs.declared.view.View.{View}

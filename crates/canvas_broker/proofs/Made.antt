@@ -2,10 +2,10 @@
 use Rattle.std.specs.Prelude.{MatchOption, IfSome, IfNone}
 use Rattle.std.proofs.Common.{◌≡◌, ℕ, false, List, [], ◌∷◌, ◌++◌, ◌==◌, Option, Some, None, refl, sym, ap, ◌∙◌, subst, append_assoc, ⊎_elim}
 use Rattle.std.proofs.lemmas.Bool.{false≢true, eq-eqb, ne_eqb}
-use Rattle.canvas_task.specs.History.{split, calls, by_of, named, Allowed, NoneBy, made_by, Sole, AllJoined}
-use Rattle.canvas_task.proofs.Histories.{In, legal_right}
+use Rattle.canvas_history.specs.History.{split, calls, by_of, named, Allowed, NoneBy, made_by, Sole, AllJoined}
+use Rattle.canvas_history.proofs.Histories.{In, legal_right}
 use Rattle.canvas_broker.specs.Broker.{take, Line, Known, told, answer, next, May, IsLegal, queue_of, Extends, Recorded, Own, HoldsNothing, Parts, ExtendsBy, Batched, takes_of}
-use Rattle.canvas_task.proofs.Histories.{made_append, fresh_at, was_named, all_joined}
+use Rattle.canvas_history.proofs.Histories.{made_append, fresh_at, was_named, all_joined}
 
 module _ {E : Type 0} where
   made_none : (p : ℕ) (cs : List ℕ) (xs : List (Line E)) → In p cs → NoneBy cs xs → made_by p xs ≡ []

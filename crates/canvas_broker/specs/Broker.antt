@@ -4,7 +4,7 @@ use Rattle.std.specs.Coded.{Coded, code_by, coded×, coded⊎, coded_ℕ, coded_
 use base.Stored.{coded_unit}
 use mathlib.Core.Logic.{inl, inr}
 use mathlib.Core.Path.{refl}
-use Rattle.canvas_task.specs.History.{Entry, split, join, calls, among, without, named, live_from, made_by, NoneBy, Since, Sole, state_of, Legal, entry_coded}
+use Rattle.canvas_history.specs.History.{Entry, split, join, calls, among, without, named, live_from, made_by, NoneBy, Since, Sole, state_of, Legal, entry_coded}
 
 pub data Doing (E : Type 0) : Type 0 where
   publish : E → Doing E

@@ -2,7 +2,7 @@
 use Rattle.std.specs.Prelude.{◌≡◌, ℕ, List, [], ◌∷◌, ◌++◌, ◌⊎◌, length}
 use Rattle.std.specs.Global.{Global}
 use Rattle.crossbeam_queue.specs.SegTies.{SegId}
-use Rattle.canvas_task.specs.History.{split, join, live_from, named, Since, Sole, AllJoined}
+use Rattle.canvas_history.specs.History.{split, join, live_from, named, Since, Sole, AllJoined}
 use Rattle.canvas_broker.specs.Broker.{Line, Known, known, told, IsLegal, Own, HoldsNothing, Extends, ExtendsBy, takes_of}
 
 -- A pass: the broker that it is of, its caller's number, the callers for which it answers (itself, and those that it took in since its last entry),

@@ -2,7 +2,7 @@
 use Rattle.std.specs.Prelude.{◌≡◌, ℕ, ◌<◌, ◌≤◌, true, List, [], ◌∷◌, ◌++◌, Option, Some, None, ◌⊎◌, length, slice_index_or, cond, nat_lt}
 use mathlib.Core.Option.{some}
 use lib.ListN.{get_elem?}
-use Rattle.canvas_task.specs.History.{join, calls, among, live, named, NoneBy}
+use Rattle.canvas_history.specs.History.{join, calls, among, live, named, NoneBy}
 use Rattle.canvas_broker.specs.Broker.{publish, take, Line, Known, known, told, IsLegal, queue_of, Orderly, GoesOn, Extends, Recorded, Made, Batched}
 use Rattle.canvas_broker.specs.declared.view.View.{View}
 

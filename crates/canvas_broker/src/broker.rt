@@ -1,6 +1,6 @@
 //! The broker and its passes.
 ghost use Rattle.std.specs.Prelude.{◌≡◌, ◌≢◌, [], ◌∷◌, Some, None, IfOk, IfNone, IfSome, OnOk, MatchResult, MatchOption};
-ghost use Rattle.canvas_task.specs.History.{calls, split, made_by};
+ghost use Rattle.canvas_history.specs.History.{calls, split, made_by};
 ghost use Rattle.canvas_broker.specs.Broker.{publish, take, takes_of};
 ghost use Rattle.canvas_broker.specs.Callers.{Stands, Fits, Parted, Joined, Took, Adds, Empties, IsHistory, LeavesOne};
 

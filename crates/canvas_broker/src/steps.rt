@@ -1,6 +1,6 @@
 //! The calls, over a queue and its passes.
 ghost use Rattle.std.specs.Prelude.{◌≡◌, [], ◌∷◌, ◌++◌, ℕ, List, Some, None, IfOk, IfErr, OnOk, MatchResult, MatchOption};
-ghost use Rattle.canvas_task.specs.History.{calls};
+ghost use Rattle.canvas_history.specs.History.{calls};
 ghost use Rattle.crossbeam_queue.specs.SegTies.{IsSegPassOf};
 ghost use Rattle.canvas_broker.specs.Broker.{publish, take, Recorded, Extends, IsReady, Parts, Unites};
 ghost use Rattle.canvas_broker.specs.Rule.{root};

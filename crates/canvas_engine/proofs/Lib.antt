@@ -1,4 +1,3 @@
-pub mod RowLookups
 pub mod ReportLines
 pub mod SameText
 pub mod TurnTexts

@@ -2,11 +2,11 @@
 use Rattle.std.proofs.Common.{◌≡◌, Bool, ℕ, zero, suc, ◌+◌, List, [], ◌∷◌, ◌++◌, length, drop, refl, sym, ap, ◌∙◌, append_assoc, append-nil, arith, length-append}
 use Rattle.std.proofs.lemmas.List.{drop_all}
 use Rattle.std.specs.Prelude.{slice_get, codes}
-use Rattle.canvas_rewrite.specs.Eval.{Rows, State, state_of, with_states}
-use Rattle.canvas_sig.specs.Tree.{ends_in_group, Task, task, Tasks, no_tasks, and_task, count_task, count_tasks}
-use Rattle.canvas_rewrite.specs.Frozen.{Line, stop, step, group_end, chord_end, Lines, no_lines, and_line, count_line, count_lines, tree_of, ends_of, in_group, names, all_names, task_names, tasks_names, name_at}
-use Rattle.canvas_rewrite.specs.Report.{Text, names as named, counted_from, line, lines, value_text, listed, result_text, report_of}
-use Rattle.canvas_rewrite.proofs.EndLemmas.{ends_of_tree}
+use Rattle.canvas_semantics.specs.Evaluation.{Rows, State, state_of, with_states}
+use Rattle.canvas_semantics.specs.Tree.{ends_in_group, Task, task, Tasks, no_tasks, and_task, count_task, count_tasks}
+use Rattle.canvas_semantics.specs.Line.{Line, stop, step, group_end, chord_end, Lines, no_lines, and_line, count_line, count_lines, tree_of, ends_of, in_group, names, all_names, task_names, tasks_names, name_at}
+use Rattle.canvas_semantics.specs.Report.{Text, names as named, counted_from, line, lines, value_text, listed, result_text, report_of}
+use Rattle.canvas_semantics.proofs.EndLemmas.{ends_of_tree}
 use Rattle.canvas_rewrite.proofs.Members.{in_group_tree}
 use Rattle.canvas_engine.specs.ReportRows.{line_if, listed_behind}
 

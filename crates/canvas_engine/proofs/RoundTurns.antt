@@ -4,7 +4,7 @@ use Rattle.std.specs.Prelude.{◌||◌}
 use Rattle.std.proofs.Math.Nat.{eq-or-lt_of_le}
 use Rattle.std.proofs.Math.Seq.{take-suc}
 use Rattle.std.proofs.lemmas.List.{take_all}
-use Rattle.canvas_rewrite.specs.Frozen.{Line}
+use Rattle.canvas_semantics.specs.Line.{Line}
 use Rattle.canvas_runs.specs.Turns.{Step, IsWorker, HasEnded, round, rounds}
 use Rattle.canvas_runs.proofs.TurnEnds.{begins_list, begins_rotation, rounds_next}
 use Rattle.canvas_worker.specs.declared.cause.Cause.{Cause}

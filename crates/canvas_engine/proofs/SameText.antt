@@ -1,15 +1,15 @@
 -- What a plan says of the canvas that it was made from.
 use Rattle.std.proofs.Common.{◌≡◌, List, Result, Ok, Err, IfOk, IfErr, OnOk, String, Global, string_bytes, sym, ap, ◌∙◌, subst}
 use Rattle.canvas_sig.specs.Fields.{Text}
-use Rattle.canvas_sig.specs.Normal.{normal}
-use Rattle.canvas_sig.specs.Tree.{Tree, numbered}
-use Rattle.canvas_rewrite.specs.Eval.{State, Rows, nothing}
-use Rattle.canvas_rewrite.specs.Frozen.{Line, tree_of}
-use Rattle.canvas_rewrite.specs.Report.{report, report_of}
-use Rattle.canvas_rewrite.specs.Same.{IsSame}
-use Rattle.canvas_rewrite.specs.States.{states, rows_from}
-use Rattle.canvas_rewrite.proofs.RowNumbers.{states_in, states_listed}
-use Rattle.canvas_rewrite.proofs.SameReport.{same_report, same_report_of}
+use Rattle.canvas_semantics.specs.NormalLine.{normal}
+use Rattle.canvas_semantics.specs.Tree.{Tree, numbered}
+use Rattle.canvas_semantics.specs.Evaluation.{State, Rows, nothing}
+use Rattle.canvas_semantics.specs.Line.{Line, tree_of}
+use Rattle.canvas_semantics.specs.Report.{report, report_of}
+use Rattle.canvas_semantics.specs.SameMeaning.{IsSame}
+use Rattle.canvas_semantics.specs.States.{states, rows_from}
+use Rattle.canvas_semantics.proofs.RowNumbers.{states_in, states_listed}
+use Rattle.canvas_semantics.proofs.SameReport.{same_report, same_report_of}
 use Rattle.canvas_engine.specs.Texts.{IsCanvasText, IsPlanFault, IsPlanOf, IsTextFault}
 use Rattle.canvas_engine.specs.declared.fault.RunFault.{RunFault}
 use Rattle.canvas_engine.specs.declared.text.TextFault.{TextFault}

@@ -2,8 +2,8 @@
 use Rattle.std.proofs.Common.{◌≡◌, ◌∙◌, ℕ, suc, ◌+◌, ◌<◌, List, length, take, sym, ap, subst, add-one, arith}
 use Rattle.std.proofs.Math.ListN.{set}
 use Rattle.std.proofs.Math.Seq.{take-suc-set}
-use Rattle.canvas_task.specs.History.{calls}
-use Rattle.canvas_rewrite.specs.Eval.{State}
+use Rattle.canvas_history.specs.History.{calls}
+use Rattle.canvas_semantics.specs.Evaluation.{State}
 use Rattle.canvas_backend.specs.Backend.{read, found}
 use Rattle.canvas_backend.specs.Callers.{Stands}
 use Rattle.canvas_backend.specs.Roster.{Roster}

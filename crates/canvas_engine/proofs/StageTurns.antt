@@ -2,7 +2,7 @@
 use Rattle.std.proofs.Common.{◌≡◌, ◌≢◌, ◌<◌, ◌-◌, ◌⊎◌, inl, inr, ℕ, zero, suc, Bool, true, false, List, [], ◌∷◌, ◌++◌, length, Some, refl, sym, ap, ◌∙◌, subst, arith}
 use Rattle.std.specs.Prelude.{◌||◌, slice_get, slice_set}
 use Rattle.std.specs.List.{list_any}
-use Rattle.canvas_rewrite.specs.Frozen.{Line}
+use Rattle.canvas_semantics.specs.Line.{Line}
 use Rattle.canvas_backend.specs.Backend.{Results}
 use Rattle.canvas_backend.specs.Plain.{held}
 use Rattle.canvas_backend.specs.Roster.{Roster, roster_of}

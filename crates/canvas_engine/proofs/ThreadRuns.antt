@@ -5,12 +5,12 @@ use Rattle.std.specs.Prelude.{IfNone}
 use Rattle.std.specs.Global.{Global}
 use Rattle.crossbeam_queue.specs.SegTies.{SegId}
 use Rattle.atomic_table.specs.Seated.{TableId}
-use Rattle.canvas_sig.specs.Tree.{count}
-use Rattle.canvas_rewrite.specs.Eval.{State, state_of, eval, nothing}
-use Rattle.canvas_rewrite.specs.Frozen.{Line, count_line, tree_of}
+use Rattle.canvas_semantics.specs.Tree.{count}
+use Rattle.canvas_semantics.specs.Evaluation.{State, state_of, eval, nothing}
+use Rattle.canvas_semantics.specs.Line.{Line, count_line, tree_of}
 use Rattle.canvas_rewrite.specs.Planned.{IsPlan}
-use Rattle.canvas_rewrite.specs.States.{states, numbers_from}
-use Rattle.canvas_rewrite.proofs.Numbered.{count_elements}
+use Rattle.canvas_semantics.specs.States.{states, numbers_from}
+use Rattle.canvas_semantics.proofs.Numbered.{count_elements}
 use Rattle.canvas_message.specs.Content.{Content}
 use Rattle.canvas_message.specs.Effects.{first_messages}
 use Rattle.canvas_message.specs.declared.envelope.Envelope.{Envelope}

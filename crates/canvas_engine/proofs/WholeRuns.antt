@@ -2,11 +2,11 @@
 use Rattle.std.proofs.Common.{◌≡◌, ◌≤◌, ◌⊎◌, inl, inr, ℕ, zero, suc, All, List, [], ◌∷◌, ◌++◌, map, length, get_or, Some, None, Result, Ok, Err, OnOk, IfErr, refl, sym, ap, ◌∙◌, subst, arith}
 use Rattle.std.specs.Prelude.{slice_get}
 use Rattle.std.proofs.lemmas.Option.{slice_get_within}
-use Rattle.canvas_rewrite.specs.Eval.{State}
-use Rattle.canvas_rewrite.specs.Frozen.{Line, count_line, tree_of}
-use Rattle.canvas_rewrite.proofs.Numbered.{count_elements}
+use Rattle.canvas_semantics.specs.Evaluation.{State}
+use Rattle.canvas_semantics.specs.Line.{Line, count_line, tree_of}
+use Rattle.canvas_semantics.proofs.Numbered.{count_elements}
 use Rattle.canvas_rewrite.specs.Planned.{IsPlan}
-use Rattle.canvas_rewrite.specs.States.{numbers_from, states}
+use Rattle.canvas_semantics.specs.States.{numbers_from, states}
 use Rattle.canvas_message.specs.Effects.{first_messages}
 use Rattle.canvas_backend.specs.Backend.{no_results}
 use Rattle.canvas_backend.specs.Plain.{held}

@@ -9,9 +9,9 @@
 --     IsWholeWithin l n turns most rows    of at most so many steps
 --     IsCut l n turns steps rows     rows of a run that was cut off after so many steps, with some worker that had not ended
 use Rattle.std.specs.Prelude.{◌≡◌, ◌≤◌, ℕ, suc, List, [], ◌∷◌, ◌++◌, All, length, map, Option, Some, None}
-use Rattle.canvas_rewrite.specs.Eval.{State}
-use Rattle.canvas_rewrite.specs.Frozen.{Line, tree_of}
-use Rattle.canvas_rewrite.specs.States.{states}
+use Rattle.canvas_semantics.specs.Evaluation.{State}
+use Rattle.canvas_semantics.specs.Line.{Line, tree_of}
+use Rattle.canvas_semantics.specs.States.{states}
 use Rattle.canvas_message.specs.declared.envelope.Envelope.{Envelope}
 use Rattle.canvas_backend.specs.Backend.{Log}
 use Rattle.canvas_backend.specs.Roster.{roster_of}

@@ -2,9 +2,9 @@
 use Rattle.std.specs.Prelude.{◌≡◌, ◌≤◌, ◌<◌, ◌+◌, ◌⊎◌, ℕ, Bool, true, false, suc, IsTrue, All, List, [], ◌∷◌, ◌++◌, map, length, Some, None, Ok, slice_get}
 use Rattle.canvas_task.specs.Apply.{IsInRange}
 use Rattle.canvas_task.specs.declared.outcome.Outcome.{Outcome}
-use Rattle.canvas_rewrite.specs.Eval.{State}
-use Rattle.canvas_rewrite.specs.Frozen.{Line}
-use Rattle.canvas_rewrite.specs.States.{numbers_from}
+use Rattle.canvas_semantics.specs.Evaluation.{State}
+use Rattle.canvas_semantics.specs.Line.{Line}
+use Rattle.canvas_semantics.specs.States.{numbers_from}
 use Rattle.canvas_message.specs.declared.envelope.Envelope.{Envelope}
 use Rattle.canvas_backend.specs.Backend.{Results, no_results, first_or, count_of}
 use Rattle.canvas_backend.specs.Plain.{Shelf, held}

@@ -2,12 +2,12 @@
 use Rattle.std.specs.Prelude.{◌≡◌, List, Ok, Err}
 use Rattle.canvas_sig.specs.CanvasText.{reading}
 use Rattle.canvas_sig.specs.Fields.{Text}
-use Rattle.canvas_sig.specs.Normal.{normal}
-use Rattle.canvas_sig.specs.Tree.{Tree, numbered}
-use Rattle.canvas_rewrite.specs.Eval.{State}
-use Rattle.canvas_rewrite.specs.Frozen.{Line, tree_of}
-use Rattle.canvas_rewrite.specs.Same.{IsSame}
-use Rattle.canvas_rewrite.specs.States.{states}
+use Rattle.canvas_semantics.specs.NormalLine.{normal}
+use Rattle.canvas_semantics.specs.Tree.{Tree, numbered}
+use Rattle.canvas_semantics.specs.Evaluation.{State}
+use Rattle.canvas_semantics.specs.Line.{Line, tree_of}
+use Rattle.canvas_semantics.specs.SameMeaning.{IsSame}
+use Rattle.canvas_semantics.specs.States.{states}
 use Rattle.canvas_engine.specs.declared.fault.RunFault.{RunFault}
 use Rattle.canvas_engine.specs.declared.text.TextFault.{TextFault}
 use Rattle.canvas_engine.specs.declared.text.TextFault.TheVariants.{Sig, Run, Memory}

@@ -1,9 +1,9 @@
 ghost use Rattle.std.specs.Prelude.{◌≡◌, ◌++◌, ◌+◌, IfOk, OnOk, string_bytes};
 ghost use Rattle.canvas_rewrite.specs.Ends.{is_list, tasks_of};
-ghost use Rattle.canvas_rewrite.specs.Eval.{with_states};
-ghost use Rattle.canvas_rewrite.specs.Frozen.{name_of, tree_of};
-ghost use Rattle.canvas_rewrite.specs.Report.{names as named, lines, listed, report_of, result_text};
-ghost use Rattle.canvas_rewrite.specs.States.{rows_from};
+ghost use Rattle.canvas_semantics.specs.Evaluation.{with_states};
+ghost use Rattle.canvas_semantics.specs.Line.{name_of, tree_of};
+ghost use Rattle.canvas_semantics.specs.Report.{names as named, lines, listed, report_of, result_text};
+ghost use Rattle.canvas_semantics.specs.States.{rows_from};
 ghost use Rattle.canvas_engine.specs.ReportRows.{line_if, listed_behind};
 
 use crate::report_rows::{State, push_row};

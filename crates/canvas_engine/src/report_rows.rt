@@ -1,7 +1,7 @@
 ghost use Rattle.std.specs.Prelude.{◌≡◌, ◌++◌, OnOk, slice_get, string_bytes};
-ghost use Rattle.canvas_rewrite.specs.Report.{line, state_name};
-ghost use Rattle.canvas_rewrite.specs.Eval.{state_of};
-ghost use Rattle.canvas_rewrite.specs.States.{rows_from};
+ghost use Rattle.canvas_semantics.specs.Report.{line, state_name};
+ghost use Rattle.canvas_semantics.specs.Evaluation.{state_of};
+ghost use Rattle.canvas_semantics.specs.States.{rows_from};
 
 use canvas_task::{Memory, Outcome, TaskNo};
 use std::fmt;
@@ -12,7 +12,7 @@ pub(crate) struct State(Option<Outcome>);
 
 impl fmt::Display for State {
     ghost use Rattle.std.specs.Prelude.{Some};
-    ghost use Rattle.canvas_rewrite.specs.Report.{value_text};
+    ghost use Rattle.canvas_semantics.specs.Report.{value_text};
 
     ghost output = { λ state. Some (value_text state.0) };
 

@@ -1,8 +1,8 @@
 //! Runs on threads.
 ghost use Rattle.std.specs.Prelude.{◌≡◌, IfOk, IfErr};
-ghost use Rattle.canvas_rewrite.specs.Frozen.{tree_of};
+ghost use Rattle.canvas_semantics.specs.Line.{tree_of};
 ghost use Rattle.canvas_rewrite.specs.Planned.{IsPlan};
-ghost use Rattle.canvas_rewrite.specs.States.{states};
+ghost use Rattle.canvas_semantics.specs.States.{states};
 ghost use Rattle.canvas_engine.specs.Correct.{AreWorkers, IsRun, IsThreadFault};
 ghost use Rattle.canvas_engine.specs.Crews.{AreGathered, IsStart};
 

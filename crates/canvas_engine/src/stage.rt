@@ -1,7 +1,7 @@
 //! The workers of a run on one thread, with the queue and the table of results that they share.
 ghost use Rattle.std.specs.Prelude.{◌≡◌, ◌≤◌, ◌<◌, ◌+◌, ◌++◌, ◌∷◌, ℕ, Bool, Some, false, true, not, ◌||◌, [], List, map, length, IfOk, IfErr, OnOk, OnErr, IsTrue, MatchBool, slice_get};
 ghost use Rattle.std.specs.List.{list_any};
-ghost use Rattle.canvas_rewrite.specs.Frozen.{count_line};
+ghost use Rattle.canvas_semantics.specs.Line.{count_line};
 ghost use Rattle.canvas_rewrite.specs.Planned.{IsPlan};
 ghost use Rattle.canvas_message.specs.Effects.{first_messages};
 ghost use Rattle.canvas_backend.specs.Backend.{no_results};

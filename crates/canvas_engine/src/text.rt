@@ -1,10 +1,10 @@
 ghost use Rattle.std.specs.Prelude.{◌≡◌, IfOk, IfErr, OnOk, string_bytes};
-ghost use Rattle.canvas_sig.specs.Normal.{normal};
-ghost use Rattle.canvas_sig.specs.Tree.{Tree, numbered};
-ghost use Rattle.canvas_rewrite.specs.Frozen.{tree_of};
-ghost use Rattle.canvas_rewrite.specs.Report.{report, report_of};
-ghost use Rattle.canvas_rewrite.specs.Same.{IsSame};
-ghost use Rattle.canvas_rewrite.specs.States.{rows_from, states};
+ghost use Rattle.canvas_semantics.specs.NormalLine.{normal};
+ghost use Rattle.canvas_semantics.specs.Tree.{Tree, numbered};
+ghost use Rattle.canvas_semantics.specs.Line.{tree_of};
+ghost use Rattle.canvas_semantics.specs.Report.{report, report_of};
+ghost use Rattle.canvas_semantics.specs.SameMeaning.{IsSame};
+ghost use Rattle.canvas_semantics.specs.States.{rows_from, states};
 ghost use Rattle.canvas_engine.specs.Correct.{AreWorkers, IsAsked, IsRunFault, IsThreadFault};
 ghost use Rattle.canvas_engine.specs.Texts.{IsCanvasText, IsPlanFault, IsPlanOf, IsReadFault, IsTextFault};
 

@@ -1,7 +1,7 @@
 //! Workers on threads.
 ghost use Rattle.std.specs.Prelude.{◌≡◌, All};
 ghost use denote.Param.Send.{IsSync, IsSend};
-ghost use Rattle.canvas_rewrite.specs.Frozen.{Line};
+ghost use Rattle.canvas_semantics.specs.Line.{Line};
 ghost use Rattle.canvas_rewrite.specs.Planned.{IsPlan};
 ghost use Rattle.canvas_backend.specs.Roster.{roster_of};
 ghost use Rattle.canvas_engine.specs.Slots.{IsReady, Ran, AllRan};

@@ -1,7 +1,7 @@
 ghost use Rattle.std.specs.Prelude.{◌≡◌, ◌≢◌, ◌≤◌, ◌<◌, ◌*◌, ◌^◌, suc, ℕ, All, List, [], None, length, IfOk, IfErr, OnOk, OnErr, MatchBool};
-ghost use Rattle.canvas_rewrite.specs.Frozen.{count_line, tree_of};
+ghost use Rattle.canvas_semantics.specs.Line.{count_line, tree_of};
 ghost use Rattle.canvas_rewrite.specs.Planned.{IsPlan};
-ghost use Rattle.canvas_rewrite.specs.States.{states};
+ghost use Rattle.canvas_semantics.specs.States.{states};
 ghost use Rattle.canvas_backend.specs.Backend.{no_results};
 ghost use Rattle.canvas_backend.specs.Plain.{held};
 ghost use Rattle.canvas_backend.specs.Roster.{roster_of};

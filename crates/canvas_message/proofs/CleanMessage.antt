@@ -2,9 +2,9 @@
 use Rattle.std.proofs.Common.{◌≡◌, ℕ, ◌≤◌, ◌+◌, max, List, [], ◌∷◌, Bool, true, false, Some, None, Option, refl, arith}
 use Rattle.serde_json.specs.Data.{Data, Items, no_items, item, no_members, depth, items_depth}
 use Rattle.canvas_sig.specs.Clean.{IsClean, AreClean}
-use Rattle.canvas_sig.specs.Tree.{Call}
+use Rattle.canvas_semantics.specs.Tree.{Call}
 use Rattle.canvas_sig.proofs.CleanWire.{args_clean, kwargs_clean, all_above, args_depth, kwargs_depth}
-use Rattle.canvas_rewrite.specs.Placed.{PTask, p_task, PTasks, PPlace, PLine, p_stop, p_step, p_group_end, p_chord_end}
+use Rattle.canvas_semantics.specs.PlacedLine.{PTask, p_task, PTasks, PPlace, PLine, p_stop, p_step, p_group_end, p_chord_end}
 use Rattle.canvas_message.specs.Content.{Content}
 use Rattle.canvas_message.specs.Fits.{tasks_ok, tasks_reach, place_reach, fits}
 use Rattle.canvas_message.specs.Wire.{parent_id, tasks_wire, carried_wire, elements_wire, onto_reversed, list_or_null, embed_wire, body_wire, headers_wire, properties_wire}

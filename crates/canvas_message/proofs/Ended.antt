@@ -11,8 +11,8 @@ use Rattle.canvas_task.specs.declared.outcome.Fault.TheVariants as fault
 use Rattle.canvas_task.specs.declared.outcome.Outcome.{Outcome}
 use Rattle.canvas_task.specs.declared.outcome.Outcome.TheVariants.{Success, Failure}
 use Rattle.canvas_sig.proofs.ComposedLemmas.{both}
-use Rattle.canvas_rewrite.specs.Eval as eval
-use Rattle.canvas_rewrite.specs.Placed.{PTask, p_task, PTasks, PPlace, p_nowhere, p_group, p_chord, PLine, p_stop, p_step, p_group_end, p_chord_end, PLines, no_p_lines, and_p_line}
+use Rattle.canvas_semantics.specs.Evaluation as eval
+use Rattle.canvas_semantics.specs.PlacedLine.{PTask, p_task, PTasks, PPlace, p_nowhere, p_group, p_chord, PLine, p_stop, p_step, p_group_end, p_chord_end, PLines, no_p_lines, and_p_line}
 use Rattle.canvas_rewrite.specs.FrozenView.{Load, p_tasks_of, p_task_view, p_line_view}
 use Rattle.canvas_rewrite.specs.declared.frozen.Carried as block
 use Rattle.canvas_rewrite.specs.declared.frozen.Carried.{Carried, out-Carried}

@@ -14,7 +14,7 @@ use Rattle.canvas_sig.specs.Fields.{Text, field, listed, members, contents, is_n
 use Rattle.canvas_sig.specs.Reading.{fault_if, each, argument_of, arg_reading, named_reading, is_name, is_text}
 use Rattle.canvas_sig.specs.declared.fault.SigFault.{SigFault}
 use Rattle.canvas_sig.specs.declared.fault.SigFault.TheVariants.{BadArgs}
-use Rattle.canvas_rewrite.specs.Placed.{PTask, PLine, p_step}
+use Rattle.canvas_semantics.specs.PlacedLine.{PTask, PLine, p_step}
 use Rattle.canvas_rewrite.specs.FrozenView.{p_steps}
 use Rattle.canvas_message.specs.Content.{Content}
 use Rattle.canvas_message.specs.EnvelopeContent.{task_number, place_from, line_from, task_in, last_in, line_in, args_in, kwargs_in, embed_in, content_in, content_said}

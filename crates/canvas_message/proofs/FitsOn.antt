@@ -10,12 +10,12 @@ use Rattle.canvas_task.specs.Numbers.{in_range}
 use Rattle.canvas_task.specs.declared.arg.Arg.{Arg}
 use Rattle.canvas_task.specs.declared.arg.Arg.TheVariants as arg
 use Rattle.canvas_sig.specs.NodeFaults.{arg_ok, numbers_ok}
-use Rattle.canvas_sig.specs.Tree.{Call}
+use Rattle.canvas_semantics.specs.Tree.{Call}
 use Rattle.canvas_task.specs.Entries.{IsBelow, Ascends}
 use Rattle.canvas_sig.proofs.FittingCalls.{NumbersFit, ArgFits, ArgsFit, KwargsFit, CallFits}
 use Rattle.canvas_sig.proofs.ComposedLemmas.{both}
-use Rattle.canvas_rewrite.specs.Eval.{Flow, num, arguments}
-use Rattle.canvas_rewrite.specs.Placed.{PTask, p_task, PTasks, PPlace, PLine, p_stop, p_step, p_group_end, p_chord_end, PLines}
+use Rattle.canvas_semantics.specs.Evaluation.{Flow, num, arguments}
+use Rattle.canvas_semantics.specs.PlacedLine.{PTask, p_task, PTasks, PPlace, PLine, p_stop, p_step, p_group_end, p_chord_end, PLines}
 use Rattle.canvas_message.specs.Content.{Content, line, number_of, call_of}
 use Rattle.canvas_message.specs.Fits.{is_number, is_less, is_below, ascends, call_ok, parent_ok, task_ok, tasks_ok, place_ok, line_ok, task_reach, line_reach, greatest_reach, fits}
 

@@ -15,7 +15,7 @@ use Rattle.canvas_sig.specs.declared.fault.SigFault.TheVariants.{NotSignature, U
 use Rattle.canvas_sig.specs.declared.primitive.Primitive.{Primitive}
 use Rattle.canvas_sig.specs.declared.primitive.Primitive.TheVariants as kind
 use Rattle.canvas_rewrite.specs.FrozenView.{Load, p_tasks_of, p_lines_of}
-use Rattle.canvas_rewrite.specs.Placed.{PTask, p_task, p_nowhere, p_group, p_chord, PLine, p_stop, p_step, p_group_end, p_chord_end}
+use Rattle.canvas_semantics.specs.PlacedLine.{PTask, p_task, p_nowhere, p_group, p_chord, PLine, p_stop, p_step, p_group_end, p_chord_end}
 use Rattle.canvas_message.specs.EnvelopeContent.{group_number, natural, size_in, place_from, task_from, element_from, line_from, task_within, last_within, line_within}
 use Rattle.canvas_message.specs.EnvelopeFaults.{is_size, bad_size, bad_place, is_task, bad_task_by, bad_group_by, bad_chord_by, bad_last_by, bad_elements, bad_task_within, bad_last_within, bad_line_within, bad_argument}
 use Rattle.canvas_message.specs.Fits.{size_ok}

@@ -9,15 +9,15 @@ use Rattle.serde_json.specs.Read.{max_depth}
 use Rattle.canvas_task.specs.Name.{name_ok}
 use Rattle.canvas_sig.specs.Fields.{field, items, listed, is_list_or_null, is_null}
 use Rattle.canvas_sig.specs.Reading.{each}
-use Rattle.canvas_sig.specs.Tree.{Call}
+use Rattle.canvas_semantics.specs.Tree.{Call}
 use Rattle.canvas_sig.proofs.FittingCalls.{CallFits}
 use Rattle.canvas_sig.specs.Writing.{args_wire, kwargs_wire}
 use Rattle.canvas_sig.specs.declared.fault.SigFault.{SigFault}
 use Rattle.canvas_sig.proofs.ComposedLemmas.{both}
 use Rattle.canvas_sig.proofs.RoundTrip.{args_back, kwargs_back}
-use Rattle.canvas_rewrite.proofs.RowNumbers.{same_number}
+use Rattle.canvas_semantics.proofs.RowNumbers.{same_number}
 use Rattle.canvas_rewrite.specs.FrozenView.{p_tasks_of, p_steps}
-use Rattle.canvas_rewrite.specs.Placed.{PTask, p_task, PTasks, no_p_tasks, and_p_task, PPlace, p_nowhere, p_group, p_chord, PLine, p_stop, p_step, p_group_end, p_chord_end, PLines}
+use Rattle.canvas_semantics.specs.PlacedLine.{PTask, p_task, PTasks, no_p_tasks, and_p_task, PPlace, p_nowhere, p_group, p_chord, PLine, p_stop, p_step, p_group_end, p_chord_end, PLines}
 use Rattle.canvas_message.specs.Content.{Content, line, number_of, call_of, links_of, errbacks_of, place_of}
 use Rattle.canvas_message.specs.Fits.{is_number, size_ok, parent_ok, task_ok, tasks_ok, place_ok, line_ok, task_reach, tasks_reach, place_reach, line_reach, greatest_reach, fits}
 use Rattle.canvas_message.specs.FrozenReading.{task_of, group_of, place_with, link_reading, step_reading, last_reading, line_reading, levels}

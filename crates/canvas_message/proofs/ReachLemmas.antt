@@ -1,7 +1,7 @@
 -- The reach past the limit is the same whatever is past it.
 use Rattle.std.proofs.Common.{◌≡◌, ◌∙◌, ℕ, ◌+◌, max, arith, List, [], ◌∷◌, ◌++◌, map, Option, Some, None, Box, Global, true, false, refl, sym, ap, subst}
 use Rattle.canvas_sig.specs.LineReach.{capped, above}
-use Rattle.canvas_rewrite.specs.Placed.{PTask, p_task, PLine, p_stop, p_step, p_group_end, p_chord_end, PLines, no_p_lines, and_p_line}
+use Rattle.canvas_semantics.specs.PlacedLine.{PTask, p_task, PLine, p_stop, p_step, p_group_end, p_chord_end, PLines, no_p_lines, and_p_line}
 use Rattle.canvas_rewrite.specs.FrozenView.{p_tasks_of, p_steps}
 use Rattle.canvas_rewrite.specs.FrozenView.{p_lines_of, p_task_view, p_line_view, p_end_view}
 use Rattle.canvas_rewrite.specs.declared.frozen.FrozenTask.{FrozenTask, out-FrozenTask}

@@ -13,7 +13,7 @@ use Rattle.canvas_task.proofs.IdentifierLemmas as identifiers
 use Rattle.canvas_sig.specs.Fields.{field, subtype, option, items, entries, as_list, is_null, is_link, listed}
 use Rattle.canvas_sig.specs.NodeFaults.{arg_ok, numbers_ok}
 use Rattle.canvas_sig.specs.Reading.{◌or_else◌, fault_if, each, arg_reading, named_reading, primitive_of, own_fault}
-use Rattle.canvas_sig.specs.Tree.{Call}
+use Rattle.canvas_semantics.specs.Tree.{Call}
 use Rattle.canvas_task.specs.Entries.{IsBelow, Ascends}
 use Rattle.canvas_sig.proofs.FittingCalls.{ArgsFit, KwargsFit, CallFits}
 use Rattle.canvas_sig.specs.Writing.{args_wire, kwargs_wire, number_wire, member_unless_empty, tasks_member, chord_members}
@@ -21,9 +21,9 @@ use Rattle.canvas_sig.specs.declared.fault.SigFault.{SigFault}
 use Rattle.canvas_sig.specs.declared.fault.SigFault.TheVariants.{Frozen}
 use Rattle.canvas_sig.proofs.ComposedLemmas.{both, args_fit, kwargs_fit}
 use Rattle.canvas_sig.proofs.RoundTrip.{args_back, args_kinds, args_numbers, kwargs_back, kwargs_kinds, kwargs_numbers, list_or_null, link_ok, as_items}
-use Rattle.canvas_rewrite.specs.Frozen.{in_group}
+use Rattle.canvas_semantics.specs.Line.{in_group}
 use Rattle.canvas_rewrite.specs.FrozenView.{p_tasks_of, p_lines_of, p_steps}
-use Rattle.canvas_rewrite.specs.Placed.{PTask, p_task, PTasks, no_p_tasks, and_p_task, PPlace, p_nowhere, p_group, p_chord, PLine, p_stop, p_step, p_group_end, p_chord_end, PLines, no_p_lines, and_p_line, strip}
+use Rattle.canvas_semantics.specs.PlacedLine.{PTask, p_task, PTasks, no_p_tasks, and_p_task, PPlace, p_nowhere, p_group, p_chord, PLine, p_stop, p_step, p_group_end, p_chord_end, PLines, no_p_lines, and_p_line, strip}
 use Rattle.canvas_message.specs.Fits.{is_number, size_ok, is_less, is_below, ascends, call_ok, task_ok, tasks_ok, place_ok, line_ok, members_ok, how_many, task_reach, tasks_reach, place_reach, line_reach, greatest_reach, members_reach}
 use Rattle.canvas_message.specs.FrozenReading.{known, task_of, group_of, size_reading, but_a_place, call_reading, place_with, task_with, task_as, group_with, chord_with, step_as, last_as, elements_with, link_reading, step_reading, last_reading, line_reading}
 use Rattle.canvas_message.specs.Wire.{task_id, group_id, place_id, member_unless_null, frozen, task_options, call_wire, chain_wire, group_wire, chord_wire, task_wire, tasks_wire, carried_wire, line_wire, elements_wire, members_wire}

@@ -5,9 +5,9 @@ use Rattle.canvas_task.specs.declared.outcome.Fault.{Fault}
 use Rattle.canvas_task.specs.declared.outcome.Fault.TheVariants as fault
 use Rattle.canvas_task.specs.declared.outcome.Outcome.TheVariants.{Failure}
 use Rattle.canvas_sig.proofs.ComposedLemmas.{both}
-use Rattle.canvas_rewrite.specs.Eval.{why_of}
-use Rattle.canvas_rewrite.specs.Frozen.{in_group}
-use Rattle.canvas_rewrite.specs.Placed.{PTask, p_task, PLine, p_stop, p_step, p_group_end, p_chord_end, PLines, no_p_lines, and_p_line, strip}
+use Rattle.canvas_semantics.specs.Evaluation.{why_of}
+use Rattle.canvas_semantics.specs.Line.{in_group}
+use Rattle.canvas_semantics.specs.PlacedLine.{PTask, p_task, PLine, p_stop, p_step, p_group_end, p_chord_end, PLines, no_p_lines, and_p_line, strip}
 use Rattle.canvas_rewrite.specs.FrozenView.{p_tasks_of, p_steps, p_lines_of, p_task_view, p_line_view, p_end_view}
 use Rattle.canvas_rewrite.specs.declared.frozen.FrozenTask.{FrozenTask, out-FrozenTask}
 use Rattle.canvas_rewrite.specs.declared.frozen.FrozenLine.{FrozenLine, out-FrozenLine}

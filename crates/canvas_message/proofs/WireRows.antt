@@ -7,8 +7,8 @@ use Rattle.serde_json.proofs.OnLiterals.{serde_json_on_literals}
 use Rattle.uuid.specs.Text.{by_index}
 use Rattle.canvas_task.specs.declared.arg.Arg.{Arg}
 use Rattle.canvas_task.specs.declared.arg.Arg.TheVariants as arg
-use Rattle.canvas_sig.specs.Tree.{Call}
-use Rattle.canvas_rewrite.specs.Placed.{PTask, p_task, PTasks, no_p_tasks, and_p_task, PPlace, p_nowhere, p_chord, PLine, p_stop, p_step}
+use Rattle.canvas_semantics.specs.Tree.{Call}
+use Rattle.canvas_semantics.specs.PlacedLine.{PTask, p_task, PTasks, no_p_tasks, and_p_task, PPlace, p_nowhere, p_chord, PLine, p_stop, p_step}
 use Rattle.canvas_message.specs.Content.{Content}
 use Rattle.canvas_message.specs.Wire.{properties_wire, headers_wire, body_wire}
 

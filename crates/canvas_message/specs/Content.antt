@@ -1,8 +1,8 @@
 -- What a message says, as data (Celery task message protocol, version 2).
 use Rattle.std.specs.Prelude.{ℕ, Bool, false, List, Option, Some, None}
 use Rattle.canvas_task.specs.declared.arg.Arg.{Arg}
-use Rattle.canvas_sig.specs.Tree.{Call}
-use Rattle.canvas_rewrite.specs.Placed.{PTask, p_task, PTasks, PPlace, PLine, p_step}
+use Rattle.canvas_semantics.specs.Tree.{Call}
+use Rattle.canvas_semantics.specs.PlacedLine.{PTask, p_task, PTasks, PPlace, PLine, p_step}
 
 -- The task that is called, with its links, its error callbacks and the place that its message names; what follows it on its
 -- line; and the task whose end published the message.

@@ -9,7 +9,7 @@ use Rattle.canvas_sig.specs.Reading.{number_of, argument_of, primitive_of}
 use Rattle.canvas_sig.specs.declared.primitive.Primitive.{Primitive}
 use Rattle.canvas_sig.specs.declared.primitive.Primitive.TheVariants as kind
 use Rattle.canvas_rewrite.specs.FrozenView.{p_tasks_of, p_lines_of}
-use Rattle.canvas_rewrite.specs.Placed.{PTask, p_task, no_p_tasks, PPlace, p_nowhere, p_group, p_chord, PLine, p_stop, p_step, p_group_end, p_chord_end}
+use Rattle.canvas_semantics.specs.PlacedLine.{PTask, p_task, no_p_tasks, PPlace, p_nowhere, p_group, p_chord, PLine, p_stop, p_step, p_group_end, p_chord_end}
 use Rattle.canvas_message.specs.Content.{Content}
 use Rattle.canvas_message.specs.FrozenReading.{task_of, group_of, is_chain, levels}
 

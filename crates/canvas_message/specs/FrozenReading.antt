@@ -6,13 +6,13 @@ use Rattle.serde_json.specs.Read.{max_depth}
 use Rattle.canvas_task.specs.Identifiers.{task_named, group_named}
 use Rattle.canvas_sig.specs.Fields.{field, subtype, args, kwargs, option, tasks, header, body, link, link_error, listed, as_list, members, text_of, is_null, is_list, is_true}
 use Rattle.canvas_sig.specs.Reading.{◌>>=◌, ◌or_else◌, fault_if, unless, each, arg_reading, named_reading, is_text, primitive_of, own_fault}
-use Rattle.canvas_sig.specs.Tree.{Call}
+use Rattle.canvas_semantics.specs.Tree.{Call}
 use Rattle.canvas_sig.specs.declared.fault.SigFault.{SigFault}
 use Rattle.canvas_sig.specs.declared.fault.SigFault.TheVariants.{NotSignature, BadArgs, OnCanvas, Frozen, TooDeep, TooMany}
 use Rattle.canvas_sig.specs.declared.primitive.Primitive.{Primitive}
 use Rattle.canvas_sig.specs.declared.primitive.Primitive.TheVariants as kind
 use Rattle.canvas_rewrite.specs.FrozenView.{Load, p_tasks_of, p_lines_of}
-use Rattle.canvas_rewrite.specs.Placed.{PTask, p_task, PPlace, p_nowhere, p_group, p_chord, PLine, p_stop, p_step, p_group_end, p_chord_end}
+use Rattle.canvas_semantics.specs.PlacedLine.{PTask, p_task, PPlace, p_nowhere, p_group, p_chord, PLine, p_stop, p_step, p_group_end, p_chord_end}
 use Rattle.canvas_message.specs.Fits.{size_ok}
 
 -- ---- identifiers and sizes

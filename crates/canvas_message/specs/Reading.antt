@@ -10,7 +10,7 @@ use Rattle.canvas_sig.specs.Reading.{◌>>=◌, fault_if, unless, each, arg_read
 use Rattle.canvas_sig.specs.declared.fault.SigFault.{SigFault}
 use Rattle.canvas_sig.specs.declared.fault.SigFault.TheVariants.{BadArgs}
 use Rattle.canvas_rewrite.specs.FrozenView.{p_tasks_of, p_steps}
-use Rattle.canvas_rewrite.specs.Placed.{PTask, p_task, PPlace, PLine, p_stop}
+use Rattle.canvas_semantics.specs.PlacedLine.{PTask, p_task, PPlace, PLine, p_stop}
 use Rattle.canvas_message.specs.Content.{Content}
 use Rattle.canvas_message.specs.Fits.{fits}
 use Rattle.canvas_message.specs.FrozenReading.{task_of, group_of, place_with, link_reading, step_reading, last_reading, line_reading, levels}

@@ -6,10 +6,10 @@ use Rattle.canvas_task.specs.declared.outcome.Fault.{Fault}
 use Rattle.canvas_task.specs.declared.outcome.Fault.TheVariants as fault
 use Rattle.canvas_task.specs.declared.outcome.Outcome.{Outcome}
 use Rattle.canvas_task.specs.declared.outcome.Outcome.TheVariants.{Success, Failure}
-use Rattle.canvas_rewrite.specs.Eval.{why_of}
+use Rattle.canvas_semantics.specs.Evaluation.{why_of}
 use Rattle.canvas_rewrite.specs.declared.frozen.FrozenEnd.{FrozenEnd}
 use Rattle.canvas_rewrite.specs.FrozenView.{p_end_view}
-use Rattle.canvas_rewrite.specs.Placed.{PTask, PTasks, PPlace, p_nowhere, p_group, p_chord, PLine, p_stop, p_step, p_group_end, p_chord_end}
+use Rattle.canvas_semantics.specs.PlacedLine.{PTask, PTasks, PPlace, p_nowhere, p_group, p_chord, PLine, p_stop, p_step, p_group_end, p_chord_end}
 use Rattle.canvas_message.specs.Content.{Content, number_of}
 use Rattle.canvas_message.specs.Effects.{message, enter, stores_in, messages_in, part_in, part_of, Part}
 use Rattle.canvas_message.specs.Fits.{how_many}

@@ -1,14 +1,14 @@
 -- A line as a signature means what the line means.
 use Rattle.std.proofs.Common.{◌≡◌, ◌∙◌, ℕ, ◌+◌, ◌++◌, List, [], ◌∷◌, map, Option, Some, None, Box, Global, refl, sym, ap, subst, arith, rules}
-use Rattle.canvas_sig.specs.Tree.{Task, task, Tree, one, chain, group, chord, Trees, no_trees, and_tree, ends_in_group, last_in_group, count, count_all, count_groups, count_all_groups, number, number_all, numbered, number_task}
+use Rattle.canvas_semantics.specs.Tree.{Task, task, Tree, one, chain, group, chord, Trees, no_trees, and_tree, ends_in_group, last_in_group, count, count_all, count_groups, count_all_groups, number, number_all, numbered, number_task}
 use Rattle.canvas_sig.specs.View.{view, task_view, trees_of}
 use Rattle.canvas_sig.specs.declared.task_sig.TaskSig.{TaskSig}
-use Rattle.canvas_rewrite.specs.Compact.{whole, compact, compact_elements, compact_members}
-use Rattle.canvas_rewrite.specs.Eval.{Flow, Rows, Meaning, ends, last_ends, all_ends, behind, and_then, group_value, with_states, as_group, eval, eval_chain, member_rows}
-use Rattle.canvas_rewrite.specs.Frozen.{Line, stop, step, group_end, chord_end, Lines, no_lines, and_line, elements_of, members_of, tree_of, number_line, number_lines, count_line, count_lines, line_groups, lines_groups}
-use Rattle.canvas_rewrite.specs.Same.{IsSame}
-use Rattle.canvas_rewrite.proofs.Law.{and_then_nothing}
-use Rattle.canvas_rewrite.proofs.Numbered.{tree_numbered}
+use Rattle.canvas_semantics.specs.Compact.{whole, compact, compact_elements, compact_members}
+use Rattle.canvas_semantics.specs.Evaluation.{Flow, Rows, Meaning, ends, last_ends, all_ends, behind, and_then, group_value, with_states, as_group, eval, eval_chain, member_rows}
+use Rattle.canvas_semantics.specs.Line.{Line, stop, step, group_end, chord_end, Lines, no_lines, and_line, elements_of, members_of, tree_of, number_line, number_lines, count_line, count_lines, line_groups, lines_groups}
+use Rattle.canvas_semantics.specs.SameMeaning.{IsSame}
+use Rattle.canvas_semantics.proofs.NormalLaw.{and_then_nothing}
+use Rattle.canvas_semantics.proofs.Numbered.{tree_numbered}
 
 -- ---- one element, or a chain
 

@@ -2,10 +2,10 @@
 use Rattle.std.proofs.Common.{◌≡◌, ◌∙◌, ℕ, ◌+◌, List, map, Option, Some, None, Box, Global, refl, sym, ap}
 use Rattle.canvas_sig.specs.View.{task_view}
 use Rattle.canvas_sig.specs.declared.task_sig.TaskSig.{TaskSig}
-use Rattle.canvas_rewrite.specs.Frozen.{number_line}
-use Rattle.canvas_rewrite.specs.Placed.{PLine, p_stop, p_group_end, p_chord_end, bare}
+use Rattle.canvas_semantics.specs.Line.{number_line}
+use Rattle.canvas_semantics.specs.PlacedLine.{PLine, p_stop, p_group_end, p_chord_end, bare}
 use Rattle.canvas_rewrite.specs.FrozenView.{line_of, end_of, p_steps, p_lines_of, p_task_view, p_line_view, p_end_view}
-use Rattle.canvas_rewrite.specs.Numbering.{tasks_from, tasks_in, lines_from, lines_count, lines_teams}
+use Rattle.canvas_semantics.specs.Numbering.{tasks_from, tasks_in, lines_from, lines_count, lines_teams}
 use Rattle.canvas_rewrite.specs.declared.line.Line as line
 use Rattle.canvas_rewrite.specs.declared.line.Line.{out-Line}
 use Rattle.canvas_rewrite.specs.declared.line.LineEnd.{LineEnd, out-LineEnd}

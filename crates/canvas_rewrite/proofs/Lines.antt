@@ -2,11 +2,11 @@
 use Rattle.std.proofs.Common.{◌≡◌, ℕ, suc, arith, ◌==◌, ◌↔◌, List, [], ◌∷◌, map, length, Bool, true, false, Option, Some, None, is_some, Box, Global, true≢false, rules, IsTrue, Result, Ok, Err, IfOk, refl, ap, sym, subst, ◌∙◌}
 use Rattle.std.specs.Option.{option_map}
 use Rattle.std.proofs.lemmas.Bool.Decides.{nat_tests}
-use Rattle.canvas_sig.specs.Tree.{Tree, one, chain, group, chord, Trees, no_trees, and_tree}
+use Rattle.canvas_semantics.specs.Tree.{Tree, one, chain, group, chord, Trees, no_trees, and_tree}
 use Rattle.canvas_sig.specs.View.{view, trees_of}
 use Rattle.canvas_sig.specs.declared.node.Node.{Node, Group, Chord}
 use Rattle.canvas_sig.proofs.Views.{view-Group, view-Chord}
-use Rattle.canvas_sig.specs.Normal.{onto, group_onto, normal_all}
+use Rattle.canvas_semantics.specs.NormalLine.{onto, group_onto, normal_all}
 use Rattle.canvas_rewrite.specs.View.{elements, line_view, chains, group_or_chord}
 use Rattle.canvas_rewrite.specs.declared.line.Line as line
 use Rattle.canvas_rewrite.specs.declared.line.Line.{Line, out-Line, roll-Line}
@@ -14,8 +14,8 @@ use Rattle.canvas_rewrite.specs.Growing.{growing}
 use Rattle.canvas_rewrite.specs.declared.growing.Growing.{Growing}
 use Rattle.canvas_rewrite.specs.declared.line.LineEnd.{LineEnd, out-LineEnd, roll-LineEnd}
 use Rattle.canvas_sig.specs.View.{task_view}
-use Rattle.canvas_rewrite.specs.Frozen as Frozen
-use Rattle.canvas_rewrite.specs.Frozen.{stop, elements_of, members_of}
+use Rattle.canvas_semantics.specs.Line as Frozen
+use Rattle.canvas_semantics.specs.Line.{stop, elements_of, members_of}
 use Rattle.canvas_rewrite.specs.FrozenView.{steps, end_of, line_of, lines_of}
 use Rattle.canvas_rewrite.proofs.FrozenViews.{line_none, line_some, end_none, end_some}
 use Rattle.canvas_sig.specs.declared.task_sig.TaskSig.{TaskSig}

@@ -1,10 +1,10 @@
 -- The tasks of a plan's line, with their numbers, are its names counted from 1.
 use Rattle.std.proofs.Common.{◌≡◌, ◌∙◌, ℕ, ◌+◌, List, [], ◌∷◌, ◌++◌, length, length-append, append-nil, refl, sym, ap, arith}
-use Rattle.canvas_sig.specs.Tree.{Task, task, Tasks, no_tasks, and_task, Tree, count_task, count_tasks, number_task, number_tasks}
-use Rattle.canvas_rewrite.specs.Frozen.{Line, stop, step, group_end, chord_end, Lines, no_lines, and_line, elements_of, members_of, tree_of, count_line, count_lines, line_groups, lines_groups, number_line, number_lines, task_names, tasks_names}
-use Rattle.canvas_rewrite.specs.Frozen as Frozen
+use Rattle.canvas_semantics.specs.Tree.{Task, task, Tasks, no_tasks, and_task, Tree, count_task, count_tasks, number_task, number_tasks}
+use Rattle.canvas_semantics.specs.Line.{Line, stop, step, group_end, chord_end, Lines, no_lines, and_line, elements_of, members_of, tree_of, count_line, count_lines, line_groups, lines_groups, number_line, number_lines, task_names, tasks_names}
+use Rattle.canvas_semantics.specs.Line as Frozen
 use Rattle.canvas_rewrite.specs.Planned.{IsPlan}
-use Rattle.canvas_rewrite.specs.Report.{Text, names_of_task, names_of_tasks, names, all_names, counted_from}
+use Rattle.canvas_semantics.specs.Report.{Text, names_of_task, names_of_tasks, names, all_names, counted_from}
 
 counted_both : (k : ℕ) (xs ys : List Text) → counted_from k (xs ++ ys) ≡ counted_from k xs ++ counted_from (k + length xs) ys
 counted_both k [] ys = ap (λ n. counted_from n ys) (omega arith)

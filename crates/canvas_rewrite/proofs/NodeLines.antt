@@ -1,14 +1,14 @@
 -- A line as a signature, by its parts.
 use Rattle.std.proofs.Common.{◌≡◌, ◌≢◌, ◌∙◌, ◌++◌, ℕ, List, [], ◌∷◌, map, length, Option, Some, None, Box, Global, refl, sym, ap, arith, append-nil}
 use Rattle.std.proofs.lemmas.List.{map-append}
-use Rattle.canvas_sig.specs.Tree.{Tree, one, chain, group, chord, Trees, no_trees, and_tree}
+use Rattle.canvas_semantics.specs.Tree.{Tree, one, chain, group, chord, Trees, no_trees, and_tree}
 use Rattle.canvas_sig.specs.View.{view, task_view, trees_of}
 use Rattle.canvas_sig.specs.declared.node.Node.{Node, Chain, Group, Chord}
 use Rattle.canvas_sig.specs.declared.task_sig.TaskSig.{TaskSig}
 use Rattle.canvas_sig.proofs.Views.{view-Chain, view-Group, view-Chord}
-use Rattle.canvas_rewrite.specs.Compact.{whole, compact, compact_elements, compact_members}
-use Rattle.canvas_rewrite.specs.Frozen as Frozen
-use Rattle.canvas_rewrite.specs.Frozen.{stop}
+use Rattle.canvas_semantics.specs.Compact.{whole, compact, compact_elements, compact_members}
+use Rattle.canvas_semantics.specs.Line as Frozen
+use Rattle.canvas_semantics.specs.Line.{stop}
 use Rattle.canvas_rewrite.specs.FrozenView.{steps, lines_of, line_of, end_of}
 use Rattle.canvas_rewrite.specs.declared.line.Line.{Line, out-Line}
 use Rattle.canvas_rewrite.specs.declared.line.LineEnd.{LineEnd, out-LineEnd}

@@ -3,17 +3,18 @@ use Rattle.std.proofs.Common.{◌≡◌, ◌≤◌, ◌∙◌, ◌+◌, ◌||◌
 use Rattle.std.proofs.lemmas.Bool.{or_parts, or_from, ltb-false, cases_Bool}
 use Rattle.canvas_sig.specs.declared.fault.SigFault.{SigFault}
 use Rattle.canvas_sig.specs.declared.fault.SigFault.TheVariants.{NestedGroup, TooDeep, TooMany}
-use Rattle.canvas_sig.specs.Tree.{Task, task, Tasks, no_tasks, and_task, Tree, one, chain, group, chord, Trees, no_trees, and_tree, IsFull, AreFull, ends_in_group, last_in_group, count, count_all, count_task, count_tasks, count_groups, count_all_groups, number, number_all, number_task, number_tasks, numbered}
-use Rattle.canvas_sig.specs.Limits.{nests_group, some_nests_group, some_ends_in_group, is_too_deep, is_too_many, tree_fault, most_tasks, most_groups, most_nesting, most_reach}
-use Rattle.canvas_sig.specs.Nesting.{nesting}
-use Rattle.canvas_sig.specs.Normal.{onto, all_onto, normal_all, normal}
-use Rattle.canvas_sig.specs.Reach.{reach, line_reach, members_reach, task_reach, tasks_reach}
+use Rattle.canvas_semantics.specs.Tree.{Task, task, Tasks, no_tasks, and_task, Tree, one, chain, group, chord, Trees, no_trees, and_tree, IsFull, AreFull, ends_in_group, last_in_group, count, count_all, count_task, count_tasks, count_groups, count_all_groups, number, number_all, number_task, number_tasks, numbered}
+use Rattle.canvas_semantics.specs.Bounds.{nests_group, some_nests_group, some_ends_in_group, is_too_deep, is_too_many, most_tasks, most_groups, most_nesting, most_reach}
+use Rattle.canvas_sig.specs.Limits.{tree_fault}
+use Rattle.canvas_semantics.specs.Nesting.{nesting}
+use Rattle.canvas_semantics.specs.NormalLine.{onto, all_onto, normal_all, normal}
+use Rattle.canvas_semantics.specs.Reach.{reach, line_reach, members_reach, task_reach, tasks_reach}
 use Rattle.canvas_sig.specs.Writable.{IsCanvas}
 use Rattle.canvas_sig.proofs.Fits.{call_fine, TaskFits, TasksFit, TreeFits, TreesFit, canvas_fits, canvas_within}
-use Rattle.canvas_rewrite.specs.Same.{IsSame}
+use Rattle.canvas_semantics.specs.SameMeaning.{IsSame}
 use Rattle.canvas_rewrite.specs.Runnable.{TaskSound, TasksSound, IsSound, AreSound, IsRunnable}
-use Rattle.canvas_sig.proofs.NormalEnds.{in_group_onto}
-use Rattle.canvas_rewrite.proofs.Numbers.{count_normal_tree, groups_normal_tree, full_number, same}
+use Rattle.canvas_semantics.proofs.NormalEnds.{in_group_onto}
+use Rattle.canvas_semantics.proofs.NumberLemmas.{count_normal_tree, groups_normal_tree, full_number, same}
 
 -- ---- no chain of a normal line is empty
 

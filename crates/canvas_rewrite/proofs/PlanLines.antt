@@ -1,11 +1,11 @@
 -- A frozen line without its places, by its parts; its ends and its groups.
 use Rattle.std.proofs.Common.{◌≡◌, ◌∙◌, ℕ, List, [], ◌∷◌, ◌++◌, map, Option, Some, None, Box, Global, refl, sym, ap, rules, append_assoc, true, false, Result, OnOk, subst, slice_get, length, ◌-◌, Bool, arith}
 use Rattle.std.proofs.lemmas.List.{map-append}
-use Rattle.canvas_sig.specs.Tree.{Task}
-use Rattle.canvas_rewrite.specs.Frozen.{Line, stop, step, group_end, chord_end, Lines, and_line, no_of, ends_of, all_ends_of, teams, all_teams, Team}
-use Rattle.canvas_rewrite.specs.Placed.{PTask, PPlace, PLine, p_stop, p_group_end, p_chord_end, strip, strip_all, strip_task}
+use Rattle.canvas_semantics.specs.Tree.{Task}
+use Rattle.canvas_semantics.specs.Line.{Line, stop, step, group_end, chord_end, Lines, and_line, no_of, ends_of, all_ends_of, teams, all_teams, Team}
+use Rattle.canvas_semantics.specs.PlacedLine.{PTask, PPlace, PLine, p_stop, p_group_end, p_chord_end, strip, strip_all, strip_task}
 use Rattle.canvas_rewrite.specs.FrozenView.{steps, lines_of, p_steps, p_lines_of, p_task_view, p_line_view, p_end_view, task_in, line_in, end_in, Load, carried_step, p_end_step, p_line_step, p_task_step, place_step}
-use Rattle.canvas_rewrite.specs.Numbering.{lines_ends, lines_all_teams}
+use Rattle.canvas_semantics.specs.Numbering.{lines_ends, lines_all_teams}
 use Rattle.canvas_rewrite.specs.Teams.{team}
 use Rattle.canvas_rewrite.specs.declared.groups.Group.{Group}
 use Rattle.canvas_rewrite.specs.declared.frozen.Carried as block

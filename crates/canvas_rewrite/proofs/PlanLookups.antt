@@ -3,7 +3,7 @@ use Rattle.std.proofs.Common.{◌≡◌, ◌<◌, ◌≤◌, ◌-◌, ◌∙◌,
 use Rattle.std.proofs.lemmas.Option.{slice_get_read, slice_get_past, slice_get-map}
 use Rattle.std.specs.List.{HoldsAt}
 use Rattle.std.specs.Option.{option_map}
-use Rattle.canvas_rewrite.specs.Frozen.{Team, team_at}
+use Rattle.canvas_semantics.specs.Line.{Team, team_at}
 use Rattle.canvas_rewrite.specs.Teams.{team}
 use Rattle.canvas_rewrite.specs.declared.groups.Group.{Group}
 

@@ -1,7 +1,7 @@
 -- What a plan keeps beside its line: all of it is said by the line.
 use Rattle.std.specs.Prelude.{◌≡◌, ℕ, Bool, List, map}
-use Rattle.canvas_rewrite.specs.Frozen.{count_line, line_groups, teams, ends_of, in_group, names}
-use Rattle.canvas_rewrite.specs.Placed.{bare}
+use Rattle.canvas_semantics.specs.Line.{count_line, line_groups, teams, ends_of, in_group, names}
+use Rattle.canvas_semantics.specs.PlacedLine.{bare}
 use Rattle.canvas_rewrite.specs.FrozenView.{p_line_view, line_in}
 use Rattle.canvas_rewrite.specs.Planned.{IsPlan}
 use Rattle.canvas_rewrite.specs.Teams.{team}

@@ -1,5 +1,5 @@
 -- A group as a plan keeps it.
-use Rattle.canvas_rewrite.specs.Frozen.{Team}
+use Rattle.canvas_semantics.specs.Line.{Team}
 use Rattle.canvas_rewrite.specs.declared.groups.Group.{Group}
 
 abbrev pub team : Group → Team

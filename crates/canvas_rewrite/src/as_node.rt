@@ -1,10 +1,10 @@
 //! A line as a signature.
 ghost use Rattle.std.specs.Prelude.{◌≡◌, ◌++◌, IfOk, map};
-ghost use Rattle.canvas_sig.specs.Tree.{one, no_trees, and_tree};
+ghost use Rattle.canvas_semantics.specs.Tree.{one, no_trees, and_tree};
 ghost use Rattle.canvas_sig.specs.View.{view, task_view, trees_of};
-ghost use Rattle.canvas_rewrite.specs.Compact.{whole, compact, compact_elements};
+ghost use Rattle.canvas_semantics.specs.Compact.{whole, compact, compact_elements};
 ghost use Rattle.canvas_rewrite.specs.FrozenView.{line_of, end_of};
-ghost use Rattle.canvas_rewrite.specs.Same.{IsSame};
+ghost use Rattle.canvas_semantics.specs.SameMeaning.{IsSame};
 ghost use Rattle.canvas_rewrite.specs.View.{line_view};
 
 use crate::{Line, LineEnd};

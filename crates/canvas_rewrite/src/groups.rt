@@ -1,8 +1,8 @@
 // What a plan keeps beside its line.
 ghost use Rattle.std.specs.Prelude.{◌≡◌, ◌++◌, IfOk, map, OnOk};
-ghost use Rattle.canvas_rewrite.specs.Frozen.{ends_of, teams, in_group};
+ghost use Rattle.canvas_semantics.specs.Line.{ends_of, teams, in_group};
 ghost use Rattle.canvas_rewrite.specs.FrozenView.{line_in, end_in};
-ghost use Rattle.canvas_rewrite.specs.Numbering.{lines_ends, lines_all_teams};
+ghost use Rattle.canvas_semantics.specs.Numbering.{lines_ends, lines_all_teams};
 ghost use Rattle.canvas_rewrite.specs.Teams.{team};
 
 use crate::{FrozenEnd, FrozenLine};

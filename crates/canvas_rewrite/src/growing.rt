@@ -1,7 +1,7 @@
 //! A line that grows at its front.
 ghost use Rattle.std.specs.Prelude.{◌≡◌, IfOk, OnOk, map, ◌↔◌, IsTrue};
 ghost use Rattle.std.specs.Option.{option_map};
-ghost use Rattle.canvas_sig.specs.Tree.{no_trees, and_tree, one};
+ghost use Rattle.canvas_semantics.specs.Tree.{no_trees, and_tree, one};
 ghost use Rattle.canvas_sig.specs.View.{task_view};
 ghost use Rattle.canvas_rewrite.specs.View.{elements, group_or_chord};
 ghost use Rattle.canvas_rewrite.specs.Growing.{growing};

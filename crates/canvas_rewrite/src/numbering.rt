@@ -1,11 +1,11 @@
 // Numbers in file order.
 ghost use Rattle.std.specs.Prelude.{◌≡◌, ◌≤◌, ◌+◌, IfOk, map};
-ghost use Rattle.canvas_sig.specs.Tree.{count_task, number_task};
+ghost use Rattle.canvas_semantics.specs.Tree.{count_task, number_task};
 ghost use Rattle.canvas_sig.specs.View.{task_view};
-ghost use Rattle.canvas_rewrite.specs.Frozen.{count_line, line_groups, number_line};
-ghost use Rattle.canvas_rewrite.specs.Placed.{bare, bare_task};
+ghost use Rattle.canvas_semantics.specs.Line.{count_line, line_groups, number_line};
+ghost use Rattle.canvas_semantics.specs.PlacedLine.{bare, bare_task};
 ghost use Rattle.canvas_rewrite.specs.FrozenView.{line_of, end_of, p_task_view, p_line_view, p_end_view};
-ghost use Rattle.canvas_rewrite.specs.Numbering.{most, tasks_from, tasks_in, lines_from, lines_count, lines_teams, HasRoom};
+ghost use Rattle.canvas_semantics.specs.Numbering.{most, tasks_from, tasks_in, lines_from, lines_count, lines_teams, HasRoom};
 
 use crate::{FrozenEnd, FrozenLine, FrozenTask, Line, LineEnd};
 use canvas_sig::TaskSig;

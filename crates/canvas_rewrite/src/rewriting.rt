@@ -1,13 +1,13 @@
 //! The normal line of a canvas.
 ghost use Rattle.std.specs.Prelude.{◌≡◌, IfOk, map};
 ghost use Rattle.std.specs.Option.{option_map};
-ghost use Rattle.canvas_sig.specs.Tree.{no_trees, and_tree, one};
+ghost use Rattle.canvas_semantics.specs.Tree.{no_trees, and_tree, one};
 ghost use Rattle.canvas_sig.specs.View.{view, trees_of};
 ghost use Rattle.canvas_rewrite.specs.View.{elements, line_view, chains};
 ghost use Rattle.canvas_rewrite.specs.Growing.{growing};
 ghost use Rattle.canvas_rewrite.specs.Runnable.{IsRunnable};
-ghost use Rattle.canvas_rewrite.specs.Same.{IsSame};
-ghost use Rattle.canvas_sig.specs.Normal.{onto, group_onto, all_onto, normal, normal_all};
+ghost use Rattle.canvas_semantics.specs.SameMeaning.{IsSame};
+ghost use Rattle.canvas_semantics.specs.NormalLine.{onto, group_onto, all_onto, normal, normal_all};
 
 use crate::Line;
 use crate::growing::Growing;

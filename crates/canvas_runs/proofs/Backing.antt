@@ -3,14 +3,14 @@ use Rattle.std.proofs.Common.{⊎_elim, ◌≡◌, ◌⊎◌, ℕ, Bool, true, f
 use Rattle.canvas_message.specs.Events.{In}
 use Rattle.canvas_message.specs.Job.{store, publish, hand_in}
 use Rattle.canvas_message.specs.Flowing.{Input, number, numbers, ident, Flow, run, skip, raise}
-use Rattle.canvas_rewrite.specs.Frozen.{Line, stop, step, group_end, chord_end, Lines, no_lines, and_line, no_of}
-use Rattle.canvas_sig.specs.Tree.{Tasks, no_tasks, and_task}
+use Rattle.canvas_semantics.specs.Line.{Line, stop, step, group_end, chord_end, Lines, no_lines, and_line, no_of}
+use Rattle.canvas_semantics.specs.Tree.{Tasks, no_tasks, and_task}
 use Rattle.canvas_task.specs.declared.outcome.Outcome.{Outcome}
 use Rattle.canvas_task.specs.declared.outcome.Outcome.TheVariants.{Success, Failure}
-use Rattle.canvas_runs.proofs.Frozen.{Place, nowhere, in_group, in_chord, Carried, carried, errbacks_of, Message, header}
+use Rattle.canvas_runs.proofs.Messages.{Place, nowhere, in_group, in_chord, Carried, carried, errbacks_of, Message, header}
 use Rattle.canvas_message.specs.Flowing.{after_outcome}
 use Rattle.canvas_runs.proofs.Effects.{Jobs, at_stop, members_place, callbacks, called, enter, enter_all, when_empty, after, body_after, by_kind, picked, only_store, only_publish, only_part, header_fault}
-use Rattle.canvas_rewrite.specs.FileOrder.{EndsInTask}
+use Rattle.canvas_semantics.specs.FileOrder.{EndsInTask}
 use Rattle.canvas_runs.proofs.FileOrder.{LineIn, LinesIn, Lands, Formed, FormedPart}
 use Rattle.canvas_runs.proofs.Words.{in_right}
 use Rattle.canvas_runs.proofs.Trees.{AJob}

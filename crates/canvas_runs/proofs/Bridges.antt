@@ -4,9 +4,9 @@ use Rattle.std.specs.Prelude.{◌==◌, ◌≢◌, if◌then◌else◌, count_by
 use Rattle.std.proofs.lemmas.Bool.{eqb-true, eqb-false, eq-eqb, ne_eqb, cases_Bool}
 use Rattle.std.proofs.lemmas.List.Sums.{sum_by-cons}
 use Rattle.canvas_task.specs.declared.outcome.Outcome.{Outcome}
-use Rattle.canvas_task.specs.History.{Entry, split, join, calls, LegalFrom, state_of, state_from, state_after}
-use Rattle.canvas_task.proofs.Histories.{state_append}
-use Rattle.canvas_rewrite.specs.Frozen.{Line, members}
+use Rattle.canvas_history.specs.History.{Entry, split, join, calls, LegalFrom, state_of, state_from, state_after}
+use Rattle.canvas_history.proofs.Histories.{state_append}
+use Rattle.canvas_semantics.specs.Line.{Line, members}
 use Rattle.canvas_rewrite.specs.Planned.{Apart, times}
 use Rattle.canvas_message.specs.Events.{In}
 use Rattle.canvas_backend.specs.declared.stored.Stored.{Stored}

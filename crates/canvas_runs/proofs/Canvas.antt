@@ -9,16 +9,16 @@ use Rattle.canvas_runs.proofs.Meaning.{Form, After, Beyond, Ordered, Evaluates, 
 use Rattle.canvas_message.specs.Flowing.{nothing, number, numbers, ident, Flow, run, skip, raise}
 use Rattle.canvas_task.specs.declared.outcome.Outcome.{Outcome}
 use Rattle.canvas_task.specs.declared.outcome.Outcome.TheVariants.{Success, Failure}
-use Rattle.canvas_runs.proofs.Frozen.{nowhere, in_chord, Carried, carried, Message, header, joined_number}
+use Rattle.canvas_runs.proofs.Messages.{nowhere, in_chord, Carried, carried, Message, header, joined_number}
 use Rattle.canvas_message.specs.Flowing.{after_outcome}
 use Rattle.canvas_runs.proofs.Effects.{Jobs, callbacks, called, enter, after, body_after, outcome_of, by_kind}
 use Rattle.canvas_runs.proofs.Evaluation.{evaluated, DoesIn}
-use Rattle.canvas_rewrite.specs.FileOrder.{TasksIn}
+use Rattle.canvas_semantics.specs.FileOrder.{TasksIn}
 use Rattle.canvas_runs.proofs.FileOrder.{LineIn, Formed, FormedPart}
 use Rattle.canvas_runs.proofs.Words.{each_append, each_weaker, in_each}
 use Rattle.canvas_runs.proofs.Trees.{AJob, AllIn, each_by_kind, enter_in, items_followed}
 use Rattle.canvas_runs.proofs.Parts.{items_parted}
-use Rattle.canvas_rewrite.specs.Frozen.{Line}
+use Rattle.canvas_semantics.specs.Line.{Line}
 use Rattle.canvas_runs.proofs.Order.{AtLeast, FlowIn, enter_after, callbacks_after, tasks_span, line_span}
 use Rattle.canvas_runs.proofs.Rising.{Rises, rises_append, rises_higher, rises_lower, rises_unique, item_key, job_key, items_rise, enter_rises, callbacks_rise, sends, rising_once, by_kind_sends, keeps_of, storing_once, by_kind_keeps}
 

@@ -6,12 +6,12 @@ use Rattle.canvas_task.specs.declared.outcome.Fault.{Fault}
 use Rattle.canvas_task.specs.declared.outcome.Fault.TheVariants as fault
 use Rattle.canvas_task.specs.declared.outcome.Outcome.{Outcome}
 use Rattle.canvas_task.specs.declared.outcome.Outcome.TheVariants.{Success, Failure}
-use Rattle.canvas_sig.specs.Tree.{Task, task, Tasks, no_tasks, and_task}
-use Rattle.canvas_rewrite.specs.Eval as eval
-use Rattle.canvas_rewrite.specs.FileOrder.{EndsInTask}
-use Rattle.canvas_rewrite.specs.Frozen.{Line, stop, step, group_end, chord_end, Lines, no_lines, and_line, no_of}
+use Rattle.canvas_semantics.specs.Tree.{Task, task, Tasks, no_tasks, and_task}
+use Rattle.canvas_semantics.specs.Evaluation as eval
+use Rattle.canvas_semantics.specs.FileOrder.{EndsInTask}
+use Rattle.canvas_semantics.specs.Line.{Line, stop, step, group_end, chord_end, Lines, no_lines, and_line, no_of}
 use Rattle.canvas_rewrite.specs.FrozenView.{Load}
-use Rattle.canvas_rewrite.specs.Placed.{PTask, p_task, PPlace, p_nowhere, p_group, p_chord, PLine, p_stop, p_step, p_group_end, p_chord_end, bare, all_bare, bare_task, bare_tasks}
+use Rattle.canvas_semantics.specs.PlacedLine.{PTask, p_task, PPlace, p_nowhere, p_group, p_chord, PLine, p_stop, p_step, p_group_end, p_chord_end, bare, all_bare, bare_task, bare_tasks}
 use Rattle.canvas_message.specs.Content.{Content, line, number_of, call_of, links_of, errbacks_of, place_of}
 use Rattle.canvas_message.specs.Effects as effects
 use Rattle.canvas_message.specs.Events as events
@@ -22,7 +22,7 @@ use Rattle.canvas_message.specs.Job.{Job, store, publish, hand_in}
 use Rattle.canvas_message.specs.Placing.{place_before, last_at, placed, end_place, last_task}
 use Rattle.canvas_runs.proofs.Effects.{Jobs, failed, header_fault, members_place, when_empty, at_stop, message, callbacks, enter, enter_all, called}
 use Rattle.canvas_runs.proofs.Evaluation.{Items, labelled, joined, header_place, body_event, result, out, outs, ran, ran_all, items, items_all}
-use Rattle.canvas_runs.proofs.Frozen.{Place, nowhere, in_group, in_chord, Carried, carried, errbacks_of as its_errbacks, lines_length, last_from, last_of, Message, header, joined_number}
+use Rattle.canvas_runs.proofs.Messages.{Place, nowhere, in_group, in_chord, Carried, carried, errbacks_of as its_errbacks, lines_length, last_from, last_of, Message, header, joined_number}
 
 -- ---- places, messages and jobs
 

@@ -6,8 +6,8 @@ use Rattle.serde_json.specs.Written.{compact_text}
 use Rattle.serde_json.proofs.OnLiterals.{serde_json_on_literals}
 use Rattle.uuid.specs.Text.{by_index}
 use Rattle.json.proofs.Printed.Utf8.{are_ascii, IsUtf8-are_ascii}
-use Rattle.canvas_task.specs.History.{Entry, split, join, calls}
-use Rattle.canvas_rewrite.specs.Frozen.{Line}
+use Rattle.canvas_history.specs.History.{Entry, split, join, calls}
+use Rattle.canvas_semantics.specs.Line.{Line}
 use Rattle.canvas_message.specs.Content.{Content}
 use Rattle.canvas_message.specs.Wire.{properties_wire, headers_wire, body_wire}
 use Rattle.canvas_message.proofs.EnvelopeBack.{envelope_back}

@@ -1,9 +1,9 @@
 -- What worker 0 reads at the end is what is held then.
 use Rattle.std.proofs.Common.{◌≡◌, List, [], ◌∷◌, ◌++◌, Option, refl, sym, ap, ◌∙◌, subst}
 use Rattle.canvas_task.specs.declared.outcome.Outcome.{Outcome}
-use Rattle.canvas_task.specs.History.{Entry, calls, live, Sole}
-use Rattle.canvas_task.proofs.Histories.{live_append, state_append, legal_right}
-use Rattle.canvas_rewrite.specs.Frozen.{Line}
+use Rattle.canvas_history.specs.History.{Entry, calls, live, Sole}
+use Rattle.canvas_history.proofs.Histories.{live_append, state_append, legal_right}
+use Rattle.canvas_semantics.specs.Line.{Line}
 use Rattle.canvas_backend.specs.Backend.{Call, Reply, no_results, reply_of, next_of, May, IsLegal, read, found, results}
 use Rattle.canvas_backend.specs.Roster.{Roster, roster_of}
 use Rattle.canvas_runs.specs.Crew.{Ran, IsHeld, first_seat}

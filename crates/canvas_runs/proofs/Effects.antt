@@ -3,14 +3,14 @@ use Rattle.std.specs.Prelude.{ℕ, suc, List, [], ◌∷◌, ◌++◌, Option, S
 use Rattle.canvas_message.specs.Job.{Job, store, publish, hand_in}
 use Rattle.canvas_task.specs.Apply.{apply}
 use Rattle.canvas_message.specs.Flowing.{Input, number, numbers, ident, Flow, run, skip, raise, given, after_outcome, parent_for}
-use Rattle.canvas_rewrite.specs.Frozen.{Line, stop, step, group_end, chord_end, Lines, no_lines, and_line, no_of}
-use Rattle.canvas_sig.specs.Tree.{Task, Tasks, no_tasks, and_task}
+use Rattle.canvas_semantics.specs.Line.{Line, stop, step, group_end, chord_end, Lines, no_lines, and_line, no_of}
+use Rattle.canvas_semantics.specs.Tree.{Task, Tasks, no_tasks, and_task}
 use Rattle.canvas_task.specs.declared.outcome.Outcome.{Outcome}
 use Rattle.canvas_task.specs.declared.outcome.Outcome.TheVariants.{Success, Failure}
 use Rattle.canvas_task.specs.declared.outcome.Fault.{Fault}
 use Rattle.canvas_task.specs.declared.outcome.Fault.TheVariants as fault
-use Rattle.canvas_rewrite.specs.Eval.{why_of}
-use Rattle.canvas_runs.proofs.Frozen.{Place, nowhere, in_group, in_chord, Carried, carried, call_of, links_of, errbacks_of, lines_length, last_of, Message, header}
+use Rattle.canvas_semantics.specs.Evaluation.{why_of}
+use Rattle.canvas_runs.proofs.Messages.{Place, nowhere, in_group, in_chord, Carried, carried, call_of, links_of, errbacks_of, lines_length, last_of, Message, header}
 
 abbrev pub Jobs : Type 0
 Jobs = List (Job Message Carried Outcome)

@@ -2,9 +2,9 @@
 use Rattle.std.proofs.Common.{ℕ, Bool, true, false, List, ◌++◌}
 use Rattle.canvas_task.specs.declared.outcome.Outcome.{Outcome}
 use Rattle.canvas_task.specs.declared.outcome.Outcome.TheVariants.{Success, Failure}
-use Rattle.canvas_sig.specs.Tree.{Task, task, Tasks, no_tasks, and_task}
-use Rattle.canvas_rewrite.specs.FileOrder.{EndsInTask}
-use Rattle.canvas_rewrite.specs.Frozen.{Line, stop, step, group_end, chord_end, Lines, no_lines, and_line, no_of}
+use Rattle.canvas_semantics.specs.Tree.{Task, task, Tasks, no_tasks, and_task}
+use Rattle.canvas_semantics.specs.FileOrder.{EndsInTask}
+use Rattle.canvas_semantics.specs.Line.{Line, stop, step, group_end, chord_end, Lines, no_lines, and_line, no_of}
 use Rattle.canvas_message.specs.Events.{Event, start, end_of, number_of, chosen, parent_of}
 use Rattle.canvas_message.specs.Flowing.{Input, nothing, ident, Flow, run, skip, raise, after_outcome}
 use Rattle.canvas_message.specs.Job.{store, publish, hand_in}
@@ -13,7 +13,7 @@ use Rattle.canvas_runs.proofs.Carrying.{EndsAt}
 use Rattle.canvas_runs.proofs.Effects.{message, outcome_of, at_stop}
 use Rattle.canvas_runs.proofs.Evaluation.{Items, labelled, joined, header_place, body_event, result, outs, ran, ran_all, items, items_all, evaluated}
 use Rattle.canvas_runs.proofs.FileOrder.{LineIn, LinesIn}
-use Rattle.canvas_runs.proofs.Frozen.{Place, nowhere, in_group, in_chord, Carried, carried, errbacks_of}
+use Rattle.canvas_runs.proofs.Messages.{Place, nowhere, in_group, in_chord, Carried, carried, errbacks_of}
 use Rattle.canvas_runs.proofs.Trees.{AJob}
 use Rattle.canvas_runs.proofs.Words.{each_append}
 

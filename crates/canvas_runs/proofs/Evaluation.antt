@@ -4,11 +4,11 @@ use Rattle.canvas_message.specs.Events.{In}
 use Rattle.canvas_message.specs.Job.{Job, store, publish}
 use Rattle.canvas_message.specs.Events.{parent_of, flow_outcome, number_of, chosen, Event, start, running, end_of, completion}
 use Rattle.canvas_message.specs.Flowing.{Input, nothing, ident, Flow, run, skip, raise}
-use Rattle.canvas_rewrite.specs.Frozen.{Line, stop, step, group_end, chord_end, Lines, no_lines, and_line, no_of}
-use Rattle.canvas_sig.specs.Tree.{Task, task, Tasks, no_tasks, and_task}
+use Rattle.canvas_semantics.specs.Line.{Line, stop, step, group_end, chord_end, Lines, no_lines, and_line, no_of}
+use Rattle.canvas_semantics.specs.Tree.{Task, task, Tasks, no_tasks, and_task}
 use Rattle.canvas_task.specs.declared.outcome.Outcome.{Outcome}
 use Rattle.canvas_task.specs.declared.outcome.Outcome.TheVariants.{Failure}
-use Rattle.canvas_runs.proofs.Frozen.{Place, nowhere, in_group, Carried, errbacks_of, last_of, Message, header}
+use Rattle.canvas_runs.proofs.Messages.{Place, nowhere, in_group, Carried, errbacks_of, last_of, Message, header}
 use Rattle.canvas_message.specs.Flowing.{after_outcome}
 use Rattle.canvas_runs.proofs.Effects.{message, outcome_of, at_stop, members_place}
 

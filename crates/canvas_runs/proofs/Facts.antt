@@ -2,10 +2,10 @@
 use Rattle.std.proofs.Common.{◌≡◌, ℕ, suc, ◌+◌, ◌≤◌, Bool, true, false, cond, eqb, List, [], ◌∷◌, ◌++◌, map, Some, None, refl, sym, ap, ap₂, subst, ◌∙◌, inl, inr, arith}
 use Rattle.std.specs.Prelude.{if◌then◌else◌, nat_lt, Ok}
 use Rattle.canvas_task.specs.declared.outcome.Outcome.{Outcome}
-use Rattle.canvas_rewrite.specs.FileOrder.{TaskIn, TasksIn, EndsInTask}
-use Rattle.canvas_rewrite.specs.FileOrder as order_of
+use Rattle.canvas_semantics.specs.FileOrder.{TaskIn, TasksIn, EndsInTask}
+use Rattle.canvas_semantics.specs.FileOrder as order_of
 use Rattle.canvas_rewrite.proofs.InOrder.{plan_in_order}
-use Rattle.canvas_rewrite.specs.Frozen.{Line, stop, step, group_end, chord_end, Lines, no_lines, and_line, no_of, count_line, members, size, ends_of, all_ends_of}
+use Rattle.canvas_semantics.specs.Line.{Line, stop, step, group_end, chord_end, Lines, no_lines, and_line, no_of, count_line, members, size, ends_of, all_ends_of}
 use Rattle.canvas_rewrite.specs.FrozenView.{Load}
 use Rattle.canvas_rewrite.specs.Planned.{IsPlan}
 use Rattle.canvas_message.specs.Content.{Content, number_of}
@@ -29,7 +29,7 @@ use Rattle.canvas_runs.proofs.Ending.{EndsJob, plan_ends}
 use Rattle.canvas_runs.proofs.Evaluation as evaluation
 use Rattle.canvas_runs.proofs.FileOrder.{LineIn, LinesIn, Formed, FormedPart}
 use Rattle.canvas_runs.proofs.Finish.{Backed, Backs}
-use Rattle.canvas_runs.proofs.Frozen.{nowhere, Carried, carried, Message, last_from, lasts, header}
+use Rattle.canvas_runs.proofs.Messages.{nowhere, Carried, carried, Message, last_from, lasts, header}
 use Rattle.canvas_runs.proofs.Knowing.{message_is}
 use Rattle.canvas_runs.proofs.Meaning.{Form, After, Beyond, Ordered, Evaluates, Once, KeptOnce, publishes, keeps, names, Has}
 use Rattle.canvas_runs.proofs.Scripts.{ended_script, completed_script, first_sent}

@@ -1,8 +1,8 @@
 -- The first part of the law, over the product's histories.
 use Rattle.std.proofs.Common.{⊎_elim, ◌≡◌, ◌⊎◌, ℕ, ◌+◌, ◌≤◌, Bool, true, [], Option, Some, None, refl, sym, subst, ◌∙◌, inl, inr, arith}
 use Rattle.canvas_task.specs.declared.outcome.Outcome.{Outcome}
-use Rattle.canvas_rewrite.specs.Eval as eval
-use Rattle.canvas_rewrite.specs.Frozen.{Line, tree_of}
+use Rattle.canvas_semantics.specs.Evaluation as eval
+use Rattle.canvas_semantics.specs.Line.{Line, tree_of}
 use Rattle.canvas_rewrite.specs.Planned.{IsPlan}
 use Rattle.canvas_rewrite.proofs.Members.{plan_apart}
 use Rattle.canvas_message.specs.Content.{Content}
@@ -25,7 +25,7 @@ use Rattle.canvas_runs.proofs.Canvas.{total-same}
 use Rattle.canvas_runs.proofs.Evaluation as evaluation
 use Rattle.canvas_runs.proofs.Facts as facts
 use Rattle.canvas_runs.proofs.Facts.{X, form, Does, order, value, once, keeping, p}
-use Rattle.canvas_runs.proofs.Frozen.{nowhere}
+use Rattle.canvas_runs.proofs.Messages.{nowhere}
 use Rattle.canvas_runs.proofs.Histories.{GoodPublish, each_seconds}
 use Rattle.canvas_runs.proofs.Meaning.{Has}
 use Rattle.canvas_runs.proofs.OnceEach.{published_once, publishes_task, of_opened}

@@ -2,9 +2,9 @@
 use Rattle.std.proofs.Common.{◌≡◌, ℕ, suc, ◌+◌, true, false, cond, eqb, List, [], ◌∷◌, ◌++◌, length, map, ◌==◌, ◌⊎◌, inl, inr, refl, sym, ap, ◌∙◌, subst, append-nil, ⊎_elim, arith}
 use Rattle.std.proofs.lemmas.Bool.{eqb-true, cases_Bool}
 use Rattle.canvas_task.specs.declared.outcome.Outcome.{Outcome}
-use Rattle.canvas_task.specs.History.{among, made_by, Sole}
-use Rattle.canvas_task.proofs.Histories.{fresh_from}
-use Rattle.canvas_rewrite.specs.Frozen.{Line}
+use Rattle.canvas_history.specs.History.{among, made_by, Sole}
+use Rattle.canvas_history.proofs.Histories.{fresh_from}
+use Rattle.canvas_semantics.specs.Line.{Line}
 use Rattle.canvas_message.specs.Content.{Content}
 use Rattle.canvas_message.specs.Effects.{first_messages}
 use Rattle.canvas_message.specs.Events.{In}

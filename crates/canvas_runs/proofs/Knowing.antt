@@ -3,11 +3,11 @@ use Rattle.std.proofs.Common.{◌≡◌, ◌∙◌, ℕ, suc, ◌≤◌, Bool, t
 use Rattle.std.proofs.lemmas.Bool.{le-leb}
 use Rattle.std.specs.List.{list_any}
 use Rattle.std.specs.Prelude.{◌&&◌, ◌||◌, ◌==◌, nat_le}
-use Rattle.canvas_sig.specs.Tree.{Task, task, Tasks, no_tasks, and_task}
-use Rattle.canvas_rewrite.specs.FileOrder.{TaskIn, TasksIn}
-use Rattle.canvas_rewrite.specs.Frozen.{Line, stop, step, group_end, chord_end, Lines, no_lines, and_line, no_of}
-use Rattle.canvas_rewrite.specs.Placed.{p_nowhere, bare, all_bare, bare_task, bare_tasks}
-use Rattle.canvas_rewrite.proofs.RowNumbers.{same_number}
+use Rattle.canvas_semantics.specs.Tree.{Task, task, Tasks, no_tasks, and_task}
+use Rattle.canvas_semantics.specs.FileOrder.{TaskIn, TasksIn}
+use Rattle.canvas_semantics.specs.Line.{Line, stop, step, group_end, chord_end, Lines, no_lines, and_line, no_of}
+use Rattle.canvas_semantics.specs.PlacedLine.{p_nowhere, bare, all_bare, bare_task, bare_tasks}
+use Rattle.canvas_semantics.proofs.RowNumbers.{same_number}
 use Rattle.canvas_message.proofs.FitsOn.{all_true}
 use Rattle.canvas_message.specs.Content.{line}
 use Rattle.canvas_message.specs.Events.{In}
@@ -16,7 +16,7 @@ use Rattle.canvas_message.specs.Placing.{place_before, last_at, placed, last_tas
 use Rattle.canvas_runs.specs.Book.{Book, is_size, task_known, tasks_known, place_known, line_known, members_known, parent_known, message_known}
 use Rattle.canvas_runs.proofs.Carrying.{put, content, last_bare, many_bare}
 use Rattle.canvas_runs.proofs.FileOrder.{LineIn, LinesIn, Lands, PlaceIn, ParentIn, Formed}
-use Rattle.canvas_runs.proofs.Frozen.{Place, nowhere, in_group, in_chord, carried, lines_length, last_of, lasts, Message}
+use Rattle.canvas_runs.proofs.Messages.{Place, nowhere, in_group, in_chord, carried, lines_length, last_of, lasts, Message}
 use Rattle.canvas_runs.proofs.Order.{tasks_span, line_span, lines_span}
 use Rattle.canvas_runs.proofs.Sized.{HasSize, SizedLine, SizedLines, SizedPlace, SizedMessage}
 

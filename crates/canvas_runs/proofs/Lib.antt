@@ -11,7 +11,6 @@ pub mod StoredOnce
 pub mod Finish
 pub mod Tables
 pub mod Drained
-pub mod Frozen
 pub mod Effects
 pub mod Evaluation
 pub mod FileOrder
@@ -58,3 +57,4 @@ pub mod TurnSums
 pub mod TurnRounds
 pub mod TurnEnds
 pub mod ChordTurns
+pub mod Messages

@@ -1,6 +1,6 @@
 -- Workers that ran side by side, as one list.
 use Rattle.std.proofs.Common.{◌≡◌, ◌∙◌, suc, List, [], ◌∷◌, length, map, refl, sym, ap, subst, arith}
-use Rattle.canvas_rewrite.specs.Frozen.{Line}
+use Rattle.canvas_semantics.specs.Line.{Line}
 use Rattle.canvas_backend.specs.Roster.{Roster, roster_of}
 use Rattle.canvas_runs.specs.Crew.{Mate, SideBySide, MatesOf, Ran, Sides, Splits, Joins, SplitSeats, JoinSeats, first_pass, first_seat}
 use Rattle.canvas_runs.specs.Following.{Pass, Seat, Working, begins, Followed}

@@ -4,12 +4,12 @@ use Rattle.canvas_message.specs.Events.{In}
 use Rattle.canvas_runs.specs.Lists.{Each}
 use Rattle.canvas_message.specs.Job.{store, publish, hand_in}
 use Rattle.canvas_message.specs.Flowing.{Input, numbers, ident, Flow, run, skip, raise}
-use Rattle.canvas_rewrite.specs.Frozen.{Line, stop, step, group_end, chord_end, Lines, no_lines, and_line, no_of}
-use Rattle.canvas_sig.specs.Tree.{Task, task, Tasks, no_tasks, and_task}
-use Rattle.canvas_runs.proofs.Frozen.{Place, nowhere, in_group, in_chord, Carried, carried, errbacks_of, lines_length, last_of, last_from, lasts}
+use Rattle.canvas_semantics.specs.Line.{Line, stop, step, group_end, chord_end, Lines, no_lines, and_line, no_of}
+use Rattle.canvas_semantics.specs.Tree.{Task, task, Tasks, no_tasks, and_task}
+use Rattle.canvas_runs.proofs.Messages.{Place, nowhere, in_group, in_chord, Carried, carried, errbacks_of, lines_length, last_of, last_from, lasts}
 use Rattle.canvas_message.specs.Flowing.{parent_for}
 use Rattle.canvas_runs.proofs.Effects.{Jobs, at_stop, members_place, callbacks, enter, enter_all, when_empty, header_fault, message}
-use Rattle.canvas_rewrite.specs.FileOrder.{TaskIn, TasksIn, EndsInTask}
+use Rattle.canvas_semantics.specs.FileOrder.{TaskIn, TasksIn, EndsInTask}
 use Rattle.canvas_runs.proofs.FileOrder.{LineIn, LinesIn, Lands, PlaceIn, CarriedIn, ParentIn, Formed, FormedPart}
 use Rattle.canvas_runs.proofs.Words.{each_append}
 use Rattle.canvas_runs.proofs.Trees.{AJob}

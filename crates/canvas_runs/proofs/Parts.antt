@@ -5,16 +5,16 @@ use Rattle.canvas_runs.specs.Lists.{Each, firsts}
 use Rattle.canvas_message.specs.Job.{store, publish, hand_in}
 use Rattle.canvas_message.specs.Events.{Event, running, end_of, completion}
 use Rattle.canvas_message.specs.Flowing.{Input, ident, Flow, run, skip, raise}
-use Rattle.canvas_rewrite.specs.Frozen.{Line, stop, step, group_end, chord_end, Lines, no_lines, and_line, no_of}
-use Rattle.canvas_sig.specs.Tree.{Task, task, Tasks, no_tasks, and_task}
+use Rattle.canvas_semantics.specs.Line.{Line, stop, step, group_end, chord_end, Lines, no_lines, and_line, no_of}
+use Rattle.canvas_semantics.specs.Tree.{Task, task, Tasks, no_tasks, and_task}
 use Rattle.canvas_task.specs.declared.outcome.Outcome.{Outcome}
 use Rattle.canvas_task.specs.declared.outcome.Outcome.TheVariants.{Success, Failure}
-use Rattle.canvas_runs.proofs.Frozen.{Place, nowhere, in_group, in_chord, Carried, carried, errbacks_of, last_of, last_from, lasts, lines_length, Message, header}
+use Rattle.canvas_runs.proofs.Messages.{Place, nowhere, in_group, in_chord, Carried, carried, errbacks_of, last_of, last_from, lasts, lines_length, Message, header}
 use Rattle.canvas_message.specs.Flowing.{after_outcome}
 use Rattle.canvas_runs.proofs.Effects.{at_stop, members_place, body_after}
 use Rattle.canvas_message.specs.Events.{flow_outcome, chosen}
 use Rattle.canvas_runs.proofs.Evaluation.{Items, labelled, joined, header_place, body_event, result, out, outs, ran, ran_all, items, items_all}
-use Rattle.canvas_rewrite.specs.FileOrder.{EndsInTask}
+use Rattle.canvas_semantics.specs.FileOrder.{EndsInTask}
 use Rattle.canvas_runs.proofs.FileOrder.{LineIn, LinesIn}
 use Rattle.canvas_runs.proofs.Words.{each_weaker, in_left, in_right}
 use Rattle.canvas_runs.proofs.Words.{in_append_cases}

@@ -1,9 +1,9 @@
 -- What worker 0's pass has seen when all workers are taken in and it has worked on: of each worker just its calls, in order, and nobody else is live.
 use Rattle.std.proofs.Common.{◌≡◌, ℕ, suc, false, List, [], ◌∷◌, ◌++◌, length, map, ◌==◌, refl, sym, ap, ◌∙◌, subst, append_assoc, append-nil, ⊎_elim}
 use Rattle.std.proofs.lemmas.Bool.{false≢true, eq-eqb, ne_eqb}
-use Rattle.canvas_task.specs.History.{split, join, calls, by_of, live_from, live, named, made_by, NoneBy, Since, StartsWith, Sole}
-use Rattle.canvas_task.proofs.Histories.{In, in_cases, in_here, in_left, in_right, live_append, named_append, legal_right}
-use Rattle.canvas_task.proofs.Histories.{made_append, made_here, made_off, OnlyCalls, OthersCall, named_first, live_first, fresh_at, others_call}
+use Rattle.canvas_history.specs.History.{split, join, calls, by_of, live_from, live, named, made_by, NoneBy, Since, StartsWith, Sole}
+use Rattle.canvas_history.proofs.Histories.{In, in_cases, in_here, in_left, in_right, live_append, named_append, legal_right}
+use Rattle.canvas_history.proofs.Histories.{made_append, made_here, made_off, OnlyCalls, OthersCall, named_first, live_first, fresh_at, others_call}
 use Rattle.canvas_backend.specs.Roster.{Roster}
 use Rattle.canvas_message.specs.declared.envelope.Envelope.{Envelope}
 use Rattle.canvas_broker.specs.Broker.{Line as Entries, answer, next, May, IsLegal}

@@ -6,16 +6,16 @@ use Rattle.canvas_runs.specs.Lists.{total}
 use Rattle.canvas_message.specs.Job.{store, publish, hand_in}
 use Rattle.canvas_message.specs.Events.{Event, running, end_of}
 use Rattle.canvas_message.specs.Flowing.{Input, numbers, ident, Flow, run, skip, raise}
-use Rattle.canvas_rewrite.specs.Frozen.{Line, stop, step, group_end, chord_end, Lines, no_lines, and_line, no_of}
-use Rattle.canvas_sig.specs.Tree.{Task, task, Tasks, no_tasks, and_task}
+use Rattle.canvas_semantics.specs.Line.{Line, stop, step, group_end, chord_end, Lines, no_lines, and_line, no_of}
+use Rattle.canvas_semantics.specs.Tree.{Task, task, Tasks, no_tasks, and_task}
 use Rattle.canvas_task.specs.declared.outcome.Outcome.{Outcome}
 use Rattle.canvas_task.specs.declared.outcome.Outcome.TheVariants.{Success, Failure}
-use Rattle.canvas_runs.proofs.Frozen.{Place, nowhere, in_group, in_chord, errbacks_of, Message}
+use Rattle.canvas_runs.proofs.Messages.{Place, nowhere, in_group, in_chord, errbacks_of, Message}
 use Rattle.canvas_message.specs.Flowing.{after_outcome}
 use Rattle.canvas_runs.proofs.Effects.{Jobs, at_stop, members_place, callbacks, enter, enter_all, when_empty, header_fault, message, by_kind, picked, only_store, only_publish, only_part}
 use Rattle.canvas_message.specs.Events.{chosen}
 use Rattle.canvas_runs.proofs.Evaluation.{Items, labelled, joined, header_place, body_event, result, outs, ran, ran_all, items, items_all}
-use Rattle.canvas_rewrite.specs.FileOrder.{TaskIn, TasksIn}
+use Rattle.canvas_semantics.specs.FileOrder.{TaskIn, TasksIn}
 use Rattle.canvas_runs.proofs.FileOrder.{LineIn, LinesIn}
 use Rattle.canvas_runs.proofs.Sums.{total-append}
 use Rattle.canvas_runs.proofs.Trees.{AJob}

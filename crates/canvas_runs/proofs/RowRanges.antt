@@ -4,9 +4,9 @@ use Rattle.std.specs.Prelude.{if◌then◌else◌}
 use Rattle.canvas_task.specs.Apply.{IsInRange}
 use Rattle.canvas_task.proofs.InRange.{apply_fits}
 use Rattle.canvas_task.specs.declared.outcome.Outcome.{Outcome}
-use Rattle.canvas_sig.specs.Tree.{Call, Task, task, Tasks, no_tasks, and_task, Tree, one, chain, group, chord, Trees, no_trees, and_tree}
-use Rattle.canvas_rewrite.specs.Eval.{Flow, nothing, num, list, id, skip, raised, State, Rows, state, arguments, to_links, to_errbacks, task_rows, tasks_rows, task_meaning, as_group, eval, eval_chain, member_rows, state_of}
-use Rattle.canvas_rewrite.specs.Frozen.{Line, tree_of, count_line}
+use Rattle.canvas_semantics.specs.Tree.{Call, Task, task, Tasks, no_tasks, and_task, Tree, one, chain, group, chord, Trees, no_trees, and_tree}
+use Rattle.canvas_semantics.specs.Evaluation.{Flow, nothing, num, list, id, skip, raised, State, Rows, state, arguments, to_links, to_errbacks, task_rows, tasks_rows, task_meaning, as_group, eval, eval_chain, member_rows, state_of}
+use Rattle.canvas_semantics.specs.Line.{Line, tree_of, count_line}
 use Rattle.canvas_rewrite.specs.Planned.{IsPlan}
 use Rattle.canvas_message.specs.Events.{In}
 use Rattle.canvas_runs.specs.Law.{its_state}

@@ -1,10 +1,10 @@
 -- Rows that were read at the end.
 use Rattle.std.proofs.Common.{◌≡◌, ◌⊎◌, ℕ, suc, List, [], ◌∷◌, length, map, None, refl, sym, ap, ap₂, subst, ◌∙◌, inl, inr, ⊎_elim}
-use Rattle.canvas_rewrite.specs.Eval.{State, state_of, eval, nothing}
-use Rattle.canvas_rewrite.specs.Frozen.{Line, tree_of}
+use Rattle.canvas_semantics.specs.Evaluation.{State, state_of, eval, nothing}
+use Rattle.canvas_semantics.specs.Line.{Line, tree_of}
 use Rattle.canvas_rewrite.specs.Planned.{IsPlan}
-use Rattle.canvas_rewrite.specs.States.{states, numbers_from}
-use Rattle.canvas_rewrite.proofs.Numbered.{count_elements}
+use Rattle.canvas_semantics.specs.States.{states, numbers_from}
+use Rattle.canvas_semantics.proofs.Numbered.{count_elements}
 use Rattle.canvas_backend.specs.Backend.{Results, results}
 use Rattle.canvas_backend.specs.Roster.{roster_of}
 use Rattle.canvas_runs.specs.Crew.{IsHeld}

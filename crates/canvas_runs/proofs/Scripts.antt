@@ -2,7 +2,7 @@
 use Rattle.std.proofs.Common.{◌≡◌, ◌⊎◌, ℕ, suc, true, false, List, [], ◌∷◌, ◌++◌, map, Some, None, refl, sym, ap, ap₂, ◌∙◌, inl, inr, arith}
 use Rattle.std.proofs.lemmas.List.{map-append}
 use Rattle.canvas_task.specs.declared.outcome.Outcome.{Outcome}
-use Rattle.canvas_rewrite.specs.Frozen.{Line}
+use Rattle.canvas_semantics.specs.Line.{Line}
 use Rattle.canvas_message.proofs.NothingMoves.{Above, nothing_moves}
 use Rattle.canvas_message.specs.Content.{Content, number_of}
 use Rattle.canvas_message.specs.Effects as effects
@@ -15,7 +15,7 @@ use Rattle.canvas_runs.proofs.Canvas.{messages_of, called_rises}
 use Rattle.canvas_runs.proofs.Carrying.{content, sent, all_sent, load, EndsAt, ended_sent, completed_sent, enter_sent}
 use Rattle.canvas_runs.proofs.Effects.{Jobs, called, enter, by_kind, picked, only_store, only_publish, only_part, after, body_after}
 use Rattle.canvas_runs.proofs.FileOrder.{LineIn, Lands, Formed, FormedPart}
-use Rattle.canvas_runs.proofs.Frozen.{Place, nowhere, in_group, in_chord, Carried, carried, Message, header}
+use Rattle.canvas_runs.proofs.Messages.{Place, nowhere, in_group, in_chord, Carried, carried, Message, header}
 use Rattle.canvas_runs.proofs.Rising.{Rises, rises_lower, rises_append, job_key, enter_rises}
 
 -- ---- in order

@@ -2,9 +2,9 @@
 use Rattle.std.proofs.Common.{◌≡◌, ℕ, suc, false, List, [], ◌∷◌, ◌++◌, length, map, ◌==◌, refl, sym, ap, ◌∙◌, subst, append_assoc, append-nil, ⊎_elim}
 use Rattle.std.proofs.lemmas.Bool.{false≢true, eq-eqb, ne_eqb}
 use Rattle.canvas_task.specs.declared.outcome.Outcome.{Outcome}
-use Rattle.canvas_task.specs.History.{Entry, split, join, calls, by_of, live_from, live, named, joined as joined_of, made_by, AllOthers, StartsWith}
-use Rattle.canvas_task.proofs.Histories.{In, in_cases, in_here, in_left, in_right, live_append, named_append, legal_right}
-use Rattle.canvas_task.proofs.Histories.{made_append, made_here, made_off, made_others, OnlyCalls, OthersCall, named_first, live_first, fresh_at, others_call}
+use Rattle.canvas_history.specs.History.{Entry, split, join, calls, by_of, live_from, live, named, joined as joined_of, made_by, AllOthers, StartsWith}
+use Rattle.canvas_history.proofs.Histories.{In, in_cases, in_here, in_left, in_right, live_append, named_append, legal_right}
+use Rattle.canvas_history.proofs.Histories.{made_append, made_here, made_off, made_others, OnlyCalls, OthersCall, named_first, live_first, fresh_at, others_call}
 use Rattle.canvas_backend.specs.Backend.{Log, Call, Reply, no_results, reply_of, next_of, May, IsLegal}
 use Rattle.canvas_backend.specs.Callers.{Stands, Parted, Joined}
 use Rattle.canvas_backend.specs.Roster.{Roster}

@@ -2,8 +2,8 @@
 use Rattle.std.proofs.Common.{⊎_elim, ◌≡◌, ℕ, suc, ◌+◌, ◌≤◌, Bool, true, false, cond, eqb, List, [], ◌∷◌, ◌++◌, map, length, Some, None, refl, sym, ap, subst, ◌∙◌, inl, inr, arith}
 use Rattle.std.proofs.lemmas.Bool.{eqb-true, eq-eqb}
 use Rattle.canvas_task.specs.declared.outcome.Outcome.{Outcome}
-use Rattle.canvas_rewrite.specs.Eval as eval
-use Rattle.canvas_rewrite.specs.Frozen.{Line, members, size}
+use Rattle.canvas_semantics.specs.Evaluation as eval
+use Rattle.canvas_semantics.specs.Line.{Line, members, size}
 use Rattle.canvas_rewrite.specs.FrozenView.{Load}
 use Rattle.canvas_rewrite.specs.Planned.{IsPlan}
 use Rattle.canvas_rewrite.proofs.Members.{plan_apart}
@@ -33,7 +33,7 @@ use Rattle.canvas_runs.proofs.Evaluation as evaluation
 use Rattle.canvas_runs.proofs.Facts as facts
 use Rattle.canvas_runs.proofs.Facts.{X, form, Does, order, value, once, keeping, its_backs, p, Formed', FormedPart'}
 use Rattle.canvas_runs.proofs.FirstLaw.{has_state, state_has, inner_run, stored_right, first_part}
-use Rattle.canvas_runs.proofs.Frozen.{nowhere, Carried, Message}
+use Rattle.canvas_runs.proofs.Messages.{nowhere, Carried, Message}
 use Rattle.canvas_runs.proofs.Meaning.{After, Beyond}
 use Rattle.canvas_runs.proofs.Parts.{Kept}
 use Rattle.canvas_runs.proofs.Scripts.{ended_script, completed_script, first_sent}

@@ -2,15 +2,15 @@
 use Rattle.std.proofs.Common.{◌≡◌, ◌∙◌, ℕ, zero, suc, ◌+◌, true, false, List, [], ◌∷◌, ◌++◌, length, length-append, append_assoc, append-nil, Option, Some, None, refl, sym, ap, subst, arith}
 use Rattle.canvas_task.specs.declared.outcome.Outcome.{Outcome}
 use Rattle.canvas_task.specs.declared.outcome.Outcome.TheVariants.{Success, Failure}
-use Rattle.canvas_sig.specs.Tree.{Tasks, no_tasks, and_task}
-use Rattle.canvas_rewrite.specs.Frozen.{Line, stop, step, group_end, chord_end, Lines, no_lines, and_line, no_of, Team, teams, all_teams, team_at, team_members, team_size, members, size, number_line, number_lines, count_line, count_lines, line_groups, lines_groups, all_ends_of, count_line}
+use Rattle.canvas_semantics.specs.Tree.{Tasks, no_tasks, and_task}
+use Rattle.canvas_semantics.specs.Line.{Line, stop, step, group_end, chord_end, Lines, no_lines, and_line, no_of, Team, teams, all_teams, team_at, team_members, team_size, members, size, number_line, number_lines, count_line, count_lines, line_groups, lines_groups, all_ends_of, count_line}
 use Rattle.canvas_rewrite.specs.Planned.{IsPlan}
-use Rattle.canvas_rewrite.proofs.Numbered.{groups_numbered, groups_numbered_all}
+use Rattle.canvas_semantics.proofs.Numbered.{groups_numbered, groups_numbered_all}
 use Rattle.canvas_message.specs.Flowing.{Input, numbers, number, ident, Flow, run, skip, raise, after_outcome}
 use Rattle.canvas_message.specs.Job.{store, publish, hand_in}
 use Rattle.canvas_runs.specs.Lists.{Each}
 use Rattle.canvas_runs.proofs.Effects.{Jobs, at_stop, members_place, callbacks, called, enter, enter_all, when_empty, after, body_after, header_fault}
-use Rattle.canvas_runs.proofs.Frozen.{Place, nowhere, in_group, in_chord, Carried, carried, errbacks_of, Message, header}
+use Rattle.canvas_runs.proofs.Messages.{Place, nowhere, in_group, in_chord, Carried, carried, errbacks_of, Message, header}
 use Rattle.canvas_runs.proofs.Trees.{AJob, each_by_kind}
 use Rattle.canvas_runs.proofs.Words.{each_append}
 

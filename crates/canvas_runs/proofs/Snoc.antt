@@ -4,8 +4,8 @@ use Rattle.std.specs.Global.{Global}
 use Rattle.crossbeam_queue.specs.SegTies.{SegId}
 use Rattle.atomic_table.specs.Seated.{TableId}
 use Rattle.canvas_task.specs.declared.outcome.Outcome.{Outcome}
-use Rattle.canvas_task.specs.History.{calls}
-use Rattle.canvas_rewrite.specs.Eval.{State}
+use Rattle.canvas_history.specs.History.{calls}
+use Rattle.canvas_semantics.specs.Evaluation.{State}
 use Rattle.canvas_backend.specs.Backend.{read, found}
 use Rattle.canvas_backend.specs.Callers as seats
 use Rattle.canvas_backend.specs.Roster.{Roster}

@@ -1,6 +1,6 @@
 -- What starts stores nothing and returns nothing.
 use Rattle.std.proofs.Common.{◌≡◌, ℕ, [], ◌∷◌, ◌++◌, Option, refl, ap, ◌∙◌, inl, inr}
-use Rattle.canvas_rewrite.specs.Frozen.{Line, stop, step, group_end, chord_end, Lines, no_lines, and_line}
+use Rattle.canvas_semantics.specs.Line.{Line, stop, step, group_end, chord_end, Lines, no_lines, and_line}
 use Rattle.canvas_message.specs.Events.{In}
 use Rattle.canvas_message.specs.Flowing.{Input, numbers, run}
 use Rattle.canvas_message.specs.Job.{store, publish, hand_in}
@@ -8,7 +8,7 @@ use Rattle.canvas_runs.specs.Lists.{Each}
 use Rattle.canvas_runs.proofs.Backing.{picked-append}
 use Rattle.canvas_runs.proofs.Canvas.{messages_of}
 use Rattle.canvas_runs.proofs.Effects.{Jobs, at_stop, members_place, enter, enter_all, when_empty, picked, only_store, only_publish}
-use Rattle.canvas_runs.proofs.Frozen.{Place, nowhere, in_group, in_chord, Message}
+use Rattle.canvas_runs.proofs.Messages.{Place, nowhere, in_group, in_chord, Message}
 use Rattle.canvas_runs.proofs.Trees.{AJob}
 
 abbrev pub NoStores : Jobs → Type 0

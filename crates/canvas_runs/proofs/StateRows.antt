@@ -6,12 +6,12 @@ use Rattle.canvas_task.specs.Apply.{apply}
 use Rattle.canvas_task.specs.declared.outcome.Fault.{Fault}
 use Rattle.canvas_task.specs.declared.outcome.Outcome.{Outcome}
 use Rattle.canvas_task.specs.declared.outcome.Outcome.TheVariants.{Success, Failure}
-use Rattle.canvas_sig.specs.Tree.{Call, Task, task, Tasks, no_tasks, and_task}
-use Rattle.canvas_rewrite.specs.Eval as eval
-use Rattle.canvas_rewrite.specs.Eval.{State, Rows, state_of, with_states, gathered, group_value, task_rows, tasks_rows, state, to_links, to_errbacks, passed_on, eval_chain, member_rows, ends, all_ends, arguments}
-use Rattle.canvas_rewrite.specs.FileOrder.{TaskIn, TasksIn}
-use Rattle.canvas_rewrite.specs.Frozen.{Line, stop, step, group_end, chord_end, Lines, no_lines, and_line, no_of, elements_of, members_of, all_ends_of}
-use Rattle.canvas_rewrite.proofs.EndLemmas.{ends_of_tree}
+use Rattle.canvas_semantics.specs.Tree.{Call, Task, task, Tasks, no_tasks, and_task}
+use Rattle.canvas_semantics.specs.Evaluation as eval
+use Rattle.canvas_semantics.specs.Evaluation.{State, Rows, state_of, with_states, gathered, group_value, task_rows, tasks_rows, state, to_links, to_errbacks, passed_on, eval_chain, member_rows, ends, all_ends, arguments}
+use Rattle.canvas_semantics.specs.FileOrder.{TaskIn, TasksIn}
+use Rattle.canvas_semantics.specs.Line.{Line, stop, step, group_end, chord_end, Lines, no_lines, and_line, no_of, elements_of, members_of, all_ends_of}
+use Rattle.canvas_semantics.proofs.EndLemmas.{ends_of_tree}
 use Rattle.canvas_message.specs.Effects as effects
 use Rattle.canvas_message.specs.Events.{Event, In, end_of, number_of, chosen}
 use Rattle.canvas_message.specs.Flowing.{Input, nothing, number, numbers, ident, Flow, run, skip, raise, input_flow, flow_of, after_outcome}
@@ -22,7 +22,7 @@ use Rattle.canvas_runs.proofs.Effects.{at_stop}
 use Rattle.canvas_runs.proofs.Evaluation.{Items, labelled, joined, header_place, body_event, result, outs, ran, ran_all, items, items_all}
 use Rattle.canvas_runs.proofs.Facts.{one_end}
 use Rattle.canvas_runs.proofs.FileOrder.{LineIn, LinesIn}
-use Rattle.canvas_runs.proofs.Frozen.{Place, nowhere, in_group, in_chord, errbacks_of, lasts, header}
+use Rattle.canvas_runs.proofs.Messages.{Place, nowhere, in_group, in_chord, errbacks_of, lasts, header}
 use Rattle.canvas_runs.proofs.Parts.{members_kept, firsts-outs}
 use Rattle.canvas_runs.proofs.Rising.{Rises, rises_append}
 use Rattle.canvas_runs.proofs.Trees.{AJob}

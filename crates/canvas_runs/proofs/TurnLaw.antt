@@ -5,10 +5,10 @@ use Rattle.std.proofs.lemmas.List.{length-append}
 use Rattle.std.specs.Prelude.{leb}
 use Rattle.canvas_task.specs.Apply.{IsInRange}
 use Rattle.canvas_task.specs.declared.outcome.Outcome.{Outcome}
-use Rattle.canvas_rewrite.specs.Eval as eval
-use Rattle.canvas_rewrite.specs.Frozen.{Line, count_line, tree_of}
-use Rattle.canvas_rewrite.specs.States.{states, numbers_from}
-use Rattle.canvas_rewrite.proofs.Numbered.{count_elements}
+use Rattle.canvas_semantics.specs.Evaluation as eval
+use Rattle.canvas_semantics.specs.Line.{Line, count_line, tree_of}
+use Rattle.canvas_semantics.specs.States.{states, numbers_from}
+use Rattle.canvas_semantics.proofs.Numbered.{count_elements}
 use Rattle.canvas_rewrite.specs.Planned.{IsPlan}
 use Rattle.canvas_message.specs.Events.{In}
 use Rattle.canvas_message.specs.Job.{store, publish, hand_in}

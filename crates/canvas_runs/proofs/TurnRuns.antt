@@ -1,9 +1,9 @@
 -- A run by turns is a run: its two histories, and each worker's steps as its core run.
 use Rattle.std.proofs.Common.{◌≡◌, ℕ, zero, suc, ◌+◌, Bool, true, false, cond, eqb, List, [], ◌∷◌, ◌++◌, map, Some, None, refl, sym, ap, ap₂, ◌∙◌, subst, append_assoc, append-nil, arith, ne_eqb}
 use Rattle.canvas_task.specs.declared.outcome.Outcome.{Outcome}
-use Rattle.canvas_task.specs.History.{calls, among, live, state_from, LegalFrom}
-use Rattle.canvas_task.proofs.Histories.{OnlyCalls, live_append, state_append, legal_append}
-use Rattle.canvas_rewrite.specs.Frozen.{Line}
+use Rattle.canvas_history.specs.History.{calls, among, live, state_from, LegalFrom}
+use Rattle.canvas_history.proofs.Histories.{OnlyCalls, live_append, state_append, legal_append}
+use Rattle.canvas_semantics.specs.Line.{Line}
 use Rattle.canvas_message.specs.Effects.{first_messages}
 use Rattle.canvas_message.specs.declared.envelope.Envelope.{Envelope}
 use Rattle.canvas_backend.specs.declared.stored.Stored.{Stored}

@@ -1,7 +1,7 @@
 -- Turns, one after the other: what one more step changes, and turns put together and taken apart.
 use Rattle.std.proofs.Common.{◌≡◌, ◌≢◌, ℕ, ◌≤◌, Bool, true, false, cond, eqb, List, [], ◌∷◌, ◌++◌, length, refl, sym, ap, ◌∙◌, subst, append_assoc, append-nil, eq-eqb, ne_eqb, arith}
 use Rattle.canvas_task.specs.declared.outcome.Outcome.{Outcome}
-use Rattle.canvas_rewrite.specs.Frozen.{Line}
+use Rattle.canvas_semantics.specs.Line.{Line}
 use Rattle.canvas_message.specs.declared.envelope.Envelope.{Envelope}
 use Rattle.canvas_backend.specs.Backend.{Results}
 use Rattle.canvas_runs.specs.Core.{Ask, Reply, take, send, keep, part, read, pause, taken, sent, kept, counted, found, rested, State, taking, ask, answered, left_after, Suits, ReadsBack, IsCoreRun}

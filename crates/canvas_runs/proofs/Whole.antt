@@ -5,16 +5,16 @@ use Rattle.canvas_runs.specs.Lists.{Each, firsts}
 use Rattle.canvas_message.specs.Job.{store, publish, hand_in}
 use Rattle.canvas_message.specs.Events.{Event, end_of, completion}
 use Rattle.canvas_message.specs.Flowing.{Input, number, numbers, ident, Flow, run, skip, raise}
-use Rattle.canvas_rewrite.specs.Frozen.{Line, stop, step, group_end, chord_end, Lines, no_lines, and_line, no_of}
-use Rattle.canvas_sig.specs.Tree.{Task, task, Tasks, no_tasks, and_task}
+use Rattle.canvas_semantics.specs.Line.{Line, stop, step, group_end, chord_end, Lines, no_lines, and_line, no_of}
+use Rattle.canvas_semantics.specs.Tree.{Task, task, Tasks, no_tasks, and_task}
 use Rattle.canvas_task.specs.declared.outcome.Outcome.{Outcome}
 use Rattle.canvas_task.specs.declared.outcome.Outcome.TheVariants.{Success, Failure}
-use Rattle.canvas_runs.proofs.Frozen.{Place, nowhere, in_group, in_chord, Carried, carried, errbacks_of, last_of, last_from, lasts, lines_length, Message, header}
+use Rattle.canvas_runs.proofs.Messages.{Place, nowhere, in_group, in_chord, Carried, carried, errbacks_of, last_of, last_from, lasts, lines_length, Message, header}
 use Rattle.canvas_message.specs.Flowing.{after_outcome}
 use Rattle.canvas_runs.proofs.Effects.{Jobs, message, outcome_of, at_stop, members_place, callbacks, called, enter, enter_all, when_empty, after, body_after, by_kind, picked, only_store, only_publish, only_part, header_fault}
 use Rattle.canvas_message.specs.Events.{parent_of, number_of, chosen}
 use Rattle.canvas_runs.proofs.Evaluation.{Items, labelled, joined, header_place, members_event, body_event, result, outs, ran, ran_all, items, items_all}
-use Rattle.canvas_rewrite.specs.FileOrder.{EndsInTask}
+use Rattle.canvas_semantics.specs.FileOrder.{EndsInTask}
 use Rattle.canvas_runs.proofs.FileOrder.{LineIn, LinesIn}
 use Rattle.canvas_runs.proofs.Words.{each_append, each_left, each_right, each_weaker, in_each, in_left, in_right}
 use Rattle.canvas_runs.proofs.Trees.{AJob, joined_raise}

@@ -3,7 +3,7 @@ use Rattle.std.proofs.Common.{false, [], ◌∷◌, None, refl, inl}
 use Rattle.std.specs.Global.{Global}
 use Rattle.crossbeam_queue.specs.SegTies.{SegId}
 use Rattle.atomic_table.specs.Seated.{TableId}
-use Rattle.canvas_task.specs.History.{split, join}
+use Rattle.canvas_history.specs.History.{split, join}
 use Rattle.canvas_backend.specs.Roster.{Roster, roster_of}
 use Rattle.canvas_runs.specs.Core.{take, pause, taken, rested, over, resting}
 use Rattle.canvas_runs.specs.Crew.{Mate, Ran, EndedWell}

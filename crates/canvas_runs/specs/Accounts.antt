@@ -1,7 +1,7 @@
 -- What the one list of all calls of a run has of each caller: worker 0's calls, and for the workers, numbered from 1 in the order of their making, just theirs.
 use Rattle.std.specs.Prelude.{ℕ, suc, ◌≡◌, List, [], ◌∷◌, ◌++◌}
 use Rattle.canvas_task.specs.declared.outcome.Outcome.{Outcome}
-use Rattle.canvas_task.specs.History.{Entry, split, join, calls, named, made_by, Sole}
+use Rattle.canvas_history.specs.History.{Entry, split, join, calls, named, made_by, Sole}
 use Rattle.canvas_message.specs.declared.envelope.Envelope.{Envelope}
 use Rattle.canvas_backend.specs.Backend as backend
 use Rattle.canvas_backend.specs.Roster.{Roster}

@@ -1,8 +1,8 @@
 -- What a worker knows of the plan that it works on, and the messages that it drops (the tasks, sizes and members that a result backend keeps; a chord's
 -- counter in Celery's Redis backend is kept by the group's identifier).
 use Rattle.std.specs.Prelude.{ℕ, Bool, true, false, ◌&&◌, ◌==◌, Option, Some, None, nat_le}
-use Rattle.canvas_rewrite.specs.Frozen.{Line}
-use Rattle.canvas_rewrite.specs.Placed.{PTask, p_task, PTasks, no_p_tasks, and_p_task, PPlace, p_nowhere, p_group, p_chord, PLine, p_stop, p_step, p_group_end, p_chord_end, PLines, no_p_lines, and_p_line}
+use Rattle.canvas_semantics.specs.Line.{Line}
+use Rattle.canvas_semantics.specs.PlacedLine.{PTask, p_task, PTasks, no_p_tasks, and_p_task, PPlace, p_nowhere, p_group, p_chord, PLine, p_stop, p_step, p_group_end, p_chord_end, PLines, no_p_lines, and_p_line}
 use Rattle.canvas_message.specs.Content.{Content, line}
 use Rattle.canvas_backend.specs.Roster.{Roster, roster_of, size, is_member}
 use Rattle.canvas_message.specs.Fits.{how_many}

@@ -1,10 +1,10 @@
 -- What follows from what each caller of a run has seen.
 use Rattle.std.specs.Prelude.{◌≡◌, ◌≤◌, ◌⊎◌, ℕ, ◌++◌, List, None, map}
-use Rattle.canvas_rewrite.specs.Eval.{State, state_of as state_in, meaning}
-use Rattle.canvas_rewrite.specs.Frozen.{Line, tree_of}
+use Rattle.canvas_semantics.specs.Evaluation.{State, state_of as state_in, meaning}
+use Rattle.canvas_semantics.specs.Line.{Line, tree_of}
 use Rattle.canvas_rewrite.specs.Planned.{IsPlan}
-use Rattle.canvas_sig.specs.Normal.{normal}
-use Rattle.canvas_sig.specs.Tree.{Tree, IsFull, numbered}
+use Rattle.canvas_semantics.specs.NormalLine.{normal}
+use Rattle.canvas_semantics.specs.Tree.{Tree, IsFull, numbered}
 use Rattle.canvas_message.specs.declared.envelope.Envelope.{Envelope}
 use Rattle.canvas_backend.specs.Backend.{results}
 use Rattle.canvas_backend.specs.Roster.{roster_of}

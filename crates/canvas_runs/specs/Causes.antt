@@ -1,8 +1,8 @@
 -- Who publishes what, and when a chord is completed.
 use Rattle.std.specs.Prelude.{ℕ, suc, eqb, cond, ◌≡◌, List, Option, Some, length}
 use Rattle.canvas_task.specs.declared.outcome.Outcome.{Outcome}
-use Rattle.canvas_task.specs.History.{calls}
-use Rattle.canvas_rewrite.specs.Frozen.{Line, members}
+use Rattle.canvas_history.specs.History.{calls}
+use Rattle.canvas_semantics.specs.Line.{Line, members}
 use Rattle.canvas_message.specs.Content.{Content}
 use Rattle.canvas_message.specs.Events.{In, Event, start, running, end_of, completion, DoesIn}
 use Rattle.canvas_message.specs.Job.{publish}

@@ -4,7 +4,7 @@
 --     Followed plan w v        from w on the worker's pass and seat have followed a core run, and it is v then
 use Rattle.std.specs.Prelude.{◌+◌, ◌≡◌, true, false, List, [], ◌∷◌, length, map, Option, Some, None}
 use Rattle.canvas_task.specs.declared.outcome.Outcome.{Outcome}
-use Rattle.canvas_task.specs.History.{calls}
+use Rattle.canvas_history.specs.History.{calls}
 use Rattle.canvas_rewrite.specs.FrozenView.{Load}
 use Rattle.canvas_message.specs.Content.{Content}
 use Rattle.canvas_message.specs.declared.envelope.Envelope.{Envelope}

@@ -1,6 +1,6 @@
 -- How many steps a run by turns takes at most.
 use Rattle.std.specs.Prelude.{ℕ, suc, ◌≤◌, ◌<◌, ◌+◌, ◌*◌, ◌^◌, List, [], length}
-use Rattle.canvas_rewrite.specs.Frozen.{Line, count_line}
+use Rattle.canvas_semantics.specs.Line.{Line, count_line}
 use Rattle.canvas_rewrite.specs.Planned.{IsPlan}
 use Rattle.canvas_runs.specs.Lists.{Each}
 use Rattle.canvas_runs.specs.Turns.{Step, Begins, Turned, AllEnded, round, IsWorker, RanUntil}

@@ -1,9 +1,9 @@
 -- The law of runs: whatever the number of workers and the order of their calls, a run does what evaluating the plan's canvas gives, each thing once.
 use Rattle.std.specs.Prelude.{◌≡◌, ◌≤◌, ◌⊎◌, ℕ, eqb, cond, List, Option, Some, None}
 use Rattle.canvas_task.specs.declared.outcome.Outcome.{Outcome}
-use Rattle.canvas_task.specs.History.{calls}
-use Rattle.canvas_rewrite.specs.Eval.{State, state_of, eval, nothing}
-use Rattle.canvas_rewrite.specs.Frozen.{Line, tree_of}
+use Rattle.canvas_history.specs.History.{calls}
+use Rattle.canvas_semantics.specs.Evaluation.{State, state_of, eval, nothing}
+use Rattle.canvas_semantics.specs.Line.{Line, tree_of}
 use Rattle.canvas_rewrite.specs.FrozenView.{Load}
 use Rattle.canvas_message.specs.Content.{Content, number_of}
 use Rattle.canvas_message.specs.Events.{In, Event, DoesIn}

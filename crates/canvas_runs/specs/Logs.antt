@@ -1,7 +1,7 @@
 -- The calls of the broker's and of the backend's history, each with its caller: splits, joins and takes answered None are left aside.
 use Rattle.std.specs.Prelude.{ℕ, true, false, List, [], ◌∷◌, Some, None}
 use Rattle.canvas_task.specs.declared.outcome.Outcome.{Outcome}
-use Rattle.canvas_task.specs.History.{split, join, calls}
+use Rattle.canvas_history.specs.History.{split, join, calls}
 use Rattle.canvas_backend.specs.declared.stored.Stored.TheVariants.{First, Again}
 use Rattle.canvas_backend.specs.Backend.{Log, store, part, read, was, count, found}
 use Rattle.canvas_broker.specs.Broker.{Line as Entries, publish, take}

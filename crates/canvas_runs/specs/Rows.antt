@@ -1,12 +1,12 @@
 -- What a run on threads can say of its rows: worker 0 read each task once at the end.
 use Rattle.std.specs.Prelude.{ℕ, suc, ◌≡◌, ◌⊎◌, List, [], ◌∷◌, length, map, None}
 use Rattle.canvas_task.specs.declared.outcome.Outcome.{Outcome}
-use Rattle.canvas_rewrite.specs.Eval.{State}
+use Rattle.canvas_semantics.specs.Evaluation.{State}
 use Rattle.std.specs.Global.{Global}
 use Rattle.crossbeam_queue.specs.SegTies.{SegId}
 use Rattle.atomic_table.specs.Seated.{TableId}
-use Rattle.canvas_rewrite.specs.Frozen.{Line, group_end, no_lines, count_line, tree_of}
-use Rattle.canvas_rewrite.specs.States.{states}
+use Rattle.canvas_semantics.specs.Line.{Line, group_end, no_lines, count_line, tree_of}
+use Rattle.canvas_semantics.specs.States.{states}
 use Rattle.canvas_rewrite.specs.Planned.{IsPlan}
 use Rattle.canvas_backend.specs.Roster.{roster_of}
 use Rattle.canvas_runs.specs.Callers.{queue_of}

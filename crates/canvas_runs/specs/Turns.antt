@@ -11,7 +11,7 @@
 --     RanUntil l n ts steps    the turns of the list, and then turns in rotation, up to so many steps, with some worker that has not ended
 use Rattle.std.specs.Prelude.{ℕ, zero, suc, ◌≡◌, ◌≤◌, ◌||◌, Bool, true, false, List, [], ◌∷◌, ◌++◌, map, length, Some}
 use Rattle.canvas_task.specs.declared.outcome.Outcome.{Outcome}
-use Rattle.canvas_rewrite.specs.Frozen.{Line}
+use Rattle.canvas_semantics.specs.Line.{Line}
 use Rattle.canvas_rewrite.specs.FrozenView.{Load}
 use Rattle.canvas_message.specs.Content.{Content}
 use Rattle.canvas_message.specs.Effects.{first_messages}

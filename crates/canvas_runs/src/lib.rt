@@ -5,11 +5,11 @@
 ghost use Rattle.std.specs.Prelude.{◌≡◌, ◌≤◌, ℕ, List, []};
 ghost use Rattle.canvas_backend.specs.Backend.{IsLegal, results};
 ghost use Rattle.canvas_backend.specs.Roster.{roster_of};
-ghost use Rattle.canvas_rewrite.specs.Eval.{state_of, meaning};
-ghost use Rattle.canvas_rewrite.specs.Frozen.{Line, tree_of};
+ghost use Rattle.canvas_semantics.specs.Evaluation.{state_of, meaning};
+ghost use Rattle.canvas_semantics.specs.Line.{Line, tree_of};
 ghost use Rattle.canvas_rewrite.specs.Planned.{IsPlan};
-ghost use Rattle.canvas_sig.specs.Normal.{normal};
-ghost use Rattle.canvas_sig.specs.Tree.{Tree, IsFull, numbered};
+ghost use Rattle.canvas_semantics.specs.NormalLine.{normal};
+ghost use Rattle.canvas_semantics.specs.Tree.{Tree, IsFull, numbered};
 ghost use Rattle.canvas_runs.specs.Callers.{OneList, OneTable, IsARun, ReadsHeld, RowsMay, RowsAre, CanvasRowsMay, CanvasRowsAre, PublishesByCause, PublishesByItsCause, PublishesOnce, CompletesOnce};
 ghost use Rattle.canvas_runs.specs.Causes.{completions};
 ghost use Rattle.canvas_runs.specs.Rows.{RowsOfWell, RowsOfAny, TalliesCount, ARunStands};

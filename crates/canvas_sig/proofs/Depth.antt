@@ -11,7 +11,7 @@ use Rattle.canvas_sig.specs.declared.primitive.Primitive.TheVariants as kind
 use Rattle.canvas_sig.specs.Faults.{first_fault, in_kwargs, fault_within, call_of, task_within, header_of, tree_from, tree_within, signature_fault, tree_of}
 use Rattle.canvas_sig.specs.Fields.{Text, field, subtype, tasks, header, body, link, link_error, items, listed, as_list}
 use Rattle.canvas_sig.specs.Reading.{◌or_else◌, own_fault, primitive_of, members_in}
-use Rattle.canvas_sig.specs.Tree.{Task, task, Tree, one, chain, group, chord}
+use Rattle.canvas_semantics.specs.Tree.{Task, task, Tree, one, chain, group, chord}
 use Rattle.canvas_sig.specs.View.{tasks_of, trees_of}
 use Rattle.canvas_sig.proofs.Law.{fault_left}
 

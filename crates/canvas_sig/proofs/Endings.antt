@@ -2,8 +2,8 @@
 use Rattle.std.proofs.Common.{◌≡◌, Bool, true, false, not, ◌||◌, ◌&&◌, if◌then◌else◌, List, [], ◌∷◌, map, Option, Some, None, Box, Global, true≢false, refl, sym, ap, ◌∙◌}
 use Rattle.std.specs.List.{list_all}
 use Rattle.std.specs.Option.{option_and_then}
-use Rattle.canvas_sig.specs.Tree.{Tree, chain, Trees, ends_in_group, last_in_group}
-use Rattle.canvas_sig.specs.Limits.{nests_group, some_nests_group, some_ends_in_group}
+use Rattle.canvas_semantics.specs.Tree.{Tree, chain, Trees, ends_in_group, last_in_group}
+use Rattle.canvas_semantics.specs.Bounds.{nests_group, some_nests_group, some_ends_in_group}
 use Rattle.canvas_sig.specs.Ending.{ending, last_ending, ends_in_task}
 use Rattle.canvas_sig.specs.View.{view, trees_of}
 use Rattle.canvas_sig.specs.declared.node.Node.{Node, Chain, Group, Chord}

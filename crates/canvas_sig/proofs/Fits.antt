@@ -12,7 +12,7 @@ use Rattle.canvas_sig.specs.declared.fault.SigFault.TheVariants.{NotSignature, B
 use Rattle.canvas_sig.specs.Limits.{tree_fault}
 use Rattle.canvas_sig.specs.NodeFaults.{arg_ok, numbers_ok, call_fault, task_fault, tasks_fault, signatures_fault, all_fault}
 use Rattle.canvas_sig.specs.Reading.{◌or_else◌, fault_if}
-use Rattle.canvas_sig.specs.Tree.{Call, Task, task, Tasks, no_tasks, and_task, Tree, one, chain, group, chord, Trees, no_trees, and_tree}
+use Rattle.canvas_semantics.specs.Tree.{Call, Task, task, Tasks, no_tasks, and_task, Tree, one, chain, group, chord, Trees, no_trees, and_tree}
 use Rattle.canvas_sig.specs.Writable.{TaskComposed, TasksComposed, IsComposed, AreComposed, IsCanvas}
 use Rattle.canvas_sig.proofs.FittingCalls.{NumbersFit, ArgFits, ArgsFit, KwargsFit, CallFits}
 use Rattle.canvas_sig.proofs.ComposedLemmas.{both, args_fit, kwargs_fit}

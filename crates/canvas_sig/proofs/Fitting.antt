@@ -16,7 +16,7 @@ use Rattle.canvas_sig.specs.declared.primitive.Primitive.TheVariants as kind
 use Rattle.canvas_sig.specs.Fields.{Text, field, subtype, args, kwargs, tasks, header, body, link, link_error, items, entries, listed, as_list, members, text_of, is_number, is_null, is_list, is_empty, is_object}
 use Rattle.canvas_sig.specs.Reading.{◌or_else◌, fault_if, judged, some_or_zero, number_of, argument_of, is_name, primitive_of, some_in_range, number_ok, kind_ok, numbers_ok, args_ok, is_group, not_signature, bad_args, bad_number, on_canvas, frozen, empty_chain, fault_as, own_fault, members_in, tree_reading}
 use Rattle.canvas_sig.specs.Faults.{first_fault, in_kwargs, named_of, call_of, task_within, header_of, tree_from, tree_within}
-use Rattle.canvas_sig.specs.Tree.{Task, Tree, one, chain, group, chord}
+use Rattle.canvas_semantics.specs.Tree.{Task, Tree, one, chain, group, chord}
 use Rattle.canvas_sig.specs.View.{tasks_of, trees_of}
 use Rattle.canvas_sig.proofs.FittingCalls.{NumbersFit, ArgFits, ArgsFit, KwargsFit, CallFits}
 use Rattle.canvas_sig.proofs.Fits.{TaskFits, TasksFit, TreeFits, TreesFit}

@@ -5,7 +5,7 @@ use Rattle.canvas_task.specs.Name.{name_ok}
 use Rattle.canvas_task.specs.Numbers.{in_range}
 use Rattle.canvas_task.specs.declared.arg.Arg.{Arg}
 use Rattle.canvas_task.specs.declared.arg.Arg.TheVariants as arg
-use Rattle.canvas_sig.specs.Tree.{Call}
+use Rattle.canvas_semantics.specs.Tree.{Call}
 
 abbrev pub NumbersFit : List ℤ → Type 0
 NumbersFit [] = Unit {0}

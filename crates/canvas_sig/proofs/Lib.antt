@@ -20,8 +20,8 @@ pub mod ReadsAgain
 pub mod InOrder
 pub mod Fitting
 pub mod JsonTexts
-pub mod NormalEnds
 pub mod ArgumentLaw
 pub mod Depth
 pub mod Fits
 pub mod FittingCalls
+pub mod LimitRows

@@ -4,9 +4,9 @@ use Rattle.std.specs.Prelude.{nat_lt}
 use Rattle.std.proofs.lemmas.Bool.Decides.{nat_tests}
 use Rattle.canvas_sig.specs.declared.reach.LineReach.{LineReach}
 use Rattle.canvas_sig.specs.declared.reach.LineReach.TheVariants.{Empty, One, More}
-use Rattle.canvas_sig.specs.Tree.{Task, task, Tasks, no_tasks, and_task, Tree, one, chain, group, chord, Trees, no_trees, and_tree}
-use Rattle.canvas_sig.specs.Normal.{onto, all_onto, normal_all, group_onto, normal}
-use Rattle.canvas_sig.specs.Reach.{task_reach, tasks_reach, reach, line_reach, members_reach}
+use Rattle.canvas_semantics.specs.Tree.{Task, task, Tasks, no_tasks, and_task, Tree, one, chain, group, chord, Trees, no_trees, and_tree}
+use Rattle.canvas_semantics.specs.NormalLine.{onto, all_onto, normal_all, group_onto, normal}
+use Rattle.canvas_semantics.specs.Reach.{task_reach, tasks_reach, reach, line_reach, members_reach}
 use Rattle.canvas_sig.specs.LineReach.{capped, above, sig_reach, sigs_reach, whole, chord_reach, group_reach, task_onto, onto_reach, all_onto_reach, greatest}
 
 capped_above : (a r : ℕ) → a ≡ capped r → above a ≡ capped (1 + r)

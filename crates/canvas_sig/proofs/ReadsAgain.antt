@@ -18,10 +18,11 @@ use Rattle.canvas_sig.specs.declared.fault.SigFault.{SigFault}
 use Rattle.canvas_sig.specs.CanvasText.{most_bytes, json_of, reading}
 use Rattle.canvas_sig.specs.Clean.{IsWhole, IsClean, AreClean, MembersClean, behind}
 use Rattle.canvas_sig.specs.Faults.{signature_fault, tree_of}
-use Rattle.canvas_sig.specs.Limits.{most_nesting, tree_fault, nests_group, is_too_deep}
-use Rattle.canvas_sig.specs.Nesting.{nesting}
+use Rattle.canvas_semantics.specs.Bounds.{most_nesting, nests_group, is_too_deep}
+use Rattle.canvas_sig.specs.Limits.{tree_fault}
+use Rattle.canvas_semantics.specs.Nesting.{nesting}
 use Rattle.canvas_sig.specs.Reading.{judged, tree_reading}
-use Rattle.canvas_sig.specs.Tree.{Tree}
+use Rattle.canvas_semantics.specs.Tree.{Tree}
 use Rattle.canvas_sig.specs.Writable.{IsCanvas}
 use Rattle.canvas_sig.specs.Writing.{tree_wire}
 use Rattle.canvas_sig.proofs.CleanWire.{tree_clean, tree_depth}

@@ -6,7 +6,7 @@ use Rattle.serde_json.proofs.OnLiterals.{serde_json_on_literals}
 use Rattle.canvas_sig.specs.declared.fault.SigFault.TheVariants.{NotJson, NotSignature, UnknownPrimitive, BadArgs, BadNumber, OnCanvas, Frozen, EmptyChain, NestedGroup}
 use Rattle.canvas_task.specs.declared.arg.Arg.{Arg}
 use Rattle.canvas_task.specs.declared.arg.Arg.TheVariants as arg
-use Rattle.canvas_sig.specs.Tree.{Task, task, Tasks, no_tasks, and_task, one, chord, no_trees, and_tree}
+use Rattle.canvas_semantics.specs.Tree.{Task, task, Tasks, no_tasks, and_task, one, chord, no_trees, and_tree}
 use Rattle.canvas_sig.specs.Faults.{signature_fault, tree_of}
 use Rattle.canvas_sig.specs.CanvasText.{reading}
 

@@ -13,7 +13,7 @@ use Rattle.serde_json.specs.Data.{Data, array, null, Items, no_items, item, no_m
 use Rattle.serde_json.specs.Find.{of_integer}
 use Rattle.serde_json.specs.Written.{number_text, compact_text}
 use Rattle.canvas_task.specs.declared.arg.Arg.{Arg}
-use Rattle.canvas_sig.specs.Tree.{Call, Task, task, Tasks}
+use Rattle.canvas_semantics.specs.Tree.{Call, Task, task, Tasks}
 use Rattle.canvas_sig.specs.View.{task_view, tasks_of}
 use Rattle.canvas_task.specs.declared.arg.Arg.TheVariants as arg
 use Rattle.canvas_sig.specs.Writing.{number_wire, numbers_wire, arg_wire, args_wire, kwargs_wire, task_wire, tasks_wire, options_wire, signature, tasks_member, chord_members}

@@ -9,7 +9,7 @@ use Rattle.canvas_sig.specs.Fields.{Text}
 use Rattle.canvas_sig.specs.Reading.{◌>>=◌, ◌or_else◌, fault_if, judged, unless, tree_reading}
 use Rattle.canvas_sig.specs.Faults.{signature_fault, tree_of}
 use Rattle.canvas_sig.specs.Limits.{tree_fault}
-use Rattle.canvas_sig.specs.Tree.{Tree}
+use Rattle.canvas_semantics.specs.Tree.{Tree}
 
 -- a mebibyte
 abbrev pub most_bytes : ℕ

@@ -1,8 +1,8 @@
 -- Whether a line ends in a group, where none of its groups and headers has a member that does.
 use Rattle.std.specs.Prelude.{Bool, false, not, if◌then◌else◌, List, [], ◌∷◌, Option, Some, None}
 use Rattle.std.specs.Option.{option_and_then}
-use Rattle.canvas_sig.specs.Tree.{Tree, ends_in_group}
-use Rattle.canvas_sig.specs.Limits.{nests_group}
+use Rattle.canvas_semantics.specs.Tree.{Tree, ends_in_group}
+use Rattle.canvas_semantics.specs.Bounds.{nests_group}
 
 abbrev pub ending : Tree → Option Bool
 ending t = if nests_group t then None else Some (ends_in_group t)

@@ -1,8 +1,4 @@
-pub mod Tree
 pub mod View
-pub mod Normal
-pub mod Nesting
-pub mod Reach
 pub mod Writing
 pub mod Tokens
 pub mod Limits
@@ -15,7 +11,5 @@ pub mod Budget
 pub mod Ending
 pub mod LineReach
 pub mod Writable
-pub mod Nest
-pub mod TreeCode
 pub mod NodeFaults
 pub mod Clean

@@ -1,49 +1,9 @@
 -- The refusals of a whole canvas: a group nested in a group, too deep, too many.
-use Rattle.std.specs.Prelude.{ℕ, Bool, false, ◌||◌, if◌then◌else◌, Option, Some, None, nat_lt}
+use Rattle.std.specs.Prelude.{if◌then◌else◌, Option, Some, None}
 use Rattle.canvas_sig.specs.declared.fault.SigFault.{SigFault}
 use Rattle.canvas_sig.specs.declared.fault.SigFault.TheVariants.{NestedGroup, TooDeep, TooMany}
-use Rattle.canvas_sig.specs.Tree.{Tree, one, chain, group, chord, Trees, no_trees, and_tree, count, count_groups, ends_in_group}
-use Rattle.canvas_sig.specs.Nesting.{nesting}
-use Rattle.canvas_sig.specs.Normal.{normal}
-use Rattle.canvas_sig.specs.Reach.{reach}
-
--- how deeply signatures may stand in each other
-abbrev pub most_nesting : ℕ
-most_nesting = 8
-
--- how deeply they may stand in each other in a message
-abbrev pub most_reach : ℕ
-most_reach = 32
-
-abbrev pub most_tasks : ℕ
-most_tasks = 1024
-
-abbrev pub most_groups : ℕ
-most_groups = 1024
-
--- Whether a member of a group or of a header ends in a group, anywhere in the canvas. It is said of the canvas as it was written, and
--- says the same of the members' normal lines, since rewriting keeps what a line ends in where no chain is empty, which is refused
--- before: `nested_in_lines` of proofs/NormalEnds.
-abbrev mutual
-  pub nests_group : Tree → Bool
-  nests_group (one t) = false
-  nests_group (chain ts) = some_nests_group ts
-  nests_group (group g ms) = some_ends_in_group ms || some_nests_group ms
-  nests_group (chord g h b) = some_ends_in_group h || some_nests_group h || nests_group b
-
-  pub some_nests_group : Trees → Bool
-  some_nests_group no_trees = false
-  some_nests_group (and_tree t ts) = nests_group t || some_nests_group ts
-
-  pub some_ends_in_group : Trees → Bool
-  some_ends_in_group no_trees = false
-  some_ends_in_group (and_tree t ts) = ends_in_group t || some_ends_in_group ts
-
-abbrev pub is_too_deep : Tree → Bool
-is_too_deep c = nat_lt most_nesting (nesting c) || nat_lt most_reach (reach 0 (normal c))
-
-abbrev pub is_too_many : Tree → Bool
-is_too_many c = nat_lt most_tasks (count c) || nat_lt most_groups (count_groups c)
+use Rattle.canvas_semantics.specs.Tree.{Tree}
+use Rattle.canvas_semantics.specs.Bounds.{nests_group, is_too_deep, is_too_many}
 
 -- the first refusal of a canvas whose signatures are in order
 abbrev pub tree_fault : Tree → Option SigFault

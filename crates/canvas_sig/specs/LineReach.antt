@@ -3,7 +3,7 @@
 use Rattle.std.specs.Prelude.{ℕ, ◌+◌, min, max}
 use Rattle.canvas_sig.specs.declared.reach.LineReach.{LineReach}
 use Rattle.canvas_sig.specs.declared.reach.LineReach.TheVariants.{Empty, One, More}
-use Rattle.canvas_sig.specs.Tree.{Task, task, Tasks, no_tasks, and_task, Tree, one, chain, group, chord, Trees, no_trees, and_tree}
+use Rattle.canvas_semantics.specs.Tree.{Task, task, Tasks, no_tasks, and_task, Tree, one, chain, group, chord, Trees, no_trees, and_tree}
 
 -- one more than the limit
 abbrev pub past : ℕ

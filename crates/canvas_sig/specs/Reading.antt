@@ -13,7 +13,7 @@ use Rattle.canvas_sig.specs.declared.fault.SigFault.TheVariants.{NotSignature, U
 use Rattle.canvas_sig.specs.declared.primitive.Primitive.{Primitive}
 use Rattle.canvas_sig.specs.declared.primitive.Primitive.TheVariants as kind
 use Rattle.canvas_sig.specs.Fields.{Text, field, subtype, args, kwargs, option, tasks, header, body, link, link_error, items, listed, as_list, members, contents, text_of, is_null, is_list, is_object, is_number, is_true, is_flag, is_list_or_null, is_object_or_null, is_link, is_empty}
-use Rattle.canvas_sig.specs.Tree.{Task, task, Tree, one, chain, group, chord, Trees, no_trees}
+use Rattle.canvas_semantics.specs.Tree.{Task, task, Tree, one, chain, group, chord, Trees, no_trees}
 use Rattle.canvas_sig.specs.View.{tasks_of, trees_of}
 
 -- ---- answers

@@ -5,7 +5,7 @@ use Rattle.json.specs.Tree.{json_tokens, items_tokens, members_tokens}
 use Rattle.json.specs.Written.{Written}
 use Rattle.serde_json.specs.Data.{Data, Items, no_items, item, Members}
 use Rattle.serde_json.specs.Written.{outline, items_outline, members_outline}
-use Rattle.canvas_sig.specs.Tree.{Task, task}
+use Rattle.canvas_semantics.specs.Tree.{Task, task}
 use Rattle.canvas_sig.specs.Writing.{tasks_wire}
 
 abbrev pub data_tokens : Data → List Token

@@ -1,6 +1,6 @@
 -- The data that signatures stand for. Nothing is numbered yet: each number is 0.
 use Rattle.std.specs.Prelude.{List, [], ◌∷◌}
-use Rattle.canvas_sig.specs.Tree.{Task, task, Tasks, no_tasks, and_task, Tree, one, chain, group, chord, Trees, no_trees, and_tree}
+use Rattle.canvas_semantics.specs.Tree.{Task, task, Tasks, no_tasks, and_task, Tree, one, chain, group, chord, Trees, no_trees, and_tree}
 use Rattle.canvas_sig.specs.declared.task_sig.TaskSig.{TaskSig, fold-TaskSig}
 use Rattle.canvas_sig.specs.declared.task_sig.TaskSig.TheOpen.{TaskSig-F}
 use Rattle.canvas_sig.specs.declared.node.Node.{Node, fold-Node}

@@ -30,8 +30,8 @@ pub struct Canvas {
 }
 
 impl Model for Canvas {
-    ghost use Rattle.canvas_sig.specs.Tree.{Tree};
-    ghost use Rattle.canvas_sig.specs.TreeCode.{tree_code};
+    ghost use Rattle.canvas_semantics.specs.Tree.{Tree};
+    ghost use Rattle.canvas_semantics.specs.codes.TreeCode.{tree_code};
 
     ghost Value = { Tree };
 

@@ -1,7 +1,7 @@
 //! Whether a canvas has more tasks, or more groups and chords, than a number.
 
 ghost use Rattle.std.specs.Prelude.{map};
-ghost use Rattle.canvas_sig.specs.Tree.{count, count_all, count_task, count_tasks, count_groups, count_all_groups};
+ghost use Rattle.canvas_semantics.specs.Tree.{count, count_all, count_task, count_tasks, count_groups, count_all_groups};
 ghost use Rattle.canvas_sig.specs.View.{view, task_view, tasks_of, trees_of};
 ghost use Rattle.canvas_sig.specs.Budget.{Leaves};
 

@@ -1,7 +1,6 @@
 pub mod IdentifierLemmas
 pub mod Named
 pub mod Copies
-pub mod Histories
 pub mod InRange
 pub mod WordLemmas
 pub mod Ascending

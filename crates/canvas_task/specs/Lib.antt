@@ -1,7 +1,6 @@
 pub mod formers
 pub mod Apply
 pub mod Entries
-pub mod History
 pub mod Identifiers
 pub mod Name
 pub mod Numbers

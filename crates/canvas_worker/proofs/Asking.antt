@@ -1,6 +1,6 @@
 -- What a backend lets a seat do, for a backend of a plan.
 use Rattle.std.proofs.Common.{◌≡◌, sym, subst}
-use Rattle.canvas_rewrite.specs.Frozen.{Line}
+use Rattle.canvas_semantics.specs.Line.{Line}
 use Rattle.canvas_rewrite.specs.Planned.{IsPlan}
 use Rattle.canvas_backend.specs.Roster.{Roster, roster_of}
 use Rattle.canvas_runs.specs.Book.{book_on}

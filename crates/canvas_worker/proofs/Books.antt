@@ -5,8 +5,8 @@ use Rattle.std.specs.List.{list_any}
 use Rattle.std.proofs.lemmas.Bool.Decides.{nat_tests}
 use Rattle.std.proofs.lemmas.List.Sums.{sum_by-cons}
 use mathlib.Core.Path.{fun_ext}
-use Rattle.canvas_task.specs.History.{among}
-use Rattle.canvas_rewrite.specs.Frozen.{Line, count_line, members, size}
+use Rattle.canvas_history.specs.History.{among}
+use Rattle.canvas_semantics.specs.Line.{Line, count_line, members, size}
 use Rattle.canvas_rewrite.specs.Planned.{IsPlan}
 use Rattle.canvas_rewrite.proofs.Members.{member_known}
 use Rattle.canvas_backend.specs.Roster.{roster_of}

@@ -6,7 +6,7 @@ use Rattle.std.specs.Prelude.{◌&&◌, IsTrue, nat_le}
 use Rattle.canvas_task.specs.declared.outcome.Outcome.{Outcome}
 use Rattle.canvas_task.specs.declared.outcome.Outcome.TheVariants.{Success, Failure}
 use Rattle.canvas_rewrite.specs.FrozenView.{Load}
-use Rattle.canvas_rewrite.specs.Placed.{PTask, p_task, PTasks, no_p_tasks, and_p_task, PPlace, p_nowhere, p_group, p_chord, PLine, p_stop, p_step, p_group_end, p_chord_end, PLines, no_p_lines, and_p_line}
+use Rattle.canvas_semantics.specs.PlacedLine.{PTask, p_task, PTasks, no_p_tasks, and_p_task, PPlace, p_nowhere, p_group, p_chord, PLine, p_stop, p_step, p_group_end, p_chord_end, PLines, no_p_lines, and_p_line}
 use Rattle.canvas_message.specs.Content.{Content, line, number_of, links_of, errbacks_of}
 use Rattle.canvas_message.specs.Effects.{Jobs, callbacks, part_of, fault_behind, when_empty, enter, enter_all, called, header}
 use Rattle.canvas_message.specs.Events.{In}

@@ -2,7 +2,7 @@
 use Rattle.std.proofs.Common.{◌≡◌, ◌∙◌, ℕ, List, [], ◌∷◌, ◌++◌, map, length, Some, None, Box, Global, Bool, true, false, refl, sym, ap, arith}
 use Rattle.std.specs.Prelude.{◌&&◌}
 use Rattle.std.proofs.lemmas.List.{map-append}
-use Rattle.canvas_rewrite.specs.Placed.{PTask, PLine, p_stop}
+use Rattle.canvas_semantics.specs.PlacedLine.{PTask, PLine, p_stop}
 use Rattle.canvas_rewrite.specs.FrozenView.{p_tasks_of, p_lines_of, p_steps, p_task_view, p_line_view, p_end_view}
 use Rattle.canvas_rewrite.specs.declared.frozen.FrozenTask.{FrozenTask, out-FrozenTask}
 use Rattle.canvas_rewrite.specs.declared.frozen.FrozenLine.{FrozenLine, out-FrozenLine}

@@ -4,8 +4,8 @@ use Rattle.std.specs.Prelude.{IsTrue, if◌then◌else◌}
 use Rattle.std.proofs.lemmas.Bool.{eqb-true, eqb-false}
 use Rattle.std.proofs.lemmas.Option.{slice_get_cases}
 use Rattle.canvas_task.specs.declared.outcome.Outcome.{Outcome}
-use Rattle.canvas_task.specs.History.{calls}
-use Rattle.canvas_rewrite.specs.Frozen.{Line, Team, team_at, team_members, team_size}
+use Rattle.canvas_history.specs.History.{calls}
+use Rattle.canvas_semantics.specs.Line.{Line, Team, team_at, team_members, team_size}
 use Rattle.canvas_rewrite.specs.FrozenView.{Load}
 use Rattle.canvas_rewrite.specs.Planned.{IsPlan}
 use Rattle.canvas_rewrite.proofs.Members.{all_known}

@@ -1,8 +1,8 @@
 -- A step in front of what is followed from then on.
 use Rattle.std.proofs.Common.{◌≡◌, ℕ, zero, suc, ◌+◌, ◌≤◌, List, [], ◌∷◌, ◌++◌, length, map, Option, Some, refl, sym, ap, ◌∙◌, subst, append_assoc, append-nil, arith}
 use Rattle.canvas_task.specs.declared.outcome.Outcome.{Outcome}
-use Rattle.canvas_task.specs.History.{calls, live_from}
-use Rattle.canvas_task.proofs.Histories.{legal_left}
+use Rattle.canvas_history.specs.History.{calls, live_from}
+use Rattle.canvas_history.proofs.Histories.{legal_left}
 use Rattle.canvas_message.specs.declared.envelope.Envelope.{Envelope}
 use Rattle.canvas_backend.specs.Roster.{Roster}
 use Rattle.canvas_broker.specs.Broker as broker

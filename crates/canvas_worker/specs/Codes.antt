@@ -6,7 +6,7 @@ use Rattle.canvas_task.specs.Apply.{IsInRange}
 use Rattle.canvas_task.specs.declared.outcome.Outcome.{Outcome}
 use Rattle.canvas_task.specs.declared.outcome.Outcome.TheVariants.{Success, Failure}
 use Rattle.canvas_rewrite.specs.FrozenView.{Load}
-use Rattle.canvas_rewrite.specs.Placed.{p_task, no_p_tasks, p_nowhere}
+use Rattle.canvas_semantics.specs.PlacedLine.{p_task, no_p_tasks, p_nowhere}
 use Rattle.canvas_message.specs.Content.{Content}
 use Rattle.canvas_message.specs.ContentCode.{content_code}
 

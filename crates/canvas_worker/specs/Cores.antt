@@ -1,7 +1,7 @@
 -- How a core, which keeps messages as their envelopes, goes with the worker that keeps what they say.
 use Rattle.std.specs.Prelude.{◌≡◌, List, map}
 use Rattle.canvas_task.specs.declared.outcome.Outcome.{Outcome}
-use Rattle.canvas_rewrite.specs.Frozen.{Line}
+use Rattle.canvas_semantics.specs.Line.{Line}
 use Rattle.canvas_rewrite.specs.FrozenView.{Load}
 use Rattle.canvas_message.specs.Content.{Content}
 use Rattle.canvas_backend.specs.Roster.{roster_of}

@@ -1,6 +1,6 @@
 -- The last tasks of lines, where there may be none, and members by their last tasks.
 use Rattle.std.specs.Prelude.{ℕ, Bool, ◌&&◌, List, map, Option, Some, None}
-use Rattle.canvas_rewrite.specs.Placed.{PLine, p_stop}
+use Rattle.canvas_semantics.specs.PlacedLine.{PLine, p_stop}
 use Rattle.canvas_rewrite.specs.FrozenView.{p_steps, p_task_view}
 use Rattle.canvas_rewrite.specs.declared.frozen.FrozenTask.{FrozenTask}
 use Rattle.canvas_message.specs.Placing.{last_task}

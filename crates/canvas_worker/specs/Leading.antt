@@ -1,7 +1,7 @@
 -- Which asks and answers lead to a core that a contract shows: what it has left to do is what they leave, and it counts the envelopes
 -- that they dropped.
 use Rattle.std.specs.Prelude.{◌≡◌, ℕ, ◌+◌, min, if◌then◌else◌, true, false, List, [], ◌∷◌, ◌++◌}
-use Rattle.canvas_rewrite.specs.Frozen.{Line}
+use Rattle.canvas_semantics.specs.Line.{Line}
 use Rattle.canvas_rewrite.specs.Planned.{IsPlan}
 use Rattle.canvas_backend.specs.Roster.{roster_of}
 use Rattle.canvas_runs.specs.Book.{Book}

@@ -1,7 +1,7 @@
 -- What a backend lets a worker's seat do: it may do all that the worker has left to do, whatever other workers do. It follows from what is left and from
 -- what the seat has seen, for each envelope that is opened, also for one that no plan's run has.
 use Rattle.std.specs.Prelude.{◌≡◌, ◌≤◌, ◌<◌, ℕ, Bool, true, false, IsTrue, [], ◌∷◌, length, Some, slice_get}
-use Rattle.canvas_rewrite.specs.Frozen.{Line}
+use Rattle.canvas_semantics.specs.Line.{Line}
 use Rattle.canvas_rewrite.specs.FrozenView.{Load}
 use Rattle.canvas_rewrite.specs.Planned.{IsPlan}
 use Rattle.canvas_message.specs.Job.{store, publish, hand_in}

@@ -5,7 +5,7 @@ ghost use Rattle.canvas_task.specs.Numbers.{in_range};
 ghost use Rattle.canvas_task.specs.Apply.{IsInRange};
 ghost use Rattle.canvas_task.specs.declared.outcome.Outcome.TheVariants.{Success};
 ghost use Rattle.canvas_rewrite.specs.FrozenView.{p_line_view, p_task_view};
-ghost use Rattle.canvas_rewrite.specs.Placed.{p_step};
+ghost use Rattle.canvas_semantics.specs.PlacedLine.{p_step};
 ghost use Rattle.canvas_message.specs.Effects.{after, message};
 ghost use Rattle.canvas_message.specs.Fits.{fits};
 ghost use Rattle.canvas_message.specs.Todos.{todo_view};

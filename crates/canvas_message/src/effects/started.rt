@@ -1,7 +1,7 @@
 //! Lines that are started: the messages of their first tasks.
 
 ghost use Rattle.std.specs.Prelude.{◌≡◌, ◌++◌, true, false, IfOk, OnOk, map, if◌then◌else◌};
-ghost use Rattle.canvas_rewrite.specs.Eval.{arguments, value};
+ghost use Rattle.canvas_semantics.specs.Evaluation.{arguments, value};
 ghost use Rattle.canvas_rewrite.specs.FrozenView.{p_tasks_of, p_steps, p_task_view, p_line_view, p_end_view};
 ghost use Rattle.canvas_rewrite.specs.declared.frozen.FrozenEnd.{out-FrozenEnd};
 ghost use Rattle.canvas_message.specs.Carrying.{stands, AllStand, callbacks_ok, input_ok};

@@ -1,6 +1,6 @@
 use Rattle.std.proofs.Common.{ap, ◌∙◌, inl, inr, ⊎_elim}
-use Rattle.canvas_rewrite.specs.Eval.{state_of, eval, nothing}
-use Rattle.canvas_rewrite.proofs.Numbers.{law}
+use Rattle.canvas_semantics.specs.Evaluation.{state_of, eval, nothing}
+use Rattle.canvas_semantics.proofs.NumberLemmas.{law}
 use Rattle.canvas_runs.proofs.Causes.{by_cause, completed_once, by_its_cause}
 use Rattle.canvas_runs.proofs.FirstLaw.{first_part}
 use Rattle.canvas_runs.proofs.FromCrew.{the_run, the_closed}

@@ -1,6 +1,6 @@
 use Rattle.std.proofs.Common.{ap, ◌∙◌}
-use Rattle.canvas_rewrite.specs.Eval.{state_of, eval, nothing}
-use Rattle.canvas_rewrite.proofs.Numbers.{law}
+use Rattle.canvas_semantics.specs.Evaluation.{state_of, eval, nothing}
+use Rattle.canvas_semantics.proofs.NumberLemmas.{law}
 use Rattle.canvas_runs.proofs.Causes.{completed_once}
 use Rattle.canvas_runs.proofs.FirstLaw.{first_part}
 use Rattle.canvas_runs.proofs.SecondLaw.{second_part}

@@ -1,5 +1,5 @@
 use Rattle.std.proofs.Common.{◌≡◌, rules, sym, subst}
-use Rattle.canvas_rewrite.specs.Frozen.{line_groups}
+use Rattle.canvas_semantics.specs.Line.{line_groups}
 use Rattle.canvas_backend.specs.Roster.{AreHomes, moved_in, members, roster_of}
 use Rattle.canvas_backend.proofs.Homes.{HomesTo, line_more, line_all}
 use Rattle.canvas_backend.proofs.roster.homes_of.Goals as goal

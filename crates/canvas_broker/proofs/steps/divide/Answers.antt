@@ -1,5 +1,5 @@
 use Rattle.std.proofs.Common.{ℕ, List, true, false, ◌≡◌, sym, ap, subst}
-use Rattle.canvas_task.specs.History.{among}
+use Rattle.canvas_history.specs.History.{among}
 use Rattle.canvas_broker.specs.Broker.{Known}
 use Rattle.canvas_message.specs.declared.envelope.Envelope.{Envelope}
 use Rattle.canvas_broker.proofs.Keeps.{splits, forks}

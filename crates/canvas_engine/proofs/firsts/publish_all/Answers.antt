@@ -1,6 +1,6 @@
 use Rattle.std.proofs.Common.{rules, ◌≡◌, ◌∷◌, None, sym, subst}
 use Rattle.std.specs.Vec.Iter.{into_iter_items}
-use Rattle.canvas_task.specs.History.{calls}
+use Rattle.canvas_history.specs.History.{calls}
 use Rattle.canvas_broker.specs.Broker.{publish}
 use Rattle.canvas_broker.specs.Callers.{Stands}
 use Rattle.canvas_runs.specs.Following.{Makes}

@@ -1,6 +1,6 @@
 use Rattle.std.proofs.Common.{rules, ◌≡◌, ◌+◌, ◌<◌, ◌≤◌, length, take, refl, arith}
 use Rattle.std.proofs.lemmas.List.{length-take-le}
-use Rattle.canvas_task.specs.History.{calls}
+use Rattle.canvas_history.specs.History.{calls}
 use Rattle.canvas_backend.specs.Backend.{read, found}
 use Rattle.canvas_backend.specs.Callers.{Stands}
 use Rattle.canvas_engine.proofs.SeatRows.{row_read}

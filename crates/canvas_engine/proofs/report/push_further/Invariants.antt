@@ -1,6 +1,6 @@
 use Rattle.std.proofs.Common.{◌≡◌, ◌++◌, drop, string_bytes}
-use Rattle.canvas_rewrite.specs.Eval.{with_states}
-use Rattle.canvas_rewrite.specs.States.{rows_from}
+use Rattle.canvas_semantics.specs.Evaluation.{with_states}
+use Rattle.canvas_semantics.specs.States.{rows_from}
 use Rattle.canvas_engine.specs.ReportRows.{listed_behind}
 use Rattle.canvas_engine.proofs.report.push_further.Given as goal
 

@@ -1,7 +1,7 @@
 use Rattle.std.proofs.Common.{◌++◌, ◌∙◌, ap, sym, arith, string_bytes}
-use Rattle.canvas_rewrite.specs.Frozen.{names}
-use Rattle.canvas_rewrite.specs.Report.{lines}
-use Rattle.canvas_rewrite.specs.States.{rows_from}
+use Rattle.canvas_semantics.specs.Line.{names}
+use Rattle.canvas_semantics.specs.Report.{lines}
+use Rattle.canvas_semantics.specs.States.{rows_from}
 use Rattle.canvas_rewrite.proofs.NamesInOrder.{plan_names}
 use Rattle.canvas_engine.proofs.ReportLines.{one_more, all_written, names_long}
 use Rattle.canvas_engine.proofs.report.push_rows.Goals as goal

@@ -1,7 +1,7 @@
 use Rattle.std.proofs.Common.{◌≡◌, ◌++◌, ◌+◌, drop, string_bytes}
-use Rattle.canvas_rewrite.specs.Frozen.{names}
-use Rattle.canvas_rewrite.specs.Report.{counted_from, lines}
-use Rattle.canvas_rewrite.specs.States.{rows_from}
+use Rattle.canvas_semantics.specs.Line.{names}
+use Rattle.canvas_semantics.specs.Report.{counted_from, lines}
+use Rattle.canvas_semantics.specs.States.{rows_from}
 use Rattle.canvas_engine.proofs.report.push_rows.Given as goal
 
 -- the text so far, and the lines still to come

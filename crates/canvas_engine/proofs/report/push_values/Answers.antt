@@ -1,6 +1,6 @@
 use Rattle.std.proofs.Common.{◌≡◌, ◌++◌, ◌∙◌, OnOk, ap, rules, subst, string_bytes}
-use Rattle.canvas_rewrite.specs.Report.{value_text}
-use Rattle.canvas_rewrite.specs.States.{rows_from}
+use Rattle.canvas_semantics.specs.Report.{value_text}
+use Rattle.canvas_semantics.specs.States.{rows_from}
 use Rattle.canvas_engine.proofs.ReportLines.{values}
 use Rattle.canvas_engine.proofs.report.push_values.Goals as goal
 

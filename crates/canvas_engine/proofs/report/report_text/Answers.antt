@@ -1,9 +1,9 @@
 use Rattle.std.proofs.Common.{◌++◌, ◌∙◌, ap, string_bytes}
 use Rattle.canvas_rewrite.specs.Ends.{is_list, tasks_of}
-use Rattle.canvas_rewrite.specs.Eval.{with_states}
-use Rattle.canvas_rewrite.specs.Frozen.{tree_of}
-use Rattle.canvas_rewrite.specs.Report.{names as named, lines, result_text}
-use Rattle.canvas_rewrite.specs.States.{rows_from}
+use Rattle.canvas_semantics.specs.Evaluation.{with_states}
+use Rattle.canvas_semantics.specs.Line.{tree_of}
+use Rattle.canvas_semantics.specs.Report.{names as named, lines, result_text}
+use Rattle.canvas_semantics.specs.States.{rows_from}
 use Rattle.canvas_engine.proofs.ReportLines.{whole}
 use Rattle.canvas_engine.proofs.report.report_text.Goals as goal
 

@@ -1,7 +1,7 @@
 use Rattle.std.proofs.Common.{rules, ◌≡◌, ◌∙◌, ℕ, [], ◌∷◌, ◌++◌, All, drop, length, map, take, sym, ap, subst}
 use Rattle.std.proofs.lemmas.List.{take_at}
-use Rattle.canvas_rewrite.specs.Frozen.{Line, count_line, tree_of}
-use Rattle.canvas_rewrite.specs.States.{states}
+use Rattle.canvas_semantics.specs.Line.{Line, count_line, tree_of}
+use Rattle.canvas_semantics.specs.States.{states}
 use Rattle.canvas_message.specs.Effects.{first_messages}
 use Rattle.canvas_backend.specs.Roster.{roster_of}
 use Rattle.canvas_runs.specs.Following.{Makes}

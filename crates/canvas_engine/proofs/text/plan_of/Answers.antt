@@ -1,7 +1,7 @@
 use Rattle.std.proofs.Common.{◌≡◌, subst, IfOk}
-use Rattle.canvas_sig.specs.Tree.{Tree, numbered}
-use Rattle.canvas_rewrite.specs.Frozen.{tree_of}
-use Rattle.canvas_rewrite.specs.Same.{IsSame}
+use Rattle.canvas_semantics.specs.Tree.{Tree, numbered}
+use Rattle.canvas_semantics.specs.Line.{tree_of}
+use Rattle.canvas_semantics.specs.SameMeaning.{IsSame}
 use Rattle.canvas_engine.proofs.SameText.{on_ok}
 use Rattle.canvas_engine.proofs.text.plan_of.Goals as goal
 

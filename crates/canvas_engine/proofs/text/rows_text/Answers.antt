@@ -1,4 +1,4 @@
-use Rattle.canvas_rewrite.specs.States.{rows_from}
+use Rattle.canvas_semantics.specs.States.{rows_from}
 use Rattle.canvas_engine.proofs.SameText.{rows_reported}
 use Rattle.canvas_engine.proofs.text.rows_text.Goals as goal
 

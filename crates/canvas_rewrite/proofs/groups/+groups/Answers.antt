@@ -1,7 +1,7 @@
 use Rattle.std.proofs.Common.{◌≡◌, ◌∙◌, ◌++◌, ◌∷◌, [], map, ap, sym, rules, refl}
-use Rattle.canvas_rewrite.specs.Frozen.{teams}
+use Rattle.canvas_semantics.specs.Line.{teams}
 use Rattle.canvas_rewrite.specs.FrozenView.{line_in, end_in}
-use Rattle.canvas_rewrite.specs.Numbering.{lines_ends}
+use Rattle.canvas_semantics.specs.Numbering.{lines_ends}
 use Rattle.canvas_rewrite.specs.Teams.{team}
 use Rattle.canvas_rewrite.proofs.PlanLines.{teams_none, teams_some, teams_group, teams_chord, ok_same, chord_pushed, group_pushed}
 use Rattle.canvas_rewrite.proofs.groups.+groups.Goals as goal

@@ -1,6 +1,6 @@
 use Rattle.std.proofs.Common.{◌≡◌, ◌++◌, map, drop}
 use Rattle.canvas_rewrite.specs.FrozenView.{line_in}
-use Rattle.canvas_rewrite.specs.Numbering.{lines_all_teams}
+use Rattle.canvas_semantics.specs.Numbering.{lines_all_teams}
 use Rattle.canvas_rewrite.specs.Teams.{team}
 use Rattle.canvas_rewrite.proofs.groups.+groups.Given as goal
 

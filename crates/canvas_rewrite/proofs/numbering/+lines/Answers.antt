@@ -1,9 +1,9 @@
 use Rattle.std.proofs.Common.{◌≡◌, ◌∙◌, ◌+◌, ℕ, arith, map, ap, sym, refl}
 use Rattle.canvas_sig.specs.View.{task_view}
-use Rattle.canvas_rewrite.specs.Frozen.{count_line, line_groups, number_line}
-use Rattle.canvas_rewrite.specs.Placed.{bare, p_group_end}
+use Rattle.canvas_semantics.specs.Line.{count_line, line_groups, number_line}
+use Rattle.canvas_semantics.specs.PlacedLine.{bare, p_group_end}
 use Rattle.canvas_rewrite.specs.FrozenView.{line_of, end_of, p_task_view, p_line_view, p_steps, p_lines_of}
-use Rattle.canvas_rewrite.specs.Numbering.{tasks_in, lines_count, lines_teams}
+use Rattle.canvas_semantics.specs.Numbering.{tasks_in, lines_count, lines_teams}
 use Rattle.canvas_rewrite.specs.declared.line.Line as line
 use Rattle.canvas_rewrite.specs.declared.line.Line.{out-Line}
 use Rattle.canvas_rewrite.specs.declared.line.LineEnd.{LineEnd, out-LineEnd}

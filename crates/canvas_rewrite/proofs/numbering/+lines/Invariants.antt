@@ -1,7 +1,7 @@
 use Rattle.std.proofs.Common.{◌≡◌, ◌≤◌, ◌+◌, ◌*◌, ◌++◌, map, drop}
-use Rattle.canvas_rewrite.specs.Frozen.{line_groups}
+use Rattle.canvas_semantics.specs.Line.{line_groups}
 use Rattle.canvas_rewrite.specs.FrozenView.{line_of, end_of, p_line_view}
-use Rattle.canvas_rewrite.specs.Numbering.{lines_from, lines_count, lines_teams}
+use Rattle.canvas_semantics.specs.Numbering.{lines_from, lines_count, lines_teams}
 use Rattle.canvas_rewrite.proofs.numbering.+lines.Given as goal
 
 abbrev pub decreases-freeze_line : goal.decreases-freeze_line

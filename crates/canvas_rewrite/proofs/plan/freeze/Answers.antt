@@ -1,13 +1,13 @@
 use Rattle.std.proofs.Common.{◌≡◌, ◌∙◌, ◌++◌, ◌-◌, ◌≤◌, map, ap, sym, subst, arith}
-use Rattle.canvas_sig.specs.Tree.{Tree, numbered}
-use Rattle.canvas_rewrite.specs.Frozen.{count_line, line_groups, number_line, teams, ends_of, names, in_group, tree_of}
-use Rattle.canvas_rewrite.specs.Placed.{bare, strip}
+use Rattle.canvas_semantics.specs.Tree.{Tree, numbered}
+use Rattle.canvas_semantics.specs.Line.{count_line, line_groups, number_line, teams, ends_of, names, in_group, tree_of}
+use Rattle.canvas_semantics.specs.PlacedLine.{bare, strip}
 use Rattle.canvas_rewrite.specs.FrozenView.{line_of, line_in}
 use Rattle.canvas_rewrite.specs.Runnable.{IsRunnable}
 use Rattle.canvas_rewrite.specs.Teams.{team}
 use Rattle.canvas_rewrite.proofs.NormalRuns.{runs_numbered}
-use Rattle.canvas_rewrite.proofs.Numbered.{strip_bare, count_numbered, groups_numbered, tree_numbered, count_elements, groups_elements}
-use Rattle.canvas_rewrite.proofs.Renumbered.{again}
+use Rattle.canvas_semantics.proofs.Numbered.{strip_bare, count_numbered, groups_numbered, tree_numbered, count_elements, groups_elements}
+use Rattle.canvas_semantics.proofs.Renumbered.{again}
 use Rattle.canvas_rewrite.proofs.plan.freeze.Goals as goal
 
 pub freeze_line-requires : goal.freeze_line-requires

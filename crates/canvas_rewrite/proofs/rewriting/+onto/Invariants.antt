@@ -1,9 +1,9 @@
 use Rattle.std.proofs.Common.{◌≡◌, ◌≤◌, length, map, take, drop}
-use Rattle.canvas_sig.specs.Tree.{no_trees}
+use Rattle.canvas_semantics.specs.Tree.{no_trees}
 use Rattle.canvas_sig.specs.View.{view, trees_of}
 use Rattle.canvas_rewrite.specs.View.{elements}
 use Rattle.canvas_rewrite.specs.Growing.{growing}
-use Rattle.canvas_sig.specs.Normal.{onto, all_onto}
+use Rattle.canvas_semantics.specs.NormalLine.{onto, all_onto}
 use Rattle.canvas_rewrite.proofs.rewriting.+onto.Given as goal
 
 -- the line so far is that of the nodes from the place on

@@ -1,6 +1,6 @@
 use Rattle.std.proofs.Common.{◌≡◌, ◌∙◌, ap}
-use Rattle.canvas_sig.specs.Normal.{onto, normal}
-use Rattle.canvas_sig.specs.Tree.{chain, no_trees}
+use Rattle.canvas_semantics.specs.NormalLine.{onto, normal}
+use Rattle.canvas_semantics.specs.Tree.{chain, no_trees}
 use Rattle.canvas_sig.specs.View.{view}
 use Rattle.canvas_rewrite.specs.View.{line_view}
 use Rattle.canvas_rewrite.proofs.NormalRuns.{same_line}

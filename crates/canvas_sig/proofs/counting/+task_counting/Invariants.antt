@@ -1,5 +1,5 @@
 use Rattle.std.proofs.Common.{◌≡◌, ◌+◌, map, drop}
-use Rattle.canvas_sig.specs.Tree.{count_tasks}
+use Rattle.canvas_semantics.specs.Tree.{count_tasks}
 use Rattle.canvas_sig.specs.View.{task_view, tasks_of}
 use Rattle.canvas_sig.proofs.counting.+task_counting.Given as goal
 

@@ -1,5 +1,5 @@
 use Rattle.std.proofs.Common.{◌≡◌, ◌+◌, map, drop}
-use Rattle.canvas_sig.specs.Tree.{count_all}
+use Rattle.canvas_semantics.specs.Tree.{count_all}
 use Rattle.canvas_sig.specs.View.{view, trees_of}
 use Rattle.canvas_sig.proofs.counting.+tasks.Given as goal
 

@@ -1,5 +1,5 @@
 use Rattle.std.proofs.Common.{◌∙◌, ap, arith}
-use Rattle.canvas_sig.specs.Nesting.{task_nesting}
+use Rattle.canvas_semantics.specs.Nesting.{task_nesting}
 use Rattle.canvas_sig.proofs.Views.{task_seen}
 use Rattle.canvas_sig.proofs.NestingLemmas.{both, first_fails, of_sigs}
 use Rattle.canvas_sig.proofs.nesting.+task_nests.Goals as goal

@@ -1,6 +1,6 @@
 use Rattle.std.proofs.Common.{None, ◌∷◌, [], subst, sym}
 use Rattle.std.specs.Prelude.{OnOk}
-use Rattle.canvas_task.specs.History.{calls}
+use Rattle.canvas_history.specs.History.{calls}
 use Rattle.canvas_message.specs.declared.envelope.Envelope.{Envelope}
 use Rattle.canvas_broker.specs.Broker.{publish, Own}
 use Rattle.canvas_broker.specs.Callers.{Caller, knows_of}

@@ -1,6 +1,6 @@
 use Rattle.std.proofs.Common.{◌≡◌, ◌∷◌, [], subst, sym}
 use Rattle.std.specs.Prelude.{IfOk}
-use Rattle.canvas_task.specs.History.{split, made_by}
+use Rattle.canvas_history.specs.History.{split, made_by}
 use Rattle.canvas_message.specs.declared.envelope.Envelope.{Envelope}
 use Rattle.canvas_broker.specs.Broker.{Own}
 use Rattle.canvas_broker.specs.Callers.{Caller, knows_of}

@@ -1,6 +1,6 @@
 use Rattle.std.proofs.Common.{Some, ◌∷◌, [], subst}
 use Rattle.std.specs.Prelude.{IfSome, IfNone}
-use Rattle.canvas_task.specs.History.{calls}
+use Rattle.canvas_history.specs.History.{calls}
 use Rattle.canvas_message.specs.declared.envelope.Envelope.{Envelope}
 use Rattle.canvas_broker.specs.Broker.{take, Own, HoldsNothing}
 use Rattle.canvas_broker.specs.Callers.{Caller, knows_of}

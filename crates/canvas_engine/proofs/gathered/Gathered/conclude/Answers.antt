@@ -1,9 +1,9 @@
 use Rattle.std.proofs.Common.{rules, ◌≡◌, ◌+◌, ◌∙◌, ◌∷◌, ◌++◌, drop, length, min, take, None, refl, sym, ap, subst}
 use Rattle.std.proofs.Math.ListN.{set}
 use Rattle.std.proofs.lemmas.List.{take_at}
-use Rattle.canvas_rewrite.specs.Eval.{State}
-use Rattle.canvas_rewrite.specs.Frozen.{Line, count_line, tree_of}
-use Rattle.canvas_rewrite.specs.States.{states}
+use Rattle.canvas_semantics.specs.Evaluation.{State}
+use Rattle.canvas_semantics.specs.Line.{Line, count_line, tree_of}
+use Rattle.canvas_semantics.specs.States.{states}
 use Rattle.canvas_message.specs.Effects.{first_messages}
 use Rattle.canvas_backend.specs.Roster.{roster_of}
 use Rattle.canvas_runs.specs.Following.{Serves}

@@ -1,7 +1,7 @@
 use Rattle.std.proofs.Common.{rules, ◌≡◌, ◌++◌, drop, length, take, sym, subst}
 use Rattle.std.proofs.lemmas.List.{take_at}
-use Rattle.canvas_rewrite.specs.Frozen.{count_line, tree_of}
-use Rattle.canvas_rewrite.specs.States.{states}
+use Rattle.canvas_semantics.specs.Line.{count_line, tree_of}
+use Rattle.canvas_semantics.specs.States.{states}
 use Rattle.canvas_backend.specs.Roster.{roster_of}
 use Rattle.canvas_runs.specs.Following.{Serves}
 use Rattle.canvas_runs.specs.Rows.{EachMay, reads_from}

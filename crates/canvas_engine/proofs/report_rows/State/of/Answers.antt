@@ -1,5 +1,5 @@
 use Rattle.std.proofs.Common.{None, Some}
-use Rattle.canvas_engine.proofs.RowLookups.{of_task}
+use Rattle.canvas_semantics.proofs.RowLookups.{of_task}
 use Rattle.canvas_engine.proofs.report_rows.State.of.Goals as goal
 
 pub returns-in-Some : goal.returns-in-Some

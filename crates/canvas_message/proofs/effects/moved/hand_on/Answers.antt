@@ -2,7 +2,7 @@ use Rattle.std.proofs.Common.{rules, ◌≡◌, ◌∙◌, ◌∷◌, [], ◌++�
 use Rattle.std.proofs.lemmas.Int.{to_z-of_z}
 use Rattle.std.proofs.lemmas.Result.{IfOk-weaker}
 use Rattle.canvas_rewrite.specs.FrozenView.{p_tasks_of, p_task_view}
-use Rattle.canvas_rewrite.specs.Placed.{p_step}
+use Rattle.canvas_semantics.specs.PlacedLine.{p_step}
 use Rattle.canvas_message.specs.Content.{number_of, links_of}
 use Rattle.canvas_message.specs.Effects.{message, callbacks, messages_in}
 use Rattle.canvas_message.specs.Fits.{fits}

@@ -1,5 +1,5 @@
 use Rattle.std.proofs.Common.{◌≡◌, ◌∙◌, ◌∷◌, [], ◌<◌, ap, sym, length, get_or, arith}
-use Rattle.canvas_rewrite.specs.Frozen.{ends_of}
+use Rattle.canvas_semantics.specs.Line.{ends_of}
 use Rattle.canvas_rewrite.specs.FrozenView.{line_in}
 use Rattle.canvas_rewrite.proofs.Members.{one_end}
 use Rattle.canvas_rewrite.proofs.plan.Plan.ends.Goals as goal

@@ -1,6 +1,6 @@
 use Rattle.std.proofs.Common.{◌+◌, subst}
-use Rattle.canvas_rewrite.specs.FileOrder.{LineIn}
-use Rattle.canvas_rewrite.specs.Frozen.{count_line, members}
+use Rattle.canvas_semantics.specs.FileOrder.{LineIn}
+use Rattle.canvas_semantics.specs.Line.{count_line, members}
 use Rattle.canvas_rewrite.proofs.InOrder.{plan_in_order}
 use Rattle.canvas_rewrite.proofs.plan.Plan.line.Goals as goal
 

@@ -1,7 +1,7 @@
 use Rattle.std.proofs.Common.{◌≡◌, ◌∙◌, ap, sym, length, arith}
-use Rattle.canvas_rewrite.specs.Frozen.{members, team_members}
+use Rattle.canvas_semantics.specs.Line.{members, team_members}
 use Rattle.canvas_rewrite.proofs.Members.{few_members}
-use Rattle.canvas_rewrite.proofs.Numbered.{count_elements}
+use Rattle.canvas_semantics.proofs.Numbered.{count_elements}
 use Rattle.canvas_rewrite.proofs.plan.Plan.size_of.Goals as goal
 
 pub overflow_cast-result : goal.overflow_cast-result

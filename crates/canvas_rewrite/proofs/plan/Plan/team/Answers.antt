@@ -1,6 +1,6 @@
 use Rattle.std.proofs.Common.{◌≡◌, ◌∙◌, ◌<◌, ◌≤◌, ◌-◌, ap, sym, subst, length, map, Bor, MatchOption, List}
 use Rattle.std.specs.List.{HoldsAt}
-use Rattle.canvas_rewrite.specs.Frozen.{teams, team_at}
+use Rattle.canvas_semantics.specs.Line.{teams, team_at}
 use Rattle.canvas_rewrite.specs.declared.groups.Group.{Group}
 use Rattle.canvas_rewrite.specs.Teams.{team}
 use Rattle.canvas_rewrite.proofs.PlanLookups.{team_found}

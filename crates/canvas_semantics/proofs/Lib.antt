@@ -1,0 +1,11 @@
+pub mod NormalLaw
+pub mod NormalEnds
+pub mod GroupLemmas
+pub mod NumberLemmas
+pub mod EndLemmas
+pub mod Numbered
+pub mod Renumbered
+pub mod RowNumbers
+pub mod RowLookups
+pub mod SameReport
+pub mod rows

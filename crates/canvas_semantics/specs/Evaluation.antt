@@ -1,0 +1,177 @@
+-- What a canvas means: a state for each task, and what flows out.
+use Rattle.std.specs.Prelude.{ℕ, ◌==◌, Bool, true, false, if◌then◌else◌, List, [], ◌∷◌, ◌++◌, map, Option, Some, None, ℤ}
+use Rattle.canvas_task.specs.declared.arg.Arg.{Arg}
+use Rattle.canvas_task.specs.declared.arg.Arg.TheVariants as arg
+use Rattle.canvas_task.specs.declared.outcome.Why.{Why}
+use Rattle.canvas_task.specs.declared.outcome.Why.TheVariants as why
+use Rattle.canvas_task.specs.declared.outcome.Fault.{Fault}
+use Rattle.canvas_task.specs.declared.outcome.Fault.TheVariants as fault
+use Rattle.canvas_task.specs.declared.outcome.Outcome.{Outcome}
+use Rattle.canvas_task.specs.declared.outcome.Outcome.TheVariants.{Success, Failure}
+use Rattle.canvas_task.specs.Apply.{apply}
+use Rattle.canvas_task.specs.Identifiers.{task_text}
+use Rattle.canvas_semantics.specs.Tree.{Call, Task, task, Tasks, no_tasks, and_task, Tree, one, chain, group, chord, Trees, no_trees, and_tree, numbered}
+
+-- What reaches an element: nothing, a number, a list of numbers, the identifier of a task as text,
+-- an exception that skips, or an exception that is raised.
+pub data Flow : Type 0 where
+  nothing : Flow
+  num : ℤ → Flow
+  list : List ℤ → Flow
+  id : ℕ → Flow
+  skip : Fault → Flow
+  raised : Fault → Flow
+
+-- an outcome, or none while the task is pending
+abbrev pub State : Type 0
+State = Option Outcome
+
+-- the states of tasks, each beside its task's number
+abbrev pub Rows : Type 0
+Rows = List (ℕ × State)
+
+-- what evaluating an element gives
+pub record Meaning : Type 0 where
+  pub rows : Rows
+  pub out : Flow
+
+-- ---- arguments
+
+-- the value of a flow as an argument
+abbrev pub value : Flow → List Arg
+value nothing = []
+value (num n) = arg.Num n ∷ []
+value (list ns) = arg.List ns ∷ []
+value (id k) = arg.Text (task_text k) ∷ []
+value (skip f) = []
+value (raised f) = []
+
+-- a task's own arguments; unless it is immutable, the value of the flow stands in front
+abbrev pub arguments : Call → Flow → List Arg
+arguments call x = if call.immutable then call.args else value x ++ call.args
+
+-- ---- one task
+
+-- the state of a task for a flow; what is evaluated with no flow is pending
+abbrev pub state : Call → Option Flow → State
+state call None = None
+state call (Some (skip f)) = Some (Failure f)
+state call (Some (raised f)) = Some (Failure f)
+state call (Some x) = Some (apply call.name (arguments call x) call.kwargs)
+
+-- links run on the number of a success
+abbrev pub to_links : State → Option Flow
+to_links (Some (Success n)) = Some (num n)
+to_links s = None
+
+-- error callbacks run on the identifier of a task that failed and wasn't skipped
+abbrev pub to_errbacks : ℕ → Option Flow → State → Option Flow
+to_errbacks k (Some (skip f)) s = None
+to_errbacks k x (Some (Failure f)) = Some (id k)
+to_errbacks k x s = None
+
+-- what goes out of a task
+abbrev pub passed_on : State → Flow
+passed_on (Some (Success n)) = num n
+passed_on (Some (Failure f)) = skip f
+passed_on None = nothing
+
+abbrev mutual
+  pub task_rows : Task → Option Flow → Rows
+  task_rows (task k call links errbacks) x =
+      (k, state call x) ∷ tasks_rows links (to_links (state call x)) ++ tasks_rows errbacks (to_errbacks k x (state call x))
+
+  pub tasks_rows : Tasks → Option Flow → Rows
+  tasks_rows no_tasks x = []
+  tasks_rows (and_task t ts) x = task_rows t x ++ tasks_rows ts x
+
+abbrev pub task_meaning : Task → Flow → Meaning
+task_meaning (task k call links errbacks) x =
+    record { rows = task_rows (task k call links errbacks) (Some x); out = passed_on (state call (Some x)) }
+
+-- ---- the ends of an element, and what goes out of a group
+
+-- itself, those of a chain's last element, of a group's members in order, or of a chord's body
+abbrev mutual
+  pub ends : Tree → List ℕ
+  ends (one (task k call links errbacks)) = k ∷ []
+  ends (chain ts) = last_ends ts
+  ends (group g ms) = all_ends ms
+  ends (chord g h b) = ends b
+
+  pub last_ends : Trees → List ℕ
+  last_ends no_trees = []
+  last_ends (and_tree t no_trees) = ends t
+  last_ends (and_tree t ts) = last_ends ts
+
+  pub all_ends : Trees → List ℕ
+  all_ends no_trees = []
+  all_ends (and_tree t ts) = ends t ++ all_ends ts
+
+-- the state of a task among the rows
+abbrev pub state_of : ℕ → Rows → State
+state_of k [] = None
+state_of k (row ∷ rows) = if row.0 == k then row.1 else state_of k rows
+
+abbrev pub with_states : Rows → List ℕ → Rows
+with_states rows ks = map (λ k. (k, state_of k rows)) ks
+
+abbrev pub why_of : Fault → Why
+why_of (fault.Plain kind) = why.Plain kind
+why_of (fault.Chord dep _) = why.Chord
+
+-- a number in front of a list that flows
+abbrev pub in_front : ℤ → Flow → Flow
+in_front n (list ns) = list (n ∷ ns)
+in_front n x = x
+
+-- The list of the results of the members' ends, in order. Where one failed, a ChordError instead,
+-- which names the first that failed, with the kind of its exception.
+abbrev pub gathered : Rows → Flow
+gathered [] = list []
+gathered ((k, Some (Success n)) ∷ es) = in_front n (gathered es)
+gathered ((k, Some (Failure f)) ∷ es) = raised (fault.Chord k (why_of f))
+gathered ((k, None) ∷ es) = gathered es
+
+-- what goes out of a group with a flow, given its members' ends
+abbrev pub group_value : Flow → Rows → Flow
+group_value (skip f) es = skip f
+group_value (raised f) [] = raised f
+group_value x es = gathered es
+
+-- ---- elements
+
+-- rows in front of a meaning
+abbrev pub behind : Rows → Meaning → Meaning
+behind rows m = record { rows = rows ++ m.rows; out = m.out }
+
+-- what goes out of the first goes into the next
+abbrev pub and_then : Meaning → (Flow → Meaning) → Meaning
+and_then first next = behind first.rows (next first.out)
+
+-- the members with their rows, as a group
+abbrev pub as_group : Flow → Trees → Rows → Meaning
+as_group x ms rows = record { rows = rows; out = group_value x (with_states rows (all_ends ms)) }
+
+abbrev mutual
+  pub eval : Tree → Flow → Meaning
+  eval (one t) x = task_meaning t x
+  eval (chain ts) x = eval_chain ts x
+  eval (group g ms) x = as_group x ms (member_rows ms x)
+  eval (chord g h b) x = and_then (as_group x h (member_rows h x)) (eval b)
+
+  pub eval_chain : Trees → Flow → Meaning
+  eval_chain no_trees x = record { rows = []; out = x }
+  eval_chain (and_tree t ts) x = and_then (eval t x) (eval_chain ts)
+
+  -- each member has the flow that comes in
+  pub member_rows : Trees → Flow → Rows
+  member_rows no_trees x = []
+  member_rows (and_tree t ts) x = (eval t x).rows ++ member_rows ts x
+
+-- the states of a canvas by number, and its result
+abbrev pub meaning : Tree → Rows
+meaning c = (eval (numbered c) nothing).rows
+
+abbrev pub result : Tree → Rows
+result c = with_states (meaning c) (ends (numbered c))

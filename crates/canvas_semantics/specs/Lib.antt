@@ -1,0 +1,16 @@
+pub mod Tree
+pub mod NormalLine
+pub mod Evaluation
+pub mod States
+pub mod Report
+pub mod Groups
+pub mod SameMeaning
+pub mod Line
+pub mod PlacedLine
+pub mod Nesting
+pub mod Reach
+pub mod Bounds
+pub mod Numbering
+pub mod FileOrder
+pub mod Compact
+pub mod codes

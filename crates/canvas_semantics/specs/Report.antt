@@ -1,0 +1,78 @@
+-- The report of a canvas as text.
+use Rattle.std.specs.Prelude.{ℕ, ◌+◌, Bool, true, false, List, [], ◌∷◌, ◌++◌, map, Option, Some, None, codes}
+use Rattle.std.specs.Fmt.{decimal, signed_decimal}
+use Rattle.canvas_task.specs.declared.outcome.Outcome.TheVariants.{Success, Failure}
+use Rattle.canvas_task.specs.Identifiers.{task_text}
+use Rattle.canvas_task.specs.Printed.{fault_text}
+use Rattle.canvas_semantics.specs.Tree.{ends_in_group, Call, Task, task, Tasks, no_tasks, and_task, Tree, one, chain, group, chord, Trees, no_trees, and_tree, numbered}
+use Rattle.canvas_semantics.specs.Evaluation.{State, Rows, state_of, with_states, ends, meaning}
+
+-- a text is its bytes
+abbrev pub Text : Type 0
+Text = List ℕ
+
+-- the state and the value of a task, as a line of the report has them
+abbrev pub state_name : State → Text
+state_name None = codes "PENDING"
+state_name (Some (Success n)) = codes "SUCCESS"
+state_name (Some (Failure f)) = codes "FAILURE"
+
+abbrev pub value_text : State → Text
+value_text None = codes "-"
+value_text (Some (Success n)) = signed_decimal n
+value_text (Some (Failure f)) = fault_text f
+
+-- each task's number and name, in file order
+abbrev mutual
+  pub names_of_task : Task → List (ℕ × Text)
+  names_of_task (task k call links errbacks) = (k, call.name) ∷ names_of_tasks links ++ names_of_tasks errbacks
+
+  pub names_of_tasks : Tasks → List (ℕ × Text)
+  names_of_tasks no_tasks = []
+  names_of_tasks (and_task t ts) = names_of_task t ++ names_of_tasks ts
+
+-- the same of a whole tree
+abbrev mutual
+  pub names : Tree → List (ℕ × Text)
+  names (one t) = names_of_task t
+  names (chain ts) = all_names ts
+  names (group g ms) = all_names ms
+  names (chord g h b) = all_names h ++ names b
+
+  pub all_names : Trees → List (ℕ × Text)
+  all_names no_trees = []
+  all_names (and_tree t ts) = names t ++ all_names ts
+
+-- names with numbers, from one on
+abbrev pub counted_from : ℕ → List Text → List (ℕ × Text)
+counted_from k [] = []
+counted_from k (n ∷ ns) = (k, n) ∷ counted_from (k + 1) ns
+
+-- <id> <name> <state> <value>
+abbrev pub line : ℕ × Text → State → Text
+line t s = task_text t.0 ++ codes " " ++ t.1 ++ codes " " ++ state_name s ++ codes " " ++ value_text s ++ codes "\n"
+
+-- one for each task
+abbrev pub lines : List (ℕ × Text) → Rows → Text
+lines [] rows = []
+lines (t ∷ ts) rows = line t (state_of t.0 rows) ++ lines ts rows
+
+-- the values, with a comma and a space between two
+abbrev pub listed : Rows → Text
+listed [] = []
+listed (e ∷ []) = value_text e.1
+listed (e ∷ es) = value_text e.1 ++ codes ", " ++ listed es
+
+-- the result of a canvas, a list where it ends in a group
+abbrev pub result_text : Bool → Rows → Text
+result_text true es = codes "[" ++ listed es ++ codes "]"
+result_text false es = listed es
+
+-- the report of a numbered canvas and of states; a state that is missing is pending
+abbrev pub report_of : Tree → Rows → Text
+report_of c rows =
+    lines (names c) rows ++ codes "result " ++ result_text (ends_in_group c) (with_states rows (ends c)) ++ codes "\n"
+
+-- the report of a canvas
+abbrev pub report : Tree → Text
+report c = report_of (numbered c) (meaning c)

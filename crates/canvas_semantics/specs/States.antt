@@ -1,0 +1,18 @@
+-- The states of a canvas's tasks as a table: one for each task, in the order of their numbers.
+use Rattle.std.specs.Prelude.{ℕ, zero, suc, ◌+◌, List, [], ◌∷◌, map}
+use Rattle.canvas_semantics.specs.Tree.{Tree, count}
+use Rattle.canvas_semantics.specs.Evaluation.{State, Rows, state_of, eval, nothing}
+
+-- n numbers from k on
+abbrev pub numbers_from : ℕ → ℕ → List ℕ
+numbers_from k zero = []
+numbers_from k (suc n) = k ∷ numbers_from (suc k) n
+
+-- states as rows, the first being that of task k
+abbrev pub rows_from : ℕ → List State → Rows
+rows_from k [] = []
+rows_from k (s ∷ ss) = (k, s) ∷ rows_from (suc k) ss
+
+-- of a numbered canvas: the state of each task that evaluating it gives
+abbrev pub states : Tree → List State
+states c = map (λ k. state_of k (eval c nothing).rows) (numbers_from 1 (count c))

@@ -1,0 +1,3 @@
+pub mod Nest
+pub mod TreeCode
+pub mod LineCode
