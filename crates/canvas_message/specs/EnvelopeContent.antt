@@ -3,9 +3,10 @@
 use Rattle.std.specs.Prelude.{ℕ, zero, suc, ℤ, pos, false, if◌then◌else◌, List, [], ◌∷◌, map, reverse, Option, Some, unwrap_or, codes}
 use Rattle.serde_json.specs.Data.{Data, null, array, item, no_items}
 use Rattle.canvas_sig.specs.CanvasText.{json_of}
-use Rattle.canvas_sig.specs.Faults.{named_of, call_of}
-use Rattle.canvas_sig.specs.Fields.{Text, field, subtype, option, tasks, header, body, link, link_error, listed, as_list, members, text_of, is_null}
-use Rattle.canvas_sig.specs.Reading.{number_of, argument_of, primitive_of}
+use Rattle.canvas_sig.specs.Refusals.{named_of, spelled_call}
+use Rattle.canvas_task.specs.Text.{Text}
+use Rattle.canvas_sig.specs.Fields.{field, subtype, option, tasks, header, body, link, link_error, listed, as_list, object_members, text_of, is_null}
+use Rattle.canvas_sig.specs.Reading.{whole_number, argument_of, primitive_of}
 use Rattle.canvas_sig.specs.declared.primitive.Primitive.{Primitive}
 use Rattle.canvas_sig.specs.declared.primitive.Primitive.TheVariants as kind
 use Rattle.canvas_rewrite.specs.FrozenView.{p_tasks_of, p_lines_of}
@@ -27,7 +28,7 @@ natural z = 0
 
 -- how many members the header of a carried body has
 abbrev pub size_in : (body : Data) → ℕ
-size_in d = natural (number_of (field (codes "chord_size") d))
+size_in d = natural (whole_number (field (codes "chord_size") d))
 
 -- ---- frozen signatures: those of a canvas, with identifiers and places in their options
 
@@ -40,7 +41,7 @@ place_from f group body =
 -- a task, by what its links and error callbacks are and by what line a carried body is
 abbrev pub task_from : (Data → PTask) → (Data → PLine) → Data → PTask
 task_from t f d =
-    p_task (task_number (option (codes "task_id") d)) (call_of d) (p_tasks_of (map t (as_list (link d)))) (p_tasks_of (map t (as_list (link_error d))))
+    p_task (task_number (option (codes "task_id") d)) (spelled_call d) (p_tasks_of (map t (as_list (link d)))) (p_tasks_of (map t (as_list (link_error d))))
     (place_from f (option (codes "group_id") d) (option (codes "chord") d))
 
 -- the last element of a line, by what it is as a task, and by what lines stand in it
@@ -57,7 +58,7 @@ line_from s e (d ∷ ds) = p_step (s d) (line_from s e ds)
 
 abbrev mutual
   pub task_within : ℕ → Data → PTask
-  task_within zero d = p_task 0 (call_of d) no_p_tasks no_p_tasks p_nowhere
+  task_within zero d = p_task 0 (spelled_call d) no_p_tasks no_p_tasks p_nowhere
   task_within (suc n) d = task_from (task_within n) (line_within n) d
 
   -- the last element of a line, as a line
@@ -106,7 +107,7 @@ own_in h b =
     (record {
       name = text_of (field (codes "task") h);
       args = map argument_of (listed (args_in b));
-      kwargs = map named_of (members (kwargs_in b));
+      kwargs = map named_of (object_members (kwargs_in b));
       immutable = false;
     })
     (p_tasks_of (map task_in (listed (field (codes "callbacks") (embed_in b)))))

@@ -11,12 +11,12 @@ ghost use Rattle.canvas_message.specs.Content.{number_of};
 ghost use Rattle.canvas_message.specs.Effects.{first_messages, after, body_after, enter, effect_of, stores_in, messages_in, part_in, part_of};
 ghost use Rattle.canvas_message.specs.Elements.{carried_view};
 ghost use Rattle.canvas_message.specs.Fits.{parent_ok};
-ghost use Rattle.canvas_message.specs.Flowing.{run, raise, numbers};
+ghost use Rattle.canvas_message.specs.Flowing.{run, raise, list_input};
 ghost use Rattle.canvas_message.specs.Ordered.{in_order};
 ghost use Rattle.canvas_message.specs.Placing.{end_place};
 ghost use Rattle.canvas_message.specs.Todos.{part_view, todo_view};
 ghost use Rattle.canvas_message.specs.View.{place_seen};
-ghost use Rattle.canvas_message.specs.Walks.{input_seen, part_at_end, started};
+ghost use Rattle.canvas_message.specs.steps.Walks.{input_seen, part_at_end, started};
 
 mod header;
 mod lasts;

@@ -2,7 +2,7 @@
 use Rattle.std.specs.Prelude.{ℕ, Bool, false, List, [], ◌∷◌, ◌++◌, Option, Some, None, decimal, codes}
 use Rattle.json.specs.Token.{Token, begin_object, end_object, key, number}
 use Rattle.serde_json.specs.Data.{Data, null, Items, no_items, Members}
-use Rattle.canvas_sig.specs.Tokens.{data_tokens, front_tokens, flag_tokens, kwargs_tokens, link_tokens, member_tokens, kind_tokens, name_tokens}
+use Rattle.canvas_sig.specs.steps.Tokens.{data_tokens, front_tokens, flag_tokens, kwargs_tokens, link_tokens, member_tokens, kind_tokens, name_tokens}
 use Rattle.canvas_semantics.specs.PlacedLine.{PTask, PPlace, PLine, p_stop, p_step, p_group_end, p_chord_end, PLines, no_p_lines}
 use Rattle.canvas_message.specs.Content.{number_of, links_of, errbacks_of, place_of}
 use Rattle.canvas_message.specs.Wire.{task_id, group_id, place_id, task_wire, tasks_wire, carried_wire, line_wire, elements_wire, onto_reversed, list_or_null}
@@ -72,17 +72,17 @@ abbrev pub reversed_tokens : List PTask → List Token
 reversed_tokens [] = []
 reversed_tokens (t ∷ ts) = reversed_tokens ts ++ data_tokens (task_wire None t)
 
-abbrev pub tasks_in : PLine → List PTask
-tasks_in p_stop = []
-tasks_in (p_step t l) = t ∷ tasks_in l
-tasks_in (p_group_end g ms) = []
-tasks_in (p_chord_end g ms b) = []
+abbrev pub tasks_of_line : PLine → List PTask
+tasks_of_line p_stop = []
+tasks_of_line (p_step t l) = t ∷ tasks_of_line l
+tasks_of_line (p_group_end g ms) = []
+tasks_of_line (p_chord_end g ms b) = []
 
 -- the members of a group or chord, and its number
-abbrev pub members_of : PLine → PLines
-members_of (p_group_end g ms) = ms
-members_of (p_chord_end g ms b) = ms
-members_of l = no_p_lines
+abbrev pub members_of_end : PLine → PLines
+members_of_end (p_group_end g ms) = ms
+members_of_end (p_chord_end g ms b) = ms
+members_of_end l = no_p_lines
 
 abbrev pub group_of : PLine → ℕ
 group_of (p_group_end g ms) = g
