@@ -112,7 +112,7 @@ pub record GroupEntry : Type 0 where
 
 -- in file order, so that the i-th has number i
 abbrev mutual
-  pub groups : Line → List GroupEntry
+  pub group_entries : Line → List GroupEntry
   group_entries stop = []
   group_entries (step t l) = group_entries l
   group_entries (group_end g ms) = record { chord = false; members = all_ends_of ms } ∷ all_group_entries ms
