@@ -3,7 +3,8 @@ use Rattle.std.proofs.Common.{◌≡◌, ◌≢◌, ℕ, zero, suc, ◌-◌, Res
 use Rattle.std.specs.Prelude.{if◌then◌else◌, true, false}
 use Rattle.serde_json.specs.Data.{Data}
 use Rattle.canvas_sig.specs.Fields.{listed, tasks, subtype}
-use Rattle.canvas_sig.specs.Reading.{Fails, unless, own_fault, primitive_of}
+use Rattle.canvas_sig.specs.Answers.{Fails, unless}
+use Rattle.canvas_sig.specs.Grammar.{own_fault, primitive_of}
 use Rattle.canvas_sig.specs.declared.fault.SigFault.{SigFault}
 use Rattle.canvas_sig.specs.declared.fault.SigFault.TheVariants.{Memory}
 use Rattle.canvas_message.specs.FrozenReading.{task_as, step_as, last_as, elements_with, is_chain, link_reading, step_reading, last_reading, line_reading}

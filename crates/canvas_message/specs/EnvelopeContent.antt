@@ -6,7 +6,7 @@ use Rattle.canvas_sig.specs.CanvasText.{json_of}
 use Rattle.canvas_sig.specs.Refusals.{named_of, spelled_call}
 use Rattle.canvas_task.specs.Text.{Text}
 use Rattle.canvas_sig.specs.Fields.{field, subtype, option, tasks, header, body, link, link_error, listed, as_list, object_members, text_of, is_null}
-use Rattle.canvas_sig.specs.Reading.{whole_number, argument_of, primitive_of}
+use Rattle.canvas_sig.specs.Grammar.{whole_number, argument_of, primitive_of}
 use Rattle.canvas_sig.specs.declared.primitive.Primitive.{Primitive}
 use Rattle.canvas_sig.specs.declared.primitive.Primitive.TheVariants as kind
 use Rattle.canvas_rewrite.specs.FrozenView.{p_tasks_of, p_lines_of}

@@ -8,7 +8,9 @@ ghost use Rattle.canvas_task.specs.Entries.{named};
 ghost use Rattle.canvas_task.specs.Numbers.{in_range};
 ghost use Rattle.canvas_sig.specs.declared.fault.SigFault.TheVariants.{Memory};
 ghost use Rattle.canvas_sig.specs.Fields.{found, seen, object_members, is_number};
-ghost use Rattle.canvas_sig.specs.Reading.{Gives, each, some_in_range, in_range_or_refused, number_reading, list_reading, arg_reading, named_reading, takes_memory};
+ghost use Rattle.canvas_sig.specs.Answers.{Gives, each};
+ghost use Rattle.canvas_sig.specs.Grammar.{some_in_range, arg_reading, named_reading, takes_memory};
+ghost use Rattle.canvas_sig.specs.steps.Reading.{in_range_or_refused, number_reading, list_reading};
 
 use crate::fault::SigFault;
 use canvas_task::{Arg, ListOf, TextOf};

@@ -4,7 +4,7 @@ ghost use Rattle.std.specs.Prelude.{◌≡◌, map};
 ghost use Rattle.std.specs.Option.{option_map};
 ghost use Rattle.serde_json.specs.Data.{array};
 ghost use Rattle.serde_json.specs.View.{view, items_of};
-ghost use Rattle.canvas_sig.specs.Reading.{Gives};
+ghost use Rattle.canvas_sig.specs.Answers.{Gives};
 ghost use Rattle.canvas_message.specs.Elements.{parts_view, given_view};
 ghost use Rattle.canvas_message.specs.Reading.{parts_of, given_reading};
 

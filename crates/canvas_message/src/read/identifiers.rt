@@ -4,7 +4,7 @@ ghost use Rattle.std.specs.Prelude.{◌≡◌, Some};
 ghost use Rattle.serde_json.specs.Find.{as_i64};
 ghost use Rattle.serde_json.specs.View.{number_view};
 ghost use Rattle.canvas_sig.specs.Fields.{found};
-ghost use Rattle.canvas_sig.specs.Reading.{Gives};
+ghost use Rattle.canvas_sig.specs.Answers.{Gives};
 ghost use Rattle.canvas_message.specs.FrozenReading.{task_of, group_of, known, sized, size_reading};
 
 use canvas_sig::SigFault;

@@ -1,6 +1,6 @@
 use Rattle.std.proofs.Common.{◌∙◌, sym, ap, map, subst, rules}
 use Rattle.serde_json.specs.View.{view}
-use Rattle.canvas_sig.specs.Reading.{Gives, each}
+use Rattle.canvas_sig.specs.Answers.{Gives, each}
 use Rattle.canvas_sig.proofs.Json.{array_list}
 use Rattle.canvas_rewrite.specs.FrozenView.{p_task_view, p_line_view}
 use Rattle.canvas_message.specs.FrozenReading.{elements_with, link_reading, step_reading, last_reading, line_reading}

@@ -1,6 +1,6 @@
 use Rattle.std.proofs.Common.{◌≡◌, ◌+◌, ◌*◌, map, drop}
 use Rattle.serde_json.specs.View.{view}
-use Rattle.canvas_sig.specs.Reading.{each}
+use Rattle.canvas_sig.specs.Answers.{each}
 use Rattle.canvas_sig.proofs.Each.{onto}
 use Rattle.canvas_rewrite.specs.FrozenView.{p_task_view, p_line_view}
 use Rattle.canvas_message.specs.FrozenReading.{link_reading, step_reading, line_reading}
