@@ -13,18 +13,9 @@ ghost use Rattle.canvas_sig.specs.Grammar.{some_in_range, arg_reading, named_rea
 ghost use Rattle.canvas_sig.specs.steps.Reading.{in_range_or_refused, number_reading, list_reading};
 
 use crate::fault::SigFault;
-use canvas_task::{Arg, ListOf, TextOf};
+use canvas_task::{Arg, ListOf, TextOf, in_range};
 use serde_json::{Map, Number, Value};
 use std::alloc::Global;
-
-const BOUND: i64 = 1 << 60;
-
-/// Whether a number is in range.
-pub(crate) fn fits(number: i64) -> bool
-    ensures { result ≡ in_range number }
-{
-    -BOUND <= number && number <= BOUND
-}
 
 /// Whether a number is whole and in range.
 pub(crate) fn is_in_range(number: &Number) -> bool
@@ -32,7 +23,7 @@ pub(crate) fn is_in_range(number: &Number) -> bool
 {
     match number.as_i64() {
         None => false,
-        Some(n) => fits(n),
+        Some(n) => in_range(n),
     }
 }
 
@@ -44,7 +35,7 @@ fn whole(number: &Number) -> Result<i64, SigFault>
     match number.as_i64() {
         None => Err(SigFault::BadNumber),
         Some(n) => {
-            if fits(n) {
+            if in_range(n) {
                 Ok(n)
             } else {
                 Err(SigFault::BadNumber)
