@@ -17,7 +17,7 @@ use Rattle.canvas_worker.specs.Progress.{Progress, Worked}
 use Rattle.canvas_worker.specs.Seats.{Can}
 use Rattle.canvas_runs.specs.Tally.{greatest_count}
 use Rattle.canvas_worker.specs.Standing.{Standing, begun as new_core, after_reply, failing}
-use Rattle.canvas_worker.specs.Steps.{Called, FromHeld, Batched}
+use Rattle.canvas_worker.specs.WorkerSteps.{Called, FromHeld, Batched}
 use Rattle.canvas_worker.specs.declared.cause.Cause.{Cause}
 use Rattle.canvas_worker.specs.declared.record.Record.{Record}
 
