@@ -18,10 +18,11 @@ use Rattle.canvas_worker.specs.Progress.{Progress}
 use Rattle.canvas_worker.specs.Seats.{Can}
 use Rattle.canvas_worker.specs.Standing.{Standing, Left, asked, drops, after_reply}
 use Rattle.canvas_worker.specs.WorkerSteps.{Answered, OnlyBare, Called, Batched, FromHeld}
-use Rattle.canvas_worker.specs.Work.{Work, progress, with_core, told, lost, one_taken, Ready, Moves, stays, calls, takes, gives, Pends, Leaves, IsRecordOf, Ends}
+use Rattle.canvas_worker.specs.Work.{Work, progress, with_core, told, lost, one_taken, Ready, Moves, stays, calls, takes, gives, Pends, Leaves, IsRecordOf, Ends, EndsWith}
 use Rattle.canvas_worker.specs.declared.cause.Cause.{Cause}
 use Rattle.canvas_worker.specs.declared.cause.Cause.TheVariants.{Memory, Stopped}
 use Rattle.canvas_worker.specs.declared.record.Record.{Record}
+use Rattle.canvas_worker.specs.declared.working.End.{End}
 use Rattle.canvas_worker.proofs.Asking.{same_book, may_go_on}
 use Rattle.canvas_worker.proofs.Shown.{drops_so, takes_taking}
 use Rattle.canvas_worker.proofs.Resting.{given_never}
@@ -127,10 +128,15 @@ module _ (w u : Work) (es : List Envelope) (e : Envelope) (ready : Ready w) (x :
     is_of = record { same_number = leaves.same_number ∙ x.number; pass = leaves.pass; seat = leaves.seat ∙ x.seat; counts = leaves.counts ∙ same_tally; whole = λ none. absurd (some_none Memory (sym leaves.fault_is ∙ none)) };
   }
 
-  well : (result : Result Work Record) → MatchResult result (λ v. v ≡ one_taken (told u (C.taken (Some e)))) (Leaves (lost u) (Some Memory)) → MatchResult result (Pends w) (Ends w)
-  well (Ok v) is = told_is v is
-  well (Err s) is = fails s is
+  lost_is : (v : Work) → v ≡ lost u → EndsWith w (Some Memory) v
+  lost_is v is s leaves = fails s (subst (λ z. Leaves z (Some Memory) s) is leaves)
 
-pub given_well : (w u : Work) (es : List Envelope) (e : Envelope) (result : Result Work Record) → MatchResult result (λ v. v ≡ one_taken (told u (C.taken (Some e)))) (Leaves (lost u) (Some Memory)) → Ready w → Takes w u es e
-    → MatchResult result (Pends w) (Ends w)
-given_well w u es e result is ready x = well w u es e ready x result is
+  well : {A : Type 0} (result : Result A End) (v : Work) → MatchResult result (λ _. v ≡ one_taken (told u (C.taken (Some e)))) (λ end. (v ≡ lost u) × (end.fault ≡ Some Memory))
+      → MatchResult result (λ _. Pends w v) (λ end. EndsWith w end.fault v)
+  well (Ok _) v is = told_is v is
+  well (Err end) v is = subst (λ f. EndsWith w f v) (sym is.1) (lost_is v is.0)
+
+pub given_well : {A : Type 0} (w u v : Work) (es : List Envelope) (e : Envelope) (result : Result A End)
+    → MatchResult result (λ _. v ≡ one_taken (told u (C.taken (Some e)))) (λ end. (v ≡ lost u) × (end.fault ≡ Some Memory)) → Ready w → Takes w u es e
+    → MatchResult result (λ _. Pends w v) (λ end. EndsWith w end.fault v)
+given_well w u v es e result is ready x = well w u es e ready x result v is

@@ -14,7 +14,7 @@ use Rattle.canvas_worker.specs.Asks.{Asked, Answer, shown, sent}
 use Rattle.canvas_worker.specs.Books.{no_book}
 use Rattle.canvas_worker.specs.Enveloped.{enveloped_by}
 use Rattle.canvas_runs.specs.Tally.{greatest_count}
-use Rattle.canvas_worker.specs.Standing.{Standing, Left, asked, unread, drops, held_out, handed, after_reply}
+use Rattle.canvas_worker.specs.Standing.{Standing, Left, asked, unread, drops, held_out, handed, unsent, after_reply}
 use Rattle.canvas_worker.specs.declared.ask.Ask.TheVariants.{Take, Publish, Store, Part, Read, Rest}
 use Rattle.canvas_worker.proofs.Leading.{unsent_answered, unsent_drops}
 
@@ -95,6 +95,19 @@ hands_one c out is none = by (asked c.left) is (sym (ap (λ b. if b then None el
 pub handed_same : (book : Book) (c : Standing) (r : Answer) → after_reply book (handed c) r ≡ after_reply book c r
 handed_same book c r =
     ap₂ (λ (s : Left) (n : ℕ). record { left = s; is_out = false; dropped = min greatest_count (c.dropped + n) }) (unsent_answered book c.left r) (unsent_drops book c.left r)
+
+-- nor does it to the ask
+pub still_publishes : (s : Left) → shown (asked s) ≡ Publish → shown (asked (unsent s)) ≡ Publish
+still_publishes C.taking e = e
+still_publishes C.resting e = e
+still_publishes C.over e = e
+still_publishes C.failed e = e
+still_publishes (C.owning m) e = e
+still_publishes (C.doing [] b) e = e
+still_publishes (C.doing (store t o ∷ js) b) e = e
+still_publishes (C.doing (publish m ∷ js) b) e = refl
+still_publishes (C.doing (hand_in g t l ∷ js) b) e = e
+still_publishes (C.reading g c fs) e = e
 
 -- ---- what is left
 

@@ -18,10 +18,11 @@ use Rattle.canvas_worker.specs.Progress.{Progress}
 use Rattle.canvas_worker.specs.Seats.{Can}
 use Rattle.canvas_worker.specs.Standing.{Standing, Left, asked, drops, after_reply}
 use Rattle.canvas_worker.specs.WorkerSteps.{Answered, OnlyBare, Called, Batched, FromHeld}
-use Rattle.canvas_worker.specs.Work.{Work, progress, with_core, told, lost, one_taken, Ready, Moves, stays, calls, takes, gives, Pends, Leaves, IsRecordOf, Ends}
+use Rattle.canvas_worker.specs.Work.{Work, progress, with_core, told, lost, one_taken, Ready, Moves, stays, calls, takes, gives, Pends, Leaves, IsRecordOf, Ends, EndsWith}
 use Rattle.canvas_worker.specs.declared.cause.Cause.{Cause}
 use Rattle.canvas_worker.specs.declared.cause.Cause.TheVariants.{Memory, Stopped}
 use Rattle.canvas_worker.specs.declared.record.Record.{Record}
+use Rattle.canvas_worker.specs.declared.working.End.{End}
 use Rattle.canvas_worker.proofs.Asking.{same_book, may_go_on}
 use Rattle.canvas_worker.proofs.Shown.{drops_so, rests_over}
 use Rattle.canvas_worker.proofs.Turns.{unchanged, one_more, tallied, some_none}
@@ -123,9 +124,13 @@ module _ (w u : Work) (a : Asked) (r : Answer) (ready : Ready w) (x : Asks w u a
     is_of = record { same_number = leaves.same_number ∙ x.number; pass = leaves.pass; seat = leaves.seat; counts = leaves.counts; whole = λ none. absurd (some_none Memory (sym leaves.fault_is ∙ none)) };
   }
 
-  well : (result : Result Work Record) → MatchResult result (λ v. v ≡ told u r) (Leaves (lost u) (Some Memory)) → MatchResult result (Pends w) (Ends w)
-  well (Ok v) e = told_is v e
-  well (Err s) e = fails s e
+  lost_is : (v : Work) → v ≡ lost u → EndsWith w (Some Memory) v
+  lost_is v e s leaves = fails s (subst (λ z. Leaves z (Some Memory) s) e leaves)
+
+  well : {A : Type 0} (result : Result A End) (v : Work) → MatchResult result (λ _. v ≡ told u r) (λ e. (v ≡ lost u) × (e.fault ≡ Some Memory))
+      → MatchResult result (λ _. Pends w v) (λ e. EndsWith w e.fault v)
+  well (Ok _) v is = told_is v is
+  well (Err e) v is = subst (λ f. EndsWith w f v) (sym is.1) (lost_is v is.0)
 
   -- a worker that ends without a fault
   ends_so : (v : Work) → v ≡ told u r → (s : Record) → Leaves v None s → (after.left ≡ C.over) × (after.held ≡ []) × Empties after.pass → Ends w s
@@ -144,18 +149,21 @@ module _ (w u : Work) (a : Asked) (r : Answer) (ready : Ready w) (x : Asks w u a
         };
       }
 
-pub asked_well : (w u : Work) (a : Asked) (r : Answer) (result : Result Work Record) → MatchResult result (λ v. v ≡ told u r) (Leaves (lost u) (Some Memory)) → Ready w → Asks w u a r → MatchResult result (Pends w) (Ends w)
-asked_well w u a r result is ready x = well w u a r ready x result is
+pub asked_well : {A : Type 0} (w u v : Work) (a : Asked) (r : Answer) (result : Result A End) → MatchResult result (λ _. v ≡ told u r) (λ e. (v ≡ lost u) × (e.fault ≡ Some Memory))
+    → Ready w → Asks w u a r → MatchResult result (λ _. Pends w v) (λ e. EndsWith w e.fault v)
+asked_well w u v a r result is ready x = well w u a r ready x result v is
 
--- where memory was refused, to the core or to the queue
-pub ends_badly : (w u : Work) (a : Asked) (r : Answer) (s : Record) → Leaves u (Some Memory) s → Ready w → Asks w u a r → Ends w s
-ends_badly w u a r s is ready x = fails w u a r ready x s (record { same_number = is.same_number; pass = is.pass; seat = is.seat; counts = is.counts; fault_is = is.fault_is })
+-- where memory was refused, to the queue or to the core
+pub ends_badly : (w u : Work) (a : Asked) (r : Answer) (e : End) → e.fault ≡ Some Memory → Ready w → Asks w u a r → EndsWith w e.fault u
+ends_badly w u a r e is ready x s leaves =
+    let so : Leaves u (Some Memory) s = subst (λ f. Leaves u f s) is leaves in
+    fails w u a r ready x s (record { same_number = so.same_number; pass = so.pass; seat = so.seat; counts = so.counts; fault_is = so.fault_is })
 
-pub asked_badly : (w u : Work) (a : Asked) (r : Answer) (s : Record) → Leaves (lost u) (Some Memory) s → Ready w → Asks w u a r → Ends w s
-asked_badly w u a r s is ready x = fails w u a r ready x s is
+pub asked_badly : (w u v : Work) (a : Asked) (r : Answer) (e : End) → (v ≡ lost u) × (e.fault ≡ Some Memory) → Ready w → Asks w u a r → EndsWith w e.fault v
+asked_badly w u v a r e is ready x = subst (λ f. EndsWith w f v) (sym is.1) (lost_is w u a r ready x v is.0)
 
 -- a worker that is told that no more will come
-pub rests_well : (w u v : Work) (s : Record) → v ≡ told u (C.rested false) → Leaves v None s → Ready w → Asks w u C.pause (C.rested false) → Ends w s
-rests_well w u v s is leaves ready x =
+pub rests_well : (w u v : Work) → v ≡ told u (C.rested false) → Ready w → Asks w u C.pause (C.rested false) → EndsWith w None v
+rests_well w u v is ready x s leaves =
     let rests : w.core.left ≡ C.resting = rests_over w.core.left x.asked_is in
     ends_so w u C.pause (C.rested false) ready x v is s leaves (ap (λ l. answered (enveloped w.desk.plan) l (C.rested false)) rests, x.held ∙ (ready.rested rests).0, subst (λ p. Empties p) (sym x.makes) (ready.rested rests).1)

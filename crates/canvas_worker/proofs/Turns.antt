@@ -18,7 +18,7 @@ use Rattle.canvas_worker.specs.Progress.{Progress}
 use Rattle.canvas_worker.specs.Seats.{Can}
 use Rattle.canvas_worker.specs.Standing.{Standing, Left, asked, drops, after_reply}
 use Rattle.canvas_worker.specs.WorkerSteps.{Answered, OnlyBare, Called, Batched, FromHeld}
-use Rattle.canvas_worker.specs.Work.{Work, progress, with_core, told, lost, one_taken, Ready, Moves, stays, calls, takes, gives, Pends, Leaves, IsRecordOf, Ends}
+use Rattle.canvas_worker.specs.Work.{Work, progress, with_core, told, lost, one_taken, Ready, Moves, stays, calls, takes, gives, Pends, Leaves, IsRecordOf, Ends, EndsWith}
 use Rattle.canvas_worker.specs.declared.cause.Cause.{Cause}
 use Rattle.canvas_worker.specs.declared.cause.Cause.TheVariants.{Memory, Stopped}
 use Rattle.canvas_worker.specs.declared.record.Record.{Record}
@@ -50,8 +50,8 @@ tallied plan a r t u c = (
 pub some_none : (c : Cause) → ◌≡◌ {A = Option Cause} (Some c) None → ⊥
 some_none c e = cc
 
-pub ends_here : (w : Work) (c : Cause) (r : Record) → Ready w → Leaves w (Some c) r → Ends w r
-ends_here w c r ready leaves = record {
+pub ends_here : (w : Work) (c : Cause) → Ready w → EndsWith w (Some c) w
+ends_here w c ready r leaves = record {
   ended = progress w;
   counted = ready.counts;
   moved = stays refl;

@@ -121,6 +121,10 @@ pub record Ends (w : Work) (r : Record) : Type 0 where
   pub moved : Moves w.desk.plan (progress w) ended
   pub is_of : IsRecordOf w.number ended r
 
+-- what a poll leaves of a worker that has ended: its record is that of its end
+abbrev pub EndsWith : Work → Option Cause → Work → Type 0
+EndsWith w fault v = (r : Record) → Leaves v fault r → Ends w r
+
 -- From here on the pass and the seat of the record have followed a core run, whose counts the record has.
 pub record TellsOf (w : Work) (r : Record) : Type 0 where
   pub ended : Progress

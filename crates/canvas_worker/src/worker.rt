@@ -65,15 +65,15 @@ impl<R: Wait, G: Gate> Future for Worker<'_, R, G> {
         ensures once { OnPending result (IfSome self.old.working (λ w. IfSome self.new.working (λ v. Pends w v))) }
         ensures last { IfReady result (λ r. IfSome self.old.working (λ w. Ends w r)) }
     {
-        let Some(working) = self.working.take() else {
+        let Some(working) = &mut self.working else {
             return cx.yield_now();
         };
         match working.turn() {
-            Ok(next) => {
-                self.working = Some(next);
-                cx.yield_now()
-            }
-            Err(record) => Poll::Ready(record),
+            Ok(()) => cx.yield_now(),
+            Err(end) => match self.working.take() {
+                Some(ended) => Poll::Ready(ended.record(end)),
+                None => unreachable!(),
+            },
         }
     }
 }

@@ -7,7 +7,7 @@ ghost use Rattle.canvas_worker.specs.Asks.{suits, shown, replied, FoundInRange};
 ghost use Rattle.canvas_worker.specs.Books.{no_book};
 ghost use Rattle.canvas_worker.specs.Enveloped.{enveloped_by};
 ghost use Rattle.canvas_worker.specs.Standing.{asked};
-ghost use Rattle.canvas_worker.specs.Work.{Ready, Pends, Ends, Leaves, working_begun, told, lost, one_taken};
+ghost use Rattle.canvas_worker.specs.Work.{Ready, Pends, EndsWith, Leaves, working_begun, told, lost, one_taken};
 ghost use Rattle.canvas_worker.specs.declared.ask.Ask.TheVariants as ask;
 ghost use Rattle.canvas_worker.specs.declared.cause.Cause.TheVariants.{Memory};
 
@@ -23,6 +23,12 @@ use std::sync::Wait;
 
 /// After so many takes in a row that found nothing a worker sleeps before it takes again.
 const PATIENCE: u32 = 8;
+
+/// The end of a worker: why it is early, if it is.
+#[derive(Clone, Copy, Drop)]
+pub(crate) struct End {
+    pub fault: Option<Cause>,
+}
 
 /// What a worker has, until it ends.
 #[derive(Drop)]
@@ -99,9 +105,9 @@ impl<'a, R: Wait, G: Gate> Working<'a, R, G> {
         }
     }
 
-    /// The record. What is left of a batch is dropped.
-    fn ends(self, fault: Option<Cause>) -> Record
-        ensures { Leaves self.entry fault result }
+    /// The record of a worker that has ended. What is left of a batch is dropped.
+    pub(crate) fn record(self, end: End) -> Record
+        ensures { Leaves self.entry end.fault result }
     {
         let dropped = self.core.dropped();
         Record {
@@ -113,67 +119,69 @@ impl<'a, R: Wait, G: Gate> Working<'a, R, G> {
             dropped,
             pass: self.pass,
             seat: self.seat,
-            fault,
+            fault: end.fault,
         }
     }
 
-    /// The record where memory was refused. The others are asked to end too.
-    fn fails(self) -> Record
-        ensures { Leaves self.entry (Some Memory) result }
+    /// The end where memory was refused. The others are asked to end too.
+    fn fails(&self) -> End
+        ensures { result.fault ≡ Some Memory }
     {
         self.stop.ask();
-        self.ends(Some(Cause::Memory))
+        End {
+            fault: Some(Cause::Memory),
+        }
     }
 
     /// Answers the core.
-    fn answers(mut self, reply: Reply) -> Result<Working<'a, R, G>, Record>
-        requires suits { suits (shown (asked self.core.left)) reply ≡ true }
+    fn answers(&mut self, reply: Reply) -> Result<(), End>
+        requires suits { suits (shown (asked self.old.core.left)) reply ≡ true }
         requires in_range { FoundInRange reply }
-        ensures { MatchResult result (λ v. v ≡ told self.entry (replied reply)) (Leaves (lost self.entry) (Some Memory)) }
+        ensures { MatchResult result (λ _. self.new ≡ told self.old (replied reply)) (λ e. (self.new ≡ lost self.old) × (e.fault ≡ Some Memory)) }
     {
         let (alloc, backend) = (self.alloc, self.backend);
         match self.core.answer(alloc, backend, reply) {
-            Ok(()) => Ok(self),
+            Ok(()) => Ok(()),
             Err(_) => Err(self.fails()),
         }
     }
 
     /// Answers the core inside the script of a message, which may end with that.
-    fn replies(self, reply: Reply) -> Result<Working<'a, R, G>, Record>
-        requires suits { suits (shown (asked self.core.left)) reply ≡ true }
+    fn replies(&mut self, reply: Reply) -> Result<(), End>
+        requires suits { suits (shown (asked self.old.core.left)) reply ≡ true }
         requires in_range { FoundInRange reply }
-        ensures { MatchResult result (λ v. v ≡ told self.entry (replied reply)) (Leaves (lost self.entry) (Some Memory)) }
+        ensures { MatchResult result (λ _. self.new ≡ told self.old (replied reply)) (λ e. (self.new ≡ lost self.old) × (e.fault ≡ Some Memory)) }
     {
         match self.answers(reply) {
-            Ok(next) => {
-                next.flight.done_unless(next.core.is_inside());
-                Ok(next)
+            Ok(()) => {
+                self.flight.done_unless(self.core.is_inside());
+                Ok(())
             }
-            Err(record) => Err(record),
+            Err(end) => Err(end),
         }
     }
 
     /// Gives an envelope to the core.
-    fn gives(mut self, envelope: Envelope) -> Result<Working<'a, R, G>, Record>
-        requires { shown (asked self.core.left) ≡ ask.Take }
-        ensures { MatchResult result (λ v. v ≡ one_taken (told self.entry (taken (Some envelope)))) (Leaves (lost self.entry) (Some Memory)) }
+    fn gives(&mut self, envelope: Envelope) -> Result<(), End>
+        requires { shown (asked self.old.core.left) ≡ ask.Take }
+        ensures { MatchResult result (λ _. self.new ≡ one_taken (told self.old (taken (Some envelope)))) (λ e. (self.new ≡ lost self.old) × (e.fault ≡ Some Memory)) }
     {
         self.is_fresh = true;
         self.idle = 0;
         match self.replies(Reply::Taken(Some(envelope))) {
-            Ok(mut next) => {
-                next.taken = next.taken.saturating_add(1);
-                Ok(next)
+            Ok(()) => {
+                self.taken = self.taken.saturating_add(1);
+                Ok(())
             }
-            Err(record) => Err(record),
+            Err(end) => Err(end),
         }
     }
 
-    fn takes_one(mut self) -> Result<Working<'a, R, G>, Record>
-        requires ready { Ready self }
-        requires asks { shown (asked self.core.left) ≡ ask.Take }
-        requires bare { self.held ≡ [] }
-        ensures { MatchResult result (Pends self.entry) (Ends self.entry) }
+    fn takes_one(&mut self) -> Result<(), End>
+        requires ready { Ready self.old }
+        requires asks { shown (asked self.old.core.left) ≡ ask.Take }
+        requires bare { self.old.held ≡ [] }
+        ensures { MatchResult result (λ _. Pends self.old self.new) (λ e. EndsWith self.old e.fault self.new) }
     {
         let (rt, broker) = (self.rt, self.broker);
         match broker.take(rt, &mut self.pass) {
@@ -189,11 +197,11 @@ impl<'a, R: Wait, G: Gate> Working<'a, R, G> {
         }
     }
 
-    fn takes_batch(mut self) -> Result<Working<'a, R, G>, Record>
-        requires ready { Ready self }
-        requires asks { shown (asked self.core.left) ≡ ask.Take }
-        requires bare { self.held ≡ [] }
-        ensures { MatchResult result (Pends self.entry) (Ends self.entry) }
+    fn takes_batch(&mut self) -> Result<(), End>
+        requires ready { Ready self.old }
+        requires asks { shown (asked self.old.core.left) ≡ ask.Take }
+        requires bare { self.old.held ≡ [] }
+        ensures { MatchResult result (λ _. Pends self.old self.new) (λ e. EndsWith self.old e.fault self.new) }
     {
         let (rt, broker) = (self.rt, self.broker);
         let mut batch = broker.take_batch(rt, &mut self.pass);
@@ -204,15 +212,15 @@ impl<'a, R: Wait, G: Gate> Working<'a, R, G> {
             }
             None => {
                 self.source = Source::Alone;
-                Ok(self)
+                Ok(())
             }
         }
     }
 
-    fn takes(mut self) -> Result<Working<'a, R, G>, Record>
-        requires ready { Ready self }
-        requires asks { shown (asked self.core.left) ≡ ask.Take }
-        ensures { MatchResult result (Pends self.entry) (Ends self.entry) }
+    fn takes(&mut self) -> Result<(), End>
+        requires ready { Ready self.old }
+        requires asks { shown (asked self.old.core.left) ≡ ask.Take }
+        ensures { MatchResult result (λ _. Pends self.old self.new) (λ e. EndsWith self.old e.fault self.new) }
     {
         if let Some(envelope) = self.source.next() {
             return self.gives(envelope);
@@ -224,11 +232,11 @@ impl<'a, R: Wait, G: Gate> Working<'a, R, G> {
         }
     }
 
-    fn publishes(mut self) -> Result<Working<'a, R, G>, Record>
-        requires ready { Ready self }
-        requires asks { shown (asked self.core.left) ≡ ask.Publish }
-        requires reads_back { ReadsBack (enveloped_by no_book) self.core.left }
-        ensures { MatchResult result (Pends self.entry) (Ends self.entry) }
+    fn publishes(&mut self) -> Result<(), End>
+        requires ready { Ready self.old }
+        requires asks { shown (asked self.old.core.left) ≡ ask.Publish }
+        requires reads_back { ReadsBack (enveloped_by no_book) self.old.core.left }
+        ensures { MatchResult result (λ _. Pends self.old self.new) (λ e. EndsWith self.old e.fault self.new) }
     {
         let (rt, broker) = (self.rt, self.broker);
         match self.core.envelope() {
@@ -246,12 +254,12 @@ impl<'a, R: Wait, G: Gate> Working<'a, R, G> {
         }
     }
 
-    fn stores(mut self, task: TaskNo, outcome: Outcome) -> Result<Working<'a, R, G>, Record>
-        requires ready { Ready self }
-        requires asks { shown (asked self.core.left) ≡ ask.Store task outcome }
-        requires reads_back { ReadsBack (enveloped_by no_book) self.core.left }
+    fn stores(&mut self, task: TaskNo, outcome: Outcome) -> Result<(), End>
+        requires ready { Ready self.old }
+        requires asks { shown (asked self.old.core.left) ≡ ask.Store task outcome }
+        requires reads_back { ReadsBack (enveloped_by no_book) self.old.core.left }
         requires in_range { IsInRange outcome }
-        ensures { MatchResult result (Pends self.entry) (Ends self.entry) }
+        ensures { MatchResult result (λ _. Pends self.old self.new) (λ e. EndsWith self.old e.fault self.new) }
     {
         let backend = self.backend;
         self.is_fresh = false;
@@ -264,11 +272,11 @@ impl<'a, R: Wait, G: Gate> Working<'a, R, G> {
         }
     }
 
-    fn returns(mut self, group: GroupNo, task: TaskNo) -> Result<Working<'a, R, G>, Record>
-        requires ready { Ready self }
-        requires asks { shown (asked self.core.left) ≡ ask.Part group task }
-        requires reads_back { ReadsBack (enveloped_by no_book) self.core.left }
-        ensures { MatchResult result (Pends self.entry) (Ends self.entry) }
+    fn returns(&mut self, group: GroupNo, task: TaskNo) -> Result<(), End>
+        requires ready { Ready self.old }
+        requires asks { shown (asked self.old.core.left) ≡ ask.Part group task }
+        requires reads_back { ReadsBack (enveloped_by no_book) self.old.core.left }
+        ensures { MatchResult result (λ _. Pends self.old self.new) (λ e. EndsWith self.old e.fault self.new) }
     {
         let backend = self.backend;
         let count = backend.part(&mut self.seat, group, task);
@@ -276,11 +284,11 @@ impl<'a, R: Wait, G: Gate> Working<'a, R, G> {
         self.replies(Reply::Counted(count))
     }
 
-    fn reads(mut self, group: GroupNo, place: u32) -> Result<Working<'a, R, G>, Record>
-        requires ready { Ready self }
-        requires asks { shown (asked self.core.left) ≡ ask.Read group place }
-        requires reads_back { ReadsBack (enveloped_by no_book) self.core.left }
-        ensures { MatchResult result (Pends self.entry) (Ends self.entry) }
+    fn reads(&mut self, group: GroupNo, place: u32) -> Result<(), End>
+        requires ready { Ready self.old }
+        requires asks { shown (asked self.old.core.left) ≡ ask.Read group place }
+        requires reads_back { ReadsBack (enveloped_by no_book) self.old.core.left }
+        ensures { MatchResult result (λ _. Pends self.old self.new) (λ e. EndsWith self.old e.fault self.new) }
     {
         let backend = self.backend;
         match backend.member(group, place) {
@@ -292,18 +300,18 @@ impl<'a, R: Wait, G: Gate> Working<'a, R, G> {
         }
     }
 
-    fn rests(self) -> Result<Working<'a, R, G>, Record>
-        requires ready { Ready self }
-        requires asks { shown (asked self.core.left) ≡ ask.Rest }
-        requires reads_back { ReadsBack (enveloped_by no_book) self.core.left }
-        ensures { MatchResult result (Pends self.entry) (Ends self.entry) }
+    fn rests(&mut self) -> Result<(), End>
+        requires ready { Ready self.old }
+        requires asks { shown (asked self.old.core.left) ≡ ask.Rest }
+        requires reads_back { ReadsBack (enveloped_by no_book) self.old.core.left }
+        ensures { MatchResult result (λ _. Pends self.old self.new) (λ e. EndsWith self.old e.fault self.new) }
     {
         if self.has_more() {
             return self.answers(Reply::Rested { more: true });
         }
         match self.answers(Reply::Rested { more: false }) {
-            Ok(next) => Err(next.ends(None)),
-            Err(record) => Err(record),
+            Ok(()) => Err(End { fault: None }),
+            Err(end) => Err(end),
         }
     }
 
@@ -320,21 +328,23 @@ impl<'a, R: Wait, G: Gate> Working<'a, R, G> {
         self.is_fresh && !self.gate.go(self.number, task)
     }
 
-    /// One poll: at most one ask of the core is answered. The record, where the worker has ended.
+    /// One poll: at most one ask of the core is answered. It says where the worker has ended.
     #[tactic(auto, using(crate::proofs::Turns::ends_here))]
-    pub(crate) fn turn(self) -> Result<Working<'a, R, G>, Record>
-        requires { Ready self }
-        ensures { MatchResult result (Pends self.entry) (Ends self.entry) }
+    pub(crate) fn turn(&mut self) -> Result<(), End>
+        requires { Ready self.old }
+        ensures { MatchResult result (λ _. Pends self.old self.new) (λ e. EndsWith self.old e.fault self.new) }
     {
         if self.stop.asked() {
-            return Err(self.ends(Some(Cause::Stopped)));
+            return Err(End {
+                fault: Some(Cause::Stopped),
+            });
         }
         match self.core.next() {
             Ask::Take => self.takes(),
             Ask::Publish => self.publishes(),
             Ask::Store(task, outcome) => {
                 if self.is_held_back(task) {
-                    Ok(self)
+                    Ok(())
                 } else {
                     self.stores(task, outcome)
                 }

@@ -1,23 +1,30 @@
 use Rattle.std.proofs.Common.{rules, ◌≡◌, refl, sym, subst, ap, ◌∙◌, true, false, Some, None, [], ◌∷◌, ◌++◌, ◌≤◌, ℕ, arith}
 use Rattle.canvas_runs.specs.Core as C
 use Rattle.canvas_worker.specs.steps.Held.{held_in}
-use Rattle.canvas_worker.specs.Standing.{asked}
 use Rattle.canvas_worker.specs.Work.{Work}
 use Rattle.canvas_worker.proofs.Resting.{busy_never}
 use Rattle.canvas_worker.proofs.Turns.{unchanged, one_more}
 use Rattle.canvas_worker.specs.Books.{book_in}
-use Rattle.canvas_worker.specs.Standing.{handed, after_reply}
-use Rattle.canvas_worker.proofs.Shown.{handed_out, handed_same}
+use Rattle.canvas_worker.specs.Asks.{suits, shown}
+use Rattle.canvas_worker.specs.Standing.{Standing, asked, handed, after_reply}
+use Rattle.canvas_worker.specs.declared.ask.Reply.TheVariants as R
+use Rattle.canvas_worker.proofs.Shown.{handed_out, handed_same, still_publishes}
 use Rattle.canvas_worker.proofs.Telling.{asked_well, ends_badly}
 use Rattle.canvas_worker.proofs.working.Working.publishes.Goals as goal
 
+pub replies-requires-clause-suits : goal.replies-requires-clause-suits
+replies-requires-clause-suits g c =
+    let w : Work = c.args.self.now in
+    let core : c.envelope.new.self ≡ handed w.core = search rules in
+    ap (λ a. suits a R.Published) (ap (λ (k : Standing). shown (asked k.left)) core ∙ still_publishes w.core.left c.requires.asks)
+
 pub returns-in-Ok : goal.returns-in-Ok
 returns-in-Ok g c =
-    let w : Work = c.args.self in
-    let u : Work = record { broker = c.self.inside.broker.now; desk = c.self.inside.backend.now; number = c.self.inside.number; pass = c.publish.new.pass; seat = c.self.inside.seat; core = c.envelope.new.self; held = held_in c.self.inside.source; taken = c.self.inside.taken; published = c.saturating_add.result; first = c.self.inside.first; parts = c.self.inside.parts } in
+    let w : Work = c.args.self.now in
+    let u : Work = record { broker = c.self.inside.broker.now; desk = c.self.inside.backend.now; number = c.self.inside.number; pass = c.publish.new.pass; seat = c.self.inside.seat; core = c.envelope.new.self; held = held_in c.self.inside.source; taken = c.self.inside.taken; published = c.saturating_add-self-inside.result; first = c.self.inside.first; parts = c.self.inside.parts } in
     let asks : asked w.core.left ≡ C.send c.in-Some.envelope = handed_out c.in-Some.envelope w.core c.requires.ready.inside (search rules) in
     let core : u.core ≡ handed w.core = search rules in
-    asked_well w u (C.send c.in-Some.envelope) C.sent c.replies.result c.replies.ensures c.requires.ready (record {
+    asked_well w u c.replies.new.self (C.send c.in-Some.envelope) C.sent c.replies.result c.replies.ensures c.requires.ready (record {
       asked_is = asks;
       suits = tt;
       back = c.requires.reads_back;
@@ -43,7 +50,7 @@ returns-in-Ok g c =
 
 pub returns-in-Err : goal.returns-in-Err
 returns-in-Err g c =
-    let w : Work = c.args.self in
+    let w : Work = c.args.self.now in
     let u : Work = record { broker = c.self.inside.broker.now; desk = c.self.inside.backend.now; number = c.self.inside.number; pass = c.publish.new.pass; seat = c.self.inside.seat; core = c.envelope.new.self; held = held_in c.self.inside.source; taken = c.self.inside.taken; published = c.self.inside.published; first = c.self.inside.first; parts = c.self.inside.parts } in
     let asks : asked w.core.left ≡ C.send c.in-Some.envelope = handed_out c.in-Some.envelope w.core c.requires.ready.inside (search rules) in
     let core : u.core ≡ handed w.core = search rules in

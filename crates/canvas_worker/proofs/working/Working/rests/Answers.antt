@@ -10,10 +10,10 @@ use Rattle.canvas_worker.proofs.working.Working.rests.Goals as goal
 
 pub returns-then-has_more : goal.returns-then-has_more
 returns-then-has_more g c =
-    let w : Work = c.args.self in
+    let w : Work = c.args.self.now in
     let u : Work = w in
     let asks : asked w.core.left ≡ C.pause = is_rest (asked w.core.left) c.requires.asks in
-    asked_well w u C.pause (C.rested true) c.answers.result c.answers.ensures c.requires.ready (record {
+    asked_well w u c.answers.new.self C.pause (C.rested true) c.answers.result c.answers.ensures c.requires.ready (record {
       asked_is = asks;
       suits = tt;
       back = c.requires.reads_back;
@@ -39,10 +39,10 @@ returns-then-has_more g c =
 
 pub returns-in-Ok : goal.returns-in-Ok
 returns-in-Ok g c =
-    let w : Work = c.args.self in
+    let w : Work = c.args.self.now in
     let u : Work = w in
     let asks : asked w.core.left ≡ C.pause = is_rest (asked w.core.left) c.requires.asks in
-    rests_well w u c.in-Ok.next c.ends.result c.in-Ok.ensures c.ends.ensures c.requires.ready (record {
+    rests_well w u c.answers-2.new.self c.in-Ok.ensures c.requires.ready (record {
       asked_is = asks;
       suits = tt;
       back = c.requires.reads_back;
@@ -68,10 +68,10 @@ returns-in-Ok g c =
 
 pub returns-in-Err : goal.returns-in-Err
 returns-in-Err g c =
-    let w : Work = c.args.self in
+    let w : Work = c.args.self.now in
     let u : Work = w in
     let asks : asked w.core.left ≡ C.pause = is_rest (asked w.core.left) c.requires.asks in
-    asked_badly w u C.pause (C.rested false) c.in-Err.record c.in-Err.ensures c.requires.ready (record {
+    asked_badly w u c.answers-2.new.self C.pause (C.rested false) c.in-Err.end c.in-Err.ensures c.requires.ready (record {
       asked_is = asks;
       suits = tt;
       back = c.requires.reads_back;

@@ -13,13 +13,13 @@ use Rattle.canvas_worker.proofs.working.Working.takes_batch.Goals as goal
 
 pub returns-in-Some : goal.returns-in-Some
 returns-in-Some g c =
-    let w : Work = c.args.self in
+    let w : Work = c.args.self.now in
     let u : Work = record { broker = c.self.inside.broker.now; desk = c.self.inside.backend.now; number = c.self.inside.number; pass = c.take_batch-batch.new.pass; seat = c.self.inside.seat; core = c.self.inside.core; held = c.next.new.self; taken = c.self.inside.taken; published = c.self.inside.published; first = c.self.inside.first; parts = c.self.inside.parts } in
     let e : Envelope = c.in-Some.envelope in
     let es : List Envelope = c.take_batch-batch.result in
     let took : Took w.pass es u.pass = search rules in
     let rest : es ≡ e ∷ u.held = search rules in
-    given_well w u es e c.gives.result c.gives.ensures c.requires.ready (record {
+    given_well w u c.gives.new.self es e c.gives.result c.gives.ensures c.requires.ready (record {
       asked_is = is_take (asked w.core.left) c.requires.asks;
       broker = search rules;
       desk = search rules;

@@ -15,11 +15,11 @@ use Rattle.canvas_worker.proofs.working.Working.takes_one.Goals as goal
 
 pub returns-in-Some : goal.returns-in-Some
 returns-in-Some g c =
-    let w : Work = c.args.self in
+    let w : Work = c.args.self.now in
     let u : Work = record { broker = c.self.inside.broker.now; desk = c.self.inside.backend.now; number = c.self.inside.number; pass = c.take.new.pass; seat = c.self.inside.seat; core = c.self.inside.core; held = []; taken = c.self.inside.taken; published = c.self.inside.published; first = c.self.inside.first; parts = c.self.inside.parts } in
     let e : Envelope = c.in-Some.envelope in
     let stands : Stands w.pass (calls w.pass.name broker.take (Some e)) u.pass = search rules in
-    given_well w u (e ∷ []) e c.gives.result c.gives.ensures c.requires.ready (record {
+    given_well w u c.gives.new.self (e ∷ []) e c.gives.result c.gives.ensures c.requires.ready (record {
       asked_is = is_take (asked w.core.left) c.requires.asks;
       broker = search rules;
       desk = search rules;
@@ -37,12 +37,12 @@ returns-in-Some g c =
 
 pub returns-in-None : goal.returns-in-None
 returns-in-None g c =
-    let w : Work = c.args.self in
+    let w : Work = c.args.self.now in
     let u : Work = record { broker = c.self.inside.broker.now; desk = c.self.inside.backend.now; number = c.self.inside.number; pass = c.take.new.pass; seat = c.self.inside.seat; core = c.self.inside.core; held = held_in c.after_none.result; taken = c.self.inside.taken; published = c.self.inside.published; first = c.self.inside.first; parts = c.self.inside.parts } in
     let asks : asked w.core.left ≡ C.take = is_take (asked w.core.left) c.requires.asks in
     let bare : u.held ≡ [] = search rules in
     let empty : Empties u.pass = search rules in
-    asked_well w u C.take (C.taken None) c.answers.result c.answers.ensures c.requires.ready (record {
+    asked_well w u c.answers.new.self C.take (C.taken None) c.answers.result c.answers.ensures c.requires.ready (record {
       asked_is = asks;
       suits = tt;
       back = reads_back w.core.left asks;
