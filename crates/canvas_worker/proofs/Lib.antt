@@ -6,6 +6,7 @@ pub mod Stores
 pub mod ScriptsMade
 pub mod Opening
 pub mod Leading
+pub mod EndLaw
 pub mod PlanBooks
 pub mod Stepping
 pub mod Shown

@@ -6,6 +6,7 @@ pub mod Scripts
 pub mod Phases
 pub mod Cores
 pub mod Leading
+pub mod AtEnd
 pub mod Progress
 pub mod StepLaws
 pub mod Seats

@@ -1,0 +1,141 @@
+-- What ends a core, and that it stays at its end.
+use Rattle.std.proofs.Common.{◌≡◌, ◌∙◌, ℕ, Bool, true, false, cond, List, [], ◌∷◌, ◌++◌, Option, Some, None, refl, sym, ap, subst, true≢false}
+use Rattle.std.specs.Prelude.{if◌then◌else◌, eqb, length, map}
+use Rattle.canvas_task.specs.declared.outcome.Outcome.{Outcome}
+use Rattle.canvas_rewrite.specs.FrozenView.{Load}
+use Rattle.canvas_message.specs.Effects.{body_after, script}
+use Rattle.canvas_message.specs.Job.{Job, store, publish, hand_in}
+use Rattle.canvas_message.specs.declared.envelope.Envelope.{Envelope}
+use Rattle.canvas_runs.specs.Book.{Book}
+use Rattle.canvas_runs.specs.Worker.{opened}
+use Rattle.canvas_runs.specs.Core as C
+use Rattle.canvas_runs.specs.Core.{taking, resting, over, failed, owning, doing, reading, taken, sent, refused, kept, counted, found, rested, answered, left_after, settled, opens, Suits, IsCoreRun}
+use Rattle.canvas_worker.specs.Asks.{Asked, Answer, suits, shown}
+use Rattle.canvas_worker.specs.Asks as asks
+use Rattle.canvas_worker.specs.AtEnd.{EndStays, FailingEnds, Ends, no_more, publish_refused, EndsBehind}
+use Rattle.canvas_worker.specs.Enveloped as enveloping
+use Rattle.canvas_worker.specs.Enveloped.{enveloped_by}
+use Rattle.canvas_worker.specs.Leading.{left_by}
+use Rattle.canvas_worker.specs.Standing.{Left, asked, unsent}
+use Rattle.canvas_worker.specs.declared.ask.Reply.{Reply}
+use Rattle.canvas_worker.specs.declared.ask.Ask.TheVariants.{End}
+use Rattle.canvas_worker.specs.declared.ask.Reply.TheVariants as R
+
+abbrev is_end : Asked → Bool
+is_end C.end = true
+is_end a = false
+
+-- ---- the end stays
+
+none_suits : (r : Reply) → suits End r ≡ false
+none_suits (R.Taken x) = refl
+none_suits R.Published = refl
+none_suits (R.NotPublished e) = refl
+none_suits (R.Stored s) = refl
+none_suits (R.Counted n) = refl
+none_suits (R.Found t x) = refl
+none_suits (R.Rested more) = refl
+
+none_held : (out : Bool) → (if out then None else asks.sent C.end) ≡ None
+none_held true = refl
+none_held false = refl
+
+-- what is handed out is no end
+still_end : (s : Left) → asked s ≡ C.end → asked (unsent s) ≡ C.end
+still_end (doing (publish e ∷ js) b) h = absurd (true≢false (sym (ap is_end h)))
+still_end s h = h
+
+pub end_stays : EndStays
+end_stays s h =
+    ((λ r. ap (λ a. suits (shown a) r) h ∙ none_suits r), ap (λ a. if s.is_out then None else asks.sent a) h ∙ none_held s.is_out, still_end s.left h)
+
+pub failing_ends : FailingEnds
+failing_ends s = refl
+
+-- ---- what ends
+
+-- the state isn't at its end
+abbrev GoesOn : Left → Type 0
+GoesOn s = is_end (asked s) ≡ false
+
+settled_on : (book : Book) (js : C.Jobs (enveloped_by book)) (b : Bool) → GoesOn (settled (enveloped_by book) js b)
+settled_on book [] b = refl
+settled_on book (store t o ∷ js) true = refl
+settled_on book (store t o ∷ js) false = refl
+settled_on book (publish e ∷ js) true = refl
+settled_on book (publish e ∷ js) false = refl
+settled_on book (hand_in g t c ∷ js) true = refl
+settled_on book (hand_in g t c ∷ js) false = refl
+
+opens_on : (book : Book) (x : Option Envelope) → GoesOn (opens (enveloped_by book) x)
+opens_on book None = refl
+opens_on book (Some e) = refl
+
+either_on : (b : Bool) (s t : Left) → GoesOn s → GoesOn t → GoesOn (cond b s t)
+either_on true s t hs ht = hs
+either_on false s t hs ht = ht
+
+no_end : {A : Type 0} (s : Left) → GoesOn s → is_end (asked s) ≡ true → A
+no_end s on h = absurd (true≢false (sym h ∙ on))
+
+all_read_on : {A : Type 0} (book : Book) (g : ℕ) (c : Load) (fs : List (ℕ × Outcome)) → is_end (asked (C.all_read (enveloped_by book) g c fs)) ≡ true → A
+all_read_on book g c fs h =
+    no_end (C.all_read (enveloped_by book) g c fs)
+    (either_on (eqb (length fs) c.size) (settled (enveloped_by book) (map enveloping.enclosed (script (body_after c fs))) false) (reading g c fs) (settled_on book (map enveloping.enclosed (script (body_after c fs))) false) refl)
+    h
+
+ends_by : (book : Book) (s : Left) (r : Answer) → GoesOn s → Suits (enveloped_by book) (asked s) r → is_end (asked (answered (enveloped_by book) s r)) ≡ true → Ends (asked s) r
+ends_by book taking (taken None) on suit h = no_end resting refl h
+ends_by book taking (taken (Some e)) on suit h = no_end _ (opens_on book (enveloping.kept (opened book e) e)) h
+ends_by book resting (rested true) on suit h = no_end taking refl h
+ends_by book resting (rested false) on suit h = no_more
+ends_by book over r on suit h = absurd (true≢false on)
+ends_by book failed r on suit h = absurd (true≢false on)
+ends_by book (owning e) (kept true) on suit h = no_end _ (settled_on book _ true) h
+ends_by book (owning e) (kept false) on suit h = no_end taking refl h
+ends_by book (doing [] b) r on suit h = absurd (true≢false on)
+ends_by book (doing (store t o ∷ js) b) (kept a) on suit h = no_end _ (settled_on book js _) h
+ends_by book (doing (publish e ∷ js) b) sent on suit h = no_end _ (settled_on book js b) h
+ends_by book (doing (publish e ∷ js) b) refused on suit h = publish_refused e
+ends_by book (doing (hand_in g t c ∷ js) b) (counted n) on suit h = no_end _ (either_on _ (reading g c []) taking refl refl) h
+ends_by book (reading g c fs) (found t (Some o)) on suit h = all_read_on book g c (fs ++ (t, o) ∷ []) h
+ends_by book (reading g c fs) (found t None) on suit h = no_end taking refl h
+ends_by book s r on suit h = absurd suit
+
+-- nothing is answered at the end
+none_after : (book : Book) (s : Left) (xs : List (Asked × Answer)) → is_end (asked s) ≡ true → IsCoreRun (enveloped_by book) s xs → xs ≡ []
+none_after book s [] h run = refl
+none_after book s (x ∷ xs) h run = absurd (unsuited book x.0 x.1 (ap is_end run.0 ∙ h) run.1.0)
+  where
+    unsuited : (book : Book) (a : Asked) (r : Answer) → is_end a ≡ true → Suits (enveloped_by book) a r → ⊥
+    unsuited book C.end r is suit = suit
+    unsuited book a r is suit = true≢false (sym is)
+
+abbrev Behind : List (Asked × Answer) → Type 0
+Behind xs = (ys : List (Asked × Answer)) × (x : Asked × Answer) × (xs ≡ ys ++ x ∷ []) × Ends x.0 x.1
+
+-- behind this step, or behind one of those after it
+next : (book : Book) (s : Left) (x : Asked × Answer) (xs : List (Asked × Answer)) (b : Bool) → is_end (asked (answered (enveloped_by book) s x.1)) ≡ b
+    → GoesOn s → IsCoreRun (enveloped_by book) s (x ∷ xs) → (GoesOn (answered (enveloped_by book) s x.1) → Behind xs) → Behind (x ∷ xs)
+next book s x xs true is on run later =
+    let last : Ends x.0 x.1 = subst (λ a. Ends a x.1) (sym run.0) (ends_by book s x.1 on (subst (λ a. Suits (enveloped_by book) a x.1) run.0 run.1.0) is) in
+    ([], x, ap (λ zs. x ∷ zs) (none_after book (answered (enveloped_by book) s x.1) xs is run.2), last)
+next book s x xs false is on run later = let rest = later is in (x ∷ rest.0, rest.1, ap (λ zs. x ∷ zs) rest.2, rest.3)
+
+ends_behind_from : (book : Book) (s : Left) (xs : List (Asked × Answer)) → GoesOn s → IsCoreRun (enveloped_by book) s xs → is_end (asked (left_after (enveloped_by book) s xs)) ≡ true → Behind xs
+ends_behind_from book s [] on run h = no_end s on h
+ends_behind_from book s (x ∷ xs) on run h =
+    next book s x xs (is_end (asked (answered (enveloped_by book) s x.1))) refl on run (λ on'. ends_behind_from book (answered (enveloped_by book) s x.1) xs on' run.2 h)
+
+-- what a core has left ends where what the asks and answers leave does
+unsent_end : (s : Left) → is_end (asked (unsent s)) ≡ is_end (asked s)
+unsent_end (doing (publish e ∷ js) b) = refl
+unsent_end s = refl
+
+end_so : (s : Left) (out : Bool) → is_end (asked (if out then unsent s else s)) ≡ is_end (asked s)
+end_so s true = unsent_end s
+end_so s false = refl
+
+pub ends_behind : EndsBehind
+ends_behind book xs s leads h =
+    ends_behind_from book taking xs refl leads.run (sym (end_so (left_by book xs) s.is_out) ∙ ap (λ u. is_end (asked u)) (sym leads.left) ∙ ap is_end h)

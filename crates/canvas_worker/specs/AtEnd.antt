@@ -1,0 +1,28 @@
+-- When a core is at its end, and that it stays there.
+use Rattle.std.specs.Prelude.{◌≡◌, false, List, [], ◌∷◌, ◌++◌, None}
+use Rattle.canvas_message.specs.declared.envelope.Envelope.{Envelope}
+use Rattle.canvas_runs.specs.Book.{Book}
+use Rattle.canvas_runs.specs.Core.{end, pause, send, rested, refused}
+use Rattle.canvas_worker.specs.Asks.{Asked, Answer, suits, shown}
+use Rattle.canvas_worker.specs.Leading.{Leads}
+use Rattle.canvas_worker.specs.Standing.{Standing, asked, failing, held_out, handed}
+use Rattle.canvas_worker.specs.declared.ask.Reply.{Reply}
+
+-- From its end nothing leads on: no reply suits it, and no envelope is handed out.
+abbrev pub EndStays : Type 0
+EndStays = (s : Standing) → asked s.left ≡ end → ((r : Reply) → suits (shown (asked s.left)) r ≡ false) × (held_out s ≡ None) × (asked (handed s).left ≡ end)
+
+-- a core that was refused memory is at its end
+abbrev pub FailingEnds : Type 0
+FailingEnds = (s : Standing) → asked (failing s).left ≡ end
+
+-- the ask and the answer that end a core
+pub data Ends : Asked → Answer → Type 0 where
+  no_more : Ends pause (rested false)
+  publish_refused : (e : Envelope) → Ends (send e) refused
+
+-- But for memory, a core is at its end only behind a rest that was answered with no more, or behind a publish that was refused.
+abbrev pub EndsBehind : Type 0
+EndsBehind =
+    (book : Book) (xs : List (Asked × Answer)) (s : Standing) → Leads book xs s → asked s.left ≡ end
+    → (ys : List (Asked × Answer)) × (x : Asked × Answer) × (xs ≡ ys ++ x ∷ []) × Ends x.0 x.1
