@@ -11,6 +11,7 @@ use Rattle.canvas_semantics.specs.Line.{Line}
 use Rattle.canvas_message.specs.Content.{Content}
 use Rattle.canvas_message.specs.Wire.{properties_wire, headers_wire, body_wire}
 use Rattle.canvas_message.proofs.EnvelopeBack.{envelope_back}
+use Rattle.canvas_message.proofs.EnvelopeLaw.{envelope_judged}
 use Rattle.canvas_backend.specs.declared.stored.Stored.TheVariants.{First}
 use Rattle.canvas_backend.specs.Backend as results
 use Rattle.canvas_backend.specs.Roster.{roster_of}
@@ -65,13 +66,13 @@ unfolding serde_json_on_literals digits by_index
 ascii_9 = refl
 
 pub first_back : read_envelope (sealed first_sum) ≡ Ok first_sum
-first_back = envelope_back first_sum _ _ _ refl refl refl refl (IsUtf8-are_ascii _ ascii_1) (IsUtf8-are_ascii _ ascii_2) (IsUtf8-are_ascii _ ascii_3)
+first_back = sym (envelope_judged _ _ _) ∙ envelope_back first_sum _ _ _ refl refl refl refl (IsUtf8-are_ascii _ ascii_1) (IsUtf8-are_ascii _ ascii_2) (IsUtf8-are_ascii _ ascii_3)
 
 pub second_back : read_envelope (sealed second_sum) ≡ Ok second_sum
-second_back = envelope_back second_sum _ _ _ refl refl refl refl (IsUtf8-are_ascii _ ascii_4) (IsUtf8-are_ascii _ ascii_5) (IsUtf8-are_ascii _ ascii_6)
+second_back = sym (envelope_judged _ _ _) ∙ envelope_back second_sum _ _ _ refl refl refl refl (IsUtf8-are_ascii _ ascii_4) (IsUtf8-are_ascii _ ascii_5) (IsUtf8-are_ascii _ ascii_6)
 
 pub whole_back : read_envelope (sealed whole_sum) ≡ Ok whole_sum
-whole_back = envelope_back whole_sum _ _ _ refl refl refl refl (IsUtf8-are_ascii _ ascii_7) (IsUtf8-are_ascii _ ascii_8) (IsUtf8-are_ascii _ ascii_9)
+whole_back = sym (envelope_judged _ _ _) ∙ envelope_back whole_sum _ _ _ refl refl refl refl (IsUtf8-are_ascii _ ascii_7) (IsUtf8-are_ascii _ ascii_8) (IsUtf8-are_ascii _ ascii_9)
 
 pub first_opens : opened (book_of small) (sealed first_sum) ≡ Some first_sum
 first_opens = ap (known_one (book_of small)) first_back

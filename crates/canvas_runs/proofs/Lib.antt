@@ -45,6 +45,7 @@ pub mod Rows
 pub mod Tallies
 pub mod Mates
 pub mod Witness
+pub mod Readings
 pub mod ChordRuns
 pub mod Turning
 pub mod TurnLogs

@@ -7,7 +7,8 @@ use Rattle.canvas_semantics.specs.Line.{Line}
 use Rattle.canvas_rewrite.specs.FrozenView.{Load}
 use Rattle.canvas_message.specs.Content.{Content, number_of}
 use Rattle.canvas_message.specs.Effects.{outcome_of, after, body_after, first_messages, script}
-use Rattle.canvas_message.specs.Reading.{envelope_reading}
+use Rattle.canvas_message.specs.EnvelopeContent.{content_said}
+use Rattle.canvas_message.specs.EnvelopeFaults.{envelope_fault, judged}
 use Rattle.canvas_message.specs.Wire.{properties_wire, headers_wire, body_wire}
 use Rattle.canvas_message.specs.declared.envelope.Envelope.{Envelope}
 use Rattle.canvas_message.specs.declared.fault.MessageFault.{MessageFault}
@@ -19,8 +20,9 @@ use Rattle.canvas_runs.specs.Protocol.{Protocol}
 abbrev pub sealed : Content → Envelope
 sealed c = record { properties = compact_text (properties_wire c); headers = compact_text (headers_wire c); body = compact_text (body_wire c) }
 
+-- what the texts of an envelope say, where none of their refusals holds; else the first that does
 abbrev pub read_envelope : Envelope → Result Content MessageFault
-read_envelope e = envelope_reading e.properties e.headers e.body
+read_envelope e = judged (envelope_fault e.properties e.headers e.body) (content_said e.headers e.body)
 
 -- the message of an envelope, if it is one and names nothing that the book doesn't know
 abbrev pub known_one : Book → Result Content MessageFault → Option Content

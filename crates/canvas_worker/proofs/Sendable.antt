@@ -14,7 +14,8 @@ use Rattle.canvas_message.specs.declared.envelope.Envelope.{Envelope}
 use Rattle.canvas_message.specs.declared.fault.MessageFault.{MessageFault}
 use Rattle.canvas_message.specs.declared.fault.MessageFault.TheVariants.{NotJson, NotVersion2, BadId, BadContentType, BadBody, BadArgs, BadEmbed}
 use Rattle.canvas_message.proofs.EnvelopeBack.{envelope_back}
-use Rattle.canvas_message.proofs.EnvelopeLaw.{reading_says, says_reading}
+use Rattle.canvas_message.proofs.EnvelopeLaw.{envelope_judged}
+use Rattle.canvas_runs.proofs.Readings.{reading_says, says_reading}
 use Rattle.canvas_runs.specs.Worker.{sealed, read_envelope}
 use Rattle.canvas_worker.specs.Enveloped.{said, blank, is_sendable, envelope_of}
 
@@ -77,7 +78,8 @@ pub sendable_back : (c : Content) → is_sendable c ≡ true → read_envelope (
 sendable_back c h =
     let parts = both (fits c) _ h in
     let json = all_json (sealed c).properties (sealed c).headers (sealed c).body (none_is _ parts.1) in
-    envelope_back c (sealed c).properties (sealed c).headers (sealed c).body parts.0 refl refl refl (utf8 _ json.0) (utf8 _ json.1.0) (utf8 _ json.1.1)
+    sym (envelope_judged (sealed c).properties (sealed c).headers (sealed c).body)
+    ∙ envelope_back c (sealed c).properties (sealed c).headers (sealed c).body parts.0 refl refl refl (utf8 _ json.0) (utf8 _ json.1.0) (utf8 _ json.1.1)
 
 -- ---- no texts
 
