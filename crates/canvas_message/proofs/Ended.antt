@@ -20,7 +20,7 @@ use Rattle.canvas_rewrite.specs.declared.frozen.FrozenTask.{FrozenTask, out-Froz
 use Rattle.canvas_message.specs.Carrying.{is_whole, callbacks_ok, place_stands, carried_ok}
 use Rattle.canvas_message.specs.Content.{Content, line, number_of, links_of, errbacks_of, place_of, call_of}
 use Rattle.canvas_message.specs.Effects.{Jobs, Effect, Part, message, callbacks, called, part_of, enter, enter_all, when_empty, effect_of, stores_in, messages_in, part_in, after, body_after, header, before_input}
-use Rattle.canvas_message.specs.Elements.{carried_view}
+use Rattle.canvas_message.specs.steps.Elements.{carried_view}
 use Rattle.canvas_message.specs.Fits.{parent_ok, task_ok, line_ok, members_ok, line_reach, how_many, size_ok, fits}
 use Rattle.canvas_message.specs.Flowing.{Input, number_input, list_input, id_input, LineFlow, run, skips, raise}
 use Rattle.canvas_message.specs.Job.{store, publish, hand_in}

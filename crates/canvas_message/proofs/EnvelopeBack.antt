@@ -12,7 +12,7 @@ use Rattle.canvas_task.specs.Text.{Text}
 use Rattle.canvas_sig.proofs.ReadsAgain.{text_read}
 use Rattle.canvas_message.specs.Content.{Content}
 use Rattle.canvas_message.specs.Fits.{fits}
-use Rattle.canvas_message.specs.Reading.{json_reading, envelope_reading}
+use Rattle.canvas_message.specs.steps.Reading.{json_reading, envelope_reading}
 use Rattle.canvas_message.specs.Wire.{body_wire, headers_wire, properties_wire}
 use Rattle.canvas_message.proofs.CleanMessage.{texts}
 use Rattle.canvas_message.proofs.MessageBack.{message_back}

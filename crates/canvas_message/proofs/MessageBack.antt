@@ -20,8 +20,9 @@ use Rattle.canvas_rewrite.specs.FrozenView.{p_tasks_of, p_steps}
 use Rattle.canvas_semantics.specs.PlacedLine.{PTask, p_task, PTasks, no_p_tasks, and_p_task, PPlace, p_nowhere, p_group, p_chord, PLine, p_stop, p_step, p_group_end, p_chord_end, PLines}
 use Rattle.canvas_message.specs.Content.{Content, line, number_of, call_of, links_of, errbacks_of, place_of}
 use Rattle.canvas_message.specs.Fits.{is_number, size_ok, parent_ok, task_ok, tasks_ok, place_ok, line_ok, task_reach, tasks_reach, place_reach, line_reach, greatest_reach, fits}
-use Rattle.canvas_message.specs.FrozenReading.{task_of, group_of, place_with, link_reading, step_reading, last_reading, line_reading, levels}
-use Rattle.canvas_message.specs.Reading.{◌so◌, must, some_or, refused_as, is_version_2, is_same, correlates, is_group_or_null, ids_ok, id_reading, is_json, parts_of, given_reading, chain_reading, embed_ok, embed_reading, checked, content_of, message_reading}
+use Rattle.canvas_message.specs.FrozenGrammar.{task_of, group_of, levels}
+use Rattle.canvas_message.specs.steps.FrozenReading.{place_with, link_reading, step_reading, last_reading, line_reading}
+use Rattle.canvas_message.specs.steps.Reading.{◌so◌, must, some_or, refused_as, is_version_2, is_same, correlates, is_group_or_null, ids_ok, id_reading, is_json, parts_of, given_reading, chain_reading, embed_ok, embed_reading, checked, content_of, message_reading}
 use Rattle.canvas_message.specs.declared.fault.MessageFault.TheVariants.{BadEmbed}
 use Rattle.canvas_message.specs.Wire.{task_id, parent_id, place_id, task_wire, tasks_wire, carried_wire, group_wire, chord_wire, line_wire, elements_wire, members_wire, onto_reversed, list_or_null, embed_wire, body_wire, headers_wire, properties_wire}
 use Rattle.canvas_message.proofs.RoundTrip.{call_fits, task_id_back, group_id_back, listed_tasks, tasks_listed, task_parts, tasks_back, place_back, step_back, elements_back}

@@ -26,7 +26,8 @@ use Rattle.canvas_semantics.specs.Line.{in_group}
 use Rattle.canvas_rewrite.specs.FrozenView.{p_tasks_of, p_lines_of, p_steps}
 use Rattle.canvas_semantics.specs.PlacedLine.{PTask, p_task, PTasks, no_p_tasks, and_p_task, PPlace, p_nowhere, p_group, p_chord, PLine, p_stop, p_step, p_group_end, p_chord_end, PLines, no_p_lines, and_p_line, strip}
 use Rattle.canvas_message.specs.Fits.{is_number, size_ok, is_less, is_below, ascends, call_ok, task_ok, tasks_ok, place_ok, line_ok, members_ok, how_many, task_reach, tasks_reach, place_reach, line_reach, greatest_reach, members_reach}
-use Rattle.canvas_message.specs.FrozenReading.{known, task_of, group_of, size_reading, but_a_place, call_reading, place_with, task_with, task_as, group_with, chord_with, step_as, last_as, elements_with, link_reading, step_reading, last_reading, line_reading}
+use Rattle.canvas_message.specs.steps.FrozenReading.{known, size_reading, call_reading, place_with, task_with, task_as, group_with, chord_with, step_as, last_as, elements_with, link_reading, step_reading, last_reading, line_reading}
+use Rattle.canvas_message.specs.FrozenGrammar.{task_of, group_of, but_a_place}
 use Rattle.canvas_message.specs.Wire.{task_id, group_id, place_id, member_unless_null, frozen, task_options, call_wire, chain_wire, group_wire, chord_wire, task_wire, tasks_wire, carried_wire, line_wire, elements_wire, members_wire}
 
 -- ---- what fits

@@ -9,8 +9,9 @@ use Rattle.canvas_sig.specs.steps.Clean.{IsClean}
 use Rattle.canvas_semantics.specs.PlacedLine.{PTask, p_task, PTasks, PPlace, p_nowhere, p_group, p_chord, PLine, p_stop, p_step, p_group_end, p_chord_end, PLines}
 use Rattle.canvas_message.specs.Content.{Content}
 use Rattle.canvas_message.specs.Fits.{is_number, size_ok, parent_ok, task_ok, tasks_ok, place_ok, line_ok, task_reach, tasks_reach, place_reach, line_reach, greatest_reach, fits}
-use Rattle.canvas_message.specs.FrozenReading.{place_with, line_reading, levels}
-use Rattle.canvas_message.specs.Reading.{is_group_or_null}
+use Rattle.canvas_message.specs.steps.FrozenReading.{place_with, line_reading}
+use Rattle.canvas_message.specs.FrozenGrammar.{levels}
+use Rattle.canvas_message.specs.steps.Reading.{is_group_or_null}
 use Rattle.canvas_message.specs.Wire.{place_id, carried_wire}
 use Rattle.canvas_message.proofs.CleanLines.{carried_clean}
 use Rattle.canvas_message.proofs.RoundTrip.{group_id_back, task_parts, place_back}

@@ -12,7 +12,7 @@ use Rattle.canvas_sig.specs.declared.primitive.Primitive.TheVariants as kind
 use Rattle.canvas_message.specs.Content.{Content}
 use Rattle.canvas_message.specs.EnvelopeContent.{args_in, kwargs_in, embed_in, json_in, content_in, content_said}
 use Rattle.canvas_message.specs.Fits.{size_ok, fits}
-use Rattle.canvas_message.specs.FrozenReading.{task_of, group_of, but_a_place, is_chain, levels}
+use Rattle.canvas_message.specs.FrozenGrammar.{task_of, group_of, but_a_place, is_chain, levels}
 use Rattle.canvas_message.specs.declared.fault.MessageFault.{MessageFault}
 use Rattle.canvas_message.specs.declared.fault.MessageFault.TheVariants.{NotJson, NotVersion2, BadId, BadContentType, BadBody, BadArgs, BadEmbed}
 

@@ -1,7 +1,7 @@
 -- What a worker is told to do, as data.
 use Rattle.std.specs.Prelude.{Option, option_map}
 use Rattle.canvas_message.specs.Effects.{Effect, Part}
-use Rattle.canvas_message.specs.Elements.{carried_view}
+use Rattle.canvas_message.specs.steps.Elements.{carried_view}
 use Rattle.canvas_message.specs.declared.todo.PartCall.{PartCall}
 use Rattle.canvas_message.specs.declared.todo.Todo.{Todo}
 

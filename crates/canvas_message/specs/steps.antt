@@ -1,3 +1,6 @@
 pub mod Tokens
 pub mod Parts
 pub mod Walks
+pub mod FrozenReading
+pub mod Reading
+pub mod Elements

@@ -4,9 +4,9 @@ ghost use Rattle.std.specs.Prelude.{◌≡◌, ◌≢◌, IfOk, IfErr};
 ghost use Rattle.serde_json.specs.View.{view};
 ghost use Rattle.canvas_sig.specs.Fields.{found};
 ghost use Rattle.canvas_message.specs.declared.fault.MessageFault.TheVariants.{BadArgs, BadEmbed, Memory};
-ghost use Rattle.canvas_message.specs.Elements.{given_view, embed_view};
+ghost use Rattle.canvas_message.specs.steps.Elements.{given_view, embed_view};
 ghost use Rattle.canvas_message.specs.EnvelopeFaults.{Says, envelope_fault};
-ghost use Rattle.canvas_message.specs.Reading.{Gives, refused_as, given_reading, embed_reading, checked, content_of, message_reading, json_reading};
+ghost use Rattle.canvas_message.specs.steps.Reading.{Gives, refused_as, given_reading, embed_reading, checked, content_of, message_reading, json_reading};
 ghost use Rattle.canvas_message.specs.View.{draft_view};
 
 use crate::read::{

@@ -2,7 +2,7 @@
 
 ghost use Rattle.std.specs.Prelude.{◌≡◌, true};
 ghost use Rattle.canvas_message.specs.Carrying.{carried_ok};
-ghost use Rattle.canvas_message.specs.Elements.{carried_view};
+ghost use Rattle.canvas_message.specs.steps.Elements.{carried_view};
 
 use crate::Message;
 use canvas_rewrite::Carried;

@@ -1,6 +1,6 @@
 -- What the parts of a core stand for.
 use Rattle.std.specs.Prelude.{◌≡◌, Bool, true, false, [], ◌∷◌, is_some, not, unwrap_or}
-use Rattle.canvas_message.specs.Elements.{carried_view}
+use Rattle.canvas_message.specs.steps.Elements.{carried_view}
 use Rattle.canvas_message.specs.Job.{store, publish, hand_in}
 use Rattle.canvas_runs.specs.Core.{taking, resting, over, failed, owning, doing, reading}
 use Rattle.canvas_worker.specs.Enveloped.{blank}

@@ -5,7 +5,7 @@ ghost use Rattle.std.specs.Option.{option_map};
 ghost use Rattle.canvas_task.specs.Apply.{IsInRange};
 ghost use Rattle.canvas_message.specs.Carrying.{carried_ok};
 ghost use Rattle.canvas_message.specs.Effects.{after, outcome_of, script as whole, parted};
-ghost use Rattle.canvas_message.specs.Elements.{carried_view};
+ghost use Rattle.canvas_message.specs.steps.Elements.{carried_view};
 ghost use Rattle.canvas_message.specs.Job.{store, publish, hand_in};
 ghost use Rattle.canvas_message.specs.Todos.{part_view};
 ghost use Rattle.canvas_worker.specs.Asks.{replied, is_first, FoundInRange};

@@ -9,7 +9,7 @@ ghost use Rattle.canvas_message.specs.Carrying.{carried_ok};
 ghost use Rattle.canvas_message.specs.Content.{number_of};
 ghost use Rattle.canvas_message.specs.codes.ContentCode.{content_code};
 ghost use Rattle.canvas_message.specs.Effects.{after, outcome_of, script as whole};
-ghost use Rattle.canvas_message.specs.Elements.{carried_view};
+ghost use Rattle.canvas_message.specs.steps.Elements.{carried_view};
 ghost use Rattle.canvas_runs.specs.Worker.{read_envelope};
 ghost use Rattle.canvas_worker.specs.codes.CoreCode.{load_code, range_prop};
 ghost use Rattle.canvas_worker.specs.Enveloped.{said, enclosed};

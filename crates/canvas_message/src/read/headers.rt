@@ -5,7 +5,7 @@ ghost use Rattle.std.specs.Option.{option_map};
 ghost use Rattle.serde_json.specs.View.{view};
 ghost use Rattle.serde_json.specs.Find.{get};
 ghost use Rattle.canvas_sig.specs.Fields.{found, is_object};
-ghost use Rattle.canvas_message.specs.Reading.{is_version_2, is_same, correlates, is_group_or_null, ids_ok, id_reading, is_json};
+ghost use Rattle.canvas_message.specs.steps.Reading.{is_version_2, is_same, correlates, is_group_or_null, ids_ok, id_reading, is_json};
 
 use super::identifiers::{group_of, task_of};
 use canvas_sig::parts::{is_name, is_null, is_text};

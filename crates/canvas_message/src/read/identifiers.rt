@@ -5,7 +5,8 @@ ghost use Rattle.serde_json.specs.Find.{as_i64};
 ghost use Rattle.serde_json.specs.View.{number_view};
 ghost use Rattle.canvas_sig.specs.Fields.{found};
 ghost use Rattle.canvas_sig.specs.Answers.{Gives};
-ghost use Rattle.canvas_message.specs.FrozenReading.{task_of, group_of, known, sized, size_reading};
+ghost use Rattle.canvas_message.specs.FrozenGrammar.{task_of, group_of};
+ghost use Rattle.canvas_message.specs.steps.FrozenReading.{known, sized, size_reading};
 
 use crate::fits::MOST_MEMBERS;
 use canvas_sig::SigFault;

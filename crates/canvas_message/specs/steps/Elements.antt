@@ -12,7 +12,7 @@ use Rattle.canvas_message.specs.declared.read.made.Element.TheVariants as elemen
 use Rattle.canvas_message.specs.declared.read.body.Parts as the_parts
 use Rattle.canvas_message.specs.declared.read.body.Given as the_given
 use Rattle.canvas_message.specs.declared.read.embed.Embed as the_embed
-use Rattle.canvas_message.specs.Reading.{BodyParts, Given, Embed}
+use Rattle.canvas_message.specs.steps.Reading.{BodyParts, Given, Embed}
 use Rattle.canvas_message.specs.View.{place_seen, rest_seen}
 
 -- the line of one element

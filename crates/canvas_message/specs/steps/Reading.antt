@@ -1,4 +1,4 @@
--- The message that three JSON texts stand for, or the first reason why they stand for none (Celery task message protocol, version 2).
+-- Reading step by step, as the code goes: the message that three JSON texts stand for, or the first reason why they stand for none.
 use Rattle.std.specs.Prelude.{◌≡◌, ℕ, Bool, false, true, not, ◌&&◌, ◌||◌, ◌==◌, if◌then◌else◌, List, [], ◌∷◌, reverse, is_some, Option, Some, None, Result, Ok, Err, codes}
 use Rattle.std.specs.Option.{option_and_then}
 use Rattle.serde_json.specs.Data.{Data, array, Items, no_items, item}
@@ -15,7 +15,8 @@ use Rattle.canvas_rewrite.specs.FrozenView.{p_tasks_of, p_steps}
 use Rattle.canvas_semantics.specs.PlacedLine.{PTask, p_task, PPlace, PLine, p_stop}
 use Rattle.canvas_message.specs.Content.{Content}
 use Rattle.canvas_message.specs.Fits.{fits}
-use Rattle.canvas_message.specs.FrozenReading.{task_of, group_of, place_with, link_reading, step_reading, last_reading, line_reading, levels}
+use Rattle.canvas_message.specs.FrozenGrammar.{task_of, group_of, levels}
+use Rattle.canvas_message.specs.steps.FrozenReading.{place_with, link_reading, step_reading, last_reading, line_reading}
 use Rattle.canvas_message.specs.declared.fault.MessageFault.{MessageFault}
 use Rattle.canvas_message.specs.declared.fault.MessageFault.TheVariants.{NotJson, NotVersion2, BadId, BadContentType, BadBody, BadArgs as bad_args, BadEmbed, Memory}
 

@@ -1,12 +1,10 @@
--- The frozen signatures that JSON stands for: those of a canvas, with identifiers and places in their options.
+-- Reading step by step, as the code goes: the frozen signatures that JSON stands for, which are those of a canvas with identifiers and places in their options.
 use Rattle.std.specs.Prelude.{ℕ, zero, suc, Bool, true, false, not, if◌then◌else◌, List, [], ◌∷◌, Option, Some, None, Result, Ok, Err, codes, ℤ, pos}
-use Rattle.serde_json.specs.Data.{Data, number, string}
+use Rattle.serde_json.specs.Data.{Data, number}
 use Rattle.serde_json.specs.Find.{as_i64}
-use Rattle.serde_json.specs.Read.{max_depth}
-use Rattle.canvas_task.specs.Identifiers.{task_named, group_named}
 use Rattle.canvas_sig.specs.Fields.{field, subtype, args, kwargs, option, tasks, header, body, link, link_error, listed, as_list, object_members, text_of, is_null, is_list, is_true}
 use Rattle.canvas_sig.specs.Answers.{◌>>=◌, ◌or_else◌, fault_if, unless, each}
-use Rattle.canvas_sig.specs.Grammar.{arg_reading, named_reading, is_text, primitive_of, own_fault}
+use Rattle.canvas_sig.specs.Grammar.{arg_reading, named_reading, primitive_of, own_fault}
 use Rattle.canvas_semantics.specs.Tree.{Call}
 use Rattle.canvas_sig.specs.declared.fault.SigFault.{SigFault}
 use Rattle.canvas_sig.specs.declared.fault.SigFault.TheVariants.{NotSignature, BadArgs, OnCanvas, Frozen, TooDeep, TooMany}
@@ -15,16 +13,9 @@ use Rattle.canvas_sig.specs.declared.primitive.Primitive.TheVariants as kind
 use Rattle.canvas_rewrite.specs.FrozenView.{Load, p_tasks_of, p_lines_of}
 use Rattle.canvas_semantics.specs.PlacedLine.{PTask, p_task, PPlace, p_nowhere, p_group, p_chord, PLine, p_stop, p_step, p_group_end, p_chord_end}
 use Rattle.canvas_message.specs.Fits.{size_ok}
+use Rattle.canvas_message.specs.FrozenGrammar.{task_of, group_of, is_chain, but_a_place}
 
 -- ---- identifiers and sizes
-
-abbrev pub task_of : Data → Option ℕ
-task_of (string s) = task_named s
-task_of d = None
-
-abbrev pub group_of : Data → Option ℕ
-group_of (string s) = group_named s
-group_of d = None
 
 -- a frozen signature without its identifier is none
 abbrev pub known : Option ℕ → Result ℕ SigFault
@@ -41,11 +32,6 @@ size_reading (number n) = sized (as_i64 n)
 size_reading d = Err TooMany
 
 -- ---- frozen signatures: those of a canvas, where a task may have a place
-
--- a task may have a place, which is a fault in a canvas
-abbrev pub but_a_place : Option SigFault → Option SigFault
-but_a_place (Some Frozen) = None
-but_a_place f = f
 
 abbrev pub call_reading : Data → Result Call SigFault
 call_reading d =
@@ -108,9 +94,6 @@ elements_with s e [] = Ok p_stop
 elements_with s e (d ∷ []) = e d
 elements_with s e (d ∷ ds) = s d >>= λ x. elements_with s e ds >>= λ l. Ok (p_step x l)
 
-abbrev pub is_chain : Data → Bool
-is_chain d = is_text (codes "chain") (subtype d)
-
 -- The number bounds how deep signatures nest, as in the reading of a canvas.
 abbrev mutual
   -- a link or an error callback
@@ -133,7 +116,3 @@ abbrev mutual
   line_reading (suc n) d =
       if is_chain d then unless (own_fault false d) (elements_with (step_reading n) (last_reading n) (listed (tasks d)))
       else last_as (link_reading n) (line_reading n) (primitive_of (subtype d)) d
-
--- JSON that reads nests at most `max_depth` deep, so one more is enough, and the end isn't reached.
-abbrev pub levels : ℕ
-levels = suc max_depth
