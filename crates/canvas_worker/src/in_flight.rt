@@ -25,9 +25,9 @@ impl InFlight {
         self.count.fetch_add(1, Ordering::SeqCst);
     }
 
-    /// One message is done or dropped, unless the worker is inside its script.
+    /// One message is done or dropped, unless the worker is inside its script. A count of none stays so, where one worker alone has it.
     pub(crate) fn done_unless(&self, is_inside: bool) {
-        if !is_inside {
+        if !is_inside && self.is_some() {
             self.count.fetch_sub(1, Ordering::SeqCst);
         }
     }

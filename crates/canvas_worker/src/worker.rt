@@ -1,11 +1,11 @@
 //! The worker.
 
-ghost use Rattle.std.specs.Prelude.{◌≡◌, Some, IfSome, IsSomeAnd};
-ghost use Rattle.canvas_worker.specs.Work.{Ready, Pends, Ends, TellsOf, working_begun};
+ghost use Rattle.std.specs.Prelude.{◌≡◌, Some, IfSome, IsSome, IsSomeAnd};
+ghost use Rattle.canvas_worker.specs.Work.{Ready, Pends, Ends, TellsOf, Leaves, working_begun};
 ghost use Rattle.futures.specs.Poll.{OnPending, IfReady};
 ghost use Rattle.futures.specs.Task.{Covers, Keeps};
 
-use crate::working::Working;
+use crate::working::{End, Working};
 use crate::{Gate, InFlight, Record, Stop};
 use canvas_backend::{Backend, BackendSeat};
 use canvas_broker::{Broker, BrokerPass};
@@ -48,6 +48,19 @@ impl<'a, R: Wait, G: Gate> Worker<'a, R, G> {
     }
 }
 
+impl<R: Wait, G: Gate> Worker<'_, R, G> {
+    /// The record of a worker that has ended. It is made apart, since a function that only may move a worker pays for the room each time.
+    fn leave(&mut self, end: End) -> Record
+        requires { IsSome self.old.working }
+        ensures { IfSome self.old.working (λ w. Leaves w end.fault result) }
+    {
+        match self.working.take() {
+            Some(working) => working.record(end),
+            None => unreachable!(),
+        }
+    }
+}
+
 impl<R: Wait, G: Gate> Future for Worker<'_, R, G> {
     type Output = Record;
 
@@ -70,10 +83,7 @@ impl<R: Wait, G: Gate> Future for Worker<'_, R, G> {
         };
         match working.turn() {
             Ok(()) => cx.yield_now(),
-            Err(end) => match self.working.take() {
-                Some(ended) => Poll::Ready(ended.record(end)),
-                None => unreachable!(),
-            },
+            Err(end) => Poll::Ready(self.leave(end)),
         }
     }
 }
