@@ -15,6 +15,7 @@ ghost use Rattle.canvas_engine.specs.Correct.{AreWorkers, IsRun, IsThreadFault};
 ghost use Rattle.canvas_engine.specs.steps.Crews.{AreGathered};
 ghost use Rattle.canvas_engine.specs.declared.fault.RunFault.TheVariants as fault;
 
+use crate::in_rounds::InRounds;
 use crate::{Cause, Records, Report, RunFault, Tally};
 use canvas_backend::{Backend, BackendSeat};
 use canvas_broker::{Broker, BrokerPass};
@@ -103,7 +104,7 @@ fn work_alone<R: Wait + RandomSource + AllocGlobal>(
     let worker = Worker::new(
         rt, alloc, 0, broker, pass, backend, seat, &OpenGate, stop, &flight,
     );
-    match block_on(rt, worker) {
+    match block_on(rt, InRounds { future: worker }) {
         Ok(left) => Some(left),
         Err(_) => None,
     }

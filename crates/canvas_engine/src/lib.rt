@@ -5,6 +5,7 @@ mod crew;
 mod fault;
 mod firsts;
 mod gathered;
+mod in_rounds;
 mod records;
 mod report;
 mod report_rows;

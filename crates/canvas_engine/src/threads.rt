@@ -6,6 +6,7 @@ ghost use Rattle.canvas_rewrite.specs.Planned.{IsPlan};
 ghost use Rattle.canvas_backend.specs.Roster.{roster_of};
 ghost use Rattle.canvas_engine.specs.steps.Slots.{IsReadySlot, RanSlot, AllRan};
 
+use crate::in_rounds::InRounds;
 use crate::slot::{Post, Slot};
 use canvas_backend::Backend;
 use canvas_broker::Broker;
@@ -49,7 +50,7 @@ where
                 stop,
                 flight,
             );
-            match block_on(rt, worker) {
+            match block_on(rt, InRounds { future: worker }) {
                 Ok(left) => slot.post = Post::Done(left),
                 Err(_) => stop.ask(),
             }
