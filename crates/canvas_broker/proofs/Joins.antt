@@ -1,9 +1,10 @@
 -- The joins that a pass owes: they are legal after any history in which its callers are live, and touch no other caller.
 use Rattle.std.proofs.Common.{◌≡◌, ℕ, false, List, [], ◌∷◌, ◌++◌, refl, sym, subst}
 use Rattle.std.proofs.lemmas.Bool.{ne_eqb}
-use Rattle.canvas_history.specs.History.{split, join, calls, among, without, live_after, live_from, live, named, NoneBy, state_from, LegalFrom}
-use Rattle.canvas_history.proofs.Histories.{In, in_left, in_right, in_without, in_within, live_append}
-use Rattle.canvas_broker.specs.Broker.{Line, answer, next, May, Orderly}
+use Rattle.canvas_history.specs.History.{split, join, calls, among, without, live_after, live_from, live, named, made_by, NoneBy, state_from, LegalFrom}
+use Rattle.canvas_history.proofs.Histories.{In, other_of, made_others, in_left, in_right, in_without, in_within, live_append}
+use Rattle.canvas_broker.specs.Broker.{Line, answer, next, May}
+use Rattle.canvas_broker.specs.steps.Rule.{Orderly}
 
 module _ {E : Type 0} where
   abbrev pub Legals : List (Line E) → List (Line E) → Type 0
@@ -83,6 +84,10 @@ module _ {E : Type 0} where
   orderly_none p cs us (split r q ∷ js) o out = absurd o
   orderly_none p cs us (join r q ∷ js) o out = (out r o.0, orderly_none p (without q cs) us js o.3 (λ c h. out c (in_within c q cs h).0))
   orderly_none p cs us (calls r c a ∷ js) o out = absurd o
+
+  -- nor has one who isn't of these made any
+  pub orderly_made : (p q : ℕ) (cs : List ℕ) (js : List (Line E)) → Orderly p cs js → (In q cs → ⊥) → made_by q js ≡ []
+  orderly_made p q cs js o out = made_others q js (orderly_none p cs (q ∷ []) js o (λ c i. other_of c q (ne_eqb c q (λ e. out (subst (λ k. In k cs) e i)))))
 
   -- two passes come together
   pub orderly_both : (p q : ℕ) (cs ds : List ℕ) (js ks : List (Line E)) → Orderly p cs js → Orderly q ds ks → In p cs → In q ds → ((c : ℕ) → In c cs → In c ds → ⊥)
