@@ -5,9 +5,9 @@ use Rattle.std.proofs.lemmas.Option.{slice_get_cases}
 use Rattle.std.specs.List.{list_any}
 use mathlib.Core.Logic.{dite}
 use native.Mathlib.Decide.{ℕ_discrete}
-use Rattle.canvas_semantics.specs.Line.{Line, count_line, line_groups, Team, team_members}
+use Rattle.canvas_semantics.specs.Line.{Line, count_line, line_groups, GroupEntry, entry_members}
 use Rattle.canvas_rewrite.specs.Planned.{IsPlan}
-use Rattle.canvas_rewrite.proofs.InOrder.{teams_length}
+use Rattle.canvas_rewrite.proofs.InOrder.{entries_length}
 use Rattle.canvas_rewrite.proofs.Members.{plan_apart, member_known}
 use Rattle.canvas_backend.specs.Roster.{Roster, members, is_member, Apart, roster_of, home_or, home_at, is_home, AreHomes, moved_in}
 use Rattle.canvas_backend.proofs.HistoryLaws.{stands}
@@ -100,15 +100,15 @@ homes_more plan n homes apart known h = record {
         h.full g t member (omega arith)
 
 -- a group or chord that has a member is one of the plan's
-few_groups : (plan : Roster) (g t : ℕ) → IsTrue (is_member plan g t) → g ≤ length plan.teams
+few_groups : (plan : Roster) (g t : ℕ) → IsTrue (is_member plan g t) → g ≤ length plan.groups
 few_groups plan zero t member = omega arith
 few_groups plan (suc g) t member =
     ⊎_elim
-    (λ (l : (x : Team) × (g < length plan.teams) × (slice_get plan.teams g ≡ Some x) × (get_or plan.teams g x ≡ x)). l.1)
-    (λ (r : (length plan.teams ≤ g) × (slice_get plan.teams g ≡ None)). absurd (true≢false (sym member ∙ ap (λ (o : Option Team). list_any (λ x. x == t) (team_members o)) r.1)))
-    (slice_get_cases plan.teams g).1
+    (λ (l : (x : GroupEntry) × (g < length plan.groups) × (slice_get plan.groups g ≡ Some x) × (get_or plan.groups g x ≡ x)). l.1)
+    (λ (r : (length plan.groups ≤ g) × (slice_get plan.groups g ≡ None)). absurd (true≢false (sym member ∙ ap (λ (o : Option GroupEntry). list_any (λ x. x == t) (entry_members o)) r.1)))
+    (slice_get_cases plan.groups g).1
 
-pub homes_all : (plan : Roster) (n : ℕ) (homes : List (Option ℕ)) → length plan.teams ≤ n → HomesTo plan n homes → AreHomes plan homes
+pub homes_all : (plan : Roster) (n : ℕ) (homes : List (Option ℕ)) → length plan.groups ≤ n → HomesTo plan n homes → AreHomes plan homes
 homes_all plan n homes all h g t = by (is_member plan g t) refl (home_at homes t) refl
   where
     by : (b : Bool) → is_member plan g t ≡ b → (o : Option ℕ) → home_at homes t ≡ o → b ≡ is_home o g
@@ -127,4 +127,4 @@ line_more l n g homes plan is h =
     (homes_more (roster_of l) n homes (plan_apart l plan) (known_members l plan (suc n)) h)
 
 pub line_all : (l : Line) (n : ℕ) (homes : List (Option ℕ)) → n ≡ line_groups l → HomesTo (roster_of l) n homes → AreHomes (roster_of l) homes
-line_all l n homes all h = homes_all (roster_of l) n homes (omega (arith, teams_length l)) h
+line_all l n homes all h = homes_all (roster_of l) n homes (omega (arith, entries_length l)) h

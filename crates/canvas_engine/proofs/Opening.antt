@@ -1,6 +1,6 @@
 -- The envelopes of messages in the queue, and that they read back.
 use Rattle.std.proofs.Common.{◌≡◌, ℕ, suc, ◌+◌, ◌<◌, List, [], ◌∷◌, ◌++◌, length, map, get_or, drop, sym, ap, ◌∙◌, subst, append_assoc, add-one, drop-cons}
-use Rattle.canvas_sig.specs.Fields.{Text}
+use Rattle.canvas_task.specs.Text.{Text}
 use Rattle.serde_json.specs.Written.{compact_text}
 use Rattle.canvas_message.specs.Content.{Content}
 use Rattle.canvas_message.specs.EnvelopeFaults.{Says}
@@ -8,8 +8,8 @@ use Rattle.canvas_message.specs.Wire.{properties_wire, headers_wire, body_wire}
 use Rattle.canvas_message.specs.declared.envelope.Envelope.{Envelope}
 use Rattle.canvas_message.proofs.EnvelopeLaw.{says_reading}
 use Rattle.canvas_runs.specs.Lists.{Each}
-use Rattle.canvas_runs.specs.Worker.{reading, sealed}
-use Rattle.canvas_engine.specs.Steps.{ReadsAs}
+use Rattle.canvas_runs.specs.Worker.{read_envelope, sealed}
+use Rattle.canvas_engine.specs.steps.Stages.{ReadsAs}
 
 of_texts : Text → Text → Text → Envelope
 of_texts p h b = record { properties = p; headers = h; body = b }
@@ -23,7 +23,7 @@ is_sealed e m p h b =
 -- an envelope of a message's texts reads back as the message
 pub reads_as : (e : Envelope) (m : Content) → e.properties ≡ compact_text (properties_wire m) → e.headers ≡ compact_text (headers_wire m) → e.body ≡ compact_text (body_wire m)
     → Says e.properties e.headers e.body m → ReadsAs m
-reads_as e m p h b says = ap reading (sym (is_sealed e m p h b)) ∙ says_reading e.properties e.headers e.body m says
+reads_as e m p h b says = ap read_envelope (sym (is_sealed e m p h b)) ∙ says_reading e.properties e.headers e.body m says
 
 -- ---- one message after the other
 

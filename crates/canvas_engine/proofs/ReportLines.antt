@@ -5,10 +5,11 @@ use Rattle.std.specs.Prelude.{slice_get, codes}
 use Rattle.canvas_semantics.specs.Evaluation.{Rows, State, state_of, with_states}
 use Rattle.canvas_semantics.specs.Tree.{ends_in_group, Task, task, Tasks, no_tasks, and_task, count_task, count_tasks}
 use Rattle.canvas_semantics.specs.Line.{Line, stop, step, group_end, chord_end, Lines, no_lines, and_line, count_line, count_lines, tree_of, ends_of, in_group, names, all_names, task_names, tasks_names, name_at}
-use Rattle.canvas_semantics.specs.Report.{Text, names as named, counted_from, line, lines, value_text, listed, result_text, report_of}
+use Rattle.canvas_task.specs.Text.{Text}
+use Rattle.canvas_semantics.specs.Report.{names_by_number as named, counted_from, line, lines, value_text, listed_values, result_text, report_of}
 use Rattle.canvas_semantics.proofs.EndLemmas.{ends_of_tree}
 use Rattle.canvas_rewrite.proofs.Members.{in_group_tree}
-use Rattle.canvas_engine.specs.ReportRows.{line_if, listed_behind}
+use Rattle.canvas_engine.specs.steps.ReportRows.{line_if, listed_behind}
 
 -- the line of the task at place i, and of those behind it
 pub further : (ns : List Text) (i k : ℕ) (rows : Rows) → line_if (k + i) (slice_get ns i) rows ++ lines (counted_from (k + suc i) (drop (suc i) ns)) rows ≡ lines (counted_from (k + i) (drop i ns)) rows
@@ -44,7 +45,7 @@ all_written ns n rows before all long so_far =
     sym (append-nil before) ∙ ap (λ xs. before ++ lines (counted_from (1 + n) xs) rows) (sym none) ∙ so_far
 
 -- a first value, and those behind it
-pub first_value : (e : ℕ × State) (es : Rows) → value_text e.1 ++ listed_behind es ≡ listed (e ∷ es)
+pub first_value : (e : ℕ × State) (es : Rows) → value_text e.1 ++ listed_behind es ≡ listed_values (e ∷ es)
 first_value e [] = append-nil (value_text e.1)
 first_value e (d ∷ ds) =
     let all = value_text e.1 ++ codes ", " in
@@ -53,12 +54,12 @@ first_value e (d ∷ ds) =
     ∙ ap (λ x. all ++ x) (first_value d ds)
 
 pub values : (k : ℕ) (behind ks : List ℕ) (rows : Rows) (before after : Text) → ks ≡ k ∷ behind → after ≡ before ++ value_text (state_of k rows)
-    → after ++ listed_behind (with_states rows behind) ≡ before ++ listed (with_states rows ks)
+    → after ++ listed_behind (with_states rows behind) ≡ before ++ listed_values (with_states rows ks)
 values k behind ks rows before after is e =
     ap (λ x. x ++ listed_behind (with_states rows behind)) e
     ∙ append_assoc before (value_text (state_of k rows)) (listed_behind (with_states rows behind))
     ∙ ap (λ x. before ++ x) (first_value (k, state_of k rows) (with_states rows behind))
-    ∙ ap (λ x. before ++ listed (with_states rows x)) (sym is)
+    ∙ ap (λ x. before ++ listed_values (with_states rows x)) (sym is)
 
 -- what was written, piece by piece
 pub whole : (l : Line) (rows : Rows) (several : Bool) (ks : List ℕ) (t0 t1 t2 t3 t4 : Text) → t0 ≡ [] → t1 ≡ t0 ++ lines (named (tree_of l)) rows → t2 ≡ t1 ++ codes "result "

@@ -9,7 +9,7 @@ use Rattle.canvas_runs.specs.Turns.{Step, IsWorker, HasEnded, round, rounds}
 use Rattle.canvas_runs.proofs.TurnEnds.{begins_list, begins_rotation, rounds_next}
 use Rattle.canvas_worker.specs.declared.cause.Cause.{Cause}
 use Rattle.canvas_worker.specs.declared.cause.Cause.TheVariants.{Memory, Stopped}
-use Rattle.canvas_engine.specs.Steps.{Reached, HasReached, IsTurn, IsHalt, IsPartOfRound, IsHaltInRound, IsEarlyEnd, IsDone}
+use Rattle.canvas_engine.specs.steps.Stages.{Reached, HasReached, IsTurn, IsHalt, IsPartOfRound, IsHaltInRound, IsEarlyEnd, IsDone}
 use Rattle.canvas_engine.specs.declared.stage.Stage.{Stage}
 
 module _ (l : Line) (n most : ℕ) (us : List ℕ) (xs : List Step) where

@@ -1,6 +1,6 @@
 -- What a plan says of the canvas that it was made from.
 use Rattle.std.proofs.Common.{◌≡◌, List, Result, Ok, Err, IfOk, IfErr, OnOk, String, Global, string_bytes, sym, ap, ◌∙◌, subst}
-use Rattle.canvas_sig.specs.Fields.{Text}
+use Rattle.canvas_task.specs.Text.{Text}
 use Rattle.canvas_semantics.specs.NormalLine.{normal}
 use Rattle.canvas_semantics.specs.Tree.{Tree, numbered}
 use Rattle.canvas_semantics.specs.Evaluation.{State, Rows, nothing}
@@ -10,7 +10,7 @@ use Rattle.canvas_semantics.specs.SameMeaning.{IsSame}
 use Rattle.canvas_semantics.specs.States.{states, rows_from}
 use Rattle.canvas_semantics.proofs.RowNumbers.{states_in, states_listed}
 use Rattle.canvas_semantics.proofs.SameReport.{same_report, same_report_of}
-use Rattle.canvas_engine.specs.Texts.{IsCanvasText, IsPlanFault, IsPlanOf, IsTextFault}
+use Rattle.canvas_engine.specs.Texts.{IsCanvasText, IsPlanFault, IsPlanOfText, IsTextFault}
 use Rattle.canvas_engine.specs.declared.fault.RunFault.{RunFault}
 use Rattle.canvas_engine.specs.declared.text.TextFault.{TextFault}
 use Rattle.canvas_engine.specs.declared.text.TextFault.TheVariants as a_fault
@@ -27,7 +27,7 @@ same_text c all h e = ap (λ t. report_of t (rows_from 1 (states t))) e ∙ same
 
 -- ---- what a text answers, by what its plan answers
 
-module _ (bytes : Text) (c : Tree) (all : Line) (plan : IsPlanOf bytes c all) where
+module _ (bytes : Text) (c : Tree) (all : Line) (plan : IsPlanOfText bytes c all) where
   pub ran_text : (Asked : Type 0) (r : Result (String Global) TextFault)
       → IfOk r (λ text. Asked × (string_bytes text ≡ report_of (tree_of all) (rows_from 1 (states (tree_of all)))))
       → IfOk r (λ text. (x : Tree) × IsCanvasText bytes x × Asked × (string_bytes text ≡ report x))

@@ -16,8 +16,8 @@ use Rattle.canvas_runs.specs.Following.{Pass, Seat, Makes, Serves, Followed, beg
 use Rattle.canvas_runs.specs.Lists.{Each}
 use Rattle.canvas_worker.specs.Finished.{Finished}
 use Rattle.canvas_worker.specs.declared.record.Record.{Record}
-use Rattle.canvas_engine.specs.Crews.{numbered_counts, tallies_from}
-use Rattle.canvas_engine.specs.Slots.{HasHands, IsReady, IsPart, Parts, Leaves, Ran, AllRan, IsDone, IsWell, IsOf, AreOf, Takes, tally_in}
+use Rattle.canvas_engine.specs.steps.Crews.{numbered_counts, tallies_from}
+use Rattle.canvas_engine.specs.steps.Slots.{HasHands, IsReadySlot, IsSplitOff, SplitsOff, LeavesPost, RanSlot, AllRan, HasEnded, IsWell, IsPostOf, AreOf, Takes, tally_in}
 use Rattle.canvas_engine.specs.declared.records.Tally.{Tally}
 use Rattle.canvas_engine.specs.declared.slot.Post.{Post}
 use Rattle.canvas_engine.specs.declared.slot.Post.TheVariants.{Ready, Done, Lost}
@@ -25,10 +25,10 @@ use Rattle.canvas_engine.specs.declared.slot.Slot.{Slot}
 
 -- ---- one more place
 
-pub part_more : (plan : Roster) (k n : ℕ) (p p' p'' : Pass) (s s' s'' : Seat) (slots : List Slot) (slot : Slot) → Parts plan k p s slots p' s' → n ≡ k + length slots → IsPart plan n p' s' slot p'' s''
-    → Parts plan k p s (slots ++ slot ∷ []) p'' s''
+pub part_more : (plan : Roster) (k n : ℕ) (p p' p'' : Pass) (s s' s'' : Seat) (slots : List Slot) (slot : Slot) → SplitsOff plan k p s slots p' s' → n ≡ k + length slots → IsSplitOff plan n p' s' slot p'' s''
+    → SplitsOff plan k p s (slots ++ slot ∷ []) p'' s''
 part_more plan k n p p' p'' s s' s'' [] slot m e i =
-    let same : n ≡ k = omega (arith, e) in (p'', s'', subst (λ x. IsPart plan k x s slot p'' s'') m.0 (subst (λ x. IsPart plan k p' x slot p'' s'') m.1 (subst (λ x. IsPart plan x p' s' slot p'' s'') same i)), (refl, refl))
+    let same : n ≡ k = omega (arith, e) in (p'', s'', subst (λ x. IsSplitOff plan k x s slot p'' s'') m.0 (subst (λ x. IsSplitOff plan k p' x slot p'' s'') m.1 (subst (λ x. IsSplitOff plan x p' s' slot p'' s'') same i)), (refl, refl))
 part_more plan k n p p' p'' s s' s'' (x ∷ slots) slot m e i = (m.0, m.1, m.2, part_more plan (suc k) n m.0 p' p'' m.1 s' s'' slots slot m.3 (omega (arith, e)) i)
 
 pub one_longer : {X : Type 0} (xs : List X) (x : X) → length (xs ++ x ∷ []) ≡ length xs + 1
@@ -49,7 +49,7 @@ serves_of plan s t (c ∷ cs) m = serves_of plan m.0 t cs m.2 ∙ m.1.0
 
 abbrev pub EachRan : Roster → List Slot → List Slot → Type 0
 EachRan plan [] [] = Unit {0}
-EachRan plan (x ∷ xs) (y ∷ ys) = Ran plan x y × EachRan plan xs ys
+EachRan plan (x ∷ xs) (y ∷ ys) = RanSlot plan x y × EachRan plan xs ys
 EachRan plan xs ys = ⊥
 
 pub each_ran : (plan : Roster) (xs ys : List Slot) → length ys ≡ length xs → AllRan plan xs ys → EachRan plan xs ys
@@ -66,10 +66,10 @@ finished_of plan k q t r f =
     (ap (λ (x : Pass). x.of) f.pass_is ∙ makes_of q f.ended.pass f.followed.made f.followed.makes, ap (λ (x : Seat). x.of) f.seat_is ∙ serves_of plan t f.ended.seat _ f.followed.serves)
 
 -- a worker that was ready and is done has finished
-finished : (plan : Roster) (k : ℕ) (x y : Post) (q : Pass) (t : Seat) (r : Record) → x ≡ Ready q t → y ≡ Done r → Leaves plan k x y → Finished plan k q t r
-finished plan k x y q t r e f l = subst (λ p. Leaves plan k (Ready q t) p) f (subst (λ p. Leaves plan k p y) e l)
+finished : (plan : Roster) (k : ℕ) (x y : Post) (q : Pass) (t : Seat) (r : Record) → x ≡ Ready q t → y ≡ Done r → LeavesPost plan k x y → Finished plan k q t r
+finished plan k x y q t r e f l = subst (λ p. LeavesPost plan k (Ready q t) p) f (subst (λ p. LeavesPost plan k p y) e l)
 
-left_of : (x : Post) → IsDone x → (r : Record) × (x ≡ Done r)
+left_of : (x : Post) → HasEnded x → (r : Record) × (x ≡ Done r)
 left_of (Done r) d = (r, refl)
 left_of (Ready q t) d = absurd d
 left_of Lost d = absurd d
@@ -79,20 +79,20 @@ ready_of b d (Ready q t) h = (q, t, refl, h.0, h.1)
 ready_of b d (Done r) h = absurd h
 ready_of b d Lost h = absurd h
 
-is_of : (b : SegId Global) (d : TableId) (plan : Roster) (before after : Slot) → IsReady b d before → Ran plan before after → IsDone after.post → IsOf b d after.post
+is_of : (b : SegId Global) (d : TableId) (plan : Roster) (before after : Slot) → IsReadySlot b d before → RanSlot plan before after → HasEnded after.post → IsPostOf b d after.post
 is_of b d plan before after hands ran is =
     let ready = ready_of b d before.post hands in
     let done = left_of after.post is in
     let f : Finished plan before.number ready.0 ready.1 done.0 = finished plan before.number before.post after.post ready.0 ready.1 done.0 ready.2 done.1 ran.1 in
     let of = finished_of plan before.number ready.0 ready.1 done.0 f in
-    subst (λ p. IsOf b d p) (sym done.1) (of.0 ∙ ready.3, of.1 ∙ ready.4)
+    subst (λ p. IsPostOf b d p) (sym done.1) (of.0 ∙ ready.3, of.1 ∙ ready.4)
 
-pub are_of : (b : SegId Global) (d : TableId) (plan : Roster) (before after : List Slot) → All (IsReady b d) before → EachRan plan before after → All (λ s. IsDone s.post) after → AreOf b d after
+pub are_of : (b : SegId Global) (d : TableId) (plan : Roster) (before after : List Slot) → All (IsReadySlot b d) before → EachRan plan before after → All (λ s. HasEnded s.post) after → AreOf b d after
 are_of b d plan [] [] a r f = tt
 are_of b d plan [] (y ∷ ys) a r f = absurd r
 are_of b d plan (x ∷ xs) [] a r f = absurd r
 are_of b d plan (x ∷ xs) (y ∷ ys) a r f =
-    (is_of b d plan x y (All-head (IsReady b d) x xs a) r.0 (All-head (λ s. IsDone s.post) y ys f), are_of b d plan xs ys (All-tail (IsReady b d) x xs a) r.1 (All-tail (λ s. IsDone s.post) y ys f))
+    (is_of b d plan x y (All-head (IsReadySlot b d) x xs a) r.0 (All-head (λ s. HasEnded s.post) y ys f), are_of b d plan xs ys (All-tail (IsReadySlot b d) x xs a) r.1 (All-tail (λ s. HasEnded s.post) y ys f))
 
 tally_of_done : (k : ℕ) (plan : Roster) (q : Pass) (t : Seat) (slot : Slot) (r : Record) → slot.number ≡ k → slot.post ≡ Done r → (f : Finished plan k q t r) → tally_in slot ≡ numbered_counts k f.ended.tally
 tally_of_done k plan q t slot r n e f = ap (λ p. tally_in (record { number = slot.number; post = p })) e ∙ (ap (λ m. tally_in (record { number = m; post = Done r })) n ∙ ap (λ c. numbered_counts k c) f.counts)
@@ -109,7 +109,7 @@ pub record IsCrewOf (plan : Roster) (k : ℕ) (p : Pass) (s : Seat) (p' : Pass) 
 well_done : (x : Post) (r : Record) → x ≡ Done r → IsWell x → r.fault ≡ None
 well_done x r e w = subst IsWell e w
 
-pub crew_of : (plan : Roster) (k : ℕ) (before after : List Slot) (p p' : Pass) (s s' : Seat) (q q' : Pass) (t t' : Seat) → Parts plan k p s before p' s' → EachRan plan before after → Takes plan q t after q' t'
+pub crew_of : (plan : Roster) (k : ℕ) (before after : List Slot) (p p' : Pass) (s s' : Seat) (q q' : Pass) (t t' : Seat) → SplitsOff plan k p s before p' s' → EachRan plan before after → Takes plan q t after q' t'
     → (ms : List (Mate plan)) × IsCrewOf plan k p s p' s' q t q' t' after ms
 crew_of plan k [] [] p p' s s' q q' t t' m r j = ([], record { count = refl; splits = m.0; joins = j.0; seat_splits = m.1; seat_joins = j.1; tallies = refl; done = λ w. tt })
 crew_of plan k [] (y ∷ ys) p p' s s' q q' t t' m r j = absurd r

@@ -17,10 +17,11 @@ use Rattle.canvas_runs.specs.Turns.{queue_next, results_next, says_first}
 use Rattle.canvas_worker.specs.Asks.{Asked, Answer, shown, sent, is_first, FoundInRange}
 use Rattle.canvas_worker.specs.Books.{no_book, book_in}
 use Rattle.canvas_worker.specs.Enveloped.{enveloped_by}
-use Rattle.canvas_worker.specs.Standing.{Standing, Left, asked, after_reply, handed, unsent, held_out, drops, most}
+use Rattle.canvas_runs.specs.Tally.{greatest_count}
+use Rattle.canvas_worker.specs.Standing.{Standing, Left, asked, after_reply, handed, unsent, held_out, drops}
 use Rattle.canvas_worker.specs.declared.ask.Ask.TheVariants.{Store, Part, Read}
 use Rattle.canvas_worker.specs.declared.ask.Reply.TheVariants as R
-use Rattle.canvas_engine.specs.Steps.{AnswersNow, AreInRange, Stepped, IsTried}
+use Rattle.canvas_engine.specs.steps.Stages.{AnswersNow, AreInRange, Stepped, IsTried}
 
 -- ---- which ask is shown
 
@@ -65,8 +66,8 @@ handed_out x c out e = is_send x (asked c.left) (sym (e ∙ ap (λ b. if b then 
 
 -- an envelope that was handed out makes no difference once it is published
 same_left : (book : Book) (s : Left) (d : ℕ)
-    → ◌≡◌ {A = Standing} (record { left = answered (enveloped_by book) (unsent s) C.sent; is_out = false; dropped = min most (d + drops book (unsent s) C.sent) })
-    (record { left = answered (enveloped_by book) s C.sent; is_out = false; dropped = min most (d + drops book s C.sent) })
+    → ◌≡◌ {A = Standing} (record { left = answered (enveloped_by book) (unsent s) C.sent; is_out = false; dropped = min greatest_count (d + drops book (unsent s) C.sent) })
+    (record { left = answered (enveloped_by book) s C.sent; is_out = false; dropped = min greatest_count (d + drops book s C.sent) })
 same_left book C.taking d = refl
 same_left book C.resting d = refl
 same_left book C.over d = refl

@@ -12,7 +12,7 @@ use Rattle.canvas_backend.specs.Backend.{Results}
 use Rattle.canvas_backend.specs.Plain.{held}
 use Rattle.canvas_backend.specs.Roster.{Roster, roster_of}
 use Rattle.canvas_runs.specs.Book.{book_of}
-use Rattle.canvas_runs.specs.Core.{take, send, keep, part, read, pause, end, taken, sent, kept, counted, found, rested, State, taking, resting, over, failed, owning, doing, reading, ask, answered, left_after, Suits, ReadsBack, IsCoreRun}
+use Rattle.canvas_runs.specs.Core.{take, send, keep, part, read, pause, end, taken, sent, kept, counted, found, rested, CoreState, taking, resting, over, failed, owning, doing, reading, ask, answered, left_after, Suits, ReadsBack, IsCoreRun}
 use Rattle.canvas_runs.specs.Lists.{Each, by}
 use Rattle.canvas_runs.specs.Turns.{Step, IsWorker, Turned, Answers, HasEnded, left, queue_after, queue_next, results_after, results_next, holds_more, some_inside, is_queued, is_inside as is_worker_inside}
 use Rattle.canvas_runs.specs.Worker.{worker}
@@ -24,7 +24,7 @@ use Rattle.canvas_worker.specs.Enveloped.{enveloped, enveloped_by}
 use Rattle.canvas_worker.specs.Standing.{Standing, Left, asked, is_inside}
 use Rattle.canvas_worker.proofs.Books.{books_alike}
 use Rattle.canvas_worker.proofs.CoreLaw.{cores_are_workers}
-use Rattle.canvas_engine.specs.Steps.{AnswersNow, Stepped, IsTurn, IsCoreAt, Reached}
+use Rattle.canvas_engine.specs.steps.Stages.{AnswersNow, Stepped, IsTurn, IsCoreAt, Reached}
 use Rattle.canvas_engine.specs.declared.stage.Stage.{Stage}
 
 -- ---- what was answered
@@ -51,7 +51,7 @@ suits_now plan queue results more a r h = elim h [ ]
 
 -- ---- whether somebody is inside a message
 
-inside_alike : (s : Left) (t : State Content Load Outcome) → IsAlike s t → is_inside s ≡ is_worker_inside t
+inside_alike : (s : Left) (t : CoreState Content Load Outcome) → IsAlike s t → is_inside s ≡ is_worker_inside t
 inside_alike taking taking h = refl
 inside_alike resting resting h = refl
 inside_alike over over h = refl

@@ -15,7 +15,7 @@ use Rattle.canvas_worker.specs.Asks.{Asked}
 use Rattle.canvas_worker.specs.Books.{no_book}
 use Rattle.canvas_worker.specs.Enveloped.{enveloped_by}
 use Rattle.canvas_worker.specs.Standing.{Standing, asked, is_inside}
-use Rattle.canvas_engine.specs.Steps.{MayAsk, AreInRange, Stepped, IsTried, Tried, Reached, HasReached, IsTurn, IsHalfway, IsStopped}
+use Rattle.canvas_engine.specs.steps.Stages.{MayAsk, AreInRange, Stepped, IsTried, Tried, Reached, HasReached, IsTurn, IsHalfway, IsStopped}
 use Rattle.canvas_engine.specs.declared.stage.Stage.{Stage}
 use Rattle.canvas_engine.proofs.StageSteps.{IsPut, each_more, has_ended, not_ended, same_ask, more_is, stepped, turned_so}
 

@@ -26,7 +26,7 @@ use Rattle.canvas_runs.specs.Following.{Pass, Seat, Makes, Serves, Working, begi
 use Rattle.canvas_runs.specs.Lists.{Each}
 use Rattle.canvas_runs.specs.Rows.{reads_from, RanTo, RanWell, EachMay}
 use Rattle.canvas_runs.specs.Run.{IsRead, published_all}
-use Rattle.canvas_runs.specs.Tally.{Tally as Counts, Adds, EachCounts, most, none_yet}
+use Rattle.canvas_runs.specs.Tally.{Tally as Counts, CountsMore, EachCounts, greatest_count, none_yet}
 use Rattle.canvas_runs.specs.Worker.{sealed, worker}
 use Rattle.canvas_runs.proofs.Causes.{by_cause, completed_once, by_its_cause}
 use Rattle.canvas_runs.proofs.FirstLaw.{first_part}
@@ -38,8 +38,8 @@ use Rattle.canvas_worker.specs.declared.record.Record.{Record}
 use Rattle.canvas_worker.specs.declared.cause.Cause.{Cause}
 use Rattle.canvas_worker.specs.declared.cause.Cause.TheVariants.{Memory, Stopped}
 use Rattle.canvas_engine.specs.Correct.{AreWorkers, IsRun, IsThreadFault, AreTallies, counts_of}
-use Rattle.canvas_engine.specs.Crews.{Crew, IsStart, IsWellGathered, tallies_from}
-use Rattle.canvas_engine.specs.Slots.{AllRan, IsWell, Takes, nothing_counted, tally_in}
+use Rattle.canvas_engine.specs.steps.Crews.{Crew, IsStart, IsWellGathered, tallies_from}
+use Rattle.canvas_engine.specs.steps.Slots.{AllRan, IsWell, Takes, nothing_counted, tally_in}
 use Rattle.canvas_engine.specs.declared.running.Start.{Start}
 use Rattle.canvas_engine.specs.declared.slot.Slot.{Slot}
 use Rattle.canvas_engine.proofs.Slots.{each_ran, crew_of}
@@ -110,8 +110,8 @@ long_tallies k [] = refl
 long_tallies k (m ∷ ms) = ap suc (long_tallies (suc k) ms)
 
 -- the halves of a sum in the other order
-swapped : (a b : ℕ) → min most (a + b) ≡ min most (b + a)
-swapped a b = let same : a + b ≡ b + a = omega arith in ap (λ n. min most n) same
+swapped : (a b : ℕ) → min greatest_count (a + b) ≡ min greatest_count (b + a)
+swapped a b = let same : a + b ≡ b + a = omega arith in ap (λ n. min greatest_count n) same
 
 module _ (l : Line) (n : ℕ) (b : SegId Global) (d : Desk) (pass : Pass) (seat : Seat) (c : Crew l n b d.id pass seat) (planned : IsPlan l) where
   module _ (r : Record) (f : Finished (roster_of l) 0 pass seat r) (fine : r.fault ≡ None) (done : Each (λ (m : Mate (roster_of l)). IsDone (roster_of l) m.ended) c.mates) (after : Seat) (rows : List State)
@@ -124,12 +124,12 @@ module _ (l : Line) (n : ℕ) (b : SegId Global) (d : Desk) (pass : Pass) (seat 
 
     -- worker 0's counts, the first messages among them
     abbrev own_counts : Counts
-    own_counts = record { taken = r.taken; published = min most (r.published + length (first_messages l)); first = r.first; parts = r.parts; dropped = r.dropped }
+    own_counts = record { taken = r.taken; published = min greatest_count (r.published + length (first_messages l)); first = r.first; parts = r.parts; dropped = r.dropped }
 
     own_tally : OwnTally l r.pass after this own_counts
     own_tally = (
       ap (λ (t : Counts). t.taken) f.counts,
-      swapped r.published (length (first_messages l)) ∙ ap (λ (t : Counts). min most (length (first_messages l) + t.published)) f.counts,
+      swapped r.published (length (first_messages l)) ∙ ap (λ (t : Counts). min greatest_count (length (first_messages l) + t.published)) f.counts,
       ap (λ (t : Counts). t.first) f.counts,
       ap (λ (t : Counts). t.parts) f.counts,
       ap (λ (t : Counts). t.dropped) f.counts,
@@ -139,7 +139,7 @@ module _ (l : Line) (n : ℕ) (b : SegId Global) (d : Desk) (pass : Pass) (seat 
     records_of ts = record { broker = b; pass = r.pass; backend = d; seat = after; workers = ts }
 
     abbrev all_tallies : List Tally
-    all_tallies = record { number = 0; taken = r.taken; published = min most (r.published + length (first_messages l)); first = r.first; parts = r.parts; dropped = r.dropped } ∷ tallies_from 1 c.mates
+    all_tallies = record { number = 0; taken = r.taken; published = min greatest_count (r.published + length (first_messages l)); first = r.first; parts = r.parts; dropped = r.dropped } ∷ tallies_from 1 c.mates
 
     pub is_run : r.pass.of ≡ b → after.of ≡ d.id → d.plan ≡ roster_of l → IsRun l n rows (records_of all_tallies)
     is_run of seat_of plan =

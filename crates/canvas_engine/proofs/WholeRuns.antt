@@ -23,7 +23,7 @@ use Rattle.canvas_worker.specs.Standing.{Standing, begun}
 use Rattle.canvas_worker.specs.declared.cause.Cause.{Cause}
 use Rattle.canvas_worker.specs.declared.cause.Cause.TheVariants.{Memory, Stopped}
 use Rattle.canvas_engine.specs.Correct.{IsAsked, IsWholeWithin, IsCut, IsRunFault, IsFaultWithin}
-use Rattle.canvas_engine.specs.Steps.{rows_of, IsNew, AreNew, IsCoreAt, Reached, IsHalfway, IsEarlyEnd, IsDone}
+use Rattle.canvas_engine.specs.steps.Stages.{rows_of, IsNew, AreNew, IsCoreAt, Reached, IsHalfway, IsEarlyEnd, IsDone}
 use Rattle.canvas_engine.specs.declared.report.Report.{Report}
 use Rattle.canvas_engine.specs.declared.fault.RunFault.{RunFault}
 use Rattle.canvas_engine.specs.declared.fault.RunFault.TheVariants.{BadWorkers, BadTurn, Halted}

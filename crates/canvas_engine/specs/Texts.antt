@@ -1,7 +1,7 @@
 -- The report of a text: of the canvas that it reads as; or why there is none.
 use Rattle.std.specs.Prelude.{◌≡◌, List, Ok, Err}
 use Rattle.canvas_sig.specs.CanvasText.{reading}
-use Rattle.canvas_sig.specs.Fields.{Text}
+use Rattle.canvas_task.specs.Text.{Text}
 use Rattle.canvas_semantics.specs.NormalLine.{normal}
 use Rattle.canvas_semantics.specs.Tree.{Tree, numbered}
 use Rattle.canvas_semantics.specs.Evaluation.{State}
@@ -23,7 +23,7 @@ IsReadFault bytes (Run f) = ⊥
 IsReadFault bytes Memory = Unit {0}
 
 -- the line is the numbered normal line of the canvas that the text reads as
-pub record IsPlanOf (bytes : Text) (c : Tree) (all : Line) : Type 0 where
+pub record IsPlanOfText (bytes : Text) (c : Tree) (all : Line) : Type 0 where
   pub text : IsCanvasText bytes c
   pub same : IsSame (normal c) c
   pub tree : tree_of all ≡ numbered (normal c)

@@ -1,6 +1,6 @@
 //! The passes and the seats of a run's workers.
 ghost use Rattle.std.specs.Prelude.{◌≡◌, ◌++◌, All, length, map, IfOk, OnOk, IfNone, MatchBool};
-ghost use Rattle.canvas_engine.specs.Slots.{IsReady, IsPart, Parts, IsDone, IsWell, AreOf, Takes, tally_in};
+ghost use Rattle.canvas_engine.specs.steps.Slots.{IsReadySlot, IsSplitOff, SplitsOff, HasEnded, IsWell, AreOf, Takes, tally_in};
 ghost use Rattle.canvas_broker.specs.Callers as passes;
 ghost use Rattle.canvas_backend.specs.Callers as seats;
 
@@ -23,8 +23,8 @@ fn split_one<R: Wait>(
 ) -> Result<Slot, Memory>
     requires own { (pass.old.of ≡ broker.now) × (seat.old.of ≡ backend.now.id) }
     ensures own { (pass.new.of ≡ broker.now) × (seat.new.of ≡ backend.now.id) }
-    ensures ready { IfOk result (IsReady broker.now backend.now.id) }
-    ensures part { IfOk result (λ slot. IsPart backend.now.plan number pass.old seat.old slot pass.new seat.new) }
+    ensures ready { IfOk result (IsReadySlot broker.now backend.now.id) }
+    ensures part { IfOk result (λ slot. IsSplitOff backend.now.plan number pass.old seat.old slot pass.new seat.new) }
 {
     match broker.split(rt, pass) {
         Ok(new_pass) => match backend.split(seat) {
@@ -51,8 +51,8 @@ pub(crate) fn split_all<R: Wait>(
     requires own { (pass.old.of ≡ broker.now) × (seat.old.of ≡ backend.now.id) }
     ensures own { (pass.new.of ≡ broker.now) × (seat.new.of ≡ backend.now.id) }
     ensures count { IfOk result (λ slots. length slots.items ≡ workers) }
-    ensures ready { IfOk result (λ slots. All (IsReady broker.now backend.now.id) slots.items) }
-    ensures parts { IfOk result (λ slots. Parts backend.now.plan 1 pass.old seat.old slots.items pass.new seat.new) }
+    ensures ready { IfOk result (λ slots. All (IsReadySlot broker.now backend.now.id) slots.items) }
+    ensures parts { IfOk result (λ slots. SplitsOff backend.now.plan 1 pass.old seat.old slots.items pass.new seat.new) }
 {
     let mut slots = Vec::new(alloc);
     for index in 0..workers {
@@ -64,7 +64,7 @@ pub(crate) fn split_all<R: Wait>(
 
 /// Whether each worker has left a record.
 pub(crate) fn are_done(slots: &[Slot]) -> bool
-    ensures { MatchBool result (All (λ s. IsDone s.post) slots.now) (All (λ s. IsDone s.post) slots.now → ⊥) }
+    ensures { MatchBool result (All (λ s. HasEnded s.post) slots.now) (All (λ s. HasEnded s.post) slots.now → ⊥) }
 {
     slots.iter().all(|slot| slot.is_done())
 }

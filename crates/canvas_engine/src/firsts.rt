@@ -4,7 +4,7 @@ ghost use Rattle.canvas_runs.specs.Following.{Makes};
 ghost use Rattle.canvas_runs.specs.Lists.{Each};
 ghost use Rattle.canvas_runs.specs.Run.{published_all};
 ghost use Rattle.canvas_runs.specs.Worker.{sealed};
-ghost use Rattle.canvas_engine.specs.Steps.{ReadsAs};
+ghost use Rattle.canvas_engine.specs.steps.Stages.{ReadsAs};
 ghost use Rattle.canvas_message.specs.Effects.{first_messages};
 ghost use Rattle.canvas_runs.specs.Turns.{FirstsRead};
 

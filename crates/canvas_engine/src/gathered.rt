@@ -12,7 +12,7 @@ ghost use Rattle.canvas_backend.specs.Callers.{Stands};
 ghost use Rattle.canvas_runs.specs.Following.{Serves};
 ghost use Rattle.canvas_runs.specs.Rows.{reads_from};
 ghost use Rattle.canvas_engine.specs.Correct.{AreWorkers, IsRun, IsThreadFault};
-ghost use Rattle.canvas_engine.specs.Crews.{AreGathered};
+ghost use Rattle.canvas_engine.specs.steps.Crews.{AreGathered};
 ghost use Rattle.canvas_engine.specs.declared.fault.RunFault.TheVariants as fault;
 
 use crate::{Cause, Records, Report, RunFault, Tally};

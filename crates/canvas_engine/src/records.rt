@@ -1,7 +1,7 @@
 //! What a run on threads leaves besides its report.
 ghost use Rattle.std.specs.Prelude.{◌≡◌, ◌+◌, min};
-ghost use Rattle.canvas_engine.specs.Slots.{counts, nothing_counted};
-ghost use Rattle.canvas_runs.specs.Tally.{most};
+ghost use Rattle.canvas_engine.specs.steps.Slots.{counts, nothing_counted};
+ghost use Rattle.canvas_runs.specs.Tally.{greatest_count};
 
 use canvas_backend::{Backend, BackendSeat};
 use canvas_broker::{Broker, BrokerPass};
@@ -49,7 +49,7 @@ impl Tally {
 
     /// With further publishes.
     pub(crate) fn with_published(self, further: usize) -> Tally
-        ensures { result ≡ record { number = self.number; taken = self.taken; published = min most (self.published + further); first = self.first; parts = self.parts; dropped = self.dropped } }
+        ensures { result ≡ record { number = self.number; taken = self.taken; published = min greatest_count (self.published + further); first = self.first; parts = self.parts; dropped = self.dropped } }
     {
         Tally {
             published: self.published.saturating_add(further as u64),

@@ -4,7 +4,7 @@ ghost use Rattle.canvas_semantics.specs.Line.{tree_of};
 ghost use Rattle.canvas_rewrite.specs.Planned.{IsPlan};
 ghost use Rattle.canvas_semantics.specs.States.{states};
 ghost use Rattle.canvas_engine.specs.Correct.{AreWorkers, IsRun, IsThreadFault};
-ghost use Rattle.canvas_engine.specs.Crews.{AreGathered, IsStart};
+ghost use Rattle.canvas_engine.specs.steps.Crews.{AreGathered, IsStart};
 
 use crate::crew::{are_done, join_all, judge, split_all};
 use crate::firsts::{first_envelopes, publish_all};

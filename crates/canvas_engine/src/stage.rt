@@ -17,7 +17,7 @@ ghost use Rattle.canvas_worker.specs.Books.{no_book};
 ghost use Rattle.canvas_worker.specs.Enveloped.{enveloped_by};
 ghost use Rattle.canvas_worker.specs.Standing.{Standing, asked, is_inside};
 ghost use Rattle.canvas_worker.specs.declared.ask.Ask.TheVariants as ask;
-ghost use Rattle.canvas_engine.specs.Steps.{rows_of, MayAsk, AreInRange, Stepped, IsTried, ReadsAs, AreNew, Reached, HasReached, IsTurn, IsHalt, IsNew};
+ghost use Rattle.canvas_engine.specs.steps.Stages.{rows_of, MayAsk, AreInRange, Stepped, IsTried, ReadsAs, AreNew, Reached, HasReached, IsTurn, IsHalt, IsNew};
 
 use crate::Cause;
 use canvas_backend::PlainBackend;

@@ -6,7 +6,7 @@ ghost use Rattle.canvas_semantics.specs.Report.{report, report_of};
 ghost use Rattle.canvas_semantics.specs.SameMeaning.{IsSame};
 ghost use Rattle.canvas_semantics.specs.States.{rows_from, states};
 ghost use Rattle.canvas_engine.specs.Correct.{AreWorkers, IsAsked, IsRunFault, IsThreadFault};
-ghost use Rattle.canvas_engine.specs.Texts.{IsCanvasText, IsPlanFault, IsPlanOf, IsReadFault, IsTextFault};
+ghost use Rattle.canvas_engine.specs.Texts.{IsCanvasText, IsPlanFault, IsPlanOfText, IsReadFault, IsTextFault};
 
 use crate::{Report, RunFault, report_text, run, run_turns};
 use canvas_rewrite::{Plan, freeze, normalise};
@@ -51,7 +51,7 @@ fn plan_of(alloc: Global, canvas: &Canvas) -> Result<Plan, Memory>
 
 /// The canvas of a text, with its plan.
 fn read_plan(alloc: Global, bytes: &[u8]) -> Result<Plan, TextFault>
-    ensures ok { IfOk result (λ plan. (c : Tree) × IsPlanOf bytes.now c plan) }
+    ensures ok { IfOk result (λ plan. (c : Tree) × IsPlanOfText bytes.now c plan) }
     ensures err { IfErr result (IsReadFault bytes.now) }
 {
     let canvas = match read_canvas(alloc, bytes) {

@@ -4,7 +4,7 @@ ghost use denote.Param.Send.{IsSync, IsSend};
 ghost use Rattle.canvas_semantics.specs.Line.{Line};
 ghost use Rattle.canvas_rewrite.specs.Planned.{IsPlan};
 ghost use Rattle.canvas_backend.specs.Roster.{roster_of};
-ghost use Rattle.canvas_engine.specs.Slots.{IsReady, Ran, AllRan};
+ghost use Rattle.canvas_engine.specs.steps.Slots.{IsReadySlot, RanSlot, AllRan};
 
 use crate::slot::{Post, Slot};
 use canvas_backend::Backend;
@@ -32,8 +32,8 @@ where
     R: Wait + RandomSource + AllocGlobal,
     G: Gate,
     requires plan { (l : Line) × IsPlan l × (backend.now.plan ≡ roster_of l) }
-    requires ready { IsReady broker.now backend.now.id slot.old }
-    ensures { Ran backend.now.plan slot.old slot.new }
+    requires ready { IsReadySlot broker.now backend.now.id slot.old }
+    ensures { RanSlot backend.now.plan slot.old slot.new }
 {
     match mem::replace(&mut slot.post, Post::Lost) {
         Post::Ready(pass, seat) => {
@@ -74,15 +74,15 @@ where
     R: Threads + Wait + RandomSource + AllocGlobal + Sync,
     G: Gate + Sync,
     requires plan { (l : Line) × IsPlan l × (backend.now.plan ≡ roster_of l) }
-    requires ready { All (IsReady broker.now backend.now.id) slots.old }
+    requires ready { All (IsReadySlot broker.now backend.now.id) slots.old }
     ensures { AllRan backend.now.plan slots.old slots.new }
 {
     if slots.is_empty() {
         return;
     }
     let each = |_: usize, slot: &mut Slot|
-        requires { ((l : Line) × IsPlan l × (backend.now.plan ≡ roster_of l)) × IsReady broker.now backend.now.id slot.now }
-        ensures { Ran backend.entry.now.plan slot.entry.now slot.exit.now }
+        requires { ((l : Line) × IsPlan l × (backend.now.plan ≡ roster_of l)) × IsReadySlot broker.now backend.now.id slot.now }
+        ensures { RanSlot backend.entry.now.plan slot.entry.now slot.exit.now }
     { work(rt, alloc, broker, backend, gate, stop, flight, slot) };
     for_each_mut(rt, slots, slots.len(), &each);
 }

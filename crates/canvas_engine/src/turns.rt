@@ -8,7 +8,7 @@ ghost use Rattle.canvas_backend.specs.Roster.{roster_of};
 ghost use Rattle.canvas_runs.specs.Going.{most_steps};
 ghost use Rattle.canvas_runs.specs.Turns.{Step, IsWorker};
 ghost use Rattle.canvas_engine.specs.Correct.{AreWorkers, AreTurns, IsAsked, IsWhole, IsWholeWithin, IsRunFault, IsFaultWithin};
-ghost use Rattle.canvas_engine.specs.Steps.{rows_of, Reached, HasReached, IsNew, IsPartOfRound, IsHaltInRound, IsDone, IsEarlyEnd};
+ghost use Rattle.canvas_engine.specs.steps.Stages.{rows_of, Reached, HasReached, IsNew, IsPartOfRound, IsHaltInRound, IsDone, IsEarlyEnd};
 
 use crate::stage::Stage;
 use crate::{Cause, Report, RunFault};

@@ -4,7 +4,7 @@ use Rattle.std.specs.Prelude.{codes, ◌&&◌, nat_lt, nat_le, not}
 use Rattle.std.specs.Cmp.Lexicographic.{slice_cmp}
 use Rattle.std.proofs.lemmas.Bool.{leb-true}
 use Rattle.serde_json.specs.Data.{Data, null, boolean, number, string, array, object, Items, no_items, item, Members, no_members, member, depth, items_depth, members_depth}
-use Rattle.canvas_sig.specs.Clean.{IsWhole, IsAbove, behind, IsClean, AreClean, MembersClean}
+use Rattle.canvas_sig.specs.steps.Clean.{IsWholeNumber, IsAbove, behind_members, IsClean, AreClean, MembersClean}
 use Rattle.canvas_semantics.specs.Tree.{Call}
 use Rattle.canvas_sig.proofs.FittingCalls.{CallFits}
 use Rattle.canvas_sig.specs.Writing.{args_wire, kwargs_wire, member_unless_empty, tasks_member, chord_members}
@@ -18,7 +18,7 @@ use Rattle.canvas_message.proofs.RoundTrip.{task_parts, Parts, Chord, chord_part
 
 -- ---- optional members, behind those before
 
-null_clean : (before : Members) (k : List ℕ) (d : Data) (more : Members) → IsAbove k before → IsClean d → MembersClean before more → MembersClean (behind before k d) more
+null_clean : (before : Members) (k : List ℕ) (d : Data) (more : Members) → IsAbove k before → IsClean d → MembersClean before more → MembersClean (behind_members before k d) more
     → MembersClean before (member_unless_null k d more)
 null_clean before k null more above clean without with_it = without
 null_clean before k (boolean b) more above clean without with_it = (above, clean, with_it)
@@ -27,7 +27,7 @@ null_clean before k (string s) more above clean without with_it = (above, clean,
 null_clean before k (array ds) more above clean without with_it = (above, clean, with_it)
 null_clean before k (object ms) more above clean without with_it = (above, clean, with_it)
 
-list_clean : (before : Members) (k : List ℕ) (ds : Items) (more : Members) → IsAbove k before → AreClean ds → MembersClean before more → MembersClean (behind before k (array ds)) more
+list_clean : (before : Members) (k : List ℕ) (ds : Items) (more : Members) → IsAbove k before → AreClean ds → MembersClean before more → MembersClean (behind_members before k (array ds)) more
     → MembersClean before (member_unless_empty k ds more)
 list_clean before k no_items more above clean without with_it = without
 list_clean before k (item d ds) more above clean without with_it = (above, clean, with_it)
@@ -45,20 +45,20 @@ links_clean : (before : Members) (k : ℕ) (l e : Items) → AreClean l → AreC
     → MembersClean before (member_unless_empty (codes "link") l (member_unless_empty (codes "link_error") e (id_member k)))
 links_clean before k l e cl ce a b c =
     list_clean before (codes "link") l _ a cl (errbacks_clean before k e ce b c)
-    (errbacks_clean (behind before (codes "link") (array l)) k e ce (above_behind (codes "link_error") (codes "link") (array l) before b refl) (above_behind (codes "task_id") (codes "link") (array l) before c refl))
+    (errbacks_clean (behind_members before (codes "link") (array l)) k e ce (above_behind (codes "link_error") (codes "link") (array l) before b refl) (above_behind (codes "task_id") (codes "link") (array l) before c refl))
 
 group_clean : (before : Members) (k : ℕ) (l e : Items) (g : Data) → AreClean l → AreClean e → IsClean g → IsAbove (codes "group_id") before → IsAbove (codes "link") before
     → IsAbove (codes "link_error") before → IsAbove (codes "task_id") before
     → MembersClean before (member_unless_null (codes "group_id") g (member_unless_empty (codes "link") l (member_unless_empty (codes "link_error") e (id_member k))))
 group_clean before k l e g cl ce cg z a b c =
     null_clean before (codes "group_id") g _ z cg (links_clean before k l e cl ce a b c)
-    (links_clean (behind before (codes "group_id") g) k l e cl ce (above_behind (codes "link") (codes "group_id") g before a refl) (above_behind (codes "link_error") (codes "group_id") g before b refl)
+    (links_clean (behind_members before (codes "group_id") g) k l e cl ce (above_behind (codes "link") (codes "group_id") g before a refl) (above_behind (codes "link_error") (codes "group_id") g before b refl)
     (above_behind (codes "task_id") (codes "group_id") g before c refl))
 
 options_clean : (k : ℕ) (l e : Items) (g c : Data) → AreClean l → AreClean e → IsClean g → IsClean c → MembersClean no_members (task_options k l e g c)
 options_clean k l e g c cl ce cg cc =
     null_clean no_members (codes "chord") c _ tt cc (group_clean no_members k l e g cl ce cg tt tt tt tt)
-    (group_clean (behind no_members (codes "chord") c) k l e g cl ce cg (refl, tt) (refl, tt) (refl, tt) (refl, tt))
+    (group_clean (behind_members no_members (codes "chord") c) k l e g cl ce cg (refl, tt) (refl, tt) (refl, tt) (refl, tt))
 
 -- ---- signatures
 

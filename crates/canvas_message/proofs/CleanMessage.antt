@@ -1,7 +1,7 @@
 -- What a message is written as is read again as it was written, and nests no deeper than JSON is read.
 use Rattle.std.proofs.Common.{◌≡◌, ℕ, ◌≤◌, ◌+◌, max, List, [], ◌∷◌, Bool, true, false, Some, None, Option, refl, arith}
 use Rattle.serde_json.specs.Data.{Data, Items, no_items, item, no_members, depth, items_depth}
-use Rattle.canvas_sig.specs.Clean.{IsClean, AreClean}
+use Rattle.canvas_sig.specs.steps.Clean.{IsClean, AreClean}
 use Rattle.canvas_semantics.specs.Tree.{Call}
 use Rattle.canvas_sig.proofs.CleanWire.{args_clean, kwargs_clean, all_above, args_depth, kwargs_depth}
 use Rattle.canvas_semantics.specs.PlacedLine.{PTask, p_task, PTasks, PPlace, PLine, p_stop, p_step, p_group_end, p_chord_end}

@@ -19,16 +19,16 @@ use Rattle.canvas_rewrite.specs.declared.frozen.Carried.{Carried, out-Carried}
 use Rattle.canvas_rewrite.specs.declared.frozen.FrozenTask.{FrozenTask, out-FrozenTask}
 use Rattle.canvas_message.specs.Carrying.{is_whole, callbacks_ok, place_stands, carried_ok}
 use Rattle.canvas_message.specs.Content.{Content, line, number_of, links_of, errbacks_of, place_of, call_of}
-use Rattle.canvas_message.specs.Effects.{Jobs, Effect, Part, message, callbacks, called, part_of, enter, enter_all, when_empty, effect_of, stores_in, messages_in, part_in, after, body_after, header, in_front}
+use Rattle.canvas_message.specs.Effects.{Jobs, Effect, Part, message, callbacks, called, part_of, enter, enter_all, when_empty, effect_of, stores_in, messages_in, part_in, after, body_after, header, before_input}
 use Rattle.canvas_message.specs.Elements.{carried_view}
 use Rattle.canvas_message.specs.Fits.{parent_ok, task_ok, line_ok, members_ok, line_reach, how_many, size_ok, fits}
-use Rattle.canvas_message.specs.Flowing.{Input, number, numbers, ident, Flow, run, skip, raise}
+use Rattle.canvas_message.specs.Flowing.{Input, number_input, list_input, id_input, LineFlow, run, skips, raise}
 use Rattle.canvas_message.specs.Job.{store, publish, hand_in}
 use Rattle.canvas_message.specs.Ordered.{in_order}
-use Rattle.canvas_message.specs.Parts.{is_stop}
+use Rattle.canvas_message.specs.steps.Parts.{is_stop}
 use Rattle.canvas_message.specs.Placing.{last_at, placed, end_place, last_task}
 use Rattle.canvas_message.specs.View.{place_seen}
-use Rattle.canvas_message.specs.Walks.{last_of, started, skipped, raised_stores, raised_messages, part_at_end, first_failure, successes}
+use Rattle.canvas_message.specs.steps.Walks.{last_of, started, skipped, raised_stores, raised_messages, part_at_end, first_failure, successes}
 use Rattle.canvas_message.proofs.Copied.{place_there}
 use Rattle.canvas_message.proofs.Entered.{stores_on, messages_on, part_on, called_stores, called_part, called_messages, place_stores, place_messages, no_part_on, no_store_on, skipped_so, skip_quiet, raised_stores_so, raised_messages_so}
 use Rattle.canvas_message.proofs.Standing.{as_it_stands, Stepped, first_stepped, rest_whole, place_whole, place_last, place_never, whole_ok, member_first, member_others, chord_parts, stands_there}
@@ -41,7 +41,7 @@ mutual
   run_stores p_stop x p k u = place_stores p k
   run_stores (p_step t l) x p k u = refl
   run_stores (p_group_end g ms) x p k u = run_all_stores ms x (p_group g) u
-  run_stores (p_chord_end g no_p_lines b) x p k u = run_stores b (numbers []) p 0 u
+  run_stores (p_chord_end g no_p_lines b) x p k u = run_stores b (list_input []) p 0 u
   run_stores (p_chord_end g (and_p_line m ms) b) x p k u =
       no_store_on (enter_all (and_p_line m ms) (run x) (p_chord g (how_many (and_p_line m ms)) (placed p b)) u) []
       (run_all_stores (and_p_line m ms) x (p_chord g (how_many (and_p_line m ms)) (placed p b)) u) refl
@@ -55,7 +55,7 @@ mutual
   run_part last p_stop x p k u ok = absurd cc
   run_part last (p_step t l) x p k u ok = refl
   run_part last (p_group_end g ms) x p k u ok = run_all_part ms x (p_group g) u (both _ (members_ok ms) ok).1
-  run_part last (p_chord_end g no_p_lines b) x p k u ok = run_part last b (numbers []) p 0 u (both _ (line_ok last b) ok).1
+  run_part last (p_chord_end g no_p_lines b) x p k u ok = run_part last b (list_input []) p 0 u (both _ (line_ok last b) ok).1
   run_part last (p_chord_end g (and_p_line m ms) b) x p k u ok =
       let q = both _ (line_ok last b) ok in
       no_part_on (enter_all (and_p_line m ms) (run x) (p_chord g (how_many (and_p_line m ms)) (placed p b)) u) []
@@ -76,19 +76,19 @@ run_any (p_chord_end g ms b) x p k u = refl
 -- ---- parts of lines that are skipped, or in which an exception is raised
 
 mutual
-  skip_part_none : (l : PLine) (f : Fault) (p : PPlace) (k : ℕ) (u : Option ℕ) → ((j : ℕ) → part_of p j ≡ []) → part_in (enter l (skip f) p k u) ≡ None
+  skip_part_none : (l : PLine) (f : Fault) (p : PPlace) (k : ℕ) (u : Option ℕ) → ((j : ℕ) → part_of p j ≡ []) → part_in (enter l (skips f) p k u) ≡ None
   skip_part_none p_stop f p k u h = ap part_in (h k)
   skip_part_none (p_step t l) f p k u h = skip_part_none l f p (number_of t) u h
   skip_part_none (p_group_end g ms) f p k u h = skip_all_none ms f (p_group g) u (λ j. refl)
   skip_part_none (p_chord_end g ms b) f p k u h =
-      no_part_on (enter_all ms (skip f) p_nowhere u) (enter b (skip f) p 0 u) (skip_all_none ms f p_nowhere u (λ j. refl)) (skip_part_none b f p 0 u h)
+      no_part_on (enter_all ms (skips f) p_nowhere u) (enter b (skips f) p 0 u) (skip_all_none ms f p_nowhere u (λ j. refl)) (skip_part_none b f p 0 u h)
 
-  skip_all_none : (ms : PLines) (f : Fault) (p : PPlace) (u : Option ℕ) → ((j : ℕ) → part_of p j ≡ []) → part_in (enter_all ms (skip f) p u) ≡ None
+  skip_all_none : (ms : PLines) (f : Fault) (p : PPlace) (u : Option ℕ) → ((j : ℕ) → part_of p j ≡ []) → part_in (enter_all ms (skips f) p u) ≡ None
   skip_all_none no_p_lines f p u h = refl
   skip_all_none (and_p_line m ms) f p u h =
-      no_part_on (enter m (skip f) p 0 u) (enter_all ms (skip f) p u) (skip_part_none m f p 0 u h) (skip_all_none ms f p u h)
+      no_part_on (enter m (skips f) p 0 u) (enter_all ms (skips f) p u) (skip_part_none m f p 0 u h) (skip_all_none ms f p u h)
 
-skip_part : (l : PLine) (f : Fault) (k : ℕ) (u : Option ℕ) → part_in (enter l (skip f) (end_place l) k u) ≡ part_in (part_of (end_place l) (last_task k l))
+skip_part : (l : PLine) (f : Fault) (k : ℕ) (u : Option ℕ) → part_in (enter l (skips f) (end_place l) k u) ≡ part_in (part_of (end_place l) (last_task k l))
 skip_part p_stop f k u = refl
 skip_part (p_step t p_stop) f k u = refl
 skip_part (p_step t (p_step v l)) f k u = skip_part (p_step v l) f (number_of t) u
@@ -96,13 +96,13 @@ skip_part (p_step t (p_group_end g ms)) f k u = skip_part (p_group_end g ms) f (
 skip_part (p_step t (p_chord_end g ms b)) f k u = skip_part (p_chord_end g ms b) f (number_of t) u
 skip_part (p_group_end g ms) f k u = skip_all_none ms f (p_group g) u (λ j. refl)
 skip_part (p_chord_end g ms b) f k u =
-    part_on (enter_all ms (skip f) p_nowhere u) (enter b (skip f) (end_place b) 0 u) (skip_all_none ms f p_nowhere u (λ j. refl)) ∙ skip_part b f 0 u
+    part_on (enter_all ms (skips f) p_nowhere u) (enter b (skips f) (end_place b) 0 u) (skip_all_none ms f p_nowhere u (λ j. refl)) ∙ skip_part b f 0 u
 
 mutual
   raise_part_none : (l : PLine) (f : Fault) (p : PPlace) (k : ℕ) (u : Option ℕ) → ((j : ℕ) → part_of p j ≡ []) → part_in (enter l (raise f) p k u) ≡ None
   raise_part_none p_stop f p k u h = ap part_in (h k)
   raise_part_none (p_step t l) f p k u h =
-      no_part_on (callbacks (errbacks_of t) (ident (number_of t)) u) (enter l (skip f) p (number_of t) u) (called_part (errbacks_of t) (ident (number_of t)) u) (skip_part_none l f p (number_of t) u h)
+      no_part_on (callbacks (errbacks_of t) (id_input (number_of t)) u) (enter l (skips f) p (number_of t) u) (called_part (errbacks_of t) (id_input (number_of t)) u) (skip_part_none l f p (number_of t) u h)
   raise_part_none (p_group_end g ms) f p k u h = raise_all_none ms f (p_group g) u (λ j. refl)
   raise_part_none (p_chord_end g ms b) f p k u h =
       no_part_on (enter_all ms (raise f) p_nowhere u) (enter b (raise _) p 0 u) (raise_all_none ms f p_nowhere u (λ j. refl)) (raise_part_none b _ p 0 u h)
@@ -113,14 +113,14 @@ mutual
       no_part_on (enter m (raise f) p 0 u) (enter_all ms (raise f) p u) (raise_part_none m f p 0 u h) (raise_all_none ms f p u h)
 
 raise_step : (t : PTask) (l : PLine) (f : Fault) (k : ℕ) (u : Option ℕ)
-    → part_in (callbacks (errbacks_of t) (ident (number_of t)) u ++ enter l (skip f) (end_place l) (number_of t) u) ≡ part_in (part_of (end_place l) (last_task (number_of t) l))
+    → part_in (callbacks (errbacks_of t) (id_input (number_of t)) u ++ enter l (skips f) (end_place l) (number_of t) u) ≡ part_in (part_of (end_place l) (last_task (number_of t) l))
 raise_step t l f k u =
-    part_on (callbacks (errbacks_of t) (ident (number_of t)) u) (enter l (skip f) (end_place l) (number_of t) u) (called_part (errbacks_of t) (ident (number_of t)) u) ∙ skip_part l f (number_of t) u
+    part_on (callbacks (errbacks_of t) (id_input (number_of t)) u) (enter l (skips f) (end_place l) (number_of t) u) (called_part (errbacks_of t) (id_input (number_of t)) u) ∙ skip_part l f (number_of t) u
 
 raise_part : (l : PLine) (f : Fault) (k : ℕ) (u : Option ℕ) → part_in (enter l (raise f) (end_place l) k u) ≡ part_in (part_of (end_place l) (last_task k l))
 raise_part p_stop f k u = refl
 raise_part (p_step t p_stop) f k u =
-    part_on (callbacks (errbacks_of t) (ident (number_of t)) u) (part_of (place_of t) (number_of t)) (called_part (errbacks_of t) (ident (number_of t)) u)
+    part_on (callbacks (errbacks_of t) (id_input (number_of t)) u) (part_of (place_of t) (number_of t)) (called_part (errbacks_of t) (id_input (number_of t)) u)
 raise_part (p_step t (p_step v l)) f k u = raise_step t (p_step v l) f k u
 raise_part (p_step t (p_group_end g ms)) f k u = raise_step t (p_group_end g ms) f k u
 raise_part (p_step t (p_chord_end g ms b)) f k u = raise_step t (p_chord_end g ms b) f k u
@@ -186,80 +186,80 @@ Done c ss ms p o = record { stores = in_order (λ e. e.0) ss; messages = in_orde
 
 -- on a success, where something follows
 pub succeeded : (c : Content) (l : PLine) (n : ℤ) (ss : List (ℕ × Outcome)) (old one ms : List Content) (p : Option Part) → fits c ≡ true → c.rest ≡ l → is_stop l ≡ false
-    → ss ≡ [] → old ≡ [] → one ≡ old ++ messages_in (callbacks (links_of c.own) (number n) (Some (number_of c.own)))
-    → ms ≡ one ++ started l (number n) (end_place l) (Some (number_of c.own)) → p ≡ None → Done c ss ms p (Success n)
+    → ss ≡ [] → old ≡ [] → one ≡ old ++ messages_in (callbacks (links_of c.own) (number_input n) (Some (number_of c.own)))
+    → ms ≡ one ++ started l (number_input n) (end_place l) (Some (number_of c.own)) → p ≡ None → Done c ss ms p (Success n)
 succeeded c l n ss old one ms p ok same h hs ho h1 hm hp =
     let k : ℕ = number_of c.own in
-    let first : Jobs = callbacks (links_of c.own) (number n) (Some k) in
-    let more : Jobs = enter l (run (number n)) (end_place l) k (Some k) in
+    let first : Jobs = callbacks (links_of c.own) (number_input n) (Some k) in
+    let more : Jobs = enter l (run (number_input n)) (end_place l) k (Some k) in
     let whole = rest_stands c l ok same h in
     let js : after c (Success n) ≡ effect_of (first ++ more) =
-    ap (λ r. effect_of (first ++ enter r (run (number n)) (end_place (p_step c.own r)) k (Some k))) same ∙ ap (λ q. effect_of (first ++ enter l (run (number n)) q k (Some k))) (end_behind c.own l h) in
-    effect_is (first ++ more) ss ms p (hs ∙ sym (no_store_on first more (called_stores (links_of c.own) (number n) (Some k)) (run_stores l (number n) (end_place l) k (Some k))))
-    (hm ∙ ap₂ (λ a b. a ++ b) (h1 ∙ ap (λ xs. xs ++ messages_in first) ho) (sym (run_any l (number n) (end_place l) k (Some k))) ∙ sym (messages_on first more))
-    (hp ∙ sym (no_part_on first more (called_part (links_of c.own) (number n) (Some k)) (run_part true l (number n) (end_place l) k (Some k) (whole_ok l whole))))
+    ap (λ r. effect_of (first ++ enter r (run (number_input n)) (end_place (p_step c.own r)) k (Some k))) same ∙ ap (λ q. effect_of (first ++ enter l (run (number_input n)) q k (Some k))) (end_behind c.own l h) in
+    effect_is (first ++ more) ss ms p (hs ∙ sym (no_store_on first more (called_stores (links_of c.own) (number_input n) (Some k)) (run_stores l (number_input n) (end_place l) k (Some k))))
+    (hm ∙ ap₂ (λ a b. a ++ b) (h1 ∙ ap (λ xs. xs ++ messages_in first) ho) (sym (run_any l (number_input n) (end_place l) k (Some k))) ∙ sym (messages_on first more))
+    (hp ∙ sym (no_part_on first more (called_part (links_of c.own) (number_input n) (Some k)) (run_part true l (number_input n) (end_place l) k (Some k) (whole_ok l whole))))
     ∙ sym js
 
 -- where that is a task, it takes over what it carries
-next_begun : (u : ℕ) (t : PTask) (l : PLine) (n : ℤ) → message (Some u) t (number n) l ∷ [] ≡ started (p_step t l) (number n) (end_place (p_step t l)) (Some u)
+next_begun : (u : ℕ) (t : PTask) (l : PLine) (n : ℤ) → message (Some u) t (number_input n) l ∷ [] ≡ started (p_step t l) (number_input n) (end_place (p_step t l)) (Some u)
 next_begun u t l n =
     let there : p_step (last_at (end_place (p_step t l)) t l) (placed (end_place (p_step t l)) l) ≡ p_step t l = as_it_stands (p_step t l) in
     let own : last_at (end_place (p_step t l)) t l ≡ t = cc in
     let rest : placed (end_place (p_step t l)) l ≡ l = cc in
-    sym (ap₂ (λ v r. message (Some u) v (number n) r ∷ []) own rest)
+    sym (ap₂ (λ v r. message (Some u) v (number_input n) r ∷ []) own rest)
 
 pub succeeded_next : (c : Content) (t : PTask) (l : PLine) (n : ℤ) (ss : List (ℕ × Outcome)) (old one ms : List Content) (p : Option Part) → fits c ≡ true → c.rest ≡ p_step t l
-    → ss ≡ [] → old ≡ [] → one ≡ old ++ messages_in (callbacks (links_of c.own) (number n) (Some (number_of c.own)))
-    → ms ≡ one ++ message (Some (number_of c.own)) t (number n) l ∷ [] → p ≡ None → Done c ss ms p (Success n)
+    → ss ≡ [] → old ≡ [] → one ≡ old ++ messages_in (callbacks (links_of c.own) (number_input n) (Some (number_of c.own)))
+    → ms ≡ one ++ message (Some (number_of c.own)) t (number_input n) l ∷ [] → p ≡ None → Done c ss ms p (Success n)
 succeeded_next c t l n ss old one ms p ok same hs ho h1 hm hp =
     succeeded c (p_step t l) n ss old one ms p ok same refl hs ho h1 (hm ∙ ap (λ xs. one ++ xs) (next_begun (number_of c.own) t l n)) hp
 
-its_call : (k : ℕ) (t : PTask) (l : PLine) (n : ℤ) (c : Content) → k ≡ number_of c.own → message (Some k) t (number n) l ≡ next c t l n
-its_call k (p_task j call links errbacks place) l n c same = ap (λ u. message (Some u) (p_task j call links errbacks place) (number n) l) same
+its_call : (k : ℕ) (t : PTask) (l : PLine) (n : ℤ) (c : Content) → k ≡ number_of c.own → message (Some k) t (number_input n) l ≡ next c t l n
+its_call k (p_task j call links errbacks place) l n c same = ap (λ u. message (Some u) (p_task j call links errbacks place) (number_input n) l) same
 
-pub next_stands : (c : Content) (k : ℕ) (t : PTask) (l : PLine) (n : ℤ) → fits c ≡ true → c.rest ≡ p_step t l → k ≡ number_of c.own → in_range n ≡ true → fits (message (Some k) t (number n) l) ≡ true
+pub next_stands : (c : Content) (k : ℕ) (t : PTask) (l : PLine) (n : ℤ) → fits c ≡ true → c.rest ≡ p_step t l → k ≡ number_of c.own → in_range n ≡ true → fits (message (Some k) t (number_input n) l) ≡ true
 next_stands c k t l n ok same its h = ap fits (its_call k t l n c its) ∙ next_fits c t l n h same ok
 
 -- and where nothing does
 pub succeeded_last : (c : Content) (n : ℤ) (ss : List (ℕ × Outcome)) (old ms : List Content) (p : Option Part) → c.rest ≡ p_stop
-    → ss ≡ [] → old ≡ [] → ms ≡ old ++ messages_in (callbacks (links_of c.own) (number n) (Some (number_of c.own))) → p ≡ part_in (part_of (place_of c.own) (number_of c.own)) → Done c ss ms p (Success n)
+    → ss ≡ [] → old ≡ [] → ms ≡ old ++ messages_in (callbacks (links_of c.own) (number_input n) (Some (number_of c.own))) → p ≡ part_in (part_of (place_of c.own) (number_of c.own)) → Done c ss ms p (Success n)
 succeeded_last c n ss old ms p same hs ho hm hp =
     let k : ℕ = number_of c.own in
-    let first : Jobs = callbacks (links_of c.own) (number n) (Some k) in
+    let first : Jobs = callbacks (links_of c.own) (number_input n) (Some k) in
     let more : Jobs = part_of (place_of c.own) k in
-    let js : after c (Success n) ≡ effect_of (first ++ more) = ap (λ r. effect_of (first ++ enter r (run (number n)) (end_place (p_step c.own r)) k (Some k))) same in
-    effect_is (first ++ more) ss ms p (hs ∙ sym (no_store_on first more (called_stores (links_of c.own) (number n) (Some k)) (place_stores (place_of c.own) k)))
+    let js : after c (Success n) ≡ effect_of (first ++ more) = ap (λ r. effect_of (first ++ enter r (run (number_input n)) (end_place (p_step c.own r)) k (Some k))) same in
+    effect_is (first ++ more) ss ms p (hs ∙ sym (no_store_on first more (called_stores (links_of c.own) (number_input n) (Some k)) (place_stores (place_of c.own) k)))
     (hm ∙ ap (λ xs. xs ++ messages_in first) ho ∙ sym (messages_on first more ∙ ap (λ xs. messages_in first ++ xs) (place_messages (place_of c.own) k) ∙ append-nil (messages_in first)))
-    (hp ∙ sym (part_on first more (called_part (links_of c.own) (number n) (Some k))))
+    (hp ∙ sym (part_on first more (called_part (links_of c.own) (number_input n) (Some k))))
     ∙ sym js
 
 -- on a failure
 pub failed : (c : Content) (l : PLine) (f : Fault) (olds ss : List (ℕ × Outcome)) (old ms : List Content) (p : Option Part) → fits c ≡ true → c.rest ≡ l → is_stop l ≡ false
-    → olds ≡ [] → ss ≡ olds ++ skipped f l → old ≡ [] → ms ≡ old ++ messages_in (callbacks (errbacks_of c.own) (ident (number_of c.own)) None) → p ≡ part_at_end l → Done c ss ms p (Failure f)
+    → olds ≡ [] → ss ≡ olds ++ skipped f l → old ≡ [] → ms ≡ old ++ messages_in (callbacks (errbacks_of c.own) (id_input (number_of c.own)) None) → p ≡ part_at_end l → Done c ss ms p (Failure f)
 failed c l f olds ss old ms p ok same h hos hs ho hm hp =
     let k : ℕ = number_of c.own in
-    let first : Jobs = callbacks (errbacks_of c.own) (ident k) (Some k) in
-    let more : Jobs = enter l (skip f) (end_place l) k (Some k) in
+    let first : Jobs = callbacks (errbacks_of c.own) (id_input k) (Some k) in
+    let more : Jobs = enter l (skips f) (end_place l) k (Some k) in
     let js : after c (Failure f) ≡ effect_of (first ++ more) =
-    ap (λ r. effect_of (first ++ enter r (skip f) (end_place (p_step c.own r)) k (Some k))) same ∙ ap (λ q. effect_of (first ++ enter l (skip f) q k (Some k))) (end_behind c.own l h) in
+    ap (λ r. effect_of (first ++ enter r (skips f) (end_place (p_step c.own r)) k (Some k))) same ∙ ap (λ q. effect_of (first ++ enter l (skips f) q k (Some k))) (end_behind c.own l h) in
     effect_is (first ++ more) ss ms p
-    (hs ∙ ap (λ xs. xs ++ skipped f l) hos ∙ sym (stores_on first more ∙ ap₂ (λ a b. a ++ b) (called_stores (errbacks_of c.own) (ident k) (Some k)) (skipped_so l f (end_place l) k (Some k))))
-    (hm ∙ ap (λ xs. xs ++ messages_in (callbacks (errbacks_of c.own) (ident k) None)) ho ∙ called_messages (errbacks_of c.own) k None (Some k)
+    (hs ∙ ap (λ xs. xs ++ skipped f l) hos ∙ sym (stores_on first more ∙ ap₂ (λ a b. a ++ b) (called_stores (errbacks_of c.own) (id_input k) (Some k)) (skipped_so l f (end_place l) k (Some k))))
+    (hm ∙ ap (λ xs. xs ++ messages_in (callbacks (errbacks_of c.own) (id_input k) None)) ho ∙ called_messages (errbacks_of c.own) k None (Some k)
     ∙ sym (messages_on first more ∙ ap (λ xs. messages_in first ++ xs) (skip_quiet l f (end_place l) k (Some k)) ∙ append-nil (messages_in first)))
-    (hp ∙ sym (part_on first more (called_part (errbacks_of c.own) (ident k) (Some k)) ∙ skip_part l f k (Some k) ∙ last_behind k l (rest_stands c l ok same h) refl))
+    (hp ∙ sym (part_on first more (called_part (errbacks_of c.own) (id_input k) (Some k)) ∙ skip_part l f k (Some k) ∙ last_behind k l (rest_stands c l ok same h) refl))
     ∙ sym js
 
 pub failed_last : (c : Content) (f : Fault) (ss : List (ℕ × Outcome)) (old ms : List Content) (p : Option Part) → c.rest ≡ p_stop
-    → ss ≡ [] → old ≡ [] → ms ≡ old ++ messages_in (callbacks (errbacks_of c.own) (ident (number_of c.own)) None) → p ≡ part_in (part_of (place_of c.own) (number_of c.own)) → Done c ss ms p (Failure f)
+    → ss ≡ [] → old ≡ [] → ms ≡ old ++ messages_in (callbacks (errbacks_of c.own) (id_input (number_of c.own)) None) → p ≡ part_in (part_of (place_of c.own) (number_of c.own)) → Done c ss ms p (Failure f)
 failed_last c f ss old ms p same hs ho hm hp =
     let k : ℕ = number_of c.own in
-    let first : Jobs = callbacks (errbacks_of c.own) (ident k) (Some k) in
+    let first : Jobs = callbacks (errbacks_of c.own) (id_input k) (Some k) in
     let more : Jobs = part_of (place_of c.own) k in
-    let js : after c (Failure f) ≡ effect_of (first ++ more) = ap (λ r. effect_of (first ++ enter r (skip f) (end_place (p_step c.own r)) k (Some k))) same in
-    effect_is (first ++ more) ss ms p (hs ∙ sym (no_store_on first more (called_stores (errbacks_of c.own) (ident k) (Some k)) (place_stores (place_of c.own) k)))
-    (hm ∙ ap (λ xs. xs ++ messages_in (callbacks (errbacks_of c.own) (ident k) None)) ho ∙ called_messages (errbacks_of c.own) k None (Some k)
+    let js : after c (Failure f) ≡ effect_of (first ++ more) = ap (λ r. effect_of (first ++ enter r (skips f) (end_place (p_step c.own r)) k (Some k))) same in
+    effect_is (first ++ more) ss ms p (hs ∙ sym (no_store_on first more (called_stores (errbacks_of c.own) (id_input k) (Some k)) (place_stores (place_of c.own) k)))
+    (hm ∙ ap (λ xs. xs ++ messages_in (callbacks (errbacks_of c.own) (id_input k) None)) ho ∙ called_messages (errbacks_of c.own) k None (Some k)
     ∙ sym (messages_on first more ∙ ap (λ xs. messages_in first ++ xs) (place_messages (place_of c.own) k) ∙ append-nil (messages_in first)))
-    (hp ∙ sym (part_on first more (called_part (errbacks_of c.own) (ident k) (Some k))))
+    (hp ∙ sym (part_on first more (called_part (errbacks_of c.own) (id_input k) (Some k))))
     ∙ sym js
 
 -- ---- the end of a line
@@ -295,14 +295,14 @@ pub after_failed : (c : Carried) (es : List (ℕ × Outcome)) (f : Fault) → So
     → effect_of (enter (p_line_view (out-Carried c).body.value) (raise f) (end_place (p_line_view (out-Carried c).body.value)) 0 None) ≡ body_after (carried_view c) es
 after_failed c es f h =
     let l : PLine = p_line_view (out-Carried c).body.value in
-    ap (λ x. effect_of (enter l x (end_place l) 0 None)) (sym (ap in_front (gathered_failed es f (sym h)))) ∙ sym (ap (λ z. body_after z es) (carried_seen c))
+    ap (λ x. effect_of (enter l x (end_place l) 0 None)) (sym (ap before_input (gathered_failed es f (sym h)))) ∙ sym (ap (λ z. body_after z es) (carried_seen c))
 
 pub after_all : (c : Carried) (es : List (ℕ × Outcome)) (ns : List ℤ) → None ≡ first_failure es → ns ≡ successes es
-    → effect_of (enter (p_line_view (out-Carried c).body.value) (run (numbers ns)) (end_place (p_line_view (out-Carried c).body.value)) 0 None) ≡ body_after (carried_view c) es
+    → effect_of (enter (p_line_view (out-Carried c).body.value) (run (list_input ns)) (end_place (p_line_view (out-Carried c).body.value)) 0 None) ≡ body_after (carried_view c) es
 after_all c es ns h hn =
     let l : PLine = p_line_view (out-Carried c).body.value in
-    ap (λ x. effect_of (enter l (run (numbers x)) (end_place l) 0 None)) hn
-    ∙ ap (λ x. effect_of (enter l x (end_place l) 0 None)) (sym (ap in_front (gathered_all es (sym h)))) ∙ sym (ap (λ z. body_after z es) (carried_seen c))
+    ap (λ x. effect_of (enter l (run (list_input x)) (end_place l) 0 None)) hn
+    ∙ ap (λ x. effect_of (enter l x (end_place l) 0 None)) (sym (ap before_input (gathered_all es (sym h)))) ∙ sym (ap (λ z. body_after z es) (carried_seen c))
 
 -- the numbers of outcomes in range are in range
 successes_fit : (es : List (ℕ × Outcome)) → All (λ e. IsInRange e.1) es → list_all in_range (successes es) ≡ true

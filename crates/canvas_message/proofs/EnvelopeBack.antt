@@ -7,8 +7,8 @@ use Rattle.serde_json.specs.Data.{Data, depth}
 use Rattle.serde_json.specs.Read.{read, max_depth}
 use Rattle.serde_json.specs.Written.{compact_text}
 use Rattle.canvas_sig.specs.CanvasText.{json_of}
-use Rattle.canvas_sig.specs.Clean.{IsClean}
-use Rattle.canvas_sig.specs.Fields.{Text}
+use Rattle.canvas_sig.specs.steps.Clean.{IsClean}
+use Rattle.canvas_task.specs.Text.{Text}
 use Rattle.canvas_sig.proofs.ReadsAgain.{text_read}
 use Rattle.canvas_message.specs.Content.{Content}
 use Rattle.canvas_message.specs.Fits.{fits}

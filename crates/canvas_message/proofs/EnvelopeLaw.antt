@@ -9,8 +9,9 @@ use Rattle.std.specs.Option.{option_and_then}
 use Rattle.serde_json.specs.Data.{Data, null, array, item, no_items}
 use Rattle.serde_json.specs.Find.{get}
 use Rattle.canvas_sig.specs.CanvasText.{json_of}
-use Rattle.canvas_sig.specs.Faults.{named_of}
-use Rattle.canvas_sig.specs.Fields.{Text, field, listed, members, contents, is_null, is_list, is_object, is_object_or_null, is_list_or_null}
+use Rattle.canvas_sig.specs.Refusals.{named_of}
+use Rattle.canvas_task.specs.Text.{Text}
+use Rattle.canvas_sig.specs.Fields.{field, listed, object_members, contents, is_null, is_list, is_object, is_object_or_null, is_list_or_null}
 use Rattle.canvas_sig.specs.Reading.{fault_if, each, argument_of, arg_reading, named_reading, is_name, is_text}
 use Rattle.canvas_sig.specs.declared.fault.SigFault.{SigFault}
 use Rattle.canvas_sig.specs.declared.fault.SigFault.TheVariants.{BadArgs}
@@ -35,16 +36,16 @@ fault_if_so false = refl
 
 given_seen : (a k : Data) → seen (given_reading a k)
     ≡ but_for (not (is_list a) || not (is_object_or_null k) || list_any bad_argument (listed a) || list_any bad_argument (contents k))
-    (record { args = map argument_of (listed a); kwargs = map named_of (members k) })
+    (record { args = map argument_of (listed a); kwargs = map named_of (object_members k) })
 given_seen a k =
     let wrong = not (is_list a) || not (is_object_or_null k) in
-    let said : Given = record { args = map argument_of (listed a); kwargs = map named_of (members k) } in
+    let said : Given = record { args = map argument_of (listed a); kwargs = map named_of (object_members k) } in
     let first = list_any bad_argument (listed a) in
     let second = list_any bad_argument (contents k) in
     unless_seen (fault_if wrong BadArgs) _ (first || second) said
     (λ none. then_seen (each arg_reading (listed a)) _ first second (map argument_of (listed a)) said (each_seen arg_reading bad_argument argument_of argument_seen (listed a))
-    (made_seen (each named_reading (members k)) (λ kwargs. record { args = map argument_of (listed a); kwargs = kwargs }) second (map named_of (members k))
-    (each_seen named_reading (λ e. bad_argument e.1) named_of named_seen (members k) ∙ ap (λ b. but_for b (map named_of (members k))) (any_content (members k)))))
+    (made_seen (each named_reading (object_members k)) (λ kwargs. record { args = map argument_of (listed a); kwargs = kwargs }) second (map named_of (object_members k))
+    (each_seen named_reading (λ e. bad_argument e.1) named_of named_seen (object_members k) ∙ ap (λ b. but_for b (map named_of (object_members k))) (any_content (object_members k)))))
     ∙ ap (λ b. but_for b said) (ap (λ b. b || (first || second)) (fault_if_so wrong) ∙ sym (or_assoc wrong first second))
 
 -- ---- what follows, the last element first
@@ -219,7 +220,7 @@ last_row false w r f x c h same off =
 message_judged : (p h b : Data) → message_reading p h b ≡ judged (first_of (refusals p h b)) (content_in h b)
 message_judged p h b =
     let k = task_number (field (codes "id") h) in
-    let given : Given = record { args = map argument_of (listed (args_in b)); kwargs = map named_of (members (kwargs_in b)) } in
+    let given : Given = record { args = map argument_of (listed (args_in b)); kwargs = map named_of (object_members (kwargs_in b)) } in
     let group = field (codes "group") h in
     let after_args = (bad_embed h b, BadEmbed) ∷ [] in
     let after_body = (bad_args b, bad_arguments) ∷ after_args in

@@ -12,7 +12,7 @@ use Rattle.canvas_rewrite.specs.declared.frozen.FrozenLine.{FrozenLine, out-Froz
 use Rattle.canvas_rewrite.specs.declared.frozen.FrozenEnd.{FrozenEnd, out-FrozenEnd}
 use Rattle.canvas_message.proofs.Seen.{line_none, line_some, line_last, end_none, end_some}
 use Rattle.canvas_message.specs.Fits.{how_many, is_below, ascends, task_ok, tasks_ok, line_ok}
-use Rattle.canvas_message.specs.Parts.{is_stop, is_longer}
+use Rattle.canvas_message.specs.steps.Parts.{is_stop, is_longer}
 
 pub both : (a b : Bool) → a ≡ true → b ≡ true → (a && b) ≡ true
 both true b h i = i

@@ -9,7 +9,7 @@ use Rattle.canvas_task.specs.Name.{name_ok}
 use Rattle.canvas_task.specs.Numbers.{in_range}
 use Rattle.canvas_task.specs.declared.arg.Arg.{Arg}
 use Rattle.canvas_task.specs.declared.arg.Arg.TheVariants as arg
-use Rattle.canvas_sig.specs.NodeFaults.{arg_ok, numbers_ok}
+use Rattle.canvas_sig.specs.ComposedRefusals.{arg_ok, call_numbers_ok}
 use Rattle.canvas_semantics.specs.Tree.{Call}
 use Rattle.canvas_task.specs.Entries.{IsBelow, Ascends}
 use Rattle.canvas_sig.proofs.FittingCalls.{NumbersFit, ArgFits, ArgsFit, KwargsFit, CallFits}
@@ -52,8 +52,8 @@ ascends_is (e ∷ es) h = all_true (is_below e.0 es) (ascends es) (below_is e.0 
 
 pub call_is : (c : Call) → CallFits c → call_ok c ≡ true
 call_is c h =
-    all_true (name_ok c.name && numbers_ok c) (ascends c.kwargs)
-    (all_true (name_ok c.name) (numbers_ok c) h.name (all_true (list_all arg_ok c.args) (list_all (λ e. arg_ok e.1) c.kwargs) (args_are c.args h.args) (kwargs_are c.kwargs h.kwargs)))
+    all_true (name_ok c.name && call_numbers_ok c) (ascends c.kwargs)
+    (all_true (name_ok c.name) (call_numbers_ok c) h.name (all_true (list_all arg_ok c.args) (list_all (λ e. arg_ok e.1) c.kwargs) (args_are c.args h.args) (kwargs_are c.kwargs h.kwargs)))
     (ascends_is c.kwargs h.ordered)
 
 -- the call of a message whose input is in front of its arguments
@@ -66,11 +66,11 @@ args_given false args n h ok = all_true (in_range n) (list_all arg_ok args) h ok
 
 given_is : (c : Call) (n : ℤ) → in_range n ≡ true → call_ok c ≡ true → call_ok (given c n) ≡ true
 given_is c n h ok =
-    let p = both (name_ok c.name && numbers_ok c) (ascends c.kwargs) ok in
-    let q = both (name_ok c.name) (numbers_ok c) p.0 in
+    let p = both (name_ok c.name && call_numbers_ok c) (ascends c.kwargs) ok in
+    let q = both (name_ok c.name) (call_numbers_ok c) p.0 in
     let r = both (list_all arg_ok c.args) (list_all (λ e. arg_ok e.1) c.kwargs) q.1 in
-    all_true (name_ok c.name && numbers_ok (given c n)) (ascends c.kwargs)
-    (all_true (name_ok c.name) (numbers_ok (given c n)) q.0
+    all_true (name_ok c.name && call_numbers_ok (given c n)) (ascends c.kwargs)
+    (all_true (name_ok c.name) (call_numbers_ok (given c n)) q.0
     (all_true (list_all arg_ok (arguments c (num n))) (list_all (λ e. arg_ok e.1) c.kwargs) (args_given c.immutable c.args n h r.0) r.1)) p.1
 
 -- ---- the message that follows

@@ -7,9 +7,10 @@ use Rattle.serde_json.specs.Data.{Data, null, boolean, number, string, array, ob
 use Rattle.serde_json.specs.Find.{as_i64}
 use Rattle.canvas_task.specs.declared.arg.Arg.{Arg}
 use Rattle.canvas_task.specs.Numbers.{in_range}
-use Rattle.canvas_sig.specs.Faults.{named_of, call_of}
-use Rattle.canvas_sig.specs.Fields.{Text, field, subtype, option, args, kwargs, tasks, header, body, link, link_error, items, listed, as_list, members, contents, is_null, is_list, is_number}
-use Rattle.canvas_sig.specs.Reading.{◌>>=◌, ◌or_else◌, fault_if, unless, judged, each, some_or_zero, number_of, argument_of, arg_reading, named_reading, kind_ok, numbers_ok, args_ok, not_signature, bad_args, fault_as, own_fault, primitive_of}
+use Rattle.canvas_sig.specs.Refusals.{named_of, spelled_call}
+use Rattle.canvas_task.specs.Text.{Text}
+use Rattle.canvas_sig.specs.Fields.{field, subtype, option, args, kwargs, tasks, header, body, link, link_error, items, listed, as_list, object_members, contents, is_null, is_list, is_number}
+use Rattle.canvas_sig.specs.Reading.{◌>>=◌, ◌or_else◌, fault_if, unless, judged, each, some_or_zero, whole_number, argument_of, arg_reading, named_reading, kind_ok, numbers_ok, args_ok, not_signature, bad_args, fault_as, own_fault, primitive_of}
 use Rattle.canvas_sig.specs.declared.fault.SigFault.{SigFault}
 use Rattle.canvas_sig.specs.declared.fault.SigFault.TheVariants.{NotSignature, UnknownPrimitive, BadArgs, BadNumber, OnCanvas, Frozen, TooMany}
 use Rattle.canvas_sig.specs.declared.primitive.Primitive.{Primitive}
@@ -106,15 +107,15 @@ fine_task linked d h =
     let c = calm (not (args_ok numbers_ok d)) BadNumber _ refl b.1 in
     (not_bad (args_ok kind_ok d) (neither_bad _ (not (args_ok kind_ok d)) b.0).1, not_bad (args_ok numbers_ok d) c.0)
 
-call_seen : (d : Data) → args_ok kind_ok d ≡ true → args_ok numbers_ok d ≡ true → seen (call_reading d) ≡ Some (call_of d)
+call_seen : (d : Data) → args_ok kind_ok d ≡ true → args_ok numbers_ok d ≡ true → seen (call_reading d) ≡ Some (spelled_call d)
 call_seen d k h =
     let p = both_of (list_all kind_ok (listed (args d))) (list_all kind_ok (contents (kwargs d))) k in
     let q = both_of (list_all numbers_ok (listed (args d))) (list_all numbers_ok (contents (kwargs d))) h in
-    then_seen (each arg_reading (listed (args d))) _ false false (map argument_of (listed (args d))) (call_of d)
+    then_seen (each arg_reading (listed (args d))) _ false false (map argument_of (listed (args d))) (spelled_call d)
     (each_seen arg_reading bad_argument argument_of argument_seen (listed (args d)) ∙ ap (λ b. but_for b (map argument_of (listed (args d)))) (none_bad (listed (args d)) p.0 q.0))
-    (made_seen (each named_reading (members (kwargs d))) _ false (map named_of (members (kwargs d)))
-    (each_seen named_reading (λ e. bad_argument e.1) named_of named_seen (members (kwargs d))
-    ∙ ap (λ b. but_for b (map named_of (members (kwargs d)))) (any_content (members (kwargs d)) ∙ none_bad (contents (kwargs d)) p.1 q.1)))
+    (made_seen (each named_reading (object_members (kwargs d))) _ false (map named_of (object_members (kwargs d)))
+    (each_seen named_reading (λ e. bad_argument e.1) named_of named_seen (object_members (kwargs d))
+    ∙ ap (λ b. but_for b (map named_of (object_members (kwargs d)))) (any_content (object_members (kwargs d)) ∙ none_bad (contents (kwargs d)) p.1 q.1)))
 
 -- ---- identifiers, sizes and places
 
@@ -130,7 +131,7 @@ sized_seen : (o : Option ℤ) → seen (sized o) ≡ but_for (not (is_size o)) (
 sized_seen (Some (pos n)) = sized_by n (size_ok n)
 sized_seen o = refl
 
-size_seen : (d : Data) → seen (size_reading d) ≡ but_for (bad_size d) (natural (number_of d))
+size_seen : (d : Data) → seen (size_reading d) ≡ but_for (bad_size d) (natural (whole_number d))
 size_seen (number n) = sized_seen (as_i64 n)
 size_seen d = refl
 
@@ -202,7 +203,7 @@ module _ (f : Data → Result PLine SigFault) (bad : Data → Bool) (v : Data �
         is_none (task_of (option (codes "task_id") d))
         || (list_any faulty (as_list (link d)) || (list_any faulty (as_list (link_error d)) || bad_place bad (option (codes "group_id") d) (option (codes "chord") d)))
 
-    parts_seen : (d : Data) → seen (call_reading d) ≡ Some (call_of d) → seen (task_with t f d) ≡ but_for (inside d) (task_from w v d)
+    parts_seen : (d : Data) → seen (call_reading d) ≡ Some (spelled_call d) → seen (task_with t f d) ≡ but_for (inside d) (task_from w v d)
     parts_seen d called =
         let id = task_of (option (codes "task_id") d) in
         let k = unwrap_or id 0 in
@@ -213,10 +214,10 @@ module _ (f : Data → Result PLine SigFault) (bad : Data → Bool) (v : Data �
         let failing = list_any faulty (as_list (link_error d)) in
         let placed = bad_place bad (option (codes "group_id") d) (option (codes "chord") d) in
         then_seen (known id) _ (is_none id) (linked || (failing || placed)) k (task_from w v d) (known_seen id)
-        (then_seen (call_reading d) _ false (linked || (failing || placed)) (call_of d) (task_from w v d) called
+        (then_seen (call_reading d) _ false (linked || (failing || placed)) (spelled_call d) (task_from w v d) called
         (then_seen (each t (as_list (link d))) _ linked (failing || placed) links (task_from w v d) (each_seen t faulty w has (as_list (link d)))
         (then_seen (each t (as_list (link_error d))) _ failing placed errbacks (task_from w v d) (each_seen t faulty w has (as_list (link_error d)))
-        (made_seen (place_with f (option (codes "group_id") d) (option (codes "chord") d)) (λ place. p_task k (call_of d) (p_tasks_of links) (p_tasks_of errbacks) place) placed place
+        (made_seen (place_with f (option (codes "group_id") d) (option (codes "chord") d)) (λ place. p_task k (spelled_call d) (p_tasks_of links) (p_tasks_of errbacks) place) placed place
         (place_seen (option (codes "group_id") d) (option (codes "chord") d))))))
 
     apart : (b x y z u : Bool) → (b || (x || (y || (z || u)))) ≡ ((((b || x) || y) || z) || u)

@@ -1,6 +1,6 @@
 -- The reach past the limit is the same whatever is past it.
 use Rattle.std.proofs.Common.{◌≡◌, ◌∙◌, ℕ, ◌+◌, max, arith, List, [], ◌∷◌, ◌++◌, map, Option, Some, None, Box, Global, true, false, refl, sym, ap, subst}
-use Rattle.canvas_sig.specs.LineReach.{capped, above}
+use Rattle.canvas_sig.specs.steps.LineReach.{capped, above}
 use Rattle.canvas_semantics.specs.PlacedLine.{PTask, p_task, PLine, p_stop, p_step, p_group_end, p_chord_end, PLines, no_p_lines, and_p_line}
 use Rattle.canvas_rewrite.specs.FrozenView.{p_tasks_of, p_steps}
 use Rattle.canvas_rewrite.specs.FrozenView.{p_lines_of, p_task_view, p_line_view, p_end_view}
@@ -10,7 +10,7 @@ use Rattle.canvas_rewrite.specs.declared.frozen.FrozenEnd.{FrozenEnd, out-Frozen
 use Rattle.canvas_message.proofs.Seen.{task_seen, line_some, line_last, end_none, end_some}
 use Rattle.canvas_message.specs.View.{place_seen}
 use Rattle.canvas_message.specs.Fits.{task_reach, tasks_reach, place_reach, line_reach, greatest_reach, members_reach}
-use Rattle.canvas_message.specs.Parts.{is_stop, is_longer}
+use Rattle.canvas_message.specs.steps.Parts.{is_stop, is_longer}
 use Rattle.canvas_message.proofs.FitLemmas.{never_stops}
 
 pub step_reach : (c : ℕ) (t : PTask) (l : PLine) → is_stop l ≡ false → line_reach c (p_step t l) ≡ 1 + max (task_reach 0 t) (greatest_reach c l)

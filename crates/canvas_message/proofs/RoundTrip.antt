@@ -11,7 +11,7 @@ use Rattle.canvas_task.specs.Name.{name_ok}
 use Rattle.canvas_task.specs.declared.arg.Arg.{Arg}
 use Rattle.canvas_task.proofs.IdentifierLemmas as identifiers
 use Rattle.canvas_sig.specs.Fields.{field, subtype, option, items, entries, as_list, is_null, is_link, listed}
-use Rattle.canvas_sig.specs.NodeFaults.{arg_ok, numbers_ok}
+use Rattle.canvas_sig.specs.ComposedRefusals.{arg_ok, call_numbers_ok}
 use Rattle.canvas_sig.specs.Reading.{◌or_else◌, fault_if, each, arg_reading, named_reading, primitive_of, own_fault}
 use Rattle.canvas_semantics.specs.Tree.{Call}
 use Rattle.canvas_task.specs.Entries.{IsBelow, Ascends}
@@ -44,8 +44,8 @@ ascend (e ∷ es) h = let p = both _ _ h in (below e.0 es p.0, ascend es p.1)
 
 pub call_fits : (c : Call) → call_ok c ≡ true → CallFits c
 call_fits c h =
-    let p = both (name_ok c.name && numbers_ok c) (ascends c.kwargs) h in
-    let q = both (name_ok c.name) (numbers_ok c) p.0 in
+    let p = both (name_ok c.name && call_numbers_ok c) (ascends c.kwargs) h in
+    let q = both (name_ok c.name) (call_numbers_ok c) p.0 in
     let r = both _ _ q.1 in
     record { name = q.0; args = args_fit c.args r.0; kwargs = kwargs_fit c.kwargs r.1; ordered = ascend c.kwargs p.1 }
 

@@ -15,10 +15,10 @@ use Rattle.canvas_rewrite.specs.declared.frozen.FrozenEnd.{FrozenEnd, out-Frozen
 use Rattle.canvas_message.specs.Content.{number_of, errbacks_of, place_of}
 use Rattle.canvas_message.specs.Effects.{callbacks, messages_in, fault_at_end, fault_behind}
 use Rattle.canvas_message.specs.Fits.{line_ok, members_ok, task_ok}
-use Rattle.canvas_message.specs.Flowing.{ident}
-use Rattle.canvas_message.specs.Parts.{is_stop}
+use Rattle.canvas_message.specs.Flowing.{id_input}
+use Rattle.canvas_message.specs.steps.Parts.{is_stop}
 use Rattle.canvas_message.specs.Placing.{last_task, end_place}
-use Rattle.canvas_message.specs.Walks.{last_of, skipped, all_skipped, skipped_tasks, raised_stores, all_raised_stores, raised_messages, all_raised_messages, tail_seen, begins_with_task}
+use Rattle.canvas_message.specs.steps.Walks.{last_of, skipped, all_skipped, skipped_tasks, raised_stores, all_raised_stores, raised_messages, all_raised_messages, tail_seen, begins_with_task}
 use Rattle.canvas_message.proofs.Copied.{line_parts}
 use Rattle.canvas_message.proofs.Entered.{skipped_steps, skipped_group, skipped_chord, raised_step, raised_step_messages, raised_group, raised_group_messages, raised_chord, raised_chord_messages}
 use Rattle.canvas_message.proofs.FitLemmas.{end_stands, never_stops}

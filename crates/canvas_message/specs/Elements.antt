@@ -12,7 +12,7 @@ use Rattle.canvas_message.specs.declared.read.made.Element.TheVariants as elemen
 use Rattle.canvas_message.specs.declared.read.body.Parts as the_parts
 use Rattle.canvas_message.specs.declared.read.body.Given as the_given
 use Rattle.canvas_message.specs.declared.read.embed.Embed as the_embed
-use Rattle.canvas_message.specs.Reading.{Parts, Given, Embed}
+use Rattle.canvas_message.specs.Reading.{BodyParts, Given, Embed}
 use Rattle.canvas_message.specs.View.{place_seen, rest_seen}
 
 -- the line of one element
@@ -33,7 +33,7 @@ reversed_with s e d ds = e d >>= λ l. each s ds >>= λ ts. Ok (p_steps (reverse
 
 -- ---- the parts of a body
 
-abbrev pub parts_view : the_parts.Parts → Parts
+abbrev pub parts_view : the_parts.Parts → BodyParts
 parts_view p = record { args = view p.args.now; kwargs = view p.kwargs.now; embed = view p.embed.now }
 
 abbrev pub given_view : the_given.Given → Given

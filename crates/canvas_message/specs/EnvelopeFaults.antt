@@ -4,7 +4,8 @@ use Rattle.std.specs.List.{list_any}
 use Rattle.serde_json.specs.Data.{Data, number, array, item, no_items}
 use Rattle.serde_json.specs.Find.{get, as_i64}
 use Rattle.canvas_sig.specs.CanvasText.{json_of}
-use Rattle.canvas_sig.specs.Fields.{Text, field, subtype, option, tasks, header, body, link, link_error, listed, as_list, contents, is_null, is_list, is_object, is_list_or_null, is_object_or_null}
+use Rattle.canvas_task.specs.Text.{Text}
+use Rattle.canvas_sig.specs.Fields.{field, subtype, option, tasks, header, body, link, link_error, listed, as_list, contents, is_null, is_list, is_object, is_list_or_null, is_object_or_null}
 use Rattle.canvas_sig.specs.Reading.{own_fault, primitive_of, kind_ok, numbers_ok, is_name, is_text}
 use Rattle.canvas_sig.specs.declared.primitive.Primitive.{Primitive}
 use Rattle.canvas_sig.specs.declared.primitive.Primitive.TheVariants as kind

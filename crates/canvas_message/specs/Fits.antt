@@ -8,7 +8,7 @@ use Rattle.std.specs.Cmp.Lexicographic.{slice_cmp}
 use Rattle.canvas_task.specs.Name.{name_ok}
 use Rattle.canvas_task.specs.declared.arg.Arg.{Arg}
 use Rattle.canvas_semantics.specs.Bounds.{most_reach}
-use Rattle.canvas_sig.specs.NodeFaults.{numbers_ok}
+use Rattle.canvas_sig.specs.ComposedRefusals.{call_numbers_ok}
 use Rattle.canvas_semantics.specs.Tree.{Call}
 use Rattle.canvas_semantics.specs.Line.{in_group}
 use Rattle.canvas_semantics.specs.PlacedLine.{PTask, p_task, PTasks, no_p_tasks, and_p_task, PPlace, p_nowhere, p_group, p_chord, PLine, p_stop, p_step, p_group_end, p_chord_end, PLines, no_p_lines, and_p_line, strip}
@@ -43,7 +43,7 @@ ascends [] = true
 ascends (e ∷ es) = is_below e.0 es && ascends es
 
 abbrev pub call_ok : Call → Bool
-call_ok c = name_ok c.name && numbers_ok c && ascends c.kwargs
+call_ok c = name_ok c.name && call_numbers_ok c && ascends c.kwargs
 
 abbrev pub how_many : PLines → ℕ
 how_many no_p_lines = 0

@@ -4,7 +4,7 @@ use Rattle.serde_json.specs.Data.{Data, number, string}
 use Rattle.serde_json.specs.Find.{as_i64}
 use Rattle.serde_json.specs.Read.{max_depth}
 use Rattle.canvas_task.specs.Identifiers.{task_named, group_named}
-use Rattle.canvas_sig.specs.Fields.{field, subtype, args, kwargs, option, tasks, header, body, link, link_error, listed, as_list, members, text_of, is_null, is_list, is_true}
+use Rattle.canvas_sig.specs.Fields.{field, subtype, args, kwargs, option, tasks, header, body, link, link_error, listed, as_list, object_members, text_of, is_null, is_list, is_true}
 use Rattle.canvas_sig.specs.Reading.{◌>>=◌, ◌or_else◌, fault_if, unless, each, arg_reading, named_reading, is_text, primitive_of, own_fault}
 use Rattle.canvas_semantics.specs.Tree.{Call}
 use Rattle.canvas_sig.specs.declared.fault.SigFault.{SigFault}
@@ -49,7 +49,7 @@ but_a_place f = f
 abbrev pub call_reading : Data → Result Call SigFault
 call_reading d =
     each arg_reading (listed (args d)) >>= λ args.
-    each named_reading (members (kwargs d)) >>= λ kwargs.
+    each named_reading (object_members (kwargs d)) >>= λ kwargs.
     Ok (record { name = text_of (field (codes "task") d); args = args; kwargs = kwargs; immutable = is_true (field (codes "immutable") d) })
 
 -- a body that a place carries, with the size beside it

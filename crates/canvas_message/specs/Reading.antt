@@ -5,7 +5,8 @@ use Rattle.serde_json.specs.Data.{Data, array, Items, no_items, item}
 use Rattle.serde_json.specs.Find.{get}
 use Rattle.canvas_task.specs.declared.arg.Arg.{Arg}
 use Rattle.canvas_sig.specs.CanvasText.{json_of}
-use Rattle.canvas_sig.specs.Fields.{Text, field, listed, members, text_of, is_null, is_list, is_object, is_list_or_null, is_object_or_null}
+use Rattle.canvas_task.specs.Text.{Text}
+use Rattle.canvas_sig.specs.Fields.{field, listed, object_members, text_of, is_null, is_list, is_object, is_list_or_null, is_object_or_null}
 use Rattle.canvas_sig.specs.Reading.{◌>>=◌, fault_if, unless, each, arg_reading, named_reading, is_name, is_text}
 use Rattle.canvas_sig.specs.declared.fault.SigFault.{SigFault}
 use Rattle.canvas_sig.specs.declared.fault.SigFault.TheVariants.{BadArgs}
@@ -75,12 +76,12 @@ is_json p = is_text (codes "application/json") (field (codes "content_type") p) 
 
 -- ---- the body: arguments, keyword arguments, and what goes with the call
 
-pub record Parts : Type 0 where
+pub record BodyParts : Type 0 where
   pub args : Data
   pub kwargs : Data
   pub embed : Data
 
-abbrev pub parts_of : Data → Option Parts
+abbrev pub parts_of : Data → Option BodyParts
 parts_of (array (item a (item k (item e no_items)))) = Some (record { args = a; kwargs = k; embed = e })
 parts_of d = None
 
@@ -91,7 +92,7 @@ pub record Given : Type 0 where
 abbrev pub given_reading : (args kwargs : Data) → Result Given SigFault
 given_reading a k =
     unless (fault_if (not (is_list a) || not (is_object_or_null k)) BadArgs)
-    (each arg_reading (listed a) >>= λ args. each named_reading (members k) >>= λ kwargs. Ok (record { args = args; kwargs = kwargs }))
+    (each arg_reading (listed a) >>= λ args. each named_reading (object_members k) >>= λ kwargs. Ok (record { args = args; kwargs = kwargs }))
 
 -- what follows on the line: the last element first
 abbrev pub chain_reading : List Data → Result PLine SigFault

@@ -7,12 +7,12 @@ ghost use Rattle.serde_json.specs.Data.{array, object};
 ghost use Rattle.canvas_sig.specs.Writing.{args_wire, kwargs_wire};
 ghost use Rattle.canvas_task.specs.Entries.{named};
 ghost use Rattle.serde_json.specs.Written.{compact_text};
-ghost use Rattle.canvas_sig.specs.Tokens.{Appends, data_tokens};
+ghost use Rattle.canvas_sig.specs.steps.Tokens.{Appends, data_tokens};
 ghost use Rattle.canvas_message.specs.Content.{links_of, errbacks_of, place_of};
 ghost use Rattle.std.specs.Str.{IsUtf8};
 ghost use Rattle.canvas_message.specs.Fits.{fits};
 ghost use Rattle.canvas_message.specs.EnvelopeFaults.{Says};
-ghost use Rattle.canvas_message.specs.Tokens.{named_tokens, following_wire};
+ghost use Rattle.canvas_message.specs.steps.Tokens.{named_tokens, following_wire};
 ghost use Rattle.canvas_message.specs.Wire.{tasks_wire, carried_wire, list_or_null, embed_wire, properties_wire, headers_wire, body_wire};
 
 use crate::write::embed::{write_callbacks_and_chain, write_chord_and_errbacks};

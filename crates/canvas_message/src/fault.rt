@@ -2,7 +2,7 @@
 
 ghost use Rattle.std.specs.Prelude.{◌≡◌};
 ghost use Rattle.canvas_message.specs.declared.fault.MessageFault.TheVariants.{Memory};
-ghost use Rattle.canvas_message.specs.Codes.{code_of};
+ghost use Rattle.canvas_message.specs.RefusalNames.{code_of};
 
 use std::alloc::{AllocError, AllocFailed};
 use std::error::Error;
@@ -41,9 +41,9 @@ impl MessageFault {
 
 impl fmt::Display for MessageFault {
     ghost use Rattle.std.specs.Prelude.{Some};
-    ghost use Rattle.canvas_message.specs.Codes.{name_of};
+    ghost use Rattle.canvas_message.specs.RefusalNames.{printed_name};
 
-    ghost output = { λ fault. Some (name_of fault) };
+    ghost output = { λ fault. Some (printed_name fault) };
 
     fn fmt<W: fmt::Write>(&self, f: &mut fmt::Formatter<W>) -> fmt::Result {
         match self {

@@ -1,12 +1,12 @@
 //! The check that fields can be those of a message.
 
 ghost use Rattle.std.specs.Prelude.{◌≡◌, true, false, MatchOption};
-ghost use Rattle.canvas_sig.specs.LineReach.{capped};
+ghost use Rattle.canvas_sig.specs.steps.LineReach.{capped};
 ghost use Rattle.canvas_rewrite.specs.FrozenView.{p_line_view};
 ghost use Rattle.canvas_semantics.specs.PlacedLine.{p_stop};
 ghost use Rattle.canvas_message.specs.Content.{line};
 ghost use Rattle.canvas_message.specs.Fits.{fits, parent_ok, task_ok, task_reach, line_ok, line_reach};
-ghost use Rattle.canvas_message.specs.Parts.{is_stop};
+ghost use Rattle.canvas_message.specs.steps.Parts.{is_stop};
 ghost use Rattle.canvas_message.specs.View.{draft_view, rest_seen};
 
 mod forms;

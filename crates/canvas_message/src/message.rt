@@ -25,7 +25,7 @@ pub struct Message {
 impl Model for Message {
     ghost use Rattle.std.specs.Prelude.{◌≡◌, true};
     ghost use Rattle.canvas_message.specs.Content.{Content};
-    ghost use Rattle.canvas_message.specs.ContentCode.{content_code};
+    ghost use Rattle.canvas_message.specs.codes.ContentCode.{content_code};
     ghost use Rattle.canvas_message.specs.Fits.{fits};
     ghost use Rattle.canvas_message.specs.View.{content};
 

@@ -4,12 +4,12 @@ use Rattle.canvas_semantics.specs.Tree.{Task}
 use Rattle.canvas_sig.specs.View.{task_view}
 use Rattle.canvas_semantics.specs.Line.{Line, stop, group_end, chord_end, count_line, count_lines, line_groups, lines_groups, number_line, number_lines}
 use Rattle.canvas_semantics.specs.PlacedLine.{PLine, PLines, p_stop, p_group_end, p_chord_end, bare, all_bare}
-use Rattle.canvas_rewrite.specs.FrozenView.{steps, lines_of, line_of, end_of, p_steps, p_lines_of}
-use Rattle.canvas_semantics.specs.Numbering.{tasks_from, tasks_in, lines_from, lines_count, lines_teams}
+use Rattle.canvas_rewrite.specs.FrozenView.{steps_onto, lines_of, line_of, end_of, p_steps, p_lines_of}
+use Rattle.canvas_semantics.specs.steps.Numbering.{tasks_from, tasks_in, lines_from, lines_count, lines_group_count}
 use Rattle.canvas_rewrite.specs.declared.line.Line as line
 use Rattle.canvas_rewrite.specs.declared.line.Line.{out-Line}
 use Rattle.canvas_rewrite.specs.declared.line.LineEnd.{LineEnd, out-LineEnd}
-use Rattle.canvas_rewrite.proofs.FrozenViews.{line_none, line_some, end_none, end_some, in_lines, in_teams, lines_numbered, count_steps, groups_steps, steps_numbered}
+use Rattle.canvas_rewrite.proofs.FrozenViews.{line_none, line_some, end_none, end_some, in_lines, in_entries, lines_numbered, count_steps, groups_steps, steps_numbered}
 
 -- ---- a line
 
@@ -55,8 +55,8 @@ module _ (t : LineEnd) where
     pub end_count_none : count_line (end_of t) ≡ lines_count (map line_of (out-LineEnd t).members)
     end_count_none = ap count_line (end_none t e) ∙ in_lines its_members
 
-    pub end_groups_none : line_groups (end_of t) ≡ 1 + lines_teams (map line_of (out-LineEnd t).members)
-    end_groups_none = ap line_groups (end_none t e) ∙ ap (λ n. 1 + n) (in_teams its_members)
+    pub end_groups_none : line_groups (end_of t) ≡ 1 + lines_group_count (map line_of (out-LineEnd t).members)
+    end_groups_none = ap line_groups (end_none t e) ∙ ap (λ n. 1 + n) (in_entries its_members)
 
     pub end_numbered_none : (k g : ℕ) → bare (number_line k g (end_of t)) ≡ p_group_end g (p_lines_of (lines_from k (g + 1) (map line_of (out-LineEnd t).members)))
     end_numbered_none k g = ap (λ x. bare (number_line k g x)) (end_none t e) ∙ ap (p_group_end g) (sym (lines_numbered k (g + 1) its_members))
@@ -65,25 +65,25 @@ module _ (t : LineEnd) where
     pub end_count_some : count_line (end_of t) ≡ lines_count (map line_of (out-LineEnd t).members) + count_line (line_of b)
     end_count_some = ap count_line (end_some t b e) ∙ ap (λ n. n + count_line (line_of b)) (in_lines its_members)
 
-    pub end_groups_some : line_groups (end_of t) ≡ 1 + lines_teams (map line_of (out-LineEnd t).members) + line_groups (line_of b)
-    end_groups_some = ap line_groups (end_some t b e) ∙ ap (λ n. 1 + n + line_groups (line_of b)) (in_teams its_members)
+    pub end_groups_some : line_groups (end_of t) ≡ 1 + lines_group_count (map line_of (out-LineEnd t).members) + line_groups (line_of b)
+    end_groups_some = ap line_groups (end_some t b e) ∙ ap (λ n. 1 + n + line_groups (line_of b)) (in_entries its_members)
 
     pub end_numbered_some : (k g : ℕ) → bare (number_line k g (end_of t))
         ≡ p_chord_end g (p_lines_of (lines_from k (g + 1) (map line_of (out-LineEnd t).members)))
-        (bare (number_line (k + lines_count (map line_of (out-LineEnd t).members)) (g + 1 + lines_teams (map line_of (out-LineEnd t).members)) (line_of b)))
+        (bare (number_line (k + lines_count (map line_of (out-LineEnd t).members)) (g + 1 + lines_group_count (map line_of (out-LineEnd t).members)) (line_of b)))
     end_numbered_some k g =
         ap (λ x. bare (number_line k g x)) (end_some t b e)
         ∙ ap (λ ms. p_chord_end g ms (bare (number_line (k + count_lines (lines_of its_members)) (g + 1 + lines_groups (lines_of its_members)) (line_of b)))) (sym (lines_numbered k (g + 1) its_members))
         ∙ ap (λ n. p_chord_end g (p_lines_of (lines_from k (g + 1) its_members)) (bare (number_line (k + n) (g + 1 + lines_groups (lines_of its_members)) (line_of b)))) (in_lines its_members)
-        ∙ ap (λ n. p_chord_end g (p_lines_of (lines_from k (g + 1) its_members)) (bare (number_line (k + lines_count its_members) (g + 1 + n) (line_of b)))) (in_teams its_members)
+        ∙ ap (λ n. p_chord_end g (p_lines_of (lines_from k (g + 1) its_members)) (bare (number_line (k + lines_count its_members) (g + 1 + n) (line_of b)))) (in_entries its_members)
 
 members_by : (t : LineEnd) (o : Option line.Line) → (out-LineEnd t).body ≡ o
-    → (lines_count (map line_of (out-LineEnd t).members) ≤ count_line (end_of t)) × (1 + lines_teams (map line_of (out-LineEnd t).members) ≤ line_groups (end_of t))
+    → (lines_count (map line_of (out-LineEnd t).members) ≤ count_line (end_of t)) × (1 + lines_group_count (map line_of (out-LineEnd t).members) ≤ line_groups (end_of t))
 members_by t None e = (omega (arith, end_count_none t e), omega (arith, end_groups_none t e))
 members_by t (Some b) e = (omega (arith, end_count_some t b e), omega (arith, end_groups_some t b e))
 
 pub members_fit : (t : LineEnd) → lines_count (map line_of (out-LineEnd t).members) ≤ count_line (end_of t)
 members_fit t = (members_by t (out-LineEnd t).body refl).0
 
-pub groups_fit : (t : LineEnd) → 1 + lines_teams (map line_of (out-LineEnd t).members) ≤ line_groups (end_of t)
+pub groups_fit : (t : LineEnd) → 1 + lines_group_count (map line_of (out-LineEnd t).members) ≤ line_groups (end_of t)
 groups_fit t = (members_by t (out-LineEnd t).body refl).1

@@ -5,7 +5,7 @@ use Rattle.canvas_sig.specs.declared.task_sig.TaskSig.{TaskSig}
 use Rattle.canvas_semantics.specs.Line.{number_line}
 use Rattle.canvas_semantics.specs.PlacedLine.{PLine, p_stop, p_group_end, p_chord_end, bare}
 use Rattle.canvas_rewrite.specs.FrozenView.{line_of, end_of, p_steps, p_lines_of, p_task_view, p_line_view, p_end_view}
-use Rattle.canvas_semantics.specs.Numbering.{tasks_from, tasks_in, lines_from, lines_count, lines_teams}
+use Rattle.canvas_semantics.specs.steps.Numbering.{tasks_from, tasks_in, lines_from, lines_count, lines_group_count}
 use Rattle.canvas_rewrite.specs.declared.line.Line as line
 use Rattle.canvas_rewrite.specs.declared.line.Line.{out-Line}
 use Rattle.canvas_rewrite.specs.declared.line.LineEnd.{LineEnd, out-LineEnd}
@@ -45,10 +45,10 @@ group_made t none k g number ls ms hg h same =
 pub chord_made : (t : LineEnd) (b : line.Line) → (out-LineEnd t).body ≡ Some b
     → (k g number next next_group : ℕ) (ls : List FrozenLine) (ms : List line.Line) (body : FrozenLine)
     → number ≡ g → map p_line_view ls ≡ lines_from k (g + 1) (map line_of ms) → ms ≡ (out-LineEnd t).members
-    → next ≡ k + lines_count (map line_of ms) → next_group ≡ g + 1 + lines_teams (map line_of ms)
+    → next ≡ k + lines_count (map line_of ms) → next_group ≡ g + 1 + lines_group_count (map line_of ms)
     → p_line_view body ≡ bare (number_line next next_group (line_of b))
     → p_end_view (roll-FrozenEnd (record { group = number; members = ls; body = Some body })) ≡ bare (number_line k g (end_of t))
-chord_made t b some k g number next next_group ls ms body hg h same hnext hteams hbody =
+chord_made t b some k g number next next_group ls ms body hg h same hnext hentries hbody =
     let xs : List line.Line = (out-LineEnd t).members in
     made_chord number ls body
     ∙ ap (λ n. p_chord_end n (p_lines_of (map p_line_view ls)) (p_line_view body)) hg
@@ -56,5 +56,5 @@ chord_made t b some k g number next next_group ls ms body hg h same hnext hteams
     ∙ ap (p_chord_end g (p_lines_of (lines_from k (g + 1) (map line_of xs))))
     (hbody
     ∙ ap (λ n. bare (number_line n next_group (line_of b))) (hnext ∙ ap (λ ys. k + lines_count (map line_of ys)) same)
-    ∙ ap (λ n. bare (number_line (k + lines_count (map line_of xs)) n (line_of b))) (hteams ∙ ap (λ ys. g + 1 + lines_teams (map line_of ys)) same))
+    ∙ ap (λ n. bare (number_line (k + lines_count (map line_of xs)) n (line_of b))) (hentries ∙ ap (λ ys. g + 1 + lines_group_count (map line_of ys)) same))
     ∙ sym (end_numbered_some t b some k g)

@@ -7,8 +7,8 @@ use Rattle.canvas_sig.proofs.Views.{task_seen}
 use Rattle.canvas_sig.specs.declared.task_sig.TaskSig.{TaskSig, out-TaskSig}
 use Rattle.canvas_semantics.specs.Line.{Line, stop, step, group_end, chord_end, Lines, no_lines, and_line, count_line, count_lines, line_groups, lines_groups, number_line, number_lines}
 use Rattle.canvas_semantics.specs.PlacedLine.{PTask, p_task, PLine, p_stop, p_group_end, p_chord_end, and_p_task, and_p_line, p_step, bare_task, bare_tasks, bare, all_bare, p_nowhere}
-use Rattle.canvas_rewrite.specs.FrozenView.{steps, lines_of, tail_of, ended, line_step, end_step, line_of, end_of, p_tasks_of, p_steps, p_lines_of, p_tail_of, p_ended, p_task_view, p_line_view, p_end_view}
-use Rattle.canvas_semantics.specs.Numbering.{most, tasks_from, tasks_in, lines_from, lines_count, lines_teams}
+use Rattle.canvas_rewrite.specs.FrozenView.{steps_onto, lines_of, tail_of, ended, line_step, end_step, line_of, end_of, p_tasks_of, p_steps, p_lines_of, p_tail_of, p_ended, p_task_view, p_line_view, p_end_view}
+use Rattle.canvas_semantics.specs.steps.Numbering.{greatest_number, tasks_from, tasks_in, lines_from, lines_count, lines_group_count}
 use Rattle.canvas_rewrite.specs.declared.line.Line as line
 use Rattle.canvas_rewrite.specs.declared.line.Line.{out-Line}
 use Rattle.canvas_rewrite.specs.declared.line.LineEnd as lend
@@ -23,10 +23,10 @@ use Rattle.canvas_rewrite.specs.declared.frozen.FrozenEnd.{FrozenEnd, roll-Froze
 
 -- ---- views
 
-pub line_none : (l : line.Line) → (out-Line l).tail ≡ None → line_of l ≡ steps (map task_view (out-Line l).tasks) stop
+pub line_none : (l : line.Line) → (out-Line l).tail ≡ None → line_of l ≡ steps_onto (map task_view (out-Line l).tasks) stop
 line_none l e = search (rules, line.the_lemmas)
 
-pub line_some : (l : line.Line) (b : Box LineEnd Global) → (out-Line l).tail ≡ Some b → line_of l ≡ steps (map task_view (out-Line l).tasks) (end_of b.value)
+pub line_some : (l : line.Line) (b : Box LineEnd Global) → (out-Line l).tail ≡ Some b → line_of l ≡ steps_onto (map task_view (out-Line l).tasks) (end_of b.value)
 line_some l b e = search (rules, line.the_lemmas)
 
 pub end_none : (e : LineEnd) → (out-LineEnd e).body ≡ None → end_of e ≡ group_end 0 (lines_of (map line_of (out-LineEnd e).members))
@@ -67,23 +67,23 @@ pub in_lines : (ls : List Line) → count_lines (lines_of ls) ≡ lines_count ls
 in_lines [] = refl
 in_lines (l ∷ ls) = ap (λ n. count_line l + n) (in_lines ls)
 
-pub in_teams : (ls : List Line) → lines_groups (lines_of ls) ≡ lines_teams ls
-in_teams [] = refl
-in_teams (l ∷ ls) = ap (λ n. line_groups l + n) (in_teams ls)
+pub in_entries : (ls : List Line) → lines_groups (lines_of ls) ≡ lines_group_count ls
+in_entries [] = refl
+in_entries (l ∷ ls) = ap (λ n. line_groups l + n) (in_entries ls)
 
 pub lines_numbered : (k g : ℕ) (ls : List Line) → p_lines_of (lines_from k g ls) ≡ all_bare (number_lines k g (lines_of ls))
 lines_numbered k g [] = refl
 lines_numbered k g (l ∷ ls) = ap (and_p_line (bare (number_line k g l))) (lines_numbered (k + count_line l) (g + line_groups l) ls)
 
-pub count_steps : (ts : List Task) (l : Line) → count_line (steps ts l) ≡ tasks_in ts + count_line l
+pub count_steps : (ts : List Task) (l : Line) → count_line (steps_onto ts l) ≡ tasks_in ts + count_line l
 count_steps [] l = omega arith
 count_steps (t ∷ ts) l = omega (arith, count_steps ts l)
 
-pub groups_steps : (ts : List Task) (l : Line) → line_groups (steps ts l) ≡ line_groups l
+pub groups_steps : (ts : List Task) (l : Line) → line_groups (steps_onto ts l) ≡ line_groups l
 groups_steps [] l = refl
 groups_steps (t ∷ ts) l = groups_steps ts l
 
-pub steps_numbered : (k g : ℕ) (ts : List Task) (l : Line) → bare (number_line k g (steps ts l)) ≡ p_steps (tasks_from k ts) (bare (number_line (k + tasks_in ts) g l))
+pub steps_numbered : (k g : ℕ) (ts : List Task) (l : Line) → bare (number_line k g (steps_onto ts l)) ≡ p_steps (tasks_from k ts) (bare (number_line (k + tasks_in ts) g l))
 steps_numbered k g [] l = ap (λ n. bare (number_line n g l)) (omega arith)
 steps_numbered k g (t ∷ ts) l =
     ap (p_step (bare_task (number_task k t))) (steps_numbered (k + count_task t) g ts l

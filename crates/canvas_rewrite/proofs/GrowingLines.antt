@@ -8,9 +8,9 @@ use Rattle.canvas_sig.specs.View.{task_view}
 use Rattle.canvas_sig.specs.declared.task_sig.TaskSig.{TaskSig}
 use Rattle.canvas_semantics.specs.Line as Frozen
 use Rattle.canvas_semantics.specs.Line.{stop, elements_of}
-use Rattle.canvas_rewrite.specs.FrozenView.{steps, end_of, line_of}
+use Rattle.canvas_rewrite.specs.FrozenView.{steps_onto, end_of, line_of}
 use Rattle.canvas_rewrite.specs.View.{elements, group_or_chord}
-use Rattle.canvas_rewrite.specs.Growing.{grown, tail_trees}
+use Rattle.canvas_rewrite.specs.steps.Growing.{grown, tail_trees}
 use Rattle.canvas_rewrite.specs.declared.line.Line as line
 use Rattle.canvas_rewrite.specs.declared.line.Line.{Line, roll-Line}
 use Rattle.canvas_rewrite.specs.declared.line.LineEnd.{LineEnd, roll-LineEnd, out-LineEnd}
@@ -22,25 +22,25 @@ grown_push [] s after = refl
 grown_push (t ∷ ts) s after = grown_push ts s (and_tree (one (task_view t)) after)
 
 -- the tasks in their order
-front : (ts : List TaskSig) (l : Frozen.Line) → grown ts (elements_of l) ≡ elements_of (steps (map task_view (reverse ts)) l)
+front : (ts : List TaskSig) (l : Frozen.Line) → grown ts (elements_of l) ≡ elements_of (steps_onto (map task_view (reverse ts)) l)
 front [] l = refl
 front (t ∷ ts) l =
     front ts (Frozen.step (task_view t) l)
-    ∙ sym (ap (λ xs. elements_of (steps (map task_view xs) l)) (reverse-append (t ∷ []) ts) ∙ ap elements_of (one_more (reverse ts)))
+    ∙ sym (ap (λ xs. elements_of (steps_onto (map task_view xs) l)) (reverse-append (t ∷ []) ts) ∙ ap elements_of (one_more (reverse ts)))
   where
-    one_more : (xs : List TaskSig) → steps (map task_view (xs ++ t ∷ [])) l ≡ steps (map task_view xs) (Frozen.step (task_view t) l)
+    one_more : (xs : List TaskSig) → steps_onto (map task_view (xs ++ t ∷ [])) l ≡ steps_onto (map task_view xs) (Frozen.step (task_view t) l)
     one_more [] = refl
     one_more (x ∷ xs) = ap (Frozen.step (task_view x)) (one_more xs)
 
-made_none : (ts : List TaskSig) → line_of (roll-Line (record { tasks = ts; tail = None })) ≡ steps (map task_view ts) stop
+made_none : (ts : List TaskSig) → line_of (roll-Line (record { tasks = ts; tail = None })) ≡ steps_onto (map task_view ts) stop
 made_none ts = search (rules, line.the_lemmas)
 
-made_some : (ts : List TaskSig) (b : Box LineEnd Global) → line_of (roll-Line (record { tasks = ts; tail = Some b })) ≡ steps (map task_view ts) (end_of b.value)
+made_some : (ts : List TaskSig) (b : Box LineEnd Global) → line_of (roll-Line (record { tasks = ts; tail = Some b })) ≡ steps_onto (map task_view ts) (end_of b.value)
 made_some ts b = search (rules, line.the_lemmas)
 
 pub in_order : (ts xs : List TaskSig) (o : Option (Box LineEnd Global)) → xs ≡ reverse ts → elements (roll-Line (record { tasks = xs; tail = o })) ≡ grown ts (tail_trees o)
-in_order ts xs None e = ap elements_of (made_none xs ∙ ap (λ ys. steps (map task_view ys) stop) e) ∙ sym (front ts stop)
-in_order ts xs (Some b) e = ap elements_of (made_some xs b ∙ ap (λ ys. steps (map task_view ys) (end_of b.value)) e) ∙ sym (front ts (end_of b.value))
+in_order ts xs None e = ap elements_of (made_none xs ∙ ap (λ ys. steps_onto (map task_view ys) stop) e) ∙ sym (front ts stop)
+in_order ts xs (Some b) e = ap elements_of (made_some xs b ∙ ap (λ ys. steps_onto (map task_view ys) (end_of b.value)) e) ∙ sym (front ts (end_of b.value))
 
 -- ---- when it is empty
 

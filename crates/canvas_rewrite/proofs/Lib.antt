@@ -8,7 +8,6 @@ pub mod GrowingLines
 pub mod NameLines
 pub mod Members
 pub mod PlanLookups
-pub mod CompactLaw
 pub mod NodeLines
 pub mod InOrder
 pub mod NamesInOrder

@@ -10,13 +10,13 @@ use Rattle.canvas_semantics.specs.NormalLine.{onto, group_onto, normal_all}
 use Rattle.canvas_rewrite.specs.View.{elements, line_view, chains, group_or_chord}
 use Rattle.canvas_rewrite.specs.declared.line.Line as line
 use Rattle.canvas_rewrite.specs.declared.line.Line.{Line, out-Line, roll-Line}
-use Rattle.canvas_rewrite.specs.Growing.{growing}
+use Rattle.canvas_rewrite.specs.steps.Growing.{growing}
 use Rattle.canvas_rewrite.specs.declared.growing.Growing.{Growing}
 use Rattle.canvas_rewrite.specs.declared.line.LineEnd.{LineEnd, out-LineEnd, roll-LineEnd}
 use Rattle.canvas_sig.specs.View.{task_view}
 use Rattle.canvas_semantics.specs.Line as Frozen
 use Rattle.canvas_semantics.specs.Line.{stop, elements_of, members_of}
-use Rattle.canvas_rewrite.specs.FrozenView.{steps, end_of, line_of, lines_of}
+use Rattle.canvas_rewrite.specs.FrozenView.{steps_onto, end_of, line_of, lines_of}
 use Rattle.canvas_rewrite.proofs.FrozenViews.{line_none, line_some, end_none, end_some}
 use Rattle.canvas_sig.specs.declared.task_sig.TaskSig.{TaskSig}
 use Rattle.std.specs.declared.alloc.AllocError.{AllocError}

@@ -5,7 +5,7 @@ use Rattle.std.proofs.lemmas.Bool.Decides.{nat_tests}
 use Rattle.std.proofs.lemmas.List.Sums.{sum_by-append, sum_by-cons}
 use Rattle.canvas_semantics.specs.Tree.{Task, task, Tree, one, chain, group, chord, Trees, no_trees, and_tree, IsFull, count_task, ends_in_group, last_in_group, number_task}
 use Rattle.canvas_semantics.specs.Bounds.{nests_group, some_nests_group, some_ends_in_group}
-use Rattle.canvas_semantics.specs.Line.{Line, stop, step, group_end, chord_end, Lines, no_lines, and_line, elements_of, members_of, tree_of, count_line, count_lines, line_groups, lines_groups, number_line, number_lines, ends_of, all_ends_of, Team, teams, all_teams, team_at, team_members, members, in_group}
+use Rattle.canvas_semantics.specs.Line.{Line, stop, step, group_end, chord_end, Lines, no_lines, and_line, elements_of, members_of, tree_of, count_line, count_lines, line_groups, lines_groups, number_line, number_lines, ends_of, all_ends_of, GroupEntry, group_entries, all_group_entries, entry_at, entry_members, members, in_group}
 use Rattle.canvas_rewrite.specs.Planned.{IsPlan, Apart, times}
 use Rattle.canvas_rewrite.specs.Runnable.{IsRunnable}
 
@@ -58,13 +58,13 @@ times_both k xs ys = sum_by-append (λ x. if x == k then 1 else 0) xs ys
 times_first : (k x : ℕ) (xs : List ℕ) → times_in k (x ∷ xs) ≡ (if x == k then 1 else 0) + times_in k xs
 times_first k x xs = sum_by-cons (λ y. if y == k then 1 else 0) x xs
 
-abbrev in_teams : ℕ → List Team → ℕ
-in_teams k [] = 0
-in_teams k (t ∷ ts) = times_in k t.members + in_teams k ts
+abbrev in_entries : ℕ → List GroupEntry → ℕ
+in_entries k [] = 0
+in_entries k (t ∷ ts) = times_in k t.members + in_entries k ts
 
-teams_both : (k : ℕ) (ts us : List Team) → in_teams k (ts ++ us) ≡ in_teams k ts + in_teams k us
-teams_both k [] us = omega arith
-teams_both k (t ∷ ts) us = omega (arith, teams_both k ts us)
+entries_both : (k : ℕ) (ts us : List GroupEntry) → in_entries k (ts ++ us) ≡ in_entries k ts + in_entries k us
+entries_both k [] us = omega arith
+entries_both k (t ∷ ts) us = omega (arith, entries_both k ts us)
 
 -- n times, and only if k lies from low up to high
 record Once (k low high n : ℕ) : Type 0 where
@@ -110,7 +110,7 @@ more_none k low high n o = subst (λ m. Once k low high m) (sym (add-zero n)) o
 
 mutual
   apart : (k low g : ℕ) (l : Line) → Alone l
-      → Once k low (low + count_line l) (in_teams k (teams (number_line low g l)) + unless (in_group l) (times_in k (ends_of (number_line low g l))))
+      → Once k low (low + count_line l) (in_entries k (group_entries (number_line low g l)) + unless (in_group l) (times_in k (ends_of (number_line low g l))))
   apart k low g stop a = never k low (low + 0)
   apart k low g (step (task _ call ls es) stop) a = none_more k _ _ _ (wider k low (low + 1) low _ _ (just k low (low + 1) (omega arith)) (omega arith) (omega arith))
   apart k low g (step t (step u l)) a = no_widened k low g t (step u l) _ (apart k (low + count_task t) g (step u l) a)
@@ -122,10 +122,10 @@ mutual
       let body = number_line (low + count_lines ms) (g + 1 + lines_groups ms) b in
       let far = apart k (low + count_lines ms) (g + 1 + lines_groups ms) b a.1 in
       both k low (low + count_lines ms) _ _ _ _ (all_apart k low (g + 1) ms a.0) (wider k _ _ (low + count_lines ms) (low + (count_lines ms + count_line b)) _ far (omega arith) (omega arith))
-      (omega (arith, teams_both k (all_teams mine) (teams body))) (omega arith) (omega arith)
+      (omega (arith, entries_both k (all_group_entries mine) (group_entries body))) (omega arith) (omega arith)
 
   all_apart : (k low g : ℕ) (ms : Lines) → AllAlone ms
-      → Once k low (low + count_lines ms) (times_in k (all_ends_of (number_lines low g ms)) + in_teams k (all_teams (number_lines low g ms)))
+      → Once k low (low + count_lines ms) (times_in k (all_ends_of (number_lines low g ms)) + in_entries k (all_group_entries (number_lines low g ms)))
   all_apart k low g no_lines a = never k low (low + 0)
   all_apart k low g (and_line m ms) a =
       let mine = number_line low g m in
@@ -133,37 +133,37 @@ mutual
       let own : unless (in_group m) (times_in k (ends_of mine)) ≡ times_in k (ends_of mine) = rw a.0 refl in
       let far = all_apart k (low + count_line m) (g + line_groups m) ms a.2 in
       both k low (low + count_line m) _ _ _ _ (apart k low g m a.1) (wider k _ _ (low + count_line m) (low + (count_line m + count_lines ms)) _ far (omega arith) (omega arith))
-      (omega (arith, own, times_both k (ends_of mine) (all_ends_of rest), teams_both k (teams mine) (all_teams rest))) (omega arith) (omega arith)
+      (omega (arith, own, times_both k (ends_of mine) (all_ends_of rest), entries_both k (group_entries mine) (all_group_entries rest))) (omega arith) (omega arith)
 
 -- ---- one group or chord among all
 
-abbrev slot : ℕ → List Team → ℕ → ℕ
-slot k ts i = times_in k (team_members (slice_get ts i))
+abbrev slot : ℕ → List GroupEntry → ℕ → ℕ
+slot k ts i = times_in k (entry_members (slice_get ts i))
 
-one_slot : (k : ℕ) (ts : List Team) (i : ℕ) → slot k ts i ≤ in_teams k ts
+one_slot : (k : ℕ) (ts : List GroupEntry) (i : ℕ) → slot k ts i ≤ in_entries k ts
 one_slot k [] i = omega arith
 one_slot k (t ∷ ts) zero = omega arith
 one_slot k (t ∷ ts) (suc i) = omega (arith, one_slot k ts i)
 
-two_slots : (k : ℕ) (ts : List Team) (i j : ℕ) → i ≢ j → slot k ts i + slot k ts j ≤ in_teams k ts
+two_slots : (k : ℕ) (ts : List GroupEntry) (i j : ℕ) → i ≢ j → slot k ts i + slot k ts j ≤ in_entries k ts
 two_slots k [] i j ne = omega arith
 two_slots k (t ∷ ts) zero zero ne = absurd (ne refl)
 two_slots k (t ∷ ts) zero (suc j) ne = omega (arith, one_slot k ts j)
 two_slots k (t ∷ ts) (suc i) zero ne = omega (arith, one_slot k ts i)
 two_slots k (t ∷ ts) (suc i) (suc j) ne = omega (arith, two_slots k ts i j (λ e. ne (ap suc e)))
 
-module _ (l : Line) (every : (k : ℕ) → in_teams k (teams l) ≤ 1) where
+module _ (l : Line) (every : (k : ℕ) → in_entries k (group_entries l) ≤ 1) where
   only : (g h k : ℕ) → 0 < times l k g → 0 < times l k h → h ≡ g
   only zero h k p q = absurd (omega arith)
   only (suc i) zero k p q = absurd (omega arith)
   only (suc i) (suc j) k p q = elim (cases_eq j i) [
     | inl e ↦ ap suc e
-    | inr ne ↦ absurd (omega (arith, two_slots k (teams l) j i ne, every k))
+    | inr ne ↦ absurd (omega (arith, two_slots k (group_entries l) j i ne, every k))
   ]
 
   once_of : (g k : ℕ) → 0 < times l k g → times l k g ≡ 1
   once_of zero k p = absurd (omega arith)
-  once_of (suc i) k p = omega (arith, one_slot k (teams l) i, every k)
+  once_of (suc i) k p = omega (arith, one_slot k (group_entries l) i, every k)
 
   are_apart : Apart l
   are_apart g k p = (once_of g k p, λ h q. only g h k p q)
@@ -177,9 +177,9 @@ module _ (l : Line) (plan : IsPlan l) where
   pub its_alone : Alone l
   its_alone = alone l plan.runnable.members_end
 
-  its_once : (k : ℕ) → Once k 1 (1 + count_line l) (in_teams k (teams l) + unless (in_group l) (times_in k (ends_of l)))
+  its_once : (k : ℕ) → Once k 1 (1 + count_line l) (in_entries k (group_entries l) + unless (in_group l) (times_in k (ends_of l)))
   its_once k =
-      subst (λ n. Once k 1 (1 + count_line l) (in_teams k (teams n) + unless (in_group l) (times_in k (ends_of n)))) plan.numbered (apart k 1 1 l its_alone)
+      subst (λ n. Once k 1 (1 + count_line l) (in_entries k (group_entries n) + unless (in_group l) (times_in k (ends_of n)))) plan.numbered (apart k 1 1 l its_alone)
 
   pub plan_apart : Apart l
   plan_apart = are_apart l (λ k. let o = (its_once k).once in omega (arith, o))
@@ -187,7 +187,7 @@ module _ (l : Line) (plan : IsPlan l) where
   pub member_known : (g k : ℕ) → 0 < times l k g → (1 ≤ k) × (k ≤ count_line l)
   member_known zero k p = absurd (omega arith)
   member_known (suc i) k p =
-      let some : 0 < in_teams k (teams l) + unless (in_group l) (times_in k (ends_of l)) = omega (arith, one_slot k (teams l) i) in
+      let some : 0 < in_entries k (group_entries l) + unless (in_group l) (times_in k (ends_of l)) = omega (arith, one_slot k (group_entries l) i) in
       let o = its_once k in
       (o.above some, let b = o.below some in omega arith)
 
@@ -215,33 +215,33 @@ mutual
   few_ends_all no_lines = omega arith
   few_ends_all (and_line m ms) = omega (arith, length-append (ends_of m) (all_ends_of ms), few_ends m, few_ends_all ms)
 
-abbrev Short : ℕ → List Team → Type 0
+abbrev Short : ℕ → List GroupEntry → Type 0
 Short n [] = Unit {0}
 Short n (t ∷ ts) = (length t.members ≤ n) × Short n ts
 
-short_both : (n : ℕ) (ts us : List Team) → Short n ts → Short n us → Short n (ts ++ us)
+short_both : (n : ℕ) (ts us : List GroupEntry) → Short n ts → Short n us → Short n (ts ++ us)
 short_both n [] us p q = q
 short_both n (t ∷ ts) us p q = (p.0, short_both n ts us p.1 q)
 
-short_wider : (n m : ℕ) (ts : List Team) → n ≤ m → Short n ts → Short m ts
+short_wider : (n m : ℕ) (ts : List GroupEntry) → n ≤ m → Short n ts → Short m ts
 short_wider n m [] h p = tt
 short_wider n m (t ∷ ts) h p = (let q = p.0 in omega arith, short_wider n m ts h p.1)
 
 mutual
-  short : (l : Line) → Short (count_line l) (teams l)
+  short : (l : Line) → Short (count_line l) (group_entries l)
   short stop = tt
-  short (step t l) = short_wider (count_line l) _ (teams l) (omega arith) (short l)
+  short (step t l) = short_wider (count_line l) _ (group_entries l) (omega arith) (short l)
   short (group_end g ms) = (few_ends_all ms, short_all ms)
   short (chord_end g ms b) = (
     let f = few_ends_all ms in omega arith,
-    short_both _ (all_teams ms) (teams b) (short_wider _ _ (all_teams ms) (omega arith) (short_all ms)) (short_wider _ _ (teams b) (omega arith) (short b)),
+    short_both _ (all_group_entries ms) (group_entries b) (short_wider _ _ (all_group_entries ms) (omega arith) (short_all ms)) (short_wider _ _ (group_entries b) (omega arith) (short b)),
   )
 
-  short_all : (ms : Lines) → Short (count_lines ms) (all_teams ms)
+  short_all : (ms : Lines) → Short (count_lines ms) (all_group_entries ms)
   short_all no_lines = tt
-  short_all (and_line m ms) = short_both _ (teams m) (all_teams ms) (short_wider _ _ (teams m) (omega arith) (short m)) (short_wider _ _ (all_teams ms) (omega arith) (short_all ms))
+  short_all (and_line m ms) = short_both _ (group_entries m) (all_group_entries ms) (short_wider _ _ (group_entries m) (omega arith) (short m)) (short_wider _ _ (all_group_entries ms) (omega arith) (short_all ms))
 
-short_at : (n : ℕ) (ts : List Team) (g : ℕ) → Short n ts → length (team_members (team_at ts g)) ≤ n
+short_at : (n : ℕ) (ts : List GroupEntry) (g : ℕ) → Short n ts → length (entry_members (entry_at ts g)) ≤ n
 short_at n [] zero p = omega arith
 short_at n [] (suc g) p = omega arith
 short_at n (t ∷ ts) zero p = omega arith
@@ -249,7 +249,7 @@ short_at n (t ∷ ts) (suc zero) p = p.0
 short_at n (t ∷ ts) (suc (suc g)) p = short_at n ts (suc g) p.1
 
 pub few_members : (l : Line) (g : ℕ) → length (members l g) ≤ count_line l
-few_members l g = short_at _ (teams l) g (short l)
+few_members l g = short_at _ (group_entries l) g (short l)
 
 -- ---- a line that ends in a task
 

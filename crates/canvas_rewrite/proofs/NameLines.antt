@@ -5,8 +5,8 @@ use Rattle.canvas_semantics.specs.Tree.{Task, and_task}
 use Rattle.canvas_sig.specs.View.{tasks_of}
 use Rattle.canvas_semantics.specs.Line.{Line, stop, group_end, chord_end, task_names, tasks_names, names, all_names, in_group}
 use Rattle.canvas_semantics.specs.PlacedLine.{PTask, PPlace, PLine, strip_task, strip_tasks}
-use Rattle.canvas_rewrite.specs.FrozenView.{steps, lines_of, p_tasks_of, p_task_view, task_in, line_in, end_in, Load, carried_step, p_end_step, p_line_step, p_task_step, place_step}
-use Rattle.canvas_semantics.specs.Numbering.{tasks_all_names, lines_all_names}
+use Rattle.canvas_rewrite.specs.FrozenView.{steps_onto, lines_of, p_tasks_of, p_task_view, task_in, line_in, end_in, Load, carried_step, p_end_step, p_line_step, p_task_step, place_step}
+use Rattle.canvas_semantics.specs.steps.Numbering.{tasks_all_names, lines_all_names}
 use Rattle.canvas_rewrite.specs.declared.frozen.FrozenTask as ftask
 use Rattle.canvas_rewrite.specs.declared.frozen.FrozenTask.{FrozenTask, out-FrozenTask}
 use Rattle.canvas_rewrite.specs.declared.frozen.FrozenLine.{FrozenLine, out-FrozenLine}
@@ -43,7 +43,7 @@ one_after before ys zs ys' zs' b hb hy hz = (λ i. (hb ∙ ap (λ w. before ++ w
 
 -- ---- lines
 
-named_steps : (ts : List Task) (l : Line) → names (steps ts l) ≡ tasks_all_names ts ++ names l
+named_steps : (ts : List Task) (l : Line) → names (steps_onto ts l) ≡ tasks_all_names ts ++ names l
 named_steps [] l = refl
 named_steps (t ∷ ts) l = ap (λ ns. task_names t ++ ns) (named_steps ts l) ∙ sym (append_assoc (task_names t) (tasks_all_names ts) (names l))
 
@@ -67,7 +67,7 @@ named_chord t b e = ap names (of_chord t b e) ∙ ap (λ ns. ns ++ names (line_i
 
 -- ---- whether it ends in a group
 
-group_steps : (ts : List Task) (l : Line) → in_group (steps ts l) ≡ in_group l
+group_steps : (ts : List Task) (l : Line) → in_group (steps_onto ts l) ≡ in_group l
 group_steps [] l = refl
 group_steps (t ∷ ts) l = group_steps ts l
 

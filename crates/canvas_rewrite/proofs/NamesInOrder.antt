@@ -4,7 +4,8 @@ use Rattle.canvas_semantics.specs.Tree.{Task, task, Tasks, no_tasks, and_task, T
 use Rattle.canvas_semantics.specs.Line.{Line, stop, step, group_end, chord_end, Lines, no_lines, and_line, elements_of, members_of, tree_of, count_line, count_lines, line_groups, lines_groups, number_line, number_lines, task_names, tasks_names}
 use Rattle.canvas_semantics.specs.Line as Frozen
 use Rattle.canvas_rewrite.specs.Planned.{IsPlan}
-use Rattle.canvas_semantics.specs.Report.{Text, names_of_task, names_of_tasks, names, all_names, counted_from}
+use Rattle.canvas_task.specs.Text.{Text}
+use Rattle.canvas_semantics.specs.Report.{names_of_task, names_of_tasks, names_by_number, all_names, counted_from}
 
 counted_both : (k : ℕ) (xs ys : List Text) → counted_from k (xs ++ ys) ≡ counted_from k xs ++ counted_from (k + length xs) ys
 counted_both k [] ys = ap (λ n. counted_from n ys) (omega arith)
@@ -58,5 +59,5 @@ mutual
   of_lines (and_line m ms) k g =
       (λ i. of_line m k g i ++ of_lines ms (k + count_line m) (g + line_groups m) i) ∙ parts k (count_line m) (Frozen.names m) (Frozen.all_names ms) (long m)
 
-pub plan_names : (l : Line) → IsPlan l → names (tree_of l) ≡ counted_from 1 (Frozen.names l)
-plan_names l plan = sym (ap (λ n. names (tree_of n)) plan.numbered) ∙ of_line l 1 1
+pub plan_names : (l : Line) → IsPlan l → names_by_number (tree_of l) ≡ counted_from 1 (Frozen.names l)
+plan_names l plan = sym (ap (λ n. names_by_number (tree_of n)) plan.numbered) ∙ of_line l 1 1

@@ -2,11 +2,11 @@
 use Rattle.std.proofs.Common.{◌≡◌, ◌∙◌, ℕ, List, [], ◌∷◌, ◌++◌, map, Option, Some, None, Box, Global, refl, sym, ap, rules, append_assoc, true, false, Result, OnOk, subst, slice_get, length, ◌-◌, Bool, arith}
 use Rattle.std.proofs.lemmas.List.{map-append}
 use Rattle.canvas_semantics.specs.Tree.{Task}
-use Rattle.canvas_semantics.specs.Line.{Line, stop, step, group_end, chord_end, Lines, and_line, no_of, ends_of, all_ends_of, teams, all_teams, Team}
+use Rattle.canvas_semantics.specs.Line.{Line, stop, step, group_end, chord_end, Lines, and_line, no_of, ends_of, all_ends_of, group_entries, all_group_entries, GroupEntry}
 use Rattle.canvas_semantics.specs.PlacedLine.{PTask, PPlace, PLine, p_stop, p_group_end, p_chord_end, strip, strip_all, strip_task}
-use Rattle.canvas_rewrite.specs.FrozenView.{steps, lines_of, p_steps, p_lines_of, p_task_view, p_line_view, p_end_view, task_in, line_in, end_in, Load, carried_step, p_end_step, p_line_step, p_task_step, place_step}
-use Rattle.canvas_semantics.specs.Numbering.{lines_ends, lines_all_teams}
-use Rattle.canvas_rewrite.specs.Teams.{team}
+use Rattle.canvas_rewrite.specs.FrozenView.{steps_onto, lines_of, p_steps, p_lines_of, p_task_view, p_line_view, p_end_view, task_in, line_in, end_in, Load, carried_step, p_end_step, p_line_step, p_task_step, place_step}
+use Rattle.canvas_semantics.specs.steps.Numbering.{lines_ends, lines_group_entries}
+use Rattle.canvas_rewrite.specs.steps.GroupData.{group_entry}
 use Rattle.canvas_rewrite.specs.declared.groups.Group.{Group}
 use Rattle.canvas_rewrite.specs.declared.frozen.Carried as block
 use Rattle.canvas_rewrite.specs.declared.frozen.FrozenTask as ftask
@@ -28,7 +28,7 @@ seen_chord : (t : FrozenEnd) (b : FrozenLine) → (out-FrozenEnd t).body ≡ Som
     → p_end_view t ≡ p_chord_end (out-FrozenEnd t).group (p_lines_of (map p_line_view (out-FrozenEnd t).members)) (p_line_view b)
 seen_chord t b e = search (rules, block.the_lemmas)
 
-pub strip_steps : (ts : List FrozenTask) (l : PLine) → strip (p_steps (map p_task_view ts) l) ≡ steps (map task_in ts) (strip l)
+pub strip_steps : (ts : List FrozenTask) (l : PLine) → strip (p_steps (map p_task_view ts) l) ≡ steps_onto (map task_in ts) (strip l)
 strip_steps [] l = refl
 strip_steps (t ∷ ts) l = ap (step (task_in t)) (strip_steps ts l)
 
@@ -36,10 +36,10 @@ strip_lines : (ls : List FrozenLine) → strip_all (p_lines_of (map p_line_view 
 strip_lines [] = refl
 strip_lines (l ∷ ls) = ap (and_line (line_in l)) (strip_lines ls)
 
-pub in_none : (l : FrozenLine) → (out-FrozenLine l).tail ≡ None → line_in l ≡ steps (map task_in (out-FrozenLine l).tasks) stop
+pub in_none : (l : FrozenLine) → (out-FrozenLine l).tail ≡ None → line_in l ≡ steps_onto (map task_in (out-FrozenLine l).tasks) stop
 in_none l e = ap strip (seen_none l e) ∙ strip_steps _ p_stop
 
-pub in_some : (l : FrozenLine) (b : Box FrozenEnd Global) → (out-FrozenLine l).tail ≡ Some b → line_in l ≡ steps (map task_in (out-FrozenLine l).tasks) (end_in b.value)
+pub in_some : (l : FrozenLine) (b : Box FrozenEnd Global) → (out-FrozenLine l).tail ≡ Some b → line_in l ≡ steps_onto (map task_in (out-FrozenLine l).tasks) (end_in b.value)
 in_some l b e = ap strip (seen_some l b e) ∙ strip_steps _ (p_end_view b.value)
 
 pub in_group : (t : FrozenEnd) → (out-FrozenEnd t).body ≡ None → end_in t ≡ group_end (out-FrozenEnd t).group (lines_of (map line_in (out-FrozenEnd t).members))
@@ -54,23 +54,23 @@ pub all_ends : (ls : List Line) → all_ends_of (lines_of ls) ≡ lines_ends ls
 all_ends [] = refl
 all_ends (l ∷ ls) = ap (λ es. ends_of l ++ es) (all_ends ls)
 
-pub every_team : (ls : List Line) → all_teams (lines_of ls) ≡ lines_all_teams ls
-every_team [] = refl
-every_team (l ∷ ls) = ap (λ es. teams l ++ es) (every_team ls)
+pub every_entry : (ls : List Line) → all_group_entries (lines_of ls) ≡ lines_group_entries ls
+every_entry [] = refl
+every_entry (l ∷ ls) = ap (λ es. group_entries l ++ es) (every_entry ls)
 
-ends_group : (ts : List Task) (g : ℕ) (ms : Lines) → ends_of (steps ts (group_end g ms)) ≡ all_ends_of ms
+ends_group : (ts : List Task) (g : ℕ) (ms : Lines) → ends_of (steps_onto ts (group_end g ms)) ≡ all_ends_of ms
 ends_group [] g ms = refl
 ends_group (t ∷ []) g ms = refl
 ends_group (t ∷ u ∷ ts) g ms = ends_group (u ∷ ts) g ms
 
-ends_chord : (ts : List Task) (g : ℕ) (ms : Lines) (b : Line) → ends_of (steps ts (chord_end g ms b)) ≡ ends_of b
+ends_chord : (ts : List Task) (g : ℕ) (ms : Lines) (b : Line) → ends_of (steps_onto ts (chord_end g ms b)) ≡ ends_of b
 ends_chord [] g ms b = refl
 ends_chord (t ∷ []) g ms b = refl
 ends_chord (t ∷ u ∷ ts) g ms b = ends_chord (u ∷ ts) g ms b
 
 by_body : (l : FrozenLine) (b : Box FrozenEnd Global) → (out-FrozenLine l).tail ≡ Some b → (o : Option FrozenLine) → (out-FrozenEnd b.value).body ≡ o → ends_of (line_in l) ≡ ends_of (end_in b.value)
-by_body l b e None h = ap ends_of (in_some l b e) ∙ ap (λ x. ends_of (steps (map task_in (out-FrozenLine l).tasks) x)) (in_group b.value h) ∙ ends_group (map task_in (out-FrozenLine l).tasks) (out-FrozenEnd b.value).group (lines_of (map line_in (out-FrozenEnd b.value).members)) ∙ sym (ap ends_of (in_group b.value h))
-by_body l b e (Some x) h = ap ends_of (in_some l b e) ∙ ap (λ y. ends_of (steps (map task_in (out-FrozenLine l).tasks) y)) (in_chord b.value x h) ∙ ends_chord (map task_in (out-FrozenLine l).tasks) (out-FrozenEnd b.value).group (lines_of (map line_in (out-FrozenEnd b.value).members)) (line_in x) ∙ sym (ap ends_of (in_chord b.value x h))
+by_body l b e None h = ap ends_of (in_some l b e) ∙ ap (λ x. ends_of (steps_onto (map task_in (out-FrozenLine l).tasks) x)) (in_group b.value h) ∙ ends_group (map task_in (out-FrozenLine l).tasks) (out-FrozenEnd b.value).group (lines_of (map line_in (out-FrozenEnd b.value).members)) ∙ sym (ap ends_of (in_group b.value h))
+by_body l b e (Some x) h = ap ends_of (in_some l b e) ∙ ap (λ y. ends_of (steps_onto (map task_in (out-FrozenLine l).tasks) y)) (in_chord b.value x h) ∙ ends_chord (map task_in (out-FrozenLine l).tasks) (out-FrozenEnd b.value).group (lines_of (map line_in (out-FrozenEnd b.value).members)) (line_in x) ∙ sym (ap ends_of (in_chord b.value x h))
 
 pub ends_some : (l : FrozenLine) (b : Box FrozenEnd Global) → (out-FrozenLine l).tail ≡ Some b → ends_of (line_in l) ≡ ends_of (end_in b.value)
 ends_some l b e = by_body l b e (out-FrozenEnd b.value).body refl
@@ -83,29 +83,29 @@ ends_chord_end t b e = ap ends_of (in_chord t b e)
 
 -- ---- groups
 
-teams_steps : (ts : List Task) (l : Line) → teams (steps ts l) ≡ teams l
-teams_steps [] l = refl
-teams_steps (t ∷ ts) l = teams_steps ts l
+entries_steps : (ts : List Task) (l : Line) → group_entries (steps_onto ts l) ≡ group_entries l
+entries_steps [] l = refl
+entries_steps (t ∷ ts) l = entries_steps ts l
 
-pub teams_none : (l : FrozenLine) → (out-FrozenLine l).tail ≡ None → teams (line_in l) ≡ []
-teams_none l e = ap teams (in_none l e) ∙ teams_steps (map task_in (out-FrozenLine l).tasks) stop
+pub entries_none : (l : FrozenLine) → (out-FrozenLine l).tail ≡ None → group_entries (line_in l) ≡ []
+entries_none l e = ap group_entries (in_none l e) ∙ entries_steps (map task_in (out-FrozenLine l).tasks) stop
 
-pub teams_some : (l : FrozenLine) (b : Box FrozenEnd Global) → (out-FrozenLine l).tail ≡ Some b → teams (line_in l) ≡ teams (end_in b.value)
-teams_some l b e = ap teams (in_some l b e) ∙ teams_steps (map task_in (out-FrozenLine l).tasks) (end_in b.value)
+pub entries_some : (l : FrozenLine) (b : Box FrozenEnd Global) → (out-FrozenLine l).tail ≡ Some b → group_entries (line_in l) ≡ group_entries (end_in b.value)
+entries_some l b e = ap group_entries (in_some l b e) ∙ entries_steps (map task_in (out-FrozenLine l).tasks) (end_in b.value)
 
-pub teams_group : (t : FrozenEnd) → (out-FrozenEnd t).body ≡ None
-    → teams (end_in t) ≡ record { chord = false; members = lines_ends (map line_in (out-FrozenEnd t).members) } ∷ lines_all_teams (map line_in (out-FrozenEnd t).members)
-teams_group t e =
+pub entries_group : (t : FrozenEnd) → (out-FrozenEnd t).body ≡ None
+    → group_entries (end_in t) ≡ record { chord = false; members = lines_ends (map line_in (out-FrozenEnd t).members) } ∷ lines_group_entries (map line_in (out-FrozenEnd t).members)
+entries_group t e =
     let ls : List Line = map line_in (out-FrozenEnd t).members in
-    ap teams (in_group t e) ∙ ap (λ ms. record { chord = false; members = ms } ∷ all_teams (lines_of ls)) (all_ends ls)
-    ∙ ap (λ es. record { chord = false; members = lines_ends ls } ∷ es) (every_team ls)
+    ap group_entries (in_group t e) ∙ ap (λ ms. record { chord = false; members = ms } ∷ all_group_entries (lines_of ls)) (all_ends ls)
+    ∙ ap (λ es. record { chord = false; members = lines_ends ls } ∷ es) (every_entry ls)
 
-pub teams_chord : (t : FrozenEnd) (b : FrozenLine) → (out-FrozenEnd t).body ≡ Some b
-    → teams (end_in t) ≡ record { chord = true; members = lines_ends (map line_in (out-FrozenEnd t).members) } ∷ lines_all_teams (map line_in (out-FrozenEnd t).members) ++ teams (line_in b)
-teams_chord t b e =
+pub entries_chord : (t : FrozenEnd) (b : FrozenLine) → (out-FrozenEnd t).body ≡ Some b
+    → group_entries (end_in t) ≡ record { chord = true; members = lines_ends (map line_in (out-FrozenEnd t).members) } ∷ lines_group_entries (map line_in (out-FrozenEnd t).members) ++ group_entries (line_in b)
+entries_chord t b e =
     let ls : List Line = map line_in (out-FrozenEnd t).members in
-    ap teams (in_chord t b e) ∙ ap (λ ms. record { chord = true; members = ms } ∷ all_teams (lines_of ls) ++ teams (line_in b)) (all_ends ls)
-    ∙ ap (λ es. record { chord = true; members = lines_ends ls } ∷ es ++ teams (line_in b)) (every_team ls)
+    ap group_entries (in_chord t b e) ∙ ap (λ ms. record { chord = true; members = ms } ∷ all_group_entries (lines_of ls) ++ group_entries (line_in b)) (all_ends ls)
+    ∙ ap (λ es. record { chord = true; members = lines_ends ls } ∷ es ++ group_entries (line_in b)) (every_entry ls)
 
 -- ---- results
 
@@ -117,7 +117,7 @@ ok_same {X = X} r x a b e h = let P : List X → Type 0 = λ y. OnOk r (x ≡ y)
 no_out : (t : FrozenTask) → no_of (task_in t) ≡ (out-FrozenTask t).no
 no_out t = ap (λ p. no_of (strip_task p)) (ftask.fold_out-FrozenTask Load PLine PLine PTask PPlace carried_step p_end_step p_line_step p_task_step place_step t)
 
-ends_from : (t : FrozenTask) (ts : List FrozenTask) (x : FrozenTask) → Some x ≡ slice_get (t ∷ ts) (length ts) → ends_of (steps (map task_in (t ∷ ts)) stop) ≡ (out-FrozenTask x).no ∷ []
+ends_from : (t : FrozenTask) (ts : List FrozenTask) (x : FrozenTask) → Some x ≡ slice_get (t ∷ ts) (length ts) → ends_of (steps_onto (map task_in (t ∷ ts)) stop) ≡ (out-FrozenTask x).no ∷ []
 ends_from t [] x h = let same : t ≡ x = cc in ap (λ k. k ∷ []) (no_out t ∙ ap (λ y. (out-FrozenTask y).no) same)
 ends_from t (u ∷ us) x h = ends_from u us x h
 
@@ -128,46 +128,46 @@ never_from t (u ∷ us) h = never_from u us h
 less_one : (t : FrozenTask) (ts : List FrozenTask) → length (t ∷ ts) - 1 ≡ length ts
 less_one t ts = omega arith
 
-pub ends_last : (ts : List FrozenTask) (x : FrozenTask) → Some x ≡ slice_get ts (length ts - 1) → ends_of (steps (map task_in ts) stop) ≡ (out-FrozenTask x).no ∷ []
+pub ends_last : (ts : List FrozenTask) (x : FrozenTask) → Some x ≡ slice_get ts (length ts - 1) → ends_of (steps_onto (map task_in ts) stop) ≡ (out-FrozenTask x).no ∷ []
 ends_last [] x h = cc
 ends_last (t ∷ ts) x h = ends_from t ts x (h ∙ ap (slice_get (t ∷ ts)) (less_one t ts))
 
-pub ends_never : (ts : List FrozenTask) → None ≡ slice_get ts (length ts - 1) → ends_of (steps (map task_in ts) stop) ≡ []
+pub ends_never : (ts : List FrozenTask) → None ≡ slice_get ts (length ts - 1) → ends_of (steps_onto (map task_in ts) stop) ≡ []
 ends_never [] h = refl
 ends_never (t ∷ ts) h = absurd (never_from t ts (h ∙ ap (slice_get (t ∷ ts)) (less_one t ts)))
 
 -- ---- a group pushed, with the groups in its members
 
 module _ (gs : List Group) (g : Group) where
-  teams_pushed : map team (gs ++ g ∷ []) ≡ map team gs ++ team g ∷ []
-  teams_pushed = map-append team gs (g ∷ [])
+  entries_pushed : map group_entry (gs ++ g ∷ []) ≡ map group_entry gs ++ group_entry g ∷ []
+  entries_pushed = map-append group_entry gs (g ∷ [])
 
-same_team : (g : Group) (b : Bool) (ms : List ℕ) → g.chord ≡ b → g.members.items ≡ ms → team g ≡ record { chord = b; members = ms }
-same_team g b ms hb hm = ap (λ x. record { chord = x; members = g.members.items }) hb ∙ ap (λ x. record { chord = b; members = x }) hm
+same_entry : (g : Group) (b : Bool) (ms : List ℕ) → g.chord ≡ b → g.members.items ≡ ms → group_entry g ≡ record { chord = b; members = ms }
+same_entry g b ms hb hm = ap (λ x. record { chord = x; members = g.members.items }) hb ∙ ap (λ x. record { chord = b; members = x }) hm
 
 pub chord_pushed : (t : FrozenEnd) (b : FrozenLine) → (out-FrozenEnd t).body ≡ Some b
     → (g : Group) (gs gs1 gs2 : List Group) (xs ys : List FrozenLine)
     → g.chord ≡ true → g.members.items ≡ lines_ends (map line_in xs) → xs ≡ (out-FrozenEnd t).members
-    → gs1 ≡ gs ++ g ∷ [] → map team gs2 ≡ map team gs1 ++ lines_all_teams (map line_in ys) → ys ≡ (out-FrozenEnd t).members
-    → map team gs2 ++ teams (line_in b) ≡ map team gs ++ teams (end_in t)
+    → gs1 ≡ gs ++ g ∷ [] → map group_entry gs2 ≡ map group_entry gs1 ++ lines_group_entries (map line_in ys) → ys ≡ (out-FrozenEnd t).members
+    → map group_entry gs2 ++ group_entries (line_in b) ≡ map group_entry gs ++ group_entries (end_in t)
 chord_pushed t b e g gs gs1 gs2 xs ys hc hm hx h1 h2 hy =
     let ls : List Line = map line_in (out-FrozenEnd t).members in
-    let own : Team = record { chord = true; members = lines_ends ls } in
-    let first : team g ≡ own = same_team g true (lines_ends ls) hc (hm ∙ ap (λ zs. lines_ends (map line_in zs)) hx) in
-    let before : map team gs1 ≡ map team gs ++ own ∷ [] = ap (map team) h1 ∙ teams_pushed gs g ∙ ap (λ x. map team gs ++ x ∷ []) first in
-    let all : map team gs2 ≡ (map team gs ++ own ∷ []) ++ lines_all_teams ls = h2 ∙ ap (λ x. x ++ lines_all_teams (map line_in ys)) before ∙ ap (λ zs. (map team gs ++ own ∷ []) ++ lines_all_teams (map line_in zs)) hy in
-    ap (λ x. x ++ teams (line_in b)) (all ∙ append_assoc (map team gs) (own ∷ []) (lines_all_teams ls)) ∙ append_assoc (map team gs) (own ∷ lines_all_teams ls) (teams (line_in b))
-    ∙ ap (λ x. map team gs ++ x) (sym (teams_chord t b e))
+    let own : GroupEntry = record { chord = true; members = lines_ends ls } in
+    let first : group_entry g ≡ own = same_entry g true (lines_ends ls) hc (hm ∙ ap (λ zs. lines_ends (map line_in zs)) hx) in
+    let before : map group_entry gs1 ≡ map group_entry gs ++ own ∷ [] = ap (map group_entry) h1 ∙ entries_pushed gs g ∙ ap (λ x. map group_entry gs ++ x ∷ []) first in
+    let all : map group_entry gs2 ≡ (map group_entry gs ++ own ∷ []) ++ lines_group_entries ls = h2 ∙ ap (λ x. x ++ lines_group_entries (map line_in ys)) before ∙ ap (λ zs. (map group_entry gs ++ own ∷ []) ++ lines_group_entries (map line_in zs)) hy in
+    ap (λ x. x ++ group_entries (line_in b)) (all ∙ append_assoc (map group_entry gs) (own ∷ []) (lines_group_entries ls)) ∙ append_assoc (map group_entry gs) (own ∷ lines_group_entries ls) (group_entries (line_in b))
+    ∙ ap (λ x. map group_entry gs ++ x) (sym (entries_chord t b e))
 
 pub group_pushed : (t : FrozenEnd) → (out-FrozenEnd t).body ≡ None
     → (g : Group) (gs gs1 : List Group) (xs ys : List FrozenLine)
     → g.chord ≡ false → g.members.items ≡ lines_ends (map line_in xs) → xs ≡ (out-FrozenEnd t).members
     → gs1 ≡ gs ++ g ∷ [] → ys ≡ (out-FrozenEnd t).members
-    → map team gs1 ++ lines_all_teams (map line_in ys) ≡ map team gs ++ teams (end_in t)
+    → map group_entry gs1 ++ lines_group_entries (map line_in ys) ≡ map group_entry gs ++ group_entries (end_in t)
 group_pushed t e g gs gs1 xs ys hc hm hx h1 hy =
     let ls : List Line = map line_in (out-FrozenEnd t).members in
-    let own : Team = record { chord = false; members = lines_ends ls } in
-    let first : team g ≡ own = same_team g false (lines_ends ls) hc (hm ∙ ap (λ zs. lines_ends (map line_in zs)) hx) in
-    let before : map team gs1 ≡ map team gs ++ own ∷ [] = ap (map team) h1 ∙ teams_pushed gs g ∙ ap (λ x. map team gs ++ x ∷ []) first in
-    ap (λ x. x ++ lines_all_teams (map line_in ys)) before ∙ ap (λ zs. (map team gs ++ own ∷ []) ++ lines_all_teams (map line_in zs)) hy
-    ∙ append_assoc (map team gs) (own ∷ []) (lines_all_teams ls) ∙ ap (λ x. map team gs ++ x) (sym (teams_group t e))
+    let own : GroupEntry = record { chord = false; members = lines_ends ls } in
+    let first : group_entry g ≡ own = same_entry g false (lines_ends ls) hc (hm ∙ ap (λ zs. lines_ends (map line_in zs)) hx) in
+    let before : map group_entry gs1 ≡ map group_entry gs ++ own ∷ [] = ap (map group_entry) h1 ∙ entries_pushed gs g ∙ ap (λ x. map group_entry gs ++ x ∷ []) first in
+    ap (λ x. x ++ lines_group_entries (map line_in ys)) before ∙ ap (λ zs. (map group_entry gs ++ own ∷ []) ++ lines_group_entries (map line_in zs)) hy
+    ∙ append_assoc (map group_entry gs) (own ∷ []) (lines_group_entries ls) ∙ ap (λ x. map group_entry gs ++ x) (sym (entries_group t e))

@@ -3,21 +3,21 @@ use Rattle.std.proofs.Common.{◌≡◌, ◌<◌, ◌≤◌, ◌-◌, ◌∙◌,
 use Rattle.std.proofs.lemmas.Option.{slice_get_read, slice_get_past, slice_get-map}
 use Rattle.std.specs.List.{HoldsAt}
 use Rattle.std.specs.Option.{option_map}
-use Rattle.canvas_semantics.specs.Line.{Team, team_at}
-use Rattle.canvas_rewrite.specs.Teams.{team}
+use Rattle.canvas_semantics.specs.Line.{GroupEntry, entry_at}
+use Rattle.canvas_rewrite.specs.steps.GroupData.{group_entry}
 use Rattle.canvas_rewrite.specs.declared.groups.Group.{Group}
 
-below : (ts : List Team) (g : ℕ) → 1 ≤ g → slice_get ts (g - 1) ≡ team_at ts g
+below : (ts : List GroupEntry) (g : ℕ) → 1 ≤ g → slice_get ts (g - 1) ≡ entry_at ts g
 below ts zero h = absurd (omega arith)
 below ts (suc g) h = ap (slice_get ts) (omega arith)
 
 got : (r : Option (Bor Group)) (gs : List Group) (i : ℕ) → MatchOption r (length gs ≤ i) (λ x. (i < length gs) × HoldsAt (λ y. x.now ≡ y) gs i)
-    → option_map (λ g. team g.now) r ≡ option_map team (slice_get gs i)
-got None gs i h = ap (option_map team) (sym (slice_get_past gs i h))
-got (Some g) gs i h = ap (option_map team) (sym (slice_get_read gs (length gs) i g.now refl h.0 (h.1 g.now)))
+    → option_map (λ g. group_entry g.now) r ≡ option_map group_entry (slice_get gs i)
+got None gs i h = ap (option_map group_entry) (sym (slice_get_past gs i h))
+got (Some g) gs i h = ap (option_map group_entry) (sym (slice_get_read gs (length gs) i g.now refl h.0 (h.1 g.now)))
 
-pub team_found : (r : Option (Bor Group)) (gs : List Group) (ts : List Team) (g : ℕ) → map team gs ≡ ts → 1 ≤ g
+pub entry_found : (r : Option (Bor Group)) (gs : List Group) (ts : List GroupEntry) (g : ℕ) → map group_entry gs ≡ ts → 1 ≤ g
     → MatchOption r (length gs ≤ g - 1) (λ x. (g - 1 < length gs) × HoldsAt (λ y. x.now ≡ y) gs (g - 1))
-    → option_map (λ x. team x.now) r ≡ team_at ts g
-team_found r gs ts g same h m =
-    got r gs (g - 1) m ∙ sym (slice_get-map team gs (g - 1)) ∙ ap (λ us. slice_get us (g - 1)) same ∙ below ts g h
+    → option_map (λ x. group_entry x.now) r ≡ entry_at ts g
+entry_found r gs ts g same h m =
+    got r gs (g - 1) m ∙ sym (slice_get-map group_entry gs (g - 1)) ∙ ap (λ us. slice_get us (g - 1)) same ∙ below ts g h

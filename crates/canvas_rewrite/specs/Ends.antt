@@ -8,6 +8,6 @@ abbrev pub is_list : Ends → Bool
 is_list (One task) = false
 is_list (Many tasks) = true
 
-abbrev pub tasks_of : Ends → List ℕ
-tasks_of (One task) = task ∷ []
-tasks_of (Many tasks) = tasks.now
+abbrev pub end_tasks : Ends → List ℕ
+end_tasks (One task) = task ∷ []
+end_tasks (Many tasks) = tasks.now

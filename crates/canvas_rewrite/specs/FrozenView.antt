@@ -16,9 +16,9 @@ use Rattle.canvas_rewrite.specs.declared.frozen.Carried.TheOpen.{FrozenTask-F, P
 
 -- ---- lines without numbers: each number is 0
 
-abbrev pub steps : List Task → Line → Line
-steps [] l = l
-steps (t ∷ ts) l = step t (steps ts l)
+abbrev pub steps_onto : List Task → Line → Line
+steps_onto [] l = l
+steps_onto (t ∷ ts) l = step t (steps_onto ts l)
 
 abbrev pub lines_of : List Line → Lines
 lines_of [] = no_lines
@@ -33,7 +33,7 @@ ended ms None = group_end 0 (lines_of ms)
 ended ms (Some b) = chord_end 0 (lines_of ms) b
 
 abbrev pub line_step : Line-F Line Line → Line
-line_step l = steps (map task_view l.tasks) (tail_of l.tail)
+line_step l = steps_onto (map task_view l.tasks) (tail_of l.tail)
 
 abbrev pub end_step : LineEnd-F Line Line → Line
 end_step e = ended e.members e.body
@@ -75,9 +75,9 @@ pub record Load : Type 0 where
   pub size : ℕ
   pub body : PLine
 
-abbrev pub place_with : ℕ → Option Load → PPlace
-place_with g None = p_group g
-place_with g (Some c) = p_chord g c.size c.body
+abbrev pub place_carrying : ℕ → Option Load → PPlace
+place_carrying g None = p_group g
+place_carrying g (Some c) = p_chord g c.size c.body
 
 abbrev pub carried_step : Carried-F Load PLine PLine PTask PPlace → Load
 carried_step c = record { size = c.size; body = c.body.value }
@@ -93,7 +93,7 @@ p_task_step t =
     p_task t.no (record { name = t.name; args = t.args; kwargs = t.kwargs; immutable = t.immutable }) (p_tasks_of t.links) (p_tasks_of t.errbacks) (place_or t.place)
 
 abbrev pub place_step : Place-F Load PLine PLine PTask PPlace → PPlace
-place_step p = place_with p.group p.chord
+place_step p = place_carrying p.group p.chord
 
 abbrev pub p_task_view : frozen_task.FrozenTask → PTask
 p_task_view = frozen_task.fold-FrozenTask Load PLine PLine PTask PPlace carried_step p_end_step p_line_step p_task_step place_step

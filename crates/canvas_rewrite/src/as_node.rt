@@ -2,7 +2,7 @@
 ghost use Rattle.std.specs.Prelude.{◌≡◌, ◌++◌, IfOk, map};
 ghost use Rattle.canvas_semantics.specs.Tree.{one, no_trees, and_tree};
 ghost use Rattle.canvas_sig.specs.View.{view, task_view, trees_of};
-ghost use Rattle.canvas_semantics.specs.Compact.{whole, compact, compact_elements};
+ghost use Rattle.canvas_semantics.specs.Compact.{element_or_chain, compact, compact_elements};
 ghost use Rattle.canvas_rewrite.specs.FrozenView.{line_of, end_of};
 ghost use Rattle.canvas_semantics.specs.SameMeaning.{IsSame};
 ghost use Rattle.canvas_rewrite.specs.View.{line_view};
@@ -14,7 +14,7 @@ use std::alloc::{AllocError, Global};
 
 /// One element as it is, and more as a chain.
 fn whole(nodes: Vec<Node>) -> Node
-    ensures { view result ≡ whole (trees_of (map view nodes.items)) }
+    ensures { view result ≡ element_or_chain (trees_of (map view nodes.items)) }
 {
     let mut nodes = nodes;
     if nodes.len() == 1 {

@@ -1,9 +1,9 @@
 // What a plan keeps beside its line.
 ghost use Rattle.std.specs.Prelude.{◌≡◌, ◌++◌, IfOk, map, OnOk};
-ghost use Rattle.canvas_semantics.specs.Line.{ends_of, teams, in_group};
+ghost use Rattle.canvas_semantics.specs.Line.{ends_of, group_entries, in_group};
 ghost use Rattle.canvas_rewrite.specs.FrozenView.{line_in, end_in};
-ghost use Rattle.canvas_semantics.specs.Numbering.{lines_ends, lines_all_teams};
-ghost use Rattle.canvas_rewrite.specs.Teams.{team};
+ghost use Rattle.canvas_semantics.specs.steps.Numbering.{lines_ends, lines_group_entries};
+ghost use Rattle.canvas_rewrite.specs.steps.GroupData.{group_entry};
 
 use crate::{FrozenEnd, FrozenLine};
 use canvas_task::TaskNo;
@@ -73,7 +73,7 @@ pub(crate) fn push_groups(
     line: &FrozenLine,
     groups: &mut Vec<Group>,
 ) -> Result<(), AllocError>
-    ensures { OnOk result (map team groups.new.items ≡ map team groups.old.items ++ teams (line_in line.now)) }
+    ensures { OnOk result (map group_entry groups.new.items ≡ map group_entry groups.old.items ++ group_entries (line_in line.now)) }
 {
     match &line.tail {
         Some(end) => push_group(alloc, end, groups),
@@ -83,7 +83,7 @@ pub(crate) fn push_groups(
 
 #[cycle(groups)]
 fn push_group(alloc: Global, end: &FrozenEnd, groups: &mut Vec<Group>) -> Result<(), AllocError>
-    ensures { OnOk result (map team groups.new.items ≡ map team groups.old.items ++ teams (end_in end.now)) }
+    ensures { OnOk result (map group_entry groups.new.items ≡ map group_entry groups.old.items ++ group_entries (end_in end.now)) }
 {
     let mut members = Vec::new(alloc);
     push_all(end.members.get(), &mut members)?;
@@ -112,7 +112,7 @@ fn push_all_groups(
     lines: &[FrozenLine],
     groups: &mut Vec<Group>,
 ) -> Result<(), AllocError>
-    ensures { OnOk result (map team groups.new.items ≡ map team groups.old.items ++ lines_all_teams (map line_in lines.now)) }
+    ensures { OnOk result (map group_entry groups.new.items ≡ map group_entry groups.old.items ++ lines_group_entries (map line_in lines.now)) }
 {
     for line in lines {
         push_groups(alloc, line, groups)?;

@@ -2,7 +2,7 @@
 ghost use Rattle.std.specs.Prelude.{◌≡◌, ◌++◌, OnOk, map};
 ghost use Rattle.canvas_semantics.specs.Line.{task_names, names};
 ghost use Rattle.canvas_rewrite.specs.FrozenView.{task_in, line_in, end_in};
-ghost use Rattle.canvas_semantics.specs.Numbering.{tasks_all_names, lines_all_names};
+ghost use Rattle.canvas_semantics.specs.steps.Numbering.{tasks_all_names, lines_all_names};
 
 use crate::{FrozenEnd, FrozenLine, FrozenTask};
 use canvas_task::TextOf;

@@ -5,7 +5,7 @@ ghost use Rattle.canvas_sig.specs.View.{task_view};
 ghost use Rattle.canvas_semantics.specs.Line.{count_line, line_groups, number_line};
 ghost use Rattle.canvas_semantics.specs.PlacedLine.{bare, bare_task};
 ghost use Rattle.canvas_rewrite.specs.FrozenView.{line_of, end_of, p_task_view, p_line_view, p_end_view};
-ghost use Rattle.canvas_semantics.specs.Numbering.{most, tasks_from, tasks_in, lines_from, lines_count, lines_teams, HasRoom};
+ghost use Rattle.canvas_semantics.specs.steps.Numbering.{greatest_number, tasks_from, tasks_in, lines_from, lines_count, lines_group_count, HasRoom};
 
 use crate::{FrozenEnd, FrozenLine, FrozenTask, Line, LineEnd};
 use canvas_sig::TaskSig;
@@ -31,7 +31,7 @@ fn group_no(number: u32) -> GroupNo
 #[tactic(auto, using(crate::proofs::FrozenViews::task_counted))]
 fn freeze_task(alloc: Global, sig: &TaskSig, next: &mut u32) -> Result<FrozenTask, AllocError>
     requires first { 1 ≤ next.old }
-    requires few { next.old + count_task (task_view sig.now) ≤ most }
+    requires few { next.old + count_task (task_view sig.now) ≤ greatest_number }
     ensures value { IfOk result (λ t. p_task_view t ≡ bare_task (number_task next.old (task_view sig.now))) }
     ensures next { IfOk result (λ _. next.new ≡ next.old + count_task (task_view sig.now)) }
 {
@@ -61,7 +61,7 @@ fn freeze_tasks(
     next: &mut u32,
 ) -> Result<Vec<FrozenTask>, AllocError>
     requires first { 1 ≤ next.old }
-    requires few { next.old + tasks_in (map task_view sigs.now) ≤ most }
+    requires few { next.old + tasks_in (map task_view sigs.now) ≤ greatest_number }
     ensures value { IfOk result (λ ts. map p_task_view ts.items ≡ tasks_from next.old (map task_view sigs.now)) }
     ensures next { IfOk result (λ _. next.new ≡ next.old + tasks_in (map task_view sigs.now)) }
 {
@@ -138,10 +138,10 @@ fn freeze_lines(
     task: &mut u32,
     group: &mut u32,
 ) -> Result<Vec<FrozenLine>, AllocError>
-    requires { HasRoom task.old group.old (lines_count (map line_of lines.now)) (lines_teams (map line_of lines.now)) }
+    requires { HasRoom task.old group.old (lines_count (map line_of lines.now)) (lines_group_count (map line_of lines.now)) }
     ensures value { IfOk result (λ ls. map p_line_view ls.items ≡ lines_from task.old group.old (map line_of lines.now)) }
     ensures task { IfOk result (λ _. task.new ≡ task.old + lines_count (map line_of lines.now)) }
-    ensures group { IfOk result (λ _. group.new ≡ group.old + lines_teams (map line_of lines.now)) }
+    ensures group { IfOk result (λ _. group.new ≡ group.old + lines_group_count (map line_of lines.now)) }
 {
     let mut frozen = Vec::new(alloc);
     for line in lines {

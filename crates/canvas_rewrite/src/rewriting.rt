@@ -4,7 +4,7 @@ ghost use Rattle.std.specs.Option.{option_map};
 ghost use Rattle.canvas_semantics.specs.Tree.{no_trees, and_tree, one};
 ghost use Rattle.canvas_sig.specs.View.{view, trees_of};
 ghost use Rattle.canvas_rewrite.specs.View.{elements, line_view, chains};
-ghost use Rattle.canvas_rewrite.specs.Growing.{growing};
+ghost use Rattle.canvas_rewrite.specs.steps.Growing.{growing};
 ghost use Rattle.canvas_rewrite.specs.Runnable.{IsRunnable};
 ghost use Rattle.canvas_semantics.specs.SameMeaning.{IsSame};
 ghost use Rattle.canvas_semantics.specs.NormalLine.{onto, group_onto, all_onto, normal, normal_all};

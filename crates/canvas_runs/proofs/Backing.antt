@@ -2,7 +2,7 @@
 use Rattle.std.proofs.Common.{⊎_elim, ◌≡◌, ◌⊎◌, ℕ, Bool, true, false, List, [], ◌∷◌, ◌++◌, Option, Some, None, refl, sym, ap, subst, ◌∙◌, inl, inr, append_assoc}
 use Rattle.canvas_message.specs.Events.{In}
 use Rattle.canvas_message.specs.Job.{store, publish, hand_in}
-use Rattle.canvas_message.specs.Flowing.{Input, number, numbers, ident, Flow, run, skip, raise}
+use Rattle.canvas_message.specs.Flowing.{Input, number_input, list_input, id_input, LineFlow, run, skips, raise}
 use Rattle.canvas_semantics.specs.Line.{Line, stop, step, group_end, chord_end, Lines, no_lines, and_line, no_of}
 use Rattle.canvas_semantics.specs.Tree.{Tasks, no_tasks, and_task}
 use Rattle.canvas_task.specs.declared.outcome.Outcome.{Outcome}
@@ -85,8 +85,8 @@ module _ (members : ℕ → List ℕ) where
     run_none (step k rest) x p t u low high behind s e n = refl
     run_none (group_end g ms) x p t u low high behind s e n = elim e [ ]
     run_none (chord_end g ms body) x p t u low high behind s e n =
-        none_both (enter_all ms (run x) (members_place g ms body p) u) (when_empty ms (enter body (run (numbers [])) p 0 u))
-        (run_all_none ms x (members_place g ms body p) u low n.0 n.1) (empty_none ms (enter body (run (numbers [])) p 0 u) (run_none body (numbers []) p 0 u n.0 high false (not_empty body e) e n.2))
+        none_both (enter_all ms (run x) (members_place g ms body p) u) (when_empty ms (enter body (run (list_input [])) p 0 u))
+        (run_all_none ms x (members_place g ms body p) u low n.0 n.1) (empty_none ms (enter body (run (list_input [])) p 0 u) (run_none body (list_input []) p 0 u n.0 high false (not_empty body e) e n.2))
 
     run_all_none : (ms : Lines) (x : Input) (p : Place) (u : Option ℕ) (low high : ℕ) → LinesIn members ms low high → NoParts (enter_all ms (run x) p u)
     run_all_none no_lines x p u low high n = refl
@@ -94,55 +94,55 @@ module _ (members : ℕ → List ℕ) where
         none_both (enter m (run x) p 0 u) (enter_all ms (run x) p u) (run_none m x p 0 u low n.0 false (not_empty m n.2) n.2 n.1) (run_all_none ms x p u n.0 high n.3)
 
   mutual
-    pub open_none : (l : Line) (x : Flow) (p : Place) (t : ℕ) (u : Option ℕ) (low high : ℕ) → IsOpen p → LineIn members l low high → NoParts (enter l x p t u)
+    pub open_none : (l : Line) (x : LineFlow) (p : Place) (t : ℕ) (u : Option ℕ) (low high : ℕ) → IsOpen p → LineIn members l low high → NoParts (enter l x p t u)
     open_none stop x p t u low high o n = stop_none p t o
     open_none (step k rest) (run x) p t u low high o n = refl
-    open_none (step k rest) (skip f) p t u low high o n = open_none rest (skip f) p (no_of k) u n.0 high o n.2
+    open_none (step k rest) (skips f) p t u low high o n = open_none rest (skips f) p (no_of k) u n.0 high o n.2
     open_none (step k rest) (raise f) p t u low high o n =
-        none_both (callbacks (errbacks_of k) (ident (no_of k)) u) (enter rest (skip f) p (no_of k) u) (callbacks_none (errbacks_of k) (ident (no_of k)) u) (open_none rest (skip f) p (no_of k) u n.0 high o n.2)
+        none_both (callbacks (errbacks_of k) (id_input (no_of k)) u) (enter rest (skips f) p (no_of k) u) (callbacks_none (errbacks_of k) (id_input (no_of k)) u) (open_none rest (skips f) p (no_of k) u n.0 high o n.2)
     open_none (group_end g ms) x p t u low high o n = open_all_none ms x (in_group g) u low high tt n.0
     open_none (chord_end g ms body) (run x) p t u low high o n =
-        none_both (enter_all ms (run x) (members_place g ms body p) u) (when_empty ms (enter body (run (numbers [])) p 0 u))
-        (run_all_none ms x (members_place g ms body p) u low n.0 n.1) (empty_none ms (enter body (run (numbers [])) p 0 u) (open_none body (run (numbers [])) p 0 u n.0 high o n.2))
-    open_none (chord_end g ms body) (skip f) p t u low high o n =
-        none_both (enter_all ms (skip f) nowhere u) (enter body (skip f) p 0 u) (open_all_none ms (skip f) nowhere u low n.0 tt n.1) (open_none body (skip f) p 0 u n.0 high o n.2)
+        none_both (enter_all ms (run x) (members_place g ms body p) u) (when_empty ms (enter body (run (list_input [])) p 0 u))
+        (run_all_none ms x (members_place g ms body p) u low n.0 n.1) (empty_none ms (enter body (run (list_input [])) p 0 u) (open_none body (run (list_input [])) p 0 u n.0 high o n.2))
+    open_none (chord_end g ms body) (skips f) p t u low high o n =
+        none_both (enter_all ms (skips f) nowhere u) (enter body (skips f) p 0 u) (open_all_none ms (skips f) nowhere u low n.0 tt n.1) (open_none body (skips f) p 0 u n.0 high o n.2)
     open_none (chord_end g ms body) (raise f) p t u low high o n =
         none_both (enter_all ms (raise f) nowhere u) (enter body (raise (header_fault ms f)) p 0 u) (open_all_none ms (raise f) nowhere u low n.0 tt n.1) (open_none body (raise (header_fault ms f)) p 0 u n.0 high o n.2)
 
-    open_all_none : (ms : Lines) (x : Flow) (p : Place) (u : Option ℕ) (low high : ℕ) → IsOpen p → LinesIn members ms low high → NoParts (enter_all ms x p u)
+    open_all_none : (ms : Lines) (x : LineFlow) (p : Place) (u : Option ℕ) (low high : ℕ) → IsOpen p → LinesIn members ms low high → NoParts (enter_all ms x p u)
     open_all_none no_lines x p u low high o n = refl
     open_all_none (and_line m ms) x p u low high o n =
         none_both (enter m x p 0 u) (enter_all ms x p u) (open_none m x p 0 u low n.0 o n.1) (open_all_none ms x p u n.0 high o n.3)
 
   -- a line whose end goes to a chord
-  chord_shape : (l : Line) (x : Flow) (g : ℕ) (c : Carried) (t : ℕ) (u : Option ℕ) (low high : ℕ) (behind : Bool) → EndsInTask behind l → LineIn members l low high → Shape behind t (enter l x (in_chord g c) t u)
+  chord_shape : (l : Line) (x : LineFlow) (g : ℕ) (c : Carried) (t : ℕ) (u : Option ℕ) (low high : ℕ) (behind : Bool) → EndsInTask behind l → LineIn members l low high → Shape behind t (enter l x (in_chord g c) t u)
   chord_shape stop x g c t u low high behind e n = inr (g, t, c, refl, inl (e, refl))
   chord_shape (step k rest) (run x) g c t u low high behind e n = inl refl
-  chord_shape (step k rest) (skip f) g c t u low high behind e n =
-      shape_store behind t (no_of k) (Failure f) (enter rest (skip f) (in_chord g c) (no_of k) u) (chord_shape rest (skip f) g c (no_of k) u n.0 high true e n.2)
+  chord_shape (step k rest) (skips f) g c t u low high behind e n =
+      shape_store behind t (no_of k) (Failure f) (enter rest (skips f) (in_chord g c) (no_of k) u) (chord_shape rest (skips f) g c (no_of k) u n.0 high true e n.2)
   chord_shape (step k rest) (raise f) g c t u low high behind e n =
-      shape_store behind t (no_of k) (Failure f) (callbacks (errbacks_of k) (ident (no_of k)) u ++ enter rest (skip f) (in_chord g c) (no_of k) u)
-      (shape_after true (no_of k) (callbacks (errbacks_of k) (ident (no_of k)) u) (enter rest (skip f) (in_chord g c) (no_of k) u) (callbacks_none (errbacks_of k) (ident (no_of k)) u)
-      (chord_shape rest (skip f) g c (no_of k) u n.0 high true e n.2))
+      shape_store behind t (no_of k) (Failure f) (callbacks (errbacks_of k) (id_input (no_of k)) u ++ enter rest (skips f) (in_chord g c) (no_of k) u)
+      (shape_after true (no_of k) (callbacks (errbacks_of k) (id_input (no_of k)) u) (enter rest (skips f) (in_chord g c) (no_of k) u) (callbacks_none (errbacks_of k) (id_input (no_of k)) u)
+      (chord_shape rest (skips f) g c (no_of k) u n.0 high true e n.2))
   chord_shape (group_end h ms) x g c t u low high behind e n = elim e [ ]
   chord_shape (chord_end h ms body) (run x) g c t u low high behind e n = inl (run_none (chord_end h ms body) x (in_chord g c) t u low high behind not_stop e n)
     where
       not_stop : chord_end h ms body ≡ stop → ⊥
       not_stop s = cc
-  chord_shape (chord_end h ms body) (skip f) g c t u low high behind e n =
-      shape_any behind t _ (shape_after false 0 (enter_all ms (skip f) nowhere u) (enter body (skip f) (in_chord g c) 0 u) (open_all_none ms (skip f) nowhere u low n.0 tt n.1) (chord_shape body (skip f) g c 0 u n.0 high false e n.2))
+  chord_shape (chord_end h ms body) (skips f) g c t u low high behind e n =
+      shape_any behind t _ (shape_after false 0 (enter_all ms (skips f) nowhere u) (enter body (skips f) (in_chord g c) 0 u) (open_all_none ms (skips f) nowhere u low n.0 tt n.1) (chord_shape body (skips f) g c 0 u n.0 high false e n.2))
   chord_shape (chord_end h ms body) (raise f) g c t u low high behind e n =
       shape_any behind t _ (shape_after false 0 (enter_all ms (raise f) nowhere u) (enter body (raise (header_fault ms f)) (in_chord g c) 0 u) (open_all_none ms (raise f) nowhere u low n.0 tt n.1)
       (chord_shape body (raise (header_fault ms f)) g c 0 u n.0 high false e n.2))
 
-  pub enter_shape : (l : Line) (x : Flow) (p : Place) (t : ℕ) (u : Option ℕ) (low high : ℕ) (behind : Bool) → Lands members p behind t l → LineIn members l low high → Shape behind t (enter l x p t u)
+  pub enter_shape : (l : Line) (x : LineFlow) (p : Place) (t : ℕ) (u : Option ℕ) (low high : ℕ) (behind : Bool) → Lands members p behind t l → LineIn members l low high → Shape behind t (enter l x p t u)
   enter_shape l x nowhere t u low high behind e n = inl (open_none l x nowhere t u low high tt n)
   enter_shape l x (in_group g) t u low high behind e n = inl (open_none l x (in_group g) t u low high tt n)
   enter_shape l x (in_chord g c) t u low high behind e n = chord_shape l x g c t u low high behind e.0 n
 
   called_none : (m : Message) (o : Outcome) → NoParts (called m.links m.errbacks m.no o)
-  called_none m (Success n) = callbacks_none m.links (number n) (Some m.no)
-  called_none m (Failure f) = callbacks_none m.errbacks (ident m.no) (Some m.no)
+  called_none m (Success n) = callbacks_none m.links (number_input n) (Some m.no)
+  called_none m (Failure f) = callbacks_none m.errbacks (id_input m.no) (Some m.no)
 
   pub ended_shape : (limit : ℕ) (m : Message) (o : Outcome) → Formed members limit m → Shape true m.no (called m.links m.errbacks m.no o ++ enter m.rest (after_outcome o) m.place m.no (Some m.no))
   ended_shape limit m o (a, b, c, one, top, i, j, r, q, s) =
@@ -190,8 +190,8 @@ module _ (p : Plan) where
   backs = record { ended = λ m o f. ended_backed m o f; completed = λ g t c fs f e. completed_backed g t c fs f }
     where
       called_none : (m : Message) (o : Outcome) → NoParts (called m.links m.errbacks m.no o)
-      called_none m (Success n) = callbacks_none p.members m.links (number n) (Some m.no)
-      called_none m (Failure f) = callbacks_none p.members m.errbacks (ident m.no) (Some m.no)
+      called_none m (Success n) = callbacks_none p.members m.links (number_input n) (Some m.no)
+      called_none m (Failure f) = callbacks_none p.members m.errbacks (id_input m.no) (Some m.no)
 
       ended_backed : (m : Message) (o : Outcome) → Formed p.members p.limit m → Behind (m.no ∷ []) (after m o)
       ended_backed m o (a, b, c, one, top, i, j, r, q, s) =

@@ -6,7 +6,7 @@ use Rattle.canvas_message.specs.Job.{store, publish, hand_in}
 use Rattle.canvas_runs.specs.Protocol.{Protocol}
 use Rattle.canvas_message.specs.Events.{Event, start, completion}
 use Rattle.canvas_runs.proofs.Meaning.{Form, After, Beyond, Ordered, Evaluates, Once, KeptOnce, publishes, keeps, names, Has, IsReturned}
-use Rattle.canvas_message.specs.Flowing.{nothing, number, numbers, ident, Flow, run, skip, raise}
+use Rattle.canvas_message.specs.Flowing.{no_input, number_input, list_input, id_input, LineFlow, run, skips, raise}
 use Rattle.canvas_task.specs.declared.outcome.Outcome.{Outcome}
 use Rattle.canvas_task.specs.declared.outcome.Outcome.TheVariants.{Success, Failure}
 use Rattle.canvas_runs.proofs.Messages.{nowhere, in_chord, Carried, carried, Message, header, joined_number}
@@ -76,13 +76,13 @@ canvas p = record {
   Back = λ m. Unit;
   opened = λ m. Some m;
   members = p.members;
-  first = messages_of (enter p.line (run nothing) nowhere 0 None);
+  first = messages_of (enter p.line (run no_input) nowhere 0 None);
 }
 
 module _ (members : ℕ → List ℕ) where
   pub called_rises : (d : Bool) (m : Message) (o : Outcome) (a b : ℕ) → TasksIn m.links (suc m.no) a → TasksIn m.errbacks a b → Rises (job_key d) (suc m.no) (called m.links m.errbacks m.no o) b
-  called_rises d m (Success n) a b i j = rises_higher (job_key d) (suc m.no) a b (callbacks m.links (number n) (Some m.no)) (tasks_span m.errbacks a b j) (callbacks_rise members d m.links (number n) (Some m.no) (suc m.no) a i)
-  called_rises d m (Failure f) a b i j = rises_lower (job_key d) (suc m.no) a (callbacks m.errbacks (ident m.no) (Some m.no)) b (tasks_span m.links (suc m.no) a i) (callbacks_rise members d m.errbacks (ident m.no) (Some m.no) a b j)
+  called_rises d m (Success n) a b i j = rises_higher (job_key d) (suc m.no) a b (callbacks m.links (number_input n) (Some m.no)) (tasks_span m.errbacks a b j) (callbacks_rise members d m.links (number_input n) (Some m.no) (suc m.no) a i)
+  called_rises d m (Failure f) a b i j = rises_lower (job_key d) (suc m.no) a (callbacks m.errbacks (id_input m.no) (Some m.no)) b (tasks_span m.links (suc m.no) a i) (callbacks_rise members d m.errbacks (id_input m.no) (Some m.no) a b j)
 
 module _ (p : Plan) where
   abbrev pub X : Protocol
@@ -100,18 +100,18 @@ module _ (p : Plan) where
   messages_each P Q f (publish m ∷ js) a = (f m a.0, messages_each P Q f js a.1)
   messages_each P Q f (hand_in g t c ∷ js) a = messages_each P Q f js a.1
 
-  first_after : Each (AtLeast p.members p.limit 0 0) (enter p.line (run nothing) nowhere 0 None)
-  first_after = enter_after p.members p.limit p.line (run nothing) nowhere 0 None false 0 0 1 p.limit (omega arith) (omega arith) (λ e. omega arith) (omega arith) (le_refl _) tt tt p.numbered tt tt
+  first_after : Each (AtLeast p.members p.limit 0 0) (enter p.line (run no_input) nowhere 0 None)
+  first_after = enter_after p.members p.limit p.line (run no_input) nowhere 0 None false 0 0 1 p.limit (omega arith) (omega arith) (λ e. omega arith) (omega arith) (le_refl _) tt tt p.numbered tt tt
 
   called_after : (m : Message) (o : Outcome) (a b : ℕ) → 1 ≤ m.no → b ≤ p.limit → TasksIn m.links (suc m.no) a → TasksIn m.errbacks a b → Each (AtLeast p.members p.limit (suc m.no) m.no) (called m.links m.errbacks m.no o)
   called_after m (Success n) a b one top i j =
       let x = tasks_span m.links (suc m.no) a i in
       let y = tasks_span m.errbacks a b j in
-      callbacks_after p.members p.limit m.links (number n) (Some m.no) (suc m.no) m.no (suc m.no) a (one, omega arith) (le_refl _) (omega arith) (omega arith) i
+      callbacks_after p.members p.limit m.links (number_input n) (Some m.no) (suc m.no) m.no (suc m.no) a (one, omega arith) (le_refl _) (omega arith) (omega arith) i
   called_after m (Failure f) a b one top i j =
       let x = tasks_span m.links (suc m.no) a i in
       let y = tasks_span m.errbacks a b j in
-      callbacks_after p.members p.limit m.errbacks (ident m.no) (Some m.no) (suc m.no) m.no a b (one, omega arith) x (omega arith) top j
+      callbacks_after p.members p.limit m.errbacks (id_input m.no) (Some m.no) (suc m.no) m.no a b (one, omega arith) x (omega arith) top j
 
   later : (j : ℕ) (x : AJob) → AtLeast p.members p.limit (suc j) j x → After X form j x
   later j (store t o) a = a
@@ -123,12 +123,12 @@ module _ (p : Plan) where
   beyond g from (publish m) below a = (each_weaker (λ u l. omega (arith, a.0)) (p.members g) below, a.1)
   beyond g from (hand_in h t c) below a = (each_weaker (λ u l. omega (arith, a.0)) (p.members g) below, a.1)
 
-  joined_in : (n : _) (x : Flow) → FlowIn p.members p.limit None x → FlowIn p.members p.limit None (joined_number n x)
-  joined_in n (run nothing) h = h
-  joined_in n (run (number i)) h = h
-  joined_in n (run (numbers ns)) h = tt
-  joined_in n (run (ident k)) h = h
-  joined_in n (skip f) h = h
+  joined_in : (n : _) (x : LineFlow) → FlowIn p.members p.limit None x → FlowIn p.members p.limit None (joined_number n x)
+  joined_in n (run no_input) h = h
+  joined_in n (run (number_input i)) h = h
+  joined_in n (run (list_input ns)) h = tt
+  joined_in n (run (id_input k)) h = h
+  joined_in n (skips f) h = h
   joined_in n (raise f) h = h
 
   header_in : (fs : List (ℕ × Outcome)) → FlowIn p.members p.limit None (header fs)
@@ -173,7 +173,7 @@ module _ (p : Plan) where
   pub one_outcome : (t : ℕ) (o q : Outcome) → Has X Does t o → Has X Does t q → o ≡ q
   one_outcome t o q a b =
       let same : ◌≡◌ {A = Event × AJob} (a.0, store t o) (b.0, store t q) =
-      rises_unique (item_key false) 1 (evaluated p.line) p.limit (items_rise p.members false p.line (run nothing) nowhere 0 start 1 p.limit p.numbered) (a.0, store t o) (b.0, store t q) t a.1 b.1 refl refl in
+      rises_unique (item_key false) 1 (evaluated p.line) p.limit (items_rise p.members false p.line (run no_input) nowhere 0 start 1 p.limit p.numbered) (a.0, store t o) (b.0, store t q) t a.1 b.1 refl refl in
       let jobs : ◌≡◌ {A = AJob} (store t o) (store t q) = ap (λ x. x.1) same in
       cc
 
@@ -182,16 +182,16 @@ module _ (p : Plan) where
       ⊎_elim (λ e. absurd (no_place e))
       (λ k. subst (λ es. AllIn (completion g) (evaluated p.line) (body_after c es))
       (same_pairs (Has X Does) one_outcome k.0 fs (k.1 ∙ sym same) k.2 has) k.3)
-      (items_parted p.members p.line (run nothing) nowhere 0 start 1 p.limit p.numbered v g t c i)
+      (items_parted p.members p.line (run no_input) nowhere 0 start 1 p.limit p.numbered v g t c i)
     where
       no_place : nowhere ≡ in_chord g c → ⊥
       no_place e = cc
 
   pub value : Evaluates X Does form
   value = record {
-    first = messages_each (λ j. In (start, j) (evaluated p.line)) (λ m. Does start (publish m)) (λ m i. i) _ (enter_in p.line (run nothing) nowhere 0 start);
-    own = λ m r. (items_followed p.line (run nothing) nowhere 0 start r.0 m r.1).0;
-    ended = λ m f r. (items_followed p.line (run nothing) nowhere 0 start r.0 m r.1).1;
+    first = messages_each (λ j. In (start, j) (evaluated p.line)) (λ m. Does start (publish m)) (λ m i. i) _ (enter_in p.line (run no_input) nowhere 0 start);
+    own = λ m r. (items_followed p.line (run no_input) nowhere 0 start r.0 m r.1).0;
+    ended = λ m f r. (items_followed p.line (run no_input) nowhere 0 start r.0 m r.1).1;
     completed = λ g t c fs f r e all. completed_does g t c fs r e all;
   }
 
@@ -215,9 +215,9 @@ module _ (p : Plan) where
   pub once : Once X Does form
   once = record {
     event = λ e f m n i j same. ap (λ x. x.0) (rises_unique (item_key true) 1 (evaluated p.line) p.limit
-        (items_rise p.members true p.line (run nothing) nowhere 0 start 1 p.limit p.numbered) (e, publish m) (f, publish n) m.no i j refl (ap Some (sym same)));
-    at_start = λ k. subst (λ n. n ≤ 1) (sym (first_sends k (enter p.line (run nothing) nowhere 0 None)))
-        (rising_once k 1 p.limit (enter p.line (run nothing) nowhere 0 None) (enter_rises p.members true p.line (run nothing) nowhere 0 None 1 p.limit p.numbered)).0;
+        (items_rise p.members true p.line (run no_input) nowhere 0 start 1 p.limit p.numbered) (e, publish m) (f, publish n) m.no i j refl (ap Some (sym same)));
+    at_start = λ k. subst (λ n. n ≤ 1) (sym (first_sends k (enter p.line (run no_input) nowhere 0 None)))
+        (rising_once k 1 p.limit (enter p.line (run no_input) nowhere 0 None) (enter_rises p.members true p.line (run no_input) nowhere 0 None 1 p.limit p.numbered)).0;
     at_end = λ k m f. ended_once k m f;
     at_completion = λ k g t c fs f same. completed_once k g t c fs f;
   }
@@ -245,7 +245,7 @@ module _ (p : Plan) where
   pub keeping : KeptOnce X Does form
   keeping = record {
     event = λ e f t o q i j. ap (λ x. x.0) (rises_unique (item_key false) 1 (evaluated p.line) p.limit
-        (items_rise p.members false p.line (run nothing) nowhere 0 start 1 p.limit p.numbered) (e, store t o) (f, store t q) t i j refl refl);
+        (items_rise p.members false p.line (run no_input) nowhere 0 start 1 p.limit p.numbered) (e, store t o) (f, store t q) t i j refl refl);
     at_end = λ k m f. ended_once k m f;
     at_completion = λ k g t c fs f same. completed_once k g t c fs f;
   }

@@ -17,7 +17,7 @@ use Rattle.canvas_message.specs.Effects as effects
 use Rattle.canvas_message.specs.Events as events
 use Rattle.canvas_message.specs.Events.{Event, parent_of, flow_outcome, chosen, end_of, running, start}
 use Rattle.canvas_message.specs.Fits.{how_many}
-use Rattle.canvas_message.specs.Flowing.{Input, number, numbers, ident, Flow, run, skip, raise, after_outcome}
+use Rattle.canvas_message.specs.Flowing.{Input, number_input, list_input, id_input, LineFlow, run, skips, raise, after_outcome}
 use Rattle.canvas_message.specs.Job.{Job, store, publish, hand_in}
 use Rattle.canvas_message.specs.Placing.{place_before, last_at, placed, end_place, last_task}
 use Rattle.canvas_runs.proofs.Effects.{Jobs, failed, header_fault, members_place, when_empty, at_stop, message, callbacks, enter, enter_all, called}
@@ -102,35 +102,35 @@ empty_sent : (ms : Lines) (xs : effects.Jobs) (js : Jobs) → xs ≡ all_sent js
 empty_sent no_lines xs js e = e
 empty_sent (and_line m ms) xs js e = refl
 
-members_sent : (g : ℕ) (ms : Lines) (body : Line) (p : Place) (x : Flow) (u : Option ℕ) → effects.enter_all (all_bare ms) x (put (members_place g ms body p)) u ≡ all_sent (enter_all ms x (members_place g ms body p) u)
+members_sent : (g : ℕ) (ms : Lines) (body : Line) (p : Place) (x : LineFlow) (u : Option ℕ) → effects.enter_all (all_bare ms) x (put (members_place g ms body p)) u ≡ all_sent (enter_all ms x (members_place g ms body p) u)
     → effects.enter_all (all_bare ms) x (p_chord g (how_many (all_bare ms)) (placed (put p) (bare body))) u ≡ all_sent (enter_all ms x (members_place g ms body p) u)
 members_sent g no_lines body p x u e = refl
 members_sent g (and_line m ms) body p x u e = ap (λ q. effects.enter_all (all_bare (and_line m ms)) x q u) (header_put g m ms body p) ∙ e
 
 mutual
-  pub enter_sent : (l : Line) (x : Flow) (p : Place) (k : ℕ) (u : Option ℕ) → effects.enter (bare l) x (put p) k u ≡ all_sent (enter l x p k u)
+  pub enter_sent : (l : Line) (x : LineFlow) (p : Place) (k : ℕ) (u : Option ℕ) → effects.enter (bare l) x (put p) k u ≡ all_sent (enter l x p k u)
   enter_sent stop x p k u = part_sent p k
   enter_sent (step (task n call ls es) rest) (run x) p k u = refl
-  enter_sent (step (task n call ls es) rest) (skip f) p k u = ap (λ js. store n (Failure f) ∷ js) (enter_sent rest (skip f) p n u)
+  enter_sent (step (task n call ls es) rest) (skips f) p k u = ap (λ js. store n (Failure f) ∷ js) (enter_sent rest (skips f) p n u)
   enter_sent (step (task n call ls es) rest) (raise f) p k u =
       ap (λ js. store n (Failure f) ∷ js)
-      (joined_sent (effects.callbacks (bare_tasks es) (ident n) u) (effects.enter (bare rest) (skip f) (put p) n u) (callbacks es (ident n) u) (enter rest (skip f) p n u)
-      (calls_sent es (ident n) u) (enter_sent rest (skip f) p n u))
+      (joined_sent (effects.callbacks (bare_tasks es) (id_input n) u) (effects.enter (bare rest) (skips f) (put p) n u) (callbacks es (id_input n) u) (enter rest (skips f) p n u)
+      (calls_sent es (id_input n) u) (enter_sent rest (skips f) p n u))
   enter_sent (group_end g ms) x p k u = enter_all_sent ms x (in_group g) u
   enter_sent (chord_end g ms body) (run x) p k u =
       joined_sent (effects.enter_all (all_bare ms) (run x) (p_chord g (how_many (all_bare ms)) (placed (put p) (bare body))) u)
-      (effects.when_empty (all_bare ms) (effects.enter (bare body) (run (numbers [])) (put p) 0 u)) (enter_all ms (run x) (members_place g ms body p) u) (when_empty ms (enter body (run (numbers [])) p 0 u))
+      (effects.when_empty (all_bare ms) (effects.enter (bare body) (run (list_input [])) (put p) 0 u)) (enter_all ms (run x) (members_place g ms body p) u) (when_empty ms (enter body (run (list_input [])) p 0 u))
       (members_sent g ms body p (run x) u (enter_all_sent ms (run x) (members_place g ms body p) u))
-      (empty_sent ms _ (enter body (run (numbers [])) p 0 u) (enter_sent body (run (numbers [])) p 0 u))
-  enter_sent (chord_end g ms body) (skip f) p k u =
-      joined_sent (effects.enter_all (all_bare ms) (skip f) p_nowhere u) (effects.enter (bare body) (skip f) (put p) 0 u) (enter_all ms (skip f) nowhere u) (enter body (skip f) p 0 u)
-      (enter_all_sent ms (skip f) nowhere u) (enter_sent body (skip f) p 0 u)
+      (empty_sent ms _ (enter body (run (list_input [])) p 0 u) (enter_sent body (run (list_input [])) p 0 u))
+  enter_sent (chord_end g ms body) (skips f) p k u =
+      joined_sent (effects.enter_all (all_bare ms) (skips f) p_nowhere u) (effects.enter (bare body) (skips f) (put p) 0 u) (enter_all ms (skips f) nowhere u) (enter body (skips f) p 0 u)
+      (enter_all_sent ms (skips f) nowhere u) (enter_sent body (skips f) p 0 u)
   enter_sent (chord_end g ms body) (raise f) p k u =
       joined_sent (effects.enter_all (all_bare ms) (raise f) p_nowhere u) (effects.enter (bare body) (raise (effects.fault_behind (all_bare ms) f)) (put p) 0 u)
       (enter_all ms (raise f) nowhere u) (enter body (raise (header_fault ms f)) p 0 u) (enter_all_sent ms (raise f) nowhere u)
       (ap (λ e. effects.enter (bare body) (raise e) (put p) 0 u) (behind_bare ms f) ∙ enter_sent body (raise (header_fault ms f)) p 0 u)
 
-  pub enter_all_sent : (ms : Lines) (x : Flow) (p : Place) (u : Option ℕ) → effects.enter_all (all_bare ms) x (put p) u ≡ all_sent (enter_all ms x p u)
+  pub enter_all_sent : (ms : Lines) (x : LineFlow) (p : Place) (u : Option ℕ) → effects.enter_all (all_bare ms) x (put p) u ≡ all_sent (enter_all ms x p u)
   enter_all_sent no_lines x p u = refl
   enter_all_sent (and_line m ms) x p u =
       joined_sent (effects.enter (bare m) x (put p) 0 u) (effects.enter_all (all_bare ms) x (put p) u) (enter m x p 0 u) (enter_all ms x p u) (enter_sent m x p 0 u) (enter_all_sent ms x p u)
@@ -152,16 +152,16 @@ placed_twice (p_step t l) p q = ap₂ p_step (last_twice t l p q) (placed_twice 
 placed_twice (p_group_end g ms) p q = refl
 placed_twice (p_chord_end g ms b) p q = ap (p_chord_end g ms) (placed_twice b p q)
 
-pub enter_placed : (l : PLine) (x : Flow) (p q : PPlace) (k : ℕ) (u : Option ℕ) → effects.enter (placed q l) x p k u ≡ effects.enter l x p k u
+pub enter_placed : (l : PLine) (x : LineFlow) (p q : PPlace) (k : ℕ) (u : Option ℕ) → effects.enter (placed q l) x p k u ≡ effects.enter l x p k u
 enter_placed p_stop x p q k u = refl
 enter_placed (p_step t l) (run x) p q k u = ap₂ (λ w r. publish (effects.message u w x r) ∷ []) (last_twice t l p q) (placed_twice l p q)
-enter_placed (p_step t l) (skip f) p q k u = ap (λ js. store (number_of t) (Failure f) ∷ js) (enter_placed l (skip f) p q (number_of t) u)
+enter_placed (p_step t l) (skips f) p q k u = ap (λ js. store (number_of t) (Failure f) ∷ js) (enter_placed l (skips f) p q (number_of t) u)
 enter_placed (p_step t l) (raise f) p q k u =
-    ap (λ js. store (number_of t) (Failure f) ∷ (effects.callbacks (errbacks_of t) (ident (number_of t)) u ++ js)) (enter_placed l (skip f) p q (number_of t) u)
+    ap (λ js. store (number_of t) (Failure f) ∷ (effects.callbacks (errbacks_of t) (id_input (number_of t)) u ++ js)) (enter_placed l (skips f) p q (number_of t) u)
 enter_placed (p_group_end g ms) x p q k u = refl
 enter_placed (p_chord_end g ms b) (run x) p q k u =
-    ap₂ (λ r js. effects.enter_all ms (run x) (p_chord g (how_many ms) r) u ++ effects.when_empty ms js) (placed_twice b p q) (enter_placed b (run (numbers [])) p q 0 u)
-enter_placed (p_chord_end g ms b) (skip f) p q k u = ap (λ js. effects.enter_all ms (skip f) p_nowhere u ++ js) (enter_placed b (skip f) p q 0 u)
+    ap₂ (λ r js. effects.enter_all ms (run x) (p_chord g (how_many ms) r) u ++ effects.when_empty ms js) (placed_twice b p q) (enter_placed b (run (list_input [])) p q 0 u)
+enter_placed (p_chord_end g ms b) (skips f) p q k u = ap (λ js. effects.enter_all ms (skips f) p_nowhere u ++ js) (enter_placed b (skips f) p q 0 u)
 enter_placed (p_chord_end g ms b) (raise f) p q k u = ap (λ js. effects.enter_all ms (raise f) p_nowhere u ++ js) (enter_placed b (raise (effects.fault_behind ms f)) p q 0 u)
 
 -- ---- and it is read back
@@ -221,8 +221,8 @@ end_of_message m h = end_by m m.place refl h
 -- ---- the jobs of a message's end, and of a completed header, before they are put in order
 
 called_sent : (links errbacks : Tasks) (k : ℕ) (o : Outcome) → effects.called (bare_tasks links) (bare_tasks errbacks) k o ≡ all_sent (called links errbacks k o)
-called_sent links errbacks k (Success n) = calls_sent links (number n) (Some k)
-called_sent links errbacks k (Failure f) = calls_sent errbacks (ident k) (Some k)
+called_sent links errbacks k (Success n) = calls_sent links (number_input n) (Some k)
+called_sent links errbacks k (Failure f) = calls_sent errbacks (id_input k) (Some k)
 
 pub ended_sent : (m : Message) (o : Outcome) → EndsAt true m.place m.rest
     → effects.called (bare_tasks m.links) (bare_tasks m.errbacks) m.no o ++ effects.enter (content m).rest (after_outcome o) (end_place (line (content m))) m.no (Some m.no)
@@ -233,7 +233,7 @@ ended_sent m o h =
     ∙ (enter_placed (bare m.rest) (after_outcome o) (put m.place) (put m.place) m.no (Some m.no) ∙ enter_sent m.rest (after_outcome o) m.place m.no (Some m.no)))
 
 -- what a header's outcomes give
-behind_number : (n : ℤ) (x : eval.Flow) → effects.in_front (eval.in_front n x) ≡ joined_number n (effects.in_front x)
+behind_number : (n : ℤ) (x : eval.Flow) → effects.before_input (eval.in_front n x) ≡ joined_number n (effects.before_input x)
 behind_number n eval.nothing = refl
 behind_number n (eval.num m) = refl
 behind_number n (eval.list ns) = refl
@@ -268,31 +268,31 @@ stop_items nowhere k v = refl
 stop_items (in_group g) k v = refl
 stop_items (in_chord g c) k v = refl
 
-result_same : (t : Task) (x : Input) → events.result t x ≡ result t x
+result_same : (t : Task) (x : Input) → events.outcome_with t x ≡ result t x
 result_same (task k call ls es) x = refl
 
 errbacks_same : (t : Task) → events.errbacks_of t ≡ its_errbacks t
 errbacks_same (task k call ls es) = refl
 
-joined_same : (x : Flow) (es : List (ℕ × Outcome)) → events.joined x es ≡ joined x es
+joined_same : (x : LineFlow) (es : List (ℕ × Outcome)) → events.joined x es ≡ joined x es
 joined_same (run x) es = header_same es
-joined_same (skip f) es = refl
+joined_same (skips f) es = refl
 joined_same (raise f) [] = refl
 joined_same (raise f) (e ∷ es) = header_same (e ∷ es)
 
-head_same : (m : Line) (ms : Lines) (x : Flow) → last_task 0 (bare m) ≡ last_of m → events.out m x ≡ out m x → events.outs ms x ≡ outs ms x → events.outs (and_line m ms) x ≡ outs (and_line m ms) x
+head_same : (m : Line) (ms : Lines) (x : LineFlow) → last_task 0 (bare m) ≡ last_of m → events.out m x ≡ out m x → events.outs ms x ≡ outs ms x → events.outs (and_line m ms) x ≡ outs (and_line m ms) x
 head_same m ms x e f r = ap₂ (λ k y. (k, flow_outcome y) ∷ events.outs ms x) e f ∙ ap (λ es. (last_of m, flow_outcome (out m x)) ∷ es) r
 
 mutual
-  pub out_same : (l : Line) (x : Flow) → events.out l x ≡ out l x
+  pub out_same : (l : Line) (x : LineFlow) → events.out l x ≡ out l x
   out_same stop x = refl
   out_same (step t rest) (run x) = ap (λ o. events.out rest (after_outcome o)) (result_same t x) ∙ out_same rest (after_outcome (result t x))
-  out_same (step t rest) (skip f) = out_same rest (skip f)
-  out_same (step t rest) (raise f) = out_same rest (skip f)
+  out_same (step t rest) (skips f) = out_same rest (skips f)
+  out_same (step t rest) (raise f) = out_same rest (skips f)
   out_same (group_end g ms) x = refl
   out_same (chord_end g ms body) x = ap (events.out body) (joined_same x (events.outs ms x) ∙ ap (joined x) (outs_same ms x)) ∙ out_same body (joined x (outs ms x))
 
-  pub outs_same : (ms : Lines) (x : Flow) → events.outs ms x ≡ outs ms x
+  pub outs_same : (ms : Lines) (x : LineFlow) → events.outs ms x ≡ outs ms x
   outs_same no_lines x = refl
   outs_same (and_line m ms) x = head_same m ms x (last_bare m 0) (out_same m x) (outs_same ms x)
 
@@ -306,46 +306,46 @@ mutual
       let m : Message = message (task k call ls es) x (parent_of v) rest p in
       let o : Outcome = result (task k call ls es) x in
       ap (λ is. (v, publish (content m)) ∷ (running k, store k o) ∷ is)
-      (chosen_same o _ _ (ran_all ls (events.number_of o) (end_of k)) (ran_all es (ident k) (end_of k)) (ran_all_sent ls (events.number_of o) (end_of k)) (ran_all_sent es (ident k) (end_of k)))
+      (chosen_same o _ _ (ran_all ls (events.input_of_success o) (end_of k)) (ran_all es (id_input k) (end_of k)) (ran_all_sent ls (events.input_of_success o) (end_of k)) (ran_all_sent es (id_input k) (end_of k)))
 
   ran_all_sent : (ts : Tasks) (x : Input) (v : Event) → events.ran_all ts x v ≡ items_of (ran_all ts x v)
   ran_all_sent no_tasks x v = refl
   ran_all_sent (and_task t ts) x v = items_joined (events.ran t x v stop p_nowhere) (events.ran_all ts x v) (ran t x v stop nowhere) (ran_all ts x v) (ran_sent t x v stop nowhere) (ran_all_sent ts x v)
 
-event_same : (x : Flow) (ms : Lines) (g : ℕ) (v : Event) → events.body_event x ms g v ≡ body_event x ms g v
+event_same : (x : LineFlow) (ms : Lines) (g : ℕ) (v : Event) → events.body_event x ms g v ≡ body_event x ms g v
 event_same (run x) no_lines g v = refl
 event_same (run x) (and_line m ms) g v = refl
-event_same (skip f) ms g v = refl
+event_same (skips f) ms g v = refl
 event_same (raise f) ms g v = refl
 
 -- where a header's members go
-place_same : (x : Flow) (g : ℕ) (ms : Lines) (body : Line) (p : Place) (v : Event) → events.items_all ms x (put (header_place x g ms body p)) v ≡ items_of (items_all ms x (header_place x g ms body p) v)
+place_same : (x : LineFlow) (g : ℕ) (ms : Lines) (body : Line) (p : Place) (v : Event) → events.items_all ms x (put (header_place x g ms body p)) v ≡ items_of (items_all ms x (header_place x g ms body p) v)
     → events.items_all ms x (events.header_place x g ms body (put p)) v ≡ items_of (items_all ms x (header_place x g ms body p) v)
 place_same (run x) g no_lines body p v e = refl
 place_same (run x) g (and_line m ms) body p v e = ap (λ q. events.items_all (and_line m ms) (run x) q v) (header_put g m ms body p) ∙ e
-place_same (skip f) g ms body p v e = e
+place_same (skips f) g ms body p v e = e
 place_same (raise f) g ms body p v e = e
 
 mutual
-  pub items_sent : (l : Line) (x : Flow) (p : Place) (k : ℕ) (v : Event) → events.items l x (put p) k v ≡ items_of (items l x p k v)
+  pub items_sent : (l : Line) (x : LineFlow) (p : Place) (k : ℕ) (v : Event) → events.events_in_file l x (put p) k v ≡ items_of (items l x p k v)
   items_sent stop x p k v = stop_items p k v
   items_sent (step t rest) (run x) p k v =
-      items_joined (events.ran t x v rest (put p)) (events.items rest (after_outcome (events.result t x)) (put p) (no_of t) (end_of (no_of t))) (ran t x v rest p)
+      items_joined (events.ran t x v rest (put p)) (events.events_in_file rest (after_outcome (events.outcome_with t x)) (put p) (no_of t) (end_of (no_of t))) (ran t x v rest p)
       (items rest (after_outcome (result t x)) p (no_of t) (end_of (no_of t))) (ran_sent t x v rest p)
-      (ap (λ o. events.items rest (after_outcome o) (put p) (no_of t) (end_of (no_of t))) (result_same t x) ∙ items_sent rest (after_outcome (result t x)) p (no_of t) (end_of (no_of t)))
-  items_sent (step t rest) (skip f) p k v = ap (λ is. (v, store (no_of t) (Failure f)) ∷ is) (items_sent rest (skip f) p (no_of t) v)
+      (ap (λ o. events.events_in_file rest (after_outcome o) (put p) (no_of t) (end_of (no_of t))) (result_same t x) ∙ items_sent rest (after_outcome (result t x)) p (no_of t) (end_of (no_of t)))
+  items_sent (step t rest) (skips f) p k v = ap (λ is. (v, store (no_of t) (Failure f)) ∷ is) (items_sent rest (skips f) p (no_of t) v)
   items_sent (step t rest) (raise f) p k v =
       ap (λ is. (v, store (no_of t) (Failure f)) ∷ is)
-      (items_joined (events.ran_all (events.errbacks_of t) (ident (no_of t)) v) (events.items rest (skip f) (put p) (no_of t) v) (ran_all (its_errbacks t) (ident (no_of t)) v) (items rest (skip f) p (no_of t) v)
-      (ap (λ es. events.ran_all es (ident (no_of t)) v) (errbacks_same t) ∙ ran_all_sent (its_errbacks t) (ident (no_of t)) v) (items_sent rest (skip f) p (no_of t) v))
+      (items_joined (events.ran_all (events.errbacks_of t) (id_input (no_of t)) v) (events.events_in_file rest (skips f) (put p) (no_of t) v) (ran_all (its_errbacks t) (id_input (no_of t)) v) (items rest (skips f) p (no_of t) v)
+      (ap (λ es. events.ran_all es (id_input (no_of t)) v) (errbacks_same t) ∙ ran_all_sent (its_errbacks t) (id_input (no_of t)) v) (items_sent rest (skips f) p (no_of t) v))
   items_sent (group_end g ms) x p k v = items_all_sent ms x (in_group g) v
   items_sent (chord_end g ms body) x p k v =
-      items_joined (events.items_all ms x (events.header_place x g ms body (put p)) v) (events.items body (events.joined x (events.outs ms x)) (put p) 0 (events.body_event x ms g v))
+      items_joined (events.items_all ms x (events.header_place x g ms body (put p)) v) (events.events_in_file body (events.joined x (events.outs ms x)) (put p) 0 (events.body_event x ms g v))
       (items_all ms x (header_place x g ms body p) v) (items body (joined x (outs ms x)) p 0 (body_event x ms g v))
       (place_same x g ms body p v (items_all_sent ms x (header_place x g ms body p) v))
-      (ap₂ (λ y w. events.items body y (put p) 0 w) (joined_same x (events.outs ms x) ∙ ap (joined x) (outs_same ms x)) (event_same x ms g v) ∙ items_sent body (joined x (outs ms x)) p 0 (body_event x ms g v))
+      (ap₂ (λ y w. events.events_in_file body y (put p) 0 w) (joined_same x (events.outs ms x) ∙ ap (joined x) (outs_same ms x)) (event_same x ms g v) ∙ items_sent body (joined x (outs ms x)) p 0 (body_event x ms g v))
 
-  pub items_all_sent : (ms : Lines) (x : Flow) (p : Place) (v : Event) → events.items_all ms x (put p) v ≡ items_of (items_all ms x p v)
+  pub items_all_sent : (ms : Lines) (x : LineFlow) (p : Place) (v : Event) → events.items_all ms x (put p) v ≡ items_of (items_all ms x p v)
   items_all_sent no_lines x p v = refl
   items_all_sent (and_line m ms) x p v =
-      items_joined (events.items m x (put p) 0 v) (events.items_all ms x (put p) v) (items m x p 0 v) (items_all ms x p v) (items_sent m x p 0 v) (items_all_sent ms x p v)
+      items_joined (events.events_in_file m x (put p) 0 v) (events.items_all ms x (put p) v) (items m x p 0 v) (items_all ms x p v) (items_sent m x p 0 v) (items_all_sent ms x p v)

@@ -23,7 +23,7 @@ use Rattle.canvas_runs.specs.Calls.{AskedAndAnswered, Follows, follows_all, foll
 use Rattle.canvas_runs.specs.Lists.{by, total}
 use Rattle.canvas_runs.specs.Logs.{queue_calls, table_calls}
 use Rattle.canvas_runs.specs.Run.{Run, Closed, published_all}
-use Rattle.canvas_runs.specs.Worker.{worker, sealed, reading, opened, known_one}
+use Rattle.canvas_runs.specs.Worker.{worker, sealed, read_envelope, opened, known_one}
 use Rattle.canvas_runs.specs.Witness.{small, first_sum, second_sum, whole_sum, two, four, six, queue, table, first_worker, second_worker, workers, closing, lost_part}
 
 -- ---- the envelopes read back
@@ -64,13 +64,13 @@ ascii_9 : are_ascii (compact_text (body_wire whole_sum)) ≡ true
 unfolding serde_json_on_literals digits by_index
 ascii_9 = refl
 
-pub first_back : reading (sealed first_sum) ≡ Ok first_sum
+pub first_back : read_envelope (sealed first_sum) ≡ Ok first_sum
 first_back = envelope_back first_sum _ _ _ refl refl refl refl (IsUtf8-are_ascii _ ascii_1) (IsUtf8-are_ascii _ ascii_2) (IsUtf8-are_ascii _ ascii_3)
 
-pub second_back : reading (sealed second_sum) ≡ Ok second_sum
+pub second_back : read_envelope (sealed second_sum) ≡ Ok second_sum
 second_back = envelope_back second_sum _ _ _ refl refl refl refl (IsUtf8-are_ascii _ ascii_4) (IsUtf8-are_ascii _ ascii_5) (IsUtf8-are_ascii _ ascii_6)
 
-pub whole_back : reading (sealed whole_sum) ≡ Ok whole_sum
+pub whole_back : read_envelope (sealed whole_sum) ≡ Ok whole_sum
 whole_back = envelope_back whole_sum _ _ _ refl refl refl refl (IsUtf8-are_ascii _ ascii_7) (IsUtf8-are_ascii _ ascii_8) (IsUtf8-are_ascii _ ascii_9)
 
 pub first_opens : opened (book_of small) (sealed first_sum) ≡ Some first_sum

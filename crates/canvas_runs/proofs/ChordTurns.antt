@@ -9,7 +9,7 @@ use Rattle.canvas_runs.specs.Calls.{AskedAndAnswered}
 use Rattle.canvas_runs.specs.Core.{Ask, Reply, take, send, keep, part, read, pause, taken, sent, kept, counted, found, rested, taking, ask, opens, left_after, ReadsBack, Doing}
 use Rattle.canvas_runs.specs.Protocol.{Protocol}
 use Rattle.canvas_runs.specs.Turns.{Step, left, is_inside, Answers, HasEnded, Turned, all_taken, skips, takes, AllEnded, RanWhole, rounds}
-use Rattle.canvas_runs.specs.TurnWitness.{listed, steps, hasty}
+use Rattle.canvas_runs.specs.TurnWitness.{listed_turns, witness_steps as steps, hasty}
 use Rattle.canvas_runs.specs.Witness.{small, first_sum, second_sum, whole_sum, two, four, six}
 use Rattle.canvas_runs.specs.Worker.{worker, sealed, opened}
 use Rattle.canvas_runs.proofs.ChordRuns.{first_back, second_back, whole_back, first_opens, second_opens, whole_opens}
@@ -184,10 +184,10 @@ all_ended p w = elim (cases_eq p 1) [
 ]
 
 abbrev Stands : Type 0
-Stands = (r : RanWhole small 2 listed) × (r.steps ≡ steps) × (r.further ≡ 2)
+Stands = (r : RanWhole small 2 listed_turns) × (r.steps ≡ steps) × (r.further ≡ 2)
 
 pub stands : Stands
-stands = (record { opens_back = (first_back, (second_back, tt)); turns = listed ++ rounds 2 2; further = 2; follow = refl; steps = steps; turned = from_0; ended = all_ended }, refl, refl)
+stands = (record { opens_back = (first_back, (second_back, tt)); turns = listed_turns ++ rounds 2 2; further = 2; follow = refl; steps = steps; turned = from_0; ended = all_ended }, refl, refl)
 
 -- ---- the near miss
 

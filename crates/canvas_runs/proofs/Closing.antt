@@ -6,7 +6,7 @@ use Rattle.canvas_history.proofs.Histories.{live_append, state_append, legal_rig
 use Rattle.canvas_semantics.specs.Line.{Line}
 use Rattle.canvas_backend.specs.Backend.{Call, Reply, no_results, reply_of, next_of, May, IsLegal, read, found, results}
 use Rattle.canvas_backend.specs.Roster.{Roster, roster_of}
-use Rattle.canvas_runs.specs.Crew.{Ran, IsHeld, first_seat}
+use Rattle.canvas_runs.specs.Crew.{Ran, ReadsWhatIsHeld, first_seat}
 use Rattle.canvas_runs.specs.Following.{Pass, Seat, Serves}
 use Rattle.canvas_runs.specs.Calls.{BackendCall, stored, returned, has_read, backend_calls}
 use Rattle.canvas_runs.specs.Lists.{Each}
@@ -19,7 +19,7 @@ module _ (plan : Roster) where
   same_read x y e = cc
 
   -- alone, reads answer what is held, and leave it
-  reads_alone : (s t : Seat) (cs : List (BackendCall Outcome)) → s.name ≡ 0 → Sole s.seen 0 → Each IsRead cs → Serves plan s cs t → (results plan t.seen ≡ results plan s.seen) × Each (IsHeld (results plan s.seen)) cs
+  reads_alone : (s t : Seat) (cs : List (BackendCall Outcome)) → s.name ≡ 0 → Sole s.seen 0 → Each IsRead cs → Serves plan s cs t → (results plan t.seen ≡ results plan s.seen) × Each (ReadsWhatIsHeld (results plan s.seen)) cs
   reads_alone s t [] n a i m = (ap (λ (x : Seat). results plan x.seen) m, tt)
   reads_alone s t (stored u o b ∷ cs) n a i m = absurd i.0
   reads_alone s t (returned g u k ∷ cs) n a i m = absurd i.0
@@ -32,11 +32,11 @@ module _ (plan : Roster) where
       let same : results plan m.0.seen ≡ results plan s.seen = ap (λ l. results plan l) shape ∙ state_append no_results (reply_of plan) next_of (May plan) no_results s.seen (e ∷ []) in
       let alone : Sole m.0.seen 0 = ap (λ l. live l) shape ∙ (live_append (0 ∷ []) s.seen (e ∷ []) ∙ a) in
       let rest = reads_alone m.0 t cs (m.1.1 ∙ n) alone i.1 m.2 in
-      (rest.0 ∙ same, (same_read x ((results plan s.seen).outcomes u) right.1, subst (λ w. Each (IsHeld w) cs) same rest.1))
+      (rest.0 ∙ same, (same_read x ((results plan s.seen).outcomes u) right.1, subst (λ w. Each (ReadsWhatIsHeld w) cs) same rest.1))
 
 module _ (l : Line) (pass : Pass) (seat : Seat) (r : Ran l pass seat) where
-  pub closing_held : Each (IsHeld (results (roster_of l) seat.seen)) r.closing
+  pub closing_held : Each (ReadsWhatIsHeld (results (roster_of l) seat.seen)) r.closing
   closing_held =
       let own = ledger (roster_of l) (first_seat r.table) r.seat_parted r.seat_joined r.own.seat r.mates (backend_calls (working (roster_of l)) r.works.run) refl refl r.seat_splits r.seat_joins r.works.serves in
       let both = reads_alone (roster_of l) r.own.seat seat r.closing own.0 own.1.sole r.closes r.ends in
-      subst (λ w. Each (IsHeld w) r.closing) (sym both.0) both.1
+      subst (λ w. Each (ReadsWhatIsHeld w) r.closing) (sym both.0) both.1

@@ -2,7 +2,7 @@
 use Rattle.std.specs.Prelude.{ℕ, suc, List, [], ◌∷◌, ◌++◌, Option, Some, None}
 use Rattle.canvas_message.specs.Job.{Job, store, publish, hand_in}
 use Rattle.canvas_task.specs.Apply.{apply}
-use Rattle.canvas_message.specs.Flowing.{Input, number, numbers, ident, Flow, run, skip, raise, given, after_outcome, parent_for}
+use Rattle.canvas_message.specs.Flowing.{Input, number_input, list_input, id_input, LineFlow, run, skips, raise, given, after_outcome, parent_for}
 use Rattle.canvas_semantics.specs.Line.{Line, stop, step, group_end, chord_end, Lines, no_lines, and_line, no_of}
 use Rattle.canvas_semantics.specs.Tree.{Task, Tasks, no_tasks, and_task}
 use Rattle.canvas_task.specs.declared.outcome.Outcome.{Outcome}
@@ -86,23 +86,23 @@ callbacks (and_task t ts) x u = publish (message t x u stop nowhere) ∷ callbac
 
 -- what happens at once where x flows into a line whose end goes to p, behind task t, in file order
 abbrev mutual
-  pub enter : Line → Flow → Place → ℕ → Option ℕ → Jobs
+  pub enter : Line → LineFlow → Place → ℕ → Option ℕ → Jobs
   enter stop x p t u = at_stop p t
   enter (step k rest) (run x) p t u = publish (message k x u rest p) ∷ []
-  enter (step k rest) (skip f) p t u = store (no_of k) (Failure f) ∷ enter rest (skip f) p (no_of k) u
-  enter (step k rest) (raise f) p t u = store (no_of k) (Failure f) ∷ (callbacks (errbacks_of k) (ident (no_of k)) u ++ enter rest (skip f) p (no_of k) u)
+  enter (step k rest) (skips f) p t u = store (no_of k) (Failure f) ∷ enter rest (skips f) p (no_of k) u
+  enter (step k rest) (raise f) p t u = store (no_of k) (Failure f) ∷ (callbacks (errbacks_of k) (id_input (no_of k)) u ++ enter rest (skips f) p (no_of k) u)
   enter (group_end g ms) x p t u = enter_all ms x (in_group g) u
-  enter (chord_end g ms body) (run x) p t u = enter_all ms (run x) (members_place g ms body p) u ++ when_empty ms (enter body (run (numbers [])) p 0 u)
-  enter (chord_end g ms body) (skip f) p t u = enter_all ms (skip f) nowhere u ++ enter body (skip f) p 0 u
+  enter (chord_end g ms body) (run x) p t u = enter_all ms (run x) (members_place g ms body p) u ++ when_empty ms (enter body (run (list_input [])) p 0 u)
+  enter (chord_end g ms body) (skips f) p t u = enter_all ms (skips f) nowhere u ++ enter body (skips f) p 0 u
   enter (chord_end g ms body) (raise f) p t u = enter_all ms (raise f) nowhere u ++ enter body (raise (header_fault ms f)) p 0 u
 
-  pub enter_all : Lines → Flow → Place → Option ℕ → Jobs
+  pub enter_all : Lines → LineFlow → Place → Option ℕ → Jobs
   enter_all no_lines x p u = []
   enter_all (and_line m ms) x p u = enter m x p 0 u ++ enter_all ms x p u
 
 abbrev pub called : Tasks → Tasks → ℕ → Outcome → Jobs
-called links errbacks k (Success n) = callbacks links (number n) (Some k)
-called links errbacks k (Failure f) = callbacks errbacks (ident k) (Some k)
+called links errbacks k (Success n) = callbacks links (number_input n) (Some k)
+called links errbacks k (Failure f) = callbacks errbacks (id_input k) (Some k)
 
 -- the end of a message's task
 abbrev pub after : Message → Outcome → Jobs

@@ -5,8 +5,8 @@ use Rattle.canvas_task.specs.declared.outcome.Outcome.TheVariants.{Success, Fail
 use Rattle.canvas_semantics.specs.Tree.{Task, task, Tasks, no_tasks, and_task}
 use Rattle.canvas_semantics.specs.FileOrder.{EndsInTask}
 use Rattle.canvas_semantics.specs.Line.{Line, stop, step, group_end, chord_end, Lines, no_lines, and_line, no_of}
-use Rattle.canvas_message.specs.Events.{Event, start, end_of, number_of, chosen, parent_of}
-use Rattle.canvas_message.specs.Flowing.{Input, nothing, ident, Flow, run, skip, raise, after_outcome}
+use Rattle.canvas_message.specs.Events.{Event, start, end_of, input_of_success, chosen, parent_of}
+use Rattle.canvas_message.specs.Flowing.{Input, no_input, id_input, LineFlow, run, skips, raise, after_outcome}
 use Rattle.canvas_message.specs.Job.{store, publish, hand_in}
 use Rattle.canvas_runs.specs.Lists.{Each}
 use Rattle.canvas_runs.proofs.Carrying.{EndsAt}
@@ -45,7 +45,7 @@ mutual
   ran_ends : (t : Task) (x : Input) (v : Event) (rest : Line) (p : Place) → EndsAt true p rest → AllEnd (ran t x v rest p)
   ran_ends (task k call links errbacks) x v rest p e =
       let o : Outcome = outcome_of (message (task k call links errbacks) x (parent_of v) rest p) in
-      (e, (tt, picked o (ran_all links (number_of o) (end_of k)) (ran_all errbacks (ident k) (end_of k)) (ran_all_ends links (number_of o) (end_of k)) (ran_all_ends errbacks (ident k) (end_of k))))
+      (e, (tt, picked o (ran_all links (input_of_success o) (end_of k)) (ran_all errbacks (id_input k) (end_of k)) (ran_all_ends links (input_of_success o) (end_of k)) (ran_all_ends errbacks (id_input k) (end_of k))))
 
   ran_all_ends : (ts : Tasks) (x : Input) (v : Event) → AllEnd (ran_all ts x v)
   ran_all_ends no_tasks x v = tt
@@ -71,24 +71,24 @@ member_ends nowhere m e = tt
 member_ends (in_group g) m e = e
 member_ends (in_chord g c) m e = e
 
-header_ends : (x : Flow) (g : ℕ) (ms : Lines) (body : Line) (p : Place) → EndsAt false p body → EndsPlace (header_place x g ms body p)
+header_ends : (x : LineFlow) (g : ℕ) (ms : Lines) (body : Line) (p : Place) → EndsAt false p body → EndsPlace (header_place x g ms body p)
 header_ends (run x) g no_lines body p e = tt
 header_ends (run x) g (and_line m ms) body p e = e
-header_ends (skip f) g ms body p e = tt
+header_ends (skips f) g ms body p e = tt
 header_ends (raise f) g ms body p e = tt
 
 module _ (table : ℕ → List ℕ) where
   mutual
-    items_end : (l : Line) (x : Flow) (p : Place) (t : ℕ) (v : Event) (behind : Bool) (low high : ℕ) → EndsAt behind p l → EndsPlace p → LineIn table l low high → AllEnd (items l x p t v)
+    items_end : (l : Line) (x : LineFlow) (p : Place) (t : ℕ) (v : Event) (behind : Bool) (low high : ℕ) → EndsAt behind p l → EndsPlace p → LineIn table l low high → AllEnd (items l x p t v)
     items_end stop x p t v behind low high e q n = stop_ends p t v q
     items_end (step k rest) (run x) p t v behind low high e q n =
         both (ran k x v rest p) (items rest (after_outcome (result k x)) p (no_of k) (end_of (no_of k))) (ran_ends k x v rest p (rest_ends behind p k rest e))
         (items_end rest (after_outcome (result k x)) p (no_of k) (end_of (no_of k)) true n.0 high (rest_ends behind p k rest e) q n.2)
-    items_end (step k rest) (skip f) p t v behind low high e q n = (tt, items_end rest (skip f) p (no_of k) v true n.0 high (rest_ends behind p k rest e) q n.2)
+    items_end (step k rest) (skips f) p t v behind low high e q n = (tt, items_end rest (skips f) p (no_of k) v true n.0 high (rest_ends behind p k rest e) q n.2)
     items_end (step k rest) (raise f) p t v behind low high e q n = (
       tt,
-      both (ran_all (errbacks_of k) (ident (no_of k)) v) (items rest (skip f) p (no_of k) v) (ran_all_ends (errbacks_of k) (ident (no_of k)) v)
-          (items_end rest (skip f) p (no_of k) v true n.0 high (rest_ends behind p k rest e) q n.2),
+      both (ran_all (errbacks_of k) (id_input (no_of k)) v) (items rest (skips f) p (no_of k) v) (ran_all_ends (errbacks_of k) (id_input (no_of k)) v)
+          (items_end rest (skips f) p (no_of k) v true n.0 high (rest_ends behind p k rest e) q n.2),
     )
     items_end (group_end g ms) x p t v behind low high e q n = all_end ms x (in_group g) v low high tt n.0
     items_end (chord_end g ms body) x p t v behind low high e q n =
@@ -96,10 +96,10 @@ module _ (table : ℕ → List ℕ) where
         (all_end ms x (header_place x g ms body p) v low n.0 (header_ends x g ms body p (body_ends behind p g ms body e)) n.1)
         (items_end body (joined x (outs ms x)) p 0 (body_event x ms g v) false n.0 high (body_ends behind p g ms body e) q n.2)
 
-    all_end : (ms : Lines) (x : Flow) (p : Place) (v : Event) (low high : ℕ) → EndsPlace p → LinesIn table ms low high → AllEnd (items_all ms x p v)
+    all_end : (ms : Lines) (x : LineFlow) (p : Place) (v : Event) (low high : ℕ) → EndsPlace p → LinesIn table ms low high → AllEnd (items_all ms x p v)
     all_end no_lines x p v low high q n = tt
     all_end (and_line m ms) x p v low high q n =
         both (items m x p 0 v) (items_all ms x p v) (items_end m x p 0 v false low n.0 (member_ends p m n.2) q n.1) (all_end ms x p v n.0 high q n.3)
 
   pub plan_ends : (l : Line) (low high : ℕ) → LineIn table l low high → AllEnd (evaluated l)
-  plan_ends l low high n = items_end l (run nothing) nowhere 0 start false low high tt tt n
+  plan_ends l low high n = items_end l (run no_input) nowhere 0 start false low high tt tt n

@@ -13,13 +13,13 @@ use Rattle.canvas_message.specs.Effects as effects
 use Rattle.canvas_message.specs.Effects.{effect_of, script, stores_in, messages_in, part_in, parted}
 use Rattle.canvas_message.specs.Events as events
 use Rattle.canvas_message.specs.Events.{In, Event, start, running, end_of, completion}
-use Rattle.canvas_message.specs.Flowing.{nothing, run, after_outcome}
+use Rattle.canvas_message.specs.Flowing.{no_input, run, after_outcome}
 use Rattle.canvas_message.specs.Job.{Job, store, publish, hand_in}
 use Rattle.canvas_message.specs.Ordered.{put, in_order}
 use Rattle.canvas_runs.specs.Book.{book_of, message_known}
 use Rattle.canvas_runs.specs.Protocol.{Protocol}
 use Rattle.canvas_runs.specs.Lists.{Each, total, firsts}
-use Rattle.canvas_runs.specs.Worker.{worker, opened, known_one, reading, sealed}
+use Rattle.canvas_runs.specs.Worker.{worker, opened, known_one, read_envelope, sealed}
 use Rattle.canvas_runs.proofs.Backing.{backs}
 use Rattle.canvas_runs.proofs.Canvas as plan_facts
 use Rattle.canvas_runs.proofs.Canvas.{Plan, messages_of, same_pairs}
@@ -165,7 +165,7 @@ module _ (l : Line) (plan : IsPlan l) where
   -- ---- what the evaluation does
 
   all_items : events.evaluated l ≡ items_of (evaluation.evaluated l)
-  all_items = items_sent l (run nothing) nowhere 0 start
+  all_items = items_sent l (run no_input) nowhere 0 start
 
   pub does_back : (v : Event) (j : Job Content Load Outcome) → Does v j → (x : AJob) × (j ≡ sent x) × In (v, x) (evaluation.evaluated l)
   does_back v j i =
@@ -231,7 +231,7 @@ module _ (l : Line) (plan : IsPlan l) where
   first_same : X.first ≡ map content (plan_facts.X p).first
   first_same = first_sent (members l) p.limit l p.numbered
 
-  opened_back : (c : Content) → form.Formed c → reading (sealed c) ≡ Ok c → opened (book_of l) (sealed c) ≡ Some c
+  opened_back : (c : Content) → form.Formed c → read_envelope (sealed c) ≡ Ok c → opened (book_of l) (sealed c) ≡ Some c
   opened_back c (m, e, f) back = ap (known_one (book_of l)) back ∙ ap (λ b. if b then Some c else None) known
     where
       known : message_known (book_of l) c ≡ true
@@ -256,7 +256,7 @@ module _ (l : Line) (plan : IsPlan l) where
 
   pub order : Ordered X form
   order = record {
-    first = subst (Each form.Formed) (sym first_same) (first_formed (enter l (run nothing) nowhere 0 None) (plan_facts.order p).first (enter_sized (size l) (members l) l (run nothing) nowhere 0 None (plan_sized l plan) tt));
+    first = subst (Each form.Formed) (sym first_same) (first_formed (enter l (run no_input) nowhere 0 None) (plan_facts.order p).first (enter_sized (size l) (members l) l (run no_input) nowhere 0 None (plan_sized l plan) tt));
     opened = opened_back;
     ended = ended_later;
     completed = completed_beyond;
@@ -271,7 +271,7 @@ module _ (l : Line) (plan : IsPlan l) where
   raw_ended m v i =
       let o : Outcome = outcome_of m in
       let js : Jobs = called m.links m.errbacks m.no o ++ enter m.rest (after_outcome o) m.place m.no (Some m.no) in
-      let does : Each (λ x. In (end_of m.no, x) (evaluation.evaluated l)) (after m o) = (items_followed l (run nothing) nowhere 0 start v m i).1 in
+      let does : Each (λ x. In (end_of m.no, x) (evaluation.evaluated l)) (after m o) = (items_followed l (run no_input) nowhere 0 start v m i).1 in
       subst (λ ks. Each (Does (end_of m.no)) (script (effect_of ks))) (sym (ended_sent m o (ends_there v (publish m) i)))
       (each_script (Does (end_of m.no)) (all_sent js) (each_sent (Does (end_of m.no)) js
       (each_weaker (λ x z. does_on (end_of m.no) x z) js (from_kind (λ x. In (end_of m.no, x) (evaluation.evaluated l)) js does))))

@@ -7,7 +7,7 @@ use Rattle.canvas_rewrite.specs.Planned.{IsPlan}
 use Rattle.canvas_rewrite.proofs.Members.{plan_apart}
 use Rattle.canvas_message.specs.Content.{Content}
 use Rattle.canvas_message.specs.Events.{In, start}
-use Rattle.canvas_message.specs.Flowing.{run, nothing}
+use Rattle.canvas_message.specs.Flowing.{run, no_input}
 use Rattle.canvas_message.specs.declared.envelope.Envelope.{Envelope}
 use Rattle.canvas_backend.specs.declared.stored.Stored.{Stored}
 use Rattle.canvas_backend.specs.declared.stored.Stored.TheVariants.{First, Again}
@@ -15,7 +15,7 @@ use Rattle.canvas_backend.specs.Backend as results
 use Rattle.canvas_backend.specs.Roster.{roster_of}
 use Rattle.canvas_runs.specs.Book.{book_of}
 use Rattle.canvas_runs.specs.Calls.{BrokerCall, published, took, BackendCall, stored, returned}
-use Rattle.canvas_runs.specs.Law.{its_state, IsRun, IsPart, of_task, publishes_one, FirstPart}
+use Rattle.canvas_runs.specs.Law.{its_state, IsRunMessage, IsPart, of_task, publishes_one, FirstPart}
 use Rattle.canvas_runs.specs.Lists.{total, seconds}
 use Rattle.canvas_runs.specs.Logs.{queue_calls, table_calls}
 use Rattle.canvas_runs.specs.Run.{Run}
@@ -37,7 +37,7 @@ use Rattle.canvas_runs.proofs.Words.{each_weaker, in_each}
 
 module _ (l : Line) (plan : IsPlan l) where
   its_rows : rows.kept (eval.eval (tree_of l) eval.nothing).rows ≡ rows.stored (evaluation.evaluated l)
-  its_rows = rows.rows_same (p l plan).members l (run nothing) nowhere 0 start 1 (p l plan).limit (p l plan).numbered
+  its_rows = rows.rows_same (p l plan).members l (run no_input) nowhere 0 start 1 (p l plan).limit (p l plan).numbered
 
   -- an outcome of the evaluation is the task's state in the tree
   pub has_state : (t : ℕ) (o : Outcome) → Has (X l plan) (Does l plan) t o → its_state l t ≡ Some o
@@ -100,7 +100,7 @@ module _ (l : Line) (plan : IsPlan l) where
         ⊎_elim (λ n. absurd (let bad : ◌≡◌ {A = eval.State} None (Some o) = n in cc)) (λ i. inr (e ∙ sym (has_state t o (stored_right t o true i))))
         (was_stored l (plan_apart l plan) t o [] r.table results.no_results refl r.table_legal e)
 
-    run_sealed : (e : Envelope) → In (published e) (seconds (queue_calls r.queue)) → (c : Content) × (e ≡ sealed c) × IsRun l c
+    run_sealed : (e : Envelope) → In (published e) (seconds (queue_calls r.queue)) → (c : Content) × (e ≡ sealed c) × IsRunMessage l c
     run_sealed e i =
         let good = in_each (GoodPublish (IsRunSealed (X l plan) (form l plan) (Does l plan) (order l plan) (value l plan) inner_run)) (seconds (queue_calls r.queue))
         (each_seconds (GoodPublish (IsRunSealed (X l plan) (form l plan) (Does l plan) (order l plan) (value l plan) inner_run)) (queue_calls r.queue)

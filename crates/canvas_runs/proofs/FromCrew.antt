@@ -14,7 +14,7 @@ use Rattle.canvas_backend.specs.Roster.{Roster, roster_of}
 use Rattle.canvas_broker.specs.Broker as broker
 use Rattle.canvas_runs.specs.Accounts.{splits_of, joins_of, entries, rows, HasEach, HasRows, Accounts, Ledger}
 use Rattle.canvas_runs.specs.Core.{IsCoreRun, taking, left_after, Between}
-use Rattle.canvas_runs.specs.Crew.{Mate, Ran, EndedWell, numbers, first_pass, first_seat}
+use Rattle.canvas_runs.specs.Crew.{Mate, Ran, EndedWell, numbers_along as numbers, first_pass, first_seat}
 use Rattle.canvas_runs.specs.Following.{Pass, Seat, Stood, Serves, IsDone}
 use Rattle.canvas_runs.specs.Calls.{BrokerCall, BackendCall, Follows, follows_all, follows_publish, AskedAndAnswered, broker_calls, backend_calls, ReadsMembers, takes_one}
 use Rattle.canvas_runs.specs.Lists.{Each, by, seconds, total}

@@ -4,7 +4,7 @@ use Rattle.canvas_message.specs.Events.{In}
 use Rattle.canvas_runs.specs.Lists.{Each, firsts}
 use Rattle.canvas_message.specs.Job.{store, publish, hand_in}
 use Rattle.canvas_message.specs.Events.{Event, running, end_of, completion}
-use Rattle.canvas_message.specs.Flowing.{Input, ident, Flow, run, skip, raise}
+use Rattle.canvas_message.specs.Flowing.{Input, id_input, LineFlow, run, skips, raise}
 use Rattle.canvas_semantics.specs.Line.{Line, stop, step, group_end, chord_end, Lines, no_lines, and_line, no_of}
 use Rattle.canvas_semantics.specs.Tree.{Task, task, Tasks, no_tasks, and_task}
 use Rattle.canvas_task.specs.declared.outcome.Outcome.{Outcome}
@@ -55,7 +55,7 @@ module _ (members : ℕ → List ℕ) where
     ran_none : (k : Task) (x : Input) (v : Event) (rest : Line) (p : Place) (e : Event) (g t : ℕ) (c : Carried) → In (e, hand_in g t c) (ran k x v rest p) → ⊥
     ran_none (task k call links errbacks) x v rest p e g t c i =
         ⊎_elim (λ same. apart_publish (ap (λ q. q.1) same)) (λ j. ⊎_elim (λ same. apart_store (ap (λ q. q.1) same))
-        (λ l. chosen_none _ _ _ _ (ran_all_none links _ (end_of k) e g t c) (ran_all_none errbacks (ident k) (end_of k) e g t c) l) j) i
+        (λ l. chosen_none _ _ _ _ (ran_all_none links _ (end_of k) e g t c) (ran_all_none errbacks (id_input k) (end_of k) e g t c) l) j) i
 
     ran_all_none : (ts : Tasks) (x : Input) (v : Event) (e : Event) (g t : ℕ) (c : Carried) → In (e, hand_in g t c) (ran_all ts x v) → ⊥
     ran_all_none no_tasks x v e g t c = λ i. elim i [ ]
@@ -69,37 +69,37 @@ module _ (members : ℕ → List ℕ) where
   flow_outcome-after (Failure f) = refl
 
   -- the outcome of a line's last task is what goes out of the line
-  abbrev Ended : Bool → ℕ → Line → Flow → Items → Type 0
+  abbrev Ended : Bool → ℕ → Line → LineFlow → Items → Type 0
   Ended behind t l x is = ((behind ≡ true) × (last_from t l ≡ t) × (out l x ≡ x)) ⊎ Kept is (last_from t l) (flow_outcome (out l x))
 
   false_true : false ≡ true → ⊥
   false_true e = cc
 
-  behind_one : (k : ℕ) (rest : Line) (y : Flow) (o : Outcome) (xs ys : Items) → flow_outcome y ≡ o → Kept xs k o → Ended true k rest y ys → Kept (xs ++ ys) (last_from k rest) (flow_outcome (out rest y))
+  behind_one : (k : ℕ) (rest : Line) (y : LineFlow) (o : Outcome) (xs ys : Items) → flow_outcome y ≡ o → Kept xs k o → Ended true k rest y ys → Kept (xs ++ ys) (last_from k rest) (flow_outcome (out rest y))
   behind_one k rest y o xs ys f own (inl (b, last, flow)) =
       subst (λ z. Kept (xs ++ ys) (last_from k rest) (flow_outcome z)) (sym flow) (subst (λ z. Kept (xs ++ ys) z (flow_outcome y)) (sym last) (subst (Kept (xs ++ ys) k) (sym f) (kept_left xs ys k o own)))
   behind_one k rest y o xs ys f own (inr kept) = kept_right xs ys _ _ kept
 
-  line_ended : (l : Line) (behind : Bool) (x : Flow) (p : Place) (t : ℕ) (v : Event) → EndsInTask behind l → Ended behind t l x (items l x p t v)
+  line_ended : (l : Line) (behind : Bool) (x : LineFlow) (p : Place) (t : ℕ) (v : Event) → EndsInTask behind l → Ended behind t l x (items l x p t v)
   line_ended stop behind x p t v e = inl (e, refl, refl)
   line_ended (step k rest) behind (run x) p t v e =
       inr (behind_one (no_of k) rest _ (result k x) (ran k x v rest p) _ (flow_outcome-after (result k x)) (own_kept k x v rest p) (line_ended rest true (after_outcome (result k x)) p (no_of k) (end_of (no_of k)) e))
-  line_ended (step k rest) behind (skip f) p t v e =
-      inr (behind_one (no_of k) rest (skip f) (Failure f) ((v, store (no_of k) (Failure f)) ∷ []) _ refl (v, inl refl) (line_ended rest true (skip f) p (no_of k) v e))
+  line_ended (step k rest) behind (skips f) p t v e =
+      inr (behind_one (no_of k) rest (skips f) (Failure f) ((v, store (no_of k) (Failure f)) ∷ []) _ refl (v, inl refl) (line_ended rest true (skips f) p (no_of k) v e))
   line_ended (step k rest) behind (raise f) p t v e =
-      inr (behind_one (no_of k) rest (skip f) (Failure f) ((v, store (no_of k) (Failure f)) ∷ ran_all (errbacks_of k) (ident (no_of k)) v) _ refl (v, inl refl) (line_ended rest true (skip f) p (no_of k) v e))
+      inr (behind_one (no_of k) rest (skips f) (Failure f) ((v, store (no_of k) (Failure f)) ∷ ran_all (errbacks_of k) (id_input (no_of k)) v) _ refl (v, inl refl) (line_ended rest true (skips f) p (no_of k) v e))
   line_ended (group_end g ms) behind x p t v e = elim e [ ]
   line_ended (chord_end g ms body) behind x p t v e =
       inr (⊎_elim (λ q. absurd (false_true q.0)) (λ k. kept_right _ _ _ _ k) (line_ended body false (joined x (outs ms x)) p 0 (body_event x ms g v) e))
 
-  member_kept : (m : Line) (x : Flow) (p : Place) (v : Event) → EndsInTask false m → Kept (items m x p 0 v) (last_of m) (flow_outcome (out m x))
+  member_kept : (m : Line) (x : LineFlow) (p : Place) (v : Event) → EndsInTask false m → Kept (items m x p 0 v) (last_of m) (flow_outcome (out m x))
   member_kept m x p v e = ⊎_elim (λ q. absurd (false_true q.0)) (λ k. k) (line_ended m false x p 0 v e)
 
-  pub firsts-outs : (ms : Lines) (x : Flow) → firsts (outs ms x) ≡ lasts ms
+  pub firsts-outs : (ms : Lines) (x : LineFlow) → firsts (outs ms x) ≡ lasts ms
   firsts-outs no_lines x = refl
   firsts-outs (and_line m ms) x = ap (λ l. last_of m ∷ l) (firsts-outs ms x)
 
-  pub members_kept : (ms : Lines) (x : Flow) (p : Place) (v : Event) (low high : ℕ) → LinesIn members ms low high → Each (λ f. Kept (items_all ms x p v) f.0 f.1) (outs ms x)
+  pub members_kept : (ms : Lines) (x : LineFlow) (p : Place) (v : Event) (low high : ℕ) → LinesIn members ms low high → Each (λ f. Kept (items_all ms x p v) f.0 f.1) (outs ms x)
   members_kept no_lines x p v low high n = tt
   members_kept (and_line m ms) x p v low high (middle, inside, ends, others) =
       (kept_left _ _ _ _ (member_kept m x p v ends), each_weaker (λ f k. kept_right _ _ f.0 f.1 k) (outs ms x) (members_kept ms x p v middle high others))
@@ -121,7 +121,7 @@ module _ (members : ℕ → List ℕ) where
   parted_right p g c xs ys h = ⊎_elim (λ s. inl s) (λ k. inr (completes_right xs ys g c k)) h
 
   -- the members of a header that runs
-  header_completes : (h : ℕ) (ms : Lines) (body : Line) (p : Place) (x : Flow) (v : Event) (low high : ℕ) (g : ℕ) (c : Carried) →
+  header_completes : (h : ℕ) (ms : Lines) (body : Line) (p : Place) (x : LineFlow) (v : Event) (low high : ℕ) (g : ℕ) (c : Carried) →
       LinesIn members ms low high → members h ≡ lasts ms → header_place x h ms body p ≡ in_chord g c →
       Completes g c (items_all ms x (header_place x h ms body p) v ++ items body (joined x (outs ms x)) p 0 (body_event x ms h v))
   header_completes h no_lines body p (run x) v low high g c n last same = absurd (cc)
@@ -138,27 +138,27 @@ module _ (members : ℕ → List ℕ) where
         each_weaker (λ f k. kept_left left right f.0 f.1 k) es (members_kept all (run x) (members_place h all body p) v low high n),
         each_by_kind _ _ (all_right _ left right _ (enter_in body (header es) p 0 (completion h))),
       ))
-  header_completes h ms body p (skip f) v low high g c n last same = absurd (cc)
+  header_completes h ms body p (skips f) v low high g c n last same = absurd (cc)
   header_completes h ms body p (raise f) v low high g c n last same = absurd (cc)
 
   no_group : {h g : ℕ} {c : Carried} → in_group h ≡ in_chord g c → ⊥
   no_group e = cc
 
   mutual
-    pub items_parted : (l : Line) (x : Flow) (p : Place) (t : ℕ) (v : Event) (low high : ℕ) → LineIn members l low high → (e : Event) (g u : ℕ) (c : Carried) → In (e, hand_in g u c) (items l x p t v) → Parted p g c (items l x p t v)
+    pub items_parted : (l : Line) (x : LineFlow) (p : Place) (t : ℕ) (v : Event) (low high : ℕ) → LineIn members l low high → (e : Event) (g u : ℕ) (c : Carried) → In (e, hand_in g u c) (items l x p t v) → Parted p g c (items l x p t v)
     items_parted stop x p t v low high n e g u c i = inl (stop_part p t v e g u c i)
     items_parted (step k rest) (run x) p t v low high n e g u c i =
         ⊎_elim (λ a. absurd (ran_none k x v rest p e g u c a))
         (λ b. parted_right p g c (ran k x v rest p) _ (items_parted rest (after_outcome (result k x)) p (no_of k) (end_of (no_of k)) n.0 high n.2 e g u c b))
         (in_append_cases (ran k x v rest p) _ _ i)
-    items_parted (step k rest) (skip f) p t v low high n e g u c i =
+    items_parted (step k rest) (skips f) p t v low high n e g u c i =
         ⊎_elim (λ same. absurd (apart_store (ap (λ q. q.1) same)))
-        (λ b. parted_right p g c ((v, store (no_of k) (Failure f)) ∷ []) _ (items_parted rest (skip f) p (no_of k) v n.0 high n.2 e g u c b)) i
+        (λ b. parted_right p g c ((v, store (no_of k) (Failure f)) ∷ []) _ (items_parted rest (skips f) p (no_of k) v n.0 high n.2 e g u c b)) i
     items_parted (step k rest) (raise f) p t v low high n e g u c i =
         ⊎_elim (λ same. absurd (apart_store (ap (λ q. q.1) same)))
-        (λ a. ⊎_elim (λ b. absurd (ran_all_none (errbacks_of k) (ident (no_of k)) v e g u c b))
-        (λ b. parted_right p g c ((v, store (no_of k) (Failure f)) ∷ ran_all (errbacks_of k) (ident (no_of k)) v) _ (items_parted rest (skip f) p (no_of k) v n.0 high n.2 e g u c b))
-        (in_append_cases (ran_all (errbacks_of k) (ident (no_of k)) v) _ _ a)) i
+        (λ a. ⊎_elim (λ b. absurd (ran_all_none (errbacks_of k) (id_input (no_of k)) v e g u c b))
+        (λ b. parted_right p g c ((v, store (no_of k) (Failure f)) ∷ ran_all (errbacks_of k) (id_input (no_of k)) v) _ (items_parted rest (skips f) p (no_of k) v n.0 high n.2 e g u c b))
+        (in_append_cases (ran_all (errbacks_of k) (id_input (no_of k)) v) _ _ a)) i
     items_parted (group_end h ms) x p t v low high n e g u c i =
         ⊎_elim (λ same. absurd (no_group same)) (λ k. inr k) (items_all_parted ms x (in_group h) v low high n.0 e g u c i)
     items_parted (chord_end h ms body) x p t v low high n e g u c i =
@@ -168,7 +168,7 @@ module _ (members : ℕ → List ℕ) where
         (λ b. parted_right p g c _ _ (items_parted body (joined x (outs ms x)) p 0 (body_event x ms h v) n.0 high n.2 e g u c b))
         (in_append_cases (items_all ms x (header_place x h ms body p) v) _ _ i)
 
-    pub items_all_parted : (ms : Lines) (x : Flow) (p : Place) (v : Event) (low high : ℕ) → LinesIn members ms low high → (e : Event) (g u : ℕ) (c : Carried) → In (e, hand_in g u c) (items_all ms x p v) → Parted p g c (items_all ms x p v)
+    pub items_all_parted : (ms : Lines) (x : LineFlow) (p : Place) (v : Event) (low high : ℕ) → LinesIn members ms low high → (e : Event) (g u : ℕ) (c : Carried) → In (e, hand_in g u c) (items_all ms x p v) → Parted p g c (items_all ms x p v)
     items_all_parted no_lines x p v low high n e g u c i = elim i [ ]
     items_all_parted (and_line m ms) x p v low high n e g u c i =
         ⊎_elim (λ a. parted_left p g c _ _ (items_parted m x p 0 v low n.0 n.1 e g u c a))

@@ -9,7 +9,7 @@ use Rattle.canvas_message.specs.declared.envelope.Envelope.{Envelope}
 use Rattle.canvas_broker.specs.Broker.{Line as Entries, answer, next, May, IsLegal}
 use Rattle.canvas_broker.specs.Callers.{Stands, Parted, Joined, IsHistory}
 use Rattle.canvas_runs.specs.Accounts.{splits_of, joins_of, entries, HasEach, Accounts}
-use Rattle.canvas_runs.specs.Crew.{Mate, Splits, Joins, numbers}
+use Rattle.canvas_runs.specs.Crew.{Mate, Splits, Joins, numbers_along}
 use Rattle.canvas_runs.specs.Following.{Pass, doing, given, Makes}
 use Rattle.canvas_runs.specs.Calls.{BrokerCall}
 use Rattle.canvas_runs.proofs.Numbers.{NoZero, starts_same, starts_then, others_start, live_splits, live_joins, named_splits, named_joins, off_joins, here_joins, number_of_split, one_more}
@@ -202,7 +202,7 @@ module _ (plan : Roster) where
 
   -- the workers' numbers are those from 1 on
   numbered : (whole : List (Entries Envelope)) (p p' : Pass) (es : List (Entries Envelope)) (hs : List (Mate plan)) → At 0 p es → Splits p (passes_of hs) p' → OthersCall whole → StartsWith whole p'.seen
-      → names_of hs ≡ numbers (suc (length (named es))) hs
+      → names_of hs ≡ numbers_along (suc (length (named es))) hs
   numbered whole p p' es [] a s o f = refl
   numbered whole p p' es (h ∷ hs) a s o f =
       let q : ℕ = h.pass.name in
@@ -210,7 +210,7 @@ module _ (plan : Roster) where
       let here : StartsWith whole s.0.seen = starts_then whole p'.seen s.0.seen f (splits_start s.0 p' (passes_of hs) s.2) in
       let name : q ≡ suc (length (named es)) = number_of_split s.0.seen es q (others_start whole s.0.seen here o) one.0.own (ap (λ (c : Pass). c.name) s.1.1) in
       let rest = numbered whole s.0 p' (es ++ split 0 q ∷ []) hs one.0 s.2 o f in
-      ap (λ k. k ∷ names_of hs) name ∙ ap (λ l. suc (length (named es)) ∷ l) (rest ∙ ap (λ n. numbers (suc n) hs) (one_more es q))
+      ap (λ k. k ∷ names_of hs) name ∙ ap (λ l. suc (length (named es)) ∷ l) (rest ∙ ap (λ n. numbers_along (suc n) hs) (one_more es q))
 
   record Gathered (p : Pass) (hs : List (Mate plan)) (first : List (BrokerCall Envelope)) : Type 0 where
     name : p.name ≡ 0
@@ -220,7 +220,7 @@ module _ (plan : Roster) where
     names : named (p.seen ++ p.owed) ≡ names_of hs
     sole : Sole (p.seen ++ p.owed) 0
     history : IsLegal (p.seen ++ p.owed)
-    numbers_are : names_of hs ≡ numbers 1 hs
+    numbers_are : names_of hs ≡ numbers_along 1 hs
     some : NoZero (names_of hs)
 
   -- from the call clauses alone
@@ -298,11 +298,11 @@ module _ (plan : Roster) where
         each_still seen qs cs hs z.1 h.1,
       )
 
-  each_numbered : (log : List (Entries Envelope)) (k : ℕ) (hs : List (Mate plan)) → names_of hs ≡ numbers k hs → HasNamed log hs → HasEach plan k hs log
+  each_numbered : (log : List (Entries Envelope)) (k : ℕ) (hs : List (Mate plan)) → names_of hs ≡ numbers_along k hs → HasNamed log hs → HasEach plan k hs log
   each_numbered log k [] e h = tt
   each_numbered log k (g ∷ hs) e h =
       let same : g.pass.name ≡ k = cc in
-      let more : names_of hs ≡ numbers (suc k) hs = cc in
+      let more : names_of hs ≡ numbers_along (suc k) hs = cc in
       (subst (λ n. made_by n log ≡ entries n g.followed.made) same h.0, each_numbered log (suc k) hs more h.1)
 
   -- the whole list: worker 0 works on by itself

@@ -5,7 +5,7 @@ use Rattle.canvas_message.specs.Events.{In}
 use Rattle.canvas_runs.specs.Lists.{total}
 use Rattle.canvas_message.specs.Job.{store, publish, hand_in}
 use Rattle.canvas_message.specs.Events.{Event, running, end_of}
-use Rattle.canvas_message.specs.Flowing.{Input, numbers, ident, Flow, run, skip, raise}
+use Rattle.canvas_message.specs.Flowing.{Input, list_input, id_input, LineFlow, run, skips, raise}
 use Rattle.canvas_semantics.specs.Line.{Line, stop, step, group_end, chord_end, Lines, no_lines, and_line, no_of}
 use Rattle.canvas_semantics.specs.Tree.{Task, task, Tasks, no_tasks, and_task}
 use Rattle.canvas_task.specs.declared.outcome.Outcome.{Outcome}
@@ -155,7 +155,7 @@ module _ (members : ℕ → List ℕ) (b : Bool) where
     ran_rises : (t : Task) (x : Input) (v : Event) (rest : Line) (p : Place) (low high : ℕ) → TaskIn t low high → Up low (ran t x v rest p) high
     ran_rises (task k call links errbacks) x v rest p low high (l, middle, i, j) =
         two_rise k low high v (running k) _ _ _ refl l
-        (chosen_rises _ (suc k) middle high _ _ (ran_all_rises links _ (end_of k) (suc k) middle i) (ran_all_rises errbacks (ident k) (end_of k) middle high j)
+        (chosen_rises _ (suc k) middle high _ _ (ran_all_rises links _ (end_of k) (suc k) middle i) (ran_all_rises errbacks (id_input k) (end_of k) middle high j)
         (tasks_span links (suc k) middle i) (tasks_span errbacks middle high j))
 
     ran_all_rises : (ts : Tasks) (x : Input) (v : Event) (low high : ℕ) → TasksIn ts low high → Up low (ran_all ts x v) high
@@ -177,27 +177,27 @@ module _ (members : ℕ → List ℕ) (b : Bool) where
       rises_lower (item_key b) (suc k) middle (ran_all errbacks x v) high (tasks_span links (suc k) middle i) (ran_all_rises errbacks x v middle high j)
 
   mutual
-    pub items_rise : (l : Line) (x : Flow) (p : Place) (t : ℕ) (v : Event) (low high : ℕ) → LineIn members l low high → Up low (items l x p t v) high
+    pub items_rise : (l : Line) (x : LineFlow) (p : Place) (t : ℕ) (v : Event) (low high : ℕ) → LineIn members l low high → Up low (items l x p t v) high
     items_rise stop x p t v low high n = stop_rises p t v low high n
     items_rise (step k rest) (run x) p t v low high (middle, i, j) =
         rises_append (item_key b) low middle high (ran k x v rest p) _ (ran_rises k x v rest p low middle i)
         (items_rise rest (after_outcome (result k x)) p (no_of k) (end_of (no_of k)) middle high j)
-    items_rise (step k rest) (skip f) p t v low high (middle, i, j) =
+    items_rise (step k rest) (skips f) p t v low high (middle, i, j) =
         let span = task_span k low middle i in
         rises_one (item_key b) low (no_of k) high (v, store (no_of k) (Failure f)) _ span.0 (stored_key b (no_of k) (Failure f))
-        (rises_lower (item_key b) (suc (no_of k)) middle _ high (omega arith) (items_rise rest (skip f) p (no_of k) v middle high j))
+        (rises_lower (item_key b) (suc (no_of k)) middle _ high (omega arith) (items_rise rest (skips f) p (no_of k) v middle high j))
     items_rise (step k rest) (raise f) p t v low high (middle, i, j) =
         let span = task_span k low middle i in
         rises_one (item_key b) low (no_of k) high (v, store (no_of k) (Failure f)) _ span.0 (stored_key b (no_of k) (Failure f))
-        (rises_append (item_key b) (suc (no_of k)) middle high (ran_all (errbacks_of k) (ident (no_of k)) v) _
-        (errbacks_rise k (ident (no_of k)) v low middle i) (items_rise rest (skip f) p (no_of k) v middle high j))
+        (rises_append (item_key b) (suc (no_of k)) middle high (ran_all (errbacks_of k) (id_input (no_of k)) v) _
+        (errbacks_rise k (id_input (no_of k)) v low middle i) (items_rise rest (skips f) p (no_of k) v middle high j))
     items_rise (group_end g ms) x p t v low high n = items_all_rise ms x (in_group g) v low high n.0
     items_rise (chord_end g ms body) x p t v low high (middle, i, j, same) =
         rises_append (item_key b) low middle high (items_all ms x (header_place x g ms body p) v) _
         (items_all_rise ms x (header_place x g ms body p) v low middle i)
         (items_rise body (joined x (outs ms x)) p 0 (body_event x ms g v) middle high j)
 
-    pub items_all_rise : (ms : Lines) (x : Flow) (p : Place) (v : Event) (low high : ℕ) → LinesIn members ms low high → Up low (items_all ms x p v) high
+    pub items_all_rise : (ms : Lines) (x : LineFlow) (p : Place) (v : Event) (low high : ℕ) → LinesIn members ms low high → Up low (items_all ms x p v) high
     items_all_rise no_lines x p v low high n = n
     items_all_rise (and_line m ms) x p v low high (middle, i, e, j) =
         rises_append (item_key b) low middle high (items m x p 0 v) _ (items_rise m x p 0 v low middle i) (items_all_rise ms x p v middle high j)
@@ -231,32 +231,32 @@ module _ (members : ℕ → List ℕ) (b : Bool) where
   empty_rises (and_line m ms) js low high l r = l
 
   mutual
-    pub enter_rises : (l : Line) (x : Flow) (p : Place) (t : ℕ) (u : Option ℕ) (low high : ℕ) → LineIn members l low high → Sends low (enter l x p t u) high
+    pub enter_rises : (l : Line) (x : LineFlow) (p : Place) (t : ℕ) (u : Option ℕ) (low high : ℕ) → LineIn members l low high → Sends low (enter l x p t u) high
     enter_rises stop x p t u low high n = at_stop_rises p t low high n
     enter_rises (step k rest) (run x) p t u low high (middle, i, j) =
         let span = task_span k low middle i in let more = line_span members rest middle high j in
         rises_one (job_key b) low (no_of k) high (publish (message k x u rest p)) [] span.0 (sent_key b (message k x u rest p)) (omega arith)
-    enter_rises (step k rest) (skip f) p t u low high (middle, i, j) =
+    enter_rises (step k rest) (skips f) p t u low high (middle, i, j) =
         let span = task_span k low middle i in
-        rises_one (job_key b) low (no_of k) high (store (no_of k) (Failure f)) _ span.0 (stored_key b (no_of k) (Failure f)) (rises_lower (job_key b) (suc (no_of k)) middle (enter rest (skip f) p (no_of k) u) high (omega arith) (enter_rises rest (skip f) p (no_of k) u middle high j))
+        rises_one (job_key b) low (no_of k) high (store (no_of k) (Failure f)) _ span.0 (stored_key b (no_of k) (Failure f)) (rises_lower (job_key b) (suc (no_of k)) middle (enter rest (skips f) p (no_of k) u) high (omega arith) (enter_rises rest (skips f) p (no_of k) u middle high j))
     enter_rises (step k rest) (raise f) p t u low high (middle, i, j) =
         let span = task_span k low middle i in
         rises_one (job_key b) low (no_of k) high (store (no_of k) (Failure f)) _ span.0 (stored_key b (no_of k) (Failure f))
-        (rises_append (job_key b) (suc (no_of k)) middle high (callbacks (errbacks_of k) (ident (no_of k)) u) _
-        (errbacks_sent k (ident (no_of k)) u low middle i) (enter_rises rest (skip f) p (no_of k) u middle high j))
+        (rises_append (job_key b) (suc (no_of k)) middle high (callbacks (errbacks_of k) (id_input (no_of k)) u) _
+        (errbacks_sent k (id_input (no_of k)) u low middle i) (enter_rises rest (skips f) p (no_of k) u middle high j))
     enter_rises (group_end g ms) x p t u low high n = enter_all_rises ms x (in_group g) u low high n.0
     enter_rises (chord_end g ms body) (run x) p t u low high (middle, i, j, same) =
         rises_append (job_key b) low middle high (enter_all ms (run x) (members_place g ms body p) u) _
         (enter_all_rises ms (run x) (members_place g ms body p) u low middle i)
-        (empty_rises ms _ middle high (line_span members body middle high j) (enter_rises body (run (numbers [])) p 0 u middle high j))
-    enter_rises (chord_end g ms body) (skip f) p t u low high (middle, i, j, same) =
-        rises_append (job_key b) low middle high (enter_all ms (skip f) nowhere u) _
-        (enter_all_rises ms (skip f) nowhere u low middle i) (enter_rises body (skip f) p 0 u middle high j)
+        (empty_rises ms _ middle high (line_span members body middle high j) (enter_rises body (run (list_input [])) p 0 u middle high j))
+    enter_rises (chord_end g ms body) (skips f) p t u low high (middle, i, j, same) =
+        rises_append (job_key b) low middle high (enter_all ms (skips f) nowhere u) _
+        (enter_all_rises ms (skips f) nowhere u low middle i) (enter_rises body (skips f) p 0 u middle high j)
     enter_rises (chord_end g ms body) (raise f) p t u low high (middle, i, j, same) =
         rises_append (job_key b) low middle high (enter_all ms (raise f) nowhere u) _
         (enter_all_rises ms (raise f) nowhere u low middle i) (enter_rises body (raise (header_fault ms f)) p 0 u middle high j)
 
-    pub enter_all_rises : (ms : Lines) (x : Flow) (p : Place) (u : Option ℕ) (low high : ℕ) → LinesIn members ms low high → Sends low (enter_all ms x p u) high
+    pub enter_all_rises : (ms : Lines) (x : LineFlow) (p : Place) (u : Option ℕ) (low high : ℕ) → LinesIn members ms low high → Sends low (enter_all ms x p u) high
     enter_all_rises no_lines x p u low high n = n
     enter_all_rises (and_line m ms) x p u low high (middle, i, e, j) =
         rises_append (job_key b) low middle high (enter m x p 0 u) _ (enter_rises m x p 0 u low middle i) (enter_all_rises ms x p u middle high j)

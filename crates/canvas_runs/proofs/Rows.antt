@@ -7,7 +7,7 @@ use Rattle.canvas_semantics.specs.States.{states, numbers_from}
 use Rattle.canvas_semantics.proofs.Numbered.{count_elements}
 use Rattle.canvas_backend.specs.Backend.{Results, results}
 use Rattle.canvas_backend.specs.Roster.{roster_of}
-use Rattle.canvas_runs.specs.Crew.{IsHeld}
+use Rattle.canvas_runs.specs.Crew.{ReadsWhatIsHeld}
 use Rattle.canvas_runs.specs.Following.{Pass, Seat}
 use Rattle.canvas_runs.specs.Lists.{Each}
 use Rattle.canvas_runs.specs.Rows.{reads_from, RanTo, RanWell, EachMay}
@@ -17,11 +17,11 @@ use Rattle.canvas_runs.proofs.FromCrew.{the_run, the_closed}
 use Rattle.canvas_runs.proofs.SecondLaw.{second_part}
 
 module _ (s : Results) (f : ℕ → State) where
-  rows_are : ((t : ℕ) → s.outcomes t ≡ f t) → (k : ℕ) (rows : List State) → Each (IsHeld s) (reads_from k rows) → rows ≡ map f (numbers_from k (length rows))
+  rows_are : ((t : ℕ) → s.outcomes t ≡ f t) → (k : ℕ) (rows : List State) → Each (ReadsWhatIsHeld s) (reads_from k rows) → rows ≡ map f (numbers_from k (length rows))
   rows_are same k [] h = refl
   rows_are same k (x ∷ rows) h = ap₂ (λ (a : State) (b : List State). a ∷ b) (h.0 ∙ same k) (rows_are same (suc k) rows h.1)
 
-  rows_may : ((t : ℕ) → (s.outcomes t ≡ None) ⊎ (s.outcomes t ≡ f t)) → (k : ℕ) (rows : List State) → Each (IsHeld s) (reads_from k rows) → EachMay rows (map f (numbers_from k (length rows)))
+  rows_may : ((t : ℕ) → (s.outcomes t ≡ None) ⊎ (s.outcomes t ≡ f t)) → (k : ℕ) (rows : List State) → Each (ReadsWhatIsHeld s) (reads_from k rows) → EachMay rows (map f (numbers_from k (length rows)))
   rows_may same k [] h = tt
   rows_may same k (x ∷ rows) h = (⊎_elim (λ n. inl (h.0 ∙ n)) (λ e. inr (h.0 ∙ e)) (same k), rows_may same (suc k) rows h.1)
 
@@ -29,8 +29,8 @@ module _ (l : Line) (plan : IsPlan l) (pass : Pass) (seat : Seat) (rows : List S
   abbrev its : ℕ → State
   its k = state_of k (eval (tree_of l) nothing).rows
 
-  read_held : (r : RanTo l pass seat rows) → Each (IsHeld (results (roster_of l) seat.seen)) (reads_from 1 rows)
-  read_held r = subst (λ cs. Each (IsHeld (results (roster_of l) seat.seen)) cs) r.read (closing_held l pass seat r.ran)
+  read_held : (r : RanTo l pass seat rows) → Each (ReadsWhatIsHeld (results (roster_of l) seat.seen)) (reads_from 1 rows)
+  read_held r = subst (λ cs. Each (ReadsWhatIsHeld (results (roster_of l) seat.seen)) cs) r.read (closing_held l pass seat r.ran)
 
   all_rows : (r : RanTo l pass seat rows) → map its (numbers_from 1 (length rows)) ≡ states (tree_of l)
   all_rows r = ap (λ n. map its (numbers_from 1 n)) (r.each ∙ sym (count_elements l))

@@ -7,7 +7,7 @@ use Rattle.canvas_message.proofs.NothingMoves.{Above, nothing_moves}
 use Rattle.canvas_message.specs.Content.{Content, number_of}
 use Rattle.canvas_message.specs.Effects as effects
 use Rattle.canvas_message.specs.Effects.{effect_of, script, stores_in, messages_in, part_in, parted}
-use Rattle.canvas_message.specs.Flowing.{run, nothing, after_outcome}
+use Rattle.canvas_message.specs.Flowing.{run, no_input, after_outcome}
 use Rattle.canvas_message.specs.Job.{store, publish, hand_in}
 use Rattle.canvas_message.specs.Ordered.{in_order}
 use Rattle.canvas_runs.proofs.Backing.{Shape, NoParts, ended_shape, enter_shape}
@@ -111,8 +111,8 @@ module _ (members : ℕ → List ℕ) (limit : ℕ) where
       ∙ script_kind (enter body (header es) q 0 None) from upto (enter_rises members false body (header es) q 0 None from upto inside) (enter_rises members true body (header es) q 0 None from upto inside)
       (few false 0 (enter body (header es) q 0 None) (enter_shape members body (header es) q 0 None from upto false lands inside))
 
-  pub first_sent : (l : Line) → LineIn members l 1 limit → effects.first_messages l ≡ map content (messages_of (enter l (run nothing) nowhere 0 None))
+  pub first_sent : (l : Line) → LineIn members l 1 limit → effects.first_messages l ≡ map content (messages_of (enter l (run no_input) nowhere 0 None))
   first_sent l n =
-      let js : Jobs = enter l (run nothing) nowhere 0 None in
-      ap (λ ks. in_order own_of (messages_in ks)) (enter_sent l (run nothing) nowhere 0 None)
-      ∙ (nothing_moves own_of 1 (messages_in (all_sent js)) (messages_above 1 js limit (enter_rises members true l (run nothing) nowhere 0 None 1 limit n)) ∙ messages_sent js)
+      let js : Jobs = enter l (run no_input) nowhere 0 None in
+      ap (λ ks. in_order own_of (messages_in ks)) (enter_sent l (run no_input) nowhere 0 None)
+      ∙ (nothing_moves own_of 1 (messages_in (all_sent js)) (messages_above 1 js limit (enter_rises members true l (run no_input) nowhere 0 None 1 limit n)) ∙ messages_sent js)

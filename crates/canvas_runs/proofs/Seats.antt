@@ -9,7 +9,7 @@ use Rattle.canvas_backend.specs.Backend.{Log, Call, Reply, no_results, reply_of,
 use Rattle.canvas_backend.specs.Callers.{Stands, Parted, Joined}
 use Rattle.canvas_backend.specs.Roster.{Roster}
 use Rattle.canvas_runs.specs.Accounts.{splits_of, joins_of, rows, HasRows, Ledger}
-use Rattle.canvas_runs.specs.Crew.{Mate, SplitSeats, JoinSeats, numbers}
+use Rattle.canvas_runs.specs.Crew.{Mate, SplitSeats, JoinSeats, numbers_along}
 use Rattle.canvas_runs.specs.Following.{Seat, asking, replied, Serves}
 use Rattle.canvas_runs.specs.Calls.{BackendCall, backend_calls}
 use Rattle.canvas_runs.specs.Worker.{working}
@@ -198,7 +198,7 @@ module _ (plan : Roster) where
 
   -- the workers' numbers are those from 1 on
   numbered : (whole : Log) (s s' : Seat) (es : Log) (hs : List (Mate plan)) → At P 0 s es → SplitSeats P s (seats_of hs) s' → OthersCall whole → StartsWith whole s'.seen
-      → names_of hs ≡ numbers (suc (length (named es))) hs
+      → names_of hs ≡ numbers_along (suc (length (named es))) hs
   numbered whole s s' es [] a c o f = refl
   numbered whole s s' es (h ∷ hs) a c o f =
       let q : ℕ = h.seat.name in
@@ -206,13 +206,13 @@ module _ (plan : Roster) where
       let here : StartsWith whole c.0.seen = starts_then whole s'.seen c.0.seen f (splits_start P c.0 s' (seats_of hs) c.2) in
       let name : q ≡ suc (length (named es)) = number_of_split c.0.seen es q (others_start whole c.0.seen here o) one.0.own (ap (λ (t : Seat). t.name) c.1.1) in
       let rest = numbered whole c.0 s' (es ++ split 0 q ∷ []) hs one.0 c.2 o f in
-      ap (λ k. k ∷ names_of hs) name ∙ ap (λ l. suc (length (named es)) ∷ l) (rest ∙ ap (λ n. numbers (suc n) hs) (one_more es q))
+      ap (λ k. k ∷ names_of hs) name ∙ ap (λ l. suc (length (named es)) ∷ l) (rest ∙ ap (λ n. numbers_along (suc n) hs) (one_more es q))
 
-  has_rows : (log : Log) (k : ℕ) (hs : List (Mate plan)) → names_of hs ≡ numbers k hs → Keeps log hs → HasRows plan k hs log
+  has_rows : (log : Log) (k : ℕ) (hs : List (Mate plan)) → names_of hs ≡ numbers_along k hs → Keeps log hs → HasRows plan k hs log
   has_rows log k [] e h = tt
   has_rows log k (g ∷ hs) e h =
       let same : g.seat.name ≡ k = cc in
-      let more : names_of hs ≡ numbers (suc k) hs = cc in
+      let more : names_of hs ≡ numbers_along (suc k) hs = cc in
       (subst (λ n. made_by n log ≡ rows n (its_calls g)) same h.1, has_rows log (suc k) hs more h.2)
 
   -- the whole list, from the call clauses alone: worker 0 works on by itself
@@ -228,7 +228,7 @@ module _ (plan : Roster) where
       let keeps : Keeps t.seen hs = keeps_on s2.seen t.seen hs all.0.legal end.legal (serves_start P s2 t last sv) all.1 in
       let others : OthersCall t.seen = others_call no_results (reply_of P) next_of (May P) [] t.seen end.legal tt
       (λ c z i. quiet t.seen hs keeps c (subst (λ l. In c l) (ap (λ l. named l) end.own ∙ named_all qs last) i)) in
-      let same : qs ≡ numbers 1 hs = numbered t.seen s0 s1 [] hs start sp others (starts_then t.seen s2.seen s1.seen (serves_start P s2 t last sv) (joins_start P s1 s2 (left_of hs) jn)) in (
+      let same : qs ≡ numbers_along 1 hs = numbered t.seen s0 s1 [] hs start sp others (starts_then t.seen s2.seen s1.seen (serves_start P s2 t last sv) (joins_start P s1 s2 (left_of hs) jn)) in (
         end.name,
         record {
           legal = end.legal;

@@ -9,7 +9,7 @@ use Rattle.canvas_rewrite.specs.Planned.{IsPlan}
 use Rattle.canvas_rewrite.proofs.Members.{plan_apart}
 use Rattle.canvas_message.specs.Content.{Content, number_of}
 use Rattle.canvas_message.specs.Events.{In, Event, start}
-use Rattle.canvas_message.specs.Flowing.{run, nothing}
+use Rattle.canvas_message.specs.Flowing.{run, no_input}
 use Rattle.canvas_message.specs.Job.{Job, store, publish, hand_in}
 use Rattle.canvas_message.specs.declared.envelope.Envelope.{Envelope}
 use Rattle.canvas_backend.specs.Backend as results
@@ -17,7 +17,7 @@ use Rattle.canvas_backend.specs.Roster.{roster_of}
 use Rattle.canvas_runs.specs.Book.{book_of}
 use Rattle.canvas_runs.specs.Calls.{BrokerCall, published, took, BackendCall, stored, returned, has_read}
 use Rattle.canvas_runs.proofs.Replay.{IsDrained}
-use Rattle.canvas_runs.specs.Law.{its_state, IsRun, IsPart, of_task, publishes_one, takes_one_of, publishes, takes, stores_one, stores, returns_one, returns, SecondPart}
+use Rattle.canvas_runs.specs.Law.{its_state, IsRunMessage, IsPart, of_task, publishes_one, takes_one_of, publishes, takes_of_task, stores_one, stores, returns_one, returns, SecondPart}
 use Rattle.canvas_runs.specs.Lists.{Each, total, seconds, firsts}
 use Rattle.canvas_runs.specs.Logs.{queue_calls, table_calls}
 use Rattle.canvas_runs.specs.Run.{Run, Closed}
@@ -130,7 +130,7 @@ module _ (l : Line) (plan : IsPlan l) (r : Run l) (c : Closed l r) where
   map_in (n ∷ ms) m (inr i) = inr (map_in ms m i)
 
   abbrev first_jobs : Jobs
-  first_jobs = enter l (run nothing) nowhere 0 None
+  first_jobs = enter l (run no_input) nowhere 0 None
 
   first_made : (m : Message) → In m (messages_of first_jobs) → Made (publish m)
   first_made m i = (
@@ -138,19 +138,19 @@ module _ (l : Line) (plan : IsPlan l) (r : Run l) (c : Closed l r) where
         (subst (In (content m)) (sym (first_sent (members l) (p l plan).limit l (p l plan).numbered)) (map_in (messages_of first_jobs) m i)),
     (
       in_each (plan_facts.form (p l plan)).Formed (messages_of first_jobs) (plan_facts.order (p l plan)).first m i,
-      messages_sized first_jobs (enter_sized (size l) (members l) l (run nothing) nowhere 0 None (plan_sized l plan) tt) m i,
+      messages_sized first_jobs (enter_sized (size l) (members l) l (run no_input) nowhere 0 None (plan_sized l plan) tt) m i,
     ),
   )
 
   started : Each Made first_jobs
   started =
-      from_kinds Made first_jobs (subst (Each Made) (sym (run_stores l nothing nowhere 0 None)) tt) (messages_publish Made first_jobs first_made)
-      (subst (Each Made) (sym (open_none (members l) l (run nothing) nowhere 0 None 1 (p l plan).limit tt (p l plan).numbered)) tt)
+      from_kinds Made first_jobs (subst (Each Made) (sym (run_stores l no_input nowhere 0 None)) tt) (messages_publish Made first_jobs first_made)
+      (subst (Each Made) (sym (open_none (members l) l (run no_input) nowhere 0 None 1 (p l plan).limit tt (p l plan).numbered)) tt)
 
   -- ---- all that the evaluation does is done
 
   all_made : Each (λ i. Made i.1) (evaluation.evaluated l)
-  all_made = items_done (members l) Made (evaluation.evaluated l) script completes (plan_facts.one_outcome (p l plan)) l (run nothing) nowhere 0 start 1 (p l plan).limit (p l plan).numbered (λ i z. z) started
+  all_made = items_done (members l) Made (evaluation.evaluated l) script completes (plan_facts.one_outcome (p l plan)) l (run no_input) nowhere 0 start 1 (p l plan).limit (p l plan).numbered (λ i z. z) started
 
   finished : (v : Event) (j : Job Content Load Outcome) → Does l plan v j → Finished j
   finished v j i =
@@ -159,7 +159,7 @@ module _ (l : Line) (plan : IsPlan l) (r : Run l) (c : Closed l r) where
 
   -- ---- how often
 
-  published_one : (d : Content) → IsRun l d → publishes l (number_of d.own) r.queue ≡ 1
+  published_one : (d : Content) → IsRunMessage l d → publishes l (number_of d.own) r.queue ≡ 1
   published_one d i =
       let done = finished i.0 (publish d) i.1 in
       let few = (first_part l plan r).published_once (number_of d.own) in
@@ -180,7 +180,7 @@ module _ (l : Line) (plan : IsPlan l) (r : Run l) (c : Closed l r) where
       let s : total (λ e. of_task l k (opened (book_of l) e)) q ≡ of_task l k (opened (book_of l) e) + total (λ e. of_task l k (opened (book_of l) e)) rest = ap (total (λ e. of_task l k (opened (book_of l) e))) same in
       omega arith
 
-  taken_once : (k : ℕ) → takes l k r.queue ≡ publishes l k r.queue
+  taken_once : (k : ℕ) → takes_of_task l k r.queue ≡ publishes l k r.queue
   taken_once k = let t = drained_total k [] (seconds (queue_calls r.queue)) drained in omega arith
 
   store_weight : (k : ℕ) (x : BackendCall Outcome) → stores_one l k x ≡ stores_task (X l plan) k x

@@ -6,7 +6,7 @@ use Rattle.canvas_message.specs.Content.{Content}
 use Rattle.canvas_message.specs.Job.{Job, store, publish, hand_in}
 use Rattle.canvas_message.specs.declared.envelope.Envelope.{Envelope}
 use Rattle.canvas_backend.specs.Roster.{Roster}
-use Rattle.canvas_runs.specs.Core.{Ask, Reply, take, send, keep, part, read, pause, taken, sent, refused, kept, counted, found, rested, State, taking, resting, over, failed, owning, doing, reading, is_due, settled, opens, owned, job_done, all_read, ask, answered, Suits, ReadsBack, Between, left_after, IsCoreRun}
+use Rattle.canvas_runs.specs.Core.{Ask, Reply, take, send, keep, part, read, pause, taken, sent, refused, kept, counted, found, rested, CoreState, taking, resting, over, failed, owning, doing, reading, is_due, settled, opens, owned, job_done, all_read, ask, answered, Suits, ReadsBack, Between, left_after, IsCoreRun}
 use Rattle.canvas_runs.specs.Protocol.{Protocol}
 use Rattle.canvas_runs.specs.Calls.{AskedAndAnswered, broker_call, backend_call, broker_calls, backend_calls, reads_member, ReadsMembers}
 use Rattle.canvas_runs.specs.Worker.{worker_on, working}
@@ -19,7 +19,7 @@ module _ (plan : Roster) (ms : List Content) where
   Y = worker_on plan ms
 
   abbrev Left : Type 0
-  Left = State Content Load Outcome
+  Left = CoreState Content Load Outcome
 
   abbrev Jobs : Type 0
   Jobs = List (Job Content Load Outcome)

@@ -13,8 +13,8 @@ use Rattle.canvas_semantics.specs.FileOrder.{TaskIn, TasksIn}
 use Rattle.canvas_semantics.specs.Line.{Line, stop, step, group_end, chord_end, Lines, no_lines, and_line, no_of, elements_of, members_of, all_ends_of}
 use Rattle.canvas_semantics.proofs.EndLemmas.{ends_of_tree}
 use Rattle.canvas_message.specs.Effects as effects
-use Rattle.canvas_message.specs.Events.{Event, In, end_of, number_of, chosen}
-use Rattle.canvas_message.specs.Flowing.{Input, nothing, number, numbers, ident, Flow, run, skip, raise, input_flow, flow_of, after_outcome}
+use Rattle.canvas_message.specs.Events.{Event, In, end_of, input_of_success, chosen}
+use Rattle.canvas_message.specs.Flowing.{Input, no_input, number_input, list_input, id_input, LineFlow, run, skips as skip, raise, input_flow, flow_of, after_outcome}
 use Rattle.canvas_message.specs.Job.{store, publish, hand_in}
 use Rattle.canvas_runs.specs.Lists.{Each, firsts}
 use Rattle.canvas_runs.proofs.Carrying.{header_same}
@@ -81,22 +81,22 @@ from_stored t o ((w, hand_in g u c) ∷ is) i = let r = from_stored t o is i in 
 
 -- an input runs a task
 input_state : (call : Call) (x : Input) → state call (Some (input_flow x)) ≡ Some (apply call.name (arguments call (input_flow x)) call.kwargs)
-input_state call nothing = refl
-input_state call (number n) = refl
-input_state call (numbers ns) = refl
-input_state call (ident k) = refl
+input_state call no_input = refl
+input_state call (number_input n) = refl
+input_state call (list_input ns) = refl
+input_state call (id_input k) = refl
 
 input_fails : (k : ℕ) (x : Input) (f : Fault) → to_errbacks k (Some (input_flow x)) (Some (Failure f)) ≡ Some (eval.id k)
-input_fails k nothing f = refl
-input_fails k (number n) f = refl
-input_fails k (numbers ns) f = refl
-input_fails k (ident j) f = refl
+input_fails k no_input f = refl
+input_fails k (number_input n) f = refl
+input_fails k (list_input ns) f = refl
+input_fails k (id_input j) f = refl
 
 input_passes : (k : ℕ) (x : Input) (n : ℤ) → to_errbacks k (Some (input_flow x)) (Some (Success n)) ≡ None
-input_passes k nothing n = refl
-input_passes k (number m) n = refl
-input_passes k (numbers ns) n = refl
-input_passes k (ident j) n = refl
+input_passes k no_input n = refl
+input_passes k (number_input m) n = refl
+input_passes k (list_input ns) n = refl
+input_passes k (id_input j) n = refl
 
 mutual
   none_task : (t : Task) → kept (task_rows t None) ≡ []
@@ -111,12 +111,12 @@ rows_by : (k : ℕ) (call : Call) (ls es : Tasks) (x : Option eval.Flow) (s : St
 rows_by k call ls es x s e = ap (λ s. (k, s) ∷ tasks_rows ls (to_links s) ++ tasks_rows es (to_errbacks k x s)) e
 
 -- links, or error callbacks
-chosen_rows : (k : ℕ) (ls es : Tasks) (x : Input) (o : Outcome) → ((n : ℤ) → kept (tasks_rows ls (Some (eval.num n))) ≡ stored (ran_all ls (number n) (end_of k)))
-    → kept (tasks_rows es (Some (eval.id k))) ≡ stored (ran_all es (ident k) (end_of k))
-    → kept (tasks_rows ls (to_links (Some o)) ++ tasks_rows es (to_errbacks k (Some (input_flow x)) (Some o))) ≡ stored (chosen o (ran_all ls (number_of o) (end_of k)) (ran_all es (ident k) (end_of k)))
+chosen_rows : (k : ℕ) (ls es : Tasks) (x : Input) (o : Outcome) → ((n : ℤ) → kept (tasks_rows ls (Some (eval.num n))) ≡ stored (ran_all ls (number_input n) (end_of k)))
+    → kept (tasks_rows es (Some (eval.id k))) ≡ stored (ran_all es (id_input k) (end_of k))
+    → kept (tasks_rows ls (to_links (Some o)) ++ tasks_rows es (to_errbacks k (Some (input_flow x)) (Some o))) ≡ stored (chosen o (ran_all ls (input_of_success o) (end_of k)) (ran_all es (id_input k) (end_of k)))
 chosen_rows k ls es x (Success n) f g =
     kept_more (tasks_rows ls (Some (eval.num n))) (tasks_rows es (to_errbacks k (Some (input_flow x)) (Some (Success n))))
-    ∙ (ap₂ (λ a b. a ++ b) (f n) (ap (λ y. kept (tasks_rows es y)) (input_passes k x n) ∙ none_tasks es) ∙ append-nil (stored (ran_all ls (number n) (end_of k))))
+    ∙ (ap₂ (λ a b. a ++ b) (f n) (ap (λ y. kept (tasks_rows es y)) (input_passes k x n) ∙ none_tasks es) ∙ append-nil (stored (ran_all ls (number_input n) (end_of k))))
 chosen_rows k ls es x (Failure e) f g =
     kept_more (tasks_rows ls None) (tasks_rows es (to_errbacks k (Some (input_flow x)) (Some (Failure e))))
     ∙ ap₂ (λ a b. a ++ b) (none_tasks ls) (ap (λ y. kept (tasks_rows es y)) (input_fails k x e) ∙ g)
@@ -126,7 +126,7 @@ mutual
   task_kept (task k call ls es) x v rest p =
       let o : Outcome = result (task k call ls es) x in
       ap kept (rows_by k call ls es (Some (input_flow x)) (Some o) (input_state call x))
-      ∙ ap (λ rs. (k, o) ∷ rs) (chosen_rows k ls es x o (λ n. tasks_kept ls (number n) (end_of k)) (tasks_kept es (ident k) (end_of k)))
+      ∙ ap (λ rs. (k, o) ∷ rs) (chosen_rows k ls es x o (λ n. tasks_kept ls (number_input n) (end_of k)) (tasks_kept es (id_input k) (end_of k)))
 
   tasks_kept : (ts : Tasks) (x : Input) (v : Event) → kept (tasks_rows ts (Some (input_flow x))) ≡ stored (ran_all ts x v)
   tasks_kept no_tasks x v = refl
@@ -137,9 +137,9 @@ mutual
 skipped_kept : (t : Task) (f : Fault) → kept (task_rows t (Some (eval.skip f))) ≡ (no_of t, Failure f) ∷ []
 skipped_kept (task k call ls es) f = ap (λ rs. (k, Failure f) ∷ rs) (kept_more (tasks_rows ls None) (tasks_rows es None) ∙ ap₂ (λ a b. a ++ b) (none_tasks ls) (none_tasks es))
 
-raised_kept : (t : Task) (f : Fault) (v : Event) → kept (task_rows t (Some (eval.raised f))) ≡ (no_of t, Failure f) ∷ stored (ran_all (errbacks_of t) (ident (no_of t)) v)
+raised_kept : (t : Task) (f : Fault) (v : Event) → kept (task_rows t (Some (eval.raised f))) ≡ (no_of t, Failure f) ∷ stored (ran_all (errbacks_of t) (id_input (no_of t)) v)
 raised_kept (task k call ls es) f v =
-    ap (λ rs. (k, Failure f) ∷ rs) (kept_more (tasks_rows ls None) (tasks_rows es (Some (eval.id k))) ∙ ap₂ (λ a b. a ++ b) (none_tasks ls) (tasks_kept es (ident k) v))
+    ap (λ rs. (k, Failure f) ∷ rs) (kept_more (tasks_rows ls None) (tasks_rows es (Some (eval.id k))) ∙ ap₂ (λ a b. a ++ b) (none_tasks ls) (tasks_kept es (id_input k) v))
 
 passes : (t : Task) (x : Input) → (eval.task_meaning t (input_flow x)).out ≡ flow_of (after_outcome (result t x))
 passes (task k call ls es) x = ap passed_on (input_state call x) ∙ go (result (task k call ls es) x)
@@ -247,7 +247,7 @@ states_of rows (e ∷ es) a = ap₂ (λ s rs. (e.0, s) ∷ rs) a.0 (states_of ro
 
 -- what is gathered of outcomes is a list or raised
 abbrev IsGathered : eval.Flow → Type 0
-IsGathered x = flow_of (effects.in_front x) ≡ x
+IsGathered x = flow_of (effects.before_input x) ≡ x
 
 front_gathered : (n : ℤ) (x : eval.Flow) → ((ns : List ℤ) × (x ≡ eval.list ns)) ⊎ ((f : Fault) × (x ≡ eval.raised f)) → ((ns : List ℤ) × (eval.in_front n x ≡ eval.list ns)) ⊎ ((f : Fault) × (eval.in_front n x ≡ eval.raised f))
 front_gathered n x (inl (ns, e)) = inl (n ∷ ns, ap (eval.in_front n) e)
@@ -259,19 +259,19 @@ is_gathered ((k, Success n) ∷ es) = front_gathered n (gathered (as_rows es)) (
 is_gathered ((k, Failure f) ∷ es) = inr (_, refl)
 
 back_gathered : (x : eval.Flow) → ((ns : List ℤ) × (x ≡ eval.list ns)) ⊎ ((f : Fault) × (x ≡ eval.raised f)) → IsGathered x
-back_gathered x (inl (ns, e)) = ap (λ y. flow_of (effects.in_front y)) e ∙ sym e
-back_gathered x (inr (f, e)) = ap (λ y. flow_of (effects.in_front y)) e ∙ sym e
+back_gathered x (inl (ns, e)) = ap (λ y. flow_of (effects.before_input y)) e ∙ sym e
+back_gathered x (inr (f, e)) = ap (λ y. flow_of (effects.before_input y)) e ∙ sym e
 
 header_flow : (es : List (ℕ × Outcome)) → gathered (as_rows es) ≡ flow_of (header es)
 header_flow es = sym (back_gathered (gathered (as_rows es)) (is_gathered es)) ∙ ap flow_of (header_same es)
 
 input_value : (x : Input) (rows : Rows) → group_value (input_flow x) rows ≡ gathered rows
-input_value nothing rows = refl
-input_value (number n) rows = refl
-input_value (numbers ns) rows = refl
-input_value (ident k) rows = refl
+input_value no_input rows = refl
+input_value (number_input n) rows = refl
+input_value (list_input ns) rows = refl
+input_value (id_input k) rows = refl
 
-joined_flow : (x : Flow) (es : List (ℕ × Outcome)) → group_value (flow_of x) (as_rows es) ≡ flow_of (joined x es)
+joined_flow : (x : LineFlow) (es : List (ℕ × Outcome)) → group_value (flow_of x) (as_rows es) ≡ flow_of (joined x es)
 joined_flow (run x) es = input_value x (as_rows es) ∙ header_flow es
 joined_flow (skip f) es = refl
 joined_flow (raise f) [] = refl
@@ -295,7 +295,7 @@ module _ (table : ℕ → List ℕ) where
   ends_in (and_line m ms) low high (middle, i, e, j) = ap₂ (λ a b. a ++ b) (one_end m 0 e) (ends_in ms middle high j)
 
   -- a header's value, by its members' outcomes
-  header_value : (ms : Lines) (x : Flow) (low high : ℕ) → LinesIn table ms low high → all_ends_of ms ≡ lasts ms → kept (member_rows (members_of ms) (flow_of x)) ≡ stored (items_all ms x nowhere (end_of 0))
+  header_value : (ms : Lines) (x : LineFlow) (low high : ℕ) → LinesIn table ms low high → all_ends_of ms ≡ lasts ms → kept (member_rows (members_of ms) (flow_of x)) ≡ stored (items_all ms x nowhere (end_of 0))
       → header_out ms (flow_of x) ≡ flow_of (joined x (outs ms x))
   header_value ms x low high n ends same =
       let rows : Rows = member_rows (members_of ms) (flow_of x) in
@@ -306,7 +306,7 @@ module _ (table : ℕ → List ℕ) where
       ∙ (ap (group_value (flow_of x)) (states_of rows (outs ms x) there) ∙ joined_flow x (outs ms x))
 
   mutual
-    pub rows_same : (l : Line) (x : Flow) (p : Place) (k : ℕ) (v : Event) (low high : ℕ) → LineIn table l low high → kept (line_rows l (flow_of x)) ≡ stored (items l x p k v)
+    pub rows_same : (l : Line) (x : LineFlow) (p : Place) (k : ℕ) (v : Event) (low high : ℕ) → LineIn table l low high → kept (line_rows l (flow_of x)) ≡ stored (items l x p k v)
     rows_same stop x p k v low high n = sym (stop_stored p k v)
     rows_same (step t l) (run x) p k v low high (middle, i, j) =
         kept_more (eval.task_meaning t (input_flow x)).rows (line_rows l (eval.task_meaning t (input_flow x)).out)
@@ -318,7 +318,7 @@ module _ (table : ℕ → List ℕ) where
     rows_same (step t l) (raise f) p k v low high (middle, i, j) =
         kept_more (eval.task_meaning t (eval.raised f)).rows (line_rows l (eval.task_meaning t (eval.raised f)).out)
         ∙ (ap₂ (λ a b. a ++ b) (ap kept (meaning_rows t (eval.raised f)) ∙ raised_kept t f v) (ap (λ y. kept (line_rows l y)) (raises t f) ∙ rows_same l (skip f) p (no_of t) v middle high j)
-        ∙ ap (λ es. (no_of t, Failure f) ∷ es) (sym (stored_more (ran_all (errbacks_of t) (ident (no_of t)) v) (items l (skip f) p (no_of t) v))))
+        ∙ ap (λ es. (no_of t, Failure f) ∷ es) (sym (stored_more (ran_all (errbacks_of t) (id_input (no_of t)) v) (items l (skip f) p (no_of t) v))))
     rows_same (group_end g ms) x p k v low high n = ap kept (append-nil (member_rows (members_of ms) (flow_of x))) ∙ members_same ms x (in_group g) v low high n.0
     rows_same (chord_end g ms b) x p k v low high (middle, i, j, e) =
         ap kept (chord_rows g ms b (flow_of x))
@@ -326,7 +326,7 @@ module _ (table : ℕ → List ℕ) where
         ∙ pair_both _ _ (items_all ms x (header_place x g ms b p) v) (items b (joined x (outs ms x)) p 0 (body_event x ms g v)) (members_same ms x (header_place x g ms b p) v low middle i)
         (ap (λ y. kept (line_rows b y)) (header_value ms x low middle i (ends_in ms low middle i) (members_same ms x nowhere (end_of 0) low middle i)) ∙ rows_same b (joined x (outs ms x)) p 0 (body_event x ms g v) middle high j))
 
-    members_same : (ms : Lines) (x : Flow) (p : Place) (v : Event) (low high : ℕ) → LinesIn table ms low high → kept (member_rows (members_of ms) (flow_of x)) ≡ stored (items_all ms x p v)
+    members_same : (ms : Lines) (x : LineFlow) (p : Place) (v : Event) (low high : ℕ) → LinesIn table ms low high → kept (member_rows (members_of ms) (flow_of x)) ≡ stored (items_all ms x p v)
     members_same no_lines x p v low high n = refl
     members_same (and_line m ms) x p v low high (middle, i, e, j) =
         kept_more (line_rows m (flow_of x)) (member_rows (members_of ms) (flow_of x))

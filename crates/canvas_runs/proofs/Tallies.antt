@@ -16,7 +16,7 @@ use Rattle.canvas_runs.specs.Calls.{BrokerCall, published, took, BackendCall, st
 use Rattle.canvas_runs.specs.Lists.{Each, by, seconds, total}
 use Rattle.canvas_runs.specs.Logs.{queue_calls, table_calls}
 use Rattle.canvas_runs.specs.Run.{Run, IsRead, published_all}
-use Rattle.canvas_runs.specs.Tally.{Tally, Adds, CountsOf, EachCounts, often, is_taken, is_published, is_first, is_part, is_lost, is_dropped, publishing, storing, returning}
+use Rattle.canvas_runs.specs.Tally.{Tally, CountsMore, CountsOf, EachCounts, often, is_taken, is_published, is_first, is_part, is_lost, is_dropped, publishing, storing, returning}
 use Rattle.canvas_runs.specs.Worker.{working, opened, sealed}
 use Rattle.canvas_runs.proofs.CallsOf.{queue_by, queue_entries, table_by, table_rows}
 use Rattle.canvas_runs.proofs.Facts.{X, form, Does, order, value}
@@ -96,10 +96,10 @@ follows_publishing (follows_publish f) = let k = follows_publishing f in omega (
 follows_publishing (follows_list_take f) = let k = follows_publishing f in omega (arith, k)
 follows_publishing (follows_core_take f) = let k = follows_publishing f in omega (arith, k)
 
-same_count : (n m k : ℕ) → Adds 0 n k → n ≡ m → Adds 0 m k
-same_count n m k a e = subst (λ x. Adds 0 x k) e a
+same_count : (n m k : ℕ) → CountsMore 0 n k → n ≡ m → CountsMore 0 m k
+same_count n m k a e = subst (λ x. CountsMore 0 x k) e a
 
-no_count : (n k : ℕ) → Adds 0 n k → n ≡ 0 → k ≡ 0
+no_count : (n k : ℕ) → CountsMore 0 n k → n ≡ 0 → k ≡ 0
 no_count n k a e = omega (arith, a, e)
 
 publishing_all : (es : List Envelope) → total publishing (published_all es) ≡ length es
@@ -178,7 +178,7 @@ module _ (l : Line) (plan : IsPlan l) (pass : Pass) (seat : Seat) (r : Ran l pas
         mates_count (suc k) ms h.1 t.1 d.1,
       )
 
-  more_sent : (n k a t : ℕ) → Adds 0 k a → Adds n a t → Adds 0 (n + k) t
+  more_sent : (n k a t : ℕ) → CountsMore 0 k a → CountsMore n a t → CountsMore 0 (n + k) t
   more_sent n k a t e f = omega (arith, e, f)
 
   own_counts : (t : Tally) → OwnTally l pass seat r t → CountsOf queue seat.seen 0 t
@@ -201,11 +201,11 @@ module _ (l : Line) (plan : IsPlan l) (pass : Pass) (seat : Seat) (r : Ran l pas
       ap (λ x. total returning x) replies ∙ (total-append returning (backend_calls (working P) f.run) r.closing ∙ (let k = calls_parts P f.run in let z = reads.1 in omega (arith, k, z))) in
       let lost = taken_kept P r.pass_joined r.seat_joined r.own f w.own.1 Good good_opens
       (each_right (GoodTake Good) before f.made (subst (λ cs. Each (GoodTake Good) cs) calls (good_by 0))) in (
-        subst (λ n. Adds 0 (total takes_one (by 0 (queue_calls queue))) n) (sym o.0) (same_count (often is_taken f.run) (total takes_one (by 0 (queue_calls queue))) r.own.tally.taken c.taken (sym all_taken)),
+        subst (λ n. CountsMore 0 (total takes_one (by 0 (queue_calls queue))) n) (sym o.0) (same_count (often is_taken f.run) (total takes_one (by 0 (queue_calls queue))) r.own.tally.taken c.taken (sym all_taken)),
         same_count (length r.opening + often is_published f.run) (total publishing (by 0 (queue_calls queue))) t.published
             (more_sent (length r.opening) (often is_published f.run) r.own.tally.published t.published c.published o.1) (sym all_sent),
-        subst (λ n. Adds 0 (total storing (by 0 (table_calls seat.seen))) n) (sym o.2) (same_count (often is_first f.run) (total storing (by 0 (table_calls seat.seen))) r.own.tally.first c.first (sym all_first)),
-        subst (λ n. Adds 0 (total returning (by 0 (table_calls seat.seen))) n) (sym o.3) (same_count (often is_part f.run) (total returning (by 0 (table_calls seat.seen))) r.own.tally.parts c.parts (sym all_parts)),
+        subst (λ n. CountsMore 0 (total storing (by 0 (table_calls seat.seen))) n) (sym o.2) (same_count (often is_first f.run) (total storing (by 0 (table_calls seat.seen))) r.own.tally.first c.first (sym all_first)),
+        subst (λ n. CountsMore 0 (total returning (by 0 (table_calls seat.seen))) n) (sym o.3) (same_count (often is_part f.run) (total returning (by 0 (table_calls seat.seen))) r.own.tally.parts c.parts (sym all_parts)),
         o.4 ∙ no_count (often (is_dropped P) f.run) r.own.tally.dropped c.dropped lost,
       )
 

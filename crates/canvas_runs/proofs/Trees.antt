@@ -4,7 +4,7 @@ use Rattle.canvas_message.specs.Events.{In}
 use Rattle.canvas_runs.specs.Lists.{Each}
 use Rattle.canvas_message.specs.Job.{Job, store, publish, hand_in}
 use Rattle.canvas_message.specs.Events.{Event, running, end_of}
-use Rattle.canvas_message.specs.Flowing.{Input, number, numbers, ident, Flow, run, skip, raise}
+use Rattle.canvas_message.specs.Flowing.{Input, number_input, list_input, id_input, LineFlow, run, skips, raise}
 use Rattle.canvas_semantics.specs.Line.{Line, stop, step, group_end, chord_end, Lines, no_lines, and_line, no_of}
 use Rattle.canvas_semantics.specs.Tree.{Task, task, Tasks, no_tasks, and_task}
 use Rattle.canvas_task.specs.declared.outcome.Outcome.{Outcome}
@@ -13,7 +13,7 @@ use Rattle.canvas_task.specs.declared.outcome.Fault.{Fault}
 use Rattle.canvas_runs.proofs.Messages.{Place, nowhere, in_group, in_chord, Carried, errbacks_of, last_of, Message, header, after_member}
 use Rattle.canvas_message.specs.Flowing.{after_outcome}
 use Rattle.canvas_runs.proofs.Effects.{Jobs, message, outcome_of, at_stop, members_place, callbacks, called, enter, enter_all, when_empty, after, by_kind, picked, only_store, only_publish, only_part, failed, header_fault}
-use Rattle.canvas_message.specs.Events.{parent_of, flow_outcome, number_of, chosen}
+use Rattle.canvas_message.specs.Events.{parent_of, flow_outcome, input_of_success, chosen}
 use Rattle.canvas_runs.proofs.Evaluation.{Items, labelled, joined, header_place, members_event, body_event, result, out, outs, ran, ran_all, items, items_all}
 use Rattle.canvas_runs.proofs.Words.{each_append, each_weaker, in_left, in_right}
 
@@ -76,7 +76,7 @@ each_by_kind P js a =
     parts (hand_in g t c) p = (p, tt)
 
 -- what is skipped goes out skipped
-out_skip : (l : Line) (f : Fault) → out l (skip f) ≡ skip f
+out_skip : (l : Line) (f : Fault) → out l (skips f) ≡ skips f
 out_skip stop f = refl
 out_skip (step t rest) f = out_skip rest f
 out_skip (group_end g ms) f = refl
@@ -106,33 +106,33 @@ mutual
 
 -- what happens at once is part of what comes of it
 mutual
-  pub enter_in : (l : Line) (x : Flow) (p : Place) (t : ℕ) (v : Event) → AllIn v (items l x p t v) (enter l x p t (parent_of v))
+  pub enter_in : (l : Line) (x : LineFlow) (p : Place) (t : ℕ) (v : Event) → AllIn v (items l x p t v) (enter l x p t (parent_of v))
   enter_in stop x p t v = all_labelled v (at_stop p t)
   enter_in (step k rest) (run x) p t v = (in_left (ran k x v rest p) _ _ (ran_head k x v rest p), tt)
-  enter_in (step k rest) (skip f) p t v = (inl refl, all_more v (v, store (no_of k) (Failure f)) _ _ (enter_in rest (skip f) p (no_of k) v))
+  enter_in (step k rest) (skips f) p t v = (inl refl, all_more v (v, store (no_of k) (Failure f)) _ _ (enter_in rest (skips f) p (no_of k) v))
   enter_in (step k rest) (raise f) p t v = (
     inl refl,
     all_more v (v, store (no_of k) (Failure f)) _ _
-        (all_both v _ (callbacks (errbacks_of k) (ident (no_of k)) (parent_of v)) _
-        (all_left v _ _ _ (callbacks_in (errbacks_of k) (ident (no_of k)) v))
-        (all_right v (ran_all (errbacks_of k) (ident (no_of k)) v) _ _ (enter_in rest (skip f) p (no_of k) v))),
+        (all_both v _ (callbacks (errbacks_of k) (id_input (no_of k)) (parent_of v)) _
+        (all_left v _ _ _ (callbacks_in (errbacks_of k) (id_input (no_of k)) v))
+        (all_right v (ran_all (errbacks_of k) (id_input (no_of k)) v) _ _ (enter_in rest (skips f) p (no_of k) v))),
   )
   enter_in (group_end g ms) x p t v = enter_all_in ms x (in_group g) v
   enter_in (chord_end g ms body) (run x) p t v =
       all_both v _ (enter_all ms (run x) (members_place g ms body p) (parent_of v)) _
       (all_left v _ _ _ (enter_all_in ms (run x) (members_place g ms body p) v))
       (all_right v (items_all ms (run x) (members_place g ms body p) v) _ _ (if_empty g ms body p v x (λ y. enter_in body y p 0 v)))
-  enter_in (chord_end g ms body) (skip f) p t v =
-      all_both v _ (enter_all ms (skip f) nowhere (parent_of v)) _
-      (all_left v _ _ _ (enter_all_in ms (skip f) nowhere v))
-      (all_right v (items_all ms (skip f) nowhere v) _ _ (enter_in body (skip f) p 0 v))
+  enter_in (chord_end g ms body) (skips f) p t v =
+      all_both v _ (enter_all ms (skips f) nowhere (parent_of v)) _
+      (all_left v _ _ _ (enter_all_in ms (skips f) nowhere v))
+      (all_right v (items_all ms (skips f) nowhere v) _ _ (enter_in body (skips f) p 0 v))
   enter_in (chord_end g ms body) (raise f) p t v =
       all_both v _ (enter_all ms (raise f) nowhere (parent_of v)) _
       (all_left v _ _ _ (enter_all_in ms (raise f) nowhere v))
       (all_right v (items_all ms (raise f) nowhere v) _ _
       (subst (λ y. AllIn v (items body y p 0 v) (enter body (raise (header_fault ms f)) p 0 (parent_of v))) (sym (joined_raise ms f)) (enter_in body (raise (header_fault ms f)) p 0 v)))
 
-  pub enter_all_in : (ms : Lines) (x : Flow) (p : Place) (v : Event) → AllIn v (items_all ms x p v) (enter_all ms x p (parent_of v))
+  pub enter_all_in : (ms : Lines) (x : LineFlow) (p : Place) (v : Event) → AllIn v (items_all ms x p v) (enter_all ms x p (parent_of v))
   enter_all_in no_lines x p v = tt
   enter_all_in (and_line m ms) x p v =
       all_both v _ (enter m x p 0 (parent_of v)) _
@@ -140,9 +140,9 @@ mutual
       (all_right v (items m x p 0 v) _ _ (enter_all_in ms x p v))
 
   if_empty : (g : ℕ) (ms : Lines) (body : Line) (p : Place) (v : Event) (x : Input) →
-      ((y : Flow) → AllIn v (items body y p 0 v) (enter body y p 0 (parent_of v))) →
-      AllIn v (items body (joined (run x) (outs ms (run x))) p 0 (members_event ms g v)) (when_empty ms (enter body (run (numbers [])) p 0 (parent_of v)))
-  if_empty g no_lines body p v x h = h (run (numbers []))
+      ((y : LineFlow) → AllIn v (items body y p 0 v) (enter body y p 0 (parent_of v))) →
+      AllIn v (items body (joined (run x) (outs ms (run x))) p 0 (members_event ms g v)) (when_empty ms (enter body (run (list_input [])) p 0 (parent_of v)))
+  if_empty g no_lines body p v x h = h (run (list_input []))
   if_empty g (and_line m ms) body p v x h = tt
 
 -- the outcome of a message's task and what its end does
@@ -175,9 +175,9 @@ followed_append : (is js : Items) → Followed is is → Followed js js → Foll
 followed_append is js f g = followed_both is js (is ++ js) (followed_left is is js f) (followed_right js is js g)
 
 called_in : (links errbacks : Tasks) (k : ℕ) (o : Outcome) →
-    AllIn (end_of k) (chosen o (ran_all links (number_of o) (end_of k)) (ran_all errbacks (ident k) (end_of k))) (called links errbacks k o)
-called_in links errbacks k (Success n) = callbacks_in links (number n) (end_of k)
-called_in links errbacks k (Failure f) = callbacks_in errbacks (ident k) (end_of k)
+    AllIn (end_of k) (chosen o (ran_all links (input_of_success o) (end_of k)) (ran_all errbacks (id_input k) (end_of k))) (called links errbacks k o)
+called_in links errbacks k (Success n) = callbacks_in links (number_input n) (end_of k)
+called_in links errbacks k (Failure f) = callbacks_in errbacks (id_input k) (end_of k)
 
 chosen_followed : (o : Outcome) (xs ys : Items) → Followed xs xs → Followed ys ys → Followed (chosen o xs ys) (chosen o xs ys)
 chosen_followed (Success n) xs ys f g = f
@@ -213,7 +213,7 @@ mutual
       let m : Message = message t x (parent_of v) rest p in
       let o : Outcome = outcome_of m in
       ran_all_at k links errbacks x v m _ later o refl refl (called_in links errbacks k o) r
-      (chosen_followed o _ _ (ran_all_followed links (number_of o) (end_of k)) (ran_all_followed errbacks (ident k) (end_of k)))
+      (chosen_followed o _ _ (ran_all_followed links (input_of_success o) (end_of k)) (ran_all_followed errbacks (id_input k) (end_of k)))
 
   ran_all_followed : (ts : Tasks) (x : Input) (v : Event) → Followed (ran_all ts x v) (ran_all ts x v)
   ran_all_followed no_tasks x v = λ e m i. elim i [ ]
@@ -233,20 +233,20 @@ stored_first v k o is f e m (inl same) = absurd (apart (ap (λ q. q.1) same))
 stored_first v k o is f e m (inr i) = answered_more m (v, store k o) is (f e m i)
 
 mutual
-  pub items_followed : (l : Line) (x : Flow) (p : Place) (t : ℕ) (v : Event) → Followed (items l x p t v) (items l x p t v)
+  pub items_followed : (l : Line) (x : LineFlow) (p : Place) (t : ℕ) (v : Event) → Followed (items l x p t v) (items l x p t v)
   items_followed stop x p t v = stop_followed p t v _
   items_followed (step k rest) (run x) p t v =
       let later : Items = items rest (after_outcome (result k x)) p (no_of k) (end_of (no_of k)) in
       followed_both (ran k x v rest p) later _
       (ran_followed k x v rest p later (enter_in rest (after_outcome (result k x)) p (no_of k) (end_of (no_of k))))
       (followed_right later (ran k x v rest p) later (items_followed rest (after_outcome (result k x)) p (no_of k) (end_of (no_of k))))
-  items_followed (step k rest) (skip f) p t v = stored_first v (no_of k) (Failure f) _ (items_followed rest (skip f) p (no_of k) v)
+  items_followed (step k rest) (skips f) p t v = stored_first v (no_of k) (Failure f) _ (items_followed rest (skips f) p (no_of k) v)
   items_followed (step k rest) (raise f) p t v = stored_first v (no_of k) (Failure f) _
-      (followed_append _ _ (ran_all_followed (errbacks_of k) (ident (no_of k)) v) (items_followed rest (skip f) p (no_of k) v))
+      (followed_append _ _ (ran_all_followed (errbacks_of k) (id_input (no_of k)) v) (items_followed rest (skips f) p (no_of k) v))
   items_followed (group_end g ms) x p t v = items_all_followed ms x (in_group g) v
   items_followed (chord_end g ms body) x p t v =
       followed_append _ _ (items_all_followed ms x (header_place x g ms body p) v) (items_followed body (joined x (outs ms x)) p 0 (body_event x ms g v))
 
-  pub items_all_followed : (ms : Lines) (x : Flow) (p : Place) (v : Event) → Followed (items_all ms x p v) (items_all ms x p v)
+  pub items_all_followed : (ms : Lines) (x : LineFlow) (p : Place) (v : Event) → Followed (items_all ms x p v) (items_all ms x p v)
   items_all_followed no_lines x p v = λ e m i. elim i [ ]
   items_all_followed (and_line m ms) x p v = followed_append _ _ (items_followed m x p 0 v) (items_all_followed ms x p v)

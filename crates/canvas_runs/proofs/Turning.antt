@@ -4,7 +4,7 @@ use Rattle.canvas_task.specs.declared.outcome.Outcome.{Outcome}
 use Rattle.canvas_semantics.specs.Line.{Line}
 use Rattle.canvas_message.specs.declared.envelope.Envelope.{Envelope}
 use Rattle.canvas_backend.specs.Backend.{Results}
-use Rattle.canvas_runs.specs.Core.{Ask, Reply, take, send, keep, part, read, pause, taken, sent, kept, counted, found, rested, State, taking, ask, answered, left_after, Suits, ReadsBack, IsCoreRun}
+use Rattle.canvas_runs.specs.Core.{Ask, Reply, take, send, keep, part, read, pause, taken, sent, kept, counted, found, rested, CoreState, taking, ask, answered, left_after, Suits, ReadsBack, IsCoreRun}
 use Rattle.canvas_runs.specs.Calls.{AskedAndAnswered, reads_member}
 use Rattle.canvas_runs.specs.Lists.{by}
 use Rattle.canvas_runs.specs.Protocol.{Protocol}
@@ -31,11 +31,11 @@ module _ {A : Type 0} where
 -- ---- one more answered ask of a core run
 
 module _ (X : Protocol) where
-  pub left_more : (s : State X.Message X.Carried X.Outcome) (xs : List (AskedAndAnswered X)) (x : AskedAndAnswered X) → left_after X s (xs ++ x ∷ []) ≡ answered X (left_after X s xs) x.1
+  pub left_more : (s : CoreState X.Message X.Carried X.Outcome) (xs : List (AskedAndAnswered X)) (x : AskedAndAnswered X) → left_after X s (xs ++ x ∷ []) ≡ answered X (left_after X s xs) x.1
   left_more s [] x = refl
   left_more s (y ∷ xs) x = left_more (answered X s y.1) xs x
 
-  pub core_more : (s : State X.Message X.Carried X.Outcome) (xs : List (AskedAndAnswered X)) (x : AskedAndAnswered X) → IsCoreRun X s xs → x.0 ≡ ask X (left_after X s xs) → Suits X x.0 x.1 → ReadsBack X (left_after X s xs)
+  pub core_more : (s : CoreState X.Message X.Carried X.Outcome) (xs : List (AskedAndAnswered X)) (x : AskedAndAnswered X) → IsCoreRun X s xs → x.0 ≡ ask X (left_after X s xs) → Suits X x.0 x.1 → ReadsBack X (left_after X s xs)
       → IsCoreRun X s (xs ++ x ∷ [])
   core_more s [] x run asks suits back = (asks, (suits, back), tt)
   core_more s (y ∷ xs) x run asks suits back = (run.0, run.1, core_more (answered X s y.1) xs x run.2 asks suits back)

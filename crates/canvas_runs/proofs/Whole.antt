@@ -4,7 +4,7 @@ use Rattle.canvas_message.specs.Events.{In}
 use Rattle.canvas_runs.specs.Lists.{Each, firsts}
 use Rattle.canvas_message.specs.Job.{store, publish, hand_in}
 use Rattle.canvas_message.specs.Events.{Event, end_of, completion}
-use Rattle.canvas_message.specs.Flowing.{Input, number, numbers, ident, Flow, run, skip, raise}
+use Rattle.canvas_message.specs.Flowing.{Input, number_input, list_input, id_input, LineFlow, run, skips, raise}
 use Rattle.canvas_semantics.specs.Line.{Line, stop, step, group_end, chord_end, Lines, no_lines, and_line, no_of}
 use Rattle.canvas_semantics.specs.Tree.{Task, task, Tasks, no_tasks, and_task}
 use Rattle.canvas_task.specs.declared.outcome.Outcome.{Outcome}
@@ -12,7 +12,7 @@ use Rattle.canvas_task.specs.declared.outcome.Outcome.TheVariants.{Success, Fail
 use Rattle.canvas_runs.proofs.Messages.{Place, nowhere, in_group, in_chord, Carried, carried, errbacks_of, last_of, last_from, lasts, lines_length, Message, header}
 use Rattle.canvas_message.specs.Flowing.{after_outcome}
 use Rattle.canvas_runs.proofs.Effects.{Jobs, message, outcome_of, at_stop, members_place, callbacks, called, enter, enter_all, when_empty, after, body_after, by_kind, picked, only_store, only_publish, only_part, header_fault}
-use Rattle.canvas_message.specs.Events.{parent_of, number_of, chosen}
+use Rattle.canvas_message.specs.Events.{parent_of, input_of_success, chosen}
 use Rattle.canvas_runs.proofs.Evaluation.{Items, labelled, joined, header_place, members_event, body_event, result, outs, ran, ran_all, items, items_all}
 use Rattle.canvas_semantics.specs.FileOrder.{EndsInTask}
 use Rattle.canvas_runs.proofs.FileOrder.{LineIn, LinesIn}
@@ -37,15 +37,15 @@ from_kind P js a =
 
 module _ (members : ℕ → List ℕ) where
   -- a line that ends in a task hands in that task
-  line_hands : (l : Line) (behind : Bool) (x : Flow) (g : ℕ) (c : Carried) (t : ℕ) (v : Event) → EndsInTask behind l → (w : Event) × In (w, hand_in g (last_from t l) c) (items l x (in_chord g c) t v)
+  line_hands : (l : Line) (behind : Bool) (x : LineFlow) (g : ℕ) (c : Carried) (t : ℕ) (v : Event) → EndsInTask behind l → (w : Event) × In (w, hand_in g (last_from t l) c) (items l x (in_chord g c) t v)
   line_hands stop behind x g c t v e = (v, inl refl)
   line_hands (step k rest) behind (run x) g c t v e = let r = line_hands rest true (after_outcome (result k x)) g c (no_of k) (end_of (no_of k)) e in (r.0, in_right (ran k x v rest (in_chord g c)) _ _ r.1)
-  line_hands (step k rest) behind (skip f) g c t v e = let r = line_hands rest true (skip f) g c (no_of k) v e in (r.0, inr r.1)
-  line_hands (step k rest) behind (raise f) g c t v e = let r = line_hands rest true (skip f) g c (no_of k) v e in (r.0, inr (in_right (ran_all (errbacks_of k) (ident (no_of k)) v) _ _ r.1))
+  line_hands (step k rest) behind (skips f) g c t v e = let r = line_hands rest true (skips f) g c (no_of k) v e in (r.0, inr r.1)
+  line_hands (step k rest) behind (raise f) g c t v e = let r = line_hands rest true (skips f) g c (no_of k) v e in (r.0, inr (in_right (ran_all (errbacks_of k) (id_input (no_of k)) v) _ _ r.1))
   line_hands (group_end h ms) behind x g c t v e = elim e [ ]
   line_hands (chord_end h ms body) behind x g c t v e = let r = line_hands body false (joined x (outs ms x)) g c 0 (body_event x ms h v) e in (r.0, in_right (items_all ms x (header_place x h ms body (in_chord g c)) v) _ _ r.1)
 
-  all_hand : (ms : Lines) (x : Flow) (g : ℕ) (c : Carried) (v : Event) (low high : ℕ) → LinesIn members ms low high → Each (λ t. (w : Event) × In (w, hand_in g t c) (items_all ms x (in_chord g c) v)) (lasts ms)
+  all_hand : (ms : Lines) (x : LineFlow) (g : ℕ) (c : Carried) (v : Event) (low high : ℕ) → LinesIn members ms low high → Each (λ t. (w : Event) × In (w, hand_in g t c) (items_all ms x (in_chord g c) v)) (lasts ms)
   all_hand no_lines x g c v low high n = tt
   all_hand (and_line m ms) x g c v low high (middle, i, e, j) =
       let r = line_hands m false x g c 0 v e in (
@@ -87,9 +87,9 @@ module _ (members : ℕ → List ℕ) where
     labelled_done v (j ∷ js) d = (d.0, labelled_done v js d.1)
 
     chosen_done : (links errbacks : Tasks) (k : ℕ) (o : Outcome) →
-        ((n : _) → Each Done (callbacks links (number n) (Some k)) → AllDone (ran_all links (number n) (end_of k))) →
-        (Each Done (callbacks errbacks (ident k) (Some k)) → AllDone (ran_all errbacks (ident k) (end_of k))) →
-        Each Done (called links errbacks k o) → AllDone (chosen o (ran_all links (number_of o) (end_of k)) (ran_all errbacks (ident k) (end_of k)))
+        ((n : _) → Each Done (callbacks links (number_input n) (Some k)) → AllDone (ran_all links (number_input n) (end_of k))) →
+        (Each Done (callbacks errbacks (id_input k) (Some k)) → AllDone (ran_all errbacks (id_input k) (end_of k))) →
+        Each Done (called links errbacks k o) → AllDone (chosen o (ran_all links (input_of_success o) (end_of k)) (ran_all errbacks (id_input k) (end_of k)))
     chosen_done links errbacks k (Success n) f g d = f n d
     chosen_done links errbacks k (Failure n) f g d = g d
 
@@ -102,7 +102,7 @@ module _ (members : ℕ → List ℕ) where
           let o : Outcome = outcome_of m in
           let s = script m d in
           let jobs : Each Done (called links errbacks k o ++ enter rest (after_outcome o) p k (Some k)) = from_kind Done (called links errbacks k o ++ enter rest (after_outcome o) p k (Some k)) s.1 in (
-            (d, (s.0, chosen_done links errbacks k o (λ n. ran_all_done links (number n) (end_of k)) (ran_all_done errbacks (ident k) (end_of k)) (each_left Done (called links errbacks k o) (enter rest (after_outcome o) p k (Some k)) jobs))),
+            (d, (s.0, chosen_done links errbacks k o (λ n. ran_all_done links (number_input n) (end_of k)) (ran_all_done errbacks (id_input k) (end_of k)) (each_left Done (called links errbacks k o) (enter rest (after_outcome o) p k (Some k)) jobs))),
             each_right Done (called links errbacks k o) (enter rest (after_outcome o) p k (Some k)) jobs,
           )
 
@@ -114,11 +114,11 @@ module _ (members : ℕ → List ℕ) where
     body_done : (g : ℕ) (ms : Lines) (body : Line) (p : Place) (x : Input) (v : Event) (low high : ℕ) → LinesIn members ms low high → members g ≡ lasts ms →
         ((i : Event × AJob) → In i (items_all ms (run x) (members_place g ms body p) v) → In i whole) →
         AllDone (items_all ms (run x) (members_place g ms body p) v) →
-        Each Done (when_empty ms (enter body (run (numbers [])) p 0 (parent_of v))) →
-        ((y : Flow) (e : Event) → Each Done (enter body y p 0 (parent_of e)) → ((i : Event × AJob) → In i (items body y p 0 e) → In i whole) → AllDone (items body y p 0 e)) →
+        Each Done (when_empty ms (enter body (run (list_input [])) p 0 (parent_of v))) →
+        ((y : LineFlow) (e : Event) → Each Done (enter body y p 0 (parent_of e)) → ((i : Event × AJob) → In i (items body y p 0 e) → In i whole) → AllDone (items body y p 0 e)) →
         ((i : Event × AJob) → In i (items body (joined (run x) (outs ms (run x))) p 0 (members_event ms g v)) → In i whole) →
         AllDone (items body (joined (run x) (outs ms (run x))) p 0 (members_event ms g v))
-    body_done g no_lines body p x v low high n same inside done empty f within = f (run (numbers [])) v empty within
+    body_done g no_lines body p x v low high n same inside done empty f within = f (run (list_input [])) v empty within
     body_done g (and_line m ms) body p x v low high n same inside done empty f within =
         let all : Lines = and_line m ms in
         let c : Carried = carried (suc (lines_length ms)) body p in
@@ -131,7 +131,7 @@ module _ (members : ℕ → List ℕ) where
         f (header es) (completion g) (from_kind Done (enter body (header es) p 0 None) (subst (λ fs. Each Done (body_after c fs)) found h.3)) within
 
     mutual
-      pub items_done : (l : Line) (x : Flow) (p : Place) (t : ℕ) (v : Event) (low high : ℕ) → LineIn members l low high → ((i : Event × AJob) → In i (items l x p t v) → In i whole) →
+      pub items_done : (l : Line) (x : LineFlow) (p : Place) (t : ℕ) (v : Event) (low high : ℕ) → LineIn members l low high → ((i : Event × AJob) → In i (items l x p t v) → In i whole) →
           Each Done (enter l x p t (parent_of v)) → AllDone (items l x p t v)
       items_done stop x p t v low high n inside d = labelled_done v (at_stop p t) d
       items_done (step k rest) (run x) p t v low high n inside d =
@@ -139,32 +139,32 @@ module _ (members : ℕ → List ℕ) where
           let later : Items = items rest (after_outcome (result k x)) p (no_of k) (end_of (no_of k)) in
           each_append (λ i. Done i.1) (ran k x v rest p) later r.0
           (items_done rest (after_outcome (result k x)) p (no_of k) (end_of (no_of k)) n.0 high n.2 (λ i z. inside i (in_right (ran k x v rest p) later i z)) r.1)
-      items_done (step k rest) (skip f) p t v low high n inside d = (d.0, items_done rest (skip f) p (no_of k) v n.0 high n.2 (λ i z. inside i (inr z)) d.1)
+      items_done (step k rest) (skips f) p t v low high n inside d = (d.0, items_done rest (skips f) p (no_of k) v n.0 high n.2 (λ i z. inside i (inr z)) d.1)
       items_done (step k rest) (raise f) p t v low high n inside d =
-          let calls : Jobs = callbacks (errbacks_of k) (ident (no_of k)) (parent_of v) in
-          let later : Jobs = enter rest (skip f) p (no_of k) (parent_of v) in (
+          let calls : Jobs = callbacks (errbacks_of k) (id_input (no_of k)) (parent_of v) in
+          let later : Jobs = enter rest (skips f) p (no_of k) (parent_of v) in (
             d.0,
-            each_append (λ i. Done i.1) (ran_all (errbacks_of k) (ident (no_of k)) v) (items rest (skip f) p (no_of k) v)
-                (ran_all_done (errbacks_of k) (ident (no_of k)) v (each_left Done calls later d.1))
-                (items_done rest (skip f) p (no_of k) v n.0 high n.2 (λ i z. inside i (inr (in_right (ran_all (errbacks_of k) (ident (no_of k)) v) (items rest (skip f) p (no_of k) v) i z))) (each_right Done calls later d.1)),
+            each_append (λ i. Done i.1) (ran_all (errbacks_of k) (id_input (no_of k)) v) (items rest (skips f) p (no_of k) v)
+                (ran_all_done (errbacks_of k) (id_input (no_of k)) v (each_left Done calls later d.1))
+                (items_done rest (skips f) p (no_of k) v n.0 high n.2 (λ i z. inside i (inr (in_right (ran_all (errbacks_of k) (id_input (no_of k)) v) (items rest (skips f) p (no_of k) v) i z))) (each_right Done calls later d.1)),
           )
       items_done (group_end g ms) x p t v low high n inside d = items_all_done ms x (in_group g) v low high n.0 inside d
       items_done (chord_end g ms body) (run x) p t v low high n inside d =
           let left : Items = items_all ms (run x) (members_place g ms body p) v in
           let right : Items = items body (joined (run x) (outs ms (run x))) p 0 (members_event ms g v) in
           let some : Jobs = enter_all ms (run x) (members_place g ms body p) (parent_of v) in
-          let empty : Jobs = when_empty ms (enter body (run (numbers [])) p 0 (parent_of v)) in
+          let empty : Jobs = when_empty ms (enter body (run (list_input [])) p 0 (parent_of v)) in
           let lines = items_all_done ms (run x) (members_place g ms body p) v low n.0 n.1 (λ i z. inside i (in_left left right i z)) (each_left Done some empty d) in
           each_append (λ i. Done i.1) left right lines
           (body_done g ms body p x v low n.0 n.1 n.3 (λ i z. inside i (in_left left right i z)) lines (each_right Done some empty d) (λ y e b w. items_done body y p 0 e n.0 high n.2 w b) (λ i z. inside i (in_right left right i z)))
-      items_done (chord_end g ms body) (skip f) p t v low high n inside d =
-          let left : Items = items_all ms (skip f) nowhere v in
-          let right : Items = items body (skip f) p 0 v in
-          let some : Jobs = enter_all ms (skip f) nowhere (parent_of v) in
-          let more : Jobs = enter body (skip f) p 0 (parent_of v) in
+      items_done (chord_end g ms body) (skips f) p t v low high n inside d =
+          let left : Items = items_all ms (skips f) nowhere v in
+          let right : Items = items body (skips f) p 0 v in
+          let some : Jobs = enter_all ms (skips f) nowhere (parent_of v) in
+          let more : Jobs = enter body (skips f) p 0 (parent_of v) in
           each_append (λ i. Done i.1) left right
-          (items_all_done ms (skip f) nowhere v low n.0 n.1 (λ i z. inside i (in_left left right i z)) (each_left Done some more d))
-          (items_done body (skip f) p 0 v n.0 high n.2 (λ i z. inside i (in_right left right i z)) (each_right Done some more d))
+          (items_all_done ms (skips f) nowhere v low n.0 n.1 (λ i z. inside i (in_left left right i z)) (each_left Done some more d))
+          (items_done body (skips f) p 0 v n.0 high n.2 (λ i z. inside i (in_right left right i z)) (each_right Done some more d))
       items_done (chord_end g ms body) (raise f) p t v low high n inside d =
           let left : Items = items_all ms (raise f) nowhere v in
           let right : Items = items body (joined (raise f) (outs ms (raise f))) p 0 v in
@@ -176,7 +176,7 @@ module _ (members : ℕ → List ℕ) where
           (items_done body (joined (raise f) (outs ms (raise f))) p 0 v n.0 high n.2 (λ i z. inside i (in_right left right i z))
           (subst (λ y. Each Done (enter body y p 0 (parent_of v))) (sym flow) (each_right Done some more d)))
 
-      pub items_all_done : (ms : Lines) (x : Flow) (p : Place) (v : Event) (low high : ℕ) → LinesIn members ms low high → ((i : Event × AJob) → In i (items_all ms x p v) → In i whole) →
+      pub items_all_done : (ms : Lines) (x : LineFlow) (p : Place) (v : Event) (low high : ℕ) → LinesIn members ms low high → ((i : Event × AJob) → In i (items_all ms x p v) → In i whole) →
           Each Done (enter_all ms x p (parent_of v)) → AllDone (items_all ms x p v)
       items_all_done no_lines x p v low high n inside d = tt
       items_all_done (and_line m ms) x p v low high n inside d =

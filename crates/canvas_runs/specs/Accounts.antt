@@ -6,7 +6,7 @@ use Rattle.canvas_message.specs.declared.envelope.Envelope.{Envelope}
 use Rattle.canvas_backend.specs.Backend as backend
 use Rattle.canvas_backend.specs.Roster.{Roster}
 use Rattle.canvas_broker.specs.Broker as broker
-use Rattle.canvas_runs.specs.Crew.{Mate, numbers}
+use Rattle.canvas_runs.specs.Crew.{Mate, numbers_along}
 use Rattle.canvas_runs.specs.Following.{doing, given, asking, replied}
 use Rattle.canvas_runs.specs.Calls.{BrokerCall, BackendCall, backend_calls}
 use Rattle.canvas_runs.specs.Worker.{working}
@@ -40,15 +40,15 @@ module _ (plan : Roster) where
   -- of the broker: what worker 0 called before and after it took in the workers
   pub record Accounts (mates : List (Mate plan)) (first last : List (BrokerCall Envelope)) (log : List (broker.Line Envelope)) : Type 0 where
     pub legal : broker.IsLegal log
-    pub own : made_by 0 log ≡ (splits_of (numbers 1 mates) ++ entries 0 first) ++ (joins_of (numbers 1 mates) ++ entries 0 last)
+    pub own : made_by 0 log ≡ (splits_of (numbers_along 1 mates) ++ entries 0 first) ++ (joins_of (numbers_along 1 mates) ++ entries 0 last)
     pub each : HasEach 1 mates log
-    pub names : named log ≡ numbers 1 mates
+    pub names : named log ≡ numbers_along 1 mates
     pub sole : Sole log 0
 
   -- of the backend, where worker 0 calls after it took in the workers
   pub record Ledger (mates : List (Mate plan)) (last : List (BackendCall Outcome)) (log : backend.Log) : Type 0 where
     pub legal : backend.IsLegal plan log
-    pub own : made_by 0 log ≡ (splits_of (numbers 1 mates) ++ joins_of (numbers 1 mates)) ++ rows 0 last
+    pub own : made_by 0 log ≡ (splits_of (numbers_along 1 mates) ++ joins_of (numbers_along 1 mates)) ++ rows 0 last
     pub each : HasRows 1 mates log
-    pub names : named log ≡ numbers 1 mates
+    pub names : named log ≡ numbers_along 1 mates
     pub sole : Sole log 0

@@ -12,7 +12,7 @@ use Rattle.canvas_broker.specs.Broker.{Line as Entries, told}
 use Rattle.canvas_broker.specs.Callers.{knows_of}
 use Rattle.canvas_runs.specs.Accounts.{Accounts, Ledger}
 use Rattle.canvas_runs.specs.Causes.{ByCause, ByItsCause, completions}
-use Rattle.canvas_runs.specs.Crew.{Ran, EndedWell, IsHeld}
+use Rattle.canvas_runs.specs.Crew.{Ran, EndedWell, ReadsWhatIsHeld}
 use Rattle.canvas_runs.specs.Following.{Pass, Seat}
 use Rattle.canvas_runs.specs.Calls.{backend_calls}
 use Rattle.canvas_runs.specs.Law.{its_state, publishes}
@@ -41,7 +41,7 @@ IsARun = (l : Line) (pass : Pass) (seat : Seat) (r : Ran l pass seat) → (h : R
 
 -- the reads at the end answer what is held
 abbrev pub ReadsHeld : Type 0
-ReadsHeld = (l : Line) (pass : Pass) (seat : Seat) (r : Ran l pass seat) → Each (IsHeld (results (roster_of l) seat.seen)) r.closing
+ReadsHeld = (l : Line) (pass : Pass) (seat : Seat) (r : Ran l pass seat) → Each (ReadsWhatIsHeld (results (roster_of l) seat.seen)) r.closing
 
 -- each task is pending, or has the state that evaluation gives
 abbrev pub RowsMay : Type 0

@@ -22,19 +22,19 @@ pub data Reply (E O : Type 0) : Type 0 where
   found : ℕ → Option O → Reply E O
   rested : Bool → Reply E O
 
-pub data State (M C O : Type 0) : Type 0 where
-  taking : State M C O
-  resting : State M C O
+pub data CoreState (M C O : Type 0) : Type 0 where
+  taking : CoreState M C O
+  resting : CoreState M C O
   -- after a rest answered with no more
-  over : State M C O
+  over : CoreState M C O
   -- after a refused publish
-  failed : State M C O
+  failed : CoreState M C O
   -- a message taken, its own outcome not stored yet
-  owning : M → State M C O
+  owning : M → CoreState M C O
   -- these jobs left; whether the latest store of the task whose part is due answered First
-  doing : List (Job M C O) → Bool → State M C O
+  doing : List (Job M C O) → Bool → CoreState M C O
   -- the members' outcomes of this completed chord found so far
-  reading : ℕ → C → List (ℕ × O) → State M C O
+  reading : ℕ → C → List (ℕ × O) → CoreState M C O
 
 -- whether a part of the task is due
 abbrev pub is_due : {M C O : Type 0} → ℕ → List (Job M C O) → Bool
@@ -48,7 +48,7 @@ module _ (X : Protocol) where
   Jobs = List (Job X.Message X.Carried X.Outcome)
 
   abbrev pub Doing : Type 0
-  Doing = State X.Message X.Carried X.Outcome
+  Doing = CoreState X.Message X.Carried X.Outcome
 
   abbrev pub Asked : Type 0
   Asked = Ask X.Envelope X.Outcome

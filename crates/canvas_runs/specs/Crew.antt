@@ -17,7 +17,7 @@ use Rattle.canvas_runs.specs.Following.{Pass, Seat, Makes, Serves, Working, begi
 use Rattle.canvas_runs.specs.Calls.{BackendCall, stored, returned, has_read}
 use Rattle.canvas_runs.specs.Lists.{Each}
 use Rattle.canvas_runs.specs.Run.{IsRead, published_all}
-use Rattle.canvas_runs.specs.Tally.{Tally, Adds}
+use Rattle.canvas_runs.specs.Tally.{Tally, CountsMore}
 use Rattle.canvas_runs.specs.Worker.{worker, sealed}
 
 -- one worker, with the pass and the seat that were made for it, as it was left
@@ -143,7 +143,7 @@ AreRan =
 
 -- the counts of worker 0, its opening publishes among them
 abbrev pub OwnTally : (l : Line) (pass : Pass) (seat : Seat) → Ran l pass seat → Tally → Type 0
-OwnTally l pass seat r t = (t.taken ≡ r.own.tally.taken) × Adds (length r.opening) r.own.tally.published t.published × (t.first ≡ r.own.tally.first) × (t.parts ≡ r.own.tally.parts) × (t.dropped ≡ r.own.tally.dropped)
+OwnTally l pass seat r t = (t.taken ≡ r.own.tally.taken) × CountsMore (length r.opening) r.own.tally.published t.published × (t.first ≡ r.own.tally.first) × (t.parts ≡ r.own.tally.parts) × (t.dropped ≡ r.own.tally.dropped)
 
 -- All first messages were published, a take of worker 0 found nothing, and all ended outside of scripts.
 pub record EndedWell (l : Line) (pass : Pass) (seat : Seat) (r : Ran l pass seat) : Type 0 where
@@ -153,12 +153,12 @@ pub record EndedWell (l : Line) (pass : Pass) (seat : Seat) (r : Ran l pass seat
   pub each : Each (λ (m : Mate (roster_of l)). IsDone (roster_of l) m.ended) r.mates
 
 -- a read answered what is held
-abbrev pub IsHeld : Results → BackendCall Outcome → Type 0
-IsHeld s (has_read t x) = x ≡ s.outcomes t
-IsHeld s (stored t o b) = ⊥
-IsHeld s (returned g t n) = ⊥
+abbrev pub ReadsWhatIsHeld : Results → BackendCall Outcome → Type 0
+ReadsWhatIsHeld s (has_read t x) = x ≡ s.outcomes t
+ReadsWhatIsHeld s (stored t o b) = ⊥
+ReadsWhatIsHeld s (returned g t n) = ⊥
 
 -- so many numbers from k on
-abbrev pub numbers : {X : Type 0} → ℕ → List X → List ℕ
-numbers k [] = []
-numbers k (x ∷ xs) = k ∷ numbers (suc k) xs
+abbrev pub numbers_along : {X : Type 0} → ℕ → List X → List ℕ
+numbers_along k [] = []
+numbers_along k (x ∷ xs) = k ∷ numbers_along (suc k) xs

@@ -14,7 +14,7 @@ use Rattle.canvas_backend.specs.Callers as seats
 use Rattle.canvas_backend.specs.Roster.{Roster}
 use Rattle.canvas_broker.specs.Broker.{Doing, publish, take}
 use Rattle.canvas_broker.specs.Callers as passes
-use Rattle.canvas_runs.specs.Core.{State, taking, IsCoreRun, left_after, Between}
+use Rattle.canvas_runs.specs.Core.{CoreState, taking, IsCoreRun, left_after, Between}
 use Rattle.canvas_runs.specs.Calls.{BrokerCall, published, took, BackendCall, stored, returned, has_read, Follows, AskedAndAnswered, broker_calls, backend_calls, ReadsMembers, takes_one}
 use Rattle.canvas_runs.specs.Lists.{Each, total}
 use Rattle.canvas_runs.specs.Tally.{Tally, none_yet, Counted}
@@ -65,7 +65,7 @@ Serves plan s (c ∷ cs) t = (between : Seat) × seats.Stands plan s (calls s.na
 pub record Working : Type 0 where
   pub pass : Pass
   pub seat : Seat
-  pub left : State Content Load Outcome
+  pub left : CoreState Content Load Outcome
   pub held : List Envelope
   pub tally : Tally
 

@@ -27,8 +27,8 @@ module _ (l : Line) where
   its_state t = state_of t (eval (tree_of l) nothing).rows
 
   -- the message of a task that evaluation runs
-  abbrev pub IsRun : Content → Type 0
-  IsRun c = (v : Event) × DoesIn l v (publish c)
+  abbrev pub IsRunMessage : Content → Type 0
+  IsRunMessage c = (v : Event) × DoesIn l v (publish c)
 
   -- a part that evaluation returns
   abbrev pub IsPart : ℕ → ℕ → Type 0
@@ -54,8 +54,8 @@ module _ (l : Line) where
   abbrev pub publishes : ℕ → List (broker.Line Envelope) → ℕ
   publishes k queue = total (publishes_one k) (seconds (queue_calls queue))
 
-  abbrev pub takes : ℕ → List (broker.Line Envelope) → ℕ
-  takes k queue = total (takes_one_of k) (seconds (queue_calls queue))
+  abbrev pub takes_of_task : ℕ → List (broker.Line Envelope) → ℕ
+  takes_of_task k queue = total (takes_one_of k) (seconds (queue_calls queue))
 
   -- 1 where the call stores the outcome of task k, or returns the part
   abbrev pub stores_one : ℕ → BackendCall Outcome → ℕ
@@ -84,7 +84,7 @@ module _ (l : Line) where
     -- so each task is pending or has its state
     pub rows : (t : ℕ) → ((results.results (roster_of l) r.table).outcomes t ≡ None) ⊎ ((results.results (roster_of l) r.table).outcomes t ≡ its_state t)
     -- each envelope that is published is that of the message of a task that is run
-    pub published : (p : ℕ) (e : Envelope) (a : Option Envelope) → In (calls p (broker.publish e) a) r.queue → (c : Content) × (e ≡ sealed c) × IsRun c
+    pub published : (p : ℕ) (e : Envelope) (a : Option Envelope) → In (calls p (broker.publish e) a) r.queue → (c : Content) × (e ≡ sealed c) × IsRunMessage c
     pub published_once : (k : ℕ) → publishes k r.queue ≤ 1
     -- each part that is returned is one of the evaluation's
     pub returned : (p g t n : ℕ) → In (calls p (results.part g t) (results.count n)) r.table → IsPart g t
@@ -94,8 +94,8 @@ module _ (l : Line) where
     -- each task has its state; a task that evaluation leaves pending is pending
     pub rows : (t : ℕ) → (results.results (roster_of l) r.table).outcomes t ≡ its_state t
     -- each message of the evaluation is published once, and what is published is taken
-    pub published : (c : Content) → IsRun c → publishes (number_of c.own) r.queue ≡ 1
-    pub taken : (k : ℕ) → takes k r.queue ≡ publishes k r.queue
+    pub published : (c : Content) → IsRunMessage c → publishes (number_of c.own) r.queue ≡ 1
+    pub taken : (k : ℕ) → takes_of_task k r.queue ≡ publishes k r.queue
     -- each outcome is stored once
     pub stored : (t : ℕ) (o : Outcome) → its_state t ≡ Some o → stores t r.table ≡ 1
     pub pending : (t : ℕ) → its_state t ≡ None → stores t r.table ≡ 0

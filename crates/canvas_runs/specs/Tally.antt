@@ -25,8 +25,8 @@ abbrev pub none_yet : Tally
 none_yet = record { taken = 0; published = 0; first = 0; parts = 0; dropped = 0 }
 
 -- what a count can hold
-abbrev pub most : ℕ
-most = 18446744073709551615
+abbrev pub greatest_count : ℕ
+greatest_count = 18446744073709551615
 
 abbrev pub is_taken : Ask Envelope Outcome → Reply Envelope Outcome → ℕ
 is_taken take (taken (Some e)) = 1
@@ -57,19 +57,19 @@ abbrev pub often : (Ask Envelope Outcome → Reply Envelope Outcome → ℕ) →
 often w xs = total (λ x. w x.0 x.1) xs
 
 -- one more count, up to what it can hold
-abbrev pub Adds : ℕ → ℕ → ℕ → Type 0
-Adds n k m = m ≡ min most (n + k)
+abbrev pub CountsMore : ℕ → ℕ → ℕ → Type 0
+CountsMore n k m = m ≡ min greatest_count (n + k)
 
 pub record Counted (plan : Roster) (run : List (Ask Envelope Outcome × Reply Envelope Outcome)) (t u : Tally) : Type 0 where
-  pub taken : Adds t.taken (often is_taken run) u.taken
-  pub published : Adds t.published (often is_published run) u.published
-  pub first : Adds t.first (often is_first run) u.first
-  pub parts : Adds t.parts (often is_part run) u.parts
-  pub dropped : Adds t.dropped (often (is_dropped plan) run) u.dropped
+  pub taken : CountsMore t.taken (often is_taken run) u.taken
+  pub published : CountsMore t.published (often is_published run) u.published
+  pub first : CountsMore t.first (often is_first run) u.first
+  pub parts : CountsMore t.parts (often is_part run) u.parts
+  pub dropped : CountsMore t.dropped (often (is_dropped plan) run) u.dropped
 
 -- each is a count
 abbrev pub IsTally : Tally → Type 0
-IsTally t = (t.taken ≤ most) × (t.published ≤ most) × (t.first ≤ most) × (t.parts ≤ most) × (t.dropped ≤ most)
+IsTally t = (t.taken ≤ greatest_count) × (t.published ≤ greatest_count) × (t.first ≤ greatest_count) × (t.parts ≤ greatest_count) × (t.dropped ≤ greatest_count)
 
 -- 1 where the call publishes, stores first, returns a part
 abbrev pub publishing : BrokerCall Envelope → ℕ
@@ -90,8 +90,8 @@ returning (has_read t x) = 0
 -- the counts are those of the caller's entries in the two lists
 abbrev pub CountsOf : List (Entries Envelope) → Log → ℕ → Tally → Type 0
 CountsOf queue table p t =
-    Adds 0 (total takes_one (by p (queue_calls queue))) t.taken × Adds 0 (total publishing (by p (queue_calls queue))) t.published
-    × Adds 0 (total storing (by p (table_calls table))) t.first × Adds 0 (total returning (by p (table_calls table))) t.parts
+    CountsMore 0 (total takes_one (by p (queue_calls queue))) t.taken × CountsMore 0 (total publishing (by p (queue_calls queue))) t.published
+    × CountsMore 0 (total storing (by p (table_calls table))) t.first × CountsMore 0 (total returning (by p (table_calls table))) t.parts
     × (t.dropped ≡ 0)
 
 -- of callers from k on

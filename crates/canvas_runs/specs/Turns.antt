@@ -22,7 +22,7 @@ use Rattle.canvas_backend.specs.Backend as results
 use Rattle.canvas_backend.specs.Backend.{Results, no_results, first_or, next_of, count_of}
 use Rattle.canvas_backend.specs.Roster.{roster_of, members}
 use Rattle.canvas_broker.specs.Broker as broker
-use Rattle.canvas_runs.specs.Core.{Ask, Reply, take, send, keep, part, read, pause, end, taken, sent, kept, counted, found, rested, State, taking, resting, over, failed, owning, doing, reading, ask, left_after, ReadsBack}
+use Rattle.canvas_runs.specs.Core.{Ask, Reply, take, send, keep, part, read, pause, end, taken, sent, kept, counted, found, rested, CoreState, taking, resting, over, failed, owning, doing, reading, ask, left_after, ReadsBack}
 use Rattle.canvas_runs.specs.Lists.{Each, by, at}
 use Rattle.canvas_runs.specs.Worker.{worker, sealed}
 
@@ -31,7 +31,7 @@ abbrev pub Step : Type 0
 Step = ℕ × (Ask Envelope Outcome × Reply Envelope Outcome)
 
 -- inside the script of a message
-abbrev pub is_inside : State Content Load Outcome → Bool
+abbrev pub is_inside : CoreState Content Load Outcome → Bool
 is_inside taking = false
 is_inside resting = false
 is_inside over = false
@@ -84,7 +84,7 @@ module _ (l : Line) where
   abbrev pub FirstsRead : Type 0
   FirstsRead = Each (worker l).Back (first_messages l)
 
-  abbrev pub left : List Step → ℕ → State Content Load Outcome
+  abbrev pub left : List Step → ℕ → CoreState Content Load Outcome
   left before p = left_after (worker l) taking (by p before)
 
   -- one of the workers 1 to n is inside the script of a message

@@ -19,8 +19,8 @@ use Rattle.canvas_runs.specs.Protocol.{Protocol}
 abbrev pub sealed : Content → Envelope
 sealed c = record { properties = compact_text (properties_wire c); headers = compact_text (headers_wire c); body = compact_text (body_wire c) }
 
-abbrev pub reading : Envelope → Result Content MessageFault
-reading e = envelope_reading e.properties e.headers e.body
+abbrev pub read_envelope : Envelope → Result Content MessageFault
+read_envelope e = envelope_reading e.properties e.headers e.body
 
 -- the message of an envelope, if it is one and names nothing that the book doesn't know
 abbrev pub known_one : Book → Result Content MessageFault → Option Content
@@ -28,7 +28,7 @@ known_one book (Ok c) = if message_known book c then Some c else None
 known_one book (Err e) = None
 
 abbrev pub opened : Book → Envelope → Option Content
-opened book e = known_one book (reading e)
+opened book e = known_one book (read_envelope e)
 
 -- of what a plan says, with these first messages
 abbrev pub worker_on : Roster → List Content → Protocol
@@ -43,7 +43,7 @@ worker_on plan ms = record {
   completed = λ c es. script (body_after c es);
   size = λ c. c.size;
   sealed = sealed;
-  Back = λ c. reading (sealed c) ≡ Ok c;
+  Back = λ c. read_envelope (sealed c) ≡ Ok c;
   opened = opened (book_on plan);
   members = members plan;
   first = ms;

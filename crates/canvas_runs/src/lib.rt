@@ -19,7 +19,7 @@ ghost use Rattle.canvas_runs.specs.Run.{Run, Closed};
 ghost use Rattle.canvas_runs.specs.TurnLaws.{TurnsAreRuns, TurnRowsMay, TurnRowsAre, TurnsEmpty, TurnStatesMay, TurnStatesAre, WholeTurns, UntilTurns, NextAnswerable, HeldInRange};
 ghost use Rattle.canvas_runs.specs.Going.{FewSteps, StopsSoon, StepsFit, RoundsGo};
 ghost use Rattle.canvas_runs.specs.Turns.{Turned, RanWhole};
-ghost use Rattle.canvas_runs.specs.TurnWitness.{listed, steps, hasty};
+ghost use Rattle.canvas_runs.specs.TurnWitness.{listed_turns, witness_steps, hasty};
 ghost use Rattle.canvas_runs.specs.Witness.{small, queue, table, lost_part};
 
 /// The law of runs. Whatever the number of workers and the order of their calls, a run of a plan stores only the outcomes that
@@ -107,6 +107,6 @@ pub fn ends_of_turns()
 /// two sums and the sum of both, with these steps. By no turns is a worker told that nothing more will come while another one is
 /// inside the script of a message.
 pub fn turns_of_a_chord()
-    ensures stands { (r : RanWhole small 2 listed) × (r.steps ≡ steps) × (r.further ≡ 2) }
+    ensures stands { (r : RanWhole small 2 listed_turns) × (r.steps ≡ witness_steps) × (r.further ≡ 2) }
     ensures none_hasty { (us : List ℕ) → Turned small 2 [] us hasty → ⊥ }
 {}

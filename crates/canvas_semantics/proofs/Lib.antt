@@ -9,3 +9,4 @@ pub mod RowNumbers
 pub mod RowLookups
 pub mod SameReport
 pub mod rows
+pub mod CompactLaw

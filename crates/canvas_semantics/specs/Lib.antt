@@ -10,7 +10,7 @@ pub mod PlacedLine
 pub mod Nesting
 pub mod Reach
 pub mod Bounds
-pub mod Numbering
 pub mod FileOrder
 pub mod Compact
 pub mod codes
+pub mod steps

@@ -106,42 +106,42 @@ abbrev mutual
   all_names (and_line m ms) = names m ++ all_names ms
 
 -- a group, or a chord, with the ends of its members
-pub record Team : Type 0 where
+pub record GroupEntry : Type 0 where
   pub chord : Bool
   pub members : List ℕ
 
 -- in file order, so that the i-th has number i
 abbrev mutual
-  pub teams : Line → List Team
-  teams stop = []
-  teams (step t l) = teams l
-  teams (group_end g ms) = record { chord = false; members = all_ends_of ms } ∷ all_teams ms
-  teams (chord_end g ms b) = record { chord = true; members = all_ends_of ms } ∷ all_teams ms ++ teams b
+  pub group_entries : Line → List GroupEntry
+  group_entries stop = []
+  group_entries (step t l) = group_entries l
+  group_entries (group_end g ms) = record { chord = false; members = all_ends_of ms } ∷ all_group_entries ms
+  group_entries (chord_end g ms b) = record { chord = true; members = all_ends_of ms } ∷ all_group_entries ms ++ group_entries b
 
-  pub all_teams : Lines → List Team
-  all_teams no_lines = []
-  all_teams (and_line m ms) = teams m ++ all_teams ms
+  pub all_group_entries : Lines → List GroupEntry
+  all_group_entries no_lines = []
+  all_group_entries (and_line m ms) = group_entries m ++ all_group_entries ms
 
 -- the group or chord of a number, from 1
-abbrev pub team_at : List Team → ℕ → Option Team
-team_at ts zero = None
-team_at ts (suc g) = slice_get ts g
+abbrev pub entry_at : List GroupEntry → ℕ → Option GroupEntry
+entry_at ts zero = None
+entry_at ts (suc g) = slice_get ts g
 
 -- the ends of the members of a group or chord; none of an unknown number
-abbrev pub team_members : Option Team → List ℕ
-team_members None = []
-team_members (Some t) = t.members
+abbrev pub entry_members : Option GroupEntry → List ℕ
+entry_members None = []
+entry_members (Some t) = t.members
 
 abbrev pub members : Line → ℕ → List ℕ
-members l g = team_members (team_at (teams l) g)
+members l g = entry_members (entry_at (group_entries l) g)
 
 -- how many members a chord has; none of a group
-abbrev pub team_size : Option Team → Option ℕ
-team_size None = None
-team_size (Some t) = if t.chord then Some (length t.members) else None
+abbrev pub entry_size : Option GroupEntry → Option ℕ
+entry_size None = None
+entry_size (Some t) = if t.chord then Some (length t.members) else None
 
 abbrev pub size : Line → ℕ → Option ℕ
-size l g = team_size (team_at (teams l) g)
+size l g = entry_size (entry_at (group_entries l) g)
 
 -- the name of the task of a number, from 1
 abbrev pub name_at : List (List ℕ) → ℕ → Option (List ℕ)

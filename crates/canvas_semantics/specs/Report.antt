@@ -1,15 +1,12 @@
 -- The report of a canvas as text.
 use Rattle.std.specs.Prelude.{ℕ, ◌+◌, Bool, true, false, List, [], ◌∷◌, ◌++◌, map, Option, Some, None, codes}
 use Rattle.std.specs.Fmt.{decimal, signed_decimal}
+use Rattle.canvas_task.specs.Text.{Text}
 use Rattle.canvas_task.specs.declared.outcome.Outcome.TheVariants.{Success, Failure}
 use Rattle.canvas_task.specs.Identifiers.{task_text}
 use Rattle.canvas_task.specs.Printed.{fault_text}
 use Rattle.canvas_semantics.specs.Tree.{ends_in_group, Call, Task, task, Tasks, no_tasks, and_task, Tree, one, chain, group, chord, Trees, no_trees, and_tree, numbered}
 use Rattle.canvas_semantics.specs.Evaluation.{State, Rows, state_of, with_states, ends, meaning}
-
--- a text is its bytes
-abbrev pub Text : Type 0
-Text = List ℕ
 
 -- the state and the value of a task, as a line of the report has them
 abbrev pub state_name : State → Text
@@ -33,15 +30,15 @@ abbrev mutual
 
 -- the same of a whole tree
 abbrev mutual
-  pub names : Tree → List (ℕ × Text)
-  names (one t) = names_of_task t
-  names (chain ts) = all_names ts
-  names (group g ms) = all_names ms
-  names (chord g h b) = all_names h ++ names b
+  pub names_by_number : Tree → List (ℕ × Text)
+  names_by_number (one t) = names_of_task t
+  names_by_number (chain ts) = all_names ts
+  names_by_number (group g ms) = all_names ms
+  names_by_number (chord g h b) = all_names h ++ names_by_number b
 
   pub all_names : Trees → List (ℕ × Text)
   all_names no_trees = []
-  all_names (and_tree t ts) = names t ++ all_names ts
+  all_names (and_tree t ts) = names_by_number t ++ all_names ts
 
 -- names with numbers, from one on
 abbrev pub counted_from : ℕ → List Text → List (ℕ × Text)
@@ -58,20 +55,20 @@ lines [] rows = []
 lines (t ∷ ts) rows = line t (state_of t.0 rows) ++ lines ts rows
 
 -- the values, with a comma and a space between two
-abbrev pub listed : Rows → Text
-listed [] = []
-listed (e ∷ []) = value_text e.1
-listed (e ∷ es) = value_text e.1 ++ codes ", " ++ listed es
+abbrev pub listed_values : Rows → Text
+listed_values [] = []
+listed_values (e ∷ []) = value_text e.1
+listed_values (e ∷ es) = value_text e.1 ++ codes ", " ++ listed_values es
 
 -- the result of a canvas, a list where it ends in a group
 abbrev pub result_text : Bool → Rows → Text
-result_text true es = codes "[" ++ listed es ++ codes "]"
-result_text false es = listed es
+result_text true es = codes "[" ++ listed_values es ++ codes "]"
+result_text false es = listed_values es
 
 -- the report of a numbered canvas and of states; a state that is missing is pending
 abbrev pub report_of : Tree → Rows → Text
 report_of c rows =
-    lines (names c) rows ++ codes "result " ++ result_text (ends_in_group c) (with_states rows (ends c)) ++ codes "\n"
+    lines (names_by_number c) rows ++ codes "result " ++ result_text (ends_in_group c) (with_states rows (ends c)) ++ codes "\n"
 
 -- the report of a canvas
 abbrev pub report : Tree → Text

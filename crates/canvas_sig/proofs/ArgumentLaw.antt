@@ -10,7 +10,7 @@ use Rattle.canvas_task.specs.declared.arg.Arg.TheVariants as arg
 use Rattle.canvas_sig.specs.declared.fault.SigFault.{SigFault}
 use Rattle.canvas_sig.specs.declared.fault.SigFault.TheVariants.{BadArgs, BadNumber}
 use Rattle.canvas_sig.specs.Fields.{items, is_number}
-use Rattle.canvas_sig.specs.Reading.{◌>>=◌, ◌or_else◌, Gives, fault_if, judged, each, some_in_range, number_ok, some_or_zero, number_of, arg_reading, whole, number_reading, arg_steps}
+use Rattle.canvas_sig.specs.Reading.{◌>>=◌, ◌or_else◌, Gives, fault_if, judged, each, some_in_range, number_ok, some_or_zero, whole_number, arg_reading, in_range_or_refused, number_reading, arg_steps}
 
 judged_map : {A B : Type 0} (p : Option SigFault) (x : A) (f : A → B) → (judged p x >>= λ y. Ok (f y)) ≡ judged p (f x)
 judged_map (Some e) x f = refl
@@ -20,7 +20,7 @@ whole_by : (z : ℤ) (b : Bool) → (if b then Ok z else Err BadNumber) ≡ judg
 whole_by z true = refl
 whole_by z false = refl
 
-whole_judged : (o : Option ℤ) → whole o ≡ judged (fault_if (not (some_in_range o)) BadNumber) (some_or_zero o)
+whole_judged : (o : Option ℤ) → in_range_or_refused o ≡ judged (fault_if (not (some_in_range o)) BadNumber) (some_or_zero o)
 whole_judged None = refl
 whole_judged (Some z) = whole_by z (in_range z)
 
@@ -35,20 +35,20 @@ all_numbers : (b c : Bool) → (b && c) ≡ true → (b ≡ true) × (c ≡ true
 all_numbers true c h = (refl, h)
 all_numbers false c h = absurd cc
 
-number_judged : (d : Data) → is_number d ≡ true → number_reading d ≡ judged (fault_if (not (number_ok d)) BadNumber) (number_of d)
+number_judged : (d : Data) → is_number d ≡ true → number_reading d ≡ judged (fault_if (not (number_ok d)) BadNumber) (whole_number d)
 number_judged (number n) h = whole_judged (as_i64 n)
 number_judged d h = absurd cc
 
-numbers_judged : (ds : List Data) → list_all is_number ds ≡ true → each number_reading ds ≡ judged (fault_if (not (list_all number_ok ds)) BadNumber) (map number_of ds)
+numbers_judged : (ds : List Data) → list_all is_number ds ≡ true → each number_reading ds ≡ judged (fault_if (not (list_all number_ok ds)) BadNumber) (map whole_number ds)
 numbers_judged [] h = refl
 numbers_judged (d ∷ ds) h =
     let p = all_numbers (is_number d) (list_all is_number ds) h in
-    rw (number_judged d p.0, numbers_judged ds p.1) (then_others (number_ok d) (list_all number_ok ds) (number_of d) (map number_of ds))
+    rw (number_judged d p.0, numbers_judged ds p.1) (then_others (number_ok d) (list_all number_ok ds) (whole_number d) (map whole_number ds))
 
 list_by : (ds : List Data) (b : Bool) → list_all is_number ds ≡ b
     → (if b then (each number_reading ds >>= λ ns. Ok (arg.List ns)) else Err BadArgs)
-    ≡ judged (fault_if (not b) BadArgs or_else fault_if (not (list_all number_ok ds)) BadNumber) (arg.List (map number_of ds))
-list_by ds true h = ap (λ r. r >>= λ ns. Ok (arg.List ns)) (numbers_judged ds h) ∙ judged_map (fault_if (not (list_all number_ok ds)) BadNumber) (map number_of ds) arg.List
+    ≡ judged (fault_if (not b) BadArgs or_else fault_if (not (list_all number_ok ds)) BadNumber) (arg.List (map whole_number ds))
+list_by ds true h = ap (λ r. r >>= λ ns. Ok (arg.List ns)) (numbers_judged ds h) ∙ judged_map (fault_if (not (list_all number_ok ds)) BadNumber) (map whole_number ds) arg.List
 list_by ds false h = refl
 
 pub steps_judged : (d : Data) → arg_steps d ≡ arg_reading d

@@ -10,7 +10,7 @@ use Rattle.serde_json.specs.Find.{of_integer}
 use Rattle.canvas_task.specs.Numbers.{in_range}
 use Rattle.canvas_task.specs.declared.arg.Arg.{Arg}
 use Rattle.canvas_task.specs.declared.arg.Arg.TheVariants as arg
-use Rattle.canvas_sig.specs.Clean.{IsWhole, IsAbove, behind, IsClean, AreClean, MembersClean}
+use Rattle.canvas_sig.specs.steps.Clean.{IsWholeNumber, IsAbove, behind_members, IsClean, AreClean, MembersClean}
 use Rattle.canvas_semantics.specs.Tree.{Call, Task, task, Tasks, no_tasks, and_task, Tree, one, chain, group, chord, Trees, no_trees, and_tree}
 use Rattle.canvas_semantics.specs.Nesting.{task_nesting, tasks_nesting, nesting, all_nesting}
 use Rattle.canvas_sig.specs.Writing.{numbers_wire, arg_wire, args_wire, kwargs_wire, options_wire, call_wire, task_wire, tasks_wire, primitive_wire, tasks_member, chord_members, tree_wire, trees_wire}
@@ -20,7 +20,7 @@ use Rattle.canvas_sig.proofs.Fits.{TaskFits, TasksFit, TreeFits, TreesFit}
 
 -- ---- arguments
 
-whole : (n : ℤ) → in_range n ≡ true → IsWhole (of_integer n)
+whole : (n : ℤ) → in_range n ≡ true → IsWholeNumber (of_integer n)
 whole (pos n) h = omega (arith, leb-true n (2 ^ 60) h)
 whole (negsuc n) h = omega (arith, leb-true n (2 ^ 60 - 1) (and_parts _ _ h).0)
 
@@ -42,7 +42,7 @@ args_clean (a ∷ args) h = (arg_clean a h.0, args_clean args h.1)
 above : (k l : List ℕ) → slice_cmp nat_cmp l k ≡ Less → slice_cmp nat_cmp k l ≡ Greater
 above k l h = nat_list_cmp_total.antisymm k l ∙ ap ordering_reverse h
 
-pub above_behind : (k l : List ℕ) (d : Data) (before : Members) → IsAbove k before → slice_cmp nat_cmp k l ≡ Greater → IsAbove k (behind before l d)
+pub above_behind : (k l : List ℕ) (d : Data) (before : Members) → IsAbove k before → slice_cmp nat_cmp k l ≡ Greater → IsAbove k (behind_members before l d)
 above_behind k l d no_members h more = (more, tt)
 above_behind k l d (member j e ms) h more = (h.0, above_behind k l d ms h.1 more)
 
@@ -51,14 +51,14 @@ abbrev pub AreAbove : Members → List (List ℕ × Arg) → Type 0
 AreAbove before [] = Unit {0}
 AreAbove before (e ∷ es) = IsAbove e.0 before × AreAbove before es
 
-one_more : (k : List ℕ) (d : Data) (before : Members) (es : List (List ℕ × Arg)) → AreAbove before es → IsBelow k es → AreAbove (behind before k d) es
+one_more : (k : List ℕ) (d : Data) (before : Members) (es : List (List ℕ × Arg)) → AreAbove before es → IsBelow k es → AreAbove (behind_members before k d) es
 one_more k d before [] h low = tt
 one_more k d before (e ∷ es) h low = (above_behind e.0 k d before h.0 (above e.0 k low.0), one_more k d before es h.1 low.1)
 
 pub kwargs_clean : (before : Members) (es : List (List ℕ × Arg)) → KwargsFit es → Ascends es → AreAbove before es → MembersClean before (kwargs_wire es)
 kwargs_clean before [] h up first = tt
 kwargs_clean before (e ∷ es) h up first =
-    (first.0, arg_clean e.1 h.0, kwargs_clean (behind before e.0 (arg_wire e.1)) es h.1 up.1 (one_more e.0 (arg_wire e.1) before es first.1 up.0))
+    (first.0, arg_clean e.1 h.0, kwargs_clean (behind_members before e.0 (arg_wire e.1)) es h.1 up.1 (one_more e.0 (arg_wire e.1) before es first.1 up.0))
 
 pub all_above : (es : List (List ℕ × Arg)) → AreAbove no_members es
 all_above [] = tt

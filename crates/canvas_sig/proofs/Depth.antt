@@ -8,8 +8,9 @@ use Rattle.serde_json.specs.Find.{get_member}
 use Rattle.canvas_sig.specs.declared.fault.SigFault.{SigFault}
 use Rattle.canvas_sig.specs.declared.primitive.Primitive.{Primitive}
 use Rattle.canvas_sig.specs.declared.primitive.Primitive.TheVariants as kind
-use Rattle.canvas_sig.specs.Faults.{first_fault, in_kwargs, fault_within, call_of, task_within, header_of, tree_from, tree_within, signature_fault, tree_of}
-use Rattle.canvas_sig.specs.Fields.{Text, field, subtype, tasks, header, body, link, link_error, items, listed, as_list}
+use Rattle.canvas_sig.specs.Refusals.{first_fault, in_kwargs, fault_within, spelled_call, task_within, header_of, tree_from, tree_within, signature_fault, tree_of}
+use Rattle.canvas_task.specs.Text.{Text}
+use Rattle.canvas_sig.specs.Fields.{field, subtype, tasks, header, body, link, link_error, items, listed, as_list}
 use Rattle.canvas_sig.specs.Reading.{◌or_else◌, own_fault, primitive_of, members_in}
 use Rattle.canvas_semantics.specs.Tree.{Task, task, Tree, one, chain, group, chord}
 use Rattle.canvas_sig.specs.View.{tasks_of, trees_of}
@@ -138,7 +139,7 @@ enough_task (suc m) zero (array ds) low h = absurd (omega arith)
 enough_task (suc m) zero (object ms) low h = absurd (omega arith)
 enough_task (suc m) (suc n) d low h =
     let same : (x : Data) → depth x ≤ n → task_within m x ≡ task_within n x = λ x l. enough_task m n x l (omega arith) in
-    ap₂ (λ ls es. task 0 (call_of d) (tasks_of ls) (tasks_of es))
+    ap₂ (λ ls es. task 0 (spelled_call d) (tasks_of ls) (tasks_of es))
     (same_map n (task_within m) (task_within n) same (as_list (link d)) (link_low (codes "link") d n low))
     (same_map n (task_within m) (task_within n) same (as_list (link_error d)) (link_low (codes "link_error") d n low))
 
@@ -174,12 +175,12 @@ enough_trees (suc m) (suc n) d low h =
 
 -- what is spelled, with no number
 pub task_by_parts : (d : Data) → task_within (depth d) d
-    ≡ task 0 (call_of d) (tasks_of (map (λ x. task_within (depth x) x) (as_list (link d)))) (tasks_of (map (λ x. task_within (depth x) x) (as_list (link_error d))))
+    ≡ task 0 (spelled_call d) (tasks_of (map (λ x. task_within (depth x) x) (as_list (link d)))) (tasks_of (map (λ x. task_within (depth x) x) (as_list (link_error d))))
 task_by_parts d =
     let n = depth d in
     let same : (x : Data) → depth x ≤ n → task_within n x ≡ task_within (depth x) x = λ x l. enough_task n (depth x) x (omega arith) l in
     sym (enough_task (suc n) n d (omega arith) (omega arith))
-    ∙ ap₂ (λ ls es. task 0 (call_of d) (tasks_of ls) (tasks_of es))
+    ∙ ap₂ (λ ls es. task 0 (spelled_call d) (tasks_of ls) (tasks_of es))
     (same_map n (task_within n) (λ x. task_within (depth x) x) same (as_list (link d)) (link_low (codes "link") d n (omega arith)))
     (same_map n (task_within n) (λ x. task_within (depth x) x) same (as_list (link_error d)) (link_low (codes "link_error") d n (omega arith)))
 

@@ -9,8 +9,8 @@ use Rattle.canvas_task.specs.declared.arg.Arg.{Arg}
 use Rattle.canvas_task.specs.declared.arg.Arg.TheVariants as arg
 use Rattle.canvas_sig.specs.declared.fault.SigFault.{SigFault}
 use Rattle.canvas_sig.specs.declared.fault.SigFault.TheVariants.{NotSignature, BadNumber}
-use Rattle.canvas_sig.specs.Limits.{tree_fault}
-use Rattle.canvas_sig.specs.NodeFaults.{arg_ok, numbers_ok, call_fault, task_fault, tasks_fault, signatures_fault, all_fault}
+use Rattle.canvas_sig.specs.LimitRefusals.{tree_fault}
+use Rattle.canvas_sig.specs.ComposedRefusals.{arg_ok, call_numbers_ok, call_fault, task_fault, tasks_fault, signatures_fault, all_fault}
 use Rattle.canvas_sig.specs.Reading.{◌or_else◌, fault_if}
 use Rattle.canvas_semantics.specs.Tree.{Call, Task, task, Tasks, no_tasks, and_task, Tree, one, chain, group, chord, Trees, no_trees, and_tree}
 use Rattle.canvas_sig.specs.Writable.{TaskComposed, TasksComposed, IsComposed, AreComposed, IsCanvas}
@@ -51,7 +51,7 @@ no_fault_if false e h = absurd cc
 pub call_fits : (call : Call) → call_fault call ≡ None → Ascends call.kwargs → CallFits call
 call_fits call h o =
     let parts = neither_fault (fault_if (not (name_ok call.name)) NotSignature) _ h in
-    let numbers = both (list_all arg_ok call.args) _ (no_fault_if (numbers_ok call) BadNumber parts.1) in
+    let numbers = both (list_all arg_ok call.args) _ (no_fault_if (call_numbers_ok call) BadNumber parts.1) in
     record { name = no_fault_if (name_ok call.name) NotSignature parts.0; args = args_fit call.args numbers.0; kwargs = kwargs_fit call.kwargs numbers.1; ordered = o }
 
 mutual

@@ -13,9 +13,10 @@ use Rattle.canvas_sig.specs.declared.fault.SigFault.{SigFault}
 use Rattle.canvas_sig.specs.declared.fault.SigFault.TheVariants.{NotSignature, BadArgs, BadNumber, OnCanvas, Frozen, EmptyChain}
 use Rattle.canvas_sig.specs.declared.primitive.Primitive.{Primitive}
 use Rattle.canvas_sig.specs.declared.primitive.Primitive.TheVariants as kind
-use Rattle.canvas_sig.specs.Fields.{Text, field, subtype, args, kwargs, tasks, header, body, link, link_error, items, entries, listed, as_list, members, text_of, is_number, is_null, is_list, is_empty, is_object}
-use Rattle.canvas_sig.specs.Reading.{◌or_else◌, fault_if, judged, some_or_zero, number_of, argument_of, is_name, primitive_of, some_in_range, number_ok, kind_ok, numbers_ok, args_ok, is_group, not_signature, bad_args, bad_number, on_canvas, frozen, empty_chain, fault_as, own_fault, members_in, tree_reading}
-use Rattle.canvas_sig.specs.Faults.{first_fault, in_kwargs, named_of, call_of, task_within, header_of, tree_from, tree_within}
+use Rattle.canvas_task.specs.Text.{Text}
+use Rattle.canvas_sig.specs.Fields.{field, subtype, args, kwargs, tasks, header, body, link, link_error, items, entries, listed, as_list, object_members, text_of, is_number, is_null, is_list, is_empty, is_object}
+use Rattle.canvas_sig.specs.Reading.{◌or_else◌, fault_if, judged, some_or_zero, whole_number, argument_of, is_name, primitive_of, some_in_range, number_ok, kind_ok, numbers_ok, args_ok, is_group, not_signature, bad_args, bad_number, on_canvas, frozen, empty_chain, fault_as, own_fault, members_in, tree_reading}
+use Rattle.canvas_sig.specs.Refusals.{first_fault, in_kwargs, named_of, spelled_call, task_within, header_of, tree_from, tree_within}
 use Rattle.canvas_semantics.specs.Tree.{Task, Tree, one, chain, group, chord}
 use Rattle.canvas_sig.specs.View.{tasks_of, trees_of}
 use Rattle.canvas_sig.proofs.FittingCalls.{NumbersFit, ArgFits, ArgsFit, KwargsFit, CallFits}
@@ -29,11 +30,11 @@ whole_fits : (o : Option ℤ) → some_in_range o ≡ true → in_range (some_or
 whole_fits None h = absurd cc
 whole_fits (Some z) h = h
 
-number_fits : (d : Data) → is_number d ≡ true → number_ok d ≡ true → in_range (number_of d) ≡ true
+number_fits : (d : Data) → is_number d ≡ true → number_ok d ≡ true → in_range (whole_number d) ≡ true
 number_fits (number n) k h = whole_fits (as_i64 n) h
 number_fits d k h = absurd cc
 
-numbers_fit : (ds : List Data) → list_all is_number ds ≡ true → list_all number_ok ds ≡ true → NumbersFit (map number_of ds)
+numbers_fit : (ds : List Data) → list_all is_number ds ≡ true → list_all number_ok ds ≡ true → NumbersFit (map whole_number ds)
 numbers_fit [] k h = tt
 numbers_fit (d ∷ ds) k h =
     let p = and_parts _ _ k in let q = and_parts _ _ h in
@@ -67,7 +68,7 @@ entries_ascend : (ms : Members) → MembersSorted ms → Ascends (map named_of (
 entries_ascend no_members h = tt
 entries_ascend (member k d ms) h = (below_all k ms h.0, entries_ascend ms h.2)
 
-kwargs_ascend : (d : Data) → IsSorted d → Ascends (map named_of (members d))
+kwargs_ascend : (d : Data) → IsSorted d → Ascends (map named_of (object_members d))
 kwargs_ascend (object ms) h = entries_ascend ms h
 kwargs_ascend d h = tt
 
@@ -98,14 +99,14 @@ has_name d h =
     let first = neither (not (is_object d) || not (is_name (field (codes "task") d))) _ h in
     is_named (field (codes "task") d) (back _ (neither (not (is_object d)) _ first.0).1)
 
-call_fits : (linked : Bool) (d : Data) → IsSorted d → not_signature d ≡ false → Fine linked kind.Task d → CallFits (call_of d)
+call_fits : (linked : Bool) (d : Data) → IsSorted d → not_signature d ≡ false → Fine linked kind.Task d → CallFits (spelled_call d)
 call_fits linked d sorted signature fine =
     let kinds = and_parts _ _ (back (args_ok kind_ok d) fine.its_members) in
     let ranges = and_parts _ _ (back (args_ok numbers_ok d) fine.numbers) in
     record {
       name = has_name d signature;
       args = arguments_fit (listed (args d)) kinds.0 ranges.0;
-      kwargs = named_fit (members (kwargs d)) kinds.1 ranges.1;
+      kwargs = named_fit (object_members (kwargs d)) kinds.1 ranges.1;
       ordered = kwargs_ascend (kwargs d) (field_sorted (codes "kwargs") d sorted);
     }
 

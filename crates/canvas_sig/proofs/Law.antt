@@ -7,11 +7,12 @@ use Rattle.canvas_sig.specs.declared.fault.SigFault.{SigFault}
 use Rattle.canvas_sig.specs.declared.fault.SigFault.TheVariants.{NotSignature, BadArgs, BadNumber, OnCanvas, TooDeep}
 use Rattle.canvas_sig.specs.declared.primitive.Primitive.{Primitive}
 use Rattle.canvas_sig.specs.declared.primitive.Primitive.TheVariants as kind
-use Rattle.canvas_sig.specs.Fields.{Text, field, subtype, args, kwargs, tasks, header, body, link, link_error, items, listed, as_list, members, is_null, is_list, is_true, is_empty, is_list_or_null, is_object_or_null, is_link}
+use Rattle.canvas_task.specs.Text.{Text}
+use Rattle.canvas_sig.specs.Fields.{field, subtype, args, kwargs, tasks, header, body, link, link_error, items, listed, as_list, object_members, is_null, is_list, is_true, is_empty, is_list_or_null, is_object_or_null, is_link}
 use Rattle.canvas_semantics.specs.Tree.{Task, task, Tree, one, chain, group, chord, Trees}
 use Rattle.canvas_sig.specs.View.{tasks_of, trees_of}
 use Rattle.canvas_sig.specs.Reading.{◌>>=◌, ◌or_else◌, unless, fault_if, judged, each, argument_of, arg_reading, named_reading, kind_ok, numbers_ok, args_ok, is_group, not_signature, bad_members, bad_args, bad_number, on_canvas, primitive_of, fault_as, own_fault, task_with, task_reading, members_in, header_reading, tree_as, tree_reading}
-use Rattle.canvas_sig.specs.Faults.{first_fault, in_kwargs, named_of, call_of, task_within, header_of, tree_from, tree_within}
+use Rattle.canvas_sig.specs.Refusals.{first_fault, in_kwargs, named_of, spelled_call, task_within, header_of, tree_from, tree_within}
 
 -- ---- arguments that are of their kinds and in range
 
@@ -109,7 +110,7 @@ abbrev in_links : (Data → Option SigFault) → Data → Option SigFault
 in_links q d = first_fault q (as_list (link d)) or_else first_fault q (as_list (link_error d))
 
 abbrev task_from : (Data → Task) → Data → Task
-task_from t d = task 0 (call_of d) (tasks_of (map t (as_list (link d)))) (tasks_of (map t (as_list (link_error d))))
+task_from t d = task 0 (spelled_call d) (tasks_of (map t (as_list (link d)))) (tasks_of (map t (as_list (link_error d))))
 
 task_level : (g : Data → Result Task SigFault) (q : Data → Option SigFault) (t : Data → Task) → ((d : Data) → g d ≡ judged (q d) (t d))
     → (linked : Bool) (d : Data) → fault_as linked d (Some kind.Task) ≡ None → task_with g d ≡ judged (in_links q d) (task_from t d)
@@ -119,12 +120,12 @@ task_level g q t is linked d h =
     let numbers = both _ _ (back (args_ok numbers_ok d) clean.numbers) in
     rw (
       args_are (listed (args d)) kinds.0 numbers.0,
-      named_are (members (kwargs d)) kinds.1 numbers.1,
+      named_are (object_members (kwargs d)) kinds.1 numbers.1,
       judged_each g q t is (as_list (link d)),
       judged_each g q t is (as_list (link_error d)),
     )
     (two (first_fault q (as_list (link d))) (first_fault q (as_list (link_error d))) (map t (as_list (link d))) (map t (as_list (link_error d)))
-    (λ links errbacks. task 0 (call_of d) (tasks_of links) (tasks_of errbacks)))
+    (λ links errbacks. task 0 (spelled_call d) (tasks_of links) (tasks_of errbacks)))
 
 linked_level : (g : Data → Result Task SigFault) (k q : Data → Option SigFault) (t : Data → Task) → ((d : Data) → g d ≡ judged (q d) (t d))
     → (d : Data) (o : Option SigFault) → own_fault true d ≡ o

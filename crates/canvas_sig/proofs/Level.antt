@@ -5,7 +5,7 @@ use Rattle.std.proofs.lemmas.List.{map_push}
 use Rattle.serde_json.specs.Data.{Data}
 use Rattle.canvas_sig.specs.declared.fault.SigFault.{SigFault}
 use Rattle.canvas_sig.specs.declared.fault.SigFault.TheVariants.{Memory}
-use Rattle.canvas_sig.specs.Fields.{field, args, kwargs, link, link_error, listed, members, as_list, text_of, is_true}
+use Rattle.canvas_sig.specs.Fields.{field, args, kwargs, link, link_error, listed, object_members, as_list, text_of, is_true}
 use Rattle.canvas_sig.specs.Reading.{Fails, each, arg_reading, named_reading, task_with, linked_with, task_reading, tree_with, tree_reading}
 use Rattle.canvas_semantics.specs.Tree.{Task}
 use Rattle.canvas_sig.specs.View.{task_view}
@@ -30,7 +30,7 @@ fails_with e r h = h
 -- a task whose parts were read
 pub made : (f : Data → Result Task SigFault) (d : Data) (r : TaskSig-F TaskSig)
     → each arg_reading (listed (args d)) ≡ Ok r.args
-    → each named_reading (members (kwargs d)) ≡ Ok r.kwargs
+    → each named_reading (object_members (kwargs d)) ≡ Ok r.kwargs
     → each f (as_list (link d)) ≡ Ok (map task_view r.links)
     → each f (as_list (link_error d)) ≡ Ok (map task_view r.errbacks)
     → text_of (field (codes "task") d) ≡ r.name

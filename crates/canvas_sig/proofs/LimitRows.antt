@@ -2,7 +2,7 @@
 use Rattle.std.proofs.Common.{◌≡◌, [], ◌∷◌, Some, None, refl}
 use Rattle.canvas_semantics.specs.Tree.{group}
 use Rattle.canvas_semantics.proofs.rows.Canvases.{add, trees, pairs_of, with_empty_groups, nested}
-use Rattle.canvas_sig.specs.Limits.{tree_fault}
+use Rattle.canvas_sig.specs.LimitRefusals.{tree_fault}
 use Rattle.canvas_sig.specs.declared.fault.SigFault.TheVariants.{NestedGroup, TooDeep, TooMany}
 
 ten_pairs_are_few : tree_fault (pairs_of 10) ≡ None

@@ -13,7 +13,8 @@ use Rattle.serde_json.specs.View.{view}
 use Rattle.serde_json.proofs.Views.{Entry}
 use Rattle.canvas_task.specs.Entries.{named}
 use Rattle.canvas_task.specs.declared.arg.Arg.{Arg}
-use Rattle.canvas_sig.specs.Fields.{seen, Text}
+use Rattle.canvas_task.specs.Text.{Text}
+use Rattle.canvas_sig.specs.Fields.{seen}
 
 abbrev pub names : {B : Type 0} → List (Text × B) → List Text
 names es = map (λ e. e.0) es

@@ -7,7 +7,7 @@ use Rattle.canvas_sig.specs.declared.reach.LineReach.TheVariants.{Empty, One, Mo
 use Rattle.canvas_semantics.specs.Tree.{Task, task, Tasks, no_tasks, and_task, Tree, one, chain, group, chord, Trees, no_trees, and_tree}
 use Rattle.canvas_semantics.specs.NormalLine.{onto, all_onto, normal_all, group_onto, normal}
 use Rattle.canvas_semantics.specs.Reach.{task_reach, tasks_reach, reach, line_reach, members_reach}
-use Rattle.canvas_sig.specs.LineReach.{capped, above, sig_reach, sigs_reach, whole, chord_reach, group_reach, task_onto, onto_reach, all_onto_reach, greatest}
+use Rattle.canvas_sig.specs.steps.LineReach.{capped, above, sig_reach, sigs_reach, reach_of_line, chord_reach, group_reach, task_onto, onto_reach, all_onto_reach, greatest}
 
 capped_above : (a r : ℕ) → a ≡ capped r → above a ≡ capped (1 + r)
 capped_above a r h = omega (arith, h)
@@ -36,7 +36,7 @@ shape c no_trees = Empty
 shape c (and_tree t no_trees) = One (capped (reach c t))
 shape c (and_tree t (and_tree u us)) = More (capped (line_reach c (and_tree t (and_tree u us))))
 
-whole_shape : (c : ℕ) (ts : Trees) → whole (shape c ts) ≡ capped (reach c (chain ts))
+whole_shape : (c : ℕ) (ts : Trees) → reach_of_line (shape c ts) ≡ capped (reach c (chain ts))
 whole_shape c no_trees = refl
 whole_shape c (and_tree t no_trees) = refl
 whole_shape c (and_tree t (and_tree u us)) = capped_above _ _ refl
@@ -65,7 +65,7 @@ mutual
   onto_shape (chain ts) c after = all_shape ts c after
   onto_shape (group g ms) c after = of_group c g (normal_all ms) after (greatest ms) (λ b. members_capped ms b)
   onto_shape (chord g h b) c after =
-      of_chord c g (normal_all h) (onto b after) (greatest h) (λ x. members_capped h x) _ (ap whole (onto_shape b c after) ∙ whole_shape c (onto b after))
+      of_chord c g (normal_all h) (onto b after) (greatest h) (λ x. members_capped h x) _ (ap reach_of_line (onto_shape b c after) ∙ whole_shape c (onto b after))
 
   all_shape : (ts : Trees) (c : ℕ) (after : Trees) → all_onto_reach ts (shape c after) (capped c) ≡ shape c (all_onto ts after)
   all_shape no_trees c after = refl
@@ -75,11 +75,11 @@ mutual
   members_capped : (ms : Trees) (c : ℕ) → greatest ms (capped c) ≡ capped (members_reach c (normal_all ms))
   members_capped no_trees c = refl
   members_capped (and_tree t ts) c =
-      capped_max _ _ _ _ (ap whole (onto_shape t c no_trees) ∙ whole_shape c (onto t no_trees)) (members_capped ts c)
+      capped_max _ _ _ _ (ap reach_of_line (onto_shape t c no_trees) ∙ whole_shape c (onto t no_trees)) (members_capped ts c)
 
 -- the reach of a canvas's normal line, as far as the limit
-pub normal_reach : (t : Tree) → whole (onto_reach t Empty 0) ≡ capped (reach 0 (normal t))
-normal_reach t = ap whole (onto_shape t 0 no_trees) ∙ whole_shape 0 (onto t no_trees)
+pub normal_reach : (t : Tree) → reach_of_line (onto_reach t Empty 0) ≡ capped (reach 0 (normal t))
+normal_reach t = ap reach_of_line (onto_shape t 0 no_trees) ∙ whole_shape 0 (onto t no_trees)
 
 -- the test past the limit sees as much of either
 pub past_limit : (w r : ℕ) → w ≡ capped r → nat_lt 32 w ≡ nat_lt 32 r

@@ -16,10 +16,10 @@ use Rattle.serde_json.specs.Written.{number_text, outline, items_outline, member
 use Rattle.serde_json.proofs.Texts.{print-outline}
 use Rattle.canvas_sig.specs.declared.fault.SigFault.{SigFault}
 use Rattle.canvas_sig.specs.CanvasText.{most_bytes, json_of, reading}
-use Rattle.canvas_sig.specs.Clean.{IsWhole, IsClean, AreClean, MembersClean, behind}
-use Rattle.canvas_sig.specs.Faults.{signature_fault, tree_of}
+use Rattle.canvas_sig.specs.steps.Clean.{IsWholeNumber, IsClean, AreClean, MembersClean, behind_members}
+use Rattle.canvas_sig.specs.Refusals.{signature_fault, tree_of}
 use Rattle.canvas_semantics.specs.Bounds.{most_nesting, nests_group, is_too_deep}
-use Rattle.canvas_sig.specs.Limits.{tree_fault}
+use Rattle.canvas_sig.specs.LimitRefusals.{tree_fault}
 use Rattle.canvas_semantics.specs.Nesting.{nesting}
 use Rattle.canvas_sig.specs.Reading.{judged, tree_reading}
 use Rattle.canvas_semantics.specs.Tree.{Tree}
@@ -34,7 +34,7 @@ use Rattle.canvas_sig.proofs.WholeText.{text_again}
 
 -- ---- the text reads as the value
 
-whole_number : (n : Num) → IsWhole n → IsNumber (number_text n)
+whole_number : (n : Num) → IsWholeNumber n → IsNumber (number_text n)
 whole_number (unsigned n) h = IsNumber-decimal n h
 whole_number (negative (pos n)) h = absurd h
 whole_number (negative (negsuc n)) h = IsNumber-signed_decimal (negsuc n) h
@@ -55,7 +55,7 @@ mutual
 
   members_numbers : (before ms : Members) → MembersClean before ms → MembersHaveNumbers (members_outline ms)
   members_numbers before no_members h = tt
-  members_numbers before (member k d ms) h = (clean_numbers d h.1, members_numbers (behind before k d) ms h.2)
+  members_numbers before (member k d ms) h = (clean_numbers d h.1, members_numbers (behind_members before k d) ms h.2)
 
 pub text_read : (d : Data) → IsClean d → depth d ≤ max_depth → read (compact_text d) ≡ Some d
 text_read d clean low =

@@ -7,7 +7,7 @@ use Rattle.canvas_sig.specs.declared.fault.SigFault.TheVariants.{NotJson, NotSig
 use Rattle.canvas_task.specs.declared.arg.Arg.{Arg}
 use Rattle.canvas_task.specs.declared.arg.Arg.TheVariants as arg
 use Rattle.canvas_semantics.specs.Tree.{Task, task, Tasks, no_tasks, and_task, one, chord, no_trees, and_tree}
-use Rattle.canvas_sig.specs.Faults.{signature_fault, tree_of}
+use Rattle.canvas_sig.specs.Refusals.{signature_fault, tree_of}
 use Rattle.canvas_sig.specs.CanvasText.{reading}
 
 not_json : reading (codes "{") ≡ Err NotJson

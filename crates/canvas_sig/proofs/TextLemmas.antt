@@ -7,9 +7,9 @@ use Rattle.std.specs.Str.{is_utf8}
 use Rattle.canvas_sig.specs.declared.fault.SigFault.{SigFault}
 use Rattle.canvas_sig.specs.declared.fault.SigFault.TheVariants.{TooLarge, NotJson, Memory}
 use Rattle.canvas_sig.specs.CanvasText.{most_bytes, json_of, canvas_reading, json_canvas, reading, json_reading, signature_reading}
-use Rattle.canvas_sig.specs.Faults.{signature_fault, tree_of}
-use Rattle.canvas_sig.specs.Fields.{Text}
-use Rattle.canvas_sig.specs.Limits.{tree_fault}
+use Rattle.canvas_sig.specs.Refusals.{signature_fault, tree_of}
+use Rattle.canvas_task.specs.Text.{Text}
+use Rattle.canvas_sig.specs.LimitRefusals.{tree_fault}
 use Rattle.canvas_sig.specs.Reading.{◌>>=◌, ◌or_else◌, fault_if, judged, unless, Fails, tree_reading}
 use Rattle.canvas_semantics.specs.Tree.{Tree}
 use Rattle.canvas_sig.specs.Writable.{IsCanvas}

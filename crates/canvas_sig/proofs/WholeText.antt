@@ -12,7 +12,7 @@ use Rattle.json.proofs.Printed.Trees.{value-json_tokens}
 use Rattle.serde_json.specs.Read.{of_json}
 use Rattle.std.specs.Prelude.{Option, option_and_then}
 use Rattle.std.proofs.Common.{append-nil}
-use Rattle.canvas_sig.specs.Clean.{IsClean}
+use Rattle.canvas_sig.specs.steps.Clean.{IsClean}
 use Rattle.canvas_sig.proofs.ReadsBack.{read_again}
 
 mutual

@@ -5,10 +5,10 @@ use Rattle.serde_json.specs.Data.{Data}
 use Rattle.serde_json.specs.Read.{read, max_depth}
 use Rattle.canvas_sig.specs.declared.fault.SigFault.{SigFault}
 use Rattle.canvas_sig.specs.declared.fault.SigFault.TheVariants.{TooLarge, NotJson}
-use Rattle.canvas_sig.specs.Fields.{Text}
+use Rattle.canvas_task.specs.Text.{Text}
 use Rattle.canvas_sig.specs.Reading.{◌>>=◌, ◌or_else◌, fault_if, judged, unless, tree_reading}
-use Rattle.canvas_sig.specs.Faults.{signature_fault, tree_of}
-use Rattle.canvas_sig.specs.Limits.{tree_fault}
+use Rattle.canvas_sig.specs.Refusals.{signature_fault, tree_of}
+use Rattle.canvas_sig.specs.LimitRefusals.{tree_fault}
 use Rattle.canvas_semantics.specs.Tree.{Tree}
 
 -- a mebibyte

@@ -5,10 +5,8 @@ use Rattle.std.specs.declared.alloc.Global.{Global}
 use Rattle.serde_json.specs.Data.{Data, null, boolean, number, string, array, object, Items, no_items, item, Members, no_members, member}
 use Rattle.serde_json.specs.Find.{get}
 use Rattle.serde_json.specs.View.{view}
+use Rattle.canvas_task.specs.Text.{Text}
 use Rattle.serde_json.specs.declared.value.Value.{Value}
-
-abbrev pub Text : Type 0
-Text = List ℕ
 
 -- what a look-up found
 abbrev pub found : Option (Bor Value) → Data
@@ -71,13 +69,13 @@ as_list (array ds) = items ds
 as_list null = []
 as_list d = d ∷ []
 
-abbrev pub members : Data → List (Text × Data)
-members (object ms) = entries ms
-members d = []
+abbrev pub object_members : Data → List (Text × Data)
+object_members (object ms) = entries ms
+object_members d = []
 
 -- the values of an object's members
 abbrev pub contents : Data → List Data
-contents d = map (λ e. e.1) (members d)
+contents d = map (λ e. e.1) (object_members d)
 
 abbrev pub text_of : Data → Text
 text_of (string s) = s

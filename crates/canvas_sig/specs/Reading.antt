@@ -12,7 +12,8 @@ use Rattle.canvas_sig.specs.declared.fault.SigFault.{SigFault}
 use Rattle.canvas_sig.specs.declared.fault.SigFault.TheVariants.{NotSignature, UnknownPrimitive, BadArgs, BadNumber, OnCanvas, Frozen, EmptyChain, TooDeep, Memory}
 use Rattle.canvas_sig.specs.declared.primitive.Primitive.{Primitive}
 use Rattle.canvas_sig.specs.declared.primitive.Primitive.TheVariants as kind
-use Rattle.canvas_sig.specs.Fields.{Text, field, subtype, args, kwargs, option, tasks, header, body, link, link_error, items, listed, as_list, members, contents, text_of, is_null, is_list, is_object, is_number, is_true, is_flag, is_list_or_null, is_object_or_null, is_link, is_empty}
+use Rattle.canvas_task.specs.Text.{Text}
+use Rattle.canvas_sig.specs.Fields.{field, subtype, args, kwargs, option, tasks, header, body, link, link_error, items, listed, as_list, object_members, contents, text_of, is_null, is_list, is_object, is_number, is_true, is_flag, is_list_or_null, is_object_or_null, is_link, is_empty}
 use Rattle.canvas_semantics.specs.Tree.{Task, task, Tree, one, chain, group, chord, Trees, no_trees}
 use Rattle.canvas_sig.specs.View.{tasks_of, trees_of}
 
@@ -85,15 +86,15 @@ abbrev pub some_or_zero : Option ℤ → ℤ
 some_or_zero None = pos 0
 some_or_zero (Some z) = z
 
-abbrev pub number_of : Data → ℤ
-number_of (number n) = some_or_zero (as_i64 n)
-number_of d = pos 0
+abbrev pub whole_number : Data → ℤ
+whole_number (number n) = some_or_zero (as_i64 n)
+whole_number d = pos 0
 
 -- what one without a fault stands for
 abbrev pub argument_of : Data → Arg
 argument_of (string s) = arg.Text s
-argument_of (array ds) = arg.List (map number_of (items ds))
-argument_of d = arg.Num (number_of d)
+argument_of (array ds) = arg.List (map whole_number (items ds))
+argument_of d = arg.Num (whole_number d)
 
 -- the argument that a value stands for, or its fault
 abbrev pub arg_reading : Data → Result Arg SigFault
@@ -179,19 +180,19 @@ own_fault linked d = fault_if (not_signature d) NotSignature or_else fault_as li
 
 -- ---- reading, as the code goes
 
-abbrev pub whole : Option ℤ → Result ℤ SigFault
-whole None = Err BadNumber
-whole (Some z) = if in_range z then Ok z else Err BadNumber
+abbrev pub in_range_or_refused : Option ℤ → Result ℤ SigFault
+in_range_or_refused None = Err BadNumber
+in_range_or_refused (Some z) = if in_range z then Ok z else Err BadNumber
 
 abbrev pub number_reading : Data → Result ℤ SigFault
-number_reading (number n) = whole (as_i64 n)
+number_reading (number n) = in_range_or_refused (as_i64 n)
 number_reading d = Err BadNumber
 
 abbrev pub list_reading : List Data → Result Arg SigFault
 list_reading ds = if list_all is_number ds then (each number_reading ds >>= λ ns. Ok (arg.List ns)) else Err BadArgs
 
 abbrev pub arg_steps : Data → Result Arg SigFault
-arg_steps (number n) = whole (as_i64 n) >>= λ z. Ok (arg.Num z)
+arg_steps (number n) = in_range_or_refused (as_i64 n) >>= λ z. Ok (arg.Num z)
 arg_steps (string s) = Ok (arg.Text s)
 arg_steps (array ds) = list_reading (items ds)
 arg_steps d = Err BadArgs
@@ -200,7 +201,7 @@ arg_steps d = Err BadArgs
 abbrev pub task_with : (Data → Result Task SigFault) → Data → Result Task SigFault
 task_with f d =
     each arg_reading (listed (args d)) >>= λ args.
-    each named_reading (members (kwargs d)) >>= λ kwargs.
+    each named_reading (object_members (kwargs d)) >>= λ kwargs.
     each f (as_list (link d)) >>= λ links.
     each f (as_list (link_error d)) >>= λ errbacks.
     Ok (task 0 (record { name = text_of (field (codes "task") d); args = args; kwargs = kwargs; immutable = is_true (field (codes "immutable") d) }) (tasks_of links) (tasks_of errbacks))

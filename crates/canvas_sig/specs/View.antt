@@ -21,11 +21,11 @@ abbrev pub task_view : TaskSig → Task
 task_view = fold-TaskSig Task task_step
 
 -- one level, with each signature inside already seen as its data
-abbrev pub step : Node-F Tree → Tree
-step (Node-F.Task t) = one (task_view t)
-step (Node-F.Chain ns) = chain (trees_of ns)
-step (Node-F.Group ns) = group 0 (trees_of ns)
-step (Node-F.Chord header body) = chord 0 (trees_of header) body.value
+abbrev pub one_level : Node-F Tree → Tree
+one_level (Node-F.Task t) = one (task_view t)
+one_level (Node-F.Chain ns) = chain (trees_of ns)
+one_level (Node-F.Group ns) = group 0 (trees_of ns)
+one_level (Node-F.Chord header body) = chord 0 (trees_of header) body.value
 
 abbrev pub view : Node → Tree
-view = fold-Node Tree step
+view = fold-Node Tree one_level

@@ -7,8 +7,8 @@ ghost use Rattle.serde_json.specs.View.{view, number_view};
 ghost use Rattle.canvas_task.specs.Entries.{named};
 ghost use Rattle.canvas_task.specs.Numbers.{in_range};
 ghost use Rattle.canvas_sig.specs.declared.fault.SigFault.TheVariants.{Memory};
-ghost use Rattle.canvas_sig.specs.Fields.{found, seen, members, is_number};
-ghost use Rattle.canvas_sig.specs.Reading.{Gives, each, some_in_range, whole, number_reading, list_reading, arg_reading, named_reading, takes_memory};
+ghost use Rattle.canvas_sig.specs.Fields.{found, seen, object_members, is_number};
+ghost use Rattle.canvas_sig.specs.Reading.{Gives, each, some_in_range, in_range_or_refused, number_reading, list_reading, arg_reading, named_reading, takes_memory};
 
 use crate::fault::SigFault;
 use canvas_task::{Arg, ListOf, TextOf};
@@ -36,7 +36,7 @@ pub(crate) fn is_in_range(number: &Number) -> bool
 
 /// A whole number in range.
 fn whole(number: &Number) -> Result<i64, SigFault>
-    ensures reading { Gives (λ n. n) result (whole (as_i64 (number_view number.now))) }
+    ensures reading { Gives (λ n. n) result (in_range_or_refused (as_i64 (number_view number.now))) }
     ensures memory { IfErr result (λ e. e ≢ Memory) }
 {
     match number.as_i64() {
@@ -131,7 +131,7 @@ fn read_named(alloc: Global, members: &Map<String, Value>) -> Result<Map<String,
 }
 
 fn read_members(alloc: Global, value: &Value) -> Result<Map<String, Arg>, SigFault>
-    ensures { Gives (λ m. named m.entries) result (each named_reading (members (view value.now))) }
+    ensures { Gives (λ m. named m.entries) result (each named_reading (object_members (view value.now))) }
 {
     match value {
         Value::Object(members) => read_named(alloc, members),
@@ -140,7 +140,7 @@ fn read_members(alloc: Global, value: &Value) -> Result<Map<String, Arg>, SigFau
 }
 
 pub fn read_kwargs(alloc: Global, field: Option<&Value>) -> Result<Map<String, Arg>, SigFault>
-    ensures { Gives (λ m. named m.entries) result (each named_reading (members (found field.entry))) }
+    ensures { Gives (λ m. named m.entries) result (each named_reading (object_members (found field.entry))) }
 {
     match field {
         Some(value) => read_members(alloc, value),

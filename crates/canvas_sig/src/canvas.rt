@@ -4,7 +4,7 @@ ghost use Rattle.std.specs.Prelude.{◌≡◌, ◌≢◌, Ok, Err, IfOk, IfErr, 
 ghost use Rattle.serde_json.specs.View.{view as json_view};
 ghost use Rattle.canvas_sig.specs.declared.fault.SigFault.TheVariants.{Memory};
 ghost use Rattle.canvas_sig.specs.CanvasText.{json_of, json_reading, signature_reading, reading};
-ghost use Rattle.canvas_sig.specs.NodeFaults.{node_fault};
+ghost use Rattle.canvas_sig.specs.ComposedRefusals.{node_fault};
 ghost use Rattle.canvas_sig.specs.Reading.{Gives};
 ghost use Rattle.canvas_sig.specs.View.{view};
 ghost use Rattle.canvas_sig.specs.Writable.{IsCanvas};

@@ -4,7 +4,7 @@ ghost use Rattle.std.specs.Prelude.{◌≡◌, map, OnOk};
 ghost use Rattle.std.specs.List.{list_all};
 ghost use Rattle.canvas_task.specs.Entries.{named, Ascends};
 ghost use Rattle.canvas_task.specs.Numbers.{in_range};
-ghost use Rattle.canvas_sig.specs.NodeFaults.{fault_of, arg_ok, its_call, call_fault, task_fault, tasks_fault, signatures_fault, all_fault};
+ghost use Rattle.canvas_sig.specs.ComposedRefusals.{refusal_of, arg_ok, its_call, call_fault, task_fault, tasks_fault, signatures_fault, all_fault};
 ghost use Rattle.canvas_semantics.specs.Tree.{chain};
 ghost use Rattle.canvas_sig.specs.View.{task_view, view, tasks_of, trees_of};
 ghost use Rattle.canvas_sig.specs.Writable.{TaskComposed, TasksComposed, IsComposed, AreComposed};
@@ -51,7 +51,7 @@ pub fn kwargs_fit(kwargs: &BTreeMap<String, Arg>) -> bool
 }
 
 fn check_call(sig: &TaskSig) -> Result<(), SigFault>
-    ensures fault { fault_of result ≡ call_fault (its_call (task_view sig.now)) }
+    ensures fault { refusal_of result ≡ call_fault (its_call (task_view sig.now)) }
     ensures ordered { OnOk result (Ascends (its_call (task_view sig.now)).kwargs) }
 {
     if !name_ok(sig.name.get()) {
@@ -65,7 +65,7 @@ fn check_call(sig: &TaskSig) -> Result<(), SigFault>
 
 #[cycle(check_task)]
 fn check_task(sig: &TaskSig) -> Result<(), SigFault>
-    ensures fault { fault_of result ≡ task_fault (task_view sig.now) }
+    ensures fault { refusal_of result ≡ task_fault (task_view sig.now) }
     ensures composed { OnOk result (TaskComposed (task_view sig.now)) }
 {
     check_call(sig)?;
@@ -75,7 +75,7 @@ fn check_task(sig: &TaskSig) -> Result<(), SigFault>
 
 #[cycle(check_task)]
 fn check_tasks(sigs: &[TaskSig]) -> Result<(), SigFault>
-    ensures fault { fault_of result ≡ tasks_fault (tasks_of (map task_view sigs.now)) }
+    ensures fault { refusal_of result ≡ tasks_fault (tasks_of (map task_view sigs.now)) }
     ensures composed { OnOk result (TasksComposed (tasks_of (map task_view sigs.now))) }
 {
     for sig in sigs {
@@ -87,7 +87,7 @@ fn check_tasks(sigs: &[TaskSig]) -> Result<(), SigFault>
 /// Checks a signature, and then those in it.
 #[cycle(check_node)]
 pub(crate) fn check_node(node: &Node) -> Result<(), SigFault>
-    ensures fault { fault_of result ≡ signatures_fault (view node.now) }
+    ensures fault { refusal_of result ≡ signatures_fault (view node.now) }
     ensures composed { OnOk result (IsComposed (view node.now)) }
 {
     match node {
@@ -103,7 +103,7 @@ pub(crate) fn check_node(node: &Node) -> Result<(), SigFault>
 
 #[cycle(check_node)]
 fn check_chain(nodes: &[Node]) -> Result<(), SigFault>
-    ensures fault { fault_of result ≡ signatures_fault (chain (trees_of (map view nodes.now))) }
+    ensures fault { refusal_of result ≡ signatures_fault (chain (trees_of (map view nodes.now))) }
     ensures composed { OnOk result (IsComposed (chain (trees_of (map view nodes.now)))) }
 {
     if nodes.is_empty() {
@@ -114,7 +114,7 @@ fn check_chain(nodes: &[Node]) -> Result<(), SigFault>
 
 #[cycle(check_node)]
 fn check_nodes(nodes: &[Node]) -> Result<(), SigFault>
-    ensures fault { fault_of result ≡ all_fault (trees_of (map view nodes.now)) }
+    ensures fault { refusal_of result ≡ all_fault (trees_of (map view nodes.now)) }
     ensures composed { OnOk result (AreComposed (trees_of (map view nodes.now))) }
 {
     for node in nodes {

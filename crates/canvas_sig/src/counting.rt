@@ -3,7 +3,7 @@
 ghost use Rattle.std.specs.Prelude.{map};
 ghost use Rattle.canvas_semantics.specs.Tree.{count, count_all, count_task, count_tasks, count_groups, count_all_groups};
 ghost use Rattle.canvas_sig.specs.View.{view, task_view, tasks_of, trees_of};
-ghost use Rattle.canvas_sig.specs.Budget.{Leaves};
+ghost use Rattle.canvas_sig.specs.steps.Budget.{LeavesOver};
 
 use crate::{Node, TaskSig};
 
@@ -11,7 +11,7 @@ use crate::{Node, TaskSig};
 #[cycle(task_counting)]
 #[tactic(auto, using(crate::proofs::Views::task_seen))]
 fn left_after_task(sig: &TaskSig, left: u32) -> Option<u32>
-    ensures { Leaves result left (count_task (task_view sig.now)) }
+    ensures { LeavesOver result left (count_task (task_view sig.now)) }
 {
     let left = left.checked_sub(1)?;
     let left = left_after_tasks(sig.links.get(), left)?;
@@ -20,7 +20,7 @@ fn left_after_task(sig: &TaskSig, left: u32) -> Option<u32>
 
 #[cycle(task_counting)]
 fn left_after_tasks(sigs: &[TaskSig], left: u32) -> Option<u32>
-    ensures { Leaves result left (count_tasks (tasks_of (map task_view sigs.now))) }
+    ensures { LeavesOver result left (count_tasks (tasks_of (map task_view sigs.now))) }
 {
     let mut left = left;
     for sig in sigs {
@@ -32,7 +32,7 @@ fn left_after_tasks(sigs: &[TaskSig], left: u32) -> Option<u32>
 /// What is left of `left` tasks after those of a node; None where it has more.
 #[cycle(tasks)]
 pub(crate) fn tasks_left(node: &Node, left: u32) -> Option<u32>
-    ensures { Leaves result left (count (view node.now)) }
+    ensures { LeavesOver result left (count (view node.now)) }
 {
     match node {
         Node::Task(sig) => left_after_task(sig, left),
@@ -47,7 +47,7 @@ pub(crate) fn tasks_left(node: &Node, left: u32) -> Option<u32>
 
 #[cycle(tasks)]
 fn tasks_left_of_all(nodes: &[Node], left: u32) -> Option<u32>
-    ensures { Leaves result left (count_all (trees_of (map view nodes.now))) }
+    ensures { LeavesOver result left (count_all (trees_of (map view nodes.now))) }
 {
     let mut left = left;
     for node in nodes {
@@ -59,7 +59,7 @@ fn tasks_left_of_all(nodes: &[Node], left: u32) -> Option<u32>
 /// What is left of `left` groups and chords after those of a node; None where it has more.
 #[cycle(groups)]
 pub(crate) fn groups_left(node: &Node, left: u32) -> Option<u32>
-    ensures { Leaves result left (count_groups (view node.now)) }
+    ensures { LeavesOver result left (count_groups (view node.now)) }
 {
     match node {
         Node::Task(_) => Some(left),
@@ -78,7 +78,7 @@ pub(crate) fn groups_left(node: &Node, left: u32) -> Option<u32>
 
 #[cycle(groups)]
 fn groups_left_of_all(nodes: &[Node], left: u32) -> Option<u32>
-    ensures { Leaves result left (count_all_groups (trees_of (map view nodes.now))) }
+    ensures { LeavesOver result left (count_all_groups (trees_of (map view nodes.now))) }
 {
     let mut left = left;
     for node in nodes {

@@ -2,7 +2,7 @@
 
 ghost use Rattle.std.specs.Prelude.{◌≡◌};
 ghost use Rattle.canvas_sig.specs.declared.fault.SigFault.TheVariants.{Memory};
-ghost use Rattle.canvas_sig.specs.Codes.{code_of};
+ghost use Rattle.canvas_sig.specs.RefusalNames.{code_of};
 
 use std::alloc::{AllocError, AllocFailed};
 use std::fmt;
@@ -51,9 +51,9 @@ impl SigFault {
 
 impl fmt::Display for SigFault {
     ghost use Rattle.std.specs.Prelude.{Some};
-    ghost use Rattle.canvas_sig.specs.Codes.{name_of};
+    ghost use Rattle.canvas_sig.specs.RefusalNames.{printed_name};
 
-    ghost output = { λ fault. Some (name_of fault) };
+    ghost output = { λ fault. Some (printed_name fault) };
 
     fn fmt<W: fmt::Write>(&self, f: &mut fmt::Formatter<W>) -> fmt::Result {
         match self {

@@ -2,7 +2,7 @@
 
 ghost use Rattle.std.specs.Prelude.{◌≡◌};
 ghost use Rattle.canvas_semantics.specs.Bounds.{is_too_deep, is_too_many};
-ghost use Rattle.canvas_sig.specs.Limits.{tree_fault};
+ghost use Rattle.canvas_sig.specs.LimitRefusals.{tree_fault};
 ghost use Rattle.canvas_sig.specs.View.{view};
 
 use crate::counting::{groups_left, tasks_left};

@@ -1,7 +1,7 @@
 //! How deeply signatures of a canvas stand in each other in a message, past the limit only that it is past.
 
 ghost use Rattle.std.specs.Prelude.{◌≡◌, ◌+◌, max, map};
-ghost use Rattle.canvas_sig.specs.LineReach.{past, above, whole, sig_reach, sigs_reach, chord_reach, task_onto, group_reach, onto_reach, all_onto_reach, greatest};
+ghost use Rattle.canvas_sig.specs.steps.LineReach.{past, above, reach_of_line, sig_reach, sigs_reach, chord_reach, task_onto, group_reach, onto_reach, all_onto_reach, greatest};
 ghost use Rattle.canvas_sig.specs.View.{view, task_view, tasks_of, trees_of};
 
 use crate::{Node, TaskSig};
@@ -23,7 +23,7 @@ fn above(reach: u32) -> u32
 
 /// The reach of a whole line.
 pub(crate) fn whole(line: LineReach) -> u32
-    ensures { result ≡ whole line }
+    ensures { result ≡ reach_of_line line }
 {
     match line {
         LineReach::Empty => 0,

@@ -5,9 +5,9 @@ use Rattle.std.proofs.lemmas.Bool.Decides.{nat_tests}
 use Rattle.std.proofs.lemmas.List.Elements.{All-from_recursion}
 use Rattle.uuid.proofs.RoundTrips.{parses_hyphenated}
 use Rattle.uuid.specs.Text.{parsed, hyphenated_text, lower}
-use Rattle.canvas_task.specs.Identifiers.{number_of, number_at_end, identifier, task_mark, group_mark, task_text, group_text, task_named, group_named}
+use Rattle.canvas_task.specs.Identifiers.{number_named, number_at_end, identifier, task_mark, group_mark, task_text, group_text, task_named, group_named}
 
-pub unnamed : (mark : ℕ) (o : Option (List ℕ)) → ((u : List ℕ) → o ≡ Some u → ⊥) → None ≡ option_and_then (number_of mark) o
+pub unnamed : (mark : ℕ) (o : Option (List ℕ)) → ((u : List ℕ) → o ≡ Some u → ⊥) → None ≡ option_and_then (number_named mark) o
 unnamed mark None h = refl
 unnamed mark (Some u) h = absurd (h u refl)
 
@@ -67,15 +67,15 @@ read_back mark n X m h =
 
 pub task_back : (n : ℕ) → 0 < n → n < 2 ^ 32 → task_named (task_text n) ≡ Some n
 task_back n some h =
-    read_back task_mark n (number_of task_mark) (omega arith) h ∙ some_number (number_at_end (identifier task_mark n)) n (number_back task_mark n h) some
+    read_back task_mark n (number_named task_mark) (omega arith) h ∙ some_number (number_at_end (identifier task_mark n)) n (number_back task_mark n h) some
 
 pub group_back : (n : ℕ) → 0 < n → n < 2 ^ 32 → group_named (group_text n) ≡ Some n
 group_back n some h =
-    read_back group_mark n (number_of group_mark) (omega arith) h ∙ some_number (number_at_end (identifier group_mark n)) n (number_back group_mark n h) some
+    read_back group_mark n (number_named group_mark) (omega arith) h ∙ some_number (number_at_end (identifier group_mark n)) n (number_back group_mark n h) some
 
 -- the text of a task names no group, and the text of a group no task
 pub task_is_no_group : (n : ℕ) → n < 2 ^ 32 → group_named (task_text n) ≡ None
-task_is_no_group n h = read_back task_mark n (number_of group_mark) (omega arith) h
+task_is_no_group n h = read_back task_mark n (number_named group_mark) (omega arith) h
 
 pub group_is_no_task : (n : ℕ) → n < 2 ^ 32 → task_named (group_text n) ≡ None
-group_is_no_task n h = read_back group_mark n (number_of task_mark) (omega arith) h
+group_is_no_task n h = read_back group_mark n (number_named task_mark) (omega arith) h

@@ -1,9 +1,10 @@
 -- A result that a call answers is in range.
 use Rattle.std.proofs.Common.{◌≡◌, ℕ, zero, suc, List, [], ◌∷◌, Bool, true, false, Option, Some, None, refl}
 use Rattle.std.specs.Prelude.{ℤ, pos, negsuc, ◌+ℤ◌, ◌*ℤ◌, if◌then◌else◌}
-use Rattle.canvas_task.specs.Numbers.{in_range, floor_div, total}
+use Rattle.canvas_task.specs.Numbers.{in_range, floor_div, sum_of}
 use Rattle.canvas_task.specs.Identifiers.{task_named}
-use Rattle.canvas_task.specs.Apply.{IsInRange, Text, Job, add, mul, div, xsum, ident, log_error, checked, quotient, logged, answer, answer_filled, of_job, apply, job_named, bound_to, parameters}
+use Rattle.canvas_task.specs.Text.{Text}
+use Rattle.canvas_task.specs.Apply.{IsInRange, KnownTask, add, mul, div, xsum, ident, log_error, checked, quotient, logged, answer, answer_filled, of_job, apply, job_named, bound_to, parameters}
 use Rattle.canvas_task.specs.declared.arg.Arg.{Arg}
 use Rattle.canvas_task.specs.declared.arg.Arg.TheVariants as arg
 use Rattle.canvas_task.specs.declared.outcome.Fault.TheVariants.{Plain}
@@ -26,20 +27,20 @@ logged_fits : (o : Option ℕ) → IsInRange (logged o)
 logged_fits None = tt
 logged_fits (Some k) = checked_fits (pos k)
 
-answer_fits : (job : Job) (args : List Arg) → IsInRange (answer job args)
+answer_fits : (job : KnownTask) (args : List Arg) → IsInRange (answer job args)
 answer_fits add (arg.Num x ∷ arg.Num y ∷ []) = checked_fits (x +ℤ y)
 answer_fits mul (arg.Num x ∷ arg.Num y ∷ []) = checked_fits (x *ℤ y)
 answer_fits div (arg.Num x ∷ arg.Num y ∷ []) = quotient_fits x y
-answer_fits xsum (arg.List numbers ∷ []) = checked_fits (total numbers)
+answer_fits xsum (arg.List numbers ∷ []) = checked_fits (sum_of numbers)
 answer_fits ident (arg.Num x ∷ []) = checked_fits x
 answer_fits log_error (arg.Text uuid ∷ []) = logged_fits (task_named uuid)
 answer_fits job args = tt
 
-filled_fits : (job : Job) (o : Option (List Arg)) → IsInRange (answer_filled job o)
+filled_fits : (job : KnownTask) (o : Option (List Arg)) → IsInRange (answer_filled job o)
 filled_fits job None = tt
 filled_fits job (Some args) = answer_fits job args
 
-of_job_fits : (o : Option Job) (args : List Arg) (named : List (Text × Arg)) → IsInRange (of_job o args named)
+of_job_fits : (o : Option KnownTask) (args : List Arg) (named : List (Text × Arg)) → IsInRange (of_job o args named)
 of_job_fits None args named = tt
 of_job_fits (Some job) args named = filled_fits job (bound_to (parameters job) args named)
 

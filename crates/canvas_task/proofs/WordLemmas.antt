@@ -11,7 +11,7 @@ use Rattle.canvas_task.specs.declared.outcome.Why.TheVariants as why
 use Rattle.canvas_task.specs.declared.outcome.Fault.TheVariants.{Plain, Chord}
 use Rattle.canvas_task.specs.declared.outcome.Outcome.{Outcome}
 use Rattle.canvas_task.specs.declared.outcome.Outcome.TheVariants.{Success, Failure}
-use Rattle.canvas_task.specs.Words.{IsHeld, why_code, why_of_code, fault_of, word, outcome_named}
+use Rattle.canvas_task.specs.Words.{FitsAWord, why_code, why_of_code, failure_of_word, word, outcome_named}
 
 plain_back : (kind : Kind) → outcome_named (word (Failure (Plain kind))) ≡ Some (Failure (Plain kind))
 plain_back BadCall = refl
@@ -37,21 +37,21 @@ success_back : (n : ℤ) → in_range n ≡ true → outcome_named (word (Succes
 success_back n h = grind (arith, common_steps)
 
 -- the word of a failed header, by its two parts
-parts : (dep code : ℕ) → 1 ≤ dep → dep < 2 ^ 32 → outcome_named (2 ^ 63 + 16 * dep + code) ≡ option_map Failure (fault_of ((16 * dep + code) / 16) ((16 * dep + code) % 16))
+parts : (dep code : ℕ) → 1 ≤ dep → dep < 2 ^ 32 → outcome_named (2 ^ 63 + 16 * dep + code) ≡ option_map Failure (failure_of_word ((16 * dep + code) / 16) ((16 * dep + code) % 16))
 parts dep code low high = grind (arith, common_steps)
 
 chord_back : (dep : ℕ) (w : Why) → 1 ≤ dep → dep < 2 ^ 32 → outcome_named (word (Failure (Chord dep w))) ≡ Some (Failure (Chord dep w))
 chord_back dep w low high =
     let turned : 16 * dep + why_code w ≡ dep * 16 + why_code w = omega arith in
     parts dep (why_code w) low high
-    ∙ ap (λ r. option_map Failure (fault_of (r / 16) (r % 16))) turned
+    ∙ ap (λ r. option_map Failure (failure_of_word (r / 16) (r % 16))) turned
     ∙ rw (div-mul-add dep 16 (why_code w) (why_low w), mod-mul-add dep 16 (why_code w) (why_low w)) (grind (arith, common_steps, why_back w))
 
-word_back : (o : Outcome) → IsHeld o → outcome_named (word o) ≡ Some o
+word_back : (o : Outcome) → FitsAWord o → outcome_named (word o) ≡ Some o
 word_back (Success n) h = success_back n h
 word_back (Failure (Plain kind)) h = plain_back kind
 word_back (Failure (Chord dep w)) h = chord_back dep w h.0 h.1
 
 -- where a number stands for nothing, it is no outcome's word
-pub no_word : (found : ℕ) → outcome_named found ≡ None → (o : Outcome) → IsHeld o → word o ≢ found
+pub no_word : (found : ℕ) → outcome_named found ≡ None → (o : Outcome) → FitsAWord o → word o ≢ found
 no_word found none o held same = let clash : Some o ≡ None = sym (word_back o held) ∙ ap outcome_named same ∙ none in absurd cc

@@ -3,7 +3,8 @@
 use Rattle.std.specs.Prelude.{◌≡◌, ℕ, zero, true, if◌then◌else◌, List, [], ◌∷◌, Option, Some, None, codes, ℤ, pos, ◌+ℤ◌, ◌*ℤ◌}
 use Rattle.std.specs.List.{list_all, list_any}
 use Rattle.std.specs.Str.{bytes_eq}
-use Rattle.canvas_task.specs.Numbers.{in_range, floor_div, total}
+use Rattle.canvas_task.specs.Text.{Text}
+use Rattle.canvas_task.specs.Numbers.{in_range, floor_div, sum_of}
 use Rattle.canvas_task.specs.Identifiers.{task_named}
 use Rattle.canvas_task.specs.declared.arg.Arg.{Arg}
 use Rattle.canvas_task.specs.declared.arg.Arg.TheVariants as arg
@@ -12,21 +13,17 @@ use Rattle.canvas_task.specs.declared.outcome.Fault.TheVariants.{Plain}
 use Rattle.canvas_task.specs.declared.outcome.Outcome.{Outcome}
 use Rattle.canvas_task.specs.declared.outcome.Outcome.TheVariants.{Success, Failure}
 
--- a text is its bytes
-abbrev pub Text : Type 0
-Text = List ℕ
-
 -- the six tasks
-pub data Job : Type 0 where
-  add : Job
-  mul : Job
-  div : Job
-  xsum : Job
-  ident : Job
-  log_error : Job
+pub data KnownTask : Type 0 where
+  add : KnownTask
+  mul : KnownTask
+  div : KnownTask
+  xsum : KnownTask
+  ident : KnownTask
+  log_error : KnownTask
 
 -- the task that a name stands for
-abbrev pub job_named : Text → Option Job
+abbrev pub job_named : Text → Option KnownTask
 job_named name =
     if bytes_eq name (codes "tasks.add") then Some add
     else (if bytes_eq name (codes "tasks.mul") then Some mul
@@ -36,7 +33,7 @@ job_named name =
     else (if bytes_eq name (codes "tasks.log_error") then Some log_error else None)))))
 
 -- the names of a task's parameters, in their order
-abbrev pub parameters : Job → List Text
+abbrev pub parameters : KnownTask → List Text
 parameters add = codes "x" ∷ codes "y" ∷ []
 parameters mul = codes "x" ∷ codes "y" ∷ []
 parameters div = codes "x" ∷ codes "y" ∷ []
@@ -50,10 +47,10 @@ by_name p [] = None
 by_name p (e ∷ es) = if bytes_eq p e.0 then Some e.1 else by_name p es
 
 -- one argument in front of the others, if there is one
-abbrev pub in_front : Option Arg → Option (List Arg) → Option (List Arg)
-in_front None rest = None
-in_front (Some a) None = None
-in_front (Some a) (Some rest) = Some (a ∷ rest)
+abbrev pub first_argument : Option Arg → Option (List Arg) → Option (List Arg)
+first_argument None rest = None
+first_argument (Some a) None = None
+first_argument (Some a) (Some rest) = Some (a ∷ rest)
 
 -- one of two, if just one is there: a parameter given twice has no argument
 abbrev pub either : Option Arg → Option Arg → Option Arg
@@ -65,8 +62,8 @@ either None b = b
 abbrev pub filled : List Text → List Arg → List (Text × Arg) → Option (List Arg)
 filled [] [] named = Some []
 filled [] (a ∷ args) named = None
-filled (p ∷ ps) (a ∷ args) named = in_front (either (Some a) (by_name p named)) (filled ps args named)
-filled (p ∷ ps) [] named = in_front (either None (by_name p named)) (filled ps [] named)
+filled (p ∷ ps) (a ∷ args) named = first_argument (either (Some a) (by_name p named)) (filled ps args named)
+filled (p ∷ ps) [] named = first_argument (either None (by_name p named)) (filled ps [] named)
 
 -- the same, if each keyword is a parameter
 abbrev pub bound_to : List Text → List Arg → List (Text × Arg) → Option (List Arg)
@@ -87,22 +84,22 @@ logged None = Failure (Plain BadCall)
 logged (Some k) = checked (pos k)
 
 -- what a task answers to an argument for each of its parameters, where one of another kind is a bad call
-abbrev pub answer : Job → List Arg → Outcome
+abbrev pub answer : KnownTask → List Arg → Outcome
 answer add (arg.Num x ∷ arg.Num y ∷ []) = checked (x +ℤ y)
 answer mul (arg.Num x ∷ arg.Num y ∷ []) = checked (x *ℤ y)
 answer div (arg.Num x ∷ arg.Num y ∷ []) = quotient x y
-answer xsum (arg.List numbers ∷ []) = checked (total numbers)
+answer xsum (arg.List numbers ∷ []) = checked (sum_of numbers)
 answer ident (arg.Num x ∷ []) = checked x
 answer log_error (arg.Text uuid ∷ []) = logged (task_named uuid)
 answer job args = Failure (Plain BadCall)
 
 -- what it answers to arguments that may not have filled its parameters
-abbrev pub answer_filled : Job → Option (List Arg) → Outcome
+abbrev pub answer_filled : KnownTask → Option (List Arg) → Outcome
 answer_filled job None = Failure (Plain BadCall)
 answer_filled job (Some args) = answer job args
 
 -- what a task that may be unknown answers
-abbrev pub of_job : Option Job → List Arg → List (Text × Arg) → Outcome
+abbrev pub of_job : Option KnownTask → List Arg → List (Text × Arg) → Outcome
 of_job None args named = Failure (Plain NotRegistered)
 of_job (Some job) args named = answer_filled job (bound_to (parameters job) args named)
 

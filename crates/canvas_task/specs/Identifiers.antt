@@ -29,16 +29,16 @@ number_at_end id =
     slice_index id 12 * 2 ^ 24 + slice_index id 13 * 2 ^ 16 + slice_index id 14 * 2 ^ 8 + slice_index id 15
 
 -- the number that sixteen bytes name; no task or group has the number 0
-abbrev pub number_of : ℕ → List ℕ → Option ℕ
-number_of mark id =
+abbrev pub number_named : ℕ → List ℕ → Option ℕ
+number_named mark id =
     if bytes_eq (take 12 id) (pattern mark) && not (number_at_end id == 0) then Some (number_at_end id) else None
 
 -- the number of the task, and of the group or chord, that a text in any form of a UUID names
 abbrev pub task_named : List ℕ → Option ℕ
-task_named text = option_and_then (number_of task_mark) (parsed text)
+task_named text = option_and_then (number_named task_mark) (parsed text)
 
 abbrev pub group_named : List ℕ → Option ℕ
-group_named text = option_and_then (number_of group_mark) (parsed text)
+group_named text = option_and_then (number_named group_mark) (parsed text)
 
 -- the text of the task k, and of the group or chord g
 abbrev pub task_text : ℕ → List ℕ

@@ -1,4 +1,5 @@
 pub mod formers
+pub mod Text
 pub mod Apply
 pub mod Entries
 pub mod Identifiers

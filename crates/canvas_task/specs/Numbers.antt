@@ -16,5 +16,5 @@ floor_div x (pos y) = int_div_euclid x (pos y)
 floor_div x (negsuc y) = int_div_euclid (neg_ℤ x) (neg_ℤ (negsuc y))
 
 -- the sum of a list
-abbrev pub total : List ℤ → ℤ
-total ns = fold ◌+ℤ◌ (pos 0) ns
+abbrev pub sum_of : List ℤ → ℤ
+sum_of ns = fold ◌+ℤ◌ (pos 0) ns

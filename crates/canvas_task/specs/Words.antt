@@ -11,10 +11,10 @@ use Rattle.canvas_task.specs.declared.outcome.Outcome.{Outcome}
 use Rattle.canvas_task.specs.declared.outcome.Outcome.TheVariants.{Success, Failure}
 
 -- what an outcome holds: a success a number in range, a failed header the number of a task, from 1 and of 32 bits
-abbrev pub IsHeld : Outcome → Type 0
-IsHeld (Success n) = in_range n ≡ true
-IsHeld (Failure (Plain kind)) = Unit {0}
-IsHeld (Failure (Chord dep w)) = (1 ≤ dep) × (dep < 2 ^ 32)
+abbrev pub FitsAWord : Outcome → Type 0
+FitsAWord (Success n) = in_range n ≡ true
+FitsAWord (Failure (Plain kind)) = Unit {0}
+FitsAWord (Failure (Chord dep w)) = (1 ≤ dep) × (dep < 2 ^ 32)
 
 -- what a failure's word adds for its kind, and for why a member of a header failed
 abbrev pub kind_code : Kind → ℕ
@@ -49,8 +49,8 @@ abbrev pub why_of_code : ℕ → Option Why
 why_of_code n = if n == 4 then Some why.Chord else option_map why.Plain (kind_of_code n)
 
 -- the fault with this dependency, where 0 is none
-abbrev pub fault_of : ℕ → ℕ → Option Fault
-fault_of dep code =
+abbrev pub failure_of_word : ℕ → ℕ → Option Fault
+failure_of_word dep code =
     if dep == 0 then option_map Plain (kind_of_code code)
     else (if nat_lt dep (2 ^ 32) then option_map (Chord dep) (why_of_code code) else None)
 
@@ -60,4 +60,4 @@ outcome_named w =
     if w == 0 then None
     else (if nat_le w (2 ^ 61 + 1) then Some (Success (pos w -ℤ pos (2 ^ 60 + 1)))
     else (if nat_lt w (2 ^ 63) then None
-    else option_map Failure (fault_of ((w - 2 ^ 63) / 16) ((w - 2 ^ 63) % 16))))
+    else option_map Failure (failure_of_word ((w - 2 ^ 63) / 16) ((w - 2 ^ 63) % 16))))

@@ -1,5 +1,5 @@
 ghost use Rattle.std.specs.Prelude.{◌≡◌, ◌<◌, ◌≤◌, ◌^◌, Some, None, option_map, MatchOption};
-ghost use Rattle.canvas_task.specs.Identifiers.{task_text, group_text, task_named, group_named, identifier, number_of, task_mark, group_mark, number_at_end};
+ghost use Rattle.canvas_task.specs.Identifiers.{task_text, group_text, task_named, group_named, identifier, number_named, task_mark, group_mark, number_at_end};
 ghost use Rattle.uuid.specs.Text.{hyphenated_text, lower};
 
 use crate::{GroupNo, TaskNo};
@@ -52,7 +52,7 @@ fn text_of(bytes: [u8; 16]) -> [u8; 36]
 
 /// The number that sixteen bytes name.
 fn number_of(mark: u8, id: &[u8; 16]) -> Option<u32>
-    ensures { result ≡ number_of mark id.now }
+    ensures { result ≡ number_named mark id.now }
 {
     let [z0, z1, z2, z3, z4, z5, v, z7, m, z9, z10, z11, a, b, c, d] = *id;
     if [z0, z1, z2, z3, z4, z5, v, z7, m, z9, z10, z11]

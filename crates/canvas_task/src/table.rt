@@ -1,11 +1,11 @@
 ghost use Rattle.std.specs.Prelude.{◌≡◌, ◌≢◌, ◌*ℤ◌, pos, List, [], ◌∷◌, ◌||◌, string_bytes, IfSome, MatchOption, Some, None};
 ghost use Rattle.std.specs.Option.{option_map};
-ghost use Rattle.canvas_task.specs.Numbers.{in_range, floor_div, total};
+ghost use Rattle.canvas_task.specs.Numbers.{in_range, floor_div, sum_of};
 ghost use Rattle.canvas_task.specs.Entries.{named};
 ghost use Rattle.std.specs.List.{list_all, list_any};
 ghost use Rattle.std.specs.Str.{bytes_eq};
 ghost use Rattle.std.specs.Map.{keys_of};
-ghost use Rattle.canvas_task.specs.Apply.{add, mul, div, xsum, ident, log_error, apply, answer_filled, either, by_name, bound_to, checked, quotient, job_named, Job, parameters};
+ghost use Rattle.canvas_task.specs.Apply.{add, mul, div, xsum, ident, log_error, apply, answer_filled, either, by_name, bound_to, checked, quotient, job_named, KnownTask, parameters};
 
 use crate::{Arg, Fault, Kind, Outcome, task_of_text};
 use std::collections::BTreeMap;
@@ -47,7 +47,7 @@ fn quotient(x: i64, y: i64) -> Outcome
 }
 
 fn total(numbers: &[i64]) -> i128
-    ensures { result ≡ total numbers.now }
+    ensures { result ≡ sum_of numbers.now }
 {
     let mut sum = 0;
     for n in numbers {

@@ -2,7 +2,7 @@
 ghost use Rattle.std.specs.Prelude.{◌≡◌, ◌≢◌, ◌<◌, ◌≤◌, ◌^◌, Some, IfSome, IfNone};
 ghost use Rattle.canvas_task.specs.Apply.{IsInRange};
 ghost use Rattle.canvas_task.specs.declared.outcome.Outcome.{Outcome};
-ghost use Rattle.canvas_task.specs.Words.{IsHeld, kind_code, kind_of_code, why_code, why_of_code, fault_of, fault_word, word, outcome_named};
+ghost use Rattle.canvas_task.specs.Words.{FitsAWord, kind_code, kind_of_code, why_code, why_of_code, failure_of_word, fault_word, word, outcome_named};
 
 use crate::{Fault, Kind, Outcome, TaskNo, Why};
 
@@ -57,7 +57,7 @@ fn why_of_code(code: u64) -> Option<Why>
 }
 
 fn fault_of(dep: u64, code: u64) -> Option<Fault>
-    ensures { result ≡ fault_of dep code }
+    ensures { result ≡ failure_of_word dep code }
 {
     if dep == 0 {
         return Some(Fault::Plain(kind_of_code(code)?));
@@ -92,7 +92,7 @@ pub fn outcome_of(found: u64) -> Option<Outcome>
     ensures value { result ≡ outcome_named found }
     ensures its_word { IfSome result (λ o. word o ≡ found) }
     ensures in_range { IfSome result IsInRange }
-    ensures no_word { IfNone result ((o : Outcome) → IsHeld o → word o ≢ found) }
+    ensures no_word { IfNone result ((o : Outcome) → FitsAWord o → word o ≢ found) }
 {
     if found == 0 {
         return None;

@@ -9,7 +9,7 @@ use Rattle.canvas_message.specs.Job.{Job, store, publish, hand_in}
 use Rattle.canvas_message.specs.declared.envelope.Envelope.{Envelope}
 use Rattle.canvas_backend.specs.Roster.{roster_of}
 use Rattle.canvas_runs.specs.Book.{Book, book_on}
-use Rattle.canvas_runs.specs.Core.{take, send, keep, part, read, pause, taken, sent, refused, kept, counted, found, rested, State, taking, resting, over, failed, owning, doing, reading as state_reading, is_due, settled, opens, owned, job_done, ask, answered, Suits, ReadsBack, Between, left_after, IsCoreRun}
+use Rattle.canvas_runs.specs.Core.{take, send, keep, part, read, pause, taken, sent, refused, kept, counted, found, rested, CoreState, taking, resting, over, failed, owning, doing, reading as state_reading, is_due, settled, opens, owned, job_done, ask, answered, Suits, ReadsBack, Between, left_after, IsCoreRun}
 use Rattle.canvas_runs.specs.Protocol.{Protocol}
 use Rattle.canvas_runs.specs.Worker.{worker, opened}
 use Rattle.canvas_worker.specs.Asks.{Asked, Answer}
@@ -27,7 +27,7 @@ module _ (l : Line) where
   Y = worker l
 
   abbrev Doing : Type 0
-  Doing = State Content Load Outcome
+  Doing = CoreState Content Load Outcome
 
   abbrev Jobs : Type 0
   Jobs = List (Job Content Load Outcome)

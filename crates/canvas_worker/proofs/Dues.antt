@@ -8,22 +8,22 @@ use Rattle.canvas_message.specs.Todos.{part_view}
 use Rattle.canvas_message.specs.declared.todo.PartCall.{PartCall}
 use Rattle.canvas_runs.specs.Core.{is_due}
 use Rattle.canvas_worker.specs.Enveloped.{enclosed}
-use Rattle.canvas_worker.specs.Scripts.{Jobs, jobs_of}
+use Rattle.canvas_worker.specs.Scripts.{EnvelopeJobs, jobs_of}
 use Rattle.canvas_worker.specs.declared.script.Script.{Script}
 use Rattle.canvas_worker.specs.declared.sealed.Sealed.{Sealed}
 
 module _ (t : ℕ) where
-  after_stores : (es : List (ℕ × Outcome)) (js : Jobs) → is_due t (map (λ e. store e.0 e.1) es ++ js) ≡ is_due t js
+  after_stores : (es : List (ℕ × Outcome)) (js : EnvelopeJobs) → is_due t (map (λ e. store e.0 e.1) es ++ js) ≡ is_due t js
   after_stores [] js = refl
   after_stores (e ∷ es) js = after_stores es js
 
-  after_publishes : (ps : List Sealed) (js : Jobs) → is_due t (map (λ p. publish p.envelope) ps ++ js) ≡ is_due t js
+  after_publishes : (ps : List Sealed) (js : EnvelopeJobs) → is_due t (map (λ p. publish p.envelope) ps ++ js) ≡ is_due t js
   after_publishes [] js = refl
   after_publishes (p ∷ ps) js = after_publishes ps js
 
   part_due : (s : Script) → is_due t (jobs_of s) ≡ is_due t (map enclosed (parted (option_map part_view s.part)))
   part_due s =
-      let part : Jobs = map enclosed (parted (option_map part_view s.part)) in
+      let part : EnvelopeJobs = map enclosed (parted (option_map part_view s.part)) in
       after_stores s.stores.items (map (λ p. publish p.envelope) s.publishes.items ++ part) ∙ after_publishes s.publishes.items part
 
   by_part : (s : Script) (o : Option PartCall) → s.part ≡ o → is_due t (jobs_of s) ≡ is_due t (map enclosed (parted (option_map part_view o)))

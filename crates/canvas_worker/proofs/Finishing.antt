@@ -7,7 +7,7 @@ use Rattle.canvas_rewrite.specs.Planned.{IsPlan}
 use Rattle.canvas_message.specs.Content.{Content}
 use Rattle.canvas_backend.specs.Roster.{Roster, roster_of}
 use Rattle.canvas_broker.specs.Callers.{Empties}
-use Rattle.canvas_runs.specs.Core.{State, taking, resting, over, answered, left_after, Between, IsCoreRun}
+use Rattle.canvas_runs.specs.Core.{CoreState, taking, resting, over, answered, left_after, Between, IsCoreRun}
 use Rattle.canvas_runs.specs.Following.{Pass, Seat, Working, Followed, begins, IsDone}
 use Rattle.canvas_runs.specs.Worker.{worker, working}
 use Rattle.canvas_worker.specs.Asks.{Asked, Answer}
@@ -16,17 +16,17 @@ use Rattle.canvas_worker.specs.Enveloped.{enveloped}
 use Rattle.canvas_worker.specs.Finished.{Finished, WorkersStart, WorkersFinish}
 use Rattle.canvas_worker.specs.Progress.{Progress, Worked, starting}
 use Rattle.canvas_worker.specs.Standing.{Left}
-use Rattle.canvas_worker.specs.Work.{begun, Ready, Gives, IsOf}
+use Rattle.canvas_worker.specs.Work.{begun, Ready, TellsOf, IsRecordOf}
 use Rattle.canvas_worker.specs.declared.record.Record.{Record}
 use Rattle.canvas_worker.proofs.CoreLaw.{cores_are_workers}
 
 -- a worker needs no first messages
 module _ (l : Line) where
-  run_same : (s : State Content Load Outcome) (xs : List (Asked × Answer)) → IsCoreRun (worker l) s xs → IsCoreRun (working (roster_of l)) s xs
+  run_same : (s : CoreState Content Load Outcome) (xs : List (Asked × Answer)) → IsCoreRun (worker l) s xs → IsCoreRun (working (roster_of l)) s xs
   run_same s [] r = tt
   run_same s (x ∷ xs) r = (r.0, r.1, run_same (answered (working (roster_of l)) s x.1) xs r.2)
 
-  left_same : (s : State Content Load Outcome) (xs : List (Asked × Answer)) → left_after (worker l) s xs ≡ left_after (working (roster_of l)) s xs
+  left_same : (s : CoreState Content Load Outcome) (xs : List (Asked × Answer)) → left_after (worker l) s xs ≡ left_after (working (roster_of l)) s xs
   left_same s [] = refl
   left_same s (x ∷ xs) = left_same (answered (working (roster_of l)) s x.1) xs
 

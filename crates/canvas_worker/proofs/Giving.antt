@@ -10,7 +10,7 @@ use Rattle.canvas_runs.specs.Calls.{broker_call, backend_call, reads_member}
 use Rattle.canvas_runs.specs.Core as C
 use Rattle.canvas_runs.specs.Core.{answered, Suits, ReadsBack}
 use Rattle.canvas_runs.specs.Following.{Seat, Makes, Serves}
-use Rattle.canvas_runs.specs.Tally.{Tally, IsTally, Counted, Adds, is_taken, is_published, is_first, is_part, is_dropped, most}
+use Rattle.canvas_runs.specs.Tally.{Tally, IsTally, Counted, CountsMore, is_taken, is_published, is_first, is_part, is_dropped, greatest_count}
 use Rattle.canvas_worker.specs.Asks.{Asked, Answer}
 use Rattle.canvas_worker.specs.Books.{book_in, no_book}
 use Rattle.canvas_worker.specs.Enveloped.{enveloped, enveloped_by}
@@ -18,7 +18,7 @@ use Rattle.canvas_worker.specs.Progress.{Progress}
 use Rattle.canvas_worker.specs.Seats.{Can}
 use Rattle.canvas_worker.specs.Standing.{Standing, Left, asked, drops, after_reply}
 use Rattle.canvas_worker.specs.Steps.{Answered, OnlyBare, Called, Batched, FromHeld}
-use Rattle.canvas_worker.specs.Work.{Work, progress, with_core, told, lost, one_taken, Ready, Moves, stays, calls, takes, gives, GoesOn, Leaves, IsOf, Ends}
+use Rattle.canvas_worker.specs.Work.{Work, progress, with_core, told, lost, one_taken, Ready, Moves, stays, calls, takes, gives, GoesOn, Leaves, IsRecordOf, Ends}
 use Rattle.canvas_worker.specs.declared.cause.Cause.{Cause}
 use Rattle.canvas_worker.specs.declared.cause.Cause.TheVariants.{Memory, Stopped}
 use Rattle.canvas_worker.specs.declared.record.Record.{Record}
@@ -61,24 +61,24 @@ module _ (w u : Work) (es : List Envelope) (e : Envelope) (ready : Ready w) (x :
   batched = (refl, x.took, refl, refl, refl)
 
   abbrev core : Standing
-  core = record { left = answered (enveloped plan) w.core.left (C.taken (Some e)); is_out = false; dropped = min most (w.core.dropped + is_dropped plan C.take (C.taken (Some e))) }
+  core = record { left = answered (enveloped plan) w.core.left (C.taken (Some e)); is_out = false; dropped = min greatest_count (w.core.dropped + is_dropped plan C.take (C.taken (Some e))) }
 
   core_is : after_reply (book_in u.desk.plan) u.core (C.taken (Some e)) ≡ core
   core_is =
       let so : drops (book_on plan) w.core.left (C.taken (Some e)) ≡ is_dropped plan C.take (C.taken (Some e)) = drops_so plan w.core.left (C.taken (Some e)) ∙ ap (λ b. is_dropped plan b (C.taken (Some e))) x.asked_is in
       ap (λ (d : Desk). after_reply (book_in d.plan) u.core (C.taken (Some e))) x.desk ∙ ap (λ c. after_reply (book_in plan) c (C.taken (Some e))) x.core
       ∙ ap (λ b. after_reply b w.core (C.taken (Some e))) (same_book plan ready.plan)
-      ∙ ap (λ (n : ℕ). record { left = answered (enveloped plan) w.core.left (C.taken (Some e)); is_out = false; dropped = min most (w.core.dropped + n) }) so
+      ∙ ap (λ (n : ℕ). record { left = answered (enveloped plan) w.core.left (C.taken (Some e)); is_out = false; dropped = min greatest_count (w.core.dropped + n) }) so
 
   abbrev given : Work
   given = one_taken (with_core u core)
 
-  added : (n m k : ℕ) → m ≡ min most (n + k) → Adds n (k + 0) m
+  added : (n m k : ℕ) → m ≡ min greatest_count (n + k) → CountsMore n (k + 0) m
   added n m k h = omega (arith, h)
 
   counted : Counted plan ((C.take, C.taken (Some e)) ∷ []) (progress w).tally (progress given).tally
   counted = record {
-    taken = one_more w.taken (min most (u.taken + 1)) (ap (λ n. min most (n + 1)) x.taken);
+    taken = one_more w.taken (min greatest_count (u.taken + 1)) (ap (λ n. min greatest_count (n + 1)) x.taken);
     published = unchanged w.published u.published ready.counts.1 x.published;
     first = unchanged w.first u.first ready.counts.2 x.first;
     parts = unchanged w.parts u.parts ready.counts.3 x.parts;

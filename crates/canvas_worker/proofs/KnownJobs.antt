@@ -11,7 +11,7 @@ use Rattle.canvas_message.specs.Content.{Content, line, number_of, links_of, err
 use Rattle.canvas_message.specs.Effects.{Jobs, callbacks, part_of, fault_behind, when_empty, enter, enter_all, called, header}
 use Rattle.canvas_message.specs.Events.{In}
 use Rattle.canvas_message.specs.Fits.{how_many}
-use Rattle.canvas_message.specs.Flowing.{Input, number, numbers, ident, Flow, run, skip, raise, after_outcome}
+use Rattle.canvas_message.specs.Flowing.{Input, number_input, list_input, id_input, LineFlow, run, skips, raise, after_outcome}
 use Rattle.canvas_message.specs.Job.{Job, store, publish, hand_in}
 use Rattle.canvas_message.specs.Placing.{last_at, placed, end_place, last_task}
 use Rattle.canvas_message.proofs.FitsOn.{all_true}
@@ -106,8 +106,8 @@ module _ (plan : Roster) where
   callbacks_known Q (and_p_task t ts) x u = (tt, callbacks_known Q ts x u)
 
   called_known : (Q : ℕ → Type 0) (links errbacks : PTasks) (k : ℕ) (o : Outcome) → Each (Known Q) (called links errbacks k o)
-  called_known Q links errbacks k (Success n) = callbacks_known Q links (number n) (Some k)
-  called_known Q links errbacks k (Failure f) = callbacks_known Q errbacks (ident k) (Some k)
+  called_known Q links errbacks k (Success n) = callbacks_known Q links (number_input n) (Some k)
+  called_known Q links errbacks k (Failure f) = callbacks_known Q errbacks (id_input k) (Some k)
 
   part_known : (p : PPlace) (k : ℕ) → place_known book k p ≡ true → Each (Known (Behind k (part_of p k))) (part_of p k)
   part_known p_nowhere k q = tt
@@ -150,36 +150,36 @@ module _ (plan : Roster) where
         (λ d z s. inr (stored_here n o (cs ++ js) d (⊎_elim (λ e. inl e) (λ y. inr (stored_right cs js d y)) s))) b)
 
     mutual
-      enter_known : (l : PLine) (x : Flow) (p : PPlace) (k : ℕ) (u : Option ℕ) → line_known book l ≡ true → place_known book (last_task k l) p ≡ true
+      enter_known : (l : PLine) (x : LineFlow) (p : PPlace) (k : ℕ) (u : Option ℕ) → line_known book l ≡ true → place_known book (last_task k l) p ≡ true
           → Each (Known (Behind k (enter l x p k u))) (enter l x p k u)
       enter_known p_stop x p k u h q = part_known p k q
       enter_known (p_step t rest) (run x) p k u h q = (tt, tt)
-      enter_known (p_step t rest) (skip f) p k u h q =
+      enter_known (p_step t rest) (skips f) p k u h q =
           let parts = and_parts (task_known book t) (line_known book rest) h in
-          (number_known t parts.0, after_known k (number_of t) (Failure f) [] (enter rest (skip f) p (number_of t) u) tt (enter_known rest (skip f) p (number_of t) u parts.1 q))
+          (number_known t parts.0, after_known k (number_of t) (Failure f) [] (enter rest (skips f) p (number_of t) u) tt (enter_known rest (skips f) p (number_of t) u parts.1 q))
       enter_known (p_step t rest) (raise f) p k u h q =
           let parts = and_parts (task_known book t) (line_known book rest) h in (
             number_known t parts.0,
-            after_known k (number_of t) (Failure f) (callbacks (errbacks_of t) (ident (number_of t)) u) (enter rest (skip f) p (number_of t) u)
-                (callbacks_known _ (errbacks_of t) (ident (number_of t)) u) (enter_known rest (skip f) p (number_of t) u parts.1 q),
+            after_known k (number_of t) (Failure f) (callbacks (errbacks_of t) (id_input (number_of t)) u) (enter rest (skips f) p (number_of t) u)
+                (callbacks_known _ (errbacks_of t) (id_input (number_of t)) u) (enter_known rest (skips f) p (number_of t) u parts.1 q),
           )
       enter_known (p_group_end g ms) x p k u h q = any_known k (enter_all ms x (p_group g) u) (all_known g ms x (p_group g) u h (λ n i. i))
       enter_known (p_chord_end g ms body) (run x) p k u h q =
           let parts = and_parts (is_size (how_many ms) (size plan g) && members_known book g ms) (line_known book body) h in
           let first = and_parts (is_size (how_many ms) (size plan g)) (members_known book g ms) parts.0 in
           let js : Jobs = enter_all ms (run x) (p_chord g (how_many ms) (placed p body)) u in
-          let ks : Jobs = enter body (run (numbers [])) p 0 u in
+          let ks : Jobs = enter body (run (list_input [])) p 0 u in
           any_known k (js ++ when_empty ms ks) (both_known js (when_empty ms ks)
           (all_known g ms (run x) (p_chord g (how_many ms) (placed p body)) u first.1 (λ n i.
           all_true (is_member plan g n && is_size (how_many ms) (size plan g)) (line_known book (placed p body))
           (all_true (is_member plan g n) (is_size (how_many ms) (size plan g)) i first.0) (placed_known body p 0 parts.1 q)))
-          (empty_known ms ks (alone_known ks (enter_known body (run (numbers [])) p 0 u parts.1 q))))
-      enter_known (p_chord_end g ms body) (skip f) p k u h q =
+          (empty_known ms ks (alone_known ks (enter_known body (run (list_input [])) p 0 u parts.1 q))))
+      enter_known (p_chord_end g ms body) (skips f) p k u h q =
           let parts = and_parts (is_size (how_many ms) (size plan g) && members_known book g ms) (line_known book body) h in
           let first = and_parts (is_size (how_many ms) (size plan g)) (members_known book g ms) parts.0 in
-          let js : Jobs = enter_all ms (skip f) p_nowhere u in
-          let ks : Jobs = enter body (skip f) p 0 u in
-          any_known k (js ++ ks) (both_known js ks (all_known g ms (skip f) p_nowhere u first.1 (λ n i. refl)) (alone_known ks (enter_known body (skip f) p 0 u parts.1 q)))
+          let js : Jobs = enter_all ms (skips f) p_nowhere u in
+          let ks : Jobs = enter body (skips f) p 0 u in
+          any_known k (js ++ ks) (both_known js ks (all_known g ms (skips f) p_nowhere u first.1 (λ n i. refl)) (alone_known ks (enter_known body (skips f) p 0 u parts.1 q)))
       enter_known (p_chord_end g ms body) (raise f) p k u h q =
           let parts = and_parts (is_size (how_many ms) (size plan g) && members_known book g ms) (line_known book body) h in
           let first = and_parts (is_size (how_many ms) (size plan g)) (members_known book g ms) parts.0 in
@@ -187,7 +187,7 @@ module _ (plan : Roster) where
           let ks : Jobs = enter body (raise (fault_behind ms f)) p 0 u in
           any_known k (js ++ ks) (both_known js ks (all_known g ms (raise f) p_nowhere u first.1 (λ n i. refl)) (alone_known ks (enter_known body (raise (fault_behind ms f)) p 0 u parts.1 q)))
 
-      all_known : (g : ℕ) (ms : PLines) (x : Flow) (p : PPlace) (u : Option ℕ) → members_known book g ms ≡ true → ((n : ℕ) → is_member plan g n ≡ true → place_known book n p ≡ true)
+      all_known : (g : ℕ) (ms : PLines) (x : LineFlow) (p : PPlace) (u : Option ℕ) → members_known book g ms ≡ true → ((n : ℕ) → is_member plan g n ≡ true → place_known book n p ≡ true)
           → Each (Known (Stored (enter_all ms x p u))) (enter_all ms x p u)
       all_known g no_p_lines x p u h f = tt
       all_known g (and_p_line m ms) x p u h f =

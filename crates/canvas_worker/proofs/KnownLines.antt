@@ -12,7 +12,7 @@ use Rattle.canvas_message.specs.Fits.{how_many}
 use Rattle.canvas_message.specs.Placing.{last_task}
 use Rattle.canvas_message.proofs.Seen.{task_seen, line_none, line_some, end_some}
 use Rattle.canvas_runs.specs.Book.{Book, task_known, tasks_known, line_known, members_known, is_size}
-use Rattle.canvas_worker.specs.Lasts.{last_number}
+use Rattle.canvas_worker.specs.steps.Lasts.{last_number}
 
 -- ---- the last task
 

@@ -89,7 +89,7 @@ module _ (plan : Roster) where
 
   -- ---- scripts
 
-  abbrev sent : Stores → List Content → Option Part → scripts.Jobs
+  abbrev sent : Stores → List Content → Option Part → scripts.EnvelopeJobs
   sent es ms o = map enclosed (map (λ s. store s.0 s.1) es ++ (map (λ m. publish m) ms ++ parted o))
 
   sent_known : (Q : ℕ → Type 0) (es : Stores) (ms : List Content) (o : Option Part) → Each IsTask es → PartKnown Q o → InPlan plan (sent es ms o)

@@ -9,7 +9,8 @@ use Rattle.canvas_worker.specs.Asks.{Asked, Answer, suits, shown, replied}
 use Rattle.canvas_worker.specs.Asks as asks
 use Rattle.canvas_worker.specs.Enveloped.{enveloped_by}
 use Rattle.canvas_worker.specs.Leading.{left_by, drops_from, NoneLead, OneMoreLeads, HandedLeads, HandsOut}
-use Rattle.canvas_worker.specs.Standing.{Left, asked, most, drops, unsent}
+use Rattle.canvas_runs.specs.Tally.{greatest_count}
+use Rattle.canvas_worker.specs.Standing.{Left, asked, drops, unsent}
 use Rattle.canvas_worker.specs.declared.ask.Reply.{Reply}
 use Rattle.canvas_worker.specs.declared.ask.Reply.TheVariants as R
 
@@ -102,7 +103,7 @@ drops_so book s false r = refl
 pub none_lead : NoneLead
 none_lead book = record { run = tt; left = refl; dropped = refl }
 
-counts : (n m d : ℕ) → d ≡ min most n → min most (d + m) ≡ min most (n + m)
+counts : (n m d : ℕ) → d ≡ min greatest_count n → min greatest_count (d + m) ≡ min greatest_count (n + m)
 counts n m d is = omega (arith, is)
 
 pub one_more_leads : OneMoreLeads
@@ -116,8 +117,8 @@ one_more_leads book xs s r leads back suit =
       left = ap (λ u. answered (enveloped_by book) u (replied r)) same ∙ answered_so book before s.is_out (replied r) ∙ sym (left_one_more book taking xs x);
       dropped =
           counts (drops_from book taking xs) (drops book s.left (replied r)) s.dropped leads.dropped
-          ∙ ap (λ n. min most (drops_from book taking xs + n)) (ap (λ u. drops book u (replied r)) same ∙ drops_so book before s.is_out (replied r))
-          ∙ ap (λ n. min most n) (sym (drops_one_more book taking xs x));
+          ∙ ap (λ n. min greatest_count (drops_from book taking xs + n)) (ap (λ u. drops book u (replied r)) same ∙ drops_so book before s.is_out (replied r))
+          ∙ ap (λ n. min greatest_count n) (sym (drops_one_more book taking xs x));
     }
 
 -- ---- handed out

@@ -7,7 +7,7 @@ use Rattle.canvas_message.specs.declared.envelope.Envelope.{Envelope}
 use Rattle.canvas_message.specs.declared.fault.MessageFault.{MessageFault}
 use Rattle.canvas_message.proofs.EnvelopeLaw.{says_reading, refused_reading}
 use Rattle.canvas_runs.specs.Book.{Book, message_known}
-use Rattle.canvas_runs.specs.Worker.{reading, known_one, opened}
+use Rattle.canvas_runs.specs.Worker.{read_envelope, known_one, opened}
 
 read_so : (book : Book) (e : Envelope) (c : Content) (k : Bool) → Says e.properties e.headers e.body c → message_known book c ≡ k → opened book e ≡ (if k then Some c else None)
 read_so book e c k says known = ap (known_one book) (says_reading e.properties e.headers e.body c says) ∙ ap (λ b. if b then Some c else None) known
@@ -22,8 +22,8 @@ pub opens_refused : (book : Book) (e : Envelope) (f : MessageFault) → envelope
 opens_refused book e f fault = sym (ap (known_one book) (refused_reading e.properties e.headers e.body f fault))
 
 -- what an envelope says that is opened, and that the book knows it
-pub opened_as : (book : Book) (e : Envelope) (c : Content) → opened book e ≡ Some c → (reading e ≡ Ok c) × (message_known book c ≡ true)
-opened_as book e c is = by (reading e) is
+pub opened_as : (book : Book) (e : Envelope) (c : Content) → opened book e ≡ Some c → (read_envelope e ≡ Ok c) × (message_known book c ≡ true)
+opened_as book e c is = by (read_envelope e) is
   where
     by : (r : Result Content MessageFault) → known_one book r ≡ Some c → (r ≡ Ok c) × (message_known book c ≡ true)
     by (Ok d) h = go (message_known book d) refl h

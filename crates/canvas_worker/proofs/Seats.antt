@@ -5,7 +5,7 @@ use Rattle.std.proofs.lemmas.Bool.{eqb-true, eqb-false}
 use Rattle.std.proofs.lemmas.Option.{slice_get_cases}
 use Rattle.canvas_task.specs.declared.outcome.Outcome.{Outcome}
 use Rattle.canvas_history.specs.History.{calls}
-use Rattle.canvas_semantics.specs.Line.{Line, Team, team_at, team_members, team_size}
+use Rattle.canvas_semantics.specs.Line.{Line, GroupEntry, entry_at, entry_members, entry_size}
 use Rattle.canvas_rewrite.specs.FrozenView.{Load}
 use Rattle.canvas_rewrite.specs.Planned.{IsPlan}
 use Rattle.canvas_rewrite.proofs.Members.{all_known}
@@ -24,8 +24,8 @@ use Rattle.canvas_runs.specs.Following.{Seat, Serves, replied}
 use Rattle.canvas_runs.specs.Worker.{opened}
 use Rattle.canvas_worker.specs.Asks.{Answer}
 use Rattle.canvas_worker.specs.Enveloped.{said, enclosed, enveloped, kept as kept_envelope}
-use Rattle.canvas_worker.specs.Scripts.{Jobs}
-use Rattle.canvas_worker.specs.Seats.{Carries, InPlan, MayHandIn, Can, Allowed, WaitingCan, CanAsk, CanGoOn}
+use Rattle.canvas_worker.specs.Scripts.{EnvelopeJobs}
+use Rattle.canvas_worker.specs.Seats.{Carries, InPlan, MayHandIn, Can, MayAsk, WaitingCan, CanAsk, CanGoOn}
 use Rattle.canvas_worker.specs.Standing.{Left, asked}
 use Rattle.canvas_worker.proofs.Books.{no_member_zero}
 use Rattle.canvas_worker.proofs.KnownJobs.{Stored, Behind, own_known, ended_jobs, body_jobs, ended_known, body_known}
@@ -43,27 +43,27 @@ module _ (plan : Roster) where
   abbrev Keeps : Seat → Seat → Type 0
   Keeps s t = (d : ℕ) → MayReturn plan s.seen s.name d → MayReturn plan t.seen t.name d
 
-  still_in : (s t : Seat) (b : Bool) (js : Jobs) → Keeps s t → MayHandIn plan s b js → MayHandIn plan t b js
+  still_in : (s t : Seat) (b : Bool) (js : EnvelopeJobs) → Keeps s t → MayHandIn plan s b js → MayHandIn plan t b js
   still_in s t b [] k h = tt
   still_in s t b (store d o ∷ js) k h = λ n. still_in s t b js k (h n)
   still_in s t b (publish e ∷ js) k h = still_in s t b js k h
   still_in s t b (hand_in g d c ∷ js) k h = λ e. k d (h e)
 
   -- the store of the task whose part is due
-  due_in : (s : Seat) (d : ℕ) (b : Bool) (js : Jobs) → is_due d js ≡ true → (b ≡ true → MayReturn plan s.seen s.name d) → MayHandIn plan s b js
+  due_in : (s : Seat) (d : ℕ) (b : Bool) (js : EnvelopeJobs) → is_due d js ≡ true → (b ≡ true → MayReturn plan s.seen s.name d) → MayHandIn plan s b js
   due_in s d b [] e m = tt
   due_in s d b (store u o ∷ js) e m = λ n. due_in s d b js e m
   due_in s d b (publish x ∷ js) e m = due_in s d b js e m
   due_in s d b (hand_in g u c ∷ js) e m = subst (λ z. b ≡ true → MayReturn plan s.seen s.name z) (eqb-true d u e) m
 
-  store_in : (s t : Seat) (d : ℕ) (a b : Bool) (js : Jobs) → Keeps s t → (a ≡ true → MayReturn plan t.seen t.name d) → (is_due d js ≡ false → MayHandIn plan s b js) → MayHandIn plan t (cond (is_due d js) a b) js
+  store_in : (s t : Seat) (d : ℕ) (a b : Bool) (js : EnvelopeJobs) → Keeps s t → (a ≡ true → MayReturn plan t.seen t.name d) → (is_due d js ≡ false → MayHandIn plan s b js) → MayHandIn plan t (cond (is_due d js) a b) js
   store_in s t d a b js k m h = go (is_due d js) refl
     where
       go : (z : Bool) → is_due d js ≡ z → MayHandIn plan t (cond z a b) js
       go true e = due_in t d a js e m
       go false e = still_in s t b js k (h e)
 
-  settled_can : (s : Seat) (b : Bool) (js : Jobs) → InPlan plan js → MayHandIn plan s b js → Can plan s (settled (enveloped plan) js b)
+  settled_can : (s : Seat) (b : Bool) (js : EnvelopeJobs) → InPlan plan js → MayHandIn plan s b js → Can plan s (settled (enveloped plan) js b)
   settled_can s b [] i m = tt
   settled_can s true (store t o ∷ js) i m = (i, m, tt)
   settled_can s false (store t o ∷ js) i m = (i, m, tt)
@@ -88,7 +88,7 @@ module _ (plan : Roster) where
 
   -- ---- chords
 
-  chord_size : (t : Option Team) (n : ℕ) → is_size n (team_size t) ≡ true → IsTrue (is_some (team_size t)) × (length (team_members t) ≡ n)
+  chord_size : (t : Option GroupEntry) (n : ℕ) → is_size n (entry_size t) ≡ true → IsTrue (is_some (entry_size t)) × (length (entry_members t) ≡ n)
   chord_size None n h = absurd cc
   chord_size (Some t) n h = go t.chord h
     where
@@ -97,7 +97,7 @@ module _ (plan : Roster) where
       go false e = absurd cc
 
   carried_size : (g : ℕ) (c : Load) → Carries plan g c → IsTrue (is_chord plan g) × (length (members plan g) ≡ c.size)
-  carried_size g c h = chord_size (team_at plan.teams g) c.size h.0
+  carried_size g c h = chord_size (entry_at plan.groups g) c.size h.0
 
   -- where a part may be the last of its header
   handed_can : (s : Seat) (g : ℕ) (c : Load) (n : ℕ) → Carries plan g c → Can plan s (cond (eqb (suc n) c.size) (reading g c []) taking)
@@ -137,7 +137,7 @@ module _ (l : Line) (is_plan : IsPlan l) where
 
   -- ---- asks
 
-  asks : (s : Seat) (left : Left) → Can plan s left → Allowed plan s (asked left)
+  asks : (s : Seat) (left : Left) → Can plan s left → MayAsk plan s (asked left)
   asks s taking c = tt
   asks s resting c = tt
   asks s over c = tt

@@ -15,7 +15,7 @@ use Rattle.canvas_message.specs.declared.fault.MessageFault.{MessageFault}
 use Rattle.canvas_message.specs.declared.fault.MessageFault.TheVariants.{NotJson, NotVersion2, BadId, BadContentType, BadBody, BadArgs, BadEmbed}
 use Rattle.canvas_message.proofs.EnvelopeBack.{envelope_back}
 use Rattle.canvas_message.proofs.EnvelopeLaw.{reading_says, says_reading}
-use Rattle.canvas_runs.specs.Worker.{sealed, reading}
+use Rattle.canvas_runs.specs.Worker.{sealed, read_envelope}
 use Rattle.canvas_worker.specs.Enveloped.{said, blank, is_sendable, envelope_of}
 
 -- ---- the texts of an envelope that nothing refuses
@@ -73,7 +73,7 @@ none_is : {A : Type 0} (o : Option A) → is_none o ≡ true → o ≡ None
 none_is None h = refl
 none_is (Some x) h = absurd cc
 
-pub sendable_back : (c : Content) → is_sendable c ≡ true → reading (sealed c) ≡ Ok c
+pub sendable_back : (c : Content) → is_sendable c ≡ true → read_envelope (sealed c) ≡ Ok c
 sendable_back c h =
     let parts = both (fits c) _ h in
     let json = all_json (sealed c).properties (sealed c).headers (sealed c).body (none_is _ parts.1) in
@@ -93,26 +93,26 @@ never : (b : Bool) → b ≡ true → b ≡ false → ⊥
 never true is wrong = absurd cc
 never false is wrong = absurd cc
 
-blank_is_none : (c : Content) → reading blank ≡ Ok c → ⊥
+blank_is_none : (c : Content) → read_envelope blank ≡ Ok c → ⊥
 blank_is_none c h = never (not_json []) (no_text (is_utf8 []) (read []) nothing_read) (all_json [] [] [] (reading_says [] [] [] c h).0).0
 
 -- ---- the envelope of a content
 
-envelope_by : (c : Content) (b : Bool) → is_sendable c ≡ b → reading (envelope_of c) ≡ Ok (said (envelope_of c)) → (envelope_of c ≡ sealed c) × (reading (sealed c) ≡ Ok c)
+envelope_by : (c : Content) (b : Bool) → is_sendable c ≡ b → read_envelope (envelope_of c) ≡ Ok (said (envelope_of c)) → (envelope_of c ≡ sealed c) × (read_envelope (sealed c) ≡ Ok c)
 envelope_by c true is h = (ap (λ b. if b then sealed c else blank) is, sendable_back c is)
 envelope_by c false is h =
     let gone : envelope_of c ≡ blank = ap (λ b. if b then sealed c else blank) is in
-    absurd (blank_is_none (said blank) (subst (λ e. reading e ≡ Ok (said e)) gone h))
+    absurd (blank_is_none (said blank) (subst (λ e. read_envelope e ≡ Ok (said e)) gone h))
 
 -- one that can be read is the content's, and reads as it
-pub envelope_so : (c : Content) → reading (envelope_of c) ≡ Ok (said (envelope_of c)) → (envelope_of c ≡ sealed c) × (reading (sealed c) ≡ Ok c)
+pub envelope_so : (c : Content) → read_envelope (envelope_of c) ≡ Ok (said (envelope_of c)) → (envelope_of c ≡ sealed c) × (read_envelope (sealed c) ≡ Ok c)
 envelope_so c h = envelope_by c (is_sendable c) refl h
 
-pub said_of : (e : Envelope) (c : Content) → reading e ≡ Ok c → said e ≡ c
+pub said_of : (e : Envelope) (c : Content) → read_envelope e ≡ Ok c → said e ≡ c
 said_of e c h = (reading_says e.properties e.headers e.body c h).1
 
 -- what was written for a message
-pub written : (c : Content) (e : Envelope) → e ≡ sealed c → Says e.properties e.headers e.body c → (e ≡ envelope_of c) × (reading e ≡ Ok (said e))
+pub written : (c : Content) (e : Envelope) → e ≡ sealed c → Says e.properties e.headers e.body c → (e ≡ envelope_of c) × (read_envelope e ≡ Ok (said e))
 written c e is says =
     let ok = all_fits e.properties e.headers e.body c says in
     let none : envelope_fault (sealed c).properties (sealed c).headers (sealed c).body ≡ None = subst (λ x. envelope_fault x.properties x.headers x.body ≡ None) is says.0 in
@@ -120,6 +120,6 @@ written c e is says =
     (is ∙ sym (ap (λ b. if b then sealed c else blank) sendable), says_reading e.properties e.headers e.body c says ∙ ap Ok (sym says.1))
 
 pub written_texts : (c : Content) (e : Envelope) → e.properties ≡ (sealed c).properties → e.headers ≡ (sealed c).headers → e.body ≡ (sealed c).body
-    → Says e.properties e.headers e.body c → (e ≡ envelope_of c) × (reading e ≡ Ok (said e))
+    → Says e.properties e.headers e.body c → (e ≡ envelope_of c) × (read_envelope e ≡ Ok (said e))
 written_texts c e is_p is_h is_b says =
     written c e (ap (λ p. record { properties = p; headers = e.headers; body = e.body }) is_p ∙ ap₂ (λ h b. record { properties = (sealed c).properties; headers = h; body = b }) is_h is_b) says

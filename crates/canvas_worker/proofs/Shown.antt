@@ -13,7 +13,8 @@ use Rattle.canvas_runs.specs.Worker.{opened}
 use Rattle.canvas_worker.specs.Asks.{Asked, Answer, shown, sent}
 use Rattle.canvas_worker.specs.Books.{no_book}
 use Rattle.canvas_worker.specs.Enveloped.{enveloped_by}
-use Rattle.canvas_worker.specs.Standing.{Standing, Left, asked, unread, drops, held_out, handed, after_reply, most}
+use Rattle.canvas_runs.specs.Tally.{greatest_count}
+use Rattle.canvas_worker.specs.Standing.{Standing, Left, asked, unread, drops, held_out, handed, after_reply}
 use Rattle.canvas_worker.specs.declared.ask.Ask.TheVariants.{Take, Publish, Store, Part, Read, Rest}
 use Rattle.canvas_worker.proofs.Leading.{unsent_answered, unsent_drops}
 
@@ -93,7 +94,7 @@ hands_one c out is none = by (asked c.left) is (sym (ap (λ b. if b then None el
 -- an envelope that was handed out makes no difference to the answer
 pub handed_same : (book : Book) (c : Standing) (r : Answer) → after_reply book (handed c) r ≡ after_reply book c r
 handed_same book c r =
-    ap₂ (λ (s : Left) (n : ℕ). record { left = s; is_out = false; dropped = min most (c.dropped + n) }) (unsent_answered book c.left r) (unsent_drops book c.left r)
+    ap₂ (λ (s : Left) (n : ℕ). record { left = s; is_out = false; dropped = min greatest_count (c.dropped + n) }) (unsent_answered book c.left r) (unsent_drops book c.left r)
 
 -- ---- what is left
 

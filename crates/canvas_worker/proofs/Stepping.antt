@@ -15,7 +15,7 @@ use Rattle.canvas_runs.specs.Calls.{BrokerCall, took, BackendCall, Follows, foll
 use Rattle.std.specs.Prelude.{slice_get}
 use Rattle.canvas_runs.specs.Lists.{Each, total, at}
 use Rattle.canvas_worker.specs.Steps.{OnlyBare, Called, FromHeld, Batched}
-use Rattle.canvas_runs.specs.Tally.{Tally, Adds, IsTally, Counted, most, often, is_taken, is_published, is_first, is_part, is_dropped}
+use Rattle.canvas_runs.specs.Tally.{Tally, CountsMore, IsTally, Counted, greatest_count, often, is_taken, is_published, is_first, is_part, is_dropped}
 use Rattle.canvas_worker.specs.Enveloped.{enveloped}
 use Rattle.canvas_runs.proofs.Sums.{total-append}
 use Rattle.canvas_runs.proofs.Words.{each_append}
@@ -67,7 +67,7 @@ longer : (xs ys : List Envelope) → length (xs ++ ys) ≡ length xs + length ys
 longer [] ys = omega arith
 longer (x ∷ xs) ys = let k = longer xs ys in omega (arith, k)
 
-more_added : (x y a b n : ℕ) → Adds x (a + 0) y → Adds y b n → Adds x (a + b) n
+more_added : (x y a b n : ℕ) → CountsMore x (a + 0) y → CountsMore y b n → CountsMore x (a + b) n
 more_added x y a b n e f = omega (arith, e, f)
 
 module _ (plan : Roster) where
@@ -92,7 +92,7 @@ module _ (plan : Roster) where
   call_follows (send e) sent held cs ls b f = follows_publish f
   call_follows a r held cs ls b f = f
 
-  none_added : (n : ℕ) → n ≤ most → Adds n 0 n
+  none_added : (n : ℕ) → n ≤ greatest_count → CountsMore n 0 n
   none_added n h = omega (arith, h)
 
   pub rests : (w : Progress) → IsTally w.tally → Worked plan w w

@@ -9,7 +9,7 @@ use Rattle.canvas_rewrite.specs.FrozenView.{Load}
 use Rattle.canvas_semantics.specs.PlacedLine.{PTasks, no_p_tasks, and_p_task, PPlace, p_nowhere, p_group, p_chord, PLine, p_stop, p_step, p_group_end, p_chord_end, PLines, no_p_lines, and_p_line}
 use Rattle.canvas_message.specs.Content.{Content, line, number_of, links_of, errbacks_of}
 use Rattle.canvas_message.specs.Effects.{Jobs, Effect, callbacks, part_of, fault_behind, when_empty, enter, enter_all, stores_in, called, after, header, body_after}
-use Rattle.canvas_message.specs.Flowing.{Input, number, numbers, ident, Flow, run, skip, raise, after_outcome}
+use Rattle.canvas_message.specs.Flowing.{Input, number_input, list_input, id_input, LineFlow, run, skips, raise, after_outcome}
 use Rattle.canvas_message.specs.Fits.{how_many}
 use Rattle.canvas_message.specs.Job.{Job, store, publish, hand_in}
 use Rattle.canvas_message.specs.Ordered.{put, in_order}
@@ -43,20 +43,20 @@ empties no_p_lines js h = h
 empties (and_p_line m ms) js h = tt
 
 mutual
-  enters : (l : PLine) (x : Flow) (p : PPlace) (k : ℕ) (u : Option ℕ) → Failures (enter l x p k u)
+  enters : (l : PLine) (x : LineFlow) (p : PPlace) (k : ℕ) (u : Option ℕ) → Failures (enter l x p k u)
   enters p_stop x p k u = parts p k
   enters (p_step t rest) (run x) p k u = (tt, tt)
-  enters (p_step t rest) (skip f) p k u = (tt, enters rest (skip f) p (number_of t) u)
-  enters (p_step t rest) (raise f) p k u = (tt, joined (callbacks (errbacks_of t) (ident (number_of t)) u) _ (calls (errbacks_of t) (ident (number_of t)) u) (enters rest (skip f) p (number_of t) u))
+  enters (p_step t rest) (skips f) p k u = (tt, enters rest (skips f) p (number_of t) u)
+  enters (p_step t rest) (raise f) p k u = (tt, joined (callbacks (errbacks_of t) (id_input (number_of t)) u) _ (calls (errbacks_of t) (id_input (number_of t)) u) (enters rest (skips f) p (number_of t) u))
   enters (p_group_end g ms) x p k u = enters_all ms x (p_group g) u
   enters (p_chord_end g ms body) (run x) p k u =
       joined (enter_all ms (run x) (p_chord g (how_many ms) (placed p body)) u) _ (enters_all ms (run x) (p_chord g (how_many ms) (placed p body)) u)
-      (empties ms (enter body (run (numbers [])) p 0 u) (enters body (run (numbers [])) p 0 u))
-  enters (p_chord_end g ms body) (skip f) p k u = joined (enter_all ms (skip f) p_nowhere u) _ (enters_all ms (skip f) p_nowhere u) (enters body (skip f) p 0 u)
+      (empties ms (enter body (run (list_input [])) p 0 u) (enters body (run (list_input [])) p 0 u))
+  enters (p_chord_end g ms body) (skips f) p k u = joined (enter_all ms (skips f) p_nowhere u) _ (enters_all ms (skips f) p_nowhere u) (enters body (skips f) p 0 u)
   enters (p_chord_end g ms body) (raise f) p k u =
       joined (enter_all ms (raise f) p_nowhere u) _ (enters_all ms (raise f) p_nowhere u) (enters body (raise (fault_behind ms f)) p 0 u)
 
-  enters_all : (ms : PLines) (x : Flow) (p : PPlace) (u : Option ℕ) → Failures (enter_all ms x p u)
+  enters_all : (ms : PLines) (x : LineFlow) (p : PPlace) (u : Option ℕ) → Failures (enter_all ms x p u)
   enters_all no_p_lines x p u = tt
   enters_all (and_p_line m ms) x p u = joined (enter m x p 0 u) (enter_all ms x p u) (enters m x p 0 u) (enters_all ms x p u)
 
@@ -97,8 +97,8 @@ ordered js h = all_kept (in_order (λ x. x.0) (stores_in js)) (all_ordered (stor
 -- ---- effects
 
 calls_back : (links errbacks : PTasks) (k : ℕ) (o : Outcome) → Failures (called links errbacks k o)
-calls_back links errbacks k (Success n) = calls links (number n) (Some k)
-calls_back links errbacks k (Failure f) = calls errbacks (ident k) (Some k)
+calls_back links errbacks k (Success n) = calls links (number_input n) (Some k)
+calls_back links errbacks k (Failure f) = calls errbacks (id_input k) (Some k)
 
 pub after_stores : (c : Content) (o : Outcome) → All (λ e. IsInRange e.1) (after c o).stores
 after_stores c o =

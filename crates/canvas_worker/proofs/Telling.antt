@@ -10,7 +10,7 @@ use Rattle.canvas_runs.specs.Calls.{broker_call, backend_call, reads_member}
 use Rattle.canvas_runs.specs.Core as C
 use Rattle.canvas_runs.specs.Core.{answered, Suits, ReadsBack}
 use Rattle.canvas_runs.specs.Following.{Seat, Makes, Serves}
-use Rattle.canvas_runs.specs.Tally.{Tally, IsTally, Counted, Adds, is_taken, is_published, is_first, is_part, is_dropped, most}
+use Rattle.canvas_runs.specs.Tally.{Tally, IsTally, Counted, CountsMore, is_taken, is_published, is_first, is_part, is_dropped, greatest_count}
 use Rattle.canvas_worker.specs.Asks.{Asked, Answer}
 use Rattle.canvas_worker.specs.Books.{book_in, no_book}
 use Rattle.canvas_worker.specs.Enveloped.{enveloped, enveloped_by}
@@ -18,7 +18,7 @@ use Rattle.canvas_worker.specs.Progress.{Progress}
 use Rattle.canvas_worker.specs.Seats.{Can}
 use Rattle.canvas_worker.specs.Standing.{Standing, Left, asked, drops, after_reply}
 use Rattle.canvas_worker.specs.Steps.{Answered, OnlyBare, Called, Batched, FromHeld}
-use Rattle.canvas_worker.specs.Work.{Work, progress, with_core, told, lost, one_taken, Ready, Moves, stays, calls, takes, gives, GoesOn, Leaves, IsOf, Ends}
+use Rattle.canvas_worker.specs.Work.{Work, progress, with_core, told, lost, one_taken, Ready, Moves, stays, calls, takes, gives, GoesOn, Leaves, IsRecordOf, Ends}
 use Rattle.canvas_worker.specs.declared.cause.Cause.{Cause}
 use Rattle.canvas_worker.specs.declared.cause.Cause.TheVariants.{Memory, Stopped}
 use Rattle.canvas_worker.specs.declared.record.Record.{Record}
@@ -43,10 +43,10 @@ pub record Asks (w u : Work) (a : Asked) (r : Answer) : Type 0 where
   pub bare : OnlyBare w.desk.plan a r w.held
   pub makes : Makes w.pass (broker_call (enveloped w.desk.plan) a r) u.pass
   pub serves : Serves w.desk.plan w.seat (backend_call (enveloped w.desk.plan) a r) u.seat
-  pub taken : Adds w.taken (is_taken a r + 0) u.taken
-  pub published : Adds w.published (is_published a r + 0) u.published
-  pub first : Adds w.first (is_first a r + 0) u.first
-  pub parts : Adds w.parts (is_part a r + 0) u.parts
+  pub taken : CountsMore w.taken (is_taken a r + 0) u.taken
+  pub published : CountsMore w.published (is_published a r + 0) u.published
+  pub first : CountsMore w.first (is_first a r + 0) u.first
+  pub parts : CountsMore w.parts (is_part a r + 0) u.parts
   pub same_drops : u.core.dropped ≡ w.core.dropped
   pub still : answered (enveloped w.desk.plan) w.core.left r ≡ C.resting → (u.held ≡ []) × Empties u.pass
   pub none_dropped : is_dropped w.desk.plan a r ≡ 0
@@ -66,10 +66,10 @@ module _ (w u : Work) (a : Asked) (r : Answer) (ready : Ready w) (x : Asks w u a
     tally = record { taken = u.taken; published = u.published; first = u.first; parts = u.parts; dropped = u.core.dropped };
   }
 
-  no_more : (n m k : ℕ) → n ≤ most → m ≡ n → k ≡ 0 → min most (n + k) ≡ m
+  no_more : (n m k : ℕ) → n ≤ greatest_count → m ≡ n → k ≡ 0 → min greatest_count (n + k) ≡ m
   no_more n m k h e z = omega (arith, h, e, z)
 
-  none_lost : (n m k : ℕ) → n ≤ most → m ≡ n → k ≡ 0 → Adds n (k + 0) m
+  none_lost : (n m k : ℕ) → n ≤ greatest_count → m ≡ n → k ≡ 0 → CountsMore n (k + 0) m
   none_lost n m k h e z = omega (arith, h, e, z)
 
   counted : Counted plan ((a, r) ∷ []) (progress w).tally after.tally
@@ -96,7 +96,7 @@ module _ (w u : Work) (a : Asked) (r : Answer) (ready : Ready w) (x : Asks w u a
   core_is : after_reply (book_in u.desk.plan) u.core r ≡ core
   core_is =
       let so : drops (book_on plan) w.core.left r ≡ is_dropped plan a r = drops_so plan w.core.left r ∙ ap (λ b. is_dropped plan b r) x.asked_is in
-      let dropped : min most (w.core.dropped + drops (book_on plan) w.core.left r) ≡ u.core.dropped = no_more w.core.dropped u.core.dropped (drops (book_on plan) w.core.left r) ready.counts.4 x.same_drops (so ∙ x.none_dropped) in
+      let dropped : min greatest_count (w.core.dropped + drops (book_on plan) w.core.left r) ≡ u.core.dropped = no_more w.core.dropped u.core.dropped (drops (book_on plan) w.core.left r) ready.counts.4 x.same_drops (so ∙ x.none_dropped) in
       ap (λ (d : Desk). after_reply (book_in d.plan) u.core r) x.desk ∙ x.core ∙ ap (λ b. after_reply b w.core r) (same_book plan ready.plan)
       ∙ ap (λ (n : ℕ). record { left = answered (enveloped plan) w.core.left r; is_out = false; dropped = n }) dropped
 

@@ -10,7 +10,7 @@ use Rattle.canvas_runs.specs.Calls.{broker_call, backend_call, reads_member}
 use Rattle.canvas_runs.specs.Core as C
 use Rattle.canvas_runs.specs.Core.{answered, Suits, ReadsBack}
 use Rattle.canvas_runs.specs.Following.{Seat, Makes, Serves}
-use Rattle.canvas_runs.specs.Tally.{Tally, IsTally, Counted, Adds, is_taken, is_published, is_first, is_part, is_dropped, most}
+use Rattle.canvas_runs.specs.Tally.{Tally, IsTally, Counted, CountsMore, is_taken, is_published, is_first, is_part, is_dropped, greatest_count}
 use Rattle.canvas_worker.specs.Asks.{Asked, Answer}
 use Rattle.canvas_worker.specs.Books.{book_in, no_book}
 use Rattle.canvas_worker.specs.Enveloped.{enveloped, enveloped_by}
@@ -18,7 +18,7 @@ use Rattle.canvas_worker.specs.Progress.{Progress}
 use Rattle.canvas_worker.specs.Seats.{Can}
 use Rattle.canvas_worker.specs.Standing.{Standing, Left, asked, drops, after_reply}
 use Rattle.canvas_worker.specs.Steps.{Answered, OnlyBare, Called, Batched, FromHeld}
-use Rattle.canvas_worker.specs.Work.{Work, progress, with_core, told, lost, one_taken, Ready, Moves, stays, calls, takes, gives, GoesOn, Leaves, IsOf, Ends}
+use Rattle.canvas_worker.specs.Work.{Work, progress, with_core, told, lost, one_taken, Ready, Moves, stays, calls, takes, gives, GoesOn, Leaves, IsRecordOf, Ends}
 use Rattle.canvas_worker.specs.declared.cause.Cause.{Cause}
 use Rattle.canvas_worker.specs.declared.cause.Cause.TheVariants.{Memory, Stopped}
 use Rattle.canvas_worker.specs.declared.record.Record.{Record}
@@ -27,13 +27,13 @@ use Rattle.canvas_worker.proofs.Shown.{drops_so}
 
 -- ---- counts
 
-pub unchanged : (n m : ℕ) → n ≤ most → m ≡ n → Adds n (0 + 0) m
+pub unchanged : (n m : ℕ) → n ≤ greatest_count → m ≡ n → CountsMore n (0 + 0) m
 unchanged n m h e = omega (arith, h, e)
 
-pub one_more : (n m : ℕ) → m ≡ min most (n + 1) → Adds n (1 + 0) m
+pub one_more : (n m : ℕ) → m ≡ min greatest_count (n + 1) → CountsMore n (1 + 0) m
 one_more n m e = omega (arith, e)
 
-within : (n k m : ℕ) → Adds n k m → m ≤ most
+within : (n k m : ℕ) → CountsMore n k m → m ≤ greatest_count
 within n k m e = omega (arith, e)
 
 pub tallied : (plan : Roster) (a : Asked) (r : Answer) (t u : Tally) → Counted plan ((a, r) ∷ []) t u → IsTally u

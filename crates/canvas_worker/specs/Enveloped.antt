@@ -13,7 +13,7 @@ use Rattle.canvas_message.specs.declared.envelope.Envelope.{Envelope}
 use Rattle.canvas_backend.specs.Roster.{Roster, members}
 use Rattle.canvas_runs.specs.Book.{Book, book_on}
 use Rattle.canvas_runs.specs.Protocol.{Protocol}
-use Rattle.canvas_runs.specs.Worker.{sealed, reading, opened}
+use Rattle.canvas_runs.specs.Worker.{sealed, read_envelope, opened}
 
 -- what the texts say, whether they are refused or not
 abbrev pub said : Envelope → Content
@@ -54,7 +54,7 @@ enveloped_on book lasts = record {
   completed = λ c es. map enclosed (script (body_after c es));
   size = λ c. c.size;
   sealed = λ e. e;
-  Back = λ e. reading e ≡ Ok (said e);
+  Back = λ e. read_envelope e ≡ Ok (said e);
   opened = λ e. kept (opened book e) e;
   members = lasts;
   first = [];

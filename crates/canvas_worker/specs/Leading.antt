@@ -9,7 +9,8 @@ use Rattle.canvas_runs.specs.Core.{taking, answered, left_after, ReadsBack, IsCo
 use Rattle.canvas_worker.specs.Asks.{Asked, Answer, suits, shown, sent, replied}
 use Rattle.canvas_worker.specs.Books.{book_in}
 use Rattle.canvas_worker.specs.Enveloped.{enveloped, enveloped_by}
-use Rattle.canvas_worker.specs.Standing.{Left, Standing, asked, most, drops, unsent, begun, after_reply, held_out, handed}
+use Rattle.canvas_runs.specs.Tally.{greatest_count}
+use Rattle.canvas_worker.specs.Standing.{Left, Standing, asked, drops, unsent, begun, after_reply, held_out, handed}
 use Rattle.canvas_worker.specs.declared.ask.Reply.{Reply}
 
 -- what is left to do after asks and answers
@@ -25,7 +26,7 @@ drops_from book s (x ∷ xs) = drops book s x.1 + drops_from book (answered (env
 pub record Leads (book : Book) (xs : List (Asked × Answer)) (s : Standing) : Type 0 where
   pub run : IsCoreRun (enveloped_by book) taking xs
   pub left : s.left ≡ (if s.is_out then unsent (left_by book xs) else left_by book xs)
-  pub dropped : s.dropped ≡ min most (drops_from book taking xs)
+  pub dropped : s.dropped ≡ min greatest_count (drops_from book taking xs)
 
 -- none lead to a new core
 abbrev pub NoneLead : Type 0

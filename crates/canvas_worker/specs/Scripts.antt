@@ -9,8 +9,8 @@ use Rattle.canvas_message.specs.declared.envelope.Envelope.{Envelope}
 use Rattle.canvas_worker.specs.Enveloped.{enclosed}
 use Rattle.canvas_worker.specs.declared.script.Script.{Script}
 
-abbrev pub Jobs : Type 0
-Jobs = List (Job Envelope Load Outcome)
+abbrev pub EnvelopeJobs : Type 0
+EnvelopeJobs = List (Job Envelope Load Outcome)
 
-abbrev pub jobs_of : Script → Jobs
+abbrev pub jobs_of : Script → EnvelopeJobs
 jobs_of s = map (λ e. store e.0 e.1) s.stores.items ++ (map (λ p. publish p.envelope) s.publishes.items ++ map enclosed (parted (option_map part_view s.part)))

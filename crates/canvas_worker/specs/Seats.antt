@@ -14,7 +14,7 @@ use Rattle.canvas_runs.specs.Following.{Seat, Serves}
 use Rattle.canvas_runs.specs.Worker.{opened}
 use Rattle.canvas_worker.specs.Asks.{Asked, Answer}
 use Rattle.canvas_worker.specs.Enveloped.{said, enveloped}
-use Rattle.canvas_worker.specs.Scripts.{Jobs}
+use Rattle.canvas_worker.specs.Scripts.{EnvelopeJobs}
 use Rattle.canvas_worker.specs.Standing.{Left, asked}
 
 module _ (plan : Roster) where
@@ -23,21 +23,21 @@ module _ (plan : Roster) where
   Carries g c = (is_size c.size (size plan g) ≡ true) × (line_known (book_on plan) c.body ≡ true)
 
   -- each task that is stored is the plan's, and each part is that of a chord's member
-  abbrev pub InPlan : Jobs → Type 0
+  abbrev pub InPlan : EnvelopeJobs → Type 0
   InPlan [] = Unit {0}
   InPlan (store t o ∷ js) = (t ≤ plan.tasks) × InPlan js
   InPlan (publish e ∷ js) = InPlan js
   InPlan (hand_in g t c ∷ js) = IsTrue (is_member plan g t) × Carries g c × InPlan js
 
   -- The seat may return the part that is due if its task's latest store was the first, unless that task is still to be stored.
-  abbrev pub MayHandIn : Seat → Bool → Jobs → Type 0
+  abbrev pub MayHandIn : Seat → Bool → EnvelopeJobs → Type 0
   MayHandIn s b [] = Unit {0}
   MayHandIn s b (store t o ∷ js) = is_due t js ≡ false → MayHandIn s b js
   MayHandIn s b (publish e ∷ js) = MayHandIn s b js
   MayHandIn s b (hand_in g t c ∷ js) = b ≡ true → MayReturn plan s.seen s.name t
 
   -- a part comes next only where that store was the first
-  abbrev pub IsNext : Bool → Jobs → Type 0
+  abbrev pub IsNext : Bool → EnvelopeJobs → Type 0
   IsNext b (hand_in g t c ∷ js) = b ≡ true
   IsNext b js = Unit {0}
 
@@ -49,11 +49,11 @@ module _ (plan : Roster) where
   Can s left = Unit {0}
 
   -- the backend lets the seat ask this, and a read is of a member that there is
-  abbrev pub Allowed : Seat → Asked → Type 0
-  Allowed s (keep t o) = t ≤ plan.tasks
-  Allowed s (part g t) = IsTrue (is_chord plan g) × IsTrue (is_member plan g t) × MayReturn plan s.seen s.name t
-  Allowed s (read g i) = (t : ℕ) × (slice_get (members plan g) i ≡ Some t) × (t ≤ plan.tasks)
-  Allowed s a = Unit {0}
+  abbrev pub MayAsk : Seat → Asked → Type 0
+  MayAsk s (keep t o) = t ≤ plan.tasks
+  MayAsk s (part g t) = IsTrue (is_chord plan g) × IsTrue (is_member plan g t) × MayReturn plan s.seen s.name t
+  MayAsk s (read g i) = (t : ℕ) × (slice_get (members plan g) i ≡ Some t) × (t ≤ plan.tasks)
+  MayAsk s a = Unit {0}
 
 -- a worker that waits for an envelope can go on
 abbrev pub WaitingCan : Type 0
@@ -61,7 +61,7 @@ WaitingCan = (plan : Roster) (s : Seat) → Can plan s taking
 
 -- what can be done may be asked
 abbrev pub CanAsk : Type 0
-CanAsk = (l : Line) → IsPlan l → (s : Seat) (left : Left) → Can (roster_of l) s left → Allowed (roster_of l) s (asked left)
+CanAsk = (l : Line) → IsPlan l → (s : Seat) (left : Left) → Can (roster_of l) s left → MayAsk (roster_of l) s (asked left)
 
 -- and once it is asked and answered, and the seat has made the call, what is left can be done
 abbrev pub CanGoOn : Type 0

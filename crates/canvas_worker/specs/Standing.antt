@@ -6,14 +6,15 @@ use Rattle.canvas_message.specs.Content.{Content}
 use Rattle.canvas_message.specs.Job.{publish}
 use Rattle.canvas_message.specs.declared.envelope.Envelope.{Envelope}
 use Rattle.canvas_runs.specs.Book.{Book}
-use Rattle.canvas_runs.specs.Core.{State, taking, failed, owning, doing, reading, taken, ask, answered}
+use Rattle.canvas_runs.specs.Tally.{greatest_count}
+use Rattle.canvas_runs.specs.Core.{CoreState, taking, failed, owning, doing, reading, taken, ask, answered}
 use Rattle.canvas_runs.specs.Worker.{opened}
 use Rattle.canvas_worker.specs.Asks.{Asked, Answer, sent}
 use Rattle.canvas_worker.specs.Books.{no_book}
 use Rattle.canvas_worker.specs.Enveloped.{enveloped_by, blank}
 
 abbrev pub Left : Type 0
-Left = State Envelope Load Outcome
+Left = CoreState Envelope Load Outcome
 
 -- what is left to do, whether the envelope that is to be published was handed out, and how many envelopes were dropped
 pub record Standing : Type 0 where
@@ -24,10 +25,6 @@ pub record Standing : Type 0 where
 -- an ask is the same whatever the book
 abbrev pub asked : Left → Asked
 asked = ask (enveloped_by no_book)
-
--- what the count of dropped envelopes can hold
-abbrev pub most : ℕ
-most = 18446744073709551615
 
 abbrev pub unread : Option Content → ℕ
 unread None = 1
@@ -53,7 +50,7 @@ abbrev pub begun : Standing
 begun = record { left = taking; is_out = false; dropped = 0 }
 
 abbrev pub after_reply : Book → Standing → Answer → Standing
-after_reply book s r = record { left = answered (enveloped_by book) s.left r; is_out = false; dropped = min most (s.dropped + drops book s.left r) }
+after_reply book s r = record { left = answered (enveloped_by book) s.left r; is_out = false; dropped = min greatest_count (s.dropped + drops book s.left r) }
 
 -- where memory was refused
 abbrev pub failing : Standing → Standing

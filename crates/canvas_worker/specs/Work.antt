@@ -15,7 +15,8 @@ use Rattle.canvas_worker.specs.Asks.{Asked, Answer}
 use Rattle.canvas_worker.specs.Books.{book_in}
 use Rattle.canvas_worker.specs.Progress.{Progress, Worked}
 use Rattle.canvas_worker.specs.Seats.{Can}
-use Rattle.canvas_worker.specs.Standing.{Standing, most, begun as new_core, after_reply, failing}
+use Rattle.canvas_runs.specs.Tally.{greatest_count}
+use Rattle.canvas_worker.specs.Standing.{Standing, begun as new_core, after_reply, failing}
 use Rattle.canvas_worker.specs.Steps.{Called, FromHeld, Batched}
 use Rattle.canvas_worker.specs.declared.cause.Cause.{Cause}
 use Rattle.canvas_worker.specs.declared.record.Record.{Record}
@@ -64,7 +65,7 @@ lost w = with_core w (failing w.core)
 -- one more envelope was given to its core
 abbrev pub one_taken : Work → Work
 one_taken w =
-    record { broker = w.broker; desk = w.desk; number = w.number; pass = w.pass; seat = w.seat; core = w.core; held = w.held; taken = min most (w.taken + 1); published = w.published; first = w.first; parts = w.parts }
+    record { broker = w.broker; desk = w.desk; number = w.number; pass = w.pass; seat = w.seat; core = w.core; held = w.held; taken = min greatest_count (w.taken + 1); published = w.published; first = w.first; parts = w.parts }
 
 -- its pass is of its broker, its seat of its backend, which is one of a plan, and the backend lets the seat do what is left. A worker that rests
 -- holds nothing, and its last take found nothing
@@ -106,7 +107,7 @@ pub record Leaves (w : Work) (fault : Option Cause) (r : Record) : Type 0 where
 
 -- a record is that of a worker with this number that is here. Without a fault the last ask was a rest answered with no more, all that was taken was given
 -- to the core, and the last take found nothing
-pub record IsOf (number : ℕ) (p : Progress) (r : Record) : Type 0 where
+pub record IsRecordOf (number : ℕ) (p : Progress) (r : Record) : Type 0 where
   pub same_number : r.number ≡ number
   pub pass : r.pass ≡ p.pass
   pub seat : r.seat ≡ p.seat
@@ -118,10 +119,10 @@ pub record Ends (w : Work) (r : Record) : Type 0 where
   pub ended : Progress
   pub counted : IsTally ended.tally
   pub moved : Moves w.desk.plan (progress w) ended
-  pub is_of : IsOf w.number ended r
+  pub is_of : IsRecordOf w.number ended r
 
 -- From here on the pass and the seat of the record have followed a core run, whose counts the record has.
-pub record Gives (w : Work) (r : Record) : Type 0 where
+pub record TellsOf (w : Work) (r : Record) : Type 0 where
   pub ended : Progress
   pub worked : Worked w.desk.plan (progress w) ended
-  pub is_of : IsOf w.number ended r
+  pub is_of : IsRecordOf w.number ended r

@@ -5,7 +5,8 @@ ghost use Rattle.canvas_worker.specs.Asks.{suits, shown, replied, StoresInRange,
 ghost use Rattle.canvas_worker.specs.Books.{no_book};
 ghost use Rattle.canvas_runs.specs.Core.{ReadsBack, taking, taken};
 ghost use Rattle.canvas_worker.specs.Phases.{left_of, is_out};
-ghost use Rattle.canvas_worker.specs.Standing.{asked, begun, after_reply, failing, held_out, handed, waiting, most, is_inside};
+ghost use Rattle.canvas_runs.specs.Tally.{greatest_count};
+ghost use Rattle.canvas_worker.specs.Standing.{asked, begun, after_reply, failing, held_out, handed, waiting, is_inside};
 ghost use Rattle.canvas_worker.specs.Enveloped.{enveloped_by, said};
 ghost use Rattle.canvas_runs.specs.Worker.{opened};
 
@@ -32,8 +33,8 @@ impl Model for Core {
     ghost use Rattle.canvas_worker.specs.Phases.{left_of, is_out};
     ghost use Rattle.canvas_worker.specs.Standing.{Standing};
     ghost use Rattle.std.specs.Coded.{codes};
-    ghost use Rattle.canvas_message.specs.ContentCode.{content_code};
-    ghost use Rattle.canvas_worker.specs.Codes.{load_code};
+    ghost use Rattle.canvas_message.specs.codes.ContentCode.{content_code};
+    ghost use Rattle.canvas_worker.specs.codes.CoreCode.{load_code};
 
     ghost Value = { Standing };
 
@@ -170,7 +171,7 @@ impl Core {
 
     fn set(&mut self, phase: Phase)
         ensures value { self.new ≡ record { left = left_of phase; is_out = is_out phase; dropped = self.old.dropped } }
-        ensures most { self.old.dropped ≤ most }
+        ensures most { self.old.dropped ≤ greatest_count }
     {
         let _dropped = self.dropped;
         self.phase = phase;
@@ -217,7 +218,7 @@ impl Core {
     }
 
     fn drop_one(&mut self)
-        ensures { self.new ≡ record { left = taking; is_out = false; dropped = min most (self.old.dropped + 1) } }
+        ensures { self.new ≡ record { left = taking; is_out = false; dropped = min greatest_count (self.old.dropped + 1) } }
     {
         self.dropped = self.dropped.saturating_add(1);
         self.phase = Phase::Taking;

@@ -6,7 +6,7 @@ ghost use Rattle.canvas_message.specs.Fits.{how_many};
 ghost use Rattle.canvas_message.specs.Placing.{last_task};
 ghost use Rattle.canvas_message.specs.View.{place_seen, rest_seen};
 ghost use Rattle.canvas_runs.specs.Book.{task_known, tasks_known, place_known, line_known, members_known, message_known, parent_known, is_size};
-ghost use Rattle.canvas_worker.specs.Lasts.{or_zero, last_number, member_is_known};
+ghost use Rattle.canvas_worker.specs.steps.Lasts.{or_zero, last_number, member_is_known};
 
 use crate::Book;
 use canvas_message::Message;

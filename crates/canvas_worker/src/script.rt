@@ -3,7 +3,7 @@
 ghost use Rattle.std.specs.Prelude.{All};
 ghost use Rattle.std.proofs.Props.{props};
 ghost use Rattle.canvas_task.specs.Apply.{IsInRange};
-ghost use Rattle.canvas_worker.specs.Codes.{range_prop};
+ghost use Rattle.canvas_worker.specs.codes.CoreCode.{range_prop};
 
 use crate::sealed::Sealed;
 use canvas_message::PartCall;

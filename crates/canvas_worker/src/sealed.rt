@@ -2,8 +2,8 @@
 
 ghost use Rattle.std.specs.Prelude.{◌≡◌, Ok, IfOk};
 ghost use Rattle.std.specs.Coded.{codes};
-ghost use Rattle.canvas_message.specs.ContentCode.{content_code};
-ghost use Rattle.canvas_runs.specs.Worker.{reading};
+ghost use Rattle.canvas_message.specs.codes.ContentCode.{content_code};
+ghost use Rattle.canvas_runs.specs.Worker.{read_envelope};
 ghost use Rattle.canvas_worker.specs.Enveloped.{said, envelope_of};
 
 use canvas_message::{Envelope, Message, encode};
@@ -14,7 +14,7 @@ use std::alloc::Global;
 #[derive(Drop)]
 pub(crate) struct Sealed {
     pub envelope: Envelope,
-    ghost back: { reading envelope ≡ Ok (said envelope) } by { Prim.hlevel (codes, content_code) },
+    ghost back: { read_envelope envelope ≡ Ok (said envelope) } by { Prim.hlevel (codes, content_code) },
 }
 
 pub(crate) fn seal(alloc: Global, message: &Message) -> Result<Sealed, Memory>

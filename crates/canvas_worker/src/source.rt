@@ -1,7 +1,7 @@
 //! Where a worker's next envelope comes from.
 
 ghost use Rattle.std.specs.Prelude.{◌≡◌, [], ◌∷◌, Some, MatchOption};
-ghost use Rattle.canvas_worker.specs.Held.{held_in};
+ghost use Rattle.canvas_worker.specs.steps.Held.{held_in};
 
 use canvas_broker::Batch;
 use canvas_message::Envelope;

@@ -7,11 +7,11 @@ ghost use Rattle.std.specs.Coded.{codes};
 ghost use Rattle.canvas_task.specs.Apply.{IsInRange};
 ghost use Rattle.canvas_message.specs.Carrying.{carried_ok};
 ghost use Rattle.canvas_message.specs.Content.{number_of};
-ghost use Rattle.canvas_message.specs.ContentCode.{content_code};
+ghost use Rattle.canvas_message.specs.codes.ContentCode.{content_code};
 ghost use Rattle.canvas_message.specs.Effects.{after, outcome_of, script as whole};
 ghost use Rattle.canvas_message.specs.Elements.{carried_view};
-ghost use Rattle.canvas_runs.specs.Worker.{reading};
-ghost use Rattle.canvas_worker.specs.Codes.{load_code, range_prop};
+ghost use Rattle.canvas_runs.specs.Worker.{read_envelope};
+ghost use Rattle.canvas_worker.specs.codes.CoreCode.{load_code, range_prop};
 ghost use Rattle.canvas_worker.specs.Enveloped.{said, enclosed};
 ghost use Rattle.canvas_worker.specs.Scripts.{jobs_of};
 
@@ -48,7 +48,7 @@ pub(crate) struct Storing {
 pub(crate) struct Publishing {
     pub envelope: Option<Envelope>,
     pub script: Script,
-    ghost back: { ForSome envelope (λ e. reading e ≡ Ok (said e)) } by { Prim.hlevel (props, codes, content_code) },
+    ghost back: { ForSome envelope (λ e. read_envelope e ≡ Ok (said e)) } by { Prim.hlevel (props, codes, content_code) },
 }
 
 /// A completed header whose members' outcomes are being read.

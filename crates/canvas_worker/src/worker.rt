@@ -1,7 +1,7 @@
 //! The worker.
 
 ghost use Rattle.std.specs.Prelude.{◌≡◌, Some, IfSome, IsSomeAnd};
-ghost use Rattle.canvas_worker.specs.Work.{Ready, GoesOn, Ends, Gives, begun};
+ghost use Rattle.canvas_worker.specs.Work.{Ready, GoesOn, Ends, TellsOf, begun};
 ghost use Rattle.futures.specs.Poll.{OnPending, IfReady};
 ghost use Rattle.futures.specs.Task.{Covers, Keeps};
 
@@ -53,13 +53,13 @@ impl<R: Wait, G: Gate> Future for Worker<'_, R, G> {
 
     ghost can_poll = { λ w. IsSomeAnd w.working Ready };
 
-    ghost gives = { λ w r. IfSome w.working (λ v. Gives v r) };
+    ghost gives = { λ w r. IfSome w.working (λ v. TellsOf v r) };
 
     fn poll(&mut self, cx: &mut Context<'_>) -> Poll<Record>
         requires { IsSomeAnd self.old.working Ready }
-        ensures value { IfReady result (λ r. IfSome self.old.working (λ w. Gives w r)) }
+        ensures value { IfReady result (λ r. IfSome self.old.working (λ w. TellsOf w r)) }
         ensures again { OnPending result (IsSomeAnd self.new.working Ready) }
-        ensures same { OnPending result ((x : _) → IfSome self.new.working (λ v. Gives v x) → IfSome self.old.working (λ w. Gives w x)) }
+        ensures same { OnPending result ((x : _) → IfSome self.new.working (λ v. TellsOf v x) → IfSome self.old.working (λ w. TellsOf w x)) }
         ensures registered { OnPending result (Covers cx.new (λ _. ⊥)) }
         ensures kept { Keeps cx.old cx.new }
         ensures once { OnPending result (IfSome self.old.working (λ w. IfSome self.new.working (λ v. GoesOn w v))) }

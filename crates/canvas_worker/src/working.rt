@@ -50,9 +50,9 @@ pub(crate) struct Working<'a, R: Wait, G: Gate> {
 
 impl<'a, R: Wait, G: Gate> Model for Working<'a, R, G> {
     ghost use Rattle.std.specs.Coded.{codes};
-    ghost use Rattle.canvas_message.specs.ContentCode.{content_code};
-    ghost use Rattle.canvas_worker.specs.Codes.{load_code};
-    ghost use Rattle.canvas_worker.specs.Held.{held_in};
+    ghost use Rattle.canvas_message.specs.codes.ContentCode.{content_code};
+    ghost use Rattle.canvas_worker.specs.codes.CoreCode.{load_code};
+    ghost use Rattle.canvas_worker.specs.steps.Held.{held_in};
     ghost use Rattle.canvas_worker.specs.Work.{Work};
 
     ghost Value = { Work };

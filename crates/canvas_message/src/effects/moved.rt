@@ -10,7 +10,7 @@ ghost use Rattle.canvas_message.specs.Effects.{after, message};
 ghost use Rattle.canvas_message.specs.Fits.{fits};
 ghost use Rattle.canvas_message.specs.Todos.{todo_view};
 ghost use Rattle.canvas_message.specs.View.{rest_seen};
-ghost use Rattle.canvas_message.specs.Walks.{input_seen, begins_with_task};
+ghost use Rattle.canvas_message.specs.steps.Walks.{input_seen, begins_with_task};
 
 use super::started::{call_back, parent_of, put_input};
 use super::{after, todo_of};

@@ -9,10 +9,10 @@ ghost use Rattle.canvas_message.specs.Content.{call_of};
 ghost use Rattle.canvas_message.specs.Effects.{message, callbacks, messages_in};
 ghost use Rattle.canvas_message.specs.Fits.{fits, parent_ok};
 ghost use Rattle.canvas_message.specs.Flowing.{input_flow, parent_for};
-ghost use Rattle.canvas_message.specs.Parts.{is_stop};
+ghost use Rattle.canvas_message.specs.steps.Parts.{is_stop};
 ghost use Rattle.canvas_message.specs.Placing.{last_at, placed};
 ghost use Rattle.canvas_message.specs.View.{place_seen, place_view, rest_seen};
-ghost use Rattle.canvas_message.specs.Walks.{input_seen, tail_seen, at_place, member_place, started, all_started};
+ghost use Rattle.canvas_message.specs.steps.Walks.{input_seen, tail_seen, at_place, member_place, started, all_started};
 
 use crate::Message;
 use crate::copies::{copy_place, copy_tasks};

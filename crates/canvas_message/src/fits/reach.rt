@@ -1,10 +1,10 @@
 //! How deeply signatures stand in each other, past the limit only that it is past.
 
 ghost use Rattle.std.specs.Prelude.{◌≡◌, ◌≤◌, max, map};
-ghost use Rattle.canvas_sig.specs.LineReach.{capped, above};
+ghost use Rattle.canvas_sig.specs.steps.LineReach.{capped, above};
 ghost use Rattle.canvas_rewrite.specs.FrozenView.{p_tasks_of, p_lines_of, p_task_view, p_line_view, p_end_view};
 ghost use Rattle.canvas_message.specs.Fits.{task_reach, tasks_reach, place_reach, line_reach, greatest_reach, members_reach};
-ghost use Rattle.canvas_message.specs.Parts.{is_longer};
+ghost use Rattle.canvas_message.specs.steps.Parts.{is_longer};
 ghost use Rattle.canvas_message.specs.View.{place_seen};
 
 use canvas_rewrite::{FrozenEnd, FrozenLine, FrozenTask, Place};

@@ -2,7 +2,7 @@
 
 ghost use Rattle.std.specs.Prelude.{◌∷◌};
 ghost use Rattle.json.specs.Token.{begin_array};
-ghost use Rattle.canvas_sig.specs.Tokens.{Appends, data_tokens, rest_tokens, rest_members};
+ghost use Rattle.canvas_sig.specs.steps.Tokens.{Appends, data_tokens, rest_tokens, rest_members};
 ghost use Rattle.canvas_sig.specs.Writing.{arg_wire, args_wire, numbers_wire, kwargs_wire};
 ghost use Rattle.canvas_task.specs.Entries.{named};
 

@@ -2,7 +2,7 @@ use Rattle.std.proofs.Common.{rules, ◌≡◌, ◌∷◌, sym, subst}
 use Rattle.std.specs.Vec.Iter.{into_iter_items}
 use Rattle.canvas_backend.specs.Callers as seats
 use Rattle.canvas_broker.specs.Callers as passes
-use Rattle.canvas_engine.specs.Slots.{AreOf, Takes}
+use Rattle.canvas_engine.specs.steps.Slots.{AreOf, Takes}
 use Rattle.canvas_engine.specs.declared.slot.Post.TheVariants.{Done}
 use Rattle.canvas_engine.proofs.crew.join_all.Goals as goal
 

@@ -1,7 +1,7 @@
 use Rattle.std.proofs.Common.{◌≡◌}
 use Rattle.std.specs.Vec.Iter.{into_iter_items}
 use Rattle.canvas_runs.specs.Following.{Pass, Seat}
-use Rattle.canvas_engine.specs.Slots.{AreOf, Takes}
+use Rattle.canvas_engine.specs.steps.Slots.{AreOf, Takes}
 use Rattle.canvas_engine.proofs.crew.join_all.Given as goal
 
 -- what is left to take in leads from here to where all leads from the start

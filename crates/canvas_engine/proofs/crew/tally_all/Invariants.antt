@@ -1,5 +1,5 @@
 use Rattle.std.proofs.Common.{◌≡◌, ◌++◌, drop, map}
-use Rattle.canvas_engine.specs.Slots.{tally_in}
+use Rattle.canvas_engine.specs.steps.Slots.{tally_in}
 use Rattle.canvas_engine.proofs.crew.tally_all.Given as goal
 
 abbrev pub invariant-loop-slot : goal.invariant-loop-slot

@@ -1,7 +1,7 @@
 use Rattle.std.proofs.Common.{rules, ◌≡◌, [], ◌∷◌, ◌++◌, sym, ap}
 use Rattle.canvas_runs.specs.Lists.{Each}
 use Rattle.canvas_runs.specs.Worker.{sealed}
-use Rattle.canvas_engine.specs.Steps.{ReadsAs}
+use Rattle.canvas_engine.specs.steps.Stages.{ReadsAs}
 use Rattle.canvas_engine.proofs.Opening.{back_more, queued_more}
 use Rattle.canvas_engine.proofs.firsts.seal_all.Goals as goal
 

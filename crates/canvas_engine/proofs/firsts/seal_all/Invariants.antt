@@ -1,7 +1,7 @@
 use Rattle.std.proofs.Common.{◌≡◌, ◌++◌, drop, map}
 use Rattle.canvas_runs.specs.Lists.{Each}
 use Rattle.canvas_runs.specs.Worker.{sealed}
-use Rattle.canvas_engine.specs.Steps.{ReadsAs}
+use Rattle.canvas_engine.specs.steps.Stages.{ReadsAs}
 use Rattle.canvas_engine.proofs.firsts.seal_all.Given as goal
 
 -- the envelopes so far with those that are still to come; and the messages so far read back

@@ -1,7 +1,7 @@
 use Rattle.std.proofs.Common.{◌≡◌, ◌++◌, drop, string_bytes}
 use Rattle.canvas_semantics.specs.Evaluation.{with_states}
 use Rattle.canvas_semantics.specs.States.{rows_from}
-use Rattle.canvas_engine.specs.ReportRows.{listed_behind}
+use Rattle.canvas_engine.specs.steps.ReportRows.{listed_behind}
 use Rattle.canvas_engine.proofs.report.push_further.Given as goal
 
 -- the text so far, and the values still to come

@@ -1,5 +1,5 @@
 use Rattle.std.proofs.Common.{◌≡◌, length}
-use Rattle.canvas_engine.specs.Steps.{AreNew}
+use Rattle.canvas_engine.specs.steps.Stages.{AreNew}
 use Rattle.canvas_engine.proofs.stage.new_cores.Given as goal
 
 abbrev pub invariant-loop-worker : goal.invariant-loop-worker

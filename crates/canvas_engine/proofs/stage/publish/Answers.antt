@@ -2,7 +2,7 @@ use Rattle.std.proofs.Common.{◌≡◌, OnOk, refl, ap, ◌∙◌, subst}
 use Rattle.canvas_runs.specs.Core as C
 use Rattle.canvas_worker.specs.Books.{book_in}
 use Rattle.canvas_worker.specs.Standing.{after_reply}
-use Rattle.canvas_engine.specs.Steps.{Stepped}
+use Rattle.canvas_engine.specs.steps.Stages.{Stepped}
 use Rattle.canvas_engine.proofs.StageAsks.{answered_ok, handed_out, handed_same, of_each}
 use Rattle.canvas_engine.proofs.stage.publish.Goals as goal
 

@@ -1,5 +1,5 @@
 use Rattle.canvas_runs.specs.Lists.{Each}
-use Rattle.canvas_engine.specs.Steps.{ReadsAs}
+use Rattle.canvas_engine.specs.steps.Stages.{ReadsAs}
 use Rattle.canvas_engine.proofs.Opening.{back_more, queued_more}
 use Rattle.canvas_engine.proofs.stage.publish_all.Goals as goal
 

@@ -3,7 +3,7 @@ use Rattle.canvas_backend.specs.Plain.{held}
 use Rattle.canvas_backend.specs.Roster.{members}
 use Rattle.canvas_runs.specs.Core as C
 use Rattle.canvas_worker.specs.Standing.{asked}
-use Rattle.canvas_engine.specs.Steps.{MayAsk, Stepped}
+use Rattle.canvas_engine.specs.steps.Stages.{MayAsk, Stepped}
 use Rattle.canvas_engine.proofs.StageAsks.{answered_ok, at_place, found_says, found_in_range, is_read, each_queue, same_place}
 use Rattle.canvas_engine.proofs.stage.read.Goals as goal
 

@@ -1,5 +1,5 @@
 use Rattle.std.proofs.Common.{ℕ, take, []}
-use Rattle.canvas_engine.specs.Steps.{Reached, HasReached}
+use Rattle.canvas_engine.specs.steps.Stages.{Reached, HasReached}
 use Rattle.canvas_engine.proofs.turns.run_list.Given as goal
 
 -- the turns so far have been taken

@@ -1,5 +1,5 @@
 use Rattle.std.proofs.Common.{arith, subst}
-use Rattle.canvas_engine.specs.Steps.{IsPartOfRound}
+use Rattle.canvas_engine.specs.steps.Stages.{IsPartOfRound}
 use Rattle.canvas_engine.proofs.RoundTurns.{one_more_turn, part_reached, halt_in_round}
 use Rattle.canvas_engine.proofs.turns.run_round.Goals as goal
 

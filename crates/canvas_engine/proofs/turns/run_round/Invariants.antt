@@ -1,6 +1,6 @@
 use Rattle.std.proofs.Common.{ℕ, List}
 use Rattle.canvas_runs.specs.Turns.{Step}
-use Rattle.canvas_engine.specs.Steps.{Reached, IsPartOfRound}
+use Rattle.canvas_engine.specs.steps.Stages.{Reached, IsPartOfRound}
 use Rattle.canvas_engine.proofs.turns.run_round.Given as goal
 
 -- a part of the round has been taken

@@ -1,6 +1,6 @@
 use Rattle.std.proofs.Common.{ℕ, ◌++◌}
 use Rattle.canvas_runs.specs.Turns.{rounds}
-use Rattle.canvas_engine.specs.Steps.{HasReached}
+use Rattle.canvas_engine.specs.steps.Stages.{HasReached}
 use Rattle.canvas_engine.proofs.turns.run_rounds.Given as goal
 
 -- some rounds have been taken behind the list

@@ -1,4 +1,4 @@
-use Rattle.canvas_engine.specs.Steps.{HasReached, IsDone, IsEarlyEnd}
+use Rattle.canvas_engine.specs.steps.Stages.{HasReached, IsDone, IsEarlyEnd}
 use Rattle.canvas_engine.proofs.WholeRuns.{starts, ok_at, err_at}
 use Rattle.canvas_engine.proofs.turns.run_stage.Goals as goal
 

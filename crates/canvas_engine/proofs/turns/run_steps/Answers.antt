@@ -1,5 +1,5 @@
 use Rattle.std.proofs.Common.{refl, subst}
-use Rattle.canvas_engine.specs.Steps.{IsDone, IsEarlyEnd}
+use Rattle.canvas_engine.specs.steps.Stages.{IsDone, IsEarlyEnd}
 use Rattle.canvas_engine.proofs.WholeRuns.{whole_rows, early_fault}
 use Rattle.canvas_engine.proofs.turns.run_steps.Goals as goal
 

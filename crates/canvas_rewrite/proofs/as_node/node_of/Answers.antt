@@ -3,7 +3,7 @@ use Rattle.canvas_semantics.specs.Tree.{Tree}
 use Rattle.canvas_rewrite.specs.FrozenView.{line_of}
 use Rattle.canvas_semantics.specs.SameMeaning.{IsSame}
 use Rattle.canvas_rewrite.specs.View.{line_view}
-use Rattle.canvas_rewrite.proofs.CompactLaw.{compact_same}
+use Rattle.canvas_semantics.proofs.CompactLaw.{compact_same}
 use Rattle.canvas_rewrite.proofs.as_node.node_of.Goals as goal
 
 pub returns-clause-meaning : goal.returns-clause-meaning

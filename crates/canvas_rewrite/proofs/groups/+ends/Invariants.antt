@@ -1,6 +1,6 @@
 use Rattle.std.proofs.Common.{◌≡◌, ◌++◌, map, drop}
 use Rattle.canvas_rewrite.specs.FrozenView.{line_in}
-use Rattle.canvas_semantics.specs.Numbering.{lines_ends}
+use Rattle.canvas_semantics.specs.steps.Numbering.{lines_ends}
 use Rattle.canvas_rewrite.proofs.groups.+ends.Given as goal
 
 abbrev pub invariant-push_all-loop-line : goal.invariant-push_all-loop-line

@@ -1,9 +1,9 @@
 use Rattle.std.proofs.Common.{◌≡◌, ◌∙◌, ◌++◌, ◌∷◌, [], map, ap, sym, rules, refl}
-use Rattle.canvas_semantics.specs.Line.{teams}
+use Rattle.canvas_semantics.specs.Line.{group_entries}
 use Rattle.canvas_rewrite.specs.FrozenView.{line_in, end_in}
-use Rattle.canvas_semantics.specs.Numbering.{lines_ends}
-use Rattle.canvas_rewrite.specs.Teams.{team}
-use Rattle.canvas_rewrite.proofs.PlanLines.{teams_none, teams_some, teams_group, teams_chord, ok_same, chord_pushed, group_pushed}
+use Rattle.canvas_semantics.specs.steps.Numbering.{lines_ends}
+use Rattle.canvas_rewrite.specs.steps.GroupData.{group_entry}
+use Rattle.canvas_rewrite.proofs.PlanLines.{entries_none, entries_some, entries_group, entries_chord, ok_same, chord_pushed, group_pushed}
 use Rattle.canvas_rewrite.proofs.groups.+groups.Goals as goal
 
 pub push_group-returns-in_ok-push_all_groups-in-Some : goal.push_group-returns-in_ok-push_all_groups-in-Some
@@ -18,7 +18,7 @@ push_group-returns-in_ok-push-in-None t c =
 
 pub push_groups-returns-in-Some : goal.push_groups-returns-in-Some
 push_groups-returns-in-Some t c =
-    ok_same _ _ _ _ (ap (λ es. map team c.args.groups.now.items ++ es) (ap (λ e. teams (end_in e)) c.deref.ensures ∙ sym (teams_some c.args.line.now c.in-Some.end c.in-Some.is))) c.push_group.ensures
+    ok_same _ _ _ _ (ap (λ es. map group_entry c.args.groups.now.items ++ es) (ap (λ e. group_entries (end_in e)) c.deref.ensures ∙ sym (entries_some c.args.line.now c.in-Some.end c.in-Some.is))) c.push_group.ensures
 
 pub push_groups-returns-in-None : goal.push_groups-returns-in-None
-push_groups-returns-in-None t c = search (rules, teams_none c.args.line.now c.in-None.is)
+push_groups-returns-in-None t c = search (rules, entries_none c.args.line.now c.in-None.is)

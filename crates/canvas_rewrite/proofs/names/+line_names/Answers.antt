@@ -1,7 +1,7 @@
 use Rattle.std.proofs.Common.{◌≡◌, ◌∙◌, ◌++◌, map, ap, sym}
 use Rattle.canvas_semantics.specs.Line.{names}
 use Rattle.canvas_rewrite.specs.FrozenView.{task_in, line_in, end_in}
-use Rattle.canvas_semantics.specs.Numbering.{tasks_all_names, lines_all_names}
+use Rattle.canvas_semantics.specs.steps.Numbering.{tasks_all_names, lines_all_names}
 use Rattle.canvas_rewrite.specs.declared.frozen.FrozenLine.{out-FrozenLine}
 use Rattle.canvas_rewrite.specs.declared.frozen.FrozenEnd.{out-FrozenEnd}
 use Rattle.canvas_rewrite.proofs.PlanLines.{ok_same}

@@ -1,6 +1,6 @@
 use Rattle.std.proofs.Common.{◌≡◌, ◌∙◌, ◌++◌, ◌∷◌, [], map, ap, sym}
 use Rattle.canvas_rewrite.specs.FrozenView.{task_in}
-use Rattle.canvas_semantics.specs.Numbering.{tasks_all_names}
+use Rattle.canvas_semantics.specs.steps.Numbering.{tasks_all_names}
 use Rattle.canvas_rewrite.specs.declared.frozen.FrozenTask.{out-FrozenTask}
 use Rattle.canvas_rewrite.proofs.PlanLines.{ok_same}
 use Rattle.canvas_rewrite.proofs.NameLines.{task_named, two}

@@ -3,7 +3,7 @@ use Rattle.canvas_sig.specs.View.{task_view}
 use Rattle.canvas_semantics.specs.Line.{count_line, line_groups, number_line}
 use Rattle.canvas_semantics.specs.PlacedLine.{bare, p_group_end}
 use Rattle.canvas_rewrite.specs.FrozenView.{line_of, end_of, p_task_view, p_line_view, p_steps, p_lines_of}
-use Rattle.canvas_semantics.specs.Numbering.{tasks_in, lines_count, lines_teams}
+use Rattle.canvas_semantics.specs.steps.Numbering.{tasks_in, lines_count, lines_group_count}
 use Rattle.canvas_rewrite.specs.declared.line.Line as line
 use Rattle.canvas_rewrite.specs.declared.line.Line.{out-Line}
 use Rattle.canvas_rewrite.specs.declared.line.LineEnd.{LineEnd, out-LineEnd}
@@ -18,7 +18,7 @@ freeze_end-freeze_lines-requires t c =
     let e : LineEnd = c.args.end.now in
     let ms = c.deref.ensures.value ∙ c.get.ensures in
     let tasks : lines_count (map line_of c.deref.result.now) ≡ lines_count (map line_of (out-LineEnd e).members) = ap (λ ls. lines_count (map line_of ls)) ms in
-    let groups : lines_teams (map line_of c.deref.result.now) ≡ lines_teams (map line_of (out-LineEnd e).members) = ap (λ ls. lines_teams (map line_of ls)) ms in (
+    let groups : lines_group_count (map line_of c.deref.result.now) ≡ lines_group_count (map line_of (out-LineEnd e).members) = ap (λ ls. lines_group_count (map line_of ls)) ms in (
       omega (arith, groups, groups_fit e),
       (c.requires.0, omega arith, omega (arith, tasks, members_fit e, c.requires.2), omega (arith, groups, groups_fit e, c.requires.3)),
     )
@@ -28,15 +28,15 @@ freeze_end-freeze_line-requires t c =
     let e : LineEnd = c.args.end.now in
     let ms = c.deref.ensures.value ∙ c.get.ensures in
     let tasks : lines_count (map line_of c.deref.result.now) ≡ lines_count (map line_of (out-LineEnd e).members) = ap (λ ls. lines_count (map line_of ls)) ms in
-    let groups : lines_teams (map line_of c.deref.result.now) ≡ lines_teams (map line_of (out-LineEnd e).members) = ap (λ ls. lines_teams (map line_of ls)) ms in
+    let groups : lines_group_count (map line_of c.deref.result.now) ≡ lines_group_count (map line_of (out-LineEnd e).members) = ap (λ ls. lines_group_count (map line_of ls)) ms in
     let counted = end_count_some e c.in-Some.body c.in-Some.is in
-    let teamed = end_groups_some e c.in-Some.body c.in-Some.is in (
-      omega (arith, teamed),
+    let groups_counted = end_groups_some e c.in-Some.body c.in-Some.is in (
+      omega (arith, groups_counted),
       (
         omega (arith, c.in_ok-freeze_lines.ensures.task, c.requires.0),
         omega (arith, c.in_ok-freeze_lines.ensures.group),
         omega (arith, tasks, counted, c.in_ok-freeze_lines.ensures.task, c.requires.2),
-        omega (arith, groups, teamed, c.in_ok-freeze_lines.ensures.group, c.requires.3),
+        omega (arith, groups, groups_counted, c.in_ok-freeze_lines.ensures.group, c.requires.3),
       ),
     )
 
@@ -52,7 +52,7 @@ freeze_end-returns-in-None-clause-task t c =
 pub freeze_end-returns-in-None-clause-group : goal.freeze_end-returns-in-None-clause-group
 freeze_end-returns-in-None-clause-group t c =
     let e : LineEnd = c.args.end.now in
-    let groups : lines_teams (map line_of c.deref.result.now) ≡ lines_teams (map line_of (out-LineEnd e).members) = ap (λ ls. lines_teams (map line_of ls)) (c.deref.ensures.value ∙ c.get.ensures) in
+    let groups : lines_group_count (map line_of c.deref.result.now) ≡ lines_group_count (map line_of (out-LineEnd e).members) = ap (λ ls. lines_group_count (map line_of ls)) (c.deref.ensures.value ∙ c.get.ensures) in
     omega (arith, c.in_ok-freeze_lines.ensures.group, groups, end_groups_none e c.in-None.is)
 
 pub freeze_end-returns-in_ok-body-in-Some-clause-value : goal.freeze_end-returns-in_ok-body-in-Some-clause-value
@@ -69,7 +69,7 @@ freeze_end-returns-in_ok-body-in-Some-clause-task t c =
 pub freeze_end-returns-in_ok-body-in-Some-clause-group : goal.freeze_end-returns-in_ok-body-in-Some-clause-group
 freeze_end-returns-in_ok-body-in-Some-clause-group t c =
     let e : LineEnd = c.args.end.now in
-    let groups : lines_teams (map line_of c.deref.result.now) ≡ lines_teams (map line_of (out-LineEnd e).members) = ap (λ ls. lines_teams (map line_of ls)) (c.deref.ensures.value ∙ c.get.ensures) in
+    let groups : lines_group_count (map line_of c.deref.result.now) ≡ lines_group_count (map line_of (out-LineEnd e).members) = ap (λ ls. lines_group_count (map line_of ls)) (c.deref.ensures.value ∙ c.get.ensures) in
     omega (arith, c.in_ok-freeze_lines.ensures.group, c.in_ok-body-in-Some.ensures.group, groups, end_groups_some e c.in-Some.body c.in-Some.is)
 
 -- ---- a line
@@ -87,13 +87,13 @@ freeze_line-freeze_end-requires t c =
     let counts : count_line (end_of c.deref-in-Some.result.now) ≡ count_line (end_of c.in-Some.end.value) = ap (λ e. count_line (end_of e)) c.deref-in-Some.ensures in
     let groups : line_groups (end_of c.deref-in-Some.result.now) ≡ line_groups (end_of c.in-Some.end.value) = ap (λ e. line_groups (end_of e)) c.deref-in-Some.ensures in
     let counted = count_some l c.in-Some.end c.in-Some.is in
-    let teamed = groups_some l c.in-Some.end c.in-Some.is in (
-      omega (arith, groups, teamed),
+    let groups_counted = groups_some l c.in-Some.end c.in-Some.is in (
+      omega (arith, groups, groups_counted),
       (
         omega (arith, c.in_ok-freeze_tasks.ensures.next, c.requires.0),
         c.requires.1,
         omega (arith, tasks, counts, counted, c.in_ok-freeze_tasks.ensures.next, c.requires.2),
-        omega (arith, groups, teamed, c.requires.3),
+        omega (arith, groups, groups_counted, c.requires.3),
       ),
     )
 

@@ -1,5 +1,5 @@
 use Rattle.std.proofs.Common.{◌≡◌, ◌≤◌, max, length, map, drop}
-use Rattle.canvas_sig.specs.LineReach.{all_onto_reach, greatest}
+use Rattle.canvas_sig.specs.steps.LineReach.{all_onto_reach, greatest}
 use Rattle.canvas_sig.specs.View.{view, trees_of}
 use Rattle.canvas_sig.proofs.reach.+onto.Given as goal
 

@@ -1,6 +1,6 @@
 use Rattle.std.proofs.Common.{◌≡◌, ◌∙◌, ℕ, List, None, false, length, replicate, rules, sym, subst, ap, arith}
 use Rattle.std.proofs.lemmas.List.{length-replicate}
-use Rattle.canvas_rewrite.proofs.InOrder.{teams_length}
+use Rattle.canvas_rewrite.proofs.InOrder.{entries_length}
 use Rattle.canvas_backend.specs.declared.slot.Slot.{Slot}
 use Rattle.canvas_backend.specs.Roster.{Roster}
 use Rattle.canvas_backend.specs.Plain.{held, AreCounts}
@@ -12,7 +12,7 @@ invariant_of-result c =
     let plan = c.in_ok-roster.roster in
     let slots : c.in_ok-slots.slots.items ≡ replicate c.tasks.result (record { outcome = None; returned = false }) = search rules in
     let counts : c.in_ok-counts.counts.items ≡ replicate c.groups.result 0 = search rules in
-    let many : c.groups.result ≡ length plan.teams = omega (arith, c.groups.ensures, teams_length c.args.plan.now, ap (λ (r : Roster). length r.teams) c.in_ok-roster.ensures) in (
+    let many : c.groups.result ≡ length plan.groups = omega (arith, c.groups.ensures, entries_length c.args.plan.now, ap (λ (r : Roster). length r.groups) c.in_ok-roster.ensures) in (
       c.tasks.ensures.sound,
       ap length slots ∙ (length-replicate c.tasks.result _ ∙ c.tasks.ensures.value),
       subst (λ (z : List Slot × List ℕ). AreCounts (shelf plan z.0) z.1) (λ j. (sym slots j, sym counts j)) (counts_none plan c.tasks.result c.groups.result many),

@@ -8,10 +8,10 @@ use Rattle.canvas_message.specs.Effects.{first_messages}
 use Rattle.canvas_backend.specs.Roster.{roster_of}
 use Rattle.canvas_runs.specs.Following.{Serves}
 use Rattle.canvas_runs.specs.Rows.{EachMay, reads_from}
-use Rattle.canvas_runs.specs.Tally.{most}
+use Rattle.canvas_runs.specs.Tally.{greatest_count}
 use Rattle.canvas_worker.specs.Finished.{Finished}
 use Rattle.canvas_engine.specs.Correct.{IsRun, IsThreadFault}
-use Rattle.canvas_engine.specs.Crews.{tallies_from}
+use Rattle.canvas_engine.specs.steps.Crews.{tallies_from}
 use Rattle.canvas_engine.specs.declared.records.Records.{Records}
 use Rattle.canvas_engine.specs.declared.records.Tally.{Tally}
 use Rattle.canvas_engine.proofs.Slots.{finished_of}
@@ -55,7 +55,7 @@ returns-in-None-clause-ok g c =
     let own : Tally = record {
       number = 0;
       taken = c.in-Some.left.taken;
-      published = min most (c.in-Some.left.published + length (first_messages l));
+      published = min greatest_count (c.in-Some.left.published + length (first_messages l));
       first = c.in-Some.left.first;
       parts = c.in-Some.left.parts;
       dropped = c.in-Some.left.dropped;

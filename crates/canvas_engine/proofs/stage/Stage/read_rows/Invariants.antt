@@ -1,6 +1,6 @@
 use Rattle.std.proofs.Common.{◌≡◌, take}
 use Rattle.canvas_backend.specs.Plain.{held}
-use Rattle.canvas_engine.specs.Steps.{rows_of}
+use Rattle.canvas_engine.specs.steps.Stages.{rows_of}
 use Rattle.canvas_engine.proofs.stage.Stage.read_rows.Given as goal
 
 abbrev pub invariant-loop-index : goal.invariant-loop-index

@@ -6,7 +6,7 @@ use Rattle.canvas_semantics.specs.PlacedLine.{p_step}
 use Rattle.canvas_message.specs.Content.{number_of, links_of}
 use Rattle.canvas_message.specs.Effects.{message, callbacks, messages_in}
 use Rattle.canvas_message.specs.Fits.{fits}
-use Rattle.canvas_message.specs.Flowing.{number}
+use Rattle.canvas_message.specs.Flowing.{number_input}
 use Rattle.canvas_message.specs.View.{rest_seen}
 use Rattle.canvas_message.proofs.Ended.{next_stands, succeeded_next}
 use Rattle.canvas_message.proofs.effects.moved.hand_on.Goals as goal
@@ -17,7 +17,7 @@ message_from-requires c =
     let same : c.args.message.rest ≡ rest_seen c.message.inside.rest = search rules in
     let task : c.message.inside.task ≡ number_of c.args.message.own = search rules in
     let back = to_z-of_z w64 c.args.number (search rules) in
-    ap (λ z. fits (message (Some c.message.inside.task) (p_task_view c.in-Some.next) (number z) (rest_seen c.in-Some.rest))) back
+    ap (λ z. fits (message (Some c.message.inside.task) (p_task_view c.in-Some.next) (number_input z) (rest_seen c.in-Some.rest))) back
     ∙ next_stands c.args.message c.message.inside.task (p_task_view c.in-Some.next) (rest_seen c.in-Some.rest) c.args.number whole (same ∙ c.in-Some.ensures) task c.requires.number
 
 pub returns-in-Some : goal.returns-in-Some
@@ -29,9 +29,9 @@ returns-in-Some c =
     let back = to_z-of_z w64 c.args.number (search rules) in
     IfOk-weaker c.todo_of.result _ _
     (λ todo is. is ∙ succeeded_next c.args.message (p_task_view c.in-Some.next) (rest_seen c.in-Some.rest) c.args.number _ _ _ _ _ whole (same ∙ c.in-Some.ensures) c.new.ensures.items c.new-messages.ensures.items
-    (c.in_ok-call_back.ensures ∙ ap (λ z. c.new-messages.result.items ++ messages_in (callbacks (p_tasks_of (map p_task_view c.deref.result.now)) (number z) (Some c.message.inside.task))) back
-    ∙ ap₂ (λ l k. c.new-messages.result.items ++ messages_in (callbacks l (number c.args.number) (Some k))) links task)
+    (c.in_ok-call_back.ensures ∙ ap (λ z. c.new-messages.result.items ++ messages_in (callbacks (p_tasks_of (map p_task_view c.deref.result.now)) (number_input z) (Some c.message.inside.task))) back
+    ∙ ap₂ (λ l k. c.new-messages.result.items ++ messages_in (callbacks l (number_input c.args.number) (Some k))) links task)
     (c.in_ok-push-in-Some.ensures.items
     ∙ ap (λ m. c.call_back.new.messages.items ++ m ∷ [])
-    (c.in_ok-message_from-in-Some.ensures ∙ ap (λ z. message (Some c.message.inside.task) (p_task_view c.in-Some.next) (number z) (rest_seen c.in-Some.rest)) back
-    ∙ ap (λ k. message (Some k) (p_task_view c.in-Some.next) (number c.args.number) (rest_seen c.in-Some.rest)) task)) refl) c.todo_of.ensures
+    (c.in_ok-message_from-in-Some.ensures ∙ ap (λ z. message (Some c.message.inside.task) (p_task_view c.in-Some.next) (number_input z) (rest_seen c.in-Some.rest)) back
+    ∙ ap (λ k. message (Some k) (p_task_view c.in-Some.next) (number_input c.args.number) (rest_seen c.in-Some.rest)) task)) refl) c.todo_of.ensures

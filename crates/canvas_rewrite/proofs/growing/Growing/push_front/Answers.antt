@@ -1,5 +1,5 @@
 use Rattle.std.proofs.Common.{◌∙◌, ap}
-use Rattle.canvas_rewrite.specs.Growing.{grown, tail_trees}
+use Rattle.canvas_rewrite.specs.steps.Growing.{grown, tail_trees}
 use Rattle.canvas_rewrite.proofs.GrowingLines.{grown_push}
 use Rattle.canvas_rewrite.proofs.growing.Growing.push_front.Goals as goal
 

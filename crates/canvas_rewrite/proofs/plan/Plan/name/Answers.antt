@@ -1,6 +1,6 @@
 use Rattle.std.proofs.Common.{◌≡◌, subst}
 use Rattle.canvas_semantics.specs.Line.{names, tree_of}
-use Rattle.canvas_semantics.specs.Report.{names as named_tasks, counted_from}
+use Rattle.canvas_semantics.specs.Report.{names_by_number as named_tasks, counted_from}
 use Rattle.canvas_rewrite.proofs.NamesInOrder.{plan_names}
 use Rattle.canvas_rewrite.proofs.plan.Plan.name.Goals as goal
 

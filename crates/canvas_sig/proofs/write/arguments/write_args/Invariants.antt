@@ -1,5 +1,5 @@
 use Rattle.std.proofs.Common.{◌≡◌, ◌++◌, drop}
-use Rattle.canvas_sig.specs.Tokens.{rest_tokens}
+use Rattle.canvas_sig.specs.steps.Tokens.{rest_tokens}
 use Rattle.canvas_sig.specs.Writing.{args_wire}
 use Rattle.canvas_sig.proofs.write.arguments.write_args.Given as goal
 

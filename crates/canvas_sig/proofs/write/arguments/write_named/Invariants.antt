@@ -1,6 +1,6 @@
 use Rattle.std.proofs.Common.{◌≡◌, ◌++◌}
 use Rattle.canvas_task.specs.Entries.{named}
-use Rattle.canvas_sig.specs.Tokens.{rest_members}
+use Rattle.canvas_sig.specs.steps.Tokens.{rest_members}
 use Rattle.canvas_sig.specs.Writing.{kwargs_wire}
 use Rattle.canvas_sig.proofs.write.arguments.write_named.Given as goal
 

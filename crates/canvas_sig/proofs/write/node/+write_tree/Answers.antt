@@ -2,7 +2,7 @@ use Rattle.std.proofs.Common.{[], ◌∷◌, codes, refl, sym, ap, ◌∙◌, su
 use Rattle.json.specs.Token.{key}
 use Rattle.serde_json.specs.Data.{string}
 use Rattle.canvas_semantics.specs.Tree.{Tree, chain, group, chord}
-use Rattle.canvas_sig.specs.Tokens.{Appends, data_tokens}
+use Rattle.canvas_sig.specs.steps.Tokens.{Appends, data_tokens}
 use Rattle.canvas_sig.specs.View.{view, trees_of}
 use Rattle.canvas_sig.specs.Writing.{tree_wire, trees_wire}
 use Rattle.canvas_sig.proofs.Views.{view-Chain, view-Group, view-Chord}

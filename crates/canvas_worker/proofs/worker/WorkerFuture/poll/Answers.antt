@@ -1,5 +1,5 @@
 use Rattle.std.proofs.Common.{rules, ◌≡◌, Some}
-use Rattle.canvas_worker.specs.Work.{Work, Gives}
+use Rattle.canvas_worker.specs.Work.{Work, TellsOf}
 use Rattle.canvas_worker.proofs.Moving.{goes_first, ends_give, of_one, pending}
 use Rattle.canvas_worker.proofs.worker.WorkerFuture.poll.Goals as goal
 
@@ -7,10 +7,10 @@ pub returns-in-Ok-clause-same : goal.returns-in-Ok-clause-same
 returns-in-Ok-clause-same g c =
     let w : Work = c.in-Some.working in
     let was : c.args.self.now.working ≡ Some w = search rules in
-    pending c.yield_now-in-Ok.result _ (λ r given. of_one c.args.self.now.working w (λ v. Gives v r) was (goes_first w c.in-Ok.next c.in-Ok.ensures r given))
+    pending c.yield_now-in-Ok.result _ (λ r given. of_one c.args.self.now.working w (λ v. TellsOf v r) was (goes_first w c.in-Ok.next c.in-Ok.ensures r given))
 
 pub returns-in-Err-clause-value : goal.returns-in-Err-clause-value
 returns-in-Err-clause-value g c =
     let w : Work = c.in-Some.working in
     let was : c.args.self.now.working ≡ Some w = search rules in
-    of_one c.args.self.now.working w (λ v. Gives v c.in-Err.record) was (ends_give w c.in-Err.record c.in-Err.ensures)
+    of_one c.args.self.now.working w (λ v. TellsOf v c.in-Err.record) was (ends_give w c.in-Err.record c.in-Err.ensures)

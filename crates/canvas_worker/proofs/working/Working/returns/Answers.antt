@@ -1,6 +1,6 @@
 use Rattle.std.proofs.Common.{rules, ◌≡◌, refl, sym, subst, ap, ◌∙◌, true, false, Some, None, [], ◌∷◌, ◌++◌, ◌≤◌, ℕ, arith}
 use Rattle.canvas_runs.specs.Core as C
-use Rattle.canvas_worker.specs.Held.{held_in}
+use Rattle.canvas_worker.specs.steps.Held.{held_in}
 use Rattle.canvas_worker.specs.Standing.{asked}
 use Rattle.canvas_worker.specs.Work.{Work}
 use Rattle.canvas_worker.proofs.Resting.{busy_never}

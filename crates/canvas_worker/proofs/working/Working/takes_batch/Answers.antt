@@ -4,7 +4,7 @@ use Rattle.canvas_message.specs.declared.envelope.Envelope.{Envelope}
 use Rattle.canvas_broker.specs.Broker as broker
 use Rattle.canvas_broker.specs.Callers.{Stands, Took}
 use Rattle.canvas_runs.specs.Core as C
-use Rattle.canvas_worker.specs.Held.{held_in}
+use Rattle.canvas_worker.specs.steps.Held.{held_in}
 use Rattle.canvas_worker.specs.Standing.{asked}
 use Rattle.canvas_worker.specs.Work.{Work}
 use Rattle.canvas_worker.proofs.Giving.{given_well}

@@ -3,7 +3,7 @@ use Rattle.std.proofs.Common.{◌≡◌, ◌∙◌, ℕ, ◌+◌, ◌++◌, List
 use Rattle.canvas_semantics.specs.Tree.{Task, task, Tree, one, chain, group, chord, Trees, no_trees, and_tree, ends_in_group, last_in_group, count, count_all, count_groups, count_all_groups, number, number_all, numbered, number_task}
 use Rattle.canvas_sig.specs.View.{view, task_view, trees_of}
 use Rattle.canvas_sig.specs.declared.task_sig.TaskSig.{TaskSig}
-use Rattle.canvas_semantics.specs.Compact.{whole, compact, compact_elements, compact_members}
+use Rattle.canvas_semantics.specs.Compact.{element_or_chain, compact, compact_elements, compact_members}
 use Rattle.canvas_semantics.specs.Evaluation.{Flow, Rows, Meaning, ends, last_ends, all_ends, behind, and_then, group_value, with_states, as_group, eval, eval_chain, member_rows}
 use Rattle.canvas_semantics.specs.Line.{Line, stop, step, group_end, chord_end, Lines, no_lines, and_line, elements_of, members_of, tree_of, number_line, number_lines, count_line, count_lines, line_groups, lines_groups}
 use Rattle.canvas_semantics.specs.SameMeaning.{IsSame}
@@ -12,32 +12,32 @@ use Rattle.canvas_semantics.proofs.Numbered.{tree_numbered}
 
 -- ---- one element, or a chain
 
-whole_means : (ts : Trees) (x : Flow) → eval (whole ts) x ≡ eval_chain ts x
+whole_means : (ts : Trees) (x : Flow) → eval (element_or_chain ts) x ≡ eval_chain ts x
 whole_means no_trees x = refl
 whole_means (and_tree t no_trees) x = sym (and_then_nothing (eval t x))
 whole_means (and_tree t (and_tree u us)) x = refl
 
-whole_ends : (ts : Trees) → ends (whole ts) ≡ last_ends ts
+whole_ends : (ts : Trees) → ends (element_or_chain ts) ≡ last_ends ts
 whole_ends no_trees = refl
 whole_ends (and_tree t no_trees) = refl
 whole_ends (and_tree t (and_tree u us)) = refl
 
-whole_group : (ts : Trees) → ends_in_group (whole ts) ≡ last_in_group ts
+whole_group : (ts : Trees) → ends_in_group (element_or_chain ts) ≡ last_in_group ts
 whole_group no_trees = refl
 whole_group (and_tree t no_trees) = refl
 whole_group (and_tree t (and_tree u us)) = refl
 
-whole_count : (ts : Trees) → count (whole ts) ≡ count_all ts
+whole_count : (ts : Trees) → count (element_or_chain ts) ≡ count_all ts
 whole_count no_trees = refl
 whole_count (and_tree t no_trees) = omega arith
 whole_count (and_tree t (and_tree u us)) = refl
 
-whole_groups : (ts : Trees) → count_groups (whole ts) ≡ count_all_groups ts
+whole_groups : (ts : Trees) → count_groups (element_or_chain ts) ≡ count_all_groups ts
 whole_groups no_trees = refl
 whole_groups (and_tree t no_trees) = omega arith
 whole_groups (and_tree t (and_tree u us)) = refl
 
-whole_number : (ts : Trees) (k g : ℕ) → number k g (whole ts) ≡ whole (number_all k g ts)
+whole_number : (ts : Trees) (k g : ℕ) → number k g (element_or_chain ts) ≡ element_or_chain (number_all k g ts)
 whole_number no_trees k g = refl
 whole_number (and_tree t no_trees) k g = refl
 whole_number (and_tree t (and_tree u us)) k g = refl
@@ -83,7 +83,7 @@ mutual
   means (group_end g ms) x = ap (λ m. and_then m (eval_chain no_trees)) (as_group_same ms x (rows_same ms x))
   means (chord_end g ms b) x =
       let header = as_group x (members_of ms) (member_rows (members_of ms) x) in
-      ap (λ m. and_then (and_then m (eval (whole (compact_elements b)))) (eval_chain no_trees)) (as_group_same ms x (rows_same ms x))
+      ap (λ m. and_then (and_then m (eval (element_or_chain (compact_elements b)))) (eval_chain no_trees)) (as_group_same ms x (rows_same ms x))
       ∙ ap (λ m. and_then (behind header.rows m) (eval_chain no_trees)) (whole_means (compact_elements b) header.out ∙ means b header.out)
 
   rows_same : (ms : Lines) (x : Flow) → member_rows (compact_members ms) x ≡ member_rows (members_of ms) x
@@ -124,22 +124,22 @@ mutual
       ap (and_tree (one (number_task k t))) (at _ _ _ _ (compact_elements l) refl (omega arith) ∙ number_compact l _ g)
   number_compact (group_end _ ms) k g = ap (λ x. and_tree (group g x) no_trees) (number_members ms k (g + 1))
   number_compact (chord_end _ ms b) k g =
-      (λ i. and_tree (chord g (number_members ms k (g + 1) i) (number (k + count_members ms i) (g + 1 + groups_members ms i) (whole (compact_elements b)))) no_trees)
+      (λ i. and_tree (chord g (number_members ms k (g + 1) i) (number (k + count_members ms i) (g + 1 + groups_members ms i) (element_or_chain (compact_elements b)))) no_trees)
       ∙ ap (λ x. and_tree (chord g (compact_members (number_lines k (g + 1) ms)) x) no_trees)
-      (whole_number (compact_elements b) _ _ ∙ ap whole (number_compact b (k + count_lines ms) (g + 1 + lines_groups ms)))
+      (whole_number (compact_elements b) _ _ ∙ ap element_or_chain (number_compact b (k + count_lines ms) (g + 1 + lines_groups ms)))
 
   number_members : (ms : Lines) (k g : ℕ) → number_all k g (compact_members ms) ≡ compact_members (number_lines k g ms)
   number_members no_lines k g = refl
   number_members (and_line m ms) k g =
       (λ i. and_tree (whole_number (compact_elements m) k g i) (number_all (k + (whole_count (compact_elements m) ∙ count_compact m) i) (g + (whole_groups (compact_elements m) ∙ groups_compact m) i) (compact_members ms)))
-      ∙ (λ i. and_tree (whole (number_compact m k g i)) (number_members ms (k + count_line m) (g + line_groups m) i))
+      ∙ (λ i. and_tree (element_or_chain (number_compact m k g i)) (number_members ms (k + count_line m) (g + line_groups m) i))
 
 -- ---- the law
 
 pub compact_same : (l : Line) → IsSame (compact l) (tree_of l)
 compact_same l =
     let n = number_line 1 1 l in
-    let numbers : numbered (compact l) ≡ compact n = whole_number (compact_elements l) 1 1 ∙ ap whole (number_compact l 1 1) in
+    let numbers : numbered (compact l) ≡ compact n = whole_number (compact_elements l) 1 1 ∙ ap element_or_chain (number_compact l 1 1) in
     let line : tree_of n ≡ numbered (tree_of l) = tree_numbered l in
     record {
       means = λ x. ap (λ t. eval t x) numbers ∙ whole_means (compact_elements n) x ∙ means n x ∙ ap (λ t. eval t x) line;

@@ -14,12 +14,12 @@ code_of BadEmbed = 7
 code_of Memory = 8
 
 -- as a refusal is printed
-abbrev pub name_of : MessageFault → List ℕ
-name_of NotJson = codes "NotJson"
-name_of NotVersion2 = codes "NotVersion2"
-name_of BadId = codes "BadId"
-name_of BadContentType = codes "BadContentType"
-name_of BadBody = codes "BadBody"
-name_of BadArgs = codes "BadArgs"
-name_of BadEmbed = codes "BadEmbed"
-name_of Memory = codes "Memory"
+abbrev pub printed_name : MessageFault → List ℕ
+printed_name NotJson = codes "NotJson"
+printed_name NotVersion2 = codes "NotVersion2"
+printed_name BadId = codes "BadId"
+printed_name BadContentType = codes "BadContentType"
+printed_name BadBody = codes "BadBody"
+printed_name BadArgs = codes "BadArgs"
+printed_name BadEmbed = codes "BadEmbed"
+printed_name Memory = codes "Memory"

@@ -14,7 +14,7 @@ use Rattle.canvas_runs.specs.Core.{take, send, keep, part, read, pause, taken, s
 use Rattle.canvas_runs.specs.Lists.{by, at}
 use Rattle.canvas_runs.specs.Turns.{Step, HasEnded, IsWorker, AllEnded, Begins, round, rounds, queue_after, queue_next, results_after, results_next, says_first}
 use Rattle.canvas_runs.specs.TurnLaws.{ByTurns}
-use Rattle.canvas_runs.specs.Worker.{reading, sealed}
+use Rattle.canvas_runs.specs.Worker.{read_envelope, sealed}
 use Rattle.canvas_message.specs.Content.{Content}
 use Rattle.canvas_worker.specs.Asks.{Asked, Answer}
 use Rattle.canvas_worker.specs.Books.{no_book, book_in}
@@ -144,7 +144,7 @@ pub record IsDone (l : Line) (n most : ℕ) (turns : List ℕ) (s : Stage) : Typ
 
 -- the envelope of a message reads back as the message
 abbrev pub ReadsAs : Content → Type 0
-ReadsAs c = reading (sealed c) ≡ Ok c
+ReadsAs c = read_envelope (sealed c) ≡ Ok c
 
 -- cores that have done nothing yet
 abbrev pub AreNew : List Standing → Type 0

@@ -18,17 +18,17 @@ code_of TooDeep = 11
 code_of TooMany = 12
 code_of Memory = 13
 
-abbrev pub name_of : SigFault → List ℕ
-name_of TooLarge = codes "TooLarge"
-name_of NotJson = codes "NotJson"
-name_of NotSignature = codes "NotSignature"
-name_of UnknownPrimitive = codes "UnknownPrimitive"
-name_of BadArgs = codes "BadArgs"
-name_of BadNumber = codes "BadNumber"
-name_of OnCanvas = codes "OnCanvas"
-name_of Frozen = codes "Frozen"
-name_of EmptyChain = codes "EmptyChain"
-name_of NestedGroup = codes "NestedGroup"
-name_of TooDeep = codes "TooDeep"
-name_of TooMany = codes "TooMany"
-name_of Memory = codes "Memory"
+abbrev pub printed_name : SigFault → List ℕ
+printed_name TooLarge = codes "TooLarge"
+printed_name NotJson = codes "NotJson"
+printed_name NotSignature = codes "NotSignature"
+printed_name UnknownPrimitive = codes "UnknownPrimitive"
+printed_name BadArgs = codes "BadArgs"
+printed_name BadNumber = codes "BadNumber"
+printed_name OnCanvas = codes "OnCanvas"
+printed_name Frozen = codes "Frozen"
+printed_name EmptyChain = codes "EmptyChain"
+printed_name NestedGroup = codes "NestedGroup"
+printed_name TooDeep = codes "TooDeep"
+printed_name TooMany = codes "TooMany"
+printed_name Memory = codes "Memory"

@@ -8,7 +8,7 @@ use Rattle.canvas_task.specs.declared.outcome.Outcome.TheVariants.{Success, Fail
 use Rattle.canvas_rewrite.specs.FrozenView.{Load}
 use Rattle.canvas_semantics.specs.PlacedLine.{p_task, no_p_tasks, p_nowhere}
 use Rattle.canvas_message.specs.Content.{Content}
-use Rattle.canvas_message.specs.ContentCode.{content_code}
+use Rattle.canvas_message.specs.codes.ContentCode.{content_code}
 
 -- a load as a message of no task
 abbrev of_load : Load → Content

@@ -15,7 +15,7 @@ use Rattle.canvas_runs.specs.Tally.{Tally as Counts}
 use Rattle.canvas_runs.specs.Turns.{FirstsRead}
 use Rattle.canvas_runs.specs.Worker.{sealed}
 use Rattle.canvas_worker.specs.declared.cause.Cause.{Cause}
-use Rattle.canvas_engine.specs.Slots.{IsReady, Parts, nothing_counted}
+use Rattle.canvas_engine.specs.steps.Slots.{IsReadySlot, SplitsOff, nothing_counted}
 use Rattle.canvas_engine.specs.declared.records.Tally.{Tally}
 use Rattle.canvas_engine.specs.declared.gathered.Gathered.{Gathered}
 use Rattle.canvas_engine.specs.declared.running.Start.{Start}
@@ -25,8 +25,8 @@ pub record IsStart (l : Line) (n : ℕ) (s : Start) : Type 0 where
   pub plan : s.backend.plan ≡ roster_of l
   pub own : (s.pass.of ≡ s.broker) × (s.seat.of ≡ s.backend.id)
   pub count : length s.slots.items ≡ n
-  pub ready : All (IsReady s.broker s.backend.id) s.slots.items
-  pub parts : Parts (roster_of l) 1 (first_pass s.broker) (first_seat s.backend.id) s.slots.items s.pass s.seat
+  pub ready : All (IsReadySlot s.broker s.backend.id) s.slots.items
+  pub parts : SplitsOff (roster_of l) 1 (first_pass s.broker) (first_seat s.backend.id) s.slots.items s.pass s.seat
   pub envelopes : s.envelopes.items ≡ map sealed (first_messages l)
   pub back : FirstsRead l
   pub rows : length s.rows.items ≡ count_line l

@@ -1,7 +1,7 @@
 -- Workers' places in a run on threads: what each begins with, and what it leaves.
---     IsPart plan k p s slot p' s'     a place of number k, whose pass and seat were split off
---     Parts plan k p s slots p' s'     places made one after the other, numbered from k on
---     Ran plan before after            the worker of this place has run to its end, or was lost
+--     IsSplitOff plan k p s slot p' s'     a place of number k, whose pass and seat were split off
+--     SplitsOff plan k p s slots p' s'     places made one after the other, numbered from k on
+--     RanSlot plan before after            the worker of this place has run to its end, or was lost
 --     Takes plan p s slots p' s'       what the workers left, taken in one after the other
 use Rattle.std.specs.Prelude.{ℕ, suc, ◌≡◌, ◌<◌, List, [], ◌∷◌, length, slice_index_or, Option, Some, None}
 use Rattle.std.specs.Global.{Global}
@@ -23,32 +23,32 @@ abbrev pub HasHands : SegId Global → TableId → Post → Type 0
 HasHands b d (Ready q t) = (q.of ≡ b) × (t.of ≡ d)
 HasHands b d p = ⊥
 
-abbrev pub IsReady : SegId Global → TableId → Slot → Type 0
-IsReady b d slot = HasHands b d slot.post
+abbrev pub IsReadySlot : SegId Global → TableId → Slot → Type 0
+IsReadySlot b d slot = HasHands b d slot.post
 
-abbrev pub IsPart : Roster → ℕ → Pass → Seat → Slot → Pass → Seat → Type 0
-IsPart plan k p s slot p' s' = (slot.number ≡ k) × ((q : Pass) × (t : Seat) × (slot.post ≡ Ready q t) × passes.Parted p p' q × seats.Parted plan s s' t)
+abbrev pub IsSplitOff : Roster → ℕ → Pass → Seat → Slot → Pass → Seat → Type 0
+IsSplitOff plan k p s slot p' s' = (slot.number ≡ k) × ((q : Pass) × (t : Seat) × (slot.post ≡ Ready q t) × passes.Parted p p' q × seats.Parted plan s s' t)
 
-abbrev pub Parts : Roster → ℕ → Pass → Seat → List Slot → Pass → Seat → Type 0
-Parts plan k p s [] p' s' = (p' ≡ p) × (s' ≡ s)
-Parts plan k p s (slot ∷ slots) p' s' = (q : Pass) × (t : Seat) × IsPart plan k p s slot q t × Parts plan (suc k) q t slots p' s'
+abbrev pub SplitsOff : Roster → ℕ → Pass → Seat → List Slot → Pass → Seat → Type 0
+SplitsOff plan k p s [] p' s' = (p' ≡ p) × (s' ≡ s)
+SplitsOff plan k p s (slot ∷ slots) p' s' = (q : Pass) × (t : Seat) × IsSplitOff plan k p s slot q t × SplitsOff plan (suc k) q t slots p' s'
 
 -- a worker's pass and seat are lost only with its record
-abbrev pub Leaves : Roster → ℕ → Post → Post → Type 0
-Leaves plan n (Ready q t) (Done r) = Finished plan n q t r
-Leaves plan n (Ready q t) Lost = Unit {0}
-Leaves plan n x y = ⊥
+abbrev pub LeavesPost : Roster → ℕ → Post → Post → Type 0
+LeavesPost plan n (Ready q t) (Done r) = Finished plan n q t r
+LeavesPost plan n (Ready q t) Lost = Unit {0}
+LeavesPost plan n x y = ⊥
 
-abbrev pub Ran : Roster → Slot → Slot → Type 0
-Ran plan before after = (after.number ≡ before.number) × Leaves plan before.number before.post after.post
+abbrev pub RanSlot : Roster → Slot → Slot → Type 0
+RanSlot plan before after = (after.number ≡ before.number) × LeavesPost plan before.number before.post after.post
 
 abbrev pub AllRan : Roster → List Slot → List Slot → Type 0
-AllRan plan before after = (i : ℕ) (d : Slot) → i < length before → Ran plan (slice_index_or before i d) (slice_index_or after i d)
+AllRan plan before after = (i : ℕ) (d : Slot) → i < length before → RanSlot plan (slice_index_or before i d) (slice_index_or after i d)
 
 -- the worker has left a record
-abbrev pub IsDone : Post → Type 0
-IsDone (Done r) = Unit {0}
-IsDone p = ⊥
+abbrev pub HasEnded : Post → Type 0
+HasEnded (Done r) = Unit {0}
+HasEnded p = ⊥
 
 -- a record without a fault
 abbrev pub IsWell : Post → Type 0
@@ -56,13 +56,13 @@ IsWell (Done r) = r.fault ≡ None
 IsWell p = ⊥
 
 -- what was left is of this broker and this backend
-abbrev pub IsOf : SegId Global → TableId → Post → Type 0
-IsOf b d (Done r) = (r.pass.of ≡ b) × (r.seat.of ≡ d)
-IsOf b d p = ⊥
+abbrev pub IsPostOf : SegId Global → TableId → Post → Type 0
+IsPostOf b d (Done r) = (r.pass.of ≡ b) × (r.seat.of ≡ d)
+IsPostOf b d p = ⊥
 
 abbrev pub AreOf : SegId Global → TableId → List Slot → Type 0
 AreOf b d [] = Unit {0}
-AreOf b d (slot ∷ slots) = IsOf b d slot.post × AreOf b d slots
+AreOf b d (slot ∷ slots) = IsPostOf b d slot.post × AreOf b d slots
 
 abbrev pub Takes : Roster → Pass → Seat → List Slot → Pass → Seat → Type 0
 Takes plan p s [] p' s' = (p' ≡ p) × (s' ≡ s)

@@ -1,7 +1,8 @@
 -- Pieces of a report, as they are written one after the other.
 use Rattle.std.specs.Prelude.{ℕ, [], ◌∷◌, ◌++◌, Option, Some, None, codes}
 use Rattle.canvas_semantics.specs.Evaluation.{Rows, state_of}
-use Rattle.canvas_semantics.specs.Report.{Text, line, value_text}
+use Rattle.canvas_task.specs.Text.{Text}
+use Rattle.canvas_semantics.specs.Report.{line, value_text}
 
 -- the line of a task that has this name
 abbrev pub line_if : ℕ → Option Text → Rows → Text

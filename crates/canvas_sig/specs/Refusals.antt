@@ -5,7 +5,8 @@ use Rattle.canvas_task.specs.declared.arg.Arg.{Arg}
 use Rattle.canvas_sig.specs.declared.fault.SigFault.{SigFault}
 use Rattle.canvas_sig.specs.declared.primitive.Primitive.{Primitive}
 use Rattle.canvas_sig.specs.declared.primitive.Primitive.TheVariants as kind
-use Rattle.canvas_sig.specs.Fields.{Text, field, subtype, args, kwargs, tasks, header, body, link, link_error, items, listed, as_list, members, is_true, text_of}
+use Rattle.canvas_task.specs.Text.{Text}
+use Rattle.canvas_sig.specs.Fields.{field, subtype, args, kwargs, tasks, header, body, link, link_error, items, listed, as_list, object_members, is_true, text_of}
 use Rattle.canvas_sig.specs.Reading.{◌or_else◌, argument_of, own_fault, primitive_of, members_in}
 use Rattle.canvas_semantics.specs.Tree.{Call, Task, task, Tree, one, chain, group, chord, Trees}
 use Rattle.canvas_sig.specs.View.{tasks_of, trees_of}
@@ -37,18 +38,18 @@ fault_within (suc n) linked d =
 abbrev pub named_of : Text × Data → Text × Arg
 named_of e = (e.0, argument_of e.1)
 
-abbrev pub call_of : Data → Call
-call_of d = record {
+abbrev pub spelled_call : Data → Call
+spelled_call d = record {
   name = text_of (field (codes "task") d);
   args = map argument_of (listed (args d));
-  kwargs = map named_of (members (kwargs d));
+  kwargs = map named_of (object_members (kwargs d));
   immutable = is_true (field (codes "immutable") d);
 }
 
 abbrev pub task_within : ℕ → Data → Task
-task_within zero d = task 0 (call_of d) (tasks_of []) (tasks_of [])
+task_within zero d = task 0 (spelled_call d) (tasks_of []) (tasks_of [])
 task_within (suc n) d =
-    task 0 (call_of d) (tasks_of (map (task_within n) (as_list (link d)))) (tasks_of (map (task_within n) (as_list (link_error d))))
+    task 0 (spelled_call d) (tasks_of (map (task_within n) (as_list (link d)))) (tasks_of (map (task_within n) (as_list (link_error d))))
 
 -- the members of a header, which is a list, or one group signature
 abbrev pub header_of : (Data → Tree) → Data → Trees

@@ -1,12 +1,12 @@
 -- Lists of tasks and of lines, numbered one after another, with no place in them.
 use Rattle.std.specs.Prelude.{ℕ, ◌+◌, ◌≤◌, List, [], ◌∷◌, ◌++◌}
 use Rattle.canvas_semantics.specs.Tree.{Task, count_task, number_task}
-use Rattle.canvas_semantics.specs.Line.{Line, count_line, line_groups, number_line, ends_of, teams, Team, task_names, names}
+use Rattle.canvas_semantics.specs.Line.{Line, count_line, line_groups, number_line, ends_of, group_entries, GroupEntry, task_names, names}
 use Rattle.canvas_semantics.specs.PlacedLine.{PTask, bare_task, PLine, bare}
 
 -- the largest number of a task or group
-abbrev pub most : ℕ
-most = 4294967295
+abbrev pub greatest_number : ℕ
+greatest_number = 4294967295
 
 -- tasks numbered one after another from a number on, and how many there are
 abbrev pub tasks_from : ℕ → List Task → List PTask
@@ -26,22 +26,22 @@ abbrev pub lines_count : List Line → ℕ
 lines_count [] = 0
 lines_count (l ∷ ls) = count_line l + lines_count ls
 
-abbrev pub lines_teams : List Line → ℕ
-lines_teams [] = 0
-lines_teams (l ∷ ls) = line_groups l + lines_teams ls
+abbrev pub lines_group_count : List Line → ℕ
+lines_group_count [] = 0
+lines_group_count (l ∷ ls) = line_groups l + lines_group_count ls
 
 -- n tasks and m groups can be numbered from k and g on
 abbrev pub HasRoom : ℕ → ℕ → ℕ → ℕ → Type 0
-HasRoom k g n m = (1 ≤ k) × (1 ≤ g) × (k + n ≤ most) × (g + m ≤ most)
+HasRoom k g n m = (1 ≤ k) × (1 ≤ g) × (k + n ≤ greatest_number) × (g + m ≤ greatest_number)
 
 -- what the lines of a list end in, their groups and chords, and the names of tasks and lines, one after another
 abbrev pub lines_ends : List Line → List ℕ
 lines_ends [] = []
 lines_ends (l ∷ ls) = ends_of l ++ lines_ends ls
 
-abbrev pub lines_all_teams : List Line → List Team
-lines_all_teams [] = []
-lines_all_teams (l ∷ ls) = teams l ++ lines_all_teams ls
+abbrev pub lines_group_entries : List Line → List GroupEntry
+lines_group_entries [] = []
+lines_group_entries (l ∷ ls) = group_entries l ++ lines_group_entries ls
 
 abbrev pub tasks_all_names : List Task → List (List ℕ)
 tasks_all_names [] = []

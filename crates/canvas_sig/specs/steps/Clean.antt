@@ -5,11 +5,11 @@ use Rattle.std.specs.declared.cmp.Ordering.TheVariants.{Greater}
 use Rattle.std.specs.Cmp.Lexicographic.{slice_cmp}
 use Rattle.serde_json.specs.Data.{Num, unsigned, negative, float, Data, null, boolean, number, string, array, object, Items, no_items, item, Members, no_members, member}
 
-abbrev pub IsWhole : Num → Type 0
-IsWhole (unsigned n) = n < 2 ^ 64
-IsWhole (negative (pos n)) = ⊥
-IsWhole (negative (negsuc n)) = n < 2 ^ 63
-IsWhole (float x) = ⊥
+abbrev pub IsWholeNumber : Num → Type 0
+IsWholeNumber (unsigned n) = n < 2 ^ 64
+IsWholeNumber (negative (pos n)) = ⊥
+IsWholeNumber (negative (negsuc n)) = n < 2 ^ 63
+IsWholeNumber (float x) = ⊥
 
 -- k is above each name
 abbrev pub IsAbove : List ℕ → Members → Type 0
@@ -17,15 +17,15 @@ IsAbove k no_members = Unit {0}
 IsAbove k (member l d ms) = (slice_cmp nat_cmp k l ≡ Greater) × IsAbove k ms
 
 -- a member behind those before
-abbrev pub behind : Members → List ℕ → Data → Members
-behind no_members k d = member k d no_members
-behind (member l e ms) k d = member l e (behind ms k d)
+abbrev pub behind_members : Members → List ℕ → Data → Members
+behind_members no_members k d = member k d no_members
+behind_members (member l e ms) k d = member l e (behind_members ms k d)
 
 abbrev mutual
   pub IsClean : Data → Type 0
   IsClean null = Unit {0}
   IsClean (boolean b) = Unit {0}
-  IsClean (number n) = IsWhole n
+  IsClean (number n) = IsWholeNumber n
   IsClean (string s) = Unit {0}
   IsClean (array ds) = AreClean ds
   IsClean (object ms) = MembersClean no_members ms
@@ -37,4 +37,4 @@ abbrev mutual
   -- behind those before, in their order
   pub MembersClean : Members → Members → Type 0
   MembersClean before no_members = Unit {0}
-  MembersClean before (member k d ms) = IsAbove k before × IsClean d × MembersClean (behind before k d) ms
+  MembersClean before (member k d ms) = IsAbove k before × IsClean d × MembersClean (behind_members before k d) ms

@@ -25,10 +25,10 @@ abbrev mutual
   sigs_reach (and_task t ts) = max (sig_reach 0 t) (sigs_reach ts)
 
 -- the reach of the whole line
-abbrev pub whole : LineReach → ℕ
-whole Empty = 0
-whole (One r) = r
-whole (More r) = above r
+abbrev pub reach_of_line : LineReach → ℕ
+reach_of_line Empty = 0
+reach_of_line (One r) = r
+reach_of_line (More r) = above r
 
 -- a chord, by how its members' greatest reach follows from its body's, and by its body's
 abbrev pub chord_reach : (ℕ → ℕ) → ℕ → LineReach
@@ -51,7 +51,7 @@ abbrev mutual
   onto_reach (one t) after c = task_onto t after c
   onto_reach (chain ts) after c = all_onto_reach ts after c
   onto_reach (group g ms) after c = group_reach (greatest ms) after
-  onto_reach (chord g h b) after c = chord_reach (greatest h) (whole (onto_reach b after c))
+  onto_reach (chord g h b) after c = chord_reach (greatest h) (reach_of_line (onto_reach b after c))
 
   pub all_onto_reach : Trees → LineReach → ℕ → LineReach
   all_onto_reach no_trees after c = after
@@ -60,4 +60,4 @@ abbrev mutual
   -- the greatest of members' reaches
   pub greatest : Trees → ℕ → ℕ
   greatest no_trees c = 0
-  greatest (and_tree t ts) c = max (whole (onto_reach t Empty c)) (greatest ts c)
+  greatest (and_tree t ts) c = max (reach_of_line (onto_reach t Empty c)) (greatest ts c)

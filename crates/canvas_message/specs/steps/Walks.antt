@@ -13,7 +13,7 @@ use Rattle.canvas_semantics.specs.PlacedLine.{PTask, PTasks, PPlace, p_nowhere, 
 use Rattle.canvas_message.specs.Content.{Content, number_of}
 use Rattle.canvas_message.specs.Effects.{message, enter, stores_in, messages_in, part_in, part_of, Part}
 use Rattle.canvas_message.specs.Fits.{how_many}
-use Rattle.canvas_message.specs.Flowing.{Input, nothing, number, numbers, ident, Flow, run, skip, raise}
+use Rattle.canvas_message.specs.Flowing.{Input, no_input, number_input, list_input, id_input, LineFlow, run, skips, raise}
 use Rattle.canvas_message.specs.Placing.{last_at, placed, end_place, last_task}
 use Rattle.canvas_message.specs.declared.input.Input as the_input
 use Rattle.canvas_message.specs.declared.input.Input.TheVariants as given
@@ -21,10 +21,10 @@ use Rattle.canvas_message.specs.declared.input.Input.TheVariants as given
 -- ---- what the code has
 
 abbrev pub input_seen : the_input.Input → Input
-input_seen given.Nothing = nothing
-input_seen (given.Number n) = number n
-input_seen (given.Numbers ns) = numbers ns
-input_seen (given.Ident k) = ident k
+input_seen given.Nothing = no_input
+input_seen (given.Number n) = number_input n
+input_seen (given.Numbers ns) = list_input ns
+input_seen (given.Ident k) = id_input k
 
 -- what a line ends in
 abbrev pub tail_seen : Option (Box FrozenEnd Global) → PLine
@@ -78,7 +78,7 @@ abbrev pub skipped_tasks : Fault → List PTask → List (ℕ × Outcome)
 skipped_tasks f ts = map (λ t. (number_of t, Failure f)) ts
 
 abbrev pub skipped : Fault → PLine → List (ℕ × Outcome)
-skipped f l = stores_in (enter l (skip f) p_nowhere 0 None)
+skipped f l = stores_in (enter l (skips f) p_nowhere 0 None)
 
 abbrev pub all_skipped : Fault → List PLine → List (ℕ × Outcome)
 all_skipped f [] = []

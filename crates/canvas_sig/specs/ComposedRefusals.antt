@@ -8,14 +8,14 @@ use Rattle.canvas_task.specs.declared.arg.Arg.{Arg}
 use Rattle.canvas_task.specs.declared.arg.Arg.TheVariants as arg
 use Rattle.canvas_sig.specs.declared.fault.SigFault.{SigFault}
 use Rattle.canvas_sig.specs.declared.fault.SigFault.TheVariants.{NotSignature, BadNumber, EmptyChain}
-use Rattle.canvas_sig.specs.Limits.{tree_fault}
+use Rattle.canvas_sig.specs.LimitRefusals.{tree_fault}
 use Rattle.canvas_sig.specs.Reading.{◌or_else◌, fault_if}
 use Rattle.canvas_semantics.specs.Tree.{Call, Task, task, Tasks, no_tasks, and_task, Tree, one, chain, group, chord, Trees, no_trees, and_tree}
 
 -- the fault that a check found
-abbrev pub fault_of : Result (Unit {0}) SigFault → Option SigFault
-fault_of (Ok x) = None
-fault_of (Err e) = Some e
+abbrev pub refusal_of : Result (Unit {0}) SigFault → Option SigFault
+refusal_of (Ok x) = None
+refusal_of (Err e) = Some e
 
 -- each number in it is in range
 abbrev pub arg_ok : Arg → Bool
@@ -23,11 +23,11 @@ arg_ok (arg.Num n) = in_range n
 arg_ok (arg.List ns) = list_all in_range ns
 arg_ok (arg.Text s) = true
 
-abbrev pub numbers_ok : Call → Bool
-numbers_ok c = list_all arg_ok c.args && list_all (λ e. arg_ok e.1) c.kwargs
+abbrev pub call_numbers_ok : Call → Bool
+call_numbers_ok c = list_all arg_ok c.args && list_all (λ e. arg_ok e.1) c.kwargs
 
 abbrev pub call_fault : Call → Option SigFault
-call_fault c = fault_if (not (name_ok c.name)) NotSignature or_else fault_if (not (numbers_ok c)) BadNumber
+call_fault c = fault_if (not (name_ok c.name)) NotSignature or_else fault_if (not (call_numbers_ok c)) BadNumber
 
 abbrev pub its_call : Task → Call
 its_call (task k call links errbacks) = call

@@ -1,0 +1,4 @@
+pub mod Stages
+pub mod ReportRows
+pub mod Crews
+pub mod Slots

@@ -1,0 +1,5 @@
+pub mod Budget
+pub mod Clean
+pub mod Ending
+pub mod LineReach
+pub mod Tokens
