@@ -1,10 +1,9 @@
 -- A line as a signature means what the line means.
-use Rattle.std.proofs.Common.{◌≡◌, ◌∙◌, ℕ, ◌+◌, ◌++◌, List, [], ◌∷◌, map, Option, Some, None, Box, Global, refl, sym, ap, subst, arith, rules}
+use Rattle.std.proofs.Common.{◌≡◌, ◌∙◌, ℕ, ◌+◌, ◌++◌, List, [], ◌∷◌, append-nil, refl, sym, ap, arith}
 use Rattle.canvas_semantics.specs.Tree.{Task, task, Tree, one, chain, group, chord, Trees, no_trees, and_tree, ends_in_group, last_in_group, count, count_all, count_groups, count_all_groups, number, number_all, numbered, number_task}
-use Rattle.canvas_sig.specs.View.{view, task_view, trees_of}
-use Rattle.canvas_sig.specs.declared.task_sig.TaskSig.{TaskSig}
 use Rattle.canvas_semantics.specs.Compact.{element_or_chain, compact, compact_elements, compact_members}
 use Rattle.canvas_semantics.specs.Evaluation.{Flow, Rows, Meaning, ends, last_ends, all_ends, behind, and_then, group_value, with_states, as_group, eval, eval_chain, member_rows}
+use Rattle.canvas_semantics.specs.Groups.{groups_of, all_groups_of}
 use Rattle.canvas_semantics.specs.Line.{Line, stop, step, group_end, chord_end, Lines, no_lines, and_line, elements_of, members_of, tree_of, number_line, number_lines, count_line, count_lines, line_groups, lines_groups}
 use Rattle.canvas_semantics.specs.SameMeaning.{IsSame}
 use Rattle.canvas_semantics.proofs.NormalLaw.{and_then_nothing}
@@ -66,6 +65,29 @@ group_same (step t (group_end g ms)) = refl
 group_same (step t (chord_end g ms b)) = whole_group (compact_elements b) ∙ group_same b
 group_same (group_end g ms) = refl
 group_same (chord_end g ms b) = whole_group (compact_elements b) ∙ group_same b
+
+-- ---- groups and chords
+
+whole_groups_of : (ts : Trees) → groups_of (element_or_chain ts) ≡ all_groups_of ts
+whole_groups_of no_trees = refl
+whole_groups_of (and_tree t no_trees) = sym (append-nil (groups_of t))
+whole_groups_of (and_tree t (and_tree u us)) = refl
+
+-- a group or chord with what its members end in, before what comes after
+abbrev headed : ℕ → List ℕ → List (ℕ × List ℕ) → List (ℕ × List ℕ) → List (ℕ × List ℕ)
+headed g es inner more = (g, es) ∷ inner ++ more
+
+mutual
+  groups_kept : (l : Line) → all_groups_of (compact_elements l) ≡ all_groups_of (elements_of l)
+  groups_kept stop = refl
+  groups_kept (step t l) = groups_kept l
+  groups_kept (group_end g ms) = λ i. headed g (all_ends_same ms i) (all_groups_kept ms i) []
+  groups_kept (chord_end g ms b) =
+      λ i. headed g (all_ends_same ms i) (all_groups_kept ms i) ((whole_groups_of (compact_elements b) ∙ groups_kept b) i) ++ []
+
+  all_groups_kept : (ms : Lines) → all_groups_of (compact_members ms) ≡ all_groups_of (members_of ms)
+  all_groups_kept no_lines = refl
+  all_groups_kept (and_line m ms) = λ i. (whole_groups_of (compact_elements m) ∙ groups_kept m) i ++ all_groups_kept ms i
 
 -- ---- evaluation
 
@@ -145,4 +167,5 @@ compact_same l =
       means = λ x. ap (λ t. eval t x) numbers ∙ whole_means (compact_elements n) x ∙ means n x ∙ ap (λ t. eval t x) line;
       ends_alike = ap ends numbers ∙ whole_ends (compact_elements n) ∙ ends_same n ∙ ap ends line;
       in_group_alike = ap ends_in_group numbers ∙ whole_group (compact_elements n) ∙ group_same n ∙ ap ends_in_group line;
+      groups_alike = ap groups_of numbers ∙ whole_groups_of (compact_elements n) ∙ groups_kept n ∙ ap groups_of line;
     }
