@@ -108,15 +108,16 @@ impl Broker {
     {
         let mut items = ArrayVec::new();
         let head = self.queue.head(&mut pass.pass);
-        if let Ok(Some(mut batch)) = self
-            .queue
-            .try_pop_batch::<Taken, R>(rt, &mut pass.pass, head, MOST)
-        {
-            while batch.len() > 0 {
-                items.push(self.queue.next_of(rt, &mut pass.pass, &mut batch));
-            }
-            batch.finish();
+        let Ok(Some(mut batch)) =
+            self.queue
+                .try_pop_batch::<Taken, R>(rt, &mut pass.pass, head, MOST)
+        else {
+            return Batch { items };
+        };
+        while batch.len() > 0 {
+            items.push(self.queue.next_of(rt, &mut pass.pass, &mut batch));
         }
+        batch.finish();
         Batch { items }
     }
 

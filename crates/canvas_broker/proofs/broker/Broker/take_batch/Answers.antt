@@ -2,7 +2,7 @@ use Rattle.std.proofs.Common.{rules, arith, ◌≡◌, ◌≤◌, suc, ◌+◌, 
 use Rattle.std.specs.Global.{Global}
 use Rattle.crossbeam_queue.specs.Fifo.{Admits}
 use Rattle.crossbeam_queue.specs.SegTies.{SegId, IsSegPassOf}
-use Rattle.arrayvec.specs.ArrayVec.{ArrayVec, array_vec_len}
+use Rattle.arrayvec.specs.ArrayVec.{array_vec_len}
 use Rattle.crossbeam_queue.specs.SegBatches.{Holds}
 use Rattle.canvas_message.specs.declared.envelope.Envelope.{Envelope}
 use Rattle.canvas_history.proofs.Histories.{In}
@@ -13,7 +13,6 @@ use Rattle.canvas_broker.proofs.Keeps.{misses}
 use Rattle.canvas_broker.proofs.Begins.{admits}
 use Rattle.canvas_broker.proofs.Batches.{takes_many, first_rest, no_rest}
 use Rattle.canvas_broker.proofs.Made.{took_own}
-use Rattle.canvas_broker.proofs.broker.Broker.take_batch.Goals.{in-Ok-Some+else-loop-self-test, in-Ok+in-None-1, in-Err-1}
 use Rattle.canvas_broker.proofs.broker.Broker.take_batch.Goals as goal
 
 pub try_pop_batch-requires-clause-rule : goal.try_pop_batch-requires-clause-rule
@@ -71,21 +70,8 @@ loop-self-preserved g c =
 pub returns-clause-own : goal.returns-clause-own
 returns-clause-own g c =
     let here = subst (λ (p : Pass Envelope). In p.name p.mine) c.pass.view_is c.pass.invariant.2.0 in
-    elim c.match-try_pop_batch.branch [
-      | in-Ok-Some+else-loop-self-test w ↦
-          let i = w.loop-self.invariant in
-          let none : w.loop-self.batch.len ≡ 0 = search rules in
-          let all : w.loop-self.items.items ++ i.2.0 ≡ c.match-try_pop_batch.items.items = ap (λ l. w.loop-self.items.items ++ l) (no_rest i.2.0 (i.2.1.8 ∙ none)) ∙ (append-nil w.loop-self.items.items ∙ sym (ap (λ (x : ArrayVec (Option Envelope)). x.items) w.items-is)) in
-          took_own c.args.pass.now (envelopes c.match-try_pop_batch.items.items) c.match-try_pop_batch.pass here
-          (subst (λ (x : List (Option Envelope) × Pass Envelope). Took c.args.pass.now (envelopes x.0) x.1) (λ j. (all j, sym w.pass-is j)) i.2.2)
-      | in-Ok+in-None-1 w ↦
-          let none : c.match-try_pop_batch.items.items ≡ [] = search rules in
-          let same : c.match-try_pop_batch.pass ≡ c.args.pass.now = search rules in
-          took_own c.args.pass.now (envelopes c.match-try_pop_batch.items.items) c.match-try_pop_batch.pass here
-          (subst (λ (x : List (Option Envelope)). Took c.args.pass.now (envelopes x) c.match-try_pop_batch.pass) (sym none) same)
-      | in-Err-1 w ↦
-          let none : c.match-try_pop_batch.items.items ≡ [] = search rules in
-          let same : c.match-try_pop_batch.pass ≡ c.args.pass.now = search rules in
-          took_own c.args.pass.now (envelopes c.match-try_pop_batch.items.items) c.match-try_pop_batch.pass here
-          (subst (λ (x : List (Option Envelope)). Took c.args.pass.now (envelopes x) c.match-try_pop_batch.pass) (sym none) same)
-    ]
+    let i = c.loop-self.invariant in
+    let none : c.loop-self.batch.len ≡ 0 = search rules in
+    let new : Pass Envelope = pass_of (record { web = c.loop-self.pass-inside.pass.web; heap = c.loop-self.pass-inside.pass.heap }) c.loop-self.pass-inside.pass.me.view.client.knows in
+    let all : c.loop-self.items.items ++ i.2.0 ≡ c.loop-self.items.items = ap (λ l. c.loop-self.items.items ++ l) (no_rest i.2.0 (i.2.1.8 ∙ none)) ∙ append-nil c.loop-self.items.items in
+    took_own c.args.pass.now (envelopes c.loop-self.items.items) new here (subst (λ (x : List (Option Envelope)). Took c.args.pass.now (envelopes x) new) all i.2.2)
