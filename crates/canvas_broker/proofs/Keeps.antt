@@ -11,7 +11,7 @@ use Rattle.canvas_history.specs.History.{split, join, calls, among, by_of, live_
 use Rattle.canvas_history.proofs.Histories.{In, in_cases, in_here, in_left, in_right, in_append, live_append, named_append, live_named, state_append, legal_append, legal_left, legal_right, was_there}
 use Rattle.canvas_history.specs.Callers.{told, Owes, Adds, Follows}
 use Rattle.canvas_history.proofs.CallerLaws.{owing}
-use Rattle.canvas_broker.specs.Broker.{Doing, publish, take, Line, answer, next, May, IsLegal, queue_of}
+use Rattle.canvas_broker.specs.Broker.{QueueCall, publish, take, QueueEntry, answer, next, May, IsLegal, queue_of}
 use Rattle.canvas_broker.specs.Passes.{Knowledge}
 use Rattle.canvas_broker.specs.steps.Rule.{envelopes, Orderly, IsReady, Heard, CameFrom, callers, Fits, IsKept, Kept, known, view_of, Publishes, Splits, Takes, Misses, parted, child, longer, united, spent, newcomer}
 use Rattle.canvas_broker.specs.declared.view.View.{View}
@@ -48,39 +48,39 @@ no_more cs c i = subst (λ l. In c l) (append-nil cs) i
 
 module _ {E : Type 0} where
   -- ---- entries by none of some callers
-  none_append : (cs : List ℕ) (xs ys : List (Line E)) → NoneBy cs xs → NoneBy cs ys → NoneBy cs (xs ++ ys)
+  none_append : (cs : List ℕ) (xs ys : List (QueueEntry E)) → NoneBy cs xs → NoneBy cs ys → NoneBy cs (xs ++ ys)
   none_append cs [] ys h k = k
   none_append cs (x ∷ xs) ys h k = (h.0, none_append cs xs ys h.1 k)
 
-  none_right : (cs : List ℕ) (xs ys : List (Line E)) → NoneBy cs (xs ++ ys) → NoneBy cs ys
+  none_right : (cs : List ℕ) (xs ys : List (QueueEntry E)) → NoneBy cs (xs ++ ys) → NoneBy cs ys
   none_right cs [] ys h = h
   none_right cs (x ∷ xs) ys h = none_right cs xs ys h.1
 
-  none_less : (cs ds : List ℕ) (xs : List (Line E)) → ((k : ℕ) → In k ds → In k cs) → NoneBy cs xs → NoneBy ds xs
+  none_less : (cs ds : List ℕ) (xs : List (QueueEntry E)) → ((k : ℕ) → In k ds → In k cs) → NoneBy cs xs → NoneBy ds xs
   none_less cs ds [] less h = tt
   none_less cs ds (x ∷ xs) less h = (out_of (by_of x) cs ds less h.0, none_less cs ds xs less h.1)
 
-  none_more : (cs ds : List ℕ) (xs : List (Line E)) → NoneBy cs xs → NoneBy ds xs → NoneBy (cs ++ ds) xs
+  none_more : (cs ds : List ℕ) (xs : List (QueueEntry E)) → NoneBy cs xs → NoneBy ds xs → NoneBy (cs ++ ds) xs
   none_more cs ds [] h k = tt
   none_more cs ds (x ∷ xs) h k = (
     ⊎_elim (λ t. absurd (⊎_elim (λ u. false≢true (sym h.0 ∙ u)) (λ u. false≢true (sym k.0 ∙ u)) (in_append (by_of x) cs ds t))) (λ f. f) (cases_Bool (among (by_of x) (cs ++ ds))),
     none_more cs ds xs h.1 k.1,
   )
 
-  pub none_of_none : (xs : List (Line E)) → NoneBy [] xs
+  pub none_of_none : (xs : List (QueueEntry E)) → NoneBy [] xs
   none_of_none [] = tt
   none_of_none (x ∷ xs) = (refl, none_of_none xs)
 
   -- ---- callers that a list names
-  is_live : (c : ℕ) (log : List (Line E)) → In c (live log) → (c ≡ 0) ⊎ In c (named log)
+  is_live : (c : ℕ) (log : List (QueueEntry E)) → In c (live log) → (c ≡ 0) ⊎ In c (named log)
   is_live c log h = ⊎_elim (λ t. ⊎_elim (λ (z : 0 ≡ c). inl (sym z)) (λ u. absurd (false≢true u)) (in_cases c 0 [] t)) (λ t. inr t) (live_named c (0 ∷ []) log h)
 
-  is_later : (c : ℕ) (cs : List ℕ) (xs log : List (Line E)) → Since cs log xs → (c ≡ 0) ⊎ In c (named xs) → (c ≡ 0) ⊎ In c (named log)
+  is_later : (c : ℕ) (cs : List ℕ) (xs log : List (QueueEntry E)) → Since cs log xs → (c ≡ 0) ⊎ In c (named xs) → (c ≡ 0) ⊎ In c (named log)
   is_later c cs xs log g h =
       ⊎_elim (λ z. inl z) (λ t. inr (subst (λ l. In c (named l)) (sym g.1) (subst (λ l. In c l) (sym (named_append xs g.0)) (in_left c (named xs) (named g.0) t)))) h
 
   -- ---- the first pass has begun
-  begun_of : (views : List (View E)) (log : List (Line E)) (owner : ℕ → ℕ) → (get_elem? views 0 ≡ some newcomer → (log ≡ []) × ((j : ℕ) (u : View E) → get_elem? views j ≡ some u → callers u ≡ []))
+  begun_of : (views : List (View E)) (log : List (QueueEntry E)) (owner : ℕ → ℕ) → (get_elem? views 0 ≡ some newcomer → (log ≡ []) × ((j : ℕ) (u : View E) → get_elem? views j ≡ some u → callers u ≡ []))
       → (pass : ℕ) (v w : View E) → get_elem? views pass ≡ some v → In v.knows.name v.knows.mine → (w ≡ newcomer → ⊥) → get_elem? (set views pass w) 0 ≡ some newcomer → ⊥
   begun_of views log owner begun pass v w at here not e =
       ⊎_elim (λ (t : (0 ≡ pass) × (w ≡ newcomer)). not t.1)
@@ -98,13 +98,13 @@ module _ {E : Type 0} where
   envelopes_append (Some x ∷ xs) ys = ap (λ l. x ∷ l) (envelopes_append xs ys)
 
   -- ---- an entry that may come next is by a live caller
-  by_live : (log : List (Line E)) (e : Line E) → Allowed [] answer next May log e → In (by_of e) (live log)
+  by_live : (log : List (QueueEntry E)) (e : QueueEntry E) → Allowed [] answer next May log e → In (by_of e) (live log)
   by_live log (split p q) a = a.0
   by_live log (join p q) a = a.0
   by_live log (calls p c r) a = a.0
 
   -- where no other caller is live, nothing was left out
-  pub sole_rest : (v : Knowledge E) (rest : List (Line E)) → Orderly v.name v.mine v.owed → In v.name v.mine → NoneBy v.mine rest → IsLegal (v.seen ++ rest) → Sole (told v) v.name → rest ≡ []
+  pub sole_rest : (v : Knowledge E) (rest : List (QueueEntry E)) → Orderly v.name v.mine v.owed → In v.name v.mine → NoneBy v.mine rest → IsLegal (v.seen ++ rest) → Sole (told v) v.name → rest ≡ []
   sole_rest v [] o here none legal sole = refl
   sole_rest v (e ∷ es) o here none legal sole =
       let alive : In (by_of e) (live v.seen) = by_live v.seen e (legal_right [] answer next May [] v.seen (e ∷ es) legal).0 in
@@ -113,16 +113,16 @@ module _ {E : Type 0} where
       ⊎_elim (λ (s : v.name ≡ by_of e). absurd (false≢true (sym none.0 ∙ subst (λ k. In k v.mine) s here))) (λ t. absurd (false≢true t)) (in_cases (by_of e) v.name [] only)
 
   -- ---- one pass adds its joins and an entry
-  abbrev pub tail_of : View E → Line E → List (Line E)
+  abbrev pub tail_of : View E → QueueEntry E → List (QueueEntry E)
   tail_of v e = v.knows.owed ++ e ∷ []
 
-  pub named_after : (v : View E) (log : List (Line E)) (e : Line E) → Orderly v.knows.name v.knows.mine v.knows.owed → named (log ++ tail_of v e) ≡ named log ++ named (e ∷ [])
+  pub named_after : (v : View E) (log : List (QueueEntry E)) (e : QueueEntry E) → Orderly v.knows.name v.knows.mine v.knows.owed → named (log ++ tail_of v e) ≡ named log ++ named (e ∷ [])
   named_after v log e o = named_append log (tail_of v e) ∙ ap (λ l. named log ++ l) (named_append v.knows.owed (e ∷ []) ∙ ap (λ l. l ++ named (e ∷ [])) (orderly_named v.knows.name v.knows.mine v.knows.owed o))
 
-  pub queue_after : (v : View E) (log : List (Line E)) → Orderly v.knows.name v.knows.mine v.knows.owed → queue_of (log ++ v.knows.owed) ≡ queue_of log
+  pub queue_after : (v : View E) (log : List (QueueEntry E)) → Orderly v.knows.name v.knows.mine v.knows.owed → queue_of (log ++ v.knows.owed) ≡ queue_of log
   queue_after v log o = state_append [] answer next May [] log v.knows.owed ∙ orderly_state v.knows.name v.knows.mine v.knows.owed (queue_of log) o
 
-  module _ (items : List (Option E)) (views : List (View E)) (log : List (Line E)) (owner : ℕ → ℕ) (kept : IsKept items views log owner) (pass : ℕ) (v : View E) (at : get_elem? views pass ≡ some v) (ready : IsReady v) where
+  module _ (items : List (Option E)) (views : List (View E)) (log : List (QueueEntry E)) (owner : ℕ → ℕ) (kept : IsKept items views log owner) (pass : ℕ) (v : View E) (at : get_elem? views pass ≡ some v) (ready : IsReady v) where
     pub orderly : Orderly v.knows.name v.knows.mine v.knows.owed
     orderly = (kept.fits pass v at).2 ready.0
 
@@ -139,12 +139,12 @@ module _ {E : Type 0} where
     pub unseen : NoneBy v.knows.mine (kept.fits pass v at).0.0
     unseen = none_less (callers v) v.knows.mine (kept.fits pass v at).0.0 (λ c h. in_left c v.knows.mine v.unborn h) (kept.fits pass v at).0.2
 
-    legal_tail : (e : Line E) → Allowed [] answer next May (log ++ v.knows.owed) e → IsLegal (log ++ tail_of v e)
+    legal_tail : (e : QueueEntry E) → Allowed [] answer next May (log ++ v.knows.owed) e → IsLegal (log ++ tail_of v e)
     legal_tail e may = legal_append [] answer next May [] log (tail_of v e) kept.legal
         (legal_append [] answer next May log v.knows.owed (e ∷ []) (orderly_legal v.knows.name v.knows.mine v.knows.owed log orderly alive) (may, tt))
 
     -- what the caller learns
-    extends : (e : Line E) → Allowed [] answer next May (log ++ v.knows.owed) e → Follows [] answer next May v.knows (e ∷ []) (log ++ tail_of v e)
+    extends : (e : QueueEntry E) → Allowed [] answer next May (log ++ v.knows.owed) e → Follows [] answer next May v.knows (e ∷ []) (log ++ tail_of v e)
     extends e may =
         let f = (kept.fits pass v at).0 in (
           f.0,
@@ -155,7 +155,7 @@ module _ {E : Type 0} where
         )
 
     -- the rule stays
-    pub adds : (items' : List (Option E)) (e : Line E) (owner' : ℕ → ℕ) (qs : List ℕ)
+    pub adds : (items' : List (Option E)) (e : QueueEntry E) (owner' : ℕ → ℕ) (qs : List ℕ)
         → by_of e ≡ v.knows.name
         → Allowed [] answer next May (log ++ v.knows.owed) e
         → state_from [] answer next May (queue_of log) (e ∷ []) ≡ envelopes items'
@@ -205,14 +205,14 @@ module _ {E : Type 0} where
         }
 
   -- ---- the steps
-  pub calls_stay : (p : ℕ) (d : Doing E) (a : Option E) (c : ℕ) (ds : List ℕ) → In c ds → In c (live_after ds (calls p d a))
+  pub calls_stay : (p : ℕ) (d : QueueCall E) (a : Option E) (c : ℕ) (ds : List ℕ) → In c ds → In c (live_after ds (calls p d a))
   calls_stay p d a c ds h = h
 
   pub publishes : (n pass : ℕ) (v : View E) (x : E) → IsReady v → Pushes Kept n pass v (Some x) (Publishes v (Some x))
   publishes n pass v x ready items views room h at =
       let log = h.0 in let owner = h.1 in let kept = h.2 in
       let o = orderly items views log owner kept pass v at ready in
-      let e : Line E = calls v.knows.name (publish x) None in
+      let e : QueueEntry E = calls v.knows.name (publish x) None in
       let may : Allowed [] answer next May (log ++ v.knows.owed) e = (caller_lives items views log owner kept pass v at ready, refl, tt) in
       let names : named (log ++ tail_of v e) ≡ named log = named_after v log e o ∙ append-nil (named log) in (
         view_of (known v.knows.name (live_from v.knows.mine v.knows.owed) (log ++ tail_of v e) []) [],
@@ -249,7 +249,7 @@ module _ {E : Type 0} where
   takes pass v ready (Some x) items views h at =
       let log = h.0 in let owner = h.1 in let kept = h.2 in
       let o = orderly (Some x ∷ items) views log owner kept pass v at ready in
-      let e : Line E = calls v.knows.name take (Some x) in
+      let e : QueueEntry E = calls v.knows.name take (Some x) in
       let front : queue_of (log ++ v.knows.owed) ≡ x ∷ envelopes items = queue_after v log o ∙ kept.replays in
       let may : Allowed [] answer next May (log ++ v.knows.owed) e = (caller_lives (Some x ∷ items) views log owner kept pass v at ready, sym (ap (λ s. answer s take) front), tt) in
       let names : named (log ++ tail_of v e) ≡ named log = named_after v log e o ∙ append-nil (named log) in (
@@ -271,7 +271,7 @@ module _ {E : Type 0} where
   misses pass v ready items views h at none =
       let log = h.0 in let owner = h.1 in let kept = h.2 in
       let o = orderly items views log owner kept pass v at ready in
-      let e : Line E = calls v.knows.name take None in
+      let e : QueueEntry E = calls v.knows.name take None in
       let front : queue_of (log ++ v.knows.owed) ≡ [] = queue_after v log o ∙ (kept.replays ∙ ap envelopes none) in
       let may : Allowed [] answer next May (log ++ v.knows.owed) e = (caller_lives items views log owner kept pass v at ready, sym (ap (λ s. answer s take) front), tt) in
       (log ++ tail_of v e, extends items views log owner kept pass v at ready e may)
@@ -281,7 +281,7 @@ module _ {E : Type 0} where
       let log = h.0 in let owner = h.1 in let kept = h.2 in
       let o = orderly items views log owner kept pass v at ready in
       let q : ℕ = suc (length (named log)) in
-      let e : Line E = split v.knows.name q in
+      let e : QueueEntry E = split v.knows.name q in
       let fresh : (c : ℕ) → In c (live log) → c ≡ q → ⊥ =
       λ c i e'. ⊎_elim (λ t. ⊎_elim (λ (z : 0 ≡ c). absurd (omega (arith, z, e'))) (λ t. false≢true t) (in_cases c 0 [] t))
       (λ t. let m = kept.numbered c t in absurd (omega (arith, m, e'))) (live_named c (0 ∷ []) log i) in
@@ -373,26 +373,26 @@ module _ {E : Type 0} where
       )
 
   -- ---- two passes come together
-  longer_mid : (xs ys r s : List (Line E)) → xs ++ r ≡ ys ++ s → length xs ≤ length ys → (mid : List (Line E)) × (ys ≡ xs ++ mid) × (r ≡ mid ++ s)
+  longer_mid : (xs ys r s : List (QueueEntry E)) → xs ++ r ≡ ys ++ s → length xs ≤ length ys → (mid : List (QueueEntry E)) × (ys ≡ xs ++ mid) × (r ≡ mid ++ s)
   longer_mid [] ys r s e h = (ys, refl, e)
   longer_mid (x ∷ xs) [] r s e h = absurd (omega (arith, h))
   longer_mid (x ∷ xs) (y ∷ ys) r s e h =
       let m = longer_mid xs ys r s (ap rest_of e) (omega (arith, h)) in (m.0, (λ i. first_or x (sym e i) ∷ m.1 i), m.2)
 
-  longer_rest : (xs ys r s : List (Line E)) → xs ++ r ≡ ys ++ s → length xs ≤ length ys → (mid : List (Line E)) × (r ≡ mid ++ s)
+  longer_rest : (xs ys r s : List (QueueEntry E)) → xs ++ r ≡ ys ++ s → length xs ≤ length ys → (mid : List (QueueEntry E)) × (r ≡ mid ++ s)
   longer_rest xs ys r s e h = let m = longer_mid xs ys r s e h in (m.0, m.2)
 
-  none_left : (cs : List ℕ) (xs ys : List (Line E)) → NoneBy cs (xs ++ ys) → NoneBy cs xs
+  none_left : (cs : List ℕ) (xs ys : List (QueueEntry E)) → NoneBy cs (xs ++ ys) → NoneBy cs xs
   none_left cs [] ys h = tt
   none_left cs (x ∷ xs) ys h = (h.0, none_left cs xs ys h.1)
 
   -- what is left of the history after the longer of two beginnings
-  pub longer_seen : (cs ds : List ℕ) (xs ys log : List (Line E))
-      → ((r : List (Line E)) × (log ≡ xs ++ r) × NoneBy cs r) → ((s : List (Line E)) × (log ≡ ys ++ s) × NoneBy ds s)
-      → (t : List (Line E)) × (log ≡ longer xs ys ++ t) × NoneBy (cs ++ ds) t
+  pub longer_seen : (cs ds : List ℕ) (xs ys log : List (QueueEntry E))
+      → ((r : List (QueueEntry E)) × (log ≡ xs ++ r) × NoneBy cs r) → ((s : List (QueueEntry E)) × (log ≡ ys ++ s) × NoneBy ds s)
+      → (t : List (QueueEntry E)) × (log ≡ longer xs ys ++ t) × NoneBy (cs ++ ds) t
   longer_seen cs ds xs ys log f g =
       let both : xs ++ f.0 ≡ ys ++ g.0 = sym f.1 ∙ g.1 in
-      let G : Bool → Type 0 = λ b. (t : List (Line E)) × (log ≡ cond b ys xs ++ t) × NoneBy (cs ++ ds) t in
+      let G : Bool → Type 0 = λ b. (t : List (QueueEntry E)) × (log ≡ cond b ys xs ++ t) × NoneBy (cs ++ ds) t in
       ⊎_elim
       (λ (e : nat_lt (length xs) (length ys) ≡ true).
       let m = longer_rest xs ys f.0 g.0 both (let l = ltb-true (length xs) (length ys) e in omega (arith, l)) in
@@ -402,8 +402,8 @@ module _ {E : Type 0} where
       subst G (sym e) (f.0, f.1, none_more cs ds f.0 f.2 (none_right ds m.0 f.0 (subst (λ l. NoneBy ds l) m.1 g.2))))
       (cases_Bool (nat_lt (length xs) (length ys)))
 
-  longer_goes : (cs ds : List ℕ) (xs ys log : List (Line E))
-      → ((r : List (Line E)) × (log ≡ xs ++ r) × NoneBy cs r) → ((s : List (Line E)) × (log ≡ ys ++ s) × NoneBy ds s)
+  longer_goes : (cs ds : List ℕ) (xs ys log : List (QueueEntry E))
+      → ((r : List (QueueEntry E)) × (log ≡ xs ++ r) × NoneBy cs r) → ((s : List (QueueEntry E)) × (log ≡ ys ++ s) × NoneBy ds s)
       → Since cs (longer xs ys) xs × Since ds (longer xs ys) ys
   longer_goes cs ds xs ys log f g =
       let both : xs ++ f.0 ≡ ys ++ g.0 = sym f.1 ∙ g.1 in
@@ -417,7 +417,7 @@ module _ {E : Type 0} where
       subst G (sym e) (([], sym (append-nil xs), tt), (m.0, m.1, none_left ds m.0 f.0 (subst (λ l. NoneBy ds l) m.2 g.2))))
       (cases_Bool (nat_lt (length xs) (length ys)))
 
-  longer_is : (xs ys : List (Line E)) → (longer xs ys ≡ xs) ⊎ (longer xs ys ≡ ys)
+  longer_is : (xs ys : List (QueueEntry E)) → (longer xs ys ≡ xs) ⊎ (longer xs ys ≡ ys)
   longer_is xs ys = ⊎_elim (λ (e : nat_lt (length xs) (length ys) ≡ true). inr (ap (λ b. cond b ys xs) e)) (λ (e : nat_lt (length xs) (length ys) ≡ false). inl (ap (λ b. cond b ys xs) e))
       (cases_Bool (nat_lt (length xs) (length ys)))
 

@@ -7,7 +7,7 @@ use Rattle.canvas_history.specs.Callers.{told, Adds}
 use Rattle.canvas_history.specs.History.{calls, made_by}
 use Rattle.canvas_history.proofs.CallerLaws.{AllBy, adds_all}
 use Rattle.canvas_history.proofs.Histories.{In, legal_right}
-use Rattle.canvas_broker.specs.Broker.{take, Line, answer, next, May, IsLegal, queue_of, takes_of}
+use Rattle.canvas_broker.specs.Broker.{take, QueueEntry, answer, next, May, IsLegal, queue_of, takes_of}
 use Rattle.canvas_broker.specs.Passes.{CallerAt, Knowledge, pass_of, Stands, CouldStand, Took, Empties}
 use Rattle.canvas_broker.specs.steps.Rule.{Splits, child, known, view_of}
 use Rattle.canvas_broker.specs.declared.view.View.{View}
@@ -33,7 +33,7 @@ module _ {E : Type 0} where
 
 module _ {I E : Type 0} where
   -- of a call
-  pub stands_own : (p : CallerAt I E) (e : Line E) (p' : CallerAt I E) → In p.name p.mine → AllBy p.name (e ∷ []) → Stands p e p' → Adds p (e ∷ []) p'
+  pub stands_own : (p : CallerAt I E) (e : QueueEntry E) (p' : CallerAt I E) → In p.name p.mine → AllBy p.name (e ∷ []) → Stands p e p' → Adds p (e ∷ []) p'
   stands_own p e p' here by s = adds_all [] answer next May p (e ∷ []) p' here by s.3 s.4
 
   -- of a batch
@@ -45,6 +45,6 @@ module _ {I E : Type 0} where
   pub empties : (p : CallerAt I E) → CouldStand p (calls p.name take None) → Empties p
   empties p m sole =
       let x = m.1 in
-      let last : List (Line E) = calls p.name take None ∷ [] in
+      let last : List (QueueEntry E) = calls p.name take None ∷ [] in
       let whole : m.0 ≡ told p ++ last = x.1 ∙ (ap (λ b. p.seen ++ (b ++ (p.owed ++ last))) (x.4 sole) ∙ sym (append_assoc p.seen p.owed last)) in
       answers_none (queue_of (told p)) (sym (legal_right [] answer next May [] (told p) last (subst (λ l. IsLegal l) whole x.3)).0.1)

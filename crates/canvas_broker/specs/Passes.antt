@@ -9,10 +9,10 @@ use Rattle.crossbeam_queue.specs.SegTies.{SegId}
 use Rattle.canvas_history.specs.Callers as callers
 use Rattle.canvas_history.specs.Callers.{Caller, told}
 use Rattle.canvas_history.specs.History.{Sole}
-use Rattle.canvas_broker.specs.Broker.{Doing, Line, answer, next, May, queue_of, takes_of}
+use Rattle.canvas_broker.specs.Broker.{QueueCall, QueueEntry, answer, next, May, queue_of, takes_of}
 
 abbrev pub CallerAt : Type 0 → Type 0 → Type 0
-CallerAt I E = Caller I (Doing E) (Option E)
+CallerAt I E = Caller I (QueueCall E) (Option E)
 
 abbrev pub Pass : Type 0 → Type 0
 Pass E = CallerAt (SegId Global) E
@@ -25,10 +25,10 @@ abbrev pub pass_of : {E : Type 0} → SegId Global → Knowledge E → Pass E
 pass_of b k = record { of = b; name = k.name; mine = k.mine; seen = k.seen; owed = k.owed }
 
 module _ {I E : Type 0} where
-  abbrev pub Stands : CallerAt I E → Line E → CallerAt I E → Type 0
+  abbrev pub Stands : CallerAt I E → QueueEntry E → CallerAt I E → Type 0
   Stands p e p' = callers.Stands [] answer next May p e p'
 
-  abbrev pub CouldStand : CallerAt I E → Line E → Type 0
+  abbrev pub CouldStand : CallerAt I E → QueueEntry E → Type 0
   CouldStand p e = callers.CouldStand [] answer next May p e
 
   abbrev pub Parted : CallerAt I E → CallerAt I E → CallerAt I E → Type 0

@@ -108,9 +108,9 @@ impl Broker {
     {
         let mut items = ArrayVec::new();
         let head = self.queue.head(&mut pass.pass);
-        let Ok(Some(mut batch)) =
-            self.queue
-                .try_pop_batch::<Taken, R>(rt, &mut pass.pass, head, MOST)
+        let Ok(Some(mut batch)) = self
+            .queue
+            .try_pop_batch::<Taken, R>(rt, &mut pass.pass, head, MOST)
         else {
             return Batch { items };
         };

@@ -1,5 +1,6 @@
--- Histories of an object that several callers share: who called, what, and what was answered, in one order.
---     Entry C R              one line of a history: a caller makes another, takes one in, or makes a call C with the reply R. Callers are numbers, and 0 is the first
+-- Histories of an object that several callers share: who called, what, and what was answered, in one order. That each call stands in one such order, in its caller's own,
+-- is Lamport's sequential consistency (How to make a multiprocessor computer, 1979), here for callers that make and take in others.
+--     Entry C R              one entry of a history: a caller makes another, takes one in, or makes a call C with the reply R. Callers are numbers, and 0 is the first
 --     live, named, joined log    the callers that are live after the history, in the order of their making; those that a `split` names, and those that a `join` takes in
 --     heir log c             the caller as whose own the calls of c count: c, or the one that took it in, or the one that took that one in
 --     made_by p log          the entries by p itself

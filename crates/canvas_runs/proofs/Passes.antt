@@ -6,7 +6,7 @@ use Rattle.canvas_history.proofs.Histories.{StartsWith, In, in_cases, in_here, i
 use Rattle.canvas_history.proofs.Histories.{made_append, made_here, made_off, OnlyCalls, OthersCall, named_first, live_first, fresh_at, others_call}
 use Rattle.canvas_backend.specs.Roster.{Roster}
 use Rattle.canvas_message.specs.declared.envelope.Envelope.{Envelope}
-use Rattle.canvas_broker.specs.Broker.{Line as Entries, answer, next, May, IsLegal}
+use Rattle.canvas_broker.specs.Broker.{QueueEntry as Entries, answer, next, May, IsLegal}
 use Rattle.canvas_broker.specs.Passes.{Stands, Parted, IsHistory}
 use Rattle.canvas_history.specs.Callers.{Owes}
 use Rattle.canvas_runs.specs.Accounts.{splits_of, joins_of, entries, HasEach, Accounts}

@@ -8,7 +8,7 @@ use Rattle.canvas_semantics.specs.Tree.{Tree, IsFull, numbered}
 use Rattle.canvas_message.specs.declared.envelope.Envelope.{Envelope}
 use Rattle.canvas_backend.specs.Backend.{results}
 use Rattle.canvas_backend.specs.Roster.{roster_of}
-use Rattle.canvas_broker.specs.Broker.{Line as Entries}
+use Rattle.canvas_broker.specs.Broker.{QueueEntry as Entries}
 use Rattle.canvas_history.specs.Callers.{told}
 use Rattle.canvas_runs.specs.Accounts.{Accounts, Ledger}
 use Rattle.canvas_runs.specs.Causes.{ByCause, ByItsCause, completions}

@@ -12,7 +12,7 @@ use Rattle.canvas_backend.specs.declared.stored.Stored.TheVariants.{First, Again
 use Rattle.canvas_backend.specs.Backend.{Call, Reply, store, part, read, was, count, found}
 use Rattle.canvas_backend.specs.Seats as seats
 use Rattle.canvas_backend.specs.Roster.{Roster}
-use Rattle.canvas_broker.specs.Broker.{Doing, publish, take}
+use Rattle.canvas_broker.specs.Broker.{QueueCall, publish, take}
 use Rattle.canvas_broker.specs.Passes as passes
 use Rattle.canvas_runs.specs.Core.{CoreState, taking, IsCoreRun, left_after, Between}
 use Rattle.canvas_runs.specs.Calls.{BrokerCall, published, took, BackendCall, stored, returned, has_read, Follows, AskedAndAnswered, broker_calls, backend_calls, ReadsMembers, takes_one}
@@ -27,7 +27,7 @@ abbrev pub Seat : Type 0
 Seat = seats.Seat
 
 -- what a broker call asks, and what it was answered
-abbrev pub doing : BrokerCall Envelope → Doing Envelope
+abbrev pub doing : BrokerCall Envelope → QueueCall Envelope
 doing (published e) = publish e
 doing (took x) = take
 

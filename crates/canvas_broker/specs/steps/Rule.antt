@@ -4,7 +4,7 @@ use mathlib.Core.Option.{some}
 use lib.ListN.{get_elem?}
 use Rattle.canvas_history.specs.History.{split, join, calls, among, without, live, named, NoneBy}
 use Rattle.canvas_history.specs.Callers.{the_object, told, Adds, Owes}
-use Rattle.canvas_broker.specs.Broker.{publish, take, Line, IsLegal, queue_of}
+use Rattle.canvas_broker.specs.Broker.{publish, take, QueueEntry, IsLegal, queue_of}
 use Rattle.canvas_broker.specs.Passes.{Knowledge, Stands, CouldStand, Took, IsHistory}
 use Rattle.canvas_broker.specs.declared.view.View.{View}
 
@@ -16,7 +16,7 @@ module _ {E : Type 0} where
   envelopes (Some x ∷ xs) = x ∷ envelopes xs
 
   -- the joins can be made in this order by callers of the list, and leave the caller p
-  abbrev pub Orderly : ℕ → List ℕ → List (Line E) → Type 0
+  abbrev pub Orderly : ℕ → List ℕ → List (QueueEntry E) → Type 0
   Orderly p cs [] = among p cs ≡ true
   Orderly p cs (split r q ∷ js) = ⊥
   Orderly p cs (join r q ∷ js) = (among r cs ≡ true) × (among q cs ≡ true) × ((q == r) ≡ false) × Orderly p (without q cs) js
@@ -36,15 +36,15 @@ module _ {E : Type 0} where
   CameFrom k ks = Unit {0}
 
   -- a pass has seen a beginning of the history with all entries by its callers. These are live, no other pass answers for them, and it has seen them named
-  abbrev pub Fits : List (Line E) → (ℕ → ℕ) → ℕ → View E → Type 0
+  abbrev pub Fits : List (QueueEntry E) → (ℕ → ℕ) → ℕ → View E → Type 0
   Fits log owner pass v =
-      ((rest : List (Line E)) × (log ≡ v.knows.seen ++ rest) × NoneBy (callers v) rest)
+      ((rest : List (QueueEntry E)) × (log ≡ v.knows.seen ++ rest) × NoneBy (callers v) rest)
       × ((c : ℕ) → among c (callers v) ≡ true → (owner c ≡ pass) × (among c (live log) ≡ true))
       × (among v.knows.name v.knows.mine ≡ true → Orderly v.knows.name v.knows.mine v.knows.owed)
       × CameFrom v.knows v.heard
       × ((c : ℕ) → among c (callers v) ≡ true → (c ≡ 0) ⊎ (among c (named v.knows.seen) ≡ true))
 
-  abbrev pub known : ℕ → List ℕ → List (Line E) → List (Line E) → Knowledge E
+  abbrev pub known : ℕ → List ℕ → List (QueueEntry E) → List (QueueEntry E) → Knowledge E
   known p cs seen owed = record { of = the_object; name = p; mine = cs; seen = seen; owed = owed }
 
   abbrev pub view_of : Knowledge E → List ℕ → View E
@@ -54,7 +54,7 @@ module _ {E : Type 0} where
   abbrev pub newcomer : View E
   newcomer = view_of (known 1 [] [] []) []
 
-  pub record IsKept (items : List (Option E)) (views : List (View E)) (log : List (Line E)) (owner : ℕ → ℕ) : Type 0 where
+  pub record IsKept (items : List (Option E)) (views : List (View E)) (log : List (QueueEntry E)) (owner : ℕ → ℕ) : Type 0 where
     pub legal : IsLegal log
     pub replays : queue_of log ≡ envelopes items
     pub numbered : (c : ℕ) → among c (named log) ≡ true → c ≤ length (named log)
@@ -63,7 +63,7 @@ module _ {E : Type 0} where
     pub opened : 0 < length views
 
   abbrev pub Kept : List (Option E) → List (View E) → Type 0
-  Kept items views = (log : List (Line E)) × (owner : ℕ → ℕ) × IsKept items views log owner
+  Kept items views = (log : List (QueueEntry E)) × (owner : ℕ → ℕ) × IsKept items views log owner
 
   -- the first pass becomes the first caller
   abbrev pub root : View E
@@ -97,7 +97,7 @@ module _ {E : Type 0} where
   abbrev pub child : View E → View E
   child v = view_of (known (slice_index_or v.unborn 0 0) v.unborn v.knows.seen []) []
 
-  abbrev pub longer : List (Line E) → List (Line E) → List (Line E)
+  abbrev pub longer : List (QueueEntry E) → List (QueueEntry E) → List (QueueEntry E)
   longer xs ys = cond (nat_lt (length xs) (length ys)) ys xs
 
   abbrev pub united : View E → View E → View E
