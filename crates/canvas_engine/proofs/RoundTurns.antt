@@ -9,7 +9,7 @@ use Rattle.canvas_runs.specs.Turns.{Step, IsWorker, HasEnded, round, rounds}
 use Rattle.canvas_runs.proofs.TurnEnds.{begins_list, begins_rotation, rounds_next}
 use Rattle.canvas_worker.specs.declared.cause.Cause.{Cause}
 use Rattle.canvas_worker.specs.declared.cause.Cause.TheVariants.{Memory, Stopped}
-use Rattle.canvas_engine.specs.steps.Stages.{Reached, HasReached, IsTurn, IsHalt, IsPartOfRound, IsHaltInRound, IsEarlyEnd, IsDone}
+use Rattle.canvas_engine.specs.steps.Stages.{Reached, HasReached, IsTurn, IsHalt, IsPartOfRound, IsHaltInRound, IsEarlyEnd, IsRunThrough}
 use Rattle.canvas_engine.specs.declared.stage.Stage.{Stage}
 
 module _ (l : Line) (n most : ℕ) (us : List ℕ) (xs : List Step) where
@@ -75,7 +75,7 @@ module _ (l : Line) (n most : ℕ) (ts : List ℕ) where
   pub another_round : (k : ℕ) (s : Stage) → HasReached l n most ((ts ++ rounds n k) ++ round n) s → HasReached l n most (ts ++ rounds n (suc k)) s
   another_round k s r = (r.0, subst (λ vs. Reached l n most vs r.0 s) (append_assoc ts (rounds n k) (round n) ∙ ap (λ vs. ts ++ vs) (sym (rounds_next n k))) r.1)
 
-  pub last_round : (k : ℕ) (xs : List Step) (s : Stage) → Reached l n most ((ts ++ rounds n k) ++ round n) xs s → ((p : ℕ) → IsWorker n p → HasEnded l xs p) → IsDone l n most ts s
+  pub last_round : (k : ℕ) (xs : List Step) (s : Stage) → Reached l n most ((ts ++ rounds n k) ++ round n) xs s → ((p : ℕ) → IsWorker n p → HasEnded l xs p) → IsRunThrough l n most ts s
   last_round k xs s r ended = record {
     further = suc k;
     steps = xs;

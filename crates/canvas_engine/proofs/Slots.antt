@@ -18,7 +18,7 @@ use Rattle.canvas_runs.specs.Lists.{Each}
 use Rattle.canvas_worker.specs.Finished.{Finished}
 use Rattle.canvas_worker.specs.declared.record.Record.{Record}
 use Rattle.canvas_engine.specs.steps.Crews.{numbered_counts, tallies_from}
-use Rattle.canvas_engine.specs.steps.Slots.{HasHands, IsReadySlot, IsSplitOff, SplitsOff, LeavesPost, RanSlot, AllRan, HasEnded, IsWell, IsPostOf, AreOf, Takes, tally_in}
+use Rattle.canvas_engine.specs.steps.Slots.{HasHands, IsReadySlot, IsSplitOff, SplitsOff, LeavesPost, RanSlot, AllRan, LeftARecord, IsWell, IsPostOf, AreOf, TakesIn, tally_in}
 use Rattle.canvas_engine.specs.declared.records.Tally.{Tally}
 use Rattle.canvas_engine.specs.declared.slot.Post.{Post}
 use Rattle.canvas_engine.specs.declared.slot.Post.TheVariants.{Ready, Done, Lost}
@@ -70,7 +70,7 @@ finished_of plan k q t r f =
 finished : (plan : Roster) (k : ℕ) (x y : Post) (q : Pass) (t : Seat) (r : Record) → x ≡ Ready q t → y ≡ Done r → LeavesPost plan k x y → Finished plan k q t r
 finished plan k x y q t r e f l = subst (λ p. LeavesPost plan k (Ready q t) p) f (subst (λ p. LeavesPost plan k p y) e l)
 
-left_of : (x : Post) → HasEnded x → (r : Record) × (x ≡ Done r)
+left_of : (x : Post) → LeftARecord x → (r : Record) × (x ≡ Done r)
 left_of (Done r) d = (r, refl)
 left_of (Ready q t) d = absurd d
 left_of Lost d = absurd d
@@ -80,7 +80,7 @@ ready_of b d (Ready q t) h = (q, t, refl, h.0, h.1)
 ready_of b d (Done r) h = absurd h
 ready_of b d Lost h = absurd h
 
-is_of : (b : SegId Global) (d : TableId) (plan : Roster) (before after : Slot) → IsReadySlot b d before → RanSlot plan before after → HasEnded after.post → IsPostOf b d after.post
+is_of : (b : SegId Global) (d : TableId) (plan : Roster) (before after : Slot) → IsReadySlot b d before → RanSlot plan before after → LeftARecord after.post → IsPostOf b d after.post
 is_of b d plan before after hands ran is =
     let ready = ready_of b d before.post hands in
     let done = left_of after.post is in
@@ -88,12 +88,12 @@ is_of b d plan before after hands ran is =
     let of = finished_of plan before.number ready.0 ready.1 done.0 f in
     subst (λ p. IsPostOf b d p) (sym done.1) (of.0 ∙ ready.3, of.1 ∙ ready.4)
 
-pub are_of : (b : SegId Global) (d : TableId) (plan : Roster) (before after : List Slot) → All (IsReadySlot b d) before → EachRan plan before after → All (λ s. HasEnded s.post) after → AreOf b d after
+pub are_of : (b : SegId Global) (d : TableId) (plan : Roster) (before after : List Slot) → All (IsReadySlot b d) before → EachRan plan before after → All (λ s. LeftARecord s.post) after → AreOf b d after
 are_of b d plan [] [] a r f = tt
 are_of b d plan [] (y ∷ ys) a r f = absurd r
 are_of b d plan (x ∷ xs) [] a r f = absurd r
 are_of b d plan (x ∷ xs) (y ∷ ys) a r f =
-    (is_of b d plan x y (All-head (IsReadySlot b d) x xs a) r.0 (All-head (λ s. HasEnded s.post) y ys f), are_of b d plan xs ys (All-tail (IsReadySlot b d) x xs a) r.1 (All-tail (λ s. HasEnded s.post) y ys f))
+    (is_of b d plan x y (All-head (IsReadySlot b d) x xs a) r.0 (All-head (λ s. LeftARecord s.post) y ys f), are_of b d plan xs ys (All-tail (IsReadySlot b d) x xs a) r.1 (All-tail (λ s. LeftARecord s.post) y ys f))
 
 tally_of_done : (k : ℕ) (plan : Roster) (q : Pass) (t : Seat) (slot : Slot) (r : Record) → slot.number ≡ k → slot.post ≡ Done r → (f : Finished plan k q t r) → tally_in slot ≡ numbered_counts k f.ended.tally
 tally_of_done k plan q t slot r n e f = ap (λ p. tally_in (record { number = slot.number; post = p })) e ∙ (ap (λ m. tally_in (record { number = m; post = Done r })) n ∙ ap (λ c. numbered_counts k c) f.counts)
@@ -110,7 +110,7 @@ pub record IsCrewOf (plan : Roster) (k : ℕ) (p : Pass) (s : Seat) (p' : Pass) 
 well_done : (x : Post) (r : Record) → x ≡ Done r → IsWell x → r.fault ≡ None
 well_done x r e w = subst IsWell e w
 
-pub crew_of : (plan : Roster) (k : ℕ) (before after : List Slot) (p p' : Pass) (s s' : Seat) (q q' : Pass) (t t' : Seat) → SplitsOff plan k p s before p' s' → EachRan plan before after → Takes plan q t after q' t'
+pub crew_of : (plan : Roster) (k : ℕ) (before after : List Slot) (p p' : Pass) (s s' : Seat) (q q' : Pass) (t t' : Seat) → SplitsOff plan k p s before p' s' → EachRan plan before after → TakesIn plan q t after q' t'
     → (ms : List (Mate plan)) × IsCrewOf plan k p s p' s' q t q' t' after ms
 crew_of plan k [] [] p p' s s' q q' t t' m r j = ([], record { count = refl; splits = m.0; joins = j.0; seat_splits = m.1; seat_joins = j.1; tallies = refl; done = λ w. tt })
 crew_of plan k [] (y ∷ ys) p p' s s' q q' t t' m r j = absurd r

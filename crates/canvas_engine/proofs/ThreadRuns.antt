@@ -20,11 +20,12 @@ use Rattle.canvas_backend.specs.Roster.{Roster, roster_of}
 use Rattle.canvas_broker.specs.Broker.{QueueEntry as Entries}
 use Rattle.canvas_broker.specs.Passes.{Empties}
 use Rattle.canvas_runs.specs.Calls.{BackendCall, follows_all}
-use Rattle.canvas_runs.specs.Callers.{queue_of}
+use Rattle.canvas_runs.specs.Callers.{broker_calls_seen}
 use Rattle.canvas_runs.specs.Crew.{Mate, Ran, EndedWell, OwnTally, first_pass, first_seat}
 use Rattle.canvas_runs.specs.Following.{Pass, Seat, Makes, Serves, Working, begins, IsDone, Followed}
 use Rattle.canvas_runs.specs.Lists.{Each}
-use Rattle.canvas_runs.specs.Rows.{reads_from, RanTo, RanWell, EachMay}
+use Rattle.canvas_runs.specs.Rows.{reads_from, RanTo, RanWell}
+use Rattle.canvas_semantics.specs.States.{EachMay}
 use Rattle.canvas_runs.specs.Run.{IsRead, published_all}
 use Rattle.canvas_runs.specs.Tally.{Tally as Counts, CountsMore, EachCounts, greatest_count, none_yet}
 use Rattle.canvas_runs.specs.Worker.{sealed, worker}
@@ -39,7 +40,7 @@ use Rattle.canvas_worker.specs.declared.cause.Cause.{Cause}
 use Rattle.canvas_worker.specs.declared.cause.Cause.TheVariants.{Memory, Stopped}
 use Rattle.canvas_engine.specs.Correct.{AreWorkers, IsRun, IsThreadFault, AreTallies, counts_of}
 use Rattle.canvas_engine.specs.steps.Crews.{Crew, IsStart, IsWellGathered, tallies_from}
-use Rattle.canvas_engine.specs.steps.Slots.{AllRan, IsWell, Takes, nothing_counted, tally_in}
+use Rattle.canvas_engine.specs.steps.Slots.{AllRan, IsWell, TakesIn, nothing_counted, tally_in}
 use Rattle.canvas_engine.specs.declared.running.Start.{Start}
 use Rattle.canvas_engine.specs.declared.slot.Slot.{Slot}
 use Rattle.canvas_engine.proofs.Slots.{each_ran, crew_of}
@@ -155,7 +156,7 @@ module _ (l : Line) (n : ℕ) (b : SegId Global) (d : Desk) (pass : Pass) (seat 
           queue = refl;
           table = refl;
           closed = the_closed l r.pass after this whole.well;
-          tallies = (refl, counted.0, tallies_are (queue_of r.pass) after.seen 1 c.mates counted.1);
+          tallies = (refl, counted.0, tallies_are (broker_calls_seen r.pass) after.seen 1 c.mates counted.1);
           each_tally = ap suc (long_tallies 1 c.mates ∙ c.count);
           once = λ k. (first_part l planned run).published_once k;
           by_cause = by_cause l planned run;
@@ -222,11 +223,11 @@ worked_may l n queue table pass seat c planned r f after rows reads many = rows_
 -- ---- what worker 0 has taken in
 
 pub gathered : (l : Line) (n : ℕ) (s : Start) (start : IsStart l n s) (sent : Pass) (after : List Slot) (p : Pass) (t : Seat) → Makes s.pass (published_all s.envelopes.items) sent → AllRan s.backend.plan s.slots.items after → length after ≡ length s.slots.items
-    → Takes s.backend.plan sent s.seat after p t
+    → TakesIn s.backend.plan sent s.seat after p t
     → (c : Crew l n s.broker s.backend.id p t) × (map tally_in after ≡ tallies_from 1 c.mates) × (All (λ x. IsWell x.post) after → Each (λ (m : Mate (roster_of l)). IsDone (roster_of l) m.ended) c.mates)
 gathered l n s start sent after p t made ran many taken =
     let each = each_ran (roster_of l) s.slots.items after many (subst (λ plan. AllRan plan s.slots.items after) start.plan ran) in
-    let all = crew_of (roster_of l) 1 s.slots.items after (first_pass s.broker) s.pass (first_seat s.backend.id) s.seat sent p s.seat t start.parts each (subst (λ plan. Takes plan sent s.seat after p t) start.plan taken) in
+    let all = crew_of (roster_of l) 1 s.slots.items after (first_pass s.broker) s.pass (first_seat s.backend.id) s.seat sent p s.seat t start.parts each (subst (λ plan. TakesIn plan sent s.seat after p t) start.plan taken) in
     let c = all.1 in (
       record {
         mates = all.0;

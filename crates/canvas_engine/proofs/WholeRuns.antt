@@ -13,7 +13,7 @@ use Rattle.canvas_backend.specs.Plain.{held}
 use Rattle.canvas_runs.specs.Going.{most_steps}
 use Rattle.canvas_runs.specs.Lists.{Each}
 use Rattle.canvas_runs.specs.Law.{its_state}
-use Rattle.canvas_runs.specs.Rows.{EachMay}
+use Rattle.canvas_semantics.specs.States.{EachMay}
 use Rattle.canvas_runs.specs.TurnLaws.{held_rows}
 use Rattle.canvas_runs.specs.Turns.{IsWorker, FirstsRead, all_taken, rounds}
 use Rattle.canvas_runs.specs.Worker.{sealed}
@@ -23,7 +23,7 @@ use Rattle.canvas_worker.specs.Standing.{Standing, begun}
 use Rattle.canvas_worker.specs.declared.cause.Cause.{Cause}
 use Rattle.canvas_worker.specs.declared.cause.Cause.TheVariants.{Memory, Stopped}
 use Rattle.canvas_engine.specs.Correct.{IsAsked, IsWholeWithin, IsCut, IsRunFault, IsFaultWithin}
-use Rattle.canvas_engine.specs.steps.Stages.{rows_of, IsNew, AreNew, IsCoreAt, Reached, IsHalfway, IsEarlyEnd, IsDone}
+use Rattle.canvas_engine.specs.steps.Stages.{rows_of, IsNew, AreNew, IsCoreAt, Reached, IsHalfway, IsEarlyEnd, IsRunThrough}
 use Rattle.canvas_engine.specs.declared.report.Report.{Report}
 use Rattle.canvas_engine.specs.declared.fault.RunFault.{RunFault}
 use Rattle.canvas_engine.specs.declared.fault.RunFault.TheVariants.{BadWorkers, BadTurn, Halted}
@@ -72,7 +72,7 @@ err_at (Ok u) Q P m q h = tt
 err_at (Err e) Q P m q h = h m q
 
 module _ (l : Line) (n most : ℕ) (ts : List ℕ) (rows : List State) (s : Stage) (are : rows ≡ rows_of (count_line l) (held s.table)) where
-  pub whole_rows : 1 ≤ n → IsDone l n most ts s → IsWholeWithin l n ts most rows
+  pub whole_rows : 1 ≤ n → IsRunThrough l n most ts s → IsWholeWithin l n ts most rows
   whole_rows some done =
       let by_turns = done.reached.by_turns in
       let same : rows ≡ held_rows l done.steps = are ∙ ap (rows_of (count_line l)) done.reached.table_is in (

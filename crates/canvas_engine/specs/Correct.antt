@@ -17,11 +17,12 @@ use Rattle.canvas_backend.specs.Backend.{Log}
 use Rattle.canvas_backend.specs.Roster.{roster_of}
 use Rattle.canvas_broker.specs.Broker.{QueueEntry as Entries}
 use Rattle.canvas_runs.specs.Accounts.{Accounts, Ledger}
-use Rattle.canvas_runs.specs.Callers.{queue_of}
+use Rattle.canvas_runs.specs.Callers.{broker_calls_seen}
 use Rattle.canvas_runs.specs.Calls.{backend_calls}
 use Rattle.canvas_runs.specs.Causes.{ByCause, ByItsCause, completions}
 use Rattle.canvas_runs.specs.Law.{publishes}
-use Rattle.canvas_runs.specs.Rows.{EachMay, RanWell}
+use Rattle.canvas_semantics.specs.States.{EachMay}
+use Rattle.canvas_runs.specs.Rows.{RanWell}
 use Rattle.canvas_runs.specs.Run.{Run, Closed, published_all}
 use Rattle.canvas_runs.specs.Tally.{Tally as Counts, CountsOf}
 use Rattle.canvas_runs.specs.Worker.{sealed, working}
@@ -98,20 +99,20 @@ pub record IsRun (l : Line) (n : ℕ) (rows : List State) (r : Records) : Type 0
   pub ran : RanWell l r.pass r.seat rows
   pub workers : length ran.to.ran.mates ≡ n
   -- The broker has one legal history, and the backend one. Of each worker they have just its calls, each once and in its order; worker i is the i-th that is named in each.
-  pub calls : Accounts (roster_of l) ran.to.ran.mates (published_all (map sealed ran.to.ran.opening)) ran.to.ran.works.made (queue_of r.pass)
+  pub calls : Accounts (roster_of l) ran.to.ran.mates (published_all (map sealed ran.to.ran.opening)) ran.to.ran.works.made (broker_calls_seen r.pass)
   pub entries : Ledger (roster_of l) ran.to.ran.mates (backend_calls (working (roster_of l)) ran.to.ran.works.run ++ ran.to.ran.closing) r.seat.seen
   -- they are those of a closed run of the plan
   pub run : Run l
-  pub queue : run.queue ≡ queue_of r.pass
+  pub queue : run.queue ≡ broker_calls_seen r.pass
   pub table : run.table ≡ r.seat.seen
   pub closed : Closed l run
   -- what worker 0 counted, and each further one, in the order of their numbers
-  pub tallies : AreTallies (queue_of r.pass) r.seat.seen 0 r.workers
+  pub tallies : AreTallies (broker_calls_seen r.pass) r.seat.seen 0 r.workers
   pub each_tally : length r.workers ≡ suc n
   -- each message is published at most once, by the worker that brought about the event which runs its task: a body's by the one whose part completed its header
-  pub once : (k : ℕ) → publishes l k (queue_of r.pass) ≤ 1
-  pub by_cause : ByCause l (queue_of r.pass) r.seat.seen
-  pub by_its_cause : ByItsCause l (queue_of r.pass) r.seat.seen
+  pub once : (k : ℕ) → publishes l k (broker_calls_seen r.pass) ≤ 1
+  pub by_cause : ByCause l (broker_calls_seen r.pass) r.seat.seen
+  pub by_its_cause : ByItsCause l (broker_calls_seen r.pass) r.seat.seen
   pub completed_once : (g : ℕ) → completions l g r.seat.seen ≤ 1
   -- what evaluating the plan's tree gives
   pub are : rows ≡ states (tree_of l)

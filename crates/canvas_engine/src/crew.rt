@@ -1,6 +1,6 @@
 //! The passes and the seats of a run's workers.
 ghost use Rattle.std.specs.Prelude.{◌≡◌, ◌++◌, All, length, map, IfOk, OnOk, IfNone, MatchBool};
-ghost use Rattle.canvas_engine.specs.steps.Slots.{IsReadySlot, IsSplitOff, SplitsOff, HasEnded, IsWell, AreOf, Takes, tally_in};
+ghost use Rattle.canvas_engine.specs.steps.Slots.{IsReadySlot, IsSplitOff, SplitsOff, LeftARecord, IsWell, AreOf, TakesIn, tally_in};
 ghost use Rattle.canvas_broker.specs.Passes as passes;
 ghost use Rattle.canvas_history.specs.Callers.{Owes};
 ghost use Rattle.canvas_backend.specs.Seats as seats;
@@ -65,7 +65,7 @@ pub(crate) fn split_all<R: Wait>(
 
 /// Whether each worker has left a record.
 pub(crate) fn are_done(slots: &[Slot]) -> bool
-    ensures { MatchBool result (All (λ s. HasEnded s.post) slots.now) (All (λ s. HasEnded s.post) slots.now → ⊥) }
+    ensures { MatchBool result (All (λ s. LeftARecord s.post) slots.now) (All (λ s. LeftARecord s.post) slots.now → ⊥) }
 {
     slots.iter().all(|slot| slot.is_done())
 }
@@ -140,7 +140,7 @@ pub(crate) fn join_all<R: Wait>(
     requires own { (pass.old.of ≡ broker.now) × (seat.old.of ≡ backend.now.id) }
     requires others { AreOf broker.now backend.now.id slots.items }
     ensures own { (pass.new.of ≡ broker.now) × (seat.new.of ≡ backend.now.id) }
-    ensures taken { Takes backend.now.plan pass.old seat.old slots.items pass.new seat.new }
+    ensures taken { TakesIn backend.now.plan pass.old seat.old slots.items pass.new seat.new }
 {
     for slot in slots {
         match slot.post {

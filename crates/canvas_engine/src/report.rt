@@ -1,5 +1,5 @@
 ghost use Rattle.std.specs.Prelude.{◌≡◌, ◌++◌, ◌+◌, IfOk, OnOk, string_bytes};
-ghost use Rattle.canvas_rewrite.specs.Ends.{is_list, end_tasks};
+ghost use Rattle.canvas_rewrite.specs.Ends.{gives_a_list, end_tasks};
 ghost use Rattle.canvas_semantics.specs.Evaluation.{with_states};
 ghost use Rattle.canvas_semantics.specs.Line.{name_of, tree_of};
 ghost use Rattle.canvas_semantics.specs.Report.{names_by_number as named, lines, listed_values, report_of, result_text};
@@ -82,7 +82,7 @@ fn push_values(text: &mut String, tasks: &[TaskNo], rows: &[Option<Outcome>]) ->
 
 /// The result of a canvas: a value, or the list of a group's.
 fn push_result(text: &mut String, ends: &Ends<'_>, rows: &[Option<Outcome>]) -> Result<(), Memory>
-    ensures { OnOk result (string_bytes text.new ≡ string_bytes text.old ++ result_text (is_list ends.now) (with_states (rows_from 1 rows.now) (end_tasks ends.now))) }
+    ensures { OnOk result (string_bytes text.new ≡ string_bytes text.old ++ result_text (gives_a_list ends.now) (with_states (rows_from 1 rows.now) (end_tasks ends.now))) }
 {
     match ends {
         Ends::One(task) => {

@@ -1,6 +1,6 @@
 //! A worker's place in a run.
 ghost use Rattle.std.specs.Prelude.{◌≡◌, MatchBool};
-ghost use Rattle.canvas_engine.specs.steps.Slots.{HasEnded, IsWell, tally_in};
+ghost use Rattle.canvas_engine.specs.steps.Slots.{LeftARecord, IsWell, tally_in};
 
 use crate::{Cause, Tally};
 use canvas_backend::BackendSeat;
@@ -27,7 +27,7 @@ pub(crate) struct Slot {
 
 impl Slot {
     pub(crate) fn is_done(&self) -> bool
-        ensures { MatchBool result (HasEnded self.now.post) (HasEnded self.now.post → ⊥) }
+        ensures { MatchBool result (LeftARecord self.now.post) (LeftARecord self.now.post → ⊥) }
     {
         match &self.post {
             Post::Done(_) => true,

@@ -8,7 +8,7 @@ ghost use Rattle.canvas_backend.specs.Roster.{roster_of};
 ghost use Rattle.canvas_runs.specs.Going.{most_steps};
 ghost use Rattle.canvas_runs.specs.Turns.{Step, IsWorker};
 ghost use Rattle.canvas_engine.specs.Correct.{AreWorkers, AreTurns, IsAsked, IsWhole, IsWholeWithin, IsRunFault, IsFaultWithin};
-ghost use Rattle.canvas_engine.specs.steps.Stages.{rows_of, Reached, HasReached, IsNew, IsPartOfRound, IsHaltInRound, IsDone, IsEarlyEnd};
+ghost use Rattle.canvas_engine.specs.steps.Stages.{rows_of, Reached, HasReached, IsNew, IsPartOfRound, IsHaltInRound, IsRunThrough, IsEarlyEnd};
 
 use crate::stage::Stage;
 use crate::{Cause, Report, RunFault};
@@ -66,7 +66,7 @@ fn run_rounds(
     turns: &[u32],
 ) -> Result<(), Cause>
     requires { (most : ℕ) × HasReached plan.now workers most turns.now stage.old }
-    ensures ok { OnOk result ((most : ℕ) → HasReached plan.now workers most turns.now stage.old → IsDone plan.now workers most turns.now stage.new) }
+    ensures ok { OnOk result ((most : ℕ) → HasReached plan.now workers most turns.now stage.old → IsRunThrough plan.now workers most turns.now stage.new) }
     ensures err { IfErr result (λ cause. (most : ℕ) → HasReached plan.now workers most turns.now stage.old → IsEarlyEnd cause plan.now workers most turns.now stage.new) }
 {
     loop {
@@ -89,7 +89,7 @@ fn run_stage(
     requires planned { IsPlan plan.now }
     requires new { IsNew plan.now workers stage.old }
     requires turns { AreTurns workers turns.now }
-    ensures ok { OnOk result (IsDone plan.now workers stage.old.steps turns.now stage.new) }
+    ensures ok { OnOk result (IsRunThrough plan.now workers stage.old.steps turns.now stage.new) }
     ensures err { IfErr result (λ cause. IsEarlyEnd cause plan.now workers stage.old.steps turns.now stage.new) }
 {
     match stage.open(alloc, plan) {

@@ -12,7 +12,8 @@ use Rattle.canvas_sig.specs.CanvasText.{json_of}
 use Rattle.canvas_sig.specs.Refusals.{named_of}
 use Rattle.canvas_task.specs.Text.{Text}
 use Rattle.canvas_sig.specs.Fields.{field, listed, object_members, contents, is_null, is_list, is_object, is_object_or_null, is_list_or_null}
-use Rattle.canvas_sig.specs.Reading.{fault_if, each, argument_of, arg_reading, named_reading, is_name, is_text}
+use Rattle.canvas_sig.specs.Answers.{fault_if, each}
+use Rattle.canvas_sig.specs.Grammar.{argument_of, arg_reading, named_reading, is_name, is_text}
 use Rattle.canvas_sig.specs.declared.fault.SigFault.{SigFault}
 use Rattle.canvas_sig.specs.declared.fault.SigFault.TheVariants.{BadArgs}
 use Rattle.canvas_semantics.specs.PlacedLine.{PTask, PLine, p_step}

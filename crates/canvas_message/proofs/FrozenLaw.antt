@@ -10,7 +10,8 @@ use Rattle.canvas_task.specs.Numbers.{in_range}
 use Rattle.canvas_sig.specs.Refusals.{named_of, spelled_call}
 use Rattle.canvas_task.specs.Text.{Text}
 use Rattle.canvas_sig.specs.Fields.{field, subtype, option, args, kwargs, tasks, header, body, link, link_error, items, listed, as_list, object_members, contents, is_null, is_list, is_number}
-use Rattle.canvas_sig.specs.Reading.{◌>>=◌, ◌or_else◌, fault_if, unless, judged, each, some_or_zero, whole_number, argument_of, arg_reading, named_reading, kind_ok, numbers_ok, args_ok, not_signature, bad_args, fault_as, own_fault, primitive_of}
+use Rattle.canvas_sig.specs.Answers.{◌>>=◌, ◌or_else◌, fault_if, unless, judged, each}
+use Rattle.canvas_sig.specs.Grammar.{some_or_zero, whole_number, argument_of, arg_reading, named_reading, kind_ok, numbers_ok, args_ok, not_signature, bad_args, fault_as, own_fault, primitive_of}
 use Rattle.canvas_sig.specs.declared.fault.SigFault.{SigFault}
 use Rattle.canvas_sig.specs.declared.fault.SigFault.TheVariants.{NotSignature, UnknownPrimitive, BadArgs, BadNumber, OnCanvas, Frozen, TooMany}
 use Rattle.canvas_sig.specs.declared.primitive.Primitive.{Primitive}

@@ -8,7 +8,7 @@ use Rattle.serde_json.specs.Find.{get}
 use Rattle.serde_json.specs.Read.{max_depth}
 use Rattle.canvas_task.specs.Name.{name_ok}
 use Rattle.canvas_sig.specs.Fields.{field, items, listed, is_list_or_null, is_null}
-use Rattle.canvas_sig.specs.Reading.{each}
+use Rattle.canvas_sig.specs.Answers.{each}
 use Rattle.canvas_semantics.specs.Tree.{Call}
 use Rattle.canvas_sig.proofs.FittingCalls.{CallFits}
 use Rattle.canvas_sig.specs.Writing.{args_wire, kwargs_wire}

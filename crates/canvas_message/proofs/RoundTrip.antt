@@ -12,7 +12,8 @@ use Rattle.canvas_task.specs.declared.arg.Arg.{Arg}
 use Rattle.canvas_task.proofs.IdentifierLemmas as identifiers
 use Rattle.canvas_sig.specs.Fields.{field, subtype, option, items, entries, as_list, is_null, is_link, listed}
 use Rattle.canvas_sig.specs.ComposedRefusals.{arg_ok, call_numbers_ok}
-use Rattle.canvas_sig.specs.Reading.{◌or_else◌, fault_if, each, arg_reading, named_reading, primitive_of, own_fault}
+use Rattle.canvas_sig.specs.Answers.{◌or_else◌, fault_if, each}
+use Rattle.canvas_sig.specs.Grammar.{arg_reading, named_reading, primitive_of, own_fault}
 use Rattle.canvas_semantics.specs.Tree.{Call}
 use Rattle.canvas_task.specs.Entries.{IsBelow, Ascends}
 use Rattle.canvas_sig.proofs.FittingCalls.{ArgsFit, KwargsFit, CallFits}

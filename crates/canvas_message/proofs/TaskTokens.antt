@@ -15,7 +15,7 @@ use Rattle.canvas_rewrite.specs.declared.frozen.FrozenLine.{FrozenLine}
 use Rattle.canvas_rewrite.specs.declared.frozen.FrozenEnd.{FrozenEnd, out-FrozenEnd}
 use Rattle.canvas_rewrite.specs.declared.frozen.Place.{Place, out-Place}
 use Rattle.canvas_rewrite.specs.declared.frozen.Carried.{Carried, out-Carried}
-use Rattle.canvas_message.specs.steps.Tokens.{members_of_end, group_of, size_tokens, start_tokens, call_tokens, unless_null, links_wire, errbacks_wire, links_tokens, place_tokens, options_tokens, opening_tokens, group_closing, list_tokens, named_tokens}
+use Rattle.canvas_message.specs.steps.Tokens.{members_of_end, group_of_end, size_tokens, start_tokens, call_tokens, unless_null, links_wire, errbacks_wire, links_tokens, place_tokens, options_tokens, opening_tokens, group_closing, list_tokens, named_tokens}
 use Rattle.canvas_message.specs.View.{place_view, place_seen}
 use Rattle.canvas_message.specs.Wire.{group_options, task_id, group_id, place_id, member_unless_null, frozen, task_options, chain_wire, group_wire, chord_wire, task_wire, tasks_wire, carried_wire, line_wire, members_wire}
 use Rattle.canvas_message.proofs.Seen.{called, task_seen, group_place, chord_place, end_none, end_some}
@@ -133,7 +133,7 @@ chord_tokens size g ms b =
     ∙ framed size (chord_members b ms) (group_options g) (string (codes "chord")) (codes "celery.chord")
 
 abbrev rest_of_end : List ℕ → List ℕ → List ℕ → PLine → List Token
-rest_of_end name kind type_name e = list_tokens name (members_wire (members_of_end e)) ++ group_closing (group_of e) (string kind) type_name
+rest_of_end name kind type_name e = list_tokens name (members_wire (members_of_end e)) ++ group_closing (group_of_end e) (string kind) type_name
 
 pub chord_written : (size : Option ℕ) (t : FrozenEnd) (b : FrozenLine) → (out-FrozenEnd t).body ≡ Some b
     → (opening_tokens size ++ named_tokens (codes "body") (line_wire None (p_line_view b))) ++ rest_of_end (codes "header") (codes "chord") (codes "celery.chord") (p_end_view t)

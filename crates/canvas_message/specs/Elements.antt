@@ -2,7 +2,7 @@
 use Rattle.std.specs.Prelude.{List, map, reverse, Result, Ok}
 use Rattle.serde_json.specs.Data.{Data}
 use Rattle.serde_json.specs.View.{view}
-use Rattle.canvas_sig.specs.Reading.{◌>>=◌, each}
+use Rattle.canvas_sig.specs.Answers.{◌>>=◌, each}
 use Rattle.canvas_sig.specs.declared.fault.SigFault.{SigFault}
 use Rattle.canvas_semantics.specs.PlacedLine.{PTask, PPlace, PLine, p_stop, p_step}
 use Rattle.canvas_rewrite.specs.FrozenView.{Load, p_steps, p_task_view, p_end_view, carried_step, p_end_step, p_line_step, p_task_step, place_step}

@@ -6,7 +6,7 @@ use Rattle.serde_json.specs.Find.{get, as_i64}
 use Rattle.canvas_sig.specs.CanvasText.{json_of}
 use Rattle.canvas_task.specs.Text.{Text}
 use Rattle.canvas_sig.specs.Fields.{field, subtype, option, tasks, header, body, link, link_error, listed, as_list, contents, is_null, is_list, is_object, is_list_or_null, is_object_or_null}
-use Rattle.canvas_sig.specs.Reading.{own_fault, primitive_of, kind_ok, numbers_ok, is_name, is_text}
+use Rattle.canvas_sig.specs.Grammar.{own_fault, primitive_of, kind_ok, numbers_ok, is_name, is_text}
 use Rattle.canvas_sig.specs.declared.primitive.Primitive.{Primitive}
 use Rattle.canvas_sig.specs.declared.primitive.Primitive.TheVariants as kind
 use Rattle.canvas_message.specs.Content.{Content}

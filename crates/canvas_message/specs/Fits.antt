@@ -7,16 +7,16 @@ use Rattle.std.specs.declared.cmp.Ordering.TheVariants.{Less}
 use Rattle.std.specs.Cmp.Lexicographic.{slice_cmp}
 use Rattle.canvas_task.specs.Name.{name_ok}
 use Rattle.canvas_task.specs.declared.arg.Arg.{Arg}
-use Rattle.canvas_semantics.specs.Bounds.{most_reach}
+use Rattle.canvas_semantics.specs.Bounds.{most_reach, most_tasks}
 use Rattle.canvas_sig.specs.ComposedRefusals.{call_numbers_ok}
 use Rattle.canvas_semantics.specs.Tree.{Call}
 use Rattle.canvas_semantics.specs.Line.{in_group}
 use Rattle.canvas_semantics.specs.PlacedLine.{PTask, p_task, PTasks, no_p_tasks, and_p_task, PPlace, p_nowhere, p_group, p_chord, PLine, p_stop, p_step, p_group_end, p_chord_end, PLines, no_p_lines, and_p_line, strip}
 use Rattle.canvas_message.specs.Content.{Content, line, call_of}
 
--- how many members a header may have
+-- how many members a header may have: each is a task at least
 abbrev pub most_members : ℕ
-most_members = 1024
+most_members = most_tasks
 
 -- a number of a task, group or chord: from 1, in 32 bits
 abbrev pub is_number : ℕ → Bool

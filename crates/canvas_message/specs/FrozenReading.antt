@@ -5,7 +5,8 @@ use Rattle.serde_json.specs.Find.{as_i64}
 use Rattle.serde_json.specs.Read.{max_depth}
 use Rattle.canvas_task.specs.Identifiers.{task_named, group_named}
 use Rattle.canvas_sig.specs.Fields.{field, subtype, args, kwargs, option, tasks, header, body, link, link_error, listed, as_list, object_members, text_of, is_null, is_list, is_true}
-use Rattle.canvas_sig.specs.Reading.{◌>>=◌, ◌or_else◌, fault_if, unless, each, arg_reading, named_reading, is_text, primitive_of, own_fault}
+use Rattle.canvas_sig.specs.Answers.{◌>>=◌, ◌or_else◌, fault_if, unless, each}
+use Rattle.canvas_sig.specs.Grammar.{arg_reading, named_reading, is_text, primitive_of, own_fault}
 use Rattle.canvas_semantics.specs.Tree.{Call}
 use Rattle.canvas_sig.specs.declared.fault.SigFault.{SigFault}
 use Rattle.canvas_sig.specs.declared.fault.SigFault.TheVariants.{NotSignature, BadArgs, OnCanvas, Frozen, TooDeep, TooMany}

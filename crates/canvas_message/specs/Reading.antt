@@ -7,7 +7,8 @@ use Rattle.canvas_task.specs.declared.arg.Arg.{Arg}
 use Rattle.canvas_sig.specs.CanvasText.{json_of}
 use Rattle.canvas_task.specs.Text.{Text}
 use Rattle.canvas_sig.specs.Fields.{field, listed, object_members, text_of, is_null, is_list, is_object, is_list_or_null, is_object_or_null}
-use Rattle.canvas_sig.specs.Reading.{◌>>=◌, fault_if, unless, each, arg_reading, named_reading, is_name, is_text}
+use Rattle.canvas_sig.specs.Answers.{◌>>=◌, fault_if, unless, each}
+use Rattle.canvas_sig.specs.Grammar.{arg_reading, named_reading, is_name, is_text}
 use Rattle.canvas_sig.specs.declared.fault.SigFault.{SigFault}
 use Rattle.canvas_sig.specs.declared.fault.SigFault.TheVariants.{BadArgs}
 use Rattle.canvas_rewrite.specs.FrozenView.{p_tasks_of, p_steps}

@@ -18,6 +18,9 @@ use canvas_task::TaskNo;
 use forms::{is_call, is_task, line_fits, place_fits, tasks_fit};
 use reach::{above, greatest, place_reach, tasks_reach};
 
+/// The most members that a header may have.
+pub(crate) const MOST_MEMBERS: u32 = 1024;
+
 impl Message {
     /// The message with these fields, where a message can have them.
     pub fn of(draft: Draft) -> Option<Message>

@@ -5,7 +5,7 @@ use Rattle.canvas_semantics.specs.Line.{Line, stop, step, group_end, chord_end, 
 use Rattle.canvas_semantics.specs.Line as Frozen
 use Rattle.canvas_rewrite.specs.Planned.{IsPlan}
 use Rattle.canvas_task.specs.Text.{Text}
-use Rattle.canvas_semantics.specs.Report.{names_of_task, names_of_tasks, names_by_number, all_names, counted_from}
+use Rattle.canvas_semantics.specs.Report.{names_of_task, names_of_tasks, names_by_number, all_names_by_number, counted_from}
 
 counted_both : (k : ℕ) (xs ys : List Text) → counted_from k (xs ++ ys) ≡ counted_from k xs ++ counted_from (k + length xs) ys
 counted_both k [] ys = ap (λ n. counted_from n ys) (omega arith)
@@ -45,16 +45,16 @@ mutual
   of_tasks (and_task t ts) k = (λ i. of_task t k i ++ of_tasks ts (k + count_task t) i) ∙ parts k (count_task t) (task_names t) (tasks_names ts) (long_task t)
 
 mutual
-  of_line : (l : Line) (k g : ℕ) → all_names (elements_of (number_line k g l)) ≡ counted_from k (Frozen.names l)
+  of_line : (l : Line) (k g : ℕ) → all_names_by_number (elements_of (number_line k g l)) ≡ counted_from k (Frozen.names l)
   of_line stop k g = refl
   of_line (step t l) k g = (λ i. of_task t k i ++ of_line l (k + count_task t) g i) ∙ parts k (count_task t) (task_names t) (Frozen.names l) (long_task t)
-  of_line (group_end _ ms) k g = append-nil (all_names (members_of (number_lines k (g + 1) ms))) ∙ of_lines ms k (g + 1)
+  of_line (group_end _ ms) k g = append-nil (all_names_by_number (members_of (number_lines k (g + 1) ms))) ∙ of_lines ms k (g + 1)
   of_line (chord_end _ ms b) k g =
-      append-nil (all_names (members_of (number_lines k (g + 1) ms)) ++ all_names (elements_of (number_line (k + count_lines ms) (g + 1 + lines_groups ms) b)))
+      append-nil (all_names_by_number (members_of (number_lines k (g + 1) ms)) ++ all_names_by_number (elements_of (number_line (k + count_lines ms) (g + 1 + lines_groups ms) b)))
       ∙ (λ i. of_lines ms k (g + 1) i ++ of_line b (k + count_lines ms) (g + 1 + lines_groups ms) i)
       ∙ parts k (count_lines ms) (Frozen.all_names ms) (Frozen.names b) (long_all ms)
 
-  of_lines : (ms : Lines) (k g : ℕ) → all_names (members_of (number_lines k g ms)) ≡ counted_from k (Frozen.all_names ms)
+  of_lines : (ms : Lines) (k g : ℕ) → all_names_by_number (members_of (number_lines k g ms)) ≡ counted_from k (Frozen.all_names ms)
   of_lines no_lines k g = refl
   of_lines (and_line m ms) k g =
       (λ i. of_line m k g i ++ of_lines ms (k + count_line m) (g + line_groups m) i) ∙ parts k (count_line m) (Frozen.names m) (Frozen.all_names ms) (long m)

@@ -4,9 +4,9 @@ use Rattle.canvas_rewrite.specs.declared.ends.Ends.{Ends}
 use Rattle.canvas_rewrite.specs.declared.ends.Ends.TheVariants.{One, Many}
 
 -- whether the result is a list
-abbrev pub is_list : Ends → Bool
-is_list (One task) = false
-is_list (Many tasks) = true
+abbrev pub gives_a_list : Ends → Bool
+gives_a_list (One task) = false
+gives_a_list (Many tasks) = true
 
 abbrev pub end_tasks : Ends → List ℕ
 end_tasks (One task) = task ∷ []

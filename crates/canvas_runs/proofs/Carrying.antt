@@ -15,7 +15,7 @@ use Rattle.canvas_semantics.specs.PlacedLine.{PTask, p_task, PPlace, p_nowhere, 
 use Rattle.canvas_message.specs.Content.{Content, line, number_of, call_of, links_of, errbacks_of, place_of}
 use Rattle.canvas_message.specs.Effects as effects
 use Rattle.canvas_message.specs.Events as events
-use Rattle.canvas_message.specs.Events.{Event, parent_of, flow_outcome, chosen, end_of, running, start}
+use Rattle.canvas_message.specs.Events.{Event, parent_of, flow_outcome, chosen, end_of_line, running, start}
 use Rattle.canvas_message.specs.Fits.{how_many}
 use Rattle.canvas_message.specs.Flowing.{Input, number_input, list_input, id_input, LineFlow, run, skips, raise, after_outcome}
 use Rattle.canvas_message.specs.Job.{Job, store, publish, hand_in}
@@ -271,7 +271,7 @@ stop_items (in_chord g c) k v = refl
 result_same : (t : Task) (x : Input) → events.outcome_with t x ≡ result t x
 result_same (task k call ls es) x = refl
 
-errbacks_same : (t : Task) → events.errbacks_of t ≡ its_errbacks t
+errbacks_same : (t : Task) → events.errbacks_in t ≡ its_errbacks t
 errbacks_same (task k call ls es) = refl
 
 joined_same : (x : LineFlow) (es : List (ℕ × Outcome)) → events.joined x es ≡ joined x es
@@ -306,7 +306,7 @@ mutual
       let m : Message = message (task k call ls es) x (parent_of v) rest p in
       let o : Outcome = result (task k call ls es) x in
       ap (λ is. (v, publish (content m)) ∷ (running k, store k o) ∷ is)
-      (chosen_same o _ _ (ran_all ls (events.input_of_success o) (end_of k)) (ran_all es (id_input k) (end_of k)) (ran_all_sent ls (events.input_of_success o) (end_of k)) (ran_all_sent es (id_input k) (end_of k)))
+      (chosen_same o _ _ (ran_all ls (events.input_of_success o) (end_of_line k)) (ran_all es (id_input k) (end_of_line k)) (ran_all_sent ls (events.input_of_success o) (end_of_line k)) (ran_all_sent es (id_input k) (end_of_line k)))
 
   ran_all_sent : (ts : Tasks) (x : Input) (v : Event) → events.ran_all ts x v ≡ items_of (ran_all ts x v)
   ran_all_sent no_tasks x v = refl
@@ -330,13 +330,13 @@ mutual
   pub items_sent : (l : Line) (x : LineFlow) (p : Place) (k : ℕ) (v : Event) → events.events_in_file l x (put p) k v ≡ items_of (items l x p k v)
   items_sent stop x p k v = stop_items p k v
   items_sent (step t rest) (run x) p k v =
-      items_joined (events.ran t x v rest (put p)) (events.events_in_file rest (after_outcome (events.outcome_with t x)) (put p) (no_of t) (end_of (no_of t))) (ran t x v rest p)
-      (items rest (after_outcome (result t x)) p (no_of t) (end_of (no_of t))) (ran_sent t x v rest p)
-      (ap (λ o. events.events_in_file rest (after_outcome o) (put p) (no_of t) (end_of (no_of t))) (result_same t x) ∙ items_sent rest (after_outcome (result t x)) p (no_of t) (end_of (no_of t)))
+      items_joined (events.ran t x v rest (put p)) (events.events_in_file rest (after_outcome (events.outcome_with t x)) (put p) (no_of t) (end_of_line (no_of t))) (ran t x v rest p)
+      (items rest (after_outcome (result t x)) p (no_of t) (end_of_line (no_of t))) (ran_sent t x v rest p)
+      (ap (λ o. events.events_in_file rest (after_outcome o) (put p) (no_of t) (end_of_line (no_of t))) (result_same t x) ∙ items_sent rest (after_outcome (result t x)) p (no_of t) (end_of_line (no_of t)))
   items_sent (step t rest) (skips f) p k v = ap (λ is. (v, store (no_of t) (Failure f)) ∷ is) (items_sent rest (skips f) p (no_of t) v)
   items_sent (step t rest) (raise f) p k v =
       ap (λ is. (v, store (no_of t) (Failure f)) ∷ is)
-      (items_joined (events.ran_all (events.errbacks_of t) (id_input (no_of t)) v) (events.events_in_file rest (skips f) (put p) (no_of t) v) (ran_all (its_errbacks t) (id_input (no_of t)) v) (items rest (skips f) p (no_of t) v)
+      (items_joined (events.ran_all (events.errbacks_in t) (id_input (no_of t)) v) (events.events_in_file rest (skips f) (put p) (no_of t) v) (ran_all (its_errbacks t) (id_input (no_of t)) v) (items rest (skips f) p (no_of t) v)
       (ap (λ es. events.ran_all es (id_input (no_of t)) v) (errbacks_same t) ∙ ran_all_sent (its_errbacks t) (id_input (no_of t)) v) (items_sent rest (skips f) p (no_of t) v))
   items_sent (group_end g ms) x p k v = items_all_sent ms x (in_group g) v
   items_sent (chord_end g ms body) x p k v =

@@ -7,7 +7,7 @@ use Rattle.canvas_semantics.specs.Line.{Line, members}
 use Rattle.canvas_rewrite.specs.Planned.{IsPlan}
 use Rattle.canvas_rewrite.proofs.Members.{plan_apart}
 use Rattle.canvas_message.specs.Content.{Content, number_of}
-use Rattle.canvas_message.specs.Events.{In, Event, start, running, end_of, completion, DoesIn}
+use Rattle.canvas_message.specs.Events.{In, Event, start, running, end_of_line, completion, DoesIn}
 use Rattle.canvas_message.specs.Job as job
 use Rattle.canvas_message.specs.declared.envelope.Envelope.{Envelope}
 use Rattle.canvas_backend.specs.declared.stored.Stored.TheVariants.{First, Again}
@@ -94,9 +94,9 @@ module _ (l : Line) (plan : IsPlan l) (r : Run l) where
   brought p start (stored t o true) d i = absurd (d refl)
   brought p (running k) (stored t o true) d i = absurd (d refl)
   brought p (completion g) (stored t o true) d i = absurd (d refl)
-  brought p (end_of k) (stored t o true) d i = go (eqb t k) refl d
+  brought p (end_of_line k) (stored t o true) d i = go (eqb t k) refl d
     where
-      go : (b : Bool) → eqb t k ≡ b → (◌≡◌ {A = ℕ} (cond b 1 0) 0 → ⊥) → Brought l p r.table (end_of k)
+      go : (b : Bool) → eqb t k ≡ b → (◌≡◌ {A = ℕ} (cond b 1 0) 0 → ⊥) → Brought l p r.table (end_of_line k)
       go true e d = (o, subst (λ n. In (calls p (store n o) (was First)) r.table) (eqb-true t k e) i)
       go false e d = absurd (d refl)
   brought p v (returned h t n) d i = go (eqb (suc n) (length (members l h))) refl v d
@@ -105,7 +105,7 @@ module _ (l : Line) (plan : IsPlan l) (r : Run l) where
       go false e v d = absurd (d refl)
       go true e start d = absurd (d refl)
       go true e (running k) d = absurd (d refl)
-      go true e (end_of k) d = absurd (d refl)
+      go true e (end_of_line k) d = absurd (d refl)
       go true e (completion g) d = same (eqb h g) refl d
         where
           same : (b : Bool) → eqb h g ≡ b → (◌≡◌ {A = ℕ} (cond b 1 0) 0 → ⊥) → Brought l p r.table (completion g)
@@ -121,7 +121,7 @@ module _ (l : Line) (plan : IsPlan l) (r : Run l) where
       go false e v m = absurd (omega arith)
       go true e start m = eqb-true p 0 e
       go true e (running k) m = absurd (omega arith)
-      go true e (end_of k) m = absurd (omega arith)
+      go true e (end_of_line k) m = absurd (omega arith)
       go true e (completion g) m = absurd (omega arith)
 
   -- a publish, with the message that its envelope opens as

@@ -5,7 +5,7 @@ use Rattle.canvas_task.specs.declared.outcome.Outcome.TheVariants.{Success, Fail
 use Rattle.canvas_semantics.specs.Tree.{Task, task, Tasks, no_tasks, and_task}
 use Rattle.canvas_semantics.specs.FileOrder.{EndsInTask}
 use Rattle.canvas_semantics.specs.Line.{Line, stop, step, group_end, chord_end, Lines, no_lines, and_line, no_of}
-use Rattle.canvas_message.specs.Events.{Event, start, end_of, input_of_success, chosen, parent_of}
+use Rattle.canvas_message.specs.Events.{Event, start, end_of_line, input_of_success, chosen, parent_of}
 use Rattle.canvas_message.specs.Flowing.{Input, no_input, id_input, LineFlow, run, skips, raise, after_outcome}
 use Rattle.canvas_message.specs.Job.{store, publish, hand_in}
 use Rattle.canvas_runs.specs.Lists.{Each}
@@ -45,7 +45,7 @@ mutual
   ran_ends : (t : Task) (x : Input) (v : Event) (rest : Line) (p : Place) → EndsAt true p rest → AllEnd (ran t x v rest p)
   ran_ends (task k call links errbacks) x v rest p e =
       let o : Outcome = outcome_of (message (task k call links errbacks) x (parent_of v) rest p) in
-      (e, (tt, picked o (ran_all links (input_of_success o) (end_of k)) (ran_all errbacks (id_input k) (end_of k)) (ran_all_ends links (input_of_success o) (end_of k)) (ran_all_ends errbacks (id_input k) (end_of k))))
+      (e, (tt, picked o (ran_all links (input_of_success o) (end_of_line k)) (ran_all errbacks (id_input k) (end_of_line k)) (ran_all_ends links (input_of_success o) (end_of_line k)) (ran_all_ends errbacks (id_input k) (end_of_line k))))
 
   ran_all_ends : (ts : Tasks) (x : Input) (v : Event) → AllEnd (ran_all ts x v)
   ran_all_ends no_tasks x v = tt
@@ -82,8 +82,8 @@ module _ (table : ℕ → List ℕ) where
     items_end : (l : Line) (x : LineFlow) (p : Place) (t : ℕ) (v : Event) (behind : Bool) (low high : ℕ) → EndsAt behind p l → EndsPlace p → LineIn table l low high → AllEnd (items l x p t v)
     items_end stop x p t v behind low high e q n = stop_ends p t v q
     items_end (step k rest) (run x) p t v behind low high e q n =
-        both (ran k x v rest p) (items rest (after_outcome (result k x)) p (no_of k) (end_of (no_of k))) (ran_ends k x v rest p (rest_ends behind p k rest e))
-        (items_end rest (after_outcome (result k x)) p (no_of k) (end_of (no_of k)) true n.0 high (rest_ends behind p k rest e) q n.2)
+        both (ran k x v rest p) (items rest (after_outcome (result k x)) p (no_of k) (end_of_line (no_of k))) (ran_ends k x v rest p (rest_ends behind p k rest e))
+        (items_end rest (after_outcome (result k x)) p (no_of k) (end_of_line (no_of k)) true n.0 high (rest_ends behind p k rest e) q n.2)
     items_end (step k rest) (skips f) p t v behind low high e q n = (tt, items_end rest (skips f) p (no_of k) v true n.0 high (rest_ends behind p k rest e) q n.2)
     items_end (step k rest) (raise f) p t v behind low high e q n = (
       tt,

@@ -2,7 +2,7 @@
 use Rattle.std.specs.Prelude.{ℕ, List, [], ◌∷◌, ◌++◌, None}
 use Rattle.canvas_message.specs.Events.{In}
 use Rattle.canvas_message.specs.Job.{Job, store, publish}
-use Rattle.canvas_message.specs.Events.{parent_of, flow_outcome, input_of_success, chosen, Event, start, running, end_of, completion}
+use Rattle.canvas_message.specs.Events.{parent_of, flow_outcome, input_of_success, chosen, Event, start, running, end_of_line, completion}
 use Rattle.canvas_message.specs.Flowing.{Input, no_input, id_input, LineFlow, run, skips, raise}
 use Rattle.canvas_semantics.specs.Line.{Line, stop, step, group_end, chord_end, Lines, no_lines, and_line, no_of}
 use Rattle.canvas_semantics.specs.Tree.{Task, task, Tasks, no_tasks, and_task}
@@ -64,7 +64,7 @@ abbrev mutual
   ran (task k call links errbacks) x v rest p =
       let m : Message = message (task k call links errbacks) x (parent_of v) rest p in
       let o : Outcome = outcome_of m in
-      (v, publish m) ∷ (running k, store k o) ∷ chosen o (ran_all links (input_of_success o) (end_of k)) (ran_all errbacks (id_input k) (end_of k))
+      (v, publish m) ∷ (running k, store k o) ∷ chosen o (ran_all links (input_of_success o) (end_of_line k)) (ran_all errbacks (id_input k) (end_of_line k))
 
   pub ran_all : Tasks → Input → Event → Items
   ran_all no_tasks x v = []
@@ -74,7 +74,7 @@ abbrev mutual
 abbrev mutual
   pub items : Line → LineFlow → Place → ℕ → Event → Items
   items stop x p t v = labelled v (at_stop p t)
-  items (step k rest) (run x) p t v = ran k x v rest p ++ items rest (after_outcome (result k x)) p (no_of k) (end_of (no_of k))
+  items (step k rest) (run x) p t v = ran k x v rest p ++ items rest (after_outcome (result k x)) p (no_of k) (end_of_line (no_of k))
   items (step k rest) (skips f) p t v = (v, store (no_of k) (Failure f)) ∷ items rest (skips f) p (no_of k) v
   items (step k rest) (raise f) p t v = (v, store (no_of k) (Failure f)) ∷ (ran_all (errbacks_of k) (id_input (no_of k)) v ++ items rest (skips f) p (no_of k) v)
   items (group_end g ms) x p t v = items_all ms x (in_group g) v

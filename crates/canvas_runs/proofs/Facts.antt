@@ -12,7 +12,7 @@ use Rattle.canvas_message.specs.Content.{Content, number_of}
 use Rattle.canvas_message.specs.Effects as effects
 use Rattle.canvas_message.specs.Effects.{effect_of, script, stores_in, messages_in, part_in, parted}
 use Rattle.canvas_message.specs.Events as events
-use Rattle.canvas_message.specs.Events.{In, Event, start, running, end_of, completion}
+use Rattle.canvas_message.specs.Events.{In, Event, start, running, end_of_line, completion}
 use Rattle.canvas_message.specs.Flowing.{no_input, run, after_outcome}
 use Rattle.canvas_message.specs.Job.{Job, store, publish, hand_in}
 use Rattle.canvas_message.specs.Ordered.{put, in_order}
@@ -267,14 +267,14 @@ module _ (l : Line) (plan : IsPlan l) where
   -- ---- value
 
   -- each job of a message's end is done by it
-  raw_ended : (m : Message) (v : Event) → In (v, publish m) (evaluation.evaluated l) → Each (Does (end_of m.no)) (X.ended (content m) (outcome_of m))
+  raw_ended : (m : Message) (v : Event) → In (v, publish m) (evaluation.evaluated l) → Each (Does (end_of_line m.no)) (X.ended (content m) (outcome_of m))
   raw_ended m v i =
       let o : Outcome = outcome_of m in
       let js : Jobs = called m.links m.errbacks m.no o ++ enter m.rest (after_outcome o) m.place m.no (Some m.no) in
-      let does : Each (λ x. In (end_of m.no, x) (evaluation.evaluated l)) (after m o) = (items_followed l (run no_input) nowhere 0 start v m i).1 in
-      subst (λ ks. Each (Does (end_of m.no)) (script (effect_of ks))) (sym (ended_sent m o (ends_there v (publish m) i)))
-      (each_script (Does (end_of m.no)) (all_sent js) (each_sent (Does (end_of m.no)) js
-      (each_weaker (λ x z. does_on (end_of m.no) x z) js (from_kind (λ x. In (end_of m.no, x) (evaluation.evaluated l)) js does))))
+      let does : Each (λ x. In (end_of_line m.no, x) (evaluation.evaluated l)) (after m o) = (items_followed l (run no_input) nowhere 0 start v m i).1 in
+      subst (λ ks. Each (Does (end_of_line m.no)) (script (effect_of ks))) (sym (ended_sent m o (ends_there v (publish m) i)))
+      (each_script (Does (end_of_line m.no)) (all_sent js) (each_sent (Does (end_of_line m.no)) js
+      (each_weaker (λ x z. does_on (end_of_line m.no) x z) js (from_kind (λ x. In (end_of_line m.no, x) (evaluation.evaluated l)) js does))))
 
   raw_completed : (g t : ℕ) (c : Carried) (fs : List (ℕ × Outcome)) (v : Event) → In (v, hand_in g t c) (evaluation.evaluated l) → firsts fs ≡ members l g
       → Each (λ f. Has (plan_facts.X p) (plan_facts.Does p) f.0 f.1) fs → Each (Does (completion g)) (X.completed (load c) fs)
@@ -300,8 +300,8 @@ module _ (l : Line) (plan : IsPlan l) where
       own : (c : Content) (v : Event) → (m : Message) × (c ≡ content m) × In (v, publish m) (evaluation.evaluated l) → Does (running (number_of c.own)) (store (number_of c.own) (effects.outcome_of c))
       own c v (m, e, i) = subst (λ d. Does (running (number_of d.own)) (store (number_of d.own) (effects.outcome_of d))) (sym e) (does_on (running m.no) (store m.no (outcome_of m)) ((plan_facts.value p).own m (v, i)))
 
-      ended : (c : Content) (v : Event) → (m : Message) × (c ≡ content m) × In (v, publish m) (evaluation.evaluated l) → Each (Does (end_of (number_of c.own))) (X.ended c (effects.outcome_of c))
-      ended c v (m, e, i) = subst (λ d. Each (Does (end_of (number_of d.own))) (X.ended d (effects.outcome_of d))) (sym e) (raw_ended m v i)
+      ended : (c : Content) (v : Event) → (m : Message) × (c ≡ content m) × In (v, publish m) (evaluation.evaluated l) → Each (Does (end_of_line (number_of c.own))) (X.ended c (effects.outcome_of c))
+      ended c v (m, e, i) = subst (λ d. Each (Does (end_of_line (number_of d.own))) (X.ended d (effects.outcome_of d))) (sym e) (raw_ended m v i)
 
       completed : (g t : ℕ) (d : Load) (fs : List (ℕ × Outcome)) (v : Event) → (c : Carried) × (d ≡ load c) × In (v, hand_in g t c) (evaluation.evaluated l) → firsts fs ≡ members l g
           → Each (λ f. Has X Does f.0 f.1) fs → Each (Does (completion g)) (X.completed d fs)

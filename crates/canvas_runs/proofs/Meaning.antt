@@ -1,7 +1,7 @@
 -- What an evaluation of a plan says of its tasks, event by event, and the laws by which a run meets it.
 use Rattle.std.specs.Prelude.{ℕ, ◌<◌, ◌≤◌, eqb, cond, ◌≡◌, List, length, Some}
 use Rattle.canvas_message.specs.Events.{In}
-use Rattle.canvas_message.specs.Events.{Event, start, running, end_of, completion}
+use Rattle.canvas_message.specs.Events.{Event, start, running, end_of_line, completion}
 use Rattle.canvas_runs.specs.Lists.{Each, total, firsts}
 use Rattle.canvas_message.specs.Job.{Job, store, publish, hand_in}
 use Rattle.canvas_runs.specs.Protocol.{Protocol}
@@ -65,7 +65,7 @@ module _ (X : Protocol) where
     pub record Evaluates (F : Form) : Type 0 where
       pub first : Each (λ m. Does start (publish m)) X.first
       pub own : (m : X.Message) → IsRun m → Does (running (X.no m)) (store (X.no m) (X.outcome m))
-      pub ended : (m : X.Message) → F.Formed m → IsRun m → Each (Does (end_of (X.no m))) (X.ended m (X.outcome m))
+      pub ended : (m : X.Message) → F.Formed m → IsRun m → Each (Does (end_of_line (X.no m))) (X.ended m (X.outcome m))
       pub completed : (g t : ℕ) (c : X.Carried) (fs : List (ℕ × X.Outcome)) → F.FormedPart g t c → IsReturned g t c → firsts fs ≡ X.members g → Each (λ f. Has f.0 f.1) fs → Each (Does (completion g)) (X.completed c fs)
 
     -- each task is run by one event, and once by it

@@ -5,7 +5,7 @@ use Rattle.canvas_runs.specs.Lists.{Each, total, by, seconds, look_up}
 use Rattle.canvas_message.specs.Job.{store, publish, hand_in}
 use Rattle.canvas_runs.specs.Protocol.{Protocol}
 use Rattle.canvas_runs.specs.Core.{taken, sent, refused, kept, counted, found, rested, taking, resting, owning, doing, reading, Jobs, Doing, Asked, Answer, is_due, settled, opens, all_read, ask, answered, ReadsBack, IsCoreRun}
-use Rattle.canvas_message.specs.Events.{Event, start, running, end_of, completion}
+use Rattle.canvas_message.specs.Events.{Event, start, running, end_of_line, completion}
 use Rattle.canvas_runs.proofs.Meaning.{JobOf, Form, names, publishes, Ordered, Evaluates, Once}
 use Rattle.canvas_runs.specs.Calls.{BrokerCall, published, took, BackendCall, stored, returned, has_read, Follows, follows_all, follows_publish, follows_list_take, follows_core_take, broker_call, backend_call, broker_calls, backend_calls, ReadsMembers, reads_member}
 use Rattle.canvas_runs.proofs.Replay.{IsTable, FirstWins, kept_first, handed}
@@ -73,14 +73,14 @@ one_part g n os ps (returned h m i ∷ cs) l = go (eqb h g) refl (eqb i n) refl 
 abbrev pub same_event : Event → Event → Bool
 same_event start start = true
 same_event (running i) (running j) = eqb i j
-same_event (end_of i) (end_of j) = eqb i j
+same_event (end_of_line i) (end_of_line j) = eqb i j
 same_event (completion i) (completion j) = eqb i j
 same_event e f = false
 
 abbrev pub is_running : Event → ℕ
 is_running start = 0
 is_running (running k) = 1
-is_running (end_of k) = 0
+is_running (end_of_line k) = 0
 is_running (completion g) = 0
 
 -- 1 where the events are the same
@@ -90,7 +90,7 @@ is_event e f = cond (same_event e f) 1 0
 pub same_event-itself : (e : Event) → same_event e e ≡ true
 same_event-itself start = refl
 same_event-itself (running i) = eq-eqb i i refl
-same_event-itself (end_of i) = eq-eqb i i refl
+same_event-itself (end_of_line i) = eq-eqb i i refl
 same_event-itself (completion i) = eq-eqb i i refl
 
 module _ (X : Protocol) where
@@ -105,7 +105,7 @@ module _ (X : Protocol) where
 
   -- 1 where the call shows the event: the first store of a task for its end, the completing part for a completion
   abbrev pub shows : Event → BackendCall X.Outcome → ℕ
-  shows v (stored t o true) = is_event (end_of t) v
+  shows v (stored t o true) = is_event (end_of_line t) v
   shows v (stored t o false) = 0
   shows v (returned g m n) = cond (eqb (suc n) (length (X.members g))) (is_event (completion g) v) 0
   shows v (has_read t o) = 0
@@ -176,7 +176,7 @@ module _ (X : Protocol) where
         go (Some m) = omega arith
     one_step resting (rested true) p q g y = omega arith
     one_step (owning m) (kept true) p q g y =
-        let small = within (end_of (X.no m)) _ (value.ended m p.0 p.1) (once.at_end k m p.0) in
+        let small = within (end_of_line (X.no m)) _ (value.ended m p.0 p.1) (once.at_end k m p.0) in
         let left = debt_settled (X.ended m (X.outcome m)) true in omega arith
     one_step (owning m) (kept false) p q g y = omega arith
     one_step (doing (store t o ∷ js) b) (kept a) p q g y = let left = debt_settled js (cond (is_due t js) a b) in omega arith
@@ -245,9 +245,9 @@ module _ (X : Protocol) where
       none (stored t o false) = refl
       none (returned g m n) = cond_cases (λ i. i ≡ 0) (eqb (suc n) (length (X.members g))) 0 0 (λ e. refl) (λ e. refl)
       none (has_read t o) = refl
-  shows_once (end_of j) cs l = let z = total-le (shows (end_of j)) (first_of j) less cs in let o = one_first j [] [] cs l in omega arith
+  shows_once (end_of_line j) cs l = let z = total-le (shows (end_of_line j)) (first_of j) less cs in let o = one_first j [] [] cs l in omega arith
     where
-      less : (c : BackendCall X.Outcome) → shows (end_of j) c ≤ first_of j c
+      less : (c : BackendCall X.Outcome) → shows (end_of_line j) c ≤ first_of j c
       less (stored t o true) = omega arith
       less (stored t o false) = omega arith
       less (returned g m n) = cond_cases (λ i. i ≤ 0) (eqb (suc n) (length (X.members g))) 0 0 (λ e. omega arith) (λ e. omega arith)

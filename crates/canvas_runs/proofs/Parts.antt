@@ -3,7 +3,7 @@ use Rattle.std.proofs.Common.{◌≡◌, ℕ, suc, Bool, true, false, List, [], 
 use Rattle.canvas_message.specs.Events.{In}
 use Rattle.canvas_runs.specs.Lists.{Each, firsts}
 use Rattle.canvas_message.specs.Job.{store, publish, hand_in}
-use Rattle.canvas_message.specs.Events.{Event, running, end_of, completion}
+use Rattle.canvas_message.specs.Events.{Event, running, end_of_line, completion}
 use Rattle.canvas_message.specs.Flowing.{Input, id_input, LineFlow, run, skips, raise}
 use Rattle.canvas_semantics.specs.Line.{Line, stop, step, group_end, chord_end, Lines, no_lines, and_line, no_of}
 use Rattle.canvas_semantics.specs.Tree.{Task, task, Tasks, no_tasks, and_task}
@@ -55,7 +55,7 @@ module _ (members : ℕ → List ℕ) where
     ran_none : (k : Task) (x : Input) (v : Event) (rest : Line) (p : Place) (e : Event) (g t : ℕ) (c : Carried) → In (e, hand_in g t c) (ran k x v rest p) → ⊥
     ran_none (task k call links errbacks) x v rest p e g t c i =
         ⊎_elim (λ same. apart_publish (ap (λ q. q.1) same)) (λ j. ⊎_elim (λ same. apart_store (ap (λ q. q.1) same))
-        (λ l. chosen_none _ _ _ _ (ran_all_none links _ (end_of k) e g t c) (ran_all_none errbacks (id_input k) (end_of k) e g t c) l) j) i
+        (λ l. chosen_none _ _ _ _ (ran_all_none links _ (end_of_line k) e g t c) (ran_all_none errbacks (id_input k) (end_of_line k) e g t c) l) j) i
 
     ran_all_none : (ts : Tasks) (x : Input) (v : Event) (e : Event) (g t : ℕ) (c : Carried) → In (e, hand_in g t c) (ran_all ts x v) → ⊥
     ran_all_none no_tasks x v e g t c = λ i. elim i [ ]
@@ -83,7 +83,7 @@ module _ (members : ℕ → List ℕ) where
   line_ended : (l : Line) (behind : Bool) (x : LineFlow) (p : Place) (t : ℕ) (v : Event) → EndsInTask behind l → Ended behind t l x (items l x p t v)
   line_ended stop behind x p t v e = inl (e, refl, refl)
   line_ended (step k rest) behind (run x) p t v e =
-      inr (behind_one (no_of k) rest _ (result k x) (ran k x v rest p) _ (flow_outcome-after (result k x)) (own_kept k x v rest p) (line_ended rest true (after_outcome (result k x)) p (no_of k) (end_of (no_of k)) e))
+      inr (behind_one (no_of k) rest _ (result k x) (ran k x v rest p) _ (flow_outcome-after (result k x)) (own_kept k x v rest p) (line_ended rest true (after_outcome (result k x)) p (no_of k) (end_of_line (no_of k)) e))
   line_ended (step k rest) behind (skips f) p t v e =
       inr (behind_one (no_of k) rest (skips f) (Failure f) ((v, store (no_of k) (Failure f)) ∷ []) _ refl (v, inl refl) (line_ended rest true (skips f) p (no_of k) v e))
   line_ended (step k rest) behind (raise f) p t v e =
@@ -149,7 +149,7 @@ module _ (members : ℕ → List ℕ) where
     items_parted stop x p t v low high n e g u c i = inl (stop_part p t v e g u c i)
     items_parted (step k rest) (run x) p t v low high n e g u c i =
         ⊎_elim (λ a. absurd (ran_none k x v rest p e g u c a))
-        (λ b. parted_right p g c (ran k x v rest p) _ (items_parted rest (after_outcome (result k x)) p (no_of k) (end_of (no_of k)) n.0 high n.2 e g u c b))
+        (λ b. parted_right p g c (ran k x v rest p) _ (items_parted rest (after_outcome (result k x)) p (no_of k) (end_of_line (no_of k)) n.0 high n.2 e g u c b))
         (in_append_cases (ran k x v rest p) _ _ i)
     items_parted (step k rest) (skips f) p t v low high n e g u c i =
         ⊎_elim (λ same. absurd (apart_store (ap (λ q. q.1) same)))

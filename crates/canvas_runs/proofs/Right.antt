@@ -5,7 +5,7 @@ use Rattle.canvas_runs.specs.Lists.{Each, by, seconds, firsts}
 use Rattle.canvas_message.specs.Job.{store, publish, hand_in}
 use Rattle.canvas_runs.specs.Protocol.{Protocol}
 use Rattle.canvas_runs.specs.Core.{take, send, keep, part, read, pause, taken, sent, refused, kept, counted, found, rested, taking, Doing, Asked, Answer, answered, Suits, IsCoreRun}
-use Rattle.canvas_message.specs.Events.{Event, start, running, end_of, completion}
+use Rattle.canvas_message.specs.Events.{Event, start, running, end_of_line, completion}
 use Rattle.canvas_runs.proofs.Meaning.{JobOf, Form, After, Beyond, Ordered, Has, IsRun, IsReturned, Evaluates}
 use Rattle.canvas_runs.specs.Calls.{BrokerCall, published, took, BackendCall, stored, returned, has_read, broker_call, backend_call, broker_calls, backend_calls}
 use Rattle.canvas_runs.proofs.Run.{Run}
@@ -111,9 +111,9 @@ module _ (X : Protocol) (F : Form X) (Does : Event → JobOf X → Type 0) (orde
   pub right_closed : Closed X (right_goods X F Does)
   right_closed = record {
     own = λ m f. (running (X.no m), value.own m f.1);
-    ended = λ m f. each_from_in _ (λ x i. ended_right (X.no m) (end_of (X.no m)) x
+    ended = λ m f. each_from_in _ (λ x i. ended_right (X.no m) (end_of_line (X.no m)) x
         (in_each (After X F (X.no m)) _ (order.ended m (X.outcome m) f.0) x i)
-        (in_each (Does (end_of (X.no m))) _ (value.ended m f.0 f.1) x i));
+        (in_each (Does (end_of_line (X.no m))) _ (value.ended m f.0 f.1) x i));
     completed = λ g t c fs p e all. each_from_in _ (λ x i. completed_right g (completion g) x
         (in_each (Beyond X F g) _ (order.completed g t c fs p.0 e) x i)
         (in_each (Does (completion g)) _ (value.completed g t c fs p.0 p.1 e all) x i));
@@ -217,9 +217,9 @@ module _ (X : Protocol) (F : Form X) (Does : Event → JobOf X → Type 0) (orde
   goods_closed : (r : ℕ) → Closed X (goods r)
   goods_closed r = record {
     own = λ m f b. (running (X.no m), value.own m (f.1 (omega arith)));
-    ended = λ m f. each_from_in _ (λ x i. ended_job r (X.no m) (end_of (X.no m)) x
+    ended = λ m f. each_from_in _ (λ x i. ended_job r (X.no m) (end_of_line (X.no m)) x
         (in_each (After X F (X.no m)) _ (order.ended m (X.outcome m) f.0) x i)
-        (λ b. in_each (Does (end_of (X.no m))) _ (value.ended m f.0 (f.1 b)) x i));
+        (λ b. in_each (Does (end_of_line (X.no m))) _ (value.ended m f.0 (f.1 b)) x i));
     completed = λ g t c fs p e all. each_from_in _ (λ x i. completed_job r g (completion g) x
         (in_each (Beyond X F g) _ (order.completed g t c fs p.0 e) x i)
         (λ n u b. in_each (Does (completion g)) _

@@ -4,7 +4,7 @@ use Rattle.std.proofs.lemmas.Bool.{eqb-true}
 use Rattle.canvas_message.specs.Events.{In}
 use Rattle.canvas_runs.specs.Lists.{total}
 use Rattle.canvas_message.specs.Job.{store, publish, hand_in}
-use Rattle.canvas_message.specs.Events.{Event, running, end_of}
+use Rattle.canvas_message.specs.Events.{Event, running, end_of_line}
 use Rattle.canvas_message.specs.Flowing.{Input, list_input, id_input, LineFlow, run, skips, raise}
 use Rattle.canvas_semantics.specs.Line.{Line, stop, step, group_end, chord_end, Lines, no_lines, and_line, no_of}
 use Rattle.canvas_semantics.specs.Tree.{Task, task, Tasks, no_tasks, and_task}
@@ -155,7 +155,7 @@ module _ (members : ℕ → List ℕ) (b : Bool) where
     ran_rises : (t : Task) (x : Input) (v : Event) (rest : Line) (p : Place) (low high : ℕ) → TaskIn t low high → Up low (ran t x v rest p) high
     ran_rises (task k call links errbacks) x v rest p low high (l, middle, i, j) =
         two_rise k low high v (running k) _ _ _ refl l
-        (chosen_rises _ (suc k) middle high _ _ (ran_all_rises links _ (end_of k) (suc k) middle i) (ran_all_rises errbacks (id_input k) (end_of k) middle high j)
+        (chosen_rises _ (suc k) middle high _ _ (ran_all_rises links _ (end_of_line k) (suc k) middle i) (ran_all_rises errbacks (id_input k) (end_of_line k) middle high j)
         (tasks_span links (suc k) middle i) (tasks_span errbacks middle high j))
 
     ran_all_rises : (ts : Tasks) (x : Input) (v : Event) (low high : ℕ) → TasksIn ts low high → Up low (ran_all ts x v) high
@@ -181,7 +181,7 @@ module _ (members : ℕ → List ℕ) (b : Bool) where
     items_rise stop x p t v low high n = stop_rises p t v low high n
     items_rise (step k rest) (run x) p t v low high (middle, i, j) =
         rises_append (item_key b) low middle high (ran k x v rest p) _ (ran_rises k x v rest p low middle i)
-        (items_rise rest (after_outcome (result k x)) p (no_of k) (end_of (no_of k)) middle high j)
+        (items_rise rest (after_outcome (result k x)) p (no_of k) (end_of_line (no_of k)) middle high j)
     items_rise (step k rest) (skips f) p t v low high (middle, i, j) =
         let span = task_span k low middle i in
         rises_one (item_key b) low (no_of k) high (v, store (no_of k) (Failure f)) _ span.0 (stored_key b (no_of k) (Failure f))

@@ -10,7 +10,8 @@ use Rattle.canvas_backend.specs.Roster.{roster_of}
 use Rattle.canvas_runs.specs.Crew.{ReadsWhatIsHeld}
 use Rattle.canvas_runs.specs.Following.{Pass, Seat}
 use Rattle.canvas_runs.specs.Lists.{Each}
-use Rattle.canvas_runs.specs.Rows.{reads_from, RanTo, RanWell, EachMay}
+use Rattle.canvas_runs.specs.Rows.{reads_from, RanTo, RanWell}
+use Rattle.canvas_semantics.specs.States.{EachMay}
 use Rattle.canvas_runs.proofs.Closing.{closing_held}
 use Rattle.canvas_runs.proofs.FirstLaw.{first_part}
 use Rattle.canvas_runs.proofs.FromCrew.{the_run, the_closed}

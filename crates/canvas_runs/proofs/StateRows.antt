@@ -13,7 +13,7 @@ use Rattle.canvas_semantics.specs.FileOrder.{TaskIn, TasksIn}
 use Rattle.canvas_semantics.specs.Line.{Line, stop, step, group_end, chord_end, Lines, no_lines, and_line, no_of, elements_of, members_of, all_ends_of}
 use Rattle.canvas_semantics.proofs.EndLemmas.{ends_of_tree}
 use Rattle.canvas_message.specs.Effects as effects
-use Rattle.canvas_message.specs.Events.{Event, In, end_of, input_of_success, chosen}
+use Rattle.canvas_message.specs.Events.{Event, In, end_of_line, input_of_success, chosen}
 use Rattle.canvas_message.specs.Flowing.{Input, no_input, number_input, list_input, id_input, LineFlow, run, skips as skip, raise, input_flow, flow_of, after_outcome}
 use Rattle.canvas_message.specs.Job.{store, publish, hand_in}
 use Rattle.canvas_runs.specs.Lists.{Each, firsts}
@@ -111,12 +111,12 @@ rows_by : (k : ℕ) (call : Call) (ls es : Tasks) (x : Option eval.Flow) (s : St
 rows_by k call ls es x s e = ap (λ s. (k, s) ∷ tasks_rows ls (to_links s) ++ tasks_rows es (to_errbacks k x s)) e
 
 -- links, or error callbacks
-chosen_rows : (k : ℕ) (ls es : Tasks) (x : Input) (o : Outcome) → ((n : ℤ) → kept (tasks_rows ls (Some (eval.num n))) ≡ stored (ran_all ls (number_input n) (end_of k)))
-    → kept (tasks_rows es (Some (eval.id k))) ≡ stored (ran_all es (id_input k) (end_of k))
-    → kept (tasks_rows ls (to_links (Some o)) ++ tasks_rows es (to_errbacks k (Some (input_flow x)) (Some o))) ≡ stored (chosen o (ran_all ls (input_of_success o) (end_of k)) (ran_all es (id_input k) (end_of k)))
+chosen_rows : (k : ℕ) (ls es : Tasks) (x : Input) (o : Outcome) → ((n : ℤ) → kept (tasks_rows ls (Some (eval.num n))) ≡ stored (ran_all ls (number_input n) (end_of_line k)))
+    → kept (tasks_rows es (Some (eval.id k))) ≡ stored (ran_all es (id_input k) (end_of_line k))
+    → kept (tasks_rows ls (to_links (Some o)) ++ tasks_rows es (to_errbacks k (Some (input_flow x)) (Some o))) ≡ stored (chosen o (ran_all ls (input_of_success o) (end_of_line k)) (ran_all es (id_input k) (end_of_line k)))
 chosen_rows k ls es x (Success n) f g =
     kept_more (tasks_rows ls (Some (eval.num n))) (tasks_rows es (to_errbacks k (Some (input_flow x)) (Some (Success n))))
-    ∙ (ap₂ (λ a b. a ++ b) (f n) (ap (λ y. kept (tasks_rows es y)) (input_passes k x n) ∙ none_tasks es) ∙ append-nil (stored (ran_all ls (number_input n) (end_of k))))
+    ∙ (ap₂ (λ a b. a ++ b) (f n) (ap (λ y. kept (tasks_rows es y)) (input_passes k x n) ∙ none_tasks es) ∙ append-nil (stored (ran_all ls (number_input n) (end_of_line k))))
 chosen_rows k ls es x (Failure e) f g =
     kept_more (tasks_rows ls None) (tasks_rows es (to_errbacks k (Some (input_flow x)) (Some (Failure e))))
     ∙ ap₂ (λ a b. a ++ b) (none_tasks ls) (ap (λ y. kept (tasks_rows es y)) (input_fails k x e) ∙ g)
@@ -126,7 +126,7 @@ mutual
   task_kept (task k call ls es) x v rest p =
       let o : Outcome = result (task k call ls es) x in
       ap kept (rows_by k call ls es (Some (input_flow x)) (Some o) (input_state call x))
-      ∙ ap (λ rs. (k, o) ∷ rs) (chosen_rows k ls es x o (λ n. tasks_kept ls (number_input n) (end_of k)) (tasks_kept es (id_input k) (end_of k)))
+      ∙ ap (λ rs. (k, o) ∷ rs) (chosen_rows k ls es x o (λ n. tasks_kept ls (number_input n) (end_of_line k)) (tasks_kept es (id_input k) (end_of_line k)))
 
   tasks_kept : (ts : Tasks) (x : Input) (v : Event) → kept (tasks_rows ts (Some (input_flow x))) ≡ stored (ran_all ts x v)
   tasks_kept no_tasks x v = refl
@@ -295,13 +295,13 @@ module _ (table : ℕ → List ℕ) where
   ends_in (and_line m ms) low high (middle, i, e, j) = ap₂ (λ a b. a ++ b) (one_end m 0 e) (ends_in ms middle high j)
 
   -- a header's value, by its members' outcomes
-  header_value : (ms : Lines) (x : LineFlow) (low high : ℕ) → LinesIn table ms low high → all_ends_of ms ≡ lasts ms → kept (member_rows (members_of ms) (flow_of x)) ≡ stored (items_all ms x nowhere (end_of 0))
+  header_value : (ms : Lines) (x : LineFlow) (low high : ℕ) → LinesIn table ms low high → all_ends_of ms ≡ lasts ms → kept (member_rows (members_of ms) (flow_of x)) ≡ stored (items_all ms x nowhere (end_of_line 0))
       → header_out ms (flow_of x) ≡ flow_of (joined x (outs ms x))
   header_value ms x low high n ends same =
       let rows : Rows = member_rows (members_of ms) (flow_of x) in
       let there : Each (λ e. state_of e.0 rows ≡ Some e.1) (outs ms x) =
-      each_weaker (λ e k. look low rows high (members_up table ms (flow_of x) low high n) e.0 e.1 (subst (In (e.0, e.1)) (sym same) (in_stored k.0 e.0 e.1 (items_all ms x nowhere (end_of 0)) k.1))) (outs ms x)
-      (members_kept table ms x nowhere (end_of 0) low high n) in
+      each_weaker (λ e k. look low rows high (members_up table ms (flow_of x) low high n) e.0 e.1 (subst (In (e.0, e.1)) (sym same) (in_stored k.0 e.0 e.1 (items_all ms x nowhere (end_of_line 0)) k.1))) (outs ms x)
+      (members_kept table ms x nowhere (end_of_line 0) low high n) in
       ap (λ ks. group_value (flow_of x) (with_states rows ks)) (tree_ends ms ∙ (ends ∙ sym (firsts-outs table ms x)))
       ∙ (ap (group_value (flow_of x)) (states_of rows (outs ms x) there) ∙ joined_flow x (outs ms x))
 
@@ -310,8 +310,8 @@ module _ (table : ℕ → List ℕ) where
     rows_same stop x p k v low high n = sym (stop_stored p k v)
     rows_same (step t l) (run x) p k v low high (middle, i, j) =
         kept_more (eval.task_meaning t (input_flow x)).rows (line_rows l (eval.task_meaning t (input_flow x)).out)
-        ∙ pair_both _ _ (ran t x v l p) (items l (after_outcome (result t x)) p (no_of t) (end_of (no_of t))) (ap kept (meaning_rows t (input_flow x)) ∙ task_kept t x v l p)
-        (ap (λ y. kept (line_rows l y)) (passes t x) ∙ rows_same l (after_outcome (result t x)) p (no_of t) (end_of (no_of t)) middle high j)
+        ∙ pair_both _ _ (ran t x v l p) (items l (after_outcome (result t x)) p (no_of t) (end_of_line (no_of t))) (ap kept (meaning_rows t (input_flow x)) ∙ task_kept t x v l p)
+        (ap (λ y. kept (line_rows l y)) (passes t x) ∙ rows_same l (after_outcome (result t x)) p (no_of t) (end_of_line (no_of t)) middle high j)
     rows_same (step t l) (skip f) p k v low high (middle, i, j) =
         kept_more (eval.task_meaning t (eval.skip f)).rows (line_rows l (eval.task_meaning t (eval.skip f)).out)
         ∙ ap₂ (λ a b. a ++ b) (ap kept (meaning_rows t (eval.skip f)) ∙ skipped_kept t f) (ap (λ y. kept (line_rows l y)) (skips t f) ∙ rows_same l (skip f) p (no_of t) v middle high j)
@@ -324,7 +324,7 @@ module _ (table : ℕ → List ℕ) where
         ap kept (chord_rows g ms b (flow_of x))
         ∙ (kept_more (member_rows (members_of ms) (flow_of x)) (line_rows b (header_out ms (flow_of x)))
         ∙ pair_both _ _ (items_all ms x (header_place x g ms b p) v) (items b (joined x (outs ms x)) p 0 (body_event x ms g v)) (members_same ms x (header_place x g ms b p) v low middle i)
-        (ap (λ y. kept (line_rows b y)) (header_value ms x low middle i (ends_in ms low middle i) (members_same ms x nowhere (end_of 0) low middle i)) ∙ rows_same b (joined x (outs ms x)) p 0 (body_event x ms g v) middle high j))
+        (ap (λ y. kept (line_rows b y)) (header_value ms x low middle i (ends_in ms low middle i) (members_same ms x nowhere (end_of_line 0) low middle i)) ∙ rows_same b (joined x (outs ms x)) p 0 (body_event x ms g v) middle high j))
 
     members_same : (ms : Lines) (x : LineFlow) (p : Place) (v : Event) (low high : ℕ) → LinesIn table ms low high → kept (member_rows (members_of ms) (flow_of x)) ≡ stored (items_all ms x p v)
     members_same no_lines x p v low high n = refl

@@ -5,7 +5,7 @@ use Rattle.canvas_runs.specs.Lists.{Each, total, by, seconds, look_up}
 use Rattle.canvas_message.specs.Job.{store, publish, hand_in}
 use Rattle.canvas_runs.specs.Protocol.{Protocol}
 use Rattle.canvas_runs.specs.Core.{taken, sent, refused, kept, counted, found, rested, taking, resting, owning, doing, reading, Jobs, Doing, Asked, Answer, is_due, settled, opens, all_read, ask, answered, IsCoreRun}
-use Rattle.canvas_message.specs.Events.{Event, start, running, end_of, completion}
+use Rattle.canvas_message.specs.Events.{Event, start, running, end_of_line, completion}
 use Rattle.canvas_runs.proofs.Meaning.{JobOf, Form, names, keeps, Ordered, IsRun, Evaluates, Once, KeptOnce}
 use Rattle.canvas_runs.specs.Calls.{BrokerCall, published, took, BackendCall, stored, returned, has_read, Follows, follows_all, follows_publish, follows_list_take, follows_core_take, broker_call, backend_call, broker_calls, backend_calls, ReadsMembers, reads_member}
 use Rattle.canvas_runs.proofs.Replay.{IsQueue, IsTable, FirstWins, kept_first}
@@ -149,7 +149,7 @@ module _ (X : Protocol) where
     one_step resting (rested true) p q g = omega arith
     one_step (owning m) (kept true) p q g =
         let own = own_within m p.1 in
-        let small = within (end_of (X.no m)) _ (value.ended m p.0 p.1) (once.at_end k m p.0) in
+        let small = within (end_of_line (X.no m)) _ (value.ended m p.0 p.1) (once.at_end k m p.0) in
         let left = debt_settled (X.ended m (X.outcome m)) true in omega arith
     one_step (owning m) (kept false) p q g = let own = own_within m p.1 in omega arith
     one_step (doing (store t o ∷ js) b) (kept a) p q g = let left = debt_settled js (cond (is_due t js) a b) in omega arith
@@ -238,7 +238,7 @@ module _ (X : Protocol) where
           run_case : (e : Event) (i : ℕ) → i ≤ 1 → cond (same_event (running k) e) i 0 ≤ is_running e
           run_case start i l = omega arith
           run_case (running j) i l = cond_cases (λ x. x ≤ 1) (eqb k j) i 0 (λ e. l) (λ e. omega arith)
-          run_case (end_of j) i l = omega arith
+          run_case (end_of_line j) i l = omega arith
           run_case (completion g) i l = omega arith
 
     -- no task is stored twice, First or Again

@@ -3,7 +3,7 @@ use Rattle.std.proofs.Common.{◌≡◌, ℕ, List, [], ◌∷◌, ◌++◌, Som
 use Rattle.canvas_message.specs.Events.{In}
 use Rattle.canvas_runs.specs.Lists.{Each}
 use Rattle.canvas_message.specs.Job.{Job, store, publish, hand_in}
-use Rattle.canvas_message.specs.Events.{Event, running, end_of}
+use Rattle.canvas_message.specs.Events.{Event, running, end_of_line}
 use Rattle.canvas_message.specs.Flowing.{Input, number_input, list_input, id_input, LineFlow, run, skips, raise}
 use Rattle.canvas_semantics.specs.Line.{Line, stop, step, group_end, chord_end, Lines, no_lines, and_line, no_of}
 use Rattle.canvas_semantics.specs.Tree.{Task, task, Tasks, no_tasks, and_task}
@@ -147,7 +147,7 @@ mutual
 
 -- the outcome of a message's task and what its end does
 abbrev pub Answered : Message → Items → Type 0
-Answered m all = In (running m.no, store m.no (outcome_of m)) all × AllIn (end_of m.no) all (after m (outcome_of m))
+Answered m all = In (running m.no, store m.no (outcome_of m)) all × AllIn (end_of_line m.no) all (after m (outcome_of m))
 
 answered_left : (m : Message) (xs ys : Items) → Answered m xs → Answered m (xs ++ ys)
 answered_left m xs ys a = (in_left xs ys _ a.0, all_left _ xs ys _ a.1)
@@ -175,9 +175,9 @@ followed_append : (is js : Items) → Followed is is → Followed js js → Foll
 followed_append is js f g = followed_both is js (is ++ js) (followed_left is is js f) (followed_right js is js g)
 
 called_in : (links errbacks : Tasks) (k : ℕ) (o : Outcome) →
-    AllIn (end_of k) (chosen o (ran_all links (input_of_success o) (end_of k)) (ran_all errbacks (id_input k) (end_of k))) (called links errbacks k o)
-called_in links errbacks k (Success n) = callbacks_in links (number_input n) (end_of k)
-called_in links errbacks k (Failure f) = callbacks_in errbacks (id_input k) (end_of k)
+    AllIn (end_of_line k) (chosen o (ran_all links (input_of_success o) (end_of_line k)) (ran_all errbacks (id_input k) (end_of_line k))) (called links errbacks k o)
+called_in links errbacks k (Success n) = callbacks_in links (number_input n) (end_of_line k)
+called_in links errbacks k (Failure f) = callbacks_in errbacks (id_input k) (end_of_line k)
 
 chosen_followed : (o : Outcome) (xs ys : Items) → Followed xs xs → Followed ys ys → Followed (chosen o xs ys) (chosen o xs ys)
 chosen_followed (Success n) xs ys f g = f
@@ -185,8 +185,8 @@ chosen_followed (Failure n) xs ys f g = g
 
 -- one task that runs, before what comes of its end in the rest of its line
 ran_all_at : (k : ℕ) (links errbacks : Tasks) (x : Input) (v : Event) (m : Message) (inner later : Items) (o : Outcome) →
-    m.no ≡ k → outcome_of m ≡ o → AllIn (end_of k) inner (called m.links m.errbacks k o) →
-    AllIn (end_of k) later (enter m.rest (after_outcome o) m.place k (Some k)) →
+    m.no ≡ k → outcome_of m ≡ o → AllIn (end_of_line k) inner (called m.links m.errbacks k o) →
+    AllIn (end_of_line k) later (enter m.rest (after_outcome o) m.place k (Some k)) →
     Followed inner inner →
     Followed ((v, publish m) ∷ (running k, store k o) ∷ inner) ((v, publish m) ∷ (running k, store k o) ∷ (inner ++ later))
 ran_all_at k links errbacks x v m inner later o no_is out_is calls rest f e n (inl same) =
@@ -196,8 +196,8 @@ ran_all_at k links errbacks x v m inner later o no_is out_is calls rest f e n (i
       subst (λ u. In (running u, store u (outcome_of m)) ((v, publish m) ∷ (running k, store k o) ∷ (inner ++ later))) (sym no_is)
           (subst (λ u. In (running k, store k u) ((v, publish m) ∷ (running k, store k o) ∷ (inner ++ later))) (sym out_is) (inr (inl refl))),
       all_more _ (v, publish m) ((running k, store k o) ∷ (inner ++ later)) _ (all_more _ (running k, store k o) (inner ++ later) _
-          (subst (λ u. AllIn (end_of u) (inner ++ later) (by_kind (called m.links m.errbacks u (outcome_of m) ++ enter m.rest (after_outcome (outcome_of m)) m.place u (Some u)))) (sym no_is)
-          (subst (λ u. AllIn (end_of k) (inner ++ later) (by_kind (called m.links m.errbacks k u ++ enter m.rest (after_outcome u) m.place k (Some k)))) (sym out_is)
+          (subst (λ u. AllIn (end_of_line u) (inner ++ later) (by_kind (called m.links m.errbacks u (outcome_of m) ++ enter m.rest (after_outcome (outcome_of m)) m.place u (Some u)))) (sym no_is)
+          (subst (λ u. AllIn (end_of_line k) (inner ++ later) (by_kind (called m.links m.errbacks k u ++ enter m.rest (after_outcome u) m.place k (Some k)))) (sym out_is)
           (each_by_kind _ _ (all_both _ _ (called m.links m.errbacks k o) _ (all_left _ inner later _ calls) (all_right _ inner later _ rest)))))),
     )
 ran_all_at k links errbacks x v m inner later o no_is out_is calls rest f e n (inr (inl same)) = absurd (apart (ap (λ q. q.1) same))
@@ -206,14 +206,14 @@ ran_all_at k links errbacks x v m inner later o no_is out_is calls rest f e n (i
 
 mutual
   ran_followed : (t : Task) (x : Input) (v : Event) (rest : Line) (p : Place) (later : Items) →
-      AllIn (end_of (no_of t)) later (enter rest (after_outcome (result t x)) p (no_of t) (Some (no_of t))) →
+      AllIn (end_of_line (no_of t)) later (enter rest (after_outcome (result t x)) p (no_of t) (Some (no_of t))) →
       Followed (ran t x v rest p) (ran t x v rest p ++ later)
   ran_followed (task k call links errbacks) x v rest p later r =
       let t : Task = task k call links errbacks in
       let m : Message = message t x (parent_of v) rest p in
       let o : Outcome = outcome_of m in
       ran_all_at k links errbacks x v m _ later o refl refl (called_in links errbacks k o) r
-      (chosen_followed o _ _ (ran_all_followed links (input_of_success o) (end_of k)) (ran_all_followed errbacks (id_input k) (end_of k)))
+      (chosen_followed o _ _ (ran_all_followed links (input_of_success o) (end_of_line k)) (ran_all_followed errbacks (id_input k) (end_of_line k)))
 
   ran_all_followed : (ts : Tasks) (x : Input) (v : Event) → Followed (ran_all ts x v) (ran_all ts x v)
   ran_all_followed no_tasks x v = λ e m i. elim i [ ]
@@ -236,10 +236,10 @@ mutual
   pub items_followed : (l : Line) (x : LineFlow) (p : Place) (t : ℕ) (v : Event) → Followed (items l x p t v) (items l x p t v)
   items_followed stop x p t v = stop_followed p t v _
   items_followed (step k rest) (run x) p t v =
-      let later : Items = items rest (after_outcome (result k x)) p (no_of k) (end_of (no_of k)) in
+      let later : Items = items rest (after_outcome (result k x)) p (no_of k) (end_of_line (no_of k)) in
       followed_both (ran k x v rest p) later _
-      (ran_followed k x v rest p later (enter_in rest (after_outcome (result k x)) p (no_of k) (end_of (no_of k))))
-      (followed_right later (ran k x v rest p) later (items_followed rest (after_outcome (result k x)) p (no_of k) (end_of (no_of k))))
+      (ran_followed k x v rest p later (enter_in rest (after_outcome (result k x)) p (no_of k) (end_of_line (no_of k))))
+      (followed_right later (ran k x v rest p) later (items_followed rest (after_outcome (result k x)) p (no_of k) (end_of_line (no_of k))))
   items_followed (step k rest) (skips f) p t v = stored_first v (no_of k) (Failure f) _ (items_followed rest (skips f) p (no_of k) v)
   items_followed (step k rest) (raise f) p t v = stored_first v (no_of k) (Failure f) _
       (followed_append _ _ (ran_all_followed (errbacks_of k) (id_input (no_of k)) v) (items_followed rest (skips f) p (no_of k) v))

@@ -18,7 +18,7 @@ use Rattle.canvas_backend.specs.Roster.{roster_of, members}
 use Rattle.canvas_runs.specs.Core.{taking, resting, over, failed, owning, doing, reading, ask, left_after, Between, Doing}
 use Rattle.canvas_runs.specs.Law.{its_state}
 use Rattle.canvas_runs.specs.Lists.{Each, by, at, firsts}
-use Rattle.canvas_runs.specs.Rows.{EachMay}
+use Rattle.canvas_semantics.specs.States.{EachMay}
 use Rattle.canvas_runs.specs.Run.{Run, Closed}
 use Rattle.canvas_runs.specs.TurnLaws.{ByTurns, RunOf, Answerable, held_rows}
 use Rattle.canvas_runs.specs.Turns.{Step, results_after, IsWorker, queue_after, left, HasEnded, AllEnded, RanWhole, RanUntil, round, rounds}

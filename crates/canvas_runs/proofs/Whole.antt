@@ -3,7 +3,7 @@ use Rattle.std.proofs.Common.{◌≡◌, ℕ, suc, ◌≤◌, Bool, true, false,
 use Rattle.canvas_message.specs.Events.{In}
 use Rattle.canvas_runs.specs.Lists.{Each, firsts}
 use Rattle.canvas_message.specs.Job.{store, publish, hand_in}
-use Rattle.canvas_message.specs.Events.{Event, end_of, completion}
+use Rattle.canvas_message.specs.Events.{Event, end_of_line, completion}
 use Rattle.canvas_message.specs.Flowing.{Input, number_input, list_input, id_input, LineFlow, run, skips, raise}
 use Rattle.canvas_semantics.specs.Line.{Line, stop, step, group_end, chord_end, Lines, no_lines, and_line, no_of}
 use Rattle.canvas_semantics.specs.Tree.{Task, task, Tasks, no_tasks, and_task}
@@ -39,7 +39,7 @@ module _ (members : ℕ → List ℕ) where
   -- a line that ends in a task hands in that task
   line_hands : (l : Line) (behind : Bool) (x : LineFlow) (g : ℕ) (c : Carried) (t : ℕ) (v : Event) → EndsInTask behind l → (w : Event) × In (w, hand_in g (last_from t l) c) (items l x (in_chord g c) t v)
   line_hands stop behind x g c t v e = (v, inl refl)
-  line_hands (step k rest) behind (run x) g c t v e = let r = line_hands rest true (after_outcome (result k x)) g c (no_of k) (end_of (no_of k)) e in (r.0, in_right (ran k x v rest (in_chord g c)) _ _ r.1)
+  line_hands (step k rest) behind (run x) g c t v e = let r = line_hands rest true (after_outcome (result k x)) g c (no_of k) (end_of_line (no_of k)) e in (r.0, in_right (ran k x v rest (in_chord g c)) _ _ r.1)
   line_hands (step k rest) behind (skips f) g c t v e = let r = line_hands rest true (skips f) g c (no_of k) v e in (r.0, inr r.1)
   line_hands (step k rest) behind (raise f) g c t v e = let r = line_hands rest true (skips f) g c (no_of k) v e in (r.0, inr (in_right (ran_all (errbacks_of k) (id_input (no_of k)) v) _ _ r.1))
   line_hands (group_end h ms) behind x g c t v e = elim e [ ]
@@ -87,9 +87,9 @@ module _ (members : ℕ → List ℕ) where
     labelled_done v (j ∷ js) d = (d.0, labelled_done v js d.1)
 
     chosen_done : (links errbacks : Tasks) (k : ℕ) (o : Outcome) →
-        ((n : _) → Each Done (callbacks links (number_input n) (Some k)) → AllDone (ran_all links (number_input n) (end_of k))) →
-        (Each Done (callbacks errbacks (id_input k) (Some k)) → AllDone (ran_all errbacks (id_input k) (end_of k))) →
-        Each Done (called links errbacks k o) → AllDone (chosen o (ran_all links (input_of_success o) (end_of k)) (ran_all errbacks (id_input k) (end_of k)))
+        ((n : _) → Each Done (callbacks links (number_input n) (Some k)) → AllDone (ran_all links (number_input n) (end_of_line k))) →
+        (Each Done (callbacks errbacks (id_input k) (Some k)) → AllDone (ran_all errbacks (id_input k) (end_of_line k))) →
+        Each Done (called links errbacks k o) → AllDone (chosen o (ran_all links (input_of_success o) (end_of_line k)) (ran_all errbacks (id_input k) (end_of_line k)))
     chosen_done links errbacks k (Success n) f g d = f n d
     chosen_done links errbacks k (Failure n) f g d = g d
 
@@ -102,7 +102,7 @@ module _ (members : ℕ → List ℕ) where
           let o : Outcome = outcome_of m in
           let s = script m d in
           let jobs : Each Done (called links errbacks k o ++ enter rest (after_outcome o) p k (Some k)) = from_kind Done (called links errbacks k o ++ enter rest (after_outcome o) p k (Some k)) s.1 in (
-            (d, (s.0, chosen_done links errbacks k o (λ n. ran_all_done links (number_input n) (end_of k)) (ran_all_done errbacks (id_input k) (end_of k)) (each_left Done (called links errbacks k o) (enter rest (after_outcome o) p k (Some k)) jobs))),
+            (d, (s.0, chosen_done links errbacks k o (λ n. ran_all_done links (number_input n) (end_of_line k)) (ran_all_done errbacks (id_input k) (end_of_line k)) (each_left Done (called links errbacks k o) (enter rest (after_outcome o) p k (Some k)) jobs))),
             each_right Done (called links errbacks k o) (enter rest (after_outcome o) p k (Some k)) jobs,
           )
 
@@ -136,9 +136,9 @@ module _ (members : ℕ → List ℕ) where
       items_done stop x p t v low high n inside d = labelled_done v (at_stop p t) d
       items_done (step k rest) (run x) p t v low high n inside d =
           let r = ran_done k x v rest p d.0 in
-          let later : Items = items rest (after_outcome (result k x)) p (no_of k) (end_of (no_of k)) in
+          let later : Items = items rest (after_outcome (result k x)) p (no_of k) (end_of_line (no_of k)) in
           each_append (λ i. Done i.1) (ran k x v rest p) later r.0
-          (items_done rest (after_outcome (result k x)) p (no_of k) (end_of (no_of k)) n.0 high n.2 (λ i z. inside i (in_right (ran k x v rest p) later i z)) r.1)
+          (items_done rest (after_outcome (result k x)) p (no_of k) (end_of_line (no_of k)) n.0 high n.2 (λ i z. inside i (in_right (ran k x v rest p) later i z)) r.1)
       items_done (step k rest) (skips f) p t v low high n inside d = (d.0, items_done rest (skips f) p (no_of k) v n.0 high n.2 (λ i z. inside i (inr z)) d.1)
       items_done (step k rest) (raise f) p t v low high n inside d =
           let calls : Jobs = callbacks (errbacks_of k) (id_input (no_of k)) (parent_of v) in

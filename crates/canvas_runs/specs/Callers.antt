@@ -21,23 +21,23 @@ use Rattle.canvas_runs.specs.Run.{Run, Closed, published_all}
 use Rattle.canvas_runs.specs.Worker.{working, sealed}
 
 -- what a pass has seen, with the joins that it owes
-abbrev pub queue_of : Pass → List (Entries Envelope)
-queue_of p = told p
+abbrev pub broker_calls_seen : Pass → List (Entries Envelope)
+broker_calls_seen p = told p
 
 -- the state of a task by what a seat has seen
-abbrev pub held : Line → Seat → ℕ → State
-held l seat t = (results (roster_of l) seat.seen).outcomes t
+abbrev pub held_state : Line → Seat → ℕ → State
+held_state l seat t = (results (roster_of l) seat.seen).outcomes t
 
 -- there is one legal list of all broker calls, and one of all backend calls
 abbrev pub OneList : Type 0
-OneList = (l : Line) (pass : Pass) (seat : Seat) (r : Ran l pass seat) → Accounts (roster_of l) r.mates (published_all (map sealed r.opening)) r.works.made (queue_of pass)
+OneList = (l : Line) (pass : Pass) (seat : Seat) (r : Ran l pass seat) → Accounts (roster_of l) r.mates (published_all (map sealed r.opening)) r.works.made (broker_calls_seen pass)
 
 abbrev pub OneTable : Type 0
 OneTable = (l : Line) (pass : Pass) (seat : Seat) (r : Ran l pass seat) → Ledger (roster_of l) r.mates (backend_calls (working (roster_of l)) r.works.run ++ r.closing) seat.seen
 
 -- they are those of a run, which is closed where all ended well
 abbrev pub IsARun : Type 0
-IsARun = (l : Line) (pass : Pass) (seat : Seat) (r : Ran l pass seat) → (h : Run l) × (h.queue ≡ queue_of pass) × (h.table ≡ seat.seen) × (EndedWell l pass seat r → Closed l h)
+IsARun = (l : Line) (pass : Pass) (seat : Seat) (r : Ran l pass seat) → (h : Run l) × (h.queue ≡ broker_calls_seen pass) × (h.table ≡ seat.seen) × (EndedWell l pass seat r → Closed l h)
 
 -- the reads at the end answer what is held
 abbrev pub ReadsHeld : Type 0
@@ -45,32 +45,32 @@ ReadsHeld = (l : Line) (pass : Pass) (seat : Seat) (r : Ran l pass seat) → Eac
 
 -- each task is pending, or has the state that evaluation gives
 abbrev pub RowsMay : Type 0
-RowsMay = (l : Line) → IsPlan l → (pass : Pass) (seat : Seat) → Ran l pass seat → (t : ℕ) → (held l seat t ≡ None) ⊎ (held l seat t ≡ its_state l t)
+RowsMay = (l : Line) → IsPlan l → (pass : Pass) (seat : Seat) → Ran l pass seat → (t : ℕ) → (held_state l seat t ≡ None) ⊎ (held_state l seat t ≡ its_state l t)
 
 -- each task has the state that evaluation gives
 abbrev pub RowsAre : Type 0
-RowsAre = (l : Line) → IsPlan l → (pass : Pass) (seat : Seat) (r : Ran l pass seat) → EndedWell l pass seat r → (t : ℕ) → held l seat t ≡ its_state l t
+RowsAre = (l : Line) → IsPlan l → (pass : Pass) (seat : Seat) (r : Ran l pass seat) → EndedWell l pass seat r → (t : ℕ) → held_state l seat t ≡ its_state l t
 
 -- the same by the canvas from which the plan was made
 abbrev pub IsPlanOf : Tree → Line → Type 0
 IsPlanOf c l = IsFull c × IsPlan l × (tree_of l ≡ numbered (normal c))
 
 abbrev pub CanvasRowsMay : Type 0
-CanvasRowsMay = (c : Tree) (l : Line) → IsPlanOf c l → (pass : Pass) (seat : Seat) → Ran l pass seat → (t : ℕ) → (held l seat t ≡ None) ⊎ (held l seat t ≡ state_in t (meaning c))
+CanvasRowsMay = (c : Tree) (l : Line) → IsPlanOf c l → (pass : Pass) (seat : Seat) → Ran l pass seat → (t : ℕ) → (held_state l seat t ≡ None) ⊎ (held_state l seat t ≡ state_in t (meaning c))
 
 abbrev pub CanvasRowsAre : Type 0
-CanvasRowsAre = (c : Tree) (l : Line) → IsPlanOf c l → (pass : Pass) (seat : Seat) (r : Ran l pass seat) → EndedWell l pass seat r → (t : ℕ) → held l seat t ≡ state_in t (meaning c)
+CanvasRowsAre = (c : Tree) (l : Line) → IsPlanOf c l → (pass : Pass) (seat : Seat) (r : Ran l pass seat) → EndedWell l pass seat r → (t : ℕ) → held_state l seat t ≡ state_in t (meaning c)
 
 -- each publish is by the caller that brought its event about: that of a body's first message by the caller of the completing part
 abbrev pub PublishesByCause : Type 0
-PublishesByCause = (l : Line) → IsPlan l → (pass : Pass) (seat : Seat) → Ran l pass seat → ByCause l (queue_of pass) seat.seen
+PublishesByCause = (l : Line) → IsPlan l → (pass : Pass) (seat : Seat) → Ran l pass seat → ByCause l (broker_calls_seen pass) seat.seen
 
 abbrev pub PublishesByItsCause : Type 0
-PublishesByItsCause = (l : Line) → IsPlan l → (pass : Pass) (seat : Seat) → Ran l pass seat → ByItsCause l (queue_of pass) seat.seen
+PublishesByItsCause = (l : Line) → IsPlan l → (pass : Pass) (seat : Seat) → Ran l pass seat → ByItsCause l (broker_calls_seen pass) seat.seen
 
 -- and each message is published at most once, and each chord completed at most once
 abbrev pub PublishesOnce : Type 0
-PublishesOnce = (l : Line) → IsPlan l → (pass : Pass) (seat : Seat) → Ran l pass seat → (k : ℕ) → publishes l k (queue_of pass) ≤ 1
+PublishesOnce = (l : Line) → IsPlan l → (pass : Pass) (seat : Seat) → Ran l pass seat → (k : ℕ) → publishes l k (broker_calls_seen pass) ≤ 1
 
 abbrev pub CompletesOnce : Type 0
 CompletesOnce = (l : Line) → IsPlan l → (pass : Pass) (seat : Seat) → Ran l pass seat → (g : ℕ) → completions l g seat.seen ≤ 1

@@ -4,7 +4,7 @@ use Rattle.canvas_task.specs.declared.outcome.Outcome.{Outcome}
 use Rattle.canvas_history.specs.History.{calls}
 use Rattle.canvas_semantics.specs.Line.{Line, members}
 use Rattle.canvas_message.specs.Content.{Content}
-use Rattle.canvas_message.specs.Events.{In, Event, start, running, end_of, completion, DoesIn}
+use Rattle.canvas_message.specs.Events.{In, Event, start, running, end_of_line, completion, DoesIn}
 use Rattle.canvas_message.specs.Job.{publish}
 use Rattle.canvas_message.specs.declared.envelope.Envelope.{Envelope}
 use Rattle.canvas_backend.specs.declared.stored.Stored.TheVariants.{First}
@@ -23,7 +23,7 @@ module _ (l : Line) where
   abbrev pub Brought : ℕ → results.Log → Event → Type 0
   Brought p table start = p ≡ 0
   Brought p table (running k) = ⊥
-  Brought p table (end_of k) = (o : Outcome) × In (calls p (results.store k o) (results.was First)) table
+  Brought p table (end_of_line k) = (o : Outcome) × In (calls p (results.store k o) (results.was First)) table
   Brought p table (completion g) = (t n : ℕ) × In (calls p (results.part g t) (results.count n)) table × IsCompleting (roster_of l) g n
 
   -- each publish is of the message of a task that an event runs, by the caller that brought the event about

@@ -6,10 +6,10 @@ use Rattle.std.specs.Global.{Global}
 use Rattle.crossbeam_queue.specs.SegTies.{SegId}
 use Rattle.atomic_table.specs.Seated.{TableId}
 use Rattle.canvas_semantics.specs.Line.{Line, group_end, no_lines, count_line, tree_of}
-use Rattle.canvas_semantics.specs.States.{states}
+use Rattle.canvas_semantics.specs.States.{states, EachMay}
 use Rattle.canvas_rewrite.specs.Planned.{IsPlan}
 use Rattle.canvas_backend.specs.Roster.{roster_of}
-use Rattle.canvas_runs.specs.Callers.{queue_of}
+use Rattle.canvas_runs.specs.Callers.{broker_calls_seen}
 use Rattle.canvas_runs.specs.Crew.{Mate, Ran, EndedWell, OwnTally}
 use Rattle.canvas_runs.specs.Following.{Pass, Seat}
 use Rattle.canvas_runs.specs.Calls.{BackendCall, has_read}
@@ -31,12 +31,6 @@ pub record RanWell (l : Line) (pass : Pass) (seat : Seat) (rows : List State) : 
   pub to : RanTo l pass seat rows
   pub well : EndedWell l pass seat to.ran
 
--- each is pending, or the other
-abbrev pub EachMay : List State → List State → Type 0
-EachMay [] [] = Unit
-EachMay (x ∷ xs) (y ∷ ys) = ((x ≡ None) ⊎ (x ≡ y)) × EachMay xs ys
-EachMay xs ys = ⊥
-
 -- the rows of a run that ended well are the states that evaluation gives
 abbrev pub RowsOfWell : Type 0
 RowsOfWell = (l : Line) → IsPlan l → (pass : Pass) (seat : Seat) (rows : List State) → RanWell l pass seat rows → rows ≡ states (tree_of l)
@@ -49,7 +43,7 @@ RowsOfAny = (l : Line) → IsPlan l → (pass : Pass) (seat : Seat) (rows : List
 abbrev pub TalliesCount : Type 0
 TalliesCount =
     (l : Line) → IsPlan l → (pass : Pass) (seat : Seat) (r : Ran l pass seat) → EndedWell l pass seat r → (own : Tally) → OwnTally l pass seat r own
-    → EachCounts (queue_of pass) seat.seen 0 (own ∷ map (λ (m : Mate (roster_of l)). m.ended.tally) r.mates)
+    → EachCounts (broker_calls_seen pass) seat.seen 0 (own ∷ map (λ (m : Mate (roster_of l)). m.ended.tally) r.mates)
 
 -- there is such a run: of an empty group's plan, by one worker
 abbrev pub empty_group : Line

@@ -14,7 +14,7 @@ use Rattle.canvas_broker.specs.Broker.{queue_of}
 use Rattle.canvas_runs.specs.Core.{Ask, keep, part, read, ask}
 use Rattle.canvas_runs.specs.Law.{its_state}
 use Rattle.canvas_runs.specs.Lists.{Each, by, at}
-use Rattle.canvas_runs.specs.Rows.{EachMay}
+use Rattle.canvas_semantics.specs.States.{EachMay}
 use Rattle.canvas_runs.specs.Run.{Run, Closed}
 use Rattle.canvas_runs.specs.Turns.{Step, results_after, IsWorker, FirstsRead, queue_after, left, Turned, AllEnded, RanWhole, RanUntil}
 use Rattle.canvas_runs.specs.Worker.{worker}

@@ -30,11 +30,11 @@ small = chord_end 1 (and_line (step (sum 1 1) stop) (and_line (step (sum 2 2) st
 
 -- ---- its messages, and their envelopes
 
-abbrev pub body : PLine
-body = p_step (p_task 3 (call (codes "tasks.xsum") []) no_p_tasks no_p_tasks p_nowhere) p_stop
+abbrev pub body_call : PLine
+body_call = p_step (p_task 3 (call (codes "tasks.xsum") []) no_p_tasks no_p_tasks p_nowhere) p_stop
 
 abbrev pub member : ℕ → ℕ → Content
-member k n = record { parent = None; own = p_task k (call (codes "tasks.add") (arg.Num (pos n) ∷ arg.Num (pos n) ∷ [])) no_p_tasks no_p_tasks (p_chord 1 2 body); rest = p_stop }
+member k n = record { parent = None; own = p_task k (call (codes "tasks.add") (arg.Num (pos n) ∷ arg.Num (pos n) ∷ [])) no_p_tasks no_p_tasks (p_chord 1 2 body_call); rest = p_stop }
 
 abbrev pub first_sum : Content
 first_sum = member 1 1

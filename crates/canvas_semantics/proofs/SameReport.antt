@@ -4,7 +4,7 @@ use Rattle.canvas_semantics.specs.Tree.{Tree, one, chain, group, chord, Trees, n
 use Rattle.canvas_semantics.specs.NormalLine.{onto, all_onto, normal_all, normal}
 use Rattle.canvas_semantics.specs.Evaluation.{Rows, Meaning, nothing, meaning, eval, ends, with_states}
 use Rattle.canvas_task.specs.Text.{Text}
-use Rattle.canvas_semantics.specs.Report.{names_by_number, all_names, report, report_of, lines, result_text}
+use Rattle.canvas_semantics.specs.Report.{names_by_number, all_names_by_number, report, report_of, lines, result_text}
 use Rattle.canvas_semantics.specs.SameMeaning.{IsSame}
 use Rattle.canvas_semantics.specs.States.{rows_from, states}
 use Rattle.canvas_semantics.proofs.NumberLemmas.{numbered_normal}
@@ -15,24 +15,24 @@ alone : (ns : List (ℕ × Text)) → ns ++ [] ≡ ns
 alone ns = append-nil ns
 
 mutual
-  names_onto : (t : Tree) (after : Trees) → all_names (onto t after) ≡ names_by_number t ++ all_names after
+  names_onto : (t : Tree) (after : Trees) → all_names_by_number (onto t after) ≡ names_by_number t ++ all_names_by_number after
   names_onto (one t) after = refl
   names_onto (chain ts) after = names_all_onto ts after
   names_onto (group g ms) no_trees = ap (λ ns. ns ++ []) (names_normal ms)
-  names_onto (group g ms) (and_tree u us) = alone (all_names (normal_all ms) ++ all_names (and_tree u us)) ∙ ap (λ ns. ns ++ all_names (and_tree u us)) (names_normal ms)
+  names_onto (group g ms) (and_tree u us) = alone (all_names_by_number (normal_all ms) ++ all_names_by_number (and_tree u us)) ∙ ap (λ ns. ns ++ all_names_by_number (and_tree u us)) (names_normal ms)
   names_onto (chord g h b) after =
-      alone (all_names (normal_all h) ++ all_names (onto b after)) ∙ ap (λ ns. ns ++ all_names (onto b after)) (names_normal h)
-      ∙ ap (λ ns. all_names h ++ ns) (names_onto b after) ∙ sym (append_assoc (all_names h) (names_by_number b) (all_names after))
+      alone (all_names_by_number (normal_all h) ++ all_names_by_number (onto b after)) ∙ ap (λ ns. ns ++ all_names_by_number (onto b after)) (names_normal h)
+      ∙ ap (λ ns. all_names_by_number h ++ ns) (names_onto b after) ∙ sym (append_assoc (all_names_by_number h) (names_by_number b) (all_names_by_number after))
 
-  names_all_onto : (ts after : Trees) → all_names (all_onto ts after) ≡ all_names ts ++ all_names after
+  names_all_onto : (ts after : Trees) → all_names_by_number (all_onto ts after) ≡ all_names_by_number ts ++ all_names_by_number after
   names_all_onto no_trees after = refl
   names_all_onto (and_tree t ts) after =
-      names_onto t (all_onto ts after) ∙ ap (λ ns. names_by_number t ++ ns) (names_all_onto ts after) ∙ sym (append_assoc (names_by_number t) (all_names ts) (all_names after))
+      names_onto t (all_onto ts after) ∙ ap (λ ns. names_by_number t ++ ns) (names_all_onto ts after) ∙ sym (append_assoc (names_by_number t) (all_names_by_number ts) (all_names_by_number after))
 
-  names_normal : (ms : Trees) → all_names (normal_all ms) ≡ all_names ms
+  names_normal : (ms : Trees) → all_names_by_number (normal_all ms) ≡ all_names_by_number ms
   names_normal no_trees = refl
   names_normal (and_tree t ts) =
-      ap (λ ns. ns ++ all_names (normal_all ts)) (names_onto t no_trees ∙ alone (names_by_number t)) ∙ ap (λ ns. names_by_number t ++ ns) (names_normal ts)
+      ap (λ ns. ns ++ all_names_by_number (normal_all ts)) (names_onto t no_trees ∙ alone (names_by_number t)) ∙ ap (λ ns. names_by_number t ++ ns) (names_normal ts)
 
 names_same : (c : Tree) → names_by_number (numbered (normal c)) ≡ names_by_number (numbered c)
 names_same c = ap names_by_number (numbered_normal c) ∙ names_onto (numbered c) no_trees ∙ alone (names_by_number (numbered c))

@@ -1,4 +1,4 @@
--- The report of a canvas as text.
+-- The report of a canvas as text: a line for each task with its state as Celery names it (PENDING, SUCCESS, FAILURE), and the result.
 use Rattle.std.specs.Prelude.{ℕ, ◌+◌, Bool, true, false, List, [], ◌∷◌, ◌++◌, map, Option, Some, None, codes}
 use Rattle.std.specs.Fmt.{decimal, signed_decimal}
 use Rattle.canvas_task.specs.Text.{Text}
@@ -32,13 +32,13 @@ abbrev mutual
 abbrev mutual
   pub names_by_number : Tree → List (ℕ × Text)
   names_by_number (one t) = names_of_task t
-  names_by_number (chain ts) = all_names ts
-  names_by_number (group g ms) = all_names ms
-  names_by_number (chord g h b) = all_names h ++ names_by_number b
+  names_by_number (chain ts) = all_names_by_number ts
+  names_by_number (group g ms) = all_names_by_number ms
+  names_by_number (chord g h b) = all_names_by_number h ++ names_by_number b
 
-  pub all_names : Trees → List (ℕ × Text)
-  all_names no_trees = []
-  all_names (and_tree t ts) = names_by_number t ++ all_names ts
+  pub all_names_by_number : Trees → List (ℕ × Text)
+  all_names_by_number no_trees = []
+  all_names_by_number (and_tree t ts) = names_by_number t ++ all_names_by_number ts
 
 -- names with numbers, from one on
 abbrev pub counted_from : ℕ → List Text → List (ℕ × Text)

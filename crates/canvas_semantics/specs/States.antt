@@ -1,5 +1,5 @@
 -- The states of a canvas's tasks as a table: one for each task, in the order of their numbers.
-use Rattle.std.specs.Prelude.{ℕ, zero, suc, ◌+◌, List, [], ◌∷◌, map}
+use Rattle.std.specs.Prelude.{◌≡◌, ◌⊎◌, None, ℕ, zero, suc, ◌+◌, List, [], ◌∷◌, map}
 use Rattle.canvas_semantics.specs.Tree.{Tree, count}
 use Rattle.canvas_semantics.specs.Evaluation.{State, Rows, state_of, eval, nothing}
 
@@ -16,3 +16,9 @@ rows_from k (s ∷ ss) = (k, s) ∷ rows_from (suc k) ss
 -- of a numbered canvas: the state of each task that evaluating it gives
 abbrev pub states : Tree → List State
 states c = map (λ k. state_of k (eval c nothing).rows) (numbers_from 1 (count c))
+
+-- each is pending, or the other
+abbrev pub EachMay : List State → List State → Type 0
+EachMay [] [] = Unit
+EachMay (x ∷ xs) (y ∷ ys) = ((x ≡ None) ⊎ (x ≡ y)) × EachMay xs ys
+EachMay xs ys = ⊥

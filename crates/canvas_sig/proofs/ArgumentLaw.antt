@@ -10,7 +10,9 @@ use Rattle.canvas_task.specs.declared.arg.Arg.TheVariants as arg
 use Rattle.canvas_sig.specs.declared.fault.SigFault.{SigFault}
 use Rattle.canvas_sig.specs.declared.fault.SigFault.TheVariants.{BadArgs, BadNumber}
 use Rattle.canvas_sig.specs.Fields.{items, is_number}
-use Rattle.canvas_sig.specs.Reading.{◌>>=◌, ◌or_else◌, Gives, fault_if, judged, each, some_in_range, number_ok, some_or_zero, whole_number, arg_reading, in_range_or_refused, number_reading, arg_steps}
+use Rattle.canvas_sig.specs.Answers.{◌>>=◌, ◌or_else◌, Gives, fault_if, judged, each}
+use Rattle.canvas_sig.specs.Grammar.{some_in_range, number_ok, some_or_zero, whole_number, arg_reading}
+use Rattle.canvas_sig.specs.steps.Reading.{in_range_or_refused, number_reading, arg_steps}
 
 judged_map : {A B : Type 0} (p : Option SigFault) (x : A) (f : A → B) → (judged p x >>= λ y. Ok (f y)) ≡ judged p (f x)
 judged_map (Some e) x f = refl

@@ -11,7 +11,8 @@ use Rattle.canvas_sig.specs.declared.primitive.Primitive.TheVariants as kind
 use Rattle.canvas_sig.specs.Refusals.{first_fault, in_kwargs, fault_within, spelled_call, task_within, header_of, tree_from, tree_within, signature_fault, tree_of}
 use Rattle.canvas_task.specs.Text.{Text}
 use Rattle.canvas_sig.specs.Fields.{field, subtype, tasks, header, body, link, link_error, items, listed, as_list}
-use Rattle.canvas_sig.specs.Reading.{◌or_else◌, own_fault, primitive_of, members_in}
+use Rattle.canvas_sig.specs.Answers.{◌or_else◌}
+use Rattle.canvas_sig.specs.Grammar.{own_fault, primitive_of, members_in}
 use Rattle.canvas_semantics.specs.Tree.{Task, task, Tree, one, chain, group, chord}
 use Rattle.canvas_sig.specs.View.{tasks_of, trees_of}
 use Rattle.canvas_sig.proofs.Law.{fault_left}

@@ -11,7 +11,7 @@ use Rattle.canvas_sig.specs.declared.fault.SigFault.{SigFault}
 use Rattle.canvas_sig.specs.declared.fault.SigFault.TheVariants.{NotSignature, BadNumber}
 use Rattle.canvas_sig.specs.LimitRefusals.{tree_fault}
 use Rattle.canvas_sig.specs.ComposedRefusals.{arg_ok, call_numbers_ok, call_fault, task_fault, tasks_fault, signatures_fault, all_fault}
-use Rattle.canvas_sig.specs.Reading.{◌or_else◌, fault_if}
+use Rattle.canvas_sig.specs.Answers.{◌or_else◌, fault_if}
 use Rattle.canvas_semantics.specs.Tree.{Call, Task, task, Tasks, no_tasks, and_task, Tree, one, chain, group, chord, Trees, no_trees, and_tree}
 use Rattle.canvas_sig.specs.Writable.{TaskComposed, TasksComposed, IsComposed, AreComposed, IsCanvas}
 use Rattle.canvas_sig.proofs.FittingCalls.{NumbersFit, ArgFits, ArgsFit, KwargsFit, CallFits}

@@ -15,7 +15,9 @@ use Rattle.canvas_sig.specs.declared.primitive.Primitive.{Primitive}
 use Rattle.canvas_sig.specs.declared.primitive.Primitive.TheVariants as kind
 use Rattle.canvas_task.specs.Text.{Text}
 use Rattle.canvas_sig.specs.Fields.{field, subtype, args, kwargs, tasks, header, body, link, link_error, items, entries, listed, as_list, object_members, text_of, is_number, is_null, is_list, is_empty, is_object}
-use Rattle.canvas_sig.specs.Reading.{◌or_else◌, fault_if, judged, some_or_zero, whole_number, argument_of, is_name, primitive_of, some_in_range, number_ok, kind_ok, numbers_ok, args_ok, is_group, not_signature, bad_args, bad_number, on_canvas, frozen, empty_chain, fault_as, own_fault, members_in, tree_reading}
+use Rattle.canvas_sig.specs.Answers.{◌or_else◌, fault_if, judged}
+use Rattle.canvas_sig.specs.Grammar.{some_or_zero, whole_number, argument_of, is_name, primitive_of, some_in_range, number_ok, kind_ok, numbers_ok, args_ok, is_group, not_signature, bad_args, bad_number, on_canvas, frozen, empty_chain, fault_as, own_fault, members_in}
+use Rattle.canvas_sig.specs.steps.Reading.{tree_reading}
 use Rattle.canvas_sig.specs.Refusals.{first_fault, in_kwargs, named_of, spelled_call, task_within, header_of, tree_from, tree_within}
 use Rattle.canvas_semantics.specs.Tree.{Task, Tree, one, chain, group, chord}
 use Rattle.canvas_sig.specs.View.{tasks_of, trees_of}

@@ -12,7 +12,9 @@ use Rattle.serde_json.proofs.Views.{Entry, view-Array, view-Object}
 use Rattle.canvas_task.specs.declared.arg.Arg.{Arg}
 use Rattle.canvas_sig.specs.declared.fault.SigFault.{SigFault}
 use Rattle.canvas_sig.specs.declared.fault.SigFault.TheVariants.{Memory}
-use Rattle.canvas_sig.specs.Reading.{list_reading, arg_steps, takes_memory, each, named_reading, kind_ok, numbers_ok, number_ok}
+use Rattle.canvas_sig.specs.steps.Reading.{list_reading, arg_steps}
+use Rattle.canvas_sig.specs.Grammar.{takes_memory, named_reading, kind_ok, numbers_ok, number_ok}
+use Rattle.canvas_sig.specs.Answers.{each}
 use Rattle.canvas_sig.specs.Fields.{items, entries, listed, as_list, object_members as members, seen, is_number, is_empty, contents}
 
 pub items-items_of : (ds : List Data) → items (items_of ds) ≡ ds

@@ -6,7 +6,9 @@ use Rattle.serde_json.specs.Data.{Data}
 use Rattle.canvas_sig.specs.declared.fault.SigFault.{SigFault}
 use Rattle.canvas_sig.specs.declared.fault.SigFault.TheVariants.{Memory}
 use Rattle.canvas_sig.specs.Fields.{field, args, kwargs, link, link_error, listed, object_members, as_list, text_of, is_true}
-use Rattle.canvas_sig.specs.Reading.{Fails, each, arg_reading, named_reading, task_with, linked_with, task_reading, tree_with, tree_reading}
+use Rattle.canvas_sig.specs.Answers.{Fails, each}
+use Rattle.canvas_sig.specs.Grammar.{arg_reading, named_reading}
+use Rattle.canvas_sig.specs.steps.Reading.{task_with, linked_with, task_reading, tree_with, tree_reading}
 use Rattle.canvas_semantics.specs.Tree.{Task}
 use Rattle.canvas_sig.specs.View.{task_view}
 use Rattle.canvas_sig.specs.declared.task_sig.TaskSig.{TaskSig}

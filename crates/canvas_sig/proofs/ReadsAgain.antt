@@ -21,7 +21,8 @@ use Rattle.canvas_sig.specs.Refusals.{signature_fault, tree_of}
 use Rattle.canvas_semantics.specs.Bounds.{most_nesting, nests_group, is_too_deep}
 use Rattle.canvas_sig.specs.LimitRefusals.{tree_fault}
 use Rattle.canvas_semantics.specs.Nesting.{nesting}
-use Rattle.canvas_sig.specs.Reading.{judged, tree_reading}
+use Rattle.canvas_sig.specs.Answers.{judged}
+use Rattle.canvas_sig.specs.steps.Reading.{tree_reading}
 use Rattle.canvas_semantics.specs.Tree.{Tree}
 use Rattle.canvas_sig.specs.Writable.{IsCanvas}
 use Rattle.canvas_sig.specs.Writing.{tree_wire}

@@ -6,11 +6,13 @@ use Rattle.serde_json.specs.Read.{max_depth, read as read_json}
 use Rattle.std.specs.Str.{is_utf8}
 use Rattle.canvas_sig.specs.declared.fault.SigFault.{SigFault}
 use Rattle.canvas_sig.specs.declared.fault.SigFault.TheVariants.{TooLarge, NotJson, Memory}
-use Rattle.canvas_sig.specs.CanvasText.{most_bytes, json_of, canvas_reading, json_canvas, reading, json_reading, signature_reading}
+use Rattle.canvas_sig.specs.CanvasText.{most_bytes, json_of, canvas_reading, json_canvas, reading}
+use Rattle.canvas_sig.specs.steps.Reading.{json_reading, signature_reading}
 use Rattle.canvas_sig.specs.Refusals.{signature_fault, tree_of}
 use Rattle.canvas_task.specs.Text.{Text}
 use Rattle.canvas_sig.specs.LimitRefusals.{tree_fault}
-use Rattle.canvas_sig.specs.Reading.{◌>>=◌, ◌or_else◌, fault_if, judged, unless, Fails, tree_reading}
+use Rattle.canvas_sig.specs.Answers.{◌>>=◌, ◌or_else◌, fault_if, judged, unless, Fails}
+use Rattle.canvas_sig.specs.steps.Reading.{tree_reading}
 use Rattle.canvas_semantics.specs.Tree.{Tree}
 use Rattle.canvas_sig.specs.Writable.{IsCanvas}
 use Rattle.serde_json.proofs.Nesting.{depth-read}

@@ -1,12 +1,12 @@
 -- The canvas that a text spells, or its first refusal.
-use Rattle.std.specs.Prelude.{ℕ, if◌then◌else◌, suc, length, Option, Some, None, Result, Ok, Err, nat_lt}
+use Rattle.std.specs.Prelude.{ℕ, if◌then◌else◌, length, Option, Some, None, Result, Err, nat_lt}
 use Rattle.std.specs.Str.{is_utf8}
 use Rattle.serde_json.specs.Data.{Data}
-use Rattle.serde_json.specs.Read.{read, max_depth}
+use Rattle.serde_json.specs.Read.{read}
 use Rattle.canvas_sig.specs.declared.fault.SigFault.{SigFault}
 use Rattle.canvas_sig.specs.declared.fault.SigFault.TheVariants.{TooLarge, NotJson}
 use Rattle.canvas_task.specs.Text.{Text}
-use Rattle.canvas_sig.specs.Reading.{◌>>=◌, ◌or_else◌, fault_if, judged, unless, tree_reading}
+use Rattle.canvas_sig.specs.Answers.{◌or_else◌, judged}
 use Rattle.canvas_sig.specs.Refusals.{signature_fault, tree_of}
 use Rattle.canvas_sig.specs.LimitRefusals.{tree_fault}
 use Rattle.canvas_semantics.specs.Tree.{Tree}
@@ -30,14 +30,3 @@ json_canvas (Some d) = canvas_reading d
 -- the canvas that a text spells, or its first refusal
 abbrev pub reading : Text → Result Tree SigFault
 reading bytes = if nat_lt most_bytes (length bytes) then Err TooLarge else json_canvas (json_of bytes)
-
--- ---- reading, as the code goes
-
-abbrev pub json_reading : Option Data → Result Data SigFault
-json_reading None = Err NotJson
-json_reading (Some d) = Ok d
-
--- the signature that a text spells, before the checks of whole canvases
-abbrev pub signature_reading : Text → Result Tree SigFault
-signature_reading bytes =
-    unless (fault_if (nat_lt most_bytes (length bytes)) TooLarge) (json_reading (json_of bytes) >>= λ d. tree_reading (suc max_depth) d)

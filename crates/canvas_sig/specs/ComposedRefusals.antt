@@ -9,7 +9,7 @@ use Rattle.canvas_task.specs.declared.arg.Arg.TheVariants as arg
 use Rattle.canvas_sig.specs.declared.fault.SigFault.{SigFault}
 use Rattle.canvas_sig.specs.declared.fault.SigFault.TheVariants.{NotSignature, BadNumber, EmptyChain}
 use Rattle.canvas_sig.specs.LimitRefusals.{tree_fault}
-use Rattle.canvas_sig.specs.Reading.{◌or_else◌, fault_if}
+use Rattle.canvas_sig.specs.Answers.{◌or_else◌, fault_if}
 use Rattle.canvas_semantics.specs.Tree.{Call, Task, task, Tasks, no_tasks, and_task, Tree, one, chain, group, chord, Trees, no_trees, and_tree}
 
 -- the fault that a check found

@@ -1,7 +1,8 @@
 pub mod View
 pub mod Writing
 pub mod Fields
-pub mod Reading
+pub mod Answers
+pub mod Grammar
 pub mod CanvasText
 pub mod Writable
 pub mod steps

@@ -7,7 +7,8 @@ use Rattle.canvas_sig.specs.declared.primitive.Primitive.{Primitive}
 use Rattle.canvas_sig.specs.declared.primitive.Primitive.TheVariants as kind
 use Rattle.canvas_task.specs.Text.{Text}
 use Rattle.canvas_sig.specs.Fields.{field, subtype, args, kwargs, tasks, header, body, link, link_error, items, listed, as_list, object_members, is_true, text_of}
-use Rattle.canvas_sig.specs.Reading.{◌or_else◌, argument_of, own_fault, primitive_of, members_in}
+use Rattle.canvas_sig.specs.Answers.{◌or_else◌}
+use Rattle.canvas_sig.specs.Grammar.{argument_of, own_fault, primitive_of, members_in}
 use Rattle.canvas_semantics.specs.Tree.{Call, Task, task, Tree, one, chain, group, chord, Trees}
 use Rattle.canvas_sig.specs.View.{tasks_of, trees_of}
 

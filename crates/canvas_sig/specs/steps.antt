@@ -3,3 +3,4 @@ pub mod Clean
 pub mod Ending
 pub mod LineReach
 pub mod Tokens
+pub mod Reading

@@ -8,21 +8,14 @@ ghost use Rattle.canvas_task.specs.Entries.{named};
 ghost use Rattle.canvas_task.specs.Numbers.{in_range};
 ghost use Rattle.canvas_sig.specs.declared.fault.SigFault.TheVariants.{Memory};
 ghost use Rattle.canvas_sig.specs.Fields.{found, seen, object_members, is_number};
-ghost use Rattle.canvas_sig.specs.Reading.{Gives, each, some_in_range, in_range_or_refused, number_reading, list_reading, arg_reading, named_reading, takes_memory};
+ghost use Rattle.canvas_sig.specs.Answers.{Gives, each};
+ghost use Rattle.canvas_sig.specs.Grammar.{some_in_range, arg_reading, named_reading, takes_memory};
+ghost use Rattle.canvas_sig.specs.steps.Reading.{in_range_or_refused, number_reading, list_reading};
 
 use crate::fault::SigFault;
-use canvas_task::{Arg, ListOf, TextOf};
+use canvas_task::{Arg, ListOf, TextOf, in_range};
 use serde_json::{Map, Number, Value};
 use std::alloc::Global;
-
-const BOUND: i64 = 1 << 60;
-
-/// Whether a number is in range.
-pub(crate) fn fits(number: i64) -> bool
-    ensures { result ≡ in_range number }
-{
-    -BOUND <= number && number <= BOUND
-}
 
 /// Whether a number is whole and in range.
 pub(crate) fn is_in_range(number: &Number) -> bool
@@ -30,7 +23,7 @@ pub(crate) fn is_in_range(number: &Number) -> bool
 {
     match number.as_i64() {
         None => false,
-        Some(n) => fits(n),
+        Some(n) => in_range(n),
     }
 }
 
@@ -42,7 +35,7 @@ fn whole(number: &Number) -> Result<i64, SigFault>
     match number.as_i64() {
         None => Err(SigFault::BadNumber),
         Some(n) => {
-            if fits(n) {
+            if in_range(n) {
                 Ok(n)
             } else {
                 Err(SigFault::BadNumber)

@@ -3,9 +3,10 @@
 ghost use Rattle.std.specs.Prelude.{◌≡◌, ◌≢◌, Ok, Err, IfOk, IfErr, MatchResult};
 ghost use Rattle.serde_json.specs.View.{view as json_view};
 ghost use Rattle.canvas_sig.specs.declared.fault.SigFault.TheVariants.{Memory};
-ghost use Rattle.canvas_sig.specs.CanvasText.{json_of, json_reading, signature_reading, reading};
+ghost use Rattle.canvas_sig.specs.CanvasText.{json_of, reading};
+ghost use Rattle.canvas_sig.specs.steps.Reading.{json_reading, signature_reading};
 ghost use Rattle.canvas_sig.specs.ComposedRefusals.{node_fault};
-ghost use Rattle.canvas_sig.specs.Reading.{Gives};
+ghost use Rattle.canvas_sig.specs.Answers.{Gives};
 ghost use Rattle.canvas_sig.specs.View.{view};
 ghost use Rattle.canvas_sig.specs.Writable.{IsCanvas};
 

@@ -9,22 +9,21 @@ ghost use Rattle.canvas_semantics.specs.Tree.{chain};
 ghost use Rattle.canvas_sig.specs.View.{task_view, view, tasks_of, trees_of};
 ghost use Rattle.canvas_sig.specs.Writable.{TaskComposed, TasksComposed, IsComposed, AreComposed};
 
-use crate::arguments::fits;
 use crate::{Node, SigFault, TaskSig};
-use canvas_task::{Arg, name_ok};
+use canvas_task::{Arg, in_range, name_ok};
 use std::collections::BTreeMap;
 
 fn numbers_fit(numbers: &[i64]) -> bool
     ensures { result ≡ list_all in_range numbers.now }
 {
-    numbers.iter().all(|number| fits(*number))
+    numbers.iter().all(|number| in_range(*number))
 }
 
 fn arg_fits(arg: &Arg) -> bool
     ensures { result ≡ arg_ok arg.now }
 {
     match arg {
-        Arg::Num(number) => fits(*number),
+        Arg::Num(number) => in_range(*number),
         Arg::List(numbers) => numbers_fit(numbers.get()),
         Arg::Text(_) => true,
     }

@@ -5,7 +5,7 @@ ghost use Rattle.std.specs.List.{list_all};
 ghost use Rattle.serde_json.specs.View.{view};
 ghost use Rattle.canvas_sig.specs.declared.primitive.Primitive.TheVariants.{Chain, Chord};
 ghost use Rattle.canvas_sig.specs.Fields.{found, seen, contents};
-ghost use Rattle.canvas_sig.specs.Reading.{is_name, is_text, is_group, kind_ok, numbers_ok, number_ok, args_ok, not_signature, bad_members, bad_args, bad_number, on_canvas, empty_chain, fault_as, own_fault};
+ghost use Rattle.canvas_sig.specs.Grammar.{is_name, is_text, is_group, kind_ok, numbers_ok, number_ok, args_ok, not_signature, bad_members, bad_args, bad_number, on_canvas, empty_chain, fault_as, own_fault};
 
 use crate::arguments::{all_numbers, is_in_range};
 use crate::fault::SigFault;

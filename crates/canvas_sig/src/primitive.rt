@@ -2,7 +2,7 @@
 
 ghost use Rattle.std.specs.Prelude.{◌≡◌};
 ghost use Rattle.canvas_sig.specs.Fields.{found};
-ghost use Rattle.canvas_sig.specs.Reading.{primitive_of, primitive_named};
+ghost use Rattle.canvas_sig.specs.Grammar.{primitive_of, primitive_named};
 
 use serde_json::Value;
 

@@ -4,7 +4,9 @@ ghost use Rattle.std.specs.Prelude.{◌≡◌, map, string_bytes, IfOk, Some};
 ghost use Rattle.serde_json.specs.View.{view};
 ghost use Rattle.canvas_sig.specs.declared.primitive.Primitive.TheVariants.{Chain, Group, Chord};
 ghost use Rattle.canvas_sig.specs.Fields.{found, as_list, text_of};
-ghost use Rattle.canvas_sig.specs.Reading.{Gives, each, task_with, linked_with, task_reading, header_reading, tree_as, tree_with, tree_reading, members_in};
+ghost use Rattle.canvas_sig.specs.Answers.{Gives, each};
+ghost use Rattle.canvas_sig.specs.steps.Reading.{task_with, linked_with, task_reading, header_reading, tree_as, tree_with, tree_reading};
+ghost use Rattle.canvas_sig.specs.Grammar.{members_in};
 ghost use Rattle.canvas_sig.specs.View.{task_view, trees_of, view as tree_view};
 
 use crate::arguments::{read_args, read_kwargs};

@@ -21,7 +21,7 @@ pub use memory::Memory;
 pub use name::name_ok;
 pub use number::{GroupNo, TaskNo};
 pub use outcome::{Fault, Kind, Outcome, Why};
-pub use table::apply;
+pub use table::{apply, in_range};
 pub use text_of::TextOf;
 pub use word::{outcome_of, word_of};
 

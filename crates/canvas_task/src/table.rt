@@ -10,13 +10,21 @@ ghost use Rattle.canvas_task.specs.Apply.{add, mul, div, xsum, ident, log_error,
 use crate::{Arg, Fault, Kind, Outcome, task_of_text};
 use std::collections::BTreeMap;
 
-const BOUND: i128 = 1152921504606846976;
+/// The greatest number that a task takes or gives. The least is its negation.
+const BOUND: i64 = 1 << 60;
+
+/// Whether a task may take or give the number.
+pub fn in_range(number: i64) -> bool
+    ensures { result ≡ in_range number }
+{
+    -BOUND <= number && number <= BOUND
+}
 
 /// A number as a result.
 fn checked(n: i128) -> Outcome
     ensures { result ≡ checked n }
 {
-    if -BOUND <= n && n <= BOUND {
+    if -(BOUND as i128) <= n && n <= BOUND as i128 {
         Outcome::Success(n as i64)
     } else {
         Outcome::Failure(Fault::Plain(Kind::Overflow))

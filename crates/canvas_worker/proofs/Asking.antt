@@ -10,7 +10,7 @@ use Rattle.canvas_runs.specs.Following.{Seat, Serves}
 use Rattle.canvas_worker.specs.Asks.{Answer}
 use Rattle.canvas_worker.specs.Books.{book_in}
 use Rattle.canvas_worker.specs.Enveloped.{enveloped}
-use Rattle.canvas_worker.specs.Seats.{Can, MayAsk}
+use Rattle.canvas_worker.specs.Seats.{Can, LetsAsk}
 use Rattle.canvas_worker.specs.Standing.{Left, asked}
 use Rattle.canvas_worker.proofs.Books.{books_alike}
 use Rattle.canvas_worker.proofs.Seats.{can_ask, can_go_on}
@@ -22,8 +22,8 @@ IsOf plan = (l : Line) × IsPlan l × (plan ≡ roster_of l)
 pub same_book : (plan : Roster) → IsOf plan → book_in plan ≡ book_on plan
 same_book plan h = subst (λ p. book_in p ≡ book_on p) (sym h.2) (books_alike h.0 h.1)
 
-pub may_ask : (plan : Roster) → IsOf plan → (s : Seat) (left : Left) → Can plan s left → MayAsk plan s (asked left)
-may_ask plan h s left = subst (λ p. Can p s left → MayAsk p s (asked left)) (sym h.2) (can_ask h.0 h.1 s left)
+pub may_ask : (plan : Roster) → IsOf plan → (s : Seat) (left : Left) → Can plan s left → LetsAsk plan s (asked left)
+may_ask plan h s left = subst (λ p. Can p s left → LetsAsk p s (asked left)) (sym h.2) (can_ask h.0 h.1 s left)
 
 pub may_go_on : (plan : Roster) → IsOf plan → (s t : Seat) (left : Left) (r : Answer) → Can plan s left → Suits (enveloped plan) (asked left) r
     → Serves plan s (backend_call (enveloped plan) (asked left) r) t → Can plan t (answered (enveloped plan) left r)

@@ -16,7 +16,7 @@ use Rattle.canvas_worker.specs.Enveloped.{enveloped}
 use Rattle.canvas_worker.specs.Finished.{Finished, WorkersStart, WorkersFinish}
 use Rattle.canvas_worker.specs.Progress.{Progress, Worked, starting}
 use Rattle.canvas_worker.specs.Standing.{Left}
-use Rattle.canvas_worker.specs.Work.{begun, Ready, TellsOf, IsRecordOf}
+use Rattle.canvas_worker.specs.Work.{working_begun, Ready, TellsOf, IsRecordOf}
 use Rattle.canvas_worker.specs.declared.record.Record.{Record}
 use Rattle.canvas_worker.proofs.CoreLaw.{cores_are_workers}
 

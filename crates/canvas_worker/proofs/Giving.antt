@@ -17,8 +17,8 @@ use Rattle.canvas_worker.specs.Enveloped.{enveloped, enveloped_by}
 use Rattle.canvas_worker.specs.Progress.{Progress}
 use Rattle.canvas_worker.specs.Seats.{Can}
 use Rattle.canvas_worker.specs.Standing.{Standing, Left, asked, drops, after_reply}
-use Rattle.canvas_worker.specs.Steps.{Answered, OnlyBare, Called, Batched, FromHeld}
-use Rattle.canvas_worker.specs.Work.{Work, progress, with_core, told, lost, one_taken, Ready, Moves, stays, calls, takes, gives, GoesOn, Leaves, IsRecordOf, Ends}
+use Rattle.canvas_worker.specs.WorkerSteps.{Answered, OnlyBare, Called, Batched, FromHeld}
+use Rattle.canvas_worker.specs.Work.{Work, progress, with_core, told, lost, one_taken, Ready, Moves, stays, calls, takes, gives, Pends, Leaves, IsRecordOf, Ends}
 use Rattle.canvas_worker.specs.declared.cause.Cause.{Cause}
 use Rattle.canvas_worker.specs.declared.cause.Cause.TheVariants.{Memory, Stopped}
 use Rattle.canvas_worker.specs.declared.record.Record.{Record}
@@ -96,7 +96,7 @@ module _ (w u : Work) (es : List Envelope) (e : Envelope) (ready : Ready w) (x :
       may_go_on plan ready.plan w.seat u.seat w.core.left (C.taken (Some e)) ready.can (subst (λ b. Suits (enveloped plan) b (C.taken (Some e))) (sym x.asked_is) tt)
       (subst (λ b. Serves plan w.seat (backend_call (enveloped plan) b (C.taken (Some e))) u.seat) (sym x.asked_is) x.seat)
 
-  goes : GoesOn w given
+  goes : Pends w given
   goes = record {
     broker = x.broker;
     desk = x.desk;
@@ -113,8 +113,8 @@ module _ (w u : Work) (es : List Envelope) (e : Envelope) (ready : Ready w) (x :
     moved = gives es e between batched from_held;
   }
 
-  told_is : (v : Work) → v ≡ one_taken (told u (C.taken (Some e))) → GoesOn w v
-  told_is v is = subst (λ z. GoesOn w z) (sym (is ∙ ap (λ c. one_taken (with_core u c)) core_is)) goes
+  told_is : (v : Work) → v ≡ one_taken (told u (C.taken (Some e))) → Pends w v
+  told_is v is = subst (λ z. Pends w z) (sym (is ∙ ap (λ c. one_taken (with_core u c)) core_is)) goes
 
   same_tally : (progress (lost u)).tally ≡ (progress w).tally
   same_tally = same_tallies x.taken x.published x.first x.parts (ap (λ (c : Standing). c.dropped) x.core)
@@ -127,10 +127,10 @@ module _ (w u : Work) (es : List Envelope) (e : Envelope) (ready : Ready w) (x :
     is_of = record { same_number = leaves.same_number ∙ x.number; pass = leaves.pass; seat = leaves.seat ∙ x.seat; counts = leaves.counts ∙ same_tally; whole = λ none. absurd (some_none Memory (sym leaves.fault_is ∙ none)) };
   }
 
-  well : (result : Result Work Record) → MatchResult result (λ v. v ≡ one_taken (told u (C.taken (Some e)))) (Leaves (lost u) (Some Memory)) → MatchResult result (GoesOn w) (Ends w)
+  well : (result : Result Work Record) → MatchResult result (λ v. v ≡ one_taken (told u (C.taken (Some e)))) (Leaves (lost u) (Some Memory)) → MatchResult result (Pends w) (Ends w)
   well (Ok v) is = told_is v is
   well (Err s) is = fails s is
 
 pub given_well : (w u : Work) (es : List Envelope) (e : Envelope) (result : Result Work Record) → MatchResult result (λ v. v ≡ one_taken (told u (C.taken (Some e)))) (Leaves (lost u) (Some Memory)) → Ready w → Takes w u es e
-    → MatchResult result (GoesOn w) (Ends w)
+    → MatchResult result (Pends w) (Ends w)
 given_well w u es e result is ready x = well w u es e ready x result is

@@ -7,7 +7,7 @@ use Rattle.futures.specs.declared.task.Poll.TheVariants.{Ready, Pending}
 use Rattle.canvas_backend.specs.Seats.{Desk}
 use Rattle.canvas_backend.specs.Roster.{Roster}
 use Rattle.canvas_worker.specs.Progress.{Progress, Worked}
-use Rattle.canvas_worker.specs.Work.{Work, progress, Moves, stays, calls, takes, gives, GoesOn, IsRecordOf, Ends, TellsOf}
+use Rattle.canvas_worker.specs.Work.{Work, progress, Moves, stays, calls, takes, gives, Pends, IsRecordOf, Ends, TellsOf}
 use Rattle.canvas_worker.specs.declared.record.Record.{Record}
 use Rattle.canvas_worker.proofs.Stepping.{rests, call_first, held_first, batch_first}
 
@@ -17,7 +17,7 @@ moved_first plan p q x (calls a r step) f = call_first plan p q x a r step f
 moved_first plan p q x (takes es step) f = batch_first plan p q x es step f
 moved_first plan p q x (gives es e between taken step) f = batch_first plan p between x es taken (held_first plan between q x e step f)
 
-pub goes_first : (w v : Work) → GoesOn w v → (r : Record) → TellsOf v r → TellsOf w r
+pub goes_first : (w v : Work) → Pends w v → (r : Record) → TellsOf v r → TellsOf w r
 goes_first w v g r f =
     let worked : Worked w.desk.plan (progress v) f.ended = subst (λ (d : Desk). Worked d.plan (progress v) f.ended) g.desk f.worked in
     record { ended = f.ended; worked = moved_first w.desk.plan (progress w) (progress v) f.ended g.moved worked; is_of = subst (λ n. IsRecordOf n f.ended r) g.number f.is_of }

@@ -25,7 +25,7 @@ use Rattle.canvas_runs.specs.Worker.{opened}
 use Rattle.canvas_worker.specs.Asks.{Answer}
 use Rattle.canvas_worker.specs.Enveloped.{said, enclosed, enveloped, kept as kept_envelope}
 use Rattle.canvas_worker.specs.Scripts.{EnvelopeJobs}
-use Rattle.canvas_worker.specs.Seats.{Carries, InPlan, MayHandIn, Can, MayAsk, WaitingCan, CanAsk, CanGoOn}
+use Rattle.canvas_worker.specs.Seats.{Carries, InPlan, MayHandIn, Can, LetsAsk, WaitingCan, CanAsk, CanGoOn}
 use Rattle.canvas_worker.specs.Standing.{Left, asked}
 use Rattle.canvas_worker.proofs.Books.{no_member_zero}
 use Rattle.canvas_worker.proofs.KnownJobs.{Stored, Behind, own_known, ended_jobs, body_jobs, ended_known, body_known}
@@ -137,7 +137,7 @@ module _ (l : Line) (is_plan : IsPlan l) where
 
   -- ---- asks
 
-  asks : (s : Seat) (left : Left) → Can plan s left → MayAsk plan s (asked left)
+  asks : (s : Seat) (left : Left) → Can plan s left → LetsAsk plan s (asked left)
   asks s taking c = tt
   asks s resting c = tt
   asks s over c = tt

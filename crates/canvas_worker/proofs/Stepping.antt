@@ -14,7 +14,7 @@ use Rattle.canvas_worker.specs.Progress.{Progress, Worked}
 use Rattle.canvas_runs.specs.Calls.{BrokerCall, took, BackendCall, Follows, follows_all, follows_publish, follows_list_take, follows_core_take, broker_call, broker_calls, backend_call, backend_calls, takes_one}
 use Rattle.std.specs.Prelude.{slice_get}
 use Rattle.canvas_runs.specs.Lists.{Each, total, at}
-use Rattle.canvas_worker.specs.Steps.{OnlyBare, Called, FromHeld, Batched}
+use Rattle.canvas_worker.specs.WorkerSteps.{OnlyBare, Called, FromHeld, Batched}
 use Rattle.canvas_runs.specs.Tally.{Tally, CountsMore, IsTally, Counted, greatest_count, often, is_taken, is_published, is_first, is_part, is_dropped}
 use Rattle.canvas_worker.specs.Enveloped.{enveloped}
 use Rattle.canvas_runs.proofs.Sums.{total-append}

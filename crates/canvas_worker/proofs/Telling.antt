@@ -17,8 +17,8 @@ use Rattle.canvas_worker.specs.Enveloped.{enveloped, enveloped_by}
 use Rattle.canvas_worker.specs.Progress.{Progress}
 use Rattle.canvas_worker.specs.Seats.{Can}
 use Rattle.canvas_worker.specs.Standing.{Standing, Left, asked, drops, after_reply}
-use Rattle.canvas_worker.specs.Steps.{Answered, OnlyBare, Called, Batched, FromHeld}
-use Rattle.canvas_worker.specs.Work.{Work, progress, with_core, told, lost, one_taken, Ready, Moves, stays, calls, takes, gives, GoesOn, Leaves, IsRecordOf, Ends}
+use Rattle.canvas_worker.specs.WorkerSteps.{Answered, OnlyBare, Called, Batched, FromHeld}
+use Rattle.canvas_worker.specs.Work.{Work, progress, with_core, told, lost, one_taken, Ready, Moves, stays, calls, takes, gives, Pends, Leaves, IsRecordOf, Ends}
 use Rattle.canvas_worker.specs.declared.cause.Cause.{Cause}
 use Rattle.canvas_worker.specs.declared.cause.Cause.TheVariants.{Memory, Stopped}
 use Rattle.canvas_worker.specs.declared.record.Record.{Record}
@@ -111,9 +111,9 @@ module _ (w u : Work) (a : Asked) (r : Answer) (ready : Ready w) (x : Asks w u a
     counts = tallied plan a r (progress w).tally after.tally counted;
   }
 
-  told_is : (v : Work) → v ≡ told u r → GoesOn w v
+  told_is : (v : Work) → v ≡ told u r → Pends w v
   told_is v e =
-      subst (λ z. GoesOn w z) (sym (e ∙ ap (λ c. with_core u c) core_is)) (record { broker = x.broker; desk = x.desk; number = x.number; ready = ready_then; moved = calls a r called })
+      subst (λ z. Pends w z) (sym (e ∙ ap (λ c. with_core u c) core_is)) (record { broker = x.broker; desk = x.desk; number = x.number; ready = ready_then; moved = calls a r called })
 
   fails : (s : Record) → Leaves (lost u) (Some Memory) s → Ends w s
   fails s leaves = record {
@@ -123,7 +123,7 @@ module _ (w u : Work) (a : Asked) (r : Answer) (ready : Ready w) (x : Asks w u a
     is_of = record { same_number = leaves.same_number ∙ x.number; pass = leaves.pass; seat = leaves.seat; counts = leaves.counts; whole = λ none. absurd (some_none Memory (sym leaves.fault_is ∙ none)) };
   }
 
-  well : (result : Result Work Record) → MatchResult result (λ v. v ≡ told u r) (Leaves (lost u) (Some Memory)) → MatchResult result (GoesOn w) (Ends w)
+  well : (result : Result Work Record) → MatchResult result (λ v. v ≡ told u r) (Leaves (lost u) (Some Memory)) → MatchResult result (Pends w) (Ends w)
   well (Ok v) e = told_is v e
   well (Err s) e = fails s e
 
@@ -144,7 +144,7 @@ module _ (w u : Work) (a : Asked) (r : Answer) (ready : Ready w) (x : Asks w u a
         };
       }
 
-pub asked_well : (w u : Work) (a : Asked) (r : Answer) (result : Result Work Record) → MatchResult result (λ v. v ≡ told u r) (Leaves (lost u) (Some Memory)) → Ready w → Asks w u a r → MatchResult result (GoesOn w) (Ends w)
+pub asked_well : (w u : Work) (a : Asked) (r : Answer) (result : Result Work Record) → MatchResult result (λ v. v ≡ told u r) (Leaves (lost u) (Some Memory)) → Ready w → Asks w u a r → MatchResult result (Pends w) (Ends w)
 asked_well w u a r result is ready x = well w u a r ready x result is
 
 -- where memory was refused, to the core or to the queue

@@ -17,8 +17,8 @@ use Rattle.canvas_worker.specs.Enveloped.{enveloped, enveloped_by}
 use Rattle.canvas_worker.specs.Progress.{Progress}
 use Rattle.canvas_worker.specs.Seats.{Can}
 use Rattle.canvas_worker.specs.Standing.{Standing, Left, asked, drops, after_reply}
-use Rattle.canvas_worker.specs.Steps.{Answered, OnlyBare, Called, Batched, FromHeld}
-use Rattle.canvas_worker.specs.Work.{Work, progress, with_core, told, lost, one_taken, Ready, Moves, stays, calls, takes, gives, GoesOn, Leaves, IsRecordOf, Ends}
+use Rattle.canvas_worker.specs.WorkerSteps.{Answered, OnlyBare, Called, Batched, FromHeld}
+use Rattle.canvas_worker.specs.Work.{Work, progress, with_core, told, lost, one_taken, Ready, Moves, stays, calls, takes, gives, Pends, Leaves, IsRecordOf, Ends}
 use Rattle.canvas_worker.specs.declared.cause.Cause.{Cause}
 use Rattle.canvas_worker.specs.declared.cause.Cause.TheVariants.{Memory, Stopped}
 use Rattle.canvas_worker.specs.declared.record.Record.{Record}

@@ -8,7 +8,7 @@ use Rattle.canvas_backend.specs.Seats.{Desk}
 use Rattle.canvas_backend.specs.Roster.{Roster, roster_of}
 use Rattle.canvas_broker.specs.Passes.{Empties}
 use Rattle.canvas_runs.specs.Following.{Pass, Seat, Working, Followed, begins, IsDone}
-use Rattle.canvas_worker.specs.Work.{Ready, TellsOf, begun, tally_of}
+use Rattle.canvas_worker.specs.Work.{Ready, TellsOf, working_begun, tally_of}
 use Rattle.canvas_worker.specs.declared.record.Record.{Record}
 
 -- The record's pass and seat have followed a core run from where they were given to the worker; without a fault it ended outside of scripts, and the last
@@ -27,9 +27,9 @@ pub record Finished (plan : Roster) (number : ℕ) (pass : Pass) (seat : Seat) (
 abbrev pub WorkersStart : Type 0
 WorkersStart =
     (l : Line) → IsPlan l → (broker : SegId Global) (desk : Desk) (number : ℕ) (pass : Pass) (seat : Seat) → desk.plan ≡ roster_of l → pass.of ≡ broker → seat.of ≡ desk.id
-    → Ready (begun broker desk number pass seat)
+    → Ready (working_begun broker desk number pass seat)
 
 abbrev pub WorkersFinish : Type 0
 WorkersFinish =
     (l : Line) → IsPlan l → (broker : SegId Global) (desk : Desk) (number : ℕ) (pass : Pass) (seat : Seat) → desk.plan ≡ roster_of l → (r : Record)
-    → TellsOf (begun broker desk number pass seat) r → Finished (roster_of l) number pass seat r
+    → TellsOf (working_begun broker desk number pass seat) r → Finished (roster_of l) number pass seat r

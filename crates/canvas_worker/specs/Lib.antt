@@ -7,10 +7,10 @@ pub mod Phases
 pub mod Cores
 pub mod Leading
 pub mod Progress
-pub mod Steps
 pub mod StepLaws
 pub mod Seats
 pub mod Work
 pub mod Finished
 pub mod codes
 pub mod steps
+pub mod WorkerSteps

@@ -49,11 +49,11 @@ module _ (plan : Roster) where
   Can s left = Unit {0}
 
   -- the backend lets the seat ask this, and a read is of a member that there is
-  abbrev pub MayAsk : Seat → Asked → Type 0
-  MayAsk s (keep t o) = t ≤ plan.tasks
-  MayAsk s (part g t) = IsTrue (is_chord plan g) × IsTrue (is_member plan g t) × MayReturn plan s.seen s.name t
-  MayAsk s (read g i) = (t : ℕ) × (slice_get (members plan g) i ≡ Some t) × (t ≤ plan.tasks)
-  MayAsk s a = Unit {0}
+  abbrev pub LetsAsk : Seat → Asked → Type 0
+  LetsAsk s (keep t o) = t ≤ plan.tasks
+  LetsAsk s (part g t) = IsTrue (is_chord plan g) × IsTrue (is_member plan g t) × MayReturn plan s.seen s.name t
+  LetsAsk s (read g i) = (t : ℕ) × (slice_get (members plan g) i ≡ Some t) × (t ≤ plan.tasks)
+  LetsAsk s a = Unit {0}
 
 -- a worker that waits for an envelope can go on
 abbrev pub WaitingCan : Type 0
@@ -61,7 +61,7 @@ WaitingCan = (plan : Roster) (s : Seat) → Can plan s taking
 
 -- what can be done may be asked
 abbrev pub CanAsk : Type 0
-CanAsk = (l : Line) → IsPlan l → (s : Seat) (left : Left) → Can (roster_of l) s left → MayAsk (roster_of l) s (asked left)
+CanAsk = (l : Line) → IsPlan l → (s : Seat) (left : Left) → Can (roster_of l) s left → LetsAsk (roster_of l) s (asked left)
 
 -- and once it is asked and answered, and the seat has made the call, what is left can be done
 abbrev pub CanGoOn : Type 0

@@ -6,7 +6,7 @@ use Rattle.canvas_backend.specs.Roster.{Roster}
 use Rattle.canvas_runs.specs.Core.{Ask, Reply}
 use Rattle.canvas_worker.specs.Progress.{Progress, Worked}
 use Rattle.canvas_runs.specs.Tally.{IsTally}
-use Rattle.canvas_worker.specs.Steps.{Called, FromHeld, Batched}
+use Rattle.canvas_worker.specs.WorkerSteps.{Called, FromHeld, Batched}
 
 abbrev pub Rests : Type 0
 Rests = (plan : Roster) (w : Progress) → IsTally w.tally → Worked plan w w

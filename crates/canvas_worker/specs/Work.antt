@@ -17,7 +17,7 @@ use Rattle.canvas_worker.specs.Progress.{Progress, Worked}
 use Rattle.canvas_worker.specs.Seats.{Can}
 use Rattle.canvas_runs.specs.Tally.{greatest_count}
 use Rattle.canvas_worker.specs.Standing.{Standing, begun as new_core, after_reply, failing}
-use Rattle.canvas_worker.specs.Steps.{Called, FromHeld, Batched}
+use Rattle.canvas_worker.specs.WorkerSteps.{Called, FromHeld, Batched}
 use Rattle.canvas_worker.specs.declared.cause.Cause.{Cause}
 use Rattle.canvas_worker.specs.declared.record.Record.{Record}
 
@@ -37,8 +37,8 @@ pub record Work : Type 0 where
   pub parts : ℕ
 
 -- a worker that has done nothing yet
-abbrev pub begun : SegId Global → Desk → ℕ → Pass → Seat → Work
-begun broker desk number pass seat =
+abbrev pub working_begun : SegId Global → Desk → ℕ → Pass → Seat → Work
+working_begun broker desk number pass seat =
     record { broker = broker; desk = desk; number = number; pass = pass; seat = seat; core = new_core; held = []; taken = 0; published = 0; first = 0; parts = 0 }
 
 abbrev pub progress : Work → Progress
@@ -87,7 +87,7 @@ pub data Moves (plan : Roster) (p q : Progress) : Type 0 where
   gives : (es : List Envelope) (e : Envelope) (between : Progress) → Batched p between es → FromHeld plan between q e → Moves plan p q
 
 -- what a poll leaves that is pending
-pub record GoesOn (w v : Work) : Type 0 where
+pub record Pends (w v : Work) : Type 0 where
   pub broker : v.broker ≡ w.broker
   pub desk : v.desk ≡ w.desk
   pub number : v.number ≡ w.number

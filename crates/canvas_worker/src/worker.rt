@@ -1,7 +1,7 @@
 //! The worker.
 
 ghost use Rattle.std.specs.Prelude.{◌≡◌, Some, IfSome, IsSomeAnd};
-ghost use Rattle.canvas_worker.specs.Work.{Ready, GoesOn, Ends, TellsOf, begun};
+ghost use Rattle.canvas_worker.specs.Work.{Ready, Pends, Ends, TellsOf, working_begun};
 ghost use Rattle.futures.specs.Poll.{OnPending, IfReady};
 ghost use Rattle.futures.specs.Task.{Covers, Keeps};
 
@@ -37,7 +37,7 @@ impl<'a, R: Wait, G: Gate> Worker<'a, R, G> {
         stop: &'a Stop,
         flight: &'a InFlight,
     ) -> Worker<'a, R, G>
-        ensures { result.working ≡ Some (begun broker.now backend.now number pass seat) }
+        ensures { result.working ≡ Some (working_begun broker.now backend.now number pass seat) }
     {
         let working = Working::new(
             rt, alloc, number, broker, pass, backend, seat, gate, stop, flight,
@@ -62,7 +62,7 @@ impl<R: Wait, G: Gate> Future for Worker<'_, R, G> {
         ensures same { OnPending result ((x : _) → IfSome self.new.working (λ v. TellsOf v x) → IfSome self.old.working (λ w. TellsOf w x)) }
         ensures registered { OnPending result (Covers cx.new (λ _. ⊥)) }
         ensures kept { Keeps cx.old cx.new }
-        ensures once { OnPending result (IfSome self.old.working (λ w. IfSome self.new.working (λ v. GoesOn w v))) }
+        ensures once { OnPending result (IfSome self.old.working (λ w. IfSome self.new.working (λ v. Pends w v))) }
         ensures last { IfReady result (λ r. IfSome self.old.working (λ w. Ends w r)) }
     {
         let Some(working) = self.working.take() else {

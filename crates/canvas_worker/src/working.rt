@@ -7,7 +7,7 @@ ghost use Rattle.canvas_worker.specs.Asks.{suits, shown, replied, FoundInRange};
 ghost use Rattle.canvas_worker.specs.Books.{no_book};
 ghost use Rattle.canvas_worker.specs.Enveloped.{enveloped_by};
 ghost use Rattle.canvas_worker.specs.Standing.{asked};
-ghost use Rattle.canvas_worker.specs.Work.{Ready, GoesOn, Ends, Leaves, begun, told, lost, one_taken};
+ghost use Rattle.canvas_worker.specs.Work.{Ready, Pends, Ends, Leaves, working_begun, told, lost, one_taken};
 ghost use Rattle.canvas_worker.specs.declared.ask.Ask.TheVariants as ask;
 ghost use Rattle.canvas_worker.specs.declared.cause.Cause.TheVariants.{Memory};
 
@@ -75,7 +75,7 @@ impl<'a, R: Wait, G: Gate> Working<'a, R, G> {
         stop: &'a Stop,
         flight: &'a InFlight,
     ) -> Working<'a, R, G>
-        ensures { result ≡ begun broker.now backend.now number pass seat }
+        ensures { result ≡ working_begun broker.now backend.now number pass seat }
     {
         Working {
             rt,
@@ -173,7 +173,7 @@ impl<'a, R: Wait, G: Gate> Working<'a, R, G> {
         requires ready { Ready self }
         requires asks { shown (asked self.core.left) ≡ ask.Take }
         requires bare { self.held ≡ [] }
-        ensures { MatchResult result (GoesOn self.entry) (Ends self.entry) }
+        ensures { MatchResult result (Pends self.entry) (Ends self.entry) }
     {
         let (rt, broker) = (self.rt, self.broker);
         match broker.take(rt, &mut self.pass) {
@@ -193,7 +193,7 @@ impl<'a, R: Wait, G: Gate> Working<'a, R, G> {
         requires ready { Ready self }
         requires asks { shown (asked self.core.left) ≡ ask.Take }
         requires bare { self.held ≡ [] }
-        ensures { MatchResult result (GoesOn self.entry) (Ends self.entry) }
+        ensures { MatchResult result (Pends self.entry) (Ends self.entry) }
     {
         let (rt, broker) = (self.rt, self.broker);
         let mut batch = broker.take_batch(rt, &mut self.pass);
@@ -212,7 +212,7 @@ impl<'a, R: Wait, G: Gate> Working<'a, R, G> {
     fn takes(mut self) -> Result<Working<'a, R, G>, Record>
         requires ready { Ready self }
         requires asks { shown (asked self.core.left) ≡ ask.Take }
-        ensures { MatchResult result (GoesOn self.entry) (Ends self.entry) }
+        ensures { MatchResult result (Pends self.entry) (Ends self.entry) }
     {
         if let Some(envelope) = self.source.next() {
             return self.gives(envelope);
@@ -228,7 +228,7 @@ impl<'a, R: Wait, G: Gate> Working<'a, R, G> {
         requires ready { Ready self }
         requires asks { shown (asked self.core.left) ≡ ask.Publish }
         requires reads_back { ReadsBack (enveloped_by no_book) self.core.left }
-        ensures { MatchResult result (GoesOn self.entry) (Ends self.entry) }
+        ensures { MatchResult result (Pends self.entry) (Ends self.entry) }
     {
         let (rt, broker) = (self.rt, self.broker);
         match self.core.envelope() {
@@ -251,7 +251,7 @@ impl<'a, R: Wait, G: Gate> Working<'a, R, G> {
         requires asks { shown (asked self.core.left) ≡ ask.Store task outcome }
         requires reads_back { ReadsBack (enveloped_by no_book) self.core.left }
         requires in_range { IsInRange outcome }
-        ensures { MatchResult result (GoesOn self.entry) (Ends self.entry) }
+        ensures { MatchResult result (Pends self.entry) (Ends self.entry) }
     {
         let backend = self.backend;
         self.is_fresh = false;
@@ -268,7 +268,7 @@ impl<'a, R: Wait, G: Gate> Working<'a, R, G> {
         requires ready { Ready self }
         requires asks { shown (asked self.core.left) ≡ ask.Part group task }
         requires reads_back { ReadsBack (enveloped_by no_book) self.core.left }
-        ensures { MatchResult result (GoesOn self.entry) (Ends self.entry) }
+        ensures { MatchResult result (Pends self.entry) (Ends self.entry) }
     {
         let backend = self.backend;
         let count = backend.part(&mut self.seat, group, task);
@@ -280,7 +280,7 @@ impl<'a, R: Wait, G: Gate> Working<'a, R, G> {
         requires ready { Ready self }
         requires asks { shown (asked self.core.left) ≡ ask.Read group place }
         requires reads_back { ReadsBack (enveloped_by no_book) self.core.left }
-        ensures { MatchResult result (GoesOn self.entry) (Ends self.entry) }
+        ensures { MatchResult result (Pends self.entry) (Ends self.entry) }
     {
         let backend = self.backend;
         match backend.member(group, place) {
@@ -296,7 +296,7 @@ impl<'a, R: Wait, G: Gate> Working<'a, R, G> {
         requires ready { Ready self }
         requires asks { shown (asked self.core.left) ≡ ask.Rest }
         requires reads_back { ReadsBack (enveloped_by no_book) self.core.left }
-        ensures { MatchResult result (GoesOn self.entry) (Ends self.entry) }
+        ensures { MatchResult result (Pends self.entry) (Ends self.entry) }
     {
         if self.has_more() {
             return self.answers(Reply::Rested { more: true });
@@ -324,7 +324,7 @@ impl<'a, R: Wait, G: Gate> Working<'a, R, G> {
     #[tactic(auto, using(crate::proofs::Turns::ends_here))]
     pub(crate) fn turn(self) -> Result<Working<'a, R, G>, Record>
         requires { Ready self }
-        ensures { MatchResult result (GoesOn self.entry) (Ends self.entry) }
+        ensures { MatchResult result (Pends self.entry) (Ends self.entry) }
     {
         if self.stop.asked() {
             return Err(self.ends(Some(Cause::Stopped)));

@@ -2,7 +2,7 @@
 --     IsSplitOff plan k p s slot p' s'     a place of number k, whose pass and seat were split off
 --     SplitsOff plan k p s slots p' s'     places made one after the other, numbered from k on
 --     RanSlot plan before after            the worker of this place has run to its end, or was lost
---     Takes plan p s slots p' s'       what the workers left, taken in one after the other
+--     TakesIn plan p s slots p' s'       what the workers left, taken in one after the other
 use Rattle.std.specs.Prelude.{ℕ, suc, ◌≡◌, ◌<◌, List, [], ◌∷◌, length, slice_index_or, Option, Some, None}
 use Rattle.std.specs.Global.{Global}
 use Rattle.crossbeam_queue.specs.SegTies.{SegId}
@@ -47,9 +47,9 @@ abbrev pub AllRan : Roster → List Slot → List Slot → Type 0
 AllRan plan before after = (i : ℕ) (d : Slot) → i < length before → RanSlot plan (slice_index_or before i d) (slice_index_or after i d)
 
 -- the worker has left a record
-abbrev pub HasEnded : Post → Type 0
-HasEnded (Done r) = Unit {0}
-HasEnded p = ⊥
+abbrev pub LeftARecord : Post → Type 0
+LeftARecord (Done r) = Unit {0}
+LeftARecord p = ⊥
 
 -- a record without a fault
 abbrev pub IsWell : Post → Type 0
@@ -65,10 +65,10 @@ abbrev pub AreOf : SegId Global → TableId → List Slot → Type 0
 AreOf b d [] = Unit {0}
 AreOf b d (slot ∷ slots) = IsPostOf b d slot.post × AreOf b d slots
 
-abbrev pub Takes : Roster → Pass → Seat → List Slot → Pass → Seat → Type 0
-Takes plan p s [] p' s' = (p' ≡ p) × (s' ≡ s)
-Takes plan p s (slot ∷ slots) p' s' =
-    (r : Record) × (slot.post ≡ Done r) × (q : Pass) × (t : Seat) × Owes p r.pass q × passes.IsHistory q × seats.Joined plan s r.seat t × Takes plan q t slots p' s'
+abbrev pub TakesIn : Roster → Pass → Seat → List Slot → Pass → Seat → Type 0
+TakesIn plan p s [] p' s' = (p' ≡ p) × (s' ≡ s)
+TakesIn plan p s (slot ∷ slots) p' s' =
+    (r : Record) × (slot.post ≡ Done r) × (q : Pass) × (t : Seat) × Owes p r.pass q × passes.IsHistory q × seats.Joined plan s r.seat t × TakesIn plan q t slots p' s'
 
 -- the counts that a worker left
 abbrev pub counts : ℕ → Record → Tally

@@ -136,7 +136,7 @@ IsEarlyEnd Memory l n most turns s = (s.table.plan ≡ roster_of l) × ((held s.
 IsEarlyEnd Stopped l n most turns s = (us : List ℕ) × Begins us turns n × IsStopped l n most us s
 
 -- the turns of a list, and rounds, after which all workers have ended
-pub record IsDone (l : Line) (n most : ℕ) (turns : List ℕ) (s : Stage) : Type 0 where
+pub record IsRunThrough (l : Line) (n most : ℕ) (turns : List ℕ) (s : Stage) : Type 0 where
   pub further : ℕ
   pub steps : List Step
   pub reached : Reached l n most (turns ++ rounds n further) steps s

@@ -6,16 +6,12 @@ ghost use Rattle.canvas_rewrite.specs.FrozenView.{p_tasks_of, p_lines_of, p_task
 ghost use Rattle.canvas_message.specs.Fits.{is_number, call_ok, size_ok, task_ok, tasks_ok, place_ok, line_ok, members_ok, how_many, most_members};
 ghost use Rattle.canvas_message.specs.View.{place_seen};
 
+use super::MOST_MEMBERS;
 use canvas_rewrite::parts::is_in_group;
 use canvas_rewrite::{FrozenEnd, FrozenLine, FrozenTask, Place};
 use canvas_sig::parts::{args_fit, kwargs_fit};
 use canvas_task::{Arg, GroupNo, TaskNo, name_ok};
 use std::collections::BTreeMap;
-
-/// The most members that a header may have.
-const MOST_MEMBERS: usize = 1024;
-
-const MOST_SIZE: u32 = 1024;
 
 pub(super) fn is_task(task: TaskNo) -> bool
     ensures { result ≡ is_number task }
@@ -32,13 +28,13 @@ fn is_group(group: GroupNo) -> bool
 fn is_size(size: u32) -> bool
     ensures { result ≡ size_ok size }
 {
-    size > 0 && size <= MOST_SIZE
+    size > 0 && size <= MOST_MEMBERS
 }
 
 fn is_header(members: &[FrozenLine]) -> bool
     ensures { result ≡ nat_le (how_many (p_lines_of (map p_line_view members.now))) most_members }
 {
-    members.len() <= MOST_MEMBERS
+    members.len() <= MOST_MEMBERS as usize
 }
 
 /// A call's name, its numbers, and the order of its keyword arguments.

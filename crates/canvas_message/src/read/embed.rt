@@ -3,7 +3,7 @@
 ghost use Rattle.std.specs.Prelude.{◌≡◌, map, reverse};
 ghost use Rattle.serde_json.specs.View.{view};
 ghost use Rattle.canvas_sig.specs.Fields.{found};
-ghost use Rattle.canvas_sig.specs.Reading.{Gives};
+ghost use Rattle.canvas_sig.specs.Answers.{Gives};
 ghost use Rattle.canvas_message.specs.Elements.{embed_view, reversed_with};
 ghost use Rattle.canvas_message.specs.FrozenReading.{step_reading, last_reading};
 ghost use Rattle.canvas_message.specs.Reading.{embed_ok, embed_reading, chain_reading};

@@ -3,7 +3,8 @@
 ghost use Rattle.std.specs.Prelude.{◌≡◌, false, map};
 ghost use Rattle.serde_json.specs.View.{view};
 ghost use Rattle.canvas_sig.specs.Fields.{found, as_list, listed, tasks, subtype};
-ghost use Rattle.canvas_sig.specs.Reading.{Gives, ◌or_else◌, unless, each, own_fault, primitive_of};
+ghost use Rattle.canvas_sig.specs.Answers.{Gives, ◌or_else◌, unless, each};
+ghost use Rattle.canvas_sig.specs.Grammar.{own_fault, primitive_of};
 ghost use Rattle.canvas_rewrite.specs.FrozenView.{p_task_view, p_line_view, p_end_view};
 ghost use Rattle.canvas_message.specs.View.{place_seen};
 ghost use Rattle.canvas_message.specs.Elements.{element_view, carried_view, line_with};

@@ -4,15 +4,13 @@ ghost use Rattle.std.specs.Prelude.{◌≡◌, Some};
 ghost use Rattle.serde_json.specs.Find.{as_i64};
 ghost use Rattle.serde_json.specs.View.{number_view};
 ghost use Rattle.canvas_sig.specs.Fields.{found};
-ghost use Rattle.canvas_sig.specs.Reading.{Gives};
+ghost use Rattle.canvas_sig.specs.Answers.{Gives};
 ghost use Rattle.canvas_message.specs.FrozenReading.{task_of, group_of, known, sized, size_reading};
 
+use crate::fits::MOST_MEMBERS;
 use canvas_sig::SigFault;
 use canvas_task::{GroupNo, TaskNo, group_of_text, task_of_text};
 use serde_json::{Number, Value};
-
-/// The most members that a header may have.
-const MOST_MEMBERS: i64 = 1024;
 
 /// The task that a member identifies.
 pub(crate) fn task_of(field: Option<&Value>) -> Option<TaskNo>
@@ -55,7 +53,7 @@ pub(crate) fn known_group(field: Option<&Value>) -> Result<GroupNo, SigFault>
 fn sized(number: i64) -> Result<u32, SigFault>
     ensures { Gives (λ n. n) result (sized (Some number)) }
 {
-    if 1 <= number && number <= MOST_MEMBERS {
+    if 1 <= number && number <= i64::from(MOST_MEMBERS) {
         Ok(number as u32)
     } else {
         Err(SigFault::TooMany)

@@ -3,7 +3,7 @@
 ghost use Rattle.std.specs.Prelude.{◌∷◌, [], ◌++◌, None, codes, map};
 ghost use Rattle.canvas_sig.specs.steps.Tokens.{Appends, data_tokens, rest_tokens, link_tokens, member_tokens};
 ghost use Rattle.canvas_rewrite.specs.FrozenView.{p_tasks_of, p_lines_of, p_task_view, p_line_view, p_end_view};
-ghost use Rattle.canvas_message.specs.steps.Tokens.{unless_null, links_wire, errbacks_wire, members_of_end, group_of, place_tokens, links_tokens, option_members, options_tokens, list_tokens, each_tokens, tail_tokens, group_closing, named_tokens};
+ghost use Rattle.canvas_message.specs.steps.Tokens.{unless_null, links_wire, errbacks_wire, members_of_end, group_of_end, place_tokens, links_tokens, option_members, options_tokens, list_tokens, each_tokens, tail_tokens, group_closing, named_tokens};
 ghost use Rattle.canvas_message.specs.View.{place_view, place_seen};
 ghost use Rattle.canvas_message.specs.Wire.{group_id, task_wire, tasks_wire, carried_wire, line_wire, elements_wire, members_wire, chain_wire};
 ghost use Rattle.serde_json.specs.Data.{string};
@@ -236,7 +236,7 @@ fn write_rest(
     kind: &str,
     type_name: &str,
 ) -> Result<(), AllocError>
-    ensures { Appends result out.old out.new (list_tokens name.now (members_wire (members_of_end (p_end_view end.now))) ++ group_closing (group_of (p_end_view end.now)) (string kind.now) type_name.now) }
+    ensures { Appends result out.old out.new (list_tokens name.now (members_wire (members_of_end (p_end_view end.now))) ++ group_closing (group_of_end (p_end_view end.now)) (string kind.now) type_name.now) }
 {
     write_members(out, name, end.members.get())?;
     write_group_closing(out, end.group, kind, type_name)

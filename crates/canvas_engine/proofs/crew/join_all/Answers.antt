@@ -3,7 +3,7 @@ use Rattle.std.specs.Vec.Iter.{into_iter_items}
 use Rattle.canvas_backend.specs.Seats as seats
 use Rattle.canvas_broker.specs.Passes as passes
 use Rattle.canvas_history.specs.Callers.{Owes}
-use Rattle.canvas_engine.specs.steps.Slots.{AreOf, Takes}
+use Rattle.canvas_engine.specs.steps.Slots.{AreOf, TakesIn}
 use Rattle.canvas_engine.specs.declared.slot.Post.TheVariants.{Done}
 use Rattle.canvas_engine.proofs.crew.join_all.Goals as goal
 
@@ -18,5 +18,5 @@ loop-slot-preserved g c =
       search rules,
       (subst (λ l. AreOf c.args.broker.now c.args.backend.now.id l) items c.loop-slot.invariant.3).1,
       λ p s t. c.loop-slot.invariant.4 p s
-          (subst (λ l. Takes c.args.backend.now.plan c.loop-slot.pass c.loop-slot.seat l p s) (sym items) (c.in-Done.left, post, c.join_one.new.pass, c.join_one.new.seat, passes.0, passes.1, seats, t)),
+          (subst (λ l. TakesIn c.args.backend.now.plan c.loop-slot.pass c.loop-slot.seat l p s) (sym items) (c.in-Done.left, post, c.join_one.new.pass, c.join_one.new.seat, passes.0, passes.1, seats, t)),
     )

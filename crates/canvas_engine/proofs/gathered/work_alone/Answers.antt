@@ -1,11 +1,11 @@
 use Rattle.std.proofs.Common.{rules, ◌≡◌, refl, sym, subst}
 use Rattle.canvas_worker.proofs.Finishing.{workers_finish}
 use Rattle.canvas_worker.specs.Finished.{Finished}
-use Rattle.canvas_worker.specs.Work.{TellsOf, begun}
+use Rattle.canvas_worker.specs.Work.{TellsOf, working_begun}
 use Rattle.canvas_engine.proofs.gathered.work_alone.Goals as goal
 
 pub returns-in-Ok : goal.returns-in-Ok
 returns-in-Ok g c =
     let plan = c.requires.plan in
-    let gives : TellsOf (begun c.args.broker.now c.args.backend.now 0 c.args.pass c.args.seat) c.in-Ok.left = search rules in
+    let gives : TellsOf (working_begun c.args.broker.now c.args.backend.now 0 c.args.pass c.args.seat) c.in-Ok.left = search rules in
     subst (λ p. Finished p 0 c.args.pass c.args.seat c.in-Ok.left) (sym plan.2) (workers_finish plan.0 plan.1 c.args.broker.now c.args.backend.now 0 c.args.pass c.args.seat plan.2 c.in-Ok.left gives)

@@ -8,7 +8,7 @@ use Rattle.canvas_runs.specs.Following.{Makes}
 use Rattle.canvas_runs.specs.Run.{published_all}
 use Rattle.canvas_worker.specs.declared.cause.Cause.TheVariants.{Memory}
 use Rattle.canvas_engine.specs.Correct.{IsThreadFault}
-use Rattle.canvas_engine.specs.steps.Slots.{AllRan, AreOf, HasEnded, IsWell, Takes, tally_in}
+use Rattle.canvas_engine.specs.steps.Slots.{AllRan, AreOf, LeftARecord, IsWell, TakesIn, tally_in}
 use Rattle.canvas_engine.specs.declared.slot.Slot.{Slot}
 use Rattle.canvas_engine.proofs.Slots.{are_of, each_ran}
 use Rattle.canvas_engine.proofs.ThreadRuns.{gathered, halted_may, if_none, long_envelopes, long_states, pending_may, well_gathered}
@@ -26,10 +26,10 @@ join_all-requires-clause-others g c =
     take_at c.work_on_threads.new.slots _ c.args.start.slots.len (search rules) in
     let many : length c.work_on_threads.new.slots ≡ length c.args.start.slots.items = search rules in
     let ran : AllRan c.args.start.backend.plan c.args.start.slots.items c.work_on_threads.new.slots = search rules in
-    let done : All (λ s. HasEnded s.post) (take c.args.start.slots.len (c.work_on_threads.new.slots ++ drop (length c.work_on_threads.new.slots) c.args.start.slots.items)) = search rules in
+    let done : All (λ s. LeftARecord s.post) (take c.args.start.slots.len (c.work_on_threads.new.slots ++ drop (length c.work_on_threads.new.slots) c.args.start.slots.items)) = search rules in
     subst (AreOf c.args.start.broker c.args.start.backend.id) (sym whole)
     (are_of c.args.start.broker c.args.start.backend.id c.args.start.backend.plan c.args.start.slots.items c.work_on_threads.new.slots c.requires.start.ready
-    (each_ran c.args.start.backend.plan c.args.start.slots.items c.work_on_threads.new.slots many ran) (subst (All (λ (s : Slot). HasEnded s.post)) whole done))
+    (each_ran c.args.start.backend.plan c.args.start.slots.items c.work_on_threads.new.slots many ran) (subst (All (λ (s : Slot). LeftARecord s.post)) whole done))
 
 pub returns-clause-ok : goal.returns-clause-ok
 returns-clause-ok g c =
@@ -38,8 +38,8 @@ returns-clause-ok g c =
     let many : length c.work_on_threads.new.slots ≡ length c.args.start.slots.items = search rules in
     let ran : AllRan c.args.start.backend.plan c.args.start.slots.items c.work_on_threads.new.slots = search rules in
     let made : Makes c.args.start.pass (published_all c.args.start.envelopes.items) c.publish_all.new.pass = search rules in
-    let taken : Takes c.args.start.backend.plan c.publish_all.new.pass c.args.start.seat c.work_on_threads.new.slots c.join_all.new.pass c.join_all.new.seat =
-    subst (λ xs. Takes c.args.start.backend.plan c.publish_all.new.pass c.args.start.seat xs c.join_all.new.pass c.join_all.new.seat) whole c.join_all.ensures.taken in
+    let taken : TakesIn c.args.start.backend.plan c.publish_all.new.pass c.args.start.seat c.work_on_threads.new.slots c.join_all.new.pass c.join_all.new.seat =
+    subst (λ xs. TakesIn c.args.start.backend.plan c.publish_all.new.pass c.args.start.seat xs c.join_all.new.pass c.join_all.new.seat) whole c.join_all.ensures.taken in
     let judged : c.deref-2.result.now ≡ c.work_on_threads.new.slots = search rules in
     let len : c.len-first.result ≡ length c.args.start.envelopes.items = search rules in
     let all = gathered c.args.plan.now c.args.workers c.args.start c.requires.start c.publish_all.new.pass c.work_on_threads.new.slots c.join_all.new.pass c.join_all.new.seat made ran many taken in

@@ -1,7 +1,7 @@
 use Rattle.std.proofs.Common.{rules, ◌≡◌, refl, sym, subst}
 use Rattle.canvas_worker.proofs.Finishing.{workers_finish}
 use Rattle.canvas_worker.specs.Finished.{Finished}
-use Rattle.canvas_worker.specs.Work.{TellsOf, begun}
+use Rattle.canvas_worker.specs.Work.{TellsOf, working_begun}
 use Rattle.canvas_engine.specs.steps.Slots.{LeavesPost}
 use Rattle.canvas_engine.specs.declared.slot.Post.TheVariants.{Ready, Done}
 use Rattle.canvas_engine.proofs.threads.work.Goals as goal
@@ -11,7 +11,7 @@ returns-in-Ok g c =
     let plan = c.requires.plan in
     let number = c.args.slot.now.number in
     let post : c.args.slot.now.post ≡ Ready c.in-Ready.pass c.in-Ready.seat = search rules in
-    let gives : TellsOf (begun c.args.broker.now c.args.backend.now number c.in-Ready.pass c.in-Ready.seat) c.in-Ok.left = search rules in
+    let gives : TellsOf (working_begun c.args.broker.now c.args.backend.now number c.in-Ready.pass c.in-Ready.seat) c.in-Ok.left = search rules in
     let finished : Finished c.args.backend.now.plan number c.in-Ready.pass c.in-Ready.seat c.in-Ok.left =
     subst (λ p. Finished p number c.in-Ready.pass c.in-Ready.seat c.in-Ok.left) (sym plan.2)
     (workers_finish plan.0 plan.1 c.args.broker.now c.args.backend.now number c.in-Ready.pass c.in-Ready.seat plan.2 c.in-Ok.left gives) in

@@ -1,4 +1,4 @@
-use Rattle.canvas_engine.specs.steps.Stages.{HasReached, IsDone, IsEarlyEnd}
+use Rattle.canvas_engine.specs.steps.Stages.{HasReached, IsRunThrough, IsEarlyEnd}
 use Rattle.canvas_engine.proofs.WholeRuns.{starts, ok_at, err_at}
 use Rattle.canvas_engine.proofs.turns.run_stage.Goals as goal
 
@@ -15,7 +15,7 @@ run_rounds-requires c = (
 
 pub returns-in-Ok-run_list-clause-ok : goal.returns-in-Ok-run_list-clause-ok
 returns-in-Ok-run_list-clause-ok c =
-    ok_at c.run_rounds.result (λ m. HasReached c.args.plan.now c.args.workers m c.args.turns.now c.run_list.new.stage) (λ m. IsDone c.args.plan.now c.args.workers m c.args.turns.now c.run_rounds.new.stage) c.args.stage.now.steps
+    ok_at c.run_rounds.result (λ m. HasReached c.args.plan.now c.args.workers m c.args.turns.now c.run_list.new.stage) (λ m. IsRunThrough c.args.plan.now c.args.workers m c.args.turns.now c.run_rounds.new.stage) c.args.stage.now.steps
     (c.in-Ok-run_list.ensures.ok c.args.stage.now.steps
     (starts c.args.plan.now c.args.workers c.args.stage.now c.open.new.self c.requires.planned c.requires.new c.in-Ok.ensures.queue c.in-Ok.ensures.back c.open.ensures.others.0 c.open.ensures.others.1 c.open.ensures.others.2)) c.run_rounds.ensures.ok
 

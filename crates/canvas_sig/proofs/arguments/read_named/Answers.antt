@@ -6,7 +6,8 @@ use Rattle.serde_json.specs.View.{view}
 use Rattle.serde_json.proofs.Views.{Entry}
 use Rattle.canvas_task.specs.Entries.{named}
 use Rattle.canvas_sig.specs.Fields.{seen}
-use Rattle.canvas_sig.specs.Reading.{◌>>=◌, each, named_reading}
+use Rattle.canvas_sig.specs.Answers.{◌>>=◌, each}
+use Rattle.canvas_sig.specs.Grammar.{named_reading}
 use Rattle.canvas_sig.proofs.Each.{onto, one_more}
 use Rattle.canvas_sig.proofs.Named.{goes_last, names_last}
 use Rattle.canvas_sig.proofs.arguments.read_named.Goals as goal

@@ -2,7 +2,8 @@ use Rattle.std.proofs.Common.{◌≡◌, List, ◌++◌, map}
 use Rattle.serde_json.proofs.Views.{Entry}
 use Rattle.canvas_task.specs.Entries.{named}
 use Rattle.canvas_sig.specs.Fields.{seen}
-use Rattle.canvas_sig.specs.Reading.{each, named_reading}
+use Rattle.canvas_sig.specs.Answers.{each}
+use Rattle.canvas_sig.specs.Grammar.{named_reading}
 use Rattle.canvas_sig.proofs.Each.{onto}
 use Rattle.canvas_sig.proofs.arguments.read_named.Given as goal
 

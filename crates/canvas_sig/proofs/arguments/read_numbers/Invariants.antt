@@ -1,6 +1,7 @@
 use Rattle.std.proofs.Common.{◌≡◌, map, drop}
 use Rattle.serde_json.specs.View.{view}
-use Rattle.canvas_sig.specs.Reading.{each, number_reading}
+use Rattle.canvas_sig.specs.Answers.{each}
+use Rattle.canvas_sig.specs.steps.Reading.{number_reading}
 use Rattle.canvas_sig.proofs.Each.{onto}
 use Rattle.canvas_sig.proofs.arguments.read_numbers.Given as goal
 

@@ -1,6 +1,7 @@
 use Rattle.std.proofs.Common.{◌∙◌, sym, ap, map, subst, arith, rules}
 use Rattle.serde_json.specs.View.{view}
-use Rattle.canvas_sig.specs.Reading.{Gives, each, task_reading}
+use Rattle.canvas_sig.specs.Answers.{Gives, each}
+use Rattle.canvas_sig.specs.steps.Reading.{task_reading}
 use Rattle.canvas_sig.specs.View.{task_view}
 use Rattle.canvas_sig.proofs.Level.{made, next_seen}
 use Rattle.canvas_sig.proofs.Json.{array_list, next_item}

@@ -1,5 +1,5 @@
 use Rattle.std.proofs.Common.{ap, sym, ◌∙◌, map}
-use Rattle.canvas_sig.specs.Reading.{arg_reading}
+use Rattle.canvas_sig.specs.Grammar.{arg_reading}
 use Rattle.canvas_sig.specs.Writing.{number_wire, arg_wire}
 use Rattle.canvas_sig.proofs.ComposedLemmas.{arg_fits}
 use Rattle.canvas_sig.proofs.RoundTrip.{arg_back}

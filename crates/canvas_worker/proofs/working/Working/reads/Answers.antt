@@ -7,7 +7,7 @@ use Rattle.canvas_worker.proofs.Resting.{busy_never}
 use Rattle.canvas_worker.proofs.Turns.{unchanged, one_more}
 use Rattle.std.specs.Prelude.{slice_get}
 use Rattle.canvas_backend.specs.Roster.{members}
-use Rattle.canvas_worker.specs.Seats.{MayAsk}
+use Rattle.canvas_worker.specs.Seats.{LetsAsk}
 use Rattle.canvas_worker.proofs.Asking.{may_ask}
 use Rattle.canvas_worker.proofs.Shown.{is_read, same_place, no_place}
 use Rattle.canvas_worker.proofs.Stepping.{at_get}
@@ -18,13 +18,13 @@ pub read-found-requires-clause-task : goal.read-found-requires-clause-task
 read-found-requires-clause-task g c =
     let w : Work = c.args.self in
     let same : w.desk ≡ c.self.inside.backend.now = search rules in
-    let may : MayAsk w.desk.plan w.seat (C.read c.args.group c.args.place) = subst (MayAsk w.desk.plan w.seat) (is_read c.args.group c.args.place (asked w.core.left) c.requires.asks) (may_ask w.desk.plan c.requires.ready.plan w.seat w.core.left c.requires.ready.can) in
+    let may : LetsAsk w.desk.plan w.seat (C.read c.args.group c.args.place) = subst (LetsAsk w.desk.plan w.seat) (is_read c.args.group c.args.place (asked w.core.left) c.requires.asks) (may_ask w.desk.plan c.requires.ready.plan w.seat w.core.left c.requires.ready.can) in
     subst (λ d. c.in-Some.task ≤ d.plan.tasks) same (subst (λ t. t ≤ w.desk.plan.tasks) (same_place (members w.desk.plan c.args.group) c.args.place may.0 c.in-Some.task may.1 (search rules)) may.2)
 
 pub unreachable-requires : goal.unreachable-requires
 unreachable-requires g c =
     let w : Work = c.args.self in
-    let may : MayAsk w.desk.plan w.seat (C.read c.args.group c.args.place) = subst (MayAsk w.desk.plan w.seat) (is_read c.args.group c.args.place (asked w.core.left) c.requires.asks) (may_ask w.desk.plan c.requires.ready.plan w.seat w.core.left c.requires.ready.can) in
+    let may : LetsAsk w.desk.plan w.seat (C.read c.args.group c.args.place) = subst (LetsAsk w.desk.plan w.seat) (is_read c.args.group c.args.place (asked w.core.left) c.requires.asks) (may_ask w.desk.plan c.requires.ready.plan w.seat w.core.left c.requires.ready.can) in
     no_place (members w.desk.plan c.args.group) c.args.place may.0 may.1 (search rules)
 
 pub returns : goal.returns

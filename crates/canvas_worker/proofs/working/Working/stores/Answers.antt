@@ -5,7 +5,7 @@ use Rattle.canvas_worker.specs.Standing.{asked}
 use Rattle.canvas_worker.specs.Work.{Work}
 use Rattle.canvas_worker.proofs.Resting.{busy_never}
 use Rattle.canvas_worker.proofs.Turns.{unchanged, one_more}
-use Rattle.canvas_worker.specs.Seats.{MayAsk}
+use Rattle.canvas_worker.specs.Seats.{LetsAsk}
 use Rattle.canvas_worker.proofs.Asking.{may_ask}
 use Rattle.canvas_worker.proofs.Shown.{is_store}
 use Rattle.canvas_worker.proofs.Telling.{asked_well}
@@ -16,7 +16,7 @@ store-requires-clause-task g c =
     let w : Work = c.args.self in
     let same : w.desk ≡ c.self.inside.backend.now = search rules in
     subst (λ d. c.args.task ≤ d.plan.tasks) same
-    (subst (MayAsk w.desk.plan w.seat) (is_store c.args.task c.args.outcome (asked w.core.left) c.requires.asks) (may_ask w.desk.plan c.requires.ready.plan w.seat w.core.left c.requires.ready.can))
+    (subst (LetsAsk w.desk.plan w.seat) (is_store c.args.task c.args.outcome (asked w.core.left) c.requires.asks) (may_ask w.desk.plan c.requires.ready.plan w.seat w.core.left c.requires.ready.can))
 
 pub returns-in-First : goal.returns-in-First
 returns-in-First g c =

@@ -1,5 +1,6 @@
--- The signature that a JSON value stands for, or its first fault, as reading finds it.
-use Rattle.std.specs.Prelude.{◌≡◌, ℕ, zero, suc, Bool, true, false, not, ◌&&◌, ◌||◌, if◌then◌else◌, List, [], ◌∷◌, map, Option, Some, None, Result, Ok, Err, codes, ℤ, pos}
+-- The grammar of a signature: of which kinds its arguments are, what it stands for, and its own faults, each by itself (Celery's user guide,
+-- Canvas: signatures; the JSON of `json.dumps(signature)`).
+use Rattle.std.specs.Prelude.{Bool, true, false, not, ◌&&◌, ◌||◌, if◌then◌else◌, map, Option, Some, None, Result, Ok, codes, ℤ, pos}
 use Rattle.std.specs.List.{list_all}
 use Rattle.std.specs.Str.{bytes_eq}
 use Rattle.serde_json.specs.Data.{Data, null, number, string, array}
@@ -9,52 +10,13 @@ use Rattle.canvas_task.specs.Numbers.{in_range}
 use Rattle.canvas_task.specs.declared.arg.Arg.{Arg}
 use Rattle.canvas_task.specs.declared.arg.Arg.TheVariants as arg
 use Rattle.canvas_sig.specs.declared.fault.SigFault.{SigFault}
-use Rattle.canvas_sig.specs.declared.fault.SigFault.TheVariants.{NotSignature, UnknownPrimitive, BadArgs, BadNumber, OnCanvas, Frozen, EmptyChain, TooDeep, Memory}
+use Rattle.canvas_sig.specs.declared.fault.SigFault.TheVariants.{NotSignature, UnknownPrimitive, BadArgs, BadNumber, OnCanvas, Frozen, EmptyChain}
 use Rattle.canvas_sig.specs.declared.primitive.Primitive.{Primitive}
 use Rattle.canvas_sig.specs.declared.primitive.Primitive.TheVariants as kind
 use Rattle.canvas_task.specs.Text.{Text}
-use Rattle.canvas_sig.specs.Fields.{field, subtype, args, kwargs, option, tasks, header, body, link, link_error, items, listed, as_list, object_members, contents, text_of, is_null, is_list, is_object, is_number, is_true, is_flag, is_list_or_null, is_object_or_null, is_link, is_empty}
-use Rattle.canvas_semantics.specs.Tree.{Task, task, Tree, one, chain, group, chord, Trees, no_trees}
-use Rattle.canvas_sig.specs.View.{tasks_of, trees_of}
-
--- ---- answers
-
-infixl 10 ◌>>=◌
-abbrev pub ◌>>=◌ : {A B : Type 0} → Result A SigFault → (A → Result B SigFault) → Result B SigFault
-(Ok x) >>= f = f x
-(Err e) >>= f = Err e
-
--- What a function returned, seen by view, is what reading gives, unless memory ran out.
-abbrev pub Fails : {Y : Type 0} → SigFault → Result Y SigFault → Type 0
-Fails Memory read = Unit {0}
-Fails e read = read ≡ Err e
-
-abbrev pub Gives : {X Y : Type 0} → (X → Y) → Result X SigFault → Result Y SigFault → Type 0
-Gives view (Ok x) read = read ≡ Ok (view x)
-Gives view (Err e) read = Fails e read
-
--- the first of two faults
-infixr 3 ◌or_else◌
-abbrev pub ◌or_else◌ : Option SigFault → Option SigFault → Option SigFault
-None or_else f = f
-(Some e) or_else f = Some e
-
-abbrev pub fault_if : Bool → SigFault → Option SigFault
-fault_if b e = if b then Some e else None
-
-abbrev pub unless : {A : Type 0} → Option SigFault → Result A SigFault → Result A SigFault
-unless None read = read
-unless (Some e) read = Err e
-
--- a fault, or the value where there is none
-abbrev pub judged : {A : Type 0} → Option SigFault → A → Result A SigFault
-judged None x = Ok x
-judged (Some e) x = Err e
-
--- each in turn
-abbrev pub each : {A B : Type 0} → (A → Result B SigFault) → List A → Result (List B) SigFault
-each f [] = Ok []
-each f (x ∷ xs) = f x >>= λ y. each f xs >>= λ ys. Ok (y ∷ ys)
+use Rattle.canvas_sig.specs.Fields.{field, subtype, args, kwargs, option, tasks, header, body, link, link_error, items, listed, contents, is_null, is_list, is_object, is_number, is_true, is_flag, is_list_or_null, is_object_or_null, is_link, is_empty}
+use Rattle.canvas_semantics.specs.Tree.{Tree, group, Trees, no_trees}
+use Rattle.canvas_sig.specs.Answers.{◌>>=◌, ◌or_else◌, fault_if, judged}
 
 -- ---- arguments: a whole number in range, a text, or a list of whole numbers in range
 
@@ -178,63 +140,7 @@ fault_as linked d (Some p) =
 abbrev pub own_fault : Bool → Data → Option SigFault
 own_fault linked d = fault_if (not_signature d) NotSignature or_else fault_as linked d (primitive_of (subtype d))
 
--- ---- reading, as the code goes
-
-abbrev pub in_range_or_refused : Option ℤ → Result ℤ SigFault
-in_range_or_refused None = Err BadNumber
-in_range_or_refused (Some z) = if in_range z then Ok z else Err BadNumber
-
-abbrev pub number_reading : Data → Result ℤ SigFault
-number_reading (number n) = in_range_or_refused (as_i64 n)
-number_reading d = Err BadNumber
-
-abbrev pub list_reading : List Data → Result Arg SigFault
-list_reading ds = if list_all is_number ds then (each number_reading ds >>= λ ns. Ok (arg.List ns)) else Err BadArgs
-
-abbrev pub arg_steps : Data → Result Arg SigFault
-arg_steps (number n) = in_range_or_refused (as_i64 n) >>= λ z. Ok (arg.Num z)
-arg_steps (string s) = Ok (arg.Text s)
-arg_steps (array ds) = list_reading (items ds)
-arg_steps d = Err BadArgs
-
--- a task, by what reads its links and error callbacks
-abbrev pub task_with : (Data → Result Task SigFault) → Data → Result Task SigFault
-task_with f d =
-    each arg_reading (listed (args d)) >>= λ args.
-    each named_reading (object_members (kwargs d)) >>= λ kwargs.
-    each f (as_list (link d)) >>= λ links.
-    each f (as_list (link_error d)) >>= λ errbacks.
-    Ok (task 0 (record { name = text_of (field (codes "task") d); args = args; kwargs = kwargs; immutable = is_true (field (codes "immutable") d) }) (tasks_of links) (tasks_of errbacks))
-
-abbrev pub linked_with : (Data → Result Task SigFault) → Data → Result Task SigFault
-linked_with f d = unless (own_fault true d) (task_with f d)
-
--- A link or an error callback. The number bounds how deep signatures nest;
--- JSON that reads nests at most `max_depth` deep, so one more is enough, and the end isn't reached.
-abbrev pub task_reading : ℕ → Data → Result Task SigFault
-task_reading zero d = Err TooDeep
-task_reading (suc n) d = linked_with (task_reading n) d
-
+-- what stands in a group
 abbrev pub members_in : Tree → Trees
 members_in (group g ms) = ms
 members_in t = no_trees
-
--- the members of a header, which is a list, or one group signature
-abbrev pub header_reading : (Data → Result Tree SigFault) → Data → Result Trees SigFault
-header_reading f (array ds) = each f (items ds) >>= λ ts. Ok (trees_of ts)
-header_reading f d = f d >>= λ t. Ok (members_in t)
-
--- a signature that stands for a primitive, by what reads links and by what reads the signatures in it
-abbrev pub tree_as : (Data → Result Task SigFault) → (Data → Result Tree SigFault) → Option Primitive → Data → Result Tree SigFault
-tree_as g f (Some kind.Chain) d = each f (listed (tasks d)) >>= λ ts. Ok (chain (trees_of ts))
-tree_as g f (Some kind.Group) d = each f (listed (tasks d)) >>= λ ts. Ok (group 0 (trees_of ts))
-tree_as g f (Some kind.Chord) d = header_reading f (header d) >>= λ ts. f (body d) >>= λ t. Ok (chord 0 ts t)
-tree_as g f p d = task_with g d >>= λ t. Ok (one t)
-
-abbrev pub tree_with : (Data → Result Task SigFault) → (Data → Result Tree SigFault) → Data → Result Tree SigFault
-tree_with g f d = unless (own_fault false d) (tree_as g f (primitive_of (subtype d)) d)
-
--- a signature that is no link, to the same depth
-abbrev pub tree_reading : ℕ → Data → Result Tree SigFault
-tree_reading zero d = Err TooDeep
-tree_reading (suc n) d = tree_with (task_reading n) (tree_reading n) d
