@@ -7,8 +7,8 @@ use Rattle.crossbeam_queue.specs.Fifo.{PopsMany}
 use Rattle.crossbeam_queue.proofs.Lists.{set_again, set_here}
 use Rattle.canvas_history.specs.History.{calls, live_from, named, Allowed}
 use Rattle.canvas_history.proofs.Histories.{In}
-use Rattle.canvas_broker.specs.Broker.{take, Line, known, answer, next, May, IsLegal, queue_of, IsReady, takes_of}
-use Rattle.canvas_broker.specs.Rule.{envelopes, IsKept, Kept, view_of, TakesAll}
+use Rattle.canvas_broker.specs.Broker.{take, QueueEntry, answer, next, May, IsLegal, queue_of, takes_of}
+use Rattle.canvas_broker.specs.steps.Rule.{envelopes, IsReady, IsKept, Kept, known, view_of, TakesAll}
 use Rattle.canvas_broker.specs.declared.view.View.{View}
 use Rattle.canvas_broker.proofs.Joins.{orderly_left}
 use Rattle.canvas_broker.proofs.Keeps.{sole_rest, tail_of, named_after, queue_after, calls_stay, orderly, caller_lives, unseen, adds}
@@ -17,8 +17,12 @@ pub first_rest : {A : Type 0} (xs : List A) → 0 < length xs → (x : A) × (ys
 first_rest [] h = absurd (omega (arith, h))
 first_rest (x ∷ xs) h = (x, xs, refl)
 
+pub no_rest : {A : Type 0} (xs : List A) → length xs ≡ 0 → xs ≡ []
+no_rest [] h = refl
+no_rest (x ∷ xs) h = absurd (omega (arith, h))
+
 module _ {E : Type 0} where
-  takes_append_owed : (owed : List (Line E)) (log : List (Line E)) (p : ℕ) (x : E) (es : List E) → (log ++ (owed ++ calls p take (Some x) ∷ [])) ++ takes_of p es ≡ log ++ (owed ++ takes_of p (x ∷ es))
+  takes_append_owed : (owed : List (QueueEntry E)) (log : List (QueueEntry E)) (p : ℕ) (x : E) (es : List E) → (log ++ (owed ++ calls p take (Some x) ∷ [])) ++ takes_of p es ≡ log ++ (owed ++ takes_of p (x ∷ es))
   takes_append_owed owed log p x es =
       append_assoc log (owed ++ calls p take (Some x) ∷ []) (takes_of p es) ∙ ap (λ l. log ++ l) (append_assoc owed (calls p take (Some x) ∷ []) (takes_of p es))
 
@@ -33,12 +37,12 @@ module _ {E : Type 0} where
   below (x ∷ xs) (suc i) v e = let r = below xs i v e in omega (arith, r)
 
   -- one take, by a pass that may have seen less than all
-  one_take : (x : E) (items : List (Option E)) (views : List (View E)) (log : List (Line E)) (owner : ℕ → ℕ) (kept : IsKept (Some x ∷ items) views log owner) (pass : ℕ) (v : View E)
-      → get_elem? views pass ≡ some v → IsReady v.knows
-      → IsKept items (set views pass (view_of (known v.knows.name (live_from v.knows.mine v.knows.owed) (log ++ tail_of v (calls v.knows.name take (Some x))) [] []))) (log ++ tail_of v (calls v.knows.name take (Some x))) owner
+  one_take : (x : E) (items : List (Option E)) (views : List (View E)) (log : List (QueueEntry E)) (owner : ℕ → ℕ) (kept : IsKept (Some x ∷ items) views log owner) (pass : ℕ) (v : View E)
+      → get_elem? views pass ≡ some v → IsReady v
+      → IsKept items (set views pass (view_of (known v.knows.name (live_from v.knows.mine v.knows.owed) (log ++ tail_of v (calls v.knows.name take (Some x))) []) [])) (log ++ tail_of v (calls v.knows.name take (Some x))) owner
   one_take x items views log owner kept pass v at ready =
       let o = orderly (Some x ∷ items) views log owner kept pass v at ready in
-      let e : Line E = calls v.knows.name take (Some x) in
+      let e : QueueEntry E = calls v.knows.name take (Some x) in
       let front : queue_of (log ++ v.knows.owed) ≡ x ∷ envelopes items = queue_after v log o ∙ kept.replays in
       let may : Allowed [] answer next May (log ++ v.knows.owed) e = (caller_lives (Some x ∷ items) views log owner kept pass v at ready, sym (ap (λ s. answer s take) front), tt) in
       let names : named (log ++ tail_of v e) ≡ named log = named_after v log e o ∙ append-nil (named log) in
@@ -50,58 +54,63 @@ module _ {E : Type 0} where
       (λ c i. refl)
 
   -- further takes, by a pass that has seen all
-  more_takes : (xs items : List (Option E)) (views : List (View E)) (log : List (Line E)) (owner : ℕ → ℕ) (pass p : ℕ) (cs : List ℕ)
-      → IsKept (xs ++ items) views log owner → get_elem? views pass ≡ some (view_of (known p cs log [] [])) → In p cs
-      → (log' : List (Line E)) × (log' ≡ log ++ takes_of p (envelopes xs)) × IsKept items (set views pass (view_of (known p cs log' [] []))) log' owner
+  more_takes : (xs items : List (Option E)) (views : List (View E)) (log : List (QueueEntry E)) (owner : ℕ → ℕ) (pass p : ℕ) (cs : List ℕ)
+      → IsKept (xs ++ items) views log owner → get_elem? views pass ≡ some (view_of (known p cs log []) []) → In p cs
+      → (log' : List (QueueEntry E)) × (log' ≡ log ++ takes_of p (envelopes xs)) × IsKept items (set views pass (view_of (known p cs log' []) [])) log' owner
   more_takes [] items views log owner pass p cs kept at here =
-      (log, sym (append-nil log), subst (λ l. IsKept items l log owner) (sym (set_again views pass (view_of (known p cs log [] [])) at)) kept)
+      (log, sym (append-nil log), subst (λ l. IsKept items l log owner) (sym (set_again views pass (view_of (known p cs log []) []) at)) kept)
   more_takes (None ∷ xs) items views log owner pass p cs kept at here =
       more_takes xs items views log owner pass p cs (record { legal = kept.legal; replays = kept.replays; numbered = kept.numbered; fits = kept.fits; begun = kept.begun; opened = kept.opened }) at here
   more_takes (Some x ∷ xs) items views log owner pass p cs kept at here =
-      let e : Line E = calls p take (Some x) in
-      let v : View E = view_of (known p cs log [] []) in
-      let log₁ : List (Line E) = log ++ e ∷ [] in
-      let w : View E = view_of (known p cs log₁ [] []) in
+      let e : QueueEntry E = calls p take (Some x) in
+      let v : View E = view_of (known p cs log []) [] in
+      let log₁ : List (QueueEntry E) = log ++ e ∷ [] in
+      let w : View E = view_of (known p cs log₁ []) [] in
       let one : IsKept (xs ++ items) (set views pass w) log₁ owner = one_take x (xs ++ items) views log owner kept pass v at (here, refl) in
       let rest = more_takes xs items (set views pass w) log₁ owner pass p cs one (set_here views pass w (below views pass v at)) here in (
         rest.0,
         rest.1 ∙ append_assoc log (e ∷ []) (takes_of p (envelopes xs)),
-        subst (λ l. IsKept items l rest.0 owner) (set_twice views pass w (view_of (known p cs rest.0 [] []))) rest.2,
+        subst (λ l. IsKept items l rest.0 owner) (set_twice views pass w (view_of (known p cs rest.0 []) [])) rest.2,
       )
 
-  many : (xs items : List (Option E)) (views : List (View E)) (log : List (Line E)) (owner : ℕ → ℕ) (pass : ℕ) (v : View E)
-      → IsKept (xs ++ items) views log owner → get_elem? views pass ≡ some v → IsReady v.knows
+  many : (xs items : List (Option E)) (views : List (View E)) (log : List (QueueEntry E)) (owner : ℕ → ℕ) (pass : ℕ) (v : View E)
+      → IsKept (xs ++ items) views log owner → get_elem? views pass ≡ some v → IsReady v
       → (w : View E) × Kept items (set views pass w) × TakesAll v xs w
-  many [] items views log owner pass v kept at ready = (v, (log, owner, subst (λ l. IsKept items l log owner) (sym (set_again views pass v at)) kept), refl)
+  many [] items views log owner pass v kept at ready = (v, (log, owner, subst (λ l. IsKept items l log owner) (sym (set_again views pass v at)) kept), (refl, ready))
   many (None ∷ xs) items views log owner pass v kept at ready =
       many xs items views log owner pass v (record { legal = kept.legal; replays = kept.replays; numbered = kept.numbered; fits = kept.fits; begun = kept.begun; opened = kept.opened }) at ready
   many (Some x ∷ xs) items views log owner pass v kept at ready =
       let p = v.knows.name in let cs = live_from v.knows.mine v.knows.owed in
-      let e : Line E = calls p take (Some x) in
+      let e : QueueEntry E = calls p take (Some x) in
       let o = orderly (Some x ∷ (xs ++ items)) views log owner kept pass v at ready in
-      let log₁ : List (Line E) = log ++ tail_of v e in
-      let w₁ : View E = view_of (known p cs log₁ [] []) in
+      let log₁ : List (QueueEntry E) = log ++ tail_of v e in
+      let w₁ : View E = view_of (known p cs log₁ []) [] in
       let here : In p cs = orderly_left p v.knows.mine v.knows.owed o in
       let one : IsKept (xs ++ items) (set views pass w₁) log₁ owner = one_take x (xs ++ items) views log owner kept pass v at ready in
       let rest = more_takes xs items (set views pass w₁) log₁ owner pass p cs one (set_here views pass w₁ (below views pass v at)) here in
-      let w : View E = view_of (known p cs rest.0 [] []) in
+      let w : View E = view_of (known p cs rest.0 []) [] in
       let f = (kept.fits pass v at).0 in
-      let es : List (Line E) = takes_of p (x ∷ envelopes xs) in
+      let es : List (QueueEntry E) = takes_of p (x ∷ envelopes xs) in
       let whole : rest.0 ≡ log ++ (v.knows.owed ++ es) = rest.1 ∙ takes_append_owed v.knows.owed log p x (envelopes xs) in (
         w,
         (rest.0, owner, subst (λ l. IsKept items l rest.0 owner) (set_twice views pass w₁ w) rest.2),
         (
-          refl,
-          here,
           (
-            f.0,
-            whole ∙ (ap (λ l. l ++ (v.knows.owed ++ es)) f.1 ∙ append_assoc v.knows.seen f.0 (v.knows.owed ++ es)),
-            unseen (Some x ∷ (xs ++ items)) views log owner kept pass v at ready,
-            rest.2.legal,
-            sole_rest v.knows f.0 o ready.0 (unseen (Some x ∷ (xs ++ items)) views log owner kept pass v at ready) (subst (λ l. IsLegal l) f.1 kept.legal),
+            refl,
+            refl,
+            refl,
+            refl,
+            (
+              f.0,
+              whole ∙ (ap (λ l. l ++ (v.knows.owed ++ es)) f.1 ∙ append_assoc v.knows.seen f.0 (v.knows.owed ++ es)),
+              unseen (Some x ∷ (xs ++ items)) views log owner kept pass v at ready,
+              rest.2.legal,
+              sole_rest v.knows f.0 o ready.0 (unseen (Some x ∷ (xs ++ items)) views log owner kept pass v at ready) (subst (λ l. IsLegal l) f.1 kept.legal),
+            ),
           ),
+          (here, refl),
         ),
       )
 
-  pub takes_many : (pass n : ℕ) (v : View E) → IsReady v.knows → PopsMany Kept pass v n (TakesAll v)
+  pub takes_many : (pass n : ℕ) (v : View E) → IsReady v → PopsMany Kept pass v n (TakesAll v)
   takes_many pass n v ready xs items views size h at = many xs items views h.0 h.1 pass v h.2 at ready

@@ -1,12 +1,14 @@
-//! The broker and its passes.
-ghost use Rattle.std.specs.Prelude.{◌≡◌, ◌≢◌, [], ◌∷◌, Some, None, IfOk, IfNone, IfSome, OnOk, MatchResult, MatchOption};
-ghost use Rattle.canvas_history.specs.History.{calls, split, made_by};
+//! The broker, and the calls of its passes.
+ghost use Rattle.std.specs.Prelude.{◌≡◌, [], ◌∷◌, Some, None, IfOk, IfNone, IfSome, OnOk, MatchResult, MatchOption};
+ghost use Rattle.canvas_history.specs.History.{calls, split, join, made_by};
+ghost use Rattle.canvas_history.specs.Callers.{owing_none, Owes, Adds, LeavesOne};
 ghost use Rattle.canvas_broker.specs.Broker.{publish, take, takes_of};
-ghost use Rattle.canvas_broker.specs.Callers.{Stands, Fits, Parted, Joined, Took, Adds, Empties, IsHistory, LeavesOne};
+ghost use Rattle.canvas_broker.specs.Passes.{Stands, CouldStand, Parted, Took, Empties, IsHistory};
 
-use crate::Refused;
-use crate::batch::{Batch, get_batch};
-use crate::steps::{Pass, Queue, divide, get, open, put, unite};
+use crate::pass::{BrokerPass, Queue};
+use crate::rule::{Born, Named, Published, Rooted, Taken, United};
+use crate::{Batch, Refused};
+use arrayvec::ArrayVec;
 use canvas_message::Envelope;
 use canvas_task::Memory;
 use std::alloc::Global;
@@ -38,35 +40,17 @@ impl Drop for Broker {
     }
 }
 
-/// What one caller has seen of the broker's history, and its own calls in it. It has no bytes. A pass that is dropped, and not joined,
-/// stays a live caller of the history.
-#[derive(Drop)]
-pub struct BrokerPass {
-    pass: Pass,
-}
-
-impl Model for BrokerPass {
-    ghost use Rattle.std.specs.Prelude.{◌≡◌, None};
-    ghost use Rattle.canvas_message.specs.declared.envelope.Envelope.{Envelope};
-    ghost use Rattle.canvas_broker.specs.Broker.{IsReady};
-    ghost use Rattle.canvas_broker.specs.Callers.{Caller};
-
-    ghost Value = { Caller Envelope };
-
-    ghost view = { λ p. record { of = record { web = p.pass.web; heap = p.pass.heap }; name = p.pass.me.view.client.knows.name; mine = p.pass.me.view.client.knows.mine; seen = p.pass.me.view.client.knows.seen; owed = p.pass.me.view.client.knows.owed } };
-
-    ghost invariant = { λ p. (p.pass.me.hand ≡ None) × (p.pass.me.spare ≡ None) × IsReady p.pass.me.view.client.knows };
-}
+// How many envelopes a batch takes at most.
+const MOST: u64 = 31;
 
 impl Broker {
     /// A broker that holds nothing, and its first pass.
     pub fn new(alloc: Global) -> Result<(Broker, BrokerPass), Memory>
-        ensures { IfOk result (λ r. r.1 ≡ record { of = r.0; name = 0; mine = 0 ∷ []; seen = []; owed = [] }) }
+        ensures { IfOk result (λ r. r.1 ≡ owing_none r.0 0 []) }
     {
-        match open(alloc) {
-            Ok((queue, pass)) => Ok((Broker { queue }, BrokerPass { pass })),
-            Err(_) => Err(Memory),
-        }
+        let (queue, mut pass) = Queue::with_rule(alloc)?;
+        drop(queue.another::<Rooted>(&mut pass));
+        Ok((Broker { queue }, BrokerPass { pass }))
     }
 
     /// Adds the envelope at the end. Where memory is refused, the envelope comes back, and the call stands in no history.
@@ -81,9 +65,14 @@ impl Broker {
         ensures call { MatchResult result (λ _. Stands pass.old (calls pass.old.name (publish envelope) None) pass.new) (λ r. (r.envelope ≡ envelope) × (pass.new ≡ pass.old)) }
         ensures own { OnOk result (Adds pass.old (calls pass.old.name (publish envelope) None ∷ []) pass.new) }
     {
-        match put(rt, &self.queue, &mut pass.pass, envelope) {
+        match self
+            .queue
+            .push_as::<Published, R>(rt, &mut pass.pass, Some(envelope))
+        {
             Ok(()) => Ok(()),
-            Err(envelope) => Err(Refused { envelope }),
+            Err(refused) => Err(Refused {
+                envelope: refused.unwrap(),
+            }),
         }
     }
 
@@ -95,11 +84,18 @@ impl Broker {
     pub fn take<R: Wait>(&self, rt: &R, pass: &mut BrokerPass) -> Option<Envelope>
         requires { pass.old.of ≡ self.now }
         ensures broker { pass.new.of ≡ self.now }
-        ensures call { MatchOption result ((pass.new ≡ pass.old) × Fits pass.old (calls pass.old.name take None)) (λ e. Stands pass.old (calls pass.old.name take (Some e)) pass.new) }
+        ensures call { MatchOption result ((pass.new ≡ pass.old) × CouldStand pass.old (calls pass.old.name take None)) (λ e. Stands pass.old (calls pass.old.name take (Some e)) pass.new) }
         ensures own { IfSome result (λ e. Adds pass.old (calls pass.old.name take (Some e) ∷ []) pass.new) }
         ensures empty { IfNone result (Empties pass.old) }
     {
-        get(rt, &self.queue, &mut pass.pass)
+        for _ in rt.forever() {
+            match self.queue.pop_as::<Taken, R>(rt, &mut pass.pass) {
+                None => return None,
+                Some(Some(envelope)) => return Some(envelope),
+                Some(None) => {}
+            }
+        }
+        unreachable!()
     }
 
     /// Takes some envelopes at the front, none or more and at most 31, in one step: their takes stand side by side in the history.
@@ -108,9 +104,20 @@ impl Broker {
         requires { pass.old.of ≡ self.now }
         ensures broker { pass.new.of ≡ self.now }
         ensures call { Took pass.old result pass.new }
-        ensures own { result ≢ [] → Adds pass.old (takes_of pass.old.name result) pass.new }
+        ensures own { Adds pass.old (takes_of pass.old.name result) pass.new }
     {
-        let items = get_batch(rt, &self.queue, &mut pass.pass);
+        let mut items = ArrayVec::new();
+        let head = self.queue.head(&mut pass.pass);
+        let Ok(Some(mut batch)) = self
+            .queue
+            .try_pop_batch::<Taken, R>(rt, &mut pass.pass, head, MOST)
+        else {
+            return Batch { items };
+        };
+        while batch.len() > 0 {
+            items.push(self.queue.next_of(rt, &mut pass.pass, &mut batch));
+        }
+        batch.finish();
         Batch { items }
     }
 
@@ -122,9 +129,12 @@ impl Broker {
         ensures own { IfOk result (λ q. Adds pass.old (split pass.old.name q.name ∷ []) pass.new) }
         ensures fresh { IfOk result (λ q. made_by q.name q.seen ≡ []) }
     {
-        match divide(rt, &self.queue, &mut pass.pass) {
-            Some(pass) => Ok(BrokerPass { pass }),
-            None => Err(Memory),
+        let mark: Option<Envelope> = None;
+        match self.queue.push_as::<Named, R>(rt, &mut pass.pass, mark) {
+            Ok(()) => Ok(BrokerPass {
+                pass: self.queue.another::<Born>(&mut pass.pass),
+            }),
+            Err(_) => Err(Memory),
         }
     }
 
@@ -134,11 +144,14 @@ impl Broker {
     pub fn join<R: Wait>(&self, rt: &R, pass: &mut BrokerPass, other: BrokerPass)
         requires { (pass.old.of ≡ self.now) × (other.of ≡ self.now) }
         ensures broker { pass.new.of ≡ self.now }
-        ensures call { Joined pass.old other pass.new }
+        ensures call { Owes pass.old other pass.new }
+        ensures own { Adds pass.old (join pass.old.name other.name ∷ []) pass.new }
+        ensures others { Adds other [] pass.new }
         ensures legal { IsHistory pass.new }
         ensures alone { LeavesOne pass.new }
     {
         let BrokerPass { pass: theirs } = other;
-        unite(rt, &self.queue, &mut pass.pass, theirs);
+        self.queue.absorb::<United>(&mut pass.pass, theirs);
+        self.queue.len_as::<United, R>(rt, &mut pass.pass);
     }
 }

@@ -3,14 +3,15 @@
 
 mod batch;
 mod broker;
+mod pass;
 mod plain;
 mod refused;
 mod rule;
-mod steps;
 mod view;
 
 pub use batch::Batch;
-pub use broker::{Broker, BrokerPass};
+pub use broker::Broker;
+pub use pass::BrokerPass;
 pub use plain::PlainBroker;
 pub use refused::Refused;
 

@@ -5,7 +5,7 @@ use Rattle.std.proofs.Math.Seq.{take-suc-set}
 use Rattle.canvas_history.specs.History.{calls}
 use Rattle.canvas_semantics.specs.Evaluation.{State}
 use Rattle.canvas_backend.specs.Backend.{read, found}
-use Rattle.canvas_backend.specs.Callers.{Stands}
+use Rattle.canvas_backend.specs.Seats.{Stands}
 use Rattle.canvas_backend.specs.Roster.{Roster}
 use Rattle.canvas_runs.specs.Following.{Seat, Serves}
 use Rattle.canvas_runs.specs.Rows.{reads_from}

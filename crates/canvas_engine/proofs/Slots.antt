@@ -7,9 +7,10 @@ use Rattle.crossbeam_queue.specs.SegTies.{SegId}
 use Rattle.atomic_table.specs.Seated.{TableId}
 use Rattle.canvas_task.specs.declared.outcome.Outcome.{Outcome}
 use Rattle.canvas_message.specs.declared.envelope.Envelope.{Envelope}
-use Rattle.canvas_backend.specs.Callers as seats
+use Rattle.canvas_backend.specs.Seats as seats
 use Rattle.canvas_backend.specs.Roster.{Roster}
-use Rattle.canvas_broker.specs.Callers as passes
+use Rattle.canvas_broker.specs.Passes as passes
+use Rattle.canvas_history.specs.Callers.{Owes}
 use Rattle.canvas_runs.specs.Calls.{BrokerCall, BackendCall}
 use Rattle.canvas_runs.specs.Crew.{Mate, Splits, Joins, SplitSeats, JoinSeats}
 use Rattle.canvas_runs.specs.Following.{Pass, Seat, Makes, Serves, Followed, begins, IsDone as IsEnded}
@@ -127,7 +128,7 @@ crew_of plan k (x ∷ xs) (y ∷ ys) p p' s s' q q' t t' m r j =
       record {
         count = ap suc c.count;
         splits = (m.0, part.1.3, c.splits);
-        joins = (j.2, subst (λ (o : Pass). passes.Joined q o j.2) f.pass_is j.4, j.5, c.joins);
+        joins = (j.2, subst (λ (o : Pass). Owes q o j.2) f.pass_is j.4, j.5, c.joins);
         seat_splits = (m.1, part.1.4, c.seat_splits);
         seat_joins = (j.3, subst (λ (o : Seat). seats.Joined plan t o j.3) f.seat_is j.6, c.seat_joins);
         tallies = ap (λ a. a ∷ map tally_in ys) (tally_of_done k plan own own_seat y left (r.0.0 ∙ part.0) j.1 f) ∙ ap (λ l. numbered_counts k f.ended.tally ∷ l) c.tallies;

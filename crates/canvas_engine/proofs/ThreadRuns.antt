@@ -15,10 +15,10 @@ use Rattle.canvas_message.specs.Content.{Content}
 use Rattle.canvas_message.specs.Effects.{first_messages}
 use Rattle.canvas_message.specs.declared.envelope.Envelope.{Envelope}
 use Rattle.canvas_backend.specs.Backend.{Log}
-use Rattle.canvas_backend.specs.Callers.{Desk}
+use Rattle.canvas_backend.specs.Seats.{Desk}
 use Rattle.canvas_backend.specs.Roster.{Roster, roster_of}
-use Rattle.canvas_broker.specs.Broker.{Line as Entries}
-use Rattle.canvas_broker.specs.Callers.{Empties}
+use Rattle.canvas_broker.specs.Broker.{QueueEntry as Entries}
+use Rattle.canvas_broker.specs.Passes.{Empties}
 use Rattle.canvas_runs.specs.Calls.{BackendCall, follows_all}
 use Rattle.canvas_runs.specs.Callers.{broker_calls_seen}
 use Rattle.canvas_runs.specs.Crew.{Mate, Ran, EndedWell, OwnTally, first_pass, first_seat}

@@ -1,8 +1,9 @@
 //! The passes and the seats of a run's workers.
 ghost use Rattle.std.specs.Prelude.{◌≡◌, ◌++◌, All, length, map, IfOk, OnOk, IfNone, MatchBool};
 ghost use Rattle.canvas_engine.specs.steps.Slots.{IsReadySlot, IsSplitOff, SplitsOff, LeftARecord, IsWell, AreOf, TakesIn, tally_in};
-ghost use Rattle.canvas_broker.specs.Callers as passes;
-ghost use Rattle.canvas_backend.specs.Callers as seats;
+ghost use Rattle.canvas_broker.specs.Passes as passes;
+ghost use Rattle.canvas_history.specs.Callers.{Owes};
+ghost use Rattle.canvas_backend.specs.Seats as seats;
 
 use crate::slot::{Post, Slot};
 use crate::{Cause, Tally};
@@ -120,7 +121,7 @@ fn join_one<R: Wait>(
     requires own { (pass.old.of ≡ broker.now) × (seat.old.of ≡ backend.now.id) }
     requires other { (left.pass.of ≡ broker.now) × (left.seat.of ≡ backend.now.id) }
     ensures own { (pass.new.of ≡ broker.now) × (seat.new.of ≡ backend.now.id) }
-    ensures passes { passes.Joined pass.old left.pass pass.new × passes.IsHistory pass.new }
+    ensures passes { Owes pass.old left.pass pass.new × passes.IsHistory pass.new }
     ensures seats { seats.Joined backend.now.plan seat.old left.seat seat.new }
 {
     broker.join(rt, pass, left.pass);

@@ -8,7 +8,7 @@ ghost use Rattle.canvas_semantics.specs.States.{states};
 ghost use Rattle.canvas_backend.specs.Roster.{roster_of};
 ghost use Rattle.canvas_worker.specs.Finished.{Finished};
 ghost use Rattle.canvas_backend.specs.Backend.{read, found};
-ghost use Rattle.canvas_backend.specs.Callers.{Stands};
+ghost use Rattle.canvas_backend.specs.Seats.{Stands};
 ghost use Rattle.canvas_runs.specs.Following.{Serves};
 ghost use Rattle.canvas_runs.specs.Rows.{reads_from};
 ghost use Rattle.canvas_engine.specs.Correct.{AreWorkers, IsRun, IsThreadFault};

@@ -1,8 +1,8 @@
 -- Histories that are one entry longer, and callers that stay live.
 use Rattle.std.proofs.Common.{◌≡◌, ◌⊎◌, ℕ, ◌==◌, Bool, true, false, cond, List, [], ◌∷◌, ◌++◌, refl, sym, ap, ◌∙◌, subst, inl, inr, ⊎_elim, append_assoc}
 use Rattle.std.proofs.lemmas.Bool.{false≢true, eqb-true, eqb-false, eq-eqb}
-use Rattle.canvas_history.specs.History.{Entry, split, join, calls, without, by_of, live_after, live, named, joined, heir_after, heir, Sole, IsOther, AllOthers, state_after, state_of, Allowed, LegalFrom, Legal}
-use Rattle.canvas_history.proofs.Histories.{In, in_cases, in_here, in_left, in_right, in_append, in_without, in_within, live_append, named_append, live_named, state_append, legal_append, legal_left, legal_right, was_live as by_live, was_there, gone}
+use Rattle.canvas_history.specs.History.{Entry, split, join, calls, without, by_of, live_after, live, named, joined, heir_after, heir, Sole, AllOthers, state_after, state_of, Allowed, LegalFrom, Legal}
+use Rattle.canvas_history.proofs.Histories.{In, in_cases, in_here, in_left, in_right, in_append, in_without, in_within, live_append, named_append, live_named, state_append, legal_append, legal_left, legal_right, was_live as by_live, was_there, gone, IsOther, not_of}
 
 pub not_true : (b : Bool) → (b ≡ true → ⊥) → b ≡ false
 not_true true f = absurd (f refl)
@@ -81,7 +81,7 @@ module _ {C R S : Type 0} (first : S) (answer : S → C → R) (next : S → C �
   alone h p [] g legal others sole = refl
   alone h p (e ∷ es) g legal others sole =
       let here : In (by_of e) (p ∷ []) = subst (λ cs. In (by_of e) cs) sole (by_live first answer next May h e (legal_at h e (es ++ g) legal)) in
-      absurd (⊎_elim (λ (s : p ≡ by_of e). false≢true (sym others.0 ∙ eq-eqb (by_of e) p (sym s))) (λ u. false≢true u) (in_cases (by_of e) p [] here))
+      absurd (⊎_elim (λ (s : p ≡ by_of e). false≢true (sym (not_of (by_of e) p others.0) ∙ eq-eqb (by_of e) p (sym s))) (λ u. false≢true u) (in_cases (by_of e) p [] here))
 
   -- who is live at the end was live when it was known
   pub was_live : (h r : List (Entry C R)) (p : ℕ) → LegalAfter h r → IsKnown p h → In p (live (h ++ r)) → In p (live h)

@@ -1,7 +1,7 @@
 -- Lemmas on histories: of two lists put together, of the callers that are live, and of the entries that one caller has made.
 use Rattle.std.proofs.Common.{◌≡◌, ℕ, Bool, true, false, cond, not, ◌||◌, List, [], ◌∷◌, ◌++◌, ◌==◌, ◌⊎◌, inl, inr, refl, sym, ap, ◌∙◌, subst, append_assoc, append-nil, ⊎_elim}
 use Rattle.std.proofs.lemmas.Bool.{false≢true, eqb-true, eqb-false, eq-eqb, ne_eqb, cases_Bool}
-use Rattle.canvas_history.specs.History.{Entry, split, join, calls, among, without, by_of, live_after, live_from, live, named, joined, made_by, AllJoined, AllOthers, Sole, state_after, state_from, Allowed, LegalFrom, Legal}
+use Rattle.canvas_history.specs.History.{Entry, split, join, calls, among, without, by_of, live_after, live_from, live, named, joined, made_by, AllJoined, NoneBy, AllOthers, Since, Sole, state_after, state_from, Allowed, LegalFrom, Legal}
 
 -- the number stands in the list
 abbrev pub In : ℕ → List ℕ → Type 0
@@ -47,7 +47,22 @@ in_within c q (x ∷ xs) h =
     (λ t. let r = in_within c q xs t in (in_later c x xs r.0, r.1))
     (in_cases c x (without q xs) (subst (λ b. among c (cond (not b) (x ∷ without q xs) (without q xs)) ≡ true) e h))) (cases_Bool (x == q))
 
+-- one of a list of one
+pub other_of : (c p : ℕ) → (c == p) ≡ false → among c (p ∷ []) ≡ false
+other_of c p h = ⊎_elim (λ t. ⊎_elim (λ (e : p ≡ c). absurd (false≢true (sym h ∙ eq-eqb c p (sym e)))) (λ u. absurd (false≢true u)) (in_cases c p [] t)) (λ f. f) (cases_Bool (among c (p ∷ [])))
+
+pub not_of : (c p : ℕ) → among c (p ∷ []) ≡ false → (c == p) ≡ false
+not_of c p h = ne_eqb c p (λ e. false≢true (sym h ∙ subst (λ k. In c (k ∷ [])) e (in_here c [])))
+
 module _ {C R : Type 0} where
+  -- the one list begins with the other
+  abbrev pub StartsWith : List (Entry C R) → List (Entry C R) → Type 0
+  StartsWith log seen = (rest : List (Entry C R)) × (log ≡ seen ++ rest)
+
+  -- an entry by a caller other than p
+  abbrev pub IsOther : ℕ → Entry C R → Type 0
+  IsOther p e = among (by_of e) (p ∷ []) ≡ false
+
   pub live_append : (cs : List ℕ) (xs ys : List (Entry C R)) → live_from cs (xs ++ ys) ≡ live_from (live_from cs xs) ys
   live_append cs [] ys = refl
   live_append cs (x ∷ xs) ys = live_append (live_after cs x) xs ys
@@ -98,9 +113,15 @@ module _ {C R : Type 0} where
   pub made_off : (p : ℕ) (x : Entry C R) (xs : List (Entry C R)) → (by_of x == p) ≡ false → made_by p (x ∷ xs) ≡ made_by p xs
   made_off p x xs e = rw e refl
 
+  pub made_none : (p : ℕ) (cs : List ℕ) (xs : List (Entry C R)) → In p cs → NoneBy cs xs → made_by p xs ≡ []
+  made_none p cs [] i n = refl
+  made_none p cs (x ∷ xs) i n = made_off p x xs (ne_eqb (by_of x) p (λ z. false≢true (sym n.0 ∙ subst (λ k. In k cs) (sym z) i))) ∙ made_none p cs xs i n.1
+
+  pub made_since : (p : ℕ) (cs : List ℕ) (log seen : List (Entry C R)) → In p cs → Since cs log seen → made_by p log ≡ made_by p seen
+  made_since p cs log seen i s = ap (λ l. made_by p l) s.1 ∙ (made_append p seen s.0 ∙ (ap (λ l. made_by p seen ++ l) (made_none p cs s.0 i s.2) ∙ append-nil (made_by p seen)))
+
   pub made_others : (p : ℕ) (xs : List (Entry C R)) → AllOthers p xs → made_by p xs ≡ []
-  made_others p [] o = refl
-  made_others p (x ∷ xs) o = made_off p x xs o.0 ∙ made_others p xs o.1
+  made_others p xs o = made_none p (p ∷ []) xs (in_here p []) o
 
   -- calls alone, no splits and no joins
   abbrev pub OnlyCalls : List (Entry C R) → Type 0

@@ -1,3 +1,4 @@
 pub mod Histories
 pub mod Calls
 pub mod Shares
+pub mod CallerLaws

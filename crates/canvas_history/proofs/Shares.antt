@@ -4,9 +4,10 @@ use mathlib.Core.Option.{some, some-injective, some-ne-none}
 use lib.ListN.{get_elem?}
 use Rattle.std.proofs.lemmas.List.{length-append}
 use Rattle.atomic_table.proofs.Lists.{at_set, set_else}
-use Rattle.canvas_history.specs.History.{Entry, split, join, calls, among, live_after, live, named, IsOther, state_of, Allowed, Legal, Follows}
-use Rattle.canvas_history.specs.Sharing.{Hat, Fits, AllFit, IsKept}
-use Rattle.canvas_history.proofs.Histories.{named_append}
+use Rattle.canvas_history.specs.Callers.{the_object, owing_none, Follows}
+use Rattle.canvas_history.specs.History.{Entry, split, join, calls, among, by_of, live_after, live, named, Sole, state_of, Allowed, Legal}
+use Rattle.canvas_history.specs.steps.Sharing.{Hat, Fits, AllFit, IsKept}
+use Rattle.canvas_history.proofs.Histories.{named_append, other_of}
 use Rattle.canvas_history.proofs.Calls.{not_true, among_without, among_last, among_here, among_more, live_push, live_known, others_push, state_push, legal_push, alone}
 
 -- a place of q's own, and the others as they are
@@ -27,12 +28,12 @@ at_end (x ∷ xs) a b (suc j) e = ⊎_elim inl (λ r. inr (ap suc r.0, r.1)) (at
 
 module _ {C R : Type 0} where
   -- a caller fits still, after an entry that isn't its own and leaves it live
-  fit_more : (log : List (Entry C R)) (at at' : ℕ → ℕ × ℕ) (seat place : ℕ) (h : Hat C R) (e : Entry C R) → IsOther h.0 e → among h.0 (live_after (live log) e) ≡ true → at' h.0 ≡ at h.0
+  fit_more : (log : List (Entry C R)) (at at' : ℕ → ℕ × ℕ) (seat place : ℕ) (h : Hat C R) (e : Entry C R) → (by_of e == h.0) ≡ false → among h.0 (live_after (live log) e) ≡ true → at' h.0 ≡ at h.0
       → Fits log at seat place h → Fits (log ++ e ∷ []) at' seat place h
   fit_more log at at' seat place h e apart alive same f = record {
     rest = f.rest ++ e ∷ [];
     is = ap (λ (z : List (Entry C R)). z ++ e ∷ []) f.is ∙ append_assoc h.1 f.rest (e ∷ []);
-    others = others_push h.0 f.rest e f.others apart;
+    others = others_push h.0 f.rest e f.others (other_of (by_of e) h.0 apart);
     alive = ap (among h.0) (live_push log e) ∙ alive;
     was_alive = f.was_alive;
     here = same ∙ f.here;
@@ -87,7 +88,7 @@ module _ {C R S : Type 0} (first : S) (answer : S → C → R) (next : S → C �
   State = state_of first answer next May
 
   abbrev IsCall : ℕ → List (Entry C R) → List (Entry C R) → Entry C R → Type 0
-  IsCall p seen seen' e = Follows first answer next May p seen e seen'
+  IsCall p seen seen' e = Follows first answer next May (owing_none the_object p seen) (e ∷ []) seen'
 
   module _ (shows : S → Type 0) (views : List (List (Hat C R))) (k : Kept shows views) (id : ℕ) where
     abbrev all : Entry C R → List (Entry C R)
@@ -97,7 +98,7 @@ module _ {C R S : Type 0} (first : S) (answer : S → C → R) (next : S → C �
     told p seen place e f good =
         let legal = legal_push first answer next May k.log e k.legal good in
         let is : all e ≡ seen ++ (f.rest ++ e ∷ []) = ap (λ (z : List (Entry C R)). z ++ e ∷ []) f.is ∙ append_assoc seen f.rest (e ∷ []) in
-        (f.rest, is, f.others, legal, alone first answer next May seen p f.rest (e ∷ []) (subst (Legal first answer next May) is legal) f.others)
+        (f.rest, is, f.others, legal, λ sole. alone first answer next May seen p f.rest (e ∷ []) (subst (Legal first answer next May) is legal) f.others (subst (λ l. Sole l p) (append-nil seen) sole))
 
     -- a call
     pub calls_step : (p : ℕ) (seen : List (Entry C R)) → get_elem? views id ≡ some ((p, seen) ∷ []) → (shows' : S → Type 0) (c : C) → May k.log (State k.log) p c → shows' (next (State k.log) c)

@@ -1,19 +1,17 @@
--- Histories of an object that several callers share: who called, what, and what was answered, in one order.
---     Entry C R              one line of a history: a caller makes another, takes one in, or makes a call C with the reply R. Callers are numbers, and 0 is the first
+-- Histories of an object that several callers share: who called, what, and what was answered, in one order. That each call stands in one such order, in its caller's own,
+-- is Lamport's sequential consistency (How to make a multiprocessor computer, 1979), here for callers that make and take in others.
+--     Entry C R              one entry of a history: a caller makes another, takes one in, or makes a call C with the reply R. Callers are numbers, and 0 is the first
 --     live, named, joined log    the callers that are live after the history, in the order of their making; those that a `split` names, and those that a `join` takes in
 --     heir log c             the caller as whose own the calls of c count: c, or the one that took it in, or the one that took that one in
---     own log p              the entries by p and by the callers that it took in
 --     made_by p log          the entries by p itself
 --     state_of log           the object's state after the history
 --     Allowed log e          the entry e may follow the history
 --     Legal log              each entry is allowed after those before it
 --     Sole log p             no other caller than p is live
 --     AllJoined log          each caller but the first has been taken in
---     AllOthers p es, NoneBy cs es    no entry is by p, or by one of the callers
-use Rattle.std.specs.Prelude.{◌≡◌, ℕ, Bool, true, false, cond, not, ◌||◌, List, [], ◌∷◌, ◌++◌, filter, ◌==◌, ◌⊎◌}
-use Rattle.std.specs.Coded.{Coded, code_by, coded×, coded⊎, coded_ℕ}
-use mathlib.Core.Logic.{inl, inr}
-use mathlib.Core.Path.{refl}
+--     NoneBy cs es, AllOthers p es    no entry is by one of the callers, or by p
+--     Since cs log seen      the history goes on from that beginning with no entry by one of the callers
+use Rattle.std.specs.Prelude.{◌≡◌, ℕ, Bool, true, false, cond, not, ◌||◌, List, [], ◌∷◌, ◌++◌, filter, ◌==◌}
 
 pub data Entry (C R : Type 0) : Type 0 where
   split : ℕ → ℕ → Entry C R
@@ -78,10 +76,6 @@ module _ {C R : Type 0} where
   abbrev pub made_by : ℕ → List (Entry C R) → List (Entry C R)
   made_by p log = filter (λ e. by_of e == p) log
 
-  -- p's own calls: the entries by p and by the callers that it took in
-  abbrev pub own : List (Entry C R) → ℕ → List (Entry C R)
-  own log p = filter (λ e. heir log (by_of e) == p) log
-
   -- each caller that a split of the history names has been taken in, and the first has not
   abbrev pub AllJoined : List (Entry C R) → Type 0
   AllJoined log = (among 0 (joined log) ≡ false) × ((c : ℕ) → among c (named log) ≡ true → among c (joined log) ≡ true)
@@ -90,23 +84,14 @@ module _ {C R : Type 0} where
   abbrev pub Sole : List (Entry C R) → ℕ → Type 0
   Sole log p = live log ≡ p ∷ []
 
-  -- an entry by a caller other than p
-  abbrev pub IsOther : ℕ → Entry C R → Type 0
-  IsOther p e = (by_of e == p) ≡ false
-
-  -- entries by callers other than p
-  abbrev pub AllOthers : ℕ → List (Entry C R) → Type 0
-  AllOthers p [] = Unit {0}
-  AllOthers p (e ∷ es) = IsOther p e × AllOthers p es
-
   -- entries by none of the callers
   abbrev pub NoneBy : List ℕ → List (Entry C R) → Type 0
   NoneBy cs [] = Unit {0}
   NoneBy cs (e ∷ es) = (among (by_of e) cs ≡ false) × NoneBy cs es
 
-  -- the one list begins with the other
-  abbrev pub StartsWith : List (Entry C R) → List (Entry C R) → Type 0
-  StartsWith log seen = (rest : List (Entry C R)) × (log ≡ seen ++ rest)
+  -- entries by callers other than p
+  abbrev pub AllOthers : ℕ → List (Entry C R) → Type 0
+  AllOthers p es = NoneBy (p ∷ []) es
 
   -- the one list begins with the other, and goes on with no entry by one of these
   abbrev pub Since : List ℕ → List (Entry C R) → List (Entry C R) → Type 0
@@ -140,32 +125,3 @@ module _ {C R S : Type 0} (first : S) (answer : S → C → R) (next : S → C �
 
   abbrev pub Legal : List (Entry C R) → Type 0
   Legal log = LegalFrom [] log
-
-  -- The call clause: what was seen, entries that aren't p's, and the entry of this call. The whole is legal, and where no other caller was live nothing stands in between
-  abbrev pub Follows : ℕ → List (Entry C R) → Entry C R → List (Entry C R) → Type 0
-  Follows p seen e seen' =
-      (between : List (Entry C R))
-      × (seen' ≡ seen ++ (between ++ e ∷ [])) × AllOthers p between × Legal seen' × (Sole seen p → between ≡ [])
-
--- how an entry is stored: as one of its three kinds
-abbrev Kinds : Type 0 → Type 0 → Type 0
-Kinds C R = (ℕ × ℕ) ⊎ ((ℕ × ℕ) ⊎ (ℕ × (C × R)))
-
-module _ {C R : Type 0} where
-  abbrev kind_of : Entry C R → Kinds C R
-  kind_of (split p q) = inl (p, q)
-  kind_of (join p q) = inr (inl (p, q))
-  kind_of (calls p c r) = inr (inr (p, (c, r)))
-
-  abbrev of_kind : Kinds C R → Entry C R
-  of_kind (inl x) = split x.0 x.1
-  of_kind (inr (inl x)) = join x.0 x.1
-  of_kind (inr (inr x)) = calls x.0 x.1.0 x.1.1
-
-  pub of_kind_of : (e : Entry C R) → of_kind (kind_of e) ≡ e
-  of_kind_of (split p q) = refl
-  of_kind_of (join p q) = refl
-  of_kind_of (calls p c r) = refl
-
-  abbrev pub entry_coded : Coded C → Coded R → Coded (Entry C R)
-  entry_coded c r = code_by (Kinds C R) (coded⊎ (coded× coded_ℕ coded_ℕ) (coded⊎ (coded× coded_ℕ coded_ℕ) (coded× coded_ℕ (coded× c r)))) kind_of of_kind of_kind_of

@@ -1,2 +1,4 @@
 pub mod History
-pub mod Sharing
+pub mod Callers
+pub mod codes
+pub mod steps

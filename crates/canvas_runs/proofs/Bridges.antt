@@ -14,7 +14,7 @@ use Rattle.canvas_backend.specs.declared.stored.Stored.TheVariants.{First, Again
 use Rattle.canvas_backend.specs.Backend.{Log, Call, Reply, Results, no_results, store, part, read, was, count, found, first_or, kept_or, next_of, count_of, reply_of, May as MayCall}
 use Rattle.canvas_backend.specs.Roster.{roster_of}
 use Rattle.canvas_backend.proofs.HistoryLaws.{member_test}
-use Rattle.canvas_broker.specs.Broker.{Line as Entries, publish, take, answer, next, May}
+use Rattle.canvas_broker.specs.Broker.{QueueEntry as Entries, publish, take, answer, next, May}
 use Rattle.canvas_runs.specs.Calls.{published, stored, returned}
 use Rattle.canvas_runs.proofs.Replay.{IsQueue, IsDrained, IsTable, FirstWins, handed}
 use Rattle.canvas_runs.specs.Lists.{Each, total, seconds, look_up}

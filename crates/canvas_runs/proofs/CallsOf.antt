@@ -7,7 +7,7 @@ use Rattle.canvas_history.proofs.Histories.{made_here, made_off}
 use Rattle.canvas_message.specs.declared.envelope.Envelope.{Envelope}
 use Rattle.canvas_backend.specs.declared.stored.Stored.TheVariants.{First, Again}
 use Rattle.canvas_backend.specs.Backend.{Log, store, part, read, was, count, found}
-use Rattle.canvas_broker.specs.Broker.{Line as Entries, publish, take}
+use Rattle.canvas_broker.specs.Broker.{QueueEntry as Entries, publish, take}
 use Rattle.canvas_runs.specs.Accounts.{splits_of, joins_of, entries, rows}
 use Rattle.canvas_runs.specs.Following.{Stood}
 use Rattle.canvas_runs.specs.Calls.{BrokerCall, published, took, BackendCall, stored, returned, has_read}

@@ -12,7 +12,7 @@ use Rattle.canvas_message.specs.Job as job
 use Rattle.canvas_message.specs.declared.envelope.Envelope.{Envelope}
 use Rattle.canvas_backend.specs.declared.stored.Stored.TheVariants.{First, Again}
 use Rattle.canvas_backend.specs.Backend.{Log, Call, Reply, store, part, read, was, count, found, no_results}
-use Rattle.canvas_broker.specs.Broker.{Line as Entries, publish, take}
+use Rattle.canvas_broker.specs.Broker.{QueueEntry as Entries, publish, take}
 use Rattle.canvas_runs.specs.Causes.{Brought, ByCause, ByItsCause, completes_one, completions}
 use Rattle.canvas_runs.specs.Following.{asking, replied}
 use Rattle.canvas_runs.specs.Calls.{published, BackendCall, stored, returned, has_read}

@@ -1,5 +1,5 @@
 -- What worker 0 reads at the end is what is held then.
-use Rattle.std.proofs.Common.{◌≡◌, List, [], ◌∷◌, ◌++◌, Option, refl, sym, ap, ◌∙◌, subst}
+use Rattle.std.proofs.Common.{◌≡◌, List, [], ◌∷◌, ◌++◌, Option, refl, sym, ap, ◌∙◌, subst, append-nil}
 use Rattle.canvas_task.specs.declared.outcome.Outcome.{Outcome}
 use Rattle.canvas_history.specs.History.{Entry, calls, live, Sole}
 use Rattle.canvas_history.proofs.Histories.{live_append, state_append, legal_right}
@@ -25,8 +25,8 @@ module _ (plan : Roster) where
   reads_alone s t (returned g u k ∷ cs) n a i m = absurd i.0
   reads_alone s t (has_read u x ∷ cs) n a i m =
       let e : Entry Call Reply = calls s.name (read u) (found x) in
-      let c = m.1.2 in
-      let none : c.0 ≡ [] = c.4 (subst (λ k. Sole s.seen k) (sym n) a) in
+      let c = m.1.4 in
+      let none : c.0 ≡ [] = c.4 (subst (λ k. Sole (s.seen ++ []) k) (sym n) (subst (λ l. Sole l 0) (sym (append-nil s.seen)) a)) in
       let shape : m.0.seen ≡ s.seen ++ e ∷ [] = c.1 ∙ ap (λ b. s.seen ++ (b ++ e ∷ [])) none in
       let right = (legal_right no_results (reply_of plan) next_of (May plan) [] s.seen (e ∷ []) (subst (λ l. IsLegal plan l) shape c.3)).0 in
       let same : results plan m.0.seen ≡ results plan s.seen = ap (λ l. results plan l) shape ∙ state_append no_results (reply_of plan) next_of (May plan) no_results s.seen (e ∷ []) in

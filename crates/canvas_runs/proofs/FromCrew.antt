@@ -60,17 +60,17 @@ module _ (l : Line) where
   core_at k (m ∷ ms) p = cond (eqb k p) m.followed.run (core_at (suc k) ms p)
 
   -- the number is a worker's
-  pub record Found (p : ℕ) (ms : List (Mate P)) (core : Course) (queue : List (broker.Line Envelope)) (table : Log) : Type 0 where
+  pub record Found (p : ℕ) (ms : List (Mate P)) (core : Course) (queue : List (broker.QueueEntry Envelope)) (table : Log) : Type 0 where
     mate : Mate P
     there : In mate ms
     is : core ≡ mate.followed.run
     calls : made_by p queue ≡ entries p mate.followed.made
     replies : made_by p table ≡ rows p (backend_calls (working P) mate.followed.run)
 
-  more_found : (p : ℕ) (m : Mate P) (ms : List (Mate P)) (core : Course) (queue : List (broker.Line Envelope)) (table : Log) → Found p ms core queue table → Found p (m ∷ ms) core queue table
+  more_found : (p : ℕ) (m : Mate P) (ms : List (Mate P)) (core : Course) (queue : List (broker.QueueEntry Envelope)) (table : Log) → Found p ms core queue table → Found p (m ∷ ms) core queue table
   more_found p m ms core queue table f = record { mate = f.mate; there = inr f.there; is = f.is; calls = f.calls; replies = f.replies }
 
-  which : (k : ℕ) (ms : List (Mate P)) (queue : List (broker.Line Envelope)) (table : Log) → HasEach P k ms queue → HasRows P k ms table → (p : ℕ)
+  which : (k : ℕ) (ms : List (Mate P)) (queue : List (broker.QueueEntry Envelope)) (table : Log) → HasEach P k ms queue → HasRows P k ms table → (p : ℕ)
       → Found p ms (core_at k ms p) queue table ⊎ ((core_at k ms p ≡ []) × (among p (numbers k ms) ≡ false))
   which k [] queue table h r p = inr (refl, refl)
   which k (m ∷ ms) queue table h r p =
@@ -90,7 +90,7 @@ module _ (l : Line) where
       (cases_Bool (k == p))
 
   module _ (pass : Pass) (seat : Seat) (r : Ran l pass seat) where
-    abbrev pub the_queue : List (broker.Line Envelope)
+    abbrev pub the_queue : List (broker.QueueEntry Envelope)
     the_queue = pass.seen ++ pass.owed
 
     abbrev pub sent : List (BrokerCall Envelope)
@@ -129,8 +129,8 @@ module _ (l : Line) where
     pub queue_zero : by 0 (queue_calls the_queue) ≡ sent ++ r.works.made
     queue_zero =
         let qs : List ℕ = numbers 1 r.mates in
-        let a : List (broker.Line Envelope) = splits_of qs ++ entries 0 sent in
-        let b : List (broker.Line Envelope) = joins_of qs ++ entries 0 r.works.made in
+        let a : List (broker.QueueEntry Envelope) = splits_of qs ++ entries 0 sent in
+        let b : List (broker.QueueEntry Envelope) = joins_of qs ++ entries 0 r.works.made in
         let left : seconds (queue_calls a) ≡ sent = queue_append (splits_of qs) (entries 0 sent) ∙ (ap (λ x. x ++ seconds (queue_calls (entries 0 sent))) (queue_splits qs) ∙ queue_entries 0 sent (stood_all (map sealed r.opening))) in
         let right : seconds (queue_calls b) ≡ r.works.made = queue_append (joins_of qs) (entries 0 r.works.made) ∙ (ap (λ x. x ++ seconds (queue_calls (entries 0 r.works.made))) (queue_joins qs) ∙ queue_entries 0 r.works.made r.works.stood) in
         queue_by 0 the_queue ∙ (ap (λ x. seconds (queue_calls x)) passes.1.own ∙ (queue_append a b ∙ (ap (λ x. x ++ seconds (queue_calls b)) left ∙ ap (λ x. sent ++ x) right)))

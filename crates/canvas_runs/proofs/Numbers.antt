@@ -1,8 +1,8 @@
 -- Histories in which only the first caller splits and joins: who is named and who is live, the numbers of those that it makes, and lists that begin with others.
 use Rattle.std.proofs.Common.{◌≡◌, ℕ, suc, true, false, cond, not, List, [], ◌∷◌, ◌++◌, length, ◌==◌, refl, sym, ap, ◌∙◌, subst, append_assoc, append-nil, ⊎_elim}
 use Rattle.std.proofs.lemmas.Bool.{false≢true, eqb-true, eq-eqb, ne_eqb, cases_Bool}
-use Rattle.canvas_history.specs.History.{Entry, split, join, calls, without, by_of, live_from, live, named, joined, made_by, StartsWith, LegalFrom, Legal}
-use Rattle.canvas_history.proofs.Histories.{In, in_cases, in_here, in_left, in_within, named_append, legal_append, made_here, made_off, OthersCall, named_first, was_live, gone}
+use Rattle.canvas_history.specs.History.{Entry, split, join, calls, without, by_of, live_from, live, named, joined, made_by, LegalFrom, Legal}
+use Rattle.canvas_history.proofs.Histories.{StartsWith, In, in_cases, in_here, in_left, in_within, named_append, legal_append, made_here, made_off, OthersCall, named_first, was_live, gone}
 use Rattle.canvas_runs.specs.Accounts.{splits_of, joins_of}
 
 abbrev pub NoZero : List ℕ → Type 0

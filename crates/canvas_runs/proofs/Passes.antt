@@ -1,13 +1,14 @@
 -- What worker 0's pass has seen when all workers are taken in and it has worked on: of each worker just its calls, in order, and nobody else is live.
 use Rattle.std.proofs.Common.{◌≡◌, ℕ, suc, false, List, [], ◌∷◌, ◌++◌, length, map, ◌==◌, refl, sym, ap, ◌∙◌, subst, append_assoc, append-nil, ⊎_elim}
 use Rattle.std.proofs.lemmas.Bool.{false≢true, eq-eqb, ne_eqb}
-use Rattle.canvas_history.specs.History.{split, join, calls, by_of, live_from, live, named, made_by, NoneBy, Since, StartsWith, Sole}
-use Rattle.canvas_history.proofs.Histories.{In, in_cases, in_here, in_left, in_right, live_append, named_append, legal_right}
+use Rattle.canvas_history.specs.History.{split, join, calls, by_of, live_from, live, named, made_by, NoneBy, Since, Sole}
+use Rattle.canvas_history.proofs.Histories.{StartsWith, In, in_cases, in_here, in_left, in_right, live_append, named_append, legal_right}
 use Rattle.canvas_history.proofs.Histories.{made_append, made_here, made_off, OnlyCalls, OthersCall, named_first, live_first, fresh_at, others_call}
 use Rattle.canvas_backend.specs.Roster.{Roster}
 use Rattle.canvas_message.specs.declared.envelope.Envelope.{Envelope}
-use Rattle.canvas_broker.specs.Broker.{Line as Entries, answer, next, May, IsLegal}
-use Rattle.canvas_broker.specs.Callers.{Stands, Parted, Joined, IsHistory}
+use Rattle.canvas_broker.specs.Broker.{QueueEntry as Entries, answer, next, May, IsLegal}
+use Rattle.canvas_broker.specs.Passes.{Stands, Parted, IsHistory}
+use Rattle.canvas_history.specs.Callers.{Owes}
 use Rattle.canvas_runs.specs.Accounts.{splits_of, joins_of, entries, HasEach, Accounts}
 use Rattle.canvas_runs.specs.Crew.{Mate, Splits, Joins, numbers_along}
 use Rattle.canvas_runs.specs.Following.{Pass, doing, given, Makes}
@@ -128,7 +129,7 @@ module _ (plan : Roster) where
   names_snoc [] h = refl
   names_snoc (g ∷ hs) h = ap (λ l. join 0 g.pass.name ∷ l) (names_snoc hs h)
 
-  joined : (p p' : Pass) (es : List (Entries Envelope)) (hs : List (Mate plan)) (h : Mate plan) → Held p es hs → Fresh h → Joined p h.ended.pass p' → IsHistory p' → Held p' es (hs ++ h ∷ [])
+  joined : (p p' : Pass) (es : List (Entries Envelope)) (hs : List (Mate plan)) (h : Mate plan) → Held p es hs → Fresh h → Owes p h.ended.pass p' → IsHistory p' → Held p' es (hs ++ h ∷ [])
   joined p p' es hs h k f j y =
       let n : ℕ = h.pass.name in
       let left : At n h.ended.pass (entries n h.followed.made) = makes n h.pass h.ended.pass [] h.followed.made f.0 h.followed.makes in

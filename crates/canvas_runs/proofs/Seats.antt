@@ -2,12 +2,14 @@
 use Rattle.std.proofs.Common.{◌≡◌, ℕ, suc, false, List, [], ◌∷◌, ◌++◌, length, map, ◌==◌, refl, sym, ap, ◌∙◌, subst, append_assoc, append-nil, ⊎_elim}
 use Rattle.std.proofs.lemmas.Bool.{false≢true, eq-eqb, ne_eqb}
 use Rattle.canvas_task.specs.declared.outcome.Outcome.{Outcome}
-use Rattle.canvas_history.specs.History.{Entry, split, join, calls, by_of, live_from, live, named, joined as joined_of, made_by, AllOthers, StartsWith}
-use Rattle.canvas_history.proofs.Histories.{In, in_cases, in_here, in_left, in_right, live_append, named_append, legal_right}
+use Rattle.canvas_history.specs.History.{Entry, split, join, calls, by_of, live_from, live, named, joined as joined_of, made_by, AllOthers}
+use Rattle.canvas_history.proofs.Histories.{StartsWith, In, in_cases, in_here, in_left, in_right, live_append, named_append, legal_right}
 use Rattle.canvas_history.proofs.Histories.{made_append, made_here, made_off, made_others, OnlyCalls, OthersCall, named_first, live_first, fresh_at, others_call}
 use Rattle.canvas_backend.specs.Backend.{Log, Call, Reply, no_results, reply_of, next_of, May, IsLegal}
-use Rattle.canvas_backend.specs.Callers.{Stands, Parted, Joined}
+use Rattle.canvas_backend.specs.Seats.{Stands, Parted, Joined}
 use Rattle.canvas_backend.specs.Roster.{Roster}
+use Rattle.canvas_history.specs.Callers.{Caller}
+use Rattle.atomic_table.specs.Seated.{TableId}
 use Rattle.canvas_runs.specs.Accounts.{splits_of, joins_of, rows, HasRows, Ledger}
 use Rattle.canvas_runs.specs.Crew.{Mate, SplitSeats, JoinSeats, numbers_along}
 use Rattle.canvas_runs.specs.Following.{Seat, asking, replied, Serves}
@@ -37,7 +39,7 @@ module _ (plan : Roster) where
 
   stands : (n : ℕ) (s s' : Seat) (es : Log) (e : Row) → At n s es → by_of e ≡ n → Stands plan s e s' → At n s' (es ++ e ∷ [])
   stands n s s' es e a b c =
-      let x = c.2 in
+      let x = c.4 in
       record {
         name = c.1 ∙ a.name;
         legal = x.3;
@@ -54,7 +56,7 @@ module _ (plan : Roster) where
       subst (λ l. At n t l) (append_assoc es (calls n (asking c) (replied c) ∷ []) (rows n cs)) (serves n m.0 t (es ++ calls n (asking c) (replied c) ∷ []) cs two m.2)
 
   stands_start : (s s' : Seat) (e : Row) → Stands plan s e s' → StartsWith s'.seen s.seen
-  stands_start s s' e c = (c.2.0 ++ e ∷ [], c.2.1)
+  stands_start s s' e c = (c.4.0 ++ e ∷ [], c.4.1)
 
   serves_start : (s t : Seat) (cs : List (BackendCall Outcome)) → Serves plan s cs t → StartsWith t.seen s.seen
   serves_start s t [] m = subst (λ (x : Seat). StartsWith x.seen s.seen) (sym m) (starts_same s.seen)
@@ -110,7 +112,7 @@ module _ (plan : Roster) where
   parted s s' es h a c =
       let q : ℕ = h.seat.name in
       let e : Row = split s.name q in
-      let x = c.0.2 in
+      let x = c.0.4 in
       let shape : s'.seen ≡ (s.seen ++ x.0) ++ e ∷ [] = x.1 ∙ sym (append_assoc s.seen x.0 (e ∷ [])) in
       let legal : IsLegal P ((s.seen ++ x.0) ++ e ∷ []) = subst (λ l. IsLegal P l) shape x.3 in
       let ok = (legal_right no_results (reply_of P) next_of (May P) [] (s.seen ++ x.0) (e ∷ []) legal).0 in
@@ -120,8 +122,8 @@ module _ (plan : Roster) where
         (
           record {
             name = refl;
-            legal = subst (λ l. IsLegal P l) (sym (ap (λ (t : Seat). t.seen) c.1)) x.3;
-            own = ap (λ l. made_by q l) (ap (λ (t : Seat). t.seen) c.1) ∙ own;
+            legal = subst (λ l. IsLegal P l) (sym (ap (λ (t : Caller TableId Call Reply). t.seen) c.1)) x.3;
+            own = ap (λ l. made_by q l) (ap (λ (t : Caller TableId Call Reply). t.seen) c.1) ∙ own;
           },
           ok.1,
         ),
@@ -204,7 +206,7 @@ module _ (plan : Roster) where
       let q : ℕ = h.seat.name in
       let one = parted s c.0 es h a c.1 in
       let here : StartsWith whole c.0.seen = starts_then whole s'.seen c.0.seen f (splits_start P c.0 s' (seats_of hs) c.2) in
-      let name : q ≡ suc (length (named es)) = number_of_split c.0.seen es q (others_start whole c.0.seen here o) one.0.own (ap (λ (t : Seat). t.name) c.1.1) in
+      let name : q ≡ suc (length (named es)) = number_of_split c.0.seen es q (others_start whole c.0.seen here o) one.0.own (ap (λ (t : Caller TableId Call Reply). t.name) c.1.1) in
       let rest = numbered whole c.0 s' (es ++ split 0 q ∷ []) hs one.0 c.2 o f in
       ap (λ k. k ∷ names_of hs) name ∙ ap (λ l. suc (length (named es)) ∷ l) (rest ∙ ap (λ n. numbers_along (suc n) hs) (one_more es q))
 

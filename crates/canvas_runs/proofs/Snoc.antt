@@ -7,9 +7,9 @@ use Rattle.canvas_task.specs.declared.outcome.Outcome.{Outcome}
 use Rattle.canvas_history.specs.History.{calls}
 use Rattle.canvas_semantics.specs.Evaluation.{State}
 use Rattle.canvas_backend.specs.Backend.{read, found}
-use Rattle.canvas_backend.specs.Callers as seats
+use Rattle.canvas_backend.specs.Seats as seats
 use Rattle.canvas_backend.specs.Roster.{Roster}
-use Rattle.canvas_broker.specs.Callers as passes
+use Rattle.canvas_broker.specs.Passes as passes
 use Rattle.canvas_runs.specs.Crew.{Splits, SplitSeats, EachOf, EachSeatOf}
 use Rattle.canvas_runs.specs.Following.{Pass, Seat, Makes, Serves, asking, replied}
 use Rattle.canvas_runs.specs.Calls.{BackendCall, has_read}

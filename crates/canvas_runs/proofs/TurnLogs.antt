@@ -141,7 +141,7 @@ pub entries_only : (p : ℕ) (cs : List (BrokerCall Envelope)) → OnlyCalls (en
 entries_only p [] = tt
 entries_only p (c ∷ cs) = entries_only p cs
 
-pub queue_calls_append : (xs ys : List (broker.Line Envelope)) → queue_calls (xs ++ ys) ≡ queue_calls xs ++ queue_calls ys
+pub queue_calls_append : (xs ys : List (broker.QueueEntry Envelope)) → queue_calls (xs ++ ys) ≡ queue_calls xs ++ queue_calls ys
 queue_calls_append [] ys = refl
 queue_calls_append (split a b ∷ es) ys = queue_calls_append es ys
 queue_calls_append (join a b ∷ es) ys = queue_calls_append es ys

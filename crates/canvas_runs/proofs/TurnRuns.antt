@@ -51,7 +51,7 @@ none_left (x ∷ q) e = absurd cc
 
 module _ (l : Line) where
   -- the steps that are calls, each by its worker
-  abbrev pub queue_lines : List Step → List (broker.Line Envelope)
+  abbrev pub queue_lines : List Step → List (broker.QueueEntry Envelope)
   queue_lines [] = []
   queue_lines (x ∷ xs) = entries x.0 (broker_call (worker l) x.1.0 x.1.1) ++ queue_lines xs
 
@@ -62,7 +62,7 @@ module _ (l : Line) where
   abbrev pub firsts : List Envelope
   firsts = map sealed (first_messages l)
 
-  abbrev pub queue_log : ℕ → List Step → List (broker.Line Envelope)
+  abbrev pub queue_log : ℕ → List Step → List (broker.QueueEntry Envelope)
   queue_log n xs = splits_of (round n) ++ (entries 0 (published_all firsts) ++ queue_lines xs)
 
   abbrev pub table_log : ℕ → List Step → results.Log
@@ -84,8 +84,8 @@ module _ (l : Line) where
 
   pub queue_log_more : (n : ℕ) (xs : List Step) (x : Step) → queue_log n (xs ++ x ∷ []) ≡ queue_log n xs ++ entries x.0 (broker_call (worker l) x.1.0 x.1.1)
   queue_log_more n xs x =
-      let new : List (broker.Line Envelope) = entries x.0 (broker_call (worker l) x.1.0 x.1.1) in
-      let opening : List (broker.Line Envelope) = entries 0 (published_all firsts) in
+      let new : List (broker.QueueEntry Envelope) = entries x.0 (broker_call (worker l) x.1.0 x.1.1) in
+      let opening : List (broker.QueueEntry Envelope) = entries 0 (published_all firsts) in
       ap (λ g. splits_of (round n) ++ (opening ++ g)) (queue_lines_more xs x)
       ∙ (ap (λ g. splits_of (round n) ++ g) (sym (append_assoc opening (queue_lines xs) new)) ∙ sym (append_assoc (splits_of (round n)) (opening ++ queue_lines xs) new))
 
@@ -115,14 +115,14 @@ module _ (l : Line) where
 
   -- ---- the histories stay legal
 
-  abbrev QueueLegal : List (broker.Line Envelope) → List (broker.Line Envelope) → Type 0
+  abbrev QueueLegal : List (broker.QueueEntry Envelope) → List (broker.QueueEntry Envelope) → Type 0
   QueueLegal before es = LegalFrom [] broker.answer broker.next broker.May before es
 
-  abbrev queue_from_log : List Envelope → List (broker.Line Envelope) → List Envelope
+  abbrev queue_from_log : List Envelope → List (broker.QueueEntry Envelope) → List Envelope
   queue_from_log q es = state_from [] broker.answer broker.next broker.May q es
 
   -- what a step adds to a history of the queue
-  queue_adds : (n : ℕ) (xs : List Step) (p : ℕ) (a : Ask Envelope Outcome) (r : Reply Envelope Outcome) (log : List (broker.Line Envelope)) → among p (live log) ≡ true → broker.queue_of log ≡ queue_after l xs
+  queue_adds : (n : ℕ) (xs : List Step) (p : ℕ) (a : Ask Envelope Outcome) (r : Reply Envelope Outcome) (log : List (broker.QueueEntry Envelope)) → among p (live log) ≡ true → broker.queue_of log ≡ queue_after l xs
       → Answers l n xs a r → QueueLegal log (entries p (broker_call (worker l) a r)) × (queue_from_log (queue_after l xs) (entries p (broker_call (worker l) a r)) ≡ queue_next (queue_after l xs) a)
   queue_adds n xs p take (taken None) log alive is h = (tt, sym (none_left (queue_after l xs) h))
   queue_adds n xs p take (taken (Some e)) log alive is h = (((alive, h ∙ ap (λ q. broker.answer q broker.take) (sym is), tt), tt), refl)
@@ -160,7 +160,7 @@ module _ (l : Line) where
   pub queue_stays : (n : ℕ) (xs : List Step) (p : ℕ) (a : Ask Envelope Outcome) (r : Reply Envelope Outcome) → IsWorker n p → broker.IsLegal (queue_log n xs) → broker.queue_of (queue_log n xs) ≡ queue_after l xs → Answers l n xs a r
       → broker.IsLegal (queue_log n (xs ++ (p, (a, r)) ∷ [])) × (broker.queue_of (queue_log n (xs ++ (p, (a, r)) ∷ [])) ≡ queue_next (queue_after l xs) a)
   queue_stays n xs p a r w legal is h =
-      let new : List (broker.Line Envelope) = entries p (broker_call (worker l) a r) in
+      let new : List (broker.QueueEntry Envelope) = entries p (broker_call (worker l) a r) in
       let adds = queue_adds n xs p a r (queue_log n xs) (worker_lives n p (queue_log n xs) (queue_made n xs) w) is h in
       let more = queue_log_more n xs (p, (a, r)) in (
         subst broker.IsLegal (sym more) (legal_append [] broker.answer broker.next broker.May [] (queue_log n xs) new legal adds.0),
@@ -181,7 +181,7 @@ module _ (l : Line) where
 
   -- ---- before the first step
 
-  published_legal : (log : List (broker.Line Envelope)) (es : List Envelope) → among 0 (live log) ≡ true → QueueLegal log (entries 0 (published_all es))
+  published_legal : (log : List (broker.QueueEntry Envelope)) (es : List Envelope) → among 0 (live log) ≡ true → QueueLegal log (entries 0 (published_all es))
   published_legal log [] alive = tt
   published_legal log (e ∷ es) alive =
       ((alive, refl, tt), published_legal (log ++ calls 0 (broker.publish e) None ∷ []) es (subst (λ ls. among 0 ls ≡ true) (sym (live_append (0 ∷ []) log (calls 0 (broker.publish e) None ∷ []))) alive))
@@ -192,7 +192,7 @@ module _ (l : Line) where
 
   pub queue_starts : (n : ℕ) → broker.IsLegal (queue_log n []) × (broker.queue_of (queue_log n []) ≡ queue_after l [])
   queue_starts n =
-      let opening : List (broker.Line Envelope) = entries 0 (published_all firsts) in
+      let opening : List (broker.QueueEntry Envelope) = entries 0 (published_all firsts) in
       let made : Made n (splits_of (round n)) = record { rest = []; is = sym (append-nil (splits_of (round n))); only = tt } in
       let shape : queue_log n [] ≡ splits_of (round n) ++ opening = ap (λ g. splits_of (round n) ++ g) (append-nil opening) in (
         subst broker.IsLegal (sym shape) (legal_append [] broker.answer broker.next broker.May [] (splits_of (round n)) opening (splits_legal [] broker.answer broker.next broker.May n)
@@ -248,7 +248,7 @@ module _ (l : Line) where
 
   pub queue_by : (n : ℕ) (xs : List Step) (p : ℕ) → by p (queue_calls (queue_log n xs)) ≡ opened_by p ++ broker_calls (worker l) (by p xs)
   queue_by n xs p =
-      let opening : List (broker.Line Envelope) = entries 0 (published_all firsts) in
+      let opening : List (broker.QueueEntry Envelope) = entries 0 (published_all firsts) in
       ap (by p) (queue_calls_append (splits_of (round n)) (opening ++ queue_lines xs) ∙ ap (λ g. g ++ queue_calls (opening ++ queue_lines xs)) (queue_calls_splits (round n)))
       ∙ (ap (by p) (queue_calls_append opening (queue_lines xs))
       ∙ (by_append p (queue_calls opening) (queue_calls (queue_lines xs))

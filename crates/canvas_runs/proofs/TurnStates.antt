@@ -4,6 +4,7 @@ use Rattle.std.proofs.lemmas.Bool.{eqb-true}
 use Rattle.std.specs.Prelude.{if◌then◌else◌}
 use Rattle.canvas_task.specs.declared.outcome.Outcome.{Outcome}
 use Rattle.canvas_history.specs.History.{calls, among, live, AllOthers}
+use Rattle.canvas_history.proofs.Histories.{other_of}
 use Rattle.canvas_semantics.specs.Line.{Line}
 use Rattle.canvas_rewrite.specs.Planned.{IsPlan}
 use Rattle.canvas_rewrite.proofs.Members.{plan_apart}
@@ -44,7 +45,7 @@ module _ (Y : Protocol) (G : Goods Y) (k : Closed Y G) where
 
 rows_others : (p q : ℕ) (cs : List (BackendCall Outcome)) → q ≢ p → AllOthers p (rows q cs)
 rows_others p q [] apart = tt
-rows_others p q (c ∷ cs) apart = (ne_eqb q p apart, rows_others p q cs apart)
+rows_others p q (c ∷ cs) apart = (other_of q p (ne_eqb q p apart), rows_others p q cs apart)
 
 kept_stays : (s : Results) (a : Ask Envelope Outcome) (t : ℕ) (o : Outcome) → s.outcomes t ≡ Some o → (results_next s a).outcomes t ≡ Some o
 kept_stays s (keep u w) t o e = go (t == u)

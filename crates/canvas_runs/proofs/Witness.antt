@@ -78,8 +78,8 @@ module _ (b : SegId Global) (d : TableId) where
     table = d;
     seat_parted = seat_parted;
     seat_joined = seat_joined;
-    seat_splits = (seat_parted, ((refl, refl, ([], refl, tt, ((refl, refl, refl), tt), λ _. refl)), refl), refl);
-    seat_joins = (seat_joined, ((refl, refl, ([], refl, tt, ((refl, refl, refl), ((refl, refl, refl), tt)), λ _. refl)), ([], refl, tt, ((refl, refl, refl), ((refl, refl, refl), tt)), λ _. refl)), refl);
+    seat_splits = (seat_parted, ((refl, refl, refl, refl, ([], refl, tt, ((refl, refl, refl), tt), λ _. refl)), refl), refl);
+    seat_joins = (seat_joined, ((refl, refl, refl, refl, ([], refl, tt, ((refl, refl, refl), ((refl, refl, refl), tt)), λ _. refl)), ([], refl, tt, ((refl, refl, refl), ((refl, refl, refl), tt)), λ _. refl)), refl);
     own = own;
     works = record {
       run = (take, taken None) ∷ [];

@@ -20,7 +20,7 @@ joins_of [] = []
 joins_of (q ∷ qs) = join 0 q ∷ joins_of qs
 
 -- these calls by caller n
-abbrev pub entries : ℕ → List (BrokerCall Envelope) → List (broker.Line Envelope)
+abbrev pub entries : ℕ → List (BrokerCall Envelope) → List (broker.QueueEntry Envelope)
 entries n [] = []
 entries n (c ∷ cs) = calls n (doing c) (given c) ∷ entries n cs
 
@@ -29,7 +29,7 @@ rows n [] = []
 rows n (c ∷ cs) = calls n (asking c) (replied c) ∷ rows n cs
 
 module _ (plan : Roster) where
-  abbrev pub HasEach : ℕ → List (Mate plan) → List (broker.Line Envelope) → Type 0
+  abbrev pub HasEach : ℕ → List (Mate plan) → List (broker.QueueEntry Envelope) → Type 0
   HasEach k [] log = Unit
   HasEach k (m ∷ ms) log = (made_by k log ≡ entries k m.followed.made) × HasEach (suc k) ms log
 
@@ -38,7 +38,7 @@ module _ (plan : Roster) where
   HasRows k (m ∷ ms) log = (made_by k log ≡ rows k (backend_calls (working plan) m.followed.run)) × HasRows (suc k) ms log
 
   -- of the broker: what worker 0 called before and after it took in the workers
-  pub record Accounts (mates : List (Mate plan)) (first last : List (BrokerCall Envelope)) (log : List (broker.Line Envelope)) : Type 0 where
+  pub record Accounts (mates : List (Mate plan)) (first last : List (BrokerCall Envelope)) (log : List (broker.QueueEntry Envelope)) : Type 0 where
     pub legal : broker.IsLegal log
     pub own : made_by 0 log ≡ (splits_of (numbers_along 1 mates) ++ entries 0 first) ++ (joins_of (numbers_along 1 mates) ++ entries 0 last)
     pub each : HasEach 1 mates log

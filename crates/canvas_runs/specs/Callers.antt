@@ -8,8 +8,8 @@ use Rattle.canvas_semantics.specs.Tree.{Tree, IsFull, numbered}
 use Rattle.canvas_message.specs.declared.envelope.Envelope.{Envelope}
 use Rattle.canvas_backend.specs.Backend.{results}
 use Rattle.canvas_backend.specs.Roster.{roster_of}
-use Rattle.canvas_broker.specs.Broker.{Line as Entries, told}
-use Rattle.canvas_broker.specs.Callers.{knows_of}
+use Rattle.canvas_broker.specs.Broker.{QueueEntry as Entries}
+use Rattle.canvas_history.specs.Callers.{told}
 use Rattle.canvas_runs.specs.Accounts.{Accounts, Ledger}
 use Rattle.canvas_runs.specs.Causes.{ByCause, ByItsCause, completions}
 use Rattle.canvas_runs.specs.Crew.{Ran, EndedWell, ReadsWhatIsHeld}
@@ -22,7 +22,7 @@ use Rattle.canvas_runs.specs.Worker.{working, sealed}
 
 -- what a pass has seen, with the joins that it owes
 abbrev pub broker_calls_seen : Pass → List (Entries Envelope)
-broker_calls_seen p = told (knows_of p)
+broker_calls_seen p = told p
 
 -- the state of a task by what a seat has seen
 abbrev pub held_state : Line → Seat → ℕ → State

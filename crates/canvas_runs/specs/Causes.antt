@@ -27,13 +27,13 @@ module _ (l : Line) where
   Brought p table (completion g) = (t n : ℕ) × In (calls p (results.part g t) (results.count n)) table × IsCompleting (roster_of l) g n
 
   -- each publish is of the message of a task that an event runs, by the caller that brought the event about
-  abbrev pub ByCause : List (broker.Line Envelope) → results.Log → Type 0
+  abbrev pub ByCause : List (broker.QueueEntry Envelope) → results.Log → Type 0
   ByCause queue table =
       (p : ℕ) (e : Envelope) (a : Option Envelope) → In (calls p (broker.publish e) a) queue
       → (c : Content) × (v : Event) × (e ≡ sealed c) × DoesIn l v (publish c) × Brought p table v
 
   -- so the envelope of a message that an event publishes, as a body's first by the chord's completion, is published by the caller that brought that event about
-  abbrev pub ByItsCause : List (broker.Line Envelope) → results.Log → Type 0
+  abbrev pub ByItsCause : List (broker.QueueEntry Envelope) → results.Log → Type 0
   ByItsCause queue table =
       (v : Event) (c : Content) → DoesIn l v (publish c) → (p : ℕ) (e : Envelope) (a : Option Envelope) → In (calls p (broker.publish e) a) queue → opened (book_of l) e ≡ Some c → Brought p table v
 

@@ -10,9 +10,10 @@ use Rattle.canvas_message.specs.Content.{Content}
 use Rattle.canvas_message.specs.Effects.{first_messages}
 use Rattle.canvas_backend.specs.Backend.{Results}
 use Rattle.canvas_message.specs.declared.envelope.Envelope.{Envelope}
-use Rattle.canvas_backend.specs.Callers as seats
+use Rattle.canvas_backend.specs.Seats as seats
 use Rattle.canvas_backend.specs.Roster.{Roster, roster_of}
-use Rattle.canvas_broker.specs.Callers as passes
+use Rattle.canvas_broker.specs.Passes as passes
+use Rattle.canvas_history.specs.Callers.{Owes}
 use Rattle.canvas_runs.specs.Following.{Pass, Seat, Makes, Serves, Working, begins, IsDone, Followed}
 use Rattle.canvas_runs.specs.Calls.{BackendCall, stored, returned, has_read}
 use Rattle.canvas_runs.specs.Lists.{Each}
@@ -46,7 +47,7 @@ Splits p (q ∷ qs) p' = (between : Pass) × passes.Parted p between q × Splits
 
 abbrev pub Joins : Pass → List Pass → Pass → Type 0
 Joins p [] p' = p' ≡ p
-Joins p (q ∷ qs) p' = (between : Pass) × passes.Joined p q between × passes.IsHistory between × Joins between qs p'
+Joins p (q ∷ qs) p' = (between : Pass) × Owes p q between × passes.IsHistory between × Joins between qs p'
 
 -- the same of seats
 abbrev pub SplitSeats : Roster → Seat → List Seat → Seat → Type 0

@@ -10,10 +10,10 @@ use Rattle.canvas_message.specs.Content.{Content}
 use Rattle.canvas_message.specs.declared.envelope.Envelope.{Envelope}
 use Rattle.canvas_backend.specs.declared.stored.Stored.TheVariants.{First, Again}
 use Rattle.canvas_backend.specs.Backend.{Call, Reply, store, part, read, was, count, found}
-use Rattle.canvas_backend.specs.Callers as seats
+use Rattle.canvas_backend.specs.Seats as seats
 use Rattle.canvas_backend.specs.Roster.{Roster}
-use Rattle.canvas_broker.specs.Broker.{Doing, publish, take}
-use Rattle.canvas_broker.specs.Callers as passes
+use Rattle.canvas_broker.specs.Broker.{QueueCall, publish, take}
+use Rattle.canvas_broker.specs.Passes as passes
 use Rattle.canvas_runs.specs.Core.{CoreState, taking, IsCoreRun, left_after, Between}
 use Rattle.canvas_runs.specs.Calls.{BrokerCall, published, took, BackendCall, stored, returned, has_read, Follows, AskedAndAnswered, broker_calls, backend_calls, ReadsMembers, takes_one}
 use Rattle.canvas_runs.specs.Lists.{Each, total}
@@ -21,13 +21,13 @@ use Rattle.canvas_runs.specs.Tally.{Tally, none_yet, Counted}
 use Rattle.canvas_runs.specs.Worker.{working}
 
 abbrev pub Pass : Type 0
-Pass = passes.Caller Envelope
+Pass = passes.Pass Envelope
 
 abbrev pub Seat : Type 0
-Seat = seats.Caller
+Seat = seats.Seat
 
 -- what a broker call asks, and what it was answered
-abbrev pub doing : BrokerCall Envelope → Doing Envelope
+abbrev pub doing : BrokerCall Envelope → QueueCall Envelope
 doing (published e) = publish e
 doing (took x) = take
 

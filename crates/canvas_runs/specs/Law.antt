@@ -51,10 +51,10 @@ module _ (l : Line) where
   takes_one_of k (took (Some e)) = of_task k (opened (book_of l) e)
 
   -- how often a message of task k is published, and taken
-  abbrev pub publishes : ℕ → List (broker.Line Envelope) → ℕ
+  abbrev pub publishes : ℕ → List (broker.QueueEntry Envelope) → ℕ
   publishes k queue = total (publishes_one k) (seconds (queue_calls queue))
 
-  abbrev pub takes_of_task : ℕ → List (broker.Line Envelope) → ℕ
+  abbrev pub takes_of_task : ℕ → List (broker.QueueEntry Envelope) → ℕ
   takes_of_task k queue = total (takes_one_of k) (seconds (queue_calls queue))
 
   -- 1 where the call stores the outcome of task k, or returns the part

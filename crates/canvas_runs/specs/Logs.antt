@@ -4,7 +4,7 @@ use Rattle.canvas_task.specs.declared.outcome.Outcome.{Outcome}
 use Rattle.canvas_history.specs.History.{split, join, calls}
 use Rattle.canvas_backend.specs.declared.stored.Stored.TheVariants.{First, Again}
 use Rattle.canvas_backend.specs.Backend.{Log, store, part, read, was, count, found}
-use Rattle.canvas_broker.specs.Broker.{Line as Entries, publish, take}
+use Rattle.canvas_broker.specs.Broker.{QueueEntry as Entries, publish, take}
 use Rattle.canvas_runs.specs.Calls.{BrokerCall, published, took, BackendCall, stored, returned, has_read}
 
 abbrev pub queue_calls : {E : Type 0} → List (Entries E) → List (ℕ × BrokerCall E)

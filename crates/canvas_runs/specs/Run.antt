@@ -24,7 +24,7 @@ published_all [] = []
 published_all (e ∷ es) = published e ∷ published_all es
 
 pub record Run (l : Line) : Type 0 where
-  pub queue : List (broker.Line Envelope)
+  pub queue : List (broker.QueueEntry Envelope)
   pub table : results.Log
   pub queue_legal : broker.IsLegal queue
   pub table_legal : results.IsLegal (roster_of l) table

@@ -5,7 +5,7 @@ use Rattle.canvas_message.specs.Content.{Content}
 use Rattle.canvas_message.specs.declared.envelope.Envelope.{Envelope}
 use Rattle.canvas_backend.specs.Backend.{Log}
 use Rattle.canvas_backend.specs.Roster.{Roster}
-use Rattle.canvas_broker.specs.Broker.{Line as Entries}
+use Rattle.canvas_broker.specs.Broker.{QueueEntry as Entries}
 use Rattle.canvas_runs.specs.Book.{book_on}
 use Rattle.canvas_runs.specs.Core.{Ask, Reply, take, send, keep, part, taken, sent, kept, counted}
 use Rattle.canvas_runs.specs.Calls.{BrokerCall, published, took, BackendCall, stored, returned, has_read, takes_one}

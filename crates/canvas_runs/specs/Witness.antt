@@ -12,7 +12,7 @@ use Rattle.canvas_message.specs.Content.{Content}
 use Rattle.canvas_message.specs.declared.envelope.Envelope.{Envelope}
 use Rattle.canvas_backend.specs.declared.stored.Stored.TheVariants.{First}
 use Rattle.canvas_backend.specs.Backend.{Log, store, part, read, was, count, found}
-use Rattle.canvas_broker.specs.Broker.{Line as Entries, publish, take}
+use Rattle.canvas_broker.specs.Broker.{QueueEntry as Entries, publish, take}
 use Rattle.canvas_runs.specs.Core as core
 use Rattle.canvas_runs.specs.Calls.{BackendCall, has_read, AskedAndAnswered}
 use Rattle.canvas_runs.specs.Worker.{worker, sealed}

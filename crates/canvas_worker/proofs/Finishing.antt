@@ -6,7 +6,7 @@ use Rattle.canvas_rewrite.specs.FrozenView.{Load}
 use Rattle.canvas_rewrite.specs.Planned.{IsPlan}
 use Rattle.canvas_message.specs.Content.{Content}
 use Rattle.canvas_backend.specs.Roster.{Roster, roster_of}
-use Rattle.canvas_broker.specs.Callers.{Empties}
+use Rattle.canvas_broker.specs.Passes.{Empties}
 use Rattle.canvas_runs.specs.Core.{CoreState, taking, resting, over, answered, left_after, Between, IsCoreRun}
 use Rattle.canvas_runs.specs.Following.{Pass, Seat, Working, Followed, begins, IsDone}
 use Rattle.canvas_runs.specs.Worker.{worker, working}

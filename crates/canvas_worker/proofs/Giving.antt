@@ -2,9 +2,9 @@
 use Rattle.std.proofs.Common.{◌≡◌, ◌∙◌, ℕ, ◌+◌, ◌≤◌, min, Bool, false, List, [], ◌∷◌, ◌++◌, Option, Some, None, Result, Ok, Err, refl, sym, ap, ap₂, subst, arith}
 use Rattle.std.specs.Prelude.{MatchResult}
 use Rattle.canvas_message.specs.declared.envelope.Envelope.{Envelope}
-use Rattle.canvas_backend.specs.Callers.{Desk}
+use Rattle.canvas_backend.specs.Seats.{Desk}
 use Rattle.canvas_backend.specs.Roster.{Roster}
-use Rattle.canvas_broker.specs.Callers.{Took}
+use Rattle.canvas_broker.specs.Passes.{Took}
 use Rattle.canvas_runs.specs.Book.{Book, book_on}
 use Rattle.canvas_runs.specs.Calls.{broker_call, backend_call, reads_member}
 use Rattle.canvas_runs.specs.Core as C

@@ -4,7 +4,7 @@ use Rattle.std.specs.Prelude.{IfSome}
 use Rattle.futures.specs.Poll.{OnPending}
 use Rattle.futures.specs.declared.task.Poll.{Poll}
 use Rattle.futures.specs.declared.task.Poll.TheVariants.{Ready, Pending}
-use Rattle.canvas_backend.specs.Callers.{Desk}
+use Rattle.canvas_backend.specs.Seats.{Desk}
 use Rattle.canvas_backend.specs.Roster.{Roster}
 use Rattle.canvas_worker.specs.Progress.{Progress, Worked}
 use Rattle.canvas_worker.specs.Work.{Work, progress, Moves, stays, calls, takes, gives, Pends, IsRecordOf, Ends, TellsOf}

@@ -159,12 +159,12 @@ module _ (l : Line) (is_plan : IsPlan l) where
   goes_on s t (owning e) (kept true) c (u, stands, same) =
       ended_can t (said e) (opened_as (book_on plan) e (said e) c).1
       (subst (λ v. MayReturn plan v.seen v.name (number_of (said e).own)) (sym same)
-      (first_of plan s u (number_of (said e).own) (outcome_of (said e)) true stands.2 stands.1 refl))
+      (first_of plan s u (number_of (said e).own) (outcome_of (said e)) true stands.4 stands.1 refl))
   goes_on s t (owning e) (kept false) c call = tt
   goes_on s t (doing (store d o ∷ js) b) (kept a) c (u, stands, same) =
       subst (λ v. Can plan v (settled (enveloped plan) js (cond (is_due d js) a b))) (sym same)
       (settled_can plan u (cond (is_due d js) a b) js c.0.1
-      (store_in plan s u d a b js (served plan s u (results.store d o) (replied (stored d o a)) stands.2 stands.1 (λ g k e. absurd cc)) (first_of plan s u d o a stands.2 stands.1) c.1))
+      (store_in plan s u d a b js (served plan s u (results.store d o) (replied (stored d o a)) stands.4 stands.1 (λ g k e. absurd cc)) (first_of plan s u d o a stands.4 stands.1) c.1))
   goes_on s t (doing (publish e ∷ js) b) sent c same = subst (λ v. Can plan v (settled (enveloped plan) js b)) (sym same) (settled_can plan s b js c.0 c.1)
   goes_on s t (doing (hand_in g d h ∷ js) b) (counted n) c call = handed_can plan t g h n c.0.1
   goes_on s t (reading g h fs) (found d (Some o)) c call = go (eqb (length (fs ++ (d, o) ∷ [])) h.size) refl

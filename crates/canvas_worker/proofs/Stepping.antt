@@ -6,8 +6,8 @@ use Rattle.canvas_history.proofs.Histories.{legal_left}
 use Rattle.canvas_message.specs.declared.envelope.Envelope.{Envelope}
 use Rattle.canvas_backend.specs.Roster.{Roster}
 use Rattle.canvas_broker.specs.Broker as broker
-use Rattle.canvas_broker.specs.Broker.{Line as Entries, answer, next, May, IsLegal, takes_of, told}
-use Rattle.canvas_broker.specs.Callers.{Took}
+use Rattle.canvas_broker.specs.Broker.{QueueEntry as Entries, answer, next, May, IsLegal, takes_of}
+use Rattle.canvas_broker.specs.Passes.{Took}
 use Rattle.canvas_runs.specs.Core.{Ask, Reply, take, send, taken, sent, IsCoreRun, left_after}
 use Rattle.canvas_runs.specs.Following.{Pass, Seat, Stood, Makes, Serves}
 use Rattle.canvas_worker.specs.Progress.{Progress, Worked}

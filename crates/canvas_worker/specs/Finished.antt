@@ -4,9 +4,9 @@ use Rattle.std.specs.Global.{Global}
 use Rattle.crossbeam_queue.specs.SegTies.{SegId}
 use Rattle.canvas_semantics.specs.Line.{Line}
 use Rattle.canvas_rewrite.specs.Planned.{IsPlan}
-use Rattle.canvas_backend.specs.Callers.{Desk}
+use Rattle.canvas_backend.specs.Seats.{Desk}
 use Rattle.canvas_backend.specs.Roster.{Roster, roster_of}
-use Rattle.canvas_broker.specs.Callers.{Empties}
+use Rattle.canvas_broker.specs.Passes.{Empties}
 use Rattle.canvas_runs.specs.Following.{Pass, Seat, Working, Followed, begins, IsDone}
 use Rattle.canvas_worker.specs.Work.{Ready, TellsOf, working_begun, tally_of}
 use Rattle.canvas_worker.specs.declared.record.Record.{Record}

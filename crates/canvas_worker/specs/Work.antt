@@ -5,9 +5,9 @@ use Rattle.crossbeam_queue.specs.SegTies.{SegId}
 use Rattle.canvas_semantics.specs.Line.{Line}
 use Rattle.canvas_rewrite.specs.Planned.{IsPlan}
 use Rattle.canvas_message.specs.declared.envelope.Envelope.{Envelope}
-use Rattle.canvas_backend.specs.Callers.{Desk}
+use Rattle.canvas_backend.specs.Seats.{Desk}
 use Rattle.canvas_backend.specs.Roster.{Roster, roster_of}
-use Rattle.canvas_broker.specs.Callers.{Empties}
+use Rattle.canvas_broker.specs.Passes.{Empties}
 use Rattle.canvas_runs.specs.Core.{resting, over}
 use Rattle.canvas_runs.specs.Following.{Pass, Seat}
 use Rattle.canvas_runs.specs.Tally.{Tally, IsTally}

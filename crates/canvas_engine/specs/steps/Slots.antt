@@ -7,9 +7,10 @@ use Rattle.std.specs.Prelude.{ℕ, suc, ◌≡◌, ◌<◌, List, [], ◌∷◌,
 use Rattle.std.specs.Global.{Global}
 use Rattle.crossbeam_queue.specs.SegTies.{SegId}
 use Rattle.atomic_table.specs.Seated.{TableId}
-use Rattle.canvas_backend.specs.Callers as seats
+use Rattle.canvas_backend.specs.Seats as seats
 use Rattle.canvas_backend.specs.Roster.{Roster}
-use Rattle.canvas_broker.specs.Callers as passes
+use Rattle.canvas_broker.specs.Passes as passes
+use Rattle.canvas_history.specs.Callers.{Owes}
 use Rattle.canvas_runs.specs.Following.{Pass, Seat}
 use Rattle.canvas_worker.specs.Finished.{Finished}
 use Rattle.canvas_worker.specs.declared.record.Record.{Record}
@@ -67,7 +68,7 @@ AreOf b d (slot ∷ slots) = IsPostOf b d slot.post × AreOf b d slots
 abbrev pub TakesIn : Roster → Pass → Seat → List Slot → Pass → Seat → Type 0
 TakesIn plan p s [] p' s' = (p' ≡ p) × (s' ≡ s)
 TakesIn plan p s (slot ∷ slots) p' s' =
-    (r : Record) × (slot.post ≡ Done r) × (q : Pass) × (t : Seat) × passes.Joined p r.pass q × passes.IsHistory q × seats.Joined plan s r.seat t × TakesIn plan q t slots p' s'
+    (r : Record) × (slot.post ≡ Done r) × (q : Pass) × (t : Seat) × Owes p r.pass q × passes.IsHistory q × seats.Joined plan s r.seat t × TakesIn plan q t slots p' s'
 
 -- the counts that a worker left
 abbrev pub counts : ℕ → Record → Tally

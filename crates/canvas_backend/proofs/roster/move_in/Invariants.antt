@@ -1,5 +1,5 @@
 use Rattle.std.proofs.Common.{◌≡◌, length, drop}
-use Rattle.canvas_backend.specs.Roster.{moved_in}
+use Rattle.canvas_backend.specs.steps.Homes.{moved_in}
 use Rattle.canvas_backend.proofs.roster.move_in.Given as goal
 
 abbrev pub invariant-loop-task : goal.invariant-loop-task

@@ -1,7 +1,8 @@
 use Rattle.std.proofs.Common.{rules, ◌≡◌, ◌∷◌, sym, subst}
 use Rattle.std.specs.Vec.Iter.{into_iter_items}
-use Rattle.canvas_backend.specs.Callers as seats
-use Rattle.canvas_broker.specs.Callers as passes
+use Rattle.canvas_backend.specs.Seats as seats
+use Rattle.canvas_broker.specs.Passes as passes
+use Rattle.canvas_history.specs.Callers.{Owes}
 use Rattle.canvas_engine.specs.steps.Slots.{AreOf, TakesIn}
 use Rattle.canvas_engine.specs.declared.slot.Post.TheVariants.{Done}
 use Rattle.canvas_engine.proofs.crew.join_all.Goals as goal
@@ -10,7 +11,7 @@ pub loop-slot-preserved : goal.loop-slot-preserved
 loop-slot-preserved g c =
     let items : into_iter_items c.loop-slot.slot-iterator ≡ c.in-Some.slot ∷ into_iter_items c.next.new.self = search rules in
     let post : c.in-Some.slot.post ≡ Done c.in-Done.left = search rules in
-    let passes : passes.Joined c.loop-slot.pass c.in-Done.left.pass c.join_one.new.pass × passes.IsHistory c.join_one.new.pass = search rules in
+    let passes : Owes c.loop-slot.pass c.in-Done.left.pass c.join_one.new.pass × passes.IsHistory c.join_one.new.pass = search rules in
     let seats : seats.Joined c.args.backend.now.plan c.loop-slot.seat c.in-Done.left.seat c.join_one.new.seat = search rules in (
       tt,
       tt,

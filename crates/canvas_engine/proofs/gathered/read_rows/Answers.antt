@@ -2,7 +2,7 @@ use Rattle.std.proofs.Common.{rules, ◌≡◌, ◌+◌, ◌<◌, ◌≤◌, len
 use Rattle.std.proofs.lemmas.List.{length-take-le}
 use Rattle.canvas_history.specs.History.{calls}
 use Rattle.canvas_backend.specs.Backend.{read, found}
-use Rattle.canvas_backend.specs.Callers.{Stands}
+use Rattle.canvas_backend.specs.Seats.{Stands}
 use Rattle.canvas_engine.proofs.SeatRows.{row_read}
 use Rattle.canvas_engine.proofs.gathered.read_rows.Goals as goal
 

@@ -3,7 +3,8 @@ use Rattle.std.proofs.lemmas.List.{length-replicate}
 use Rattle.canvas_rewrite.proofs.InOrder.{entries_length}
 use Rattle.canvas_backend.specs.declared.slot.Slot.{Slot}
 use Rattle.canvas_backend.specs.Roster.{Roster}
-use Rattle.canvas_backend.specs.Plain.{held, AreCounts}
+use Rattle.canvas_backend.specs.Plain.{held}
+use Rattle.canvas_backend.specs.steps.Counts.{AreCounts}
 use Rattle.canvas_backend.proofs.Shelves.{shelf, none_held, counts_none}
 use Rattle.canvas_backend.proofs.plain.PlainBackend.new.Goals as goal
 

@@ -1,25 +1,47 @@
-use Rattle.std.proofs.Common.{◌≡◌, ◌∷◌, [], subst, sym}
-use Rattle.std.specs.Prelude.{IfOk}
+use Rattle.std.proofs.Common.{◌≡◌, ◌∷◌, [], ℕ, refl, sym, ◌∙◌, subst, ap, None}
+use Rattle.canvas_history.specs.Callers.{Adds}
 use Rattle.canvas_history.specs.History.{split, made_by}
+use Rattle.canvas_history.proofs.CallerLaws.{made_fresh}
 use Rattle.canvas_message.specs.declared.envelope.Envelope.{Envelope}
-use Rattle.canvas_broker.specs.Broker.{Own}
-use Rattle.canvas_broker.specs.Callers.{Caller, knows_of}
-use Rattle.canvas_broker.proofs.Made.{made_after, parts_fresh}
-use Rattle.canvas_broker.proofs.broker.Broker.split.Goals.{in-Some, in-None}
+use Rattle.canvas_broker.specs.Broker.{answer, next, May}
+use Rattle.canvas_broker.specs.Passes.{Knowledge, Pass, pass_of}
+use Rattle.canvas_broker.specs.declared.view.View.{View}
+use Rattle.canvas_broker.proofs.Keeps.{splits, forks}
+use Rattle.canvas_broker.proofs.Made.{stands_own, child_is}
+use Rattle.canvas_broker.proofs.broker.Broker.split.Goals.{in-Ok, in-Err}
 use Rattle.canvas_broker.proofs.broker.Broker.split.Goals as goal
+
+pub push_as-requires-clause-rule : goal.push_as-requires-clause-rule
+push_as-requires-clause-rule g c n = splits n _ _ c.pass.invariant.2
+
+pub another-requires-clause-rule : goal.another-requires-clause-rule
+another-requires-clause-rule g c =
+    let made = c.in-Ok.ensures.rule.0 in
+    forks _ made.0 _ made.3 made.1 made.4
 
 pub returns-clause-own : goal.returns-clause-own
 returns-clause-own g c =
-    elim c.match-divide.branch [
-      | in-Some w ↦ subst (λ r. IfOk r (λ q. Own (knows_of c.args.pass.now) (split c.args.pass.now.name q.name ∷ []) c.divide.new.pass.me.view.client.knows.seen)) (sym w.result-is)
-          (subst (λ (p : Caller Envelope). Own (knows_of p) (split p.name w.in-Some.pass.me.view.client.knows.name ∷ []) c.divide.new.pass.me.view.client.knows.seen) c.pass.view_is
-          (made_after c.pass.inside.pass.me.view.client.knows _ c.divide.new.pass.me.view.client.knows.seen c.pass.invariant.2.0 w.in-Some.ensures.call.1.5))
-      | in-None w ↦ rw w.result-is tt
+    let old : Knowledge Envelope = c.pass.inside.pass.me.view.client.knows in
+    let new : Knowledge Envelope = c.push_as.new.pass.me.view.client.knows in
+    elim c.match-push_as.branch [
+      | in-Ok w ↦
+          let made = w.in-Ok.ensures.rule.0 in
+          let name : w.another.result.me.view.client.knows.name ≡ made.0 = ap (λ (v : View Envelope). v.knows.name) (w.another.ensures.rule.1 ∙ child_is c.pass.inside.pass.me.view.client c.push_as.new.pass.me.view.client made) in
+          let own : Adds old (split old.name made.0 ∷ []) new = stands_own old (split old.name made.0) new c.pass.invariant.2.0 (refl, tt) made.2 in
+          let there : Adds old (split old.name w.another.result.me.view.client.knows.name ∷ []) w.another.new.pass.me.view.client.knows =
+          subst (λ (x : ℕ × View Envelope). Adds old (split old.name x.0 ∷ []) x.1.knows) (λ i. (sym name i, sym w.another.ensures.rule.0 i)) own in
+          rw w.result-is (subst (λ (x : Pass Envelope × Pass Envelope). Adds x.0 (split x.0.name w.another.result.me.view.client.knows.name ∷ []) x.1) (λ i. (c.pass.view_is i, sym w.pass-is i)) there)
+      | in-Err w ↦ rw w.result-is tt
     ]
 
 pub returns-clause-fresh : goal.returns-clause-fresh
 returns-clause-fresh g c =
-    elim c.match-divide.branch [
-      | in-Some w ↦ subst (λ r. IfOk r (λ q. made_by q.name q.seen ≡ [])) (sym w.result-is) (parts_fresh c.pass.inside.pass.me.view.client.knows c.divide.new.pass.me.view.client.knows w.in-Some.pass.me.view.client.knows w.in-Some.ensures.call.1)
-      | in-None w ↦ rw w.result-is tt
+    let old : Knowledge Envelope = c.pass.inside.pass.me.view.client.knows in
+    let new : Knowledge Envelope = c.push_as.new.pass.me.view.client.knows in
+    elim c.match-push_as.branch [
+      | in-Ok w ↦
+          let made = w.in-Ok.ensures.rule.0 in
+          rw w.result-is (subst (λ (v : View Envelope). made_by v.knows.name v.knows.seen ≡ []) (sym (w.another.ensures.rule.1 ∙ child_is c.pass.inside.pass.me.view.client c.push_as.new.pass.me.view.client made))
+          (made_fresh [] answer next May old made.0 new.seen made.2.4))
+      | in-Err w ↦ rw w.result-is tt
     ]

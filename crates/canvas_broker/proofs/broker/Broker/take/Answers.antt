@@ -1,18 +1,29 @@
-use Rattle.std.proofs.Common.{Some, ◌∷◌, [], subst}
-use Rattle.std.specs.Prelude.{IfSome, IfNone}
+use Rattle.std.proofs.Common.{rules, Some, ◌∷◌, [], refl, sym, subst}
+use Rattle.canvas_history.specs.Callers.{Adds}
 use Rattle.canvas_history.specs.History.{calls}
 use Rattle.canvas_message.specs.declared.envelope.Envelope.{Envelope}
-use Rattle.canvas_broker.specs.Broker.{take, Own, HoldsNothing}
-use Rattle.canvas_broker.specs.Callers.{Caller, knows_of}
-use Rattle.canvas_broker.proofs.Made.{take_own, take_empties}
+use Rattle.canvas_broker.specs.Broker.{take}
+use Rattle.canvas_broker.specs.Passes.{Knowledge, Pass, pass_of, Stands, Empties}
+use Rattle.canvas_broker.specs.steps.Rule.{IsReady}
+use Rattle.canvas_broker.specs.declared.view.View.{View}
+use Rattle.canvas_broker.proofs.Keeps.{takes, misses}
+use Rattle.canvas_broker.proofs.Made.{stands_own, empties}
 use Rattle.canvas_broker.proofs.broker.Broker.take.Goals as goal
 
-pub returns-clause-own : goal.returns-clause-own
-returns-clause-own g c =
-    subst (λ (p : Caller Envelope). IfSome c.get.result (λ e. Own (knows_of p) (calls p.name take (Some e) ∷ []) c.get.new.pass.me.view.client.knows.seen)) c.pass.view_is
-    (take_own c.get.result _ c.pass.inside.pass.me.view.client.knows c.get.new.pass.me.view.client.knows c.pass.invariant.2.0 c.get.ensures.call)
+pub pop_as-requires-clause-rule : goal.pop_as-requires-clause-rule
+pop_as-requires-clause-rule g c =
+    let ready : IsReady c.loop.pass-inside.pass.me.view.client = subst (λ (v : View Envelope). IsReady v) (sym c.loop.invariant.3) c.pass.invariant.2 in
+    (takes _ _ ready, misses _ _ ready)
 
-pub returns-clause-empty : goal.returns-clause-empty
-returns-clause-empty g c =
-    subst (λ (p : Caller Envelope). IfNone c.get.result (HoldsNothing (knows_of p))) c.pass.view_is
-    (take_empties c.get.result _ _ c.pass.inside.pass.me.view.client.knows c.get.ensures.call)
+pub returns-in-None-pop_as-clause-empty : goal.returns-in-None-pop_as-clause-empty
+returns-in-None-pop_as-clause-empty g c =
+    let v : View Envelope = c.loop.pass-inside.pass.me.view.client in
+    subst (λ (p : Pass Envelope). Empties p) c.pass.view_is (subst (λ (x : View Envelope). Empties x.knows) c.loop.invariant.3 (empties v.knows (c.in-None-pop_as.ensures.rule.1 refl)))
+
+pub returns-in-Some-Some-clause-own : goal.returns-in-Some-Some-clause-own
+returns-in-Some-Some-clause-own g c =
+    let e : Envelope = c.in-Some-Some.envelope in
+    let new : Knowledge Envelope = c.pop_as.new.pass.me.view.client.knows in
+    let stands : Stands c.loop.pass-inside.pass.me.view.client.knows (calls c.loop.pass-inside.pass.me.view.client.knows.name take (Some e)) new = search rules in
+    subst (λ (p : Pass Envelope). Adds p (calls p.name take (Some e) ∷ []) (pass_of p.of new)) c.pass.view_is
+    (stands_own c.pass.inside.pass.me.view.client.knows _ new c.pass.invariant.2.0 (refl, tt) (subst (λ (x : View Envelope). Stands x.knows (calls x.knows.name take (Some e)) new) c.loop.invariant.3 stands))

@@ -1,5 +1,5 @@
 use Rattle.canvas_broker.proofs.Begins.{begins, roots_at}
-use Rattle.canvas_broker.proofs.steps.open.Goals as goal
+use Rattle.canvas_broker.proofs.broker.Broker.new.Goals as goal
 
 pub with_rule-requires : goal.with_rule-requires
 with_rule-requires c = begins

@@ -1,4 +1,4 @@
--- The rule of an object that callers share: there is one legal history, and what they share is what it leaves.
+-- The rule that each step on a shared object keeps: there is one legal history, and what the callers share is what it leaves.
 -- A caller stands in a view as a hat: its number, and what it has seen. In the middle of a split or a join a view has two hats, and a spent one has none.
 use Rattle.std.specs.Prelude.{◌≡◌, ◌≤◌, ℕ, length, true, List, ◌++◌}
 use mathlib.Core.Option.{some}

@@ -1,0 +1,29 @@
+//! A pass: one caller's handle on the broker.
+use crate::rule::OneHistory;
+use crate::view::View;
+use canvas_message::Envelope;
+use crossbeam_queue::{RuledSegQueue, SegPass};
+use std::marker::Model;
+
+// A None among the items is the mark of a split.
+pub(crate) type Queue = RuledSegQueue<Option<Envelope>, View<Envelope>, OneHistory>;
+
+/// What one caller has seen of the broker's history, and its own calls in it. It has no bytes. A pass that is dropped, and not joined,
+/// stays a live caller of the history.
+#[derive(Drop)]
+pub struct BrokerPass {
+    pub(crate) pass: SegPass<Option<Envelope>, View<Envelope>>,
+}
+
+impl Model for BrokerPass {
+    ghost use Rattle.std.specs.Prelude.{◌≡◌, None};
+    ghost use Rattle.canvas_message.specs.declared.envelope.Envelope.{Envelope};
+    ghost use Rattle.canvas_broker.specs.Passes.{Pass, pass_of};
+    ghost use Rattle.canvas_broker.specs.steps.Rule.{IsReady};
+
+    ghost Value = { Pass Envelope };
+
+    ghost view = { λ p. pass_of (record { web = p.pass.web; heap = p.pass.heap }) p.pass.me.view.client.knows };
+
+    ghost invariant = { λ p. (p.pass.me.hand ≡ None) × (p.pass.me.spare ≡ None) × IsReady p.pass.me.view.client };
+}
