@@ -4,6 +4,7 @@
 
 pub mod composed;
 pub mod dice;
+pub mod frozen_texts;
 pub mod grown;
 pub mod notation;
 pub mod plain;

@@ -34,6 +34,14 @@ fn sample_of(alloc: Global, canvas: &Canvas) -> Result<Sample, Memory> {
     Ok(Sample { plan, states })
 }
 
+/// The same of a canvas's text, if it is one.
+pub fn sample_of_text(alloc: Global, text: &str) -> Option<Sample> {
+    match read_canvas(alloc, text.as_bytes()) {
+        Ok(canvas) => sample_of(alloc, &canvas).ok(),
+        Err(_) => None,
+    }
+}
+
 /// A canvas that the dice grow; None where it is refused.
 pub fn grow(alloc: Global, dice: &mut Dice) -> Result<Option<Sample>, Memory> {
     let node = canvas(alloc, dice)?;

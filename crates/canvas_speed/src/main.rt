@@ -1,13 +1,16 @@
 //! What a message of about 100 KB costs, as ratios to the JSON library's own reading and writing of its body, and how fast large
 //! canvases run, by turns and on threads.
+//! Given the word `hostile` it says instead what texts that nobody of ours wrote cost.
 //! It measures where it is given a word, and else does nothing. Where something fails it says what, and gives no ratio.
 #![tactic(auto)]
 
 mod canvases;
+mod hostile;
 mod runs;
 mod threads;
 
 use crate::canvases::{chain, chord, group, nested_chords, wide_chains};
+use crate::hostile::{Cost, PARTS, cost_of_members, cost_of_parts};
 use crate::runs::speed_of;
 use crate::threads::thread_speed_of;
 use anyhow::Result;
@@ -150,15 +153,40 @@ where
     print_thread_speed(rt, "group of chains", &wide_chains(rt.alloc())?)
 }
 
-fn main(rt: HostRuntime) -> Result<()> {
-    if env::args(&rt)?.count() < 2 {
-        return Ok(());
+fn print_cost(rt: &HostRuntime, name: &str, costs: &[Cost; 2]) -> Result<()> {
+    let [file, body] = *costs;
+    let (parse, read, decode) = (file.parse, file.ratio, body.ratio);
+    println!(rt;
+        "{name}: parsed in {parse} microseconds; read_canvas takes {read} hundredths of that, decode {decode}"
+    )?;
+    Ok(())
+}
+
+fn print_costs(rt: &HostRuntime) -> Result<()> {
+    for part in &PARTS {
+        print_cost(rt, part.0, &cost_of_parts(rt, rt.alloc(), part)?)?;
     }
+    print_cost(rt, "members", &cost_of_members(rt, rt.alloc())?)
+}
+
+fn print_ratios(rt: &HostRuntime) -> Result<()> {
     let body = body_text(rt.alloc())?;
-    let reading = reading_ratio(&rt, rt.alloc(), &body)?;
-    let writing = writing_ratio(&rt, rt.alloc(), &body)?;
+    let reading = reading_ratio(rt, rt.alloc(), &body)?;
+    let writing = writing_ratio(rt, rt.alloc(), &body)?;
     println!(rt; "decode, in hundredths of Value::from_str: {reading}")?;
     println!(rt; "encode, in hundredths of Value::to_string: {writing}")?;
-    print_speeds(&rt)?;
-    print_thread_speeds(&rt)
+    Ok(())
+}
+
+fn main(rt: HostRuntime) -> Result<()> {
+    let words = env::args(&rt)?.skip(1).collect::<Vec<String>>(rt.alloc())?;
+    match words.first() {
+        Some(word) if word.as_str() == "hostile" => print_costs(&rt),
+        Some(_) => {
+            print_ratios(&rt)?;
+            print_speeds(&rt)?;
+            print_thread_speeds(&rt)
+        }
+        None => Ok(()),
+    }
 }

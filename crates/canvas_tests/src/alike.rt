@@ -1,8 +1,9 @@
 //! Texts of envelopes, and the message that they are read as: what is written of it says which it is. They were worked out by
 //! hand from the rules of messages.
 
-use crate::envelopes::{BODY, HEADERS, PLAIN, PROPERTIES, bytes_of};
+use crate::envelopes::{BODY, HEADERS, PLAIN, PROPERTIES};
 use canvas_message::{Envelope, decode, encode};
+use canvas_samples::frozen_texts::bytes_of;
 use std::alloc::{AllocError, Global};
 use std::test::Fail;
 

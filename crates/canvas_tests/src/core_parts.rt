@@ -3,9 +3,9 @@
 ghost use Rattle.canvas_worker.specs.Asks.{FoundInRange};
 
 use crate::cores::{CHORD, ZERO_DIVISION, answers, group, start, task};
-use crate::envelopes::bytes_of;
 use canvas_backend::{PlainBackend, Stored};
 use canvas_message::Envelope;
+use canvas_samples::frozen_texts::bytes_of;
 use canvas_task::TaskNo;
 use canvas_worker::{Ask, Core, Reply};
 use std::alloc::{AllocError, Global};

@@ -4,11 +4,12 @@ ghost use Rattle.std.specs.Prelude.{◌≤◌, IfSome};
 ghost use Rattle.canvas_task.specs.Apply.{IsInRange};
 ghost use Rattle.canvas_worker.specs.Asks.{FoundInRange};
 
-use crate::envelopes::{PLAIN, bytes_of};
+use crate::envelopes::PLAIN;
 use canvas_backend::{PlainBackend, Stored};
 use canvas_broker::PlainBroker;
 use canvas_message::{Envelope, encode, first_messages};
 use canvas_rewrite::Plan;
+use canvas_samples::frozen_texts::bytes_of;
 use canvas_samples::sample::plan_of;
 use canvas_task::{Fault, GroupNo, Kind, Outcome, TaskNo, Why};
 use canvas_worker::{Ask, Core, Reply};

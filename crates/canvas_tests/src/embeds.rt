@@ -1,6 +1,7 @@
 //! What goes with a call, and its refusals: all of them 7.
 
-use crate::envelopes::{embed_code, filled};
+use crate::envelopes::embed_code;
+use canvas_samples::frozen_texts::filled;
 use std::alloc::{AllocError, Global};
 use std::test::Fail;
 

@@ -1,6 +1,7 @@
 //! Envelopes and their refusals. The numbers were worked out by hand from the rules of messages.
 
 use canvas_message::{Envelope, Message, MessageFault, decode};
+use canvas_samples::frozen_texts::filled;
 use canvas_task::{ListOf, TaskNo};
 use std::alloc::{AllocError, Global};
 use std::test::Fail;
@@ -15,36 +16,6 @@ pub(crate) const BODY: &str =
     r#"[[4,4],{},{"callbacks":null,"chain":[{"args":[8],"immutable":false,"kwargs":{},"options":{"task_id":"%2"},"subtask_type":null,"task":"tasks.mul"}],"chord":null,"errbacks":null}]"#;
 
 pub(crate) const PLAIN: &str = r#"{"content_type":"application/json","content_encoding":"utf-8"}"#;
-
-const TASK: &str = r#"{"task":"x","options":{"task_id":"00000000-0000-8000-8000-00000000000"#;
-
-const GROUP: &str =
-    r#"{"task":"x","subtask_type":"group","options":{"group_id":"00000000-0000-8000-9000-00000000000"#;
-
-const CHORD: &str =
-    r#"{"task":"x","subtask_type":"chord","options":{"group_id":"00000000-0000-8000-9000-00000000000"#;
-
-/// A text where `%` and `@` begin the identifiers of tasks and groups, `$` a frozen task, `&` a group
-/// and `^` a chord.
-pub(crate) fn filled(alloc: Global, text: &str) -> Result<String, AllocError> {
-    let mut all = String::new(alloc);
-    for c in text.chars() {
-        match c {
-            '%' => all.push_str("00000000-0000-8000-8000-00000000000")?,
-            '@' => all.push_str("00000000-0000-8000-9000-00000000000")?,
-            '$' => all.push_str(TASK)?,
-            '&' => all.push_str(GROUP)?,
-            '^' => all.push_str(CHORD)?,
-            c => all.push(c)?,
-        }
-    }
-    Ok(all)
-}
-
-/// The bytes of such a text.
-pub(crate) fn bytes_of(alloc: Global, text: &str) -> Result<ListOf<u8>, AllocError> {
-    Ok(ListOf::of(filled(alloc, text)?.into_bytes()))
-}
 
 fn copy(alloc: Global, text: &[u8]) -> Result<ListOf<u8>, AllocError> {
     let mut bytes = Vec::new(alloc);

@@ -20,6 +20,8 @@ mod envelopes;
 #[cfg(test)]
 mod forged;
 #[cfg(test)]
+mod forged_tables;
+#[cfg(test)]
 mod generated;
 #[cfg(test)]
 mod lines;

@@ -1,0 +1,6 @@
+use Rattle.std.proofs.Common.{◌≡◌}
+use Rattle.canvas_hostile_tests.proofs.by_hand.publish_all.Given as goal
+
+abbrev pub invariant-loop-envelope : goal.invariant-loop-envelope
+invariant-loop-envelope g l =
+    (goal.iterator-loop-envelope g).can_next l.envelope-iterator × (goal.iterator-loop-envelope g).is_finite l.envelope-iterator × (l.pass.of ≡ l.broker)

@@ -1,0 +1,216 @@
+//! Messages that nobody of ours wrote, given to a core and put in a worker's queue.
+
+ghost use Rattle.canvas_worker.specs.Asks.{FoundInRange};
+
+use crate::by_hand::{Left, work};
+use crate::forgeries::{CALLBACK, Change, FORMS, MEMBER, NAMES, RESTS, Texts};
+use crate::rows::{a_failed_member, first_envelopes};
+use canvas_backend::PlainBackend;
+use canvas_message::Envelope;
+use canvas_samples::frozen_texts::filled;
+use canvas_samples::sample::Sample;
+use canvas_task::{Fault, Kind, ListOf, Memory, Outcome, TaskNo};
+use canvas_worker::{Ask, Core, Reply};
+use std::alloc::{AllocError, AllocGlobal, Global};
+use std::random::RandomSource;
+use std::sync::Wait;
+use std::test::Fail;
+
+// ---- envelopes
+
+/// A text with its changed parts; None where there is nothing to change.
+fn changed(alloc: Global, text: &str, change: &Change) -> Result<Option<String>, AllocError> {
+    let [old, new] = *change;
+    let mut pieces = text.split(old);
+    let mut all = String::from_str(alloc, pieces.next().unwrap_or(""))?;
+    let mut is_changed = false;
+    for piece in pieces {
+        all.push_str(new)?;
+        all.push_str(piece)?;
+        is_changed = true;
+    }
+    Ok(if is_changed { Some(all) } else { None })
+}
+
+/// The bytes of a text, changed where it can be.
+fn forged_bytes(
+    alloc: Global,
+    text: &str,
+    change: &Change,
+    is_changed: &mut bool,
+) -> Result<ListOf<u8>, AllocError> {
+    match changed(alloc, text, change)? {
+        Some(forged) => {
+            *is_changed = true;
+            Ok(ListOf::of(filled(alloc, &forged)?.into_bytes()))
+        }
+        None => Ok(ListOf::of(filled(alloc, text)?.into_bytes())),
+    }
+}
+
+fn envelope_of(
+    alloc: Global,
+    texts: &Texts,
+    change: &Change,
+    is_changed: &mut bool,
+) -> Result<Envelope, AllocError> {
+    let [properties, headers, body] = *texts;
+    Ok(Envelope {
+        properties: forged_bytes(alloc, properties, change, is_changed)?,
+        headers: forged_bytes(alloc, headers, change, is_changed)?,
+        body: forged_bytes(alloc, body, change, is_changed)?,
+    })
+}
+
+/// A message's envelope with a change; None where it changes nothing.
+fn forged(alloc: Global, texts: &Texts, change: &Change) -> Option<Envelope> {
+    let mut is_changed = false;
+    match envelope_of(alloc, texts, change, &mut is_changed) {
+        Ok(envelope) => { if is_changed { Some(envelope) } else { None } }
+        Err(_) => None,
+    }
+}
+
+/// A message's envelope as it is.
+fn genuine(alloc: Global, texts: &Texts) -> Option<Envelope> {
+    envelope_of(alloc, texts, &["&", "&"], &mut false).ok()
+}
+
+// ---- a core
+
+fn answers(alloc: Global, backend: &PlainBackend, core: &mut Core, reply: Reply) -> bool
+    requires { FoundInRange reply }
+{
+    core.next().suits(&reply) && core.answer(alloc, backend, reply).is_ok()
+}
+
+/// Whether a core that is given an envelope counts it as dropped, and asks for the next one.
+fn is_dropped(alloc: Global, backend: &PlainBackend, core: &mut Core, envelope: Envelope) -> bool {
+    let before = core.dropped();
+    answers(alloc, backend, core, Reply::Taken(Some(envelope)))
+        && core.next() == Ask::Take
+        && !core.is_inside()
+        && core.dropped() == before.saturating_add(1)
+}
+
+fn drops(
+    alloc: Global,
+    backend: &PlainBackend,
+    core: &mut Core,
+    texts: &Texts,
+    change: &Change,
+) -> bool {
+    match forged(alloc, texts, change) {
+        Some(envelope) => is_dropped(alloc, backend, core, envelope),
+        None => false,
+    }
+}
+
+/// Whether a core takes up the member's message, and stores its outcome first.
+fn takes_up(alloc: Global, backend: &PlainBackend, core: &mut Core) -> bool {
+    let outcome = Outcome::Failure(Fault::Plain(Kind::ZeroDivision));
+    match (genuine(alloc, &MEMBER), TaskNo::new(2)) {
+        (Some(envelope), Some(task)) => {
+            answers(alloc, backend, core, Reply::Taken(Some(envelope)))
+                && core.next() == Ask::Store(task, outcome)
+        }
+        _ => false,
+    }
+}
+
+/// The index of the first change whose message isn't dropped, if there is one.
+fn first_kept(
+    alloc: Global,
+    backend: &PlainBackend,
+    core: &mut Core,
+    texts: &Texts,
+    changes: &[Change],
+) -> Option<usize> {
+    for (index, change) in changes.iter().enumerate() {
+        if !drops(alloc, backend, core, texts, change) {
+            return Some(index);
+        }
+    }
+    None
+}
+
+fn backend_of(alloc: Global) -> Option<PlainBackend> {
+    match a_failed_member(alloc) {
+        Some(canvas) => PlainBackend::new(alloc, &canvas.plan).ok(),
+        None => None,
+    }
+}
+
+/// Each is dropped and counted, and what is in order is taken up behind them.
+#[test]
+fn dropped_by_a_core(rt: HostRuntime) -> Result<(), Fail> {
+    let backend = backend_of(rt.alloc()).ok_or("no backend")?;
+    let mut core = Core::new(rt.alloc());
+    for (texts, changes) in [
+        (&MEMBER, NAMES.as_slice()),
+        (&MEMBER, FORMS.as_slice()),
+        (&CALLBACK, RESTS.as_slice()),
+    ] {
+        let kept = first_kept(rt.alloc(), &backend, &mut core, texts, changes);
+        assert_eq!(rt; kept, None);
+    }
+    assert_eq!(rt; core.dropped(), 90);
+    assert!(rt; takes_up(rt.alloc(), &backend, &mut core));
+    Ok(())
+}
+
+// ---- a worker
+
+/// Puts the forged messages of a table in a queue.
+fn push_forged(
+    alloc: Global,
+    queue: &mut Vec<Envelope>,
+    texts: &Texts,
+    changes: &[Change],
+) -> Result<(), Memory> {
+    for change in changes {
+        if let Some(envelope) = forged(alloc, texts, change) {
+            queue.push(envelope)?;
+        }
+    }
+    Ok(())
+}
+
+/// All forged messages, in front of those that a plan begins with and behind them.
+fn queue_of(alloc: Global, canvas: &Sample) -> Result<Vec<Envelope>, Memory> {
+    let mut queue = Vec::new(alloc);
+    push_forged(alloc, &mut queue, &MEMBER, &NAMES)?;
+    push_forged(alloc, &mut queue, &CALLBACK, &RESTS)?;
+    for envelope in first_envelopes(alloc, &canvas.plan)? {
+        queue.push(envelope)?;
+    }
+    push_forged(alloc, &mut queue, &MEMBER, &FORMS)?;
+    Ok(queue)
+}
+
+/// What a worker leaves of them.
+fn worked<R: Wait + RandomSource + AllocGlobal>(
+    rt: &R,
+    alloc: Global,
+    canvas: &Sample,
+) -> Option<Left> {
+    match queue_of(alloc, canvas) {
+        Ok(queue) => work(rt, alloc, &canvas.plan, queue, u32::MAX),
+        Err(_) => None,
+    }
+}
+
+/// The worker drops the ninety, runs the four messages, stores five outcomes and publishes the error callback alone.
+#[test]
+fn dropped_by_a_worker(rt: HostRuntime) -> Result<(), Fail> {
+    let canvas = a_failed_member(rt.alloc()).ok_or("no canvas")?;
+    let left = worked(&rt, rt.alloc(), &canvas).ok_or("no worker")?;
+    assert_eq!(rt; left.record.dropped, 90);
+    assert_eq!(rt; left.record.taken, 94);
+    assert_eq!(rt; left.record.published, 1);
+    assert_eq!(rt; left.record.first, 5);
+    assert_eq!(rt; left.record.parts, 3);
+    assert!(rt; left.record.fault.is_none());
+    assert!(rt; left.rows.as_slice() == canvas.states.get().as_slice());
+    Ok(())
+}

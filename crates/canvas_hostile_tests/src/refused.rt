@@ -1,0 +1,122 @@
+//! Calls that may be refused memory, each once and, where a growth was refused, once more. `./refuse-memory` runs each of these tests with each
+//! growth refused in turn, one in a run; in the gate there is none. So a call that is refused for no growth fails both.
+
+use crate::refused_objects::{core, plain_queue, plain_table, queue, table};
+use crate::refused_parts::{arguments, effects, messages, plans, signatures};
+use crate::refused_runs::{CANVASES, Canvas, How, runs, turns};
+use canvas_task::Memory;
+use std::alloc::{AllocGlobal, Global};
+use std::random::RandomSource;
+use std::sync::Wait;
+use std::thread::Threads;
+
+/// What may be refused memory, runs aside.
+#[derive(Clone, Copy, Debug, PartialEq, Eq)]
+enum Calls {
+    Signatures,
+    Plans,
+    Arguments,
+    Messages,
+    Effects,
+    PlainQueue,
+    Queue,
+    PlainTable,
+    Table,
+    Core,
+    Turns,
+}
+
+/// Whether these calls come to their answers.
+fn answered<R: Wait>(rt: &R, alloc: Global, calls: Calls) -> Result<bool, Memory> {
+    match calls {
+        Calls::Signatures => signatures(alloc),
+        Calls::Plans => plans(alloc),
+        Calls::Arguments => arguments(alloc),
+        Calls::Messages => messages(alloc),
+        Calls::Effects => effects(alloc),
+        Calls::PlainQueue => plain_queue(alloc),
+        Calls::Queue => queue(rt, alloc),
+        Calls::PlainTable => plain_table(alloc),
+        Calls::Table => table(alloc),
+        Calls::Core => core(alloc),
+        Calls::Turns => turns(alloc),
+    }
+}
+
+/// Whether they do so at once, or the second time where memory was refused the first time.
+fn answer<R: Wait>(rt: &R, alloc: Global, calls: Calls) -> bool {
+    match answered(rt, alloc, calls) {
+        Ok(is_right) => is_right,
+        Err(Memory) => answered(rt, alloc, calls) == Ok(true),
+    }
+}
+
+#[test]
+fn signatures_of_canvases(rt: HostRuntime) {
+    for calls in [Calls::Signatures, Calls::Plans, Calls::Arguments] {
+        assert!(rt; answer(&rt, rt.alloc(), calls), "{calls:?}");
+    }
+}
+
+#[test]
+fn messages_of_plans(rt: HostRuntime) {
+    for calls in [Calls::Messages, Calls::Effects] {
+        assert!(rt; answer(&rt, rt.alloc(), calls), "{calls:?}");
+    }
+}
+
+#[test]
+fn objects_of_runs(rt: HostRuntime) {
+    for calls in [
+        Calls::PlainQueue,
+        Calls::Queue,
+        Calls::PlainTable,
+        Calls::Table,
+        Calls::Core,
+        Calls::Turns,
+    ] {
+        assert!(rt; answer(&rt, rt.alloc(), calls), "{calls:?}");
+    }
+}
+
+/// Whether a run comes to its states, at once or the second time.
+fn is_run<R>(rt: &R, alloc: Global, canvas: &Canvas, how: How) -> bool
+where
+    R: Threads + Wait + RandomSource + AllocGlobal + Sync,
+{
+    match runs(rt, alloc, canvas, how) {
+        Ok(is_right) => is_right,
+        Err(Memory) => runs(rt, alloc, canvas, how) == Ok(true),
+    }
+}
+
+/// The first canvas whose run is wrong, if there is one.
+fn first_wrong<R>(rt: &R, alloc: Global, how: How) -> Option<usize>
+where
+    R: Threads + Wait + RandomSource + AllocGlobal + Sync,
+{
+    CANVASES
+        .iter()
+        .position(|canvas| !is_run(rt, alloc, canvas, how))
+}
+
+#[test]
+fn runs_by_turns(rt: HostRuntime) {
+    for how in [How::Turns(1), How::Turns(2), How::Within] {
+        assert_eq!(rt; first_wrong(&rt, rt.alloc(), how), None, "{how:?}");
+    }
+}
+
+#[test]
+fn runs_on_threads(rt: HostRuntime) {
+    for how in [How::Threads(2), How::ByHand] {
+        assert_eq!(rt; first_wrong(&rt, rt.alloc(), how), None, "{how:?}");
+    }
+}
+
+#[test]
+fn runs_of_texts(rt: HostRuntime) {
+    for how in [How::Report, How::Text, How::TextThreads] {
+        assert_eq!(rt; first_wrong(&rt, rt.alloc(), how), None, "{how:?}");
+    }
+}

@@ -1,0 +1,255 @@
+//! Queues, tables and cores whose growth may be refused: each is as it was, and the same again comes to its answer.
+
+ghost use Rattle.std.specs.Prelude.{◌≡◌, IfSome};
+ghost use Rattle.canvas_worker.specs.Asks.{FoundInRange};
+
+use crate::rows::{a_failed_member, first_envelopes};
+use canvas_backend::{Backend, BackendSeat, PlainBackend, Stored};
+use canvas_broker::{Broker, BrokerPass, PlainBroker};
+use canvas_message::Envelope;
+use canvas_rewrite::Plan;
+use canvas_samples::frozen_texts::bytes_of;
+use canvas_task::{Fault, Kind, Memory, Outcome, TaskNo};
+use canvas_worker::{Ask, Core, Reply};
+use std::alloc::Global;
+use std::sync::Wait;
+
+fn envelope(alloc: Global) -> Result<Envelope, Memory> {
+    Ok(Envelope {
+        properties: bytes_of(alloc, "properties")?,
+        headers: bytes_of(alloc, "headers")?,
+        body: bytes_of(alloc, "body")?,
+    })
+}
+
+// ---- the queue of one thread
+
+/// Publishes an envelope, and where that is refused the one that comes back, if it is the same. Whether it was published in the end.
+fn publish_plain(broker: &mut PlainBroker, sent: Envelope, same: &Envelope) -> bool {
+    match broker.publish(sent) {
+        Ok(()) => true,
+        Err(refused) => {
+            refused.envelope == *same
+                && broker.is_empty()
+                && broker.publish(refused.envelope).is_ok()
+        }
+    }
+}
+
+fn gives(taken: Option<Envelope>, same: &Envelope) -> bool {
+    match taken {
+        Some(envelope) => envelope == *same,
+        None => false,
+    }
+}
+
+pub(crate) fn plain_queue(alloc: Global) -> Result<bool, Memory> {
+    let (sent, same) = (envelope(alloc)?, envelope(alloc)?);
+    let mut broker = PlainBroker::new(alloc);
+    Ok(publish_plain(&mut broker, sent, &same) && gives(broker.take(), &same) && broker.is_empty())
+}
+
+// ---- the queue that threads share
+
+/// The same at the queue that threads share. A refused publish leaves nothing to take.
+fn publish<R: Wait>(
+    rt: &R,
+    broker: &Broker,
+    pass: &mut BrokerPass,
+    sent: Envelope,
+    same: &Envelope,
+) -> bool
+    requires { pass.old.of ≡ broker.now }
+    ensures { pass.new.of ≡ broker.now }
+{
+    match broker.publish(rt, pass, sent) {
+        Ok(()) => true,
+        Err(refused) => {
+            refused.envelope == *same
+                && broker.take(rt, pass).is_none()
+                && broker.publish(rt, pass, refused.envelope).is_ok()
+        }
+    }
+}
+
+/// Whether an envelope that one pass publishes is what another takes.
+fn passes<R: Wait>(
+    rt: &R,
+    broker: &Broker,
+    pass: &mut BrokerPass,
+    other: &mut BrokerPass,
+    sent: Envelope,
+    same: &Envelope,
+) -> bool
+    requires pass { pass.old.of ≡ broker.now }
+    requires other { other.old.of ≡ broker.now }
+{
+    publish(rt, broker, other, sent, same) && gives(broker.take(rt, pass), same)
+}
+
+pub(crate) fn queue<R: Wait>(rt: &R, alloc: Global) -> Result<bool, Memory> {
+    let (sent, same) = (envelope(alloc)?, envelope(alloc)?);
+    let (broker, mut pass) = Broker::new(alloc)?;
+    match broker.split(rt, &mut pass) {
+        Ok(other) => {
+            let mut other = other;
+            Ok(passes(rt, &broker, &mut pass, &mut other, sent, &same))
+        }
+        Err(Memory) => {
+            if publish(rt, &broker, &mut pass, sent, &same)
+                && gives(broker.take(rt, &mut pass), &same)
+            {
+                Err(Memory)
+            } else {
+                Ok(false)
+            }
+        }
+    }
+}
+
+// ---- the tables
+
+/// Whether a table keeps the first outcome of a task.
+fn keeps_plain(backend: &mut PlainBackend, task: TaskNo) -> bool {
+    backend.knows(task)
+        && backend.store(task, &Outcome::Success(8)) == Stored::First
+        && backend.store(task, &Outcome::Success(9)) == Stored::Again
+        && backend.read(task) == Some(Outcome::Success(8))
+}
+
+fn plan_of(alloc: Global) -> Result<Plan, Memory> {
+    match a_failed_member(alloc) {
+        Some(canvas) => Ok(canvas.plan),
+        None => Err(Memory),
+    }
+}
+
+pub(crate) fn plain_table(alloc: Global) -> Result<bool, Memory> {
+    let plan = plan_of(alloc)?;
+    let mut backend = PlainBackend::new(alloc, &plan)?;
+    match TaskNo::new(1) {
+        Some(task) => Ok(keeps_plain(&mut backend, task)),
+        None => Ok(false),
+    }
+}
+
+/// Whether one seat reads the first outcome that another stores.
+fn keeps(backend: &Backend, seat: &mut BackendSeat, other: &mut BackendSeat, task: TaskNo) -> bool
+    requires seat { seat.old.of ≡ backend.now.id }
+    requires other { other.old.of ≡ backend.now.id }
+{
+    backend.knows(task)
+        && backend.store(seat, task, &Outcome::Success(8)) == Stored::First
+        && backend.store(other, task, &Outcome::Success(9)) == Stored::Again
+        && backend.read(other, task) == Some(Outcome::Success(8))
+}
+
+pub(crate) fn table(alloc: Global) -> Result<bool, Memory> {
+    let plan = plan_of(alloc)?;
+    let (backend, mut seat) = Backend::new(alloc, &plan)?;
+    let mut other = backend.split(&mut seat)?;
+    match TaskNo::new(1) {
+        Some(task) => Ok(keeps(&backend, &mut seat, &mut other, task)),
+        None => Ok(false),
+    }
+}
+
+// ---- a core
+
+/// Whether a core answers that it is at its end, and goes on doing so.
+fn has_failed(core: &mut Core) -> bool {
+    core.next() == Ask::End
+        && !core.is_inside()
+        && core.envelope().is_none()
+        && core.next() == Ask::End
+}
+
+/// Whether a core goes on with a reply. Where memory is refused it has failed.
+fn goes_on(
+    alloc: Global,
+    backend: &PlainBackend,
+    core: &mut Core,
+    reply: Reply,
+) -> Result<bool, Memory>
+    requires { FoundInRange reply }
+{
+    if !core.next().suits(&reply) {
+        return Ok(false);
+    }
+    match core.answer(alloc, backend, reply) {
+        Ok(()) => Ok(true),
+        Err(Memory) => {
+            if has_failed(core) {
+                Err(Memory)
+            } else {
+                Ok(false)
+            }
+        }
+    }
+}
+
+/// What a core finds of a header's members, in their order.
+fn found(index: u32) -> Option<Reply>
+    ensures { IfSome result (λ r. FoundInRange r) }
+{
+    let task = TaskNo::new(index.saturating_add(1))?;
+    Some(match index {
+        0 => Reply::Found(task, Some(Outcome::Success(8))),
+        1 => Reply::Found(
+            task,
+            Some(Outcome::Failure(Fault::Plain(Kind::ZeroDivision))),
+        ),
+        _ => Reply::Found(task, Some(Outcome::Success(16))),
+    })
+}
+
+/// The replies to a core whose part completes a header of three, behind the take of its message.
+fn reply_of(step: u32) -> Option<Reply>
+    ensures { IfSome result (λ r. FoundInRange r) }
+{
+    match step {
+        0 | 5 => Some(Reply::Stored(Stored::First)),
+        1 => Some(Reply::Counted(2)),
+        2 => found(0),
+        3 => found(1),
+        4 => found(2),
+        _ => Some(Reply::Published),
+    }
+}
+
+/// Whether a core that is inside that message comes to its end, with one envelope to publish.
+fn completes(alloc: Global, backend: &PlainBackend, core: &mut Core) -> Result<bool, Memory> {
+    let mut published = 0u32;
+    for step in 0..7 {
+        if core.envelope().is_some() {
+            published = published.saturating_add(1);
+        }
+        match reply_of(step) {
+            Some(reply) => {
+                if !goes_on(alloc, backend, core, reply)? {
+                    return Ok(false);
+                }
+            }
+            None => return Ok(false),
+        }
+    }
+    Ok(published == 1 && core.next() == Ask::Take)
+}
+
+/// The envelope of the third member of a chord.
+fn last_member(alloc: Global, plan: &Plan) -> Result<Option<Envelope>, Memory> {
+    let mut envelopes = first_envelopes(alloc, plan)?;
+    Ok(envelopes.pop())
+}
+
+pub(crate) fn core(alloc: Global) -> Result<bool, Memory> {
+    let plan = plan_of(alloc)?;
+    let backend = PlainBackend::new(alloc, &plan)?;
+    let mut core = Core::new(alloc);
+    let taken = Reply::Taken(last_member(alloc, &plan)?);
+    if goes_on(alloc, &backend, &mut core, taken)? {
+        completes(alloc, &backend, &mut core)
+    } else {
+        Ok(false)
+    }
+}

@@ -1,0 +1,227 @@
+//! Calls on canvases and messages that may be refused memory: each comes to its answer, or says that memory was refused.
+
+ghost use Rattle.std.specs.Prelude.{IfSome, All};
+ghost use Rattle.canvas_task.specs.Apply.{IsInRange};
+
+use crate::rows::a_failed_member;
+use canvas_message::{
+    Envelope, Message, MessageFault, PartCall, after, body_after, decode, encode, first_messages,
+};
+use canvas_rewrite::{Plan, freeze, node_of, normalise};
+use canvas_samples::spelled;
+use canvas_sig::{
+    Canvas, Node, SigFault, read_arg, read_canvas, write_arg, write_canvas, write_node,
+};
+use canvas_task::{Fault, Kind, Memory, Outcome, TaskNo};
+use serde_json::Value;
+use std::alloc::Global;
+
+const FAILS: Outcome = Outcome::Failure(Fault::Plain(Kind::ZeroDivision));
+
+// ---- signatures and plans
+
+/// The normal text of a chord of two sums, their sum, and then a product.
+const NORMAL: &str =
+    r#"{"args":[],"immutable":false,"kwargs":{"body":{"args":[],"immutable":false,"kwargs":{"tasks":[{"args":[],"immutable":false,"kwargs":{},"options":{},"subtask_type":null,"task":"tasks.xsum"},{"args":[2],"immutable":false,"kwargs":{},"options":{},"subtask_type":null,"task":"tasks.mul"}]},"options":{},"subtask_type":"chain","task":"celery.chain"},"header":[{"args":[1,1],"immutable":false,"kwargs":{},"options":{},"subtask_type":null,"task":"tasks.add"},{"args":[2,2],"immutable":false,"kwargs":{},"options":{},"subtask_type":null,"task":"tasks.add"}]},"options":{},"subtask_type":"chord","task":"celery.chord"}"#;
+
+/// The canvas of a text; None where it is refused for another cause than memory.
+fn read(alloc: Global, text: &str) -> Result<Option<Canvas>, Memory> {
+    match read_canvas(alloc, text.as_bytes()) {
+        Ok(canvas) => Ok(Some(canvas)),
+        Err(SigFault::Memory) => Err(Memory),
+        Err(_) => Ok(None),
+    }
+}
+
+/// The same of a signature.
+fn checked(alloc: Global, node: Node) -> Result<Option<Canvas>, Memory> {
+    match Canvas::of(alloc, node) {
+        Ok(canvas) => Ok(Some(canvas)),
+        Err(SigFault::Memory) => Err(Memory),
+        Err(_) => Ok(None),
+    }
+}
+
+fn is_normal(alloc: Global, node: &Node) -> Result<bool, Memory> {
+    let text = write_node(alloc, node)?;
+    Ok(text.as_str() == NORMAL)
+}
+
+fn is_written(alloc: Global, canvas: &Canvas) -> Result<bool, Memory> {
+    let text = write_canvas(alloc, canvas)?;
+    Ok(text.as_str() == NORMAL)
+}
+
+/// The signature of a canvas's normal line.
+fn normal_node(alloc: Global, canvas: &Canvas) -> Result<Node, Memory> {
+    let line = normalise(alloc, canvas)?;
+    node_of(alloc, &line)
+}
+
+/// Whether a canvas has the normal text, and its normal signature is a canvas.
+fn is_rewritten(alloc: Global, canvas: &Canvas) -> Result<bool, Memory> {
+    let node = normal_node(alloc, canvas)?;
+    if !is_normal(alloc, &node)? {
+        return Ok(false);
+    }
+    match checked(alloc, node)? {
+        Some(checked) => is_written(alloc, &checked),
+        None => Ok(false),
+    }
+}
+
+pub(crate) fn signatures(alloc: Global) -> Result<bool, Memory> {
+    let text = spelled::canvas(alloc, "C(H[.,.|.],.)", "add:1,1 add:2,2 xsum: mul:2")?;
+    match read(alloc, &text)? {
+        Some(canvas) => is_rewritten(alloc, &canvas),
+        None => Ok(false),
+    }
+}
+
+fn frozen(alloc: Global, canvas: &Canvas) -> Result<Plan, Memory> {
+    let line = normalise(alloc, canvas)?;
+    freeze(alloc, &line)
+}
+
+pub(crate) fn plans(alloc: Global) -> Result<bool, Memory> {
+    match read(alloc, NORMAL)? {
+        Some(canvas) => {
+            let plan = frozen(alloc, &canvas)?;
+            Ok(plan.tasks() == 4 && plan.groups() == 1)
+        }
+        None => Ok(false),
+    }
+}
+
+/// Whether a value reads as an argument that is written as it.
+fn is_argument(alloc: Global, value: &Value) -> Result<bool, Memory> {
+    match read_arg(alloc, value) {
+        Ok(arg) => {
+            let written = write_arg(alloc, &arg)?;
+            Ok(written == *value)
+        }
+        Err(SigFault::Memory) => Err(Memory),
+        Err(_) => Ok(false),
+    }
+}
+
+pub(crate) fn arguments(alloc: Global) -> Result<bool, Memory> {
+    for text in ["[1,2]", r#""text""#, "7"] {
+        match Value::from_str(alloc, text) {
+            Ok(value) => {
+                if !is_argument(alloc, &value)? {
+                    return Ok(false);
+                }
+            }
+            Err(_) => return Err(Memory),
+        }
+    }
+    Ok(true)
+}
+
+// ---- messages
+
+/// The message of an envelope; None where it is refused for another cause than memory.
+fn opened(alloc: Global, envelope: &Envelope) -> Result<Option<Message>, Memory> {
+    match decode(alloc, envelope) {
+        Ok(message) => Ok(Some(message)),
+        Err(MessageFault::Memory) => Err(Memory),
+        Err(_) => Ok(None),
+    }
+}
+
+/// Whether a message's envelope reads back as one with that envelope.
+fn is_carried(alloc: Global, message: &Message) -> Result<bool, Memory> {
+    let envelope = encode(alloc, message)?;
+    match opened(alloc, &envelope)? {
+        Some(message) => {
+            let again = encode(alloc, &message)?;
+            Ok(again == envelope)
+        }
+        None => Ok(false),
+    }
+}
+
+fn are_carried(alloc: Global, plan: &Plan) -> Result<bool, Memory> {
+    let messages = first_messages(alloc, plan)?;
+    for message in &messages {
+        if !is_carried(alloc, message)? {
+            return Ok(false);
+        }
+    }
+    Ok(messages.len() == 3)
+}
+
+/// A plan whose messages carry a chord's body with an error callback.
+pub(crate) fn messages(alloc: Global) -> Result<bool, Memory> {
+    match a_failed_member(alloc) {
+        Some(canvas) => are_carried(alloc, &canvas.plan),
+        None => Err(Memory),
+    }
+}
+
+/// The part that the end of a message's task returns, where nothing else follows it.
+fn part_after(alloc: Global, message: &Message) -> Result<Option<PartCall>, Memory> {
+    let todo = after(alloc, message, &FAILS)?;
+    if todo.stores.get().is_empty() && todo.messages.get().is_empty() {
+        Ok(todo.part)
+    } else {
+        Ok(None)
+    }
+}
+
+/// The outcomes of a header's members.
+fn outcomes() -> Option<[(TaskNo, Outcome); 3]>
+    ensures { IfSome result (λ v. All (λ e. IsInRange e.1) v) }
+{
+    let (one, two) = (TaskNo::new(1)?, TaskNo::new(2)?);
+    let three = TaskNo::new(3)?;
+    Some([
+        (one, Outcome::Success(8)),
+        (two, FAILS),
+        (three, Outcome::Success(16)),
+    ])
+}
+
+/// Whether behind a header of which a member failed its body is stored, and the body's error callback published.
+fn raises(alloc: Global, part: &PartCall) -> Result<bool, Memory> {
+    match outcomes() {
+        Some(outcomes) => {
+            let todo = body_after(alloc, &part.chord, &outcomes)?;
+            Ok(
+                todo.stores.get().len() == 1
+                    && todo.messages.get().len() == 1
+                    && todo.part.is_none(),
+            )
+        }
+        None => Ok(false),
+    }
+}
+
+/// Whether the end of a message's task says the same by reference and by value, and what follows its chord is right.
+fn ends(alloc: Global, message: Message) -> Result<bool, Memory> {
+    match part_after(alloc, &message)? {
+        Some(part) => {
+            let is_right = raises(alloc, &part)?;
+            let todo = message.into_todo(alloc, &FAILS)?;
+            Ok(is_right && todo.part.is_some())
+        }
+        None => Ok(false),
+    }
+}
+
+/// The last of the messages that a plan begins with.
+fn last_message(alloc: Global, plan: &Plan) -> Result<Option<Message>, Memory> {
+    let mut messages = first_messages(alloc, plan)?;
+    Ok(messages.pop())
+}
+
+pub(crate) fn effects(alloc: Global) -> Result<bool, Memory> {
+    match a_failed_member(alloc) {
+        Some(canvas) => match last_message(alloc, &canvas.plan)? {
+            Some(message) => ends(alloc, message),
+            None => Ok(false),
+        },
+        None => Err(Memory),
+    }
+}

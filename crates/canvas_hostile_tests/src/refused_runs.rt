@@ -1,0 +1,210 @@
+//! Runs that may be refused memory.
+
+use crate::by_hand::{Left, work};
+use crate::rows::{are_partial, first_envelopes};
+use canvas_engine::{
+    Report, RunFault, TextFault, read_turns, report_text, rows_text, run, run_text,
+    run_text_threads, run_turns, run_turns_within,
+};
+use canvas_samples::sample::{Sample, sample_of_text};
+use canvas_samples::spelled;
+use canvas_task::{Memory, Outcome};
+use canvas_worker::{Cause, OpenGate, Stop};
+use std::alloc::{AllocGlobal, Global};
+use std::random::RandomSource;
+use std::sync::Wait;
+use std::thread::Threads;
+
+/// A canvas, by its frame and its calls, and its report, all spelled shortly.
+pub(crate) type Canvas = [&'static str; 3];
+
+/// A sum and a product; a chord with a member that fails; and a chord with a task behind it.
+pub(crate) const CANVASES: [Canvas; 3] = [
+    [
+        "C(.,.)",
+        "add:4,4 mul:8",
+        "#1 tasks.add SUCCESS 8\n#2 tasks.mul SUCCESS 64\nresult 64\n",
+    ],
+    [
+        "H[.,.,.|?.>]",
+        "add:4,4 div:1,0 add:8,8 xsum: log_error:",
+        canvas_samples::worked::A_FAILED_MEMBER,
+    ],
+    [
+        "C(H[.,.|.],.)",
+        "add:1,1 add:2,2 xsum: mul:2",
+        "#1 tasks.add SUCCESS 2\n#2 tasks.add SUCCESS 4\n#3 tasks.xsum SUCCESS 6\n#4 tasks.mul SUCCESS 12\nresult 12\n",
+    ],
+];
+
+/// How a canvas is run.
+#[derive(Clone, Copy, Debug, PartialEq, Eq)]
+pub(crate) enum How {
+    /// By turns, with so many workers.
+    Turns(u32),
+    /// By turns, with steps that suffice.
+    Within,
+    /// On threads, with so many workers.
+    Threads(u32),
+    /// By one worker that is polled by hand.
+    ByHand,
+    /// By turns, with its report written.
+    Report,
+    /// As a text, by turns.
+    Text,
+    /// As a text, on threads.
+    TextThreads,
+}
+
+/// A run that ended early ends as refused where each row that it has is pending or the state of its task.
+fn refused(states: &[Option<Outcome>], rows: &Option<Report>) -> Result<bool, Memory> {
+    match rows {
+        Some(report) => {
+            if are_partial(report.rows.get(), states) {
+                Err(Memory)
+            } else {
+                Ok(false)
+            }
+        }
+        None => Err(Memory),
+    }
+}
+
+fn ended_early(states: &[Option<Outcome>], fault: &RunFault) -> Result<bool, Memory> {
+    match fault {
+        RunFault::Halted {
+            cause: Cause::Memory,
+            rows,
+        } => refused(states, rows),
+        _ => Ok(false),
+    }
+}
+
+/// Whether a run has the states of its canvas.
+fn ended(states: &[Option<Outcome>], ran: Result<Report, RunFault>) -> Result<bool, Memory> {
+    match ran {
+        Ok(report) => Ok(report.rows.get().as_slice() == states),
+        Err(fault) => ended_early(states, &fault),
+    }
+}
+
+fn by_threads<R>(rt: &R, alloc: Global, canvas: &Sample, workers: u32) -> Result<bool, Memory>
+where
+    R: Threads + Wait + RandomSource + AllocGlobal + Sync,
+{
+    let states = canvas.states.get();
+    match run(rt, alloc, &canvas.plan, workers, &OpenGate, &Stop::new()) {
+        Ok((report, _records)) => Ok(report.rows.get().as_slice() == states.as_slice()),
+        Err(fault) => ended_early(states, &fault),
+    }
+}
+
+/// Whether a worker's rows are right, and all there unless it was refused memory.
+fn is_left(canvas: &Sample, left: &Left) -> Result<bool, Memory> {
+    let states = canvas.states.get();
+    match left.record.fault {
+        None => Ok(left.rows.as_slice() == states.as_slice()),
+        Some(Cause::Memory) => {
+            if are_partial(&left.rows, states) {
+                Err(Memory)
+            } else {
+                Ok(false)
+            }
+        }
+        Some(Cause::Stopped) => Ok(false),
+    }
+}
+
+fn by_hand<R: Wait + RandomSource + AllocGlobal>(
+    rt: &R,
+    alloc: Global,
+    canvas: &Sample,
+) -> Result<bool, Memory> {
+    let envelopes = first_envelopes(alloc, &canvas.plan)?;
+    match work(rt, alloc, &canvas.plan, envelopes, u32::MAX) {
+        Some(left) => is_left(canvas, &left),
+        None => Err(Memory),
+    }
+}
+
+/// Whether a text has a report.
+fn reported(
+    states: &[Option<Outcome>],
+    ran: Result<String, TextFault>,
+    report: &str,
+) -> Result<bool, Memory> {
+    match ran {
+        Ok(text) => Ok(text.as_str() == report),
+        Err(TextFault::Memory) => Err(Memory),
+        Err(TextFault::Run(fault)) => ended_early(states, &fault),
+        Err(TextFault::Sig(_)) => Ok(false),
+    }
+}
+
+/// Whether a canvas's states are written as a report, by its plan and by its text.
+fn is_reported(alloc: Global, canvas: &Sample, text: &str, report: &str) -> Result<bool, Memory> {
+    let states = canvas.states.get();
+    match run_turns(alloc, &canvas.plan, 1, &[]) {
+        Ok(found) => {
+            let by_plan = report_text(alloc, &canvas.plan, &found)?;
+            let by_text = rows_text(alloc, text.as_bytes(), &found);
+            let is_same = by_plan.as_str() == report;
+            Ok(reported(states, by_text, report)? && is_same)
+        }
+        Err(fault) => ended_early(states, &fault),
+    }
+}
+
+/// Whether a canvas comes to its states, and its text to its report.
+fn comes_to<R>(
+    rt: &R,
+    alloc: Global,
+    canvas: &Sample,
+    text: &str,
+    report: &str,
+    how: How,
+) -> Result<bool, Memory>
+where
+    R: Threads + Wait + RandomSource + AllocGlobal + Sync,
+{
+    let states = canvas.states.get();
+    match how {
+        How::Turns(workers) => ended(states, run_turns(alloc, &canvas.plan, workers, &[])),
+        How::Within => ended(states, run_turns_within(alloc, &canvas.plan, 1, &[], 1_000)),
+        How::Threads(workers) => by_threads(rt, alloc, canvas, workers),
+        How::ByHand => by_hand(rt, alloc, canvas),
+        How::Report => is_reported(alloc, canvas, text, report),
+        How::Text => reported(states, run_text(alloc, text.as_bytes(), 1, &[]), report),
+        How::TextThreads => {
+            let ran = run_text_threads(rt, alloc, text.as_bytes(), 2, &OpenGate, &Stop::new());
+            reported(states, ran, report)
+        }
+    }
+}
+
+pub(crate) fn runs<R>(rt: &R, alloc: Global, canvas: &Canvas, how: How) -> Result<bool, Memory>
+where
+    R: Threads + Wait + RandomSource + AllocGlobal + Sync,
+{
+    let [frame, calls, short] = *canvas;
+    let text = spelled::canvas(alloc, frame, calls)?;
+    let report = spelled::report(alloc, short)?;
+    match sample_of_text(alloc, &text) {
+        Some(canvas) => comes_to(rt, alloc, &canvas, &text, &report, how),
+        None => Err(Memory),
+    }
+}
+
+/// A list of turns.
+pub(crate) fn turns(alloc: Global) -> Result<bool, Memory> {
+    match read_turns(alloc, "1,2,2,2,1,1,2,1,2", 2) {
+        Ok(turns) => Ok(turns.as_slice() == [1, 2, 2, 2, 1, 1, 2, 1, 2].as_slice()),
+        Err(
+            RunFault::Halted {
+                cause: Cause::Memory,
+                rows: None,
+            },
+        ) => Err(Memory),
+        Err(_) => Ok(false),
+    }
+}

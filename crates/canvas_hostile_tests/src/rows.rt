@@ -1,0 +1,34 @@
+//! Canvases with the states that their tasks come to.
+
+use canvas_message::{Envelope, encode, first_messages};
+use canvas_rewrite::Plan;
+use canvas_samples::sample::{Sample, sample_of_text};
+use canvas_samples::worked;
+use canvas_task::{Memory, Outcome};
+use std::alloc::Global;
+
+/// A chord with a member that fails, and whose body has an error callback.
+pub(crate) fn a_failed_member(alloc: Global) -> Option<Sample> {
+    match worked::a_failed_member(alloc) {
+        Ok(canvas) => sample_of_text(alloc, &canvas.text),
+        Err(_) => None,
+    }
+}
+
+/// Whether each row is pending, or the state of its task.
+pub(crate) fn are_partial(rows: &[Option<Outcome>], states: &[Option<Outcome>]) -> bool {
+    rows.len() == states.len()
+        && rows
+            .iter()
+            .zip(states)
+            .all(|(row, state)| row.is_none() || row == state)
+}
+
+/// The envelopes of the messages that a plan begins with.
+pub(crate) fn first_envelopes(alloc: Global, plan: &Plan) -> Result<Vec<Envelope>, Memory> {
+    let mut envelopes = Vec::new(alloc);
+    for message in first_messages(alloc, plan)? {
+        envelopes.push(encode(alloc, &message)?)?;
+    }
+    Ok(envelopes)
+}

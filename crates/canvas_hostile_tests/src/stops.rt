@@ -1,0 +1,166 @@
+//! Stops: of one worker before each of its polls, and of runs of texts on threads.
+
+use crate::by_hand::{Left, work};
+use crate::rows::{a_failed_member, are_partial, first_envelopes};
+use canvas_engine::{RunFault, TextFault, run_text_threads};
+use canvas_samples::sample::{Sample, sample_of_text};
+use canvas_samples::worked;
+use canvas_task::{Outcome, TaskNo};
+use canvas_worker::{Cause, Gate, OpenGate, Stop};
+use std::alloc::{AllocGlobal, Global};
+use std::random::RandomSource;
+use std::sync::Wait;
+use std::test::Fail;
+use std::thread::Threads;
+
+/// More polls than the worker takes.
+const MOST: u32 = 100;
+
+/// What a worker leaves of a canvas that is stopped after so many polls.
+fn left_after<R: Wait + RandomSource + AllocGlobal>(
+    rt: &R,
+    alloc: Global,
+    canvas: &Sample,
+    polls: u32,
+) -> Option<Left> {
+    match first_envelopes(alloc, &canvas.plan) {
+        Ok(envelopes) => work(rt, alloc, &canvas.plan, envelopes, polls),
+        Err(_) => None,
+    }
+}
+
+/// Whether a worker ended at the poll behind its stop, with rows that are pending or the canvas's.
+fn is_stopped(left: &Left, canvas: &Sample, before: u32) -> bool {
+    left.polls == before.saturating_add(1)
+        && left.record.fault == Some(Cause::Stopped)
+        && are_partial(&left.rows, canvas.states.get())
+}
+
+/// Whether a worker ended by itself, no later than its stop, with the canvas's rows.
+fn is_ended(left: &Left, canvas: &Sample, before: u32) -> bool {
+    left.polls <= before
+        && left.record.fault.is_none()
+        && left.rows.as_slice() == canvas.states.get().as_slice()
+}
+
+/// How many polls a worker takes, where a stop before any of them ends it at that poll.
+fn polls_to_stop<R: Wait + RandomSource + AllocGlobal>(
+    rt: &R,
+    alloc: Global,
+    canvas: &Sample,
+) -> Option<u32> {
+    for before in 0..MOST {
+        match left_after(rt, alloc, canvas, before) {
+            Some(left) => {
+                if is_ended(&left, canvas, before) {
+                    return Some(before);
+                }
+                if !is_stopped(&left, canvas, before) {
+                    return None;
+                }
+            }
+            None => return None,
+        }
+    }
+    None
+}
+
+/// Three asks for each of the three members, three reads, the body's store and its callback's publish, two asks for the callback, a take
+/// that finds nothing and the rest: eighteen, each a poll of its own.
+#[test]
+fn stopped_before_each_poll(rt: HostRuntime) -> Result<(), Fail> {
+    let canvas = a_failed_member(rt.alloc()).ok_or("no canvas")?;
+    let polls = polls_to_stop(&rt, rt.alloc(), &canvas);
+    assert!(rt; polls.is_some_and(|polls| polls >= 18), "{polls:?}");
+    Ok(())
+}
+
+// ---- texts
+
+/// Asks the stop at its first call, and lets every worker go on.
+#[derive(Drop)]
+struct Stopping<'a> {
+    stop: &'a Stop,
+}
+
+impl Gate for Stopping<'_> {
+    fn go(&self, _worker: u32, _task: TaskNo) -> bool {
+        self.stop.ask();
+        true
+    }
+}
+
+/// How many rows a stopped run has, where each is the state of its task. None of a run that ended otherwise.
+fn rows_of_stopped(fault: &RunFault, states: &[Option<Outcome>]) -> Option<usize> {
+    match fault {
+        RunFault::Halted {
+            cause: Cause::Stopped,
+            rows: Some(report),
+        } => {
+            if are_partial(report.rows.get(), states) {
+                Some(stored(report.rows.get()))
+            } else {
+                None
+            }
+        }
+        _ => None,
+    }
+}
+
+/// The same of a text's run.
+fn rows_of_text<R, G>(
+    rt: &R,
+    alloc: Global,
+    text: &str,
+    workers: u32,
+    gate: &G,
+    stop: &Stop,
+) -> Option<usize>
+where
+    R: Threads + Wait + RandomSource + AllocGlobal + Sync,
+    G: Gate + Sync,
+{
+    let canvas = sample_of_text(alloc, text)?;
+    match run_text_threads(rt, alloc, text.as_bytes(), workers, gate, stop) {
+        Err(TextFault::Run(fault)) => rows_of_stopped(&fault, canvas.states.get()),
+        _ => None,
+    }
+}
+
+/// How many rows aren't pending.
+fn stored(rows: &[Option<Outcome>]) -> usize {
+    rows.iter().filter(|row| row.is_some()).count()
+}
+
+fn rows_stopped_before<R>(rt: &R, alloc: Global, text: &str, workers: u32) -> Option<usize>
+where
+    R: Threads + Wait + RandomSource + AllocGlobal + Sync,
+{
+    let stop = Stop::new();
+    stop.ask();
+    rows_of_text(rt, alloc, text, workers, &OpenGate, &stop)
+}
+
+fn rows_stopped_by_gate<R>(rt: &R, alloc: Global, text: &str, workers: u32) -> Option<usize>
+where
+    R: Threads + Wait + RandomSource + AllocGlobal + Sync,
+{
+    let stop = Stop::new();
+    rows_of_text(rt, alloc, text, workers, &Stopping { stop: &stop }, &stop)
+}
+
+/// A worker that has asked the gate stores its outcome, and sees the stop then.
+#[test]
+fn texts_that_are_stopped(rt: HostRuntime) -> Result<(), Fail> {
+    let hundred = worked::a_hundred_and_their_sum(rt.alloc())?;
+    for workers in [1, 2, 16] {
+        let rows = rows_stopped_before(&rt, rt.alloc(), &hundred.text, workers);
+        assert_eq!(rt; rows, Some(0), "{workers} workers");
+        let rows = rows_stopped_by_gate(&rt, rt.alloc(), &hundred.text, workers);
+        assert!(rt;
+            rows.is_some_and(|rows| rows >= 1 && rows <= workers as usize),
+            "{workers} workers: {rows:?}"
+        );
+    }
+    Ok(())
+}
