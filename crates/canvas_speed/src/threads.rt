@@ -14,8 +14,8 @@ use std::sync::Wait;
 use std::thread::Threads;
 use std::time::Instant;
 
-/// Of so many runs the shortest counts.
-const RUNS: u32 = 5;
+/// Of so many runs of each kind, made by turns, the shortest counts.
+const RUNS: u32 = 20;
 
 const MANY: u32 = 4;
 
@@ -32,25 +32,6 @@ where
     Ok(start.elapsed(rt)?.as_nanos())
 }
 
-fn shortest_threading<R>(rt: &R, alloc: Global, plan: &Plan, workers: u32) -> Result<u128>
-where
-    R: Clock + Threads + Wait + RandomSource + AllocGlobal + Sync,
-{
-    let mut shortest = threading(rt, alloc, plan, workers)?;
-    for _ in 1..RUNS {
-        shortest = shortest.min(threading(rt, alloc, plan, workers)?);
-    }
-    Ok(shortest)
-}
-
-fn shortest_running(clock: &impl Clock, alloc: Global, plan: &Plan) -> Result<u128> {
-    let mut shortest = running(clock, alloc, plan)?;
-    for _ in 1..RUNS {
-        shortest = shortest.min(running(clock, alloc, plan)?);
-    }
-    Ok(shortest)
-}
-
 /// The speed of a canvas's runs on threads.
 #[derive(Clone, Copy)]
 pub(crate) struct ThreadSpeed {
@@ -65,9 +46,12 @@ where
     R: Clock + Threads + Wait + RandomSource + AllocGlobal + Sync,
 {
     let plan = plan_of(alloc, text)?;
-    let turns = shortest_running(rt, alloc, &plan)?;
-    let one = shortest_threading(rt, alloc, &plan, 1)?;
-    let many = shortest_threading(rt, alloc, &plan, MANY)?;
+    let (mut turns, mut one, mut many) = (u128::MAX, u128::MAX, u128::MAX);
+    for _ in 0..RUNS {
+        turns = turns.min(running(rt, alloc, &plan)?);
+        one = one.min(threading(rt, alloc, &plan, 1)?);
+        many = many.min(threading(rt, alloc, &plan, MANY)?);
+    }
     Ok(ThreadSpeed {
         one: hundredths(one, turns),
         many: hundredths(one, many),
