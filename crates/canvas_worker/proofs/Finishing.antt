@@ -1,9 +1,8 @@
 -- What a new worker's record says in words of the worker that the law of runs speaks of.
-use Rattle.std.proofs.Common.{◌≡◌, ◌∙◌, ℕ, List, [], ◌∷◌, None, refl, sym, ap, subst, arith}
+use Rattle.std.proofs.Common.{◌≡◌, ◌∙◌, List, [], ◌∷◌, refl, sym, subst, arith}
 use Rattle.canvas_task.specs.declared.outcome.Outcome.{Outcome}
 use Rattle.canvas_semantics.specs.Line.{Line}
 use Rattle.canvas_rewrite.specs.FrozenView.{Load}
-use Rattle.canvas_rewrite.specs.Planned.{IsPlan}
 use Rattle.canvas_message.specs.Content.{Content}
 use Rattle.canvas_backend.specs.Roster.{Roster, roster_of}
 use Rattle.canvas_broker.specs.Passes.{Empties}
@@ -13,11 +12,9 @@ use Rattle.canvas_runs.specs.Worker.{worker, working}
 use Rattle.canvas_worker.specs.Asks.{Asked, Answer}
 use Rattle.canvas_worker.specs.Cores.{GoTogether}
 use Rattle.canvas_worker.specs.Enveloped.{enveloped}
-use Rattle.canvas_worker.specs.Finished.{Finished, WorkersStart, WorkersFinish}
+use Rattle.canvas_worker.specs.Finished.{WorkersStart, WorkersFinish}
 use Rattle.canvas_worker.specs.Progress.{Progress, Worked, starting}
 use Rattle.canvas_worker.specs.Standing.{Left}
-use Rattle.canvas_worker.specs.Work.{working_begun, Ready, TellsOf, IsRecordOf}
-use Rattle.canvas_worker.specs.declared.record.Record.{Record}
 use Rattle.canvas_worker.proofs.CoreLaw.{cores_are_workers}
 
 -- a worker needs no first messages

@@ -1,5 +1,5 @@
 -- Which ask of the machine is the one that is shown, and what a core that was told leaves.
-use Rattle.std.proofs.Common.{◌≡◌, ◌∙◌, ℕ, ◌+◌, min, Bool, true, false, List, [], ◌∷◌, Option, Some, None, refl, sym, ap, ap₂, subst, arith}
+use Rattle.std.proofs.Common.{◌≡◌, ◌∙◌, ℕ, ◌+◌, min, false, List, [], ◌∷◌, Option, Some, None, refl, sym, ap, ap₂, subst}
 use Rattle.std.specs.Prelude.{if◌then◌else◌, slice_get}
 use Rattle.canvas_task.specs.declared.outcome.Outcome.{Outcome}
 use Rattle.canvas_message.specs.Content.{Content}

@@ -1,11 +1,10 @@
-use Rattle.std.proofs.Common.{rules, ◌≡◌, refl, sym, subst, ap, ◌∙◌, true, false, Some, None, [], ◌∷◌, ◌++◌, ◌≤◌, ℕ, arith}
+use Rattle.std.proofs.Common.{rules, ◌≡◌, refl, subst, ◌∙◌, ◌≤◌}
 use Rattle.canvas_runs.specs.Core as C
 use Rattle.canvas_worker.specs.steps.Held.{held_in}
 use Rattle.canvas_worker.specs.Standing.{asked}
 use Rattle.canvas_worker.specs.Work.{Work}
 use Rattle.canvas_worker.proofs.Resting.{busy_never}
-use Rattle.canvas_worker.proofs.Turns.{unchanged, one_more}
-use Rattle.std.specs.Prelude.{slice_get}
+use Rattle.canvas_worker.proofs.Turns.{unchanged}
 use Rattle.canvas_backend.specs.Roster.{members}
 use Rattle.canvas_worker.specs.Seats.{LetsAsk}
 use Rattle.canvas_worker.proofs.Asking.{may_ask}

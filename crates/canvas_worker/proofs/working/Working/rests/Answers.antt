@@ -1,9 +1,9 @@
-use Rattle.std.proofs.Common.{rules, ◌≡◌, refl, sym, subst, ap, ◌∙◌, true, false, Some, None, [], ◌∷◌, ◌++◌, ◌≤◌, ℕ, arith}
+use Rattle.std.proofs.Common.{rules, ◌≡◌, refl, true, false}
 use Rattle.canvas_runs.specs.Core as C
 use Rattle.canvas_worker.specs.Standing.{asked}
 use Rattle.canvas_worker.specs.Work.{Work}
 use Rattle.canvas_worker.proofs.Resting.{busy_never}
-use Rattle.canvas_worker.proofs.Turns.{unchanged, one_more}
+use Rattle.canvas_worker.proofs.Turns.{unchanged}
 use Rattle.canvas_worker.proofs.Shown.{is_rest}
 use Rattle.canvas_worker.proofs.Telling.{asked_well, asked_badly, rests_well}
 use Rattle.canvas_worker.proofs.working.Working.rests.Goals as goal

@@ -1,4 +1,4 @@
-use Rattle.std.proofs.Common.{rules, ◌≡◌, refl, sym, subst, ap, ◌∙◌, true, false, Some, None, [], ◌∷◌, ◌++◌, ◌≤◌, ℕ, arith}
+use Rattle.std.proofs.Common.{rules, ◌≡◌, refl, subst, true, false, ◌≤◌}
 use Rattle.canvas_runs.specs.Core as C
 use Rattle.canvas_worker.specs.steps.Held.{held_in}
 use Rattle.canvas_worker.specs.Standing.{asked}
