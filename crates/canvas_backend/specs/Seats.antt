@@ -2,7 +2,7 @@
 --     Desk, Seat          a backend, and a seat
 --     as_caller s         the seat as a caller
 --     Stands, Parted, Joined, Adds, LeavesOne    as they are said of callers
-use Rattle.std.specs.Prelude.{ℕ, List}
+use Rattle.std.specs.Prelude.{ℕ}
 use Rattle.atomic_table.specs.Seated.{TableId}
 use Rattle.canvas_history.specs.Callers as callers
 use Rattle.canvas_history.specs.Callers.{Caller, owing_none}

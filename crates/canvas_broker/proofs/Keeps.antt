@@ -9,7 +9,7 @@ use Rattle.crossbeam_queue.specs.Fifo.{Pushes, Pops, Forks, Merges, Learns}
 use Rattle.crossbeam_queue.proofs.Lists.{at_set, set_again}
 use Rattle.canvas_history.specs.History.{split, join, calls, among, by_of, live_after, live_from, live, named, state_from, Allowed, NoneBy, Since, Sole}
 use Rattle.canvas_history.proofs.Histories.{In, in_cases, in_here, in_left, in_right, in_append, live_append, named_append, live_named, state_append, legal_append, legal_left, legal_right, was_there}
-use Rattle.canvas_history.specs.Callers.{told, Owes, Adds, Follows}
+use Rattle.canvas_history.specs.Callers.{told, Owes, Follows}
 use Rattle.canvas_history.proofs.CallerLaws.{owing}
 use Rattle.canvas_broker.specs.Broker.{QueueCall, publish, take, QueueEntry, answer, next, May, IsLegal, queue_of}
 use Rattle.canvas_broker.specs.Passes.{Knowledge}

@@ -1,9 +1,9 @@
 -- What follows from the clauses of calls, for any object: of a caller's own entries, of callers just made, and of who is live.
 use Rattle.std.proofs.Common.{◌≡◌, ℕ, false, List, [], ◌∷◌, ◌++◌, ◌==◌, refl, sym, ap, ◌∙◌, subst, append_assoc, append-nil, ⊎_elim}
 use Rattle.std.proofs.lemmas.Bool.{false≢true, eq-eqb, ne_eqb}
-use Rattle.canvas_history.specs.Callers.{Caller, told, Adds, LeavesOne, Owes, Follows, StandTogether, Parted, IsHistory}
+use Rattle.canvas_history.specs.Callers.{Caller, told, Adds, LeavesOne, Owes, Follows, Parted, IsHistory}
 use Rattle.canvas_history.specs.History.{Entry, split, join, by_of, named, made_by, Allowed, Legal}
-use Rattle.canvas_history.proofs.Histories.{In, in_here, made_append, made_here, made_off, made_none, made_since, fresh_at, was_named, all_joined, legal_right}
+use Rattle.canvas_history.proofs.Histories.{In, made_append, made_here, made_off, made_none, made_since, fresh_at, was_named, all_joined, legal_right}
 
 module _ {C R : Type 0} where
   -- entries by p itself

@@ -1,5 +1,5 @@
 -- How calls of the queue, entries of its histories, and what a pass knows are coded, for the ghost fields that hold them.
-use Rattle.std.specs.Prelude.{◌≡◌, List, Option, ◌⊎◌}
+use Rattle.std.specs.Prelude.{◌≡◌, ◌⊎◌}
 use Rattle.std.specs.Coded.{Coded, code_by, coded⊎, coded_option}
 use base.Stored.{coded_unit}
 use mathlib.Core.Logic.{inl, inr}

@@ -3,7 +3,7 @@ use Rattle.std.specs.Prelude.{◌≡◌, ◌==◌, ℕ, ◌<◌, ◌≤◌, true
 use mathlib.Core.Option.{some}
 use lib.ListN.{get_elem?}
 use Rattle.canvas_history.specs.History.{split, join, calls, among, without, live, named, NoneBy}
-use Rattle.canvas_history.specs.Callers.{the_object, told, Adds, Owes}
+use Rattle.canvas_history.specs.Callers.{the_object, Adds, Owes}
 use Rattle.canvas_broker.specs.Broker.{publish, take, QueueEntry, IsLegal, queue_of}
 use Rattle.canvas_broker.specs.Passes.{Knowledge, Stands, CouldStand, Took, IsHistory}
 use Rattle.canvas_broker.specs.declared.view.View.{View}

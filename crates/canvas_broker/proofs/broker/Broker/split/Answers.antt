@@ -1,10 +1,10 @@
-use Rattle.std.proofs.Common.{◌≡◌, ◌∷◌, [], ℕ, refl, sym, ◌∙◌, subst, ap, None}
+use Rattle.std.proofs.Common.{◌≡◌, ◌∷◌, [], ℕ, refl, sym, ◌∙◌, subst, ap}
 use Rattle.canvas_history.specs.Callers.{Adds}
 use Rattle.canvas_history.specs.History.{split, made_by}
 use Rattle.canvas_history.proofs.CallerLaws.{made_fresh}
 use Rattle.canvas_message.specs.declared.envelope.Envelope.{Envelope}
 use Rattle.canvas_broker.specs.Broker.{answer, next, May}
-use Rattle.canvas_broker.specs.Passes.{Knowledge, Pass, pass_of}
+use Rattle.canvas_broker.specs.Passes.{Knowledge, Pass}
 use Rattle.canvas_broker.specs.declared.view.View.{View}
 use Rattle.canvas_broker.proofs.Keeps.{splits, forks}
 use Rattle.canvas_broker.proofs.Made.{stands_own, child_is}
