@@ -1,5 +1,5 @@
 -- Workers' places, from what loops and threads tell of each to the list of the run's workers.
-use Rattle.std.proofs.Common.{◌≡◌, ◌∙◌, ℕ, suc, ◌+◌, ◌<◌, List, [], ◌∷◌, ◌++◌, length, map, All, slice_index_or, refl, sym, ap, subst, arith}
+use Rattle.std.proofs.Common.{◌≡◌, ◌∙◌, ℕ, suc, ◌+◌, List, [], ◌∷◌, ◌++◌, length, map, All, refl, sym, ap, subst, arith}
 use Rattle.std.proofs.lemmas.List.Elements.{All-head, All-tail}
 use Rattle.std.specs.Prelude.{None}
 use Rattle.std.specs.Global.{Global}
@@ -9,17 +9,15 @@ use Rattle.canvas_task.specs.declared.outcome.Outcome.{Outcome}
 use Rattle.canvas_message.specs.declared.envelope.Envelope.{Envelope}
 use Rattle.canvas_backend.specs.Seats as seats
 use Rattle.canvas_backend.specs.Roster.{Roster}
-use Rattle.canvas_broker.specs.Passes as passes
 use Rattle.canvas_history.specs.Callers.{Owes}
 use Rattle.canvas_runs.specs.Calls.{BrokerCall, BackendCall}
 use Rattle.canvas_runs.specs.Crew.{Mate, Splits, Joins, SplitSeats, JoinSeats}
-use Rattle.canvas_runs.specs.Following.{Pass, Seat, Makes, Serves, Followed, begins, IsDone as IsEnded}
+use Rattle.canvas_runs.specs.Following.{Pass, Seat, Makes, Serves, IsDone as IsEnded}
 use Rattle.canvas_runs.specs.Lists.{Each}
 use Rattle.canvas_worker.specs.Finished.{Finished}
 use Rattle.canvas_worker.specs.declared.record.Record.{Record}
 use Rattle.canvas_engine.specs.steps.Crews.{numbered_counts, tallies_from}
 use Rattle.canvas_engine.specs.steps.Slots.{HasHands, IsReadySlot, IsSplitOff, SplitsOff, LeavesPost, RanSlot, AllRan, LeftARecord, IsWell, IsPostOf, AreOf, TakesIn, tally_in}
-use Rattle.canvas_engine.specs.declared.records.Tally.{Tally}
 use Rattle.canvas_engine.specs.declared.slot.Post.{Post}
 use Rattle.canvas_engine.specs.declared.slot.Post.TheVariants.{Ready, Done, Lost}
 use Rattle.canvas_engine.specs.declared.slot.Slot.{Slot}

@@ -18,8 +18,7 @@ use Rattle.canvas_backend.specs.Backend.{Log}
 use Rattle.canvas_backend.specs.Seats.{Desk}
 use Rattle.canvas_backend.specs.Roster.{Roster, roster_of}
 use Rattle.canvas_broker.specs.Broker.{QueueEntry as Entries}
-use Rattle.canvas_broker.specs.Passes.{Empties}
-use Rattle.canvas_runs.specs.Calls.{BackendCall, follows_all}
+use Rattle.canvas_runs.specs.Calls.{follows_all}
 use Rattle.canvas_runs.specs.Callers.{broker_calls_seen}
 use Rattle.canvas_runs.specs.Crew.{Mate, Ran, EndedWell, OwnTally, first_pass, first_seat}
 use Rattle.canvas_runs.specs.Following.{Pass, Seat, Makes, Serves, Working, begins, IsDone, Followed}
@@ -27,8 +26,8 @@ use Rattle.canvas_runs.specs.Lists.{Each}
 use Rattle.canvas_runs.specs.Rows.{reads_from, RanTo, RanWell}
 use Rattle.canvas_semantics.specs.States.{EachMay}
 use Rattle.canvas_runs.specs.Run.{IsRead, published_all}
-use Rattle.canvas_runs.specs.Tally.{Tally as Counts, CountsMore, EachCounts, greatest_count, none_yet}
-use Rattle.canvas_runs.specs.Worker.{sealed, worker}
+use Rattle.canvas_runs.specs.Tally.{Tally as Counts, EachCounts, greatest_count}
+use Rattle.canvas_runs.specs.Worker.{sealed}
 use Rattle.canvas_runs.proofs.Causes.{by_cause, completed_once, by_its_cause}
 use Rattle.canvas_runs.proofs.FirstLaw.{first_part}
 use Rattle.canvas_runs.proofs.FromCrew.{passes, seats, the_run, the_closed}
@@ -38,7 +37,7 @@ use Rattle.canvas_worker.specs.Finished.{Finished}
 use Rattle.canvas_worker.specs.declared.record.Record.{Record}
 use Rattle.canvas_worker.specs.declared.cause.Cause.{Cause}
 use Rattle.canvas_worker.specs.declared.cause.Cause.TheVariants.{Memory, Stopped}
-use Rattle.canvas_engine.specs.Correct.{AreWorkers, IsRun, IsThreadFault, AreTallies, counts_of}
+use Rattle.canvas_engine.specs.Correct.{AreWorkers, IsRun, IsThreadFault, AreTallies}
 use Rattle.canvas_engine.specs.steps.Crews.{Crew, IsStart, IsWellGathered, tallies_from}
 use Rattle.canvas_engine.specs.steps.Slots.{AllRan, IsWell, TakesIn, nothing_counted, tally_in}
 use Rattle.canvas_engine.specs.declared.running.Start.{Start}

@@ -1,20 +1,18 @@
 -- Frozen signatures are written as values that are read again as they were written, three levels of JSON each.
-use Rattle.std.proofs.Common.{◌≡◌, ℕ, suc, ◌≤◌, ◌<◌, ◌^◌, ◌*◌, ◌+◌, max, pos, List, [], ◌∷◌, Bool, true, false, Some, None, Option, nat_cmp, Less, Greater, refl, sym, ap, subst, ◌∙◌, arith}
+use Rattle.std.proofs.Common.{◌≡◌, ℕ, ◌≤◌, ◌<◌, ◌^◌, ◌*◌, ◌+◌, max, List, Bool, true, false, Some, None, Option, refl, arith}
 use Rattle.std.specs.Prelude.{codes, ◌&&◌, nat_lt, nat_le, not}
-use Rattle.std.specs.Cmp.Lexicographic.{slice_cmp}
 use Rattle.std.proofs.lemmas.Bool.{leb-true}
 use Rattle.serde_json.specs.Data.{Data, null, boolean, number, string, array, object, Items, no_items, item, Members, no_members, member, depth, items_depth, members_depth}
-use Rattle.canvas_sig.specs.steps.Clean.{IsWholeNumber, IsAbove, behind_members, IsClean, AreClean, MembersClean}
+use Rattle.canvas_sig.specs.steps.Clean.{IsAbove, behind_members, IsClean, AreClean, MembersClean}
 use Rattle.canvas_semantics.specs.Tree.{Call}
-use Rattle.canvas_sig.proofs.FittingCalls.{CallFits}
 use Rattle.canvas_sig.specs.Writing.{args_wire, kwargs_wire, member_unless_empty, tasks_member, chord_members}
 use Rattle.canvas_sig.proofs.CleanWire.{args_clean, above_behind, kwargs_clean, all_above, args_depth, kwargs_depth}
 use Rattle.canvas_sig.proofs.ComposedLemmas.{both}
 use Rattle.canvas_semantics.specs.Line.{in_group}
 use Rattle.canvas_semantics.specs.PlacedLine.{PTask, p_task, PTasks, no_p_tasks, and_p_task, PPlace, p_nowhere, p_group, p_chord, PLine, p_stop, p_step, p_group_end, p_chord_end, PLines, no_p_lines, and_p_line, strip}
-use Rattle.canvas_message.specs.Fits.{is_number, size_ok, task_ok, tasks_ok, place_ok, line_ok, members_ok, how_many, task_reach, tasks_reach, place_reach, line_reach, greatest_reach, members_reach}
-use Rattle.canvas_message.specs.Wire.{task_id, group_id, place_id, member_unless_null, frozen, task_options, call_wire, chain_wire, group_options, group_wire, chord_wire, task_wire, tasks_wire, carried_wire, line_wire, elements_wire, members_wire}
-use Rattle.canvas_message.proofs.RoundTrip.{task_parts, Parts, Chord, chord_parts}
+use Rattle.canvas_message.specs.Fits.{is_number, size_ok, task_ok, tasks_ok, place_ok, line_ok, members_ok, task_reach, tasks_reach, place_reach, line_reach, greatest_reach, members_reach}
+use Rattle.canvas_message.specs.Wire.{task_id, place_id, member_unless_null, frozen, task_options, call_wire, chain_wire, group_options, group_wire, chord_wire, task_wire, tasks_wire, carried_wire, line_wire, elements_wire, members_wire}
+use Rattle.canvas_message.proofs.RoundTrip.{task_parts, chord_parts}
 
 -- ---- optional members, behind those before
 

@@ -1,5 +1,5 @@
 -- The effect of the end of a task, and of that of a header's members, by the walks.
-use Rattle.std.proofs.Common.{◌≡◌, ◌∙◌, ℕ, Bool, true, false, List, [], ◌∷◌, ◌++◌, map, length, Option, Some, None, option_map, refl, sym, ap, ap₂, subst, append-nil, rules, All}
+use Rattle.std.proofs.Common.{◌≡◌, ◌∙◌, ℕ, Bool, true, false, List, [], ◌∷◌, ◌++◌, map, Option, Some, None, refl, sym, ap, ap₂, append-nil, rules, All}
 use Rattle.std.specs.List.{list_all}
 use Rattle.std.proofs.lemmas.List.Elements.{All-head, All-tail}
 use Rattle.canvas_task.specs.Numbers.{in_range}
@@ -12,18 +12,17 @@ use Rattle.canvas_task.specs.declared.outcome.Outcome.{Outcome}
 use Rattle.canvas_task.specs.declared.outcome.Outcome.TheVariants.{Success, Failure}
 use Rattle.canvas_sig.proofs.ComposedLemmas.{both}
 use Rattle.canvas_semantics.specs.Evaluation as eval
-use Rattle.canvas_semantics.specs.PlacedLine.{PTask, p_task, PTasks, PPlace, p_nowhere, p_group, p_chord, PLine, p_stop, p_step, p_group_end, p_chord_end, PLines, no_p_lines, and_p_line}
-use Rattle.canvas_rewrite.specs.FrozenView.{Load, p_tasks_of, p_task_view, p_line_view}
+use Rattle.canvas_semantics.specs.PlacedLine.{PTask, p_task, PPlace, p_nowhere, p_group, p_chord, PLine, p_stop, p_step, p_group_end, p_chord_end, PLines, no_p_lines, and_p_line}
+use Rattle.canvas_rewrite.specs.FrozenView.{p_task_view, p_line_view}
 use Rattle.canvas_rewrite.specs.declared.frozen.Carried as block
 use Rattle.canvas_rewrite.specs.declared.frozen.Carried.{Carried, out-Carried}
 use Rattle.canvas_rewrite.specs.declared.frozen.FrozenTask.{FrozenTask, out-FrozenTask}
-use Rattle.canvas_message.specs.Carrying.{is_whole, callbacks_ok, place_stands, carried_ok}
+use Rattle.canvas_message.specs.Carrying.{is_whole, place_stands, carried_ok}
 use Rattle.canvas_message.specs.Content.{Content, line, number_of, links_of, errbacks_of, place_of, call_of}
-use Rattle.canvas_message.specs.Effects.{Jobs, Effect, Part, message, callbacks, called, part_of, enter, enter_all, when_empty, effect_of, stores_in, messages_in, part_in, after, body_after, header, before_input}
+use Rattle.canvas_message.specs.Effects.{Jobs, Effect, Part, message, callbacks, part_of, enter, enter_all, effect_of, stores_in, messages_in, part_in, after, body_after, before_input}
 use Rattle.canvas_message.specs.steps.Elements.{carried_view}
-use Rattle.canvas_message.specs.Fits.{parent_ok, task_ok, line_ok, members_ok, line_reach, how_many, size_ok, fits}
-use Rattle.canvas_message.specs.Flowing.{Input, number_input, list_input, id_input, LineFlow, run, skips, raise}
-use Rattle.canvas_message.specs.Job.{store, publish, hand_in}
+use Rattle.canvas_message.specs.Fits.{parent_ok, line_ok, members_ok, line_reach, how_many, fits}
+use Rattle.canvas_message.specs.Flowing.{Input, number_input, list_input, id_input, run, skips, raise}
 use Rattle.canvas_message.specs.Ordered.{in_order}
 use Rattle.canvas_message.specs.steps.Parts.{is_stop}
 use Rattle.canvas_message.specs.Placing.{last_at, placed, end_place, last_task}
@@ -31,7 +30,7 @@ use Rattle.canvas_message.specs.View.{place_seen}
 use Rattle.canvas_message.specs.steps.Walks.{last_of, started, skipped, raised_stores, raised_messages, part_at_end, first_failure, successes}
 use Rattle.canvas_message.proofs.Copied.{place_there}
 use Rattle.canvas_message.proofs.Entered.{stores_on, messages_on, part_on, called_stores, called_part, called_messages, place_stores, place_messages, no_part_on, no_store_on, skipped_so, skip_quiet, raised_stores_so, raised_messages_so}
-use Rattle.canvas_message.proofs.Standing.{as_it_stands, Stepped, first_stepped, rest_whole, place_whole, place_last, place_never, whole_ok, member_first, member_others, chord_parts, stands_there}
+use Rattle.canvas_message.proofs.Standing.{as_it_stands, Stepped, first_stepped, rest_whole, place_whole, place_last, place_never, whole_ok, member_first, member_others}
 use Rattle.canvas_message.proofs.Walked.{number_seen, last_number}
 
 -- ---- lines that are started store nothing, and return nothing where they have an element

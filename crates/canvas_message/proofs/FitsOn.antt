@@ -1,10 +1,10 @@
 -- Messages that fit: the first of a line, and the one that follows another on its line.
-use Rattle.std.proofs.Common.{◌≡◌, ℕ, ◌≤◌, ◌<◌, ◌^◌, ◌+◌, max, List, [], ◌∷◌, Bool, true, false, Some, None, Option, refl, sym, ap, ap₂, subst, ◌∙◌, arith, Less}
-use Rattle.std.specs.Prelude.{ℤ, ◌&&◌, not, nat_lt, nat_le, if◌then◌else◌}
+use Rattle.std.proofs.Common.{◌≡◌, ℕ, ◌≤◌, ◌+◌, max, List, [], ◌∷◌, Bool, true, false, Some, Option, refl, ap, subst, arith}
+use Rattle.std.specs.Prelude.{ℤ, ◌&&◌, not, nat_le, if◌then◌else◌}
 use Rattle.std.specs.List.{list_all}
 use Rattle.std.specs.Ordering.{nat_cmp}
 use Rattle.std.specs.Cmp.Lexicographic.{slice_cmp}
-use Rattle.std.proofs.lemmas.Bool.{ltb-true, lt-ltb, leb-true, le-leb}
+use Rattle.std.proofs.lemmas.Bool.{leb-true, le-leb}
 use Rattle.canvas_task.specs.Name.{name_ok}
 use Rattle.canvas_task.specs.Numbers.{in_range}
 use Rattle.canvas_task.specs.declared.arg.Arg.{Arg}
@@ -14,9 +14,9 @@ use Rattle.canvas_semantics.specs.Tree.{Call}
 use Rattle.canvas_task.specs.Entries.{IsBelow, Ascends}
 use Rattle.canvas_sig.proofs.FittingCalls.{NumbersFit, ArgFits, ArgsFit, KwargsFit, CallFits}
 use Rattle.canvas_sig.proofs.ComposedLemmas.{both}
-use Rattle.canvas_semantics.specs.Evaluation.{Flow, num, arguments}
-use Rattle.canvas_semantics.specs.PlacedLine.{PTask, p_task, PTasks, PPlace, PLine, p_stop, p_step, p_group_end, p_chord_end, PLines}
-use Rattle.canvas_message.specs.Content.{Content, line, number_of, call_of}
+use Rattle.canvas_semantics.specs.Evaluation.{num, arguments}
+use Rattle.canvas_semantics.specs.PlacedLine.{PTask, p_task, PLine, p_stop, p_step, p_group_end, p_chord_end}
+use Rattle.canvas_message.specs.Content.{Content, number_of, call_of}
 use Rattle.canvas_message.specs.Fits.{is_number, is_less, is_below, ascends, call_ok, parent_ok, task_ok, tasks_ok, place_ok, line_ok, task_reach, line_reach, greatest_reach, fits}
 
 pub all_true : (a b : Bool) → a ≡ true → b ≡ true → (a && b) ≡ true

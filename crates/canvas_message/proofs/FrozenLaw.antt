@@ -3,13 +3,12 @@ use Rattle.std.proofs.Common.{◌≡◌, ◌∙◌, ℕ, zero, suc, ℤ, pos, Li
 use Rattle.std.proofs.Math.Bool.{or_assoc}
 use Rattle.std.specs.Prelude.{codes, not, ◌&&◌, ◌||◌, if◌then◌else◌, is_some, is_none, unwrap_or}
 use Rattle.std.specs.List.{list_all, list_any}
-use Rattle.serde_json.specs.Data.{Data, null, boolean, number, string, array, object}
+use Rattle.serde_json.specs.Data.{Data, number}
 use Rattle.serde_json.specs.Find.{as_i64}
 use Rattle.canvas_task.specs.declared.arg.Arg.{Arg}
-use Rattle.canvas_task.specs.Numbers.{in_range}
 use Rattle.canvas_sig.specs.Refusals.{named_of, spelled_call}
 use Rattle.canvas_task.specs.Text.{Text}
-use Rattle.canvas_sig.specs.Fields.{field, subtype, option, args, kwargs, tasks, header, body, link, link_error, items, listed, as_list, object_members, contents, is_null, is_list, is_number}
+use Rattle.canvas_sig.specs.Fields.{field, subtype, option, args, kwargs, tasks, header, body, link, link_error, listed, as_list, object_members, contents, is_null, is_list}
 use Rattle.canvas_sig.specs.Answers.{◌>>=◌, ◌or_else◌, fault_if, unless, judged, each}
 use Rattle.canvas_sig.specs.Grammar.{some_or_zero, whole_number, argument_of, arg_reading, named_reading, kind_ok, numbers_ok, args_ok, not_signature, bad_args, fault_as, own_fault, primitive_of}
 use Rattle.canvas_sig.specs.declared.fault.SigFault.{SigFault}

@@ -1,31 +1,25 @@
 -- A message's three texts, as data, are read as the message.
-use Rattle.std.proofs.Common.{◌≡◌, ℕ, zero, suc, ◌≤◌, ◌+◌, max, List, [], ◌∷◌, ◌++◌, map, reverse, Bool, true, false, Some, None, Option, Result, Ok, Err, refl, sym, ap, ap₂, ◌∙◌, arith}
-use Rattle.std.specs.Prelude.{codes, ◌&&◌, ◌==◌, not, nat_le, is_some}
-use Rattle.std.proofs.lemmas.Bool.{leb-true}
+use Rattle.std.proofs.Common.{◌≡◌, ℕ, ◌≤◌, List, [], ◌∷◌, ◌++◌, map, reverse, Bool, true, false, Some, None, Option, Ok, refl, sym, ap, ◌∙◌, arith}
 use Rattle.std.proofs.lemmas.List.{reverse-append, reverse-reverse, append_assoc, append-nil}
-use Rattle.serde_json.specs.Data.{Data, null, array, object, string, Items, no_items, item}
-use Rattle.serde_json.specs.Find.{get}
-use Rattle.serde_json.specs.Read.{max_depth}
-use Rattle.canvas_task.specs.Name.{name_ok}
-use Rattle.canvas_sig.specs.Fields.{field, items, listed, is_list_or_null, is_null}
+use Rattle.serde_json.specs.Data.{Data, array, object, Items, no_items, item}
+use Rattle.canvas_sig.specs.Fields.{items, listed, is_list_or_null}
 use Rattle.canvas_sig.specs.Answers.{each}
 use Rattle.canvas_semantics.specs.Tree.{Call}
 use Rattle.canvas_sig.proofs.FittingCalls.{CallFits}
 use Rattle.canvas_sig.specs.Writing.{args_wire, kwargs_wire}
-use Rattle.canvas_sig.specs.declared.fault.SigFault.{SigFault}
 use Rattle.canvas_sig.proofs.ComposedLemmas.{both}
 use Rattle.canvas_sig.proofs.RoundTrip.{args_back, kwargs_back}
 use Rattle.canvas_semantics.proofs.RowNumbers.{same_number}
-use Rattle.canvas_rewrite.specs.FrozenView.{p_tasks_of, p_steps}
-use Rattle.canvas_semantics.specs.PlacedLine.{PTask, p_task, PTasks, no_p_tasks, and_p_task, PPlace, p_nowhere, p_group, p_chord, PLine, p_stop, p_step, p_group_end, p_chord_end, PLines}
-use Rattle.canvas_message.specs.Content.{Content, line, number_of, call_of, links_of, errbacks_of, place_of}
-use Rattle.canvas_message.specs.Fits.{is_number, size_ok, parent_ok, task_ok, tasks_ok, place_ok, line_ok, task_reach, tasks_reach, place_reach, line_reach, greatest_reach, fits}
-use Rattle.canvas_message.specs.FrozenGrammar.{task_of, group_of, levels}
-use Rattle.canvas_message.specs.steps.FrozenReading.{place_with, link_reading, step_reading, last_reading, line_reading}
-use Rattle.canvas_message.specs.steps.Reading.{◌so◌, must, some_or, refused_as, is_version_2, is_same, correlates, is_group_or_null, ids_ok, id_reading, is_json, parts_of, given_reading, chain_reading, embed_ok, embed_reading, checked, content_of, message_reading}
+use Rattle.canvas_rewrite.specs.FrozenView.{p_steps}
+use Rattle.canvas_semantics.specs.PlacedLine.{PTask, p_task, PTasks, PPlace, PLine, p_stop, p_step, p_group_end, p_chord_end}
+use Rattle.canvas_message.specs.Content.{Content}
+use Rattle.canvas_message.specs.Fits.{parent_ok, task_ok, line_ok, greatest_reach, fits}
+use Rattle.canvas_message.specs.FrozenGrammar.{task_of, levels}
+use Rattle.canvas_message.specs.steps.FrozenReading.{step_reading, last_reading}
+use Rattle.canvas_message.specs.steps.Reading.{must, id_reading, given_reading, chain_reading, embed_reading, checked, content_of, message_reading}
 use Rattle.canvas_message.specs.declared.fault.MessageFault.TheVariants.{BadEmbed}
-use Rattle.canvas_message.specs.Wire.{task_id, parent_id, place_id, task_wire, tasks_wire, carried_wire, group_wire, chord_wire, line_wire, elements_wire, members_wire, onto_reversed, list_or_null, embed_wire, body_wire, headers_wire, properties_wire}
-use Rattle.canvas_message.proofs.RoundTrip.{call_fits, task_id_back, group_id_back, listed_tasks, tasks_listed, task_parts, tasks_back, place_back, step_back, elements_back}
+use Rattle.canvas_message.specs.Wire.{parent_id, place_id, task_wire, tasks_wire, group_wire, chord_wire, line_wire, elements_wire, members_wire, onto_reversed, list_or_null, embed_wire, body_wire, headers_wire, properties_wire}
+use Rattle.canvas_message.proofs.RoundTrip.{task_id_back, listed_tasks, tasks_listed, tasks_back, step_back, elements_back}
 use Rattle.canvas_message.proofs.Wholes.{RestFits, Whole, as_content, whole}
 
 -- ---- what follows on the line

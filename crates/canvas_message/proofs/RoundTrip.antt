@@ -1,34 +1,32 @@
 -- Frozen signatures that are written are read again, as data.
-use Rattle.std.proofs.Common.{◌≡◌, ℕ, zero, suc, ◌≤◌, ◌<◌, ◌^◌, ◌+◌, max, List, [], ◌∷◌, ◌++◌, map, Bool, true, false, Some, None, Option, Result, Ok, Err, nat_cmp, Less, Greater, refl, sym, ap, ap₂, ◌∙◌, arith, pos}
-use Rattle.std.specs.Prelude.{codes, ◌&&◌, not, nat_lt, nat_le, if◌then◌else◌, unwrap_or}
+use Rattle.std.proofs.Common.{◌≡◌, ℕ, zero, suc, ◌≤◌, ◌<◌, ◌^◌, List, [], ◌∷◌, Bool, true, false, Some, None, Option, Result, Ok, nat_cmp, Less, Greater, refl, ap, ◌∙◌, arith, pos}
+use Rattle.std.specs.Prelude.{codes, ◌&&◌, not, nat_lt, nat_le}
 use Rattle.std.specs.Cmp.Lexicographic.{slice_cmp}
 use Rattle.std.specs.declared.cmp.Ordering.{Ordering}
 use Rattle.std.proofs.lemmas.Bool.{ltb-true, lt-ltb, leb-true}
 use Rattle.serde_json.specs.Data.{Data, null, boolean, number, string, array, object, Items, no_items, item, Members, member, no_members}
-use Rattle.serde_json.specs.Find.{of_integer, as_i64, get_member}
-use Rattle.canvas_task.specs.Identifiers.{task_text, group_text, task_named, group_named}
 use Rattle.canvas_task.specs.Name.{name_ok}
 use Rattle.canvas_task.specs.declared.arg.Arg.{Arg}
 use Rattle.canvas_task.proofs.IdentifierLemmas as identifiers
-use Rattle.canvas_sig.specs.Fields.{field, subtype, option, items, entries, as_list, is_null, is_link, listed}
-use Rattle.canvas_sig.specs.ComposedRefusals.{arg_ok, call_numbers_ok}
+use Rattle.canvas_sig.specs.Fields.{field, subtype, option, items, is_null}
+use Rattle.canvas_sig.specs.ComposedRefusals.{call_numbers_ok}
 use Rattle.canvas_sig.specs.Answers.{◌or_else◌, fault_if, each}
-use Rattle.canvas_sig.specs.Grammar.{arg_reading, named_reading, primitive_of, own_fault}
+use Rattle.canvas_sig.specs.Grammar.{primitive_of, own_fault}
 use Rattle.canvas_semantics.specs.Tree.{Call}
 use Rattle.canvas_task.specs.Entries.{IsBelow, Ascends}
-use Rattle.canvas_sig.proofs.FittingCalls.{ArgsFit, KwargsFit, CallFits}
-use Rattle.canvas_sig.specs.Writing.{args_wire, kwargs_wire, number_wire, member_unless_empty, tasks_member, chord_members}
+use Rattle.canvas_sig.proofs.FittingCalls.{CallFits}
+use Rattle.canvas_sig.specs.Writing.{number_wire, member_unless_empty}
 use Rattle.canvas_sig.specs.declared.fault.SigFault.{SigFault}
 use Rattle.canvas_sig.specs.declared.fault.SigFault.TheVariants.{Frozen}
 use Rattle.canvas_sig.proofs.ComposedLemmas.{both, args_fit, kwargs_fit}
 use Rattle.canvas_sig.proofs.RoundTrip.{args_back, args_kinds, args_numbers, kwargs_back, kwargs_kinds, kwargs_numbers, list_or_null, link_ok, as_items}
 use Rattle.canvas_semantics.specs.Line.{in_group}
-use Rattle.canvas_rewrite.specs.FrozenView.{p_tasks_of, p_lines_of, p_steps}
+use Rattle.canvas_rewrite.specs.FrozenView.{p_tasks_of, p_lines_of}
 use Rattle.canvas_semantics.specs.PlacedLine.{PTask, p_task, PTasks, no_p_tasks, and_p_task, PPlace, p_nowhere, p_group, p_chord, PLine, p_stop, p_step, p_group_end, p_chord_end, PLines, no_p_lines, and_p_line, strip}
 use Rattle.canvas_message.specs.Fits.{is_number, size_ok, is_less, is_below, ascends, call_ok, task_ok, tasks_ok, place_ok, line_ok, members_ok, how_many, task_reach, tasks_reach, place_reach, line_reach, greatest_reach, members_reach}
-use Rattle.canvas_message.specs.steps.FrozenReading.{known, size_reading, call_reading, place_with, task_with, task_as, group_with, chord_with, step_as, last_as, elements_with, link_reading, step_reading, last_reading, line_reading}
+use Rattle.canvas_message.specs.steps.FrozenReading.{size_reading, call_reading, place_with, task_with, task_as, step_as, last_as, elements_with, link_reading, step_reading, last_reading, line_reading}
 use Rattle.canvas_message.specs.FrozenGrammar.{task_of, group_of, but_a_place}
-use Rattle.canvas_message.specs.Wire.{task_id, group_id, place_id, member_unless_null, frozen, task_options, call_wire, chain_wire, group_wire, chord_wire, task_wire, tasks_wire, carried_wire, line_wire, elements_wire, members_wire}
+use Rattle.canvas_message.specs.Wire.{task_id, group_id, place_id, member_unless_null, task_options, call_wire, chain_wire, group_wire, chord_wire, task_wire, tasks_wire, carried_wire, line_wire, elements_wire, members_wire}
 
 -- ---- what fits
 

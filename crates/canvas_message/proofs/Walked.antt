@@ -1,26 +1,21 @@
 -- What the walks give of lines, ends and tasks as the code has them.
-use Rattle.std.proofs.Common.{◌≡◌, ◌∙◌, ℕ, zero, suc, Bool, true, false, List, [], ◌∷◌, ◌++◌, map, length, Option, Some, None, Box, Global, refl, sym, ap, ap₂, append_assoc, append-nil, ne_eqb}
-use Rattle.std.specs.Prelude.{◌&&◌, ◌==◌, not}
+use Rattle.std.proofs.Common.{◌≡◌, ◌∙◌, ℕ, suc, Bool, true, false, List, [], ◌∷◌, ◌++◌, map, length, Option, Some, None, Box, Global, refl, sym, ap, append_assoc, append-nil, ne_eqb}
+use Rattle.std.specs.Prelude.{◌==◌, not}
 use Rattle.canvas_task.specs.declared.outcome.Fault.{Fault}
-use Rattle.canvas_task.specs.declared.outcome.Fault.TheVariants as fault
-use Rattle.canvas_task.specs.declared.outcome.Outcome.TheVariants.{Failure}
 use Rattle.canvas_sig.proofs.ComposedLemmas.{both}
-use Rattle.canvas_semantics.specs.Evaluation.{why_of}
 use Rattle.canvas_semantics.specs.Line.{in_group}
-use Rattle.canvas_semantics.specs.PlacedLine.{PTask, p_task, PLine, p_stop, p_step, p_group_end, p_chord_end, PLines, no_p_lines, and_p_line, strip}
-use Rattle.canvas_rewrite.specs.FrozenView.{p_tasks_of, p_steps, p_lines_of, p_task_view, p_line_view, p_end_view}
+use Rattle.canvas_semantics.specs.PlacedLine.{PTask, PLine, p_stop, p_step, p_group_end, p_chord_end, strip}
+use Rattle.canvas_rewrite.specs.FrozenView.{p_tasks_of, p_steps, p_task_view, p_line_view, p_end_view}
 use Rattle.canvas_rewrite.specs.declared.frozen.FrozenTask.{FrozenTask, out-FrozenTask}
 use Rattle.canvas_rewrite.specs.declared.frozen.FrozenLine.{FrozenLine, out-FrozenLine}
 use Rattle.canvas_rewrite.specs.declared.frozen.FrozenEnd.{FrozenEnd, out-FrozenEnd}
-use Rattle.canvas_message.specs.Content.{number_of, errbacks_of, place_of}
-use Rattle.canvas_message.specs.Effects.{callbacks, messages_in, fault_at_end, fault_behind}
-use Rattle.canvas_message.specs.Fits.{line_ok, members_ok, task_ok}
-use Rattle.canvas_message.specs.Flowing.{id_input}
+use Rattle.canvas_message.specs.Content.{number_of, errbacks_of}
+use Rattle.canvas_message.specs.Fits.{line_ok, task_ok}
 use Rattle.canvas_message.specs.steps.Parts.{is_stop}
-use Rattle.canvas_message.specs.Placing.{last_task, end_place}
-use Rattle.canvas_message.specs.steps.Walks.{last_of, skipped, all_skipped, skipped_tasks, raised_stores, all_raised_stores, raised_messages, all_raised_messages, tail_seen, begins_with_task}
+use Rattle.canvas_message.specs.Placing.{last_task}
+use Rattle.canvas_message.specs.steps.Walks.{last_of, skipped, all_skipped, skipped_tasks, tail_seen, begins_with_task}
 use Rattle.canvas_message.proofs.Copied.{line_parts}
-use Rattle.canvas_message.proofs.Entered.{skipped_steps, skipped_group, skipped_chord, raised_step, raised_step_messages, raised_group, raised_group_messages, raised_chord, raised_chord_messages}
+use Rattle.canvas_message.proofs.Entered.{skipped_steps, skipped_group, skipped_chord}
 use Rattle.canvas_message.proofs.FitLemmas.{end_stands, never_stops}
 use Rattle.canvas_message.proofs.Seen.{task_seen, line_none, line_some, line_last, line_empty, end_none, end_some}
 

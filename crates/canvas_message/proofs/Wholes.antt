@@ -1,12 +1,12 @@
 -- What a message that fits says of its parts.
-use Rattle.std.proofs.Common.{◌≡◌, ℕ, ◌≤◌, max, Bool, true, false, Some, None, Option, Result, Ok, refl, arith}
+use Rattle.std.proofs.Common.{◌≡◌, ℕ, ◌≤◌, max, Bool, true, false, Option, Ok, refl, arith}
 use Rattle.std.specs.Prelude.{◌&&◌, not, nat_le}
 use Rattle.std.proofs.lemmas.Bool.{leb-true}
 use Rattle.canvas_semantics.specs.Tree.{Call}
 use Rattle.canvas_sig.proofs.FittingCalls.{CallFits}
 use Rattle.canvas_sig.proofs.ComposedLemmas.{both}
 use Rattle.canvas_sig.specs.steps.Clean.{IsClean}
-use Rattle.canvas_semantics.specs.PlacedLine.{PTask, p_task, PTasks, PPlace, p_nowhere, p_group, p_chord, PLine, p_stop, p_step, p_group_end, p_chord_end, PLines}
+use Rattle.canvas_semantics.specs.PlacedLine.{p_task, PTasks, PPlace, p_nowhere, p_group, p_chord, PLine, p_stop, p_step, p_group_end, p_chord_end}
 use Rattle.canvas_message.specs.Content.{Content}
 use Rattle.canvas_message.specs.Fits.{is_number, size_ok, parent_ok, task_ok, tasks_ok, place_ok, line_ok, task_reach, tasks_reach, place_reach, line_reach, greatest_reach, fits}
 use Rattle.canvas_message.specs.steps.FrozenReading.{place_with, line_reading}

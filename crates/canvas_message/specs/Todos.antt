@@ -1,5 +1,5 @@
 -- What a worker is told to do, as data.
-use Rattle.std.specs.Prelude.{Option, option_map}
+use Rattle.std.specs.Prelude.{option_map}
 use Rattle.canvas_message.specs.Effects.{Effect, Part}
 use Rattle.canvas_message.specs.steps.Elements.{carried_view}
 use Rattle.canvas_message.specs.declared.todo.PartCall.{PartCall}

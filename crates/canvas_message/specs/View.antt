@@ -4,7 +4,7 @@ use Rattle.canvas_task.specs.declared.arg.Arg.{Arg}
 use Rattle.canvas_rewrite.specs.declared.frozen.FrozenTask.{FrozenTask}
 use Rattle.canvas_rewrite.specs.declared.frozen.FrozenLine.{FrozenLine}
 use Rattle.canvas_rewrite.specs.declared.frozen.Place.{Place, fold-Place}
-use Rattle.canvas_rewrite.specs.FrozenView.{Load, place_or, p_tasks_of, p_task_view, p_line_view, carried_step, p_end_step, p_line_step, p_task_step, place_step}
+use Rattle.canvas_rewrite.specs.FrozenView.{Load, p_tasks_of, p_task_view, p_line_view, carried_step, p_end_step, p_line_step, p_task_step, place_step}
 use Rattle.canvas_semantics.specs.PlacedLine.{PTask, p_task, PPlace, p_nowhere, PLine, p_stop}
 use Rattle.canvas_message.specs.Content.{Content}
 use Rattle.canvas_message.specs.declared.draft.Draft.{Draft}

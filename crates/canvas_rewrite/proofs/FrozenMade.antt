@@ -1,9 +1,9 @@
 -- A frozen line, made of frozen parts.
-use Rattle.std.proofs.Common.{◌≡◌, ◌∙◌, ℕ, ◌+◌, List, map, Option, Some, None, Box, Global, refl, sym, ap}
+use Rattle.std.proofs.Common.{◌≡◌, ◌∙◌, ℕ, ◌+◌, List, map, Some, None, Box, Global, sym, ap}
 use Rattle.canvas_sig.specs.View.{task_view}
 use Rattle.canvas_sig.specs.declared.task_sig.TaskSig.{TaskSig}
 use Rattle.canvas_semantics.specs.Line.{number_line}
-use Rattle.canvas_semantics.specs.PlacedLine.{PLine, p_stop, p_group_end, p_chord_end, bare}
+use Rattle.canvas_semantics.specs.PlacedLine.{p_stop, p_group_end, p_chord_end, bare}
 use Rattle.canvas_rewrite.specs.FrozenView.{line_of, end_of, p_steps, p_lines_of, p_task_view, p_line_view, p_end_view}
 use Rattle.canvas_semantics.specs.steps.Numbering.{tasks_from, tasks_in, lines_from, lines_count, lines_group_count}
 use Rattle.canvas_rewrite.specs.declared.line.Line as line

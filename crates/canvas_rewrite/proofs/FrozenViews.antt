@@ -1,24 +1,20 @@
 -- The data of lines and of frozen lines, from that of their parts; and how numbers go through lists.
-use Rattle.std.proofs.Common.{◌≡◌, ◌∙◌, ◌≤◌, ℕ, ◌+◌, Bool, List, [], ◌∷◌, ◌++◌, map, Option, Some, None, Box, Global, refl, sym, ap, rules, arith}
+use Rattle.std.proofs.Common.{◌≡◌, ◌∙◌, ℕ, ◌+◌, Bool, List, [], ◌∷◌, map, Some, None, Box, Global, refl, sym, ap, rules, arith}
 use Rattle.canvas_task.specs.declared.arg.Arg.{Arg}
-use Rattle.canvas_semantics.specs.Tree.{Call, Task, task, Tasks, count_task, count_tasks, number_task, number_tasks}
+use Rattle.canvas_semantics.specs.Tree.{Call, Task, count_task, count_tasks, number_task, number_tasks}
 use Rattle.canvas_sig.specs.View.{task_view, tasks_of}
 use Rattle.canvas_sig.proofs.Views.{task_seen}
 use Rattle.canvas_sig.specs.declared.task_sig.TaskSig.{TaskSig, out-TaskSig}
-use Rattle.canvas_semantics.specs.Line.{Line, stop, step, group_end, chord_end, Lines, no_lines, and_line, count_line, count_lines, line_groups, lines_groups, number_line, number_lines}
-use Rattle.canvas_semantics.specs.PlacedLine.{PTask, p_task, PLine, p_stop, p_group_end, p_chord_end, and_p_task, and_p_line, p_step, bare_task, bare_tasks, bare, all_bare, p_nowhere}
-use Rattle.canvas_rewrite.specs.FrozenView.{steps_onto, lines_of, tail_of, ended, line_step, end_step, line_of, end_of, p_tasks_of, p_steps, p_lines_of, p_tail_of, p_ended, p_task_view, p_line_view, p_end_view}
-use Rattle.canvas_semantics.specs.steps.Numbering.{greatest_number, tasks_from, tasks_in, lines_from, lines_count, lines_group_count}
+use Rattle.canvas_semantics.specs.Line.{Line, stop, group_end, chord_end, count_line, count_lines, line_groups, lines_groups, number_line, number_lines}
+use Rattle.canvas_semantics.specs.PlacedLine.{PTask, p_task, p_stop, p_group_end, p_chord_end, and_p_task, and_p_line, p_step, bare_task, bare_tasks, bare, all_bare, p_nowhere}
+use Rattle.canvas_rewrite.specs.FrozenView.{steps_onto, lines_of, line_of, end_of, p_tasks_of, p_steps, p_lines_of, p_task_view, p_line_view, p_end_view}
+use Rattle.canvas_semantics.specs.steps.Numbering.{tasks_from, tasks_in, lines_from, lines_count, lines_group_count}
 use Rattle.canvas_rewrite.specs.declared.line.Line as line
 use Rattle.canvas_rewrite.specs.declared.line.Line.{out-Line}
-use Rattle.canvas_rewrite.specs.declared.line.LineEnd as lend
 use Rattle.canvas_rewrite.specs.declared.line.LineEnd.{LineEnd, out-LineEnd}
 use Rattle.canvas_rewrite.specs.declared.frozen.Carried as block
-use Rattle.canvas_rewrite.specs.declared.frozen.FrozenTask as ftask
 use Rattle.canvas_rewrite.specs.declared.frozen.FrozenTask.{FrozenTask, roll-FrozenTask}
-use Rattle.canvas_rewrite.specs.declared.frozen.FrozenLine as fline
 use Rattle.canvas_rewrite.specs.declared.frozen.FrozenLine.{FrozenLine, roll-FrozenLine}
-use Rattle.canvas_rewrite.specs.declared.frozen.FrozenEnd as fend
 use Rattle.canvas_rewrite.specs.declared.frozen.FrozenEnd.{FrozenEnd, roll-FrozenEnd}
 
 -- ---- views

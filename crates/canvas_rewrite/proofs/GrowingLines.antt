@@ -1,7 +1,7 @@
 -- A line that grows at its front.
 use Rattle.std.proofs.Common.{◌≡◌, ◌∙◌, ◌↔◌, ℕ, List, [], ◌∷◌, ◌++◌, map, length, ◌==◌, suc, reverse, Bool, true, false, true≢false, IsTrue, Option, Some, None, is_some, Box, Global, refl, sym, ap, arith, rules}
 use Rattle.std.proofs.lemmas.Bool.Decides.{nat_tests}
-use Rattle.std.proofs.lemmas.List.{reverse-append, append_assoc}
+use Rattle.std.proofs.lemmas.List.{reverse-append}
 use Rattle.std.specs.Option.{option_map}
 use Rattle.canvas_semantics.specs.Tree.{Tree, one, Trees, no_trees, and_tree}
 use Rattle.canvas_sig.specs.View.{task_view}

@@ -1,24 +1,21 @@
 -- Lines and their elements.
-use Rattle.std.proofs.Common.{◌≡◌, ℕ, suc, arith, ◌==◌, ◌↔◌, List, [], ◌∷◌, map, length, Bool, true, false, Option, Some, None, is_some, Box, Global, true≢false, rules, IsTrue, Result, Ok, Err, IfOk, refl, ap, sym, subst, ◌∙◌}
+use Rattle.std.proofs.Common.{◌≡◌, List, [], ◌∷◌, map, Option, Some, None, Box, Global, rules, Result, IfOk, refl, ap, sym, subst, ◌∙◌}
 use Rattle.std.specs.Option.{option_map}
-use Rattle.std.proofs.lemmas.Bool.Decides.{nat_tests}
-use Rattle.canvas_semantics.specs.Tree.{Tree, one, chain, group, chord, Trees, no_trees, and_tree}
+use Rattle.canvas_semantics.specs.Tree.{Tree, chain, group, chord, Trees, no_trees, and_tree}
 use Rattle.canvas_sig.specs.View.{view, trees_of}
 use Rattle.canvas_sig.specs.declared.node.Node.{Node, Group, Chord}
 use Rattle.canvas_sig.proofs.Views.{view-Group, view-Chord}
 use Rattle.canvas_semantics.specs.NormalLine.{onto, group_onto, normal_all}
-use Rattle.canvas_rewrite.specs.View.{elements, line_view, chains, group_or_chord}
+use Rattle.canvas_rewrite.specs.View.{elements, chains, group_or_chord}
 use Rattle.canvas_rewrite.specs.declared.line.Line as line
 use Rattle.canvas_rewrite.specs.declared.line.Line.{Line, out-Line, roll-Line}
 use Rattle.canvas_rewrite.specs.steps.Growing.{growing}
 use Rattle.canvas_rewrite.specs.declared.growing.Growing.{Growing}
 use Rattle.canvas_rewrite.specs.declared.line.LineEnd.{LineEnd, out-LineEnd, roll-LineEnd}
-use Rattle.canvas_sig.specs.View.{task_view}
 use Rattle.canvas_semantics.specs.Line as Frozen
 use Rattle.canvas_semantics.specs.Line.{stop, elements_of, members_of}
-use Rattle.canvas_rewrite.specs.FrozenView.{steps_onto, end_of, line_of, lines_of}
-use Rattle.canvas_rewrite.proofs.FrozenViews.{line_none, line_some, end_none, end_some}
-use Rattle.canvas_sig.specs.declared.task_sig.TaskSig.{TaskSig}
+use Rattle.canvas_rewrite.specs.FrozenView.{end_of, line_of, lines_of}
+use Rattle.canvas_rewrite.proofs.FrozenViews.{end_none, end_some}
 use Rattle.std.specs.declared.alloc.AllocError.{AllocError}
 
 pub normal_chains : (ns : List Node) → chains (map (λ n. onto (view n) no_trees) ns) ≡ normal_all (trees_of (map view ns))

@@ -1,13 +1,11 @@
 -- A task is the last of one member of one group or chord at most.
-use Rattle.std.proofs.Common.{◌≡◌, ◌≢◌, ◌<◌, ◌≤◌, ◌==◌, ◌∙◌, ◌||◌, ◌⊎◌, ℕ, zero, suc, ◌+◌, Bool, true, false, true≢false, if◌then◌else◌, List, [], ◌∷◌, ◌++◌, length, count_by, slice_get, get_or, length-append, Option, Some, None, All, refl, sym, ap, subst, inl, inr, arith, eq-eqb, ne_eqb, zero-add, add-zero}
+use Rattle.std.proofs.Common.{◌≡◌, ◌≢◌, ◌<◌, ◌≤◌, ◌==◌, ◌∙◌, ℕ, zero, suc, ◌+◌, Bool, false, true≢false, if◌then◌else◌, List, [], ◌∷◌, ◌++◌, length, count_by, slice_get, get_or, length-append, All, refl, sym, ap, subst, inl, inr, arith, eq-eqb, ne_eqb, zero-add, add-zero}
 use Rattle.std.proofs.lemmas.Bool.{or_parts, cases_eq}
-use Rattle.std.proofs.lemmas.Bool.Decides.{nat_tests}
 use Rattle.std.proofs.lemmas.List.Sums.{sum_by-append, sum_by-cons}
-use Rattle.canvas_semantics.specs.Tree.{Task, task, Tree, one, chain, group, chord, Trees, no_trees, and_tree, IsFull, count_task, ends_in_group, last_in_group, number_task}
-use Rattle.canvas_semantics.specs.Bounds.{nests_group, some_nests_group, some_ends_in_group}
+use Rattle.canvas_semantics.specs.Tree.{Task, task, IsFull, count_task, ends_in_group, last_in_group}
+use Rattle.canvas_semantics.specs.Bounds.{some_nests_group, some_ends_in_group}
 use Rattle.canvas_semantics.specs.Line.{Line, stop, step, group_end, chord_end, Lines, no_lines, and_line, elements_of, members_of, tree_of, count_line, count_lines, line_groups, lines_groups, number_line, number_lines, ends_of, all_ends_of, GroupEntry, group_entries, all_group_entries, entry_at, entry_members, members, in_group}
 use Rattle.canvas_rewrite.specs.Planned.{IsPlan, Apart, times}
-use Rattle.canvas_rewrite.specs.Runnable.{IsRunnable}
 
 -- ---- members that end in a task
 

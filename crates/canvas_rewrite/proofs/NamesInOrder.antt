@@ -1,6 +1,6 @@
 -- The tasks of a plan's line, with their numbers, are its names counted from 1.
 use Rattle.std.proofs.Common.{◌≡◌, ◌∙◌, ℕ, ◌+◌, List, [], ◌∷◌, ◌++◌, length, length-append, append-nil, refl, sym, ap, arith}
-use Rattle.canvas_semantics.specs.Tree.{Task, task, Tasks, no_tasks, and_task, Tree, count_task, count_tasks, number_task, number_tasks}
+use Rattle.canvas_semantics.specs.Tree.{Task, task, Tasks, no_tasks, and_task, count_task, count_tasks, number_task, number_tasks}
 use Rattle.canvas_semantics.specs.Line.{Line, stop, step, group_end, chord_end, Lines, no_lines, and_line, elements_of, members_of, tree_of, count_line, count_lines, line_groups, lines_groups, number_line, number_lines, task_names, tasks_names}
 use Rattle.canvas_semantics.specs.Line as Frozen
 use Rattle.canvas_rewrite.specs.Planned.{IsPlan}

@@ -1,6 +1,6 @@
 -- What every plan's line is.
-use Rattle.std.specs.Prelude.{◌≡◌, ◌==◌, ◌<◌, ◌≤◌, ℕ, List, count_by, length}
-use Rattle.canvas_semantics.specs.Line.{Line, count_line, number_line, members, tree_of}
+use Rattle.std.specs.Prelude.{◌≡◌, ◌==◌, ◌<◌, ℕ, count_by}
+use Rattle.canvas_semantics.specs.Line.{Line, number_line, members, tree_of}
 use Rattle.canvas_rewrite.specs.Runnable.{IsRunnable}
 
 -- its tasks, and its groups and chords, are numbered from 1 in file order

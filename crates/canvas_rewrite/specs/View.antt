@@ -1,9 +1,6 @@
 -- The data that a line stands for: its tasks, and then its group or chord.
-use Rattle.std.specs.Prelude.{List, [], ◌∷◌, map, Option, Some, None, Box}
-use Rattle.std.specs.declared.alloc.Global.{Global}
-use Rattle.canvas_semantics.specs.Tree.{Tree, one, chain, group, chord, Trees, no_trees, and_tree}
-use Rattle.canvas_sig.specs.declared.task_sig.TaskSig.{TaskSig}
-use Rattle.canvas_sig.specs.View.{task_view}
+use Rattle.std.specs.Prelude.{List, [], ◌∷◌, Option, Some, None}
+use Rattle.canvas_semantics.specs.Tree.{Tree, chain, group, chord, Trees, no_trees, and_tree}
 use Rattle.canvas_rewrite.specs.declared.line.Line.{Line}
 use Rattle.canvas_semantics.specs.Line.{elements_of}
 use Rattle.canvas_rewrite.specs.FrozenView.{line_of}

@@ -1,13 +1,12 @@
 -- A chord's run by two workers is a closed run.
-use Rattle.std.proofs.Common.{◌≡◌, ◌≢◌, ◌∙◌, ℕ, Bool, true, false, eqb, cond, List, [], ◌∷◌, ◌++◌, map, Option, Some, None, Ok, refl, sym, ap, subst, inl, inr, ne_eqb, IsUtf8}
+use Rattle.std.proofs.Common.{◌≡◌, ◌≢◌, ◌∙◌, ℕ, true, false, eqb, cond, List, [], ◌∷◌, ◌++◌, map, Option, Some, None, Ok, refl, sym, ap, subst, inl, inr, ne_eqb}
 use Rattle.std.proofs.lemmas.Bool.{cases_eq}
 use Rattle.std.specs.Fmt.{digits}
 use Rattle.serde_json.specs.Written.{compact_text}
 use Rattle.serde_json.proofs.OnLiterals.{serde_json_on_literals}
 use Rattle.uuid.specs.Text.{by_index}
 use Rattle.json.proofs.Printed.Utf8.{are_ascii, IsUtf8-are_ascii}
-use Rattle.canvas_history.specs.History.{Entry, split, join, calls}
-use Rattle.canvas_semantics.specs.Line.{Line}
+use Rattle.canvas_history.specs.History.{split, calls}
 use Rattle.canvas_message.specs.Content.{Content}
 use Rattle.canvas_message.specs.Wire.{properties_wire, headers_wire, body_wire}
 use Rattle.canvas_message.proofs.EnvelopeBack.{envelope_back}

@@ -1,14 +1,11 @@
 -- Reading an envelope, by what its texts say and by their refusals.
-use Rattle.std.proofs.Common.{◌≡◌, ◌∙◌, List, ℕ, Option, Some, Result, Ok, Err, refl, sym, ap}
-use Rattle.std.specs.Str.{IsUtf8}
+use Rattle.std.proofs.Common.{◌≡◌, ◌∙◌, Some, Ok, Err, sym, ap}
 use Rattle.canvas_task.specs.Text.{Text}
 use Rattle.canvas_message.specs.Content.{Content}
 use Rattle.canvas_message.specs.EnvelopeFaults.{envelope_fault, Says, judged}
 use Rattle.canvas_message.specs.EnvelopeContent.{content_said}
-use Rattle.canvas_message.specs.declared.envelope.Envelope.{Envelope}
 use Rattle.canvas_message.specs.declared.fault.MessageFault.{MessageFault}
 use Rattle.canvas_message.proofs.EnvelopeLaw as law
-use Rattle.canvas_runs.specs.Worker.{read_envelope}
 
 pub reading_says : (p h b : Text) (c : Content) → judged (envelope_fault p h b) (content_said h b) ≡ Ok c → Says p h b c
 reading_says p h b c is = law.reading_says p h b c (law.envelope_judged p h b ∙ is)

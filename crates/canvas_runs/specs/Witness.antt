@@ -1,5 +1,5 @@
 -- A run with a chord in it: two sums and the sum of both, by two workers; and a history that is none.
-use Rattle.std.specs.Prelude.{ℕ, eqb, cond, true, false, List, [], ◌∷◌, Option, Some, None, pos, codes}
+use Rattle.std.specs.Prelude.{ℕ, eqb, cond, true, false, List, [], ◌∷◌, Some, None, pos, codes}
 use Rattle.canvas_task.specs.declared.arg.Arg.{Arg}
 use Rattle.canvas_task.specs.declared.arg.Arg.TheVariants as arg
 use Rattle.canvas_task.specs.declared.outcome.Outcome.{Outcome}
@@ -7,7 +7,7 @@ use Rattle.canvas_task.specs.declared.outcome.Outcome.TheVariants.{Success}
 use Rattle.canvas_history.specs.History.{split, join, calls}
 use Rattle.canvas_semantics.specs.Tree.{Call, Task, task, no_tasks}
 use Rattle.canvas_semantics.specs.Line.{Line, stop, step, chord_end, no_lines, and_line}
-use Rattle.canvas_semantics.specs.PlacedLine.{PLine, p_task, no_p_tasks, PPlace, p_nowhere, p_chord, p_stop, p_step}
+use Rattle.canvas_semantics.specs.PlacedLine.{PLine, p_task, no_p_tasks, p_nowhere, p_chord, p_stop, p_step}
 use Rattle.canvas_message.specs.Content.{Content}
 use Rattle.canvas_message.specs.declared.envelope.Envelope.{Envelope}
 use Rattle.canvas_backend.specs.declared.stored.Stored.TheVariants.{First}

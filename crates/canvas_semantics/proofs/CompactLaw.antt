@@ -1,8 +1,8 @@
 -- A line as a signature means what the line means.
 use Rattle.std.proofs.Common.{◌≡◌, ◌∙◌, ℕ, ◌+◌, ◌++◌, List, [], ◌∷◌, append-nil, refl, sym, ap, arith}
-use Rattle.canvas_semantics.specs.Tree.{Task, task, Tree, one, chain, group, chord, Trees, no_trees, and_tree, ends_in_group, last_in_group, count, count_all, count_groups, count_all_groups, number, number_all, numbered, number_task}
+use Rattle.canvas_semantics.specs.Tree.{one, group, chord, Trees, no_trees, and_tree, ends_in_group, last_in_group, count, count_all, count_groups, count_all_groups, number, number_all, numbered, number_task}
 use Rattle.canvas_semantics.specs.Compact.{element_or_chain, compact, compact_elements, compact_members}
-use Rattle.canvas_semantics.specs.Evaluation.{Flow, Rows, Meaning, ends, last_ends, all_ends, behind, and_then, group_value, with_states, as_group, eval, eval_chain, member_rows}
+use Rattle.canvas_semantics.specs.Evaluation.{Flow, ends, last_ends, all_ends, behind, and_then, group_value, with_states, as_group, eval, eval_chain, member_rows}
 use Rattle.canvas_semantics.specs.Groups.{groups_of, all_groups_of}
 use Rattle.canvas_semantics.specs.Line.{Line, stop, step, group_end, chord_end, Lines, no_lines, and_line, elements_of, members_of, tree_of, number_line, number_lines, count_line, count_lines, line_groups, lines_groups}
 use Rattle.canvas_semantics.specs.SameMeaning.{IsSame}

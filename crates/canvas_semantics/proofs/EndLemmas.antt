@@ -1,6 +1,6 @@
 -- The ends of a line are those of its tree.
 use Rattle.std.proofs.Common.{◌≡◌, ◌∙◌, ◌++◌, refl, ap}
-use Rattle.canvas_semantics.specs.Tree.{Task, task}
+use Rattle.canvas_semantics.specs.Tree.{task}
 use Rattle.canvas_semantics.specs.Evaluation.{ends, last_ends, all_ends}
 use Rattle.canvas_semantics.specs.Line.{Line, stop, step, group_end, chord_end, Lines, no_lines, and_line, elements_of, members_of, tree_of, ends_of, all_ends_of}
 

@@ -1,8 +1,8 @@
 -- The normal line means what the canvas means.
-use Rattle.std.proofs.Common.{◌≡◌, ℕ, List, [], ◌∷◌, ◌++◌, append_assoc, refl, sym, ap, ◌∙◌}
+use Rattle.std.proofs.Common.{◌≡◌, ℕ, List, [], ◌++◌, append_assoc, refl, sym, ap, ◌∙◌}
 use Rattle.std.proofs.lemmas.List.{append-nil}
-use Rattle.canvas_semantics.specs.Tree.{Task, task, Tree, one, chain, group, chord, Trees, no_trees, and_tree, IsFull, AreFull}
-use Rattle.canvas_semantics.specs.Evaluation.{Flow, Rows, Meaning, ends, last_ends, all_ends, behind, and_then, group_value, with_states, as_group, eval, eval_chain, member_rows, task_meaning}
+use Rattle.canvas_semantics.specs.Tree.{task, Tree, one, chain, group, chord, Trees, no_trees, and_tree, IsFull, AreFull}
+use Rattle.canvas_semantics.specs.Evaluation.{Flow, Rows, Meaning, ends, last_ends, all_ends, behind, and_then, group_value, with_states, as_group, eval, eval_chain, member_rows}
 use Rattle.canvas_semantics.specs.NormalLine.{onto, all_onto, normal_all, normal}
 
 -- ---- meanings, one after another

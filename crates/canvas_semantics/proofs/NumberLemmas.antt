@@ -1,6 +1,6 @@
 -- Rewriting changes no number.
-use Rattle.std.proofs.Common.{◌≡◌, ℕ, ◌+◌, refl, sym, ap, subst, ◌∙◌, arith}
-use Rattle.canvas_semantics.specs.Tree.{ends_in_group, Task, task, Tree, one, chain, group, chord, Trees, no_trees, and_tree, IsFull, AreFull, count, count_all, count_groups, count_all_groups, number, number_all, numbered}
+use Rattle.std.proofs.Common.{◌≡◌, ℕ, ◌+◌, refl, ap, ◌∙◌, arith}
+use Rattle.canvas_semantics.specs.Tree.{ends_in_group, Tree, one, chain, group, chord, Trees, no_trees, and_tree, IsFull, AreFull, count, count_all, count_groups, count_all_groups, number, number_all, numbered}
 use Rattle.canvas_semantics.specs.Evaluation.{Flow, eval, ends}
 use Rattle.canvas_semantics.specs.SameMeaning.{IsSame}
 use Rattle.canvas_semantics.specs.NormalLine.{onto, all_onto, normal_all, normal}

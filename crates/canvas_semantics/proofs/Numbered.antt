@@ -1,6 +1,6 @@
 -- Numbering changes no count, gives the tree's numbers, and places are stripped off.
 use Rattle.std.proofs.Common.{◌≡◌, ◌∙◌, ℕ, ◌+◌, refl, sym, ap, arith}
-use Rattle.canvas_semantics.specs.Tree.{Task, task, Tasks, no_tasks, and_task, Tree, one, chain, group, chord, Trees, no_trees, and_tree, count_task, count_tasks, number_task, number_tasks, count_all, count_all_groups, number_all, number, numbered}
+use Rattle.canvas_semantics.specs.Tree.{Task, task, Tasks, no_tasks, and_task, one, chain, group, chord, Trees, no_trees, and_tree, count_task, count_tasks, number_task, number_tasks, count_all, count_all_groups, number_all, numbered}
 use Rattle.canvas_semantics.specs.Line.{Line, stop, step, group_end, chord_end, Lines, no_lines, and_line, count_line, count_lines, line_groups, lines_groups, number_line, number_lines, elements_of, members_of, tree_of}
 use Rattle.canvas_semantics.specs.PlacedLine.{strip, strip_all, strip_task, strip_tasks, bare, all_bare, bare_task, bare_tasks}
 

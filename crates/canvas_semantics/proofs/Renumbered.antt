@@ -1,6 +1,6 @@
 -- A line that is numbered again has the new numbers.
-use Rattle.std.proofs.Common.{◌≡◌, ◌∙◌, ℕ, ◌+◌, refl, sym, ap}
-use Rattle.canvas_semantics.specs.Tree.{Call, Task, task, Tasks, no_tasks, and_task, count_task, count_tasks, number_task, number_tasks}
+use Rattle.std.proofs.Common.{◌≡◌, ◌∙◌, ℕ, ◌+◌, refl, ap}
+use Rattle.canvas_semantics.specs.Tree.{Task, task, Tasks, no_tasks, and_task, count_task, count_tasks, number_task, number_tasks}
 use Rattle.canvas_semantics.specs.Line.{Line, stop, step, group_end, chord_end, Lines, no_lines, and_line, count_line, count_lines, line_groups, lines_groups, number_line, number_lines}
 use Rattle.canvas_semantics.proofs.Numbered.{count_numbered_task, count_numbered_tasks, count_numbered, count_numbered_all, groups_numbered, groups_numbered_all}
 

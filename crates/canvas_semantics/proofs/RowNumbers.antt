@@ -1,9 +1,9 @@
 -- The rows of a numbered canvas stand in the order of their numbers, one for each task.
-use Rattle.std.proofs.Common.{◌≡◌, ◌∙◌, ℕ, ◌+◌, ◌<◌, ◌≤◌, ◌==◌, if◌then◌else◌, Bool, true, false, zero, suc, List, [], ◌∷◌, ◌++◌, map, Option, Some, None, refl, sym, ap, arith}
+use Rattle.std.proofs.Common.{◌≡◌, ◌∙◌, ℕ, ◌+◌, ◌<◌, ◌==◌, if◌then◌else◌, true, false, zero, suc, List, [], ◌∷◌, ◌++◌, map, Option, Some, refl, sym, ap, arith}
 use Rattle.std.proofs.lemmas.List.{map-append}
 use Rattle.std.proofs.lemmas.Bool.Decides.{nat_tests}
 use Rattle.canvas_semantics.specs.Tree.{Task, task, Tasks, no_tasks, and_task, Tree, one, chain, group, chord, Trees, no_trees, and_tree, count_task, count_tasks, count, count_all, count_groups, count_all_groups, number_task, number_tasks, number, number_all, numbered}
-use Rattle.canvas_semantics.specs.Evaluation.{Flow, nothing, State, Rows, state_of, task_rows, tasks_rows, eval, eval_chain, member_rows, state, to_links, to_errbacks, as_group, and_then, meaning}
+use Rattle.canvas_semantics.specs.Evaluation.{Flow, nothing, State, Rows, state_of, task_rows, tasks_rows, eval, eval_chain, member_rows, state, to_links, to_errbacks, as_group, meaning}
 use Rattle.canvas_semantics.specs.States.{numbers_from, rows_from, states}
 
 abbrev pub numbers : Rows → List ℕ

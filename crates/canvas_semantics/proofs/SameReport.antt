@@ -1,8 +1,8 @@
 -- The report of a canvas's normal line is that of the canvas.
-use Rattle.std.proofs.Common.{◌≡◌, ◌∙◌, ℕ, Bool, List, [], ◌∷◌, ◌++◌, append_assoc, append-nil, refl, sym, ap}
+use Rattle.std.proofs.Common.{◌≡◌, ◌∙◌, ℕ, Bool, List, [], ◌++◌, append_assoc, append-nil, refl, sym, ap}
 use Rattle.canvas_semantics.specs.Tree.{Tree, one, chain, group, chord, Trees, no_trees, and_tree, numbered, ends_in_group}
 use Rattle.canvas_semantics.specs.NormalLine.{onto, all_onto, normal_all, normal}
-use Rattle.canvas_semantics.specs.Evaluation.{Rows, Meaning, nothing, meaning, eval, ends, with_states}
+use Rattle.canvas_semantics.specs.Evaluation.{Rows, nothing, meaning, ends, with_states}
 use Rattle.canvas_task.specs.Text.{Text}
 use Rattle.canvas_semantics.specs.Report.{names_by_number, all_names_by_number, report, report_of, lines, result_text}
 use Rattle.canvas_semantics.specs.SameMeaning.{IsSame}

@@ -1,6 +1,6 @@
 -- What a canvas means: a state for each task, and what flows out (Celery user guide, Canvas: a result is the next task's first argument unless
 -- that is immutable; links run on a success, error callbacks on a failure; a chord's body gets the list of its header's results, or a ChordError).
-use Rattle.std.specs.Prelude.{ℕ, ◌==◌, Bool, true, false, if◌then◌else◌, List, [], ◌∷◌, ◌++◌, map, Option, Some, None, ℤ}
+use Rattle.std.specs.Prelude.{ℕ, ◌==◌, if◌then◌else◌, List, [], ◌∷◌, ◌++◌, map, Option, Some, None, ℤ}
 use Rattle.canvas_task.specs.declared.arg.Arg.{Arg}
 use Rattle.canvas_task.specs.declared.arg.Arg.TheVariants as arg
 use Rattle.canvas_task.specs.declared.outcome.Why.{Why}

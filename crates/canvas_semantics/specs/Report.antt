@@ -1,11 +1,11 @@
 -- The report of a canvas as text: a line for each task with its state as Celery names it (PENDING, SUCCESS, FAILURE), and the result.
-use Rattle.std.specs.Prelude.{ℕ, ◌+◌, Bool, true, false, List, [], ◌∷◌, ◌++◌, map, Option, Some, None, codes}
-use Rattle.std.specs.Fmt.{decimal, signed_decimal}
+use Rattle.std.specs.Prelude.{ℕ, ◌+◌, Bool, true, false, List, [], ◌∷◌, ◌++◌, Some, None, codes}
+use Rattle.std.specs.Fmt.{signed_decimal}
 use Rattle.canvas_task.specs.Text.{Text}
 use Rattle.canvas_task.specs.declared.outcome.Outcome.TheVariants.{Success, Failure}
 use Rattle.canvas_task.specs.Identifiers.{task_text}
 use Rattle.canvas_task.specs.Printed.{fault_text}
-use Rattle.canvas_semantics.specs.Tree.{ends_in_group, Call, Task, task, Tasks, no_tasks, and_task, Tree, one, chain, group, chord, Trees, no_trees, and_tree, numbered}
+use Rattle.canvas_semantics.specs.Tree.{ends_in_group, Task, task, Tasks, no_tasks, and_task, Tree, one, chain, group, chord, Trees, no_trees, and_tree, numbered}
 use Rattle.canvas_semantics.specs.Evaluation.{State, Rows, state_of, with_states, ends, meaning}
 
 -- the state and the value of a task, as a line of the report has them

@@ -1,5 +1,5 @@
 -- The states of a canvas's tasks as a table: one for each task, in the order of their numbers.
-use Rattle.std.specs.Prelude.{◌≡◌, ◌⊎◌, None, ℕ, zero, suc, ◌+◌, List, [], ◌∷◌, map}
+use Rattle.std.specs.Prelude.{◌≡◌, ◌⊎◌, None, ℕ, zero, suc, List, [], ◌∷◌, map}
 use Rattle.canvas_semantics.specs.Tree.{Tree, count}
 use Rattle.canvas_semantics.specs.Evaluation.{State, Rows, state_of, eval, nothing}
 

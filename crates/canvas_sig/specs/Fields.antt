@@ -1,5 +1,5 @@
 -- The members of a JSON value, where one that is missing is null.
-use Rattle.std.specs.Prelude.{ℕ, String, string_bytes, Bool, true, false, ◌||◌, List, [], ◌∷◌, Option, option_map, unwrap_or, map, codes}
+use Rattle.std.specs.Prelude.{String, string_bytes, Bool, true, false, ◌||◌, List, [], ◌∷◌, Option, option_map, unwrap_or, map, codes}
 use Rattle.std.specs.Borrow.{Bor}
 use Rattle.std.specs.declared.alloc.Global.{Global}
 use Rattle.serde_json.specs.Data.{Data, null, boolean, number, string, array, object, Items, no_items, item, Members, no_members, member}

@@ -1,5 +1,5 @@
 -- What a canvas holds.
-use Rattle.std.specs.Prelude.{◌≡◌, ℕ, None}
+use Rattle.std.specs.Prelude.{◌≡◌, None}
 use Rattle.canvas_task.specs.Entries.{Ascends}
 use Rattle.canvas_sig.specs.ComposedRefusals.{node_fault}
 use Rattle.canvas_semantics.specs.Tree.{Task, task, Tasks, no_tasks, and_task, Tree, one, chain, group, chord, Trees, no_trees, and_tree}

@@ -1,26 +1,24 @@
 -- An ask of a core that is answered with an envelope.
-use Rattle.std.proofs.Common.{◌≡◌, ◌∙◌, ℕ, ◌+◌, ◌≤◌, min, Bool, false, List, [], ◌∷◌, ◌++◌, Option, Some, None, Result, Ok, Err, refl, sym, ap, ap₂, subst, arith}
+use Rattle.std.proofs.Common.{◌≡◌, ◌∙◌, ℕ, ◌+◌, min, false, List, [], ◌∷◌, ◌++◌, Some, Result, Ok, Err, refl, sym, ap, subst, arith}
 use Rattle.std.specs.Prelude.{MatchResult}
 use Rattle.canvas_message.specs.declared.envelope.Envelope.{Envelope}
 use Rattle.canvas_backend.specs.Seats.{Desk}
 use Rattle.canvas_backend.specs.Roster.{Roster}
 use Rattle.canvas_broker.specs.Passes.{Took}
-use Rattle.canvas_runs.specs.Book.{Book, book_on}
-use Rattle.canvas_runs.specs.Calls.{broker_call, backend_call, reads_member}
+use Rattle.canvas_runs.specs.Book.{book_on}
+use Rattle.canvas_runs.specs.Calls.{backend_call}
 use Rattle.canvas_runs.specs.Core as C
 use Rattle.canvas_runs.specs.Core.{answered, Suits, ReadsBack}
-use Rattle.canvas_runs.specs.Following.{Seat, Makes, Serves}
-use Rattle.canvas_runs.specs.Tally.{Tally, IsTally, Counted, CountsMore, is_taken, is_published, is_first, is_part, is_dropped, greatest_count}
-use Rattle.canvas_worker.specs.Asks.{Asked, Answer}
-use Rattle.canvas_worker.specs.Books.{book_in, no_book}
-use Rattle.canvas_worker.specs.Enveloped.{enveloped, enveloped_by}
+use Rattle.canvas_runs.specs.Following.{Seat, Serves}
+use Rattle.canvas_runs.specs.Tally.{Tally, Counted, CountsMore, is_dropped, greatest_count}
+use Rattle.canvas_worker.specs.Books.{book_in}
+use Rattle.canvas_worker.specs.Enveloped.{enveloped}
 use Rattle.canvas_worker.specs.Progress.{Progress}
 use Rattle.canvas_worker.specs.Seats.{Can}
-use Rattle.canvas_worker.specs.Standing.{Standing, Left, asked, drops, after_reply}
-use Rattle.canvas_worker.specs.WorkerSteps.{Answered, OnlyBare, Called, Batched, FromHeld}
-use Rattle.canvas_worker.specs.Work.{Work, progress, with_core, told, lost, one_taken, Ready, Moves, stays, calls, takes, gives, Pends, Leaves, IsRecordOf, Ends, EndsWith}
-use Rattle.canvas_worker.specs.declared.cause.Cause.{Cause}
-use Rattle.canvas_worker.specs.declared.cause.Cause.TheVariants.{Memory, Stopped}
+use Rattle.canvas_worker.specs.Standing.{Standing, asked, drops, after_reply}
+use Rattle.canvas_worker.specs.WorkerSteps.{Batched, FromHeld}
+use Rattle.canvas_worker.specs.Work.{Work, progress, with_core, told, lost, one_taken, Ready, takes, gives, Pends, Leaves, Ends, EndsWith}
+use Rattle.canvas_worker.specs.declared.cause.Cause.TheVariants.{Memory}
 use Rattle.canvas_worker.specs.declared.record.Record.{Record}
 use Rattle.canvas_worker.specs.declared.working.End.{End}
 use Rattle.canvas_worker.proofs.Asking.{same_book, may_go_on}

@@ -3,7 +3,7 @@
 --     SplitsOff plan k p s slots p' s'     places made one after the other, numbered from k on
 --     RanSlot plan before after            the worker of this place has run to its end, or was lost
 --     TakesIn plan p s slots p' s'       what the workers left, taken in one after the other
-use Rattle.std.specs.Prelude.{ℕ, suc, ◌≡◌, ◌<◌, List, [], ◌∷◌, length, slice_index_or, Option, Some, None}
+use Rattle.std.specs.Prelude.{ℕ, suc, ◌≡◌, ◌<◌, List, [], ◌∷◌, length, slice_index_or, None}
 use Rattle.std.specs.Global.{Global}
 use Rattle.crossbeam_queue.specs.SegTies.{SegId}
 use Rattle.atomic_table.specs.Seated.{TableId}

@@ -1,5 +1,5 @@
 -- What some canvases mean, computed.
-use Rattle.std.proofs.Common.{◌≡◌, ℕ, Bool, true, false, List, [], ◌∷◌, Option, Some, None, ℤ, pos, negsuc, refl}
+use Rattle.std.proofs.Common.{◌≡◌, ℕ, true, false, List, [], ◌∷◌, Some, None, pos, negsuc, refl}
 use Rattle.std.specs.Prelude.{codes}
 use Rattle.uuid.proofs.OnLiterals.{uuid_on_literals}
 use Rattle.std.specs.Fmt.{digits}
@@ -7,11 +7,10 @@ use Rattle.canvas_task.specs.declared.arg.Arg.{Arg}
 use Rattle.canvas_task.specs.declared.arg.Arg.TheVariants as arg
 use Rattle.canvas_task.specs.declared.outcome.Kind.TheVariants.{BadCall, ZeroDivision, Overflow, NotRegistered}
 use Rattle.canvas_task.specs.declared.outcome.Why.TheVariants as why
-use Rattle.canvas_task.specs.declared.outcome.Fault.{Fault}
 use Rattle.canvas_task.specs.declared.outcome.Fault.TheVariants as fault
 use Rattle.canvas_task.specs.declared.outcome.Outcome.TheVariants.{Success, Failure}
-use Rattle.canvas_semantics.specs.Tree.{Call, Task, task, Tasks, no_tasks, and_task, Tree, one, chain, group, chord, Trees, no_trees, and_tree, numbered}
-use Rattle.canvas_semantics.specs.Evaluation.{State, Rows, meaning, result}
+use Rattle.canvas_semantics.specs.Tree.{Task, task, Tasks, no_tasks, and_task, Tree, one, chain, group, chord, Trees, no_trees, and_tree}
+use Rattle.canvas_semantics.specs.Evaluation.{State, meaning, result}
 use Rattle.canvas_semantics.specs.NormalLine.{normal}
 use Rattle.canvas_semantics.specs.Report.{report}
 use Rattle.canvas_semantics.specs.Reach.{reach}

@@ -1,4 +1,4 @@
-use Rattle.std.proofs.Common.{rules, ◌≡◌, [], ◌∷◌, ◌++◌, sym, ap}
+use Rattle.std.proofs.Common.{rules, ◌≡◌, [], ◌∷◌, ◌++◌}
 use Rattle.canvas_runs.specs.Lists.{Each}
 use Rattle.canvas_runs.specs.Worker.{sealed}
 use Rattle.canvas_engine.specs.steps.Stages.{ReadsAs}

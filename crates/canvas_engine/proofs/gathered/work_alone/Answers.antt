@@ -1,4 +1,4 @@
-use Rattle.std.proofs.Common.{rules, ◌≡◌, refl, sym, subst}
+use Rattle.std.proofs.Common.{rules, sym, subst}
 use Rattle.canvas_worker.proofs.Finishing.{workers_finish}
 use Rattle.canvas_worker.specs.Finished.{Finished}
 use Rattle.canvas_worker.specs.Work.{TellsOf, working_begun}

@@ -1,14 +1,13 @@
-use Rattle.std.proofs.Common.{rules, ◌≡◌, ◌∙◌, ℕ, [], ◌∷◌, ◌++◌, All, drop, length, map, take, sym, ap, subst}
+use Rattle.std.proofs.Common.{rules, ◌≡◌, ◌∙◌, ◌++◌, All, drop, length, take, sym, subst}
 use Rattle.std.proofs.lemmas.List.{take_at}
-use Rattle.canvas_semantics.specs.Line.{Line, count_line, tree_of}
+use Rattle.canvas_semantics.specs.Line.{Line, tree_of}
 use Rattle.canvas_semantics.specs.States.{states}
 use Rattle.canvas_message.specs.Effects.{first_messages}
-use Rattle.canvas_backend.specs.Roster.{roster_of}
 use Rattle.canvas_runs.specs.Following.{Makes}
 use Rattle.canvas_runs.specs.Run.{published_all}
 use Rattle.canvas_worker.specs.declared.cause.Cause.TheVariants.{Memory}
 use Rattle.canvas_engine.specs.Correct.{IsThreadFault}
-use Rattle.canvas_engine.specs.steps.Slots.{AllRan, AreOf, LeftARecord, IsWell, TakesIn, tally_in}
+use Rattle.canvas_engine.specs.steps.Slots.{AllRan, AreOf, LeftARecord, TakesIn}
 use Rattle.canvas_engine.specs.declared.slot.Slot.{Slot}
 use Rattle.canvas_engine.proofs.Slots.{are_of, each_ran}
 use Rattle.canvas_engine.proofs.ThreadRuns.{gathered, halted_may, if_none, long_envelopes, long_states, pending_may, well_gathered}

@@ -1,4 +1,4 @@
-use Rattle.std.proofs.Common.{◌≡◌, ◌∙◌, sym}
+use Rattle.std.proofs.Common.{◌∙◌}
 use Rattle.canvas_rewrite.proofs.NodeLines.{node_none, node_some, end_group, end_chord}
 use Rattle.canvas_rewrite.proofs.as_node.+as_node.Goals as goal
 

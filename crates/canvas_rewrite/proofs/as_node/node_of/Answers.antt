@@ -1,5 +1,4 @@
 use Rattle.std.proofs.Common.{sym, subst}
-use Rattle.canvas_semantics.specs.Tree.{Tree}
 use Rattle.canvas_rewrite.specs.FrozenView.{line_of}
 use Rattle.canvas_semantics.specs.SameMeaning.{IsSame}
 use Rattle.canvas_rewrite.specs.View.{line_view}

@@ -1,4 +1,4 @@
-use Rattle.std.proofs.Common.{◌≡◌, ◌≢◌, ◌∙◌, ap, sym, length, vec_len, arith}
+use Rattle.std.proofs.Common.{◌≢◌, length, arith}
 use Rattle.canvas_rewrite.proofs.NodeLines.{chain_whole}
 use Rattle.canvas_rewrite.proofs.as_node.whole.Goals as goal
 

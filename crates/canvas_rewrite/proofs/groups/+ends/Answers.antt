@@ -1,9 +1,9 @@
-use Rattle.std.proofs.Common.{◌≡◌, ◌∙◌, ◌++◌, map, ap, sym, append-nil, slice_get, length, ◌-◌}
+use Rattle.std.proofs.Common.{◌∙◌, ◌++◌, map, ap, sym, append-nil, slice_get, length, ◌-◌}
 use Rattle.canvas_semantics.specs.Line.{ends_of}
 use Rattle.canvas_rewrite.specs.FrozenView.{line_in, end_in}
 use Rattle.canvas_semantics.specs.steps.Numbering.{lines_ends}
 use Rattle.canvas_rewrite.specs.declared.frozen.FrozenLine.{out-FrozenLine}
-use Rattle.canvas_rewrite.proofs.PlanLines.{in_none, ends_some, ends_group_end, ends_chord_end, ends_last, ends_never, ok_same}
+use Rattle.canvas_rewrite.proofs.PlanLines.{in_none, ends_some, ends_group_end, ends_last, ends_never, ok_same}
 use Rattle.canvas_rewrite.proofs.groups.+ends.Goals as goal
 
 pub push_end-returns-in-None : goal.push_end-returns-in-None

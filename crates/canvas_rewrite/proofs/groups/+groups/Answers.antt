@@ -1,9 +1,9 @@
-use Rattle.std.proofs.Common.{◌≡◌, ◌∙◌, ◌++◌, ◌∷◌, [], map, ap, sym, rules, refl}
+use Rattle.std.proofs.Common.{◌∙◌, ◌++◌, map, ap, sym, rules, refl}
 use Rattle.canvas_semantics.specs.Line.{group_entries}
 use Rattle.canvas_rewrite.specs.FrozenView.{line_in, end_in}
 use Rattle.canvas_semantics.specs.steps.Numbering.{lines_ends}
 use Rattle.canvas_rewrite.specs.steps.GroupData.{group_entry}
-use Rattle.canvas_rewrite.proofs.PlanLines.{entries_none, entries_some, entries_group, entries_chord, ok_same, chord_pushed, group_pushed}
+use Rattle.canvas_rewrite.proofs.PlanLines.{entries_none, entries_some, ok_same, chord_pushed, group_pushed}
 use Rattle.canvas_rewrite.proofs.groups.+groups.Goals as goal
 
 pub push_group-returns-in_ok-push_all_groups-in-Some : goal.push_group-returns-in_ok-push_all_groups-in-Some

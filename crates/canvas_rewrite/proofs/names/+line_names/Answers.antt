@@ -1,9 +1,7 @@
-use Rattle.std.proofs.Common.{◌≡◌, ◌∙◌, ◌++◌, map, ap, sym}
+use Rattle.std.proofs.Common.{◌∙◌, ◌++◌, map, ap, sym}
 use Rattle.canvas_semantics.specs.Line.{names}
 use Rattle.canvas_rewrite.specs.FrozenView.{task_in, line_in, end_in}
 use Rattle.canvas_semantics.specs.steps.Numbering.{tasks_all_names, lines_all_names}
-use Rattle.canvas_rewrite.specs.declared.frozen.FrozenLine.{out-FrozenLine}
-use Rattle.canvas_rewrite.specs.declared.frozen.FrozenEnd.{out-FrozenEnd}
 use Rattle.canvas_rewrite.proofs.PlanLines.{ok_same}
 use Rattle.canvas_rewrite.proofs.NameLines.{named_none, named_some, named_group, named_chord, one_after}
 use Rattle.canvas_rewrite.proofs.names.+line_names.Goals as goal

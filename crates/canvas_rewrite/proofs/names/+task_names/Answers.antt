@@ -1,4 +1,4 @@
-use Rattle.std.proofs.Common.{◌≡◌, ◌∙◌, ◌++◌, ◌∷◌, [], map, ap, sym}
+use Rattle.std.proofs.Common.{◌∙◌, ◌++◌, ◌∷◌, [], map, ap, sym}
 use Rattle.canvas_rewrite.specs.FrozenView.{task_in}
 use Rattle.canvas_semantics.specs.steps.Numbering.{tasks_all_names}
 use Rattle.canvas_rewrite.specs.declared.frozen.FrozenTask.{out-FrozenTask}

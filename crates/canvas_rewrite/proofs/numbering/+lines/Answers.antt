@@ -1,8 +1,7 @@
-use Rattle.std.proofs.Common.{◌≡◌, ◌∙◌, ◌+◌, ℕ, arith, map, ap, sym, refl}
+use Rattle.std.proofs.Common.{◌≡◌, ◌∙◌, ◌+◌, arith, map, ap, sym}
 use Rattle.canvas_sig.specs.View.{task_view}
-use Rattle.canvas_semantics.specs.Line.{count_line, line_groups, number_line}
-use Rattle.canvas_semantics.specs.PlacedLine.{bare, p_group_end}
-use Rattle.canvas_rewrite.specs.FrozenView.{line_of, end_of, p_task_view, p_line_view, p_steps, p_lines_of}
+use Rattle.canvas_semantics.specs.Line.{count_line, line_groups}
+use Rattle.canvas_rewrite.specs.FrozenView.{line_of, end_of, p_task_view, p_line_view}
 use Rattle.canvas_semantics.specs.steps.Numbering.{tasks_in, lines_count, lines_group_count}
 use Rattle.canvas_rewrite.specs.declared.line.Line as line
 use Rattle.canvas_rewrite.specs.declared.line.Line.{out-Line}

@@ -1,7 +1,7 @@
-use Rattle.std.proofs.Common.{rules, ◌≡◌, ◌∙◌, ◌+◌, ℕ, arith, map, ap, sym, refl}
+use Rattle.std.proofs.Common.{◌≡◌, ◌∙◌, arith, map, ap}
 use Rattle.canvas_sig.specs.View.{task_view}
 use Rattle.canvas_sig.specs.declared.task_sig.TaskSig.{TaskSig, out-TaskSig}
-use Rattle.canvas_semantics.specs.steps.Numbering.{tasks_in, tasks_from}
+use Rattle.canvas_semantics.specs.steps.Numbering.{tasks_in}
 use Rattle.canvas_rewrite.proofs.FrozenViews.{task_counted, made_as}
 use Rattle.canvas_rewrite.proofs.numbering.+tasks.Goals as goal
 

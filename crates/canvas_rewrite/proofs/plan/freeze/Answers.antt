@@ -1,6 +1,6 @@
-use Rattle.std.proofs.Common.{◌≡◌, ◌∙◌, ◌++◌, ◌-◌, ◌≤◌, map, ap, sym, subst, arith}
-use Rattle.canvas_semantics.specs.Tree.{Tree, numbered}
-use Rattle.canvas_semantics.specs.Line.{count_line, line_groups, number_line, group_entries, ends_of, names, in_group, tree_of}
+use Rattle.std.proofs.Common.{◌≡◌, ◌∙◌, ◌++◌, map, ap, sym, subst, arith}
+use Rattle.canvas_semantics.specs.Tree.{numbered}
+use Rattle.canvas_semantics.specs.Line.{count_line, line_groups, number_line, group_entries, ends_of, names, tree_of}
 use Rattle.canvas_semantics.specs.PlacedLine.{bare, strip}
 use Rattle.canvas_rewrite.specs.FrozenView.{line_of, line_in}
 use Rattle.canvas_rewrite.specs.Runnable.{IsRunnable}

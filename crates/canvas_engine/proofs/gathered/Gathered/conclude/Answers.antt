@@ -1,7 +1,6 @@
-use Rattle.std.proofs.Common.{rules, ◌≡◌, ◌+◌, ◌∙◌, ◌∷◌, ◌++◌, drop, length, min, take, None, refl, sym, ap, subst}
+use Rattle.std.proofs.Common.{rules, ◌≡◌, ◌+◌, ◌∙◌, ◌∷◌, ◌++◌, drop, length, min, take, None, sym, ap, subst}
 use Rattle.std.proofs.Math.ListN.{set}
 use Rattle.std.proofs.lemmas.List.{take_at}
-use Rattle.canvas_semantics.specs.Evaluation.{State}
 use Rattle.canvas_semantics.specs.Line.{Line, count_line, tree_of}
 use Rattle.canvas_semantics.specs.States.{states}
 use Rattle.canvas_message.specs.Effects.{first_messages}
@@ -13,7 +12,6 @@ use Rattle.canvas_runs.specs.Tally.{greatest_count}
 use Rattle.canvas_worker.specs.Finished.{Finished}
 use Rattle.canvas_engine.specs.Correct.{IsRun, IsThreadFault}
 use Rattle.canvas_engine.specs.steps.Crews.{tallies_from}
-use Rattle.canvas_engine.specs.declared.records.Records.{Records}
 use Rattle.canvas_engine.specs.declared.records.Tally.{Tally}
 use Rattle.canvas_engine.proofs.Slots.{finished_of}
 use Rattle.canvas_engine.proofs.ThreadRuns.{halted_may, worked_may, is_run}

@@ -1,4 +1,4 @@
-use Rattle.std.proofs.Common.{◌≡◌, ◌∙◌, ◌∷◌, [], ◌<◌, ap, sym, length, get_or, arith}
+use Rattle.std.proofs.Common.{◌≡◌, ◌∙◌, ◌∷◌, [], ap, sym, length, get_or, arith}
 use Rattle.canvas_semantics.specs.Line.{ends_of}
 use Rattle.canvas_rewrite.specs.FrozenView.{line_in}
 use Rattle.canvas_rewrite.proofs.Members.{one_end}

@@ -1,7 +1,6 @@
-use Rattle.std.proofs.Common.{◌≡◌, ◌∙◌, ◌<◌, ◌≤◌, ◌-◌, ap, sym, subst, length, map, Bor, MatchOption, List}
+use Rattle.std.proofs.Common.{◌≡◌, ◌∙◌, ◌<◌, ◌≤◌, ◌-◌, ap, length, map, MatchOption}
 use Rattle.std.specs.List.{HoldsAt}
 use Rattle.canvas_semantics.specs.Line.{group_entries, entry_at}
-use Rattle.canvas_rewrite.specs.declared.groups.Group.{Group}
 use Rattle.canvas_rewrite.specs.steps.GroupData.{group_entry}
 use Rattle.canvas_rewrite.proofs.PlanLookups.{entry_found}
 use Rattle.canvas_rewrite.proofs.plan.Plan.group_entry.Goals as goal

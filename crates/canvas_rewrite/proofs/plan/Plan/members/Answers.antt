@@ -1,6 +1,5 @@
 use Rattle.std.proofs.Common.{◌≡◌, ◌∙◌, ◌≤◌, All, ap, sym, subst}
 use Rattle.canvas_semantics.specs.Line.{count_line, members, entry_members}
-use Rattle.canvas_rewrite.specs.Planned.{IsPlan}
 use Rattle.canvas_rewrite.proofs.Members.{plan_apart, all_known}
 use Rattle.canvas_rewrite.proofs.plan.Plan.members.Goals as goal
 

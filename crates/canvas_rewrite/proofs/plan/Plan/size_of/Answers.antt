@@ -1,4 +1,4 @@
-use Rattle.std.proofs.Common.{◌≡◌, ◌∙◌, ap, sym, length, arith}
+use Rattle.std.proofs.Common.{◌≡◌, ap, sym, length, arith}
 use Rattle.canvas_semantics.specs.Line.{members, entry_members}
 use Rattle.canvas_rewrite.proofs.Members.{few_members}
 use Rattle.canvas_semantics.proofs.Numbered.{count_elements}

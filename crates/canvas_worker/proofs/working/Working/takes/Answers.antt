@@ -1,9 +1,6 @@
-use Rattle.std.proofs.Common.{rules, ◌≡◌, refl, sym, subst, ap, ◌∙◌, true, false, Some, None, [], ◌∷◌, ◌++◌, List, append-nil}
-use Rattle.canvas_history.specs.History.{calls}
+use Rattle.std.proofs.Common.{rules, ◌≡◌, ◌∙◌, [], ◌∷◌, append-nil}
 use Rattle.canvas_message.specs.declared.envelope.Envelope.{Envelope}
-use Rattle.canvas_broker.specs.Broker as broker
-use Rattle.canvas_broker.specs.Passes.{Stands, Took}
-use Rattle.canvas_runs.specs.Core as C
+use Rattle.canvas_broker.specs.Passes.{Took}
 use Rattle.canvas_worker.specs.steps.Held.{held_in}
 use Rattle.canvas_worker.specs.Standing.{asked}
 use Rattle.canvas_worker.specs.Work.{Work}
