@@ -1,4 +1,4 @@
--- The groups and chords of a canvas, each with what its members end in. (Celery's user guide, Canvas: groups, chords)
+-- The groups and chords of a canvas, each with what its members end in (Celery user guide, Canvas: groups and chords).
 use Rattle.std.specs.Prelude.{ℕ, List, [], ◌∷◌, ◌++◌}
 use Rattle.canvas_semantics.specs.Evaluation.{all_ends}
 use Rattle.canvas_semantics.specs.Tree.{Tree, one, chain, group, chord, Trees, no_trees, and_tree}
