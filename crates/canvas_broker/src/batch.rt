@@ -10,16 +10,18 @@ use std::marker::Model;
 pub struct Batch {
     // the marks of splits among them
     pub(crate) items: ArrayVec<Option<Envelope>, 31>,
+    // how many of these are read
+    pub(crate) read: usize,
 }
 
 impl Model for Batch {
-    ghost use Rattle.std.specs.Prelude.{List};
+    ghost use Rattle.std.specs.Prelude.{List, drop};
     ghost use Rattle.canvas_message.specs.declared.envelope.Envelope.{Envelope};
     ghost use Rattle.canvas_broker.specs.steps.Rule.{envelopes};
 
     ghost Value = { List Envelope };
 
-    ghost view = { λ b. envelopes b.items.items };
+    ghost view = { λ b. envelopes (drop b.read b.items.items) };
 }
 
 impl Batch {
@@ -27,9 +29,11 @@ impl Batch {
     pub fn next(&mut self) -> Option<Envelope>
         ensures { MatchOption result ((self.old ≡ []) × (self.new ≡ [])) (λ e. self.old ≡ e ∷ self.new) }
     {
-        while !self.items.is_empty() {
-            if let Some(envelope) = self.items.remove(0) {
-                return Some(envelope);
+        while self.read < self.items.len() {
+            let item = self.items[self.read].take();
+            self.read += 1;
+            if item.is_some() {
+                return item;
             }
         }
         None

@@ -112,13 +112,13 @@ impl Broker {
             .queue
             .try_pop_batch::<Taken, R>(rt, &mut pass.pass, head, MOST)
         else {
-            return Batch { items };
+            return Batch { items, read: 0 };
         };
         while batch.len() > 0 {
             items.push(self.queue.next_of(rt, &mut pass.pass, &mut batch));
         }
         batch.finish();
-        Batch { items }
+        Batch { items, read: 0 }
     }
 
     /// A new caller, which has seen what this one has, and has made no entry. Where memory is refused, the call stands in no history.
