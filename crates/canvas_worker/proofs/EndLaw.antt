@@ -12,7 +12,8 @@ use Rattle.canvas_runs.specs.Core as C
 use Rattle.canvas_runs.specs.Core.{taking, resting, over, failed, owning, doing, reading, taken, sent, refused, kept, counted, found, rested, answered, left_after, settled, opens, Suits, IsCoreRun}
 use Rattle.canvas_worker.specs.Asks.{Asked, Answer, suits, shown}
 use Rattle.canvas_worker.specs.Asks as asks
-use Rattle.canvas_worker.specs.AtEnd.{EndStays, FailingEnds, Ends, no_more, publish_refused, EndsBehind}
+use Rattle.canvas_worker.specs.AtEnd.{EndStays, FailingEnds, EndsACore, EndsBehind, FailsBehind}
+use Rattle.canvas_worker.proofs.Leading.{left_one_more}
 use Rattle.canvas_worker.specs.Enveloped as enveloping
 use Rattle.canvas_worker.specs.Enveloped.{enveloped_by}
 use Rattle.canvas_worker.specs.Leading.{left_by}
@@ -84,11 +85,11 @@ all_read_on book g c fs h =
     (either_on (eqb (length fs) c.size) (settled (enveloped_by book) (map enveloping.enclosed (script (body_after c fs))) false) (reading g c fs) (settled_on book (map enveloping.enclosed (script (body_after c fs))) false) refl)
     h
 
-ends_by : (book : Book) (s : Left) (r : Answer) → GoesOn s → Suits (enveloped_by book) (asked s) r → is_end (asked (answered (enveloped_by book) s r)) ≡ true → Ends (asked s) r
+ends_by : (book : Book) (s : Left) (r : Answer) → GoesOn s → Suits (enveloped_by book) (asked s) r → is_end (asked (answered (enveloped_by book) s r)) ≡ true → EndsACore (asked s) r
 ends_by book taking (taken None) on suit h = no_end resting refl h
 ends_by book taking (taken (Some e)) on suit h = no_end _ (opens_on book (enveloping.kept (opened book e) e)) h
 ends_by book resting (rested true) on suit h = no_end taking refl h
-ends_by book resting (rested false) on suit h = no_more
+ends_by book resting (rested false) on suit h = tt
 ends_by book over r on suit h = absurd (true≢false on)
 ends_by book failed r on suit h = absurd (true≢false on)
 ends_by book (owning e) (kept true) on suit h = no_end _ (settled_on book _ true) h
@@ -96,7 +97,7 @@ ends_by book (owning e) (kept false) on suit h = no_end taking refl h
 ends_by book (doing [] b) r on suit h = absurd (true≢false on)
 ends_by book (doing (store t o ∷ js) b) (kept a) on suit h = no_end _ (settled_on book js _) h
 ends_by book (doing (publish e ∷ js) b) sent on suit h = no_end _ (settled_on book js b) h
-ends_by book (doing (publish e ∷ js) b) refused on suit h = publish_refused e
+ends_by book (doing (publish e ∷ js) b) refused on suit h = tt
 ends_by book (doing (hand_in g t c ∷ js) b) (counted n) on suit h = no_end _ (either_on _ (reading g c []) taking refl refl) h
 ends_by book (reading g c fs) (found t (Some o)) on suit h = all_read_on book g c (fs ++ (t, o) ∷ []) h
 ends_by book (reading g c fs) (found t None) on suit h = no_end taking refl h
@@ -112,13 +113,13 @@ none_after book s (x ∷ xs) h run = absurd (unsuited book x.0 x.1 (ap is_end ru
     unsuited book a r is suit = true≢false (sym is)
 
 abbrev Behind : List (Asked × Answer) → Type 0
-Behind xs = (ys : List (Asked × Answer)) × (x : Asked × Answer) × (xs ≡ ys ++ x ∷ []) × Ends x.0 x.1
+Behind xs = (ys : List (Asked × Answer)) × (x : Asked × Answer) × (xs ≡ ys ++ x ∷ []) × EndsACore x.0 x.1
 
 -- behind this step, or behind one of those after it
 next : (book : Book) (s : Left) (x : Asked × Answer) (xs : List (Asked × Answer)) (b : Bool) → is_end (asked (answered (enveloped_by book) s x.1)) ≡ b
     → GoesOn s → IsCoreRun (enveloped_by book) s (x ∷ xs) → (GoesOn (answered (enveloped_by book) s x.1) → Behind xs) → Behind (x ∷ xs)
 next book s x xs true is on run later =
-    let last : Ends x.0 x.1 = subst (λ a. Ends a x.1) (sym run.0) (ends_by book s x.1 on (subst (λ a. Suits (enveloped_by book) a x.1) run.0 run.1.0) is) in
+    let last : EndsACore x.0 x.1 = subst (λ a. EndsACore a x.1) (sym run.0) (ends_by book s x.1 on (subst (λ a. Suits (enveloped_by book) a x.1) run.0 run.1.0) is) in
     ([], x, ap (λ zs. x ∷ zs) (none_after book (answered (enveloped_by book) s x.1) xs is run.2), last)
 next book s x xs false is on run later = let rest = later is in (x ∷ rest.0, rest.1, ap (λ zs. x ∷ zs) rest.2, rest.3)
 
@@ -139,3 +140,56 @@ end_so s false = refl
 pub ends_behind : EndsBehind
 ends_behind book xs s leads h =
     ends_behind_from book taking xs refl leads.run (sym (end_so (left_by book xs) s.is_out) ∙ ap (λ u. is_end (asked u)) (sym leads.left) ∙ ap is_end h)
+
+-- ---- what fails
+
+abbrev is_pause : Asked → Bool
+is_pause C.pause = true
+is_pause a = false
+
+abbrev is_failed : Left → Bool
+is_failed failed = true
+is_failed s = false
+
+-- a core that asks for a rest is resting
+pausing : (s : Left) → asked s ≡ C.pause → s ≡ resting
+pausing taking h = absurd (true≢false (sym (ap is_pause h)))
+pausing resting h = refl
+pausing over h = absurd (true≢false (sym (ap is_pause h)))
+pausing failed h = absurd (true≢false (sym (ap is_pause h)))
+pausing (owning e) h = absurd (true≢false (sym (ap is_pause h)))
+pausing (doing [] b) h = absurd (true≢false (sym (ap is_pause h)))
+pausing (doing (store t o ∷ js) b) h = absurd (true≢false (sym (ap is_pause h)))
+pausing (doing (publish e ∷ js) b) h = absurd (true≢false (sym (ap is_pause h)))
+pausing (doing (hand_in g t c ∷ js) b) h = absurd (true≢false (sym (ap is_pause h)))
+pausing (reading g c fs) h = absurd (true≢false (sym (ap is_pause h)))
+
+-- the last ask of a core run is what was asked then
+last_asked : (book : Book) (s : Left) (ys : List (Asked × Answer)) (x : Asked × Answer) → IsCoreRun (enveloped_by book) s (ys ++ x ∷ []) → x.0 ≡ asked (left_after (enveloped_by book) s ys)
+last_asked book s [] x run = run.0
+last_asked book s (y ∷ ys) x run = last_asked book (answered (enveloped_by book) s y.1) ys x run.2
+
+unsent_failed : (s : Left) → is_failed (unsent s) ≡ is_failed s
+unsent_failed (doing (publish e ∷ js) b) = refl
+unsent_failed s = refl
+
+failed_so : (s : Left) (out : Bool) → is_failed (if out then unsent s else s) ≡ is_failed s
+failed_so s true = unsent_failed s
+failed_so s false = refl
+
+-- behind a rest that was answered with no more it hasn't failed
+over_then : (book : Book) (ys : List (Asked × Answer)) → IsCoreRun (enveloped_by book) taking (ys ++ (C.pause, rested false) ∷ []) → is_failed (left_by book (ys ++ (C.pause, rested false) ∷ [])) ≡ false
+over_then book ys run =
+    ap is_failed (left_one_more book taking ys (C.pause, rested false) ∙ ap (λ u. answered (enveloped_by book) u (rested false)) (pausing (left_by book ys) (sym (last_asked book taking ys (C.pause, rested false) run))))
+
+which : (book : Book) (xs ys : List (Asked × Answer)) (a : Asked) (r : Answer) → IsCoreRun (enveloped_by book) taking xs → is_failed (left_by book xs) ≡ true → xs ≡ ys ++ (a, r) ∷ [] → EndsACore a r
+    → (zs : List (Asked × Answer)) × (e : Envelope) × (xs ≡ zs ++ (C.send e, refused) ∷ [])
+which book xs ys C.pause (rested false) run fails same by =
+    absurd (true≢false (sym fails ∙ ap (λ zs. is_failed (left_by book zs)) same ∙ over_then book ys (subst (λ zs. IsCoreRun (enveloped_by book) taking zs) same run)))
+which book xs ys (C.send e) refused run fails same by = (ys, e, same)
+which book xs ys a r run fails same by = absurd by
+
+pub fails_behind : FailsBehind
+fails_behind book xs s leads h =
+    let last = ends_behind book xs s leads (ap asked h) in
+    which book xs last.0 last.1.0 last.1.1 leads.run (sym (failed_so (left_by book xs) s.is_out) ∙ ap is_failed (sym leads.left) ∙ ap is_failed h) last.2 last.3

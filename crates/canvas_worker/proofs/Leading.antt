@@ -69,7 +69,7 @@ still_same s h = refl
 
 -- ---- one more
 
-left_one_more : (book : Book) (s : Left) (xs : List (Asked × Answer)) (x : Asked × Answer)
+pub left_one_more : (book : Book) (s : Left) (xs : List (Asked × Answer)) (x : Asked × Answer)
     → left_after (enveloped_by book) s (xs ++ x ∷ []) ≡ answered (enveloped_by book) (left_after (enveloped_by book) s xs) x.1
 left_one_more book s [] x = refl
 left_one_more book s (y ∷ xs) x = left_one_more book (answered (enveloped_by book) s y.1) xs x

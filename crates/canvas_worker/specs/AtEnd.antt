@@ -2,7 +2,7 @@
 use Rattle.std.specs.Prelude.{◌≡◌, false, List, [], ◌∷◌, ◌++◌, None}
 use Rattle.canvas_message.specs.declared.envelope.Envelope.{Envelope}
 use Rattle.canvas_runs.specs.Book.{Book}
-use Rattle.canvas_runs.specs.Core.{end, pause, send, rested, refused}
+use Rattle.canvas_runs.specs.Core.{failed, end, pause, send, rested, refused}
 use Rattle.canvas_worker.specs.Asks.{Asked, Answer, suits, shown}
 use Rattle.canvas_worker.specs.Leading.{Leads}
 use Rattle.canvas_worker.specs.Standing.{Standing, asked, failing, held_out, handed}
@@ -16,13 +16,20 @@ EndStays = (s : Standing) → asked s.left ≡ end → ((r : Reply) → suits (s
 abbrev pub FailingEnds : Type 0
 FailingEnds = (s : Standing) → asked (failing s).left ≡ end
 
--- the ask and the answer that end a core
-pub data Ends : Asked → Answer → Type 0 where
-  no_more : Ends pause (rested false)
-  publish_refused : (e : Envelope) → Ends (send e) refused
+-- the ask and the answer that end a core: a rest answered with no more, and a publish that was refused
+abbrev pub EndsACore : Asked → Answer → Type 0
+EndsACore pause (rested false) = Unit {0}
+EndsACore (send e) refused = Unit {0}
+EndsACore a r = ⊥
 
 -- But for memory, a core is at its end only behind a rest that was answered with no more, or behind a publish that was refused.
 abbrev pub EndsBehind : Type 0
 EndsBehind =
     (book : Book) (xs : List (Asked × Answer)) (s : Standing) → Leads book xs s → asked s.left ≡ end
-    → (ys : List (Asked × Answer)) × (x : Asked × Answer) × (xs ≡ ys ++ x ∷ []) × Ends x.0 x.1
+    → (ys : List (Asked × Answer)) × (x : Asked × Answer) × (xs ≡ ys ++ x ∷ []) × EndsACore x.0 x.1
+
+-- and it has failed only behind a publish that was refused
+abbrev pub FailsBehind : Type 0
+FailsBehind =
+    (book : Book) (xs : List (Asked × Answer)) (s : Standing) → Leads book xs s → s.left ≡ failed
+    → (ys : List (Asked × Answer)) × (e : Envelope) × (xs ≡ ys ++ (send e, refused) ∷ [])

@@ -21,7 +21,7 @@ mod stop;
 mod worker;
 mod working;
 
-ghost use Rattle.canvas_worker.specs.AtEnd.{EndStays, EndsBehind, FailingEnds};
+ghost use Rattle.canvas_worker.specs.AtEnd.{EndStays, EndsBehind, FailingEnds, FailsBehind};
 ghost use Rattle.canvas_worker.specs.Cores.{CoresAreWorkers};
 ghost use Rattle.canvas_worker.specs.Finished.{WorkersStart, WorkersFinish};
 ghost use Rattle.canvas_worker.specs.Leading.{NoneLead, OneMoreLeads, HandedLeads, HandsOut, PlanLeads};
@@ -53,11 +53,12 @@ pub fn law_of_answers()
 {}
 
 /// A core that is at its end stays there: it takes no answer and hands out no envelope. It is there where memory was refused; else its
-/// last ask was a rest that was answered with no more, or a publish that was refused.
+/// last ask was a rest that was answered with no more, or a publish that was refused, and only that made it fail.
 pub fn law_of_ends()
     ensures stays { EndStays }
     ensures fails { FailingEnds }
     ensures behind { EndsBehind }
+    ensures failing { FailsBehind }
 {}
 
 /// What a worker asks its backend is what that lets its seat do. The worker knows of no other: this follows from what it has left to

@@ -1,4 +1,4 @@
-use Rattle.canvas_worker.proofs.EndLaw.{end_stays, failing_ends, ends_behind}
+use Rattle.canvas_worker.proofs.EndLaw.{end_stays, failing_ends, ends_behind, fails_behind}
 use Rattle.canvas_worker.proofs.law_of_ends.Goals as goal
 
 pub returns-clause-stays : goal.returns-clause-stays
@@ -9,3 +9,6 @@ returns-clause-fails c = failing_ends
 
 pub returns-clause-behind : goal.returns-clause-behind
 returns-clause-behind c = ends_behind
+
+pub returns-clause-failing : goal.returns-clause-failing
+returns-clause-failing c = fails_behind
