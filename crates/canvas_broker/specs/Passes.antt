@@ -42,6 +42,6 @@ module _ {I E : Type 0} where
   Took p [] p' = p' ≡ p
   Took p (e ∷ es) p' = callers.StandTogether [] answer next May p (takes_of p.name (e ∷ es)) p'
 
-  -- what the pass has seen, with the joins that it owes
+  -- where no other caller is live, what the pass has seen, with the joins that it owes, replays to the empty queue
   abbrev pub Empties : CallerAt I E → Type 0
   Empties p = Sole (told p) p.name → queue_of (told p) ≡ []
