@@ -1,12 +1,14 @@
 -- A line as a signature means what the line means.
-use Rattle.std.proofs.Common.{◌≡◌, ◌∙◌, ℕ, ◌+◌, ◌++◌, List, [], ◌∷◌, append-nil, refl, sym, ap, arith}
+use Rattle.std.proofs.Common.{◌≡◌, ◌∙◌, ℕ, ◌+◌, ◌++◌, [], append-nil, refl, sym, ap, arith}
 use Rattle.canvas_semantics.specs.Tree.{one, group, chord, Trees, no_trees, and_tree, ends_in_group, last_in_group, count, count_all, count_groups, count_all_groups, number, number_all, numbered, number_task}
 use Rattle.canvas_semantics.specs.Compact.{element_or_chain, compact, compact_elements, compact_members}
 use Rattle.canvas_semantics.specs.Evaluation.{Flow, ends, last_ends, all_ends, behind, and_then, group_value, with_states, as_group, eval, eval_chain, member_rows}
 use Rattle.canvas_semantics.specs.Groups.{groups_of, all_groups_of}
 use Rattle.canvas_semantics.specs.Line.{Line, stop, step, group_end, chord_end, Lines, no_lines, and_line, elements_of, members_of, tree_of, number_line, number_lines, count_line, count_lines, line_groups, lines_groups}
 use Rattle.canvas_semantics.specs.SameMeaning.{IsSame}
+use Rattle.canvas_semantics.proofs.GroupLemmas.{headed}
 use Rattle.canvas_semantics.proofs.NormalLaw.{and_then_nothing}
+use Rattle.canvas_semantics.proofs.NumberLemmas.{at}
 use Rattle.canvas_semantics.proofs.Numbered.{tree_numbered}
 
 -- ---- one element, or a chain
@@ -73,10 +75,6 @@ whole_groups_of no_trees = refl
 whole_groups_of (and_tree t no_trees) = sym (append-nil (groups_of t))
 whole_groups_of (and_tree t (and_tree u us)) = refl
 
--- a group or chord with what its members end in, before what comes after
-abbrev headed : ℕ → List ℕ → List (ℕ × List ℕ) → List (ℕ × List ℕ) → List (ℕ × List ℕ)
-headed g es inner more = (g, es) ∷ inner ++ more
-
 mutual
   groups_kept : (l : Line) → all_groups_of (compact_elements l) ≡ all_groups_of (elements_of l)
   groups_kept stop = refl
@@ -135,9 +133,6 @@ mutual
   groups_members : (ms : Lines) → count_all_groups (compact_members ms) ≡ lines_groups ms
   groups_members no_lines = refl
   groups_members (and_line m ms) = omega (arith, whole_groups (compact_elements m), groups_compact m, groups_members ms)
-
-at : (k k' g g' : ℕ) (ts : Trees) → k ≡ k' → g ≡ g' → number_all k g ts ≡ number_all k' g' ts
-at k k' g g' ts e f = ap (λ n. number_all n g ts) e ∙ ap (λ n. number_all k' n ts) f
 
 mutual
   number_compact : (l : Line) (k g : ℕ) → number_all k g (compact_elements l) ≡ compact_elements (number_line k g l)

@@ -7,7 +7,7 @@ use Rattle.canvas_semantics.specs.NormalLine.{onto, all_onto, normal_all, normal
 use Rattle.canvas_semantics.proofs.NormalLaw.{ends_members}
 
 -- a group or chord with its header, before what comes after
-abbrev headed : ℕ → List ℕ → List (ℕ × List ℕ) → List (ℕ × List ℕ) → List (ℕ × List ℕ)
+abbrev pub headed : ℕ → List ℕ → List (ℕ × List ℕ) → List (ℕ × List ℕ) → List (ℕ × List ℕ)
 headed g es inner more = (g, es) ∷ inner ++ more
 
 same_header : (g : ℕ) (ms : Trees) (more : List (ℕ × List ℕ)) → AreFull ms → all_groups_of (normal_all ms) ≡ all_groups_of ms

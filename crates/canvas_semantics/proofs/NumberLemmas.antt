@@ -51,7 +51,7 @@ groups_normal_tree t = omega (arith, groups_onto t no_trees)
 
 -- ---- numbers
 
-at : (k k' g g' : ℕ) (ts : Trees) → k ≡ k' → g ≡ g' → number_all k g ts ≡ number_all k' g' ts
+pub at : (k k' g g' : ℕ) (ts : Trees) → k ≡ k' → g ≡ g' → number_all k g ts ≡ number_all k' g' ts
 at k k' g g' ts e f = ap (λ n. number_all n g ts) e ∙ ap (λ n. number_all k' n ts) f
 
 mutual
