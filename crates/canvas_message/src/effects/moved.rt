@@ -22,7 +22,7 @@ use std::alloc::{AllocError, Global};
 
 impl Message {
     /// What follows the end of this message's task, as `after` says, where the message isn't needed any more: the task that follows it
-    /// on its line takes over what it carries, and no copy is made of that.
+    /// on its line takes over what it carries, and no copy is made of that. The message is given up, also where memory is refused.
     pub fn into_todo(self, alloc: Global, outcome: &Outcome) -> Result<Todo, Memory>
         requires { IsInRange outcome.now }
         ensures { IfOk result (λ todo. todo_view todo ≡ after self outcome.now) }
