@@ -8,7 +8,7 @@ use Rattle.canvas_history.specs.Callers as callers
 use Rattle.canvas_history.specs.Callers.{Caller, owing_none}
 use Rattle.canvas_history.specs.History.{Entry}
 use Rattle.canvas_backend.specs.Roster.{Roster}
-use Rattle.canvas_backend.specs.Backend.{Call, Reply, Log, no_results, reply_of, next_of, May}
+use Rattle.canvas_backend.specs.Backend.{TableCall, TableReply, Log, no_results, reply_of, next_of, May}
 
 -- a backend: which one it is, and what its plan says
 pub record Desk : Type 0 where
@@ -22,7 +22,7 @@ pub record Seat : Type 0 where
   pub seen : Log
 
 -- its joins stand at once: it answers for itself alone, and owes none
-abbrev pub as_caller : Seat → Caller TableId Call Reply
+abbrev pub as_caller : Seat → Caller TableId TableCall TableReply
 as_caller s = owing_none s.of s.name s.seen
 
 abbrev pub Adds : Seat → Log → Seat → Type 0
@@ -31,7 +31,7 @@ Adds s es t = callers.Adds (as_caller s) es (as_caller t)
 abbrev pub LeavesOne : Seat → Type 0
 LeavesOne s = callers.LeavesOne (as_caller s)
 
-abbrev pub Stands : Roster → Seat → Entry Call Reply → Seat → Type 0
+abbrev pub Stands : Roster → Seat → Entry TableCall TableReply → Seat → Type 0
 Stands plan s e t = callers.Stands no_results (reply_of plan) next_of (May plan) (as_caller s) e (as_caller t)
 
 abbrev pub Parted : Roster → Seat → Seat → Seat → Type 0

@@ -5,7 +5,7 @@ use mathlib.Core.Option.{some, some-ne-none}
 use lib.ListN.{get_elem?}
 use Rattle.crossbeam_queue.specs.Fifo.{PopsMany}
 use Rattle.crossbeam_queue.proofs.Lists.{set_again, set_here}
-use Rattle.canvas_history.specs.History.{calls, live_from, named, Allowed}
+use Rattle.canvas_history.specs.History.{calls, live_from, split_off, Allowed}
 use Rattle.canvas_history.proofs.Histories.{In}
 use Rattle.canvas_broker.specs.Broker.{take, QueueEntry, answer, next, May, IsLegal, queue_of, takes_of}
 use Rattle.canvas_broker.specs.steps.Rule.{envelopes, IsReady, IsKept, Kept, known, view_of, TakesAll}
@@ -45,7 +45,7 @@ module _ {E : Type 0} where
       let e : QueueEntry E = calls v.knows.name take (Some x) in
       let front : queue_of (log ++ v.knows.owed) ≡ x ∷ envelopes items = queue_after v log o ∙ kept.replays in
       let may : Allowed [] answer next May (log ++ v.knows.owed) e = (caller_lives (Some x ∷ items) views log owner kept pass v at ready, sym (ap (λ s. answer s take) front), tt) in
-      let names : named (log ++ tail_of v e) ≡ named log = named_after v log e o ∙ append-nil (named log) in
+      let names : split_off (log ++ tail_of v e) ≡ split_off log = named_after v log e o ∙ append-nil (split_off log) in
       adds (Some x ∷ items) views log owner kept pass v at ready items e owner [] refl may
       (ap (λ s. next s take) kept.replays)
       (calls_stay v.knows.name take (Some x))

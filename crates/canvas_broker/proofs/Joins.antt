@@ -1,7 +1,7 @@
 -- The joins that a pass owes: they are legal after any history in which its callers are live, and touch no other caller.
 use Rattle.std.proofs.Common.{◌≡◌, ℕ, false, List, [], ◌∷◌, ◌++◌, refl, sym, subst}
 use Rattle.std.proofs.lemmas.Bool.{ne_eqb}
-use Rattle.canvas_history.specs.History.{split, join, calls, among, without, live_after, live_from, live, named, made_by, NoneBy, state_from, LegalFrom}
+use Rattle.canvas_history.specs.History.{split, join, calls, among, without, live_after, live_from, live, split_off, made_by, NoneBy, state_from, LegalFrom}
 use Rattle.canvas_history.proofs.Histories.{In, other_of, made_others, in_left, in_right, in_without, in_within, live_append}
 use Rattle.canvas_broker.specs.Broker.{QueueEntry, answer, next, May}
 use Rattle.canvas_broker.specs.steps.Rule.{Orderly}
@@ -72,7 +72,7 @@ module _ {E : Type 0} where
   orderly_state p cs (join r q ∷ js) s o = orderly_state p (without q cs) js s o.3
   orderly_state p cs (calls r c a ∷ js) s o = absurd o
 
-  pub orderly_named : (p : ℕ) (cs : List ℕ) (js : List (QueueEntry E)) → Orderly p cs js → named js ≡ []
+  pub orderly_named : (p : ℕ) (cs : List ℕ) (js : List (QueueEntry E)) → Orderly p cs js → split_off js ≡ []
   orderly_named p cs [] o = refl
   orderly_named p cs (split r q ∷ js) o = absurd o
   orderly_named p cs (join r q ∷ js) o = orderly_named p (without q cs) js o.3

@@ -7,7 +7,7 @@ use lib.ListN.{get_elem?, length-append}
 use Rattle.std.proofs.lemmas.List.{length-set}
 use Rattle.crossbeam_queue.specs.Fifo.{Pushes, Pops, Forks, Merges, Learns}
 use Rattle.crossbeam_queue.proofs.Lists.{at_set, set_again}
-use Rattle.canvas_history.specs.History.{split, join, calls, among, by_of, live_after, live_from, live, named, state_from, Allowed, NoneBy, Since, Sole}
+use Rattle.canvas_history.specs.History.{split, join, calls, among, by_of, live_after, live_from, live, split_off, state_from, Allowed, NoneBy, Since, Sole}
 use Rattle.canvas_history.proofs.Histories.{In, in_cases, in_here, in_left, in_right, in_append, live_append, named_append, live_named, state_append, legal_append, legal_left, legal_right, was_there}
 use Rattle.canvas_history.specs.Callers.{told, Owes, Follows}
 use Rattle.canvas_history.proofs.CallerLaws.{owing}
@@ -72,12 +72,12 @@ module _ {E : Type 0} where
   none_of_none (x ∷ xs) = (refl, none_of_none xs)
 
   -- ---- callers that a list names
-  is_live : (c : ℕ) (log : List (QueueEntry E)) → In c (live log) → (c ≡ 0) ⊎ In c (named log)
+  is_live : (c : ℕ) (log : List (QueueEntry E)) → In c (live log) → (c ≡ 0) ⊎ In c (split_off log)
   is_live c log h = ⊎_elim (λ t. ⊎_elim (λ (z : 0 ≡ c). inl (sym z)) (λ u. absurd (false≢true u)) (in_cases c 0 [] t)) (λ t. inr t) (live_named c (0 ∷ []) log h)
 
-  is_later : (c : ℕ) (cs : List ℕ) (xs log : List (QueueEntry E)) → Since cs log xs → (c ≡ 0) ⊎ In c (named xs) → (c ≡ 0) ⊎ In c (named log)
+  is_later : (c : ℕ) (cs : List ℕ) (xs log : List (QueueEntry E)) → Since cs log xs → (c ≡ 0) ⊎ In c (split_off xs) → (c ≡ 0) ⊎ In c (split_off log)
   is_later c cs xs log g h =
-      ⊎_elim (λ z. inl z) (λ t. inr (subst (λ l. In c (named l)) (sym g.1) (subst (λ l. In c l) (sym (named_append xs g.0)) (in_left c (named xs) (named g.0) t)))) h
+      ⊎_elim (λ z. inl z) (λ t. inr (subst (λ l. In c (split_off l)) (sym g.1) (subst (λ l. In c l) (sym (named_append xs g.0)) (in_left c (split_off xs) (split_off g.0) t)))) h
 
   -- ---- the first pass has begun
   begun_of : (views : List (View E)) (log : List (QueueEntry E)) (owner : ℕ → ℕ) → (get_elem? views 0 ≡ some newcomer → (log ≡ []) × ((j : ℕ) (u : View E) → get_elem? views j ≡ some u → callers u ≡ []))
@@ -116,8 +116,8 @@ module _ {E : Type 0} where
   abbrev pub tail_of : View E → QueueEntry E → List (QueueEntry E)
   tail_of v e = v.knows.owed ++ e ∷ []
 
-  pub named_after : (v : View E) (log : List (QueueEntry E)) (e : QueueEntry E) → Orderly v.knows.name v.knows.mine v.knows.owed → named (log ++ tail_of v e) ≡ named log ++ named (e ∷ [])
-  named_after v log e o = named_append log (tail_of v e) ∙ ap (λ l. named log ++ l) (named_append v.knows.owed (e ∷ []) ∙ ap (λ l. l ++ named (e ∷ [])) (orderly_named v.knows.name v.knows.mine v.knows.owed o))
+  pub named_after : (v : View E) (log : List (QueueEntry E)) (e : QueueEntry E) → Orderly v.knows.name v.knows.mine v.knows.owed → split_off (log ++ tail_of v e) ≡ split_off log ++ split_off (e ∷ [])
+  named_after v log e o = named_append log (tail_of v e) ∙ ap (λ l. split_off log ++ l) (named_append v.knows.owed (e ∷ []) ∙ ap (λ l. l ++ split_off (e ∷ [])) (orderly_named v.knows.name v.knows.mine v.knows.owed o))
 
   pub queue_after : (v : View E) (log : List (QueueEntry E)) → Orderly v.knows.name v.knows.mine v.knows.owed → queue_of (log ++ v.knows.owed) ≡ queue_of log
   queue_after v log o = state_append [] answer next May [] log v.knows.owed ∙ orderly_state v.knows.name v.knows.mine v.knows.owed (queue_of log) o
@@ -160,7 +160,7 @@ module _ {E : Type 0} where
         → Allowed [] answer next May (log ++ v.knows.owed) e
         → state_from [] answer next May (queue_of log) (e ∷ []) ≡ envelopes items'
         → ((c : ℕ) (ds : List ℕ) → In c ds → In c (live_after ds e))
-        → ((c : ℕ) → In c (named (log ++ tail_of v e)) → c ≤ length (named (log ++ tail_of v e)))
+        → ((c : ℕ) → In c (split_off (log ++ tail_of v e)) → c ≤ length (split_off (log ++ tail_of v e)))
         → ((c : ℕ) → In c qs → (owner' c ≡ pass) × In c (live (log ++ tail_of v e)))
         → ((c : ℕ) → In c (live log) → owner' c ≡ owner c)
         → IsKept items' (set views pass (view_of (known v.knows.name (live_from v.knows.mine v.knows.owed) (log ++ tail_of v e) []) qs)) (log ++ tail_of v e) owner'
@@ -214,7 +214,7 @@ module _ {E : Type 0} where
       let o = orderly items views log owner kept pass v at ready in
       let e : QueueEntry E = calls v.knows.name (publish x) None in
       let may : Allowed [] answer next May (log ++ v.knows.owed) e = (caller_lives items views log owner kept pass v at ready, refl, tt) in
-      let names : named (log ++ tail_of v e) ≡ named log = named_after v log e o ∙ append-nil (named log) in (
+      let names : split_off (log ++ tail_of v e) ≡ split_off log = named_after v log e o ∙ append-nil (split_off log) in (
         view_of (known v.knows.name (live_from v.knows.mine v.knows.owed) (log ++ tail_of v e) []) [],
         (
           log ++ tail_of v e,
@@ -252,7 +252,7 @@ module _ {E : Type 0} where
       let e : QueueEntry E = calls v.knows.name take (Some x) in
       let front : queue_of (log ++ v.knows.owed) ≡ x ∷ envelopes items = queue_after v log o ∙ kept.replays in
       let may : Allowed [] answer next May (log ++ v.knows.owed) e = (caller_lives (Some x ∷ items) views log owner kept pass v at ready, sym (ap (λ s. answer s take) front), tt) in
-      let names : named (log ++ tail_of v e) ≡ named log = named_after v log e o ∙ append-nil (named log) in (
+      let names : split_off (log ++ tail_of v e) ≡ split_off log = named_after v log e o ∙ append-nil (split_off log) in (
         view_of (known v.knows.name (live_from v.knows.mine v.knows.owed) (log ++ tail_of v e) []) [],
         (
           log ++ tail_of v e,
@@ -280,17 +280,17 @@ module _ {E : Type 0} where
   splits n pass v ready items views room h at =
       let log = h.0 in let owner = h.1 in let kept = h.2 in
       let o = orderly items views log owner kept pass v at ready in
-      let q : ℕ = suc (length (named log)) in
+      let q : ℕ = suc (length (split_off log)) in
       let e : QueueEntry E = split v.knows.name q in
       let fresh : (c : ℕ) → In c (live log) → c ≡ q → ⊥ =
       λ c i e'. ⊎_elim (λ t. ⊎_elim (λ (z : 0 ≡ c). absurd (omega (arith, z, e'))) (λ t. false≢true t) (in_cases c 0 [] t))
       (λ t. let m = kept.numbered c t in absurd (omega (arith, m, e'))) (live_named c (0 ∷ []) log i) in
-      let owed_none : named (log ++ v.knows.owed) ≡ named log =
-      named_append log v.knows.owed ∙ (ap (λ l. named log ++ l) (orderly_named v.knows.name v.knows.mine v.knows.owed o) ∙ append-nil (named log)) in
-      let new : among q (named (log ++ v.knows.owed)) ≡ false =
-      ⊎_elim (λ t. let m = kept.numbered q (subst (λ l. In q l) owed_none t) in absurd (omega (arith, m))) (λ t. t) (cases_Bool (among q (named (log ++ v.knows.owed)))) in
+      let owed_none : split_off (log ++ v.knows.owed) ≡ split_off log =
+      named_append log v.knows.owed ∙ (ap (λ l. split_off log ++ l) (orderly_named v.knows.name v.knows.mine v.knows.owed o) ∙ append-nil (split_off log)) in
+      let new : among q (split_off (log ++ v.knows.owed)) ≡ false =
+      ⊎_elim (λ t. let m = kept.numbered q (subst (λ l. In q l) owed_none t) in absurd (omega (arith, m))) (λ t. t) (cases_Bool (among q (split_off (log ++ v.knows.owed)))) in
       let may : Allowed [] answer next May (log ++ v.knows.owed) e = (caller_lives items views log owner kept pass v at ready, ne_eqb q 0 (λ z. omega (arith, z)), new) in
-      let names : named (log ++ tail_of v e) ≡ named log ++ q ∷ [] = named_after v log e o in
+      let names : split_off (log ++ tail_of v e) ≡ split_off log ++ q ∷ [] = named_after v log e o in
       let owner' : ℕ → ℕ = λ c. cond (c == q) pass (owner c) in (
         view_of (known v.knows.name (live_from v.knows.mine v.knows.owed) (log ++ tail_of v e) []) (q ∷ []),
         (
@@ -300,9 +300,9 @@ module _ {E : Type 0} where
               (kept.replays ∙ sym (envelopes_append items (None ∷ []) ∙ append-nil (envelopes items)))
               (λ c ds i. in_left c ds (q ∷ []) i)
               (λ c i. subst (λ l. c ≤ length l) (sym names)
-              (⊎_elim (λ t. let m = kept.numbered c t in omega (arith, m, length-append (named log) (q ∷ [])))
-              (λ t. ⊎_elim (λ (z : q ≡ c). omega (arith, z, length-append (named log) (q ∷ []))) (λ t. absurd (false≢true t)) (in_cases c q [] t))
-              (in_append c (named log) (q ∷ []) (subst (λ l. In c l) names i))))
+              (⊎_elim (λ t. let m = kept.numbered c t in omega (arith, m, length-append (split_off log) (q ∷ [])))
+              (λ t. ⊎_elim (λ (z : q ≡ c). omega (arith, z, length-append (split_off log) (q ∷ []))) (λ t. absurd (false≢true t)) (in_cases c q [] t))
+              (in_append c (split_off log) (q ∷ []) (subst (λ l. In c l) names i))))
               (λ c i. ⊎_elim
               (λ (z : q ≡ c). (
                 rw (eq-eqb c q (sym z)) refl,
@@ -318,7 +318,7 @@ module _ {E : Type 0} where
           (refl, refl, refl, refl, extends items views log owner kept pass v at ready e may),
           orderly_left v.knows.name v.knows.mine v.knows.owed o,
           ⊎_elim (λ t. absurd (fresh q (alive items views log owner kept pass v at ready q (orderly_within v.knows.name q v.knows.mine v.knows.owed o t)) refl)) (λ t. t) (cases_Bool (among q (live_from v.knows.mine v.knows.owed))),
-          sym (ap length names ∙ (length-append (named log) (q ∷ []) ∙ omega arith)),
+          sym (ap length names ∙ (length-append (split_off log) (q ∷ []) ∙ omega arith)),
         ),
       )
 

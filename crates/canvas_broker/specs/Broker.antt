@@ -5,7 +5,7 @@
 --     queue_of, IsLegal   what a history replays to, and whether it is one
 --     takes_of p es       takes of these by p, side by side
 use Rattle.std.specs.Prelude.{ℕ, List, [], ◌∷◌, ◌++◌, Option, Some, None}
-use Rattle.canvas_history.specs.History.{Entry, calls, state_of, Legal}
+use Rattle.canvas_history.specs.History.{Entry, calls, replay, Legal}
 
 pub data QueueCall (E : Type 0) : Type 0 where
   publish : E → QueueCall E
@@ -32,7 +32,7 @@ module _ {E : Type 0} where
 
   -- what the history replays to
   abbrev pub queue_of : List (QueueEntry E) → List E
-  queue_of log = state_of [] answer next May log
+  queue_of log = replay [] answer next May log
 
   abbrev pub IsLegal : List (QueueEntry E) → Type 0
   IsLegal log = Legal [] answer next May log

@@ -6,7 +6,7 @@ use Rattle.canvas_semantics.specs.Evaluation.{Rows, State, state_of, with_states
 use Rattle.canvas_semantics.specs.Tree.{ends_in_group, Task, task, Tasks, no_tasks, and_task, count_task, count_tasks}
 use Rattle.canvas_semantics.specs.Line.{Line, stop, step, group_end, chord_end, Lines, no_lines, and_line, count_line, count_lines, tree_of, ends_of, in_group, names, all_names, task_names, tasks_names, name_at}
 use Rattle.canvas_task.specs.Text.{Text}
-use Rattle.canvas_semantics.specs.Report.{names_by_number as named, counted_from, line, lines, value_text, listed_values, result_text, report_of}
+use Rattle.canvas_semantics.specs.Report.{names_by_number as named, counted_from, report_line, lines, value_text, listed_values, result_text, report_of}
 use Rattle.canvas_semantics.proofs.EndLemmas.{ends_of_tree}
 use Rattle.canvas_rewrite.proofs.Members.{in_group_tree}
 use Rattle.canvas_engine.specs.steps.ReportRows.{line_if, listed_behind}
@@ -15,7 +15,7 @@ use Rattle.canvas_engine.specs.steps.ReportRows.{line_if, listed_behind}
 pub further : (ns : List Text) (i k : ℕ) (rows : Rows) → line_if (k + i) (slice_get ns i) rows ++ lines (counted_from (k + suc i) (drop (suc i) ns)) rows ≡ lines (counted_from (k + i) (drop i ns)) rows
 further [] zero k rows = refl
 further [] (suc i) k rows = refl
-further (n ∷ ns) zero k rows = ap (λ m. line (k + 0, n) (state_of (k + 0) rows) ++ lines (counted_from m ns) rows) (omega arith)
+further (n ∷ ns) zero k rows = ap (λ m. report_line (k + 0, n) (state_of (k + 0) rows) ++ lines (counted_from m ns) rows) (omega arith)
 further (n ∷ ns) (suc i) k rows =
     let next : k + suc i ≡ suc k + i = omega arith in
     let after : k + suc (suc i) ≡ suc k + suc i = omega arith in

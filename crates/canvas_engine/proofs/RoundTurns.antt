@@ -4,6 +4,7 @@ use Rattle.std.specs.Prelude.{◌||◌}
 use Rattle.std.proofs.Math.Nat.{eq-or-lt_of_le}
 use Rattle.std.proofs.Math.Seq.{take-suc}
 use Rattle.std.proofs.lemmas.List.{take_all}
+use Rattle.canvas_task.specs.Apply.{six_tasks}
 use Rattle.canvas_semantics.specs.Line.{Line}
 use Rattle.canvas_runs.specs.Turns.{Step, IsWorker, HasEnded, round, rounds}
 use Rattle.canvas_runs.proofs.TurnEnds.{begins_list, begins_rotation, rounds_next}
@@ -20,11 +21,11 @@ module _ (l : Line) (n most : ℕ) (us : List ℕ) (xs : List Step) where
   turns_so : (i p : ℕ) → p ≡ suc i → (us ++ round i) ++ p ∷ [] ≡ us ++ round (suc i)
   turns_so i p e = append_assoc us (round i) (p ∷ []) ∙ ap (λ q. us ++ (round i ++ q ∷ [])) e
 
-  ended_too : (i p : ℕ) → p ≡ suc i → ((q : ℕ) → IsWorker i q → HasEnded l xs q) → HasEnded l xs p → (q : ℕ) → IsWorker (suc i) q → HasEnded l xs q
+  ended_too : (i p : ℕ) → p ≡ suc i → ((q : ℕ) → IsWorker i q → HasEnded six_tasks l xs q) → HasEnded six_tasks l xs p → (q : ℕ) → IsWorker (suc i) q → HasEnded six_tasks l xs q
   ended_too i p e before here q w = go (eq-or-lt_of_le w.1)
     where
-      go : (q ≡ suc i) ⊎ (q < suc i) → HasEnded l xs q
-      go (inl same) = subst (HasEnded l xs) (e ∙ sym same) here
+      go : (q ≡ suc i) ⊎ (q < suc i) → HasEnded six_tasks l xs q
+      go (inl same) = subst (HasEnded six_tasks l xs) (e ∙ sym same) here
       go (inr less) = before q (w.0, omega (arith, less))
 
   pub part_of_round : (b : Bool) (i p j steps : ℕ) (s s' : Stage) → p ≡ suc i → j ≡ suc i → length xs + steps ≡ most → IsPartOfRound b l n most us xs i steps s → OneTurn false p s s'
@@ -75,7 +76,7 @@ module _ (l : Line) (n most : ℕ) (ts : List ℕ) where
   pub another_round : (k : ℕ) (s : Stage) → HasReached l n most ((ts ++ rounds n k) ++ round n) s → HasReached l n most (ts ++ rounds n (suc k)) s
   another_round k s r = (r.0, subst (λ vs. Reached l n most vs r.0 s) (append_assoc ts (rounds n k) (round n) ∙ ap (λ vs. ts ++ vs) (sym (rounds_next n k))) r.1)
 
-  pub last_round : (k : ℕ) (xs : List Step) (s : Stage) → Reached l n most ((ts ++ rounds n k) ++ round n) xs s → ((p : ℕ) → IsWorker n p → HasEnded l xs p) → IsRunThrough l n most ts s
+  pub last_round : (k : ℕ) (xs : List Step) (s : Stage) → Reached l n most ((ts ++ rounds n k) ++ round n) xs s → ((p : ℕ) → IsWorker n p → HasEnded six_tasks l xs p) → IsRunThrough l n most ts s
   last_round k xs s r ended = record {
     further = suc k;
     steps = xs;

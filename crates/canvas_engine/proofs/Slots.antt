@@ -3,6 +3,7 @@ use Rattle.std.proofs.Common.{◌≡◌, ◌∙◌, ℕ, suc, ◌+◌, List, [],
 use Rattle.std.proofs.lemmas.List.Elements.{All-head, All-tail}
 use Rattle.std.specs.Prelude.{None}
 use Rattle.std.specs.Global.{Global}
+use Rattle.canvas_task.specs.Apply.{six_tasks}
 use Rattle.crossbeam_queue.specs.SegTies.{SegId}
 use Rattle.atomic_table.specs.Seated.{TableId}
 use Rattle.canvas_task.specs.declared.outcome.Outcome.{Outcome}
@@ -11,7 +12,7 @@ use Rattle.canvas_backend.specs.Seats as seats
 use Rattle.canvas_backend.specs.Roster.{Roster}
 use Rattle.canvas_history.specs.Callers.{Owes}
 use Rattle.canvas_runs.specs.Calls.{BrokerCall, BackendCall}
-use Rattle.canvas_runs.specs.Crew.{Mate, Splits, Joins, SplitSeats, JoinSeats}
+use Rattle.canvas_runs.specs.Crew.{Mate, SplitPasses, JoinPasses, SplitSeats, JoinSeats}
 use Rattle.canvas_runs.specs.Following.{Pass, Seat, Makes, Serves, IsDone as IsEnded}
 use Rattle.canvas_runs.specs.Lists.{Each}
 use Rattle.canvas_worker.specs.Finished.{Finished}
@@ -96,20 +97,20 @@ are_of b d plan (x ∷ xs) (y ∷ ys) a r f =
 tally_of_done : (k : ℕ) (plan : Roster) (q : Pass) (t : Seat) (slot : Slot) (r : Record) → slot.number ≡ k → slot.post ≡ Done r → (f : Finished plan k q t r) → tally_in slot ≡ numbered_counts k f.ended.tally
 tally_of_done k plan q t slot r n e f = ap (λ p. tally_in (record { number = slot.number; post = p })) e ∙ (ap (λ m. tally_in (record { number = m; post = Done r })) n ∙ ap (λ c. numbered_counts k c) f.counts)
 
-pub record IsCrewOf (plan : Roster) (k : ℕ) (p : Pass) (s : Seat) (p' : Pass) (s' : Seat) (q : Pass) (t : Seat) (q' : Pass) (t' : Seat) (after : List Slot) (ms : List (Mate plan)) : Type 0 where
+pub record IsCrewOf (plan : Roster) (k : ℕ) (p : Pass) (s : Seat) (p' : Pass) (s' : Seat) (q : Pass) (t : Seat) (q' : Pass) (t' : Seat) (after : List Slot) (ms : List (Mate six_tasks plan)) : Type 0 where
   pub count : length ms ≡ length after
-  pub splits : Splits p (map (λ (m : Mate plan). m.pass) ms) p'
-  pub joins : Joins q (map (λ (m : Mate plan). m.ended.pass) ms) q'
-  pub seat_splits : SplitSeats plan s (map (λ (m : Mate plan). m.seat) ms) s'
-  pub seat_joins : JoinSeats plan t (map (λ (m : Mate plan). m.ended.seat) ms) t'
+  pub splits : SplitPasses p (map (λ (m : Mate six_tasks plan). m.pass) ms) p'
+  pub joins : JoinPasses q (map (λ (m : Mate six_tasks plan). m.ended.pass) ms) q'
+  pub seat_splits : SplitSeats plan s (map (λ (m : Mate six_tasks plan). m.seat) ms) s'
+  pub seat_joins : JoinSeats plan t (map (λ (m : Mate six_tasks plan). m.ended.seat) ms) t'
   pub tallies : map tally_in after ≡ tallies_from k ms
-  pub done : All (λ x. IsWell x.post) after → Each (λ (m : Mate plan). IsEnded plan m.ended) ms
+  pub done : All (λ x. IsWell x.post) after → Each (λ (m : Mate six_tasks plan). IsEnded m.ended) ms
 
 well_done : (x : Post) (r : Record) → x ≡ Done r → IsWell x → r.fault ≡ None
 well_done x r e w = subst IsWell e w
 
 pub crew_of : (plan : Roster) (k : ℕ) (before after : List Slot) (p p' : Pass) (s s' : Seat) (q q' : Pass) (t t' : Seat) → SplitsOff plan k p s before p' s' → EachRan plan before after → TakesIn plan q t after q' t'
-    → (ms : List (Mate plan)) × IsCrewOf plan k p s p' s' q t q' t' after ms
+    → (ms : List (Mate six_tasks plan)) × IsCrewOf plan k p s p' s' q t q' t' after ms
 crew_of plan k [] [] p p' s s' q q' t t' m r j = ([], record { count = refl; splits = m.0; joins = j.0; seat_splits = m.1; seat_joins = j.1; tallies = refl; done = λ w. tt })
 crew_of plan k [] (y ∷ ys) p p' s s' q q' t t' m r j = absurd r
 crew_of plan k (x ∷ xs) [] p p' s s' q q' t t' m r j = absurd r
@@ -119,7 +120,7 @@ crew_of plan k (x ∷ xs) (y ∷ ys) p p' s s' q q' t t' m r j =
     let own_seat : Seat = part.1.1 in
     let left : Record = j.0 in
     let f : Finished plan k own own_seat left = subst (λ n. Finished plan n own own_seat left) part.0 (finished plan x.number x.post y.post own own_seat left part.1.2 j.1 r.0.1) in
-    let mate : Mate plan = record { pass = own; seat = own_seat; ended = f.ended; followed = f.followed } in
+    let mate : Mate six_tasks plan = record { pass = own; seat = own_seat; ended = f.ended; followed = f.followed } in
     let rest = crew_of plan (suc k) xs ys m.0 p' m.1 s' j.2 q' j.3 t' m.3 r.1 j.7 in
     let c = rest.1 in (
       mate ∷ rest.0,

@@ -1,86 +1,22 @@
--- What one ask of a core is, and what its answer leaves.
-use Rattle.std.proofs.Common.{◌≡◌, ◌+◌, inr, ℕ, zero, suc, Bool, false, min, List, [], ◌∷◌, Option, Some, None, Result, Ok, Err, OnOk, OnErr, refl, sym, ap, ◌∙◌, subst}
+-- What the answer to an ask of a core leaves, where the queue and the table have changed as they should.
+use Rattle.std.proofs.Common.{◌≡◌, ◌+◌, inr, ℕ, zero, suc, Bool, List, [], ◌∷◌, Option, Some, None, Result, Ok, Err, OnOk, OnErr, refl, sym, ap, ◌∙◌, subst}
 use Rattle.std.specs.Prelude.{slice_get, if◌then◌else◌}
 use Rattle.canvas_task.specs.declared.outcome.Outcome.{Outcome}
-use Rattle.canvas_message.specs.Job.{store, publish, hand_in}
 use Rattle.canvas_message.specs.declared.envelope.Envelope.{Envelope}
 use Rattle.canvas_backend.specs.declared.stored.Stored.{Stored}
 use Rattle.canvas_backend.specs.declared.stored.Stored.TheVariants.{First, Again}
 use Rattle.canvas_backend.specs.Backend as results
-use Rattle.canvas_backend.specs.Backend.{Results, first_or, count_of}
+use Rattle.canvas_backend.specs.Backend.{Results, says_first}
 use Rattle.canvas_backend.specs.Plain.{Shelf, held}
-use Rattle.canvas_runs.specs.Book.{Book}
-use Rattle.canvas_runs.specs.Core as C
-use Rattle.canvas_runs.specs.Core.{ReadsBack, answered}
+use Rattle.canvas_runs.specs.Core.{ReadsBack}
 use Rattle.canvas_runs.specs.Lists.{at}
-use Rattle.canvas_runs.specs.Turns.{queue_next, results_next, says_first}
-use Rattle.canvas_worker.specs.Asks.{Asked, Answer, shown, sent, is_first, FoundInRange}
+use Rattle.canvas_runs.specs.Turns.{queue_next, results_next}
+use Rattle.canvas_worker.specs.Asks.{Asked, Answer, FoundInRange}
 use Rattle.canvas_worker.specs.Books.{no_book, book_in}
 use Rattle.canvas_worker.specs.Enveloped.{enveloped_by}
-use Rattle.canvas_runs.specs.Tally.{greatest_count}
-use Rattle.canvas_worker.specs.Standing.{Standing, Left, asked, after_reply, handed, unsent, held_out, drops}
-use Rattle.canvas_worker.specs.declared.ask.Ask.TheVariants.{Store, Part, Read}
+use Rattle.canvas_worker.specs.Standing.{Standing, asked, after_reply}
 use Rattle.canvas_worker.specs.declared.ask.Reply.TheVariants as R
 use Rattle.canvas_engine.specs.steps.Stages.{AnswersNow, AreInRange, Stepped, IsTried}
-
--- ---- which ask is shown
-
-pub is_store : (t : ℕ) (o : Outcome) (a : Asked) → Store t o ≡ shown a → a ≡ C.keep t o
-is_store t o C.take e = absurd cc
-is_store t o (C.send x) e = absurd cc
-is_store t o (C.keep u w) e = cc
-is_store t o (C.part g u) e = absurd cc
-is_store t o (C.read g i) e = absurd cc
-is_store t o C.pause e = absurd cc
-is_store t o C.end e = absurd cc
-
-pub is_part : (g t : ℕ) (a : Asked) → Part g t ≡ shown a → a ≡ C.part g t
-is_part g t C.take e = absurd cc
-is_part g t (C.send x) e = absurd cc
-is_part g t (C.keep u w) e = absurd cc
-is_part g t (C.part h u) e = cc
-is_part g t (C.read h i) e = absurd cc
-is_part g t C.pause e = absurd cc
-is_part g t C.end e = absurd cc
-
-pub is_read : (g i : ℕ) (a : Asked) → Read g i ≡ shown a → a ≡ C.read g i
-is_read g i C.take e = absurd cc
-is_read g i (C.send x) e = absurd cc
-is_read g i (C.keep u w) e = absurd cc
-is_read g i (C.part h u) e = absurd cc
-is_read g i (C.read h j) e = cc
-is_read g i C.pause e = absurd cc
-is_read g i C.end e = absurd cc
-
-pub is_send : (x : Envelope) (a : Asked) → sent a ≡ Some x → a ≡ C.send x
-is_send x C.take e = absurd cc
-is_send x (C.send y) e = cc
-is_send x (C.keep u w) e = absurd cc
-is_send x (C.part h u) e = absurd cc
-is_send x (C.read h i) e = absurd cc
-is_send x C.pause e = absurd cc
-is_send x C.end e = absurd cc
-
-pub handed_out : (x : Envelope) (c : Standing) → c.is_out ≡ false → Some x ≡ held_out c → asked c.left ≡ C.send x
-handed_out x c out e = is_send x (asked c.left) (sym (e ∙ ap (λ b. if b then None else sent (asked c.left)) out))
-
--- an envelope that was handed out makes no difference once it is published
-same_left : (book : Book) (s : Left) (d : ℕ)
-    → ◌≡◌ {A = Standing} (record { left = answered (enveloped_by book) (unsent s) C.sent; is_out = false; dropped = min greatest_count (d + drops book (unsent s) C.sent) })
-    (record { left = answered (enveloped_by book) s C.sent; is_out = false; dropped = min greatest_count (d + drops book s C.sent) })
-same_left book C.taking d = refl
-same_left book C.resting d = refl
-same_left book C.over d = refl
-same_left book C.failed d = refl
-same_left book (C.owning e) d = refl
-same_left book (C.doing [] b) d = refl
-same_left book (C.doing (store t o ∷ js) b) d = refl
-same_left book (C.doing (publish e ∷ js) b) d = refl
-same_left book (C.doing (hand_in g t l ∷ js) b) d = refl
-same_left book (C.reading g l fs) d = refl
-
-pub handed_same : (book : Book) (c : Standing) → after_reply book (handed c) C.sent ≡ after_reply book c C.sent
-handed_same book c = same_left book c.left c.dropped
 
 -- ---- an answered ask
 
@@ -129,14 +65,11 @@ at_place i [] = refl
 at_place zero (x ∷ xs) = refl
 at_place (suc i) (x ∷ xs) = at_place i xs
 
-says_stored : (x y : Stored) → results.was x ≡ results.was y → is_first x ≡ says_first y
-says_stored First First e = refl
-says_stored Again Again e = refl
-says_stored First Again e = absurd cc
-says_stored Again First e = absurd cc
-
-pub stored_says : (x : Stored) (o : Option Outcome) → results.was x ≡ results.was (first_or o) → is_first x ≡ says_first (first_or o)
-stored_says x o e = says_stored x (first_or o) e
+pub stored_says : (x y : Stored) → results.was x ≡ results.was y → says_first x ≡ says_first y
+stored_says First First e = refl
+stored_says Again Again e = refl
+stored_says First Again e = absurd cc
+stored_says Again First e = absurd cc
 
 pub counted_says : (x y : ℕ) → results.count x ≡ results.count y → x ≡ y
 counted_says x y e = cc

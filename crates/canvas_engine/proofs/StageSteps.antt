@@ -3,6 +3,7 @@ use Rattle.std.proofs.Common.{◌≡◌, ◌≢◌, ◌⊎◌, inl, inr, ℕ, su
 use Rattle.std.specs.Prelude.{◌||◌, slice_get}
 use Rattle.std.proofs.lemmas.Bool.{eqb-true, eqb-false}
 use Rattle.std.specs.List.{list_any}
+use Rattle.canvas_task.specs.Apply.{six_tasks}
 use Rattle.canvas_task.specs.declared.outcome.Outcome.{Outcome}
 use Rattle.canvas_semantics.specs.Line.{Line}
 use Rattle.canvas_rewrite.specs.FrozenView.{Load}
@@ -12,16 +13,16 @@ use Rattle.canvas_backend.specs.Backend.{Results}
 use Rattle.canvas_backend.specs.Plain.{held}
 use Rattle.canvas_backend.specs.Roster.{Roster, roster_of}
 use Rattle.canvas_runs.specs.Book.{book_of}
-use Rattle.canvas_runs.specs.Core.{take, send, keep, part, read, pause, end, taken, sent, kept, counted, found, rested, CoreState, taking, resting, over, failed, owning, doing, reading, ask, answered, left_after, Suits, ReadsBack, IsCoreRun}
+use Rattle.canvas_runs.specs.Core.{take, send, keep, part, read, pause, end, taken, sent, kept, counted, found, rested, CoreState, taking, resting, over, failed, owning, doing, reading, ask, answered, left_after, Suits, ReadsBack, IsCoreRun, is_inside}
 use Rattle.canvas_runs.specs.Lists.{Each, by}
-use Rattle.canvas_runs.specs.Turns.{Step, IsWorker, Turned, Answers, HasEnded, left, queue_after, queue_next, results_after, results_next, holds_more, some_inside, is_queued, is_inside as is_worker_inside}
+use Rattle.canvas_runs.specs.Turns.{Step, IsWorker, Turned, Answers, HasEnded, left, queue_after, queue_next, results_after, results_next, holds_more, some_inside, is_queued}
 use Rattle.canvas_runs.specs.Worker.{worker}
 use Rattle.canvas_runs.proofs.Turning.{by_more, by_other, left_more, core_more, queue_more, results_more, turned_step}
 use Rattle.canvas_worker.specs.Asks.{Asked, Answer}
 use Rattle.canvas_worker.specs.Books.{no_book, book_in}
 use Rattle.canvas_worker.specs.Cores.{GoTogether, IsAlike}
 use Rattle.canvas_worker.specs.Enveloped.{enveloped, enveloped_by}
-use Rattle.canvas_worker.specs.Standing.{Standing, Left, asked, is_inside}
+use Rattle.canvas_worker.specs.Standing.{Standing, Left, asked}
 use Rattle.canvas_worker.proofs.Books.{books_alike}
 use Rattle.canvas_worker.proofs.CoreLaw.{cores_are_workers}
 use Rattle.canvas_engine.specs.steps.Stages.{AnswersNow, Stepped, IsTurn, IsCoreAt, Reached}
@@ -30,8 +31,8 @@ use Rattle.canvas_engine.specs.declared.stage.Stage.{Stage}
 -- ---- what was answered
 
 module _ (l : Line) (n : ℕ) (xs : List Step) where
-  pub answers_run : (more : Bool) (a : Asked) (r : Answer) → (a ≡ pause → more ≡ holds_more l n xs)
-      → AnswersNow (roster_of l) (queue_after l xs) (results_after xs) more a r → Answers l n xs a r
+  pub answers_run : (more : Bool) (a : Asked) (r : Answer) → (a ≡ pause → more ≡ holds_more six_tasks l n xs)
+      → AnswersNow (roster_of l) (queue_after l xs) (results_after xs) more a r → Answers six_tasks l n xs a r
   answers_run more take (taken x) m h = h
   answers_run more (send e) sent m h = tt
   answers_run more (keep t o) (kept b) m h = h
@@ -51,7 +52,7 @@ suits_now plan queue results more a r h = elim h [ ]
 
 -- ---- whether somebody is inside a message
 
-inside_alike : (s : Left) (t : CoreState Content Load Outcome) → IsAlike s t → is_inside s ≡ is_worker_inside t
+inside_alike : (s : Left) (t : CoreState Content Load Outcome) → IsAlike s t → is_inside s ≡ is_inside t
 inside_alike taking taking h = refl
 inside_alike resting resting h = refl
 inside_alike over over h = refl
@@ -73,14 +74,14 @@ or_none false = refl
 
 module _ (l : Line) (xs : List Step) where
   -- those of the cores, and those of the workers 1 to k
-  inside_from : (cores : List Standing) (k : ℕ) → ((i : ℕ) (c : Standing) → slice_get cores i ≡ Some c → is_inside c.left ≡ is_worker_inside (left l xs (suc (k + i))))
-      → (list_any (λ c. is_inside c.left) cores || some_inside l k xs) ≡ some_inside l (k + length cores) xs
-  inside_from [] k h = ap (λ m. some_inside l m xs) (omega arith)
+  inside_from : (cores : List Standing) (k : ℕ) → ((i : ℕ) (c : Standing) → slice_get cores i ≡ Some c → is_inside c.left ≡ is_inside (left six_tasks l xs (suc (k + i))))
+      → (list_any (λ c. is_inside c.left) cores || some_inside six_tasks l k xs) ≡ some_inside six_tasks l (k + length cores) xs
+  inside_from [] k h = ap (λ m. some_inside six_tasks l m xs) (omega arith)
   inside_from (c ∷ cs) k h =
-      or_front (is_inside c.left) (list_any (λ d. is_inside d.left) cs) (some_inside l k xs)
-      ∙ ap (λ b. list_any (λ d. is_inside d.left) cs || (b || some_inside l k xs)) (h 0 c refl ∙ ap (λ m. is_worker_inside (left l xs (suc m))) (omega arith))
-      ∙ inside_from cs (suc k) (λ i d e. h (suc i) d e ∙ ap (λ m. is_worker_inside (left l xs (suc m))) (omega arith))
-      ∙ ap (λ m. some_inside l m xs) (omega arith)
+      or_front (is_inside c.left) (list_any (λ d. is_inside d.left) cs) (some_inside six_tasks l k xs)
+      ∙ ap (λ b. list_any (λ d. is_inside d.left) cs || (b || some_inside six_tasks l k xs)) (h 0 c refl ∙ ap (λ m. is_inside (left six_tasks l xs (suc m))) (omega arith))
+      ∙ inside_from cs (suc k) (λ i d e. h (suc i) d e ∙ ap (λ m. is_inside (left six_tasks l xs (suc m))) (omega arith))
+      ∙ ap (λ m. some_inside six_tasks l m xs) (omega arith)
 
 pub each_more : {n : ℕ} (us : List ℕ) (p : ℕ) → Each (IsWorker n) us → IsWorker n p → Each (IsWorker n) (us ++ p ∷ [])
 each_more [] p a w = (w, tt)
@@ -89,35 +90,35 @@ each_more (u ∷ us) p a w = (a.0, each_more us p a.1 w)
 -- ---- the worker that a core stands for
 
 module _ (l : Line) (n most : ℕ) (us : List ℕ) (xs : List Step) (s : Stage) (reached : Reached l n most us xs s) where
-  together : (p : ℕ) → IsCoreRun (worker l) taking (by p xs) × GoTogether l (left_after (enveloped (roster_of l)) taking (by p xs)) (left l xs p)
+  together : (p : ℕ) → IsCoreRun (worker six_tasks l) taking (by p xs) × GoTogether l (left_after (enveloped (roster_of l)) taking (by p xs)) (left six_tasks l xs p)
   together p = cores_are_workers l (by p xs) (reached.runs p)
 
-  pub more_is : (is_queued s.queue || list_any (λ c. is_inside c.left) s.cores.items) ≡ holds_more l n xs
+  pub more_is : (is_queued s.queue || list_any (λ c. is_inside c.left) s.cores.items) ≡ holds_more six_tasks l n xs
   more_is =
-      let one : (i : ℕ) (c : Standing) → slice_get s.cores.items i ≡ Some c → is_inside c.left ≡ is_worker_inside (left l xs (suc (0 + i))) = λ i c e.
-      ap is_inside (reached.cores_are i c e).0 ∙ inside_alike _ _ (together (suc i)).1.alike ∙ ap (λ m. is_worker_inside (left l xs (suc m))) (omega arith) in
+      let one : (i : ℕ) (c : Standing) → slice_get s.cores.items i ≡ Some c → is_inside c.left ≡ is_inside (left six_tasks l xs (suc (0 + i))) = λ i c e.
+      ap is_inside (reached.cores_are i c e).0 ∙ inside_alike _ _ (together (suc i)).1.alike ∙ ap (λ m. is_inside (left six_tasks l xs (suc m))) (omega arith) in
       ap (λ q. is_queued q || list_any (λ c. is_inside c.left) s.cores.items) reached.queue_is
-      ∙ ap (λ b. is_queued (queue_after l xs) || b) (sym (or_none (list_any (λ c. is_inside c.left) s.cores.items)) ∙ inside_from l xs s.cores.items 0 one ∙ ap (λ m. some_inside l m xs) (omega (arith, reached.many)))
+      ∙ ap (λ b. is_queued (queue_after l xs) || b) (sym (or_none (list_any (λ c. is_inside c.left) s.cores.items)) ∙ inside_from l xs s.cores.items 0 one ∙ ap (λ m. some_inside six_tasks l m xs) (omega (arith, reached.many)))
 
   -- the core at place i
   module _ (i : ℕ) (c : Standing) (here : slice_get s.cores.items i ≡ Some c) where
     env_left : c.left ≡ left_after (enveloped (roster_of l)) taking (by (suc i) xs)
     env_left = (reached.cores_are i c here).0
 
-    pub same_ask : ReadsBack (enveloped_by no_book) c.left → asked c.left ≡ ask (worker l) (left l xs (suc i))
+    pub same_ask : ReadsBack (enveloped_by no_book) c.left → asked c.left ≡ ask (worker six_tasks l) (left six_tasks l xs (suc i))
     same_ask back = ap asked env_left ∙ sym ((together (suc i)).1.asks (subst (ReadsBack (enveloped (roster_of l))) env_left back))
 
-    pub has_ended : ReadsBack (enveloped_by no_book) c.left → asked c.left ≡ end → HasEnded l xs (suc i)
+    pub has_ended : ReadsBack (enveloped_by no_book) c.left → asked c.left ≡ end → HasEnded six_tasks l xs (suc i)
     has_ended back e = sym (same_ask back) ∙ e
 
-    pub not_ended : ReadsBack (enveloped_by no_book) c.left → (asked c.left ≡ end → ⊥) → HasEnded l xs (suc i) → ⊥
+    pub not_ended : ReadsBack (enveloped_by no_book) c.left → (asked c.left ≡ end → ⊥) → HasEnded six_tasks l xs (suc i) → ⊥
     not_ended back going e = going (same_ask back ∙ e)
 
-    worker_back : ReadsBack (enveloped_by no_book) c.left → ReadsBack (worker l) (left l xs (suc i))
+    worker_back : ReadsBack (enveloped_by no_book) c.left → ReadsBack (worker six_tasks l) (left six_tasks l xs (suc i))
     worker_back back = (together (suc i)).1.reads_back (subst (ReadsBack (enveloped (roster_of l))) env_left back)
 
-    module _ (more : Bool) (more_so : asked c.left ≡ pause → more ≡ holds_more l n xs) where
-      pub answered_so : (r : Answer) → AnswersNow s.table.plan s.queue (held s.table) more (asked c.left) r → Answers l n xs (asked c.left) r
+    module _ (more : Bool) (more_so : asked c.left ≡ pause → more ≡ holds_more six_tasks l n xs) where
+      pub answered_so : (r : Answer) → AnswersNow s.table.plan s.queue (held s.table) more (asked c.left) r → Answers six_tasks l n xs (asked c.left) r
       answered_so r h =
           let h1 = subst (λ plan. AnswersNow plan s.queue (held s.table) more (asked c.left) r) reached.plan_is h in
           let h2 = subst (λ q. AnswersNow (roster_of l) q (held s.table) more (asked c.left) r) reached.queue_is h1 in
@@ -125,8 +126,8 @@ module _ (l : Line) (n most : ℕ) (us : List ℕ) (xs : List Step) (s : Stage) 
           answers_run l n xs more (asked c.left) r more_so h3
 
       pub turned_so : (r : Answer) → ReadsBack (enveloped_by no_book) c.left → AnswersNow s.table.plan s.queue (held s.table) more (asked c.left) r
-          → Turned l n [] (us ++ suc i ∷ []) (xs ++ (suc i, (asked c.left, r)) ∷ [])
-      turned_so r back h = turned_step l n us xs (suc i) (asked c.left) r reached.by_turns.turned (worker_back back) (same_ask back) (answered_so r h)
+          → Turned six_tasks l n [] (us ++ suc i ∷ []) (xs ++ (suc i, (asked c.left, r)) ∷ [])
+      turned_so r back h = turned_step six_tasks l n us xs (suc i) (asked c.left) r reached.by_turns.turned (worker_back back) (same_ask back) (answered_so r h)
 
       -- the cores are as they were, but for the one
       abbrev pub IsPut : List Standing → Standing → List Standing → Type 0
@@ -134,7 +135,7 @@ module _ (l : Line) (n most : ℕ) (us : List ℕ) (xs : List Step) (s : Stage) 
 
       pub stepped : (s' : Stage) (c' : Standing) → IsWorker n (suc i) → Stepped more c s.queue s.table c' s'.queue s'.table → IsPut s.cores.items c' s'.cores.items → s.steps ≡ suc s'.steps
           → IsTurn true l n most us xs (suc i) s'
-      stepped s' c' worker step put fewer =
+      stepped s' c' own step put fewer =
           let plan = reached.by_turns.plan in
           let p = suc i in
           let a = asked c.left in
@@ -159,7 +160,7 @@ module _ (l : Line) (n most : ℕ) (us : List ℕ) (xs : List Step) (s : Stage) 
               by_turns = record {
                 plan = plan;
                 opens_back = reached.by_turns.opens_back;
-                workers = each_more us p reached.by_turns.workers worker;
+                workers = each_more us p reached.by_turns.workers own;
                 turned = turned_so r step.reads_back step.answers;
               };
               runs = λ q. runs_now q a r mine;

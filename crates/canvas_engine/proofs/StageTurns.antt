@@ -2,11 +2,13 @@
 use Rattle.std.proofs.Common.{◌≡◌, ◌≢◌, ◌<◌, ◌-◌, ◌⊎◌, inl, inr, ℕ, zero, suc, Bool, true, false, List, [], ◌∷◌, ◌++◌, length, Some, refl, sym, ap, ◌∙◌, subst, arith}
 use Rattle.std.specs.Prelude.{◌||◌, slice_get, slice_set}
 use Rattle.std.specs.List.{list_any}
+use Rattle.canvas_task.specs.Apply.{six_tasks}
+use Rattle.canvas_task.proofs.InRange.{six_in_range}
 use Rattle.canvas_semantics.specs.Line.{Line}
 use Rattle.canvas_backend.specs.Backend.{Results}
 use Rattle.canvas_backend.specs.Plain.{held}
 use Rattle.canvas_backend.specs.Roster.{Roster, roster_of}
-use Rattle.canvas_runs.specs.Core.{take, send, keep, part, read, pause, end, ReadsBack}
+use Rattle.canvas_runs.specs.Core.{take, send, keep, part, read, pause, end, ReadsBack, is_inside}
 use Rattle.canvas_runs.specs.TurnLaws.{Answerable}
 use Rattle.canvas_runs.specs.Turns.{Step, IsWorker, HasEnded, results_after, results_next, holds_more, is_queued}
 use Rattle.canvas_runs.proofs.TurnLaw.{next_answerable, held_range}
@@ -14,7 +16,7 @@ use Rattle.canvas_runs.proofs.Turning.{results_more, turned_skip}
 use Rattle.canvas_worker.specs.Asks.{Asked}
 use Rattle.canvas_worker.specs.Books.{no_book}
 use Rattle.canvas_worker.specs.Enveloped.{enveloped_by}
-use Rattle.canvas_worker.specs.Standing.{Standing, asked, is_inside}
+use Rattle.canvas_worker.specs.Standing.{Standing, asked}
 use Rattle.canvas_engine.specs.steps.Stages.{MayAsk, AreInRange, Stepped, IsTried, Tried, Reached, HasReached, IsTurn, IsHalfway, IsStopped}
 use Rattle.canvas_engine.specs.declared.stage.Stage.{Stage}
 use Rattle.canvas_engine.proofs.StageSteps.{IsPut, each_more, has_ended, not_ended, same_ask, more_is, stepped, turned_so}
@@ -68,16 +70,16 @@ module _ (l : Line) (p : ℕ) (s : Stage) (turn : HasTurn l p s) where
       own : IsWorker n p
       own = (turn.3.0, omega (arith, turn.3.1, turn.4.1.many, reached.many))
 
-      pub skipped : ReadsBack (enveloped_by no_book) core.left → asked core.left ≡ end → HasEnded l xs p × Reached l n most (us ++ p ∷ []) xs s
+      pub skipped : ReadsBack (enveloped_by no_book) core.left → asked core.left ≡ end → HasEnded six_tasks l xs p × Reached l n most (us ++ p ∷ []) xs s
       skipped back e =
-          let ended : HasEnded l xs p = subst (HasEnded l xs) same_number (has_ended l n most us xs s reached (p - 1) core here back e) in (
+          let ended : HasEnded six_tasks l xs p = subst (HasEnded six_tasks l xs) same_number (has_ended l n most us xs s reached (p - 1) core here back e) in (
             ended,
             record {
               by_turns = record {
                 plan = reached.by_turns.plan;
                 opens_back = reached.by_turns.opens_back;
                 workers = each_more us p reached.by_turns.workers own;
-                turned = turned_skip l n us xs p reached.by_turns.turned ended;
+                turned = turned_skip six_tasks l n us xs p reached.by_turns.turned ended;
               };
               runs = reached.runs;
               queue_is = reached.queue_is;
@@ -96,14 +98,14 @@ module _ (l : Line) (p : ℕ) (s : Stage) (turn : HasTurn l p s) where
         none_left = none;
         going = p;
         is_worker = own;
-        has_more = λ e. not_ended l n most us xs s reached (p - 1) core here back going (subst (HasEnded l xs) (sym same_number) e);
+        has_more = λ e. not_ended l n most us xs s reached (p - 1) core here back going (subst (HasEnded six_tasks l xs) (sym same_number) e);
       }
 
       may_here : ReadsBack (enveloped_by no_book) core.left → MayAsk (roster_of l) (results_after xs) (asked core.left)
       may_here back =
           may_of (roster_of l) xs (asked core.left)
           (subst (Answerable (roster_of l) xs) (sym (same_ask l n most us xs s reached (p - 1) core here back))
-          (next_answerable l n us xs reached.by_turns (suc (p - 1)) (subst (IsWorker n) (sym same_number) own)))
+          (next_answerable six_tasks l n us xs reached.by_turns six_in_range (suc (p - 1)) (subst (IsWorker n) (sym same_number) own)))
 
       pub may_ask : ReadsBack (enveloped_by no_book) core.left → MayAsk s.table.plan (held s.table) (asked core.left)
       may_ask back =
@@ -111,10 +113,10 @@ module _ (l : Line) (p : ℕ) (s : Stage) (turn : HasTurn l p s) where
           (subst (λ t. MayAsk (roster_of l) t (asked core.left)) (sym reached.table_is) (may_here back))
 
       pub held_in_range : AreInRange (held s.table)
-      held_in_range t o e = (held_range l n us xs reached.by_turns t o (ap (λ (r : Results). r.outcomes t) (sym reached.table_is) ∙ e)).1
+      held_in_range t o e = (held_range six_tasks l n us xs reached.by_turns six_in_range t o (ap (λ (r : Results). r.outcomes t) (sym reached.table_is) ∙ e)).1
 
       module _ (more : Bool) (told : asked core.left ≡ pause → more ≡ (is_queued s.queue || list_any (λ c. is_inside c.left) s.cores.items)) where
-        more_so : asked core.left ≡ pause → more ≡ holds_more l n xs
+        more_so : asked core.left ≡ pause → more ≡ holds_more six_tasks l n xs
         more_so e = told e ∙ more_is l n most us xs s reached
 
         pub went : (s' : Stage) (core' : Standing) → Stepped more core s.queue s.table core' s'.queue s'.table → s'.cores.items ≡ slice_set s.cores.items (p - 1) core' → s.steps ≡ suc s'.steps → IsTurn true l n most us xs p s'

@@ -2,6 +2,7 @@
 use Rattle.std.proofs.Common.{◌≡◌, ◌≤◌, ◌⊎◌, inl, inr, ℕ, zero, suc, All, List, [], ◌∷◌, ◌++◌, map, length, get_or, Some, None, Result, Ok, Err, OnOk, IfErr, refl, sym, ap, ◌∙◌, subst, arith}
 use Rattle.std.specs.Prelude.{slice_get}
 use Rattle.std.proofs.lemmas.Option.{slice_get_within}
+use Rattle.canvas_task.specs.Apply.{six_tasks}
 use Rattle.canvas_semantics.specs.Evaluation.{State}
 use Rattle.canvas_semantics.specs.Line.{Line, count_line, tree_of}
 use Rattle.canvas_semantics.proofs.Numbered.{count_elements}
@@ -87,7 +88,7 @@ module _ (l : Line) (n most : ℕ) (ts : List ℕ) (rows : List State) (s : Stag
             ended = done.ended;
           };
           held = same;
-          are = same ∙ states_are l n _ done.steps by_turns some done.ended;
+          are = same ∙ states_are six_tasks l n _ done.steps by_turns some done.ended;
         },
         omega (arith, done.reached.count),
       )
@@ -96,13 +97,13 @@ module _ (l : Line) (n most : ℕ) (ts : List ℕ) (rows : List State) (s : Stag
   none_yet f [] = tt
   none_yet f (k ∷ ks) = (inl refl, none_yet f ks)
 
-  pub halted_rows : IsPlan l → IsEarlyEnd Memory l n most ts s → EachMay rows (states (tree_of l))
+  pub halted_rows : IsPlan l → IsEarlyEnd Memory l n most ts s → EachMay rows (states six_tasks (tree_of l))
   halted_rows plan ended = go ended.1
     where
-      go : (held s.table ≡ no_results) ⊎ IsHalfway l n s → EachMay rows (states (tree_of l))
-      go (inl none) = subst (λ rs. EachMay rs (states (tree_of l))) (ap (rows_of (count_line l)) (sym none) ∙ sym are)
-          (subst (λ k. EachMay (rows_of (count_line l) no_results) (map (λ t. its_state l t) (numbers_from 1 k))) (sym (count_elements l)) (none_yet (its_state l) (numbers_from 1 (count_line l))))
-      go (inr half) = subst (λ rs. EachMay rs (states (tree_of l))) (ap (rows_of (count_line l)) (sym half.table_is) ∙ sym are) (states_may l n half.turns half.steps half.by_turns)
+      go : (held s.table ≡ no_results) ⊎ IsHalfway l n s → EachMay rows (states six_tasks (tree_of l))
+      go (inl none) = subst (λ rs. EachMay rs (states six_tasks (tree_of l))) (ap (rows_of (count_line l)) (sym none) ∙ sym are)
+          (subst (λ k. EachMay (rows_of (count_line l) no_results) (map (λ t. its_state six_tasks l t) (numbers_from 1 k))) (sym (count_elements l)) (none_yet (its_state six_tasks l) (numbers_from 1 (count_line l))))
+      go (inr half) = subst (λ rs. EachMay rs (states six_tasks (tree_of l))) (ap (rows_of (count_line l)) (sym half.table_is) ∙ sym are) (states_may six_tasks l n half.turns half.steps half.by_turns)
 
   pub cut_rows : IsEarlyEnd Stopped l n most ts s → IsCut l n ts most rows
   cut_rows ended =
@@ -122,22 +123,22 @@ module _ (l : Line) (n most : ℕ) (ts : List ℕ) (rows : List State) (s : Stag
           has_more = stopped.has_more;
         };
         held = same;
-        may = subst (λ rs. EachMay rs (states (tree_of l))) (sym same) (states_may l n ended.0 stopped.steps reached.by_turns);
+        may = subst (λ rs. EachMay rs (states six_tasks (tree_of l))) (sym same) (states_may six_tasks l n ended.0 stopped.steps reached.by_turns);
       }
 
   pub early_fault : (cause : Cause) (report : Report) → report.rows ≡ rows → IsPlan l → IsAsked n ts → IsEarlyEnd cause l n most ts s → IsFaultWithin l n ts most (Halted cause (Some report))
-  early_fault Memory report is plan asked ended = (asked, subst (λ rs. EachMay rs (states (tree_of l))) (sym is) (halted_rows plan ended))
+  early_fault Memory report is plan asked ended = (asked, subst (λ rs. EachMay rs (states six_tasks (tree_of l))) (sym is) (halted_rows plan ended))
   early_fault Stopped report is plan asked ended = (asked, subst (IsCut l n ts most) (sym is) (cut_rows ended))
 
 -- a run that may have more asks than it can have isn't stopped
-pub never_stopped : (l : Line) (n most : ℕ) (ts : List ℕ) (f : RunFault) → IsPlan l → most ≡ suc (most_steps l n (length ts)) → IsFaultWithin l n ts most f → IsRunFault n ts (states (tree_of l)) f
+pub never_stopped : (l : Line) (n most : ℕ) (ts : List ℕ) (f : RunFault) → IsPlan l → most ≡ suc (most_steps l n (length ts)) → IsFaultWithin l n ts most f → IsRunFault n ts (states six_tasks (tree_of l)) f
 never_stopped l n most ts BadWorkers plan e h = h
 never_stopped l n most ts BadTurn plan e h = h
 never_stopped l n most ts (Halted Memory rows) plan e h = h
 never_stopped l n most ts (Halted Stopped None) plan e h = absurd h.1
 never_stopped l n most ts (Halted Stopped (Some report)) plan e h =
-    let soon = stops_soon l plan n ts most h.0.0.0 (each_of (IsWorker n) ts h.0.1) h.1.run in absurd (omega (arith, soon, e))
+    let soon = stops_soon six_tasks l plan n ts most h.0.0.0 (each_of (IsWorker n) ts h.0.1) h.1.run in absurd (omega (arith, soon, e))
 
-pub never_stopped_in : {T : Type 0} (l : Line) (n most : ℕ) (ts : List ℕ) (r : Result T RunFault) → IsPlan l → most ≡ suc (most_steps l n (length ts)) → IfErr r (IsFaultWithin l n ts most) → IfErr r (IsRunFault n ts (states (tree_of l)))
+pub never_stopped_in : {T : Type 0} (l : Line) (n most : ℕ) (ts : List ℕ) (r : Result T RunFault) → IsPlan l → most ≡ suc (most_steps l n (length ts)) → IfErr r (IsFaultWithin l n ts most) → IfErr r (IsRunFault n ts (states six_tasks (tree_of l)))
 never_stopped_in l n most ts (Ok x) plan e h = tt
 never_stopped_in l n most ts (Err f) plan e h = never_stopped l n most ts f plan e h

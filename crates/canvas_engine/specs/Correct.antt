@@ -9,6 +9,7 @@
 --     IsWholeWithin l n turns most rows    of at most so many steps
 --     IsCut l n turns steps rows     rows of a run that was cut off after so many steps, with some worker that had not ended
 use Rattle.std.specs.Prelude.{◌≡◌, ◌≤◌, ℕ, suc, List, [], ◌∷◌, ◌++◌, All, length, map, Option, Some, None}
+use Rattle.canvas_task.specs.Apply.{six_tasks}
 use Rattle.canvas_semantics.specs.Evaluation.{State}
 use Rattle.canvas_semantics.specs.Line.{Line, tree_of}
 use Rattle.canvas_semantics.specs.States.{states}
@@ -46,18 +47,18 @@ abbrev pub IsAsked : ℕ → List ℕ → Type 0
 IsAsked n turns = AreWorkers n × AreTurns n turns
 
 pub record IsWhole (l : Line) (n : ℕ) (turns : List ℕ) (rows : List State) : Type 0 where
-  pub run : RanWhole l n turns
+  pub run : RanWhole six_tasks l n turns
   pub held : rows ≡ held_rows l run.steps
   -- what evaluating the plan's tree gives
-  pub are : rows ≡ states (tree_of l)
+  pub are : rows ≡ states six_tasks (tree_of l)
 
 abbrev pub IsWholeWithin : Line → ℕ → List ℕ → ℕ → List State → Type 0
 IsWholeWithin l n turns most rows = (whole : IsWhole l n turns rows) × (length whole.run.steps ≤ most)
 
 pub record IsCut (l : Line) (n : ℕ) (turns : List ℕ) (steps : ℕ) (rows : List State) : Type 0 where
-  pub run : RanUntil l n turns steps
+  pub run : RanUntil six_tasks l n turns steps
   pub held : rows ≡ held_rows l run.steps
-  pub may : EachMay rows (states (tree_of l))
+  pub may : EachMay rows (states six_tasks (tree_of l))
 
 -- the rows that are given; none are where memory was refused before the first publish
 abbrev pub GivesRows : Option Report → List State → Type 0
@@ -79,7 +80,7 @@ IsRunFault n turns ss (Halted Stopped rows) = ⊥
 abbrev pub IsFaultWithin : Line → ℕ → List ℕ → ℕ → RunFault → Type 0
 IsFaultWithin l n turns steps BadWorkers = AreWorkers n → ⊥
 IsFaultWithin l n turns steps BadTurn = AreWorkers n × (AreTurns n turns → ⊥)
-IsFaultWithin l n turns steps (Halted Memory rows) = IsAsked n turns × GivesRows rows (states (tree_of l))
+IsFaultWithin l n turns steps (Halted Memory rows) = IsAsked n turns × GivesRows rows (states six_tasks (tree_of l))
 IsFaultWithin l n turns steps (Halted Stopped rows) = IsAsked n turns × GivesCut rows l n turns steps
 
 -- ---- on threads
@@ -96,26 +97,26 @@ pub record IsRun (l : Line) (n : ℕ) (rows : List State) (r : Records) : Type 0
   -- the pass and the seat are of this queue and this table, which is one of the plan
   pub objects : (r.pass.of ≡ r.broker) × (r.seat.of ≡ r.backend.id) × (r.backend.plan ≡ roster_of l)
   -- Each of the n workers, and worker 0, has followed a core run, and all ended between scripts. Worker 0 published all first messages before, and read each task at the end: these are the rows.
-  pub ran : RanWell l r.pass r.seat rows
+  pub ran : RanWell six_tasks l r.pass r.seat rows
   pub workers : length ran.to.ran.mates ≡ n
   -- The broker has one legal history, and the backend one. Of each worker they have just its calls, each once and in its order; worker i is the i-th that is named in each.
-  pub calls : Accounts (roster_of l) ran.to.ran.mates (published_all (map sealed ran.to.ran.opening)) ran.to.ran.works.made (broker_calls_seen r.pass)
-  pub entries : Ledger (roster_of l) ran.to.ran.mates (backend_calls (working (roster_of l)) ran.to.ran.works.run ++ ran.to.ran.closing) r.seat.seen
+  pub calls : Accounts six_tasks (roster_of l) ran.to.ran.mates (published_all (map sealed ran.to.ran.opening)) ran.to.ran.works.made (broker_calls_seen r.pass)
+  pub entries : Ledger six_tasks (roster_of l) ran.to.ran.mates (backend_calls (working six_tasks (roster_of l)) ran.to.ran.works.run ++ ran.to.ran.closing) r.seat.seen
   -- they are those of a closed run of the plan
-  pub run : Run l
+  pub run : Run six_tasks l
   pub queue : run.queue ≡ broker_calls_seen r.pass
   pub table : run.table ≡ r.seat.seen
-  pub closed : Closed l run
+  pub closed : Closed six_tasks l run
   -- what worker 0 counted, and each further one, in the order of their numbers
   pub tallies : AreTallies (broker_calls_seen r.pass) r.seat.seen 0 r.workers
   pub each_tally : length r.workers ≡ suc n
   -- each message is published at most once, by the worker that brought about the event which runs its task: a body's by the one whose part completed its header
   pub once : (k : ℕ) → publishes l k (broker_calls_seen r.pass) ≤ 1
-  pub by_cause : ByCause l (broker_calls_seen r.pass) r.seat.seen
-  pub by_its_cause : ByItsCause l (broker_calls_seen r.pass) r.seat.seen
+  pub by_cause : ByCause six_tasks l (broker_calls_seen r.pass) r.seat.seen
+  pub by_its_cause : ByItsCause six_tasks l (broker_calls_seen r.pass) r.seat.seen
   pub completed_once : (g : ℕ) → completions l g r.seat.seen ≤ 1
   -- what evaluating the plan's tree gives
-  pub are : rows ≡ states (tree_of l)
+  pub are : rows ≡ states six_tasks (tree_of l)
 
 -- Why a run on threads has no whole report, where these are the states. Without rows it is for memory that was refused: before the first publish, or to an executor.
 abbrev pub IsThreadFault : ℕ → List State → RunFault → Type 0

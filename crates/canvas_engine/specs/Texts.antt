@@ -1,6 +1,7 @@
 -- The report of a text: of the canvas that it reads as; or why there is none.
 use Rattle.std.specs.Prelude.{◌≡◌, List, Ok, Err}
-use Rattle.canvas_sig.specs.CanvasText.{reading}
+use Rattle.canvas_task.specs.Apply.{six_tasks}
+use Rattle.canvas_sig.specs.CanvasText.{text_reading}
 use Rattle.canvas_task.specs.Text.{Text}
 use Rattle.canvas_semantics.specs.NormalLine.{normal}
 use Rattle.canvas_semantics.specs.Tree.{Tree, numbered}
@@ -14,11 +15,11 @@ use Rattle.canvas_engine.specs.declared.text.TextFault.TheVariants.{Sig, Run, Me
 
 -- the text reads as the canvas
 abbrev pub IsCanvasText : Text → Tree → Type 0
-IsCanvasText bytes c = reading bytes ≡ Ok c
+IsCanvasText bytes c = text_reading bytes ≡ Ok c
 
 -- why a text has no plan
 abbrev pub IsReadFault : Text → TextFault → Type 0
-IsReadFault bytes (Sig e) = reading bytes ≡ Err e
+IsReadFault bytes (Sig e) = text_reading bytes ≡ Err e
 IsReadFault bytes (Run f) = ⊥
 IsReadFault bytes Memory = Unit {0}
 
@@ -30,8 +31,8 @@ pub record IsPlanOfText (bytes : Text) (c : Tree) (all : Line) : Type 0 where
 
 -- Why a text has no report: its first refusal; else, of the run of the canvas that it reads as; or memory that was refused before the run or after it. `Says` is what a fault of a run with these states says.
 abbrev pub IsTextFault : Text → (List State → RunFault → Type 0) → TextFault → Type 0
-IsTextFault bytes Says (Sig e) = reading bytes ≡ Err e
-IsTextFault bytes Says (Run f) = (c : Tree) × IsCanvasText bytes c × Says (states (numbered c)) f
+IsTextFault bytes Says (Sig e) = text_reading bytes ≡ Err e
+IsTextFault bytes Says (Run f) = (c : Tree) × IsCanvasText bytes c × Says (states six_tasks (numbered c)) f
 IsTextFault bytes Says Memory = Unit {0}
 
 -- of a plan's run, whose faults say this

@@ -1,5 +1,6 @@
 //! The end of a run on threads: worker 0 works on by itself, and reads the rows.
 ghost use Rattle.std.specs.Prelude.{◌≡◌, ◌≤◌, List, length, Option, Some, None, IfSome, IfOk, IfErr};
+ghost use Rattle.canvas_task.specs.Apply.{six_tasks};
 ghost use Rattle.canvas_worker.specs.declared.cause.Cause.{Cause};
 ghost use Rattle.canvas_history.specs.History.{calls};
 ghost use Rattle.canvas_semantics.specs.Line.{Line, count_line, tree_of};
@@ -115,7 +116,7 @@ impl Gathered {
     pub(crate) fn halt(self, plan: &Plan, workers: u32, cause: Cause) -> RunFault
         requires workers { AreWorkers workers }
         requires gathered { (cause : Option Cause) × AreGathered plan.now workers cause self }
-        ensures { IsThreadFault workers (states (tree_of plan.now)) result }
+        ensures { IsThreadFault workers (states six_tasks (tree_of plan.now)) result }
     {
         let Gathered {
             backend,
@@ -139,7 +140,7 @@ impl Gathered {
         requires workers { AreWorkers workers }
         requires gathered { AreGathered plan.now workers None self }
         ensures ok { IfOk result (λ r. IsRun plan.now workers r.0.rows r.1) }
-        ensures err { IfErr result (IsThreadFault workers (states (tree_of plan.now))) }
+        ensures err { IfErr result (IsThreadFault workers (states six_tasks (tree_of plan.now))) }
     {
         let Gathered {
             broker,

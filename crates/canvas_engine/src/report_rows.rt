@@ -1,5 +1,5 @@
 ghost use Rattle.std.specs.Prelude.{◌≡◌, ◌++◌, OnOk, slice_get, string_bytes};
-ghost use Rattle.canvas_semantics.specs.Report.{line, state_name};
+ghost use Rattle.canvas_semantics.specs.Report.{report_line, state_name};
 ghost use Rattle.canvas_semantics.specs.Evaluation.{state_of};
 ghost use Rattle.canvas_semantics.specs.States.{rows_from};
 
@@ -60,7 +60,7 @@ pub(crate) fn push_row(
     name: &str,
     state: &State,
 ) -> Result<(), Memory>
-    ensures { OnOk result (string_bytes text.new ≡ string_bytes text.old ++ line (task, name.now) state.now.0) }
+    ensures { OnOk result (string_bytes text.new ≡ string_bytes text.old ++ report_line (task, name.now) state.now.0) }
 {
     let word = state.name();
     writeln!(text, "{task} {name} {word} {state}")?;

@@ -1,5 +1,6 @@
 //! Runs on threads.
 ghost use Rattle.std.specs.Prelude.{◌≡◌, IfOk, IfErr};
+ghost use Rattle.canvas_task.specs.Apply.{six_tasks};
 ghost use Rattle.canvas_semantics.specs.Line.{tree_of};
 ghost use Rattle.canvas_rewrite.specs.Planned.{IsPlan};
 ghost use Rattle.canvas_semantics.specs.States.{states};
@@ -77,7 +78,7 @@ where
     requires workers { AreWorkers workers }
     requires start { IsStart plan.now workers start }
     ensures ok { IfOk result (λ r. AreGathered plan.now workers r.1 r.0) }
-    ensures err { IfErr result (IsThreadFault workers (states (tree_of plan.now))) }
+    ensures err { IfErr result (IsThreadFault workers (states six_tasks (tree_of plan.now))) }
 {
     let Start {
         broker,
@@ -130,7 +131,7 @@ where
     requires workers { AreWorkers workers }
     requires start { IsStart plan.now workers start }
     ensures ok { IfOk result (λ r. IsRun plan.now workers r.0.rows r.1) }
-    ensures err { IfErr result (IsThreadFault workers (states (tree_of plan.now))) }
+    ensures err { IfErr result (IsThreadFault workers (states six_tasks (tree_of plan.now))) }
 {
     match gather(rt, alloc, plan, workers, gate, stop, start) {
         Ok((gathered, early)) => match early {
@@ -158,7 +159,7 @@ where
     R: Threads + Wait + RandomSource + AllocGlobal + Sync,
     G: Gate + Sync,
     ensures ok { IfOk result (λ r. AreWorkers workers × IsRun plan.now workers r.0.rows r.1) }
-    ensures err { IfErr result (IsThreadFault workers (states (tree_of plan.now))) }
+    ensures err { IfErr result (IsThreadFault workers (states six_tasks (tree_of plan.now))) }
 {
     if workers < 1 || workers > WORKERS {
         return Err(RunFault::BadWorkers);

@@ -7,7 +7,7 @@ ghost use Rattle.canvas_message.specs.Effects.{first_messages};
 ghost use Rattle.canvas_backend.specs.Backend.{no_results};
 ghost use Rattle.canvas_backend.specs.Plain.{held};
 ghost use Rattle.canvas_backend.specs.Roster.{roster_of};
-ghost use Rattle.canvas_runs.specs.Core.{end, pause, ReadsBack};
+ghost use Rattle.canvas_runs.specs.Core.{end, pause, ReadsBack, is_inside};
 ghost use Rattle.canvas_runs.specs.Lists.{Each};
 ghost use Rattle.canvas_message.specs.declared.envelope.Envelope.{Envelope};
 ghost use Rattle.canvas_runs.specs.Turns.{Step, IsWorker, FirstsRead, is_queued};
@@ -15,7 +15,7 @@ ghost use Rattle.canvas_runs.specs.Worker.{sealed};
 ghost use Rattle.canvas_worker.specs.Asks.{shown};
 ghost use Rattle.canvas_worker.specs.Books.{no_book};
 ghost use Rattle.canvas_worker.specs.Enveloped.{enveloped_by};
-ghost use Rattle.canvas_worker.specs.Standing.{Standing, asked, is_inside};
+ghost use Rattle.canvas_worker.specs.Standing.{Standing, asked};
 ghost use Rattle.canvas_worker.specs.declared.ask.Ask.TheVariants as ask;
 ghost use Rattle.canvas_engine.specs.steps.Stages.{rows_of, MayAsk, AreInRange, Stepped, IsTried, ReadsAs, AreNew, Reached, HasReached, IsTurn, IsHalt, IsNew};
 

@@ -1,4 +1,5 @@
 ghost use Rattle.std.specs.Prelude.{◌≡◌, IfOk, IfErr, OnOk, string_bytes};
+ghost use Rattle.canvas_task.specs.Apply.{six_tasks};
 ghost use Rattle.canvas_semantics.specs.NormalLine.{normal};
 ghost use Rattle.canvas_semantics.specs.Tree.{Tree, numbered};
 ghost use Rattle.canvas_semantics.specs.Line.{tree_of};
@@ -67,8 +68,8 @@ fn read_plan(alloc: Global, bytes: &[u8]) -> Result<Plan, TextFault>
 
 /// Runs a plan on one thread, and writes its report.
 fn plan_text(alloc: Global, plan: &Plan, workers: u32, turns: &[u32]) -> Result<String, TextFault>
-    ensures ok { IfOk result (λ text. IsAsked workers turns.now × (string_bytes text ≡ report_of (tree_of plan.now) (rows_from 1 (states (tree_of plan.now))))) }
-    ensures err { IfErr result (IsPlanFault (IsRunFault workers turns.now (states (tree_of plan.now)))) }
+    ensures ok { IfOk result (λ text. IsAsked workers turns.now × (string_bytes text ≡ report_of (tree_of plan.now) (rows_from 1 (states six_tasks (tree_of plan.now))))) }
+    ensures err { IfErr result (IsPlanFault (IsRunFault workers turns.now (states six_tasks (tree_of plan.now)))) }
 {
     match run_turns(alloc, plan, workers, turns) {
         Ok(report) => Ok(report_text(alloc, plan, &report)?),
@@ -83,7 +84,7 @@ pub fn run_text(
     workers: u32,
     turns: &[u32],
 ) -> Result<String, TextFault>
-    ensures ok { IfOk result (λ text. (c : Tree) × IsCanvasText bytes.now c × IsAsked workers turns.now × (string_bytes text ≡ report c)) }
+    ensures ok { IfOk result (λ text. (c : Tree) × IsCanvasText bytes.now c × IsAsked workers turns.now × (string_bytes text ≡ report six_tasks c)) }
     ensures err { IfErr result (IsTextFault bytes.now (IsRunFault workers turns.now)) }
 {
     let plan = read_plan(alloc, bytes)?;
@@ -102,8 +103,8 @@ fn plan_text_threads<R, G>(
 where
     R: Threads + Wait + RandomSource + AllocGlobal + Sync,
     G: Gate + Sync,
-    ensures ok { IfOk result (λ text. AreWorkers workers × (string_bytes text ≡ report_of (tree_of plan.now) (rows_from 1 (states (tree_of plan.now))))) }
-    ensures err { IfErr result (IsPlanFault (IsThreadFault workers (states (tree_of plan.now)))) }
+    ensures ok { IfOk result (λ text. AreWorkers workers × (string_bytes text ≡ report_of (tree_of plan.now) (rows_from 1 (states six_tasks (tree_of plan.now))))) }
+    ensures err { IfErr result (IsPlanFault (IsThreadFault workers (states six_tasks (tree_of plan.now)))) }
 {
     match run(rt, alloc, plan, workers, gate, stop) {
         Ok((report, _records)) => Ok(report_text(alloc, plan, &report)?),
@@ -124,7 +125,7 @@ pub fn run_text_threads<R, G>(
 where
     R: Threads + Wait + RandomSource + AllocGlobal + Sync,
     G: Gate + Sync,
-    ensures ok { IfOk result (λ text. (c : Tree) × IsCanvasText bytes.now c × AreWorkers workers × (string_bytes text ≡ report c)) }
+    ensures ok { IfOk result (λ text. (c : Tree) × IsCanvasText bytes.now c × AreWorkers workers × (string_bytes text ≡ report six_tasks c)) }
     ensures err { IfErr result (IsTextFault bytes.now (IsThreadFault workers)) }
 {
     let plan = read_plan(alloc, bytes)?;

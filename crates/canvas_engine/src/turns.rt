@@ -1,4 +1,5 @@
 ghost use Rattle.std.specs.Prelude.{◌≡◌, ◌≢◌, ◌≤◌, ◌<◌, ◌*◌, ◌^◌, suc, ℕ, All, List, [], None, length, IfOk, IfErr, OnOk, OnErr, MatchBool};
+ghost use Rattle.canvas_task.specs.Apply.{six_tasks};
 ghost use Rattle.canvas_semantics.specs.Line.{count_line, tree_of};
 ghost use Rattle.canvas_rewrite.specs.Planned.{IsPlan};
 ghost use Rattle.canvas_semantics.specs.States.{states};
@@ -213,7 +214,7 @@ pub fn run_turns(
     turns: &[u32],
 ) -> Result<Report, RunFault>
     ensures ok { IfOk result (λ report. IsAsked workers turns.now × IsWhole plan.now workers turns.now report.rows) }
-    ensures err { IfErr result (IsRunFault workers turns.now (states (tree_of plan.now))) }
+    ensures err { IfErr result (IsRunFault workers turns.now (states six_tasks (tree_of plan.now))) }
 {
     let steps = more_than_all(plan, workers, turns);
     run_checked(alloc, plan, workers, turns, steps)

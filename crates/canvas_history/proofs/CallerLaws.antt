@@ -2,7 +2,7 @@
 use Rattle.std.proofs.Common.{◌≡◌, ℕ, false, List, [], ◌∷◌, ◌++◌, ◌==◌, refl, sym, ap, ◌∙◌, subst, append_assoc, append-nil, ⊎_elim}
 use Rattle.std.proofs.lemmas.Bool.{false≢true, eq-eqb, ne_eqb}
 use Rattle.canvas_history.specs.Callers.{Caller, told, Adds, LeavesOne, Owes, Follows, Parted, IsHistory}
-use Rattle.canvas_history.specs.History.{Entry, split, join, by_of, named, made_by, Allowed, Legal}
+use Rattle.canvas_history.specs.History.{Entry, split, join, by_of, split_off, made_by, Allowed, Legal}
 use Rattle.canvas_history.proofs.Histories.{In, made_append, made_here, made_off, made_none, made_since, fresh_at, was_named, all_joined, legal_right}
 
 module _ {C R : Type 0} where
@@ -38,7 +38,7 @@ module _ {I C R : Type 0} where
 module _ {C R S : Type 0} (first : S) (answer : S → C → R) (next : S → C → S) (May : List (Entry C R) → S → ℕ → C → Type 0) where
   not_self : (before : List (Entry C R)) (p q : ℕ) → Allowed first answer next May before (split p q) → (p == q) ≡ false
   not_self before p q a =
-      ne_eqb p q (λ same. ⊎_elim (λ (z : p ≡ 0). false≢true (sym a.1 ∙ eq-eqb q 0 (sym same ∙ z))) (λ z. false≢true (sym a.2 ∙ subst (λ k. In k (named before)) same z))
+      ne_eqb p q (λ same. ⊎_elim (λ (z : p ≡ 0). false≢true (sym a.1 ∙ eq-eqb q 0 (sym same ∙ z))) (λ z. false≢true (sym a.2 ∙ subst (λ k. In k (split_off before)) same z))
       (was_named first answer next May before (split p q) a))
 
 module _ {I C R S : Type 0} (first : S) (answer : S → C → R) (next : S → C → S) (May : List (Entry C R) → S → ℕ → C → Type 0) where

@@ -1,7 +1,7 @@
 -- Histories that are one entry longer, and callers that stay live.
 use Rattle.std.proofs.Common.{◌≡◌, ◌⊎◌, ℕ, ◌==◌, Bool, true, false, cond, List, [], ◌∷◌, ◌++◌, refl, sym, ap, ◌∙◌, subst, inl, inr, ⊎_elim, append_assoc}
 use Rattle.std.proofs.lemmas.Bool.{false≢true, eqb-true, eqb-false, eq-eqb}
-use Rattle.canvas_history.specs.History.{Entry, split, join, calls, without, by_of, live_after, live, named, joined, heir_after, heir, Sole, AllOthers, state_after, state_of, Allowed, LegalFrom, Legal}
+use Rattle.canvas_history.specs.History.{Entry, split, join, calls, without, by_of, live_after, live, split_off, taken_in, heir_after, heir, Sole, AllOthers, state_after, replay, Allowed, LegalFrom, Legal}
 use Rattle.canvas_history.proofs.Histories.{In, in_cases, in_here, in_left, in_right, in_append, in_without, in_within, live_append, named_append, live_named, state_append, legal_append, legal_left, legal_right, was_live as by_live, was_there, gone, IsOther, not_of}
 
 pub not_true : (b : Bool) → (b ≡ true → ⊥) → b ≡ false
@@ -41,13 +41,13 @@ module _ {C R : Type 0} where
 
   -- the first caller, or one that a split names
   abbrev pub IsKnown : ℕ → List (Entry C R) → Type 0
-  IsKnown p h = (p ≡ 0) ⊎ In p (named h)
+  IsKnown p h = (p ≡ 0) ⊎ In p (split_off h)
 
   pub live_known : (h : List (Entry C R)) (p : ℕ) → In p (live h) → IsKnown p h
   live_known h p there = ⊎_elim (λ t. ⊎_elim (λ (z : 0 ≡ p). inl (sym z)) (λ u. absurd (false≢true u)) (in_cases p 0 [] t)) inr (live_named p (0 ∷ []) h there)
 
   pub known_more : (h g : List (Entry C R)) (p : ℕ) → IsKnown p h → IsKnown p (h ++ g)
-  known_more h g p k = ⊎_elim inl (λ r. inr (subst (λ l. In p l) (sym (named_append h g)) (in_left p (named h) (named g) r))) k
+  known_more h g p k = ⊎_elim inl (λ r. inr (subst (λ l. In p l) (sym (named_append h g)) (in_left p (split_off h) (split_off g) r))) k
 
 module _ {C R S : Type 0} (first : S) (answer : S → C → R) (next : S → C → S) (May : List (Entry C R) → S → ℕ → C → Type 0) where
   abbrev Allows : List (Entry C R) → Entry C R → Type 0
@@ -59,7 +59,7 @@ module _ {C R S : Type 0} (first : S) (answer : S → C → R) (next : S → C �
   abbrev IsLegal : List (Entry C R) → Type 0
   IsLegal = Legal first answer next May
 
-  pub state_push : (h : List (Entry C R)) (e : Entry C R) → state_of first answer next May (h ++ e ∷ []) ≡ state_after first answer next May (state_of first answer next May h) e
+  pub state_push : (h : List (Entry C R)) (e : Entry C R) → replay first answer next May (h ++ e ∷ []) ≡ state_after first answer next May (replay first answer next May h) e
   state_push h e = state_append first answer next May first h (e ∷ [])
 
   -- one more entry that is allowed
@@ -92,6 +92,6 @@ module _ {C R S : Type 0} (first : S) (answer : S → C → R) (next : S → C �
   own_heir h [] p legal alive = refl
   own_heir h (split a q ∷ es) p legal alive = own_heir (h ++ split a q ∷ []) es p legal.1 (subst (λ l. In p (live l)) (sym (append_assoc h (split a q ∷ []) es)) alive)
   own_heir h (join a q ∷ es) p legal alive =
-      let stays : (p == q) ≡ false = not_true (p == q) (λ x. gone first answer next May h (join a q ∷ es) legal p (subst (λ k. In p (k ∷ joined es)) (eqb-true p q x) (in_here p (joined es))) alive) in
+      let stays : (p == q) ≡ false = not_true (p == q) (λ x. gone first answer next May h (join a q ∷ es) legal p (subst (λ k. In p (k ∷ taken_in es)) (eqb-true p q x) (in_here p (taken_in es))) alive) in
       ap (λ b. heir es (cond b a p)) stays ∙ own_heir (h ++ join a q ∷ []) es p legal.1 (subst (λ l. In p (live l)) (sym (append_assoc h (join a q ∷ []) es)) alive)
   own_heir h (calls a c r ∷ es) p legal alive = own_heir (h ++ calls a c r ∷ []) es p legal.1 (subst (λ l. In p (live l)) (sym (append_assoc h (calls a c r ∷ []) es)) alive)

@@ -1,7 +1,7 @@
 -- Lemmas on histories: of two lists put together, of the callers that are live, and of the entries that one caller has made.
 use Rattle.std.proofs.Common.{◌≡◌, ℕ, Bool, true, false, cond, not, ◌||◌, List, [], ◌∷◌, ◌++◌, ◌==◌, ◌⊎◌, inl, inr, refl, sym, ap, ◌∙◌, subst, append_assoc, append-nil, ⊎_elim}
 use Rattle.std.proofs.lemmas.Bool.{false≢true, eqb-true, eqb-false, eq-eqb, ne_eqb, cases_Bool}
-use Rattle.canvas_history.specs.History.{Entry, split, join, calls, among, without, by_of, live_after, live_from, live, named, joined, made_by, AllJoined, NoneBy, AllOthers, Since, Sole, state_after, state_from, Allowed, LegalFrom, Legal}
+use Rattle.canvas_history.specs.History.{Entry, split, join, calls, among, without, by_of, live_after, live_from, live, split_off, taken_in, made_by, AllJoined, NoneBy, AllOthers, Since, Sole, state_after, state_from, Allowed, LegalFrom, Legal}
 
 -- the number stands in the list
 abbrev pub In : ℕ → List ℕ → Type 0
@@ -67,18 +67,18 @@ module _ {C R : Type 0} where
   live_append cs [] ys = refl
   live_append cs (x ∷ xs) ys = live_append (live_after cs x) xs ys
 
-  pub named_append : (xs ys : List (Entry C R)) → named (xs ++ ys) ≡ named xs ++ named ys
+  pub named_append : (xs ys : List (Entry C R)) → split_off (xs ++ ys) ≡ split_off xs ++ split_off ys
   named_append [] ys = refl
   named_append (split p q ∷ xs) ys = ap (λ l. q ∷ l) (named_append xs ys)
   named_append (join p q ∷ xs) ys = named_append xs ys
   named_append (calls p c r ∷ xs) ys = named_append xs ys
 
   -- a live caller was live before, or is named by a split
-  pub live_named : (c : ℕ) (cs : List ℕ) (es : List (Entry C R)) → In c (live_from cs es) → In c cs ⊎ In c (named es)
+  pub live_named : (c : ℕ) (cs : List ℕ) (es : List (Entry C R)) → In c (live_from cs es) → In c cs ⊎ In c (split_off es)
   live_named c cs [] h = inl h
   live_named c cs (split p q ∷ es) h =
-      ⊎_elim (λ t. ⊎_elim (λ u. inl u) (λ u. inr (⊎_elim (λ (s : q ≡ c). subst (λ k. In c (k ∷ named es)) (sym s) (in_here c (named es))) (λ v. absurd (false≢true v)) (in_cases c q [] u))) (in_append c cs (q ∷ []) t))
-      (λ t. inr (in_later c q (named es) t)) (live_named c (cs ++ q ∷ []) es h)
+      ⊎_elim (λ t. ⊎_elim (λ u. inl u) (λ u. inr (⊎_elim (λ (s : q ≡ c). subst (λ k. In c (k ∷ split_off es)) (sym s) (in_here c (split_off es))) (λ v. absurd (false≢true v)) (in_cases c q [] u))) (in_append c cs (q ∷ []) t))
+      (λ t. inr (in_later c q (split_off es) t)) (live_named c (cs ++ q ∷ []) es h)
   live_named c cs (join p q ∷ es) h = ⊎_elim (λ t. inl (in_within c q cs t).0) (λ t. inr t) (live_named c (without q cs) es h)
   live_named c cs (calls p d r ∷ es) h = live_named c cs es h
 
@@ -149,13 +149,13 @@ module _ {C R : Type 0} where
   only_right (calls p c r ∷ xs) ys o = only_right xs ys o
 
   -- then who is named, and who is live, the first caller's own entries say
-  pub named_first : (es : List (Entry C R)) → OthersCall es → named es ≡ named (made_by 0 es)
+  pub named_first : (es : List (Entry C R)) → OthersCall es → split_off es ≡ split_off (made_by 0 es)
   named_first [] o = refl
-  named_first (split p q ∷ es) o = ap (λ l. q ∷ l) (named_first es o.1) ∙ sym (ap (λ l. named l) (made_here 0 (split p q) es o.0))
-  named_first (join p q ∷ es) o = named_first es o.1 ∙ sym (ap (λ l. named l) (made_here 0 (join p q) es o.0))
+  named_first (split p q ∷ es) o = ap (λ l. q ∷ l) (named_first es o.1) ∙ sym (ap (λ l. split_off l) (made_here 0 (split p q) es o.0))
+  named_first (join p q ∷ es) o = named_first es o.1 ∙ sym (ap (λ l. split_off l) (made_here 0 (join p q) es o.0))
   named_first (calls p c r ∷ es) o =
-      ⊎_elim (λ (h : (p == 0) ≡ true). named_first es o ∙ sym (ap (λ l. named l) (made_here 0 (calls p c r) es (eqb-true p 0 h))))
-      (λ (h : (p == 0) ≡ false). named_first es o ∙ sym (ap (λ l. named l) (made_off 0 (calls p c r) es h))) (cases_Bool (p == 0))
+      ⊎_elim (λ (h : (p == 0) ≡ true). named_first es o ∙ sym (ap (λ l. split_off l) (made_here 0 (calls p c r) es (eqb-true p 0 h))))
+      (λ (h : (p == 0) ≡ false). named_first es o ∙ sym (ap (λ l. split_off l) (made_off 0 (calls p c r) es h))) (cases_Bool (p == 0))
 
   pub live_first : (cs : List ℕ) (es : List (Entry C R)) → OthersCall es → live_from cs es ≡ live_from cs (made_by 0 es)
   live_first cs [] o = refl
@@ -185,21 +185,21 @@ module _ {C R S : Type 0} (first : S) (answer : S → C → R) (next : S → C �
   was_live before (calls p c r) a = a.0
 
   -- an entry's caller is the first, or was named
-  pub was_named : (before : List (Entry C R)) (e : Entry C R) → Allowed first answer next May before e → (by_of e ≡ 0) ⊎ In (by_of e) (named before)
+  pub was_named : (before : List (Entry C R)) (e : Entry C R) → Allowed first answer next May before e → (by_of e ≡ 0) ⊎ In (by_of e) (split_off before)
   was_named before e a =
       ⊎_elim (λ h. ⊎_elim (λ (s : 0 ≡ by_of e). inl (sym s)) (λ v. absurd (false≢true v)) (in_cases (by_of e) 0 [] h)) (λ h. inr h)
       (live_named (by_of e) (0 ∷ []) before (was_live before e a))
 
   -- a caller that no split has named has made no entry
-  pub fresh_from : (q : ℕ) (before es : List (Entry C R)) → Ok before es → (q == 0) ≡ false → among q (named (before ++ es)) ≡ false → made_by q es ≡ []
+  pub fresh_from : (q : ℕ) (before es : List (Entry C R)) → Ok before es → (q == 0) ≡ false → among q (split_off (before ++ es)) ≡ false → made_by q es ≡ []
   fresh_from q before [] l n f = refl
   fresh_from q before (e ∷ es) l n f =
       let off : (by_of e == q) ≡ false = ⊎_elim (λ (h : (by_of e == q) ≡ true).
       let same : by_of e ≡ q = eqb-true (by_of e) q h in
       absurd (⊎_elim (λ (z : by_of e ≡ 0). false≢true (sym n ∙ eq-eqb q 0 (sym same ∙ z)))
-      (λ z. false≢true (sym f ∙ subst (λ l. In q l) (sym (named_append before (e ∷ es))) (in_left q (named before) (named (e ∷ es)) (subst (λ k. In k (named before)) same z)))) (was_named before e l.0)))
+      (λ z. false≢true (sym f ∙ subst (λ l. In q l) (sym (named_append before (e ∷ es))) (in_left q (split_off before) (split_off (e ∷ es)) (subst (λ k. In k (split_off before)) same z)))) (was_named before e l.0)))
       (λ (h : (by_of e == q) ≡ false). h) (cases_Bool (by_of e == q)) in
-      made_off q e es off ∙ fresh_from q (before ++ e ∷ []) es l.1 n (subst (λ l. among q (named l) ≡ false) (sym (append_assoc before (e ∷ []) es)) f)
+      made_off q e es off ∙ fresh_from q (before ++ e ∷ []) es l.1 n (subst (λ l. among q (split_off l) ≡ false) (sym (append_assoc before (e ∷ []) es)) f)
 
   -- a caller that a split has just named has made no entry
   pub fresh_at : (p q : ℕ) (log : List (Entry C R)) → Legal first answer next May (log ++ split p q ∷ []) → (p == q) ≡ false → made_by q (log ++ split p q ∷ []) ≡ []
@@ -208,15 +208,15 @@ module _ {C R S : Type 0} (first : S) (answer : S → C → R) (next : S → C �
       made_append q log (split p q ∷ []) ∙ (ap (λ x. x ++ made_by q (split p q ∷ [])) (fresh_from q [] log (legal_left first answer next May [] log (split p q ∷ []) l) a.1 a.2) ∙ made_off q (split p q) [] d)
 
   abbrev pub Quiet : List (Entry C R) → Type 0
-  Quiet l = (c : ℕ) → (c == 0) ≡ false → In c (named (made_by 0 l)) → OnlyCalls (made_by c l)
+  Quiet l = (c : ℕ) → (c == 0) ≡ false → In c (split_off (made_by 0 l)) → OnlyCalls (made_by c l)
 
   by_first : (before es : List (Entry C R)) (x : Entry C R) → OthersCall before → Allowed first answer next May before x → Quiet (before ++ x ∷ es) → (OnlyCalls (x ∷ made_by (by_of x) es) → ⊥) → by_of x ≡ 0
   by_first before es x o a k bad =
       ⊎_elim (λ (z : by_of x ≡ 0). z) (λ z. ⊎_elim (λ (h : (by_of x == 0) ≡ true). eqb-true (by_of x) 0 h)
       (λ (h : (by_of x == 0) ≡ false).
-      let mine : In (by_of x) (named (made_by 0 before)) = subst (λ l. In (by_of x) l) (named_first before o) z in
-      let all : In (by_of x) (named (made_by 0 (before ++ x ∷ es))) = subst (λ l. In (by_of x) (named l)) (sym (made_append 0 before (x ∷ es)))
-      (subst (λ l. In (by_of x) l) (sym (named_append (made_by 0 before) (made_by 0 (x ∷ es)))) (in_left (by_of x) (named (made_by 0 before)) (named (made_by 0 (x ∷ es))) mine)) in
+      let mine : In (by_of x) (split_off (made_by 0 before)) = subst (λ l. In (by_of x) l) (named_first before o) z in
+      let all : In (by_of x) (split_off (made_by 0 (before ++ x ∷ es))) = subst (λ l. In (by_of x) (split_off l)) (sym (made_append 0 before (x ∷ es)))
+      (subst (λ l. In (by_of x) l) (sym (named_append (made_by 0 before) (made_by 0 (x ∷ es)))) (in_left (by_of x) (split_off (made_by 0 before)) (split_off (made_by 0 (x ∷ es))) mine)) in
       absurd (not_only (by_of x) x before es refl bad (k (by_of x) h all))) (cases_Bool (by_of x == 0))) (was_named before x a)
 
   one : (before es : List (Entry C R)) (x : Entry C R) → OthersCall before → Allowed first answer next May before x → Quiet (before ++ x ∷ es) → OthersCall (x ∷ [])
@@ -237,11 +237,11 @@ module _ {C R S : Type 0} (first : S) (answer : S → C → R) (next : S → C �
       more e es here (others_call (before ++ e ∷ []) es l.1 (others_append before (e ∷ []) o here) (subst (λ l. Quiet l) (sym (append_assoc before (e ∷ []) es)) h))
 
   -- and each entry is by the first caller or by one whom it has made
-  pub by_these : (before es : List (Entry C R)) (qs : List ℕ) → Ok before es → ((c : ℕ) → In c (named (before ++ es)) → In c qs) → ByThese qs es
+  pub by_these : (before es : List (Entry C R)) (qs : List ℕ) → Ok before es → ((c : ℕ) → In c (split_off (before ++ es)) → In c qs) → ByThese qs es
   by_these before [] qs l h = tt
   by_these before (e ∷ es) qs l h = (
-    ⊎_elim (λ (z : by_of e ≡ 0). inl z) (λ z. inr (h (by_of e) (subst (λ l. In (by_of e) l) (sym (named_append before (e ∷ es))) (in_left (by_of e) (named before) (named (e ∷ es)) z)))) (was_named before e l.0),
-    by_these (before ++ e ∷ []) es qs l.1 (subst (λ l. (c : ℕ) → In c (named l) → In c qs) (sym (append_assoc before (e ∷ []) es)) h),
+    ⊎_elim (λ (z : by_of e ≡ 0). inl z) (λ z. inr (h (by_of e) (subst (λ l. In (by_of e) l) (sym (named_append before (e ∷ es))) (in_left (by_of e) (split_off before) (split_off (e ∷ es)) z)))) (was_named before e l.0),
+    by_these (before ++ e ∷ []) es qs l.1 (subst (λ l. (c : ℕ) → In c (split_off l) → In c qs) (sym (append_assoc before (e ∷ []) es)) h),
   )
 
 -- ---- the callers that a join has taken in
@@ -254,31 +254,31 @@ no_members [] h = refl
 no_members (x ∷ xs) h = absurd (h x (in_here x xs))
 
 module _ {C R : Type 0} where
-  still : (before : List (Entry C R)) (e : Entry C R) (c : ℕ) → (c ≡ 0) ⊎ In c (named before) → (c ≡ 0) ⊎ In c (named (before ++ e ∷ []))
-  still before e c was = ⊎_elim (λ z. inl z) (λ z. inr (subst (λ l. In c l) (sym (named_append before (e ∷ []))) (in_left c (named before) (named (e ∷ [])) z))) was
+  still : (before : List (Entry C R)) (e : Entry C R) (c : ℕ) → (c ≡ 0) ⊎ In c (split_off before) → (c ≡ 0) ⊎ In c (split_off (before ++ e ∷ []))
+  still before e c was = ⊎_elim (λ z. inl z) (λ z. inr (subst (λ l. In c l) (sym (named_append before (e ∷ []))) (in_left c (split_off before) (split_off (e ∷ [])) z))) was
 
   -- where no join takes in the first caller, it stays in front
-  first_stays : (cs : List ℕ) (es : List (Entry C R)) → among 0 (joined es) ≡ false → live_from (0 ∷ cs) es ≡ 0 ∷ live_from cs es
+  first_stays : (cs : List ℕ) (es : List (Entry C R)) → among 0 (taken_in es) ≡ false → live_from (0 ∷ cs) es ≡ 0 ∷ live_from cs es
   first_stays cs [] n = refl
   first_stays cs (split p q ∷ es) n = first_stays (cs ++ q ∷ []) es n
   first_stays cs (join p q ∷ es) n =
-      let both = or_false (q == 0) (among 0 (joined es)) n in
+      let both = or_false (q == 0) (among 0 (taken_in es)) n in
       let apart : (0 == q) ≡ false = ne_eqb 0 q (λ z. false≢true (sym both.0 ∙ eq-eqb q 0 (sym z))) in
       ap (λ b. live_from (cond (not b) (0 ∷ without q cs) (without q cs)) es) apart ∙ first_stays (without q cs) es both.1
   first_stays cs (calls p c r ∷ es) n = first_stays cs es n
 
 module _ {C R S : Type 0} (first : S) (answer : S → C → R) (next : S → C → S) (May : List (Entry C R) → S → ℕ → C → Type 0) where
   -- who was there already is named by no further split
-  once : (before es : List (Entry C R)) → LegalFrom first answer next May before es → (c : ℕ) → (c ≡ 0) ⊎ In c (named before) → In c (named es) → ⊥
+  once : (before es : List (Entry C R)) → LegalFrom first answer next May before es → (c : ℕ) → (c ≡ 0) ⊎ In c (split_off before) → In c (split_off es) → ⊥
   once before [] l c was i = false≢true i
   once before (split p q ∷ es) l c was i =
-      ⊎_elim (λ (s : q ≡ c). ⊎_elim (λ (z : c ≡ 0). false≢true (sym l.0.1 ∙ eq-eqb q 0 (s ∙ z))) (λ z. false≢true (sym l.0.2 ∙ subst (λ k. In k (named before)) (sym s) z)) was)
-      (λ t. once (before ++ split p q ∷ []) es l.1 c (still before (split p q) c was) t) (in_cases c q (named es) i)
+      ⊎_elim (λ (s : q ≡ c). ⊎_elim (λ (z : c ≡ 0). false≢true (sym l.0.1 ∙ eq-eqb q 0 (s ∙ z))) (λ z. false≢true (sym l.0.2 ∙ subst (λ k. In k (split_off before)) (sym s) z)) was)
+      (λ t. once (before ++ split p q ∷ []) es l.1 c (still before (split p q) c was) t) (in_cases c q (split_off es) i)
   once before (join p q ∷ es) l c was i = once (before ++ join p q ∷ []) es l.1 c (still before (join p q) c was) i
   once before (calls p d r ∷ es) l c was i = once (before ++ calls p d r ∷ []) es l.1 c (still before (calls p d r) c was) i
 
   -- who was there already, and is live later, was live
-  pub was_there : (before es : List (Entry C R)) → LegalFrom first answer next May before es → (c : ℕ) → (c ≡ 0) ⊎ In c (named before) → In c (live (before ++ es)) → In c (live before)
+  pub was_there : (before es : List (Entry C R)) → LegalFrom first answer next May before es → (c : ℕ) → (c ≡ 0) ⊎ In c (split_off before) → In c (live (before ++ es)) → In c (live before)
   was_there before es l c was i =
       ⊎_elim (λ t. t) (λ t. absurd (once before es l c was t)) (live_named c (live before) es (subst (λ xs. In c xs) (live_append (0 ∷ []) before es) i))
 
@@ -287,16 +287,16 @@ module _ {C R S : Type 0} (first : S) (answer : S → C → R) (next : S → C �
       let e : Entry C R = join p q in
       let after : List (Entry C R) = before ++ e ∷ [] in
       let now : In q (live_from (live after) es) = subst (λ xs. In q xs) (ap (λ k. live k) (sym (append_assoc before (e ∷ []) es)) ∙ live_append (0 ∷ []) after es) i in
-      let was : (q ≡ 0) ⊎ In q (named before) = ⊎_elim (λ h. ⊎_elim (λ (s : 0 ≡ q). inl (sym s)) (λ v. absurd (false≢true v)) (in_cases q 0 [] h)) (λ h. inr h) (live_named q (0 ∷ []) before l.0.1) in
+      let was : (q ≡ 0) ⊎ In q (split_off before) = ⊎_elim (λ h. ⊎_elim (λ (s : 0 ≡ q). inl (sym s)) (λ v. absurd (false≢true v)) (in_cases q 0 [] h)) (λ h. inr h) (live_named q (0 ∷ []) before l.0.1) in
       ⊎_elim (λ t. (in_within q q (live before) (subst (λ xs. In q xs) (live_append (0 ∷ []) before (e ∷ [])) t)).1 refl) (λ t. once after es l.1 q (still before e q was) t) (live_named q (live after) es now)
 
   -- who has been taken in is no longer live
-  pub gone : (before es : List (Entry C R)) → LegalFrom first answer next May before es → (c : ℕ) → In c (joined es) → In c (live (before ++ es)) → ⊥
+  pub gone : (before es : List (Entry C R)) → LegalFrom first answer next May before es → (c : ℕ) → In c (taken_in es) → In c (live (before ++ es)) → ⊥
   gone before [] l c j i = false≢true j
   gone before (split p q ∷ es) l c j i = gone (before ++ split p q ∷ []) es l.1 c j (subst (λ x. In c (live x)) (sym (append_assoc before (split p q ∷ []) es)) i)
   gone before (join p q ∷ es) l c j i =
       ⊎_elim (λ (s : q ≡ c). ended before p q es l (subst (λ k. In k (live (before ++ join p q ∷ es))) (sym s) i))
-      (λ t. gone (before ++ join p q ∷ []) es l.1 c t (subst (λ x. In c (live x)) (sym (append_assoc before (join p q ∷ []) es)) i)) (in_cases c q (joined es) j)
+      (λ t. gone (before ++ join p q ∷ []) es l.1 c t (subst (λ x. In c (live x)) (sym (append_assoc before (join p q ∷ []) es)) i)) (in_cases c q (taken_in es) j)
   gone before (calls p d r ∷ es) l c j i = gone (before ++ calls p d r ∷ []) es l.1 c j (subst (λ x. In c (live x)) (sym (append_assoc before (calls p d r ∷ []) es)) i)
 
   -- where each caller that was made has been taken in, and the first has not, no other is live

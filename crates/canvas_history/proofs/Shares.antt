@@ -5,7 +5,7 @@ use lib.ListN.{get_elem?}
 use Rattle.std.proofs.lemmas.List.{length-append}
 use Rattle.atomic_table.proofs.Lists.{at_set, set_else}
 use Rattle.canvas_history.specs.Callers.{the_object, owing_none, Follows}
-use Rattle.canvas_history.specs.History.{Entry, split, join, calls, among, by_of, live_after, live, named, Sole, state_of, Allowed, Legal}
+use Rattle.canvas_history.specs.History.{Entry, split, join, calls, among, by_of, live_after, live, split_off, Sole, replay, Allowed, Legal}
 use Rattle.canvas_history.specs.steps.Sharing.{Hat, Fits, AllFit, IsKept}
 use Rattle.canvas_history.proofs.Histories.{named_append, other_of}
 use Rattle.canvas_history.proofs.Calls.{not_true, among_without, among_last, among_here, among_more, live_push, live_known, others_push, state_push, legal_push, alone}
@@ -85,7 +85,7 @@ module _ {C R S : Type 0} (first : S) (answer : S → C → R) (next : S → C �
   Numbered l = (x : ℕ) → among x l ≡ true → x ≤ length l
 
   abbrev State : List (Entry C R) → S
-  State = state_of first answer next May
+  State = replay first answer next May
 
   abbrev IsCall : ℕ → List (Entry C R) → List (Entry C R) → Entry C R → Type 0
   IsCall p seen seen' e = Follows first answer next May (owing_none the_object p seen) (e ∷ []) seen'
@@ -112,7 +112,7 @@ module _ {C R S : Type 0} (first : S) (answer : S → C → R) (next : S → C �
             at = k.at;
             legal = legal_push first answer next May k.log e k.legal good;
             shown = subst shows' (sym (state_push first answer next May k.log e)) right;
-            numbered = subst Numbered (sym (append-nil (named k.log)) ∙ sym (named_append k.log (e ∷ []))) k.numbered;
+            numbered = subst Numbered (sym (append-nil (split_off k.log)) ∙ sym (named_append k.log (e ∷ []))) k.numbered;
             fits = fits_set (all e) k.at views id ((p, all e) ∷ [])
                 (λ seat v place h ne x y. let g = k.fits seat v place h x y in
                 fit_more k.log k.at k.at seat place h e (apart_of k.log k.at seat id place 0 h (p, seen) ne g f) g.alive refl g)
@@ -123,14 +123,14 @@ module _ {C R S : Type 0} (first : S) (answer : S → C → R) (next : S → C �
 
     -- a new caller is named, and stands beside the one that made it
     pub split_step : (p : ℕ) (seen : List (Entry C R)) → get_elem? views id ≡ some ((p, seen) ∷ [])
-        → let q = suc (length (named k.log)) in let e = split p q in Kept shows (set views id ((p, all e) ∷ (q, all e) ∷ [])) × IsCall p seen (all e) e × (q ≡ length (named (all e)))
+        → let q = suc (length (split_off k.log)) in let e = split p q in Kept shows (set views id ((p, all e) ∷ (q, all e) ∷ [])) × IsCall p seen (all e) e × (q ≡ length (split_off (all e)))
     split_step p seen here =
         let f : Fits k.log k.at id 0 (p, seen) = k.fits id ((p, seen) ∷ []) 0 (p, seen) here refl in
-        let q : ℕ = suc (length (named k.log)) in
+        let q : ℕ = suc (length (split_off k.log)) in
         let e : Entry C R = split p q in
-        let more : named (all e) ≡ named k.log ++ q ∷ [] = named_append k.log (e ∷ []) in
-        let number : q ≡ length (named (all e)) = sym (ap length more ∙ (length-append (named k.log) (q ∷ []) ∙ omega arith)) in
-        let new : among q (named k.log) ≡ false = not_true (among q (named k.log)) (λ is. let l = k.numbered q is in absurd (omega arith)) in
+        let more : split_off (all e) ≡ split_off k.log ++ q ∷ [] = named_append k.log (e ∷ []) in
+        let number : q ≡ length (split_off (all e)) = sym (ap length more ∙ (length-append (split_off k.log) (q ∷ []) ∙ omega arith)) in
+        let new : among q (split_off k.log) ≡ false = not_true (among q (split_off k.log)) (λ is. let l = k.numbered q is in absurd (omega arith)) in
         let good : Allowed first answer next May k.log e = (f.alive, ne_eqb q 0 (λ z. absurd (omega arith)), new) in
         let at' : ℕ → ℕ × ℕ = placed k.at q (id, 1) in
         let alive : (x : ℕ) → among x (live k.log) ≡ true → among x (live (all e)) ≡ true = λ x is. ap (among x) (live_push k.log e) ∙ among_more x (live k.log) q is in
@@ -140,7 +140,7 @@ module _ {C R S : Type 0} (first : S) (answer : S → C → R) (next : S → C �
             at = at';
             legal = legal_push first answer next May k.log e k.legal good;
             shown = subst shows (sym (state_push first answer next May k.log e)) k.shown;
-            numbered = λ x is. ⊎_elim (λ h. let l = k.numbered x h in omega (arith, number)) (λ h. omega (arith, number)) (among_last x (named k.log) q (ap (among x) (sym more) ∙ is));
+            numbered = λ x is. ⊎_elim (λ h. let l = k.numbered x h in omega (arith, number)) (λ h. omega (arith, number)) (among_last x (split_off k.log) q (ap (among x) (sym more) ∙ is));
             fits = fits_set (all e) at' views id ((p, all e) ∷ (q, all e) ∷ [])
                 (λ seat v place h ne x y. let g = k.fits seat v place h x y in
                 fit_more k.log k.at at' seat place h e (apart_of k.log k.at seat id place 0 h (p, seen) ne g f) (among_more h.0 (live k.log) q g.alive) (placed_else k.at q (id, 1) h.0 (old h.0 g.alive)) g)
@@ -219,7 +219,7 @@ module _ {C R S : Type 0} (first : S) (answer : S → C → R) (next : S → C �
             at = k.at;
             legal = legal_push first answer next May k.log e k.legal good;
             shown = subst shows (sym (state_push first answer next May k.log e)) k.shown;
-            numbered = subst Numbered (sym (append-nil (named k.log)) ∙ sym (named_append k.log (e ∷ []))) k.numbered;
+            numbered = subst Numbered (sym (append-nil (split_off k.log)) ∙ sym (named_append k.log (e ∷ []))) k.numbered;
             fits = fits_set (all e) k.at views id ((p, all e) ∷ [])
                 (λ seat v place h ne x y. let o = k.fits seat v place h x y in
                 fit_more k.log k.at k.at seat place h e (apart_of k.log k.at seat id place 0 h (p, a) ne o f)

@@ -10,7 +10,7 @@
 --     Adds p es p'              of p's own entries, p' has those that p had, and then these
 --     IsHistory p, LeavesOne p  what p has seen is legal; where all others have been taken in, the first caller is the only one that is live
 use Rattle.std.specs.Prelude.{◌≡◌, ℕ, List, [], ◌∷◌, ◌++◌, ◌⊎◌, length}
-use Rattle.canvas_history.specs.History.{Entry, split, join, live_from, named, made_by, AllJoined, Sole, NoneBy, Since, Legal}
+use Rattle.canvas_history.specs.History.{Entry, split, join, live_from, split_off, made_by, AllJoined, Sole, NoneBy, Since, Legal}
 
 -- Of which object it is a caller, its number, the callers for which it answers (itself, and those that it took in since its last entry), the beginning of the history that
 -- it has seen, and the joins that it owes, which come right before its next entry
@@ -70,7 +70,7 @@ module _ {I C R S : Type 0} (first : S) (answer : S → C → R) (next : S → C
 
   -- the new caller's number is that of the splits so far, and it has seen what this one has
   abbrev pub Parted : Caller I C R → Caller I C R → Caller I C R → Type 0
-  Parted p p' q = Stands p (split p.name q.name) p' × (q ≡ owing_none p.of (length (named p'.seen)) p'.seen)
+  Parted p p' q = Stands p (split p.name q.name) p' × (q ≡ owing_none p.of (length (split_off p'.seen)) p'.seen)
 
   -- the list begins with both lists, and has no further entry by either's callers before the join
   abbrev pub Joined : Caller I C R → Caller I C R → Caller I C R → Type 0

@@ -1,10 +1,10 @@
 -- Histories of an object that several callers share: who called, what, and what was answered, in one order. That each call stands in one such order, in its caller's own,
 -- is Lamport's sequential consistency (How to make a multiprocessor computer, 1979), here for callers that make and take in others.
 --     Entry C R              one entry of a history: a caller makes another, takes one in, or makes a call C with the reply R. Callers are numbers, and 0 is the first
---     live, named, joined log    the callers that are live after the history, in the order of their making; those that a `split` names, and those that a `join` takes in
+--     live, split_off, taken_in log    the callers that are live after the history, in the order of their making; those that a `split` names, and those that a `join` takes in
 --     heir log c             the caller as whose own the calls of c count: c, or the one that took it in, or the one that took that one in
 --     made_by p log          the entries by p itself
---     state_of log           the object's state after the history
+--     replay log             the object's state after the history
 --     Allowed log e          the entry e may follow the history
 --     Legal log              each entry is allowed after those before it
 --     Sole log p             no other caller than p is live
@@ -49,18 +49,18 @@ module _ {C R : Type 0} where
   live log = live_from (0 ∷ []) log
 
   -- the callers that a split of the history names
-  abbrev pub named : List (Entry C R) → List ℕ
-  named [] = []
-  named (split p q ∷ es) = q ∷ named es
-  named (join p q ∷ es) = named es
-  named (calls p c r ∷ es) = named es
+  abbrev pub split_off : List (Entry C R) → List ℕ
+  split_off [] = []
+  split_off (split p q ∷ es) = q ∷ split_off es
+  split_off (join p q ∷ es) = split_off es
+  split_off (calls p c r ∷ es) = split_off es
 
   -- the callers that a join of the history takes in
-  abbrev pub joined : List (Entry C R) → List ℕ
-  joined [] = []
-  joined (split p q ∷ es) = joined es
-  joined (join p q ∷ es) = q ∷ joined es
-  joined (calls p c r ∷ es) = joined es
+  abbrev pub taken_in : List (Entry C R) → List ℕ
+  taken_in [] = []
+  taken_in (split p q ∷ es) = taken_in es
+  taken_in (join p q ∷ es) = q ∷ taken_in es
+  taken_in (calls p c r ∷ es) = taken_in es
 
   -- as whose own c's calls count after one more entry
   abbrev pub heir_after : ℕ → Entry C R → ℕ
@@ -78,7 +78,7 @@ module _ {C R : Type 0} where
 
   -- each caller that a split of the history names has been taken in, and the first has not
   abbrev pub AllJoined : List (Entry C R) → Type 0
-  AllJoined log = (among 0 (joined log) ≡ false) × ((c : ℕ) → among c (named log) ≡ true → among c (joined log) ≡ true)
+  AllJoined log = (among 0 (taken_in log) ≡ false) × ((c : ℕ) → among c (split_off log) ≡ true → among c (taken_in log) ≡ true)
 
   -- no other caller than p is live
   abbrev pub Sole : List (Entry C R) → ℕ → Type 0
@@ -110,14 +110,14 @@ module _ {C R S : Type 0} (first : S) (answer : S → C → R) (next : S → C �
   state_from s (e ∷ es) = state_from (state_after s e) es
 
   -- what the history replays to
-  abbrev pub state_of : List (Entry C R) → S
-  state_of log = state_from first log
+  abbrev pub replay : List (Entry C R) → S
+  replay log = state_from first log
 
   -- the entry is by a live caller, names what it may, and has the object's reply
   abbrev pub Allowed : List (Entry C R) → Entry C R → Type 0
-  Allowed log (split p q) = (among p (live log) ≡ true) × ((q == 0) ≡ false) × (among q (named log) ≡ false)
+  Allowed log (split p q) = (among p (live log) ≡ true) × ((q == 0) ≡ false) × (among q (split_off log) ≡ false)
   Allowed log (join p q) = (among p (live log) ≡ true) × (among q (live log) ≡ true) × ((q == p) ≡ false)
-  Allowed log (calls p c r) = (among p (live log) ≡ true) × (r ≡ answer (state_of log) c) × May log (state_of log) p c
+  Allowed log (calls p c r) = (among p (live log) ≡ true) × (r ≡ answer (replay log) c) × May log (replay log) p c
 
   abbrev pub LegalFrom : List (Entry C R) → List (Entry C R) → Type 0
   LegalFrom before [] = Unit {0}

@@ -10,7 +10,7 @@ use Rattle.canvas_sig.proofs.CleanWire.{args_clean, above_behind, kwargs_clean, 
 use Rattle.canvas_sig.proofs.ComposedLemmas.{both}
 use Rattle.canvas_semantics.specs.Line.{in_group}
 use Rattle.canvas_semantics.specs.PlacedLine.{PTask, p_task, PTasks, no_p_tasks, and_p_task, PPlace, p_nowhere, p_group, p_chord, PLine, p_stop, p_step, p_group_end, p_chord_end, PLines, no_p_lines, and_p_line, strip}
-use Rattle.canvas_message.specs.Fits.{is_number, size_ok, task_ok, tasks_ok, place_ok, line_ok, members_ok, task_reach, tasks_reach, place_reach, line_reach, greatest_reach, members_reach}
+use Rattle.canvas_message.specs.Fits.{is_task_number, size_ok, task_ok, tasks_ok, place_ok, line_ok, members_ok, task_reach, tasks_reach, place_reach, line_reach, greatest_reach, members_reach}
 use Rattle.canvas_message.specs.Wire.{task_id, place_id, member_unless_null, frozen, task_options, call_wire, chain_wire, group_options, group_wire, chord_wire, task_wire, tasks_wire, carried_wire, line_wire, elements_wire, members_wire}
 use Rattle.canvas_message.proofs.RoundTrip.{task_parts, chord_parts}
 
@@ -135,8 +135,8 @@ mutual
   carried_clean last p_nowhere ok = tt
   carried_clean last (p_group g) ok = tt
   carried_clean last (p_chord g size body) ok =
-      let p = both (last && is_number g && size_ok size) (line_ok true body) ok in
-      line_clean true (Some size) body (small size (both (last && is_number g) (size_ok size) p.0).1) p.1
+      let p = both (last && is_task_number g && size_ok size) (line_ok true body) ok in
+      line_clean true (Some size) body (small size (both (last && is_task_number g) (size_ok size) p.0).1) p.1
 
   line_clean : (last : Bool) (size : Option ℕ) (l : PLine) → SizeOk size → line_ok last l ≡ true → IsClean (line_wire size l)
   line_clean last size p_stop s ok = absurd cc
@@ -150,7 +150,7 @@ mutual
   line_clean last size (p_step t (p_chord_end g ms b)) s ok =
       let p = both (task_ok false t) (line_ok last (p_chord_end g ms b)) ok in
       chain_clean size (item (task_wire None t) (elements_wire (p_chord_end g ms b))) s (task_clean false None t tt p.0, elements_clean last (p_chord_end g ms b) p.1)
-  line_clean last size (p_group_end g ms) s ok = grouped_clean size g (members_wire ms) s (members_clean ms (both (is_number g) (members_ok ms) ok).1)
+  line_clean last size (p_group_end g ms) s ok = grouped_clean size g (members_wire ms) s (members_clean ms (both (is_task_number g) (members_ok ms) ok).1)
   line_clean last size (p_chord_end g ms b) s ok =
       let p = chord_parts last g ms b ok in
       chord_clean size g (members_wire ms) (line_wire None b) s (members_clean ms p.members) (line_clean last None b tt p.body)
@@ -167,7 +167,7 @@ mutual
   elements_clean last (p_step t (p_chord_end g ms b)) ok =
       let p = both (task_ok false t) (line_ok last (p_chord_end g ms b)) ok in
       (task_clean false None t tt p.0, elements_clean last (p_chord_end g ms b) p.1)
-  elements_clean last (p_group_end g ms) ok = (grouped_clean None g (members_wire ms) tt (members_clean ms (both (is_number g) (members_ok ms) ok).1), tt)
+  elements_clean last (p_group_end g ms) ok = (grouped_clean None g (members_wire ms) tt (members_clean ms (both (is_task_number g) (members_ok ms) ok).1), tt)
   elements_clean last (p_chord_end g ms b) ok =
       let p = chord_parts last g ms b ok in
       (chord_clean None g (members_wire ms) (line_wire None b) tt (members_clean ms p.members) (line_clean last None b tt p.body), tt)

@@ -18,12 +18,12 @@ abbrev pub most_members : ℕ
 most_members = most_tasks
 
 -- a number of a task, group or chord: from 1, in 32 bits
-abbrev pub is_number : ℕ → Bool
-is_number k = nat_lt 0 k && nat_lt k (2 ^ 32)
+abbrev pub is_task_number : ℕ → Bool
+is_task_number k = nat_lt 0 k && nat_lt k (2 ^ 32)
 
 abbrev pub parent_ok : Option ℕ → Bool
 parent_ok None = true
-parent_ok (Some k) = is_number k
+parent_ok (Some k) = is_task_number k
 
 abbrev pub size_ok : ℕ → Bool
 size_ok n = nat_lt 0 n && nat_le n most_members
@@ -52,7 +52,7 @@ how_many (and_p_line m ms) = 1 + how_many ms
 -- members have none yet: `last` says whether the line's end may have one.
 abbrev mutual
   pub task_ok : (last : Bool) → PTask → Bool
-  task_ok last (p_task k call links errbacks place) = is_number k && call_ok call && tasks_ok links && tasks_ok errbacks && place_ok last place
+  task_ok last (p_task k call links errbacks place) = is_task_number k && call_ok call && tasks_ok links && tasks_ok errbacks && place_ok last place
 
   -- links and error callbacks
   pub tasks_ok : PTasks → Bool
@@ -61,16 +61,16 @@ abbrev mutual
 
   pub place_ok : (last : Bool) → PPlace → Bool
   place_ok last p_nowhere = true
-  place_ok last (p_group g) = last && is_number g
-  place_ok last (p_chord g size body) = last && is_number g && size_ok size && line_ok true body
+  place_ok last (p_group g) = last && is_task_number g
+  place_ok last (p_chord g size body) = last && is_task_number g && size_ok size && line_ok true body
 
   -- a line of at least one element
   pub line_ok : (last : Bool) → PLine → Bool
   line_ok last p_stop = false
   line_ok last (p_step t p_stop) = task_ok last t
   line_ok last (p_step t l) = task_ok false t && line_ok last l
-  line_ok last (p_group_end g ms) = is_number g && members_ok ms
-  line_ok last (p_chord_end g ms b) = is_number g && nat_le (how_many ms) most_members && members_ok ms && line_ok last b
+  line_ok last (p_group_end g ms) = is_task_number g && members_ok ms
+  line_ok last (p_chord_end g ms b) = is_task_number g && nat_le (how_many ms) most_members && members_ok ms && line_ok last b
 
   -- no member ends in a group
   pub members_ok : PLines → Bool

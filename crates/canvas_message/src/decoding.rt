@@ -2,11 +2,11 @@
 
 ghost use Rattle.std.specs.Prelude.{◌≡◌, ◌≢◌, IfOk, IfErr};
 ghost use Rattle.serde_json.specs.View.{view};
-ghost use Rattle.canvas_sig.specs.Fields.{found};
+ghost use Rattle.canvas_sig.specs.Fields.{value_at};
 ghost use Rattle.canvas_message.specs.declared.fault.MessageFault.TheVariants.{BadArgs, BadEmbed, Memory};
 ghost use Rattle.canvas_message.specs.steps.Elements.{given_view, embed_view};
 ghost use Rattle.canvas_message.specs.EnvelopeFaults.{Says, envelope_fault};
-ghost use Rattle.canvas_message.specs.steps.Reading.{Gives, refused_as, given_reading, embed_reading, checked, content_of, message_reading, json_reading};
+ghost use Rattle.canvas_message.specs.steps.Reading.{Gives, refused_as, given_reading, embed_reading, if_fits, content_of, message_reading, json_reading};
 ghost use Rattle.canvas_message.specs.View.{draft_view};
 
 use crate::read::{
@@ -44,7 +44,7 @@ fn given_of(alloc: Global, args: &Value, kwargs: &Value) -> Result<Given, Messag
 }
 
 fn embed_of(alloc: Global, group: Option<&Value>, embed: &Value) -> Result<Embed, MessageFault>
-    ensures { Gives embed_view result (refused_as BadEmbed (embed_reading (found group.entry) (view embed.now))) }
+    ensures { Gives embed_view result (refused_as BadEmbed (embed_reading (value_at group.entry) (view embed.now))) }
 {
     match read_embed(alloc, group, embed) {
         Ok(embed) => Ok(embed),
@@ -85,7 +85,7 @@ fn draft_of(
 
 /// The message, where its places, sizes and reach are in order.
 fn checked(draft: Draft) -> Result<Message, MessageFault>
-    ensures { Gives (λ m. m) result (checked (draft_view draft)) }
+    ensures { Gives (λ m. m) result (if_fits (draft_view draft)) }
 {
     match Message::of(draft) {
         Some(message) => Ok(message),

@@ -4,14 +4,14 @@ use Rattle.std.specs.Prelude.{◌==◌, ◌≢◌, if◌then◌else◌, count_by
 use Rattle.std.proofs.lemmas.Bool.{eqb-true, eqb-false, eq-eqb, ne_eqb, cases_Bool}
 use Rattle.std.proofs.lemmas.List.Sums.{sum_by-cons}
 use Rattle.canvas_task.specs.declared.outcome.Outcome.{Outcome}
-use Rattle.canvas_history.specs.History.{Entry, split, join, calls, LegalFrom, state_of, state_from, state_after}
+use Rattle.canvas_history.specs.History.{Entry, split, join, calls, LegalFrom, replay, state_from, state_after}
 use Rattle.canvas_history.proofs.Histories.{state_append}
 use Rattle.canvas_semantics.specs.Line.{Line, members}
 use Rattle.canvas_rewrite.specs.Planned.{Apart, times}
 use Rattle.canvas_message.specs.Events.{In}
 use Rattle.canvas_backend.specs.declared.stored.Stored.{Stored}
 use Rattle.canvas_backend.specs.declared.stored.Stored.TheVariants.{First, Again}
-use Rattle.canvas_backend.specs.Backend.{Log, Call, Reply, Results, no_results, store, part, read, was, count, found, first_or, kept_or, next_of, count_of, reply_of, May as MayCall}
+use Rattle.canvas_backend.specs.Backend.{Log, TableCall, TableReply, Results, no_results, store, part, read, was, count, found, first_or, kept_or, next_of, count_of, reply_of, May as MayCall, says_first}
 use Rattle.canvas_backend.specs.Roster.{roster_of}
 use Rattle.canvas_backend.proofs.HistoryLaws.{member_test}
 use Rattle.canvas_broker.specs.Broker.{QueueEntry as Entries, publish, take, answer, next, May}
@@ -25,7 +25,7 @@ use Rattle.canvas_runs.proofs.Words.{each_weaker}
 
 module _ {E : Type 0} where
   abbrev pub held : List (Entries E) → List E
-  held log = state_of [] answer next May log
+  held log = replay [] answer next May log
 
   after_one : (before : List (Entries E)) (e : Entries E) (q : List E) → held before ≡ q → held (before ++ e ∷ []) ≡ state_after [] answer next May q e
   after_one before e q h = state_append [] answer next May [] before (e ∷ []) ∙ ap (λ s. state_after [] answer next May s e) h
@@ -99,7 +99,7 @@ more_pass r m (n ∷ ns) h =
 
 module _ (l : Line) (plan_apart : Apart l) where
   abbrev pub table_of : Log → Results
-  table_of log = state_of no_results (reply_of (roster_of l)) next_of (MayCall (roster_of l)) log
+  table_of log = replay no_results (reply_of (roster_of l)) next_of (MayCall (roster_of l)) log
 
   abbrev pub Rightly : Log → Log → Type 0
   Rightly before es = LegalFrom no_results (reply_of (roster_of l)) next_of (MayCall (roster_of l)) before es
@@ -107,7 +107,7 @@ module _ (l : Line) (plan_apart : Apart l) where
   abbrev pub after_all : Results → Log → Results
   after_all s es = state_from no_results (reply_of (roster_of l)) next_of (MayCall (roster_of l)) s es
 
-  after_call : (before : Log) (e : Entry Call Reply) (s : Results) → table_of before ≡ s → table_of (before ++ e ∷ []) ≡ state_after no_results (reply_of (roster_of l)) next_of (MayCall (roster_of l)) s e
+  after_call : (before : Log) (e : Entry TableCall TableReply) (s : Results) → table_of before ≡ s → table_of (before ++ e ∷ []) ≡ state_after no_results (reply_of (roster_of l)) next_of (MayCall (roster_of l)) s e
   after_call before e s h = state_append no_results (reply_of (roster_of l)) next_of (MayCall (roster_of l)) no_results before (e ∷ []) ∙ ap (λ s. state_after no_results (reply_of (roster_of l)) next_of (MayCall (roster_of l)) s e) h
 
   pub record Shows (s : Results) (os : List (ℕ × Outcome)) (ps : List (ℕ × ℕ)) : Type 0 where
@@ -117,7 +117,7 @@ module _ (l : Line) (plan_apart : Apart l) where
 
   -- ---- a store
 
-  was_same : (a b : _) → ◌≡◌ {A = Reply} (was a) (was b) → a ≡ b
+  was_same : (a b : _) → ◌≡◌ {A = TableReply} (was a) (was b) → a ≡ b
   was_same a b e = cc
 
   wins_first : (o : Option Outcome) → First ≡ first_or o → FirstWins o true
@@ -157,7 +157,7 @@ module _ (l : Line) (plan_apart : Apart l) where
 
   -- ---- a part
 
-  counted_same : (n m : ℕ) → ◌≡◌ {A = Reply} (count n) (count m) → n ≡ m
+  counted_same : (n m : ℕ) → ◌≡◌ {A = TableReply} (count n) (count m) → n ≡ m
   counted_same n m e = cc
 
   true_false : true ≡ false → ⊥
@@ -204,7 +204,7 @@ module _ (l : Line) (plan_apart : Apart l) where
 
   -- ---- the whole
 
-  same_read : (x y : Option Outcome) → ◌≡◌ {A = Reply} (found x) (found y) → x ≡ y
+  same_read : (x y : Option Outcome) → ◌≡◌ {A = TableReply} (found x) (found y) → x ≡ y
   same_read x y e = cc
 
   pub table_is : (before es : Log) (s : Results) (os : List (ℕ × Outcome)) (ps : List (ℕ × ℕ)) → table_of before ≡ s → Shows s os ps → Rightly before es → IsTable os ps (seconds (table_calls es))
@@ -332,11 +332,7 @@ module _ (l : Line) (plan_apart : Apart l) where
 
 -- ---- entries
 
-abbrev pub is_first : Stored → Bool
-is_first First = true
-is_first Again = false
-
-pub store_in : (es : Log) (p t : ℕ) (o : Outcome) (a : Stored) → In (calls p (store t o) (was a)) es → In (stored t o (is_first a)) (seconds (table_calls es))
+pub store_in : (es : Log) (p t : ℕ) (o : Outcome) (a : Stored) → In (calls p (store t o) (was a)) es → In (stored t o (says_first a)) (seconds (table_calls es))
 store_in [] p t o a i = elim i [ ]
 store_in (split q r ∷ es) p t o a (inl s) = absurd (cc)
 store_in (split q r ∷ es) p t o a (inr i) = store_in es p t o a i
@@ -346,13 +342,13 @@ store_in (calls q (store u w) (was First) ∷ es) p t o a (inl s) =
     let tasks : t ≡ u = cc in
     let outs : o ≡ w = cc in
     let answers : a ≡ First = cc in
-    inl (ap (λ y. stored y o (is_first a)) tasks ∙ (ap (λ y. stored u y (is_first a)) outs ∙ ap (λ y. stored u w (is_first y)) answers))
+    inl (ap (λ y. stored y o (says_first a)) tasks ∙ (ap (λ y. stored u y (says_first a)) outs ∙ ap (λ y. stored u w (says_first y)) answers))
 store_in (calls q (store u w) (was First) ∷ es) p t o a (inr i) = inr (store_in es p t o a i)
 store_in (calls q (store u w) (was Again) ∷ es) p t o a (inl s) =
     let tasks : t ≡ u = cc in
     let outs : o ≡ w = cc in
     let answers : a ≡ Again = cc in
-    inl (ap (λ y. stored y o (is_first a)) tasks ∙ (ap (λ y. stored u y (is_first a)) outs ∙ ap (λ y. stored u w (is_first y)) answers))
+    inl (ap (λ y. stored y o (says_first a)) tasks ∙ (ap (λ y. stored u y (says_first a)) outs ∙ ap (λ y. stored u w (says_first y)) answers))
 store_in (calls q (store u w) (was Again) ∷ es) p t o a (inr i) = inr (store_in es p t o a i)
 store_in (calls q (part g m) (count n) ∷ es) p t o a (inl s) = absurd (cc)
 store_in (calls q (part g m) (count n) ∷ es) p t o a (inr i) = inr (store_in es p t o a i)

@@ -8,7 +8,7 @@ use Rattle.canvas_message.specs.declared.envelope.Envelope.{Envelope}
 use Rattle.canvas_backend.specs.declared.stored.Stored.TheVariants.{First, Again}
 use Rattle.canvas_backend.specs.Backend.{Log, store, part, read, was, count, found}
 use Rattle.canvas_broker.specs.Broker.{QueueEntry as Entries, publish, take}
-use Rattle.canvas_runs.specs.Accounts.{splits_of, joins_of, entries, rows}
+use Rattle.canvas_runs.specs.Accounts.{splits_of, joins_of, broker_entries, backend_entries}
 use Rattle.canvas_runs.specs.Following.{Stood}
 use Rattle.canvas_runs.specs.Calls.{BrokerCall, published, took, BackendCall, stored, returned, has_read}
 use Rattle.canvas_runs.specs.Lists.{Each, by, seconds}
@@ -61,7 +61,7 @@ pub queue_joins : (qs : List ℕ) → seconds (queue_calls {E = Envelope} (joins
 queue_joins [] = refl
 queue_joins (q ∷ qs) = queue_joins qs
 
-pub queue_entries : (n : ℕ) (cs : List (BrokerCall Envelope)) → Each Stood cs → seconds (queue_calls (entries n cs)) ≡ cs
+pub queue_entries : (n : ℕ) (cs : List (BrokerCall Envelope)) → Each Stood cs → seconds (queue_calls (broker_entries n cs)) ≡ cs
 queue_entries n [] s = refl
 queue_entries n (published e ∷ cs) s = ap (λ l. published e ∷ l) (queue_entries n cs s.1)
 queue_entries n (took None ∷ cs) s = absurd s.0
@@ -97,7 +97,7 @@ pub table_joins : (qs : List ℕ) → seconds (table_calls (joins_of qs)) ≡ []
 table_joins [] = refl
 table_joins (q ∷ qs) = table_joins qs
 
-pub table_rows : (n : ℕ) (cs : List (BackendCall Outcome)) → seconds (table_calls (rows n cs)) ≡ cs
+pub table_rows : (n : ℕ) (cs : List (BackendCall Outcome)) → seconds (table_calls (backend_entries n cs)) ≡ cs
 table_rows n [] = refl
 table_rows n (stored t o true ∷ cs) = ap (λ l. stored t o true ∷ l) (table_rows n cs)
 table_rows n (stored t o false ∷ cs) = ap (λ l. stored t o false ∷ l) (table_rows n cs)

@@ -2,6 +2,7 @@
 use Rattle.std.proofs.Common.{◌≡◌, ℕ, Bool, true, false, List, [], ◌∷◌, ◌++◌, map, Option, Some, None, refl, sym, ap, ap₂, ◌∙◌, arith}
 use Rattle.std.proofs.lemmas.List.{map-append}
 use Rattle.std.specs.Prelude.{ℤ}
+use Rattle.canvas_task.specs.Apply.{Registry}
 use Rattle.canvas_task.specs.declared.outcome.Fault.{Fault}
 use Rattle.canvas_task.specs.declared.outcome.Fault.TheVariants as fault
 use Rattle.canvas_task.specs.declared.outcome.Outcome.{Outcome}
@@ -241,13 +242,13 @@ behind_number n (eval.id k) = refl
 behind_number n (eval.skip f) = refl
 behind_number n (eval.raised f) = refl
 
-pub header_same : (es : List (ℕ × Outcome)) → effects.header es ≡ header es
+pub header_same : (es : List (ℕ × Outcome)) → effects.header_flow es ≡ header es
 header_same [] = refl
 header_same ((t, Success n) ∷ es) = behind_number n (eval.gathered (map (λ e. (e.0, Some e.1)) es)) ∙ ap (joined_number n) (header_same es)
 header_same ((t, Failure f) ∷ es) = refl
 
 pub completed_sent : (n : ℕ) (body : Line) (q : Place) (es : List (ℕ × Outcome)) → EndsAt false q body
-    → effects.enter (placed (put q) (bare body)) (effects.header es) (end_place (placed (put q) (bare body))) 0 None ≡ all_sent (enter body (header es) q 0 None)
+    → effects.enter (placed (put q) (bare body)) (effects.header_flow es) (end_place (placed (put q) (bare body))) 0 None ≡ all_sent (enter body (header es) q 0 None)
 completed_sent n body q es h =
     ap₂ (λ x p. effects.enter (placed (put q) (bare body)) x p 0 None) (header_same es) (end_of_body q body h)
     ∙ (enter_placed (bare body) (header es) (put q) (put q) 0 None ∙ enter_sent body (header es) q 0 None)
@@ -268,49 +269,52 @@ stop_items nowhere k v = refl
 stop_items (in_group g) k v = refl
 stop_items (in_chord g c) k v = refl
 
-result_same : (t : Task) (x : Input) → events.outcome_with t x ≡ result t x
-result_same (task k call ls es) x = refl
+module _ (registry : Registry) where
+  result_same : (t : Task) (x : Input) → events.outcome_with registry t x ≡ result registry t x
+  result_same (task k call ls es) x = refl
 
 errbacks_same : (t : Task) → events.errbacks_in t ≡ its_errbacks t
 errbacks_same (task k call ls es) = refl
 
-joined_same : (x : LineFlow) (es : List (ℕ × Outcome)) → events.joined x es ≡ joined x es
+joined_same : (x : LineFlow) (es : List (ℕ × Outcome)) → events.group_flow x es ≡ joined x es
 joined_same (run x) es = header_same es
 joined_same (skips f) es = refl
 joined_same (raise f) [] = refl
 joined_same (raise f) (e ∷ es) = header_same (e ∷ es)
 
-head_same : (m : Line) (ms : Lines) (x : LineFlow) → last_task 0 (bare m) ≡ last_of m → events.out m x ≡ out m x → events.outs ms x ≡ outs ms x → events.outs (and_line m ms) x ≡ outs (and_line m ms) x
-head_same m ms x e f r = ap₂ (λ k y. (k, flow_outcome y) ∷ events.outs ms x) e f ∙ ap (λ es. (last_of m, flow_outcome (out m x)) ∷ es) r
+module _ (registry : Registry) where
+  head_same : (m : Line) (ms : Lines) (x : LineFlow) → last_task 0 (bare m) ≡ last_of m → events.out registry m x ≡ out registry m x → events.outs registry ms x ≡ outs registry ms x → events.outs registry (and_line m ms) x ≡ outs registry (and_line m ms) x
+  head_same m ms x e f r = ap₂ (λ k y. (k, flow_outcome y) ∷ events.outs registry ms x) e f ∙ ap (λ es. (last_of m, flow_outcome (out registry m x)) ∷ es) r
 
-mutual
-  pub out_same : (l : Line) (x : LineFlow) → events.out l x ≡ out l x
-  out_same stop x = refl
-  out_same (step t rest) (run x) = ap (λ o. events.out rest (after_outcome o)) (result_same t x) ∙ out_same rest (after_outcome (result t x))
-  out_same (step t rest) (skips f) = out_same rest (skips f)
-  out_same (step t rest) (raise f) = out_same rest (skips f)
-  out_same (group_end g ms) x = refl
-  out_same (chord_end g ms body) x = ap (events.out body) (joined_same x (events.outs ms x) ∙ ap (joined x) (outs_same ms x)) ∙ out_same body (joined x (outs ms x))
+  mutual
+    pub out_same : (l : Line) (x : LineFlow) → events.out registry l x ≡ out registry l x
+    out_same stop x = refl
+    out_same (step t rest) (run x) = ap (λ o. events.out registry rest (after_outcome o)) (result_same registry t x) ∙ out_same rest (after_outcome (result registry t x))
+    out_same (step t rest) (skips f) = out_same rest (skips f)
+    out_same (step t rest) (raise f) = out_same rest (skips f)
+    out_same (group_end g ms) x = refl
+    out_same (chord_end g ms body) x = ap (events.out registry body) (joined_same x (events.outs registry ms x) ∙ ap (joined x) (outs_same ms x)) ∙ out_same body (joined x (outs registry ms x))
 
-  pub outs_same : (ms : Lines) (x : LineFlow) → events.outs ms x ≡ outs ms x
-  outs_same no_lines x = refl
-  outs_same (and_line m ms) x = head_same m ms x (last_bare m 0) (out_same m x) (outs_same ms x)
+    pub outs_same : (ms : Lines) (x : LineFlow) → events.outs registry ms x ≡ outs registry ms x
+    outs_same no_lines x = refl
+    outs_same (and_line m ms) x = head_same m ms x (last_bare m 0) (out_same m x) (outs_same ms x)
 
 chosen_same : (o : Outcome) (xs ys : events.Items) (is js : Items) → xs ≡ items_of is → ys ≡ items_of js → chosen o xs ys ≡ items_of (chosen o is js)
 chosen_same (Success n) xs ys is js e f = e
 chosen_same (Failure n) xs ys is js e f = f
 
-mutual
-  ran_sent : (t : Task) (x : Input) (v : Event) (rest : Line) (p : Place) → events.ran t x v rest (put p) ≡ items_of (ran t x v rest p)
-  ran_sent (task k call ls es) x v rest p =
-      let m : Message = message (task k call ls es) x (parent_of v) rest p in
-      let o : Outcome = result (task k call ls es) x in
-      ap (λ is. (v, publish (content m)) ∷ (running k, store k o) ∷ is)
-      (chosen_same o _ _ (ran_all ls (events.input_of_success o) (end_of_line k)) (ran_all es (id_input k) (end_of_line k)) (ran_all_sent ls (events.input_of_success o) (end_of_line k)) (ran_all_sent es (id_input k) (end_of_line k)))
+module _ (registry : Registry) where
+  mutual
+    ran_sent : (t : Task) (x : Input) (v : Event) (rest : Line) (p : Place) → events.ran registry t x v rest (put p) ≡ items_of (ran registry t x v rest p)
+    ran_sent (task k call ls es) x v rest p =
+        let m : Message = message (task k call ls es) x (parent_of v) rest p in
+        let o : Outcome = result registry (task k call ls es) x in
+        ap (λ is. (v, publish (content m)) ∷ (running k, store k o) ∷ is)
+        (chosen_same o _ _ (ran_all registry ls (events.input_of_success o) (end_of_line k)) (ran_all registry es (id_input k) (end_of_line k)) (ran_all_sent ls (events.input_of_success o) (end_of_line k)) (ran_all_sent es (id_input k) (end_of_line k)))
 
-  ran_all_sent : (ts : Tasks) (x : Input) (v : Event) → events.ran_all ts x v ≡ items_of (ran_all ts x v)
-  ran_all_sent no_tasks x v = refl
-  ran_all_sent (and_task t ts) x v = items_joined (events.ran t x v stop p_nowhere) (events.ran_all ts x v) (ran t x v stop nowhere) (ran_all ts x v) (ran_sent t x v stop nowhere) (ran_all_sent ts x v)
+    ran_all_sent : (ts : Tasks) (x : Input) (v : Event) → events.ran_all registry ts x v ≡ items_of (ran_all registry ts x v)
+    ran_all_sent no_tasks x v = refl
+    ran_all_sent (and_task t ts) x v = items_joined (events.ran registry t x v stop p_nowhere) (events.ran_all registry ts x v) (ran registry t x v stop nowhere) (ran_all registry ts x v) (ran_sent t x v stop nowhere) (ran_all_sent ts x v)
 
 event_same : (x : LineFlow) (ms : Lines) (g : ℕ) (v : Event) → events.body_event x ms g v ≡ body_event x ms g v
 event_same (run x) no_lines g v = refl
@@ -318,34 +322,35 @@ event_same (run x) (and_line m ms) g v = refl
 event_same (skips f) ms g v = refl
 event_same (raise f) ms g v = refl
 
--- where a header's members go
-place_same : (x : LineFlow) (g : ℕ) (ms : Lines) (body : Line) (p : Place) (v : Event) → events.items_all ms x (put (header_place x g ms body p)) v ≡ items_of (items_all ms x (header_place x g ms body p) v)
-    → events.items_all ms x (events.header_place x g ms body (put p)) v ≡ items_of (items_all ms x (header_place x g ms body p) v)
-place_same (run x) g no_lines body p v e = refl
-place_same (run x) g (and_line m ms) body p v e = ap (λ q. events.items_all (and_line m ms) (run x) q v) (header_put g m ms body p) ∙ e
-place_same (skips f) g ms body p v e = e
-place_same (raise f) g ms body p v e = e
+module _ (registry : Registry) where
+  -- where a header's members go
+  place_same : (x : LineFlow) (g : ℕ) (ms : Lines) (body : Line) (p : Place) (v : Event) → events.items_all registry ms x (put (header_place x g ms body p)) v ≡ items_of (items_all registry ms x (header_place x g ms body p) v)
+      → events.items_all registry ms x (events.header_place x g ms body (put p)) v ≡ items_of (items_all registry ms x (header_place x g ms body p) v)
+  place_same (run x) g no_lines body p v e = refl
+  place_same (run x) g (and_line m ms) body p v e = ap (λ q. events.items_all registry (and_line m ms) (run x) q v) (header_put g m ms body p) ∙ e
+  place_same (skips f) g ms body p v e = e
+  place_same (raise f) g ms body p v e = e
 
-mutual
-  pub items_sent : (l : Line) (x : LineFlow) (p : Place) (k : ℕ) (v : Event) → events.events_in_file l x (put p) k v ≡ items_of (items l x p k v)
-  items_sent stop x p k v = stop_items p k v
-  items_sent (step t rest) (run x) p k v =
-      items_joined (events.ran t x v rest (put p)) (events.events_in_file rest (after_outcome (events.outcome_with t x)) (put p) (no_of t) (end_of_line (no_of t))) (ran t x v rest p)
-      (items rest (after_outcome (result t x)) p (no_of t) (end_of_line (no_of t))) (ran_sent t x v rest p)
-      (ap (λ o. events.events_in_file rest (after_outcome o) (put p) (no_of t) (end_of_line (no_of t))) (result_same t x) ∙ items_sent rest (after_outcome (result t x)) p (no_of t) (end_of_line (no_of t)))
-  items_sent (step t rest) (skips f) p k v = ap (λ is. (v, store (no_of t) (Failure f)) ∷ is) (items_sent rest (skips f) p (no_of t) v)
-  items_sent (step t rest) (raise f) p k v =
-      ap (λ is. (v, store (no_of t) (Failure f)) ∷ is)
-      (items_joined (events.ran_all (events.errbacks_in t) (id_input (no_of t)) v) (events.events_in_file rest (skips f) (put p) (no_of t) v) (ran_all (its_errbacks t) (id_input (no_of t)) v) (items rest (skips f) p (no_of t) v)
-      (ap (λ es. events.ran_all es (id_input (no_of t)) v) (errbacks_same t) ∙ ran_all_sent (its_errbacks t) (id_input (no_of t)) v) (items_sent rest (skips f) p (no_of t) v))
-  items_sent (group_end g ms) x p k v = items_all_sent ms x (in_group g) v
-  items_sent (chord_end g ms body) x p k v =
-      items_joined (events.items_all ms x (events.header_place x g ms body (put p)) v) (events.events_in_file body (events.joined x (events.outs ms x)) (put p) 0 (events.body_event x ms g v))
-      (items_all ms x (header_place x g ms body p) v) (items body (joined x (outs ms x)) p 0 (body_event x ms g v))
-      (place_same x g ms body p v (items_all_sent ms x (header_place x g ms body p) v))
-      (ap₂ (λ y w. events.events_in_file body y (put p) 0 w) (joined_same x (events.outs ms x) ∙ ap (joined x) (outs_same ms x)) (event_same x ms g v) ∙ items_sent body (joined x (outs ms x)) p 0 (body_event x ms g v))
+  mutual
+    pub items_sent : (l : Line) (x : LineFlow) (p : Place) (k : ℕ) (v : Event) → events.events_in_file registry l x (put p) k v ≡ items_of (items registry l x p k v)
+    items_sent stop x p k v = stop_items p k v
+    items_sent (step t rest) (run x) p k v =
+        items_joined (events.ran registry t x v rest (put p)) (events.events_in_file registry rest (after_outcome (events.outcome_with registry t x)) (put p) (no_of t) (end_of_line (no_of t))) (ran registry t x v rest p)
+        (items registry rest (after_outcome (result registry t x)) p (no_of t) (end_of_line (no_of t))) (ran_sent registry t x v rest p)
+        (ap (λ o. events.events_in_file registry rest (after_outcome o) (put p) (no_of t) (end_of_line (no_of t))) (result_same registry t x) ∙ items_sent rest (after_outcome (result registry t x)) p (no_of t) (end_of_line (no_of t)))
+    items_sent (step t rest) (skips f) p k v = ap (λ is. (v, store (no_of t) (Failure f)) ∷ is) (items_sent rest (skips f) p (no_of t) v)
+    items_sent (step t rest) (raise f) p k v =
+        ap (λ is. (v, store (no_of t) (Failure f)) ∷ is)
+        (items_joined (events.ran_all registry (events.errbacks_in t) (id_input (no_of t)) v) (events.events_in_file registry rest (skips f) (put p) (no_of t) v) (ran_all registry (its_errbacks t) (id_input (no_of t)) v) (items registry rest (skips f) p (no_of t) v)
+        (ap (λ es. events.ran_all registry es (id_input (no_of t)) v) (errbacks_same t) ∙ ran_all_sent registry (its_errbacks t) (id_input (no_of t)) v) (items_sent rest (skips f) p (no_of t) v))
+    items_sent (group_end g ms) x p k v = items_all_sent ms x (in_group g) v
+    items_sent (chord_end g ms body) x p k v =
+        items_joined (events.items_all registry ms x (events.header_place x g ms body (put p)) v) (events.events_in_file registry body (events.group_flow x (events.outs registry ms x)) (put p) 0 (events.body_event x ms g v))
+        (items_all registry ms x (header_place x g ms body p) v) (items registry body (joined x (outs registry ms x)) p 0 (body_event x ms g v))
+        (place_same x g ms body p v (items_all_sent ms x (header_place x g ms body p) v))
+        (ap₂ (λ y w. events.events_in_file registry body y (put p) 0 w) (joined_same x (events.outs registry ms x) ∙ ap (joined x) (outs_same registry ms x)) (event_same x ms g v) ∙ items_sent body (joined x (outs registry ms x)) p 0 (body_event x ms g v))
 
-  pub items_all_sent : (ms : Lines) (x : LineFlow) (p : Place) (v : Event) → events.items_all ms x (put p) v ≡ items_of (items_all ms x p v)
-  items_all_sent no_lines x p v = refl
-  items_all_sent (and_line m ms) x p v =
-      items_joined (events.events_in_file m x (put p) 0 v) (events.items_all ms x (put p) v) (items m x p 0 v) (items_all ms x p v) (items_sent m x p 0 v) (items_all_sent ms x p v)
+    pub items_all_sent : (ms : Lines) (x : LineFlow) (p : Place) (v : Event) → events.items_all registry ms x (put p) v ≡ items_of (items_all registry ms x p v)
+    items_all_sent no_lines x p v = refl
+    items_all_sent (and_line m ms) x p v =
+        items_joined (events.events_in_file registry m x (put p) 0 v) (events.items_all registry ms x (put p) v) (items registry m x p 0 v) (items_all registry ms x p v) (items_sent m x p 0 v) (items_all_sent ms x p v)

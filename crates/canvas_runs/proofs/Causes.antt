@@ -1,6 +1,7 @@
 -- Each publish is by the caller that brought its event about, and a chord is completed at most once.
 use Rattle.std.proofs.Common.{⊎_elim, ◌≡◌, ℕ, suc, ◌≤◌, Bool, true, false, cond, eqb, List, [], ◌∷◌, length, Option, Some, None, refl, sym, ap, subst, ◌∙◌, inl, inr, arith}
 use Rattle.std.proofs.lemmas.Bool.{eqb-true, eq-eqb}
+use Rattle.canvas_task.specs.Apply.{Registry}
 use Rattle.canvas_task.specs.declared.outcome.Outcome.{Outcome}
 use Rattle.canvas_history.specs.History.{Entry, split, join, calls}
 use Rattle.canvas_semantics.specs.Line.{Line, members}
@@ -11,10 +12,10 @@ use Rattle.canvas_message.specs.Events.{In, Event, start, running, end_of_line, 
 use Rattle.canvas_message.specs.Job as job
 use Rattle.canvas_message.specs.declared.envelope.Envelope.{Envelope}
 use Rattle.canvas_backend.specs.declared.stored.Stored.TheVariants.{First, Again}
-use Rattle.canvas_backend.specs.Backend.{Log, Call, Reply, store, part, read, was, count, found, no_results}
+use Rattle.canvas_backend.specs.Backend.{Log, TableCall, TableReply, store, part, read, was, count, found, no_results}
 use Rattle.canvas_broker.specs.Broker.{QueueEntry as Entries, publish, take}
 use Rattle.canvas_runs.specs.Causes.{Brought, ByCause, ByItsCause, completes_one, completions}
-use Rattle.canvas_runs.specs.Following.{asking, replied}
+use Rattle.canvas_runs.specs.Following.{table_call, table_reply}
 use Rattle.canvas_runs.specs.Calls.{published, BackendCall, stored, returned, has_read}
 use Rattle.canvas_runs.specs.Lists.{by, total, seconds}
 use Rattle.canvas_runs.specs.Logs.{queue_calls, table_calls}
@@ -64,8 +65,8 @@ publish_by (calls q take (Some d) ∷ es) p e a (inl s) = absurd (cc)
 publish_by (calls q take (Some d) ∷ es) p e a (inr i) = inr (publish_by es p e a i)
 
 -- the entry of a call
-abbrev row : ℕ × BackendCall Outcome → Entry Call Reply
-row x = calls x.0 (asking x.1) (replied x.1)
+abbrev row : ℕ × BackendCall Outcome → Entry TableCall TableReply
+row x = calls x.0 (table_call x.1) (table_reply x.1)
 
 row_in : (es : Log) (x : ℕ × BackendCall Outcome) → In x (table_calls es) → In (row x) es
 row_in [] x i = elim i [ ]
@@ -86,9 +87,9 @@ heavy_total w [] x i = elim i [ ]
 heavy_total w (y ∷ xs) x (inl e) = let h = ap w e in omega arith
 heavy_total w (y ∷ xs) x (inr i) = let h = heavy_total w xs x i in omega arith
 
-module _ (l : Line) (plan : IsPlan l) (r : Run l) where
+module _ (registry : Registry) (l : Line) (plan : IsPlan l) (r : Run registry l) where
   -- what shows an event
-  brought : (p : ℕ) (v : Event) (c : BackendCall Outcome) → (shows (X l plan) v c ≡ 0 → ⊥) → In (row (p, c)) r.table → Brought l p r.table v
+  brought : (p : ℕ) (v : Event) (c : BackendCall Outcome) → (shows (X registry l plan) v c ≡ 0 → ⊥) → In (row (p, c)) r.table → Brought l p r.table v
   brought p v (stored t o false) d i = absurd (d refl)
   brought p v (has_read t o) d i = absurd (d refl)
   brought p start (stored t o true) d i = absurd (d refl)
@@ -125,44 +126,44 @@ module _ (l : Line) (plan : IsPlan l) (r : Run l) where
       go true e (completion g) m = absurd (omega arith)
 
   -- a publish, with the message that its envelope opens as
-  caused : (p : ℕ) (e : Envelope) (a : Option Envelope) → In (calls p (publish e) a) r.queue → (c : Content) × (v : Event) × (e ≡ sealed c) × DoesIn l v (job.publish c) × Brought l p r.table v × (opened (book_of l) e ≡ Some c)
+  caused : (p : ℕ) (e : Envelope) (a : Option Envelope) → In (calls p (publish e) a) r.queue → (c : Content) × (v : Event) × (e ≡ sealed c) × DoesIn registry l v (job.publish c) × Brought l p r.table v × (opened (book_of l) e ≡ Some c)
   caused p e a i =
       let there : In (p, published e) (queue_calls r.queue) = publish_by r.queue p e a i in
-      let good : IsRunSealed (X l plan) (form l plan) (Does l plan) (order l plan) (value l plan) (inner_run l plan r) e =
-      in_each (GoodPublish (IsRunSealed (X l plan) (form l plan) (Does l plan) (order l plan) (value l plan) (inner_run l plan r))) (seconds (queue_calls r.queue))
-      (each_seconds (GoodPublish (IsRunSealed (X l plan) (form l plan) (Does l plan) (order l plan) (value l plan) (inner_run l plan r))) (queue_calls r.queue)
-      (publishes_right (X l plan) (form l plan) (Does l plan) (order l plan) (value l plan) (inner_run l plan r))) (published e) (publish_in r.queue p e a i) in
+      let good : IsRunSealed (X registry l plan) (form registry l plan) (Does registry l plan) (order registry l plan) (value registry l plan) (inner_run registry l plan r) e =
+      in_each (GoodPublish (IsRunSealed (X registry l plan) (form registry l plan) (Does registry l plan) (order registry l plan) (value registry l plan) (inner_run registry l plan r))) (seconds (queue_calls r.queue))
+      (each_seconds (GoodPublish (IsRunSealed (X registry l plan) (form registry l plan) (Does registry l plan) (order registry l plan) (value registry l plan) (inner_run registry l plan r))) (queue_calls r.queue)
+      (publishes_right (X registry l plan) (form registry l plan) (Does registry l plan) (order registry l plan) (value registry l plan) (inner_run registry l plan r))) (published e) (publish_in r.queue p e a i) in
       let c : Content = good.0 in
       let k : ℕ = number_of c.own in
       let v : Event = good.4.0 in
-      let does : DoesIn l v (job.publish c) = good.4.1 in
-      let weight : publishes_task (X l plan) k (published e) ≡ 1 =
-      ap (λ x. of_opened (X l plan) k x) (ap (X l plan).opened good.1 ∙ (order l plan).opened c good.3 good.2) ∙ ap (λ b. cond b 1 0) (eq-eqb k k refl) in
-      let calls_of : ℕ = total (publishes_task (X l plan) k) (by p (queue_calls r.queue)) in
-      let some : publishes_task (X l plan) k (published e) ≤ calls_of = heavy_total (publishes_task (X l plan) k) (by p (queue_calls r.queue)) (published e) (in_by p (published e) (queue_calls r.queue) there) in
-      let bound = one_caller (X l plan) (form l plan) (Does l plan) (order l plan) (value l plan) (once l plan) (inner_run l plan r) k v
-      (λ w n other q. (once l plan).event w v n c other does q) p in
+      let does : DoesIn registry l v (job.publish c) = good.4.1 in
+      let weight : publishes_task (X registry l plan) k (published e) ≡ 1 =
+      ap (λ x. of_opened (X registry l plan) k x) (ap (X registry l plan).opened good.1 ∙ (order registry l plan).opened c good.3 good.2) ∙ ap (λ b. cond b 1 0) (eq-eqb k k refl) in
+      let calls_of : ℕ = total (publishes_task (X registry l plan) k) (by p (queue_calls r.queue)) in
+      let some : publishes_task (X registry l plan) k (published e) ≤ calls_of = heavy_total (publishes_task (X registry l plan) k) (by p (queue_calls r.queue)) (published e) (in_by p (published e) (queue_calls r.queue) there) in
+      let bound = one_caller (X registry l plan) (form registry l plan) (Does registry l plan) (order registry l plan) (value registry l plan) (once registry l plan) (inner_run registry l plan r) k v
+      (λ w n other q. (once registry l plan).event w v n c other does q) p in
       let shown : Brought l p r.table v = ⊎_elim
-      (λ (z : total (shows (X l plan) v) (by p (table_calls r.table)) ≡ 0). at_start p v (omega (arith, weight, some, bound, z)))
-      (λ (h : (x : BackendCall Outcome) × In x (by p (table_calls r.table)) × (shows (X l plan) v x ≡ 0 → ⊥)).
+      (λ (z : total (shows (X registry l plan) v) (by p (table_calls r.table)) ≡ 0). at_start p v (omega (arith, weight, some, bound, z)))
+      (λ (h : (x : BackendCall Outcome) × In x (by p (table_calls r.table)) × (shows (X registry l plan) v x ≡ 0 → ⊥)).
       brought p v h.0 h.2 (row_in r.table (p, h.0) (by_in p h.0 (table_calls r.table) h.1)))
-      (find_heavy (shows (X l plan) v) (by p (table_calls r.table))) in
-      (c, v, good.1, does, shown, ap (opened (book_of l)) good.1 ∙ (order l plan).opened c good.3 good.2)
+      (find_heavy (shows (X registry l plan) v) (by p (table_calls r.table))) in
+      (c, v, good.1, does, shown, ap (opened (book_of l)) good.1 ∙ (order registry l plan).opened c good.3 good.2)
 
-  pub by_cause : ByCause l r.queue r.table
+  pub by_cause : ByCause registry l r.queue r.table
   by_cause p e a i = let k = caused p e a i in (k.0, k.1, k.2, k.3, k.4)
 
   same_message : (c d : Content) → ◌≡◌ {A = Option Content} (Some c) (Some d) → c ≡ d
   same_message c d e = cc
 
-  pub by_its_cause : ByItsCause l r.queue r.table
+  pub by_its_cause : ByItsCause registry l r.queue r.table
   by_its_cause v c does p e a i opens =
       let k = caused p e a i in
       let same : k.0 ≡ c = same_message k.0 c (sym k.5 ∙ opens) in
-      subst (λ w. Brought l p r.table w) ((once l plan).event k.1 v k.0 c k.3 does (ap (λ (d : Content). number_of d.own) same)) k.4
+      subst (λ w. Brought l p r.table w) ((once registry l plan).event k.1 v k.0 c k.3 does (ap (λ (d : Content). number_of d.own) same)) k.4
 
   -- a chord is completed at most once
-  completes_less : (g : ℕ) (c : BackendCall Outcome) → completes_one l g c ≤ shows (X l plan) (completion g) c
+  completes_less : (g : ℕ) (c : BackendCall Outcome) → completes_one l g c ≤ shows (X registry l plan) (completion g) c
   completes_less g (stored t o true) = omega arith
   completes_less g (stored t o false) = omega arith
   completes_less g (has_read t o) = omega arith
@@ -175,6 +176,6 @@ module _ (l : Line) (plan : IsPlan l) (r : Run l) where
   pub completed_once : (g : ℕ) → completions l g r.table ≤ 1
   completed_once g =
       let table = table_is l (plan_apart l plan) [] r.table no_results [] [] refl (table_starts l (plan_apart l plan)) r.table_legal in
-      let less = total-le (completes_one l g) (shows (X l plan) (completion g)) (completes_less g) (seconds (table_calls r.table)) in
-      let once = shows_once (X l plan) (completion g) (seconds (table_calls r.table)) table in
+      let less = total-le (completes_one l g) (shows (X registry l plan) (completion g)) (completes_less g) (seconds (table_calls r.table)) in
+      let once = shows_once (X registry l plan) (completion g) (seconds (table_calls r.table)) table in
       omega (arith, less, once)

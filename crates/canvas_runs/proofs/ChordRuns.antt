@@ -2,6 +2,7 @@
 use Rattle.std.proofs.Common.{◌≡◌, ◌≢◌, ◌∙◌, ℕ, true, false, eqb, cond, List, [], ◌∷◌, ◌++◌, map, Option, Some, None, Ok, refl, sym, ap, subst, inl, inr, ne_eqb}
 use Rattle.std.proofs.lemmas.Bool.{cases_eq}
 use Rattle.std.specs.Fmt.{digits}
+use Rattle.canvas_task.specs.Apply.{six_tasks}
 use Rattle.serde_json.specs.Written.{compact_text}
 use Rattle.serde_json.proofs.OnLiterals.{serde_json_on_literals}
 use Rattle.uuid.specs.Text.{by_index}
@@ -19,7 +20,7 @@ use Rattle.canvas_runs.specs.Book.{book_of}
 use Rattle.canvas_runs.specs.Core as core
 use Rattle.canvas_runs.specs.Core.{IsCoreRun, taking, over, left_after, opens, Between}
 use Rattle.canvas_runs.specs.Protocol.{Protocol}
-use Rattle.canvas_runs.specs.Calls.{AskedAndAnswered, Follows, follows_all, follows_publish, follows_list_take, follows_core_take, broker_calls, backend_calls, ReadsMembers, takes_one}
+use Rattle.canvas_runs.specs.Calls.{AskedAndAnswered, FollowsCore, follows_all, follows_publish, follows_list_take, follows_core_take, broker_calls, backend_calls, ReadsMembers, takes_one}
 use Rattle.canvas_runs.specs.Lists.{by, total}
 use Rattle.canvas_runs.specs.Logs.{queue_calls, table_calls}
 use Rattle.canvas_runs.specs.Run.{Run, Closed, published_all}
@@ -120,7 +121,7 @@ by_callers P a b c d p =
 -- ---- each caller's core run
 
 abbrev X : Protocol
-X = worker small
+X = worker six_tasks small
 
 abbrev Left : List (AskedAndAnswered X) → Option Content → Type 0
 Left xs o = IsCoreRun X (opens X o) xs
@@ -178,7 +179,7 @@ abbrev opening : List Content
 opening = first_sum ∷ second_sum ∷ []
 
 abbrev Goes : ℕ → Type 0
-Goes p = Follows [] (cond (eqb p 0) (published_all (map sealed opening)) [] ++ broker_calls X (workers p)) (by p (queue_calls queue))
+Goes p = FollowsCore [] (cond (eqb p 0) (published_all (map sealed opening)) [] ++ broker_calls X (workers p)) (by p (queue_calls queue))
 
 all_follow : (p : ℕ) → Goes p
 all_follow =
@@ -199,10 +200,10 @@ Used p = total takes_one (by p (queue_calls queue)) ≡ total takes_one (broker_
 all_used : (p : ℕ) → Used p
 all_used = by_callers Used refl refl refl (λ p o. rw (o.zero_p, o.one_p, o.two_p, o.p_one, o.p_two) refl)
 
-all_ended : (p : ℕ) → Between X (left_after X taking (workers p))
+all_ended : (p : ℕ) → Between (left_after X taking (workers p))
 all_ended =
-    by_callers (λ p. Between X (left_after X taking (workers p))) tt (subst (Between X) (sym first_ends) tt) (subst (Between X) (sym second_ends) tt)
-    (λ p o. subst (λ xs. Between X (left_after X taking xs)) (sym (no_others p o)) tt)
+    by_callers (λ p. Between (left_after X taking (workers p))) tt (subst (λ s. Between s) (sym first_ends) tt) (subst (λ s. Between s) (sym second_ends) tt)
+    (λ p o. subst (λ xs. Between (left_after X taking xs)) (sym (no_others p o)) tt)
 
 -- ---- both histories are legal
 
@@ -230,7 +231,7 @@ table_legal =
 
 -- ---- the run
 
-run : Run small
+run : Run six_tasks small
 run = record {
   queue = queue;
   table = table;
@@ -249,11 +250,11 @@ run = record {
   keeps = all_kept;
 }
 
-closed : Closed small run
+closed : Closed six_tasks small run
 unfolding run
 closed = record { all_sent = refl; drained = refl; all_used = all_used; all_ended = all_ended }
 
-pub stands : (r : Run small) × (r.queue ≡ queue) × (r.table ≡ table) × Closed small r
+pub stands : (r : Run six_tasks small) × (r.queue ≡ queue) × (r.table ≡ table) × Closed six_tasks small r
 unfolding run
 stands = (run, refl, refl, closed)
 

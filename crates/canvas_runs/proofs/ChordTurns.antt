@@ -1,21 +1,22 @@
 -- A chord's run by turns of two workers.
 use Rattle.std.proofs.Common.{◌≡◌, ◌∙◌, ◌||◌, ℕ, true, false, List, [], ◌∷◌, ◌++◌, Option, Some, None, refl, sym, ap, ap₂, subst, inl, inr, arith}
 use Rattle.std.proofs.lemmas.Bool.{cases_eq}
+use Rattle.canvas_task.specs.Apply.{six_tasks}
 use Rattle.canvas_task.specs.declared.outcome.Outcome.{Outcome}
 use Rattle.canvas_message.specs.Content.{Content}
 use Rattle.canvas_message.specs.declared.envelope.Envelope.{Envelope}
 use Rattle.canvas_runs.specs.Book.{book_of}
 use Rattle.canvas_runs.specs.Calls.{AskedAndAnswered}
-use Rattle.canvas_runs.specs.Core.{Ask, Reply, take, send, keep, part, read, pause, taken, sent, kept, counted, found, rested, taking, ask, opens, left_after, ReadsBack, Doing}
+use Rattle.canvas_runs.specs.Core.{Ask, Reply, take, send, keep, part, read, pause, taken, sent, kept, counted, found, rested, taking, ask, opens, left_after, ReadsBack, Doing, is_inside}
 use Rattle.canvas_runs.specs.Protocol.{Protocol}
-use Rattle.canvas_runs.specs.Turns.{Step, left, is_inside, Answers, HasEnded, Turned, all_taken, skips, takes, AllEnded, RanWhole, rounds}
+use Rattle.canvas_runs.specs.Turns.{Step, left, Answers, HasEnded, Turned, all_taken, skips_turn, takes_turn, AllEnded, RanWhole, rounds}
 use Rattle.canvas_runs.specs.TurnWitness.{listed_turns, witness_steps as steps, hasty}
 use Rattle.canvas_runs.specs.Witness.{small, first_sum, second_sum, whole_sum, two, four, six}
 use Rattle.canvas_runs.specs.Worker.{worker, sealed, opened}
 use Rattle.canvas_runs.proofs.ChordRuns.{first_back, second_back, whole_back, first_opens, second_opens, whole_opens}
 
 abbrev X : Protocol
-X = worker small
+X = worker six_tasks small
 
 -- ---- what a worker asks, by the message that its envelope reads as
 
@@ -62,9 +63,9 @@ plainly s a b e = record { back = b; asks = e }
 
 -- ---- one turn
 
-turn : (before : List Step) (p : ℕ) (a : Ask Envelope Outcome) (r : Reply Envelope Outcome) (us : List ℕ) (xs : List Step) → Asks (left small before p) a → Answers small 2 before a r
-    → Turned small 2 (before ++ (p, (a, r)) ∷ []) us xs → Turned small 2 before (p ∷ us) ((p, (a, r)) ∷ xs)
-turn before p a r us xs k h t = takes k.back k.asks h t
+turn : (before : List Step) (p : ℕ) (a : Ask Envelope Outcome) (r : Reply Envelope Outcome) (us : List ℕ) (xs : List Step) → Asks (left six_tasks small before p) a → Answers six_tasks small 2 before a r
+    → Turned six_tasks small 2 (before ++ (p, (a, r)) ∷ []) us xs → Turned six_tasks small 2 before (p ∷ us) ((p, (a, r)) ∷ xs)
+turn before p a r us xs k h t = takes_turn k.back k.asks h t
 
 -- ---- the steps one after the other
 
@@ -117,74 +118,74 @@ abbrev b15 : List Step
 b15 = b14 ++ (2, (pause, rested false)) ∷ []
 
 -- nobody is inside a script then
-all_out_13 : Answers small 2 b13 pause (rested false)
+all_out_13 : Answers six_tasks small 2 b13 pause (rested false)
 all_out_13 = ap₂ (λ s u. is_inside s || (is_inside u || false)) (sym (second_state (second_own ++ (take, taken None) ∷ []))) (sym (third_state (whole_own ++ (take, taken None) ∷ [])))
 
 -- nobody is inside a script then
-all_out_14 : Answers small 2 b14 pause (rested false)
+all_out_14 : Answers six_tasks small 2 b14 pause (rested false)
 all_out_14 = ap₂ (λ s u. is_inside s || (is_inside u || false)) (sym (second_state (second_own ++ (take, taken None) ∷ []))) (sym (third_state (whole_own ++ (take, taken None) ∷ (pause, rested false) ∷ [])))
 
-from_14 : Turned small 2 b14 (2 ∷ []) ((2, (pause, rested false)) ∷ [])
+from_14 : Turned six_tasks small 2 b14 (2 ∷ []) ((2, (pause, rested false)) ∷ [])
 from_14 = turn b14 2 (pause) (rested false) ([]) ([]) (by_second (second_own ++ (take, taken None) ∷ []) pause (plainly _ pause tt refl)) all_out_14 all_taken
 
-from_13 : Turned small 2 b13 (1 ∷ 2 ∷ []) ((1, (pause, rested false)) ∷ (2, (pause, rested false)) ∷ [])
+from_13 : Turned six_tasks small 2 b13 (1 ∷ 2 ∷ []) ((1, (pause, rested false)) ∷ (2, (pause, rested false)) ∷ [])
 from_13 = turn b13 1 (pause) (rested false) (2 ∷ []) ((2, (pause, rested false)) ∷ []) (by_third (whole_own ++ (take, taken None) ∷ []) pause (plainly _ pause tt refl)) all_out_13 from_14
 
-from_12 : Turned small 2 b12 (2 ∷ 1 ∷ 2 ∷ []) ((2, (take, taken None)) ∷ (1, (pause, rested false)) ∷ (2, (pause, rested false)) ∷ [])
+from_12 : Turned six_tasks small 2 b12 (2 ∷ 1 ∷ 2 ∷ []) ((2, (take, taken None)) ∷ (1, (pause, rested false)) ∷ (2, (pause, rested false)) ∷ [])
 from_12 = turn b12 2 (take) (taken None) (1 ∷ 2 ∷ []) ((1, (pause, rested false)) ∷ (2, (pause, rested false)) ∷ []) (by_second second_own take (plainly _ take tt refl)) refl from_13
 
-from_11 : Turned small 2 b11 (1 ∷ 2 ∷ 1 ∷ 2 ∷ []) ((1, (take, taken None)) ∷ (2, (take, taken None)) ∷ (1, (pause, rested false)) ∷ (2, (pause, rested false)) ∷ [])
+from_11 : Turned six_tasks small 2 b11 (1 ∷ 2 ∷ 1 ∷ 2 ∷ []) ((1, (take, taken None)) ∷ (2, (take, taken None)) ∷ (1, (pause, rested false)) ∷ (2, (pause, rested false)) ∷ [])
 from_11 = turn b11 1 (take) (taken None) (2 ∷ 1 ∷ 2 ∷ []) ((2, (take, taken None)) ∷ (1, (pause, rested false)) ∷ (2, (pause, rested false)) ∷ []) (by_third whole_own take (plainly _ take tt refl)) refl from_12
 
-from_10 : Turned small 2 b10 (1 ∷ 1 ∷ 2 ∷ 1 ∷ 2 ∷ []) ((1, (keep 3 six, kept true)) ∷ (1, (take, taken None)) ∷ (2, (take, taken None)) ∷ (1, (pause, rested false)) ∷ (2, (pause, rested false)) ∷ [])
+from_10 : Turned six_tasks small 2 b10 (1 ∷ 1 ∷ 2 ∷ 1 ∷ 2 ∷ []) ((1, (keep 3 six, kept true)) ∷ (1, (take, taken None)) ∷ (2, (take, taken None)) ∷ (1, (pause, rested false)) ∷ (2, (pause, rested false)) ∷ [])
 from_10 = turn b10 1 (keep 3 six) (kept true) (1 ∷ 2 ∷ 1 ∷ 2 ∷ []) ((1, (take, taken None)) ∷ (2, (take, taken None)) ∷ (1, (pause, rested false)) ∷ (2, (pause, rested false)) ∷ []) (by_third [] (keep 3 six) (plainly _ (keep 3 six) tt refl)) refl from_11
 
-from_9 : Turned small 2 b9 (1 ∷ 1 ∷ 1 ∷ 2 ∷ 1 ∷ 2 ∷ []) ((1, (take, taken (Some (sealed whole_sum)))) ∷ (1, (keep 3 six, kept true)) ∷ (1, (take, taken None)) ∷ (2, (take, taken None)) ∷ (1, (pause, rested false)) ∷ (2, (pause, rested false)) ∷ [])
+from_9 : Turned six_tasks small 2 b9 (1 ∷ 1 ∷ 1 ∷ 2 ∷ 1 ∷ 2 ∷ []) ((1, (take, taken (Some (sealed whole_sum)))) ∷ (1, (keep 3 six, kept true)) ∷ (1, (take, taken None)) ∷ (2, (take, taken None)) ∷ (1, (pause, rested false)) ∷ (2, (pause, rested false)) ∷ [])
 from_9 = turn b9 1 (take) (taken (Some (sealed whole_sum))) (1 ∷ 1 ∷ 2 ∷ 1 ∷ 2 ∷ []) ((1, (keep 3 six, kept true)) ∷ (1, (take, taken None)) ∷ (2, (take, taken None)) ∷ (1, (pause, rested false)) ∷ (2, (pause, rested false)) ∷ []) (by_first first_own take (plainly _ take tt refl)) refl from_10
 
-from_8 : Turned small 2 b8 (2 ∷ 1 ∷ 1 ∷ 1 ∷ 2 ∷ 1 ∷ 2 ∷ []) ((2, (send (sealed whole_sum), sent)) ∷ (1, (take, taken (Some (sealed whole_sum)))) ∷ (1, (keep 3 six, kept true)) ∷ (1, (take, taken None)) ∷ (2, (take, taken None)) ∷ (1, (pause, rested false)) ∷ (2, (pause, rested false)) ∷ [])
+from_8 : Turned six_tasks small 2 b8 (2 ∷ 1 ∷ 1 ∷ 1 ∷ 2 ∷ 1 ∷ 2 ∷ []) ((2, (send (sealed whole_sum), sent)) ∷ (1, (take, taken (Some (sealed whole_sum)))) ∷ (1, (keep 3 six, kept true)) ∷ (1, (take, taken None)) ∷ (2, (take, taken None)) ∷ (1, (pause, rested false)) ∷ (2, (pause, rested false)) ∷ [])
 from_8 = turn b8 2 (send (sealed whole_sum)) (sent) (1 ∷ 1 ∷ 1 ∷ 2 ∷ 1 ∷ 2 ∷ []) ((1, (take, taken (Some (sealed whole_sum)))) ∷ (1, (keep 3 six, kept true)) ∷ (1, (take, taken None)) ∷ (2, (take, taken None)) ∷ (1, (pause, rested false)) ∷ (2, (pause, rested false)) ∷ []) (by_second ((keep 2 four, kept true) ∷ (part 1 2, counted 1) ∷ (read 1 0, found 1 (Some two)) ∷ (read 1 1, found 2 (Some four)) ∷ []) (send (sealed whole_sum)) (plainly _ (send (sealed whole_sum)) whole_back refl)) tt from_9
 
-from_7 : Turned small 2 b7 (2 ∷ 2 ∷ 1 ∷ 1 ∷ 1 ∷ 2 ∷ 1 ∷ 2 ∷ []) ((2, (read 1 1, found 2 (Some four))) ∷ (2, (send (sealed whole_sum), sent)) ∷ (1, (take, taken (Some (sealed whole_sum)))) ∷ (1, (keep 3 six, kept true)) ∷ (1, (take, taken None)) ∷ (2, (take, taken None)) ∷ (1, (pause, rested false)) ∷ (2, (pause, rested false)) ∷ [])
+from_7 : Turned six_tasks small 2 b7 (2 ∷ 2 ∷ 1 ∷ 1 ∷ 1 ∷ 2 ∷ 1 ∷ 2 ∷ []) ((2, (read 1 1, found 2 (Some four))) ∷ (2, (send (sealed whole_sum), sent)) ∷ (1, (take, taken (Some (sealed whole_sum)))) ∷ (1, (keep 3 six, kept true)) ∷ (1, (take, taken None)) ∷ (2, (take, taken None)) ∷ (1, (pause, rested false)) ∷ (2, (pause, rested false)) ∷ [])
 from_7 = turn b7 2 (read 1 1) (found 2 (Some four)) (2 ∷ 1 ∷ 1 ∷ 1 ∷ 2 ∷ 1 ∷ 2 ∷ []) ((2, (send (sealed whole_sum), sent)) ∷ (1, (take, taken (Some (sealed whole_sum)))) ∷ (1, (keep 3 six, kept true)) ∷ (1, (take, taken None)) ∷ (2, (take, taken None)) ∷ (1, (pause, rested false)) ∷ (2, (pause, rested false)) ∷ []) (by_second ((keep 2 four, kept true) ∷ (part 1 2, counted 1) ∷ (read 1 0, found 1 (Some two)) ∷ []) (read 1 1) (plainly _ (read 1 1) tt refl)) (refl, refl) from_8
 
-from_6 : Turned small 2 b6 (2 ∷ 2 ∷ 2 ∷ 1 ∷ 1 ∷ 1 ∷ 2 ∷ 1 ∷ 2 ∷ []) ((2, (read 1 0, found 1 (Some two))) ∷ (2, (read 1 1, found 2 (Some four))) ∷ (2, (send (sealed whole_sum), sent)) ∷ (1, (take, taken (Some (sealed whole_sum)))) ∷ (1, (keep 3 six, kept true)) ∷ (1, (take, taken None)) ∷ (2, (take, taken None)) ∷ (1, (pause, rested false)) ∷ (2, (pause, rested false)) ∷ [])
+from_6 : Turned six_tasks small 2 b6 (2 ∷ 2 ∷ 2 ∷ 1 ∷ 1 ∷ 1 ∷ 2 ∷ 1 ∷ 2 ∷ []) ((2, (read 1 0, found 1 (Some two))) ∷ (2, (read 1 1, found 2 (Some four))) ∷ (2, (send (sealed whole_sum), sent)) ∷ (1, (take, taken (Some (sealed whole_sum)))) ∷ (1, (keep 3 six, kept true)) ∷ (1, (take, taken None)) ∷ (2, (take, taken None)) ∷ (1, (pause, rested false)) ∷ (2, (pause, rested false)) ∷ [])
 from_6 = turn b6 2 (read 1 0) (found 1 (Some two)) (2 ∷ 2 ∷ 1 ∷ 1 ∷ 1 ∷ 2 ∷ 1 ∷ 2 ∷ []) ((2, (read 1 1, found 2 (Some four))) ∷ (2, (send (sealed whole_sum), sent)) ∷ (1, (take, taken (Some (sealed whole_sum)))) ∷ (1, (keep 3 six, kept true)) ∷ (1, (take, taken None)) ∷ (2, (take, taken None)) ∷ (1, (pause, rested false)) ∷ (2, (pause, rested false)) ∷ []) (by_second ((keep 2 four, kept true) ∷ (part 1 2, counted 1) ∷ []) (read 1 0) (plainly _ (read 1 0) tt refl)) (refl, refl) from_7
 
-from_5 : Turned small 2 b5 (2 ∷ 2 ∷ 2 ∷ 2 ∷ 1 ∷ 1 ∷ 1 ∷ 2 ∷ 1 ∷ 2 ∷ []) ((2, (part 1 2, counted 1)) ∷ (2, (read 1 0, found 1 (Some two))) ∷ (2, (read 1 1, found 2 (Some four))) ∷ (2, (send (sealed whole_sum), sent)) ∷ (1, (take, taken (Some (sealed whole_sum)))) ∷ (1, (keep 3 six, kept true)) ∷ (1, (take, taken None)) ∷ (2, (take, taken None)) ∷ (1, (pause, rested false)) ∷ (2, (pause, rested false)) ∷ [])
+from_5 : Turned six_tasks small 2 b5 (2 ∷ 2 ∷ 2 ∷ 2 ∷ 1 ∷ 1 ∷ 1 ∷ 2 ∷ 1 ∷ 2 ∷ []) ((2, (part 1 2, counted 1)) ∷ (2, (read 1 0, found 1 (Some two))) ∷ (2, (read 1 1, found 2 (Some four))) ∷ (2, (send (sealed whole_sum), sent)) ∷ (1, (take, taken (Some (sealed whole_sum)))) ∷ (1, (keep 3 six, kept true)) ∷ (1, (take, taken None)) ∷ (2, (take, taken None)) ∷ (1, (pause, rested false)) ∷ (2, (pause, rested false)) ∷ [])
 from_5 = turn b5 2 (part 1 2) (counted 1) (2 ∷ 2 ∷ 2 ∷ 1 ∷ 1 ∷ 1 ∷ 2 ∷ 1 ∷ 2 ∷ []) ((2, (read 1 0, found 1 (Some two))) ∷ (2, (read 1 1, found 2 (Some four))) ∷ (2, (send (sealed whole_sum), sent)) ∷ (1, (take, taken (Some (sealed whole_sum)))) ∷ (1, (keep 3 six, kept true)) ∷ (1, (take, taken None)) ∷ (2, (take, taken None)) ∷ (1, (pause, rested false)) ∷ (2, (pause, rested false)) ∷ []) (by_second ((keep 2 four, kept true) ∷ []) (part 1 2) (plainly _ (part 1 2) tt refl)) refl from_6
 
-from_4 : Turned small 2 b4 (2 ∷ 2 ∷ 2 ∷ 2 ∷ 2 ∷ 1 ∷ 1 ∷ 1 ∷ 2 ∷ 1 ∷ 2 ∷ []) ((2, (keep 2 four, kept true)) ∷ (2, (part 1 2, counted 1)) ∷ (2, (read 1 0, found 1 (Some two))) ∷ (2, (read 1 1, found 2 (Some four))) ∷ (2, (send (sealed whole_sum), sent)) ∷ (1, (take, taken (Some (sealed whole_sum)))) ∷ (1, (keep 3 six, kept true)) ∷ (1, (take, taken None)) ∷ (2, (take, taken None)) ∷ (1, (pause, rested false)) ∷ (2, (pause, rested false)) ∷ [])
+from_4 : Turned six_tasks small 2 b4 (2 ∷ 2 ∷ 2 ∷ 2 ∷ 2 ∷ 1 ∷ 1 ∷ 1 ∷ 2 ∷ 1 ∷ 2 ∷ []) ((2, (keep 2 four, kept true)) ∷ (2, (part 1 2, counted 1)) ∷ (2, (read 1 0, found 1 (Some two))) ∷ (2, (read 1 1, found 2 (Some four))) ∷ (2, (send (sealed whole_sum), sent)) ∷ (1, (take, taken (Some (sealed whole_sum)))) ∷ (1, (keep 3 six, kept true)) ∷ (1, (take, taken None)) ∷ (2, (take, taken None)) ∷ (1, (pause, rested false)) ∷ (2, (pause, rested false)) ∷ [])
 from_4 = turn b4 2 (keep 2 four) (kept true) (2 ∷ 2 ∷ 2 ∷ 2 ∷ 1 ∷ 1 ∷ 1 ∷ 2 ∷ 1 ∷ 2 ∷ []) ((2, (part 1 2, counted 1)) ∷ (2, (read 1 0, found 1 (Some two))) ∷ (2, (read 1 1, found 2 (Some four))) ∷ (2, (send (sealed whole_sum), sent)) ∷ (1, (take, taken (Some (sealed whole_sum)))) ∷ (1, (keep 3 six, kept true)) ∷ (1, (take, taken None)) ∷ (2, (take, taken None)) ∷ (1, (pause, rested false)) ∷ (2, (pause, rested false)) ∷ []) (by_second [] (keep 2 four) (plainly _ (keep 2 four) tt refl)) refl from_5
 
-from_3 : Turned small 2 b3 (1 ∷ 2 ∷ 2 ∷ 2 ∷ 2 ∷ 2 ∷ 1 ∷ 1 ∷ 1 ∷ 2 ∷ 1 ∷ 2 ∷ []) ((1, (part 1 1, counted 0)) ∷ (2, (keep 2 four, kept true)) ∷ (2, (part 1 2, counted 1)) ∷ (2, (read 1 0, found 1 (Some two))) ∷ (2, (read 1 1, found 2 (Some four))) ∷ (2, (send (sealed whole_sum), sent)) ∷ (1, (take, taken (Some (sealed whole_sum)))) ∷ (1, (keep 3 six, kept true)) ∷ (1, (take, taken None)) ∷ (2, (take, taken None)) ∷ (1, (pause, rested false)) ∷ (2, (pause, rested false)) ∷ [])
+from_3 : Turned six_tasks small 2 b3 (1 ∷ 2 ∷ 2 ∷ 2 ∷ 2 ∷ 2 ∷ 1 ∷ 1 ∷ 1 ∷ 2 ∷ 1 ∷ 2 ∷ []) ((1, (part 1 1, counted 0)) ∷ (2, (keep 2 four, kept true)) ∷ (2, (part 1 2, counted 1)) ∷ (2, (read 1 0, found 1 (Some two))) ∷ (2, (read 1 1, found 2 (Some four))) ∷ (2, (send (sealed whole_sum), sent)) ∷ (1, (take, taken (Some (sealed whole_sum)))) ∷ (1, (keep 3 six, kept true)) ∷ (1, (take, taken None)) ∷ (2, (take, taken None)) ∷ (1, (pause, rested false)) ∷ (2, (pause, rested false)) ∷ [])
 from_3 = turn b3 1 (part 1 1) (counted 0) (2 ∷ 2 ∷ 2 ∷ 2 ∷ 2 ∷ 1 ∷ 1 ∷ 1 ∷ 2 ∷ 1 ∷ 2 ∷ []) ((2, (keep 2 four, kept true)) ∷ (2, (part 1 2, counted 1)) ∷ (2, (read 1 0, found 1 (Some two))) ∷ (2, (read 1 1, found 2 (Some four))) ∷ (2, (send (sealed whole_sum), sent)) ∷ (1, (take, taken (Some (sealed whole_sum)))) ∷ (1, (keep 3 six, kept true)) ∷ (1, (take, taken None)) ∷ (2, (take, taken None)) ∷ (1, (pause, rested false)) ∷ (2, (pause, rested false)) ∷ []) (by_first ((keep 1 two, kept true) ∷ []) (part 1 1) (plainly _ (part 1 1) tt refl)) refl from_4
 
-from_2 : Turned small 2 b2 (1 ∷ 1 ∷ 2 ∷ 2 ∷ 2 ∷ 2 ∷ 2 ∷ 1 ∷ 1 ∷ 1 ∷ 2 ∷ 1 ∷ 2 ∷ []) ((1, (keep 1 two, kept true)) ∷ (1, (part 1 1, counted 0)) ∷ (2, (keep 2 four, kept true)) ∷ (2, (part 1 2, counted 1)) ∷ (2, (read 1 0, found 1 (Some two))) ∷ (2, (read 1 1, found 2 (Some four))) ∷ (2, (send (sealed whole_sum), sent)) ∷ (1, (take, taken (Some (sealed whole_sum)))) ∷ (1, (keep 3 six, kept true)) ∷ (1, (take, taken None)) ∷ (2, (take, taken None)) ∷ (1, (pause, rested false)) ∷ (2, (pause, rested false)) ∷ [])
+from_2 : Turned six_tasks small 2 b2 (1 ∷ 1 ∷ 2 ∷ 2 ∷ 2 ∷ 2 ∷ 2 ∷ 1 ∷ 1 ∷ 1 ∷ 2 ∷ 1 ∷ 2 ∷ []) ((1, (keep 1 two, kept true)) ∷ (1, (part 1 1, counted 0)) ∷ (2, (keep 2 four, kept true)) ∷ (2, (part 1 2, counted 1)) ∷ (2, (read 1 0, found 1 (Some two))) ∷ (2, (read 1 1, found 2 (Some four))) ∷ (2, (send (sealed whole_sum), sent)) ∷ (1, (take, taken (Some (sealed whole_sum)))) ∷ (1, (keep 3 six, kept true)) ∷ (1, (take, taken None)) ∷ (2, (take, taken None)) ∷ (1, (pause, rested false)) ∷ (2, (pause, rested false)) ∷ [])
 from_2 = turn b2 1 (keep 1 two) (kept true) (1 ∷ 2 ∷ 2 ∷ 2 ∷ 2 ∷ 2 ∷ 1 ∷ 1 ∷ 1 ∷ 2 ∷ 1 ∷ 2 ∷ []) ((1, (part 1 1, counted 0)) ∷ (2, (keep 2 four, kept true)) ∷ (2, (part 1 2, counted 1)) ∷ (2, (read 1 0, found 1 (Some two))) ∷ (2, (read 1 1, found 2 (Some four))) ∷ (2, (send (sealed whole_sum), sent)) ∷ (1, (take, taken (Some (sealed whole_sum)))) ∷ (1, (keep 3 six, kept true)) ∷ (1, (take, taken None)) ∷ (2, (take, taken None)) ∷ (1, (pause, rested false)) ∷ (2, (pause, rested false)) ∷ []) (by_first [] (keep 1 two) (plainly _ (keep 1 two) tt refl)) refl from_3
 
-from_1 : Turned small 2 b1 (2 ∷ 1 ∷ 1 ∷ 2 ∷ 2 ∷ 2 ∷ 2 ∷ 2 ∷ 1 ∷ 1 ∷ 1 ∷ 2 ∷ 1 ∷ 2 ∷ []) ((2, (take, taken (Some (sealed second_sum)))) ∷ (1, (keep 1 two, kept true)) ∷ (1, (part 1 1, counted 0)) ∷ (2, (keep 2 four, kept true)) ∷ (2, (part 1 2, counted 1)) ∷ (2, (read 1 0, found 1 (Some two))) ∷ (2, (read 1 1, found 2 (Some four))) ∷ (2, (send (sealed whole_sum), sent)) ∷ (1, (take, taken (Some (sealed whole_sum)))) ∷ (1, (keep 3 six, kept true)) ∷ (1, (take, taken None)) ∷ (2, (take, taken None)) ∷ (1, (pause, rested false)) ∷ (2, (pause, rested false)) ∷ [])
+from_1 : Turned six_tasks small 2 b1 (2 ∷ 1 ∷ 1 ∷ 2 ∷ 2 ∷ 2 ∷ 2 ∷ 2 ∷ 1 ∷ 1 ∷ 1 ∷ 2 ∷ 1 ∷ 2 ∷ []) ((2, (take, taken (Some (sealed second_sum)))) ∷ (1, (keep 1 two, kept true)) ∷ (1, (part 1 1, counted 0)) ∷ (2, (keep 2 four, kept true)) ∷ (2, (part 1 2, counted 1)) ∷ (2, (read 1 0, found 1 (Some two))) ∷ (2, (read 1 1, found 2 (Some four))) ∷ (2, (send (sealed whole_sum), sent)) ∷ (1, (take, taken (Some (sealed whole_sum)))) ∷ (1, (keep 3 six, kept true)) ∷ (1, (take, taken None)) ∷ (2, (take, taken None)) ∷ (1, (pause, rested false)) ∷ (2, (pause, rested false)) ∷ [])
 from_1 = turn b1 2 (take) (taken (Some (sealed second_sum))) (1 ∷ 1 ∷ 2 ∷ 2 ∷ 2 ∷ 2 ∷ 2 ∷ 1 ∷ 1 ∷ 1 ∷ 2 ∷ 1 ∷ 2 ∷ []) ((1, (keep 1 two, kept true)) ∷ (1, (part 1 1, counted 0)) ∷ (2, (keep 2 four, kept true)) ∷ (2, (part 1 2, counted 1)) ∷ (2, (read 1 0, found 1 (Some two))) ∷ (2, (read 1 1, found 2 (Some four))) ∷ (2, (send (sealed whole_sum), sent)) ∷ (1, (take, taken (Some (sealed whole_sum)))) ∷ (1, (keep 3 six, kept true)) ∷ (1, (take, taken None)) ∷ (2, (take, taken None)) ∷ (1, (pause, rested false)) ∷ (2, (pause, rested false)) ∷ []) (plainly taking take tt refl) refl from_2
 
-from_0 : Turned small 2 b0 (1 ∷ 2 ∷ 1 ∷ 1 ∷ 2 ∷ 2 ∷ 2 ∷ 2 ∷ 2 ∷ 1 ∷ 1 ∷ 1 ∷ 2 ∷ 1 ∷ 2 ∷ []) ((1, (take, taken (Some (sealed first_sum)))) ∷ (2, (take, taken (Some (sealed second_sum)))) ∷ (1, (keep 1 two, kept true)) ∷ (1, (part 1 1, counted 0)) ∷ (2, (keep 2 four, kept true)) ∷ (2, (part 1 2, counted 1)) ∷ (2, (read 1 0, found 1 (Some two))) ∷ (2, (read 1 1, found 2 (Some four))) ∷ (2, (send (sealed whole_sum), sent)) ∷ (1, (take, taken (Some (sealed whole_sum)))) ∷ (1, (keep 3 six, kept true)) ∷ (1, (take, taken None)) ∷ (2, (take, taken None)) ∷ (1, (pause, rested false)) ∷ (2, (pause, rested false)) ∷ [])
+from_0 : Turned six_tasks small 2 b0 (1 ∷ 2 ∷ 1 ∷ 1 ∷ 2 ∷ 2 ∷ 2 ∷ 2 ∷ 2 ∷ 1 ∷ 1 ∷ 1 ∷ 2 ∷ 1 ∷ 2 ∷ []) ((1, (take, taken (Some (sealed first_sum)))) ∷ (2, (take, taken (Some (sealed second_sum)))) ∷ (1, (keep 1 two, kept true)) ∷ (1, (part 1 1, counted 0)) ∷ (2, (keep 2 four, kept true)) ∷ (2, (part 1 2, counted 1)) ∷ (2, (read 1 0, found 1 (Some two))) ∷ (2, (read 1 1, found 2 (Some four))) ∷ (2, (send (sealed whole_sum), sent)) ∷ (1, (take, taken (Some (sealed whole_sum)))) ∷ (1, (keep 3 six, kept true)) ∷ (1, (take, taken None)) ∷ (2, (take, taken None)) ∷ (1, (pause, rested false)) ∷ (2, (pause, rested false)) ∷ [])
 from_0 = turn b0 1 (take) (taken (Some (sealed first_sum))) (2 ∷ 1 ∷ 1 ∷ 2 ∷ 2 ∷ 2 ∷ 2 ∷ 2 ∷ 1 ∷ 1 ∷ 1 ∷ 2 ∷ 1 ∷ 2 ∷ []) ((2, (take, taken (Some (sealed second_sum)))) ∷ (1, (keep 1 two, kept true)) ∷ (1, (part 1 1, counted 0)) ∷ (2, (keep 2 four, kept true)) ∷ (2, (part 1 2, counted 1)) ∷ (2, (read 1 0, found 1 (Some two))) ∷ (2, (read 1 1, found 2 (Some four))) ∷ (2, (send (sealed whole_sum), sent)) ∷ (1, (take, taken (Some (sealed whole_sum)))) ∷ (1, (keep 3 six, kept true)) ∷ (1, (take, taken None)) ∷ (2, (take, taken None)) ∷ (1, (pause, rested false)) ∷ (2, (pause, rested false)) ∷ []) (plainly taking take tt refl) refl from_1
 
 -- ---- the whole
 
-ends_first : HasEnded small steps 1
+ends_first : HasEnded six_tasks small steps 1
 ends_first = ap (ask X) (third_state (whole_own ++ (take, taken None) ∷ (pause, rested false) ∷ []))
 
-ends_second : HasEnded small steps 2
+ends_second : HasEnded six_tasks small steps 2
 ends_second = ap (ask X) (second_state (second_own ++ (take, taken None) ∷ (pause, rested false) ∷ []))
 
-all_ended : AllEnded small 2 steps
+all_ended : AllEnded six_tasks small 2 steps
 all_ended p w = elim (cases_eq p 1) [
-  | inl e ↦ subst (HasEnded small steps) (sym e) ends_first
-  | inr f ↦ let same : p ≡ 2 = omega (arith, w.0, w.1, f) in subst (HasEnded small steps) (sym same) ends_second
+  | inl e ↦ subst (HasEnded six_tasks small steps) (sym e) ends_first
+  | inr f ↦ let same : p ≡ 2 = omega (arith, w.0, w.1, f) in subst (HasEnded six_tasks small steps) (sym same) ends_second
 ]
 
 abbrev Stands : Type 0
-Stands = (r : RanWhole small 2 listed_turns) × (r.steps ≡ steps) × (r.further ≡ 2)
+Stands = (r : RanWhole six_tasks small 2 listed_turns) × (r.steps ≡ steps) × (r.further ≡ 2)
 
 pub stands : Stands
 stands = (record { opens_back = (first_back, (second_back, tt)); turns = listed_turns ++ rounds 2 2; further = 2; follow = refl; steps = steps; turned = from_0; ended = all_ended }, refl, refl)
@@ -193,14 +194,14 @@ stands = (record { opens_back = (first_back, (second_back, tt)); turns = listed_
 
 -- what the first step of some turns is answered, and the turns behind it
 record Peeled (before : List Step) (x : Step) (xs : List Step) : Type 0 where
-  pub answers : Answers small 2 before x.1.0 x.1.1
+  pub answers : Answers six_tasks small 2 before x.1.0 x.1.1
   pub turns : List ℕ
-  pub behind : Turned small 2 (before ++ x ∷ []) turns xs
+  pub behind : Turned six_tasks small 2 (before ++ x ∷ []) turns xs
 
-peeled : (before : List Step) (us : List ℕ) (x : Step) (xs : List Step) → Turned small 2 before us (x ∷ xs) → Peeled before x xs
+peeled : (before : List Step) (us : List ℕ) (x : Step) (xs : List Step) → Turned six_tasks small 2 before us (x ∷ xs) → Peeled before x xs
 peeled before [] x xs t = elim t [ ]
-peeled before (p ∷ us) x xs (skips e t) = peeled before us x xs t
-peeled before (p ∷ us) (q, (a, r)) xs (takes b e h t) = record { answers = h; turns = us; behind = t }
+peeled before (p ∷ us) x xs (skips_turn e t) = peeled before us x xs t
+peeled before (p ∷ us) (q, (a, r)) xs (takes_turn b e h t) = record { answers = h; turns = us; behind = t }
 
 abbrev h0 : List Step
 h0 = []
@@ -223,10 +224,10 @@ h5 = h4 ++ (2, (take, taken None)) ∷ []
 abbrev second_taken : AskedAndAnswered X
 second_taken = (take, taken (Some (sealed second_sum)))
 
-is_busy : is_inside (left small h5 1) ≡ true
+is_busy : is_inside (left six_tasks small h5 1) ≡ true
 is_busy = ap is_inside (first_state (first_own ++ second_taken ∷ []) ∙ ap (opens X) second_opens)
 
-pub none_hasty : (us : List ℕ) → Turned small 2 [] us hasty → ⊥
+pub none_hasty : (us : List ℕ) → Turned six_tasks small 2 [] us hasty → ⊥
 none_hasty us t =
     let x1 = peeled h0 us (1, (take, taken (Some (sealed first_sum)))) _ t in
     let x2 = peeled h1 x1.turns (1, (keep 1 two, kept true)) _ x1.behind in

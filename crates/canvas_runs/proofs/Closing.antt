@@ -1,10 +1,11 @@
 -- What worker 0 reads at the end is what is held then.
 use Rattle.std.proofs.Common.{◌≡◌, List, [], ◌∷◌, ◌++◌, Option, refl, sym, ap, ◌∙◌, subst, append-nil}
+use Rattle.canvas_task.specs.Apply.{Registry}
 use Rattle.canvas_task.specs.declared.outcome.Outcome.{Outcome}
 use Rattle.canvas_history.specs.History.{Entry, calls, live, Sole}
 use Rattle.canvas_history.proofs.Histories.{live_append, state_append, legal_right}
 use Rattle.canvas_semantics.specs.Line.{Line}
-use Rattle.canvas_backend.specs.Backend.{Call, Reply, no_results, reply_of, next_of, May, IsLegal, read, found, results}
+use Rattle.canvas_backend.specs.Backend.{TableCall, TableReply, no_results, reply_of, next_of, May, IsLegal, read, found, results}
 use Rattle.canvas_backend.specs.Roster.{Roster, roster_of}
 use Rattle.canvas_runs.specs.Crew.{Ran, ReadsWhatIsHeld, first_seat}
 use Rattle.canvas_runs.specs.Following.{Pass, Seat, Serves}
@@ -15,7 +16,7 @@ use Rattle.canvas_runs.specs.Worker.{working}
 use Rattle.canvas_runs.proofs.Seats.{ledger}
 
 module _ (plan : Roster) where
-  same_read : (x y : Option Outcome) → ◌≡◌ {A = Reply} (found x) (found y) → x ≡ y
+  same_read : (x y : Option Outcome) → ◌≡◌ {A = TableReply} (found x) (found y) → x ≡ y
   same_read x y e = cc
 
   -- alone, reads answer what is held, and leave it
@@ -24,7 +25,7 @@ module _ (plan : Roster) where
   reads_alone s t (stored u o b ∷ cs) n a i m = absurd i.0
   reads_alone s t (returned g u k ∷ cs) n a i m = absurd i.0
   reads_alone s t (has_read u x ∷ cs) n a i m =
-      let e : Entry Call Reply = calls s.name (read u) (found x) in
+      let e : Entry TableCall TableReply = calls s.name (read u) (found x) in
       let c = m.1.4 in
       let none : c.0 ≡ [] = c.4 (subst (λ k. Sole (s.seen ++ []) k) (sym n) (subst (λ l. Sole l 0) (sym (append-nil s.seen)) a)) in
       let shape : m.0.seen ≡ s.seen ++ e ∷ [] = c.1 ∙ ap (λ b. s.seen ++ (b ++ e ∷ [])) none in
@@ -34,9 +35,9 @@ module _ (plan : Roster) where
       let rest = reads_alone m.0 t cs (m.1.1 ∙ n) alone i.1 m.2 in
       (rest.0 ∙ same, (same_read x ((results plan s.seen).outcomes u) right.1, subst (λ w. Each (ReadsWhatIsHeld w) cs) same rest.1))
 
-module _ (l : Line) (pass : Pass) (seat : Seat) (r : Ran l pass seat) where
+module _ (registry : Registry) (l : Line) (pass : Pass) (seat : Seat) (r : Ran registry l pass seat) where
   pub closing_held : Each (ReadsWhatIsHeld (results (roster_of l) seat.seen)) r.closing
   closing_held =
-      let own = ledger (roster_of l) (first_seat r.table) r.seat_parted r.seat_joined r.own.seat r.mates (backend_calls (working (roster_of l)) r.works.run) refl refl r.seat_splits r.seat_joins r.works.serves in
+      let own = ledger registry (roster_of l) (first_seat r.table) r.seat_parted r.seat_joined r.own.seat r.mates (backend_calls (working registry (roster_of l)) r.works.run) refl refl r.seat_splits r.seat_joins r.works.serves in
       let both = reads_alone (roster_of l) r.own.seat seat r.closing own.0 own.1.sole r.closes r.ends in
       subst (λ w. Each (ReadsWhatIsHeld w) r.closing) (sym both.0) both.1

@@ -8,7 +8,7 @@ use Rattle.canvas_runs.specs.Protocol.{Protocol}
 use Rattle.canvas_runs.specs.Core.{taking, reading, left_after, Between, handed_in}
 use Rattle.canvas_message.specs.Events.{Event}
 use Rattle.canvas_runs.proofs.Meaning.{JobOf, Form, Ordered, Has, Evaluates, Once, KeptOnce}
-use Rattle.canvas_runs.specs.Calls.{BrokerCall, published, took, BackendCall, stored, returned, has_read, takes_one, Follows, follows_all, follows_publish, follows_list_take, follows_core_take, broker_calls, backend_calls}
+use Rattle.canvas_runs.specs.Calls.{BrokerCall, published, took, BackendCall, stored, returned, has_read, takes_one, FollowsCore, follows_all, follows_publish, follows_list_take, follows_core_take, broker_calls, backend_calls}
 use Rattle.canvas_runs.proofs.Replay.{IsDrained}
 use Rattle.canvas_runs.proofs.Run.{Run}
 use Rattle.canvas_runs.specs.Run.{IsRead, published_all}
@@ -68,7 +68,7 @@ module _ {E : Type 0} where
   in_counts e (Some d ∷ ts) i = omega arith
 
   -- where as many are taken in the core run as in the list, each take in the list is in the core run
-  pub used : {ts : List (Option E)} {cs ls : List (BrokerCall E)} → Follows ts cs ls → total takes_one cs ≡ total taken_one ts + total takes_one ls → (e : E) →
+  pub used : {ts : List (Option E)} {cs ls : List (BrokerCall E)} → FollowsCore ts cs ls → total takes_one cs ≡ total taken_one ts + total takes_one ls → (e : E) →
       In (Some e) ts ⊎ In (took (Some e)) ls → In (took (Some e)) cs
   used (follows_all {ts = ts}) n e (inl i) = let c = in_counts e ts i in absurd (omega arith)
   used follows_all n e (inr i) = elim i [ ]
@@ -83,7 +83,7 @@ module _ {E : Type 0} where
   used (follows_core_take f) n e (inr i) = inr (used f (omega arith) e (inr i))
 
   -- what the core run calls stands in the list
-  pub follows_in : {ts : List (Option E)} {cs ls : List (BrokerCall E)} → Follows ts cs ls → (c : BrokerCall E) → In c cs → In c ls ⊎ In c (map took ts)
+  pub follows_in : {ts : List (Option E)} {cs ls : List (BrokerCall E)} → FollowsCore ts cs ls → (c : BrokerCall E) → In c cs → In c ls ⊎ In c (map took ts)
   follows_in follows_all c i = elim i [ ]
   follows_in (follows_publish f) c (inl s) = inl (inl s)
   follows_in (follows_publish f) c (inr i) = ⊎_elim (λ a. inl (inr a)) (λ b. inr b) (follows_in f c i)
@@ -144,7 +144,7 @@ module _ (X : Protocol) (F : Form X) (Does : Event → JobOf X → Type 0) (orde
 
   module _ (all_sent : run.unsent ≡ []) (drained : IsDrained [] (seconds run.broker))
       (all_used : (c : ℕ) → total takes_one (by c run.broker) ≡ total takes_one (broker_calls X (run.core c)))
-      (all_ended : (c : ℕ) → Between X (left_after X taking (run.core c))) where
+      (all_ended : (c : ℕ) → Between (left_after X taking (run.core c))) where
     abbrev pub IsDone : JobOf X → Type 0
     IsDone j = Done X F Does order value backs (seconds run.broker) (seconds run.backend) j
 

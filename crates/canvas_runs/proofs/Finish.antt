@@ -171,7 +171,7 @@ module _ (X : Protocol) where
         pub firsts : Each IsFirst (backend_calls X calls)
         pub in_broker : (c : BrokerCall X.Envelope) → In c (broker_calls X calls) → In c broker
         pub in_backend : (c : BackendCall X.Outcome) → In c (backend_calls X calls) → In c backend
-        pub ends : Between X (left_after X s calls)
+        pub ends : Between (left_after X s calls)
 
       abbrev pub Done : JobOf X → Type 0
       Done (store t o) = In (stored t o true) backend
@@ -295,7 +295,7 @@ module _ (X : Protocol) where
           none_some e = let same = e.1 in cc
       owed_step s r us rest p b q g k f i j l o z = elim o [ ]
 
-      none_left : (s : Doing X) → Between X s → Owed s
+      none_left : (s : Doing X) → Between s → Owed s
       none_left taking b = tt
       none_left resting b = tt
       none_left over b = tt
@@ -315,7 +315,7 @@ module _ (X : Protocol) where
       headed : (s : Doing X) (x : Asked X × Answer X) (xs : List (Asked X × Answer X)) (us : List ℕ) → Good s → Ready us s → IsCoreRun X s (x ∷ xs) → ReadsMembers X (x ∷ xs) → Each (λ y. GoodReply y.1) (x ∷ xs) →
           Sound X.members us (backend_calls X (x ∷ xs)) → Each IsFirst (backend_calls X (x ∷ xs)) →
           ((c : BrokerCall X.Envelope) → In c (broker_calls X (x ∷ xs)) → In c broker) → ((c : BackendCall X.Outcome) → In c (backend_calls X (x ∷ xs)) → In c backend) →
-          Between X (left_after X s (x ∷ xs)) → Headed s x xs us
+          Between (left_after X s (x ∷ xs)) → Headed s x xs us
       headed s x xs us p b l q g k f i j e =
           let asked : x.0 ≡ ask X s = l.0 in
           let mine : reads_member X (ask X s) x.1 = subst (λ a. reads_member X a x.1) asked q.0 in
@@ -350,7 +350,7 @@ module _ (X : Protocol) where
       owed_by : (xs : List (Asked X × Answer X)) (s : Doing X) (us : List ℕ) → Good s → Ready us s → IsCoreRun X s xs → ReadsMembers X xs → Each (λ y. GoodReply y.1) xs →
           Sound X.members us (backend_calls X xs) → Each IsFirst (backend_calls X xs) →
           ((c : BrokerCall X.Envelope) → In c (broker_calls X xs) → In c broker) → ((c : BackendCall X.Outcome) → In c (backend_calls X xs) → In c backend) →
-          Between X (left_after X s xs) → Owed s
+          Between (left_after X s xs) → Owed s
       unfolding headed
       owed_by [] s us p b l q g k f i j e = none_left s e
       owed_by (x ∷ xs) s us p b l q g k f i j e =
@@ -382,7 +382,7 @@ module _ (X : Protocol) where
       taken_owed : (xs : List (Asked X × Answer X)) (s : Doing X) (us : List ℕ) → Good s → Ready us s → IsCoreRun X s xs → ReadsMembers X xs → Each (λ y. GoodReply y.1) xs →
           Sound X.members us (backend_calls X xs) → Each IsFirst (backend_calls X xs) →
           ((c : BrokerCall X.Envelope) → In c (broker_calls X xs) → In c broker) → ((c : BackendCall X.Outcome) → In c (backend_calls X xs) → In c backend) →
-          Between X (left_after X s xs) → (e : X.Envelope) (m : X.Message) → In (took (Some e)) (broker_calls X xs) → X.opened e ≡ Some m → Owed (owning m)
+          Between (left_after X s xs) → (e : X.Envelope) (m : X.Message) → In (took (Some e)) (broker_calls X xs) → X.opened e ≡ Some m → Owed (owning m)
       unfolding headed
       taken_owed [] s us p b l q g k f i j n e m z eq = elim z [ ]
       taken_owed (x ∷ xs) s us p b l q g k f i j n e m z eq =

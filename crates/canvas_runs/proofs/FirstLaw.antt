@@ -1,5 +1,6 @@
 -- The first part of the law, over the product's histories.
 use Rattle.std.proofs.Common.{⊎_elim, ◌≡◌, ◌⊎◌, ℕ, ◌+◌, ◌≤◌, Bool, true, [], Option, Some, None, refl, sym, subst, ◌∙◌, inl, inr, arith}
+use Rattle.canvas_task.specs.Apply.{Registry}
 use Rattle.canvas_task.specs.declared.outcome.Outcome.{Outcome}
 use Rattle.canvas_semantics.specs.Evaluation as eval
 use Rattle.canvas_semantics.specs.Line.{Line, tree_of}
@@ -13,6 +14,7 @@ use Rattle.canvas_backend.specs.declared.stored.Stored.{Stored}
 use Rattle.canvas_backend.specs.declared.stored.Stored.TheVariants.{First, Again}
 use Rattle.canvas_backend.specs.Backend as results
 use Rattle.canvas_backend.specs.Roster.{roster_of}
+use Rattle.canvas_backend.specs.Backend.{says_first}
 use Rattle.canvas_runs.specs.Book.{book_of}
 use Rattle.canvas_runs.specs.Calls.{BrokerCall, published, took, BackendCall, stored, returned}
 use Rattle.canvas_runs.specs.Law.{its_state, IsRunMessage, IsPart, of_task, publishes_one, FirstPart}
@@ -20,7 +22,7 @@ use Rattle.canvas_runs.specs.Lists.{total, seconds}
 use Rattle.canvas_runs.specs.Logs.{queue_calls, table_calls}
 use Rattle.canvas_runs.specs.Run.{Run}
 use Rattle.canvas_runs.specs.Worker.{sealed, opened}
-use Rattle.canvas_runs.proofs.Bridges.{queue_is, table_is, table_starts, callers_below, store_in, part_in, publish_in, is_first, was_stored}
+use Rattle.canvas_runs.proofs.Bridges.{queue_is, table_is, table_starts, callers_below, store_in, part_in, publish_in, was_stored}
 use Rattle.canvas_runs.proofs.Canvas.{total-same}
 use Rattle.canvas_runs.proofs.Evaluation as evaluation
 use Rattle.canvas_runs.proofs.Facts as facts
@@ -35,26 +37,26 @@ use Rattle.canvas_runs.proofs.StateRows as rows
 use Rattle.canvas_runs.proofs.StoredOnce.{AnswersFirst, all_first}
 use Rattle.canvas_runs.proofs.Words.{each_weaker, in_each}
 
-module _ (l : Line) (plan : IsPlan l) where
-  its_rows : rows.kept (eval.eval (tree_of l) eval.nothing).rows ≡ rows.stored (evaluation.evaluated l)
-  its_rows = rows.rows_same (p l plan).members l (run no_input) nowhere 0 start 1 (p l plan).limit (p l plan).numbered
+module _ (registry : Registry) (l : Line) (plan : IsPlan l) where
+  its_rows : rows.kept (eval.eval registry (tree_of l) eval.nothing).rows ≡ rows.stored (evaluation.evaluated registry l)
+  its_rows = rows.rows_same registry (p registry l plan).members l (run no_input) nowhere 0 start 1 (p registry l plan).limit (p registry l plan).numbered
 
   -- an outcome of the evaluation is the task's state in the tree
-  pub has_state : (t : ℕ) (o : Outcome) → Has (X l plan) (Does l plan) t o → its_state l t ≡ Some o
+  pub has_state : (t : ℕ) (o : Outcome) → Has (X registry l plan) (Does registry l plan) t o → its_state registry l t ≡ Some o
   has_state t o (v, i) =
-      rows.look 1 (eval.eval (tree_of l) eval.nothing).rows (p l plan).limit (rows.line_up (p l plan).members l eval.nothing 1 (p l plan).limit (p l plan).numbered) t o
-      (subst (In (t, o)) (sym its_rows) (rows.in_stored v t o (evaluation.evaluated l) (facts.stored l plan v t o i)))
+      rows.look registry 1 (eval.eval registry (tree_of l) eval.nothing).rows (p registry l plan).limit (rows.line_up registry (p registry l plan).members l eval.nothing 1 (p registry l plan).limit (p registry l plan).numbered) t o
+      (subst (In (t, o)) (sym its_rows) (rows.in_stored registry v t o (evaluation.evaluated registry l) (facts.stored registry l plan v t o i)))
 
-  pub state_has : (t : ℕ) (o : Outcome) → its_state l t ≡ Some o → Has (X l plan) (Does l plan) t o
+  pub state_has : (t : ℕ) (o : Outcome) → its_state registry l t ≡ Some o → Has (X registry l plan) (Does registry l plan) t o
   state_has t o e =
-      let r = rows.from_stored t o (evaluation.evaluated l) (subst (In (t, o)) its_rows (rows.looked (eval.eval (tree_of l) eval.nothing).rows t o e)) in
-      (r.0, facts.does_on l plan r.0 _ r.1)
+      let r = rows.from_stored registry t o (evaluation.evaluated registry l) (subst (In (t, o)) its_rows (rows.looked registry (eval.eval registry (tree_of l) eval.nothing).rows t o e)) in
+      (r.0, facts.does_on registry l plan r.0 _ r.1)
 
-  module _ (r : Run l) where
+  module _ (r : Run registry l) where
     abbrev pub callers : ℕ
     callers = total (λ e. e.0) (queue_calls r.queue) + total (λ e. e.0) (table_calls r.table)
 
-    abbrev pub inner_run : inner.Run (X l plan)
+    abbrev pub inner_run : inner.Run (X registry l plan)
     inner_run = record {
       workers = callers;
       broker = queue_calls r.queue;
@@ -76,51 +78,51 @@ module _ (l : Line) (plan : IsPlan l) where
       keeps = r.keeps;
     }
 
-    call_right : (c : BackendCall Outcome) → In c (seconds (table_calls r.table)) → CallRight (X l plan) (form l plan) (Does l plan) (order l plan) (value l plan) inner_run c
-    call_right c i = in_each (CallRight (X l plan) (form l plan) (Does l plan) (order l plan) (value l plan) inner_run) (seconds (table_calls r.table)) (calls_right (X l plan) (form l plan) (Does l plan) (order l plan) (value l plan) inner_run) c i
+    call_right : (c : BackendCall Outcome) → In c (seconds (table_calls r.table)) → CallRight (X registry l plan) (form registry l plan) (Does registry l plan) (order registry l plan) (value registry l plan) inner_run c
+    call_right c i = in_each (CallRight (X registry l plan) (form registry l plan) (Does registry l plan) (order registry l plan) (value registry l plan) inner_run) (seconds (table_calls r.table)) (calls_right (X registry l plan) (form registry l plan) (Does registry l plan) (order registry l plan) (value registry l plan) inner_run) c i
 
-    pub stored_right : (t : ℕ) (o : Outcome) (b : Bool) → In (stored t o b) (seconds (table_calls r.table)) → Has (X l plan) (Does l plan) t o
+    pub stored_right : (t : ℕ) (o : Outcome) (b : Bool) → In (stored t o b) (seconds (table_calls r.table)) → Has (X registry l plan) (Does registry l plan) t o
     stored_right t o b i = call_right (stored t o b) i
 
-    pub returned_right : (g t n : ℕ) → In (returned g t n) (seconds (table_calls r.table)) → IsPart l g t
+    pub returned_right : (g t n : ℕ) → In (returned g t n) (seconds (table_calls r.table)) → IsPart registry l g t
     returned_right g t n i = let c = call_right (returned g t n) i in (c.0, c.1.0, c.1.1)
 
     answered_first : (t : ℕ) (o : Outcome) (b : Bool) → In (stored t o b) (seconds (table_calls r.table)) → b ≡ true
     answered_first t o b i =
-        in_each (AnswersFirst (X l plan) (form l plan) (Does l plan) (order l plan) (value l plan) (once l plan) (keeping l plan) inner_run) (seconds (table_calls r.table))
-        (all_first (X l plan) (form l plan) (Does l plan) (order l plan) (value l plan) (once l plan) (keeping l plan) inner_run) (stored t o b) i
+        in_each (AnswersFirst (X registry l plan) (form registry l plan) (Does registry l plan) (order registry l plan) (value registry l plan) (once registry l plan) (keeping registry l plan) inner_run) (seconds (table_calls r.table))
+        (all_first (X registry l plan) (form registry l plan) (Does registry l plan) (order registry l plan) (value registry l plan) (once registry l plan) (keeping registry l plan) inner_run) (stored t o b) i
 
-    was_first : (a : Stored) → is_first a ≡ true → a ≡ First
+    was_first : (a : Stored) → says_first a ≡ true → a ≡ First
     was_first First e = refl
     was_first Again e = absurd (cc)
 
-    rows_by : (t : ℕ) (s : eval.State) → (results.results (roster_of l) r.table).outcomes t ≡ s → ((results.results (roster_of l) r.table).outcomes t ≡ None) ⊎ ((results.results (roster_of l) r.table).outcomes t ≡ its_state l t)
+    rows_by : (t : ℕ) (s : eval.State) → (results.results (roster_of l) r.table).outcomes t ≡ s → ((results.results (roster_of l) r.table).outcomes t ≡ None) ⊎ ((results.results (roster_of l) r.table).outcomes t ≡ its_state registry l t)
     rows_by t None e = inl e
     rows_by t (Some o) e =
         ⊎_elim (λ n. absurd (let bad : ◌≡◌ {A = eval.State} None (Some o) = n in cc)) (λ i. inr (e ∙ sym (has_state t o (stored_right t o true i))))
         (was_stored l (plan_apart l plan) t o [] r.table results.no_results refl r.table_legal e)
 
-    run_sealed : (e : Envelope) → In (published e) (seconds (queue_calls r.queue)) → (c : Content) × (e ≡ sealed c) × IsRunMessage l c
+    run_sealed : (e : Envelope) → In (published e) (seconds (queue_calls r.queue)) → (c : Content) × (e ≡ sealed c) × IsRunMessage registry l c
     run_sealed e i =
-        let good = in_each (GoodPublish (IsRunSealed (X l plan) (form l plan) (Does l plan) (order l plan) (value l plan) inner_run)) (seconds (queue_calls r.queue))
-        (each_seconds (GoodPublish (IsRunSealed (X l plan) (form l plan) (Does l plan) (order l plan) (value l plan) inner_run)) (queue_calls r.queue)
-        (publishes_right (X l plan) (form l plan) (Does l plan) (order l plan) (value l plan) inner_run)) (published e) i in
+        let good = in_each (GoodPublish (IsRunSealed (X registry l plan) (form registry l plan) (Does registry l plan) (order registry l plan) (value registry l plan) inner_run)) (seconds (queue_calls r.queue))
+        (each_seconds (GoodPublish (IsRunSealed (X registry l plan) (form registry l plan) (Does registry l plan) (order registry l plan) (value registry l plan) inner_run)) (queue_calls r.queue)
+        (publishes_right (X registry l plan) (form registry l plan) (Does registry l plan) (order registry l plan) (value registry l plan) inner_run)) (published e) i in
         (good.0, good.1, good.4)
 
-    opened_weight : (k : ℕ) (x : Option Content) → of_opened (X l plan) k x ≡ of_task l k x
+    opened_weight : (k : ℕ) (x : Option Content) → of_opened (X registry l plan) k x ≡ of_task l k x
     opened_weight k None = refl
     opened_weight k (Some c) = refl
 
-    publish_weight : (k : ℕ) (c : BrokerCall Envelope) → publishes_task (X l plan) k c ≡ publishes_one l k c
+    publish_weight : (k : ℕ) (c : BrokerCall Envelope) → publishes_task (X registry l plan) k c ≡ publishes_one l k c
     publish_weight k (published e) = opened_weight k (opened (book_of l) e)
     publish_weight k (took t) = refl
 
-    pub first_part : FirstPart l r
+    pub first_part : FirstPart registry l r
     first_part = record {
-      stored = λ q t o a i. let c = store_in r.table q t o a i in (has_state t o (stored_right t o (is_first a) c), was_first a (answered_first t o (is_first a) c));
+      stored = λ q t o a i. let c = store_in r.table q t o a i in (has_state t o (stored_right t o (says_first a) c), was_first a (answered_first t o (says_first a) c));
       rows = λ t. rows_by t ((results.results (roster_of l) r.table).outcomes t) refl;
       published = λ q e a i. run_sealed e (publish_in r.queue q e a i);
-      published_once = λ k. subst (λ n. n ≤ 1) (total-same (publishes_task (X l plan) k) (publishes_one l k) (publish_weight k) (seconds (queue_calls r.queue)))
-          (published_once (X l plan) (form l plan) (Does l plan) (order l plan) (value l plan) (once l plan) inner_run k);
+      published_once = λ k. subst (λ n. n ≤ 1) (total-same (publishes_task (X registry l plan) k) (publishes_one l k) (publish_weight k) (seconds (queue_calls r.queue)))
+          (published_once (X registry l plan) (form registry l plan) (Does registry l plan) (order registry l plan) (value registry l plan) (once registry l plan) inner_run k);
       returned = λ q g t n i. returned_right g t n (part_in r.table q g t n i);
     }

@@ -1,6 +1,7 @@
 -- From what each caller saw: there was a run, closed where all ended well.
 use Rattle.std.proofs.Common.{◌≡◌, ℕ, suc, ◌+◌, true, false, cond, eqb, List, [], ◌∷◌, ◌++◌, length, map, ◌==◌, ◌⊎◌, inl, inr, refl, sym, ap, ◌∙◌, subst, append-nil, ⊎_elim, arith}
 use Rattle.std.proofs.lemmas.Bool.{eqb-true, cases_Bool}
+use Rattle.canvas_task.specs.Apply.{Registry}
 use Rattle.canvas_task.specs.declared.outcome.Outcome.{Outcome}
 use Rattle.canvas_history.specs.History.{among, made_by, Sole}
 use Rattle.canvas_history.proofs.Histories.{fresh_from}
@@ -12,19 +13,19 @@ use Rattle.canvas_message.specs.declared.envelope.Envelope.{Envelope}
 use Rattle.canvas_backend.specs.Backend.{Log, no_results, reply_of, next_of, May}
 use Rattle.canvas_backend.specs.Roster.{Roster, roster_of}
 use Rattle.canvas_broker.specs.Broker as broker
-use Rattle.canvas_runs.specs.Accounts.{splits_of, joins_of, entries, rows, HasEach, HasRows, Accounts, Ledger}
+use Rattle.canvas_runs.specs.Accounts.{splits_of, joins_of, broker_entries, backend_entries, HasEach, HasRows, Accounts, Ledger}
 use Rattle.canvas_runs.specs.Core.{IsCoreRun, taking, left_after, Between}
 use Rattle.canvas_runs.specs.Crew.{Mate, Ran, EndedWell, numbers_along as numbers, first_pass, first_seat}
 use Rattle.canvas_runs.specs.Following.{Pass, Seat, Stood, Serves, IsDone}
-use Rattle.canvas_runs.specs.Calls.{BrokerCall, BackendCall, Follows, follows_all, follows_publish, AskedAndAnswered, broker_calls, backend_calls, ReadsMembers, takes_one}
+use Rattle.canvas_runs.specs.Calls.{BrokerCall, BackendCall, FollowsCore, follows_all, follows_publish, AskedAndAnswered, broker_calls, backend_calls, ReadsMembers, takes_one}
 use Rattle.canvas_runs.specs.Lists.{Each, by, seconds, total}
 use Rattle.canvas_runs.specs.Logs.{queue_calls, table_calls}
 use Rattle.canvas_runs.specs.Run.{Run, Closed, published_all}
-use Rattle.canvas_runs.specs.Worker.{worker, working, sealed}
+use Rattle.canvas_runs.specs.Worker.{working, sealed}
 use Rattle.canvas_runs.proofs.CallsOf.{queue_by, queue_append, queue_splits, queue_joins, queue_entries, table_by, table_append, table_splits, table_joins, table_rows}
 use Rattle.canvas_runs.proofs.Passes.{accounts}
 use Rattle.canvas_runs.proofs.Seats.{ledger}
-use Rattle.canvas_runs.proofs.Starting.{core_run_same, left_same, between_same, broker_calls_same, backend_calls_same, reads_members_same}
+use Rattle.canvas_runs.proofs.Starting.{core_run_same, left_same, broker_calls_same, backend_calls_same, reads_members_same}
 use Rattle.canvas_runs.proofs.Sums.{total-append}
 use Rattle.canvas_runs.proofs.Words.{in_each, cond_cases}
 
@@ -40,11 +41,11 @@ no_takes : (es : List Envelope) → total takes_one (published_all es) ≡ 0
 no_takes [] = refl
 no_takes (e ∷ es) = let k = no_takes es in omega (arith, k)
 
-follows_front : (es : List Envelope) (cs ls : List (BrokerCall Envelope)) → Follows [] cs ls → Follows [] (published_all es ++ cs) (published_all es ++ ls)
+follows_front : (es : List Envelope) (cs ls : List (BrokerCall Envelope)) → FollowsCore [] cs ls → FollowsCore [] (published_all es ++ cs) (published_all es ++ ls)
 follows_front [] cs ls f = f
 follows_front (e ∷ es) cs ls f = follows_publish (follows_front es cs ls f)
 
-module _ (l : Line) where
+module _ (registry : Registry) (l : Line) where
   abbrev pub P : Roster
   P = roster_of l
 
@@ -52,25 +53,25 @@ module _ (l : Line) where
   F = first_messages l
 
   abbrev pub Course : Type 0
-  Course = List (AskedAndAnswered (working P))
+  Course = List (AskedAndAnswered (working registry P))
 
   -- the core run of the worker of a number, of those from k on
-  abbrev pub core_at : ℕ → List (Mate P) → ℕ → Course
+  abbrev pub core_at : ℕ → List (Mate registry P) → ℕ → Course
   core_at k [] p = []
   core_at k (m ∷ ms) p = cond (eqb k p) m.followed.run (core_at (suc k) ms p)
 
   -- the number is a worker's
-  pub record Found (p : ℕ) (ms : List (Mate P)) (core : Course) (queue : List (broker.QueueEntry Envelope)) (table : Log) : Type 0 where
-    mate : Mate P
+  pub record Found (p : ℕ) (ms : List (Mate registry P)) (core : Course) (queue : List (broker.QueueEntry Envelope)) (table : Log) : Type 0 where
+    mate : Mate registry P
     there : In mate ms
     is : core ≡ mate.followed.run
-    calls : made_by p queue ≡ entries p mate.followed.made
-    replies : made_by p table ≡ rows p (backend_calls (working P) mate.followed.run)
+    calls : made_by p queue ≡ broker_entries p mate.followed.made
+    replies : made_by p table ≡ backend_entries p (backend_calls (working registry P) mate.followed.run)
 
-  more_found : (p : ℕ) (m : Mate P) (ms : List (Mate P)) (core : Course) (queue : List (broker.QueueEntry Envelope)) (table : Log) → Found p ms core queue table → Found p (m ∷ ms) core queue table
+  more_found : (p : ℕ) (m : Mate registry P) (ms : List (Mate registry P)) (core : Course) (queue : List (broker.QueueEntry Envelope)) (table : Log) → Found p ms core queue table → Found p (m ∷ ms) core queue table
   more_found p m ms core queue table f = record { mate = f.mate; there = inr f.there; is = f.is; calls = f.calls; replies = f.replies }
 
-  which : (k : ℕ) (ms : List (Mate P)) (queue : List (broker.QueueEntry Envelope)) (table : Log) → HasEach P k ms queue → HasRows P k ms table → (p : ℕ)
+  which : (k : ℕ) (ms : List (Mate registry P)) (queue : List (broker.QueueEntry Envelope)) (table : Log) → HasEach registry P k ms queue → HasRows registry P k ms table → (p : ℕ)
       → Found p ms (core_at k ms p) queue table ⊎ ((core_at k ms p ≡ []) × (among p (numbers k ms) ≡ false))
   which k [] queue table h r p = inr (refl, refl)
   which k (m ∷ ms) queue table h r p =
@@ -80,8 +81,8 @@ module _ (l : Line) where
         mate = m;
         there = inl refl;
         is = ap (λ b. cond b m.followed.run (core_at (suc k) ms p)) e;
-        calls = subst (λ n. made_by n queue ≡ entries n m.followed.made) same h.0;
-        replies = subst (λ n. made_by n table ≡ rows n (backend_calls (working P) m.followed.run)) same r.0;
+        calls = subst (λ n. made_by n queue ≡ broker_entries n m.followed.made) same h.0;
+        replies = subst (λ n. made_by n table ≡ backend_entries n (backend_calls (working registry P) m.followed.run)) same r.0;
       }))
       (λ (e : (k == p) ≡ false).
       let skip : core_at k (m ∷ ms) p ≡ core_at (suc k) ms p = ap (λ b. cond b m.followed.run (core_at (suc k) ms p)) e in
@@ -89,25 +90,25 @@ module _ (l : Line) where
       (λ (f : (core_at (suc k) ms p ≡ []) × (among p (numbers (suc k) ms) ≡ false)). inr (skip ∙ f.0, rw e f.1)) (which (suc k) ms queue table h.1 r.1 p))
       (cases_Bool (k == p))
 
-  module _ (pass : Pass) (seat : Seat) (r : Ran l pass seat) where
+  module _ (pass : Pass) (seat : Seat) (r : Ran registry l pass seat) where
     abbrev pub the_queue : List (broker.QueueEntry Envelope)
     the_queue = pass.seen ++ pass.owed
 
     abbrev pub sent : List (BrokerCall Envelope)
     sent = published_all (map sealed r.opening)
 
-    pub passes : (pass.name ≡ 0) × Accounts P r.mates sent r.works.made the_queue
+    pub passes : (pass.name ≡ 0) × Accounts registry P r.mates sent r.works.made the_queue
     passes =
-        subst (λ (x : Pass). (x.name ≡ 0) × Accounts P r.mates sent r.works.made (x.seen ++ x.owed)) (sym r.last)
-        (accounts P (first_pass r.queue) r.pass_parted r.pass_sent r.pass_joined r.own.pass r.mates sent r.works.made refl refl refl refl r.splits r.sends r.joins r.works.makes)
+        subst (λ (x : Pass). (x.name ≡ 0) × Accounts registry P r.mates sent r.works.made (x.seen ++ x.owed)) (sym r.last)
+        (accounts registry P (first_pass r.queue) r.pass_parted r.pass_sent r.pass_joined r.own.pass r.mates sent r.works.made refl refl refl refl r.splits r.sends r.joins r.works.makes)
 
     abbrev pub zero_calls : List (BackendCall Outcome)
-    zero_calls = backend_calls (working P) r.works.run ++ r.closing
+    zero_calls = backend_calls (working registry P) r.works.run ++ r.closing
 
-    pub seats : Ledger P r.mates zero_calls seat.seen
+    pub seats : Ledger registry P r.mates zero_calls seat.seen
     seats =
-        (ledger P (first_seat r.table) r.seat_parted r.seat_joined seat r.mates zero_calls refl refl r.seat_splits r.seat_joins
-        (serves_append (roster_of l) (backend_calls (working P) r.works.run) r.closing r.seat_joined r.own.seat seat r.works.serves r.ends)).1
+        (ledger registry P (first_seat r.table) r.seat_parted r.seat_joined seat r.mates zero_calls refl refl r.seat_splits r.seat_joins
+        (serves_append (roster_of l) (backend_calls (working registry P) r.works.run) r.closing r.seat_joined r.own.seat seat r.works.serves r.ends)).1
 
     abbrev pub core : ℕ → Course
     core p = cond (eqb p 0) r.works.run (core_at 1 r.mates p)
@@ -129,10 +130,10 @@ module _ (l : Line) where
     pub queue_zero : by 0 (queue_calls the_queue) ≡ sent ++ r.works.made
     queue_zero =
         let qs : List ℕ = numbers 1 r.mates in
-        let a : List (broker.QueueEntry Envelope) = splits_of qs ++ entries 0 sent in
-        let b : List (broker.QueueEntry Envelope) = joins_of qs ++ entries 0 r.works.made in
-        let left : seconds (queue_calls a) ≡ sent = queue_append (splits_of qs) (entries 0 sent) ∙ (ap (λ x. x ++ seconds (queue_calls (entries 0 sent))) (queue_splits qs) ∙ queue_entries 0 sent (stood_all (map sealed r.opening))) in
-        let right : seconds (queue_calls b) ≡ r.works.made = queue_append (joins_of qs) (entries 0 r.works.made) ∙ (ap (λ x. x ++ seconds (queue_calls (entries 0 r.works.made))) (queue_joins qs) ∙ queue_entries 0 r.works.made r.works.stood) in
+        let a : List (broker.QueueEntry Envelope) = splits_of qs ++ broker_entries 0 sent in
+        let b : List (broker.QueueEntry Envelope) = joins_of qs ++ broker_entries 0 r.works.made in
+        let left : seconds (queue_calls a) ≡ sent = queue_append (splits_of qs) (broker_entries 0 sent) ∙ (ap (λ x. x ++ seconds (queue_calls (broker_entries 0 sent))) (queue_splits qs) ∙ queue_entries 0 sent (stood_all (map sealed r.opening))) in
+        let right : seconds (queue_calls b) ≡ r.works.made = queue_append (joins_of qs) (broker_entries 0 r.works.made) ∙ (ap (λ x. x ++ seconds (queue_calls (broker_entries 0 r.works.made))) (queue_joins qs) ∙ queue_entries 0 r.works.made r.works.stood) in
         queue_by 0 the_queue ∙ (ap (λ x. seconds (queue_calls x)) passes.1.own ∙ (queue_append a b ∙ (ap (λ x. x ++ seconds (queue_calls b)) left ∙ ap (λ x. sent ++ x) right)))
 
     pub table_zero : by 0 (table_calls seat.seen) ≡ zero_calls
@@ -140,13 +141,13 @@ module _ (l : Line) where
         let qs : List ℕ = numbers 1 r.mates in
         let a : Log = splits_of qs ++ joins_of qs in
         let left : seconds (table_calls a) ≡ [] = table_append (splits_of qs) (joins_of qs) ∙ (ap (λ x. x ++ seconds (table_calls (joins_of qs))) (table_splits qs) ∙ table_joins qs) in
-        table_by 0 seat.seen ∙ (ap (λ x. seconds (table_calls x)) seats.own ∙ (table_append a (rows 0 zero_calls) ∙ (ap (λ x. x ++ seconds (table_calls (rows 0 zero_calls))) left ∙ table_rows 0 zero_calls)))
+        table_by 0 seat.seen ∙ (ap (λ x. seconds (table_calls x)) seats.own ∙ (table_append a (backend_entries 0 zero_calls) ∙ (ap (λ x. x ++ seconds (table_calls (backend_entries 0 zero_calls))) left ∙ table_rows 0 zero_calls)))
 
     queue_mate : (p : ℕ) (f : Found p r.mates (core_at 1 r.mates p) the_queue seat.seen) → by p (queue_calls the_queue) ≡ f.mate.followed.made
     queue_mate p f = queue_by p the_queue ∙ (ap (λ x. seconds (queue_calls x)) f.calls ∙ queue_entries p f.mate.followed.made f.mate.followed.stood)
 
-    table_mate : (p : ℕ) (f : Found p r.mates (core_at 1 r.mates p) the_queue seat.seen) → by p (table_calls seat.seen) ≡ backend_calls (working P) f.mate.followed.run
-    table_mate p f = table_by p seat.seen ∙ (ap (λ x. seconds (table_calls x)) f.replies ∙ table_rows p (backend_calls (working P) f.mate.followed.run))
+    table_mate : (p : ℕ) (f : Found p r.mates (core_at 1 r.mates p) the_queue seat.seen) → by p (table_calls seat.seen) ≡ backend_calls (working registry P) f.mate.followed.run
+    table_mate p f = table_by p seat.seen ∙ (ap (λ x. seconds (table_calls x)) f.replies ∙ table_rows p (backend_calls (working registry P) f.mate.followed.run))
 
     queue_nobody : (p : ℕ) → Nobody p → by p (queue_calls the_queue) ≡ []
     queue_nobody p n = queue_by p the_queue ∙ ap (λ x. seconds (queue_calls x)) n.calls
@@ -163,71 +164,71 @@ module _ (l : Line) where
         cond_cases (λ x. P p x) (eqb p 0) r.works.run (core_at 1 r.mates p) (λ e. subst (λ n. P n r.works.run) (sym (eqb-true p 0 e)) a)
         (λ e. ⊎_elim (λ f. subst (λ x. P p x) (sym f.is) (b p e f)) (λ n. subst (λ x. P p x) (sym n.is) (c p e n)) (who p e))
 
-    abbrev pub FollowsCore : ℕ → Course → Type 0
-    FollowsCore p x = Follows [] (cond (eqb p 0) sent [] ++ broker_calls (working P) x) (by p (queue_calls the_queue))
+    abbrev pub FollowsCourse : ℕ → Course → Type 0
+    FollowsCourse p x = FollowsCore [] (cond (eqb p 0) sent [] ++ broker_calls (working registry P) x) (by p (queue_calls the_queue))
 
-    pub the_follows : (p : ℕ) → FollowsCore p (core p)
-    the_follows = for_all FollowsCore
-        (subst (λ x. Follows [] (sent ++ broker_calls (working P) r.works.run) x) (sym queue_zero) (follows_front (map sealed r.opening) (broker_calls (working P) r.works.run) r.works.made r.works.follows))
-        (λ p e f. subst (λ b. Follows [] (cond b sent [] ++ broker_calls (working P) f.mate.followed.run) (by p (queue_calls the_queue))) (sym e)
-        (subst (λ x. Follows [] (broker_calls (working P) f.mate.followed.run) x) (sym (queue_mate p f)) f.mate.followed.follows))
-        (λ p e n. subst (λ b. Follows [] (cond b sent [] ++ []) (by p (queue_calls the_queue))) (sym e) (subst (λ x. Follows [] [] x) (sym (queue_nobody p n)) follows_all))
+    pub the_follows : (p : ℕ) → FollowsCourse p (core p)
+    the_follows = for_all FollowsCourse
+        (subst (λ x. FollowsCore [] (sent ++ broker_calls (working registry P) r.works.run) x) (sym queue_zero) (follows_front (map sealed r.opening) (broker_calls (working registry P) r.works.run) r.works.made r.works.follows))
+        (λ p e f. subst (λ b. FollowsCore [] (cond b sent [] ++ broker_calls (working registry P) f.mate.followed.run) (by p (queue_calls the_queue))) (sym e)
+        (subst (λ x. FollowsCore [] (broker_calls (working registry P) f.mate.followed.run) x) (sym (queue_mate p f)) f.mate.followed.follows))
+        (λ p e n. subst (λ b. FollowsCore [] (cond b sent [] ++ []) (by p (queue_calls the_queue))) (sym e) (subst (λ x. FollowsCore [] [] x) (sym (queue_nobody p n)) follows_all))
 
     abbrev pub KeepsCore : ℕ → Course → Type 0
-    KeepsCore p x = by p (table_calls seat.seen) ≡ backend_calls (working P) x ++ cond (eqb p 0) r.closing []
+    KeepsCore p x = by p (table_calls seat.seen) ≡ backend_calls (working registry P) x ++ cond (eqb p 0) r.closing []
 
     pub the_keeps : (p : ℕ) → KeepsCore p (core p)
     the_keeps = for_all KeepsCore table_zero
-        (λ p e f. table_mate p f ∙ (sym (append-nil (backend_calls (working P) f.mate.followed.run)) ∙ ap (λ b. backend_calls (working P) f.mate.followed.run ++ cond b r.closing []) (sym e)))
+        (λ p e f. table_mate p f ∙ (sym (append-nil (backend_calls (working registry P) f.mate.followed.run)) ∙ ap (λ b. backend_calls (working registry P) f.mate.followed.run ++ cond b r.closing []) (sym e)))
         (λ p e n. table_nobody p n ∙ ap (λ b. cond b r.closing []) (sym e))
 
-    abbrev pub the_run : Run l
+    abbrev pub the_run : Run registry l
     the_run = record {
       queue = the_queue;
       table = seat.seen;
       queue_legal = passes.1.legal;
       table_legal = seats.legal;
       core = core;
-      is_core = λ p. core_run_same P F taking (core p) (for_all (λ p x. IsCoreRun (working P) taking x) r.works.is_core (λ p e f. f.mate.followed.is_core) (λ p e n. tt) p);
-      reads = λ p. reads_members_same P F (core p) (for_all (λ p x. ReadsMembers (working P) x) r.works.reads (λ p e f. f.mate.followed.reads) (λ p e n. tt) p);
+      is_core = λ p. core_run_same registry P F taking (core p) (for_all (λ p x. IsCoreRun (working registry P) taking x) r.works.is_core (λ p e f. f.mate.followed.is_core) (λ p e n. tt) p);
+      reads = λ p. reads_members_same registry P F (core p) (for_all (λ p x. ReadsMembers (working registry P) x) r.works.reads (λ p e f. f.mate.followed.reads) (λ p e n. tt) p);
       opening = r.opening;
       unsent = r.unsent;
       closing = r.closing;
       opens = r.opens;
       opens_back = r.opens_back;
       closes = r.closes;
-      follows = λ p. subst (λ cs. Follows [] (cond (eqb p 0) sent [] ++ cs) (by p (queue_calls the_queue))) (sym (broker_calls_same P F (core p))) (the_follows p);
-      keeps = λ p. the_keeps p ∙ ap (λ cs. cs ++ cond (eqb p 0) r.closing []) (sym (backend_calls_same P F (core p)));
+      follows = λ p. subst (λ cs. FollowsCore [] (cond (eqb p 0) sent [] ++ cs) (by p (queue_calls the_queue))) (sym (broker_calls_same registry P F (core p))) (the_follows p);
+      keeps = λ p. the_keeps p ∙ ap (λ cs. cs ++ cond (eqb p 0) r.closing []) (sym (backend_calls_same registry P F (core p)));
     }
 
-    module _ (w : EndedWell l pass seat r) where
-      mate_done : (m : Mate P) → In m r.mates → IsDone P m.ended
-      mate_done m i = in_each (λ (m : Mate P). IsDone P m.ended) r.mates w.each m i
+    module _ (w : EndedWell registry l pass seat r) where
+      mate_done : (m : Mate registry P) → In m r.mates → IsDone m.ended
+      mate_done m i = in_each (λ (m : Mate registry P). IsDone m.ended) r.mates w.each m i
 
       all_used : (a b : ℕ) (held : List Envelope) → held ≡ [] → 0 + a ≡ b + length held → a ≡ b
       all_used a b held e u = let none : length held ≡ 0 = ap length e in omega (arith, u, none)
 
       abbrev UsesAll : ℕ → Course → Type 0
-      UsesAll p x = total takes_one (by p (queue_calls the_queue)) ≡ total takes_one (broker_calls (working P) x)
+      UsesAll p x = total takes_one (by p (queue_calls the_queue)) ≡ total takes_one (broker_calls (working registry P) x)
 
       the_used : (p : ℕ) → UsesAll p (core p)
       the_used = for_all UsesAll
           (ap (λ x. total takes_one x) queue_zero ∙ (total-append takes_one sent r.works.made ∙ (
           let none = no_takes (map sealed r.opening) in
-          let used = all_used (total takes_one r.works.made) (total takes_one (broker_calls (working P) r.works.run)) r.own.held w.own.1 r.works.used in
+          let used = all_used (total takes_one r.works.made) (total takes_one (broker_calls (working registry P) r.works.run)) r.own.held w.own.1 r.works.used in
           omega (arith, none, used))))
           (λ p e f. ap (λ x. total takes_one x) (queue_mate p f)
-          ∙ all_used (total takes_one f.mate.followed.made) (total takes_one (broker_calls (working P) f.mate.followed.run)) f.mate.ended.held (mate_done f.mate f.there).1 f.mate.followed.used)
+          ∙ all_used (total takes_one f.mate.followed.made) (total takes_one (broker_calls (working registry P) f.mate.followed.run)) f.mate.ended.held (mate_done f.mate f.there).1 f.mate.followed.used)
           (λ p e n. ap (λ x. total takes_one x) (queue_nobody p n))
 
-      pub the_closed : Closed l the_run
+      pub the_closed : Closed registry l the_run
       the_closed = record {
         all_sent = w.all_sent;
         drained = w.empty (subst (λ n. Sole the_queue n) (sym passes.0) passes.1.sole);
-        all_used = λ p. the_used p ∙ ap (λ cs. total takes_one cs) (sym (broker_calls_same P F (core p)));
-        all_ended = λ p. subst (λ x. Between (worker l) x) (sym (left_same P F taking (core p))) (between_same P F (left_after (working P) taking (core p))
-            (for_all (λ p x. Between (working P) (left_after (working P) taking x))
-            (subst (λ x. Between (working P) x) (sym r.works.leaves) w.own.0)
-            (λ p e f. subst (λ x. Between (working P) x) (sym f.mate.followed.leaves) (mate_done f.mate f.there).0)
-            (λ p e n. tt) p));
+        all_used = λ p. the_used p ∙ ap (λ cs. total takes_one cs) (sym (broker_calls_same registry P F (core p)));
+        all_ended = λ p. subst (λ x. Between x) (sym (left_same registry P F taking (core p)))
+            (for_all (λ p x. Between (left_after (working registry P) taking x))
+            (subst (λ x. Between x) (sym r.works.leaves) w.own.0)
+            (λ p e f. subst (λ x. Between x) (sym f.mate.followed.leaves) (mate_done f.mate f.there).0)
+            (λ p e n. tt) p);
       }

@@ -2,7 +2,7 @@
 use Rattle.std.proofs.Common.{◌≡◌, ℕ, Bool, true, false, cond, eqb, List, [], ◌∷◌, ◌++◌, Option, Some, None, refl, sym, subst}
 use Rattle.std.proofs.lemmas.Bool.{eqb-true, eq-eqb}
 use Rattle.canvas_runs.specs.Lists.{Each, by, seconds, look_up}
-use Rattle.canvas_runs.specs.Calls.{BrokerCall, published, took, BackendCall, stored, returned, has_read, Follows, follows_all, follows_publish, follows_list_take, follows_core_take}
+use Rattle.canvas_runs.specs.Calls.{BrokerCall, published, took, BackendCall, stored, returned, has_read, FollowsCore, follows_all, follows_publish, follows_list_take, follows_core_take}
 use Rattle.canvas_runs.proofs.Replay.{IsQueue, IsTable}
 use Rattle.canvas_runs.proofs.Words.{each_append}
 
@@ -25,19 +25,19 @@ module _ {E : Type 0} (Good : E → Type 0) where
   CarefulCalls (published e ∷ cs) = Good e × CarefulCalls cs
   CarefulCalls (took t ∷ cs) = GoodTaken t → CarefulCalls cs
 
-  pub follows_careful : {ts : List (Option E)} {cs ls : List (BrokerCall E)} → Follows ts cs ls → Each GoodTaken ts → CarefulCalls cs → CarefulCalls ls
+  pub follows_careful : {ts : List (Option E)} {cs ls : List (BrokerCall E)} → FollowsCore ts cs ls → Each GoodTaken ts → CarefulCalls cs → CarefulCalls ls
   follows_careful follows_all g k = tt
   follows_careful (follows_publish f) g k = (k.0, follows_careful f g k.1)
   follows_careful (follows_list_take {ts = ts} f) g k = λ good. follows_careful f (each_append GoodTaken ts _ g (good, tt)) k
   follows_careful (follows_core_take f) g k = follows_careful f g.1 (k g.0)
 
-  pub follows_takes : {ts : List (Option E)} {cs ls : List (BrokerCall E)} → Follows ts cs ls → Each GoodTaken ts → Each GoodTake ls → Each GoodTake cs
+  pub follows_takes : {ts : List (Option E)} {cs ls : List (BrokerCall E)} → FollowsCore ts cs ls → Each GoodTaken ts → Each GoodTake ls → Each GoodTake cs
   follows_takes follows_all g k = tt
   follows_takes (follows_publish f) g k = (tt, follows_takes f g k.1)
   follows_takes (follows_list_take {ts = ts} f) g k = follows_takes f (each_append GoodTaken ts _ g (k.0, tt)) k.1
   follows_takes (follows_core_take f) g k = (g.0, follows_takes f g.1 k)
 
-  pub follows_publishes : {ts : List (Option E)} {cs ls : List (BrokerCall E)} → Follows ts cs ls → Each GoodPublish cs → Each GoodPublish ls
+  pub follows_publishes : {ts : List (Option E)} {cs ls : List (BrokerCall E)} → FollowsCore ts cs ls → Each GoodPublish cs → Each GoodPublish ls
   follows_publishes follows_all k = tt
   follows_publishes (follows_publish f) k = (k.0, follows_publishes f k.1)
   follows_publishes (follows_list_take f) k = (tt, follows_publishes f k)

@@ -7,7 +7,7 @@ use Rattle.canvas_runs.specs.Protocol.{Protocol}
 use Rattle.canvas_runs.specs.Core.{taken, sent, refused, kept, counted, found, rested, taking, resting, owning, doing, reading, Jobs, Doing, Asked, Answer, is_due, settled, opens, all_read, ask, answered, ReadsBack, IsCoreRun}
 use Rattle.canvas_message.specs.Events.{Event, start, running, end_of_line, completion}
 use Rattle.canvas_runs.proofs.Meaning.{JobOf, Form, names, publishes, Ordered, Evaluates, Once}
-use Rattle.canvas_runs.specs.Calls.{BrokerCall, published, took, BackendCall, stored, returned, has_read, Follows, follows_all, follows_publish, follows_list_take, follows_core_take, broker_call, backend_call, broker_calls, backend_calls, ReadsMembers, reads_member}
+use Rattle.canvas_runs.specs.Calls.{BrokerCall, published, took, BackendCall, stored, returned, has_read, FollowsCore, follows_all, follows_publish, follows_list_take, follows_core_take, broker_call, backend_call, broker_calls, backend_calls, ReadsMembers, reads_member}
 use Rattle.canvas_runs.proofs.Replay.{IsTable, FirstWins, kept_first, handed}
 use Rattle.canvas_runs.proofs.Run.{Run}
 use Rattle.canvas_runs.specs.Run.{published_all}
@@ -223,7 +223,7 @@ module _ (X : Protocol) where
         go true q = l
         go false q = let z = none_at_start q ms d in omega arith
 
-  follows_total : {ts : List (Option X.Envelope)} {cs ls : List (BrokerCall X.Envelope)} (k : ℕ) → Follows ts cs ls → total (publishes_task k) ls ≡ total (publishes_task k) cs
+  follows_total : {ts : List (Option X.Envelope)} {cs ls : List (BrokerCall X.Envelope)} (k : ℕ) → FollowsCore ts cs ls → total (publishes_task k) ls ≡ total (publishes_task k) cs
   follows_total k follows_all = refl
   follows_total k (follows_publish {e = e} f) = ap (λ n. of_opened k (X.opened e) + n) (follows_total k f)
   follows_total k (follows_list_take f) = let r = follows_total k f in omega arith

@@ -4,7 +4,7 @@ use Rattle.canvas_runs.specs.Lists.{Each, by, seconds}
 use Rattle.canvas_runs.specs.Run.{IsRead, published_all}
 use Rattle.canvas_runs.specs.Protocol.{Protocol}
 use Rattle.canvas_runs.specs.Core.{IsCoreRun, taking}
-use Rattle.canvas_runs.specs.Calls.{BrokerCall, BackendCall, Follows, AskedAndAnswered, broker_calls, backend_calls, ReadsMembers}
+use Rattle.canvas_runs.specs.Calls.{BrokerCall, BackendCall, FollowsCore, AskedAndAnswered, broker_calls, backend_calls, ReadsMembers}
 use Rattle.canvas_runs.proofs.Replay.{IsQueue, IsTable}
 
 pub record Run (X : Protocol) : Type 0 where
@@ -25,5 +25,5 @@ pub record Run (X : Protocol) : Type 0 where
   pub table : IsTable [] [] (seconds backend)
   pub is_core : (p : ℕ) → IsCoreRun X taking (core p)
   pub reads : (p : ℕ) → ReadsMembers X (core p)
-  pub follows : (p : ℕ) → Follows [] (cond (eqb p 0) (published_all (map X.sealed opening)) [] ++ broker_calls X (core p)) (by p broker)
+  pub follows : (p : ℕ) → FollowsCore [] (cond (eqb p 0) (published_all (map X.sealed opening)) [] ++ broker_calls X (core p)) (by p broker)
   pub keeps : (p : ℕ) → by p backend ≡ backend_calls X (core p) ++ cond (eqb p 0) closing []

@@ -1,6 +1,7 @@
 -- The second part of the law, over the product's histories: a closed run does all that evaluation does, each thing once.
 use Rattle.std.proofs.Common.{⊎_elim, ◌≡◌, ℕ, suc, ◌+◌, ◌≤◌, Bool, true, false, cond, eqb, List, [], ◌∷◌, ◌++◌, map, length, Some, None, refl, sym, ap, subst, ◌∙◌, inl, inr, arith}
 use Rattle.std.proofs.lemmas.Bool.{eqb-true, eq-eqb}
+use Rattle.canvas_task.specs.Apply.{Registry}
 use Rattle.canvas_task.specs.declared.outcome.Outcome.{Outcome}
 use Rattle.canvas_semantics.specs.Evaluation as eval
 use Rattle.canvas_semantics.specs.Line.{Line, members, size}
@@ -55,63 +56,63 @@ each_unsent : (P : Job Content Load Outcome → Type 0) (js : Jobs) → Each P (
 each_unsent P [] a = tt
 each_unsent P (j ∷ js) a = (a.0, each_unsent P js a.1)
 
-module _ (l : Line) (plan : IsPlan l) (r : Run l) (c : Closed l r) where
+module _ (registry : Registry) (l : Line) (plan : IsPlan l) (r : Run registry l) (c : Closed registry l r) where
   drained : IsDrained [] (seconds (queue_calls r.queue))
   drained = drained_is [] r.queue [] refl r.queue_legal c.drained
 
   abbrev Finished : Job Content Load Outcome → Type 0
-  Finished j = IsDone (X l plan) (form l plan) (Does l plan) (order l plan) (value l plan) (once l plan) (keeping l plan) (its_backs l plan) (inner_run l plan r) c.all_sent drained c.all_used c.all_ended j
+  Finished j = IsDone (X registry l plan) (form registry l plan) (Does registry l plan) (order registry l plan) (value registry l plan) (once registry l plan) (keeping registry l plan) (its_backs registry l plan) (inner_run registry l plan r) c.all_sent drained c.all_used c.all_ended j
 
   -- ---- as the proof has the jobs, with their form
 
   abbrev FormedJob : AJob → Type 0
   FormedJob (store t o) = Unit {0}
-  FormedJob (publish m) = Formed' l plan m
-  FormedJob (hand_in g t d) = FormedPart' l plan g t d
+  FormedJob (publish m) = Formed' registry l plan m
+  FormedJob (hand_in g t d) = FormedPart' registry l plan g t d
 
   abbrev Made : AJob → Type 0
   Made x = Finished (sent x) × FormedJob x
 
-  later_formed : (j : ℕ) (x : AJob) → After (plan_facts.X (p l plan)) (plan_facts.form (p l plan)) j x × SizedJob (size l) (members l) x → FormedJob x
+  later_formed : (j : ℕ) (x : AJob) → After (plan_facts.X registry (p registry l plan)) (plan_facts.form registry (p registry l plan)) j x × SizedJob (size l) (members l) x → FormedJob x
   later_formed j (store t o) a = tt
   later_formed j (publish m) a = (a.0.1, a.1)
   later_formed j (hand_in g t d) a = (a.0.1, a.1)
 
-  beyond_formed : (g : ℕ) (x : AJob) → Beyond (plan_facts.X (p l plan)) (plan_facts.form (p l plan)) g x × SizedJob (size l) (members l) x → FormedJob x
+  beyond_formed : (g : ℕ) (x : AJob) → Beyond (plan_facts.X registry (p registry l plan)) (plan_facts.form registry (p registry l plan)) g x × SizedJob (size l) (members l) x → FormedJob x
   beyond_formed g (store t o) a = tt
   beyond_formed g (publish m) a = (a.0.1, a.1)
   beyond_formed g (hand_in h t d) a = (a.0.1, a.1)
 
-  after_formed : (m : Message) (o : Outcome) → Formed' l plan m → Each FormedJob (after m o)
+  after_formed : (m : Message) (o : Outcome) → Formed' registry l plan m → Each FormedJob (after m o)
   after_formed m o f =
       each_weaker (later_formed m.no) (after m o)
-      (each_both (After (plan_facts.X (p l plan)) (plan_facts.form (p l plan)) m.no) (SizedJob (size l) (members l)) (after m o) ((plan_facts.order (p l plan)).ended m o f.0) (after_sized (size l) (members l) m o f.1))
+      (each_both (After (plan_facts.X registry (p registry l plan)) (plan_facts.form registry (p registry l plan)) m.no) (SizedJob (size l) (members l)) (after m o) ((plan_facts.order registry (p registry l plan)).ended m o f.0) (after_sized (size l) (members l) m o f.1))
 
-  body_formed : (g t : ℕ) (d : Carried) (fs : List (ℕ × Outcome)) → FormedPart' l plan g t d → firsts fs ≡ members l g → Each FormedJob (body_after d fs)
+  body_formed : (g t : ℕ) (d : Carried) (fs : List (ℕ × Outcome)) → FormedPart' registry l plan g t d → firsts fs ≡ members l g → Each FormedJob (body_after d fs)
   body_formed g t d fs f same =
       each_weaker (beyond_formed g) (body_after d fs)
-      (each_both (Beyond (plan_facts.X (p l plan)) (plan_facts.form (p l plan)) g) (SizedJob (size l) (members l)) (body_after d fs) ((plan_facts.order (p l plan)).completed g t d fs f.0 same) (body_sized (size l) (members l) d fs f.1.1))
+      (each_both (Beyond (plan_facts.X registry (p registry l plan)) (plan_facts.form registry (p registry l plan)) g) (SizedJob (size l) (members l)) (body_after d fs) ((plan_facts.order registry (p registry l plan)).completed g t d fs f.0 same) (body_sized (size l) (members l) d fs f.1.1))
 
-  script : (m : Message) → Made (publish m) → Made (store m.no (outcome_of m)) × Each Made (after m (outcome_of m))
+  script : (m : Message) → Made (publish m) → Made (store m.no (outcome_of registry m)) × Each Made (after m (outcome_of registry m))
   script m d =
-      let done = published_done (X l plan) (form l plan) (Does l plan) (order l plan) (value l plan) (once l plan) (keeping l plan) (its_backs l plan) (inner_run l plan r) c.all_sent drained c.all_used c.all_ended (content m) d.0 in
-      let jobs : Each Finished (all_sent (after m (outcome_of m))) = subst (Each Finished) (ended_script (members l) (p l plan).limit m (outcome_of m) d.1.0) done.1 in
-      ((done.0, tt), each_both (λ x. Finished (sent x)) FormedJob (after m (outcome_of m)) (each_unsent Finished (after m (outcome_of m)) jobs) (after_formed m (outcome_of m) d.1))
+      let done = published_done (X registry l plan) (form registry l plan) (Does registry l plan) (order registry l plan) (value registry l plan) (once registry l plan) (keeping registry l plan) (its_backs registry l plan) (inner_run registry l plan r) c.all_sent drained c.all_used c.all_ended (content m) d.0 in
+      let jobs : Each Finished (all_sent (after m (outcome_of registry m))) = subst (Each Finished) (ended_script (members l) (p registry l plan).limit m (outcome_of registry m) d.1.0) done.1 in
+      ((done.0, tt), each_both (λ x. Finished (sent x)) FormedJob (after m (outcome_of registry m)) (each_unsent Finished (after m (outcome_of registry m)) jobs) (after_formed m (outcome_of registry m) d.1))
 
-  some_member : (g k : ℕ) (d : Carried) (ns : List ℕ) → length ns ≡ suc k → Each (λ t. Made (hand_in g t d)) ns → (t : ℕ) × FormedPart' l plan g t d
+  some_member : (g k : ℕ) (d : Carried) (ns : List ℕ) → length ns ≡ suc k → Each (λ t. Made (hand_in g t d)) ns → (t : ℕ) × FormedPart' registry l plan g t d
   some_member g k d [] e a = absurd (omega (arith, e))
   some_member g k d (n ∷ ns) e a = (n, a.0.1)
 
   completes : (g k : ℕ) (d : Carried) → Distinct (members l g) → length (members l g) ≡ suc k → Each (λ t. Made (hand_in g t d)) (members l g)
-      → (fs : List (ℕ × Outcome)) × (firsts fs ≡ members l g) × Each (λ f. Kept (members l) (evaluation.evaluated l) f.0 f.1) fs × Each Made (body_after d fs)
+      → (fs : List (ℕ × Outcome)) × (firsts fs ≡ members l g) × Each (λ f. Kept registry (members l) (evaluation.evaluated registry l) f.0 f.1) fs × Each Made (body_after d fs)
   completes g k d distinct many all =
-      let done = header_done (X l plan) (form l plan) (Does l plan) (order l plan) (value l plan) (once l plan) (keeping l plan) (its_backs l plan) (inner_run l plan r) c.all_sent drained c.all_used c.all_ended g k (load d) distinct many
+      let done = header_done (X registry l plan) (form registry l plan) (Does registry l plan) (order registry l plan) (value registry l plan) (once registry l plan) (keeping registry l plan) (its_backs registry l plan) (inner_run registry l plan r) c.all_sent drained c.all_used c.all_ended g k (load d) distinct many
       (each_weaker (λ t h. h.0) (members l g) all) in
       let one = some_member g k d (members l g) many all in
-      let jobs : Each Finished (all_sent (body_after d done.0)) = subst (Each Finished) (completed_script (members l) (p l plan).limit g one.0 d done.0 one.1.0) done.3 in (
+      let jobs : Each Finished (all_sent (body_after d done.0)) = subst (Each Finished) (completed_script (members l) (p registry l plan).limit g one.0 d done.0 one.1.0) done.3 in (
         done.0,
         done.1,
-        each_weaker (λ f h. (h.0, facts.stored l plan h.0 f.0 f.1 h.1)) done.0 done.2,
+        each_weaker (λ f h. (h.0, facts.stored registry l plan h.0 f.0 f.1 h.1)) done.0 done.2,
         each_both (λ x. Finished (sent x)) FormedJob (body_after d done.0) (each_unsent Finished (body_after d done.0) jobs) (body_formed g one.0 d done.0 one.1 done.1),
       )
 
@@ -134,10 +135,10 @@ module _ (l : Line) (plan : IsPlan l) (r : Run l) (c : Closed l r) where
 
   first_made : (m : Message) → In m (messages_of first_jobs) → Made (publish m)
   first_made m i = (
-    first_done (X l plan) (form l plan) (Does l plan) (order l plan) (value l plan) (once l plan) (keeping l plan) (its_backs l plan) (inner_run l plan r) c.all_sent drained c.all_used c.all_ended (content m)
-        (subst (In (content m)) (sym (first_sent (members l) (p l plan).limit l (p l plan).numbered)) (map_in (messages_of first_jobs) m i)),
+    first_done (X registry l plan) (form registry l plan) (Does registry l plan) (order registry l plan) (value registry l plan) (once registry l plan) (keeping registry l plan) (its_backs registry l plan) (inner_run registry l plan r) c.all_sent drained c.all_used c.all_ended (content m)
+        (subst (In (content m)) (sym (first_sent (members l) (p registry l plan).limit l (p registry l plan).numbered)) (map_in (messages_of first_jobs) m i)),
     (
-      in_each (plan_facts.form (p l plan)).Formed (messages_of first_jobs) (plan_facts.order (p l plan)).first m i,
+      in_each (plan_facts.form registry (p registry l plan)).Formed (messages_of first_jobs) (plan_facts.order registry (p registry l plan)).first m i,
       messages_sized first_jobs (enter_sized (size l) (members l) l (run no_input) nowhere 0 None (plan_sized l plan) tt) m i,
     ),
   )
@@ -145,27 +146,27 @@ module _ (l : Line) (plan : IsPlan l) (r : Run l) (c : Closed l r) where
   started : Each Made first_jobs
   started =
       from_kinds Made first_jobs (subst (Each Made) (sym (run_stores l no_input nowhere 0 None)) tt) (messages_publish Made first_jobs first_made)
-      (subst (Each Made) (sym (open_none (members l) l (run no_input) nowhere 0 None 1 (p l plan).limit tt (p l plan).numbered)) tt)
+      (subst (Each Made) (sym (open_none (members l) l (run no_input) nowhere 0 None 1 (p registry l plan).limit tt (p registry l plan).numbered)) tt)
 
   -- ---- all that the evaluation does is done
 
-  all_made : Each (λ i. Made i.1) (evaluation.evaluated l)
-  all_made = items_done (members l) Made (evaluation.evaluated l) script completes (plan_facts.one_outcome (p l plan)) l (run no_input) nowhere 0 start 1 (p l plan).limit (p l plan).numbered (λ i z. z) started
+  all_made : Each (λ i. Made i.1) (evaluation.evaluated registry l)
+  all_made = items_done registry (members l) Made (evaluation.evaluated registry l) script completes (plan_facts.one_outcome registry (p registry l plan)) l (run no_input) nowhere 0 start 1 (p registry l plan).limit (p registry l plan).numbered (λ i z. z) started
 
-  finished : (v : Event) (j : Job Content Load Outcome) → Does l plan v j → Finished j
+  finished : (v : Event) (j : Job Content Load Outcome) → Does registry l plan v j → Finished j
   finished v j i =
-      let x = facts.does_back l plan v j i in
-      subst Finished (sym x.1) (in_each (λ i. Made i.1) (evaluation.evaluated l) all_made (v, x.0) x.2).0
+      let x = facts.does_back registry l plan v j i in
+      subst Finished (sym x.1) (in_each (λ i. Made i.1) (evaluation.evaluated registry l) all_made (v, x.0) x.2).0
 
   -- ---- how often
 
-  published_one : (d : Content) → IsRunMessage l d → publishes l (number_of d.own) r.queue ≡ 1
+  published_one : (d : Content) → IsRunMessage registry l d → publishes l (number_of d.own) r.queue ≡ 1
   published_one d i =
       let done = finished i.0 (publish d) i.1 in
-      let few = (first_part l plan r).published_once (number_of d.own) in
+      let few = (first_part registry l plan r).published_once (number_of d.own) in
       let here = in_total (publishes_one l (number_of d.own)) (seconds (queue_calls r.queue)) (published (sealed d)) done.2 in
       let mine : publishes_one l (number_of d.own) (published (sealed d)) ≡ 1 =
-      ap (of_task l (number_of d.own)) ((order l plan).opened d done.0 done.1) ∙ ap (λ b. cond b 1 0) (eq-eqb (number_of d.own) (number_of d.own) refl) in
+      ap (of_task l (number_of d.own)) ((order registry l plan).opened d done.0 done.1) ∙ ap (λ b. cond b 1 0) (eq-eqb (number_of d.own) (number_of d.own) refl) in
       omega arith
 
   drained_total : (k : ℕ) (q : List Envelope) (cs : List (BrokerCall Envelope)) → IsDrained q cs →
@@ -183,59 +184,59 @@ module _ (l : Line) (plan : IsPlan l) (r : Run l) (c : Closed l r) where
   taken_once : (k : ℕ) → takes_of_task l k r.queue ≡ publishes l k r.queue
   taken_once k = let t = drained_total k [] (seconds (queue_calls r.queue)) drained in omega arith
 
-  store_weight : (k : ℕ) (x : BackendCall Outcome) → stores_one l k x ≡ stores_task (X l plan) k x
+  store_weight : (k : ℕ) (x : BackendCall Outcome) → stores_one k x ≡ stores_task (X registry l plan) k x
   store_weight k (stored t o b) = refl
   store_weight k (returned g m n) = refl
   store_weight k (has_read t o) = refl
 
-  stored_once : (t : ℕ) (o : Outcome) → its_state l t ≡ Some o → stores l t r.table ≡ 1
+  stored_once : (t : ℕ) (o : Outcome) → its_state registry l t ≡ Some o → stores t r.table ≡ 1
   stored_once t o e =
-      let has = state_has l plan t o e in
+      let has = state_has registry l plan t o e in
       let done = finished has.0 (store t o) has.1 in
-      let few = kept_once (X l plan) (form l plan) (Does l plan) (order l plan) (value l plan) (once l plan) (keeping l plan) (inner_run l plan r) t in
-      let same = total-same (stores_one l t) (stores_task (X l plan) t) (store_weight t) (seconds (table_calls r.table)) in
-      let here = in_total (stores_one l t) (seconds (table_calls r.table)) (stored t o true) done in
-      let mine : stores_one l t (stored t o true) ≡ 1 = ap (λ b. cond b 1 0) (eq-eqb t t refl) in
+      let few = kept_once (X registry l plan) (form registry l plan) (Does registry l plan) (order registry l plan) (value registry l plan) (once registry l plan) (keeping registry l plan) (inner_run registry l plan r) t in
+      let same = total-same (stores_one t) (stores_task (X registry l plan) t) (store_weight t) (seconds (table_calls r.table)) in
+      let here = in_total (stores_one t) (seconds (table_calls r.table)) (stored t o true) done in
+      let mine : stores_one t (stored t o true) ≡ 1 = ap (λ b. cond b 1 0) (eq-eqb t t refl) in
       omega arith
 
-  pending_none : (t : ℕ) → its_state l t ≡ None → stores l t r.table ≡ 0
-  pending_none t none = ⊎_elim (λ z. z) (λ h. absurd (heavy h.0 h.1 h.2)) (find_heavy (stores_one l t) (seconds (table_calls r.table)))
+  pending_none : (t : ℕ) → its_state registry l t ≡ None → stores t r.table ≡ 0
+  pending_none t none = ⊎_elim (λ z. z) (λ h. absurd (heavy h.0 h.1 h.2)) (find_heavy (stores_one t) (seconds (table_calls r.table)))
     where
-      no_state : (o : Outcome) → its_state l t ≡ Some o → ⊥
+      no_state : (o : Outcome) → its_state registry l t ≡ Some o → ⊥
       no_state o e = let bad : ◌≡◌ {A = eval.State} None (Some o) = sym none ∙ e in cc
 
       named : (u : ℕ) (b : Bool) → eqb u t ≡ b → (◌≡◌ {A = ℕ} (cond b 1 0) 0 → ⊥) → u ≡ t
       named u true e d = eqb-true _ _ e
       named u false e d = absurd (d refl)
 
-      heavy : (x : BackendCall Outcome) → In x (seconds (table_calls r.table)) → (stores_one l t x ≡ 0 → ⊥) → ⊥
-      heavy (stored u o b) i d = no_state o (subst (λ k. its_state l k ≡ Some o) (named u (eqb u t) refl d) (has_state l plan u o (stored_right l plan r u o b i)))
+      heavy : (x : BackendCall Outcome) → In x (seconds (table_calls r.table)) → (stores_one t x ≡ 0 → ⊥) → ⊥
+      heavy (stored u o b) i d = no_state o (subst (λ k. its_state registry l k ≡ Some o) (named u (eqb u t) refl d) (has_state registry l plan u o (stored_right registry l plan r u o b i)))
       heavy (returned g m n) i d = d refl
       heavy (has_read u o) i d = d refl
 
-  part_weight : (g m : ℕ) (x : BackendCall Outcome) → returns_one l g m x ≡ part_of g m x
+  part_weight : (g m : ℕ) (x : BackendCall Outcome) → returns_one g m x ≡ part_of g m x
   part_weight g m (stored u q b) = refl
   part_weight g m (returned h t n) = refl
   part_weight g m (has_read u q) = refl
 
-  returned_once : (g t : ℕ) → IsPart l g t → returns l g t r.table ≡ 1
+  returned_once : (g t : ℕ) → IsPart registry l g t → returns g t r.table ≡ 1
   returned_once g t (d, v, i) =
       let done = finished v (hand_in g t d) i in
-      let few = (part_once g t [] [] (seconds (table_calls r.table)) (inner_run l plan r).table).0 in
-      let same = total-same (returns_one l g t) (part_of g t) (part_weight g t) (seconds (table_calls r.table)) in
-      let here = in_total (returns_one l g t) (seconds (table_calls r.table)) (returned g t done.0) done.1 in
-      let mine : returns_one l g t (returned g t done.0) ≡ 1 = ap (λ b. cond b (cond (eqb t t) 1 0) 0) (eq-eqb g g refl) ∙ ap (λ b. cond b 1 0) (eq-eqb t t refl) in
+      let few = (part_once g t [] [] (seconds (table_calls r.table)) (inner_run registry l plan r).table).0 in
+      let same = total-same (returns_one g t) (part_of g t) (part_weight g t) (seconds (table_calls r.table)) in
+      let here = in_total (returns_one g t) (seconds (table_calls r.table)) (returned g t done.0) done.1 in
+      let mine : returns_one g t (returned g t done.0) ≡ 1 = ap (λ b. cond b (cond (eqb t t) 1 0) 0) (eq-eqb g g refl) ∙ ap (λ b. cond b 1 0) (eq-eqb t t refl) in
       omega arith
 
-  rows_are : (t : ℕ) → (results.results (roster_of l) r.table).outcomes t ≡ its_state l t
-  rows_are t = ⊎_elim (λ none. by_state none (its_state l t) refl) (λ e. e) ((first_part l plan r).rows t)
+  rows_are : (t : ℕ) → (results.results (roster_of l) r.table).outcomes t ≡ its_state registry l t
+  rows_are t = ⊎_elim (λ none. by_state none (its_state registry l t) refl) (λ e. e) ((first_part registry l plan r).rows t)
     where
-      by_state : (results.results (roster_of l) r.table).outcomes t ≡ None → (s : eval.State) → its_state l t ≡ s → (results.results (roster_of l) r.table).outcomes t ≡ its_state l t
+      by_state : (results.results (roster_of l) r.table).outcomes t ≡ None → (s : eval.State) → its_state registry l t ≡ s → (results.results (roster_of l) r.table).outcomes t ≡ its_state registry l t
       by_state none None e = none ∙ sym e
       by_state none (Some o) e =
-          let has = state_has l plan t o e in
+          let has = state_has registry l plan t o e in
           let there = stored_stays l (plan_apart l plan) t o true r.table results.no_results (finished has.0 (store t o) has.1) in
           absurd (let bad : ◌≡◌ {A = eval.State} None (Some there.0) = sym none ∙ there.1 in cc)
 
-  pub second_part : SecondPart l r
+  pub second_part : SecondPart registry l r
   second_part = record { rows = rows_are; published = published_one; taken = taken_once; stored = stored_once; pending = pending_none; returned = returned_once }

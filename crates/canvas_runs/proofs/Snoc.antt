@@ -10,15 +10,15 @@ use Rattle.canvas_backend.specs.Backend.{read, found}
 use Rattle.canvas_backend.specs.Seats as seats
 use Rattle.canvas_backend.specs.Roster.{Roster}
 use Rattle.canvas_broker.specs.Passes as passes
-use Rattle.canvas_runs.specs.Crew.{Splits, SplitSeats, EachOf, EachSeatOf}
-use Rattle.canvas_runs.specs.Following.{Pass, Seat, Makes, Serves, asking, replied}
+use Rattle.canvas_runs.specs.Crew.{SplitPasses, SplitSeats, EachOf, EachSeatOf}
+use Rattle.canvas_runs.specs.Following.{Pass, Seat, Makes, Serves, table_call, table_reply}
 use Rattle.canvas_runs.specs.Calls.{BackendCall, has_read}
 use Rattle.canvas_runs.specs.Rows.{reads_from}
 use Rattle.canvas_message.specs.declared.envelope.Envelope.{Envelope}
 use Rattle.canvas_broker.specs.Broker.{publish}
 use Rattle.canvas_runs.specs.Run.{published_all}
 
-pub split_more : (p p' p'' q : Pass) (qs : List Pass) → Splits p qs p' → passes.Parted p' p'' q → Splits p (qs ++ q ∷ []) p''
+pub split_more : (p p' p'' q : Pass) (qs : List Pass) → SplitPasses p qs p' → passes.Parted p' p'' q → SplitPasses p (qs ++ q ∷ []) p''
 split_more p p' p'' q [] s t = (p'', subst (λ x. passes.Parted x p'' q) s t, refl)
 split_more p p' p'' q (x ∷ qs) s t = (s.0, s.1, split_more s.0 p' p'' q qs s.2 t)
 
@@ -35,8 +35,8 @@ each_seat_more d t [] e o = (o, tt)
 each_seat_more d t (x ∷ ts) e o = (e.0, each_seat_more d t ts e.1 o)
 
 -- one more read
-pub serves_more : (plan : Roster) (s t u : Seat) (cs : List (BackendCall Outcome)) (c : BackendCall Outcome) → Serves plan s cs t → seats.Stands plan t (calls t.name (asking c) (replied c)) u → Serves plan s (cs ++ c ∷ []) u
-serves_more plan s t u [] c f g = (u, subst (λ (x : Seat). seats.Stands plan x (calls x.name (asking c) (replied c)) u) f g, refl)
+pub serves_more : (plan : Roster) (s t u : Seat) (cs : List (BackendCall Outcome)) (c : BackendCall Outcome) → Serves plan s cs t → seats.Stands plan t (calls t.name (table_call c) (table_reply c)) u → Serves plan s (cs ++ c ∷ []) u
+serves_more plan s t u [] c f g = (u, subst (λ (x : Seat). seats.Stands plan x (calls x.name (table_call c) (table_reply c)) u) f g, refl)
 serves_more plan s t u (d ∷ cs) c f g = (f.0, f.1, serves_more plan f.0 t u cs c f.2 g)
 
 reads_more : (k n : ℕ) (rows : List State) (x : State) → n ≡ k + length rows → reads_from k (rows ++ x ∷ []) ≡ reads_from k rows ++ has_read n x ∷ []

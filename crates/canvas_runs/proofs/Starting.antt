@@ -1,22 +1,23 @@
 -- What a worker does doesn't hang on the first messages.
 use Rattle.std.proofs.Common.{◌≡◌, ℕ, Bool, true, false, cond, eqb, List, [], ◌∷◌, ◌++◌, length, Option, Some, None, refl, sym, ap, ap₂, subst, ◌∙◌}
+use Rattle.canvas_task.specs.Apply.{Registry}
 use Rattle.canvas_task.specs.declared.outcome.Outcome.{Outcome}
 use Rattle.canvas_rewrite.specs.FrozenView.{Load}
 use Rattle.canvas_message.specs.Content.{Content}
 use Rattle.canvas_message.specs.Job.{Job, store, publish, hand_in}
 use Rattle.canvas_message.specs.declared.envelope.Envelope.{Envelope}
 use Rattle.canvas_backend.specs.Roster.{Roster}
-use Rattle.canvas_runs.specs.Core.{Ask, Reply, take, send, keep, part, read, pause, taken, sent, refused, kept, counted, found, rested, CoreState, taking, resting, over, failed, owning, doing, reading, is_due, settled, opens, owned, job_done, all_read, ask, answered, Suits, ReadsBack, Between, left_after, IsCoreRun}
+use Rattle.canvas_runs.specs.Core.{Ask, Reply, take, send, keep, part, read, pause, taken, sent, refused, kept, counted, found, rested, CoreState, taking, resting, over, failed, owning, doing, reading, is_due, settled, opens, owned, job_done, all_read, ask, answered, Suits, ReadsBack, left_after, IsCoreRun}
 use Rattle.canvas_runs.specs.Protocol.{Protocol}
 use Rattle.canvas_runs.specs.Calls.{AskedAndAnswered, broker_call, backend_call, broker_calls, backend_calls, reads_member, ReadsMembers}
 use Rattle.canvas_runs.specs.Worker.{worker_on, working}
 
-module _ (plan : Roster) (ms : List Content) where
+module _ (registry : Registry) (plan : Roster) (ms : List Content) where
   abbrev X : Protocol
-  X = working plan
+  X = working registry plan
 
   abbrev Y : Protocol
-  Y = worker_on plan ms
+  Y = worker_on registry plan ms
 
   abbrev Left : Type 0
   Left = CoreState Content Load Outcome
@@ -92,12 +93,6 @@ module _ (plan : Roster) (ms : List Content) where
   back_same : (s : Left) → ReadsBack X s → ReadsBack Y s
   back_same (doing (publish m ∷ js) b) h = h
   back_same s h = h
-
-  pub between_same : (s : Left) → Between X s → Between Y s
-  between_same taking h = h
-  between_same resting h = h
-  between_same over h = h
-  between_same s h = h
 
   pub core_run_same : (s : Left) (xs : List (AskedAndAnswered X)) → IsCoreRun X s xs → IsCoreRun Y s xs
   core_run_same s [] r = tt

@@ -2,7 +2,7 @@
 use Rattle.std.proofs.Common.{◌≡◌, ◌⊎◌, ℕ, suc, ◌≤◌, ◌==◌, Bool, true, false, List, [], ◌∷◌, ◌++◌, map, Option, Some, None, refl, sym, ap, ap₂, subst, ◌∙◌, inl, inr, arith, append-nil}
 use Rattle.std.specs.Prelude.{if◌then◌else◌, ℤ}
 use Rattle.std.proofs.lemmas.Bool.{eqb-true, eq-eqb, ne_eqb}
-use Rattle.canvas_task.specs.Apply.{apply}
+use Rattle.canvas_task.specs.Apply.{Registry}
 use Rattle.canvas_task.specs.declared.outcome.Fault.{Fault}
 use Rattle.canvas_task.specs.declared.outcome.Outcome.{Outcome}
 use Rattle.canvas_task.specs.declared.outcome.Outcome.TheVariants.{Success, Failure}
@@ -58,33 +58,34 @@ stored_more ((v, store t o) ∷ xs) ys = ap (λ es. (t, o) ∷ es) (stored_more 
 stored_more ((v, publish m) ∷ xs) ys = stored_more xs ys
 stored_more ((v, hand_in g t c) ∷ xs) ys = stored_more xs ys
 
-pub in_stored : (v : Event) (t : ℕ) (o : Outcome) (is : Items) → In (v, store t o) is → In (t, o) (stored is)
-in_stored v t o [] i = elim i [ ]
-in_stored v t o ((w, store u q) ∷ is) (inl e) =
-    let jobs : ◌≡◌ {A = AJob} (store t o) (store u q) = ap (λ p. p.1) e in
-    let tasks : t ≡ u = cc in let outs : o ≡ q = cc in inl (λ i. (tasks i, outs i))
-in_stored v t o ((w, store u q) ∷ is) (inr i) = inr (in_stored v t o is i)
-in_stored v t o ((w, publish m) ∷ is) (inl e) = absurd (let jobs : ◌≡◌ {A = AJob} (store t o) (publish m) = ap (λ p. p.1) e in cc)
-in_stored v t o ((w, publish m) ∷ is) (inr i) = in_stored v t o is i
-in_stored v t o ((w, hand_in g u c) ∷ is) (inl e) = absurd (let jobs : ◌≡◌ {A = AJob} (store t o) (hand_in g u c) = ap (λ p. p.1) e in cc)
-in_stored v t o ((w, hand_in g u c) ∷ is) (inr i) = in_stored v t o is i
+module _ (registry : Registry) where
+  pub in_stored : (v : Event) (t : ℕ) (o : Outcome) (is : Items) → In (v, store t o) is → In (t, o) (stored is)
+  in_stored v t o [] i = elim i [ ]
+  in_stored v t o ((w, store u q) ∷ is) (inl e) =
+      let jobs : ◌≡◌ {A = AJob} (store t o) (store u q) = ap (λ p. p.1) e in
+      let tasks : t ≡ u = cc in let outs : o ≡ q = cc in inl (λ i. (tasks i, outs i))
+  in_stored v t o ((w, store u q) ∷ is) (inr i) = inr (in_stored v t o is i)
+  in_stored v t o ((w, publish m) ∷ is) (inl e) = absurd (let jobs : ◌≡◌ {A = AJob} (store t o) (publish m) = ap (λ p. p.1) e in cc)
+  in_stored v t o ((w, publish m) ∷ is) (inr i) = in_stored v t o is i
+  in_stored v t o ((w, hand_in g u c) ∷ is) (inl e) = absurd (let jobs : ◌≡◌ {A = AJob} (store t o) (hand_in g u c) = ap (λ p. p.1) e in cc)
+  in_stored v t o ((w, hand_in g u c) ∷ is) (inr i) = in_stored v t o is i
 
-pub from_stored : (t : ℕ) (o : Outcome) (is : Items) → In (t, o) (stored is) → (v : Event) × In (v, store t o) is
-from_stored t o [] i = elim i [ ]
-from_stored t o ((w, store u q) ∷ is) (inl e) =
-    let tasks : t ≡ u = ap (λ p. p.0) e in let outs : o ≡ q = ap (λ p. p.1) e in (w, inl (λ i. (w, store (tasks i) (outs i))))
-from_stored t o ((w, store u q) ∷ is) (inr i) = let r = from_stored t o is i in (r.0, inr r.1)
-from_stored t o ((w, publish m) ∷ is) i = let r = from_stored t o is i in (r.0, inr r.1)
-from_stored t o ((w, hand_in g u c) ∷ is) i = let r = from_stored t o is i in (r.0, inr r.1)
+  pub from_stored : (t : ℕ) (o : Outcome) (is : Items) → In (t, o) (stored is) → (v : Event) × In (v, store t o) is
+  from_stored t o [] i = elim i [ ]
+  from_stored t o ((w, store u q) ∷ is) (inl e) =
+      let tasks : t ≡ u = ap (λ p. p.0) e in let outs : o ≡ q = ap (λ p. p.1) e in (w, inl (λ i. (w, store (tasks i) (outs i))))
+  from_stored t o ((w, store u q) ∷ is) (inr i) = let r = from_stored t o is i in (r.0, inr r.1)
+  from_stored t o ((w, publish m) ∷ is) i = let r = from_stored t o is i in (r.0, inr r.1)
+  from_stored t o ((w, hand_in g u c) ∷ is) i = let r = from_stored t o is i in (r.0, inr r.1)
 
--- ---- one task
+  -- ---- one task
 
--- an input runs a task
-input_state : (call : Call) (x : Input) → state call (Some (input_flow x)) ≡ Some (apply call.name (arguments call (input_flow x)) call.kwargs)
-input_state call no_input = refl
-input_state call (number_input n) = refl
-input_state call (list_input ns) = refl
-input_state call (id_input k) = refl
+  -- an input runs a task
+  input_state : (call : Call) (x : Input) → state registry call (Some (input_flow x)) ≡ Some (registry call.name (arguments call (input_flow x)) call.kwargs)
+  input_state call no_input = refl
+  input_state call (number_input n) = refl
+  input_state call (list_input ns) = refl
+  input_state call (id_input k) = refl
 
 input_fails : (k : ℕ) (x : Input) (f : Fault) → to_errbacks k (Some (input_flow x)) (Some (Failure f)) ≡ Some (eval.id k)
 input_fails k no_input f = refl
@@ -98,64 +99,65 @@ input_passes k (number_input m) n = refl
 input_passes k (list_input ns) n = refl
 input_passes k (id_input j) n = refl
 
-mutual
-  none_task : (t : Task) → kept (task_rows t None) ≡ []
-  none_task (task k call ls es) = kept_more (tasks_rows ls None) (tasks_rows es None) ∙ ap₂ (λ a b. a ++ b) (none_tasks ls) (none_tasks es)
+module _ (registry : Registry) where
+  mutual
+    none_task : (t : Task) → kept (task_rows registry t None) ≡ []
+    none_task (task k call ls es) = kept_more (tasks_rows registry ls None) (tasks_rows registry es None) ∙ ap₂ (λ a b. a ++ b) (none_tasks ls) (none_tasks es)
 
-  none_tasks : (ts : Tasks) → kept (tasks_rows ts None) ≡ []
-  none_tasks no_tasks = refl
-  none_tasks (and_task t ts) = kept_more (task_rows t None) (tasks_rows ts None) ∙ ap₂ (λ a b. a ++ b) (none_task t) (none_tasks ts)
+    none_tasks : (ts : Tasks) → kept (tasks_rows registry ts None) ≡ []
+    none_tasks no_tasks = refl
+    none_tasks (and_task t ts) = kept_more (task_rows registry t None) (tasks_rows registry ts None) ∙ ap₂ (λ a b. a ++ b) (none_task t) (none_tasks ts)
 
--- a task's rows, by its state
-rows_by : (k : ℕ) (call : Call) (ls es : Tasks) (x : Option eval.Flow) (s : State) → state call x ≡ s → task_rows (task k call ls es) x ≡ (k, s) ∷ tasks_rows ls (to_links s) ++ tasks_rows es (to_errbacks k x s)
-rows_by k call ls es x s e = ap (λ s. (k, s) ∷ tasks_rows ls (to_links s) ++ tasks_rows es (to_errbacks k x s)) e
+  -- a task's rows, by its state
+  rows_by : (k : ℕ) (call : Call) (ls es : Tasks) (x : Option eval.Flow) (s : State) → state registry call x ≡ s → task_rows registry (task k call ls es) x ≡ (k, s) ∷ tasks_rows registry ls (to_links s) ++ tasks_rows registry es (to_errbacks k x s)
+  rows_by k call ls es x s e = ap (λ s. (k, s) ∷ tasks_rows registry ls (to_links s) ++ tasks_rows registry es (to_errbacks k x s)) e
 
--- links, or error callbacks
-chosen_rows : (k : ℕ) (ls es : Tasks) (x : Input) (o : Outcome) → ((n : ℤ) → kept (tasks_rows ls (Some (eval.num n))) ≡ stored (ran_all ls (number_input n) (end_of_line k)))
-    → kept (tasks_rows es (Some (eval.id k))) ≡ stored (ran_all es (id_input k) (end_of_line k))
-    → kept (tasks_rows ls (to_links (Some o)) ++ tasks_rows es (to_errbacks k (Some (input_flow x)) (Some o))) ≡ stored (chosen o (ran_all ls (input_of_success o) (end_of_line k)) (ran_all es (id_input k) (end_of_line k)))
-chosen_rows k ls es x (Success n) f g =
-    kept_more (tasks_rows ls (Some (eval.num n))) (tasks_rows es (to_errbacks k (Some (input_flow x)) (Some (Success n))))
-    ∙ (ap₂ (λ a b. a ++ b) (f n) (ap (λ y. kept (tasks_rows es y)) (input_passes k x n) ∙ none_tasks es) ∙ append-nil (stored (ran_all ls (number_input n) (end_of_line k))))
-chosen_rows k ls es x (Failure e) f g =
-    kept_more (tasks_rows ls None) (tasks_rows es (to_errbacks k (Some (input_flow x)) (Some (Failure e))))
-    ∙ ap₂ (λ a b. a ++ b) (none_tasks ls) (ap (λ y. kept (tasks_rows es y)) (input_fails k x e) ∙ g)
+  -- links, or error callbacks
+  chosen_rows : (k : ℕ) (ls es : Tasks) (x : Input) (o : Outcome) → ((n : ℤ) → kept (tasks_rows registry ls (Some (eval.num n))) ≡ stored (ran_all registry ls (number_input n) (end_of_line k)))
+      → kept (tasks_rows registry es (Some (eval.id k))) ≡ stored (ran_all registry es (id_input k) (end_of_line k))
+      → kept (tasks_rows registry ls (to_links (Some o)) ++ tasks_rows registry es (to_errbacks k (Some (input_flow x)) (Some o))) ≡ stored (chosen o (ran_all registry ls (input_of_success o) (end_of_line k)) (ran_all registry es (id_input k) (end_of_line k)))
+  chosen_rows k ls es x (Success n) f g =
+      kept_more (tasks_rows registry ls (Some (eval.num n))) (tasks_rows registry es (to_errbacks k (Some (input_flow x)) (Some (Success n))))
+      ∙ (ap₂ (λ a b. a ++ b) (f n) (ap (λ y. kept (tasks_rows registry es y)) (input_passes k x n) ∙ none_tasks es) ∙ append-nil (stored (ran_all registry ls (number_input n) (end_of_line k))))
+  chosen_rows k ls es x (Failure e) f g =
+      kept_more (tasks_rows registry ls None) (tasks_rows registry es (to_errbacks k (Some (input_flow x)) (Some (Failure e))))
+      ∙ ap₂ (λ a b. a ++ b) (none_tasks ls) (ap (λ y. kept (tasks_rows registry es y)) (input_fails k x e) ∙ g)
 
-mutual
-  task_kept : (t : Task) (x : Input) (v : Event) (rest : Line) (p : Place) → kept (task_rows t (Some (input_flow x))) ≡ stored (ran t x v rest p)
-  task_kept (task k call ls es) x v rest p =
-      let o : Outcome = result (task k call ls es) x in
-      ap kept (rows_by k call ls es (Some (input_flow x)) (Some o) (input_state call x))
-      ∙ ap (λ rs. (k, o) ∷ rs) (chosen_rows k ls es x o (λ n. tasks_kept ls (number_input n) (end_of_line k)) (tasks_kept es (id_input k) (end_of_line k)))
+  mutual
+    task_kept : (t : Task) (x : Input) (v : Event) (rest : Line) (p : Place) → kept (task_rows registry t (Some (input_flow x))) ≡ stored (ran registry t x v rest p)
+    task_kept (task k call ls es) x v rest p =
+        let o : Outcome = result registry (task k call ls es) x in
+        ap kept (rows_by k call ls es (Some (input_flow x)) (Some o) (input_state registry call x))
+        ∙ ap (λ rs. (k, o) ∷ rs) (chosen_rows k ls es x o (λ n. tasks_kept ls (number_input n) (end_of_line k)) (tasks_kept es (id_input k) (end_of_line k)))
 
-  tasks_kept : (ts : Tasks) (x : Input) (v : Event) → kept (tasks_rows ts (Some (input_flow x))) ≡ stored (ran_all ts x v)
-  tasks_kept no_tasks x v = refl
-  tasks_kept (and_task t ts) x v =
-      kept_more (task_rows t (Some (input_flow x))) (tasks_rows ts (Some (input_flow x)))
-      ∙ (ap₂ (λ a b. a ++ b) (task_kept t x v stop nowhere) (tasks_kept ts x v) ∙ sym (stored_more (ran t x v stop nowhere) (ran_all ts x v)))
+    tasks_kept : (ts : Tasks) (x : Input) (v : Event) → kept (tasks_rows registry ts (Some (input_flow x))) ≡ stored (ran_all registry ts x v)
+    tasks_kept no_tasks x v = refl
+    tasks_kept (and_task t ts) x v =
+        kept_more (task_rows registry t (Some (input_flow x))) (tasks_rows registry ts (Some (input_flow x)))
+        ∙ (ap₂ (λ a b. a ++ b) (task_kept t x v stop nowhere) (tasks_kept ts x v) ∙ sym (stored_more (ran registry t x v stop nowhere) (ran_all registry ts x v)))
 
-skipped_kept : (t : Task) (f : Fault) → kept (task_rows t (Some (eval.skip f))) ≡ (no_of t, Failure f) ∷ []
-skipped_kept (task k call ls es) f = ap (λ rs. (k, Failure f) ∷ rs) (kept_more (tasks_rows ls None) (tasks_rows es None) ∙ ap₂ (λ a b. a ++ b) (none_tasks ls) (none_tasks es))
+  skipped_kept : (t : Task) (f : Fault) → kept (task_rows registry t (Some (eval.skip f))) ≡ (no_of t, Failure f) ∷ []
+  skipped_kept (task k call ls es) f = ap (λ rs. (k, Failure f) ∷ rs) (kept_more (tasks_rows registry ls None) (tasks_rows registry es None) ∙ ap₂ (λ a b. a ++ b) (none_tasks ls) (none_tasks es))
 
-raised_kept : (t : Task) (f : Fault) (v : Event) → kept (task_rows t (Some (eval.raised f))) ≡ (no_of t, Failure f) ∷ stored (ran_all (errbacks_of t) (id_input (no_of t)) v)
-raised_kept (task k call ls es) f v =
-    ap (λ rs. (k, Failure f) ∷ rs) (kept_more (tasks_rows ls None) (tasks_rows es (Some (eval.id k))) ∙ ap₂ (λ a b. a ++ b) (none_tasks ls) (tasks_kept es (id_input k) v))
+  raised_kept : (t : Task) (f : Fault) (v : Event) → kept (task_rows registry t (Some (eval.raised f))) ≡ (no_of t, Failure f) ∷ stored (ran_all registry (errbacks_of t) (id_input (no_of t)) v)
+  raised_kept (task k call ls es) f v =
+      ap (λ rs. (k, Failure f) ∷ rs) (kept_more (tasks_rows registry ls None) (tasks_rows registry es (Some (eval.id k))) ∙ ap₂ (λ a b. a ++ b) (none_tasks ls) (tasks_kept es (id_input k) v))
 
-passes : (t : Task) (x : Input) → (eval.task_meaning t (input_flow x)).out ≡ flow_of (after_outcome (result t x))
-passes (task k call ls es) x = ap passed_on (input_state call x) ∙ go (result (task k call ls es) x)
-  where
-    go : (o : Outcome) → passed_on (Some o) ≡ flow_of (after_outcome o)
-    go (Success n) = refl
-    go (Failure f) = refl
+  passes : (t : Task) (x : Input) → (eval.task_meaning registry t (input_flow x)).out ≡ flow_of (after_outcome (result registry t x))
+  passes (task k call ls es) x = ap passed_on (input_state registry call x) ∙ go (result registry (task k call ls es) x)
+    where
+      go : (o : Outcome) → passed_on (Some o) ≡ flow_of (after_outcome o)
+      go (Success n) = refl
+      go (Failure f) = refl
 
-skips : (t : Task) (f : Fault) → (eval.task_meaning t (eval.skip f)).out ≡ eval.skip f
-skips (task k call ls es) f = refl
+  skips : (t : Task) (f : Fault) → (eval.task_meaning registry t (eval.skip f)).out ≡ eval.skip f
+  skips (task k call ls es) f = refl
 
-raises : (t : Task) (f : Fault) → (eval.task_meaning t (eval.raised f)).out ≡ eval.skip f
-raises (task k call ls es) f = refl
+  raises : (t : Task) (f : Fault) → (eval.task_meaning registry t (eval.raised f)).out ≡ eval.skip f
+  raises (task k call ls es) f = refl
 
-meaning_rows : (t : Task) (x : eval.Flow) → (eval.task_meaning t x).rows ≡ task_rows t (Some x)
-meaning_rows (task k call ls es) x = refl
+  meaning_rows : (t : Task) (x : eval.Flow) → (eval.task_meaning registry t x).rows ≡ task_rows registry t (Some x)
+  meaning_rows (task k call ls es) x = refl
 
 -- ---- rows stand in the order of their numbers
 
@@ -165,43 +167,44 @@ row_key r = Some r.0
 abbrev Up : ℕ → Rows → ℕ → Type 0
 Up low rows high = Rises row_key low rows high
 
-mutual
-  task_up : (t : Task) (x : Option eval.Flow) (low high : ℕ) → TaskIn t low high → Up low (task_rows t x) high
-  task_up (task k call ls es) x low high (l, middle, i, j) =
-      (l, rises_append row_key (suc k) middle high (tasks_rows ls (to_links (state call x))) (tasks_rows es (to_errbacks k x (state call x))) (tasks_up ls (to_links (state call x)) (suc k) middle i) (tasks_up es (to_errbacks k x (state call x)) middle high j))
-
-  tasks_up : (ts : Tasks) (x : Option eval.Flow) (low high : ℕ) → TasksIn ts low high → Up low (tasks_rows ts x) high
-  tasks_up no_tasks x low high n = n
-  tasks_up (and_task t ts) x low high (middle, i, j) = rises_append row_key low middle high (task_rows t x) (tasks_rows ts x) (task_up t x low middle i) (tasks_up ts x middle high j)
-
-abbrev line_rows : Line → eval.Flow → Rows
-line_rows l x = (eval_chain (elements_of l) x).rows
-
-abbrev line_out : Line → eval.Flow → eval.Flow
-line_out l x = (eval_chain (elements_of l) x).out
-
--- what goes out of a header
-abbrev header_out : Lines → eval.Flow → eval.Flow
-header_out ms x = group_value x (with_states (member_rows (members_of ms) x) (all_ends (members_of ms)))
-
-chord_rows : (g : ℕ) (ms : Lines) (b : Line) (x : eval.Flow) → line_rows (chord_end g ms b) x ≡ member_rows (members_of ms) x ++ line_rows b (header_out ms x)
-chord_rows g ms b x = append-nil (member_rows (members_of ms) x ++ line_rows b (header_out ms x))
-
-module _ (table : ℕ → List ℕ) where
+module _ (registry : Registry) where
   mutual
-    pub line_up : (l : Line) (x : eval.Flow) (low high : ℕ) → LineIn table l low high → Up low (line_rows l x) high
+    task_up : (t : Task) (x : Option eval.Flow) (low high : ℕ) → TaskIn t low high → Up low (task_rows registry t x) high
+    task_up (task k call ls es) x low high (l, middle, i, j) =
+        (l, rises_append row_key (suc k) middle high (tasks_rows registry ls (to_links (state registry call x))) (tasks_rows registry es (to_errbacks k x (state registry call x))) (tasks_up ls (to_links (state registry call x)) (suc k) middle i) (tasks_up es (to_errbacks k x (state registry call x)) middle high j))
+
+    tasks_up : (ts : Tasks) (x : Option eval.Flow) (low high : ℕ) → TasksIn ts low high → Up low (tasks_rows registry ts x) high
+    tasks_up no_tasks x low high n = n
+    tasks_up (and_task t ts) x low high (middle, i, j) = rises_append row_key low middle high (task_rows registry t x) (tasks_rows registry ts x) (task_up t x low middle i) (tasks_up ts x middle high j)
+
+  abbrev line_rows : Line → eval.Flow → Rows
+  line_rows l x = (eval_chain registry (elements_of l) x).rows
+
+  abbrev line_out : Line → eval.Flow → eval.Flow
+  line_out l x = (eval_chain registry (elements_of l) x).out
+
+  -- what goes out of a header
+  abbrev header_out : Lines → eval.Flow → eval.Flow
+  header_out ms x = group_value x (with_states (member_rows registry (members_of ms) x) (all_ends (members_of ms)))
+
+  chord_rows : (g : ℕ) (ms : Lines) (b : Line) (x : eval.Flow) → line_rows (chord_end g ms b) x ≡ member_rows registry (members_of ms) x ++ line_rows b (header_out ms x)
+  chord_rows g ms b x = append-nil (member_rows registry (members_of ms) x ++ line_rows b (header_out ms x))
+
+module _ (registry : Registry) (table : ℕ → List ℕ) where
+  mutual
+    pub line_up : (l : Line) (x : eval.Flow) (low high : ℕ) → LineIn table l low high → Up low (line_rows registry l x) high
     line_up stop x low high n = n
     line_up (step t l) x low high (middle, i, j) =
-        rises_append row_key low middle high (eval.task_meaning t x).rows (line_rows l (eval.task_meaning t x).out)
-        (subst (λ rs. Up low rs middle) (sym (meaning_rows t x)) (task_up t (Some x) low middle i)) (line_up l (eval.task_meaning t x).out middle high j)
-    line_up (group_end g ms) x low high n = subst (λ rs. Up low rs high) (sym (append-nil (member_rows (members_of ms) x))) (members_up ms x low high n.0)
+        rises_append row_key low middle high (eval.task_meaning registry t x).rows (line_rows registry l (eval.task_meaning registry t x).out)
+        (subst (λ rs. Up low rs middle) (sym (meaning_rows registry t x)) (task_up registry t (Some x) low middle i)) (line_up l (eval.task_meaning registry t x).out middle high j)
+    line_up (group_end g ms) x low high n = subst (λ rs. Up low rs high) (sym (append-nil (member_rows registry (members_of ms) x))) (members_up ms x low high n.0)
     line_up (chord_end g ms b) x low high (middle, i, j, e) =
-        subst (λ rs. Up low rs high) (sym (chord_rows g ms b x))
-        (rises_append row_key low middle high (member_rows (members_of ms) x) (line_rows b (header_out ms x)) (members_up ms x low middle i) (line_up b (header_out ms x) middle high j))
+        subst (λ rs. Up low rs high) (sym (chord_rows registry g ms b x))
+        (rises_append row_key low middle high (member_rows registry (members_of ms) x) (line_rows registry b (header_out registry ms x)) (members_up ms x low middle i) (line_up b (header_out registry ms x) middle high j))
 
-    pub members_up : (ms : Lines) (x : eval.Flow) (low high : ℕ) → LinesIn table ms low high → Up low (member_rows (members_of ms) x) high
+    pub members_up : (ms : Lines) (x : eval.Flow) (low high : ℕ) → LinesIn table ms low high → Up low (member_rows registry (members_of ms) x) high
     members_up no_lines x low high n = n
-    members_up (and_line m ms) x low high (middle, i, e, j) = rises_append row_key low middle high (line_rows m x) (member_rows (members_of ms) x) (line_up m x low middle i) (members_up ms x middle high j)
+    members_up (and_line m ms) x low high (middle, i, e, j) = rises_append row_key low middle high (line_rows registry m x) (member_rows registry (members_of ms) x) (line_up m x low middle i) (members_up ms x middle high j)
 
 -- ---- looking up
 
@@ -211,30 +214,31 @@ above_low low ((k, None) ∷ rows) high r t o i = let h = above_low (suc k) rows
 above_low low ((k, Some q) ∷ rows) high r t o (inl e) = let tasks : t ≡ k = ap (λ p. p.0) e in omega (arith, r.0)
 above_low low ((k, Some q) ∷ rows) high r t o (inr i) = let h = above_low (suc k) rows high r.1 t o i in omega (arith, r.0)
 
-pub look : (low : ℕ) (rows : Rows) (high : ℕ) → Up low rows high → (t : ℕ) (o : Outcome) → In (t, o) (kept rows) → state_of t rows ≡ Some o
-look low [] high r t o i = elim i [ ]
-look low ((k, None) ∷ rows) high r t o i =
-    let h = above_low (suc k) rows high r.1 t o i in
-    ap (λ b. if b then None else state_of t rows) (ne_eqb k t (λ e. omega arith)) ∙ look (suc k) rows high r.1 t o i
-look low ((k, Some q) ∷ rows) high r t o (inl e) =
-    let tasks : t ≡ k = ap (λ p. p.0) e in let outs : o ≡ q = ap (λ p. p.1) e in
-    ap (λ b. if b then Some q else state_of t rows) (eq-eqb k t (sym tasks)) ∙ ap (λ y. Some y) (sym outs)
-look low ((k, Some q) ∷ rows) high r t o (inr i) =
-    let h = above_low (suc k) rows high r.1 t o i in
-    ap (λ b. if b then Some q else state_of t rows) (ne_eqb k t (λ e. omega arith)) ∙ look (suc k) rows high r.1 t o i
+module _ (registry : Registry) where
+  pub look : (low : ℕ) (rows : Rows) (high : ℕ) → Up low rows high → (t : ℕ) (o : Outcome) → In (t, o) (kept rows) → state_of t rows ≡ Some o
+  look low [] high r t o i = elim i [ ]
+  look low ((k, None) ∷ rows) high r t o i =
+      let h = above_low (suc k) rows high r.1 t o i in
+      ap (λ b. if b then None else state_of t rows) (ne_eqb k t (λ e. omega arith)) ∙ look (suc k) rows high r.1 t o i
+  look low ((k, Some q) ∷ rows) high r t o (inl e) =
+      let tasks : t ≡ k = ap (λ p. p.0) e in let outs : o ≡ q = ap (λ p. p.1) e in
+      ap (λ b. if b then Some q else state_of t rows) (eq-eqb k t (sym tasks)) ∙ ap (λ y. Some y) (sym outs)
+  look low ((k, Some q) ∷ rows) high r t o (inr i) =
+      let h = above_low (suc k) rows high r.1 t o i in
+      ap (λ b. if b then Some q else state_of t rows) (ne_eqb k t (λ e. omega arith)) ∙ look (suc k) rows high r.1 t o i
 
-pub looked : (rows : Rows) (t : ℕ) (o : Outcome) → state_of t rows ≡ Some o → In (t, o) (kept rows)
-looked [] t o e = absurd (cc)
-looked (r ∷ rows) t o e = go r.1 refl (r.0 == t) refl e (looked rows t o)
-  where
-    go : (s : State) → r.1 ≡ s → (b : Bool) → (r.0 == t) ≡ b → (if b then r.1 else state_of t rows) ≡ Some o → (state_of t rows ≡ Some o → In (t, o) (kept rows)) → In (t, o) (had r.0 s (kept rows))
-    go None f true g h w = absurd (let bad : ◌≡◌ {A = State} None (Some o) = sym f ∙ h in cc)
-    go (Some q) f true g h w =
-        let outs : ◌≡◌ {A = State} (Some q) (Some o) = sym f ∙ h in
-        let same : o ≡ q = cc in
-        let tasks : t ≡ r.0 = sym (eqb-true r.0 t g) in inl (λ i. (tasks i, same i))
-    go None f false g h w = w h
-    go (Some q) f false g h w = inr (w h)
+  pub looked : (rows : Rows) (t : ℕ) (o : Outcome) → state_of t rows ≡ Some o → In (t, o) (kept rows)
+  looked [] t o e = absurd (cc)
+  looked (r ∷ rows) t o e = go r.1 refl (r.0 == t) refl e (looked rows t o)
+    where
+      go : (s : State) → r.1 ≡ s → (b : Bool) → (r.0 == t) ≡ b → (if b then r.1 else state_of t rows) ≡ Some o → (state_of t rows ≡ Some o → In (t, o) (kept rows)) → In (t, o) (had r.0 s (kept rows))
+      go None f true g h w = absurd (let bad : ◌≡◌ {A = State} None (Some o) = sym f ∙ h in cc)
+      go (Some q) f true g h w =
+          let outs : ◌≡◌ {A = State} (Some q) (Some o) = sym f ∙ h in
+          let same : o ≡ q = cc in
+          let tasks : t ≡ r.0 = sym (eqb-true r.0 t g) in inl (λ i. (tasks i, same i))
+      go None f false g h w = w h
+      go (Some q) f false g h w = inr (w h)
 
 -- ---- what goes out of a header
 
@@ -289,45 +293,45 @@ tree_ends : (ms : Lines) → all_ends (members_of ms) ≡ all_ends_of ms
 tree_ends no_lines = refl
 tree_ends (and_line m ms) = ap₂ (λ a b. a ++ b) (sym (ends_of_tree m)) (tree_ends ms)
 
-module _ (table : ℕ → List ℕ) where
+module _ (registry : Registry) (table : ℕ → List ℕ) where
   ends_in : (ms : Lines) (low high : ℕ) → LinesIn table ms low high → all_ends_of ms ≡ lasts ms
   ends_in no_lines low high n = refl
   ends_in (and_line m ms) low high (middle, i, e, j) = ap₂ (λ a b. a ++ b) (one_end m 0 e) (ends_in ms middle high j)
 
   -- a header's value, by its members' outcomes
-  header_value : (ms : Lines) (x : LineFlow) (low high : ℕ) → LinesIn table ms low high → all_ends_of ms ≡ lasts ms → kept (member_rows (members_of ms) (flow_of x)) ≡ stored (items_all ms x nowhere (end_of_line 0))
-      → header_out ms (flow_of x) ≡ flow_of (joined x (outs ms x))
+  header_value : (ms : Lines) (x : LineFlow) (low high : ℕ) → LinesIn table ms low high → all_ends_of ms ≡ lasts ms → kept (member_rows registry (members_of ms) (flow_of x)) ≡ stored (items_all registry ms x nowhere (end_of_line 0))
+      → header_out registry ms (flow_of x) ≡ flow_of (joined x (outs registry ms x))
   header_value ms x low high n ends same =
-      let rows : Rows = member_rows (members_of ms) (flow_of x) in
-      let there : Each (λ e. state_of e.0 rows ≡ Some e.1) (outs ms x) =
-      each_weaker (λ e k. look low rows high (members_up table ms (flow_of x) low high n) e.0 e.1 (subst (In (e.0, e.1)) (sym same) (in_stored k.0 e.0 e.1 (items_all ms x nowhere (end_of_line 0)) k.1))) (outs ms x)
-      (members_kept table ms x nowhere (end_of_line 0) low high n) in
-      ap (λ ks. group_value (flow_of x) (with_states rows ks)) (tree_ends ms ∙ (ends ∙ sym (firsts-outs table ms x)))
-      ∙ (ap (group_value (flow_of x)) (states_of rows (outs ms x) there) ∙ joined_flow x (outs ms x))
+      let rows : Rows = member_rows registry (members_of ms) (flow_of x) in
+      let there : Each (λ e. state_of e.0 rows ≡ Some e.1) (outs registry ms x) =
+      each_weaker (λ e k. look registry low rows high (members_up registry table ms (flow_of x) low high n) e.0 e.1 (subst (In (e.0, e.1)) (sym same) (in_stored registry k.0 e.0 e.1 (items_all registry ms x nowhere (end_of_line 0)) k.1))) (outs registry ms x)
+      (members_kept registry table ms x nowhere (end_of_line 0) low high n) in
+      ap (λ ks. group_value (flow_of x) (with_states rows ks)) (tree_ends ms ∙ (ends ∙ sym (firsts-outs registry table ms x)))
+      ∙ (ap (group_value (flow_of x)) (states_of rows (outs registry ms x) there) ∙ joined_flow x (outs registry ms x))
 
   mutual
-    pub rows_same : (l : Line) (x : LineFlow) (p : Place) (k : ℕ) (v : Event) (low high : ℕ) → LineIn table l low high → kept (line_rows l (flow_of x)) ≡ stored (items l x p k v)
+    pub rows_same : (l : Line) (x : LineFlow) (p : Place) (k : ℕ) (v : Event) (low high : ℕ) → LineIn table l low high → kept (line_rows registry l (flow_of x)) ≡ stored (items registry l x p k v)
     rows_same stop x p k v low high n = sym (stop_stored p k v)
     rows_same (step t l) (run x) p k v low high (middle, i, j) =
-        kept_more (eval.task_meaning t (input_flow x)).rows (line_rows l (eval.task_meaning t (input_flow x)).out)
-        ∙ pair_both _ _ (ran t x v l p) (items l (after_outcome (result t x)) p (no_of t) (end_of_line (no_of t))) (ap kept (meaning_rows t (input_flow x)) ∙ task_kept t x v l p)
-        (ap (λ y. kept (line_rows l y)) (passes t x) ∙ rows_same l (after_outcome (result t x)) p (no_of t) (end_of_line (no_of t)) middle high j)
+        kept_more (eval.task_meaning registry t (input_flow x)).rows (line_rows registry l (eval.task_meaning registry t (input_flow x)).out)
+        ∙ pair_both _ _ (ran registry t x v l p) (items registry l (after_outcome (result registry t x)) p (no_of t) (end_of_line (no_of t))) (ap kept (meaning_rows registry t (input_flow x)) ∙ task_kept registry t x v l p)
+        (ap (λ y. kept (line_rows registry l y)) (passes registry t x) ∙ rows_same l (after_outcome (result registry t x)) p (no_of t) (end_of_line (no_of t)) middle high j)
     rows_same (step t l) (skip f) p k v low high (middle, i, j) =
-        kept_more (eval.task_meaning t (eval.skip f)).rows (line_rows l (eval.task_meaning t (eval.skip f)).out)
-        ∙ ap₂ (λ a b. a ++ b) (ap kept (meaning_rows t (eval.skip f)) ∙ skipped_kept t f) (ap (λ y. kept (line_rows l y)) (skips t f) ∙ rows_same l (skip f) p (no_of t) v middle high j)
+        kept_more (eval.task_meaning registry t (eval.skip f)).rows (line_rows registry l (eval.task_meaning registry t (eval.skip f)).out)
+        ∙ ap₂ (λ a b. a ++ b) (ap kept (meaning_rows registry t (eval.skip f)) ∙ skipped_kept registry t f) (ap (λ y. kept (line_rows registry l y)) (skips registry t f) ∙ rows_same l (skip f) p (no_of t) v middle high j)
     rows_same (step t l) (raise f) p k v low high (middle, i, j) =
-        kept_more (eval.task_meaning t (eval.raised f)).rows (line_rows l (eval.task_meaning t (eval.raised f)).out)
-        ∙ (ap₂ (λ a b. a ++ b) (ap kept (meaning_rows t (eval.raised f)) ∙ raised_kept t f v) (ap (λ y. kept (line_rows l y)) (raises t f) ∙ rows_same l (skip f) p (no_of t) v middle high j)
-        ∙ ap (λ es. (no_of t, Failure f) ∷ es) (sym (stored_more (ran_all (errbacks_of t) (id_input (no_of t)) v) (items l (skip f) p (no_of t) v))))
-    rows_same (group_end g ms) x p k v low high n = ap kept (append-nil (member_rows (members_of ms) (flow_of x))) ∙ members_same ms x (in_group g) v low high n.0
+        kept_more (eval.task_meaning registry t (eval.raised f)).rows (line_rows registry l (eval.task_meaning registry t (eval.raised f)).out)
+        ∙ (ap₂ (λ a b. a ++ b) (ap kept (meaning_rows registry t (eval.raised f)) ∙ raised_kept registry t f v) (ap (λ y. kept (line_rows registry l y)) (raises registry t f) ∙ rows_same l (skip f) p (no_of t) v middle high j)
+        ∙ ap (λ es. (no_of t, Failure f) ∷ es) (sym (stored_more (ran_all registry (errbacks_of t) (id_input (no_of t)) v) (items registry l (skip f) p (no_of t) v))))
+    rows_same (group_end g ms) x p k v low high n = ap kept (append-nil (member_rows registry (members_of ms) (flow_of x))) ∙ members_same ms x (in_group g) v low high n.0
     rows_same (chord_end g ms b) x p k v low high (middle, i, j, e) =
-        ap kept (chord_rows g ms b (flow_of x))
-        ∙ (kept_more (member_rows (members_of ms) (flow_of x)) (line_rows b (header_out ms (flow_of x)))
-        ∙ pair_both _ _ (items_all ms x (header_place x g ms b p) v) (items b (joined x (outs ms x)) p 0 (body_event x ms g v)) (members_same ms x (header_place x g ms b p) v low middle i)
-        (ap (λ y. kept (line_rows b y)) (header_value ms x low middle i (ends_in ms low middle i) (members_same ms x nowhere (end_of_line 0) low middle i)) ∙ rows_same b (joined x (outs ms x)) p 0 (body_event x ms g v) middle high j))
+        ap kept (chord_rows registry g ms b (flow_of x))
+        ∙ (kept_more (member_rows registry (members_of ms) (flow_of x)) (line_rows registry b (header_out registry ms (flow_of x)))
+        ∙ pair_both _ _ (items_all registry ms x (header_place x g ms b p) v) (items registry b (joined x (outs registry ms x)) p 0 (body_event x ms g v)) (members_same ms x (header_place x g ms b p) v low middle i)
+        (ap (λ y. kept (line_rows registry b y)) (header_value ms x low middle i (ends_in ms low middle i) (members_same ms x nowhere (end_of_line 0) low middle i)) ∙ rows_same b (joined x (outs registry ms x)) p 0 (body_event x ms g v) middle high j))
 
-    members_same : (ms : Lines) (x : LineFlow) (p : Place) (v : Event) (low high : ℕ) → LinesIn table ms low high → kept (member_rows (members_of ms) (flow_of x)) ≡ stored (items_all ms x p v)
+    members_same : (ms : Lines) (x : LineFlow) (p : Place) (v : Event) (low high : ℕ) → LinesIn table ms low high → kept (member_rows registry (members_of ms) (flow_of x)) ≡ stored (items_all registry ms x p v)
     members_same no_lines x p v low high n = refl
     members_same (and_line m ms) x p v low high (middle, i, e, j) =
-        kept_more (line_rows m (flow_of x)) (member_rows (members_of ms) (flow_of x))
-        ∙ pair_both _ _ (items m x p 0 v) (items_all ms x p v) (rows_same m x p 0 v low middle i) (members_same ms x p v middle high j)
+        kept_more (line_rows registry m (flow_of x)) (member_rows registry (members_of ms) (flow_of x))
+        ∙ pair_both _ _ (items registry m x p 0 v) (items_all registry ms x p v) (rows_same m x p 0 v low middle i) (members_same ms x p v middle high j)

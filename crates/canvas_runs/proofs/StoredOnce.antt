@@ -7,7 +7,7 @@ use Rattle.canvas_runs.specs.Protocol.{Protocol}
 use Rattle.canvas_runs.specs.Core.{taken, sent, refused, kept, counted, found, rested, taking, resting, owning, doing, reading, Jobs, Doing, Asked, Answer, is_due, settled, opens, all_read, ask, answered, IsCoreRun}
 use Rattle.canvas_message.specs.Events.{Event, start, running, end_of_line, completion}
 use Rattle.canvas_runs.proofs.Meaning.{JobOf, Form, names, keeps, Ordered, IsRun, Evaluates, Once, KeptOnce}
-use Rattle.canvas_runs.specs.Calls.{BrokerCall, published, took, BackendCall, stored, returned, has_read, Follows, follows_all, follows_publish, follows_list_take, follows_core_take, broker_call, backend_call, broker_calls, backend_calls, ReadsMembers, reads_member}
+use Rattle.canvas_runs.specs.Calls.{BrokerCall, published, took, BackendCall, stored, returned, has_read, FollowsCore, follows_all, follows_publish, follows_list_take, follows_core_take, broker_call, backend_call, broker_calls, backend_calls, ReadsMembers, reads_member}
 use Rattle.canvas_runs.proofs.Replay.{IsQueue, IsTable, FirstWins, kept_first}
 use Rattle.canvas_runs.proofs.Run.{Run}
 use Rattle.canvas_runs.specs.Run.{IsRead, published_all}
@@ -51,7 +51,7 @@ module _ (X : Protocol) where
   taken_total-append k [] t = omega arith
   taken_total-append k (s ∷ ts) t = let r = taken_total-append k ts t in omega arith
 
-  follows_taken : {ts : List (Option X.Envelope)} {cs ls : List (BrokerCall X.Envelope)} (k : ℕ) → Follows ts cs ls → total (takes_task k) cs ≤ taken_total k ts + total (takes_task k) ls
+  follows_taken : {ts : List (Option X.Envelope)} {cs ls : List (BrokerCall X.Envelope)} (k : ℕ) → FollowsCore ts cs ls → total (takes_task k) cs ≤ taken_total k ts + total (takes_task k) ls
   follows_taken k follows_all = omega arith
   follows_taken k (follows_publish f) = let r = follows_taken k f in omega arith
   follows_taken k (follows_list_take {ts = ts} {t = t} f) = let r = follows_taken k f in omega (arith, taken_total-append k ts t)

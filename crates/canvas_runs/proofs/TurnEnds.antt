@@ -3,12 +3,13 @@ use Rattle.std.proofs.Common.{◌≡◌, ℕ, zero, suc, ◌+◌, ◌-◌, ◌*�
 use Rattle.std.proofs.lemmas.Nat.{mul-le}
 use Rattle.std.proofs.lemmas.Bool.{cases_lt}
 use Rattle.std.proofs.lemmas.List.{length-append}
+use Rattle.canvas_task.specs.Apply.{Registry}
 use Rattle.canvas_semantics.specs.Line.{Line, count_line}
 use Rattle.canvas_rewrite.specs.Planned.{IsPlan}
 use Rattle.canvas_runs.specs.Going.{most_calls, most_steps}
 use Rattle.canvas_runs.specs.Lists.{Each}
 use Rattle.canvas_runs.specs.TurnLaws.{ByTurns}
-use Rattle.canvas_runs.specs.Turns.{Step, IsWorker, HasEnded, Turned, skips, AllEnded, round, rounds, Begins, RanUntil}
+use Rattle.canvas_runs.specs.Turns.{Step, IsWorker, HasEnded, Turned, skips_turn, AllEnded, round, rounds, Begins, RanUntil}
 use Rattle.canvas_runs.proofs.Sums.{total-append}
 use Rattle.canvas_runs.proofs.TurnLaw.{until_turns}
 use Rattle.canvas_runs.proofs.TurnRounds.{pairs, pairs_go, none_further, each_round}
@@ -55,9 +56,9 @@ twice_is : (m : ℕ) → twice m ≡ 2 * m
 twice_is zero = refl
 twice_is (suc m) = let r = twice_is m in omega (arith, r)
 
-module _ (l : Line) (n : ℕ) (us : List ℕ) (xs : List Step) (t : ByTurns l n us xs) (some : 1 ≤ n) where
+module _ (registry : Registry) (l : Line) (n : ℕ) (us : List ℕ) (xs : List Step) (t : ByTurns registry l n us xs) (some : 1 ≤ n) where
   abbrev some_pairs : ℕ → List ℕ
-  some_pairs m = pairs l t.plan t.opens_back n m
+  some_pairs m = pairs registry l t.plan t.opens_back n m
 
   two_rounds : (m : ℕ) → rounds n (twice m) ≡ some_pairs m
   two_rounds zero = refl
@@ -78,21 +79,21 @@ module _ (l : Line) (n : ℕ) (us : List ℕ) (xs : List Step) (t : ByTurns l n 
   all_done ts vs e =
       let workers : Each (IsWorker n) (whole ts ++ vs) = subst (Each (IsWorker n)) e t.workers in
       let firsts : Each (IsWorker n) (whole ts) = each_left (IsWorker n) (whole ts) vs workers in
-      let cut = turned_part l n [] (whole ts) vs xs (subst (λ z. Turned l n [] z xs) e t.turned) in
-      let parts = turned_part l n [] ts (rounds n (2 * busy)) cut.0 cut.3 in
-      let before = holds_turned l t.plan t.opens_back n [] ts parts.0 (each_left (IsWorker n) ts (rounds n (2 * busy)) firsts) (holds_first l t.plan t.opens_back n) parts.3 in
-      let rotation : Turned l n parts.0 (some_pairs busy) parts.1 = subst (λ z. Turned l n parts.0 z parts.1) (ap (rounds n) (sym (twice_is busy)) ∙ two_rounds busy) parts.4 in
-      let sums : calls_in l xs ≡ calls_in l cut.0 + calls_in l cut.1 = ap (calls_in l) cut.2 ∙ total-append (λ x. calls_of l x.1) cut.0 cut.1 in
-      let parted : calls_in l cut.0 ≡ calls_in l parts.0 + calls_in l parts.1 = ap (calls_in l) parts.2 ∙ total-append (λ x. calls_of l x.1) parts.0 parts.1 in
+      let cut = turned_part registry l n [] (whole ts) vs xs (subst (λ z. Turned registry l n [] z xs) e t.turned) in
+      let parts = turned_part registry l n [] ts (rounds n (2 * busy)) cut.0 cut.3 in
+      let before = holds_turned registry l t.plan t.opens_back n [] ts parts.0 (each_left (IsWorker n) ts (rounds n (2 * busy)) firsts) (holds_first registry l t.plan t.opens_back n) parts.3 in
+      let rotation : Turned registry l n parts.0 (some_pairs busy) parts.1 = subst (λ z. Turned registry l n parts.0 z parts.1) (ap (rounds n) (sym (twice_is busy)) ∙ two_rounds busy) parts.4 in
+      let sums : calls_in registry l xs ≡ calls_in registry l cut.0 + calls_in registry l cut.1 = ap (calls_in registry l) cut.2 ∙ total-append (λ x. calls_of registry l x.1) cut.0 cut.1 in
+      let parted : calls_in registry l cut.0 ≡ calls_in registry l parts.0 + calls_in registry l parts.1 = ap (calls_in registry l) parts.2 ∙ total-append (λ x. calls_of registry l x.1) parts.0 parts.1 in
       let lengths : length xs ≡ length cut.0 + length cut.1 = ap length cut.2 ∙ length-append cut.0 cut.1 in
-      let fewer = few_steps l n [] (whole ts) cut.0 cut.3 in
+      let fewer = few_steps registry l n [] (whole ts) cut.0 cut.3 in
       ⊎_elim
       (λ done.
-      let stop = none_further l t.plan t.opens_back n cut.0 vs cut.1 (subst (AllEnded l n) (sym parts.2) done) (each_right (IsWorker n) (whole ts) vs workers) cut.4 in
+      let stop = none_further registry l t.plan t.opens_back n cut.0 vs cut.1 (subst (AllEnded registry l n) (sym parts.2) done) (each_right (IsWorker n) (whole ts) vs workers) cut.4 in
       let none : length cut.1 ≡ 0 = ap length stop in
       omega (arith, lengths, none, fewer))
-      (λ many. absurd (let few = few_calls l n us xs t in omega (arith, many, few, sums, parted)))
-      (pairs_go l t.plan t.opens_back n some busy parts.0 parts.1 before rotation)
+      (λ many. absurd (let few = few_calls registry l n us xs t in omega (arith, many, few, sums, parted)))
+      (pairs_go registry l t.plan t.opens_back n some busy parts.0 parts.1 before rotation)
 
   -- turns that are more than these begin with them
   more_turns : (ts rest : List ℕ) (k : ℕ) → us ++ rest ≡ ts ++ rounds n k → length (whole ts) ≤ length us → (vs : List ℕ) × (us ≡ whole ts ++ vs)
@@ -113,11 +114,12 @@ module _ (l : Line) (n : ℕ) (us : List ℕ) (xs : List Step) (t : ByTurns l n 
   pub few : (ts : List ℕ) → Begins us ts n → length xs ≤ most_steps l n (length ts)
   few ts (k, rest, e) =
       let same = whole_length ts in
-      ⊎_elim (λ short. let a = few_steps l n [] us xs t.turned in omega (arith, a, short, same))
+      ⊎_elim (λ short. let a = few_steps registry l n [] us xs t.turned in omega (arith, a, short, same))
       (λ long. let m = more_turns ts rest k e long in let a = all_done ts m.0 m.1 in omega (arith, a, same)) (cases_lt (length us) (length (whole ts)))
 
-pub stops_soon : (l : Line) → IsPlan l → (n : ℕ) (ts : List ℕ) (most : ℕ) → 1 ≤ n → Each (IsWorker n) ts → RanUntil l n ts most → most ≤ most_steps l n (length ts)
-stops_soon l plan n ts most some w r = let a = few l n r.turns r.steps (until_turns l plan n ts most w r) some ts r.begin in omega (arith, a, r.many)
+module _ (registry : Registry) where
+  pub stops_soon : (l : Line) → IsPlan l → (n : ℕ) (ts : List ℕ) (most : ℕ) → 1 ≤ n → Each (IsWorker n) ts → RanUntil registry l n ts most → most ≤ most_steps l n (length ts)
+  stops_soon l plan n ts most some w r = let a = few registry l n r.turns r.steps (until_turns registry l plan n ts most w r) some ts r.begin in omega (arith, a, r.many)
 
 pub steps_fit : (l : Line) (n k : ℕ) → count_line l < 2 ^ 32 → n ≤ 16 → k < 2 ^ 64 → most_steps l n k < 2 ^ 127
 steps_fit l n k tasks workers listed =
@@ -125,13 +127,14 @@ steps_fit l n k tasks workers listed =
     let b = mul-le (2 * suc (most_calls l)) n (2 * (4294967299 * 4294967296 + 1)) 16 (omega (arith, a)) workers in
     omega (arith, b, listed)
 
--- a round without a step
-none_taken : (l : Line) (n : ℕ) (before : List Step) (us : List ℕ) → Turned l n before us [] → Each (HasEnded l before) us
-none_taken l n before [] t = tt
-none_taken l n before (p ∷ us) (skips e t) = (e, none_taken l n before us t)
+module _ (registry : Registry) where
+  -- a round without a step
+  none_taken : (l : Line) (n : ℕ) (before : List Step) (us : List ℕ) → Turned registry l n before us [] → Each (HasEnded registry l before) us
+  none_taken l n before [] t = tt
+  none_taken l n before (p ∷ us) (skips_turn e t) = (e, none_taken l n before us t)
 
-pub rounds_go : (l : Line) (n : ℕ) (before : List Step) → Turned l n before (round n) [] → AllEnded l n before
-rounds_go l n before t p w = each_round n (HasEnded l before) (none_taken l n before (round n) t) p w
+  pub rounds_go : (l : Line) (n : ℕ) (before : List Step) → Turned registry l n before (round n) [] → AllEnded registry l n before
+  rounds_go l n before t p w = each_round n (HasEnded registry l before) (none_taken l n before (round n) t) p w
 
 -- ---- turns of the list so far, and turns in rotation so far
 

@@ -2,14 +2,14 @@
 use Rattle.std.proofs.Common.{◌≡◌, ◌≢◌, ℕ, zero, suc, ◌≤◌, Bool, true, false, cond, eqb, ◌==◌, List, [], ◌∷◌, ◌++◌, Some, None, refl, sym, ap, ◌∙◌, subst, append_assoc, append-nil, ne_eqb, ⊎_elim, arith}
 use Rattle.std.proofs.lemmas.Bool.{false≢true, eqb-true, eqb-false, cases_Bool}
 use Rattle.canvas_task.specs.declared.outcome.Outcome.{Outcome}
-use Rattle.canvas_history.specs.History.{Entry, split, join, calls, among, live, live_from, named, heir, state_from, Legal}
+use Rattle.canvas_history.specs.History.{Entry, split, join, calls, among, live, live_from, split_off, heir, state_from, Legal}
 use Rattle.canvas_history.proofs.Histories.{In, in_left, in_right, in_append, in_here, in_later, in_cases, live_append, legal_append, OnlyCalls}
 use Rattle.canvas_message.specs.declared.envelope.Envelope.{Envelope}
 use Rattle.canvas_backend.specs.declared.stored.Stored.TheVariants.{First, Again}
 use Rattle.canvas_backend.specs.Backend as results
 use Rattle.canvas_backend.specs.Backend.{Log, store, was, count, found}
 use Rattle.canvas_broker.specs.Broker as broker
-use Rattle.canvas_runs.specs.Accounts.{splits_of, entries, rows}
+use Rattle.canvas_runs.specs.Accounts.{splits_of, broker_entries, backend_entries}
 use Rattle.canvas_runs.specs.Calls.{BrokerCall, published, took, BackendCall, stored, returned, has_read}
 use Rattle.canvas_runs.specs.Following.{Stood}
 use Rattle.canvas_runs.specs.Lists.{Each, by}
@@ -35,7 +35,7 @@ round_has (suc n) p h =
 
 -- ---- splits, and calls after them
 
-named_splits : (C R : Type 0) (qs : List ℕ) → named (splits_of {C = C} {R = R} qs) ≡ qs
+named_splits : (C R : Type 0) (qs : List ℕ) → split_off (splits_of {C = C} {R = R} qs) ≡ qs
 named_splits C R [] = refl
 named_splits C R (q ∷ qs) = ap (λ l. q ∷ l) (named_splits C R qs)
 
@@ -106,7 +106,7 @@ module _ {C R S : Type 0} (first : S) (answer : S → C → R) (next : S → C �
       alive : among 0 (live (splits_of {C = C} {R = R} (round n))) ≡ true
       alive = subst (λ ls. In 0 ls) (sym (live_splits C R (0 ∷ []) (round n))) (in_here 0 (round n))
 
-      fresh : among (suc n) (named (splits_of {C = C} {R = R} (round n))) ≡ false
+      fresh : among (suc n) (split_off (splits_of {C = C} {R = R} (round n))) ≡ false
       fresh = subst (λ ls. among (suc n) ls ≡ false) (sym (named_splits C R (round n)))
           (⊎_elim (λ (h : among (suc n) (round n) ≡ true). let k = in_round n (suc n) h in absurd (omega (arith, k.1))) (λ (h : among (suc n) (round n) ≡ false). h) (cases_Bool (among (suc n) (round n))))
 
@@ -137,7 +137,7 @@ by_tag {A} p q cs = go (eqb p q) refl
 
 -- ---- the broker
 
-pub entries_only : (p : ℕ) (cs : List (BrokerCall Envelope)) → OnlyCalls (entries p cs)
+pub entries_only : (p : ℕ) (cs : List (BrokerCall Envelope)) → OnlyCalls (broker_entries p cs)
 entries_only p [] = tt
 entries_only p (c ∷ cs) = entries_only p cs
 
@@ -153,7 +153,7 @@ pub queue_calls_splits : (qs : List ℕ) → queue_calls {E = Envelope} (splits_
 queue_calls_splits [] = refl
 queue_calls_splits (q ∷ qs) = queue_calls_splits qs
 
-pub queue_calls_entries : (p : ℕ) (cs : List (BrokerCall Envelope)) → Each Stood cs → queue_calls (entries p cs) ≡ tag p cs
+pub queue_calls_entries : (p : ℕ) (cs : List (BrokerCall Envelope)) → Each Stood cs → queue_calls (broker_entries p cs) ≡ tag p cs
 queue_calls_entries p [] s = refl
 queue_calls_entries p (published e ∷ cs) s = ap (λ l. (p, published e) ∷ l) (queue_calls_entries p cs s.1)
 queue_calls_entries p (took None ∷ cs) s = absurd s.0
@@ -161,7 +161,7 @@ queue_calls_entries p (took (Some e) ∷ cs) s = ap (λ l. (p, took (Some e)) �
 
 -- ---- the backend
 
-pub rows_only : (p : ℕ) (cs : List (BackendCall Outcome)) → OnlyCalls (rows p cs)
+pub rows_only : (p : ℕ) (cs : List (BackendCall Outcome)) → OnlyCalls (backend_entries p cs)
 rows_only p [] = tt
 rows_only p (c ∷ cs) = rows_only p cs
 
@@ -179,7 +179,7 @@ pub table_calls_splits : (qs : List ℕ) → table_calls (splits_of qs) ≡ []
 table_calls_splits [] = refl
 table_calls_splits (q ∷ qs) = table_calls_splits qs
 
-pub table_calls_rows : (p : ℕ) (cs : List (BackendCall Outcome)) → table_calls (rows p cs) ≡ tag p cs
+pub table_calls_rows : (p : ℕ) (cs : List (BackendCall Outcome)) → table_calls (backend_entries p cs) ≡ tag p cs
 table_calls_rows p [] = refl
 table_calls_rows p (stored t o true ∷ cs) = ap (λ l. (p, stored t o true) ∷ l) (table_calls_rows p cs)
 table_calls_rows p (stored t o false ∷ cs) = ap (λ l. (p, stored t o false) ∷ l) (table_calls_rows p cs)

@@ -2,6 +2,7 @@
 use Rattle.std.proofs.Common.{◌≡◌, ◌≢◌, ℕ, zero, suc, ◌+◌, ◌*◌, ◌≤◌, ◌<◌, Bool, true, false, cond, eqb, List, [], ◌∷◌, ◌++◌, length, Option, Some, None, refl, sym, ap, ap₂, ◌∙◌, subst, inl, inr, ⊎_elim, eq-eqb, arith, add-mul, mul-add, mul-le-mul_left}
 use Rattle.std.proofs.lemmas.Bool.{cases_eq, eqb-true}
 use Rattle.std.proofs.lemmas.List.{length-append}
+use Rattle.canvas_task.specs.Apply.{Registry}
 use Rattle.canvas_task.specs.declared.outcome.Outcome.{Outcome}
 use Rattle.canvas_semantics.specs.Line.{Line, count_line, members}
 use Rattle.canvas_rewrite.specs.FrozenView.{Load}
@@ -13,7 +14,7 @@ use Rattle.canvas_message.specs.Job.{store, publish, hand_in}
 use Rattle.canvas_message.specs.declared.envelope.Envelope.{Envelope}
 use Rattle.canvas_backend.proofs.HistoryLaws.{member_test}
 use Rattle.canvas_backend.proofs.Rosters.{roster_sound}
-use Rattle.canvas_runs.specs.Accounts.{splits_of, entries, rows}
+use Rattle.canvas_runs.specs.Accounts.{splits_of, broker_entries, backend_entries}
 use Rattle.canvas_runs.specs.Book.{book_of}
 use Rattle.canvas_runs.specs.Calls.{BrokerCall, published, took, BackendCall, stored, returned, has_read, broker_call, backend_call, backend_calls, takes_one, AskedAndAnswered, reads_member, ReadsMembers}
 use Rattle.canvas_runs.specs.Core.{Ask, Reply, keep, part, read, taken, sent, kept, counted, found, rested, taking, resting, owning, doing, reading, ask, answered, Doing, Jobs, is_due, settled, opens, IsCoreRun}
@@ -111,58 +112,58 @@ at_within i [] t e = absurd cc
 at_within zero (x ∷ xs) t e = omega arith
 at_within (suc i) (x ∷ xs) t e = let r = at_within i xs t e in omega (arith, r)
 
-module _ (l : Line) where
+module _ (registry : Registry) (l : Line) where
   -- whether a step is a call
-  abbrev pub in_queue : (BrokerCall Envelope → ℕ) → AskedAndAnswered (worker l) → ℕ
-  in_queue w y = total w (broker_call (worker l) y.0 y.1)
+  abbrev pub in_queue : (BrokerCall Envelope → ℕ) → AskedAndAnswered (worker registry l) → ℕ
+  in_queue w y = total w (broker_call (worker registry l) y.0 y.1)
 
-  abbrev pub in_table : (BackendCall Outcome → ℕ) → AskedAndAnswered (worker l) → ℕ
-  in_table w y = total w (backend_call (worker l) y.0 y.1)
+  abbrev pub in_table : (BackendCall Outcome → ℕ) → AskedAndAnswered (worker registry l) → ℕ
+  in_table w y = total w (backend_call (worker registry l) y.0 y.1)
 
-  abbrev pub calls_of : AskedAndAnswered (worker l) → ℕ
+  abbrev pub calls_of : AskedAndAnswered (worker registry l) → ℕ
   calls_of y = (in_queue publishing y + in_queue takes_one y) + (in_table keeping_one y + in_table returning y + in_table reading_one y)
 
   abbrev pub calls_in : List Step → ℕ
   calls_in xs = total (λ x. calls_of x.1) xs
 
-  lines_total : (w : BrokerCall Envelope → ℕ) (xs : List Step) → total w (seconds (queue_calls (queue_lines l xs))) ≡ total (λ x. in_queue w x.1) xs
+  lines_total : (w : BrokerCall Envelope → ℕ) (xs : List Step) → total w (seconds (queue_calls (queue_lines registry l xs))) ≡ total (λ x. in_queue w x.1) xs
   lines_total w [] = refl
   lines_total w (x ∷ xs) =
-      let call : List (BrokerCall Envelope) = broker_call (worker l) x.1.0 x.1.1 in
-      ap (λ g. total w (seconds g)) (queue_calls_append (entries x.0 call) (queue_lines l xs) ∙ ap (λ g. g ++ queue_calls (queue_lines l xs)) (queue_calls_entries x.0 call (call_stood l x.1.0 x.1.1)))
-      ∙ (ap (total w) (seconds-append (tag x.0 call) (queue_calls (queue_lines l xs)))
-      ∙ (total-append w (seconds (tag x.0 call)) (seconds (queue_calls (queue_lines l xs))) ∙ ap₂ (λ a b. a + b) (total-tag w x.0 call) (lines_total w xs)))
+      let call : List (BrokerCall Envelope) = broker_call (worker registry l) x.1.0 x.1.1 in
+      ap (λ g. total w (seconds g)) (queue_calls_append (broker_entries x.0 call) (queue_lines registry l xs) ∙ ap (λ g. g ++ queue_calls (queue_lines registry l xs)) (queue_calls_entries x.0 call (call_stood registry l x.1.0 x.1.1)))
+      ∙ (ap (total w) (seconds-append (tag x.0 call) (queue_calls (queue_lines registry l xs)))
+      ∙ (total-append w (seconds (tag x.0 call)) (seconds (queue_calls (queue_lines registry l xs))) ∙ ap₂ (λ a b. a + b) (total-tag w x.0 call) (lines_total w xs)))
 
-  rows_total : (w : BackendCall Outcome → ℕ) (xs : List Step) → total w (seconds (table_calls (table_lines l xs))) ≡ total (λ x. in_table w x.1) xs
+  rows_total : (w : BackendCall Outcome → ℕ) (xs : List Step) → total w (seconds (table_calls (table_lines registry l xs))) ≡ total (λ x. in_table w x.1) xs
   rows_total w [] = refl
   rows_total w (x ∷ xs) =
-      let call : List (BackendCall Outcome) = backend_call (worker l) x.1.0 x.1.1 in
-      ap (λ g. total w (seconds g)) (table_calls_append (rows x.0 call) (table_lines l xs) ∙ ap (λ g. g ++ table_calls (table_lines l xs)) (table_calls_rows x.0 call))
-      ∙ (ap (total w) (seconds-append (tag x.0 call) (table_calls (table_lines l xs)))
-      ∙ (total-append w (seconds (tag x.0 call)) (seconds (table_calls (table_lines l xs))) ∙ ap₂ (λ a b. a + b) (total-tag w x.0 call) (rows_total w xs)))
+      let call : List (BackendCall Outcome) = backend_call (worker registry l) x.1.0 x.1.1 in
+      ap (λ g. total w (seconds g)) (table_calls_append (backend_entries x.0 call) (table_lines registry l xs) ∙ ap (λ g. g ++ table_calls (table_lines registry l xs)) (table_calls_rows x.0 call))
+      ∙ (ap (total w) (seconds-append (tag x.0 call) (table_calls (table_lines registry l xs)))
+      ∙ (total-append w (seconds (tag x.0 call)) (seconds (table_calls (table_lines registry l xs))) ∙ ap₂ (λ a b. a + b) (total-tag w x.0 call) (rows_total w xs)))
 
-  queue_total : (w : BrokerCall Envelope → ℕ) (n : ℕ) (xs : List Step) → total (λ x. in_queue w x.1) xs ≤ total w (seconds (queue_calls (queue_log l n xs)))
+  queue_total : (w : BrokerCall Envelope → ℕ) (n : ℕ) (xs : List Step) → total (λ x. in_queue w x.1) xs ≤ total w (seconds (queue_calls (queue_log registry l n xs)))
   queue_total w n xs =
-      let opening = entries 0 (published_all (first_envelopes l)) in
-      let same : total w (seconds (queue_calls (queue_log l n xs))) ≡ total w (published_all (first_envelopes l)) + total (λ x. in_queue w x.1) xs =
-      ap (λ g. total w (seconds g)) (queue_calls_append (splits_of (round n)) (opening ++ queue_lines l xs) ∙ ap (λ g. g ++ queue_calls (opening ++ queue_lines l xs)) (queue_calls_splits (round n)))
-      ∙ (ap (λ g. total w (seconds g)) (queue_calls_append opening (queue_lines l xs) ∙ ap (λ g. g ++ queue_calls (queue_lines l xs)) (queue_calls_entries 0 (published_all (first_envelopes l)) (stood_all (first_envelopes l))))
-      ∙ (ap (total w) (seconds-append (tag 0 (published_all (first_envelopes l))) (queue_calls (queue_lines l xs)))
-      ∙ (total-append w (seconds (tag 0 (published_all (first_envelopes l)))) (seconds (queue_calls (queue_lines l xs))) ∙ ap₂ (λ a b. a + b) (total-tag w 0 (published_all (first_envelopes l))) (lines_total w xs)))) in
+      let opening = broker_entries 0 (published_all (first_envelopes registry l)) in
+      let same : total w (seconds (queue_calls (queue_log registry l n xs))) ≡ total w (published_all (first_envelopes registry l)) + total (λ x. in_queue w x.1) xs =
+      ap (λ g. total w (seconds g)) (queue_calls_append (splits_of (round n)) (opening ++ queue_lines registry l xs) ∙ ap (λ g. g ++ queue_calls (opening ++ queue_lines registry l xs)) (queue_calls_splits (round n)))
+      ∙ (ap (λ g. total w (seconds g)) (queue_calls_append opening (queue_lines registry l xs) ∙ ap (λ g. g ++ queue_calls (queue_lines registry l xs)) (queue_calls_entries 0 (published_all (first_envelopes registry l)) (stood_all (first_envelopes registry l))))
+      ∙ (ap (total w) (seconds-append (tag 0 (published_all (first_envelopes registry l))) (queue_calls (queue_lines registry l xs)))
+      ∙ (total-append w (seconds (tag 0 (published_all (first_envelopes registry l)))) (seconds (queue_calls (queue_lines registry l xs))) ∙ ap₂ (λ a b. a + b) (total-tag w 0 (published_all (first_envelopes registry l))) (lines_total w xs)))) in
       omega (arith, same)
 
-  table_total : (w : BackendCall Outcome → ℕ) (n : ℕ) (xs : List Step) → total w (seconds (table_calls (table_log l n xs))) ≡ total (λ x. in_table w x.1) xs
+  table_total : (w : BackendCall Outcome → ℕ) (n : ℕ) (xs : List Step) → total w (seconds (table_calls (table_log registry l n xs))) ≡ total (λ x. in_table w x.1) xs
   table_total w n xs =
-      ap (λ g. total w (seconds g)) (table_calls_append (splits_of (round n)) (table_lines l xs) ∙ ap (λ g. g ++ table_calls (table_lines l xs)) (table_calls_splits (round n)))
+      ap (λ g. total w (seconds g)) (table_calls_append (splits_of (round n)) (table_lines registry l xs) ∙ ap (λ g. g ++ table_calls (table_lines registry l xs)) (table_calls_splits (round n)))
       ∙ rows_total w xs
 
   parts_sum : (xs : List Step) → calls_in xs ≡ (total (λ x. in_queue publishing x.1) xs + total (λ x. in_queue takes_one x.1) xs) + (total (λ x. in_table keeping_one x.1) xs + total (λ x. in_table returning x.1) xs + total (λ x. in_table reading_one x.1) xs)
   parts_sum [] = refl
   parts_sum (x ∷ xs) = let r = parts_sum xs in omega (arith, r)
 
-module _ (l : Line) (n : ℕ) (us : List ℕ) (xs : List Step) (t : ByTurns l n us xs) where
-  abbrev R : Run l
-  R = the_run l n us xs t
+module _ (registry : Registry) (l : Line) (n : ℕ) (us : List ℕ) (xs : List Step) (t : ByTurns registry l n us xs) where
+  abbrev R : Run registry l
+  R = the_run registry l n us xs t
 
   abbrev Q : List (BrokerCall Envelope)
   Q = seconds (queue_calls R.queue)
@@ -173,38 +174,38 @@ module _ (l : Line) (n : ℕ) (us : List ℕ) (xs : List Step) (t : ByTurns l n 
   abbrev T : ℕ
   T = count_line l
 
-  abbrev F : Form (X l t.plan)
-  F = form l t.plan
+  abbrev F : Form (X registry l t.plan)
+  F = form registry l t.plan
 
-  abbrev G : Goods (worker l)
-  G = right_goods (X l t.plan) (form l t.plan) (Does l t.plan)
+  abbrev G : Goods (worker registry l)
+  G = right_goods (X registry l t.plan) (form registry l t.plan) (Does registry l t.plan)
 
   -- ---- publishes
 
-  run_task : (c : Content) → F.Formed c → IsRun (X l t.plan) (Does l t.plan) c → number_of c.own ≤ T
-  run_task c f r = (state_task l t.plan (number_of c.own) ((worker l).outcome c) (has_state l t.plan (number_of c.own) ((worker l).outcome c) (running (number_of c.own), (value l t.plan).own c r))).1
+  run_task : (c : Content) → F.Formed c → IsRun (X registry l t.plan) (Does registry l t.plan) c → number_of c.own ≤ T
+  run_task c f r = (state_task registry l t.plan (number_of c.own) ((worker registry l).outcome c) (has_state registry l t.plan (number_of c.own) ((worker registry l).outcome c) (running (number_of c.own), (value registry l t.plan).own c r))).1
 
-  publish_picked : (c : BrokerCall Envelope) → GoodPublish (IsRunSealed (X l t.plan) (form l t.plan) (Does l t.plan) (order l t.plan) (value l t.plan) (inner_run l t.plan R)) c → publishing c ≤ sum_to T (λ k. publishes_one l k c)
+  publish_picked : (c : BrokerCall Envelope) → GoodPublish (IsRunSealed (X registry l t.plan) (form registry l t.plan) (Does registry l t.plan) (order registry l t.plan) (value registry l t.plan) (inner_run registry l t.plan R)) c → publishing c ≤ sum_to T (λ k. publishes_one l k c)
   publish_picked (took x) g = omega arith
   publish_picked (published e) (m, same, back, formed, runs) =
-      let opens : opened (book_of l) e ≡ Some m = ap (opened (book_of l)) same ∙ (order l t.plan).opened m formed back in
+      let opens : opened (book_of l) e ≡ Some m = ap (opened (book_of l)) same ∙ (order registry l t.plan).opened m formed back in
       subst (λ o. 1 ≤ sum_to T (λ k. of_task l k o)) (sym opens) (picked T (number_of m.own) (run_task m formed runs))
 
   publishes_few : total publishing Q ≤ suc T
   publishes_few =
       spread publishing (publishes_one l) T Q
-      (each_weaker publish_picked Q (each_seconds (GoodPublish (IsRunSealed (X l t.plan) (form l t.plan) (Does l t.plan) (order l t.plan) (value l t.plan) (inner_run l t.plan R))) (queue_calls R.queue)
-      (publishes_right (X l t.plan) (form l t.plan) (Does l t.plan) (order l t.plan) (value l t.plan) (inner_run l t.plan R))))
-      (λ k. (first_part l t.plan R).published_once k)
+      (each_weaker publish_picked Q (each_seconds (GoodPublish (IsRunSealed (X registry l t.plan) (form registry l t.plan) (Does registry l t.plan) (order registry l t.plan) (value registry l t.plan) (inner_run registry l t.plan R))) (queue_calls R.queue)
+      (publishes_right (X registry l t.plan) (form registry l t.plan) (Does registry l t.plan) (order registry l t.plan) (value registry l t.plan) (inner_run registry l t.plan R))))
+      (λ k. (first_part registry l t.plan R).published_once k)
 
   -- ---- stores
 
   stores_few : total keeping_one B ≤ suc T
-  stores_few = spread keeping_one (stores_task (X l t.plan)) T B (each_from_in B stored_picked)
-      (λ k. kept_once (X l t.plan) (form l t.plan) (Does l t.plan) (order l t.plan) (value l t.plan) (once l t.plan) (keeping l t.plan) (inner_run l t.plan R) k)
+  stores_few = spread keeping_one (stores_task (X registry l t.plan)) T B (each_from_in B stored_picked)
+      (λ k. kept_once (X registry l t.plan) (form registry l t.plan) (Does registry l t.plan) (order registry l t.plan) (value registry l t.plan) (once registry l t.plan) (keeping registry l t.plan) (inner_run registry l t.plan R) k)
     where
-      stored_picked : (c : BackendCall Outcome) → In c B → keeping_one c ≤ sum_to T (λ k. stores_task (X l t.plan) k c)
-      stored_picked (stored u o b) i = picked T u (state_task l t.plan u o (has_state l t.plan u o (stored_right l t.plan R u o b i))).1
+      stored_picked : (c : BackendCall Outcome) → In c B → keeping_one c ≤ sum_to T (λ k. stores_task (X registry l t.plan) k c)
+      stored_picked (stored u o b) i = picked T u (state_task registry l t.plan u o (has_state registry l t.plan u o (stored_right registry l t.plan R u o b i))).1
       stored_picked (returned g u m) i = omega arith
       stored_picked (has_read u x) i = omega arith
 
@@ -215,27 +216,27 @@ module _ (l : Line) (n : ℕ) (us : List ℕ) (xs : List Step) (t : ByTurns l n 
   OfMember (returned g u m) = In u (members l g)
   OfMember (has_read u x) = Unit {0}
 
-  member_step : (a : Ask Envelope Outcome) (r : Reply Envelope Outcome) → GoodAsk (worker l) G a → Each OfMember (backend_call (worker l) a r)
+  member_step : (a : Ask Envelope Outcome) (r : Reply Envelope Outcome) → GoodAsk (worker registry l) G a → Each OfMember (backend_call (worker registry l) a r)
   member_step (keep u o) (kept b) g = (tt, tt)
-  member_step (part h u) (counted m) g = ((order l t.plan).member h u g.0 g.1.0, tt)
+  member_step (part h u) (counted m) g = ((order registry l t.plan).member h u g.0 g.1.0, tt)
   member_step (read h i) (found u x) g = (tt, tt)
   member_step a r g = tt
 
-  member_steps : (ys : List (AskedAndAnswered (worker l))) → Each (λ y. GoodAsk (worker l) G y.0) ys → Each OfMember (backend_calls (worker l) ys)
+  member_steps : (ys : List (AskedAndAnswered (worker registry l))) → Each (λ y. GoodAsk (worker registry l) G y.0) ys → Each OfMember (backend_calls (worker registry l) ys)
   member_steps [] g = tt
   member_steps (y ∷ ys) g = each_append OfMember _ _ (member_step y.0 y.1 g.0) (member_steps ys g.1)
 
-  its_answers : (p : ℕ) → Each (λ (y : AskedAndAnswered (worker l)). GoodAnswer (worker l) G y.1) (by p xs)
-  its_answers p = answers_right (X l t.plan) (form l t.plan) (Does l t.plan) (order l t.plan) (value l t.plan) (inner_run l t.plan R) p
+  its_answers : (p : ℕ) → Each (λ (y : AskedAndAnswered (worker registry l)). GoodAnswer (worker registry l) G y.1) (by p xs)
+  its_answers p = answers_right (X registry l t.plan) (form registry l t.plan) (Does registry l t.plan) (order registry l t.plan) (value registry l t.plan) (inner_run registry l t.plan R) p
 
-  abbrev its_closed : Closed (worker l) G
-  its_closed = right_closed (X l t.plan) (form l t.plan) (Does l t.plan) (order l t.plan) (value l t.plan)
+  abbrev its_closed : Closed (worker registry l) G
+  its_closed = right_closed (X registry l t.plan) (form registry l t.plan) (Does registry l t.plan) (order registry l t.plan) (value registry l t.plan)
 
-  its_asks : (p : ℕ) → Each (λ (y : AskedAndAnswered (worker l)). GoodAsk (worker l) G y.0) (by p xs)
-  its_asks p = goods_from_careful (worker l) G (by p xs) (keeps (worker l) G its_closed taking (by p xs) tt (R.is_core p) (R.reads p)) (its_answers p)
+  its_asks : (p : ℕ) → Each (λ (y : AskedAndAnswered (worker registry l)). GoodAsk (worker registry l) G y.0) (by p xs)
+  its_asks p = goods_from_careful (worker registry l) G (by p xs) (keeps (worker registry l) G its_closed taking (by p xs) tt (R.is_core p) (R.reads p)) (its_answers p)
 
   all_members : Each OfMember B
-  all_members = each_from_by OfMember (table_calls R.table) (λ p. subst (Each OfMember) (sym (table_by l n xs p)) (member_steps (by p xs) (its_asks p)))
+  all_members = each_from_by OfMember (table_calls R.table) (λ p. subst (Each OfMember) (sym (table_by registry l n xs p)) (member_steps (by p xs) (its_asks p)))
 
   some_times : (g u : ℕ) → In u (members l g) → 0 < times l u g
   some_times g u i = let some = (member_test u (members l g)).0 (among_members u (members l g) i) in omega (arith, some)
@@ -267,7 +268,7 @@ module _ (l : Line) (n : ℕ) (us : List ℕ) (xs : List Step) (t : ByTurns l n 
       heavy (returned g u m) i d =
           let here : In k (members l g) = subst (λ v. In v (members l g)) (named u (eqb u k) refl d) (in_each OfMember B all_members (returned g u m) i) in
           let a = total-le-each (part_by k) (part_of g k) B (each_weaker (few g here) B all_members) in
-          let b = (part_once g k [] [] B (inner_run l t.plan R).table).0 in
+          let b = (part_once g k [] [] B (inner_run registry l t.plan R).table).0 in
           omega (arith, a, b)
       heavy (has_read u x) i d = absurd (d refl)
 
@@ -281,19 +282,19 @@ module _ (l : Line) (n : ℕ) (us : List ℕ) (xs : List Step) (t : ByTurns l n 
 
   -- ---- reads: those of the header that is read are still to come
 
-  abbrev Still : Doing (worker l) → ℕ → Type 0
+  abbrev Still : Doing (worker registry l) → ℕ → Type 0
   Still (reading g c fs) k = length fs + k ≡ c.size
   Still s k = k ≡ 0
 
   abbrev Y : Type 0
-  Y = AskedAndAnswered (worker l)
+  Y = AskedAndAnswered (worker registry l)
 
   -- what a step reads, and what is still to be read behind it, is covered by what was to be read and by the parts that it returns
-  abbrev Covers : Doing (worker l) → Reply Envelope Outcome → Type 0
+  abbrev Covers : Doing (worker registry l) → Reply Envelope Outcome → Type 0
   Covers s r =
-      (k : ℕ) → Still s k → (j : ℕ) × Still (answered (worker l) s r) j × (in_table l reading_one (ask (worker l) s, r) + j ≤ k + T * in_table l returning (ask (worker l) s, r))
+      (k : ℕ) → Still s k → (j : ℕ) × Still (answered (worker registry l) s r) j × (in_table registry l reading_one (ask (worker registry l) s, r) + j ≤ k + T * in_table registry l returning (ask (worker registry l) s, r))
 
-  settled_still : (js : Jobs (worker l)) (b : Bool) → Still (settled (worker l) js b) 0
+  settled_still : (js : Jobs (worker registry l)) (b : Bool) → Still (settled (worker registry l) js b) 0
   settled_still [] b = refl
   settled_still (store u o ∷ js) true = refl
   settled_still (store u o ∷ js) false = refl
@@ -302,7 +303,7 @@ module _ (l : Line) (n : ℕ) (us : List ℕ) (xs : List Step) (t : ByTurns l n 
   settled_still (hand_in g u c ∷ js) true = refl
   settled_still (hand_in g u c ∷ js) false = refl
 
-  opens_still : (x : Option Content) → Still (opens (worker l) x) 0
+  opens_still : (x : Option Content) → Still (opens (worker registry l) x) 0
   opens_still None = refl
   opens_still (Some m) = refl
 
@@ -310,13 +311,13 @@ module _ (l : Line) (n : ℕ) (us : List ℕ) (xs : List Step) (t : ByTurns l n 
   few_members g = (roster_sound l t.plan).few_members g
 
   header_few : (g u : ℕ) (c : Load) → F.FormedPart g u c → c.size ≤ T
-  header_few g u c f = let a = (order l t.plan).size g u c f in let b = few_members g in omega (arith, a, b)
+  header_few g u c f = let a = (order registry l t.plan).size g u c f in let b = few_members g in omega (arith, a, b)
 
-  covers : (s : Doing (worker l)) (r : Reply Envelope Outcome) → GoodState (worker l) G s → reads_member (worker l) (ask (worker l) s) r → Covers s r
+  covers : (s : Doing (worker registry l)) (r : Reply Envelope Outcome) → GoodState (worker registry l) G s → reads_member (worker registry l) (ask (worker registry l) s) r → Covers s r
   covers taking (taken None) p m k e = (0, refl, omega arith)
-  covers taking (taken (Some e)) p m k h = (0, opens_still ((worker l).opened e), omega arith)
+  covers taking (taken (Some e)) p m k h = (0, opens_still ((worker registry l).opened e), omega arith)
   covers resting (rested true) p m k e = (0, refl, omega arith)
-  covers (owning c) (kept true) p m k e = (0, settled_still ((worker l).ended c ((worker l).outcome c)) true, omega arith)
+  covers (owning c) (kept true) p m k e = (0, settled_still ((worker registry l).ended c ((worker registry l).outcome c)) true, omega arith)
   covers (owning c) (kept false) p m k e = (0, refl, omega arith)
   covers (doing (store u o ∷ js) b) (kept a) p m k e = (0, settled_still js (cond (is_due u js) a b), omega arith)
   covers (doing (publish c ∷ js) b) sent p m k e = (0, settled_still js b, omega arith)
@@ -326,52 +327,52 @@ module _ (l : Line) (n : ℕ) (us : List ℕ) (xs : List Step) (t : ByTurns l n 
       (λ full. (c.size, omega arith, omega (arith, few)))
       (λ less. (0, refl, omega arith))
   covers (reading g c fs) (found u (Some o)) p m k e =
-      let many = (order l t.plan).size g p.0 c p.1.0 in
+      let many = (order registry l t.plan).size g p.0 c p.1.0 in
       let within = at_within (length fs) (members l g) u m in
       let more : length (fs ++ (u, o) ∷ []) ≡ length fs + 1 = length-append fs ((u, o) ∷ []) in
-      cond_cases (λ s. (j : ℕ) × Still s j × ((1 + 0) + j ≤ k + T * 0)) (eqb (length (fs ++ (u, o) ∷ [])) c.size) (settled (worker l) ((worker l).completed c (fs ++ (u, o) ∷ [])) false) (reading g c (fs ++ (u, o) ∷ []))
-      (λ full. (0, settled_still ((worker l).completed c (fs ++ (u, o) ∷ [])) false, omega (arith, many, within, e)))
+      cond_cases (λ s. (j : ℕ) × Still s j × ((1 + 0) + j ≤ k + T * 0)) (eqb (length (fs ++ (u, o) ∷ [])) c.size) (settled (worker registry l) ((worker registry l).completed c (fs ++ (u, o) ∷ [])) false) (reading g c (fs ++ (u, o) ∷ []))
+      (λ full. (0, settled_still ((worker registry l).completed c (fs ++ (u, o) ∷ [])) false, omega (arith, many, within, e)))
       (λ less. one_less k (length fs) c.size (length (fs ++ (u, o) ∷ [])) e more (omega (arith, many, within)))
     where
       one_less : (k a size b : ℕ) → a + k ≡ size → b ≡ a + 1 → a < size → (j : ℕ) × (b + j ≡ size) × ((1 + 0) + j ≤ k + T * 0)
       one_less zero a size b e f h = absurd (omega (arith, e, h))
       one_less (suc k) a size b e f h = (k, omega (arith, e, f), omega arith)
   covers (reading g c fs) (found u None) p m k e =
-      let many = (order l t.plan).size g p.0 c p.1.0 in
+      let many = (order registry l t.plan).size g p.0 c p.1.0 in
       let within = at_within (length fs) (members l g) u m in
       (0, refl, omega (arith, many, within, e))
   covers s r p m k e = (0, refl, omega arith)
 
-  reads_of : (s : Doing (worker l)) (ys : List Y) → GoodState (worker l) G s → IsCoreRun (worker l) s ys → ReadsMembers (worker l) ys → Each (λ (y : Y). GoodAnswer (worker l) G y.1) ys → (k : ℕ) → Still s k
-      → total (in_table l reading_one) ys ≤ k + T * total (in_table l returning) ys
+  reads_of : (s : Doing (worker registry l)) (ys : List Y) → GoodState (worker registry l) G s → IsCoreRun (worker registry l) s ys → ReadsMembers (worker registry l) ys → Each (λ (y : Y). GoodAnswer (worker registry l) G y.1) ys → (k : ℕ) → Still s k
+      → total (in_table registry l reading_one) ys ≤ k + T * total (in_table registry l returning) ys
   reads_of s [] p c m a k e = omega arith
   reads_of s (y ∷ ys) p c m a k e =
-      let mine = subst (λ z. reads_member (worker l) z y.1) c.0 m.0 in
+      let mine = subst (λ z. reads_member (worker registry l) z y.1) c.0 m.0 in
       let step = covers s y.1 p mine k e in
-      let rest = reads_of (answered (worker l) s y.1) ys (next_good (worker l) G its_closed s y.1 p mine a.0) c.2 m.1 a.1 step.0 step.1 in
-      let step' : in_table l reading_one y + step.0 ≤ k + T * in_table l returning y = subst (λ z. in_table l reading_one (z, y.1) + step.0 ≤ k + T * in_table l returning (z, y.1)) (sym c.0) step.2 in
-      omega (arith, rest, step', mul-add T (in_table l returning y) (total (in_table l returning) ys))
+      let rest = reads_of (answered (worker registry l) s y.1) ys (next_good (worker registry l) G its_closed s y.1 p mine a.0) c.2 m.1 a.1 step.0 step.1 in
+      let step' : in_table registry l reading_one y + step.0 ≤ k + T * in_table registry l returning y = subst (λ z. in_table registry l reading_one (z, y.1) + step.0 ≤ k + T * in_table registry l returning (z, y.1)) (sym c.0) step.2 in
+      omega (arith, rest, step', mul-add T (in_table registry l returning y) (total (in_table registry l returning) ys))
 
-  reads_few : total (λ x. in_table l reading_one x.1) xs ≤ T * total (λ x. in_table l returning x.1) xs
+  reads_few : total (λ x. in_table registry l reading_one x.1) xs ≤ T * total (λ x. in_table registry l returning x.1) xs
   reads_few =
-      let below : Each (λ (x : Step). x.0 ≤ n) xs = each_weaker (λ x w. w.1) xs (holds l n us xs t).workers in
-      let a = total-seconds (in_table l reading_one) xs ∙ total_by (in_table l reading_one) n xs below in
-      let b = total-seconds (in_table l returning) xs ∙ total_by (in_table l returning) n xs below in
-      let c = sum_to-le n (λ p. total (in_table l reading_one) (by p xs)) (λ p. T * total (in_table l returning) (by p xs)) (λ p. let h = reads_of taking (by p xs) tt (R.is_core p) (R.reads p) (its_answers p) 0 refl in omega (arith, h)) in
-      let d = sum_to-times n T (λ p. total (in_table l returning) (by p xs)) in
-      let e : T * total (λ x. in_table l returning x.1) xs ≡ T * sum_to n (λ p. total (in_table l returning) (by p xs)) = ap (λ k. T * k) b in
+      let below : Each (λ (x : Step). x.0 ≤ n) xs = each_weaker (λ x w. w.1) xs (holds registry l n us xs t).workers in
+      let a = total-seconds (in_table registry l reading_one) xs ∙ total_by (in_table registry l reading_one) n xs below in
+      let b = total-seconds (in_table registry l returning) xs ∙ total_by (in_table registry l returning) n xs below in
+      let c = sum_to-le n (λ p. total (in_table registry l reading_one) (by p xs)) (λ p. T * total (in_table registry l returning) (by p xs)) (λ p. let h = reads_of taking (by p xs) tt (R.is_core p) (R.reads p) (its_answers p) 0 refl in omega (arith, h)) in
+      let d = sum_to-times n T (λ p. total (in_table registry l returning) (by p xs)) in
+      let e : T * total (λ x. in_table registry l returning x.1) xs ≡ T * sum_to n (λ p. total (in_table registry l returning) (by p xs)) = ap (λ k. T * k) b in
       omega (arith, a, c, d, e)
 
   -- ---- all of them
 
-  pub few_calls : calls_in l xs ≤ most_calls l
+  pub few_calls : calls_in registry l xs ≤ most_calls l
   few_calls =
-      let sum = parts_sum l xs in
-      let sends = queue_total l publishing n xs in
-      let taken_some = queue_total l takes_one n xs in
-      let fewer = takes_few [] Q (inner_run l t.plan R).queue in
-      let kept_all = table_total l keeping_one n xs in
-      let parts = table_total l returning n xs in
-      let bounded : T * total (λ x. in_table l returning x.1) xs ≤ T * suc T = mul-le-mul_left T (omega (arith, parts, parts_few)) in
+      let sum = parts_sum registry l xs in
+      let sends = queue_total registry l publishing n xs in
+      let taken_some = queue_total registry l takes_one n xs in
+      let fewer = takes_few [] Q (inner_run registry l t.plan R).queue in
+      let kept_all = table_total registry l keeping_one n xs in
+      let parts = table_total registry l returning n xs in
+      let bounded : T * total (λ x. in_table registry l returning x.1) xs ≤ T * suc T = mul-le-mul_left T (omega (arith, parts, parts_few)) in
       let whole : (T + 4) * suc T ≡ T * suc T + 4 * suc T = add-mul T 4 (suc T) in
       omega (arith, sum, sends, taken_some, fewer, kept_all, parts, publishes_few, stores_few, parts_few, reads_few, bounded, whole)

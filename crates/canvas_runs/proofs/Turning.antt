@@ -1,5 +1,6 @@
 -- Turns, one after the other: what one more step changes, and turns put together and taken apart.
 use Rattle.std.proofs.Common.{◌≡◌, ◌≢◌, ℕ, ◌≤◌, Bool, true, false, cond, eqb, List, [], ◌∷◌, ◌++◌, length, refl, sym, ap, ◌∙◌, subst, append_assoc, append-nil, eq-eqb, ne_eqb, arith}
+use Rattle.canvas_task.specs.Apply.{Registry}
 use Rattle.canvas_task.specs.declared.outcome.Outcome.{Outcome}
 use Rattle.canvas_semantics.specs.Line.{Line}
 use Rattle.canvas_message.specs.declared.envelope.Envelope.{Envelope}
@@ -8,7 +9,7 @@ use Rattle.canvas_runs.specs.Core.{Ask, Reply, take, send, keep, part, read, pau
 use Rattle.canvas_runs.specs.Calls.{AskedAndAnswered, reads_member}
 use Rattle.canvas_runs.specs.Lists.{by}
 use Rattle.canvas_runs.specs.Protocol.{Protocol}
-use Rattle.canvas_runs.specs.Turns.{Step, queue_next, results_next, queue_from, results_from, left, Answers, HasEnded, Turned, all_taken, skips, takes}
+use Rattle.canvas_runs.specs.Turns.{Step, queue_next, results_next, queue_from, results_from, left, Answers, HasEnded, Turned, all_taken, skips_turn, takes_turn}
 use Rattle.canvas_runs.specs.Worker.{worker}
 
 -- ---- one more entry of a key, or of another
@@ -50,15 +51,15 @@ pub results_more : (s : Results) (xs : List Step) (x : Step) → results_from s 
 results_more s [] x = refl
 results_more s (y ∷ xs) x = results_more (results_next s y.1.0) xs x
 
-module _ (l : Line) where
-  pub left_here : (xs : List Step) (p : ℕ) (a : Ask Envelope Outcome) (r : Reply Envelope Outcome) → left l (xs ++ (p, (a, r)) ∷ []) p ≡ answered (worker l) (left l xs p) r
-  left_here xs p a r = ap (left_after (worker l) taking) (by_more p xs (a, r)) ∙ left_more (worker l) taking (by p xs) (a, r)
+module _ (registry : Registry) (l : Line) where
+  pub left_here : (xs : List Step) (p : ℕ) (a : Ask Envelope Outcome) (r : Reply Envelope Outcome) → left registry l (xs ++ (p, (a, r)) ∷ []) p ≡ answered (worker registry l) (left registry l xs p) r
+  left_here xs p a r = ap (left_after (worker registry l) taking) (by_more p xs (a, r)) ∙ left_more (worker registry l) taking (by p xs) (a, r)
 
-  pub left_other : (xs : List Step) (p q : ℕ) (a : Ask Envelope Outcome) (r : Reply Envelope Outcome) → q ≢ p → left l (xs ++ (q, (a, r)) ∷ []) p ≡ left l xs p
-  left_other xs p q a r apart = ap (left_after (worker l) taking) (by_other p q xs (a, r) apart)
+  pub left_other : (xs : List Step) (p q : ℕ) (a : Ask Envelope Outcome) (r : Reply Envelope Outcome) → q ≢ p → left registry l (xs ++ (q, (a, r)) ∷ []) p ≡ left registry l xs p
+  left_other xs p q a r apart = ap (left_after (worker registry l) taking) (by_other p q xs (a, r) apart)
 
   -- the answer is one to the ask, and a read's is of the member that it names
-  pub answers_suit : (n : ℕ) (xs : List Step) (a : Ask Envelope Outcome) (r : Reply Envelope Outcome) → Answers l n xs a r → Suits (worker l) a r × reads_member (worker l) a r
+  pub answers_suit : (n : ℕ) (xs : List Step) (a : Ask Envelope Outcome) (r : Reply Envelope Outcome) → Answers registry l n xs a r → Suits (worker registry l) a r × reads_member (worker registry l) a r
   answers_suit n xs take (taken x) h = (tt, tt)
   answers_suit n xs (send e) sent h = (tt, tt)
   answers_suit n xs (keep t o) (kept b) h = (tt, tt)
@@ -69,39 +70,39 @@ module _ (l : Line) where
 
   -- ---- turns put together
 
-  pub turned_append : (n : ℕ) (before : List Step) (us vs : List ℕ) (xs ys : List Step) → Turned l n before us xs → Turned l n (before ++ xs) vs ys → Turned l n before (us ++ vs) (xs ++ ys)
-  turned_append n before [] vs [] ys all_taken u = subst (λ b. Turned l n b vs ys) (append-nil before) u
+  pub turned_append : (n : ℕ) (before : List Step) (us vs : List ℕ) (xs ys : List Step) → Turned registry l n before us xs → Turned registry l n (before ++ xs) vs ys → Turned registry l n before (us ++ vs) (xs ++ ys)
+  turned_append n before [] vs [] ys all_taken u = subst (λ b. Turned registry l n b vs ys) (append-nil before) u
   turned_append n before [] vs (x ∷ xs) ys t u = elim t [ ]
-  turned_append n before (p ∷ us) vs xs ys (skips e t) u = skips e (turned_append n before us vs xs ys t u)
-  turned_append n before (p ∷ us) vs ((q, (a, r)) ∷ xs) ys (takes b e h t) u =
-      takes b e h (turned_append n (before ++ (q, (a, r)) ∷ []) us vs xs ys t (subst (λ z. Turned l n z vs ys) (sym (append_assoc before ((q, (a, r)) ∷ []) xs)) u))
+  turned_append n before (p ∷ us) vs xs ys (skips_turn e t) u = skips_turn e (turned_append n before us vs xs ys t u)
+  turned_append n before (p ∷ us) vs ((q, (a, r)) ∷ xs) ys (takes_turn b e h t) u =
+      takes_turn b e h (turned_append n (before ++ (q, (a, r)) ∷ []) us vs xs ys t (subst (λ z. Turned registry l n z vs ys) (sym (append_assoc before ((q, (a, r)) ∷ []) xs)) u))
 
   -- one more turn, of a worker that has ended
-  pub turned_skip : (n : ℕ) (us : List ℕ) (xs : List Step) (p : ℕ) → Turned l n [] us xs → HasEnded l xs p → Turned l n [] (us ++ p ∷ []) xs
-  turned_skip n us xs p t e = subst (Turned l n [] (us ++ p ∷ [])) (append-nil xs) (turned_append n [] us (p ∷ []) xs [] t (skips e all_taken))
+  pub turned_skip : (n : ℕ) (us : List ℕ) (xs : List Step) (p : ℕ) → Turned registry l n [] us xs → HasEnded registry l xs p → Turned registry l n [] (us ++ p ∷ []) xs
+  turned_skip n us xs p t e = subst (Turned registry l n [] (us ++ p ∷ [])) (append-nil xs) (turned_append n [] us (p ∷ []) xs [] t (skips_turn e all_taken))
 
   -- one more turn with its step
-  pub turned_step : (n : ℕ) (us : List ℕ) (xs : List Step) (p : ℕ) (a : Ask Envelope Outcome) (r : Reply Envelope Outcome) → Turned l n [] us xs → ReadsBack (worker l) (left l xs p) → a ≡ ask (worker l) (left l xs p) → Answers l n xs a r
-      → Turned l n [] (us ++ p ∷ []) (xs ++ (p, (a, r)) ∷ [])
-  turned_step n us xs p a r t b e h = turned_append n [] us (p ∷ []) xs ((p, (a, r)) ∷ []) t (takes b e h all_taken)
+  pub turned_step : (n : ℕ) (us : List ℕ) (xs : List Step) (p : ℕ) (a : Ask Envelope Outcome) (r : Reply Envelope Outcome) → Turned registry l n [] us xs → ReadsBack (worker registry l) (left registry l xs p) → a ≡ ask (worker registry l) (left registry l xs p) → Answers registry l n xs a r
+      → Turned registry l n [] (us ++ p ∷ []) (xs ++ (p, (a, r)) ∷ [])
+  turned_step n us xs p a r t b e h = turned_append n [] us (p ∷ []) xs ((p, (a, r)) ∷ []) t (takes_turn b e h all_taken)
 
   -- ---- and taken apart
 
   abbrev pub Parted : ℕ → List Step → List ℕ → List ℕ → List Step → Type 0
-  Parted n before us vs zs = (xs : List Step) × (ys : List Step) × (zs ≡ xs ++ ys) × Turned l n before us xs × Turned l n (before ++ xs) vs ys
+  Parted n before us vs zs = (xs : List Step) × (ys : List Step) × (zs ≡ xs ++ ys) × Turned registry l n before us xs × Turned registry l n (before ++ xs) vs ys
 
-  pub turned_part : (n : ℕ) (before : List Step) (us vs : List ℕ) (zs : List Step) → Turned l n before (us ++ vs) zs → Parted n before us vs zs
-  turned_part n before [] vs zs t = ([], zs, refl, all_taken, subst (λ b. Turned l n b vs zs) (sym (append-nil before)) t)
-  turned_part n before (p ∷ us) vs zs (skips e t) =
-      let r = turned_part n before us vs zs t in (r.0, r.1, r.2, skips e r.3, r.4)
-  turned_part n before (p ∷ us) vs ((q, (a, r)) ∷ zs) (takes b e h t) =
+  pub turned_part : (n : ℕ) (before : List Step) (us vs : List ℕ) (zs : List Step) → Turned registry l n before (us ++ vs) zs → Parted n before us vs zs
+  turned_part n before [] vs zs t = ([], zs, refl, all_taken, subst (λ b. Turned registry l n b vs zs) (sym (append-nil before)) t)
+  turned_part n before (p ∷ us) vs zs (skips_turn e t) =
+      let r = turned_part n before us vs zs t in (r.0, r.1, r.2, skips_turn e r.3, r.4)
+  turned_part n before (p ∷ us) vs ((q, (a, r)) ∷ zs) (takes_turn b e h t) =
       let x : Step = (q, (a, r)) in
       let s = turned_part n (before ++ x ∷ []) us vs zs t in
-      (x ∷ s.0, s.1, ap (λ z. x ∷ z) s.2, takes b e h s.3, subst (λ z. Turned l n z vs s.1) (append_assoc before (x ∷ []) s.0) s.4)
+      (x ∷ s.0, s.1, ap (λ z. x ∷ z) s.2, takes_turn b e h s.3, subst (λ z. Turned registry l n z vs s.1) (append_assoc before (x ∷ []) s.0) s.4)
 
   -- no more steps than turns
-  pub few_steps : (n : ℕ) (before : List Step) (us : List ℕ) (xs : List Step) → Turned l n before us xs → length xs ≤ length us
+  pub few_steps : (n : ℕ) (before : List Step) (us : List ℕ) (xs : List Step) → Turned registry l n before us xs → length xs ≤ length us
   few_steps n before [] [] all_taken = omega arith
   few_steps n before [] (x ∷ xs) t = elim t [ ]
-  few_steps n before (p ∷ us) xs (skips e t) = let h = few_steps n before us xs t in omega (arith, h)
-  few_steps n before (p ∷ us) ((q, (a, r)) ∷ xs) (takes b e h t) = let k = few_steps n (before ++ (q, (a, r)) ∷ []) us xs t in omega (arith, k)
+  few_steps n before (p ∷ us) xs (skips_turn e t) = let h = few_steps n before us xs t in omega (arith, h)
+  few_steps n before (p ∷ us) ((q, (a, r)) ∷ xs) (takes_turn b e h t) = let k = few_steps n (before ++ (q, (a, r)) ∷ []) us xs t in omega (arith, k)

@@ -1,6 +1,7 @@
 -- A run that ended well: an empty group's plan, by one worker.
 use Rattle.std.proofs.Common.{false, [], ◌∷◌, None, refl, inl}
 use Rattle.std.specs.Global.{Global}
+use Rattle.canvas_task.specs.Apply.{Registry}
 use Rattle.crossbeam_queue.specs.SegTies.{SegId}
 use Rattle.atomic_table.specs.Seated.{TableId}
 use Rattle.canvas_history.specs.History.{split, join}
@@ -12,7 +13,7 @@ use Rattle.canvas_runs.specs.Calls.{follows_all}
 use Rattle.canvas_runs.specs.Rows.{empty_group}
 use Rattle.canvas_runs.specs.Tally.{none_yet}
 
-module _ (b : SegId Global) (d : TableId) where
+module _ (registry : Registry) (b : SegId Global) (d : TableId) where
   abbrev P : Roster
   P = roster_of empty_group
 
@@ -25,7 +26,7 @@ module _ (b : SegId Global) (d : TableId) where
   abbrev one_left : Working
   one_left = record { pass = pass_one; seat = seat_one; left = over; held = []; tally = none_yet }
 
-  one : Mate P
+  one : Mate registry P
   one = record {
     pass = pass_one;
     seat = seat_one;
@@ -60,7 +61,7 @@ module _ (b : SegId Global) (d : TableId) where
   abbrev own : Working
   own = record { pass = joined; seat = seat_joined; left = resting; held = []; tally = none_yet }
 
-  abbrev ran : Ran empty_group joined seat_joined
+  abbrev ran : Ran registry empty_group joined seat_joined
   unfolding one
   ran = record {
     mates = one ∷ [];
@@ -100,6 +101,6 @@ module _ (b : SegId Global) (d : TableId) where
     ends = refl;
   }
 
-  pub stands : (pass : Pass) × (seat : Seat) × (r : Ran empty_group pass seat) × EndedWell empty_group pass seat r
+  pub stands : (pass : Pass) × (seat : Seat) × (r : Ran registry empty_group pass seat) × EndedWell registry empty_group pass seat r
   unfolding ran
   stands = (joined, seat_joined, ran, record { all_sent = refl; empty = λ _. refl; own = (tt, refl); each = ((tt, refl), tt) })

@@ -1,5 +1,6 @@
 -- What follows from what each caller of a run has seen.
 use Rattle.std.specs.Prelude.{◌≡◌, ◌≤◌, ◌⊎◌, ℕ, ◌++◌, List, None, map}
+use Rattle.canvas_task.specs.Apply.{Registry}
 use Rattle.canvas_semantics.specs.Evaluation.{State, state_of as state_in, meaning}
 use Rattle.canvas_semantics.specs.Line.{Line, tree_of}
 use Rattle.canvas_rewrite.specs.Planned.{IsPlan}
@@ -30,47 +31,47 @@ held_state l seat t = (results (roster_of l) seat.seen).outcomes t
 
 -- there is one legal list of all broker calls, and one of all backend calls
 abbrev pub OneList : Type 0
-OneList = (l : Line) (pass : Pass) (seat : Seat) (r : Ran l pass seat) → Accounts (roster_of l) r.mates (published_all (map sealed r.opening)) r.works.made (broker_calls_seen pass)
+OneList = (registry : Registry) (l : Line) (pass : Pass) (seat : Seat) (r : Ran registry l pass seat) → Accounts registry (roster_of l) r.mates (published_all (map sealed r.opening)) r.works.made (broker_calls_seen pass)
 
 abbrev pub OneTable : Type 0
-OneTable = (l : Line) (pass : Pass) (seat : Seat) (r : Ran l pass seat) → Ledger (roster_of l) r.mates (backend_calls (working (roster_of l)) r.works.run ++ r.closing) seat.seen
+OneTable = (registry : Registry) (l : Line) (pass : Pass) (seat : Seat) (r : Ran registry l pass seat) → Ledger registry (roster_of l) r.mates (backend_calls (working registry (roster_of l)) r.works.run ++ r.closing) seat.seen
 
 -- they are those of a run, which is closed where all ended well
 abbrev pub IsARun : Type 0
-IsARun = (l : Line) (pass : Pass) (seat : Seat) (r : Ran l pass seat) → (h : Run l) × (h.queue ≡ broker_calls_seen pass) × (h.table ≡ seat.seen) × (EndedWell l pass seat r → Closed l h)
+IsARun = (registry : Registry) (l : Line) (pass : Pass) (seat : Seat) (r : Ran registry l pass seat) → (h : Run registry l) × (h.queue ≡ broker_calls_seen pass) × (h.table ≡ seat.seen) × (EndedWell registry l pass seat r → Closed registry l h)
 
 -- the reads at the end answer what is held
 abbrev pub ReadsHeld : Type 0
-ReadsHeld = (l : Line) (pass : Pass) (seat : Seat) (r : Ran l pass seat) → Each (ReadsWhatIsHeld (results (roster_of l) seat.seen)) r.closing
+ReadsHeld = (registry : Registry) (l : Line) (pass : Pass) (seat : Seat) (r : Ran registry l pass seat) → Each (ReadsWhatIsHeld (results (roster_of l) seat.seen)) r.closing
 
 -- each task is pending, or has the state that evaluation gives
 abbrev pub RowsMay : Type 0
-RowsMay = (l : Line) → IsPlan l → (pass : Pass) (seat : Seat) → Ran l pass seat → (t : ℕ) → (held_state l seat t ≡ None) ⊎ (held_state l seat t ≡ its_state l t)
+RowsMay = (registry : Registry) (l : Line) → IsPlan l → (pass : Pass) (seat : Seat) → Ran registry l pass seat → (t : ℕ) → (held_state l seat t ≡ None) ⊎ (held_state l seat t ≡ its_state registry l t)
 
 -- each task has the state that evaluation gives
 abbrev pub RowsAre : Type 0
-RowsAre = (l : Line) → IsPlan l → (pass : Pass) (seat : Seat) (r : Ran l pass seat) → EndedWell l pass seat r → (t : ℕ) → held_state l seat t ≡ its_state l t
+RowsAre = (registry : Registry) (l : Line) → IsPlan l → (pass : Pass) (seat : Seat) (r : Ran registry l pass seat) → EndedWell registry l pass seat r → (t : ℕ) → held_state l seat t ≡ its_state registry l t
 
 -- the same by the canvas from which the plan was made
 abbrev pub IsPlanOf : Tree → Line → Type 0
 IsPlanOf c l = IsFull c × IsPlan l × (tree_of l ≡ numbered (normal c))
 
 abbrev pub CanvasRowsMay : Type 0
-CanvasRowsMay = (c : Tree) (l : Line) → IsPlanOf c l → (pass : Pass) (seat : Seat) → Ran l pass seat → (t : ℕ) → (held_state l seat t ≡ None) ⊎ (held_state l seat t ≡ state_in t (meaning c))
+CanvasRowsMay = (registry : Registry) (c : Tree) (l : Line) → IsPlanOf c l → (pass : Pass) (seat : Seat) → Ran registry l pass seat → (t : ℕ) → (held_state l seat t ≡ None) ⊎ (held_state l seat t ≡ state_in t (meaning registry c))
 
 abbrev pub CanvasRowsAre : Type 0
-CanvasRowsAre = (c : Tree) (l : Line) → IsPlanOf c l → (pass : Pass) (seat : Seat) (r : Ran l pass seat) → EndedWell l pass seat r → (t : ℕ) → held_state l seat t ≡ state_in t (meaning c)
+CanvasRowsAre = (registry : Registry) (c : Tree) (l : Line) → IsPlanOf c l → (pass : Pass) (seat : Seat) (r : Ran registry l pass seat) → EndedWell registry l pass seat r → (t : ℕ) → held_state l seat t ≡ state_in t (meaning registry c)
 
 -- each publish is by the caller that brought its event about: that of a body's first message by the caller of the completing part
 abbrev pub PublishesByCause : Type 0
-PublishesByCause = (l : Line) → IsPlan l → (pass : Pass) (seat : Seat) → Ran l pass seat → ByCause l (broker_calls_seen pass) seat.seen
+PublishesByCause = (registry : Registry) (l : Line) → IsPlan l → (pass : Pass) (seat : Seat) → Ran registry l pass seat → ByCause registry l (broker_calls_seen pass) seat.seen
 
 abbrev pub PublishesByItsCause : Type 0
-PublishesByItsCause = (l : Line) → IsPlan l → (pass : Pass) (seat : Seat) → Ran l pass seat → ByItsCause l (broker_calls_seen pass) seat.seen
+PublishesByItsCause = (registry : Registry) (l : Line) → IsPlan l → (pass : Pass) (seat : Seat) → Ran registry l pass seat → ByItsCause registry l (broker_calls_seen pass) seat.seen
 
 -- and each message is published at most once, and each chord completed at most once
 abbrev pub PublishesOnce : Type 0
-PublishesOnce = (l : Line) → IsPlan l → (pass : Pass) (seat : Seat) → Ran l pass seat → (k : ℕ) → publishes l k (broker_calls_seen pass) ≤ 1
+PublishesOnce = (registry : Registry) (l : Line) → IsPlan l → (pass : Pass) (seat : Seat) → Ran registry l pass seat → (k : ℕ) → publishes l k (broker_calls_seen pass) ≤ 1
 
 abbrev pub CompletesOnce : Type 0
-CompletesOnce = (l : Line) → IsPlan l → (pass : Pass) (seat : Seat) → Ran l pass seat → (g : ℕ) → completions l g seat.seen ≤ 1
+CompletesOnce = (registry : Registry) (l : Line) → IsPlan l → (pass : Pass) (seat : Seat) → Ran registry l pass seat → (g : ℕ) → completions l g seat.seen ≤ 1

@@ -21,11 +21,11 @@ takes_one (took (Some e)) = 1
 
 -- The takes that stand in the list and not yet in the core run; then the core run's calls and the list's: publishes in order, takes in order,
 -- each take in the list where the core run has it or before.
-pub data Follows {E : Type 0} : List (Option E) → List (BrokerCall E) → List (BrokerCall E) → Type 0 where
-  follows_all : {ts : List (Option E)} → Follows ts [] []
-  follows_publish : {ts : List (Option E)} {e : E} {cs ls : List (BrokerCall E)} → Follows ts cs ls → Follows ts (published e ∷ cs) (published e ∷ ls)
-  follows_list_take : {ts : List (Option E)} {t : Option E} {cs ls : List (BrokerCall E)} → Follows (ts ++ t ∷ []) cs ls → Follows ts cs (took t ∷ ls)
-  follows_core_take : {ts : List (Option E)} {t : Option E} {cs ls : List (BrokerCall E)} → Follows ts cs ls → Follows (t ∷ ts) (took t ∷ cs) ls
+pub data FollowsCore {E : Type 0} : List (Option E) → List (BrokerCall E) → List (BrokerCall E) → Type 0 where
+  follows_all : {ts : List (Option E)} → FollowsCore ts [] []
+  follows_publish : {ts : List (Option E)} {e : E} {cs ls : List (BrokerCall E)} → FollowsCore ts cs ls → FollowsCore ts (published e ∷ cs) (published e ∷ ls)
+  follows_list_take : {ts : List (Option E)} {t : Option E} {cs ls : List (BrokerCall E)} → FollowsCore (ts ++ t ∷ []) cs ls → FollowsCore ts cs (took t ∷ ls)
+  follows_core_take : {ts : List (Option E)} {t : Option E} {cs ls : List (BrokerCall E)} → FollowsCore ts cs ls → FollowsCore (t ∷ ts) (took t ∷ cs) ls
 
 module _ (X : Protocol) where
   abbrev pub AskedAndAnswered : Type 0

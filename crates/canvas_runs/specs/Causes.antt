@@ -1,5 +1,6 @@
 -- Who publishes what, and when a chord is completed.
 use Rattle.std.specs.Prelude.{ℕ, suc, eqb, cond, ◌≡◌, List, Option, Some, length}
+use Rattle.canvas_task.specs.Apply.{Registry}
 use Rattle.canvas_task.specs.declared.outcome.Outcome.{Outcome}
 use Rattle.canvas_history.specs.History.{calls}
 use Rattle.canvas_semantics.specs.Line.{Line, members}
@@ -26,17 +27,6 @@ module _ (l : Line) where
   Brought p table (end_of_line k) = (o : Outcome) × In (calls p (results.store k o) (results.was First)) table
   Brought p table (completion g) = (t n : ℕ) × In (calls p (results.part g t) (results.count n)) table × IsCompleting (roster_of l) g n
 
-  -- each publish is of the message of a task that an event runs, by the caller that brought the event about
-  abbrev pub ByCause : List (broker.QueueEntry Envelope) → results.Log → Type 0
-  ByCause queue table =
-      (p : ℕ) (e : Envelope) (a : Option Envelope) → In (calls p (broker.publish e) a) queue
-      → (c : Content) × (v : Event) × (e ≡ sealed c) × DoesIn l v (publish c) × Brought p table v
-
-  -- so the envelope of a message that an event publishes, as a body's first by the chord's completion, is published by the caller that brought that event about
-  abbrev pub ByItsCause : List (broker.QueueEntry Envelope) → results.Log → Type 0
-  ByItsCause queue table =
-      (v : Event) (c : Content) → DoesIn l v (publish c) → (p : ℕ) (e : Envelope) (a : Option Envelope) → In (calls p (broker.publish e) a) queue → opened (book_of l) e ≡ Some c → Brought p table v
-
   -- 1 where the call is a completing part of chord g
   abbrev pub completes_one : ℕ → BackendCall Outcome → ℕ
   completes_one g (stored t o b) = 0
@@ -45,3 +35,15 @@ module _ (l : Line) where
 
   abbrev pub completions : ℕ → results.Log → ℕ
   completions g table = total (completes_one g) (seconds (table_calls table))
+
+module _ (registry : Registry) (l : Line) where
+  -- each publish is of the message of a task that an event runs, by the caller that brought the event about
+  abbrev pub ByCause : List (broker.QueueEntry Envelope) → results.Log → Type 0
+  ByCause queue table =
+      (p : ℕ) (e : Envelope) (a : Option Envelope) → In (calls p (broker.publish e) a) queue
+      → (c : Content) × (v : Event) × (e ≡ sealed c) × DoesIn registry l v (publish c) × Brought l p table v
+
+  -- so the envelope of a message that an event publishes, as a body's first by the chord's completion, is published by the caller that brought that event about
+  abbrev pub ByItsCause : List (broker.QueueEntry Envelope) → results.Log → Type 0
+  ByItsCause queue table =
+      (v : Event) (c : Content) → DoesIn registry l v (publish c) → (p : ℕ) (e : Envelope) (a : Option Envelope) → In (calls p (broker.publish e) a) queue → opened (book_of l) e ≡ Some c → Brought l p table v

@@ -43,6 +43,23 @@ is_due t (store u o ∷ js) = is_due t js
 is_due t (publish m ∷ js) = is_due t js
 is_due t (hand_in g u c ∷ js) = eqb t u
 
+-- inside the script of a message
+abbrev pub is_inside : {M C O : Type 0} → CoreState M C O → Bool
+is_inside taking = false
+is_inside resting = false
+is_inside over = false
+is_inside failed = false
+is_inside (owning m) = true
+is_inside (doing js b) = true
+is_inside (reading g c fs) = true
+
+-- between scripts, none of them cut short
+abbrev pub Between : {M C O : Type 0} → CoreState M C O → Type 0
+Between taking = Unit
+Between resting = Unit
+Between over = Unit
+Between s = ⊥
+
 module _ (X : Protocol) where
   abbrev pub Jobs : Type 0
   Jobs = List (Job X.Message X.Carried X.Outcome)
@@ -124,13 +141,6 @@ module _ (X : Protocol) where
   abbrev pub left_after : Doing → List (Asked × Answer) → Doing
   left_after s [] = s
   left_after s (x ∷ xs) = left_after (answered s x.1) xs
-
-  -- not inside the script of an envelope
-  abbrev pub Between : Doing → Type 0
-  Between taking = Unit
-  Between resting = Unit
-  Between over = Unit
-  Between s = ⊥
 
   -- where a message is published, its envelope reads as the message
   abbrev pub ReadsBack : Doing → Type 0

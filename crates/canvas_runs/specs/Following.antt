@@ -3,19 +3,20 @@
 --     Serves plan s cs t     the same of a seat and its backend calls
 --     Followed plan w v        from w on the worker's pass and seat have followed a core run, and it is v then
 use Rattle.std.specs.Prelude.{◌+◌, ◌≡◌, true, false, List, [], ◌∷◌, length, map, Option, Some, None}
+use Rattle.canvas_task.specs.Apply.{Registry}
 use Rattle.canvas_task.specs.declared.outcome.Outcome.{Outcome}
 use Rattle.canvas_history.specs.History.{calls}
 use Rattle.canvas_rewrite.specs.FrozenView.{Load}
 use Rattle.canvas_message.specs.Content.{Content}
 use Rattle.canvas_message.specs.declared.envelope.Envelope.{Envelope}
 use Rattle.canvas_backend.specs.declared.stored.Stored.TheVariants.{First, Again}
-use Rattle.canvas_backend.specs.Backend.{Call, Reply, store, part, read, was, count, found}
+use Rattle.canvas_backend.specs.Backend.{TableCall, TableReply, store, part, read, was, count, found}
 use Rattle.canvas_backend.specs.Seats as seats
 use Rattle.canvas_backend.specs.Roster.{Roster}
 use Rattle.canvas_broker.specs.Broker.{QueueCall, publish, take}
 use Rattle.canvas_broker.specs.Passes as passes
 use Rattle.canvas_runs.specs.Core.{CoreState, taking, IsCoreRun, left_after, Between}
-use Rattle.canvas_runs.specs.Calls.{BrokerCall, published, took, BackendCall, stored, returned, has_read, Follows, AskedAndAnswered, broker_calls, backend_calls, ReadsMembers, takes_one}
+use Rattle.canvas_runs.specs.Calls.{BrokerCall, published, took, BackendCall, stored, returned, has_read, FollowsCore, AskedAndAnswered, broker_calls, backend_calls, ReadsMembers, takes_one}
 use Rattle.canvas_runs.specs.Lists.{Each, total}
 use Rattle.canvas_runs.specs.Tally.{Tally, none_yet, Counted}
 use Rattle.canvas_runs.specs.Worker.{working}
@@ -27,13 +28,13 @@ abbrev pub Seat : Type 0
 Seat = seats.Seat
 
 -- what a broker call asks, and what it was answered
-abbrev pub doing : BrokerCall Envelope → QueueCall Envelope
-doing (published e) = publish e
-doing (took x) = take
+abbrev pub queue_call : BrokerCall Envelope → QueueCall Envelope
+queue_call (published e) = publish e
+queue_call (took x) = take
 
-abbrev pub given : BrokerCall Envelope → Option Envelope
-given (published e) = None
-given (took x) = x
+abbrev pub queue_answer : BrokerCall Envelope → Option Envelope
+queue_answer (published e) = None
+queue_answer (took x) = x
 
 -- a take that found nothing stands in no history
 abbrev pub Stood : BrokerCall Envelope → Type 0
@@ -42,24 +43,24 @@ Stood (took (Some e)) = Unit
 Stood (took None) = ⊥
 
 -- what a backend call asks, and what it was answered
-abbrev pub asking : BackendCall Outcome → Call
-asking (stored t o b) = store t o
-asking (returned g t n) = part g t
-asking (has_read t x) = read t
+abbrev pub table_call : BackendCall Outcome → TableCall
+table_call (stored t o b) = store t o
+table_call (returned g t n) = part g t
+table_call (has_read t x) = read t
 
-abbrev pub replied : BackendCall Outcome → Reply
-replied (stored t o true) = was First
-replied (stored t o false) = was Again
-replied (returned g t n) = count n
-replied (has_read t x) = found x
+abbrev pub table_reply : BackendCall Outcome → TableReply
+table_reply (stored t o true) = was First
+table_reply (stored t o false) = was Again
+table_reply (returned g t n) = count n
+table_reply (has_read t x) = found x
 
 abbrev pub Makes : Pass → List (BrokerCall Envelope) → Pass → Type 0
 Makes p [] q = q ≡ p
-Makes p (c ∷ cs) q = (between : Pass) × passes.Stands p (calls p.name (doing c) (given c)) between × Makes between cs q
+Makes p (c ∷ cs) q = (between : Pass) × passes.Stands p (calls p.name (queue_call c) (queue_answer c)) between × Makes between cs q
 
 abbrev pub Serves : Roster → Seat → List (BackendCall Outcome) → Seat → Type 0
 Serves plan s [] t = t ≡ s
-Serves plan s (c ∷ cs) t = (between : Seat) × seats.Stands plan s (calls s.name (asking c) (replied c)) between × Serves plan between cs t
+Serves plan s (c ∷ cs) t = (between : Seat) × seats.Stands plan s (calls s.name (table_call c) (table_reply c)) between × Serves plan between cs t
 
 -- a worker: its pass and its seat, what its core has left to do, the envelopes that it took and has not given to its core, and its counts
 pub record Working : Type 0 where
@@ -74,20 +75,20 @@ abbrev pub begins : Pass → Seat → Working
 begins p s = record { pass = p; seat = s; left = taking; held = []; tally = none_yet }
 
 -- not inside a script, with no envelope left over
-abbrev pub IsDone : Roster → Working → Type 0
-IsDone plan w = Between (working plan) w.left × (w.held ≡ [])
+abbrev pub IsDone : Working → Type 0
+IsDone w = Between w.left × (w.held ≡ [])
 
-pub record Followed (plan : Roster) (w v : Working) : Type 0 where
-  pub run : List (AskedAndAnswered (working plan))
-  pub is_core : IsCoreRun (working plan) w.left run
+pub record Followed (registry : Registry) (plan : Roster) (w v : Working) : Type 0 where
+  pub run : List (AskedAndAnswered (working registry plan))
+  pub is_core : IsCoreRun (working registry plan) w.left run
   -- a read is of the member that it names
-  pub reads : ReadsMembers (working plan) run
+  pub reads : ReadsMembers (working registry plan) run
   pub counts : Counted plan run w.tally v.tally
-  pub leaves : left_after (working plan) w.left run ≡ v.left
+  pub leaves : left_after (working registry plan) w.left run ≡ v.left
   -- the calls of its pass. A take may stand before the core's
   pub made : List (BrokerCall Envelope)
   pub stood : Each Stood made
-  pub follows : Follows (map Some w.held) (broker_calls (working plan) run) made
-  pub used : length w.held + total takes_one made ≡ total takes_one (broker_calls (working plan) run) + length v.held
+  pub follows : FollowsCore (map Some w.held) (broker_calls (working registry plan) run) made
+  pub used : length w.held + total takes_one made ≡ total takes_one (broker_calls (working registry plan) run) + length v.held
   pub makes : Makes w.pass made v.pass
-  pub serves : Serves plan w.seat (backend_calls (working plan) run) v.seat
+  pub serves : Serves plan w.seat (backend_calls (working registry plan) run) v.seat

@@ -1,5 +1,6 @@
 -- How many steps a run by turns takes at most.
 use Rattle.std.specs.Prelude.{ℕ, suc, ◌≤◌, ◌<◌, ◌+◌, ◌*◌, ◌^◌, List, [], length}
+use Rattle.canvas_task.specs.Apply.{Registry}
 use Rattle.canvas_semantics.specs.Line.{Line, count_line}
 use Rattle.canvas_rewrite.specs.Planned.{IsPlan}
 use Rattle.canvas_runs.specs.Lists.{Each}
@@ -16,11 +17,11 @@ abbrev pub most_steps : Line → ℕ → ℕ → ℕ
 most_steps l n k = k + 2 * suc (most_calls l) * n
 
 abbrev pub FewSteps : Type 0
-FewSteps = (l : Line) (n : ℕ) (ts us : List ℕ) (xs : List Step) → 1 ≤ n → ByTurns l n us xs → Begins us ts n → length xs ≤ most_steps l n (length ts)
+FewSteps = (registry : Registry) (l : Line) (n : ℕ) (ts us : List ℕ) (xs : List Step) → 1 ≤ n → ByTurns registry l n us xs → Begins us ts n → length xs ≤ most_steps l n (length ts)
 
 -- so a run that stops at a number of steps with a worker going on stops at one that is no greater
 abbrev pub StopsSoon : Type 0
-StopsSoon = (l : Line) → IsPlan l → (n : ℕ) (ts : List ℕ) (most : ℕ) → 1 ≤ n → Each (IsWorker n) ts → RanUntil l n ts most → most ≤ most_steps l n (length ts)
+StopsSoon = (registry : Registry) (l : Line) → IsPlan l → (n : ℕ) (ts : List ℕ) (most : ℕ) → 1 ≤ n → Each (IsWorker n) ts → RanUntil registry l n ts most → most ≤ most_steps l n (length ts)
 
 -- fewer than a count of 128 bits holds
 abbrev pub StepsFit : Type 0
@@ -28,4 +29,4 @@ StepsFit = (l : Line) (n k : ℕ) → count_line l < 2 ^ 32 → n ≤ 16 → k <
 
 -- a round without a step is one in which all have ended
 abbrev pub RoundsGo : Type 0
-RoundsGo = (l : Line) (n : ℕ) (before : List Step) → Turned l n before (round n) [] → AllEnded l n before
+RoundsGo = (registry : Registry) (l : Line) (n : ℕ) (before : List Step) → Turned registry l n before (round n) [] → AllEnded registry l n before

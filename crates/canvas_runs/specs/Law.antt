@@ -1,5 +1,6 @@
 -- The law of runs: whatever the number of workers and the order of their calls, a run does what evaluating the plan's canvas gives, each thing once.
 use Rattle.std.specs.Prelude.{◌≡◌, ◌≤◌, ◌⊎◌, ℕ, eqb, cond, List, Option, Some, None}
+use Rattle.canvas_task.specs.Apply.{Registry}
 use Rattle.canvas_task.specs.declared.outcome.Outcome.{Outcome}
 use Rattle.canvas_history.specs.History.{calls}
 use Rattle.canvas_semantics.specs.Evaluation.{State, state_of, eval, nothing}
@@ -21,21 +22,27 @@ use Rattle.canvas_runs.specs.Logs.{queue_calls, table_calls}
 use Rattle.canvas_runs.specs.Run.{Run}
 use Rattle.canvas_runs.specs.Worker.{sealed, opened}
 
+-- ---- how often
+
+-- 1 where the call stores the outcome of task k, or returns the part
+abbrev pub stores_one : ℕ → BackendCall Outcome → ℕ
+stores_one k (stored t o b) = cond (eqb t k) 1 0
+stores_one k (returned g m n) = 0
+stores_one k (has_read t o) = 0
+
+abbrev pub returns_one : ℕ → ℕ → BackendCall Outcome → ℕ
+returns_one g m (stored t o b) = 0
+returns_one g m (returned h t n) = cond (eqb h g) (cond (eqb t m) 1 0) 0
+returns_one g m (has_read t o) = 0
+
+-- how often an outcome of task k is stored, and the part of task m to chord g returned
+abbrev pub stores : ℕ → results.Log → ℕ
+stores k table = total (stores_one k) (seconds (table_calls table))
+
+abbrev pub returns : ℕ → ℕ → results.Log → ℕ
+returns g m table = total (returns_one g m) (seconds (table_calls table))
+
 module _ (l : Line) where
-  -- the state of a task, by evaluating the plan's tree
-  abbrev pub its_state : ℕ → State
-  its_state t = state_of t (eval (tree_of l) nothing).rows
-
-  -- the message of a task that evaluation runs
-  abbrev pub IsRunMessage : Content → Type 0
-  IsRunMessage c = (v : Event) × DoesIn l v (publish c)
-
-  -- a part that evaluation returns
-  abbrev pub IsPart : ℕ → ℕ → Type 0
-  IsPart g t = (c : Load) × (v : Event) × DoesIn l v (hand_in g t c)
-
-  -- ---- how often
-
   abbrev pub of_task : ℕ → Option Content → ℕ
   of_task k None = 0
   of_task k (Some c) = cond (eqb (number_of c.own) k) 1 0
@@ -57,45 +64,40 @@ module _ (l : Line) where
   abbrev pub takes_of_task : ℕ → List (broker.QueueEntry Envelope) → ℕ
   takes_of_task k queue = total (takes_one_of k) (seconds (queue_calls queue))
 
-  -- 1 where the call stores the outcome of task k, or returns the part
-  abbrev pub stores_one : ℕ → BackendCall Outcome → ℕ
-  stores_one k (stored t o b) = cond (eqb t k) 1 0
-  stores_one k (returned g m n) = 0
-  stores_one k (has_read t o) = 0
+-- ---- the law
 
-  abbrev pub returns_one : ℕ → ℕ → BackendCall Outcome → ℕ
-  returns_one g m (stored t o b) = 0
-  returns_one g m (returned h t n) = cond (eqb h g) (cond (eqb t m) 1 0) 0
-  returns_one g m (has_read t o) = 0
+module _ (registry : Registry) (l : Line) where
+  -- the state of a task, by evaluating the plan's tree
+  abbrev pub its_state : ℕ → State
+  its_state t = state_of t (eval registry (tree_of l) nothing).rows
 
-  -- how often an outcome of task k is stored, and the part of task m to chord g returned
-  abbrev pub stores : ℕ → results.Log → ℕ
-  stores k table = total (stores_one k) (seconds (table_calls table))
+  -- the message of a task that evaluation runs
+  abbrev pub IsRunMessage : Content → Type 0
+  IsRunMessage c = (v : Event) × DoesIn registry l v (publish c)
 
-  abbrev pub returns : ℕ → ℕ → results.Log → ℕ
-  returns g m table = total (returns_one g m) (seconds (table_calls table))
-
-  -- ---- the law
+  -- a part that evaluation returns
+  abbrev pub IsPart : ℕ → ℕ → Type 0
+  IsPart g t = (c : Load) × (v : Event) × DoesIn registry l v (hand_in g t c)
 
   -- every run, closed or not
-  pub record FirstPart (r : Run l) : Type 0 where
+  pub record FirstPart (r : Run registry l) : Type 0 where
     -- each outcome that is stored is the task's, and no store answers again
     pub stored : (p t : ℕ) (o : Outcome) (a : Stored) → In (calls p (results.store t o) (results.was a)) r.table → (its_state t ≡ Some o) × (a ≡ First)
     -- so each task is pending or has its state
     pub rows : (t : ℕ) → ((results.results (roster_of l) r.table).outcomes t ≡ None) ⊎ ((results.results (roster_of l) r.table).outcomes t ≡ its_state t)
     -- each envelope that is published is that of the message of a task that is run
     pub published : (p : ℕ) (e : Envelope) (a : Option Envelope) → In (calls p (broker.publish e) a) r.queue → (c : Content) × (e ≡ sealed c) × IsRunMessage c
-    pub published_once : (k : ℕ) → publishes k r.queue ≤ 1
+    pub published_once : (k : ℕ) → publishes l k r.queue ≤ 1
     -- each part that is returned is one of the evaluation's
     pub returned : (p g t n : ℕ) → In (calls p (results.part g t) (results.count n)) r.table → IsPart g t
 
   -- a closed run besides
-  pub record SecondPart (r : Run l) : Type 0 where
+  pub record SecondPart (r : Run registry l) : Type 0 where
     -- each task has its state; a task that evaluation leaves pending is pending
     pub rows : (t : ℕ) → (results.results (roster_of l) r.table).outcomes t ≡ its_state t
     -- each message of the evaluation is published once, and what is published is taken
-    pub published : (c : Content) → IsRunMessage c → publishes (number_of c.own) r.queue ≡ 1
-    pub taken : (k : ℕ) → takes_of_task k r.queue ≡ publishes k r.queue
+    pub published : (c : Content) → IsRunMessage c → publishes l (number_of c.own) r.queue ≡ 1
+    pub taken : (k : ℕ) → takes_of_task l k r.queue ≡ publishes l k r.queue
     -- each outcome is stored once
     pub stored : (t : ℕ) (o : Outcome) → its_state t ≡ Some o → stores t r.table ≡ 1
     pub pending : (t : ℕ) → its_state t ≡ None → stores t r.table ≡ 0

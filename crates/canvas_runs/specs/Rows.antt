@@ -3,6 +3,7 @@ use Rattle.std.specs.Prelude.{ℕ, suc, ◌≡◌, List, [], ◌∷◌, length, 
 use Rattle.canvas_task.specs.declared.outcome.Outcome.{Outcome}
 use Rattle.canvas_semantics.specs.Evaluation.{State}
 use Rattle.std.specs.Global.{Global}
+use Rattle.canvas_task.specs.Apply.{Registry}
 use Rattle.crossbeam_queue.specs.SegTies.{SegId}
 use Rattle.atomic_table.specs.Seated.{TableId}
 use Rattle.canvas_semantics.specs.Line.{Line, group_end, no_lines, count_line, tree_of}
@@ -21,33 +22,33 @@ reads_from k [] = []
 reads_from k (s ∷ ss) = has_read k s ∷ reads_from (suc k) ss
 
 -- all workers were taken in, and these rows were read at the end
-pub record RanTo (l : Line) (pass : Pass) (seat : Seat) (rows : List State) : Type 0 where
-  pub ran : Ran l pass seat
+pub record RanTo (registry : Registry) (l : Line) (pass : Pass) (seat : Seat) (rows : List State) : Type 0 where
+  pub ran : Ran registry l pass seat
   pub read : ran.closing ≡ reads_from 1 rows
   pub each : length rows ≡ count_line l
 
 -- and all ended well
-pub record RanWell (l : Line) (pass : Pass) (seat : Seat) (rows : List State) : Type 0 where
-  pub to : RanTo l pass seat rows
-  pub well : EndedWell l pass seat to.ran
+pub record RanWell (registry : Registry) (l : Line) (pass : Pass) (seat : Seat) (rows : List State) : Type 0 where
+  pub to : RanTo registry l pass seat rows
+  pub well : EndedWell registry l pass seat to.ran
 
 -- the rows of a run that ended well are the states that evaluation gives
 abbrev pub RowsOfWell : Type 0
-RowsOfWell = (l : Line) → IsPlan l → (pass : Pass) (seat : Seat) (rows : List State) → RanWell l pass seat rows → rows ≡ states (tree_of l)
+RowsOfWell = (registry : Registry) (l : Line) → IsPlan l → (pass : Pass) (seat : Seat) (rows : List State) → RanWell registry l pass seat rows → rows ≡ states registry (tree_of l)
 
 -- those of any run are these, or pending
 abbrev pub RowsOfAny : Type 0
-RowsOfAny = (l : Line) → IsPlan l → (pass : Pass) (seat : Seat) (rows : List State) → RanTo l pass seat rows → EachMay rows (states (tree_of l))
+RowsOfAny = (registry : Registry) (l : Line) → IsPlan l → (pass : Pass) (seat : Seat) (rows : List State) → RanTo registry l pass seat rows → EachMay rows (states registry (tree_of l))
 
 -- the counts of worker 0 and of the others, in number order, are those of their entries
 abbrev pub TalliesCount : Type 0
 TalliesCount =
-    (l : Line) → IsPlan l → (pass : Pass) (seat : Seat) (r : Ran l pass seat) → EndedWell l pass seat r → (own : Tally) → OwnTally l pass seat r own
-    → EachCounts (broker_calls_seen pass) seat.seen 0 (own ∷ map (λ (m : Mate (roster_of l)). m.ended.tally) r.mates)
+    (registry : Registry) (l : Line) → IsPlan l → (pass : Pass) (seat : Seat) (r : Ran registry l pass seat) → EndedWell registry l pass seat r → (own : Tally) → OwnTally registry l pass seat r own
+    → EachCounts (broker_calls_seen pass) seat.seen 0 (own ∷ map (λ (m : Mate registry (roster_of l)). m.ended.tally) r.mates)
 
 -- there is such a run: of an empty group's plan, by one worker
 abbrev pub empty_group : Line
 empty_group = group_end 1 no_lines
 
 abbrev pub ARunStands : Type 0
-ARunStands = (b : SegId Global) (d : TableId) → (pass : Pass) × (seat : Seat) × (r : Ran empty_group pass seat) × EndedWell empty_group pass seat r
+ARunStands = (registry : Registry) (b : SegId Global) (d : TableId) → (pass : Pass) × (seat : Seat) × (r : Ran registry empty_group pass seat) × EndedWell registry empty_group pass seat r

@@ -1,5 +1,6 @@
 -- Runs of a plan: a legal history of the broker, a legal history of the backend, and for each caller a core run that its calls follow.
 use Rattle.std.specs.Prelude.{◌≡◌, ℕ, eqb, cond, List, [], ◌∷◌, ◌++◌, map}
+use Rattle.canvas_task.specs.Apply.{Registry}
 use Rattle.canvas_task.specs.declared.outcome.Outcome.{Outcome}
 use Rattle.canvas_semantics.specs.Line.{Line}
 use Rattle.canvas_message.specs.Content.{Content}
@@ -9,10 +10,10 @@ use Rattle.canvas_backend.specs.Backend as results
 use Rattle.canvas_backend.specs.Roster.{roster_of}
 use Rattle.canvas_broker.specs.Broker as broker
 use Rattle.canvas_runs.specs.Core.{IsCoreRun, taking, left_after, Between}
-use Rattle.canvas_runs.specs.Calls.{BrokerCall, published, BackendCall, stored, returned, has_read, Follows, AskedAndAnswered, broker_calls, backend_calls, ReadsMembers, takes_one}
+use Rattle.canvas_runs.specs.Calls.{BrokerCall, published, BackendCall, stored, returned, has_read, FollowsCore, AskedAndAnswered, broker_calls, backend_calls, ReadsMembers, takes_one}
 use Rattle.canvas_runs.specs.Lists.{Each, by, total}
 use Rattle.canvas_runs.specs.Logs.{queue_calls, table_calls}
-use Rattle.canvas_runs.specs.Worker.{worker, sealed}
+use Rattle.canvas_runs.specs.Worker.{IsReadBack, worker, sealed}
 
 abbrev pub IsRead : {O : Type 0} → BackendCall O → Type 0
 IsRead (has_read t x) = Unit
@@ -23,30 +24,30 @@ abbrev pub published_all : {E : Type 0} → List E → List (BrokerCall E)
 published_all [] = []
 published_all (e ∷ es) = published e ∷ published_all es
 
-pub record Run (l : Line) : Type 0 where
+pub record Run (registry : Registry) (l : Line) : Type 0 where
   pub queue : List (broker.QueueEntry Envelope)
   pub table : results.Log
   pub queue_legal : broker.IsLegal queue
   pub table_legal : results.IsLegal (roster_of l) table
-  pub core : ℕ → List (AskedAndAnswered (worker l))
-  pub is_core : (p : ℕ) → IsCoreRun (worker l) taking (core p)
+  pub core : ℕ → List (AskedAndAnswered (worker registry l))
+  pub is_core : (p : ℕ) → IsCoreRun (worker registry l) taking (core p)
   -- a read is of the member that it names
-  pub reads : (p : ℕ) → ReadsMembers (worker l) (core p)
+  pub reads : (p : ℕ) → ReadsMembers (worker registry l) (core p)
   -- What worker 0 publishes before all else, what is left of the first messages, and what it reads at the end.
   pub opening : List Content
   pub unsent : List Content
   pub closing : List (BackendCall Outcome)
   pub opens : first_messages l ≡ opening ++ unsent
   -- these envelopes read as their messages
-  pub opens_back : Each (worker l).Back opening
+  pub opens_back : Each IsReadBack opening
   pub closes : Each IsRead closing
   -- each caller's calls follow its core run
-  pub follows : (p : ℕ) → Follows [] (cond (eqb p 0) (published_all (map sealed opening)) [] ++ broker_calls (worker l) (core p)) (by p (queue_calls queue))
-  pub keeps : (p : ℕ) → by p (table_calls table) ≡ backend_calls (worker l) (core p) ++ cond (eqb p 0) closing []
+  pub follows : (p : ℕ) → FollowsCore [] (cond (eqb p 0) (published_all (map sealed opening)) [] ++ broker_calls (worker registry l) (core p)) (by p (queue_calls queue))
+  pub keeps : (p : ℕ) → by p (table_calls table) ≡ backend_calls (worker registry l) (core p) ++ cond (eqb p 0) closing []
 
 -- All first messages are published, the queue is empty at the end, each envelope taken has its script, and no core run stops inside one.
-pub record Closed (l : Line) (r : Run l) : Type 0 where
+pub record Closed (registry : Registry) (l : Line) (r : Run registry l) : Type 0 where
   pub all_sent : r.unsent ≡ []
   pub drained : broker.queue_of r.queue ≡ []
-  pub all_used : (p : ℕ) → total takes_one (by p (queue_calls r.queue)) ≡ total takes_one (broker_calls (worker l) (r.core p))
-  pub all_ended : (p : ℕ) → Between (worker l) (left_after (worker l) taking (r.core p))
+  pub all_used : (p : ℕ) → total takes_one (by p (queue_calls r.queue)) ≡ total takes_one (broker_calls (worker registry l) (r.core p))
+  pub all_ended : (p : ℕ) → Between (left_after (worker registry l) taking (r.core p))

@@ -10,35 +10,24 @@
 --     RanWhole l n ts       the turns of the list and then as many rounds as it takes until all have ended
 --     RanUntil l n ts steps    the turns of the list, and then turns in rotation, up to so many steps, with some worker that has not ended
 use Rattle.std.specs.Prelude.{ℕ, zero, suc, ◌≡◌, ◌≤◌, ◌||◌, Bool, true, false, List, [], ◌∷◌, ◌++◌, map, length, Some}
+use Rattle.canvas_task.specs.Apply.{Registry}
 use Rattle.canvas_task.specs.declared.outcome.Outcome.{Outcome}
 use Rattle.canvas_semantics.specs.Line.{Line}
 use Rattle.canvas_rewrite.specs.FrozenView.{Load}
 use Rattle.canvas_message.specs.Content.{Content}
 use Rattle.canvas_message.specs.Effects.{first_messages}
 use Rattle.canvas_message.specs.declared.envelope.Envelope.{Envelope}
-use Rattle.canvas_backend.specs.declared.stored.Stored.{Stored}
-use Rattle.canvas_backend.specs.declared.stored.Stored.TheVariants.{First, Again}
 use Rattle.canvas_backend.specs.Backend as results
-use Rattle.canvas_backend.specs.Backend.{Results, no_results, first_or, next_of, count_of}
+use Rattle.canvas_backend.specs.Backend.{Results, no_results, first_or, next_of, count_of, says_first}
 use Rattle.canvas_backend.specs.Roster.{roster_of, members}
 use Rattle.canvas_broker.specs.Broker as broker
-use Rattle.canvas_runs.specs.Core.{Ask, Reply, take, send, keep, part, read, pause, end, taken, sent, kept, counted, found, rested, CoreState, taking, resting, over, failed, owning, doing, reading, ask, left_after, ReadsBack}
+use Rattle.canvas_runs.specs.Core.{Ask, Reply, take, send, keep, part, read, pause, end, taken, sent, kept, counted, found, rested, CoreState, taking, ask, left_after, ReadsBack, is_inside}
 use Rattle.canvas_runs.specs.Lists.{Each, by, at}
-use Rattle.canvas_runs.specs.Worker.{worker, sealed}
+use Rattle.canvas_runs.specs.Worker.{IsReadBack, worker, sealed}
 
 -- an answered ask of a worker
 abbrev pub Step : Type 0
 Step = ℕ × (Ask Envelope Outcome × Reply Envelope Outcome)
-
--- inside the script of a message
-abbrev pub is_inside : CoreState Content Load Outcome → Bool
-is_inside taking = false
-is_inside resting = false
-is_inside over = false
-is_inside failed = false
-is_inside (owning m) = true
-is_inside (doing js b) = true
-is_inside (reading g c fs) = true
 
 -- what an ask leaves of the queue, and of the results
 abbrev pub queue_next : List Envelope → Ask Envelope Outcome → List Envelope
@@ -67,10 +56,6 @@ abbrev pub is_queued : List Envelope → Bool
 is_queued [] = false
 is_queued (e ∷ es) = true
 
-abbrev pub says_first : Stored → Bool
-says_first First = true
-says_first Again = false
-
 -- one of the workers 1 to n
 abbrev pub IsWorker : ℕ → ℕ → Type 0
 IsWorker n p = (1 ≤ p) × (p ≤ n)
@@ -82,10 +67,11 @@ module _ (l : Line) where
 
   -- the envelopes of the first messages read back as these
   abbrev pub FirstsRead : Type 0
-  FirstsRead = Each (worker l).Back (first_messages l)
+  FirstsRead = Each IsReadBack (first_messages l)
 
+module _ (registry : Registry) (l : Line) where
   abbrev pub left : List Step → ℕ → CoreState Content Load Outcome
-  left before p = left_after (worker l) taking (by p before)
+  left before p = left_after (worker registry l) taking (by p before)
 
   -- one of the workers 1 to n is inside the script of a message
   abbrev pub some_inside : ℕ → List Step → Bool
@@ -93,10 +79,10 @@ module _ (l : Line) where
   some_inside (suc n) before = is_inside (left before (suc n)) || some_inside n before
 
   abbrev pub holds_more : ℕ → List Step → Bool
-  holds_more n before = is_queued (queue_after before) || some_inside n before
+  holds_more n before = is_queued (queue_after l before) || some_inside n before
 
   abbrev pub Answers : ℕ → List Step → Ask Envelope Outcome → Reply Envelope Outcome → Type 0
-  Answers n before take (taken x) = x ≡ broker.answer (queue_after before) broker.take
+  Answers n before take (taken x) = x ≡ broker.answer (queue_after l before) broker.take
   Answers n before (send e) sent = Unit {0}
   Answers n before (keep t o) (kept b) = b ≡ says_first (first_or ((results_after before).outcomes t))
   Answers n before (part g t) (counted m) = m ≡ count_of (roster_of l) (results_after before) g
@@ -106,14 +92,14 @@ module _ (l : Line) where
 
   -- the worker asks for nothing more
   abbrev pub HasEnded : List Step → ℕ → Type 0
-  HasEnded before p = ask (worker l) (left before p) ≡ end
+  HasEnded before p = ask (worker registry l) (left before p) ≡ end
 
   -- Steps before, turns, the steps that the turns make. An envelope that is sent reads back as its message.
   pub data Turned (n : ℕ) : List Step → List ℕ → List Step → Type 0 where
     all_taken : {before : List Step} → Turned n before [] []
-    skips : {before : List Step} {p : ℕ} {us : List ℕ} {xs : List Step} → HasEnded before p → Turned n before us xs → Turned n before (p ∷ us) xs
-    takes : {before : List Step} {p : ℕ} {a : Ask Envelope Outcome} {r : Reply Envelope Outcome} {us : List ℕ} {xs : List Step}
-        → ReadsBack (worker l) (left before p) → a ≡ ask (worker l) (left before p) → Answers n before a r
+    skips_turn : {before : List Step} {p : ℕ} {us : List ℕ} {xs : List Step} → HasEnded before p → Turned n before us xs → Turned n before (p ∷ us) xs
+    takes_turn : {before : List Step} {p : ℕ} {a : Ask Envelope Outcome} {r : Reply Envelope Outcome} {us : List ℕ} {xs : List Step}
+        → ReadsBack (worker registry l) (left before p) → a ≡ ask (worker registry l) (left before p) → Answers n before a r
         → Turned n (before ++ (p, (a, r)) ∷ []) us xs → Turned n before (p ∷ us) ((p, (a, r)) ∷ xs)
 
   abbrev pub AllEnded : ℕ → List Step → Type 0
@@ -132,23 +118,23 @@ rounds n (suc k) = round n ++ rounds n k
 abbrev pub Begins : List ℕ → List ℕ → ℕ → Type 0
 Begins us ts n = (k : ℕ) × (rest : List ℕ) × (us ++ rest ≡ ts ++ rounds n k)
 
-pub record RanWhole (l : Line) (n : ℕ) (ts : List ℕ) : Type 0 where
+pub record RanWhole (registry : Registry) (l : Line) (n : ℕ) (ts : List ℕ) : Type 0 where
   pub opens_back : FirstsRead l
   pub turns : List ℕ
   pub further : ℕ
   pub follow : turns ≡ ts ++ rounds n further
   pub steps : List Step
-  pub turned : Turned l n [] turns steps
-  pub ended : AllEnded l n steps
+  pub turned : Turned registry l n [] turns steps
+  pub ended : AllEnded registry l n steps
 
-pub record RanUntil (l : Line) (n : ℕ) (ts : List ℕ) (most : ℕ) : Type 0 where
+pub record RanUntil (registry : Registry) (l : Line) (n : ℕ) (ts : List ℕ) (most : ℕ) : Type 0 where
   pub opens_back : FirstsRead l
   pub turns : List ℕ
   pub begin : Begins turns ts n
   pub steps : List Step
-  pub turned : Turned l n [] turns steps
+  pub turned : Turned registry l n [] turns steps
   pub many : length steps ≡ most
   -- a worker that has not ended
   pub going : ℕ
   pub is_worker : IsWorker n going
-  pub has_more : HasEnded l steps going → ⊥
+  pub has_more : HasEnded registry l steps going → ⊥

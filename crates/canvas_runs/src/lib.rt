@@ -3,6 +3,7 @@
 #![tactic(auto)]
 
 ghost use Rattle.std.specs.Prelude.{◌≡◌, ◌≤◌, ℕ, List, []};
+ghost use Rattle.canvas_task.specs.Apply.{Registry, six_tasks};
 ghost use Rattle.canvas_backend.specs.Backend.{IsLegal, results};
 ghost use Rattle.canvas_backend.specs.Roster.{roster_of};
 ghost use Rattle.canvas_semantics.specs.Evaluation.{state_of, meaning};
@@ -27,16 +28,16 @@ ghost use Rattle.canvas_runs.specs.Witness.{small, queue, table, lost_part};
 /// all these outcomes, publishes all these messages and returns all these parts, each once. So each task of the canvas has the
 /// state that evaluating the canvas gives. In every run each chord is completed at most once.
 pub fn law_of_runs()
-    ensures every_run { (l : Line) → IsPlan l → (r : Run l) → FirstPart l r }
-    ensures closed_runs { (l : Line) → IsPlan l → (r : Run l) → Closed l r → SecondPart l r }
-    ensures completed_once { (l : Line) → IsPlan l → (r : Run l) → (g : ℕ) → completions l g r.table ≤ 1 }
-    ensures of_canvas { (c : Tree) → IsFull c → (l : Line) → IsPlan l → tree_of l ≡ numbered (normal c) → (r : Run l) → Closed l r → (t : ℕ) → (results (roster_of l) r.table).outcomes t ≡ state_of t (meaning c) }
+    ensures every_run { (registry : Registry) (l : Line) → IsPlan l → (r : Run registry l) → FirstPart registry l r }
+    ensures closed_runs { (registry : Registry) (l : Line) → IsPlan l → (r : Run registry l) → Closed registry l r → SecondPart registry l r }
+    ensures completed_once { (registry : Registry) (l : Line) → IsPlan l → (r : Run registry l) → (g : ℕ) → completions l g r.table ≤ 1 }
+    ensures of_canvas { (registry : Registry) (c : Tree) → IsFull c → (l : Line) → IsPlan l → tree_of l ≡ numbered (normal c) → (r : Run registry l) → Closed registry l r → (t : ℕ) → (results (roster_of l) r.table).outcomes t ≡ state_of t (meaning registry c) }
 {}
 
 /// There is something of which the law speaks: a chord of two sums and the sum of both has a closed run by two workers, with these
 /// histories. A history in which both parts find that none was returned before is none of the table.
 pub fn runs_of_a_chord()
-    ensures stands { (r : Run small) × (r.queue ≡ queue) × (r.table ≡ table) × Closed small r }
+    ensures stands { (r : Run six_tasks small) × (r.queue ≡ queue) × (r.table ≡ table) × Closed six_tasks small r }
     ensures none_lost { IsLegal (roster_of small) lost_part → ⊥ }
 {}
 
@@ -107,6 +108,6 @@ pub fn ends_of_turns()
 /// two sums and the sum of both, with these steps. By no turns is a worker told that nothing more will come while another one is
 /// inside the script of a message.
 pub fn turns_of_a_chord()
-    ensures stands { (r : RanWhole small 2 listed_turns) × (r.steps ≡ witness_steps) × (r.further ≡ 2) }
-    ensures none_hasty { (us : List ℕ) → Turned small 2 [] us hasty → ⊥ }
+    ensures stands { (r : RanWhole six_tasks small 2 listed_turns) × (r.steps ≡ witness_steps) × (r.further ≡ 2) }
+    ensures none_hasty { (us : List ℕ) → Turned six_tasks small 2 [] us hasty → ⊥ }
 {}

@@ -1,5 +1,5 @@
 -- What a canvas means: a state for each task, and what flows out (Celery user guide, Canvas: a result is the next task's first argument unless
--- that is immutable; links run on a success, error callbacks on a failure; a chord's body gets the list of its header's results, or a ChordError).
+-- that is immutable; links run on a success, error callbacks on a failure; a chord's body gets the list of its header's results, or a ChordError). What the tasks do is a registry.
 use Rattle.std.specs.Prelude.{ℕ, ◌==◌, if◌then◌else◌, List, [], ◌∷◌, ◌++◌, map, Option, Some, None, ℤ}
 use Rattle.canvas_task.specs.declared.arg.Arg.{Arg}
 use Rattle.canvas_task.specs.declared.arg.Arg.TheVariants as arg
@@ -9,7 +9,7 @@ use Rattle.canvas_task.specs.declared.outcome.Fault.{Fault}
 use Rattle.canvas_task.specs.declared.outcome.Fault.TheVariants as fault
 use Rattle.canvas_task.specs.declared.outcome.Outcome.{Outcome}
 use Rattle.canvas_task.specs.declared.outcome.Outcome.TheVariants.{Success, Failure}
-use Rattle.canvas_task.specs.Apply.{apply}
+use Rattle.canvas_task.specs.Apply.{Registry}
 use Rattle.canvas_task.specs.Identifiers.{task_text}
 use Rattle.canvas_semantics.specs.Tree.{Call, Task, task, Tasks, no_tasks, and_task, Tree, one, chain, group, chord, Trees, no_trees, and_tree, numbered}
 
@@ -53,13 +53,6 @@ arguments call x = if call.immutable then call.args else value x ++ call.args
 
 -- ---- one task
 
--- the state of a task for a flow; what is evaluated with no flow is pending
-abbrev pub state : Call → Option Flow → State
-state call None = None
-state call (Some (skip f)) = Some (Failure f)
-state call (Some (raised f)) = Some (Failure f)
-state call (Some x) = Some (apply call.name (arguments call x) call.kwargs)
-
 -- links run on the number of a success
 abbrev pub to_links : State → Option Flow
 to_links (Some (Success n)) = Some (num n)
@@ -77,18 +70,26 @@ passed_on (Some (Success n)) = num n
 passed_on (Some (Failure f)) = skip f
 passed_on None = nothing
 
-abbrev mutual
-  pub task_rows : Task → Option Flow → Rows
-  task_rows (task k call links errbacks) x =
-      (k, state call x) ∷ tasks_rows links (to_links (state call x)) ++ tasks_rows errbacks (to_errbacks k x (state call x))
+-- the state of a task for a flow; what is evaluated with no flow is pending
+abbrev pub state : Registry → Call → Option Flow → State
+state registry call None = None
+state registry call (Some (skip f)) = Some (Failure f)
+state registry call (Some (raised f)) = Some (Failure f)
+state registry call (Some x) = Some (registry call.name (arguments call x) call.kwargs)
 
-  pub tasks_rows : Tasks → Option Flow → Rows
-  tasks_rows no_tasks x = []
-  tasks_rows (and_task t ts) x = task_rows t x ++ tasks_rows ts x
+module _ (registry : Registry) where
+  abbrev mutual
+    pub task_rows : Task → Option Flow → Rows
+    task_rows (task k call links errbacks) x =
+        (k, state registry call x) ∷ tasks_rows links (to_links (state registry call x)) ++ tasks_rows errbacks (to_errbacks k x (state registry call x))
 
-abbrev pub task_meaning : Task → Flow → Meaning
-task_meaning (task k call links errbacks) x =
-    record { rows = task_rows (task k call links errbacks) (Some x); out = passed_on (state call (Some x)) }
+    pub tasks_rows : Tasks → Option Flow → Rows
+    tasks_rows no_tasks x = []
+    tasks_rows (and_task t ts) x = task_rows t x ++ tasks_rows ts x
+
+  abbrev pub task_meaning : Task → Flow → Meaning
+  task_meaning (task k call links errbacks) x =
+      record { rows = task_rows (task k call links errbacks) (Some x); out = passed_on (state registry call (Some x)) }
 
 -- ---- the ends of an element, and what goes out of a group
 
@@ -154,25 +155,26 @@ and_then first next = behind first.rows (next first.out)
 abbrev pub as_group : Flow → Trees → Rows → Meaning
 as_group x ms rows = record { rows = rows; out = group_value x (with_states rows (all_ends ms)) }
 
-abbrev mutual
-  pub eval : Tree → Flow → Meaning
-  eval (one t) x = task_meaning t x
-  eval (chain ts) x = eval_chain ts x
-  eval (group g ms) x = as_group x ms (member_rows ms x)
-  eval (chord g h b) x = and_then (as_group x h (member_rows h x)) (eval b)
+module _ (registry : Registry) where
+  abbrev mutual
+    pub eval : Tree → Flow → Meaning
+    eval (one t) x = task_meaning registry t x
+    eval (chain ts) x = eval_chain ts x
+    eval (group g ms) x = as_group x ms (member_rows ms x)
+    eval (chord g h b) x = and_then (as_group x h (member_rows h x)) (eval b)
 
-  pub eval_chain : Trees → Flow → Meaning
-  eval_chain no_trees x = record { rows = []; out = x }
-  eval_chain (and_tree t ts) x = and_then (eval t x) (eval_chain ts)
+    pub eval_chain : Trees → Flow → Meaning
+    eval_chain no_trees x = record { rows = []; out = x }
+    eval_chain (and_tree t ts) x = and_then (eval t x) (eval_chain ts)
 
-  -- each member has the flow that comes in
-  pub member_rows : Trees → Flow → Rows
-  member_rows no_trees x = []
-  member_rows (and_tree t ts) x = (eval t x).rows ++ member_rows ts x
+    -- each member has the flow that comes in
+    pub member_rows : Trees → Flow → Rows
+    member_rows no_trees x = []
+    member_rows (and_tree t ts) x = (eval t x).rows ++ member_rows ts x
 
--- the states of a canvas by number, and its result
-abbrev pub meaning : Tree → Rows
-meaning c = (eval (numbered c) nothing).rows
+  -- the states of a canvas by number, and its result
+  abbrev pub meaning : Tree → Rows
+  meaning c = (eval (numbered c) nothing).rows
 
-abbrev pub result : Tree → Rows
-result c = with_states (meaning c) (ends (numbered c))
+  abbrev pub result : Tree → Rows
+  result c = with_states (meaning c) (ends (numbered c))

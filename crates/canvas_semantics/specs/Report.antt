@@ -1,6 +1,7 @@
 -- The report of a canvas as text: a line for each task with its state as Celery names it (PENDING, SUCCESS, FAILURE), and the result.
 use Rattle.std.specs.Prelude.{ℕ, ◌+◌, Bool, true, false, List, [], ◌∷◌, ◌++◌, Some, None, codes}
 use Rattle.std.specs.Fmt.{signed_decimal}
+use Rattle.canvas_task.specs.Apply.{Registry}
 use Rattle.canvas_task.specs.Text.{Text}
 use Rattle.canvas_task.specs.declared.outcome.Outcome.TheVariants.{Success, Failure}
 use Rattle.canvas_task.specs.Identifiers.{task_text}
@@ -46,13 +47,13 @@ counted_from k [] = []
 counted_from k (n ∷ ns) = (k, n) ∷ counted_from (k + 1) ns
 
 -- <id> <name> <state> <value>
-abbrev pub line : ℕ × Text → State → Text
-line t s = task_text t.0 ++ codes " " ++ t.1 ++ codes " " ++ state_name s ++ codes " " ++ value_text s ++ codes "\n"
+abbrev pub report_line : ℕ × Text → State → Text
+report_line t s = task_text t.0 ++ codes " " ++ t.1 ++ codes " " ++ state_name s ++ codes " " ++ value_text s ++ codes "\n"
 
 -- one for each task
 abbrev pub lines : List (ℕ × Text) → Rows → Text
 lines [] rows = []
-lines (t ∷ ts) rows = line t (state_of t.0 rows) ++ lines ts rows
+lines (t ∷ ts) rows = report_line t (state_of t.0 rows) ++ lines ts rows
 
 -- the values, with a comma and a space between two
 abbrev pub listed_values : Rows → Text
@@ -71,5 +72,5 @@ report_of c rows =
     lines (names_by_number c) rows ++ codes "result " ++ result_text (ends_in_group c) (with_states rows (ends c)) ++ codes "\n"
 
 -- the report of a canvas
-abbrev pub report : Tree → Text
-report c = report_of (numbered c) (meaning c)
+abbrev pub report : Registry → Tree → Text
+report registry c = report_of (numbered c) (meaning registry c)

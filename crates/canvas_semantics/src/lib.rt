@@ -3,18 +3,19 @@
 #![tactic(auto)]
 
 ghost use Rattle.std.specs.Prelude.{◌≡◌};
+ghost use Rattle.canvas_task.specs.Apply.{Registry};
 ghost use Rattle.canvas_semantics.specs.NormalLine.{normal};
 ghost use Rattle.canvas_semantics.specs.Report.{report, report_of};
 ghost use Rattle.canvas_semantics.specs.SameMeaning.{IsSame};
 ghost use Rattle.canvas_semantics.specs.States.{rows_from, states};
 ghost use Rattle.canvas_semantics.specs.Tree.{Tree, IsFull, count, count_groups, numbered};
 
-/// The law of the normal line. Where no chain is empty, the normal line of a canvas means what the canvas means: for every flow each
+/// The law of the normal line. Where no chain is empty, the normal line of a canvas means what the canvas means, whatever its tasks do: for every flow each
 /// task has the same state by its number, and the same flows out. What both end in is the same, and each group and chord has the same
 /// number and the same members' ends. So the report is the same.
 pub fn law_of_normal_lines()
     ensures same { (c : Tree) → IsFull c → IsSame (normal c) c }
     ensures tasks { (c : Tree) → count (normal c) ≡ count c }
     ensures groups { (c : Tree) → count_groups (normal c) ≡ count_groups c }
-    ensures reported { (c : Tree) → IsFull c → report_of (numbered (normal c)) (rows_from 1 (states (numbered (normal c)))) ≡ report c }
+    ensures reported { (registry : Registry) (c : Tree) → IsFull c → report_of (numbered (normal c)) (rows_from 1 (states registry (numbered (normal c)))) ≡ report registry c }
 {}

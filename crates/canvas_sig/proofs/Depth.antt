@@ -8,7 +8,7 @@ use Rattle.serde_json.specs.Find.{get_member}
 use Rattle.canvas_sig.specs.declared.fault.SigFault.{SigFault}
 use Rattle.canvas_sig.specs.declared.primitive.Primitive.{Primitive}
 use Rattle.canvas_sig.specs.declared.primitive.Primitive.TheVariants as kind
-use Rattle.canvas_sig.specs.Refusals.{first_fault, in_kwargs, fault_within, spelled_call, task_within, header_of, tree_from, tree_within, signature_fault, tree_of}
+use Rattle.canvas_sig.specs.Refusals.{first_fault, in_kwargs, fault_within, spelled_call, task_within, header_of, tree_from, tree_within, signature_fault, tree_said}
 use Rattle.canvas_task.specs.Text.{Text}
 use Rattle.canvas_sig.specs.Fields.{field, subtype, tasks, header, body, link, link_error, items, listed, as_list}
 use Rattle.canvas_sig.specs.Answers.{◌or_else◌}
@@ -198,6 +198,6 @@ pub fault_enough : (m : ℕ) (d : Data) → depth d < m → fault_left m false d
 unfolding signature_fault
 fault_enough m d h = enough_faults m (depth d) false d (omega arith) h
 
-pub tree_enough : (m : ℕ) (d : Data) → depth d < m → tree_within m d ≡ tree_of d
-unfolding tree_of
+pub tree_enough : (m : ℕ) (d : Data) → depth d < m → tree_within m d ≡ tree_said d
+unfolding tree_said
 tree_enough m d h = enough_trees m (depth d) d (omega arith) (omega arith)

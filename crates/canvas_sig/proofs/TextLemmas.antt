@@ -6,9 +6,9 @@ use Rattle.serde_json.specs.Read.{max_depth, read as read_json}
 use Rattle.std.specs.Str.{is_utf8}
 use Rattle.canvas_sig.specs.declared.fault.SigFault.{SigFault}
 use Rattle.canvas_sig.specs.declared.fault.SigFault.TheVariants.{TooLarge, NotJson, Memory}
-use Rattle.canvas_sig.specs.CanvasText.{most_bytes, json_of, canvas_reading, json_canvas, reading}
+use Rattle.canvas_sig.specs.CanvasText.{most_bytes, json_of, canvas_reading, json_canvas, text_reading}
 use Rattle.canvas_sig.specs.steps.Reading.{json_reading, signature_reading}
-use Rattle.canvas_sig.specs.Refusals.{signature_fault, tree_of}
+use Rattle.canvas_sig.specs.Refusals.{signature_fault, tree_said}
 use Rattle.canvas_task.specs.Text.{Text}
 use Rattle.canvas_sig.specs.LimitRefusals.{tree_fault}
 use Rattle.canvas_sig.specs.Answers.{◌>>=◌, ◌or_else◌, fault_if, judged, unless, Fails}
@@ -34,7 +34,7 @@ read_json_of true o d h = h
 read_json_of false o d h = absurd cc
 
 -- the JSON of a text nests no deeper than the counter goes
-signature_judged : (bytes : Text) (d : Data) → json_of bytes ≡ Some d → tree_reading (suc max_depth) d ≡ judged (signature_fault d) (tree_of d)
+signature_judged : (bytes : Text) (d : Data) → json_of bytes ≡ Some d → tree_reading (suc max_depth) d ≡ judged (signature_fault d) (tree_said d)
 signature_judged bytes d json =
     let low = depth-read bytes d (read_json_of (is_utf8 bytes) (read_json bytes) d json) in
     tree_judged (suc max_depth) d ∙ ap₂ judged (fault_enough (suc max_depth) d (omega (arith, low))) (tree_enough (suc max_depth) d (omega (arith, low)))
@@ -60,22 +60,22 @@ record WasRead (bytes : Text) (t : Tree) : Type 0 where
   its_json : Data
   json : json_of bytes ≡ Some its_json
   fine : signature_fault its_json ≡ None
-  tree : tree_of its_json ≡ t
+  tree : tree_said its_json ≡ t
 
 what_was_read : (bytes : Text) (t : Tree) → signature_reading bytes ≡ Ok t → WasRead bytes t
 what_was_read bytes t h =
-    let read = was_read (tree_reading (suc max_depth)) signature_fault tree_of (nat_lt most_bytes (length bytes)) (json_of bytes) t (signature_judged bytes) h in
+    let read = was_read (tree_reading (suc max_depth)) signature_fault tree_said (nat_lt most_bytes (length bytes)) (json_of bytes) t (signature_judged bytes) h in
     record { short = read.0; its_json = read.1.0; json = read.1.1; fine = read.1.2; tree = read.1.3 }
 
 -- a text whose signatures have no fault is refused by the limits alone
-limits_decide : (bytes : Text) (t : Tree) → WasRead bytes t → reading bytes ≡ judged (tree_fault t) t
+limits_decide : (bytes : Text) (t : Tree) → WasRead bytes t → text_reading bytes ≡ judged (tree_fault t) t
 limits_decide bytes t r =
     rw (r.short, r.json, r.fine, r.tree) refl
 
-pub read_whole : (bytes : Text) (t : Tree) → signature_reading bytes ≡ Ok t → tree_fault t ≡ None → reading bytes ≡ Ok t
+pub read_whole : (bytes : Text) (t : Tree) → signature_reading bytes ≡ Ok t → tree_fault t ≡ None → text_reading bytes ≡ Ok t
 read_whole bytes t h limits = limits_decide bytes t (what_was_read bytes t h) ∙ ap (λ f. judged f t) limits
 
-pub refused_whole : (bytes : Text) (t : Tree) (e : SigFault) → signature_reading bytes ≡ Ok t → tree_fault t ≡ Some e → reading bytes ≡ Err e
+pub refused_whole : (bytes : Text) (t : Tree) (e : SigFault) → signature_reading bytes ≡ Ok t → tree_fault t ≡ Some e → text_reading bytes ≡ Err e
 refused_whole bytes t e h limits = limits_decide bytes t (what_was_read bytes t h) ∙ ap (λ f. judged f t) limits
 
 pub is_canvas : (bytes : Text) (t : Tree) → signature_reading bytes ≡ Ok t → tree_fault t ≡ None → IsCanvas t
@@ -83,15 +83,15 @@ is_canvas bytes t h limits =
     let r = what_was_read bytes t h in
     of_fits t
     (fits_read bytes (suc max_depth) r.its_json t (read_json_of (is_utf8 bytes) (read_json bytes) r.its_json r.json)
-    (signature_judged bytes r.its_json r.json ∙ ap (λ o. judged o (tree_of r.its_json)) r.fine ∙ ap Ok r.tree)) limits
+    (signature_judged bytes r.its_json r.json ∙ ap (λ o. judged o (tree_said r.its_json)) r.fine ∙ ap Ok r.tree)) limits
 
 canvas_later : (d : Data) (e : SigFault) → signature_fault d ≡ Some e → canvas_reading d ≡ Err e
-canvas_later d e h = ap (λ f. judged (f or_else tree_fault (tree_of d)) (tree_of d)) h
+canvas_later d e h = ap (λ f. judged (f or_else tree_fault (tree_said d)) (tree_said d)) h
 
-refused : (bytes : Text) (e : SigFault) → signature_reading bytes ≡ Err e → reading bytes ≡ Err e
+refused : (bytes : Text) (e : SigFault) → signature_reading bytes ≡ Err e → text_reading bytes ≡ Err e
 refused bytes e h =
-    was_refused (tree_reading (suc max_depth)) signature_fault tree_of json_canvas refl canvas_later (nat_lt most_bytes (length bytes)) (json_of bytes) e (signature_judged bytes) h
+    was_refused (tree_reading (suc max_depth)) signature_fault tree_said json_canvas refl canvas_later (nat_lt most_bytes (length bytes)) (json_of bytes) e (signature_judged bytes) h
 
-pub fails_refused : (bytes : Text) (e : SigFault) → Fails e (signature_reading bytes) → e ≢ Memory → reading bytes ≡ Err e
+pub fails_refused : (bytes : Text) (e : SigFault) → Fails e (signature_reading bytes) → e ≢ Memory → text_reading bytes ≡ Err e
 fails_refused bytes Memory h other = absurd (other refl)
 fails_refused bytes e h other = refused bytes e h

@@ -31,7 +31,7 @@ unless None read = read
 unless (Some e) read = Err e
 
 -- a fault, or the value where there is none
-abbrev pub judged : {A : Type 0} → Option SigFault → A → Result A SigFault
+abbrev pub judged : {A E : Type 0} → Option E → A → Result A E
 judged None x = Ok x
 judged (Some e) x = Err e
 

@@ -7,7 +7,7 @@ use Rattle.canvas_sig.specs.declared.fault.SigFault.{SigFault}
 use Rattle.canvas_sig.specs.declared.fault.SigFault.TheVariants.{TooLarge, NotJson}
 use Rattle.canvas_task.specs.Text.{Text}
 use Rattle.canvas_sig.specs.Answers.{◌or_else◌, judged}
-use Rattle.canvas_sig.specs.Refusals.{signature_fault, tree_of}
+use Rattle.canvas_sig.specs.Refusals.{signature_fault, tree_said}
 use Rattle.canvas_sig.specs.LimitRefusals.{tree_fault}
 use Rattle.canvas_semantics.specs.Tree.{Tree}
 
@@ -21,12 +21,12 @@ json_of bytes = if is_utf8 bytes then read bytes else None
 
 -- the canvas that a JSON value spells, where neither a signature nor the whole canvas is refused
 abbrev pub canvas_reading : Data → Result Tree SigFault
-canvas_reading d = judged (signature_fault d or_else tree_fault (tree_of d)) (tree_of d)
+canvas_reading d = judged (signature_fault d or_else tree_fault (tree_said d)) (tree_said d)
 
 abbrev pub json_canvas : Option Data → Result Tree SigFault
 json_canvas None = Err NotJson
 json_canvas (Some d) = canvas_reading d
 
 -- the canvas that a text spells, or its first refusal
-abbrev pub reading : Text → Result Tree SigFault
-reading bytes = if nat_lt most_bytes (length bytes) then Err TooLarge else json_canvas (json_of bytes)
+abbrev pub text_reading : Text → Result Tree SigFault
+text_reading bytes = if nat_lt most_bytes (length bytes) then Err TooLarge else json_canvas (json_of bytes)

@@ -9,8 +9,8 @@ use Rattle.canvas_task.specs.Text.{Text}
 use Rattle.serde_json.specs.declared.value.Value.{Value}
 
 -- what a look-up found
-abbrev pub found : Option (Bor Value) → Data
-found o = unwrap_or (option_map (λ v. view v.now) o) null
+abbrev pub value_at : Option (Bor Value) → Data
+value_at o = unwrap_or (option_map (λ v. view v.now) o) null
 
 abbrev pub field : Text → Data → Data
 field k d = unwrap_or (get k d) null

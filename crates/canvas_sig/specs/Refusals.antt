@@ -74,5 +74,5 @@ tree_within (suc n) d = tree_from (task_within (suc n) d) (tree_within n) (primi
 unfoldable pub signature_fault : Data → Option SigFault
 signature_fault d = fault_within (depth d) false d
 
-unfoldable pub tree_of : Data → Tree
-tree_of d = tree_within (depth d) d
+unfoldable pub tree_said : Data → Tree
+tree_said d = tree_within (depth d) d

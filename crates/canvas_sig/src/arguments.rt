@@ -7,7 +7,7 @@ ghost use Rattle.serde_json.specs.View.{view, number_view};
 ghost use Rattle.canvas_task.specs.Entries.{named};
 ghost use Rattle.canvas_task.specs.Numbers.{in_range};
 ghost use Rattle.canvas_sig.specs.declared.fault.SigFault.TheVariants.{Memory};
-ghost use Rattle.canvas_sig.specs.Fields.{found, seen, object_members, is_number};
+ghost use Rattle.canvas_sig.specs.Fields.{value_at, seen, object_members, is_number};
 ghost use Rattle.canvas_sig.specs.Answers.{Gives, each};
 ghost use Rattle.canvas_sig.specs.Grammar.{some_in_range, arg_reading, named_reading, takes_memory};
 ghost use Rattle.canvas_sig.specs.steps.Reading.{in_range_or_refused, number_reading, list_reading};
@@ -133,7 +133,7 @@ fn read_members(alloc: Global, value: &Value) -> Result<Map<String, Arg>, SigFau
 }
 
 pub fn read_kwargs(alloc: Global, field: Option<&Value>) -> Result<Map<String, Arg>, SigFault>
-    ensures { Gives (λ m. named m.entries) result (each named_reading (object_members (found field.entry))) }
+    ensures { Gives (λ m. named m.entries) result (each named_reading (object_members (value_at field.entry))) }
 {
     match field {
         Some(value) => read_members(alloc, value),

@@ -3,7 +3,7 @@
 ghost use Rattle.std.specs.Prelude.{◌≡◌, ◌≢◌, Ok, Err, IfOk, IfErr, MatchResult};
 ghost use Rattle.serde_json.specs.View.{view as json_view};
 ghost use Rattle.canvas_sig.specs.declared.fault.SigFault.TheVariants.{Memory};
-ghost use Rattle.canvas_sig.specs.CanvasText.{json_of, reading};
+ghost use Rattle.canvas_sig.specs.CanvasText.{json_of, text_reading};
 ghost use Rattle.canvas_sig.specs.steps.Reading.{json_reading, signature_reading};
 ghost use Rattle.canvas_sig.specs.ComposedRefusals.{node_fault};
 ghost use Rattle.canvas_sig.specs.Answers.{Gives};
@@ -94,7 +94,7 @@ fn read_signature(alloc: Global, bytes: &[u8]) -> Result<Node, SigFault>
 /// The canvas that a text spells, or its first refusal.
 #[tactic(auto, using(crate::proofs::TextLemmas::fails_refused))]
 pub fn read_canvas(alloc: Global, bytes: &[u8]) -> Result<Canvas, SigFault>
-    ensures { MatchResult result (λ canvas. reading bytes.now ≡ Ok canvas) (λ e. e ≢ Memory → reading bytes.now ≡ Err e) }
+    ensures { MatchResult result (λ canvas. text_reading bytes.now ≡ Ok canvas) (λ e. e ≢ Memory → text_reading bytes.now ≡ Err e) }
 {
     let node = read_signature(alloc, bytes)?;
     match limit_fault(&node) {

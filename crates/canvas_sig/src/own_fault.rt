@@ -4,7 +4,7 @@ ghost use Rattle.std.specs.Prelude.{◌≡◌, map, Some, false};
 ghost use Rattle.std.specs.List.{list_all};
 ghost use Rattle.serde_json.specs.View.{view};
 ghost use Rattle.canvas_sig.specs.declared.primitive.Primitive.TheVariants.{Chain, Chord};
-ghost use Rattle.canvas_sig.specs.Fields.{found, seen, contents};
+ghost use Rattle.canvas_sig.specs.Fields.{value_at, seen, contents};
 ghost use Rattle.canvas_sig.specs.Grammar.{is_name, is_text, is_group, kind_ok, numbers_ok, number_ok, args_ok, not_signature, bad_members, bad_args, bad_number, on_canvas, empty_chain, fault_as, own_fault};
 
 use crate::arguments::{all_numbers, is_in_range};
@@ -19,7 +19,7 @@ use serde_json::{Map, Value};
 
 /// Whether a member is the name of a task.
 pub fn is_name(field: Option<&Value>) -> bool
-    ensures { result ≡ is_name (found field.entry) }
+    ensures { result ≡ is_name (value_at field.entry) }
 {
     match field {
         Some(Value::String(text)) => name_ok(text),
@@ -29,7 +29,7 @@ pub fn is_name(field: Option<&Value>) -> bool
 
 /// Whether a member is this text.
 pub fn is_text(field: Option<&Value>, text: &str) -> bool
-    ensures { result ≡ is_text text.now (found field.entry) }
+    ensures { result ≡ is_text text.now (value_at field.entry) }
 {
     match field {
         Some(Value::String(found)) => found.as_str() == text,
@@ -185,7 +185,7 @@ fn is_group_signature(value: &Value) -> bool
 }
 
 fn is_group(field: Option<&Value>) -> bool
-    ensures { result ≡ is_group (found field.entry) }
+    ensures { result ≡ is_group (value_at field.entry) }
 {
     match field {
         Some(value) => is_group_signature(value),

@@ -1,7 +1,7 @@
 //! What a signature stands for.
 
 ghost use Rattle.std.specs.Prelude.{◌≡◌};
-ghost use Rattle.canvas_sig.specs.Fields.{found};
+ghost use Rattle.canvas_sig.specs.Fields.{value_at};
 ghost use Rattle.canvas_sig.specs.Grammar.{primitive_of, primitive_named};
 
 use serde_json::Value;
@@ -27,7 +27,7 @@ fn primitive_named(name: &str) -> Option<Primitive>
 
 /// What a `subtask_type` says.
 pub fn primitive_of(field: Option<&Value>) -> Option<Primitive>
-    ensures { result ≡ primitive_of (found field.entry) }
+    ensures { result ≡ primitive_of (value_at field.entry) }
 {
     match field {
         None | Some(Value::Null) => Some(Primitive::Task),

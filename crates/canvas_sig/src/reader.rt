@@ -3,7 +3,7 @@
 ghost use Rattle.std.specs.Prelude.{◌≡◌, map, string_bytes, IfOk, Some};
 ghost use Rattle.serde_json.specs.View.{view};
 ghost use Rattle.canvas_sig.specs.declared.primitive.Primitive.TheVariants.{Chain, Group, Chord};
-ghost use Rattle.canvas_sig.specs.Fields.{found, as_list, text_of};
+ghost use Rattle.canvas_sig.specs.Fields.{value_at, as_list, text_of};
 ghost use Rattle.canvas_sig.specs.Answers.{Gives, each};
 ghost use Rattle.canvas_sig.specs.steps.Reading.{task_with, linked_with, task_reading, header_reading, tree_as, tree_with, tree_reading};
 ghost use Rattle.canvas_sig.specs.Grammar.{members_in};
@@ -22,7 +22,7 @@ use std::alloc::{AllocError, Global};
 
 /// The text of a name, empty where there is none.
 pub fn text_of(alloc: Global, field: Option<&Value>) -> Result<String, AllocError>
-    ensures { IfOk result (λ s. string_bytes s ≡ text_of (found field.entry)) }
+    ensures { IfOk result (λ s. string_bytes s ≡ text_of (value_at field.entry)) }
 {
     match field {
         Some(Value::String(text)) => text.clone(),
@@ -76,7 +76,7 @@ fn read_task(alloc: Global, value: &Value, left: u32) -> Result<TaskSig, SigFaul
 /// The signatures in a list, one signature, or none.
 #[cycle(read_task)]
 fn read_link(alloc: Global, field: Option<&Value>, left: u32) -> Result<Vec<TaskSig>, SigFault>
-    ensures { Gives (λ v. map task_view v.items) result (each (task_reading left) (as_list (found field.entry))) }
+    ensures { Gives (λ v. map task_view v.items) result (each (task_reading left) (as_list (value_at field.entry))) }
 {
     match field {
         None => Ok(Vec::new(alloc)),
@@ -192,7 +192,7 @@ fn read_chord(alloc: Global, value: &Value, left: u32) -> Result<Node, SigFault>
 /// The canvas that a member stands for; one that is missing is null.
 #[cycle(read_node)]
 fn read_member(alloc: Global, field: Option<&Value>, left: u32) -> Result<Node, SigFault>
-    ensures { Gives tree_view result (tree_reading left (found field.entry)) }
+    ensures { Gives tree_view result (tree_reading left (value_at field.entry)) }
 {
     match field {
         Some(value) => read_node(alloc, value, left),
@@ -203,7 +203,7 @@ fn read_member(alloc: Global, field: Option<&Value>, left: u32) -> Result<Node, 
 /// The members of a header, which is a list, or one group signature.
 #[cycle(read_node)]
 fn read_header(alloc: Global, field: Option<&Value>, left: u32) -> Result<Vec<Node>, SigFault>
-    ensures { Gives (λ v. trees_of (map tree_view v.items)) result (header_reading (tree_reading left) (found field.entry)) }
+    ensures { Gives (λ v. trees_of (map tree_view v.items)) result (header_reading (tree_reading left) (value_at field.entry)) }
 {
     if is_list(field) {
         return read_all(alloc, listed(field), left);

@@ -2,7 +2,7 @@
 
 ghost use Rattle.std.specs.Prelude.{◌≡◌, ◌≤◌, Ok, IfOk, length, string_bytes};
 ghost use Rattle.serde_json.specs.Written.{compact_text};
-ghost use Rattle.canvas_sig.specs.CanvasText.{most_bytes, reading};
+ghost use Rattle.canvas_sig.specs.CanvasText.{most_bytes, text_reading};
 ghost use Rattle.canvas_sig.specs.Writing.{tree_wire};
 ghost use Rattle.canvas_sig.specs.View.{view};
 
@@ -36,7 +36,7 @@ pub fn write_node(alloc: Global, node: &Node) -> Result<String, Memory>
 /// A canvas as compact JSON. Where the text isn't too large to be read, it reads as the canvas again.
 pub fn write_canvas(alloc: Global, canvas: &Canvas) -> Result<String, Memory>
     ensures text { IfOk result (λ text. string_bytes text ≡ compact_text (tree_wire canvas.now)) }
-    ensures reads_back { IfOk result (λ text. length (string_bytes text) ≤ most_bytes → reading (string_bytes text) ≡ Ok canvas.now) }
+    ensures reads_back { IfOk result (λ text. length (string_bytes text) ≤ most_bytes → text_reading (string_bytes text) ≡ Ok canvas.now) }
 {
     write_node(alloc, canvas.node())
 }

@@ -4,7 +4,7 @@ use Rattle.std.specs.Prelude.{ℤ, pos, negsuc, ◌+ℤ◌, ◌*ℤ◌, if◌the
 use Rattle.canvas_task.specs.Numbers.{in_range, floor_div, sum_of}
 use Rattle.canvas_task.specs.Identifiers.{task_named}
 use Rattle.canvas_task.specs.Text.{Text}
-use Rattle.canvas_task.specs.Apply.{IsInRange, KnownTask, add, mul, div, xsum, ident, log_error, checked, quotient, logged, answer, answer_filled, of_job, apply, job_named, bound_to, parameters}
+use Rattle.canvas_task.specs.Apply.{AnswersInRange, IsInRange, KnownTask, add, mul, div, xsum, ident, log_error, checked, quotient, logged, task_answer, answer_filled, of_job, six_tasks, job_named, bound_to, parameters}
 use Rattle.canvas_task.specs.declared.arg.Arg.{Arg}
 use Rattle.canvas_task.specs.declared.arg.Arg.TheVariants as arg
 use Rattle.canvas_task.specs.declared.outcome.Fault.TheVariants.{Plain}
@@ -27,7 +27,7 @@ logged_fits : (o : Option ℕ) → IsInRange (logged o)
 logged_fits None = tt
 logged_fits (Some k) = checked_fits (pos k)
 
-answer_fits : (job : KnownTask) (args : List Arg) → IsInRange (answer job args)
+answer_fits : (job : KnownTask) (args : List Arg) → IsInRange (task_answer job args)
 answer_fits add (arg.Num x ∷ arg.Num y ∷ []) = checked_fits (x +ℤ y)
 answer_fits mul (arg.Num x ∷ arg.Num y ∷ []) = checked_fits (x *ℤ y)
 answer_fits div (arg.Num x ∷ arg.Num y ∷ []) = quotient_fits x y
@@ -44,5 +44,5 @@ of_job_fits : (o : Option KnownTask) (args : List Arg) (named : List (Text × Ar
 of_job_fits None args named = tt
 of_job_fits (Some job) args named = filled_fits job (bound_to (parameters job) args named)
 
-pub apply_fits : (name : Text) (args : List Arg) (named : List (Text × Arg)) → IsInRange (apply name args named)
-apply_fits name args named = of_job_fits (job_named name) args named
+pub six_in_range : AnswersInRange six_tasks
+six_in_range name args named = of_job_fits (job_named name) args named

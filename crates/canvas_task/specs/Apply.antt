@@ -1,4 +1,4 @@
--- The table of tasks: what a call answers, by the task's name, its positional arguments and its keyword arguments.
+-- Registries of tasks (Celery: app.tasks), and that of the six.
 -- Numbers are whole and unbounded here; only a result that lies outside the range overflows.
 use Rattle.std.specs.Prelude.{◌≡◌, ℕ, zero, true, if◌then◌else◌, List, [], ◌∷◌, Option, Some, None, codes, ℤ, pos, ◌+ℤ◌, ◌*ℤ◌}
 use Rattle.std.specs.List.{list_all, list_any}
@@ -84,30 +84,38 @@ logged None = Failure (Plain BadCall)
 logged (Some k) = checked (pos k)
 
 -- what a task answers to an argument for each of its parameters, where one of another kind is a bad call
-abbrev pub answer : KnownTask → List Arg → Outcome
-answer add (arg.Num x ∷ arg.Num y ∷ []) = checked (x +ℤ y)
-answer mul (arg.Num x ∷ arg.Num y ∷ []) = checked (x *ℤ y)
-answer div (arg.Num x ∷ arg.Num y ∷ []) = quotient x y
-answer xsum (arg.List numbers ∷ []) = checked (sum_of numbers)
-answer ident (arg.Num x ∷ []) = checked x
-answer log_error (arg.Text uuid ∷ []) = logged (task_named uuid)
-answer job args = Failure (Plain BadCall)
+abbrev pub task_answer : KnownTask → List Arg → Outcome
+task_answer add (arg.Num x ∷ arg.Num y ∷ []) = checked (x +ℤ y)
+task_answer mul (arg.Num x ∷ arg.Num y ∷ []) = checked (x *ℤ y)
+task_answer div (arg.Num x ∷ arg.Num y ∷ []) = quotient x y
+task_answer xsum (arg.List numbers ∷ []) = checked (sum_of numbers)
+task_answer ident (arg.Num x ∷ []) = checked x
+task_answer log_error (arg.Text uuid ∷ []) = logged (task_named uuid)
+task_answer job args = Failure (Plain BadCall)
 
 -- what it answers to arguments that may not have filled its parameters
 abbrev pub answer_filled : KnownTask → Option (List Arg) → Outcome
 answer_filled job None = Failure (Plain BadCall)
-answer_filled job (Some args) = answer job args
+answer_filled job (Some args) = task_answer job args
 
 -- what a task that may be unknown answers
 abbrev pub of_job : Option KnownTask → List Arg → List (Text × Arg) → Outcome
 of_job None args named = Failure (Plain NotRegistered)
 of_job (Some job) args named = answer_filled job (bound_to (parameters job) args named)
 
--- what a call answers
-abbrev pub apply : Text → List Arg → List (Text × Arg) → Outcome
-apply name args named = of_job (job_named name) args named
+-- a registry of tasks: what a call answers, by the task's name, its positional arguments and its keyword arguments
+abbrev pub Registry : Type 0
+Registry = Text → List Arg → List (Text × Arg) → Outcome
+
+-- the registry of the six tasks
+abbrev pub six_tasks : Registry
+six_tasks name args named = of_job (job_named name) args named
 
 -- a success is of a number in range
 abbrev pub IsInRange : Outcome → Type 0
 IsInRange (Success n) = in_range n ≡ true
 IsInRange (Failure f) = Unit {0}
+
+-- each call's answer is in range
+abbrev pub AnswersInRange : Registry → Type 0
+AnswersInRange registry = (name : Text) (args : List Arg) (named : List (Text × Arg)) → IsInRange (registry name args named)

@@ -5,7 +5,7 @@ ghost use Rattle.canvas_task.specs.Entries.{named};
 ghost use Rattle.std.specs.List.{list_all, list_any};
 ghost use Rattle.std.specs.Str.{bytes_eq};
 ghost use Rattle.std.specs.Map.{keys_of};
-ghost use Rattle.canvas_task.specs.Apply.{add, mul, div, xsum, ident, log_error, apply, answer_filled, either, by_name, bound_to, checked, quotient, job_named, KnownTask, parameters};
+ghost use Rattle.canvas_task.specs.Apply.{add, mul, div, xsum, ident, log_error, six_tasks, answer_filled, either, by_name, bound_to, checked, quotient, job_named, KnownTask, parameters};
 
 use crate::{Arg, Fault, Kind, Outcome, task_of_text};
 use std::collections::BTreeMap;
@@ -191,7 +191,7 @@ fn log_error(args: &[Arg], kwargs: &BTreeMap<String, Arg>) -> Outcome
 
 /// What a task answers to a call.
 pub fn apply(name: &str, args: &[Arg], kwargs: &BTreeMap<String, Arg>) -> Outcome
-    ensures { result ≡ apply name.now args.now (named kwargs.now.entries) }
+    ensures { result ≡ six_tasks name.now args.now (named kwargs.now.entries) }
 {
     match name {
         "tasks.add" => add(args, kwargs),

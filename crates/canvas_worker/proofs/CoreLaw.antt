@@ -1,5 +1,6 @@
 -- A core run over envelopes is one of the worker over what they say.
 use Rattle.std.proofs.Common.{◌≡◌, ◌∙◌, ℕ, suc, Bool, true, false, cond, eqb, List, [], ◌∷◌, ◌++◌, map, length, Option, Some, None, refl, sym, ap, ap₂, subst}
+use Rattle.canvas_task.specs.Apply.{six_tasks}
 use Rattle.canvas_task.specs.declared.outcome.Outcome.{Outcome}
 use Rattle.canvas_semantics.specs.Line.{Line}
 use Rattle.canvas_rewrite.specs.FrozenView.{Load}
@@ -14,7 +15,7 @@ use Rattle.canvas_runs.specs.Protocol.{Protocol}
 use Rattle.canvas_runs.specs.Worker.{worker, opened}
 use Rattle.canvas_worker.specs.Asks.{Asked, Answer}
 use Rattle.canvas_worker.specs.Cores.{IsAlike, GoTogether, CoresAreWorkers}
-use Rattle.canvas_worker.specs.Enveloped.{said, enclosed, enveloped, kept as kept_envelope}
+use Rattle.canvas_worker.specs.Enveloped.{said, enclosed, enveloped, envelope_if as kept_envelope}
 use Rattle.canvas_worker.specs.Standing.{Left}
 use Rattle.canvas_worker.proofs.Opening.{opened_as}
 use Rattle.canvas_worker.proofs.Sendable.{envelope_so, said_of}
@@ -24,7 +25,7 @@ module _ (l : Line) where
   X = enveloped (roster_of l)
 
   abbrev Y : Protocol
-  Y = worker l
+  Y = worker six_tasks l
 
   abbrev Doing : Type 0
   Doing = CoreState Content Load Outcome
@@ -80,7 +81,7 @@ module _ (l : Line) where
   -- ---- answers
 
   step_owning : (e : Envelope) (c : Content) → said e ≡ c → (a : Bool) → IsAlike (owned X e a) (owned Y c a)
-  step_owning e c is true = subst (λ d. IsAlike (owned X e true) (owned Y d true)) is (settled_alike (script (after (said e) (outcome_of (said e)))) true)
+  step_owning e c is true = subst (λ d. IsAlike (owned X e true) (owned Y d true)) is (settled_alike (script (after (said e) (outcome_of six_tasks (said e)))) true)
   step_owning e c is false = tt
 
   step_doing : (js : List (Job Envelope Load Outcome)) (b : Bool) (ks : Jobs) (d : Bool) (r : Answer) → js ≡ map enclosed ks → b ≡ d → IsAlike (answered X (doing js b) r) (answered Y (doing ks d) r)
@@ -159,7 +160,7 @@ module _ (l : Line) where
   asks resting resting a back = (refl, tt)
   asks over over a back = (refl, tt)
   asks failed failed a back = (refl, tt)
-  asks (owning e) (owning c) a back = (ap (λ d. keep (number_of d.own) (outcome_of d)) (sym a), tt)
+  asks (owning e) (owning c) a back = (ap (λ d. keep (number_of d.own) (outcome_of six_tasks d)) (sym a), tt)
   asks (doing js b) (doing ks d) a back = jobs_ask js b ks d a.0 back
   asks (state_reading g c fs) (state_reading h d gs) a back = (ap₂ (λ x y. read x (length y)) (sym a.0) (sym a.1.1), tt)
   asks s t a back = absurd a
@@ -176,7 +177,7 @@ module _ (l : Line) where
 
   -- ---- between scripts
 
-  closed_alike : (s : Left) (t : Doing) → IsAlike s t → Between X s → Between Y t
+  closed_alike : (s : Left) (t : Doing) → IsAlike s t → Between s → Between t
   closed_alike taking taking a h = tt
   closed_alike resting resting a h = tt
   closed_alike over over a h = tt
@@ -186,7 +187,7 @@ module _ (l : Line) where
   closed_alike (state_reading g c fs) (state_reading k d gs) a h = h
   closed_alike s t a h = absurd a
 
-  closes_alike : (s : Left) (t : Doing) → IsAlike s t → Between Y t → Between X s
+  closes_alike : (s : Left) (t : Doing) → IsAlike s t → Between t → Between s
   closes_alike taking taking a h = tt
   closes_alike resting resting a h = tt
   closes_alike over over a h = tt

@@ -37,7 +37,7 @@ none_suits (R.Counted n) = refl
 none_suits (R.Found t x) = refl
 none_suits (R.Rested more) = refl
 
-none_held : (out : Bool) → (if out then None else asks.sent C.end) ≡ None
+none_held : (out : Bool) → (if out then None else asks.to_send C.end) ≡ None
 none_held true = refl
 none_held false = refl
 
@@ -48,7 +48,7 @@ still_end s h = h
 
 pub end_stays : EndStays
 end_stays s h =
-    ((λ r. ap (λ a. suits (shown a) r) h ∙ none_suits r), ap (λ a. if s.is_out then None else asks.sent a) h ∙ none_held s.is_out, still_end s.left h)
+    ((λ r. ap (λ a. suits (shown a) r) h ∙ none_suits r), ap (λ a. if s.is_out then None else asks.to_send a) h ∙ none_held s.is_out, still_end s.left h)
 
 pub failing_ends : FailingEnds
 failing_ends s = refl
@@ -87,7 +87,7 @@ all_read_on book g c fs h =
 
 ends_by : (book : Book) (s : Left) (r : Answer) → GoesOn s → Suits (enveloped_by book) (asked s) r → is_end (asked (answered (enveloped_by book) s r)) ≡ true → EndsACore (asked s) r
 ends_by book taking (taken None) on suit h = no_end resting refl h
-ends_by book taking (taken (Some e)) on suit h = no_end _ (opens_on book (enveloping.kept (opened book e) e)) h
+ends_by book taking (taken (Some e)) on suit h = no_end _ (opens_on book (enveloping.envelope_if (opened book e) e)) h
 ends_by book resting (rested true) on suit h = no_end taking refl h
 ends_by book resting (rested false) on suit h = tt
 ends_by book over r on suit h = absurd (true≢false on)

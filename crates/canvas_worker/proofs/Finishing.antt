@@ -1,5 +1,6 @@
 -- What a new worker's record says in words of the worker that the law of runs speaks of.
 use Rattle.std.proofs.Common.{◌≡◌, ◌∙◌, List, [], ◌∷◌, refl, sym, subst, arith}
+use Rattle.canvas_task.specs.Apply.{six_tasks}
 use Rattle.canvas_task.specs.declared.outcome.Outcome.{Outcome}
 use Rattle.canvas_semantics.specs.Line.{Line}
 use Rattle.canvas_rewrite.specs.FrozenView.{Load}
@@ -19,19 +20,19 @@ use Rattle.canvas_worker.proofs.CoreLaw.{cores_are_workers}
 
 -- a worker needs no first messages
 module _ (l : Line) where
-  run_same : (s : CoreState Content Load Outcome) (xs : List (Asked × Answer)) → IsCoreRun (worker l) s xs → IsCoreRun (working (roster_of l)) s xs
+  run_same : (s : CoreState Content Load Outcome) (xs : List (Asked × Answer)) → IsCoreRun (worker six_tasks l) s xs → IsCoreRun (working six_tasks (roster_of l)) s xs
   run_same s [] r = tt
-  run_same s (x ∷ xs) r = (r.0, r.1, run_same (answered (working (roster_of l)) s x.1) xs r.2)
+  run_same s (x ∷ xs) r = (r.0, r.1, run_same (answered (working six_tasks (roster_of l)) s x.1) xs r.2)
 
-  left_same : (s : CoreState Content Load Outcome) (xs : List (Asked × Answer)) → left_after (worker l) s xs ≡ left_after (working (roster_of l)) s xs
+  left_same : (s : CoreState Content Load Outcome) (xs : List (Asked × Answer)) → left_after (worker six_tasks l) s xs ≡ left_after (working six_tasks (roster_of l)) s xs
   left_same s [] = refl
-  left_same s (x ∷ xs) = left_same (answered (working (roster_of l)) s x.1) xs
+  left_same s (x ∷ xs) = left_same (answered (working six_tasks (roster_of l)) s x.1) xs
 
   -- the same point of the same worker
   abbrev carried : Progress → List (Asked × Answer) → Working
-  carried p xs = record { pass = p.pass; seat = p.seat; left = left_after (working (roster_of l)) taking xs; held = p.held; tally = p.tally }
+  carried p xs = record { pass = p.pass; seat = p.seat; left = left_after (working six_tasks (roster_of l)) taking xs; held = p.held; tally = p.tally }
 
-  followed : (pass : Pass) (seat : Seat) (p : Progress) (w : Worked (roster_of l) (starting pass seat) p) → Followed (roster_of l) (begins pass seat) (carried p w.run)
+  followed : (pass : Pass) (seat : Seat) (p : Progress) (w : Worked (roster_of l) (starting pass seat) p) → Followed six_tasks (roster_of l) (begins pass seat) (carried p w.run)
   followed pass seat p w = record {
     run = w.run;
     is_core = run_same taking w.run (cores_are_workers l w.run w.is_core).0;
@@ -46,11 +47,11 @@ module _ (l : Line) where
     serves = w.serves;
   }
 
-  closed : (pass : Pass) (seat : Seat) (p : Progress) (w : Worked (roster_of l) (starting pass seat) p) → (p.left ≡ over) × (p.held ≡ []) × Empties p.pass → IsDone (roster_of l) (carried p w.run)
+  closed : (pass : Pass) (seat : Seat) (p : Progress) (w : Worked (roster_of l) (starting pass seat) p) → (p.left ≡ over) × (p.held ≡ []) × Empties p.pass → IsDone (carried p w.run)
   closed pass seat p w whole =
-      let together : GoTogether l (left_after (enveloped (roster_of l)) taking w.run) (left_after (worker l) taking w.run) = (cores_are_workers l w.run w.is_core).1 in
-      let between : Between (enveloped (roster_of l)) (left_after (enveloped (roster_of l)) taking w.run) = subst (λ s. Between (enveloped (roster_of l)) s) (sym (w.leaves ∙ whole.0)) tt in
-      (subst (λ s. Between (working (roster_of l)) s) (left_same taking w.run) (together.closed between), whole.1)
+      let together : GoTogether l (left_after (enveloped (roster_of l)) taking w.run) (left_after (worker six_tasks l) taking w.run) = (cores_are_workers l w.run w.is_core).1 in
+      let between : Between (left_after (enveloped (roster_of l)) taking w.run) = subst (λ s. Between s) (sym (w.leaves ∙ whole.0)) tt in
+      (subst (λ s. Between s) (left_same taking w.run) (together.closed between), whole.1)
 
 pub workers_start : WorkersStart
 workers_start l plan broker desk number pass seat is of home = record {

@@ -17,7 +17,7 @@ use Rattle.canvas_worker.specs.Progress.{Progress}
 use Rattle.canvas_worker.specs.Seats.{Can}
 use Rattle.canvas_worker.specs.Standing.{Standing, asked, drops, after_reply}
 use Rattle.canvas_worker.specs.WorkerSteps.{Batched, FromHeld}
-use Rattle.canvas_worker.specs.Work.{Work, progress, with_core, told, lost, one_taken, Ready, takes, gives, Pends, Leaves, Ends, EndsWith}
+use Rattle.canvas_worker.specs.Work.{Work, progress, with_core, with_answer, lost, one_taken, Ready, takes_batch, gives_held, Pends, Leaves, Ends, EndsWith}
 use Rattle.canvas_worker.specs.declared.cause.Cause.TheVariants.{Memory}
 use Rattle.canvas_worker.specs.declared.record.Record.{Record}
 use Rattle.canvas_worker.specs.declared.working.End.{End}
@@ -109,10 +109,10 @@ module _ (w u : Work) (es : List Envelope) (e : Envelope) (ready : Ready w) (x :
       rested = λ rests. absurd (given_never plan e (subst (λ s. answered (enveloped plan) s (C.taken (Some e)) ≡ C.resting) (takes_taking w.core.left x.asked_is) rests));
       counts = tallied plan C.take (C.taken (Some e)) (progress w).tally (progress given).tally counted;
     };
-    moved = gives es e between batched from_held;
+    moved = gives_held es e between batched from_held;
   }
 
-  told_is : (v : Work) → v ≡ one_taken (told u (C.taken (Some e))) → Pends w v
+  told_is : (v : Work) → v ≡ one_taken (with_answer u (C.taken (Some e))) → Pends w v
   told_is v is = subst (λ z. Pends w z) (sym (is ∙ ap (λ c. one_taken (with_core u c)) core_is)) goes
 
   same_tally : (progress (lost u)).tally ≡ (progress w).tally
@@ -122,19 +122,19 @@ module _ (w u : Work) (es : List Envelope) (e : Envelope) (ready : Ready w) (x :
   fails s leaves = record {
     ended = between;
     counted = ready.counts;
-    moved = takes es batched;
+    moved = takes_batch es batched;
     is_of = record { same_number = leaves.same_number ∙ x.number; pass = leaves.pass; seat = leaves.seat ∙ x.seat; counts = leaves.counts ∙ same_tally; whole = λ none. absurd (some_none Memory (sym leaves.fault_is ∙ none)) };
   }
 
   lost_is : (v : Work) → v ≡ lost u → EndsWith w (Some Memory) v
   lost_is v is s leaves = fails s (subst (λ z. Leaves z (Some Memory) s) is leaves)
 
-  well : {A : Type 0} (result : Result A End) (v : Work) → MatchResult result (λ _. v ≡ one_taken (told u (C.taken (Some e)))) (λ end. (v ≡ lost u) × (end.fault ≡ Some Memory))
+  well : {A : Type 0} (result : Result A End) (v : Work) → MatchResult result (λ _. v ≡ one_taken (with_answer u (C.taken (Some e)))) (λ end. (v ≡ lost u) × (end.fault ≡ Some Memory))
       → MatchResult result (λ _. Pends w v) (λ end. EndsWith w end.fault v)
   well (Ok _) v is = told_is v is
   well (Err end) v is = subst (λ f. EndsWith w f v) (sym is.1) (lost_is v is.0)
 
 pub given_well : {A : Type 0} (w u v : Work) (es : List Envelope) (e : Envelope) (result : Result A End)
-    → MatchResult result (λ _. v ≡ one_taken (told u (C.taken (Some e)))) (λ end. (v ≡ lost u) × (end.fault ≡ Some Memory)) → Ready w → Takes w u es e
+    → MatchResult result (λ _. v ≡ one_taken (with_answer u (C.taken (Some e)))) (λ end. (v ≡ lost u) × (end.fault ≡ Some Memory)) → Ready w → Takes w u es e
     → MatchResult result (λ _. Pends w v) (λ end. EndsWith w end.fault v)
 given_well w u v es e result is ready x = well w u es e ready x result v is

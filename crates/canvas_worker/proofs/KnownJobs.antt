@@ -8,7 +8,7 @@ use Rattle.canvas_task.specs.declared.outcome.Outcome.TheVariants.{Success, Fail
 use Rattle.canvas_rewrite.specs.FrozenView.{Load}
 use Rattle.canvas_semantics.specs.PlacedLine.{PTask, p_task, PTasks, no_p_tasks, and_p_task, PPlace, p_nowhere, p_group, p_chord, PLine, p_stop, p_step, p_group_end, p_chord_end, PLines, no_p_lines, and_p_line}
 use Rattle.canvas_message.specs.Content.{Content, line, number_of, links_of, errbacks_of}
-use Rattle.canvas_message.specs.Effects.{Jobs, callbacks, part_of, fault_behind, when_empty, enter, enter_all, called, header}
+use Rattle.canvas_message.specs.Effects.{Jobs, callbacks, part_of, fault_behind, when_empty, enter, enter_all, called, header_flow}
 use Rattle.canvas_message.specs.Events.{In}
 use Rattle.canvas_message.specs.Fits.{how_many}
 use Rattle.canvas_message.specs.Flowing.{Input, number_input, list_input, id_input, LineFlow, run, skips, raise, after_outcome}
@@ -16,7 +16,7 @@ use Rattle.canvas_message.specs.Job.{Job, store, publish, hand_in}
 use Rattle.canvas_message.specs.Placing.{last_at, placed, end_place, last_task}
 use Rattle.canvas_message.proofs.FitsOn.{all_true}
 use Rattle.canvas_backend.specs.Roster.{Roster, size, is_member}
-use Rattle.canvas_runs.specs.Book.{Book, book_on, is_size, task_known, tasks_known, place_known, line_known, members_known, parent_known, message_known}
+use Rattle.canvas_runs.specs.Book.{Book, book_on, has_size, task_known, tasks_known, place_known, line_known, members_known, parent_known, message_known}
 use Rattle.canvas_runs.specs.Lists.{Each}
 use Rattle.canvas_runs.proofs.Words.{each_append, in_left, in_right}
 use Rattle.canvas_worker.specs.Seats.{Carries}
@@ -45,7 +45,7 @@ ended_jobs c o =
     called (links_of c.own) (errbacks_of c.own) (number_of c.own) o ++ enter c.rest (after_outcome o) (end_place (line c)) (number_of c.own) (Some (number_of c.own))
 
 abbrev pub body_jobs : Load → List (ℕ × Outcome) → Jobs
-body_jobs c es = enter c.body (header es) (end_place c.body) 0 None
+body_jobs c es = enter c.body (header_flow es) (end_place c.body) 0 None
 
 module _ (plan : Roster) where
   abbrev book : Book
@@ -63,7 +63,7 @@ module _ (plan : Roster) where
   end_known (p_step t (p_group_end g ms)) k h = refl
   end_known (p_step t (p_chord_end g ms b)) k h = end_known (p_chord_end g ms b) (number_of t) (and_parts (task_known book t) (line_known book (p_chord_end g ms b)) h).1
   end_known (p_group_end g ms) k h = refl
-  end_known (p_chord_end g ms b) k h = end_known b 0 (and_parts (is_size (how_many ms) (size plan g) && members_known book g ms) (line_known book b) h).1
+  end_known (p_chord_end g ms b) k h = end_known b 0 (and_parts (has_size (how_many ms) (size plan g) && members_known book g ms) (line_known book b) h).1
 
   last_known : (t : PTask) (rest : PLine) (p : PPlace) → task_known book t ≡ true → place_known book (last_task (number_of t) rest) p ≡ true → task_known book (last_at p t rest) ≡ true
   last_known (p_task n call ls es own) p_stop p h q =
@@ -80,7 +80,7 @@ module _ (plan : Roster) where
       all_true (task_known book (last_at p t rest)) (line_known book (placed p rest)) (last_known t rest p parts.0 q) (placed_known rest p (number_of t) parts.1 q)
   placed_known (p_group_end g ms) p k h q = h
   placed_known (p_chord_end g ms b) p k h q =
-      let before : Bool = is_size (how_many ms) (size plan g) && members_known book g ms in
+      let before : Bool = has_size (how_many ms) (size plan g) && members_known book g ms in
       let parts = and_parts before (line_known book b) h in
       all_true before (line_known book (placed p b)) parts.0 (placed_known b p 0 parts.1 q)
 
@@ -113,8 +113,8 @@ module _ (plan : Roster) where
   part_known p_nowhere k q = tt
   part_known (p_group g) k q = tt
   part_known (p_chord g n body) k q =
-      let parts = and_parts (is_member plan g k && is_size n (size plan g)) (line_known book body) q in
-      let first = and_parts (is_member plan g k) (is_size n (size plan g)) parts.0 in
+      let parts = and_parts (is_member plan g k && has_size n (size plan g)) (line_known book body) q in
+      let first = and_parts (is_member plan g k) (has_size n (size plan g)) parts.0 in
       ((first.0, (first.1, parts.1), inl refl), tt)
 
   empty_known : (ms : PLines) (js : Jobs) → Each (Known (Stored js)) js → Each (Known (Stored (when_empty ms js))) (when_empty ms js)
@@ -165,24 +165,24 @@ module _ (plan : Roster) where
           )
       enter_known (p_group_end g ms) x p k u h q = any_known k (enter_all ms x (p_group g) u) (all_known g ms x (p_group g) u h (λ n i. i))
       enter_known (p_chord_end g ms body) (run x) p k u h q =
-          let parts = and_parts (is_size (how_many ms) (size plan g) && members_known book g ms) (line_known book body) h in
-          let first = and_parts (is_size (how_many ms) (size plan g)) (members_known book g ms) parts.0 in
+          let parts = and_parts (has_size (how_many ms) (size plan g) && members_known book g ms) (line_known book body) h in
+          let first = and_parts (has_size (how_many ms) (size plan g)) (members_known book g ms) parts.0 in
           let js : Jobs = enter_all ms (run x) (p_chord g (how_many ms) (placed p body)) u in
           let ks : Jobs = enter body (run (list_input [])) p 0 u in
           any_known k (js ++ when_empty ms ks) (both_known js (when_empty ms ks)
           (all_known g ms (run x) (p_chord g (how_many ms) (placed p body)) u first.1 (λ n i.
-          all_true (is_member plan g n && is_size (how_many ms) (size plan g)) (line_known book (placed p body))
-          (all_true (is_member plan g n) (is_size (how_many ms) (size plan g)) i first.0) (placed_known body p 0 parts.1 q)))
+          all_true (is_member plan g n && has_size (how_many ms) (size plan g)) (line_known book (placed p body))
+          (all_true (is_member plan g n) (has_size (how_many ms) (size plan g)) i first.0) (placed_known body p 0 parts.1 q)))
           (empty_known ms ks (alone_known ks (enter_known body (run (list_input [])) p 0 u parts.1 q))))
       enter_known (p_chord_end g ms body) (skips f) p k u h q =
-          let parts = and_parts (is_size (how_many ms) (size plan g) && members_known book g ms) (line_known book body) h in
-          let first = and_parts (is_size (how_many ms) (size plan g)) (members_known book g ms) parts.0 in
+          let parts = and_parts (has_size (how_many ms) (size plan g) && members_known book g ms) (line_known book body) h in
+          let first = and_parts (has_size (how_many ms) (size plan g)) (members_known book g ms) parts.0 in
           let js : Jobs = enter_all ms (skips f) p_nowhere u in
           let ks : Jobs = enter body (skips f) p 0 u in
           any_known k (js ++ ks) (both_known js ks (all_known g ms (skips f) p_nowhere u first.1 (λ n i. refl)) (alone_known ks (enter_known body (skips f) p 0 u parts.1 q)))
       enter_known (p_chord_end g ms body) (raise f) p k u h q =
-          let parts = and_parts (is_size (how_many ms) (size plan g) && members_known book g ms) (line_known book body) h in
-          let first = and_parts (is_size (how_many ms) (size plan g)) (members_known book g ms) parts.0 in
+          let parts = and_parts (has_size (how_many ms) (size plan g) && members_known book g ms) (line_known book body) h in
+          let first = and_parts (has_size (how_many ms) (size plan g)) (members_known book g ms) parts.0 in
           let js : Jobs = enter_all ms (raise f) p_nowhere u in
           let ks : Jobs = enter body (raise (fault_behind ms f)) p 0 u in
           any_known k (js ++ ks) (both_known js ks (all_known g ms (raise f) p_nowhere u first.1 (λ n i. refl)) (alone_known ks (enter_known body (raise (fault_behind ms f)) p 0 u parts.1 q)))
@@ -209,4 +209,4 @@ module _ (plan : Roster) where
         (enter_known c.rest (after_outcome o) (end_place (line c)) k (Some k) rest (end_known (line c) 0 whole)))
 
     pub body_known : (c : Load) (es : List (ℕ × Outcome)) → line_known book c.body ≡ true → Each (Known (Stored (body_jobs c es))) (body_jobs c es)
-    body_known c es h = alone_known (body_jobs c es) (enter_known c.body (header es) (end_place c.body) 0 None h (end_known c.body 0 h))
+    body_known c es h = alone_known (body_jobs c es) (enter_known c.body (header_flow es) (end_place c.body) 0 None h (end_known c.body 0 h))

@@ -11,7 +11,7 @@ use Rattle.canvas_message.specs.Content.{number_of}
 use Rattle.canvas_message.specs.Fits.{how_many}
 use Rattle.canvas_message.specs.Placing.{last_task}
 use Rattle.canvas_message.proofs.Seen.{task_seen, line_none, line_some, end_some}
-use Rattle.canvas_runs.specs.Book.{Book, task_known, tasks_known, line_known, members_known, is_size}
+use Rattle.canvas_runs.specs.Book.{Book, task_known, tasks_known, line_known, members_known, has_size}
 use Rattle.canvas_worker.specs.steps.Lasts.{last_number}
 
 -- ---- the last task
@@ -76,12 +76,12 @@ counted (l ∷ ls) = omega (arith, counted ls)
 
 pub chord_known : (book : Book) (e : FrozenEnd) (b : FrozenLine) → (out-FrozenEnd e).body ≡ Some b → (ms : List FrozenLine) → ms ≡ (out-FrozenEnd e).members
     → line_known book (p_end_view e)
-    ≡ (is_size (length ms) (book.size (out-FrozenEnd e).group) && members_known book (out-FrozenEnd e).group (p_lines_of (map p_line_view ms)) && line_known book (p_line_view b))
+    ≡ (has_size (length ms) (book.size (out-FrozenEnd e).group) && members_known book (out-FrozenEnd e).group (p_lines_of (map p_line_view ms)) && line_known book (p_line_view b))
 chord_known book e b some ms same =
     let g : ℕ = (out-FrozenEnd e).group in
     ap (line_known book) (end_some e b some)
-    ∙ ap (λ xs. is_size (how_many (p_lines_of (map p_line_view xs))) (book.size g) && members_known book g (p_lines_of (map p_line_view xs)) && line_known book (p_line_view b)) (sym same)
-    ∙ ap (λ n. is_size n (book.size g) && members_known book g (p_lines_of (map p_line_view ms)) && line_known book (p_line_view b)) (counted ms)
+    ∙ ap (λ xs. has_size (how_many (p_lines_of (map p_line_view xs))) (book.size g) && members_known book g (p_lines_of (map p_line_view xs)) && line_known book (p_line_view b)) (sym same)
+    ∙ ap (λ n. has_size n (book.size g) && members_known book g (p_lines_of (map p_line_view ms)) && line_known book (p_line_view b)) (counted ms)
 
 -- ---- one check after the other
 

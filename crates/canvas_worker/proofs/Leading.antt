@@ -59,11 +59,11 @@ unsent_twice (doing (publish e ∷ js) b) = refl
 unsent_twice s = refl
 
 -- where nothing is published there is nothing to hand out
-unsent_same : (s : Left) → is_some (asks.sent (asked s)) ≡ false → unsent s ≡ s
+unsent_same : (s : Left) → is_some (asks.to_send (asked s)) ≡ false → unsent s ≡ s
 unsent_same (doing (publish e ∷ js) b) h = absurd cc
 unsent_same s h = refl
 
-still_same : (s : Left) → is_some (asks.sent (asked (unsent s))) ≡ false → unsent s ≡ s
+still_same : (s : Left) → is_some (asks.to_send (asked (unsent s))) ≡ false → unsent s ≡ s
 still_same (doing (publish e ∷ js) b) h = absurd cc
 still_same s h = refl
 
@@ -123,18 +123,18 @@ one_more_leads book xs s r leads back suit =
 
 -- ---- handed out
 
-handed_by : (before left : Left) (out : Bool) → left ≡ standing before out → (b : Bool) → is_some (asks.sent (asked left)) ≡ b → unsent left ≡ standing before b
+handed_by : (before left : Left) (out : Bool) → left ≡ standing before out → (b : Bool) → is_some (asks.to_send (asked left)) ≡ b → unsent left ≡ standing before b
 handed_by before left true same true is = ap unsent same ∙ unsent_twice before
 handed_by before left false same true is = ap unsent same
 handed_by before left true same false is =
-    unsent_same left is ∙ same ∙ still_same before (ap (λ u. is_some (asks.sent (asked u))) (sym same) ∙ is)
+    unsent_same left is ∙ same ∙ still_same before (ap (λ u. is_some (asks.to_send (asked u))) (sym same) ∙ is)
 handed_by before left false same false is = unsent_same left is ∙ same
 
 pub handed_leads : HandedLeads
 handed_leads book xs s leads =
-    record { run = leads.run; left = handed_by (left_by book xs) s.left s.is_out leads.left (is_some (asks.sent (asked s.left))) refl; dropped = leads.dropped }
+    record { run = leads.run; left = handed_by (left_by book xs) s.left s.is_out leads.left (is_some (asks.to_send (asked s.left))) refl; dropped = leads.dropped }
 
 pub hands_out : HandsOut
 hands_out book xs s leads held =
-    ap (λ b. if b then None else asks.sent (asked s.left)) held
-    ∙ ap (λ u. asks.sent (asked u)) (leads.left ∙ ap (λ b. standing (left_by book xs) b) held)
+    ap (λ b. if b then None else asks.to_send (asked s.left)) held
+    ∙ ap (λ u. asks.to_send (asked u)) (leads.left ∙ ap (λ b. standing (left_by book xs) b) held)

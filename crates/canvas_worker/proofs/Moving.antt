@@ -7,15 +7,15 @@ use Rattle.futures.specs.declared.task.Poll.TheVariants.{Ready, Pending}
 use Rattle.canvas_backend.specs.Seats.{Desk}
 use Rattle.canvas_backend.specs.Roster.{Roster}
 use Rattle.canvas_worker.specs.Progress.{Progress, Worked}
-use Rattle.canvas_worker.specs.Work.{Work, progress, Moves, stays, calls, takes, gives, Pends, IsRecordOf, Ends, TellsOf}
+use Rattle.canvas_worker.specs.Work.{Work, progress, Moves, stays, makes_call, takes_batch, gives_held, Pends, IsRecordOf, Ends, TellsOf}
 use Rattle.canvas_worker.specs.declared.record.Record.{Record}
 use Rattle.canvas_worker.proofs.Stepping.{rests, call_first, held_first, batch_first}
 
 moved_first : (plan : Roster) (p q x : Progress) → Moves plan p q → Worked plan q x → Worked plan p x
 moved_first plan p q x (stays e) f = subst (λ z. Worked plan z x) e f
-moved_first plan p q x (calls a r step) f = call_first plan p q x a r step f
-moved_first plan p q x (takes es step) f = batch_first plan p q x es step f
-moved_first plan p q x (gives es e between taken step) f = batch_first plan p between x es taken (held_first plan between q x e step f)
+moved_first plan p q x (makes_call a r step) f = call_first plan p q x a r step f
+moved_first plan p q x (takes_batch es step) f = batch_first plan p q x es step f
+moved_first plan p q x (gives_held es e between taken step) f = batch_first plan p between x es taken (held_first plan between q x e step f)
 
 pub goes_first : (w v : Work) → Pends w v → (r : Record) → TellsOf v r → TellsOf w r
 goes_first w v g r f =

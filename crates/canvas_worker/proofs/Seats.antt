@@ -3,6 +3,7 @@ use Rattle.std.proofs.Common.{⊎_elim, ◌≡◌, ◌≤◌, ◌<◌, ◌+◌, 
 use Rattle.std.specs.Prelude.{IsTrue, if◌then◌else◌}
 use Rattle.std.proofs.lemmas.Bool.{eqb-true, eqb-false}
 use Rattle.std.proofs.lemmas.Option.{slice_get_cases}
+use Rattle.canvas_task.specs.Apply.{six_tasks}
 use Rattle.canvas_task.specs.declared.outcome.Outcome.{Outcome}
 use Rattle.canvas_history.specs.History.{calls}
 use Rattle.canvas_semantics.specs.Line.{Line, GroupEntry, entry_at, entry_members, entry_size}
@@ -14,16 +15,16 @@ use Rattle.canvas_message.specs.Effects.{outcome_of, after, body_after, script}
 use Rattle.canvas_message.specs.Job.{store, publish, hand_in}
 use Rattle.canvas_message.specs.declared.envelope.Envelope.{Envelope}
 use Rattle.canvas_backend.specs.Backend as results
-use Rattle.canvas_backend.specs.Backend.{Call, Reply, IsCall, MayReturn}
+use Rattle.canvas_backend.specs.Backend.{TableCall, TableReply, IsCall, MayReturn}
 use Rattle.canvas_backend.specs.Roster.{Roster, roster_of, members, is_chord, is_member}
 use Rattle.canvas_backend.proofs.HistoryLaws.{first_may, still_may}
-use Rattle.canvas_runs.specs.Book.{book_on, is_size, line_known, message_known}
+use Rattle.canvas_runs.specs.Book.{book_on, has_size, line_known, message_known}
 use Rattle.canvas_runs.specs.Calls.{stored, backend_call}
 use Rattle.canvas_runs.specs.Core.{taken, sent, kept, counted, found, rested, taking, resting, over, failed, owning, doing, reading, is_due, settled, opens, answered}
-use Rattle.canvas_runs.specs.Following.{Seat, Serves, replied}
+use Rattle.canvas_runs.specs.Following.{Seat, Serves, table_reply}
 use Rattle.canvas_runs.specs.Worker.{opened}
 use Rattle.canvas_worker.specs.Asks.{Answer}
-use Rattle.canvas_worker.specs.Enveloped.{said, enclosed, enveloped, kept as kept_envelope}
+use Rattle.canvas_worker.specs.Enveloped.{said, enclosed, enveloped, envelope_if as kept_envelope}
 use Rattle.canvas_worker.specs.Scripts.{EnvelopeJobs}
 use Rattle.canvas_worker.specs.Seats.{Carries, InPlan, MayHandIn, Can, LetsAsk, WaitingCan, CanAsk, CanGoOn}
 use Rattle.canvas_worker.specs.Standing.{Left, asked}
@@ -73,10 +74,10 @@ module _ (plan : Roster) where
   settled_can s false (hand_in g t c ∷ js) i m = tt
 
   -- the one call of a seat
-  served : (s t : Seat) (c : results.Call) (r : results.Reply) → IsCall plan s.name s.seen t.seen (calls s.name c r) → t.name ≡ s.name → ((g d : ℕ) → c ≡ results.part g d → ⊥) → Keeps s t
+  served : (s t : Seat) (c : results.TableCall) (r : results.TableReply) → IsCall plan s.name s.seen t.seen (calls s.name c r) → t.name ≡ s.name → ((g d : ℕ) → c ≡ results.part g d → ⊥) → Keeps s t
   served s t c r call name other d m = subst (λ n. MayReturn plan t.seen n d) (sym name) (still_may plan s.name d c r s.seen t.seen (λ g. other g d) m call)
 
-  first_of : (s t : Seat) (d : ℕ) (o : Outcome) (a : Bool) → IsCall plan s.name s.seen t.seen (calls s.name (results.store d o) (replied (stored d o a))) → t.name ≡ s.name → a ≡ true → MayReturn plan t.seen t.name d
+  first_of : (s t : Seat) (d : ℕ) (o : Outcome) (a : Bool) → IsCall plan s.name s.seen t.seen (calls s.name (results.store d o) (table_reply (stored d o a))) → t.name ≡ s.name → a ≡ true → MayReturn plan t.seen t.name d
   first_of s t d o true call name e = subst (λ n. MayReturn plan t.seen n d) (sym name) (first_may plan s.name d o s.seen t.seen call)
   first_of s t d o false call name e = absurd cc
 
@@ -88,11 +89,11 @@ module _ (plan : Roster) where
 
   -- ---- chords
 
-  chord_size : (t : Option GroupEntry) (n : ℕ) → is_size n (entry_size t) ≡ true → IsTrue (is_some (entry_size t)) × (length (entry_members t) ≡ n)
+  chord_size : (t : Option GroupEntry) (n : ℕ) → has_size n (entry_size t) ≡ true → IsTrue (is_some (entry_size t)) × (length (entry_members t) ≡ n)
   chord_size None n h = absurd cc
   chord_size (Some t) n h = go t.chord h
     where
-      go : (b : Bool) → is_size n (if b then Some (length t.members) else None) ≡ true → IsTrue (is_some (if b then Some (length t.members) else None)) × (length t.members ≡ n)
+      go : (b : Bool) → has_size n (if b then Some (length t.members) else None) ≡ true → IsTrue (is_some (if b then Some (length t.members) else None)) × (length t.members ≡ n)
       go true e = (refl, eqb-true (length t.members) n e)
       go false e = absurd cc
 
@@ -114,12 +115,12 @@ module _ (l : Line) (is_plan : IsPlan l) where
   none : (g : ℕ) → is_member plan g 0 ≡ false
   none g = no_member_zero l is_plan g
 
-  ended_can : (s : Seat) (c : Content) → message_known (book_on plan) c ≡ true → MayReturn plan s.seen s.name (number_of c.own) → Can plan s (settled (enveloped plan) (map enclosed (script (after c (outcome_of c)))) true)
+  ended_can : (s : Seat) (c : Content) → message_known (book_on plan) c ≡ true → MayReturn plan s.seen s.name (number_of c.own) → Can plan s (settled (enveloped plan) (map enclosed (script (after c (outcome_of six_tasks c)))) true)
   ended_can s c h m =
       let k : ℕ = number_of c.own in
-      let js = ended_jobs c (outcome_of c) in
-      let known = ended_known plan none c (outcome_of c) h in
-      settled_can plan s true (map enclosed (script (after c (outcome_of c)))) (script_known plan (Behind k js) js known)
+      let js = ended_jobs c (outcome_of six_tasks c) in
+      let known = ended_known plan none c (outcome_of six_tasks c) h in
+      settled_can plan s true (map enclosed (script (after c (outcome_of six_tasks c)))) (script_known plan (Behind k js) js known)
       (script_may plan s true (Behind k js) js (λ d q. ⊎_elim (λ e. inr (λ t. subst (λ z. MayReturn plan s.seen s.name z) (sym e) m)) (λ y. inl y) q) known)
 
   completed_can : (s : Seat) (c : Load) (es : List (ℕ × Outcome)) → line_known (book_on plan) c.body ≡ true → Can plan s (settled (enveloped plan) (map enclosed (script (body_after c es))) false)
@@ -159,12 +160,12 @@ module _ (l : Line) (is_plan : IsPlan l) where
   goes_on s t (owning e) (kept true) c (u, stands, same) =
       ended_can t (said e) (opened_as (book_on plan) e (said e) c).1
       (subst (λ v. MayReturn plan v.seen v.name (number_of (said e).own)) (sym same)
-      (first_of plan s u (number_of (said e).own) (outcome_of (said e)) true stands.4 stands.1 refl))
+      (first_of plan s u (number_of (said e).own) (outcome_of six_tasks (said e)) true stands.4 stands.1 refl))
   goes_on s t (owning e) (kept false) c call = tt
   goes_on s t (doing (store d o ∷ js) b) (kept a) c (u, stands, same) =
       subst (λ v. Can plan v (settled (enveloped plan) js (cond (is_due d js) a b))) (sym same)
       (settled_can plan u (cond (is_due d js) a b) js c.0.1
-      (store_in plan s u d a b js (served plan s u (results.store d o) (replied (stored d o a)) stands.4 stands.1 (λ g k e. absurd cc)) (first_of plan s u d o a stands.4 stands.1) c.1))
+      (store_in plan s u d a b js (served plan s u (results.store d o) (table_reply (stored d o a)) stands.4 stands.1 (λ g k e. absurd cc)) (first_of plan s u d o a stands.4 stands.1) c.1))
   goes_on s t (doing (publish e ∷ js) b) sent c same = subst (λ v. Can plan v (settled (enveloped plan) js b)) (sym same) (settled_can plan s b js c.0 c.1)
   goes_on s t (doing (hand_in g d h ∷ js) b) (counted n) c call = handed_can plan t g h n c.0.1
   goes_on s t (reading g h fs) (found d (Some o)) c call = go (eqb (length (fs ++ (d, o) ∷ [])) h.size) refl

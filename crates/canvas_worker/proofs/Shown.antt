@@ -10,7 +10,7 @@ use Rattle.canvas_runs.specs.Book.{Book, book_on}
 use Rattle.canvas_runs.specs.Core as C
 use Rattle.canvas_runs.specs.Tally.{is_dropped, is_lost}
 use Rattle.canvas_runs.specs.Worker.{opened}
-use Rattle.canvas_worker.specs.Asks.{Asked, Answer, shown, sent}
+use Rattle.canvas_worker.specs.Asks.{Asked, Answer, shown, to_send}
 use Rattle.canvas_worker.specs.Books.{no_book}
 use Rattle.canvas_worker.specs.Enveloped.{enveloped_by}
 use Rattle.canvas_runs.specs.Tally.{greatest_count}
@@ -65,7 +65,7 @@ is_read g i (C.read h j) e = cc
 is_read g i C.pause e = absurd cc
 is_read g i C.end e = absurd cc
 
-is_send : (x : Envelope) (a : Asked) → sent a ≡ Some x → a ≡ C.send x
+pub is_send : (x : Envelope) (a : Asked) → to_send a ≡ Some x → a ≡ C.send x
 is_send x C.take e = absurd cc
 is_send x (C.send y) e = cc
 is_send x (C.keep u w) e = absurd cc
@@ -76,13 +76,13 @@ is_send x C.end e = absurd cc
 
 -- the envelope that is handed out is the one that the ask publishes
 pub handed_out : (x : Envelope) (c : Standing) → c.is_out ≡ false → held_out c ≡ Some x → asked c.left ≡ C.send x
-handed_out x c out e = is_send x (asked c.left) (sym (ap (λ b. if b then None else sent (asked c.left)) out) ∙ e)
+handed_out x c out e = is_send x (asked c.left) (sym (ap (λ b. if b then None else to_send (asked c.left)) out) ∙ e)
 
 -- and there is one
 pub hands_one : (c : Standing) → c.is_out ≡ false → shown (asked c.left) ≡ Publish → held_out c ≡ None → ⊥
-hands_one c out is none = by (asked c.left) is (sym (ap (λ b. if b then None else sent (asked c.left)) out) ∙ none)
+hands_one c out is none = by (asked c.left) is (sym (ap (λ b. if b then None else to_send (asked c.left)) out) ∙ none)
   where
-    by : (a : Asked) → shown a ≡ Publish → sent a ≡ None → ⊥
+    by : (a : Asked) → shown a ≡ Publish → to_send a ≡ None → ⊥
     by C.take e f = cc
     by (C.send x) e f = cc
     by (C.keep u w) e f = cc

@@ -11,7 +11,7 @@ use Rattle.canvas_broker.specs.Passes.{Took}
 use Rattle.canvas_runs.specs.Core.{Ask, Reply, take, send, taken, sent, IsCoreRun, left_after}
 use Rattle.canvas_runs.specs.Following.{Pass, Seat, Stood, Makes, Serves}
 use Rattle.canvas_worker.specs.Progress.{Progress, Worked}
-use Rattle.canvas_runs.specs.Calls.{BrokerCall, took, BackendCall, Follows, follows_all, follows_publish, follows_list_take, follows_core_take, broker_call, broker_calls, backend_call, backend_calls, takes_one}
+use Rattle.canvas_runs.specs.Calls.{BrokerCall, took, BackendCall, FollowsCore, follows_all, follows_publish, follows_list_take, follows_core_take, broker_call, broker_calls, backend_call, backend_calls, takes_one}
 use Rattle.std.specs.Prelude.{slice_get}
 use Rattle.canvas_runs.specs.Lists.{Each, total, at}
 use Rattle.canvas_worker.specs.WorkerSteps.{OnlyBare, Called, FromHeld, Batched}
@@ -47,9 +47,9 @@ took_makes p q (e ∷ d ∷ es) t =
     let legal : IsLegal mid.seen = legal_left [] answer next May [] mid.seen rest (subst (λ l. IsLegal l) shape x.3) in
     (mid, (refl, refl, refl, refl, (x.0, refl, x.2, legal, x.4)), took_makes mid q (d ∷ es) (t.0, t.1, t.2, t.3, ([], shape, tt, x.3, λ _. refl)))
 
-batch_follows : (es : List Envelope) (ts : List (Option Envelope)) (cs ls : List (BrokerCall Envelope)) → Follows (ts ++ map Some es) cs ls → Follows ts cs (taking_all es ++ ls)
-batch_follows [] ts cs ls f = subst (λ xs. Follows xs cs ls) (append-nil ts) f
-batch_follows (e ∷ es) ts cs ls f = follows_list_take (batch_follows es (ts ++ Some e ∷ []) cs ls (subst (λ xs. Follows xs cs ls) (sym (append_assoc ts (Some e ∷ []) (map Some es))) f))
+batch_follows : (es : List Envelope) (ts : List (Option Envelope)) (cs ls : List (BrokerCall Envelope)) → FollowsCore (ts ++ map Some es) cs ls → FollowsCore ts cs (taking_all es ++ ls)
+batch_follows [] ts cs ls f = subst (λ xs. FollowsCore xs cs ls) (append-nil ts) f
+batch_follows (e ∷ es) ts cs ls f = follows_list_take (batch_follows es (ts ++ Some e ∷ []) cs ls (subst (λ xs. FollowsCore xs cs ls) (sym (append_assoc ts (Some e ∷ []) (map Some es))) f))
 
 map_more : (xs ys : List Envelope) → ◌≡◌ {A = List (Option Envelope)} (map Some (xs ++ ys)) (map Some xs ++ map Some ys)
 map_more [] ys = refl
@@ -85,10 +85,10 @@ module _ (plan : Roster) where
   call_stood (send e) sent = (tt, tt)
   call_stood a r = tt
 
-  call_follows : (a : Ask Envelope Outcome) (r : Reply Envelope Outcome) (held : List Envelope) (cs ls : List (BrokerCall Envelope)) → OnlyBare plan a r held → Follows (map Some held) cs ls
-      → Follows (map Some held) (broker_call (enveloped plan) a r ++ cs) (broker_call (enveloped plan) a r ++ ls)
+  call_follows : (a : Ask Envelope Outcome) (r : Reply Envelope Outcome) (held : List Envelope) (cs ls : List (BrokerCall Envelope)) → OnlyBare plan a r held → FollowsCore (map Some held) cs ls
+      → FollowsCore (map Some held) (broker_call (enveloped plan) a r ++ cs) (broker_call (enveloped plan) a r ++ ls)
   call_follows take (taken (Some e)) held cs ls b f =
-      subst (λ hs. Follows (map Some hs) (took (Some e) ∷ cs) (took (Some e) ∷ ls)) (sym b) (follows_list_take (follows_core_take (subst (λ hs. Follows (map Some hs) cs ls) b f)))
+      subst (λ hs. FollowsCore (map Some hs) (took (Some e) ∷ cs) (took (Some e) ∷ ls)) (sym b) (follows_list_take (follows_core_take (subst (λ hs. FollowsCore (map Some hs) cs ls) b f)))
   call_follows (send e) sent held cs ls b f = follows_publish f
   call_follows a r held cs ls b f = f
 
@@ -121,7 +121,7 @@ module _ (plan : Roster) where
         leaves = subst (λ u. left_after (enveloped plan) u f.run ≡ x.left) s.0.left f.leaves;
         made = call ++ f.made;
         stood = each_append Stood call f.made (call_stood a r) f.stood;
-        follows = call_follows a r w.held (broker_calls (enveloped plan) f.run) f.made s.2 (subst (λ hs. Follows (map Some hs) (broker_calls (enveloped plan) f.run) f.made) s.1 f.follows);
+        follows = call_follows a r w.held (broker_calls (enveloped plan) f.run) f.made s.2 (subst (λ hs. FollowsCore (map Some hs) (broker_calls (enveloped plan) f.run) f.made) s.1 f.follows);
         used = (let same : length v.held ≡ length w.held = ap length s.1 in omega (arith, same, f.used, total-append takes_one call f.made, total-append takes_one call (broker_calls (enveloped plan) f.run)));
         makes = makes_append call f.made w.pass v.pass x.pass s.3 f.makes;
         serves = serves_append plan (backend_call (enveloped plan) a r) (backend_calls (enveloped plan) f.run) w.seat v.seat x.seat s.4 f.serves;
@@ -136,7 +136,7 @@ module _ (plan : Roster) where
     leaves = subst (λ u. left_after (enveloped plan) u f.run ≡ x.left) s.0.left f.leaves;
     made = f.made;
     stood = f.stood;
-    follows = subst (λ hs. Follows (map Some hs) (took (Some e) ∷ broker_calls (enveloped plan) f.run) f.made) (sym s.1) (follows_core_take f.follows);
+    follows = subst (λ hs. FollowsCore (map Some hs) (took (Some e) ∷ broker_calls (enveloped plan) f.run) f.made) (sym s.1) (follows_core_take f.follows);
     used = (let same : length w.held ≡ length (e ∷ v.held) = ap length s.1 in omega (arith, same, f.used));
     makes = subst (λ p. Makes p f.made x.pass) s.2 f.makes;
     serves = subst (λ p. Serves plan p (backend_calls (enveloped plan) f.run) x.seat) s.3 f.serves;
@@ -152,7 +152,7 @@ module _ (plan : Roster) where
     made = taking_all es ++ f.made;
     stood = each_append Stood (taking_all es) f.made (batch_stood es) f.stood;
     follows = batch_follows es (map Some w.held) (broker_calls (enveloped plan) f.run) f.made
-        (subst (λ xs. Follows xs (broker_calls (enveloped plan) f.run) f.made) (ap (λ hs. map Some hs) s.0 ∙ map_more w.held es) f.follows);
+        (subst (λ xs. FollowsCore xs (broker_calls (enveloped plan) f.run) f.made) (ap (λ hs. map Some hs) s.0 ∙ map_more w.held es) f.follows);
     used = (let same : length v.held ≡ length (w.held ++ es) = ap length s.0 in omega (arith, same, longer w.held es, f.used, total-append takes_one (taking_all es) f.made, batch_takes es));
     makes = makes_append (taking_all es) f.made w.pass v.pass x.pass (took_makes w.pass v.pass es s.1) f.makes;
     serves = subst (λ p. Serves plan p (backend_calls (enveloped plan) f.run) x.seat) s.2 f.serves;

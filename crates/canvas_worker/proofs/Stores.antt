@@ -8,7 +8,7 @@ use Rattle.canvas_task.specs.declared.outcome.Outcome.TheVariants.{Success, Fail
 use Rattle.canvas_rewrite.specs.FrozenView.{Load}
 use Rattle.canvas_semantics.specs.PlacedLine.{PTasks, no_p_tasks, and_p_task, PPlace, p_nowhere, p_group, p_chord, PLine, p_stop, p_step, p_group_end, p_chord_end, PLines, no_p_lines, and_p_line}
 use Rattle.canvas_message.specs.Content.{Content, line, number_of, links_of, errbacks_of}
-use Rattle.canvas_message.specs.Effects.{Jobs, Effect, callbacks, part_of, fault_behind, when_empty, enter, enter_all, stores_in, called, after, header, body_after}
+use Rattle.canvas_message.specs.Effects.{Jobs, Effect, callbacks, part_of, fault_behind, when_empty, enter, enter_all, stores_in, called, after, header_flow, body_after}
 use Rattle.canvas_message.specs.Flowing.{Input, number_input, list_input, id_input, LineFlow, run, skips, raise, after_outcome}
 use Rattle.canvas_message.specs.Fits.{how_many}
 use Rattle.canvas_message.specs.Job.{Job, store, publish, hand_in}
@@ -107,7 +107,7 @@ after_stores c o =
     (enters c.rest (after_outcome o) (end_place (line c)) (number_of c.own) (Some (number_of c.own))))
 
 pub body_stores : (c : Load) (es : List (ℕ × Outcome)) → All (λ e. IsInRange e.1) (body_after c es).stores
-body_stores c es = ordered (enter c.body (header es) (end_place c.body) 0 None) (enters c.body (header es) (end_place c.body) 0 None)
+body_stores c es = ordered (enter c.body (header_flow es) (end_place c.body) 0 None) (enters c.body (header_flow es) (end_place c.body) 0 None)
 
 -- of what follows a task, or the members of a header
 pub todo_stores : (c : Content) (o : Outcome) (e : Effect) → e ≡ after c o → All (λ s. IsInRange s.1) e.stores

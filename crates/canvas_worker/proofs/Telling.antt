@@ -17,7 +17,7 @@ use Rattle.canvas_worker.specs.Progress.{Progress}
 use Rattle.canvas_worker.specs.Seats.{Can}
 use Rattle.canvas_worker.specs.Standing.{Standing, asked, drops, after_reply}
 use Rattle.canvas_worker.specs.WorkerSteps.{OnlyBare, Called}
-use Rattle.canvas_worker.specs.Work.{Work, progress, with_core, told, lost, Ready, calls, Pends, Leaves, Ends, EndsWith}
+use Rattle.canvas_worker.specs.Work.{Work, progress, with_core, with_answer, lost, Ready, makes_call, Pends, Leaves, Ends, EndsWith}
 use Rattle.canvas_worker.specs.declared.cause.Cause.TheVariants.{Memory}
 use Rattle.canvas_worker.specs.declared.record.Record.{Record}
 use Rattle.canvas_worker.specs.declared.working.End.{End}
@@ -110,34 +110,34 @@ module _ (w u : Work) (a : Asked) (r : Answer) (ready : Ready w) (x : Asks w u a
     counts = tallied plan a r (progress w).tally after.tally counted;
   }
 
-  told_is : (v : Work) → v ≡ told u r → Pends w v
+  told_is : (v : Work) → v ≡ with_answer u r → Pends w v
   told_is v e =
-      subst (λ z. Pends w z) (sym (e ∙ ap (λ c. with_core u c) core_is)) (record { broker = x.broker; desk = x.desk; number = x.number; ready = ready_then; moved = calls a r called })
+      subst (λ z. Pends w z) (sym (e ∙ ap (λ c. with_core u c) core_is)) (record { broker = x.broker; desk = x.desk; number = x.number; ready = ready_then; moved = makes_call a r called })
 
   fails : (s : Record) → Leaves (lost u) (Some Memory) s → Ends w s
   fails s leaves = record {
     ended = after;
     counted = tallied plan a r (progress w).tally after.tally counted;
-    moved = calls a r called;
+    moved = makes_call a r called;
     is_of = record { same_number = leaves.same_number ∙ x.number; pass = leaves.pass; seat = leaves.seat; counts = leaves.counts; whole = λ none. absurd (some_none Memory (sym leaves.fault_is ∙ none)) };
   }
 
   lost_is : (v : Work) → v ≡ lost u → EndsWith w (Some Memory) v
   lost_is v e s leaves = fails s (subst (λ z. Leaves z (Some Memory) s) e leaves)
 
-  well : {A : Type 0} (result : Result A End) (v : Work) → MatchResult result (λ _. v ≡ told u r) (λ e. (v ≡ lost u) × (e.fault ≡ Some Memory))
+  well : {A : Type 0} (result : Result A End) (v : Work) → MatchResult result (λ _. v ≡ with_answer u r) (λ e. (v ≡ lost u) × (e.fault ≡ Some Memory))
       → MatchResult result (λ _. Pends w v) (λ e. EndsWith w e.fault v)
   well (Ok _) v is = told_is v is
   well (Err e) v is = subst (λ f. EndsWith w f v) (sym is.1) (lost_is v is.0)
 
   -- a worker that ends without a fault
-  ends_so : (v : Work) → v ≡ told u r → (s : Record) → Leaves v None s → (after.left ≡ C.over) × (after.held ≡ []) × Empties after.pass → Ends w s
+  ends_so : (v : Work) → v ≡ with_answer u r → (s : Record) → Leaves v None s → (after.left ≡ C.over) × (after.held ≡ []) × Empties after.pass → Ends w s
   ends_so v e s leaves whole =
       let is : v ≡ with_core u core = e ∙ ap (λ c. with_core u c) core_is in
       record {
         ended = after;
         counted = tallied plan a r (progress w).tally after.tally counted;
-        moved = calls a r called;
+        moved = makes_call a r called;
         is_of = record {
           same_number = leaves.same_number ∙ ap (λ (z : Work). z.number) is ∙ x.number;
           pass = leaves.pass ∙ ap (λ (z : Work). z.pass) is;
@@ -147,7 +147,7 @@ module _ (w u : Work) (a : Asked) (r : Answer) (ready : Ready w) (x : Asks w u a
         };
       }
 
-pub asked_well : {A : Type 0} (w u v : Work) (a : Asked) (r : Answer) (result : Result A End) → MatchResult result (λ _. v ≡ told u r) (λ e. (v ≡ lost u) × (e.fault ≡ Some Memory))
+pub asked_well : {A : Type 0} (w u v : Work) (a : Asked) (r : Answer) (result : Result A End) → MatchResult result (λ _. v ≡ with_answer u r) (λ e. (v ≡ lost u) × (e.fault ≡ Some Memory))
     → Ready w → Asks w u a r → MatchResult result (λ _. Pends w v) (λ e. EndsWith w e.fault v)
 asked_well w u v a r result is ready x = well w u a r ready x result v is
 
@@ -161,7 +161,7 @@ pub asked_badly : (w u v : Work) (a : Asked) (r : Answer) (e : End) → (v ≡ l
 asked_badly w u v a r e is ready x = subst (λ f. EndsWith w f v) (sym is.1) (lost_is w u a r ready x v is.0)
 
 -- a worker that is told that no more will come
-pub rests_well : (w u v : Work) → v ≡ told u (C.rested false) → Ready w → Asks w u C.pause (C.rested false) → EndsWith w None v
+pub rests_well : (w u v : Work) → v ≡ with_answer u (C.rested false) → Ready w → Asks w u C.pause (C.rested false) → EndsWith w None v
 rests_well w u v is ready x s leaves =
     let rests : w.core.left ≡ C.resting = rests_over w.core.left x.asked_is in
     ends_so w u C.pause (C.rested false) ready x v is s leaves (ap (λ l. answered (enveloped w.desk.plan) l (C.rested false)) rests, x.held ∙ (ready.rested rests).0, subst (λ p. Empties p) (sym x.makes) (ready.rested rests).1)

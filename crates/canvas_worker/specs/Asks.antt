@@ -3,7 +3,7 @@ use Rattle.std.specs.Prelude.{Bool, true, false, Option, Some, None}
 use Rattle.canvas_task.specs.Apply.{IsInRange}
 use Rattle.canvas_task.specs.declared.outcome.Outcome.{Outcome}
 use Rattle.canvas_backend.specs.declared.stored.Stored.{Stored}
-use Rattle.canvas_backend.specs.declared.stored.Stored.TheVariants.{First, Again}
+use Rattle.canvas_backend.specs.Backend.{says_first}
 use Rattle.canvas_message.specs.declared.envelope.Envelope.{Envelope}
 use Rattle.canvas_runs.specs.Core as C
 use Rattle.canvas_worker.specs.declared.ask.Ask.{Ask}
@@ -38,20 +38,16 @@ shown (C.read g i) = Read g i
 shown C.pause = Rest
 shown C.end = End
 
-abbrev pub sent : Asked → Option Envelope
-sent (C.send e) = Some e
-sent a = None
-
-abbrev pub is_first : Stored → Bool
-is_first First = true
-is_first Again = false
+abbrev pub to_send : Asked → Option Envelope
+to_send (C.send e) = Some e
+to_send a = None
 
 -- a reply as the machine has it
 abbrev pub replied : Reply → Answer
 replied (R.Taken x) = C.taken x
 replied R.Published = C.sent
 replied (R.NotPublished e) = C.refused
-replied (R.Stored s) = C.kept (is_first s)
+replied (R.Stored s) = C.kept (says_first s)
 replied (R.Counted n) = C.counted n
 replied (R.Found t x) = C.found t x
 replied (R.Rested more) = C.rested more

@@ -1,5 +1,6 @@
 -- How a core, which keeps messages as their envelopes, goes with the worker that keeps what they say.
 use Rattle.std.specs.Prelude.{◌≡◌, List, map}
+use Rattle.canvas_task.specs.Apply.{six_tasks}
 use Rattle.canvas_task.specs.declared.outcome.Outcome.{Outcome}
 use Rattle.canvas_semantics.specs.Line.{Line}
 use Rattle.canvas_rewrite.specs.FrozenView.{Load}
@@ -26,14 +27,14 @@ IsAlike s t = ⊥
 pub record GoTogether (l : Line) (s : Left) (t : CoreState Content Load Outcome) : Type 0 where
   pub alike : IsAlike s t
   -- the next ask of the one is that of the other
-  pub asks : ReadsBack (enveloped (roster_of l)) s → ask (worker l) t ≡ ask (enveloped (roster_of l)) s
-  pub reads_back : ReadsBack (enveloped (roster_of l)) s → ReadsBack (worker l) t
+  pub asks : ReadsBack (enveloped (roster_of l)) s → ask (worker six_tasks l) t ≡ ask (enveloped (roster_of l)) s
+  pub reads_back : ReadsBack (enveloped (roster_of l)) s → ReadsBack (worker six_tasks l) t
   -- the one is between scripts just where the other is
-  pub closed : Between (enveloped (roster_of l)) s → Between (worker l) t
-  pub closes : Between (worker l) t → Between (enveloped (roster_of l)) s
+  pub closed : Between s → Between t
+  pub closes : Between t → Between s
 
 -- What is a core run where messages are kept as their envelopes is one of the worker, and both have the same left to do.
 abbrev pub CoresAreWorkers : Type 0
 CoresAreWorkers =
     (l : Line) (xs : List (Asked × Answer)) → IsCoreRun (enveloped (roster_of l)) taking xs
-    → IsCoreRun (worker l) taking xs × GoTogether l (left_after (enveloped (roster_of l)) taking xs) (left_after (worker l) taking xs)
+    → IsCoreRun (worker six_tasks l) taking xs × GoTogether l (left_after (enveloped (roster_of l)) taking xs) (left_after (worker six_tasks l) taking xs)

@@ -1,6 +1,7 @@
 -- The worker of a plan where each message is kept as its envelope, as a core keeps it (Celery task message protocol, version 2).
 -- `law_of_cores` leads from here to the worker whose messages are what the envelopes say.
 use Rattle.std.specs.Prelude.{◌≡◌, ℕ, Bool, ◌&&◌, if◌then◌else◌, List, [], map, Option, Some, None, is_none, Ok}
+use Rattle.canvas_task.specs.Apply.{six_tasks}
 use Rattle.canvas_task.specs.declared.outcome.Outcome.{Outcome}
 use Rattle.canvas_rewrite.specs.FrozenView.{Load}
 use Rattle.canvas_message.specs.Content.{Content, number_of}
@@ -37,9 +38,9 @@ enclosed (publish c) = publish (envelope_of c)
 enclosed (hand_in g t l) = hand_in g t l
 
 -- the envelope where it is that of a message
-abbrev pub kept : Option Content → Envelope → Option Envelope
-kept None e = None
-kept (Some c) e = Some e
+abbrev pub envelope_if : Option Content → Envelope → Option Envelope
+envelope_if None e = None
+envelope_if (Some c) e = Some e
 
 -- of what a book knows, and of the last tasks of groups' members
 abbrev pub enveloped_on : Book → (ℕ → List ℕ) → Protocol
@@ -49,13 +50,13 @@ enveloped_on book lasts = record {
   Carried = Load;
   Outcome = Outcome;
   no = λ e. number_of (said e).own;
-  outcome = λ e. outcome_of (said e);
+  outcome = λ e. outcome_of six_tasks (said e);
   ended = λ e o. map enclosed (script (after (said e) o));
   completed = λ c es. map enclosed (script (body_after c es));
   size = λ c. c.size;
   sealed = λ e. e;
   Back = λ e. read_envelope e ≡ Ok (said e);
-  opened = λ e. kept (opened book e) e;
+  opened = λ e. envelope_if (opened book e) e;
   members = lasts;
   first = [];
 }

@@ -1,6 +1,7 @@
 -- What a new worker's record says, where its backend is one of a plan: in words of the worker that the law of runs speaks of.
 use Rattle.std.specs.Prelude.{◌≡◌, ℕ, None}
 use Rattle.std.specs.Global.{Global}
+use Rattle.canvas_task.specs.Apply.{six_tasks}
 use Rattle.crossbeam_queue.specs.SegTies.{SegId}
 use Rattle.canvas_semantics.specs.Line.{Line}
 use Rattle.canvas_rewrite.specs.Planned.{IsPlan}
@@ -16,11 +17,11 @@ use Rattle.canvas_worker.specs.declared.record.Record.{Record}
 pub record Finished (plan : Roster) (number : ℕ) (pass : Pass) (seat : Seat) (r : Record) : Type 0 where
   pub same_number : r.number ≡ number
   pub ended : Working
-  pub followed : Followed plan (begins pass seat) ended
+  pub followed : Followed six_tasks plan (begins pass seat) ended
   pub pass_is : r.pass ≡ ended.pass
   pub seat_is : r.seat ≡ ended.seat
   pub counts : tally_of r ≡ ended.tally
-  pub done : r.fault ≡ None → IsDone plan ended
+  pub done : r.fault ≡ None → IsDone ended
   pub empty : r.fault ≡ None → Empties r.pass
 
 -- a new worker may be polled

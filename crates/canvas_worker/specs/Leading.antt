@@ -6,7 +6,7 @@ use Rattle.canvas_rewrite.specs.Planned.{IsPlan}
 use Rattle.canvas_backend.specs.Roster.{roster_of}
 use Rattle.canvas_runs.specs.Book.{Book}
 use Rattle.canvas_runs.specs.Core.{taking, answered, left_after, ReadsBack, IsCoreRun}
-use Rattle.canvas_worker.specs.Asks.{Asked, Answer, suits, shown, sent, replied}
+use Rattle.canvas_worker.specs.Asks.{Asked, Answer, suits, shown, to_send, replied}
 use Rattle.canvas_worker.specs.Books.{book_in}
 use Rattle.canvas_worker.specs.Enveloped.{enveloped, enveloped_by}
 use Rattle.canvas_runs.specs.Tally.{greatest_count}
@@ -43,7 +43,7 @@ abbrev pub HandedLeads : Type 0
 HandedLeads = (book : Book) (xs : List (Asked × Answer)) (s : Standing) → Leads book xs s → Leads book xs (handed s)
 
 abbrev pub HandsOut : Type 0
-HandsOut = (book : Book) (xs : List (Asked × Answer)) (s : Standing) → Leads book xs s → s.is_out ≡ false → held_out s ≡ sent (asked (left_by book xs))
+HandsOut = (book : Book) (xs : List (Asked × Answer)) (s : Standing) → Leads book xs s → s.is_out ≡ false → held_out s ≡ to_send (asked (left_by book xs))
 
 -- What leads to a core whose book is a backend of a plan is a core run of that plan's worker, with the same left to do.
 abbrev pub PlanLeads : Type 0

@@ -2,7 +2,7 @@
 use Rattle.std.specs.Prelude.{◌+◌, ◌≡◌, List, [], length, map, Some}
 use Rattle.canvas_message.specs.declared.envelope.Envelope.{Envelope}
 use Rattle.canvas_backend.specs.Roster.{Roster}
-use Rattle.canvas_runs.specs.Calls.{BrokerCall, Follows, AskedAndAnswered, broker_calls, backend_calls, ReadsMembers, takes_one}
+use Rattle.canvas_runs.specs.Calls.{BrokerCall, FollowsCore, AskedAndAnswered, broker_calls, backend_calls, ReadsMembers, takes_one}
 use Rattle.canvas_runs.specs.Core.{taking, IsCoreRun, left_after}
 use Rattle.canvas_runs.specs.Following.{Pass, Seat, Stood, Makes, Serves}
 use Rattle.canvas_runs.specs.Lists.{Each, total}
@@ -33,7 +33,7 @@ pub record Worked (plan : Roster) (w v : Progress) : Type 0 where
   -- the calls of its pass. A take may stand before the core's
   pub made : List (BrokerCall Envelope)
   pub stood : Each Stood made
-  pub follows : Follows (map Some w.held) (broker_calls (enveloped plan) run) made
+  pub follows : FollowsCore (map Some w.held) (broker_calls (enveloped plan) run) made
   pub used : length w.held + total takes_one made ≡ total takes_one (broker_calls (enveloped plan) run) + length v.held
   pub makes : Makes w.pass made v.pass
   pub serves : Serves plan w.seat (backend_calls (enveloped plan) run) v.seat

@@ -7,7 +7,7 @@ use Rattle.canvas_rewrite.specs.Planned.{IsPlan}
 use Rattle.canvas_message.specs.Job.{store, publish, hand_in}
 use Rattle.canvas_backend.specs.Backend.{MayReturn}
 use Rattle.canvas_backend.specs.Roster.{Roster, roster_of, members, size, is_chord, is_member}
-use Rattle.canvas_runs.specs.Book.{book_on, is_size, line_known}
+use Rattle.canvas_runs.specs.Book.{book_on, has_size, line_known}
 use Rattle.canvas_runs.specs.Calls.{backend_call}
 use Rattle.canvas_runs.specs.Core.{keep, part, read, taking, owning, doing, reading, answered, is_due, Suits}
 use Rattle.canvas_runs.specs.Following.{Seat, Serves}
@@ -20,7 +20,7 @@ use Rattle.canvas_worker.specs.Standing.{Left, asked}
 module _ (plan : Roster) where
   -- what a member of this chord carries names only what the plan has
   abbrev pub Carries : ℕ → Load → Type 0
-  Carries g c = (is_size c.size (size plan g) ≡ true) × (line_known (book_on plan) c.body ≡ true)
+  Carries g c = (has_size c.size (size plan g) ≡ true) × (line_known (book_on plan) c.body ≡ true)
 
   -- each task that is stored is the plan's, and each part is that of a chord's member
   abbrev pub InPlan : EnvelopeJobs → Type 0

@@ -1,5 +1,5 @@
 -- What contracts see of a core.
-use Rattle.std.specs.Prelude.{ℕ, ◌+◌, ◌∷◌, min, is_some, if◌then◌else◌, Bool, true, false, Option, Some, None}
+use Rattle.std.specs.Prelude.{ℕ, ◌+◌, ◌∷◌, min, is_some, if◌then◌else◌, Bool, false, Option, Some, None}
 use Rattle.canvas_task.specs.declared.outcome.Outcome.{Outcome}
 use Rattle.canvas_rewrite.specs.FrozenView.{Load}
 use Rattle.canvas_message.specs.Content.{Content}
@@ -7,9 +7,9 @@ use Rattle.canvas_message.specs.Job.{publish}
 use Rattle.canvas_message.specs.declared.envelope.Envelope.{Envelope}
 use Rattle.canvas_runs.specs.Book.{Book}
 use Rattle.canvas_runs.specs.Tally.{greatest_count}
-use Rattle.canvas_runs.specs.Core.{CoreState, taking, failed, owning, doing, reading, taken, ask, answered}
+use Rattle.canvas_runs.specs.Core.{CoreState, taking, failed, doing, taken, ask, answered}
 use Rattle.canvas_runs.specs.Worker.{opened}
-use Rattle.canvas_worker.specs.Asks.{Asked, Answer, sent}
+use Rattle.canvas_worker.specs.Asks.{Asked, Answer, to_send}
 use Rattle.canvas_worker.specs.Books.{no_book}
 use Rattle.canvas_worker.specs.Enveloped.{enveloped_by, blank}
 
@@ -39,13 +39,6 @@ abbrev pub drops : Book → Left → Answer → ℕ
 drops book taking r = drops_taken book r
 drops book s r = 0
 
--- inside the script of an envelope
-abbrev pub is_inside : Left → Bool
-is_inside (owning e) = true
-is_inside (doing js b) = true
-is_inside (reading g c fs) = true
-is_inside s = false
-
 abbrev pub begun : Standing
 begun = record { left = taking; is_out = false; dropped = 0 }
 
@@ -58,7 +51,7 @@ failing s = record { left = failed; is_out = false; dropped = s.dropped }
 
 -- the envelope that can be handed out
 abbrev pub held_out : Standing → Option Envelope
-held_out s = if s.is_out then None else sent (asked s.left)
+held_out s = if s.is_out then None else to_send (asked s.left)
 
 -- the core no longer has the texts of an envelope that was handed out, and still waits for its publish
 abbrev pub unsent : Left → Left
@@ -66,7 +59,7 @@ unsent (doing (publish e ∷ js) b) = doing (publish blank ∷ js) b
 unsent s = s
 
 abbrev pub handed : Standing → Standing
-handed s = record { left = unsent s.left; is_out = is_some (sent (asked s.left)); dropped = s.dropped }
+handed s = record { left = unsent s.left; is_out = is_some (to_send (asked s.left)); dropped = s.dropped }
 
 -- a core that waits for an envelope
 abbrev pub waiting : ℕ → Standing

@@ -56,8 +56,8 @@ with_core w c =
     record { broker = w.broker; desk = w.desk; number = w.number; pass = w.pass; seat = w.seat; core = c; held = w.held; taken = w.taken; published = w.published; first = w.first; parts = w.parts }
 
 -- its core was answered; and where memory was refused for that
-abbrev pub told : Work → Answer → Work
-told w r = with_core w (after_reply (book_in w.desk.plan) w.core r)
+abbrev pub with_answer : Work → Answer → Work
+with_answer w r = with_core w (after_reply (book_in w.desk.plan) w.core r)
 
 abbrev pub lost : Work → Work
 lost w = with_core w (failing w.core)
@@ -82,9 +82,9 @@ pub record Ready (w : Work) : Type 0 where
 -- of a batch that was taken for it. A take of one envelope is a batch of one.
 pub data Moves (plan : Roster) (p q : Progress) : Type 0 where
   stays : q ≡ p → Moves plan p q
-  calls : (a : Asked) (r : Answer) → Called plan p q a r → Moves plan p q
-  takes : (es : List Envelope) → Batched p q es → Moves plan p q
-  gives : (es : List Envelope) (e : Envelope) (between : Progress) → Batched p between es → FromHeld plan between q e → Moves plan p q
+  makes_call : (a : Asked) (r : Answer) → Called plan p q a r → Moves plan p q
+  takes_batch : (es : List Envelope) → Batched p q es → Moves plan p q
+  gives_held : (es : List Envelope) (e : Envelope) (between : Progress) → Batched p between es → FromHeld plan between q e → Moves plan p q
 
 -- what a poll leaves that is pending
 pub record Pends (w v : Work) : Type 0 where

@@ -3,10 +3,10 @@
 ghost use Rattle.std.specs.Prelude.{◌≡◌, ◌≤◌, ◌+◌, min, true, false, Some, OnOk, OnErr, IfOk, IfSome};
 ghost use Rattle.canvas_worker.specs.Asks.{suits, shown, replied, StoresInRange, FoundInRange};
 ghost use Rattle.canvas_worker.specs.Books.{no_book};
-ghost use Rattle.canvas_runs.specs.Core.{ReadsBack, taking, taken};
+ghost use Rattle.canvas_runs.specs.Core.{ReadsBack, taking, taken, is_inside};
 ghost use Rattle.canvas_worker.specs.Phases.{left_of, is_out};
 ghost use Rattle.canvas_runs.specs.Tally.{greatest_count};
-ghost use Rattle.canvas_worker.specs.Standing.{asked, begun, after_reply, failing, held_out, handed, waiting, is_inside};
+ghost use Rattle.canvas_worker.specs.Standing.{asked, begun, after_reply, failing, held_out, handed, waiting};
 ghost use Rattle.canvas_worker.specs.Enveloped.{enveloped_by, said};
 ghost use Rattle.canvas_runs.specs.Worker.{opened};
 

@@ -5,7 +5,7 @@ ghost use Rattle.canvas_rewrite.specs.FrozenView.{p_tasks_of, p_lines_of, p_task
 ghost use Rattle.canvas_message.specs.Fits.{how_many};
 ghost use Rattle.canvas_message.specs.Placing.{last_task};
 ghost use Rattle.canvas_message.specs.View.{place_seen, rest_seen};
-ghost use Rattle.canvas_runs.specs.Book.{task_known, tasks_known, place_known, line_known, members_known, message_known, parent_known, is_size};
+ghost use Rattle.canvas_runs.specs.Book.{task_known, tasks_known, place_known, line_known, members_known, message_known, parent_known, has_size};
 ghost use Rattle.canvas_worker.specs.steps.Lasts.{or_zero, last_number, member_is_known};
 
 use crate::Book;
@@ -46,7 +46,7 @@ fn last_behind(end: &FrozenEnd, before: Option<TaskNo>) -> Option<TaskNo>
 }
 
 fn has_size<B: Book>(book: &B, group: GroupNo, size: usize) -> bool
-    ensures { result ≡ is_size size ((B.book book.now).size group) }
+    ensures { result ≡ has_size size ((B.book book.now).size group) }
 {
     match book.size(group) {
         Some(members) => members as usize == size,

@@ -2,18 +2,19 @@
 
 ghost use Rattle.std.specs.Prelude.{◌≡◌, ◌<◌, ◌++◌, ◌∷◌, [], Ok, IfOk, IfSome, All, true, cond, length, map, unwrap_or};
 ghost use Rattle.std.specs.Option.{option_map};
-ghost use Rattle.canvas_task.specs.Apply.{IsInRange};
+ghost use Rattle.canvas_task.specs.Apply.{IsInRange, six_tasks};
 ghost use Rattle.canvas_message.specs.Carrying.{carried_ok};
 ghost use Rattle.canvas_message.specs.Effects.{after, outcome_of, script as whole, parted};
 ghost use Rattle.canvas_message.specs.steps.Elements.{carried_view};
 ghost use Rattle.canvas_message.specs.Job.{store, publish, hand_in};
 ghost use Rattle.canvas_message.specs.Todos.{part_view};
-ghost use Rattle.canvas_worker.specs.Asks.{replied, is_first, FoundInRange};
+ghost use Rattle.canvas_worker.specs.Asks.{replied, FoundInRange};
 ghost use Rattle.canvas_worker.specs.Books.{no_book};
 ghost use Rattle.canvas_runs.specs.Core.{is_due, settled, handed_in, all_read, answered, owning, doing, resting, reading as state_reading};
 ghost use Rattle.canvas_worker.specs.Phases.{IsAt};
 ghost use Rattle.canvas_worker.specs.Scripts.{jobs_of};
 ghost use Rattle.canvas_worker.specs.Enveloped.{enveloped_by, said, enclosed, blank};
+ghost use Rattle.canvas_backend.specs.Backend.{says_first};
 
 use crate::Reply;
 use crate::due::latest;
@@ -94,7 +95,7 @@ fn settle(script: Script) -> Phase
 
 /// The same, where a store is answered.
 fn settle_after(script: Script, task: TaskNo, stored: &Stored) -> Phase
-    ensures { IsAt result (settled (enveloped_by no_book) (jobs_of script) (cond (is_due task (jobs_of script)) (is_first stored.now) script.first)) }
+    ensures { IsAt result (settled (enveloped_by no_book) (jobs_of script) (cond (is_due task (jobs_of script)) (says_first stored.now) script.first)) }
 {
     let first = latest(&script, task, stored);
     let Script {
@@ -113,7 +114,7 @@ fn settle_after(script: Script, task: TaskNo, stored: &Stored) -> Phase
 
 /// What the call of a message answers.
 fn outcome_of(message: &Message) -> Outcome
-    ensures value { result ≡ outcome_of message.now }
+    ensures value { result ≡ outcome_of six_tasks message.now }
     ensures in_range { IsInRange result }
 {
     apply(message.name.get(), message.args.get(), message.kwargs.get())

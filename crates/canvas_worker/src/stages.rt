@@ -4,7 +4,7 @@ ghost use Rattle.std.specs.Prelude.{◌≡◌, ◌<◌, Ok, All, true, length, m
 ghost use Rattle.std.specs.Option.{ForSome};
 ghost use Rattle.std.proofs.Props.{props};
 ghost use Rattle.std.specs.Coded.{codes};
-ghost use Rattle.canvas_task.specs.Apply.{IsInRange};
+ghost use Rattle.canvas_task.specs.Apply.{IsInRange, six_tasks};
 ghost use Rattle.canvas_message.specs.Carrying.{carried_ok};
 ghost use Rattle.canvas_message.specs.Content.{number_of};
 ghost use Rattle.canvas_message.specs.codes.ContentCode.{content_code};
@@ -28,8 +28,8 @@ pub(crate) struct Owned {
     pub outcome: Outcome,
     pub script: Script,
     ghost number: { task ≡ number_of (said envelope).own },
-    ghost value: { outcome ≡ outcome_of (said envelope) },
-    ghost jobs: { jobs_of script ≡ map enclosed (whole (after (said envelope) (outcome_of (said envelope)))) } by { Prim.hlevel (props, codes, content_code, load_code) },
+    ghost value: { outcome ≡ outcome_of six_tasks (said envelope) },
+    ghost jobs: { jobs_of script ≡ map enclosed (whole (after (said envelope) (outcome_of six_tasks (said envelope)))) } by { Prim.hlevel (props, codes, content_code, load_code) },
     ghost first: { script.first ≡ true },
     ghost in_range: { IsInRange outcome } by { range_prop outcome },
 }

@@ -7,7 +7,7 @@ ghost use Rattle.canvas_worker.specs.Asks.{suits, shown, replied, FoundInRange};
 ghost use Rattle.canvas_worker.specs.Books.{no_book};
 ghost use Rattle.canvas_worker.specs.Enveloped.{enveloped_by};
 ghost use Rattle.canvas_worker.specs.Standing.{asked};
-ghost use Rattle.canvas_worker.specs.Work.{Ready, Pends, EndsWith, Leaves, working_begun, told, lost, one_taken};
+ghost use Rattle.canvas_worker.specs.Work.{Ready, Pends, EndsWith, Leaves, working_begun, with_answer, lost, one_taken};
 ghost use Rattle.canvas_worker.specs.declared.ask.Ask.TheVariants as ask;
 ghost use Rattle.canvas_worker.specs.declared.cause.Cause.TheVariants.{Memory};
 
@@ -137,7 +137,7 @@ impl<'a, R: Wait, G: Gate> Working<'a, R, G> {
     fn answers(&mut self, reply: Reply) -> Result<(), End>
         requires suits { suits (shown (asked self.old.core.left)) reply ≡ true }
         requires in_range { FoundInRange reply }
-        ensures { MatchResult result (λ _. self.new ≡ told self.old (replied reply)) (λ e. (self.new ≡ lost self.old) × (e.fault ≡ Some Memory)) }
+        ensures { MatchResult result (λ _. self.new ≡ with_answer self.old (replied reply)) (λ e. (self.new ≡ lost self.old) × (e.fault ≡ Some Memory)) }
     {
         let (alloc, backend) = (self.alloc, self.backend);
         match self.core.answer(alloc, backend, reply) {
@@ -150,7 +150,7 @@ impl<'a, R: Wait, G: Gate> Working<'a, R, G> {
     fn replies(&mut self, reply: Reply) -> Result<(), End>
         requires suits { suits (shown (asked self.old.core.left)) reply ≡ true }
         requires in_range { FoundInRange reply }
-        ensures { MatchResult result (λ _. self.new ≡ told self.old (replied reply)) (λ e. (self.new ≡ lost self.old) × (e.fault ≡ Some Memory)) }
+        ensures { MatchResult result (λ _. self.new ≡ with_answer self.old (replied reply)) (λ e. (self.new ≡ lost self.old) × (e.fault ≡ Some Memory)) }
     {
         match self.answers(reply) {
             Ok(()) => {
@@ -164,7 +164,7 @@ impl<'a, R: Wait, G: Gate> Working<'a, R, G> {
     /// Gives an envelope to the core.
     fn gives(&mut self, envelope: Envelope) -> Result<(), End>
         requires { shown (asked self.old.core.left) ≡ ask.Take }
-        ensures { MatchResult result (λ _. self.new ≡ one_taken (told self.old (taken (Some envelope)))) (λ e. (self.new ≡ lost self.old) × (e.fault ≡ Some Memory)) }
+        ensures { MatchResult result (λ _. self.new ≡ one_taken (with_answer self.old (taken (Some envelope)))) (λ e. (self.new ≡ lost self.old) × (e.fault ≡ Some Memory)) }
     {
         self.is_fresh = true;
         self.idle = 0;

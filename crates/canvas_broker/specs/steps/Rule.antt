@@ -2,7 +2,7 @@
 use Rattle.std.specs.Prelude.{◌≡◌, ◌==◌, ℕ, ◌<◌, ◌≤◌, true, false, List, [], ◌∷◌, ◌++◌, Option, Some, None, ◌⊎◌, length, slice_index_or, cond, nat_lt}
 use mathlib.Core.Option.{some}
 use lib.ListN.{get_elem?}
-use Rattle.canvas_history.specs.History.{split, join, calls, among, without, live, named, NoneBy}
+use Rattle.canvas_history.specs.History.{split, join, calls, among, without, live, split_off, NoneBy}
 use Rattle.canvas_history.specs.Callers.{the_object, Adds, Owes}
 use Rattle.canvas_broker.specs.Broker.{publish, take, QueueEntry, IsLegal, queue_of}
 use Rattle.canvas_broker.specs.Passes.{Knowledge, Stands, CouldStand, Took, IsHistory}
@@ -42,7 +42,7 @@ module _ {E : Type 0} where
       × ((c : ℕ) → among c (callers v) ≡ true → (owner c ≡ pass) × (among c (live log) ≡ true))
       × (among v.knows.name v.knows.mine ≡ true → Orderly v.knows.name v.knows.mine v.knows.owed)
       × CameFrom v.knows v.heard
-      × ((c : ℕ) → among c (callers v) ≡ true → (c ≡ 0) ⊎ (among c (named v.knows.seen) ≡ true))
+      × ((c : ℕ) → among c (callers v) ≡ true → (c ≡ 0) ⊎ (among c (split_off v.knows.seen) ≡ true))
 
   abbrev pub known : ℕ → List ℕ → List (QueueEntry E) → List (QueueEntry E) → Knowledge E
   known p cs seen owed = record { of = the_object; name = p; mine = cs; seen = seen; owed = owed }
@@ -57,7 +57,7 @@ module _ {E : Type 0} where
   pub record IsKept (items : List (Option E)) (views : List (View E)) (log : List (QueueEntry E)) (owner : ℕ → ℕ) : Type 0 where
     pub legal : IsLegal log
     pub replays : queue_of log ≡ envelopes items
-    pub numbered : (c : ℕ) → among c (named log) ≡ true → c ≤ length (named log)
+    pub numbered : (c : ℕ) → among c (split_off log) ≡ true → c ≤ length (split_off log)
     pub fits : (pass : ℕ) (v : View E) → get_elem? views pass ≡ some v → Fits log owner pass v
     pub begun : get_elem? views 0 ≡ some newcomer → (log ≡ []) × ((pass : ℕ) (v : View E) → get_elem? views pass ≡ some v → callers v ≡ [])
     pub opened : 0 < length views
@@ -78,7 +78,7 @@ module _ {E : Type 0} where
   abbrev pub Splits : View E → Option E → View E → Type 0
   Splits v x w =
       (q : ℕ)
-      × (w.unborn ≡ q ∷ []) × Stands v.knows (split v.knows.name q) w.knows × (among w.knows.name w.knows.mine ≡ true) × (among q w.knows.mine ≡ false) × (q ≡ length (named w.knows.seen))
+      × (w.unborn ≡ q ∷ []) × Stands v.knows (split v.knows.name q) w.knows × (among w.knows.name w.knows.mine ≡ true) × (among q w.knows.mine ≡ false) × (q ≡ length (split_off w.knows.seen))
 
   abbrev pub Takes : View E → Option E → View E → Type 0
   Takes v None w = w ≡ v

@@ -1,13 +1,14 @@
 -- A run on threads before its first publish, and once its workers have ended and worker 0 has taken in what they left.
 use Rattle.std.specs.Prelude.{ℕ, suc, ◌≡◌, List, [], ◌∷◌, length, map, All, Option, None, IfNone}
 use Rattle.std.specs.Global.{Global}
+use Rattle.canvas_task.specs.Apply.{six_tasks}
 use Rattle.crossbeam_queue.specs.SegTies.{SegId}
 use Rattle.atomic_table.specs.Seated.{TableId}
 use Rattle.canvas_semantics.specs.Line.{Line, count_line}
 use Rattle.canvas_rewrite.specs.Planned.{IsPlan}
 use Rattle.canvas_message.specs.Effects.{first_messages}
 use Rattle.canvas_backend.specs.Roster.{Roster, roster_of}
-use Rattle.canvas_runs.specs.Crew.{Mate, Splits, Joins, SplitSeats, JoinSeats, first_pass, first_seat}
+use Rattle.canvas_runs.specs.Crew.{Mate, SplitPasses, JoinPasses, SplitSeats, JoinSeats, first_pass, first_seat}
 use Rattle.canvas_runs.specs.Following.{Pass, Seat, Makes, IsDone}
 use Rattle.canvas_runs.specs.Lists.{Each}
 use Rattle.canvas_runs.specs.Run.{published_all}
@@ -35,30 +36,30 @@ pub record IsStart (l : Line) (n : ℕ) (s : Start) : Type 0 where
 
 -- the workers of this queue and this table, from the splits to the joins, with the first messages published between
 pub record Crew (l : Line) (n : ℕ) (queue : SegId Global) (table : TableId) (pass : Pass) (seat : Seat) : Type 0 where
-  pub mates : List (Mate (roster_of l))
+  pub mates : List (Mate six_tasks (roster_of l))
   pub count : length mates ≡ n
   pub pass_parted : Pass
   pub pass_sent : Pass
-  pub splits : Splits (first_pass queue) (map (λ (m : Mate (roster_of l)). m.pass) mates) pass_parted
+  pub splits : SplitPasses (first_pass queue) (map (λ (m : Mate six_tasks (roster_of l)). m.pass) mates) pass_parted
   pub sends : Makes pass_parted (published_all (map sealed (first_messages l))) pass_sent
   pub back : FirstsRead l
-  pub joins : Joins pass_sent (map (λ (m : Mate (roster_of l)). m.ended.pass) mates) pass
+  pub joins : JoinPasses pass_sent (map (λ (m : Mate six_tasks (roster_of l)). m.ended.pass) mates) pass
   pub seat_parted : Seat
-  pub seat_splits : SplitSeats (roster_of l) (first_seat table) (map (λ (m : Mate (roster_of l)). m.seat) mates) seat_parted
-  pub seat_joins : JoinSeats (roster_of l) seat_parted (map (λ (m : Mate (roster_of l)). m.ended.seat) mates) seat
+  pub seat_splits : SplitSeats (roster_of l) (first_seat table) (map (λ (m : Mate six_tasks (roster_of l)). m.seat) mates) seat_parted
+  pub seat_joins : JoinSeats (roster_of l) seat_parted (map (λ (m : Mate six_tasks (roster_of l)). m.ended.seat) mates) seat
 
 -- counts with the number of their worker
 abbrev pub numbered_counts : ℕ → Counts → Tally
 numbered_counts k t = record { number = k; taken = t.taken; published = t.published; first = t.first; parts = t.parts; dropped = t.dropped }
 
 -- those of workers numbered from k on
-abbrev pub tallies_from : {plan : Roster} → ℕ → List (Mate plan) → List Tally
+abbrev pub tallies_from : {plan : Roster} → ℕ → List (Mate six_tasks plan) → List Tally
 tallies_from k [] = []
 tallies_from k (m ∷ ms) = numbered_counts k m.ended.tally ∷ tallies_from (suc k) ms
 
 -- where none of them ended with a fault
-pub record IsWellGathered (l : Line) (mates : List (Mate (roster_of l))) (counted : List Tally) : Type 0 where
-  pub done : Each (λ (m : Mate (roster_of l)). IsDone (roster_of l) m.ended) mates
+pub record IsWellGathered (l : Line) (mates : List (Mate six_tasks (roster_of l))) (counted : List Tally) : Type 0 where
+  pub done : Each (λ (m : Mate six_tasks (roster_of l)). IsDone m.ended) mates
   pub tallies : counted ≡ nothing_counted 0 ∷ tallies_from 1 mates
 
 pub record AreGathered (l : Line) (n : ℕ) (fault : Option Cause) (g : Gathered) : Type 0 where

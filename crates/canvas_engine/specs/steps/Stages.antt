@@ -1,18 +1,18 @@
 -- Where a run on one thread stands, and what one ask of one of its workers changes.
 use Rattle.std.specs.Prelude.{◌≡◌, ◌≤◌, ◌<◌, ◌+◌, ◌⊎◌, ℕ, Bool, true, false, suc, IsTrue, All, List, [], ◌∷◌, ◌++◌, map, length, Some, None, Ok, slice_get}
-use Rattle.canvas_task.specs.Apply.{IsInRange}
+use Rattle.canvas_task.specs.Apply.{IsInRange, six_tasks}
 use Rattle.canvas_task.specs.declared.outcome.Outcome.{Outcome}
 use Rattle.canvas_semantics.specs.Evaluation.{State}
 use Rattle.canvas_semantics.specs.Line.{Line}
 use Rattle.canvas_semantics.specs.States.{numbers_from}
 use Rattle.canvas_message.specs.declared.envelope.Envelope.{Envelope}
-use Rattle.canvas_backend.specs.Backend.{Results, no_results, first_or, count_of}
+use Rattle.canvas_backend.specs.Backend.{Results, no_results, first_or, count_of, says_first}
 use Rattle.canvas_backend.specs.Plain.{Shelf, held}
 use Rattle.canvas_backend.specs.Roster.{Roster, roster_of, members, is_chord, is_member}
 use Rattle.canvas_broker.specs.Broker as broker
 use Rattle.canvas_runs.specs.Core.{take, send, keep, part, read, pause, taken, sent, kept, counted, found, rested, taking, left_after, ReadsBack, IsCoreRun}
 use Rattle.canvas_runs.specs.Lists.{by, at}
-use Rattle.canvas_runs.specs.Turns.{Step, HasEnded, IsWorker, AllEnded, Begins, round, rounds, queue_after, queue_next, results_after, results_next, says_first}
+use Rattle.canvas_runs.specs.Turns.{Step, HasEnded, IsWorker, AllEnded, Begins, round, rounds, queue_after, queue_next, results_after, results_next}
 use Rattle.canvas_runs.specs.TurnLaws.{ByTurns}
 use Rattle.canvas_runs.specs.Worker.{read_envelope, sealed}
 use Rattle.canvas_message.specs.Content.{Content}
@@ -79,7 +79,7 @@ IsCoreAt l xs p c = (c.left ≡ left_after (enveloped (roster_of l)) taking (by 
 
 -- after these turns, which made these steps of at most so many
 pub record Reached (l : Line) (n most : ℕ) (us : List ℕ) (xs : List Step) (s : Stage) : Type 0 where
-  pub by_turns : ByTurns l n us xs
+  pub by_turns : ByTurns six_tasks l n us xs
   pub runs : (p : ℕ) → IsCoreRun (enveloped (roster_of l)) taking (by p xs)
   pub queue_is : s.queue ≡ queue_after l xs
   pub plan_is : s.table.plan ≡ roster_of l
@@ -97,13 +97,13 @@ HasReached l n most us s = (xs : List Step) × Reached l n most us xs s
 -- a turn of worker p that answered an ask, or skipped
 abbrev pub IsTurn : Bool → Line → ℕ → ℕ → List ℕ → List Step → ℕ → Stage → Type 0
 IsTurn true l n most us xs p s = (x : Asked × Answer) × Reached l n most (us ++ p ∷ []) (xs ++ (p, x) ∷ []) s
-IsTurn false l n most us xs p s = HasEnded l xs p × Reached l n most (us ++ p ∷ []) xs s
+IsTurn false l n most us xs p s = HasEnded six_tasks l xs p × Reached l n most (us ++ p ∷ []) xs s
 
 -- the table is that of some run
 pub record IsHalfway (l : Line) (n : ℕ) (s : Stage) : Type 0 where
   pub turns : List ℕ
   pub steps : List Step
-  pub by_turns : ByTurns l n turns steps
+  pub by_turns : ByTurns six_tasks l n turns steps
   pub plan_is : s.table.plan ≡ roster_of l
   pub table_is : held s.table ≡ results_after steps
 
@@ -114,7 +114,7 @@ pub record IsStopped (l : Line) (n most : ℕ) (us : List ℕ) (s : Stage) : Typ
   pub none_left : s.steps ≡ 0
   pub going : ℕ
   pub is_worker : IsWorker n going
-  pub has_more : HasEnded l steps going → ⊥
+  pub has_more : HasEnded six_tasks l steps going → ⊥
 
 -- why a turn was not taken, after the turns us
 abbrev pub IsHalt : Cause → Line → ℕ → ℕ → List ℕ → Stage → Type 0
@@ -124,7 +124,7 @@ IsHalt Stopped l n most us s = IsStopped l n most us s
 -- The first i turns of a round have been taken, after the turns us and the steps xs with so many left: whether one answered an ask.
 abbrev pub IsPartOfRound : Bool → Line → ℕ → ℕ → List ℕ → List Step → ℕ → ℕ → Stage → Type 0
 IsPartOfRound true l n most us xs i steps s = HasReached l n most (us ++ round i) s × (s.steps < steps)
-IsPartOfRound false l n most us xs i steps s = Reached l n most (us ++ round i) xs s × ((p : ℕ) → IsWorker i p → HasEnded l xs p)
+IsPartOfRound false l n most us xs i steps s = Reached l n most (us ++ round i) xs s × ((p : ℕ) → IsWorker i p → HasEnded six_tasks l xs p)
 
 abbrev pub IsHaltInRound : Cause → Line → ℕ → ℕ → List ℕ → Stage → Type 0
 IsHaltInRound Memory l n most us s = IsHalfway l n s
@@ -140,7 +140,7 @@ pub record IsRunThrough (l : Line) (n most : ℕ) (turns : List ℕ) (s : Stage)
   pub further : ℕ
   pub steps : List Step
   pub reached : Reached l n most (turns ++ rounds n further) steps s
-  pub ended : AllEnded l n steps
+  pub ended : AllEnded six_tasks l n steps
 
 -- the envelope of a message reads back as the message
 abbrev pub ReadsAs : Content → Type 0

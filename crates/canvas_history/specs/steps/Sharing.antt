@@ -3,7 +3,7 @@
 use Rattle.std.specs.Prelude.{◌≡◌, ◌≤◌, ℕ, length, true, List, ◌++◌}
 use mathlib.Core.Option.{some}
 use lib.ListN.{get_elem?}
-use Rattle.canvas_history.specs.History.{Entry, among, live, named, AllOthers, Legal, state_of}
+use Rattle.canvas_history.specs.History.{Entry, among, live, split_off, AllOthers, Legal, replay}
 
 abbrev pub Hat : Type 0 → Type 0 → Type 0
 Hat C R = ℕ × List (Entry C R)
@@ -26,7 +26,7 @@ module _ {C R S : Type 0} (first : S) (answer : S → C → R) (next : S → C �
     pub log : List (Entry C R)
     pub at : ℕ → ℕ × ℕ
     pub legal : Legal first answer next May log
-    pub shown : shows (state_of first answer next May log)
+    pub shown : shows (replay first answer next May log)
     -- callers are numbered by their splits
-    pub numbered : (q : ℕ) → among q (named log) ≡ true → q ≤ length (named log)
+    pub numbered : (q : ℕ) → among q (split_off log) ≡ true → q ≤ length (split_off log)
     pub fits : AllFit log at views

@@ -3,7 +3,7 @@
 ghost use Rattle.std.specs.Prelude.{◌≡◌, map, false, nat_le};
 ghost use Rattle.canvas_task.specs.Entries.{named};
 ghost use Rattle.canvas_rewrite.specs.FrozenView.{p_tasks_of, p_lines_of, p_task_view, p_line_view, p_end_view};
-ghost use Rattle.canvas_message.specs.Fits.{is_number, call_ok, size_ok, task_ok, tasks_ok, place_ok, line_ok, members_ok, how_many, most_members};
+ghost use Rattle.canvas_message.specs.Fits.{is_task_number, call_ok, size_ok, task_ok, tasks_ok, place_ok, line_ok, members_ok, how_many, most_members};
 ghost use Rattle.canvas_message.specs.View.{place_seen};
 
 use super::MOST_MEMBERS;
@@ -14,13 +14,13 @@ use canvas_task::{Arg, GroupNo, TaskNo, name_ok};
 use std::collections::BTreeMap;
 
 pub(super) fn is_task(task: TaskNo) -> bool
-    ensures { result ≡ is_number task }
+    ensures { result ≡ is_task_number task }
 {
     task.get() > 0
 }
 
 fn is_group(group: GroupNo) -> bool
-    ensures { result ≡ is_number group }
+    ensures { result ≡ is_task_number group }
 {
     group.get() > 0
 }

@@ -2,7 +2,7 @@
 
 ghost use Rattle.std.specs.Prelude.{◌≡◌, map, reverse};
 ghost use Rattle.serde_json.specs.View.{view};
-ghost use Rattle.canvas_sig.specs.Fields.{found};
+ghost use Rattle.canvas_sig.specs.Fields.{value_at};
 ghost use Rattle.canvas_sig.specs.Answers.{Gives};
 ghost use Rattle.canvas_message.specs.steps.Elements.{embed_view, reversed_with};
 ghost use Rattle.canvas_message.specs.steps.FrozenReading.{step_reading, last_reading};
@@ -76,7 +76,7 @@ pub(crate) fn read_embed(
     group: Option<&Value>,
     embed: &Value,
 ) -> Result<Embed, SigFault>
-    ensures { Gives embed_view result (embed_reading (found group.entry) (view embed.now)) }
+    ensures { Gives embed_view result (embed_reading (value_at group.entry) (view embed.now)) }
 {
     if !embed_ok(embed) {
         return Err(SigFault::BadArgs);

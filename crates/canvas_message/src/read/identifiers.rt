@@ -3,7 +3,7 @@
 ghost use Rattle.std.specs.Prelude.{◌≡◌, Some};
 ghost use Rattle.serde_json.specs.Find.{as_i64};
 ghost use Rattle.serde_json.specs.View.{number_view};
-ghost use Rattle.canvas_sig.specs.Fields.{found};
+ghost use Rattle.canvas_sig.specs.Fields.{value_at};
 ghost use Rattle.canvas_sig.specs.Answers.{Gives};
 ghost use Rattle.canvas_message.specs.FrozenGrammar.{task_of, group_of};
 ghost use Rattle.canvas_message.specs.steps.FrozenReading.{known, sized, size_reading};
@@ -15,7 +15,7 @@ use serde_json::{Number, Value};
 
 /// The task that a member identifies.
 pub(crate) fn task_of(field: Option<&Value>) -> Option<TaskNo>
-    ensures { result ≡ task_of (found field.entry) }
+    ensures { result ≡ task_of (value_at field.entry) }
 {
     match field {
         Some(Value::String(text)) => task_of_text(text),
@@ -25,7 +25,7 @@ pub(crate) fn task_of(field: Option<&Value>) -> Option<TaskNo>
 
 /// The group or chord that a member identifies.
 pub(crate) fn group_of(field: Option<&Value>) -> Option<GroupNo>
-    ensures { result ≡ group_of (found field.entry) }
+    ensures { result ≡ group_of (value_at field.entry) }
 {
     match field {
         Some(Value::String(text)) => group_of_text(text),
@@ -34,7 +34,7 @@ pub(crate) fn group_of(field: Option<&Value>) -> Option<GroupNo>
 }
 
 pub(crate) fn known_task(field: Option<&Value>) -> Result<TaskNo, SigFault>
-    ensures { Gives (λ k. k) result (known (task_of (found field.entry))) }
+    ensures { Gives (λ k. k) result (known (task_of (value_at field.entry))) }
 {
     match task_of(field) {
         Some(task) => Ok(task),
@@ -43,7 +43,7 @@ pub(crate) fn known_task(field: Option<&Value>) -> Result<TaskNo, SigFault>
 }
 
 pub(crate) fn known_group(field: Option<&Value>) -> Result<GroupNo, SigFault>
-    ensures { Gives (λ g. g) result (known (group_of (found field.entry))) }
+    ensures { Gives (λ g. g) result (known (group_of (value_at field.entry))) }
 {
     match group_of(field) {
         Some(group) => Ok(group),
@@ -72,7 +72,7 @@ fn size_of_number(number: &Number) -> Result<u32, SigFault>
 
 /// The number of members that a carried body names.
 pub(crate) fn read_size(field: Option<&Value>) -> Result<u32, SigFault>
-    ensures { Gives (λ n. n) result (size_reading (found field.entry)) }
+    ensures { Gives (λ n. n) result (size_reading (value_at field.entry)) }
 {
     match field {
         Some(Value::Number(number)) => size_of_number(number),

@@ -1,5 +1,6 @@
 use Rattle.std.proofs.Common.{rules, ◌≡◌, ◌∙◌, ◌++◌, All, drop, length, take, sym, subst}
 use Rattle.std.proofs.lemmas.List.{take_at}
+use Rattle.canvas_task.specs.Apply.{six_tasks}
 use Rattle.canvas_semantics.specs.Line.{Line, tree_of}
 use Rattle.canvas_semantics.specs.States.{states}
 use Rattle.canvas_message.specs.Effects.{first_messages}
@@ -16,8 +17,8 @@ use Rattle.canvas_engine.proofs.running.gather.Goals as goal
 pub returns-in-Err-clause-err : goal.returns-in-Err-clause-err
 returns-in-Err-clause-err g c =
     let l : Line = c.args.plan.now in
-    subst (IsThreadFault c.args.workers (states (tree_of l))) (sym c.halted_with.ensures)
-    (halted_may c.args.workers (states (tree_of l)) Memory c.args.start.rows.items c.requires.workers (pending_may c.args.start.rows.items (states (tree_of l)) (c.requires.start.rows ∙ sym (long_states l)) c.requires.start.pending))
+    subst (IsThreadFault c.args.workers (states six_tasks (tree_of l))) (sym c.halted_with.ensures)
+    (halted_may c.args.workers (states six_tasks (tree_of l)) Memory c.args.start.rows.items c.requires.workers (pending_may c.args.start.rows.items (states six_tasks (tree_of l)) (c.requires.start.rows ∙ sym (long_states l)) c.requires.start.pending))
 
 pub join_all-requires-clause-others : goal.join_all-requires-clause-others
 join_all-requires-clause-others g c =

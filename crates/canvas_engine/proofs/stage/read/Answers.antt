@@ -3,13 +3,14 @@ use Rattle.canvas_backend.specs.Plain.{held}
 use Rattle.canvas_backend.specs.Roster.{members}
 use Rattle.canvas_runs.specs.Core as C
 use Rattle.canvas_worker.specs.Standing.{asked}
+use Rattle.canvas_worker.proofs.Shown.{is_read}
 use Rattle.canvas_engine.specs.steps.Stages.{MayAsk, Stepped}
-use Rattle.canvas_engine.proofs.StageAsks.{answered_ok, at_place, found_says, found_in_range, is_read, each_queue, same_place}
+use Rattle.canvas_engine.proofs.StageAsks.{answered_ok, at_place, found_says, found_in_range, each_queue, same_place}
 use Rattle.canvas_engine.proofs.stage.read.Goals as goal
 
 pub read-requires : goal.read-requires
 read-requires c =
-    let may = subst (MayAsk c.args.table.now.plan (held c.args.table.now)) (is_read c.args.group c.args.place (asked c.args.core.now.left) (sym c.requires.asks)) c.requires.may in
+    let may = subst (MayAsk c.args.table.now.plan (held c.args.table.now)) (is_read c.args.group c.args.place (asked c.args.core.now.left) c.requires.asks) c.requires.may in
     subst (λ t. t ≤ c.args.table.now.plan.tasks) (same_place (members c.args.table.now.plan c.args.group) c.args.place may.0 c.in-Some.task may.1 (sym c.in-Some.ensures)) may.2
 
 pub answer-requires-clause-in_range : goal.answer-requires-clause-in_range
@@ -22,6 +23,6 @@ returns-in-Some c =
     let old = c.args.core.now in
     each_queue c.answer.result (λ more queue. Stepped more old queue table c.answer.new.self queue table) (λ more queue.
     answered_ok c.answer.result more old c.answer.new.self queue queue table table (C.read c.args.group c.args.place) (C.found c.in-Some.task c.read.result)
-    (is_read c.args.group c.args.place (asked old.left) (sym c.requires.asks))
+    (is_read c.args.group c.args.place (asked old.left) c.requires.asks)
     (at_place c.args.place (members table.plan c.args.group) ∙ sym c.in-Some.ensures, found_says c.read.result _ c.read.ensures.reply)
     c.requires.reads_back refl refl refl c.answer.ensures.ok)

@@ -1,6 +1,7 @@
 use Rattle.std.proofs.Common.{rules, ◌≡◌, ◌+◌, ◌∙◌, ◌∷◌, ◌++◌, drop, length, min, take, None, sym, ap, subst}
 use Rattle.std.proofs.Math.ListN.{set}
 use Rattle.std.proofs.lemmas.List.{take_at}
+use Rattle.canvas_task.specs.Apply.{six_tasks}
 use Rattle.canvas_semantics.specs.Line.{Line, count_line, tree_of}
 use Rattle.canvas_semantics.specs.States.{states}
 use Rattle.canvas_message.specs.Effects.{first_messages}
@@ -32,9 +33,9 @@ returns-in-Some-fault-clause-err g c =
     let reads : Serves (roster_of l) c.in-Some.left.seat (reads_from 1 c.read_rows.new.rows) c.read_rows.new.seat =
     subst (λ plan. Serves plan c.in-Some.left.seat (reads_from 1 c.read_rows.new.rows) c.read_rows.new.seat) all.plan c.read_rows.ensures.read in
     let whole : take c.args.self.rows.len (c.read_rows.new.rows ++ drop (length c.read_rows.new.rows) c.args.self.rows.items) ≡ c.read_rows.new.rows = take_at c.read_rows.new.rows _ c.args.self.rows.len (search rules) in
-    subst (IsThreadFault c.args.workers (states (tree_of l))) (sym c.halted_with.ensures)
-    (halted_may c.args.workers (states (tree_of l)) c.in-Some-fault.cause _ c.requires.workers
-    (subst (λ r. EachMay r (states (tree_of l))) (sym whole)
+    subst (IsThreadFault c.args.workers (states six_tasks (tree_of l))) (sym c.halted_with.ensures)
+    (halted_may c.args.workers (states six_tasks (tree_of l)) c.in-Some-fault.cause _ c.requires.workers
+    (subst (λ r. EachMay r (states six_tasks (tree_of l))) (sym whole)
     (worked_may l c.args.workers c.args.self.broker c.args.self.backend.id c.args.self.pass c.args.self.seat all.crew all.planned c.in-Some.left
     (subst (λ plan. Finished plan 0 c.args.self.pass c.args.self.seat c.in-Some.left) all.plan f) c.read_rows.new.seat c.read_rows.new.rows reads many)))
 

@@ -1,5 +1,6 @@
 use Rattle.std.proofs.Common.{rules, ◌≡◌, ◌++◌, drop, length, take, sym, subst}
 use Rattle.std.proofs.lemmas.List.{take_at}
+use Rattle.canvas_task.specs.Apply.{six_tasks}
 use Rattle.canvas_semantics.specs.Line.{count_line, tree_of}
 use Rattle.canvas_semantics.specs.States.{states}
 use Rattle.canvas_backend.specs.Roster.{roster_of}
@@ -17,7 +18,7 @@ returns c =
     let reads : Serves (roster_of c.args.plan.now) c.args.self.seat (reads_from 1 c.read_rows.new.rows) c.read_rows.new.seat =
     subst (λ plan. Serves plan c.args.self.seat (reads_from 1 c.read_rows.new.rows) c.read_rows.new.seat) g.plan c.read_rows.ensures.read in
     let whole : take c.args.self.rows.len (c.read_rows.new.rows ++ drop (length c.read_rows.new.rows) c.args.self.rows.items) ≡ c.read_rows.new.rows = take_at c.read_rows.new.rows _ c.args.self.rows.len (search rules) in
-    subst (IsThreadFault c.args.workers (states (tree_of c.args.plan.now))) (sym c.halted_with.ensures)
-    (halted_may c.args.workers (states (tree_of c.args.plan.now)) c.args.cause _ c.requires.workers
-    (subst (λ rows. EachMay rows (states (tree_of c.args.plan.now))) (sym whole)
+    subst (IsThreadFault c.args.workers (states six_tasks (tree_of c.args.plan.now))) (sym c.halted_with.ensures)
+    (halted_may c.args.workers (states six_tasks (tree_of c.args.plan.now)) c.args.cause _ c.requires.workers
+    (subst (λ rows. EachMay rows (states six_tasks (tree_of c.args.plan.now))) (sym whole)
     (unworked_may c.args.plan.now c.args.workers c.args.self.broker c.args.self.backend.id c.args.self.pass c.args.self.seat g.crew g.planned c.read_rows.new.seat c.read_rows.new.rows reads many)))
