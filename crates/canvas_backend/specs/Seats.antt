@@ -1,4 +1,4 @@
--- What contracts see of a backend and of a seat, and what its calls tell: the clauses of canvas_history's Callers, at the backend.
+-- What contracts see of a backend and of a seat, and what its calls tell: the clauses of canvas_history's Callers, at the backend (Lamport's sequential consistency).
 --     Desk, Seat          a backend, and a seat
 --     as_caller s         the seat as a caller
 --     Stands, Parted, Joined, Adds, LeavesOne    as they are said of callers

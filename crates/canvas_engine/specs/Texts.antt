@@ -1,4 +1,4 @@
--- The report of a text: of the canvas that it reads as; or why there is none.
+-- The report of a text: of the canvas that it reads as (JSON, RFC 8259; signatures as Celery writes them); or why there is none.
 use Rattle.std.specs.Prelude.{◌≡◌, List, Ok, Err}
 use Rattle.canvas_task.specs.Apply.{six_tasks}
 use Rattle.canvas_sig.specs.CanvasText.{text_reading}

@@ -1,4 +1,5 @@
--- What a caller of a shared object is and has seen, and what the clauses of its calls tell. It is the same for each object: I names one, C are its calls, and R their replies.
+-- What a caller of a shared object is and has seen, and what the clauses of its calls tell (Lamport's sequential consistency). It is
+-- the same for each object: I names one, C are its calls, and R their replies.
 --     Caller I C R              a caller
 --     told p                    what it has seen, with the joins that it owes
 --     Follows p es log          the history log is what p has seen, entries by others, the joins that p owes, and then the entries es

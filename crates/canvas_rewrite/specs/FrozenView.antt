@@ -1,4 +1,5 @@
--- The data of the types of the code: of lines without numbers, and of numbered lines with their places.
+-- The data of the types of the code: of lines without numbers, and of numbered lines with their places
+-- (Celery's `Signature.freeze`: ids, and where results go, before anything runs).
 use Rattle.std.specs.Prelude.{ℕ, List, [], ◌∷◌, map, Option, Some, None, Box}
 use Rattle.std.specs.declared.alloc.Global.{Global}
 use Rattle.canvas_semantics.specs.Tree.{Task}

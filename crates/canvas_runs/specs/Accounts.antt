@@ -1,4 +1,5 @@
--- What the one list of all calls of a run has of each caller: worker 0's calls, and for the workers, numbered from 1 in the order of their making, just theirs.
+-- What the one list of all calls of a run has of each caller (Lamport's sequential consistency: its own calls in its own order):
+-- worker 0's calls, and for the workers, numbered from 1 in the order of their making, just theirs.
 use Rattle.std.specs.Prelude.{ℕ, suc, ◌≡◌, List, [], ◌∷◌, ◌++◌}
 use Rattle.canvas_task.specs.Apply.{Registry}
 use Rattle.canvas_task.specs.declared.outcome.Outcome.{Outcome}

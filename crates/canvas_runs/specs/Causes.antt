@@ -1,4 +1,4 @@
--- Who publishes what, and when a chord is completed.
+-- Who publishes what, and when a chord is completed (the chord rule of Celery's Redis backend: whoever returns the last part starts the body).
 use Rattle.std.specs.Prelude.{ℕ, suc, eqb, cond, ◌≡◌, List, Option, Some, length}
 use Rattle.canvas_task.specs.Apply.{Registry}
 use Rattle.canvas_task.specs.declared.outcome.Outcome.{Outcome}

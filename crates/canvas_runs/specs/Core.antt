@@ -1,4 +1,5 @@
--- Scripts of messages, as a machine: what is left to do after each answered ask.
+-- Scripts of messages, as a machine: what is left to do after each answered ask. An outcome is stored before its part is returned,
+-- and the part that completes the count has the body started, as in the chord rule of Celery's Redis backend.
 use Rattle.std.specs.Prelude.{ℕ, suc, eqb, cond, ◌≡◌, Bool, true, false, List, [], ◌∷◌, ◌++◌, length, Option, Some, None}
 use Rattle.canvas_message.specs.Job.{Job, store, publish, hand_in}
 use Rattle.canvas_runs.specs.Protocol.{Protocol}

@@ -1,7 +1,7 @@
--- What it is for a worker's pass and seat to have followed a core run, from where they stood.
+-- What it is for a worker's pass and seat to have followed a core run, from where they stood (Lamport's sequential consistency, told by one caller).
 --     Makes p cs q           the pass p has made these broker calls and is q then: each stands in the one legal history of its queue, after all that p had seen
 --     Serves plan s cs t     the same of a seat and its backend calls
---     Followed plan w v        from w on the worker's pass and seat have followed a core run, and it is v then
+--     Followed registry plan w v    from w on the worker's pass and seat have followed a core run, and it is v then
 use Rattle.std.specs.Prelude.{◌+◌, ◌≡◌, true, false, List, [], ◌∷◌, length, map, Option, Some, None}
 use Rattle.canvas_task.specs.Apply.{Registry}
 use Rattle.canvas_task.specs.declared.outcome.Outcome.{Outcome}

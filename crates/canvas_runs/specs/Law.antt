@@ -1,4 +1,5 @@
--- The law of runs: whatever the number of workers and the order of their calls, a run does what evaluating the plan's canvas gives, each thing once.
+-- The law of runs: whatever the number of workers and the order of their calls, a run does what evaluating the plan's canvas gives, each thing once
+-- (Celery user guide, Canvas: a chord's body is called once, when all tasks of the header have returned).
 use Rattle.std.specs.Prelude.{◌≡◌, ◌≤◌, ◌⊎◌, ℕ, eqb, cond, List, Option, Some, None}
 use Rattle.canvas_task.specs.Apply.{Registry}
 use Rattle.canvas_task.specs.declared.outcome.Outcome.{Outcome}

@@ -1,4 +1,5 @@
--- Runs of a plan: a legal history of the broker, a legal history of the backend, and for each caller a core run that its calls follow.
+-- Runs of a plan (Lamport's sequential consistency, for two objects):
+-- a legal history of the broker, a legal history of the backend, and for each caller a core run that its calls follow.
 use Rattle.std.specs.Prelude.{◌≡◌, ℕ, eqb, cond, List, [], ◌∷◌, ◌++◌, map}
 use Rattle.canvas_task.specs.Apply.{Registry}
 use Rattle.canvas_task.specs.declared.outcome.Outcome.{Outcome}

@@ -1,14 +1,14 @@
 -- Runs by turns, on one thread: workers numbered 1 to n share the one-thread queue and the one-thread table of results, and each turn lets one
 -- worker have one ask answered. The Canvas user guide names no order between workers, so a list of turns names one; after it the workers take turns
--- in rotation, from 1 to n and again, until all have ended. A worker that has ended skips its turn.
+-- in rotation, from 1 to n and again, until all have ended. A worker that has ended skips its turn. Below, the registry and the plan are left out:
 --     Step                  a worker's ask with its answer
 --     left, queue_after, results_after    what a worker has left to do, what is queued and what is stored after these steps
---     Answers l n before a r    the reply r to the ask a is what the queue and the table say at that time; a worker that asks whether there will be more
+--     Answers n before a r    the reply r to the ask a is what the queue and the table say at that time; a worker that asks whether there will be more
 --                           to do is told so while something is queued or some worker is inside the script of a message
---     Turned l n before us xs    after the steps before, the turns us are taken, and the steps xs are those that they make
---     AllEnded l n before   after these steps no worker asks for anything more
---     RanWhole l n ts       the turns of the list and then as many rounds as it takes until all have ended
---     RanUntil l n ts steps    the turns of the list, and then turns in rotation, up to so many steps, with some worker that has not ended
+--     Turned n before us xs    after the steps before, the turns us are taken, and the steps xs are those that they make
+--     AllEnded n before   after these steps no worker asks for anything more
+--     RanWhole n ts       the turns of the list and then as many rounds as it takes until all have ended
+--     RanUntil n ts steps    the turns of the list, and then turns in rotation, up to so many steps, with some worker that has not ended
 use Rattle.std.specs.Prelude.{ℕ, zero, suc, ◌≡◌, ◌≤◌, ◌||◌, Bool, true, false, List, [], ◌∷◌, ◌++◌, map, length, Some}
 use Rattle.canvas_task.specs.Apply.{Registry}
 use Rattle.canvas_task.specs.declared.outcome.Outcome.{Outcome}

@@ -1,4 +1,4 @@
--- A line as a signature: a line of one element is that element, a longer one a chain.
+-- A line as a signature: a line of one element is that element, a longer one a chain (Celery user guide, Canvas: chains).
 use Rattle.canvas_semantics.specs.Tree.{Tree, one, chain, group, chord, Trees, no_trees, and_tree}
 use Rattle.canvas_semantics.specs.Line.{Line, stop, step, group_end, chord_end, Lines, no_lines, and_line}
 

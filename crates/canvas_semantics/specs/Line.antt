@@ -1,4 +1,5 @@
--- Lines as data: tasks, then nothing, a group, or a chord with what follows it as its body. What a plan and its messages are made of.
+-- Lines as data: tasks, then nothing, a group, or a chord with what follows it as its body. What a plan and its messages are made of
+-- (Celery user guide, Canvas: chains, groups and chords; a group that a task follows is a chord).
 use Rattle.std.specs.Prelude.{ℕ, zero, suc, ◌+◌, List, [], ◌∷◌, ◌++◌, Bool, true, false, Option, Some, None, length, slice_get, if◌then◌else◌}
 use Rattle.canvas_semantics.specs.Tree.{Task, task, Tasks, no_tasks, and_task, Tree, one, chain, group, chord, Trees, no_trees, and_tree, count_task, number_task}
 

@@ -1,4 +1,4 @@
--- When a rewritten canvas means what the canvas means.
+-- When a rewritten canvas means what the canvas means (Celery user guide, Canvas: a group that a task follows is upgraded to a chord).
 use Rattle.std.specs.Prelude.{◌≡◌}
 use Rattle.canvas_task.specs.Apply.{Registry}
 use Rattle.canvas_semantics.specs.Evaluation.{Flow, eval, ends}

@@ -1,4 +1,4 @@
--- The states of a canvas's tasks as a table: one for each task, in the order of their numbers.
+-- The states of a canvas's tasks as a table: one for each task, in the order of their numbers (Celery's states PENDING, SUCCESS and FAILURE).
 use Rattle.std.specs.Prelude.{◌≡◌, ◌⊎◌, None, ℕ, zero, suc, List, [], ◌∷◌, map}
 use Rattle.canvas_task.specs.Apply.{Registry}
 use Rattle.canvas_semantics.specs.Tree.{Tree, count}

@@ -1,4 +1,4 @@
--- The canvas that a text spells, or its first refusal.
+-- The canvas that a text spells, or its first refusal: JSON (RFC 8259) in UTF-8, as `json.dumps(signature)` writes a signature of Celery.
 use Rattle.std.specs.Prelude.{ℕ, if◌then◌else◌, length, Option, Some, None, Result, Err, nat_lt}
 use Rattle.std.specs.Str.{is_utf8}
 use Rattle.serde_json.specs.Data.{Data}

@@ -1,4 +1,4 @@
--- The refusals of a canvas that was composed: a text can spell each of them too, and is then refused for the same reason. What else
+-- The refusals of a canvas that was composed (Celery's signatures): a text can spell each of them too, and is then refused for the same reason. What else
 -- refuses a text is of its JSON, and can't be composed.
 use Rattle.std.specs.Prelude.{Bool, true, not, ◌&&◌, Option, Some, None, Result, Ok, Err}
 use Rattle.std.specs.List.{list_all}

@@ -1,4 +1,4 @@
--- The members of a JSON value, where one that is missing is null.
+-- The members of a JSON value (RFC 8259), where one that is missing is null.
 use Rattle.std.specs.Prelude.{String, string_bytes, Bool, true, false, ◌||◌, List, [], ◌∷◌, Option, option_map, unwrap_or, map, codes}
 use Rattle.std.specs.Borrow.{Bor}
 use Rattle.std.specs.declared.alloc.Global.{Global}

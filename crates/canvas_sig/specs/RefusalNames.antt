@@ -1,4 +1,4 @@
--- The numbers of the refusals, and their printed names.
+-- The numbers of the refusals, and their printed names. Both are this project's own.
 use Rattle.std.specs.Prelude.{ℕ, List, codes}
 use Rattle.canvas_sig.specs.declared.fault.SigFault.{SigFault}
 use Rattle.canvas_sig.specs.declared.fault.SigFault.TheVariants.{TooLarge, NotJson, NotSignature, UnknownPrimitive, BadArgs, BadNumber, OnCanvas, Frozen, EmptyChain, NestedGroup, TooDeep, TooMany, Memory}

@@ -1,4 +1,4 @@
--- The first fault of a signature in file order, and apart from it the canvas that a signature without one spells.
+-- The first fault of a signature (Celery's, as `json.dumps(signature)` writes it) in file order, and apart from it the canvas that a signature without one spells.
 use Rattle.std.specs.Prelude.{ℕ, zero, suc, Bool, true, false, List, [], ◌∷◌, ◌++◌, map, Option, Some, None, codes}
 use Rattle.serde_json.specs.Data.{Data, array, depth}
 use Rattle.canvas_task.specs.declared.arg.Arg.{Arg}

@@ -1,4 +1,4 @@
--- The data that signatures stand for. Nothing is numbered yet: each number is 0.
+-- The data that signatures stand for (Celery user guide, Canvas: signatures). Nothing is numbered yet: each number is 0.
 use Rattle.std.specs.Prelude.{List, [], ◌∷◌}
 use Rattle.canvas_semantics.specs.Tree.{Task, task, Tasks, no_tasks, and_task, Tree, one, chain, group, chord, Trees, no_trees, and_tree}
 use Rattle.canvas_sig.specs.declared.task_sig.TaskSig.{TaskSig, fold-TaskSig}

@@ -1,4 +1,4 @@
--- Names of tasks: printable ASCII without spaces.
+-- Names of tasks: printable ASCII without spaces. The rule is this project's own.
 use Rattle.std.specs.Prelude.{ℕ, Bool, ◌&&◌, List, length, nat_le}
 use Rattle.std.specs.List.{list_all}
 

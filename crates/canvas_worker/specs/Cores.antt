@@ -1,4 +1,4 @@
--- How a core, which keeps messages as their envelopes, goes with the worker that keeps what they say.
+-- How a core, which keeps messages as their envelopes (Celery's task message protocol, version 2), goes with the worker that keeps what they say.
 use Rattle.std.specs.Prelude.{◌≡◌, List, map}
 use Rattle.canvas_task.specs.Apply.{six_tasks}
 use Rattle.canvas_task.specs.declared.outcome.Outcome.{Outcome}

@@ -1,4 +1,4 @@
--- What is left to do of a message or of a completed header, as data.
+-- What is left to do of a message or of a completed header, as data (Celery user guide, Canvas).
 use Rattle.std.specs.Prelude.{List, ◌++◌, map, option_map}
 use Rattle.canvas_task.specs.declared.outcome.Outcome.{Outcome}
 use Rattle.canvas_rewrite.specs.FrozenView.{Load}
