@@ -1,6 +1,5 @@
 -- The group or chord of each task that is the last of a member.
-use Rattle.std.proofs.Common.{◌≡◌, ◌≢◌, ◌∙◌, ◌==◌, ◌||◌, ◌+◌, ◌-◌, ◌<◌, ◌≤◌, ℕ, zero, suc, Bool, true, false, true≢false, IsTrue, cond, List, [], ◌∷◌, length, length-set, replicate, set, slice_get, Option, Some, None, refl, sym, ap, subst, ⊎_elim, eq-eqb, ne_eqb, get_or, arith}
-use Rattle.std.proofs.lemmas.List.{length-replicate}
+use Rattle.std.proofs.Common.{◌≡◌, ◌≢◌, ◌∙◌, ◌==◌, ◌||◌, ◌+◌, ◌-◌, ◌<◌, ◌≤◌, ℕ, zero, suc, Bool, true, false, true≢false, IsTrue, cond, List, [], ◌∷◌, length, length-set, set, slice_get, Option, Some, None, refl, sym, ap, subst, ⊎_elim, eq-eqb, ne_eqb, get_or, arith}
 use Rattle.std.proofs.lemmas.Option.{slice_get_cases}
 use Rattle.std.specs.List.{list_any}
 use mathlib.Core.Logic.{dite}
@@ -56,23 +55,6 @@ pub record HomesTo (plan : Roster) (n : ℕ) (homes : List (Option ℕ)) : Type 
   pub many : length homes ≡ plan.tasks
   pub sound : (g t : ℕ) → home_at homes t ≡ Some g → IsTrue (is_member plan g t)
   pub full : (g t : ℕ) → IsTrue (is_member plan g t) → g ≤ n → home_at homes t ≡ Some g
-
-none_home : (n t : ℕ) → home_at (replicate n None) t ≡ None
-none_home n zero = refl
-none_home zero (suc k) = refl
-none_home (suc n) (suc zero) = refl
-none_home (suc n) (suc (suc k)) = none_home n (suc k)
-
-pub homes_start : (plan : Roster) (homes : List (Option ℕ)) → homes ≡ replicate plan.tasks None → HomesTo plan 0 homes
-homes_start plan homes is = record {
-  many = ap length is ∙ length-replicate plan.tasks None;
-  sound = λ g t there. let e : None ≡ Some g = sym (ap (λ (z : List (Option ℕ)). home_at z t) is ∙ none_home plan.tasks t) ∙ there in absurd (cc);
-  full = λ g t member few. nobody g t member few;
-}
-  where
-    nobody : (g t : ℕ) → IsTrue (is_member plan g t) → g ≤ 0 → home_at homes t ≡ Some g
-    nobody zero t member few = absurd (true≢false (sym member))
-    nobody (suc g) t member few = absurd (omega arith)
 
 pub homes_more : (plan : Roster) (n : ℕ) (homes : List (Option ℕ)) → Apart plan → Known plan.tasks (members plan (suc n)) → HomesTo plan n homes → HomesTo plan (suc n) (moved_in homes (suc n) (members plan (suc n)))
 homes_more plan n homes apart known h = record {

@@ -501,7 +501,3 @@ module _ {E : Type 0} where
               (λ j u far e. now j u e far);
         },
       )
-
--- a pass that takes in another answers for itself still
-pub united_has : (p : ℕ) (cs ds es : List ℕ) → es ≡ cs ++ ds → among p cs ≡ true → among p es ≡ true
-united_has p cs ds es e h = subst (λ l. In p l) (sym e) (in_left p cs ds h)

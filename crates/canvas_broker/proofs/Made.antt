@@ -1,14 +1,12 @@
 -- What the calls of a pass tell of its own entries, and of an empty queue.
 use Rattle.std.specs.Prelude.{slice_index_or}
 use Rattle.std.proofs.Common.{◌≡◌, ℕ, List, [], ◌∷◌, ◌++◌, None, refl, sym, ap, ◌∙◌, subst, append_assoc, append-nil}
-use Rattle.std.specs.Global.{Global}
-use Rattle.crossbeam_queue.specs.SegTies.{SegId}
 use Rattle.canvas_history.specs.Callers.{told, Adds}
 use Rattle.canvas_history.specs.History.{calls, made_by}
 use Rattle.canvas_history.proofs.CallerLaws.{AllBy, adds_all}
 use Rattle.canvas_history.proofs.Histories.{In, legal_right}
 use Rattle.canvas_broker.specs.Broker.{take, QueueEntry, answer, next, May, IsLegal, queue_of, takes_of}
-use Rattle.canvas_broker.specs.Passes.{CallerAt, Knowledge, pass_of, Stands, CouldStand, Took, Empties}
+use Rattle.canvas_broker.specs.Passes.{CallerAt, Stands, CouldStand, Took, Empties}
 use Rattle.canvas_broker.specs.steps.Rule.{Splits, child, known, view_of}
 use Rattle.canvas_broker.specs.declared.view.View.{View}
 
@@ -22,11 +20,6 @@ module _ {E : Type 0} where
   answers_none (x ∷ s) h = cc
 
 module _ {E : Type 0} where
-  -- what a pass has taken, at its broker
-  pub passes_took : (b b' : SegId Global) (v : Knowledge E) (es : List E) (w : Knowledge E) → b' ≡ b → Took v es w → Took (pass_of b v) es (pass_of b' w)
-  passes_took b b' v [] w e t = λ i. pass_of (e i) (t i)
-  passes_took b b' v (x ∷ es) w e t = (e, t.1, t.2, t.3, t.4)
-
   -- the new caller that a split has made, by the view of its pass
   pub child_is : (v w : View E) → (s : Splits v None w) → child w ≡ view_of (known s.0 (s.0 ∷ []) w.knows.seen []) []
   child_is v w s = ap (λ qs. view_of (known (slice_index_or qs 0 0) qs w.knows.seen []) []) s.1

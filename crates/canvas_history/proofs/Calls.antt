@@ -2,7 +2,7 @@
 use Rattle.std.proofs.Common.{◌≡◌, ◌⊎◌, ℕ, ◌==◌, Bool, true, false, cond, List, [], ◌∷◌, ◌++◌, refl, sym, ap, ◌∙◌, subst, inl, inr, ⊎_elim, append_assoc}
 use Rattle.std.proofs.lemmas.Bool.{false≢true, eqb-true, eqb-false, eq-eqb}
 use Rattle.canvas_history.specs.History.{Entry, split, join, calls, without, by_of, live_after, live, split_off, taken_in, heir_after, heir, Sole, AllOthers, state_after, replay, Allowed, LegalFrom, Legal}
-use Rattle.canvas_history.proofs.Histories.{In, in_cases, in_here, in_left, in_right, in_append, in_without, in_within, live_append, named_append, live_named, state_append, legal_append, legal_left, legal_right, was_live as by_live, was_there, gone, IsOther, not_of}
+use Rattle.canvas_history.proofs.Histories.{In, in_cases, in_here, in_left, in_right, in_append, in_without, live_append, named_append, live_named, state_append, legal_append, legal_left, legal_right, was_live as by_live, was_there, gone, IsOther, not_of}
 
 pub not_true : (b : Bool) → (b ≡ true → ⊥) → b ≡ false
 not_true true f = absurd (f refl)
@@ -10,9 +10,6 @@ not_true false f = refl
 
 pub among_without : (q p : ℕ) (ks : List ℕ) → (q == p) ≡ false → In q ks → In q (without p ks)
 among_without q p ks apart there = in_without q p ks there (λ e. eqb-false q p apart e)
-
-pub among_within : (q p : ℕ) (ks : List ℕ) → In q (without p ks) → In q ks
-among_within q p ks there = (in_within q p ks there).0
 
 pub among_last : (q : ℕ) (ks : List ℕ) (x : ℕ) → In q (ks ++ x ∷ []) → In q ks ⊎ (q ≡ x)
 among_last q ks x there = ⊎_elim inl (λ t. ⊎_elim (λ (e : x ≡ q). inr (sym e)) (λ u. absurd (false≢true u)) (in_cases q x [] t)) (in_append q ks (x ∷ []) there)

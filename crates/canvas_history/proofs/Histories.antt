@@ -137,11 +137,6 @@ module _ {C R : Type 0} where
   OthersCall (join p q ∷ es) = (p ≡ 0) × OthersCall es
   OthersCall (calls p c r ∷ es) = OthersCall es
 
-  -- each entry is by the first caller or by one of these
-  abbrev pub ByThese : List ℕ → List (Entry C R) → Type 0
-  ByThese qs [] = Unit {0}
-  ByThese qs (e ∷ es) = (by_of e ≡ 0 ⊎ In (by_of e) qs) × ByThese qs es
-
   pub only_right : (xs ys : List (Entry C R)) → OnlyCalls (xs ++ ys) → OnlyCalls ys
   only_right [] ys o = o
   only_right (split p q ∷ xs) ys o = absurd o
@@ -235,14 +230,6 @@ module _ {C R S : Type 0} (first : S) (answer : S → C → R) (next : S → C �
   others_call before (e ∷ es) l o h =
       let here : OthersCall (e ∷ []) = one before es e o l.0 h in
       more e es here (others_call (before ++ e ∷ []) es l.1 (others_append before (e ∷ []) o here) (subst (λ l. Quiet l) (sym (append_assoc before (e ∷ []) es)) h))
-
-  -- and each entry is by the first caller or by one whom it has made
-  pub by_these : (before es : List (Entry C R)) (qs : List ℕ) → Ok before es → ((c : ℕ) → In c (split_off (before ++ es)) → In c qs) → ByThese qs es
-  by_these before [] qs l h = tt
-  by_these before (e ∷ es) qs l h = (
-    ⊎_elim (λ (z : by_of e ≡ 0). inl z) (λ z. inr (h (by_of e) (subst (λ l. In (by_of e) l) (sym (named_append before (e ∷ es))) (in_left (by_of e) (split_off before) (split_off (e ∷ es)) z)))) (was_named before e l.0),
-    by_these (before ++ e ∷ []) es qs l.1 (subst (λ l. (c : ℕ) → In c (split_off l) → In c qs) (sym (append_assoc before (e ∷ []) es)) h),
-  )
 
 -- ---- the callers that a join has taken in
 or_false : (a b : Bool) → (a || b) ≡ false → (a ≡ false) × (b ≡ false)

@@ -17,7 +17,7 @@ use Rattle.canvas_rewrite.specs.FrozenView.{p_task_view, p_line_view}
 use Rattle.canvas_rewrite.specs.declared.frozen.Carried as block
 use Rattle.canvas_rewrite.specs.declared.frozen.Carried.{Carried, out-Carried}
 use Rattle.canvas_rewrite.specs.declared.frozen.FrozenTask.{FrozenTask, out-FrozenTask}
-use Rattle.canvas_message.specs.Carrying.{is_whole, place_stands, carried_ok}
+use Rattle.canvas_message.specs.Carrying.{is_whole, carried_ok}
 use Rattle.canvas_message.specs.Content.{Content, line, number_of, links_of, errbacks_of, place_of, call_of}
 use Rattle.canvas_message.specs.Effects.{Jobs, Effect, Part, message, callbacks, part_of, enter, enter_all, effect_of, stores_in, messages_in, part_in, after, body_after, before_input}
 use Rattle.canvas_message.specs.steps.Elements.{carried_view}
@@ -30,7 +30,7 @@ use Rattle.canvas_message.specs.View.{place_seen}
 use Rattle.canvas_message.specs.steps.Walks.{last_of, started, skipped, raised_stores, raised_messages, part_at_end, first_failure, successes}
 use Rattle.canvas_message.proofs.Copied.{place_there}
 use Rattle.canvas_message.proofs.Entered.{stores_on, messages_on, part_on, called_stores, called_part, called_messages, place_stores, place_messages, no_part_on, no_store_on, skipped_so, skip_quiet, raised_stores_so, raised_messages_so}
-use Rattle.canvas_message.proofs.Standing.{as_it_stands, Stepped, first_stepped, rest_whole, place_whole, place_last, place_never, whole_ok, member_first, member_others}
+use Rattle.canvas_message.proofs.Standing.{as_it_stands, Stepped, first_stepped, rest_whole, place_last, place_never, whole_ok, member_first, member_others}
 use Rattle.canvas_message.proofs.Walked.{number_seen, last_number}
 
 -- ---- lines that are started store nothing, and return nothing where they have an element
@@ -164,9 +164,6 @@ own_stepped c ok = first_stepped c.own c.rest (fits_whole c ok)
 
 pub rest_stands : (c : Content) (l : PLine) → fits c ≡ true → c.rest ≡ l → is_stop l ≡ false → is_whole l ≡ true
 rest_stands c l ok same h = rest_whole c.own l h (ap (λ r. is_whole (p_step c.own r)) (sym same) ∙ fits_whole c ok)
-
-pub own_place_stands : (c : Content) → fits c ≡ true → c.rest ≡ p_stop → place_stands (place_of c.own) ≡ true
-own_place_stands c ok same = place_whole (p_step c.own p_stop) (ap (λ r. is_whole (p_step c.own r)) (sym same) ∙ fits_whole c ok)
 
 end_behind : (t : PTask) (l : PLine) → is_stop l ≡ false → end_place (p_step t l) ≡ end_place l
 end_behind t p_stop h = absurd cc

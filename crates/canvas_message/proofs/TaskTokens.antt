@@ -15,8 +15,8 @@ use Rattle.canvas_rewrite.specs.declared.frozen.FrozenLine.{FrozenLine}
 use Rattle.canvas_rewrite.specs.declared.frozen.FrozenEnd.{FrozenEnd, out-FrozenEnd}
 use Rattle.canvas_rewrite.specs.declared.frozen.Place.{Place, out-Place}
 use Rattle.canvas_rewrite.specs.declared.frozen.Carried.{Carried, out-Carried}
-use Rattle.canvas_message.specs.steps.Tokens.{members_of_end, group_of_end, size_tokens, start_tokens, call_tokens, unless_null, links_wire, errbacks_wire, links_tokens, place_tokens, options_tokens, opening_tokens, group_closing, list_tokens, named_tokens}
-use Rattle.canvas_message.specs.View.{place_view, place_seen}
+use Rattle.canvas_message.specs.steps.Tokens.{members_of_end, group_of_end, size_tokens, start_tokens, call_tokens, unless_null, links_wire, errbacks_wire, links_tokens, options_tokens, opening_tokens, group_closing, list_tokens, named_tokens}
+use Rattle.canvas_message.specs.View.{place_view}
 use Rattle.canvas_message.specs.Wire.{group_options, task_id, group_id, place_id, member_unless_null, frozen, task_options, chain_wire, group_wire, chord_wire, task_wire, tasks_wire, carried_wire, line_wire, members_wire}
 use Rattle.canvas_message.proofs.Seen.{called, task_seen, group_place, chord_place, end_none, end_some}
 
@@ -101,9 +101,6 @@ named_by p (Some c) e = ap place_id (chord_place p c e)
 
 pub place_named : (p : Place) → place_id (place_view p) ≡ group_id (out-Place p).group
 place_named p = named_by p (out-Place p).chord refl
-
-pub some_place : (p : Place) → unless_null (codes "chord") (carried_wire (place_view p)) ++ named_tokens (codes "group_id") (group_id (out-Place p).group) ≡ place_tokens (place_seen (Some p))
-some_place p = ap (λ d. unless_null (codes "chord") (carried_wire (place_view p)) ++ unless_null (codes "group_id") d) (sym (place_named p))
 
 -- ---- chains, groups and chords
 

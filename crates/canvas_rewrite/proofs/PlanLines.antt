@@ -78,9 +78,6 @@ ends_some l b e = by_body l b e (out-FrozenEnd b.value).body refl
 pub ends_group_end : (t : FrozenEnd) → (out-FrozenEnd t).body ≡ None → ends_of (end_in t) ≡ lines_ends (map line_in (out-FrozenEnd t).members)
 ends_group_end t e = ap ends_of (in_group t e) ∙ all_ends (map line_in (out-FrozenEnd t).members)
 
-pub ends_chord_end : (t : FrozenEnd) (b : FrozenLine) → (out-FrozenEnd t).body ≡ Some b → ends_of (end_in t) ≡ ends_of (line_in b)
-ends_chord_end t b e = ap ends_of (in_chord t b e)
-
 -- ---- groups
 
 entries_steps : (ts : List Task) (l : Line) → group_entries (steps_onto ts l) ≡ group_entries l

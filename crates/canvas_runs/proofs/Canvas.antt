@@ -40,10 +40,6 @@ same_pairs Q one ((t, o) ∷ xs) ((u, q) ∷ ys) e a b =
     let pair : ◌≡◌ {A = ℕ × Outcome} (t, o) (u, q) = λ i. (heads i, outs i) in
     λ i. pair i ∷ rest i
 
-pub each_two : {A : Type 0} (P Q : A → Type 0) (xs : List A) → Each P xs → Each Q xs → Each (λ x. P x × Q x) xs
-each_two P Q [] a b = tt
-each_two P Q (x ∷ xs) a b = ((a.0, b.0), each_two P Q xs a.1 b.1)
-
 -- a line in the order of the file, with its groups' members
 pub record Plan : Type 0 where
   pub line : Line

@@ -16,7 +16,7 @@ use Rattle.canvas_semantics.specs.PlacedLine.{PTask, p_task, PPlace, p_nowhere, 
 use Rattle.canvas_message.specs.Content.{Content, line, number_of, call_of, links_of, errbacks_of, place_of}
 use Rattle.canvas_message.specs.Effects as effects
 use Rattle.canvas_message.specs.Events as events
-use Rattle.canvas_message.specs.Events.{Event, parent_of, flow_outcome, chosen, end_of_line, running, start}
+use Rattle.canvas_message.specs.Events.{Event, parent_of, flow_outcome, chosen, end_of_line, running}
 use Rattle.canvas_message.specs.Fits.{how_many}
 use Rattle.canvas_message.specs.Flowing.{Input, number_input, list_input, id_input, LineFlow, run, skips, raise, after_outcome}
 use Rattle.canvas_message.specs.Job.{Job, store, publish, hand_in}

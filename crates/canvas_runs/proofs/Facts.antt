@@ -3,7 +3,7 @@ use Rattle.std.proofs.Common.{◌≡◌, ℕ, suc, ◌+◌, ◌≤◌, Bool, tru
 use Rattle.std.specs.Prelude.{if◌then◌else◌, nat_lt, Ok}
 use Rattle.canvas_task.specs.Apply.{Registry}
 use Rattle.canvas_task.specs.declared.outcome.Outcome.{Outcome}
-use Rattle.canvas_semantics.specs.FileOrder.{TaskIn, TasksIn, EndsInTask}
+use Rattle.canvas_semantics.specs.FileOrder.{EndsInTask}
 use Rattle.canvas_semantics.specs.FileOrder as order_of
 use Rattle.canvas_rewrite.proofs.InOrder.{plan_in_order}
 use Rattle.canvas_semantics.specs.Line.{Line, stop, step, group_end, chord_end, Lines, no_lines, and_line, no_of, count_line, members, size, ends_of, all_ends_of}
@@ -23,7 +23,7 @@ use Rattle.canvas_runs.specs.Lists.{Each, total, firsts}
 use Rattle.canvas_runs.specs.Worker.{worker, opened, known_one, read_envelope, sealed}
 use Rattle.canvas_runs.proofs.Backing.{backs}
 use Rattle.canvas_runs.proofs.Canvas as plan_facts
-use Rattle.canvas_runs.proofs.Canvas.{Plan, messages_of, same_pairs}
+use Rattle.canvas_runs.proofs.Canvas.{Plan, messages_of}
 use Rattle.canvas_runs.proofs.Carrying.{content, sent, all_sent, load, items_of, both_sent, items_sent, ended_sent, completed_sent}
 use Rattle.canvas_runs.proofs.Effects.{Jobs, called, enter, after, body_after, outcome_of}
 use Rattle.canvas_runs.proofs.Ending.{EndsJob, plan_ends}

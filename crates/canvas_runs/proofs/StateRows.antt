@@ -180,9 +180,6 @@ module _ (registry : Registry) where
   abbrev line_rows : Line → eval.Flow → Rows
   line_rows l x = (eval_chain registry (elements_of l) x).rows
 
-  abbrev line_out : Line → eval.Flow → eval.Flow
-  line_out l x = (eval_chain registry (elements_of l) x).out
-
   -- what goes out of a header
   abbrev header_out : Lines → eval.Flow → eval.Flow
   header_out ms x = group_value x (with_states (member_rows registry (members_of ms) x) (all_ends (members_of ms)))

@@ -2,7 +2,7 @@
 use Rattle.std.proofs.Common.{◌≡◌, ◌≢◌, ℕ, zero, suc, ◌≤◌, Bool, true, false, cond, eqb, ◌==◌, List, [], ◌∷◌, ◌++◌, Some, None, refl, sym, ap, ◌∙◌, subst, append_assoc, append-nil, ne_eqb, ⊎_elim, arith}
 use Rattle.std.proofs.lemmas.Bool.{false≢true, eqb-true, eqb-false, cases_Bool}
 use Rattle.canvas_task.specs.declared.outcome.Outcome.{Outcome}
-use Rattle.canvas_history.specs.History.{Entry, split, join, calls, among, live, live_from, split_off, heir, state_from, Legal}
+use Rattle.canvas_history.specs.History.{Entry, split, join, calls, among, live, live_from, split_off, state_from, Legal}
 use Rattle.canvas_history.proofs.Histories.{In, in_left, in_right, in_append, in_here, in_later, in_cases, live_append, legal_append, OnlyCalls}
 use Rattle.canvas_message.specs.declared.envelope.Envelope.{Envelope}
 use Rattle.canvas_backend.specs.declared.stored.Stored.TheVariants.{First, Again}
@@ -54,16 +54,6 @@ module _ {C R : Type 0} where
   only_live cs (join p q ∷ es) o = absurd o
   only_live cs (calls p c r ∷ es) o = only_live cs es o
 
-  only_heir : (es : List (Entry C R)) (p : ℕ) → OnlyCalls es → heir es p ≡ p
-  only_heir [] p o = refl
-  only_heir (split a q ∷ es) p o = absurd o
-  only_heir (join a q ∷ es) p o = absurd o
-  only_heir (calls a c r ∷ es) p o = only_heir es p o
-
-  split_heir : (qs : List ℕ) (es : List (Entry C R)) (p : ℕ) → OnlyCalls es → heir (splits_of qs ++ es) p ≡ p
-  split_heir [] es p o = only_heir es p o
-  split_heir (q ∷ qs) es p o = split_heir qs es p o
-
   pub only_append : (xs ys : List (Entry C R)) → OnlyCalls xs → OnlyCalls ys → OnlyCalls (xs ++ ys)
   only_append [] ys o u = u
   only_append (split p q ∷ xs) ys o u = absurd o
@@ -85,16 +75,6 @@ module _ {C R : Type 0} where
 
   pub first_lives : (n : ℕ) (log : List (Entry C R)) → Made n log → among 0 (live log) ≡ true
   first_lives n log m = subst (λ ls. In 0 ls) (sym (made_live n log m)) (in_here 0 (round n))
-
-  pub made_heir : (n p : ℕ) (log : List (Entry C R)) → Made n log → heir log p ≡ p
-  made_heir n p log m = ap (λ g. heir g p) m.is ∙ split_heir (round n) m.rest p m.only
-
-  pub made_more : (n : ℕ) (log es : List (Entry C R)) → Made n log → OnlyCalls es → Made n (log ++ es)
-  made_more n log es m o = record {
-    rest = m.rest ++ es;
-    is = ap (λ g. g ++ es) m.is ∙ append_assoc (splits_of (round n)) m.rest es;
-    only = only_append m.rest es m.only o;
-  }
 
 module _ {C R S : Type 0} (first : S) (answer : S → C → R) (next : S → C → S) (May : List (Entry C R) → S → ℕ → C → Type 0) where
   pub splits_legal : (n : ℕ) → Legal first answer next May (splits_of (round n))

@@ -16,7 +16,7 @@ use Rattle.canvas_message.specs.declared.envelope.Envelope.{Envelope}
 use Rattle.canvas_backend.proofs.HistoryLaws.{all_first, keeps_first, still_free, first_may, still_may}
 use Rattle.canvas_backend.specs.declared.stored.Stored.TheVariants.{First, Again}
 use Rattle.canvas_backend.specs.Backend as results
-use Rattle.canvas_backend.specs.Backend.{Results, no_results, kept_or, was, count, MayReturn}
+use Rattle.canvas_backend.specs.Backend.{Results, no_results, kept_or, was, MayReturn}
 use Rattle.canvas_backend.specs.Roster.{Roster, roster_of}
 use Rattle.canvas_runs.specs.Accounts.{backend_entries}
 use Rattle.canvas_runs.specs.Calls.{BackendCall, stored, has_read, backend_call, reads_member, ReadsMembers, AskedAndAnswered}

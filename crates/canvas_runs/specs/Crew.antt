@@ -10,7 +10,6 @@ use Rattle.canvas_semantics.specs.Line.{Line}
 use Rattle.canvas_message.specs.Content.{Content}
 use Rattle.canvas_message.specs.Effects.{first_messages}
 use Rattle.canvas_backend.specs.Backend.{Results}
-use Rattle.canvas_message.specs.declared.envelope.Envelope.{Envelope}
 use Rattle.canvas_backend.specs.Seats as seats
 use Rattle.canvas_backend.specs.Roster.{Roster, roster_of}
 use Rattle.canvas_broker.specs.Passes as passes
@@ -58,19 +57,6 @@ SplitSeats plan s (t ∷ ts) s' = (between : Seat) × seats.Parted plan s betwee
 abbrev pub JoinSeats : Roster → Seat → List Seat → Seat → Type 0
 JoinSeats plan s [] s' = s' ≡ s
 JoinSeats plan s (t ∷ ts) s' = (between : Seat) × seats.Joined plan s t between × JoinSeats plan between ts s'
-
--- each of the passes is of this broker, and each of the seats of this backend
-abbrev pub EachOf : SegId Global → List Pass → Type 0
-EachOf b [] = Unit
-EachOf b (q ∷ qs) = (q.of ≡ b) × EachOf b qs
-
-abbrev pub EachSeatOf : TableId → List Seat → Type 0
-EachSeatOf d [] = Unit
-EachSeatOf d (t ∷ ts) = (t.of ≡ d) × EachSeatOf d ts
-
--- the first some of these were published
-abbrev pub SentSome : Pass → List Envelope → Pass → Type 0
-SentSome p es q = (sent unsent : List Envelope) × (es ≡ sent ++ unsent) × Makes p (published_all sent) q
 
 -- the pass and the seat of a new broker and of a new backend
 abbrev pub first_pass : SegId Global → Pass

@@ -1,5 +1,5 @@
 -- What stands in a value is less deep than it: so its own depth leaves no signature out.
-use Rattle.std.proofs.Common.{◌≡◌, ℕ, zero, suc, ◌<◌, ◌≤◌, List, [], ◌∷◌, ◌++◌, map, Bool, true, false, Option, Some, None, Ordering, Less, Equal, Greater, refl, sym, ap, ap₂, ◌∙◌, arith}
+use Rattle.std.proofs.Common.{◌≡◌, ℕ, zero, suc, ◌<◌, ◌≤◌, List, [], ◌∷◌, ◌++◌, map, Bool, true, false, Option, Some, None, Ordering, Less, Equal, Greater, refl, ap, ap₂, ◌∙◌, arith}
 use Rattle.std.specs.Prelude.{codes, unwrap_or}
 use Rattle.std.specs.Cmp.Lexicographic.{slice_cmp}
 use Rattle.std.specs.Ordering.{nat_cmp, match_ordering}
@@ -111,22 +111,6 @@ enough_faults (suc m) (suc n) linked d low h =
     let errbacks = same_faults n (fault_left m true) (fault_within n true) (λ x l. enough_faults m n true x l (omega arith)) (as_list (link_error d)) (link_low (codes "link_error") d n low) in
     rw (inside, links, errbacks) refl
 
--- a greater number changes nothing
-any_fault : (n : ℕ) (linked : Bool) (d : Data) → depth d ≤ n → fault_within n linked d ≡ fault_within (depth d) linked d
-any_fault n linked d low = sym (enough_faults (suc n) n linked d low (omega arith)) ∙ enough_faults (suc n) (depth d) linked d (omega arith) (omega arith)
-
--- The first fault of a signature, with no number: its own, or the first of those in it.
-pub fault_by_parts : (linked : Bool) (d : Data)
-    → fault_within (depth d) linked d
-    ≡ (own_fault linked d or_else first_fault (λ x. fault_within (depth x) false x) (in_kwargs (primitive_of (subtype d)) d)
-    or_else first_fault (λ x. fault_within (depth x) true x) (as_list (link d)) or_else first_fault (λ x. fault_within (depth x) true x) (as_list (link_error d)))
-fault_by_parts linked d =
-    let n = depth d in
-    let inside = same_faults n (fault_within n false) (λ x. fault_within (depth x) false x) (any_fault n false) (in_kwargs (primitive_of (subtype d)) d) (kwargs_low (primitive_of (subtype d)) d n (omega arith)) in
-    let links = same_faults n (fault_within n true) (λ x. fault_within (depth x) true x) (any_fault n true) (as_list (link d)) (link_low (codes "link") d n (omega arith)) in
-    let errbacks = same_faults n (fault_within n true) (λ x. fault_within (depth x) true x) (any_fault n true) (as_list (link_error d)) (link_low (codes "link_error") d n (omega arith)) in
-    sym (any_fault (suc n) linked d (omega arith)) ∙ rw (inside, links, errbacks) refl
-
 -- ---- what is spelled
 
 enough_task : (m n : ℕ) (d : Data) → depth d ≤ n → n ≤ m → task_within m d ≡ task_within n d
@@ -173,24 +157,6 @@ enough_trees (suc m) zero (object ms) low h = absurd (omega arith)
 enough_trees (suc m) (suc n) d low h =
     same_from n (tree_within m) (tree_within n) (λ x l. enough_trees m n x l (omega arith)) (task_within (suc m) d) (task_within (suc n) d)
     (primitive_of (subtype d)) d (enough_task (suc m) (suc n) d low h) low
-
--- what is spelled, with no number
-pub task_by_parts : (d : Data) → task_within (depth d) d
-    ≡ task 0 (spelled_call d) (tasks_of (map (λ x. task_within (depth x) x) (as_list (link d)))) (tasks_of (map (λ x. task_within (depth x) x) (as_list (link_error d))))
-task_by_parts d =
-    let n = depth d in
-    let same : (x : Data) → depth x ≤ n → task_within n x ≡ task_within (depth x) x = λ x l. enough_task n (depth x) x (omega arith) l in
-    sym (enough_task (suc n) n d (omega arith) (omega arith))
-    ∙ ap₂ (λ ls es. task 0 (spelled_call d) (tasks_of ls) (tasks_of es))
-    (same_map n (task_within n) (λ x. task_within (depth x) x) same (as_list (link d)) (link_low (codes "link") d n (omega arith)))
-    (same_map n (task_within n) (λ x. task_within (depth x) x) same (as_list (link_error d)) (link_low (codes "link_error") d n (omega arith)))
-
-pub tree_by_parts : (d : Data) → tree_within (depth d) d ≡ tree_from (task_within (depth d) d) (λ x. tree_within (depth x) x) (primitive_of (subtype d)) d
-tree_by_parts d =
-    let n = depth d in
-    sym (enough_trees (suc n) n d (omega arith) (omega arith))
-    ∙ same_from n (tree_within n) (λ x. tree_within (depth x) x) (λ x l. enough_trees n (depth x) x (omega arith) l) (task_within (suc n) d) (task_within n d)
-    (primitive_of (subtype d)) d (enough_task (suc n) n d (omega arith) (omega arith)) (omega arith)
 
 -- ---- a counter that starts above the depth
 

@@ -4,7 +4,7 @@ use Rattle.std.specs.Prelude.{if◌then◌else◌, is_some}
 use Rattle.canvas_message.specs.Job.{store, publish, hand_in}
 use Rattle.canvas_runs.specs.Book.{Book}
 use Rattle.canvas_runs.specs.Core as C
-use Rattle.canvas_runs.specs.Core.{taking, resting, over, failed, owning, doing, reading, taken, sent, refused, kept, counted, found, rested, ask, answered, left_after, Suits, ReadsBack, IsCoreRun}
+use Rattle.canvas_runs.specs.Core.{taking, resting, over, failed, owning, doing, reading, taken, sent, refused, kept, counted, found, rested, answered, left_after, Suits, ReadsBack, IsCoreRun}
 use Rattle.canvas_worker.specs.Asks.{Asked, Answer, suits, shown, replied}
 use Rattle.canvas_worker.specs.Asks as asks
 use Rattle.canvas_worker.specs.Enveloped.{enveloped_by}

@@ -6,7 +6,7 @@ use Rattle.canvas_message.specs.Job.{Job, store, publish, hand_in}
 use Rattle.canvas_message.specs.declared.envelope.Envelope.{Envelope}
 use Rattle.canvas_backend.specs.Roster.{Roster}
 use Rattle.canvas_runs.specs.Core as C
-use Rattle.canvas_runs.specs.Core.{taken, sent, refused, kept, counted, found, rested, taking, resting, over, failed, owning, doing, reading, settled, opens, owned, handed_in, job_done, all_read, answered}
+use Rattle.canvas_runs.specs.Core.{taken, sent, kept, counted, found, rested, taking, resting, over, failed, owning, doing, reading, settled, opens, owned, job_done, answered}
 use Rattle.canvas_runs.specs.Protocol.{Protocol}
 use Rattle.canvas_worker.specs.Asks.{Asked, Answer}
 use Rattle.canvas_worker.specs.Enveloped.{enveloped}

@@ -26,16 +26,13 @@ use Rattle.canvas_runs.specs.Worker.{opened}
 use Rattle.canvas_worker.specs.Asks.{Answer}
 use Rattle.canvas_worker.specs.Enveloped.{said, enclosed, enveloped, envelope_if as kept_envelope}
 use Rattle.canvas_worker.specs.Scripts.{EnvelopeJobs}
-use Rattle.canvas_worker.specs.Seats.{Carries, InPlan, MayHandIn, Can, LetsAsk, WaitingCan, CanAsk, CanGoOn}
+use Rattle.canvas_worker.specs.Seats.{Carries, InPlan, MayHandIn, Can, LetsAsk, CanAsk, CanGoOn}
 use Rattle.canvas_worker.specs.Standing.{Left, asked}
 use Rattle.canvas_worker.proofs.Books.{no_member_zero}
 use Rattle.canvas_worker.proofs.KnownJobs.{Stored, Behind, own_known, ended_jobs, body_jobs, ended_known, body_known}
 use Rattle.canvas_worker.proofs.KnownScripts.{script_known, script_may}
 use Rattle.canvas_worker.proofs.Opening.{opened_as}
 use Rattle.canvas_worker.proofs.Sendable.{said_of}
-
-pub waiting_can : WaitingCan
-waiting_can plan s = tt
 
 module _ (plan : Roster) where
   -- ---- where the seat has made a call

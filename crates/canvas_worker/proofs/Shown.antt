@@ -78,19 +78,6 @@ is_send x C.end e = absurd cc
 pub handed_out : (x : Envelope) (c : Standing) → c.is_out ≡ false → held_out c ≡ Some x → asked c.left ≡ C.send x
 handed_out x c out e = is_send x (asked c.left) (sym (ap (λ b. if b then None else to_send (asked c.left)) out) ∙ e)
 
--- and there is one
-pub hands_one : (c : Standing) → c.is_out ≡ false → shown (asked c.left) ≡ Publish → held_out c ≡ None → ⊥
-hands_one c out is none = by (asked c.left) is (sym (ap (λ b. if b then None else to_send (asked c.left)) out) ∙ none)
-  where
-    by : (a : Asked) → shown a ≡ Publish → to_send a ≡ None → ⊥
-    by C.take e f = cc
-    by (C.send x) e f = cc
-    by (C.keep u w) e f = cc
-    by (C.part g u) e f = cc
-    by (C.read g i) e f = cc
-    by C.pause e f = cc
-    by C.end e f = cc
-
 -- an envelope that was handed out makes no difference to the answer
 pub handed_same : (book : Book) (c : Standing) (r : Answer) → after_reply book (handed c) r ≡ after_reply book c r
 handed_same book c r =

@@ -117,8 +117,5 @@ mutual
   trees_back no_trees = refl
   trees_back (and_tree t ts) = ap₂ and_tree (tree_back t) (trees_back ts)
 
-abbrev pub task_code : Coded Task
-task_code = code_by (Nest Label) (nest_code label_code) task_to task_from task_back
-
 abbrev pub tree_code : Coded Tree
 tree_code = code_by (Nest Label) (nest_code label_code) tree_to tree_from tree_back
