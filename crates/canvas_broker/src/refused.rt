@@ -1,3 +1,5 @@
+//! The answer to a publish for which there was no memory.
+
 use canvas_message::Envelope;
 use thiserror::Error;
 
@@ -5,5 +7,6 @@ use thiserror::Error;
 #[derive(Debug, Drop, Error, PartialEq)]
 #[error("the message was refused")]
 pub struct Refused {
+    /// As it was given.
     pub envelope: Envelope,
 }

@@ -12,11 +12,17 @@ use canvas_worker::Record;
 /// dropped. A count stays at its greatest value.
 #[derive(Clone, Copy, Debug, PartialEq, Eq)]
 pub struct Tally {
+    /// 0 of the worker that takes in all others, which are numbered from 1.
     pub number: u32,
+    /// An envelope counts once it was given to the worker's core.
     pub taken: u64,
+    /// Of worker 0 the run's first messages too.
     pub published: u64,
+    /// The tasks that this worker gave their outcome.
     pub first: u64,
+    /// Of chords alone: a plain group has no parts.
     pub parts: u64,
+    /// Forged ones, of which a run's own queue has none.
     pub dropped: u64,
 }
 
@@ -62,9 +68,14 @@ impl Tally {
 /// each worker counted, from worker 0 on.
 #[derive(Drop)]
 pub struct Records {
+    /// The queue. Nothing is left in it.
     pub broker: Broker,
+    /// It has, of each worker, just that one's calls of the queue.
     pub pass: BrokerPass,
+    /// The table of results.
     pub backend: Backend,
+    /// It has, of each worker, just that one's calls of the table.
     pub seat: BackendSeat,
+    /// One more than the workers on threads.
     pub workers: ListOf<Tally>,
 }

@@ -1,3 +1,4 @@
+//! The report of a run: its rows, and their text.
 ghost use Rattle.std.specs.Prelude.{◌≡◌, ◌++◌, ◌+◌, IfOk, OnOk, string_bytes};
 ghost use Rattle.canvas_rewrite.specs.Ends.{gives_a_list, end_tasks};
 ghost use Rattle.canvas_semantics.specs.Evaluation.{with_states};
@@ -14,6 +15,7 @@ use std::alloc::Global;
 /// What a run has stored: row k - 1 is of task k. A row of None, and one that is missing, is of a task that is pending.
 #[derive(Drop)]
 pub struct Report {
+    /// In the order of the tasks' numbers, from task 1 on.
     pub rows: ListOf<Option<Outcome>>,
 }
 
@@ -99,7 +101,8 @@ fn push_result(text: &mut String, ends: &Ends<'_>, rows: &[Option<Outcome>]) -> 
     }
 }
 
-/// The report of a plan: a line for each task in the order of their numbers, and one for the result.
+/// The report of a plan: a line for each task in the order of their numbers, and one for the result. A task without a row is pending; rows
+/// past the last task are ignored.
 pub fn report_text(alloc: Global, plan: &Plan, report: &Report) -> Result<String, Memory>
     ensures { IfOk result (λ text. string_bytes text ≡ report_of (tree_of plan.now) (rows_from 1 report.now.rows)) }
 {

@@ -1,3 +1,4 @@
+//! One row of a report: a task's state, and its line.
 ghost use Rattle.std.specs.Prelude.{◌≡◌, ◌++◌, OnOk, slice_get, string_bytes};
 ghost use Rattle.canvas_semantics.specs.Report.{report_line, state_name};
 ghost use Rattle.canvas_semantics.specs.Evaluation.{state_of};
@@ -25,6 +26,7 @@ impl fmt::Display for State {
     }
 }
 
+/// A function for its contract's sake, which says of rows what `get` and `copied` say one after the other.
 fn row_at(rows: &[Option<Outcome>], index: usize) -> Option<Option<Outcome>>
     ensures { result ≡ slice_get rows.now index }
 {

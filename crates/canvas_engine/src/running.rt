@@ -42,6 +42,7 @@ pub(crate) struct Start {
 fn reserve<R: Wait>(rt: &R, alloc: Global, plan: &Plan, workers: u32) -> Result<Start, Memory>
     ensures { IfOk result (IsStart plan.now workers) }
 {
+    // For the proof alone, as in `new_rows`.
     let _none: Option<Fault> = None;
     let rows = new_rows(alloc, plan)?;
     let mut tallies = Vec::with_capacity(alloc, workers as usize + 1)?;
@@ -146,7 +147,11 @@ where
 /// 1, work until no message is in flight; then this thread, as worker 0, joins what they have seen, works until it finds nothing and reads
 /// each task once.
 ///
-/// `gate` is asked between a worker's take and its first store. A worker to which memory is refused asks `stop`, which ends all others early.
+/// `gate` is asked between a worker's take and its first store. One that never opens keeps the run from ending, unless `stop` is asked; a worker that
+/// it holds back doesn't sleep.
+///
+/// Where memory is refused to a worker, or its executor fails, `stop` is asked, which ends all others early. It is the caller's own and stays asked:
+/// another run with it ends as stopped at once.
 pub fn run<R, G>(
     rt: &R,
     alloc: Global,

@@ -1,3 +1,4 @@
+//! From the text of a canvas to the text of its report.
 ghost use Rattle.std.specs.Prelude.{◌≡◌, IfOk, IfErr, OnOk, string_bytes};
 ghost use Rattle.canvas_task.specs.Apply.{six_tasks};
 ghost use Rattle.canvas_semantics.specs.NormalLine.{normal};
@@ -113,7 +114,7 @@ where
 }
 
 /// Reads a canvas, runs it with 1 to 16 workers on threads, and writes its report. The faults of the text come first, then those of the run.
-/// `gate` and `stop` are those of `run`.
+/// `gate` and `stop` are those of `run`: a gate must open in the end, and a stop that was asked, by a worker too, isn't to be used again.
 pub fn run_text_threads<R, G>(
     rt: &R,
     alloc: Global,

@@ -1,3 +1,4 @@
+//! Runs by turns, on one thread.
 ghost use Rattle.std.specs.Prelude.{◌≡◌, ◌≢◌, ◌≤◌, ◌<◌, ◌*◌, ◌^◌, suc, ℕ, All, List, [], None, length, IfOk, IfErr, OnOk, OnErr, MatchBool};
 ghost use Rattle.canvas_task.specs.Apply.{six_tasks};
 ghost use Rattle.canvas_semantics.specs.Line.{count_line, tree_of};
@@ -196,6 +197,7 @@ fn more_than_all(plan: &Plan, workers: u32, turns: &[u32]) -> u128
     turns.len() as u128 + product(2 * (calls + 1), workers as u128) + 1
 }
 
+/// A function for its contract's sake: its bounds say that the product fits.
 fn product(left: u128, right: u128) -> u128
     requires left { left < 2 ^ 80 }
     requires right { right < 2 ^ 40 }

@@ -1,3 +1,5 @@
+//! What a canvas ends in.
+
 use canvas_task::TaskNo;
 
 /// The tasks whose outcomes are the result of a canvas.

@@ -1,4 +1,4 @@
-// What a plan keeps beside its line.
+//! What a plan keeps beside its line.
 ghost use Rattle.std.specs.Prelude.{◌≡◌, ◌++◌, IfOk, map, OnOk};
 ghost use Rattle.canvas_semantics.specs.Line.{ends_of, group_entries, in_group};
 ghost use Rattle.canvas_rewrite.specs.FrozenView.{line_in, end_in};

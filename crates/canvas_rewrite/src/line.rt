@@ -1,3 +1,5 @@
+//! Normal lines, without numbers.
+
 use canvas_sig::TaskSig;
 use canvas_task::ListOf;
 
@@ -5,7 +7,9 @@ use canvas_task::ListOf;
 #[derive(Drop)]
 #[cycle(line)]
 pub struct Line {
+    /// The first is run first. There may be none in front of a group or chord.
     pub tasks: ListOf<TaskSig>,
+    /// None where the line ends in a task.
     pub tail: Option<Box<LineEnd>>,
 }
 
@@ -13,6 +17,8 @@ pub struct Line {
 #[derive(Drop)]
 #[cycle(line)]
 pub struct LineEnd {
+    /// A line for each member, in header order.
     pub members: ListOf<Line>,
+    /// What follows the header, with all that follows the chord.
     pub body: Option<Line>,
 }

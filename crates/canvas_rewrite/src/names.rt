@@ -1,4 +1,4 @@
-// The names of a line's tasks.
+//! The names of a line's tasks.
 ghost use Rattle.std.specs.Prelude.{◌≡◌, ◌++◌, OnOk, map};
 ghost use Rattle.canvas_semantics.specs.Line.{task_names, names};
 ghost use Rattle.canvas_rewrite.specs.FrozenView.{task_in, line_in, end_in};

@@ -1,4 +1,4 @@
-// Numbers in file order.
+//! Numbers in file order.
 ghost use Rattle.std.specs.Prelude.{◌≡◌, ◌≤◌, ◌+◌, IfOk, map};
 ghost use Rattle.canvas_semantics.specs.Tree.{count_task, number_task};
 ghost use Rattle.canvas_sig.specs.View.{task_view};

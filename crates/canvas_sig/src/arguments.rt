@@ -101,6 +101,7 @@ pub fn read_arg(alloc: Global, value: &Value) -> Result<Arg, SigFault>
     }
 }
 
+/// The arguments of a list, in order, or the first fault among them.
 pub fn read_args(alloc: Global, values: &[Value]) -> Result<Vec<Arg>, SigFault>
     ensures { Gives (λ v. v.items) result (each arg_reading (map view values.now)) }
 {
@@ -132,6 +133,7 @@ fn read_members(alloc: Global, value: &Value) -> Result<Map<String, Arg>, SigFau
     }
 }
 
+/// The arguments of an object, or the first fault in the order of their names. What is missing, or is no object, has none.
 pub fn read_kwargs(alloc: Global, field: Option<&Value>) -> Result<Map<String, Arg>, SigFault>
     ensures { Gives (λ m. named m.entries) result (each named_reading (object_members (value_at field.entry))) }
 {

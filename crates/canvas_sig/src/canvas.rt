@@ -24,7 +24,7 @@ const MOST_BYTES: usize = 1_048_576;
 /// One more than the levels that JSON is read to, so that no signature is cut off.
 const MOST_LEVELS: u32 = 128;
 
-/// A signature that passed every check. Two canvases are equal where they have the same content.
+/// A signature that passed every check. Contracts compare two canvases by their content; there is no `PartialEq` at run time.
 #[derive(Drop)]
 pub struct Canvas {
     node: Node,
@@ -49,6 +49,9 @@ impl Model for Canvas {
 impl Canvas {
     /// Checks a composed signature: names, numbers and empty chains, signature by signature, and then the limits of a canvas.
     /// A text can spell these faults too; its other faults are of its JSON, and no composed signature has them.
+    ///
+    /// A node that is refused is dropped. The first checks walk as deep as the node before the limit of depth is looked at, so one that was composed a
+    /// hundred thousand deep may exhaust the stack. No text does that: JSON is read at most 127 deep.
     pub fn of(_alloc: Global, node: Node) -> Result<Canvas, SigFault>
         ensures ok { IfOk result (λ canvas. (node_fault (view node) ≡ None) × (canvas ≡ view node)) }
         ensures err { IfErr result (λ e. node_fault (view node) ≡ Some e) }
@@ -60,6 +63,7 @@ impl Canvas {
         }
     }
 
+    /// The signature, as it was read or composed.
     pub fn node(&self) -> &Node
         ensures seen { view result.now ≡ self.now }
         ensures checked { IsCanvas self.now }

@@ -1,4 +1,4 @@
-// Copies of signatures.
+//! Copies of signatures.
 ghost use Rattle.std.specs.Prelude.{◌≡◌, IfOk, map};
 ghost use Rattle.canvas_sig.specs.View.{task_view};
 

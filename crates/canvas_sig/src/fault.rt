@@ -9,20 +9,34 @@ use std::fmt;
 
 /// Why a text isn't a canvas; where there are several reasons, the first in this order.
 /// The faults of single signatures, from `NotSignature` to `EmptyChain`, go signature by signature in file order.
+/// Each is printed as its name here, and reported by the number in front.
 #[derive(Clone, Copy, Debug, Drop, PartialEq, Eq)]
 pub enum SigFault {
+    /// 1: more than 1,048,576 bytes.
     TooLarge,
+    /// 2: no JSON text (RFC 8259) in UTF-8, or one that nests more than 127 deep.
     NotJson,
+    /// 3: no object, `task` is no name, or `immutable` is neither a flag nor null.
     NotSignature,
+    /// 4: `subtask_type` is none of null, `chain`, `group` and `chord`.
     UnknownPrimitive,
+    /// 5: a member isn't of its form, or an argument is no number, text or list of numbers.
     BadArgs,
+    /// 6: a number isn't whole, or is past 2^60 on either side.
     BadNumber,
+    /// 7: arguments, `immutable` or callbacks on a chain, group or chord, or one of these as a callback.
     OnCanvas,
+    /// 8: `options.chord` is there and isn't null, which stands in messages alone.
     Frozen,
+    /// 9: a chain with no tasks.
     EmptyChain,
+    /// 10: a member of a group or header ends in a group.
     NestedGroup,
+    /// 11: signatures stand more than 8 deep in each other, or more than 32 deep in some message of a run.
     TooDeep,
+    /// 12: more than 1,024 tasks, callbacks included, or more than 1,024 groups and chords.
     TooMany,
+    /// 13: a growth was refused. It may stand in place of any other, and of success.
     Memory,
 }
 

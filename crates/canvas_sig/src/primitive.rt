@@ -6,11 +6,16 @@ ghost use Rattle.canvas_sig.specs.Grammar.{primitive_of, primitive_named};
 
 use serde_json::Value;
 
+/// The kinds of signature, which `subtask_type` tells apart.
 #[derive(Clone, Copy, Drop)]
 pub enum Primitive {
+    /// Null, or missing.
     Task,
+    /// `chain`.
     Chain,
+    /// `group`.
     Group,
+    /// `chord`.
     Chord,
 }
 

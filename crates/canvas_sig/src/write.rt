@@ -18,6 +18,7 @@ use node::write_tree;
 use std::alloc::Global;
 pub use value::write_arg;
 
+/// What messages write their signatures with; it is public as `canvas_sig::parts`.
 pub mod parts {
     pub use super::arguments::{write_args, write_named};
     pub use super::node::{write_closing, write_kind};

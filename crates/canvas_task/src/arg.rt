@@ -1,3 +1,4 @@
+//! Arguments of tasks, and copies of them.
 ghost use Rattle.std.specs.Prelude.{◌≡◌, IfOk};
 ghost use Rattle.canvas_task.specs.Entries.{named};
 
@@ -8,8 +9,11 @@ use std::collections::BTreeMap;
 /// An argument of a task.
 #[derive(Debug, Drop, PartialEq)]
 pub enum Arg {
+    /// A whole number, from -2^60 to 2^60 in every canvas.
     Num(i64),
+    /// Such numbers, in order; there may be none.
     List(ListOf<i64>),
+    /// A text in UTF-8.
     Text(TextOf),
 }
 

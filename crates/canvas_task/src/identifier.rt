@@ -1,3 +1,4 @@
+//! Identifiers of tasks, groups and chords as UUIDs of version 8 (RFC 9562).
 ghost use Rattle.std.specs.Prelude.{◌≡◌, ◌<◌, ◌≤◌, ◌^◌, Some, None, option_map, MatchOption};
 ghost use Rattle.canvas_task.specs.Identifiers.{task_text, group_text, task_named, group_named, identifier, number_named, task_mark, group_mark, number_at_end};
 ghost use Rattle.uuid.specs.Text.{hyphenated_text, lower};

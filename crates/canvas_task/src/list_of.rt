@@ -1,3 +1,4 @@
+//! A list whose model is its elements.
 ghost use Rattle.std.specs.Prelude.{◌≡◌};
 
 use std::alloc::AllocError;
@@ -22,18 +23,21 @@ impl<T> Model for ListOf<T> {
 }
 
 impl<T> ListOf<T> {
+    /// Wraps a vector. Like the other two calls it copies nothing and takes no memory.
     pub fn of(items: Vec<T>) -> ListOf<T>
         ensures { result ≡ items.items }
     {
         ListOf { items }
     }
 
+    /// The vector, to be read.
     pub fn get(&self) -> &Vec<T>
         ensures { result.now.items ≡ self.now }
     {
         &self.items
     }
 
+    /// The vector, given back.
     pub fn into_plain(self) -> Vec<T>
         ensures { result.items ≡ self }
     {

@@ -1,3 +1,4 @@
+//! A map whose model is its entries, in the order of their names.
 ghost use Rattle.std.specs.Prelude.{◌≡◌};
 ghost use Rattle.canvas_task.specs.Entries.{named, Ascends};
 
@@ -26,6 +27,7 @@ impl<T> Model for MapOf<T> {
 }
 
 impl<T> MapOf<T> {
+    /// Wraps a map. Like the other two calls it copies nothing and takes no memory.
     pub fn of(map: BTreeMap<String, T>) -> MapOf<T>
         ensures { result ≡ named map.entries }
     {
@@ -34,6 +36,7 @@ impl<T> MapOf<T> {
         MapOf { map }
     }
 
+    /// The map, to be read.
     pub fn get(&self) -> &BTreeMap<String, T>
         ensures entries { named result.now.entries ≡ self.now }
         ensures ordered { Ascends self.now }
@@ -41,6 +44,7 @@ impl<T> MapOf<T> {
         &self.map
     }
 
+    /// The map, given back.
     pub fn into_plain(self) -> BTreeMap<String, T>
         ensures entries { named result.entries ≡ self }
         ensures ordered { Ascends self }

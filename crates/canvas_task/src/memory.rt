@@ -1,3 +1,5 @@
+//! One error for every growth that was refused.
+
 use std::alloc::{AllocError, AllocFailed};
 use thiserror::Error;
 

@@ -1,3 +1,4 @@
+//! Which names a task may have.
 ghost use Rattle.std.specs.Prelude.{◌≡◌};
 ghost use Rattle.canvas_task.specs.Name.{name_ok, printable};
 ghost use Rattle.std.specs.List.{list_all};

@@ -1,3 +1,4 @@
+//! Numbers of tasks, and of groups and chords.
 ghost use Rattle.std.specs.Prelude.{◌≡◌, ◌≤◌, MatchOption};
 
 use std::marker::Model;
@@ -24,6 +25,7 @@ impl Model for TaskNo {
 }
 
 impl TaskNo {
+    /// None of 0, which names no task.
     pub fn new(number: u32) -> Option<TaskNo>
         ensures { MatchOption result (number ≡ 0) (λ t. (t ≡ number) × (1 ≤ number)) }
     {
@@ -34,6 +36,7 @@ impl TaskNo {
         }
     }
 
+    /// The number. Those of a plan are counted in file order.
     pub fn get(self) -> u32
         ensures value { result ≡ self }
         ensures least { 1 ≤ result }
@@ -64,6 +67,7 @@ impl Model for GroupNo {
 }
 
 impl GroupNo {
+    /// None of 0, which names no group or chord.
     pub fn new(number: u32) -> Option<GroupNo>
         ensures { MatchOption result (number ≡ 0) (λ g. (g ≡ number) × (1 ≤ number)) }
     {
@@ -74,6 +78,7 @@ impl GroupNo {
         }
     }
 
+    /// The number. Those of a plan are counted in file order, groups and chords together.
     pub fn get(self) -> u32
         ensures value { result ≡ self }
         ensures least { 1 ≤ result }

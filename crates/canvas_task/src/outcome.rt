@@ -1,12 +1,18 @@
+//! Outcomes of tasks, and the exceptions of those that fail, by the names that Celery and Python give them.
+
 use crate::TaskNo;
 use std::fmt;
 
 /// A kind of exception that a task raises itself.
 #[derive(Clone, Copy, Debug, PartialEq, Eq)]
 pub enum Kind {
+    /// Printed `TypeError`: too many arguments, a parameter that is unknown, given twice or missing, or an argument of the wrong kind.
     BadCall,
+    /// Printed `ZeroDivisionError`: a division by 0.
     ZeroDivision,
+    /// Printed `OverflowError`: the exact result is past 2^60 on either side.
     Overflow,
+    /// Printed `NotRegistered`, as in Celery: no task has the name.
     NotRegistered,
 }
 
@@ -26,10 +32,12 @@ impl fmt::Display for Kind {
     }
 }
 
-/// Why a member of a header failed.
+/// Why a member of a header failed: the exception of its last task.
 #[derive(Clone, Copy, Debug, PartialEq, Eq)]
 pub enum Why {
+    /// One of a task's own.
     Plain(Kind),
+    /// A `ChordError`. What it depended on is told no further.
     Chord,
 }
 
@@ -50,7 +58,9 @@ impl fmt::Display for Why {
 /// An exception: one of a task's own, or the one that a failed header raises in its body.
 #[derive(Clone, Copy, Debug, PartialEq, Eq)]
 pub enum Fault {
+    /// One of a task's own, printed as its kind.
     Plain(Kind),
+    /// Celery's `ChordError`. `dep` is the last task of the first member, in header order, that failed.
     Chord { dep: TaskNo, why: Why },
 }
 
@@ -71,6 +81,8 @@ impl fmt::Display for Fault {
 /// What became of a task.
 #[derive(Clone, Copy, Debug, PartialEq, Eq)]
 pub enum Outcome {
+    /// Its result. `apply` gives one from -2^60 to 2^60 alone; no other has a word or can be sent.
     Success(i64),
+    /// Its exception, or the one for which it was skipped.
     Failure(Fault),
 }

@@ -1,3 +1,4 @@
+//! The six tasks: what each answers to a call.
 ghost use Rattle.std.specs.Prelude.{◌≡◌, ◌≢◌, ◌*ℤ◌, pos, List, [], ◌∷◌, ◌||◌, string_bytes, IfSome, MatchOption, Some, None};
 ghost use Rattle.std.specs.Option.{option_map};
 ghost use Rattle.canvas_task.specs.Numbers.{in_range, floor_div, sum_of};
@@ -84,13 +85,14 @@ fn either<'a>(given: Option<&'a Arg>, named: Option<&'a Arg>) -> Option<&'a Arg>
     }
 }
 
-/// Whether each name is one of two parameters.
+/// Whether each name is one of two parameters. It passes on to `keys_known`, and is there for its contract, which speaks of entries.
 fn known(kwargs: &BTreeMap<String, Arg>, x: &str, y: &str) -> bool
     ensures { result ≡ list_all (λ e. list_any (bytes_eq e.0) (x.now ∷ y.now ∷ [])) (named kwargs.now.entries) }
 {
     keys_known(kwargs, x, y)
 }
 
+/// The same, with a contract that speaks of keys, as the iterator's does.
 fn keys_known(kwargs: &BTreeMap<String, Arg>, x: &str, y: &str) -> bool
     ensures { result ≡ list_all (λ k. bytes_eq (string_bytes k) x.now || bytes_eq (string_bytes k) y.now) (keys_of kwargs.now.entries) }
 {

@@ -1,3 +1,4 @@
+//! A text whose model is its bytes.
 ghost use Rattle.std.specs.Prelude.{◌≡◌, string_bytes};
 
 use std::alloc::AllocError;
@@ -22,18 +23,21 @@ impl Model for TextOf {
 }
 
 impl TextOf {
+    /// Wraps a text. Like the other two calls it copies nothing and takes no memory.
     pub fn of(text: String) -> TextOf
         ensures { result ≡ string_bytes text }
     {
         TextOf { text }
     }
 
+    /// The text, to be read.
     pub fn get(&self) -> &String
         ensures { string_bytes result.now ≡ self.now }
     {
         &self.text
     }
 
+    /// The text, given back.
     pub fn into_plain(self) -> String
         ensures { string_bytes result ≡ self }
     {

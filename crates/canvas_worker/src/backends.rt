@@ -21,6 +21,7 @@ impl Book for PlainBackend {
     }
 
     fn is_member(&self, group: GroupNo, task: TaskNo) -> bool {
+        // The first test is always true: it is here for `from_one`, by which no book has task 0 for a member.
         task.get() != 0 && self.is_member(group, task)
     }
 }
@@ -39,6 +40,7 @@ impl Book for Backend {
     }
 
     fn is_member(&self, group: GroupNo, task: TaskNo) -> bool {
+        // The first test is always true: it is here for `from_one`, by which no book has task 0 for a member.
         task.get() != 0 && self.is_member(group, task)
     }
 }

@@ -1,3 +1,5 @@
+//! Why a run or a worker ends early.
+
 /// Why a run ended before its canvas.
 #[derive(Clone, Copy, Debug, Drop, PartialEq, Eq)]
 pub enum Cause {

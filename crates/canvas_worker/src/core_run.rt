@@ -173,11 +173,12 @@ impl Core {
         ensures value { self.new ≡ record { left = left_of phase; is_out = is_out phase; dropped = self.old.dropped } }
         ensures most { self.old.dropped ≤ greatest_count }
     {
+        // For the clause `most` alone: a count that is read is known to fit its type.
         let _dropped = self.dropped;
         self.phase = phase;
     }
 
-    /// The answer to a take. It stays as it was where memory was refused.
+    /// The answer to a take. `answer` has set the phase to failed before the call, and so it stays where memory is refused.
     fn take_in<B: Book>(&mut self, alloc: Global, book: &B, reply: Reply) -> Result<(), Memory>
         ensures ok { OnOk result (self.new ≡ after_reply (B.book book.now) (waiting self.old.dropped) (replied reply)) }
         ensures err { OnErr result (self.new ≡ self.old) }

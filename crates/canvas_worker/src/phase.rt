@@ -120,6 +120,7 @@ fn outcome_of(message: &Message) -> Outcome
     apply(message.name.get(), message.args.get(), message.kwargs.get())
 }
 
+/// A function for its contract's sake: the size, as contracts see what is carried.
 fn size_of(carried: &Carried) -> u32
     ensures { result ≡ (carried_view carried.now).size }
 {

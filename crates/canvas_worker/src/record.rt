@@ -7,6 +7,7 @@ use canvas_broker::BrokerPass;
 /// A worker's calls, counted, with its pass and its seat, and why it ended early, if it did. Each count stays at its greatest value.
 #[derive(Drop)]
 pub struct Record {
+    /// The number that the worker was made with; in a run 0 is the one that takes in all others.
     pub number: u32,
     /// The envelopes that its core was given.
     pub taken: u64,
@@ -18,7 +19,10 @@ pub struct Record {
     pub parts: u64,
     /// The envelopes that were dropped.
     pub dropped: u64,
+    /// What it has seen of the queue, to be joined by another pass.
     pub pass: BrokerPass,
+    /// What it has seen of the table, to be joined by another seat.
     pub seat: BackendSeat,
+    /// None where it ended by itself.
     pub fault: Option<Cause>,
 }

@@ -123,7 +123,7 @@ impl<'a, R: Wait, G: Gate> Working<'a, R, G> {
         }
     }
 
-    /// The end where memory was refused. The others are asked to end too.
+    /// Asks the stop of all workers, so that the others end too, and gives the end where memory was refused.
     fn fails(&self) -> End
         ensures { result.fault ≡ Some Memory }
     {
