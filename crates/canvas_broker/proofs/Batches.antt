@@ -8,7 +8,7 @@ use Rattle.crossbeam_queue.proofs.Lists.{set_again, set_here}
 use Rattle.canvas_history.specs.History.{calls, live_from, split_off, Allowed}
 use Rattle.canvas_history.proofs.Histories.{In}
 use Rattle.canvas_broker.specs.Broker.{take, QueueEntry, answer, next, May, IsLegal, queue_of, takes_of}
-use Rattle.canvas_broker.specs.steps.Rule.{envelopes, IsReady, IsKept, Kept, known, view_of, TakesAll}
+use Rattle.canvas_broker.specs.steps.Rule.{envelopes, IsReady, IsKept, Kept, knowledge, view_of, TakesAll}
 use Rattle.canvas_broker.specs.declared.view.View.{View}
 use Rattle.canvas_broker.proofs.Joins.{orderly_left}
 use Rattle.canvas_broker.proofs.Keeps.{sole_rest, tail_of, named_after, queue_after, calls_stay, orderly, caller_lives, unseen, adds}
@@ -39,7 +39,7 @@ module _ {E : Type 0} where
   -- one take, by a pass that may have seen less than all
   one_take : (x : E) (items : List (Option E)) (views : List (View E)) (log : List (QueueEntry E)) (owner : ℕ → ℕ) (kept : IsKept (Some x ∷ items) views log owner) (pass : ℕ) (v : View E)
       → get_elem? views pass ≡ some v → IsReady v
-      → IsKept items (set views pass (view_of (known v.knows.name (live_from v.knows.mine v.knows.owed) (log ++ tail_of v (calls v.knows.name take (Some x))) []) [])) (log ++ tail_of v (calls v.knows.name take (Some x))) owner
+      → IsKept items (set views pass (view_of (knowledge v.knows.name (live_from v.knows.mine v.knows.owed) (log ++ tail_of v (calls v.knows.name take (Some x))) []) [])) (log ++ tail_of v (calls v.knows.name take (Some x))) owner
   one_take x items views log owner kept pass v at ready =
       let o = orderly (Some x ∷ items) views log owner kept pass v at ready in
       let e : QueueEntry E = calls v.knows.name take (Some x) in
@@ -55,22 +55,22 @@ module _ {E : Type 0} where
 
   -- further takes, by a pass that has seen all
   more_takes : (xs items : List (Option E)) (views : List (View E)) (log : List (QueueEntry E)) (owner : ℕ → ℕ) (pass p : ℕ) (cs : List ℕ)
-      → IsKept (xs ++ items) views log owner → get_elem? views pass ≡ some (view_of (known p cs log []) []) → In p cs
-      → (log' : List (QueueEntry E)) × (log' ≡ log ++ takes_of p (envelopes xs)) × IsKept items (set views pass (view_of (known p cs log' []) [])) log' owner
+      → IsKept (xs ++ items) views log owner → get_elem? views pass ≡ some (view_of (knowledge p cs log []) []) → In p cs
+      → (log' : List (QueueEntry E)) × (log' ≡ log ++ takes_of p (envelopes xs)) × IsKept items (set views pass (view_of (knowledge p cs log' []) [])) log' owner
   more_takes [] items views log owner pass p cs kept at here =
-      (log, sym (append-nil log), subst (λ l. IsKept items l log owner) (sym (set_again views pass (view_of (known p cs log []) []) at)) kept)
+      (log, sym (append-nil log), subst (λ l. IsKept items l log owner) (sym (set_again views pass (view_of (knowledge p cs log []) []) at)) kept)
   more_takes (None ∷ xs) items views log owner pass p cs kept at here =
       more_takes xs items views log owner pass p cs (record { legal = kept.legal; replays = kept.replays; numbered = kept.numbered; fits = kept.fits; begun = kept.begun; opened = kept.opened }) at here
   more_takes (Some x ∷ xs) items views log owner pass p cs kept at here =
       let e : QueueEntry E = calls p take (Some x) in
-      let v : View E = view_of (known p cs log []) [] in
+      let v : View E = view_of (knowledge p cs log []) [] in
       let log₁ : List (QueueEntry E) = log ++ e ∷ [] in
-      let w : View E = view_of (known p cs log₁ []) [] in
+      let w : View E = view_of (knowledge p cs log₁ []) [] in
       let one : IsKept (xs ++ items) (set views pass w) log₁ owner = one_take x (xs ++ items) views log owner kept pass v at (here, refl) in
       let rest = more_takes xs items (set views pass w) log₁ owner pass p cs one (set_here views pass w (below views pass v at)) here in (
         rest.0,
         rest.1 ∙ append_assoc log (e ∷ []) (takes_of p (envelopes xs)),
-        subst (λ l. IsKept items l rest.0 owner) (set_twice views pass w (view_of (known p cs rest.0 []) [])) rest.2,
+        subst (λ l. IsKept items l rest.0 owner) (set_twice views pass w (view_of (knowledge p cs rest.0 []) [])) rest.2,
       )
 
   many : (xs items : List (Option E)) (views : List (View E)) (log : List (QueueEntry E)) (owner : ℕ → ℕ) (pass : ℕ) (v : View E)
@@ -84,11 +84,11 @@ module _ {E : Type 0} where
       let e : QueueEntry E = calls p take (Some x) in
       let o = orderly (Some x ∷ (xs ++ items)) views log owner kept pass v at ready in
       let log₁ : List (QueueEntry E) = log ++ tail_of v e in
-      let w₁ : View E = view_of (known p cs log₁ []) [] in
+      let w₁ : View E = view_of (knowledge p cs log₁ []) [] in
       let here : In p cs = orderly_left p v.knows.mine v.knows.owed o in
       let one : IsKept (xs ++ items) (set views pass w₁) log₁ owner = one_take x (xs ++ items) views log owner kept pass v at ready in
       let rest = more_takes xs items (set views pass w₁) log₁ owner pass p cs one (set_here views pass w₁ (below views pass v at)) here in
-      let w : View E = view_of (known p cs rest.0 []) [] in
+      let w : View E = view_of (knowledge p cs rest.0 []) [] in
       let f = (kept.fits pass v at).0 in
       let es : List (QueueEntry E) = takes_of p (x ∷ envelopes xs) in
       let whole : rest.0 ≡ log ++ (v.knows.owed ++ es) = rest.1 ∙ takes_append_owed v.knows.owed log p x (envelopes xs) in (

@@ -13,7 +13,7 @@ use Rattle.canvas_history.specs.Callers.{told, Owes, Follows}
 use Rattle.canvas_history.proofs.CallerLaws.{owing}
 use Rattle.canvas_broker.specs.Broker.{QueueCall, publish, take, QueueEntry, answer, next, May, IsLegal, queue_of}
 use Rattle.canvas_broker.specs.Passes.{Knowledge}
-use Rattle.canvas_broker.specs.steps.Rule.{envelopes, Orderly, IsReady, Heard, CameFrom, callers, Fits, IsKept, Kept, known, view_of, Publishes, Splits, Takes, Misses, parted, child, longer, united, spent, newcomer}
+use Rattle.canvas_broker.specs.steps.Rule.{envelopes, Orderly, IsReady, Heard, CameFrom, callers, Fits, IsKept, Kept, knowledge, view_of, Publishes, Splits, Takes, Misses, parted, child, longer, united, spent, newcomer}
 use Rattle.canvas_broker.specs.declared.view.View.{View}
 use Rattle.canvas_broker.proofs.Joins.{orderly_left, orderly_within, orderly_stays, orderly_part, orderly_legal, orderly_state, orderly_named, orderly_none, orderly_made, orderly_both}
 
@@ -163,7 +163,7 @@ module _ {E : Type 0} where
         → ((c : ℕ) → In c (split_off (log ++ tail_of v e)) → c ≤ length (split_off (log ++ tail_of v e)))
         → ((c : ℕ) → In c qs → (owner' c ≡ pass) × In c (live (log ++ tail_of v e)))
         → ((c : ℕ) → In c (live log) → owner' c ≡ owner c)
-        → IsKept items' (set views pass (view_of (known v.knows.name (live_from v.knows.mine v.knows.owed) (log ++ tail_of v e) []) qs)) (log ++ tail_of v e) owner'
+        → IsKept items' (set views pass (view_of (knowledge v.knows.name (live_from v.knows.mine v.knows.owed) (log ++ tail_of v e) []) qs)) (log ++ tail_of v e) owner'
     adds items' e owner' qs by may replays stays numbered born same =
         let p = v.knows.name in let cs = v.knows.mine in let js = v.knows.owed in let log' = log ++ tail_of v e in
         let F : ℕ → View E → Type 0 = λ j u. Fits log' owner' j u in
@@ -178,9 +178,9 @@ module _ {E : Type 0} where
           replays = state_append [] answer next May [] log (tail_of v e) ∙ (state_append [] answer next May (queue_of log) js (e ∷ [])
               ∙ (ap (λ s. state_from [] answer next May s (e ∷ [])) (orderly_state p cs js (queue_of log) orderly) ∙ replays));
           numbered = numbered;
-          opened = subst (λ n. 0 < n) (sym (length-set views pass (view_of (known p (live_from cs js) log' []) qs))) kept.opened;
-          begun = λ e'. absurd (begun_of views log owner kept.begun pass v (view_of (known p (live_from cs js) log' []) qs) at ready.0 (old_caller p (view_of (known p (live_from cs js) log' []) qs) (orderly_left p cs js orderly)) e');
-          fits = all_set F views pass (view_of (known p (live_from cs js) log' []) qs) (
+          opened = subst (λ n. 0 < n) (sym (length-set views pass (view_of (knowledge p (live_from cs js) log' []) qs))) kept.opened;
+          begun = λ e'. absurd (begun_of views log owner kept.begun pass v (view_of (knowledge p (live_from cs js) log' []) qs) at ready.0 (old_caller p (view_of (knowledge p (live_from cs js) log' []) qs) (orderly_left p cs js orderly)) e');
+          fits = all_set F views pass (view_of (knowledge p (live_from cs js) log' []) qs) (
             ([], sym (append-nil log'), tt),
             mine,
             (λ _. orderly_left p cs js orderly),
@@ -215,7 +215,7 @@ module _ {E : Type 0} where
       let e : QueueEntry E = calls v.knows.name (publish x) None in
       let may : Allowed [] answer next May (log ++ v.knows.owed) e = (caller_lives items views log owner kept pass v at ready, refl, tt) in
       let names : split_off (log ++ tail_of v e) ≡ split_off log = named_after v log e o ∙ append-nil (split_off log) in (
-        view_of (known v.knows.name (live_from v.knows.mine v.knows.owed) (log ++ tail_of v e) []) [],
+        view_of (knowledge v.knows.name (live_from v.knows.mine v.knows.owed) (log ++ tail_of v e) []) [],
         (
           log ++ tail_of v e,
           owner,
@@ -253,7 +253,7 @@ module _ {E : Type 0} where
       let front : queue_of (log ++ v.knows.owed) ≡ x ∷ envelopes items = queue_after v log o ∙ kept.replays in
       let may : Allowed [] answer next May (log ++ v.knows.owed) e = (caller_lives (Some x ∷ items) views log owner kept pass v at ready, sym (ap (λ s. answer s take) front), tt) in
       let names : split_off (log ++ tail_of v e) ≡ split_off log = named_after v log e o ∙ append-nil (split_off log) in (
-        view_of (known v.knows.name (live_from v.knows.mine v.knows.owed) (log ++ tail_of v e) []) [],
+        view_of (knowledge v.knows.name (live_from v.knows.mine v.knows.owed) (log ++ tail_of v e) []) [],
         (
           log ++ tail_of v e,
           owner,
@@ -292,7 +292,7 @@ module _ {E : Type 0} where
       let may : Allowed [] answer next May (log ++ v.knows.owed) e = (caller_lives items views log owner kept pass v at ready, ne_eqb q 0 (λ z. omega (arith, z)), new) in
       let names : split_off (log ++ tail_of v e) ≡ split_off log ++ q ∷ [] = named_after v log e o in
       let owner' : ℕ → ℕ = λ c. cond (c == q) pass (owner c) in (
-        view_of (known v.knows.name (live_from v.knows.mine v.knows.owed) (log ++ tail_of v e) []) (q ∷ []),
+        view_of (knowledge v.knows.name (live_from v.knows.mine v.knows.owed) (log ++ tail_of v e) []) (q ∷ []),
         (
           log ++ tail_of v e,
           owner',

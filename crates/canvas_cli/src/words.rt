@@ -1,6 +1,7 @@
 //! The words of the command line.
 
 use crate::help::NOTES;
+use canvas_engine::MOST_WORKERS;
 use clap::builder::ValueParser;
 use clap::error::ErrorKind;
 use clap::{Arg, ArgMatches, Command, Error};
@@ -60,7 +61,7 @@ fn workers_argument<'a>(alloc: Global) -> Arg<'a> {
     Arg::new(alloc, "workers")
         .long("workers")
         .value_name("N")
-        .value_parser(ValueParser::unsigned(1, 16))
+        .value_parser(ValueParser::unsigned(1, MOST_WORKERS.into()))
         .default_value("1")
         .help("How many workers run it, from 1 to 16")
 }

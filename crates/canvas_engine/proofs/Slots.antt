@@ -13,7 +13,7 @@ use Rattle.canvas_backend.specs.Roster.{Roster}
 use Rattle.canvas_history.specs.Callers.{Owes}
 use Rattle.canvas_runs.specs.Calls.{BrokerCall, BackendCall}
 use Rattle.canvas_runs.specs.Crew.{Mate, SplitPasses, JoinPasses, SplitSeats, JoinSeats}
-use Rattle.canvas_runs.specs.Following.{Pass, Seat, Makes, Serves, IsDone as IsEnded}
+use Rattle.canvas_runs.specs.Following.{Pass, Seat, Makes, Serves, IsOver as IsEnded}
 use Rattle.canvas_runs.specs.Lists.{Each}
 use Rattle.canvas_worker.specs.Finished.{Finished}
 use Rattle.canvas_worker.specs.declared.record.Record.{Record}

@@ -6,7 +6,7 @@ use Rattle.std.specs.List.{list_any}
 use Rattle.canvas_task.specs.Apply.{six_tasks}
 use Rattle.canvas_task.specs.declared.outcome.Outcome.{Outcome}
 use Rattle.canvas_semantics.specs.Line.{Line}
-use Rattle.canvas_rewrite.specs.FrozenView.{Load}
+use Rattle.canvas_rewrite.specs.FrozenView.{PCarried}
 use Rattle.canvas_message.specs.Content.{Content}
 use Rattle.canvas_message.specs.declared.envelope.Envelope.{Envelope}
 use Rattle.canvas_backend.specs.Backend.{Results}
@@ -41,7 +41,7 @@ module _ (l : Line) (n : ℕ) (xs : List Step) where
   answers_run more pause (rested b) m h = h ∙ m refl
   answers_run more a r m h = elim h [ ]
 
-suits_now : (plan : Roster) (queue : List Envelope) (results : Results) (more : Bool) (a : Asked) (r : Answer) → AnswersNow plan queue results more a r → Suits (enveloped plan) a r
+suits_now : (plan : Roster) (queue : List Envelope) (results : Results) (more : Bool) (a : Asked) (r : Answer) → AnswersNow plan queue results more a r → Suits a r
 suits_now plan queue results more take (taken x) h = tt
 suits_now plan queue results more (send e) sent h = tt
 suits_now plan queue results more (keep t o) (kept b) h = tt
@@ -52,7 +52,7 @@ suits_now plan queue results more a r h = elim h [ ]
 
 -- ---- whether somebody is inside a message
 
-inside_alike : (s : Left) (t : CoreState Content Load Outcome) → IsAlike s t → is_inside s ≡ is_inside t
+inside_alike : (s : Left) (t : CoreState Content PCarried Outcome) → IsAlike s t → is_inside s ≡ is_inside t
 inside_alike taking taking h = refl
 inside_alike resting resting h = refl
 inside_alike over over h = refl
@@ -143,7 +143,7 @@ module _ (l : Line) (n most : ℕ) (us : List ℕ) (xs : List Step) (s : Stage) 
           let x : Step = (p, (a, r)) in
           let ys = xs ++ x ∷ [] in
           let X = enveloped (roster_of l) in
-          let suits : Suits X a r = suits_now (roster_of l) s.queue (held s.table) more a r (subst (λ z. AnswersNow z s.queue (held s.table) more a r) reached.plan_is step.answers) in
+          let suits : Suits a r = suits_now (roster_of l) s.queue (held s.table) more a r (subst (λ z. AnswersNow z s.queue (held s.table) more a r) reached.plan_is step.answers) in
           let asks : a ≡ ask X (left_after X taking (by p xs)) = ap asked env_left in
           let back : ReadsBack X (left_after X taking (by p xs)) = subst (ReadsBack X) env_left step.reads_back in
           let mine : IsCoreRun X taking (by p ys) = subst (IsCoreRun X taking) (sym (by_more p xs (a, r))) (core_more X taking (by p xs) (a, r) (reached.runs p) asks suits back) in

@@ -20,9 +20,9 @@ use Rattle.canvas_backend.specs.Seats.{Desk}
 use Rattle.canvas_backend.specs.Roster.{Roster, roster_of}
 use Rattle.canvas_broker.specs.Broker.{QueueEntry as Entries}
 use Rattle.canvas_runs.specs.Calls.{follows_all}
-use Rattle.canvas_runs.specs.Callers.{broker_calls_seen}
+use Rattle.canvas_runs.specs.CallerLaws.{broker_calls_seen}
 use Rattle.canvas_runs.specs.Crew.{Mate, Ran, EndedWell, OwnTally, first_pass, first_seat}
-use Rattle.canvas_runs.specs.Following.{Pass, Seat, Makes, Serves, Working, begins, IsDone, Followed}
+use Rattle.canvas_runs.specs.Following.{Pass, Seat, Makes, Serves, Working, begins, IsDone, IsOver, Followed}
 use Rattle.canvas_runs.specs.Lists.{Each}
 use Rattle.canvas_runs.specs.Rows.{reads_from, RanTo, RanWell}
 use Rattle.canvas_semantics.specs.States.{EachMay}
@@ -34,6 +34,8 @@ use Rattle.canvas_runs.proofs.FirstLaw.{first_part}
 use Rattle.canvas_runs.proofs.FromCrew.{passes, seats, the_run, the_closed}
 use Rattle.canvas_runs.proofs.Rows.{rows_of_well, rows_of_any}
 use Rattle.canvas_runs.proofs.Tallies.{tallies_count}
+use Rattle.canvas_runs.proofs.Words.{each_weaker}
+use Rattle.canvas_runs.specs.Core.{Between}
 use Rattle.canvas_worker.specs.Finished.{Finished}
 use Rattle.canvas_worker.specs.declared.record.Record.{Record}
 use Rattle.canvas_worker.specs.declared.cause.Cause.{Cause}
@@ -51,6 +53,10 @@ use Rattle.canvas_engine.specs.declared.records.Tally.{Tally}
 pub reads_are_reads : (k : ℕ) (rows : List State) → Each IsRead (reads_from k rows)
 reads_are_reads k [] = tt
 reads_are_reads k (s ∷ ss) = (tt, reads_are_reads (suc k) ss)
+
+-- what is over isn't inside a script
+over_done : (w : Working) → IsOver w → IsDone w
+over_done w h = (subst (λ s. Between s) (sym h.0) tt, h.1)
 
 module _ (l : Line) (n : ℕ) (queue : SegId Global) (table : TableId) (pass : Pass) (seat : Seat) (c : Crew l n queue table pass seat) where
   -- worker 0 works on, and reads
@@ -92,10 +98,10 @@ module _ (l : Line) (n : ℕ) (queue : SegId Global) (table : TableId) (pass : P
   rows_may planned own follows at f after rows reads many = rows_of_any six_tasks l planned own.pass after rows (ran_to own follows own.pass refl at f after rows reads many)
 
   -- a run that ended well
-  module _ (r : Record) (f : Finished (roster_of l) 0 pass seat r) (fine : r.fault ≡ None) (done : Each (λ (m : Mate six_tasks (roster_of l)). IsDone m.ended) c.mates) where
+  module _ (r : Record) (f : Finished (roster_of l) 0 pass seat r) (fine : r.fault ≡ None) (done : Each (λ (m : Mate six_tasks (roster_of l)). IsOver m.ended) c.mates) where
     pub ended_well : (after : Seat) (rows : List State) (reads : Serves (roster_of l) r.seat (reads_from 1 rows) after)
         → EndedWell six_tasks l r.pass after (ran_with f.ended f.followed r.pass f.pass_is r.seat (sym f.seat_is) after rows reads)
-    ended_well after rows reads = record { all_sent = refl; empty = f.empty fine; own = f.done fine; each = done }
+    ended_well after rows reads = record { all_sent = refl; empty = f.empty fine; own = over_done f.ended (f.done fine); each = each_weaker (λ (m : Mate six_tasks (roster_of l)). over_done m.ended) c.mates done }
 
     abbrev pub ran_well : (after : Seat) (rows : List State) → Serves (roster_of l) r.seat (reads_from 1 rows) after → length rows ≡ count_line l → RanWell six_tasks l r.pass after rows
     ran_well after rows reads many = record { to = ran_to f.ended f.followed r.pass f.pass_is r.seat (sym f.seat_is) after rows reads many; well = ended_well after rows reads }
@@ -115,7 +121,7 @@ swapped : (a b : ℕ) → min greatest_count (a + b) ≡ min greatest_count (b +
 swapped a b = let same : a + b ≡ b + a = omega arith in ap (λ n. min greatest_count n) same
 
 module _ (l : Line) (n : ℕ) (b : SegId Global) (d : Desk) (pass : Pass) (seat : Seat) (c : Crew l n b d.id pass seat) (planned : IsPlan l) where
-  module _ (r : Record) (f : Finished (roster_of l) 0 pass seat r) (fine : r.fault ≡ None) (done : Each (λ (m : Mate six_tasks (roster_of l)). IsDone m.ended) c.mates) (after : Seat) (rows : List State)
+  module _ (r : Record) (f : Finished (roster_of l) 0 pass seat r) (fine : r.fault ≡ None) (done : Each (λ (m : Mate six_tasks (roster_of l)). IsOver m.ended) c.mates) (after : Seat) (rows : List State)
       (reads : Serves (roster_of l) r.seat (reads_from 1 rows) after) (many : length rows ≡ count_line l) where
     abbrev whole : RanWell six_tasks l r.pass after rows
     whole = ran_well l n b d.id pass seat c r f fine done after rows reads many
@@ -149,9 +155,10 @@ module _ (l : Line) (n : ℕ) (b : SegId Global) (d : Desk) (pass : Pass) (seat 
         record {
           objects = (of, seat_of, plan);
           ran = whole;
+          over = (f.done fine, done);
           workers = c.count;
-          calls = (passes six_tasks l r.pass after this).1;
-          entries = seats six_tasks l r.pass after this;
+          of_broker = (passes six_tasks l r.pass after this).1;
+          of_backend = seats six_tasks l r.pass after this;
           run = run;
           queue = refl;
           table = refl;
@@ -224,7 +231,7 @@ worked_may l n queue table pass seat c planned r f after rows reads many = rows_
 
 pub gathered : (l : Line) (n : ℕ) (s : Start) (start : IsStart l n s) (sent : Pass) (after : List Slot) (p : Pass) (t : Seat) → Makes s.pass (published_all s.envelopes.items) sent → AllRan s.backend.plan s.slots.items after → length after ≡ length s.slots.items
     → TakesIn s.backend.plan sent s.seat after p t
-    → (c : Crew l n s.broker s.backend.id p t) × (map tally_in after ≡ tallies_from 1 c.mates) × (All (λ x. IsWell x.post) after → Each (λ (m : Mate six_tasks (roster_of l)). IsDone m.ended) c.mates)
+    → (c : Crew l n s.broker s.backend.id p t) × (map tally_in after ≡ tallies_from 1 c.mates) × (All (λ x. IsWell x.post) after → Each (λ (m : Mate six_tasks (roster_of l)). IsOver m.ended) c.mates)
 gathered l n s start sent after p t made ran many taken =
     let each = each_ran (roster_of l) s.slots.items after many (subst (λ plan. AllRan plan s.slots.items after) start.plan ran) in
     let all = crew_of (roster_of l) 1 s.slots.items after (first_pass s.broker) s.pass (first_seat s.backend.id) s.seat sent p s.seat t start.parts each (subst (λ plan. TakesIn plan sent s.seat after p t) start.plan taken) in
@@ -252,7 +259,7 @@ if_none (Some a) f p = tt
 
 -- where none of them ended with a fault
 pub well_gathered : (l : Line) (ms : List (Mate six_tasks (roster_of l))) (xs after : List Slot) (before counted : List Tally) → xs ≡ after → before ≡ nothing_counted 0 ∷ [] → map tally_in after ≡ tallies_from 1 ms
-    → (All (λ x. IsWell x.post) after → Each (λ (m : Mate six_tasks (roster_of l)). IsDone m.ended) ms) → All (λ x. IsWell x.post) xs × (counted ≡ before ++ map tally_in xs) → IsWellGathered l ms counted
+    → (All (λ x. IsWell x.post) after → Each (λ (m : Mate six_tasks (roster_of l)). IsOver m.ended) ms) → All (λ x. IsWell x.post) xs × (counted ≡ before ++ map tally_in xs) → IsWellGathered l ms counted
 well_gathered l ms xs after before counted same b t d w = record {
   done = d (subst (All (λ x. IsWell x.post)) same w.0);
   tallies = w.1 ∙ (ap (λ ts. ts ++ map tally_in xs) b ∙ ap (λ ts. nothing_counted 0 ∷ ts) (ap (λ ys. map tally_in ys) same ∙ t));

@@ -87,7 +87,7 @@ module _ (l : Line) (n most : ℕ) (ts : List ℕ) (rows : List State) (s : Stag
             turned = by_turns.turned;
             ended = done.ended;
           };
-          held = same;
+          rows_held = same;
           are = same ∙ states_are six_tasks l n _ done.steps by_turns some done.ended;
         },
         omega (arith, done.reached.count),
@@ -122,7 +122,7 @@ module _ (l : Line) (n most : ℕ) (ts : List ℕ) (rows : List State) (s : Stag
           is_worker = stopped.is_worker;
           has_more = stopped.has_more;
         };
-        held = same;
+        rows_held = same;
         may = subst (λ rs. EachMay rs (states six_tasks (tree_of l))) (sym same) (states_may six_tasks l n ended.0 stopped.steps reached.by_turns);
       }
 

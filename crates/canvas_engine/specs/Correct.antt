@@ -1,32 +1,33 @@
 -- What a run promises, whatever the number of workers and the order of their calls or turns: each task has the state that evaluating the
 -- canvas gives, as the Canvas user guide has it. A run that ended early has rows that are pending, or these.
---     IsRun l n rows records           rows of a run on threads, with what its queue, its table and its workers saw and counted
---     IsThreadFault n states fault     why a run on threads has no whole report
---     AreWorkers n          1 to 16 workers
---     AreTurns n turns      each turn is of one of them
---     EachMay rows states each row is pending or the state of its task
---     IsWhole l n turns rows    rows of a run by these turns, and then in rotation, that went on until all workers had ended
---     IsWholeWithin l n turns most rows    of at most so many steps
---     IsCut l n turns steps rows     rows of a run that was cut off after so many steps, with some worker that had not ended
+--     AreWorkers n, AreTurns n turns         1 to 16 workers, and each turn is of one of them; IsAsked says both
+--     IsRun l n rows records                 rows of a run on threads, with what its queue, its table and its workers saw and counted
+--     IsThreadFault n states fault           why a run on threads has no whole report
+--     IsWholeRun l n turns rows              rows of a run by these turns, and then in rotation, that went on until all workers had ended
+--     IsWholeWithin l n turns most rows      of at most so many steps
+--     IsCut l n turns steps rows             rows of a run that was cut off after so many steps, with some worker that had not ended
+--     IsRunFault, IsFaultWithin              why a run by turns, and one of at most so many steps, has no whole report
 use Rattle.std.specs.Prelude.{◌≡◌, ◌≤◌, ℕ, suc, List, [], ◌∷◌, ◌++◌, All, length, map, Option, Some, None}
 use Rattle.canvas_task.specs.Apply.{six_tasks}
 use Rattle.canvas_semantics.specs.Evaluation.{State}
 use Rattle.canvas_semantics.specs.Line.{Line, tree_of}
-use Rattle.canvas_semantics.specs.States.{states}
+use Rattle.canvas_semantics.specs.States.{states, EachMay}
 use Rattle.canvas_message.specs.declared.envelope.Envelope.{Envelope}
 use Rattle.canvas_backend.specs.Backend.{Log}
 use Rattle.canvas_backend.specs.Roster.{roster_of}
 use Rattle.canvas_broker.specs.Broker.{QueueEntry as Entries}
-use Rattle.canvas_runs.specs.Accounts.{Accounts, Ledger}
-use Rattle.canvas_runs.specs.Callers.{broker_calls_seen}
+use Rattle.canvas_runs.specs.Accounts.{QueueAccounts, TableAccounts}
+use Rattle.canvas_runs.specs.CallerLaws.{broker_calls_seen}
 use Rattle.canvas_runs.specs.Calls.{backend_calls}
 use Rattle.canvas_runs.specs.Causes.{ByCause, ByItsCause, completions}
 use Rattle.canvas_runs.specs.Law.{publishes}
-use Rattle.canvas_semantics.specs.States.{EachMay}
+use Rattle.canvas_runs.specs.Crew.{Mate}
+use Rattle.canvas_runs.specs.Following.{IsOver}
+use Rattle.canvas_runs.specs.Lists.{Each}
 use Rattle.canvas_runs.specs.Rows.{RanWell}
 use Rattle.canvas_runs.specs.Run.{Run, Closed, published_all}
 use Rattle.canvas_runs.specs.Tally.{Tally as Counts, CountsOf}
-use Rattle.canvas_runs.specs.Worker.{sealed, working}
+use Rattle.canvas_runs.specs.Worker.{sealed}
 use Rattle.canvas_runs.specs.TurnLaws.{held_rows}
 use Rattle.canvas_runs.specs.Turns.{IsWorker, RanWhole, RanUntil}
 use Rattle.canvas_engine.specs.declared.records.Records.{Records}
@@ -46,21 +47,21 @@ AreTurns n turns = All (IsWorker n) turns
 abbrev pub IsAsked : ℕ → List ℕ → Type 0
 IsAsked n turns = AreWorkers n × AreTurns n turns
 
-pub record IsWhole (l : Line) (n : ℕ) (turns : List ℕ) (rows : List State) : Type 0 where
+pub record IsWholeRun (l : Line) (n : ℕ) (turns : List ℕ) (rows : List State) : Type 0 where
   pub run : RanWhole six_tasks l n turns
-  pub held : rows ≡ held_rows l run.steps
+  pub rows_held : rows ≡ held_rows l run.steps
   -- what evaluating the plan's tree gives
   pub are : rows ≡ states six_tasks (tree_of l)
 
 abbrev pub IsWholeWithin : Line → ℕ → List ℕ → ℕ → List State → Type 0
-IsWholeWithin l n turns most rows = (whole : IsWhole l n turns rows) × (length whole.run.steps ≤ most)
+IsWholeWithin l n turns most rows = (whole : IsWholeRun l n turns rows) × (length whole.run.steps ≤ most)
 
 pub record IsCut (l : Line) (n : ℕ) (turns : List ℕ) (steps : ℕ) (rows : List State) : Type 0 where
   pub run : RanUntil six_tasks l n turns steps
-  pub held : rows ≡ held_rows l run.steps
+  pub rows_held : rows ≡ held_rows l run.steps
   pub may : EachMay rows (states six_tasks (tree_of l))
 
--- the rows that are given; none are where memory was refused before the first publish
+-- The rows that are given. None are where memory was refused before the first publish, or on threads to a worker's executor.
 abbrev pub GivesRows : Option Report → List State → Type 0
 GivesRows None ss = Unit {0}
 GivesRows (Some report) ss = EachMay report.rows ss
@@ -96,12 +97,14 @@ AreTallies queue table k (t ∷ ts) = (t.number ≡ k) × CountsOf queue table k
 pub record IsRun (l : Line) (n : ℕ) (rows : List State) (r : Records) : Type 0 where
   -- the pass and the seat are of this queue and this table, which is one of the plan
   pub objects : (r.pass.of ≡ r.broker) × (r.seat.of ≡ r.backend.id) × (r.backend.plan ≡ roster_of l)
-  -- Each of the n workers, and worker 0, has followed a core run, and all ended between scripts. Worker 0 published all first messages before, and read each task at the end: these are the rows.
+  -- Each of the n workers, and worker 0, has followed a core run. Worker 0 published all first messages before, and read each task at the end: these are the rows.
   pub ran : RanWell six_tasks l r.pass r.seat rows
+  -- the last that each asked was a rest, which was answered with no more
+  pub over : IsOver ran.to.ran.own × Each (λ (m : Mate six_tasks (roster_of l)). IsOver m.ended) ran.to.ran.mates
   pub workers : length ran.to.ran.mates ≡ n
   -- The broker has one legal history, and the backend one. Of each worker they have just its calls, each once and in its order; worker i is the i-th that is named in each.
-  pub calls : Accounts six_tasks (roster_of l) ran.to.ran.mates (published_all (map sealed ran.to.ran.opening)) ran.to.ran.works.made (broker_calls_seen r.pass)
-  pub entries : Ledger six_tasks (roster_of l) ran.to.ran.mates (backend_calls (working six_tasks (roster_of l)) ran.to.ran.works.run ++ ran.to.ran.closing) r.seat.seen
+  pub of_broker : QueueAccounts six_tasks (roster_of l) ran.to.ran.mates (published_all (map sealed ran.to.ran.opening)) ran.to.ran.works.made (broker_calls_seen r.pass)
+  pub of_backend : TableAccounts six_tasks (roster_of l) ran.to.ran.mates (backend_calls ran.to.ran.works.run ++ ran.to.ran.closing) r.seat.seen
   -- they are those of a closed run of the plan
   pub run : Run six_tasks l
   pub queue : run.queue ≡ broker_calls_seen r.pass
@@ -110,7 +113,8 @@ pub record IsRun (l : Line) (n : ℕ) (rows : List State) (r : Records) : Type 0
   -- what worker 0 counted, and each further one, in the order of their numbers
   pub tallies : AreTallies (broker_calls_seen r.pass) r.seat.seen 0 r.workers
   pub each_tally : length r.workers ≡ suc n
-  -- each message is published at most once, by the worker that brought about the event which runs its task: a body's by the one whose part completed its header
+  -- each envelope that is published reads as the message of a task, each message is published at most once, and by the worker that brought about the event which
+  -- runs its task: a body's by the one whose part completed its header
   pub once : (k : ℕ) → publishes l k (broker_calls_seen r.pass) ≤ 1
   pub by_cause : ByCause six_tasks l (broker_calls_seen r.pass) r.seat.seen
   pub by_its_cause : ByItsCause six_tasks l (broker_calls_seen r.pass) r.seat.seen

@@ -1,18 +1,50 @@
-//! How a run fails.
+//! Why a run has no whole report.
+
+ghost use Rattle.std.specs.Prelude.{◌≡◌, Some, None};
+ghost use Rattle.canvas_engine.specs.declared.fault.RunFault.TheVariants as fault;
 
 use crate::{Cause, Report};
+use canvas_task::{ListOf, Outcome};
+use thiserror::Error;
+
+/// How many workers a run has at most.
+pub const MOST_WORKERS: u32 = 16;
 
 /// Why a run has no whole report.
-#[derive(Drop)]
+#[derive(Debug, Drop, Error)]
 pub enum RunFault {
     /// The number of workers is out of its range, 1 to 16.
+    #[error("BadWorkers")]
     BadWorkers,
     /// A turn is of no worker.
+    #[error("BadTurn")]
     BadTurn,
     /// The run ended early. `rows` is what it has stored, a row for each task; where the first messages could not be published all of them are pending.
     ///
     /// On threads it is None where memory was refused before the first publish was tried, and where a worker's executor failed: tasks may have run then,
     /// and the cause is Memory. By turns it is None where there was no memory for the rows, the workers or the table; from the making of the first
     /// messages on there are rows.
+    #[error("{cause}")]
     Halted { cause: Cause, rows: Option<Report> },
+}
+
+impl RunFault {
+    /// A run that ended early, without rows.
+    pub(crate) fn halted(cause: Cause) -> RunFault
+        ensures { result ≡ fault.Halted cause None }
+    {
+        RunFault::Halted { cause, rows: None }
+    }
+
+    /// A run that ended early, with these rows.
+    pub(crate) fn halted_with(cause: Cause, rows: Vec<Option<Outcome>>) -> RunFault
+        ensures { result ≡ fault.Halted cause (Some (record { rows = rows.items })) }
+    {
+        RunFault::Halted {
+            cause,
+            rows: Some(Report {
+                rows: ListOf::of(rows),
+            }),
+        }
+    }
 }

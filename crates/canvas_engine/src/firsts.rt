@@ -26,13 +26,14 @@ pub(crate) fn seal(alloc: Global, message: &Message) -> Result<Envelope, Memory>
     }
 }
 
-fn seal_all(alloc: Global, messages: &[Message]) -> Result<Vec<Envelope>, Memory>
-    ensures value { IfOk result (λ es. es.items ≡ map sealed messages.now) }
-    ensures back { OnOk result (Each ReadsAs messages.now) }
+/// The envelopes of messages, each of which is dropped once it is written.
+fn seal_all(alloc: Global, messages: Vec<Message>) -> Result<Vec<Envelope>, Memory>
+    ensures value { IfOk result (λ es. es.items ≡ map sealed messages.items) }
+    ensures back { OnOk result (Each ReadsAs messages.items) }
 {
     let mut envelopes = Vec::new(alloc);
     for message in messages {
-        let envelope = seal(alloc, message)?;
+        let envelope = seal(alloc, &message)?;
         envelopes.push(envelope)?;
     }
     Ok(envelopes)
@@ -44,7 +45,7 @@ pub(crate) fn first_envelopes(alloc: Global, plan: &Plan) -> Result<Vec<Envelope
     ensures back { OnOk result (FirstsRead plan.now) }
 {
     match first_messages(alloc, plan) {
-        Ok(messages) => seal_all(alloc, &messages),
+        Ok(messages) => seal_all(alloc, messages),
         Err(Memory) => Err(Memory),
     }
 }

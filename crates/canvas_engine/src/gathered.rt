@@ -14,7 +14,6 @@ ghost use Rattle.canvas_runs.specs.Following.{Serves};
 ghost use Rattle.canvas_runs.specs.Rows.{reads_from};
 ghost use Rattle.canvas_engine.specs.Correct.{AreWorkers, IsRun, IsThreadFault};
 ghost use Rattle.canvas_engine.specs.steps.Crews.{AreGathered};
-ghost use Rattle.canvas_engine.specs.declared.fault.RunFault.TheVariants as fault;
 
 use crate::in_rounds::InRounds;
 use crate::{Cause, Records, Report, RunFault, Tally};
@@ -40,25 +39,6 @@ pub(crate) struct Gathered {
     pub rows: Vec<Option<Outcome>>,
     /// Worker 0's, still to be counted, and the others'.
     pub tallies: Vec<Tally>,
-}
-
-/// A run that ended early, without rows.
-pub(crate) fn halted(cause: Cause) -> RunFault
-    ensures { result ≡ fault.Halted cause None }
-{
-    RunFault::Halted { cause, rows: None }
-}
-
-/// A run that ended early, with these rows.
-pub(crate) fn halted_with(cause: Cause, rows: Vec<Option<Outcome>>) -> RunFault
-    ensures { result ≡ fault.Halted cause (Some (record { rows = rows.items })) }
-{
-    RunFault::Halted {
-        cause,
-        rows: Some(Report {
-            rows: ListOf::of(rows),
-        }),
-    }
 }
 
 /// The outcome that the table has of a task.
@@ -125,7 +105,7 @@ impl Gathered {
             ..
         } = self;
         read_rows(&backend, &mut seat, plan, &mut rows);
-        halted_with(cause, rows)
+        RunFault::halted_with(cause, rows)
     }
 
     /// Worker 0 works until it finds nothing, and reads each task once.
@@ -153,7 +133,7 @@ impl Gathered {
         } = self;
         let Some(left) = work_alone(rt, alloc, &broker, pass, &backend, seat, stop) else {
             stop.ask();
-            return Err(halted(Cause::Memory));
+            return Err(RunFault::halted(Cause::Memory));
         };
         let own = Tally::of(0, &left).with_published(first);
         let Record {
@@ -164,7 +144,7 @@ impl Gathered {
         } = left;
         read_rows(&backend, &mut seat, plan, &mut rows);
         match fault {
-            Some(cause) => Err(halted_with(cause, rows)),
+            Some(cause) => Err(RunFault::halted_with(cause, rows)),
             None => {
                 tallies[0] = own;
                 let report = Report {

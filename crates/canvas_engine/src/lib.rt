@@ -18,7 +18,7 @@ mod turn_list;
 mod turns;
 
 pub use canvas_worker::{Cause, Gate, OpenGate, Stop};
-pub use fault::RunFault;
+pub use fault::{MOST_WORKERS, RunFault};
 pub use records::{Records, Tally};
 pub use report::{Report, report_text};
 pub use running::run;

@@ -13,7 +13,7 @@ use canvas_task::{ListOf, Memory, Outcome, TaskNo};
 use std::alloc::Global;
 
 /// What a run has stored: row k - 1 is of task k. A row of None, and one that is missing, is of a task that is pending.
-#[derive(Drop)]
+#[derive(Debug, Drop)]
 pub struct Report {
     /// In the order of the tasks' numbers, from task 1 on.
     pub rows: ListOf<Option<Outcome>>,

@@ -8,11 +8,12 @@ ghost use Rattle.canvas_engine.specs.Correct.{AreWorkers, IsRun, IsThreadFault};
 ghost use Rattle.canvas_engine.specs.steps.Crews.{AreGathered, IsStart};
 
 use crate::crew::{are_done, join_all, judge, split_all};
+use crate::fault::MOST_WORKERS;
 use crate::firsts::{first_envelopes, publish_all};
-use crate::gathered::{Gathered, halted, halted_with};
+use crate::gathered::Gathered;
 use crate::slot::Slot;
 use crate::threads::work_on_threads;
-use crate::turns::{WORKERS, new_rows};
+use crate::turns::new_rows;
 use crate::{Cause, Records, Report, RunFault, Tally};
 use canvas_backend::{Backend, BackendSeat};
 use canvas_broker::{Broker, BrokerPass};
@@ -95,13 +96,13 @@ where
     let flight = InFlight::new(first as u64);
     match publish_all(rt, &broker, &mut pass, envelopes) {
         Ok(()) => (),
-        Err(Memory) => return Err(halted_with(Cause::Memory, rows)),
+        Err(Memory) => return Err(RunFault::halted_with(Cause::Memory, rows)),
     }
     work_on_threads(
         rt, alloc, &broker, &backend, gate, stop, &flight, &mut slots,
     );
     if !are_done(&slots) {
-        return Err(halted(Cause::Memory));
+        return Err(RunFault::halted(Cause::Memory));
     }
     let fault = judge(&slots, &mut tallies);
     join_all(rt, &broker, &mut pass, &backend, &mut seat, slots);
@@ -166,11 +167,11 @@ where
     ensures ok { IfOk result (λ r. AreWorkers workers × IsRun plan.now workers r.0.rows r.1) }
     ensures err { IfErr result (IsThreadFault workers (states six_tasks (tree_of plan.now))) }
 {
-    if workers < 1 || workers > WORKERS {
+    if workers < 1 || workers > MOST_WORKERS {
         return Err(RunFault::BadWorkers);
     }
     match reserve(rt, alloc, plan, workers) {
         Ok(start) => run_started(rt, alloc, plan, workers, gate, stop, start),
-        Err(Memory) => Err(halted(Cause::Memory)),
+        Err(Memory) => Err(RunFault::halted(Cause::Memory)),
     }
 }

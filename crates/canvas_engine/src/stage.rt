@@ -8,7 +8,6 @@ ghost use Rattle.canvas_backend.specs.Backend.{no_results};
 ghost use Rattle.canvas_backend.specs.Plain.{held};
 ghost use Rattle.canvas_backend.specs.Roster.{roster_of};
 ghost use Rattle.canvas_runs.specs.Core.{end, pause, ReadsBack, is_inside};
-ghost use Rattle.canvas_runs.specs.Lists.{Each};
 ghost use Rattle.canvas_message.specs.declared.envelope.Envelope.{Envelope};
 ghost use Rattle.canvas_runs.specs.Turns.{Step, IsWorker, FirstsRead, is_queued};
 ghost use Rattle.canvas_runs.specs.Worker.{sealed};
@@ -17,12 +16,13 @@ ghost use Rattle.canvas_worker.specs.Books.{no_book};
 ghost use Rattle.canvas_worker.specs.Enveloped.{enveloped_by};
 ghost use Rattle.canvas_worker.specs.Standing.{Standing, asked};
 ghost use Rattle.canvas_worker.specs.declared.ask.Ask.TheVariants as ask;
-ghost use Rattle.canvas_engine.specs.steps.Stages.{rows_of, MayAsk, AreInRange, Stepped, IsTried, ReadsAs, AreNew, Reached, HasReached, IsTurn, IsHalt, IsNew};
+ghost use Rattle.canvas_engine.specs.steps.Stages.{rows_of, MayAsk, AreInRange, Stepped, IsTried, AreNew, Reached, HasReached, IsTurn, IsHalt, IsNew};
 
 use crate::Cause;
+use crate::firsts::first_envelopes;
 use canvas_backend::PlainBackend;
 use canvas_broker::PlainBroker;
-use canvas_message::{Message, encode, first_messages};
+use canvas_message::Envelope;
 use canvas_rewrite::Plan;
 use canvas_task::{GroupNo, Memory, Outcome, TaskNo};
 use canvas_worker::{Ask, Core, Reply};
@@ -45,7 +45,7 @@ fn publish(
             Ok(()) => core.answer(alloc, table, Reply::Published),
             Err(_refused) => Err(Memory),
         },
-        None => Err(Memory),
+        None => unreachable!(),
     }
 }
 
@@ -66,7 +66,7 @@ fn read(
 {
     match table.member(group, place) {
         Some(task) => core.answer(alloc, table, Reply::Found(task, table.read(task))),
-        None => Err(Memory),
+        None => unreachable!(),
     }
 }
 
@@ -102,28 +102,14 @@ fn step(
     }
 }
 
-fn publish_message(alloc: Global, queue: &mut PlainBroker, message: &Message) -> Result<(), Memory>
-    ensures queue { OnOk result (queue.new ≡ queue.old ++ sealed message.now ∷ []) }
-    ensures back { OnOk result (ReadsAs message.now) }
+/// Publishes envelopes in their order.
+fn publish_all(queue: &mut PlainBroker, envelopes: Vec<Envelope>) -> Result<(), Memory>
+    ensures { OnOk result (queue.new ≡ queue.old ++ envelopes.items) }
 {
-    match encode(alloc, message) {
-        Ok(envelope) => match queue.publish(envelope) {
-            Ok(()) => Ok(()),
-            Err(_refused) => Err(Memory),
-        },
-        Err(Memory) => Err(Memory),
-    }
-}
-
-/// Publishes messages in their order.
-fn publish_all(alloc: Global, queue: &mut PlainBroker, messages: &[Message]) -> Result<(), Memory>
-    ensures queue { OnOk result (queue.new ≡ queue.old ++ map sealed messages.now) }
-    ensures back { OnOk result (Each ReadsAs messages.now) }
-{
-    for message in messages {
-        match publish_message(alloc, queue, message) {
+    for envelope in envelopes {
+        match queue.publish(envelope) {
             Ok(()) => (),
-            Err(Memory) => return Err(Memory),
+            Err(_refused) => return Err(Memory),
         }
     }
     Ok(())
@@ -194,8 +180,8 @@ impl Stage {
         ensures back { OnOk result (FirstsRead plan.now) }
         ensures others { (self.new.table ≡ self.old.table) × (self.new.cores ≡ self.old.cores) × (self.new.steps ≡ self.old.steps) }
     {
-        match first_messages(alloc, plan) {
-            Ok(messages) => publish_all(alloc, &mut self.queue, &messages),
+        match first_envelopes(alloc, plan) {
+            Ok(envelopes) => publish_all(&mut self.queue, envelopes),
             Err(Memory) => Err(Memory),
         }
     }

@@ -19,15 +19,19 @@ use std::alloc::{AllocGlobal, Global};
 use std::random::RandomSource;
 use std::sync::Wait;
 use std::thread::Threads;
+use thiserror::Error;
 
 /// Why a text has no report.
-#[derive(Drop)]
+#[derive(Debug, Drop, Error)]
 pub enum TextFault {
     /// The text is refused.
+    #[error("{0}")]
     Sig(SigFault),
     /// Its run has no whole report.
+    #[error("{0}")]
     Run(RunFault),
     /// A growth was refused before the run, or after it.
+    #[error("memory refused")]
     Memory,
 }
 
@@ -42,12 +46,13 @@ impl From<Memory> for TextFault {
     }
 }
 
-/// The plan of a canvas.
-fn plan_of(alloc: Global, canvas: &Canvas) -> Result<Plan, Memory>
-    ensures tree { IfOk result (λ plan. tree_of plan ≡ numbered (normal canvas.now)) }
-    ensures same { OnOk result (IsSame (normal canvas.now) canvas.now) }
+/// The plan of a canvas, which is given up as soon as its normal line is there.
+fn plan_of(alloc: Global, canvas: Canvas) -> Result<Plan, Memory>
+    ensures tree { IfOk result (λ plan. tree_of plan ≡ numbered (normal canvas)) }
+    ensures same { OnOk result (IsSame (normal canvas) canvas) }
 {
-    let line = normalise(alloc, canvas)?;
+    let line = normalise(alloc, &canvas)?;
+    drop(canvas);
     freeze(alloc, &line)
 }
 
@@ -61,7 +66,7 @@ fn read_plan(alloc: Global, bytes: &[u8]) -> Result<Plan, TextFault>
         Err(SigFault::Memory) => return Err(TextFault::Memory),
         Err(fault) => return Err(TextFault::Sig(fault)),
     };
-    match plan_of(alloc, &canvas) {
+    match plan_of(alloc, canvas) {
         Ok(plan) => Ok(plan),
         Err(Memory) => Err(TextFault::Memory),
     }

@@ -90,9 +90,6 @@ pub fn read_turns(alloc: Global, text: &str, workers: u32) -> Result<Vec<u32>, R
     match read_pieces(alloc, text, workers) {
         Ok(turns) => Ok(turns),
         Err(ListFault::BadTurn) => Err(RunFault::BadTurn),
-        Err(ListFault::Memory) => Err(RunFault::Halted {
-            cause: Cause::Memory,
-            rows: None,
-        }),
+        Err(ListFault::Memory) => Err(RunFault::halted(Cause::Memory)),
     }
 }

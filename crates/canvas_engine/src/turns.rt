@@ -9,17 +9,15 @@ ghost use Rattle.canvas_backend.specs.Plain.{held};
 ghost use Rattle.canvas_backend.specs.Roster.{roster_of};
 ghost use Rattle.canvas_runs.specs.Going.{most_steps};
 ghost use Rattle.canvas_runs.specs.Turns.{Step, IsWorker};
-ghost use Rattle.canvas_engine.specs.Correct.{AreWorkers, AreTurns, IsAsked, IsWhole, IsWholeWithin, IsRunFault, IsFaultWithin};
+ghost use Rattle.canvas_engine.specs.Correct.{AreWorkers, AreTurns, IsAsked, IsWholeRun, IsWholeWithin, IsRunFault, IsFaultWithin};
 ghost use Rattle.canvas_engine.specs.steps.Stages.{rows_of, Reached, HasReached, IsNew, IsPartOfRound, IsHaltInRound, IsRunThrough, IsEarlyEnd};
 
+use crate::fault::MOST_WORKERS;
 use crate::stage::Stage;
 use crate::{Cause, Report, RunFault};
 use canvas_rewrite::Plan;
 use canvas_task::{Fault, ListOf, Memory, Outcome};
 use std::alloc::Global;
-
-/// The most workers of a run.
-pub(crate) const WORKERS: u32 = 16;
 
 /// A turn of each worker, from the first to the last. Whether an ask was answered.
 fn run_round(alloc: Global, stage: &mut Stage, plan: &Plan, workers: u32) -> Result<bool, Cause>
@@ -140,16 +138,10 @@ fn run_steps(
     ensures err { IfErr result (IsFaultWithin plan.now workers turns.now steps) }
 {
     let Ok(rows) = new_rows(alloc, plan) else {
-        return Err(RunFault::Halted {
-            cause: Cause::Memory,
-            rows: None,
-        });
+        return Err(RunFault::halted(Cause::Memory));
     };
     let Ok(mut stage) = Stage::new(alloc, plan, workers, steps) else {
-        return Err(RunFault::Halted {
-            cause: Cause::Memory,
-            rows: None,
-        });
+        return Err(RunFault::halted(Cause::Memory));
     };
     match run_stage(alloc, &mut stage, plan, workers, turns) {
         Ok(()) => Ok(report_of(&stage, plan, rows)),
@@ -177,7 +169,7 @@ fn run_checked(
     ensures ok { IfOk result (λ report. IsAsked workers turns.now × IsWholeWithin plan.now workers turns.now steps report.rows) }
     ensures err { IfErr result (IsFaultWithin plan.now workers turns.now steps) }
 {
-    if workers < 1 || workers > WORKERS {
+    if workers < 1 || workers > MOST_WORKERS {
         return Err(RunFault::BadWorkers);
     }
     if are_turns(turns, workers) {
@@ -215,7 +207,7 @@ pub fn run_turns(
     workers: u32,
     turns: &[u32],
 ) -> Result<Report, RunFault>
-    ensures ok { IfOk result (λ report. IsAsked workers turns.now × IsWhole plan.now workers turns.now report.rows) }
+    ensures ok { IfOk result (λ report. IsAsked workers turns.now × IsWholeRun plan.now workers turns.now report.rows) }
     ensures err { IfErr result (IsRunFault workers turns.now (states six_tasks (tree_of plan.now))) }
 {
     let steps = more_than_all(plan, workers, turns);

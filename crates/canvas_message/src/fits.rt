@@ -14,6 +14,7 @@ mod reach;
 
 use crate::{Draft, Message};
 use canvas_rewrite::FrozenLine;
+use canvas_sig::parts::MOST_REACH;
 use canvas_task::TaskNo;
 use forms::{is_call, is_task, line_fits, place_fits, tasks_fit};
 use reach::{above, greatest, place_reach, tasks_reach};
@@ -120,5 +121,5 @@ fn whole_reach(draft: &Draft) -> u32
 fn draft_fits(draft: &Draft) -> bool
     ensures { result ≡ fits (draft_view draft.now) }
 {
-    parent_fits(draft.parent) && whole_fits(draft) && whole_reach(draft) <= 32
+    parent_fits(draft.parent) && whole_fits(draft) && whole_reach(draft) <= MOST_REACH
 }

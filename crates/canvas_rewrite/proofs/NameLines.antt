@@ -4,7 +4,7 @@ use Rattle.canvas_semantics.specs.Tree.{Task, and_task}
 use Rattle.canvas_sig.specs.View.{tasks_of}
 use Rattle.canvas_semantics.specs.Line.{Line, stop, task_names, tasks_names, names, all_names, in_group}
 use Rattle.canvas_semantics.specs.PlacedLine.{PTask, PPlace, PLine, strip_task, strip_tasks}
-use Rattle.canvas_rewrite.specs.FrozenView.{steps_onto, lines_of, p_tasks_of, p_task_view, task_in, line_in, end_in, Load, carried_step, p_end_step, p_line_step, p_task_step, place_step}
+use Rattle.canvas_rewrite.specs.FrozenView.{steps_onto, lines_of, p_tasks_of, p_task_view, task_in, line_in, end_in, PCarried, carried_step, p_end_step, p_line_step, p_task_step, place_step}
 use Rattle.canvas_semantics.specs.steps.Numbering.{tasks_all_names, lines_all_names}
 use Rattle.canvas_rewrite.specs.declared.frozen.FrozenTask as ftask
 use Rattle.canvas_rewrite.specs.declared.frozen.FrozenTask.{FrozenTask, out-FrozenTask}
@@ -28,7 +28,7 @@ of_list ts = ap tasks_names (strip_list ts) ∙ all_of_tasks (map task_in ts)
 pub task_named : (t : FrozenTask) → task_names (task_in t)
     ≡ (out-FrozenTask t).name ∷ tasks_all_names (map task_in (out-FrozenTask t).links) ++ tasks_all_names (map task_in (out-FrozenTask t).errbacks)
 task_named t =
-    ap (λ p. task_names (strip_task p)) (ftask.fold_out-FrozenTask Load PLine PLine PTask PPlace carried_step p_end_step p_line_step p_task_step place_step t)
+    ap (λ p. task_names (strip_task p)) (ftask.fold_out-FrozenTask PCarried PLine PLine PTask PPlace carried_step p_end_step p_line_step p_task_step place_step t)
     ∙ (λ i. (out-FrozenTask t).name ∷ of_list (out-FrozenTask t).links i ++ of_list (out-FrozenTask t).errbacks i)
 
 -- appended one after another

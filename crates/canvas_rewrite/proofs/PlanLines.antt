@@ -4,7 +4,7 @@ use Rattle.std.proofs.lemmas.List.{map-append}
 use Rattle.canvas_semantics.specs.Tree.{Task}
 use Rattle.canvas_semantics.specs.Line.{Line, stop, step, group_end, chord_end, Lines, and_line, no_of, ends_of, all_ends_of, group_entries, all_group_entries, GroupEntry}
 use Rattle.canvas_semantics.specs.PlacedLine.{PTask, PPlace, PLine, p_stop, p_group_end, p_chord_end, strip, strip_all, strip_task}
-use Rattle.canvas_rewrite.specs.FrozenView.{steps_onto, lines_of, p_steps, p_lines_of, p_task_view, p_line_view, p_end_view, task_in, line_in, end_in, Load, carried_step, p_end_step, p_line_step, p_task_step, place_step}
+use Rattle.canvas_rewrite.specs.FrozenView.{steps_onto, lines_of, p_steps, p_lines_of, p_task_view, p_line_view, p_end_view, task_in, line_in, end_in, PCarried, carried_step, p_end_step, p_line_step, p_task_step, place_step}
 use Rattle.canvas_semantics.specs.steps.Numbering.{lines_ends, lines_group_entries}
 use Rattle.canvas_rewrite.specs.steps.GroupData.{group_entry}
 use Rattle.canvas_rewrite.specs.declared.groups.Group.{Group}
@@ -112,7 +112,7 @@ ok_same {X = X} r x a b e h = let P : List X → Type 0 = λ y. OnOk r (x ≡ y)
 -- ---- the last task
 
 no_out : (t : FrozenTask) → no_of (task_in t) ≡ (out-FrozenTask t).no
-no_out t = ap (λ p. no_of (strip_task p)) (ftask.fold_out-FrozenTask Load PLine PLine PTask PPlace carried_step p_end_step p_line_step p_task_step place_step t)
+no_out t = ap (λ p. no_of (strip_task p)) (ftask.fold_out-FrozenTask PCarried PLine PLine PTask PPlace carried_step p_end_step p_line_step p_task_step place_step t)
 
 ends_from : (t : FrozenTask) (ts : List FrozenTask) (x : FrozenTask) → Some x ≡ slice_get (t ∷ ts) (length ts) → ends_of (steps_onto (map task_in (t ∷ ts)) stop) ≡ (out-FrozenTask x).no ∷ []
 ends_from t [] x h = let same : t ≡ x = cc in ap (λ k. k ∷ []) (no_out t ∙ ap (λ y. (out-FrozenTask y).no) same)

@@ -71,38 +71,38 @@ place_or None = p_nowhere
 place_or (Some p) = p
 
 -- size and body of what is carried
-pub record Load : Type 0 where
+pub record PCarried : Type 0 where
   pub size : ℕ
   pub body : PLine
 
-abbrev pub place_carrying : ℕ → Option Load → PPlace
+abbrev pub place_carrying : ℕ → Option PCarried → PPlace
 place_carrying g None = p_group g
 place_carrying g (Some c) = p_chord g c.size c.body
 
-abbrev pub carried_step : Carried-F Load PLine PLine PTask PPlace → Load
+abbrev pub carried_step : Carried-F PCarried PLine PLine PTask PPlace → PCarried
 carried_step c = record { size = c.size; body = c.body.value }
 
-abbrev pub p_end_step : FrozenEnd-F Load PLine PLine PTask PPlace → PLine
+abbrev pub p_end_step : FrozenEnd-F PCarried PLine PLine PTask PPlace → PLine
 p_end_step e = p_ended e.group e.members e.body
 
-abbrev pub p_line_step : FrozenLine-F Load PLine PLine PTask PPlace → PLine
+abbrev pub p_line_step : FrozenLine-F PCarried PLine PLine PTask PPlace → PLine
 p_line_step l = p_steps l.tasks (p_tail_of l.tail)
 
-abbrev pub p_task_step : FrozenTask-F Load PLine PLine PTask PPlace → PTask
+abbrev pub p_task_step : FrozenTask-F PCarried PLine PLine PTask PPlace → PTask
 p_task_step t =
     p_task t.no (record { name = t.name; args = t.args; kwargs = t.kwargs; immutable = t.immutable }) (p_tasks_of t.links) (p_tasks_of t.errbacks) (place_or t.place)
 
-abbrev pub place_step : Place-F Load PLine PLine PTask PPlace → PPlace
+abbrev pub place_step : Place-F PCarried PLine PLine PTask PPlace → PPlace
 place_step p = place_carrying p.group p.chord
 
 abbrev pub p_task_view : frozen_task.FrozenTask → PTask
-p_task_view = frozen_task.fold-FrozenTask Load PLine PLine PTask PPlace carried_step p_end_step p_line_step p_task_step place_step
+p_task_view = frozen_task.fold-FrozenTask PCarried PLine PLine PTask PPlace carried_step p_end_step p_line_step p_task_step place_step
 
 abbrev pub p_line_view : frozen_line.FrozenLine → PLine
-p_line_view = frozen_line.fold-FrozenLine Load PLine PLine PTask PPlace carried_step p_end_step p_line_step p_task_step place_step
+p_line_view = frozen_line.fold-FrozenLine PCarried PLine PLine PTask PPlace carried_step p_end_step p_line_step p_task_step place_step
 
 abbrev pub p_end_view : frozen_end.FrozenEnd → PLine
-p_end_view = frozen_end.fold-FrozenEnd Load PLine PLine PTask PPlace carried_step p_end_step p_line_step p_task_step place_step
+p_end_view = frozen_end.fold-FrozenEnd PCarried PLine PLine PTask PPlace carried_step p_end_step p_line_step p_task_step place_step
 
 -- without places
 abbrev pub task_in : frozen_task.FrozenTask → Task

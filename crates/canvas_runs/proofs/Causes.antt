@@ -126,7 +126,7 @@ module _ (registry : Registry) (l : Line) (plan : IsPlan l) (r : Run registry l)
       go true e (completion g) m = absurd (omega arith)
 
   -- a publish, with the message that its envelope opens as
-  caused : (p : ℕ) (e : Envelope) (a : Option Envelope) → In (calls p (publish e) a) r.queue → (c : Content) × (v : Event) × (e ≡ sealed c) × DoesIn registry l v (job.publish c) × Brought l p r.table v × (opened (book_of l) e ≡ Some c)
+  caused : (p : ℕ) (e : Envelope) (a : Option Envelope) → In (calls p (publish e) a) r.queue → (c : Content) × (v : Event) × (e ≡ sealed c) × (opened (book_of l) e ≡ Some c) × DoesIn registry l v (job.publish c) × Brought l p r.table v
   caused p e a i =
       let there : In (p, published e) (queue_calls r.queue) = publish_by r.queue p e a i in
       let good : IsRunSealed (X registry l plan) (form registry l plan) (Does registry l plan) (order registry l plan) (value registry l plan) (inner_run registry l plan r) e =
@@ -148,10 +148,10 @@ module _ (registry : Registry) (l : Line) (plan : IsPlan l) (r : Run registry l)
       (λ (h : (x : BackendCall Outcome) × In x (by p (table_calls r.table)) × (shows (X registry l plan) v x ≡ 0 → ⊥)).
       brought p v h.0 h.2 (row_in r.table (p, h.0) (by_in p h.0 (table_calls r.table) h.1)))
       (find_heavy (shows (X registry l plan) v) (by p (table_calls r.table))) in
-      (c, v, good.1, does, shown, ap (opened (book_of l)) good.1 ∙ (order registry l plan).opened c good.3 good.2)
+      (c, v, good.1, ap (opened (book_of l)) good.1 ∙ (order registry l plan).opened c good.3 good.2, does, shown)
 
   pub by_cause : ByCause registry l r.queue r.table
-  by_cause p e a i = let k = caused p e a i in (k.0, k.1, k.2, k.3, k.4)
+  by_cause = caused
 
   same_message : (c d : Content) → ◌≡◌ {A = Option Content} (Some c) (Some d) → c ≡ d
   same_message c d e = cc
@@ -159,8 +159,8 @@ module _ (registry : Registry) (l : Line) (plan : IsPlan l) (r : Run registry l)
   pub by_its_cause : ByItsCause registry l r.queue r.table
   by_its_cause v c does p e a i opens =
       let k = caused p e a i in
-      let same : k.0 ≡ c = same_message k.0 c (sym k.5 ∙ opens) in
-      subst (λ w. Brought l p r.table w) ((once registry l plan).event k.1 v k.0 c k.3 does (ap (λ (d : Content). number_of d.own) same)) k.4
+      let same : k.0 ≡ c = same_message k.0 c (sym k.3 ∙ opens) in
+      subst (λ w. Brought l p r.table w) ((once registry l plan).event k.1 v k.0 c k.4 does (ap (λ (d : Content). number_of d.own) same)) k.5
 
   -- a chord is completed at most once
   completes_less : (g : ℕ) (c : BackendCall Outcome) → completes_one l g c ≤ shows (X registry l plan) (completion g) c

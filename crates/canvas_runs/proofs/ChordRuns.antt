@@ -123,16 +123,16 @@ by_callers P a b c d p =
 abbrev X : Protocol
 X = worker six_tasks small
 
-abbrev Left : List (AskedAndAnswered X) → Option Content → Type 0
+abbrev Left : List (AskedAndAnswered X.Envelope X.Outcome) → Option Content → Type 0
 Left xs o = IsCoreRun X (opens X o) xs
 
-abbrev last_of_first : List (AskedAndAnswered X)
+abbrev last_of_first : List (AskedAndAnswered X.Envelope X.Outcome)
 last_of_first = (core.keep 3 six, core.kept true) ∷ (core.take, core.taken None) ∷ (core.pause, core.rested false) ∷ []
 
-abbrev rest_of_first : List (AskedAndAnswered X)
+abbrev rest_of_first : List (AskedAndAnswered X.Envelope X.Outcome)
 rest_of_first = (core.keep 1 two, core.kept true) ∷ (core.part 1 1, core.counted 0) ∷ (core.take, core.taken (Some (sealed whole_sum))) ∷ last_of_first
 
-abbrev rest_of_second : List (AskedAndAnswered X)
+abbrev rest_of_second : List (AskedAndAnswered X.Envelope X.Outcome)
 rest_of_second =
     (core.keep 2 four, core.kept true) ∷ (core.part 1 2, core.counted 1) ∷ (core.read 1 0, core.found 1 (Some two)) ∷ (core.read 1 1, core.found 2 (Some four))
     ∷ (core.send (sealed whole_sum), core.sent) ∷ (core.take, core.taken None) ∷ (core.pause, core.rested false) ∷ []
@@ -168,10 +168,10 @@ no_others p o = ap (λ b. cond b first_worker (cond (eqb p 2) second_worker []))
 all_run : (p : ℕ) → IsCoreRun X taking (workers p)
 all_run = by_callers CoreOf tt first_runs second_runs (λ p o. subst (IsCoreRun X taking) (sym (no_others p o)) tt)
 
-all_read : (p : ℕ) → ReadsMembers X (workers p)
+all_read : (p : ℕ) → ReadsMembers X.members (workers p)
 all_read =
-    by_callers (λ p. ReadsMembers X (workers p)) tt (tt, (tt, (tt, (tt, (tt, (tt, (tt, tt))))))) (tt, (tt, (tt, (refl, (refl, (tt, (tt, (tt, tt))))))))
-    (λ p o. subst (ReadsMembers X) (sym (no_others p o)) tt)
+    by_callers (λ p. ReadsMembers X.members (workers p)) tt (tt, (tt, (tt, (tt, (tt, (tt, (tt, tt))))))) (tt, (tt, (tt, (refl, (refl, (tt, (tt, (tt, tt))))))))
+    (λ p o. subst (ReadsMembers X.members) (sym (no_others p o)) tt)
 
 -- ---- their calls
 
@@ -179,7 +179,7 @@ abbrev opening : List Content
 opening = first_sum ∷ second_sum ∷ []
 
 abbrev Goes : ℕ → Type 0
-Goes p = FollowsCore [] (cond (eqb p 0) (published_all (map sealed opening)) [] ++ broker_calls X (workers p)) (by p (queue_calls queue))
+Goes p = FollowsCore [] (cond (eqb p 0) (published_all (map sealed opening)) [] ++ broker_calls (workers p)) (by p (queue_calls queue))
 
 all_follow : (p : ℕ) → Goes p
 all_follow =
@@ -189,13 +189,13 @@ all_follow =
     (λ p o. rw (o.p_zero, o.zero_p, o.one_p, o.two_p, o.p_one, o.p_two) follows_all)
 
 abbrev Kept : ℕ → Type 0
-Kept p = by p (table_calls table) ≡ backend_calls X (workers p) ++ cond (eqb p 0) closing []
+Kept p = by p (table_calls table) ≡ backend_calls (workers p) ++ cond (eqb p 0) closing []
 
 all_kept : (p : ℕ) → Kept p
 all_kept = by_callers Kept refl refl refl (λ p o. rw (o.p_zero, o.zero_p, o.one_p, o.two_p, o.p_one, o.p_two) refl)
 
 abbrev Used : ℕ → Type 0
-Used p = total takes_one (by p (queue_calls queue)) ≡ total takes_one (broker_calls X (workers p))
+Used p = total takes_one (by p (queue_calls queue)) ≡ total takes_one (broker_calls (workers p))
 
 all_used : (p : ℕ) → Used p
 all_used = by_callers Used refl refl refl (λ p o. rw (o.zero_p, o.one_p, o.two_p, o.p_one, o.p_two) refl)

@@ -24,38 +24,38 @@ record Asks (s : Doing X) (a : Ask Envelope Outcome) : Type 0 where
   pub back : ReadsBack X s
   pub asks : a ≡ ask X s
 
-behind : (o : Option Content) (c : Content) (ys : List (AskedAndAnswered X)) (a : Ask Envelope Outcome) → o ≡ Some c → Asks (left_after X (opens X (Some c)) ys) a → Asks (left_after X (opens X o) ys) a
+behind : (o : Option Content) (c : Content) (ys : List (AskedAndAnswered Envelope Outcome)) (a : Ask Envelope Outcome) → o ≡ Some c → Asks (left_after X (opens X (Some c)) ys) a → Asks (left_after X (opens X o) ys) a
 behind o c ys a e k = subst (λ x. Asks (left_after X (opens X x) ys) a) (sym e) k
 
-abbrev whole_taken : AskedAndAnswered X
+abbrev whole_taken : AskedAndAnswered Envelope Outcome
 whole_taken = (take, taken (Some (sealed whole_sum)))
 
-abbrev first_own : List (AskedAndAnswered X)
+abbrev first_own : List (AskedAndAnswered Envelope Outcome)
 first_own = (keep 1 two, kept true) ∷ (part 1 1, counted 0) ∷ []
 
-abbrev second_own : List (AskedAndAnswered X)
+abbrev second_own : List (AskedAndAnswered Envelope Outcome)
 second_own = (keep 2 four, kept true) ∷ (part 1 2, counted 1) ∷ (read 1 0, found 1 (Some two)) ∷ (read 1 1, found 2 (Some four)) ∷ (send (sealed whole_sum), sent) ∷ []
 
-abbrev whole_own : List (AskedAndAnswered X)
+abbrev whole_own : List (AskedAndAnswered Envelope Outcome)
 whole_own = (keep 3 six, kept true) ∷ []
 
 -- the first worker's states after its first message, and after its second
-first_state : (ys : List (AskedAndAnswered X)) → left_after X (opens X (opened (book_of small) (sealed first_sum))) ys ≡ left_after X (opens X (Some first_sum)) ys
+first_state : (ys : List (AskedAndAnswered Envelope Outcome)) → left_after X (opens X (opened (book_of small) (sealed first_sum))) ys ≡ left_after X (opens X (Some first_sum)) ys
 first_state ys = ap (λ o. left_after X (opens X o) ys) first_opens
 
-second_state : (ys : List (AskedAndAnswered X)) → left_after X (opens X (opened (book_of small) (sealed second_sum))) ys ≡ left_after X (opens X (Some second_sum)) ys
+second_state : (ys : List (AskedAndAnswered Envelope Outcome)) → left_after X (opens X (opened (book_of small) (sealed second_sum))) ys ≡ left_after X (opens X (Some second_sum)) ys
 second_state ys = ap (λ o. left_after X (opens X o) ys) second_opens
 
-third_state : (ys : List (AskedAndAnswered X)) → left_after X (opens X (opened (book_of small) (sealed first_sum))) (first_own ++ whole_taken ∷ ys) ≡ left_after X (opens X (Some whole_sum)) ys
+third_state : (ys : List (AskedAndAnswered Envelope Outcome)) → left_after X (opens X (opened (book_of small) (sealed first_sum))) (first_own ++ whole_taken ∷ ys) ≡ left_after X (opens X (Some whole_sum)) ys
 third_state ys = first_state (first_own ++ whole_taken ∷ ys) ∙ ap (λ o. left_after X (opens X o) ys) whole_opens
 
-by_first : (ys : List (AskedAndAnswered X)) (a : Ask Envelope Outcome) → Asks (left_after X (opens X (Some first_sum)) ys) a → Asks (left_after X (opens X (opened (book_of small) (sealed first_sum))) ys) a
+by_first : (ys : List (AskedAndAnswered Envelope Outcome)) (a : Ask Envelope Outcome) → Asks (left_after X (opens X (Some first_sum)) ys) a → Asks (left_after X (opens X (opened (book_of small) (sealed first_sum))) ys) a
 by_first ys a k = subst (λ s. Asks s a) (sym (first_state ys)) k
 
-by_second : (ys : List (AskedAndAnswered X)) (a : Ask Envelope Outcome) → Asks (left_after X (opens X (Some second_sum)) ys) a → Asks (left_after X (opens X (opened (book_of small) (sealed second_sum))) ys) a
+by_second : (ys : List (AskedAndAnswered Envelope Outcome)) (a : Ask Envelope Outcome) → Asks (left_after X (opens X (Some second_sum)) ys) a → Asks (left_after X (opens X (opened (book_of small) (sealed second_sum))) ys) a
 by_second ys a k = subst (λ s. Asks s a) (sym (second_state ys)) k
 
-by_third : (ys : List (AskedAndAnswered X)) (a : Ask Envelope Outcome) → Asks (left_after X (opens X (Some whole_sum)) ys) a → Asks (left_after X (opens X (opened (book_of small) (sealed first_sum))) (first_own ++ whole_taken ∷ ys)) a
+by_third : (ys : List (AskedAndAnswered Envelope Outcome)) (a : Ask Envelope Outcome) → Asks (left_after X (opens X (Some whole_sum)) ys) a → Asks (left_after X (opens X (opened (book_of small) (sealed first_sum))) (first_own ++ whole_taken ∷ ys)) a
 by_third ys a k = subst (λ s. Asks s a) (sym (third_state ys)) k
 
 plainly : (s : Doing X) (a : Ask Envelope Outcome) → ReadsBack X s → a ≡ ask X s → Asks s a
@@ -221,7 +221,7 @@ h4 = h3 ++ (1, (take, taken (Some (sealed second_sum)))) ∷ []
 abbrev h5 : List Step
 h5 = h4 ++ (2, (take, taken None)) ∷ []
 
-abbrev second_taken : AskedAndAnswered X
+abbrev second_taken : AskedAndAnswered Envelope Outcome
 second_taken = (take, taken (Some (sealed second_sum)))
 
 is_busy : is_inside (left six_tasks small h5 1) ≡ true

@@ -123,12 +123,12 @@ module _ (X : Protocol) (F : Form X) (Does : Event → JobOf X → Type 0) (orde
   member_parts : Each (MemberPart X.members) (seconds run.backend)
   member_parts = each_from_by (MemberPart X.members) run.backend (λ p. known_members X.members [] (by p run.backend) (caller_known p))
 
-  caller_sound : (p : ℕ) → Sound X.members [] (backend_calls X (run.core p))
-  caller_sound p = sound_left X.members [] (backend_calls X (run.core p)) (cond (eqb p 0) run.closing [])
+  caller_sound : (p : ℕ) → Sound X.members [] (backend_calls (run.core p))
+  caller_sound p = sound_left X.members [] (backend_calls (run.core p)) (cond (eqb p 0) run.closing [])
       (subst (Sound X.members []) (run.keeps p) (sound X.members run.backend [] [] run.table (λ g. (tt, tt)) (λ q. ([], tt, caller_known q)) p [] tt))
 
-  caller_firsts : (p : ℕ) → Each IsFirst (backend_calls X (run.core p))
-  caller_firsts p = each_left IsFirst (backend_calls X (run.core p)) (cond (eqb p 0) run.closing [])
+  caller_firsts : (p : ℕ) → Each IsFirst (backend_calls (run.core p))
+  caller_firsts p = each_left IsFirst (backend_calls (run.core p)) (cond (eqb p 0) run.closing [])
       (subst (Each IsFirst) (run.keeps p) (each_by IsFirst p run.backend (each_weaker same (seconds run.backend) (all_first X F Does order value once keeping run))))
     where
       same : (c : BackendCall X.Outcome) → AnswersFirst X F Does order value once keeping run c → IsFirst c
@@ -139,11 +139,11 @@ module _ (X : Protocol) (F : Form X) (Does : Event → JobOf X → Type 0) (orde
   abbrev opening_calls : ℕ → List (BrokerCall X.Envelope)
   opening_calls p = cond (eqb p 0) (published_all (map X.sealed run.opening)) []
 
-  in_list : (p : ℕ) (c : BrokerCall X.Envelope) → In c (opening_calls p ++ broker_calls X (run.core p)) → In c (seconds run.broker)
+  in_list : (p : ℕ) (c : BrokerCall X.Envelope) → In c (opening_calls p ++ broker_calls (run.core p)) → In c (seconds run.broker)
   in_list p c i = ⊎_elim (λ a. in_seconds c p run.broker a) (λ z. elim z [ ]) (follows_in (run.follows p) c i)
 
   module _ (all_sent : run.unsent ≡ []) (drained : IsDrained [] (seconds run.broker))
-      (all_used : (c : ℕ) → total takes_one (by c run.broker) ≡ total takes_one (broker_calls X (run.core c)))
+      (all_used : (c : ℕ) → total takes_one (by c run.broker) ≡ total takes_one (broker_calls (run.core c)))
       (all_ended : (c : ℕ) → Between (left_after X taking (run.core c))) where
     abbrev pub IsDone : JobOf X → Type 0
     IsDone j = Done X F Does order value backs (seconds run.broker) (seconds run.backend) j
@@ -159,8 +159,8 @@ module _ (X : Protocol) (F : Form X) (Does : Event → JobOf X → Type 0) (orde
       answers = answers_right X F Does order value run p;
       sound = caller_sound p;
       firsts = caller_firsts p;
-      in_broker = λ c i. in_list p c (in_right (opening_calls p) (broker_calls X (run.core p)) c i);
-      in_backend = λ c i. in_seconds c p run.backend (subst (In c) (sym (run.keeps p)) (in_left (backend_calls X (run.core p)) (cond (eqb p 0) run.closing []) c i));
+      in_broker = λ c i. in_list p c (in_right (opening_calls p) (broker_calls (run.core p)) c i);
+      in_backend = λ c i. in_seconds c p run.backend (subst (In c) (sym (run.keeps p)) (in_left (backend_calls (run.core p)) (cond (eqb p 0) run.closing []) c i));
       ends = all_ended p;
     }
 
@@ -168,7 +168,7 @@ module _ (X : Protocol) (F : Form X) (Does : Event → JobOf X → Type 0) (orde
     pub first_done : (m : X.Message) → In m X.first → IsDone (publish m)
     first_done m i =
         let opened : X.first ≡ run.opening = run.opens ∙ (ap (λ l. run.opening ++ l) all_sent ∙ append-nil run.opening) in
-        (in_each F.Formed X.first order.first m i, in_each X.Back run.opening run.opens_back m (subst (In m) opened i), in_list 0 (published (X.sealed m)) (in_left (published_all (map X.sealed run.opening)) (broker_calls X (run.core 0)) (published (X.sealed m)) (in_published X.sealed run.opening m (subst (In m) opened i))))
+        (in_each F.Formed X.first order.first m i, in_each X.Back run.opening run.opens_back m (subst (In m) opened i), in_list 0 (published (X.sealed m)) (in_left (published_all (map X.sealed run.opening)) (broker_calls (run.core 0)) (published (X.sealed m)) (in_published X.sealed run.opening m (subst (In m) opened i))))
 
     -- the script of a message published is done
     pub published_done : (m : X.Message) → IsDone (publish m) → IsDone (store (X.no m) (X.outcome m)) × Each IsDone (X.ended m (X.outcome m))
@@ -177,10 +177,10 @@ module _ (X : Protocol) (F : Form X) (Does : Event → JobOf X → Type 0) (orde
         let all : In (took (Some (X.sealed m))) (seconds run.broker) = drained_taken [] (seconds run.broker) drained (X.sealed m) (inr i) in
         let caller = in_by_caller (took (Some (X.sealed m))) run.broker all in
         let p : ℕ = caller.0 in
-        let mine : In (took (Some (X.sealed m))) (opening_calls p ++ broker_calls X (run.core p)) =
-        used (run.follows p) (omega (arith, total-append takes_one (opening_calls p) (broker_calls X (run.core p)), zero_opening (eqb p 0), all_used p)) (X.sealed m) (inr caller.1) in
+        let mine : In (took (Some (X.sealed m))) (opening_calls p ++ broker_calls (run.core p)) =
+        used (run.follows p) (omega (arith, total-append takes_one (opening_calls p) (broker_calls (run.core p)), zero_opening (eqb p 0), all_used p)) (X.sealed m) (inr caller.1) in
         script_done X F Does order value backs (seconds run.broker) (seconds run.backend) taking (left_of p) (X.sealed m) m
-        (⊎_elim (λ a. absurd (none (eqb p 0) a)) (λ b. b) (in_append_cases (opening_calls p) (broker_calls X (run.core p)) (took (Some (X.sealed m))) mine)) (order.opened m formed back)
+        (⊎_elim (λ a. absurd (none (eqb p 0) a)) (λ b. b) (in_append_cases (opening_calls p) (broker_calls (run.core p)) (took (Some (X.sealed m))) mine)) (order.opened m formed back)
       where
         zero_opening : (b : Bool) → total takes_one (cond b (published_all (map X.sealed run.opening)) []) ≡ 0
         zero_opening true = published_zero (map X.sealed run.opening)

@@ -7,11 +7,11 @@ use Rattle.canvas_semantics.specs.FileOrder.{EndsInTask}
 use Rattle.canvas_semantics.specs.FileOrder as order_of
 use Rattle.canvas_rewrite.proofs.InOrder.{plan_in_order}
 use Rattle.canvas_semantics.specs.Line.{Line, stop, step, group_end, chord_end, Lines, no_lines, and_line, no_of, count_line, members, size, ends_of, all_ends_of}
-use Rattle.canvas_rewrite.specs.FrozenView.{Load}
+use Rattle.canvas_rewrite.specs.FrozenView.{PCarried}
 use Rattle.canvas_rewrite.specs.Planned.{IsPlan}
 use Rattle.canvas_message.specs.Content.{Content, number_of}
 use Rattle.canvas_message.specs.Effects as effects
-use Rattle.canvas_message.specs.Effects.{effect_of, script, stores_in, messages_in, part_in, parted}
+use Rattle.canvas_message.specs.Effects.{effect_of, script, stores_in, messages_in, part_in, part_jobs}
 use Rattle.canvas_message.specs.Events as events
 use Rattle.canvas_message.specs.Events.{In, Event, start, running, end_of_line, completion}
 use Rattle.canvas_message.specs.Flowing.{no_input, run, after_outcome}
@@ -24,7 +24,7 @@ use Rattle.canvas_runs.specs.Worker.{worker, opened, known_one, read_envelope, s
 use Rattle.canvas_runs.proofs.Backing.{backs}
 use Rattle.canvas_runs.proofs.Canvas as plan_facts
 use Rattle.canvas_runs.proofs.Canvas.{Plan, messages_of}
-use Rattle.canvas_runs.proofs.Carrying.{content, sent, all_sent, load, items_of, both_sent, items_sent, ended_sent, completed_sent}
+use Rattle.canvas_runs.proofs.Carrying.{content, sent, all_sent, p_carried, items_of, both_sent, items_sent, ended_sent, completed_sent}
 use Rattle.canvas_runs.proofs.Effects.{Jobs, called, enter, after, body_after, outcome_of}
 use Rattle.canvas_runs.proofs.Ending.{EndsJob, plan_ends}
 use Rattle.canvas_runs.proofs.Evaluation as evaluation
@@ -83,7 +83,7 @@ plan_of l plan = record {
 
 -- ---- lists of jobs
 
-each_sent : (P : Job Content Load Outcome → Type 0) (js : Jobs) → Each (λ j. P (sent j)) js → Each P (all_sent js)
+each_sent : (P : Job Content PCarried Outcome → Type 0) (js : Jobs) → Each (λ j. P (sent j)) js → Each P (all_sent js)
 each_sent P [] a = tt
 each_sent P (j ∷ js) a = (a.0, each_sent P js a.1)
 
@@ -114,7 +114,7 @@ module _ {A : Type 0} (key : A → ℕ) (P : A → Type 0) where
   each_in_order [] a = tt
   each_in_order (x ∷ xs) a = each_put x (in_order key xs) a.0 (each_in_order xs a.1)
 
-module _ (P : Job Content Load Outcome → Type 0) where
+module _ (P : Job Content PCarried Outcome → Type 0) where
   stores_each : (js : effects.Jobs) → Each P js → Each (λ e. P (store e.0 e.1)) (stores_in js)
   stores_each [] a = tt
   stores_each (store t o ∷ js) a = (a.0, stores_each js a.1)
@@ -127,7 +127,7 @@ module _ (P : Job Content Load Outcome → Type 0) where
   messages_each (publish m ∷ js) a = (a.0, messages_each js a.1)
   messages_each (hand_in g t c ∷ js) a = messages_each js a.1
 
-  part_each : (js : effects.Jobs) → Each P js → Each P (parted (part_in js))
+  part_each : (js : effects.Jobs) → Each P js → Each P (part_jobs (part_in js))
   part_each [] a = tt
   part_each (store t o ∷ js) a = part_each js a.1
   part_each (publish m ∷ js) a = part_each js a.1
@@ -136,9 +136,9 @@ module _ (P : Job Content Load Outcome → Type 0) where
   -- what holds of each job holds of the script
   each_script : (js : effects.Jobs) → Each P js → Each P (script (effect_of js))
   each_script js a =
-      each_append P (map (λ s. store s.0 s.1) (effect_of js).stores) (map (λ m. publish m) (effect_of js).messages ++ parted (effect_of js).part)
+      each_append P (map (λ s. store s.0 s.1) (effect_of js).stores) (map (λ m. publish m) (effect_of js).messages ++ part_jobs (effect_of js).part)
       (each_map (λ s. store s.0 s.1) P (effect_of js).stores (each_in_order (λ e. e.0) (λ e. P (store e.0 e.1)) (stores_in js) (stores_each js a)))
-      (each_append P (map (λ m. publish m) (effect_of js).messages) (parted (effect_of js).part)
+      (each_append P (map (λ m. publish m) (effect_of js).messages) (part_jobs (effect_of js).part)
       (each_map (λ m. publish m) P (effect_of js).messages (each_in_order (λ m. number_of m.own) (λ m. P (publish m)) (messages_in js) (messages_each js a))) (part_each js a))
 
 module _ (registry : Registry) (l : Line) (plan : IsPlan l) where
@@ -157,10 +157,10 @@ module _ (registry : Registry) (l : Line) (plan : IsPlan l) where
   abbrev pub form : Form X
   form = record {
     Formed = λ c. (m : Message) × (c ≡ content m) × Formed' m;
-    FormedPart = λ g t d. (c : Carried) × (d ≡ load c) × FormedPart' g t c;
+    FormedPart = λ g t d. (c : Carried) × (d ≡ p_carried c) × FormedPart' g t c;
   }
 
-  abbrev pub Does : Event → Job Content Load Outcome → Type 0
+  abbrev pub Does : Event → Job Content PCarried Outcome → Type 0
   Does v j = events.DoesIn registry l v j
 
   -- ---- what the evaluation does
@@ -168,7 +168,7 @@ module _ (registry : Registry) (l : Line) (plan : IsPlan l) where
   all_items : events.evaluated registry l ≡ items_of (evaluation.evaluated registry l)
   all_items = items_sent registry l (run no_input) nowhere 0 start
 
-  pub does_back : (v : Event) (j : Job Content Load Outcome) → Does v j → (x : AJob) × (j ≡ sent x) × In (v, x) (evaluation.evaluated registry l)
+  pub does_back : (v : Event) (j : Job Content PCarried Outcome) → Does v j → (x : AJob) × (j ≡ sent x) × In (v, x) (evaluation.evaluated registry l)
   does_back v j i =
       let r = in_map both_sent (evaluation.evaluated registry l) (v, j) (subst (In (v, j)) all_items i) in
       let events_same : v ≡ r.0.0 = ap (λ q. q.0) r.1 in
@@ -196,16 +196,16 @@ module _ (registry : Registry) (l : Line) (plan : IsPlan l) where
   pub published : (v : Event) (c : Content) → Does v (publish c) → (m : Message) × (c ≡ content m) × In (v, publish m) (evaluation.evaluated registry l)
   published v c i = let r = does_back v (publish c) i in message_back v c r.0 r.1 r.2
 
-  part_back : (v : Event) (g t : ℕ) (d : Load) (x : AJob) → hand_in g t d ≡ sent x → In (v, x) (evaluation.evaluated registry l) → (c : Carried) × (d ≡ load c) × In (v, hand_in g t c) (evaluation.evaluated registry l)
+  part_back : (v : Event) (g t : ℕ) (d : PCarried) (x : AJob) → hand_in g t d ≡ sent x → In (v, x) (evaluation.evaluated registry l) → (c : Carried) × (d ≡ p_carried c) × In (v, hand_in g t c) (evaluation.evaluated registry l)
   part_back v g t d (hand_in h u c) e i =
       let groups : g ≡ h = cc in
       let tasks : t ≡ u = cc in
-      let same : d ≡ load c = cc in
+      let same : d ≡ p_carried c = cc in
       (c, same, subst (λ w. In (v, hand_in w t c) (evaluation.evaluated registry l)) (sym groups) (subst (λ w. In (v, hand_in h w c) (evaluation.evaluated registry l)) (sym tasks) i))
   part_back v g t d (store u q) e i = absurd cc
   part_back v g t d (publish m) e i = absurd cc
 
-  pub returned : (v : Event) (g t : ℕ) (d : Load) → Does v (hand_in g t d) → (c : Carried) × (d ≡ load c) × In (v, hand_in g t c) (evaluation.evaluated registry l)
+  pub returned : (v : Event) (g t : ℕ) (d : PCarried) → Does v (hand_in g t d) → (c : Carried) × (d ≡ p_carried c) × In (v, hand_in g t c) (evaluation.evaluated registry l)
   returned v g t d i = let r = does_back v (hand_in g t d) i in part_back v g t d r.0 r.1 r.2
 
   ends_there : (v : Event) (x : AJob) → In (v, x) (evaluation.evaluated registry l) → EndsJob x
@@ -245,15 +245,15 @@ module _ (registry : Registry) (l : Line) (plan : IsPlan l) where
       (each_sent (After X form m.no) (after m o) (each_weaker (later m.no) (after m o)
       (each_both (After (plan_facts.X registry p) (plan_facts.form registry p) m.no) (SizedJob (size l) (members l)) (after m o) ((plan_facts.order registry p).ended m o f.0) (after_sized (size l) (members l) m o f.1)))))
 
-  completed_beyond : (g t : ℕ) (d : Load) (fs : List (ℕ × Outcome)) → form.FormedPart g t d → firsts fs ≡ members l g → Each (Beyond X form g) (X.completed d fs)
+  completed_beyond : (g t : ℕ) (d : PCarried) (fs : List (ℕ × Outcome)) → form.FormedPart g t d → firsts fs ≡ members l g → Each (Beyond X form g) (X.completed d fs)
   completed_beyond g t d fs (c, e, f) same =
       subst (λ d. Each (Beyond X form g) (X.completed d fs)) (sym e)
       (subst (Each (Beyond X form g)) (sym (completed_script (members l) p.limit g t c fs f.0))
       (each_sent (Beyond X form g) (body_after c fs) (each_weaker (beyond g) (body_after c fs)
       (each_both (Beyond (plan_facts.X registry p) (plan_facts.form registry p) g) (SizedJob (size l) (members l)) (body_after c fs) ((plan_facts.order registry p).completed g t c fs f.0 same) (body_sized (size l) (members l) c fs f.1.1)))))
 
-  load_size : (c : Carried) → (load c).size ≡ plan_facts.carried_size c
-  load_size (carried n body q) = refl
+  p_carried_size : (c : Carried) → (p_carried c).size ≡ plan_facts.carried_size c
+  p_carried_size (carried n body q) = refl
 
   pub order : Ordered X form
   order = record {
@@ -262,7 +262,7 @@ module _ (registry : Registry) (l : Line) (plan : IsPlan l) where
     ended = ended_later;
     completed = completed_beyond;
     member = λ g t d f. (plan_facts.order registry p).member g t f.0 f.2.0;
-    size = λ g t d f. ap (λ d. d.size) f.1 ∙ (load_size f.0 ∙ (plan_facts.order registry p).size g t f.0 f.2.0);
+    size = λ g t d f. ap (λ d. d.size) f.1 ∙ (p_carried_size f.0 ∙ (plan_facts.order registry p).size g t f.0 f.2.0);
   }
 
   -- ---- value
@@ -278,7 +278,7 @@ module _ (registry : Registry) (l : Line) (plan : IsPlan l) where
       (each_weaker (λ x z. does_on (end_of_line m.no) x z) js (from_kind (λ x. In (end_of_line m.no, x) (evaluation.evaluated registry l)) js does))))
 
   raw_completed : (g t : ℕ) (c : Carried) (fs : List (ℕ × Outcome)) (v : Event) → In (v, hand_in g t c) (evaluation.evaluated registry l) → firsts fs ≡ members l g
-      → Each (λ f. Has (plan_facts.X registry p) (plan_facts.Does registry p) f.0 f.1) fs → Each (Does (completion g)) (X.completed (load c) fs)
+      → Each (λ f. Has (plan_facts.X registry p) (plan_facts.Does registry p) f.0 f.1) fs → Each (Does (completion g)) (X.completed (p_carried c) fs)
   raw_completed g t (carried n body q) fs v i same has =
       let js : Jobs = enter body (header fs) q 0 None in
       let does : Each (λ x. In (completion g, x) (evaluation.evaluated registry l)) (body_after (carried n body q) fs) = plan_facts.completed_does registry p g t (carried n body q) fs (v, i) same has in
@@ -304,7 +304,7 @@ module _ (registry : Registry) (l : Line) (plan : IsPlan l) where
       ended : (c : Content) (v : Event) → (m : Message) × (c ≡ content m) × In (v, publish m) (evaluation.evaluated registry l) → Each (Does (end_of_line (number_of c.own))) (X.ended c (effects.outcome_of registry c))
       ended c v (m, e, i) = subst (λ d. Each (Does (end_of_line (number_of d.own))) (X.ended d (effects.outcome_of registry d))) (sym e) (raw_ended m v i)
 
-      completed : (g t : ℕ) (d : Load) (fs : List (ℕ × Outcome)) (v : Event) → (c : Carried) × (d ≡ load c) × In (v, hand_in g t c) (evaluation.evaluated registry l) → firsts fs ≡ members l g
+      completed : (g t : ℕ) (d : PCarried) (fs : List (ℕ × Outcome)) (v : Event) → (c : Carried) × (d ≡ p_carried c) × In (v, hand_in g t c) (evaluation.evaluated registry l) → firsts fs ≡ members l g
           → Each (λ f. Has X Does f.0 f.1) fs → Each (Does (completion g)) (X.completed d fs)
       completed g t d fs v (c, e, i) same has =
           subst (λ d. Each (Does (completion g)) (X.completed d fs)) (sym e) (raw_completed g t c fs v i same (each_weaker (λ f h. (h.0, stored h.0 f.0 f.1 h.1)) fs has))
@@ -328,12 +328,12 @@ module _ (registry : Registry) (l : Line) (plan : IsPlan l) where
   names_sent k (m ∷ ms) = ap (λ n. cond (eqb m.no k) 1 0 + n) (names_sent k ms)
 
   -- a weight of the jobs of a message's end, or of a completed header
-  end_weight : (w : Job Content Load Outcome → ℕ) (w' : AJob → ℕ) → ((js : Jobs) → total w (all_sent js) ≡ total w' js) → (c : Content) (o : Outcome) → form.Formed c
+  end_weight : (w : Job Content PCarried Outcome → ℕ) (w' : AJob → ℕ) → ((js : Jobs) → total w (all_sent js) ≡ total w' js) → (c : Content) (o : Outcome) → form.Formed c
       → ((m : Message) → c ≡ content m → Formed p.members p.limit m → total w' (after m o) ≤ 1) → total w (X.ended c o) ≤ 1
   end_weight w w' same c o (m, e, f) small =
       subst (λ n. n ≤ 1) (sym (ap (λ d. total w (X.ended d o)) e ∙ (ap (total w) (ended_script (members l) p.limit m o f.0) ∙ same (after m o)))) (small m e f.0)
 
-  completion_weight : (w : Job Content Load Outcome → ℕ) (w' : AJob → ℕ) → ((js : Jobs) → total w (all_sent js) ≡ total w' js) → (g t : ℕ) (d : Load) (fs : List (ℕ × Outcome)) → form.FormedPart g t d
+  completion_weight : (w : Job Content PCarried Outcome → ℕ) (w' : AJob → ℕ) → ((js : Jobs) → total w (all_sent js) ≡ total w' js) → (g t : ℕ) (d : PCarried) (fs : List (ℕ × Outcome)) → form.FormedPart g t d
       → ((c : Carried) → FormedPart p.members p.limit g t c → total w' (body_after c fs) ≤ 1) → total w (X.completed d fs) ≤ 1
   completion_weight w w' same g t d fs (c, e, f) small =
       subst (λ n. n ≤ 1) (sym (ap (λ d. total w (X.completed d fs)) e ∙ (ap (total w) (completed_script (members l) p.limit g t c fs f.0) ∙ same (body_after c fs)))) (small c f.0)
@@ -381,7 +381,7 @@ module _ (registry : Registry) (l : Line) (plan : IsPlan l) where
           subst (λ d. Backed X (number_of d.own ∷ []) (X.ended d o)) (sym e)
           (subst (Backed X (m.no ∷ [])) (sym (ended_script (members l) p.limit m o f.0)) (backed_sent (m.no ∷ []) (after m o) ((backs registry p).ended m o f.0)))
 
-      completed : (g t : ℕ) (d : Load) (fs : List (ℕ × Outcome)) → form.FormedPart g t d → firsts fs ≡ members l g → Backed X [] (X.completed d fs)
+      completed : (g t : ℕ) (d : PCarried) (fs : List (ℕ × Outcome)) → form.FormedPart g t d → firsts fs ≡ members l g → Backed X [] (X.completed d fs)
       completed g t d fs (c, e, f) same =
           subst (λ d. Backed X [] (X.completed d fs)) (sym e)
           (subst (Backed X []) (sym (completed_script (members l) p.limit g t c fs f.0)) (backed_sent [] (body_after c fs) ((backs registry p).completed g t c fs f.0 same)))

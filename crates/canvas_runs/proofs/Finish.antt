@@ -100,7 +100,7 @@ module _ (X : Protocol) where
     abbrev GoodReply : Answer X → Type 0
     GoodReply r = GoodAnswer X (right_goods X F Does) r
 
-    next : (s : Doing X) (r : Answer X) → Good s → reads_member X (ask X s) r → GoodReply r → Good (answered X s r)
+    next : (s : Doing X) (r : Answer X) → Good s → reads_member X.members (ask X s) r → GoodReply r → Good (answered X s r)
     next s r p q g = next_good X (right_goods X F Does) (right_closed X F Does order value) s r p q g
 
     -- the parts still to come are of tasks known to be stored
@@ -121,8 +121,8 @@ module _ (X : Protocol) where
     completed_backed us g c fs state full =
         backed_more [] us (X.completed c fs) (nothing_in us) (backs.completed g state.0 c fs (state.1.0) (all_found X (right_goods X F Does) (right_closed X F Does order value) g c fs state full))
 
-    known_step : (s : Doing X) (r : Answer X) (us : List ℕ) (rest : List (BackendCall X.Outcome)) → Good s → StateBacked us s → reads_member X (ask X s) r → GoodReply r →
-        ((vs : List ℕ) → StateBacked vs (answered X s r) → Known X.members vs rest) → Known X.members us (backend_call X (ask X s) r ++ rest)
+    known_step : (s : Doing X) (r : Answer X) (us : List ℕ) (rest : List (BackendCall X.Outcome)) → Good s → StateBacked us s → reads_member X.members (ask X s) r → GoodReply r →
+        ((vs : List ℕ) → StateBacked vs (answered X s r) → Known X.members vs rest) → Known X.members us (backend_call (ask X s) r ++ rest)
     known_step taking (taken None) us rest p b q g k = k us tt
     known_step taking (taken (Some e)) us rest p b q g k = k us (go (X.opened e))
       where
@@ -142,15 +142,15 @@ module _ (X : Protocol) where
     known_step (reading h c fs) (found t None) us rest p b q g k = k us tt
     known_step s r us rest p b q g k = k us tt
 
-    pub known : (s : Doing X) (xs : List (Asked X × Answer X)) (us : List ℕ) (reads : List (BackendCall X.Outcome)) → Each IsRead reads → Good s → StateBacked us s → IsCoreRun X s xs → ReadsMembers X xs → Each (λ x. GoodReply x.1) xs →
-        Known X.members us (backend_calls X xs ++ reads)
+    pub known : (s : Doing X) (xs : List (Asked X × Answer X)) (us : List ℕ) (reads : List (BackendCall X.Outcome)) → Each IsRead reads → Good s → StateBacked us s → IsCoreRun X s xs → ReadsMembers X.members xs → Each (λ x. GoodReply x.1) xs →
+        Known X.members us (backend_calls xs ++ reads)
     known s [] us reads only p b l q g = known_reads X.members us reads only
     known s (x ∷ xs) us reads only p b l q g =
-        let mine = subst (λ a. reads_member X a x.1) l.0 q.0 in
-        let step : Known X.members us (backend_call X (ask X s) x.1 ++ (backend_calls X xs ++ reads)) =
-        known_step s x.1 us (backend_calls X xs ++ reads) p b mine g.0 (λ vs c. known (answered X s x.1) xs vs reads only (next s x.1 p mine g.0) c l.2 q.1 g.1) in
-        subst (Known X.members us) (sym (append_assoc (backend_call X x.0 x.1) (backend_calls X xs) reads))
-        (subst (λ a. Known X.members us (backend_call X a x.1 ++ (backend_calls X xs ++ reads))) (sym l.0) step)
+        let mine = subst (λ a. reads_member X.members a x.1) l.0 q.0 in
+        let step : Known X.members us (backend_call (ask X s) x.1 ++ (backend_calls xs ++ reads)) =
+        known_step s x.1 us (backend_calls xs ++ reads) p b mine g.0 (λ vs c. known (answered X s x.1) xs vs reads only (next s x.1 p mine g.0) c l.2 q.1 g.1) in
+        subst (Known X.members us) (sym (append_assoc (backend_call x.0 x.1) (backend_calls xs) reads))
+        (subst (λ a. Known X.members us (backend_call a x.1 ++ (backend_calls xs ++ reads))) (sym l.0) step)
 
     -- what is left of a core run, in a history whose calls are these
     module _ (broker : List (BrokerCall X.Envelope)) (backend : List (BackendCall X.Outcome)) where
@@ -165,12 +165,12 @@ module _ (X : Protocol) where
         pub good : Good s
         pub ready : Ready known s
         pub core : IsCoreRun X s calls
-        pub reads : ReadsMembers X calls
+        pub reads : ReadsMembers X.members calls
         pub answers : Each (λ x. GoodReply x.1) calls
-        pub sound : Sound X.members known (backend_calls X calls)
-        pub firsts : Each IsFirst (backend_calls X calls)
-        pub in_broker : (c : BrokerCall X.Envelope) → In c (broker_calls X calls) → In c broker
-        pub in_backend : (c : BackendCall X.Outcome) → In c (backend_calls X calls) → In c backend
+        pub sound : Sound X.members known (backend_calls calls)
+        pub firsts : Each IsFirst (backend_calls calls)
+        pub in_broker : (c : BrokerCall X.Envelope) → In c (broker_calls calls) → In c broker
+        pub in_backend : (c : BackendCall X.Outcome) → In c (backend_calls calls) → In c backend
         pub ends : Between (left_after X s calls)
 
       abbrev pub Done : JobOf X → Type 0
@@ -218,8 +218,8 @@ module _ (X : Protocol) where
       more : (g : ℕ) (c : X.Carried) (fs : List (ℕ × X.Outcome)) (t : ℕ) (o : X.Outcome) → Good (reading g c fs) → at (length fs) (X.members g) ≡ Some t → Has X Does t o → Good (reading g c (fs ++ (t, o) ∷ []))
       more g c fs t o p q h = more_found X (right_goods X F Does) (right_closed X F Does order value) g c fs t o p q h
 
-      tail_step : (s : Doing X) (r : Answer X) (us : List ℕ) (rest : List (BackendCall X.Outcome)) → Good s → Ready us s → reads_member X (ask X s) r → GoodReply r →
-          Sound X.members us (backend_call X (ask X s) r ++ rest) → Each IsFirst (backend_call X (ask X s) r) → (vs : List ℕ) × Ready vs (answered X s r) × Sound X.members vs rest
+      tail_step : (s : Doing X) (r : Answer X) (us : List ℕ) (rest : List (BackendCall X.Outcome)) → Good s → Ready us s → reads_member X.members (ask X s) r → GoodReply r →
+          Sound X.members us (backend_call (ask X s) r ++ rest) → Each IsFirst (backend_call (ask X s) r) → (vs : List ℕ) × Ready vs (answered X s r) × Sound X.members vs rest
       tail_step taking (taken None) us rest p b q g k f = (us, tt, k)
       tail_step taking (taken (Some e)) us rest p b q g k f = (us, go (X.opened e), k)
         where
@@ -255,9 +255,9 @@ module _ (X : Protocol) where
       one_in : {A : Type 0} (xs ys : List A) (x : A) → In x xs → In x (xs ++ ys)
       one_in xs ys x i = in_left xs ys x i
 
-      owed_step : (s : Doing X) (r : Answer X) (us : List ℕ) (rest : List (BackendCall X.Outcome)) → Good s → Ready us s → reads_member X (ask X s) r → GoodReply r →
-          Sound X.members us (backend_call X (ask X s) r ++ rest) → Each IsFirst (backend_call X (ask X s) r) →
-          ((c : BrokerCall X.Envelope) → In c (broker_call X (ask X s) r) → In c broker) → ((c : BackendCall X.Outcome) → In c (backend_call X (ask X s) r) → In c backend) →
+      owed_step : (s : Doing X) (r : Answer X) (us : List ℕ) (rest : List (BackendCall X.Outcome)) → Good s → Ready us s → reads_member X.members (ask X s) r → GoodReply r →
+          Sound X.members us (backend_call (ask X s) r ++ rest) → Each IsFirst (backend_call (ask X s) r) →
+          ((c : BrokerCall X.Envelope) → In c (broker_call (ask X s) r) → In c broker) → ((c : BackendCall X.Outcome) → In c (backend_call (ask X s) r) → In c backend) →
           Left (answered X s r) → Owed (answered X s r) → ReadsBack X s → Owed s
       owed_step taking r us rest p b q g k f i j l o z = tt
       owed_step resting r us rest p b q g k f i j l o z = tt
@@ -304,24 +304,24 @@ module _ (X : Protocol) where
       record Headed (s : Doing X) (x : Asked X × Answer X) (xs : List (Asked X × Answer X)) (us : List ℕ) : Type 0 where
         good : Good s
         ready : Ready us s
-        reads : reads_member X (ask X s) x.1
+        reads : reads_member X.members (ask X s) x.1
         answer : GoodReply x.1
-        sound : Sound X.members us (backend_call X (ask X s) x.1 ++ backend_calls X xs)
-        firsts : Each IsFirst (backend_call X (ask X s) x.1)
-        in_broker : (c : BrokerCall X.Envelope) → In c (broker_call X (ask X s) x.1) → In c broker
-        in_backend : (c : BackendCall X.Outcome) → In c (backend_call X (ask X s) x.1) → In c backend
+        sound : Sound X.members us (backend_call (ask X s) x.1 ++ backend_calls xs)
+        firsts : Each IsFirst (backend_call (ask X s) x.1)
+        in_broker : (c : BrokerCall X.Envelope) → In c (broker_call (ask X s) x.1) → In c broker
+        in_backend : (c : BackendCall X.Outcome) → In c (backend_call (ask X s) x.1) → In c backend
         later : Left (answered X s x.1)
 
-      headed : (s : Doing X) (x : Asked X × Answer X) (xs : List (Asked X × Answer X)) (us : List ℕ) → Good s → Ready us s → IsCoreRun X s (x ∷ xs) → ReadsMembers X (x ∷ xs) → Each (λ y. GoodReply y.1) (x ∷ xs) →
-          Sound X.members us (backend_calls X (x ∷ xs)) → Each IsFirst (backend_calls X (x ∷ xs)) →
-          ((c : BrokerCall X.Envelope) → In c (broker_calls X (x ∷ xs)) → In c broker) → ((c : BackendCall X.Outcome) → In c (backend_calls X (x ∷ xs)) → In c backend) →
+      headed : (s : Doing X) (x : Asked X × Answer X) (xs : List (Asked X × Answer X)) (us : List ℕ) → Good s → Ready us s → IsCoreRun X s (x ∷ xs) → ReadsMembers X.members (x ∷ xs) → Each (λ y. GoodReply y.1) (x ∷ xs) →
+          Sound X.members us (backend_calls (x ∷ xs)) → Each IsFirst (backend_calls (x ∷ xs)) →
+          ((c : BrokerCall X.Envelope) → In c (broker_calls (x ∷ xs)) → In c broker) → ((c : BackendCall X.Outcome) → In c (backend_calls (x ∷ xs)) → In c backend) →
           Between (left_after X s (x ∷ xs)) → Headed s x xs us
       headed s x xs us p b l q g k f i j e =
           let asked : x.0 ≡ ask X s = l.0 in
-          let mine : reads_member X (ask X s) x.1 = subst (λ a. reads_member X a x.1) asked q.0 in
-          let sound : Sound X.members us (backend_call X (ask X s) x.1 ++ backend_calls X xs) = subst (λ a. Sound X.members us (backend_call X a x.1 ++ backend_calls X xs)) asked k in
-          let first : Each IsFirst (backend_call X (ask X s) x.1) = subst (λ a. Each IsFirst (backend_call X a x.1)) asked (each_left IsFirst (backend_call X x.0 x.1) (backend_calls X xs) f) in
-          let step = tail_step s x.1 us (backend_calls X xs) p b mine g.0 sound first in
+          let mine : reads_member X.members (ask X s) x.1 = subst (λ a. reads_member X.members a x.1) asked q.0 in
+          let sound : Sound X.members us (backend_call (ask X s) x.1 ++ backend_calls xs) = subst (λ a. Sound X.members us (backend_call a x.1 ++ backend_calls xs)) asked k in
+          let first : Each IsFirst (backend_call (ask X s) x.1) = subst (λ a. Each IsFirst (backend_call a x.1)) asked (each_left IsFirst (backend_call x.0 x.1) (backend_calls xs) f) in
+          let step = tail_step s x.1 us (backend_calls xs) p b mine g.0 sound first in
           record {
             good = p;
             ready = b;
@@ -329,8 +329,8 @@ module _ (X : Protocol) where
             answer = g.0;
             sound = sound;
             firsts = first;
-            in_broker = λ c z. i c (in_left (broker_call X x.0 x.1) (broker_calls X xs) c (subst (λ a. In c (broker_call X a x.1)) (sym asked) z));
-            in_backend = λ c z. j c (in_left (backend_call X x.0 x.1) (backend_calls X xs) c (subst (λ a. In c (backend_call X a x.1)) (sym asked) z));
+            in_broker = λ c z. i c (in_left (broker_call x.0 x.1) (broker_calls xs) c (subst (λ a. In c (broker_call a x.1)) (sym asked) z));
+            in_backend = λ c z. j c (in_left (backend_call x.0 x.1) (backend_calls xs) c (subst (λ a. In c (backend_call a x.1)) (sym asked) z));
             later = record {
               calls = xs;
               known = step.0;
@@ -340,23 +340,23 @@ module _ (X : Protocol) where
               reads = q.1;
               answers = g.1;
               sound = step.2;
-              firsts = each_right IsFirst (backend_call X x.0 x.1) (backend_calls X xs) f;
-              in_broker = λ c z. i c (in_right (broker_call X x.0 x.1) (broker_calls X xs) c z);
-              in_backend = λ c z. j c (in_right (backend_call X x.0 x.1) (backend_calls X xs) c z);
+              firsts = each_right IsFirst (backend_call x.0 x.1) (backend_calls xs) f;
+              in_broker = λ c z. i c (in_right (broker_call x.0 x.1) (broker_calls xs) c z);
+              in_backend = λ c z. j c (in_right (backend_call x.0 x.1) (backend_calls xs) c z);
               ends = e;
             };
           }
 
-      owed_by : (xs : List (Asked X × Answer X)) (s : Doing X) (us : List ℕ) → Good s → Ready us s → IsCoreRun X s xs → ReadsMembers X xs → Each (λ y. GoodReply y.1) xs →
-          Sound X.members us (backend_calls X xs) → Each IsFirst (backend_calls X xs) →
-          ((c : BrokerCall X.Envelope) → In c (broker_calls X xs) → In c broker) → ((c : BackendCall X.Outcome) → In c (backend_calls X xs) → In c backend) →
+      owed_by : (xs : List (Asked X × Answer X)) (s : Doing X) (us : List ℕ) → Good s → Ready us s → IsCoreRun X s xs → ReadsMembers X.members xs → Each (λ y. GoodReply y.1) xs →
+          Sound X.members us (backend_calls xs) → Each IsFirst (backend_calls xs) →
+          ((c : BrokerCall X.Envelope) → In c (broker_calls xs) → In c broker) → ((c : BackendCall X.Outcome) → In c (backend_calls xs) → In c backend) →
           Between (left_after X s xs) → Owed s
       unfolding headed
       owed_by [] s us p b l q g k f i j e = none_left s e
       owed_by (x ∷ xs) s us p b l q g k f i j e =
           let h = headed s x xs us p b l q g k f i j e in
           let t = h.later in
-          owed_step s x.1 us (backend_calls X xs) p b h.reads h.answer h.sound h.firsts h.in_broker h.in_backend t
+          owed_step s x.1 us (backend_calls xs) p b h.reads h.answer h.sound h.firsts h.in_broker h.in_backend t
           (owed_by xs (answered X s x.1) t.known t.good t.ready l.2 q.1 g.1 t.sound t.firsts t.in_broker t.in_backend e) l.1.1
 
       -- a core run that ends between scripts has done what its state owes
@@ -364,7 +364,7 @@ module _ (X : Protocol) where
       owed s l = owed_by l.calls s l.known l.good l.ready l.core l.reads l.answers l.sound l.firsts l.in_broker l.in_backend l.ends
 
       -- a take opens the script of its message
-      opened_by : (s : Doing X) (r : Answer X) (e : X.Envelope) (m : X.Message) → In (took (Some e)) (broker_call X (ask X s) r) → X.opened e ≡ Some m → answered X s r ≡ owning m
+      opened_by : (s : Doing X) (r : Answer X) (e : X.Envelope) (m : X.Message) → In (took (Some e)) (broker_call (ask X s) r) → X.opened e ≡ Some m → answered X s r ≡ owning m
       opened_by taking (taken (Some d)) e m (inl same) eq = ap (opens X) (subst (λ u. X.opened u ≡ Some m) (took_same same) eq)
         where
           took_same : ◌≡◌ {A = BrokerCall X.Envelope} (took (Some e)) (took (Some d)) → e ≡ d
@@ -375,24 +375,24 @@ module _ (X : Protocol) where
       opened_by (doing (publish n ∷ js) b) sent e m (inr i) eq = elim i [ ]
       opened_by (doing (store t o ∷ js) b) r e m i eq = no_keep r i
         where
-          no_keep : (r : Answer X) → In (took (Some e)) (broker_call X (keep t o) r) → answered X (doing (store t o ∷ js) b) r ≡ owning m
+          no_keep : (r : Answer X) → In (took (Some e)) (broker_call (keep t o) r) → answered X (doing (store t o ∷ js) b) r ≡ owning m
           no_keep r i = elim i [ ]
       opened_by s r e m i eq = elim i [ ]
 
-      taken_owed : (xs : List (Asked X × Answer X)) (s : Doing X) (us : List ℕ) → Good s → Ready us s → IsCoreRun X s xs → ReadsMembers X xs → Each (λ y. GoodReply y.1) xs →
-          Sound X.members us (backend_calls X xs) → Each IsFirst (backend_calls X xs) →
-          ((c : BrokerCall X.Envelope) → In c (broker_calls X xs) → In c broker) → ((c : BackendCall X.Outcome) → In c (backend_calls X xs) → In c backend) →
-          Between (left_after X s xs) → (e : X.Envelope) (m : X.Message) → In (took (Some e)) (broker_calls X xs) → X.opened e ≡ Some m → Owed (owning m)
+      taken_owed : (xs : List (Asked X × Answer X)) (s : Doing X) (us : List ℕ) → Good s → Ready us s → IsCoreRun X s xs → ReadsMembers X.members xs → Each (λ y. GoodReply y.1) xs →
+          Sound X.members us (backend_calls xs) → Each IsFirst (backend_calls xs) →
+          ((c : BrokerCall X.Envelope) → In c (broker_calls xs) → In c broker) → ((c : BackendCall X.Outcome) → In c (backend_calls xs) → In c backend) →
+          Between (left_after X s xs) → (e : X.Envelope) (m : X.Message) → In (took (Some e)) (broker_calls xs) → X.opened e ≡ Some m → Owed (owning m)
       unfolding headed
       taken_owed [] s us p b l q g k f i j n e m z eq = elim z [ ]
       taken_owed (x ∷ xs) s us p b l q g k f i j n e m z eq =
           let h = headed s x xs us p b l q g k f i j n in
           let t = h.later in
           ⊎_elim
-          (λ here. subst Owed (opened_by s x.1 e m (subst (λ a. In (took (Some e)) (broker_call X a x.1)) l.0 here) eq) (owed (answered X s x.1) t))
+          (λ here. subst Owed (opened_by s x.1 e m (subst (λ a. In (took (Some e)) (broker_call a x.1)) l.0 here) eq) (owed (answered X s x.1) t))
           (λ there. taken_owed xs (answered X s x.1) t.known t.good t.ready l.2 q.1 g.1 t.sound t.firsts t.in_broker t.in_backend n e m there eq)
-          (in_append_cases (broker_call X x.0 x.1) (broker_calls X xs) (took (Some e)) z)
+          (in_append_cases (broker_call x.0 x.1) (broker_calls xs) (took (Some e)) z)
 
       -- each message taken has its script done
-      pub script_done : (s : Doing X) → (l : Left s) (e : X.Envelope) (m : X.Message) → In (took (Some e)) (broker_calls X l.calls) → X.opened e ≡ Some m → Owed (owning m)
+      pub script_done : (s : Doing X) → (l : Left s) (e : X.Envelope) (m : X.Message) → In (took (Some e)) (broker_calls l.calls) → X.opened e ≡ Some m → Owed (owning m)
       script_done s l e m z eq = taken_owed l.calls s l.known l.good l.ready l.core l.reads l.answers l.sound l.firsts l.in_broker l.in_backend l.ends e m z eq

@@ -1,5 +1,5 @@
 -- The first part of the law, over the product's histories.
-use Rattle.std.proofs.Common.{⊎_elim, ◌≡◌, ◌⊎◌, ℕ, ◌+◌, ◌≤◌, Bool, true, [], Option, Some, None, refl, sym, subst, ◌∙◌, inl, inr, arith}
+use Rattle.std.proofs.Common.{⊎_elim, ◌≡◌, ◌⊎◌, ℕ, ◌+◌, ◌≤◌, Bool, true, [], Option, Some, None, refl, sym, ap, subst, ◌∙◌, inl, inr, arith}
 use Rattle.canvas_task.specs.Apply.{Registry}
 use Rattle.canvas_task.specs.declared.outcome.Outcome.{Outcome}
 use Rattle.canvas_semantics.specs.Evaluation as eval
@@ -102,12 +102,12 @@ module _ (registry : Registry) (l : Line) (plan : IsPlan l) where
         ⊎_elim (λ n. absurd (let bad : ◌≡◌ {A = eval.State} None (Some o) = n in cc)) (λ i. inr (e ∙ sym (has_state t o (stored_right t o true i))))
         (was_stored l (plan_apart l plan) t o [] r.table results.no_results refl r.table_legal e)
 
-    run_sealed : (e : Envelope) → In (published e) (seconds (queue_calls r.queue)) → (c : Content) × (e ≡ sealed c) × IsRunMessage registry l c
+    run_sealed : (e : Envelope) → In (published e) (seconds (queue_calls r.queue)) → (c : Content) × (e ≡ sealed c) × (opened (book_of l) e ≡ Some c) × IsRunMessage registry l c
     run_sealed e i =
         let good = in_each (GoodPublish (IsRunSealed (X registry l plan) (form registry l plan) (Does registry l plan) (order registry l plan) (value registry l plan) inner_run)) (seconds (queue_calls r.queue))
         (each_seconds (GoodPublish (IsRunSealed (X registry l plan) (form registry l plan) (Does registry l plan) (order registry l plan) (value registry l plan) inner_run)) (queue_calls r.queue)
         (publishes_right (X registry l plan) (form registry l plan) (Does registry l plan) (order registry l plan) (value registry l plan) inner_run)) (published e) i in
-        (good.0, good.1, good.4)
+        (good.0, good.1, ap (opened (book_of l)) good.1 ∙ (order registry l plan).opened good.0 good.3 good.2, good.4)
 
     opened_weight : (k : ℕ) (x : Option Content) → of_opened (X registry l plan) k x ≡ of_task l k x
     opened_weight k None = refl

@@ -11,9 +11,9 @@ use Rattle.canvas_message.specs.Effects.{first_messages}
 use Rattle.canvas_message.specs.Events.{In}
 use Rattle.canvas_message.specs.declared.envelope.Envelope.{Envelope}
 use Rattle.canvas_backend.specs.Backend.{Log, no_results, reply_of, next_of, May}
-use Rattle.canvas_backend.specs.Roster.{Roster, roster_of}
+use Rattle.canvas_backend.specs.Roster.{Roster, roster_of, members}
 use Rattle.canvas_broker.specs.Broker as broker
-use Rattle.canvas_runs.specs.Accounts.{splits_of, joins_of, broker_entries, backend_entries, HasEach, HasRows, Accounts, Ledger}
+use Rattle.canvas_runs.specs.Accounts.{splits_of, joins_of, broker_entries, backend_entries, HasQueueCalls, HasTableCalls, QueueAccounts, TableAccounts}
 use Rattle.canvas_runs.specs.Core.{IsCoreRun, taking, left_after, Between}
 use Rattle.canvas_runs.specs.Crew.{Mate, Ran, EndedWell, numbers_along as numbers, first_pass, first_seat}
 use Rattle.canvas_runs.specs.Following.{Pass, Seat, Stood, Serves, IsDone}
@@ -21,11 +21,11 @@ use Rattle.canvas_runs.specs.Calls.{BrokerCall, BackendCall, FollowsCore, follow
 use Rattle.canvas_runs.specs.Lists.{Each, by, seconds, total}
 use Rattle.canvas_runs.specs.Logs.{queue_calls, table_calls}
 use Rattle.canvas_runs.specs.Run.{Run, Closed, published_all}
-use Rattle.canvas_runs.specs.Worker.{working, sealed}
+use Rattle.canvas_runs.specs.Worker.{worker_of, sealed}
 use Rattle.canvas_runs.proofs.CallsOf.{queue_by, queue_append, queue_splits, queue_joins, queue_entries, table_by, table_append, table_splits, table_joins, table_rows}
 use Rattle.canvas_runs.proofs.Passes.{accounts}
 use Rattle.canvas_runs.proofs.Seats.{ledger}
-use Rattle.canvas_runs.proofs.Starting.{core_run_same, left_same, broker_calls_same, backend_calls_same, reads_members_same}
+use Rattle.canvas_runs.proofs.Starting.{core_run_same, left_same}
 use Rattle.canvas_runs.proofs.Sums.{total-append}
 use Rattle.canvas_runs.proofs.Words.{in_each, cond_cases}
 
@@ -53,7 +53,7 @@ module _ (registry : Registry) (l : Line) where
   F = first_messages l
 
   abbrev pub Course : Type 0
-  Course = List (AskedAndAnswered (working registry P))
+  Course = List (AskedAndAnswered Envelope Outcome)
 
   -- the core run of the worker of a number, of those from k on
   abbrev pub core_at : ℕ → List (Mate registry P) → ℕ → Course
@@ -66,12 +66,12 @@ module _ (registry : Registry) (l : Line) where
     there : In mate ms
     is : core ≡ mate.followed.run
     calls : made_by p queue ≡ broker_entries p mate.followed.made
-    replies : made_by p table ≡ backend_entries p (backend_calls (working registry P) mate.followed.run)
+    replies : made_by p table ≡ backend_entries p (backend_calls mate.followed.run)
 
   more_found : (p : ℕ) (m : Mate registry P) (ms : List (Mate registry P)) (core : Course) (queue : List (broker.QueueEntry Envelope)) (table : Log) → Found p ms core queue table → Found p (m ∷ ms) core queue table
   more_found p m ms core queue table f = record { mate = f.mate; there = inr f.there; is = f.is; calls = f.calls; replies = f.replies }
 
-  which : (k : ℕ) (ms : List (Mate registry P)) (queue : List (broker.QueueEntry Envelope)) (table : Log) → HasEach registry P k ms queue → HasRows registry P k ms table → (p : ℕ)
+  which : (k : ℕ) (ms : List (Mate registry P)) (queue : List (broker.QueueEntry Envelope)) (table : Log) → HasQueueCalls registry P k ms queue → HasTableCalls registry P k ms table → (p : ℕ)
       → Found p ms (core_at k ms p) queue table ⊎ ((core_at k ms p ≡ []) × (among p (numbers k ms) ≡ false))
   which k [] queue table h r p = inr (refl, refl)
   which k (m ∷ ms) queue table h r p =
@@ -82,7 +82,7 @@ module _ (registry : Registry) (l : Line) where
         there = inl refl;
         is = ap (λ b. cond b m.followed.run (core_at (suc k) ms p)) e;
         calls = subst (λ n. made_by n queue ≡ broker_entries n m.followed.made) same h.0;
-        replies = subst (λ n. made_by n table ≡ backend_entries n (backend_calls (working registry P) m.followed.run)) same r.0;
+        replies = subst (λ n. made_by n table ≡ backend_entries n (backend_calls m.followed.run)) same r.0;
       }))
       (λ (e : (k == p) ≡ false).
       let skip : core_at k (m ∷ ms) p ≡ core_at (suc k) ms p = ap (λ b. cond b m.followed.run (core_at (suc k) ms p)) e in
@@ -97,18 +97,18 @@ module _ (registry : Registry) (l : Line) where
     abbrev pub sent : List (BrokerCall Envelope)
     sent = published_all (map sealed r.opening)
 
-    pub passes : (pass.name ≡ 0) × Accounts registry P r.mates sent r.works.made the_queue
+    pub passes : (pass.name ≡ 0) × QueueAccounts registry P r.mates sent r.works.made the_queue
     passes =
-        subst (λ (x : Pass). (x.name ≡ 0) × Accounts registry P r.mates sent r.works.made (x.seen ++ x.owed)) (sym r.last)
+        subst (λ (x : Pass). (x.name ≡ 0) × QueueAccounts registry P r.mates sent r.works.made (x.seen ++ x.owed)) (sym r.last)
         (accounts registry P (first_pass r.queue) r.pass_parted r.pass_sent r.pass_joined r.own.pass r.mates sent r.works.made refl refl refl refl r.splits r.sends r.joins r.works.makes)
 
     abbrev pub zero_calls : List (BackendCall Outcome)
-    zero_calls = backend_calls (working registry P) r.works.run ++ r.closing
+    zero_calls = backend_calls r.works.run ++ r.closing
 
-    pub seats : Ledger registry P r.mates zero_calls seat.seen
+    pub seats : TableAccounts registry P r.mates zero_calls seat.seen
     seats =
         (ledger registry P (first_seat r.table) r.seat_parted r.seat_joined seat r.mates zero_calls refl refl r.seat_splits r.seat_joins
-        (serves_append (roster_of l) (backend_calls (working registry P) r.works.run) r.closing r.seat_joined r.own.seat seat r.works.serves r.ends)).1
+        (serves_append (roster_of l) (backend_calls r.works.run) r.closing r.seat_joined r.own.seat seat r.works.serves r.ends)).1
 
     abbrev pub core : ℕ → Course
     core p = cond (eqb p 0) r.works.run (core_at 1 r.mates p)
@@ -146,8 +146,8 @@ module _ (registry : Registry) (l : Line) where
     queue_mate : (p : ℕ) (f : Found p r.mates (core_at 1 r.mates p) the_queue seat.seen) → by p (queue_calls the_queue) ≡ f.mate.followed.made
     queue_mate p f = queue_by p the_queue ∙ (ap (λ x. seconds (queue_calls x)) f.calls ∙ queue_entries p f.mate.followed.made f.mate.followed.stood)
 
-    table_mate : (p : ℕ) (f : Found p r.mates (core_at 1 r.mates p) the_queue seat.seen) → by p (table_calls seat.seen) ≡ backend_calls (working registry P) f.mate.followed.run
-    table_mate p f = table_by p seat.seen ∙ (ap (λ x. seconds (table_calls x)) f.replies ∙ table_rows p (backend_calls (working registry P) f.mate.followed.run))
+    table_mate : (p : ℕ) (f : Found p r.mates (core_at 1 r.mates p) the_queue seat.seen) → by p (table_calls seat.seen) ≡ backend_calls f.mate.followed.run
+    table_mate p f = table_by p seat.seen ∙ (ap (λ x. seconds (table_calls x)) f.replies ∙ table_rows p (backend_calls f.mate.followed.run))
 
     queue_nobody : (p : ℕ) → Nobody p → by p (queue_calls the_queue) ≡ []
     queue_nobody p n = queue_by p the_queue ∙ ap (λ x. seconds (queue_calls x)) n.calls
@@ -165,21 +165,21 @@ module _ (registry : Registry) (l : Line) where
         (λ e. ⊎_elim (λ f. subst (λ x. P p x) (sym f.is) (b p e f)) (λ n. subst (λ x. P p x) (sym n.is) (c p e n)) (who p e))
 
     abbrev pub FollowsCourse : ℕ → Course → Type 0
-    FollowsCourse p x = FollowsCore [] (cond (eqb p 0) sent [] ++ broker_calls (working registry P) x) (by p (queue_calls the_queue))
+    FollowsCourse p x = FollowsCore [] (cond (eqb p 0) sent [] ++ broker_calls x) (by p (queue_calls the_queue))
 
     pub the_follows : (p : ℕ) → FollowsCourse p (core p)
     the_follows = for_all FollowsCourse
-        (subst (λ x. FollowsCore [] (sent ++ broker_calls (working registry P) r.works.run) x) (sym queue_zero) (follows_front (map sealed r.opening) (broker_calls (working registry P) r.works.run) r.works.made r.works.follows))
-        (λ p e f. subst (λ b. FollowsCore [] (cond b sent [] ++ broker_calls (working registry P) f.mate.followed.run) (by p (queue_calls the_queue))) (sym e)
-        (subst (λ x. FollowsCore [] (broker_calls (working registry P) f.mate.followed.run) x) (sym (queue_mate p f)) f.mate.followed.follows))
+        (subst (λ x. FollowsCore [] (sent ++ broker_calls r.works.run) x) (sym queue_zero) (follows_front (map sealed r.opening) (broker_calls r.works.run) r.works.made r.works.follows))
+        (λ p e f. subst (λ b. FollowsCore [] (cond b sent [] ++ broker_calls f.mate.followed.run) (by p (queue_calls the_queue))) (sym e)
+        (subst (λ x. FollowsCore [] (broker_calls f.mate.followed.run) x) (sym (queue_mate p f)) f.mate.followed.follows))
         (λ p e n. subst (λ b. FollowsCore [] (cond b sent [] ++ []) (by p (queue_calls the_queue))) (sym e) (subst (λ x. FollowsCore [] [] x) (sym (queue_nobody p n)) follows_all))
 
     abbrev pub KeepsCore : ℕ → Course → Type 0
-    KeepsCore p x = by p (table_calls seat.seen) ≡ backend_calls (working registry P) x ++ cond (eqb p 0) r.closing []
+    KeepsCore p x = by p (table_calls seat.seen) ≡ backend_calls x ++ cond (eqb p 0) r.closing []
 
     pub the_keeps : (p : ℕ) → KeepsCore p (core p)
     the_keeps = for_all KeepsCore table_zero
-        (λ p e f. table_mate p f ∙ (sym (append-nil (backend_calls (working registry P) f.mate.followed.run)) ∙ ap (λ b. backend_calls (working registry P) f.mate.followed.run ++ cond b r.closing []) (sym e)))
+        (λ p e f. table_mate p f ∙ (sym (append-nil (backend_calls f.mate.followed.run)) ∙ ap (λ b. backend_calls f.mate.followed.run ++ cond b r.closing []) (sym e)))
         (λ p e n. table_nobody p n ∙ ap (λ b. cond b r.closing []) (sym e))
 
     abbrev pub the_run : Run registry l
@@ -189,16 +189,16 @@ module _ (registry : Registry) (l : Line) where
       queue_legal = passes.1.legal;
       table_legal = seats.legal;
       core = core;
-      is_core = λ p. core_run_same registry P F taking (core p) (for_all (λ p x. IsCoreRun (working registry P) taking x) r.works.is_core (λ p e f. f.mate.followed.is_core) (λ p e n. tt) p);
-      reads = λ p. reads_members_same registry P F (core p) (for_all (λ p x. ReadsMembers (working registry P) x) r.works.reads (λ p e f. f.mate.followed.reads) (λ p e n. tt) p);
+      is_core = λ p. core_run_same registry P F taking (core p) (for_all (λ p x. IsCoreRun (worker_of registry P) taking x) r.works.is_core (λ p e f. f.mate.followed.is_core) (λ p e n. tt) p);
+      reads = λ p. for_all (λ p x. ReadsMembers (members P) x) r.works.reads (λ p e f. f.mate.followed.reads) (λ p e n. tt) p;
       opening = r.opening;
       unsent = r.unsent;
       closing = r.closing;
       opens = r.opens;
       opens_back = r.opens_back;
       closes = r.closes;
-      follows = λ p. subst (λ cs. FollowsCore [] (cond (eqb p 0) sent [] ++ cs) (by p (queue_calls the_queue))) (sym (broker_calls_same registry P F (core p))) (the_follows p);
-      keeps = λ p. the_keeps p ∙ ap (λ cs. cs ++ cond (eqb p 0) r.closing []) (sym (backend_calls_same registry P F (core p)));
+      follows = the_follows;
+      keeps = the_keeps;
     }
 
     module _ (w : EndedWell registry l pass seat r) where
@@ -209,25 +209,25 @@ module _ (registry : Registry) (l : Line) where
       all_used a b held e u = let none : length held ≡ 0 = ap length e in omega (arith, u, none)
 
       abbrev UsesAll : ℕ → Course → Type 0
-      UsesAll p x = total takes_one (by p (queue_calls the_queue)) ≡ total takes_one (broker_calls (working registry P) x)
+      UsesAll p x = total takes_one (by p (queue_calls the_queue)) ≡ total takes_one (broker_calls x)
 
       the_used : (p : ℕ) → UsesAll p (core p)
       the_used = for_all UsesAll
           (ap (λ x. total takes_one x) queue_zero ∙ (total-append takes_one sent r.works.made ∙ (
           let none = no_takes (map sealed r.opening) in
-          let used = all_used (total takes_one r.works.made) (total takes_one (broker_calls (working registry P) r.works.run)) r.own.held w.own.1 r.works.used in
+          let used = all_used (total takes_one r.works.made) (total takes_one (broker_calls r.works.run)) r.own.held w.own.1 r.works.used in
           omega (arith, none, used))))
           (λ p e f. ap (λ x. total takes_one x) (queue_mate p f)
-          ∙ all_used (total takes_one f.mate.followed.made) (total takes_one (broker_calls (working registry P) f.mate.followed.run)) f.mate.ended.held (mate_done f.mate f.there).1 f.mate.followed.used)
+          ∙ all_used (total takes_one f.mate.followed.made) (total takes_one (broker_calls f.mate.followed.run)) f.mate.ended.held (mate_done f.mate f.there).1 f.mate.followed.used)
           (λ p e n. ap (λ x. total takes_one x) (queue_nobody p n))
 
       pub the_closed : Closed registry l the_run
       the_closed = record {
         all_sent = w.all_sent;
         drained = w.empty (subst (λ n. Sole the_queue n) (sym passes.0) passes.1.sole);
-        all_used = λ p. the_used p ∙ ap (λ cs. total takes_one cs) (sym (broker_calls_same registry P F (core p)));
+        all_used = the_used;
         all_ended = λ p. subst (λ x. Between x) (sym (left_same registry P F taking (core p)))
-            (for_all (λ p x. Between (left_after (working registry P) taking x))
+            (for_all (λ p x. Between (left_after (worker_of registry P) taking x))
             (subst (λ x. Between x) (sym r.works.leaves) w.own.0)
             (λ p e f. subst (λ x. Between x) (sym f.mate.followed.leaves) (mate_done f.mate f.there).0)
             (λ p e n. tt) p);

@@ -108,7 +108,7 @@ module _ (X : Protocol) (Y : Goods X) where
         (λ full. settled_good _ false (k.completed g s.0 c fs s.1 (all_found g c fs s full) s.4))
         (λ more. s)
 
-    pub next_good : (s : Doing X) (r : Answer X) → GoodState s → reads_member X (ask X s) r → GoodAnswer r → GoodState (answered X s r)
+    pub next_good : (s : Doing X) (r : Answer X) → GoodState s → reads_member X.members (ask X s) r → GoodAnswer r → GoodState (answered X s r)
     next_good taking (taken None) p q g = tt
     next_good taking (taken (Some e)) p q g = opens_good (X.opened e) g
     next_good resting (rested true) p q g = tt
@@ -122,11 +122,11 @@ module _ (X : Protocol) (Y : Goods X) where
     next_good s r p q g = tt
 
     -- from a good state on each ask is good, as long as the answers before it are
-    pub keeps : (s : Doing X) (xs : List (Asked X × Answer X)) → GoodState s → IsCoreRun X s xs → ReadsMembers X xs → Careful xs
+    pub keeps : (s : Doing X) (xs : List (Asked X × Answer X)) → GoodState s → IsCoreRun X s xs → ReadsMembers X.members xs → Careful xs
     keeps s [] p run reads = tt
     keeps s (x ∷ xs) p run reads = (
       subst GoodAsk (sym run.0) (asks_good s p run.1.1),
-      λ good. keeps (answered X s x.1) xs (next_good s x.1 p (subst (λ a. reads_member X a x.1) run.0 reads.0) good) run.2 reads.1,
+      λ good. keeps (answered X s x.1) xs (next_good s x.1 p (subst (λ a. reads_member X.members a x.1) run.0 reads.0) good) run.2 reads.1,
     )
 
   pub goods_from_careful : (xs : List (Asked X × Answer X)) → Careful xs → Each (λ x. GoodAnswer x.1) xs → Each (λ x. GoodAsk x.0) xs

@@ -149,10 +149,10 @@ module _ (X : Protocol) where
     debt_settled (hand_in g t c ∷ js) false = omega arith
 
     abbrev sends_in : Asked X → Answer X → ℕ
-    sends_in a r = total (publishes_task k) (broker_call X a r)
+    sends_in a r = total (publishes_task k) (broker_call a r)
 
     abbrev shows_in : Asked X → Answer X → ℕ
-    shows_in a r = total (shows v) (backend_call X a r)
+    shows_in a r = total (shows v) (backend_call a r)
 
     read_step : (g : ℕ) (c : X.Carried) (fs : List (ℕ × X.Outcome)) → GoodState X (right_goods X F Does) (reading g c fs) → 0 + debt (all_read X g c fs) ≤ is_event (completion g) v + 0
     read_step g c fs state = go (eqb (length fs) (X.size c)) refl
@@ -166,7 +166,7 @@ module _ (X : Protocol) where
             omega arith
         go false more = omega arith
 
-    one_step : (s : Doing X) (r : Answer X) → GoodState X (right_goods X F Does) s → reads_member X (ask X s) r → GoodAnswer X (right_goods X F Does) r → ReadsBack X s →
+    one_step : (s : Doing X) (r : Answer X) → GoodState X (right_goods X F Does) s → reads_member X.members (ask X s) r → GoodAnswer X (right_goods X F Does) r → ReadsBack X s →
         sends_in (ask X s) r + debt (answered X s r) ≤ debt s + shows_in (ask X s) r
     one_step taking (taken None) p q g y = omega arith
     one_step taking (taken (Some e)) p q g y = go (X.opened e)
@@ -195,15 +195,15 @@ module _ (X : Protocol) where
     one_step s r p q g y = omega arith
 
     -- the calls of a core run publish the message of task k at most as often as they show its event
-    core_run : (s : Doing X) (xs : List (Asked X × Answer X)) → GoodState X (right_goods X F Does) s → IsCoreRun X s xs → ReadsMembers X xs → Each (λ x. GoodAnswer X (right_goods X F Does) x.1) xs →
-        total (publishes_task k) (broker_calls X xs) ≤ debt s + total (shows v) (backend_calls X xs)
+    core_run : (s : Doing X) (xs : List (Asked X × Answer X)) → GoodState X (right_goods X F Does) s → IsCoreRun X s xs → ReadsMembers X.members xs → Each (λ x. GoodAnswer X (right_goods X F Does) x.1) xs →
+        total (publishes_task k) (broker_calls xs) ≤ debt s + total (shows v) (backend_calls xs)
     core_run s [] p l q g = omega arith
     core_run s (x ∷ xs) p l q g =
-        let reads = subst (λ a. reads_member X a x.1) l.0 q.0 in
+        let reads = subst (λ a. reads_member X.members a x.1) l.0 q.0 in
         let later = core_run (answered X s x.1) xs (next_good X (right_goods X F Does) (right_closed X F Does order value) s x.1 p reads g.0) l.2 q.1 g.1 in
         let now : sends_in x.0 x.1 + debt (answered X s x.1) ≤ debt s + shows_in x.0 x.1 =
         subst (λ a. sends_in a x.1 + debt (answered X s x.1) ≤ debt s + shows_in a x.1) (sym l.0) (one_step s x.1 p reads g.0 l.1.1) in
-        omega (arith, total-append (publishes_task k) (broker_call X x.0 x.1) (broker_calls X xs), total-append (shows v) (backend_call X x.0 x.1) (backend_calls X xs))
+        omega (arith, total-append (publishes_task k) (broker_call x.0 x.1) (broker_calls xs), total-append (shows v) (backend_call x.0 x.1) (backend_calls xs))
 
     none_at_start : same_event start v ≡ false → (ms : List X.Message) → Each (λ m. Does start (publish m)) ms → total (names X k) ms ≡ 0
     none_at_start d [] a = refl
@@ -297,11 +297,11 @@ module _ (X : Protocol) where
       pub one_caller : (p : ℕ) → total (publishes_task k) (by p run.broker) ≤ opened_by p + total (shows v) (by p run.backend)
       one_caller p =
           let same = follows_total k (run.follows p) in
-          let parts = total-append (publishes_task k) (cond (eqb p 0) (published_all (map X.sealed run.opening)) []) (broker_calls X (run.core p)) in
+          let parts = total-append (publishes_task k) (cond (eqb p 0) (published_all (map X.sealed run.opening)) []) (broker_calls (run.core p)) in
           let first = start_by p (eqb p 0) in
           let core = core_run F Does order value once k v cause taking (run.core p) tt (run.is_core p) (run.reads p) (answers_right X F Does order value run p) in
-          let backend : total (shows v) (by p run.backend) ≡ total (shows v) (backend_calls X (run.core p)) + total (shows v) (cond (eqb p 0) run.closing []) =
-          ap (total (shows v)) (run.keeps p) ∙ total-append (shows v) (backend_calls X (run.core p)) (cond (eqb p 0) run.closing []) in
+          let backend : total (shows v) (by p run.backend) ≡ total (shows v) (backend_calls (run.core p)) + total (shows v) (cond (eqb p 0) run.closing []) =
+          ap (total (shows v)) (run.keeps p) ∙ total-append (shows v) (backend_calls (run.core p)) (cond (eqb p 0) run.closing []) in
           omega arith
 
       caused_once : total (publishes_task k) (seconds run.broker) ≤ 1

@@ -16,7 +16,7 @@ use Rattle.canvas_runs.proofs.Histories.{GoodPublish, GoodTake, CarefulCalls, fo
 
 module _ (X : Protocol) where
   AllSuit : List (Asked X × Answer X) → Type 0
-  AllSuit xs = Each (λ x. Suits X x.0 x.1) xs
+  AllSuit xs = Each (λ x. Suits x.0 x.1) xs
 
   suits_from_run : (s : Doing X) (xs : List (Asked X × Answer X)) → IsCoreRun X s xs → AllSuit xs
   unfolding AllSuit
@@ -25,8 +25,8 @@ module _ (X : Protocol) where
 
   -- from a core run to its calls
   module _ (Y : Goods X) (Good : X.Envelope → Type 0) (sends : (e : X.Envelope) → GoodAsk X Y (send e) → Good e) (takes : (e : X.Envelope) → Good e → GoodAnswer X Y (taken (Some e))) where
-    careful_step : (a : Asked X) (r : Answer X) (rest : List (BrokerCall X.Envelope)) → Suits X a r → ((t : ℕ) (o : X.Outcome) → Y.Found t o) →
-        GoodAsk X Y a → (GoodAnswer X Y r → CarefulCalls Good rest) → CarefulCalls Good (broker_call X a r ++ rest)
+    careful_step : (a : Asked X) (r : Answer X) (rest : List (BrokerCall X.Envelope)) → Suits a r → ((t : ℕ) (o : X.Outcome) → Y.Found t o) →
+        GoodAsk X Y a → (GoodAnswer X Y r → CarefulCalls Good rest) → CarefulCalls Good (broker_call a r ++ rest)
     careful_step take (taken None) rest s f g k = k tt
     careful_step take (taken (Some e)) rest s f g k = λ good. k (takes e good)
     careful_step (send e) sent rest s f g k = (sends e g, k tt)
@@ -38,14 +38,14 @@ module _ (X : Protocol) where
     careful_step pause (rested b) more s f g k = k tt
     careful_step a r rest s f g k = elim s [ ]
 
-    careful_calls : (xs : List (Asked X × Answer X)) → AllSuit xs → ((t : ℕ) (o : X.Outcome) → Y.Found t o) → Careful X Y xs → CarefulCalls Good (broker_calls X xs)
+    careful_calls : (xs : List (Asked X × Answer X)) → AllSuit xs → ((t : ℕ) (o : X.Outcome) → Y.Found t o) → Careful X Y xs → CarefulCalls Good (broker_calls xs)
     unfolding AllSuit
     careful_calls [] s f k = tt
-    careful_calls (x ∷ xs) s f k = careful_step x.0 x.1 (broker_calls X xs) s.0 f k.0 (λ g. careful_calls xs s.1 f (k.1 g))
+    careful_calls (x ∷ xs) s f k = careful_step x.0 x.1 (broker_calls xs) s.0 f k.0 (λ g. careful_calls xs s.1 f (k.1 g))
 
   -- good takes and good reads make good answers
   module _ (Y : Goods X) (Good : X.Envelope → Type 0) (takes : (e : X.Envelope) → Good e → GoodAnswer X Y (taken (Some e))) where
-    answer_step : (a : Asked X) (r : Answer X) → Suits X a r → Each (GoodTake Good) (broker_call X a r) → Each (GoodRead Y.Found) (backend_call X a r) → GoodAnswer X Y r
+    answer_step : (a : Asked X) (r : Answer X) → Suits a r → Each (GoodTake Good) (broker_call a r) → Each (GoodRead Y.Found) (backend_call a r) → GoodAnswer X Y r
     answer_step take (taken None) s g k = tt
     answer_step take (taken (Some e)) s g k = takes e g.0
     answer_step (read n i) (found t None) s g k = tt
@@ -57,7 +57,7 @@ module _ (X : Protocol) where
     answer_step pause (rested b) s g k = tt
     answer_step a r s g k = elim s [ ]
 
-    good_answers : (xs : List (Asked X × Answer X)) → AllSuit xs → Each (GoodTake Good) (broker_calls X xs) → Each (GoodRead Y.Found) (backend_calls X xs) → Each (λ x. GoodAnswer X Y x.1) xs
+    good_answers : (xs : List (Asked X × Answer X)) → AllSuit xs → Each (GoodTake Good) (broker_calls xs) → Each (GoodRead Y.Found) (backend_calls xs) → Each (λ x. GoodAnswer X Y x.1) xs
     unfolding AllSuit
     good_answers [] s g k = tt
     good_answers (x ∷ xs) s g k = (
@@ -66,24 +66,24 @@ module _ (X : Protocol) where
     )
 
   module _ (Y : Goods X) (Good : X.Envelope → Type 0) (sends : (e : X.Envelope) → GoodAsk X Y (send e) → Good e) where
-    publish_step : (a : Asked X) (r : Answer X) → GoodAsk X Y a → Each (GoodPublish Good) (broker_call X a r)
+    publish_step : (a : Asked X) (r : Answer X) → GoodAsk X Y a → Each (GoodPublish Good) (broker_call a r)
     publish_step (send e) sent g = (sends e g, tt)
     publish_step take (taken (Some e)) g = (tt, tt)
     publish_step a r g = tt
 
-    good_publishes : (xs : List (Asked X × Answer X)) → Each (λ x. GoodAsk X Y x.0) xs → Each (GoodPublish Good) (broker_calls X xs)
+    good_publishes : (xs : List (Asked X × Answer X)) → Each (λ x. GoodAsk X Y x.0) xs → Each (GoodPublish Good) (broker_calls xs)
     good_publishes [] g = tt
     good_publishes (x ∷ xs) g = each_append (GoodPublish Good) _ _ (publish_step x.0 x.1 g.0) (good_publishes xs g.1)
 
   module _ (Y : Goods X) where
-    first_step : (a : Asked X) (r : Answer X) → GoodAsk X Y a → Each (GoodFirst Y.Kept) (backend_call X a r)
+    first_step : (a : Asked X) (r : Answer X) → GoodAsk X Y a → Each (GoodFirst Y.Kept) (backend_call a r)
     first_step (keep t o) (kept true) g = (g, tt)
     first_step (keep t o) (kept false) g = (tt, tt)
     first_step (part n t) (counted i) g = (tt, tt)
     first_step (read n i) (found t o) g = (tt, tt)
     first_step a r g = tt
 
-    good_firsts : (xs : List (Asked X × Answer X)) → Each (λ x. GoodAsk X Y x.0) xs → Each (GoodFirst Y.Kept) (backend_calls X xs)
+    good_firsts : (xs : List (Asked X × Answer X)) → Each (λ x. GoodAsk X Y x.0) xs → Each (GoodFirst Y.Kept) (backend_calls xs)
     good_firsts [] g = tt
     good_firsts (x ∷ xs) g = each_append (GoodFirst Y.Kept) _ _ (first_step x.0 x.1 g.0) (good_firsts xs g.1)
 
@@ -122,7 +122,7 @@ module _ (X : Protocol) (F : Form X) (Does : Event → JobOf X → Type 0) (orde
 
 module _ (X : Protocol) (F : Form X) (Does : Event → JobOf X → Type 0) (order : Ordered X F) (value : Evaluates X Does F) (run : Run X) where
   abbrev Calls : ℕ → List (BrokerCall X.Envelope)
-  Calls p = cond (eqb p 0) (published_all (map X.sealed run.opening)) [] ++ broker_calls X (run.core p)
+  Calls p = cond (eqb p 0) (published_all (map X.sealed run.opening)) [] ++ broker_calls (run.core p)
 
   all_suit : (p : ℕ) → AllSuit X (run.core p)
   all_suit p = suits_from_run X taking (run.core p) (run.is_core p)
@@ -235,14 +235,14 @@ module _ (X : Protocol) (F : Form X) (Does : Event → JobOf X → Type 0) (orde
   RightBelow r = Each (λ x. GoodPublish (Sealed (TakenBelow r)) x.1) run.broker × Each (GoodFirst (HasBelow r)) (seconds run.backend)
 
   -- the takes and the reads of one caller
-  takes_good : (r : ℕ) (p : ℕ) → RightBelow r → Each (GoodTake (Sealed (TakenBelow r))) (broker_calls X (run.core p))
+  takes_good : (r : ℕ) (p : ℕ) → RightBelow r → Each (GoodTake (Sealed (TakenBelow r))) (broker_calls (run.core p))
   takes_good r p k =
       let all : Each (GoodTake (Sealed (TakenBelow r))) (seconds run.broker) =
       queue_takes (Sealed (TakenBelow r)) [] (seconds run.broker) run.queue tt (each_seconds (GoodPublish (Sealed (TakenBelow r))) run.broker k.0) in
       each_right (GoodTake (Sealed (TakenBelow r))) (cond (eqb p 0) (published_all (map X.sealed run.opening)) []) _
       (follows_takes (Sealed (TakenBelow r)) (run.follows p) tt (each_by (GoodTake (Sealed (TakenBelow r))) p run.broker all))
 
-  reads_good : (r : ℕ) (p : ℕ) → RightBelow r → Each (GoodRead (HasBelow r)) (backend_calls X (run.core p))
+  reads_good : (r : ℕ) (p : ℕ) → RightBelow r → Each (GoodRead (HasBelow r)) (backend_calls (run.core p))
   reads_good r p k =
       each_left (GoodRead (HasBelow r)) _ _ (subst (Each (GoodRead (HasBelow r))) (run.keeps p)
       (each_by (GoodRead (HasBelow r)) p run.backend (table_reads (HasBelow r) [] [] (seconds run.backend) run.table tt k.1)))
@@ -279,7 +279,7 @@ module _ (X : Protocol) (F : Form X) (Does : Event → JobOf X → Type 0) (orde
   one_rank r k = (
     each_entry (GoodPublish (Sealed (TakenBelow (suc r)))) run.broker (each_from_by (GoodPublish (Sealed (TakenBelow (suc r)))) run.broker (λ p. publishes_below r p k)),
     each_from_by (GoodFirst (HasBelow (suc r))) run.backend (λ p. subst (Each (GoodFirst (HasBelow (suc r)))) (sym (run.keeps p))
-        (each_append (GoodFirst (HasBelow (suc r))) (backend_calls X (run.core p)) _
+        (each_append (GoodFirst (HasBelow (suc r))) (backend_calls (run.core p)) _
         (good_firsts X (goods r) (run.core p) (asks_below r p k)) (closing_below (suc r) (eqb p 0)))),
   )
 
@@ -350,13 +350,13 @@ module _ (X : Protocol) (F : Form X) (Does : Event → JobOf X → Type 0) (orde
   CallRight (returned g t n) = (c : X.Carried) × IsReturned X Does g t c
   CallRight (has_read t o) = Unit
 
-  return_step : (a : Asked X) (r : Answer X) → GoodAsk X (right_goods X F Does) a → Each CallRight (backend_call X a r)
+  return_step : (a : Asked X) (r : Answer X) → GoodAsk X (right_goods X F Does) a → Each CallRight (backend_call a r)
   return_step (keep t o) (kept b) g = (g, tt)
   return_step (part n t) (counted i) g = ((g.0, g.1.1), tt)
   return_step (read n i) (found t o) g = (tt, tt)
   return_step a r g = tt
 
-  return_steps : (xs : List (Asked X × Answer X)) → Each (λ x. GoodAsk X (right_goods X F Does) x.0) xs → Each CallRight (backend_calls X xs)
+  return_steps : (xs : List (Asked X × Answer X)) → Each (λ x. GoodAsk X (right_goods X F Does) x.0) xs → Each CallRight (backend_calls xs)
   return_steps [] g = tt
   return_steps (x ∷ xs) g = each_append CallRight _ _ (return_step x.0 x.1 g.0) (return_steps xs g.1)
 
@@ -372,7 +372,7 @@ module _ (X : Protocol) (F : Form X) (Does : Event → JobOf X → Type 0) (orde
   -- each outcome stored, First or Again, is the task's, and each part returned is one of the plan's
   pub calls_right : Each CallRight (seconds run.backend)
   calls_right = each_from_by CallRight run.backend (λ p. subst (Each CallRight) (sym (run.keeps p))
-      (each_append CallRight (backend_calls X (run.core p)) _
+      (each_append CallRight (backend_calls (run.core p)) _
       (return_steps (run.core p) (goods_from_careful X (right_goods X F Does) (run.core p)
       (keeps X (right_goods X F Does) (right_closed X F Does order value) taking (run.core p) tt (run.is_core p) (run.reads p)) (answers_right p)))
       (closing_returned (eqb p 0))))

@@ -11,7 +11,7 @@ pub record Run (X : Protocol) : Type 0 where
   pub workers : ℕ
   pub broker : List (ℕ × BrokerCall X.Envelope)
   pub backend : List (ℕ × BackendCall X.Outcome)
-  pub core : ℕ → List (AskedAndAnswered X)
+  pub core : ℕ → List (AskedAndAnswered X.Envelope X.Outcome)
   -- what worker 0 publishes before all else and what is left of the first messages, and what it reads at the end
   pub opening : List X.Message
   pub unsent : List X.Message
@@ -24,6 +24,6 @@ pub record Run (X : Protocol) : Type 0 where
   pub queue : IsQueue [] (seconds broker)
   pub table : IsTable [] [] (seconds backend)
   pub is_core : (p : ℕ) → IsCoreRun X taking (core p)
-  pub reads : (p : ℕ) → ReadsMembers X (core p)
-  pub follows : (p : ℕ) → FollowsCore [] (cond (eqb p 0) (published_all (map X.sealed opening)) [] ++ broker_calls X (core p)) (by p broker)
-  pub keeps : (p : ℕ) → by p backend ≡ backend_calls X (core p) ++ cond (eqb p 0) closing []
+  pub reads : (p : ℕ) → ReadsMembers X.members (core p)
+  pub follows : (p : ℕ) → FollowsCore [] (cond (eqb p 0) (published_all (map X.sealed opening)) [] ++ broker_calls (core p)) (by p broker)
+  pub keeps : (p : ℕ) → by p backend ≡ backend_calls (core p) ++ cond (eqb p 0) closing []

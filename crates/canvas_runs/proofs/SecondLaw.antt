@@ -5,7 +5,7 @@ use Rattle.canvas_task.specs.Apply.{Registry}
 use Rattle.canvas_task.specs.declared.outcome.Outcome.{Outcome}
 use Rattle.canvas_semantics.specs.Evaluation as eval
 use Rattle.canvas_semantics.specs.Line.{Line, members, size}
-use Rattle.canvas_rewrite.specs.FrozenView.{Load}
+use Rattle.canvas_rewrite.specs.FrozenView.{PCarried}
 use Rattle.canvas_rewrite.specs.Planned.{IsPlan}
 use Rattle.canvas_rewrite.proofs.Members.{plan_apart}
 use Rattle.canvas_message.specs.Content.{Content, number_of}
@@ -27,7 +27,7 @@ use Rattle.canvas_runs.proofs.Backing.{open_none}
 use Rattle.canvas_runs.proofs.Bridges.{drained_is, stored_stays}
 use Rattle.canvas_runs.proofs.Canvas as plan_facts
 use Rattle.canvas_runs.proofs.Canvas.{messages_of, total-same}
-use Rattle.canvas_runs.proofs.Carrying.{content, sent, all_sent, load}
+use Rattle.canvas_runs.proofs.Carrying.{content, sent, all_sent, p_carried}
 use Rattle.canvas_runs.proofs.Drained.{IsDone, first_done, published_done, header_done}
 use Rattle.canvas_runs.proofs.Effects.{Jobs, enter, after, body_after, outcome_of}
 use Rattle.canvas_runs.proofs.Evaluation as evaluation
@@ -52,7 +52,7 @@ in_total w [] x i = elim i [ ]
 in_total w (y ∷ xs) x (inl e) = let h = ap w e in omega arith
 in_total w (y ∷ xs) x (inr i) = let h = in_total w xs x i in omega arith
 
-each_unsent : (P : Job Content Load Outcome → Type 0) (js : Jobs) → Each P (all_sent js) → Each (λ x. P (sent x)) js
+each_unsent : (P : Job Content PCarried Outcome → Type 0) (js : Jobs) → Each P (all_sent js) → Each (λ x. P (sent x)) js
 each_unsent P [] a = tt
 each_unsent P (j ∷ js) a = (a.0, each_unsent P js a.1)
 
@@ -60,7 +60,7 @@ module _ (registry : Registry) (l : Line) (plan : IsPlan l) (r : Run registry l)
   drained : IsDrained [] (seconds (queue_calls r.queue))
   drained = drained_is [] r.queue [] refl r.queue_legal c.drained
 
-  abbrev Finished : Job Content Load Outcome → Type 0
+  abbrev Finished : Job Content PCarried Outcome → Type 0
   Finished j = IsDone (X registry l plan) (form registry l plan) (Does registry l plan) (order registry l plan) (value registry l plan) (once registry l plan) (keeping registry l plan) (its_backs registry l plan) (inner_run registry l plan r) c.all_sent drained c.all_used c.all_ended j
 
   -- ---- as the proof has the jobs, with their form
@@ -106,7 +106,7 @@ module _ (registry : Registry) (l : Line) (plan : IsPlan l) (r : Run registry l)
   completes : (g k : ℕ) (d : Carried) → Distinct (members l g) → length (members l g) ≡ suc k → Each (λ t. Made (hand_in g t d)) (members l g)
       → (fs : List (ℕ × Outcome)) × (firsts fs ≡ members l g) × Each (λ f. Kept registry (members l) (evaluation.evaluated registry l) f.0 f.1) fs × Each Made (body_after d fs)
   completes g k d distinct many all =
-      let done = header_done (X registry l plan) (form registry l plan) (Does registry l plan) (order registry l plan) (value registry l plan) (once registry l plan) (keeping registry l plan) (its_backs registry l plan) (inner_run registry l plan r) c.all_sent drained c.all_used c.all_ended g k (load d) distinct many
+      let done = header_done (X registry l plan) (form registry l plan) (Does registry l plan) (order registry l plan) (value registry l plan) (once registry l plan) (keeping registry l plan) (its_backs registry l plan) (inner_run registry l plan r) c.all_sent drained c.all_used c.all_ended g k (p_carried d) distinct many
       (each_weaker (λ t h. h.0) (members l g) all) in
       let one = some_member g k d (members l g) many all in
       let jobs : Each Finished (all_sent (body_after d done.0)) = subst (Each Finished) (completed_script (members l) (p registry l plan).limit g one.0 d done.0 one.1.0) done.3 in (
@@ -153,7 +153,7 @@ module _ (registry : Registry) (l : Line) (plan : IsPlan l) (r : Run registry l)
   all_made : Each (λ i. Made i.1) (evaluation.evaluated registry l)
   all_made = items_done registry (members l) Made (evaluation.evaluated registry l) script completes (plan_facts.one_outcome registry (p registry l plan)) l (run no_input) nowhere 0 start 1 (p registry l plan).limit (p registry l plan).numbered (λ i z. z) started
 
-  finished : (v : Event) (j : Job Content Load Outcome) → Does registry l plan v j → Finished j
+  finished : (v : Event) (j : Job Content PCarried Outcome) → Does registry l plan v j → Finished j
   finished v j i =
       let x = facts.does_back registry l plan v j i in
       subst Finished (sym x.1) (in_each (λ i. Made i.1) (evaluation.evaluated registry l) all_made (v, x.0) x.2).0

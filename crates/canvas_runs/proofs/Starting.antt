@@ -1,29 +1,29 @@
 -- What a worker does doesn't hang on the first messages.
-use Rattle.std.proofs.Common.{◌≡◌, ℕ, Bool, true, false, cond, eqb, List, [], ◌∷◌, ◌++◌, length, Option, Some, None, refl, sym, ap, ap₂, subst, ◌∙◌}
+use Rattle.std.proofs.Common.{◌≡◌, ℕ, Bool, true, false, cond, eqb, List, [], ◌∷◌, ◌++◌, length, Option, Some, None, refl, sym, ap, subst, ◌∙◌}
 use Rattle.canvas_task.specs.Apply.{Registry}
 use Rattle.canvas_task.specs.declared.outcome.Outcome.{Outcome}
-use Rattle.canvas_rewrite.specs.FrozenView.{Load}
+use Rattle.canvas_rewrite.specs.FrozenView.{PCarried}
 use Rattle.canvas_message.specs.Content.{Content}
 use Rattle.canvas_message.specs.Job.{Job, store, publish, hand_in}
 use Rattle.canvas_message.specs.declared.envelope.Envelope.{Envelope}
 use Rattle.canvas_backend.specs.Roster.{Roster}
-use Rattle.canvas_runs.specs.Core.{Ask, Reply, take, send, keep, part, read, pause, taken, sent, refused, kept, counted, found, rested, CoreState, taking, resting, over, failed, owning, doing, reading, is_due, settled, opens, owned, job_done, all_read, ask, answered, Suits, ReadsBack, left_after, IsCoreRun}
+use Rattle.canvas_runs.specs.Core.{Ask, Reply, taken, sent, kept, counted, found, rested, CoreState, taking, resting, over, failed, owning, doing, reading, is_due, settled, opens, owned, job_done, all_read, ask, answered, ReadsBack, left_after, IsCoreRun}
 use Rattle.canvas_runs.specs.Protocol.{Protocol}
-use Rattle.canvas_runs.specs.Calls.{AskedAndAnswered, broker_call, backend_call, broker_calls, backend_calls, reads_member, ReadsMembers}
-use Rattle.canvas_runs.specs.Worker.{worker_on, working}
+use Rattle.canvas_runs.specs.Calls.{AskedAndAnswered}
+use Rattle.canvas_runs.specs.Worker.{worker_on, worker_of}
 
 module _ (registry : Registry) (plan : Roster) (ms : List Content) where
   abbrev X : Protocol
-  X = working registry plan
+  X = worker_of registry plan
 
   abbrev Y : Protocol
   Y = worker_on registry plan ms
 
   abbrev Left : Type 0
-  Left = CoreState Content Load Outcome
+  Left = CoreState Content PCarried Outcome
 
   abbrev Jobs : Type 0
-  Jobs = List (Job Content Load Outcome)
+  Jobs = List (Job Content PCarried Outcome)
 
   abbrev Asks : Type 0
   Asks = Ask Envelope Outcome
@@ -48,10 +48,10 @@ module _ (registry : Registry) (plan : Roster) (ms : List Content) where
   owned_same m true = settled_same (X.ended m (X.outcome m)) true
   owned_same m false = refl
 
-  all_read_same : (g : ℕ) (c : Load) (fs : List (ℕ × Outcome)) → all_read Y g c fs ≡ all_read X g c fs
+  all_read_same : (g : ℕ) (c : PCarried) (fs : List (ℕ × Outcome)) → all_read Y g c fs ≡ all_read X g c fs
   all_read_same g c fs = ap (λ s. cond (eqb (length fs) (X.size c)) s (reading g c fs)) (settled_same (X.completed c fs) false)
 
-  job_done_same : (j : Job Content Load Outcome) (js : Jobs) (b : Bool) (r : Answers) → job_done Y j js b r ≡ job_done X j js b r
+  job_done_same : (j : Job Content PCarried Outcome) (js : Jobs) (b : Bool) (r : Answers) → job_done Y j js b r ≡ job_done X j js b r
   job_done_same (store t o) js b (kept a) = settled_same js (cond (is_due t js) a b)
   job_done_same (publish m) js b sent = settled_same js b
   job_done_same (hand_in g t c) js b (counted n) = refl
@@ -80,52 +80,15 @@ module _ (registry : Registry) (plan : Roster) (ms : List Content) where
   ask_same (doing (hand_in g t c ∷ js) b) = refl
   ask_same (reading g c fs) = refl
 
-  suits_same : (a : Asks) (r : Answers) → Suits X a r → Suits Y a r
-  suits_same take (taken x) h = h
-  suits_same (send e) sent h = h
-  suits_same (send e) refused h = h
-  suits_same (keep t o) (kept a) h = h
-  suits_same (part g t) (counted n) h = h
-  suits_same (read g i) (found t x) h = h
-  suits_same pause (rested a) h = h
-  suits_same a r h = h
-
   back_same : (s : Left) → ReadsBack X s → ReadsBack Y s
   back_same (doing (publish m ∷ js) b) h = h
   back_same s h = h
 
-  pub core_run_same : (s : Left) (xs : List (AskedAndAnswered X)) → IsCoreRun X s xs → IsCoreRun Y s xs
+  pub core_run_same : (s : Left) (xs : List (AskedAndAnswered Envelope Outcome)) → IsCoreRun X s xs → IsCoreRun Y s xs
   core_run_same s [] r = tt
   core_run_same s (x ∷ xs) r =
-      (r.0 ∙ sym (ask_same s), (suits_same x.0 x.1 r.1.0, back_same s r.1.1), subst (λ u. IsCoreRun Y u xs) (sym (answered_same s x.1)) (core_run_same (answered X s x.1) xs r.2))
+      (r.0 ∙ sym (ask_same s), (r.1.0, back_same s r.1.1), subst (λ u. IsCoreRun Y u xs) (sym (answered_same s x.1)) (core_run_same (answered X s x.1) xs r.2))
 
-  pub left_same : (s : Left) (xs : List (AskedAndAnswered X)) → left_after Y s xs ≡ left_after X s xs
+  pub left_same : (s : Left) (xs : List (AskedAndAnswered Envelope Outcome)) → left_after Y s xs ≡ left_after X s xs
   left_same s [] = refl
   left_same s (x ∷ xs) = ap (λ u. left_after Y u xs) (answered_same s x.1) ∙ left_same (answered X s x.1) xs
-
-  broker_call_same : (a : Asks) (r : Answers) → broker_call Y a r ≡ broker_call X a r
-  broker_call_same take (taken (Some e)) = refl
-  broker_call_same (send e) sent = refl
-  broker_call_same a r = refl
-
-  backend_call_same : (a : Asks) (r : Answers) → backend_call Y a r ≡ backend_call X a r
-  backend_call_same (keep t o) (kept b) = refl
-  backend_call_same (part g t) (counted n) = refl
-  backend_call_same (read g i) (found t x) = refl
-  backend_call_same a r = refl
-
-  reads_same : (a : Asks) (r : Answers) → reads_member X a r → reads_member Y a r
-  reads_same (read g i) (found t x) h = h
-  reads_same a r h = h
-
-  pub broker_calls_same : (xs : List (AskedAndAnswered X)) → broker_calls Y xs ≡ broker_calls X xs
-  broker_calls_same [] = refl
-  broker_calls_same (x ∷ xs) = ap₂ (λ a b. a ++ b) (broker_call_same x.0 x.1) (broker_calls_same xs)
-
-  pub backend_calls_same : (xs : List (AskedAndAnswered X)) → backend_calls Y xs ≡ backend_calls X xs
-  backend_calls_same [] = refl
-  backend_calls_same (x ∷ xs) = ap₂ (λ a b. a ++ b) (backend_call_same x.0 x.1) (backend_calls_same xs)
-
-  pub reads_members_same : (xs : List (AskedAndAnswered X)) → ReadsMembers X xs → ReadsMembers Y xs
-  reads_members_same [] h = tt
-  reads_members_same (x ∷ xs) h = (reads_same x.0 x.1 h.0, reads_members_same xs h.1)

@@ -113,10 +113,10 @@ module _ (X : Protocol) where
     counted_takes n = cond (same_event (running k) v) n 0
 
     abbrev stores_in : Asked X → Answer X → ℕ
-    stores_in a r = total (stores_task k) (backend_call X a r)
+    stores_in a r = total (stores_task k) (backend_call a r)
 
     abbrev shown_in : Asked X → Answer X → ℕ
-    shown_in a r = total (shows X v) (backend_call X a r) + counted_takes (total (takes_task k) (broker_call X a r))
+    shown_in a r = total (shows X v) (backend_call a r) + counted_takes (total (takes_task k) (broker_call a r))
 
     read_step : (g : ℕ) (c : X.Carried) (fs : List (ℕ × X.Outcome)) → GoodState X (right_goods X F Does) (reading g c fs) → debt (all_read X g c fs) ≤ is_event (completion g) v
     read_step g c fs state = go (eqb (length fs) (X.size c)) refl
@@ -142,7 +142,7 @@ module _ (X : Protocol) where
         go true = refl
         go false = refl
 
-    one_step : (s : Doing X) (r : Answer X) → GoodState X (right_goods X F Does) s → reads_member X (ask X s) r → GoodAnswer X (right_goods X F Does) r →
+    one_step : (s : Doing X) (r : Answer X) → GoodState X (right_goods X F Does) s → reads_member X.members (ask X s) r → GoodAnswer X (right_goods X F Does) r →
         stores_in (ask X s) r + debt (answered X s r) ≤ debt s + shown_in (ask X s) r
     one_step taking (taken None) p q g = omega arith
     one_step taking (taken (Some e)) p q g = let h = taken_step (X.opened e) in omega (arith, counted_plus (of_opened X k (X.opened e)) 0)
@@ -166,17 +166,17 @@ module _ (X : Protocol) where
     one_step (reading n c fs) (found t None) p q g = omega arith
     one_step s r p q g = omega arith
 
-    core_run : (s : Doing X) (xs : List (Asked X × Answer X)) → GoodState X (right_goods X F Does) s → IsCoreRun X s xs → ReadsMembers X xs → Each (λ x. GoodAnswer X (right_goods X F Does) x.1) xs →
-        total (stores_task k) (backend_calls X xs) ≤ debt s + (total (shows X v) (backend_calls X xs) + counted_takes (total (takes_task k) (broker_calls X xs)))
+    core_run : (s : Doing X) (xs : List (Asked X × Answer X)) → GoodState X (right_goods X F Does) s → IsCoreRun X s xs → ReadsMembers X.members xs → Each (λ x. GoodAnswer X (right_goods X F Does) x.1) xs →
+        total (stores_task k) (backend_calls xs) ≤ debt s + (total (shows X v) (backend_calls xs) + counted_takes (total (takes_task k) (broker_calls xs)))
     core_run s [] p l q g = omega arith
     core_run s (x ∷ xs) p l q g =
-        let reads = subst (λ a. reads_member X a x.1) l.0 q.0 in
+        let reads = subst (λ a. reads_member X.members a x.1) l.0 q.0 in
         let later = core_run (answered X s x.1) xs (next_good X (right_goods X F Does) (right_closed X F Does order value) s x.1 p reads g.0) l.2 q.1 g.1 in
         let now : stores_in x.0 x.1 + debt (answered X s x.1) ≤ debt s + shown_in x.0 x.1 =
         subst (λ a. stores_in a x.1 + debt (answered X s x.1) ≤ debt s + shown_in a x.1) (sym l.0) (one_step s x.1 p reads g.0) in
-        let taken : counted_takes (total (takes_task k) (broker_call X x.0 x.1 ++ broker_calls X xs)) ≡ counted_takes (total (takes_task k) (broker_call X x.0 x.1)) + counted_takes (total (takes_task k) (broker_calls X xs)) =
-        ap counted_takes (total-append (takes_task k) (broker_call X x.0 x.1) (broker_calls X xs)) ∙ counted_plus _ _ in
-        omega (arith, total-append (stores_task k) (backend_call X x.0 x.1) (backend_calls X xs), total-append (shows X v) (backend_call X x.0 x.1) (backend_calls X xs))
+        let taken : counted_takes (total (takes_task k) (broker_call x.0 x.1 ++ broker_calls xs)) ≡ counted_takes (total (takes_task k) (broker_call x.0 x.1)) + counted_takes (total (takes_task k) (broker_calls xs)) =
+        ap counted_takes (total-append (takes_task k) (broker_call x.0 x.1) (broker_calls xs)) ∙ counted_plus _ _ in
+        omega (arith, total-append (stores_task k) (backend_call x.0 x.1) (backend_calls xs), total-append (shows X v) (backend_call x.0 x.1) (backend_calls xs))
 
   module _ (F : Form X) (Does : Event → JobOf X → Type 0) (order : Ordered X F) (value : Evaluates X Does F) (once : Once X Does F) (keeping : KeptOnce X Does F) (run : Run X) where
     module _ (k : ℕ) (v : Event) (cause : (e : Event) (o : X.Outcome) → Does e (store k o) → e ≡ v) where
@@ -197,13 +197,13 @@ module _ (X : Protocol) where
       one_caller p =
           let core = core_run F Does order value keeping k v cause taking (run.core p) tt (run.is_core p) (run.reads p) (answers_right X F Does order value run p) in
           let opening : List (BrokerCall X.Envelope) = cond (eqb p 0) (published_all (map X.sealed run.opening)) [] in
-          let mine : total (takes_task k) (broker_calls X (run.core p)) ≤ total (takes_task k) (by p run.broker) =
-          omega (arith, follows_taken k (run.follows p), total-append (takes_task k) opening (broker_calls X (run.core p)), nothing_taken) in
+          let mine : total (takes_task k) (broker_calls (run.core p)) ≤ total (takes_task k) (by p run.broker) =
+          omega (arith, follows_taken k (run.follows p), total-append (takes_task k) opening (broker_calls (run.core p)), nothing_taken) in
           let takes = counted (same_event (running k) v) _ _ mine in
-          let stores : total (stores_task k) (by p run.backend) ≡ total (stores_task k) (backend_calls X (run.core p)) + total (stores_task k) (cond (eqb p 0) run.closing []) =
-          ap (total (stores_task k)) (run.keeps p) ∙ total-append (stores_task k) (backend_calls X (run.core p)) _ in
-          let backend : total (shows X v) (by p run.backend) ≡ total (shows X v) (backend_calls X (run.core p)) + total (shows X v) (cond (eqb p 0) run.closing []) =
-          ap (total (shows X v)) (run.keeps p) ∙ total-append (shows X v) (backend_calls X (run.core p)) _ in
+          let stores : total (stores_task k) (by p run.backend) ≡ total (stores_task k) (backend_calls (run.core p)) + total (stores_task k) (cond (eqb p 0) run.closing []) =
+          ap (total (stores_task k)) (run.keeps p) ∙ total-append (stores_task k) (backend_calls (run.core p)) _ in
+          let backend : total (shows X v) (by p run.backend) ≡ total (shows X v) (backend_calls (run.core p)) + total (shows X v) (cond (eqb p 0) run.closing []) =
+          ap (total (shows X v)) (run.keeps p) ∙ total-append (shows X v) (backend_calls (run.core p)) _ in
           omega (arith, closing_none (eqb p 0))
         where
           nothing_taken : taken_total k [] ≡ 0

@@ -8,7 +8,7 @@ use Rattle.canvas_message.specs.Content.{Content}
 use Rattle.canvas_message.specs.declared.envelope.Envelope.{Envelope}
 use Rattle.canvas_backend.specs.Roster.{Roster, roster_of}
 use Rattle.canvas_broker.specs.Broker.{QueueEntry as Entries}
-use Rattle.canvas_runs.specs.Accounts.{HasEach, HasRows}
+use Rattle.canvas_runs.specs.Accounts.{HasQueueCalls, HasTableCalls}
 use Rattle.canvas_runs.specs.Book.{book_on}
 use Rattle.canvas_runs.specs.Core.{Ask, Reply, take, send, keep, part, read, taken, sent, kept, counted, found}
 use Rattle.canvas_runs.specs.Crew.{Mate, Ran, EndedWell, OwnTally}
@@ -18,7 +18,7 @@ use Rattle.canvas_runs.specs.Lists.{Each, by, seconds, total}
 use Rattle.canvas_runs.specs.Logs.{queue_calls, table_calls}
 use Rattle.canvas_runs.specs.Run.{Run, IsRead, published_all}
 use Rattle.canvas_runs.specs.Tally.{Tally, CountsMore, CountsOf, EachCounts, often, is_taken, is_published, is_first, is_part, is_lost, is_dropped, publishing, storing, returning}
-use Rattle.canvas_runs.specs.Worker.{working, opened, sealed}
+use Rattle.canvas_runs.specs.Worker.{opened, sealed}
 use Rattle.canvas_runs.proofs.CallsOf.{queue_by, queue_entries, table_by, table_rows}
 use Rattle.canvas_runs.proofs.Facts.{X, form, Does, order, value}
 use Rattle.canvas_runs.proofs.FirstLaw.{inner_run}
@@ -31,24 +31,24 @@ use Rattle.canvas_runs.proofs.Words.{each_left, each_right}
 -- ---- core runs and their calls
 
 module _ (registry : Registry) (plan : Roster) where
-  taken_step : (a : Ask Envelope Outcome) (r : Reply Envelope Outcome) → total takes_one (broker_call (working registry plan) a r) ≡ is_taken a r
+  taken_step : (a : Ask Envelope Outcome) (r : Reply Envelope Outcome) → total takes_one (broker_call a r) ≡ is_taken a r
   taken_step take (taken (Some e)) = omega arith
   taken_step (send e) sent = omega arith
   taken_step a r = refl
 
-  published_step : (a : Ask Envelope Outcome) (r : Reply Envelope Outcome) → total publishing (broker_call (working registry plan) a r) ≡ is_published a r
+  published_step : (a : Ask Envelope Outcome) (r : Reply Envelope Outcome) → total publishing (broker_call a r) ≡ is_published a r
   published_step take (taken (Some e)) = omega arith
   published_step (send e) sent = omega arith
   published_step a r = refl
 
-  first_step : (a : Ask Envelope Outcome) (r : Reply Envelope Outcome) → total storing (backend_call (working registry plan) a r) ≡ is_first a r
+  first_step : (a : Ask Envelope Outcome) (r : Reply Envelope Outcome) → total storing (backend_call a r) ≡ is_first a r
   first_step (keep t o) (kept true) = omega arith
   first_step (keep t o) (kept false) = omega arith
   first_step (part g t) (counted n) = omega arith
   first_step (read g i) (found t x) = omega arith
   first_step a r = refl
 
-  part_step : (a : Ask Envelope Outcome) (r : Reply Envelope Outcome) → total returning (backend_call (working registry plan) a r) ≡ is_part a r
+  part_step : (a : Ask Envelope Outcome) (r : Reply Envelope Outcome) → total returning (backend_call a r) ≡ is_part a r
   part_step (keep t o) (kept b) = omega arith
   part_step (part g t) (counted n) = omega arith
   part_step (read g i) (found t x) = omega arith
@@ -63,32 +63,32 @@ module _ (registry : Registry) (plan : Roster) where
       let parts = ap (λ l. total w l) (more x xs) ∙ total-append w (call x.0 x.1) (all xs) in
       omega (arith, k, parts, step x.0 x.1)
 
-  calls_taken : (xs : List (Ask Envelope Outcome × Reply Envelope Outcome)) → total takes_one (broker_calls (working registry plan) xs) ≡ often is_taken xs
-  calls_taken = sum_calls (broker_call (working registry plan)) takes_one is_taken (broker_calls (working registry plan)) refl (λ x xs. refl) taken_step
+  calls_taken : (xs : List (Ask Envelope Outcome × Reply Envelope Outcome)) → total takes_one (broker_calls xs) ≡ often is_taken xs
+  calls_taken = sum_calls (broker_call) takes_one is_taken (broker_calls) refl (λ x xs. refl) taken_step
 
-  calls_published : (xs : List (Ask Envelope Outcome × Reply Envelope Outcome)) → total publishing (broker_calls (working registry plan) xs) ≡ often is_published xs
-  calls_published = sum_calls (broker_call (working registry plan)) publishing is_published (broker_calls (working registry plan)) refl (λ x xs. refl) published_step
+  calls_published : (xs : List (Ask Envelope Outcome × Reply Envelope Outcome)) → total publishing (broker_calls xs) ≡ often is_published xs
+  calls_published = sum_calls (broker_call) publishing is_published (broker_calls) refl (λ x xs. refl) published_step
 
-  calls_first : (xs : List (Ask Envelope Outcome × Reply Envelope Outcome)) → total storing (backend_calls (working registry plan) xs) ≡ often is_first xs
-  calls_first = sum_calls (backend_call (working registry plan)) storing is_first (backend_calls (working registry plan)) refl (λ x xs. refl) first_step
+  calls_first : (xs : List (Ask Envelope Outcome × Reply Envelope Outcome)) → total storing (backend_calls xs) ≡ often is_first xs
+  calls_first = sum_calls (backend_call) storing is_first (backend_calls) refl (λ x xs. refl) first_step
 
-  calls_parts : (xs : List (Ask Envelope Outcome × Reply Envelope Outcome)) → total returning (backend_calls (working registry plan) xs) ≡ often is_part xs
-  calls_parts = sum_calls (backend_call (working registry plan)) returning is_part (backend_calls (working registry plan)) refl (λ x xs. refl) part_step
+  calls_parts : (xs : List (Ask Envelope Outcome × Reply Envelope Outcome)) → total returning (backend_calls xs) ≡ often is_part xs
+  calls_parts = sum_calls (backend_call) returning is_part (backend_calls) refl (λ x xs. refl) part_step
 
   -- envelopes that open are not dropped
   Opens : Envelope → Type 0
   Opens e = is_lost (opened (book_on plan) e) ≡ 0
 
-  kept_step : (a : Ask Envelope Outcome) (r : Reply Envelope Outcome) → Each (GoodTake Opens) (broker_call (working registry plan) a r) → is_dropped plan a r ≡ 0
+  kept_step : (a : Ask Envelope Outcome) (r : Reply Envelope Outcome) → Each (GoodTake Opens) (broker_call a r) → is_dropped plan a r ≡ 0
   unfolding Opens
   kept_step take (taken (Some e)) g = g.0
   kept_step a r g = refl
 
-  none_dropped : (xs : List (Ask Envelope Outcome × Reply Envelope Outcome)) → Each (GoodTake Opens) (broker_calls (working registry plan) xs) → often (is_dropped plan) xs ≡ 0
+  none_dropped : (xs : List (Ask Envelope Outcome × Reply Envelope Outcome)) → Each (GoodTake Opens) (broker_calls xs) → often (is_dropped plan) xs ≡ 0
   none_dropped [] g = refl
   none_dropped (x ∷ xs) g =
-      let here = kept_step x.0 x.1 (each_left (GoodTake Opens) (broker_call (working registry plan) x.0 x.1) (broker_calls (working registry plan) xs) g) in
-      let rest = none_dropped xs (each_right (GoodTake Opens) (broker_call (working registry plan) x.0 x.1) (broker_calls (working registry plan) xs) g) in
+      let here = kept_step x.0 x.1 (each_left (GoodTake Opens) (broker_call x.0 x.1) (broker_calls xs) g) in
+      let rest = none_dropped xs (each_right (GoodTake Opens) (broker_call x.0 x.1) (broker_calls xs) g) in
       omega (arith, here, rest)
 
 follows_publishing : {ts : List (Option Envelope)} {cs ls : List (BrokerCall Envelope)} → FollowsCore ts cs ls → total publishing ls ≡ total publishing cs
@@ -131,7 +131,7 @@ module _ (registry : Registry) (plan : Roster) (p : Pass) (s : Seat) (w : Workin
   made_published = follows_publishing f.follows ∙ calls_published registry plan f.run
 
   taken_kept : (P : Envelope → Type 0) → ((e : Envelope) → P e → Opens registry plan e) → Each (GoodTake P) f.made → often (is_dropped plan) f.run ≡ 0
-  taken_kept P opens g = none_dropped registry plan f.run (weaker (broker_calls (working registry plan) f.run) (follows_takes P f.follows tt g))
+  taken_kept P opens g = none_dropped registry plan f.run (weaker (broker_calls f.run) (follows_takes P f.follows tt g))
     where
       weaker : (cs : List (BrokerCall Envelope)) → Each (GoodTake P) cs → Each (GoodTake (Opens registry plan)) cs
       weaker [] g = tt
@@ -161,12 +161,12 @@ module _ (registry : Registry) (l : Line) (plan : IsPlan l) (pass : Pass) (seat 
       each_by (GoodTake Good) p (queue_calls queue) (queue_takes Good [] (seconds (queue_calls queue)) (inner_run registry l plan its_run).queue tt
       (each_seconds (GoodPublish Good) (queue_calls queue) (publishes_right (X registry l plan) (form registry l plan) (Does registry l plan) (order registry l plan) (value registry l plan) (inner_run registry l plan its_run))))
 
-  mates_count : (k : ℕ) (ms : List (Mate registry P)) → HasEach registry P k ms queue → HasRows registry P k ms seat.seen → Each (λ (m : Mate registry P). IsDone m.ended) ms → EachCounts queue seat.seen k (map (λ (m : Mate registry P). m.ended.tally) ms)
+  mates_count : (k : ℕ) (ms : List (Mate registry P)) → HasQueueCalls registry P k ms queue → HasTableCalls registry P k ms seat.seen → Each (λ (m : Mate registry P). IsDone m.ended) ms → EachCounts queue seat.seen k (map (λ (m : Mate registry P). m.ended.tally) ms)
   mates_count k [] h t d = tt
   mates_count k (m ∷ ms) h t d =
       let f = m.followed in
       let calls : by k (queue_calls queue) ≡ f.made = queue_by k queue ∙ (ap (λ x. seconds (queue_calls x)) h.0 ∙ queue_entries k f.made f.stood) in
-      let replies : by k (table_calls seat.seen) ≡ backend_calls (working registry P) f.run = table_by k seat.seen ∙ (ap (λ x. seconds (table_calls x)) t.0 ∙ table_rows k (backend_calls (working registry P) f.run)) in
+      let replies : by k (table_calls seat.seen) ≡ backend_calls f.run = table_by k seat.seen ∙ (ap (λ x. seconds (table_calls x)) t.0 ∙ table_rows k (backend_calls f.run)) in
       let c = f.counts in
       let lost = taken_kept registry P m.pass m.seat m.ended f d.0.1 Good good_opens (subst (λ cs. Each (GoodTake Good) cs) calls (good_by k)) in (
         (
@@ -197,9 +197,9 @@ module _ (registry : Registry) (l : Line) (plan : IsPlan l) (pass : Pass) (seat 
       let all_sent : total publishing (by 0 (queue_calls queue)) ≡ length r.opening + often is_published f.run =
       ap (λ x. total publishing x) calls ∙ (total-append publishing before f.made ∙ (let k = made_published registry P r.pass_joined r.seat_joined r.own f w.own.1 in omega (arith, k, sends))) in
       let all_first : total storing (by 0 (table_calls seat.seen)) ≡ often is_first f.run =
-      ap (λ x. total storing x) replies ∙ (total-append storing (backend_calls (working registry P) f.run) r.closing ∙ (let k = calls_first registry P f.run in let z = reads.0 in omega (arith, k, z))) in
+      ap (λ x. total storing x) replies ∙ (total-append storing (backend_calls f.run) r.closing ∙ (let k = calls_first registry P f.run in let z = reads.0 in omega (arith, k, z))) in
       let all_parts : total returning (by 0 (table_calls seat.seen)) ≡ often is_part f.run =
-      ap (λ x. total returning x) replies ∙ (total-append returning (backend_calls (working registry P) f.run) r.closing ∙ (let k = calls_parts registry P f.run in let z = reads.1 in omega (arith, k, z))) in
+      ap (λ x. total returning x) replies ∙ (total-append returning (backend_calls f.run) r.closing ∙ (let k = calls_parts registry P f.run in let z = reads.1 in omega (arith, k, z))) in
       let lost = taken_kept registry P r.pass_joined r.seat_joined r.own f w.own.1 Good good_opens
       (each_right (GoodTake Good) before f.made (subst (λ cs. Each (GoodTake Good) cs) calls (good_by 0))) in (
         subst (λ n. CountsMore 0 (total takes_one (by 0 (queue_calls queue))) n) (sym o.0) (same_count (often is_taken f.run) (total takes_one (by 0 (queue_calls queue))) r.own.tally.taken c.taken (sym all_taken)),

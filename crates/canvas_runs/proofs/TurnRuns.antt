@@ -11,7 +11,7 @@ use Rattle.canvas_backend.specs.declared.stored.Stored.{Stored}
 use Rattle.canvas_backend.specs.declared.stored.Stored.TheVariants.{First, Again}
 use Rattle.canvas_backend.specs.Backend as results
 use Rattle.canvas_backend.specs.Backend.{Results, no_results, first_or, next_of, reply_of, count_of, was, count, found, says_first}
-use Rattle.canvas_backend.specs.Roster.{roster_of}
+use Rattle.canvas_backend.specs.Roster.{roster_of, members}
 use Rattle.canvas_broker.specs.Broker as broker
 use Rattle.canvas_runs.specs.Accounts.{splits_of, broker_entries, backend_entries}
 use Rattle.canvas_runs.specs.Core.{Ask, Reply, take, send, keep, part, read, pause, taken, sent, kept, counted, found as found_it, rested, taking, IsCoreRun, Between}
@@ -54,11 +54,11 @@ module _ (registry : Registry) (l : Line) where
   -- the steps that are calls, each by its worker
   abbrev pub queue_lines : List Step → List (broker.QueueEntry Envelope)
   queue_lines [] = []
-  queue_lines (x ∷ xs) = broker_entries x.0 (broker_call (worker registry l) x.1.0 x.1.1) ++ queue_lines xs
+  queue_lines (x ∷ xs) = broker_entries x.0 (broker_call x.1.0 x.1.1) ++ queue_lines xs
 
   abbrev pub table_lines : List Step → results.Log
   table_lines [] = []
-  table_lines (x ∷ xs) = backend_entries x.0 (backend_call (worker registry l) x.1.0 x.1.1) ++ table_lines xs
+  table_lines (x ∷ xs) = backend_entries x.0 (backend_call x.1.0 x.1.1) ++ table_lines xs
 
   abbrev pub firsts : List Envelope
   firsts = map sealed (first_messages l)
@@ -71,38 +71,38 @@ module _ (registry : Registry) (l : Line) where
 
   -- ---- one more step
 
-  queue_lines_more : (xs : List Step) (x : Step) → queue_lines (xs ++ x ∷ []) ≡ queue_lines xs ++ broker_entries x.0 (broker_call (worker registry l) x.1.0 x.1.1)
-  queue_lines_more [] x = append-nil (broker_entries x.0 (broker_call (worker registry l) x.1.0 x.1.1))
+  queue_lines_more : (xs : List Step) (x : Step) → queue_lines (xs ++ x ∷ []) ≡ queue_lines xs ++ broker_entries x.0 (broker_call x.1.0 x.1.1)
+  queue_lines_more [] x = append-nil (broker_entries x.0 (broker_call x.1.0 x.1.1))
   queue_lines_more (y ∷ xs) x =
-      ap (λ g. broker_entries y.0 (broker_call (worker registry l) y.1.0 y.1.1) ++ g) (queue_lines_more xs x)
-      ∙ sym (append_assoc (broker_entries y.0 (broker_call (worker registry l) y.1.0 y.1.1)) (queue_lines xs) (broker_entries x.0 (broker_call (worker registry l) x.1.0 x.1.1)))
+      ap (λ g. broker_entries y.0 (broker_call y.1.0 y.1.1) ++ g) (queue_lines_more xs x)
+      ∙ sym (append_assoc (broker_entries y.0 (broker_call y.1.0 y.1.1)) (queue_lines xs) (broker_entries x.0 (broker_call x.1.0 x.1.1)))
 
-  table_lines_more : (xs : List Step) (x : Step) → table_lines (xs ++ x ∷ []) ≡ table_lines xs ++ backend_entries x.0 (backend_call (worker registry l) x.1.0 x.1.1)
-  table_lines_more [] x = append-nil (backend_entries x.0 (backend_call (worker registry l) x.1.0 x.1.1))
+  table_lines_more : (xs : List Step) (x : Step) → table_lines (xs ++ x ∷ []) ≡ table_lines xs ++ backend_entries x.0 (backend_call x.1.0 x.1.1)
+  table_lines_more [] x = append-nil (backend_entries x.0 (backend_call x.1.0 x.1.1))
   table_lines_more (y ∷ xs) x =
-      ap (λ g. backend_entries y.0 (backend_call (worker registry l) y.1.0 y.1.1) ++ g) (table_lines_more xs x)
-      ∙ sym (append_assoc (backend_entries y.0 (backend_call (worker registry l) y.1.0 y.1.1)) (table_lines xs) (backend_entries x.0 (backend_call (worker registry l) x.1.0 x.1.1)))
+      ap (λ g. backend_entries y.0 (backend_call y.1.0 y.1.1) ++ g) (table_lines_more xs x)
+      ∙ sym (append_assoc (backend_entries y.0 (backend_call y.1.0 y.1.1)) (table_lines xs) (backend_entries x.0 (backend_call x.1.0 x.1.1)))
 
-  pub queue_log_more : (n : ℕ) (xs : List Step) (x : Step) → queue_log n (xs ++ x ∷ []) ≡ queue_log n xs ++ broker_entries x.0 (broker_call (worker registry l) x.1.0 x.1.1)
+  pub queue_log_more : (n : ℕ) (xs : List Step) (x : Step) → queue_log n (xs ++ x ∷ []) ≡ queue_log n xs ++ broker_entries x.0 (broker_call x.1.0 x.1.1)
   queue_log_more n xs x =
-      let new : List (broker.QueueEntry Envelope) = broker_entries x.0 (broker_call (worker registry l) x.1.0 x.1.1) in
+      let new : List (broker.QueueEntry Envelope) = broker_entries x.0 (broker_call x.1.0 x.1.1) in
       let opening : List (broker.QueueEntry Envelope) = broker_entries 0 (published_all firsts) in
       ap (λ g. splits_of (round n) ++ (opening ++ g)) (queue_lines_more xs x)
       ∙ (ap (λ g. splits_of (round n) ++ g) (sym (append_assoc opening (queue_lines xs) new)) ∙ sym (append_assoc (splits_of (round n)) (opening ++ queue_lines xs) new))
 
-  pub table_log_more : (n : ℕ) (xs : List Step) (x : Step) → table_log n (xs ++ x ∷ []) ≡ table_log n xs ++ backend_entries x.0 (backend_call (worker registry l) x.1.0 x.1.1)
+  pub table_log_more : (n : ℕ) (xs : List Step) (x : Step) → table_log n (xs ++ x ∷ []) ≡ table_log n xs ++ backend_entries x.0 (backend_call x.1.0 x.1.1)
   table_log_more n xs x =
-      ap (λ g. splits_of (round n) ++ g) (table_lines_more xs x) ∙ sym (append_assoc (splits_of (round n)) (table_lines xs) (backend_entries x.0 (backend_call (worker registry l) x.1.0 x.1.1)))
+      ap (λ g. splits_of (round n) ++ g) (table_lines_more xs x) ∙ sym (append_assoc (splits_of (round n)) (table_lines xs) (backend_entries x.0 (backend_call x.1.0 x.1.1)))
 
   -- ---- the workers are made first, and then they call
 
   queue_only : (xs : List Step) → OnlyCalls (queue_lines xs)
   queue_only [] = tt
-  queue_only (x ∷ xs) = only_append (broker_entries x.0 (broker_call (worker registry l) x.1.0 x.1.1)) (queue_lines xs) (entries_only x.0 (broker_call (worker registry l) x.1.0 x.1.1)) (queue_only xs)
+  queue_only (x ∷ xs) = only_append (broker_entries x.0 (broker_call x.1.0 x.1.1)) (queue_lines xs) (entries_only x.0 (broker_call x.1.0 x.1.1)) (queue_only xs)
 
   table_only : (xs : List Step) → OnlyCalls (table_lines xs)
   table_only [] = tt
-  table_only (x ∷ xs) = only_append (backend_entries x.0 (backend_call (worker registry l) x.1.0 x.1.1)) (table_lines xs) (rows_only x.0 (backend_call (worker registry l) x.1.0 x.1.1)) (table_only xs)
+  table_only (x ∷ xs) = only_append (backend_entries x.0 (backend_call x.1.0 x.1.1)) (table_lines xs) (rows_only x.0 (backend_call x.1.0 x.1.1)) (table_only xs)
 
   pub queue_made : (n : ℕ) (xs : List Step) → Made n (queue_log n xs)
   queue_made n xs = record {
@@ -124,7 +124,7 @@ module _ (registry : Registry) (l : Line) where
 
   -- what a step adds to a history of the queue
   queue_adds : (n : ℕ) (xs : List Step) (p : ℕ) (a : Ask Envelope Outcome) (r : Reply Envelope Outcome) (log : List (broker.QueueEntry Envelope)) → among p (live log) ≡ true → broker.queue_of log ≡ queue_after l xs
-      → Answers registry l n xs a r → QueueLegal log (broker_entries p (broker_call (worker registry l) a r)) × (queue_from_log (queue_after l xs) (broker_entries p (broker_call (worker registry l) a r)) ≡ queue_next (queue_after l xs) a)
+      → Answers registry l n xs a r → QueueLegal log (broker_entries p (broker_call a r)) × (queue_from_log (queue_after l xs) (broker_entries p (broker_call a r)) ≡ queue_next (queue_after l xs) a)
   queue_adds n xs p take (taken None) log alive is h = (tt, sym (none_left (queue_after l xs) h))
   queue_adds n xs p take (taken (Some e)) log alive is h = (((alive, h ∙ ap (λ q. broker.answer q broker.take) (sym is), tt), tt), refl)
   queue_adds n xs p (send e) sent log alive is h = (((alive, refl, tt), tt), refl)
@@ -146,7 +146,7 @@ module _ (registry : Registry) (l : Line) where
   MayPart log p a = Unit
 
   table_adds : (n : ℕ) (xs : List Step) (p : ℕ) (a : Ask Envelope Outcome) (r : Reply Envelope Outcome) (log : results.Log) → among p (live log) ≡ true → results.results (roster_of l) log ≡ results_after xs
-      → Answers registry l n xs a r → MayPart log p a → TableLegal log (backend_entries p (backend_call (worker registry l) a r)) × (table_from_log (results_after xs) (backend_entries p (backend_call (worker registry l) a r)) ≡ results_next (results_after xs) a)
+      → Answers registry l n xs a r → MayPart log p a → TableLegal log (backend_entries p (backend_call a r)) × (table_from_log (results_after xs) (backend_entries p (backend_call a r)) ≡ results_next (results_after xs) a)
   table_adds n xs p take (taken x) log alive is h may = (tt, refl)
   table_adds n xs p (send e) sent log alive is h may = (tt, refl)
   table_adds n xs p (keep t o) (kept b) log alive is h may =
@@ -161,7 +161,7 @@ module _ (registry : Registry) (l : Line) where
   pub queue_stays : (n : ℕ) (xs : List Step) (p : ℕ) (a : Ask Envelope Outcome) (r : Reply Envelope Outcome) → IsWorker n p → broker.IsLegal (queue_log n xs) → broker.queue_of (queue_log n xs) ≡ queue_after l xs → Answers registry l n xs a r
       → broker.IsLegal (queue_log n (xs ++ (p, (a, r)) ∷ [])) × (broker.queue_of (queue_log n (xs ++ (p, (a, r)) ∷ [])) ≡ queue_next (queue_after l xs) a)
   queue_stays n xs p a r w legal is h =
-      let new : List (broker.QueueEntry Envelope) = broker_entries p (broker_call (worker registry l) a r) in
+      let new : List (broker.QueueEntry Envelope) = broker_entries p (broker_call a r) in
       let adds = queue_adds n xs p a r (queue_log n xs) (worker_lives n p (queue_log n xs) (queue_made n xs) w) is h in
       let more = queue_log_more n xs (p, (a, r)) in (
         subst broker.IsLegal (sym more) (legal_append [] broker.answer broker.next broker.May [] (queue_log n xs) new legal adds.0),
@@ -172,7 +172,7 @@ module _ (registry : Registry) (l : Line) where
       → results.results (roster_of l) (table_log n xs) ≡ results_after xs → Answers registry l n xs a r → MayPart (table_log n xs) p a
       → results.IsLegal (roster_of l) (table_log n (xs ++ (p, (a, r)) ∷ [])) × (results.results (roster_of l) (table_log n (xs ++ (p, (a, r)) ∷ [])) ≡ results_next (results_after xs) a)
   table_stays n xs p a r w legal is h may =
-      let new : results.Log = backend_entries p (backend_call (worker registry l) a r) in
+      let new : results.Log = backend_entries p (backend_call a r) in
       let adds = table_adds n xs p a r (table_log n xs) (worker_lives n p (table_log n xs) (table_made n xs) w) is h may in
       let more = table_log_more n xs (p, (a, r)) in (
         subst (results.IsLegal (roster_of l)) (sym more) (legal_append no_results (reply_of (roster_of l)) next_of (results.May (roster_of l)) [] (table_log n xs) new legal adds.0),
@@ -211,32 +211,32 @@ module _ (registry : Registry) (l : Line) where
 
   -- ---- each worker's calls are those of its steps
 
-  pub call_stood : (a : Ask Envelope Outcome) (r : Reply Envelope Outcome) → Each Stood (broker_call (worker registry l) a r)
+  pub call_stood : (a : Ask Envelope Outcome) (r : Reply Envelope Outcome) → Each Stood (broker_call a r)
   call_stood take (taken (Some e)) = (tt, tt)
   call_stood (send e) sent = (tt, tt)
   call_stood a r = tt
 
-  lines_by : (p : ℕ) (xs : List Step) → by p (queue_calls (queue_lines xs)) ≡ broker_calls (worker registry l) (by p xs)
+  lines_by : (p : ℕ) (xs : List Step) → by p (queue_calls (queue_lines xs)) ≡ broker_calls (by p xs)
   lines_by p [] = refl
   lines_by p (x ∷ xs) =
-      let call : List (BrokerCall Envelope) = broker_call (worker registry l) x.1.0 x.1.1 in
+      let call : List (BrokerCall Envelope) = broker_call x.1.0 x.1.1 in
       ap (by p) (queue_calls_append (broker_entries x.0 call) (queue_lines xs))
       ∙ (by_append p (queue_calls (broker_entries x.0 call)) (queue_calls (queue_lines xs))
       ∙ (ap₂ (λ u v. u ++ v) (ap (by p) (queue_calls_entries x.0 call (call_stood x.1.0 x.1.1)) ∙ by_tag x.0 p call) (lines_by p xs) ∙ go (eqb x.0 p)))
     where
-      go : (b : Bool) → cond b (broker_call (worker registry l) x.1.0 x.1.1) [] ++ broker_calls (worker registry l) (by p xs) ≡ broker_calls (worker registry l) (cond b (x.1 ∷ by p xs) (by p xs))
+      go : (b : Bool) → cond b (broker_call x.1.0 x.1.1) [] ++ broker_calls (by p xs) ≡ broker_calls (cond b (x.1 ∷ by p xs) (by p xs))
       go true = refl
       go false = refl
 
-  rows_by : (p : ℕ) (xs : List Step) → by p (table_calls (table_lines xs)) ≡ backend_calls (worker registry l) (by p xs)
+  rows_by : (p : ℕ) (xs : List Step) → by p (table_calls (table_lines xs)) ≡ backend_calls (by p xs)
   rows_by p [] = refl
   rows_by p (x ∷ xs) =
-      let call : List (BackendCall Outcome) = backend_call (worker registry l) x.1.0 x.1.1 in
+      let call : List (BackendCall Outcome) = backend_call x.1.0 x.1.1 in
       ap (by p) (table_calls_append (backend_entries x.0 call) (table_lines xs))
       ∙ (by_append p (table_calls (backend_entries x.0 call)) (table_calls (table_lines xs))
       ∙ (ap₂ (λ u v. u ++ v) (ap (by p) (table_calls_rows x.0 call) ∙ by_tag x.0 p call) (rows_by p xs) ∙ go (eqb x.0 p)))
     where
-      go : (b : Bool) → cond b (backend_call (worker registry l) x.1.0 x.1.1) [] ++ backend_calls (worker registry l) (by p xs) ≡ backend_calls (worker registry l) (cond b (x.1 ∷ by p xs) (by p xs))
+      go : (b : Bool) → cond b (backend_call x.1.0 x.1.1) [] ++ backend_calls (by p xs) ≡ backend_calls (cond b (x.1 ∷ by p xs) (by p xs))
       go true = refl
       go false = refl
 
@@ -247,7 +247,7 @@ module _ (registry : Registry) (l : Line) where
   abbrev pub opened_by : ℕ → List (BrokerCall Envelope)
   opened_by p = cond (eqb p 0) (published_all firsts) []
 
-  pub queue_by : (n : ℕ) (xs : List Step) (p : ℕ) → by p (queue_calls (queue_log n xs)) ≡ opened_by p ++ broker_calls (worker registry l) (by p xs)
+  pub queue_by : (n : ℕ) (xs : List Step) (p : ℕ) → by p (queue_calls (queue_log n xs)) ≡ opened_by p ++ broker_calls (by p xs)
   queue_by n xs p =
       let opening : List (broker.QueueEntry Envelope) = broker_entries 0 (published_all firsts) in
       ap (by p) (queue_calls_append (splits_of (round n)) (opening ++ queue_lines xs) ∙ ap (λ g. g ++ queue_calls (opening ++ queue_lines xs)) (queue_calls_splits (round n)))
@@ -255,7 +255,7 @@ module _ (registry : Registry) (l : Line) where
       ∙ (by_append p (queue_calls opening) (queue_calls (queue_lines xs))
       ∙ ap₂ (λ u v. u ++ v) (ap (by p) (queue_calls_entries 0 (published_all firsts) (stood_all firsts)) ∙ (by_tag 0 p (published_all firsts) ∙ ap (λ b. cond b (published_all firsts) []) (swapped p))) (lines_by p xs)))
 
-  pub table_by : (n : ℕ) (xs : List Step) (p : ℕ) → by p (table_calls (table_log n xs)) ≡ backend_calls (worker registry l) (by p xs)
+  pub table_by : (n : ℕ) (xs : List Step) (p : ℕ) → by p (table_calls (table_log n xs)) ≡ backend_calls (by p xs)
   table_by n xs p =
       ap (by p) (table_calls_append (splits_of (round n)) (table_lines xs) ∙ ap (λ g. g ++ table_calls (table_lines xs)) (table_calls_splits (round n))) ∙ rows_by p xs
 
@@ -268,7 +268,7 @@ module _ (registry : Registry) (l : Line) where
   -- each worker follows a core run, and both histories are legal and stand for what is queued and stored
   pub record Lawful (n : ℕ) (xs : List Step) : Type 0 where
     pub core : (p : ℕ) → IsCoreRun (worker registry l) taking (by p xs)
-    pub reads : (p : ℕ) → ReadsMembers (worker registry l) (by p xs)
+    pub reads : (p : ℕ) → ReadsMembers (members (roster_of l)) (by p xs)
     pub queue_legal : broker.IsLegal (queue_log n xs)
     pub queue_is : broker.queue_of (queue_log n xs) ≡ queue_after l xs
     pub table_legal : results.IsLegal (roster_of l) (table_log n xs)
@@ -290,8 +290,8 @@ module _ (registry : Registry) (l : Line) where
       opens = sym (append-nil (first_messages l));
       opens_back = back;
       closes = tt;
-      follows = λ p. subst (λ ls. FollowsCore [] (opened_by p ++ broker_calls (worker registry l) (by p xs)) ls) (sym (queue_by n xs p)) (follows_same (opened_by p ++ broker_calls (worker registry l) (by p xs)));
-      keeps = λ p. table_by n xs p ∙ (sym (append-nil (backend_calls (worker registry l) (by p xs))) ∙ ap (λ g. backend_calls (worker registry l) (by p xs) ++ g) (sym (no_closing (eqb p 0))));
+      follows = λ p. subst (λ ls. FollowsCore [] (opened_by p ++ broker_calls (by p xs)) ls) (sym (queue_by n xs p)) (follows_same (opened_by p ++ broker_calls (by p xs)));
+      keeps = λ p. table_by n xs p ∙ (sym (append-nil (backend_calls (by p xs))) ∙ ap (λ g. backend_calls (by p xs) ++ g) (sym (no_closing (eqb p 0))));
     }
 
     none_taken : (b : Bool) → total takes_one (cond b (published_all firsts) []) ≡ 0
@@ -302,7 +302,7 @@ module _ (registry : Registry) (l : Line) where
     closed empty between = record {
       all_sent = refl;
       drained = s.queue_is ∙ empty;
-      all_used = λ p. ap (total takes_one) (queue_by n xs p) ∙ (total-append takes_one (opened_by p) (broker_calls (worker registry l) (by p xs)) ∙ plain (total takes_one (opened_by p)) (none_taken (eqb p 0)));
+      all_used = λ p. ap (total takes_one) (queue_by n xs p) ∙ (total-append takes_one (opened_by p) (broker_calls (by p xs)) ∙ plain (total takes_one (opened_by p)) (none_taken (eqb p 0)));
       all_ended = between;
     }
       where

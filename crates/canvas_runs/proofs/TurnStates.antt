@@ -40,9 +40,9 @@ use Rattle.canvas_runs.proofs.Words.{in_right, in_each, each_right, each_weaker,
 
 -- what is left after a core run is good, where the answers are
 module _ (Y : Protocol) (G : Goods Y) (k : Closed Y G) where
-  pub left_good : (s : Doing Y) (xs : List (AskedAndAnswered Y)) → GoodState Y G s → IsCoreRun Y s xs → ReadsMembers Y xs → Each (λ x. GoodAnswer Y G x.1) xs → GoodState Y G (left_after Y s xs)
+  pub left_good : (s : Doing Y) (xs : List (AskedAndAnswered Y.Envelope Y.Outcome)) → GoodState Y G s → IsCoreRun Y s xs → ReadsMembers Y.members xs → Each (λ x. GoodAnswer Y G x.1) xs → GoodState Y G (left_after Y s xs)
   left_good s [] good c m a = good
-  left_good s (x ∷ xs) good c m a = left_good (answered Y s x.1) xs (next_good Y G k s x.1 good (subst (λ z. reads_member Y z x.1) c.0 m.0) a.0) c.2 m.1 a.1
+  left_good s (x ∷ xs) good c m a = left_good (answered Y s x.1) xs (next_good Y G k s x.1 good (subst (λ z. reads_member Y.members z x.1) c.0 m.0) a.0) c.2 m.1 a.1
 
 rows_others : (p q : ℕ) (cs : List (BackendCall Outcome)) → q ≢ p → AllOthers p (backend_entries q cs)
 rows_others p q [] apart = tt
@@ -74,8 +74,8 @@ module _ (registry : Registry) (l : Line) (plan : IsPlan l) where
 
   good_answer : (back : FirstsRead l) (n : ℕ) (xs : List Step) (p : ℕ) (a : Ask Envelope Outcome) (r : Reply Envelope Outcome) → Lawful registry l n (xs ++ (p, (a, r)) ∷ []) → GoodReply r
   good_answer back n xs p a r s =
-      (each_right (λ (x : AskedAndAnswered (worker registry l)). GoodReply x.1) (by p xs) ((a, r) ∷ [])
-      (subst (Each (λ (x : AskedAndAnswered (worker registry l)). GoodReply x.1)) (by_more p xs (a, r))
+      (each_right (λ (x : AskedAndAnswered Envelope Outcome). GoodReply x.1) (by p xs) ((a, r) ∷ [])
+      (subst (Each (λ (x : AskedAndAnswered Envelope Outcome). GoodReply x.1)) (by_more p xs (a, r))
       (answers_right (X registry l plan) (form registry l plan) (Does registry l plan) (order registry l plan) (value registry l plan) (inner_run registry l plan (run registry l back n (xs ++ (p, (a, r)) ∷ []) s)) p))).0
 
   -- ---- what is known of states
@@ -126,13 +126,13 @@ module _ (registry : Registry) (l : Line) (plan : IsPlan l) where
 
   pub other_may : (n : ℕ) (xs : List Step) (p q : ℕ) (a : Ask Envelope Outcome) (r : Reply Envelope Outcome) (t : ℕ) → IsWorker n p → q ≢ p → results.IsLegal P (table_log registry l n (xs ++ (q, (a, r)) ∷ [])) → May n xs p t → May n (xs ++ (q, (a, r)) ∷ []) p t
   other_may n xs p q a r t w apart legal m =
-      let new : results.Log = backend_entries q (backend_call (worker registry l) a r) in
+      let new : results.Log = backend_entries q (backend_call a r) in
       let more = table_log_more registry l n xs (q, (a, r)) in
       let lawful : results.IsLegal P (table_log registry l n xs ++ new) = subst (results.IsLegal P) more legal in
       let alive : among p (live (table_log registry l n xs ++ new)) ≡ true = subst (λ g. among p (live g) ≡ true) more (worker_lives n p (table_log registry l n (xs ++ (q, (a, r)) ∷ [])) (table_made registry l n (xs ++ (q, (a, r)) ∷ [])) w) in
       subst (λ g. MayReturn P g p t) (sym more) (record {
         own = keeps_first P (table_log registry l n xs) new p t lawful m.alive alive m.own;
-        free = still_free P (table_log registry l n xs) new p t lawful (rows_others p q (backend_call (worker registry l) a r) apart) m.alive alive m.own m.free;
+        free = still_free P (table_log registry l n xs) new p t lawful (rows_others p q (backend_call a r) apart) m.alive alive m.own m.free;
         alive = alive;
       })
 
@@ -162,7 +162,7 @@ module _ (registry : Registry) (l : Line) (plan : IsPlan l) where
   one_own : (log : results.Log) (p t : ℕ) (c : results.TableCall) (r : results.TableReply) → ((g : ℕ) → c ≢ results.part g t) → OwnMay log (calls p c r ∷ []) p t
   one_own log p t c r other legal m = still_may P p t c r log (log ++ calls p c r ∷ []) other m ([], refl, tt, legal, λ e. refl)
 
-  own_step : (log : results.Log) (p t : ℕ) (a : Ask Envelope Outcome) (r : Reply Envelope Outcome) → NotPart a → OwnMay log (backend_entries p (backend_call (worker registry l) a r)) p t
+  own_step : (log : results.Log) (p t : ℕ) (a : Ask Envelope Outcome) (r : Reply Envelope Outcome) → NotPart a → OwnMay log (backend_entries p (backend_call a r)) p t
   own_step log p t (keep u o) (kept b) plain = one_own log p t (results.store u o) (table_reply (stored u o b)) (λ g e. absurd cc)
   own_step log p t (part g u) r plain = absurd plain
   own_step log p t (read g i) (found u x) plain = one_own log p t (results.read u) (table_reply (has_read u x)) (λ g e. absurd cc)

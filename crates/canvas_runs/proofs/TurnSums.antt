@@ -5,7 +5,7 @@ use Rattle.std.proofs.lemmas.List.{length-append}
 use Rattle.canvas_task.specs.Apply.{Registry}
 use Rattle.canvas_task.specs.declared.outcome.Outcome.{Outcome}
 use Rattle.canvas_semantics.specs.Line.{Line, count_line, members}
-use Rattle.canvas_rewrite.specs.FrozenView.{Load}
+use Rattle.canvas_rewrite.specs.FrozenView.{PCarried}
 use Rattle.canvas_rewrite.specs.Planned.{times}
 use Rattle.canvas_rewrite.proofs.Members.{plan_apart}
 use Rattle.canvas_message.specs.Content.{Content, number_of}
@@ -43,6 +43,7 @@ use Rattle.canvas_runs.proofs.TurnLaw.{holds, the_run}
 use Rattle.canvas_runs.proofs.TurnLogs.{tag, queue_calls_append, queue_calls_splits, queue_calls_entries, table_calls_append, table_calls_splits, table_calls_rows}
 use Rattle.canvas_runs.proofs.TurnRuns.{queue_lines, table_lines, queue_log, table_log, table_by, firsts as first_envelopes, call_stood, stood_all}
 use Rattle.canvas_runs.proofs.Words.{each_append, each_weaker, each_from_in, in_each, cond_cases}
+use Rattle.canvas_backend.specs.Roster.{roster_of, members as roster_members}
 
 -- ---- sums
 
@@ -114,13 +115,13 @@ at_within (suc i) (x ∷ xs) t e = let r = at_within i xs t e in omega (arith, r
 
 module _ (registry : Registry) (l : Line) where
   -- whether a step is a call
-  abbrev pub in_queue : (BrokerCall Envelope → ℕ) → AskedAndAnswered (worker registry l) → ℕ
-  in_queue w y = total w (broker_call (worker registry l) y.0 y.1)
+  abbrev pub in_queue : (BrokerCall Envelope → ℕ) → AskedAndAnswered Envelope Outcome → ℕ
+  in_queue w y = total w (broker_call y.0 y.1)
 
-  abbrev pub in_table : (BackendCall Outcome → ℕ) → AskedAndAnswered (worker registry l) → ℕ
-  in_table w y = total w (backend_call (worker registry l) y.0 y.1)
+  abbrev pub in_table : (BackendCall Outcome → ℕ) → AskedAndAnswered Envelope Outcome → ℕ
+  in_table w y = total w (backend_call y.0 y.1)
 
-  abbrev pub calls_of : AskedAndAnswered (worker registry l) → ℕ
+  abbrev pub calls_of : AskedAndAnswered Envelope Outcome → ℕ
   calls_of y = (in_queue publishing y + in_queue takes_one y) + (in_table keeping_one y + in_table returning y + in_table reading_one y)
 
   abbrev pub calls_in : List Step → ℕ
@@ -129,7 +130,7 @@ module _ (registry : Registry) (l : Line) where
   lines_total : (w : BrokerCall Envelope → ℕ) (xs : List Step) → total w (seconds (queue_calls (queue_lines registry l xs))) ≡ total (λ x. in_queue w x.1) xs
   lines_total w [] = refl
   lines_total w (x ∷ xs) =
-      let call : List (BrokerCall Envelope) = broker_call (worker registry l) x.1.0 x.1.1 in
+      let call : List (BrokerCall Envelope) = broker_call x.1.0 x.1.1 in
       ap (λ g. total w (seconds g)) (queue_calls_append (broker_entries x.0 call) (queue_lines registry l xs) ∙ ap (λ g. g ++ queue_calls (queue_lines registry l xs)) (queue_calls_entries x.0 call (call_stood registry l x.1.0 x.1.1)))
       ∙ (ap (total w) (seconds-append (tag x.0 call) (queue_calls (queue_lines registry l xs)))
       ∙ (total-append w (seconds (tag x.0 call)) (seconds (queue_calls (queue_lines registry l xs))) ∙ ap₂ (λ a b. a + b) (total-tag w x.0 call) (lines_total w xs)))
@@ -137,7 +138,7 @@ module _ (registry : Registry) (l : Line) where
   rows_total : (w : BackendCall Outcome → ℕ) (xs : List Step) → total w (seconds (table_calls (table_lines registry l xs))) ≡ total (λ x. in_table w x.1) xs
   rows_total w [] = refl
   rows_total w (x ∷ xs) =
-      let call : List (BackendCall Outcome) = backend_call (worker registry l) x.1.0 x.1.1 in
+      let call : List (BackendCall Outcome) = backend_call x.1.0 x.1.1 in
       ap (λ g. total w (seconds g)) (table_calls_append (backend_entries x.0 call) (table_lines registry l xs) ∙ ap (λ g. g ++ table_calls (table_lines registry l xs)) (table_calls_rows x.0 call))
       ∙ (ap (total w) (seconds-append (tag x.0 call) (table_calls (table_lines registry l xs)))
       ∙ (total-append w (seconds (tag x.0 call)) (seconds (table_calls (table_lines registry l xs))) ∙ ap₂ (λ a b. a + b) (total-tag w x.0 call) (rows_total w xs)))
@@ -216,23 +217,23 @@ module _ (registry : Registry) (l : Line) (n : ℕ) (us : List ℕ) (xs : List S
   OfMember (returned g u m) = In u (members l g)
   OfMember (has_read u x) = Unit {0}
 
-  member_step : (a : Ask Envelope Outcome) (r : Reply Envelope Outcome) → GoodAsk (worker registry l) G a → Each OfMember (backend_call (worker registry l) a r)
+  member_step : (a : Ask Envelope Outcome) (r : Reply Envelope Outcome) → GoodAsk (worker registry l) G a → Each OfMember (backend_call a r)
   member_step (keep u o) (kept b) g = (tt, tt)
   member_step (part h u) (counted m) g = ((order registry l t.plan).member h u g.0 g.1.0, tt)
   member_step (read h i) (found u x) g = (tt, tt)
   member_step a r g = tt
 
-  member_steps : (ys : List (AskedAndAnswered (worker registry l))) → Each (λ y. GoodAsk (worker registry l) G y.0) ys → Each OfMember (backend_calls (worker registry l) ys)
+  member_steps : (ys : List (AskedAndAnswered Envelope Outcome)) → Each (λ y. GoodAsk (worker registry l) G y.0) ys → Each OfMember (backend_calls ys)
   member_steps [] g = tt
   member_steps (y ∷ ys) g = each_append OfMember _ _ (member_step y.0 y.1 g.0) (member_steps ys g.1)
 
-  its_answers : (p : ℕ) → Each (λ (y : AskedAndAnswered (worker registry l)). GoodAnswer (worker registry l) G y.1) (by p xs)
+  its_answers : (p : ℕ) → Each (λ (y : AskedAndAnswered Envelope Outcome). GoodAnswer (worker registry l) G y.1) (by p xs)
   its_answers p = answers_right (X registry l t.plan) (form registry l t.plan) (Does registry l t.plan) (order registry l t.plan) (value registry l t.plan) (inner_run registry l t.plan R) p
 
   abbrev its_closed : Closed (worker registry l) G
   its_closed = right_closed (X registry l t.plan) (form registry l t.plan) (Does registry l t.plan) (order registry l t.plan) (value registry l t.plan)
 
-  its_asks : (p : ℕ) → Each (λ (y : AskedAndAnswered (worker registry l)). GoodAsk (worker registry l) G y.0) (by p xs)
+  its_asks : (p : ℕ) → Each (λ (y : AskedAndAnswered Envelope Outcome). GoodAsk (worker registry l) G y.0) (by p xs)
   its_asks p = goods_from_careful (worker registry l) G (by p xs) (keeps (worker registry l) G its_closed taking (by p xs) tt (R.is_core p) (R.reads p)) (its_answers p)
 
   all_members : Each OfMember B
@@ -287,7 +288,7 @@ module _ (registry : Registry) (l : Line) (n : ℕ) (us : List ℕ) (xs : List S
   Still s k = k ≡ 0
 
   abbrev Y : Type 0
-  Y = AskedAndAnswered (worker registry l)
+  Y = AskedAndAnswered Envelope Outcome
 
   -- what a step reads, and what is still to be read behind it, is covered by what was to be read and by the parts that it returns
   abbrev Covers : Doing (worker registry l) → Reply Envelope Outcome → Type 0
@@ -310,10 +311,10 @@ module _ (registry : Registry) (l : Line) (n : ℕ) (us : List ℕ) (xs : List S
   few_members : (g : ℕ) → length (members l g) ≤ T
   few_members g = (roster_sound l t.plan).few_members g
 
-  header_few : (g u : ℕ) (c : Load) → F.FormedPart g u c → c.size ≤ T
+  header_few : (g u : ℕ) (c : PCarried) → F.FormedPart g u c → c.size ≤ T
   header_few g u c f = let a = (order registry l t.plan).size g u c f in let b = few_members g in omega (arith, a, b)
 
-  covers : (s : Doing (worker registry l)) (r : Reply Envelope Outcome) → GoodState (worker registry l) G s → reads_member (worker registry l) (ask (worker registry l) s) r → Covers s r
+  covers : (s : Doing (worker registry l)) (r : Reply Envelope Outcome) → GoodState (worker registry l) G s → reads_member (roster_members (roster_of l)) (ask (worker registry l) s) r → Covers s r
   covers taking (taken None) p m k e = (0, refl, omega arith)
   covers taking (taken (Some e)) p m k h = (0, opens_still ((worker registry l).opened e), omega arith)
   covers resting (rested true) p m k e = (0, refl, omega arith)
@@ -343,11 +344,11 @@ module _ (registry : Registry) (l : Line) (n : ℕ) (us : List ℕ) (xs : List S
       (0, refl, omega (arith, many, within, e))
   covers s r p m k e = (0, refl, omega arith)
 
-  reads_of : (s : Doing (worker registry l)) (ys : List Y) → GoodState (worker registry l) G s → IsCoreRun (worker registry l) s ys → ReadsMembers (worker registry l) ys → Each (λ (y : Y). GoodAnswer (worker registry l) G y.1) ys → (k : ℕ) → Still s k
+  reads_of : (s : Doing (worker registry l)) (ys : List Y) → GoodState (worker registry l) G s → IsCoreRun (worker registry l) s ys → ReadsMembers (roster_members (roster_of l)) ys → Each (λ (y : Y). GoodAnswer (worker registry l) G y.1) ys → (k : ℕ) → Still s k
       → total (in_table registry l reading_one) ys ≤ k + T * total (in_table registry l returning) ys
   reads_of s [] p c m a k e = omega arith
   reads_of s (y ∷ ys) p c m a k e =
-      let mine = subst (λ z. reads_member (worker registry l) z y.1) c.0 m.0 in
+      let mine = subst (λ z. reads_member (roster_members (roster_of l)) z y.1) c.0 m.0 in
       let step = covers s y.1 p mine k e in
       let rest = reads_of (answered (worker registry l) s y.1) ys (next_good (worker registry l) G its_closed s y.1 p mine a.0) c.2 m.1 a.1 step.0 step.1 in
       let step' : in_table registry l reading_one y + step.0 ≤ k + T * in_table registry l returning y = subst (λ z. in_table registry l reading_one (z, y.1) + step.0 ≤ k + T * in_table registry l returning (z, y.1)) (sym c.0) step.2 in

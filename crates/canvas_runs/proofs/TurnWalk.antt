@@ -4,7 +4,7 @@ use Rattle.std.proofs.lemmas.Bool.{cases_eq}
 use Rattle.canvas_task.specs.Apply.{Registry}
 use Rattle.canvas_task.specs.declared.outcome.Outcome.{Outcome}
 use Rattle.canvas_semantics.specs.Line.{Line}
-use Rattle.canvas_rewrite.specs.FrozenView.{Load}
+use Rattle.canvas_rewrite.specs.FrozenView.{PCarried}
 use Rattle.canvas_rewrite.specs.Planned.{IsPlan}
 use Rattle.canvas_message.specs.Content.{Content}
 use Rattle.canvas_message.specs.Effects.{first_messages}
@@ -21,6 +21,7 @@ use Rattle.canvas_runs.proofs.TurnRuns.{Lawful, queue_starts, table_starts, queu
 use Rattle.canvas_runs.proofs.TurnStates.{good_left, Ready, part_may, other_ready, own_ready}
 use Rattle.canvas_runs.proofs.Turning.{by_more, by_other, core_more, queue_more, results_more, left_here, left_other, answers_suit}
 use Rattle.canvas_runs.proofs.Words.{each_append}
+use Rattle.canvas_backend.specs.Roster.{members, roster_of}
 
 or_false : (a b : Bool) → (a || b) ≡ false → (a ≡ false) × (b ≡ false)
 or_false true b h = absurd cc
@@ -90,11 +91,11 @@ module _ (registry : Registry) (l : Line) where
   opens_on None e = cc
   opens_on (Some m) e = cc
 
-  handed_on : (b : Bool) (g : ℕ) (c : Load) → ◌≡◌ {A = Doing (worker registry l)} (cond b (reading g c []) taking) over → ⊥
+  handed_on : (b : Bool) (g : ℕ) (c : PCarried) → ◌≡◌ {A = Doing (worker registry l)} (cond b (reading g c []) taking) over → ⊥
   handed_on true g c e = cc
   handed_on false g c e = cc
 
-  read_on : (b : Bool) (js : Jobs (worker registry l)) (g : ℕ) (c : Load) (fs : List (ℕ × Outcome)) → cond b (settled (worker registry l) js false) (reading g c fs) ≡ over → ⊥
+  read_on : (b : Bool) (js : Jobs (worker registry l)) (g : ℕ) (c : PCarried) (fs : List (ℕ × Outcome)) → cond b (settled (worker registry l) js false) (reading g c fs) ≡ over → ⊥
   read_on true js g c fs e = settled_on js false e
   read_on false js g c fs e = cc
 
@@ -156,16 +157,16 @@ module _ (registry : Registry) (l : Line) where
       abbrev x : Step
       x = (p, (a, r))
 
-      more_reads : (zs : List (AskedAndAnswered (worker registry l))) → ReadsMembers (worker registry l) zs → ReadsMembers (worker registry l) (zs ++ (a, r) ∷ [])
-      more_reads zs m = each_append (λ (z : AskedAndAnswered (worker registry l)). reads_member (worker registry l) z.0 z.1) zs ((a, r) ∷ []) m ((answers_suit registry l n xs a r h).1, tt)
+      more_reads : (zs : List (AskedAndAnswered Envelope Outcome)) → ReadsMembers (members (roster_of l)) zs → ReadsMembers (members (roster_of l)) (zs ++ (a, r) ∷ [])
+      more_reads zs m = each_append (λ (z : AskedAndAnswered Envelope Outcome). reads_member (members (roster_of l)) z.0 z.1) zs ((a, r) ∷ []) m ((answers_suit registry l n xs a r h).1, tt)
 
-      core_next : (q : ℕ) → IsCoreRun (worker registry l) taking (by q (xs ++ x ∷ [])) × ReadsMembers (worker registry l) (by q (xs ++ x ∷ []))
+      core_next : (q : ℕ) → IsCoreRun (worker registry l) taking (by q (xs ++ x ∷ [])) × ReadsMembers (members (roster_of l)) (by q (xs ++ x ∷ []))
       core_next q = elim (cases_eq p q) [
         | inl same ↦
-            subst (λ u. IsCoreRun (worker registry l) taking (by u (xs ++ x ∷ [])) × ReadsMembers (worker registry l) (by u (xs ++ x ∷ []))) same
-            (subst (λ ys. IsCoreRun (worker registry l) taking ys × ReadsMembers (worker registry l) ys) (sym (by_more p xs (a, r)))
+            subst (λ u. IsCoreRun (worker registry l) taking (by u (xs ++ x ∷ [])) × ReadsMembers (members (roster_of l)) (by u (xs ++ x ∷ []))) same
+            (subst (λ ys. IsCoreRun (worker registry l) taking ys × ReadsMembers (members (roster_of l)) ys) (sym (by_more p xs (a, r)))
             (core_more (worker registry l) taking (by p xs) (a, r) (k.lawful.core p) refl (answers_suit registry l n xs a r h).0 b, more_reads (by p xs) (k.lawful.reads p)))
-        | inr apart ↦ subst (λ ys. IsCoreRun (worker registry l) taking ys × ReadsMembers (worker registry l) ys) (sym (by_other q p xs (a, r) apart)) (k.lawful.core q, k.lawful.reads q)
+        | inr apart ↦ subst (λ ys. IsCoreRun (worker registry l) taking ys × ReadsMembers (members (roster_of l)) ys) (sym (by_other q p xs (a, r) apart)) (k.lawful.core q, k.lawful.reads q)
       ]
 
       lawful_next : Lawful registry l n (xs ++ x ∷ [])

@@ -11,6 +11,7 @@ use Rattle.canvas_runs.specs.Lists.{by}
 use Rattle.canvas_runs.specs.Protocol.{Protocol}
 use Rattle.canvas_runs.specs.Turns.{Step, queue_next, results_next, queue_from, results_from, left, Answers, HasEnded, Turned, all_taken, skips_turn, takes_turn}
 use Rattle.canvas_runs.specs.Worker.{worker}
+use Rattle.canvas_backend.specs.Roster.{members, roster_of}
 
 -- ---- one more entry of a key, or of another
 
@@ -32,11 +33,11 @@ module _ {A : Type 0} where
 -- ---- one more answered ask of a core run
 
 module _ (X : Protocol) where
-  pub left_more : (s : CoreState X.Message X.Carried X.Outcome) (xs : List (AskedAndAnswered X)) (x : AskedAndAnswered X) → left_after X s (xs ++ x ∷ []) ≡ answered X (left_after X s xs) x.1
+  pub left_more : (s : CoreState X.Message X.Carried X.Outcome) (xs : List (AskedAndAnswered X.Envelope X.Outcome)) (x : AskedAndAnswered X.Envelope X.Outcome) → left_after X s (xs ++ x ∷ []) ≡ answered X (left_after X s xs) x.1
   left_more s [] x = refl
   left_more s (y ∷ xs) x = left_more (answered X s y.1) xs x
 
-  pub core_more : (s : CoreState X.Message X.Carried X.Outcome) (xs : List (AskedAndAnswered X)) (x : AskedAndAnswered X) → IsCoreRun X s xs → x.0 ≡ ask X (left_after X s xs) → Suits X x.0 x.1 → ReadsBack X (left_after X s xs)
+  pub core_more : (s : CoreState X.Message X.Carried X.Outcome) (xs : List (AskedAndAnswered X.Envelope X.Outcome)) (x : AskedAndAnswered X.Envelope X.Outcome) → IsCoreRun X s xs → x.0 ≡ ask X (left_after X s xs) → Suits x.0 x.1 → ReadsBack X (left_after X s xs)
       → IsCoreRun X s (xs ++ x ∷ [])
   core_more s [] x run asks suits back = (asks, (suits, back), tt)
   core_more s (y ∷ xs) x run asks suits back = (run.0, run.1, core_more (answered X s y.1) xs x run.2 asks suits back)
@@ -59,7 +60,7 @@ module _ (registry : Registry) (l : Line) where
   left_other xs p q a r apart = ap (left_after (worker registry l) taking) (by_other p q xs (a, r) apart)
 
   -- the answer is one to the ask, and a read's is of the member that it names
-  pub answers_suit : (n : ℕ) (xs : List Step) (a : Ask Envelope Outcome) (r : Reply Envelope Outcome) → Answers registry l n xs a r → Suits (worker registry l) a r × reads_member (worker registry l) a r
+  pub answers_suit : (n : ℕ) (xs : List Step) (a : Ask Envelope Outcome) (r : Reply Envelope Outcome) → Answers registry l n xs a r → Suits a r × reads_member (members (roster_of l)) a r
   answers_suit n xs take (taken x) h = (tt, tt)
   answers_suit n xs (send e) sent h = (tt, tt)
   answers_suit n xs (keep t o) (kept b) h = (tt, tt)

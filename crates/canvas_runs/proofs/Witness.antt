@@ -6,7 +6,7 @@ use Rattle.crossbeam_queue.specs.SegTies.{SegId}
 use Rattle.atomic_table.specs.Seated.{TableId}
 use Rattle.canvas_history.specs.History.{split, join}
 use Rattle.canvas_backend.specs.Roster.{Roster, roster_of}
-use Rattle.canvas_runs.specs.Core.{take, pause, taken, rested, over, resting}
+use Rattle.canvas_runs.specs.Core.{take, pause, taken, rested, over}
 use Rattle.canvas_runs.specs.Crew.{Mate, Ran, EndedWell}
 use Rattle.canvas_runs.specs.Following.{Pass, Seat, Working}
 use Rattle.canvas_runs.specs.Calls.{follows_all}
@@ -59,7 +59,7 @@ module _ (registry : Registry) (b : SegId Global) (d : TableId) where
   seat_joined = record { of = d; name = 0; seen = split 0 1 ∷ join 0 1 ∷ [] }
 
   abbrev own : Working
-  own = record { pass = joined; seat = seat_joined; left = resting; held = []; tally = none_yet }
+  own = record { pass = joined; seat = seat_joined; left = over; held = []; tally = none_yet }
 
   abbrev ran : Ran registry empty_group joined seat_joined
   unfolding one
@@ -83,9 +83,9 @@ module _ (registry : Registry) (b : SegId Global) (d : TableId) where
     seat_joins = (seat_joined, ((refl, refl, refl, refl, ([], refl, tt, ((refl, refl, refl), ((refl, refl, refl), tt)), λ _. refl)), ([], refl, tt, ((refl, refl, refl), ((refl, refl, refl), tt)), λ _. refl)), refl);
     own = own;
     works = record {
-      run = (take, taken None) ∷ [];
-      is_core = (refl, (tt, tt), tt);
-      reads = (tt, tt);
+      run = (take, taken None) ∷ (pause, rested false) ∷ [];
+      is_core = (refl, (tt, tt), (refl, (tt, tt), tt));
+      reads = (tt, (tt, tt));
       counts = record { taken = refl; published = refl; first = refl; parts = refl; dropped = refl };
       leaves = refl;
       made = [];

@@ -4,23 +4,35 @@ use Rattle.std.specs.Prelude.{ℕ, suc, eqb, cond, ◌≡◌, Bool, true, false,
 use Rattle.canvas_message.specs.Job.{Job, store, publish, hand_in}
 use Rattle.canvas_runs.specs.Protocol.{Protocol}
 
+-- What a worker asks: of the queue an envelope, or that one be published; of the table that a task's outcome be stored, that a member's part be returned to
+-- its chord, and the outcome of a chord's member of this place, from 0. `publish`, `store` and `rest` of the code are `send`, `keep` and `pause` here,
+-- since a script's jobs have the first two names.
 pub data Ask (E O : Type 0) : Type 0 where
   take : Ask E O
   send : E → Ask E O
+  -- task and outcome
   keep : ℕ → O → Ask E O
+  -- chord and task
   part : ℕ → ℕ → Ask E O
+  -- chord and place
   read : ℕ → ℕ → Ask E O
+  -- whether more may come
   pause : Ask E O
+  -- nothing: it has ended
   end : Ask E O
 
 pub data Reply (E O : Type 0) : Type 0 where
   taken : Option E → Reply E O
   sent : Reply E O
+  -- memory was refused for the publish
   refused : Reply E O
   -- true for First, false for Again
   kept : Bool → Reply E O
+  -- how many parts of the chord were returned before
   counted : ℕ → Reply E O
+  -- the member of that place, and its outcome
   found : ℕ → Option O → Reply E O
+  -- whether more may come
   rested : Bool → Reply E O
 
 pub data CoreState (M C O : Type 0) : Type 0 where
@@ -60,6 +72,17 @@ Between taking = Unit
 Between resting = Unit
 Between over = Unit
 Between s = ⊥
+
+-- an answer suits its question by kind alone
+abbrev pub Suits : {E O : Type 0} → Ask E O → Reply E O → Type 0
+Suits take (taken x) = Unit
+Suits (send e) sent = Unit
+Suits (send e) refused = Unit
+Suits (keep t o) (kept a) = Unit
+Suits (part g t) (counted n) = Unit
+Suits (read g i) (found t x) = Unit
+Suits pause (rested a) = Unit
+Suits a r = ⊥
 
 module _ (X : Protocol) where
   abbrev pub Jobs : Type 0
@@ -126,17 +149,6 @@ module _ (X : Protocol) where
   answered (reading g c fs) (found t (Some o)) = all_read g c (fs ++ (t, o) ∷ [])
   answered (reading g c fs) (found t None) = taking
   answered s r = failed
-
-  -- by kind alone
-  abbrev pub Suits : Asked → Answer → Type 0
-  Suits take (taken x) = Unit
-  Suits (send e) sent = Unit
-  Suits (send e) refused = Unit
-  Suits (keep t o) (kept a) = Unit
-  Suits (part g t) (counted n) = Unit
-  Suits (read g i) (found t x) = Unit
-  Suits pause (rested a) = Unit
-  Suits a r = ⊥
 
   -- what is left to do after a core run
   abbrev pub left_after : Doing → List (Asked × Answer) → Doing

@@ -6,20 +6,20 @@ use Rattle.std.specs.Prelude.{◌+◌, ◌≡◌, true, false, List, [], ◌∷�
 use Rattle.canvas_task.specs.Apply.{Registry}
 use Rattle.canvas_task.specs.declared.outcome.Outcome.{Outcome}
 use Rattle.canvas_history.specs.History.{calls}
-use Rattle.canvas_rewrite.specs.FrozenView.{Load}
+use Rattle.canvas_rewrite.specs.FrozenView.{PCarried}
 use Rattle.canvas_message.specs.Content.{Content}
 use Rattle.canvas_message.specs.declared.envelope.Envelope.{Envelope}
 use Rattle.canvas_backend.specs.declared.stored.Stored.TheVariants.{First, Again}
 use Rattle.canvas_backend.specs.Backend.{TableCall, TableReply, store, part, read, was, count, found}
 use Rattle.canvas_backend.specs.Seats as seats
-use Rattle.canvas_backend.specs.Roster.{Roster}
+use Rattle.canvas_backend.specs.Roster.{Roster, members}
 use Rattle.canvas_broker.specs.Broker.{QueueCall, publish, take}
 use Rattle.canvas_broker.specs.Passes as passes
-use Rattle.canvas_runs.specs.Core.{CoreState, taking, IsCoreRun, left_after, Between}
+use Rattle.canvas_runs.specs.Core.{CoreState, taking, over, IsCoreRun, left_after, Between}
 use Rattle.canvas_runs.specs.Calls.{BrokerCall, published, took, BackendCall, stored, returned, has_read, FollowsCore, AskedAndAnswered, broker_calls, backend_calls, ReadsMembers, takes_one}
 use Rattle.canvas_runs.specs.Lists.{Each, total}
 use Rattle.canvas_runs.specs.Tally.{Tally, none_yet, Counted}
-use Rattle.canvas_runs.specs.Worker.{working}
+use Rattle.canvas_runs.specs.Worker.{worker_of}
 
 abbrev pub Pass : Type 0
 Pass = passes.Pass Envelope
@@ -66,7 +66,7 @@ Serves plan s (c ∷ cs) t = (between : Seat) × seats.Stands plan s (calls s.na
 pub record Working : Type 0 where
   pub pass : Pass
   pub seat : Seat
-  pub left : CoreState Content Load Outcome
+  pub left : CoreState Content PCarried Outcome
   pub held : List Envelope
   pub tally : Tally
 
@@ -78,17 +78,21 @@ begins p s = record { pass = p; seat = s; left = taking; held = []; tally = none
 abbrev pub IsDone : Working → Type 0
 IsDone w = Between w.left × (w.held ≡ [])
 
+-- its last ask was a rest, which was answered with no more, and no envelope is left over
+abbrev pub IsOver : Working → Type 0
+IsOver w = (w.left ≡ over) × (w.held ≡ [])
+
 pub record Followed (registry : Registry) (plan : Roster) (w v : Working) : Type 0 where
-  pub run : List (AskedAndAnswered (working registry plan))
-  pub is_core : IsCoreRun (working registry plan) w.left run
+  pub run : List (AskedAndAnswered Envelope Outcome)
+  pub is_core : IsCoreRun (worker_of registry plan) w.left run
   -- a read is of the member that it names
-  pub reads : ReadsMembers (working registry plan) run
+  pub reads : ReadsMembers (members plan) run
   pub counts : Counted plan run w.tally v.tally
-  pub leaves : left_after (working registry plan) w.left run ≡ v.left
+  pub leaves : left_after (worker_of registry plan) w.left run ≡ v.left
   -- the calls of its pass. A take may stand before the core's
   pub made : List (BrokerCall Envelope)
   pub stood : Each Stood made
-  pub follows : FollowsCore (map Some w.held) (broker_calls (working registry plan) run) made
-  pub used : length w.held + total takes_one made ≡ total takes_one (broker_calls (working registry plan) run) + length v.held
+  pub follows : FollowsCore (map Some w.held) (broker_calls run) made
+  pub used : length w.held + total takes_one made ≡ total takes_one (broker_calls run) + length v.held
   pub makes : Makes w.pass made v.pass
-  pub serves : Serves plan w.seat (backend_calls (working registry plan) run) v.seat
+  pub serves : Serves plan w.seat (backend_calls run) v.seat

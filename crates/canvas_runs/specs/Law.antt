@@ -6,7 +6,7 @@ use Rattle.canvas_task.specs.declared.outcome.Outcome.{Outcome}
 use Rattle.canvas_history.specs.History.{calls}
 use Rattle.canvas_semantics.specs.Evaluation.{State, state_of, eval, nothing}
 use Rattle.canvas_semantics.specs.Line.{Line, tree_of}
-use Rattle.canvas_rewrite.specs.FrozenView.{Load}
+use Rattle.canvas_rewrite.specs.FrozenView.{PCarried}
 use Rattle.canvas_message.specs.Content.{Content, number_of}
 use Rattle.canvas_message.specs.Events.{In, Event, DoesIn}
 use Rattle.canvas_message.specs.Job.{publish, hand_in}
@@ -78,7 +78,7 @@ module _ (registry : Registry) (l : Line) where
 
   -- a part that evaluation returns
   abbrev pub IsPart : ℕ → ℕ → Type 0
-  IsPart g t = (c : Load) × (v : Event) × DoesIn registry l v (hand_in g t c)
+  IsPart g t = (c : PCarried) × (v : Event) × DoesIn registry l v (hand_in g t c)
 
   -- every run, closed or not
   pub record FirstPart (r : Run registry l) : Type 0 where
@@ -86,8 +86,8 @@ module _ (registry : Registry) (l : Line) where
     pub stored : (p t : ℕ) (o : Outcome) (a : Stored) → In (calls p (results.store t o) (results.was a)) r.table → (its_state t ≡ Some o) × (a ≡ First)
     -- so each task is pending or has its state
     pub rows : (t : ℕ) → ((results.results (roster_of l) r.table).outcomes t ≡ None) ⊎ ((results.results (roster_of l) r.table).outcomes t ≡ its_state t)
-    -- each envelope that is published is that of the message of a task that is run
-    pub published : (p : ℕ) (e : Envelope) (a : Option Envelope) → In (calls p (broker.publish e) a) r.queue → (c : Content) × (e ≡ sealed c) × IsRunMessage c
+    -- each envelope that is published is that of the message of a task that is run, and reads as it
+    pub published : (p : ℕ) (e : Envelope) (a : Option Envelope) → In (calls p (broker.publish e) a) r.queue → (c : Content) × (e ≡ sealed c) × (opened (book_of l) e ≡ Some c) × IsRunMessage c
     pub published_once : (k : ℕ) → publishes l k r.queue ≤ 1
     -- each part that is returned is one of the evaluation's
     pub returned : (p g t n : ℕ) → In (calls p (results.part g t) (results.count n)) r.table → IsPart g t

@@ -12,7 +12,7 @@ pub mod Following
 pub mod Crew
 pub mod Accounts
 pub mod Causes
-pub mod Callers
+pub mod CallerLaws
 pub mod Rows
 pub mod Turns
 pub mod TurnLaws

@@ -8,7 +8,7 @@ use Rattle.canvas_message.specs.Content.{Content}
 use Rattle.canvas_message.specs.Effects.{first_messages}
 use Rattle.canvas_message.specs.declared.envelope.Envelope.{Envelope}
 use Rattle.canvas_backend.specs.Backend as results
-use Rattle.canvas_backend.specs.Roster.{roster_of}
+use Rattle.canvas_backend.specs.Roster.{roster_of, members}
 use Rattle.canvas_broker.specs.Broker as broker
 use Rattle.canvas_runs.specs.Core.{IsCoreRun, taking, left_after, Between}
 use Rattle.canvas_runs.specs.Calls.{BrokerCall, published, BackendCall, stored, returned, has_read, FollowsCore, AskedAndAnswered, broker_calls, backend_calls, ReadsMembers, takes_one}
@@ -30,10 +30,10 @@ pub record Run (registry : Registry) (l : Line) : Type 0 where
   pub table : results.Log
   pub queue_legal : broker.IsLegal queue
   pub table_legal : results.IsLegal (roster_of l) table
-  pub core : ℕ → List (AskedAndAnswered (worker registry l))
+  pub core : ℕ → List (AskedAndAnswered Envelope Outcome)
   pub is_core : (p : ℕ) → IsCoreRun (worker registry l) taking (core p)
   -- a read is of the member that it names
-  pub reads : (p : ℕ) → ReadsMembers (worker registry l) (core p)
+  pub reads : (p : ℕ) → ReadsMembers (members (roster_of l)) (core p)
   -- What worker 0 publishes before all else, what is left of the first messages, and what it reads at the end.
   pub opening : List Content
   pub unsent : List Content
@@ -43,12 +43,12 @@ pub record Run (registry : Registry) (l : Line) : Type 0 where
   pub opens_back : Each IsReadBack opening
   pub closes : Each IsRead closing
   -- each caller's calls follow its core run
-  pub follows : (p : ℕ) → FollowsCore [] (cond (eqb p 0) (published_all (map sealed opening)) [] ++ broker_calls (worker registry l) (core p)) (by p (queue_calls queue))
-  pub keeps : (p : ℕ) → by p (table_calls table) ≡ backend_calls (worker registry l) (core p) ++ cond (eqb p 0) closing []
+  pub follows : (p : ℕ) → FollowsCore [] (cond (eqb p 0) (published_all (map sealed opening)) [] ++ broker_calls (core p)) (by p (queue_calls queue))
+  pub keeps : (p : ℕ) → by p (table_calls table) ≡ backend_calls (core p) ++ cond (eqb p 0) closing []
 
 -- All first messages are published, the queue is empty at the end, each envelope taken has its script, and no core run stops inside one.
 pub record Closed (registry : Registry) (l : Line) (r : Run registry l) : Type 0 where
   pub all_sent : r.unsent ≡ []
   pub drained : broker.queue_of r.queue ≡ []
-  pub all_used : (p : ℕ) → total takes_one (by p (queue_calls r.queue)) ≡ total takes_one (broker_calls (worker registry l) (r.core p))
+  pub all_used : (p : ℕ) → total takes_one (by p (queue_calls r.queue)) ≡ total takes_one (broker_calls (r.core p))
   pub all_ended : (p : ℕ) → Between (left_after (worker registry l) taking (r.core p))

@@ -8,7 +8,7 @@ use Rattle.canvas_backend.specs.Roster.{Roster}
 use Rattle.canvas_broker.specs.Broker.{QueueEntry as Entries}
 use Rattle.canvas_runs.specs.Book.{book_on}
 use Rattle.canvas_runs.specs.Core.{Ask, Reply, take, send, keep, part, taken, sent, kept, counted}
-use Rattle.canvas_runs.specs.Calls.{BrokerCall, published, took, BackendCall, stored, returned, has_read, takes_one}
+use Rattle.canvas_runs.specs.Calls.{BrokerCall, published, took, BackendCall, stored, returned, has_read, AskedAndAnswered, takes_one}
 use Rattle.canvas_runs.specs.Lists.{total, by}
 use Rattle.canvas_runs.specs.Logs.{queue_calls, table_calls}
 use Rattle.canvas_runs.specs.Worker.{opened}
@@ -53,14 +53,14 @@ is_dropped plan take (taken (Some e)) = is_lost (opened (book_on plan) e)
 is_dropped plan a r = 0
 
 -- how often in these asks
-abbrev pub often : (Ask Envelope Outcome → Reply Envelope Outcome → ℕ) → List (Ask Envelope Outcome × Reply Envelope Outcome) → ℕ
+abbrev pub often : (Ask Envelope Outcome → Reply Envelope Outcome → ℕ) → List (AskedAndAnswered Envelope Outcome) → ℕ
 often w xs = total (λ x. w x.0 x.1) xs
 
 -- one more count, up to what it can hold
 abbrev pub CountsMore : ℕ → ℕ → ℕ → Type 0
 CountsMore n k m = m ≡ min greatest_count (n + k)
 
-pub record Counted (plan : Roster) (run : List (Ask Envelope Outcome × Reply Envelope Outcome)) (t u : Tally) : Type 0 where
+pub record Counted (plan : Roster) (run : List (AskedAndAnswered Envelope Outcome)) (t u : Tally) : Type 0 where
   pub taken : CountsMore t.taken (often is_taken run) u.taken
   pub published : CountsMore t.published (often is_published run) u.published
   pub first : CountsMore t.first (often is_first run) u.first

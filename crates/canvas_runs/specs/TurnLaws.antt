@@ -77,8 +77,12 @@ Answerable plan xs (read g i) = (t : ℕ) × (i < length (members plan g)) × (a
 Answerable plan xs a = Unit {0}
 
 abbrev pub NextAnswerable : Type 0
-NextAnswerable = (registry : Registry) → AnswersInRange registry → (l : Line) (n : ℕ) (us : List ℕ) (xs : List Step) → ByTurns registry l n us xs → (p : ℕ) → IsWorker n p → Answerable (roster_of l) xs (ask (worker registry l) (left registry l xs p))
+NextAnswerable =
+    (registry : Registry) → AnswersInRange registry → (l : Line) (n : ℕ) (us : List ℕ) (xs : List Step) → ByTurns registry l n us xs
+    → (p : ℕ) → IsWorker n p → Answerable (roster_of l) xs (ask (worker registry l) (left registry l xs p))
 
 -- where what calls answer is in range, every outcome held is
 abbrev pub HeldInRange : Type 0
-HeldInRange = (registry : Registry) → AnswersInRange registry → (l : Line) (n : ℕ) (us : List ℕ) (xs : List Step) → ByTurns registry l n us xs → (t : ℕ) (o : Outcome) → (results_after xs).outcomes t ≡ Some o → (t ≤ (roster_of l).tasks) × IsInRange o
+HeldInRange =
+    (registry : Registry) → AnswersInRange registry → (l : Line) (n : ℕ) (us : List ℕ) (xs : List Step) → ByTurns registry l n us xs
+    → (t : ℕ) (o : Outcome) → (results_after xs).outcomes t ≡ Some o → (t ≤ (roster_of l).tasks) × IsInRange o

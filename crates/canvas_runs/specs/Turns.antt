@@ -13,7 +13,7 @@ use Rattle.std.specs.Prelude.{ℕ, zero, suc, ◌≡◌, ◌≤◌, ◌||◌, Bo
 use Rattle.canvas_task.specs.Apply.{Registry}
 use Rattle.canvas_task.specs.declared.outcome.Outcome.{Outcome}
 use Rattle.canvas_semantics.specs.Line.{Line}
-use Rattle.canvas_rewrite.specs.FrozenView.{Load}
+use Rattle.canvas_rewrite.specs.FrozenView.{PCarried}
 use Rattle.canvas_message.specs.Content.{Content}
 use Rattle.canvas_message.specs.Effects.{first_messages}
 use Rattle.canvas_message.specs.declared.envelope.Envelope.{Envelope}
@@ -70,7 +70,7 @@ module _ (l : Line) where
   FirstsRead = Each IsReadBack (first_messages l)
 
 module _ (registry : Registry) (l : Line) where
-  abbrev pub left : List Step → ℕ → CoreState Content Load Outcome
+  abbrev pub left : List Step → ℕ → CoreState Content PCarried Outcome
   left before p = left_after (worker registry l) taking (by p before)
 
   -- one of the workers 1 to n is inside the script of a message

@@ -1,6 +1,5 @@
 -- A run with a chord in it: two sums and the sum of both, by two workers; and a history that is none.
 use Rattle.std.specs.Prelude.{ℕ, eqb, cond, true, false, List, [], ◌∷◌, Some, None, pos, codes}
-use Rattle.canvas_task.specs.Apply.{six_tasks}
 use Rattle.canvas_task.specs.declared.arg.Arg.{Arg}
 use Rattle.canvas_task.specs.declared.arg.Arg.TheVariants as arg
 use Rattle.canvas_task.specs.declared.outcome.Outcome.{Outcome}
@@ -16,7 +15,7 @@ use Rattle.canvas_backend.specs.Backend.{Log, store, part, read, was, count, fou
 use Rattle.canvas_broker.specs.Broker.{QueueEntry as Entries, publish, take}
 use Rattle.canvas_runs.specs.Core as core
 use Rattle.canvas_runs.specs.Calls.{BackendCall, has_read, AskedAndAnswered}
-use Rattle.canvas_runs.specs.Worker.{worker, sealed}
+use Rattle.canvas_runs.specs.Worker.{sealed}
 
 -- ---- the plan: 1 + 1 and 2 + 2, then the sum of both
 
@@ -70,18 +69,18 @@ table =
     ∷ calls 2 (part 1 2) (count 1) ∷ calls 2 (read 1) (found (Some two)) ∷ calls 2 (read 2) (found (Some four)) ∷ calls 1 (store 3 six) (was First)
     ∷ join 0 1 ∷ join 0 2 ∷ calls 0 (read 1) (found (Some two)) ∷ calls 0 (read 2) (found (Some four)) ∷ calls 0 (read 3) (found (Some six)) ∷ []
 
-abbrev pub first_worker : List (AskedAndAnswered (worker six_tasks small))
+abbrev pub first_worker : List (AskedAndAnswered Envelope Outcome)
 first_worker =
     (core.take, core.taken (Some (sealed first_sum))) ∷ (core.keep 1 two, core.kept true) ∷ (core.part 1 1, core.counted 0)
     ∷ (core.take, core.taken (Some (sealed whole_sum))) ∷ (core.keep 3 six, core.kept true) ∷ (core.take, core.taken None) ∷ (core.pause, core.rested false) ∷ []
 
-abbrev pub second_worker : List (AskedAndAnswered (worker six_tasks small))
+abbrev pub second_worker : List (AskedAndAnswered Envelope Outcome)
 second_worker =
     (core.take, core.taken (Some (sealed second_sum))) ∷ (core.keep 2 four, core.kept true) ∷ (core.part 1 2, core.counted 1)
     ∷ (core.read 1 0, core.found 1 (Some two)) ∷ (core.read 1 1, core.found 2 (Some four)) ∷ (core.send (sealed whole_sum), core.sent)
     ∷ (core.take, core.taken None) ∷ (core.pause, core.rested false) ∷ []
 
-abbrev pub workers : ℕ → List (AskedAndAnswered (worker six_tasks small))
+abbrev pub workers : ℕ → List (AskedAndAnswered Envelope Outcome)
 workers p = cond (eqb p 1) first_worker (cond (eqb p 2) second_worker [])
 
 abbrev pub closing : List (BackendCall Outcome)

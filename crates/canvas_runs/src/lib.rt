@@ -11,7 +11,7 @@ ghost use Rattle.canvas_semantics.specs.Line.{Line, tree_of};
 ghost use Rattle.canvas_rewrite.specs.Planned.{IsPlan};
 ghost use Rattle.canvas_semantics.specs.NormalLine.{normal};
 ghost use Rattle.canvas_semantics.specs.Tree.{Tree, IsFull, numbered};
-ghost use Rattle.canvas_runs.specs.Callers.{OneList, OneTable, IsARun, ReadsHeld, RowsMay, RowsAre, CanvasRowsMay, CanvasRowsAre, PublishesByCause, PublishesByItsCause, PublishesOnce, CompletesOnce};
+ghost use Rattle.canvas_runs.specs.CallerLaws.{OneList, OneTable, IsARun, ReadsHeld, RowsMay, RowsAre, CanvasRowsMay, CanvasRowsAre, PublishesByCause, PublishesByItsCause, PublishesOnce, CompletesOnce};
 ghost use Rattle.canvas_runs.specs.Causes.{completions};
 ghost use Rattle.canvas_runs.specs.Rows.{RowsOfWell, RowsOfAny, TalliesCount, ARunStands};
 ghost use Rattle.canvas_runs.specs.Crew.{AreMates, AreRan};

@@ -1,5 +1,5 @@
 -- What stands in a value is less deep than it: so its own depth leaves no signature out.
-use Rattle.std.proofs.Common.{◌≡◌, ℕ, zero, suc, ◌<◌, ◌≤◌, List, [], ◌∷◌, ◌++◌, map, Bool, true, false, Option, Some, None, Ordering, Less, Equal, Greater, refl, ap, ap₂, ◌∙◌, arith}
+use Rattle.std.proofs.Common.{◌≡◌, ℕ, zero, suc, ◌<◌, ◌≤◌, List, [], ◌∷◌, ◌++◌, map, Bool, true, false, Option, Some, None, Ordering, Less, Equal, Greater, refl, sym, ap, ap₂, ◌∙◌, arith}
 use Rattle.std.specs.Prelude.{codes, unwrap_or}
 use Rattle.std.specs.Cmp.Lexicographic.{slice_cmp}
 use Rattle.std.specs.Ordering.{nat_cmp, match_ordering}
@@ -9,6 +9,7 @@ use Rattle.canvas_sig.specs.declared.fault.SigFault.{SigFault}
 use Rattle.canvas_sig.specs.declared.primitive.Primitive.{Primitive}
 use Rattle.canvas_sig.specs.declared.primitive.Primitive.TheVariants as kind
 use Rattle.canvas_sig.specs.Refusals.{first_fault, in_kwargs, fault_within, spelled_call, task_within, header_of, tree_from, tree_within, signature_fault, tree_said}
+use Rattle.canvas_sig.specs.ByParts.{FaultsByParts, TasksByParts, TreesByParts}
 use Rattle.canvas_task.specs.Text.{Text}
 use Rattle.canvas_sig.specs.Fields.{field, subtype, tasks, header, body, link, link_error, items, listed, as_list}
 use Rattle.canvas_sig.specs.Answers.{◌or_else◌}
@@ -111,6 +112,18 @@ enough_faults (suc m) (suc n) linked d low h =
     let errbacks = same_faults n (fault_left m true) (fault_within n true) (λ x l. enough_faults m n true x l (omega arith)) (as_list (link_error d)) (link_low (codes "link_error") d n low) in
     rw (inside, links, errbacks) refl
 
+-- a greater number changes nothing
+any_fault : (n : ℕ) (linked : Bool) (d : Data) → depth d ≤ n → fault_within n linked d ≡ fault_within (depth d) linked d
+any_fault n linked d low = sym (enough_faults (suc n) n linked d low (omega arith)) ∙ enough_faults (suc n) (depth d) linked d (omega arith) (omega arith)
+
+pub faults_by_parts : FaultsByParts
+faults_by_parts linked d =
+    let n = depth d in
+    let inside = same_faults n (fault_within n false) (λ x. fault_within (depth x) false x) (any_fault n false) (in_kwargs (primitive_of (subtype d)) d) (kwargs_low (primitive_of (subtype d)) d n (omega arith)) in
+    let links = same_faults n (fault_within n true) (λ x. fault_within (depth x) true x) (any_fault n true) (as_list (link d)) (link_low (codes "link") d n (omega arith)) in
+    let errbacks = same_faults n (fault_within n true) (λ x. fault_within (depth x) true x) (any_fault n true) (as_list (link_error d)) (link_low (codes "link_error") d n (omega arith)) in
+    sym (any_fault (suc n) linked d (omega arith)) ∙ rw (inside, links, errbacks) refl
+
 -- ---- what is spelled
 
 enough_task : (m n : ℕ) (d : Data) → depth d ≤ n → n ≤ m → task_within m d ≡ task_within n d
@@ -157,6 +170,23 @@ enough_trees (suc m) zero (object ms) low h = absurd (omega arith)
 enough_trees (suc m) (suc n) d low h =
     same_from n (tree_within m) (tree_within n) (λ x l. enough_trees m n x l (omega arith)) (task_within (suc m) d) (task_within (suc n) d)
     (primitive_of (subtype d)) d (enough_task (suc m) (suc n) d low h) low
+
+pub tasks_by_parts : TasksByParts
+tasks_by_parts d =
+    let n = depth d in
+    let same : (x : Data) → depth x ≤ n → task_within n x ≡ task_within (depth x) x = λ x l. enough_task n (depth x) x (omega arith) l in
+    sym (enough_task (suc n) n d (omega arith) (omega arith))
+    ∙ ap₂ (λ ls es. task 0 (spelled_call d) (tasks_of ls) (tasks_of es))
+    (same_map n (task_within n) (λ x. task_within (depth x) x) same (as_list (link d)) (link_low (codes "link") d n (omega arith)))
+    (same_map n (task_within n) (λ x. task_within (depth x) x) same (as_list (link_error d)) (link_low (codes "link_error") d n (omega arith)))
+
+pub trees_by_parts : TreesByParts
+unfolding tree_said
+trees_by_parts d =
+    let n = depth d in
+    sym (enough_trees (suc n) n d (omega arith) (omega arith))
+    ∙ same_from n (tree_within n) (λ x. tree_within (depth x) x) (λ x l. enough_trees n (depth x) x (omega arith) l) (task_within (suc n) d) (task_within n d)
+    (primitive_of (subtype d)) d (enough_task (suc n) n d (omega arith) (omega arith)) (omega arith)
 
 -- ---- a counter that starts above the depth
 

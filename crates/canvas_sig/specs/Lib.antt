@@ -7,6 +7,7 @@ pub mod CanvasText
 pub mod Writable
 pub mod steps
 pub mod Refusals
+pub mod ByParts
 pub mod ComposedRefusals
 pub mod LimitRefusals
 pub mod RefusalNames

@@ -68,8 +68,7 @@ abbrev pub tree_within : ℕ → Data → Tree
 tree_within zero d = one (task_within zero d)
 tree_within (suc n) d = tree_from (task_within (suc n) d) (tree_within n) (primitive_of (subtype d)) d
 
--- ---- As deep as the value is. A greater number changes nothing: `fault_by_parts`, `task_by_parts` and `tree_by_parts` of proofs/Depth
--- say the same with no number at all.
+-- ---- As deep as the value is, which leaves no signature out: `law_of_parts` says the same with no number at all (`ByParts`).
 
 unfoldable pub signature_fault : Data → Option SigFault
 signature_fault d = fault_within (depth d) false d

@@ -19,10 +19,10 @@ use std::alloc::Global;
 use std::marker::Model;
 
 /// The longest text that is read, in bytes.
-const MOST_BYTES: usize = 1_048_576;
+pub const MOST_BYTES: usize = 1_048_576;
 
 /// One more than the levels that JSON is read to, so that no signature is cut off.
-const MOST_LEVELS: u32 = 128;
+pub const MOST_LEVELS: u32 = 128;
 
 /// A signature that passed every check. Contracts compare two canvases by their content; there is no `PartialEq` at run time.
 #[derive(Drop)]

@@ -2,6 +2,7 @@
 #![tactic(auto)]
 
 mod arguments;
+mod by_parts;
 mod canvas;
 mod composed;
 mod copy;
@@ -22,10 +23,12 @@ mod write;
 /// What messages, which carry signatures, read and write them with.
 pub mod parts {
     pub use crate::arguments::{read_args, read_kwargs};
+    pub use crate::canvas::MOST_LEVELS;
     pub use crate::composed::{args_fit, kwargs_fit};
     pub use crate::fields::{
         is_list, is_list_or_null, is_null, is_object_or_null, is_true, kwarg_of, listed, option_of,
     };
+    pub use crate::limits::MOST_REACH;
     pub use crate::own_fault::{is_name, is_text, own_fault};
     pub use crate::primitive::{Primitive, primitive_of};
     pub use crate::reader::text_of;
@@ -36,7 +39,8 @@ pub mod parts {
 }
 
 pub use arguments::read_arg;
-pub use canvas::{Canvas, read_canvas};
+pub use by_parts::law_of_parts;
+pub use canvas::{Canvas, MOST_BYTES, read_canvas};
 pub use copy::{copy_sig, copy_sigs};
 pub use fault::SigFault;
 pub use node::Node;

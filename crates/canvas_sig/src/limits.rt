@@ -13,7 +13,8 @@ use crate::{Node, SigFault};
 
 const MOST_NESTING: u32 = 8;
 
-const MOST_REACH: u32 = 32;
+/// How deeply signatures stand in each other in a message, at most.
+pub const MOST_REACH: u32 = 32;
 
 const MOST_TASKS: u32 = 1024;
 

@@ -4,6 +4,7 @@ ghost use Rattle.std.specs.Prelude.{◌≡◌, ◌+◌, max, map};
 ghost use Rattle.canvas_sig.specs.steps.LineReach.{past, above, reach_of_line, sig_reach, sigs_reach, chord_reach, task_onto, group_reach, onto_reach, all_onto_reach, greatest};
 ghost use Rattle.canvas_sig.specs.View.{view, task_view, tasks_of, trees_of};
 
+use crate::limits::MOST_REACH;
 use crate::{Node, TaskSig};
 
 /// The elements of a line, known by the greatest of their reaches.
@@ -18,7 +19,7 @@ pub(crate) enum LineReach {
 fn above(reach: u32) -> u32
     ensures { result ≡ above reach }
 {
-    reach.min(32) + 1
+    reach.min(MOST_REACH) + 1
 }
 
 /// The reach of a whole line.

@@ -6,7 +6,6 @@ use crate::runs::running;
 use anyhow::Result;
 use canvas_engine::{OpenGate, Stop, run};
 use canvas_rewrite::Plan;
-use canvas_task::Memory;
 use std::alloc::{AllocGlobal, Global};
 use std::random::RandomSource;
 use std::rt::Clock;
@@ -25,10 +24,7 @@ where
     R: Clock + Threads + Wait + RandomSource + AllocGlobal + Sync,
 {
     let start = Instant::now(rt)?;
-    match run(rt, alloc, plan, workers, &OpenGate, &Stop::new()) {
-        Ok(ran) => drop(ran),
-        Err(_) => return Err(Memory.into()),
-    }
+    drop(run(rt, alloc, plan, workers, &OpenGate, &Stop::new())?);
     Ok(start.elapsed(rt)?.as_nanos())
 }
 

@@ -4,7 +4,7 @@ use Rattle.std.specs.Prelude.{ℤ, pos, negsuc, ◌+ℤ◌, ◌*ℤ◌, if◌the
 use Rattle.canvas_task.specs.Numbers.{in_range, floor_div, sum_of}
 use Rattle.canvas_task.specs.Identifiers.{task_named}
 use Rattle.canvas_task.specs.Text.{Text}
-use Rattle.canvas_task.specs.Apply.{AnswersInRange, IsInRange, KnownTask, add, mul, div, xsum, ident, log_error, checked, quotient, logged, task_answer, answer_filled, of_job, six_tasks, job_named, bound_to, parameters}
+use Rattle.canvas_task.specs.Apply.{AnswersInRange, IsInRange, KnownTask, add, mul, div, xsum, ident, log_error, checked, quotient, logged, task_answer, answer_filled, answer_known, six_tasks, known_task, bound_to, parameters}
 use Rattle.canvas_task.specs.declared.arg.Arg.{Arg}
 use Rattle.canvas_task.specs.declared.arg.Arg.TheVariants as arg
 use Rattle.canvas_task.specs.declared.outcome.Fault.TheVariants.{Plain}
@@ -27,22 +27,22 @@ logged_fits : (o : Option ℕ) → IsInRange (logged o)
 logged_fits None = tt
 logged_fits (Some k) = checked_fits (pos k)
 
-answer_fits : (job : KnownTask) (args : List Arg) → IsInRange (task_answer job args)
+answer_fits : (task : KnownTask) (args : List Arg) → IsInRange (task_answer task args)
 answer_fits add (arg.Num x ∷ arg.Num y ∷ []) = checked_fits (x +ℤ y)
 answer_fits mul (arg.Num x ∷ arg.Num y ∷ []) = checked_fits (x *ℤ y)
 answer_fits div (arg.Num x ∷ arg.Num y ∷ []) = quotient_fits x y
 answer_fits xsum (arg.List numbers ∷ []) = checked_fits (sum_of numbers)
 answer_fits ident (arg.Num x ∷ []) = checked_fits x
 answer_fits log_error (arg.Text uuid ∷ []) = logged_fits (task_named uuid)
-answer_fits job args = tt
+answer_fits task args = tt
 
-filled_fits : (job : KnownTask) (o : Option (List Arg)) → IsInRange (answer_filled job o)
-filled_fits job None = tt
-filled_fits job (Some args) = answer_fits job args
+filled_fits : (task : KnownTask) (o : Option (List Arg)) → IsInRange (answer_filled task o)
+filled_fits task None = tt
+filled_fits task (Some args) = answer_fits task args
 
-of_job_fits : (o : Option KnownTask) (args : List Arg) (named : List (Text × Arg)) → IsInRange (of_job o args named)
-of_job_fits None args named = tt
-of_job_fits (Some job) args named = filled_fits job (bound_to (parameters job) args named)
+known_fits : (o : Option KnownTask) (args : List Arg) (named : List (Text × Arg)) → IsInRange (answer_known o args named)
+known_fits None args named = tt
+known_fits (Some task) args named = filled_fits task (bound_to (parameters task) args named)
 
 pub six_in_range : AnswersInRange six_tasks
-six_in_range name args named = of_job_fits (job_named name) args named
+six_in_range name args named = known_fits (known_task name) args named

@@ -23,8 +23,8 @@ pub data KnownTask : Type 0 where
   log_error : KnownTask
 
 -- the task that a name stands for
-abbrev pub job_named : Text → Option KnownTask
-job_named name =
+abbrev pub known_task : Text → Option KnownTask
+known_task name =
     if bytes_eq name (codes "tasks.add") then Some add
     else (if bytes_eq name (codes "tasks.mul") then Some mul
     else (if bytes_eq name (codes "tasks.div") then Some div
@@ -91,17 +91,17 @@ task_answer div (arg.Num x ∷ arg.Num y ∷ []) = quotient x y
 task_answer xsum (arg.List numbers ∷ []) = checked (sum_of numbers)
 task_answer ident (arg.Num x ∷ []) = checked x
 task_answer log_error (arg.Text uuid ∷ []) = logged (task_named uuid)
-task_answer job args = Failure (Plain BadCall)
+task_answer task args = Failure (Plain BadCall)
 
 -- what it answers to arguments that may not have filled its parameters
 abbrev pub answer_filled : KnownTask → Option (List Arg) → Outcome
-answer_filled job None = Failure (Plain BadCall)
-answer_filled job (Some args) = task_answer job args
+answer_filled task None = Failure (Plain BadCall)
+answer_filled task (Some args) = task_answer task args
 
 -- what a task that may be unknown answers
-abbrev pub of_job : Option KnownTask → List Arg → List (Text × Arg) → Outcome
-of_job None args named = Failure (Plain NotRegistered)
-of_job (Some job) args named = answer_filled job (bound_to (parameters job) args named)
+abbrev pub answer_known : Option KnownTask → List Arg → List (Text × Arg) → Outcome
+answer_known None args named = Failure (Plain NotRegistered)
+answer_known (Some task) args named = answer_filled task (bound_to (parameters task) args named)
 
 -- a registry of tasks: what a call answers, by the task's name, its positional arguments and its keyword arguments
 abbrev pub Registry : Type 0
@@ -109,7 +109,7 @@ Registry = Text → List Arg → List (Text × Arg) → Outcome
 
 -- the registry of the six tasks
 abbrev pub six_tasks : Registry
-six_tasks name args named = of_job (job_named name) args named
+six_tasks name args named = answer_known (known_task name) args named
 
 -- a success is of a number in range
 abbrev pub IsInRange : Outcome → Type 0

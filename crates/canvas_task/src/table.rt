@@ -6,7 +6,7 @@ ghost use Rattle.canvas_task.specs.Entries.{named};
 ghost use Rattle.std.specs.List.{list_all, list_any};
 ghost use Rattle.std.specs.Str.{bytes_eq};
 ghost use Rattle.std.specs.Map.{keys_of};
-ghost use Rattle.canvas_task.specs.Apply.{add, mul, div, xsum, ident, log_error, six_tasks, answer_filled, either, by_name, bound_to, checked, quotient, job_named, KnownTask, parameters};
+ghost use Rattle.canvas_task.specs.Apply.{add, mul, div, xsum, ident, log_error, six_tasks, answer_filled, either, by_name, bound_to, checked, quotient, known_task, KnownTask, parameters};
 
 use crate::{Arg, Fault, Kind, Outcome, task_of_text};
 use std::collections::BTreeMap;

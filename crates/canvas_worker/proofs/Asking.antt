@@ -10,7 +10,7 @@ use Rattle.canvas_runs.specs.Following.{Seat, Serves}
 use Rattle.canvas_worker.specs.Asks.{Answer}
 use Rattle.canvas_worker.specs.Books.{book_in}
 use Rattle.canvas_worker.specs.Enveloped.{enveloped}
-use Rattle.canvas_worker.specs.Seats.{Can, LetsAsk}
+use Rattle.canvas_worker.specs.Allowed.{Can, LetsAsk}
 use Rattle.canvas_worker.specs.Standing.{Left, asked}
 use Rattle.canvas_worker.proofs.Books.{books_alike}
 use Rattle.canvas_worker.proofs.Seats.{can_ask, can_go_on}
@@ -25,8 +25,8 @@ same_book plan h = subst (λ p. book_in p ≡ book_on p) (sym h.2) (books_alike 
 pub may_ask : (plan : Roster) → IsOf plan → (s : Seat) (left : Left) → Can plan s left → LetsAsk plan s (asked left)
 may_ask plan h s left = subst (λ p. Can p s left → LetsAsk p s (asked left)) (sym h.2) (can_ask h.0 h.1 s left)
 
-pub may_go_on : (plan : Roster) → IsOf plan → (s t : Seat) (left : Left) (r : Answer) → Can plan s left → Suits (enveloped plan) (asked left) r
-    → Serves plan s (backend_call (enveloped plan) (asked left) r) t → Can plan t (answered (enveloped plan) left r)
+pub may_go_on : (plan : Roster) → IsOf plan → (s t : Seat) (left : Left) (r : Answer) → Can plan s left → Suits (asked left) r
+    → Serves plan s (backend_call (asked left) r) t → Can plan t (answered (enveloped plan) left r)
 may_go_on plan h s t left r =
-    subst (λ p. Can p s left → Suits (enveloped p) (asked left) r → Serves p s (backend_call (enveloped p) (asked left) r) t → Can p t (answered (enveloped p) left r)) (sym h.2)
+    subst (λ p. Can p s left → Suits (asked left) r → Serves p s (backend_call (asked left) r) t → Can p t (answered (enveloped p) left r)) (sym h.2)
     (can_go_on h.0 h.1 s t left r)

@@ -3,14 +3,14 @@ use Rattle.std.proofs.Common.{◌≡◌, ◌∙◌, ℕ, suc, Bool, true, false,
 use Rattle.canvas_task.specs.Apply.{six_tasks}
 use Rattle.canvas_task.specs.declared.outcome.Outcome.{Outcome}
 use Rattle.canvas_semantics.specs.Line.{Line}
-use Rattle.canvas_rewrite.specs.FrozenView.{Load}
+use Rattle.canvas_rewrite.specs.FrozenView.{PCarried}
 use Rattle.canvas_message.specs.Content.{Content, number_of}
 use Rattle.canvas_message.specs.Effects.{outcome_of, after, body_after, script}
 use Rattle.canvas_message.specs.Job.{Job, store, publish, hand_in}
 use Rattle.canvas_message.specs.declared.envelope.Envelope.{Envelope}
 use Rattle.canvas_backend.specs.Roster.{roster_of}
 use Rattle.canvas_runs.specs.Book.{Book, book_on}
-use Rattle.canvas_runs.specs.Core.{take, send, keep, part, read, pause, taken, sent, refused, kept, counted, found, rested, CoreState, taking, resting, over, failed, owning, doing, reading as state_reading, is_due, settled, opens, owned, job_done, ask, answered, Suits, ReadsBack, Between, left_after, IsCoreRun}
+use Rattle.canvas_runs.specs.Core.{send, keep, read, taken, sent, refused, kept, counted, found, rested, CoreState, taking, resting, over, failed, owning, doing, reading as state_reading, is_due, settled, opens, owned, job_done, ask, answered, ReadsBack, Between, left_after, IsCoreRun}
 use Rattle.canvas_runs.specs.Protocol.{Protocol}
 use Rattle.canvas_runs.specs.Worker.{worker, opened}
 use Rattle.canvas_worker.specs.Asks.{Asked, Answer}
@@ -28,10 +28,10 @@ module _ (l : Line) where
   Y = worker six_tasks l
 
   abbrev Doing : Type 0
-  Doing = CoreState Content Load Outcome
+  Doing = CoreState Content PCarried Outcome
 
   abbrev Jobs : Type 0
-  Jobs = List (Job Content Load Outcome)
+  Jobs = List (Job Content PCarried Outcome)
 
   abbrev book : Book
   book = book_on (roster_of l)
@@ -53,7 +53,7 @@ module _ (l : Line) where
   due_alike t (publish c ∷ ks) = due_alike t ks
   due_alike t (hand_in g u c ∷ ks) = refl
 
-  job_alike : (k : Job Content Load Outcome) (ks : Jobs) (b : Bool) (r : Answer) → IsAlike (job_done X (enclosed k) (map enclosed ks) b r) (job_done Y k ks b r)
+  job_alike : (k : Job Content PCarried Outcome) (ks : Jobs) (b : Bool) (r : Answer) → IsAlike (job_done X (enclosed k) (map enclosed ks) b r) (job_done Y k ks b r)
   job_alike (store t o) ks b (kept a) = subst (λ z. IsAlike (settled X (map enclosed ks) (cond z a b)) (settled Y ks (cond (is_due t ks) a b))) (sym (due_alike t ks)) (settled_alike ks (cond (is_due t ks) a b))
   job_alike (publish c) ks b sent = settled_alike ks b
   job_alike (hand_in g t c) ks b (counted n) = part_alike (eqb (suc n) c.size)
@@ -73,7 +73,7 @@ module _ (l : Line) where
 
   -- ---- members
 
-  read_alike : (g : ℕ) (c : Load) (fs : List (ℕ × Outcome)) (z : Bool)
+  read_alike : (g : ℕ) (c : PCarried) (fs : List (ℕ × Outcome)) (z : Bool)
       → IsAlike (cond z (settled X (map enclosed (script (body_after c fs))) false) (state_reading g c fs)) (cond z (settled Y (script (body_after c fs)) false) (state_reading g c fs))
   read_alike g c fs true = settled_alike (script (body_after c fs)) false
   read_alike g c fs false = (refl, (refl, refl))
@@ -84,12 +84,12 @@ module _ (l : Line) where
   step_owning e c is true = subst (λ d. IsAlike (owned X e true) (owned Y d true)) is (settled_alike (script (after (said e) (outcome_of six_tasks (said e)))) true)
   step_owning e c is false = tt
 
-  step_doing : (js : List (Job Envelope Load Outcome)) (b : Bool) (ks : Jobs) (d : Bool) (r : Answer) → js ≡ map enclosed ks → b ≡ d → IsAlike (answered X (doing js b) r) (answered Y (doing ks d) r)
+  step_doing : (js : List (Job Envelope PCarried Outcome)) (b : Bool) (ks : Jobs) (d : Bool) (r : Answer) → js ≡ map enclosed ks → b ≡ d → IsAlike (answered X (doing js b) r) (answered Y (doing ks d) r)
   step_doing js b [] d r is same = subst (λ x. IsAlike (answered X (doing x b) r) failed) (sym is) tt
   step_doing js b (k ∷ ks) d r is same =
       subst (λ x. IsAlike (answered X (doing x b) r) (job_done Y k ks d r)) (sym is) (subst (λ x. IsAlike (job_done X (enclosed k) (map enclosed ks) b r) (job_done Y k ks x r)) same (job_alike k ks b r))
 
-  step_reading : (g : ℕ) (c : Load) (fs : List (ℕ × Outcome)) (r : Answer) → IsAlike (answered X (state_reading g c fs) r) (answered Y (state_reading g c fs) r)
+  step_reading : (g : ℕ) (c : PCarried) (fs : List (ℕ × Outcome)) (r : Answer) → IsAlike (answered X (state_reading g c fs) r) (answered Y (state_reading g c fs) r)
   step_reading g c fs (found t (Some o)) = read_alike g c (fs ++ (t, o) ∷ []) (eqb (length (fs ++ (t, o) ∷ [])) c.size)
   step_reading g c fs (found t None) = tt
   step_reading g c fs (taken x) = tt
@@ -143,13 +143,13 @@ module _ (l : Line) where
 
   -- ---- asks
 
-  job_asks : (k : Job Content Load Outcome) (ks : Jobs) (b d : Bool) → ReadsBack X (doing (enclosed k ∷ map enclosed ks) b)
+  job_asks : (k : Job Content PCarried Outcome) (ks : Jobs) (b d : Bool) → ReadsBack X (doing (enclosed k ∷ map enclosed ks) b)
       → (ask Y (doing (k ∷ ks) d) ≡ ask X (doing (enclosed k ∷ map enclosed ks) b)) × ReadsBack Y (doing (k ∷ ks) d)
   job_asks (store t o) ks b d back = (refl, tt)
   job_asks (publish c) ks b d back = let so = envelope_so c back in (ap (λ e. send e) (sym so.0), so.1)
   job_asks (hand_in g t c) ks b d back = (refl, tt)
 
-  jobs_ask : (js : List (Job Envelope Load Outcome)) (b : Bool) (ks : Jobs) (d : Bool) → js ≡ map enclosed ks → ReadsBack X (doing js b)
+  jobs_ask : (js : List (Job Envelope PCarried Outcome)) (b : Bool) (ks : Jobs) (d : Bool) → js ≡ map enclosed ks → ReadsBack X (doing js b)
       → (ask Y (doing ks d) ≡ ask X (doing js b)) × ReadsBack Y (doing ks d)
   jobs_ask js b [] d is back = subst (λ x. (ask Y (doing [] d) ≡ ask X (doing x b)) × ReadsBack Y (doing [] d)) (sym is) (refl, tt)
   jobs_ask js b (k ∷ ks) d is back =
@@ -164,16 +164,6 @@ module _ (l : Line) where
   asks (doing js b) (doing ks d) a back = jobs_ask js b ks d a.0 back
   asks (state_reading g c fs) (state_reading h d gs) a back = (ap₂ (λ x y. read x (length y)) (sym a.0) (sym a.1.1), tt)
   asks s t a back = absurd a
-
-  suits_alike : (a : Asked) (r : Answer) → Suits X a r → Suits Y a r
-  suits_alike take (taken x) h = h
-  suits_alike (send e) sent h = h
-  suits_alike (send e) refused h = h
-  suits_alike (keep t o) (kept a) h = h
-  suits_alike (part g t) (counted n) h = h
-  suits_alike (read g i) (found t x) h = h
-  suits_alike pause (rested a) h = h
-  suits_alike a r h = h
 
   -- ---- between scripts
 
@@ -214,7 +204,7 @@ module _ (l : Line) where
   carried s t (x ∷ xs) a run =
       let here = asks s t a run.1.1 in
       let after = carried (answered X s x.1) (answered Y t x.1) xs (step s t x.1 a) run.2 in
-      ((run.0 ∙ sym here.0, (suits_alike x.0 x.1 run.1.0, here.1), after.0), after.1)
+      ((run.0 ∙ sym here.0, (run.1.0, here.1), after.0), after.1)
 
 pub cores_are_workers : CoresAreWorkers
 cores_are_workers l xs run = carried l taking taking xs tt run

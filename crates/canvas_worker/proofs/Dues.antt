@@ -2,7 +2,7 @@
 use Rattle.std.proofs.Common.{◌≡◌, ◌∙◌, ℕ, false, eqb, List, [], ◌∷◌, ◌++◌, map, Option, Some, None, refl, ap}
 use Rattle.std.specs.Prelude.{option_map}
 use Rattle.canvas_task.specs.declared.outcome.Outcome.{Outcome}
-use Rattle.canvas_message.specs.Effects.{parted}
+use Rattle.canvas_message.specs.Effects.{part_jobs}
 use Rattle.canvas_message.specs.Job.{store, publish}
 use Rattle.canvas_message.specs.Todos.{part_view}
 use Rattle.canvas_message.specs.declared.todo.PartCall.{PartCall}
@@ -21,13 +21,13 @@ module _ (t : ℕ) where
   after_publishes [] js = refl
   after_publishes (p ∷ ps) js = after_publishes ps js
 
-  part_due : (s : Script) → is_due t (jobs_of s) ≡ is_due t (map enclosed (parted (option_map part_view s.part)))
+  part_due : (s : Script) → is_due t (jobs_of s) ≡ is_due t (map enclosed (part_jobs (option_map part_view s.part)))
   part_due s =
-      let part : EnvelopeJobs = map enclosed (parted (option_map part_view s.part)) in
+      let part : EnvelopeJobs = map enclosed (part_jobs (option_map part_view s.part)) in
       after_stores s.stores.items (map (λ p. publish p.envelope) s.publishes.items ++ part) ∙ after_publishes s.publishes.items part
 
-  by_part : (s : Script) (o : Option PartCall) → s.part ≡ o → is_due t (jobs_of s) ≡ is_due t (map enclosed (parted (option_map part_view o)))
-  by_part s o is = part_due s ∙ ap (λ x. is_due t (map enclosed (parted (option_map part_view x)))) is
+  by_part : (s : Script) (o : Option PartCall) → s.part ≡ o → is_due t (jobs_of s) ≡ is_due t (map enclosed (part_jobs (option_map part_view o)))
+  by_part s o is = part_due s ∙ ap (λ x. is_due t (map enclosed (part_jobs (option_map part_view x)))) is
 
   pub some_due : (s : Script) (p : PartCall) → s.part ≡ Some p → is_due t (jobs_of s) ≡ eqb t p.task
   some_due s p is = by_part s (Some p) is

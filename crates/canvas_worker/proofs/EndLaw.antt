@@ -2,7 +2,7 @@
 use Rattle.std.proofs.Common.{◌≡◌, ◌∙◌, ℕ, Bool, true, false, cond, List, [], ◌∷◌, ◌++◌, Option, Some, None, refl, sym, ap, subst, true≢false}
 use Rattle.std.specs.Prelude.{if◌then◌else◌, eqb, length, map}
 use Rattle.canvas_task.specs.declared.outcome.Outcome.{Outcome}
-use Rattle.canvas_rewrite.specs.FrozenView.{Load}
+use Rattle.canvas_rewrite.specs.FrozenView.{PCarried}
 use Rattle.canvas_message.specs.Effects.{body_after, script}
 use Rattle.canvas_message.specs.Job.{store, publish, hand_in}
 use Rattle.canvas_message.specs.declared.envelope.Envelope.{Envelope}
@@ -79,13 +79,13 @@ either_on false s t hs ht = ht
 no_end : {A : Type 0} (s : Left) → GoesOn s → is_end (asked s) ≡ true → A
 no_end s on h = absurd (true≢false (sym h ∙ on))
 
-all_read_on : {A : Type 0} (book : Book) (g : ℕ) (c : Load) (fs : List (ℕ × Outcome)) → is_end (asked (C.all_read (enveloped_by book) g c fs)) ≡ true → A
+all_read_on : {A : Type 0} (book : Book) (g : ℕ) (c : PCarried) (fs : List (ℕ × Outcome)) → is_end (asked (C.all_read (enveloped_by book) g c fs)) ≡ true → A
 all_read_on book g c fs h =
     no_end (C.all_read (enveloped_by book) g c fs)
     (either_on (eqb (length fs) c.size) (settled (enveloped_by book) (map enveloping.enclosed (script (body_after c fs))) false) (reading g c fs) (settled_on book (map enveloping.enclosed (script (body_after c fs))) false) refl)
     h
 
-ends_by : (book : Book) (s : Left) (r : Answer) → GoesOn s → Suits (enveloped_by book) (asked s) r → is_end (asked (answered (enveloped_by book) s r)) ≡ true → EndsACore (asked s) r
+ends_by : (book : Book) (s : Left) (r : Answer) → GoesOn s → Suits (asked s) r → is_end (asked (answered (enveloped_by book) s r)) ≡ true → EndsACore (asked s) r
 ends_by book taking (taken None) on suit h = no_end resting refl h
 ends_by book taking (taken (Some e)) on suit h = no_end _ (opens_on book (enveloping.envelope_if (opened book e) e)) h
 ends_by book resting (rested true) on suit h = no_end taking refl h
@@ -108,7 +108,7 @@ none_after : (book : Book) (s : Left) (xs : List (Asked × Answer)) → is_end (
 none_after book s [] h run = refl
 none_after book s (x ∷ xs) h run = absurd (unsuited book x.0 x.1 (ap is_end run.0 ∙ h) run.1.0)
   where
-    unsuited : (book : Book) (a : Asked) (r : Answer) → is_end a ≡ true → Suits (enveloped_by book) a r → ⊥
+    unsuited : (book : Book) (a : Asked) (r : Answer) → is_end a ≡ true → Suits a r → ⊥
     unsuited book C.end r is suit = suit
     unsuited book a r is suit = true≢false (sym is)
 
@@ -119,7 +119,7 @@ Behind xs = (ys : List (Asked × Answer)) × (x : Asked × Answer) × (xs ≡ ys
 next : (book : Book) (s : Left) (x : Asked × Answer) (xs : List (Asked × Answer)) (b : Bool) → is_end (asked (answered (enveloped_by book) s x.1)) ≡ b
     → GoesOn s → IsCoreRun (enveloped_by book) s (x ∷ xs) → (GoesOn (answered (enveloped_by book) s x.1) → Behind xs) → Behind (x ∷ xs)
 next book s x xs true is on run later =
-    let last : EndsACore x.0 x.1 = subst (λ a. EndsACore a x.1) (sym run.0) (ends_by book s x.1 on (subst (λ a. Suits (enveloped_by book) a x.1) run.0 run.1.0) is) in
+    let last : EndsACore x.0 x.1 = subst (λ a. EndsACore a x.1) (sym run.0) (ends_by book s x.1 on (subst (λ a. Suits a x.1) run.0 run.1.0) is) in
     ([], x, ap (λ zs. x ∷ zs) (none_after book (answered (enveloped_by book) s x.1) xs is run.2), last)
 next book s x xs false is on run later = let rest = later is in (x ∷ rest.0, rest.1, ap (λ zs. x ∷ zs) rest.2, rest.3)
 

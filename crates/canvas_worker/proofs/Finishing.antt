@@ -3,34 +3,39 @@ use Rattle.std.proofs.Common.{◌≡◌, ◌∙◌, List, [], ◌∷◌, refl, s
 use Rattle.canvas_task.specs.Apply.{six_tasks}
 use Rattle.canvas_task.specs.declared.outcome.Outcome.{Outcome}
 use Rattle.canvas_semantics.specs.Line.{Line}
-use Rattle.canvas_rewrite.specs.FrozenView.{Load}
+use Rattle.canvas_rewrite.specs.FrozenView.{PCarried}
 use Rattle.canvas_message.specs.Content.{Content}
 use Rattle.canvas_backend.specs.Roster.{Roster, roster_of}
 use Rattle.canvas_broker.specs.Passes.{Empties}
-use Rattle.canvas_runs.specs.Core.{CoreState, taking, resting, over, answered, left_after, Between, IsCoreRun}
-use Rattle.canvas_runs.specs.Following.{Pass, Seat, Working, Followed, begins, IsDone}
-use Rattle.canvas_runs.specs.Worker.{worker, working}
+use Rattle.canvas_runs.specs.Core.{CoreState, taking, resting, over, answered, left_after, IsCoreRun}
+use Rattle.canvas_runs.specs.Following.{Pass, Seat, Working, Followed, begins, IsOver}
+use Rattle.canvas_runs.specs.Worker.{worker, worker_of}
 use Rattle.canvas_worker.specs.Asks.{Asked, Answer}
-use Rattle.canvas_worker.specs.Cores.{GoTogether}
+use Rattle.canvas_worker.specs.Cores.{IsAlike, GoTogether}
 use Rattle.canvas_worker.specs.Enveloped.{enveloped}
 use Rattle.canvas_worker.specs.Finished.{WorkersStart, WorkersFinish}
 use Rattle.canvas_worker.specs.Progress.{Progress, Worked, starting}
 use Rattle.canvas_worker.specs.Standing.{Left}
 use Rattle.canvas_worker.proofs.CoreLaw.{cores_are_workers}
 
+-- over together
+over_alike : (t : CoreState Content PCarried Outcome) → IsAlike over t → t ≡ over
+over_alike over a = refl
+over_alike t a = absurd a
+
 -- a worker needs no first messages
 module _ (l : Line) where
-  run_same : (s : CoreState Content Load Outcome) (xs : List (Asked × Answer)) → IsCoreRun (worker six_tasks l) s xs → IsCoreRun (working six_tasks (roster_of l)) s xs
+  run_same : (s : CoreState Content PCarried Outcome) (xs : List (Asked × Answer)) → IsCoreRun (worker six_tasks l) s xs → IsCoreRun (worker_of six_tasks (roster_of l)) s xs
   run_same s [] r = tt
-  run_same s (x ∷ xs) r = (r.0, r.1, run_same (answered (working six_tasks (roster_of l)) s x.1) xs r.2)
+  run_same s (x ∷ xs) r = (r.0, r.1, run_same (answered (worker_of six_tasks (roster_of l)) s x.1) xs r.2)
 
-  left_same : (s : CoreState Content Load Outcome) (xs : List (Asked × Answer)) → left_after (worker six_tasks l) s xs ≡ left_after (working six_tasks (roster_of l)) s xs
+  left_same : (s : CoreState Content PCarried Outcome) (xs : List (Asked × Answer)) → left_after (worker six_tasks l) s xs ≡ left_after (worker_of six_tasks (roster_of l)) s xs
   left_same s [] = refl
-  left_same s (x ∷ xs) = left_same (answered (working six_tasks (roster_of l)) s x.1) xs
+  left_same s (x ∷ xs) = left_same (answered (worker_of six_tasks (roster_of l)) s x.1) xs
 
   -- the same point of the same worker
   abbrev carried : Progress → List (Asked × Answer) → Working
-  carried p xs = record { pass = p.pass; seat = p.seat; left = left_after (working six_tasks (roster_of l)) taking xs; held = p.held; tally = p.tally }
+  carried p xs = record { pass = p.pass; seat = p.seat; left = left_after (worker_of six_tasks (roster_of l)) taking xs; held = p.held; tally = p.tally }
 
   followed : (pass : Pass) (seat : Seat) (p : Progress) (w : Worked (roster_of l) (starting pass seat) p) → Followed six_tasks (roster_of l) (begins pass seat) (carried p w.run)
   followed pass seat p w = record {
@@ -47,11 +52,10 @@ module _ (l : Line) where
     serves = w.serves;
   }
 
-  closed : (pass : Pass) (seat : Seat) (p : Progress) (w : Worked (roster_of l) (starting pass seat) p) → (p.left ≡ over) × (p.held ≡ []) × Empties p.pass → IsDone (carried p w.run)
+  closed : (pass : Pass) (seat : Seat) (p : Progress) (w : Worked (roster_of l) (starting pass seat) p) → (p.left ≡ over) × (p.held ≡ []) × Empties p.pass → IsOver (carried p w.run)
   closed pass seat p w whole =
       let together : GoTogether l (left_after (enveloped (roster_of l)) taking w.run) (left_after (worker six_tasks l) taking w.run) = (cores_are_workers l w.run w.is_core).1 in
-      let between : Between (left_after (enveloped (roster_of l)) taking w.run) = subst (λ s. Between s) (sym (w.leaves ∙ whole.0)) tt in
-      (subst (λ s. Between s) (left_same taking w.run) (together.closed between), whole.1)
+      (sym (left_same taking w.run) ∙ over_alike (left_after (worker six_tasks l) taking w.run) (subst (λ s. IsAlike s (left_after (worker six_tasks l) taking w.run)) (w.leaves ∙ whole.0) together.alike), whole.1)
 
 pub workers_start : WorkersStart
 workers_start l plan broker desk number pass seat is of home = record {

@@ -14,7 +14,7 @@ use Rattle.canvas_runs.specs.Tally.{Tally, Counted, CountsMore, is_dropped, grea
 use Rattle.canvas_worker.specs.Books.{book_in}
 use Rattle.canvas_worker.specs.Enveloped.{enveloped}
 use Rattle.canvas_worker.specs.Progress.{Progress}
-use Rattle.canvas_worker.specs.Seats.{Can}
+use Rattle.canvas_worker.specs.Allowed.{Can}
 use Rattle.canvas_worker.specs.Standing.{Standing, asked, drops, after_reply}
 use Rattle.canvas_worker.specs.WorkerSteps.{Batched, FromHeld}
 use Rattle.canvas_worker.specs.Work.{Work, progress, with_core, with_answer, lost, one_taken, Ready, takes_batch, gives_held, Pends, Leaves, Ends, EndsWith}
@@ -92,8 +92,8 @@ module _ (w u : Work) (es : List Envelope) (e : Envelope) (ready : Ready w) (x :
 
   can : Can plan u.seat core.left
   can =
-      may_go_on plan ready.plan w.seat u.seat w.core.left (C.taken (Some e)) ready.can (subst (λ b. Suits (enveloped plan) b (C.taken (Some e))) (sym x.asked_is) tt)
-      (subst (λ b. Serves plan w.seat (backend_call (enveloped plan) b (C.taken (Some e))) u.seat) (sym x.asked_is) x.seat)
+      may_go_on plan ready.plan w.seat u.seat w.core.left (C.taken (Some e)) ready.can (subst (λ b. Suits b (C.taken (Some e))) (sym x.asked_is) tt)
+      (subst (λ b. Serves plan w.seat (backend_call b (C.taken (Some e))) u.seat) (sym x.asked_is) x.seat)
 
   goes : Pends w given
   goes = record {

@@ -5,7 +5,7 @@ use Rattle.std.proofs.lemmas.Bool.{and_parts, leb-true}
 use Rattle.std.specs.Prelude.{◌&&◌, IsTrue, nat_le}
 use Rattle.canvas_task.specs.declared.outcome.Outcome.{Outcome}
 use Rattle.canvas_task.specs.declared.outcome.Outcome.TheVariants.{Success, Failure}
-use Rattle.canvas_rewrite.specs.FrozenView.{Load}
+use Rattle.canvas_rewrite.specs.FrozenView.{PCarried}
 use Rattle.canvas_semantics.specs.PlacedLine.{PTask, p_task, PTasks, no_p_tasks, and_p_task, PPlace, p_nowhere, p_group, p_chord, PLine, p_stop, p_step, p_group_end, p_chord_end, PLines, no_p_lines, and_p_line}
 use Rattle.canvas_message.specs.Content.{Content, line, number_of, links_of, errbacks_of}
 use Rattle.canvas_message.specs.Effects.{Jobs, callbacks, part_of, fault_behind, when_empty, enter, enter_all, called, header_flow}
@@ -19,7 +19,7 @@ use Rattle.canvas_backend.specs.Roster.{Roster, size, is_member}
 use Rattle.canvas_runs.specs.Book.{Book, book_on, has_size, task_known, tasks_known, place_known, line_known, members_known, parent_known, message_known}
 use Rattle.canvas_runs.specs.Lists.{Each}
 use Rattle.canvas_runs.proofs.Words.{each_append, in_left, in_right}
-use Rattle.canvas_worker.specs.Seats.{Carries}
+use Rattle.canvas_worker.specs.Allowed.{Carries}
 
 -- a store of the task is among the jobs
 abbrev pub Stored : Jobs → ℕ → Type 0
@@ -44,7 +44,7 @@ abbrev pub ended_jobs : Content → Outcome → Jobs
 ended_jobs c o =
     called (links_of c.own) (errbacks_of c.own) (number_of c.own) o ++ enter c.rest (after_outcome o) (end_place (line c)) (number_of c.own) (Some (number_of c.own))
 
-abbrev pub body_jobs : Load → List (ℕ × Outcome) → Jobs
+abbrev pub body_jobs : PCarried → List (ℕ × Outcome) → Jobs
 body_jobs c es = enter c.body (header_flow es) (end_place c.body) 0 None
 
 module _ (plan : Roster) where
@@ -96,7 +96,7 @@ module _ (plan : Roster) where
   -- ---- jobs
 
   -- Q says of which tasks a part may be
-  abbrev pub Known : (ℕ → Type 0) → Job Content Load Outcome → Type 0
+  abbrev pub Known : (ℕ → Type 0) → Job Content PCarried Outcome → Type 0
   Known Q (store t o) = t ≤ plan.tasks
   Known Q (publish m) = Unit {0}
   Known Q (hand_in g t c) = IsTrue (is_member plan g t) × Carries plan g c × Q t
@@ -208,5 +208,5 @@ module _ (plan : Roster) where
         (known_more (Behind k ks) (Behind k (js ++ ks)) ks (λ d z s. ⊎_elim (λ e. inl e) (λ y. inr (stored_right js ks d y)) s)
         (enter_known c.rest (after_outcome o) (end_place (line c)) k (Some k) rest (end_known (line c) 0 whole)))
 
-    pub body_known : (c : Load) (es : List (ℕ × Outcome)) → line_known book c.body ≡ true → Each (Known (Stored (body_jobs c es))) (body_jobs c es)
+    pub body_known : (c : PCarried) (es : List (ℕ × Outcome)) → line_known book c.body ≡ true → Each (Known (Stored (body_jobs c es))) (body_jobs c es)
     body_known c es h = alone_known (body_jobs c es) (enter_known c.body (header_flow es) (end_place c.body) 0 None h (end_known c.body 0 h))

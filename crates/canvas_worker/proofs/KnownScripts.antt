@@ -4,7 +4,7 @@ use Rattle.std.proofs.lemmas.Bool.{eq-eqb}
 use Rattle.std.specs.Prelude.{IsTrue, if◌then◌else◌, nat_lt}
 use Rattle.canvas_task.specs.declared.outcome.Outcome.{Outcome}
 use Rattle.canvas_message.specs.Content.{Content}
-use Rattle.canvas_message.specs.Effects.{Jobs, Part, stores_in, part_in, parted, script, effect_of}
+use Rattle.canvas_message.specs.Effects.{Jobs, Part, stores_in, part_in, part_jobs, script, effect_of}
 use Rattle.canvas_message.specs.Events.{In}
 use Rattle.canvas_message.specs.Job.{store, publish, hand_in}
 use Rattle.canvas_message.specs.Ordered.{put, in_order}
@@ -15,7 +15,7 @@ use Rattle.canvas_runs.specs.Following.{Seat}
 use Rattle.canvas_runs.specs.Lists.{Each, firsts}
 use Rattle.canvas_worker.specs.Enveloped.{enclosed}
 use Rattle.canvas_worker.specs.Scripts as scripts
-use Rattle.canvas_worker.specs.Seats.{Carries, InPlan, MayHandIn}
+use Rattle.canvas_worker.specs.Allowed.{Carries, InPlan, MayHandIn}
 use Rattle.canvas_worker.proofs.KnownJobs.{Known, Stored}
 
 abbrev Stores : Type 0
@@ -90,7 +90,7 @@ module _ (plan : Roster) where
   -- ---- scripts
 
   abbrev sent : Stores → List Content → Option Part → scripts.EnvelopeJobs
-  sent es ms o = map enclosed (map (λ s. store s.0 s.1) es ++ (map (λ m. publish m) ms ++ parted o))
+  sent es ms o = map enclosed (map (λ s. store s.0 s.1) es ++ (map (λ m. publish m) ms ++ part_jobs o))
 
   sent_known : (Q : ℕ → Type 0) (es : Stores) (ms : List Content) (o : Option Part) → Each IsTask es → PartKnown Q o → InPlan plan (sent es ms o)
   sent_known Q [] [] None a h = tt

@@ -15,7 +15,7 @@ use Rattle.canvas_worker.specs.declared.ask.Reply.{Reply}
 use Rattle.canvas_worker.specs.declared.ask.Reply.TheVariants as R
 
 -- a reply that suits by kind is one that the machine's ask admits
-pub suited : (book : Book) (a : Asked) (r : Reply) → suits (shown a) r ≡ true → Suits (enveloped_by book) a (replied r)
+pub suited : (book : Book) (a : Asked) (r : Reply) → suits (shown a) r ≡ true → Suits a (replied r)
 suited book C.take (R.Taken x) h = tt
 suited book (C.send e) R.Published h = tt
 suited book (C.send e) (R.NotPublished f) h = tt
@@ -80,7 +80,7 @@ drops_one_more book s [] x = omega arith
 drops_one_more book s (y ∷ xs) x = let more = drops_one_more book (answered (enveloped_by book) s y.1) xs x in omega (arith, more)
 
 run_one_more : (book : Book) (s : Left) (xs : List (Asked × Answer)) (x : Asked × Answer) → IsCoreRun (enveloped_by book) s xs → x.0 ≡ asked (left_after (enveloped_by book) s xs)
-    → Suits (enveloped_by book) x.0 x.1 → ReadsBack (enveloped_by book) (left_after (enveloped_by book) s xs) → IsCoreRun (enveloped_by book) s (xs ++ x ∷ [])
+    → Suits x.0 x.1 → ReadsBack (enveloped_by book) (left_after (enveloped_by book) s xs) → IsCoreRun (enveloped_by book) s (xs ++ x ∷ [])
 run_one_more book s [] x run is suit back = (is, (suit, back), tt)
 run_one_more book s (y ∷ xs) x run is suit back = (run.0, run.1, run_one_more book (answered (enveloped_by book) s y.1) xs x run.2 is suit back)
 

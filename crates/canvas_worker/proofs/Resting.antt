@@ -1,7 +1,7 @@
 -- A core rests only after a take that found nothing.
 use Rattle.std.proofs.Common.{◌≡◌, ◌∙◌, ℕ, suc, Bool, true, false, cond, eqb, List, [], ◌∷◌, ◌++◌, length, Option, Some, None, refl, sym, subst}
 use Rattle.canvas_task.specs.declared.outcome.Outcome.{Outcome}
-use Rattle.canvas_rewrite.specs.FrozenView.{Load}
+use Rattle.canvas_rewrite.specs.FrozenView.{PCarried}
 use Rattle.canvas_message.specs.Job.{Job, store, publish, hand_in}
 use Rattle.canvas_message.specs.declared.envelope.Envelope.{Envelope}
 use Rattle.canvas_backend.specs.Roster.{Roster}
@@ -22,7 +22,7 @@ module _ (plan : Roster) where
   X = enveloped plan
 
   abbrev Jobs : Type 0
-  Jobs = List (Job Envelope Load Outcome)
+  Jobs = List (Job Envelope PCarried Outcome)
 
   settled_never : (js : Jobs) (b : Bool) → settled X js b ≡ resting → ⊥
   settled_never [] b e = cc
@@ -41,15 +41,15 @@ module _ (plan : Roster) where
   owned_never m true e = settled_never (X.ended m (X.outcome m)) true e
   owned_never m false e = cc
 
-  counted_never : (g : ℕ) (c : Load) (z : Bool) → ◌≡◌ {A = Left} (cond z (reading g c []) taking) resting → ⊥
+  counted_never : (g : ℕ) (c : PCarried) (z : Bool) → ◌≡◌ {A = Left} (cond z (reading g c []) taking) resting → ⊥
   counted_never g c true e = cc
   counted_never g c false e = cc
 
-  read_never : (g : ℕ) (c : Load) (fs : List (ℕ × Outcome)) (z : Bool) → cond z (settled X (X.completed c fs) false) (reading g c fs) ≡ resting → ⊥
+  read_never : (g : ℕ) (c : PCarried) (fs : List (ℕ × Outcome)) (z : Bool) → cond z (settled X (X.completed c fs) false) (reading g c fs) ≡ resting → ⊥
   read_never g c fs true e = settled_never (X.completed c fs) false e
   read_never g c fs false e = cc
 
-  job_never : (j : Job Envelope Load Outcome) (js : Jobs) (b : Bool) (r : Answer) → job_done X j js b r ≡ resting → ⊥
+  job_never : (j : Job Envelope PCarried Outcome) (js : Jobs) (b : Bool) (r : Answer) → job_done X j js b r ≡ resting → ⊥
   job_never (store t o) js b (kept a) e = settled_never js (cond (C.is_due t js) a b) e
   job_never (publish m) js b sent e = settled_never js b e
   job_never (hand_in g t c) js b (counted n) e = counted_never g c (eqb (suc n) (X.size c)) e

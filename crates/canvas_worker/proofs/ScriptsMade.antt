@@ -1,7 +1,7 @@
 -- A script with its envelopes is the script of what is to be done, with its messages as envelopes.
 use Rattle.std.proofs.Common.{◌≡◌, ◌∙◌, ℕ, List, [], ◌∷◌, ◌++◌, map, refl, sym, ap, ap₂}
 use Rattle.canvas_task.specs.declared.outcome.Outcome.{Outcome}
-use Rattle.canvas_rewrite.specs.FrozenView.{Load}
+use Rattle.canvas_rewrite.specs.FrozenView.{PCarried}
 use Rattle.canvas_message.specs.Content.{Content}
 use Rattle.canvas_message.specs.Job.{Job, store, publish}
 use Rattle.canvas_message.specs.declared.envelope.Envelope.{Envelope}
@@ -9,10 +9,10 @@ use Rattle.canvas_worker.specs.Enveloped.{enclosed, envelope_of}
 use Rattle.canvas_worker.specs.declared.sealed.Sealed.{Sealed}
 
 abbrev Jobs : Type 0
-Jobs = List (Job Content Load Outcome)
+Jobs = List (Job Content PCarried Outcome)
 
 abbrev Sent : Type 0
-Sent = List (Job Envelope Load Outcome)
+Sent = List (Job Envelope PCarried Outcome)
 
 abbrev publishes : List Sealed → Sent
 publishes ps = map (λ p. publish p.envelope) ps

@@ -7,7 +7,7 @@ use Rattle.canvas_task.specs.Apply.{six_tasks}
 use Rattle.canvas_task.specs.declared.outcome.Outcome.{Outcome}
 use Rattle.canvas_history.specs.History.{calls}
 use Rattle.canvas_semantics.specs.Line.{Line, GroupEntry, entry_at, entry_members, entry_size}
-use Rattle.canvas_rewrite.specs.FrozenView.{Load}
+use Rattle.canvas_rewrite.specs.FrozenView.{PCarried}
 use Rattle.canvas_rewrite.specs.Planned.{IsPlan}
 use Rattle.canvas_rewrite.proofs.Members.{all_known}
 use Rattle.canvas_message.specs.Content.{Content, number_of}
@@ -26,7 +26,7 @@ use Rattle.canvas_runs.specs.Worker.{opened}
 use Rattle.canvas_worker.specs.Asks.{Answer}
 use Rattle.canvas_worker.specs.Enveloped.{said, enclosed, enveloped, envelope_if as kept_envelope}
 use Rattle.canvas_worker.specs.Scripts.{EnvelopeJobs}
-use Rattle.canvas_worker.specs.Seats.{Carries, InPlan, MayHandIn, Can, LetsAsk, CanAsk, CanGoOn}
+use Rattle.canvas_worker.specs.Allowed.{Carries, InPlan, MayHandIn, Can, LetsAsk, CanAsk, CanGoOn}
 use Rattle.canvas_worker.specs.Standing.{Left, asked}
 use Rattle.canvas_worker.proofs.Books.{no_member_zero}
 use Rattle.canvas_worker.proofs.KnownJobs.{Stored, Behind, own_known, ended_jobs, body_jobs, ended_known, body_known}
@@ -94,11 +94,11 @@ module _ (plan : Roster) where
       go true e = (refl, eqb-true (length t.members) n e)
       go false e = absurd cc
 
-  carried_size : (g : ℕ) (c : Load) → Carries plan g c → IsTrue (is_chord plan g) × (length (members plan g) ≡ c.size)
+  carried_size : (g : ℕ) (c : PCarried) → Carries plan g c → IsTrue (is_chord plan g) × (length (members plan g) ≡ c.size)
   carried_size g c h = chord_size (entry_at plan.groups g) c.size h.0
 
   -- where a part may be the last of its header
-  handed_can : (s : Seat) (g : ℕ) (c : Load) (n : ℕ) → Carries plan g c → Can plan s (cond (eqb (suc n) c.size) (reading g c []) taking)
+  handed_can : (s : Seat) (g : ℕ) (c : PCarried) (n : ℕ) → Carries plan g c → Can plan s (cond (eqb (suc n) c.size) (reading g c []) taking)
   handed_can s g c n h = go (eqb (suc n) c.size) refl
     where
       go : (z : Bool) → eqb (suc n) c.size ≡ z → Can plan s (cond z (reading g c []) taking)
@@ -120,7 +120,7 @@ module _ (l : Line) (is_plan : IsPlan l) where
       settled_can plan s true (map enclosed (script (after c (outcome_of six_tasks c)))) (script_known plan (Behind k js) js known)
       (script_may plan s true (Behind k js) js (λ d q. ⊎_elim (λ e. inr (λ t. subst (λ z. MayReturn plan s.seen s.name z) (sym e) m)) (λ y. inl y) q) known)
 
-  completed_can : (s : Seat) (c : Load) (es : List (ℕ × Outcome)) → line_known (book_on plan) c.body ≡ true → Can plan s (settled (enveloped plan) (map enclosed (script (body_after c es))) false)
+  completed_can : (s : Seat) (c : PCarried) (es : List (ℕ × Outcome)) → line_known (book_on plan) c.body ≡ true → Can plan s (settled (enveloped plan) (map enclosed (script (body_after c es))) false)
   completed_can s c es h =
       let js = body_jobs c es in
       let known = body_known plan none c es h in
@@ -149,7 +149,7 @@ module _ (l : Line) (is_plan : IsPlan l) where
 
   -- ---- answers
 
-  goes_on : (s t : Seat) (left : Left) (r : Answer) → Can plan s left → Serves plan s (backend_call (enveloped plan) (asked left) r) t → Can plan t (answered (enveloped plan) left r)
+  goes_on : (s t : Seat) (left : Left) (r : Answer) → Can plan s left → Serves plan s (backend_call (asked left) r) t → Can plan t (answered (enveloped plan) left r)
   goes_on s t taking (taken None) c call = tt
   goes_on s t taking (taken (Some e)) c call = opened_can plan t e (opened (book_on plan) e) refl
   goes_on s t resting (rested true) c call = tt

@@ -80,13 +80,13 @@ module _ (plan : Roster) where
     dropped = more_added t.dropped u.dropped (is_dropped plan a r) (often (is_dropped plan) run) v.dropped c.dropped d.dropped;
   }
 
-  call_stood : (a : Ask Envelope Outcome) (r : Reply Envelope Outcome) → Each Stood (broker_call (enveloped plan) a r)
+  call_stood : (a : Ask Envelope Outcome) (r : Reply Envelope Outcome) → Each Stood (broker_call a r)
   call_stood take (taken (Some e)) = (tt, tt)
   call_stood (send e) sent = (tt, tt)
   call_stood a r = tt
 
-  call_follows : (a : Ask Envelope Outcome) (r : Reply Envelope Outcome) (held : List Envelope) (cs ls : List (BrokerCall Envelope)) → OnlyBare plan a r held → FollowsCore (map Some held) cs ls
-      → FollowsCore (map Some held) (broker_call (enveloped plan) a r ++ cs) (broker_call (enveloped plan) a r ++ ls)
+  call_follows : (a : Ask Envelope Outcome) (r : Reply Envelope Outcome) (held : List Envelope) (cs ls : List (BrokerCall Envelope)) → OnlyBare a r held → FollowsCore (map Some held) cs ls
+      → FollowsCore (map Some held) (broker_call a r ++ cs) (broker_call a r ++ ls)
   call_follows take (taken (Some e)) held cs ls b f =
       subst (λ hs. FollowsCore (map Some hs) (took (Some e) ∷ cs) (took (Some e) ∷ ls)) (sym b) (follows_list_take (follows_core_take (subst (λ hs. FollowsCore (map Some hs) cs ls) b f)))
   call_follows (send e) sent held cs ls b f = follows_publish f
@@ -112,7 +112,7 @@ module _ (plan : Roster) where
 
   pub call_first : (w v x : Progress) (a : Ask Envelope Outcome) (r : Reply Envelope Outcome) → Called plan w v a r → Worked plan v x → Worked plan w x
   call_first w v x a r s f =
-      let call : List (BrokerCall Envelope) = broker_call (enveloped plan) a r in
+      let call : List (BrokerCall Envelope) = broker_call a r in
       record {
         run = (a, r) ∷ f.run;
         is_core = (s.0.asked, (s.0.suits, s.0.back), subst (λ u. IsCoreRun (enveloped plan) u f.run) s.0.left f.is_core);
@@ -121,10 +121,10 @@ module _ (plan : Roster) where
         leaves = subst (λ u. left_after (enveloped plan) u f.run ≡ x.left) s.0.left f.leaves;
         made = call ++ f.made;
         stood = each_append Stood call f.made (call_stood a r) f.stood;
-        follows = call_follows a r w.held (broker_calls (enveloped plan) f.run) f.made s.2 (subst (λ hs. FollowsCore (map Some hs) (broker_calls (enveloped plan) f.run) f.made) s.1 f.follows);
-        used = (let same : length v.held ≡ length w.held = ap length s.1 in omega (arith, same, f.used, total-append takes_one call f.made, total-append takes_one call (broker_calls (enveloped plan) f.run)));
+        follows = call_follows a r w.held (broker_calls f.run) f.made s.2 (subst (λ hs. FollowsCore (map Some hs) (broker_calls f.run) f.made) s.1 f.follows);
+        used = (let same : length v.held ≡ length w.held = ap length s.1 in omega (arith, same, f.used, total-append takes_one call f.made, total-append takes_one call (broker_calls f.run)));
         makes = makes_append call f.made w.pass v.pass x.pass s.3 f.makes;
-        serves = serves_append plan (backend_call (enveloped plan) a r) (backend_calls (enveloped plan) f.run) w.seat v.seat x.seat s.4 f.serves;
+        serves = serves_append plan (backend_call a r) (backend_calls f.run) w.seat v.seat x.seat s.4 f.serves;
       }
 
   pub held_first : (w v x : Progress) (e : Envelope) → FromHeld plan w v e → Worked plan v x → Worked plan w x
@@ -136,10 +136,10 @@ module _ (plan : Roster) where
     leaves = subst (λ u. left_after (enveloped plan) u f.run ≡ x.left) s.0.left f.leaves;
     made = f.made;
     stood = f.stood;
-    follows = subst (λ hs. FollowsCore (map Some hs) (took (Some e) ∷ broker_calls (enveloped plan) f.run) f.made) (sym s.1) (follows_core_take f.follows);
+    follows = subst (λ hs. FollowsCore (map Some hs) (took (Some e) ∷ broker_calls f.run) f.made) (sym s.1) (follows_core_take f.follows);
     used = (let same : length w.held ≡ length (e ∷ v.held) = ap length s.1 in omega (arith, same, f.used));
     makes = subst (λ p. Makes p f.made x.pass) s.2 f.makes;
-    serves = subst (λ p. Serves plan p (backend_calls (enveloped plan) f.run) x.seat) s.3 f.serves;
+    serves = subst (λ p. Serves plan p (backend_calls f.run) x.seat) s.3 f.serves;
   }
 
   pub batch_first : (w v x : Progress) (es : List Envelope) → Batched w v es → Worked plan v x → Worked plan w x
@@ -151,11 +151,11 @@ module _ (plan : Roster) where
     leaves = subst (λ u. left_after (enveloped plan) u f.run ≡ x.left) s.3 f.leaves;
     made = taking_all es ++ f.made;
     stood = each_append Stood (taking_all es) f.made (batch_stood es) f.stood;
-    follows = batch_follows es (map Some w.held) (broker_calls (enveloped plan) f.run) f.made
-        (subst (λ xs. FollowsCore xs (broker_calls (enveloped plan) f.run) f.made) (ap (λ hs. map Some hs) s.0 ∙ map_more w.held es) f.follows);
+    follows = batch_follows es (map Some w.held) (broker_calls f.run) f.made
+        (subst (λ xs. FollowsCore xs (broker_calls f.run) f.made) (ap (λ hs. map Some hs) s.0 ∙ map_more w.held es) f.follows);
     used = (let same : length v.held ≡ length (w.held ++ es) = ap length s.0 in omega (arith, same, longer w.held es, f.used, total-append takes_one (taking_all es) f.made, batch_takes es));
     makes = makes_append (taking_all es) f.made w.pass v.pass x.pass (took_makes w.pass v.pass es s.1) f.makes;
-    serves = subst (λ p. Serves plan p (backend_calls (enveloped plan) f.run) x.seat) s.2 f.serves;
+    serves = subst (λ p. Serves plan p (backend_calls f.run) x.seat) s.2 f.serves;
   }
 
 -- the member of a place, as a backend answers it

@@ -5,7 +5,7 @@ use Rattle.std.proofs.lemmas.List.Elements.{All-cons}
 use Rattle.canvas_task.specs.Apply.{IsInRange}
 use Rattle.canvas_task.specs.declared.outcome.Outcome.{Outcome}
 use Rattle.canvas_task.specs.declared.outcome.Outcome.TheVariants.{Success, Failure}
-use Rattle.canvas_rewrite.specs.FrozenView.{Load}
+use Rattle.canvas_rewrite.specs.FrozenView.{PCarried}
 use Rattle.canvas_semantics.specs.PlacedLine.{PTasks, no_p_tasks, and_p_task, PPlace, p_nowhere, p_group, p_chord, PLine, p_stop, p_step, p_group_end, p_chord_end, PLines, no_p_lines, and_p_line}
 use Rattle.canvas_message.specs.Content.{Content, line, number_of, links_of, errbacks_of}
 use Rattle.canvas_message.specs.Effects.{Jobs, Effect, callbacks, part_of, fault_behind, when_empty, enter, enter_all, stores_in, called, after, header_flow, body_after}
@@ -16,7 +16,7 @@ use Rattle.canvas_message.specs.Ordered.{put, in_order}
 use Rattle.canvas_message.specs.Placing.{placed, end_place}
 
 -- a job that stores nothing, or a failure
-abbrev StoresFailure : Job Content Load Outcome → Type 0
+abbrev StoresFailure : Job Content PCarried Outcome → Type 0
 StoresFailure (store t o) = IsInRange o
 StoresFailure (publish m) = Unit {0}
 StoresFailure (hand_in g t c) = Unit {0}
@@ -106,12 +106,12 @@ after_stores c o =
     (joined (called (links_of c.own) (errbacks_of c.own) (number_of c.own) o) _ (calls_back (links_of c.own) (errbacks_of c.own) (number_of c.own) o)
     (enters c.rest (after_outcome o) (end_place (line c)) (number_of c.own) (Some (number_of c.own))))
 
-pub body_stores : (c : Load) (es : List (ℕ × Outcome)) → All (λ e. IsInRange e.1) (body_after c es).stores
+pub body_stores : (c : PCarried) (es : List (ℕ × Outcome)) → All (λ e. IsInRange e.1) (body_after c es).stores
 body_stores c es = ordered (enter c.body (header_flow es) (end_place c.body) 0 None) (enters c.body (header_flow es) (end_place c.body) 0 None)
 
 -- of what follows a task, or the members of a header
 pub todo_stores : (c : Content) (o : Outcome) (e : Effect) → e ≡ after c o → All (λ s. IsInRange s.1) e.stores
 todo_stores c o e is = subst (λ x. All (λ s. IsInRange s.1) x.stores) (sym is) (after_stores c o)
 
-pub body_todo_stores : (c : Load) (es : List (ℕ × Outcome)) (e : Effect) → e ≡ body_after c es → All (λ s. IsInRange s.1) e.stores
+pub body_todo_stores : (c : PCarried) (es : List (ℕ × Outcome)) (e : Effect) → e ≡ body_after c es → All (λ s. IsInRange s.1) e.stores
 body_todo_stores c es e is = subst (λ x. All (λ s. IsInRange s.1) x.stores) (sym is) (body_stores c es)

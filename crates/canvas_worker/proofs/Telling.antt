@@ -1,8 +1,8 @@
 -- An ask of a core that its broker or its backend answered.
-use Rattle.std.proofs.Common.{◌≡◌, ◌∙◌, ℕ, ◌+◌, ◌≤◌, min, false, [], ◌∷◌, Some, None, Result, Ok, Err, refl, sym, ap, subst, arith}
+use Rattle.std.proofs.Common.{◌≡◌, ◌∙◌, ℕ, zero, suc, ◌+◌, ◌≤◌, min, Bool, false, [], ◌∷◌, Some, None, Result, Ok, Err, refl, sym, ap, subst, arith}
 use Rattle.std.specs.Prelude.{MatchResult}
 use Rattle.canvas_backend.specs.Seats.{Desk}
-use Rattle.canvas_backend.specs.Roster.{Roster}
+use Rattle.canvas_backend.specs.Roster.{Roster, members}
 use Rattle.canvas_broker.specs.Passes.{Empties}
 use Rattle.canvas_runs.specs.Book.{book_on}
 use Rattle.canvas_runs.specs.Calls.{broker_call, backend_call, reads_member}
@@ -14,7 +14,7 @@ use Rattle.canvas_worker.specs.Asks.{Asked, Answer}
 use Rattle.canvas_worker.specs.Books.{book_in, no_book}
 use Rattle.canvas_worker.specs.Enveloped.{enveloped, enveloped_by}
 use Rattle.canvas_worker.specs.Progress.{Progress}
-use Rattle.canvas_worker.specs.Seats.{Can}
+use Rattle.canvas_worker.specs.Allowed.{Can}
 use Rattle.canvas_worker.specs.Standing.{Standing, asked, drops, after_reply}
 use Rattle.canvas_worker.specs.WorkerSteps.{OnlyBare, Called}
 use Rattle.canvas_worker.specs.Work.{Work, progress, with_core, with_answer, lost, Ready, makes_call, Pends, Leaves, Ends, EndsWith}
@@ -22,38 +22,82 @@ use Rattle.canvas_worker.specs.declared.cause.Cause.TheVariants.{Memory}
 use Rattle.canvas_worker.specs.declared.record.Record.{Record}
 use Rattle.canvas_worker.specs.declared.working.End.{End}
 use Rattle.canvas_worker.proofs.Asking.{same_book, may_go_on}
+use Rattle.canvas_worker.proofs.Resting.{busy_never}
 use Rattle.canvas_worker.proofs.Shown.{drops_so, rests_over}
 use Rattle.canvas_worker.proofs.Turns.{tallied, some_none}
 
 -- ---- one ask answered by the broker or the backend
 
+-- what an ask leaves of a worker as it was
+abbrev pub Beside : Work → Work → Type 0
+Beside w u =
+    (u.broker ≡ w.broker) × (u.desk ≡ w.desk) × (u.number ≡ w.number) × (u.pass.of ≡ w.broker) × (u.seat.of ≡ w.desk.id) × (u.held ≡ w.held)
+    × (u.core.dropped ≡ w.core.dropped)
+
+-- a count that stays, or rises up to what it can hold
+abbrev pub risen : ℕ → ℕ → ℕ
+risen n zero = n
+risen n (suc k) = min greatest_count (n + suc k)
+
+abbrev pub Counts : Work → Work → Asked → Answer → Type 0
+Counts w u a r =
+    (u.taken ≡ risen w.taken (is_taken a r)) × (u.published ≡ risen w.published (is_published a r)) × (u.first ≡ risen w.first (is_first a r))
+    × (u.parts ≡ risen w.parts (is_part a r))
+
 -- Where from w on its broker or its backend was asked a, and answered r; u is the worker before its core is told.
 pub record Asks (w u : Work) (a : Asked) (r : Answer) : Type 0 where
   pub asked_is : asked w.core.left ≡ a
-  pub suits : Suits (enveloped w.desk.plan) a r
+  pub suits : Suits a r
   pub back : ReadsBack (enveloped_by no_book) w.core.left
-  pub member : reads_member (enveloped w.desk.plan) a r
-  pub broker : u.broker ≡ w.broker
-  pub desk : u.desk ≡ w.desk
-  pub number : u.number ≡ w.number
-  pub of : u.pass.of ≡ w.broker
-  pub home : u.seat.of ≡ w.desk.id
-  pub held : u.held ≡ w.held
-  pub bare : OnlyBare w.desk.plan a r w.held
-  pub makes : Makes w.pass (broker_call (enveloped w.desk.plan) a r) u.pass
-  pub serves : Serves w.desk.plan w.seat (backend_call (enveloped w.desk.plan) a r) u.seat
-  pub taken : CountsMore w.taken (is_taken a r + 0) u.taken
-  pub published : CountsMore w.published (is_published a r + 0) u.published
-  pub first : CountsMore w.first (is_first a r + 0) u.first
-  pub parts : CountsMore w.parts (is_part a r + 0) u.parts
-  pub same_drops : u.core.dropped ≡ w.core.dropped
+  pub member : reads_member (members w.desk.plan) a r
+  pub beside : Beside w u
+  pub bare : OnlyBare a r w.held
+  pub makes : Makes w.pass (broker_call a r) u.pass
+  pub serves : Serves w.desk.plan w.seat (backend_call a r) u.seat
+  pub counts : Counts w u a r
   pub still : answered (enveloped w.desk.plan) w.core.left r ≡ C.resting → (u.held ≡ []) × Empties u.pass
   pub none_dropped : is_dropped w.desk.plan a r ≡ 0
   pub core : after_reply (book_in w.desk.plan) u.core r ≡ after_reply (book_in w.desk.plan) w.core r
 
+counts_more : (n k m : ℕ) → n ≤ greatest_count → m ≡ risen n k → CountsMore n (k + 0) m
+counts_more n zero m h e = omega (arith, h, e)
+counts_more n (suc k) m h e = omega (arith, e)
+
+-- a core that rests is answered without a call
+pub rest_asks : (w : Work) (more : Bool) → Ready w → asked w.core.left ≡ C.pause → ReadsBack (enveloped_by no_book) w.core.left → Asks w w C.pause (C.rested more)
+rest_asks w more ready asks back = record {
+  asked_is = asks;
+  suits = tt;
+  back = back;
+  member = tt;
+  beside = (refl, refl, refl, ready.of, ready.home, refl, refl);
+  bare = tt;
+  makes = refl;
+  serves = refl;
+  counts = (refl, refl, refl, refl);
+  still = λ rests. absurd (busy_never w.desk.plan w.core.left (C.rested more) C.pause asks tt rests);
+  none_dropped = refl;
+  core = refl;
+}
+
 module _ (w u : Work) (a : Asked) (r : Answer) (ready : Ready w) (x : Asks w u a r) where
   abbrev plan : Roster
   plan = w.desk.plan
+
+  broker : u.broker ≡ w.broker
+  broker = x.beside.0
+
+  desk : u.desk ≡ w.desk
+  desk = x.beside.1
+
+  number : u.number ≡ w.number
+  number = x.beside.2
+
+  held : u.held ≡ w.held
+  held = x.beside.5
+
+  same_drops : u.core.dropped ≡ w.core.dropped
+  same_drops = x.beside.6
 
   -- where the worker is once its core is told
   abbrev after : Progress
@@ -73,20 +117,20 @@ module _ (w u : Work) (a : Asked) (r : Answer) (ready : Ready w) (x : Asks w u a
 
   counted : Counted plan ((a, r) ∷ []) (progress w).tally after.tally
   counted = record {
-    taken = x.taken;
-    published = x.published;
-    first = x.first;
-    parts = x.parts;
-    dropped = none_lost w.core.dropped u.core.dropped (is_dropped plan a r) ready.counts.4 x.same_drops x.none_dropped;
+    taken = counts_more w.taken (is_taken a r) u.taken ready.counts.0 x.counts.0;
+    published = counts_more w.published (is_published a r) u.published ready.counts.1 x.counts.1;
+    first = counts_more w.first (is_first a r) u.first ready.counts.2 x.counts.2;
+    parts = counts_more w.parts (is_part a r) u.parts ready.counts.3 x.counts.3;
+    dropped = none_lost w.core.dropped u.core.dropped (is_dropped plan a r) ready.counts.4 same_drops x.none_dropped;
   }
 
   pub called : Called plan (progress w) after a r
-  called = (record { asked = sym x.asked_is; suits = x.suits; back = x.back; member = x.member; counts = counted; left = refl }, x.held, x.bare, x.makes, x.serves)
+  called = (record { asked = sym x.asked_is; suits = x.suits; back = x.back; member = x.member; counts = counted; left = refl }, held, x.bare, x.makes, x.serves)
 
   can : Can plan u.seat (answered (enveloped plan) w.core.left r)
   can =
-      may_go_on plan ready.plan w.seat u.seat w.core.left r ready.can (subst (λ b. Suits (enveloped plan) b r) (sym x.asked_is) x.suits)
-      (subst (λ b. Serves plan w.seat (backend_call (enveloped plan) b r) u.seat) (sym x.asked_is) x.serves)
+      may_go_on plan ready.plan w.seat u.seat w.core.left r ready.can (subst (λ b. Suits b r) (sym x.asked_is) x.suits)
+      (subst (λ b. Serves plan w.seat (backend_call b r) u.seat) (sym x.asked_is) x.serves)
 
   -- the core that was told
   abbrev core : Standing
@@ -95,31 +139,31 @@ module _ (w u : Work) (a : Asked) (r : Answer) (ready : Ready w) (x : Asks w u a
   core_is : after_reply (book_in u.desk.plan) u.core r ≡ core
   core_is =
       let so : drops (book_on plan) w.core.left r ≡ is_dropped plan a r = drops_so plan w.core.left r ∙ ap (λ b. is_dropped plan b r) x.asked_is in
-      let dropped : min greatest_count (w.core.dropped + drops (book_on plan) w.core.left r) ≡ u.core.dropped = no_more w.core.dropped u.core.dropped (drops (book_on plan) w.core.left r) ready.counts.4 x.same_drops (so ∙ x.none_dropped) in
-      ap (λ (d : Desk). after_reply (book_in d.plan) u.core r) x.desk ∙ x.core ∙ ap (λ b. after_reply b w.core r) (same_book plan ready.plan)
+      let dropped : min greatest_count (w.core.dropped + drops (book_on plan) w.core.left r) ≡ u.core.dropped = no_more w.core.dropped u.core.dropped (drops (book_on plan) w.core.left r) ready.counts.4 same_drops (so ∙ x.none_dropped) in
+      ap (λ (d : Desk). after_reply (book_in d.plan) u.core r) desk ∙ x.core ∙ ap (λ b. after_reply b w.core r) (same_book plan ready.plan)
       ∙ ap (λ (n : ℕ). record { left = answered (enveloped plan) w.core.left r; is_out = false; dropped = n }) dropped
 
   ready_then : Ready (with_core u core)
   ready_then = record {
-    of = x.of ∙ sym x.broker;
-    home = x.home ∙ sym (ap (λ (d : Desk). d.id) x.desk);
-    plan = (ready.plan.0, ready.plan.1, ap (λ (d : Desk). d.plan) x.desk ∙ ready.plan.2);
+    of = x.beside.3 ∙ sym broker;
+    home = x.beside.4 ∙ sym (ap (λ (d : Desk). d.id) desk);
+    plan = (ready.plan.0, ready.plan.1, ap (λ (d : Desk). d.plan) desk ∙ ready.plan.2);
     inside = refl;
-    can = subst (λ (d : Desk). Can d.plan u.seat core.left) (sym x.desk) can;
+    can = subst (λ (d : Desk). Can d.plan u.seat core.left) (sym desk) can;
     rested = x.still;
     counts = tallied plan a r (progress w).tally after.tally counted;
   }
 
   told_is : (v : Work) → v ≡ with_answer u r → Pends w v
   told_is v e =
-      subst (λ z. Pends w z) (sym (e ∙ ap (λ c. with_core u c) core_is)) (record { broker = x.broker; desk = x.desk; number = x.number; ready = ready_then; moved = makes_call a r called })
+      subst (λ z. Pends w z) (sym (e ∙ ap (λ c. with_core u c) core_is)) (record { broker = broker; desk = desk; number = number; ready = ready_then; moved = makes_call a r called })
 
   fails : (s : Record) → Leaves (lost u) (Some Memory) s → Ends w s
   fails s leaves = record {
     ended = after;
     counted = tallied plan a r (progress w).tally after.tally counted;
     moved = makes_call a r called;
-    is_of = record { same_number = leaves.same_number ∙ x.number; pass = leaves.pass; seat = leaves.seat; counts = leaves.counts; whole = λ none. absurd (some_none Memory (sym leaves.fault_is ∙ none)) };
+    is_of = record { same_number = leaves.same_number ∙ number; pass = leaves.pass; seat = leaves.seat; counts = leaves.counts; whole = λ none. absurd (some_none Memory (sym leaves.fault_is ∙ none)) };
   }
 
   lost_is : (v : Work) → v ≡ lost u → EndsWith w (Some Memory) v
@@ -139,7 +183,7 @@ module _ (w u : Work) (a : Asked) (r : Answer) (ready : Ready w) (x : Asks w u a
         counted = tallied plan a r (progress w).tally after.tally counted;
         moved = makes_call a r called;
         is_of = record {
-          same_number = leaves.same_number ∙ ap (λ (z : Work). z.number) is ∙ x.number;
+          same_number = leaves.same_number ∙ ap (λ (z : Work). z.number) is ∙ number;
           pass = leaves.pass ∙ ap (λ (z : Work). z.pass) is;
           seat = leaves.seat ∙ ap (λ (z : Work). z.seat) is;
           counts = leaves.counts ∙ ap (λ (z : Work). (progress z).tally) is;
@@ -164,4 +208,4 @@ asked_badly w u v a r e is ready x = subst (λ f. EndsWith w f v) (sym is.1) (lo
 pub rests_well : (w u v : Work) → v ≡ with_answer u (C.rested false) → Ready w → Asks w u C.pause (C.rested false) → EndsWith w None v
 rests_well w u v is ready x s leaves =
     let rests : w.core.left ≡ C.resting = rests_over w.core.left x.asked_is in
-    ends_so w u C.pause (C.rested false) ready x v is s leaves (ap (λ l. answered (enveloped w.desk.plan) l (C.rested false)) rests, x.held ∙ (ready.rested rests).0, subst (λ p. Empties p) (sym x.makes) (ready.rested rests).1)
+    ends_so w u C.pause (C.rested false) ready x v is s leaves (ap (λ l. answered (enveloped w.desk.plan) l (C.rested false)) rests, x.beside.5 ∙ (ready.rested rests).0, subst (λ p. Empties p) (sym x.makes) (ready.rested rests).1)

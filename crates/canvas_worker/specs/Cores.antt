@@ -3,7 +3,7 @@ use Rattle.std.specs.Prelude.{◌≡◌, List, map}
 use Rattle.canvas_task.specs.Apply.{six_tasks}
 use Rattle.canvas_task.specs.declared.outcome.Outcome.{Outcome}
 use Rattle.canvas_semantics.specs.Line.{Line}
-use Rattle.canvas_rewrite.specs.FrozenView.{Load}
+use Rattle.canvas_rewrite.specs.FrozenView.{PCarried}
 use Rattle.canvas_message.specs.Content.{Content}
 use Rattle.canvas_backend.specs.Roster.{roster_of}
 use Rattle.canvas_runs.specs.Core.{CoreState, taking, resting, over, failed, owning, doing, reading, ask, left_after, Between, ReadsBack, IsCoreRun}
@@ -13,7 +13,7 @@ use Rattle.canvas_worker.specs.Enveloped.{said, enclosed, enveloped}
 use Rattle.canvas_worker.specs.Standing.{Left}
 
 -- The same point of a script: of a message that was taken the envelope says what it is, and each further message is there as its envelope.
-abbrev pub IsAlike : Left → CoreState Content Load Outcome → Type 0
+abbrev pub IsAlike : Left → CoreState Content PCarried Outcome → Type 0
 IsAlike taking taking = Unit {0}
 IsAlike resting resting = Unit {0}
 IsAlike over over = Unit {0}
@@ -24,7 +24,7 @@ IsAlike (reading g c fs) (reading h d gs) = (g ≡ h) × ((c ≡ d) × (fs ≡ g
 IsAlike s t = ⊥
 
 -- that of a core and that of the worker of a plan
-pub record GoTogether (l : Line) (s : Left) (t : CoreState Content Load Outcome) : Type 0 where
+pub record GoTogether (l : Line) (s : Left) (t : CoreState Content PCarried Outcome) : Type 0 where
   pub alike : IsAlike s t
   -- the next ask of the one is that of the other
   pub asks : ReadsBack (enveloped (roster_of l)) s → ask (worker six_tasks l) t ≡ ask (enveloped (roster_of l)) s

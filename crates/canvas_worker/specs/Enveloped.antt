@@ -3,7 +3,7 @@
 use Rattle.std.specs.Prelude.{◌≡◌, ℕ, Bool, ◌&&◌, if◌then◌else◌, List, [], map, Option, Some, None, is_none, Ok}
 use Rattle.canvas_task.specs.Apply.{six_tasks}
 use Rattle.canvas_task.specs.declared.outcome.Outcome.{Outcome}
-use Rattle.canvas_rewrite.specs.FrozenView.{Load}
+use Rattle.canvas_rewrite.specs.FrozenView.{PCarried}
 use Rattle.canvas_message.specs.Content.{Content, number_of}
 use Rattle.canvas_message.specs.Effects.{outcome_of, after, body_after, script}
 use Rattle.canvas_message.specs.EnvelopeContent.{content_said}
@@ -32,7 +32,7 @@ abbrev pub envelope_of : Content → Envelope
 envelope_of c = if is_sendable c then sealed c else blank
 
 -- a job by its message's envelope
-abbrev pub enclosed : Job Content Load Outcome → Job Envelope Load Outcome
+abbrev pub enclosed : Job Content PCarried Outcome → Job Envelope PCarried Outcome
 enclosed (store t o) = store t o
 enclosed (publish c) = publish (envelope_of c)
 enclosed (hand_in g t l) = hand_in g t l
@@ -47,7 +47,7 @@ abbrev pub enveloped_on : Book → (ℕ → List ℕ) → Protocol
 enveloped_on book lasts = record {
   Envelope = Envelope;
   Message = Envelope;
-  Carried = Load;
+  Carried = PCarried;
   Outcome = Outcome;
   no = λ e. number_of (said e).own;
   outcome = λ e. outcome_of six_tasks (said e);

@@ -8,12 +8,12 @@ use Rattle.canvas_rewrite.specs.Planned.{IsPlan}
 use Rattle.canvas_backend.specs.Seats.{Desk}
 use Rattle.canvas_backend.specs.Roster.{Roster, roster_of}
 use Rattle.canvas_broker.specs.Passes.{Empties}
-use Rattle.canvas_runs.specs.Following.{Pass, Seat, Working, Followed, begins, IsDone}
+use Rattle.canvas_runs.specs.Following.{Pass, Seat, Working, Followed, begins, IsOver}
 use Rattle.canvas_worker.specs.Work.{Ready, TellsOf, working_begun, tally_of}
 use Rattle.canvas_worker.specs.declared.record.Record.{Record}
 
--- The record's pass and seat have followed a core run from where they were given to the worker; without a fault it ended outside of scripts, and the last
--- take found nothing.
+-- The record's pass and seat have followed a core run from where they were given to the worker; without a fault it ended with a rest that was answered with
+-- no more, and the last take found nothing.
 pub record Finished (plan : Roster) (number : ℕ) (pass : Pass) (seat : Seat) (r : Record) : Type 0 where
   pub same_number : r.number ≡ number
   pub ended : Working
@@ -21,7 +21,7 @@ pub record Finished (plan : Roster) (number : ℕ) (pass : Pass) (seat : Seat) (
   pub pass_is : r.pass ≡ ended.pass
   pub seat_is : r.seat ≡ ended.seat
   pub counts : tally_of r ≡ ended.tally
-  pub done : r.fault ≡ None → IsDone ended
+  pub done : r.fault ≡ None → IsOver ended
   pub empty : r.fault ≡ None → Empties r.pass
 
 -- a new worker may be polled

@@ -9,7 +9,7 @@ pub mod Leading
 pub mod AtEnd
 pub mod Progress
 pub mod StepLaws
-pub mod Seats
+pub mod Allowed
 pub mod Work
 pub mod Finished
 pub mod codes

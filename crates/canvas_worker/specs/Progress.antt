@@ -1,7 +1,8 @@
 -- How far a worker is, and what it is for its pass and its seat to have followed a core run from there. Messages are kept as their envelopes.
 use Rattle.std.specs.Prelude.{◌+◌, ◌≡◌, List, [], length, map, Some}
+use Rattle.canvas_task.specs.declared.outcome.Outcome.{Outcome}
 use Rattle.canvas_message.specs.declared.envelope.Envelope.{Envelope}
-use Rattle.canvas_backend.specs.Roster.{Roster}
+use Rattle.canvas_backend.specs.Roster.{Roster, members}
 use Rattle.canvas_runs.specs.Calls.{BrokerCall, FollowsCore, AskedAndAnswered, broker_calls, backend_calls, ReadsMembers, takes_one}
 use Rattle.canvas_runs.specs.Core.{taking, IsCoreRun, left_after}
 use Rattle.canvas_runs.specs.Following.{Pass, Seat, Stood, Makes, Serves}
@@ -24,16 +25,16 @@ starting p s = record { pass = p; seat = s; left = taking; held = []; tally = no
 
 -- from w on its pass and its seat have followed a core run, and it is at v then
 pub record Worked (plan : Roster) (w v : Progress) : Type 0 where
-  pub run : List (AskedAndAnswered (enveloped plan))
+  pub run : List (AskedAndAnswered Envelope Outcome)
   pub is_core : IsCoreRun (enveloped plan) w.left run
   -- a read is of the member that it names
-  pub reads : ReadsMembers (enveloped plan) run
+  pub reads : ReadsMembers (members plan) run
   pub counts : Counted plan run w.tally v.tally
   pub leaves : left_after (enveloped plan) w.left run ≡ v.left
   -- the calls of its pass. A take may stand before the core's
   pub made : List (BrokerCall Envelope)
   pub stood : Each Stood made
-  pub follows : FollowsCore (map Some w.held) (broker_calls (enveloped plan) run) made
-  pub used : length w.held + total takes_one made ≡ total takes_one (broker_calls (enveloped plan) run) + length v.held
+  pub follows : FollowsCore (map Some w.held) (broker_calls run) made
+  pub used : length w.held + total takes_one made ≡ total takes_one (broker_calls run) + length v.held
   pub makes : Makes w.pass made v.pass
-  pub serves : Serves plan w.seat (backend_calls (enveloped plan) run) v.seat
+  pub serves : Serves plan w.seat (backend_calls run) v.seat

@@ -1,7 +1,7 @@
 -- What contracts see of a core.
 use Rattle.std.specs.Prelude.{ℕ, ◌+◌, ◌∷◌, min, is_some, if◌then◌else◌, Bool, false, Option, Some, None}
 use Rattle.canvas_task.specs.declared.outcome.Outcome.{Outcome}
-use Rattle.canvas_rewrite.specs.FrozenView.{Load}
+use Rattle.canvas_rewrite.specs.FrozenView.{PCarried}
 use Rattle.canvas_message.specs.Content.{Content}
 use Rattle.canvas_message.specs.Job.{publish}
 use Rattle.canvas_message.specs.declared.envelope.Envelope.{Envelope}
@@ -14,7 +14,7 @@ use Rattle.canvas_worker.specs.Books.{no_book}
 use Rattle.canvas_worker.specs.Enveloped.{enveloped_by, blank}
 
 abbrev pub Left : Type 0
-Left = CoreState Envelope Load Outcome
+Left = CoreState Envelope PCarried Outcome
 
 -- what is left to do, whether the envelope that is to be published was handed out, and how many envelopes were dropped
 pub record Standing : Type 0 where

@@ -14,7 +14,7 @@ use Rattle.canvas_runs.specs.Tally.{Tally, IsTally}
 use Rattle.canvas_worker.specs.Asks.{Asked, Answer}
 use Rattle.canvas_worker.specs.Books.{book_in}
 use Rattle.canvas_worker.specs.Progress.{Progress, Worked}
-use Rattle.canvas_worker.specs.Seats.{Can}
+use Rattle.canvas_worker.specs.Allowed.{Can}
 use Rattle.canvas_runs.specs.Tally.{greatest_count}
 use Rattle.canvas_worker.specs.Standing.{Standing, begun as new_core, after_reply, failing}
 use Rattle.canvas_worker.specs.WorkerSteps.{Called, FromHeld, Batched}

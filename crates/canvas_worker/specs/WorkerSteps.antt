@@ -2,7 +2,7 @@
 use Rattle.std.specs.Prelude.{◌≡◌, List, [], ◌∷◌, ◌++◌, Some}
 use Rattle.canvas_task.specs.declared.outcome.Outcome.{Outcome}
 use Rattle.canvas_message.specs.declared.envelope.Envelope.{Envelope}
-use Rattle.canvas_backend.specs.Roster.{Roster}
+use Rattle.canvas_backend.specs.Roster.{Roster, members}
 use Rattle.canvas_broker.specs.Passes as passes
 use Rattle.canvas_runs.specs.Core.{Ask, Reply, take, taken, ask, answered, Suits, ReadsBack}
 use Rattle.canvas_runs.specs.Following.{Makes, Serves}
@@ -11,23 +11,23 @@ use Rattle.canvas_runs.specs.Calls.{broker_call, backend_call, reads_member}
 use Rattle.canvas_runs.specs.Tally.{Counted}
 use Rattle.canvas_worker.specs.Enveloped.{enveloped}
 
+-- an envelope is taken from the broker only where none is held
+abbrev pub OnlyBare : Ask Envelope Outcome → Reply Envelope Outcome → List Envelope → Type 0
+OnlyBare take (taken (Some e)) held = held ≡ []
+OnlyBare a r held = Unit
+
 module _ (plan : Roster) where
   -- the core's next ask, answered
   pub record Answered (w v : Progress) (a : Ask Envelope Outcome) (r : Reply Envelope Outcome) : Type 0 where
     pub asked : a ≡ ask (enveloped plan) w.left
-    pub suits : Suits (enveloped plan) a r
+    pub suits : Suits a r
     pub back : ReadsBack (enveloped plan) w.left
-    pub member : reads_member (enveloped plan) a r
+    pub member : reads_member (members plan) a r
     pub counts : Counted plan ((a, r) ∷ []) w.tally v.tally
     pub left : v.left ≡ answered (enveloped plan) w.left r
 
-  -- an envelope is taken from the broker only where none is held
-  abbrev pub OnlyBare : Ask Envelope Outcome → Reply Envelope Outcome → List Envelope → Type 0
-  OnlyBare take (taken (Some e)) held = held ≡ []
-  OnlyBare a r held = Unit
-
   abbrev pub Called : Progress → Progress → Ask Envelope Outcome → Reply Envelope Outcome → Type 0
-  Called w v a r = Answered w v a r × (v.held ≡ w.held) × OnlyBare a r w.held × Makes w.pass (broker_call (enveloped plan) a r) v.pass × Serves plan w.seat (backend_call (enveloped plan) a r) v.seat
+  Called w v a r = Answered w v a r × (v.held ≡ w.held) × OnlyBare a r w.held × Makes w.pass (broker_call a r) v.pass × Serves plan w.seat (backend_call a r) v.seat
 
   abbrev pub FromHeld : Progress → Progress → Envelope → Type 0
   FromHeld w v e = Answered w v take (taken (Some e)) × (w.held ≡ e ∷ v.held) × (v.pass ≡ w.pass) × (v.seat ≡ w.seat)

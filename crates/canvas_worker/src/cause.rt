@@ -1,10 +1,14 @@
 //! Why a run or a worker ends early.
 
+use thiserror::Error;
+
 /// Why a run ended before its canvas.
-#[derive(Clone, Copy, Debug, Drop, PartialEq, Eq)]
+#[derive(Clone, Copy, Debug, Drop, PartialEq, Eq, Error)]
 pub enum Cause {
     /// A growth was refused.
+    #[error("memory refused")]
     Memory,
     /// The run was asked to stop.
+    #[error("stopped")]
     Stopped,
 }

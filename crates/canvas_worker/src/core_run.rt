@@ -34,11 +34,11 @@ impl Model for Core {
     ghost use Rattle.canvas_worker.specs.Standing.{Standing};
     ghost use Rattle.std.specs.Coded.{codes};
     ghost use Rattle.canvas_message.specs.codes.ContentCode.{content_code};
-    ghost use Rattle.canvas_worker.specs.codes.CoreCode.{load_code};
+    ghost use Rattle.canvas_worker.specs.codes.CoreCode.{carried_code};
 
     ghost Value = { Standing };
 
-    ghost coded = { Prim.hlevel (codes, content_code, load_code) };
+    ghost coded = { Prim.hlevel (codes, content_code, carried_code) };
 
     ghost view = { λ c. record { left = left_of c.phase; is_out = is_out c.phase; dropped = c.dropped } };
 }

@@ -25,7 +25,7 @@ ghost use Rattle.canvas_worker.specs.AtEnd.{EndStays, EndsBehind, FailingEnds, F
 ghost use Rattle.canvas_worker.specs.Cores.{CoresAreWorkers};
 ghost use Rattle.canvas_worker.specs.Finished.{WorkersStart, WorkersFinish};
 ghost use Rattle.canvas_worker.specs.Leading.{NoneLead, OneMoreLeads, HandedLeads, HandsOut, PlanLeads};
-ghost use Rattle.canvas_worker.specs.Seats.{WaitingCan, CanAsk, CanGoOn};
+ghost use Rattle.canvas_worker.specs.Allowed.{WaitingCan, CanAsk, CanGoOn};
 ghost use Rattle.canvas_worker.specs.StepLaws.{Rests, CallFirst, HeldFirst, BatchFirst};
 
 pub use ask::{Ask, Reply};

@@ -4,7 +4,7 @@ ghost use Rattle.std.specs.Prelude.{◌≡◌, ◌<◌, ◌++◌, ◌∷◌, [],
 ghost use Rattle.std.specs.Option.{option_map};
 ghost use Rattle.canvas_task.specs.Apply.{IsInRange, six_tasks};
 ghost use Rattle.canvas_message.specs.Carrying.{carried_ok};
-ghost use Rattle.canvas_message.specs.Effects.{after, outcome_of, script as whole, parted};
+ghost use Rattle.canvas_message.specs.Effects.{after, outcome_of, script as whole, part_jobs};
 ghost use Rattle.canvas_message.specs.steps.Elements.{carried_view};
 ghost use Rattle.canvas_message.specs.Job.{store, publish, hand_in};
 ghost use Rattle.canvas_message.specs.Todos.{part_view};
@@ -42,7 +42,7 @@ pub(crate) enum Phase {
 }
 
 fn part_or_take(part: Option<PartCall>, first: bool) -> Phase
-    ensures { IsAt result (settled (enveloped_by no_book) (map enclosed (parted (option_map part_view part))) first) }
+    ensures { IsAt result (settled (enveloped_by no_book) (map enclosed (part_jobs (option_map part_view part))) first) }
 {
     match part {
         Some(part) => {

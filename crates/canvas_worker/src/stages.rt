@@ -11,7 +11,7 @@ ghost use Rattle.canvas_message.specs.codes.ContentCode.{content_code};
 ghost use Rattle.canvas_message.specs.Effects.{after, outcome_of, script as whole};
 ghost use Rattle.canvas_message.specs.steps.Elements.{carried_view};
 ghost use Rattle.canvas_runs.specs.Worker.{read_envelope};
-ghost use Rattle.canvas_worker.specs.codes.CoreCode.{load_code, range_prop};
+ghost use Rattle.canvas_worker.specs.codes.CoreCode.{carried_code, range_prop};
 ghost use Rattle.canvas_worker.specs.Enveloped.{said, enclosed};
 ghost use Rattle.canvas_worker.specs.Scripts.{jobs_of};
 
@@ -29,7 +29,7 @@ pub(crate) struct Owned {
     pub script: Script,
     ghost number: { task ≡ number_of (said envelope).own },
     ghost value: { outcome ≡ outcome_of six_tasks (said envelope) },
-    ghost jobs: { jobs_of script ≡ map enclosed (whole (after (said envelope) (outcome_of six_tasks (said envelope)))) } by { Prim.hlevel (props, codes, content_code, load_code) },
+    ghost jobs: { jobs_of script ≡ map enclosed (whole (after (said envelope) (outcome_of six_tasks (said envelope)))) } by { Prim.hlevel (props, codes, content_code, carried_code) },
     ghost first: { script.first ≡ true },
     ghost in_range: { IsInRange outcome } by { range_prop outcome },
 }

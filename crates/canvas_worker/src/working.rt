@@ -1,6 +1,6 @@
 //! A worker in the middle of its work.
 
-ghost use Rattle.std.specs.Prelude.{◌≡◌, [], Some, MatchResult, true};
+ghost use Rattle.std.specs.Prelude.{◌≡◌, [], Some, Ok, MatchResult, true};
 ghost use Rattle.canvas_task.specs.Apply.{IsInRange};
 ghost use Rattle.canvas_runs.specs.Core.{ReadsBack, taken};
 ghost use Rattle.canvas_worker.specs.Asks.{suits, shown, replied, FoundInRange};
@@ -57,13 +57,13 @@ pub(crate) struct Working<'a, R: Wait, G: Gate> {
 impl<'a, R: Wait, G: Gate> Model for Working<'a, R, G> {
     ghost use Rattle.std.specs.Coded.{codes};
     ghost use Rattle.canvas_message.specs.codes.ContentCode.{content_code};
-    ghost use Rattle.canvas_worker.specs.codes.CoreCode.{load_code};
+    ghost use Rattle.canvas_worker.specs.codes.CoreCode.{carried_code};
     ghost use Rattle.canvas_worker.specs.steps.Held.{held_in};
     ghost use Rattle.canvas_worker.specs.Work.{Work};
 
     ghost Value = { Work };
 
-    ghost coded = { Prim.hlevel (codes, content_code, load_code) };
+    ghost coded = { Prim.hlevel (codes, content_code, carried_code) };
 
     ghost view = { λ w. record { broker = w.broker.now; desk = w.backend.now; number = w.number; pass = w.pass; seat = w.seat; core = w.core; held = held_in w.source; taken = w.taken; published = w.published; first = w.first; parts = w.parts } };
 }
@@ -317,10 +317,30 @@ impl<'a, R: Wait, G: Gate> Working<'a, R, G> {
 
     /// Whether a message is in flight. A worker that has been patient sleeps before it is told so.
     fn has_more(&self) -> bool {
-        if self.idle > PATIENCE {
+        if self.idle >= PATIENCE {
             self.flight.nap(self.rt);
         }
         self.flight.is_some()
+    }
+
+    /// Stores the outcome of a task, unless the gate holds it back: then nothing is done.
+    fn stores_unless(
+        &mut self,
+        is_held_back: bool,
+        task: TaskNo,
+        outcome: Outcome,
+    ) -> Result<(), End>
+        requires ready { Ready self.old }
+        requires asks { shown (asked self.old.core.left) ≡ ask.Store task outcome }
+        requires reads_back { ReadsBack (enveloped_by no_book) self.old.core.left }
+        requires in_range { IsInRange outcome }
+        ensures turned { MatchResult result (λ _. Pends self.old self.new) (λ e. EndsWith self.old e.fault self.new) }
+        ensures held_back { is_held_back ≡ true → (result ≡ Ok tt) × (self.new ≡ self.old) }
+    {
+        if is_held_back {
+            return Ok(());
+        }
+        self.stores(task, outcome)
     }
 
     /// Whether the gate holds back a message that was just taken.
@@ -343,11 +363,8 @@ impl<'a, R: Wait, G: Gate> Working<'a, R, G> {
             Ask::Take => self.takes(),
             Ask::Publish => self.publishes(),
             Ask::Store(task, outcome) => {
-                if self.is_held_back(task) {
-                    Ok(())
-                } else {
-                    self.stores(task, outcome)
-                }
+                let is_held_back = self.is_held_back(task);
+                self.stores_unless(is_held_back, task, outcome)
             }
             Ask::Part(group, task) => self.returns(group, task),
             Ask::Read(group, place) => self.reads(group, place),

@@ -44,15 +44,15 @@ module _ {E : Type 0} where
       × CameFrom v.knows v.heard
       × ((c : ℕ) → among c (callers v) ≡ true → (c ≡ 0) ⊎ (among c (split_off v.knows.seen) ≡ true))
 
-  abbrev pub known : ℕ → List ℕ → List (QueueEntry E) → List (QueueEntry E) → Knowledge E
-  known p cs seen owed = record { of = the_object; name = p; mine = cs; seen = seen; owed = owed }
+  abbrev pub knowledge : ℕ → List ℕ → List (QueueEntry E) → List (QueueEntry E) → Knowledge E
+  knowledge p cs seen owed = record { of = the_object; name = p; mine = cs; seen = seen; owed = owed }
 
   abbrev pub view_of : Knowledge E → List ℕ → View E
   view_of k qs = record { marker = record {}; knows = k; unborn = qs; heard = [] }
 
   -- the view of a new pass, which answers for no caller
   abbrev pub newcomer : View E
-  newcomer = view_of (known 1 [] [] []) []
+  newcomer = view_of (knowledge 1 [] [] []) []
 
   pub record IsKept (items : List (Option E)) (views : List (View E)) (log : List (QueueEntry E)) (owner : ℕ → ℕ) : Type 0 where
     pub legal : IsLegal log
@@ -67,7 +67,7 @@ module _ {E : Type 0} where
 
   -- the first pass becomes the first caller
   abbrev pub root : View E
-  root = view_of (known 0 (0 ∷ []) [] []) []
+  root = view_of (knowledge 0 (0 ∷ []) [] []) []
 
   -- what the steps tell
   abbrev pub Publishes : View E → Option E → View E → Type 0
@@ -95,7 +95,7 @@ module _ {E : Type 0} where
   parted v = view_of v.knows []
 
   abbrev pub child : View E → View E
-  child v = view_of (known (slice_index_or v.unborn 0 0) v.unborn v.knows.seen []) []
+  child v = view_of (knowledge (slice_index_or v.unborn 0 0) v.unborn v.knows.seen []) []
 
   abbrev pub longer : List (QueueEntry E) → List (QueueEntry E) → List (QueueEntry E)
   longer xs ys = cond (nat_lt (length xs) (length ys)) ys xs
@@ -103,7 +103,7 @@ module _ {E : Type 0} where
   abbrev pub united : View E → View E → View E
   united v w = record {
     marker = record {};
-    knows = known v.knows.name (v.knows.mine ++ w.knows.mine) (longer v.knows.seen w.knows.seen) (v.knows.owed ++ (w.knows.owed ++ join v.knows.name w.knows.name ∷ []));
+    knows = knowledge v.knows.name (v.knows.mine ++ w.knows.mine) (longer v.knows.seen w.knows.seen) (v.knows.owed ++ (w.knows.owed ++ join v.knows.name w.knows.name ∷ []));
     unborn = [];
     heard = v.knows ∷ w.knows ∷ [];
   }
@@ -113,4 +113,4 @@ module _ {E : Type 0} where
   Heard v items = CameFrom v.knows v.heard × IsHistory v.knows
 
   abbrev pub spent : View E
-  spent = view_of (known 0 [] [] []) []
+  spent = view_of (knowledge 0 [] [] []) []

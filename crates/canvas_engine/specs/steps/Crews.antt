@@ -9,7 +9,7 @@ use Rattle.canvas_rewrite.specs.Planned.{IsPlan}
 use Rattle.canvas_message.specs.Effects.{first_messages}
 use Rattle.canvas_backend.specs.Roster.{Roster, roster_of}
 use Rattle.canvas_runs.specs.Crew.{Mate, SplitPasses, JoinPasses, SplitSeats, JoinSeats, first_pass, first_seat}
-use Rattle.canvas_runs.specs.Following.{Pass, Seat, Makes, IsDone}
+use Rattle.canvas_runs.specs.Following.{Pass, Seat, Makes, IsOver}
 use Rattle.canvas_runs.specs.Lists.{Each}
 use Rattle.canvas_runs.specs.Run.{published_all}
 use Rattle.canvas_runs.specs.Tally.{Tally as Counts}
@@ -59,7 +59,7 @@ tallies_from k (m ∷ ms) = numbered_counts k m.ended.tally ∷ tallies_from (su
 
 -- where none of them ended with a fault
 pub record IsWellGathered (l : Line) (mates : List (Mate six_tasks (roster_of l))) (counted : List Tally) : Type 0 where
-  pub done : Each (λ (m : Mate six_tasks (roster_of l)). IsDone m.ended) mates
+  pub done : Each (λ (m : Mate six_tasks (roster_of l)). IsOver m.ended) mates
   pub tallies : counted ≡ nothing_counted 0 ∷ tallies_from 1 mates
 
 pub record AreGathered (l : Line) (n : ℕ) (fault : Option Cause) (g : Gathered) : Type 0 where

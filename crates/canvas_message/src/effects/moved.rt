@@ -1,28 +1,30 @@
 //! What follows a message that is given up: the next task of its line takes over what it carries.
 
 ghost use Rattle.std.specs.Prelude.{◌≡◌, true, false, IfOk, MatchOption};
+ghost use Rattle.std.specs.Option.{option_map};
 ghost use Rattle.canvas_task.specs.Numbers.{in_range};
 ghost use Rattle.canvas_task.specs.Apply.{IsInRange};
-ghost use Rattle.canvas_task.specs.declared.outcome.Outcome.TheVariants.{Success};
+ghost use Rattle.canvas_task.specs.declared.outcome.Outcome.TheVariants.{Success, Failure};
 ghost use Rattle.canvas_rewrite.specs.FrozenView.{p_line_view, p_task_view};
-ghost use Rattle.canvas_semantics.specs.PlacedLine.{p_step};
-ghost use Rattle.canvas_message.specs.Effects.{after, message};
+ghost use Rattle.canvas_semantics.specs.PlacedLine.{p_step, p_stop};
+ghost use Rattle.canvas_message.specs.Carrying.{place_stands};
+ghost use Rattle.canvas_message.specs.Effects.{after, message, part_in, part_of};
 ghost use Rattle.canvas_message.specs.Fits.{fits};
-ghost use Rattle.canvas_message.specs.Todos.{todo_view};
-ghost use Rattle.canvas_message.specs.View.{rest_seen};
+ghost use Rattle.canvas_message.specs.Todos.{part_view, todo_view};
+ghost use Rattle.canvas_message.specs.View.{place_seen, rest_seen};
 ghost use Rattle.canvas_message.specs.steps.Walks.{input_seen, begins_with_task};
 
 use super::started::{call_back, parent_of, put_input};
 use super::{after, todo_of};
 use crate::input::Input;
-use crate::{Message, Todo};
-use canvas_rewrite::{FrozenLine, FrozenTask};
-use canvas_task::{ListOf, Memory, Outcome, TaskNo};
+use crate::{Message, PartCall, Todo};
+use canvas_rewrite::{FrozenLine, FrozenTask, Place};
+use canvas_task::{Fault, ListOf, Memory, Outcome, TaskNo};
 use std::alloc::{AllocError, Global};
 
 impl Message {
-    /// What follows the end of this message's task, as `after` says, where the message isn't needed any more: the task that follows it
-    /// on its line takes over what it carries, and no copy is made of that. The message is given up, also where memory is refused.
+    /// What follows the end of this message's task, as `after` says, where the message isn't needed any more: the task that follows it on its line, or
+    /// the part that its end returns, takes over what it carries, and no copy is made of that. The message is given up, also where memory is refused.
     pub fn into_todo(self, alloc: Global, outcome: &Outcome) -> Result<Todo, Memory>
         requires { IsInRange outcome.now }
         ensures { IfOk result (λ todo. todo_view todo ≡ after self outcome.now) }
@@ -31,11 +33,19 @@ impl Message {
             Outcome::Success(number) => {
                 if has_next(&self.rest) {
                     Ok(hand_on(alloc, self, *number)?)
+                } else if is_last(&self.rest) {
+                    Ok(end_succeeded(alloc, self, *number)?)
                 } else {
                     after(alloc, &self, outcome)
                 }
             }
-            Outcome::Failure(_) => after(alloc, &self, outcome),
+            Outcome::Failure(fault) => {
+                if is_last(&self.rest) {
+                    Ok(end_failed(alloc, self, fault)?)
+                } else {
+                    after(alloc, &self, outcome)
+                }
+            }
         }
     }
 }
@@ -48,6 +58,13 @@ fn has_next(rest: &Option<FrozenLine>) -> bool
         Some(line) => !line.tasks.get().is_empty(),
         None => false,
     }
+}
+
+/// Whether nothing comes next on a line.
+fn is_last(rest: &Option<FrozenLine>) -> bool
+    ensures { result ≡ true → rest_seen rest.now ≡ p_stop }
+{
+    rest.is_none()
 }
 
 /// The task that comes next on a line, and what follows it.
@@ -134,4 +151,63 @@ fn hand_on(alloc: Global, message: Message, number: i64) -> Result<Todo, AllocEr
         }
         None => todo_of(Vec::new(alloc), messages, None),
     }
+}
+
+/// The part that the task of a place returns, which takes over what the place carries.
+fn take_part(place: Option<Place>, task: TaskNo) -> Option<PartCall>
+    requires { place_stands (place_seen place) ≡ true }
+    ensures { option_map part_view result ≡ part_in (part_of (place_seen place) task) }
+{
+    match place {
+        Some(Place { group, chord }) => match chord {
+            Some(chord) => Some(PartCall { group, task, chord }),
+            None => None,
+        },
+        None => None,
+    }
+}
+
+/// The end of a task that succeeded and is the last of its line.
+fn end_succeeded(alloc: Global, message: Message, number: i64) -> Result<Todo, AllocError>
+    requires number { in_range number ≡ true }
+    requires last { message.rest ≡ p_stop }
+    ensures { IfOk result (λ todo. todo_view todo ≡ after message (Success number)) }
+{
+    let Message {
+        task,
+        links,
+        place,
+        ..
+    } = message;
+    let mut messages = Vec::new(alloc);
+    call_back(
+        alloc,
+        links.get(),
+        &Input::Number(number),
+        &Some(task),
+        &mut messages,
+    )?;
+    todo_of(Vec::new(alloc), messages, take_part(place, task))
+}
+
+/// The end of a task that failed and is the last of its line.
+fn end_failed(alloc: Global, message: Message, fault: &Fault) -> Result<Todo, AllocError>
+    requires last { message.rest ≡ p_stop }
+    ensures { IfOk result (λ todo. todo_view todo ≡ after message (Failure fault.now)) }
+{
+    let Message {
+        task,
+        errbacks,
+        place,
+        ..
+    } = message;
+    let mut messages = Vec::new(alloc);
+    call_back(
+        alloc,
+        errbacks.get(),
+        &Input::Ident(task),
+        &None,
+        &mut messages,
+    )?;
+    todo_of(Vec::new(alloc), messages, take_part(place, task))
 }

@@ -1,13 +1,14 @@
 -- The reach of a normal line, reckoned without the line: what stands behind an element is known by how many elements
 -- it has, up to two, and by the greatest of their reaches. Past the limit all reaches are one more than it.
-use Rattle.std.specs.Prelude.{ℕ, ◌+◌, min, max}
+use Rattle.std.specs.Prelude.{ℕ, suc, ◌+◌, min, max}
 use Rattle.canvas_sig.specs.declared.reach.LineReach.{LineReach}
 use Rattle.canvas_sig.specs.declared.reach.LineReach.TheVariants.{Empty, One, More}
+use Rattle.canvas_semantics.specs.Bounds.{most_reach}
 use Rattle.canvas_semantics.specs.Tree.{Task, task, Tasks, no_tasks, and_task, Tree, one, chain, group, chord, Trees, no_trees, and_tree}
 
 -- one more than the limit
 abbrev pub past : ℕ
-past = 33
+past = suc most_reach
 
 abbrev pub capped : ℕ → ℕ
 capped r = min r past

@@ -5,24 +5,24 @@ use Rattle.std.proofs.Props.{props}
 use Rattle.canvas_task.specs.Apply.{IsInRange}
 use Rattle.canvas_task.specs.declared.outcome.Outcome.{Outcome}
 use Rattle.canvas_task.specs.declared.outcome.Outcome.TheVariants.{Success, Failure}
-use Rattle.canvas_rewrite.specs.FrozenView.{Load}
+use Rattle.canvas_rewrite.specs.FrozenView.{PCarried}
 use Rattle.canvas_semantics.specs.PlacedLine.{p_task, no_p_tasks, p_nowhere}
 use Rattle.canvas_message.specs.Content.{Content}
 use Rattle.canvas_message.specs.codes.ContentCode.{content_code}
 
 -- a load as a message of no task
-abbrev of_load : Load → Content
-of_load c = record { parent = Some c.size; own = p_task 0 (record { name = []; args = []; kwargs = []; immutable = false }) no_p_tasks no_p_tasks p_nowhere; rest = c.body }
+abbrev of_carried : PCarried → Content
+of_carried c = record { parent = Some c.size; own = p_task 0 (record { name = []; args = []; kwargs = []; immutable = false }) no_p_tasks no_p_tasks p_nowhere; rest = c.body }
 
 abbrev or_none : Option ℕ → ℕ
 or_none None = zero
 or_none (Some n) = n
 
-abbrev to_load : Content → Load
-to_load m = record { size = or_none m.parent; body = m.rest }
+abbrev to_carried : Content → PCarried
+to_carried m = record { size = or_none m.parent; body = m.rest }
 
-abbrev pub load_code : Coded Load
-load_code = code_by Content content_code of_load to_load (λ c. refl)
+abbrev pub carried_code : Coded PCarried
+carried_code = code_by Content content_code of_carried to_carried (λ c. refl)
 
 pub range_prop : (o : Outcome) → IsProp (IsInRange o)
 range_prop (Success n) = Prim.hlevel props

@@ -1,4 +1,4 @@
-use Rattle.std.proofs.Common.{◌≡◌, ◌++◌, drop, map}
+use Rattle.std.proofs.Common.{◌≡◌, ◌++◌, map}
 use Rattle.canvas_runs.specs.Lists.{Each}
 use Rattle.canvas_runs.specs.Worker.{sealed}
 use Rattle.canvas_engine.specs.steps.Stages.{ReadsAs}
@@ -7,5 +7,5 @@ use Rattle.canvas_engine.proofs.firsts.seal_all.Given as goal
 -- the envelopes so far with those that are still to come; and the messages so far read back
 abbrev pub invariant-loop-message : goal.invariant-loop-message
 invariant-loop-message l =
-    (l.envelopes.items ++ map sealed (drop l.message-index l.messages) ≡ map sealed l.messages) ×
-    (Each ReadsAs (drop l.message-index l.messages) → Each ReadsAs l.messages)
+    (l.envelopes.items ++ map sealed l.message-iterator.rest.items ≡ map sealed l.fn.messages.items) ×
+    (Each ReadsAs l.message-iterator.rest.items → Each ReadsAs l.fn.messages.items)

@@ -1,12 +1,6 @@
-use Rattle.std.proofs.Common.{◌≡◌, ◌++◌, drop, map}
-use Rattle.canvas_runs.specs.Lists.{Each}
-use Rattle.canvas_runs.specs.Worker.{sealed}
-use Rattle.canvas_engine.specs.steps.Stages.{ReadsAs}
+use Rattle.std.proofs.Common.{◌≡◌, ◌++◌}
 use Rattle.canvas_engine.proofs.stage.publish_all.Given as goal
 
--- the queue so far with what is still to come; and the messages so far read back
-abbrev pub invariant-loop-message : goal.invariant-loop-message
-invariant-loop-message l = record {
-  queue : l.queue ++ map sealed (drop l.message-index l.messages) ≡ l.fn.queue ++ map sealed l.messages;
-  back : Each ReadsAs (drop l.message-index l.messages) → Each ReadsAs l.messages;
-}
+-- the queue so far with what is still to come
+abbrev pub invariant-loop-envelope : goal.invariant-loop-envelope
+invariant-loop-envelope l = l.queue ++ l.envelope-iterator.rest.items ≡ l.fn.queue ++ l.fn.envelopes.items

@@ -1,9 +1,9 @@
-use Rattle.std.proofs.Common.{◌≤◌, refl, sym, ◌∙◌, subst}
+use Rattle.std.proofs.Common.{rules, ◌≤◌, refl, sym, ◌∙◌, subst}
 use Rattle.canvas_backend.specs.Plain.{held}
 use Rattle.canvas_backend.specs.Roster.{members}
 use Rattle.canvas_runs.specs.Core as C
 use Rattle.canvas_worker.specs.Standing.{asked}
-use Rattle.canvas_worker.proofs.Shown.{is_read}
+use Rattle.canvas_worker.proofs.Shown.{is_read, no_place}
 use Rattle.canvas_engine.specs.steps.Stages.{MayAsk, Stepped}
 use Rattle.canvas_engine.proofs.StageAsks.{answered_ok, at_place, found_says, found_in_range, each_queue, same_place}
 use Rattle.canvas_engine.proofs.stage.read.Goals as goal
@@ -17,8 +17,13 @@ pub answer-requires-clause-in_range : goal.answer-requires-clause-in_range
 answer-requires-clause-in_range c =
     found_in_range c.in-Some.task c.read.result (held c.args.table.now) c.requires.in_range (found_says c.read.result _ c.read.ensures.reply)
 
-pub returns-in-Some : goal.returns-in-Some
-returns-in-Some c =
+pub unreachable-requires : goal.unreachable-requires
+unreachable-requires c =
+    let may = subst (MayAsk c.args.table.now.plan (held c.args.table.now)) (is_read c.args.group c.args.place (asked c.args.core.now.left) c.requires.asks) c.requires.may in
+    no_place (members c.args.table.now.plan c.args.group) c.args.place may.0 (sym (at_place c.args.place (members c.args.table.now.plan c.args.group)) ∙ may.1) (search rules)
+
+pub returns : goal.returns
+returns c =
     let table = c.args.table.now in
     let old = c.args.core.now in
     each_queue c.answer.result (λ more queue. Stepped more old queue table c.answer.new.self queue table) (λ more queue.

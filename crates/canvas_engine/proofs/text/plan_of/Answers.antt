@@ -11,4 +11,4 @@ returns-clause-tree c =
 
 pub returns-clause-same : goal.returns-clause-same
 returns-clause-same c =
-    let P : Tree → Type 0 = λ t. IsSame t c.args.canvas.now in on_ok c.freeze.result _ (subst P c.in_ok-line.ensures.value c.in_ok-line.ensures.meaning)
+    let P : Tree → Type 0 = λ t. IsSame t c.args.canvas in on_ok c.freeze.result _ (subst P c.in_ok-line.ensures.value c.in_ok-line.ensures.meaning)

@@ -3,7 +3,6 @@ use Rattle.canvas_runs.specs.Core as C
 use Rattle.canvas_worker.specs.steps.Held.{held_in}
 use Rattle.canvas_worker.specs.Work.{Work}
 use Rattle.canvas_worker.proofs.Resting.{busy_never}
-use Rattle.canvas_worker.proofs.Turns.{unchanged, one_more}
 use Rattle.canvas_worker.specs.Books.{book_in}
 use Rattle.canvas_worker.specs.Asks.{suits, shown}
 use Rattle.canvas_worker.specs.Standing.{Standing, asked, handed, after_reply}
@@ -29,20 +28,11 @@ returns-in-Ok g c =
       suits = tt;
       back = c.requires.reads_back;
       member = tt;
-      broker = search rules;
-      desk = search rules;
-      number = search rules;
-      of = search rules;
-      home = search rules;
-      held = search rules;
+      beside = search rules;
       bare = tt;
       makes = search rules;
       serves = search rules;
-      taken = unchanged w.taken u.taken c.requires.ready.counts.0 (search rules);
-      published = one_more w.published u.published (search rules);
-      first = unchanged w.first u.first c.requires.ready.counts.2 (search rules);
-      parts = unchanged w.parts u.parts c.requires.ready.counts.3 (search rules);
-      same_drops = search rules;
+      counts = search rules;
       still = λ rests. absurd (busy_never w.desk.plan w.core.left C.sent (C.send c.in-Some.envelope) asks tt rests);
       none_dropped = refl;
       core = ap (λ z. after_reply (book_in w.desk.plan) z C.sent) core ∙ handed_same (book_in w.desk.plan) w.core C.sent;
@@ -59,20 +49,11 @@ returns-in-Err g c =
       suits = tt;
       back = c.requires.reads_back;
       member = tt;
-      broker = search rules;
-      desk = search rules;
-      number = search rules;
-      of = search rules;
-      home = search rules;
-      held = search rules;
+      beside = search rules;
       bare = tt;
       makes = search rules;
       serves = search rules;
-      taken = unchanged w.taken u.taken c.requires.ready.counts.0 (search rules);
-      published = unchanged w.published u.published c.requires.ready.counts.1 (search rules);
-      first = unchanged w.first u.first c.requires.ready.counts.2 (search rules);
-      parts = unchanged w.parts u.parts c.requires.ready.counts.3 (search rules);
-      same_drops = search rules;
+      counts = search rules;
       still = λ rests. absurd (busy_never w.desk.plan w.core.left C.refused (C.send c.in-Some.envelope) asks tt rests);
       none_dropped = refl;
       core = ap (λ z. after_reply (book_in w.desk.plan) z C.refused) core ∙ handed_same (book_in w.desk.plan) w.core C.refused;

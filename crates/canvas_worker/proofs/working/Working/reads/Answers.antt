@@ -4,9 +4,8 @@ use Rattle.canvas_worker.specs.steps.Held.{held_in}
 use Rattle.canvas_worker.specs.Standing.{asked}
 use Rattle.canvas_worker.specs.Work.{Work}
 use Rattle.canvas_worker.proofs.Resting.{busy_never}
-use Rattle.canvas_worker.proofs.Turns.{unchanged}
 use Rattle.canvas_backend.specs.Roster.{members}
-use Rattle.canvas_worker.specs.Seats.{LetsAsk}
+use Rattle.canvas_worker.specs.Allowed.{LetsAsk}
 use Rattle.canvas_worker.proofs.Asking.{may_ask}
 use Rattle.canvas_worker.proofs.Shown.{is_read, same_place, no_place}
 use Rattle.canvas_worker.proofs.Stepping.{at_get}
@@ -36,20 +35,11 @@ returns g c =
       suits = tt;
       back = c.requires.reads_back;
       member = at_get c.args.place (members w.desk.plan c.args.group) ∙ search rules;
-      broker = search rules;
-      desk = search rules;
-      number = search rules;
-      of = search rules;
-      home = search rules;
-      held = search rules;
+      beside = search rules;
       bare = tt;
       makes = search rules;
       serves = search rules;
-      taken = unchanged w.taken u.taken c.requires.ready.counts.0 (search rules);
-      published = unchanged w.published u.published c.requires.ready.counts.1 (search rules);
-      first = unchanged w.first u.first c.requires.ready.counts.2 (search rules);
-      parts = unchanged w.parts u.parts c.requires.ready.counts.3 (search rules);
-      same_drops = search rules;
+      counts = search rules;
       still = λ rests. absurd (busy_never w.desk.plan w.core.left (C.found c.in-Some.task c.read-found.result) (C.read c.args.group c.args.place) asks tt rests);
       none_dropped = refl;
       core = search rules;

@@ -4,7 +4,6 @@ use Rattle.canvas_worker.specs.steps.Held.{held_in}
 use Rattle.canvas_worker.specs.Standing.{asked}
 use Rattle.canvas_worker.specs.Work.{Work}
 use Rattle.canvas_worker.proofs.Resting.{busy_never}
-use Rattle.canvas_worker.proofs.Turns.{unchanged, one_more}
 use Rattle.canvas_worker.proofs.Shown.{is_part}
 use Rattle.canvas_worker.proofs.Telling.{asked_well}
 use Rattle.canvas_worker.proofs.working.Working.returns.Goals as goal
@@ -19,20 +18,11 @@ returns g c =
       suits = tt;
       back = c.requires.reads_back;
       member = tt;
-      broker = search rules;
-      desk = search rules;
-      number = search rules;
-      of = search rules;
-      home = search rules;
-      held = search rules;
+      beside = search rules;
       bare = tt;
       makes = search rules;
       serves = search rules;
-      taken = unchanged w.taken u.taken c.requires.ready.counts.0 (search rules);
-      published = unchanged w.published u.published c.requires.ready.counts.1 (search rules);
-      first = unchanged w.first u.first c.requires.ready.counts.2 (search rules);
-      parts = one_more w.parts u.parts (search rules);
-      same_drops = search rules;
+      counts = search rules;
       still = λ rests. absurd (busy_never w.desk.plan w.core.left (C.counted c.part-count.result) (C.part c.args.group c.args.task) asks tt rests);
       none_dropped = refl;
       core = search rules;

@@ -4,8 +4,7 @@ use Rattle.canvas_worker.specs.steps.Held.{held_in}
 use Rattle.canvas_worker.specs.Standing.{asked}
 use Rattle.canvas_worker.specs.Work.{Work}
 use Rattle.canvas_worker.proofs.Resting.{busy_never}
-use Rattle.canvas_worker.proofs.Turns.{unchanged, one_more}
-use Rattle.canvas_worker.specs.Seats.{LetsAsk}
+use Rattle.canvas_worker.specs.Allowed.{LetsAsk}
 use Rattle.canvas_worker.proofs.Asking.{may_ask}
 use Rattle.canvas_worker.proofs.Shown.{is_store}
 use Rattle.canvas_worker.proofs.Telling.{asked_well}
@@ -28,20 +27,11 @@ returns-in-First g c =
       suits = tt;
       back = c.requires.reads_back;
       member = tt;
-      broker = search rules;
-      desk = search rules;
-      number = search rules;
-      of = search rules;
-      home = search rules;
-      held = search rules;
+      beside = search rules;
       bare = tt;
       makes = search rules;
       serves = search rules;
-      taken = unchanged w.taken u.taken c.requires.ready.counts.0 (search rules);
-      published = unchanged w.published u.published c.requires.ready.counts.1 (search rules);
-      first = one_more w.first u.first (search rules);
-      parts = unchanged w.parts u.parts c.requires.ready.counts.3 (search rules);
-      same_drops = search rules;
+      counts = search rules;
       still = λ rests. absurd (busy_never w.desk.plan w.core.left (C.kept true) (C.keep c.args.task c.args.outcome) asks tt rests);
       none_dropped = refl;
       core = search rules;
@@ -57,20 +47,11 @@ returns-in-Again g c =
       suits = tt;
       back = c.requires.reads_back;
       member = tt;
-      broker = search rules;
-      desk = search rules;
-      number = search rules;
-      of = search rules;
-      home = search rules;
-      held = search rules;
+      beside = search rules;
       bare = tt;
       makes = search rules;
       serves = search rules;
-      taken = unchanged w.taken u.taken c.requires.ready.counts.0 (search rules);
-      published = unchanged w.published u.published c.requires.ready.counts.1 (search rules);
-      first = unchanged w.first u.first c.requires.ready.counts.2 (search rules);
-      parts = unchanged w.parts u.parts c.requires.ready.counts.3 (search rules);
-      same_drops = search rules;
+      counts = search rules;
       still = λ rests. absurd (busy_never w.desk.plan w.core.left (C.kept false) (C.keep c.args.task c.args.outcome) asks tt rests);
       none_dropped = refl;
       core = search rules;

@@ -10,7 +10,6 @@ use Rattle.canvas_worker.specs.Work.{Work}
 use Rattle.canvas_worker.proofs.Giving.{given_well}
 use Rattle.canvas_worker.proofs.Shown.{is_take, reads_back}
 use Rattle.canvas_worker.proofs.Telling.{asked_well}
-use Rattle.canvas_worker.proofs.Turns.{unchanged}
 use Rattle.canvas_worker.proofs.working.Working.takes_one.Goals as goal
 
 pub returns-in-Some : goal.returns-in-Some
@@ -47,20 +46,11 @@ returns-in-None g c =
       suits = tt;
       back = reads_back w.core.left asks;
       member = tt;
-      broker = search rules;
-      desk = search rules;
-      number = search rules;
-      of = search rules;
-      home = search rules;
-      held = bare ∙ sym c.requires.bare;
+      beside = (search rules, search rules, search rules, search rules, search rules, bare ∙ sym c.requires.bare, search rules);
       bare = tt;
       makes = search rules;
       serves = search rules;
-      taken = unchanged w.taken u.taken c.requires.ready.counts.0 (search rules);
-      published = unchanged w.published u.published c.requires.ready.counts.1 (search rules);
-      first = unchanged w.first u.first c.requires.ready.counts.2 (search rules);
-      parts = unchanged w.parts u.parts c.requires.ready.counts.3 (search rules);
-      same_drops = search rules;
+      counts = search rules;
       still = λ _. (bare, empty);
       none_dropped = refl;
       core = search rules;

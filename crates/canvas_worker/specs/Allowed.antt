@@ -2,7 +2,7 @@
 -- what the seat has seen, for each envelope that is opened, also for one that no plan's run has.
 use Rattle.std.specs.Prelude.{◌≡◌, ◌≤◌, ◌<◌, ℕ, Bool, true, false, IsTrue, [], ◌∷◌, length, Some, slice_get}
 use Rattle.canvas_semantics.specs.Line.{Line}
-use Rattle.canvas_rewrite.specs.FrozenView.{Load}
+use Rattle.canvas_rewrite.specs.FrozenView.{PCarried}
 use Rattle.canvas_rewrite.specs.Planned.{IsPlan}
 use Rattle.canvas_message.specs.Job.{store, publish, hand_in}
 use Rattle.canvas_backend.specs.Backend.{MayReturn}
@@ -19,7 +19,7 @@ use Rattle.canvas_worker.specs.Standing.{Left, asked}
 
 module _ (plan : Roster) where
   -- what a member of this chord carries names only what the plan has
-  abbrev pub Carries : ℕ → Load → Type 0
+  abbrev pub Carries : ℕ → PCarried → Type 0
   Carries g c = (has_size c.size (size plan g) ≡ true) × (line_known (book_on plan) c.body ≡ true)
 
   -- each task that is stored is the plan's, and each part is that of a chord's member
@@ -66,5 +66,5 @@ CanAsk = (l : Line) → IsPlan l → (s : Seat) (left : Left) → Can (roster_of
 -- and once it is asked and answered, and the seat has made the call, what is left can be done
 abbrev pub CanGoOn : Type 0
 CanGoOn =
-    (l : Line) → IsPlan l → (s t : Seat) (left : Left) (r : Answer) → Can (roster_of l) s left → Suits (enveloped (roster_of l)) (asked left) r
-    → Serves (roster_of l) s (backend_call (enveloped (roster_of l)) (asked left) r) t → Can (roster_of l) t (answered (enveloped (roster_of l)) left r)
+    (l : Line) → IsPlan l → (s t : Seat) (left : Left) (r : Answer) → Can (roster_of l) s left → Suits (asked left) r
+    → Serves (roster_of l) s (backend_call (asked left) r) t → Can (roster_of l) t (answered (enveloped (roster_of l)) left r)
