@@ -28,7 +28,7 @@ pub mod parts {
     pub use crate::fields::{
         is_list, is_list_or_null, is_null, is_object_or_null, is_true, kwarg_of, listed, option_of,
     };
-    pub use crate::limits::MOST_REACH;
+    pub use crate::limits::{MOST_REACH, MOST_TASKS};
     pub use crate::own_fault::{is_name, is_text, own_fault};
     pub use crate::primitive::{Primitive, primitive_of};
     pub use crate::reader::text_of;

@@ -16,7 +16,8 @@ const MOST_NESTING: u32 = 8;
 /// How deeply signatures stand in each other in a message, at most.
 pub const MOST_REACH: u32 = 32;
 
-const MOST_TASKS: u32 = 1024;
+/// How many tasks a canvas has at most, and so how many members a header.
+pub const MOST_TASKS: u32 = 1024;
 
 const MOST_GROUPS: u32 = 1024;
 

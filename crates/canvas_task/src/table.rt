@@ -12,7 +12,7 @@ use crate::{Arg, Fault, Kind, Outcome, task_of_text};
 use std::collections::BTreeMap;
 
 /// The greatest number that a task takes or gives. The least is its negation.
-const BOUND: i64 = 1 << 60;
+pub(crate) const BOUND: i64 = 1 << 60;
 
 /// Whether a task may take or give the number.
 pub fn in_range(number: i64) -> bool

@@ -4,12 +4,13 @@ ghost use Rattle.canvas_task.specs.Apply.{IsInRange};
 ghost use Rattle.canvas_task.specs.declared.outcome.Outcome.{Outcome};
 ghost use Rattle.canvas_task.specs.Words.{FitsAWord, kind_code, kind_of_code, why_code, why_of_code, failure_of_word, fault_word, word, outcome_named};
 
+use crate::table::BOUND;
 use crate::{Fault, Kind, Outcome, TaskNo, Why};
 
 /// What the number of a success is shifted by, so that the least of them has the word 1.
-const SHIFT: i64 = (1 << 60) + 1;
+const SHIFT: i64 = BOUND + 1;
 
-const GREATEST_SUCCESS: u64 = (1 << 61) + 1;
+const GREATEST_SUCCESS: u64 = 2 * BOUND as u64 + 1;
 
 const FAILURES: u64 = 1 << 63;
 
