@@ -1,6 +1,6 @@
 -- What a plan says of the canvas that it was made from.
 use Rattle.std.proofs.Common.{◌≡◌, List, Result, Ok, Err, IfOk, IfErr, OnOk, String, Global, string_bytes, sym, ap, ◌∙◌, subst}
-use Rattle.canvas_task.specs.Apply.{six_tasks}
+use Rattle.canvas_task.specs.Apply.{Behaviour}
 use Rattle.canvas_task.specs.Text.{Text}
 use Rattle.canvas_semantics.specs.NormalLine.{normal}
 use Rattle.canvas_semantics.specs.Tree.{Tree, numbered}
@@ -20,25 +20,25 @@ pub on_ok : {X E : Type 0} (r : Result X E) (P : Type 0) → P → OnOk r P
 on_ok (Ok x) P h = h
 on_ok (Err e) P h = tt
 
-pub same_states : (c : Tree) (all : Line) → IsSame (normal c) c → tree_of all ≡ numbered (normal c) → states six_tasks (tree_of all) ≡ states six_tasks (numbered c)
-same_states c all h e = ap (states six_tasks) e ∙ states_listed six_tasks (normal c) ∙ ap (λ m. states_in m.rows) (h.means six_tasks nothing) ∙ sym (states_listed six_tasks c)
+pub same_states : (behaviour : Behaviour) → (c : Tree) (all : Line) → IsSame (normal c) c → tree_of all ≡ numbered (normal c) → states behaviour (tree_of all) ≡ states behaviour (numbered c)
+same_states behaviour c all h e = ap (states behaviour) e ∙ states_listed behaviour (normal c) ∙ ap (λ m. states_in m.rows) (h.means behaviour nothing) ∙ sym (states_listed behaviour c)
 
-pub same_text : (c : Tree) (all : Line) → IsSame (normal c) c → tree_of all ≡ numbered (normal c) → report_of (tree_of all) (rows_from 1 (states six_tasks (tree_of all))) ≡ report six_tasks c
-same_text c all h e = ap (λ t. report_of t (rows_from 1 (states six_tasks t))) e ∙ same_report six_tasks c h
+pub same_text : (behaviour : Behaviour) → (c : Tree) (all : Line) → IsSame (normal c) c → tree_of all ≡ numbered (normal c) → report_of (tree_of all) (rows_from 1 (states behaviour (tree_of all))) ≡ report behaviour c
+same_text behaviour c all h e = ap (λ t. report_of t (rows_from 1 (states behaviour t))) e ∙ same_report behaviour c h
 
 -- ---- what a text answers, by what its plan answers
 
-module _ (bytes : Text) (c : Tree) (all : Line) (plan : IsPlanOfText bytes c all) where
+module _ (behaviour : Behaviour) (bytes : Text) (c : Tree) (all : Line) (plan : IsPlanOfText bytes c all) where
   pub ran_text : (Asked : Type 0) (r : Result (String Global) TextFault)
-      → IfOk r (λ text. Asked × (string_bytes text ≡ report_of (tree_of all) (rows_from 1 (states six_tasks (tree_of all)))))
-      → IfOk r (λ text. (x : Tree) × IsCanvasText bytes x × Asked × (string_bytes text ≡ report six_tasks x))
-  ran_text Asked (Ok text) k = (c, plan.text, k.0, k.1 ∙ same_text c all plan.same plan.tree)
+      → IfOk r (λ text. Asked × (string_bytes text ≡ report_of (tree_of all) (rows_from 1 (states behaviour (tree_of all)))))
+      → IfOk r (λ text. (x : Tree) × IsCanvasText bytes x × Asked × (string_bytes text ≡ report behaviour x))
+  ran_text Asked (Ok text) k = (c, plan.text, k.0, k.1 ∙ same_text behaviour c all plan.same plan.tree)
   ran_text Asked (Err f) k = tt
 
-  pub ran_fault : (Says : List State → RunFault → Type 0) (r : Result (String Global) TextFault) → IfErr r (IsPlanFault (Says (states six_tasks (tree_of all)))) → IfErr r (IsTextFault bytes Says)
+  pub ran_fault : (Says : List State → RunFault → Type 0) (r : Result (String Global) TextFault) → IfErr r (IsPlanFault (Says (states behaviour (tree_of all)))) → IfErr r (IsTextFault behaviour bytes Says)
   ran_fault Says (Ok text) k = tt
   ran_fault Says (Err (a_fault.Sig f)) k = absurd k
-  ran_fault Says (Err (a_fault.Run f)) k = let P : List State → Type 0 = λ ss. Says ss f in (c, plan.text, subst P (same_states c all plan.same plan.tree) k)
+  ran_fault Says (Err (a_fault.Run f)) k = let P : List State → Type 0 = λ ss. Says ss f in (c, plan.text, subst P (same_states behaviour c all plan.same plan.tree) k)
   ran_fault Says (Err a_fault.Memory) k = tt
 
   pub rows_reported : (rows : Rows) (text : Text) → text ≡ report_of (tree_of all) rows → (x : Tree) × IsCanvasText bytes x × (text ≡ report_of (numbered x) rows)

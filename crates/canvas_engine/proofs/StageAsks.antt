@@ -1,6 +1,7 @@
 -- What the answer to an ask of a core leaves, where the queue and the table have changed as they should.
-use Rattle.std.proofs.Common.{◌≡◌, ◌+◌, inr, ℕ, zero, suc, Bool, List, [], ◌∷◌, Option, Some, None, Result, Ok, Err, OnOk, OnErr, refl, sym, ap, ◌∙◌, subst}
-use Rattle.std.specs.Prelude.{slice_get, if◌then◌else◌}
+use Rattle.std.proofs.Common.{◌≡◌, inr, ℕ, zero, suc, Bool, List, [], ◌∷◌, Option, Some, None, Result, Ok, Err, OnOk, OnErr, refl, sym, ap, ◌∙◌, subst}
+use Rattle.std.specs.Prelude.{slice_get}
+use Rattle.canvas_task.specs.Apply.{Behaviour}
 use Rattle.canvas_task.specs.declared.outcome.Outcome.{Outcome}
 use Rattle.canvas_message.specs.declared.envelope.Envelope.{Envelope}
 use Rattle.canvas_backend.specs.declared.stored.Stored.{Stored}
@@ -13,36 +14,36 @@ use Rattle.canvas_runs.specs.Lists.{at}
 use Rattle.canvas_runs.specs.Turns.{queue_next, results_next}
 use Rattle.canvas_worker.specs.Asks.{Asked, Answer, FoundInRange}
 use Rattle.canvas_worker.specs.Books.{no_book, book_in}
-use Rattle.canvas_worker.specs.Enveloped.{enveloped_by}
+use Rattle.canvas_worker.specs.Enveloped.{enveloped_by, no_tasks}
 use Rattle.canvas_worker.specs.Standing.{Standing, asked, after_reply}
 use Rattle.canvas_worker.specs.declared.ask.Reply.TheVariants as R
 use Rattle.canvas_engine.specs.steps.Stages.{AnswersNow, AreInRange, Stepped, IsTried}
 
 -- ---- an answered ask
 
-module _ {E : Type 0} (result : Result (Unit {0}) E) (more : Bool) (c c' : Standing) (queue queue' : List Envelope) (table table' : Shelf) (a : Asked) (r : Answer) (is : asked c.left ≡ a) where
+module _ (behaviour : Behaviour) {E : Type 0} (result : Result (Unit {0}) E) (more : Bool) (c c' : Standing) (queue queue' : List Envelope) (table table' : Shelf) (a : Asked) (r : Answer) (is : asked c.left ≡ a) where
   -- the core's own answer, where the queue and the table have changed as they should
-  pub answered_ok : AnswersNow table.plan queue (held table) more a r → ReadsBack (enveloped_by no_book) c.left → queue' ≡ queue_next queue a → held table' ≡ results_next (held table) a → table'.plan ≡ table.plan
-      → OnOk result (c' ≡ after_reply (book_in table'.plan) c r) → OnOk result (Stepped more c queue table c' queue' table')
+  pub answered_ok : AnswersNow table.plan queue (held table) more a r → ReadsBack (enveloped_by no_tasks no_book) c.left → queue' ≡ queue_next queue a → held table' ≡ results_next (held table) a → table'.plan ≡ table.plan
+      → OnOk result (c' ≡ after_reply behaviour (book_in table'.plan) c r) → OnOk result (Stepped behaviour more c queue table c' queue' table')
   answered_ok answers back q t plan ok = go result ok
     where
-      go : (x : Result (Unit {0}) E) → OnOk x (c' ≡ after_reply (book_in table'.plan) c r) → OnOk x (Stepped more c queue table c' queue' table')
+      go : (x : Result (Unit {0}) E) → OnOk x (c' ≡ after_reply behaviour (book_in table'.plan) c r) → OnOk x (Stepped behaviour more c queue table c' queue' table')
       go (Ok u) e = record {
         reply = r;
         answers = subst (λ z. AnswersNow table.plan queue (held table) more z r) (sym is) answers;
         reads_back = back;
-        core = e ∙ ap (λ p. after_reply (book_in p) c r) plan;
+        core = e ∙ ap (λ p. after_reply behaviour (book_in p) c r) plan;
         queue_is = q ∙ ap (queue_next queue) (sym is);
         table_is = t ∙ ap (results_next (held table)) (sym is);
         plan_is = plan;
       }
       go (Err x) e = tt
 
-  pub answered_err : AnswersNow table.plan queue (held table) more a r → ReadsBack (enveloped_by no_book) c.left → held table' ≡ results_next (held table) a → table'.plan ≡ table.plan
-      → OnErr result (IsTried more c queue table table')
+  pub answered_err : AnswersNow table.plan queue (held table) more a r → ReadsBack (enveloped_by no_tasks no_book) c.left → held table' ≡ results_next (held table) a → table'.plan ≡ table.plan
+      → OnErr result (IsTried behaviour more c queue table table')
   answered_err answers back t plan = go result
     where
-      go : (x : Result (Unit {0}) E) → OnErr x (IsTried more c queue table table')
+      go : (x : Result (Unit {0}) E) → OnErr x (IsTried behaviour more c queue table table')
       go (Ok u) = tt
       go (Err x) = (
         plan,

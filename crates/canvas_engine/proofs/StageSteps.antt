@@ -3,7 +3,9 @@ use Rattle.std.proofs.Common.{◌≡◌, ◌≢◌, ◌⊎◌, inl, inr, ℕ, su
 use Rattle.std.specs.Prelude.{◌||◌, slice_get}
 use Rattle.std.proofs.lemmas.Bool.{eqb-true, eqb-false}
 use Rattle.std.specs.List.{list_any}
-use Rattle.canvas_task.specs.Apply.{six_tasks}
+use Rattle.canvas_runs.proofs.Sums.{total-append}
+use Rattle.canvas_runs.specs.Calls.{scripts_of, of_scripts}
+use Rattle.canvas_task.specs.Apply.{Behaviour}
 use Rattle.canvas_task.specs.declared.outcome.Outcome.{Outcome}
 use Rattle.canvas_semantics.specs.Line.{Line}
 use Rattle.canvas_rewrite.specs.FrozenView.{PCarried}
@@ -13,15 +15,15 @@ use Rattle.canvas_backend.specs.Backend.{Results}
 use Rattle.canvas_backend.specs.Plain.{held}
 use Rattle.canvas_backend.specs.Roster.{Roster, roster_of}
 use Rattle.canvas_runs.specs.Book.{book_of}
-use Rattle.canvas_runs.specs.Core.{take, send, keep, part, read, pause, end, taken, sent, kept, counted, found, rested, CoreState, taking, resting, over, failed, owning, doing, reading, ask, answered, left_after, Suits, ReadsBack, IsCoreRun, is_inside}
+use Rattle.canvas_runs.specs.Core.{take, send, keep, part, read, pause, end, taken, sent, kept, counted, found, rested, CoreState, taking, resting, over, failed, owning, doing, reading, ask, answered, left_after, Suits, ReadsBack, IsCoreRun, is_inside, deliver, ack, acked, acking}
 use Rattle.canvas_runs.specs.Lists.{Each, by}
-use Rattle.canvas_runs.specs.Turns.{Step, IsWorker, Turned, Answers, HasEnded, left, queue_after, queue_next, results_after, results_next, holds_more, some_inside, is_queued}
+use Rattle.canvas_runs.specs.Turns.{Step, IsWorker, Turned, Answers, HasEnded, left, queue_after, queue_next, results_after, results_next, holds_more, some_inside, is_queued, redelivers_one, redeliveries_in}
 use Rattle.canvas_runs.specs.Worker.{worker}
-use Rattle.canvas_runs.proofs.Turning.{by_more, by_other, left_more, core_more, queue_more, results_more, turned_step}
+use Rattle.canvas_runs.proofs.Turning.{by_more, by_other, left_more, core_more, queue_more, results_more, turned_step, scripts_more, asks_of_scripts}
 use Rattle.canvas_worker.specs.Asks.{Asked, Answer}
 use Rattle.canvas_worker.specs.Books.{no_book, book_in}
 use Rattle.canvas_worker.specs.Cores.{GoTogether, IsAlike}
-use Rattle.canvas_worker.specs.Enveloped.{enveloped, enveloped_by}
+use Rattle.canvas_worker.specs.Enveloped.{enveloped, enveloped_by, no_tasks}
 use Rattle.canvas_worker.specs.Standing.{Standing, Left, asked}
 use Rattle.canvas_worker.proofs.Books.{books_alike}
 use Rattle.canvas_worker.proofs.CoreLaw.{cores_are_workers}
@@ -30,15 +32,16 @@ use Rattle.canvas_engine.specs.declared.stage.Stage.{Stage}
 
 -- ---- what was answered
 
-module _ (l : Line) (n : ℕ) (xs : List Step) where
-  pub answers_run : (more : Bool) (a : Asked) (r : Answer) → (a ≡ pause → more ≡ holds_more six_tasks l n xs)
-      → AnswersNow (roster_of l) (queue_after l xs) (results_after xs) more a r → Answers six_tasks l n xs a r
+module _ (behaviour : Behaviour) (l : Line) (n : ℕ) (xs : List Step) where
+  pub answers_run : (more : Bool) (a : Asked) (r : Answer) → (a ≡ pause → more ≡ holds_more behaviour l n xs)
+      → AnswersNow (roster_of l) (queue_after l xs) (results_after xs) more a r → Answers behaviour l n xs a r
   answers_run more take (taken x) m h = h
   answers_run more (send e) sent m h = tt
   answers_run more (keep t o) (kept b) m h = h
   answers_run more (part g t) (counted k) m h = h
   answers_run more (read g i) (found t x) m h = h
   answers_run more pause (rested b) m h = h ∙ m refl
+  answers_run more ack acked m h = tt
   answers_run more a r m h = elim h [ ]
 
 suits_now : (plan : Roster) (queue : List Envelope) (results : Results) (more : Bool) (a : Asked) (r : Answer) → AnswersNow plan queue results more a r → Suits a r
@@ -48,19 +51,21 @@ suits_now plan queue results more (keep t o) (kept b) h = tt
 suits_now plan queue results more (part g t) (counted k) h = tt
 suits_now plan queue results more (read g i) (found t x) h = tt
 suits_now plan queue results more pause (rested b) h = tt
+suits_now plan queue results more ack acked h = tt
 suits_now plan queue results more a r h = elim h [ ]
 
 -- ---- whether somebody is inside a message
 
-inside_alike : (s : Left) (t : CoreState Content PCarried Outcome) → IsAlike s t → is_inside s ≡ is_inside t
-inside_alike taking taking h = refl
-inside_alike resting resting h = refl
-inside_alike over over h = refl
-inside_alike failed failed h = refl
-inside_alike (owning e) (owning c) h = refl
-inside_alike (doing js b) (doing ks d) h = refl
-inside_alike (reading g c fs) (reading h d gs) k = refl
-inside_alike s t h = elim h [ ]
+inside_alike : (behaviour : Behaviour) → (s : Left) (t : CoreState Content PCarried Outcome) → IsAlike behaviour s t → is_inside s ≡ is_inside t
+inside_alike behaviour taking taking h = refl
+inside_alike behaviour resting resting h = refl
+inside_alike behaviour over over h = refl
+inside_alike behaviour failed failed h = refl
+inside_alike behaviour (owning e) (owning c) h = refl
+inside_alike behaviour (doing js b) (doing ks d) h = refl
+inside_alike behaviour (reading g c fs) (reading h d gs) k = refl
+inside_alike behaviour acking acking h = refl
+inside_alike behaviour s t h = elim h [ ]
 
 or_front : (a b c : Bool) → ((a || b) || c) ≡ (b || (a || c))
 or_front true true c = refl
@@ -72,16 +77,16 @@ or_none : (a : Bool) → (a || false) ≡ a
 or_none true = refl
 or_none false = refl
 
-module _ (l : Line) (xs : List Step) where
+module _ (behaviour : Behaviour) (l : Line) (xs : List Step) where
   -- those of the cores, and those of the workers 1 to k
-  inside_from : (cores : List Standing) (k : ℕ) → ((i : ℕ) (c : Standing) → slice_get cores i ≡ Some c → is_inside c.left ≡ is_inside (left six_tasks l xs (suc (k + i))))
-      → (list_any (λ c. is_inside c.left) cores || some_inside six_tasks l k xs) ≡ some_inside six_tasks l (k + length cores) xs
-  inside_from [] k h = ap (λ m. some_inside six_tasks l m xs) (omega arith)
+  inside_from : (cores : List Standing) (k : ℕ) → ((i : ℕ) (c : Standing) → slice_get cores i ≡ Some c → is_inside c.left ≡ is_inside (left behaviour l xs (suc (k + i))))
+      → (list_any (λ c. is_inside c.left) cores || some_inside behaviour l k xs) ≡ some_inside behaviour l (k + length cores) xs
+  inside_from [] k h = ap (λ m. some_inside behaviour l m xs) (omega arith)
   inside_from (c ∷ cs) k h =
-      or_front (is_inside c.left) (list_any (λ d. is_inside d.left) cs) (some_inside six_tasks l k xs)
-      ∙ ap (λ b. list_any (λ d. is_inside d.left) cs || (b || some_inside six_tasks l k xs)) (h 0 c refl ∙ ap (λ m. is_inside (left six_tasks l xs (suc m))) (omega arith))
-      ∙ inside_from cs (suc k) (λ i d e. h (suc i) d e ∙ ap (λ m. is_inside (left six_tasks l xs (suc m))) (omega arith))
-      ∙ ap (λ m. some_inside six_tasks l m xs) (omega arith)
+      or_front (is_inside c.left) (list_any (λ d. is_inside d.left) cs) (some_inside behaviour l k xs)
+      ∙ ap (λ b. list_any (λ d. is_inside d.left) cs || (b || some_inside behaviour l k xs)) (h 0 c refl ∙ ap (λ m. is_inside (left behaviour l xs (suc m))) (omega arith))
+      ∙ inside_from cs (suc k) (λ i d e. h (suc i) d e ∙ ap (λ m. is_inside (left behaviour l xs (suc m))) (omega arith))
+      ∙ ap (λ m. some_inside behaviour l m xs) (omega arith)
 
 pub each_more : {n : ℕ} (us : List ℕ) (p : ℕ) → Each (IsWorker n) us → IsWorker n p → Each (IsWorker n) (us ++ p ∷ [])
 each_more [] p a w = (w, tt)
@@ -89,52 +94,59 @@ each_more (u ∷ us) p a w = (a.0, each_more us p a.1 w)
 
 -- ---- the worker that a core stands for
 
-module _ (l : Line) (n most : ℕ) (us : List ℕ) (xs : List Step) (s : Stage) (reached : Reached l n most us xs s) where
-  together : (p : ℕ) → IsCoreRun (worker six_tasks l) taking (by p xs) × GoTogether l (left_after (enveloped (roster_of l)) taking (by p xs)) (left six_tasks l xs p)
-  together p = cores_are_workers l (by p xs) (reached.runs p)
+no_copy : (a : Asked) → of_scripts a ≡ true → redelivers_one a ≡ 0
+no_copy (deliver e) h = absurd cc
+no_copy a h = refl
 
-  pub more_is : (is_queued s.queue || list_any (λ c. is_inside c.left) s.cores.items) ≡ holds_more six_tasks l n xs
+none_more : (xs : List Step) (x : Step) → redelivers_one x.1.0 ≡ 0 → redeliveries_in xs ≡ 0 → redeliveries_in (xs ++ x ∷ []) ≡ 0
+none_more xs x h e = let m = total-append (λ (y : Step). redelivers_one y.1.0) xs (x ∷ []) in omega (arith, m, h, e)
+
+module _ (behaviour : Behaviour) (l : Line) (n most : ℕ) (us : List ℕ) (xs : List Step) (s : Stage) (reached : Reached behaviour l n most us xs s) where
+  together : (p : ℕ) → IsCoreRun (worker behaviour l) taking (scripts_of (by p xs)) × GoTogether behaviour l (left_after (enveloped behaviour (roster_of l)) taking (scripts_of (by p xs))) (left behaviour l xs p)
+  together p = cores_are_workers behaviour l (scripts_of (by p xs)) (reached.runs p)
+
+  pub more_is : (is_queued s.queue || list_any (λ c. is_inside c.left) s.cores.items) ≡ holds_more behaviour l n xs
   more_is =
-      let one : (i : ℕ) (c : Standing) → slice_get s.cores.items i ≡ Some c → is_inside c.left ≡ is_inside (left six_tasks l xs (suc (0 + i))) = λ i c e.
-      ap is_inside (reached.cores_are i c e).0 ∙ inside_alike _ _ (together (suc i)).1.alike ∙ ap (λ m. is_inside (left six_tasks l xs (suc m))) (omega arith) in
+      let one : (i : ℕ) (c : Standing) → slice_get s.cores.items i ≡ Some c → is_inside c.left ≡ is_inside (left behaviour l xs (suc (0 + i))) = λ i c e.
+      ap is_inside (reached.cores_are i c e).0 ∙ inside_alike behaviour _ _ (together (suc i)).1.alike ∙ ap (λ m. is_inside (left behaviour l xs (suc m))) (omega arith) in
       ap (λ q. is_queued q || list_any (λ c. is_inside c.left) s.cores.items) reached.queue_is
-      ∙ ap (λ b. is_queued (queue_after l xs) || b) (sym (or_none (list_any (λ c. is_inside c.left) s.cores.items)) ∙ inside_from l xs s.cores.items 0 one ∙ ap (λ m. some_inside six_tasks l m xs) (omega (arith, reached.many)))
+      ∙ ap (λ b. is_queued (queue_after l xs) || b) (sym (or_none (list_any (λ c. is_inside c.left) s.cores.items)) ∙ inside_from behaviour l xs s.cores.items 0 one ∙ ap (λ m. some_inside behaviour l m xs) (omega (arith, reached.many)))
 
   -- the core at place i
   module _ (i : ℕ) (c : Standing) (here : slice_get s.cores.items i ≡ Some c) where
-    env_left : c.left ≡ left_after (enveloped (roster_of l)) taking (by (suc i) xs)
+    env_left : c.left ≡ left_after (enveloped behaviour (roster_of l)) taking (scripts_of (by (suc i) xs))
     env_left = (reached.cores_are i c here).0
 
-    pub same_ask : ReadsBack (enveloped_by no_book) c.left → asked c.left ≡ ask (worker six_tasks l) (left six_tasks l xs (suc i))
-    same_ask back = ap asked env_left ∙ sym ((together (suc i)).1.asks (subst (ReadsBack (enveloped (roster_of l))) env_left back))
+    pub same_ask : ReadsBack (enveloped_by no_tasks no_book) c.left → asked c.left ≡ ask (worker behaviour l) (left behaviour l xs (suc i))
+    same_ask back = ap asked env_left ∙ sym ((together (suc i)).1.asks (subst (ReadsBack (enveloped behaviour (roster_of l))) env_left back))
 
-    pub has_ended : ReadsBack (enveloped_by no_book) c.left → asked c.left ≡ end → HasEnded six_tasks l xs (suc i)
+    pub has_ended : ReadsBack (enveloped_by no_tasks no_book) c.left → asked c.left ≡ end → HasEnded behaviour l xs (suc i)
     has_ended back e = sym (same_ask back) ∙ e
 
-    pub not_ended : ReadsBack (enveloped_by no_book) c.left → (asked c.left ≡ end → ⊥) → HasEnded six_tasks l xs (suc i) → ⊥
+    pub not_ended : ReadsBack (enveloped_by no_tasks no_book) c.left → (asked c.left ≡ end → ⊥) → HasEnded behaviour l xs (suc i) → ⊥
     not_ended back going e = going (same_ask back ∙ e)
 
-    worker_back : ReadsBack (enveloped_by no_book) c.left → ReadsBack (worker six_tasks l) (left six_tasks l xs (suc i))
-    worker_back back = (together (suc i)).1.reads_back (subst (ReadsBack (enveloped (roster_of l))) env_left back)
+    worker_back : ReadsBack (enveloped_by no_tasks no_book) c.left → ReadsBack (worker behaviour l) (left behaviour l xs (suc i))
+    worker_back back = (together (suc i)).1.reads_back (subst (ReadsBack (enveloped behaviour (roster_of l))) env_left back)
 
-    module _ (more : Bool) (more_so : asked c.left ≡ pause → more ≡ holds_more six_tasks l n xs) where
-      pub answered_so : (r : Answer) → AnswersNow s.table.plan s.queue (held s.table) more (asked c.left) r → Answers six_tasks l n xs (asked c.left) r
+    module _ (more : Bool) (more_so : asked c.left ≡ pause → more ≡ holds_more behaviour l n xs) where
+      pub answered_so : (r : Answer) → AnswersNow s.table.plan s.queue (held s.table) more (asked c.left) r → Answers behaviour l n xs (asked c.left) r
       answered_so r h =
           let h1 = subst (λ plan. AnswersNow plan s.queue (held s.table) more (asked c.left) r) reached.plan_is h in
           let h2 = subst (λ q. AnswersNow (roster_of l) q (held s.table) more (asked c.left) r) reached.queue_is h1 in
           let h3 = subst (λ t. AnswersNow (roster_of l) (queue_after l xs) t more (asked c.left) r) reached.table_is h2 in
-          answers_run l n xs more (asked c.left) r more_so h3
+          answers_run behaviour l n xs more (asked c.left) r more_so h3
 
-      pub turned_so : (r : Answer) → ReadsBack (enveloped_by no_book) c.left → AnswersNow s.table.plan s.queue (held s.table) more (asked c.left) r
-          → Turned six_tasks l n [] (us ++ suc i ∷ []) (xs ++ (suc i, (asked c.left, r)) ∷ [])
-      turned_so r back h = turned_step six_tasks l n us xs (suc i) (asked c.left) r reached.by_turns.turned (worker_back back) (same_ask back) (answered_so r h)
+      pub turned_so : (r : Answer) → ReadsBack (enveloped_by no_tasks no_book) c.left → AnswersNow s.table.plan s.queue (held s.table) more (asked c.left) r
+          → Turned behaviour l n [] (us ++ suc i ∷ []) (xs ++ (suc i, (asked c.left, r)) ∷ [])
+      turned_so r back h = turned_step behaviour l n us xs (suc i) (asked c.left) r reached.by_turns.turned (worker_back back) (same_ask back) (answered_so r h)
 
       -- the cores are as they were, but for the one
       abbrev pub IsPut : List Standing → Standing → List Standing → Type 0
       IsPut old d new = (length new ≡ length old) × ((j : ℕ) (e : Standing) → slice_get new j ≡ Some e → ((j ≡ i) × (e ≡ d)) ⊎ ((j ≢ i) × (slice_get old j ≡ Some e)))
 
-      pub stepped : (s' : Stage) (c' : Standing) → IsWorker n (suc i) → Stepped more c s.queue s.table c' s'.queue s'.table → IsPut s.cores.items c' s'.cores.items → s.steps ≡ suc s'.steps
-          → IsTurn true l n most us xs (suc i) s'
+      pub stepped : (s' : Stage) (c' : Standing) → IsWorker n (suc i) → Stepped behaviour more c s.queue s.table c' s'.queue s'.table → IsPut s.cores.items c' s'.cores.items → s.steps ≡ suc s'.steps
+          → IsTurn behaviour true l n most us xs (suc i) s'
       stepped s' c' own step put fewer =
           let plan = reached.by_turns.plan in
           let p = suc i in
@@ -142,18 +154,19 @@ module _ (l : Line) (n most : ℕ) (us : List ℕ) (xs : List Step) (s : Stage) 
           let r = step.reply in
           let x : Step = (p, (a, r)) in
           let ys = xs ++ x ∷ [] in
-          let X = enveloped (roster_of l) in
+          let X = enveloped behaviour (roster_of l) in
+          let asks_core : of_scripts a ≡ true = asks_of_scripts X c.left in
           let suits : Suits a r = suits_now (roster_of l) s.queue (held s.table) more a r (subst (λ z. AnswersNow z s.queue (held s.table) more a r) reached.plan_is step.answers) in
-          let asks : a ≡ ask X (left_after X taking (by p xs)) = ap asked env_left in
-          let back : ReadsBack X (left_after X taking (by p xs)) = subst (ReadsBack X) env_left step.reads_back in
-          let mine : IsCoreRun X taking (by p ys) = subst (IsCoreRun X taking) (sym (by_more p xs (a, r))) (core_more X taking (by p xs) (a, r) (reached.runs p) asks suits back) in
-          let left_new : c'.left ≡ left_after X taking (by p ys) =
+          let asks : a ≡ ask X (left_after X taking (scripts_of (by p xs))) = ap asked env_left in
+          let back : ReadsBack X (left_after X taking (scripts_of (by p xs))) = subst (ReadsBack X) env_left step.reads_back in
+          let mine : IsCoreRun X taking (scripts_of (by p ys)) = subst (IsCoreRun X taking) (sym (ap scripts_of (by_more p xs (a, r)) ∙ scripts_more (by p xs) a r asks_core)) (core_more X taking (scripts_of (by p xs)) (a, r) (reached.runs p) asks suits back) in
+          let left_new : c'.left ≡ left_after X taking (scripts_of (by p ys)) =
           ap (λ d. d.left) step.core
-          ∙ ap (λ z. answered (enveloped_by (book_in z)) c.left r) reached.plan_is
-          ∙ ap (λ b. answered (enveloped_by b) c.left r) (books_alike l plan)
+          ∙ ap (λ z. answered (enveloped_by behaviour (book_in z)) c.left r) reached.plan_is
+          ∙ ap (λ b. answered (enveloped_by behaviour b) c.left r) (books_alike l plan)
           ∙ same_answer c.left r
           ∙ ap (λ z. answered X z r) env_left
-          ∙ sym (ap (left_after X taking) (by_more p xs (a, r)) ∙ left_more X taking (by p xs) (a, r)) in
+          ∙ sym (ap (left_after X taking) (ap scripts_of (by_more p xs (a, r)) ∙ scripts_more (by p xs) a r asks_core) ∙ left_more X taking (scripts_of (by p xs)) (a, r)) in
           let in_new : c'.is_out ≡ false = ap (λ d. d.is_out) step.core in (
             (a, r),
             record {
@@ -164,6 +177,7 @@ module _ (l : Line) (n most : ℕ) (us : List ℕ) (xs : List Step) (s : Stage) 
                 turned = turned_so r step.reads_back step.answers;
               };
               runs = λ q. runs_now q a r mine;
+              plain = none_more xs x (no_copy a asks_core) reached.plain;
               queue_is = step.queue_is ∙ ap (λ q. queue_next q a) reached.queue_is ∙ sym (queue_more _ xs x);
               plan_is = step.plan_is ∙ reached.plan_is;
               table_is = step.table_is ∙ ap (λ t. results_next t a) reached.table_is ∙ sym (results_more _ xs x);
@@ -173,21 +187,21 @@ module _ (l : Line) (n most : ℕ) (us : List ℕ) (xs : List Step) (s : Stage) 
             },
           )
         where
-          same_answer : (z : Left) (r : Answer) → answered (enveloped_by (book_of l)) z r ≡ answered (enveloped (roster_of l)) z r
+          same_answer : (z : Left) (r : Answer) → answered (enveloped_by behaviour (book_of l)) z r ≡ answered (enveloped behaviour (roster_of l)) z r
           same_answer z r = refl
 
-          runs_now : (q : ℕ) (a : Asked) (r : Answer) → IsCoreRun (enveloped (roster_of l)) taking (by (suc i) (xs ++ (suc i, (a, r)) ∷ [])) → IsCoreRun (enveloped (roster_of l)) taking (by q (xs ++ (suc i, (a, r)) ∷ []))
+          runs_now : (q : ℕ) (a : Asked) (r : Answer) → IsCoreRun (enveloped behaviour (roster_of l)) taking (scripts_of (by (suc i) (xs ++ (suc i, (a, r)) ∷ []))) → IsCoreRun (enveloped behaviour (roster_of l)) taking (scripts_of (by q (xs ++ (suc i, (a, r)) ∷ [])))
           runs_now q a r mine = go (eqb (suc i) q) refl
             where
-              go : (b : Bool) → eqb (suc i) q ≡ b → IsCoreRun (enveloped (roster_of l)) taking (by q (xs ++ (suc i, (a, r)) ∷ []))
-              go true e = subst (λ m. IsCoreRun (enveloped (roster_of l)) taking (by m (xs ++ (suc i, (a, r)) ∷ []))) (eqb-true (suc i) q e) mine
-              go false e = subst (IsCoreRun (enveloped (roster_of l)) taking) (sym (by_other q (suc i) xs (a, r) (eqb-false (suc i) q e))) (reached.runs q)
+              go : (b : Bool) → eqb (suc i) q ≡ b → IsCoreRun (enveloped behaviour (roster_of l)) taking (scripts_of (by q (xs ++ (suc i, (a, r)) ∷ [])))
+              go true e = subst (λ m. IsCoreRun (enveloped behaviour (roster_of l)) taking (scripts_of (by m (xs ++ (suc i, (a, r)) ∷ [])))) (eqb-true (suc i) q e) mine
+              go false e = subst (IsCoreRun (enveloped behaviour (roster_of l)) taking) (sym (ap scripts_of (by_other q (suc i) xs (a, r) (eqb-false (suc i) q e)))) (reached.runs q)
 
-          core_now : (j : ℕ) (d : Standing) (a : Asked) (r : Answer) (c' : Standing) → c'.left ≡ left_after (enveloped (roster_of l)) taking (by (suc i) (xs ++ (suc i, (a, r)) ∷ [])) → c'.is_out ≡ false
-              → ((j ≡ i) × (d ≡ c')) ⊎ ((j ≢ i) × (slice_get s.cores.items j ≡ Some d)) → IsCoreAt l (xs ++ (suc i, (a, r)) ∷ []) (suc j) d
+          core_now : (j : ℕ) (d : Standing) (a : Asked) (r : Answer) (c' : Standing) → c'.left ≡ left_after (enveloped behaviour (roster_of l)) taking (scripts_of (by (suc i) (xs ++ (suc i, (a, r)) ∷ []))) → c'.is_out ≡ false
+              → ((j ≡ i) × (d ≡ c')) ⊎ ((j ≢ i) × (slice_get s.cores.items j ≡ Some d)) → IsCoreAt behaviour l (xs ++ (suc i, (a, r)) ∷ []) (suc j) d
           core_now j d a r c' here out (inl h) =
-              (ap (λ z. z.left) h.1 ∙ here ∙ ap (λ m. left_after (enveloped (roster_of l)) taking (by (suc m) (xs ++ (suc i, (a, r)) ∷ []))) (sym h.0), ap (λ z. z.is_out) h.1 ∙ out)
+              (ap (λ z. z.left) h.1 ∙ here ∙ ap (λ m. left_after (enveloped behaviour (roster_of l)) taking (scripts_of (by (suc m) (xs ++ (suc i, (a, r)) ∷ [])))) (sym h.0), ap (λ z. z.is_out) h.1 ∙ out)
           core_now j d a r c' here out (inr h) =
               let was = reached.cores_are j d h.1 in
               let apart : suc i ≢ suc j = λ e. h.0 (omega (arith, e)) in
-              (was.0 ∙ sym (ap (left_after (enveloped (roster_of l)) taking) (by_other (suc j) (suc i) xs (a, r) apart)), was.1)
+              (was.0 ∙ sym (ap (left_after (enveloped behaviour (roster_of l)) taking) (ap scripts_of (by_other (suc j) (suc i) xs (a, r) apart))), was.1)

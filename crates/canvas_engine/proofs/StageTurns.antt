@@ -2,20 +2,19 @@
 use Rattle.std.proofs.Common.{◌≡◌, ◌≢◌, ◌<◌, ◌-◌, ◌⊎◌, inl, inr, ℕ, zero, suc, Bool, true, false, List, [], ◌∷◌, ◌++◌, length, Some, refl, sym, ap, ◌∙◌, subst, arith}
 use Rattle.std.specs.Prelude.{◌||◌, slice_get, slice_set}
 use Rattle.std.specs.List.{list_any}
-use Rattle.canvas_task.specs.Apply.{six_tasks}
-use Rattle.canvas_task.proofs.InRange.{six_in_range}
+use Rattle.canvas_task.specs.Apply.{Behaviour, AnswersInRange}
 use Rattle.canvas_semantics.specs.Line.{Line}
 use Rattle.canvas_backend.specs.Backend.{Results}
 use Rattle.canvas_backend.specs.Plain.{held}
 use Rattle.canvas_backend.specs.Roster.{Roster, roster_of}
-use Rattle.canvas_runs.specs.Core.{take, send, keep, part, read, pause, end, ReadsBack, is_inside}
+use Rattle.canvas_runs.specs.Core.{take, send, keep, part, read, pause, end, ReadsBack, is_inside, ack, deliver}
 use Rattle.canvas_runs.specs.TurnLaws.{Answerable}
 use Rattle.canvas_runs.specs.Turns.{Step, IsWorker, HasEnded, results_after, results_next, holds_more, is_queued}
 use Rattle.canvas_runs.proofs.TurnLaw.{next_answerable, held_range}
 use Rattle.canvas_runs.proofs.Turning.{results_more, turned_skip}
 use Rattle.canvas_worker.specs.Asks.{Asked}
 use Rattle.canvas_worker.specs.Books.{no_book}
-use Rattle.canvas_worker.specs.Enveloped.{enveloped_by}
+use Rattle.canvas_worker.specs.Enveloped.{enveloped_by, no_tasks}
 use Rattle.canvas_worker.specs.Standing.{Standing, asked}
 use Rattle.canvas_engine.specs.steps.Stages.{MayAsk, AreInRange, Stepped, IsTried, Tried, Reached, HasReached, IsTurn, IsHalfway, IsStopped}
 use Rattle.canvas_engine.specs.declared.stage.Stage.{Stage}
@@ -51,11 +50,13 @@ may_of plan xs (part g t) h = (h.0, h.1, (h.2, h.3))
 may_of plan xs (read g i) h = (h.0, h.2, h.3)
 may_of plan xs pause h = tt
 may_of plan xs end h = tt
+may_of plan xs ack h = tt
+may_of plan xs (deliver e) h = tt
 
-abbrev pub HasTurn : Line → ℕ → Stage → Type 0
-HasTurn l p s = (n : ℕ) × (most : ℕ) × (us : List ℕ) × IsWorker n p × HasReached l n most us s
+abbrev pub HasTurn : (behaviour : Behaviour) → Line → ℕ → Stage → Type 0
+HasTurn behaviour l p s = (n : ℕ) × (most : ℕ) × (us : List ℕ) × IsWorker n p × HasReached behaviour l n most us s
 
-module _ (l : Line) (p : ℕ) (s : Stage) (turn : HasTurn l p s) where
+module _ (behaviour : Behaviour) (fits : AnswersInRange behaviour) (l : Line) (p : ℕ) (s : Stage) (turn : HasTurn behaviour l p s) where
   pub is_place : p - 1 < length s.cores.items
   is_place = omega (arith, turn.3.0, turn.3.1, turn.4.1.many)
 
@@ -66,22 +67,23 @@ module _ (l : Line) (p : ℕ) (s : Stage) (turn : HasTurn l p s) where
     pub not_out : core.is_out ≡ false
     not_out = (turn.4.1.cores_are (p - 1) core here).1
 
-    module _ (n most : ℕ) (us : List ℕ) (xs : List Step) (reached : Reached l n most us xs s) where
+    module _ (n most : ℕ) (us : List ℕ) (xs : List Step) (reached : Reached behaviour l n most us xs s) where
       own : IsWorker n p
       own = (turn.3.0, omega (arith, turn.3.1, turn.4.1.many, reached.many))
 
-      pub skipped : ReadsBack (enveloped_by no_book) core.left → asked core.left ≡ end → HasEnded six_tasks l xs p × Reached l n most (us ++ p ∷ []) xs s
+      pub skipped : ReadsBack (enveloped_by no_tasks no_book) core.left → asked core.left ≡ end → HasEnded behaviour l xs p × Reached behaviour l n most (us ++ p ∷ []) xs s
       skipped back e =
-          let ended : HasEnded six_tasks l xs p = subst (HasEnded six_tasks l xs) same_number (has_ended l n most us xs s reached (p - 1) core here back e) in (
+          let ended : HasEnded behaviour l xs p = subst (HasEnded behaviour l xs) same_number (has_ended behaviour l n most us xs s reached (p - 1) core here back e) in (
             ended,
             record {
               by_turns = record {
                 plan = reached.by_turns.plan;
                 opens_back = reached.by_turns.opens_back;
                 workers = each_more us p reached.by_turns.workers own;
-                turned = turned_skip six_tasks l n us xs p reached.by_turns.turned ended;
+                turned = turned_skip behaviour l n us xs p reached.by_turns.turned ended;
               };
               runs = reached.runs;
+              plain = reached.plain;
               queue_is = reached.queue_is;
               plan_is = reached.plan_is;
               table_is = reached.table_is;
@@ -91,45 +93,45 @@ module _ (l : Line) (p : ℕ) (s : Stage) (turn : HasTurn l p s) where
             },
           )
 
-      pub stopped : ReadsBack (enveloped_by no_book) core.left → (asked core.left ≡ end → ⊥) → s.steps ≡ 0 → IsStopped l n most us s
+      pub stopped : ReadsBack (enveloped_by no_tasks no_book) core.left → (asked core.left ≡ end → ⊥) → s.steps ≡ 0 → IsStopped behaviour l n most us s
       stopped back going none = record {
         steps = xs;
         reached = reached;
         none_left = none;
         going = p;
         is_worker = own;
-        has_more = λ e. not_ended l n most us xs s reached (p - 1) core here back going (subst (HasEnded six_tasks l xs) (sym same_number) e);
+        has_more = λ e. not_ended behaviour l n most us xs s reached (p - 1) core here back going (subst (HasEnded behaviour l xs) (sym same_number) e);
       }
 
-      may_here : ReadsBack (enveloped_by no_book) core.left → MayAsk (roster_of l) (results_after xs) (asked core.left)
+      may_here : ReadsBack (enveloped_by no_tasks no_book) core.left → MayAsk (roster_of l) (results_after xs) (asked core.left)
       may_here back =
           may_of (roster_of l) xs (asked core.left)
-          (subst (Answerable (roster_of l) xs) (sym (same_ask l n most us xs s reached (p - 1) core here back))
-          (next_answerable six_tasks l n us xs reached.by_turns six_in_range (suc (p - 1)) (subst (IsWorker n) (sym same_number) own)))
+          (subst (Answerable (roster_of l) xs) (sym (same_ask behaviour l n most us xs s reached (p - 1) core here back))
+          (next_answerable behaviour l n us xs reached.by_turns fits (suc (p - 1)) (subst (IsWorker n) (sym same_number) own)))
 
-      pub may_ask : ReadsBack (enveloped_by no_book) core.left → MayAsk s.table.plan (held s.table) (asked core.left)
+      pub may_ask : ReadsBack (enveloped_by no_tasks no_book) core.left → MayAsk s.table.plan (held s.table) (asked core.left)
       may_ask back =
           subst (λ plan. MayAsk plan (held s.table) (asked core.left)) (sym reached.plan_is)
           (subst (λ t. MayAsk (roster_of l) t (asked core.left)) (sym reached.table_is) (may_here back))
 
       pub held_in_range : AreInRange (held s.table)
-      held_in_range t o e = (held_range six_tasks l n us xs reached.by_turns six_in_range t o (ap (λ (r : Results). r.outcomes t) (sym reached.table_is) ∙ e)).1
+      held_in_range t o e = (held_range behaviour l n us xs reached.by_turns fits t o (ap (λ (r : Results). r.outcomes t) (sym reached.table_is) ∙ e)).1
 
       module _ (more : Bool) (told : asked core.left ≡ pause → more ≡ (is_queued s.queue || list_any (λ c. is_inside c.left) s.cores.items)) where
-        more_so : asked core.left ≡ pause → more ≡ holds_more six_tasks l n xs
-        more_so e = told e ∙ more_is l n most us xs s reached
+        more_so : asked core.left ≡ pause → more ≡ holds_more behaviour l n xs
+        more_so e = told e ∙ more_is behaviour l n most us xs s reached
 
-        pub went : (s' : Stage) (core' : Standing) → Stepped more core s.queue s.table core' s'.queue s'.table → s'.cores.items ≡ slice_set s.cores.items (p - 1) core' → s.steps ≡ suc s'.steps → IsTurn true l n most us xs p s'
+        pub went : (s' : Stage) (core' : Standing) → Stepped behaviour more core s.queue s.table core' s'.queue s'.table → s'.cores.items ≡ slice_set s.cores.items (p - 1) core' → s.steps ≡ suc s'.steps → IsTurn behaviour true l n most us xs p s'
         went s' core' step put fewer =
-            let as_put : IsPut l n most us xs s reached (p - 1) core here more more_so s.cores.items core' s'.cores.items =
+            let as_put : IsPut behaviour l n most us xs s reached (p - 1) core here more more_so s.cores.items core' s'.cores.items =
             (ap length put ∙ put_length s.cores.items (p - 1) core', λ j e h. put_at s.cores.items (p - 1) core' j e (ap (λ cs. slice_get cs j) (sym put) ∙ h)) in
-            subst (λ q. IsTurn true l n most us xs q s') same_number
-            (stepped l n most us xs s reached (p - 1) core here more more_so s' core' (subst (IsWorker n) (sym same_number) own) step as_put fewer)
+            subst (λ q. IsTurn behaviour true l n most us xs q s') same_number
+            (stepped behaviour l n most us xs s reached (p - 1) core here more more_so s' core' (subst (IsWorker n) (sym same_number) own) step as_put fewer)
 
-        pub halfway : (s' : Stage) → IsTried more core s.queue s.table s'.table → IsHalfway l n s'
+        pub halfway : (s' : Stage) → IsTried behaviour more core s.queue s.table s'.table → IsHalfway behaviour l n s'
         halfway s' tried = go tried.1
           where
-            go : (held s'.table ≡ held s.table) ⊎ Tried more core s.queue s.table s'.table → IsHalfway l n s'
+            go : (held s'.table ≡ held s.table) ⊎ Tried behaviour more core s.queue s.table s'.table → IsHalfway behaviour l n s'
             go (inl same) = record { turns = us; steps = xs; by_turns = reached.by_turns; plan_is = tried.0 ∙ reached.plan_is; table_is = same ∙ reached.table_is }
             go (inr t) =
                 let x : Step = (suc (p - 1), (asked core.left, t.reply)) in
@@ -140,7 +142,7 @@ module _ (l : Line) (p : ℕ) (s : Stage) (turn : HasTurn l p s) where
                     plan = reached.by_turns.plan;
                     opens_back = reached.by_turns.opens_back;
                     workers = each_more us (suc (p - 1)) reached.by_turns.workers (subst (IsWorker n) (sym same_number) own);
-                    turned = turned_so l n most us xs s reached (p - 1) core here more more_so t.reply t.reads_back t.answers;
+                    turned = turned_so behaviour l n most us xs s reached (p - 1) core here more more_so t.reply t.reads_back t.answers;
                   };
                   plan_is = tried.0 ∙ reached.plan_is;
                   table_is = t.table_is ∙ ap (λ r. results_next r (asked core.left)) reached.table_is ∙ sym (results_more _ xs x);

@@ -3,7 +3,7 @@ use Rattle.std.proofs.Common.{◌≡◌, ◌∙◌, ℕ, zero, suc, ◌+◌, Lis
 use Rattle.std.proofs.lemmas.List.Elements.{All-head, All-tail}
 use Rattle.std.specs.Prelude.{IfNone}
 use Rattle.std.specs.Global.{Global}
-use Rattle.canvas_task.specs.Apply.{six_tasks}
+use Rattle.canvas_task.specs.Apply.{Behaviour}
 use Rattle.crossbeam_queue.specs.SegTies.{SegId}
 use Rattle.atomic_table.specs.Seated.{TableId}
 use Rattle.canvas_semantics.specs.Tree.{count}
@@ -19,7 +19,7 @@ use Rattle.canvas_backend.specs.Backend.{Log}
 use Rattle.canvas_backend.specs.Seats.{Desk}
 use Rattle.canvas_backend.specs.Roster.{Roster, roster_of}
 use Rattle.canvas_broker.specs.Broker.{QueueEntry as Entries}
-use Rattle.canvas_runs.specs.Calls.{follows_all}
+use Rattle.canvas_runs.specs.Calls.{scripts_all}
 use Rattle.canvas_runs.specs.CallerLaws.{broker_calls_seen}
 use Rattle.canvas_runs.specs.Crew.{Mate, Ran, EndedWell, OwnTally, first_pass, first_seat}
 use Rattle.canvas_runs.specs.Following.{Pass, Seat, Makes, Serves, Working, begins, IsDone, IsOver, Followed}
@@ -58,10 +58,10 @@ reads_are_reads k (s ∷ ss) = (tt, reads_are_reads (suc k) ss)
 over_done : (w : Working) → IsOver w → IsDone w
 over_done w h = (subst (λ s. Between s) (sym h.0) tt, h.1)
 
-module _ (l : Line) (n : ℕ) (queue : SegId Global) (table : TableId) (pass : Pass) (seat : Seat) (c : Crew l n queue table pass seat) where
+module _ (behaviour : Behaviour) (l : Line) (n : ℕ) (queue : SegId Global) (table : TableId) (pass : Pass) (seat : Seat) (c : Crew behaviour l n queue table pass seat) where
   -- worker 0 works on, and reads
-  abbrev pub ran_with : (own : Working) → Followed six_tasks (roster_of l) (begins pass seat) own → (last : Pass) → last ≡ own.pass → (at : Seat) → own.seat ≡ at → (after : Seat) (rows : List State)
-      → Serves (roster_of l) at (reads_from 1 rows) after → Ran six_tasks l last after
+  abbrev pub ran_with : (own : Working) → Followed behaviour (roster_of l) (begins pass seat) own → (last : Pass) → last ≡ own.pass → (at : Seat) → own.seat ≡ at → (after : Seat) (rows : List State)
+      → Serves (roster_of l) at (reads_from 1 rows) after → Ran behaviour l last after
   ran_with own follows last e at f after rows reads = record {
     mates = c.mates;
     opening = first_messages l;
@@ -88,52 +88,52 @@ module _ (l : Line) (n : ℕ) (queue : SegId Global) (table : TableId) (pass : P
     ends = subst (λ (x : Seat). Serves (roster_of l) x (reads_from 1 rows) after) (sym f) reads;
   }
 
-  abbrev pub ran_to : (own : Working) → Followed six_tasks (roster_of l) (begins pass seat) own → (last : Pass) → last ≡ own.pass → (at : Seat) → own.seat ≡ at → (after : Seat) (rows : List State)
-      → Serves (roster_of l) at (reads_from 1 rows) after → length rows ≡ count_line l → RanTo six_tasks l last after rows
+  abbrev pub ran_to : (own : Working) → Followed behaviour (roster_of l) (begins pass seat) own → (last : Pass) → last ≡ own.pass → (at : Seat) → own.seat ≡ at → (after : Seat) (rows : List State)
+      → Serves (roster_of l) at (reads_from 1 rows) after → length rows ≡ count_line l → RanTo behaviour l last after rows
   ran_to own follows last e at f after rows reads many = record { ran = ran_with own follows last e at f after rows reads; read = refl; each = many }
 
   -- a run that ended early: each row is pending or its task's state
-  pub rows_may : IsPlan l → (own : Working) → Followed six_tasks (roster_of l) (begins pass seat) own → (at : Seat) → own.seat ≡ at → (after : Seat) (rows : List State)
-      → Serves (roster_of l) at (reads_from 1 rows) after → length rows ≡ count_line l → EachMay rows (states six_tasks (tree_of l))
-  rows_may planned own follows at f after rows reads many = rows_of_any six_tasks l planned own.pass after rows (ran_to own follows own.pass refl at f after rows reads many)
+  pub rows_may : IsPlan l → (own : Working) → Followed behaviour (roster_of l) (begins pass seat) own → (at : Seat) → own.seat ≡ at → (after : Seat) (rows : List State)
+      → Serves (roster_of l) at (reads_from 1 rows) after → length rows ≡ count_line l → EachMay rows (states behaviour (tree_of l))
+  rows_may planned own follows at f after rows reads many = rows_of_any behaviour l planned own.pass after rows (ran_to own follows own.pass refl at f after rows reads many)
 
   -- a run that ended well
-  module _ (r : Record) (f : Finished (roster_of l) 0 pass seat r) (fine : r.fault ≡ None) (done : Each (λ (m : Mate six_tasks (roster_of l)). IsOver m.ended) c.mates) where
+  module _ (r : Record) (f : Finished behaviour (roster_of l) 0 pass seat r) (fine : r.fault ≡ None) (done : Each (λ (m : Mate behaviour (roster_of l)). IsOver m.ended) c.mates) where
     pub ended_well : (after : Seat) (rows : List State) (reads : Serves (roster_of l) r.seat (reads_from 1 rows) after)
-        → EndedWell six_tasks l r.pass after (ran_with f.ended f.followed r.pass f.pass_is r.seat (sym f.seat_is) after rows reads)
-    ended_well after rows reads = record { all_sent = refl; empty = f.empty fine; own = over_done f.ended (f.done fine); each = each_weaker (λ (m : Mate six_tasks (roster_of l)). over_done m.ended) c.mates done }
+        → EndedWell behaviour l r.pass after (ran_with f.ended f.followed r.pass f.pass_is r.seat (sym f.seat_is) after rows reads)
+    ended_well after rows reads = record { all_sent = refl; empty = f.empty fine; own = over_done f.ended (f.done fine); each = each_weaker (λ (m : Mate behaviour (roster_of l)). over_done m.ended) c.mates done }
 
-    abbrev pub ran_well : (after : Seat) (rows : List State) → Serves (roster_of l) r.seat (reads_from 1 rows) after → length rows ≡ count_line l → RanWell six_tasks l r.pass after rows
+    abbrev pub ran_well : (after : Seat) (rows : List State) → Serves (roster_of l) r.seat (reads_from 1 rows) after → length rows ≡ count_line l → RanWell behaviour l r.pass after rows
     ran_well after rows reads many = record { to = ran_to f.ended f.followed r.pass f.pass_is r.seat (sym f.seat_is) after rows reads many; well = ended_well after rows reads }
 
 -- ---- counts
 
-tallies_are : {plan : _} (queue : List (Entries Envelope)) (table : Log) (k : ℕ) (ms : List (Mate six_tasks plan)) → EachCounts queue table k (map (λ (m : Mate six_tasks plan). m.ended.tally) ms) → AreTallies queue table k (tallies_from k ms)
-tallies_are queue table k [] c = tt
-tallies_are queue table k (m ∷ ms) c = (refl, c.0, tallies_are queue table (suc k) ms c.1)
+tallies_are : (behaviour : Behaviour) → {plan : _} (queue : List (Entries Envelope)) (table : Log) (k : ℕ) (ms : List (Mate behaviour plan)) → EachCounts queue table k (map (λ (m : Mate behaviour plan). m.ended.tally) ms) → AreTallies queue table k (tallies_from behaviour k ms)
+tallies_are behaviour queue table k [] c = tt
+tallies_are behaviour queue table k (m ∷ ms) c = (refl, c.0, tallies_are behaviour queue table (suc k) ms c.1)
 
-long_tallies : {plan : _} (k : ℕ) (ms : List (Mate six_tasks plan)) → length (tallies_from k ms) ≡ length ms
-long_tallies k [] = refl
-long_tallies k (m ∷ ms) = ap suc (long_tallies (suc k) ms)
+long_tallies : (behaviour : Behaviour) → {plan : _} (k : ℕ) (ms : List (Mate behaviour plan)) → length (tallies_from behaviour k ms) ≡ length ms
+long_tallies behaviour k [] = refl
+long_tallies behaviour k (m ∷ ms) = ap suc (long_tallies behaviour (suc k) ms)
 
 -- the halves of a sum in the other order
 swapped : (a b : ℕ) → min greatest_count (a + b) ≡ min greatest_count (b + a)
 swapped a b = let same : a + b ≡ b + a = omega arith in ap (λ n. min greatest_count n) same
 
-module _ (l : Line) (n : ℕ) (b : SegId Global) (d : Desk) (pass : Pass) (seat : Seat) (c : Crew l n b d.id pass seat) (planned : IsPlan l) where
-  module _ (r : Record) (f : Finished (roster_of l) 0 pass seat r) (fine : r.fault ≡ None) (done : Each (λ (m : Mate six_tasks (roster_of l)). IsOver m.ended) c.mates) (after : Seat) (rows : List State)
+module _ (behaviour : Behaviour) (l : Line) (n : ℕ) (b : SegId Global) (d : Desk) (pass : Pass) (seat : Seat) (c : Crew behaviour l n b d.id pass seat) (planned : IsPlan l) where
+  module _ (r : Record) (f : Finished behaviour (roster_of l) 0 pass seat r) (fine : r.fault ≡ None) (done : Each (λ (m : Mate behaviour (roster_of l)). IsOver m.ended) c.mates) (after : Seat) (rows : List State)
       (reads : Serves (roster_of l) r.seat (reads_from 1 rows) after) (many : length rows ≡ count_line l) where
-    abbrev whole : RanWell six_tasks l r.pass after rows
-    whole = ran_well l n b d.id pass seat c r f fine done after rows reads many
+    abbrev whole : RanWell behaviour l r.pass after rows
+    whole = ran_well behaviour l n b d.id pass seat c r f fine done after rows reads many
 
-    abbrev this : Ran six_tasks l r.pass after
+    abbrev this : Ran behaviour l r.pass after
     this = whole.to.ran
 
     -- worker 0's counts, the first messages among them
     abbrev own_counts : Counts
     own_counts = record { taken = r.taken; published = min greatest_count (r.published + length (first_messages l)); first = r.first; parts = r.parts; dropped = r.dropped }
 
-    own_tally : OwnTally six_tasks l r.pass after this own_counts
+    own_tally : OwnTally behaviour l r.pass after this own_counts
     own_tally = (
       ap (λ (t : Counts). t.taken) f.counts,
       swapped r.published (length (first_messages l)) ∙ ap (λ (t : Counts). min greatest_count (length (first_messages l) + t.published)) f.counts,
@@ -146,30 +146,30 @@ module _ (l : Line) (n : ℕ) (b : SegId Global) (d : Desk) (pass : Pass) (seat 
     records_of ts = record { broker = b; pass = r.pass; backend = d; seat = after; workers = ts }
 
     abbrev all_tallies : List Tally
-    all_tallies = record { number = 0; taken = r.taken; published = min greatest_count (r.published + length (first_messages l)); first = r.first; parts = r.parts; dropped = r.dropped } ∷ tallies_from 1 c.mates
+    all_tallies = record { number = 0; taken = r.taken; published = min greatest_count (r.published + length (first_messages l)); first = r.first; parts = r.parts; dropped = r.dropped } ∷ tallies_from behaviour 1 c.mates
 
-    pub is_run : r.pass.of ≡ b → after.of ≡ d.id → d.plan ≡ roster_of l → IsRun l n rows (records_of all_tallies)
+    pub is_run : r.pass.of ≡ b → after.of ≡ d.id → d.plan ≡ roster_of l → IsRun behaviour l n rows (records_of all_tallies)
     is_run of seat_of plan =
-        let counted = tallies_count six_tasks l planned r.pass after this whole.well own_counts own_tally in
-        let run = the_run six_tasks l r.pass after this in
+        let counted = tallies_count behaviour l planned r.pass after this whole.well own_counts own_tally in
+        let run = the_run behaviour l r.pass after this in
         record {
           objects = (of, seat_of, plan);
           ran = whole;
           over = (f.done fine, done);
           workers = c.count;
-          of_broker = (passes six_tasks l r.pass after this).1;
-          of_backend = seats six_tasks l r.pass after this;
+          of_broker = (passes behaviour l r.pass after this).1;
+          of_backend = seats behaviour l r.pass after this;
           run = run;
           queue = refl;
           table = refl;
-          closed = the_closed six_tasks l r.pass after this whole.well;
-          tallies = (refl, counted.0, tallies_are (broker_calls_seen r.pass) after.seen 1 c.mates counted.1);
-          each_tally = ap suc (long_tallies 1 c.mates ∙ c.count);
-          once = λ k. (first_part six_tasks l planned run).published_once k;
-          by_cause = by_cause six_tasks l planned run;
-          by_its_cause = by_its_cause six_tasks l planned run;
-          completed_once = λ g. completed_once six_tasks l planned run g;
-          are = rows_of_well six_tasks l planned r.pass after rows whole;
+          closed = the_closed behaviour l r.pass after this whole.well;
+          tallies = (refl, counted.0, tallies_are behaviour (broker_calls_seen r.pass) after.seen 1 c.mates counted.1);
+          each_tally = ap suc (long_tallies behaviour 1 c.mates ∙ c.count);
+          once = λ k. (first_part behaviour l planned run).published_once k;
+          by_cause = by_cause behaviour l planned run;
+          by_its_cause = by_its_cause behaviour l planned run;
+          completed_once = λ g. completed_once behaviour l planned run g;
+          are = rows_of_well behaviour l planned r.pass after rows whole;
         }
 
 -- ---- runs that ended early
@@ -187,8 +187,8 @@ long_map f [] = refl
 long_map f (x ∷ xs) = ap suc (long_map f xs)
 
 -- there is a state for each task
-pub long_states : (l : Line) → length (states six_tasks (tree_of l)) ≡ count_line l
-long_states l = long_map (λ k. state_of k (eval six_tasks (tree_of l) nothing).rows) (numbers_from 1 (count (tree_of l))) ∙ (long_numbers 1 (count (tree_of l)) ∙ count_elements l)
+pub long_states : (behaviour : Behaviour) → (l : Line) → length (states behaviour (tree_of l)) ≡ count_line l
+long_states behaviour l = long_map (λ k. state_of k (eval behaviour (tree_of l) nothing).rows) (numbers_from 1 (count (tree_of l))) ∙ (long_numbers 1 (count (tree_of l)) ∙ count_elements l)
 
 -- and an envelope for each message
 pub long_envelopes : (es : List Envelope) (ms : List Content) → es ≡ map sealed ms → length es ≡ length ms
@@ -202,8 +202,8 @@ pending_may (r ∷ rs) [] e p = absurd (omega (arith, e))
 pending_may (r ∷ rs) (s ∷ ss) e p = (inl (All-head (λ s. s ≡ None) r rs p), pending_may rs ss (omega (arith, e)) (All-tail (λ s. s ≡ None) r rs p))
 
 -- with nothing done
-still : (plan : Roster) (p : Pass) (s : Seat) → Followed six_tasks plan (begins p s) (begins p s)
-still plan p s = record {
+still : (behaviour : Behaviour) → (plan : Roster) (p : Pass) (s : Seat) → Followed behaviour plan (begins p s) (begins p s)
+still behaviour plan p s = record {
   run = [];
   is_core = tt;
   reads = tt;
@@ -211,30 +211,30 @@ still plan p s = record {
   leaves = refl;
   made = [];
   stood = tt;
-  follows = follows_all;
+  follows = scripts_all;
   used = refl;
   makes = refl;
   serves = refl;
 }
 
 -- the rows that worker 0 reads where it has done nothing else
-pub unworked_may : (l : Line) (n : ℕ) (queue : SegId Global) (table : TableId) (pass : Pass) (seat : Seat) → Crew l n queue table pass seat → IsPlan l → (after : Seat) (rows : List State)
-    → Serves (roster_of l) seat (reads_from 1 rows) after → length rows ≡ count_line l → EachMay rows (states six_tasks (tree_of l))
-unworked_may l n queue table pass seat c planned after rows reads many = rows_may l n queue table pass seat c planned (begins pass seat) (still (roster_of l) pass seat) seat refl after rows reads many
+pub unworked_may : (behaviour : Behaviour) → (l : Line) (n : ℕ) (queue : SegId Global) (table : TableId) (pass : Pass) (seat : Seat) → Crew behaviour l n queue table pass seat → IsPlan l → (after : Seat) (rows : List State)
+    → Serves (roster_of l) seat (reads_from 1 rows) after → length rows ≡ count_line l → EachMay rows (states behaviour (tree_of l))
+unworked_may behaviour l n queue table pass seat c planned after rows reads many = rows_may behaviour l n queue table pass seat c planned (begins pass seat) (still behaviour (roster_of l) pass seat) seat refl after rows reads many
 
 -- and those that it reads where it has worked, however that ended
-pub worked_may : (l : Line) (n : ℕ) (queue : SegId Global) (table : TableId) (pass : Pass) (seat : Seat) → Crew l n queue table pass seat → IsPlan l → (r : Record) → Finished (roster_of l) 0 pass seat r → (after : Seat) (rows : List State)
-    → Serves (roster_of l) r.seat (reads_from 1 rows) after → length rows ≡ count_line l → EachMay rows (states six_tasks (tree_of l))
-worked_may l n queue table pass seat c planned r f after rows reads many = rows_may l n queue table pass seat c planned f.ended f.followed r.seat (sym f.seat_is) after rows reads many
+pub worked_may : (behaviour : Behaviour) → (l : Line) (n : ℕ) (queue : SegId Global) (table : TableId) (pass : Pass) (seat : Seat) → Crew behaviour l n queue table pass seat → IsPlan l → (r : Record) → Finished behaviour (roster_of l) 0 pass seat r → (after : Seat) (rows : List State)
+    → Serves (roster_of l) r.seat (reads_from 1 rows) after → length rows ≡ count_line l → EachMay rows (states behaviour (tree_of l))
+worked_may behaviour l n queue table pass seat c planned r f after rows reads many = rows_may behaviour l n queue table pass seat c planned f.ended f.followed r.seat (sym f.seat_is) after rows reads many
 
 -- ---- what worker 0 has taken in
 
-pub gathered : (l : Line) (n : ℕ) (s : Start) (start : IsStart l n s) (sent : Pass) (after : List Slot) (p : Pass) (t : Seat) → Makes s.pass (published_all s.envelopes.items) sent → AllRan s.backend.plan s.slots.items after → length after ≡ length s.slots.items
+pub gathered : (behaviour : Behaviour) → (l : Line) (n : ℕ) (s : Start) (start : IsStart l n s) (sent : Pass) (after : List Slot) (p : Pass) (t : Seat) → Makes s.pass (published_all s.envelopes.items) sent → AllRan behaviour s.backend.plan s.slots.items after → length after ≡ length s.slots.items
     → TakesIn s.backend.plan sent s.seat after p t
-    → (c : Crew l n s.broker s.backend.id p t) × (map tally_in after ≡ tallies_from 1 c.mates) × (All (λ x. IsWell x.post) after → Each (λ (m : Mate six_tasks (roster_of l)). IsOver m.ended) c.mates)
-gathered l n s start sent after p t made ran many taken =
-    let each = each_ran (roster_of l) s.slots.items after many (subst (λ plan. AllRan plan s.slots.items after) start.plan ran) in
-    let all = crew_of (roster_of l) 1 s.slots.items after (first_pass s.broker) s.pass (first_seat s.backend.id) s.seat sent p s.seat t start.parts each (subst (λ plan. TakesIn plan sent s.seat after p t) start.plan taken) in
+    → (c : Crew behaviour l n s.broker s.backend.id p t) × (map tally_in after ≡ tallies_from behaviour 1 c.mates) × (All (λ x. IsWell x.post) after → Each (λ (m : Mate behaviour (roster_of l)). IsOver m.ended) c.mates)
+gathered behaviour l n s start sent after p t made ran many taken =
+    let each = each_ran behaviour (roster_of l) s.slots.items after many (subst (λ plan. AllRan behaviour plan s.slots.items after) start.plan ran) in
+    let all = crew_of behaviour (roster_of l) 1 s.slots.items after (first_pass s.broker) s.pass (first_seat s.backend.id) s.seat sent p s.seat t start.parts each (subst (λ plan. TakesIn plan sent s.seat after p t) start.plan taken) in
     let c = all.1 in (
       record {
         mates = all.0;
@@ -258,9 +258,9 @@ if_none None f p = f p
 if_none (Some a) f p = tt
 
 -- where none of them ended with a fault
-pub well_gathered : (l : Line) (ms : List (Mate six_tasks (roster_of l))) (xs after : List Slot) (before counted : List Tally) → xs ≡ after → before ≡ nothing_counted 0 ∷ [] → map tally_in after ≡ tallies_from 1 ms
-    → (All (λ x. IsWell x.post) after → Each (λ (m : Mate six_tasks (roster_of l)). IsOver m.ended) ms) → All (λ x. IsWell x.post) xs × (counted ≡ before ++ map tally_in xs) → IsWellGathered l ms counted
-well_gathered l ms xs after before counted same b t d w = record {
+pub well_gathered : (behaviour : Behaviour) → (l : Line) (ms : List (Mate behaviour (roster_of l))) (xs after : List Slot) (before counted : List Tally) → xs ≡ after → before ≡ nothing_counted 0 ∷ [] → map tally_in after ≡ tallies_from behaviour 1 ms
+    → (All (λ x. IsWell x.post) after → Each (λ (m : Mate behaviour (roster_of l)). IsOver m.ended) ms) → All (λ x. IsWell x.post) xs × (counted ≡ before ++ map tally_in xs) → IsWellGathered behaviour l ms counted
+well_gathered behaviour l ms xs after before counted same b t d w = record {
   done = d (subst (All (λ x. IsWell x.post)) same w.0);
   tallies = w.1 ∙ (ap (λ ts. ts ++ map tally_in xs) b ∙ ap (λ ts. nothing_counted 0 ∷ ts) (ap (λ ys. map tally_in ys) same ∙ t));
 }

@@ -8,7 +8,7 @@
 --     IsCut l n turns steps rows             rows of a run that was cut off after so many steps, with some worker that had not ended
 --     IsRunFault, IsFaultWithin              why a run by turns, and one of at most so many steps, has no whole report
 use Rattle.std.specs.Prelude.{◌≡◌, ◌≤◌, ℕ, suc, List, [], ◌∷◌, ◌++◌, All, length, map, Option, Some, None}
-use Rattle.canvas_task.specs.Apply.{six_tasks}
+use Rattle.canvas_task.specs.Apply.{Behaviour}
 use Rattle.canvas_semantics.specs.Evaluation.{State}
 use Rattle.canvas_semantics.specs.Line.{Line, tree_of}
 use Rattle.canvas_semantics.specs.States.{states, EachMay}
@@ -47,28 +47,28 @@ AreTurns n turns = All (IsWorker n) turns
 abbrev pub IsAsked : ℕ → List ℕ → Type 0
 IsAsked n turns = AreWorkers n × AreTurns n turns
 
-pub record IsWholeRun (l : Line) (n : ℕ) (turns : List ℕ) (rows : List State) : Type 0 where
-  pub run : RanWhole six_tasks l n turns
+pub record IsWholeRun (behaviour : Behaviour) (l : Line) (n : ℕ) (turns : List ℕ) (rows : List State) : Type 0 where
+  pub run : RanWhole behaviour l n turns
   pub rows_held : rows ≡ held_rows l run.steps
   -- what evaluating the plan's tree gives
-  pub are : rows ≡ states six_tasks (tree_of l)
+  pub are : rows ≡ states behaviour (tree_of l)
 
-abbrev pub IsWholeWithin : Line → ℕ → List ℕ → ℕ → List State → Type 0
-IsWholeWithin l n turns most rows = (whole : IsWholeRun l n turns rows) × (length whole.run.steps ≤ most)
+abbrev pub IsWholeWithin : (behaviour : Behaviour) → Line → ℕ → List ℕ → ℕ → List State → Type 0
+IsWholeWithin behaviour l n turns most rows = (whole : IsWholeRun behaviour l n turns rows) × (length whole.run.steps ≤ most)
 
-pub record IsCut (l : Line) (n : ℕ) (turns : List ℕ) (steps : ℕ) (rows : List State) : Type 0 where
-  pub run : RanUntil six_tasks l n turns steps
+pub record IsCut (behaviour : Behaviour) (l : Line) (n : ℕ) (turns : List ℕ) (steps : ℕ) (rows : List State) : Type 0 where
+  pub run : RanUntil behaviour l n turns steps
   pub rows_held : rows ≡ held_rows l run.steps
-  pub may : EachMay rows (states six_tasks (tree_of l))
+  pub may : EachMay rows (states behaviour (tree_of l))
 
 -- The rows that are given. None are where memory was refused before the first publish, or on threads to a worker's executor.
 abbrev pub GivesRows : Option Report → List State → Type 0
 GivesRows None ss = Unit {0}
 GivesRows (Some report) ss = EachMay report.rows ss
 
-abbrev pub GivesCut : Option Report → Line → ℕ → List ℕ → ℕ → Type 0
-GivesCut None l n turns steps = ⊥
-GivesCut (Some report) l n turns steps = IsCut l n turns steps report.rows
+abbrev pub GivesCut : (behaviour : Behaviour) → Option Report → Line → ℕ → List ℕ → ℕ → Type 0
+GivesCut behaviour None l n turns steps = ⊥
+GivesCut behaviour (Some report) l n turns steps = IsCut behaviour l n turns steps report.rows
 
 -- Why a run with no bound has no whole report, where these are the states: it isn't stopped.
 abbrev pub IsRunFault : ℕ → List ℕ → List State → RunFault → Type 0
@@ -78,11 +78,11 @@ IsRunFault n turns ss (Halted Memory rows) = IsAsked n turns × GivesRows rows s
 IsRunFault n turns ss (Halted Stopped rows) = ⊥
 
 -- the same of a run of at most so many steps, which is stopped there
-abbrev pub IsFaultWithin : Line → ℕ → List ℕ → ℕ → RunFault → Type 0
-IsFaultWithin l n turns steps BadWorkers = AreWorkers n → ⊥
-IsFaultWithin l n turns steps BadTurn = AreWorkers n × (AreTurns n turns → ⊥)
-IsFaultWithin l n turns steps (Halted Memory rows) = IsAsked n turns × GivesRows rows (states six_tasks (tree_of l))
-IsFaultWithin l n turns steps (Halted Stopped rows) = IsAsked n turns × GivesCut rows l n turns steps
+abbrev pub IsFaultWithin : (behaviour : Behaviour) → Line → ℕ → List ℕ → ℕ → RunFault → Type 0
+IsFaultWithin behaviour l n turns steps BadWorkers = AreWorkers n → ⊥
+IsFaultWithin behaviour l n turns steps BadTurn = AreWorkers n × (AreTurns n turns → ⊥)
+IsFaultWithin behaviour l n turns steps (Halted Memory rows) = IsAsked n turns × GivesRows rows (states behaviour (tree_of l))
+IsFaultWithin behaviour l n turns steps (Halted Stopped rows) = IsAsked n turns × GivesCut behaviour rows l n turns steps
 
 -- ---- on threads
 
@@ -94,33 +94,33 @@ abbrev pub AreTallies : List (Entries Envelope) → Log → ℕ → List Tally �
 AreTallies queue table k [] = Unit {0}
 AreTallies queue table k (t ∷ ts) = (t.number ≡ k) × CountsOf queue table k (counts_of t) × AreTallies queue table (suc k) ts
 
-pub record IsRun (l : Line) (n : ℕ) (rows : List State) (r : Records) : Type 0 where
+pub record IsRun (behaviour : Behaviour) (l : Line) (n : ℕ) (rows : List State) (r : Records) : Type 0 where
   -- the pass and the seat are of this queue and this table, which is one of the plan
   pub objects : (r.pass.of ≡ r.broker) × (r.seat.of ≡ r.backend.id) × (r.backend.plan ≡ roster_of l)
   -- Each of the n workers, and worker 0, has followed a core run. Worker 0 published all first messages before, and read each task at the end: these are the rows.
-  pub ran : RanWell six_tasks l r.pass r.seat rows
+  pub ran : RanWell behaviour l r.pass r.seat rows
   -- the last that each asked was a rest, which was answered with no more
-  pub over : IsOver ran.to.ran.own × Each (λ (m : Mate six_tasks (roster_of l)). IsOver m.ended) ran.to.ran.mates
+  pub over : IsOver ran.to.ran.own × Each (λ (m : Mate behaviour (roster_of l)). IsOver m.ended) ran.to.ran.mates
   pub workers : length ran.to.ran.mates ≡ n
   -- The broker has one legal history, and the backend one. Of each worker they have just its calls, each once and in its order; worker i is the i-th that is named in each.
-  pub of_broker : QueueAccounts six_tasks (roster_of l) ran.to.ran.mates (published_all (map sealed ran.to.ran.opening)) ran.to.ran.works.made (broker_calls_seen r.pass)
-  pub of_backend : TableAccounts six_tasks (roster_of l) ran.to.ran.mates (backend_calls ran.to.ran.works.run ++ ran.to.ran.closing) r.seat.seen
+  pub of_broker : QueueAccounts behaviour (roster_of l) ran.to.ran.mates (published_all (map sealed ran.to.ran.opening)) ran.to.ran.works.made (broker_calls_seen r.pass)
+  pub of_backend : TableAccounts behaviour (roster_of l) ran.to.ran.mates (backend_calls ran.to.ran.works.run ++ ran.to.ran.closing) r.seat.seen
   -- they are those of a closed run of the plan
-  pub run : Run six_tasks l
+  pub run : Run behaviour l
   pub queue : run.queue ≡ broker_calls_seen r.pass
   pub table : run.table ≡ r.seat.seen
-  pub closed : Closed six_tasks l run
+  pub closed : Closed behaviour l run
   -- what worker 0 counted, and each further one, in the order of their numbers
   pub tallies : AreTallies (broker_calls_seen r.pass) r.seat.seen 0 r.workers
   pub each_tally : length r.workers ≡ suc n
   -- each envelope that is published reads as the message of a task, each message is published at most once, and by the worker that brought about the event which
   -- runs its task: a body's by the one whose part completed its header
   pub once : (k : ℕ) → publishes l k (broker_calls_seen r.pass) ≤ 1
-  pub by_cause : ByCause six_tasks l (broker_calls_seen r.pass) r.seat.seen
-  pub by_its_cause : ByItsCause six_tasks l (broker_calls_seen r.pass) r.seat.seen
+  pub by_cause : ByCause behaviour l (broker_calls_seen r.pass) r.seat.seen
+  pub by_its_cause : ByItsCause behaviour l (broker_calls_seen r.pass) r.seat.seen
   pub completed_once : (g : ℕ) → completions l g r.seat.seen ≤ 1
   -- what evaluating the plan's tree gives
-  pub are : rows ≡ states six_tasks (tree_of l)
+  pub are : rows ≡ states behaviour (tree_of l)
 
 -- Why a run on threads has no whole report, where these are the states. Without rows it is for memory that was refused: before the first publish, or to an executor.
 abbrev pub IsThreadFault : ℕ → List State → RunFault → Type 0

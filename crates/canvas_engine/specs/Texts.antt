@@ -1,6 +1,6 @@
 -- The report of a text: of the canvas that it reads as (JSON, RFC 8259; signatures as Celery writes them); or why there is none.
 use Rattle.std.specs.Prelude.{◌≡◌, List, Ok, Err}
-use Rattle.canvas_task.specs.Apply.{six_tasks}
+use Rattle.canvas_task.specs.Apply.{Behaviour}
 use Rattle.canvas_sig.specs.CanvasText.{text_reading}
 use Rattle.canvas_task.specs.Text.{Text}
 use Rattle.canvas_semantics.specs.NormalLine.{normal}
@@ -30,10 +30,10 @@ pub record IsPlanOfText (bytes : Text) (c : Tree) (all : Line) : Type 0 where
   pub tree : tree_of all ≡ numbered (normal c)
 
 -- Why a text has no report: its first refusal; else, of the run of the canvas that it reads as; or memory that was refused before the run or after it. `Says` is what a fault of a run with these states says.
-abbrev pub IsTextFault : Text → (List State → RunFault → Type 0) → TextFault → Type 0
-IsTextFault bytes Says (Sig e) = text_reading bytes ≡ Err e
-IsTextFault bytes Says (Run f) = (c : Tree) × IsCanvasText bytes c × Says (states six_tasks (numbered c)) f
-IsTextFault bytes Says Memory = Unit {0}
+abbrev pub IsTextFault : (behaviour : Behaviour) → Text → (List State → RunFault → Type 0) → TextFault → Type 0
+IsTextFault behaviour bytes Says (Sig e) = text_reading bytes ≡ Err e
+IsTextFault behaviour bytes Says (Run f) = (c : Tree) × IsCanvasText bytes c × Says (states behaviour (numbered c)) f
+IsTextFault behaviour bytes Says Memory = Unit {0}
 
 -- of a plan's run, whose faults say this
 abbrev pub IsPlanFault : (RunFault → Type 0) → TextFault → Type 0

@@ -1,6 +1,5 @@
 //! The end of a run on threads: worker 0 works on by itself, and reads the rows.
 ghost use Rattle.std.specs.Prelude.{◌≡◌, ◌≤◌, List, length, Option, Some, None, IfSome, IfOk, IfErr};
-ghost use Rattle.canvas_task.specs.Apply.{six_tasks};
 ghost use Rattle.canvas_worker.specs.declared.cause.Cause.{Cause};
 ghost use Rattle.canvas_history.specs.History.{calls};
 ghost use Rattle.canvas_semantics.specs.Line.{Line, count_line, tree_of};
@@ -20,7 +19,7 @@ use crate::{Cause, Records, Report, RunFault, Tally};
 use canvas_backend::{Backend, BackendSeat};
 use canvas_broker::{Broker, BrokerPass};
 use canvas_rewrite::Plan;
-use canvas_task::{Fault, ListOf, Outcome, TaskNo};
+use canvas_task::{Fault, ListOf, Outcome, TaskNo, Tasks};
 use canvas_worker::{InFlight, OpenGate, Record, Stop, Worker};
 use futures::executor::block_on;
 use std::alloc::{AllocGlobal, Global};
@@ -68,22 +67,23 @@ fn read_rows(backend: &Backend, seat: &mut BackendSeat, plan: &Plan, rows: &mut 
 }
 
 /// Worker 0's own work, once it has taken in all others: it goes on by itself until it finds nothing. None where its executor failed.
-fn work_alone<R: Wait + RandomSource + AllocGlobal>(
+fn work_alone<R: Wait + RandomSource + AllocGlobal, T: Tasks>(
     rt: &R,
     alloc: Global,
     broker: &Broker,
     pass: BrokerPass,
     backend: &Backend,
     seat: BackendSeat,
+    tasks: &T,
     stop: &Stop,
 ) -> Option<Record>
     requires plan { (l : Line) × IsPlan l × (backend.now.plan ≡ roster_of l) }
     requires own { (pass.of ≡ broker.now) × (seat.of ≡ backend.now.id) }
-    ensures { IfSome result (Finished backend.now.plan 0 pass seat) }
+    ensures { IfSome result (Finished (T.behaviour tasks.now) backend.now.plan 0 pass seat) }
 {
     let flight = InFlight::new(0);
     let worker = Worker::new(
-        rt, alloc, 0, broker, pass, backend, seat, &OpenGate, stop, &flight,
+        rt, alloc, 0, broker, pass, backend, seat, tasks, &OpenGate, stop, &flight,
     );
     match block_on(rt, InRounds { future: worker }) {
         Ok(left) => Some(left),
@@ -93,11 +93,19 @@ fn work_alone<R: Wait + RandomSource + AllocGlobal>(
 
 impl Gathered {
     /// The fault of a run that ended early, with the rows that it has.
-    pub(crate) fn halt(self, plan: &Plan, workers: u32, cause: Cause) -> RunFault
+    pub(crate) fn halt<T: Tasks>(
+        self,
+        plan: &Plan,
+        tasks: &T,
+        workers: u32,
+        cause: Cause,
+    ) -> RunFault
         requires workers { AreWorkers workers }
-        requires gathered { (cause : Option Cause) × AreGathered plan.now workers cause self }
-        ensures { IsThreadFault workers (states six_tasks (tree_of plan.now)) result }
+        requires gathered { (cause : Option Cause) × AreGathered (T.behaviour tasks.now) plan.now workers cause self }
+        ensures { IsThreadFault workers (states (T.behaviour tasks.now) (tree_of plan.now)) result }
     {
+        // For the clauses alone.
+        let _tasks = tasks;
         let Gathered {
             backend,
             mut seat,
@@ -109,18 +117,19 @@ impl Gathered {
     }
 
     /// Worker 0 works until it finds nothing, and reads each task once.
-    pub(crate) fn conclude<R: Wait + RandomSource + AllocGlobal>(
+    pub(crate) fn conclude<R: Wait + RandomSource + AllocGlobal, T: Tasks>(
         self,
         rt: &R,
         alloc: Global,
         plan: &Plan,
+        tasks: &T,
         workers: u32,
         stop: &Stop,
     ) -> Result<(Report, Records), RunFault>
         requires workers { AreWorkers workers }
-        requires gathered { AreGathered plan.now workers None self }
-        ensures ok { IfOk result (λ r. IsRun plan.now workers r.0.rows r.1) }
-        ensures err { IfErr result (IsThreadFault workers (states six_tasks (tree_of plan.now))) }
+        requires gathered { AreGathered (T.behaviour tasks.now) plan.now workers None self }
+        ensures ok { IfOk result (λ r. IsRun (T.behaviour tasks.now) plan.now workers r.0.rows r.1) }
+        ensures err { IfErr result (IsThreadFault workers (states (T.behaviour tasks.now) (tree_of plan.now))) }
     {
         let Gathered {
             broker,
@@ -131,7 +140,7 @@ impl Gathered {
             mut rows,
             mut tallies,
         } = self;
-        let Some(left) = work_alone(rt, alloc, &broker, pass, &backend, seat, stop) else {
+        let Some(left) = work_alone(rt, alloc, &broker, pass, &backend, seat, tasks, stop) else {
             stop.ask();
             return Err(RunFault::halted(Cause::Memory));
         };

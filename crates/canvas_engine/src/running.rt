@@ -1,6 +1,5 @@
 //! Runs on threads.
 ghost use Rattle.std.specs.Prelude.{◌≡◌, IfOk, IfErr};
-ghost use Rattle.canvas_task.specs.Apply.{six_tasks};
 ghost use Rattle.canvas_semantics.specs.Line.{tree_of};
 ghost use Rattle.canvas_rewrite.specs.Planned.{IsPlan};
 ghost use Rattle.canvas_semantics.specs.States.{states};
@@ -19,7 +18,7 @@ use canvas_backend::{Backend, BackendSeat};
 use canvas_broker::{Broker, BrokerPass};
 use canvas_message::Envelope;
 use canvas_rewrite::Plan;
-use canvas_task::{Fault, Memory, Outcome};
+use canvas_task::{Fault, Memory, Outcome, Tasks};
 use canvas_worker::{Gate, InFlight, Stop};
 use std::alloc::{AllocGlobal, Global};
 use std::random::RandomSource;
@@ -65,10 +64,11 @@ fn reserve<R: Wait>(rt: &R, alloc: Global, plan: &Plan, workers: u32) -> Result<
 }
 
 /// Publishes the first messages, has the workers work, and takes in what they left. Why they ended early, if any did, stands beside.
-fn gather<R, G>(
+fn gather<R, T, G>(
     rt: &R,
     alloc: Global,
     plan: &Plan,
+    tasks: &T,
     workers: u32,
     gate: &G,
     stop: &Stop,
@@ -76,11 +76,12 @@ fn gather<R, G>(
 ) -> Result<(Gathered, Option<Cause>), RunFault>
 where
     R: Threads + Wait + RandomSource + AllocGlobal + Sync,
+    T: Tasks + Sync,
     G: Gate + Sync,
     requires workers { AreWorkers workers }
     requires start { IsStart plan.now workers start }
-    ensures ok { IfOk result (λ r. AreGathered plan.now workers r.1 r.0) }
-    ensures err { IfErr result (IsThreadFault workers (states six_tasks (tree_of plan.now))) }
+    ensures ok { IfOk result (λ r. AreGathered (T.behaviour tasks.now) plan.now workers r.1 r.0) }
+    ensures err { IfErr result (IsThreadFault workers (states (T.behaviour tasks.now) (tree_of plan.now))) }
 {
     let Start {
         broker,
@@ -99,7 +100,7 @@ where
         Err(Memory) => return Err(RunFault::halted_with(Cause::Memory, rows)),
     }
     work_on_threads(
-        rt, alloc, &broker, &backend, gate, stop, &flight, &mut slots,
+        rt, alloc, &broker, &backend, tasks, gate, stop, &flight, &mut slots,
     );
     if !are_done(&slots) {
         return Err(RunFault::halted(Cause::Memory));
@@ -118,10 +119,11 @@ where
     Ok((gathered, fault))
 }
 
-fn run_started<R, G>(
+fn run_started<R, T, G>(
     rt: &R,
     alloc: Global,
     plan: &Plan,
+    tasks: &T,
     workers: u32,
     gate: &G,
     stop: &Stop,
@@ -129,16 +131,17 @@ fn run_started<R, G>(
 ) -> Result<(Report, Records), RunFault>
 where
     R: Threads + Wait + RandomSource + AllocGlobal + Sync,
+    T: Tasks + Sync,
     G: Gate + Sync,
     requires workers { AreWorkers workers }
     requires start { IsStart plan.now workers start }
-    ensures ok { IfOk result (λ r. IsRun plan.now workers r.0.rows r.1) }
-    ensures err { IfErr result (IsThreadFault workers (states six_tasks (tree_of plan.now))) }
+    ensures ok { IfOk result (λ r. IsRun (T.behaviour tasks.now) plan.now workers r.0.rows r.1) }
+    ensures err { IfErr result (IsThreadFault workers (states (T.behaviour tasks.now) (tree_of plan.now))) }
 {
-    match gather(rt, alloc, plan, workers, gate, stop, start) {
+    match gather(rt, alloc, plan, tasks, workers, gate, stop, start) {
         Ok((gathered, early)) => match early {
-            None => gathered.conclude(rt, alloc, plan, workers, stop),
-            Some(cause) => Err(gathered.halt(plan, workers, cause)),
+            None => gathered.conclude(rt, alloc, plan, tasks, workers, stop),
+            Some(cause) => Err(gathered.halt(plan, tasks, workers, cause)),
         },
         Err(fault) => Err(fault),
     }
@@ -153,25 +156,27 @@ where
 ///
 /// Where memory is refused to a worker, or its executor fails, `stop` is asked, which ends all others early. It is the caller's own and stays asked:
 /// another run with it ends as stopped at once.
-pub fn run<R, G>(
+pub fn run<R, T, G>(
     rt: &R,
     alloc: Global,
     plan: &Plan,
+    tasks: &T,
     workers: u32,
     gate: &G,
     stop: &Stop,
 ) -> Result<(Report, Records), RunFault>
 where
     R: Threads + Wait + RandomSource + AllocGlobal + Sync,
+    T: Tasks + Sync,
     G: Gate + Sync,
-    ensures ok { IfOk result (λ r. AreWorkers workers × IsRun plan.now workers r.0.rows r.1) }
-    ensures err { IfErr result (IsThreadFault workers (states six_tasks (tree_of plan.now))) }
+    ensures ok { IfOk result (λ r. AreWorkers workers × IsRun (T.behaviour tasks.now) plan.now workers r.0.rows r.1) }
+    ensures err { IfErr result (IsThreadFault workers (states (T.behaviour tasks.now) (tree_of plan.now))) }
 {
     if workers < 1 || workers > MOST_WORKERS {
         return Err(RunFault::BadWorkers);
     }
     match reserve(rt, alloc, plan, workers) {
-        Ok(start) => run_started(rt, alloc, plan, workers, gate, stop, start),
+        Ok(start) => run_started(rt, alloc, plan, tasks, workers, gate, stop, start),
         Err(Memory) => Err(RunFault::halted(Cause::Memory)),
     }
 }

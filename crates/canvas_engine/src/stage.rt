@@ -13,7 +13,7 @@ ghost use Rattle.canvas_runs.specs.Turns.{Step, IsWorker, FirstsRead, is_queued}
 ghost use Rattle.canvas_runs.specs.Worker.{sealed};
 ghost use Rattle.canvas_worker.specs.Asks.{shown};
 ghost use Rattle.canvas_worker.specs.Books.{no_book};
-ghost use Rattle.canvas_worker.specs.Enveloped.{enveloped_by};
+ghost use Rattle.canvas_worker.specs.Enveloped.{enveloped_by, no_tasks};
 ghost use Rattle.canvas_worker.specs.Standing.{Standing, asked};
 ghost use Rattle.canvas_worker.specs.declared.ask.Ask.TheVariants as ask;
 ghost use Rattle.canvas_engine.specs.steps.Stages.{rows_of, MayAsk, AreInRange, Stepped, IsTried, AreNew, Reached, HasReached, IsTurn, IsHalt, IsNew};
@@ -24,25 +24,26 @@ use canvas_backend::PlainBackend;
 use canvas_broker::PlainBroker;
 use canvas_message::Envelope;
 use canvas_rewrite::Plan;
-use canvas_task::{GroupNo, Memory, Outcome, TaskNo};
+use canvas_task::{GroupNo, Memory, Outcome, TaskNo, Tasks};
 use canvas_worker::{Ask, Core, Reply};
 use std::alloc::Global;
 
 /// Publishes what a worker hands out.
-fn publish(
+fn publish<T: Tasks>(
     alloc: Global,
     core: &mut Core,
     queue: &mut PlainBroker,
     table: &PlainBackend,
+    tasks: &T,
 ) -> Result<(), Memory>
     requires inside { core.old.is_out ≡ false }
-    requires reads_back { ReadsBack (enveloped_by no_book) core.old.left }
-    requires asks { shown (asked core.old.left) ≡ ask.Publish }
-    ensures { OnOk result ((more : Bool) → Stepped more core.old queue.old table.now core.new queue.new table.now) }
+    requires reads_back { ReadsBack (enveloped_by no_tasks no_book) core.old.left }
+    requires asks { shown core.old.task (asked core.old.left) ≡ ask.Publish }
+    ensures { OnOk result ((more : Bool) → Stepped (T.behaviour tasks.now) more core.old queue.old table.now core.new queue.new table.now) }
 {
     match core.envelope() {
         Some(envelope) => match queue.publish(envelope) {
-            Ok(()) => core.answer(alloc, table, Reply::Published),
+            Ok(()) => core.answer(alloc, table, tasks, Reply::Published),
             Err(_refused) => Err(Memory),
         },
         None => unreachable!(),
@@ -50,54 +51,57 @@ fn publish(
 }
 
 /// Reads the outcome of a chord's member.
-fn read(
+fn read<T: Tasks>(
     alloc: Global,
     core: &mut Core,
     table: &PlainBackend,
+    tasks: &T,
     group: GroupNo,
     place: u32,
 ) -> Result<(), Memory>
     requires inside { core.old.is_out ≡ false }
-    requires reads_back { ReadsBack (enveloped_by no_book) core.old.left }
-    requires asks { shown (asked core.old.left) ≡ ask.Read group place }
+    requires reads_back { ReadsBack (enveloped_by no_tasks no_book) core.old.left }
+    requires asks { shown core.old.task (asked core.old.left) ≡ ask.Read group place }
     requires may { MayAsk table.now.plan (held table.now) (asked core.old.left) }
     requires in_range { AreInRange (held table.now) }
-    ensures { OnOk result ((more : Bool) (queue : List Envelope) → Stepped more core.old queue table.now core.new queue table.now) }
+    ensures { OnOk result ((more : Bool) (queue : List Envelope) → Stepped (T.behaviour tasks.now) more core.old queue table.now core.new queue table.now) }
 {
     match table.member(group, place) {
-        Some(task) => core.answer(alloc, table, Reply::Found(task, table.read(task))),
+        Some(task) => core.answer(alloc, table, tasks, Reply::Found(task, table.read(task))),
         None => unreachable!(),
     }
 }
 
 /// One ask of a worker, answered by the queue and the table. A worker that rests is told whether there is more.
-fn step(
+fn step<T: Tasks>(
     alloc: Global,
     core: &mut Core,
     queue: &mut PlainBroker,
     table: &mut PlainBackend,
+    tasks: &T,
     more: bool,
 ) -> Result<(), Memory>
     requires inside { core.old.is_out ≡ false }
     requires may { MayAsk table.old.plan (held table.old) (asked core.old.left) }
     requires in_range { AreInRange (held table.old) }
     requires going { asked core.old.left ≡ end → ⊥ }
-    ensures ok { OnOk result (Stepped more core.old queue.old table.old core.new queue.new table.new) }
-    ensures err { OnErr result (IsTried more core.old queue.old table.old table.new) }
+    ensures ok { OnOk result (Stepped (T.behaviour tasks.now) more core.old queue.old table.old core.new queue.new table.new) }
+    ensures err { OnErr result (IsTried (T.behaviour tasks.now) more core.old queue.old table.old table.new) }
 {
     match core.next() {
-        Ask::Take => core.answer(alloc, table, Reply::Taken(queue.take())),
-        Ask::Publish => publish(alloc, core, queue, table),
+        Ask::Take => core.answer(alloc, table, tasks, Reply::Taken(queue.take())),
+        Ask::Publish => publish(alloc, core, queue, table, tasks),
         Ask::Store(task, outcome) => {
             let stored = table.store(task, &outcome);
-            core.answer(alloc, table, Reply::Stored(stored))
+            core.answer(alloc, table, tasks, Reply::Stored(stored))
         }
         Ask::Part(group, task) => {
             let count = table.part(group, task);
-            core.answer(alloc, table, Reply::Counted(count))
+            core.answer(alloc, table, tasks, Reply::Counted(count))
         }
-        Ask::Read(group, place) => read(alloc, core, table, group, place),
-        Ask::Rest => core.answer(alloc, table, Reply::Rested { more }),
+        Ask::Read(group, place) => read(alloc, core, table, tasks, group, place),
+        Ask::Ack(_) => core.answer(alloc, table, tasks, Reply::Acked),
+        Ask::Rest => core.answer(alloc, table, tasks, Reply::Rested { more }),
         Ask::End => Ok(()),
     }
 }
@@ -118,7 +122,7 @@ fn publish_all(queue: &mut PlainBroker, envelopes: Vec<Envelope>) -> Result<(), 
 /// Whether a worker asks for nothing more.
 fn has_ended(core: &Core) -> bool
     ensures end { MatchBool result (asked core.now.left ≡ end) (asked core.now.left ≡ end → ⊥) }
-    ensures reads_back { core.now.is_out ≡ false → ReadsBack (enveloped_by no_book) core.now.left }
+    ensures reads_back { core.now.is_out ≡ false → ReadsBack (enveloped_by no_tasks no_book) core.now.left }
 {
     match core.next() {
         Ask::End => true,
@@ -205,10 +209,16 @@ impl Stage {
     }
 
     /// A worker's turn: one ask of it is answered, unless it is at its end. Whether one was.
-    pub(crate) fn turn(&mut self, alloc: Global, plan: &Plan, worker: u32) -> Result<bool, Cause>
-        requires { (n : ℕ) × (most : ℕ) × (us : List ℕ) × IsWorker n worker × HasReached plan.now n most us self.old }
-        ensures ok { IfOk result (λ b. (n : ℕ) (most : ℕ) (us : List ℕ) (xs : List Step) → Reached plan.now n most us xs self.old → IsTurn b plan.now n most us xs worker self.new) }
-        ensures err { IfErr result (λ cause. (n : ℕ) (most : ℕ) (us : List ℕ) (xs : List Step) → Reached plan.now n most us xs self.old → IsHalt cause plan.now n most us self.new) }
+    pub(crate) fn turn<T: Tasks>(
+        &mut self,
+        alloc: Global,
+        plan: &Plan,
+        tasks: &T,
+        worker: u32,
+    ) -> Result<bool, Cause>
+        requires { (n : ℕ) × (most : ℕ) × (us : List ℕ) × IsWorker n worker × HasReached (T.behaviour tasks.now) plan.now n most us self.old }
+        ensures ok { IfOk result (λ b. (n : ℕ) (most : ℕ) (us : List ℕ) (xs : List Step) → Reached (T.behaviour tasks.now) plan.now n most us xs self.old → IsTurn (T.behaviour tasks.now) b plan.now n most us xs worker self.new) }
+        ensures err { IfErr result (λ cause. (n : ℕ) (most : ℕ) (us : List ℕ) (xs : List Step) → Reached (T.behaviour tasks.now) plan.now n most us xs self.old → IsHalt (T.behaviour tasks.now) cause plan.now n most us self.new) }
     {
         let index = worker as usize - 1;
         if has_ended(&self.cores[index]) {
@@ -223,6 +233,7 @@ impl Stage {
             &mut self.cores[index],
             &mut self.queue,
             &mut self.table,
+            tasks,
             more,
         ) {
             Ok(()) => {

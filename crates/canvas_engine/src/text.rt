@@ -1,6 +1,5 @@
 //! From the text of a canvas to the text of its report.
 ghost use Rattle.std.specs.Prelude.{◌≡◌, IfOk, IfErr, OnOk, string_bytes};
-ghost use Rattle.canvas_task.specs.Apply.{six_tasks};
 ghost use Rattle.canvas_semantics.specs.NormalLine.{normal};
 ghost use Rattle.canvas_semantics.specs.Tree.{Tree, numbered};
 ghost use Rattle.canvas_semantics.specs.Line.{tree_of};
@@ -13,7 +12,7 @@ ghost use Rattle.canvas_engine.specs.Texts.{IsCanvasText, IsPlanFault, IsPlanOfT
 use crate::{Report, RunFault, report_text, run, run_turns};
 use canvas_rewrite::{Plan, freeze, normalise};
 use canvas_sig::{Canvas, SigFault, read_canvas};
-use canvas_task::Memory;
+use canvas_task::{Memory, Tasks};
 use canvas_worker::{Gate, Stop};
 use std::alloc::{AllocGlobal, Global};
 use std::random::RandomSource;
@@ -73,46 +72,55 @@ fn read_plan(alloc: Global, bytes: &[u8]) -> Result<Plan, TextFault>
 }
 
 /// Runs a plan on one thread, and writes its report.
-fn plan_text(alloc: Global, plan: &Plan, workers: u32, turns: &[u32]) -> Result<String, TextFault>
-    ensures ok { IfOk result (λ text. IsAsked workers turns.now × (string_bytes text ≡ report_of (tree_of plan.now) (rows_from 1 (states six_tasks (tree_of plan.now))))) }
-    ensures err { IfErr result (IsPlanFault (IsRunFault workers turns.now (states six_tasks (tree_of plan.now)))) }
+fn plan_text<T: Tasks>(
+    alloc: Global,
+    plan: &Plan,
+    tasks: &T,
+    workers: u32,
+    turns: &[u32],
+) -> Result<String, TextFault>
+    ensures ok { IfOk result (λ text. IsAsked workers turns.now × (string_bytes text ≡ report_of (tree_of plan.now) (rows_from 1 (states (T.behaviour tasks.now) (tree_of plan.now))))) }
+    ensures err { IfErr result (IsPlanFault (IsRunFault workers turns.now (states (T.behaviour tasks.now) (tree_of plan.now)))) }
 {
-    match run_turns(alloc, plan, workers, turns) {
+    match run_turns(alloc, plan, tasks, workers, turns) {
         Ok(report) => Ok(report_text(alloc, plan, &report)?),
         Err(fault) => Err(TextFault::Run(fault)),
     }
 }
 
 /// Reads a canvas, runs it on one thread, and writes its report. The faults of the text come first, then those of the run.
-pub fn run_text(
+pub fn run_text<T: Tasks>(
     alloc: Global,
     bytes: &[u8],
+    tasks: &T,
     workers: u32,
     turns: &[u32],
 ) -> Result<String, TextFault>
-    ensures ok { IfOk result (λ text. (c : Tree) × IsCanvasText bytes.now c × IsAsked workers turns.now × (string_bytes text ≡ report six_tasks c)) }
-    ensures err { IfErr result (IsTextFault bytes.now (IsRunFault workers turns.now)) }
+    ensures ok { IfOk result (λ text. (c : Tree) × IsCanvasText bytes.now c × IsAsked workers turns.now × (string_bytes text ≡ report (T.behaviour tasks.now) c)) }
+    ensures err { IfErr result (IsTextFault (T.behaviour tasks.now) bytes.now (IsRunFault workers turns.now)) }
 {
     let plan = read_plan(alloc, bytes)?;
-    plan_text(alloc, &plan, workers, turns)
+    plan_text(alloc, &plan, tasks, workers, turns)
 }
 
 /// Runs a plan on threads, and writes its report.
-fn plan_text_threads<R, G>(
+fn plan_text_threads<R, T, G>(
     rt: &R,
     alloc: Global,
     plan: &Plan,
+    tasks: &T,
     workers: u32,
     gate: &G,
     stop: &Stop,
 ) -> Result<String, TextFault>
 where
     R: Threads + Wait + RandomSource + AllocGlobal + Sync,
+    T: Tasks + Sync,
     G: Gate + Sync,
-    ensures ok { IfOk result (λ text. AreWorkers workers × (string_bytes text ≡ report_of (tree_of plan.now) (rows_from 1 (states six_tasks (tree_of plan.now))))) }
-    ensures err { IfErr result (IsPlanFault (IsThreadFault workers (states six_tasks (tree_of plan.now)))) }
+    ensures ok { IfOk result (λ text. AreWorkers workers × (string_bytes text ≡ report_of (tree_of plan.now) (rows_from 1 (states (T.behaviour tasks.now) (tree_of plan.now))))) }
+    ensures err { IfErr result (IsPlanFault (IsThreadFault workers (states (T.behaviour tasks.now) (tree_of plan.now)))) }
 {
-    match run(rt, alloc, plan, workers, gate, stop) {
+    match run(rt, alloc, plan, tasks, workers, gate, stop) {
         Ok((report, _records)) => Ok(report_text(alloc, plan, &report)?),
         Err(fault) => Err(TextFault::Run(fault)),
     }
@@ -120,22 +128,24 @@ where
 
 /// Reads a canvas, runs it with 1 to 16 workers on threads, and writes its report. The faults of the text come first, then those of the run.
 /// `gate` and `stop` are those of `run`: a gate must open in the end, and a stop that was asked, by a worker too, isn't to be used again.
-pub fn run_text_threads<R, G>(
+pub fn run_text_threads<R, T, G>(
     rt: &R,
     alloc: Global,
     bytes: &[u8],
+    tasks: &T,
     workers: u32,
     gate: &G,
     stop: &Stop,
 ) -> Result<String, TextFault>
 where
     R: Threads + Wait + RandomSource + AllocGlobal + Sync,
+    T: Tasks + Sync,
     G: Gate + Sync,
-    ensures ok { IfOk result (λ text. (c : Tree) × IsCanvasText bytes.now c × AreWorkers workers × (string_bytes text ≡ report six_tasks c)) }
-    ensures err { IfErr result (IsTextFault bytes.now (IsThreadFault workers)) }
+    ensures ok { IfOk result (λ text. (c : Tree) × IsCanvasText bytes.now c × AreWorkers workers × (string_bytes text ≡ report (T.behaviour tasks.now) c)) }
+    ensures err { IfErr result (IsTextFault (T.behaviour tasks.now) bytes.now (IsThreadFault workers)) }
 {
     let plan = read_plan(alloc, bytes)?;
-    plan_text_threads(rt, alloc, &plan, workers, gate, stop)
+    plan_text_threads(rt, alloc, &plan, tasks, workers, gate, stop)
 }
 
 /// The report of rows that a run of a text has stored: the canvas is read again, since such a run gives back its rows alone.

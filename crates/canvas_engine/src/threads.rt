@@ -10,6 +10,7 @@ use crate::in_rounds::InRounds;
 use crate::slot::{Post, Slot};
 use canvas_backend::Backend;
 use canvas_broker::Broker;
+use canvas_task::Tasks;
 use canvas_worker::{Gate, InFlight, Stop, Worker};
 use futures::executor::block_on;
 use std::alloc::{AllocGlobal, Global};
@@ -19,11 +20,12 @@ use std::sync::Wait;
 use std::thread::{Threads, for_each_mut};
 
 /// Runs one worker to its end on this thread.
-fn work<R, G>(
+fn work<R, T, G>(
     rt: &R,
     alloc: Global,
     broker: &Broker,
     backend: &Backend,
+    tasks: &T,
     gate: &G,
     stop: &Stop,
     flight: &InFlight,
@@ -31,10 +33,11 @@ fn work<R, G>(
 )
 where
     R: Wait + RandomSource + AllocGlobal,
+    T: Tasks,
     G: Gate,
     requires plan { (l : Line) × IsPlan l × (backend.now.plan ≡ roster_of l) }
     requires ready { IsReadySlot broker.now backend.now.id slot.old }
-    ensures { RanSlot backend.now.plan slot.old slot.new }
+    ensures { RanSlot (T.behaviour tasks.now) backend.now.plan slot.old slot.new }
 {
     match mem::replace(&mut slot.post, Post::Lost) {
         Post::Ready(pass, seat) => {
@@ -46,6 +49,7 @@ where
                 pass,
                 backend,
                 seat,
+                tasks,
                 gate,
                 stop,
                 flight,
@@ -61,11 +65,12 @@ where
 }
 
 /// Runs each worker on a thread of its own, or on this one where none can be made.
-pub(crate) fn work_on_threads<R, G>(
+pub(crate) fn work_on_threads<R, T, G>(
     rt: &R,
     alloc: Global,
     broker: &Broker,
     backend: &Backend,
+    tasks: &T,
     gate: &G,
     stop: &Stop,
     flight: &InFlight,
@@ -73,17 +78,18 @@ pub(crate) fn work_on_threads<R, G>(
 )
 where
     R: Threads + Wait + RandomSource + AllocGlobal + Sync,
+    T: Tasks + Sync,
     G: Gate + Sync,
     requires plan { (l : Line) × IsPlan l × (backend.now.plan ≡ roster_of l) }
     requires ready { All (IsReadySlot broker.now backend.now.id) slots.old }
-    ensures { AllRan backend.now.plan slots.old slots.new }
+    ensures { AllRan (T.behaviour tasks.now) backend.now.plan slots.old slots.new }
 {
     if slots.is_empty() {
         return;
     }
     let each = |_: usize, slot: &mut Slot|
         requires { ((l : Line) × IsPlan l × (backend.now.plan ≡ roster_of l)) × IsReadySlot broker.now backend.now.id slot.now }
-        ensures { RanSlot backend.entry.now.plan slot.entry.now slot.exit.now }
-    { work(rt, alloc, broker, backend, gate, stop, flight, slot) };
+        ensures { RanSlot (T.behaviour tasks.entry.now) backend.entry.now.plan slot.entry.now slot.exit.now }
+    { work(rt, alloc, broker, backend, tasks, gate, stop, flight, slot) };
     for_each_mut(rt, slots, slots.len(), &each);
 }

@@ -1,6 +1,5 @@
 //! Runs by turns, on one thread.
 ghost use Rattle.std.specs.Prelude.{◌≡◌, ◌≢◌, ◌≤◌, ◌<◌, ◌*◌, ◌^◌, suc, ℕ, All, List, [], None, length, IfOk, IfErr, OnOk, OnErr, MatchBool};
-ghost use Rattle.canvas_task.specs.Apply.{six_tasks};
 ghost use Rattle.canvas_semantics.specs.Line.{count_line, tree_of};
 ghost use Rattle.canvas_rewrite.specs.Planned.{IsPlan};
 ghost use Rattle.canvas_semantics.specs.States.{states};
@@ -16,18 +15,24 @@ use crate::fault::MOST_WORKERS;
 use crate::stage::Stage;
 use crate::{Cause, Report, RunFault};
 use canvas_rewrite::Plan;
-use canvas_task::{Fault, ListOf, Memory, Outcome};
+use canvas_task::{Fault, ListOf, Memory, Outcome, Tasks};
 use std::alloc::Global;
 
 /// A turn of each worker, from the first to the last. Whether an ask was answered.
-fn run_round(alloc: Global, stage: &mut Stage, plan: &Plan, workers: u32) -> Result<bool, Cause>
-    requires { (most : ℕ) × (us : List ℕ) × HasReached plan.now workers most us stage.old }
-    ensures ok { IfOk result (λ b. (most : ℕ) (us : List ℕ) (xs : List Step) → Reached plan.now workers most us xs stage.old → IsPartOfRound b plan.now workers most us xs workers stage.old.steps stage.new) }
-    ensures err { IfErr result (λ cause. (most : ℕ) (us : List ℕ) (xs : List Step) → Reached plan.now workers most us xs stage.old → IsHaltInRound cause plan.now workers most us stage.new) }
+fn run_round<T: Tasks>(
+    alloc: Global,
+    stage: &mut Stage,
+    plan: &Plan,
+    tasks: &T,
+    workers: u32,
+) -> Result<bool, Cause>
+    requires { (most : ℕ) × (us : List ℕ) × HasReached (T.behaviour tasks.now) plan.now workers most us stage.old }
+    ensures ok { IfOk result (λ b. (most : ℕ) (us : List ℕ) (xs : List Step) → Reached (T.behaviour tasks.now) plan.now workers most us xs stage.old → IsPartOfRound (T.behaviour tasks.now) b plan.now workers most us xs workers stage.old.steps stage.new) }
+    ensures err { IfErr result (λ cause. (most : ℕ) (us : List ℕ) (xs : List Step) → Reached (T.behaviour tasks.now) plan.now workers most us xs stage.old → IsHaltInRound (T.behaviour tasks.now) cause plan.now workers most us stage.new) }
 {
     let mut answered = false;
     for index in 0..workers {
-        match stage.turn(alloc, plan, index + 1) {
+        match stage.turn(alloc, plan, tasks, index + 1) {
             Ok(is_answered) => answered |= is_answered,
             Err(cause) => return Err(cause),
         }
@@ -36,20 +41,21 @@ fn run_round(alloc: Global, stage: &mut Stage, plan: &Plan, workers: u32) -> Res
 }
 
 /// The turns of a list.
-fn run_list(
+fn run_list<T: Tasks>(
     alloc: Global,
     stage: &mut Stage,
     plan: &Plan,
+    tasks: &T,
     workers: u32,
     turns: &[u32],
 ) -> Result<(), Cause>
-    requires reached { (most : ℕ) × Reached plan.now workers most [] [] stage.old }
+    requires reached { (most : ℕ) × Reached (T.behaviour tasks.now) plan.now workers most [] [] stage.old }
     requires turns { AreTurns workers turns.now }
-    ensures ok { OnOk result ((most : ℕ) → Reached plan.now workers most [] [] stage.old → HasReached plan.now workers most turns.now stage.new) }
-    ensures err { IfErr result (λ cause. (most : ℕ) → Reached plan.now workers most [] [] stage.old → IsEarlyEnd cause plan.now workers most turns.now stage.new) }
+    ensures ok { OnOk result ((most : ℕ) → Reached (T.behaviour tasks.now) plan.now workers most [] [] stage.old → HasReached (T.behaviour tasks.now) plan.now workers most turns.now stage.new) }
+    ensures err { IfErr result (λ cause. (most : ℕ) → Reached (T.behaviour tasks.now) plan.now workers most [] [] stage.old → IsEarlyEnd (T.behaviour tasks.now) cause plan.now workers most turns.now stage.new) }
 {
     for worker in turns {
-        match stage.turn(alloc, plan, *worker) {
+        match stage.turn(alloc, plan, tasks, *worker) {
             Ok(_answered) => (),
             Err(cause) => return Err(cause),
         }
@@ -58,19 +64,20 @@ fn run_list(
 }
 
 /// Turns in rotation, until all workers are at their ends.
-fn run_rounds(
+fn run_rounds<T: Tasks>(
     alloc: Global,
     stage: &mut Stage,
     plan: &Plan,
+    tasks: &T,
     workers: u32,
     turns: &[u32],
 ) -> Result<(), Cause>
-    requires { (most : ℕ) × HasReached plan.now workers most turns.now stage.old }
-    ensures ok { OnOk result ((most : ℕ) → HasReached plan.now workers most turns.now stage.old → IsRunThrough plan.now workers most turns.now stage.new) }
-    ensures err { IfErr result (λ cause. (most : ℕ) → HasReached plan.now workers most turns.now stage.old → IsEarlyEnd cause plan.now workers most turns.now stage.new) }
+    requires { (most : ℕ) × HasReached (T.behaviour tasks.now) plan.now workers most turns.now stage.old }
+    ensures ok { OnOk result ((most : ℕ) → HasReached (T.behaviour tasks.now) plan.now workers most turns.now stage.old → IsRunThrough (T.behaviour tasks.now) plan.now workers most turns.now stage.new) }
+    ensures err { IfErr result (λ cause. (most : ℕ) → HasReached (T.behaviour tasks.now) plan.now workers most turns.now stage.old → IsEarlyEnd (T.behaviour tasks.now) cause plan.now workers most turns.now stage.new) }
 {
     loop {
-        match run_round(alloc, stage, plan, workers) {
+        match run_round(alloc, stage, plan, tasks, workers) {
             Ok(true) => (),
             Ok(false) => return Ok(()),
             Err(cause) => return Err(cause),
@@ -79,22 +86,23 @@ fn run_rounds(
 }
 
 /// Publishes the first messages, and runs.
-fn run_stage(
+fn run_stage<T: Tasks>(
     alloc: Global,
     stage: &mut Stage,
     plan: &Plan,
+    tasks: &T,
     workers: u32,
     turns: &[u32],
 ) -> Result<(), Cause>
     requires planned { IsPlan plan.now }
     requires new { IsNew plan.now workers stage.old }
     requires turns { AreTurns workers turns.now }
-    ensures ok { OnOk result (IsRunThrough plan.now workers stage.old.steps turns.now stage.new) }
-    ensures err { IfErr result (λ cause. IsEarlyEnd cause plan.now workers stage.old.steps turns.now stage.new) }
+    ensures ok { OnOk result (IsRunThrough (T.behaviour tasks.now) plan.now workers stage.old.steps turns.now stage.new) }
+    ensures err { IfErr result (λ cause. IsEarlyEnd (T.behaviour tasks.now) cause plan.now workers stage.old.steps turns.now stage.new) }
 {
     match stage.open(alloc, plan) {
-        Ok(()) => match run_list(alloc, stage, plan, workers, turns) {
-            Ok(()) => run_rounds(alloc, stage, plan, workers, turns),
+        Ok(()) => match run_list(alloc, stage, plan, tasks, workers, turns) {
+            Ok(()) => run_rounds(alloc, stage, plan, tasks, workers, turns),
             Err(cause) => Err(cause),
         },
         Err(Memory) => Err(Cause::Memory),
@@ -126,16 +134,17 @@ fn report_of(stage: &Stage, plan: &Plan, rows: Vec<Option<Outcome>>) -> Report
 }
 
 /// Runs a plan, at most so many asks being answered.
-fn run_steps(
+fn run_steps<T: Tasks>(
     alloc: Global,
     plan: &Plan,
+    tasks: &T,
     workers: u32,
     turns: &[u32],
     steps: u128,
 ) -> Result<Report, RunFault>
     requires { IsAsked workers turns.now }
-    ensures ok { IfOk result (λ report. IsWholeWithin plan.now workers turns.now steps report.rows) }
-    ensures err { IfErr result (IsFaultWithin plan.now workers turns.now steps) }
+    ensures ok { IfOk result (λ report. IsWholeWithin (T.behaviour tasks.now) plan.now workers turns.now steps report.rows) }
+    ensures err { IfErr result (IsFaultWithin (T.behaviour tasks.now) plan.now workers turns.now steps) }
 {
     let Ok(rows) = new_rows(alloc, plan) else {
         return Err(RunFault::halted(Cause::Memory));
@@ -143,7 +152,7 @@ fn run_steps(
     let Ok(mut stage) = Stage::new(alloc, plan, workers, steps) else {
         return Err(RunFault::halted(Cause::Memory));
     };
-    match run_stage(alloc, &mut stage, plan, workers, turns) {
+    match run_stage(alloc, &mut stage, plan, tasks, workers, turns) {
         Ok(()) => Ok(report_of(&stage, plan, rows)),
         Err(cause) => Err(RunFault::Halted {
             cause,
@@ -159,21 +168,22 @@ fn are_turns(turns: &[u32], workers: u32) -> bool
 }
 
 /// Checks what is asked for, then runs.
-fn run_checked(
+fn run_checked<T: Tasks>(
     alloc: Global,
     plan: &Plan,
+    tasks: &T,
     workers: u32,
     turns: &[u32],
     steps: u128,
 ) -> Result<Report, RunFault>
-    ensures ok { IfOk result (λ report. IsAsked workers turns.now × IsWholeWithin plan.now workers turns.now steps report.rows) }
-    ensures err { IfErr result (IsFaultWithin plan.now workers turns.now steps) }
+    ensures ok { IfOk result (λ report. IsAsked workers turns.now × IsWholeWithin (T.behaviour tasks.now) plan.now workers turns.now steps report.rows) }
+    ensures err { IfErr result (IsFaultWithin (T.behaviour tasks.now) plan.now workers turns.now steps) }
 {
     if workers < 1 || workers > MOST_WORKERS {
         return Err(RunFault::BadWorkers);
     }
     if are_turns(turns, workers) {
-        run_steps(alloc, plan, workers, turns, steps)
+        run_steps(alloc, plan, tasks, workers, turns, steps)
     } else {
         Err(RunFault::BadTurn)
     }
@@ -181,11 +191,11 @@ fn run_checked(
 
 /// One more than the asks that a run of the plan may have.
 fn more_than_all(plan: &Plan, workers: u32, turns: &[u32]) -> u128
-    ensures value { result ≡ suc (most_steps plan.now workers (length turns.now)) }
+    ensures value { result ≡ suc (most_steps plan.now workers (length turns.now) 0) }
     ensures planned { IsPlan plan.now }
 {
     let tasks = plan.tasks() as u128;
-    let calls = product(tasks + 4, tasks + 1);
+    let calls = product(tasks + 5, tasks + 1);
     turns.len() as u128 + product(2 * (calls + 1), workers as u128) + 1
 }
 
@@ -201,29 +211,31 @@ fn product(left: u128, right: u128) -> u128
 
 /// Runs a plan with 1 to 16 workers on one thread. Each turn lets that worker have one ask answered; after the list the workers take
 /// turns in rotation from 1, until all are at their ends. A worker at its end skips its turn.
-pub fn run_turns(
+pub fn run_turns<T: Tasks>(
     alloc: Global,
     plan: &Plan,
+    tasks: &T,
     workers: u32,
     turns: &[u32],
 ) -> Result<Report, RunFault>
-    ensures ok { IfOk result (λ report. IsAsked workers turns.now × IsWholeRun plan.now workers turns.now report.rows) }
-    ensures err { IfErr result (IsRunFault workers turns.now (states six_tasks (tree_of plan.now))) }
+    ensures ok { IfOk result (λ report. IsAsked workers turns.now × IsWholeRun (T.behaviour tasks.now) plan.now workers turns.now report.rows) }
+    ensures err { IfErr result (IsRunFault workers turns.now (states (T.behaviour tasks.now) (tree_of plan.now))) }
 {
     let steps = more_than_all(plan, workers, turns);
-    run_checked(alloc, plan, workers, turns, steps)
+    run_checked(alloc, plan, tasks, workers, turns, steps)
 }
 
 /// As `run_turns`, but halted, as stopped, once `steps` asks have been answered and some worker isn't at its end.
-pub fn run_turns_within(
+pub fn run_turns_within<T: Tasks>(
     alloc: Global,
     plan: &Plan,
+    tasks: &T,
     workers: u32,
     turns: &[u32],
     steps: u64,
 ) -> Result<Report, RunFault>
-    ensures ok { IfOk result (λ report. IsAsked workers turns.now × IsWholeWithin plan.now workers turns.now steps report.rows) }
-    ensures err { IfErr result (IsFaultWithin plan.now workers turns.now steps) }
+    ensures ok { IfOk result (λ report. IsAsked workers turns.now × IsWholeWithin (T.behaviour tasks.now) plan.now workers turns.now steps report.rows) }
+    ensures err { IfErr result (IsFaultWithin (T.behaviour tasks.now) plan.now workers turns.now steps) }
 {
-    run_checked(alloc, plan, workers, turns, steps as u128)
+    run_checked(alloc, plan, tasks, workers, turns, steps as u128)
 }

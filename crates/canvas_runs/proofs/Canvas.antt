@@ -1,6 +1,6 @@
 -- What the ends of tasks and the completions of headers do, in the order of the file and each once: the facts that a history needs, on messages with the rest of their line.
 use Rattle.std.proofs.Common.{◌≡◌, ℕ, suc, ◌+◌, ◌<◌, ◌≤◌, Bool, true, false, cond, eqb, List, [], ◌∷◌, ◌++◌, length, Some, None, refl, sym, ap, subst, ◌∙◌, ⊎_elim, arith, le_refl}
-use Rattle.canvas_task.specs.Apply.{Registry}
+use Rattle.canvas_task.specs.Apply.{Behaviour}
 use Rattle.canvas_message.specs.Events.{In}
 use Rattle.canvas_runs.specs.Lists.{Each, total, firsts}
 use Rattle.canvas_message.specs.Job.{store, publish, hand_in}
@@ -57,7 +57,7 @@ messages_of (store t o ∷ js) = messages_of js
 messages_of (publish m ∷ js) = m ∷ messages_of js
 messages_of (hand_in g t c ∷ js) = messages_of js
 
-module _ (registry : Registry) where
+module _ (behaviour : Behaviour) where
   -- a worker that publishes the messages themselves
   abbrev pub canvas : Plan → Protocol
   canvas p = record {
@@ -66,7 +66,7 @@ module _ (registry : Registry) where
     Carried = Carried;
     Outcome = Outcome;
     no = λ m. m.no;
-    outcome = outcome_of registry;
+    outcome = outcome_of behaviour;
     ended = after;
     completed = body_after;
     size = carried_size;
@@ -82,15 +82,15 @@ module _ (members : ℕ → List ℕ) where
   called_rises d m (Success n) a b i j = rises_higher (job_key d) (suc m.no) a b (callbacks m.links (number_input n) (Some m.no)) (tasks_span m.errbacks a b j) (callbacks_rise members d m.links (number_input n) (Some m.no) (suc m.no) a i)
   called_rises d m (Failure f) a b i j = rises_lower (job_key d) (suc m.no) a (callbacks m.errbacks (id_input m.no) (Some m.no)) b (tasks_span m.links (suc m.no) a i) (callbacks_rise members d m.errbacks (id_input m.no) (Some m.no) a b j)
 
-module _ (registry : Registry) (p : Plan) where
+module _ (behaviour : Behaviour) (p : Plan) where
   abbrev pub X : Protocol
-  X = canvas registry p
+  X = canvas behaviour p
 
   abbrev pub form : Form X
   form = record { Formed = Formed p.members p.limit; FormedPart = FormedPart p.members p.limit }
 
   abbrev pub Does : Event → AJob → Type 0
-  Does = DoesIn registry p.line
+  Does = DoesIn behaviour p.line
 
   messages_each : (P : AJob → Type 0) (Q : Message → Type 0) → ((m : Message) → P (publish m) → Q m) → (js : Jobs) → Each P js → Each Q (messages_of js)
   messages_each P Q f [] a = tt
@@ -171,25 +171,25 @@ module _ (registry : Registry) (p : Plan) where
   pub one_outcome : (t : ℕ) (o q : Outcome) → Has X Does t o → Has X Does t q → o ≡ q
   one_outcome t o q a b =
       let same : ◌≡◌ {A = Event × AJob} (a.0, store t o) (b.0, store t q) =
-      rises_unique (item_key false) 1 (evaluated registry p.line) p.limit (items_rise registry p.members false p.line (run no_input) nowhere 0 start 1 p.limit p.numbered) (a.0, store t o) (b.0, store t q) t a.1 b.1 refl refl in
+      rises_unique (item_key false) 1 (evaluated behaviour p.line) p.limit (items_rise behaviour p.members false p.line (run no_input) nowhere 0 start 1 p.limit p.numbered) (a.0, store t o) (b.0, store t q) t a.1 b.1 refl refl in
       let jobs : ◌≡◌ {A = AJob} (store t o) (store t q) = ap (λ x. x.1) same in
       cc
 
   pub completed_does : (g t : ℕ) (c : Carried) (fs : List (ℕ × Outcome)) → IsReturned X Does g t c → firsts fs ≡ p.members g → Each (λ f. Has X Does f.0 f.1) fs → Each (Does (completion g)) (body_after c fs)
   completed_does g t c fs (v, i) same has =
       ⊎_elim (λ e. absurd (no_place e))
-      (λ k. subst (λ es. AllIn (completion g) (evaluated registry p.line) (body_after c es))
+      (λ k. subst (λ es. AllIn (completion g) (evaluated behaviour p.line) (body_after c es))
       (same_pairs (Has X Does) one_outcome k.0 fs (k.1 ∙ sym same) k.2 has) k.3)
-      (items_parted registry p.members p.line (run no_input) nowhere 0 start 1 p.limit p.numbered v g t c i)
+      (items_parted behaviour p.members p.line (run no_input) nowhere 0 start 1 p.limit p.numbered v g t c i)
     where
       no_place : nowhere ≡ in_chord g c → ⊥
       no_place e = cc
 
   pub value : Evaluates X Does form
   value = record {
-    first = messages_each (λ j. In (start, j) (evaluated registry p.line)) (λ m. Does start (publish m)) (λ m i. i) _ (enter_in registry p.line (run no_input) nowhere 0 start);
-    own = λ m r. (items_followed registry p.line (run no_input) nowhere 0 start r.0 m r.1).0;
-    ended = λ m f r. (items_followed registry p.line (run no_input) nowhere 0 start r.0 m r.1).1;
+    first = messages_each (λ j. In (start, j) (evaluated behaviour p.line)) (λ m. Does start (publish m)) (λ m i. i) _ (enter_in behaviour p.line (run no_input) nowhere 0 start);
+    own = λ m r. (items_followed behaviour p.line (run no_input) nowhere 0 start r.0 m r.1).0;
+    ended = λ m f r. (items_followed behaviour p.line (run no_input) nowhere 0 start r.0 m r.1).1;
     completed = λ g t c fs f r e all. completed_does g t c fs r e all;
   }
 
@@ -212,18 +212,23 @@ module _ (registry : Registry) (p : Plan) where
 
   pub once : Once X Does form
   once = record {
-    event = λ e f m n i j same. ap (λ x. x.0) (rises_unique (item_key true) 1 (evaluated registry p.line) p.limit
-        (items_rise registry p.members true p.line (run no_input) nowhere 0 start 1 p.limit p.numbered) (e, publish m) (f, publish n) m.no i j refl (ap Some (sym same)));
+    event = λ e f m n i j same. ap (λ x. x.0) (rises_unique (item_key true) 1 (evaluated behaviour p.line) p.limit
+        (items_rise behaviour p.members true p.line (run no_input) nowhere 0 start 1 p.limit p.numbered) (e, publish m) (f, publish n) m.no i j refl (ap Some (sym same)));
+    message = λ e f m n i j same. same_message m n (ap (λ x. x.1) (rises_unique (item_key true) 1 (evaluated behaviour p.line) p.limit
+        (items_rise behaviour p.members true p.line (run no_input) nowhere 0 start 1 p.limit p.numbered) (e, publish m) (f, publish n) m.no i j refl (ap Some (sym same))));
     at_start = λ k. subst (λ n. n ≤ 1) (sym (first_sends k (enter p.line (run no_input) nowhere 0 None)))
         (rising_once k 1 p.limit (enter p.line (run no_input) nowhere 0 None) (enter_rises p.members true p.line (run no_input) nowhere 0 None 1 p.limit p.numbered)).0;
     at_end = λ k m f. ended_once k m f;
     at_completion = λ k g t c fs f same. completed_once k g t c fs f;
   }
     where
-      ended_once : (k : ℕ) (m : Message) → Formed p.members p.limit m → total (publishes X k) (after m (outcome_of registry m)) ≤ 1
+      same_message : (m n : Message) → ◌≡◌ {A = AJob} (publish m) (publish n) → m ≡ n
+      same_message m n e = cc
+
+      ended_once : (k : ℕ) (m : Message) → Formed p.members p.limit m → total (publishes X k) (after m (outcome_of behaviour m)) ≤ 1
       ended_once k m (a, b, c, one, top, i, j, r, q, s) =
-          kinds_once k (suc m.no) c (called m.links m.errbacks m.no (outcome_of registry m) ++ enter m.rest (after_outcome (outcome_of registry m)) m.place m.no (Some m.no)) (rises_append (job_key true) (suc m.no) b c (called m.links m.errbacks m.no (outcome_of registry m)) _ (called_rises p.members true m (outcome_of registry m) a b i j)
-          (enter_rises p.members true m.rest (after_outcome (outcome_of registry m)) m.place m.no (Some m.no) b c r))
+          kinds_once k (suc m.no) c (called m.links m.errbacks m.no (outcome_of behaviour m) ++ enter m.rest (after_outcome (outcome_of behaviour m)) m.place m.no (Some m.no)) (rises_append (job_key true) (suc m.no) b c (called m.links m.errbacks m.no (outcome_of behaviour m)) _ (called_rises p.members true m (outcome_of behaviour m) a b i j)
+          (enter_rises p.members true m.rest (after_outcome (outcome_of behaviour m)) m.place m.no (Some m.no) b c r))
 
       completed_once : (k g t : ℕ) (c : Carried) (fs : List (ℕ × Outcome)) → FormedPart p.members p.limit g t c → total (publishes X k) (body_after c fs) ≤ 1
       completed_once k g t (carried n body q) fs (i, (from, upto, l, top, below, size, inside, behind, lands)) =
@@ -242,17 +247,17 @@ module _ (registry : Registry) (p : Plan) where
 
   pub keeping : KeptOnce X Does form
   keeping = record {
-    event = λ e f t o q i j. ap (λ x. x.0) (rises_unique (item_key false) 1 (evaluated registry p.line) p.limit
-        (items_rise registry p.members false p.line (run no_input) nowhere 0 start 1 p.limit p.numbered) (e, store t o) (f, store t q) t i j refl refl);
+    event = λ e f t o q i j. ap (λ x. x.0) (rises_unique (item_key false) 1 (evaluated behaviour p.line) p.limit
+        (items_rise behaviour p.members false p.line (run no_input) nowhere 0 start 1 p.limit p.numbered) (e, store t o) (f, store t q) t i j refl refl);
     at_end = λ k m f. ended_once k m f;
     at_completion = λ k g t c fs f same. completed_once k g t c fs f;
   }
     where
-      ended_once : (k : ℕ) (m : Message) → Formed p.members p.limit m → total (keeps X k) (after m (outcome_of registry m)) ≤ 1
+      ended_once : (k : ℕ) (m : Message) → Formed p.members p.limit m → total (keeps X k) (after m (outcome_of behaviour m)) ≤ 1
       ended_once k m (a, b, c, one, top, i, j, r, q, s) =
-          kinds_kept_once k (suc m.no) c (called m.links m.errbacks m.no (outcome_of registry m) ++ enter m.rest (after_outcome (outcome_of registry m)) m.place m.no (Some m.no))
-          (rises_append (job_key false) (suc m.no) b c (called m.links m.errbacks m.no (outcome_of registry m)) _ (called_rises p.members false m (outcome_of registry m) a b i j)
-          (enter_rises p.members false m.rest (after_outcome (outcome_of registry m)) m.place m.no (Some m.no) b c r))
+          kinds_kept_once k (suc m.no) c (called m.links m.errbacks m.no (outcome_of behaviour m) ++ enter m.rest (after_outcome (outcome_of behaviour m)) m.place m.no (Some m.no))
+          (rises_append (job_key false) (suc m.no) b c (called m.links m.errbacks m.no (outcome_of behaviour m)) _ (called_rises p.members false m (outcome_of behaviour m) a b i j)
+          (enter_rises p.members false m.rest (after_outcome (outcome_of behaviour m)) m.place m.no (Some m.no) b c r))
 
       completed_once : (k g t : ℕ) (c : Carried) (fs : List (ℕ × Outcome)) → FormedPart p.members p.limit g t c → total (keeps X k) (body_after c fs) ≤ 1
       completed_once k g t (carried n body q) fs (i, (from, upto, l, top, below, size, inside, behind, lands)) =

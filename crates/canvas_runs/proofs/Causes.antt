@@ -1,7 +1,7 @@
 -- Each publish is by the caller that brought its event about, and a chord is completed at most once.
 use Rattle.std.proofs.Common.{⊎_elim, ◌≡◌, ℕ, suc, ◌≤◌, Bool, true, false, cond, eqb, List, [], ◌∷◌, length, Option, Some, None, refl, sym, ap, subst, ◌∙◌, inl, inr, arith}
 use Rattle.std.proofs.lemmas.Bool.{eqb-true, eq-eqb}
-use Rattle.canvas_task.specs.Apply.{Registry}
+use Rattle.canvas_task.specs.Apply.{Behaviour}
 use Rattle.canvas_task.specs.declared.outcome.Outcome.{Outcome}
 use Rattle.canvas_history.specs.History.{Entry, split, join, calls}
 use Rattle.canvas_semantics.specs.Line.{Line, members}
@@ -13,7 +13,7 @@ use Rattle.canvas_message.specs.Job as job
 use Rattle.canvas_message.specs.declared.envelope.Envelope.{Envelope}
 use Rattle.canvas_backend.specs.declared.stored.Stored.TheVariants.{First, Again}
 use Rattle.canvas_backend.specs.Backend.{Log, TableCall, TableReply, store, part, read, was, count, found, no_results}
-use Rattle.canvas_broker.specs.Broker.{QueueEntry as Entries, publish, take}
+use Rattle.canvas_broker.specs.Broker.{QueueEntry as Entries, publish, take, redeliver}
 use Rattle.canvas_runs.specs.Causes.{Brought, ByCause, ByItsCause, completes_one, completions}
 use Rattle.canvas_runs.specs.Following.{table_call, table_reply}
 use Rattle.canvas_runs.specs.Calls.{published, BackendCall, stored, returned, has_read}
@@ -63,6 +63,8 @@ publish_by (calls q take None ∷ es) p e a (inl s) = absurd (cc)
 publish_by (calls q take None ∷ es) p e a (inr i) = publish_by es p e a i
 publish_by (calls q take (Some d) ∷ es) p e a (inl s) = absurd (cc)
 publish_by (calls q take (Some d) ∷ es) p e a (inr i) = inr (publish_by es p e a i)
+publish_by (calls q (redeliver d) r ∷ es) p e a (inl s) = absurd (cc)
+publish_by (calls q (redeliver d) r ∷ es) p e a (inr i) = inr (publish_by es p e a i)
 
 -- the entry of a call
 abbrev row : ℕ × BackendCall Outcome → Entry TableCall TableReply
@@ -87,9 +89,9 @@ heavy_total w [] x i = elim i [ ]
 heavy_total w (y ∷ xs) x (inl e) = let h = ap w e in omega arith
 heavy_total w (y ∷ xs) x (inr i) = let h = heavy_total w xs x i in omega arith
 
-module _ (registry : Registry) (l : Line) (plan : IsPlan l) (r : Run registry l) where
+module _ (behaviour : Behaviour) (l : Line) (plan : IsPlan l) (r : Run behaviour l) where
   -- what shows an event
-  brought : (p : ℕ) (v : Event) (c : BackendCall Outcome) → (shows (X registry l plan) v c ≡ 0 → ⊥) → In (row (p, c)) r.table → Brought l p r.table v
+  brought : (p : ℕ) (v : Event) (c : BackendCall Outcome) → (shows (X behaviour l plan) v c ≡ 0 → ⊥) → In (row (p, c)) r.table → Brought l p r.table v
   brought p v (stored t o false) d i = absurd (d refl)
   brought p v (has_read t o) d i = absurd (d refl)
   brought p start (stored t o true) d i = absurd (d refl)
@@ -126,44 +128,44 @@ module _ (registry : Registry) (l : Line) (plan : IsPlan l) (r : Run registry l)
       go true e (completion g) m = absurd (omega arith)
 
   -- a publish, with the message that its envelope opens as
-  caused : (p : ℕ) (e : Envelope) (a : Option Envelope) → In (calls p (publish e) a) r.queue → (c : Content) × (v : Event) × (e ≡ sealed c) × (opened (book_of l) e ≡ Some c) × DoesIn registry l v (job.publish c) × Brought l p r.table v
+  caused : (p : ℕ) (e : Envelope) (a : Option Envelope) → In (calls p (publish e) a) r.queue → (c : Content) × (v : Event) × (e ≡ sealed c) × (opened (book_of l) e ≡ Some c) × DoesIn behaviour l v (job.publish c) × Brought l p r.table v
   caused p e a i =
       let there : In (p, published e) (queue_calls r.queue) = publish_by r.queue p e a i in
-      let good : IsRunSealed (X registry l plan) (form registry l plan) (Does registry l plan) (order registry l plan) (value registry l plan) (inner_run registry l plan r) e =
-      in_each (GoodPublish (IsRunSealed (X registry l plan) (form registry l plan) (Does registry l plan) (order registry l plan) (value registry l plan) (inner_run registry l plan r))) (seconds (queue_calls r.queue))
-      (each_seconds (GoodPublish (IsRunSealed (X registry l plan) (form registry l plan) (Does registry l plan) (order registry l plan) (value registry l plan) (inner_run registry l plan r))) (queue_calls r.queue)
-      (publishes_right (X registry l plan) (form registry l plan) (Does registry l plan) (order registry l plan) (value registry l plan) (inner_run registry l plan r))) (published e) (publish_in r.queue p e a i) in
+      let good : IsRunSealed (X behaviour l plan) (form behaviour l plan) (Does behaviour l plan) (order behaviour l plan) (value behaviour l plan) (inner_run behaviour l plan r) e =
+      in_each (GoodPublish (IsRunSealed (X behaviour l plan) (form behaviour l plan) (Does behaviour l plan) (order behaviour l plan) (value behaviour l plan) (inner_run behaviour l plan r))) (seconds (queue_calls r.queue))
+      (each_seconds (GoodPublish (IsRunSealed (X behaviour l plan) (form behaviour l plan) (Does behaviour l plan) (order behaviour l plan) (value behaviour l plan) (inner_run behaviour l plan r))) (queue_calls r.queue)
+      (publishes_right (X behaviour l plan) (form behaviour l plan) (Does behaviour l plan) (order behaviour l plan) (value behaviour l plan) (inner_run behaviour l plan r))) (published e) (publish_in r.queue p e a i) in
       let c : Content = good.0 in
       let k : ℕ = number_of c.own in
       let v : Event = good.4.0 in
-      let does : DoesIn registry l v (job.publish c) = good.4.1 in
-      let weight : publishes_task (X registry l plan) k (published e) ≡ 1 =
-      ap (λ x. of_opened (X registry l plan) k x) (ap (X registry l plan).opened good.1 ∙ (order registry l plan).opened c good.3 good.2) ∙ ap (λ b. cond b 1 0) (eq-eqb k k refl) in
-      let calls_of : ℕ = total (publishes_task (X registry l plan) k) (by p (queue_calls r.queue)) in
-      let some : publishes_task (X registry l plan) k (published e) ≤ calls_of = heavy_total (publishes_task (X registry l plan) k) (by p (queue_calls r.queue)) (published e) (in_by p (published e) (queue_calls r.queue) there) in
-      let bound = one_caller (X registry l plan) (form registry l plan) (Does registry l plan) (order registry l plan) (value registry l plan) (once registry l plan) (inner_run registry l plan r) k v
-      (λ w n other q. (once registry l plan).event w v n c other does q) p in
+      let does : DoesIn behaviour l v (job.publish c) = good.4.1 in
+      let weight : publishes_task (X behaviour l plan) k (published e) ≡ 1 =
+      ap (λ x. of_opened (X behaviour l plan) k x) (ap (X behaviour l plan).opened good.1 ∙ (order behaviour l plan).opened c good.3 good.2) ∙ ap (λ b. cond b 1 0) (eq-eqb k k refl) in
+      let calls_of : ℕ = total (publishes_task (X behaviour l plan) k) (by p (queue_calls r.queue)) in
+      let some : publishes_task (X behaviour l plan) k (published e) ≤ calls_of = heavy_total (publishes_task (X behaviour l plan) k) (by p (queue_calls r.queue)) (published e) (in_by p (published e) (queue_calls r.queue) there) in
+      let bound = one_caller (X behaviour l plan) (form behaviour l plan) (Does behaviour l plan) (order behaviour l plan) (value behaviour l plan) (once behaviour l plan) (inner_run behaviour l plan r) k v
+      (λ w n other q. (once behaviour l plan).event w v n c other does q) p in
       let shown : Brought l p r.table v = ⊎_elim
-      (λ (z : total (shows (X registry l plan) v) (by p (table_calls r.table)) ≡ 0). at_start p v (omega (arith, weight, some, bound, z)))
-      (λ (h : (x : BackendCall Outcome) × In x (by p (table_calls r.table)) × (shows (X registry l plan) v x ≡ 0 → ⊥)).
+      (λ (z : total (shows (X behaviour l plan) v) (by p (table_calls r.table)) ≡ 0). at_start p v (omega (arith, weight, some, bound, z)))
+      (λ (h : (x : BackendCall Outcome) × In x (by p (table_calls r.table)) × (shows (X behaviour l plan) v x ≡ 0 → ⊥)).
       brought p v h.0 h.2 (row_in r.table (p, h.0) (by_in p h.0 (table_calls r.table) h.1)))
-      (find_heavy (shows (X registry l plan) v) (by p (table_calls r.table))) in
-      (c, v, good.1, ap (opened (book_of l)) good.1 ∙ (order registry l plan).opened c good.3 good.2, does, shown)
+      (find_heavy (shows (X behaviour l plan) v) (by p (table_calls r.table))) in
+      (c, v, good.1, ap (opened (book_of l)) good.1 ∙ (order behaviour l plan).opened c good.3 good.2, does, shown)
 
-  pub by_cause : ByCause registry l r.queue r.table
+  pub by_cause : ByCause behaviour l r.queue r.table
   by_cause = caused
 
   same_message : (c d : Content) → ◌≡◌ {A = Option Content} (Some c) (Some d) → c ≡ d
   same_message c d e = cc
 
-  pub by_its_cause : ByItsCause registry l r.queue r.table
+  pub by_its_cause : ByItsCause behaviour l r.queue r.table
   by_its_cause v c does p e a i opens =
       let k = caused p e a i in
       let same : k.0 ≡ c = same_message k.0 c (sym k.3 ∙ opens) in
-      subst (λ w. Brought l p r.table w) ((once registry l plan).event k.1 v k.0 c k.4 does (ap (λ (d : Content). number_of d.own) same)) k.5
+      subst (λ w. Brought l p r.table w) ((once behaviour l plan).event k.1 v k.0 c k.4 does (ap (λ (d : Content). number_of d.own) same)) k.5
 
   -- a chord is completed at most once
-  completes_less : (g : ℕ) (c : BackendCall Outcome) → completes_one l g c ≤ shows (X registry l plan) (completion g) c
+  completes_less : (g : ℕ) (c : BackendCall Outcome) → completes_one l g c ≤ shows (X behaviour l plan) (completion g) c
   completes_less g (stored t o true) = omega arith
   completes_less g (stored t o false) = omega arith
   completes_less g (has_read t o) = omega arith
@@ -176,6 +178,6 @@ module _ (registry : Registry) (l : Line) (plan : IsPlan l) (r : Run registry l)
   pub completed_once : (g : ℕ) → completions l g r.table ≤ 1
   completed_once g =
       let table = table_is l (plan_apart l plan) [] r.table no_results [] [] refl (table_starts l (plan_apart l plan)) r.table_legal in
-      let less = total-le (completes_one l g) (shows (X registry l plan) (completion g)) (completes_less g) (seconds (table_calls r.table)) in
-      let once = shows_once (X registry l plan) (completion g) (seconds (table_calls r.table)) table in
+      let less = total-le (completes_one l g) (shows (X behaviour l plan) (completion g)) (completes_less g) (seconds (table_calls r.table)) in
+      let once = shows_once (X behaviour l plan) (completion g) (seconds (table_calls r.table)) table in
       omega (arith, less, once)

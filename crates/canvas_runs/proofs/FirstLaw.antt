@@ -1,6 +1,6 @@
 -- The first part of the law, over the product's histories.
-use Rattle.std.proofs.Common.{⊎_elim, ◌≡◌, ◌⊎◌, ℕ, ◌+◌, ◌≤◌, Bool, true, [], Option, Some, None, refl, sym, ap, subst, ◌∙◌, inl, inr, arith}
-use Rattle.canvas_task.specs.Apply.{Registry}
+use Rattle.std.proofs.Common.{⊎_elim, ◌≡◌, ◌⊎◌, ℕ, ◌+◌, ◌≤◌, Bool, true, false, cond, eqb, map, [], Option, Some, None, refl, sym, ap, subst, ◌∙◌, inl, inr, arith}
+use Rattle.canvas_task.specs.Apply.{Behaviour}
 use Rattle.canvas_task.specs.declared.outcome.Outcome.{Outcome}
 use Rattle.canvas_semantics.specs.Evaluation as eval
 use Rattle.canvas_semantics.specs.Line.{Line, tree_of}
@@ -10,53 +10,52 @@ use Rattle.canvas_message.specs.Content.{Content}
 use Rattle.canvas_message.specs.Events.{In, start}
 use Rattle.canvas_message.specs.Flowing.{run, no_input}
 use Rattle.canvas_message.specs.declared.envelope.Envelope.{Envelope}
-use Rattle.canvas_backend.specs.declared.stored.Stored.{Stored}
-use Rattle.canvas_backend.specs.declared.stored.Stored.TheVariants.{First, Again}
 use Rattle.canvas_backend.specs.Backend as results
 use Rattle.canvas_backend.specs.Roster.{roster_of}
 use Rattle.canvas_backend.specs.Backend.{says_first}
 use Rattle.canvas_runs.specs.Book.{book_of}
-use Rattle.canvas_runs.specs.Calls.{BrokerCall, published, took, BackendCall, stored, returned}
-use Rattle.canvas_runs.specs.Law.{its_state, IsRunMessage, IsPart, of_task, publishes_one, FirstPart}
+use Rattle.canvas_runs.specs.Calls.{BrokerCall, published, took, again, BackendCall, stored, returned, has_read}
+use Rattle.canvas_runs.specs.Law.{its_state, IsRunMessage, IsPart, of_task, publishes_one, agains_one_of, firsts_one, agains_one, FirstPart}
 use Rattle.canvas_runs.specs.Lists.{total, seconds}
 use Rattle.canvas_runs.specs.Logs.{queue_calls, table_calls}
-use Rattle.canvas_runs.specs.Run.{Run}
+use Rattle.canvas_runs.specs.Run.{Run, published_all}
 use Rattle.canvas_runs.specs.Worker.{sealed, opened}
-use Rattle.canvas_runs.proofs.Bridges.{queue_is, table_is, table_starts, callers_below, store_in, part_in, publish_in, was_stored}
+use Rattle.canvas_runs.proofs.Bridges.{queue_is, table_is, table_starts, callers_below, store_in, part_in, publish_in, redeliver_in, was_stored}
 use Rattle.canvas_runs.proofs.Canvas.{total-same}
 use Rattle.canvas_runs.proofs.Evaluation as evaluation
 use Rattle.canvas_runs.proofs.Facts as facts
 use Rattle.canvas_runs.proofs.Facts.{X, form, Does, order, value, once, keeping, p}
 use Rattle.canvas_runs.proofs.Messages.{nowhere}
-use Rattle.canvas_runs.proofs.Histories.{GoodPublish, each_seconds}
+use Rattle.canvas_runs.proofs.Histories.{GoodPublish, GoodAgain, each_seconds}
 use Rattle.canvas_runs.proofs.Meaning.{Has}
-use Rattle.canvas_runs.proofs.OnceEach.{published_once, publishes_task, of_opened}
-use Rattle.canvas_runs.proofs.Right.{publishes_right, IsRunSealed, CallRight, calls_right}
+use Rattle.canvas_runs.proofs.OnceEach.{published_once, publishes_task, of_opened, first_of, one_first}
+use Rattle.canvas_runs.proofs.Right.{publishes_right, agains_right, IsRunSealed, CallRight, calls_right}
 use Rattle.canvas_runs.proofs.Run as inner
 use Rattle.canvas_runs.proofs.StateRows as rows
-use Rattle.canvas_runs.proofs.StoredOnce.{AnswersFirst, all_first}
+use Rattle.canvas_runs.proofs.Accords.{accords_behind}
+use Rattle.canvas_runs.proofs.StoredOnce.{agains_task, again_of, agains_few}
 use Rattle.canvas_runs.proofs.Words.{each_weaker, in_each}
 
-module _ (registry : Registry) (l : Line) (plan : IsPlan l) where
-  its_rows : rows.kept (eval.eval registry (tree_of l) eval.nothing).rows ≡ rows.stored (evaluation.evaluated registry l)
-  its_rows = rows.rows_same registry (p registry l plan).members l (run no_input) nowhere 0 start 1 (p registry l plan).limit (p registry l plan).numbered
+module _ (behaviour : Behaviour) (l : Line) (plan : IsPlan l) where
+  its_rows : rows.kept (eval.eval behaviour (tree_of l) eval.nothing).rows ≡ rows.stored (evaluation.evaluated behaviour l)
+  its_rows = rows.rows_same behaviour (p behaviour l plan).members l (run no_input) nowhere 0 start 1 (p behaviour l plan).limit (p behaviour l plan).numbered
 
   -- an outcome of the evaluation is the task's state in the tree
-  pub has_state : (t : ℕ) (o : Outcome) → Has (X registry l plan) (Does registry l plan) t o → its_state registry l t ≡ Some o
+  pub has_state : (t : ℕ) (o : Outcome) → Has (X behaviour l plan) (Does behaviour l plan) t o → its_state behaviour l t ≡ Some o
   has_state t o (v, i) =
-      rows.look registry 1 (eval.eval registry (tree_of l) eval.nothing).rows (p registry l plan).limit (rows.line_up registry (p registry l plan).members l eval.nothing 1 (p registry l plan).limit (p registry l plan).numbered) t o
-      (subst (In (t, o)) (sym its_rows) (rows.in_stored registry v t o (evaluation.evaluated registry l) (facts.stored registry l plan v t o i)))
+      rows.look behaviour 1 (eval.eval behaviour (tree_of l) eval.nothing).rows (p behaviour l plan).limit (rows.line_up behaviour (p behaviour l plan).members l eval.nothing 1 (p behaviour l plan).limit (p behaviour l plan).numbered) t o
+      (subst (In (t, o)) (sym its_rows) (rows.in_stored behaviour v t o (evaluation.evaluated behaviour l) (facts.stored behaviour l plan v t o i)))
 
-  pub state_has : (t : ℕ) (o : Outcome) → its_state registry l t ≡ Some o → Has (X registry l plan) (Does registry l plan) t o
+  pub state_has : (t : ℕ) (o : Outcome) → its_state behaviour l t ≡ Some o → Has (X behaviour l plan) (Does behaviour l plan) t o
   state_has t o e =
-      let r = rows.from_stored registry t o (evaluation.evaluated registry l) (subst (In (t, o)) its_rows (rows.looked registry (eval.eval registry (tree_of l) eval.nothing).rows t o e)) in
-      (r.0, facts.does_on registry l plan r.0 _ r.1)
+      let r = rows.from_stored behaviour t o (evaluation.evaluated behaviour l) (subst (In (t, o)) its_rows (rows.looked behaviour (eval.eval behaviour (tree_of l) eval.nothing).rows t o e)) in
+      (r.0, facts.does_on behaviour l plan r.0 _ r.1)
 
-  module _ (r : Run registry l) where
+  module _ (r : Run behaviour l) where
     abbrev pub callers : ℕ
     callers = total (λ e. e.0) (queue_calls r.queue) + total (λ e. e.0) (table_calls r.table)
 
-    abbrev pub inner_run : inner.Run (X registry l plan)
+    abbrev pub inner_run : inner.Run (X behaviour l plan)
     inner_run = record {
       workers = callers;
       broker = queue_calls r.queue;
@@ -70,59 +69,87 @@ module _ (registry : Registry) (l : Line) (plan : IsPlan l) where
       closes = r.closes;
       broker_callers = each_weaker (λ e h. omega arith) (queue_calls r.queue) (callers_below (queue_calls r.queue));
       backend_callers = each_weaker (λ e h. omega arith) (table_calls r.table) (callers_below (table_calls r.table));
-      queue = queue_is [] r.queue [] refl r.queue_legal;
+      queue = queue_is [] r.queue [] [] refl (λ c e i. i) r.queue_legal;
       table = table_is l (plan_apart l plan) [] r.table results.no_results [] [] refl (table_starts l (plan_apart l plan)) r.table_legal;
       is_core = r.is_core;
       reads = r.reads;
-      follows = r.follows;
+      follows = λ p. accords_behind (cond (eqb p 0) (published_all (map sealed r.opening)) []) (r.core p) (r.follows p);
       keeps = r.keeps;
     }
 
-    call_right : (c : BackendCall Outcome) → In c (seconds (table_calls r.table)) → CallRight (X registry l plan) (form registry l plan) (Does registry l plan) (order registry l plan) (value registry l plan) inner_run c
-    call_right c i = in_each (CallRight (X registry l plan) (form registry l plan) (Does registry l plan) (order registry l plan) (value registry l plan) inner_run) (seconds (table_calls r.table)) (calls_right (X registry l plan) (form registry l plan) (Does registry l plan) (order registry l plan) (value registry l plan) inner_run) c i
+    call_right : (c : BackendCall Outcome) → In c (seconds (table_calls r.table)) → CallRight (X behaviour l plan) (form behaviour l plan) (Does behaviour l plan) (order behaviour l plan) (value behaviour l plan) inner_run c
+    call_right c i = in_each (CallRight (X behaviour l plan) (form behaviour l plan) (Does behaviour l plan) (order behaviour l plan) (value behaviour l plan) inner_run) (seconds (table_calls r.table)) (calls_right (X behaviour l plan) (form behaviour l plan) (Does behaviour l plan) (order behaviour l plan) (value behaviour l plan) inner_run) c i
 
-    pub stored_right : (t : ℕ) (o : Outcome) (b : Bool) → In (stored t o b) (seconds (table_calls r.table)) → Has (X registry l plan) (Does registry l plan) t o
+    pub stored_right : (t : ℕ) (o : Outcome) (b : Bool) → In (stored t o b) (seconds (table_calls r.table)) → Has (X behaviour l plan) (Does behaviour l plan) t o
     stored_right t o b i = call_right (stored t o b) i
 
-    pub returned_right : (g t n : ℕ) → In (returned g t n) (seconds (table_calls r.table)) → IsPart registry l g t
+    pub returned_right : (g t n : ℕ) → In (returned g t n) (seconds (table_calls r.table)) → IsPart behaviour l g t
     returned_right g t n i = let c = call_right (returned g t n) i in (c.0, c.1.0, c.1.1)
 
-    answered_first : (t : ℕ) (o : Outcome) (b : Bool) → In (stored t o b) (seconds (table_calls r.table)) → b ≡ true
-    answered_first t o b i =
-        in_each (AnswersFirst (X registry l plan) (form registry l plan) (Does registry l plan) (order registry l plan) (value registry l plan) (once registry l plan) (keeping registry l plan) inner_run) (seconds (table_calls r.table))
-        (all_first (X registry l plan) (form registry l plan) (Does registry l plan) (order registry l plan) (value registry l plan) (once registry l plan) (keeping registry l plan) inner_run) (stored t o b) i
-
-    was_first : (a : Stored) → says_first a ≡ true → a ≡ First
-    was_first First e = refl
-    was_first Again e = absurd (cc)
-
-    rows_by : (t : ℕ) (s : eval.State) → (results.results (roster_of l) r.table).outcomes t ≡ s → ((results.results (roster_of l) r.table).outcomes t ≡ None) ⊎ ((results.results (roster_of l) r.table).outcomes t ≡ its_state registry l t)
+    rows_by : (t : ℕ) (s : eval.State) → (results.results (roster_of l) r.table).outcomes t ≡ s → ((results.results (roster_of l) r.table).outcomes t ≡ None) ⊎ ((results.results (roster_of l) r.table).outcomes t ≡ its_state behaviour l t)
     rows_by t None e = inl e
     rows_by t (Some o) e =
         ⊎_elim (λ n. absurd (let bad : ◌≡◌ {A = eval.State} None (Some o) = n in cc)) (λ i. inr (e ∙ sym (has_state t o (stored_right t o true i))))
         (was_stored l (plan_apart l plan) t o [] r.table results.no_results refl r.table_legal e)
 
-    run_sealed : (e : Envelope) → In (published e) (seconds (queue_calls r.queue)) → (c : Content) × (e ≡ sealed c) × (opened (book_of l) e ≡ Some c) × IsRunMessage registry l c
+    pub run_sealed : (e : Envelope) → In (published e) (seconds (queue_calls r.queue)) → (c : Content) × (e ≡ sealed c) × (opened (book_of l) e ≡ Some c) × IsRunMessage behaviour l c
     run_sealed e i =
-        let good = in_each (GoodPublish (IsRunSealed (X registry l plan) (form registry l plan) (Does registry l plan) (order registry l plan) (value registry l plan) inner_run)) (seconds (queue_calls r.queue))
-        (each_seconds (GoodPublish (IsRunSealed (X registry l plan) (form registry l plan) (Does registry l plan) (order registry l plan) (value registry l plan) inner_run)) (queue_calls r.queue)
-        (publishes_right (X registry l plan) (form registry l plan) (Does registry l plan) (order registry l plan) (value registry l plan) inner_run)) (published e) i in
-        (good.0, good.1, ap (opened (book_of l)) good.1 ∙ (order registry l plan).opened good.0 good.3 good.2, good.4)
+        let good = in_each (GoodPublish (IsRunSealed (X behaviour l plan) (form behaviour l plan) (Does behaviour l plan) (order behaviour l plan) (value behaviour l plan) inner_run)) (seconds (queue_calls r.queue))
+        (each_seconds (GoodPublish (IsRunSealed (X behaviour l plan) (form behaviour l plan) (Does behaviour l plan) (order behaviour l plan) (value behaviour l plan) inner_run)) (queue_calls r.queue)
+        (publishes_right (X behaviour l plan) (form behaviour l plan) (Does behaviour l plan) (order behaviour l plan) (value behaviour l plan) inner_run)) (published e) i in
+        (good.0, good.1, ap (opened (book_of l)) good.1 ∙ (order behaviour l plan).opened good.0 good.3 good.2, good.4)
 
-    opened_weight : (k : ℕ) (x : Option Content) → of_opened (X registry l plan) k x ≡ of_task l k x
+    opened_weight : (k : ℕ) (x : Option Content) → of_opened (X behaviour l plan) k x ≡ of_task l k x
     opened_weight k None = refl
     opened_weight k (Some c) = refl
 
-    publish_weight : (k : ℕ) (c : BrokerCall Envelope) → publishes_task (X registry l plan) k c ≡ publishes_one l k c
+    publish_weight : (k : ℕ) (c : BrokerCall Envelope) → publishes_task (X behaviour l plan) k c ≡ publishes_one l k c
     publish_weight k (published e) = opened_weight k (opened (book_of l) e)
     publish_weight k (took t) = refl
+    publish_weight k (again e) = refl
 
-    pub first_part : FirstPart registry l r
+    pub again_weight : (k : ℕ) (c : BrokerCall Envelope) → agains_task (X behaviour l plan) k c ≡ agains_one_of l k c
+    again_weight k (published e) = refl
+    again_weight k (took t) = refl
+    again_weight k (again e) = opened_weight k (opened (book_of l) e)
+
+    pub first_weight : (k : ℕ) (c : BackendCall Outcome) → first_of k c ≡ firsts_one k c
+    first_weight k (stored t o true) = refl
+    first_weight k (stored t o false) = refl
+    first_weight k (returned g m n) = refl
+    first_weight k (has_read t o) = refl
+
+    pub repeat_weight : (k : ℕ) (c : BackendCall Outcome) → again_of (X behaviour l plan) (form behaviour l plan) (Does behaviour l plan) (order behaviour l plan) (value behaviour l plan) (once behaviour l plan) (keeping behaviour l plan) inner_run k c ≡ agains_one k c
+    repeat_weight k (stored t o true) = refl
+    repeat_weight k (stored t o false) = refl
+    repeat_weight k (returned g m n) = refl
+    repeat_weight k (has_read t o) = refl
+
+    pub run_again : (e : Envelope) → In (again e) (seconds (queue_calls r.queue)) → (c : Content) × (e ≡ sealed c) × (opened (book_of l) e ≡ Some c) × IsRunMessage behaviour l c
+    run_again e i =
+        let good = in_each (GoodAgain (IsRunSealed (X behaviour l plan) (form behaviour l plan) (Does behaviour l plan) (order behaviour l plan) (value behaviour l plan) inner_run)) (seconds (queue_calls r.queue)) (agains_right (X behaviour l plan) (form behaviour l plan) (Does behaviour l plan) (order behaviour l plan) (value behaviour l plan) inner_run) (again e) i in
+        (good.0, good.1, ap (opened (book_of l)) good.1 ∙ (order behaviour l plan).opened good.0 good.3 good.2, good.4)
+
+    -- how often each store answers
+    firsts_few : (k : ℕ) → total (firsts_one k) (seconds (table_calls r.table)) ≤ 1
+    firsts_few k = subst (λ n. n ≤ 1) (total-same (first_of k) (firsts_one k) (first_weight k) (seconds (table_calls r.table))) (one_first k [] [] (seconds (table_calls r.table)) inner_run.table)
+
+    again_few : (k : ℕ) → total (agains_one k) (seconds (table_calls r.table)) ≤ total (agains_one_of l k) (seconds (queue_calls r.queue))
+    again_few k =
+        let few = agains_few (X behaviour l plan) (form behaviour l plan) (Does behaviour l plan) (order behaviour l plan) (value behaviour l plan) (once behaviour l plan) (keeping behaviour l plan) inner_run k in
+        let a = total-same (again_of (X behaviour l plan) (form behaviour l plan) (Does behaviour l plan) (order behaviour l plan) (value behaviour l plan) (once behaviour l plan) (keeping behaviour l plan) inner_run k) (agains_one k) (repeat_weight k) (seconds (table_calls r.table)) in
+        let b = total-same (agains_task (X behaviour l plan) k) (agains_one_of l k) (again_weight k) (seconds (queue_calls r.queue)) in
+        omega arith
+
+    pub first_part : FirstPart behaviour l r
     first_part = record {
-      stored = λ q t o a i. let c = store_in r.table q t o a i in (has_state t o (stored_right t o (says_first a) c), was_first a (answered_first t o (says_first a) c));
+      stored = λ q t o a i. let c = store_in r.table q t o a i in has_state t o (stored_right t o (says_first a) c);
+      stored_once = firsts_few;
+      stored_again = again_few;
+      redelivered = λ q e a i. run_again e (redeliver_in r.queue q e a i);
       rows = λ t. rows_by t ((results.results (roster_of l) r.table).outcomes t) refl;
       published = λ q e a i. run_sealed e (publish_in r.queue q e a i);
-      published_once = λ k. subst (λ n. n ≤ 1) (total-same (publishes_task (X registry l plan) k) (publishes_one l k) (publish_weight k) (seconds (queue_calls r.queue)))
-          (published_once (X registry l plan) (form registry l plan) (Does registry l plan) (order registry l plan) (value registry l plan) (once registry l plan) inner_run k);
+      published_once = λ k. subst (λ n. n ≤ 1) (total-same (publishes_task (X behaviour l plan) k) (publishes_one l k) (publish_weight k) (seconds (queue_calls r.queue)))
+          (published_once (X behaviour l plan) (form behaviour l plan) (Does behaviour l plan) (order behaviour l plan) (value behaviour l plan) (once behaviour l plan) inner_run k);
       returned = λ q g t n i. returned_right g t n (part_in r.table q g t n i);
     }

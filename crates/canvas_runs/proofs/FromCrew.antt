@@ -1,7 +1,7 @@
 -- From what each caller saw: there was a run, closed where all ended well.
-use Rattle.std.proofs.Common.{◌≡◌, ℕ, suc, ◌+◌, true, false, cond, eqb, List, [], ◌∷◌, ◌++◌, length, map, ◌==◌, ◌⊎◌, inl, inr, refl, sym, ap, ◌∙◌, subst, append-nil, ⊎_elim, arith}
+use Rattle.std.proofs.Common.{None, ◌≡◌, ℕ, suc, ◌+◌, true, false, cond, eqb, List, [], ◌∷◌, ◌++◌, length, map, ◌==◌, ◌⊎◌, inl, inr, refl, sym, ap, ◌∙◌, subst, append-nil, ⊎_elim, arith}
 use Rattle.std.proofs.lemmas.Bool.{eqb-true, cases_Bool}
-use Rattle.canvas_task.specs.Apply.{Registry}
+use Rattle.canvas_task.specs.Apply.{Behaviour}
 use Rattle.canvas_task.specs.declared.outcome.Outcome.{Outcome}
 use Rattle.canvas_history.specs.History.{among, made_by, Sole}
 use Rattle.canvas_history.proofs.Histories.{fresh_from}
@@ -17,7 +17,7 @@ use Rattle.canvas_runs.specs.Accounts.{splits_of, joins_of, broker_entries, back
 use Rattle.canvas_runs.specs.Core.{IsCoreRun, taking, left_after, Between}
 use Rattle.canvas_runs.specs.Crew.{Mate, Ran, EndedWell, numbers_along as numbers, first_pass, first_seat}
 use Rattle.canvas_runs.specs.Following.{Pass, Seat, Stood, Serves, IsDone}
-use Rattle.canvas_runs.specs.Calls.{BrokerCall, BackendCall, FollowsCore, follows_all, follows_publish, AskedAndAnswered, broker_calls, backend_calls, ReadsMembers, takes_one}
+use Rattle.canvas_runs.specs.Calls.{BrokerCall, CoreCall, makes, BackendCall, FollowsScripts, scripts_all, scripts_publish, AskedAndAnswered, broker_calls, core_calls, backend_calls, ReadsMembers, takes_one}
 use Rattle.canvas_runs.specs.Lists.{Each, by, seconds, total}
 use Rattle.canvas_runs.specs.Logs.{queue_calls, table_calls}
 use Rattle.canvas_runs.specs.Run.{Run, Closed, published_all}
@@ -41,11 +41,11 @@ no_takes : (es : List Envelope) → total takes_one (published_all es) ≡ 0
 no_takes [] = refl
 no_takes (e ∷ es) = let k = no_takes es in omega (arith, k)
 
-follows_front : (es : List Envelope) (cs ls : List (BrokerCall Envelope)) → FollowsCore [] cs ls → FollowsCore [] (published_all es ++ cs) (published_all es ++ ls)
+follows_front : (es : List Envelope) (cs : List (CoreCall Envelope)) (ls : List (BrokerCall Envelope)) → FollowsScripts None [] cs ls → FollowsScripts None [] (map makes (published_all es) ++ cs) (published_all es ++ ls)
 follows_front [] cs ls f = f
-follows_front (e ∷ es) cs ls f = follows_publish (follows_front es cs ls f)
+follows_front (e ∷ es) cs ls f = scripts_publish (follows_front es cs ls f)
 
-module _ (registry : Registry) (l : Line) where
+module _ (behaviour : Behaviour) (l : Line) where
   abbrev pub P : Roster
   P = roster_of l
 
@@ -56,22 +56,22 @@ module _ (registry : Registry) (l : Line) where
   Course = List (AskedAndAnswered Envelope Outcome)
 
   -- the core run of the worker of a number, of those from k on
-  abbrev pub core_at : ℕ → List (Mate registry P) → ℕ → Course
+  abbrev pub core_at : ℕ → List (Mate behaviour P) → ℕ → Course
   core_at k [] p = []
   core_at k (m ∷ ms) p = cond (eqb k p) m.followed.run (core_at (suc k) ms p)
 
   -- the number is a worker's
-  pub record Found (p : ℕ) (ms : List (Mate registry P)) (core : Course) (queue : List (broker.QueueEntry Envelope)) (table : Log) : Type 0 where
-    mate : Mate registry P
+  pub record Found (p : ℕ) (ms : List (Mate behaviour P)) (core : Course) (queue : List (broker.QueueEntry Envelope)) (table : Log) : Type 0 where
+    mate : Mate behaviour P
     there : In mate ms
     is : core ≡ mate.followed.run
     calls : made_by p queue ≡ broker_entries p mate.followed.made
     replies : made_by p table ≡ backend_entries p (backend_calls mate.followed.run)
 
-  more_found : (p : ℕ) (m : Mate registry P) (ms : List (Mate registry P)) (core : Course) (queue : List (broker.QueueEntry Envelope)) (table : Log) → Found p ms core queue table → Found p (m ∷ ms) core queue table
+  more_found : (p : ℕ) (m : Mate behaviour P) (ms : List (Mate behaviour P)) (core : Course) (queue : List (broker.QueueEntry Envelope)) (table : Log) → Found p ms core queue table → Found p (m ∷ ms) core queue table
   more_found p m ms core queue table f = record { mate = f.mate; there = inr f.there; is = f.is; calls = f.calls; replies = f.replies }
 
-  which : (k : ℕ) (ms : List (Mate registry P)) (queue : List (broker.QueueEntry Envelope)) (table : Log) → HasQueueCalls registry P k ms queue → HasTableCalls registry P k ms table → (p : ℕ)
+  which : (k : ℕ) (ms : List (Mate behaviour P)) (queue : List (broker.QueueEntry Envelope)) (table : Log) → HasQueueCalls behaviour P k ms queue → HasTableCalls behaviour P k ms table → (p : ℕ)
       → Found p ms (core_at k ms p) queue table ⊎ ((core_at k ms p ≡ []) × (among p (numbers k ms) ≡ false))
   which k [] queue table h r p = inr (refl, refl)
   which k (m ∷ ms) queue table h r p =
@@ -90,24 +90,24 @@ module _ (registry : Registry) (l : Line) where
       (λ (f : (core_at (suc k) ms p ≡ []) × (among p (numbers (suc k) ms) ≡ false)). inr (skip ∙ f.0, rw e f.1)) (which (suc k) ms queue table h.1 r.1 p))
       (cases_Bool (k == p))
 
-  module _ (pass : Pass) (seat : Seat) (r : Ran registry l pass seat) where
+  module _ (pass : Pass) (seat : Seat) (r : Ran behaviour l pass seat) where
     abbrev pub the_queue : List (broker.QueueEntry Envelope)
     the_queue = pass.seen ++ pass.owed
 
     abbrev pub sent : List (BrokerCall Envelope)
     sent = published_all (map sealed r.opening)
 
-    pub passes : (pass.name ≡ 0) × QueueAccounts registry P r.mates sent r.works.made the_queue
+    pub passes : (pass.name ≡ 0) × QueueAccounts behaviour P r.mates sent r.works.made the_queue
     passes =
-        subst (λ (x : Pass). (x.name ≡ 0) × QueueAccounts registry P r.mates sent r.works.made (x.seen ++ x.owed)) (sym r.last)
-        (accounts registry P (first_pass r.queue) r.pass_parted r.pass_sent r.pass_joined r.own.pass r.mates sent r.works.made refl refl refl refl r.splits r.sends r.joins r.works.makes)
+        subst (λ (x : Pass). (x.name ≡ 0) × QueueAccounts behaviour P r.mates sent r.works.made (x.seen ++ x.owed)) (sym r.last)
+        (accounts behaviour P (first_pass r.queue) r.pass_parted r.pass_sent r.pass_joined r.own.pass r.mates sent r.works.made refl refl refl refl r.splits r.sends r.joins r.works.makes)
 
     abbrev pub zero_calls : List (BackendCall Outcome)
     zero_calls = backend_calls r.works.run ++ r.closing
 
-    pub seats : TableAccounts registry P r.mates zero_calls seat.seen
+    pub seats : TableAccounts behaviour P r.mates zero_calls seat.seen
     seats =
-        (ledger registry P (first_seat r.table) r.seat_parted r.seat_joined seat r.mates zero_calls refl refl r.seat_splits r.seat_joins
+        (ledger behaviour P (first_seat r.table) r.seat_parted r.seat_joined seat r.mates zero_calls refl refl r.seat_splits r.seat_joins
         (serves_append (roster_of l) (backend_calls r.works.run) r.closing r.seat_joined r.own.seat seat r.works.serves r.ends)).1
 
     abbrev pub core : ℕ → Course
@@ -165,14 +165,14 @@ module _ (registry : Registry) (l : Line) where
         (λ e. ⊎_elim (λ f. subst (λ x. P p x) (sym f.is) (b p e f)) (λ n. subst (λ x. P p x) (sym n.is) (c p e n)) (who p e))
 
     abbrev pub FollowsCourse : ℕ → Course → Type 0
-    FollowsCourse p x = FollowsCore [] (cond (eqb p 0) sent [] ++ broker_calls x) (by p (queue_calls the_queue))
+    FollowsCourse p x = FollowsScripts None [] (map makes (cond (eqb p 0) sent []) ++ core_calls x) (by p (queue_calls the_queue))
 
     pub the_follows : (p : ℕ) → FollowsCourse p (core p)
     the_follows = for_all FollowsCourse
-        (subst (λ x. FollowsCore [] (sent ++ broker_calls r.works.run) x) (sym queue_zero) (follows_front (map sealed r.opening) (broker_calls r.works.run) r.works.made r.works.follows))
-        (λ p e f. subst (λ b. FollowsCore [] (cond b sent [] ++ broker_calls f.mate.followed.run) (by p (queue_calls the_queue))) (sym e)
-        (subst (λ x. FollowsCore [] (broker_calls f.mate.followed.run) x) (sym (queue_mate p f)) f.mate.followed.follows))
-        (λ p e n. subst (λ b. FollowsCore [] (cond b sent [] ++ []) (by p (queue_calls the_queue))) (sym e) (subst (λ x. FollowsCore [] [] x) (sym (queue_nobody p n)) follows_all))
+        (subst (λ x. FollowsScripts None [] (map makes sent ++ core_calls r.works.run) x) (sym queue_zero) (follows_front (map sealed r.opening) (core_calls r.works.run) r.works.made r.works.follows))
+        (λ p e f. subst (λ b. FollowsScripts None [] (map makes (cond b sent []) ++ core_calls f.mate.followed.run) (by p (queue_calls the_queue))) (sym e)
+        (subst (λ x. FollowsScripts None [] (core_calls f.mate.followed.run) x) (sym (queue_mate p f)) f.mate.followed.follows))
+        (λ p e n. subst (λ b. FollowsScripts None [] (map makes (cond b sent []) ++ []) (by p (queue_calls the_queue))) (sym e) (subst (λ x. FollowsScripts None [] [] x) (sym (queue_nobody p n)) scripts_all))
 
     abbrev pub KeepsCore : ℕ → Course → Type 0
     KeepsCore p x = by p (table_calls seat.seen) ≡ backend_calls x ++ cond (eqb p 0) r.closing []
@@ -182,14 +182,14 @@ module _ (registry : Registry) (l : Line) where
         (λ p e f. table_mate p f ∙ (sym (append-nil (backend_calls f.mate.followed.run)) ∙ ap (λ b. backend_calls f.mate.followed.run ++ cond b r.closing []) (sym e)))
         (λ p e n. table_nobody p n ∙ ap (λ b. cond b r.closing []) (sym e))
 
-    abbrev pub the_run : Run registry l
+    abbrev pub the_run : Run behaviour l
     the_run = record {
       queue = the_queue;
       table = seat.seen;
       queue_legal = passes.1.legal;
       table_legal = seats.legal;
       core = core;
-      is_core = λ p. core_run_same registry P F taking (core p) (for_all (λ p x. IsCoreRun (worker_of registry P) taking x) r.works.is_core (λ p e f. f.mate.followed.is_core) (λ p e n. tt) p);
+      is_core = λ p. core_run_same behaviour P F taking (core p) (for_all (λ p x. IsCoreRun (worker_of behaviour P) taking x) r.works.is_core (λ p e f. f.mate.followed.is_core) (λ p e n. tt) p);
       reads = λ p. for_all (λ p x. ReadsMembers (members P) x) r.works.reads (λ p e f. f.mate.followed.reads) (λ p e n. tt) p;
       opening = r.opening;
       unsent = r.unsent;
@@ -201,9 +201,9 @@ module _ (registry : Registry) (l : Line) where
       keeps = the_keeps;
     }
 
-    module _ (w : EndedWell registry l pass seat r) where
-      mate_done : (m : Mate registry P) → In m r.mates → IsDone m.ended
-      mate_done m i = in_each (λ (m : Mate registry P). IsDone m.ended) r.mates w.each m i
+    module _ (w : EndedWell behaviour l pass seat r) where
+      mate_done : (m : Mate behaviour P) → In m r.mates → IsDone m.ended
+      mate_done m i = in_each (λ (m : Mate behaviour P). IsDone m.ended) r.mates w.each m i
 
       all_used : (a b : ℕ) (held : List Envelope) → held ≡ [] → 0 + a ≡ b + length held → a ≡ b
       all_used a b held e u = let none : length held ≡ 0 = ap length e in omega (arith, u, none)
@@ -221,13 +221,13 @@ module _ (registry : Registry) (l : Line) where
           ∙ all_used (total takes_one f.mate.followed.made) (total takes_one (broker_calls f.mate.followed.run)) f.mate.ended.held (mate_done f.mate f.there).1 f.mate.followed.used)
           (λ p e n. ap (λ x. total takes_one x) (queue_nobody p n))
 
-      pub the_closed : Closed registry l the_run
+      pub the_closed : Closed behaviour l the_run
       the_closed = record {
         all_sent = w.all_sent;
         drained = w.empty (subst (λ n. Sole the_queue n) (sym passes.0) passes.1.sole);
         all_used = the_used;
-        all_ended = λ p. subst (λ x. Between x) (sym (left_same registry P F taking (core p)))
-            (for_all (λ p x. Between (left_after (worker_of registry P) taking x))
+        all_ended = λ p. subst (λ x. Between x) (sym (left_same behaviour P F taking (core p)))
+            (for_all (λ p x. Between (left_after (worker_of behaviour P) taking x))
             (subst (λ x. Between x) (sym r.works.leaves) w.own.0)
             (λ p e f. subst (λ x. Between x) (sym f.mate.followed.leaves) (mate_done f.mate f.there).0)
             (λ p e n. tt) p);

@@ -1,23 +1,23 @@
 -- What a worker does doesn't hang on the first messages.
 use Rattle.std.proofs.Common.{◌≡◌, ℕ, Bool, true, false, cond, eqb, List, [], ◌∷◌, ◌++◌, length, Option, Some, None, refl, sym, ap, subst, ◌∙◌}
-use Rattle.canvas_task.specs.Apply.{Registry}
+use Rattle.canvas_task.specs.Apply.{Behaviour}
 use Rattle.canvas_task.specs.declared.outcome.Outcome.{Outcome}
 use Rattle.canvas_rewrite.specs.FrozenView.{PCarried}
 use Rattle.canvas_message.specs.Content.{Content}
 use Rattle.canvas_message.specs.Job.{Job, store, publish, hand_in}
 use Rattle.canvas_message.specs.declared.envelope.Envelope.{Envelope}
 use Rattle.canvas_backend.specs.Roster.{Roster}
-use Rattle.canvas_runs.specs.Core.{Ask, Reply, taken, sent, kept, counted, found, rested, CoreState, taking, resting, over, failed, owning, doing, reading, is_due, settled, opens, owned, job_done, all_read, ask, answered, ReadsBack, left_after, IsCoreRun}
+use Rattle.canvas_runs.specs.Core.{Ask, Reply, taken, sent, kept, counted, found, rested, acked, CoreState, taking, resting, over, failed, owning, doing, reading, acking, is_due, settled, opens, owned, job_done, all_read, ask, answered, ReadsBack, left_after, IsCoreRun}
 use Rattle.canvas_runs.specs.Protocol.{Protocol}
 use Rattle.canvas_runs.specs.Calls.{AskedAndAnswered}
 use Rattle.canvas_runs.specs.Worker.{worker_on, worker_of}
 
-module _ (registry : Registry) (plan : Roster) (ms : List Content) where
+module _ (behaviour : Behaviour) (plan : Roster) (ms : List Content) where
   abbrev X : Protocol
-  X = worker_of registry plan
+  X = worker_of behaviour plan
 
   abbrev Y : Protocol
-  Y = worker_on registry plan ms
+  Y = worker_on behaviour plan ms
 
   abbrev Left : Type 0
   Left = CoreState Content PCarried Outcome
@@ -66,6 +66,7 @@ module _ (registry : Registry) (plan : Roster) (ms : List Content) where
   answered_same (doing (j ∷ js) b) r = job_done_same j js b r
   answered_same (reading g c fs) (found t (Some o)) = all_read_same g c (fs ++ (t, o) ∷ [])
   answered_same (reading g c fs) (found t None) = refl
+  answered_same acking acked = refl
   answered_same s r = refl
 
   ask_same : (s : Left) → ask Y s ≡ ask X s
@@ -79,6 +80,7 @@ module _ (registry : Registry) (plan : Roster) (ms : List Content) where
   ask_same (doing (publish m ∷ js) b) = refl
   ask_same (doing (hand_in g t c ∷ js) b) = refl
   ask_same (reading g c fs) = refl
+  ask_same acking = refl
 
   back_same : (s : Left) → ReadsBack X s → ReadsBack Y s
   back_same (doing (publish m ∷ js) b) h = h

@@ -1,6 +1,6 @@
 -- The counts of the workers are those of their entries.
 use Rattle.std.proofs.Common.{◌≡◌, ℕ, suc, ◌+◌, true, false, List, [], ◌∷◌, ◌++◌, length, map, Option, Some, None, refl, sym, ap, subst, ◌∙◌, arith}
-use Rattle.canvas_task.specs.Apply.{Registry}
+use Rattle.canvas_task.specs.Apply.{Behaviour}
 use Rattle.canvas_task.specs.declared.outcome.Outcome.{Outcome}
 use Rattle.canvas_semantics.specs.Line.{Line}
 use Rattle.canvas_rewrite.specs.Planned.{IsPlan}
@@ -13,12 +13,13 @@ use Rattle.canvas_runs.specs.Book.{book_on}
 use Rattle.canvas_runs.specs.Core.{Ask, Reply, take, send, keep, part, read, taken, sent, kept, counted, found}
 use Rattle.canvas_runs.specs.Crew.{Mate, Ran, EndedWell, OwnTally}
 use Rattle.canvas_runs.specs.Following.{Pass, Seat, IsDone, Followed, Working, begins}
-use Rattle.canvas_runs.specs.Calls.{BrokerCall, published, took, BackendCall, stored, returned, has_read, FollowsCore, follows_all, follows_publish, follows_list_take, follows_core_take, broker_call, backend_call, broker_calls, backend_calls, takes_one}
+use Rattle.canvas_runs.specs.Calls.{BrokerCall, published, took, again, BackendCall, stored, returned, has_read, broker_call, backend_call, broker_calls, backend_calls, takes_one}
 use Rattle.canvas_runs.specs.Lists.{Each, by, seconds, total}
 use Rattle.canvas_runs.specs.Logs.{queue_calls, table_calls}
 use Rattle.canvas_runs.specs.Run.{Run, IsRead, published_all}
 use Rattle.canvas_runs.specs.Tally.{Tally, CountsMore, CountsOf, EachCounts, often, is_taken, is_published, is_first, is_part, is_lost, is_dropped, publishing, storing, returning}
 use Rattle.canvas_runs.specs.Worker.{opened, sealed}
+use Rattle.canvas_runs.proofs.Accords.{FollowsCore, follows_all, follows_publish, follows_list_take, follows_core_take, follows_again, accords_run}
 use Rattle.canvas_runs.proofs.CallsOf.{queue_by, queue_entries, table_by, table_rows}
 use Rattle.canvas_runs.proofs.Facts.{X, form, Does, order, value}
 use Rattle.canvas_runs.proofs.FirstLaw.{inner_run}
@@ -30,7 +31,7 @@ use Rattle.canvas_runs.proofs.Words.{each_left, each_right}
 
 -- ---- core runs and their calls
 
-module _ (registry : Registry) (plan : Roster) where
+module _ (behaviour : Behaviour) (plan : Roster) where
   taken_step : (a : Ask Envelope Outcome) (r : Reply Envelope Outcome) → total takes_one (broker_call a r) ≡ is_taken a r
   taken_step take (taken (Some e)) = omega arith
   taken_step (send e) sent = omega arith
@@ -96,6 +97,7 @@ follows_publishing follows_all = refl
 follows_publishing (follows_publish f) = let k = follows_publishing f in omega (arith, k)
 follows_publishing (follows_list_take f) = let k = follows_publishing f in omega (arith, k)
 follows_publishing (follows_core_take f) = let k = follows_publishing f in omega (arith, k)
+follows_publishing (follows_again f) = let k = follows_publishing f in omega (arith, k)
 
 same_count : (n m k : ℕ) → CountsMore 0 n k → n ≡ m → CountsMore 0 m k
 same_count n m k a e = subst (λ x. CountsMore 0 x k) e a
@@ -123,57 +125,58 @@ only_reads (returned g t n ∷ cs) i = absurd i.0
 
 -- ---- a worker that was followed from its beginning
 
-module _ (registry : Registry) (plan : Roster) (p : Pass) (s : Seat) (w : Working) (f : Followed registry plan (begins p s) w) (none_held : w.held ≡ []) where
+module _ (behaviour : Behaviour) (plan : Roster) (p : Pass) (s : Seat) (w : Working) (f : Followed behaviour plan (begins p s) w) (none_held : w.held ≡ []) where
   made_taken : total takes_one f.made ≡ often is_taken f.run
-  made_taken = let none : length w.held ≡ 0 = ap length none_held in omega (arith, f.used, none, calls_taken registry plan f.run)
+  made_taken = let none : length w.held ≡ 0 = ap length none_held in omega (arith, f.used, none, calls_taken behaviour plan f.run)
 
   made_published : total publishing f.made ≡ often is_published f.run
-  made_published = follows_publishing f.follows ∙ calls_published registry plan f.run
+  made_published = follows_publishing (accords_run f.run f.follows) ∙ calls_published behaviour plan f.run
 
-  taken_kept : (P : Envelope → Type 0) → ((e : Envelope) → P e → Opens registry plan e) → Each (GoodTake P) f.made → often (is_dropped plan) f.run ≡ 0
-  taken_kept P opens g = none_dropped registry plan f.run (weaker (broker_calls f.run) (follows_takes P f.follows tt g))
+  taken_kept : (P : Envelope → Type 0) → ((e : Envelope) → P e → Opens behaviour plan e) → Each (GoodTake P) f.made → often (is_dropped plan) f.run ≡ 0
+  taken_kept P opens g = none_dropped behaviour plan f.run (weaker (broker_calls f.run) (follows_takes P (accords_run f.run f.follows) tt g))
     where
-      weaker : (cs : List (BrokerCall Envelope)) → Each (GoodTake P) cs → Each (GoodTake (Opens registry plan)) cs
+      weaker : (cs : List (BrokerCall Envelope)) → Each (GoodTake P) cs → Each (GoodTake (Opens behaviour plan)) cs
       weaker [] g = tt
       weaker (published e ∷ cs) g = (tt, weaker cs g.1)
       weaker (took None ∷ cs) g = (tt, weaker cs g.1)
       weaker (took (Some e) ∷ cs) g = (opens e g.0, weaker cs g.1)
+      weaker (again e ∷ cs) g = (tt, weaker cs g.1)
 
-module _ (registry : Registry) (l : Line) (plan : IsPlan l) (pass : Pass) (seat : Seat) (r : Ran registry l pass seat) (w : EndedWell registry l pass seat r) where
+module _ (behaviour : Behaviour) (l : Line) (plan : IsPlan l) (pass : Pass) (seat : Seat) (r : Ran behaviour l pass seat) (w : EndedWell behaviour l pass seat r) where
   abbrev P : Roster
   P = roster_of l
 
   abbrev queue : List (Entries Envelope)
-  queue = the_queue registry l pass seat r
+  queue = the_queue behaviour l pass seat r
 
-  abbrev its_run : Run registry l
-  its_run = the_run registry l pass seat r
+  abbrev its_run : Run behaviour l
+  its_run = the_run behaviour l pass seat r
 
   abbrev Good : Envelope → Type 0
-  Good e = IsRunSealed (X registry l plan) (form registry l plan) (Does registry l plan) (order registry l plan) (value registry l plan) (inner_run registry l plan its_run) e
+  Good e = IsRunSealed (X behaviour l plan) (form behaviour l plan) (Does behaviour l plan) (order behaviour l plan) (value behaviour l plan) (inner_run behaviour l plan its_run) e
 
-  good_opens : (e : Envelope) → Good e → Opens registry P e
+  good_opens : (e : Envelope) → Good e → Opens behaviour P e
   unfolding Opens
-  good_opens e g = ap is_lost (ap (opened (book_on P)) g.1 ∙ (order registry l plan).opened g.0 g.3 g.2)
+  good_opens e g = ap is_lost (ap (opened (book_on P)) g.1 ∙ (order behaviour l plan).opened g.0 g.3 g.2)
 
   good_by : (p : ℕ) → Each (GoodTake Good) (by p (queue_calls queue))
   good_by p =
-      each_by (GoodTake Good) p (queue_calls queue) (queue_takes Good [] (seconds (queue_calls queue)) (inner_run registry l plan its_run).queue tt
-      (each_seconds (GoodPublish Good) (queue_calls queue) (publishes_right (X registry l plan) (form registry l plan) (Does registry l plan) (order registry l plan) (value registry l plan) (inner_run registry l plan its_run))))
+      each_by (GoodTake Good) p (queue_calls queue) (queue_takes Good [] [] (seconds (queue_calls queue)) (inner_run behaviour l plan its_run).queue tt tt
+      (each_seconds (GoodPublish Good) (queue_calls queue) (publishes_right (X behaviour l plan) (form behaviour l plan) (Does behaviour l plan) (order behaviour l plan) (value behaviour l plan) (inner_run behaviour l plan its_run))))
 
-  mates_count : (k : ℕ) (ms : List (Mate registry P)) → HasQueueCalls registry P k ms queue → HasTableCalls registry P k ms seat.seen → Each (λ (m : Mate registry P). IsDone m.ended) ms → EachCounts queue seat.seen k (map (λ (m : Mate registry P). m.ended.tally) ms)
+  mates_count : (k : ℕ) (ms : List (Mate behaviour P)) → HasQueueCalls behaviour P k ms queue → HasTableCalls behaviour P k ms seat.seen → Each (λ (m : Mate behaviour P). IsDone m.ended) ms → EachCounts queue seat.seen k (map (λ (m : Mate behaviour P). m.ended.tally) ms)
   mates_count k [] h t d = tt
   mates_count k (m ∷ ms) h t d =
       let f = m.followed in
       let calls : by k (queue_calls queue) ≡ f.made = queue_by k queue ∙ (ap (λ x. seconds (queue_calls x)) h.0 ∙ queue_entries k f.made f.stood) in
       let replies : by k (table_calls seat.seen) ≡ backend_calls f.run = table_by k seat.seen ∙ (ap (λ x. seconds (table_calls x)) t.0 ∙ table_rows k (backend_calls f.run)) in
       let c = f.counts in
-      let lost = taken_kept registry P m.pass m.seat m.ended f d.0.1 Good good_opens (subst (λ cs. Each (GoodTake Good) cs) calls (good_by k)) in (
+      let lost = taken_kept behaviour P m.pass m.seat m.ended f d.0.1 Good good_opens (subst (λ cs. Each (GoodTake Good) cs) calls (good_by k)) in (
         (
-          same_count (often is_taken f.run) (total takes_one (by k (queue_calls queue))) m.ended.tally.taken c.taken (sym (ap (λ x. total takes_one x) calls ∙ made_taken registry P m.pass m.seat m.ended f d.0.1)),
-          same_count (often is_published f.run) (total publishing (by k (queue_calls queue))) m.ended.tally.published c.published (sym (ap (λ x. total publishing x) calls ∙ made_published registry P m.pass m.seat m.ended f d.0.1)),
-          same_count (often is_first f.run) (total storing (by k (table_calls seat.seen))) m.ended.tally.first c.first (sym (ap (λ x. total storing x) replies ∙ calls_first registry P f.run)),
-          same_count (often is_part f.run) (total returning (by k (table_calls seat.seen))) m.ended.tally.parts c.parts (sym (ap (λ x. total returning x) replies ∙ calls_parts registry P f.run)),
+          same_count (often is_taken f.run) (total takes_one (by k (queue_calls queue))) m.ended.tally.taken c.taken (sym (ap (λ x. total takes_one x) calls ∙ made_taken behaviour P m.pass m.seat m.ended f d.0.1)),
+          same_count (often is_published f.run) (total publishing (by k (queue_calls queue))) m.ended.tally.published c.published (sym (ap (λ x. total publishing x) calls ∙ made_published behaviour P m.pass m.seat m.ended f d.0.1)),
+          same_count (often is_first f.run) (total storing (by k (table_calls seat.seen))) m.ended.tally.first c.first (sym (ap (λ x. total storing x) replies ∙ calls_first behaviour P f.run)),
+          same_count (often is_part f.run) (total returning (by k (table_calls seat.seen))) m.ended.tally.parts c.parts (sym (ap (λ x. total returning x) replies ∙ calls_parts behaviour P f.run)),
           no_count (often (is_dropped P) f.run) m.ended.tally.dropped c.dropped lost,
         ),
         mates_count (suc k) ms h.1 t.1 d.1,
@@ -182,25 +185,25 @@ module _ (registry : Registry) (l : Line) (plan : IsPlan l) (pass : Pass) (seat 
   more_sent : (n k a t : ℕ) → CountsMore 0 k a → CountsMore n a t → CountsMore 0 (n + k) t
   more_sent n k a t e f = omega (arith, e, f)
 
-  own_counts : (t : Tally) → OwnTally registry l pass seat r t → CountsOf queue seat.seen 0 t
+  own_counts : (t : Tally) → OwnTally behaviour l pass seat r t → CountsOf queue seat.seen 0 t
   own_counts t o =
       let f = r.works in
       let c = f.counts in
-      let before : List (BrokerCall Envelope) = opening_calls registry l pass seat r in
-      let calls = queue_zero registry l pass seat r in
-      let replies = table_zero registry l pass seat r in
+      let before : List (BrokerCall Envelope) = opening_calls behaviour l pass seat r in
+      let calls = queue_zero behaviour l pass seat r in
+      let replies = table_zero behaviour l pass seat r in
       let none = taking_none (map sealed r.opening) in
       let sends = publishing_all (map sealed r.opening) ∙ mapped r.opening in
       let reads = only_reads r.closing r.closes in
       let all_taken : total takes_one (by 0 (queue_calls queue)) ≡ often is_taken f.run =
-      ap (λ x. total takes_one x) calls ∙ (total-append takes_one before f.made ∙ (let k = made_taken registry P r.pass_joined r.seat_joined r.own f w.own.1 in omega (arith, k, none))) in
+      ap (λ x. total takes_one x) calls ∙ (total-append takes_one before f.made ∙ (let k = made_taken behaviour P r.pass_joined r.seat_joined r.own f w.own.1 in omega (arith, k, none))) in
       let all_sent : total publishing (by 0 (queue_calls queue)) ≡ length r.opening + often is_published f.run =
-      ap (λ x. total publishing x) calls ∙ (total-append publishing before f.made ∙ (let k = made_published registry P r.pass_joined r.seat_joined r.own f w.own.1 in omega (arith, k, sends))) in
+      ap (λ x. total publishing x) calls ∙ (total-append publishing before f.made ∙ (let k = made_published behaviour P r.pass_joined r.seat_joined r.own f w.own.1 in omega (arith, k, sends))) in
       let all_first : total storing (by 0 (table_calls seat.seen)) ≡ often is_first f.run =
-      ap (λ x. total storing x) replies ∙ (total-append storing (backend_calls f.run) r.closing ∙ (let k = calls_first registry P f.run in let z = reads.0 in omega (arith, k, z))) in
+      ap (λ x. total storing x) replies ∙ (total-append storing (backend_calls f.run) r.closing ∙ (let k = calls_first behaviour P f.run in let z = reads.0 in omega (arith, k, z))) in
       let all_parts : total returning (by 0 (table_calls seat.seen)) ≡ often is_part f.run =
-      ap (λ x. total returning x) replies ∙ (total-append returning (backend_calls f.run) r.closing ∙ (let k = calls_parts registry P f.run in let z = reads.1 in omega (arith, k, z))) in
-      let lost = taken_kept registry P r.pass_joined r.seat_joined r.own f w.own.1 Good good_opens
+      ap (λ x. total returning x) replies ∙ (total-append returning (backend_calls f.run) r.closing ∙ (let k = calls_parts behaviour P f.run in let z = reads.1 in omega (arith, k, z))) in
+      let lost = taken_kept behaviour P r.pass_joined r.seat_joined r.own f w.own.1 Good good_opens
       (each_right (GoodTake Good) before f.made (subst (λ cs. Each (GoodTake Good) cs) calls (good_by 0))) in (
         subst (λ n. CountsMore 0 (total takes_one (by 0 (queue_calls queue))) n) (sym o.0) (same_count (often is_taken f.run) (total takes_one (by 0 (queue_calls queue))) r.own.tally.taken c.taken (sym all_taken)),
         same_count (length r.opening + often is_published f.run) (total publishing (by 0 (queue_calls queue))) t.published
@@ -210,5 +213,5 @@ module _ (registry : Registry) (l : Line) (plan : IsPlan l) (pass : Pass) (seat 
         o.4 ∙ no_count (often (is_dropped P) f.run) r.own.tally.dropped c.dropped lost,
       )
 
-  pub tallies_count : (own : Tally) → OwnTally registry l pass seat r own → EachCounts queue seat.seen 0 (own ∷ map (λ (m : Mate registry P). m.ended.tally) r.mates)
-  tallies_count own o = (own_counts own o, mates_count 1 r.mates (passes registry l pass seat r).1.each (seats registry l pass seat r).each w.each)
+  pub tallies_count : (own : Tally) → OwnTally behaviour l pass seat r own → EachCounts queue seat.seen 0 (own ∷ map (λ (m : Mate behaviour P). m.ended.tally) r.mates)
+  tallies_count own o = (own_counts own o, mates_count 1 r.mates (passes behaviour l pass seat r).1.each (seats behaviour l pass seat r).each w.each)

@@ -2,7 +2,7 @@
 use Rattle.std.proofs.Common.{◌≡◌, ◌≢◌, ℕ, suc, Bool, true, false, cond, eqb, ◌==◌, List, [], ◌∷◌, ◌++◌, length, Option, Some, None, is_some, refl, sym, ap, ◌∙◌, subst, append-nil, inl, ne_eqb, arith}
 use Rattle.std.proofs.lemmas.Bool.{eqb-true}
 use Rattle.std.specs.Prelude.{if◌then◌else◌}
-use Rattle.canvas_task.specs.Apply.{Registry}
+use Rattle.canvas_task.specs.Apply.{Behaviour}
 use Rattle.canvas_task.specs.declared.outcome.Outcome.{Outcome}
 use Rattle.canvas_history.specs.History.{calls, among, live, AllOthers}
 use Rattle.canvas_history.proofs.Histories.{other_of}
@@ -19,23 +19,26 @@ use Rattle.canvas_backend.specs.Backend as results
 use Rattle.canvas_backend.specs.Backend.{Results, no_results, kept_or, was, MayReturn}
 use Rattle.canvas_backend.specs.Roster.{Roster, roster_of}
 use Rattle.canvas_runs.specs.Accounts.{backend_entries}
-use Rattle.canvas_runs.specs.Calls.{BackendCall, stored, has_read, backend_call, reads_member, ReadsMembers, AskedAndAnswered}
-use Rattle.canvas_runs.specs.Core.{Ask, Reply, take, send, keep, part, read, taken, sent, kept, counted, found, rested, taking, resting, over, failed, owning, doing, reading, is_due, settled, ask, opens, answered, left_after, IsCoreRun, Doing, Jobs}
+use Rattle.canvas_runs.specs.Calls.{BackendCall, stored, has_read, backend_call, reads_member, ReadsMembers, AskedAndAnswered, of_scripts, scripts_of}
+use Rattle.canvas_runs.specs.Core.{Ask, Reply, take, send, keep, part, read, taken, sent, kept, counted, found, rested, acked, taking, resting, over, failed, owning, doing, reading, acking, is_due, settled, ask, opens, answered, left_after, IsCoreRun, Doing, Jobs, deliver}
 use Rattle.canvas_runs.specs.Following.{table_reply}
-use Rattle.canvas_runs.specs.Lists.{Each, by}
+use Rattle.canvas_runs.specs.Lists.{Each, by, seconds}
 use Rattle.canvas_runs.specs.Protocol.{Protocol}
 use Rattle.canvas_runs.specs.Turns.{Step, results_next, results_after, left, IsWorker, Answers, FirstsRead}
 use Rattle.canvas_runs.specs.Worker.{worker}
 use Rattle.canvas_runs.proofs.Bridges.{stored_stays, store_in}
-use Rattle.canvas_runs.proofs.Facts.{X, form, Does, order, value, its_backs}
+use Rattle.canvas_runs.proofs.Facts.{X, form, Does, order, value, once, keeping, its_backs}
+use Rattle.canvas_runs.proofs.Meaning.{IsSkipped}
+use Rattle.canvas_runs.proofs.StoredOnce.{FirstWhereSkipped, all_skipped_first}
+use Rattle.canvas_runs.specs.Logs.{table_calls}
 use Rattle.canvas_runs.proofs.Finish.{Backed}
-use Rattle.canvas_runs.proofs.FirstLaw.{inner_run, first_part}
+use Rattle.canvas_runs.proofs.FirstLaw.{inner_run}
 use Rattle.canvas_runs.proofs.Keeps.{GoodState, GoodAnswer, Goods, Closed, next_good, more_found, all_found}
 use Rattle.canvas_runs.proofs.Knowing.{found as among_members}
 use Rattle.canvas_runs.proofs.Right.{right_goods, right_closed, answers_right}
 use Rattle.canvas_runs.proofs.TurnLogs.{worker_lives}
-use Rattle.canvas_runs.proofs.TurnRuns.{Lawful, run, table_log, table_log_more, table_made, MayPart}
-use Rattle.canvas_runs.proofs.Turning.{by_more, results_more}
+use Rattle.canvas_runs.proofs.TurnRuns.{table_delivers, Lawful, run, table_log, table_log_more, table_made, MayPart}
+use Rattle.canvas_runs.proofs.Turning.{by_more, results_more, scripts_more}
 use Rattle.canvas_runs.proofs.Words.{in_right, in_each, each_right, each_weaker, each_from_in, cond_cases}
 
 -- what is left after a core run is good, where the answers are
@@ -57,26 +60,26 @@ kept_stays s (keep u w) t o e = go (t == u)
 kept_stays s (part g u) t o e = e
 kept_stays s a t o e = e
 
-module _ (registry : Registry) (l : Line) (plan : IsPlan l) where
-  abbrev pub Good : Doing (worker registry l) → Type 0
-  Good s = GoodState (worker registry l) (right_goods (X registry l plan) (form registry l plan) (Does registry l plan)) s
+module _ (behaviour : Behaviour) (l : Line) (plan : IsPlan l) where
+  abbrev pub Good : Doing (worker behaviour l) → Type 0
+  Good s = GoodState (worker behaviour l) (right_goods (X behaviour l plan) (form behaviour l plan) (Does behaviour l plan)) s
 
   abbrev pub P : Roster
   P = roster_of l
 
-  pub good_left : (back : FirstsRead l) (n : ℕ) (xs : List Step) (s : Lawful registry l n xs) (p : ℕ) → Good (left registry l xs p)
+  pub good_left : (back : FirstsRead l) (n : ℕ) (xs : List Step) (s : Lawful behaviour l n xs) (p : ℕ) → Good (left behaviour l xs p)
   good_left back n xs s p =
-      left_good (worker registry l) (right_goods (X registry l plan) (form registry l plan) (Does registry l plan)) (right_closed (X registry l plan) (form registry l plan) (Does registry l plan) (order registry l plan) (value registry l plan)) taking (by p xs) tt (s.core p) (s.reads p)
-      (answers_right (X registry l plan) (form registry l plan) (Does registry l plan) (order registry l plan) (value registry l plan) (inner_run registry l plan (run registry l back n xs s)) p)
+      left_good (worker behaviour l) (right_goods (X behaviour l plan) (form behaviour l plan) (Does behaviour l plan)) (right_closed (X behaviour l plan) (form behaviour l plan) (Does behaviour l plan) (order behaviour l plan) (value behaviour l plan)) taking (scripts_of (by p xs)) tt (s.core p) (s.reads p)
+      (answers_right (X behaviour l plan) (form behaviour l plan) (Does behaviour l plan) (order behaviour l plan) (value behaviour l plan) (inner_run behaviour l plan (run behaviour l back n xs s)) p)
 
   abbrev pub GoodReply : Reply Envelope Outcome → Type 0
-  GoodReply r = GoodAnswer (worker registry l) (right_goods (X registry l plan) (form registry l plan) (Does registry l plan)) r
+  GoodReply r = GoodAnswer (worker behaviour l) (right_goods (X behaviour l plan) (form behaviour l plan) (Does behaviour l plan)) r
 
-  good_answer : (back : FirstsRead l) (n : ℕ) (xs : List Step) (p : ℕ) (a : Ask Envelope Outcome) (r : Reply Envelope Outcome) → Lawful registry l n (xs ++ (p, (a, r)) ∷ []) → GoodReply r
-  good_answer back n xs p a r s =
-      (each_right (λ (x : AskedAndAnswered Envelope Outcome). GoodReply x.1) (by p xs) ((a, r) ∷ [])
-      (subst (Each (λ (x : AskedAndAnswered Envelope Outcome). GoodReply x.1)) (by_more p xs (a, r))
-      (answers_right (X registry l plan) (form registry l plan) (Does registry l plan) (order registry l plan) (value registry l plan) (inner_run registry l plan (run registry l back n (xs ++ (p, (a, r)) ∷ []) s)) p))).0
+  good_answer : (back : FirstsRead l) (n : ℕ) (xs : List Step) (p : ℕ) (a : Ask Envelope Outcome) (r : Reply Envelope Outcome) → of_scripts a ≡ true → Lawful behaviour l n (xs ++ (p, (a, r)) ∷ []) → GoodReply r
+  good_answer back n xs p a r mine s =
+      (each_right (λ (x : AskedAndAnswered Envelope Outcome). GoodReply x.1) (scripts_of (by p xs)) ((a, r) ∷ [])
+      (subst (Each (λ (x : AskedAndAnswered Envelope Outcome). GoodReply x.1)) (ap scripts_of (by_more p xs (a, r)) ∙ scripts_more (by p xs) a r mine)
+      (answers_right (X behaviour l plan) (form behaviour l plan) (Does behaviour l plan) (order behaviour l plan) (value behaviour l plan) (inner_run behaviour l plan (run behaviour l back n (xs ++ (p, (a, r)) ∷ []) s)) p))).0
 
   -- ---- what is known of states
 
@@ -84,19 +87,20 @@ module _ (registry : Registry) (l : Line) (plan : IsPlan l) where
   IsStored xs t = (o : Outcome) × ((results_after xs).outcomes t ≡ Some o)
 
   abbrev pub May : ℕ → List Step → ℕ → ℕ → Type 0
-  May n xs p t = MayReturn P (table_log registry l n xs) p t
+  May n xs p t = MayReturn P (table_log behaviour l n xs) p t
 
-  abbrev pub Ready : ℕ → List Step → ℕ → Doing (worker registry l) → Type 0
+  abbrev pub Ready : ℕ → List Step → ℕ → Doing (worker behaviour l) → Type 0
   Ready n xs p taking = Unit {0}
   Ready n xs p resting = Unit {0}
   Ready n xs p over = Unit {0}
   Ready n xs p failed = ⊥
   Ready n xs p (owning m) = Unit {0}
+  Ready n xs p acking = Unit {0}
   Ready n xs p (doing [] b) = ⊥
-  Ready n xs p (doing (j ∷ js) b) = (us : List ℕ) × Backed (worker registry l) us (j ∷ js) × Each (May n xs p) us
-  Ready n xs p (reading g c fs) = Each (IsStored xs) ((worker registry l).members g) × (eqb (length fs) c.size ≡ false)
+  Ready n xs p (doing (j ∷ js) b) = (us : List ℕ) × Backed (worker behaviour l) us (j ∷ js) × Each (May n xs p) us
+  Ready n xs p (reading g c fs) = Each (IsStored xs) ((worker behaviour l).members g) × (eqb (length fs) c.size ≡ false)
 
-  settled_ready : (n : ℕ) (xs : List Step) (p : ℕ) (us : List ℕ) (js : Jobs (worker registry l)) (b : Bool) → Backed (worker registry l) us js → Each (May n xs p) us → Ready n xs p (settled (worker registry l) js b)
+  settled_ready : (n : ℕ) (xs : List Step) (p : ℕ) (us : List ℕ) (js : Jobs (worker behaviour l)) (b : Bool) → Backed (worker behaviour l) us js → Each (May n xs p) us → Ready n xs p (settled (worker behaviour l) js b)
   settled_ready n xs p us [] b k m = tt
   settled_ready n xs p us (store t o ∷ js) true k m = (us, k, m)
   settled_ready n xs p us (store t o ∷ js) false k m = (us, k, m)
@@ -107,7 +111,7 @@ module _ (registry : Registry) (l : Line) (plan : IsPlan l) where
 
   -- ---- a part that comes next may be returned
 
-  pub part_may : (n : ℕ) (xs : List Step) (p : ℕ) (s : Doing (worker registry l)) → results.results P (table_log registry l n xs) ≡ results_after xs → Good s → Ready n xs p s → MayPart registry l (table_log registry l n xs) p (ask (worker registry l) s)
+  pub part_may : (n : ℕ) (xs : List Step) (p : ℕ) (s : Doing (worker behaviour l)) → results.results P (table_log behaviour l n xs) ≡ results_after xs → Good s → Ready n xs p s → MayPart behaviour l (table_log behaviour l n xs) p (ask (worker behaviour l) s)
   part_may n xs p taking is good k = tt
   part_may n xs p resting is good k = tt
   part_may n xs p over is good k = tt
@@ -119,36 +123,38 @@ module _ (registry : Registry) (l : Line) (plan : IsPlan l) where
   part_may n xs p (doing (hand_in g t c ∷ js) b) is good k =
       let mine = in_each (May n xs p) k.0 k.2 t k.1.0 in
       let formed = good.0.0 in
-      (ap is_some formed.2.1.0, among_members t ((worker registry l).members g) ((order registry l plan).member g t c formed), mine.own, mine.free)
+      (ap is_some formed.2.1.0, among_members t ((worker behaviour l).members g) ((order behaviour l plan).member g t c formed), mine.own, mine.free)
   part_may n xs p (reading g c fs) is good k = tt
+  part_may n xs p acking is good k = tt
 
   -- ---- another worker's step changes nothing of it
 
-  pub other_may : (n : ℕ) (xs : List Step) (p q : ℕ) (a : Ask Envelope Outcome) (r : Reply Envelope Outcome) (t : ℕ) → IsWorker n p → q ≢ p → results.IsLegal P (table_log registry l n (xs ++ (q, (a, r)) ∷ [])) → May n xs p t → May n (xs ++ (q, (a, r)) ∷ []) p t
+  pub other_may : (n : ℕ) (xs : List Step) (p q : ℕ) (a : Ask Envelope Outcome) (r : Reply Envelope Outcome) (t : ℕ) → IsWorker n p → q ≢ p → results.IsLegal P (table_log behaviour l n (xs ++ (q, (a, r)) ∷ [])) → May n xs p t → May n (xs ++ (q, (a, r)) ∷ []) p t
   other_may n xs p q a r t w apart legal m =
       let new : results.Log = backend_entries q (backend_call a r) in
-      let more = table_log_more registry l n xs (q, (a, r)) in
-      let lawful : results.IsLegal P (table_log registry l n xs ++ new) = subst (results.IsLegal P) more legal in
-      let alive : among p (live (table_log registry l n xs ++ new)) ≡ true = subst (λ g. among p (live g) ≡ true) more (worker_lives n p (table_log registry l n (xs ++ (q, (a, r)) ∷ [])) (table_made registry l n (xs ++ (q, (a, r)) ∷ [])) w) in
+      let more = table_log_more behaviour l n xs (q, (a, r)) in
+      let lawful : results.IsLegal P (table_log behaviour l n xs ++ new) = subst (results.IsLegal P) more legal in
+      let alive : among p (live (table_log behaviour l n xs ++ new)) ≡ true = subst (λ g. among p (live g) ≡ true) more (worker_lives n p (table_log behaviour l n (xs ++ (q, (a, r)) ∷ [])) (table_made behaviour l n (xs ++ (q, (a, r)) ∷ [])) w) in
       subst (λ g. MayReturn P g p t) (sym more) (record {
-        own = keeps_first P (table_log registry l n xs) new p t lawful m.alive alive m.own;
-        free = still_free P (table_log registry l n xs) new p t lawful (rows_others p q (backend_call a r) apart) m.alive alive m.own m.free;
+        own = keeps_first P (table_log behaviour l n xs) new p t lawful m.alive alive m.own;
+        free = still_free P (table_log behaviour l n xs) new p t lawful (rows_others p q (backend_call a r) apart) m.alive alive m.own m.free;
         alive = alive;
       })
 
   pub stored_more : (xs : List Step) (x : Step) (t : ℕ) → IsStored xs t → IsStored (xs ++ x ∷ []) t
   stored_more xs x t k = (k.0, ap (λ s. s.outcomes t) (results_more no_results xs x) ∙ kept_stays (results_after xs) x.1.0 t k.0 k.1)
 
-  pub other_ready : (n : ℕ) (xs : List Step) (p q : ℕ) (a : Ask Envelope Outcome) (r : Reply Envelope Outcome) → IsWorker n p → q ≢ p → results.IsLegal P (table_log registry l n (xs ++ (q, (a, r)) ∷ []))
-      → (s : Doing (worker registry l)) → Ready n xs p s → Ready n (xs ++ (q, (a, r)) ∷ []) p s
+  pub other_ready : (n : ℕ) (xs : List Step) (p q : ℕ) (a : Ask Envelope Outcome) (r : Reply Envelope Outcome) → IsWorker n p → q ≢ p → results.IsLegal P (table_log behaviour l n (xs ++ (q, (a, r)) ∷ []))
+      → (s : Doing (worker behaviour l)) → Ready n xs p s → Ready n (xs ++ (q, (a, r)) ∷ []) p s
   other_ready n xs p q a r w apart legal taking k = tt
   other_ready n xs p q a r w apart legal resting k = tt
   other_ready n xs p q a r w apart legal over k = tt
   other_ready n xs p q a r w apart legal failed k = k
   other_ready n xs p q a r w apart legal (owning m) k = tt
+  other_ready n xs p q a r w apart legal acking k = tt
   other_ready n xs p q a r w apart legal (doing [] b) k = k
   other_ready n xs p q a r w apart legal (doing (j ∷ js) b) k = (k.0, k.1, each_weaker (λ t m. other_may n xs p q a r t w apart legal m) k.0 k.2)
-  other_ready n xs p q a r w apart legal (reading g c fs) k = (each_weaker (λ t m. stored_more xs (q, (a, r)) t m) ((worker registry l).members g) k.0, k.1)
+  other_ready n xs p q a r w apart legal (reading g c fs) k = (each_weaker (λ t m. stored_more xs (q, (a, r)) t m) ((worker behaviour l).members g) k.0, k.1)
 
   -- ---- nor does a call of its own that returns no part
 
@@ -168,27 +174,30 @@ module _ (registry : Registry) (l : Line) (plan : IsPlan l) where
   own_step log p t (read g i) (found u x) plain = one_own log p t (results.read u) (table_reply (has_read u x)) (λ g e. absurd cc)
   own_step log p t a r plain = λ legal m. subst (λ g. MayReturn P g p t) (sym (append-nil log)) m
 
-  pub own_may : (n : ℕ) (xs : List Step) (p : ℕ) (a : Ask Envelope Outcome) (r : Reply Envelope Outcome) (t : ℕ) → NotPart a → results.IsLegal P (table_log registry l n (xs ++ (p, (a, r)) ∷ [])) → May n xs p t → May n (xs ++ (p, (a, r)) ∷ []) p t
+  pub own_may : (n : ℕ) (xs : List Step) (p : ℕ) (a : Ask Envelope Outcome) (r : Reply Envelope Outcome) (t : ℕ) → NotPart a → results.IsLegal P (table_log behaviour l n (xs ++ (p, (a, r)) ∷ [])) → May n xs p t → May n (xs ++ (p, (a, r)) ∷ []) p t
   own_may n xs p a r t plain legal m =
-      let more = table_log_more registry l n xs (p, (a, r)) in
-      subst (λ g. MayReturn P g p t) (sym more) (own_step (table_log registry l n xs) p t a r plain (subst (results.IsLegal P) more legal) m)
+      let more = table_log_more behaviour l n xs (p, (a, r)) in
+      subst (λ g. MayReturn P g p t) (sym more) (own_step (table_log behaviour l n xs) p t a r plain (subst (results.IsLegal P) more legal) m)
 
   -- a task that the worker has just stored
-  pub stored_may : (n : ℕ) (xs : List Step) (p t : ℕ) (o : Outcome) → results.IsLegal P (table_log registry l n (xs ++ (p, (keep t o, kept true)) ∷ [])) → May n (xs ++ (p, (keep t o, kept true)) ∷ []) p t
+  pub stored_may : (n : ℕ) (xs : List Step) (p t : ℕ) (o : Outcome) → results.IsLegal P (table_log behaviour l n (xs ++ (p, (keep t o, kept true)) ∷ [])) → May n (xs ++ (p, (keep t o, kept true)) ∷ []) p t
   stored_may n xs p t o legal =
-      let more = table_log_more registry l n xs (p, (keep t o, kept true)) in
+      let more = table_log_more behaviour l n xs (p, (keep t o, kept true)) in
       let call = calls p (results.store t o) (was First) in
-      subst (λ g. MayReturn P g p t) (sym more) (first_may P p t o (table_log registry l n xs) (table_log registry l n xs ++ call ∷ []) ([], refl, tt, subst (results.IsLegal P) more legal, λ e. refl))
+      subst (λ g. MayReturn P g p t) (sym more) (first_may P p t o (table_log behaviour l n xs) (table_log behaviour l n xs ++ call ∷ []) ([], refl, tt, subst (results.IsLegal P) more legal, λ e. refl))
 
-  -- each store answers first
-  pub first_answer : (back : FirstsRead l) (n : ℕ) (xs : List Step) (p t : ℕ) (o : Outcome) (b : Bool) → Lawful registry l n (xs ++ (p, (keep t o, kept b)) ∷ []) → b ≡ true
-  first_answer back n xs p t o true s = refl
-  first_answer back n xs p t o false s =
+  -- each store that is an event's answers first
+  pub first_answer : (back : FirstsRead l) (n : ℕ) (xs : List Step) (p t : ℕ) (o : Outcome) (b : Bool) → IsSkipped (X behaviour l plan) (Does behaviour l plan) t o → Lawful behaviour l n (xs ++ (p, (keep t o, kept b)) ∷ []) → b ≡ true
+  first_answer back n xs p t o true skipped s = refl
+  first_answer back n xs p t o false skipped s =
       let call = calls p (results.store t o) (was Again) in
-      let there : In call (table_log registry l n (xs ++ (p, (keep t o, kept false)) ∷ [])) =
-      subst (In call) (sym (table_log_more registry l n xs (p, (keep t o, kept false)))) (in_right (table_log registry l n xs) (call ∷ []) call (inl refl)) in
-      let wrong : Again ≡ First = ((first_part registry l plan (run registry l back n (xs ++ (p, (keep t o, kept false)) ∷ []) s)).stored p t o Again there).1 in
-      absurd cc
+      let there : In call (table_log behaviour l n (xs ++ (p, (keep t o, kept false)) ∷ [])) =
+      subst (In call) (sym (table_log_more behaviour l n xs (p, (keep t o, kept false)))) (in_right (table_log behaviour l n xs) (call ∷ []) call (inl refl)) in
+      let its_run = inner_run behaviour l plan (run behaviour l back n (xs ++ (p, (keep t o, kept false)) ∷ []) s) in
+      in_each (FirstWhereSkipped (X behaviour l plan) (form behaviour l plan) (Does behaviour l plan) (order behaviour l plan) (value behaviour l plan) (once behaviour l plan) (keeping behaviour l plan) its_run)
+      (seconds (table_calls (table_log behaviour l n (xs ++ (p, (keep t o, kept false)) ∷ []))))
+      (all_skipped_first (X behaviour l plan) (form behaviour l plan) (Does behaviour l plan) (order behaviour l plan) (value behaviour l plan) (once behaviour l plan) (keeping behaviour l plan) its_run)
+      (stored t o false) (store_in (table_log behaviour l n (xs ++ (p, (keep t o, kept false)) ∷ [])) p t o Again there) skipped
 
   -- ---- the header whose last part is returned is stored
 
@@ -198,50 +207,64 @@ module _ (registry : Registry) (l : Line) (plan : IsPlan l) where
       let there : In call log = subst (In call) (sym f.is) (in_right f.before (call ∷ f.rest) call (inl refl)) in
       stored_stays l (plan_apart l plan) t o true log no_results (store_in log f.caller t o First there)
 
-  header_stored : (n : ℕ) (xs : List Step) (p g t m : ℕ) → results.results P (table_log registry l n xs) ≡ results_after xs → results.IsLegal P (table_log registry l n (xs ++ (p, (part g t, counted m)) ∷ [])) → suc m ≡ length ((worker registry l).members g)
-      → Each (IsStored (xs ++ (p, (part g t, counted m)) ∷ [])) ((worker registry l).members g)
+  header_stored : (n : ℕ) (xs : List Step) (p g t m : ℕ) → results.results P (table_log behaviour l n xs) ≡ results_after xs → results.IsLegal P (table_log behaviour l n (xs ++ (p, (part g t, counted m)) ∷ [])) → suc m ≡ length ((worker behaviour l).members g)
+      → Each (IsStored (xs ++ (p, (part g t, counted m)) ∷ [])) ((worker behaviour l).members g)
   header_stored n xs p g t m is legal full =
       let x : Step = (p, (part g t, counted m)) in
-      each_from_in ((worker registry l).members g) (λ u i.
-      let w = all_first P (table_log registry l n (xs ++ x ∷ [])) (table_log registry l n xs) [] p g t m legal (table_log_more registry l n xs x) full u (among_members u ((worker registry l).members g) i) in
-      let k = was_in (table_log registry l n xs) u w.0 w.1 in
+      each_from_in ((worker behaviour l).members g) (λ u i.
+      let w = all_first P (table_log behaviour l n (xs ++ x ∷ [])) (table_log behaviour l n xs) [] p g t m legal (table_log_more behaviour l n xs x) full u (among_members u ((worker behaviour l).members g) i) in
+      let k = was_in (table_log behaviour l n xs) u w.0 w.1 in
       stored_more xs x u (k.0, ap (λ s. s.outcomes u) (sym is) ∙ k.1))
 
   -- ---- what is left after the worker's own step
 
-  pub own_ready : (back : FirstsRead l) (n : ℕ) (xs : List Step) (p : ℕ) (s : Doing (worker registry l)) (r : Reply Envelope Outcome) → results.results P (table_log registry l n xs) ≡ results_after xs → Good s → Ready n xs p s → Answers registry l n xs (ask (worker registry l) s) r
-      → Lawful registry l n (xs ++ (p, (ask (worker registry l) s, r)) ∷ []) → Ready n (xs ++ (p, (ask (worker registry l) s, r)) ∷ []) p (answered (worker registry l) s r)
+  pub own_ready : (back : FirstsRead l) (n : ℕ) (xs : List Step) (p : ℕ) (s : Doing (worker behaviour l)) (r : Reply Envelope Outcome) → results.results P (table_log behaviour l n xs) ≡ results_after xs → Good s → Ready n xs p s → Answers behaviour l n xs (ask (worker behaviour l) s) r
+      → Lawful behaviour l n (xs ++ (p, (ask (worker behaviour l) s, r)) ∷ []) → Ready n (xs ++ (p, (ask (worker behaviour l) s, r)) ∷ []) p (answered (worker behaviour l) s r)
   own_ready back n xs p taking (taken None) is good k h law = tt
-  own_ready back n xs p taking (taken (Some e)) is good k h law = go ((worker registry l).opened e)
+  own_ready back n xs p taking (taken (Some e)) is good k h law = go ((worker behaviour l).opened e)
     where
-      go : (x : Option Content) → Ready n (xs ++ (p, (take, taken (Some e))) ∷ []) p (opens (worker registry l) x)
+      go : (x : Option Content) → Ready n (xs ++ (p, (take, taken (Some e))) ∷ []) p (opens (worker behaviour l) x)
       go None = tt
       go (Some m) = tt
   own_ready back n xs p resting (rested true) is good k h law = tt
   own_ready back n xs p resting (rested false) is good k h law = tt
   own_ready back n xs p (owning m) (kept true) is good k h law =
-      let us : List ℕ = (worker registry l).no m ∷ [] in
-      settled_ready n (xs ++ (p, (keep ((worker registry l).no m) ((worker registry l).outcome m), kept true)) ∷ []) p us ((worker registry l).ended m ((worker registry l).outcome m)) true ((its_backs registry l plan).ended m ((worker registry l).outcome m) good.0)
-      (stored_may n xs p ((worker registry l).no m) ((worker registry l).outcome m) law.table_legal, tt)
+      let us : List ℕ = (worker behaviour l).no m ∷ [] in
+      settled_ready n (xs ++ (p, (keep ((worker behaviour l).no m) ((worker behaviour l).outcome m), kept true)) ∷ []) p us ((worker behaviour l).ended m ((worker behaviour l).outcome m)) true ((its_backs behaviour l plan).ended m ((worker behaviour l).outcome m) good.0)
+      (stored_may n xs p ((worker behaviour l).no m) ((worker behaviour l).outcome m) law.table_legal, tt)
   own_ready back n xs p (owning m) (kept false) is good k h law = tt
   own_ready back n xs p (doing (store t o ∷ js) d) (kept true) is good k h law =
       settled_ready n (xs ++ (p, (keep t o, kept true)) ∷ []) p (t ∷ k.0) js (cond (is_due t js) true d) k.1
       (stored_may n xs p t o law.table_legal, each_weaker (λ u m. own_may n xs p (keep t o) (kept true) u tt law.table_legal m) k.0 k.2)
-  own_ready back n xs p (doing (store t o ∷ js) d) (kept false) is good k h law = absurd (let wrong : false ≡ true = first_answer back n xs p t o false law in cc)
+  own_ready back n xs p (doing (store t o ∷ js) d) (kept false) is good k h law = absurd (let wrong : false ≡ true = first_answer back n xs p t o false good.0 law in cc)
   own_ready back n xs p (doing (publish m ∷ js) d) sent is good k h law =
-      settled_ready n (xs ++ (p, (send ((worker registry l).sealed m), sent)) ∷ []) p k.0 js d k.1
-      (each_weaker (λ u f. own_may n xs p (send ((worker registry l).sealed m)) sent u tt law.table_legal f) k.0 k.2)
+      settled_ready n (xs ++ (p, (send ((worker behaviour l).sealed m), sent)) ∷ []) p k.0 js d k.1
+      (each_weaker (λ u f. own_may n xs p (send ((worker behaviour l).sealed m)) sent u tt law.table_legal f) k.0 k.2)
   own_ready back n xs p (doing (hand_in g t c ∷ js) d) (counted i) is good k h law =
-      cond_cases (Ready n (xs ++ (p, (part g t, counted i)) ∷ []) p) (eqb (suc i) c.size) (reading g c []) taking
+      cond_cases (Ready n (xs ++ (p, (part g t, counted i)) ∷ []) p) (eqb (suc i) c.size) (reading g c []) acking
       (λ full. let size : suc i ≡ c.size = eqb-true _ _ full in
-      (header_stored n xs p g t i is law.table_legal (size ∙ (order registry l plan).size g t c good.0.0), subst (λ z. eqb 0 z ≡ false) size (ne_eqb 0 (suc i) (λ e. omega (arith, e)))))
+      (header_stored n xs p g t i is law.table_legal (size ∙ (order behaviour l plan).size g t c good.0.0), subst (λ z. eqb 0 z ≡ false) size (ne_eqb 0 (suc i) (λ e. omega (arith, e)))))
       (λ less. tt)
   own_ready back n xs p (reading g c fs) (found t (Some o)) is good k h law =
       let x : Step = (p, (read g (length fs), found t (Some o))) in
-      let state = more_found (worker registry l) (right_goods (X registry l plan) (form registry l plan) (Does registry l plan)) (right_closed (X registry l plan) (form registry l plan) (Does registry l plan) (order registry l plan) (value registry l plan)) g c fs t o good h.0 (good_answer back n xs p (read g (length fs)) (found t (Some o)) law) in
-      cond_cases (Ready n (xs ++ x ∷ []) p) (eqb (length (fs ++ (t, o) ∷ [])) c.size) (settled (worker registry l) ((worker registry l).completed c (fs ++ (t, o) ∷ [])) false) (reading g c (fs ++ (t, o) ∷ []))
-      (λ full. settled_ready n (xs ++ x ∷ []) p [] ((worker registry l).completed c (fs ++ (t, o) ∷ [])) false
-      ((its_backs registry l plan).completed g state.0 c (fs ++ (t, o) ∷ []) state.1.0 (all_found (worker registry l) (right_goods (X registry l plan) (form registry l plan) (Does registry l plan)) (right_closed (X registry l plan) (form registry l plan) (Does registry l plan) (order registry l plan) (value registry l plan)) g c (fs ++ (t, o) ∷ []) state full)) tt)
-      (λ less. (each_weaker (λ u m. stored_more xs x u m) ((worker registry l).members g) k.0, less))
+      let state = more_found (worker behaviour l) (right_goods (X behaviour l plan) (form behaviour l plan) (Does behaviour l plan)) (right_closed (X behaviour l plan) (form behaviour l plan) (Does behaviour l plan) (order behaviour l plan) (value behaviour l plan)) g c fs t o good h.0 (good_answer back n xs p (read g (length fs)) (found t (Some o)) refl law) in
+      cond_cases (Ready n (xs ++ x ∷ []) p) (eqb (length (fs ++ (t, o) ∷ [])) c.size) (settled (worker behaviour l) ((worker behaviour l).completed c (fs ++ (t, o) ∷ [])) false) (reading g c (fs ++ (t, o) ∷ []))
+      (λ full. settled_ready n (xs ++ x ∷ []) p [] ((worker behaviour l).completed c (fs ++ (t, o) ∷ [])) false
+      ((its_backs behaviour l plan).completed g state.0 c (fs ++ (t, o) ∷ []) state.1.0 (all_found (worker behaviour l) (right_goods (X behaviour l plan) (form behaviour l plan) (Does behaviour l plan)) (right_closed (X behaviour l plan) (form behaviour l plan) (Does behaviour l plan) (order behaviour l plan) (value behaviour l plan)) g c (fs ++ (t, o) ∷ []) state full)) tt)
+      (λ less. (each_weaker (λ u m. stored_more xs x u m) ((worker behaviour l).members g) k.0, less))
   own_ready back n xs p (reading g c fs) (found t None) is good k h law = tt
+  own_ready back n xs p acking acked is good k h law = tt
   own_ready back n xs p s r is good k h law = elim h [ ]
+
+  -- ---- a redelivery changes nothing of what is known
+
+  pub delivers_ready : (n : ℕ) (xs : List Step) (p q : ℕ) (e : Envelope) → results.IsLegal P (table_log behaviour l n (xs ++ (q, (deliver e, sent)) ∷ [])) → (s : Doing (worker behaviour l)) → Ready n xs p s → Ready n (xs ++ (q, (deliver e, sent)) ∷ []) p s
+  delivers_ready n xs p q e legal taking k = tt
+  delivers_ready n xs p q e legal resting k = tt
+  delivers_ready n xs p q e legal over k = tt
+  delivers_ready n xs p q e legal failed k = k
+  delivers_ready n xs p q e legal (owning m) k = tt
+  delivers_ready n xs p q e legal acking k = tt
+  delivers_ready n xs p q e legal (doing [] b) k = k
+  delivers_ready n xs p q e legal (doing (j ∷ js) b) k = (k.0, k.1, each_weaker (λ t m. subst (λ g. MayReturn P g p t) (sym (table_delivers behaviour l n xs q e)) m) k.0 k.2)
+  delivers_ready n xs p q e legal (reading g c fs) k = (each_weaker (λ t m. stored_more xs (q, (deliver e, sent)) t m) ((worker behaviour l).members g) k.0, k.1)

@@ -1,8 +1,8 @@
 -- The steps of a run by turns that are calls are few.
-use Rattle.std.proofs.Common.{◌≡◌, ◌≢◌, ℕ, zero, suc, ◌+◌, ◌*◌, ◌≤◌, ◌<◌, Bool, true, false, cond, eqb, List, [], ◌∷◌, ◌++◌, length, Option, Some, None, refl, sym, ap, ap₂, ◌∙◌, subst, inl, inr, ⊎_elim, eq-eqb, arith, add-mul, mul-add, mul-le-mul_left}
-use Rattle.std.proofs.lemmas.Bool.{cases_eq, eqb-true}
+use Rattle.std.proofs.Common.{◌≡◌, ◌≢◌, ℕ, zero, suc, ◌+◌, ◌*◌, ◌≤◌, ◌<◌, Bool, true, false, cond, eqb, List, [], ◌∷◌, ◌++◌, length, Option, Some, None, refl, sym, ap, ap₂, ◌∙◌, subst, inl, inr, ⊎_elim, eq-eqb, arith, add-mul, mul-add, mul-le-mul_left, ne_eqb, ◌⊎◌}
+use Rattle.std.proofs.lemmas.Bool.{cases_eq, eqb-true, cases_lt}
 use Rattle.std.proofs.lemmas.List.{length-append}
-use Rattle.canvas_task.specs.Apply.{Registry}
+use Rattle.canvas_task.specs.Apply.{Behaviour}
 use Rattle.canvas_task.specs.declared.outcome.Outcome.{Outcome}
 use Rattle.canvas_semantics.specs.Line.{Line, count_line, members}
 use Rattle.canvas_rewrite.specs.FrozenView.{PCarried}
@@ -14,10 +14,11 @@ use Rattle.canvas_message.specs.Job.{store, publish, hand_in}
 use Rattle.canvas_message.specs.declared.envelope.Envelope.{Envelope}
 use Rattle.canvas_backend.proofs.HistoryLaws.{member_test}
 use Rattle.canvas_backend.proofs.Rosters.{roster_sound}
+use Rattle.canvas_runs.proofs.OnceEach.{of_opened}
 use Rattle.canvas_runs.specs.Accounts.{splits_of, broker_entries, backend_entries}
 use Rattle.canvas_runs.specs.Book.{book_of}
-use Rattle.canvas_runs.specs.Calls.{BrokerCall, published, took, BackendCall, stored, returned, has_read, broker_call, backend_call, backend_calls, takes_one, AskedAndAnswered, reads_member, ReadsMembers}
-use Rattle.canvas_runs.specs.Core.{Ask, Reply, keep, part, read, taken, sent, kept, counted, found, rested, taking, resting, owning, doing, reading, ask, answered, Doing, Jobs, is_due, settled, opens, IsCoreRun}
+use Rattle.canvas_runs.specs.Calls.{BrokerCall, published, took, again, BackendCall, stored, returned, has_read, backend_call, backend_calls, takes_one, AskedAndAnswered, reads_member, ReadsMembers, worker_call, scripts_of}
+use Rattle.canvas_runs.specs.Core.{Ask, Reply, keep, part, read, taken, sent, kept, counted, found, rested, taking, resting, owning, doing, reading, ask, answered, Doing, Jobs, is_due, settled, opens, IsCoreRun, take, send, ack, acked, refused, acking, is_inside, Suits, deliver}
 use Rattle.canvas_runs.specs.Going.{most_calls}
 use Rattle.canvas_runs.specs.Law.{of_task, publishes_one}
 use Rattle.canvas_runs.specs.Lists.{Each, by, at, total, seconds}
@@ -25,7 +26,7 @@ use Rattle.canvas_runs.specs.Logs.{queue_calls, table_calls}
 use Rattle.canvas_runs.specs.Run.{Run, published_all}
 use Rattle.canvas_runs.specs.Tally.{publishing, returning}
 use Rattle.canvas_runs.specs.TurnLaws.{ByTurns}
-use Rattle.canvas_runs.specs.Turns.{Step, round}
+use Rattle.canvas_runs.specs.Turns.{Step, round, redelivers_one, redeliveries_in}
 use Rattle.canvas_runs.specs.Worker.{worker, opened}
 use Rattle.canvas_runs.proofs.Facts.{X, form, Does, order, value, once, keeping}
 use Rattle.canvas_runs.proofs.FirstLaw.{first_part, inner_run, stored_right, has_state}
@@ -36,12 +37,12 @@ use Rattle.canvas_runs.proofs.Meaning.{Form, IsRun}
 use Rattle.canvas_runs.proofs.Replay.{IsQueue}
 use Rattle.canvas_runs.proofs.Right.{right_goods, right_closed, answers_right, publishes_right, IsRunSealed}
 use Rattle.canvas_runs.proofs.RowRanges.{state_task}
-use Rattle.canvas_runs.proofs.StoredOnce.{stores_task, kept_once}
+use Rattle.canvas_runs.proofs.StoredOnce.{stores_task, kept_few, agains_task}
 use Rattle.canvas_runs.proofs.Sums.{total-append, sum_to, sum_to-le, sum_to-both, total_by, find_heavy}
 use Rattle.canvas_runs.proofs.Tables.{part_of, part_once}
 use Rattle.canvas_runs.proofs.TurnLaw.{holds, the_run}
 use Rattle.canvas_runs.proofs.TurnLogs.{tag, queue_calls_append, queue_calls_splits, queue_calls_entries, table_calls_append, table_calls_splits, table_calls_rows}
-use Rattle.canvas_runs.proofs.TurnRuns.{queue_lines, table_lines, queue_log, table_log, table_by, firsts as first_envelopes, call_stood, stood_all}
+use Rattle.canvas_runs.proofs.TurnRuns.{queue_lines, table_lines, queue_log, table_log, table_by, firsts as first_envelopes, call_stood, stood_all, backend_scripts}
 use Rattle.canvas_runs.proofs.Words.{each_append, each_weaker, each_from_in, in_each, cond_cases}
 use Rattle.canvas_backend.specs.Roster.{roster_of, members as roster_members}
 
@@ -61,6 +62,19 @@ ones (suc n) f l = let r = ones n f l in let h = l (suc n) in omega (arith, r, h
 -- Where each element is of some number up to n, and no number has two, there are n + 1 at most.
 spread : {A : Type 0} (w : A → ℕ) (v : ℕ → A → ℕ) (n : ℕ) (xs : List A) → Each (λ x. w x ≤ sum_to n (λ k. v k x)) xs → ((k : ℕ) → total (v k) xs ≤ 1) → total w xs ≤ suc n
 spread {A} w v n xs each one = let a = below xs each in let b = ones n (λ k. total (v k) xs) one in omega (arith, a, b)
+  where
+    below : (ys : List A) → Each (λ x. w x ≤ sum_to n (λ k. v k x)) ys → total w ys ≤ sum_to n (λ k. total (v k) ys)
+    below [] e = omega arith
+    below (y ∷ ys) e = let r = below ys e.1 in omega (arith, r, e.0, sum_to-both n (λ k. v k y) (λ k. total (v k) ys))
+
+-- the same where a number may have some more
+spread_by : {A : Type 0} (w : A → ℕ) (v : ℕ → A → ℕ) (g : ℕ → ℕ) (n : ℕ) (xs : List A) → Each (λ x. w x ≤ sum_to n (λ k. v k x)) xs → ((k : ℕ) → total (v k) xs ≤ 1 + g k) → total w xs ≤ suc n + sum_to n g
+spread_by {A} w v g n xs each one =
+    let a = below xs each in
+    let b = sum_to-le n (λ k. total (v k) xs) (λ k. 1 + g k) one in
+    let c = sum_to-both n (λ k. 1) g in
+    let d = ones n (λ k. 1) (λ k. omega arith) in
+    omega (arith, a, b, c, d)
   where
     below : (ys : List A) → Each (λ x. w x ≤ sum_to n (λ k. v k x)) ys → total w ys ≤ sum_to n (λ k. total (v k) ys)
     below [] e = omega arith
@@ -86,12 +100,19 @@ total-seconds : {A : Type 0} (w : A → ℕ) (xs : List (ℕ × A)) → total (�
 total-seconds w [] = refl
 total-seconds w (x ∷ xs) = ap (λ k. w x.1 + k) (total-seconds w xs)
 
--- what is taken was published
-takes_few : (q : List Envelope) (cs : List (BrokerCall Envelope)) → IsQueue q cs → total takes_one cs ≤ length q + total publishing cs
-takes_few q [] k = omega arith
-takes_few q (published e ∷ cs) k = let r = takes_few (q ++ e ∷ []) cs k in omega (arith, r, length-append q (e ∷ []))
-takes_few q (took None ∷ cs) k = let r = takes_few q cs k.1 in omega (arith, r)
-takes_few q (took (Some e) ∷ cs) (rest, same, k) = let r = takes_few rest cs k in let many : length q ≡ suc (length rest) = ap length same in omega (arith, r, many)
+-- 1 where the call delivers an envelope again
+abbrev redelivering : BrokerCall Envelope → ℕ
+redelivering (published e) = 0
+redelivering (took x) = 0
+redelivering (again e) = 1
+
+-- what is taken was published or delivered again
+takes_few : (ts q : List Envelope) (cs : List (BrokerCall Envelope)) → IsQueue ts q cs → total takes_one cs ≤ length q + total publishing cs + total redelivering cs
+takes_few ts q [] k = omega arith
+takes_few ts q (published e ∷ cs) k = let r = takes_few ts (q ++ e ∷ []) cs k in omega (arith, r, length-append q (e ∷ []))
+takes_few ts q (again e ∷ cs) k = let r = takes_few ts (q ++ e ∷ []) cs k.1 in omega (arith, r, length-append q (e ∷ []))
+takes_few ts q (took None ∷ cs) k = let r = takes_few ts q cs k.1 in omega (arith, r)
+takes_few ts q (took (Some e) ∷ cs) (rest, same, k) = let r = takes_few (e ∷ ts) rest cs k in let many : length q ≡ suc (length rest) = ap length same in omega (arith, r, many)
 
 abbrev pub keeping_one : BackendCall Outcome → ℕ
 keeping_one (stored t o b) = 1
@@ -113,58 +134,77 @@ at_within i [] t e = absurd cc
 at_within zero (x ∷ xs) t e = omega arith
 at_within (suc i) (x ∷ xs) t e = let r = at_within i xs t e in omega (arith, r)
 
-module _ (registry : Registry) (l : Line) where
+module _ (behaviour : Behaviour) (l : Line) where
   -- whether a step is a call
   abbrev pub in_queue : (BrokerCall Envelope → ℕ) → AskedAndAnswered Envelope Outcome → ℕ
-  in_queue w y = total w (broker_call y.0 y.1)
+  in_queue w y = total w (worker_call y.0 y.1)
 
   abbrev pub in_table : (BackendCall Outcome → ℕ) → AskedAndAnswered Envelope Outcome → ℕ
   in_table w y = total w (backend_call y.0 y.1)
 
+  -- or an acknowledgement
+  abbrev pub acks_one : Ask Envelope Outcome → Reply Envelope Outcome → ℕ
+  acks_one ack acked = 1
+  acks_one a r = 0
+
   abbrev pub calls_of : AskedAndAnswered Envelope Outcome → ℕ
-  calls_of y = (in_queue publishing y + in_queue takes_one y) + (in_table keeping_one y + in_table returning y + in_table reading_one y)
+  calls_of y = (in_queue publishing y + in_queue takes_one y) + (in_table keeping_one y + in_table returning y + in_table reading_one y) + acks_one y.0 y.1 + redelivers_one y.0
 
   abbrev pub calls_in : List Step → ℕ
   calls_in xs = total (λ x. calls_of x.1) xs
 
-  lines_total : (w : BrokerCall Envelope → ℕ) (xs : List Step) → total w (seconds (queue_calls (queue_lines registry l xs))) ≡ total (λ x. in_queue w x.1) xs
+  lines_total : (w : BrokerCall Envelope → ℕ) (xs : List Step) → total w (seconds (queue_calls (queue_lines behaviour l xs))) ≡ total (λ x. in_queue w x.1) xs
   lines_total w [] = refl
   lines_total w (x ∷ xs) =
-      let call : List (BrokerCall Envelope) = broker_call x.1.0 x.1.1 in
-      ap (λ g. total w (seconds g)) (queue_calls_append (broker_entries x.0 call) (queue_lines registry l xs) ∙ ap (λ g. g ++ queue_calls (queue_lines registry l xs)) (queue_calls_entries x.0 call (call_stood registry l x.1.0 x.1.1)))
-      ∙ (ap (total w) (seconds-append (tag x.0 call) (queue_calls (queue_lines registry l xs)))
-      ∙ (total-append w (seconds (tag x.0 call)) (seconds (queue_calls (queue_lines registry l xs))) ∙ ap₂ (λ a b. a + b) (total-tag w x.0 call) (lines_total w xs)))
+      let call : List (BrokerCall Envelope) = worker_call x.1.0 x.1.1 in
+      ap (λ g. total w (seconds g)) (queue_calls_append (broker_entries x.0 call) (queue_lines behaviour l xs) ∙ ap (λ g. g ++ queue_calls (queue_lines behaviour l xs)) (queue_calls_entries x.0 call (call_stood behaviour l x.1.0 x.1.1)))
+      ∙ (ap (total w) (seconds-append (tag x.0 call) (queue_calls (queue_lines behaviour l xs)))
+      ∙ (total-append w (seconds (tag x.0 call)) (seconds (queue_calls (queue_lines behaviour l xs))) ∙ ap₂ (λ a b. a + b) (total-tag w x.0 call) (lines_total w xs)))
 
-  rows_total : (w : BackendCall Outcome → ℕ) (xs : List Step) → total w (seconds (table_calls (table_lines registry l xs))) ≡ total (λ x. in_table w x.1) xs
+  rows_total : (w : BackendCall Outcome → ℕ) (xs : List Step) → total w (seconds (table_calls (table_lines behaviour l xs))) ≡ total (λ x. in_table w x.1) xs
   rows_total w [] = refl
   rows_total w (x ∷ xs) =
       let call : List (BackendCall Outcome) = backend_call x.1.0 x.1.1 in
-      ap (λ g. total w (seconds g)) (table_calls_append (backend_entries x.0 call) (table_lines registry l xs) ∙ ap (λ g. g ++ table_calls (table_lines registry l xs)) (table_calls_rows x.0 call))
-      ∙ (ap (total w) (seconds-append (tag x.0 call) (table_calls (table_lines registry l xs)))
-      ∙ (total-append w (seconds (tag x.0 call)) (seconds (table_calls (table_lines registry l xs))) ∙ ap₂ (λ a b. a + b) (total-tag w x.0 call) (rows_total w xs)))
+      ap (λ g. total w (seconds g)) (table_calls_append (backend_entries x.0 call) (table_lines behaviour l xs) ∙ ap (λ g. g ++ table_calls (table_lines behaviour l xs)) (table_calls_rows x.0 call))
+      ∙ (ap (total w) (seconds-append (tag x.0 call) (table_calls (table_lines behaviour l xs)))
+      ∙ (total-append w (seconds (tag x.0 call)) (seconds (table_calls (table_lines behaviour l xs))) ∙ ap₂ (λ a b. a + b) (total-tag w x.0 call) (rows_total w xs)))
 
-  queue_total : (w : BrokerCall Envelope → ℕ) (n : ℕ) (xs : List Step) → total (λ x. in_queue w x.1) xs ≤ total w (seconds (queue_calls (queue_log registry l n xs)))
-  queue_total w n xs =
-      let opening = broker_entries 0 (published_all (first_envelopes registry l)) in
-      let same : total w (seconds (queue_calls (queue_log registry l n xs))) ≡ total w (published_all (first_envelopes registry l)) + total (λ x. in_queue w x.1) xs =
-      ap (λ g. total w (seconds g)) (queue_calls_append (splits_of (round n)) (opening ++ queue_lines registry l xs) ∙ ap (λ g. g ++ queue_calls (opening ++ queue_lines registry l xs)) (queue_calls_splits (round n)))
-      ∙ (ap (λ g. total w (seconds g)) (queue_calls_append opening (queue_lines registry l xs) ∙ ap (λ g. g ++ queue_calls (queue_lines registry l xs)) (queue_calls_entries 0 (published_all (first_envelopes registry l)) (stood_all (first_envelopes registry l))))
-      ∙ (ap (total w) (seconds-append (tag 0 (published_all (first_envelopes registry l))) (queue_calls (queue_lines registry l xs)))
-      ∙ (total-append w (seconds (tag 0 (published_all (first_envelopes registry l)))) (seconds (queue_calls (queue_lines registry l xs))) ∙ ap₂ (λ a b. a + b) (total-tag w 0 (published_all (first_envelopes registry l))) (lines_total w xs)))) in
-      omega (arith, same)
+  pub queue_split : (w : BrokerCall Envelope → ℕ) (n : ℕ) (xs : List Step) → total w (seconds (queue_calls (queue_log behaviour l n xs))) ≡ total w (published_all (first_envelopes behaviour l)) + total (λ x. in_queue w x.1) xs
+  queue_split w n xs =
+      let opening = broker_entries 0 (published_all (first_envelopes behaviour l)) in
+      ap (λ g. total w (seconds g)) (queue_calls_append (splits_of (round n)) (opening ++ queue_lines behaviour l xs) ∙ ap (λ g. g ++ queue_calls (opening ++ queue_lines behaviour l xs)) (queue_calls_splits (round n)))
+      ∙ (ap (λ g. total w (seconds g)) (queue_calls_append opening (queue_lines behaviour l xs) ∙ ap (λ g. g ++ queue_calls (queue_lines behaviour l xs)) (queue_calls_entries 0 (published_all (first_envelopes behaviour l)) (stood_all (first_envelopes behaviour l))))
+      ∙ (ap (total w) (seconds-append (tag 0 (published_all (first_envelopes behaviour l))) (queue_calls (queue_lines behaviour l xs)))
+      ∙ (total-append w (seconds (tag 0 (published_all (first_envelopes behaviour l)))) (seconds (queue_calls (queue_lines behaviour l xs))) ∙ ap₂ (λ a b. a + b) (total-tag w 0 (published_all (first_envelopes behaviour l))) (lines_total w xs))))
 
-  table_total : (w : BackendCall Outcome → ℕ) (n : ℕ) (xs : List Step) → total w (seconds (table_calls (table_log registry l n xs))) ≡ total (λ x. in_table w x.1) xs
+  queue_total : (w : BrokerCall Envelope → ℕ) (n : ℕ) (xs : List Step) → total (λ x. in_queue w x.1) xs ≤ total w (seconds (queue_calls (queue_log behaviour l n xs)))
+  queue_total w n xs = let same = queue_split w n xs in omega (arith, same)
+
+  -- what redeliveries have no part in
+  scripts_total : (w : AskedAndAnswered Envelope Outcome → ℕ) → ((e : Envelope) (r : Reply Envelope Outcome) → w (deliver e, r) ≡ 0) → (ys : List (AskedAndAnswered Envelope Outcome)) → total w (scripts_of ys) ≡ total w ys
+  scripts_total w none [] = refl
+  scripts_total w none (y ∷ ys) = go y.0 y.1 (scripts_total w none ys)
+    where
+      go : (a : Ask Envelope Outcome) (r : Reply Envelope Outcome) → total w (scripts_of ys) ≡ total w ys → total w (scripts_of ((a, r) ∷ ys)) ≡ w (a, r) + total w ys
+      go (deliver e) r k = let z = none e r in omega (arith, k, z)
+      go a r k = ap (λ m. w (a, r) + m) k
+
+  no_take : (e : Envelope) (r : Reply Envelope Outcome) → in_queue takes_one (deliver e, r) ≡ 0
+  no_take e sent = refl
+  no_take e r = refl
+
+  pub table_total : (w : BackendCall Outcome → ℕ) (n : ℕ) (xs : List Step) → total w (seconds (table_calls (table_log behaviour l n xs))) ≡ total (λ x. in_table w x.1) xs
   table_total w n xs =
-      ap (λ g. total w (seconds g)) (table_calls_append (splits_of (round n)) (table_lines registry l xs) ∙ ap (λ g. g ++ table_calls (table_lines registry l xs)) (table_calls_splits (round n)))
+      ap (λ g. total w (seconds g)) (table_calls_append (splits_of (round n)) (table_lines behaviour l xs) ∙ ap (λ g. g ++ table_calls (table_lines behaviour l xs)) (table_calls_splits (round n)))
       ∙ rows_total w xs
 
-  parts_sum : (xs : List Step) → calls_in xs ≡ (total (λ x. in_queue publishing x.1) xs + total (λ x. in_queue takes_one x.1) xs) + (total (λ x. in_table keeping_one x.1) xs + total (λ x. in_table returning x.1) xs + total (λ x. in_table reading_one x.1) xs)
+  parts_sum : (xs : List Step) → calls_in xs ≡ (total (λ x. in_queue publishing x.1) xs + total (λ x. in_queue takes_one x.1) xs) + (total (λ x. in_table keeping_one x.1) xs + total (λ x. in_table returning x.1) xs + total (λ x. in_table reading_one x.1) xs) + total (λ x. acks_one x.1.0 x.1.1) xs + redeliveries_in xs
   parts_sum [] = refl
   parts_sum (x ∷ xs) = let r = parts_sum xs in omega (arith, r)
 
-module _ (registry : Registry) (l : Line) (n : ℕ) (us : List ℕ) (xs : List Step) (t : ByTurns registry l n us xs) where
-  abbrev R : Run registry l
-  R = the_run registry l n us xs t
+module _ (behaviour : Behaviour) (l : Line) (n : ℕ) (us : List ℕ) (xs : List Step) (t : ByTurns behaviour l n us xs) where
+  abbrev R : Run behaviour l
+  R = the_run behaviour l n us xs t
 
   abbrev Q : List (BrokerCall Envelope)
   Q = seconds (queue_calls R.queue)
@@ -175,38 +215,152 @@ module _ (registry : Registry) (l : Line) (n : ℕ) (us : List ℕ) (xs : List S
   abbrev T : ℕ
   T = count_line l
 
-  abbrev F : Form (X registry l t.plan)
-  F = form registry l t.plan
+  abbrev F : Form (X behaviour l t.plan)
+  F = form behaviour l t.plan
 
-  abbrev G : Goods (worker registry l)
-  G = right_goods (X registry l t.plan) (form registry l t.plan) (Does registry l t.plan)
+  abbrev G : Goods (worker behaviour l)
+  G = right_goods (X behaviour l t.plan) (form behaviour l t.plan) (Does behaviour l t.plan)
+
+  -- ---- redeliveries
+
+  abbrev again_total : ℕ
+  again_total = redeliveries_in xs
+
+  pub redelivers_few : total redelivering Q ≤ again_total
+  redelivers_few =
+      let opening = broker_entries 0 (published_all (first_envelopes behaviour l)) in
+      let lines = lines_total behaviour l redelivering xs in
+      let first = none_opened (first_envelopes behaviour l) in
+      let same : total redelivering Q ≡ total redelivering (published_all (first_envelopes behaviour l)) + total (λ x. in_queue behaviour l redelivering x.1) xs = queue_split behaviour l redelivering n xs in
+      let each = fewer xs in
+      omega (arith, lines, first, same, each)
+    where
+      none_opened : (es : List Envelope) → total redelivering (published_all es) ≡ 0
+      none_opened [] = refl
+      none_opened (e ∷ es) = let r = none_opened es in omega (arith, r)
+
+      one : (a : Ask Envelope Outcome) (r : Reply Envelope Outcome) → total redelivering (worker_call a r) ≤ redelivers_one a
+      one (deliver e) sent = omega arith
+      one (deliver e) r = omega arith
+      one take (taken (Some e)) = omega arith
+      one (send e) sent = omega arith
+      one a r = omega arith
+
+      fewer : (ys : List Step) → total (λ x. in_queue behaviour l redelivering x.1) ys ≤ redeliveries_in ys
+      fewer [] = omega arith
+      fewer (y ∷ ys) = let h = one y.1.0 y.1.1 in let r = fewer ys in omega (arith, h, r)
+
+  -- of one task at most each
+  pub again_sum : (m : ℕ) → sum_to m (λ k. total (agains_task (X behaviour l t.plan) k) Q) ≤ total redelivering Q
+  again_sum m = go Q
+    where
+      bit : (b : Bool) → cond b 1 0 ≤ 1
+      bit true = omega arith
+      bit false = omega arith
+
+      at_most : (j m : ℕ) → sum_to m (λ k. cond (eqb j k) 1 0) ≤ 1
+      at_most j m = upto m (cases_lt m j)
+        where
+          below : (m : ℕ) → m < j → sum_to m (λ k. cond (eqb j k) 1 0) ≡ 0
+          below zero h = ap (λ b. cond b 1 0) (ne_eqb j 0 (λ e. omega (arith, h, e)))
+          below (suc m) h = let r = below m (omega (arith, h)) in let z : ◌≡◌ {A = ℕ} (cond (eqb j (suc m)) 1 0) 0 = ap (λ b. cond b 1 0) (ne_eqb j (suc m) (λ e. omega (arith, h, e))) in omega (arith, r, z)
+
+          upto : (m : ℕ) → (m < j) ⊎ (j ≤ m) → sum_to m (λ k. cond (eqb j k) 1 0) ≤ 1
+          upto m (inl h) = let r = below m h in omega (arith, r)
+          upto zero (inr h) = bit (eqb j 0)
+          upto (suc m) (inr h) = ⊎_elim (λ b. let r = below m b in let z = bit (eqb j (suc m)) in omega (arith, r, z)) (λ b. let r = upto m (inr b) in let z : ◌≡◌ {A = ℕ} (cond (eqb j (suc m)) 1 0) 0 = ap (λ b. cond b 1 0) (ne_eqb j (suc m) (λ e. omega (arith, b, e))) in omega (arith, r, z)) (cases_lt m j)
+
+      zeros : (m : ℕ) → sum_to m (λ k. 0) ≡ 0
+      zeros zero = refl
+      zeros (suc m) = let r = zeros m in omega (arith, r)
+
+      opened_few : (x : Option Content) → sum_to m (λ k. of_opened (X behaviour l t.plan) k x) ≤ 1
+      opened_few None = let z = zeros m in omega (arith, z)
+      opened_few (Some c) = at_most (number_of c.own) m
+
+      one : (c : BrokerCall Envelope) → sum_to m (λ k. agains_task (X behaviour l t.plan) k c) ≤ redelivering c
+      one (published e) = let z = zeros m in omega (arith, z)
+      one (took x) = let z = zeros m in omega (arith, z)
+      one (again e) = opened_few (opened (book_of l) e)
+
+      go : (cs : List (BrokerCall Envelope)) → sum_to m (λ k. total (agains_task (X behaviour l t.plan) k) cs) ≤ total redelivering cs
+      go [] = let z = zeros m in omega (arith, z)
+      go (c ∷ cs) = let h = one c in let r = go cs in let s = sum_to-both m (λ k. agains_task (X behaviour l t.plan) k c) (λ k. total (agains_task (X behaviour l t.plan) k) cs) in omega (arith, h, r, s)
+
+  -- ---- acknowledgements
+
+  abbrev open_one : Bool → ℕ
+  open_one true = 1
+  open_one false = 0
+
+  abbrev Acks : Doing (worker behaviour l) → Reply Envelope Outcome → Type 0
+  Acks s r = acks_one behaviour l (ask (worker behaviour l) s) r + open_one (is_inside (answered (worker behaviour l) s r)) ≤ open_one (is_inside s) + in_queue behaviour l takes_one (ask (worker behaviour l) s, r)
+
+  at_most_open : (b : Bool) → open_one b ≤ 1
+  at_most_open true = omega arith
+  at_most_open false = omega arith
+
+  acks_step : (s : Doing (worker behaviour l)) (r : Reply Envelope Outcome) → Suits (ask (worker behaviour l) s) r → Acks s r
+  acks_step taking (taken None) u = omega arith
+  acks_step taking (taken (Some e)) u = let h = at_most_open (is_inside (opens (worker behaviour l) ((worker behaviour l).opened e))) in omega (arith, h)
+  acks_step resting (rested true) u = omega arith
+  acks_step resting (rested false) u = omega arith
+  acks_step (owning m) (kept b) u = let h = at_most_open (is_inside (answered (worker behaviour l) (owning m) (kept b))) in omega (arith, h)
+  acks_step (doing (store v o ∷ js) d) (kept b) u = let h = at_most_open (is_inside (answered (worker behaviour l) (doing (store v o ∷ js) d) (kept b))) in omega (arith, h)
+  acks_step (doing (publish m ∷ js) d) sent u = let h = at_most_open (is_inside (answered (worker behaviour l) (doing (publish m ∷ js) d) sent)) in omega (arith, h)
+  acks_step (doing (publish m ∷ js) d) refused u = omega arith
+  acks_step (doing (hand_in g v c ∷ js) d) (counted i) u = let h = at_most_open (is_inside (answered (worker behaviour l) (doing (hand_in g v c ∷ js) d) (counted i))) in omega (arith, h)
+  acks_step (reading g c fs) (found v x) u = let h = at_most_open (is_inside (answered (worker behaviour l) (reading g c fs) (found v x))) in omega (arith, h)
+  acks_step acking acked u = omega arith
+  acks_step s r u = elim u [ ]
+
+  acks_of : (s : Doing (worker behaviour l)) (ys : List (AskedAndAnswered Envelope Outcome)) → IsCoreRun (worker behaviour l) s ys → total (λ y. acks_one behaviour l y.0 y.1) ys ≤ open_one (is_inside s) + total (in_queue behaviour l takes_one) ys
+  acks_of s [] c = omega arith
+  acks_of s (y ∷ ys) c =
+      let now : acks_one behaviour l y.0 y.1 + open_one (is_inside (answered (worker behaviour l) s y.1)) ≤ open_one (is_inside s) + in_queue behaviour l takes_one (y.0, y.1) =
+      subst (λ a. acks_one behaviour l a y.1 + open_one (is_inside (answered (worker behaviour l) s y.1)) ≤ open_one (is_inside s) + in_queue behaviour l takes_one (a, y.1)) (sym c.0)
+      (acks_step s y.1 (subst (λ a. Suits a y.1) c.0 c.1.0)) in
+      let later = acks_of (answered (worker behaviour l) s y.1) ys c.2 in
+      omega (arith, now, later)
+
+  acks_few : total (λ x. acks_one behaviour l x.1.0 x.1.1) xs ≤ total (λ x. in_queue behaviour l takes_one x.1) xs
+  acks_few =
+      let below : Each (λ (x : Step). x.0 ≤ n) xs = each_weaker (λ x w. w.1) xs (holds behaviour l n us xs t).workers in
+      let a = total-seconds (λ y. acks_one behaviour l y.0 y.1) xs ∙ total_by (λ y. acks_one behaviour l y.0 y.1) n xs below in
+      let b = total-seconds (in_queue behaviour l takes_one) xs ∙ total_by (in_queue behaviour l takes_one) n xs below in
+      let c = sum_to-le n (λ p. total (λ y. acks_one behaviour l y.0 y.1) (by p xs)) (λ p. total (in_queue behaviour l takes_one) (by p xs)) (λ p. let h = acks_of taking (scripts_of (by p xs)) (R.is_core p) in let i = scripts_total behaviour l (λ (y : AskedAndAnswered Envelope Outcome). acks_one behaviour l y.0 y.1) (λ e r. refl) (by p xs) in let j = scripts_total behaviour l (in_queue behaviour l takes_one) (no_take behaviour l) (by p xs) in omega (arith, h, i, j)) in
+      omega (arith, a, b, c)
 
   -- ---- publishes
 
-  run_task : (c : Content) → F.Formed c → IsRun (X registry l t.plan) (Does registry l t.plan) c → number_of c.own ≤ T
-  run_task c f r = (state_task registry l t.plan (number_of c.own) ((worker registry l).outcome c) (has_state registry l t.plan (number_of c.own) ((worker registry l).outcome c) (running (number_of c.own), (value registry l t.plan).own c r))).1
+  run_task : (c : Content) → F.Formed c → IsRun (X behaviour l t.plan) (Does behaviour l t.plan) c → number_of c.own ≤ T
+  run_task c f r = (state_task behaviour l t.plan (number_of c.own) ((worker behaviour l).outcome c) (has_state behaviour l t.plan (number_of c.own) ((worker behaviour l).outcome c) (running (number_of c.own), (value behaviour l t.plan).own c r))).1
 
-  publish_picked : (c : BrokerCall Envelope) → GoodPublish (IsRunSealed (X registry l t.plan) (form registry l t.plan) (Does registry l t.plan) (order registry l t.plan) (value registry l t.plan) (inner_run registry l t.plan R)) c → publishing c ≤ sum_to T (λ k. publishes_one l k c)
+  publish_picked : (c : BrokerCall Envelope) → GoodPublish (IsRunSealed (X behaviour l t.plan) (form behaviour l t.plan) (Does behaviour l t.plan) (order behaviour l t.plan) (value behaviour l t.plan) (inner_run behaviour l t.plan R)) c → publishing c ≤ sum_to T (λ k. publishes_one l k c)
   publish_picked (took x) g = omega arith
+  publish_picked (again e) g = omega arith
   publish_picked (published e) (m, same, back, formed, runs) =
-      let opens : opened (book_of l) e ≡ Some m = ap (opened (book_of l)) same ∙ (order registry l t.plan).opened m formed back in
+      let opens : opened (book_of l) e ≡ Some m = ap (opened (book_of l)) same ∙ (order behaviour l t.plan).opened m formed back in
       subst (λ o. 1 ≤ sum_to T (λ k. of_task l k o)) (sym opens) (picked T (number_of m.own) (run_task m formed runs))
 
   publishes_few : total publishing Q ≤ suc T
   publishes_few =
       spread publishing (publishes_one l) T Q
-      (each_weaker publish_picked Q (each_seconds (GoodPublish (IsRunSealed (X registry l t.plan) (form registry l t.plan) (Does registry l t.plan) (order registry l t.plan) (value registry l t.plan) (inner_run registry l t.plan R))) (queue_calls R.queue)
-      (publishes_right (X registry l t.plan) (form registry l t.plan) (Does registry l t.plan) (order registry l t.plan) (value registry l t.plan) (inner_run registry l t.plan R))))
-      (λ k. (first_part registry l t.plan R).published_once k)
+      (each_weaker publish_picked Q (each_seconds (GoodPublish (IsRunSealed (X behaviour l t.plan) (form behaviour l t.plan) (Does behaviour l t.plan) (order behaviour l t.plan) (value behaviour l t.plan) (inner_run behaviour l t.plan R))) (queue_calls R.queue)
+      (publishes_right (X behaviour l t.plan) (form behaviour l t.plan) (Does behaviour l t.plan) (order behaviour l t.plan) (value behaviour l t.plan) (inner_run behaviour l t.plan R))))
+      (λ k. (first_part behaviour l t.plan R).published_once k)
 
   -- ---- stores
 
-  stores_few : total keeping_one B ≤ suc T
-  stores_few = spread keeping_one (stores_task (X registry l t.plan)) T B (each_from_in B stored_picked)
-      (λ k. kept_once (X registry l t.plan) (form registry l t.plan) (Does registry l t.plan) (order registry l t.plan) (value registry l t.plan) (once registry l t.plan) (keeping registry l t.plan) (inner_run registry l t.plan R) k)
+  stores_few : total keeping_one B ≤ suc T + total redelivering Q
+  stores_few =
+      let a = spread_by keeping_one (stores_task (X behaviour l t.plan)) (λ k. total (agains_task (X behaviour l t.plan) k) Q) T B (each_from_in B stored_picked)
+      (λ k. kept_few (X behaviour l t.plan) (form behaviour l t.plan) (Does behaviour l t.plan) (order behaviour l t.plan) (value behaviour l t.plan) (once behaviour l t.plan) (keeping behaviour l t.plan) (inner_run behaviour l t.plan R) k) in
+      let c = again_sum T in
+      omega (arith, a, c)
     where
-      stored_picked : (c : BackendCall Outcome) → In c B → keeping_one c ≤ sum_to T (λ k. stores_task (X registry l t.plan) k c)
-      stored_picked (stored u o b) i = picked T u (state_task registry l t.plan u o (has_state registry l t.plan u o (stored_right registry l t.plan R u o b i))).1
+      stored_picked : (c : BackendCall Outcome) → In c B → keeping_one c ≤ sum_to T (λ k. stores_task (X behaviour l t.plan) k c)
+      stored_picked (stored u o b) i = picked T u (state_task behaviour l t.plan u o (has_state behaviour l t.plan u o (stored_right behaviour l t.plan R u o b i))).1
       stored_picked (returned g u m) i = omega arith
       stored_picked (has_read u x) i = omega arith
 
@@ -217,27 +371,27 @@ module _ (registry : Registry) (l : Line) (n : ℕ) (us : List ℕ) (xs : List S
   OfMember (returned g u m) = In u (members l g)
   OfMember (has_read u x) = Unit {0}
 
-  member_step : (a : Ask Envelope Outcome) (r : Reply Envelope Outcome) → GoodAsk (worker registry l) G a → Each OfMember (backend_call a r)
+  member_step : (a : Ask Envelope Outcome) (r : Reply Envelope Outcome) → GoodAsk (worker behaviour l) G a → Each OfMember (backend_call a r)
   member_step (keep u o) (kept b) g = (tt, tt)
-  member_step (part h u) (counted m) g = ((order registry l t.plan).member h u g.0 g.1.0, tt)
+  member_step (part h u) (counted m) g = ((order behaviour l t.plan).member h u g.0 g.1.0, tt)
   member_step (read h i) (found u x) g = (tt, tt)
   member_step a r g = tt
 
-  member_steps : (ys : List (AskedAndAnswered Envelope Outcome)) → Each (λ y. GoodAsk (worker registry l) G y.0) ys → Each OfMember (backend_calls ys)
+  member_steps : (ys : List (AskedAndAnswered Envelope Outcome)) → Each (λ y. GoodAsk (worker behaviour l) G y.0) ys → Each OfMember (backend_calls ys)
   member_steps [] g = tt
   member_steps (y ∷ ys) g = each_append OfMember _ _ (member_step y.0 y.1 g.0) (member_steps ys g.1)
 
-  its_answers : (p : ℕ) → Each (λ (y : AskedAndAnswered Envelope Outcome). GoodAnswer (worker registry l) G y.1) (by p xs)
-  its_answers p = answers_right (X registry l t.plan) (form registry l t.plan) (Does registry l t.plan) (order registry l t.plan) (value registry l t.plan) (inner_run registry l t.plan R) p
+  its_answers : (p : ℕ) → Each (λ (y : AskedAndAnswered Envelope Outcome). GoodAnswer (worker behaviour l) G y.1) (scripts_of (by p xs))
+  its_answers p = answers_right (X behaviour l t.plan) (form behaviour l t.plan) (Does behaviour l t.plan) (order behaviour l t.plan) (value behaviour l t.plan) (inner_run behaviour l t.plan R) p
 
-  abbrev its_closed : Closed (worker registry l) G
-  its_closed = right_closed (X registry l t.plan) (form registry l t.plan) (Does registry l t.plan) (order registry l t.plan) (value registry l t.plan)
+  abbrev its_closed : Closed (worker behaviour l) G
+  its_closed = right_closed (X behaviour l t.plan) (form behaviour l t.plan) (Does behaviour l t.plan) (order behaviour l t.plan) (value behaviour l t.plan)
 
-  its_asks : (p : ℕ) → Each (λ (y : AskedAndAnswered Envelope Outcome). GoodAsk (worker registry l) G y.0) (by p xs)
-  its_asks p = goods_from_careful (worker registry l) G (by p xs) (keeps (worker registry l) G its_closed taking (by p xs) tt (R.is_core p) (R.reads p)) (its_answers p)
+  its_asks : (p : ℕ) → Each (λ (y : AskedAndAnswered Envelope Outcome). GoodAsk (worker behaviour l) G y.0) (scripts_of (by p xs))
+  its_asks p = goods_from_careful (worker behaviour l) G (scripts_of (by p xs)) (keeps (worker behaviour l) G its_closed taking (scripts_of (by p xs)) tt (R.is_core p) (R.reads p)) (its_answers p)
 
   all_members : Each OfMember B
-  all_members = each_from_by OfMember (table_calls R.table) (λ p. subst (Each OfMember) (sym (table_by registry l n xs p)) (member_steps (by p xs) (its_asks p)))
+  all_members = each_from_by OfMember (table_calls R.table) (λ p. subst (Each OfMember) (sym (table_by behaviour l n xs p ∙ backend_scripts (by p xs))) (member_steps (scripts_of (by p xs)) (its_asks p)))
 
   some_times : (g u : ℕ) → In u (members l g) → 0 < times l u g
   some_times g u i = let some = (member_test u (members l g)).0 (among_members u (members l g) i) in omega (arith, some)
@@ -269,7 +423,7 @@ module _ (registry : Registry) (l : Line) (n : ℕ) (us : List ℕ) (xs : List S
       heavy (returned g u m) i d =
           let here : In k (members l g) = subst (λ v. In v (members l g)) (named u (eqb u k) refl d) (in_each OfMember B all_members (returned g u m) i) in
           let a = total-le-each (part_by k) (part_of g k) B (each_weaker (few g here) B all_members) in
-          let b = (part_once g k [] [] B (inner_run registry l t.plan R).table).0 in
+          let b = (part_once g k [] [] B (inner_run behaviour l t.plan R).table).0 in
           omega (arith, a, b)
       heavy (has_read u x) i d = absurd (d refl)
 
@@ -283,7 +437,7 @@ module _ (registry : Registry) (l : Line) (n : ℕ) (us : List ℕ) (xs : List S
 
   -- ---- reads: those of the header that is read are still to come
 
-  abbrev Still : Doing (worker registry l) → ℕ → Type 0
+  abbrev Still : Doing (worker behaviour l) → ℕ → Type 0
   Still (reading g c fs) k = length fs + k ≡ c.size
   Still s k = k ≡ 0
 
@@ -291,11 +445,11 @@ module _ (registry : Registry) (l : Line) (n : ℕ) (us : List ℕ) (xs : List S
   Y = AskedAndAnswered Envelope Outcome
 
   -- what a step reads, and what is still to be read behind it, is covered by what was to be read and by the parts that it returns
-  abbrev Covers : Doing (worker registry l) → Reply Envelope Outcome → Type 0
+  abbrev Covers : Doing (worker behaviour l) → Reply Envelope Outcome → Type 0
   Covers s r =
-      (k : ℕ) → Still s k → (j : ℕ) × Still (answered (worker registry l) s r) j × (in_table registry l reading_one (ask (worker registry l) s, r) + j ≤ k + T * in_table registry l returning (ask (worker registry l) s, r))
+      (k : ℕ) → Still s k → (j : ℕ) × Still (answered (worker behaviour l) s r) j × (in_table behaviour l reading_one (ask (worker behaviour l) s, r) + j ≤ k + T * in_table behaviour l returning (ask (worker behaviour l) s, r))
 
-  settled_still : (js : Jobs (worker registry l)) (b : Bool) → Still (settled (worker registry l) js b) 0
+  settled_still : (js : Jobs (worker behaviour l)) (b : Bool) → Still (settled (worker behaviour l) js b) 0
   settled_still [] b = refl
   settled_still (store u o ∷ js) true = refl
   settled_still (store u o ∷ js) false = refl
@@ -304,7 +458,7 @@ module _ (registry : Registry) (l : Line) (n : ℕ) (us : List ℕ) (xs : List S
   settled_still (hand_in g u c ∷ js) true = refl
   settled_still (hand_in g u c ∷ js) false = refl
 
-  opens_still : (x : Option Content) → Still (opens (worker registry l) x) 0
+  opens_still : (x : Option Content) → Still (opens (worker behaviour l) x) 0
   opens_still None = refl
   opens_still (Some m) = refl
 
@@ -312,68 +466,71 @@ module _ (registry : Registry) (l : Line) (n : ℕ) (us : List ℕ) (xs : List S
   few_members g = (roster_sound l t.plan).few_members g
 
   header_few : (g u : ℕ) (c : PCarried) → F.FormedPart g u c → c.size ≤ T
-  header_few g u c f = let a = (order registry l t.plan).size g u c f in let b = few_members g in omega (arith, a, b)
+  header_few g u c f = let a = (order behaviour l t.plan).size g u c f in let b = few_members g in omega (arith, a, b)
 
-  covers : (s : Doing (worker registry l)) (r : Reply Envelope Outcome) → GoodState (worker registry l) G s → reads_member (roster_members (roster_of l)) (ask (worker registry l) s) r → Covers s r
+  covers : (s : Doing (worker behaviour l)) (r : Reply Envelope Outcome) → GoodState (worker behaviour l) G s → reads_member (roster_members (roster_of l)) (ask (worker behaviour l) s) r → Covers s r
   covers taking (taken None) p m k e = (0, refl, omega arith)
-  covers taking (taken (Some e)) p m k h = (0, opens_still ((worker registry l).opened e), omega arith)
+  covers taking (taken (Some e)) p m k h = (0, opens_still ((worker behaviour l).opened e), omega arith)
   covers resting (rested true) p m k e = (0, refl, omega arith)
-  covers (owning c) (kept true) p m k e = (0, settled_still ((worker registry l).ended c ((worker registry l).outcome c)) true, omega arith)
+  covers (owning c) (kept true) p m k e = (0, settled_still ((worker behaviour l).ended c ((worker behaviour l).outcome c)) true, omega arith)
   covers (owning c) (kept false) p m k e = (0, refl, omega arith)
   covers (doing (store u o ∷ js) b) (kept a) p m k e = (0, settled_still js (cond (is_due u js) a b), omega arith)
   covers (doing (publish c ∷ js) b) sent p m k e = (0, settled_still js b, omega arith)
   covers (doing (hand_in g u c ∷ js) b) (counted i) p m k e =
       let few = header_few g u c p.0.0 in
-      cond_cases (λ s. (j : ℕ) × Still s j × (0 + j ≤ k + T * (1 + 0))) (eqb (suc i) c.size) (reading g c []) taking
+      cond_cases (λ s. (j : ℕ) × Still s j × (0 + j ≤ k + T * (1 + 0))) (eqb (suc i) c.size) (reading g c []) acking
       (λ full. (c.size, omega arith, omega (arith, few)))
       (λ less. (0, refl, omega arith))
   covers (reading g c fs) (found u (Some o)) p m k e =
-      let many = (order registry l t.plan).size g p.0 c p.1.0 in
+      let many = (order behaviour l t.plan).size g p.0 c p.1.0 in
       let within = at_within (length fs) (members l g) u m in
       let more : length (fs ++ (u, o) ∷ []) ≡ length fs + 1 = length-append fs ((u, o) ∷ []) in
-      cond_cases (λ s. (j : ℕ) × Still s j × ((1 + 0) + j ≤ k + T * 0)) (eqb (length (fs ++ (u, o) ∷ [])) c.size) (settled (worker registry l) ((worker registry l).completed c (fs ++ (u, o) ∷ [])) false) (reading g c (fs ++ (u, o) ∷ []))
-      (λ full. (0, settled_still ((worker registry l).completed c (fs ++ (u, o) ∷ [])) false, omega (arith, many, within, e)))
+      cond_cases (λ s. (j : ℕ) × Still s j × ((1 + 0) + j ≤ k + T * 0)) (eqb (length (fs ++ (u, o) ∷ [])) c.size) (settled (worker behaviour l) ((worker behaviour l).completed c (fs ++ (u, o) ∷ [])) false) (reading g c (fs ++ (u, o) ∷ []))
+      (λ full. (0, settled_still ((worker behaviour l).completed c (fs ++ (u, o) ∷ [])) false, omega (arith, many, within, e)))
       (λ less. one_less k (length fs) c.size (length (fs ++ (u, o) ∷ [])) e more (omega (arith, many, within)))
     where
       one_less : (k a size b : ℕ) → a + k ≡ size → b ≡ a + 1 → a < size → (j : ℕ) × (b + j ≡ size) × ((1 + 0) + j ≤ k + T * 0)
       one_less zero a size b e f h = absurd (omega (arith, e, h))
       one_less (suc k) a size b e f h = (k, omega (arith, e, f), omega arith)
   covers (reading g c fs) (found u None) p m k e =
-      let many = (order registry l t.plan).size g p.0 c p.1.0 in
+      let many = (order behaviour l t.plan).size g p.0 c p.1.0 in
       let within = at_within (length fs) (members l g) u m in
       (0, refl, omega (arith, many, within, e))
+  covers acking acked p m k e = (0, refl, omega arith)
   covers s r p m k e = (0, refl, omega arith)
 
-  reads_of : (s : Doing (worker registry l)) (ys : List Y) → GoodState (worker registry l) G s → IsCoreRun (worker registry l) s ys → ReadsMembers (roster_members (roster_of l)) ys → Each (λ (y : Y). GoodAnswer (worker registry l) G y.1) ys → (k : ℕ) → Still s k
-      → total (in_table registry l reading_one) ys ≤ k + T * total (in_table registry l returning) ys
+  reads_of : (s : Doing (worker behaviour l)) (ys : List Y) → GoodState (worker behaviour l) G s → IsCoreRun (worker behaviour l) s ys → ReadsMembers (roster_members (roster_of l)) ys → Each (λ (y : Y). GoodAnswer (worker behaviour l) G y.1) ys → (k : ℕ) → Still s k
+      → total (in_table behaviour l reading_one) ys ≤ k + T * total (in_table behaviour l returning) ys
   reads_of s [] p c m a k e = omega arith
   reads_of s (y ∷ ys) p c m a k e =
       let mine = subst (λ z. reads_member (roster_members (roster_of l)) z y.1) c.0 m.0 in
       let step = covers s y.1 p mine k e in
-      let rest = reads_of (answered (worker registry l) s y.1) ys (next_good (worker registry l) G its_closed s y.1 p mine a.0) c.2 m.1 a.1 step.0 step.1 in
-      let step' : in_table registry l reading_one y + step.0 ≤ k + T * in_table registry l returning y = subst (λ z. in_table registry l reading_one (z, y.1) + step.0 ≤ k + T * in_table registry l returning (z, y.1)) (sym c.0) step.2 in
-      omega (arith, rest, step', mul-add T (in_table registry l returning y) (total (in_table registry l returning) ys))
+      let rest = reads_of (answered (worker behaviour l) s y.1) ys (next_good (worker behaviour l) G its_closed s y.1 p mine a.0) c.2 m.1 a.1 step.0 step.1 in
+      let step' : in_table behaviour l reading_one y + step.0 ≤ k + T * in_table behaviour l returning y = subst (λ z. in_table behaviour l reading_one (z, y.1) + step.0 ≤ k + T * in_table behaviour l returning (z, y.1)) (sym c.0) step.2 in
+      omega (arith, rest, step', mul-add T (in_table behaviour l returning y) (total (in_table behaviour l returning) ys))
 
-  reads_few : total (λ x. in_table registry l reading_one x.1) xs ≤ T * total (λ x. in_table registry l returning x.1) xs
+  reads_few : total (λ x. in_table behaviour l reading_one x.1) xs ≤ T * total (λ x. in_table behaviour l returning x.1) xs
   reads_few =
-      let below : Each (λ (x : Step). x.0 ≤ n) xs = each_weaker (λ x w. w.1) xs (holds registry l n us xs t).workers in
-      let a = total-seconds (in_table registry l reading_one) xs ∙ total_by (in_table registry l reading_one) n xs below in
-      let b = total-seconds (in_table registry l returning) xs ∙ total_by (in_table registry l returning) n xs below in
-      let c = sum_to-le n (λ p. total (in_table registry l reading_one) (by p xs)) (λ p. T * total (in_table registry l returning) (by p xs)) (λ p. let h = reads_of taking (by p xs) tt (R.is_core p) (R.reads p) (its_answers p) 0 refl in omega (arith, h)) in
-      let d = sum_to-times n T (λ p. total (in_table registry l returning) (by p xs)) in
-      let e : T * total (λ x. in_table registry l returning x.1) xs ≡ T * sum_to n (λ p. total (in_table registry l returning) (by p xs)) = ap (λ k. T * k) b in
+      let below : Each (λ (x : Step). x.0 ≤ n) xs = each_weaker (λ x w. w.1) xs (holds behaviour l n us xs t).workers in
+      let a = total-seconds (in_table behaviour l reading_one) xs ∙ total_by (in_table behaviour l reading_one) n xs below in
+      let b = total-seconds (in_table behaviour l returning) xs ∙ total_by (in_table behaviour l returning) n xs below in
+      let c = sum_to-le n (λ p. total (in_table behaviour l reading_one) (by p xs)) (λ p. T * total (in_table behaviour l returning) (by p xs)) (λ p. let h = reads_of taking (scripts_of (by p xs)) tt (R.is_core p) (R.reads p) (its_answers p) 0 refl in let i = scripts_total behaviour l (in_table behaviour l reading_one) (λ e r. refl) (by p xs) in let j = scripts_total behaviour l (in_table behaviour l returning) (λ e r. refl) (by p xs) in let q : T * total (in_table behaviour l returning) (scripts_of (by p xs)) ≡ T * total (in_table behaviour l returning) (by p xs) = ap (λ z. T * z) j in omega (i, q, arith, h)) in
+      let d = sum_to-times n T (λ p. total (in_table behaviour l returning) (by p xs)) in
+      let e : T * total (λ x. in_table behaviour l returning x.1) xs ≡ T * sum_to n (λ p. total (in_table behaviour l returning) (by p xs)) = ap (λ k. T * k) b in
       omega (arith, a, c, d, e)
 
   -- ---- all of them
 
-  pub few_calls : calls_in registry l xs ≤ most_calls l
+  pub few_calls : calls_in behaviour l xs ≤ most_calls l (redeliveries_in xs)
   few_calls =
-      let sum = parts_sum registry l xs in
-      let sends = queue_total registry l publishing n xs in
-      let taken_some = queue_total registry l takes_one n xs in
-      let fewer = takes_few [] Q (inner_run registry l t.plan R).queue in
-      let kept_all = table_total registry l keeping_one n xs in
-      let parts = table_total registry l returning n xs in
-      let bounded : T * total (λ x. in_table registry l returning x.1) xs ≤ T * suc T = mul-le-mul_left T (omega (arith, parts, parts_few)) in
-      let whole : (T + 4) * suc T ≡ T * suc T + 4 * suc T = add-mul T 4 (suc T) in
-      omega (arith, sum, sends, taken_some, fewer, kept_all, parts, publishes_few, stores_few, parts_few, reads_few, bounded, whole)
+      let sum = parts_sum behaviour l xs in
+      let sends = queue_total behaviour l publishing n xs in
+      let taken_some = queue_total behaviour l takes_one n xs in
+      let fewer = takes_few [] [] Q (inner_run behaviour l t.plan R).queue in
+      let some_again = redelivers_few in
+      let acked_few = acks_few in
+      let kept_all = table_total behaviour l keeping_one n xs in
+      let parts = table_total behaviour l returning n xs in
+      let bounded : T * total (λ x. in_table behaviour l returning x.1) xs ≤ T * suc T = mul-le-mul_left T (omega (arith, parts, parts_few)) in
+      let whole : (T + 5) * suc T ≡ T * suc T + 5 * suc T = add-mul T 5 (suc T) in
+      omega (arith, sum, sends, taken_some, fewer, some_again, acked_few, kept_all, parts, publishes_few, stores_few, parts_few, reads_few, bounded, whole)

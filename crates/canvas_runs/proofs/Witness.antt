@@ -1,7 +1,7 @@
 -- A run that ended well: an empty group's plan, by one worker.
 use Rattle.std.proofs.Common.{false, [], ◌∷◌, None, refl, inl}
 use Rattle.std.specs.Global.{Global}
-use Rattle.canvas_task.specs.Apply.{Registry}
+use Rattle.canvas_task.specs.Apply.{Behaviour}
 use Rattle.crossbeam_queue.specs.SegTies.{SegId}
 use Rattle.atomic_table.specs.Seated.{TableId}
 use Rattle.canvas_history.specs.History.{split, join}
@@ -9,11 +9,11 @@ use Rattle.canvas_backend.specs.Roster.{Roster, roster_of}
 use Rattle.canvas_runs.specs.Core.{take, pause, taken, rested, over}
 use Rattle.canvas_runs.specs.Crew.{Mate, Ran, EndedWell}
 use Rattle.canvas_runs.specs.Following.{Pass, Seat, Working}
-use Rattle.canvas_runs.specs.Calls.{follows_all}
+use Rattle.canvas_runs.specs.Calls.{scripts_all}
 use Rattle.canvas_runs.specs.Rows.{empty_group}
 use Rattle.canvas_runs.specs.Tally.{none_yet}
 
-module _ (registry : Registry) (b : SegId Global) (d : TableId) where
+module _ (behaviour : Behaviour) (b : SegId Global) (d : TableId) where
   abbrev P : Roster
   P = roster_of empty_group
 
@@ -24,9 +24,9 @@ module _ (registry : Registry) (b : SegId Global) (d : TableId) where
   seat_one = record { of = d; name = 1; seen = split 0 1 ∷ [] }
 
   abbrev one_left : Working
-  one_left = record { pass = pass_one; seat = seat_one; left = over; held = []; tally = none_yet }
+  one_left = record { pass = pass_one; seat = seat_one; left = over; current = None; held = []; tally = none_yet }
 
-  one : Mate registry P
+  one : Mate behaviour P
   one = record {
     pass = pass_one;
     seat = seat_one;
@@ -39,7 +39,7 @@ module _ (registry : Registry) (b : SegId Global) (d : TableId) where
       leaves = refl;
       made = [];
       stood = tt;
-      follows = follows_all;
+      follows = scripts_all;
       used = refl;
       makes = refl;
       serves = refl;
@@ -59,9 +59,9 @@ module _ (registry : Registry) (b : SegId Global) (d : TableId) where
   seat_joined = record { of = d; name = 0; seen = split 0 1 ∷ join 0 1 ∷ [] }
 
   abbrev own : Working
-  own = record { pass = joined; seat = seat_joined; left = over; held = []; tally = none_yet }
+  own = record { pass = joined; seat = seat_joined; left = over; current = None; held = []; tally = none_yet }
 
-  abbrev ran : Ran registry empty_group joined seat_joined
+  abbrev ran : Ran behaviour empty_group joined seat_joined
   unfolding one
   ran = record {
     mates = one ∷ [];
@@ -90,7 +90,7 @@ module _ (registry : Registry) (b : SegId Global) (d : TableId) where
       leaves = refl;
       made = [];
       stood = tt;
-      follows = follows_all;
+      follows = scripts_all;
       used = refl;
       makes = refl;
       serves = refl;
@@ -101,6 +101,6 @@ module _ (registry : Registry) (b : SegId Global) (d : TableId) where
     ends = refl;
   }
 
-  pub stands : (pass : Pass) × (seat : Seat) × (r : Ran registry empty_group pass seat) × EndedWell registry empty_group pass seat r
+  pub stands : (pass : Pass) × (seat : Seat) × (r : Ran behaviour empty_group pass seat) × EndedWell behaviour empty_group pass seat r
   unfolding ran
   stands = (joined, seat_joined, ran, record { all_sent = refl; empty = λ _. refl; own = (tt, refl); each = ((tt, refl), tt) })

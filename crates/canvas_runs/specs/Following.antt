@@ -1,9 +1,9 @@
 -- What it is for a worker's pass and seat to have followed a core run, from where they stood (Lamport's sequential consistency, told by one caller).
 --     Makes p cs q           the pass p has made these broker calls and is q then: each stands in the one legal history of its queue, after all that p had seen
 --     Serves plan s cs t     the same of a seat and its backend calls
---     Followed registry plan w v    from w on the worker's pass and seat have followed a core run, and it is v then
+--     Followed behaviour plan w v   from w on the worker's pass and seat have followed a core run, and it is v then
 use Rattle.std.specs.Prelude.{◌+◌, ◌≡◌, true, false, List, [], ◌∷◌, length, map, Option, Some, None}
-use Rattle.canvas_task.specs.Apply.{Registry}
+use Rattle.canvas_task.specs.Apply.{Behaviour}
 use Rattle.canvas_task.specs.declared.outcome.Outcome.{Outcome}
 use Rattle.canvas_history.specs.History.{calls}
 use Rattle.canvas_rewrite.specs.FrozenView.{PCarried}
@@ -13,10 +13,10 @@ use Rattle.canvas_backend.specs.declared.stored.Stored.TheVariants.{First, Again
 use Rattle.canvas_backend.specs.Backend.{TableCall, TableReply, store, part, read, was, count, found}
 use Rattle.canvas_backend.specs.Seats as seats
 use Rattle.canvas_backend.specs.Roster.{Roster, members}
-use Rattle.canvas_broker.specs.Broker.{QueueCall, publish, take}
+use Rattle.canvas_broker.specs.Broker.{QueueCall, publish, take, redeliver}
 use Rattle.canvas_broker.specs.Passes as passes
 use Rattle.canvas_runs.specs.Core.{CoreState, taking, over, IsCoreRun, left_after, Between}
-use Rattle.canvas_runs.specs.Calls.{BrokerCall, published, took, BackendCall, stored, returned, has_read, FollowsCore, AskedAndAnswered, broker_calls, backend_calls, ReadsMembers, takes_one}
+use Rattle.canvas_runs.specs.Calls.{BrokerCall, published, took, again, BackendCall, stored, returned, has_read, FollowsScripts, AskedAndAnswered, broker_calls, core_calls, backend_calls, ReadsMembers, takes_one}
 use Rattle.canvas_runs.specs.Lists.{Each, total}
 use Rattle.canvas_runs.specs.Tally.{Tally, none_yet, Counted}
 use Rattle.canvas_runs.specs.Worker.{worker_of}
@@ -31,16 +31,19 @@ Seat = seats.Seat
 abbrev pub queue_call : BrokerCall Envelope → QueueCall Envelope
 queue_call (published e) = publish e
 queue_call (took x) = take
+queue_call (again e) = redeliver e
 
 abbrev pub queue_answer : BrokerCall Envelope → Option Envelope
 queue_answer (published e) = None
 queue_answer (took x) = x
+queue_answer (again e) = None
 
 -- a take that found nothing stands in no history
 abbrev pub Stood : BrokerCall Envelope → Type 0
 Stood (published e) = Unit
 Stood (took (Some e)) = Unit
 Stood (took None) = ⊥
+Stood (again e) = Unit
 
 -- what a backend call asks, and what it was answered
 abbrev pub table_call : BackendCall Outcome → TableCall
@@ -62,17 +65,19 @@ abbrev pub Serves : Roster → Seat → List (BackendCall Outcome) → Seat → 
 Serves plan s [] t = t ≡ s
 Serves plan s (c ∷ cs) t = (between : Seat) × seats.Stands plan s (calls s.name (table_call c) (table_reply c)) between × Serves plan between cs t
 
--- a worker: its pass and its seat, what its core has left to do, the envelopes that it took and has not given to its core, and its counts
+-- a worker: its pass and its seat, what its core has left to do, the envelope of the open script, the envelopes that it took and has not given to its core, and
+-- its counts
 pub record Working : Type 0 where
   pub pass : Pass
   pub seat : Seat
   pub left : CoreState Content PCarried Outcome
+  pub current : Option Envelope
   pub held : List Envelope
   pub tally : Tally
 
 -- with this pass and this seat, before its first call
 abbrev pub begins : Pass → Seat → Working
-begins p s = record { pass = p; seat = s; left = taking; held = []; tally = none_yet }
+begins p s = record { pass = p; seat = s; left = taking; current = None; held = []; tally = none_yet }
 
 -- not inside a script, with no envelope left over
 abbrev pub IsDone : Working → Type 0
@@ -82,17 +87,17 @@ IsDone w = Between w.left × (w.held ≡ [])
 abbrev pub IsOver : Working → Type 0
 IsOver w = (w.left ≡ over) × (w.held ≡ [])
 
-pub record Followed (registry : Registry) (plan : Roster) (w v : Working) : Type 0 where
+pub record Followed (behaviour : Behaviour) (plan : Roster) (w v : Working) : Type 0 where
   pub run : List (AskedAndAnswered Envelope Outcome)
-  pub is_core : IsCoreRun (worker_of registry plan) w.left run
+  pub is_core : IsCoreRun (worker_of behaviour plan) w.left run
   -- a read is of the member that it names
   pub reads : ReadsMembers (members plan) run
   pub counts : Counted plan run w.tally v.tally
-  pub leaves : left_after (worker_of registry plan) w.left run ≡ v.left
-  -- the calls of its pass. A take may stand before the core's
+  pub leaves : left_after (worker_of behaviour plan) w.left run ≡ v.left
+  -- the calls of its pass. A take may stand before the core's, and an envelope may be delivered again while its script is open
   pub made : List (BrokerCall Envelope)
   pub stood : Each Stood made
-  pub follows : FollowsCore (map Some w.held) (broker_calls run) made
+  pub follows : FollowsScripts w.current (map Some w.held) (core_calls run) made
   pub used : length w.held + total takes_one made ≡ total takes_one (broker_calls run) + length v.held
   pub makes : Makes w.pass made v.pass
   pub serves : Serves plan w.seat (backend_calls run) v.seat

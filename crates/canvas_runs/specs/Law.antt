@@ -1,7 +1,8 @@
--- The law of runs: whatever the number of workers and the order of their calls, a run does what evaluating the plan's canvas gives, each thing once
--- (Celery user guide, Canvas: a chord's body is called once, when all tasks of the header have returned).
-use Rattle.std.specs.Prelude.{◌≡◌, ◌≤◌, ◌⊎◌, ℕ, eqb, cond, List, Option, Some, None}
-use Rattle.canvas_task.specs.Apply.{Registry}
+-- The law of runs: whatever the number of workers, the order of their calls and the envelopes that are delivered again, a run does what evaluating the plan's
+-- canvas gives, each thing once (Celery user guide, Canvas: a chord's body is called once, when all tasks of the header have returned). An envelope that is
+-- delivered again is taken once more, and of the stores of its task one answers that it was the first.
+use Rattle.std.specs.Prelude.{◌≡◌, ◌≤◌, ◌⊎◌, ◌+◌, ℕ, true, false, eqb, cond, List, Option, Some, None}
+use Rattle.canvas_task.specs.Apply.{Behaviour}
 use Rattle.canvas_task.specs.declared.outcome.Outcome.{Outcome}
 use Rattle.canvas_history.specs.History.{calls}
 use Rattle.canvas_semantics.specs.Evaluation.{State, state_of, eval, nothing}
@@ -12,12 +13,11 @@ use Rattle.canvas_message.specs.Events.{In, Event, DoesIn}
 use Rattle.canvas_message.specs.Job.{publish, hand_in}
 use Rattle.canvas_message.specs.declared.envelope.Envelope.{Envelope}
 use Rattle.canvas_backend.specs.declared.stored.Stored.{Stored}
-use Rattle.canvas_backend.specs.declared.stored.Stored.TheVariants.{First}
 use Rattle.canvas_backend.specs.Backend as results
 use Rattle.canvas_backend.specs.Roster.{roster_of}
 use Rattle.canvas_broker.specs.Broker as broker
 use Rattle.canvas_runs.specs.Book.{book_of}
-use Rattle.canvas_runs.specs.Calls.{BrokerCall, published, took, BackendCall, stored, returned, has_read}
+use Rattle.canvas_runs.specs.Calls.{BrokerCall, published, took, again, BackendCall, stored, returned, has_read}
 use Rattle.canvas_runs.specs.Lists.{total, seconds}
 use Rattle.canvas_runs.specs.Logs.{queue_calls, table_calls}
 use Rattle.canvas_runs.specs.Run.{Run}
@@ -25,20 +25,30 @@ use Rattle.canvas_runs.specs.Worker.{sealed, opened}
 
 -- ---- how often
 
--- 1 where the call stores the outcome of task k, or returns the part
-abbrev pub stores_one : ℕ → BackendCall Outcome → ℕ
-stores_one k (stored t o b) = cond (eqb t k) 1 0
-stores_one k (returned g m n) = 0
-stores_one k (has_read t o) = 0
+-- 1 where the call stores the outcome of task k first, or again, or returns the part
+abbrev pub firsts_one : ℕ → BackendCall Outcome → ℕ
+firsts_one k (stored t o true) = cond (eqb t k) 1 0
+firsts_one k (stored t o false) = 0
+firsts_one k (returned g m n) = 0
+firsts_one k (has_read t o) = 0
+
+abbrev pub agains_one : ℕ → BackendCall Outcome → ℕ
+agains_one k (stored t o true) = 0
+agains_one k (stored t o false) = cond (eqb t k) 1 0
+agains_one k (returned g m n) = 0
+agains_one k (has_read t o) = 0
 
 abbrev pub returns_one : ℕ → ℕ → BackendCall Outcome → ℕ
 returns_one g m (stored t o b) = 0
 returns_one g m (returned h t n) = cond (eqb h g) (cond (eqb t m) 1 0) 0
 returns_one g m (has_read t o) = 0
 
--- how often an outcome of task k is stored, and the part of task m to chord g returned
-abbrev pub stores : ℕ → results.Log → ℕ
-stores k table = total (stores_one k) (seconds (table_calls table))
+-- how often a store of task k answers First, and Again, and how often the part of task m to chord g is returned
+abbrev pub first_stores : ℕ → results.Log → ℕ
+first_stores k table = total (firsts_one k) (seconds (table_calls table))
+
+abbrev pub again_stores : ℕ → results.Log → ℕ
+again_stores k table = total (agains_one k) (seconds (table_calls table))
 
 abbrev pub returns : ℕ → ℕ → results.Log → ℕ
 returns g m table = total (returns_one g m) (seconds (table_calls table))
@@ -48,59 +58,75 @@ module _ (l : Line) where
   of_task k None = 0
   of_task k (Some c) = cond (eqb (number_of c.own) k) 1 0
 
-  -- 1 where the call publishes, or takes, a message of task k
+  -- 1 where the call publishes, or takes, or delivers again, a message of task k
   abbrev pub publishes_one : ℕ → BrokerCall Envelope → ℕ
   publishes_one k (published e) = of_task k (opened (book_of l) e)
   publishes_one k (took t) = 0
+  publishes_one k (again e) = 0
 
   abbrev pub takes_one_of : ℕ → BrokerCall Envelope → ℕ
   takes_one_of k (published e) = 0
   takes_one_of k (took None) = 0
   takes_one_of k (took (Some e)) = of_task k (opened (book_of l) e)
+  takes_one_of k (again e) = 0
 
-  -- how often a message of task k is published, and taken
+  abbrev pub agains_one_of : ℕ → BrokerCall Envelope → ℕ
+  agains_one_of k (published e) = 0
+  agains_one_of k (took t) = 0
+  agains_one_of k (again e) = of_task k (opened (book_of l) e)
+
+  -- how often a message of task k is published, and taken, and delivered again
   abbrev pub publishes : ℕ → List (broker.QueueEntry Envelope) → ℕ
   publishes k queue = total (publishes_one k) (seconds (queue_calls queue))
 
   abbrev pub takes_of_task : ℕ → List (broker.QueueEntry Envelope) → ℕ
   takes_of_task k queue = total (takes_one_of k) (seconds (queue_calls queue))
 
+  abbrev pub redeliveries : ℕ → List (broker.QueueEntry Envelope) → ℕ
+  redeliveries k queue = total (agains_one_of k) (seconds (queue_calls queue))
+
 -- ---- the law
 
-module _ (registry : Registry) (l : Line) where
+module _ (behaviour : Behaviour) (l : Line) where
   -- the state of a task, by evaluating the plan's tree
   abbrev pub its_state : ℕ → State
-  its_state t = state_of t (eval registry (tree_of l) nothing).rows
+  its_state t = state_of t (eval behaviour (tree_of l) nothing).rows
 
   -- the message of a task that evaluation runs
   abbrev pub IsRunMessage : Content → Type 0
-  IsRunMessage c = (v : Event) × DoesIn registry l v (publish c)
+  IsRunMessage c = (v : Event) × DoesIn behaviour l v (publish c)
 
   -- a part that evaluation returns
   abbrev pub IsPart : ℕ → ℕ → Type 0
-  IsPart g t = (c : PCarried) × (v : Event) × DoesIn registry l v (hand_in g t c)
+  IsPart g t = (c : PCarried) × (v : Event) × DoesIn behaviour l v (hand_in g t c)
 
   -- every run, closed or not
-  pub record FirstPart (r : Run registry l) : Type 0 where
-    -- each outcome that is stored is the task's, and no store answers again
-    pub stored : (p t : ℕ) (o : Outcome) (a : Stored) → In (calls p (results.store t o) (results.was a)) r.table → (its_state t ≡ Some o) × (a ≡ First)
+  pub record FirstPart (r : Run behaviour l) : Type 0 where
+    -- each outcome that is stored is the task's
+    pub stored : (p t : ℕ) (o : Outcome) (a : Stored) → In (calls p (results.store t o) (results.was a)) r.table → its_state t ≡ Some o
+    -- one store of a task is the first, and no more answer again than its message was delivered again: with no redelivery none does
+    pub stored_once : (k : ℕ) → first_stores k r.table ≤ 1
+    pub stored_again : (k : ℕ) → again_stores k r.table ≤ redeliveries l k r.queue
     -- so each task is pending or has its state
     pub rows : (t : ℕ) → ((results.results (roster_of l) r.table).outcomes t ≡ None) ⊎ ((results.results (roster_of l) r.table).outcomes t ≡ its_state t)
     -- each envelope that is published is that of the message of a task that is run, and reads as it
     pub published : (p : ℕ) (e : Envelope) (a : Option Envelope) → In (calls p (broker.publish e) a) r.queue → (c : Content) × (e ≡ sealed c) × (opened (book_of l) e ≡ Some c) × IsRunMessage c
     pub published_once : (k : ℕ) → publishes l k r.queue ≤ 1
+    -- and so is each that is delivered again
+    pub redelivered : (p : ℕ) (e : Envelope) (a : Option Envelope) → In (calls p (broker.redeliver e) a) r.queue → (c : Content) × (e ≡ sealed c) × (opened (book_of l) e ≡ Some c) × IsRunMessage c
     -- each part that is returned is one of the evaluation's
     pub returned : (p g t n : ℕ) → In (calls p (results.part g t) (results.count n)) r.table → IsPart g t
 
   -- a closed run besides
-  pub record SecondPart (r : Run registry l) : Type 0 where
+  pub record SecondPart (r : Run behaviour l) : Type 0 where
     -- each task has its state; a task that evaluation leaves pending is pending
     pub rows : (t : ℕ) → (results.results (roster_of l) r.table).outcomes t ≡ its_state t
-    -- each message of the evaluation is published once, and what is published is taken
+    -- each message of the evaluation is published once, and what is published or delivered again is taken
     pub published : (c : Content) → IsRunMessage c → publishes l (number_of c.own) r.queue ≡ 1
-    pub taken : (k : ℕ) → takes_of_task l k r.queue ≡ publishes l k r.queue
-    -- each outcome is stored once
-    pub stored : (t : ℕ) (o : Outcome) → its_state t ≡ Some o → stores t r.table ≡ 1
-    pub pending : (t : ℕ) → its_state t ≡ None → stores t r.table ≡ 0
+    pub taken : (k : ℕ) → takes_of_task l k r.queue ≡ publishes l k r.queue + redeliveries l k r.queue
+    -- each outcome is stored once first, and answered again as often as its message was delivered again
+    pub stored : (t : ℕ) (o : Outcome) → its_state t ≡ Some o → first_stores t r.table ≡ 1
+    pub stored_again : (t : ℕ) → again_stores t r.table ≡ redeliveries l t r.queue
+    pub pending : (t : ℕ) → its_state t ≡ None → first_stores t r.table + again_stores t r.table ≡ 0
     -- each part is returned once
     pub returned : (g t : ℕ) → IsPart g t → returns g t r.table ≡ 1

@@ -1,7 +1,7 @@
 -- Runs of a plan (Lamport's sequential consistency, for two objects):
 -- a legal history of the broker, a legal history of the backend, and for each caller a core run that its calls follow.
-use Rattle.std.specs.Prelude.{◌≡◌, ℕ, eqb, cond, List, [], ◌∷◌, ◌++◌, map}
-use Rattle.canvas_task.specs.Apply.{Registry}
+use Rattle.std.specs.Prelude.{◌≡◌, ℕ, eqb, cond, List, [], ◌∷◌, ◌++◌, map, None}
+use Rattle.canvas_task.specs.Apply.{Behaviour}
 use Rattle.canvas_task.specs.declared.outcome.Outcome.{Outcome}
 use Rattle.canvas_semantics.specs.Line.{Line}
 use Rattle.canvas_message.specs.Content.{Content}
@@ -11,7 +11,7 @@ use Rattle.canvas_backend.specs.Backend as results
 use Rattle.canvas_backend.specs.Roster.{roster_of, members}
 use Rattle.canvas_broker.specs.Broker as broker
 use Rattle.canvas_runs.specs.Core.{IsCoreRun, taking, left_after, Between}
-use Rattle.canvas_runs.specs.Calls.{BrokerCall, published, BackendCall, stored, returned, has_read, FollowsCore, AskedAndAnswered, broker_calls, backend_calls, ReadsMembers, takes_one}
+use Rattle.canvas_runs.specs.Calls.{BrokerCall, published, makes, BackendCall, stored, returned, has_read, FollowsScripts, AskedAndAnswered, broker_calls, core_calls, backend_calls, ReadsMembers, takes_one}
 use Rattle.canvas_runs.specs.Lists.{Each, by, total}
 use Rattle.canvas_runs.specs.Logs.{queue_calls, table_calls}
 use Rattle.canvas_runs.specs.Worker.{IsReadBack, worker, sealed}
@@ -25,13 +25,13 @@ abbrev pub published_all : {E : Type 0} → List E → List (BrokerCall E)
 published_all [] = []
 published_all (e ∷ es) = published e ∷ published_all es
 
-pub record Run (registry : Registry) (l : Line) : Type 0 where
+pub record Run (behaviour : Behaviour) (l : Line) : Type 0 where
   pub queue : List (broker.QueueEntry Envelope)
   pub table : results.Log
   pub queue_legal : broker.IsLegal queue
   pub table_legal : results.IsLegal (roster_of l) table
   pub core : ℕ → List (AskedAndAnswered Envelope Outcome)
-  pub is_core : (p : ℕ) → IsCoreRun (worker registry l) taking (core p)
+  pub is_core : (p : ℕ) → IsCoreRun (worker behaviour l) taking (core p)
   -- a read is of the member that it names
   pub reads : (p : ℕ) → ReadsMembers (members (roster_of l)) (core p)
   -- What worker 0 publishes before all else, what is left of the first messages, and what it reads at the end.
@@ -43,12 +43,12 @@ pub record Run (registry : Registry) (l : Line) : Type 0 where
   pub opens_back : Each IsReadBack opening
   pub closes : Each IsRead closing
   -- each caller's calls follow its core run
-  pub follows : (p : ℕ) → FollowsCore [] (cond (eqb p 0) (published_all (map sealed opening)) [] ++ broker_calls (core p)) (by p (queue_calls queue))
+  pub follows : (p : ℕ) → FollowsScripts None [] (map makes (cond (eqb p 0) (published_all (map sealed opening)) []) ++ core_calls (core p)) (by p (queue_calls queue))
   pub keeps : (p : ℕ) → by p (table_calls table) ≡ backend_calls (core p) ++ cond (eqb p 0) closing []
 
 -- All first messages are published, the queue is empty at the end, each envelope taken has its script, and no core run stops inside one.
-pub record Closed (registry : Registry) (l : Line) (r : Run registry l) : Type 0 where
+pub record Closed (behaviour : Behaviour) (l : Line) (r : Run behaviour l) : Type 0 where
   pub all_sent : r.unsent ≡ []
   pub drained : broker.queue_of r.queue ≡ []
   pub all_used : (p : ℕ) → total takes_one (by p (queue_calls r.queue)) ≡ total takes_one (broker_calls (r.core p))
-  pub all_ended : (p : ℕ) → Between (left_after (worker registry l) taking (r.core p))
+  pub all_ended : (p : ℕ) → Between (left_after (worker behaviour l) taking (r.core p))

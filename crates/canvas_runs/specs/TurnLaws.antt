@@ -1,6 +1,6 @@
 -- What follows from taking turns: a run by turns is a run, so the law of runs speaks of it.
 use Rattle.std.specs.Prelude.{ℕ, ◌≡◌, ◌≢◌, ◌≤◌, ◌<◌, ◌⊎◌, false, IsTrue, List, [], length, map, Some, None}
-use Rattle.canvas_task.specs.Apply.{AnswersInRange, IsInRange, Registry}
+use Rattle.canvas_task.specs.Apply.{AnswersInRange, IsInRange, Behaviour}
 use Rattle.canvas_task.specs.declared.outcome.Outcome.{Outcome}
 use Rattle.canvas_semantics.specs.Evaluation.{State}
 use Rattle.canvas_semantics.specs.Line.{Line, count_line, tree_of}
@@ -11,6 +11,7 @@ use Rattle.canvas_message.specs.declared.envelope.Envelope.{Envelope}
 use Rattle.canvas_backend.specs.Backend.{results}
 use Rattle.canvas_backend.specs.Roster.{Roster, roster_of, members, is_chord, is_member}
 use Rattle.canvas_broker.specs.Broker.{queue_of}
+use Rattle.canvas_runs.specs.Calls.{scripts_of}
 use Rattle.canvas_runs.specs.Core.{Ask, keep, part, read, ask}
 use Rattle.canvas_runs.specs.Law.{its_state}
 use Rattle.canvas_runs.specs.Lists.{Each, by, at}
@@ -20,52 +21,52 @@ use Rattle.canvas_runs.specs.Turns.{Step, results_after, IsWorker, FirstsRead, q
 use Rattle.canvas_runs.specs.Worker.{worker}
 
 -- a plan's run by these turns of workers 1 to n, with these steps
-pub record ByTurns (registry : Registry) (l : Line) (n : ℕ) (us : List ℕ) (xs : List Step) : Type 0 where
+pub record ByTurns (behaviour : Behaviour) (l : Line) (n : ℕ) (us : List ℕ) (xs : List Step) : Type 0 where
   pub plan : IsPlan l
   pub opens_back : FirstsRead l
   pub workers : Each (IsWorker n) us
-  pub turned : Turned registry l n [] us xs
+  pub turned : Turned behaviour l n [] us xs
 
 -- the steps are those of a run, each worker's its core run, which is closed where all have ended
-pub record RunOf (registry : Registry) (l : Line) (n : ℕ) (xs : List Step) : Type 0 where
-  pub run : Run registry l
-  pub core : (p : ℕ) → run.core p ≡ by p xs
+pub record RunOf (behaviour : Behaviour) (l : Line) (n : ℕ) (xs : List Step) : Type 0 where
+  pub run : Run behaviour l
+  pub core : (p : ℕ) → run.core p ≡ scripts_of (by p xs)
   pub opening : run.opening ≡ first_messages l
   pub closing : run.closing ≡ []
   pub queue : queue_of run.queue ≡ queue_after l xs
   pub table : results (roster_of l) run.table ≡ results_after xs
-  pub closed : 1 ≤ n → AllEnded registry l n xs → Closed registry l run
+  pub closed : 1 ≤ n → AllEnded behaviour l n xs → Closed behaviour l run
 
 abbrev pub TurnsAreRuns : Type 0
-TurnsAreRuns = (registry : Registry) (l : Line) (n : ℕ) (us : List ℕ) (xs : List Step) → ByTurns registry l n us xs → RunOf registry l n xs
+TurnsAreRuns = (behaviour : Behaviour) (l : Line) (n : ℕ) (us : List ℕ) (xs : List Step) → ByTurns behaviour l n us xs → RunOf behaviour l n xs
 
 -- each task is pending, or has the state that evaluation gives
 abbrev pub TurnRowsMay : Type 0
-TurnRowsMay = (registry : Registry) (l : Line) (n : ℕ) (us : List ℕ) (xs : List Step) → ByTurns registry l n us xs → (t : ℕ) → ((results_after xs).outcomes t ≡ None) ⊎ ((results_after xs).outcomes t ≡ its_state registry l t)
+TurnRowsMay = (behaviour : Behaviour) (l : Line) (n : ℕ) (us : List ℕ) (xs : List Step) → ByTurns behaviour l n us xs → (t : ℕ) → ((results_after xs).outcomes t ≡ None) ⊎ ((results_after xs).outcomes t ≡ its_state behaviour l t)
 
 -- where all have ended each task has that state, and nothing is left on the queue
 abbrev pub TurnRowsAre : Type 0
-TurnRowsAre = (registry : Registry) (l : Line) (n : ℕ) (us : List ℕ) (xs : List Step) → ByTurns registry l n us xs → 1 ≤ n → AllEnded registry l n xs → (t : ℕ) → (results_after xs).outcomes t ≡ its_state registry l t
+TurnRowsAre = (behaviour : Behaviour) (l : Line) (n : ℕ) (us : List ℕ) (xs : List Step) → ByTurns behaviour l n us xs → 1 ≤ n → AllEnded behaviour l n xs → (t : ℕ) → (results_after xs).outcomes t ≡ its_state behaviour l t
 
 abbrev pub TurnsEmpty : Type 0
-TurnsEmpty = (registry : Registry) (l : Line) (n : ℕ) (us : List ℕ) (xs : List Step) → ByTurns registry l n us xs → 1 ≤ n → AllEnded registry l n xs → queue_after l xs ≡ []
+TurnsEmpty = (behaviour : Behaviour) (l : Line) (n : ℕ) (us : List ℕ) (xs : List Step) → ByTurns behaviour l n us xs → 1 ≤ n → AllEnded behaviour l n xs → queue_after l xs ≡ []
 
 -- The outcomes held, task by task: the states that evaluation gives where all have ended, and these or pending at any time.
 abbrev pub held_rows : Line → List Step → List State
 held_rows l xs = map (results_after xs).outcomes (numbers_from 1 (count_line l))
 
 abbrev pub TurnStatesAre : Type 0
-TurnStatesAre = (registry : Registry) (l : Line) (n : ℕ) (us : List ℕ) (xs : List Step) → ByTurns registry l n us xs → 1 ≤ n → AllEnded registry l n xs → held_rows l xs ≡ states registry (tree_of l)
+TurnStatesAre = (behaviour : Behaviour) (l : Line) (n : ℕ) (us : List ℕ) (xs : List Step) → ByTurns behaviour l n us xs → 1 ≤ n → AllEnded behaviour l n xs → held_rows l xs ≡ states behaviour (tree_of l)
 
 abbrev pub TurnStatesMay : Type 0
-TurnStatesMay = (registry : Registry) (l : Line) (n : ℕ) (us : List ℕ) (xs : List Step) → ByTurns registry l n us xs → EachMay (held_rows l xs) (states registry (tree_of l))
+TurnStatesMay = (behaviour : Behaviour) (l : Line) (n : ℕ) (us : List ℕ) (xs : List Step) → ByTurns behaviour l n us xs → EachMay (held_rows l xs) (states behaviour (tree_of l))
 
 -- a list of turns with the rotation behind it, whole or up to a number of steps, is such a run
 abbrev pub WholeTurns : Type 0
-WholeTurns = (registry : Registry) (l : Line) → IsPlan l → (n : ℕ) (ts : List ℕ) → Each (IsWorker n) ts → (r : RanWhole registry l n ts) → ByTurns registry l n r.turns r.steps
+WholeTurns = (behaviour : Behaviour) (l : Line) → IsPlan l → (n : ℕ) (ts : List ℕ) → Each (IsWorker n) ts → (r : RanWhole behaviour l n ts) → ByTurns behaviour l n r.turns r.steps
 
 abbrev pub UntilTurns : Type 0
-UntilTurns = (registry : Registry) (l : Line) → IsPlan l → (n : ℕ) (ts : List ℕ) (most : ℕ) → Each (IsWorker n) ts → (r : RanUntil registry l n ts most) → ByTurns registry l n r.turns r.steps
+UntilTurns = (behaviour : Behaviour) (l : Line) → IsPlan l → (n : ℕ) (ts : List ℕ) (most : ℕ) → Each (IsWorker n) ts → (r : RanUntil behaviour l n ts most) → ByTurns behaviour l n r.turns r.steps
 
 -- ---- what a worker asks next can be answered
 
@@ -78,11 +79,11 @@ Answerable plan xs a = Unit {0}
 
 abbrev pub NextAnswerable : Type 0
 NextAnswerable =
-    (registry : Registry) → AnswersInRange registry → (l : Line) (n : ℕ) (us : List ℕ) (xs : List Step) → ByTurns registry l n us xs
-    → (p : ℕ) → IsWorker n p → Answerable (roster_of l) xs (ask (worker registry l) (left registry l xs p))
+    (behaviour : Behaviour) → AnswersInRange behaviour → (l : Line) (n : ℕ) (us : List ℕ) (xs : List Step) → ByTurns behaviour l n us xs
+    → (p : ℕ) → IsWorker n p → Answerable (roster_of l) xs (ask (worker behaviour l) (left behaviour l xs p))
 
 -- where what calls answer is in range, every outcome held is
 abbrev pub HeldInRange : Type 0
 HeldInRange =
-    (registry : Registry) → AnswersInRange registry → (l : Line) (n : ℕ) (us : List ℕ) (xs : List Step) → ByTurns registry l n us xs
+    (behaviour : Behaviour) → AnswersInRange behaviour → (l : Line) (n : ℕ) (us : List ℕ) (xs : List Step) → ByTurns behaviour l n us xs
     → (t : ℕ) (o : Outcome) → (results_after xs).outcomes t ≡ Some o → (t ≤ (roster_of l).tasks) × IsInRange o

@@ -1,16 +1,16 @@
 -- Runs by turns, on one thread: workers numbered 1 to n share the one-thread queue and the one-thread table of results, and each turn lets one
 -- worker have one ask answered. The Canvas user guide names no order between workers, so a list of turns names one; after it the workers take turns
--- in rotation, from 1 to n and again, until all have ended. A worker that has ended skips its turn. Below, the registry and the plan are left out:
+-- in rotation, from 1 to n and again, until all have ended. A worker that has ended skips its turn. Below, the behaviour and the plan are left out:
 --     Step                  a worker's ask with its answer
---     left, queue_after, results_after    what a worker has left to do, what is queued and what is stored after these steps
+--     left, holds, queue_after, results_after    what a worker has left to do, the envelope of its open script, what is queued and what is stored after these steps
 --     Answers n before a r    the reply r to the ask a is what the queue and the table say at that time; a worker that asks whether there will be more
 --                           to do is told so while something is queued or some worker is inside the script of a message
 --     Turned n before us xs    after the steps before, the turns us are taken, and the steps xs are those that they make
 --     AllEnded n before   after these steps no worker asks for anything more
 --     RanWhole n ts       the turns of the list and then as many rounds as it takes until all have ended
 --     RanUntil n ts steps    the turns of the list, and then turns in rotation, up to so many steps, with some worker that has not ended
-use Rattle.std.specs.Prelude.{ℕ, zero, suc, ◌≡◌, ◌≤◌, ◌||◌, Bool, true, false, List, [], ◌∷◌, ◌++◌, map, length, Some}
-use Rattle.canvas_task.specs.Apply.{Registry}
+use Rattle.std.specs.Prelude.{ℕ, zero, suc, ◌≡◌, ◌≤◌, ◌||◌, Bool, true, false, List, [], ◌∷◌, ◌++◌, map, length, Option, Some, None}
+use Rattle.canvas_task.specs.Apply.{Behaviour}
 use Rattle.canvas_task.specs.declared.outcome.Outcome.{Outcome}
 use Rattle.canvas_semantics.specs.Line.{Line}
 use Rattle.canvas_rewrite.specs.FrozenView.{PCarried}
@@ -21,8 +21,9 @@ use Rattle.canvas_backend.specs.Backend as results
 use Rattle.canvas_backend.specs.Backend.{Results, no_results, first_or, next_of, count_of, says_first}
 use Rattle.canvas_backend.specs.Roster.{roster_of, members}
 use Rattle.canvas_broker.specs.Broker as broker
-use Rattle.canvas_runs.specs.Core.{Ask, Reply, take, send, keep, part, read, pause, end, taken, sent, kept, counted, found, rested, CoreState, taking, ask, left_after, ReadsBack, is_inside}
-use Rattle.canvas_runs.specs.Lists.{Each, by, at}
+use Rattle.canvas_runs.specs.Core.{Ask, Reply, take, send, keep, part, read, pause, end, ack, deliver, taken, sent, kept, counted, found, rested, acked, CoreState, taking, ask, left_after, ReadsBack, is_inside}
+use Rattle.canvas_runs.specs.Calls.{scripts_of, held_after}
+use Rattle.canvas_runs.specs.Lists.{Each, by, at, total}
 use Rattle.canvas_runs.specs.Worker.{IsReadBack, worker, sealed}
 
 -- an answered ask of a worker
@@ -33,6 +34,7 @@ Step = ℕ × (Ask Envelope Outcome × Reply Envelope Outcome)
 abbrev pub queue_next : List Envelope → Ask Envelope Outcome → List Envelope
 queue_next q take = broker.next q broker.take
 queue_next q (send e) = broker.next q (broker.publish e)
+queue_next q (deliver e) = broker.next q (broker.redeliver e)
 queue_next q a = q
 
 abbrev pub results_next : Results → Ask Envelope Outcome → Results
@@ -56,6 +58,18 @@ abbrev pub is_queued : List Envelope → Bool
 is_queued [] = false
 is_queued (e ∷ es) = true
 
+-- the envelope of the worker's open script
+abbrev pub holds : List Step → ℕ → Option Envelope
+holds before p = held_after None (by p before)
+
+-- how many of the steps are redeliveries
+abbrev pub redelivers_one : Ask Envelope Outcome → ℕ
+redelivers_one (deliver e) = 1
+redelivers_one a = 0
+
+abbrev pub redeliveries_in : List Step → ℕ
+redeliveries_in xs = total (λ x. redelivers_one x.1.0) xs
+
 -- one of the workers 1 to n
 abbrev pub IsWorker : ℕ → ℕ → Type 0
 IsWorker n p = (1 ≤ p) × (p ≤ n)
@@ -69,9 +83,9 @@ module _ (l : Line) where
   abbrev pub FirstsRead : Type 0
   FirstsRead = Each IsReadBack (first_messages l)
 
-module _ (registry : Registry) (l : Line) where
+module _ (behaviour : Behaviour) (l : Line) where
   abbrev pub left : List Step → ℕ → CoreState Content PCarried Outcome
-  left before p = left_after (worker registry l) taking (by p before)
+  left before p = left_after (worker behaviour l) taking (scripts_of (by p before))
 
   -- one of the workers 1 to n is inside the script of a message
   abbrev pub some_inside : ℕ → List Step → Bool
@@ -88,19 +102,23 @@ module _ (registry : Registry) (l : Line) where
   Answers n before (part g t) (counted m) = m ≡ count_of (roster_of l) (results_after before) g
   Answers n before (read g i) (found t x) = (at i (members (roster_of l) g) ≡ Some t) × (x ≡ (results_after before).outcomes t)
   Answers n before pause (rested m) = m ≡ holds_more n before
+  Answers n before ack acked = Unit {0}
   Answers n before a r = ⊥
 
   -- the worker asks for nothing more
   abbrev pub HasEnded : List Step → ℕ → Type 0
-  HasEnded before p = ask (worker registry l) (left before p) ≡ end
+  HasEnded before p = ask (worker behaviour l) (left before p) ≡ end
 
-  -- Steps before, turns, the steps that the turns make. An envelope that is sent reads back as its message.
+  -- Steps before, turns, the steps that the turns make. An envelope that is sent reads back as its message. Before a step of its turn a worker may have the envelope
+  -- of its open script delivered again.
   pub data Turned (n : ℕ) : List Step → List ℕ → List Step → Type 0 where
     all_taken : {before : List Step} → Turned n before [] []
     skips_turn : {before : List Step} {p : ℕ} {us : List ℕ} {xs : List Step} → HasEnded before p → Turned n before us xs → Turned n before (p ∷ us) xs
     takes_turn : {before : List Step} {p : ℕ} {a : Ask Envelope Outcome} {r : Reply Envelope Outcome} {us : List ℕ} {xs : List Step}
-        → ReadsBack (worker registry l) (left before p) → a ≡ ask (worker registry l) (left before p) → Answers n before a r
+        → ReadsBack (worker behaviour l) (left before p) → a ≡ ask (worker behaviour l) (left before p) → Answers n before a r
         → Turned n (before ++ (p, (a, r)) ∷ []) us xs → Turned n before (p ∷ us) ((p, (a, r)) ∷ xs)
+    delivers_again : {before : List Step} {p : ℕ} {e : Envelope} {us : List ℕ} {xs : List Step} → IsWorker n p → holds before p ≡ Some e
+        → Turned n (before ++ (p, (deliver e, sent)) ∷ []) us xs → Turned n before us ((p, (deliver e, sent)) ∷ xs)
 
   abbrev pub AllEnded : ℕ → List Step → Type 0
   AllEnded n before = (p : ℕ) → IsWorker n p → HasEnded before p
@@ -118,23 +136,25 @@ rounds n (suc k) = round n ++ rounds n k
 abbrev pub Begins : List ℕ → List ℕ → ℕ → Type 0
 Begins us ts n = (k : ℕ) × (rest : List ℕ) × (us ++ rest ≡ ts ++ rounds n k)
 
-pub record RanWhole (registry : Registry) (l : Line) (n : ℕ) (ts : List ℕ) : Type 0 where
+pub record RanWhole (behaviour : Behaviour) (l : Line) (n : ℕ) (ts : List ℕ) : Type 0 where
   pub opens_back : FirstsRead l
   pub turns : List ℕ
   pub further : ℕ
   pub follow : turns ≡ ts ++ rounds n further
   pub steps : List Step
-  pub turned : Turned registry l n [] turns steps
-  pub ended : AllEnded registry l n steps
+  pub turned : Turned behaviour l n [] turns steps
+  pub ended : AllEnded behaviour l n steps
 
-pub record RanUntil (registry : Registry) (l : Line) (n : ℕ) (ts : List ℕ) (most : ℕ) : Type 0 where
+pub record RanUntil (behaviour : Behaviour) (l : Line) (n : ℕ) (ts : List ℕ) (most : ℕ) : Type 0 where
   pub opens_back : FirstsRead l
   pub turns : List ℕ
   pub begin : Begins turns ts n
   pub steps : List Step
-  pub turned : Turned registry l n [] turns steps
+  pub turned : Turned behaviour l n [] turns steps
   pub many : length steps ≡ most
+  -- nothing was delivered again
+  pub plain : redeliveries_in steps ≡ 0
   -- a worker that has not ended
   pub going : ℕ
   pub is_worker : IsWorker n going
-  pub has_more : HasEnded registry l steps going → ⊥
+  pub has_more : HasEnded behaviour l steps going → ⊥

@@ -2,8 +2,10 @@
 //! whole runs. There is no running code here: each function has an empty body, and its contract is a law.
 #![tactic(auto)]
 
+mod when;
+
 ghost use Rattle.std.specs.Prelude.{◌≡◌, ◌≤◌, ℕ, List, []};
-ghost use Rattle.canvas_task.specs.Apply.{Registry, six_tasks};
+ghost use Rattle.canvas_task.specs.Apply.{Behaviour, six_tasks};
 ghost use Rattle.canvas_backend.specs.Backend.{IsLegal, results};
 ghost use Rattle.canvas_backend.specs.Roster.{roster_of};
 ghost use Rattle.canvas_semantics.specs.Evaluation.{state_of, meaning};
@@ -20,25 +22,37 @@ ghost use Rattle.canvas_runs.specs.Run.{Run, Closed};
 ghost use Rattle.canvas_runs.specs.TurnLaws.{TurnsAreRuns, TurnRowsMay, TurnRowsAre, TurnsEmpty, TurnStatesMay, TurnStatesAre, WholeTurns, UntilTurns, NextAnswerable, HeldInRange};
 ghost use Rattle.canvas_runs.specs.Going.{FewSteps, StopsSoon, StepsFit, RoundsGo};
 ghost use Rattle.canvas_runs.specs.Turns.{Turned, RanWhole};
+ghost use Rattle.canvas_runs.specs.Spending.{EntriesAreTurns, EntriesFew, OwnPoints, AgainsAreEntries, AgainsFew, NoEntries, AgainTurns, TurnedAgain, RanAgain, Entry, agains_in};
 ghost use Rattle.canvas_runs.specs.TurnWitness.{listed_turns, witness_steps, hasty};
-ghost use Rattle.canvas_runs.specs.Witness.{small, queue, table, lost_part};
+ghost use Rattle.canvas_runs.specs.EntryWitness.{product, both_points, product_steps, quotient, link_entry, quotient_steps, unspent};
+ghost use Rattle.canvas_runs.specs.Witness.{small, queue, table, lost_part, not_taken, goes_on, acks_first};
+ghost use Rattle.canvas_runs.specs.Core.{IsCoreRun, taking};
+ghost use Rattle.canvas_runs.specs.Worker.{worker};
+ghost use Rattle.canvas_broker.specs.Broker.{IsLegal as IsQueueLegal};
+
+pub use when::When;
 
 /// The law of runs. Whatever the number of workers and the order of their calls, a run of a plan stores only the outcomes that
 /// evaluating its canvas gives, and publishes only the messages of tasks that are run, each once. A run that is closed stores
 /// all these outcomes, publishes all these messages and returns all these parts, each once. So each task of the canvas has the
 /// state that evaluating the canvas gives. In every run each chord is completed at most once.
 pub fn law_of_runs()
-    ensures every_run { (registry : Registry) (l : Line) → IsPlan l → (r : Run registry l) → FirstPart registry l r }
-    ensures closed_runs { (registry : Registry) (l : Line) → IsPlan l → (r : Run registry l) → Closed registry l r → SecondPart registry l r }
-    ensures completed_once { (registry : Registry) (l : Line) → IsPlan l → (r : Run registry l) → (g : ℕ) → completions l g r.table ≤ 1 }
-    ensures of_canvas { (registry : Registry) (c : Tree) → IsFull c → (l : Line) → IsPlan l → tree_of l ≡ numbered (normal c) → (r : Run registry l) → Closed registry l r → (t : ℕ) → (results (roster_of l) r.table).outcomes t ≡ state_of t (meaning registry c) }
+    ensures every_run { (behaviour : Behaviour) (l : Line) → IsPlan l → (r : Run behaviour l) → FirstPart behaviour l r }
+    ensures closed_runs { (behaviour : Behaviour) (l : Line) → IsPlan l → (r : Run behaviour l) → Closed behaviour l r → SecondPart behaviour l r }
+    ensures completed_once { (behaviour : Behaviour) (l : Line) → IsPlan l → (r : Run behaviour l) → (g : ℕ) → completions l g r.table ≤ 1 }
+    ensures of_canvas { (behaviour : Behaviour) (c : Tree) → IsFull c → (l : Line) → IsPlan l → tree_of l ≡ numbered (normal c) → (r : Run behaviour l) → Closed behaviour l r → (t : ℕ) → (results (roster_of l) r.table).outcomes t ≡ state_of t (meaning behaviour c) }
 {}
 
 /// There is something of which the law speaks: a chord of two sums and the sum of both has a closed run by two workers, with these
-/// histories. A history in which both parts find that none was returned before is none of the table.
+/// histories, where the first sum's envelope is delivered again. A history in which both parts find that none was returned before is
+/// none of the table, and one in which a caller delivers again what another took is none of the queue. A script that goes on after
+/// Again, or that acknowledges its envelope before its work, is no core run.
 pub fn runs_of_a_chord()
     ensures stands { (r : Run six_tasks small) × (r.queue ≡ queue) × (r.table ≡ table) × Closed six_tasks small r }
     ensures none_lost { IsLegal (roster_of small) lost_part → ⊥ }
+    ensures none_taken { IsQueueLegal not_taken → ⊥ }
+    ensures none_goes_on { IsCoreRun (worker six_tasks small) taking goes_on → ⊥ }
+    ensures none_acks_first { IsCoreRun (worker six_tasks small) taking acks_first → ⊥ }
 {}
 
 /// What each caller saw makes a run. Where worker 0 has made the passes and the seats of the workers, has taken all in again, and each
@@ -104,7 +118,32 @@ pub fn ends_of_turns()
     ensures rounds { RoundsGo }
 {}
 
-/// There is something of which the laws of turns speak: by a list of eleven turns and two rounds behind it two workers run the chord of
+/// Runs by turns in which envelopes are delivered again by a list of entries, each a task with one of the two points of a script of its
+/// message, before its first store or before its acknowledgement. Whatever the entries, such a run is a run by turns, so it ends, and where
+/// all have ended each task has the state that evaluating the plan gives. Its redeliveries are the entries that were spent. A worker whose next ask
+/// is a message's own store has come to the first of the two points of that message's task. The stores that
+/// answered that they were not the first are as many as the entries whose task evaluation runs, and no such entry stays unspent; at any time
+/// they are no more than the entries. A run by turns without redeliveries is one without entries.
+pub fn laws_of_entries()
+    ensures turns { EntriesAreTurns }
+    ensures few { EntriesFew }
+    ensures own { OwnPoints }
+    ensures agains { AgainsAreEntries }
+    ensures at_most { AgainsFew }
+    ensures none { NoEntries }
+    ensures whole { AgainTurns }
+{}
+
+/// There is something of which the laws of entries speak. A sum and its product, with an entry for each of the two points of the sum's message, have these
+/// steps, and two stores answer that they were not the first. A division by zero with a link has these, and the entry for the link's message,
+/// which is never published, does nothing. By no turns is a store answered with an entry for the point before it unspent.
+pub fn runs_by_entries()
+    ensures both { (r : RanAgain six_tasks product 1 [] both_points) × (r.steps ≡ product_steps) × (agains_in r.steps ≡ 2) }
+    ensures idle { (r : RanAgain six_tasks quotient 1 [] link_entry) × (r.steps ≡ quotient_steps) × (agains_in r.steps ≡ 0) }
+    ensures none_unspent { (us : List ℕ) (rest : List Entry) → TurnedAgain six_tasks product 1 [] both_points us unspent rest → ⊥ }
+{}
+
+/// There is something of which the laws of turns speak: by a list of fourteen turns and two rounds behind it two workers run the chord of
 /// two sums and the sum of both, with these steps. By no turns is a worker told that nothing more will come while another one is
 /// inside the script of a message.
 pub fn turns_of_a_chord()

@@ -1,6 +1,6 @@
 -- A line as a signature means what the line means.
 use Rattle.std.proofs.Common.{◌≡◌, ◌∙◌, ℕ, ◌+◌, ◌++◌, [], append-nil, refl, sym, ap, arith}
-use Rattle.canvas_task.specs.Apply.{Registry}
+use Rattle.canvas_task.specs.Apply.{Behaviour}
 use Rattle.canvas_semantics.specs.Tree.{one, group, chord, Trees, no_trees, and_tree, ends_in_group, last_in_group, count, count_all, count_groups, count_all_groups, number, number_all, numbered, number_task}
 use Rattle.canvas_semantics.specs.Compact.{element_or_chain, compact, compact_elements, compact_members}
 use Rattle.canvas_semantics.specs.Evaluation.{Flow, ends, last_ends, all_ends, behind, and_then, group_value, with_states, as_group, eval, eval_chain, member_rows}
@@ -14,10 +14,10 @@ use Rattle.canvas_semantics.proofs.Numbered.{tree_numbered}
 
 -- ---- one element, or a chain
 
-module _ (registry : Registry) where
-  whole_means : (ts : Trees) (x : Flow) → eval registry (element_or_chain ts) x ≡ eval_chain registry ts x
+module _ (behaviour : Behaviour) where
+  whole_means : (ts : Trees) (x : Flow) → eval behaviour (element_or_chain ts) x ≡ eval_chain behaviour ts x
   whole_means no_trees x = refl
-  whole_means (and_tree t no_trees) x = sym (and_then_nothing (eval registry t x))
+  whole_means (and_tree t no_trees) x = sym (and_then_nothing (eval behaviour t x))
   whole_means (and_tree t (and_tree u us)) x = refl
 
 whole_ends : (ts : Trees) → ends (element_or_chain ts) ≡ last_ends ts
@@ -91,27 +91,27 @@ mutual
 
 -- ---- evaluation
 
-module _ (registry : Registry) where
+module _ (behaviour : Behaviour) where
   -- a group reads its members' ends and rows alone
-  as_group_same : (ms : Lines) (x : Flow) → member_rows registry (compact_members ms) x ≡ member_rows registry (members_of ms) x
-      → as_group x (compact_members ms) (member_rows registry (compact_members ms) x) ≡ as_group x (members_of ms) (member_rows registry (members_of ms) x)
+  as_group_same : (ms : Lines) (x : Flow) → member_rows behaviour (compact_members ms) x ≡ member_rows behaviour (members_of ms) x
+      → as_group x (compact_members ms) (member_rows behaviour (compact_members ms) x) ≡ as_group x (members_of ms) (member_rows behaviour (members_of ms) x)
   as_group_same ms x rows_are =
       ap (λ rows. record { rows = rows; out = group_value x (with_states rows (all_ends (compact_members ms))) }) rows_are
-      ∙ ap (λ es. record { rows = member_rows registry (members_of ms) x; out = group_value x (with_states (member_rows registry (members_of ms) x) es) }) (all_ends_same ms)
+      ∙ ap (λ es. record { rows = member_rows behaviour (members_of ms) x; out = group_value x (with_states (member_rows behaviour (members_of ms) x) es) }) (all_ends_same ms)
 
   mutual
-    means : (l : Line) (x : Flow) → eval_chain registry (compact_elements l) x ≡ eval_chain registry (elements_of l) x
+    means : (l : Line) (x : Flow) → eval_chain behaviour (compact_elements l) x ≡ eval_chain behaviour (elements_of l) x
     means stop x = refl
-    means (step t l) x = ap (λ m. behind (eval registry (one t) x).rows m) (means l (eval registry (one t) x).out)
-    means (group_end g ms) x = ap (λ m. and_then m (eval_chain registry no_trees)) (as_group_same ms x (rows_same ms x))
+    means (step t l) x = ap (λ m. behind (eval behaviour (one t) x).rows m) (means l (eval behaviour (one t) x).out)
+    means (group_end g ms) x = ap (λ m. and_then m (eval_chain behaviour no_trees)) (as_group_same ms x (rows_same ms x))
     means (chord_end g ms b) x =
-        let header = as_group x (members_of ms) (member_rows registry (members_of ms) x) in
-        ap (λ m. and_then (and_then m (eval registry (element_or_chain (compact_elements b)))) (eval_chain registry no_trees)) (as_group_same ms x (rows_same ms x))
-        ∙ ap (λ m. and_then (behind header.rows m) (eval_chain registry no_trees)) (whole_means registry (compact_elements b) header.out ∙ means b header.out)
+        let header = as_group x (members_of ms) (member_rows behaviour (members_of ms) x) in
+        ap (λ m. and_then (and_then m (eval behaviour (element_or_chain (compact_elements b)))) (eval_chain behaviour no_trees)) (as_group_same ms x (rows_same ms x))
+        ∙ ap (λ m. and_then (behind header.rows m) (eval_chain behaviour no_trees)) (whole_means behaviour (compact_elements b) header.out ∙ means b header.out)
 
-    rows_same : (ms : Lines) (x : Flow) → member_rows registry (compact_members ms) x ≡ member_rows registry (members_of ms) x
+    rows_same : (ms : Lines) (x : Flow) → member_rows behaviour (compact_members ms) x ≡ member_rows behaviour (members_of ms) x
     rows_same no_lines x = refl
-    rows_same (and_line m ms) x = λ i. ((whole_means registry (compact_elements m) x ∙ means m x) i).rows ++ rows_same ms x i
+    rows_same (and_line m ms) x = λ i. ((whole_means behaviour (compact_elements m) x ∙ means m x) i).rows ++ rows_same ms x i
 
 -- ---- numbers
 
@@ -162,7 +162,7 @@ compact_same l =
     let numbers : numbered (compact l) ≡ compact n = whole_number (compact_elements l) 1 1 ∙ ap element_or_chain (number_compact l 1 1) in
     let line : tree_of n ≡ numbered (tree_of l) = tree_numbered l in
     record {
-      means = λ registry x. ap (λ t. eval registry t x) numbers ∙ whole_means registry (compact_elements n) x ∙ means registry n x ∙ ap (λ t. eval registry t x) line;
+      means = λ behaviour x. ap (λ t. eval behaviour t x) numbers ∙ whole_means behaviour (compact_elements n) x ∙ means behaviour n x ∙ ap (λ t. eval behaviour t x) line;
       ends_alike = ap ends numbers ∙ whole_ends (compact_elements n) ∙ ends_same n ∙ ap ends line;
       in_group_alike = ap ends_in_group numbers ∙ whole_group (compact_elements n) ∙ group_same n ∙ ap ends_in_group line;
       groups_alike = ap groups_of numbers ∙ whole_groups_of (compact_elements n) ∙ groups_kept n ∙ ap groups_of line;

@@ -1,6 +1,6 @@
 -- Rewriting changes no number.
 use Rattle.std.proofs.Common.{◌≡◌, ℕ, ◌+◌, refl, ap, ◌∙◌, arith}
-use Rattle.canvas_task.specs.Apply.{Registry}
+use Rattle.canvas_task.specs.Apply.{Behaviour}
 use Rattle.canvas_semantics.specs.Tree.{ends_in_group, Tree, one, chain, group, chord, Trees, no_trees, and_tree, IsFull, AreFull, count, count_all, count_groups, count_all_groups, number, number_all, numbered}
 use Rattle.canvas_semantics.specs.Evaluation.{Flow, eval, ends}
 use Rattle.canvas_semantics.specs.SameMeaning.{IsSame}
@@ -101,17 +101,17 @@ mutual
 pub numbered_normal : (t : Tree) → numbered (normal t) ≡ normal (numbered t)
 numbered_normal t = ap chain (number_onto t no_trees 1 1)
 
-module _ (registry : Registry) where
+module _ (behaviour : Behaviour) where
   -- for every flow the normal line, numbered by itself, means what the canvas means, and has the same ends
-  pub law : (t : Tree) (x : Flow) → IsFull t → eval registry (numbered (normal t)) x ≡ eval registry (numbered t) x
-  law t x h = ap (λ u. eval registry u x) (numbered_normal t) ∙ normal_keeps registry (numbered t) x (full_number t 1 1 h)
+  pub law : (t : Tree) (x : Flow) → IsFull t → eval behaviour (numbered (normal t)) x ≡ eval behaviour (numbered t) x
+  law t x h = ap (λ u. eval behaviour u x) (numbered_normal t) ∙ normal_keeps behaviour (numbered t) x (full_number t 1 1 h)
 
 pub law_ends : (t : Tree) → IsFull t → ends (numbered (normal t)) ≡ ends (numbered t)
 law_ends t h = ap ends (numbered_normal t) ∙ normal_keeps_ends (numbered t) (full_number t 1 1 h)
 
 pub same : (t : Tree) → IsFull t → IsSame (normal t) t
 same t h = record {
-  means = λ registry x. law registry t x h;
+  means = λ behaviour x. law behaviour t x h;
   ends_alike = law_ends t h;
   in_group_alike = ap ends_in_group (numbered_normal t) ∙ in_group_onto (numbered t) no_trees (full_number t 1 1 h);
   groups_alike = ap groups_of (numbered_normal t) ∙ same_groups (numbered t) (full_number t 1 1 h);

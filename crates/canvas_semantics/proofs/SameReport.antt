@@ -10,7 +10,7 @@ use Rattle.canvas_semantics.specs.States.{rows_from, states}
 use Rattle.canvas_semantics.proofs.NumberLemmas.{numbered_normal}
 use Rattle.canvas_semantics.proofs.RowNumbers.{states_whole}
 use Rattle.std.specs.Prelude.{codes}
-use Rattle.canvas_task.specs.Apply.{Registry}
+use Rattle.canvas_task.specs.Apply.{Behaviour}
 
 alone : (ns : List (ℕ × Text)) → ns ++ [] ≡ ns
 alone ns = append-nil ns
@@ -49,7 +49,7 @@ same_report_of c rows law =
     ∙ ap (λ b. written (names_by_number (numbered c)) rows b (ends (numbered (normal c)))) law.in_group_alike
     ∙ ap (λ es. written (names_by_number (numbered c)) rows (ends_in_group (numbered c)) es) law.ends_alike
 
-module _ (registry : Registry) where
-  pub same_report : (c : Tree) → IsSame (normal c) c → report_of (numbered (normal c)) (rows_from 1 (states registry (numbered (normal c)))) ≡ report registry c
+module _ (behaviour : Behaviour) where
+  pub same_report : (c : Tree) → IsSame (normal c) c → report_of (numbered (normal c)) (rows_from 1 (states behaviour (numbered (normal c)))) ≡ report behaviour c
   same_report c law =
-      ap (report_of (numbered (normal c))) (states_whole registry (normal c) ∙ ap (λ m. m.rows) (law.means registry nothing)) ∙ same_report_of c (meaning registry c) law
+      ap (report_of (numbered (normal c))) (states_whole behaviour (normal c) ∙ ap (λ m. m.rows) (law.means behaviour nothing)) ∙ same_report_of c (meaning behaviour c) law

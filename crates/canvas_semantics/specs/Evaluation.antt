@@ -1,5 +1,5 @@
 -- What a canvas means: a state for each task, and what flows out (Celery user guide, Canvas: a result is the next task's first argument unless
--- that is immutable; links run on a success, error callbacks on a failure; a chord's body gets the list of its header's results, or a ChordError). What the tasks do is a registry.
+-- that is immutable; links run on a success, error callbacks on a failure; a chord's body gets the list of its header's results, or a ChordError). What the tasks do is a parameter, their behaviour.
 use Rattle.std.specs.Prelude.{ℕ, ◌==◌, if◌then◌else◌, List, [], ◌∷◌, ◌++◌, map, Option, Some, None, ℤ}
 use Rattle.canvas_task.specs.declared.arg.Arg.{Arg}
 use Rattle.canvas_task.specs.declared.arg.Arg.TheVariants as arg
@@ -9,7 +9,7 @@ use Rattle.canvas_task.specs.declared.outcome.Fault.{Fault}
 use Rattle.canvas_task.specs.declared.outcome.Fault.TheVariants as fault
 use Rattle.canvas_task.specs.declared.outcome.Outcome.{Outcome}
 use Rattle.canvas_task.specs.declared.outcome.Outcome.TheVariants.{Success, Failure}
-use Rattle.canvas_task.specs.Apply.{Registry}
+use Rattle.canvas_task.specs.Apply.{Behaviour}
 use Rattle.canvas_task.specs.Identifiers.{task_text}
 use Rattle.canvas_semantics.specs.Tree.{Call, Task, task, Tasks, no_tasks, and_task, Tree, one, chain, group, chord, Trees, no_trees, and_tree, numbered}
 
@@ -71,17 +71,17 @@ passed_on (Some (Failure f)) = skip f
 passed_on None = nothing
 
 -- the state of a task for a flow; what is evaluated with no flow is pending
-abbrev pub state : Registry → Call → Option Flow → State
-state registry call None = None
-state registry call (Some (skip f)) = Some (Failure f)
-state registry call (Some (raised f)) = Some (Failure f)
-state registry call (Some x) = Some (registry call.name (arguments call x) call.kwargs)
+abbrev pub state : Behaviour → Call → Option Flow → State
+state behaviour call None = None
+state behaviour call (Some (skip f)) = Some (Failure f)
+state behaviour call (Some (raised f)) = Some (Failure f)
+state behaviour call (Some x) = Some (behaviour call.name (arguments call x) call.kwargs)
 
-module _ (registry : Registry) where
+module _ (behaviour : Behaviour) where
   abbrev mutual
     pub task_rows : Task → Option Flow → Rows
     task_rows (task k call links errbacks) x =
-        (k, state registry call x) ∷ tasks_rows links (to_links (state registry call x)) ++ tasks_rows errbacks (to_errbacks k x (state registry call x))
+        (k, state behaviour call x) ∷ tasks_rows links (to_links (state behaviour call x)) ++ tasks_rows errbacks (to_errbacks k x (state behaviour call x))
 
     pub tasks_rows : Tasks → Option Flow → Rows
     tasks_rows no_tasks x = []
@@ -89,7 +89,7 @@ module _ (registry : Registry) where
 
   abbrev pub task_meaning : Task → Flow → Meaning
   task_meaning (task k call links errbacks) x =
-      record { rows = task_rows (task k call links errbacks) (Some x); out = passed_on (state registry call (Some x)) }
+      record { rows = task_rows (task k call links errbacks) (Some x); out = passed_on (state behaviour call (Some x)) }
 
 -- ---- the ends of an element, and what goes out of a group
 
@@ -155,10 +155,10 @@ and_then first next = behind first.rows (next first.out)
 abbrev pub as_group : Flow → Trees → Rows → Meaning
 as_group x ms rows = record { rows = rows; out = group_value x (with_states rows (all_ends ms)) }
 
-module _ (registry : Registry) where
+module _ (behaviour : Behaviour) where
   abbrev mutual
     pub eval : Tree → Flow → Meaning
-    eval (one t) x = task_meaning registry t x
+    eval (one t) x = task_meaning behaviour t x
     eval (chain ts) x = eval_chain ts x
     eval (group g ms) x = as_group x ms (member_rows ms x)
     eval (chord g h b) x = and_then (as_group x h (member_rows h x)) (eval b)

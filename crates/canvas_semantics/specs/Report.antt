@@ -1,7 +1,7 @@
 -- The report of a canvas as text: a line for each task with its state as Celery names it (PENDING, SUCCESS, FAILURE), and the result.
 use Rattle.std.specs.Prelude.{ℕ, ◌+◌, Bool, true, false, List, [], ◌∷◌, ◌++◌, Some, None, codes}
 use Rattle.std.specs.Fmt.{signed_decimal}
-use Rattle.canvas_task.specs.Apply.{Registry}
+use Rattle.canvas_task.specs.Apply.{Behaviour}
 use Rattle.canvas_task.specs.Text.{Text}
 use Rattle.canvas_task.specs.declared.outcome.Outcome.TheVariants.{Success, Failure}
 use Rattle.canvas_task.specs.Identifiers.{task_text}
@@ -72,5 +72,5 @@ report_of c rows =
     lines (names_by_number c) rows ++ codes "result " ++ result_text (ends_in_group c) (with_states rows (ends c)) ++ codes "\n"
 
 -- the report of a canvas
-abbrev pub report : Registry → Tree → Text
-report registry c = report_of (numbered c) (meaning registry c)
+abbrev pub report : Behaviour → Tree → Text
+report behaviour c = report_of (numbered c) (meaning behaviour c)

@@ -3,7 +3,7 @@
 #![tactic(auto)]
 
 ghost use Rattle.std.specs.Prelude.{◌≡◌};
-ghost use Rattle.canvas_task.specs.Apply.{Registry};
+ghost use Rattle.canvas_task.specs.Apply.{Behaviour};
 ghost use Rattle.canvas_semantics.specs.NormalLine.{normal};
 ghost use Rattle.canvas_semantics.specs.Report.{report, report_of};
 ghost use Rattle.canvas_semantics.specs.SameMeaning.{IsSame};
@@ -17,5 +17,5 @@ pub fn law_of_normal_lines()
     ensures same { (c : Tree) → IsFull c → IsSame (normal c) c }
     ensures tasks { (c : Tree) → count (normal c) ≡ count c }
     ensures groups { (c : Tree) → count_groups (normal c) ≡ count_groups c }
-    ensures reported { (registry : Registry) (c : Tree) → IsFull c → report_of (numbered (normal c)) (rows_from 1 (states registry (numbered (normal c)))) ≡ report registry c }
+    ensures reported { (behaviour : Behaviour) (c : Tree) → IsFull c → report_of (numbered (normal c)) (rows_from 1 (states behaviour (numbered (normal c)))) ≡ report behaviour c }
 {}

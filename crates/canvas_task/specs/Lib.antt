@@ -1,9 +1,12 @@
 pub mod formers
 pub mod Text
 pub mod Apply
+pub mod Own
 pub mod Entries
 pub mod Identifiers
 pub mod Name
 pub mod Numbers
 pub mod Printed
 pub mod Words
+pub mod Tasks
+pub mod BehaviourInRange

@@ -6,7 +6,7 @@ ghost use Rattle.canvas_task.specs.Entries.{named};
 ghost use Rattle.std.specs.List.{list_all, list_any};
 ghost use Rattle.std.specs.Str.{bytes_eq};
 ghost use Rattle.std.specs.Map.{keys_of};
-ghost use Rattle.canvas_task.specs.Apply.{add, mul, div, xsum, ident, log_error, six_tasks, answer_filled, either, by_name, bound_to, checked, quotient, known_task, KnownTask, parameters};
+ghost use Rattle.canvas_task.specs.Apply.{add, mul, div, xsum, ident, log_error, six_tasks, meaning, outcome, answer_filled, either, by_name, bound_to, checked, quotient, known_task, KnownTask, parameters};
 
 use crate::{Arg, Fault, Kind, Outcome, task_of_text};
 use std::collections::BTreeMap;
@@ -21,14 +21,14 @@ pub fn in_range(number: i64) -> bool
     -BOUND <= number && number <= BOUND
 }
 
-/// A number as a result.
-fn checked(n: i128) -> Outcome
+/// A number as an answer, where one out of range overflows.
+pub fn checked(n: i128) -> Result<i64, Kind>
     ensures { result ≡ checked n }
 {
     if -(BOUND as i128) <= n && n <= BOUND as i128 {
-        Outcome::Success(n as i64)
+        Ok(n as i64)
     } else {
-        Outcome::Failure(Fault::Plain(Kind::Overflow))
+        Err(Kind::Overflow)
     }
 }
 
@@ -46,11 +46,11 @@ fn floor_div(x: i64, y: i64) -> i128
     }
 }
 
-fn quotient(x: i64, y: i64) -> Outcome
+fn quotient(x: i64, y: i64) -> Result<i64, Kind>
     ensures { result ≡ quotient x y }
 {
     if y == 0 {
-        return Outcome::Failure(Fault::Plain(Kind::ZeroDivision));
+        return Err(Kind::ZeroDivision);
     }
     checked(floor_div(x, y))
 }
@@ -102,7 +102,7 @@ fn keys_known(kwargs: &BTreeMap<String, Arg>, x: &str, y: &str) -> bool
 }
 
 /// The arguments for two parameters.
-fn two<'a>(
+pub(crate) fn two<'a>(
     x: &str,
     y: &str,
     args: &'a [Arg],
@@ -118,21 +118,21 @@ fn two<'a>(
     Some((a, b))
 }
 
-fn add(args: &[Arg], kwargs: &BTreeMap<String, Arg>) -> Outcome
-    ensures { result ≡ answer_filled add (bound_to (parameters add) args.now (named kwargs.now.entries)) }
+pub(crate) fn add(args: &[Arg], kwargs: &BTreeMap<String, Arg>) -> Result<i64, Kind>
+    ensures { result ≡ meaning add args.now (named kwargs.now.entries) }
 {
     match two("x", "y", args, kwargs) {
         Some((Arg::Num(x), Arg::Num(y))) => checked(i128::from(*x) + i128::from(*y)),
-        _ => Outcome::Failure(Fault::Plain(Kind::BadCall)),
+        _ => Err(Kind::BadCall),
     }
 }
 
-fn div(args: &[Arg], kwargs: &BTreeMap<String, Arg>) -> Outcome
-    ensures { result ≡ answer_filled div (bound_to (parameters div) args.now (named kwargs.now.entries)) }
+pub(crate) fn div(args: &[Arg], kwargs: &BTreeMap<String, Arg>) -> Result<i64, Kind>
+    ensures { result ≡ meaning div args.now (named kwargs.now.entries) }
 {
     match two("x", "y", args, kwargs) {
         Some((Arg::Num(x), Arg::Num(y))) => quotient(*x, *y),
-        _ => Outcome::Failure(Fault::Plain(Kind::BadCall)),
+        _ => Err(Kind::BadCall),
     }
 }
 
@@ -142,17 +142,21 @@ fn product(x: i64, y: i64) -> i128
     i128::from(x) * i128::from(y)
 }
 
-fn mul(args: &[Arg], kwargs: &BTreeMap<String, Arg>) -> Outcome
-    ensures { result ≡ answer_filled mul (bound_to (parameters mul) args.now (named kwargs.now.entries)) }
+pub(crate) fn mul(args: &[Arg], kwargs: &BTreeMap<String, Arg>) -> Result<i64, Kind>
+    ensures { result ≡ meaning mul args.now (named kwargs.now.entries) }
 {
     match two("x", "y", args, kwargs) {
         Some((Arg::Num(x), Arg::Num(y))) => checked(product(*x, *y)),
-        _ => Outcome::Failure(Fault::Plain(Kind::BadCall)),
+        _ => Err(Kind::BadCall),
     }
 }
 
 /// The argument for one parameter.
-fn one<'a>(x: &str, args: &'a [Arg], kwargs: &'a BTreeMap<String, Arg>) -> Option<&'a Arg>
+pub(crate) fn one<'a>(
+    x: &str,
+    args: &'a [Arg],
+    kwargs: &'a BTreeMap<String, Arg>,
+) -> Option<&'a Arg>
     ensures { option_map (λ a. a.now ∷ []) result ≡ bound_to (x.now ∷ []) args.now (named kwargs.now.entries) }
 {
     if !known(kwargs, x, x) || args.len() > 1 {
@@ -161,47 +165,63 @@ fn one<'a>(x: &str, args: &'a [Arg], kwargs: &'a BTreeMap<String, Arg>) -> Optio
     either(args.first(), by_name(x, kwargs))
 }
 
-fn xsum(args: &[Arg], kwargs: &BTreeMap<String, Arg>) -> Outcome
-    ensures { result ≡ answer_filled xsum (bound_to (parameters xsum) args.now (named kwargs.now.entries)) }
+pub(crate) fn xsum(args: &[Arg], kwargs: &BTreeMap<String, Arg>) -> Result<i64, Kind>
+    ensures { result ≡ meaning xsum args.now (named kwargs.now.entries) }
 {
     match one("numbers", args, kwargs) {
         Some(Arg::List(numbers)) => checked(total(numbers.get())),
-        _ => Outcome::Failure(Fault::Plain(Kind::BadCall)),
+        _ => Err(Kind::BadCall),
     }
 }
 
-fn ident(args: &[Arg], kwargs: &BTreeMap<String, Arg>) -> Outcome
-    ensures { result ≡ answer_filled ident (bound_to (parameters ident) args.now (named kwargs.now.entries)) }
+pub(crate) fn ident(args: &[Arg], kwargs: &BTreeMap<String, Arg>) -> Result<i64, Kind>
+    ensures { result ≡ meaning ident args.now (named kwargs.now.entries) }
 {
     match one("x", args, kwargs) {
         Some(Arg::Num(x)) => checked(i128::from(*x)),
-        _ => Outcome::Failure(Fault::Plain(Kind::BadCall)),
+        _ => Err(Kind::BadCall),
     }
 }
 
-fn log_error(args: &[Arg], kwargs: &BTreeMap<String, Arg>) -> Outcome
-    ensures { result ≡ answer_filled log_error (bound_to (parameters log_error) args.now (named kwargs.now.entries)) }
+pub(crate) fn log_error(args: &[Arg], kwargs: &BTreeMap<String, Arg>) -> Result<i64, Kind>
+    ensures { result ≡ meaning log_error args.now (named kwargs.now.entries) }
 {
     match one("uuid", args, kwargs) {
         Some(Arg::Text(text)) => match task_of_text(text.get()) {
             Some(task) => checked(i128::from(task.get())),
-            None => Outcome::Failure(Fault::Plain(Kind::BadCall)),
+            None => Err(Kind::BadCall),
         },
-        _ => Outcome::Failure(Fault::Plain(Kind::BadCall)),
+        _ => Err(Kind::BadCall),
     }
 }
 
-/// What a task answers to a call.
+/// What becomes of a task that answers so.
+pub(crate) fn outcome(answer: Result<i64, Kind>) -> Outcome
+    ensures { result ≡ outcome answer }
+{
+    match answer {
+        Ok(number) => {
+            if in_range(number) {
+                Outcome::Success(number)
+            } else {
+                Outcome::Failure(Fault::Plain(Kind::Overflow))
+            }
+        }
+        Err(kind) => Outcome::Failure(Fault::Plain(kind)),
+    }
+}
+
+/// What becomes of a call of one of the six tasks.
 pub fn apply(name: &str, args: &[Arg], kwargs: &BTreeMap<String, Arg>) -> Outcome
     ensures { result ≡ six_tasks name.now args.now (named kwargs.now.entries) }
 {
     match name {
-        "tasks.add" => add(args, kwargs),
-        "tasks.mul" => mul(args, kwargs),
-        "tasks.div" => div(args, kwargs),
-        "tasks.xsum" => xsum(args, kwargs),
-        "tasks.ident" => ident(args, kwargs),
-        "tasks.log_error" => log_error(args, kwargs),
+        "tasks.add" => outcome(add(args, kwargs)),
+        "tasks.mul" => outcome(mul(args, kwargs)),
+        "tasks.div" => outcome(div(args, kwargs)),
+        "tasks.xsum" => outcome(xsum(args, kwargs)),
+        "tasks.ident" => outcome(ident(args, kwargs)),
+        "tasks.log_error" => outcome(log_error(args, kwargs)),
         _ => Outcome::Failure(Fault::Plain(Kind::NotRegistered)),
     }
 }

@@ -1,3 +1,7 @@
+//! Tests of numbers, names, texts and the six tasks.
+
+mod registries;
+
 use crate::{
     Arg, Fault, GroupNo, Kind, ListOf, MapOf, Memory, Outcome, TaskNo, TextOf, Why, apply,
     copy_args, copy_kwargs, group_of_text, group_text, name_ok, outcome_of, task_of_text,

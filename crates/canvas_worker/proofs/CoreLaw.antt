@@ -1,6 +1,6 @@
 -- A core run over envelopes is one of the worker over what they say.
 use Rattle.std.proofs.Common.{◌≡◌, ◌∙◌, ℕ, suc, Bool, true, false, cond, eqb, List, [], ◌∷◌, ◌++◌, map, length, Option, Some, None, refl, sym, ap, ap₂, subst}
-use Rattle.canvas_task.specs.Apply.{six_tasks}
+use Rattle.canvas_task.specs.Apply.{Behaviour}
 use Rattle.canvas_task.specs.declared.outcome.Outcome.{Outcome}
 use Rattle.canvas_semantics.specs.Line.{Line}
 use Rattle.canvas_rewrite.specs.FrozenView.{PCarried}
@@ -10,22 +10,22 @@ use Rattle.canvas_message.specs.Job.{Job, store, publish, hand_in}
 use Rattle.canvas_message.specs.declared.envelope.Envelope.{Envelope}
 use Rattle.canvas_backend.specs.Roster.{roster_of}
 use Rattle.canvas_runs.specs.Book.{Book, book_on}
-use Rattle.canvas_runs.specs.Core.{send, keep, read, taken, sent, refused, kept, counted, found, rested, CoreState, taking, resting, over, failed, owning, doing, reading as state_reading, is_due, settled, opens, owned, job_done, ask, answered, ReadsBack, Between, left_after, IsCoreRun}
+use Rattle.canvas_runs.specs.Core.{send, keep, read, taken, sent, refused, kept, counted, found, rested, CoreState, taking, resting, over, failed, owning, doing, reading as state_reading, is_due, settled, opens, owned, job_done, ask, answered, ReadsBack, Between, left_after, IsCoreRun, acking, acked}
 use Rattle.canvas_runs.specs.Protocol.{Protocol}
 use Rattle.canvas_runs.specs.Worker.{worker, opened}
 use Rattle.canvas_worker.specs.Asks.{Asked, Answer}
 use Rattle.canvas_worker.specs.Cores.{IsAlike, GoTogether, CoresAreWorkers}
-use Rattle.canvas_worker.specs.Enveloped.{said, enclosed, enveloped, envelope_if as kept_envelope}
+use Rattle.canvas_worker.specs.Enveloped.{Applied, said, enclosed, enveloped, applied_if as kept_envelope}
 use Rattle.canvas_worker.specs.Standing.{Left}
 use Rattle.canvas_worker.proofs.Opening.{opened_as}
 use Rattle.canvas_worker.proofs.Sendable.{envelope_so, said_of}
 
-module _ (l : Line) where
+module _ (behaviour : Behaviour) (l : Line) where
   abbrev X : Protocol
-  X = enveloped (roster_of l)
+  X = enveloped behaviour (roster_of l)
 
   abbrev Y : Protocol
-  Y = worker six_tasks l
+  Y = worker behaviour l
 
   abbrev Doing : Type 0
   Doing = CoreState Content PCarried Outcome
@@ -38,7 +38,7 @@ module _ (l : Line) where
 
   -- ---- scripts
 
-  settled_alike : (ks : Jobs) (b : Bool) → IsAlike (settled X (map enclosed ks) b) (settled Y ks b)
+  settled_alike : (ks : Jobs) (b : Bool) → IsAlike behaviour (settled X (map enclosed ks) b) (settled Y ks b)
   settled_alike [] b = tt
   settled_alike (store t o ∷ ks) true = (refl, refl)
   settled_alike (store t o ∷ ks) false = (refl, refl)
@@ -53,12 +53,12 @@ module _ (l : Line) where
   due_alike t (publish c ∷ ks) = due_alike t ks
   due_alike t (hand_in g u c ∷ ks) = refl
 
-  job_alike : (k : Job Content PCarried Outcome) (ks : Jobs) (b : Bool) (r : Answer) → IsAlike (job_done X (enclosed k) (map enclosed ks) b r) (job_done Y k ks b r)
-  job_alike (store t o) ks b (kept a) = subst (λ z. IsAlike (settled X (map enclosed ks) (cond z a b)) (settled Y ks (cond (is_due t ks) a b))) (sym (due_alike t ks)) (settled_alike ks (cond (is_due t ks) a b))
+  job_alike : (k : Job Content PCarried Outcome) (ks : Jobs) (b : Bool) (r : Answer) → IsAlike behaviour (job_done X (enclosed k) (map enclosed ks) b r) (job_done Y k ks b r)
+  job_alike (store t o) ks b (kept a) = subst (λ z. IsAlike behaviour (settled X (map enclosed ks) (cond z a b)) (settled Y ks (cond (is_due t ks) a b))) (sym (due_alike t ks)) (settled_alike ks (cond (is_due t ks) a b))
   job_alike (publish c) ks b sent = settled_alike ks b
   job_alike (hand_in g t c) ks b (counted n) = part_alike (eqb (suc n) c.size)
     where
-      part_alike : (z : Bool) → IsAlike (cond z (state_reading g c []) taking) (cond z (state_reading g c []) taking)
+      part_alike : (z : Bool) → IsAlike behaviour (cond z (state_reading g c []) acking) (cond z (state_reading g c []) acking)
       part_alike true = (refl, (refl, refl))
       part_alike false = tt
   job_alike (store t o) ks b r = tt
@@ -67,29 +67,33 @@ module _ (l : Line) where
 
   -- ---- what was taken
 
-  opens_alike : (e : Envelope) (o : Option Content) → opened book e ≡ o → IsAlike (opens X (kept_envelope o e)) (opens Y o)
+  opens_alike : (e : Envelope) (o : Option Content) → opened book e ≡ o → IsAlike behaviour (opens X (kept_envelope behaviour o e)) (opens Y o)
   opens_alike e None is = tt
-  opens_alike e (Some c) is = said_of e c (opened_as book e c is).0
+  opens_alike e (Some c) is =
+      let same : said e ≡ c = said_of e c (opened_as book e c is).0 in
+      (same, ap (outcome_of behaviour) same)
 
   -- ---- members
 
   read_alike : (g : ℕ) (c : PCarried) (fs : List (ℕ × Outcome)) (z : Bool)
-      → IsAlike (cond z (settled X (map enclosed (script (body_after c fs))) false) (state_reading g c fs)) (cond z (settled Y (script (body_after c fs)) false) (state_reading g c fs))
+      → IsAlike behaviour (cond z (settled X (map enclosed (script (body_after c fs))) false) (state_reading g c fs)) (cond z (settled Y (script (body_after c fs)) false) (state_reading g c fs))
   read_alike g c fs true = settled_alike (script (body_after c fs)) false
   read_alike g c fs false = (refl, (refl, refl))
 
   -- ---- answers
 
-  step_owning : (e : Envelope) (c : Content) → said e ≡ c → (a : Bool) → IsAlike (owned X e a) (owned Y c a)
-  step_owning e c is true = subst (λ d. IsAlike (owned X e true) (owned Y d true)) is (settled_alike (script (after (said e) (outcome_of six_tasks (said e)))) true)
-  step_owning e c is false = tt
+  step_owning : (m : Applied) (c : Content) → said m.envelope ≡ c → m.outcome ≡ outcome_of behaviour c → (a : Bool) → IsAlike behaviour (owned X m a) (owned Y c a)
+  step_owning m c is value true =
+      subst (λ d. IsAlike behaviour (owned X m true) (settled Y (script (after d (outcome_of behaviour c))) true)) is
+      (subst (λ o. IsAlike behaviour (owned X m true) (settled Y (script (after (said m.envelope) o)) true)) value (settled_alike (script (after (said m.envelope) m.outcome)) true))
+  step_owning m c is value false = tt
 
-  step_doing : (js : List (Job Envelope PCarried Outcome)) (b : Bool) (ks : Jobs) (d : Bool) (r : Answer) → js ≡ map enclosed ks → b ≡ d → IsAlike (answered X (doing js b) r) (answered Y (doing ks d) r)
-  step_doing js b [] d r is same = subst (λ x. IsAlike (answered X (doing x b) r) failed) (sym is) tt
+  step_doing : (js : List (Job Applied PCarried Outcome)) (b : Bool) (ks : Jobs) (d : Bool) (r : Answer) → js ≡ map enclosed ks → b ≡ d → IsAlike behaviour (answered X (doing js b) r) (answered Y (doing ks d) r)
+  step_doing js b [] d r is same = subst (λ x. IsAlike behaviour (answered X (doing x b) r) failed) (sym is) tt
   step_doing js b (k ∷ ks) d r is same =
-      subst (λ x. IsAlike (answered X (doing x b) r) (job_done Y k ks d r)) (sym is) (subst (λ x. IsAlike (job_done X (enclosed k) (map enclosed ks) b r) (job_done Y k ks x r)) same (job_alike k ks b r))
+      subst (λ x. IsAlike behaviour (answered X (doing x b) r) (job_done Y k ks d r)) (sym is) (subst (λ x. IsAlike behaviour (job_done X (enclosed k) (map enclosed ks) b r) (job_done Y k ks x r)) same (job_alike k ks b r))
 
-  step_reading : (g : ℕ) (c : PCarried) (fs : List (ℕ × Outcome)) (r : Answer) → IsAlike (answered X (state_reading g c fs) r) (answered Y (state_reading g c fs) r)
+  step_reading : (g : ℕ) (c : PCarried) (fs : List (ℕ × Outcome)) (r : Answer) → IsAlike behaviour (answered X (state_reading g c fs) r) (answered Y (state_reading g c fs) r)
   step_reading g c fs (found t (Some o)) = read_alike g c (fs ++ (t, o) ∷ []) (eqb (length (fs ++ (t, o) ∷ [])) c.size)
   step_reading g c fs (found t None) = tt
   step_reading g c fs (taken x) = tt
@@ -98,8 +102,9 @@ module _ (l : Line) where
   step_reading g c fs (kept a) = tt
   step_reading g c fs (counted n) = tt
   step_reading g c fs (rested a) = tt
+  step_reading g c fs acked = tt
 
-  step_taking : (r : Answer) → IsAlike (answered X taking r) (answered Y taking r)
+  step_taking : (r : Answer) → IsAlike behaviour (answered X taking r) (answered Y taking r)
   step_taking (taken None) = tt
   step_taking (taken (Some e)) = opens_alike e (opened book e) refl
   step_taking sent = tt
@@ -108,8 +113,9 @@ module _ (l : Line) where
   step_taking (counted n) = tt
   step_taking (found t o) = tt
   step_taking (rested a) = tt
+  step_taking acked = tt
 
-  step_resting : (r : Answer) → IsAlike (answered X resting r) (answered Y resting r)
+  step_resting : (r : Answer) → IsAlike behaviour (answered X resting r) (answered Y resting r)
   step_resting (rested true) = tt
   step_resting (rested false) = tt
   step_resting (taken x) = tt
@@ -118,27 +124,40 @@ module _ (l : Line) where
   step_resting (kept a) = tt
   step_resting (counted n) = tt
   step_resting (found t o) = tt
+  step_resting acked = tt
 
-  step_own : (e : Envelope) (c : Content) (r : Answer) → said e ≡ c → IsAlike (answered X (owning e) r) (answered Y (owning c) r)
-  step_own e c (kept a) is = step_owning e c is a
-  step_own e c (taken x) is = tt
-  step_own e c sent is = tt
-  step_own e c refused is = tt
-  step_own e c (counted n) is = tt
-  step_own e c (found t o) is = tt
-  step_own e c (rested a) is = tt
+  step_acking : (r : Answer) → IsAlike behaviour (answered X acking r) (answered Y acking r)
+  step_acking acked = tt
+  step_acking (taken x) = tt
+  step_acking sent = tt
+  step_acking refused = tt
+  step_acking (kept a) = tt
+  step_acking (counted n) = tt
+  step_acking (found t o) = tt
+  step_acking (rested a) = tt
 
-  step : (s : Left) (t : Doing) (r : Answer) → IsAlike s t → IsAlike (answered X s r) (answered Y t r)
+  step_own : (m : Applied) (c : Content) (r : Answer) → said m.envelope ≡ c → m.outcome ≡ outcome_of behaviour c → IsAlike behaviour (answered X (owning m) r) (answered Y (owning c) r)
+  step_own m c (kept a) is value = step_owning m c is value a
+  step_own m c (taken x) is value = tt
+  step_own m c sent is value = tt
+  step_own m c refused is value = tt
+  step_own m c (counted n) is value = tt
+  step_own m c (found t o) is value = tt
+  step_own m c (rested a) is value = tt
+  step_own m c acked is value = tt
+
+  step : (s : Left) (t : Doing) (r : Answer) → IsAlike behaviour s t → IsAlike behaviour (answered X s r) (answered Y t r)
   step taking taking r a = step_taking r
   step resting resting r a = step_resting r
   step over over r a = tt
   step failed failed r a = tt
-  step (owning e) (owning c) r a = step_own e c r a
+  step acking acking r a = step_acking r
+  step (owning m) (owning c) r a = step_own m c r a.0 a.1
   step (doing js b) (doing ks d) r a = step_doing js b ks d r a.0 a.1
   step (state_reading g c fs) (state_reading h d gs) r a =
-      subst (λ x. IsAlike (answered X (state_reading g c fs) r) (answered Y (state_reading x d gs) r)) a.0
-      (subst (λ x. IsAlike (answered X (state_reading g c fs) r) (answered Y (state_reading g x gs) r)) a.1.0
-      (subst (λ x. IsAlike (answered X (state_reading g c fs) r) (answered Y (state_reading g c x) r)) a.1.1 (step_reading g c fs r)))
+      subst (λ x. IsAlike behaviour (answered X (state_reading g c fs) r) (answered Y (state_reading x d gs) r)) a.0
+      (subst (λ x. IsAlike behaviour (answered X (state_reading g c fs) r) (answered Y (state_reading g x gs) r)) a.1.0
+      (subst (λ x. IsAlike behaviour (answered X (state_reading g c fs) r) (answered Y (state_reading g c x) r)) a.1.1 (step_reading g c fs r)))
   step s t r a = absurd a
 
   -- ---- asks
@@ -149,39 +168,42 @@ module _ (l : Line) where
   job_asks (publish c) ks b d back = let so = envelope_so c back in (ap (λ e. send e) (sym so.0), so.1)
   job_asks (hand_in g t c) ks b d back = (refl, tt)
 
-  jobs_ask : (js : List (Job Envelope PCarried Outcome)) (b : Bool) (ks : Jobs) (d : Bool) → js ≡ map enclosed ks → ReadsBack X (doing js b)
+  jobs_ask : (js : List (Job Applied PCarried Outcome)) (b : Bool) (ks : Jobs) (d : Bool) → js ≡ map enclosed ks → ReadsBack X (doing js b)
       → (ask Y (doing ks d) ≡ ask X (doing js b)) × ReadsBack Y (doing ks d)
   jobs_ask js b [] d is back = subst (λ x. (ask Y (doing [] d) ≡ ask X (doing x b)) × ReadsBack Y (doing [] d)) (sym is) (refl, tt)
   jobs_ask js b (k ∷ ks) d is back =
       subst (λ x. (ask Y (doing (k ∷ ks) d) ≡ ask X (doing x b)) × ReadsBack Y (doing (k ∷ ks) d)) (sym is) (job_asks k ks b d (subst (λ x. ReadsBack X (doing x b)) is back))
 
-  asks : (s : Left) (t : Doing) → IsAlike s t → ReadsBack X s → (ask Y t ≡ ask X s) × ReadsBack Y t
+  asks : (s : Left) (t : Doing) → IsAlike behaviour s t → ReadsBack X s → (ask Y t ≡ ask X s) × ReadsBack Y t
   asks taking taking a back = (refl, tt)
   asks resting resting a back = (refl, tt)
   asks over over a back = (refl, tt)
   asks failed failed a back = (refl, tt)
-  asks (owning e) (owning c) a back = (ap (λ d. keep (number_of d.own) (outcome_of six_tasks d)) (sym a), tt)
+  asks acking acking a back = (refl, tt)
+  asks (owning m) (owning c) a back = (ap₂ (λ (d : Content) (o : Outcome). keep (number_of d.own) o) (sym a.0) (sym a.1), tt)
   asks (doing js b) (doing ks d) a back = jobs_ask js b ks d a.0 back
   asks (state_reading g c fs) (state_reading h d gs) a back = (ap₂ (λ x y. read x (length y)) (sym a.0) (sym a.1.1), tt)
   asks s t a back = absurd a
 
   -- ---- between scripts
 
-  closed_alike : (s : Left) (t : Doing) → IsAlike s t → Between s → Between t
+  closed_alike : (s : Left) (t : Doing) → IsAlike behaviour s t → Between s → Between t
   closed_alike taking taking a h = tt
   closed_alike resting resting a h = tt
   closed_alike over over a h = tt
   closed_alike failed failed a h = h
+  closed_alike acking acking a h = h
   closed_alike (owning e) (owning c) a h = h
   closed_alike (doing js b) (doing ks d) a h = h
   closed_alike (state_reading g c fs) (state_reading k d gs) a h = h
   closed_alike s t a h = absurd a
 
-  closes_alike : (s : Left) (t : Doing) → IsAlike s t → Between t → Between s
+  closes_alike : (s : Left) (t : Doing) → IsAlike behaviour s t → Between t → Between s
   closes_alike taking taking a h = tt
   closes_alike resting resting a h = tt
   closes_alike over over a h = tt
   closes_alike failed failed a h = h
+  closes_alike acking acking a h = h
   closes_alike (owning e) (owning c) a h = h
   closes_alike (doing js b) (doing ks d) a h = h
   closes_alike (state_reading g c fs) (state_reading k d gs) a h = h
@@ -189,7 +211,7 @@ module _ (l : Line) where
 
   -- ---- whole runs
 
-  together : (s : Left) (t : Doing) → IsAlike s t → GoTogether l s t
+  together : (s : Left) (t : Doing) → IsAlike behaviour s t → GoTogether behaviour l s t
   together s t a = record {
     alike = a;
     asks = λ back. (asks s t a back).0;
@@ -198,8 +220,8 @@ module _ (l : Line) where
     closes = closes_alike s t a;
   }
 
-  pub carried : (s : Left) (t : Doing) (xs : List (Asked × Answer)) → IsAlike s t → IsCoreRun X s xs
-      → IsCoreRun Y t xs × GoTogether l (left_after X s xs) (left_after Y t xs)
+  pub carried : (s : Left) (t : Doing) (xs : List (Asked × Answer)) → IsAlike behaviour s t → IsCoreRun X s xs
+      → IsCoreRun Y t xs × GoTogether behaviour l (left_after X s xs) (left_after Y t xs)
   carried s t [] a run = (tt, together s t a)
   carried s t (x ∷ xs) a run =
       let here = asks s t a run.1.1 in
@@ -207,4 +229,4 @@ module _ (l : Line) where
       ((run.0 ∙ sym here.0, (run.1.0, here.1), after.0), after.1)
 
 pub cores_are_workers : CoresAreWorkers
-cores_are_workers l xs run = carried l taking taking xs tt run
+cores_are_workers behaviour l xs run = carried behaviour l taking taking xs tt run

@@ -1,6 +1,6 @@
 -- What a new worker's record says in words of the worker that the law of runs speaks of.
 use Rattle.std.proofs.Common.{◌≡◌, ◌∙◌, List, [], ◌∷◌, refl, sym, subst, arith}
-use Rattle.canvas_task.specs.Apply.{six_tasks}
+use Rattle.canvas_task.specs.Apply.{Behaviour}
 use Rattle.canvas_task.specs.declared.outcome.Outcome.{Outcome}
 use Rattle.canvas_semantics.specs.Line.{Line}
 use Rattle.canvas_rewrite.specs.FrozenView.{PCarried}
@@ -19,28 +19,28 @@ use Rattle.canvas_worker.specs.Standing.{Left}
 use Rattle.canvas_worker.proofs.CoreLaw.{cores_are_workers}
 
 -- over together
-over_alike : (t : CoreState Content PCarried Outcome) → IsAlike over t → t ≡ over
-over_alike over a = refl
-over_alike t a = absurd a
+over_alike : (behaviour : Behaviour) (t : CoreState Content PCarried Outcome) → IsAlike behaviour over t → t ≡ over
+over_alike behaviour over a = refl
+over_alike behaviour t a = absurd a
 
 -- a worker needs no first messages
-module _ (l : Line) where
-  run_same : (s : CoreState Content PCarried Outcome) (xs : List (Asked × Answer)) → IsCoreRun (worker six_tasks l) s xs → IsCoreRun (worker_of six_tasks (roster_of l)) s xs
+module _ (behaviour : Behaviour) (l : Line) where
+  run_same : (s : CoreState Content PCarried Outcome) (xs : List (Asked × Answer)) → IsCoreRun (worker behaviour l) s xs → IsCoreRun (worker_of behaviour (roster_of l)) s xs
   run_same s [] r = tt
-  run_same s (x ∷ xs) r = (r.0, r.1, run_same (answered (worker_of six_tasks (roster_of l)) s x.1) xs r.2)
+  run_same s (x ∷ xs) r = (r.0, r.1, run_same (answered (worker_of behaviour (roster_of l)) s x.1) xs r.2)
 
-  left_same : (s : CoreState Content PCarried Outcome) (xs : List (Asked × Answer)) → left_after (worker six_tasks l) s xs ≡ left_after (worker_of six_tasks (roster_of l)) s xs
+  left_same : (s : CoreState Content PCarried Outcome) (xs : List (Asked × Answer)) → left_after (worker behaviour l) s xs ≡ left_after (worker_of behaviour (roster_of l)) s xs
   left_same s [] = refl
-  left_same s (x ∷ xs) = left_same (answered (worker_of six_tasks (roster_of l)) s x.1) xs
+  left_same s (x ∷ xs) = left_same (answered (worker_of behaviour (roster_of l)) s x.1) xs
 
   -- the same point of the same worker
   abbrev carried : Progress → List (Asked × Answer) → Working
-  carried p xs = record { pass = p.pass; seat = p.seat; left = left_after (worker_of six_tasks (roster_of l)) taking xs; held = p.held; tally = p.tally }
+  carried p xs = record { pass = p.pass; seat = p.seat; left = left_after (worker_of behaviour (roster_of l)) taking xs; current = p.current; held = p.held; tally = p.tally }
 
-  followed : (pass : Pass) (seat : Seat) (p : Progress) (w : Worked (roster_of l) (starting pass seat) p) → Followed six_tasks (roster_of l) (begins pass seat) (carried p w.run)
+  followed : (pass : Pass) (seat : Seat) (p : Progress) (w : Worked behaviour (roster_of l) (starting pass seat) p) → Followed behaviour (roster_of l) (begins pass seat) (carried p w.run)
   followed pass seat p w = record {
     run = w.run;
-    is_core = run_same taking w.run (cores_are_workers l w.run w.is_core).0;
+    is_core = run_same taking w.run (cores_are_workers behaviour l w.run w.is_core).0;
     reads = w.reads;
     counts = w.counts;
     leaves = refl;
@@ -52,10 +52,10 @@ module _ (l : Line) where
     serves = w.serves;
   }
 
-  closed : (pass : Pass) (seat : Seat) (p : Progress) (w : Worked (roster_of l) (starting pass seat) p) → (p.left ≡ over) × (p.held ≡ []) × Empties p.pass → IsOver (carried p w.run)
+  closed : (pass : Pass) (seat : Seat) (p : Progress) (w : Worked behaviour (roster_of l) (starting pass seat) p) → (p.left ≡ over) × (p.held ≡ []) × Empties p.pass → IsOver (carried p w.run)
   closed pass seat p w whole =
-      let together : GoTogether l (left_after (enveloped (roster_of l)) taking w.run) (left_after (worker six_tasks l) taking w.run) = (cores_are_workers l w.run w.is_core).1 in
-      (sym (left_same taking w.run) ∙ over_alike (left_after (worker six_tasks l) taking w.run) (subst (λ s. IsAlike s (left_after (worker six_tasks l) taking w.run)) (w.leaves ∙ whole.0) together.alike), whole.1)
+      let together : GoTogether behaviour l (left_after (enveloped behaviour (roster_of l)) taking w.run) (left_after (worker behaviour l) taking w.run) = (cores_are_workers behaviour l w.run w.is_core).1 in
+      (sym (left_same taking w.run) ∙ over_alike behaviour (left_after (worker behaviour l) taking w.run) (subst (λ s. IsAlike behaviour s (left_after (worker behaviour l) taking w.run)) (w.leaves ∙ whole.0) together.alike), whole.1)
 
 pub workers_start : WorkersStart
 workers_start l plan broker desk number pass seat is of home = record {
@@ -72,15 +72,15 @@ workers_start l plan broker desk number pass seat is of home = record {
     never e = cc
 
 pub workers_finish : WorkersFinish
-workers_finish l plan broker desk number pass seat is r f =
-    let worked : Worked (roster_of l) (starting pass seat) f.ended = subst (λ (p : Roster). Worked p (starting pass seat) f.ended) is f.worked in
+workers_finish behaviour l plan broker desk number pass seat is r f =
+    let worked : Worked behaviour (roster_of l) (starting pass seat) f.ended = subst (λ (p : Roster). Worked behaviour p (starting pass seat) f.ended) is f.worked in
     record {
       same_number = f.is_of.same_number;
-      ended = carried l f.ended worked.run;
-      followed = followed l pass seat f.ended worked;
+      ended = carried behaviour l f.ended worked.run;
+      followed = followed behaviour l pass seat f.ended worked;
       pass_is = f.is_of.pass;
       seat_is = f.is_of.seat;
       counts = f.is_of.counts;
-      done = λ none. closed l pass seat f.ended worked (f.is_of.whole none);
+      done = λ none. closed behaviour l pass seat f.ended worked (f.is_of.whole none);
       empty = λ none. subst (λ p. Empties p) (sym f.is_of.pass) (f.is_of.whole none).2;
     }

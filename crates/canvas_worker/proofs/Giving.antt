@@ -1,12 +1,13 @@
 -- An ask of a core that is answered with an envelope.
 use Rattle.std.proofs.Common.{◌≡◌, ◌∙◌, ℕ, ◌+◌, min, false, List, [], ◌∷◌, ◌++◌, Some, Result, Ok, Err, refl, sym, ap, subst, arith}
 use Rattle.std.specs.Prelude.{MatchResult}
+use Rattle.canvas_task.specs.Apply.{Behaviour}
 use Rattle.canvas_message.specs.declared.envelope.Envelope.{Envelope}
 use Rattle.canvas_backend.specs.Seats.{Desk}
 use Rattle.canvas_backend.specs.Roster.{Roster}
 use Rattle.canvas_broker.specs.Passes.{Took}
 use Rattle.canvas_runs.specs.Book.{book_on}
-use Rattle.canvas_runs.specs.Calls.{backend_call}
+use Rattle.canvas_runs.specs.Calls.{backend_call, held_by}
 use Rattle.canvas_runs.specs.Core as C
 use Rattle.canvas_runs.specs.Core.{answered, Suits, ReadsBack}
 use Rattle.canvas_runs.specs.Following.{Seat, Serves}
@@ -15,14 +16,14 @@ use Rattle.canvas_worker.specs.Books.{book_in}
 use Rattle.canvas_worker.specs.Enveloped.{enveloped}
 use Rattle.canvas_worker.specs.Progress.{Progress}
 use Rattle.canvas_worker.specs.Allowed.{Can}
-use Rattle.canvas_worker.specs.Standing.{Standing, asked, drops, after_reply}
+use Rattle.canvas_worker.specs.Standing.{Standing, asked, drops, after_reply, held, kept_next, task_next}
 use Rattle.canvas_worker.specs.WorkerSteps.{Batched, FromHeld}
 use Rattle.canvas_worker.specs.Work.{Work, progress, with_core, with_answer, lost, one_taken, Ready, takes_batch, gives_held, Pends, Leaves, Ends, EndsWith}
 use Rattle.canvas_worker.specs.declared.cause.Cause.TheVariants.{Memory}
 use Rattle.canvas_worker.specs.declared.record.Record.{Record}
 use Rattle.canvas_worker.specs.declared.working.End.{End}
 use Rattle.canvas_worker.proofs.Asking.{same_book, may_go_on}
-use Rattle.canvas_worker.proofs.Shown.{drops_so, takes_taking}
+use Rattle.canvas_worker.proofs.Shown.{drops_so, takes_taking, held_step}
 use Rattle.canvas_worker.proofs.Resting.{given_never}
 use Rattle.canvas_worker.proofs.Turns.{unchanged, one_more, tallied, some_none}
 
@@ -48,26 +49,26 @@ pub record Takes (w u : Work) (es : List Envelope) (e : Envelope) : Type 0 where
   pub first : u.first ≡ w.first
   pub parts : u.parts ≡ w.parts
 
-module _ (w u : Work) (es : List Envelope) (e : Envelope) (ready : Ready w) (x : Takes w u es e) where
+module _ (behaviour : Behaviour) (w u : Work) (es : List Envelope) (e : Envelope) (ready : Ready w) (x : Takes w u es e) where
   abbrev plan : Roster
   plan = w.desk.plan
 
   -- with what was taken, before the core is given any of it
   abbrev between : Progress
-  between = record { pass = u.pass; seat = w.seat; left = w.core.left; held = w.held ++ es; tally = (progress w).tally }
+  between = record { pass = u.pass; seat = w.seat; left = w.core.left; current = held w.core; held = w.held ++ es; tally = (progress w).tally }
 
   batched : Batched (progress w) between es
-  batched = (refl, x.took, refl, refl, refl)
+  batched = (refl, x.took, refl, refl, refl, refl)
 
   abbrev core : Standing
-  core = record { left = answered (enveloped plan) w.core.left (C.taken (Some e)); is_out = false; dropped = min greatest_count (w.core.dropped + is_dropped plan C.take (C.taken (Some e))) }
+  core = record { left = answered (enveloped behaviour plan) w.core.left (C.taken (Some e)); is_out = false; dropped = min greatest_count (w.core.dropped + is_dropped plan C.take (C.taken (Some e))); kept = kept_next (book_on plan) w.core.left w.core.kept (C.taken (Some e)); task = task_next (book_on plan) w.core.left w.core.task (C.taken (Some e)) }
 
-  core_is : after_reply (book_in u.desk.plan) u.core (C.taken (Some e)) ≡ core
+  core_is : after_reply behaviour (book_in u.desk.plan) u.core (C.taken (Some e)) ≡ core
   core_is =
       let so : drops (book_on plan) w.core.left (C.taken (Some e)) ≡ is_dropped plan C.take (C.taken (Some e)) = drops_so plan w.core.left (C.taken (Some e)) ∙ ap (λ b. is_dropped plan b (C.taken (Some e))) x.asked_is in
-      ap (λ (d : Desk). after_reply (book_in d.plan) u.core (C.taken (Some e))) x.desk ∙ ap (λ c. after_reply (book_in plan) c (C.taken (Some e))) x.core
-      ∙ ap (λ b. after_reply b w.core (C.taken (Some e))) (same_book plan ready.plan)
-      ∙ ap (λ (n : ℕ). record { left = answered (enveloped plan) w.core.left (C.taken (Some e)); is_out = false; dropped = min greatest_count (w.core.dropped + n) }) so
+      ap (λ (d : Desk). after_reply behaviour (book_in d.plan) u.core (C.taken (Some e))) x.desk ∙ ap (λ c. after_reply behaviour (book_in plan) c (C.taken (Some e))) x.core
+      ∙ ap (λ b. after_reply behaviour b w.core (C.taken (Some e))) (same_book plan ready.plan)
+      ∙ ap (λ (n : ℕ). record { left = answered (enveloped behaviour plan) w.core.left (C.taken (Some e)); is_out = false; dropped = min greatest_count (w.core.dropped + n); kept = kept_next (book_on plan) w.core.left w.core.kept (C.taken (Some e)); task = task_next (book_on plan) w.core.left w.core.task (C.taken (Some e)) }) so
 
   abbrev given : Work
   given = one_taken (with_core u core)
@@ -84,18 +85,18 @@ module _ (w u : Work) (es : List Envelope) (e : Envelope) (ready : Ready w) (x :
     dropped = added w.core.dropped core.dropped (is_dropped plan C.take (C.taken (Some e))) refl;
   }
 
-  back : ReadsBack (enveloped plan) w.core.left
-  back = subst (λ s. ReadsBack (enveloped plan) s) (sym (takes_taking w.core.left x.asked_is)) tt
+  back : ReadsBack (enveloped behaviour plan) w.core.left
+  back = subst (λ s. ReadsBack (enveloped behaviour plan) s) (sym (takes_taking w.core.left x.asked_is)) tt
 
-  from_held : FromHeld plan between (progress given) e
-  from_held = (record { asked = sym x.asked_is; suits = tt; back = back; member = tt; counts = counted; left = refl }, x.held, refl, x.seat)
+  from_held : FromHeld behaviour plan between (progress given) e
+  from_held = (record { asked = sym x.asked_is; suits = tt; back = back; member = tt; counts = counted; left = refl; current = held_step behaviour plan w.core.left w.core.kept (C.taken (Some e)) (subst (λ b. Suits b (C.taken (Some e))) (sym x.asked_is) tt) ∙ ap (λ b. held_by (held w.core) b (C.taken (Some e))) x.asked_is }, x.held, refl, x.seat)
 
   can : Can plan u.seat core.left
   can =
-      may_go_on plan ready.plan w.seat u.seat w.core.left (C.taken (Some e)) ready.can (subst (λ b. Suits b (C.taken (Some e))) (sym x.asked_is) tt)
+      may_go_on behaviour plan ready.plan w.seat u.seat w.core.left (C.taken (Some e)) ready.can (subst (λ b. Suits b (C.taken (Some e))) (sym x.asked_is) tt)
       (subst (λ b. Serves plan w.seat (backend_call b (C.taken (Some e))) u.seat) (sym x.asked_is) x.seat)
 
-  goes : Pends w given
+  goes : Pends behaviour w given
   goes = record {
     broker = x.broker;
     desk = x.desk;
@@ -106,19 +107,19 @@ module _ (w u : Work) (es : List Envelope) (e : Envelope) (ready : Ready w) (x :
       plan = (ready.plan.0, ready.plan.1, ap (λ (d : Desk). d.plan) x.desk ∙ ready.plan.2);
       inside = refl;
       can = subst (λ (d : Desk). Can d.plan u.seat core.left) (sym x.desk) can;
-      rested = λ rests. absurd (given_never plan e (subst (λ s. answered (enveloped plan) s (C.taken (Some e)) ≡ C.resting) (takes_taking w.core.left x.asked_is) rests));
+      rested = λ rests. absurd (given_never behaviour plan e (subst (λ s. answered (enveloped behaviour plan) s (C.taken (Some e)) ≡ C.resting) (takes_taking w.core.left x.asked_is) rests));
       counts = tallied plan C.take (C.taken (Some e)) (progress w).tally (progress given).tally counted;
     };
     moved = gives_held es e between batched from_held;
   }
 
-  told_is : (v : Work) → v ≡ one_taken (with_answer u (C.taken (Some e))) → Pends w v
-  told_is v is = subst (λ z. Pends w z) (sym (is ∙ ap (λ c. one_taken (with_core u c)) core_is)) goes
+  told_is : (v : Work) → v ≡ one_taken (with_answer behaviour u (C.taken (Some e))) → Pends behaviour w v
+  told_is v is = subst (λ z. Pends behaviour w z) (sym (is ∙ ap (λ c. one_taken (with_core u c)) core_is)) goes
 
   same_tally : (progress (lost u)).tally ≡ (progress w).tally
   same_tally = same_tallies x.taken x.published x.first x.parts (ap (λ (c : Standing). c.dropped) x.core)
 
-  fails : (s : Record) → Leaves (lost u) (Some Memory) s → Ends w s
+  fails : (s : Record) → Leaves (lost u) (Some Memory) s → Ends behaviour w s
   fails s leaves = record {
     ended = between;
     counted = ready.counts;
@@ -126,15 +127,15 @@ module _ (w u : Work) (es : List Envelope) (e : Envelope) (ready : Ready w) (x :
     is_of = record { same_number = leaves.same_number ∙ x.number; pass = leaves.pass; seat = leaves.seat ∙ x.seat; counts = leaves.counts ∙ same_tally; whole = λ none. absurd (some_none Memory (sym leaves.fault_is ∙ none)) };
   }
 
-  lost_is : (v : Work) → v ≡ lost u → EndsWith w (Some Memory) v
+  lost_is : (v : Work) → v ≡ lost u → EndsWith behaviour w (Some Memory) v
   lost_is v is s leaves = fails s (subst (λ z. Leaves z (Some Memory) s) is leaves)
 
-  well : {A : Type 0} (result : Result A End) (v : Work) → MatchResult result (λ _. v ≡ one_taken (with_answer u (C.taken (Some e)))) (λ end. (v ≡ lost u) × (end.fault ≡ Some Memory))
-      → MatchResult result (λ _. Pends w v) (λ end. EndsWith w end.fault v)
+  well : {A : Type 0} (result : Result A End) (v : Work) → MatchResult result (λ _. v ≡ one_taken (with_answer behaviour u (C.taken (Some e)))) (λ end. (v ≡ lost u) × (end.fault ≡ Some Memory))
+      → MatchResult result (λ _. Pends behaviour w v) (λ end. EndsWith behaviour w end.fault v)
   well (Ok _) v is = told_is v is
-  well (Err end) v is = subst (λ f. EndsWith w f v) (sym is.1) (lost_is v is.0)
+  well (Err end) v is = subst (λ f. EndsWith behaviour w f v) (sym is.1) (lost_is v is.0)
 
-pub given_well : {A : Type 0} (w u v : Work) (es : List Envelope) (e : Envelope) (result : Result A End)
-    → MatchResult result (λ _. v ≡ one_taken (with_answer u (C.taken (Some e)))) (λ end. (v ≡ lost u) × (end.fault ≡ Some Memory)) → Ready w → Takes w u es e
-    → MatchResult result (λ _. Pends w v) (λ end. EndsWith w end.fault v)
-given_well w u v es e result is ready x = well w u es e ready x result v is
+pub given_well : {A : Type 0} (behaviour : Behaviour) (w u v : Work) (es : List Envelope) (e : Envelope) (result : Result A End)
+    → MatchResult result (λ _. v ≡ one_taken (with_answer behaviour u (C.taken (Some e)))) (λ end. (v ≡ lost u) × (end.fault ≡ Some Memory)) → Ready w → Takes w u es e
+    → MatchResult result (λ _. Pends behaviour w v) (λ end. EndsWith behaviour w end.fault v)
+given_well behaviour w u v es e result is ready x = well behaviour w u es e ready x result v is

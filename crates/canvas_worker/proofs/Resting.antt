@@ -1,15 +1,16 @@
 -- A core rests only after a take that found nothing.
 use Rattle.std.proofs.Common.{◌≡◌, ◌∙◌, ℕ, suc, Bool, true, false, cond, eqb, List, [], ◌∷◌, ◌++◌, length, Option, Some, None, refl, sym, subst}
+use Rattle.canvas_task.specs.Apply.{Behaviour}
 use Rattle.canvas_task.specs.declared.outcome.Outcome.{Outcome}
 use Rattle.canvas_rewrite.specs.FrozenView.{PCarried}
 use Rattle.canvas_message.specs.Job.{Job, store, publish, hand_in}
 use Rattle.canvas_message.specs.declared.envelope.Envelope.{Envelope}
 use Rattle.canvas_backend.specs.Roster.{Roster}
 use Rattle.canvas_runs.specs.Core as C
-use Rattle.canvas_runs.specs.Core.{taken, sent, kept, counted, found, rested, taking, resting, over, failed, owning, doing, reading, settled, opens, owned, job_done, answered}
+use Rattle.canvas_runs.specs.Core.{taken, sent, kept, counted, found, rested, taking, resting, over, failed, owning, doing, reading, settled, opens, owned, job_done, answered, acking, acked}
 use Rattle.canvas_runs.specs.Protocol.{Protocol}
 use Rattle.canvas_worker.specs.Asks.{Asked, Answer}
-use Rattle.canvas_worker.specs.Enveloped.{enveloped}
+use Rattle.canvas_worker.specs.Enveloped.{Applied, enveloped}
 use Rattle.canvas_worker.specs.Standing.{Left, asked}
 
 -- an ask other than a take
@@ -17,12 +18,12 @@ abbrev pub Busy : Asked → Type 0
 Busy C.take = ⊥
 Busy a = Unit {0}
 
-module _ (plan : Roster) where
+module _ (behaviour : Behaviour) (plan : Roster) where
   abbrev X : Protocol
-  X = enveloped plan
+  X = enveloped behaviour plan
 
   abbrev Jobs : Type 0
-  Jobs = List (Job Envelope PCarried Outcome)
+  Jobs = List (Job Applied PCarried Outcome)
 
   settled_never : (js : Jobs) (b : Bool) → settled X js b ≡ resting → ⊥
   settled_never [] b e = cc
@@ -33,15 +34,15 @@ module _ (plan : Roster) where
   settled_never (hand_in g t c ∷ js) true e = cc
   settled_never (hand_in g t c ∷ js) false e = cc
 
-  opens_never : (o : Option Envelope) → opens X o ≡ resting → ⊥
+  opens_never : (o : Option Applied) → opens X o ≡ resting → ⊥
   opens_never None e = cc
   opens_never (Some m) e = cc
 
-  owned_never : (m : Envelope) (a : Bool) → owned X m a ≡ resting → ⊥
+  owned_never : (m : Applied) (a : Bool) → owned X m a ≡ resting → ⊥
   owned_never m true e = settled_never (X.ended m (X.outcome m)) true e
   owned_never m false e = cc
 
-  counted_never : (g : ℕ) (c : PCarried) (z : Bool) → ◌≡◌ {A = Left} (cond z (reading g c []) taking) resting → ⊥
+  counted_never : (g : ℕ) (c : PCarried) (z : Bool) → ◌≡◌ {A = Left} (cond z (reading g c []) acking) resting → ⊥
   counted_never g c true e = cc
   counted_never g c false e = cc
 
@@ -49,7 +50,7 @@ module _ (plan : Roster) where
   read_never g c fs true e = settled_never (X.completed c fs) false e
   read_never g c fs false e = cc
 
-  job_never : (j : Job Envelope PCarried Outcome) (js : Jobs) (b : Bool) (r : Answer) → job_done X j js b r ≡ resting → ⊥
+  job_never : (j : Job Applied PCarried Outcome) (js : Jobs) (b : Bool) (r : Answer) → job_done X j js b r ≡ resting → ⊥
   job_never (store t o) js b (kept a) e = settled_never js (cond (C.is_due t js) a b) e
   job_never (publish m) js b sent e = settled_never js b e
   job_never (hand_in g t c) js b (counted n) e = counted_never g c (eqb (suc n) (X.size c)) e
@@ -72,6 +73,8 @@ module _ (plan : Roster) where
   never_rests (reading g c fs) (found t (Some o)) not e = read_never g c (fs ++ (t, o) ∷ []) (eqb (length (fs ++ (t, o) ∷ [])) (X.size c)) e
   never_rests (reading g c fs) (found t None) not e = cc
   never_rests (reading g c fs) r not e = cc
+  never_rests acking acked not e = cc
+  never_rests acking r not e = cc
 
   pub busy_never : (s : Left) (r : Answer) (a : Asked) → asked s ≡ a → Busy a → answered X s r ≡ resting → ⊥
   busy_never s r a is busy rests = never_rests s r (λ takes. subst (λ b. Busy b) (sym is ∙ takes) busy) rests

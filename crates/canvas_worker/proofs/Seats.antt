@@ -3,7 +3,7 @@ use Rattle.std.proofs.Common.{⊎_elim, ◌≡◌, ◌≤◌, ◌<◌, ◌+◌, 
 use Rattle.std.specs.Prelude.{IsTrue, if◌then◌else◌}
 use Rattle.std.proofs.lemmas.Bool.{eqb-true, eqb-false}
 use Rattle.std.proofs.lemmas.Option.{slice_get_cases}
-use Rattle.canvas_task.specs.Apply.{six_tasks}
+use Rattle.canvas_task.specs.Apply.{Behaviour}
 use Rattle.canvas_task.specs.declared.outcome.Outcome.{Outcome}
 use Rattle.canvas_history.specs.History.{calls}
 use Rattle.canvas_semantics.specs.Line.{Line, GroupEntry, entry_at, entry_members, entry_size}
@@ -11,7 +11,7 @@ use Rattle.canvas_rewrite.specs.FrozenView.{PCarried}
 use Rattle.canvas_rewrite.specs.Planned.{IsPlan}
 use Rattle.canvas_rewrite.proofs.Members.{all_known}
 use Rattle.canvas_message.specs.Content.{Content, number_of}
-use Rattle.canvas_message.specs.Effects.{outcome_of, after, body_after, script}
+use Rattle.canvas_message.specs.Effects.{after, body_after, script}
 use Rattle.canvas_message.specs.Job.{store, publish, hand_in}
 use Rattle.canvas_message.specs.declared.envelope.Envelope.{Envelope}
 use Rattle.canvas_backend.specs.Backend as results
@@ -20,11 +20,11 @@ use Rattle.canvas_backend.specs.Roster.{Roster, roster_of, members, is_chord, is
 use Rattle.canvas_backend.proofs.HistoryLaws.{first_may, still_may}
 use Rattle.canvas_runs.specs.Book.{book_on, has_size, line_known, message_known}
 use Rattle.canvas_runs.specs.Calls.{stored, backend_call}
-use Rattle.canvas_runs.specs.Core.{taken, sent, kept, counted, found, rested, taking, resting, over, failed, owning, doing, reading, is_due, settled, opens, answered}
+use Rattle.canvas_runs.specs.Core.{taken, sent, kept, counted, found, rested, taking, resting, over, failed, owning, doing, reading, is_due, settled, opens, answered, acking, acked}
 use Rattle.canvas_runs.specs.Following.{Seat, Serves, table_reply}
 use Rattle.canvas_runs.specs.Worker.{opened}
 use Rattle.canvas_worker.specs.Asks.{Answer}
-use Rattle.canvas_worker.specs.Enveloped.{said, enclosed, enveloped, envelope_if as kept_envelope}
+use Rattle.canvas_worker.specs.Enveloped.{said, enclosed, enveloped, applied_if as kept_envelope, no_tasks}
 use Rattle.canvas_worker.specs.Scripts.{EnvelopeJobs}
 use Rattle.canvas_worker.specs.Allowed.{Carries, InPlan, MayHandIn, Can, LetsAsk, CanAsk, CanGoOn}
 use Rattle.canvas_worker.specs.Standing.{Left, asked}
@@ -61,14 +61,14 @@ module _ (plan : Roster) where
       go true e = due_in t d a js e m
       go false e = still_in s t b js k (h e)
 
-  settled_can : (s : Seat) (b : Bool) (js : EnvelopeJobs) → InPlan plan js → MayHandIn plan s b js → Can plan s (settled (enveloped plan) js b)
-  settled_can s b [] i m = tt
-  settled_can s true (store t o ∷ js) i m = (i, m, tt)
-  settled_can s false (store t o ∷ js) i m = (i, m, tt)
-  settled_can s true (publish e ∷ js) i m = (i, m, tt)
-  settled_can s false (publish e ∷ js) i m = (i, m, tt)
-  settled_can s true (hand_in g t c ∷ js) i m = (i, m, refl)
-  settled_can s false (hand_in g t c ∷ js) i m = tt
+  settled_can : (behaviour : Behaviour) (s : Seat) (b : Bool) (js : EnvelopeJobs) → InPlan plan js → MayHandIn plan s b js → Can plan s (settled (enveloped behaviour plan) js b)
+  settled_can behaviour s b [] i m = tt
+  settled_can behaviour s true (store t o ∷ js) i m = (i, m, tt)
+  settled_can behaviour s false (store t o ∷ js) i m = (i, m, tt)
+  settled_can behaviour s true (publish e ∷ js) i m = (i, m, tt)
+  settled_can behaviour s false (publish e ∷ js) i m = (i, m, tt)
+  settled_can behaviour s true (hand_in g t c ∷ js) i m = (i, m, refl)
+  settled_can behaviour s false (hand_in g t c ∷ js) i m = tt
 
   -- the one call of a seat
   served : (s t : Seat) (c : results.TableCall) (r : results.TableReply) → IsCall plan s.name s.seen t.seen (calls s.name c r) → t.name ≡ s.name → ((g d : ℕ) → c ≡ results.part g d → ⊥) → Keeps s t
@@ -80,9 +80,9 @@ module _ (plan : Roster) where
 
   -- ---- messages
 
-  opened_can : (s : Seat) (e : Envelope) (o : Option Content) → opened (book_on plan) e ≡ o → Can plan s (opens (enveloped plan) (kept_envelope o e))
-  opened_can s e None is = tt
-  opened_can s e (Some c) is = is ∙ ap Some (sym (said_of e c (opened_as (book_on plan) e c is).0))
+  opened_can : (behaviour : Behaviour) (s : Seat) (e : Envelope) (o : Option Content) → opened (book_on plan) e ≡ o → Can plan s (opens (enveloped behaviour plan) (kept_envelope behaviour o e))
+  opened_can behaviour s e None is = tt
+  opened_can behaviour s e (Some c) is = is ∙ ap Some (sym (said_of e c (opened_as (book_on plan) e c is).0))
 
   -- ---- chords
 
@@ -98,33 +98,33 @@ module _ (plan : Roster) where
   carried_size g c h = chord_size (entry_at plan.groups g) c.size h.0
 
   -- where a part may be the last of its header
-  handed_can : (s : Seat) (g : ℕ) (c : PCarried) (n : ℕ) → Carries plan g c → Can plan s (cond (eqb (suc n) c.size) (reading g c []) taking)
+  handed_can : (s : Seat) (g : ℕ) (c : PCarried) (n : ℕ) → Carries plan g c → Can plan s (cond (eqb (suc n) c.size) (reading g c []) acking)
   handed_can s g c n h = go (eqb (suc n) c.size) refl
     where
-      go : (z : Bool) → eqb (suc n) c.size ≡ z → Can plan s (cond z (reading g c []) taking)
+      go : (z : Bool) → eqb (suc n) c.size ≡ z → Can plan s (cond z (reading g c []) acking)
       go true e = (h, let full : suc n ≡ c.size = eqb-true (suc n) c.size e in omega (arith, full))
       go false e = tt
 
-module _ (l : Line) (is_plan : IsPlan l) where
+module _ (behaviour : Behaviour) (l : Line) (is_plan : IsPlan l) where
   abbrev plan : Roster
   plan = roster_of l
 
   none : (g : ℕ) → is_member plan g 0 ≡ false
   none g = no_member_zero l is_plan g
 
-  ended_can : (s : Seat) (c : Content) → message_known (book_on plan) c ≡ true → MayReturn plan s.seen s.name (number_of c.own) → Can plan s (settled (enveloped plan) (map enclosed (script (after c (outcome_of six_tasks c)))) true)
-  ended_can s c h m =
+  ended_can : (s : Seat) (c : Content) (o : Outcome) → message_known (book_on plan) c ≡ true → MayReturn plan s.seen s.name (number_of c.own) → Can plan s (settled (enveloped behaviour plan) (map enclosed (script (after c o))) true)
+  ended_can s c o h m =
       let k : ℕ = number_of c.own in
-      let js = ended_jobs c (outcome_of six_tasks c) in
-      let known = ended_known plan none c (outcome_of six_tasks c) h in
-      settled_can plan s true (map enclosed (script (after c (outcome_of six_tasks c)))) (script_known plan (Behind k js) js known)
+      let js = ended_jobs c o in
+      let known = ended_known plan none c o h in
+      settled_can plan behaviour s true (map enclosed (script (after c o))) (script_known plan (Behind k js) js known)
       (script_may plan s true (Behind k js) js (λ d q. ⊎_elim (λ e. inr (λ t. subst (λ z. MayReturn plan s.seen s.name z) (sym e) m)) (λ y. inl y) q) known)
 
-  completed_can : (s : Seat) (c : PCarried) (es : List (ℕ × Outcome)) → line_known (book_on plan) c.body ≡ true → Can plan s (settled (enveloped plan) (map enclosed (script (body_after c es))) false)
+  completed_can : (s : Seat) (c : PCarried) (es : List (ℕ × Outcome)) → line_known (book_on plan) c.body ≡ true → Can plan s (settled (enveloped behaviour plan) (map enclosed (script (body_after c es))) false)
   completed_can s c es h =
       let js = body_jobs c es in
       let known = body_known plan none c es h in
-      settled_can plan s false (map enclosed (script (body_after c es))) (script_known plan (Stored js) js known) (script_may plan s false (Stored js) js (λ d q. inl q) known)
+      settled_can plan behaviour s false (map enclosed (script (body_after c es))) (script_known plan (Stored js) js known) (script_may plan s false (Stored js) js (λ d q. inl q) known)
 
   member_there : (g i : ℕ) → i < length (members plan g) → (t : ℕ) × (slice_get (members plan g) i ≡ Some t) × (t ≤ plan.tasks)
   member_there g i h =
@@ -140,7 +140,8 @@ module _ (l : Line) (is_plan : IsPlan l) where
   asks s resting c = tt
   asks s over c = tt
   asks s failed c = tt
-  asks s (owning e) c = own_known plan (said e) (opened_as (book_on plan) e (said e) c).1
+  asks s acking c = tt
+  asks s (owning m) c = own_known plan (said m.envelope) (opened_as (book_on plan) m.envelope (said m.envelope) c).1
   asks s (doing [] b) c = tt
   asks s (doing (store t o ∷ js) b) c = c.0.0
   asks s (doing (publish e ∷ js) b) c = tt
@@ -149,33 +150,34 @@ module _ (l : Line) (is_plan : IsPlan l) where
 
   -- ---- answers
 
-  goes_on : (s t : Seat) (left : Left) (r : Answer) → Can plan s left → Serves plan s (backend_call (asked left) r) t → Can plan t (answered (enveloped plan) left r)
+  goes_on : (s t : Seat) (left : Left) (r : Answer) → Can plan s left → Serves plan s (backend_call (asked left) r) t → Can plan t (answered (enveloped behaviour plan) left r)
   goes_on s t taking (taken None) c call = tt
-  goes_on s t taking (taken (Some e)) c call = opened_can plan t e (opened (book_on plan) e) refl
+  goes_on s t taking (taken (Some e)) c call = opened_can plan behaviour t e (opened (book_on plan) e) refl
   goes_on s t resting (rested true) c call = tt
   goes_on s t resting (rested false) c call = tt
-  goes_on s t (owning e) (kept true) c (u, stands, same) =
-      ended_can t (said e) (opened_as (book_on plan) e (said e) c).1
-      (subst (λ v. MayReturn plan v.seen v.name (number_of (said e).own)) (sym same)
-      (first_of plan s u (number_of (said e).own) (outcome_of six_tasks (said e)) true stands.4 stands.1 refl))
-  goes_on s t (owning e) (kept false) c call = tt
+  goes_on s t (owning m) (kept true) c (u, stands, same) =
+      ended_can t (said m.envelope) m.outcome (opened_as (book_on plan) m.envelope (said m.envelope) c).1
+      (subst (λ v. MayReturn plan v.seen v.name (number_of (said m.envelope).own)) (sym same)
+      (first_of plan s u (number_of (said m.envelope).own) m.outcome true stands.4 stands.1 refl))
+  goes_on s t (owning m) (kept false) c call = tt
   goes_on s t (doing (store d o ∷ js) b) (kept a) c (u, stands, same) =
-      subst (λ v. Can plan v (settled (enveloped plan) js (cond (is_due d js) a b))) (sym same)
-      (settled_can plan u (cond (is_due d js) a b) js c.0.1
+      subst (λ v. Can plan v (settled (enveloped behaviour plan) js (cond (is_due d js) a b))) (sym same)
+      (settled_can plan behaviour u (cond (is_due d js) a b) js c.0.1
       (store_in plan s u d a b js (served plan s u (results.store d o) (table_reply (stored d o a)) stands.4 stands.1 (λ g k e. absurd cc)) (first_of plan s u d o a stands.4 stands.1) c.1))
-  goes_on s t (doing (publish e ∷ js) b) sent c same = subst (λ v. Can plan v (settled (enveloped plan) js b)) (sym same) (settled_can plan s b js c.0 c.1)
+  goes_on s t (doing (publish e ∷ js) b) sent c same = subst (λ v. Can plan v (settled (enveloped behaviour plan) js b)) (sym same) (settled_can plan behaviour s b js c.0 c.1)
   goes_on s t (doing (hand_in g d h ∷ js) b) (counted n) c call = handed_can plan t g h n c.0.1
   goes_on s t (reading g h fs) (found d (Some o)) c call = go (eqb (length (fs ++ (d, o) ∷ [])) h.size) refl
     where
       go : (z : Bool) → eqb (length (fs ++ (d, o) ∷ [])) h.size ≡ z
-          → Can plan t (cond z (settled (enveloped plan) (map enclosed (script (body_after h (fs ++ (d, o) ∷ [])))) false) (reading g h (fs ++ (d, o) ∷ [])))
+          → Can plan t (cond z (settled (enveloped behaviour plan) (map enclosed (script (body_after h (fs ++ (d, o) ∷ [])))) false) (reading g h (fs ++ (d, o) ∷ [])))
       go true e = completed_can t h (fs ++ (d, o) ∷ []) c.0.1
       go false e = (c.0, let more : length (fs ++ (d, o) ∷ []) ≡ length fs + 1 = length-append fs ((d, o) ∷ []) in let apart = eqb-false (length (fs ++ (d, o) ∷ [])) h.size e in let before = c.1 in omega (arith, more, apart, before))
   goes_on s t (reading g h fs) (found d None) c call = tt
+  goes_on s t acking acked c call = tt
   goes_on s t left r c call = tt
 
 pub can_ask : CanAsk
-can_ask l is_plan s left c = asks l is_plan s left c
+can_ask l is_plan s left c = asks no_tasks l is_plan s left c
 
 pub can_go_on : CanGoOn
-can_go_on l is_plan s t left r c suits call = goes_on l is_plan s t left r c call
+can_go_on behaviour l is_plan s t left r c suits call = goes_on behaviour l is_plan s t left r c call

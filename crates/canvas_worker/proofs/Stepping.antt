@@ -1,5 +1,6 @@
 -- A step in front of what is followed from then on.
 use Rattle.std.proofs.Common.{◌≡◌, ℕ, zero, suc, ◌+◌, ◌≤◌, List, [], ◌∷◌, ◌++◌, length, map, Option, Some, refl, sym, ap, ◌∙◌, subst, append_assoc, append-nil, arith}
+use Rattle.canvas_task.specs.Apply.{Behaviour}
 use Rattle.canvas_task.specs.declared.outcome.Outcome.{Outcome}
 use Rattle.canvas_history.specs.History.{calls, live_from}
 use Rattle.canvas_history.proofs.Histories.{legal_left}
@@ -8,13 +9,13 @@ use Rattle.canvas_backend.specs.Roster.{Roster}
 use Rattle.canvas_broker.specs.Broker as broker
 use Rattle.canvas_broker.specs.Broker.{QueueEntry as Entries, answer, next, May, IsLegal, takes_of}
 use Rattle.canvas_broker.specs.Passes.{Took}
-use Rattle.canvas_runs.specs.Core.{Ask, Reply, take, send, taken, sent, IsCoreRun, left_after}
+use Rattle.canvas_runs.specs.Core.{Ask, Reply, take, send, taken, sent, IsCoreRun, left_after, ack, acked}
 use Rattle.canvas_runs.specs.Following.{Pass, Seat, Stood, Makes, Serves}
 use Rattle.canvas_worker.specs.Progress.{Progress, Worked}
-use Rattle.canvas_runs.specs.Calls.{BrokerCall, took, BackendCall, FollowsCore, follows_all, follows_publish, follows_list_take, follows_core_take, broker_call, broker_calls, backend_call, backend_calls, takes_one}
+use Rattle.canvas_runs.specs.Calls.{BrokerCall, took, CoreCall, makes, BackendCall, FollowsScripts, scripts_all, scripts_publish, scripts_list_take, scripts_core_take, scripts_ack, held_by, broker_call, broker_calls, core_call, core_calls, backend_call, backend_calls, takes_one, again, scripts_again}
 use Rattle.std.specs.Prelude.{slice_get}
 use Rattle.canvas_runs.specs.Lists.{Each, total, at}
-use Rattle.canvas_worker.specs.WorkerSteps.{OnlyBare, Called, FromHeld, Batched}
+use Rattle.canvas_worker.specs.WorkerSteps.{OnlyBare, Called, FromHeld, Batched, Delivered}
 use Rattle.canvas_runs.specs.Tally.{Tally, CountsMore, IsTally, Counted, greatest_count, often, is_taken, is_published, is_first, is_part, is_dropped}
 use Rattle.canvas_worker.specs.Enveloped.{enveloped}
 use Rattle.canvas_runs.proofs.Sums.{total-append}
@@ -47,9 +48,9 @@ took_makes p q (e ∷ d ∷ es) t =
     let legal : IsLegal mid.seen = legal_left [] answer next May [] mid.seen rest (subst (λ l. IsLegal l) shape x.3) in
     (mid, (refl, refl, refl, refl, (x.0, refl, x.2, legal, x.4)), took_makes mid q (d ∷ es) (t.0, t.1, t.2, t.3, ([], shape, tt, x.3, λ _. refl)))
 
-batch_follows : (es : List Envelope) (ts : List (Option Envelope)) (cs ls : List (BrokerCall Envelope)) → FollowsCore (ts ++ map Some es) cs ls → FollowsCore ts cs (taking_all es ++ ls)
-batch_follows [] ts cs ls f = subst (λ xs. FollowsCore xs cs ls) (append-nil ts) f
-batch_follows (e ∷ es) ts cs ls f = follows_list_take (batch_follows es (ts ++ Some e ∷ []) cs ls (subst (λ xs. FollowsCore xs cs ls) (sym (append_assoc ts (Some e ∷ []) (map Some es))) f))
+batch_follows : (h : Option Envelope) (es : List Envelope) (ts : List (Option Envelope)) (cs : List (CoreCall Envelope)) (ls : List (BrokerCall Envelope)) → FollowsScripts h (ts ++ map Some es) cs ls → FollowsScripts h ts cs (taking_all es ++ ls)
+batch_follows h [] ts cs ls f = subst (λ xs. FollowsScripts h xs cs ls) (append-nil ts) f
+batch_follows h (e ∷ es) ts cs ls f = scripts_list_take (batch_follows h es (ts ++ Some e ∷ []) cs ls (subst (λ xs. FollowsScripts h xs cs ls) (sym (append_assoc ts (Some e ∷ []) (map Some es))) f))
 
 map_more : (xs ys : List Envelope) → ◌≡◌ {A = List (Option Envelope)} (map Some (xs ++ ys)) (map Some xs ++ map Some ys)
 map_more [] ys = refl
@@ -85,77 +86,96 @@ module _ (plan : Roster) where
   call_stood (send e) sent = (tt, tt)
   call_stood a r = tt
 
-  call_follows : (a : Ask Envelope Outcome) (r : Reply Envelope Outcome) (held : List Envelope) (cs ls : List (BrokerCall Envelope)) → OnlyBare a r held → FollowsCore (map Some held) cs ls
-      → FollowsCore (map Some held) (broker_call a r ++ cs) (broker_call a r ++ ls)
-  call_follows take (taken (Some e)) held cs ls b f =
-      subst (λ hs. FollowsCore (map Some hs) (took (Some e) ∷ cs) (took (Some e) ∷ ls)) (sym b) (follows_list_take (follows_core_take (subst (λ hs. FollowsCore (map Some hs) cs ls) b f)))
-  call_follows (send e) sent held cs ls b f = follows_publish f
-  call_follows a r held cs ls b f = f
+  call_follows : (a : Ask Envelope Outcome) (r : Reply Envelope Outcome) (h g : Option Envelope) (held : List Envelope) (cs : List (CoreCall Envelope)) (ls : List (BrokerCall Envelope)) → OnlyBare a r held → g ≡ held_by h a r → FollowsScripts g (map Some held) cs ls
+      → FollowsScripts h (map Some held) (core_call a r ++ cs) (broker_call a r ++ ls)
+  call_follows take (taken (Some e)) h g held cs ls b q f =
+      subst (λ hs. FollowsScripts h (map Some hs) (makes (took (Some e)) ∷ cs) (took (Some e) ∷ ls)) (sym b)
+      (scripts_list_take (scripts_core_take (subst (λ hs. FollowsScripts (Some e) (map Some hs) cs ls) b (subst (λ k. FollowsScripts k (map Some held) cs ls) q f))))
+  call_follows (send e) sent h g held cs ls b q f = scripts_publish (subst (λ k. FollowsScripts k (map Some held) cs ls) q f)
+  call_follows ack acked h g held cs ls b q f = scripts_ack (subst (λ k. FollowsScripts k (map Some held) cs ls) q f)
+  call_follows a r h g held cs ls b q f = subst (λ k. FollowsScripts k (map Some held) cs ls) q f
 
   none_added : (n : ℕ) → n ≤ greatest_count → CountsMore n 0 n
   none_added n h = omega (arith, h)
 
-  pub rests : (w : Progress) → IsTally w.tally → Worked plan w w
+module _ (behaviour : Behaviour) (plan : Roster) where
+  pub rests : (w : Progress) → IsTally w.tally → Worked behaviour plan w w
   rests w t = record {
-    counts = record { taken = none_added w.tally.taken t.0; published = none_added w.tally.published t.1; first = none_added w.tally.first t.2; parts = none_added w.tally.parts t.3; dropped = none_added w.tally.dropped t.4 };
+    counts = record { taken = none_added plan w.tally.taken t.0; published = none_added plan w.tally.published t.1; first = none_added plan w.tally.first t.2; parts = none_added plan w.tally.parts t.3; dropped = none_added plan w.tally.dropped t.4 };
     run = [];
     is_core = tt;
     reads = tt;
     leaves = refl;
     made = [];
     stood = tt;
-    follows = follows_all;
+    follows = scripts_all;
     used = omega arith;
     makes = refl;
     serves = refl;
   }
 
-  pub call_first : (w v x : Progress) (a : Ask Envelope Outcome) (r : Reply Envelope Outcome) → Called plan w v a r → Worked plan v x → Worked plan w x
+  pub call_first : (w v x : Progress) (a : Ask Envelope Outcome) (r : Reply Envelope Outcome) → Called behaviour plan w v a r → Worked behaviour plan v x → Worked behaviour plan w x
   call_first w v x a r s f =
       let call : List (BrokerCall Envelope) = broker_call a r in
       record {
         run = (a, r) ∷ f.run;
-        is_core = (s.0.asked, (s.0.suits, s.0.back), subst (λ u. IsCoreRun (enveloped plan) u f.run) s.0.left f.is_core);
+        is_core = (s.0.asked, (s.0.suits, s.0.back), subst (λ u. IsCoreRun (enveloped behaviour plan) u f.run) s.0.left f.is_core);
         reads = (s.0.member, f.reads);
-        counts = counted_more a r f.run w.tally v.tally x.tally s.0.counts f.counts;
-        leaves = subst (λ u. left_after (enveloped plan) u f.run ≡ x.left) s.0.left f.leaves;
+        counts = counted_more plan a r f.run w.tally v.tally x.tally s.0.counts f.counts;
+        leaves = subst (λ u. left_after (enveloped behaviour plan) u f.run ≡ x.left) s.0.left f.leaves;
         made = call ++ f.made;
-        stood = each_append Stood call f.made (call_stood a r) f.stood;
-        follows = call_follows a r w.held (broker_calls f.run) f.made s.2 (subst (λ hs. FollowsCore (map Some hs) (broker_calls f.run) f.made) s.1 f.follows);
+        stood = each_append Stood call f.made (call_stood plan a r) f.stood;
+        follows = call_follows plan a r w.current v.current w.held (core_calls f.run) f.made s.2 s.0.current (subst (λ hs. FollowsScripts v.current (map Some hs) (core_calls f.run) f.made) s.1 f.follows);
         used = (let same : length v.held ≡ length w.held = ap length s.1 in omega (arith, same, f.used, total-append takes_one call f.made, total-append takes_one call (broker_calls f.run)));
         makes = makes_append call f.made w.pass v.pass x.pass s.3 f.makes;
         serves = serves_append plan (backend_call a r) (backend_calls f.run) w.seat v.seat x.seat s.4 f.serves;
       }
 
-  pub held_first : (w v x : Progress) (e : Envelope) → FromHeld plan w v e → Worked plan v x → Worked plan w x
+  pub held_first : (w v x : Progress) (e : Envelope) → FromHeld behaviour plan w v e → Worked behaviour plan v x → Worked behaviour plan w x
   held_first w v x e s f = record {
     run = (take, taken (Some e)) ∷ f.run;
-    is_core = (s.0.asked, (s.0.suits, s.0.back), subst (λ u. IsCoreRun (enveloped plan) u f.run) s.0.left f.is_core);
+    is_core = (s.0.asked, (s.0.suits, s.0.back), subst (λ u. IsCoreRun (enveloped behaviour plan) u f.run) s.0.left f.is_core);
     reads = (s.0.member, f.reads);
-    counts = counted_more take (taken (Some e)) f.run w.tally v.tally x.tally s.0.counts f.counts;
-    leaves = subst (λ u. left_after (enveloped plan) u f.run ≡ x.left) s.0.left f.leaves;
+    counts = counted_more plan take (taken (Some e)) f.run w.tally v.tally x.tally s.0.counts f.counts;
+    leaves = subst (λ u. left_after (enveloped behaviour plan) u f.run ≡ x.left) s.0.left f.leaves;
     made = f.made;
     stood = f.stood;
-    follows = subst (λ hs. FollowsCore (map Some hs) (took (Some e) ∷ broker_calls f.run) f.made) (sym s.1) (follows_core_take f.follows);
+    follows = subst (λ hs. FollowsScripts w.current (map Some hs) (makes (took (Some e)) ∷ core_calls f.run) f.made) (sym s.1) (scripts_core_take (subst (λ k. FollowsScripts k (map Some v.held) (core_calls f.run) f.made) s.0.current f.follows));
     used = (let same : length w.held ≡ length (e ∷ v.held) = ap length s.1 in omega (arith, same, f.used));
     makes = subst (λ p. Makes p f.made x.pass) s.2 f.makes;
     serves = subst (λ p. Serves plan p (backend_calls f.run) x.seat) s.3 f.serves;
   }
 
-  pub batch_first : (w v x : Progress) (es : List Envelope) → Batched w v es → Worked plan v x → Worked plan w x
+  pub batch_first : (w v x : Progress) (es : List Envelope) → Batched w v es → Worked behaviour plan v x → Worked behaviour plan w x
   batch_first w v x es s f = record {
     run = f.run;
-    is_core = subst (λ u. IsCoreRun (enveloped plan) u f.run) s.3 f.is_core;
+    is_core = subst (λ u. IsCoreRun (enveloped behaviour plan) u f.run) s.3 f.is_core;
     reads = f.reads;
     counts = subst (λ t. Counted plan f.run t x.tally) s.4 f.counts;
-    leaves = subst (λ u. left_after (enveloped plan) u f.run ≡ x.left) s.3 f.leaves;
+    leaves = subst (λ u. left_after (enveloped behaviour plan) u f.run ≡ x.left) s.3 f.leaves;
     made = taking_all es ++ f.made;
     stood = each_append Stood (taking_all es) f.made (batch_stood es) f.stood;
-    follows = batch_follows es (map Some w.held) (broker_calls f.run) f.made
-        (subst (λ xs. FollowsCore xs (broker_calls f.run) f.made) (ap (λ hs. map Some hs) s.0 ∙ map_more w.held es) f.follows);
+    follows = batch_follows w.current es (map Some w.held) (core_calls f.run) f.made
+        (subst (λ xs. FollowsScripts w.current xs (core_calls f.run) f.made) (ap (λ hs. map Some hs) s.0 ∙ map_more w.held es) (subst (λ k. FollowsScripts k (map Some v.held) (core_calls f.run) f.made) s.5 f.follows));
     used = (let same : length v.held ≡ length (w.held ++ es) = ap length s.0 in omega (arith, same, longer w.held es, f.used, total-append takes_one (taking_all es) f.made, batch_takes es));
     makes = makes_append (taking_all es) f.made w.pass v.pass x.pass (took_makes w.pass v.pass es s.1) f.makes;
     serves = subst (λ p. Serves plan p (backend_calls f.run) x.seat) s.2 f.serves;
+  }
+
+  pub again_first : (w v x : Progress) (e : Envelope) → Delivered w v e → Worked behaviour plan v x → Worked behaviour plan w x
+  again_first w v x e s f = record {
+    run = f.run;
+    is_core = subst (λ u. IsCoreRun (enveloped behaviour plan) u f.run) s.5 f.is_core;
+    reads = f.reads;
+    counts = subst (λ t. Counted plan f.run t x.tally) s.6 f.counts;
+    leaves = subst (λ u. left_after (enveloped behaviour plan) u f.run ≡ x.left) s.5 f.leaves;
+    made = again e ∷ f.made;
+    stood = (tt, f.stood);
+    follows = subst (λ h. FollowsScripts h (map Some w.held) (core_calls f.run) (again e ∷ f.made)) (sym s.0)
+        (scripts_again (subst (λ h. FollowsScripts h (map Some w.held) (core_calls f.run) f.made) (s.2 ∙ s.0) (subst (λ hs. FollowsScripts v.current (map Some hs) (core_calls f.run) f.made) s.3 f.follows)));
+    used = (let same : length v.held ≡ length w.held = ap length s.3 in omega (arith, same, f.used));
+    makes = makes_append (again e ∷ []) f.made w.pass v.pass x.pass s.1 f.makes;
+    serves = subst (λ p. Serves plan p (backend_calls f.run) x.seat) s.4 f.serves;
   }
 
 -- the member of a place, as a backend answers it

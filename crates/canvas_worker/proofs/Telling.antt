@@ -1,21 +1,22 @@
 -- An ask of a core that its broker or its backend answered.
 use Rattle.std.proofs.Common.{◌≡◌, ◌∙◌, ℕ, zero, suc, ◌+◌, ◌≤◌, min, Bool, false, [], ◌∷◌, Some, None, Result, Ok, Err, refl, sym, ap, subst, arith}
 use Rattle.std.specs.Prelude.{MatchResult}
+use Rattle.canvas_task.specs.Apply.{Behaviour}
 use Rattle.canvas_backend.specs.Seats.{Desk}
 use Rattle.canvas_backend.specs.Roster.{Roster, members}
 use Rattle.canvas_broker.specs.Passes.{Empties}
 use Rattle.canvas_runs.specs.Book.{book_on}
-use Rattle.canvas_runs.specs.Calls.{broker_call, backend_call, reads_member}
+use Rattle.canvas_runs.specs.Calls.{broker_call, backend_call, reads_member, held_by}
 use Rattle.canvas_runs.specs.Core as C
 use Rattle.canvas_runs.specs.Core.{answered, Suits, ReadsBack}
 use Rattle.canvas_runs.specs.Following.{Makes, Serves}
 use Rattle.canvas_runs.specs.Tally.{Counted, CountsMore, is_taken, is_published, is_first, is_part, is_dropped, greatest_count}
 use Rattle.canvas_worker.specs.Asks.{Asked, Answer}
 use Rattle.canvas_worker.specs.Books.{book_in, no_book}
-use Rattle.canvas_worker.specs.Enveloped.{enveloped, enveloped_by}
+use Rattle.canvas_worker.specs.Enveloped.{enveloped, enveloped_by, no_tasks}
 use Rattle.canvas_worker.specs.Progress.{Progress}
 use Rattle.canvas_worker.specs.Allowed.{Can}
-use Rattle.canvas_worker.specs.Standing.{Standing, asked, drops, after_reply}
+use Rattle.canvas_worker.specs.Standing.{Standing, asked, drops, after_reply, open_of, kept_next, task_next}
 use Rattle.canvas_worker.specs.WorkerSteps.{OnlyBare, Called}
 use Rattle.canvas_worker.specs.Work.{Work, progress, with_core, with_answer, lost, Ready, makes_call, Pends, Leaves, Ends, EndsWith}
 use Rattle.canvas_worker.specs.declared.cause.Cause.TheVariants.{Memory}
@@ -23,7 +24,7 @@ use Rattle.canvas_worker.specs.declared.record.Record.{Record}
 use Rattle.canvas_worker.specs.declared.working.End.{End}
 use Rattle.canvas_worker.proofs.Asking.{same_book, may_go_on}
 use Rattle.canvas_worker.proofs.Resting.{busy_never}
-use Rattle.canvas_worker.proofs.Shown.{drops_so, rests_over}
+use Rattle.canvas_worker.proofs.Shown.{drops_so, rests_over, held_step}
 use Rattle.canvas_worker.proofs.Turns.{tallied, some_none}
 
 -- ---- one ask answered by the broker or the backend
@@ -45,27 +46,27 @@ Counts w u a r =
     × (u.parts ≡ risen w.parts (is_part a r))
 
 -- Where from w on its broker or its backend was asked a, and answered r; u is the worker before its core is told.
-pub record Asks (w u : Work) (a : Asked) (r : Answer) : Type 0 where
+pub record Asks (behaviour : Behaviour) (w u : Work) (a : Asked) (r : Answer) : Type 0 where
   pub asked_is : asked w.core.left ≡ a
   pub suits : Suits a r
-  pub back : ReadsBack (enveloped_by no_book) w.core.left
+  pub back : ReadsBack (enveloped_by no_tasks no_book) w.core.left
   pub member : reads_member (members w.desk.plan) a r
   pub beside : Beside w u
   pub bare : OnlyBare a r w.held
   pub makes : Makes w.pass (broker_call a r) u.pass
   pub serves : Serves w.desk.plan w.seat (backend_call a r) u.seat
   pub counts : Counts w u a r
-  pub still : answered (enveloped w.desk.plan) w.core.left r ≡ C.resting → (u.held ≡ []) × Empties u.pass
+  pub still : answered (enveloped behaviour w.desk.plan) w.core.left r ≡ C.resting → (u.held ≡ []) × Empties u.pass
   pub none_dropped : is_dropped w.desk.plan a r ≡ 0
-  pub core : after_reply (book_in w.desk.plan) u.core r ≡ after_reply (book_in w.desk.plan) w.core r
+  pub core : after_reply behaviour (book_in w.desk.plan) u.core r ≡ after_reply behaviour (book_in w.desk.plan) w.core r
 
 counts_more : (n k m : ℕ) → n ≤ greatest_count → m ≡ risen n k → CountsMore n (k + 0) m
 counts_more n zero m h e = omega (arith, h, e)
 counts_more n (suc k) m h e = omega (arith, e)
 
--- a core that rests is answered without a call
-pub rest_asks : (w : Work) (more : Bool) → Ready w → asked w.core.left ≡ C.pause → ReadsBack (enveloped_by no_book) w.core.left → Asks w w C.pause (C.rested more)
-rest_asks w more ready asks back = record {
+-- a core whose script is done is answered without a call
+pub ack_asks : (behaviour : Behaviour) (w : Work) → Ready w → asked w.core.left ≡ C.ack → ReadsBack (enveloped_by no_tasks no_book) w.core.left → Asks behaviour w w C.ack C.acked
+ack_asks behaviour w ready asks back = record {
   asked_is = asks;
   suits = tt;
   back = back;
@@ -75,12 +76,29 @@ rest_asks w more ready asks back = record {
   makes = refl;
   serves = refl;
   counts = (refl, refl, refl, refl);
-  still = λ rests. absurd (busy_never w.desk.plan w.core.left (C.rested more) C.pause asks tt rests);
+  still = λ rests. absurd (busy_never behaviour w.desk.plan w.core.left C.acked C.ack asks tt rests);
   none_dropped = refl;
   core = refl;
 }
 
-module _ (w u : Work) (a : Asked) (r : Answer) (ready : Ready w) (x : Asks w u a r) where
+-- a core that rests is answered without a call
+pub rest_asks : (behaviour : Behaviour) (w : Work) (more : Bool) → Ready w → asked w.core.left ≡ C.pause → ReadsBack (enveloped_by no_tasks no_book) w.core.left → Asks behaviour w w C.pause (C.rested more)
+rest_asks behaviour w more ready asks back = record {
+  asked_is = asks;
+  suits = tt;
+  back = back;
+  member = tt;
+  beside = (refl, refl, refl, ready.of, ready.home, refl, refl);
+  bare = tt;
+  makes = refl;
+  serves = refl;
+  counts = (refl, refl, refl, refl);
+  still = λ rests. absurd (busy_never behaviour w.desk.plan w.core.left (C.rested more) C.pause asks tt rests);
+  none_dropped = refl;
+  core = refl;
+}
+
+module _ (behaviour : Behaviour) (w u : Work) (a : Asked) (r : Answer) (ready : Ready w) (x : Asks behaviour w u a r) where
   abbrev plan : Roster
   plan = w.desk.plan
 
@@ -104,7 +122,8 @@ module _ (w u : Work) (a : Asked) (r : Answer) (ready : Ready w) (x : Asks w u a
   after = record {
     pass = u.pass;
     seat = u.seat;
-    left = answered (enveloped plan) w.core.left r;
+    left = answered (enveloped behaviour plan) w.core.left r;
+    current = open_of (answered (enveloped behaviour plan) w.core.left r) (kept_next (book_on plan) w.core.left w.core.kept r);
     held = u.held;
     tally = record { taken = u.taken; published = u.published; first = u.first; parts = u.parts; dropped = u.core.dropped };
   }
@@ -124,24 +143,24 @@ module _ (w u : Work) (a : Asked) (r : Answer) (ready : Ready w) (x : Asks w u a
     dropped = none_lost w.core.dropped u.core.dropped (is_dropped plan a r) ready.counts.4 same_drops x.none_dropped;
   }
 
-  pub called : Called plan (progress w) after a r
-  called = (record { asked = sym x.asked_is; suits = x.suits; back = x.back; member = x.member; counts = counted; left = refl }, held, x.bare, x.makes, x.serves)
+  pub called : Called behaviour plan (progress w) after a r
+  called = (record { asked = sym x.asked_is; suits = x.suits; back = x.back; member = x.member; counts = counted; left = refl; current = held_step behaviour plan w.core.left w.core.kept r (subst (λ b. Suits b r) (sym x.asked_is) x.suits) ∙ ap (λ b. held_by (open_of w.core.left w.core.kept) b r) x.asked_is }, held, x.bare, x.makes, x.serves)
 
-  can : Can plan u.seat (answered (enveloped plan) w.core.left r)
+  can : Can plan u.seat (answered (enveloped behaviour plan) w.core.left r)
   can =
-      may_go_on plan ready.plan w.seat u.seat w.core.left r ready.can (subst (λ b. Suits b r) (sym x.asked_is) x.suits)
+      may_go_on behaviour plan ready.plan w.seat u.seat w.core.left r ready.can (subst (λ b. Suits b r) (sym x.asked_is) x.suits)
       (subst (λ b. Serves plan w.seat (backend_call b r) u.seat) (sym x.asked_is) x.serves)
 
   -- the core that was told
   abbrev core : Standing
-  core = record { left = answered (enveloped plan) w.core.left r; is_out = false; dropped = u.core.dropped }
+  core = record { left = answered (enveloped behaviour plan) w.core.left r; is_out = false; dropped = u.core.dropped; kept = kept_next (book_on plan) w.core.left w.core.kept r; task = task_next (book_on plan) w.core.left w.core.task r }
 
-  core_is : after_reply (book_in u.desk.plan) u.core r ≡ core
+  core_is : after_reply behaviour (book_in u.desk.plan) u.core r ≡ core
   core_is =
       let so : drops (book_on plan) w.core.left r ≡ is_dropped plan a r = drops_so plan w.core.left r ∙ ap (λ b. is_dropped plan b r) x.asked_is in
       let dropped : min greatest_count (w.core.dropped + drops (book_on plan) w.core.left r) ≡ u.core.dropped = no_more w.core.dropped u.core.dropped (drops (book_on plan) w.core.left r) ready.counts.4 same_drops (so ∙ x.none_dropped) in
-      ap (λ (d : Desk). after_reply (book_in d.plan) u.core r) desk ∙ x.core ∙ ap (λ b. after_reply b w.core r) (same_book plan ready.plan)
-      ∙ ap (λ (n : ℕ). record { left = answered (enveloped plan) w.core.left r; is_out = false; dropped = n }) dropped
+      ap (λ (d : Desk). after_reply behaviour (book_in d.plan) u.core r) desk ∙ x.core ∙ ap (λ b. after_reply behaviour b w.core r) (same_book plan ready.plan)
+      ∙ ap (λ (n : ℕ). record { left = answered (enveloped behaviour plan) w.core.left r; is_out = false; dropped = n; kept = kept_next (book_on plan) w.core.left w.core.kept r; task = task_next (book_on plan) w.core.left w.core.task r }) dropped
 
   ready_then : Ready (with_core u core)
   ready_then = record {
@@ -154,11 +173,11 @@ module _ (w u : Work) (a : Asked) (r : Answer) (ready : Ready w) (x : Asks w u a
     counts = tallied plan a r (progress w).tally after.tally counted;
   }
 
-  told_is : (v : Work) → v ≡ with_answer u r → Pends w v
+  told_is : (v : Work) → v ≡ with_answer behaviour u r → Pends behaviour w v
   told_is v e =
-      subst (λ z. Pends w z) (sym (e ∙ ap (λ c. with_core u c) core_is)) (record { broker = broker; desk = desk; number = number; ready = ready_then; moved = makes_call a r called })
+      subst (λ z. Pends behaviour w z) (sym (e ∙ ap (λ c. with_core u c) core_is)) (record { broker = broker; desk = desk; number = number; ready = ready_then; moved = makes_call a r called })
 
-  fails : (s : Record) → Leaves (lost u) (Some Memory) s → Ends w s
+  fails : (s : Record) → Leaves (lost u) (Some Memory) s → Ends behaviour w s
   fails s leaves = record {
     ended = after;
     counted = tallied plan a r (progress w).tally after.tally counted;
@@ -166,16 +185,16 @@ module _ (w u : Work) (a : Asked) (r : Answer) (ready : Ready w) (x : Asks w u a
     is_of = record { same_number = leaves.same_number ∙ number; pass = leaves.pass; seat = leaves.seat; counts = leaves.counts; whole = λ none. absurd (some_none Memory (sym leaves.fault_is ∙ none)) };
   }
 
-  lost_is : (v : Work) → v ≡ lost u → EndsWith w (Some Memory) v
+  lost_is : (v : Work) → v ≡ lost u → EndsWith behaviour w (Some Memory) v
   lost_is v e s leaves = fails s (subst (λ z. Leaves z (Some Memory) s) e leaves)
 
-  well : {A : Type 0} (result : Result A End) (v : Work) → MatchResult result (λ _. v ≡ with_answer u r) (λ e. (v ≡ lost u) × (e.fault ≡ Some Memory))
-      → MatchResult result (λ _. Pends w v) (λ e. EndsWith w e.fault v)
+  well : {A : Type 0} (result : Result A End) (v : Work) → MatchResult result (λ _. v ≡ with_answer behaviour u r) (λ e. (v ≡ lost u) × (e.fault ≡ Some Memory))
+      → MatchResult result (λ _. Pends behaviour w v) (λ e. EndsWith behaviour w e.fault v)
   well (Ok _) v is = told_is v is
-  well (Err e) v is = subst (λ f. EndsWith w f v) (sym is.1) (lost_is v is.0)
+  well (Err e) v is = subst (λ f. EndsWith behaviour w f v) (sym is.1) (lost_is v is.0)
 
   -- a worker that ends without a fault
-  ends_so : (v : Work) → v ≡ with_answer u r → (s : Record) → Leaves v None s → (after.left ≡ C.over) × (after.held ≡ []) × Empties after.pass → Ends w s
+  ends_so : (v : Work) → v ≡ with_answer behaviour u r → (s : Record) → Leaves v None s → (after.left ≡ C.over) × (after.held ≡ []) × Empties after.pass → Ends behaviour w s
   ends_so v e s leaves whole =
       let is : v ≡ with_core u core = e ∙ ap (λ c. with_core u c) core_is in
       record {
@@ -191,21 +210,21 @@ module _ (w u : Work) (a : Asked) (r : Answer) (ready : Ready w) (x : Asks w u a
         };
       }
 
-pub asked_well : {A : Type 0} (w u v : Work) (a : Asked) (r : Answer) (result : Result A End) → MatchResult result (λ _. v ≡ with_answer u r) (λ e. (v ≡ lost u) × (e.fault ≡ Some Memory))
-    → Ready w → Asks w u a r → MatchResult result (λ _. Pends w v) (λ e. EndsWith w e.fault v)
-asked_well w u v a r result is ready x = well w u a r ready x result v is
+pub asked_well : {A : Type 0} (behaviour : Behaviour) (w u v : Work) (a : Asked) (r : Answer) (result : Result A End) → MatchResult result (λ _. v ≡ with_answer behaviour u r) (λ e. (v ≡ lost u) × (e.fault ≡ Some Memory))
+    → Ready w → Asks behaviour w u a r → MatchResult result (λ _. Pends behaviour w v) (λ e. EndsWith behaviour w e.fault v)
+asked_well behaviour w u v a r result is ready x = well behaviour w u a r ready x result v is
 
 -- where memory was refused, to the queue or to the core
-pub ends_badly : (w u : Work) (a : Asked) (r : Answer) (e : End) → e.fault ≡ Some Memory → Ready w → Asks w u a r → EndsWith w e.fault u
-ends_badly w u a r e is ready x s leaves =
+pub ends_badly : (behaviour : Behaviour) (w u : Work) (a : Asked) (r : Answer) (e : End) → e.fault ≡ Some Memory → Ready w → Asks behaviour w u a r → EndsWith behaviour w e.fault u
+ends_badly behaviour w u a r e is ready x s leaves =
     let so : Leaves u (Some Memory) s = subst (λ f. Leaves u f s) is leaves in
-    fails w u a r ready x s (record { same_number = so.same_number; pass = so.pass; seat = so.seat; counts = so.counts; fault_is = so.fault_is })
+    fails behaviour w u a r ready x s (record { same_number = so.same_number; pass = so.pass; seat = so.seat; counts = so.counts; fault_is = so.fault_is })
 
-pub asked_badly : (w u v : Work) (a : Asked) (r : Answer) (e : End) → (v ≡ lost u) × (e.fault ≡ Some Memory) → Ready w → Asks w u a r → EndsWith w e.fault v
-asked_badly w u v a r e is ready x = subst (λ f. EndsWith w f v) (sym is.1) (lost_is w u a r ready x v is.0)
+pub asked_badly : (behaviour : Behaviour) (w u v : Work) (a : Asked) (r : Answer) (e : End) → (v ≡ lost u) × (e.fault ≡ Some Memory) → Ready w → Asks behaviour w u a r → EndsWith behaviour w e.fault v
+asked_badly behaviour w u v a r e is ready x = subst (λ f. EndsWith behaviour w f v) (sym is.1) (lost_is behaviour w u a r ready x v is.0)
 
 -- a worker that is told that no more will come
-pub rests_well : (w u v : Work) → v ≡ with_answer u (C.rested false) → Ready w → Asks w u C.pause (C.rested false) → EndsWith w None v
-rests_well w u v is ready x s leaves =
+pub rests_well : (behaviour : Behaviour) (w u v : Work) → v ≡ with_answer behaviour u (C.rested false) → Ready w → Asks behaviour w u C.pause (C.rested false) → EndsWith behaviour w None v
+rests_well behaviour w u v is ready x s leaves =
     let rests : w.core.left ≡ C.resting = rests_over w.core.left x.asked_is in
-    ends_so w u C.pause (C.rested false) ready x v is s leaves (ap (λ l. answered (enveloped w.desk.plan) l (C.rested false)) rests, x.beside.5 ∙ (ready.rested rests).0, subst (λ p. Empties p) (sym x.makes) (ready.rested rests).1)
+    ends_so behaviour w u C.pause (C.rested false) ready x v is s leaves (ap (λ l. answered (enveloped behaviour w.desk.plan) l (C.rested false)) rests, x.beside.5 ∙ (ready.rested rests).0, subst (λ p. Empties p) (sym x.makes) (ready.rested rests).1)

@@ -1,5 +1,6 @@
 -- What one turn of a worker leaves.
 use Rattle.std.proofs.Common.{◌≡◌, ◌∙◌, ℕ, ◌+◌, ◌≤◌, min, [], ◌∷◌, Option, Some, None, refl, sym, arith}
+use Rattle.canvas_task.specs.Apply.{Behaviour}
 use Rattle.canvas_backend.specs.Roster.{Roster}
 use Rattle.canvas_runs.specs.Tally.{Tally, IsTally, Counted, CountsMore, is_taken, is_published, is_first, is_part, is_dropped, greatest_count}
 use Rattle.canvas_worker.specs.Asks.{Asked, Answer}
@@ -31,8 +32,8 @@ tallied plan a r t u c = (
 pub some_none : (c : Cause) → ◌≡◌ {A = Option Cause} (Some c) None → ⊥
 some_none c e = cc
 
-pub ends_here : (w : Work) (c : Cause) → Ready w → EndsWith w (Some c) w
-ends_here w c ready r leaves = record {
+pub ends_here : (behaviour : Behaviour) (w : Work) (c : Cause) → Ready w → EndsWith behaviour w (Some c) w
+ends_here behaviour w c ready r leaves = record {
   ended = progress w;
   counted = ready.counts;
   moved = stays refl;

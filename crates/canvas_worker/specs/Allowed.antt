@@ -1,6 +1,7 @@
 -- What a backend lets a worker's seat do: it may do all that the worker has left to do, whatever other workers do. It follows from what is left and from
 -- what the seat has seen, for each envelope that is opened, also for one that no plan's run has.
 use Rattle.std.specs.Prelude.{◌≡◌, ◌≤◌, ◌<◌, ℕ, Bool, true, false, IsTrue, [], ◌∷◌, length, Some, slice_get}
+use Rattle.canvas_task.specs.Apply.{Behaviour}
 use Rattle.canvas_semantics.specs.Line.{Line}
 use Rattle.canvas_rewrite.specs.FrozenView.{PCarried}
 use Rattle.canvas_rewrite.specs.Planned.{IsPlan}
@@ -43,7 +44,7 @@ module _ (plan : Roster) where
 
   -- the backend lets the seat do what is left to do
   abbrev pub Can : Seat → Left → Type 0
-  Can s (owning e) = opened (book_on plan) e ≡ Some (said e)
+  Can s (owning m) = opened (book_on plan) m.envelope ≡ Some (said m.envelope)
   Can s (doing js b) = InPlan js × MayHandIn s b js × IsNext b js
   Can s (reading g c fs) = Carries g c × (length fs < c.size)
   Can s left = Unit {0}
@@ -66,5 +67,5 @@ CanAsk = (l : Line) → IsPlan l → (s : Seat) (left : Left) → Can (roster_of
 -- and once it is asked and answered, and the seat has made the call, what is left can be done
 abbrev pub CanGoOn : Type 0
 CanGoOn =
-    (l : Line) → IsPlan l → (s t : Seat) (left : Left) (r : Answer) → Can (roster_of l) s left → Suits (asked left) r
-    → Serves (roster_of l) s (backend_call (asked left) r) t → Can (roster_of l) t (answered (enveloped (roster_of l)) left r)
+    (behaviour : Behaviour) (l : Line) → IsPlan l → (s t : Seat) (left : Left) (r : Answer) → Can (roster_of l) s left → Suits (asked left) r
+    → Serves (roster_of l) s (backend_call (asked left) r) t → Can (roster_of l) t (answered (enveloped behaviour (roster_of l)) left r)

@@ -1,5 +1,6 @@
 -- When a core is at its end, and that it stays there.
 use Rattle.std.specs.Prelude.{◌≡◌, false, List, [], ◌∷◌, ◌++◌, None}
+use Rattle.canvas_task.specs.Apply.{Behaviour}
 use Rattle.canvas_message.specs.declared.envelope.Envelope.{Envelope}
 use Rattle.canvas_runs.specs.Book.{Book}
 use Rattle.canvas_runs.specs.Core.{failed, end, pause, send, rested, refused}
@@ -10,7 +11,7 @@ use Rattle.canvas_worker.specs.declared.ask.Reply.{Reply}
 
 -- From its end nothing leads on: no reply suits it, and no envelope is handed out.
 abbrev pub EndStays : Type 0
-EndStays = (s : Standing) → asked s.left ≡ end → ((r : Reply) → suits (shown (asked s.left)) r ≡ false) × (held_out s ≡ None) × (asked (handed s).left ≡ end)
+EndStays = (s : Standing) → asked s.left ≡ end → ((r : Reply) → suits (shown s.task (asked s.left)) r ≡ false) × (held_out s ≡ None) × (asked (handed s).left ≡ end)
 
 -- a core that was refused memory is at its end
 abbrev pub FailingEnds : Type 0
@@ -25,11 +26,11 @@ EndsACore a r = ⊥
 -- But for memory, a core is at its end only behind a rest that was answered with no more, or behind a publish that was refused.
 abbrev pub EndsBehind : Type 0
 EndsBehind =
-    (book : Book) (xs : List (Asked × Answer)) (s : Standing) → Leads book xs s → asked s.left ≡ end
+    (behaviour : Behaviour) (book : Book) (xs : List (Asked × Answer)) (s : Standing) → Leads behaviour book xs s → asked s.left ≡ end
     → (ys : List (Asked × Answer)) × (x : Asked × Answer) × (xs ≡ ys ++ x ∷ []) × EndsACore x.0 x.1
 
 -- and it has failed only behind a publish that was refused
 abbrev pub FailsBehind : Type 0
 FailsBehind =
-    (book : Book) (xs : List (Asked × Answer)) (s : Standing) → Leads book xs s → s.left ≡ failed
+    (behaviour : Behaviour) (book : Book) (xs : List (Asked × Answer)) (s : Standing) → Leads behaviour book xs s → s.left ≡ failed
     → (ys : List (Asked × Answer)) × (e : Envelope) × (xs ≡ ys ++ (send e, refused) ∷ [])

@@ -1,8 +1,11 @@
 -- The worker of a plan where each message is kept as its envelope, as a core keeps it (Celery task message protocol, version 2).
 -- `law_of_cores` leads from here to the worker whose messages are what the envelopes say.
 use Rattle.std.specs.Prelude.{◌≡◌, ℕ, Bool, ◌&&◌, if◌then◌else◌, List, [], map, Option, Some, None, is_none, Ok}
-use Rattle.canvas_task.specs.Apply.{six_tasks}
+use Rattle.canvas_task.specs.Apply.{Behaviour}
+use Rattle.canvas_task.specs.declared.outcome.Kind.TheVariants.{NotRegistered}
+use Rattle.canvas_task.specs.declared.outcome.Fault.TheVariants.{Plain}
 use Rattle.canvas_task.specs.declared.outcome.Outcome.{Outcome}
+use Rattle.canvas_task.specs.declared.outcome.Outcome.TheVariants.{Failure}
 use Rattle.canvas_rewrite.specs.FrozenView.{PCarried}
 use Rattle.canvas_message.specs.Content.{Content, number_of}
 use Rattle.canvas_message.specs.Effects.{outcome_of, after, body_after, script}
@@ -31,39 +34,53 @@ is_sendable c = fits c && is_none (envelope_fault (sealed c).properties (sealed 
 abbrev pub envelope_of : Content → Envelope
 envelope_of c = if is_sendable c then sealed c else blank
 
+-- an envelope, with what its task's call became once it was taken
+pub record Applied : Type 0 where
+  pub envelope : Envelope
+  pub outcome : Outcome
+
+-- one that is to be published: its task was not called
+abbrev pub unapplied : Envelope → Applied
+unapplied e = record { envelope = e; outcome = Failure (Plain NotRegistered) }
+
 -- a job by its message's envelope
-abbrev pub enclosed : Job Content PCarried Outcome → Job Envelope PCarried Outcome
+abbrev pub enclosed : Job Content PCarried Outcome → Job Applied PCarried Outcome
 enclosed (store t o) = store t o
-enclosed (publish c) = publish (envelope_of c)
+enclosed (publish c) = publish (unapplied (envelope_of c))
 enclosed (hand_in g t l) = hand_in g t l
 
--- the envelope where it is that of a message
-abbrev pub envelope_if : Option Content → Envelope → Option Envelope
-envelope_if None e = None
-envelope_if (Some c) e = Some e
+-- no tasks
+abbrev pub no_tasks : Behaviour
+no_tasks name args named = Failure (Plain NotRegistered)
 
--- of what a book knows, and of the last tasks of groups' members
-abbrev pub enveloped_on : Book → (ℕ → List ℕ) → Protocol
-enveloped_on book lasts = record {
-  Envelope = Envelope;
-  Message = Envelope;
-  Carried = PCarried;
-  Outcome = Outcome;
-  no = λ e. number_of (said e).own;
-  outcome = λ e. outcome_of six_tasks (said e);
-  ended = λ e o. map enclosed (script (after (said e) o));
-  completed = λ c es. map enclosed (script (body_after c es));
-  size = λ c. c.size;
-  sealed = λ e. e;
-  Back = λ e. read_envelope e ≡ Ok (said e);
-  opened = λ e. envelope_if (opened book e) e;
-  members = lasts;
-  first = [];
-}
+module _ (behaviour : Behaviour) where
+  -- the envelope where it is that of a message, once its task was called
+  abbrev pub applied_if : Option Content → Envelope → Option Applied
+  applied_if None e = None
+  applied_if (Some c) e = Some (record { envelope = e; outcome = outcome_of behaviour (said e) })
 
-abbrev pub enveloped : Roster → Protocol
-enveloped plan = enveloped_on (book_on plan) (members plan)
+  -- of what a book knows, and of the last tasks of groups' members
+  abbrev pub enveloped_on : Book → (ℕ → List ℕ) → Protocol
+  enveloped_on book lasts = record {
+    Envelope = Envelope;
+    Message = Applied;
+    Carried = PCarried;
+    Outcome = Outcome;
+    no = λ m. number_of (said m.envelope).own;
+    outcome = λ m. m.outcome;
+    ended = λ m o. map enclosed (script (after (said m.envelope) o));
+    completed = λ c es. map enclosed (script (body_after c es));
+    size = λ c. c.size;
+    sealed = λ m. m.envelope;
+    Back = λ m. read_envelope m.envelope ≡ Ok (said m.envelope);
+    opened = λ e. applied_if (opened book e) e;
+    members = lasts;
+    first = [];
+  }
 
--- that of a book alone, for what a core asks and what an answer leads to
-abbrev pub enveloped_by : Book → Protocol
-enveloped_by book = enveloped_on book (λ g. [])
+  abbrev pub enveloped : Roster → Protocol
+  enveloped plan = enveloped_on (book_on plan) (members plan)
+
+  -- that of a book alone, for what a core asks and what an answer leads to
+  abbrev pub enveloped_by : Book → Protocol
+  enveloped_by book = enveloped_on book (λ g. [])

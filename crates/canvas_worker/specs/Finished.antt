@@ -1,7 +1,7 @@
 -- What a new worker's record says, where its backend is one of a plan: in words of the worker that the law of runs speaks of.
 use Rattle.std.specs.Prelude.{◌≡◌, ℕ, None}
 use Rattle.std.specs.Global.{Global}
-use Rattle.canvas_task.specs.Apply.{six_tasks}
+use Rattle.canvas_task.specs.Apply.{Behaviour}
 use Rattle.crossbeam_queue.specs.SegTies.{SegId}
 use Rattle.canvas_semantics.specs.Line.{Line}
 use Rattle.canvas_rewrite.specs.Planned.{IsPlan}
@@ -14,10 +14,10 @@ use Rattle.canvas_worker.specs.declared.record.Record.{Record}
 
 -- The record's pass and seat have followed a core run from where they were given to the worker; without a fault it ended with a rest that was answered with
 -- no more, and the last take found nothing.
-pub record Finished (plan : Roster) (number : ℕ) (pass : Pass) (seat : Seat) (r : Record) : Type 0 where
+pub record Finished (behaviour : Behaviour) (plan : Roster) (number : ℕ) (pass : Pass) (seat : Seat) (r : Record) : Type 0 where
   pub same_number : r.number ≡ number
   pub ended : Working
-  pub followed : Followed six_tasks plan (begins pass seat) ended
+  pub followed : Followed behaviour plan (begins pass seat) ended
   pub pass_is : r.pass ≡ ended.pass
   pub seat_is : r.seat ≡ ended.seat
   pub counts : tally_of r ≡ ended.tally
@@ -32,5 +32,5 @@ WorkersStart =
 
 abbrev pub WorkersFinish : Type 0
 WorkersFinish =
-    (l : Line) → IsPlan l → (broker : SegId Global) (desk : Desk) (number : ℕ) (pass : Pass) (seat : Seat) → desk.plan ≡ roster_of l → (r : Record)
-    → TellsOf (working_begun broker desk number pass seat) r → Finished (roster_of l) number pass seat r
+    (behaviour : Behaviour) (l : Line) → IsPlan l → (broker : SegId Global) (desk : Desk) (number : ℕ) (pass : Pass) (seat : Seat) → desk.plan ≡ roster_of l → (r : Record)
+    → TellsOf behaviour (working_begun broker desk number pass seat) r → Finished behaviour (roster_of l) number pass seat r

@@ -1,9 +1,10 @@
 -- How far a worker is, and what it is for its pass and its seat to have followed a core run from there. Messages are kept as their envelopes.
-use Rattle.std.specs.Prelude.{◌+◌, ◌≡◌, List, [], length, map, Some}
+use Rattle.std.specs.Prelude.{◌+◌, ◌≡◌, List, [], length, map, Option, Some, None}
+use Rattle.canvas_task.specs.Apply.{Behaviour}
 use Rattle.canvas_task.specs.declared.outcome.Outcome.{Outcome}
 use Rattle.canvas_message.specs.declared.envelope.Envelope.{Envelope}
 use Rattle.canvas_backend.specs.Roster.{Roster, members}
-use Rattle.canvas_runs.specs.Calls.{BrokerCall, FollowsCore, AskedAndAnswered, broker_calls, backend_calls, ReadsMembers, takes_one}
+use Rattle.canvas_runs.specs.Calls.{BrokerCall, FollowsScripts, AskedAndAnswered, broker_calls, core_calls, backend_calls, ReadsMembers, takes_one}
 use Rattle.canvas_runs.specs.Core.{taking, IsCoreRun, left_after}
 use Rattle.canvas_runs.specs.Following.{Pass, Seat, Stood, Makes, Serves}
 use Rattle.canvas_runs.specs.Lists.{Each, total}
@@ -16,25 +17,27 @@ pub record Progress : Type 0 where
   pub pass : Pass
   pub seat : Seat
   pub left : Left
+  -- the envelope of the open script
+  pub current : Option Envelope
   pub held : List Envelope
   pub tally : Tally
 
 -- with this pass and this seat, before the first call
 abbrev pub starting : Pass → Seat → Progress
-starting p s = record { pass = p; seat = s; left = taking; held = []; tally = none_yet }
+starting p s = record { pass = p; seat = s; left = taking; current = None; held = []; tally = none_yet }
 
 -- from w on its pass and its seat have followed a core run, and it is at v then
-pub record Worked (plan : Roster) (w v : Progress) : Type 0 where
+pub record Worked (behaviour : Behaviour) (plan : Roster) (w v : Progress) : Type 0 where
   pub run : List (AskedAndAnswered Envelope Outcome)
-  pub is_core : IsCoreRun (enveloped plan) w.left run
+  pub is_core : IsCoreRun (enveloped behaviour plan) w.left run
   -- a read is of the member that it names
   pub reads : ReadsMembers (members plan) run
   pub counts : Counted plan run w.tally v.tally
-  pub leaves : left_after (enveloped plan) w.left run ≡ v.left
+  pub leaves : left_after (enveloped behaviour plan) w.left run ≡ v.left
   -- the calls of its pass. A take may stand before the core's
   pub made : List (BrokerCall Envelope)
   pub stood : Each Stood made
-  pub follows : FollowsCore (map Some w.held) (broker_calls run) made
+  pub follows : FollowsScripts w.current (map Some w.held) (core_calls run) made
   pub used : length w.held + total takes_one made ≡ total takes_one (broker_calls run) + length v.held
   pub makes : Makes w.pass made v.pass
   pub serves : Serves plan w.seat (backend_calls run) v.seat

@@ -1,6 +1,7 @@
 -- What contracts see of a worker, what one of its polls leaves, and what its record says.
 use Rattle.std.specs.Prelude.{◌≡◌, ◌+◌, ℕ, min, false, List, [], Option, None}
 use Rattle.std.specs.Global.{Global}
+use Rattle.canvas_task.specs.Apply.{Behaviour}
 use Rattle.crossbeam_queue.specs.SegTies.{SegId}
 use Rattle.canvas_semantics.specs.Line.{Line}
 use Rattle.canvas_rewrite.specs.Planned.{IsPlan}
@@ -16,7 +17,7 @@ use Rattle.canvas_worker.specs.Books.{book_in}
 use Rattle.canvas_worker.specs.Progress.{Progress, Worked}
 use Rattle.canvas_worker.specs.Allowed.{Can}
 use Rattle.canvas_runs.specs.Tally.{greatest_count}
-use Rattle.canvas_worker.specs.Standing.{Standing, begun as new_core, after_reply, failing}
+use Rattle.canvas_worker.specs.Standing.{Standing, begun as new_core, after_reply, failing, held}
 use Rattle.canvas_worker.specs.WorkerSteps.{Called, FromHeld, Batched}
 use Rattle.canvas_worker.specs.declared.cause.Cause.{Cause}
 use Rattle.canvas_worker.specs.declared.record.Record.{Record}
@@ -46,6 +47,7 @@ progress w = record {
   pass = w.pass;
   seat = w.seat;
   left = w.core.left;
+  current = held w.core;
   held = w.held;
   tally = record { taken = w.taken; published = w.published; first = w.first; parts = w.parts; dropped = w.core.dropped };
 }
@@ -56,8 +58,8 @@ with_core w c =
     record { broker = w.broker; desk = w.desk; number = w.number; pass = w.pass; seat = w.seat; core = c; held = w.held; taken = w.taken; published = w.published; first = w.first; parts = w.parts }
 
 -- its core was answered; and where memory was refused for that
-abbrev pub with_answer : Work → Answer → Work
-with_answer w r = with_core w (after_reply (book_in w.desk.plan) w.core r)
+abbrev pub with_answer : Behaviour → Work → Answer → Work
+with_answer behaviour w r = with_core w (after_reply behaviour (book_in w.desk.plan) w.core r)
 
 abbrev pub lost : Work → Work
 lost w = with_core w (failing w.core)
@@ -80,19 +82,19 @@ pub record Ready (w : Work) : Type 0 where
 
 -- What one poll does at most: one ask of the core is answered, or a batch is taken, or an ask is answered by an envelope that is held or
 -- of a batch that was taken for it. A take of one envelope is a batch of one.
-pub data Moves (plan : Roster) (p q : Progress) : Type 0 where
-  stays : q ≡ p → Moves plan p q
-  makes_call : (a : Asked) (r : Answer) → Called plan p q a r → Moves plan p q
-  takes_batch : (es : List Envelope) → Batched p q es → Moves plan p q
-  gives_held : (es : List Envelope) (e : Envelope) (between : Progress) → Batched p between es → FromHeld plan between q e → Moves plan p q
+pub data Moves (behaviour : Behaviour) (plan : Roster) (p q : Progress) : Type 0 where
+  stays : q ≡ p → Moves behaviour plan p q
+  makes_call : (a : Asked) (r : Answer) → Called behaviour plan p q a r → Moves behaviour plan p q
+  takes_batch : (es : List Envelope) → Batched p q es → Moves behaviour plan p q
+  gives_held : (es : List Envelope) (e : Envelope) (between : Progress) → Batched p between es → FromHeld behaviour plan between q e → Moves behaviour plan p q
 
 -- what a poll leaves that is pending
-pub record Pends (w v : Work) : Type 0 where
+pub record Pends (behaviour : Behaviour) (w v : Work) : Type 0 where
   pub broker : v.broker ≡ w.broker
   pub desk : v.desk ≡ w.desk
   pub number : v.number ≡ w.number
   pub ready : Ready v
-  pub moved : Moves w.desk.plan (progress w) (progress v)
+  pub moved : Moves behaviour w.desk.plan (progress w) (progress v)
 
 abbrev pub tally_of : Record → Tally
 tally_of r = record { taken = r.taken; published = r.published; first = r.first; parts = r.parts; dropped = r.dropped }
@@ -115,18 +117,18 @@ pub record IsRecordOf (number : ℕ) (p : Progress) (r : Record) : Type 0 where
   pub whole : r.fault ≡ None → (p.left ≡ over) × (p.held ≡ []) × Empties p.pass
 
 -- what a poll leaves that is ready
-pub record Ends (w : Work) (r : Record) : Type 0 where
+pub record Ends (behaviour : Behaviour) (w : Work) (r : Record) : Type 0 where
   pub ended : Progress
   pub counted : IsTally ended.tally
-  pub moved : Moves w.desk.plan (progress w) ended
+  pub moved : Moves behaviour w.desk.plan (progress w) ended
   pub is_of : IsRecordOf w.number ended r
 
 -- what a poll leaves of a worker that has ended: its record is that of its end
-abbrev pub EndsWith : Work → Option Cause → Work → Type 0
-EndsWith w fault v = (r : Record) → Leaves v fault r → Ends w r
+abbrev pub EndsWith : Behaviour → Work → Option Cause → Work → Type 0
+EndsWith behaviour w fault v = (r : Record) → Leaves v fault r → Ends behaviour w r
 
 -- From here on the pass and the seat of the record have followed a core run, whose counts the record has.
-pub record TellsOf (w : Work) (r : Record) : Type 0 where
+pub record TellsOf (behaviour : Behaviour) (w : Work) (r : Record) : Type 0 where
   pub ended : Progress
-  pub worked : Worked w.desk.plan (progress w) ended
+  pub worked : Worked behaviour w.desk.plan (progress w) ended
   pub is_of : IsRecordOf w.number ended r

@@ -1,21 +1,23 @@
 //! What a worker has left to do.
 
-ghost use Rattle.std.specs.Prelude.{◌≡◌, ◌≤◌, ◌+◌, min, true, false, Some, OnOk, OnErr, IfOk, IfSome};
+ghost use Rattle.std.specs.Prelude.{◌≡◌, ◌≤◌, ◌+◌, min, true, false, Some, None, OnOk, OnErr, IfOk, IfSome};
+ghost use Rattle.std.specs.Option.{option_map};
 ghost use Rattle.canvas_worker.specs.Asks.{suits, shown, replied, StoresInRange, FoundInRange};
 ghost use Rattle.canvas_worker.specs.Books.{no_book};
-ghost use Rattle.canvas_runs.specs.Core.{ReadsBack, taking, taken, is_inside};
+ghost use Rattle.canvas_runs.specs.Core.{ReadsBack, taking, acking, taken, is_inside};
 ghost use Rattle.canvas_worker.specs.Phases.{left_of, is_out};
 ghost use Rattle.canvas_runs.specs.Tally.{greatest_count};
-ghost use Rattle.canvas_worker.specs.Standing.{asked, begun, after_reply, failing, held_out, handed, waiting};
-ghost use Rattle.canvas_worker.specs.Enveloped.{enveloped_by, said};
+ghost use Rattle.canvas_worker.specs.Standing.{asked, begun, after_reply, failing, held, held_out, handed, point_at, waiting};
+ghost use Rattle.canvas_worker.specs.Enveloped.{enveloped_by, said, no_tasks};
 ghost use Rattle.canvas_runs.specs.Worker.{opened};
 
 use crate::known::message_known;
-use crate::phase::{Phase, rested, returned};
+use crate::phase::{Phase, acknowledged, rested, returned};
 use crate::stages::Owned;
 use crate::{Ask, Book, Reply};
 use canvas_message::{Envelope, Message, MessageFault, decode};
-use canvas_task::Memory;
+use canvas_runs::When;
+use canvas_task::{Memory, TaskNo, Tasks};
 use std::alloc::Global;
 use std::marker::Model;
 use std::mem;
@@ -27,6 +29,9 @@ use std::mem;
 pub struct Core {
     phase: Phase,
     dropped: u64,
+    // The envelope of the open script once its message's outcome is stored, and the task of that message, None where it was dropped.
+    kept: Option<Envelope>,
+    task: Option<TaskNo>,
 }
 
 impl Model for Core {
@@ -40,7 +45,7 @@ impl Model for Core {
 
     ghost coded = { Prim.hlevel (codes, content_code, carried_code) };
 
-    ghost view = { λ c. record { left = left_of c.phase; is_out = is_out c.phase; dropped = c.dropped } };
+    ghost view = { λ c. record { left = left_of c.phase; is_out = is_out c.phase; dropped = c.dropped; kept = c.kept; task = c.task } };
 }
 
 /// The message of an envelope, unless it is one to drop.
@@ -71,14 +76,16 @@ impl Core {
         Core {
             phase: Phase::Taking,
             dropped: 0,
+            kept: None,
+            task: None,
         }
     }
 
     /// What the core asks for.
     pub fn next(&self) -> Ask
-        ensures ask { result ≡ shown (asked self.now.left) }
+        ensures ask { result ≡ shown self.now.task (asked self.now.left) }
         ensures in_range { StoresInRange (asked self.now.left) }
-        ensures reads_back { self.now.is_out ≡ false → ReadsBack (enveloped_by no_book) self.now.left }
+        ensures reads_back { self.now.is_out ≡ false → ReadsBack (enveloped_by no_tasks no_book) self.now.left }
     {
         match &self.phase {
             Phase::Taking => Ask::Take,
@@ -90,6 +97,7 @@ impl Core {
             Phase::Publishing(_) => Ask::Publish,
             Phase::Returning(part) => Ask::Part(part.group, part.task),
             Phase::Reading(reading) => Ask::Read(reading.group, reading.found.len() as u32),
+            Phase::Acking => Ask::Ack(self.task),
         }
     }
 
@@ -117,6 +125,28 @@ impl Core {
         }
     }
 
+    /// The envelope of the open script, from its take until its acknowledgement is answered.
+    pub fn held(&self) -> Option<&Envelope>
+        ensures { option_map (λ e. e.now) result ≡ held self.now }
+    {
+        match &self.phase {
+            Phase::Owning(owned) => Some(&owned.envelope),
+            _ => self.kept.as_ref(),
+        }
+    }
+
+    /// The point of its message's script to which the core has come, and the message's task: before the first store, or before the
+    /// acknowledgement. None between them, and where the envelope was dropped.
+    pub fn point(&self) -> Option<(TaskNo, When)>
+        ensures { result ≡ point_at self.now }
+    {
+        match &self.phase {
+            Phase::Owning(_) => self.task.map(|task| (task, When::Early)),
+            Phase::Acking => self.task.map(|task| (task, When::Late)),
+            _ => None,
+        }
+    }
+
     /// How many envelopes were dropped.
     pub fn dropped(&self) -> u64
         ensures { result ≡ self.now.dropped }
@@ -125,14 +155,20 @@ impl Core {
     }
 
     /// Answers what the core asks for. Where memory was refused the core has failed.
-    pub fn answer<B: Book>(&mut self, alloc: Global, book: &B, reply: Reply) -> Result<(), Memory>
-        requires suits { suits (shown (asked self.old.left)) reply ≡ true }
+    pub fn answer<B: Book, T: Tasks>(
+        &mut self,
+        alloc: Global,
+        book: &B,
+        tasks: &T,
+        reply: Reply,
+    ) -> Result<(), Memory>
+        requires suits { suits (shown self.old.task (asked self.old.left)) reply ≡ true }
         requires in_range { FoundInRange reply }
-        ensures ok { OnOk result (self.new ≡ after_reply (B.book book.now) self.old (replied reply)) }
+        ensures ok { OnOk result (self.new ≡ after_reply (T.behaviour tasks.now) (B.book book.now) self.old (replied reply)) }
         ensures err { OnErr result (self.new ≡ failing self.old) }
     {
         match mem::replace(&mut self.phase, Phase::Failed) {
-            Phase::Taking => self.take_in(alloc, book, reply),
+            Phase::Taking => self.take_in(alloc, book, tasks, reply),
             Phase::Resting => {
                 self.set(rested(&reply));
                 Ok(())
@@ -146,7 +182,14 @@ impl Core {
                 Ok(())
             }
             Phase::Owning(owned) => {
-                self.set(owned.answered(&reply));
+                let (phase, envelope) = owned.answered(&reply);
+                self.kept = Some(envelope);
+                self.set(phase);
+                Ok(())
+            }
+            Phase::Acking => {
+                self.kept = None;
+                self.set(acknowledged(&reply));
                 Ok(())
             }
             Phase::Storing(storing) => {
@@ -170,7 +213,7 @@ impl Core {
     }
 
     fn set(&mut self, phase: Phase)
-        ensures value { self.new ≡ record { left = left_of phase; is_out = is_out phase; dropped = self.old.dropped } }
+        ensures value { self.new ≡ record { left = left_of phase; is_out = is_out phase; dropped = self.old.dropped; kept = self.old.kept; task = self.old.task } }
         ensures most { self.old.dropped ≤ greatest_count }
     {
         // For the clause `most` alone: a count that is read is known to fit its type.
@@ -179,12 +222,18 @@ impl Core {
     }
 
     /// The answer to a take. `answer` has set the phase to failed before the call, and so it stays where memory is refused.
-    fn take_in<B: Book>(&mut self, alloc: Global, book: &B, reply: Reply) -> Result<(), Memory>
-        ensures ok { OnOk result (self.new ≡ after_reply (B.book book.now) (waiting self.old.dropped) (replied reply)) }
+    fn take_in<B: Book, T: Tasks>(
+        &mut self,
+        alloc: Global,
+        book: &B,
+        tasks: &T,
+        reply: Reply,
+    ) -> Result<(), Memory>
+        ensures ok { OnOk result (self.new ≡ after_reply (T.behaviour tasks.now) (B.book book.now) (waiting self.old.dropped self.old.kept self.old.task) (replied reply)) }
         ensures err { OnErr result (self.new ≡ self.old) }
     {
         match reply {
-            Reply::Taken(Some(envelope)) => self.take_up(alloc, book, envelope),
+            Reply::Taken(Some(envelope)) => self.take_up(alloc, book, tasks, envelope),
             Reply::Taken(None) => {
                 self.set(Phase::Resting);
                 Ok(())
@@ -196,32 +245,37 @@ impl Core {
         }
     }
 
-    fn take_up<B: Book>(
+    fn take_up<B: Book, T: Tasks>(
         &mut self,
         alloc: Global,
         book: &B,
+        tasks: &T,
         envelope: Envelope,
     ) -> Result<(), Memory>
-        ensures ok { OnOk result (self.new ≡ after_reply (B.book book.now) (waiting self.old.dropped) (taken (Some envelope))) }
+        ensures ok { OnOk result (self.new ≡ after_reply (T.behaviour tasks.now) (B.book book.now) (waiting self.old.dropped self.old.kept self.old.task) (taken (Some envelope))) }
         ensures err { OnErr result (self.new ≡ self.old) }
     {
         match open(alloc, book, &envelope)? {
             Some(message) => {
-                let owned = Owned::of(alloc, envelope, message)?;
+                let task = message.task;
+                let owned = Owned::of(alloc, tasks, envelope, message)?;
+                self.task = Some(task);
                 self.set(Phase::Owning(owned));
                 Ok(())
             }
             None => {
-                self.drop_one();
+                self.drop_one(envelope);
                 Ok(())
             }
         }
     }
 
-    fn drop_one(&mut self)
-        ensures { self.new ≡ record { left = taking; is_out = false; dropped = min greatest_count (self.old.dropped + 1) } }
+    fn drop_one(&mut self, envelope: Envelope)
+        ensures { self.new ≡ record { left = acking; is_out = false; dropped = min greatest_count (self.old.dropped + 1); kept = Some envelope; task = None } }
     {
         self.dropped = self.dropped.saturating_add(1);
-        self.phase = Phase::Taking;
+        self.phase = Phase::Acking;
+        self.kept = Some(envelope);
+        self.task = None;
     }
 }

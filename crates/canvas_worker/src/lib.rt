@@ -26,7 +26,7 @@ ghost use Rattle.canvas_worker.specs.Cores.{CoresAreWorkers};
 ghost use Rattle.canvas_worker.specs.Finished.{WorkersStart, WorkersFinish};
 ghost use Rattle.canvas_worker.specs.Leading.{NoneLead, OneMoreLeads, HandedLeads, HandsOut, PlanLeads};
 ghost use Rattle.canvas_worker.specs.Allowed.{WaitingCan, CanAsk, CanGoOn};
-ghost use Rattle.canvas_worker.specs.StepLaws.{Rests, CallFirst, HeldFirst, BatchFirst};
+ghost use Rattle.canvas_worker.specs.StepLaws.{Rests, CallFirst, HeldFirst, BatchFirst, AgainFirst, TakenCan, StillCan};
 
 pub use ask::{Ask, Reply};
 pub use book::Book;
@@ -37,6 +37,7 @@ pub use in_flight::InFlight;
 pub use record::Record;
 pub use stop::Stop;
 pub use worker::Worker;
+pub use canvas_runs::When;
 
 /// A core keeps messages as their envelopes. The asks and answers of a core are those of the worker that the law of runs speaks of.
 pub fn law_of_cores()
@@ -70,12 +71,16 @@ pub fn law_of_seats()
 {}
 
 /// Where a worker does nothing that is followed, and a step in front of what is followed is followed with it: an ask of its core
-/// answered by its pass or seat, one answered from the envelopes that it holds, and a batch taken.
+/// answered by its pass or seat, one answered from the envelopes that it holds, a batch taken, and the envelope of its open script
+/// delivered again.
 pub fn steps_of_workers()
     ensures rests { Rests }
     ensures call_first { CallFirst }
     ensures held_first { HeldFirst }
     ensures batch_first { BatchFirst }
+    ensures again_first { AgainFirst }
+    ensures taken_can { TakenCan }
+    ensures still_can { StillCan }
 {}
 
 /// At a backend of a plan a new worker may be polled, and its record says what its pass and its seat have followed.

@@ -2,7 +2,7 @@
 
 ghost use Rattle.std.specs.Prelude.{◌≡◌, ◌<◌, ◌++◌, ◌∷◌, [], Ok, IfOk, IfSome, All, true, cond, length, map, unwrap_or};
 ghost use Rattle.std.specs.Option.{option_map};
-ghost use Rattle.canvas_task.specs.Apply.{IsInRange, six_tasks};
+ghost use Rattle.canvas_task.specs.Apply.{IsInRange};
 ghost use Rattle.canvas_message.specs.Carrying.{carried_ok};
 ghost use Rattle.canvas_message.specs.Effects.{after, outcome_of, script as whole, part_jobs};
 ghost use Rattle.canvas_message.specs.steps.Elements.{carried_view};
@@ -10,10 +10,10 @@ ghost use Rattle.canvas_message.specs.Job.{store, publish, hand_in};
 ghost use Rattle.canvas_message.specs.Todos.{part_view};
 ghost use Rattle.canvas_worker.specs.Asks.{replied, FoundInRange};
 ghost use Rattle.canvas_worker.specs.Books.{no_book};
-ghost use Rattle.canvas_runs.specs.Core.{is_due, settled, handed_in, all_read, answered, owning, doing, resting, reading as state_reading};
+ghost use Rattle.canvas_runs.specs.Core.{is_due, settled, handed_in, all_read, answered, owning, doing, resting, acking, reading as state_reading};
 ghost use Rattle.canvas_worker.specs.Phases.{IsAt};
 ghost use Rattle.canvas_worker.specs.Scripts.{jobs_of};
-ghost use Rattle.canvas_worker.specs.Enveloped.{enveloped_by, said, enclosed, blank};
+ghost use Rattle.canvas_worker.specs.Enveloped.{enveloped_by, no_tasks, said, enclosed, unapplied, blank};
 ghost use Rattle.canvas_backend.specs.Backend.{says_first};
 
 use crate::Reply;
@@ -25,7 +25,7 @@ use crate::stages::{Owned, Publishing, Reading, Storing};
 use canvas_backend::Stored;
 use canvas_message::{Envelope, Message, PartCall, body_after};
 use canvas_rewrite::Carried;
-use canvas_task::{Memory, Outcome, TaskNo, apply};
+use canvas_task::{Memory, Outcome, TaskNo, Tasks};
 use std::alloc::Global;
 
 #[derive(Drop)]
@@ -39,26 +39,27 @@ pub(crate) enum Phase {
     Publishing(Publishing),
     Returning(PartCall),
     Reading(Reading),
+    Acking,
 }
 
-fn part_or_take(part: Option<PartCall>, first: bool) -> Phase
-    ensures { IsAt result (settled (enveloped_by no_book) (map enclosed (part_jobs (option_map part_view part))) first) }
+fn part_or_ack(part: Option<PartCall>, first: bool) -> Phase
+    ensures { IsAt result (settled (enveloped_by no_tasks no_book) (map enclosed (part_jobs (option_map part_view part))) first) }
 {
     match part {
         Some(part) => {
             if first {
                 Phase::Returning(part)
             } else {
-                Phase::Taking
+                Phase::Acking
             }
         }
-        None => Phase::Taking,
+        None => Phase::Acking,
     }
 }
 
 /// What is next in a script.
 fn settle(script: Script) -> Phase
-    ensures { IsAt result (settled (enveloped_by no_book) (jobs_of script) script.first) }
+    ensures { IsAt result (settled (enveloped_by no_tasks no_book) (jobs_of script) script.first) }
 {
     let Script {
         mut stores,
@@ -89,13 +90,13 @@ fn settle(script: Script) -> Phase
                 first,
             },
         }),
-        None => part_or_take(part, first),
+        None => part_or_ack(part, first),
     }
 }
 
 /// The same, where a store is answered.
 fn settle_after(script: Script, task: TaskNo, stored: &Stored) -> Phase
-    ensures { IsAt result (settled (enveloped_by no_book) (jobs_of script) (cond (is_due task (jobs_of script)) (says_first stored.now) script.first)) }
+    ensures { IsAt result (settled (enveloped_by no_tasks no_book) (jobs_of script) (cond (is_due task (jobs_of script)) (says_first stored.now) script.first)) }
 {
     let first = latest(&script, task, stored);
     let Script {
@@ -113,11 +114,11 @@ fn settle_after(script: Script, task: TaskNo, stored: &Stored) -> Phase
 }
 
 /// What the call of a message answers.
-fn outcome_of(message: &Message) -> Outcome
-    ensures value { result ≡ outcome_of six_tasks message.now }
+fn outcome_of<T: Tasks>(tasks: &T, message: &Message) -> Outcome
+    ensures value { result ≡ outcome_of (T.behaviour tasks.now) message.now }
     ensures in_range { IsInRange result }
 {
-    apply(message.name.get(), message.args.get(), message.kwargs.get())
+    tasks.apply(message.name.get(), message.args.get(), message.kwargs.get())
 }
 
 /// A function for its contract's sake: the size, as contracts see what is carried.
@@ -129,12 +130,18 @@ fn size_of(carried: &Carried) -> u32
 
 impl Owned {
     /// An envelope that was taken, with all that its message needs built.
-    pub(crate) fn of(alloc: Global, envelope: Envelope, message: Message) -> Result<Owned, Memory>
+    pub(crate) fn of<T: Tasks>(
+        alloc: Global,
+        tasks: &T,
+        envelope: Envelope,
+        message: Message,
+    ) -> Result<Owned, Memory>
         requires { said envelope ≡ message }
-        ensures { IfOk result (λ o. o.envelope ≡ envelope) }
+        ensures envelope { IfOk result (λ o. o.envelope ≡ envelope) }
+        ensures value { IfOk result (λ o. o.outcome ≡ outcome_of (T.behaviour tasks.now) (said envelope)) }
     {
         let task = message.task;
-        let outcome = outcome_of(&message);
+        let outcome = outcome_of(tasks, &message);
         let script = script_of(alloc, message.into_todo(alloc, &outcome)?, true)?;
         Ok(Owned {
             envelope,
@@ -144,20 +151,29 @@ impl Owned {
         })
     }
 
-    pub(crate) fn answered(self, reply: &Reply) -> Phase
-        ensures { IsAt result (answered (enveloped_by no_book) (owning self.envelope) (replied reply.now)) }
+    /// The envelope is given back, which is kept until it is acknowledged.
+    pub(crate) fn answered(self, reply: &Reply) -> (Phase, Envelope)
+        ensures phase { IsAt result.0 (answered (enveloped_by no_tasks no_book) (owning (record { envelope = self.envelope; outcome = self.outcome })) (replied reply.now)) }
+        ensures envelope { result.1 ≡ self.envelope }
     {
-        match reply {
-            Reply::Stored(Stored::First) => settle(self.script),
-            Reply::Stored(Stored::Again) => Phase::Taking,
+        let Owned {
+            envelope,
+            task: _,
+            outcome: _,
+            script,
+        } = self;
+        let phase = match reply {
+            Reply::Stored(Stored::First) => settle(script),
+            Reply::Stored(Stored::Again) => Phase::Acking,
             _ => Phase::Failed,
-        }
+        };
+        (phase, envelope)
     }
 }
 
 impl Storing {
     pub(crate) fn answered(self, reply: &Reply) -> Phase
-        ensures { IsAt result (answered (enveloped_by no_book) (doing (store self.task self.outcome ∷ jobs_of self.script) self.script.first) (replied reply.now)) }
+        ensures { IsAt result (answered (enveloped_by no_tasks no_book) (doing (store self.task self.outcome ∷ jobs_of self.script) self.script.first) (replied reply.now)) }
     {
         match reply {
             Reply::Stored(stored) => settle_after(self.script, self.task, stored),
@@ -168,7 +184,7 @@ impl Storing {
 
 impl Publishing {
     pub(crate) fn answered(self, reply: &Reply) -> Phase
-        ensures { IsAt result (answered (enveloped_by no_book) (doing (publish (unwrap_or self.envelope blank) ∷ jobs_of self.script) self.script.first) (replied reply.now)) }
+        ensures { IsAt result (answered (enveloped_by no_tasks no_book) (doing (publish (unapplied (unwrap_or self.envelope blank)) ∷ jobs_of self.script) self.script.first) (replied reply.now)) }
     {
         match reply {
             Reply::Published => settle(self.script),
@@ -179,7 +195,7 @@ impl Publishing {
 
 /// Where the part was the last of its header, the members are read.
 fn counted(alloc: Global, part: PartCall, count: u64) -> Phase
-    ensures { IsAt result (handed_in (enveloped_by no_book) part.group (carried_view part.chord) count) }
+    ensures { IsAt result (handed_in (enveloped_by no_tasks no_book) part.group (carried_view part.chord) count) }
 {
     let size = u64::from(size_of(&part.chord));
     if count < size && count + 1 == size {
@@ -189,12 +205,12 @@ fn counted(alloc: Global, part: PartCall, count: u64) -> Phase
             found: Vec::new(alloc),
         })
     } else {
-        Phase::Taking
+        Phase::Acking
     }
 }
 
 pub(crate) fn returned(alloc: Global, part: PartCall, reply: &Reply) -> Phase
-    ensures { IsAt result (answered (enveloped_by no_book) (doing (hand_in part.group part.task (carried_view part.chord) ∷ []) true) (replied reply.now)) }
+    ensures { IsAt result (answered (enveloped_by no_tasks no_book) (doing (hand_in part.group part.task (carried_view part.chord) ∷ []) true) (replied reply.now)) }
 {
     match reply {
         Reply::Counted(count) => counted(alloc, part, *count),
@@ -202,8 +218,17 @@ pub(crate) fn returned(alloc: Global, part: PartCall, reply: &Reply) -> Phase
     }
 }
 
+pub(crate) fn acknowledged(reply: &Reply) -> Phase
+    ensures { IsAt result (answered (enveloped_by no_tasks no_book) acking (replied reply.now)) }
+{
+    match reply {
+        Reply::Acked => Phase::Taking,
+        _ => Phase::Failed,
+    }
+}
+
 pub(crate) fn rested(reply: &Reply) -> Phase
-    ensures { IsAt result (answered (enveloped_by no_book) resting (replied reply.now)) }
+    ensures { IsAt result (answered (enveloped_by no_tasks no_book) resting (replied reply.now)) }
 {
     match reply {
         Reply::Rested { more: true } => Phase::Taking,
@@ -216,7 +241,7 @@ impl Reading {
     /// The outcome of one more member. After the last, all that the body needs is built.
     fn add(self, alloc: Global, task: TaskNo, outcome: Outcome) -> Result<Phase, Memory>
         requires { IsInRange outcome }
-        ensures { IfOk result (λ p. IsAt p (all_read (enveloped_by no_book) self.group (carried_view self.chord) (self.found.items ++ (task, outcome) ∷ []))) }
+        ensures { IfOk result (λ p. IsAt p (all_read (enveloped_by no_tasks no_book) self.group (carried_view self.chord) (self.found.items ++ (task, outcome) ∷ []))) }
     {
         let Reading {
             group,
@@ -238,11 +263,11 @@ impl Reading {
 
     pub(crate) fn answered(self, alloc: Global, reply: &Reply) -> Result<Phase, Memory>
         requires { FoundInRange reply.now }
-        ensures { IfOk result (λ p. IsAt p (answered (enveloped_by no_book) (state_reading self.group (carried_view self.chord) self.found.items) (replied reply.now))) }
+        ensures { IfOk result (λ p. IsAt p (answered (enveloped_by no_tasks no_book) (state_reading self.group (carried_view self.chord) self.found.items) (replied reply.now))) }
     {
         match reply {
             Reply::Found(task, Some(outcome)) => self.add(alloc, *task, *outcome),
-            Reply::Found(_, None) => Ok(Phase::Taking),
+            Reply::Found(_, None) => Ok(Phase::Acking),
             _ => Ok(Phase::Failed),
         }
     }

@@ -9,6 +9,7 @@ use crate::working::{End, Working};
 use crate::{Gate, InFlight, Record, Stop};
 use canvas_backend::{Backend, BackendSeat};
 use canvas_broker::{Broker, BrokerPass};
+use canvas_task::Tasks;
 use futures::Future;
 use futures::task::{Context, Poll};
 use std::alloc::Global;
@@ -19,11 +20,12 @@ use std::sync::Wait;
 /// Where the stop was asked it is ready. Before a message's first store it asks its gate, and where that answers false it only yields.
 /// It ends by itself once it rests while no message is in flight. Its pass and seat are used with the broker and the backend that they came from.
 #[derive(Drop)]
-pub struct Worker<'a, R: Wait, G: Gate> {
+pub struct Worker<'a, R: Wait, T: Tasks, G: Gate> {
     working: Option<Working<'a, R, G>>,
+    tasks: &'a T,
 }
 
-impl<'a, R: Wait, G: Gate> Worker<'a, R, G> {
+impl<'a, R: Wait, T: Tasks, G: Gate> Worker<'a, R, T, G> {
     /// A worker that has done nothing yet.
     pub fn new(
         rt: &'a R,
@@ -33,22 +35,25 @@ impl<'a, R: Wait, G: Gate> Worker<'a, R, G> {
         pass: BrokerPass,
         backend: &'a Backend,
         seat: BackendSeat,
+        tasks: &'a T,
         gate: &'a G,
         stop: &'a Stop,
         flight: &'a InFlight,
-    ) -> Worker<'a, R, G>
-        ensures { result.working ≡ Some (working_begun broker.now backend.now number pass seat) }
+    ) -> Worker<'a, R, T, G>
+        ensures working { result.working ≡ Some (working_begun broker.now backend.now number pass seat) }
+        ensures tasks { result.tasks.now ≡ tasks.now }
     {
         let working = Working::new(
             rt, alloc, number, broker, pass, backend, seat, gate, stop, flight,
         );
         Worker {
             working: Some(working),
+            tasks,
         }
     }
 }
 
-impl<R: Wait, G: Gate> Worker<'_, R, G> {
+impl<R: Wait, T: Tasks, G: Gate> Worker<'_, R, T, G> {
     /// The record of a worker that has ended. It is made apart, since a function that only may move a worker pays for the room each time.
     fn leave(&mut self, end: End) -> Record
         requires { IsSome self.old.working }
@@ -61,27 +66,28 @@ impl<R: Wait, G: Gate> Worker<'_, R, G> {
     }
 }
 
-impl<R: Wait, G: Gate> Future for Worker<'_, R, G> {
+impl<R: Wait, T: Tasks, G: Gate> Future for Worker<'_, R, T, G> {
     type Output = Record;
 
     ghost can_poll = { λ w. IsSomeAnd w.working Ready };
 
-    ghost gives = { λ w r. IfSome w.working (λ v. TellsOf v r) };
+    ghost gives = { λ w r. IfSome w.working (λ v. TellsOf (T.behaviour w.tasks.now) v r) };
 
     fn poll(&mut self, cx: &mut Context<'_>) -> Poll<Record>
         requires { IsSomeAnd self.old.working Ready }
-        ensures value { IfReady result (λ r. IfSome self.old.working (λ w. TellsOf w r)) }
+        ensures value { IfReady result (λ r. IfSome self.old.working (λ w. TellsOf (T.behaviour self.old.tasks.now) w r)) }
         ensures again { OnPending result (IsSomeAnd self.new.working Ready) }
-        ensures same { OnPending result ((x : _) → IfSome self.new.working (λ v. TellsOf v x) → IfSome self.old.working (λ w. TellsOf w x)) }
+        ensures same { OnPending result ((x : _) → IfSome self.new.working (λ v. TellsOf (T.behaviour self.new.tasks.now) v x) → IfSome self.old.working (λ w. TellsOf (T.behaviour self.old.tasks.now) w x)) }
         ensures registered { OnPending result (Covers cx.new (λ _. ⊥)) }
         ensures kept { Keeps cx.old cx.new }
-        ensures once { OnPending result (IfSome self.old.working (λ w. IfSome self.new.working (λ v. Pends w v))) }
-        ensures last { IfReady result (λ r. IfSome self.old.working (λ w. Ends w r)) }
+        ensures once { OnPending result (IfSome self.old.working (λ w. IfSome self.new.working (λ v. Pends (T.behaviour self.old.tasks.now) w v))) }
+        ensures last { IfReady result (λ r. IfSome self.old.working (λ w. Ends (T.behaviour self.old.tasks.now) w r)) }
     {
+        let tasks = self.tasks;
         let Some(working) = &mut self.working else {
             return cx.yield_now();
         };
-        match working.turn() {
+        match working.turn(tasks) {
             Ok(()) => cx.yield_now(),
             Err(end) => Poll::Ready(self.leave(end)),
         }

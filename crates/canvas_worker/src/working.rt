@@ -5,7 +5,7 @@ ghost use Rattle.canvas_task.specs.Apply.{IsInRange};
 ghost use Rattle.canvas_runs.specs.Core.{ReadsBack, taken};
 ghost use Rattle.canvas_worker.specs.Asks.{suits, shown, replied, FoundInRange};
 ghost use Rattle.canvas_worker.specs.Books.{no_book};
-ghost use Rattle.canvas_worker.specs.Enveloped.{enveloped_by};
+ghost use Rattle.canvas_worker.specs.Enveloped.{enveloped_by, no_tasks};
 ghost use Rattle.canvas_worker.specs.Standing.{asked};
 ghost use Rattle.canvas_worker.specs.Work.{Ready, Pends, EndsWith, Leaves, working_begun, with_answer, lost, one_taken};
 ghost use Rattle.canvas_worker.specs.declared.ask.Ask.TheVariants as ask;
@@ -16,7 +16,7 @@ use crate::{Ask, Cause, Core, Gate, InFlight, Record, Reply, Stop};
 use canvas_backend::{Backend, BackendSeat, Stored};
 use canvas_broker::{Broker, BrokerPass};
 use canvas_message::Envelope;
-use canvas_task::{GroupNo, Outcome, TaskNo};
+use canvas_task::{GroupNo, Outcome, TaskNo, Tasks};
 use std::alloc::Global;
 use std::marker::Model;
 use std::sync::Wait;
@@ -134,25 +134,25 @@ impl<'a, R: Wait, G: Gate> Working<'a, R, G> {
     }
 
     /// Answers the core.
-    fn answers(&mut self, reply: Reply) -> Result<(), End>
-        requires suits { suits (shown (asked self.old.core.left)) reply ≡ true }
+    fn answers<T: Tasks>(&mut self, tasks: &T, reply: Reply) -> Result<(), End>
+        requires suits { suits (shown self.old.core.task (asked self.old.core.left)) reply ≡ true }
         requires in_range { FoundInRange reply }
-        ensures { MatchResult result (λ _. self.new ≡ with_answer self.old (replied reply)) (λ e. (self.new ≡ lost self.old) × (e.fault ≡ Some Memory)) }
+        ensures { MatchResult result (λ _. self.new ≡ with_answer (T.behaviour tasks.now) self.old (replied reply)) (λ e. (self.new ≡ lost self.old) × (e.fault ≡ Some Memory)) }
     {
         let (alloc, backend) = (self.alloc, self.backend);
-        match self.core.answer(alloc, backend, reply) {
+        match self.core.answer(alloc, backend, tasks, reply) {
             Ok(()) => Ok(()),
             Err(_) => Err(self.fails()),
         }
     }
 
     /// Answers the core inside the script of a message, which may end with that.
-    fn replies(&mut self, reply: Reply) -> Result<(), End>
-        requires suits { suits (shown (asked self.old.core.left)) reply ≡ true }
+    fn replies<T: Tasks>(&mut self, tasks: &T, reply: Reply) -> Result<(), End>
+        requires suits { suits (shown self.old.core.task (asked self.old.core.left)) reply ≡ true }
         requires in_range { FoundInRange reply }
-        ensures { MatchResult result (λ _. self.new ≡ with_answer self.old (replied reply)) (λ e. (self.new ≡ lost self.old) × (e.fault ≡ Some Memory)) }
+        ensures { MatchResult result (λ _. self.new ≡ with_answer (T.behaviour tasks.now) self.old (replied reply)) (λ e. (self.new ≡ lost self.old) × (e.fault ≡ Some Memory)) }
     {
-        match self.answers(reply) {
+        match self.answers(tasks, reply) {
             Ok(()) => {
                 self.flight.done_unless(self.core.is_inside());
                 Ok(())
@@ -162,13 +162,13 @@ impl<'a, R: Wait, G: Gate> Working<'a, R, G> {
     }
 
     /// Gives an envelope to the core.
-    fn gives(&mut self, envelope: Envelope) -> Result<(), End>
-        requires { shown (asked self.old.core.left) ≡ ask.Take }
-        ensures { MatchResult result (λ _. self.new ≡ one_taken (with_answer self.old (taken (Some envelope)))) (λ e. (self.new ≡ lost self.old) × (e.fault ≡ Some Memory)) }
+    fn gives<T: Tasks>(&mut self, tasks: &T, envelope: Envelope) -> Result<(), End>
+        requires { shown self.old.core.task (asked self.old.core.left) ≡ ask.Take }
+        ensures { MatchResult result (λ _. self.new ≡ one_taken (with_answer (T.behaviour tasks.now) self.old (taken (Some envelope)))) (λ e. (self.new ≡ lost self.old) × (e.fault ≡ Some Memory)) }
     {
         self.is_fresh = true;
         self.idle = 0;
-        match self.replies(Reply::Taken(Some(envelope))) {
+        match self.replies(tasks, Reply::Taken(Some(envelope))) {
             Ok(()) => {
                 self.taken = self.taken.saturating_add(1);
                 Ok(())
@@ -177,38 +177,38 @@ impl<'a, R: Wait, G: Gate> Working<'a, R, G> {
         }
     }
 
-    fn takes_one(&mut self) -> Result<(), End>
+    fn takes_one<T: Tasks>(&mut self, tasks: &T) -> Result<(), End>
         requires ready { Ready self.old }
-        requires asks { shown (asked self.old.core.left) ≡ ask.Take }
+        requires asks { shown self.old.core.task (asked self.old.core.left) ≡ ask.Take }
         requires bare { self.old.held ≡ [] }
-        ensures { MatchResult result (λ _. Pends self.old self.new) (λ e. EndsWith self.old e.fault self.new) }
+        ensures { MatchResult result (λ _. Pends (T.behaviour tasks.now) self.old self.new) (λ e. EndsWith (T.behaviour tasks.now) self.old e.fault self.new) }
     {
         let (rt, broker) = (self.rt, self.broker);
         match broker.take(rt, &mut self.pass) {
             Some(envelope) => {
                 self.source = Source::Next;
-                self.gives(envelope)
+                self.gives(tasks, envelope)
             }
             None => {
                 self.source = self.source.after_none();
                 self.idle = self.idle.saturating_add(1);
-                self.answers(Reply::Taken(None))
+                self.answers(tasks, Reply::Taken(None))
             }
         }
     }
 
-    fn takes_batch(&mut self) -> Result<(), End>
+    fn takes_batch<T: Tasks>(&mut self, tasks: &T) -> Result<(), End>
         requires ready { Ready self.old }
-        requires asks { shown (asked self.old.core.left) ≡ ask.Take }
+        requires asks { shown self.old.core.task (asked self.old.core.left) ≡ ask.Take }
         requires bare { self.old.held ≡ [] }
-        ensures { MatchResult result (λ _. Pends self.old self.new) (λ e. EndsWith self.old e.fault self.new) }
+        ensures { MatchResult result (λ _. Pends (T.behaviour tasks.now) self.old self.new) (λ e. EndsWith (T.behaviour tasks.now) self.old e.fault self.new) }
     {
         let (rt, broker) = (self.rt, self.broker);
         let mut batch = broker.take_batch(rt, &mut self.pass);
         match batch.next() {
             Some(envelope) => {
                 self.source = Source::Batched(batch);
-                self.gives(envelope)
+                self.gives(tasks, envelope)
             }
             None => {
                 self.source = Source::Alone;
@@ -217,26 +217,26 @@ impl<'a, R: Wait, G: Gate> Working<'a, R, G> {
         }
     }
 
-    fn takes(&mut self) -> Result<(), End>
+    fn takes<T: Tasks>(&mut self, tasks: &T) -> Result<(), End>
         requires ready { Ready self.old }
-        requires asks { shown (asked self.old.core.left) ≡ ask.Take }
-        ensures { MatchResult result (λ _. Pends self.old self.new) (λ e. EndsWith self.old e.fault self.new) }
+        requires asks { shown self.old.core.task (asked self.old.core.left) ≡ ask.Take }
+        ensures { MatchResult result (λ _. Pends (T.behaviour tasks.now) self.old self.new) (λ e. EndsWith (T.behaviour tasks.now) self.old e.fault self.new) }
     {
         if let Some(envelope) = self.source.next() {
-            return self.gives(envelope);
+            return self.gives(tasks, envelope);
         }
         if self.source.is_alone() {
-            self.takes_one()
+            self.takes_one(tasks)
         } else {
-            self.takes_batch()
+            self.takes_batch(tasks)
         }
     }
 
-    fn publishes(&mut self) -> Result<(), End>
+    fn publishes<T: Tasks>(&mut self, tasks: &T) -> Result<(), End>
         requires ready { Ready self.old }
-        requires asks { shown (asked self.old.core.left) ≡ ask.Publish }
-        requires reads_back { ReadsBack (enveloped_by no_book) self.old.core.left }
-        ensures { MatchResult result (λ _. Pends self.old self.new) (λ e. EndsWith self.old e.fault self.new) }
+        requires asks { shown self.old.core.task (asked self.old.core.left) ≡ ask.Publish }
+        requires reads_back { ReadsBack (enveloped_by no_tasks no_book) self.old.core.left }
+        ensures { MatchResult result (λ _. Pends (T.behaviour tasks.now) self.old self.new) (λ e. EndsWith (T.behaviour tasks.now) self.old e.fault self.new) }
     {
         let (rt, broker) = (self.rt, self.broker);
         match self.core.envelope() {
@@ -245,7 +245,7 @@ impl<'a, R: Wait, G: Gate> Working<'a, R, G> {
                 match broker.publish(rt, &mut self.pass, envelope) {
                     Ok(()) => {
                         self.published = self.published.saturating_add(1);
-                        self.replies(Reply::Published)
+                        self.replies(tasks, Reply::Published)
                     }
                     Err(_refused) => Err(self.fails()),
                 }
@@ -254,62 +254,71 @@ impl<'a, R: Wait, G: Gate> Working<'a, R, G> {
         }
     }
 
-    fn stores(&mut self, task: TaskNo, outcome: Outcome) -> Result<(), End>
+    fn stores<T: Tasks>(&mut self, tasks: &T, task: TaskNo, outcome: Outcome) -> Result<(), End>
         requires ready { Ready self.old }
-        requires asks { shown (asked self.old.core.left) ≡ ask.Store task outcome }
-        requires reads_back { ReadsBack (enveloped_by no_book) self.old.core.left }
+        requires asks { shown self.old.core.task (asked self.old.core.left) ≡ ask.Store task outcome }
+        requires reads_back { ReadsBack (enveloped_by no_tasks no_book) self.old.core.left }
         requires in_range { IsInRange outcome }
-        ensures { MatchResult result (λ _. Pends self.old self.new) (λ e. EndsWith self.old e.fault self.new) }
+        ensures { MatchResult result (λ _. Pends (T.behaviour tasks.now) self.old self.new) (λ e. EndsWith (T.behaviour tasks.now) self.old e.fault self.new) }
     {
         let backend = self.backend;
         self.is_fresh = false;
         match backend.store(&mut self.seat, task, &outcome) {
             Stored::First => {
                 self.first = self.first.saturating_add(1);
-                self.replies(Reply::Stored(Stored::First))
+                self.replies(tasks, Reply::Stored(Stored::First))
             }
-            Stored::Again => self.replies(Reply::Stored(Stored::Again)),
+            Stored::Again => self.replies(tasks, Reply::Stored(Stored::Again)),
         }
     }
 
-    fn returns(&mut self, group: GroupNo, task: TaskNo) -> Result<(), End>
+    fn returns<T: Tasks>(&mut self, tasks: &T, group: GroupNo, task: TaskNo) -> Result<(), End>
         requires ready { Ready self.old }
-        requires asks { shown (asked self.old.core.left) ≡ ask.Part group task }
-        requires reads_back { ReadsBack (enveloped_by no_book) self.old.core.left }
-        ensures { MatchResult result (λ _. Pends self.old self.new) (λ e. EndsWith self.old e.fault self.new) }
+        requires asks { shown self.old.core.task (asked self.old.core.left) ≡ ask.Part group task }
+        requires reads_back { ReadsBack (enveloped_by no_tasks no_book) self.old.core.left }
+        ensures { MatchResult result (λ _. Pends (T.behaviour tasks.now) self.old self.new) (λ e. EndsWith (T.behaviour tasks.now) self.old e.fault self.new) }
     {
         let backend = self.backend;
         let count = backend.part(&mut self.seat, group, task);
         self.parts = self.parts.saturating_add(1);
-        self.replies(Reply::Counted(count))
+        self.replies(tasks, Reply::Counted(count))
     }
 
-    fn reads(&mut self, group: GroupNo, place: u32) -> Result<(), End>
+    fn reads<T: Tasks>(&mut self, tasks: &T, group: GroupNo, place: u32) -> Result<(), End>
         requires ready { Ready self.old }
-        requires asks { shown (asked self.old.core.left) ≡ ask.Read group place }
-        requires reads_back { ReadsBack (enveloped_by no_book) self.old.core.left }
-        ensures { MatchResult result (λ _. Pends self.old self.new) (λ e. EndsWith self.old e.fault self.new) }
+        requires asks { shown self.old.core.task (asked self.old.core.left) ≡ ask.Read group place }
+        requires reads_back { ReadsBack (enveloped_by no_tasks no_book) self.old.core.left }
+        ensures { MatchResult result (λ _. Pends (T.behaviour tasks.now) self.old self.new) (λ e. EndsWith (T.behaviour tasks.now) self.old e.fault self.new) }
     {
         let backend = self.backend;
         match backend.member(group, place) {
             Some(task) => {
                 let found = backend.read(&mut self.seat, task);
-                self.replies(Reply::Found(task, found))
+                self.replies(tasks, Reply::Found(task, found))
             }
             None => unreachable!(),
         }
     }
 
-    fn rests(&mut self) -> Result<(), End>
+    fn acknowledges<T: Tasks>(&mut self, tasks: &T) -> Result<(), End>
         requires ready { Ready self.old }
-        requires asks { shown (asked self.old.core.left) ≡ ask.Rest }
-        requires reads_back { ReadsBack (enveloped_by no_book) self.old.core.left }
-        ensures { MatchResult result (λ _. Pends self.old self.new) (λ e. EndsWith self.old e.fault self.new) }
+        requires asks { shown self.old.core.task (asked self.old.core.left) ≡ ask.Ack self.old.core.task }
+        requires reads_back { ReadsBack (enveloped_by no_tasks no_book) self.old.core.left }
+        ensures { MatchResult result (λ _. Pends (T.behaviour tasks.now) self.old self.new) (λ e. EndsWith (T.behaviour tasks.now) self.old e.fault self.new) }
+    {
+        self.replies(tasks, Reply::Acked)
+    }
+
+    fn rests<T: Tasks>(&mut self, tasks: &T) -> Result<(), End>
+        requires ready { Ready self.old }
+        requires asks { shown self.old.core.task (asked self.old.core.left) ≡ ask.Rest }
+        requires reads_back { ReadsBack (enveloped_by no_tasks no_book) self.old.core.left }
+        ensures { MatchResult result (λ _. Pends (T.behaviour tasks.now) self.old self.new) (λ e. EndsWith (T.behaviour tasks.now) self.old e.fault self.new) }
     {
         if self.has_more() {
-            return self.answers(Reply::Rested { more: true });
+            return self.answers(tasks, Reply::Rested { more: true });
         }
-        match self.answers(Reply::Rested { more: false }) {
+        match self.answers(tasks, Reply::Rested { more: false }) {
             Ok(()) => Err(End { fault: None }),
             Err(end) => Err(end),
         }
@@ -324,23 +333,24 @@ impl<'a, R: Wait, G: Gate> Working<'a, R, G> {
     }
 
     /// Stores the outcome of a task, unless the gate holds it back: then nothing is done.
-    fn stores_unless(
+    fn stores_unless<T: Tasks>(
         &mut self,
+        tasks: &T,
         is_held_back: bool,
         task: TaskNo,
         outcome: Outcome,
     ) -> Result<(), End>
         requires ready { Ready self.old }
-        requires asks { shown (asked self.old.core.left) ≡ ask.Store task outcome }
-        requires reads_back { ReadsBack (enveloped_by no_book) self.old.core.left }
+        requires asks { shown self.old.core.task (asked self.old.core.left) ≡ ask.Store task outcome }
+        requires reads_back { ReadsBack (enveloped_by no_tasks no_book) self.old.core.left }
         requires in_range { IsInRange outcome }
-        ensures turned { MatchResult result (λ _. Pends self.old self.new) (λ e. EndsWith self.old e.fault self.new) }
+        ensures turned { MatchResult result (λ _. Pends (T.behaviour tasks.now) self.old self.new) (λ e. EndsWith (T.behaviour tasks.now) self.old e.fault self.new) }
         ensures held_back { is_held_back ≡ true → (result ≡ Ok tt) × (self.new ≡ self.old) }
     {
         if is_held_back {
             return Ok(());
         }
-        self.stores(task, outcome)
+        self.stores(tasks, task, outcome)
     }
 
     /// Whether the gate holds back a message that was just taken.
@@ -350,9 +360,9 @@ impl<'a, R: Wait, G: Gate> Working<'a, R, G> {
 
     /// One poll: at most one ask of the core is answered. It says where the worker has ended.
     #[tactic(auto, using(crate::proofs::Turns::ends_here))]
-    pub(crate) fn turn(&mut self) -> Result<(), End>
+    pub(crate) fn turn<T: Tasks>(&mut self, tasks: &T) -> Result<(), End>
         requires { Ready self.old }
-        ensures { MatchResult result (λ _. Pends self.old self.new) (λ e. EndsWith self.old e.fault self.new) }
+        ensures { MatchResult result (λ _. Pends (T.behaviour tasks.now) self.old self.new) (λ e. EndsWith (T.behaviour tasks.now) self.old e.fault self.new) }
     {
         if self.stop.asked() {
             return Err(End {
@@ -360,15 +370,16 @@ impl<'a, R: Wait, G: Gate> Working<'a, R, G> {
             });
         }
         match self.core.next() {
-            Ask::Take => self.takes(),
-            Ask::Publish => self.publishes(),
+            Ask::Take => self.takes(tasks),
+            Ask::Publish => self.publishes(tasks),
             Ask::Store(task, outcome) => {
                 let is_held_back = self.is_held_back(task);
-                self.stores_unless(is_held_back, task, outcome)
+                self.stores_unless(tasks, is_held_back, task, outcome)
             }
-            Ask::Part(group, task) => self.returns(group, task),
-            Ask::Read(group, place) => self.reads(group, place),
-            Ask::Rest => self.rests(),
+            Ask::Part(group, task) => self.returns(tasks, group, task),
+            Ask::Read(group, place) => self.reads(tasks, group, place),
+            Ask::Ack(_) => self.acknowledges(tasks),
+            Ask::Rest => self.rests(tasks),
             Ask::End => Err(self.fails()),
         }
     }

@@ -7,6 +7,7 @@ use Rattle.std.specs.Prelude.{ℕ, suc, ◌≡◌, ◌<◌, List, [], ◌∷◌,
 use Rattle.std.specs.Global.{Global}
 use Rattle.crossbeam_queue.specs.SegTies.{SegId}
 use Rattle.atomic_table.specs.Seated.{TableId}
+use Rattle.canvas_task.specs.Apply.{Behaviour}
 use Rattle.canvas_backend.specs.Seats as seats
 use Rattle.canvas_backend.specs.Roster.{Roster}
 use Rattle.canvas_broker.specs.Passes as passes
@@ -35,16 +36,16 @@ SplitsOff plan k p s [] p' s' = (p' ≡ p) × (s' ≡ s)
 SplitsOff plan k p s (slot ∷ slots) p' s' = (q : Pass) × (t : Seat) × IsSplitOff plan k p s slot q t × SplitsOff plan (suc k) q t slots p' s'
 
 -- a worker's pass and seat are lost only with its record
-abbrev pub LeavesPost : Roster → ℕ → Post → Post → Type 0
-LeavesPost plan n (Ready q t) (Done r) = Finished plan n q t r
-LeavesPost plan n (Ready q t) Lost = Unit {0}
-LeavesPost plan n x y = ⊥
+abbrev pub LeavesPost : (behaviour : Behaviour) → Roster → ℕ → Post → Post → Type 0
+LeavesPost behaviour plan n (Ready q t) (Done r) = Finished behaviour plan n q t r
+LeavesPost behaviour plan n (Ready q t) Lost = Unit {0}
+LeavesPost behaviour plan n x y = ⊥
 
-abbrev pub RanSlot : Roster → Slot → Slot → Type 0
-RanSlot plan before after = (after.number ≡ before.number) × LeavesPost plan before.number before.post after.post
+abbrev pub RanSlot : (behaviour : Behaviour) → Roster → Slot → Slot → Type 0
+RanSlot behaviour plan before after = (after.number ≡ before.number) × LeavesPost behaviour plan before.number before.post after.post
 
-abbrev pub AllRan : Roster → List Slot → List Slot → Type 0
-AllRan plan before after = (i : ℕ) (d : Slot) → i < length before → RanSlot plan (slice_index_or before i d) (slice_index_or after i d)
+abbrev pub AllRan : (behaviour : Behaviour) → Roster → List Slot → List Slot → Type 0
+AllRan behaviour plan before after = (i : ℕ) (d : Slot) → i < length before → RanSlot behaviour plan (slice_index_or before i d) (slice_index_or after i d)
 
 -- the worker has left a record
 abbrev pub LeftARecord : Post → Type 0

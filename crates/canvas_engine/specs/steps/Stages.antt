@@ -1,6 +1,7 @@
 -- Where a run on one thread stands, and what one ask of one of its workers changes.
 use Rattle.std.specs.Prelude.{◌≡◌, ◌≤◌, ◌<◌, ◌+◌, ◌⊎◌, ℕ, Bool, true, false, suc, IsTrue, All, List, [], ◌∷◌, ◌++◌, map, length, Some, None, Ok, slice_get}
-use Rattle.canvas_task.specs.Apply.{IsInRange, six_tasks}
+use Rattle.canvas_runs.specs.Calls.{scripts_of}
+use Rattle.canvas_task.specs.Apply.{IsInRange, Behaviour}
 use Rattle.canvas_task.specs.declared.outcome.Outcome.{Outcome}
 use Rattle.canvas_semantics.specs.Evaluation.{State}
 use Rattle.canvas_semantics.specs.Line.{Line}
@@ -10,15 +11,15 @@ use Rattle.canvas_backend.specs.Backend.{Results, no_results, first_or, count_of
 use Rattle.canvas_backend.specs.Plain.{Shelf, held}
 use Rattle.canvas_backend.specs.Roster.{Roster, roster_of, members, is_chord, is_member}
 use Rattle.canvas_broker.specs.Broker as broker
-use Rattle.canvas_runs.specs.Core.{take, send, keep, part, read, pause, taken, sent, kept, counted, found, rested, taking, left_after, ReadsBack, IsCoreRun}
+use Rattle.canvas_runs.specs.Core.{take, send, keep, part, read, pause, taken, sent, kept, counted, found, rested, taking, left_after, ReadsBack, IsCoreRun, ack, acked}
 use Rattle.canvas_runs.specs.Lists.{by, at}
-use Rattle.canvas_runs.specs.Turns.{Step, HasEnded, IsWorker, AllEnded, Begins, round, rounds, queue_after, queue_next, results_after, results_next}
+use Rattle.canvas_runs.specs.Turns.{Step, HasEnded, IsWorker, AllEnded, Begins, round, rounds, queue_after, queue_next, results_after, results_next, redeliveries_in}
 use Rattle.canvas_runs.specs.TurnLaws.{ByTurns}
 use Rattle.canvas_runs.specs.Worker.{read_envelope, sealed}
 use Rattle.canvas_message.specs.Content.{Content}
 use Rattle.canvas_worker.specs.Asks.{Asked, Answer}
 use Rattle.canvas_worker.specs.Books.{no_book, book_in}
-use Rattle.canvas_worker.specs.Enveloped.{enveloped, enveloped_by}
+use Rattle.canvas_worker.specs.Enveloped.{enveloped, enveloped_by, no_tasks}
 use Rattle.canvas_worker.specs.Standing.{Standing, asked, after_reply, begun}
 use Rattle.canvas_worker.specs.declared.cause.Cause.{Cause}
 use Rattle.canvas_worker.specs.declared.cause.Cause.TheVariants.{Memory, Stopped}
@@ -38,6 +39,7 @@ AnswersNow plan queue results more (keep t o) (kept b) = b ≡ says_first (first
 AnswersNow plan queue results more (part g t) (counted m) = m ≡ count_of plan results g
 AnswersNow plan queue results more (read g i) (found t x) = (at i (members plan g) ≡ Some t) × (x ≡ results.outcomes t)
 AnswersNow plan queue results more pause (rested m) = m ≡ more
+AnswersNow plan queue results more ack acked = Unit {0}
 AnswersNow plan queue results more a r = ⊥
 
 -- the ask is one that the queue and the table take
@@ -52,95 +54,97 @@ abbrev pub AreInRange : Results → Type 0
 AreInRange results = (t : ℕ) (o : Outcome) → results.outcomes t ≡ Some o → IsInRange o
 
 -- one answered ask of a worker: what it, the queue and the table were, and what they are
-pub record Stepped (more : Bool) (c : Standing) (queue : List Envelope) (table : Shelf) (c' : Standing) (queue' : List Envelope) (table' : Shelf) : Type 0 where
+pub record Stepped (behaviour : Behaviour) (more : Bool) (c : Standing) (queue : List Envelope) (table : Shelf) (c' : Standing) (queue' : List Envelope) (table' : Shelf) : Type 0 where
   pub reply : Answer
   pub answers : AnswersNow table.plan queue (held table) more (asked c.left) reply
-  pub reads_back : ReadsBack (enveloped_by no_book) c.left
-  pub core : c' ≡ after_reply (book_in table.plan) c reply
+  pub reads_back : ReadsBack (enveloped_by no_tasks no_book) c.left
+  pub core : c' ≡ after_reply behaviour (book_in table.plan) c reply
   pub queue_is : queue' ≡ queue_next queue (asked c.left)
   pub table_is : held table' ≡ results_next (held table) (asked c.left)
   pub plan_is : table'.plan ≡ table.plan
 
 -- an ask that was not answered to its end: the table is as it was, or as the ask leaves it
-pub record Tried (more : Bool) (c : Standing) (queue : List Envelope) (table table' : Shelf) : Type 0 where
+pub record Tried (behaviour : Behaviour) (more : Bool) (c : Standing) (queue : List Envelope) (table table' : Shelf) : Type 0 where
   pub reply : Answer
   pub answers : AnswersNow table.plan queue (held table) more (asked c.left) reply
-  pub reads_back : ReadsBack (enveloped_by no_book) c.left
+  pub reads_back : ReadsBack (enveloped_by no_tasks no_book) c.left
   pub table_is : held table' ≡ results_next (held table) (asked c.left)
 
-abbrev pub IsTried : Bool → Standing → List Envelope → Shelf → Shelf → Type 0
-IsTried more c queue table table' = (table'.plan ≡ table.plan) × ((held table' ≡ held table) ⊎ Tried more c queue table table')
+abbrev pub IsTried : (behaviour : Behaviour) → Bool → Standing → List Envelope → Shelf → Shelf → Type 0
+IsTried behaviour more c queue table table' = (table'.plan ≡ table.plan) × ((held table' ≡ held table) ⊎ Tried behaviour more c queue table table')
 
 -- ---- a run
 
 -- worker p's core has done these steps
-abbrev pub IsCoreAt : Line → List Step → ℕ → Standing → Type 0
-IsCoreAt l xs p c = (c.left ≡ left_after (enveloped (roster_of l)) taking (by p xs)) × (c.is_out ≡ false)
+abbrev pub IsCoreAt : (behaviour : Behaviour) → Line → List Step → ℕ → Standing → Type 0
+IsCoreAt behaviour l xs p c = (c.left ≡ left_after (enveloped behaviour (roster_of l)) taking (scripts_of (by p xs))) × (c.is_out ≡ false)
 
 -- after these turns, which made these steps of at most so many
-pub record Reached (l : Line) (n most : ℕ) (us : List ℕ) (xs : List Step) (s : Stage) : Type 0 where
-  pub by_turns : ByTurns six_tasks l n us xs
-  pub runs : (p : ℕ) → IsCoreRun (enveloped (roster_of l)) taking (by p xs)
+pub record Reached (behaviour : Behaviour) (l : Line) (n most : ℕ) (us : List ℕ) (xs : List Step) (s : Stage) : Type 0 where
+  pub by_turns : ByTurns behaviour l n us xs
+  pub runs : (p : ℕ) → IsCoreRun (enveloped behaviour (roster_of l)) taking (scripts_of (by p xs))
+  -- nothing is delivered again
+  pub plain : redeliveries_in xs ≡ 0
   pub queue_is : s.queue ≡ queue_after l xs
   pub plan_is : s.table.plan ≡ roster_of l
   pub table_is : held s.table ≡ results_after xs
   pub many : length s.cores.items ≡ n
-  pub cores_are : (i : ℕ) (c : Standing) → slice_get s.cores.items i ≡ Some c → IsCoreAt l xs (suc i) c
+  pub cores_are : (i : ℕ) (c : Standing) → slice_get s.cores.items i ≡ Some c → IsCoreAt behaviour l xs (suc i) c
   pub count : length xs + s.steps ≡ most
 
 -- after some steps that these turns make
-abbrev pub HasReached : Line → ℕ → ℕ → List ℕ → Stage → Type 0
-HasReached l n most us s = (xs : List Step) × Reached l n most us xs s
+abbrev pub HasReached : (behaviour : Behaviour) → Line → ℕ → ℕ → List ℕ → Stage → Type 0
+HasReached behaviour l n most us s = (xs : List Step) × Reached behaviour l n most us xs s
 
 -- ---- a turn
 
 -- a turn of worker p that answered an ask, or skipped
-abbrev pub IsTurn : Bool → Line → ℕ → ℕ → List ℕ → List Step → ℕ → Stage → Type 0
-IsTurn true l n most us xs p s = (x : Asked × Answer) × Reached l n most (us ++ p ∷ []) (xs ++ (p, x) ∷ []) s
-IsTurn false l n most us xs p s = HasEnded six_tasks l xs p × Reached l n most (us ++ p ∷ []) xs s
+abbrev pub IsTurn : (behaviour : Behaviour) → Bool → Line → ℕ → ℕ → List ℕ → List Step → ℕ → Stage → Type 0
+IsTurn behaviour true l n most us xs p s = (x : Asked × Answer) × Reached behaviour l n most (us ++ p ∷ []) (xs ++ (p, x) ∷ []) s
+IsTurn behaviour false l n most us xs p s = HasEnded behaviour l xs p × Reached behaviour l n most (us ++ p ∷ []) xs s
 
 -- the table is that of some run
-pub record IsHalfway (l : Line) (n : ℕ) (s : Stage) : Type 0 where
+pub record IsHalfway (behaviour : Behaviour) (l : Line) (n : ℕ) (s : Stage) : Type 0 where
   pub turns : List ℕ
   pub steps : List Step
-  pub by_turns : ByTurns six_tasks l n turns steps
+  pub by_turns : ByTurns behaviour l n turns steps
   pub plan_is : s.table.plan ≡ roster_of l
   pub table_is : held s.table ≡ results_after steps
 
 -- no further ask may be answered, and a worker has one
-pub record IsStopped (l : Line) (n most : ℕ) (us : List ℕ) (s : Stage) : Type 0 where
+pub record IsStopped (behaviour : Behaviour) (l : Line) (n most : ℕ) (us : List ℕ) (s : Stage) : Type 0 where
   pub steps : List Step
-  pub reached : Reached l n most us steps s
+  pub reached : Reached behaviour l n most us steps s
   pub none_left : s.steps ≡ 0
   pub going : ℕ
   pub is_worker : IsWorker n going
-  pub has_more : HasEnded six_tasks l steps going → ⊥
+  pub has_more : HasEnded behaviour l steps going → ⊥
 
 -- why a turn was not taken, after the turns us
-abbrev pub IsHalt : Cause → Line → ℕ → ℕ → List ℕ → Stage → Type 0
-IsHalt Memory l n most us s = IsHalfway l n s
-IsHalt Stopped l n most us s = IsStopped l n most us s
+abbrev pub IsHalt : (behaviour : Behaviour) → Cause → Line → ℕ → ℕ → List ℕ → Stage → Type 0
+IsHalt behaviour Memory l n most us s = IsHalfway behaviour l n s
+IsHalt behaviour Stopped l n most us s = IsStopped behaviour l n most us s
 
 -- The first i turns of a round have been taken, after the turns us and the steps xs with so many left: whether one answered an ask.
-abbrev pub IsPartOfRound : Bool → Line → ℕ → ℕ → List ℕ → List Step → ℕ → ℕ → Stage → Type 0
-IsPartOfRound true l n most us xs i steps s = HasReached l n most (us ++ round i) s × (s.steps < steps)
-IsPartOfRound false l n most us xs i steps s = Reached l n most (us ++ round i) xs s × ((p : ℕ) → IsWorker i p → HasEnded six_tasks l xs p)
+abbrev pub IsPartOfRound : (behaviour : Behaviour) → Bool → Line → ℕ → ℕ → List ℕ → List Step → ℕ → ℕ → Stage → Type 0
+IsPartOfRound behaviour true l n most us xs i steps s = HasReached behaviour l n most (us ++ round i) s × (s.steps < steps)
+IsPartOfRound behaviour false l n most us xs i steps s = Reached behaviour l n most (us ++ round i) xs s × ((p : ℕ) → IsWorker i p → HasEnded behaviour l xs p)
 
-abbrev pub IsHaltInRound : Cause → Line → ℕ → ℕ → List ℕ → Stage → Type 0
-IsHaltInRound Memory l n most us s = IsHalfway l n s
-IsHaltInRound Stopped l n most us s = (i : ℕ) × (i ≤ n) × IsStopped l n most (us ++ round i) s
+abbrev pub IsHaltInRound : (behaviour : Behaviour) → Cause → Line → ℕ → ℕ → List ℕ → Stage → Type 0
+IsHaltInRound behaviour Memory l n most us s = IsHalfway behaviour l n s
+IsHaltInRound behaviour Stopped l n most us s = (i : ℕ) × (i ≤ n) × IsStopped behaviour l n most (us ++ round i) s
 
 -- why a run by these turns and then in rotation ended early
-abbrev pub IsEarlyEnd : Cause → Line → ℕ → ℕ → List ℕ → Stage → Type 0
-IsEarlyEnd Memory l n most turns s = (s.table.plan ≡ roster_of l) × ((held s.table ≡ no_results) ⊎ IsHalfway l n s)
-IsEarlyEnd Stopped l n most turns s = (us : List ℕ) × Begins us turns n × IsStopped l n most us s
+abbrev pub IsEarlyEnd : (behaviour : Behaviour) → Cause → Line → ℕ → ℕ → List ℕ → Stage → Type 0
+IsEarlyEnd behaviour Memory l n most turns s = (s.table.plan ≡ roster_of l) × ((held s.table ≡ no_results) ⊎ IsHalfway behaviour l n s)
+IsEarlyEnd behaviour Stopped l n most turns s = (us : List ℕ) × Begins us turns n × IsStopped behaviour l n most us s
 
 -- the turns of a list, and rounds, after which all workers have ended
-pub record IsRunThrough (l : Line) (n most : ℕ) (turns : List ℕ) (s : Stage) : Type 0 where
+pub record IsRunThrough (behaviour : Behaviour) (l : Line) (n most : ℕ) (turns : List ℕ) (s : Stage) : Type 0 where
   pub further : ℕ
   pub steps : List Step
-  pub reached : Reached l n most (turns ++ rounds n further) steps s
-  pub ended : AllEnded six_tasks l n steps
+  pub reached : Reached behaviour l n most (turns ++ rounds n further) steps s
+  pub ended : AllEnded behaviour l n steps
 
 -- the envelope of a message reads back as the message
 abbrev pub ReadsAs : Content → Type 0

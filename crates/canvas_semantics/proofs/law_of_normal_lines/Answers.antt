@@ -12,4 +12,4 @@ pub returns-clause-groups : goal.returns-clause-groups
 returns-clause-groups c = groups_normal_tree
 
 pub returns-clause-reported : goal.returns-clause-reported
-returns-clause-reported c = λ registry t full. same_report registry t (same t full)
+returns-clause-reported c = λ behaviour t full. same_report behaviour t (same t full)

@@ -7,15 +7,15 @@ use Rattle.canvas_engine.proofs.stage.step.Goals as goal
 use Rattle.canvas_backend.specs.Backend.{says_first}
 
 pub returns-in-Store-clause-err : goal.returns-in-Store-clause-err
-returns-in-Store-clause-err c =
+returns-in-Store-clause-err g c =
     let old = c.args.core.now in
-    answered_err c.answer-in-Store.result c.args.more old old c.args.queue.now c.args.queue.now c.args.table.now c.store-stored.new.self
-    (C.keep c.in-Store.task c.in-Store.outcome) (C.kept (says_first c.store-stored.result)) (is_store c.in-Store.task c.in-Store.outcome (asked old.left) (sym c.in-Store.ensures.ask))
+    answered_err (g.T.Tasks.behaviour c.args.tasks.now) c.answer-in-Store.result c.args.more old old c.args.queue.now c.args.queue.now c.args.table.now c.store-stored.new.self
+    (C.keep c.in-Store.task c.in-Store.outcome) (C.kept (says_first c.store-stored.result)) (is_store _ c.in-Store.task c.in-Store.outcome (asked old.left) (sym c.in-Store.ensures.ask))
     (stored_says c.store-stored.result _ c.store-stored.ensures.reply) (c.in-Store.ensures.reads_back c.requires.inside) c.store-stored.ensures.after c.store-stored.ensures.plan
 
 pub returns-in-Part-clause-err : goal.returns-in-Part-clause-err
-returns-in-Part-clause-err c =
+returns-in-Part-clause-err g c =
     let old = c.args.core.now in
-    answered_err c.answer-in-Part.result c.args.more old old c.args.queue.now c.args.queue.now c.args.table.now c.part-count.new.self
-    (C.part c.in-Part.group c.in-Part.task) (C.counted c.part-count.result) (is_part c.in-Part.group c.in-Part.task (asked old.left) (sym c.in-Part.ensures.ask))
+    answered_err (g.T.Tasks.behaviour c.args.tasks.now) c.answer-in-Part.result c.args.more old old c.args.queue.now c.args.queue.now c.args.table.now c.part-count.new.self
+    (C.part c.in-Part.group c.in-Part.task) (C.counted c.part-count.result) (is_part _ c.in-Part.group c.in-Part.task (asked old.left) (sym c.in-Part.ensures.ask))
     (counted_says c.part-count.result _ c.part-count.ensures.reply) (c.in-Part.ensures.reads_back c.requires.inside) c.part-count.ensures.after c.part-count.ensures.plan

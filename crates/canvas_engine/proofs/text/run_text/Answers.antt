@@ -3,11 +3,11 @@ use Rattle.canvas_engine.proofs.SameText.{ran_text, ran_fault}
 use Rattle.canvas_engine.proofs.text.run_text.Goals as goal
 
 pub returns-clause-ok : goal.returns-clause-ok
-returns-clause-ok c =
+returns-clause-ok g c =
     let plan = c.in_ok-plan.ensures.ok in
-    ran_text c.args.bytes.now plan.0 c.in_ok-plan.plan plan.1 (IsAsked c.args.workers c.args.turns.now) c.plan_text.result c.plan_text.ensures.ok
+    ran_text (g.T.Tasks.behaviour c.args.tasks.now) c.args.bytes.now plan.0 c.in_ok-plan.plan plan.1 (IsAsked c.args.workers c.args.turns.now) c.plan_text.result c.plan_text.ensures.ok
 
 pub returns-clause-err : goal.returns-clause-err
-returns-clause-err c =
+returns-clause-err g c =
     let plan = c.in_ok-plan.ensures.ok in
-    ran_fault c.args.bytes.now plan.0 c.in_ok-plan.plan plan.1 (IsRunFault c.args.workers c.args.turns.now) c.plan_text.result c.plan_text.ensures.err
+    ran_fault (g.T.Tasks.behaviour c.args.tasks.now) c.args.bytes.now plan.0 c.in_ok-plan.plan plan.1 (IsRunFault c.args.workers c.args.turns.now) c.plan_text.result c.plan_text.ensures.err

@@ -4,4 +4,4 @@ use Rattle.canvas_engine.proofs.turns.run_list.Given as goal
 
 -- the turns so far have been taken
 abbrev pub invariant-loop-worker : goal.invariant-loop-worker
-invariant-loop-worker l = (most : ℕ) → Reached l.plan l.workers most [] [] l.fn.stage → HasReached l.plan l.workers most (take l.worker-index l.turns) l.stage
+invariant-loop-worker g l = (most : ℕ) → Reached (g.T.Tasks.behaviour l.tasks) l.plan l.workers most [] [] l.fn.stage → HasReached (g.T.Tasks.behaviour l.tasks) l.plan l.workers most (take l.worker-index l.turns) l.stage

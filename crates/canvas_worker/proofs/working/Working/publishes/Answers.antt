@@ -15,7 +15,7 @@ pub replies-requires-clause-suits : goal.replies-requires-clause-suits
 replies-requires-clause-suits g c =
     let w : Work = c.args.self.now in
     let core : c.envelope.new.self ≡ handed w.core = search rules in
-    ap (λ a. suits a R.Published) (ap (λ (k : Standing). shown (asked k.left)) core ∙ still_publishes w.core.left c.requires.asks)
+    ap (λ a. suits a R.Published) (ap (λ (k : Standing). shown k.task (asked k.left)) core ∙ still_publishes w.core.task w.core.left c.requires.asks)
 
 pub returns-in-Ok : goal.returns-in-Ok
 returns-in-Ok g c =
@@ -23,7 +23,7 @@ returns-in-Ok g c =
     let u : Work = record { broker = c.self.inside.broker.now; desk = c.self.inside.backend.now; number = c.self.inside.number; pass = c.publish.new.pass; seat = c.self.inside.seat; core = c.envelope.new.self; held = held_in c.self.inside.source; taken = c.self.inside.taken; published = c.saturating_add-self-inside.result; first = c.self.inside.first; parts = c.self.inside.parts } in
     let asks : asked w.core.left ≡ C.send c.in-Some.envelope = handed_out c.in-Some.envelope w.core c.requires.ready.inside (search rules) in
     let core : u.core ≡ handed w.core = search rules in
-    asked_well w u c.replies.new.self (C.send c.in-Some.envelope) C.sent c.replies.result c.replies.ensures c.requires.ready (record {
+    asked_well (g.T.Tasks.behaviour c.args.tasks.now) w u c.replies.new.self (C.send c.in-Some.envelope) C.sent c.replies.result c.replies.ensures c.requires.ready (record {
       asked_is = asks;
       suits = tt;
       back = c.requires.reads_back;
@@ -33,9 +33,9 @@ returns-in-Ok g c =
       makes = search rules;
       serves = search rules;
       counts = search rules;
-      still = λ rests. absurd (busy_never w.desk.plan w.core.left C.sent (C.send c.in-Some.envelope) asks tt rests);
+      still = λ rests. absurd (busy_never (g.T.Tasks.behaviour c.args.tasks.now) w.desk.plan w.core.left C.sent (C.send c.in-Some.envelope) asks tt rests);
       none_dropped = refl;
-      core = ap (λ z. after_reply (book_in w.desk.plan) z C.sent) core ∙ handed_same (book_in w.desk.plan) w.core C.sent;
+      core = ap (λ z. after_reply (g.T.Tasks.behaviour c.args.tasks.now) (book_in w.desk.plan) z C.sent) core ∙ handed_same (g.T.Tasks.behaviour c.args.tasks.now) (book_in w.desk.plan) w.core C.sent;
     })
 
 pub returns-in-Err : goal.returns-in-Err
@@ -44,7 +44,7 @@ returns-in-Err g c =
     let u : Work = record { broker = c.self.inside.broker.now; desk = c.self.inside.backend.now; number = c.self.inside.number; pass = c.publish.new.pass; seat = c.self.inside.seat; core = c.envelope.new.self; held = held_in c.self.inside.source; taken = c.self.inside.taken; published = c.self.inside.published; first = c.self.inside.first; parts = c.self.inside.parts } in
     let asks : asked w.core.left ≡ C.send c.in-Some.envelope = handed_out c.in-Some.envelope w.core c.requires.ready.inside (search rules) in
     let core : u.core ≡ handed w.core = search rules in
-    ends_badly w u (C.send c.in-Some.envelope) C.refused c.fails.result c.fails.ensures c.requires.ready (record {
+    ends_badly (g.T.Tasks.behaviour c.args.tasks.now) w u (C.send c.in-Some.envelope) C.refused c.fails.result c.fails.ensures c.requires.ready (record {
       asked_is = asks;
       suits = tt;
       back = c.requires.reads_back;
@@ -54,7 +54,7 @@ returns-in-Err g c =
       makes = search rules;
       serves = search rules;
       counts = search rules;
-      still = λ rests. absurd (busy_never w.desk.plan w.core.left C.refused (C.send c.in-Some.envelope) asks tt rests);
+      still = λ rests. absurd (busy_never (g.T.Tasks.behaviour c.args.tasks.now) w.desk.plan w.core.left C.refused (C.send c.in-Some.envelope) asks tt rests);
       none_dropped = refl;
-      core = ap (λ z. after_reply (book_in w.desk.plan) z C.refused) core ∙ handed_same (book_in w.desk.plan) w.core C.refused;
+      core = ap (λ z. after_reply (g.T.Tasks.behaviour c.args.tasks.now) (book_in w.desk.plan) z C.refused) core ∙ handed_same (g.T.Tasks.behaviour c.args.tasks.now) (book_in w.desk.plan) w.core C.refused;
     })

@@ -15,8 +15,8 @@ returns-in-Some g c =
     let e : Envelope = c.in-Some.envelope in
     let rest : w.held ≡ e ∷ u.held = search rules in
     let took : Took w.pass [] u.pass = search rules in
-    given_well w u c.gives.new.self [] e c.gives.result c.gives.ensures c.requires.ready (record {
-      asked_is = is_take (asked w.core.left) c.requires.asks;
+    given_well (g.T.Tasks.behaviour c.args.tasks.now) w u c.gives.new.self [] e c.gives.result c.gives.ensures c.requires.ready (record {
+      asked_is = is_take w.core.task (asked w.core.left) c.requires.asks;
       broker = search rules;
       desk = search rules;
       number = search rules;

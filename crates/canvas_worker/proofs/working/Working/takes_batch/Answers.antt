@@ -15,8 +15,8 @@ returns-in-Some g c =
     let es : List Envelope = c.take_batch-batch.result in
     let took : Took w.pass es u.pass = search rules in
     let rest : es ≡ e ∷ u.held = search rules in
-    given_well w u c.gives.new.self es e c.gives.result c.gives.ensures c.requires.ready (record {
-      asked_is = is_take (asked w.core.left) c.requires.asks;
+    given_well (g.T.Tasks.behaviour c.args.tasks.now) w u c.gives.new.self es e c.gives.result c.gives.ensures c.requires.ready (record {
+      asked_is = is_take w.core.task (asked w.core.left) c.requires.asks;
       broker = search rules;
       desk = search rules;
       number = search rules;

@@ -18,8 +18,8 @@ returns-in-Some g c =
     let u : Work = record { broker = c.self.inside.broker.now; desk = c.self.inside.backend.now; number = c.self.inside.number; pass = c.take.new.pass; seat = c.self.inside.seat; core = c.self.inside.core; held = []; taken = c.self.inside.taken; published = c.self.inside.published; first = c.self.inside.first; parts = c.self.inside.parts } in
     let e : Envelope = c.in-Some.envelope in
     let stands : Stands w.pass (calls w.pass.name broker.take (Some e)) u.pass = search rules in
-    given_well w u c.gives.new.self (e ∷ []) e c.gives.result c.gives.ensures c.requires.ready (record {
-      asked_is = is_take (asked w.core.left) c.requires.asks;
+    given_well (g.T.Tasks.behaviour c.args.tasks.now) w u c.gives.new.self (e ∷ []) e c.gives.result c.gives.ensures c.requires.ready (record {
+      asked_is = is_take w.core.task (asked w.core.left) c.requires.asks;
       broker = search rules;
       desk = search rules;
       number = search rules;
@@ -38,10 +38,10 @@ pub returns-in-None : goal.returns-in-None
 returns-in-None g c =
     let w : Work = c.args.self.now in
     let u : Work = record { broker = c.self.inside.broker.now; desk = c.self.inside.backend.now; number = c.self.inside.number; pass = c.take.new.pass; seat = c.self.inside.seat; core = c.self.inside.core; held = held_in c.after_none.result; taken = c.self.inside.taken; published = c.self.inside.published; first = c.self.inside.first; parts = c.self.inside.parts } in
-    let asks : asked w.core.left ≡ C.take = is_take (asked w.core.left) c.requires.asks in
+    let asks : asked w.core.left ≡ C.take = is_take w.core.task (asked w.core.left) c.requires.asks in
     let bare : u.held ≡ [] = search rules in
     let empty : Empties u.pass = search rules in
-    asked_well w u c.answers.new.self C.take (C.taken None) c.answers.result c.answers.ensures c.requires.ready (record {
+    asked_well (g.T.Tasks.behaviour c.args.tasks.now) w u c.answers.new.self C.take (C.taken None) c.answers.result c.answers.ensures c.requires.ready (record {
       asked_is = asks;
       suits = tt;
       back = reads_back w.core.left asks;

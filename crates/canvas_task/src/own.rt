@@ -1,0 +1,194 @@
+//! Tasks of one's own: helpers that take the numbers out of a call, and tasks that need to say no more than what they answer to them.
+
+ghost use Rattle.std.specs.Prelude.{◌≡◌, ℤ, List};
+ghost use Rattle.std.specs.Option.{option_map};
+ghost use Rattle.canvas_task.specs.Apply.{Answer};
+ghost use Rattle.canvas_task.specs.Entries.{named};
+ghost use Rattle.canvas_task.specs.Own.{fitted, one_list, one_number, two_numbers};
+
+use crate::table::{one, two};
+use crate::{Arg, Kind, Task, checked};
+use std::collections::BTreeMap;
+
+/// The number for a task's only parameter. None where it isn't given, isn't a number, or more is given.
+pub fn one_number(x: &str, args: &[Arg], kwargs: &BTreeMap<String, Arg>) -> Option<i64>
+    ensures { result ≡ one_number x.now args.now (named kwargs.now.entries) }
+{
+    match one(x, args, kwargs) {
+        Some(Arg::Num(number)) => Some(*number),
+        _ => None,
+    }
+}
+
+/// The list for a task's only parameter. None where it isn't given, isn't a list, or more is given.
+pub fn one_list<'a>(
+    x: &str,
+    args: &'a [Arg],
+    kwargs: &'a BTreeMap<String, Arg>,
+) -> Option<&'a [i64]>
+    ensures { option_map (λ l. l.now) result ≡ one_list x.now args.now (named kwargs.now.entries) }
+{
+    match one(x, args, kwargs) {
+        Some(Arg::List(numbers)) => Some(numbers.get()),
+        _ => None,
+    }
+}
+
+/// The numbers for a task's two parameters. None where one isn't given, isn't a number, or more is given.
+pub fn two_numbers(
+    x: &str,
+    y: &str,
+    args: &[Arg],
+    kwargs: &BTreeMap<String, Arg>,
+) -> Option<(i64, i64)>
+    ensures { result ≡ two_numbers x.now y.now args.now (named kwargs.now.entries) }
+{
+    match two(x, y, args, kwargs) {
+        Some((Arg::Num(a), Arg::Num(b))) => Some((*a, *b)),
+        _ => None,
+    }
+}
+
+/// An exact answer, whose number overflows where it is out of range.
+fn fitted(answer: Result<i128, Kind>) -> Result<i64, Kind>
+    ensures { result ≡ fitted answer }
+{
+    match answer {
+        Ok(number) => checked(number),
+        Err(kind) => Err(kind),
+    }
+}
+
+/// What is answered to a number.
+pub trait OfOne: Drop {
+    ghost answer: { Self → ℤ → Answer };
+
+    /// The exact number, which overflows where it is out of range, or a kind of exception.
+    fn answer(&self, x: i64) -> Result<i128, Kind>
+        ensures { result ≡ answer self.now x };
+}
+
+/// A task of one number. Any other arguments are a bad call.
+#[derive(Drop)]
+pub struct TaskOfOne<T> {
+    pub name: &'static str,
+    /// The name of its parameter.
+    pub parameter: &'static str,
+    pub answers: T,
+}
+
+impl<T: OfOne> Task for TaskOfOne<T> {
+    ghost use Rattle.canvas_task.specs.Own.{answer_given, one_number};
+
+    ghost called = { λ t. t.name.now };
+
+    ghost answers = { λ t args named.
+        answer_given (T.answer t.answers) (one_number t.parameter.now args named) };
+
+    fn name(&self) -> &str {
+        self.name
+    }
+
+    fn call(&self, args: &[Arg], kwargs: &BTreeMap<String, Arg>) -> Result<i64, Kind> {
+        match one_number(self.parameter, args, kwargs) {
+            Some(x) => fitted(self.answers.answer(x)),
+            None => Err(Kind::BadCall),
+        }
+    }
+}
+
+/// What is answered to two numbers.
+pub trait OfTwo: Drop {
+    ghost answer: { Self → ℤ → ℤ → Answer };
+
+    /// The exact number, which overflows where it is out of range, or a kind of exception.
+    fn answer(&self, x: i64, y: i64) -> Result<i128, Kind>
+        ensures { result ≡ answer self.now x y };
+}
+
+/// A task of two numbers. Any other arguments are a bad call.
+///
+/// ```
+/// ghost use Rattle.std.specs.Prelude.{◌-ℤ◌, Ok};
+///
+/// #[derive(Clone, Copy)]
+/// struct Difference;
+///
+/// impl OfTwo for Difference {
+///     ghost answer = { λ _ x y. Ok (x -ℤ y) };
+///
+///     fn answer(&self, x: i64, y: i64) -> Result<i128, Kind> {
+///         Ok(i128::from(x) - i128::from(y))
+///     }
+/// }
+///
+/// let sub = TaskOfTwo { name: "tasks.sub", parameters: ("x", "y"), answers: Difference };
+/// let registry = registry_of!(alloc; Add, Mul, sub)?;
+/// ```
+#[derive(Drop)]
+pub struct TaskOfTwo<T> {
+    pub name: &'static str,
+    /// The names of its parameters, in their order.
+    pub parameters: (&'static str, &'static str),
+    pub answers: T,
+}
+
+impl<T: OfTwo> Task for TaskOfTwo<T> {
+    ghost use Rattle.canvas_task.specs.Own.{answer_two, two_numbers};
+
+    ghost called = { λ t. t.name.now };
+
+    ghost answers = { λ t args named.
+        answer_two (T.answer t.answers)
+        (two_numbers t.parameters.0.now t.parameters.1.now args named) };
+
+    fn name(&self) -> &str {
+        self.name
+    }
+
+    fn call(&self, args: &[Arg], kwargs: &BTreeMap<String, Arg>) -> Result<i64, Kind> {
+        let (x, y) = self.parameters;
+        match two_numbers(x, y, args, kwargs) {
+            Some((x, y)) => fitted(self.answers.answer(x, y)),
+            None => Err(Kind::BadCall),
+        }
+    }
+}
+
+/// What is answered to a list of numbers.
+pub trait OfList: Drop {
+    ghost answer: { Self → List ℤ → Answer };
+
+    /// The exact number, which overflows where it is out of range, or a kind of exception.
+    fn answer(&self, numbers: &[i64]) -> Result<i128, Kind>
+        ensures { result ≡ answer self.now numbers.now };
+}
+
+/// A task of a list of numbers, as the body of a chord. Any other arguments are a bad call.
+#[derive(Drop)]
+pub struct TaskOfList<T> {
+    pub name: &'static str,
+    /// The name of its parameter.
+    pub parameter: &'static str,
+    pub answers: T,
+}
+
+impl<T: OfList> Task for TaskOfList<T> {
+    ghost use Rattle.canvas_task.specs.Own.{answer_given, one_list};
+
+    ghost called = { λ t. t.name.now };
+
+    ghost answers = { λ t args named.
+        answer_given (T.answer t.answers) (one_list t.parameter.now args named) };
+
+    fn name(&self) -> &str {
+        self.name
+    }
+
+    fn call(&self, args: &[Arg], kwargs: &BTreeMap<String, Arg>) -> Result<i64, Kind> {
+        match one_list(self.parameter, args, kwargs) {
+            Some(numbers) => fitted(self.answers.answer(numbers)),
+            None => Err(Kind::BadCall),
+        }
+    }
+}
