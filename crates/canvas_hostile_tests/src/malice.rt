@@ -9,7 +9,7 @@ use canvas_backend::PlainBackend;
 use canvas_message::Envelope;
 use canvas_samples::frozen_texts::filled;
 use canvas_samples::sample::Sample;
-use canvas_task::{Fault, Kind, ListOf, Memory, Outcome, TaskNo};
+use canvas_task::{Fault, Kind, ListOf, Memory, Outcome, SixTasks, TaskNo};
 use canvas_worker::{Ask, Core, Reply};
 use std::alloc::{AllocError, AllocGlobal, Global};
 use std::random::RandomSource;
@@ -81,14 +81,19 @@ fn genuine(alloc: Global, texts: &Texts) -> Option<Envelope> {
 fn answers(alloc: Global, backend: &PlainBackend, core: &mut Core, reply: Reply) -> bool
     requires { FoundInRange reply }
 {
-    core.next().suits(&reply) && core.answer(alloc, backend, reply).is_ok()
+    core.next().suits(&reply) && core.answer(alloc, backend, &SixTasks, reply).is_ok()
 }
 
-/// Whether a core that is given an envelope counts it as dropped, and asks for the next one.
+/// Whether a core that is given an envelope counts it as dropped, acknowledges it as one of no task, and asks for the next one.
 fn is_dropped(alloc: Global, backend: &PlainBackend, core: &mut Core, envelope: Envelope) -> bool {
     let before = core.dropped();
     answers(alloc, backend, core, Reply::Taken(Some(envelope)))
+        && core.next() == Ask::Ack(None)
+        && core.held().is_some()
+        && core.dropped() == before.saturating_add(1)
+        && answers(alloc, backend, core, Reply::Acked)
         && core.next() == Ask::Take
+        && core.held().is_none()
         && !core.is_inside()
         && core.dropped() == before.saturating_add(1)
 }

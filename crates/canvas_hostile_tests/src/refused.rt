@@ -1,7 +1,7 @@
 //! Calls that may be refused memory, each once and, where a growth was refused, once more. `./refuse-memory` runs each of these tests with each
 //! growth refused in turn, one in a run; in the gate there is none. So a call that is refused for no growth fails both.
 
-use crate::refused_objects::{core, plain_queue, plain_table, queue, table};
+use crate::refused_objects::{core, plain_queue, plain_table, queue, registry, table};
 use crate::refused_parts::{arguments, effects, messages, plans, signatures};
 use crate::refused_runs::{CANVASES, Canvas, How, runs, turns};
 use canvas_task::Memory;
@@ -23,6 +23,7 @@ enum Calls {
     PlainTable,
     Table,
     Core,
+    Registry,
     Turns,
 }
 
@@ -39,6 +40,7 @@ fn answered<R: Wait>(rt: &R, alloc: Global, calls: Calls) -> Result<bool, Memory
         Calls::PlainTable => plain_table(alloc),
         Calls::Table => table(alloc),
         Calls::Core => core(alloc),
+        Calls::Registry => registry(alloc),
         Calls::Turns => turns(alloc),
     }
 }
@@ -73,6 +75,7 @@ fn objects_of_runs(rt: HostRuntime) {
         Calls::PlainTable,
         Calls::Table,
         Calls::Core,
+        Calls::Registry,
         Calls::Turns,
     ] {
         assert!(rt; answer(&rt, rt.alloc(), calls), "{calls:?}");

@@ -9,9 +9,10 @@ use canvas_broker::{Broker, BrokerPass, PlainBroker};
 use canvas_message::Envelope;
 use canvas_rewrite::Plan;
 use canvas_samples::frozen_texts::bytes_of;
-use canvas_task::{Fault, Kind, Memory, Outcome, TaskNo};
+use canvas_task::{Add, AddFault, Arg, Fault, Kind, Memory, Outcome, Registry, SixTasks, TaskNo};
 use canvas_worker::{Ask, Core, Reply};
 use std::alloc::Global;
+use std::collections::BTreeMap;
 use std::sync::Wait;
 
 fn envelope(alloc: Global) -> Result<Envelope, Memory> {
@@ -176,7 +177,7 @@ fn goes_on(
     if !core.next().suits(&reply) {
         return Ok(false);
     }
-    match core.answer(alloc, backend, reply) {
+    match core.answer(alloc, backend, &SixTasks, reply) {
         Ok(()) => Ok(true),
         Err(Memory) => {
             if has_failed(core) {
@@ -213,14 +214,15 @@ fn reply_of(step: u32) -> Option<Reply>
         2 => found(0),
         3 => found(1),
         4 => found(2),
-        _ => Some(Reply::Published),
+        6 => Some(Reply::Published),
+        _ => Some(Reply::Acked),
     }
 }
 
-/// Whether a core that is inside that message comes to its end, with one envelope to publish.
+/// Whether a core that is inside that message comes to its end, with one envelope to publish and its own acknowledged last.
 fn completes(alloc: Global, backend: &PlainBackend, core: &mut Core) -> Result<bool, Memory> {
     let mut published = 0u32;
-    for step in 0..7 {
+    for step in 0..8 {
         if core.envelope().is_some() {
             published = published.saturating_add(1);
         }
@@ -233,7 +235,7 @@ fn completes(alloc: Global, backend: &PlainBackend, core: &mut Core) -> Result<b
             None => return Ok(false),
         }
     }
-    Ok(published == 1 && core.next() == Ask::Take)
+    Ok(published == 1 && core.next() == Ask::Take && core.held().is_none())
 }
 
 /// The envelope of the third member of a chord.
@@ -252,4 +254,33 @@ pub(crate) fn core(alloc: Global) -> Result<bool, Memory> {
     } else {
         Ok(false)
     }
+}
+
+// ---- a registry
+
+/// What becomes of `tasks.add(1, 1)`.
+fn one_and_one(registry: &Registry, alloc: Global) -> Outcome {
+    registry.apply(
+        "tasks.add",
+        &[Arg::Num(1), Arg::Num(1)],
+        &BTreeMap::new(alloc),
+    )
+}
+
+/// Adds a task, and where that is refused the one that comes back, if the registry has none. Whether it is there in the end.
+pub(crate) fn registry(alloc: Global) -> Result<bool, Memory> {
+    let mut registry = Registry::new(alloc);
+    let Ok(task) = Box::new(alloc, Add) else {
+        return Err(Memory);
+    };
+    let is_added = match registry.add(task) {
+        Ok(()) => true,
+        Err(refused) => {
+            refused.cause == AddFault::Memory
+                && one_and_one(&registry, alloc)
+                    == Outcome::Failure(Fault::Plain(Kind::NotRegistered))
+                && registry.add(refused.task).is_ok()
+        }
+    };
+    Ok(is_added && one_and_one(&registry, alloc) == Outcome::Success(2))
 }

@@ -8,7 +8,7 @@ use canvas_engine::{
 };
 use canvas_samples::sample::{Sample, sample_of_text};
 use canvas_samples::spelled;
-use canvas_task::{Memory, Outcome};
+use canvas_task::{Memory, Outcome, SixTasks};
 use canvas_worker::{Cause, OpenGate, Stop};
 use std::alloc::{AllocGlobal, Global};
 use std::random::RandomSource;
@@ -93,7 +93,15 @@ where
     R: Threads + Wait + RandomSource + AllocGlobal + Sync,
 {
     let states = canvas.states.get();
-    match run(rt, alloc, &canvas.plan, workers, &OpenGate, &Stop::new()) {
+    match run(
+        rt,
+        alloc,
+        &canvas.plan,
+        &SixTasks,
+        workers,
+        &OpenGate,
+        &Stop::new(),
+    ) {
         Ok((report, _records)) => Ok(report.rows.get().as_slice() == states.as_slice()),
         Err(fault) => ended_early(states, &fault),
     }
@@ -144,7 +152,7 @@ fn reported(
 /// Whether a canvas's states are written as a report, by its plan and by its text.
 fn is_reported(alloc: Global, canvas: &Sample, text: &str, report: &str) -> Result<bool, Memory> {
     let states = canvas.states.get();
-    match run_turns(alloc, &canvas.plan, 1, &[]) {
+    match run_turns(alloc, &canvas.plan, &SixTasks, 1, &[]) {
         Ok(found) => {
             let by_plan = report_text(alloc, &canvas.plan, &found)?;
             let by_text = rows_text(alloc, text.as_bytes(), &found);
@@ -169,14 +177,32 @@ where
 {
     let states = canvas.states.get();
     match how {
-        How::Turns(workers) => ended(states, run_turns(alloc, &canvas.plan, workers, &[])),
-        How::Within => ended(states, run_turns_within(alloc, &canvas.plan, 1, &[], 1_000)),
+        How::Turns(workers) => ended(
+            states,
+            run_turns(alloc, &canvas.plan, &SixTasks, workers, &[]),
+        ),
+        How::Within => ended(
+            states,
+            run_turns_within(alloc, &canvas.plan, &SixTasks, 1, &[], 1_000),
+        ),
         How::Threads(workers) => by_threads(rt, alloc, canvas, workers),
         How::ByHand => by_hand(rt, alloc, canvas),
         How::Report => is_reported(alloc, canvas, text, report),
-        How::Text => reported(states, run_text(alloc, text.as_bytes(), 1, &[]), report),
+        How::Text => reported(
+            states,
+            run_text(alloc, text.as_bytes(), &SixTasks, 1, &[]),
+            report,
+        ),
         How::TextThreads => {
-            let ran = run_text_threads(rt, alloc, text.as_bytes(), 2, &OpenGate, &Stop::new());
+            let ran = run_text_threads(
+                rt,
+                alloc,
+                text.as_bytes(),
+                &SixTasks,
+                2,
+                &OpenGate,
+                &Stop::new(),
+            );
             reported(states, ran, report)
         }
     }

@@ -5,7 +5,7 @@ use crate::rows::{a_failed_member, are_partial, first_envelopes};
 use canvas_engine::{RunFault, TextFault, run_text_threads};
 use canvas_samples::sample::{Sample, sample_of_text};
 use canvas_samples::worked;
-use canvas_task::{Outcome, TaskNo};
+use canvas_task::{Outcome, SixTasks, TaskNo};
 use canvas_worker::{Cause, Gate, OpenGate, Stop};
 use std::alloc::{AllocGlobal, Global};
 use std::random::RandomSource;
@@ -65,13 +65,14 @@ fn polls_to_stop<R: Wait + RandomSource + AllocGlobal>(
     None
 }
 
-/// Three asks for each of the three members, three reads, the body's store and its callback's publish, two asks for the callback, a take
-/// that finds nothing and the rest: eighteen, each a poll of its own.
+/// A take, a store, a part and an acknowledgement for each of the three members, three reads, the body's store and its callback's
+/// publish, a take, a store and an acknowledgement for the callback, a take that finds nothing and the rest: twenty-two, each a poll
+/// of its own.
 #[test]
 fn stopped_before_each_poll(rt: HostRuntime) -> Result<(), Fail> {
     let canvas = a_failed_member(rt.alloc()).ok_or("no canvas")?;
     let polls = polls_to_stop(&rt, rt.alloc(), &canvas);
-    assert!(rt; polls.is_some_and(|polls| polls >= 18), "{polls:?}");
+    assert!(rt; polls.is_some_and(|polls| polls >= 22), "{polls:?}");
     Ok(())
 }
 
@@ -121,7 +122,7 @@ where
     G: Gate + Sync,
 {
     let canvas = sample_of_text(alloc, text)?;
-    match run_text_threads(rt, alloc, text.as_bytes(), workers, gate, stop) {
+    match run_text_threads(rt, alloc, text.as_bytes(), &SixTasks, workers, gate, stop) {
         Err(TextFault::Run(fault)) => rows_of_stopped(&fault, canvas.states.get()),
         _ => None,
     }

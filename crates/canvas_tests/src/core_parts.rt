@@ -2,7 +2,7 @@
 
 ghost use Rattle.canvas_worker.specs.Asks.{FoundInRange};
 
-use crate::cores::{CHORD, ZERO_DIVISION, answers, group, start, task};
+use crate::cores::{CHORD, ZERO_DIVISION, acknowledges, answers, group, holds, start, task};
 use canvas_backend::{PlainBackend, Stored};
 use canvas_message::Envelope;
 use canvas_samples::frozen_texts::bytes_of;
@@ -40,16 +40,39 @@ fn stores(
         && answers(alloc, backend, core, Reply::Stored(stored))
 }
 
-/// Whether a core that stores tasks 2 and 5 behind task 4, with these answers, then asks this.
-fn asks_then(alloc: Global, second: Stored, fifth: Stored, ask: &Ask) -> bool {
-    match (start(alloc, CHORD), out_of_order(alloc)) {
-        (Some((backend, _desk)), Ok(envelope)) => {
+/// Whether a core returns a part of group 1 by task 2, where one is wanted, and then acknowledges the envelope of task 4.
+fn returns_then_ends(
+    alloc: Global,
+    backend: &PlainBackend,
+    core: &mut Core,
+    envelope: &Envelope,
+    has_part: bool,
+) -> bool {
+    if has_part
+        && !(core.next() == Ask::Part(group(1), task(2))
+            && holds(core, envelope)
+            && answers(alloc, backend, core, Reply::Counted(0)))
+    {
+        return false;
+    }
+    acknowledges(alloc, backend, core, envelope, Some(task(4)))
+}
+
+/// Whether a core that stores tasks 2 and 5 behind task 4, with these answers, then returns a part or none.
+fn ends_so(alloc: Global, second: Stored, fifth: Stored, has_part: bool) -> bool {
+    match (
+        start(alloc, CHORD),
+        out_of_order(alloc),
+        out_of_order(alloc),
+    ) {
+        (Some((backend, _desk)), Ok(envelope), Ok(same)) => {
             let mut core = Core::new(alloc);
             answers(alloc, &backend, &mut core, Reply::Taken(Some(envelope)))
+                && holds(&core, &same)
                 && stores(alloc, &backend, &mut core, task(4), Stored::First)
                 && stores(alloc, &backend, &mut core, task(2), second)
                 && stores(alloc, &backend, &mut core, task(5), fifth)
-                && core.next() == *ask
+                && returns_then_ends(alloc, &backend, &mut core, &same, has_part)
         }
         _ => false,
     }
@@ -58,9 +81,8 @@ fn asks_then(alloc: Global, second: Stored, fifth: Stored, ask: &Ask) -> bool {
 /// The part is that of task 2, whatever the store of task 5 answers.
 #[test]
 fn part_of_a_line_out_of_order(rt: HostRuntime) {
-    let part = Ask::Part(group(1), task(2));
-    assert!(rt; asks_then(rt.alloc(), Stored::First, Stored::First, &part));
-    assert!(rt; asks_then(rt.alloc(), Stored::First, Stored::Again, &part));
-    assert!(rt; asks_then(rt.alloc(), Stored::Again, Stored::First, &Ask::Take));
-    assert!(rt; asks_then(rt.alloc(), Stored::Again, Stored::Again, &Ask::Take));
+    assert!(rt; ends_so(rt.alloc(), Stored::First, Stored::First, true));
+    assert!(rt; ends_so(rt.alloc(), Stored::First, Stored::Again, true));
+    assert!(rt; ends_so(rt.alloc(), Stored::Again, Stored::First, false));
+    assert!(rt; ends_so(rt.alloc(), Stored::Again, Stored::Again, false));
 }

@@ -11,7 +11,7 @@ use canvas_message::{Envelope, encode, first_messages};
 use canvas_rewrite::Plan;
 use canvas_samples::frozen_texts::bytes_of;
 use canvas_samples::sample::plan_of;
-use canvas_task::{Fault, GroupNo, Kind, Outcome, TaskNo, Why};
+use canvas_task::{Fault, GroupNo, Kind, Memory, Outcome, SixTasks, TaskNo, Why};
 use canvas_worker::{Ask, Core, Reply};
 use std::alloc::{AllocError, Global};
 
@@ -113,15 +113,18 @@ fn reply_of(backend: &PlainBackend, desk: &mut Desk, core: &mut Core) -> Option<
             None => None,
         },
         Ask::Read(chord, index) => found(backend, &desk.rows, chord, index),
+        Ask::Ack(_) => Some(Reply::Acked),
         Ask::Rest => Some(Reply::Rested { more: false }),
         Ask::End => None,
     }
 }
 
-/// Whether one more ask is answered.
+/// Whether one more ask is answered. Inside a script the core holds its envelope, and outside none.
 fn goes_on(alloc: Global, backend: &PlainBackend, desk: &mut Desk, core: &mut Core) -> bool {
     match reply_of(backend, desk, core) {
-        Some(reply) => core.next().suits(&reply) && core.answer(alloc, backend, reply).is_ok(),
+        Some(reply) => {
+            answers(alloc, backend, core, reply) && core.held().is_some() == core.is_inside()
+        }
         None => false,
     }
 }
@@ -233,6 +236,7 @@ fn one_task(rt: HostRuntime) {
     let asks = [
         Ask::Take,
         Ask::Store(task(1), Outcome::Success(4)),
+        Ask::Ack(Some(task(1))),
         Ask::Take,
         Ask::Rest,
     ];
@@ -253,9 +257,11 @@ fn failed_header(rt: HostRuntime) {
         Ask::Take,
         Ask::Store(task(1), Outcome::Success(8)),
         Ask::Part(group(1), task(1)),
+        Ask::Ack(Some(task(1))),
         Ask::Take,
         Ask::Store(task(2), ZERO_DIVISION),
         Ask::Part(group(1), task(2)),
+        Ask::Ack(Some(task(2))),
         Ask::Take,
         Ask::Store(task(3), Outcome::Success(16)),
         Ask::Part(group(1), task(3)),
@@ -264,8 +270,10 @@ fn failed_header(rt: HostRuntime) {
         Ask::Read(group(1), 2),
         Ask::Store(task(4), raised_by_2()),
         Ask::Publish,
+        Ask::Ack(Some(task(3))),
         Ask::Take,
         Ask::Store(task(5), Outcome::Success(4)),
+        Ask::Ack(Some(task(5))),
         Ask::Take,
         Ask::Rest,
     ];
@@ -322,15 +330,47 @@ fn member(
 pub(crate) fn answers(alloc: Global, backend: &PlainBackend, core: &mut Core, reply: Reply) -> bool
     requires { FoundInRange reply }
 {
-    core.next().suits(&reply) && core.answer(alloc, backend, reply).is_ok()
+    core.next().suits(&reply) && core.answer(alloc, backend, &SixTasks, reply).is_ok()
 }
 
-/// Whether a core that is given an envelope counts it and asks for the next.
+/// Whether a core holds just this envelope.
+pub(crate) fn holds(core: &Core, envelope: &Envelope) -> bool {
+    match core.held() {
+        Some(held) => *held == *envelope,
+        None => false,
+    }
+}
+
+/// Whether a core asks to acknowledge the envelope that it holds, of this task or dropped, holds none once that is answered,
+/// and asks for the next.
+pub(crate) fn acknowledges(
+    alloc: Global,
+    backend: &PlainBackend,
+    core: &mut Core,
+    envelope: &Envelope,
+    task: Option<TaskNo>,
+) -> bool {
+    core.next() == Ask::Ack(task)
+        && core.is_inside()
+        && holds(core, envelope)
+        && answers(alloc, backend, core, Reply::Acked)
+        && core.held().is_none()
+        && !core.is_inside()
+        && core.next() == Ask::Take
+}
+
+/// Whether a core that is given an envelope counts it, acknowledges it as one of no task, and asks for the next.
 fn is_dropped(alloc: Global, backend: &PlainBackend, core: &mut Core, envelope: Envelope) -> bool {
     let before = core.dropped();
-    answers(alloc, backend, core, Reply::Taken(Some(envelope)))
-        && core.next() == Ask::Take
-        && core.dropped() == before.saturating_add(1)
+    match envelope.copy() {
+        Ok(same) => {
+            answers(alloc, backend, core, Reply::Taken(Some(envelope)))
+                && core.dropped() == before.saturating_add(1)
+                && acknowledges(alloc, backend, core, &same, None)
+                && core.dropped() == before.saturating_add(1)
+        }
+        Err(Memory) => false,
+    }
 }
 
 fn drops(alloc: Global, backend: &PlainBackend, core: &mut Core, row: &[&str; 4]) -> bool {
@@ -410,14 +450,24 @@ fn headers_without_a_name(rt: HostRuntime) {
 
 // ---- what ends a script
 
-/// Whether a message that was stored before has no effect.
+/// A plan's backend, and the first envelope of its queue with a copy.
+fn first_taken(alloc: Global, text: &str) -> Option<(PlainBackend, Envelope, Envelope)> {
+    let (backend, desk) = start(alloc, text)?;
+    let mut queue = desk.queue;
+    let envelope = queue.take()?;
+    let same = envelope.copy().ok()?;
+    Some((backend, envelope, same))
+}
+
+/// Whether a message that was stored before has no effect, and its envelope is acknowledged.
 fn ends_again(alloc: Global) -> bool {
-    match start(alloc, NESTED) {
-        Some((backend, desk)) => {
-            let (mut queue, mut core) = (desk.queue, Core::new(alloc));
-            answers(alloc, &backend, &mut core, Reply::Taken(queue.take()))
+    match first_taken(alloc, NESTED) {
+        Some((backend, envelope, same)) => {
+            let mut core = Core::new(alloc);
+            answers(alloc, &backend, &mut core, Reply::Taken(Some(envelope)))
+                && holds(&core, &same)
                 && answers(alloc, &backend, &mut core, Reply::Stored(Stored::Again))
-                && core.next() == Ask::Take
+                && acknowledges(alloc, &backend, &mut core, &same, Some(task(1)))
                 && core.dropped() == 0
         }
         None => false,

@@ -4,7 +4,7 @@ use canvas_engine::run_turns;
 use canvas_rewrite::Plan;
 use canvas_samples::dice::Dice;
 use canvas_samples::sample::grow;
-use canvas_task::{Memory, Outcome};
+use canvas_task::{Memory, Outcome, SixTasks};
 use std::alloc::{AllocError, Global};
 
 /// Up to forty turns of workers.
@@ -20,7 +20,7 @@ fn some_turns(alloc: Global, dice: &mut Dice, workers: u32) -> Result<Vec<u32>, 
 fn stores(alloc: Global, dice: &mut Dice, plan: &Plan, states: &[Option<Outcome>]) -> bool {
     let workers = dice.roll(16).saturating_add(1);
     match some_turns(alloc, dice, workers) {
-        Ok(turns) => match run_turns(alloc, plan, workers, &turns) {
+        Ok(turns) => match run_turns(alloc, plan, &SixTasks, workers, &turns) {
             Ok(report) => report.rows.get().as_slice() == states,
             Err(_) => false,
         },
@@ -38,14 +38,42 @@ fn compare(alloc: Global, seed: u32) -> Option<bool> {
     }
 }
 
-#[test]
-fn generated_canvases(rt: HostRuntime) {
+/// Whether most of the canvases of 250 seeds could be compared, or the seed of one whose run gives another state.
+fn agree(alloc: Global, first: u32) -> Result<bool, u32> {
     let mut compared = 0u32;
-    for seed in 1..=1_250 {
-        if let Some(is_same) = compare(rt.alloc(), seed) {
-            assert!(rt; is_same, "the canvas of seed {seed}");
-            compared = compared.wrapping_add(1);
+    for step in 0..250 {
+        let seed = first.saturating_add(step);
+        if let Some(is_same) = compare(alloc, seed) {
+            if !is_same {
+                return Err(seed);
+            }
+            compared = compared.saturating_add(1);
         }
     }
-    assert!(rt; compared >= 1_000, "{compared} canvases");
+    Ok(compared >= 200)
+}
+
+#[test]
+fn canvases_from_1(rt: HostRuntime) {
+    assert_eq!(rt; agree(rt.alloc(), 1), Ok(true));
+}
+
+#[test]
+fn canvases_from_251(rt: HostRuntime) {
+    assert_eq!(rt; agree(rt.alloc(), 251), Ok(true));
+}
+
+#[test]
+fn canvases_from_501(rt: HostRuntime) {
+    assert_eq!(rt; agree(rt.alloc(), 501), Ok(true));
+}
+
+#[test]
+fn canvases_from_751(rt: HostRuntime) {
+    assert_eq!(rt; agree(rt.alloc(), 751), Ok(true));
+}
+
+#[test]
+fn canvases_from_1001(rt: HostRuntime) {
+    assert_eq!(rt; agree(rt.alloc(), 1_001), Ok(true));
 }

@@ -6,6 +6,8 @@ mod gates;
 #[cfg(test)]
 mod grown_runs;
 #[cfg(test)]
+mod own_tasks;
+#[cfg(test)]
 mod polls;
 #[cfg(test)]
 mod rows;

@@ -1,5 +1,5 @@
 use Rattle.std.proofs.Common.{sym, subst}
-use Rattle.canvas_task.proofs.InRange.{six_in_range}
+use Rattle.canvas_task.specs.BehaviourInRange.{six_in_range}
 use Rattle.canvas_task.specs.Apply.{IsInRange}
 use Rattle.canvas_task.specs.Entries.{named}
 use Rattle.canvas_speed.proofs.runs.following.Goals as goal
