@@ -10,6 +10,8 @@ mod own_tasks;
 #[cfg(test)]
 mod polls;
 #[cfg(test)]
+mod redeliveries;
+#[cfg(test)]
 mod rows;
 #[cfg(test)]
 mod stops;

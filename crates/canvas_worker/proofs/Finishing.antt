@@ -1,5 +1,6 @@
 -- What a new worker's record says in words of the worker that the law of runs speaks of.
 use Rattle.std.proofs.Common.{◌≡◌, ◌∙◌, List, [], ◌∷◌, refl, sym, subst, arith}
+use Rattle.std.proofs.lemmas.Bool.{false≢true}
 use Rattle.canvas_task.specs.Apply.{Behaviour}
 use Rattle.canvas_task.specs.declared.outcome.Outcome.{Outcome}
 use Rattle.canvas_semantics.specs.Line.{Line}
@@ -65,6 +66,8 @@ workers_start l plan broker desk number pass seat is of home = record {
   inside = refl;
   can = tt;
   rested = λ rests. absurd (never rests);
+  current = λ inside. absurd (false≢true inside);
+  again = tt;
   counts = (omega arith, omega arith, omega arith, omega arith, omega arith);
 }
   where

@@ -1,6 +1,6 @@
 -- An ask of a core that is answered with an envelope.
 use Rattle.std.proofs.Common.{◌≡◌, ◌∙◌, ℕ, ◌+◌, min, false, List, [], ◌∷◌, ◌++◌, Some, Result, Ok, Err, refl, sym, ap, subst, arith}
-use Rattle.std.specs.Prelude.{MatchResult}
+use Rattle.std.specs.Prelude.{MatchResult, IsSome}
 use Rattle.canvas_task.specs.Apply.{Behaviour}
 use Rattle.canvas_message.specs.declared.envelope.Envelope.{Envelope}
 use Rattle.canvas_backend.specs.Seats.{Desk}
@@ -11,6 +11,7 @@ use Rattle.canvas_runs.specs.Calls.{backend_call, held_by}
 use Rattle.canvas_runs.specs.Core as C
 use Rattle.canvas_runs.specs.Core.{answered, Suits, ReadsBack}
 use Rattle.canvas_runs.specs.Following.{Seat, Serves}
+use Rattle.canvas_runs.specs.Lists.{Each}
 use Rattle.canvas_runs.specs.Tally.{Tally, Counted, CountsMore, is_dropped, greatest_count}
 use Rattle.canvas_worker.specs.Books.{book_in}
 use Rattle.canvas_worker.specs.Enveloped.{enveloped}
@@ -18,12 +19,13 @@ use Rattle.canvas_worker.specs.Progress.{Progress}
 use Rattle.canvas_worker.specs.Allowed.{Can}
 use Rattle.canvas_worker.specs.Standing.{Standing, asked, drops, after_reply, held, kept_next, task_next}
 use Rattle.canvas_worker.specs.WorkerSteps.{Batched, FromHeld}
-use Rattle.canvas_worker.specs.Work.{Work, progress, with_core, with_answer, lost, one_taken, Ready, takes_batch, gives_held, Pends, Leaves, Ends, EndsWith}
+use Rattle.canvas_worker.specs.Work.{Work, progress, with_core, with_answer, lost, one_taken, CanDeliver, in_hand, Ready, takes_batch, gives_held, Acts, Acted, Leaves, EndsBy, ActedLast}
 use Rattle.canvas_worker.specs.declared.cause.Cause.TheVariants.{Memory}
 use Rattle.canvas_worker.specs.declared.record.Record.{Record}
 use Rattle.canvas_worker.specs.declared.working.End.{End}
 use Rattle.canvas_worker.proofs.Asking.{same_book, may_go_on}
 use Rattle.canvas_worker.proofs.Shown.{drops_so, takes_taking, held_step}
+use Rattle.canvas_worker.proofs.InHand.{batch_can, but_open}
 use Rattle.canvas_worker.proofs.Resting.{given_never}
 use Rattle.canvas_worker.proofs.Turns.{unchanged, one_more, tallied, some_none}
 
@@ -88,15 +90,25 @@ module _ (behaviour : Behaviour) (w u : Work) (es : List Envelope) (e : Envelope
   back : ReadsBack (enveloped behaviour plan) w.core.left
   back = subst (λ s. ReadsBack (enveloped behaviour plan) s) (sym (takes_taking w.core.left x.asked_is)) tt
 
+  current : held core ≡ Some e
+  current =
+      held_step behaviour plan w.core.left w.core.kept (C.taken (Some e)) (subst (λ b. Suits b (C.taken (Some e))) (sym x.asked_is) tt)
+      ∙ ap (λ b. held_by (held w.core) b (C.taken (Some e))) x.asked_is
+
   from_held : FromHeld behaviour plan between (progress given) e
-  from_held = (record { asked = sym x.asked_is; suits = tt; back = back; member = tt; counts = counted; left = refl; current = held_step behaviour plan w.core.left w.core.kept (C.taken (Some e)) (subst (λ b. Suits b (C.taken (Some e))) (sym x.asked_is) tt) ∙ ap (λ b. held_by (held w.core) b (C.taken (Some e))) x.asked_is }, x.held, refl, x.seat)
+  from_held = (record { asked = sym x.asked_is; suits = tt; back = back; member = tt; counts = counted; left = refl; current = current }, x.held, refl, x.seat)
+
+  again : Each (CanDeliver u.pass) (in_hand (held core) u.held)
+  again =
+      subst (λ h. Each (CanDeliver u.pass) (in_hand h u.held)) (sym current)
+      (subst (Each (CanDeliver u.pass)) x.held (batch_can es w.held w.pass u.pass x.took (but_open w.pass (held w.core) w.held ready.again)))
 
   can : Can plan u.seat core.left
   can =
       may_go_on behaviour plan ready.plan w.seat u.seat w.core.left (C.taken (Some e)) ready.can (subst (λ b. Suits b (C.taken (Some e))) (sym x.asked_is) tt)
       (subst (λ b. Serves plan w.seat (backend_call b (C.taken (Some e))) u.seat) (sym x.asked_is) x.seat)
 
-  goes : Pends behaviour w given
+  goes : Acted behaviour w given
   goes = record {
     broker = x.broker;
     desk = x.desk;
@@ -108,18 +120,20 @@ module _ (behaviour : Behaviour) (w u : Work) (es : List Envelope) (e : Envelope
       inside = refl;
       can = subst (λ (d : Desk). Can d.plan u.seat core.left) (sym x.desk) can;
       rested = λ rests. absurd (given_never behaviour plan e (subst (λ s. answered (enveloped behaviour plan) s (C.taken (Some e)) ≡ C.resting) (takes_taking w.core.left x.asked_is) rests));
+      current = λ _. subst (λ h. IsSome h) (sym current) refl;
+      again = again;
       counts = tallied plan C.take (C.taken (Some e)) (progress w).tally (progress given).tally counted;
     };
     moved = gives_held es e between batched from_held;
   }
 
-  told_is : (v : Work) → v ≡ one_taken (with_answer behaviour u (C.taken (Some e))) → Pends behaviour w v
-  told_is v is = subst (λ z. Pends behaviour w z) (sym (is ∙ ap (λ c. one_taken (with_core u c)) core_is)) goes
+  told_is : (v : Work) → v ≡ one_taken (with_answer behaviour u (C.taken (Some e))) → Acted behaviour w v
+  told_is v is = subst (λ z. Acted behaviour w z) (sym (is ∙ ap (λ c. one_taken (with_core u c)) core_is)) goes
 
   same_tally : (progress (lost u)).tally ≡ (progress w).tally
   same_tally = same_tallies x.taken x.published x.first x.parts (ap (λ (c : Standing). c.dropped) x.core)
 
-  fails : (s : Record) → Leaves (lost u) (Some Memory) s → Ends behaviour w s
+  fails : (s : Record) → Leaves (lost u) (Some Memory) s → EndsBy (Acts behaviour w.desk.plan) w s
   fails s leaves = record {
     ended = between;
     counted = ready.counts;
@@ -127,15 +141,15 @@ module _ (behaviour : Behaviour) (w u : Work) (es : List Envelope) (e : Envelope
     is_of = record { same_number = leaves.same_number ∙ x.number; pass = leaves.pass; seat = leaves.seat ∙ x.seat; counts = leaves.counts ∙ same_tally; whole = λ none. absurd (some_none Memory (sym leaves.fault_is ∙ none)) };
   }
 
-  lost_is : (v : Work) → v ≡ lost u → EndsWith behaviour w (Some Memory) v
+  lost_is : (v : Work) → v ≡ lost u → ActedLast behaviour w (Some Memory) v
   lost_is v is s leaves = fails s (subst (λ z. Leaves z (Some Memory) s) is leaves)
 
   well : {A : Type 0} (result : Result A End) (v : Work) → MatchResult result (λ _. v ≡ one_taken (with_answer behaviour u (C.taken (Some e)))) (λ end. (v ≡ lost u) × (end.fault ≡ Some Memory))
-      → MatchResult result (λ _. Pends behaviour w v) (λ end. EndsWith behaviour w end.fault v)
+      → MatchResult result (λ _. Acted behaviour w v) (λ end. ActedLast behaviour w end.fault v)
   well (Ok _) v is = told_is v is
-  well (Err end) v is = subst (λ f. EndsWith behaviour w f v) (sym is.1) (lost_is v is.0)
+  well (Err end) v is = subst (λ f. ActedLast behaviour w f v) (sym is.1) (lost_is v is.0)
 
 pub given_well : {A : Type 0} (behaviour : Behaviour) (w u v : Work) (es : List Envelope) (e : Envelope) (result : Result A End)
     → MatchResult result (λ _. v ≡ one_taken (with_answer behaviour u (C.taken (Some e)))) (λ end. (v ≡ lost u) × (end.fault ≡ Some Memory)) → Ready w → Takes w u es e
-    → MatchResult result (λ _. Pends behaviour w v) (λ end. EndsWith behaviour w end.fault v)
+    → MatchResult result (λ _. Acted behaviour w v) (λ end. ActedLast behaviour w end.fault v)
 given_well behaviour w u v es e result is ready x = well behaviour w u es e ready x result v is

@@ -30,12 +30,12 @@ serves_append plan [] ds s t u f g = subst (λ x. Serves plan x ds u) f g
 serves_append plan (c ∷ cs) ds s t u f g = (f.0, f.1, serves_append plan cs ds f.0 t u f.2 g)
 
 -- takes of a batch, as calls
-abbrev taking_all : List Envelope → List (BrokerCall Envelope)
+abbrev pub taking_all : List Envelope → List (BrokerCall Envelope)
 taking_all [] = []
 taking_all (e ∷ es) = took (Some e) ∷ taking_all es
 
 -- takes that stand side by side stand one after the other
-took_makes : (p q : Pass) (es : List Envelope) → Took p es q → Makes p (taking_all es) q
+pub took_makes : (p q : Pass) (es : List Envelope) → Took p es q → Makes p (taking_all es) q
 took_makes p q [] t = t
 took_makes p q (e ∷ []) t = (q, t, refl)
 took_makes p q (e ∷ d ∷ es) t =

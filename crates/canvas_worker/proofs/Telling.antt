@@ -1,6 +1,6 @@
 -- An ask of a core that its broker or its backend answered.
 use Rattle.std.proofs.Common.{◌≡◌, ◌∙◌, ℕ, zero, suc, ◌+◌, ◌≤◌, min, Bool, false, [], ◌∷◌, Some, None, Result, Ok, Err, refl, sym, ap, subst, arith}
-use Rattle.std.specs.Prelude.{MatchResult}
+use Rattle.std.specs.Prelude.{MatchResult, true, IsSome}
 use Rattle.canvas_task.specs.Apply.{Behaviour}
 use Rattle.canvas_backend.specs.Seats.{Desk}
 use Rattle.canvas_backend.specs.Roster.{Roster, members}
@@ -8,8 +8,9 @@ use Rattle.canvas_broker.specs.Passes.{Empties}
 use Rattle.canvas_runs.specs.Book.{book_on}
 use Rattle.canvas_runs.specs.Calls.{broker_call, backend_call, reads_member, held_by}
 use Rattle.canvas_runs.specs.Core as C
-use Rattle.canvas_runs.specs.Core.{answered, Suits, ReadsBack}
+use Rattle.canvas_runs.specs.Core.{answered, is_inside, Suits, ReadsBack}
 use Rattle.canvas_runs.specs.Following.{Makes, Serves}
+use Rattle.canvas_runs.specs.Lists.{Each}
 use Rattle.canvas_runs.specs.Tally.{Counted, CountsMore, is_taken, is_published, is_first, is_part, is_dropped, greatest_count}
 use Rattle.canvas_worker.specs.Asks.{Asked, Answer}
 use Rattle.canvas_worker.specs.Books.{book_in, no_book}
@@ -18,11 +19,12 @@ use Rattle.canvas_worker.specs.Progress.{Progress}
 use Rattle.canvas_worker.specs.Allowed.{Can}
 use Rattle.canvas_worker.specs.Standing.{Standing, asked, drops, after_reply, open_of, kept_next, task_next}
 use Rattle.canvas_worker.specs.WorkerSteps.{OnlyBare, Called}
-use Rattle.canvas_worker.specs.Work.{Work, progress, with_core, with_answer, lost, Ready, makes_call, Pends, Leaves, Ends, EndsWith}
+use Rattle.canvas_worker.specs.Work.{Work, progress, with_core, with_answer, lost, CanDeliver, in_hand, Ready, makes_call, Acts, Acted, Leaves, EndsBy, ActedLast}
 use Rattle.canvas_worker.specs.declared.cause.Cause.TheVariants.{Memory}
 use Rattle.canvas_worker.specs.declared.record.Record.{Record}
 use Rattle.canvas_worker.specs.declared.working.End.{End}
 use Rattle.canvas_worker.proofs.Asking.{same_book, may_go_on}
+use Rattle.canvas_worker.proofs.InHand.{call_can, has_open}
 use Rattle.canvas_worker.proofs.Resting.{busy_never}
 use Rattle.canvas_worker.proofs.Shown.{drops_so, rests_over, held_step}
 use Rattle.canvas_worker.proofs.Turns.{tallied, some_none}
@@ -143,8 +145,26 @@ module _ (behaviour : Behaviour) (w u : Work) (a : Asked) (r : Answer) (ready : 
     dropped = none_lost w.core.dropped u.core.dropped (is_dropped plan a r) ready.counts.4 same_drops x.none_dropped;
   }
 
+  suits_left : Suits (asked w.core.left) r
+  suits_left = subst (λ b. Suits b r) (sym x.asked_is) x.suits
+
+  current : after.current ≡ held_by (open_of w.core.left w.core.kept) a r
+  current = held_step behaviour plan w.core.left w.core.kept r suits_left ∙ ap (λ b. held_by (open_of w.core.left w.core.kept) b r) x.asked_is
+
   pub called : Called behaviour plan (progress w) after a r
-  called = (record { asked = sym x.asked_is; suits = x.suits; back = x.back; member = x.member; counts = counted; left = refl; current = held_step behaviour plan w.core.left w.core.kept r (subst (λ b. Suits b r) (sym x.asked_is) x.suits) ∙ ap (λ b. held_by (open_of w.core.left w.core.kept) b r) x.asked_is }, held, x.bare, x.makes, x.serves)
+  called =
+      (record { asked = sym x.asked_is; suits = x.suits; back = x.back; member = x.member; counts = counted; left = refl; current = current }, held, x.bare, x.makes, x.serves)
+
+  -- the envelopes in hand
+  again : Each (CanDeliver u.pass) (in_hand after.current u.held)
+  again =
+      let all : Each (CanDeliver u.pass) (in_hand (held_by (open_of w.core.left w.core.kept) a r) w.held) = call_can a r (open_of w.core.left w.core.kept) w.held w.pass u.pass x.makes ready.again in
+      subst (λ h. Each (CanDeliver u.pass) (in_hand h u.held)) (sym current)
+      (subst (λ es. Each (CanDeliver u.pass) (in_hand (held_by (open_of w.core.left w.core.kept) a r) es)) (sym held) all)
+
+  has_current : is_inside after.left ≡ true → IsSome after.current
+  has_current i =
+      subst (λ h. IsSome h) (sym (held_step behaviour plan w.core.left w.core.kept r suits_left)) (has_open behaviour plan w.core.left w.core.kept r suits_left ready.current i)
 
   can : Can plan u.seat (answered (enveloped behaviour plan) w.core.left r)
   can =
@@ -170,14 +190,16 @@ module _ (behaviour : Behaviour) (w u : Work) (a : Asked) (r : Answer) (ready : 
     inside = refl;
     can = subst (λ (d : Desk). Can d.plan u.seat core.left) (sym desk) can;
     rested = x.still;
+    current = has_current;
+    again = again;
     counts = tallied plan a r (progress w).tally after.tally counted;
   }
 
-  told_is : (v : Work) → v ≡ with_answer behaviour u r → Pends behaviour w v
+  told_is : (v : Work) → v ≡ with_answer behaviour u r → Acted behaviour w v
   told_is v e =
-      subst (λ z. Pends behaviour w z) (sym (e ∙ ap (λ c. with_core u c) core_is)) (record { broker = broker; desk = desk; number = number; ready = ready_then; moved = makes_call a r called })
+      subst (λ z. Acted behaviour w z) (sym (e ∙ ap (λ c. with_core u c) core_is)) (record { broker = broker; desk = desk; number = number; ready = ready_then; moved = makes_call a r called })
 
-  fails : (s : Record) → Leaves (lost u) (Some Memory) s → Ends behaviour w s
+  fails : (s : Record) → Leaves (lost u) (Some Memory) s → EndsBy (Acts behaviour w.desk.plan) w s
   fails s leaves = record {
     ended = after;
     counted = tallied plan a r (progress w).tally after.tally counted;
@@ -185,16 +207,16 @@ module _ (behaviour : Behaviour) (w u : Work) (a : Asked) (r : Answer) (ready : 
     is_of = record { same_number = leaves.same_number ∙ number; pass = leaves.pass; seat = leaves.seat; counts = leaves.counts; whole = λ none. absurd (some_none Memory (sym leaves.fault_is ∙ none)) };
   }
 
-  lost_is : (v : Work) → v ≡ lost u → EndsWith behaviour w (Some Memory) v
+  lost_is : (v : Work) → v ≡ lost u → ActedLast behaviour w (Some Memory) v
   lost_is v e s leaves = fails s (subst (λ z. Leaves z (Some Memory) s) e leaves)
 
   well : {A : Type 0} (result : Result A End) (v : Work) → MatchResult result (λ _. v ≡ with_answer behaviour u r) (λ e. (v ≡ lost u) × (e.fault ≡ Some Memory))
-      → MatchResult result (λ _. Pends behaviour w v) (λ e. EndsWith behaviour w e.fault v)
+      → MatchResult result (λ _. Acted behaviour w v) (λ e. ActedLast behaviour w e.fault v)
   well (Ok _) v is = told_is v is
-  well (Err e) v is = subst (λ f. EndsWith behaviour w f v) (sym is.1) (lost_is v is.0)
+  well (Err e) v is = subst (λ f. ActedLast behaviour w f v) (sym is.1) (lost_is v is.0)
 
   -- a worker that ends without a fault
-  ends_so : (v : Work) → v ≡ with_answer behaviour u r → (s : Record) → Leaves v None s → (after.left ≡ C.over) × (after.held ≡ []) × Empties after.pass → Ends behaviour w s
+  ends_so : (v : Work) → v ≡ with_answer behaviour u r → (s : Record) → Leaves v None s → (after.left ≡ C.over) × (after.held ≡ []) × Empties after.pass → EndsBy (Acts behaviour w.desk.plan) w s
   ends_so v e s leaves whole =
       let is : v ≡ with_core u core = e ∙ ap (λ c. with_core u c) core_is in
       record {
@@ -211,20 +233,20 @@ module _ (behaviour : Behaviour) (w u : Work) (a : Asked) (r : Answer) (ready : 
       }
 
 pub asked_well : {A : Type 0} (behaviour : Behaviour) (w u v : Work) (a : Asked) (r : Answer) (result : Result A End) → MatchResult result (λ _. v ≡ with_answer behaviour u r) (λ e. (v ≡ lost u) × (e.fault ≡ Some Memory))
-    → Ready w → Asks behaviour w u a r → MatchResult result (λ _. Pends behaviour w v) (λ e. EndsWith behaviour w e.fault v)
+    → Ready w → Asks behaviour w u a r → MatchResult result (λ _. Acted behaviour w v) (λ e. ActedLast behaviour w e.fault v)
 asked_well behaviour w u v a r result is ready x = well behaviour w u a r ready x result v is
 
 -- where memory was refused, to the queue or to the core
-pub ends_badly : (behaviour : Behaviour) (w u : Work) (a : Asked) (r : Answer) (e : End) → e.fault ≡ Some Memory → Ready w → Asks behaviour w u a r → EndsWith behaviour w e.fault u
+pub ends_badly : (behaviour : Behaviour) (w u : Work) (a : Asked) (r : Answer) (e : End) → e.fault ≡ Some Memory → Ready w → Asks behaviour w u a r → ActedLast behaviour w e.fault u
 ends_badly behaviour w u a r e is ready x s leaves =
     let so : Leaves u (Some Memory) s = subst (λ f. Leaves u f s) is leaves in
     fails behaviour w u a r ready x s (record { same_number = so.same_number; pass = so.pass; seat = so.seat; counts = so.counts; fault_is = so.fault_is })
 
-pub asked_badly : (behaviour : Behaviour) (w u v : Work) (a : Asked) (r : Answer) (e : End) → (v ≡ lost u) × (e.fault ≡ Some Memory) → Ready w → Asks behaviour w u a r → EndsWith behaviour w e.fault v
-asked_badly behaviour w u v a r e is ready x = subst (λ f. EndsWith behaviour w f v) (sym is.1) (lost_is behaviour w u a r ready x v is.0)
+pub asked_badly : (behaviour : Behaviour) (w u v : Work) (a : Asked) (r : Answer) (e : End) → (v ≡ lost u) × (e.fault ≡ Some Memory) → Ready w → Asks behaviour w u a r → ActedLast behaviour w e.fault v
+asked_badly behaviour w u v a r e is ready x = subst (λ f. ActedLast behaviour w f v) (sym is.1) (lost_is behaviour w u a r ready x v is.0)
 
 -- a worker that is told that no more will come
-pub rests_well : (behaviour : Behaviour) (w u v : Work) → v ≡ with_answer behaviour u (C.rested false) → Ready w → Asks behaviour w u C.pause (C.rested false) → EndsWith behaviour w None v
+pub rests_well : (behaviour : Behaviour) (w u v : Work) → v ≡ with_answer behaviour u (C.rested false) → Ready w → Asks behaviour w u C.pause (C.rested false) → ActedLast behaviour w None v
 rests_well behaviour w u v is ready x s leaves =
     let rests : w.core.left ≡ C.resting = rests_over w.core.left x.asked_is in
     ends_so behaviour w u C.pause (C.rested false) ready x v is s leaves (ap (λ l. answered (enveloped behaviour w.desk.plan) l (C.rested false)) rests, x.beside.5 ∙ (ready.rested rests).0, subst (λ p. Empties p) (sym x.makes) (ready.rested rests).1)

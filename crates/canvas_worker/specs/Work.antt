@@ -1,5 +1,5 @@
 -- What contracts see of a worker, what one of its polls leaves, and what its record says.
-use Rattle.std.specs.Prelude.{◌≡◌, ◌+◌, ℕ, min, false, List, [], Option, None}
+use Rattle.std.specs.Prelude.{◌≡◌, ◌+◌, ℕ, min, true, false, List, [], ◌∷◌, Option, Some, None, IsSome}
 use Rattle.std.specs.Global.{Global}
 use Rattle.canvas_task.specs.Apply.{Behaviour}
 use Rattle.crossbeam_queue.specs.SegTies.{SegId}
@@ -8,9 +8,13 @@ use Rattle.canvas_rewrite.specs.Planned.{IsPlan}
 use Rattle.canvas_message.specs.declared.envelope.Envelope.{Envelope}
 use Rattle.canvas_backend.specs.Seats.{Desk}
 use Rattle.canvas_backend.specs.Roster.{Roster, roster_of}
-use Rattle.canvas_broker.specs.Passes.{Empties}
-use Rattle.canvas_runs.specs.Core.{resting, over}
+use Rattle.canvas_broker.specs.Broker.{redeliver, HasTaken}
+use Rattle.canvas_broker.specs.Passes.{Stands, Empties}
+use Rattle.canvas_history.specs.Callers.{told}
+use Rattle.canvas_history.specs.History.{calls}
+use Rattle.canvas_runs.specs.Core.{resting, over, is_inside}
 use Rattle.canvas_runs.specs.Following.{Pass, Seat}
+use Rattle.canvas_runs.specs.Lists.{Each}
 use Rattle.canvas_runs.specs.Tally.{Tally, IsTally}
 use Rattle.canvas_worker.specs.Asks.{Asked, Answer}
 use Rattle.canvas_worker.specs.Books.{book_in}
@@ -18,7 +22,7 @@ use Rattle.canvas_worker.specs.Progress.{Progress, Worked}
 use Rattle.canvas_worker.specs.Allowed.{Can}
 use Rattle.canvas_runs.specs.Tally.{greatest_count}
 use Rattle.canvas_worker.specs.Standing.{Standing, begun as new_core, after_reply, failing, held}
-use Rattle.canvas_worker.specs.WorkerSteps.{Called, FromHeld, Batched}
+use Rattle.canvas_worker.specs.WorkerSteps.{Called, FromHeld, Batched, Delivered}
 use Rattle.canvas_worker.specs.declared.cause.Cause.{Cause}
 use Rattle.canvas_worker.specs.declared.record.Record.{Record}
 
@@ -69,6 +73,20 @@ abbrev pub one_taken : Work → Work
 one_taken w =
     record { broker = w.broker; desk = w.desk; number = w.number; pass = w.pass; seat = w.seat; core = w.core; held = w.held; taken = min greatest_count (w.taken + 1); published = w.published; first = w.first; parts = w.parts }
 
+-- the same worker with its pass as it is here
+abbrev pub with_pass : Work → Pass → Work
+with_pass w p =
+    record { broker = w.broker; desk = w.desk; number = w.number; pass = p; seat = w.seat; core = w.core; held = w.held; taken = w.taken; published = w.published; first = w.first; parts = w.parts }
+
+-- an envelope that the pass took and may deliver again: its take stands in what the pass has seen, and no join is owed
+abbrev pub CanDeliver : Pass → Envelope → Type 0
+CanDeliver p e = (p.owed ≡ []) × HasTaken (told p) p.name e
+
+-- the envelope of the open script, and those that were not given to the core yet
+abbrev pub in_hand : Option Envelope → List Envelope → List Envelope
+in_hand None es = es
+in_hand (Some e) es = e ∷ es
+
 -- its pass is of its broker, its seat of its backend, which is one of a plan, and the backend lets the seat do what is left. A worker that rests
 -- holds nothing, and its last take found nothing
 pub record Ready (w : Work) : Type 0 where
@@ -78,23 +96,43 @@ pub record Ready (w : Work) : Type 0 where
   pub inside : w.core.is_out ≡ false
   pub can : Can w.desk.plan w.seat w.core.left
   pub rested : w.core.left ≡ resting → (w.held ≡ []) × Empties w.pass
+  -- a script that is open has an envelope, and each envelope in hand may be delivered again
+  pub current : is_inside w.core.left ≡ true → IsSome (held w.core)
+  pub again : Each (CanDeliver w.pass) (in_hand (held w.core) w.held)
   pub counts : IsTally (progress w).tally
 
--- What one poll does at most: one ask of the core is answered, or a batch is taken, or an ask is answered by an envelope that is held or
--- of a batch that was taken for it. A take of one envelope is a batch of one.
-pub data Moves (behaviour : Behaviour) (plan : Roster) (p q : Progress) : Type 0 where
-  stays : q ≡ p → Moves behaviour plan p q
-  makes_call : (a : Asked) (r : Answer) → Called behaviour plan p q a r → Moves behaviour plan p q
-  takes_batch : (es : List Envelope) → Batched p q es → Moves behaviour plan p q
-  gives_held : (es : List Envelope) (e : Envelope) (between : Progress) → Batched p between es → FromHeld behaviour plan between q e → Moves behaviour plan p q
+-- What one poll does at most for the core: one ask of it is answered, or a batch is taken, or an ask is answered by an envelope that is
+-- held or of a batch that was taken for it. A take of one envelope is a batch of one.
+pub data Acts (behaviour : Behaviour) (plan : Roster) (p q : Progress) : Type 0 where
+  stays : q ≡ p → Acts behaviour plan p q
+  makes_call : (a : Asked) (r : Answer) → Called behaviour plan p q a r → Acts behaviour plan p q
+  takes_batch : (es : List Envelope) → Batched p q es → Acts behaviour plan p q
+  gives_held : (es : List Envelope) (e : Envelope) (between : Progress) → Batched p between es → FromHeld behaviour plan between q e → Acts behaviour plan p q
 
--- what a poll leaves that is pending
-pub record Pends (behaviour : Behaviour) (w v : Work) : Type 0 where
+-- What one poll does at most: that, or the envelope of the open script is delivered again.
+pub data Moves (behaviour : Behaviour) (plan : Roster) (p q : Progress) : Type 0 where
+  acts : Acts behaviour plan p q → Moves behaviour plan p q
+  delivers : (e : Envelope) → Delivered p q e → Moves behaviour plan p q
+
+-- the envelope of the open script was delivered again, and nothing else was done
+abbrev pub Redelivered : Work → Work → Type 0
+Redelivered w v =
+    (e : Envelope) × (held w.core ≡ Some e) × Stands w.pass (calls w.pass.name (redeliver e) None) v.pass × (v ≡ with_pass w v.pass)
+
+-- what a poll leaves that is pending, where it did this
+pub record PendsBy (Does : Progress → Progress → Type 0) (w v : Work) : Type 0 where
   pub broker : v.broker ≡ w.broker
   pub desk : v.desk ≡ w.desk
   pub number : v.number ≡ w.number
   pub ready : Ready v
-  pub moved : Moves behaviour w.desk.plan (progress w) (progress v)
+  pub moved : Does (progress w) (progress v)
+
+abbrev pub Pends : Behaviour → Work → Work → Type 0
+Pends behaviour w v = PendsBy (Moves behaviour w.desk.plan) w v
+
+-- the same, where nothing was delivered again
+abbrev pub Acted : Behaviour → Work → Work → Type 0
+Acted behaviour w v = PendsBy (Acts behaviour w.desk.plan) w v
 
 abbrev pub tally_of : Record → Tally
 tally_of r = record { taken = r.taken; published = r.published; first = r.first; parts = r.parts; dropped = r.dropped }
@@ -116,16 +154,23 @@ pub record IsRecordOf (number : ℕ) (p : Progress) (r : Record) : Type 0 where
   pub counts : tally_of r ≡ p.tally
   pub whole : r.fault ≡ None → (p.left ≡ over) × (p.held ≡ []) × Empties p.pass
 
--- what a poll leaves that is ready
-pub record Ends (behaviour : Behaviour) (w : Work) (r : Record) : Type 0 where
+-- what a poll leaves that is ready, where it did this
+pub record EndsBy (Does : Progress → Progress → Type 0) (w : Work) (r : Record) : Type 0 where
   pub ended : Progress
   pub counted : IsTally ended.tally
-  pub moved : Moves behaviour w.desk.plan (progress w) ended
+  pub moved : Does (progress w) ended
   pub is_of : IsRecordOf w.number ended r
+
+abbrev pub Ends : Behaviour → Work → Record → Type 0
+Ends behaviour w r = EndsBy (Moves behaviour w.desk.plan) w r
 
 -- what a poll leaves of a worker that has ended: its record is that of its end
 abbrev pub EndsWith : Behaviour → Work → Option Cause → Work → Type 0
 EndsWith behaviour w fault v = (r : Record) → Leaves v fault r → Ends behaviour w r
+
+-- the same, where nothing was delivered again
+abbrev pub ActedLast : Behaviour → Work → Option Cause → Work → Type 0
+ActedLast behaviour w fault v = (r : Record) → Leaves v fault r → EndsBy (Acts behaviour w.desk.plan) w r
 
 -- From here on the pass and the seat of the record have followed a core run, whose counts the record has.
 pub record TellsOf (behaviour : Behaviour) (w : Work) (r : Record) : Type 0 where

@@ -30,6 +30,7 @@ ghost use Rattle.canvas_worker.specs.StepLaws.{Rests, CallFirst, HeldFirst, Batc
 
 pub use ask::{Ask, Reply};
 pub use book::Book;
+pub use canvas_runs::When;
 pub use cause::Cause;
 pub use core_run::Core;
 pub use gate::{Gate, OpenGate};
@@ -37,7 +38,6 @@ pub use in_flight::InFlight;
 pub use record::Record;
 pub use stop::Stop;
 pub use worker::Worker;
-pub use canvas_runs::When;
 
 /// A core keeps messages as their envelopes. The asks and answers of a core are those of the worker that the law of runs speaks of.
 pub fn law_of_cores()

@@ -17,7 +17,8 @@ use std::sync::Wait;
 
 /// A worker, as a future of its record. One poll answers at most one ask of its core.
 ///
-/// Where the stop was asked it is ready. Before a message's first store it asks its gate, and where that answers false it only yields.
+/// Where the stop was asked it is ready. Before a message's first store and before its acknowledgement it asks its gate. Where that holds
+/// it back it only yields, and where that wants the message's envelope delivered again it does that alone, in a poll of its own.
 /// It ends by itself once it rests while no message is in flight. Its pass and seat are used with the broker and the backend that they came from.
 #[derive(Drop)]
 pub struct Worker<'a, R: Wait, T: Tasks, G: Gate> {

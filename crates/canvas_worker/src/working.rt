@@ -1,22 +1,24 @@
 //! A worker in the middle of its work.
 
-ghost use Rattle.std.specs.Prelude.{◌≡◌, [], Some, Ok, MatchResult, true};
+ghost use Rattle.std.specs.Prelude.{◌≡◌, [], Some, Ok, IsSome, IfOk, MatchResult, true};
 ghost use Rattle.canvas_task.specs.Apply.{IsInRange};
-ghost use Rattle.canvas_runs.specs.Core.{ReadsBack, taken};
+ghost use Rattle.canvas_runs.specs.Core.{ReadsBack, taken, is_inside};
 ghost use Rattle.canvas_worker.specs.Asks.{suits, shown, replied, FoundInRange};
 ghost use Rattle.canvas_worker.specs.Books.{no_book};
 ghost use Rattle.canvas_worker.specs.Enveloped.{enveloped_by, no_tasks};
-ghost use Rattle.canvas_worker.specs.Standing.{asked};
-ghost use Rattle.canvas_worker.specs.Work.{Ready, Pends, EndsWith, Leaves, working_begun, with_answer, lost, one_taken};
+ghost use Rattle.canvas_worker.specs.Standing.{asked, held};
+ghost use Rattle.canvas_worker.specs.Work.{Ready, Acted, ActedLast, Pends, EndsWith, Leaves, Redelivered, working_begun, with_answer, lost, one_taken};
 ghost use Rattle.canvas_worker.specs.declared.ask.Ask.TheVariants as ask;
-ghost use Rattle.canvas_worker.specs.declared.cause.Cause.TheVariants.{Memory};
+ghost use Rattle.canvas_worker.specs.declared.cause.Cause.TheVariants as cause;
+ghost use Rattle.canvas_worker.specs.declared.working.Said.TheVariants.{Wait, Again, On};
 
 use crate::source::Source;
 use crate::{Ask, Cause, Core, Gate, InFlight, Record, Reply, Stop};
 use canvas_backend::{Backend, BackendSeat, Stored};
 use canvas_broker::{Broker, BrokerPass};
 use canvas_message::Envelope;
-use canvas_task::{GroupNo, Outcome, TaskNo, Tasks};
+use canvas_runs::When;
+use canvas_task::{GroupNo, Memory, Outcome, TaskNo, Tasks};
 use std::alloc::Global;
 use std::marker::Model;
 use std::sync::Wait;
@@ -28,6 +30,17 @@ const PATIENCE: u32 = 8;
 #[derive(Clone, Copy, Drop)]
 pub(crate) struct End {
     pub fault: Option<Cause>,
+}
+
+/// What the gate says at a point of the open script.
+#[derive(Clone, Copy, Drop)]
+pub(crate) enum Said {
+    /// To do nothing yet.
+    Wait,
+    /// To deliver its envelope again.
+    Again,
+    /// To go on.
+    On,
 }
 
 /// What a worker has, until it ends.
@@ -49,8 +62,9 @@ pub(crate) struct Working<'a, R: Wait, G: Gate> {
     published: u64,
     first: u64,
     parts: u64,
-    // Whether a message was taken of which nothing is stored yet, and how many takes in a row have found nothing. No clause reads them.
-    is_fresh: bool,
+    // The latest point of the open script at which the gate let this worker go on, and how many takes in a row have found nothing. No clause
+    // reads them.
+    passed: Option<When>,
     idle: u32,
 }
 
@@ -100,7 +114,7 @@ impl<'a, R: Wait, G: Gate> Working<'a, R, G> {
             published: 0,
             first: 0,
             parts: 0,
-            is_fresh: false,
+            passed: None,
             idle: 0,
         }
     }
@@ -125,7 +139,7 @@ impl<'a, R: Wait, G: Gate> Working<'a, R, G> {
 
     /// Asks the stop of all workers, so that the others end too, and gives the end where memory was refused.
     fn fails(&self) -> End
-        ensures { result.fault ≡ Some Memory }
+        ensures { result.fault ≡ Some cause.Memory }
     {
         self.stop.ask();
         End {
@@ -137,7 +151,7 @@ impl<'a, R: Wait, G: Gate> Working<'a, R, G> {
     fn answers<T: Tasks>(&mut self, tasks: &T, reply: Reply) -> Result<(), End>
         requires suits { suits (shown self.old.core.task (asked self.old.core.left)) reply ≡ true }
         requires in_range { FoundInRange reply }
-        ensures { MatchResult result (λ _. self.new ≡ with_answer (T.behaviour tasks.now) self.old (replied reply)) (λ e. (self.new ≡ lost self.old) × (e.fault ≡ Some Memory)) }
+        ensures { MatchResult result (λ _. self.new ≡ with_answer (T.behaviour tasks.now) self.old (replied reply)) (λ e. (self.new ≡ lost self.old) × (e.fault ≡ Some cause.Memory)) }
     {
         let (alloc, backend) = (self.alloc, self.backend);
         match self.core.answer(alloc, backend, tasks, reply) {
@@ -150,7 +164,7 @@ impl<'a, R: Wait, G: Gate> Working<'a, R, G> {
     fn replies<T: Tasks>(&mut self, tasks: &T, reply: Reply) -> Result<(), End>
         requires suits { suits (shown self.old.core.task (asked self.old.core.left)) reply ≡ true }
         requires in_range { FoundInRange reply }
-        ensures { MatchResult result (λ _. self.new ≡ with_answer (T.behaviour tasks.now) self.old (replied reply)) (λ e. (self.new ≡ lost self.old) × (e.fault ≡ Some Memory)) }
+        ensures { MatchResult result (λ _. self.new ≡ with_answer (T.behaviour tasks.now) self.old (replied reply)) (λ e. (self.new ≡ lost self.old) × (e.fault ≡ Some cause.Memory)) }
     {
         match self.answers(tasks, reply) {
             Ok(()) => {
@@ -164,9 +178,9 @@ impl<'a, R: Wait, G: Gate> Working<'a, R, G> {
     /// Gives an envelope to the core.
     fn gives<T: Tasks>(&mut self, tasks: &T, envelope: Envelope) -> Result<(), End>
         requires { shown self.old.core.task (asked self.old.core.left) ≡ ask.Take }
-        ensures { MatchResult result (λ _. self.new ≡ one_taken (with_answer (T.behaviour tasks.now) self.old (taken (Some envelope)))) (λ e. (self.new ≡ lost self.old) × (e.fault ≡ Some Memory)) }
+        ensures { MatchResult result (λ _. self.new ≡ one_taken (with_answer (T.behaviour tasks.now) self.old (taken (Some envelope)))) (λ e. (self.new ≡ lost self.old) × (e.fault ≡ Some cause.Memory)) }
     {
-        self.is_fresh = true;
+        self.passed = None;
         self.idle = 0;
         match self.replies(tasks, Reply::Taken(Some(envelope))) {
             Ok(()) => {
@@ -181,7 +195,7 @@ impl<'a, R: Wait, G: Gate> Working<'a, R, G> {
         requires ready { Ready self.old }
         requires asks { shown self.old.core.task (asked self.old.core.left) ≡ ask.Take }
         requires bare { self.old.held ≡ [] }
-        ensures { MatchResult result (λ _. Pends (T.behaviour tasks.now) self.old self.new) (λ e. EndsWith (T.behaviour tasks.now) self.old e.fault self.new) }
+        ensures { MatchResult result (λ _. Acted (T.behaviour tasks.now) self.old self.new) (λ e. ActedLast (T.behaviour tasks.now) self.old e.fault self.new) }
     {
         let (rt, broker) = (self.rt, self.broker);
         match broker.take(rt, &mut self.pass) {
@@ -201,7 +215,7 @@ impl<'a, R: Wait, G: Gate> Working<'a, R, G> {
         requires ready { Ready self.old }
         requires asks { shown self.old.core.task (asked self.old.core.left) ≡ ask.Take }
         requires bare { self.old.held ≡ [] }
-        ensures { MatchResult result (λ _. Pends (T.behaviour tasks.now) self.old self.new) (λ e. EndsWith (T.behaviour tasks.now) self.old e.fault self.new) }
+        ensures { MatchResult result (λ _. Acted (T.behaviour tasks.now) self.old self.new) (λ e. ActedLast (T.behaviour tasks.now) self.old e.fault self.new) }
     {
         let (rt, broker) = (self.rt, self.broker);
         let mut batch = broker.take_batch(rt, &mut self.pass);
@@ -220,7 +234,7 @@ impl<'a, R: Wait, G: Gate> Working<'a, R, G> {
     fn takes<T: Tasks>(&mut self, tasks: &T) -> Result<(), End>
         requires ready { Ready self.old }
         requires asks { shown self.old.core.task (asked self.old.core.left) ≡ ask.Take }
-        ensures { MatchResult result (λ _. Pends (T.behaviour tasks.now) self.old self.new) (λ e. EndsWith (T.behaviour tasks.now) self.old e.fault self.new) }
+        ensures { MatchResult result (λ _. Acted (T.behaviour tasks.now) self.old self.new) (λ e. ActedLast (T.behaviour tasks.now) self.old e.fault self.new) }
     {
         if let Some(envelope) = self.source.next() {
             return self.gives(tasks, envelope);
@@ -236,7 +250,7 @@ impl<'a, R: Wait, G: Gate> Working<'a, R, G> {
         requires ready { Ready self.old }
         requires asks { shown self.old.core.task (asked self.old.core.left) ≡ ask.Publish }
         requires reads_back { ReadsBack (enveloped_by no_tasks no_book) self.old.core.left }
-        ensures { MatchResult result (λ _. Pends (T.behaviour tasks.now) self.old self.new) (λ e. EndsWith (T.behaviour tasks.now) self.old e.fault self.new) }
+        ensures { MatchResult result (λ _. Acted (T.behaviour tasks.now) self.old self.new) (λ e. ActedLast (T.behaviour tasks.now) self.old e.fault self.new) }
     {
         let (rt, broker) = (self.rt, self.broker);
         match self.core.envelope() {
@@ -259,10 +273,9 @@ impl<'a, R: Wait, G: Gate> Working<'a, R, G> {
         requires asks { shown self.old.core.task (asked self.old.core.left) ≡ ask.Store task outcome }
         requires reads_back { ReadsBack (enveloped_by no_tasks no_book) self.old.core.left }
         requires in_range { IsInRange outcome }
-        ensures { MatchResult result (λ _. Pends (T.behaviour tasks.now) self.old self.new) (λ e. EndsWith (T.behaviour tasks.now) self.old e.fault self.new) }
+        ensures { MatchResult result (λ _. Acted (T.behaviour tasks.now) self.old self.new) (λ e. ActedLast (T.behaviour tasks.now) self.old e.fault self.new) }
     {
         let backend = self.backend;
-        self.is_fresh = false;
         match backend.store(&mut self.seat, task, &outcome) {
             Stored::First => {
                 self.first = self.first.saturating_add(1);
@@ -276,7 +289,7 @@ impl<'a, R: Wait, G: Gate> Working<'a, R, G> {
         requires ready { Ready self.old }
         requires asks { shown self.old.core.task (asked self.old.core.left) ≡ ask.Part group task }
         requires reads_back { ReadsBack (enveloped_by no_tasks no_book) self.old.core.left }
-        ensures { MatchResult result (λ _. Pends (T.behaviour tasks.now) self.old self.new) (λ e. EndsWith (T.behaviour tasks.now) self.old e.fault self.new) }
+        ensures { MatchResult result (λ _. Acted (T.behaviour tasks.now) self.old self.new) (λ e. ActedLast (T.behaviour tasks.now) self.old e.fault self.new) }
     {
         let backend = self.backend;
         let count = backend.part(&mut self.seat, group, task);
@@ -288,7 +301,7 @@ impl<'a, R: Wait, G: Gate> Working<'a, R, G> {
         requires ready { Ready self.old }
         requires asks { shown self.old.core.task (asked self.old.core.left) ≡ ask.Read group place }
         requires reads_back { ReadsBack (enveloped_by no_tasks no_book) self.old.core.left }
-        ensures { MatchResult result (λ _. Pends (T.behaviour tasks.now) self.old self.new) (λ e. EndsWith (T.behaviour tasks.now) self.old e.fault self.new) }
+        ensures { MatchResult result (λ _. Acted (T.behaviour tasks.now) self.old self.new) (λ e. ActedLast (T.behaviour tasks.now) self.old e.fault self.new) }
     {
         let backend = self.backend;
         match backend.member(group, place) {
@@ -304,7 +317,7 @@ impl<'a, R: Wait, G: Gate> Working<'a, R, G> {
         requires ready { Ready self.old }
         requires asks { shown self.old.core.task (asked self.old.core.left) ≡ ask.Ack self.old.core.task }
         requires reads_back { ReadsBack (enveloped_by no_tasks no_book) self.old.core.left }
-        ensures { MatchResult result (λ _. Pends (T.behaviour tasks.now) self.old self.new) (λ e. EndsWith (T.behaviour tasks.now) self.old e.fault self.new) }
+        ensures { MatchResult result (λ _. Acted (T.behaviour tasks.now) self.old self.new) (λ e. ActedLast (T.behaviour tasks.now) self.old e.fault self.new) }
     {
         self.replies(tasks, Reply::Acked)
     }
@@ -313,7 +326,7 @@ impl<'a, R: Wait, G: Gate> Working<'a, R, G> {
         requires ready { Ready self.old }
         requires asks { shown self.old.core.task (asked self.old.core.left) ≡ ask.Rest }
         requires reads_back { ReadsBack (enveloped_by no_tasks no_book) self.old.core.left }
-        ensures { MatchResult result (λ _. Pends (T.behaviour tasks.now) self.old self.new) (λ e. EndsWith (T.behaviour tasks.now) self.old e.fault self.new) }
+        ensures { MatchResult result (λ _. Acted (T.behaviour tasks.now) self.old self.new) (λ e. ActedLast (T.behaviour tasks.now) self.old e.fault self.new) }
     {
         if self.has_more() {
             return self.answers(tasks, Reply::Rested { more: true });
@@ -332,30 +345,93 @@ impl<'a, R: Wait, G: Gate> Working<'a, R, G> {
         self.flight.is_some()
     }
 
-    /// Stores the outcome of a task, unless the gate holds it back: then nothing is done.
-    fn stores_unless<T: Tasks>(
-        &mut self,
-        tasks: &T,
-        is_held_back: bool,
-        task: TaskNo,
-        outcome: Outcome,
-    ) -> Result<(), End>
-        requires ready { Ready self.old }
-        requires asks { shown self.old.core.task (asked self.old.core.left) ≡ ask.Store task outcome }
-        requires reads_back { ReadsBack (enveloped_by no_tasks no_book) self.old.core.left }
-        requires in_range { IsInRange outcome }
-        ensures turned { MatchResult result (λ _. Pends (T.behaviour tasks.now) self.old self.new) (λ e. EndsWith (T.behaviour tasks.now) self.old e.fault self.new) }
-        ensures held_back { is_held_back ≡ true → (result ≡ Ok tt) × (self.new ≡ self.old) }
+    /// A copy of the envelope of the open script.
+    fn copied(&self) -> Result<Envelope, Memory>
+        requires { IsSome (held self.now.core) }
+        ensures { IfOk result (λ e. held self.now.core ≡ Some e) }
     {
-        if is_held_back {
-            return Ok(());
+        match self.core.held() {
+            Some(envelope) => envelope.copy(),
+            None => unreachable!(),
         }
-        self.stores(tasks, task, outcome)
     }
 
-    /// Whether the gate holds back a message that was just taken.
-    fn is_held_back(&self, task: TaskNo) -> bool {
-        self.is_fresh && !self.gate.go(self.number, task)
+    /// Delivers the envelope of the open script again, and does nothing else. Where memory is refused nothing is delivered.
+    fn delivers_again(&mut self) -> Result<(), End>
+        requires ready { Ready self.old }
+        requires inside { is_inside self.old.core.left ≡ true }
+        ensures { MatchResult result (λ _. Redelivered self.old self.new) (λ e. (self.new ≡ self.old) × (e.fault ≡ Some cause.Memory)) }
+    {
+        let (rt, broker) = (self.rt, self.broker);
+        match self.copied() {
+            Ok(envelope) => {
+                self.flight.add();
+                match broker.redeliver(rt, &mut self.pass, envelope) {
+                    Ok(()) => Ok(()),
+                    Err(_refused) => Err(self.fails()),
+                }
+            }
+            Err(_) => Err(self.fails()),
+        }
+    }
+
+    /// What the gate says at the point to which the open script has come. The worker goes on where there is none, and from a point that
+    /// it has passed: there the gate isn't asked anew.
+    fn ask_gate(&mut self) -> Said
+        ensures worker { self.new ≡ self.old }
+        ensures inside { result ≡ Again → is_inside self.old.core.left ≡ true }
+    {
+        let Some((task, point)) = self.core.point() else {
+            return Said::On;
+        };
+        if self.passed == Some(point) {
+            return Said::On;
+        }
+        if point == When::Early && !self.gate.go(self.number, task) {
+            return Said::Wait;
+        }
+        self.passed = Some(point);
+        if self.gate.again(self.number, task) {
+            Said::Again
+        } else {
+            Said::On
+        }
+    }
+
+    /// At most one ask of the core is answered.
+    #[tactic(auto, using(crate::proofs::Turns::ends_acting))]
+    fn goes_on<T: Tasks>(&mut self, tasks: &T) -> Result<(), End>
+        requires { Ready self.old }
+        ensures { MatchResult result (λ _. Acted (T.behaviour tasks.now) self.old self.new) (λ e. ActedLast (T.behaviour tasks.now) self.old e.fault self.new) }
+    {
+        match self.core.next() {
+            Ask::Take => self.takes(tasks),
+            Ask::Publish => self.publishes(tasks),
+            Ask::Store(task, outcome) => self.stores(tasks, task, outcome),
+            Ask::Part(group, task) => self.returns(tasks, group, task),
+            Ask::Read(group, place) => self.reads(tasks, group, place),
+            Ask::Ack(_) => self.acknowledges(tasks),
+            Ask::Rest => self.rests(tasks),
+            Ask::End => Err(self.fails()),
+        }
+    }
+
+    /// One step, as the gate says: where it holds the worker back nothing is done, and where it wants the envelope of the open script
+    /// delivered again that is all.
+    #[tactic(auto, using(crate::proofs::Turns::acted_well, crate::proofs::InHand::delivered_well))]
+    fn steps<T: Tasks>(&mut self, tasks: &T, said: Said) -> Result<(), End>
+        requires ready { Ready self.old }
+        requires inside { said ≡ Again → is_inside self.old.core.left ≡ true }
+        ensures turned { MatchResult result (λ _. Pends (T.behaviour tasks.now) self.old self.new) (λ e. EndsWith (T.behaviour tasks.now) self.old e.fault self.new) }
+        ensures held_back { said ≡ Wait → (result ≡ Ok tt) × (self.new ≡ self.old) }
+        ensures delivers { said ≡ Again → MatchResult result (λ _. Redelivered self.old self.new) (λ e. (self.new ≡ self.old) × (e.fault ≡ Some cause.Memory)) }
+        ensures goes_on { said ≡ On → MatchResult result (λ _. Acted (T.behaviour tasks.now) self.old self.new) (λ e. ActedLast (T.behaviour tasks.now) self.old e.fault self.new) }
+    {
+        match said {
+            Said::Wait => Ok(()),
+            Said::Again => self.delivers_again(),
+            Said::On => self.goes_on(tasks),
+        }
     }
 
     /// One poll: at most one ask of the core is answered. It says where the worker has ended.
@@ -369,18 +445,7 @@ impl<'a, R: Wait, G: Gate> Working<'a, R, G> {
                 fault: Some(Cause::Stopped),
             });
         }
-        match self.core.next() {
-            Ask::Take => self.takes(tasks),
-            Ask::Publish => self.publishes(tasks),
-            Ask::Store(task, outcome) => {
-                let is_held_back = self.is_held_back(task);
-                self.stores_unless(tasks, is_held_back, task, outcome)
-            }
-            Ask::Part(group, task) => self.returns(tasks, group, task),
-            Ask::Read(group, place) => self.reads(tasks, group, place),
-            Ask::Ack(_) => self.acknowledges(tasks),
-            Ask::Rest => self.rests(tasks),
-            Ask::End => Err(self.fails()),
-        }
+        let said = self.ask_gate();
+        self.steps(tasks, said)
     }
 }

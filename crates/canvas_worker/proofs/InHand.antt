@@ -1,0 +1,125 @@
+-- The envelopes in hand: what a worker's pass took and its core has not done with. Each of them may be delivered again.
+use Rattle.std.proofs.Common.{◌≡◌, ◌∙◌, ℕ, List, [], ◌∷◌, ◌++◌, Option, Some, None, Result, Ok, Err, refl, sym, subst, append_assoc, append-nil}
+use Rattle.std.specs.Prelude.{true, false, IsSome, MatchResult}
+use Rattle.std.proofs.lemmas.Bool.{false≢true}
+use Rattle.canvas_task.specs.Apply.{Behaviour}
+use Rattle.canvas_history.specs.Callers.{told}
+use Rattle.canvas_history.specs.History.{calls}
+use Rattle.canvas_message.specs.Job.{store, publish, hand_in}
+use Rattle.canvas_message.specs.declared.envelope.Envelope.{Envelope}
+use Rattle.canvas_backend.specs.Roster.{Roster}
+use Rattle.canvas_broker.specs.Broker as broker
+use Rattle.canvas_broker.specs.Broker.{QueueCall, HasTaken}
+use Rattle.canvas_broker.specs.Passes.{Stands, Took}
+use Rattle.canvas_runs.specs.Calls.{broker_call, held_by}
+use Rattle.canvas_runs.specs.Core as C
+use Rattle.canvas_runs.specs.Core.{answered, is_inside}
+use Rattle.canvas_runs.specs.Following.{Pass, Makes}
+use Rattle.canvas_runs.specs.Lists.{Each}
+use Rattle.canvas_runs.specs.declared.when.When.{When}
+use Rattle.canvas_runs.proofs.Words.{each_append, each_weaker}
+use Rattle.canvas_worker.specs.Asks.{Asked, Answer}
+use Rattle.canvas_worker.specs.Enveloped.{enveloped}
+use Rattle.canvas_worker.specs.Standing.{Left, asked, open_of, held, point_in}
+use Rattle.canvas_worker.specs.Work.{Work, progress, with_pass, CanDeliver, in_hand, Ready, delivers, Redelivered, Pends, EndsWith}
+use Rattle.canvas_worker.specs.declared.cause.Cause.TheVariants.{Memory}
+use Rattle.canvas_worker.specs.declared.working.End.{End}
+use Rattle.canvas_worker.proofs.Redelivering.{just_has, still_has}
+use Rattle.canvas_worker.proofs.Stepping.{taking_all, took_makes}
+use Rattle.canvas_worker.proofs.Turns.{ends_here}
+
+-- ---- what a pass may deliver again
+
+taken_can : (p q : Pass) (e : Envelope) → Stands p (calls p.name broker.take (Some e)) q → CanDeliver q e
+taken_can p q e s = (s.3, just_has p q e s)
+
+still_can : (p q : Pass) (d : QueueCall Envelope) (a : Option Envelope) → Stands p (calls p.name d a) q → (e : Envelope) → CanDeliver p e → CanDeliver q e
+still_can p q d a s e c = (s.3, still_has p q d a s e c.0 c.1)
+
+all_still : (p q : Pass) (d : QueueCall Envelope) (a : Option Envelope) → Stands p (calls p.name d a) q → (es : List Envelope) → Each (CanDeliver p) es → Each (CanDeliver q) es
+all_still p q d a s es c = each_weaker {P = CanDeliver p} {Q = CanDeliver q} (still_can p q d a s) es c
+
+pub but_open : (p : Pass) (h : Option Envelope) (es : List Envelope) → Each (CanDeliver p) (in_hand h es) → Each (CanDeliver p) es
+but_open p None es c = c
+but_open p (Some e) es c = c.1
+
+makes_can : (es xs : List Envelope) (p q : Pass) → Makes p (taking_all es) q → Each (CanDeliver p) xs → Each (CanDeliver q) (xs ++ es)
+makes_can [] xs p q m c = subst (Each (CanDeliver q)) (sym (append-nil xs)) (subst (λ r. Each (CanDeliver r) xs) (sym m) c)
+makes_can (e ∷ es) xs p q m c =
+    let all : Each (CanDeliver m.0) (xs ++ e ∷ []) = each_append (CanDeliver m.0) xs (e ∷ []) (all_still p m.0 broker.take (Some e) m.1 xs c) (taken_can p m.0 e m.1, tt) in
+    subst (Each (CanDeliver q)) (append_assoc xs (e ∷ []) es) (makes_can es (xs ++ e ∷ []) m.0 q m.2 all)
+
+-- a batch is taken
+pub batch_can : (es xs : List Envelope) (p q : Pass) → Took p es q → Each (CanDeliver p) xs → Each (CanDeliver q) (xs ++ es)
+batch_can es xs p q t c = makes_can es xs p q (took_makes p q es t) c
+
+-- an ask of the core is answered
+pub call_can : (a : Asked) (r : Answer) (h : Option Envelope) (es : List Envelope) (p q : Pass) → Makes p (broker_call a r) q → Each (CanDeliver p) (in_hand h es) → Each (CanDeliver q) (in_hand (held_by h a r) es)
+call_can C.take (C.taken (Some e)) h es p q m c =
+    subst (λ z. Each (CanDeliver z) (e ∷ es)) (sym m.2) (taken_can p m.0 e m.1, all_still p m.0 broker.take (Some e) m.1 es (but_open p h es c))
+call_can (C.send e) C.sent h es p q m c = subst (λ z. Each (CanDeliver z) (in_hand h es)) (sym m.2) (all_still p m.0 (broker.publish e) None m.1 (in_hand h es) c)
+call_can C.ack C.acked h es p q m c = subst (λ z. Each (CanDeliver z) es) (sym m) (but_open p h es c)
+call_can a r h es p q m c = subst (λ z. Each (CanDeliver z) (in_hand h es)) (sym m) c
+
+-- ---- an open script has an envelope
+
+module _ (behaviour : Behaviour) (plan : Roster) where
+  pub has_open : (s : Left) (h : Option Envelope) (r : Answer) → C.Suits (asked s) r → (is_inside s ≡ true → IsSome (open_of s h)) → is_inside (answered (enveloped behaviour plan) s r) ≡ true → IsSome (held_by (open_of s h) (asked s) r)
+  has_open C.taking h (C.taken None) u has i = absurd (false≢true i)
+  has_open C.taking h (C.taken (Some e)) u has i = refl
+  has_open C.resting h (C.rested true) u has i = absurd (false≢true i)
+  has_open C.resting h (C.rested false) u has i = absurd (false≢true i)
+  has_open (C.owning m) h (C.kept b) u has i = refl
+  has_open (C.doing (store t o ∷ js) b) h (C.kept a) u has i = has refl
+  has_open (C.doing (publish e ∷ js) b) h C.sent u has i = has refl
+  has_open (C.doing (publish e ∷ js) b) h C.refused u has i = has refl
+  has_open (C.doing (hand_in g t c ∷ js) b) h (C.counted n) u has i = has refl
+  has_open (C.reading g c fs) h (C.found t x) u has i = has refl
+  has_open C.acking h C.acked u has i = absurd (false≢true i)
+  has_open s h r u has i = elim u [ ]
+
+-- a point is inside a script
+pub at_point : (s : Left) (x : Option ℕ) (k : ℕ × When) → point_in s x ≡ Some k → is_inside s ≡ true
+at_point C.taking x k e = absurd cc
+at_point C.resting x k e = absurd cc
+at_point C.over x k e = absurd cc
+at_point C.failed x k e = absurd cc
+at_point (C.owning m) x k e = refl
+at_point (C.doing js b) x k e = refl
+at_point (C.reading g c fs) x k e = refl
+at_point C.acking x k e = refl
+
+-- ---- the envelope of the open script is delivered again
+
+pub may_deliver : (w : Work) (e : Envelope) → Ready w → held w.core ≡ Some e → HasTaken (told w.pass) w.pass.name e
+may_deliver w e ready is = (subst (λ h. Each (CanDeliver w.pass) (in_hand h w.held)) is ready.again).0.1
+
+not_resting : (s : Left) → is_inside s ≡ true → s ≡ C.resting → ⊥
+not_resting s i e = false≢true (subst (λ l. is_inside l ≡ true) e i)
+
+pub redelivered : (behaviour : Behaviour) (w v : Work) → Ready w → is_inside w.core.left ≡ true → Redelivered w v → Pends behaviour w v
+redelivered behaviour w v ready inside d =
+    subst (λ z. Pends behaviour w z) (sym d.3)
+    (record {
+      broker = refl;
+      desk = refl;
+      number = refl;
+      ready = record {
+        of = d.2.0 ∙ ready.of;
+        home = ready.home;
+        plan = ready.plan;
+        inside = ready.inside;
+        can = ready.can;
+        rested = λ rests. absurd (not_resting w.core.left inside rests);
+        current = ready.current;
+        again = all_still w.pass v.pass (broker.redeliver d.0) None d.2 (in_hand (held w.core) w.held) ready.again;
+        counts = ready.counts;
+      };
+      moved = delivers d.0 (d.1, (v.pass, d.2, refl), refl, refl, refl, refl, refl);
+    })
+
+pub delivered_well : {A : Type 0} (behaviour : Behaviour) (w v : Work) (result : Result A End) → Ready w → is_inside w.core.left ≡ true
+    → MatchResult result (λ _. Redelivered w v) (λ e. (v ≡ w) × (e.fault ≡ Some Memory)) → MatchResult result (λ _. Pends behaviour w v) (λ e. EndsWith behaviour w e.fault v)
+delivered_well behaviour w v (Ok _) ready inside d = redelivered behaviour w v ready inside d
+delivered_well behaviour w v (Err e) ready inside d =
+    subst (λ f. EndsWith behaviour w f v) (sym d.1) (subst (λ z. EndsWith behaviour w (Some Memory) z) (sym d.0) (ends_here behaviour w Memory ready))
