@@ -184,7 +184,9 @@ fn print_ratios(rt: &HostRuntime) -> Result<()> {
     let missing = missing_ratio(rt, rt.alloc(), &body)?;
     let writing = writing_ratio(rt, rt.alloc(), &body)?;
     println!(rt; "decode, in hundredths of Value::from_str: {reading}")?;
-    println!(rt; "decode with a space behind the body, in hundredths of decode without: {missing}")?;
+    println!(rt;
+        "decode with a space behind the body, in hundredths of decode without: {missing}"
+    )?;
     println!(rt; "encode, in hundredths of Value::to_string: {writing}")?;
     Ok(())
 }
