@@ -1,9 +1,8 @@
 -- The envelopes in hand: what a worker's pass took and its core has not done with. Each of them may be delivered again.
-use Rattle.std.proofs.Common.{◌≡◌, ◌∙◌, ℕ, List, [], ◌∷◌, ◌++◌, Option, Some, None, Result, Ok, Err, refl, sym, subst, append_assoc, append-nil}
+use Rattle.std.proofs.Common.{◌≡◌, ◌∙◌, List, [], ◌∷◌, ◌++◌, Option, Some, None, Result, Ok, Err, refl, sym, subst, append_assoc, append-nil}
 use Rattle.std.specs.Prelude.{true, false, IsSome, MatchResult}
 use Rattle.std.proofs.lemmas.Bool.{false≢true}
 use Rattle.canvas_task.specs.Apply.{Behaviour}
-use Rattle.canvas_history.specs.Callers.{told}
 use Rattle.canvas_history.specs.History.{calls}
 use Rattle.canvas_message.specs.Job.{store, publish, hand_in}
 use Rattle.canvas_message.specs.declared.envelope.Envelope.{Envelope}
@@ -16,12 +15,11 @@ use Rattle.canvas_runs.specs.Core as C
 use Rattle.canvas_runs.specs.Core.{answered, is_inside}
 use Rattle.canvas_runs.specs.Following.{Pass, Makes}
 use Rattle.canvas_runs.specs.Lists.{Each}
-use Rattle.canvas_runs.specs.declared.when.When.{When}
 use Rattle.canvas_runs.proofs.Words.{each_append, each_weaker}
 use Rattle.canvas_worker.specs.Asks.{Asked, Answer}
 use Rattle.canvas_worker.specs.Enveloped.{enveloped}
-use Rattle.canvas_worker.specs.Standing.{Left, asked, open_of, held, point_in}
-use Rattle.canvas_worker.specs.Work.{Work, progress, with_pass, CanDeliver, in_hand, Ready, delivers, Redelivered, Pends, EndsWith}
+use Rattle.canvas_worker.specs.Standing.{Left, asked, open_of, held}
+use Rattle.canvas_worker.specs.Work.{Work, CanDeliver, in_hand, Ready, delivers, Redelivered, Pends, EndsWith}
 use Rattle.canvas_worker.specs.declared.cause.Cause.TheVariants.{Memory}
 use Rattle.canvas_worker.specs.declared.working.End.{End}
 use Rattle.canvas_worker.proofs.Redelivering.{just_has, still_has}
@@ -78,21 +76,7 @@ module _ (behaviour : Behaviour) (plan : Roster) where
   has_open C.acking h C.acked u has i = absurd (false≢true i)
   has_open s h r u has i = elim u [ ]
 
--- a point is inside a script
-pub at_point : (s : Left) (x : Option ℕ) (k : ℕ × When) → point_in s x ≡ Some k → is_inside s ≡ true
-at_point C.taking x k e = absurd cc
-at_point C.resting x k e = absurd cc
-at_point C.over x k e = absurd cc
-at_point C.failed x k e = absurd cc
-at_point (C.owning m) x k e = refl
-at_point (C.doing js b) x k e = refl
-at_point (C.reading g c fs) x k e = refl
-at_point C.acking x k e = refl
-
 -- ---- the envelope of the open script is delivered again
-
-pub may_deliver : (w : Work) (e : Envelope) → Ready w → held w.core ≡ Some e → HasTaken (told w.pass) w.pass.name e
-may_deliver w e ready is = (subst (λ h. Each (CanDeliver w.pass) (in_hand h w.held)) is ready.again).0.1
 
 not_resting : (s : Left) → is_inside s ≡ true → s ≡ C.resting → ⊥
 not_resting s i e = false≢true (subst (λ l. is_inside l ≡ true) e i)
