@@ -1,4 +1,5 @@
--- What contracts see of a backend and of a seat, and what its calls tell: the clauses of canvas_history's Callers, at the backend (Lamport's sequential consistency).
+-- What contracts see of a backend and of a seat, and what its calls tell: the clauses of
+-- canvas_history's Callers, at the backend (Lamport's sequential consistency).
 --     Desk, Seat          a backend, and a seat
 --     as_caller s         the seat as a caller
 --     Stands, Parted, Joined, Adds, LeavesOne    as they are said of callers
@@ -15,7 +16,8 @@ pub record Desk : Type 0 where
   pub id : TableId
   pub plan : Roster
 
--- a seat: the backend that it is of, its caller's number, and the beginning of the history that it has seen
+-- a seat: the backend that it is of, its caller's number, and the beginning of the history that it
+-- has seen
 pub record Seat : Type 0 where
   pub of : TableId
   pub name : ℕ
@@ -32,10 +34,15 @@ abbrev pub LeavesOne : Seat → Type 0
 LeavesOne s = callers.LeavesOne (as_caller s)
 
 abbrev pub Stands : Roster → Seat → Entry TableCall TableReply → Seat → Type 0
-Stands plan s e t = callers.Stands no_results (reply_of plan) next_of (May plan) (as_caller s) e (as_caller t)
+Stands plan s e t =
+    callers.Stands no_results (reply_of plan) next_of (May plan) (as_caller s) e (as_caller t)
 
 abbrev pub Parted : Roster → Seat → Seat → Seat → Type 0
-Parted plan s t u = callers.Parted no_results (reply_of plan) next_of (May plan) (as_caller s) (as_caller t) (as_caller u)
+Parted plan s t u =
+    callers.Parted no_results (reply_of plan) next_of (May plan) (as_caller s) (as_caller t)
+    (as_caller u)
 
 abbrev pub Joined : Roster → Seat → Seat → Seat → Type 0
-Joined plan s u t = callers.Joined no_results (reply_of plan) next_of (May plan) (as_caller s) (as_caller u) (as_caller t)
+Joined plan s u t =
+    callers.Joined no_results (reply_of plan) next_of (May plan) (as_caller s) (as_caller u)
+    (as_caller t)

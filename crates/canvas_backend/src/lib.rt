@@ -1,4 +1,5 @@
-//! The backend: outcomes of tasks and counts of returned members that threads share, with one legal history of its calls, and the same for one thread.
+//! The backend: outcomes of tasks and counts of returned members that threads share, with one legal
+//! history of its calls, and the same for one thread.
 #![tactic(auto)]
 
 mod backend;

@@ -1,4 +1,5 @@
--- What contracts see of a pass, and what the calls of a broker tell: the clauses of canvas_history's Callers, at the queue (Lamport's sequential consistency).
+-- What contracts see of a pass, and what the calls of a broker tell: the clauses of
+-- canvas_history's Callers, at the queue (Lamport's sequential consistency).
 --     CallerAt I E       a caller of a queue of E that I names. It is a Pass E where that is a broker, and a Knowledge E where the broker is left out
 --     Stands, Parted, Owes, CouldStand, IsHistory    as they are said of callers
 --     Took p es p'       the takes of es stand side by side, and p is p' from then on
@@ -42,6 +43,7 @@ module _ {I E : Type 0} where
   Took p [] p' = p' ≡ p
   Took p (e ∷ es) p' = callers.StandTogether [] answer next May p (takes_of p.name (e ∷ es)) p'
 
-  -- where no other caller is live, what the pass has seen, with the joins that it owes, replays to the empty queue
+  -- where no other caller is live, what the pass has seen, with the joins that it owes, replays to
+  -- the empty queue
   abbrev pub Empties : CallerAt I E → Type 0
   Empties p = Sole (told p) p.name → queue_of (told p) ≡ []

@@ -5,7 +5,8 @@ use arrayvec::ArrayVec;
 use canvas_message::Envelope;
 use std::marker::Model;
 
-/// What a batch took, in order, as far as it isn't read yet. What isn't read when it is dropped is gone: its takes stand in the history.
+/// What a batch took, in order, as far as it isn't read yet. What isn't read when it is dropped is
+/// gone: its takes stand in the history.
 #[derive(Drop)]
 pub struct Batch {
     // the marks of splits among them
@@ -27,7 +28,8 @@ impl Model for Batch {
 impl Batch {
     /// The next envelope. None at the end, and from then on.
     pub fn next(&mut self) -> Option<Envelope>
-        ensures { MatchOption result ((self.old ≡ []) × (self.new ≡ [])) (λ e. self.old ≡ e ∷ self.new) }
+        ensures { MatchOption result ((self.old ≡ []) × (self.new ≡ []))
+            (λ e. self.old ≡ e ∷ self.new) }
     {
         while self.read < self.items.len() {
             let item = self.items[self.read].take();

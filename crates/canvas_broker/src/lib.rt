@@ -1,4 +1,5 @@
-//! The broker: a queue of envelopes that threads share, with one legal history of its calls, and the same queue for one thread.
+//! The broker: a queue of envelopes that threads share, with one legal history of its calls, and
+//! the same queue for one thread.
 #![tactic(auto)]
 
 mod batch;

@@ -8,8 +8,8 @@ use std::marker::Model;
 // A None among the items is the mark of a split.
 pub(crate) type Queue = RuledSegQueue<Option<Envelope>, View<Envelope>, OneHistory>;
 
-/// What one caller has seen of the broker's history, and its own calls in it. It has no bytes. A pass that is dropped, and not joined,
-/// stays a live caller of the history.
+/// What one caller has seen of the broker's history, and its own calls in it. It has no bytes. A
+/// pass that is dropped, and not joined, stays a live caller of the history.
 #[derive(Drop)]
 pub struct BrokerPass {
     pub(crate) pass: SegPass<Option<Envelope>, View<Envelope>>,
@@ -23,7 +23,9 @@ impl Model for BrokerPass {
 
     ghost Value = { Pass Envelope };
 
-    ghost view = { λ p. pass_of (record { web = p.pass.web; heap = p.pass.heap }) p.pass.me.view.client.knows };
+    ghost view = { λ p. pass_of (record { web = p.pass.web; heap = p.pass.heap })
+        p.pass.me.view.client.knows };
 
-    ghost invariant = { λ p. (p.pass.me.hand ≡ None) × (p.pass.me.spare ≡ None) × IsReady p.pass.me.view.client };
+    ghost invariant = { λ p. (p.pass.me.hand ≡ None) × (p.pass.me.spare ≡ None)
+        × IsReady p.pass.me.view.client };
 }

@@ -8,7 +8,8 @@ use std::alloc::Global;
 use std::collections::VecDeque;
 use std::marker::Model;
 
-/// A queue of envelopes that one thread holds. Contracts see it as the list of its envelopes, the first to be taken in front.
+/// A queue of envelopes that one thread holds. Contracts see it as the list of its envelopes, the
+/// first to be taken in front.
 #[derive(Drop)]
 pub struct PlainBroker {
     queue: VecDeque<Envelope>,
@@ -33,9 +34,11 @@ impl PlainBroker {
         }
     }
 
-    /// Adds the envelope at the end. Where memory is refused, it comes back, and the broker holds what it held.
+    /// Adds the envelope at the end. Where memory is refused, it comes back, and the broker holds
+    /// what it held.
     pub fn publish(&mut self, envelope: Envelope) -> Result<(), Refused>
-        ensures call { MatchResult result (λ _. self.new ≡ self.old ++ envelope ∷ []) (λ r. (r.envelope ≡ envelope) × (self.new ≡ self.old)) }
+        ensures call { MatchResult result (λ _. self.new ≡ self.old ++ envelope ∷ [])
+            (λ r. (r.envelope ≡ envelope) × (self.new ≡ self.old)) }
         ensures machine { OnOk result (self.new ≡ next self.old (publish envelope)) }
     {
         match self.queue.push_back(envelope) {
@@ -48,7 +51,8 @@ impl PlainBroker {
 
     /// Takes the first envelope.
     pub fn take(&mut self) -> Option<Envelope>
-        ensures call { MatchOption result ((self.old ≡ []) × (self.new ≡ [])) (λ e. self.old ≡ e ∷ self.new) }
+        ensures call { MatchOption result ((self.old ≡ []) × (self.new ≡ []))
+            (λ e. self.old ≡ e ∷ self.new) }
         ensures machine { (result ≡ answer self.old take) × (self.new ≡ next self.old take) }
     {
         self.queue.pop_front()

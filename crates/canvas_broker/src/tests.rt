@@ -158,8 +158,8 @@ fn count(mut counts: Vec<u64>, taken: &[u64]) -> Vec<u64> {
     counts
 }
 
-/// Two threads publish 1,000 envelopes each and take; the first pass takes the rest. Whether each came once, and what came from
-/// one to one came in order.
+/// Two threads publish 1,000 envelopes each and take; the first pass takes the rest. Whether each
+/// came once, and what came from one to one came in order.
 fn trade_twice<R: Threads + Wait + Sync>(rt: &R, alloc: Global) -> Option<bool> {
     let (broker, mut pass) = Broker::new(alloc).ok()?;
     let shared = &broker;
@@ -236,7 +236,8 @@ fn batches_keep_the_order(rt: HostRuntime) -> Result<(), Fail> {
     Ok(())
 }
 
-/// What was accepted of the envelopes numbered from 1 up to `end`, as the sum of their numbers. None where a refused one came back as another.
+/// What was accepted of the envelopes numbered from 1 up to `end`, as the sum of their numbers.
+/// None where a refused one came back as another.
 fn accepted<R: Wait>(
     rt: &R,
     alloc: Global,
@@ -279,8 +280,8 @@ fn left<R: Wait>(rt: &R, broker: &Broker, mut pass: BrokerPass) -> Option<u64>
     Some(sum)
 }
 
-/// Whether a broker holds what was accepted, with a split in between that may be refused. The split's mark takes memory
-/// where it begins a block of the queue.
+/// Whether a broker holds what was accepted, with a split in between that may be refused. The
+/// split's mark takes memory where it begins a block of the queue.
 fn holds_accepted<R: Wait>(rt: &R, alloc: Global, end: u64) -> bool {
     let Ok((broker, pass)) = Broker::new(alloc) else {
         return true;

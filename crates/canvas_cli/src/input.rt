@@ -9,8 +9,8 @@ const READ_BYTES: usize = MOST_BYTES + 1;
 
 const CHUNK: usize = 8192;
 
-/// Reads at most `READ_BYTES` bytes in at most that many reads, of which those that are interrupted are some. Where
-/// these end before the text does, that is a fault.
+/// Reads at most `READ_BYTES` bytes in at most that many reads, of which those that are interrupted
+/// are some. Where these end before the text does, that is a fault.
 pub(crate) fn read_text<R: Read>(alloc: Global, reader: &mut R) -> io::Result<Vec<u8>> {
     let mut text = Vec::new(alloc);
     let mut chunk = [0u8; CHUNK];

@@ -1,13 +1,13 @@
 //! Why the program ends without all that it was asked for.
 
-use canvas_engine::{Cause, RunFault};
+use canvas_engine::{Cause, EntryFault, RunFault};
 use canvas_sig::SigFault;
 use canvas_task::Memory;
 use clap::error::ErrorKind;
 use std::fmt;
 
-/// The reason, which is printed as one line on standard error, and decides the status. What the parser of words says
-/// may have several lines.
+/// The reason, which is printed as one line on standard error, and decides the status. What the
+/// parser of words says may have several lines.
 #[derive(Drop)]
 pub(crate) enum Refusal<'w> {
     /// The command line, with what the parser of words says of it.
@@ -18,6 +18,7 @@ pub(crate) enum Refusal<'w> {
     Canvas(SigFault),
     BadWorkers,
     BadTurn,
+    BadAgain,
     Memory,
     Stopped,
     CannotWrite,
@@ -64,6 +65,15 @@ impl<'w> From<RunFault> for Refusal<'w> {
     }
 }
 
+impl<'w> From<EntryFault> for Refusal<'w> {
+    fn from(fault: EntryFault) -> Refusal<'w> {
+        match fault {
+            EntryFault::BadAgain => Refusal::BadAgain,
+            EntryFault::Memory => Refusal::Memory,
+        }
+    }
+}
+
 impl<'w> From<Memory> for Refusal<'w> {
     fn from(_refused: Memory) -> Refusal<'w> {
         Refusal::Memory
@@ -81,6 +91,7 @@ impl fmt::Display for Refusal<'_> {
             }
             Refusal::BadWorkers => writeln!(f, "canvas: refused BadWorkers"),
             Refusal::BadTurn => writeln!(f, "canvas: refused BadTurn"),
+            Refusal::BadAgain => writeln!(f, "canvas: refused BadAgain"),
             Refusal::Memory => writeln!(f, "canvas: memory refused"),
             Refusal::Stopped => writeln!(f, "canvas: stopped"),
             Refusal::CannotWrite => writeln!(f, "canvas: cannot write"),

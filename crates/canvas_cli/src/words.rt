@@ -11,9 +11,16 @@ use std::alloc::{AllocError, Global};
 #[derive(Clone, Copy)]
 pub(crate) enum Verb<'w> {
     /// Its run by some workers on threads, and the report.
-    Run { workers: u32 },
+    Run {
+        workers: u32,
+    },
     /// Its run by some workers that take turns by a list, and the report.
-    Turns { workers: u32, turns: &'w str },
+    Turns {
+        workers: u32,
+        turns: &'w str,
+        /// What is delivered again, where that is asked for.
+        again: Option<&'w str>,
+    },
     /// Its normal line, as JSON.
     Normal,
 }
@@ -27,6 +34,7 @@ impl<'w> Verb<'w> {
             "turns" => Some(Verb::Turns {
                 workers: given.get_one::<u32>("workers")?,
                 turns: given.get_str("turns").unwrap_or(""),
+                again: given.get_str("again"),
             }),
             "normal" => Some(Verb::Normal),
             _ => None,
@@ -73,6 +81,15 @@ fn turns_argument<'a>(alloc: Global) -> Arg<'a> {
         .help("Which worker goes on at each turn, as 1,2,2; behind the list they take turns from 1")
 }
 
+fn again_argument<'a>(alloc: Global) -> Arg<'a> {
+    Arg::new(alloc, "again")
+        .long("again")
+        .value_name("LIST")
+        .help(
+            "What is delivered again, as 1:early,3:late; standard error counts stores that answer Again",
+        )
+}
+
 fn run_command<'a>(alloc: Global) -> Result<Command<'a>, AllocError> {
     Command::new(alloc, "run")
         .about("Runs a canvas and prints the state and result of each task")
@@ -85,7 +102,8 @@ fn turns_command<'a>(alloc: Global) -> Result<Command<'a>, AllocError> {
         .about("Runs a canvas with its workers taking turns by a list, and prints the same")
         .arg(file_argument(alloc))?
         .arg(workers_argument(alloc))?
-        .arg(turns_argument(alloc))
+        .arg(turns_argument(alloc))?
+        .arg(again_argument(alloc))
 }
 
 fn normal_command<'a>(alloc: Global) -> Result<Command<'a>, AllocError> {

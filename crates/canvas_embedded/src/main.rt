@@ -1,5 +1,5 @@
-//! What another program needs of these crates: it composes a canvas, adds a task of its own to a registry, runs the canvas with four
-//! workers and prints the report.
+//! What another program needs of these crates: it composes a canvas, adds a task of its own to a
+//! registry, runs the canvas with four workers and prints the report.
 #![tactic(auto)]
 
 ghost use Rattle.std.specs.Prelude.{◌-ℤ◌, Ok};

@@ -1,9 +1,12 @@
 pub mod ReportLines
 pub mod SameText
-pub mod TurnTexts
+pub mod CommaTexts
+pub mod EntryTexts
 pub mod StageSteps
 pub mod StageAsks
 pub mod StageTurns
+pub mod StageAgain
+pub mod EntryPlaces
 pub mod RoundTurns
 pub mod Opening
 pub mod ReadRows

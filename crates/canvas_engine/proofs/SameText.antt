@@ -1,5 +1,5 @@
 -- What a plan says of the canvas that it was made from.
-use Rattle.std.proofs.Common.{◌≡◌, List, Result, Ok, Err, IfOk, IfErr, OnOk, String, Global, string_bytes, sym, ap, ◌∙◌, subst}
+use Rattle.std.proofs.Common.{◌≡◌, ℕ, List, Result, Ok, Err, IfOk, IfErr, OnOk, String, Global, string_bytes, sym, ap, ◌∙◌, subst}
 use Rattle.canvas_task.specs.Apply.{Behaviour}
 use Rattle.canvas_task.specs.Text.{Text}
 use Rattle.canvas_semantics.specs.NormalLine.{normal}
@@ -11,7 +11,9 @@ use Rattle.canvas_semantics.specs.SameMeaning.{IsSame}
 use Rattle.canvas_semantics.specs.States.{states, rows_from}
 use Rattle.canvas_semantics.proofs.RowNumbers.{states_in, states_listed}
 use Rattle.canvas_semantics.proofs.SameReport.{same_report, same_report_of}
-use Rattle.canvas_engine.specs.Texts.{IsCanvasText, IsPlanFault, IsPlanOfText, IsTextFault}
+use Rattle.canvas_runs.specs.Spending.{Entry}
+use Rattle.canvas_engine.specs.Correct.{IsAsked, IsWholeAgain}
+use Rattle.canvas_engine.specs.Texts.{IsCanvasText, IsPlanFault, IsPlanOfText, IsTextAgain, IsTextFault}
 use Rattle.canvas_engine.specs.declared.fault.RunFault.{RunFault}
 use Rattle.canvas_engine.specs.declared.text.TextFault.{TextFault}
 use Rattle.canvas_engine.specs.declared.text.TextFault.TheVariants as a_fault
@@ -35,7 +37,21 @@ module _ (behaviour : Behaviour) (bytes : Text) (c : Tree) (all : Line) (plan : 
   ran_text Asked (Ok text) k = (c, plan.text, k.0, k.1 ∙ same_text behaviour c all plan.same plan.tree)
   ran_text Asked (Err f) k = tt
 
-  pub ran_fault : (Says : List State → RunFault → Type 0) (r : Result (String Global) TextFault) → IfErr r (IsPlanFault (Says (states behaviour (tree_of all)))) → IfErr r (IsTextFault behaviour bytes Says)
+  pub ran_again : (n : ℕ) (turns : List ℕ) (es : List Entry) (r : Result (String Global × ℕ) TextFault)
+      → IfOk r (λ x. IsAsked n turns × (rows : List State) × (string_bytes x.0 ≡ report_of (tree_of all) (rows_from 1 rows)) × IsWholeAgain behaviour all n turns es rows x.1)
+      → IfOk r (λ x. IsTextAgain behaviour bytes n turns es (string_bytes x.0) x.1)
+  ran_again n turns es (Ok x) k = record {
+    canvas = c;
+    line = all;
+    planned = plan;
+    asked = k.0;
+    reported = k.2 ∙ ap (λ rows. report_of (tree_of all) (rows_from 1 rows)) k.3.are ∙ same_text behaviour c all plan.same plan.tree;
+    rows = k.1;
+    ran = k.3;
+  }
+  ran_again n turns es (Err f) k = tt
+
+  pub ran_fault : {X : Type 0} (Says : List State → RunFault → Type 0) (r : Result X TextFault) → IfErr r (IsPlanFault (Says (states behaviour (tree_of all)))) → IfErr r (IsTextFault behaviour bytes Says)
   ran_fault Says (Ok text) k = tt
   ran_fault Says (Err (a_fault.Sig f)) k = absurd k
   ran_fault Says (Err (a_fault.Run f)) k = let P : List State → Type 0 = λ ss. Says ss f in (c, plan.text, subst P (same_states behaviour c all plan.same plan.tree) k)

@@ -1,6 +1,6 @@
 -- What the answer to an ask of a core leaves, where the queue and the table have changed as they should.
-use Rattle.std.proofs.Common.{◌≡◌, inr, ℕ, zero, suc, Bool, List, [], ◌∷◌, Option, Some, None, Result, Ok, Err, OnOk, OnErr, refl, sym, ap, ◌∙◌, subst}
-use Rattle.std.specs.Prelude.{slice_get}
+use Rattle.std.proofs.Common.{◌≡◌, inr, ℕ, zero, suc, Bool, true, false, List, [], ◌∷◌, Option, Some, None, Result, Ok, Err, OnOk, OnErr, refl, sym, ap, ◌∙◌, subst}
+use Rattle.std.specs.Prelude.{not, slice_get}
 use Rattle.canvas_task.specs.Apply.{Behaviour}
 use Rattle.canvas_task.specs.declared.outcome.Outcome.{Outcome}
 use Rattle.canvas_message.specs.declared.envelope.Envelope.{Envelope}
@@ -9,15 +9,18 @@ use Rattle.canvas_backend.specs.declared.stored.Stored.TheVariants.{First, Again
 use Rattle.canvas_backend.specs.Backend as results
 use Rattle.canvas_backend.specs.Backend.{Results, says_first}
 use Rattle.canvas_backend.specs.Plain.{Shelf, held}
+use Rattle.canvas_runs.specs.Core as C
 use Rattle.canvas_runs.specs.Core.{ReadsBack}
 use Rattle.canvas_runs.specs.Lists.{at}
 use Rattle.canvas_runs.specs.Turns.{queue_next, results_next}
-use Rattle.canvas_worker.specs.Asks.{Asked, Answer, FoundInRange}
+use Rattle.canvas_worker.specs.Asks.{Asked, Answer, FoundInRange, shown}
 use Rattle.canvas_worker.specs.Books.{no_book, book_in}
 use Rattle.canvas_worker.specs.Enveloped.{enveloped_by, no_tasks}
 use Rattle.canvas_worker.specs.Standing.{Standing, asked, after_reply}
+use Rattle.canvas_worker.specs.declared.ask.Ask.{Ask}
+use Rattle.canvas_worker.specs.declared.ask.Ask.TheVariants as A
 use Rattle.canvas_worker.specs.declared.ask.Reply.TheVariants as R
-use Rattle.canvas_engine.specs.steps.Stages.{AnswersNow, AreInRange, Stepped, IsTried}
+use Rattle.canvas_engine.specs.steps.Stages.{AnswersNow, AreInRange, Stepped, IsTried, stores_again, counted_on}
 
 -- ---- an answered ask
 
@@ -88,3 +91,28 @@ each_queue (Err x) P h = tt
 
 pub same_place : (xs : List ℕ) (i t u : ℕ) → at i xs ≡ Some t → slice_get xs i ≡ Some u → t ≡ u
 same_place xs i t u e f = let both : Some t ≡ Some u = sym e ∙ at_place i xs ∙ f in cc
+
+-- ---- stores that answer Again
+
+-- the same of an ask as it is shown
+abbrev pub shown_again : Results → Ask → Bool
+shown_again s (A.Store t o) = not (says_first (results.first_or (s.outcomes t)))
+shown_again s v = false
+
+again_shown : (s : Results) (x : Option ℕ) (a : Asked) (v : Ask) → v ≡ shown x a → stores_again s a ≡ shown_again s v
+again_shown s x a v e = same a ∙ ap (shown_again s) (sym e)
+  where
+    same : (b : Asked) → stores_again s b ≡ shown_again s (shown x b)
+    same C.take = refl
+    same (C.send d) = refl
+    same (C.keep t o) = refl
+    same (C.part g t) = refl
+    same (C.read g i) = refl
+    same C.pause = refl
+    same C.end = refl
+    same C.ack = refl
+    same (C.deliver d) = refl
+
+-- an ask that is no store isn't counted
+pub none_counted : (s : Results) (x : Option ℕ) (a : Asked) (v : Ask) (m : ℕ) → v ≡ shown x a → shown_again s v ≡ false → m ≡ counted_on m (stores_again s a)
+none_counted s x a v m is none = sym (ap (counted_on m) (again_shown s x a v is ∙ none))

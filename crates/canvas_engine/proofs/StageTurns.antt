@@ -1,6 +1,6 @@
 -- A worker's turn: what the queue, the table and the worker's core were tells what may be asked, and what is there after it.
 use Rattle.std.proofs.Common.{◌≡◌, ◌≢◌, ◌<◌, ◌-◌, ◌⊎◌, inl, inr, ℕ, zero, suc, Bool, true, false, List, [], ◌∷◌, ◌++◌, length, Some, refl, sym, ap, ◌∙◌, subst, arith}
-use Rattle.std.specs.Prelude.{◌||◌, slice_get, slice_set}
+use Rattle.std.specs.Prelude.{◌||◌, IsSome, slice_get, slice_set}
 use Rattle.std.specs.List.{list_any}
 use Rattle.canvas_task.specs.Apply.{Behaviour, AnswersInRange}
 use Rattle.canvas_semantics.specs.Line.{Line}
@@ -8,17 +8,21 @@ use Rattle.canvas_backend.specs.Backend.{Results}
 use Rattle.canvas_backend.specs.Plain.{held}
 use Rattle.canvas_backend.specs.Roster.{Roster, roster_of}
 use Rattle.canvas_runs.specs.Core.{take, send, keep, part, read, pause, end, ReadsBack, is_inside, ack, deliver}
+use Rattle.canvas_runs.specs.Spending.{Entry}
 use Rattle.canvas_runs.specs.TurnLaws.{Answerable}
-use Rattle.canvas_runs.specs.Turns.{Step, IsWorker, HasEnded, results_after, results_next, holds_more, is_queued}
+use Rattle.canvas_runs.specs.Turns.{Step, IsWorker, HasEnded, results_after, results_next, is_queued}
 use Rattle.canvas_runs.proofs.TurnLaw.{next_answerable, held_range}
+use Rattle.canvas_runs.proofs.Spending.{again_skip}
 use Rattle.canvas_runs.proofs.Turning.{results_more, turned_skip}
 use Rattle.canvas_worker.specs.Asks.{Asked}
 use Rattle.canvas_worker.specs.Books.{no_book}
 use Rattle.canvas_worker.specs.Enveloped.{enveloped_by, no_tasks}
+use Rattle.canvas_worker.specs.Standing as standing
 use Rattle.canvas_worker.specs.Standing.{Standing, asked}
-use Rattle.canvas_engine.specs.steps.Stages.{MayAsk, AreInRange, Stepped, IsTried, Tried, Reached, HasReached, IsTurn, IsHalfway, IsStopped}
+use Rattle.canvas_engine.specs.steps.Stages.{MayAsk, AreInRange, Stepped, IsTried, Tried, stores_again, counted_on, Redelivers, LeadsTo, Reached, HasReached, IsTurn, IsHalfway, IsStopped}
 use Rattle.canvas_engine.specs.declared.stage.Stage.{Stage}
-use Rattle.canvas_engine.proofs.StageSteps.{IsPut, each_more, has_ended, not_ended, same_ask, more_is, stepped, turned_so}
+use Rattle.canvas_engine.proofs.StageAgain.{one_turn, stood}
+use Rattle.canvas_engine.proofs.StageSteps.{each_more, has_ended, not_ended, same_ask, more_is, turned_so}
 
 -- what is there after a core was put back at its place
 put_at : (cores : List Standing) (i : ℕ) (d : Standing) (j : ℕ) (e : Standing) → slice_get (slice_set cores i d) j ≡ Some e → ((j ≡ i) × (e ≡ d)) ⊎ ((j ≢ i) × (slice_get cores j ≡ Some e))
@@ -54,98 +58,108 @@ may_of plan xs ack h = tt
 may_of plan xs (deliver e) h = tt
 
 abbrev pub HasTurn : (behaviour : Behaviour) → Line → ℕ → Stage → Type 0
-HasTurn behaviour l p s = (n : ℕ) × (most : ℕ) × (us : List ℕ) × IsWorker n p × HasReached behaviour l n most us s
+HasTurn behaviour l p s = (n : ℕ) × (most : ℕ) × (es : List Entry) × (us : List ℕ) × IsWorker n p × HasReached behaviour l n most es us s
 
 module _ (behaviour : Behaviour) (fits : AnswersInRange behaviour) (l : Line) (p : ℕ) (s : Stage) (turn : HasTurn behaviour l p s) where
   pub is_place : p - 1 < length s.cores.items
-  is_place = omega (arith, turn.3.0, turn.3.1, turn.4.1.many)
+  is_place = omega (arith, turn.4.0, turn.4.1, turn.5.1.leads.many)
 
   same_number : suc (p - 1) ≡ p
-  same_number = omega (arith, turn.3.0)
+  same_number = omega (arith, turn.4.0)
 
   module _ (core : Standing) (here : slice_get s.cores.items (p - 1) ≡ Some core) where
     pub not_out : core.is_out ≡ false
-    not_out = (turn.4.1.cores_are (p - 1) core here).1
+    not_out = (turn.5.1.leads.cores_are (p - 1) core here).is_in
 
-    module _ (n most : ℕ) (us : List ℕ) (xs : List Step) (reached : Reached behaviour l n most us xs s) where
+    pub has_open : is_inside core.left ≡ true → IsSome (standing.held core)
+    has_open = (turn.5.1.leads.cores_are (p - 1) core here).has_one
+
+    module _ (n most : ℕ) (es : List Entry) (us : List ℕ) (xs : List Step) (reached : Reached behaviour l n most es us xs s) where
       own : IsWorker n p
-      own = (turn.3.0, omega (arith, turn.3.1, turn.4.1.many, reached.many))
+      own = (turn.4.0, omega (arith, turn.4.1, turn.5.1.leads.many, reached.leads.many))
 
-      pub skipped : ReadsBack (enveloped_by no_tasks no_book) core.left → asked core.left ≡ end → HasEnded behaviour l xs p × Reached behaviour l n most (us ++ p ∷ []) xs s
+      own_place : IsWorker n (suc (p - 1))
+      own_place = subst (IsWorker n) (sym same_number) own
+
+      pub skipped : ReadsBack (enveloped_by no_tasks no_book) core.left → asked core.left ≡ end → HasEnded behaviour l xs p × Reached behaviour l n most es (us ++ p ∷ []) xs s
       skipped back e =
-          let ended : HasEnded behaviour l xs p = subst (HasEnded behaviour l xs) same_number (has_ended behaviour l n most us xs s reached (p - 1) core here back e) in (
+          let leads = reached.leads in
+          let ended : HasEnded behaviour l xs p = subst (HasEnded behaviour l xs) same_number (has_ended behaviour l n us xs s leads (p - 1) core here back e) in (
             ended,
             record {
-              by_turns = record {
-                plan = reached.by_turns.plan;
-                opens_back = reached.by_turns.opens_back;
-                workers = each_more us p reached.by_turns.workers own;
-                turned = turned_skip behaviour l n us xs p reached.by_turns.turned ended;
+              leads = record {
+                by_turns = record {
+                  plan = leads.by_turns.plan;
+                  opens_back = leads.by_turns.opens_back;
+                  workers = each_more us p leads.by_turns.workers own;
+                  turned = turned_skip behaviour l n us xs p leads.by_turns.turned ended;
+                };
+                runs = leads.runs;
+                queue_is = leads.queue_is;
+                plan_is = leads.plan_is;
+                table_is = leads.table_is;
+                many = leads.many;
+                cores_are = leads.cores_are;
               };
-              runs = reached.runs;
-              plain = reached.plain;
-              queue_is = reached.queue_is;
-              plan_is = reached.plan_is;
-              table_is = reached.table_is;
-              many = reached.many;
-              cores_are = reached.cores_are;
+              turned = again_skip behaviour l n es us xs s.again.items reached.turned p ended;
+              agains = reached.agains;
               count = reached.count;
             },
           )
 
-      pub stopped : ReadsBack (enveloped_by no_tasks no_book) core.left → (asked core.left ≡ end → ⊥) → s.steps ≡ 0 → IsStopped behaviour l n most us s
+      pub stopped : ReadsBack (enveloped_by no_tasks no_book) core.left → (asked core.left ≡ end → ⊥) → s.steps ≡ 0 → IsStopped behaviour l n most es us s
       stopped back going none = record {
         steps = xs;
         reached = reached;
         none_left = none;
         going = p;
         is_worker = own;
-        has_more = λ e. not_ended behaviour l n most us xs s reached (p - 1) core here back going (subst (HasEnded behaviour l xs) (sym same_number) e);
+        has_more = λ e. not_ended behaviour l n us xs s reached.leads (p - 1) core here back going (subst (HasEnded behaviour l xs) (sym same_number) e);
       }
 
       may_here : ReadsBack (enveloped_by no_tasks no_book) core.left → MayAsk (roster_of l) (results_after xs) (asked core.left)
       may_here back =
           may_of (roster_of l) xs (asked core.left)
-          (subst (Answerable (roster_of l) xs) (sym (same_ask behaviour l n most us xs s reached (p - 1) core here back))
-          (next_answerable behaviour l n us xs reached.by_turns fits (suc (p - 1)) (subst (IsWorker n) (sym same_number) own)))
+          (subst (Answerable (roster_of l) xs) (sym (same_ask behaviour l n us xs s reached.leads (p - 1) core here back))
+          (next_answerable behaviour l n us xs reached.leads.by_turns fits (suc (p - 1)) own_place))
 
       pub may_ask : ReadsBack (enveloped_by no_tasks no_book) core.left → MayAsk s.table.plan (held s.table) (asked core.left)
       may_ask back =
-          subst (λ plan. MayAsk plan (held s.table) (asked core.left)) (sym reached.plan_is)
-          (subst (λ t. MayAsk (roster_of l) t (asked core.left)) (sym reached.table_is) (may_here back))
+          subst (λ plan. MayAsk plan (held s.table) (asked core.left)) (sym reached.leads.plan_is)
+          (subst (λ t. MayAsk (roster_of l) t (asked core.left)) (sym reached.leads.table_is) (may_here back))
 
       pub held_in_range : AreInRange (held s.table)
-      held_in_range t o e = (held_range behaviour l n us xs reached.by_turns fits t o (ap (λ (r : Results). r.outcomes t) (sym reached.table_is) ∙ e)).1
+      held_in_range t o e = (held_range behaviour l n us xs reached.leads.by_turns fits t o (ap (λ (r : Results). r.outcomes t) (sym reached.leads.table_is) ∙ e)).1
 
-      module _ (more : Bool) (told : asked core.left ≡ pause → more ≡ (is_queued s.queue || list_any (λ c. is_inside c.left) s.cores.items)) where
-        more_so : asked core.left ≡ pause → more ≡ holds_more behaviour l n xs
-        more_so e = told e ∙ more_is behaviour l n most us xs s reached
+      module _ (t : Stage) (gone : Redelivers core s t) (more : Bool) (told : asked core.left ≡ pause → more ≡ (is_queued t.queue || list_any (λ c. is_inside c.left) t.cores.items)) where
+        here_then : slice_get t.cores.items (p - 1) ≡ Some core
+        here_then = ap (λ z. slice_get z.items (p - 1)) gone.others.1 ∙ here
 
-        pub went : (s' : Stage) (core' : Standing) → Stepped behaviour more core s.queue s.table core' s'.queue s'.table → s'.cores.items ≡ slice_set s.cores.items (p - 1) core' → s.steps ≡ suc s'.steps → IsTurn behaviour true l n most us xs p s'
-        went s' core' step put fewer =
-            let as_put : IsPut behaviour l n most us xs s reached (p - 1) core here more more_so s.cores.items core' s'.cores.items =
-            (ap length put ∙ put_length s.cores.items (p - 1) core', λ j e h. put_at s.cores.items (p - 1) core' j e (ap (λ cs. slice_get cs j) (sym put) ∙ h)) in
-            subst (λ q. IsTurn behaviour true l n most us xs q s') same_number
-            (stepped behaviour l n most us xs s reached (p - 1) core here more more_so s' core' (subst (IsWorker n) (sym same_number) own) step as_put fewer)
+        pub went : (s' : Stage) (core' : Standing) → Stepped behaviour more core t.queue t.table core' s'.queue s'.table → s'.cores.items ≡ slice_set t.cores.items (p - 1) core' → t.steps ≡ suc s'.steps
+            → s'.repeats ≡ counted_on t.repeats (stores_again (held t.table) (asked core.left)) → s'.again.items ≡ t.again.items → IsTurn behaviour true l n most es us xs p s'
+        went s' core' step put fewer said kept =
+            subst (λ q. IsTurn behaviour true l n most es us xs q s') same_number
+            (one_turn behaviour l n most es us xs s reached (p - 1) core here own_place t gone more told s' core' step
+            (ap length put ∙ put_length t.cores.items (p - 1) core', λ j e h. put_at t.cores.items (p - 1) core' j e (ap (λ cs. slice_get cs j) (sym put) ∙ h)) fewer said kept)
 
-        pub halfway : (s' : Stage) → IsTried behaviour more core s.queue s.table s'.table → IsHalfway behaviour l n s'
-        halfway s' tried = go tried.1
+        pub halfway : (s' : Stage) → IsTried behaviour more core t.queue t.table s'.table → IsHalfway behaviour l n s'
+        halfway s' tried = go (stood behaviour l n us xs s reached.leads (p - 1) core here own_place t gone) tried.1
           where
-            go : (held s'.table ≡ held s.table) ⊎ Tried behaviour more core s.queue s.table s'.table → IsHalfway behaviour l n s'
-            go (inl same) = record { turns = us; steps = xs; by_turns = reached.by_turns; plan_is = tried.0 ∙ reached.plan_is; table_is = same ∙ reached.table_is }
-            go (inr t) =
-                let x : Step = (suc (p - 1), (asked core.left, t.reply)) in
+            go : ((ys : List Step) × LeadsTo behaviour l n us ys t) → (held s'.table ≡ held t.table) ⊎ Tried behaviour more core t.queue t.table s'.table → IsHalfway behaviour l n s'
+            go (ys, leads) (inl same) = record { turns = us; steps = ys; by_turns = leads.by_turns; plan_is = tried.0 ∙ leads.plan_is; table_is = same ∙ leads.table_is }
+            go (ys, leads) (inr r) =
+                let x : Step = (suc (p - 1), (asked core.left, r.reply)) in
                 record {
                   turns = us ++ suc (p - 1) ∷ [];
-                  steps = xs ++ x ∷ [];
+                  steps = ys ++ x ∷ [];
                   by_turns = record {
-                    plan = reached.by_turns.plan;
-                    opens_back = reached.by_turns.opens_back;
-                    workers = each_more us (suc (p - 1)) reached.by_turns.workers (subst (IsWorker n) (sym same_number) own);
-                    turned = turned_so behaviour l n most us xs s reached (p - 1) core here more more_so t.reply t.reads_back t.answers;
+                    plan = leads.by_turns.plan;
+                    opens_back = leads.by_turns.opens_back;
+                    workers = each_more us (suc (p - 1)) leads.by_turns.workers own_place;
+                    turned = turned_so behaviour l n us ys t leads (p - 1) core here_then more (λ e. told e ∙ more_is behaviour l n us ys t leads) r.reply r.reads_back r.answers;
                   };
-                  plan_is = tried.0 ∙ reached.plan_is;
-                  table_is = t.table_is ∙ ap (λ r. results_next r (asked core.left)) reached.table_is ∙ sym (results_more _ xs x);
+                  plan_is = tried.0 ∙ leads.plan_is;
+                  table_is = r.table_is ∙ ap (λ z. results_next z (asked core.left)) leads.table_is ∙ sym (results_more _ ys x);
                 }
 
 pub same_core : (cores : List Standing) (i : ℕ) (c d : Standing) → slice_get cores i ≡ Some c → slice_get cores i ≡ Some d → c ≡ d

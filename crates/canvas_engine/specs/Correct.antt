@@ -1,10 +1,12 @@
--- What a run promises, whatever the number of workers and the order of their calls or turns: each task has the state that evaluating the
--- canvas gives, as the Canvas user guide has it. A run that ended early has rows that are pending, or these.
+-- What a run promises, whatever the number of workers and the order of their calls or turns: each
+-- task has the state that evaluating the canvas gives, as the Canvas user guide has it. A run that
+-- ended early has rows that are pending, or these.
 --     AreWorkers n, AreTurns n turns         1 to 16 workers, and each turn is of one of them; IsAsked says both
 --     IsRun l n rows records                 rows of a run on threads, with what its queue, its table and its workers saw and counted
 --     IsThreadFault n states fault           why a run on threads has no whole report
 --     IsWholeRun l n turns rows              rows of a run by these turns, and then in rotation, that went on until all workers had ended
 --     IsWholeWithin l n turns most rows      of at most so many steps
+--     IsWholeAgain l n turns es rows m       of a run in which the entries say what is delivered again, and how many of its stores answered Again
 --     IsCut l n turns steps rows             rows of a run that was cut off after so many steps, with some worker that had not ended
 --     IsRunFault, IsFaultWithin              why a run by turns, and one of at most so many steps, has no whole report
 use Rattle.std.specs.Prelude.{◌≡◌, ◌≤◌, ℕ, suc, List, [], ◌∷◌, ◌++◌, All, length, map, Option, Some, None}
@@ -29,7 +31,8 @@ use Rattle.canvas_runs.specs.Run.{Run, Closed, published_all}
 use Rattle.canvas_runs.specs.Tally.{Tally as Counts, CountsOf}
 use Rattle.canvas_runs.specs.Worker.{sealed}
 use Rattle.canvas_runs.specs.TurnLaws.{held_rows}
-use Rattle.canvas_runs.specs.Turns.{IsWorker, RanWhole, RanUntil}
+use Rattle.canvas_runs.specs.Spending.{Entry, RanAgain, RunEntries, agains_in}
+use Rattle.canvas_runs.specs.Turns.{IsWorker, RanWhole, RanUntil, redeliveries_in}
 use Rattle.canvas_engine.specs.declared.records.Records.{Records}
 use Rattle.canvas_engine.specs.declared.records.Tally.{Tally}
 use Rattle.canvas_engine.specs.declared.report.Report.{Report}
@@ -47,21 +50,37 @@ AreTurns n turns = All (IsWorker n) turns
 abbrev pub IsAsked : ℕ → List ℕ → Type 0
 IsAsked n turns = AreWorkers n × AreTurns n turns
 
-pub record IsWholeRun (behaviour : Behaviour) (l : Line) (n : ℕ) (turns : List ℕ) (rows : List State) : Type 0 where
+pub record IsWholeRun (behaviour : Behaviour) (l : Line) (n : ℕ) (turns : List ℕ)
+    (rows : List State) : Type 0 where
   pub run : RanWhole behaviour l n turns
+  -- nothing is delivered again
+  pub plain : redeliveries_in run.steps ≡ 0
   pub rows_held : rows ≡ held_rows l run.steps
   -- what evaluating the plan's tree gives
   pub are : rows ≡ states behaviour (tree_of l)
 
 abbrev pub IsWholeWithin : (behaviour : Behaviour) → Line → ℕ → List ℕ → ℕ → List State → Type 0
-IsWholeWithin behaviour l n turns most rows = (whole : IsWholeRun behaviour l n turns rows) × (length whole.run.steps ≤ most)
+IsWholeWithin behaviour l n turns most rows =
+    (whole : IsWholeRun behaviour l n turns rows) × (length whole.run.steps ≤ most)
 
-pub record IsCut (behaviour : Behaviour) (l : Line) (n : ℕ) (turns : List ℕ) (steps : ℕ) (rows : List State) : Type 0 where
+pub record IsWholeAgain (behaviour : Behaviour) (l : Line) (n : ℕ) (turns : List ℕ)
+    (es : List Entry) (rows : List State) (m : ℕ) : Type 0 where
+  pub run : RanAgain behaviour l n turns es
+  pub rows_held : rows ≡ held_rows l run.steps
+  -- what evaluating the plan's tree gives, whatever is delivered again
+  pub are : rows ≡ states behaviour (tree_of l)
+  -- m of the run's stores answered Again, and m of the entries are of tasks that evaluation runs
+  pub again : m ≡ agains_in run.steps
+  pub number : RunEntries behaviour l es m
+
+pub record IsCut (behaviour : Behaviour) (l : Line) (n : ℕ) (turns : List ℕ) (steps : ℕ)
+    (rows : List State) : Type 0 where
   pub run : RanUntil behaviour l n turns steps
   pub rows_held : rows ≡ held_rows l run.steps
   pub may : EachMay rows (states behaviour (tree_of l))
 
--- The rows that are given. None are where memory was refused before the first publish, or on threads to a worker's executor.
+-- The rows that are given. None are where memory was refused before the first publish, or on
+-- threads to a worker's executor.
 abbrev pub GivesRows : Option Report → List State → Type 0
 GivesRows None ss = Unit {0}
 GivesRows (Some report) ss = EachMay report.rows ss
@@ -81,30 +100,48 @@ IsRunFault n turns ss (Halted Stopped rows) = ⊥
 abbrev pub IsFaultWithin : (behaviour : Behaviour) → Line → ℕ → List ℕ → ℕ → RunFault → Type 0
 IsFaultWithin behaviour l n turns steps BadWorkers = AreWorkers n → ⊥
 IsFaultWithin behaviour l n turns steps BadTurn = AreWorkers n × (AreTurns n turns → ⊥)
-IsFaultWithin behaviour l n turns steps (Halted Memory rows) = IsAsked n turns × GivesRows rows (states behaviour (tree_of l))
-IsFaultWithin behaviour l n turns steps (Halted Stopped rows) = IsAsked n turns × GivesCut behaviour rows l n turns steps
+IsFaultWithin behaviour l n turns steps (Halted Memory rows) =
+    IsAsked n turns × GivesRows rows (states behaviour (tree_of l))
+IsFaultWithin behaviour l n turns steps (Halted Stopped rows) =
+    IsAsked n turns × GivesCut behaviour rows l n turns steps
 
 -- ---- on threads
 
 abbrev pub counts_of : Tally → Counts
-counts_of t = record { taken = t.taken; published = t.published; first = t.first; parts = t.parts; dropped = t.dropped }
+counts_of t =
+    record {
+      taken = t.taken;
+      published = t.published;
+      first = t.first;
+      parts = t.parts;
+      dropped = t.dropped;
+    }
 
--- of workers numbered from k on: each tally counts the entries of its worker in both lists, and nothing was dropped
+-- of workers numbered from k on: each tally counts the entries of its worker in both lists, and
+-- nothing was dropped
 abbrev pub AreTallies : List (Entries Envelope) → Log → ℕ → List Tally → Type 0
 AreTallies queue table k [] = Unit {0}
-AreTallies queue table k (t ∷ ts) = (t.number ≡ k) × CountsOf queue table k (counts_of t) × AreTallies queue table (suc k) ts
+AreTallies queue table k (t ∷ ts) =
+    (t.number ≡ k) × CountsOf queue table k (counts_of t) × AreTallies queue table (suc k) ts
 
-pub record IsRun (behaviour : Behaviour) (l : Line) (n : ℕ) (rows : List State) (r : Records) : Type 0 where
+pub record IsRun (behaviour : Behaviour) (l : Line) (n : ℕ) (rows : List State) (r : Records) :
+    Type 0 where
   -- the pass and the seat are of this queue and this table, which is one of the plan
   pub objects : (r.pass.of ≡ r.broker) × (r.seat.of ≡ r.backend.id) × (r.backend.plan ≡ roster_of l)
-  -- Each of the n workers, and worker 0, has followed a core run. Worker 0 published all first messages before, and read each task at the end: these are the rows.
+  -- Each of the n workers, and worker 0, has followed a core run. Worker 0 published all first
+  -- messages before, and read each task at the end: these are the rows.
   pub ran : RanWell behaviour l r.pass r.seat rows
   -- the last that each asked was a rest, which was answered with no more
-  pub over : IsOver ran.to.ran.own × Each (λ (m : Mate behaviour (roster_of l)). IsOver m.ended) ran.to.ran.mates
+  pub over : IsOver ran.to.ran.own
+      × Each (λ (m : Mate behaviour (roster_of l)). IsOver m.ended) ran.to.ran.mates
   pub workers : length ran.to.ran.mates ≡ n
-  -- The broker has one legal history, and the backend one. Of each worker they have just its calls, each once and in its order; worker i is the i-th that is named in each.
-  pub of_broker : QueueAccounts behaviour (roster_of l) ran.to.ran.mates (published_all (map sealed ran.to.ran.opening)) ran.to.ran.works.made (broker_calls_seen r.pass)
-  pub of_backend : TableAccounts behaviour (roster_of l) ran.to.ran.mates (backend_calls ran.to.ran.works.run ++ ran.to.ran.closing) r.seat.seen
+  -- The broker has one legal history, and the backend one. Of each worker they have just its calls,
+  -- each once and in its order; worker i is the i-th that is named in each.
+  pub of_broker : QueueAccounts behaviour (roster_of l) ran.to.ran.mates
+      (published_all (map sealed ran.to.ran.opening)) ran.to.ran.works.made
+      (broker_calls_seen r.pass)
+  pub of_backend : TableAccounts behaviour (roster_of l) ran.to.ran.mates
+      (backend_calls ran.to.ran.works.run ++ ran.to.ran.closing) r.seat.seen
   -- they are those of a closed run of the plan
   pub run : Run behaviour l
   pub queue : run.queue ≡ broker_calls_seen r.pass
@@ -113,8 +150,9 @@ pub record IsRun (behaviour : Behaviour) (l : Line) (n : ℕ) (rows : List State
   -- what worker 0 counted, and each further one, in the order of their numbers
   pub tallies : AreTallies (broker_calls_seen r.pass) r.seat.seen 0 r.workers
   pub each_tally : length r.workers ≡ suc n
-  -- each envelope that is published reads as the message of a task, each message is published at most once, and by the worker that brought about the event which
-  -- runs its task: a body's by the one whose part completed its header
+  -- each envelope that is published reads as the message of a task, each message is published at
+  -- most once, and by the worker that brought about the event which runs its task: a body's by the
+  -- one whose part completed its header
   pub once : (k : ℕ) → publishes l k (broker_calls_seen r.pass) ≤ 1
   pub by_cause : ByCause behaviour l (broker_calls_seen r.pass) r.seat.seen
   pub by_its_cause : ByItsCause behaviour l (broker_calls_seen r.pass) r.seat.seen
@@ -122,7 +160,8 @@ pub record IsRun (behaviour : Behaviour) (l : Line) (n : ℕ) (rows : List State
   -- what evaluating the plan's tree gives
   pub are : rows ≡ states behaviour (tree_of l)
 
--- Why a run on threads has no whole report, where these are the states. Without rows it is for memory that was refused: before the first publish, or to an executor.
+-- Why a run on threads has no whole report, where these are the states. Without rows it is for
+-- memory that was refused: before the first publish, or to an executor.
 abbrev pub IsThreadFault : ℕ → List State → RunFault → Type 0
 IsThreadFault n ss BadWorkers = AreWorkers n → ⊥
 IsThreadFault n ss BadTurn = ⊥

@@ -1,4 +1,6 @@
 pub mod Correct
+pub mod CommaList
+pub mod EntryList
 pub mod Texts
 pub mod TurnList
 pub mod steps

@@ -1,5 +1,6 @@
--- The report of a text: of the canvas that it reads as (JSON, RFC 8259; signatures as Celery writes them); or why there is none.
-use Rattle.std.specs.Prelude.{◌≡◌, List, Ok, Err}
+-- The report of a text: of the canvas that it reads as (JSON, RFC 8259; signatures as Celery writes
+-- them); or why there is none.
+use Rattle.std.specs.Prelude.{◌≡◌, ℕ, List, Ok, Err}
 use Rattle.canvas_task.specs.Apply.{Behaviour}
 use Rattle.canvas_sig.specs.CanvasText.{text_reading}
 use Rattle.canvas_task.specs.Text.{Text}
@@ -7,8 +8,11 @@ use Rattle.canvas_semantics.specs.NormalLine.{normal}
 use Rattle.canvas_semantics.specs.Tree.{Tree, numbered}
 use Rattle.canvas_semantics.specs.Evaluation.{State}
 use Rattle.canvas_semantics.specs.Line.{Line, tree_of}
+use Rattle.canvas_semantics.specs.Report.{report}
 use Rattle.canvas_semantics.specs.SameMeaning.{IsSame}
 use Rattle.canvas_semantics.specs.States.{states}
+use Rattle.canvas_runs.specs.Spending.{Entry}
+use Rattle.canvas_engine.specs.Correct.{IsAsked, IsWholeAgain}
 use Rattle.canvas_engine.specs.declared.fault.RunFault.{RunFault}
 use Rattle.canvas_engine.specs.declared.text.TextFault.{TextFault}
 use Rattle.canvas_engine.specs.declared.text.TextFault.TheVariants.{Sig, Run, Memory}
@@ -29,11 +33,28 @@ pub record IsPlanOfText (bytes : Text) (c : Tree) (all : Line) : Type 0 where
   pub same : IsSame (normal c) c
   pub tree : tree_of all ≡ numbered (normal c)
 
--- Why a text has no report: its first refusal; else, of the run of the canvas that it reads as; or memory that was refused before the run or after it. `Says` is what a fault of a run with these states says.
-abbrev pub IsTextFault : (behaviour : Behaviour) → Text → (List State → RunFault → Type 0) → TextFault → Type 0
+-- Why a text has no report: its first refusal; else, of the run of the canvas that it reads as; or
+-- memory that was refused before the run or after it. `Says` is what a fault of a run with these
+-- states says.
+abbrev pub IsTextFault : (behaviour : Behaviour) → Text → (List State → RunFault → Type 0)
+    → TextFault → Type 0
 IsTextFault behaviour bytes Says (Sig e) = text_reading bytes ≡ Err e
-IsTextFault behaviour bytes Says (Run f) = (c : Tree) × IsCanvasText bytes c × Says (states behaviour (numbered c)) f
+IsTextFault behaviour bytes Says (Run f) =
+    (c : Tree) × IsCanvasText bytes c × Says (states behaviour (numbered c)) f
 IsTextFault behaviour bytes Says Memory = Unit {0}
+
+-- The text is the report of the canvas that the bytes read as, and m of the stores of a run of its
+-- plan's line by these turns, with these entries, answered Again: as many as there are entries for
+-- tasks that evaluation runs.
+pub record IsTextAgain (behaviour : Behaviour) (bytes : Text) (n : ℕ) (turns : List ℕ)
+    (es : List Entry) (text : Text) (m : ℕ) : Type 0 where
+  pub canvas : Tree
+  pub line : Line
+  pub planned : IsPlanOfText bytes canvas line
+  pub asked : IsAsked n turns
+  pub reported : text ≡ report behaviour canvas
+  pub rows : List State
+  pub ran : IsWholeAgain behaviour line n turns es rows m
 
 -- of a plan's run, whose faults say this
 abbrev pub IsPlanFault : (RunFault → Type 0) → TextFault → Type 0

@@ -1,4 +1,5 @@
 pub mod Stages
+pub mod AgainRuns
 pub mod ReportRows
 pub mod Crews
 pub mod Slots

@@ -25,7 +25,8 @@ fn split_one<R: Wait>(
     requires own { (pass.old.of ≡ broker.now) × (seat.old.of ≡ backend.now.id) }
     ensures own { (pass.new.of ≡ broker.now) × (seat.new.of ≡ backend.now.id) }
     ensures ready { IfOk result (IsReadySlot broker.now backend.now.id) }
-    ensures part { IfOk result (λ slot. IsSplitOff backend.now.plan number pass.old seat.old slot pass.new seat.new) }
+    ensures part { IfOk result
+        (λ slot. IsSplitOff backend.now.plan number pass.old seat.old slot pass.new seat.new) }
 {
     match broker.split(rt, pass) {
         Ok(new_pass) => match backend.split(seat) {
@@ -53,7 +54,8 @@ pub(crate) fn split_all<R: Wait>(
     ensures own { (pass.new.of ≡ broker.now) × (seat.new.of ≡ backend.now.id) }
     ensures count { IfOk result (λ slots. length slots.items ≡ workers) }
     ensures ready { IfOk result (λ slots. All (IsReadySlot broker.now backend.now.id) slots.items) }
-    ensures parts { IfOk result (λ slots. SplitsOff backend.now.plan 1 pass.old seat.old slots.items pass.new seat.new) }
+    ensures parts { IfOk result
+        (λ slots. SplitsOff backend.now.plan 1 pass.old seat.old slots.items pass.new seat.new) }
 {
     let mut slots = Vec::new(alloc);
     for index in 0..workers {
@@ -65,13 +67,15 @@ pub(crate) fn split_all<R: Wait>(
 
 /// Whether each worker has left a record.
 pub(crate) fn are_done(slots: &[Slot]) -> bool
-    ensures { MatchBool result (All (λ s. LeftARecord s.post) slots.now) (All (λ s. LeftARecord s.post) slots.now → ⊥) }
+    ensures { MatchBool result (All (λ s. LeftARecord s.post) slots.now)
+        (All (λ s. LeftARecord s.post) slots.now → ⊥) }
 {
     slots.iter().all(|slot| slot.is_done())
 }
 
 fn are_well(slots: &[Slot]) -> bool
-    ensures { MatchBool result (All (λ s. IsWell s.post) slots.now) (All (λ s. IsWell s.post) slots.now → ⊥) }
+    ensures { MatchBool result (All (λ s. IsWell s.post) slots.now)
+        (All (λ s. IsWell s.post) slots.now → ⊥) }
 {
     slots.iter().all(|slot| slot.is_well())
 }
@@ -102,7 +106,8 @@ fn tally_all(slots: &[Slot], tallies: &mut Vec<Tally>) -> Result<(), Memory>
 
 /// Counts what the workers did, behind what is there, and says why they ended early, if any did.
 pub(crate) fn judge(slots: &[Slot], tallies: &mut Vec<Tally>) -> Option<Cause>
-    ensures { IfNone result (All (λ s. IsWell s.post) slots.now × (tallies.new.items ≡ tallies.old.items ++ map tally_in slots.now)) }
+    ensures { IfNone result (All (λ s. IsWell s.post) slots.now
+        × (tallies.new.items ≡ tallies.old.items ++ map tally_in slots.now)) }
 {
     match tally_all(slots, tallies) {
         Ok(()) => fault_of(slots),

@@ -19,11 +19,13 @@ pub enum RunFault {
     /// A turn is of no worker.
     #[error("BadTurn")]
     BadTurn,
-    /// The run ended early. `rows` is what it has stored, a row for each task; where the first messages could not be published all of them are pending.
+    /// The run ended early. `rows` is what it has stored, a row for each task; where the first
+    /// messages could not be published all of them are pending.
     ///
-    /// On threads it is None where memory was refused before the first publish was tried, and where a worker's executor failed: tasks may have run then,
-    /// and the cause is Memory. By turns it is None where there was no memory for the rows, the workers or the table; from the making of the first
-    /// messages on there are rows.
+    /// On threads it is None where memory was refused before the first publish was tried, and where
+    /// a worker's executor failed: tasks may have run then, and the cause is Memory. By turns it is
+    /// None where there was no memory for the rows, the workers or the table; from the making of
+    /// the first messages on there are rows.
     #[error("{cause}")]
     Halted { cause: Cause, rows: Option<Report> },
 }

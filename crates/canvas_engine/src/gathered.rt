@@ -45,7 +45,8 @@ fn read_row(backend: &Backend, seat: &mut BackendSeat, number: u32) -> Option<Ou
     requires own { seat.old.of ≡ backend.now.id }
     requires task { (1 ≤ number) × (number ≤ backend.now.plan.tasks) }
     ensures own { seat.new.of ≡ backend.now.id }
-    ensures read { Stands backend.now.plan seat.old (calls seat.old.name (read number) (found result)) seat.new }
+    ensures read { Stands backend.now.plan seat.old
+        (calls seat.old.name (read number) (found result)) seat.new }
 {
     match TaskNo::new(number) {
         Some(task) => backend.read(seat, task),
@@ -66,7 +67,8 @@ fn read_rows(backend: &Backend, seat: &mut BackendSeat, plan: &Plan, rows: &mut 
     }
 }
 
-/// Worker 0's own work, once it has taken in all others: it goes on by itself until it finds nothing. None where its executor failed.
+/// Worker 0's own work, once it has taken in all others: it goes on by itself until it finds
+/// nothing. None where its executor failed.
 fn work_alone<R: Wait + RandomSource + AllocGlobal, T: Tasks>(
     rt: &R,
     alloc: Global,
@@ -101,7 +103,8 @@ impl Gathered {
         cause: Cause,
     ) -> RunFault
         requires workers { AreWorkers workers }
-        requires gathered { (cause : Option Cause) × AreGathered (T.behaviour tasks.now) plan.now workers cause self }
+        requires gathered { (cause : Option Cause)
+            × AreGathered (T.behaviour tasks.now) plan.now workers cause self }
         ensures { IsThreadFault workers (states (T.behaviour tasks.now) (tree_of plan.now)) result }
     {
         // For the clauses alone.
@@ -128,8 +131,10 @@ impl Gathered {
     ) -> Result<(Report, Records), RunFault>
         requires workers { AreWorkers workers }
         requires gathered { AreGathered (T.behaviour tasks.now) plan.now workers None self }
-        ensures ok { IfOk result (λ r. IsRun (T.behaviour tasks.now) plan.now workers r.0.rows r.1) }
-        ensures err { IfErr result (IsThreadFault workers (states (T.behaviour tasks.now) (tree_of plan.now))) }
+        ensures ok { IfOk result
+            (λ r. IsRun (T.behaviour tasks.now) plan.now workers r.0.rows r.1) }
+        ensures err { IfErr result
+            (IsThreadFault workers (states (T.behaviour tasks.now) (tree_of plan.now))) }
     {
         let Gathered {
             broker,

@@ -8,8 +8,9 @@ use futures::task::{Context, Poll};
 /// How many polls are made in a row.
 const ROUND: u32 = 32;
 
-/// A future that polls another so many times in a row while that is pending, and then asks for one more round: what an executor does
-/// between two polls costs a part of what a light message does. It suits a future that yields and waits for no other task.
+/// A future that polls another so many times in a row while that is pending, and then asks for one
+/// more round: what an executor does between two polls costs a part of what a light message does.
+/// It suits a future that yields and waits for no other task.
 #[derive(Drop)]
 pub(crate) struct InRounds<F> {
     pub future: F,

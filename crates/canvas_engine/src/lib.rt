@@ -1,7 +1,10 @@
 //! Runs of canvases and their reports.
 #![tactic(auto)]
 
+mod comma_list;
 mod crew;
+mod entries;
+mod entry_list;
 mod fault;
 mod firsts;
 mod gathered;
@@ -17,11 +20,12 @@ mod threads;
 mod turn_list;
 mod turns;
 
-pub use canvas_worker::{Cause, Gate, OpenGate, Stop};
+pub use canvas_worker::{Cause, Gate, OpenGate, Stop, When};
+pub use entry_list::{EntryFault, read_again};
 pub use fault::{MOST_WORKERS, RunFault};
 pub use records::{Records, Tally};
 pub use report::{Report, report_text};
 pub use running::run;
-pub use text::{TextFault, rows_text, run_text, run_text_threads};
+pub use text::{TextFault, rows_text, run_text, run_text_again, run_text_threads};
 pub use turn_list::read_turns;
-pub use turns::{run_turns, run_turns_within};
+pub use turns::{run_turns, run_turns_again, run_turns_within};

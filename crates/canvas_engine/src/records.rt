@@ -8,8 +8,8 @@ use canvas_broker::{Broker, BrokerPass};
 use canvas_task::ListOf;
 use canvas_worker::Record;
 
-/// What a worker counted: envelopes taken, publishes accepted, stores that were the first of their task, parts returned and envelopes
-/// dropped. A count stays at its greatest value.
+/// What a worker counted: envelopes taken, publishes accepted, stores that were the first of their
+/// task, parts returned and envelopes dropped. A count stays at its greatest value.
 #[derive(Clone, Copy, Debug, PartialEq, Eq)]
 pub struct Tally {
     /// 0 of the worker that takes in all others, which are numbered from 1.
@@ -55,7 +55,15 @@ impl Tally {
 
     /// With further publishes.
     pub(crate) fn with_published(self, further: usize) -> Tally
-        ensures { result ≡ record { number = self.number; taken = self.taken; published = min greatest_count (self.published + further); first = self.first; parts = self.parts; dropped = self.dropped } }
+        ensures { result
+            ≡ record {
+              number = self.number;
+              taken = self.taken;
+              published = min greatest_count (self.published + further);
+              first = self.first;
+              parts = self.parts;
+              dropped = self.dropped;
+            } }
     {
         Tally {
             published: self.published.saturating_add(further as u64),
@@ -64,8 +72,8 @@ impl Tally {
     }
 }
 
-/// The queue and the table of results of a run, with worker 0's pass and seat, into which those of all others were joined, and what
-/// each worker counted, from worker 0 on.
+/// The queue and the table of results of a run, with worker 0's pass and seat, into which those of
+/// all others were joined, and what each worker counted, from worker 0 on.
 #[derive(Drop)]
 pub struct Records {
     /// The queue. Nothing is left in it.

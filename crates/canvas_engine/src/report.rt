@@ -12,7 +12,8 @@ use canvas_rewrite::{Ends, Plan};
 use canvas_task::{ListOf, Memory, Outcome, TaskNo};
 use std::alloc::Global;
 
-/// What a run has stored: row k - 1 is of task k. A row of None, and one that is missing, is of a task that is pending.
+/// What a run has stored: row k - 1 is of task k. A row of None, and one that is missing, is of a
+/// task that is pending.
 #[derive(Debug, Drop)]
 pub struct Report {
     /// In the order of the tasks' numbers, from task 1 on.
@@ -26,7 +27,8 @@ fn push_task(
     task: TaskNo,
     rows: &[Option<Outcome>],
 ) -> Result<(), Memory>
-    ensures { OnOk result (string_bytes text.new ≡ string_bytes text.old ++ line_if task (name_of plan.now task) (rows_from 1 rows.now)) }
+    ensures { OnOk result (string_bytes text.new
+        ≡ string_bytes text.old ++ line_if task (name_of plan.now task) (rows_from 1 rows.now)) }
 {
     match plan.name(task) {
         Some(name) => push_row(text, task, name, &State::of(rows, task)),
@@ -40,7 +42,9 @@ fn push_number(
     number: u32,
     rows: &[Option<Outcome>],
 ) -> Result<(), Memory>
-    ensures { OnOk result (string_bytes text.new ≡ string_bytes text.old ++ line_if number (name_of plan.now number) (rows_from 1 rows.now)) }
+    ensures { OnOk result (string_bytes text.new
+        ≡ string_bytes text.old
+        ++ line_if number (name_of plan.now number) (rows_from 1 rows.now)) }
 {
     match TaskNo::new(number) {
         Some(task) => push_task(text, plan, task, rows),
@@ -50,7 +54,8 @@ fn push_number(
 
 /// The lines of all tasks, in the order of their numbers.
 fn push_rows(text: &mut String, plan: &Plan, rows: &[Option<Outcome>]) -> Result<(), Memory>
-    ensures { OnOk result (string_bytes text.new ≡ string_bytes text.old ++ lines (named (tree_of plan.now)) (rows_from 1 rows.now)) }
+    ensures { OnOk result (string_bytes text.new
+        ≡ string_bytes text.old ++ lines (named (tree_of plan.now)) (rows_from 1 rows.now)) }
 {
     for index in 0..plan.tasks() {
         push_number(text, plan, index + 1, rows)?;
@@ -60,7 +65,8 @@ fn push_rows(text: &mut String, plan: &Plan, rows: &[Option<Outcome>]) -> Result
 
 /// Values, each behind a comma.
 fn push_further(text: &mut String, tasks: &[TaskNo], rows: &[Option<Outcome>]) -> Result<(), Memory>
-    ensures { OnOk result (string_bytes text.new ≡ string_bytes text.old ++ listed_behind (with_states (rows_from 1 rows.now) tasks.now)) }
+    ensures { OnOk result (string_bytes text.new
+        ≡ string_bytes text.old ++ listed_behind (with_states (rows_from 1 rows.now) tasks.now)) }
 {
     for task in tasks {
         let state = State::of(rows, *task);
@@ -70,7 +76,8 @@ fn push_further(text: &mut String, tasks: &[TaskNo], rows: &[Option<Outcome>]) -
 }
 
 fn push_values(text: &mut String, tasks: &[TaskNo], rows: &[Option<Outcome>]) -> Result<(), Memory>
-    ensures { OnOk result (string_bytes text.new ≡ string_bytes text.old ++ listed_values (with_states (rows_from 1 rows.now) tasks.now)) }
+    ensures { OnOk result (string_bytes text.new
+        ≡ string_bytes text.old ++ listed_values (with_states (rows_from 1 rows.now) tasks.now)) }
 {
     match tasks.split_first() {
         Some((first, further)) => {
@@ -84,7 +91,10 @@ fn push_values(text: &mut String, tasks: &[TaskNo], rows: &[Option<Outcome>]) ->
 
 /// The result of a canvas: a value, or the list of a group's.
 fn push_result(text: &mut String, ends: &Ends<'_>, rows: &[Option<Outcome>]) -> Result<(), Memory>
-    ensures { OnOk result (string_bytes text.new ≡ string_bytes text.old ++ result_text (gives_a_list ends.now) (with_states (rows_from 1 rows.now) (end_tasks ends.now))) }
+    ensures { OnOk result (string_bytes text.new
+        ≡ string_bytes text.old
+        ++ result_text (gives_a_list ends.now)
+        (with_states (rows_from 1 rows.now) (end_tasks ends.now))) }
 {
     match ends {
         Ends::One(task) => {
@@ -101,10 +111,11 @@ fn push_result(text: &mut String, ends: &Ends<'_>, rows: &[Option<Outcome>]) -> 
     }
 }
 
-/// The report of a plan: a line for each task in the order of their numbers, and one for the result. A task without a row is pending; rows
-/// past the last task are ignored.
+/// The report of a plan: a line for each task in the order of their numbers, and one for the
+/// result. A task without a row is pending; rows past the last task are ignored.
 pub fn report_text(alloc: Global, plan: &Plan, report: &Report) -> Result<String, Memory>
-    ensures { IfOk result (λ text. string_bytes text ≡ report_of (tree_of plan.now) (rows_from 1 report.now.rows)) }
+    ensures { IfOk result
+        (λ text. string_bytes text ≡ report_of (tree_of plan.now) (rows_from 1 report.now.rows)) }
 {
     let rows = report.rows.get();
     let mut text = String::new(alloc);

@@ -26,7 +26,8 @@ impl fmt::Display for State {
     }
 }
 
-/// A function for its contract's sake, which says of rows what `get` and `copied` say one after the other.
+/// A function for its contract's sake, which says of rows what `get` and `copied` say one after the
+/// other.
 fn row_at(rows: &[Option<Outcome>], index: usize) -> Option<Option<Outcome>>
     ensures { result ≡ slice_get rows.now index }
 {
@@ -62,7 +63,8 @@ pub(crate) fn push_row(
     name: &str,
     state: &State,
 ) -> Result<(), Memory>
-    ensures { OnOk result (string_bytes text.new ≡ string_bytes text.old ++ report_line (task, name.now) state.now.0) }
+    ensures { OnOk result (string_bytes text.new
+        ≡ string_bytes text.old ++ report_line (task, name.now) state.now.0) }
 {
     let word = state.name();
     writeln!(text, "{task} {name} {word} {state}")?;

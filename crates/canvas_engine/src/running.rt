@@ -38,7 +38,8 @@ pub(crate) struct Start {
     tallies: Vec<Tally>,
 }
 
-/// All that a run reserves: its rows and tallies, its first envelopes, its queue and its table with a pass and a seat for each worker.
+/// All that a run reserves: its rows and tallies, its first envelopes, its queue and its table with
+/// a pass and a seat for each worker.
 fn reserve<R: Wait>(rt: &R, alloc: Global, plan: &Plan, workers: u32) -> Result<Start, Memory>
     ensures { IfOk result (IsStart plan.now workers) }
 {
@@ -63,7 +64,8 @@ fn reserve<R: Wait>(rt: &R, alloc: Global, plan: &Plan, workers: u32) -> Result<
     })
 }
 
-/// Publishes the first messages, has the workers work, and takes in what they left. Why they ended early, if any did, stands beside.
+/// Publishes the first messages, has the workers work, and takes in what they left. Why they ended
+/// early, if any did, stands beside.
 fn gather<R, T, G>(
     rt: &R,
     alloc: Global,
@@ -81,7 +83,8 @@ where
     requires workers { AreWorkers workers }
     requires start { IsStart plan.now workers start }
     ensures ok { IfOk result (λ r. AreGathered (T.behaviour tasks.now) plan.now workers r.1 r.0) }
-    ensures err { IfErr result (IsThreadFault workers (states (T.behaviour tasks.now) (tree_of plan.now))) }
+    ensures err { IfErr result
+        (IsThreadFault workers (states (T.behaviour tasks.now) (tree_of plan.now))) }
 {
     let Start {
         broker,
@@ -136,7 +139,8 @@ where
     requires workers { AreWorkers workers }
     requires start { IsStart plan.now workers start }
     ensures ok { IfOk result (λ r. IsRun (T.behaviour tasks.now) plan.now workers r.0.rows r.1) }
-    ensures err { IfErr result (IsThreadFault workers (states (T.behaviour tasks.now) (tree_of plan.now))) }
+    ensures err { IfErr result
+        (IsThreadFault workers (states (T.behaviour tasks.now) (tree_of plan.now))) }
 {
     match gather(rt, alloc, plan, tasks, workers, gate, stop, start) {
         Ok((gathered, early)) => match early {
@@ -147,15 +151,16 @@ where
     }
 }
 
-/// Runs a plan with 1 to 16 workers, each on a thread of its own where one can be made and else on this one. The workers, numbered from
-/// 1, work until no message is in flight; then this thread, as worker 0, joins what they have seen, works until it finds nothing and reads
-/// each task once.
+/// Runs a plan with 1 to 16 workers, each on a thread of its own where one can be made and else on
+/// this one. The workers, numbered from 1, work until no message is in flight; then this thread, as
+/// worker 0, joins what they have seen, works until it finds nothing and reads each task once.
 ///
-/// `gate` is asked between a worker's take and its first store. One that never opens keeps the run from ending, unless `stop` is asked; a worker that
-/// it holds back doesn't sleep.
+/// `gate` is asked between a worker's take and its first store. One that never opens keeps the run
+/// from ending, unless `stop` is asked; a worker that it holds back doesn't sleep.
 ///
-/// Where memory is refused to a worker, or its executor fails, `stop` is asked, which ends all others early. It is the caller's own and stays asked:
-/// another run with it ends as stopped at once.
+/// Where memory is refused to a worker, or its executor fails, `stop` is asked, which ends all
+/// others early. It is the caller's own and stays asked: another run with it ends as stopped at
+/// once.
 pub fn run<R, T, G>(
     rt: &R,
     alloc: Global,
@@ -169,8 +174,10 @@ where
     R: Threads + Wait + RandomSource + AllocGlobal + Sync,
     T: Tasks + Sync,
     G: Gate + Sync,
-    ensures ok { IfOk result (λ r. AreWorkers workers × IsRun (T.behaviour tasks.now) plan.now workers r.0.rows r.1) }
-    ensures err { IfErr result (IsThreadFault workers (states (T.behaviour tasks.now) (tree_of plan.now))) }
+    ensures ok { IfOk result
+        (λ r. AreWorkers workers × IsRun (T.behaviour tasks.now) plan.now workers r.0.rows r.1) }
+    ensures err { IfErr result
+        (IsThreadFault workers (states (T.behaviour tasks.now) (tree_of plan.now))) }
 {
     if workers < 1 || workers > MOST_WORKERS {
         return Err(RunFault::BadWorkers);

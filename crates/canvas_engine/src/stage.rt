@@ -1,31 +1,35 @@
 //! The workers of a run on one thread, with the queue and the table of results that they share.
-ghost use Rattle.std.specs.Prelude.{◌≡◌, ◌≤◌, ◌<◌, ◌+◌, ◌++◌, ◌∷◌, ℕ, Bool, Some, false, true, not, ◌||◌, [], List, map, length, IfOk, IfErr, OnOk, OnErr, IsTrue, MatchBool, slice_get};
+ghost use Rattle.std.specs.Prelude.{◌≡◌, ◌≤◌, ◌<◌, ◌+◌, ◌++◌, ◌∷◌, ℕ, Bool, Some, None, false, true, not, ◌||◌, [], List, map, length, IfOk, IfErr, OnOk, OnErr, IsTrue, IsSome, MatchBool, slice_get};
 ghost use Rattle.std.specs.List.{list_any};
 ghost use Rattle.canvas_semantics.specs.Line.{count_line};
 ghost use Rattle.canvas_rewrite.specs.Planned.{IsPlan};
 ghost use Rattle.canvas_message.specs.Effects.{first_messages};
-ghost use Rattle.canvas_backend.specs.Backend.{no_results};
+ghost use Rattle.canvas_backend.specs.Backend.{no_results, says_first};
 ghost use Rattle.canvas_backend.specs.Plain.{held};
 ghost use Rattle.canvas_backend.specs.Roster.{roster_of};
 ghost use Rattle.canvas_runs.specs.Core.{end, pause, ReadsBack, is_inside};
 ghost use Rattle.canvas_message.specs.declared.envelope.Envelope.{Envelope};
+ghost use Rattle.canvas_runs.specs.Spending.{Entry};
+ghost use Rattle.canvas_runs.specs.Tally.{greatest_count};
 ghost use Rattle.canvas_runs.specs.Turns.{Step, IsWorker, FirstsRead, is_queued};
 ghost use Rattle.canvas_runs.specs.Worker.{sealed};
 ghost use Rattle.canvas_worker.specs.Asks.{shown};
 ghost use Rattle.canvas_worker.specs.Books.{no_book};
 ghost use Rattle.canvas_worker.specs.Enveloped.{enveloped_by, no_tasks};
+ghost use Rattle.canvas_worker.specs.Standing as standing;
 ghost use Rattle.canvas_worker.specs.Standing.{Standing, asked};
 ghost use Rattle.canvas_worker.specs.declared.ask.Ask.TheVariants as ask;
-ghost use Rattle.canvas_engine.specs.steps.Stages.{rows_of, MayAsk, AreInRange, Stepped, IsTried, AreNew, Reached, HasReached, IsTurn, IsHalt, IsNew};
+ghost use Rattle.canvas_engine.specs.steps.Stages.{rows_of, MayAsk, AreInRange, Stepped, IsTried, stores_again, counted_on, Redelivers, AreNew, Reached, HasReached, IsTurn, IsHalt, IsNew};
 
 use crate::Cause;
+use crate::entries::first_for;
 use crate::firsts::first_envelopes;
-use canvas_backend::PlainBackend;
+use canvas_backend::{PlainBackend, Stored};
 use canvas_broker::PlainBroker;
 use canvas_message::Envelope;
 use canvas_rewrite::Plan;
 use canvas_task::{GroupNo, Memory, Outcome, TaskNo, Tasks};
-use canvas_worker::{Ask, Core, Reply};
+use canvas_worker::{Ask, Core, Reply, When};
 use std::alloc::Global;
 
 /// Publishes what a worker hands out.
@@ -39,7 +43,9 @@ fn publish<T: Tasks>(
     requires inside { core.old.is_out ≡ false }
     requires reads_back { ReadsBack (enveloped_by no_tasks no_book) core.old.left }
     requires asks { shown core.old.task (asked core.old.left) ≡ ask.Publish }
-    ensures { OnOk result ((more : Bool) → Stepped (T.behaviour tasks.now) more core.old queue.old table.now core.new queue.new table.now) }
+    ensures { OnOk result ((more : Bool)
+        → Stepped (T.behaviour tasks.now) more core.old queue.old table.now core.new queue.new
+        table.now) }
 {
     match core.envelope() {
         Some(envelope) => match queue.publish(envelope) {
@@ -64,7 +70,9 @@ fn read<T: Tasks>(
     requires asks { shown core.old.task (asked core.old.left) ≡ ask.Read group place }
     requires may { MayAsk table.now.plan (held table.now) (asked core.old.left) }
     requires in_range { AreInRange (held table.now) }
-    ensures { OnOk result ((more : Bool) (queue : List Envelope) → Stepped (T.behaviour tasks.now) more core.old queue table.now core.new queue table.now) }
+    ensures { OnOk result ((more : Bool) (queue : List Envelope)
+        → Stepped (T.behaviour tasks.now) more core.old queue table.now core.new queue
+        table.now) }
 {
     match table.member(group, place) {
         Some(task) => core.answer(alloc, table, tasks, Reply::Found(task, table.read(task))),
@@ -72,12 +80,24 @@ fn read<T: Tasks>(
     }
 }
 
-/// One ask of a worker, answered by the queue and the table. A worker that rests is told whether there is more.
+/// A count with one more where a store answered Again. It stays at its greatest value.
+fn count_again(repeats: u64, stored: Stored) -> u64
+    ensures { result ≡ counted_on repeats (not (says_first stored)) }
+{
+    match stored {
+        Stored::First => repeats,
+        Stored::Again => repeats.saturating_add(1),
+    }
+}
+
+/// One ask of a worker, answered by the queue and the table. A worker that rests is told whether
+/// there is more. A store that answers Again is counted.
 fn step<T: Tasks>(
     alloc: Global,
     core: &mut Core,
     queue: &mut PlainBroker,
     table: &mut PlainBackend,
+    repeats: &mut u64,
     tasks: &T,
     more: bool,
 ) -> Result<(), Memory>
@@ -85,14 +105,19 @@ fn step<T: Tasks>(
     requires may { MayAsk table.old.plan (held table.old) (asked core.old.left) }
     requires in_range { AreInRange (held table.old) }
     requires going { asked core.old.left ≡ end → ⊥ }
-    ensures ok { OnOk result (Stepped (T.behaviour tasks.now) more core.old queue.old table.old core.new queue.new table.new) }
-    ensures err { OnErr result (IsTried (T.behaviour tasks.now) more core.old queue.old table.old table.new) }
+    ensures ok { OnOk result (Stepped (T.behaviour tasks.now) more core.old queue.old table.old
+        core.new queue.new table.new) }
+    ensures again { repeats.new
+        ≡ counted_on repeats.old (stores_again (held table.old) (asked core.old.left)) }
+    ensures err { OnErr result
+        (IsTried (T.behaviour tasks.now) more core.old queue.old table.old table.new) }
 {
     match core.next() {
         Ask::Take => core.answer(alloc, table, tasks, Reply::Taken(queue.take())),
         Ask::Publish => publish(alloc, core, queue, table, tasks),
         Ask::Store(task, outcome) => {
             let stored = table.store(task, &outcome);
+            *repeats = count_again(*repeats, stored);
             core.answer(alloc, table, tasks, Reply::Stored(stored))
         }
         Ask::Part(group, task) => {
@@ -122,7 +147,8 @@ fn publish_all(queue: &mut PlainBroker, envelopes: Vec<Envelope>) -> Result<(), 
 /// Whether a worker asks for nothing more.
 fn has_ended(core: &Core) -> bool
     ensures end { MatchBool result (asked core.now.left ≡ end) (asked core.now.left ≡ end → ⊥) }
-    ensures reads_back { core.now.is_out ≡ false → ReadsBack (enveloped_by no_tasks no_book) core.now.left }
+    ensures reads_back { core.now.is_out ≡ false
+        → ReadsBack (enveloped_by no_tasks no_book) core.now.left }
 {
     match core.next() {
         Ask::End => true,
@@ -130,13 +156,30 @@ fn has_ended(core: &Core) -> bool
     }
 }
 
-/// The workers, numbered from 1, with what they share, and how many asks may still be answered.
+/// A copy of the entries that a run is given.
+fn copied(alloc: Global, entries: &[(TaskNo, When)]) -> Result<Vec<(TaskNo, When)>, Memory>
+    ensures copy { IfOk result (λ copy. copy.items ≡ entries.now) }
+    ensures few { length entries.now ≤ greatest_count }
+{
+    let mut copy = Vec::with_capacity(alloc, entries.len())?;
+    for entry in entries {
+        copy.push(*entry)?;
+    }
+    Ok(copy)
+}
+
+/// The workers, numbered from 1, with what they share.
 #[derive(Drop)]
 pub(crate) struct Stage {
     queue: PlainBroker,
     table: PlainBackend,
     cores: Vec<Core>,
+    /// How many asks may still be answered.
     steps: u128,
+    /// The entries that are unspent.
+    again: Vec<(TaskNo, When)>,
+    /// How many stores have answered Again.
+    repeats: u64,
 }
 
 /// Workers that have asked for nothing yet.
@@ -162,18 +205,24 @@ impl Stage {
         alloc: Global,
         plan: &Plan,
         workers: u32,
+        again: &[(TaskNo, When)],
         steps: u128,
     ) -> Result<Stage, Memory>
         ensures new { IfOk result (λ s. IsNew plan.now workers s) }
         ensures steps { IfOk result (λ s. s.steps ≡ steps) }
+        ensures again { IfOk result (λ s. s.again.items ≡ again.now) }
+        ensures few { OnOk result (length again.now ≤ greatest_count) }
     {
         let cores = new_cores(alloc, workers)?;
         let table = PlainBackend::new(alloc, plan)?;
+        let again = copied(alloc, again)?;
         Ok(Stage {
             queue: PlainBroker::new(alloc),
             table,
             cores,
             steps,
+            again,
+            repeats: 0,
         })
     }
 
@@ -182,7 +231,10 @@ impl Stage {
         requires { self.old.queue ≡ [] }
         ensures queue { OnOk result (self.new.queue ≡ map sealed (first_messages plan.now)) }
         ensures back { OnOk result (FirstsRead plan.now) }
-        ensures others { (self.new.table ≡ self.old.table) × (self.new.cores ≡ self.old.cores) × (self.new.steps ≡ self.old.steps) }
+        ensures others { (self.new.table ≡ self.old.table) × (self.new.cores ≡ self.old.cores)
+            × (self.new.steps ≡ self.old.steps) }
+        ensures entries { (self.new.again ≡ self.old.again)
+            × (self.new.repeats ≡ self.old.repeats) }
     {
         match first_envelopes(alloc, plan) {
             Ok(envelopes) => publish_all(&mut self.queue, envelopes),
@@ -192,7 +244,8 @@ impl Stage {
 
     /// Whether the queue holds something or a worker is inside a message.
     fn holds_more(&self) -> bool
-        ensures { result ≡ (is_queued self.now.queue || list_any (λ c. is_inside c.left) self.now.cores.items) }
+        ensures { result
+            ≡ (is_queued self.now.queue || list_any (λ c. is_inside c.left) self.now.cores.items) }
     {
         !self.queue.is_empty() || is_any_inside(&self.cores)
     }
@@ -200,7 +253,11 @@ impl Stage {
     /// What a worker that rests is told.
     fn tells_more(&self, index: usize) -> bool
         requires { index < length self.now.cores.items }
-        ensures { (core : Standing) → slice_get self.now.cores.items index ≡ Some core → asked core.left ≡ pause → result ≡ (is_queued self.now.queue || list_any (λ c. is_inside c.left) self.now.cores.items) }
+        ensures { (core : Standing) → slice_get self.now.cores.items index ≡ Some core
+            → asked core.left ≡ pause
+            → result
+            ≡ (is_queued self.now.queue
+            || list_any (λ c. is_inside c.left) self.now.cores.items) }
     {
         match self.cores[index].next() {
             Ask::Rest => self.holds_more(),
@@ -208,7 +265,46 @@ impl Stage {
         }
     }
 
-    /// A worker's turn: one ask of it is answered, unless it is at its end. Whether one was.
+    /// Has the envelope that a worker holds delivered again, where an entry for the point to which
+    /// the worker has come is unspent. That entry is spent.
+    fn deliver_again(&mut self, index: usize) -> Result<(), Memory>
+        requires index { index < length self.old.cores.items }
+        requires holds { (core : Standing) → slice_get self.old.cores.items index ≡ Some core
+            → is_inside core.left ≡ true → IsSome (standing.held core) }
+        ensures ok { OnOk result ((core : Standing)
+            → slice_get self.old.cores.items index ≡ Some core
+            → Redelivers core self.old self.new) }
+        ensures table { self.new.table ≡ self.old.table }
+    {
+        let core = &self.cores[index];
+        let Some(point) = core.point() else {
+            return Ok(());
+        };
+        let Some(entry) = first_for(&self.again, &point) else {
+            return Ok(());
+        };
+        let copy = match core.held() {
+            Some(envelope) => envelope.copy()?,
+            None => unreachable!(),
+        };
+        match self.queue.publish(copy) {
+            Ok(()) => {
+                self.again.remove(entry);
+                Ok(())
+            }
+            Err(_refused) => Err(Memory),
+        }
+    }
+
+    /// How many stores have answered Again.
+    pub(crate) fn repeats(&self) -> u64
+        ensures { result ≡ self.now.repeats }
+    {
+        self.repeats
+    }
+
+    /// A worker's turn: one ask of it is answered, unless it is at its end. Whether one was. An
+    /// entry for the point to which it has come is spent before.
     pub(crate) fn turn<T: Tasks>(
         &mut self,
         alloc: Global,
@@ -216,9 +312,14 @@ impl Stage {
         tasks: &T,
         worker: u32,
     ) -> Result<bool, Cause>
-        requires { (n : ℕ) × (most : ℕ) × (us : List ℕ) × IsWorker n worker × HasReached (T.behaviour tasks.now) plan.now n most us self.old }
-        ensures ok { IfOk result (λ b. (n : ℕ) (most : ℕ) (us : List ℕ) (xs : List Step) → Reached (T.behaviour tasks.now) plan.now n most us xs self.old → IsTurn (T.behaviour tasks.now) b plan.now n most us xs worker self.new) }
-        ensures err { IfErr result (λ cause. (n : ℕ) (most : ℕ) (us : List ℕ) (xs : List Step) → Reached (T.behaviour tasks.now) plan.now n most us xs self.old → IsHalt (T.behaviour tasks.now) cause plan.now n most us self.new) }
+        requires { (n : ℕ) × (most : ℕ) × (es : List Entry) × (us : List ℕ) × IsWorker n worker
+            × HasReached (T.behaviour tasks.now) plan.now n most es us self.old }
+        ensures ok { IfOk result (λ b. (n : ℕ) (most : ℕ) (es : List Entry) (us : List ℕ)
+            (xs : List Step) → Reached (T.behaviour tasks.now) plan.now n most es us xs self.old
+            → IsTurn (T.behaviour tasks.now) b plan.now n most es us xs worker self.new) }
+        ensures err { IfErr result (λ cause. (n : ℕ) (most : ℕ) (es : List Entry) (us : List ℕ)
+            (xs : List Step) → Reached (T.behaviour tasks.now) plan.now n most es us xs self.old
+            → IsHalt (T.behaviour tasks.now) cause plan.now n most es us self.new) }
     {
         let index = worker as usize - 1;
         if has_ended(&self.cores[index]) {
@@ -227,12 +328,17 @@ impl Stage {
         if self.steps == 0 {
             return Err(Cause::Stopped);
         }
+        match self.deliver_again(index) {
+            Ok(()) => (),
+            Err(Memory) => return Err(Cause::Memory),
+        }
         let more = self.tells_more(index);
         match step(
             alloc,
             &mut self.cores[index],
             &mut self.queue,
             &mut self.table,
+            &mut self.repeats,
             tasks,
             more,
         ) {

@@ -1,18 +1,19 @@
 //! From the text of a canvas to the text of its report.
-ghost use Rattle.std.specs.Prelude.{◌≡◌, IfOk, IfErr, OnOk, string_bytes};
+ghost use Rattle.std.specs.Prelude.{◌≡◌, List, IfOk, IfErr, OnOk, string_bytes};
 ghost use Rattle.canvas_semantics.specs.NormalLine.{normal};
 ghost use Rattle.canvas_semantics.specs.Tree.{Tree, numbered};
+ghost use Rattle.canvas_semantics.specs.Evaluation.{State};
 ghost use Rattle.canvas_semantics.specs.Line.{tree_of};
 ghost use Rattle.canvas_semantics.specs.Report.{report, report_of};
 ghost use Rattle.canvas_semantics.specs.SameMeaning.{IsSame};
 ghost use Rattle.canvas_semantics.specs.States.{rows_from, states};
-ghost use Rattle.canvas_engine.specs.Correct.{AreWorkers, IsAsked, IsRunFault, IsThreadFault};
-ghost use Rattle.canvas_engine.specs.Texts.{IsCanvasText, IsPlanFault, IsPlanOfText, IsReadFault, IsTextFault};
+ghost use Rattle.canvas_engine.specs.Correct.{AreWorkers, IsAsked, IsWholeAgain, IsRunFault, IsThreadFault};
+ghost use Rattle.canvas_engine.specs.Texts.{IsCanvasText, IsPlanFault, IsPlanOfText, IsReadFault, IsTextAgain, IsTextFault};
 
-use crate::{Report, RunFault, report_text, run, run_turns};
+use crate::{Report, RunFault, When, report_text, run, run_turns_again};
 use canvas_rewrite::{Plan, freeze, normalise};
 use canvas_sig::{Canvas, SigFault, read_canvas};
-use canvas_task::{Memory, Tasks};
+use canvas_task::{Memory, TaskNo, Tasks};
 use canvas_worker::{Gate, Stop};
 use std::alloc::{AllocGlobal, Global};
 use std::random::RandomSource;
@@ -71,24 +72,29 @@ fn read_plan(alloc: Global, bytes: &[u8]) -> Result<Plan, TextFault>
     }
 }
 
-/// Runs a plan on one thread, and writes its report.
+/// Runs a plan on one thread, and writes its report. With it comes how many stores answered Again.
 fn plan_text<T: Tasks>(
     alloc: Global,
     plan: &Plan,
     tasks: &T,
     workers: u32,
     turns: &[u32],
-) -> Result<String, TextFault>
-    ensures ok { IfOk result (λ text. IsAsked workers turns.now × (string_bytes text ≡ report_of (tree_of plan.now) (rows_from 1 (states (T.behaviour tasks.now) (tree_of plan.now))))) }
-    ensures err { IfErr result (IsPlanFault (IsRunFault workers turns.now (states (T.behaviour tasks.now) (tree_of plan.now)))) }
+    again: &[(TaskNo, When)],
+) -> Result<(String, u64), TextFault>
+    ensures ok { IfOk result (λ r. IsAsked workers turns.now × (rows : List State)
+        × (string_bytes r.0 ≡ report_of (tree_of plan.now) (rows_from 1 rows))
+        × IsWholeAgain (T.behaviour tasks.now) plan.now workers turns.now again.now rows r.1) }
+    ensures err { IfErr result (IsPlanFault
+        (IsRunFault workers turns.now (states (T.behaviour tasks.now) (tree_of plan.now)))) }
 {
-    match run_turns(alloc, plan, tasks, workers, turns) {
-        Ok(report) => Ok(report_text(alloc, plan, &report)?),
+    match run_turns_again(alloc, plan, tasks, workers, turns, again) {
+        Ok((report, repeats)) => Ok((report_text(alloc, plan, &report)?, repeats)),
         Err(fault) => Err(TextFault::Run(fault)),
     }
 }
 
-/// Reads a canvas, runs it on one thread, and writes its report. The faults of the text come first, then those of the run.
+/// Reads a canvas, runs it on one thread, and writes its report. The faults of the text come first,
+/// then those of the run.
 pub fn run_text<T: Tasks>(
     alloc: Global,
     bytes: &[u8],
@@ -96,11 +102,34 @@ pub fn run_text<T: Tasks>(
     workers: u32,
     turns: &[u32],
 ) -> Result<String, TextFault>
-    ensures ok { IfOk result (λ text. (c : Tree) × IsCanvasText bytes.now c × IsAsked workers turns.now × (string_bytes text ≡ report (T.behaviour tasks.now) c)) }
-    ensures err { IfErr result (IsTextFault (T.behaviour tasks.now) bytes.now (IsRunFault workers turns.now)) }
+    ensures ok { IfOk result (λ text. (c : Tree) × IsCanvasText bytes.now c
+        × IsAsked workers turns.now × (string_bytes text ≡ report (T.behaviour tasks.now) c)) }
+    ensures err { IfErr result
+        (IsTextFault (T.behaviour tasks.now) bytes.now (IsRunFault workers turns.now)) }
+{
+    match run_text_again(alloc, bytes, tasks, workers, turns, &[]) {
+        Ok((text, _repeats)) => Ok(text),
+        Err(fault) => Err(fault),
+    }
+}
+
+/// As `run_text`, but envelopes are delivered again where `again` says so, as in `run_turns_again`.
+/// With the report comes how many stores answered Again.
+pub fn run_text_again<T: Tasks>(
+    alloc: Global,
+    bytes: &[u8],
+    tasks: &T,
+    workers: u32,
+    turns: &[u32],
+    again: &[(TaskNo, When)],
+) -> Result<(String, u64), TextFault>
+    ensures ok { IfOk result (λ r. IsTextAgain (T.behaviour tasks.now) bytes.now workers turns.now
+        again.now (string_bytes r.0) r.1) }
+    ensures err { IfErr result (IsTextFault (T.behaviour tasks.now) bytes.now
+        (IsRunFault workers turns.now)) }
 {
     let plan = read_plan(alloc, bytes)?;
-    plan_text(alloc, &plan, tasks, workers, turns)
+    plan_text(alloc, &plan, tasks, workers, turns, again)
 }
 
 /// Runs a plan on threads, and writes its report.
@@ -117,8 +146,12 @@ where
     R: Threads + Wait + RandomSource + AllocGlobal + Sync,
     T: Tasks + Sync,
     G: Gate + Sync,
-    ensures ok { IfOk result (λ text. AreWorkers workers × (string_bytes text ≡ report_of (tree_of plan.now) (rows_from 1 (states (T.behaviour tasks.now) (tree_of plan.now))))) }
-    ensures err { IfErr result (IsPlanFault (IsThreadFault workers (states (T.behaviour tasks.now) (tree_of plan.now)))) }
+    ensures ok { IfOk result (λ text. AreWorkers workers
+        × (string_bytes text
+        ≡ report_of (tree_of plan.now)
+        (rows_from 1 (states (T.behaviour tasks.now) (tree_of plan.now))))) }
+    ensures err { IfErr result
+        (IsPlanFault (IsThreadFault workers (states (T.behaviour tasks.now) (tree_of plan.now)))) }
 {
     match run(rt, alloc, plan, tasks, workers, gate, stop) {
         Ok((report, _records)) => Ok(report_text(alloc, plan, &report)?),
@@ -126,8 +159,9 @@ where
     }
 }
 
-/// Reads a canvas, runs it with 1 to 16 workers on threads, and writes its report. The faults of the text come first, then those of the run.
-/// `gate` and `stop` are those of `run`: a gate must open in the end, and a stop that was asked, by a worker too, isn't to be used again.
+/// Reads a canvas, runs it with 1 to 16 workers on threads, and writes its report. The faults of
+/// the text come first, then those of the run. `gate` and `stop` are those of `run`: a gate must
+/// open in the end, and a stop that was asked, by a worker too, isn't to be used again.
 pub fn run_text_threads<R, T, G>(
     rt: &R,
     alloc: Global,
@@ -141,16 +175,20 @@ where
     R: Threads + Wait + RandomSource + AllocGlobal + Sync,
     T: Tasks + Sync,
     G: Gate + Sync,
-    ensures ok { IfOk result (λ text. (c : Tree) × IsCanvasText bytes.now c × AreWorkers workers × (string_bytes text ≡ report (T.behaviour tasks.now) c)) }
-    ensures err { IfErr result (IsTextFault (T.behaviour tasks.now) bytes.now (IsThreadFault workers)) }
+    ensures ok { IfOk result (λ text. (c : Tree) × IsCanvasText bytes.now c × AreWorkers workers
+        × (string_bytes text ≡ report (T.behaviour tasks.now) c)) }
+    ensures err { IfErr result
+        (IsTextFault (T.behaviour tasks.now) bytes.now (IsThreadFault workers)) }
 {
     let plan = read_plan(alloc, bytes)?;
     plan_text_threads(rt, alloc, &plan, tasks, workers, gate, stop)
 }
 
-/// The report of rows that a run of a text has stored: the canvas is read again, since such a run gives back its rows alone.
+/// The report of rows that a run of a text has stored: the canvas is read again, since such a run
+/// gives back its rows alone.
 pub fn rows_text(alloc: Global, bytes: &[u8], report: &Report) -> Result<String, TextFault>
-    ensures ok { IfOk result (λ text. (c : Tree) × IsCanvasText bytes.now c × (string_bytes text ≡ report_of (numbered c) (rows_from 1 report.now.rows))) }
+    ensures ok { IfOk result (λ text. (c : Tree) × IsCanvasText bytes.now c
+        × (string_bytes text ≡ report_of (numbered c) (rows_from 1 report.now.rows))) }
     ensures err { IfErr result (IsReadFault bytes.now) }
 {
     let plan = read_plan(alloc, bytes)?;

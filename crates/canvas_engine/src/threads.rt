@@ -88,8 +88,10 @@ where
         return;
     }
     let each = |_: usize, slot: &mut Slot|
-        requires { ((l : Line) × IsPlan l × (backend.now.plan ≡ roster_of l)) × IsReadySlot broker.now backend.now.id slot.now }
-        ensures { RanSlot (T.behaviour tasks.entry.now) backend.entry.now.plan slot.entry.now slot.exit.now }
+        requires { ((l : Line) × IsPlan l × (backend.now.plan ≡ roster_of l))
+            × IsReadySlot broker.now backend.now.id slot.now }
+        ensures { RanSlot (T.behaviour tasks.entry.now) backend.entry.now.plan slot.entry.now
+            slot.exit.now }
     { work(rt, alloc, broker, backend, tasks, gate, stop, flight, slot) };
     for_each_mut(rt, slots, slots.len(), &each);
 }

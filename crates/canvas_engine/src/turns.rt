@@ -7,15 +7,18 @@ ghost use Rattle.canvas_backend.specs.Backend.{no_results};
 ghost use Rattle.canvas_backend.specs.Plain.{held};
 ghost use Rattle.canvas_backend.specs.Roster.{roster_of};
 ghost use Rattle.canvas_runs.specs.Going.{most_steps};
+ghost use Rattle.canvas_runs.specs.Spending.{Entry};
 ghost use Rattle.canvas_runs.specs.Turns.{Step, IsWorker};
-ghost use Rattle.canvas_engine.specs.Correct.{AreWorkers, AreTurns, IsAsked, IsWholeRun, IsWholeWithin, IsRunFault, IsFaultWithin};
+ghost use Rattle.canvas_engine.specs.Correct.{AreWorkers, AreTurns, IsAsked, IsWholeRun, IsWholeWithin, IsWholeAgain, IsRunFault, IsFaultWithin};
+ghost use Rattle.canvas_engine.specs.steps.AgainRuns.{IsAgainWithin, IsAgainFault};
 ghost use Rattle.canvas_engine.specs.steps.Stages.{rows_of, Reached, HasReached, IsNew, IsPartOfRound, IsHaltInRound, IsRunThrough, IsEarlyEnd};
 
 use crate::fault::MOST_WORKERS;
 use crate::stage::Stage;
 use crate::{Cause, Report, RunFault};
 use canvas_rewrite::Plan;
-use canvas_task::{Fault, ListOf, Memory, Outcome, Tasks};
+use canvas_task::{Fault, ListOf, Memory, Outcome, TaskNo, Tasks};
+use canvas_worker::When;
 use std::alloc::Global;
 
 /// A turn of each worker, from the first to the last. Whether an ask was answered.
@@ -26,9 +29,15 @@ fn run_round<T: Tasks>(
     tasks: &T,
     workers: u32,
 ) -> Result<bool, Cause>
-    requires { (most : ℕ) × (us : List ℕ) × HasReached (T.behaviour tasks.now) plan.now workers most us stage.old }
-    ensures ok { IfOk result (λ b. (most : ℕ) (us : List ℕ) (xs : List Step) → Reached (T.behaviour tasks.now) plan.now workers most us xs stage.old → IsPartOfRound (T.behaviour tasks.now) b plan.now workers most us xs workers stage.old.steps stage.new) }
-    ensures err { IfErr result (λ cause. (most : ℕ) (us : List ℕ) (xs : List Step) → Reached (T.behaviour tasks.now) plan.now workers most us xs stage.old → IsHaltInRound (T.behaviour tasks.now) cause plan.now workers most us stage.new) }
+    requires { (most : ℕ) × (es : List Entry) × (us : List ℕ)
+        × HasReached (T.behaviour tasks.now) plan.now workers most es us stage.old }
+    ensures ok { IfOk result (λ b. (most : ℕ) (es : List Entry) (us : List ℕ) (xs : List Step)
+        → Reached (T.behaviour tasks.now) plan.now workers most es us xs stage.old
+        → IsPartOfRound (T.behaviour tasks.now) b plan.now workers most es us xs workers
+        stage.old.steps stage.new) }
+    ensures err { IfErr result (λ cause. (most : ℕ) (es : List Entry) (us : List ℕ) (xs : List Step)
+        → Reached (T.behaviour tasks.now) plan.now workers most es us xs stage.old
+        → IsHaltInRound (T.behaviour tasks.now) cause plan.now workers most es us stage.new) }
 {
     let mut answered = false;
     for index in 0..workers {
@@ -49,10 +58,15 @@ fn run_list<T: Tasks>(
     workers: u32,
     turns: &[u32],
 ) -> Result<(), Cause>
-    requires reached { (most : ℕ) × Reached (T.behaviour tasks.now) plan.now workers most [] [] stage.old }
+    requires reached { (most : ℕ) × (es : List Entry)
+        × Reached (T.behaviour tasks.now) plan.now workers most es [] [] stage.old }
     requires turns { AreTurns workers turns.now }
-    ensures ok { OnOk result ((most : ℕ) → Reached (T.behaviour tasks.now) plan.now workers most [] [] stage.old → HasReached (T.behaviour tasks.now) plan.now workers most turns.now stage.new) }
-    ensures err { IfErr result (λ cause. (most : ℕ) → Reached (T.behaviour tasks.now) plan.now workers most [] [] stage.old → IsEarlyEnd (T.behaviour tasks.now) cause plan.now workers most turns.now stage.new) }
+    ensures ok { OnOk result ((most : ℕ) (es : List Entry)
+        → Reached (T.behaviour tasks.now) plan.now workers most es [] [] stage.old
+        → HasReached (T.behaviour tasks.now) plan.now workers most es turns.now stage.new) }
+    ensures err { IfErr result (λ cause. (most : ℕ) (es : List Entry)
+        → Reached (T.behaviour tasks.now) plan.now workers most es [] [] stage.old
+        → IsEarlyEnd (T.behaviour tasks.now) cause plan.now workers most es turns.now stage.new) }
 {
     for worker in turns {
         match stage.turn(alloc, plan, tasks, *worker) {
@@ -72,9 +86,14 @@ fn run_rounds<T: Tasks>(
     workers: u32,
     turns: &[u32],
 ) -> Result<(), Cause>
-    requires { (most : ℕ) × HasReached (T.behaviour tasks.now) plan.now workers most turns.now stage.old }
-    ensures ok { OnOk result ((most : ℕ) → HasReached (T.behaviour tasks.now) plan.now workers most turns.now stage.old → IsRunThrough (T.behaviour tasks.now) plan.now workers most turns.now stage.new) }
-    ensures err { IfErr result (λ cause. (most : ℕ) → HasReached (T.behaviour tasks.now) plan.now workers most turns.now stage.old → IsEarlyEnd (T.behaviour tasks.now) cause plan.now workers most turns.now stage.new) }
+    requires { (most : ℕ) × (es : List Entry)
+        × HasReached (T.behaviour tasks.now) plan.now workers most es turns.now stage.old }
+    ensures ok { OnOk result ((most : ℕ) (es : List Entry)
+        → HasReached (T.behaviour tasks.now) plan.now workers most es turns.now stage.old
+        → IsRunThrough (T.behaviour tasks.now) plan.now workers most es turns.now stage.new) }
+    ensures err { IfErr result (λ cause. (most : ℕ) (es : List Entry)
+        → HasReached (T.behaviour tasks.now) plan.now workers most es turns.now stage.old
+        → IsEarlyEnd (T.behaviour tasks.now) cause plan.now workers most es turns.now stage.new) }
 {
     loop {
         match run_round(alloc, stage, plan, tasks, workers) {
@@ -97,8 +116,10 @@ fn run_stage<T: Tasks>(
     requires planned { IsPlan plan.now }
     requires new { IsNew plan.now workers stage.old }
     requires turns { AreTurns workers turns.now }
-    ensures ok { OnOk result (IsRunThrough (T.behaviour tasks.now) plan.now workers stage.old.steps turns.now stage.new) }
-    ensures err { IfErr result (λ cause. IsEarlyEnd (T.behaviour tasks.now) cause plan.now workers stage.old.steps turns.now stage.new) }
+    ensures ok { OnOk result (IsRunThrough (T.behaviour tasks.now) plan.now workers stage.old.steps
+        stage.old.again.items turns.now stage.new) }
+    ensures err { IfErr result (λ cause. IsEarlyEnd (T.behaviour tasks.now) cause plan.now workers
+        stage.old.steps stage.old.again.items turns.now stage.new) }
 {
     match stage.open(alloc, plan) {
         Ok(()) => match run_list(alloc, stage, plan, tasks, workers, turns) {
@@ -133,27 +154,31 @@ fn report_of(stage: &Stage, plan: &Plan, rows: Vec<Option<Outcome>>) -> Report
     }
 }
 
-/// Runs a plan, at most so many asks being answered.
+/// Runs a plan, at most so many asks being answered. With the report it tells how many stores
+/// answered Again.
 fn run_steps<T: Tasks>(
     alloc: Global,
     plan: &Plan,
     tasks: &T,
     workers: u32,
     turns: &[u32],
+    again: &[(TaskNo, When)],
     steps: u128,
-) -> Result<Report, RunFault>
+) -> Result<(Report, u64), RunFault>
     requires { IsAsked workers turns.now }
-    ensures ok { IfOk result (λ report. IsWholeWithin (T.behaviour tasks.now) plan.now workers turns.now steps report.rows) }
-    ensures err { IfErr result (IsFaultWithin (T.behaviour tasks.now) plan.now workers turns.now steps) }
+    ensures ok { IfOk result (λ r. IsAgainWithin (T.behaviour tasks.now) plan.now workers turns.now
+        again.now steps r.0.rows r.1) }
+    ensures err { IfErr result
+        (IsAgainFault (T.behaviour tasks.now) plan.now workers turns.now again.now steps) }
 {
     let Ok(rows) = new_rows(alloc, plan) else {
         return Err(RunFault::halted(Cause::Memory));
     };
-    let Ok(mut stage) = Stage::new(alloc, plan, workers, steps) else {
+    let Ok(mut stage) = Stage::new(alloc, plan, workers, again, steps) else {
         return Err(RunFault::halted(Cause::Memory));
     };
     match run_stage(alloc, &mut stage, plan, tasks, workers, turns) {
-        Ok(()) => Ok(report_of(&stage, plan, rows)),
+        Ok(()) => Ok((report_of(&stage, plan, rows), stage.repeats())),
         Err(cause) => Err(RunFault::Halted {
             cause,
             rows: Some(report_of(&stage, plan, rows)),
@@ -174,29 +199,35 @@ fn run_checked<T: Tasks>(
     tasks: &T,
     workers: u32,
     turns: &[u32],
+    again: &[(TaskNo, When)],
     steps: u128,
-) -> Result<Report, RunFault>
-    ensures ok { IfOk result (λ report. IsAsked workers turns.now × IsWholeWithin (T.behaviour tasks.now) plan.now workers turns.now steps report.rows) }
-    ensures err { IfErr result (IsFaultWithin (T.behaviour tasks.now) plan.now workers turns.now steps) }
+) -> Result<(Report, u64), RunFault>
+    ensures ok { IfOk result (λ r. IsAsked workers turns.now
+        × IsAgainWithin (T.behaviour tasks.now) plan.now workers turns.now again.now steps
+        r.0.rows r.1) }
+    ensures err { IfErr result
+        (IsAgainFault (T.behaviour tasks.now) plan.now workers turns.now again.now steps) }
 {
     if workers < 1 || workers > MOST_WORKERS {
         return Err(RunFault::BadWorkers);
     }
     if are_turns(turns, workers) {
-        run_steps(alloc, plan, tasks, workers, turns, steps)
+        run_steps(alloc, plan, tasks, workers, turns, again, steps)
     } else {
         Err(RunFault::BadTurn)
     }
 }
 
 /// One more than the asks that a run of the plan may have.
-fn more_than_all(plan: &Plan, workers: u32, turns: &[u32]) -> u128
-    ensures value { result ≡ suc (most_steps plan.now workers (length turns.now) 0) }
+fn more_than_all(plan: &Plan, workers: u32, turns: &[u32], again: &[(TaskNo, When)]) -> u128
+    ensures value { result
+        ≡ suc (most_steps plan.now workers (length turns.now) (length again.now)) }
     ensures planned { IsPlan plan.now }
 {
     let tasks = plan.tasks() as u128;
-    let calls = product(tasks + 5, tasks + 1);
-    turns.len() as u128 + product(2 * (calls + 1), workers as u128) + 1
+    let entries = again.len() as u128;
+    let calls = product(tasks + 5, tasks + 1) + 4 * entries;
+    turns.len() as u128 + product(2 * (calls + 1), workers as u128) + entries + 1
 }
 
 /// A function for its contract's sake: its bounds say that the product fits.
@@ -209,8 +240,9 @@ fn product(left: u128, right: u128) -> u128
     left * right
 }
 
-/// Runs a plan with 1 to 16 workers on one thread. Each turn lets that worker have one ask answered; after the list the workers take
-/// turns in rotation from 1, until all are at their ends. A worker at its end skips its turn.
+/// Runs a plan with 1 to 16 workers on one thread. Each turn lets that worker have one ask
+/// answered; after the list the workers take turns in rotation from 1, until all are at their ends.
+/// A worker at its end skips its turn.
 pub fn run_turns<T: Tasks>(
     alloc: Global,
     plan: &Plan,
@@ -218,14 +250,42 @@ pub fn run_turns<T: Tasks>(
     workers: u32,
     turns: &[u32],
 ) -> Result<Report, RunFault>
-    ensures ok { IfOk result (λ report. IsAsked workers turns.now × IsWholeRun (T.behaviour tasks.now) plan.now workers turns.now report.rows) }
-    ensures err { IfErr result (IsRunFault workers turns.now (states (T.behaviour tasks.now) (tree_of plan.now))) }
+    ensures ok { IfOk result (λ report. IsAsked workers turns.now
+        × IsWholeRun (T.behaviour tasks.now) plan.now workers turns.now report.rows) }
+    ensures err { IfErr result
+        (IsRunFault workers turns.now (states (T.behaviour tasks.now) (tree_of plan.now))) }
 {
-    let steps = more_than_all(plan, workers, turns);
-    run_checked(alloc, plan, tasks, workers, turns, steps)
+    match run_turns_again(alloc, plan, tasks, workers, turns, &[]) {
+        Ok((report, _again)) => Ok(report),
+        Err(fault) => Err(fault),
+    }
 }
 
-/// As `run_turns`, but halted, as stopped, once `steps` asks have been answered and some worker isn't at its end.
+/// As `run_turns`, but envelopes are delivered again where `again` says so: a worker whose message
+/// has come to a point, before its first store or before its acknowledgement, spends the first
+/// unspent entry for its task and that point, and has a copy of its envelope published within the
+/// same turn, before its ask is answered. An entry for a task that isn't run does nothing. With the
+/// report it tells how many stores answered Again.
+pub fn run_turns_again<T: Tasks>(
+    alloc: Global,
+    plan: &Plan,
+    tasks: &T,
+    workers: u32,
+    turns: &[u32],
+    again: &[(TaskNo, When)],
+) -> Result<(Report, u64), RunFault>
+    ensures ok { IfOk result (λ r. IsAsked workers turns.now
+        × IsWholeAgain (T.behaviour tasks.now) plan.now workers turns.now again.now r.0.rows
+        r.1) }
+    ensures err { IfErr result
+        (IsRunFault workers turns.now (states (T.behaviour tasks.now) (tree_of plan.now))) }
+{
+    let steps = more_than_all(plan, workers, turns, again);
+    run_checked(alloc, plan, tasks, workers, turns, again, steps)
+}
+
+/// As `run_turns`, but halted, as stopped, once `steps` asks have been answered and some worker
+/// isn't at its end.
 pub fn run_turns_within<T: Tasks>(
     alloc: Global,
     plan: &Plan,
@@ -234,8 +294,13 @@ pub fn run_turns_within<T: Tasks>(
     turns: &[u32],
     steps: u64,
 ) -> Result<Report, RunFault>
-    ensures ok { IfOk result (λ report. IsAsked workers turns.now × IsWholeWithin (T.behaviour tasks.now) plan.now workers turns.now steps report.rows) }
-    ensures err { IfErr result (IsFaultWithin (T.behaviour tasks.now) plan.now workers turns.now steps) }
+    ensures ok { IfOk result (λ report. IsAsked workers turns.now
+        × IsWholeWithin (T.behaviour tasks.now) plan.now workers turns.now steps report.rows) }
+    ensures err { IfErr result
+        (IsFaultWithin (T.behaviour tasks.now) plan.now workers turns.now steps) }
 {
-    run_checked(alloc, plan, tasks, workers, turns, steps as u128)
+    match run_checked(alloc, plan, tasks, workers, turns, &[], steps as u128) {
+        Ok((report, _again)) => Ok(report),
+        Err(fault) => Err(fault),
+    }
 }

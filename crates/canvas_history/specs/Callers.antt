@@ -1,5 +1,6 @@
--- What a caller of a shared object is and has seen, and what the clauses of its calls tell (Lamport's sequential consistency). It is
--- the same for each object: I names one, C are its calls, and R their replies.
+-- What a caller of a shared object is and has seen, and what the clauses of its calls tell
+-- (Lamport's sequential consistency). It is the same for each object: I names one, C are its calls,
+-- and R their replies.
 --     Caller I C R              a caller
 --     told p                    what it has seen, with the joins that it owes
 --     Follows p es log          the history log is what p has seen, entries by others, the joins that p owes, and then the entries es
@@ -13,8 +14,9 @@
 use Rattle.std.specs.Prelude.{◌≡◌, ℕ, List, [], ◌∷◌, ◌++◌, ◌⊎◌, length}
 use Rattle.canvas_history.specs.History.{Entry, split, join, live_from, split_off, made_by, AllJoined, Sole, NoneBy, Since, Legal}
 
--- Of which object it is a caller, its number, the callers for which it answers (itself, and those that it took in since its last entry), the beginning of the history that
--- it has seen, and the joins that it owes, which come right before its next entry
+-- Of which object it is a caller, its number, the callers for which it answers (itself, and those
+-- that it took in since its last entry), the beginning of the history that it has seen, and the
+-- joins that it owes, which come right before its next entry
 pub record Caller (I C R : Type 0) : Type 0 where
   pub of : I
   pub name : ℕ
@@ -35,32 +37,41 @@ module _ {I C R : Type 0} where
   abbrev pub told : Caller I C R → List (Entry C R)
   told p = p.seen ++ p.owed
 
-  -- the entries that p has made itself are, by what p' has seen and owes, those that it had made, and then these
+  -- the entries that p has made itself are, by what p' has seen and owes, those that it had made,
+  -- and then these
   abbrev pub Adds : Caller I C R → List (Entry C R) → Caller I C R → Type 0
   Adds p es p' = made_by p.name (told p') ≡ made_by p.name (told p) ++ es
 
-  -- where all other callers have been taken in, by what the caller has seen and the joins that it owes, the first is the only one that is live
+  -- where all other callers have been taken in, by what the caller has seen and the joins that it
+  -- owes, the first is the only one that is live
   abbrev pub LeavesOne : Caller I C R → Type 0
   LeavesOne p = AllJoined (told p) → Sole (told p) 0
 
-  -- A join that is owed: the new list begins with both lists, is one of them, and has no further entry by the callers of either
+  -- A join that is owed: the new list begins with both lists, is one of them, and has no further
+  -- entry by the callers of either
   abbrev pub Owes : Caller I C R → Caller I C R → Caller I C R → Type 0
   Owes p q p' =
-      (p'.of ≡ p.of) × (p'.name ≡ p.name) × (p'.mine ≡ p.mine ++ q.mine) × (p'.owed ≡ p.owed ++ (q.owed ++ join p.name q.name ∷ []))
-      × Since p.mine p'.seen p.seen × Since q.mine p'.seen q.seen × ((p'.seen ≡ p.seen) ⊎ (p'.seen ≡ q.seen))
+      (p'.of ≡ p.of) × (p'.name ≡ p.name) × (p'.mine ≡ p.mine ++ q.mine)
+      × (p'.owed ≡ p.owed ++ (q.owed ++ join p.name q.name ∷ []))
+      × Since p.mine p'.seen p.seen × Since q.mine p'.seen q.seen
+      × ((p'.seen ≡ p.seen) ⊎ (p'.seen ≡ q.seen))
 
 -- the object's state before any call, what a call answers, what it leaves, and who may make it
-module _ {I C R S : Type 0} (first : S) (answer : S → C → R) (next : S → C → S) (May : List (Entry C R) → S → ℕ → C → Type 0) where
-  -- The call clause: what was seen, entries of others since, the joins owed, and the entries of this call. The whole is legal, and where no other caller was live nothing
-  -- stands in between
+module _ {I C R S : Type 0} (first : S) (answer : S → C → R) (next : S → C → S)
+    (May : List (Entry C R) → S → ℕ → C → Type 0) where
+  -- The call clause: what was seen, entries of others since, the joins owed, and the entries of
+  -- this call. The whole is legal, and where no other caller was live nothing stands in between
   abbrev pub Follows : Caller I C R → List (Entry C R) → List (Entry C R) → Type 0
   Follows p es log =
       (between : List (Entry C R))
-      × (log ≡ p.seen ++ (between ++ (p.owed ++ es))) × NoneBy p.mine between × Legal first answer next May log × (Sole (told p) p.name → between ≡ [])
+      × (log ≡ p.seen ++ (between ++ (p.owed ++ es))) × NoneBy p.mine between
+      × Legal first answer next May log × (Sole (told p) p.name → between ≡ [])
 
   -- the caller has then seen that history, and owes nothing
   abbrev pub StandTogether : Caller I C R → List (Entry C R) → Caller I C R → Type 0
-  StandTogether p es p' = (p'.of ≡ p.of) × (p'.name ≡ p.name) × (p'.mine ≡ live_from p.mine p.owed) × (p'.owed ≡ []) × Follows p es p'.seen
+  StandTogether p es p' =
+      (p'.of ≡ p.of) × (p'.name ≡ p.name) × (p'.mine ≡ live_from p.mine p.owed) × (p'.owed ≡ [])
+      × Follows p es p'.seen
 
   abbrev pub Stands : Caller I C R → Entry C R → Caller I C R → Type 0
   Stands p e p' = StandTogether p (e ∷ []) p'
@@ -71,7 +82,8 @@ module _ {I C R S : Type 0} (first : S) (answer : S → C → R) (next : S → C
 
   -- the new caller's number is that of the splits so far, and it has seen what this one has
   abbrev pub Parted : Caller I C R → Caller I C R → Caller I C R → Type 0
-  Parted p p' q = Stands p (split p.name q.name) p' × (q ≡ owing_none p.of (length (split_off p'.seen)) p'.seen)
+  Parted p p' q =
+      Stands p (split p.name q.name) p' × (q ≡ owing_none p.of (length (split_off p'.seen)) p'.seen)
 
   -- the list begins with both lists, and has no further entry by either's callers before the join
   abbrev pub Joined : Caller I C R → Caller I C R → Caller I C R → Type 0

@@ -1,5 +1,7 @@
--- Histories of an object that several callers share: who called, what, and what was answered, in one order. That each call stands in one such order, in its caller's own,
--- is Lamport's sequential consistency (How to make a multiprocessor computer, 1979), here for callers that make and take in others.
+-- Histories of an object that several callers share: who called, what, and what was answered, in
+-- one order. That each call stands in one such order, in its caller's own, is Lamport's sequential
+-- consistency (How to make a multiprocessor computer, 1979), here for callers that make and take in
+-- others.
 --     Entry C R              one entry of a history: a caller makes another, takes one in, or makes a call C with the reply R. Callers are numbers, and 0 is the first
 --     live, split_off, taken_in log    the callers that are live after the history, in the order of their making; those that a `split` names, and those that a `join` takes in
 --     heir log c             the caller as whose own the calls of c count: c, or the one that took it in, or the one that took that one in
@@ -78,7 +80,9 @@ module _ {C R : Type 0} where
 
   -- each caller that a split of the history names has been taken in, and the first has not
   abbrev pub AllJoined : List (Entry C R) → Type 0
-  AllJoined log = (among 0 (taken_in log) ≡ false) × ((c : ℕ) → among c (split_off log) ≡ true → among c (taken_in log) ≡ true)
+  AllJoined log =
+      (among 0 (taken_in log) ≡ false)
+      × ((c : ℕ) → among c (split_off log) ≡ true → among c (taken_in log) ≡ true)
 
   -- no other caller than p is live
   abbrev pub Sole : List (Entry C R) → ℕ → Type 0
@@ -97,9 +101,11 @@ module _ {C R : Type 0} where
   abbrev pub Since : List ℕ → List (Entry C R) → List (Entry C R) → Type 0
   Since cs log seen = (rest : List (Entry C R)) × (log ≡ seen ++ rest) × NoneBy cs rest
 
--- The one-thread object: its state before any call, what a call answers in a state, and the state that it leaves.
--- May log s p c: the caller p may make the call c after the history log, which leaves the state s. `λ log s p c. Unit {0}` asks nothing
-module _ {C R S : Type 0} (first : S) (answer : S → C → R) (next : S → C → S) (May : List (Entry C R) → S → ℕ → C → Type 0) where
+-- The one-thread object: its state before any call, what a call answers in a state, and the state
+-- that it leaves. May log s p c: the caller p may make the call c after the history log, which
+-- leaves the state s. `λ log s p c. Unit {0}` asks nothing
+module _ {C R S : Type 0} (first : S) (answer : S → C → R) (next : S → C → S)
+    (May : List (Entry C R) → S → ℕ → C → Type 0) where
   abbrev pub state_after : S → Entry C R → S
   state_after s (split p q) = s
   state_after s (join p q) = s
@@ -115,9 +121,12 @@ module _ {C R S : Type 0} (first : S) (answer : S → C → R) (next : S → C �
 
   -- the entry is by a live caller, names what it may, and has the object's reply
   abbrev pub Allowed : List (Entry C R) → Entry C R → Type 0
-  Allowed log (split p q) = (among p (live log) ≡ true) × ((q == 0) ≡ false) × (among q (split_off log) ≡ false)
-  Allowed log (join p q) = (among p (live log) ≡ true) × (among q (live log) ≡ true) × ((q == p) ≡ false)
-  Allowed log (calls p c r) = (among p (live log) ≡ true) × (r ≡ answer (replay log) c) × May log (replay log) p c
+  Allowed log (split p q) =
+      (among p (live log) ≡ true) × ((q == 0) ≡ false) × (among q (split_off log) ≡ false)
+  Allowed log (join p q) =
+      (among p (live log) ≡ true) × (among q (live log) ≡ true) × ((q == p) ≡ false)
+  Allowed log (calls p c r) =
+      (among p (live log) ≡ true) × (r ≡ answer (replay log) c) × May log (replay log) p c
 
   abbrev pub LegalFrom : List (Entry C R) → List (Entry C R) → Type 0
   LegalFrom before [] = Unit {0}

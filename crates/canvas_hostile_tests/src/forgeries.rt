@@ -1,4 +1,5 @@
-//! Messages of a chord of three members, changed in one place. Task 2 is its second member, task 4 its body, task 5 the body's error callback.
+//! Messages of a chord of three members, changed in one place. Task 2 is its second member, task 4
+//! its body, task 5 the body's error callback.
 
 /// The properties, headers and body of a message, in the notation of frozen texts.
 pub(crate) type Texts = [&'static str; 3];

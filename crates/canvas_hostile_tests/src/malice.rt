@@ -10,7 +10,7 @@ use canvas_message::Envelope;
 use canvas_samples::frozen_texts::filled;
 use canvas_samples::sample::Sample;
 use canvas_task::{Fault, Kind, ListOf, Memory, Outcome, SixTasks, TaskNo};
-use canvas_worker::{Ask, Core, Reply};
+use canvas_worker::{Ask, Core, OpenGate, Reply};
 use std::alloc::{AllocError, AllocGlobal, Global};
 use std::random::RandomSource;
 use std::sync::Wait;
@@ -84,11 +84,11 @@ fn answers(alloc: Global, backend: &PlainBackend, core: &mut Core, reply: Reply)
     core.next().suits(&reply) && core.answer(alloc, backend, &SixTasks, reply).is_ok()
 }
 
-/// Whether a core that is given an envelope counts it as dropped, acknowledges it as one of no task, and asks for the next one.
+/// Whether a core that is given an envelope counts it as dropped, acknowledges it as one of no
+/// task, and asks for the next one.
 fn is_dropped(alloc: Global, backend: &PlainBackend, core: &mut Core, envelope: Envelope) -> bool {
     let before = core.dropped();
-    answers(alloc, backend, core, Reply::Taken(Some(envelope)))
-        && core.next() == Ask::Ack(None)
+    answers(alloc, backend, core, Reply::Taken(Some(envelope))) && core.next() == Ask::Ack(None)
         && core.held().is_some()
         && core.dropped() == before.saturating_add(1)
         && answers(alloc, backend, core, Reply::Acked)
@@ -116,8 +116,7 @@ fn takes_up(alloc: Global, backend: &PlainBackend, core: &mut Core) -> bool {
     let outcome = Outcome::Failure(Fault::Plain(Kind::ZeroDivision));
     match (genuine(alloc, &MEMBER), TaskNo::new(2)) {
         (Some(envelope), Some(task)) => {
-            answers(alloc, backend, core, Reply::Taken(Some(envelope)))
-                && core.next() == Ask::Store(task, outcome)
+            answers(alloc, backend, core, Reply::Taken(Some(envelope))) && core.next() == Ask::Store(task, outcome)
         }
         _ => false,
     }
@@ -200,12 +199,13 @@ fn worked<R: Wait + RandomSource + AllocGlobal>(
     canvas: &Sample,
 ) -> Option<Left> {
     match queue_of(alloc, canvas) {
-        Ok(queue) => work(rt, alloc, &canvas.plan, queue, u32::MAX),
+        Ok(queue) => work(rt, alloc, &canvas.plan, queue, &OpenGate, u32::MAX),
         Err(_) => None,
     }
 }
 
-/// The worker drops the ninety, runs the four messages, stores five outcomes and publishes the error callback alone.
+/// The worker drops the ninety, runs the four messages, stores five outcomes and publishes the
+/// error callback alone.
 #[test]
 fn dropped_by_a_worker(rt: HostRuntime) -> Result<(), Fail> {
     let canvas = a_failed_member(rt.alloc()).ok_or("no canvas")?;

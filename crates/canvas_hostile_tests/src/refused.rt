@@ -1,5 +1,6 @@
-//! Calls that may be refused memory, each once and, where a growth was refused, once more. `./refuse-memory` runs each of these tests with each
-//! growth refused in turn, one in a run; in the gate there is none. So a call that is refused for no growth fails both.
+//! Calls that may be refused memory, each once and, where a growth was refused, once more.
+//! `./refuse-memory` runs each of these tests with each growth refused in turn, one in a run; in
+//! the gate there is none. So a call that is refused for no growth fails both.
 
 use crate::refused_objects::{core, plain_queue, plain_table, queue, registry, table};
 use crate::refused_parts::{arguments, effects, messages, plans, signatures};
@@ -105,7 +106,13 @@ where
 
 #[test]
 fn runs_by_turns(rt: HostRuntime) {
-    for how in [How::Turns(1), How::Turns(2), How::Within] {
+    for how in [
+        How::Turns(1),
+        How::Turns(2),
+        How::Within,
+        How::Again(1),
+        How::Again(2),
+    ] {
         assert_eq!(rt; first_wrong(&rt, rt.alloc(), how), None, "{how:?}");
     }
 }

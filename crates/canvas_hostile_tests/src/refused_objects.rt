@@ -1,4 +1,5 @@
-//! Queues, tables and cores whose growth may be refused: each is as it was, and the same again comes to its answer.
+//! Queues, tables and cores whose growth may be refused: each is as it was, and the same again
+//! comes to its answer.
 
 ghost use Rattle.std.specs.Prelude.{◌≡◌, IfSome};
 ghost use Rattle.canvas_worker.specs.Asks.{FoundInRange};
@@ -25,7 +26,8 @@ fn envelope(alloc: Global) -> Result<Envelope, Memory> {
 
 // ---- the queue of one thread
 
-/// Publishes an envelope, and where that is refused the one that comes back, if it is the same. Whether it was published in the end.
+/// Publishes an envelope, and where that is refused the one that comes back, if it is the same.
+/// Whether it was published in the end.
 fn publish_plain(broker: &mut PlainBroker, sent: Envelope, same: &Envelope) -> bool {
     match broker.publish(sent) {
         Ok(()) => true,
@@ -219,7 +221,8 @@ fn reply_of(step: u32) -> Option<Reply>
     }
 }
 
-/// Whether a core that is inside that message comes to its end, with one envelope to publish and its own acknowledged last.
+/// Whether a core that is inside that message comes to its end, with one envelope to publish and
+/// its own acknowledged last.
 fn completes(alloc: Global, backend: &PlainBackend, core: &mut Core) -> Result<bool, Memory> {
     let mut published = 0u32;
     for step in 0..8 {
@@ -267,7 +270,8 @@ fn one_and_one(registry: &Registry, alloc: Global) -> Outcome {
     )
 }
 
-/// Adds a task, and where that is refused the one that comes back, if the registry has none. Whether it is there in the end.
+/// Adds a task, and where that is refused the one that comes back, if the registry has none.
+/// Whether it is there in the end.
 pub(crate) fn registry(alloc: Global) -> Result<bool, Memory> {
     let mut registry = Registry::new(alloc);
     let Ok(task) = Box::new(alloc, Add) else {

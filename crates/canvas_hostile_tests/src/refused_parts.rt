@@ -1,4 +1,5 @@
-//! Calls on canvases and messages that may be refused memory: each comes to its answer, or says that memory was refused.
+//! Calls on canvases and messages that may be refused memory: each comes to its answer, or says
+//! that memory was refused.
 
 ghost use Rattle.std.specs.Prelude.{IfSome, All};
 ghost use Rattle.canvas_task.specs.Apply.{IsInRange};
@@ -183,7 +184,8 @@ fn outcomes() -> Option<[(TaskNo, Outcome); 3]>
     ])
 }
 
-/// Whether behind a header of which a member failed its body is stored, and the body's error callback published.
+/// Whether behind a header of which a member failed its body is stored, and the body's error
+/// callback published.
 fn raises(alloc: Global, part: &PartCall) -> Result<bool, Memory> {
     match outcomes() {
         Some(outcomes) => {
@@ -198,7 +200,8 @@ fn raises(alloc: Global, part: &PartCall) -> Result<bool, Memory> {
     }
 }
 
-/// Whether the end of a message's task says the same by reference and by value, and what follows its chord is right.
+/// Whether the end of a message's task says the same by reference and by value, and what follows
+/// its chord is right.
 fn ends(alloc: Global, message: Message) -> Result<bool, Memory> {
     match part_after(alloc, &message)? {
         Some(part) => {

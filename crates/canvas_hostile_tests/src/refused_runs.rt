@@ -3,12 +3,12 @@
 use crate::by_hand::{Left, work};
 use crate::rows::{are_partial, first_envelopes};
 use canvas_engine::{
-    Report, RunFault, TextFault, read_turns, report_text, rows_text, run, run_text,
-    run_text_threads, run_turns, run_turns_within,
+    Report, RunFault, TextFault, When, read_turns, report_text, rows_text, run, run_text,
+    run_text_threads, run_turns, run_turns_again, run_turns_within,
 };
 use canvas_samples::sample::{Sample, sample_of_text};
 use canvas_samples::spelled;
-use canvas_task::{Memory, Outcome, SixTasks};
+use canvas_task::{Memory, Outcome, SixTasks, TaskNo};
 use canvas_worker::{Cause, OpenGate, Stop};
 use std::alloc::{AllocGlobal, Global};
 use std::random::RandomSource;
@@ -44,6 +44,9 @@ pub(crate) enum How {
     Turns(u32),
     /// By turns, with steps that suffice.
     Within,
+    /// By turns, with so many workers, where the envelopes of the first two tasks are delivered
+    /// again at both points.
+    Again(u32),
     /// On threads, with so many workers.
     Threads(u32),
     /// By one worker that is polled by hand.
@@ -56,7 +59,8 @@ pub(crate) enum How {
     TextThreads,
 }
 
-/// A run that ended early ends as refused where each row that it has is pending or the state of its task.
+/// A run that ended early ends as refused where each row that it has is pending or the state of its
+/// task.
 fn refused(states: &[Option<Outcome>], rows: &Option<Report>) -> Result<bool, Memory> {
     match rows {
         Some(report) => {
@@ -129,7 +133,7 @@ fn by_hand<R: Wait + RandomSource + AllocGlobal>(
     canvas: &Sample,
 ) -> Result<bool, Memory> {
     let envelopes = first_envelopes(alloc, &canvas.plan)?;
-    match work(rt, alloc, &canvas.plan, envelopes, u32::MAX) {
+    match work(rt, alloc, &canvas.plan, envelopes, &OpenGate, u32::MAX) {
         Some(left) => is_left(canvas, &left),
         None => Err(Memory),
     }
@@ -146,6 +150,22 @@ fn reported(
         Err(TextFault::Memory) => Err(Memory),
         Err(TextFault::Run(fault)) => ended_early(states, &fault),
         Err(TextFault::Sig(_)) => Ok(false),
+    }
+}
+
+/// Whether a canvas comes to its states where the envelopes of its first two tasks are delivered
+/// again, and four stores answer Again.
+fn again(alloc: Global, canvas: &Sample, workers: u32) -> Result<bool, Memory> {
+    let mut entries = Vec::new(alloc);
+    for number in [1, 2] {
+        if let Some(task) = TaskNo::new(number) {
+            entries.push((task, When::Early))?;
+            entries.push((task, When::Late))?;
+        }
+    }
+    match run_turns_again(alloc, &canvas.plan, &SixTasks, workers, &[], &entries) {
+        Ok((report, number)) => Ok(ended(canvas.states.get(), Ok(report))? && number == 4),
+        Err(fault) => ended_early(canvas.states.get(), &fault),
     }
 }
 
@@ -185,6 +205,7 @@ where
             states,
             run_turns_within(alloc, &canvas.plan, &SixTasks, 1, &[], 1_000),
         ),
+        How::Again(workers) => again(alloc, canvas, workers),
         How::Threads(workers) => by_threads(rt, alloc, canvas, workers),
         How::ByHand => by_hand(rt, alloc, canvas),
         How::Report => is_reported(alloc, canvas, text, report),

@@ -10,21 +10,45 @@ use canvas_worker::{Cause, Gate, OpenGate, Stop};
 use std::alloc::{AllocGlobal, Global};
 use std::random::RandomSource;
 use std::sync::Wait;
+use std::sync::atomic::{AtomicU32, Ordering};
 use std::test::Fail;
 use std::thread::Threads;
 
 /// More polls than the worker takes.
 const MOST: u32 = 100;
 
-/// What a worker leaves of a canvas that is stopped after so many polls.
+/// Has an envelope delivered again each of the first times that it is asked.
+#[derive(Drop)]
+struct FirstTimes {
+    times: u32,
+    asked: AtomicU32,
+}
+
+impl Gate for FirstTimes {
+    fn go(&self, _worker: u32, _task: TaskNo) -> bool {
+        true
+    }
+
+    fn again(&self, _worker: u32, _task: TaskNo) -> bool {
+        self.asked.fetch_add(1, Ordering::SeqCst) < self.times
+    }
+}
+
+/// What a worker leaves of a canvas that is stopped after so many polls, where so many envelopes
+/// are delivered again.
 fn left_after<R: Wait + RandomSource + AllocGlobal>(
     rt: &R,
     alloc: Global,
     canvas: &Sample,
+    times: u32,
     polls: u32,
 ) -> Option<Left> {
+    let gate = FirstTimes {
+        times,
+        asked: AtomicU32::new(0),
+    };
     match first_envelopes(alloc, &canvas.plan) {
-        Ok(envelopes) => work(rt, alloc, &canvas.plan, envelopes, polls),
+        Ok(envelopes) => work(rt, alloc, &canvas.plan, envelopes, &gate, polls),
         Err(_) => None,
     }
 }
@@ -48,9 +72,10 @@ fn polls_to_stop<R: Wait + RandomSource + AllocGlobal>(
     rt: &R,
     alloc: Global,
     canvas: &Sample,
+    times: u32,
 ) -> Option<u32> {
     for before in 0..MOST {
-        match left_after(rt, alloc, canvas, before) {
+        match left_after(rt, alloc, canvas, times, before) {
             Some(left) => {
                 if is_ended(&left, canvas, before) {
                     return Some(before);
@@ -65,14 +90,25 @@ fn polls_to_stop<R: Wait + RandomSource + AllocGlobal>(
     None
 }
 
-/// A take, a store, a part and an acknowledgement for each of the three members, three reads, the body's store and its callback's
-/// publish, a take, a store and an acknowledgement for the callback, a take that finds nothing and the rest: twenty-two, each a poll
-/// of its own.
+/// A take, a store, a part and an acknowledgement for each of the three members, three reads, the
+/// body's store and its callback's publish, a take, a store and an acknowledgement for the
+/// callback, a take that finds nothing and the rest: twenty-two, each a poll of its own.
 #[test]
 fn stopped_before_each_poll(rt: HostRuntime) -> Result<(), Fail> {
     let canvas = a_failed_member(rt.alloc()).ok_or("no canvas")?;
-    let polls = polls_to_stop(&rt, rt.alloc(), &canvas);
+    let polls = polls_to_stop(&rt, rt.alloc(), &canvas, 0);
     assert!(rt; polls.is_some_and(|polls| polls >= 22), "{polls:?}");
+    Ok(())
+}
+
+/// Each of the eight deliveries is a poll more, and of each copy there is a take, a store that
+/// answers Again, and an acknowledgement.
+#[test]
+fn stopped_within_redeliveries(rt: HostRuntime) -> Result<(), Fail> {
+    let canvas = a_failed_member(rt.alloc()).ok_or("no canvas")?;
+    let once = polls_to_stop(&rt, rt.alloc(), &canvas, 0).ok_or("no polls")?;
+    let polls = polls_to_stop(&rt, rt.alloc(), &canvas, 8);
+    assert_eq!(rt; polls, once.checked_add(32));
     Ok(())
 }
 
@@ -91,7 +127,8 @@ impl Gate for Stopping<'_> {
     }
 }
 
-/// How many rows a stopped run has, where each is the state of its task. None of a run that ended otherwise.
+/// How many rows a stopped run has, where each is the state of its task. None of a run that ended
+/// otherwise.
 fn rows_of_stopped(fault: &RunFault, states: &[Option<Outcome>]) -> Option<usize> {
     match fault {
         RunFault::Halted {

@@ -1,5 +1,5 @@
--- The data of the types of the code: of lines without numbers, and of numbered lines with their places
--- (Celery's `Signature.freeze`: ids, and where results go, before anything runs).
+-- The data of the types of the code: of lines without numbers, and of numbered lines with their
+-- places (Celery's `Signature.freeze`: ids, and where results go, before anything runs).
 use Rattle.std.specs.Prelude.{ℕ, List, [], ◌∷◌, map, Option, Some, None, Box}
 use Rattle.std.specs.declared.alloc.Global.{Global}
 use Rattle.canvas_semantics.specs.Tree.{Task}
@@ -90,19 +90,27 @@ p_line_step l = p_steps l.tasks (p_tail_of l.tail)
 
 abbrev pub p_task_step : FrozenTask-F PCarried PLine PLine PTask PPlace → PTask
 p_task_step t =
-    p_task t.no (record { name = t.name; args = t.args; kwargs = t.kwargs; immutable = t.immutable }) (p_tasks_of t.links) (p_tasks_of t.errbacks) (place_or t.place)
+    p_task t.no
+    (record { name = t.name; args = t.args; kwargs = t.kwargs; immutable = t.immutable })
+    (p_tasks_of t.links) (p_tasks_of t.errbacks) (place_or t.place)
 
 abbrev pub place_step : Place-F PCarried PLine PLine PTask PPlace → PPlace
 place_step p = place_carrying p.group p.chord
 
 abbrev pub p_task_view : frozen_task.FrozenTask → PTask
-p_task_view = frozen_task.fold-FrozenTask PCarried PLine PLine PTask PPlace carried_step p_end_step p_line_step p_task_step place_step
+p_task_view =
+    frozen_task.fold-FrozenTask PCarried PLine PLine PTask PPlace carried_step p_end_step p_line_step
+    p_task_step place_step
 
 abbrev pub p_line_view : frozen_line.FrozenLine → PLine
-p_line_view = frozen_line.fold-FrozenLine PCarried PLine PLine PTask PPlace carried_step p_end_step p_line_step p_task_step place_step
+p_line_view =
+    frozen_line.fold-FrozenLine PCarried PLine PLine PTask PPlace carried_step p_end_step p_line_step
+    p_task_step place_step
 
 abbrev pub p_end_view : frozen_end.FrozenEnd → PLine
-p_end_view = frozen_end.fold-FrozenEnd PCarried PLine PLine PTask PPlace carried_step p_end_step p_line_step p_task_step place_step
+p_end_view =
+    frozen_end.fold-FrozenEnd PCarried PLine PLine PTask PPlace carried_step p_end_step p_line_step
+    p_task_step place_step
 
 -- without places
 abbrev pub task_in : frozen_task.FrozenTask → Task

@@ -1,4 +1,5 @@
--- What every plan's line is. A plan is a canvas that is ready to run, as Celery's `Signature.freeze` makes one.
+-- What every plan's line is. A plan is a canvas that is ready to run, as Celery's
+-- `Signature.freeze` makes one.
 use Rattle.std.specs.Prelude.{◌≡◌, ◌==◌, ◌<◌, ℕ, count_by}
 use Rattle.canvas_semantics.specs.Line.{Line, number_line, members, tree_of}
 use Rattle.canvas_rewrite.specs.Runnable.{IsRunnable}

@@ -9,7 +9,8 @@ use Rattle.canvas_semantics.specs.Bounds.{nests_group, most_tasks, most_groups, 
 -- nothing refuses a task's call, and the names of its keyword arguments ascend
 abbrev mutual
   pub TaskSound : Task → Type 0
-  TaskSound (task k call links errbacks) = (call_fault call ≡ None) × Ascends call.kwargs × TasksSound links × TasksSound errbacks
+  TaskSound (task k call links errbacks) =
+      (call_fault call ≡ None) × Ascends call.kwargs × TasksSound links × TasksSound errbacks
 
   pub TasksSound : Tasks → Type 0
   TasksSound no_tasks = Unit {0}

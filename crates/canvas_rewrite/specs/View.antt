@@ -1,4 +1,5 @@
--- The data that a line stands for: its tasks, and then its group or chord (Celery user guide, Canvas: a group that a task follows is a chord).
+-- The data that a line stands for: its tasks, and then its group or chord (Celery user guide,
+-- Canvas: a group that a task follows is a chord).
 use Rattle.std.specs.Prelude.{List, [], ◌∷◌, Option, Some, None}
 use Rattle.canvas_semantics.specs.Tree.{Tree, chain, group, chord, Trees, no_trees, and_tree}
 use Rattle.canvas_rewrite.specs.declared.line.Line.{Line}

@@ -49,7 +49,8 @@ fn line_node(alloc: Global, line: &Line) -> Result<Node, AllocError>
 
 #[cycle(as_node)]
 fn end_node(alloc: Global, end: &LineEnd) -> Result<Node, AllocError>
-    ensures { IfOk result (λ node. and_tree (view node) no_trees ≡ compact_elements (end_of end.now)) }
+    ensures { IfOk result
+        (λ node. and_tree (view node) no_trees ≡ compact_elements (end_of end.now)) }
 {
     let members = ListOf::of(line_nodes(alloc, end.members.get())?);
     match &end.body {
@@ -66,7 +67,8 @@ fn end_node(alloc: Global, end: &LineEnd) -> Result<Node, AllocError>
 
 #[cycle(as_node)]
 fn line_nodes(alloc: Global, lines: &[Line]) -> Result<Vec<Node>, AllocError>
-    ensures { IfOk result (λ nodes. map view nodes.items ≡ map (λ l. compact (line_of l)) lines.now) }
+    ensures { IfOk result
+        (λ nodes. map view nodes.items ≡ map (λ l. compact (line_of l)) lines.now) }
 {
     let mut nodes = Vec::new(alloc);
     for line in lines {

@@ -73,7 +73,8 @@ pub(crate) fn push_groups(
     line: &FrozenLine,
     groups: &mut Vec<Group>,
 ) -> Result<(), AllocError>
-    ensures { OnOk result (map group_entry groups.new.items ≡ map group_entry groups.old.items ++ group_entries (line_in line.now)) }
+    ensures { OnOk result (map group_entry groups.new.items
+        ≡ map group_entry groups.old.items ++ group_entries (line_in line.now)) }
 {
     match &line.tail {
         Some(end) => push_group(alloc, end, groups),
@@ -83,7 +84,8 @@ pub(crate) fn push_groups(
 
 #[cycle(groups)]
 fn push_group(alloc: Global, end: &FrozenEnd, groups: &mut Vec<Group>) -> Result<(), AllocError>
-    ensures { OnOk result (map group_entry groups.new.items ≡ map group_entry groups.old.items ++ group_entries (end_in end.now)) }
+    ensures { OnOk result (map group_entry groups.new.items
+        ≡ map group_entry groups.old.items ++ group_entries (end_in end.now)) }
 {
     let mut members = Vec::new(alloc);
     push_all(end.members.get(), &mut members)?;
@@ -112,7 +114,8 @@ fn push_all_groups(
     lines: &[FrozenLine],
     groups: &mut Vec<Group>,
 ) -> Result<(), AllocError>
-    ensures { OnOk result (map group_entry groups.new.items ≡ map group_entry groups.old.items ++ lines_group_entries (map line_in lines.now)) }
+    ensures { OnOk result (map group_entry groups.new.items
+        ≡ map group_entry groups.old.items ++ lines_group_entries (map line_in lines.now)) }
 {
     for line in lines {
         push_groups(alloc, line, groups)?;

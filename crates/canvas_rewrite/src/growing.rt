@@ -34,7 +34,9 @@ impl Growing {
         members: Vec<Line>,
         body: Option<Line>,
     ) -> Result<Growing, AllocError>
-        ensures { IfOk result (λ line. growing line ≡ and_tree (group_or_chord (map elements members.items) (option_map elements body)) no_trees) }
+        ensures { IfOk result (λ line. growing line
+            ≡ and_tree (group_or_chord (map elements members.items) (option_map elements body))
+            no_trees) }
     {
         let members = ListOf::of(members);
         Ok(Growing {
@@ -50,7 +52,8 @@ impl Growing {
     }
 
     pub(crate) fn push_front(&mut self, sig: TaskSig) -> Result<(), AllocError>
-        ensures { OnOk result (growing self.new ≡ and_tree (one (task_view sig)) (growing self.old)) }
+        ensures { OnOk result
+            (growing self.new ≡ and_tree (one (task_view sig)) (growing self.old)) }
     {
         self.tasks.push(sig)?;
         Ok(())

@@ -20,7 +20,8 @@ fn push_task(task: &FrozenTask, found: &mut Vec<TextOf>) -> Result<(), AllocErro
 
 #[cycle(task_names)]
 fn push_tasks(tasks: &[FrozenTask], found: &mut Vec<TextOf>) -> Result<(), AllocError>
-    ensures { OnOk result (found.new.items ≡ found.old.items ++ tasks_all_names (map task_in tasks.now)) }
+    ensures { OnOk result
+        (found.new.items ≡ found.old.items ++ tasks_all_names (map task_in tasks.now)) }
 {
     for task in tasks {
         push_task(task, found)?;
@@ -53,7 +54,8 @@ fn push_end(end: &FrozenEnd, found: &mut Vec<TextOf>) -> Result<(), AllocError>
 
 #[cycle(line_names)]
 fn push_lines(lines: &[FrozenLine], found: &mut Vec<TextOf>) -> Result<(), AllocError>
-    ensures { OnOk result (found.new.items ≡ found.old.items ++ lines_all_names (map line_in lines.now)) }
+    ensures { OnOk result
+        (found.new.items ≡ found.old.items ++ lines_all_names (map line_in lines.now)) }
 {
     for line in lines {
         push_names(line, found)?;

@@ -32,7 +32,8 @@ fn group_no(number: u32) -> GroupNo
 fn freeze_task(alloc: Global, sig: &TaskSig, next: &mut u32) -> Result<FrozenTask, AllocError>
     requires first { 1 ≤ next.old }
     requires few { next.old + count_task (task_view sig.now) ≤ greatest_number }
-    ensures value { IfOk result (λ t. p_task_view t ≡ bare_task (number_task next.old (task_view sig.now))) }
+    ensures value { IfOk result
+        (λ t. p_task_view t ≡ bare_task (number_task next.old (task_view sig.now))) }
     ensures next { IfOk result (λ _. next.new ≡ next.old + count_task (task_view sig.now)) }
 {
     let no = task_no(*next);
@@ -62,7 +63,8 @@ fn freeze_tasks(
 ) -> Result<Vec<FrozenTask>, AllocError>
     requires first { 1 ≤ next.old }
     requires few { next.old + tasks_in (map task_view sigs.now) ≤ greatest_number }
-    ensures value { IfOk result (λ ts. map p_task_view ts.items ≡ tasks_from next.old (map task_view sigs.now)) }
+    ensures value { IfOk result
+        (λ ts. map p_task_view ts.items ≡ tasks_from next.old (map task_view sigs.now)) }
     ensures next { IfOk result (λ _. next.new ≡ next.old + tasks_in (map task_view sigs.now)) }
 {
     let mut frozen = Vec::new(alloc);
@@ -72,7 +74,8 @@ fn freeze_tasks(
     Ok(frozen)
 }
 
-/// The line, its tasks and groups numbered from `task` and `group` on, and the numbers after its last.
+/// The line, its tasks and groups numbered from `task` and `group` on, and the numbers after its
+/// last.
 #[cycle(lines)]
 pub(crate) fn freeze_line(
     alloc: Global,
@@ -80,8 +83,10 @@ pub(crate) fn freeze_line(
     task: &mut u32,
     group: &mut u32,
 ) -> Result<FrozenLine, AllocError>
-    requires { HasRoom task.old group.old (count_line (line_of line.now)) (line_groups (line_of line.now)) }
-    ensures value { IfOk result (λ l. p_line_view l ≡ bare (number_line task.old group.old (line_of line.now))) }
+    requires { HasRoom task.old group.old (count_line (line_of line.now))
+        (line_groups (line_of line.now)) }
+    ensures value { IfOk result
+        (λ l. p_line_view l ≡ bare (number_line task.old group.old (line_of line.now))) }
     ensures task { IfOk result (λ _. task.new ≡ task.old + count_line (line_of line.now)) }
     ensures group { IfOk result (λ _. group.new ≡ group.old + line_groups (line_of line.now)) }
 {
@@ -106,8 +111,10 @@ fn freeze_end(
     task: &mut u32,
     group: &mut u32,
 ) -> Result<FrozenEnd, AllocError>
-    requires { HasRoom task.old group.old (count_line (end_of end.now)) (line_groups (end_of end.now)) }
-    ensures value { IfOk result (λ e. p_end_view e ≡ bare (number_line task.old group.old (end_of end.now))) }
+    requires { HasRoom task.old group.old (count_line (end_of end.now))
+        (line_groups (end_of end.now)) }
+    ensures value { IfOk result
+        (λ e. p_end_view e ≡ bare (number_line task.old group.old (end_of end.now))) }
     ensures task { IfOk result (λ _. task.new ≡ task.old + count_line (end_of end.now)) }
     ensures group { IfOk result (λ _. group.new ≡ group.old + line_groups (end_of end.now)) }
 {
@@ -138,10 +145,13 @@ fn freeze_lines(
     task: &mut u32,
     group: &mut u32,
 ) -> Result<Vec<FrozenLine>, AllocError>
-    requires { HasRoom task.old group.old (lines_count (map line_of lines.now)) (lines_group_count (map line_of lines.now)) }
-    ensures value { IfOk result (λ ls. map p_line_view ls.items ≡ lines_from task.old group.old (map line_of lines.now)) }
+    requires { HasRoom task.old group.old (lines_count (map line_of lines.now))
+        (lines_group_count (map line_of lines.now)) }
+    ensures value { IfOk result
+        (λ ls. map p_line_view ls.items ≡ lines_from task.old group.old (map line_of lines.now)) }
     ensures task { IfOk result (λ _. task.new ≡ task.old + lines_count (map line_of lines.now)) }
-    ensures group { IfOk result (λ _. group.new ≡ group.old + lines_group_count (map line_of lines.now)) }
+    ensures group { IfOk result
+        (λ _. group.new ≡ group.old + lines_group_count (map line_of lines.now)) }
 {
     let mut frozen = Vec::new(alloc);
     for line in lines {

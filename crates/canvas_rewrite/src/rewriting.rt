@@ -17,7 +17,8 @@ use std::alloc::{AllocError, Global};
 
 /// A group that a line follows, which makes it a chord where it has an element.
 fn group_onto(alloc: Global, members: Vec<Line>, after: Growing) -> Result<Growing, AllocError>
-    ensures { IfOk result (λ line. growing line ≡ group_onto 0 (chains (map elements members.items)) (growing after)) }
+    ensures { IfOk result (λ line. growing line
+        ≡ group_onto 0 (chains (map elements members.items)) (growing after)) }
 {
     if after.is_empty() {
         return Growing::of_end(alloc, members, None);
@@ -49,7 +50,8 @@ fn onto(alloc: Global, node: &Node, after: Growing) -> Result<Growing, AllocErro
 
 #[cycle(onto)]
 fn all_onto(alloc: Global, nodes: &[Node], after: Growing) -> Result<Growing, AllocError>
-    ensures { IfOk result (λ line. growing line ≡ all_onto (trees_of (map view nodes.now)) (growing after)) }
+    ensures { IfOk result
+        (λ line. growing line ≡ all_onto (trees_of (map view nodes.now)) (growing after)) }
 {
     let mut line = after;
     let mut left = nodes.len();
@@ -63,7 +65,8 @@ fn all_onto(alloc: Global, nodes: &[Node], after: Growing) -> Result<Growing, Al
 /// A line for each node.
 #[cycle(onto)]
 fn lines_of(alloc: Global, nodes: &[Node]) -> Result<Vec<Line>, AllocError>
-    ensures { IfOk result (λ lines. map elements lines.items ≡ map (λ n. onto (view n) no_trees) nodes.now) }
+    ensures { IfOk result
+        (λ lines. map elements lines.items ≡ map (λ n. onto (view n) no_trees) nodes.now) }
 {
     let mut lines = Vec::new(alloc);
     for node in nodes {

@@ -1,5 +1,6 @@
--- Runs by turns with entries: a sum and its product, whose first message is delivered again at both points, and a division by zero with a link, whose task
--- isn't run, so that an entry for it does nothing.
+-- Runs by turns with entries: a sum and its product, whose first message is delivered again at both
+-- points, and a division by zero with a link, whose task isn't run, so that an entry for it does
+-- nothing.
 use Rattle.std.specs.Prelude.{true, false, List, [], ◌∷◌, Some, None, pos, codes}
 use Rattle.canvas_task.specs.declared.arg.Arg.TheVariants as arg
 use Rattle.canvas_task.specs.declared.outcome.Outcome.{Outcome}
@@ -20,18 +21,30 @@ use Rattle.canvas_runs.specs.Worker.{sealed}
 -- ---- 4 + 4, then 8 times that
 
 abbrev pub product : Line
-product = step (task 1 (call (codes "tasks.add") (arg.Num (pos 4) ∷ arg.Num (pos 4) ∷ [])) no_tasks no_tasks) (step (task 2 (call (codes "tasks.mul") (arg.Num (pos 8) ∷ [])) no_tasks no_tasks) stop)
+product =
+    step
+    (task 1 (call (codes "tasks.add") (arg.Num (pos 4) ∷ arg.Num (pos 4) ∷ [])) no_tasks no_tasks)
+    (step (task 2 (call (codes "tasks.mul") (arg.Num (pos 8) ∷ [])) no_tasks no_tasks) stop)
 
 abbrev pub product_sum : Content
 product_sum =
     record {
       parent = None;
-      own = p_task 1 (call (codes "tasks.add") (arg.Num (pos 4) ∷ arg.Num (pos 4) ∷ [])) no_p_tasks no_p_tasks p_nowhere;
-      rest = p_step (p_task 2 (call (codes "tasks.mul") (arg.Num (pos 8) ∷ [])) no_p_tasks no_p_tasks p_nowhere) p_stop;
+      own =
+          p_task 1 (call (codes "tasks.add") (arg.Num (pos 4) ∷ arg.Num (pos 4) ∷ [])) no_p_tasks
+          no_p_tasks p_nowhere;
+      rest =
+          p_step (p_task 2 (call (codes "tasks.mul") (arg.Num (pos 8) ∷ [])) no_p_tasks no_p_tasks
+          p_nowhere) p_stop;
     }
 
 abbrev pub product_whole : Content
-product_whole = record { parent = Some 1; own = p_task 2 (call (codes "tasks.mul") (arg.Num (pos 8) ∷ arg.Num (pos 8) ∷ [])) no_p_tasks no_p_tasks p_nowhere; rest = p_stop }
+product_whole =
+    record {
+      parent = Some 1;
+      own = p_task 2 (call (codes "tasks.mul") (arg.Num (pos 8) ∷ arg.Num (pos 8) ∷ [])) no_p_tasks no_p_tasks p_nowhere;
+      rest = p_stop;
+    }
 
 abbrev pub eight : Outcome
 eight = Success (pos 8)
@@ -44,18 +57,30 @@ both_points = (1, Early) ∷ (1, Late) ∷ []
 
 abbrev pub product_steps : List Step
 product_steps =
-    (1, (take, taken (Some (sealed product_sum)))) ∷ (1, (deliver (sealed product_sum), sent)) ∷ (1, (keep 1 eight, kept true)) ∷ (1, (send (sealed product_whole), sent)) ∷ (1, (deliver (sealed product_sum), sent)) ∷ (1, (ack, acked)) ∷ (1, (take, taken (Some (sealed product_sum)))) ∷ (1, (keep 1 eight, kept false)) ∷ (1, (ack, acked)) ∷ (1, (take, taken (Some (sealed product_whole)))) ∷ (1, (keep 2 sixty_four, kept true)) ∷ (1, (ack, acked)) ∷ (1, (take, taken (Some (sealed product_sum)))) ∷ (1, (keep 1 eight, kept false)) ∷ (1, (ack, acked)) ∷ (1, (take, taken None)) ∷ (1, (pause, rested false)) ∷ []
+    (1, (take, taken (Some (sealed product_sum)))) ∷ (1, (deliver (sealed product_sum), sent))
+    ∷ (1, (keep 1 eight, kept true)) ∷ (1, (send (sealed product_whole), sent))
+    ∷ (1, (deliver (sealed product_sum), sent)) ∷ (1, (ack, acked))
+    ∷ (1, (take, taken (Some (sealed product_sum)))) ∷ (1, (keep 1 eight, kept false))
+    ∷ (1, (ack, acked)) ∷ (1, (take, taken (Some (sealed product_whole))))
+    ∷ (1, (keep 2 sixty_four, kept true)) ∷ (1, (ack, acked))
+    ∷ (1, (take, taken (Some (sealed product_sum)))) ∷ (1, (keep 1 eight, kept false))
+    ∷ (1, (ack, acked)) ∷ (1, (take, taken None)) ∷ (1, (pause, rested false)) ∷ []
 
 -- ---- 1 by 0, with a link
 
 abbrev pub quotient : Line
-quotient = step (task 1 (call (codes "tasks.div") (arg.Num (pos 1) ∷ arg.Num (pos 0) ∷ [])) (and_task (task 2 (call (codes "tasks.ident") []) no_tasks no_tasks) no_tasks) no_tasks) stop
+quotient =
+    step (task 1 (call (codes "tasks.div") (arg.Num (pos 1) ∷ arg.Num (pos 0) ∷ []))
+    (and_task (task 2 (call (codes "tasks.ident") []) no_tasks no_tasks) no_tasks) no_tasks) stop
 
 abbrev pub quotient_linked : Content
 quotient_linked =
     record {
       parent = None;
-      own = p_task 1 (call (codes "tasks.div") (arg.Num (pos 1) ∷ arg.Num (pos 0) ∷ [])) (and_p_task (p_task 2 (call (codes "tasks.ident") []) no_p_tasks no_p_tasks p_nowhere) no_p_tasks) no_p_tasks p_nowhere;
+      own =
+          p_task 1 (call (codes "tasks.div") (arg.Num (pos 1) ∷ arg.Num (pos 0) ∷ [])) (and_p_task
+          (p_task 2 (call (codes "tasks.ident") []) no_p_tasks no_p_tasks p_nowhere) no_p_tasks)
+          no_p_tasks p_nowhere;
       rest = p_stop;
     }
 
@@ -67,9 +92,11 @@ link_entry = (2, Early) ∷ []
 
 abbrev pub quotient_steps : List Step
 quotient_steps =
-    (1, (take, taken (Some (sealed quotient_linked)))) ∷ (1, (keep 1 no_quotient, kept true)) ∷ (1, (ack, acked)) ∷ (1, (take, taken None)) ∷ (1, (pause, rested false)) ∷ []
+    (1, (take, taken (Some (sealed quotient_linked)))) ∷ (1, (keep 1 no_quotient, kept true))
+    ∷ (1, (ack, acked)) ∷ (1, (take, taken None)) ∷ (1, (pause, rested false)) ∷ []
 
--- ---- a near miss: the worker has the store of its message answered, though an entry for the point before it is unspent
+-- ---- a near miss: the worker has the store of its message answered, though an entry for the point
+-- before it is unspent
 
 abbrev pub unspent : List Step
 unspent = (1, (take, taken (Some (sealed product_sum)))) ∷ (1, (keep 1 eight, kept true)) ∷ []

@@ -1,4 +1,5 @@
--- What it is for a worker's pass and seat to have followed a core run, from where they stood (Lamport's sequential consistency, told by one caller).
+-- What it is for a worker's pass and seat to have followed a core run, from where they stood
+-- (Lamport's sequential consistency, told by one caller).
 --     Makes p cs q           the pass p has made these broker calls and is q then: each stands in the one legal history of its queue, after all that p had seen
 --     Serves plan s cs t     the same of a seat and its backend calls
 --     Followed behaviour plan w v   from w on the worker's pass and seat have followed a core run, and it is v then
@@ -59,14 +60,18 @@ table_reply (has_read t x) = found x
 
 abbrev pub Makes : Pass → List (BrokerCall Envelope) → Pass → Type 0
 Makes p [] q = q ≡ p
-Makes p (c ∷ cs) q = (between : Pass) × passes.Stands p (calls p.name (queue_call c) (queue_answer c)) between × Makes between cs q
+Makes p (c ∷ cs) q =
+    (between : Pass) × passes.Stands p (calls p.name (queue_call c) (queue_answer c)) between
+    × Makes between cs q
 
 abbrev pub Serves : Roster → Seat → List (BackendCall Outcome) → Seat → Type 0
 Serves plan s [] t = t ≡ s
-Serves plan s (c ∷ cs) t = (between : Seat) × seats.Stands plan s (calls s.name (table_call c) (table_reply c)) between × Serves plan between cs t
+Serves plan s (c ∷ cs) t =
+    (between : Seat) × seats.Stands plan s (calls s.name (table_call c) (table_reply c)) between
+    × Serves plan between cs t
 
--- a worker: its pass and its seat, what its core has left to do, the envelope of the open script, the envelopes that it took and has not given to its core, and
--- its counts
+-- a worker: its pass and its seat, what its core has left to do, the envelope of the open script,
+-- the envelopes that it took and has not given to its core, and its counts
 pub record Working : Type 0 where
   pub pass : Pass
   pub seat : Seat
@@ -77,7 +82,8 @@ pub record Working : Type 0 where
 
 -- with this pass and this seat, before its first call
 abbrev pub begins : Pass → Seat → Working
-begins p s = record { pass = p; seat = s; left = taking; current = None; held = []; tally = none_yet }
+begins p s =
+    record { pass = p; seat = s; left = taking; current = None; held = []; tally = none_yet }
 
 -- not inside a script, with no envelope left over
 abbrev pub IsDone : Working → Type 0
@@ -94,7 +100,8 @@ pub record Followed (behaviour : Behaviour) (plan : Roster) (w v : Working) : Ty
   pub reads : ReadsMembers (members plan) run
   pub counts : Counted plan run w.tally v.tally
   pub leaves : left_after (worker_of behaviour plan) w.left run ≡ v.left
-  -- the calls of its pass. A take may stand before the core's, and an envelope may be delivered again while its script is open
+  -- the calls of its pass. A take may stand before the core's, and an envelope may be delivered
+  -- again while its script is open
   pub made : List (BrokerCall Envelope)
   pub stood : Each Stood made
   pub follows : FollowsScripts w.current (map Some w.held) (core_calls run) made

@@ -1,6 +1,8 @@
--- The law of runs: whatever the number of workers, the order of their calls and the envelopes that are delivered again, a run does what evaluating the plan's
--- canvas gives, each thing once (Celery user guide, Canvas: a chord's body is called once, when all tasks of the header have returned). An envelope that is
--- delivered again is taken once more, and of the stores of its task one answers that it was the first.
+-- The law of runs: whatever the number of workers, the order of their calls and the envelopes that
+-- are delivered again, a run does what evaluating the plan's canvas gives, each thing once (Celery
+-- user guide, Canvas: a chord's body is called once, when all tasks of the header have returned).
+-- An envelope that is delivered again is taken once more, and of the stores of its task one answers
+-- that it was the first.
 use Rattle.std.specs.Prelude.{◌≡◌, ◌≤◌, ◌⊎◌, ◌+◌, ℕ, true, false, eqb, cond, List, Option, Some, None}
 use Rattle.canvas_task.specs.Apply.{Behaviour}
 use Rattle.canvas_task.specs.declared.outcome.Outcome.{Outcome}
@@ -43,7 +45,8 @@ returns_one g m (stored t o b) = 0
 returns_one g m (returned h t n) = cond (eqb h g) (cond (eqb t m) 1 0) 0
 returns_one g m (has_read t o) = 0
 
--- how often a store of task k answers First, and Again, and how often the part of task m to chord g is returned
+-- how often a store of task k answers First, and Again, and how often the part of task m to chord g
+-- is returned
 abbrev pub first_stores : ℕ → results.Log → ℕ
 first_stores k table = total (firsts_one k) (seconds (table_calls table))
 
@@ -103,28 +106,40 @@ module _ (behaviour : Behaviour) (l : Line) where
   -- every run, closed or not
   pub record FirstPart (r : Run behaviour l) : Type 0 where
     -- each outcome that is stored is the task's
-    pub stored : (p t : ℕ) (o : Outcome) (a : Stored) → In (calls p (results.store t o) (results.was a)) r.table → its_state t ≡ Some o
-    -- one store of a task is the first, and no more answer again than its message was delivered again: with no redelivery none does
+    pub stored : (p t : ℕ) (o : Outcome) (a : Stored)
+        → In (calls p (results.store t o) (results.was a)) r.table → its_state t ≡ Some o
+    -- one store of a task is the first, and no more answer again than its message was delivered
+    -- again: with no redelivery none does
     pub stored_once : (k : ℕ) → first_stores k r.table ≤ 1
     pub stored_again : (k : ℕ) → again_stores k r.table ≤ redeliveries l k r.queue
     -- so each task is pending or has its state
-    pub rows : (t : ℕ) → ((results.results (roster_of l) r.table).outcomes t ≡ None) ⊎ ((results.results (roster_of l) r.table).outcomes t ≡ its_state t)
+    pub rows : (t : ℕ)
+        → ((results.results (roster_of l) r.table).outcomes t ≡ None)
+        ⊎ ((results.results (roster_of l) r.table).outcomes t ≡ its_state t)
     -- each envelope that is published is that of the message of a task that is run, and reads as it
-    pub published : (p : ℕ) (e : Envelope) (a : Option Envelope) → In (calls p (broker.publish e) a) r.queue → (c : Content) × (e ≡ sealed c) × (opened (book_of l) e ≡ Some c) × IsRunMessage c
+    pub published : (p : ℕ) (e : Envelope) (a : Option Envelope)
+        → In (calls p (broker.publish e) a) r.queue
+        → (c : Content) × (e ≡ sealed c) × (opened (book_of l) e ≡ Some c) × IsRunMessage c
     pub published_once : (k : ℕ) → publishes l k r.queue ≤ 1
     -- and so is each that is delivered again
-    pub redelivered : (p : ℕ) (e : Envelope) (a : Option Envelope) → In (calls p (broker.redeliver e) a) r.queue → (c : Content) × (e ≡ sealed c) × (opened (book_of l) e ≡ Some c) × IsRunMessage c
+    pub redelivered : (p : ℕ) (e : Envelope) (a : Option Envelope)
+        → In (calls p (broker.redeliver e) a) r.queue
+        → (c : Content) × (e ≡ sealed c) × (opened (book_of l) e ≡ Some c) × IsRunMessage c
     -- each part that is returned is one of the evaluation's
-    pub returned : (p g t n : ℕ) → In (calls p (results.part g t) (results.count n)) r.table → IsPart g t
+    pub returned : (p g t n : ℕ) → In (calls p (results.part g t) (results.count n)) r.table
+        → IsPart g t
 
   -- a closed run besides
   pub record SecondPart (r : Run behaviour l) : Type 0 where
     -- each task has its state; a task that evaluation leaves pending is pending
     pub rows : (t : ℕ) → (results.results (roster_of l) r.table).outcomes t ≡ its_state t
-    -- each message of the evaluation is published once, and what is published or delivered again is taken
+    -- each message of the evaluation is published once, and what is published or delivered again is
+    -- taken
     pub published : (c : Content) → IsRunMessage c → publishes l (number_of c.own) r.queue ≡ 1
-    pub taken : (k : ℕ) → takes_of_task l k r.queue ≡ publishes l k r.queue + redeliveries l k r.queue
-    -- each outcome is stored once first, and answered again as often as its message was delivered again
+    pub taken : (k : ℕ)
+        → takes_of_task l k r.queue ≡ publishes l k r.queue + redeliveries l k r.queue
+    -- each outcome is stored once first, and answered again as often as its message was delivered
+    -- again
     pub stored : (t : ℕ) (o : Outcome) → its_state t ≡ Some o → first_stores t r.table ≡ 1
     pub stored_again : (t : ℕ) → again_stores t r.table ≡ redeliveries l t r.queue
     pub pending : (t : ℕ) → its_state t ≡ None → first_stores t r.table + again_stores t r.table ≡ 0

@@ -1,5 +1,5 @@
--- Runs of a plan (Lamport's sequential consistency, for two objects):
--- a legal history of the broker, a legal history of the backend, and for each caller a core run that its calls follow.
+-- Runs of a plan (Lamport's sequential consistency, for two objects): a legal history of the
+-- broker, a legal history of the backend, and for each caller a core run that its calls follow.
 use Rattle.std.specs.Prelude.{◌≡◌, ℕ, eqb, cond, List, [], ◌∷◌, ◌++◌, map, None}
 use Rattle.canvas_task.specs.Apply.{Behaviour}
 use Rattle.canvas_task.specs.declared.outcome.Outcome.{Outcome}
@@ -34,7 +34,8 @@ pub record Run (behaviour : Behaviour) (l : Line) : Type 0 where
   pub is_core : (p : ℕ) → IsCoreRun (worker behaviour l) taking (core p)
   -- a read is of the member that it names
   pub reads : (p : ℕ) → ReadsMembers (members (roster_of l)) (core p)
-  -- What worker 0 publishes before all else, what is left of the first messages, and what it reads at the end.
+  -- What worker 0 publishes before all else, what is left of the first messages, and what it reads
+  -- at the end.
   pub opening : List Content
   pub unsent : List Content
   pub closing : List (BackendCall Outcome)
@@ -43,12 +44,18 @@ pub record Run (behaviour : Behaviour) (l : Line) : Type 0 where
   pub opens_back : Each IsReadBack opening
   pub closes : Each IsRead closing
   -- each caller's calls follow its core run
-  pub follows : (p : ℕ) → FollowsScripts None [] (map makes (cond (eqb p 0) (published_all (map sealed opening)) []) ++ core_calls (core p)) (by p (queue_calls queue))
-  pub keeps : (p : ℕ) → by p (table_calls table) ≡ backend_calls (core p) ++ cond (eqb p 0) closing []
+  pub follows : (p : ℕ)
+      → FollowsScripts None []
+      (map makes (cond (eqb p 0) (published_all (map sealed opening)) []) ++ core_calls (core p))
+      (by p (queue_calls queue))
+  pub keeps : (p : ℕ)
+      → by p (table_calls table) ≡ backend_calls (core p) ++ cond (eqb p 0) closing []
 
--- All first messages are published, the queue is empty at the end, each envelope taken has its script, and no core run stops inside one.
+-- All first messages are published, the queue is empty at the end, each envelope taken has its
+-- script, and no core run stops inside one.
 pub record Closed (behaviour : Behaviour) (l : Line) (r : Run behaviour l) : Type 0 where
   pub all_sent : r.unsent ≡ []
   pub drained : broker.queue_of r.queue ≡ []
-  pub all_used : (p : ℕ) → total takes_one (by p (queue_calls r.queue)) ≡ total takes_one (broker_calls (r.core p))
+  pub all_used : (p : ℕ)
+      → total takes_one (by p (queue_calls r.queue)) ≡ total takes_one (broker_calls (r.core p))
   pub all_ended : (p : ℕ) → Between (left_after (worker behaviour l) taking (r.core p))

@@ -1,6 +1,8 @@
--- Runs by turns in which envelopes are delivered again where a list of entries says so. An entry names a task and one of the two points of a script of the
--- task's message: early, before its first store, or late, before its envelope is acknowledged. A worker that comes to such a point spends the first unspent
--- entry for it, if there is one: within the same turn, before its ask is answered, it has the envelope delivered again. So one entry at most is spent at each point.
+-- Runs by turns in which envelopes are delivered again where a list of entries says so. An entry
+-- names a task and one of the two points of a script of the task's message: early, before its first
+-- store, or late, before its envelope is acknowledged. A worker that comes to such a point spends
+-- the first unspent entry for it, if there is one: within the same turn, before its ask is
+-- answered, it has the envelope delivered again. So one entry at most is spent at each point.
 -- Below, the behaviour and the plan are left out:
 --     TurnedAgain n before es us xs rest    after the steps before, with the entries es unspent, the turns us are taken, xs are the steps that they make, and
 --                                           the entries rest stay unspent
@@ -70,7 +72,8 @@ module _ (l : Line) where
   point_of w None = None
   point_of w (Some c) = Some (number_of c.own, w)
 
-  -- The point to which a script has come: the state is what is left to do of it. A dropped envelope reads as no message, so its script has none.
+  -- The point to which a script has come: the state is what is left to do of it. A dropped envelope
+  -- reads as no message, so its script has none.
   abbrev pub point : CoreState Content PCarried Outcome → Option Envelope → Option Entry
   point (owning m) h = point_of Early (message_in h)
   point acking h = point_of Late (message_in h)
@@ -82,29 +85,44 @@ module _ (behaviour : Behaviour) (l : Line) where
   comes_to before p = point l (left behaviour l before p) (holds before p)
 
   -- steps before, entries, turns, the steps that the turns make, the entries that stay unspent
-  pub data TurnedAgain (n : ℕ) : List Step → List Entry → List ℕ → List Step → List Entry → Type 0 where
+  pub data TurnedAgain (n : ℕ) : List Step → List Entry → List ℕ → List Step → List Entry →
+      Type 0 where
     no_turn : {before : List Step} {es : List Entry} → TurnedAgain n before es [] [] es
-    skips : {before : List Step} {es rest : List Entry} {p : ℕ} {us : List ℕ} {xs : List Step} → HasEnded behaviour l before p → TurnedAgain n before es us xs rest → TurnedAgain n before es (p ∷ us) xs rest
-    takes : {before : List Step} {es rest : List Entry} {p : ℕ} {a : Ask Envelope Outcome} {r : Reply Envelope Outcome} {us : List ℕ} {xs : List Step}
+    skips : {before : List Step} {es rest : List Entry} {p : ℕ} {us : List ℕ} {xs : List Step}
+        → HasEnded behaviour l before p → TurnedAgain n before es us xs rest
+        → TurnedAgain n before es (p ∷ us) xs rest
+    takes : {before : List Step} {es rest : List Entry} {p : ℕ} {a : Ask Envelope Outcome}
+        {r : Reply Envelope Outcome} {us : List ℕ} {xs : List Step}
         → wanted (comes_to before p) es ≡ false
-        → ReadsBack (worker behaviour l) (left behaviour l before p) → a ≡ ask (worker behaviour l) (left behaviour l before p) → Answers behaviour l n before a r
-        → TurnedAgain n (before ++ (p, (a, r)) ∷ []) es us xs rest → TurnedAgain n before es (p ∷ us) ((p, (a, r)) ∷ xs) rest
-    spends : {before : List Step} {es rest : List Entry} {p : ℕ} {e : Envelope} {a : Ask Envelope Outcome} {r : Reply Envelope Outcome} {us : List ℕ} {xs : List Step}
+        → ReadsBack (worker behaviour l) (left behaviour l before p)
+        → a ≡ ask (worker behaviour l) (left behaviour l before p)
+        → Answers behaviour l n before a r
+        → TurnedAgain n (before ++ (p, (a, r)) ∷ []) es us xs rest
+        → TurnedAgain n before es (p ∷ us) ((p, (a, r)) ∷ xs) rest
+    spends : {before : List Step} {es rest : List Entry} {p : ℕ} {e : Envelope}
+        {a : Ask Envelope Outcome} {r : Reply Envelope Outcome} {us : List ℕ} {xs : List Step}
         → wanted (comes_to before p) es ≡ true → IsWorker n p → holds before p ≡ Some e
-        → ReadsBack (worker behaviour l) (left behaviour l (before ++ (p, (deliver e, sent)) ∷ []) p) → a ≡ ask (worker behaviour l) (left behaviour l (before ++ (p, (deliver e, sent)) ∷ []) p)
+        → ReadsBack (worker behaviour l)
+        (left behaviour l (before ++ (p, (deliver e, sent)) ∷ []) p)
+        → a
+        ≡ ask (worker behaviour l) (left behaviour l (before ++ (p, (deliver e, sent)) ∷ []) p)
         → Answers behaviour l n (before ++ (p, (deliver e, sent)) ∷ []) a r
-        → TurnedAgain n ((before ++ (p, (deliver e, sent)) ∷ []) ++ (p, (a, r)) ∷ []) (spent (comes_to before p) es) us xs rest
+        → TurnedAgain n ((before ++ (p, (deliver e, sent)) ∷ []) ++ (p, (a, r)) ∷ [])
+        (spent (comes_to before p) es) us xs rest
         → TurnedAgain n before es (p ∷ us) ((p, (deliver e, sent)) ∷ (p, (a, r)) ∷ xs) rest
 
--- a plan's run by these turns of workers 1 to n, with these entries, steps, and entries that stay unspent
-pub record ByEntries (behaviour : Behaviour) (l : Line) (n : ℕ) (es : List Entry) (us : List ℕ) (xs : List Step) (rest : List Entry) : Type 0 where
+-- a plan's run by these turns of workers 1 to n, with these entries, steps, and entries that stay
+-- unspent
+pub record ByEntries (behaviour : Behaviour) (l : Line) (n : ℕ) (es : List Entry) (us : List ℕ)
+    (xs : List Step) (rest : List Entry) : Type 0 where
   pub plan : IsPlan l
   pub opens_back : FirstsRead l
   pub workers : Each (IsWorker n) us
   pub turned : TurnedAgain behaviour l n [] es us xs rest
 
 -- the turns of the list and then as many rounds as it takes until all have ended
-pub record RanAgain (behaviour : Behaviour) (l : Line) (n : ℕ) (ts : List ℕ) (es : List Entry) : Type 0 where
+pub record RanAgain (behaviour : Behaviour) (l : Line) (n : ℕ) (ts : List ℕ) (es : List Entry) :
+    Type 0 where
   pub opens_back : FirstsRead l
   pub turns : List ℕ
   pub further : ℕ
@@ -131,38 +149,59 @@ module _ (behaviour : Behaviour) (l : Line) where
   -- so many of the entries are of tasks that evaluation runs
   pub data RunEntries : List Entry → ℕ → Type 0 where
     no_entry : RunEntries [] 0
-    one_run : {e : Entry} {es : List Entry} {m : ℕ} → IsRunTask e.0 → RunEntries es m → RunEntries (e ∷ es) (suc m)
-    one_idle : {e : Entry} {es : List Entry} {m : ℕ} → (IsRunTask e.0 → ⊥) → RunEntries es m → RunEntries (e ∷ es) m
+    one_run : {e : Entry} {es : List Entry} {m : ℕ} → IsRunTask e.0 → RunEntries es m
+        → RunEntries (e ∷ es) (suc m)
+    one_idle : {e : Entry} {es : List Entry} {m : ℕ} → (IsRunTask e.0 → ⊥) → RunEntries es m
+        → RunEntries (e ∷ es) m
 
 -- ---- the laws
 
--- it is a run by turns, so all that is said of these is said of it; its redeliveries are the entries spent
+-- it is a run by turns, so all that is said of these is said of it; its redeliveries are the
+-- entries spent
 abbrev pub EntriesAreTurns : Type 0
-EntriesAreTurns = (behaviour : Behaviour) (l : Line) (n : ℕ) (es : List Entry) (us : List ℕ) (xs : List Step) (rest : List Entry) → ByEntries behaviour l n es us xs rest
+EntriesAreTurns =
+    (behaviour : Behaviour) (l : Line) (n : ℕ) (es : List Entry) (us : List ℕ) (xs : List Step)
+    (rest : List Entry) → ByEntries behaviour l n es us xs rest
     → ByTurns behaviour l n us xs × (redeliveries_in xs + length rest ≡ length es)
 
 -- it ends
 abbrev pub EntriesFew : Type 0
-EntriesFew = (behaviour : Behaviour) (l : Line) (n : ℕ) (es : List Entry) (ts us : List ℕ) (xs : List Step) (rest : List Entry) → 1 ≤ n → ByEntries behaviour l n es us xs rest → Begins us ts n
+EntriesFew =
+    (behaviour : Behaviour) (l : Line) (n : ℕ) (es : List Entry) (ts us : List ℕ) (xs : List Step)
+    (rest : List Entry) → 1 ≤ n → ByEntries behaviour l n es us xs rest → Begins us ts n
     → length xs ≤ most_steps l n (length ts) (length es)
 
--- Where all have ended, the stores that answered Again are as many as the entries whose task evaluation runs, and these are the entries that were spent.
+-- Where all have ended, the stores that answered Again are as many as the entries whose task
+-- evaluation runs, and these are the entries that were spent.
 abbrev pub AgainsAreEntries : Type 0
-AgainsAreEntries = (behaviour : Behaviour) (l : Line) (n : ℕ) (es : List Entry) (us : List ℕ) (xs : List Step) (rest : List Entry) → ByEntries behaviour l n es us xs rest → 1 ≤ n → AllEnded behaviour l n xs
+AgainsAreEntries =
+    (behaviour : Behaviour) (l : Line) (n : ℕ) (es : List Entry) (us : List ℕ) (xs : List Step)
+    (rest : List Entry) → ByEntries behaviour l n es us xs rest → 1 ≤ n
+    → AllEnded behaviour l n xs
     → RunEntries behaviour l es (agains_in xs) × Each (λ e. IsRunTask behaviour l e.0 → ⊥) rest
 
 -- before a message's own store its worker has come to the early point of its task
 abbrev pub OwnPoints : Type 0
-OwnPoints = (behaviour : Behaviour) (l : Line) (n : ℕ) (us : List ℕ) (xs : List Step) → ByTurns behaviour l n us xs → (p : ℕ) (m : Content) → left behaviour l xs p ≡ owning m → comes_to behaviour l xs p ≡ Some (number_of m.own, Early)
+OwnPoints =
+    (behaviour : Behaviour) (l : Line) (n : ℕ) (us : List ℕ) (xs : List Step)
+    → ByTurns behaviour l n us xs → (p : ℕ) (m : Content) → left behaviour l xs p ≡ owning m
+    → comes_to behaviour l xs p ≡ Some (number_of m.own, Early)
 
 -- At any time no more stores have answered Again than there were entries.
 abbrev pub AgainsFew : Type 0
-AgainsFew = (behaviour : Behaviour) (l : Line) (n : ℕ) (es : List Entry) (us : List ℕ) (xs : List Step) (rest : List Entry) → ByEntries behaviour l n es us xs rest → agains_in xs ≤ length es
+AgainsFew =
+    (behaviour : Behaviour) (l : Line) (n : ℕ) (es : List Entry) (us : List ℕ) (xs : List Step)
+    (rest : List Entry) → ByEntries behaviour l n es us xs rest → agains_in xs ≤ length es
 
 -- a run by turns without redeliveries is one without entries
 abbrev pub NoEntries : Type 0
-NoEntries = (behaviour : Behaviour) (l : Line) (n : ℕ) (us : List ℕ) (xs : List Step) → ByTurns behaviour l n us xs → redeliveries_in xs ≡ 0 → ByEntries behaviour l n [] us xs []
+NoEntries =
+    (behaviour : Behaviour) (l : Line) (n : ℕ) (us : List ℕ) (xs : List Step)
+    → ByTurns behaviour l n us xs → redeliveries_in xs ≡ 0 → ByEntries behaviour l n [] us xs []
 
 -- the turns of a list with the rotation behind them are such turns
 abbrev pub AgainTurns : Type 0
-AgainTurns = (behaviour : Behaviour) (l : Line) → IsPlan l → (n : ℕ) (ts : List ℕ) (es : List Entry) → Each (IsWorker n) ts → (r : RanAgain behaviour l n ts es) → ByEntries behaviour l n es r.turns r.steps r.rest
+AgainTurns =
+    (behaviour : Behaviour) (l : Line) → IsPlan l → (n : ℕ) (ts : List ℕ) (es : List Entry)
+    → Each (IsWorker n) ts → (r : RanAgain behaviour l n ts es)
+    → ByEntries behaviour l n es r.turns r.steps r.rest

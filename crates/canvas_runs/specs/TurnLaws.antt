@@ -21,7 +21,8 @@ use Rattle.canvas_runs.specs.Turns.{Step, results_after, IsWorker, FirstsRead, q
 use Rattle.canvas_runs.specs.Worker.{worker}
 
 -- a plan's run by these turns of workers 1 to n, with these steps
-pub record ByTurns (behaviour : Behaviour) (l : Line) (n : ℕ) (us : List ℕ) (xs : List Step) : Type 0 where
+pub record ByTurns (behaviour : Behaviour) (l : Line) (n : ℕ) (us : List ℕ) (xs : List Step) :
+    Type 0 where
   pub plan : IsPlan l
   pub opens_back : FirstsRead l
   pub workers : Each (IsWorker n) us
@@ -38,52 +39,83 @@ pub record RunOf (behaviour : Behaviour) (l : Line) (n : ℕ) (xs : List Step) :
   pub closed : 1 ≤ n → AllEnded behaviour l n xs → Closed behaviour l run
 
 abbrev pub TurnsAreRuns : Type 0
-TurnsAreRuns = (behaviour : Behaviour) (l : Line) (n : ℕ) (us : List ℕ) (xs : List Step) → ByTurns behaviour l n us xs → RunOf behaviour l n xs
+TurnsAreRuns =
+    (behaviour : Behaviour) (l : Line) (n : ℕ) (us : List ℕ) (xs : List Step)
+    → ByTurns behaviour l n us xs → RunOf behaviour l n xs
 
 -- each task is pending, or has the state that evaluation gives
 abbrev pub TurnRowsMay : Type 0
-TurnRowsMay = (behaviour : Behaviour) (l : Line) (n : ℕ) (us : List ℕ) (xs : List Step) → ByTurns behaviour l n us xs → (t : ℕ) → ((results_after xs).outcomes t ≡ None) ⊎ ((results_after xs).outcomes t ≡ its_state behaviour l t)
+TurnRowsMay =
+    (behaviour : Behaviour) (l : Line) (n : ℕ) (us : List ℕ) (xs : List Step)
+    → ByTurns behaviour l n us xs → (t : ℕ)
+    → ((results_after xs).outcomes t ≡ None)
+    ⊎ ((results_after xs).outcomes t ≡ its_state behaviour l t)
 
 -- where all have ended each task has that state, and nothing is left on the queue
 abbrev pub TurnRowsAre : Type 0
-TurnRowsAre = (behaviour : Behaviour) (l : Line) (n : ℕ) (us : List ℕ) (xs : List Step) → ByTurns behaviour l n us xs → 1 ≤ n → AllEnded behaviour l n xs → (t : ℕ) → (results_after xs).outcomes t ≡ its_state behaviour l t
+TurnRowsAre =
+    (behaviour : Behaviour) (l : Line) (n : ℕ) (us : List ℕ) (xs : List Step)
+    → ByTurns behaviour l n us xs → 1 ≤ n → AllEnded behaviour l n xs → (t : ℕ)
+    → (results_after xs).outcomes t ≡ its_state behaviour l t
 
 abbrev pub TurnsEmpty : Type 0
-TurnsEmpty = (behaviour : Behaviour) (l : Line) (n : ℕ) (us : List ℕ) (xs : List Step) → ByTurns behaviour l n us xs → 1 ≤ n → AllEnded behaviour l n xs → queue_after l xs ≡ []
+TurnsEmpty =
+    (behaviour : Behaviour) (l : Line) (n : ℕ) (us : List ℕ) (xs : List Step)
+    → ByTurns behaviour l n us xs → 1 ≤ n → AllEnded behaviour l n xs → queue_after l xs ≡ []
 
--- The outcomes held, task by task: the states that evaluation gives where all have ended, and these or pending at any time.
+-- The outcomes held, task by task: the states that evaluation gives where all have ended, and these
+-- or pending at any time.
 abbrev pub held_rows : Line → List Step → List State
 held_rows l xs = map (results_after xs).outcomes (numbers_from 1 (count_line l))
 
 abbrev pub TurnStatesAre : Type 0
-TurnStatesAre = (behaviour : Behaviour) (l : Line) (n : ℕ) (us : List ℕ) (xs : List Step) → ByTurns behaviour l n us xs → 1 ≤ n → AllEnded behaviour l n xs → held_rows l xs ≡ states behaviour (tree_of l)
+TurnStatesAre =
+    (behaviour : Behaviour) (l : Line) (n : ℕ) (us : List ℕ) (xs : List Step)
+    → ByTurns behaviour l n us xs → 1 ≤ n → AllEnded behaviour l n xs
+    → held_rows l xs ≡ states behaviour (tree_of l)
 
 abbrev pub TurnStatesMay : Type 0
-TurnStatesMay = (behaviour : Behaviour) (l : Line) (n : ℕ) (us : List ℕ) (xs : List Step) → ByTurns behaviour l n us xs → EachMay (held_rows l xs) (states behaviour (tree_of l))
+TurnStatesMay =
+    (behaviour : Behaviour) (l : Line) (n : ℕ) (us : List ℕ) (xs : List Step)
+    → ByTurns behaviour l n us xs → EachMay (held_rows l xs) (states behaviour (tree_of l))
 
 -- a list of turns with the rotation behind it, whole or up to a number of steps, is such a run
 abbrev pub WholeTurns : Type 0
-WholeTurns = (behaviour : Behaviour) (l : Line) → IsPlan l → (n : ℕ) (ts : List ℕ) → Each (IsWorker n) ts → (r : RanWhole behaviour l n ts) → ByTurns behaviour l n r.turns r.steps
+WholeTurns =
+    (behaviour : Behaviour) (l : Line) → IsPlan l → (n : ℕ) (ts : List ℕ) → Each (IsWorker n) ts
+    → (r : RanWhole behaviour l n ts) → ByTurns behaviour l n r.turns r.steps
 
 abbrev pub UntilTurns : Type 0
-UntilTurns = (behaviour : Behaviour) (l : Line) → IsPlan l → (n : ℕ) (ts : List ℕ) (most : ℕ) → Each (IsWorker n) ts → (r : RanUntil behaviour l n ts most) → ByTurns behaviour l n r.turns r.steps
+UntilTurns =
+    (behaviour : Behaviour) (l : Line) → IsPlan l → (n : ℕ) (ts : List ℕ) (most : ℕ)
+    → Each (IsWorker n) ts → (r : RanUntil behaviour l n ts most)
+    → ByTurns behaviour l n r.turns r.steps
 
 -- ---- what a worker asks next can be answered
 
--- a store is of a task of the plan; a part is of a chord's member that is stored and not returned; a read is of a place of the chord whose member is stored
+-- a store is of a task of the plan; a part is of a chord's member that is stored and not returned;
+-- a read is of a place of the chord whose member is stored
 abbrev pub Answerable : Roster → List Step → Ask Envelope Outcome → Type 0
 Answerable plan xs (keep t o) = (t ≤ plan.tasks) × IsInRange o
-Answerable plan xs (part g t) = IsTrue (is_chord plan g) × IsTrue (is_member plan g t) × ((results_after xs).outcomes t ≢ None) × ((results_after xs).returned t ≡ false)
-Answerable plan xs (read g i) = (t : ℕ) × (i < length (members plan g)) × (at i (members plan g) ≡ Some t) × (t ≤ plan.tasks) × ((o : Outcome) × ((results_after xs).outcomes t ≡ Some o) × IsInRange o)
+Answerable plan xs (part g t) =
+    IsTrue (is_chord plan g) × IsTrue (is_member plan g t) × ((results_after xs).outcomes t ≢ None)
+    × ((results_after xs).returned t ≡ false)
+Answerable plan xs (read g i) =
+    (t : ℕ) × (i < length (members plan g)) × (at i (members plan g) ≡ Some t) × (t ≤ plan.tasks)
+    × ((o : Outcome) × ((results_after xs).outcomes t ≡ Some o) × IsInRange o)
 Answerable plan xs a = Unit {0}
 
 abbrev pub NextAnswerable : Type 0
 NextAnswerable =
-    (behaviour : Behaviour) → AnswersInRange behaviour → (l : Line) (n : ℕ) (us : List ℕ) (xs : List Step) → ByTurns behaviour l n us xs
-    → (p : ℕ) → IsWorker n p → Answerable (roster_of l) xs (ask (worker behaviour l) (left behaviour l xs p))
+    (behaviour : Behaviour) → AnswersInRange behaviour
+    → (l : Line) (n : ℕ) (us : List ℕ) (xs : List Step) → ByTurns behaviour l n us xs
+    → (p : ℕ) → IsWorker n p
+    → Answerable (roster_of l) xs (ask (worker behaviour l) (left behaviour l xs p))
 
 -- where what calls answer is in range, every outcome held is
 abbrev pub HeldInRange : Type 0
 HeldInRange =
-    (behaviour : Behaviour) → AnswersInRange behaviour → (l : Line) (n : ℕ) (us : List ℕ) (xs : List Step) → ByTurns behaviour l n us xs
-    → (t : ℕ) (o : Outcome) → (results_after xs).outcomes t ≡ Some o → (t ≤ (roster_of l).tasks) × IsInRange o
+    (behaviour : Behaviour) → AnswersInRange behaviour
+    → (l : Line) (n : ℕ) (us : List ℕ) (xs : List Step) → ByTurns behaviour l n us xs
+    → (t : ℕ) (o : Outcome) → (results_after xs).outcomes t ≡ Some o
+    → (t ≤ (roster_of l).tasks) × IsInRange o

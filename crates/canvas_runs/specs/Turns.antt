@@ -1,6 +1,8 @@
--- Runs by turns, on one thread: workers numbered 1 to n share the one-thread queue and the one-thread table of results, and each turn lets one
--- worker have one ask answered. The Canvas user guide names no order between workers, so a list of turns names one; after it the workers take turns
--- in rotation, from 1 to n and again, until all have ended. A worker that has ended skips its turn. Below, the behaviour and the plan are left out:
+-- Runs by turns, on one thread: workers numbered 1 to n share the one-thread queue and the
+-- one-thread table of results, and each turn lets one worker have one ask answered. The Canvas user
+-- guide names no order between workers, so a list of turns names one; after it the workers take
+-- turns in rotation, from 1 to n and again, until all have ended. A worker that has ended skips its
+-- turn. Below, the behaviour and the plan are left out:
 --     Step                  a worker's ask with its answer
 --     left, holds, queue_after, results_after    what a worker has left to do, the envelope of its open script, what is queued and what is stored after these steps
 --     Answers n before a r    the reply r to the ask a is what the queue and the table say at that time; a worker that asks whether there will be more
@@ -98,9 +100,11 @@ module _ (behaviour : Behaviour) (l : Line) where
   abbrev pub Answers : ℕ → List Step → Ask Envelope Outcome → Reply Envelope Outcome → Type 0
   Answers n before take (taken x) = x ≡ broker.answer (queue_after l before) broker.take
   Answers n before (send e) sent = Unit {0}
-  Answers n before (keep t o) (kept b) = b ≡ says_first (first_or ((results_after before).outcomes t))
+  Answers n before (keep t o) (kept b) =
+      b ≡ says_first (first_or ((results_after before).outcomes t))
   Answers n before (part g t) (counted m) = m ≡ count_of (roster_of l) (results_after before) g
-  Answers n before (read g i) (found t x) = (at i (members (roster_of l) g) ≡ Some t) × (x ≡ (results_after before).outcomes t)
+  Answers n before (read g i) (found t x) =
+      (at i (members (roster_of l) g) ≡ Some t) × (x ≡ (results_after before).outcomes t)
   Answers n before pause (rested m) = m ≡ holds_more n before
   Answers n before ack acked = Unit {0}
   Answers n before a r = ⊥
@@ -109,16 +113,22 @@ module _ (behaviour : Behaviour) (l : Line) where
   abbrev pub HasEnded : List Step → ℕ → Type 0
   HasEnded before p = ask (worker behaviour l) (left before p) ≡ end
 
-  -- Steps before, turns, the steps that the turns make. An envelope that is sent reads back as its message. Before a step of its turn a worker may have the envelope
-  -- of its open script delivered again.
+  -- Steps before, turns, the steps that the turns make. An envelope that is sent reads back as its
+  -- message. Before a step of its turn a worker may have the envelope of its open script delivered
+  -- again.
   pub data Turned (n : ℕ) : List Step → List ℕ → List Step → Type 0 where
     all_taken : {before : List Step} → Turned n before [] []
-    skips_turn : {before : List Step} {p : ℕ} {us : List ℕ} {xs : List Step} → HasEnded before p → Turned n before us xs → Turned n before (p ∷ us) xs
-    takes_turn : {before : List Step} {p : ℕ} {a : Ask Envelope Outcome} {r : Reply Envelope Outcome} {us : List ℕ} {xs : List Step}
-        → ReadsBack (worker behaviour l) (left before p) → a ≡ ask (worker behaviour l) (left before p) → Answers n before a r
+    skips_turn : {before : List Step} {p : ℕ} {us : List ℕ} {xs : List Step} → HasEnded before p
+        → Turned n before us xs → Turned n before (p ∷ us) xs
+    takes_turn : {before : List Step} {p : ℕ} {a : Ask Envelope Outcome}
+        {r : Reply Envelope Outcome} {us : List ℕ} {xs : List Step}
+        → ReadsBack (worker behaviour l) (left before p)
+        → a ≡ ask (worker behaviour l) (left before p) → Answers n before a r
         → Turned n (before ++ (p, (a, r)) ∷ []) us xs → Turned n before (p ∷ us) ((p, (a, r)) ∷ xs)
-    delivers_again : {before : List Step} {p : ℕ} {e : Envelope} {us : List ℕ} {xs : List Step} → IsWorker n p → holds before p ≡ Some e
-        → Turned n (before ++ (p, (deliver e, sent)) ∷ []) us xs → Turned n before us ((p, (deliver e, sent)) ∷ xs)
+    delivers_again : {before : List Step} {p : ℕ} {e : Envelope} {us : List ℕ} {xs : List Step}
+        → IsWorker n p → holds before p ≡ Some e
+        → Turned n (before ++ (p, (deliver e, sent)) ∷ []) us xs
+        → Turned n before us ((p, (deliver e, sent)) ∷ xs)
 
   abbrev pub AllEnded : ℕ → List Step → Type 0
   AllEnded n before = (p : ℕ) → IsWorker n p → HasEnded before p
@@ -145,7 +155,8 @@ pub record RanWhole (behaviour : Behaviour) (l : Line) (n : ℕ) (ts : List ℕ)
   pub turned : Turned behaviour l n [] turns steps
   pub ended : AllEnded behaviour l n steps
 
-pub record RanUntil (behaviour : Behaviour) (l : Line) (n : ℕ) (ts : List ℕ) (most : ℕ) : Type 0 where
+pub record RanUntil (behaviour : Behaviour) (l : Line) (n : ℕ) (ts : List ℕ) (most : ℕ) :
+    Type 0 where
   pub opens_back : FirstsRead l
   pub turns : List ℕ
   pub begin : Begins turns ts n

@@ -1,5 +1,5 @@
-//! Texts of messages in a short notation: `%5` and `@5` are the identifiers of task 5 and of group 5, `$5"}}` is a frozen task, and `&` and
-//! `^` begin a frozen group and chord in the same way.
+//! Texts of messages in a short notation: `%5` and `@5` are the identifiers of task 5 and of group
+//! 5, `$5"}}` is a frozen task, and `&` and `^` begin a frozen group and chord in the same way.
 
 use canvas_task::ListOf;
 use std::alloc::{AllocError, Global};

@@ -1,4 +1,5 @@
-//! Canvases grown from chance: some tasks, put together into chains, groups and chords until one is left.
+//! Canvases grown from chance: some tasks, put together into chains, groups and chords until one is
+//! left.
 
 use crate::composed::call;
 use crate::dice::Dice;
@@ -286,7 +287,8 @@ fn first_task(alloc: Global) -> Result<Part, AllocError> {
     })
 }
 
-/// A canvas of up to some fifteen tasks, their callbacks aside. Most begin with a task of their own, and few are refused.
+/// A canvas of up to some fifteen tasks, their callbacks aside. Most begin with a task of their
+/// own, and few are refused.
 pub fn canvas(alloc: Global, dice: &mut Dice) -> Result<Node, AllocError> {
     let mut parts = some_tasks(alloc, dice)?;
     for _ in 0..dice.roll(5) {

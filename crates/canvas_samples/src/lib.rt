@@ -1,5 +1,5 @@
-//! What tests of runs share: canvases in a short notation, spelled with their calls, composed in code or grown from chance, and an
-//! evaluator that judges runs.
+//! What tests of runs share: canvases in a short notation, spelled with their calls, composed in
+//! code or grown from chance, and an evaluator that judges runs.
 #![tactic(auto)]
 
 pub mod composed;

@@ -1,5 +1,6 @@
-//! A short notation of canvases. A small letter is a task of that name, `*` a task with a link and an error callback, `C(..)` a
-//! chain, `G(..)` a group, `H[..|..]` a chord with its header and body, and a digit stands for itself.
+//! A short notation of canvases. A small letter is a task of that name, `*` a task with a link and
+//! an error callback, `C(..)` a chain, `G(..)` a group, `H[..|..]` a chord with its header and
+//! body, and a digit stands for itself.
 
 use canvas_sig::{Node, read_canvas, write_node};
 use std::alloc::{AllocError, Global};

@@ -1,5 +1,5 @@
-//! The rules of canvases over the tree of signatures alone: one walk in file order gives each task its state. It knows nothing of
-//! lines, messages, queues or workers, so that it can judge them.
+//! The rules of canvases over the tree of signatures alone: one walk in file order gives each task
+//! its state. It knows nothing of lines, messages, queues or workers, so that it can judge them.
 
 use canvas_sig::{Node, TaskSig};
 use canvas_task::{Arg, Fault, ListOf, Outcome, TaskNo, TextOf, Why, apply};
@@ -49,10 +49,13 @@ impl Flow {
     }
 }
 
-/// What becomes of a task, and what that makes of its links, its error callbacks and what follows it.
+/// What becomes of a task, and what that makes of its links, its error callbacks and what follows
+/// it.
 #[derive(Drop)]
 struct End {
     state: Option<Outcome>,
+    /// Whether it ran, on its arguments.
+    ran: bool,
     links: Flow,
     errbacks: Flow,
     out: Flow,
@@ -62,6 +65,7 @@ impl End {
     fn never() -> End {
         End {
             state: None,
+            ran: false,
             links: Flow::Never,
             errbacks: Flow::Never,
             out: Flow::Never,
@@ -71,15 +75,17 @@ impl End {
     fn success(number: i64) -> End {
         End {
             state: Some(Outcome::Success(number)),
+            ran: true,
             links: Flow::Number(number),
             errbacks: Flow::Never,
             out: Flow::Number(number),
         }
     }
 
-    fn failure(fault: &Fault, errbacks: Flow) -> End {
+    fn failure(fault: &Fault, errbacks: Flow, ran: bool) -> End {
         End {
             state: Some(Outcome::Failure(*fault)),
+            ran,
             links: Flow::Never,
             errbacks,
             out: Flow::Skip(*fault),
@@ -91,15 +97,15 @@ impl End {
         let args = arguments(alloc, sig, flow)?;
         match apply(sig.name.get(), &args, sig.kwargs.get()) {
             Outcome::Success(number) => Ok(End::success(number)),
-            Outcome::Failure(fault) => Ok(End::failure(&fault, Flow::Failed(task))),
+            Outcome::Failure(fault) => Ok(End::failure(&fault, Flow::Failed(task), true)),
         }
     }
 
     fn of(alloc: Global, task: u32, sig: &TaskSig, flow: &Flow) -> Result<End, AllocError> {
         match flow {
             Flow::Never => Ok(End::never()),
-            Flow::Skip(fault) => Ok(End::failure(fault, Flow::Never)),
-            Flow::Raise(fault) => Ok(End::failure(fault, Flow::Failed(task))),
+            Flow::Skip(fault) => Ok(End::failure(fault, Flow::Never, false)),
+            Flow::Raise(fault) => Ok(End::failure(fault, Flow::Failed(task), false)),
             _ => End::run(alloc, task, sig, flow),
         }
     }
@@ -180,11 +186,12 @@ fn chord_error(end: u32, fault: &Fault) -> Option<Fault> {
     Some(Fault::Chord { dep, why })
 }
 
-/// The states of the tasks so far.
+/// The states of the tasks so far, and which of them ran.
 #[derive(Drop)]
 struct Walk {
     alloc: Global,
     rows: Vec<Option<Outcome>>,
+    ran: Vec<bool>,
     /// How many tasks were numbered.
     count: u32,
     /// The task, links and error callbacks aside, that was walked last.
@@ -203,6 +210,7 @@ fn walk_task(sig: &TaskSig, flow: &Flow, walk: &mut Walk) -> Result<Flow, AllocE
     let task = walk.number();
     let end = End::of(walk.alloc, task, sig, flow)?;
     walk.rows.push(end.state)?;
+    walk.ran.push(end.ran)?;
     walk_callbacks(sig.links.get(), &end.links, walk)?;
     walk_callbacks(sig.errbacks.get(), &end.errbacks, walk)?;
     walk.end = task;
@@ -252,14 +260,25 @@ fn walk_members(members: &[Node], flow: &Flow, walk: &mut Walk) -> Result<Flow, 
     Ok(joined.out(members.is_empty(), flow))
 }
 
-/// The states of a canvas's tasks, in the order of the file.
-pub fn states_of(alloc: Global, canvas: &Node) -> Result<Vec<Option<Outcome>>, AllocError> {
+/// What the rules say of a canvas's tasks, in the order of the file.
+#[derive(Drop)]
+pub struct Ruled {
+    pub states: Vec<Option<Outcome>>,
+    /// Which of them run: neither those that nothing starts nor those that an exception skips.
+    pub ran: Vec<bool>,
+}
+
+pub fn rule_on(alloc: Global, canvas: &Node) -> Result<Ruled, AllocError> {
     let mut walk = Walk {
         alloc,
         rows: Vec::new(alloc),
+        ran: Vec::new(alloc),
         count: 0,
         end: 0,
     };
     drop(walk_node(canvas, &Flow::Start, &mut walk)?);
-    Ok(walk.rows)
+    Ok(Ruled {
+        states: walk.rows,
+        ran: walk.ran,
+    })
 }

@@ -2,17 +2,19 @@
 
 use crate::dice::Dice;
 use crate::grown::canvas;
-use crate::plain::states_of;
+use crate::plain::{Ruled, rule_on};
 use canvas_rewrite::{Plan, freeze, normalise};
 use canvas_sig::{Canvas, SigFault, read_canvas};
 use canvas_task::{ListOf, Memory, Outcome};
 use std::alloc::Global;
 
-/// A canvas's plan, and the states of its tasks by the rules of canvases alone.
+/// A canvas's plan, with the states of its tasks and which of them run, by the rules of canvases
+/// alone.
 #[derive(Drop)]
 pub struct Sample {
     pub plan: Plan,
     pub states: ListOf<Option<Outcome>>,
+    pub ran: ListOf<bool>,
 }
 
 fn plan_of_canvas(alloc: Global, canvas: &Canvas) -> Result<Plan, Memory> {
@@ -30,8 +32,12 @@ pub fn plan_of(alloc: Global, text: &str) -> Option<Plan> {
 
 fn sample_of(alloc: Global, canvas: &Canvas) -> Result<Sample, Memory> {
     let plan = plan_of_canvas(alloc, canvas)?;
-    let states = ListOf::of(states_of(alloc, canvas.node())?);
-    Ok(Sample { plan, states })
+    let Ruled { states, ran } = rule_on(alloc, canvas.node())?;
+    Ok(Sample {
+        plan,
+        states: ListOf::of(states),
+        ran: ListOf::of(ran),
+    })
 }
 
 /// The same of a canvas's text, if it is one.

@@ -1,8 +1,9 @@
 //! Canvases and reports that are spelled shortly.
 //!
-//! A canvas has a frame and its calls in the order of the file. In the frame `.` is the next call and `!` the same made immutable,
-//! `C(..)` is a chain, `G(..)` a group and `H[..|..]` a chord with its header and body; `+..>` is the next call with links, `?..>` with
-//! error callbacks. A call is written `add:1,2`. In a report `#7` is the identifier of task 7.
+//! A canvas has a frame and its calls in the order of the file. In the frame `.` is the next call
+//! and `!` the same made immutable, `C(..)` is a chain, `G(..)` a group and `H[..|..]` a chord with
+//! its header and body; `+..>` is the next call with links, `?..>` with error callbacks. A call is
+//! written `add:1,2`. In a report `#7` is the identifier of task 7.
 
 use crate::notation::piece;
 use canvas_task::Memory;

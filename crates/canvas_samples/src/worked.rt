@@ -57,7 +57,8 @@ pub fn a_hundred_and_their_sum(alloc: Global) -> Result<Worked, Memory> {
     of_frame(alloc, &frame, &calls, &report)
 }
 
-/// A chord with a member that fails: its body fails with an exception of its own, and runs its error callback.
+/// A chord with a member that fails: its body fails with an exception of its own, and runs its
+/// error callback.
 pub fn a_failed_member(alloc: Global) -> Result<Worked, Memory> {
     let calls = "add:4,4 div:1,0 add:8,8 xsum: log_error:";
     of_frame(alloc, "H[.,.,.|?.>]", calls, A_FAILED_MEMBER)

@@ -1,4 +1,5 @@
--- How deep and how large a canvas may be, and where groups may stand. The bounds are this project's own: the Canvas chapter of Celery's user guide has none.
+-- How deep and how large a canvas may be, and where groups may stand. The bounds are this project's
+-- own: the Canvas chapter of Celery's user guide has none.
 use Rattle.std.specs.Prelude.{ℕ, Bool, false, ◌||◌, nat_lt}
 use Rattle.canvas_semantics.specs.Tree.{Tree, one, chain, group, chord, Trees, no_trees, and_tree, count, count_groups, ends_in_group}
 use Rattle.canvas_semantics.specs.Nesting.{nesting}
@@ -19,9 +20,10 @@ most_tasks = 1024
 abbrev pub most_groups : ℕ
 most_groups = 1024
 
--- Whether a member of a group or of a header ends in a group, anywhere in the canvas. It is said of the canvas as it was written, and
--- says the same of the members' normal lines, since rewriting keeps what a line ends in where no chain is empty, which is refused
--- before: `nested_in_lines` of proofs/NormalEnds.
+-- Whether a member of a group or of a header ends in a group, anywhere in the canvas. It is said of
+-- the canvas as it was written, and says the same of the members' normal lines, since rewriting
+-- keeps what a line ends in where no chain is empty, which is refused before: `nested_in_lines` of
+-- proofs/NormalEnds.
 abbrev mutual
   pub nests_group : Tree → Bool
   nests_group (one t) = false

@@ -1,5 +1,7 @@
--- What a canvas means: a state for each task, and what flows out (Celery user guide, Canvas: a result is the next task's first argument unless
--- that is immutable; links run on a success, error callbacks on a failure; a chord's body gets the list of its header's results, or a ChordError). What the tasks do is a parameter, their behaviour.
+-- What a canvas means: a state for each task, and what flows out (Celery user guide, Canvas: a
+-- result is the next task's first argument unless that is immutable; links run on a success, error
+-- callbacks on a failure; a chord's body gets the list of its header's results, or a ChordError).
+-- What the tasks do is a parameter, their behaviour.
 use Rattle.std.specs.Prelude.{ℕ, ◌==◌, if◌then◌else◌, List, [], ◌∷◌, ◌++◌, map, Option, Some, None, ℤ}
 use Rattle.canvas_task.specs.declared.arg.Arg.{Arg}
 use Rattle.canvas_task.specs.declared.arg.Arg.TheVariants as arg
@@ -81,7 +83,8 @@ module _ (behaviour : Behaviour) where
   abbrev mutual
     pub task_rows : Task → Option Flow → Rows
     task_rows (task k call links errbacks) x =
-        (k, state behaviour call x) ∷ tasks_rows links (to_links (state behaviour call x)) ++ tasks_rows errbacks (to_errbacks k x (state behaviour call x))
+        (k, state behaviour call x) ∷ tasks_rows links (to_links (state behaviour call x))
+        ++ tasks_rows errbacks (to_errbacks k x (state behaviour call x))
 
     pub tasks_rows : Tasks → Option Flow → Rows
     tasks_rows no_tasks x = []

@@ -1,5 +1,6 @@
--- Lines as data: tasks, then nothing, a group, or a chord with what follows it as its body. What a plan and its messages are made of
--- (Celery user guide, Canvas: chains, groups and chords; a group that a task follows is a chord).
+-- Lines as data: tasks, then nothing, a group, or a chord with what follows it as its body. What a
+-- plan and its messages are made of (Celery user guide, Canvas: chains, groups and chords; a group
+-- that a task follows is a chord).
 use Rattle.std.specs.Prelude.{ℕ, zero, suc, ◌+◌, List, [], ◌∷◌, ◌++◌, Bool, true, false, Option, Some, None, length, slice_get, if◌then◌else◌}
 use Rattle.canvas_semantics.specs.Tree.{Task, task, Tasks, no_tasks, and_task, Tree, one, chain, group, chord, Trees, no_trees, and_tree, count_task, number_task}
 
@@ -20,7 +21,8 @@ abbrev mutual
   elements_of stop = no_trees
   elements_of (step t l) = and_tree (one t) (elements_of l)
   elements_of (group_end g ms) = and_tree (group g (members_of ms)) no_trees
-  elements_of (chord_end g ms b) = and_tree (chord g (members_of ms) (chain (elements_of b))) no_trees
+  elements_of (chord_end g ms b) =
+      and_tree (chord g (members_of ms) (chain (elements_of b))) no_trees
 
   pub members_of : Lines → Trees
   members_of no_lines = no_trees
@@ -59,11 +61,14 @@ abbrev mutual
   number_line k g stop = stop
   number_line k g (step t l) = step (number_task k t) (number_line (k + count_task t) g l)
   number_line k g (group_end _ ms) = group_end g (number_lines k (g + 1) ms)
-  number_line k g (chord_end _ ms b) = chord_end g (number_lines k (g + 1) ms) (number_line (k + count_lines ms) (g + 1 + lines_groups ms) b)
+  number_line k g (chord_end _ ms b) =
+      chord_end g (number_lines k (g + 1) ms)
+      (number_line (k + count_lines ms) (g + 1 + lines_groups ms) b)
 
   pub number_lines : ℕ → ℕ → Lines → Lines
   number_lines k g no_lines = no_lines
-  number_lines k g (and_line m ms) = and_line (number_line k g m) (number_lines (k + count_line m) (g + line_groups m) ms)
+  number_lines k g (and_line m ms) =
+      and_line (number_line k g m) (number_lines (k + count_line m) (g + line_groups m) ms)
 
 -- ---- the ends: the last task, or those of a group's members in order
 
@@ -116,8 +121,10 @@ abbrev mutual
   pub group_entries : Line → List GroupEntry
   group_entries stop = []
   group_entries (step t l) = group_entries l
-  group_entries (group_end g ms) = record { chord = false; members = all_ends_of ms } ∷ all_group_entries ms
-  group_entries (chord_end g ms b) = record { chord = true; members = all_ends_of ms } ∷ all_group_entries ms ++ group_entries b
+  group_entries (group_end g ms) =
+      record { chord = false; members = all_ends_of ms } ∷ all_group_entries ms
+  group_entries (chord_end g ms b) =
+      record { chord = true; members = all_ends_of ms } ∷ all_group_entries ms ++ group_entries b
 
   pub all_group_entries : Lines → List GroupEntry
   all_group_entries no_lines = []

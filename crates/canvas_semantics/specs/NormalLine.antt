@@ -1,5 +1,6 @@
--- The normal line of a canvas: a chain of tasks, then at most one group or chord (Celery user guide, Canvas: a chain in a chain is part of it,
--- and a group that another task follows is upgraded to a chord).
+-- The normal line of a canvas: a chain of tasks, then at most one group or chord (Celery user
+-- guide, Canvas: a chain in a chain is part of it, and a group that another task follows is
+-- upgraded to a chord).
 use Rattle.std.specs.Prelude.{ℕ}
 use Rattle.canvas_semantics.specs.Tree.{Tree, one, chain, group, chord, Trees, no_trees, and_tree}
 

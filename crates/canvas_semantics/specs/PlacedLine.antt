@@ -1,10 +1,11 @@
--- Lines with places in their tasks, as messages carry them (Celery task message protocol, version 2: `group_id` and `chord` of a signature).
+-- Lines with places in their tasks, as messages carry them (Celery task message protocol, version
+-- 2: `group_id` and `chord` of a signature).
 use Rattle.std.specs.Prelude.{ℕ}
 use Rattle.canvas_semantics.specs.Tree.{Call, Task, task, Tasks, no_tasks, and_task}
 use Rattle.canvas_semantics.specs.Line.{Line, stop, step, group_end, chord_end, Lines, no_lines, and_line}
 
--- A place is where the end of a line goes: nowhere, to a group, or to a chord with how many members it has
--- and what follows it. Only the last task of a line has one.
+-- A place is where the end of a line goes: nowhere, to a group, or to a chord with how many members
+-- it has and what follows it. Only the last task of a line has one.
 mutual
   pub data PTask : Type 0 where
     p_task : (number : ℕ) → Call → (links errbacks : PTasks) → PPlace → PTask
@@ -31,7 +32,8 @@ mutual
 -- a line with no place in it
 abbrev mutual
   pub bare_task : Task → PTask
-  bare_task (task k call links errbacks) = p_task k call (bare_tasks links) (bare_tasks errbacks) p_nowhere
+  bare_task (task k call links errbacks) =
+      p_task k call (bare_tasks links) (bare_tasks errbacks) p_nowhere
 
   pub bare_tasks : Tasks → PTasks
   bare_tasks no_tasks = no_p_tasks
@@ -51,7 +53,8 @@ abbrev mutual
 -- a line without its places
 abbrev mutual
   pub strip_task : PTask → Task
-  strip_task (p_task k call links errbacks place) = task k call (strip_tasks links) (strip_tasks errbacks)
+  strip_task (p_task k call links errbacks place) =
+      task k call (strip_tasks links) (strip_tasks errbacks)
 
   pub strip_tasks : PTasks → Tasks
   strip_tasks no_p_tasks = no_tasks

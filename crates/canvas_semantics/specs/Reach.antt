@@ -1,5 +1,6 @@
--- How deeply signatures stand in each other in any message of a run, taken of a normal line. The last task of the line may carry more
--- than its own links and error callbacks, as a member of a header carries the header's body: c is the reach of what it carries, 0 for nothing. The measure
+-- How deeply signatures stand in each other in any message of a run, taken of a normal line. The
+-- last task of the line may carry more than its own links and error callbacks, as a member of a
+-- header carries the header's body: c is the reach of what it carries, 0 for nothing. The measure
 -- is this project's own.
 use Rattle.std.specs.Prelude.{ℕ, ◌+◌, max}
 use Rattle.canvas_semantics.specs.Tree.{Task, task, Tasks, no_tasks, and_task, Tree, one, chain, group, chord, Trees, no_trees, and_tree}
@@ -7,7 +8,8 @@ use Rattle.canvas_semantics.specs.Tree.{Task, task, Tasks, no_tasks, and_task, T
 abbrev mutual
   -- of a task whose message carries what has reach c
   pub task_reach : ℕ → Task → ℕ
-  task_reach c (task k call links errbacks) = 1 + max c (max (tasks_reach links) (tasks_reach errbacks))
+  task_reach c (task k call links errbacks) =
+      1 + max c (max (tasks_reach links) (tasks_reach errbacks))
 
   pub tasks_reach : Tasks → ℕ
   tasks_reach no_tasks = 0

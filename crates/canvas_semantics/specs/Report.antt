@@ -1,4 +1,5 @@
--- The report of a canvas as text: a line for each task with its state as Celery names it (PENDING, SUCCESS, FAILURE), and the result.
+-- The report of a canvas as text: a line for each task with its state as Celery names it (PENDING,
+-- SUCCESS, FAILURE), and the result.
 use Rattle.std.specs.Prelude.{ℕ, ◌+◌, Bool, true, false, List, [], ◌∷◌, ◌++◌, Some, None, codes}
 use Rattle.std.specs.Fmt.{signed_decimal}
 use Rattle.canvas_task.specs.Apply.{Behaviour}
@@ -23,7 +24,8 @@ value_text (Some (Failure f)) = fault_text f
 -- each task's number and name, in file order
 abbrev mutual
   pub names_of_task : Task → List (ℕ × Text)
-  names_of_task (task k call links errbacks) = (k, call.name) ∷ names_of_tasks links ++ names_of_tasks errbacks
+  names_of_task (task k call links errbacks) =
+      (k, call.name) ∷ names_of_tasks links ++ names_of_tasks errbacks
 
   pub names_of_tasks : Tasks → List (ℕ × Text)
   names_of_tasks no_tasks = []
@@ -48,7 +50,9 @@ counted_from k (n ∷ ns) = (k, n) ∷ counted_from (k + 1) ns
 
 -- <id> <name> <state> <value>
 abbrev pub report_line : ℕ × Text → State → Text
-report_line t s = task_text t.0 ++ codes " " ++ t.1 ++ codes " " ++ state_name s ++ codes " " ++ value_text s ++ codes "\n"
+report_line t s =
+    task_text t.0 ++ codes " " ++ t.1 ++ codes " " ++ state_name s ++ codes " " ++ value_text s
+    ++ codes "\n"
 
 -- one for each task
 abbrev pub lines : List (ℕ × Text) → Rows → Text
@@ -69,7 +73,8 @@ result_text false es = listed_values es
 -- the report of a numbered canvas and of states; a state that is missing is pending
 abbrev pub report_of : Tree → Rows → Text
 report_of c rows =
-    lines (names_by_number c) rows ++ codes "result " ++ result_text (ends_in_group c) (with_states rows (ends c)) ++ codes "\n"
+    lines (names_by_number c) rows ++ codes "result "
+    ++ result_text (ends_in_group c) (with_states rows (ends c)) ++ codes "\n"
 
 -- the report of a canvas
 abbrev pub report : Behaviour → Tree → Text

@@ -1,4 +1,5 @@
--- The states of a canvas's tasks as a table: one for each task, in the order of their numbers (Celery's states PENDING, SUCCESS and FAILURE).
+-- The states of a canvas's tasks as a table: one for each task, in the order of their numbers
+-- (Celery's states PENDING, SUCCESS and FAILURE).
 use Rattle.std.specs.Prelude.{◌≡◌, ◌⊎◌, None, ℕ, zero, suc, List, [], ◌∷◌, map}
 use Rattle.canvas_task.specs.Apply.{Behaviour}
 use Rattle.canvas_semantics.specs.Tree.{Tree, count}
@@ -16,7 +17,8 @@ rows_from k (s ∷ ss) = (k, s) ∷ rows_from (suc k) ss
 
 -- of a numbered canvas: the state of each task that evaluating it gives
 abbrev pub states : Behaviour → Tree → List State
-states behaviour c = map (λ k. state_of k (eval behaviour c nothing).rows) (numbers_from 1 (count c))
+states behaviour c =
+    map (λ k. state_of k (eval behaviour c nothing).rows) (numbers_from 1 (count c))
 
 -- each is pending, or the other
 abbrev pub EachMay : List State → List State → Type 0

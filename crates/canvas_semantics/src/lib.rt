@@ -1,5 +1,6 @@
-//! What a canvas means, as plain data: its tree, its normal line, and the states and the report that evaluating it gives. There is no
-//! running code here: the function has an empty body, and its contract is a law.
+//! What a canvas means, as plain data: its tree, its normal line, and the states and the report
+//! that evaluating it gives. There is no running code here: the function has an empty body, and its
+//! contract is a law.
 #![tactic(auto)]
 
 ghost use Rattle.std.specs.Prelude.{◌≡◌};
@@ -10,12 +11,15 @@ ghost use Rattle.canvas_semantics.specs.SameMeaning.{IsSame};
 ghost use Rattle.canvas_semantics.specs.States.{rows_from, states};
 ghost use Rattle.canvas_semantics.specs.Tree.{Tree, IsFull, count, count_groups, numbered};
 
-/// The law of the normal line. Where no chain is empty, the normal line of a canvas means what the canvas means, whatever its tasks do: for every flow each
-/// task has the same state by its number, and the same flows out. What both end in is the same, and each group and chord has the same
+/// The law of the normal line. Where no chain is empty, the normal line of a canvas means what the
+/// canvas means, whatever its tasks do: for every flow each task has the same state by its number,
+/// and the same flows out. What both end in is the same, and each group and chord has the same
 /// number and the same members' ends. So the report is the same.
 pub fn law_of_normal_lines()
     ensures same { (c : Tree) → IsFull c → IsSame (normal c) c }
     ensures tasks { (c : Tree) → count (normal c) ≡ count c }
     ensures groups { (c : Tree) → count_groups (normal c) ≡ count_groups c }
-    ensures reported { (behaviour : Behaviour) (c : Tree) → IsFull c → report_of (numbered (normal c)) (rows_from 1 (states behaviour (numbered (normal c)))) ≡ report behaviour c }
+    ensures reported { (behaviour : Behaviour) (c : Tree) → IsFull c
+        → report_of (numbered (normal c)) (rows_from 1 (states behaviour (numbered (normal c))))
+        ≡ report behaviour c }
 {}

@@ -1,4 +1,5 @@
--- What is said of a signature (Celery's, as `json.dumps(signature)` writes it), by what is said of those in it, however deep they are.
+-- What is said of a signature (Celery's, as `json.dumps(signature)` writes it), by what is said of
+-- those in it, however deep they are.
 use Rattle.std.specs.Prelude.{◌≡◌, Bool, false, true, map, Option}
 use Rattle.serde_json.specs.Data.{Data, depth}
 use Rattle.canvas_semantics.specs.Tree.{Task, task}
@@ -22,13 +23,20 @@ abbrev pub FaultsByParts : Type 0
 FaultsByParts =
     (linked : Bool) (d : Data)
     → fault_at linked d
-    ≡ (own_fault linked d or_else first_fault (fault_at false) (in_kwargs (primitive_of (subtype d)) d)
-    or_else first_fault (fault_at true) (as_list (link d)) or_else first_fault (fault_at true) (as_list (link_error d)))
+    ≡ (own_fault linked d or_else first_fault (fault_at false)
+    (in_kwargs (primitive_of (subtype d)) d)
+    or_else first_fault (fault_at true) (as_list (link d)) or_else first_fault (fault_at true)
+    (as_list (link_error d)))
 
 -- a task has the links and the error callbacks that those in it spell
 abbrev pub TasksByParts : Type 0
-TasksByParts = (d : Data) → task_said d ≡ task 0 (spelled_call d) (tasks_of (map task_said (as_list (link d)))) (tasks_of (map task_said (as_list (link_error d))))
+TasksByParts =
+    (d : Data)
+    → task_said d
+    ≡ task 0 (spelled_call d) (tasks_of (map task_said (as_list (link d))))
+    (tasks_of (map task_said (as_list (link_error d))))
 
 -- and so have a chain, a group and a chord their elements
 abbrev pub TreesByParts : Type 0
-TreesByParts = (d : Data) → tree_said d ≡ tree_from (task_said d) tree_said (primitive_of (subtype d)) d
+TreesByParts =
+    (d : Data) → tree_said d ≡ tree_from (task_said d) tree_said (primitive_of (subtype d)) d

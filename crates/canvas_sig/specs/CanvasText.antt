@@ -1,4 +1,5 @@
--- The canvas that a text spells, or its first refusal: JSON (RFC 8259) in UTF-8, as `json.dumps(signature)` writes a signature of Celery.
+-- The canvas that a text spells, or its first refusal: JSON (RFC 8259) in UTF-8, as
+-- `json.dumps(signature)` writes a signature of Celery.
 use Rattle.std.specs.Prelude.{ℕ, if◌then◌else◌, length, Option, Some, None, Result, Err, nat_lt}
 use Rattle.std.specs.Str.{is_utf8}
 use Rattle.serde_json.specs.Data.{Data}
@@ -29,4 +30,5 @@ json_canvas (Some d) = canvas_reading d
 
 -- the canvas that a text spells, or its first refusal
 abbrev pub text_reading : Text → Result Tree SigFault
-text_reading bytes = if nat_lt most_bytes (length bytes) then Err TooLarge else json_canvas (json_of bytes)
+text_reading bytes =
+    if nat_lt most_bytes (length bytes) then Err TooLarge else json_canvas (json_of bytes)

@@ -1,5 +1,6 @@
--- The refusals of a canvas that was composed (Celery's signatures): a text can spell each of them too, and is then refused for the same reason. What else
--- refuses a text is of its JSON, and can't be composed.
+-- The refusals of a canvas that was composed (Celery's signatures): a text can spell each of them
+-- too, and is then refused for the same reason. What else refuses a text is of its JSON, and can't
+-- be composed.
 use Rattle.std.specs.Prelude.{Bool, true, not, ◌&&◌, Option, Some, None, Result, Ok, Err}
 use Rattle.std.specs.List.{list_all}
 use Rattle.canvas_task.specs.Name.{name_ok}
@@ -27,7 +28,8 @@ abbrev pub call_numbers_ok : Call → Bool
 call_numbers_ok c = list_all arg_ok c.args && list_all (λ e. arg_ok e.1) c.kwargs
 
 abbrev pub call_fault : Call → Option SigFault
-call_fault c = fault_if (not (name_ok c.name)) NotSignature or_else fault_if (not (call_numbers_ok c)) BadNumber
+call_fault c =
+    fault_if (not (name_ok c.name)) NotSignature or_else fault_if (not (call_numbers_ok c)) BadNumber
 
 abbrev pub its_call : Task → Call
 its_call (task k call links errbacks) = call
@@ -35,7 +37,8 @@ its_call (task k call links errbacks) = call
 -- A signature before those in it, and these in their order: the first with a fault decides.
 abbrev mutual
   pub task_fault : Task → Option SigFault
-  task_fault (task k call links errbacks) = call_fault call or_else tasks_fault links or_else tasks_fault errbacks
+  task_fault (task k call links errbacks) =
+      call_fault call or_else tasks_fault links or_else tasks_fault errbacks
 
   pub tasks_fault : Tasks → Option SigFault
   tasks_fault no_tasks = None

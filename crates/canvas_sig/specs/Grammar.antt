@@ -1,5 +1,6 @@
--- The grammar of a signature: of which kinds its arguments are, what it stands for, and its own faults, each by itself (Celery's user guide,
--- Canvas: signatures; the JSON of `json.dumps(signature)`).
+-- The grammar of a signature: of which kinds its arguments are, what it stands for, and its own
+-- faults, each by itself (Celery's user guide, Canvas: signatures; the JSON of
+-- `json.dumps(signature)`).
 use Rattle.std.specs.Prelude.{Bool, true, false, not, ◌&&◌, ◌||◌, if◌then◌else◌, map, Option, Some, None, Result, Ok, codes, ℤ, pos}
 use Rattle.std.specs.List.{list_all}
 use Rattle.std.specs.Str.{bytes_eq}
@@ -100,7 +101,9 @@ abbrev pub is_group : Data → Bool
 is_group d = is_object d && is_text (codes "group") (subtype d)
 
 abbrev pub not_signature : Data → Bool
-not_signature d = not (is_object d) || not (is_name (field (codes "task") d)) || not (is_flag (field (codes "immutable") d))
+not_signature d =
+    not (is_object d) || not (is_name (field (codes "task") d))
+    || not (is_flag (field (codes "immutable") d))
 
 abbrev pub bad_members : Primitive → Data → Bool
 bad_members kind.Task d = not (args_ok kind_ok d)
@@ -110,18 +113,21 @@ bad_members kind.Chord d = not (is_list (header d) || is_group (header d)) || is
 
 abbrev pub bad_args : Primitive → Data → Bool
 bad_args p d =
-    not (is_list_or_null (args d)) || not (is_object_or_null (kwargs d)) || not (is_object_or_null (field (codes "options") d))
+    not (is_list_or_null (args d)) || not (is_object_or_null (kwargs d))
+    || not (is_object_or_null (field (codes "options") d))
     || not (is_link (link d)) || not (is_link (link_error d)) || bad_members p d
 
 abbrev pub bad_number : Primitive → Data → Bool
 bad_number kind.Task d = not (args_ok numbers_ok d)
 bad_number p d = false
 
--- What only a task has stands on a chain, group or chord, or one of these is a link or an error callback.
+-- What only a task has stands on a chain, group or chord, or one of these is a link or an error
+-- callback.
 abbrev pub on_canvas : Bool → Primitive → Data → Bool
 on_canvas linked kind.Task d = false
 on_canvas linked p d =
-    linked || not (is_empty (args d)) || is_true (field (codes "immutable") d) || not (is_empty (link d)) || not (is_empty (link_error d))
+    linked || not (is_empty (args d)) || is_true (field (codes "immutable") d)
+    || not (is_empty (link d)) || not (is_empty (link_error d))
 
 abbrev pub frozen : Data → Bool
 frozen d = not (is_null (option (codes "chord") d))
@@ -133,12 +139,14 @@ empty_chain p d = false
 abbrev pub fault_as : Bool → Data → Option Primitive → Option SigFault
 fault_as linked d None = Some UnknownPrimitive
 fault_as linked d (Some p) =
-    fault_if (bad_args p d) BadArgs or_else fault_if (bad_number p d) BadNumber or_else fault_if (on_canvas linked p d) OnCanvas
+    fault_if (bad_args p d) BadArgs or_else fault_if (bad_number p d) BadNumber or_else fault_if
+    (on_canvas linked p d) OnCanvas
     or_else fault_if (frozen d) Frozen or_else fault_if (empty_chain p d) EmptyChain
 
 -- The first of a signature's own faults; `linked` says that it is a link or an error callback.
 abbrev pub own_fault : Bool → Data → Option SigFault
-own_fault linked d = fault_if (not_signature d) NotSignature or_else fault_as linked d (primitive_of (subtype d))
+own_fault linked d =
+    fault_if (not_signature d) NotSignature or_else fault_as linked d (primitive_of (subtype d))
 
 -- what stands in a group
 abbrev pub members_in : Tree → Trees

@@ -1,4 +1,5 @@
--- The refusals of a whole canvas: a group nested in a group, too deep, too many. They are this project's own.
+-- The refusals of a whole canvas: a group nested in a group, too deep, too many. They are this
+-- project's own.
 use Rattle.std.specs.Prelude.{if◌then◌else◌, Option, Some, None}
 use Rattle.canvas_sig.specs.declared.fault.SigFault.{SigFault}
 use Rattle.canvas_sig.specs.declared.fault.SigFault.TheVariants.{NestedGroup, TooDeep, TooMany}

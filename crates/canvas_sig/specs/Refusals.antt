@@ -1,4 +1,5 @@
--- The first fault of a signature (Celery's, as `json.dumps(signature)` writes it) in file order, and apart from it the canvas that a signature without one spells.
+-- The first fault of a signature (Celery's, as `json.dumps(signature)` writes it) in file order,
+-- and apart from it the canvas that a signature without one spells.
 use Rattle.std.specs.Prelude.{ℕ, zero, suc, Bool, true, false, List, [], ◌∷◌, ◌++◌, map, Option, Some, None, codes}
 use Rattle.serde_json.specs.Data.{Data, array, depth}
 use Rattle.canvas_task.specs.declared.arg.Arg.{Arg}
@@ -25,14 +26,16 @@ in_kwargs (Some kind.Group) d = listed (tasks d)
 in_kwargs (Some kind.Chord) d = as_list (header d) ++ body d ∷ []
 in_kwargs p d = []
 
--- A signature before those in it, and these in the order tasks; header, body; link, link_error. The first with a fault decides.
--- A header that is a group signature is a signature of its own. The number bounds how deep arrays and objects nest in the value:
--- where it is 0 nothing stands in it.
+-- A signature before those in it, and these in the order tasks; header, body; link, link_error. The
+-- first with a fault decides. A header that is a group signature is a signature of its own. The
+-- number bounds how deep arrays and objects nest in the value: where it is 0 nothing stands in it.
 abbrev pub fault_within : ℕ → Bool → Data → Option SigFault
 fault_within zero linked d = own_fault linked d
 fault_within (suc n) linked d =
-    own_fault linked d or_else first_fault (fault_within n false) (in_kwargs (primitive_of (subtype d)) d)
-    or_else first_fault (fault_within n true) (as_list (link d)) or_else first_fault (fault_within n true) (as_list (link_error d))
+    own_fault linked d or_else first_fault (fault_within n false)
+    (in_kwargs (primitive_of (subtype d)) d)
+    or_else first_fault (fault_within n true) (as_list (link d)) or_else first_fault
+    (fault_within n true) (as_list (link_error d))
 
 -- ---- what a signature without a fault reads as
 
@@ -50,7 +53,8 @@ spelled_call d = record {
 abbrev pub task_within : ℕ → Data → Task
 task_within zero d = task 0 (spelled_call d) (tasks_of []) (tasks_of [])
 task_within (suc n) d =
-    task 0 (spelled_call d) (tasks_of (map (task_within n) (as_list (link d)))) (tasks_of (map (task_within n) (as_list (link_error d))))
+    task 0 (spelled_call d) (tasks_of (map (task_within n) (as_list (link d))))
+    (tasks_of (map (task_within n) (as_list (link_error d))))
 
 -- the members of a header, which is a list, or one group signature
 abbrev pub header_of : (Data → Tree) → Data → Trees
@@ -66,9 +70,11 @@ tree_from t f p d = one t
 
 abbrev pub tree_within : ℕ → Data → Tree
 tree_within zero d = one (task_within zero d)
-tree_within (suc n) d = tree_from (task_within (suc n) d) (tree_within n) (primitive_of (subtype d)) d
+tree_within (suc n) d =
+    tree_from (task_within (suc n) d) (tree_within n) (primitive_of (subtype d)) d
 
--- ---- As deep as the value is, which leaves no signature out: `law_of_parts` says the same with no number at all (`ByParts`).
+-- ---- As deep as the value is, which leaves no signature out: `law_of_parts` says the same with no
+-- number at all (`ByParts`).
 
 unfoldable pub signature_fault : Data → Option SigFault
 signature_fault d = fault_within (depth d) false d

@@ -1,4 +1,5 @@
--- The data that signatures stand for (Celery user guide, Canvas: signatures). Nothing is numbered yet: each number is 0.
+-- The data that signatures stand for (Celery user guide, Canvas: signatures). Nothing is numbered
+-- yet: each number is 0.
 use Rattle.std.specs.Prelude.{List, [], ◌∷◌}
 use Rattle.canvas_semantics.specs.Tree.{Task, task, Tasks, no_tasks, and_task, Tree, one, chain, group, chord, Trees, no_trees, and_tree}
 use Rattle.canvas_sig.specs.declared.task_sig.TaskSig.{TaskSig, fold-TaskSig}
@@ -15,7 +16,9 @@ trees_of [] = no_trees
 trees_of (t ∷ ts) = and_tree t (trees_of ts)
 
 abbrev pub task_step : TaskSig-F Task → Task
-task_step s = task 0 (record { name = s.name; args = s.args; kwargs = s.kwargs; immutable = s.immutable }) (tasks_of s.links) (tasks_of s.errbacks)
+task_step s =
+    task 0 (record { name = s.name; args = s.args; kwargs = s.kwargs; immutable = s.immutable })
+    (tasks_of s.links) (tasks_of s.errbacks)
 
 abbrev pub task_view : TaskSig → Task
 task_view = fold-TaskSig Task task_step

@@ -8,7 +8,8 @@ use Rattle.canvas_semantics.specs.Tree.{Task, task, Tasks, no_tasks, and_task, T
 
 abbrev mutual
   pub TaskComposed : Task → Type 0
-  TaskComposed (task k call links errbacks) = (k ≡ 0) × Ascends call.kwargs × TasksComposed links × TasksComposed errbacks
+  TaskComposed (task k call links errbacks) =
+      (k ≡ 0) × Ascends call.kwargs × TasksComposed links × TasksComposed errbacks
 
   pub TasksComposed : Tasks → Type 0
   TasksComposed no_tasks = Unit {0}

@@ -1,4 +1,5 @@
--- The JSON value that a signature is written as: all six members, in the byte order of their names (Celery user guide, Canvas).
+-- The JSON value that a signature is written as: all six members, in the byte order of their names
+-- (Celery user guide, Canvas).
 use Rattle.std.specs.Prelude.{ℕ, Bool, false, List, [], ◌∷◌, ◌++◌, codes, ℤ}
 use Rattle.serde_json.specs.Data.{Data, null, boolean, number, string, array, object, Items, no_items, item, Members, no_members, member}
 use Rattle.serde_json.specs.Find.{of_integer}
@@ -37,9 +38,11 @@ member_unless_empty k (item d ds) more = member k (array (item d ds)) more
 
 abbrev pub options_wire : (links errbacks : Items) → Members
 options_wire links errbacks =
-    member_unless_empty (codes "link") links (member_unless_empty (codes "link_error") errbacks no_members)
+    member_unless_empty (codes "link") links
+    (member_unless_empty (codes "link_error") errbacks no_members)
 
-abbrev pub signature : (args : Items) (immutable : Bool) (kwargs options : Members) (kind : Data) (name : List ℕ) → Data
+abbrev pub signature : (args : Items) (immutable : Bool) (kwargs options : Members) (kind : Data)
+    (name : List ℕ) → Data
 signature args immutable kwargs options kind name =
     object (member (codes "args") (array args)
     (member (codes "immutable") (boolean immutable)
@@ -56,7 +59,8 @@ call_wire call options =
 
 abbrev mutual
   pub task_wire : Task → Data
-  task_wire (task k call links errbacks) = call_wire call (options_wire (tasks_wire links) (tasks_wire errbacks))
+  task_wire (task k call links errbacks) =
+      call_wire call (options_wire (tasks_wire links) (tasks_wire errbacks))
 
   pub tasks_wire : Tasks → Items
   tasks_wire no_tasks = no_items
@@ -66,21 +70,24 @@ abbrev mutual
 
 -- only the keyword arguments differ, the kind, and the name that goes with it
 abbrev pub primitive_wire : (kind : List ℕ) → (kwargs : Members) → Data
-primitive_wire kind kwargs = signature no_items false kwargs no_members (string kind) (codes "celery." ++ kind)
+primitive_wire kind kwargs =
+    signature no_items false kwargs no_members (string kind) (codes "celery." ++ kind)
 
 abbrev pub tasks_member : Items → Members
 tasks_member tasks = member (codes "tasks") (array tasks) no_members
 
 -- a header is written as a list
 abbrev pub chord_members : (body : Data) → (header : Items) → Members
-chord_members body header = member (codes "body") body (member (codes "header") (array header) no_members)
+chord_members body header =
+    member (codes "body") body (member (codes "header") (array header) no_members)
 
 abbrev mutual
   pub tree_wire : Tree → Data
   tree_wire (one t) = task_wire t
   tree_wire (chain ts) = primitive_wire (codes "chain") (tasks_member (trees_wire ts))
   tree_wire (group g ms) = primitive_wire (codes "group") (tasks_member (trees_wire ms))
-  tree_wire (chord g h b) = primitive_wire (codes "chord") (chord_members (tree_wire b) (trees_wire h))
+  tree_wire (chord g h b) =
+      primitive_wire (codes "chord") (chord_members (tree_wire b) (trees_wire h))
 
   pub trees_wire : Trees → Items
   trees_wire no_trees = no_items

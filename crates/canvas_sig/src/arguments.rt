@@ -29,7 +29,8 @@ pub(crate) fn is_in_range(number: &Number) -> bool
 
 /// A whole number in range.
 fn whole(number: &Number) -> Result<i64, SigFault>
-    ensures reading { Gives (λ n. n) result (in_range_or_refused (as_i64 (number_view number.now))) }
+    ensures reading { Gives (λ n. n) result
+        (in_range_or_refused (as_i64 (number_view number.now))) }
     ensures memory { IfErr result (λ e. e ≢ Memory) }
 {
     match number.as_i64() {
@@ -79,7 +80,8 @@ fn read_numbers(alloc: Global, values: &[Value]) -> Result<Vec<i64>, SigFault>
 
 fn read_list(alloc: Global, values: &[Value]) -> Result<Arg, SigFault>
     ensures reading { Gives (λ a. a) result (list_reading (map view values.now)) }
-    ensures memory { IfErr result (λ e. e ≡ Memory → (0 < length values.now) × IsTrue (list_all is_number (map view values.now))) }
+    ensures memory { IfErr result (λ e. e ≡ Memory
+        → (0 < length values.now) × IsTrue (list_all is_number (map view values.now))) }
 {
     if !all_numbers(values) {
         return Err(SigFault::BadArgs);
@@ -87,7 +89,8 @@ fn read_list(alloc: Global, values: &[Value]) -> Result<Arg, SigFault>
     Ok(Arg::List(ListOf::of(read_numbers(alloc, values)?)))
 }
 
-/// The argument that a value stands for, or its fault. Memory is asked for by a text and by a list of numbers alone.
+/// The argument that a value stands for, or its fault. Memory is asked for by a text and by a list
+/// of numbers alone.
 #[tactic(auto, using(crate::proofs::ArgumentLaw::reads_so))]
 pub fn read_arg(alloc: Global, value: &Value) -> Result<Arg, SigFault>
     ensures reading { Gives (λ a. a) result (arg_reading (view value.now)) }
@@ -125,7 +128,8 @@ fn read_named(alloc: Global, members: &Map<String, Value>) -> Result<Map<String,
 }
 
 fn read_members(alloc: Global, value: &Value) -> Result<Map<String, Arg>, SigFault>
-    ensures { Gives (λ m. named m.entries) result (each named_reading (object_members (view value.now))) }
+    ensures { Gives (λ m. named m.entries) result
+        (each named_reading (object_members (view value.now))) }
 {
     match value {
         Value::Object(members) => read_named(alloc, members),
@@ -133,9 +137,11 @@ fn read_members(alloc: Global, value: &Value) -> Result<Map<String, Arg>, SigFau
     }
 }
 
-/// The arguments of an object, or the first fault in the order of their names. What is missing, or is no object, has none.
+/// The arguments of an object, or the first fault in the order of their names. What is missing, or
+/// is no object, has none.
 pub fn read_kwargs(alloc: Global, field: Option<&Value>) -> Result<Map<String, Arg>, SigFault>
-    ensures { Gives (λ m. named m.entries) result (each named_reading (object_members (value_at field.entry))) }
+    ensures { Gives (λ m. named m.entries) result
+        (each named_reading (object_members (value_at field.entry))) }
 {
     match field {
         Some(value) => read_members(alloc, value),

@@ -24,7 +24,8 @@ pub const MOST_BYTES: usize = 1_048_576;
 /// One more than the levels that JSON is read to, so that no signature is cut off.
 pub const MOST_LEVELS: u32 = 128;
 
-/// A signature that passed every check. Contracts compare two canvases by their content; there is no `PartialEq` at run time.
+/// A signature that passed every check. Contracts compare two canvases by their content; there is
+/// no `PartialEq` at run time.
 #[derive(Drop)]
 pub struct Canvas {
     node: Node,
@@ -47,13 +48,16 @@ impl Model for Canvas {
 }
 
 impl Canvas {
-    /// Checks a composed signature: names, numbers and empty chains, signature by signature, and then the limits of a canvas.
-    /// A text can spell these faults too; its other faults are of its JSON, and no composed signature has them.
+    /// Checks a composed signature: names, numbers and empty chains, signature by signature, and
+    /// then the limits of a canvas. A text can spell these faults too; its other faults are of its
+    /// JSON, and no composed signature has them.
     ///
-    /// A node that is refused is dropped. The first checks walk as deep as the node before the limit of depth is looked at, so one that was composed a
-    /// hundred thousand deep may exhaust the stack. No text does that: JSON is read at most 127 deep.
+    /// A node that is refused is dropped. The first checks walk as deep as the node before the
+    /// limit of depth is looked at, so one that was composed a hundred thousand deep may exhaust
+    /// the stack. No text does that: JSON is read at most 127 deep.
     pub fn of(_alloc: Global, node: Node) -> Result<Canvas, SigFault>
-        ensures ok { IfOk result (λ canvas. (node_fault (view node) ≡ None) × (canvas ≡ view node)) }
+        ensures ok { IfOk result
+            (λ canvas. (node_fault (view node) ≡ None) × (canvas ≡ view node)) }
         ensures err { IfErr result (λ e. node_fault (view node) ≡ Some e) }
     {
         check_node(&node)?;
@@ -98,7 +102,8 @@ fn read_signature(alloc: Global, bytes: &[u8]) -> Result<Node, SigFault>
 /// The canvas that a text spells, or its first refusal.
 #[tactic(auto, using(crate::proofs::TextLemmas::fails_refused))]
 pub fn read_canvas(alloc: Global, bytes: &[u8]) -> Result<Canvas, SigFault>
-    ensures { MatchResult result (λ canvas. text_reading bytes.now ≡ Ok canvas) (λ e. e ≢ Memory → text_reading bytes.now ≡ Err e) }
+    ensures { MatchResult result (λ canvas. text_reading bytes.now ≡ Ok canvas)
+        (λ e. e ≢ Memory → text_reading bytes.now ≡ Err e) }
 {
     let node = read_signature(alloc, bytes)?;
     match limit_fault(&node) {

@@ -7,7 +7,8 @@ ghost use Rattle.canvas_sig.specs.steps.Budget.{LeavesOver};
 
 use crate::{Node, TaskSig};
 
-/// What is left of `left` tasks after a task with its links and error callbacks; None where they are more.
+/// What is left of `left` tasks after a task with its links and error callbacks; None where they
+/// are more.
 #[cycle(task_counting)]
 #[tactic(auto, using(crate::proofs::Views::task_seen))]
 fn left_after_task(sig: &TaskSig, left: u32) -> Option<u32>

@@ -7,9 +7,9 @@ ghost use Rattle.canvas_sig.specs.RefusalNames.{code_of};
 use std::alloc::{AllocError, AllocFailed};
 use std::fmt;
 
-/// Why a text isn't a canvas; where there are several reasons, the first in this order.
-/// The faults of single signatures, from `NotSignature` to `EmptyChain`, go signature by signature in file order.
-/// Each is printed as its name here, and reported by the number in front.
+/// Why a text isn't a canvas; where there are several reasons, the first in this order. The faults
+/// of single signatures, from `NotSignature` to `EmptyChain`, go signature by signature in file
+/// order. Each is printed as its name here, and reported by the number in front.
 #[derive(Clone, Copy, Debug, Drop, PartialEq, Eq)]
 pub enum SigFault {
     /// 1: more than 1,048,576 bytes.
@@ -24,7 +24,8 @@ pub enum SigFault {
     BadArgs,
     /// 6: a number isn't whole, or is past 2^60 on either side.
     BadNumber,
-    /// 7: arguments, `immutable` or callbacks on a chain, group or chord, or one of these as a callback.
+    /// 7: arguments, `immutable` or callbacks on a chain, group or chord, or one of these as a
+    /// callback.
     OnCanvas,
     /// 8: `options.chord` is there and isn't null, which stands in messages alone.
     Frozen,
@@ -32,7 +33,8 @@ pub enum SigFault {
     EmptyChain,
     /// 10: a member of a group or header ends in a group.
     NestedGroup,
-    /// 11: signatures stand more than 8 deep in each other, or more than 32 deep in some message of a run.
+    /// 11: signatures stand more than 8 deep in each other, or more than 32 deep in some message of
+    /// a run.
     TooDeep,
     /// 12: more than 1,024 tasks, callbacks included, or more than 1,024 groups and chords.
     TooMany,

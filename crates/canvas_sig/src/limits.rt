@@ -33,7 +33,8 @@ fn is_too_many(node: &Node) -> bool
     tasks_left(node, MOST_TASKS).is_none() || groups_left(node, MOST_GROUPS).is_none()
 }
 
-/// The first refusal of a canvas whose signatures are in order. Its cost grows with the canvas alone.
+/// The first refusal of a canvas whose signatures are in order. Its cost grows with the canvas
+/// alone.
 pub(crate) fn limit_fault(node: &Node) -> Option<SigFault>
     ensures { result ≡ tree_fault (view node.now) }
 {

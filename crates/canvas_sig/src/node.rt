@@ -12,7 +12,8 @@ pub enum Node {
     Chain(ListOf<Node>),
     /// Members that all take what comes in. There may be none.
     Group(ListOf<Node>),
-    /// The body takes the list of what comes out of the header's members, the empty list where there are none.
+    /// The body takes the list of what comes out of the header's members, the empty list where
+    /// there are none.
     Chord {
         header: ListOf<Node>,
         body: Box<Node>,

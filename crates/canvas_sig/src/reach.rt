@@ -1,4 +1,5 @@
-//! How deeply signatures of a canvas stand in each other in a message, past the limit only that it is past.
+//! How deeply signatures of a canvas stand in each other in a message, past the limit only that it
+//! is past.
 
 ghost use Rattle.std.specs.Prelude.{◌≡◌, ◌+◌, max, map};
 ghost use Rattle.canvas_sig.specs.steps.LineReach.{past, above, reach_of_line, sig_reach, sigs_reach, chord_reach, task_onto, group_reach, onto_reach, all_onto_reach, greatest};

@@ -76,7 +76,8 @@ fn read_task(alloc: Global, value: &Value, left: u32) -> Result<TaskSig, SigFaul
 /// The signatures in a list, one signature, or none.
 #[cycle(read_task)]
 fn read_link(alloc: Global, field: Option<&Value>, left: u32) -> Result<Vec<TaskSig>, SigFault>
-    ensures { Gives (λ v. map task_view v.items) result (each (task_reading left) (as_list (value_at field.entry))) }
+    ensures { Gives (λ v. map task_view v.items) result
+        (each (task_reading left) (as_list (value_at field.entry))) }
 {
     match field {
         None => Ok(Vec::new(alloc)),
@@ -86,7 +87,8 @@ fn read_link(alloc: Global, field: Option<&Value>, left: u32) -> Result<Vec<Task
 
 #[cycle(read_task)]
 fn read_one_or_more(alloc: Global, value: &Value, left: u32) -> Result<Vec<TaskSig>, SigFault>
-    ensures { Gives (λ v. map task_view v.items) result (each (task_reading left) (as_list (view value.now))) }
+    ensures { Gives (λ v. map task_view v.items) result
+        (each (task_reading left) (as_list (view value.now))) }
 {
     match value {
         Value::Null => Ok(Vec::new(alloc)),
@@ -101,7 +103,8 @@ fn read_one_or_more(alloc: Global, value: &Value, left: u32) -> Result<Vec<TaskS
 
 #[cycle(read_task)]
 fn read_all_linked(alloc: Global, values: &[Value], left: u32) -> Result<Vec<TaskSig>, SigFault>
-    ensures { Gives (λ v. map task_view v.items) result (each (task_reading left) (map view values.now)) }
+    ensures { Gives (λ v. map task_view v.items) result
+        (each (task_reading left) (map view values.now)) }
 {
     let mut tasks = Vec::new(alloc);
     for value in values {
@@ -135,7 +138,8 @@ pub(crate) fn read_node(alloc: Global, value: &Value, left: u32) -> Result<Node,
 #[cycle(read_node)]
 #[tactic(auto, using(crate::proofs::Level::fails_with))]
 fn read_checked(alloc: Global, value: &Value, left: u32) -> Result<Node, SigFault>
-    ensures { Gives tree_view result (tree_with (task_reading left) (tree_reading left) (view value.now)) }
+    ensures { Gives tree_view result
+        (tree_with (task_reading left) (tree_reading left) (view value.now)) }
 {
     match own_fault(value, false) {
         Some(fault) => Err(fault),
@@ -151,7 +155,8 @@ fn read_as(
     primitive: Option<Primitive>,
     left: u32,
 ) -> Result<Node, SigFault>
-    ensures { Gives tree_view result (tree_as (task_reading left) (tree_reading left) primitive (view value.now)) }
+    ensures { Gives tree_view result
+        (tree_as (task_reading left) (tree_reading left) primitive (view value.now)) }
 {
     match primitive {
         Some(Primitive::Chain) => read_chain(alloc, value, left),
@@ -163,7 +168,8 @@ fn read_as(
 
 #[cycle(read_node)]
 fn read_chain(alloc: Global, value: &Value, left: u32) -> Result<Node, SigFault>
-    ensures { Gives tree_view result (tree_as (task_reading left) (tree_reading left) (Some Chain) (view value.now)) }
+    ensures { Gives tree_view result
+        (tree_as (task_reading left) (tree_reading left) (Some Chain) (view value.now)) }
 {
     let nodes = read_all(alloc, listed(kwarg_of(value, "tasks")), left)?;
     Ok(Node::Chain(ListOf::of(nodes)))
@@ -171,7 +177,8 @@ fn read_chain(alloc: Global, value: &Value, left: u32) -> Result<Node, SigFault>
 
 #[cycle(read_node)]
 fn read_group(alloc: Global, value: &Value, left: u32) -> Result<Node, SigFault>
-    ensures { Gives tree_view result (tree_as (task_reading left) (tree_reading left) (Some Group) (view value.now)) }
+    ensures { Gives tree_view result
+        (tree_as (task_reading left) (tree_reading left) (Some Group) (view value.now)) }
 {
     let nodes = read_all(alloc, listed(kwarg_of(value, "tasks")), left)?;
     Ok(Node::Group(ListOf::of(nodes)))
@@ -179,7 +186,8 @@ fn read_group(alloc: Global, value: &Value, left: u32) -> Result<Node, SigFault>
 
 #[cycle(read_node)]
 fn read_chord(alloc: Global, value: &Value, left: u32) -> Result<Node, SigFault>
-    ensures { Gives tree_view result (tree_as (task_reading left) (tree_reading left) (Some Chord) (view value.now)) }
+    ensures { Gives tree_view result
+        (tree_as (task_reading left) (tree_reading left) (Some Chord) (view value.now)) }
 {
     let header = read_header(alloc, kwarg_of(value, "header"), left)?;
     let body = read_member(alloc, kwarg_of(value, "body"), left)?;
@@ -203,7 +211,8 @@ fn read_member(alloc: Global, field: Option<&Value>, left: u32) -> Result<Node, 
 /// The members of a header, which is a list, or one group signature.
 #[cycle(read_node)]
 fn read_header(alloc: Global, field: Option<&Value>, left: u32) -> Result<Vec<Node>, SigFault>
-    ensures { Gives (λ v. trees_of (map tree_view v.items)) result (header_reading (tree_reading left) (value_at field.entry)) }
+    ensures { Gives (λ v. trees_of (map tree_view v.items)) result
+        (header_reading (tree_reading left) (value_at field.entry)) }
 {
     if is_list(field) {
         return read_all(alloc, listed(field), left);
@@ -214,7 +223,8 @@ fn read_header(alloc: Global, field: Option<&Value>, left: u32) -> Result<Vec<No
 
 #[cycle(read_node)]
 fn read_all(alloc: Global, values: &[Value], left: u32) -> Result<Vec<Node>, SigFault>
-    ensures { Gives (λ v. map tree_view v.items) result (each (tree_reading left) (map view values.now)) }
+    ensures { Gives (λ v. map tree_view v.items) result
+        (each (tree_reading left) (map view values.now)) }
 {
     let mut nodes = Vec::new(alloc);
     for value in values {

@@ -34,10 +34,12 @@ pub fn write_node(alloc: Global, node: &Node) -> Result<String, Memory>
     Ok(String::from_utf8(out.into_inner()).unwrap())
 }
 
-/// A canvas as compact JSON. Where the text isn't too large to be read, it reads as the canvas again.
+/// A canvas as compact JSON. Where the text isn't too large to be read, it reads as the canvas
+/// again.
 pub fn write_canvas(alloc: Global, canvas: &Canvas) -> Result<String, Memory>
     ensures text { IfOk result (λ text. string_bytes text ≡ compact_text (tree_wire canvas.now)) }
-    ensures reads_back { IfOk result (λ text. length (string_bytes text) ≤ most_bytes → text_reading (string_bytes text) ≡ Ok canvas.now) }
+    ensures reads_back { IfOk result (λ text. length (string_bytes text) ≤ most_bytes
+        → text_reading (string_bytes text) ≡ Ok canvas.now) }
 {
     write_node(alloc, canvas.node())
 }

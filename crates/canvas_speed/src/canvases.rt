@@ -70,7 +70,8 @@ pub(crate) fn nested_chords(alloc: Global) -> Result<String, AllocError> {
     chord_text(alloc, &middle, 10)
 }
 
-/// A group of sixteen chains of sixty tasks: sixteen messages at a time, most of which carry long chains.
+/// A group of sixteen chains of sixty tasks: sixteen messages at a time, most of which carry long
+/// chains.
 pub(crate) fn wide_chains(alloc: Global) -> Result<String, AllocError> {
     let member = list_text(alloc, "chain", FIRST, ADD, 60)?;
     list_text(alloc, "group", &member, &member, 16)

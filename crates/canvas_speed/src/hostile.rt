@@ -1,4 +1,5 @@
-//! What texts of 1 MiB that nobody of ours wrote cost, beside parsing them: as a canvas's file, and as a message's body.
+//! What texts of 1 MiB that nobody of ours wrote cost, beside parsing them: as a canvas's file, and
+//! as a message's body.
 
 use crate::{envelope_of, hundredths};
 use anyhow::Result;
@@ -17,7 +18,8 @@ const MEMBERS: u32 = 100_000;
 /// Of so many readings the shortest counts.
 const READINGS: u32 = 5;
 
-/// A text's parts, of which it has as many as there is room for: an opening, so many times; what stands inside; and the closing, as often.
+/// A text's parts, of which it has as many as there is room for: an opening, so many times; what
+/// stands inside; and the closing, as often.
 pub(crate) type Part = (&'static str, &'static str, u32, &'static str, &'static str);
 
 pub(crate) const PARTS: [Part; 7] = [

@@ -1,7 +1,7 @@
-//! What a message of about 100 KB costs, as ratios to the JSON library's own reading and writing of its body, and how fast large
-//! canvases run, by turns and on threads.
-//! Given the word `hostile` it says instead what texts that nobody of ours wrote cost.
-//! It measures where it is given a word, and else does nothing. Where something fails it says what, and gives no ratio.
+//! What a message of about 100 KB costs, as ratios to the JSON library's own reading and writing of
+//! its body, and how fast large canvases run, by turns and on threads. Given the word `hostile` it
+//! says instead what texts that nobody of ours wrote cost. It measures where it is given a word,
+//! and else does nothing. Where something fails it says what, and gives no ratio.
 #![tactic(auto)]
 
 mod canvases;
@@ -106,7 +106,8 @@ fn reading_ratio(clock: &impl Clock, alloc: Global, body: &str) -> Result<u128> 
     Ok(hundredths(time, parsing(clock, alloc, body)?))
 }
 
-/// The time to read a body that differs from what `encode` writes at its last byte, a space, in hundredths of that for what it writes.
+/// The time to read a body that differs from what `encode` writes at its last byte, a space, in
+/// hundredths of that for what it writes.
 fn missing_ratio(clock: &impl Clock, alloc: Global, body: &str) -> Result<u128> {
     let mut spaced = String::from_str(alloc, body)?;
     spaced.push(' ')?;

@@ -68,16 +68,19 @@ either (Some a) None = Some a
 either (Some a) (Some b) = None
 either None b = b
 
--- an argument for each parameter: positional ones fill them from the left, the others are given by name
+-- an argument for each parameter: positional ones fill them from the left, the others are given by
+-- name
 abbrev pub filled : List Text → List Arg → List (Text × Arg) → Option (List Arg)
 filled [] [] named = Some []
 filled [] (a ∷ args) named = None
-filled (p ∷ ps) (a ∷ args) named = first_argument (either (Some a) (by_name p named)) (filled ps args named)
+filled (p ∷ ps) (a ∷ args) named =
+    first_argument (either (Some a) (by_name p named)) (filled ps args named)
 filled (p ∷ ps) [] named = first_argument (either None (by_name p named)) (filled ps [] named)
 
 -- the same, if each keyword is a parameter
 abbrev pub bound_to : List Text → List Arg → List (Text × Arg) → Option (List Arg)
-bound_to ps args named = if list_all (λ e. list_any (bytes_eq e.0) ps) named then filled ps args named else None
+bound_to ps args named =
+    if list_all (λ e. list_any (bytes_eq e.0) ps) named then filled ps args named else None
 
 -- what a task answers to a call: a number or an exception
 abbrev pub Answer : Type 0
@@ -101,7 +104,8 @@ abbrev pub logged : Option ℕ → Answer
 logged None = Err BadCall
 logged (Some k) = checked (pos k)
 
--- what a task answers to an argument for each of its parameters, where one of another kind is a bad call
+-- what a task answers to an argument for each of its parameters, where one of another kind is a bad
+-- call
 abbrev pub task_answer : KnownTask → List Arg → Answer
 task_answer add (arg.Num x ∷ arg.Num y ∷ []) = checked (x +ℤ y)
 task_answer mul (arg.Num x ∷ arg.Num y ∷ []) = checked (x *ℤ y)
@@ -132,7 +136,8 @@ abbrev pub answer_known : Option KnownTask → List Arg → List (Text × Arg) �
 answer_known None args named = Failure (Plain NotRegistered)
 answer_known (Some task) args named = outcome (meaning task args named)
 
--- what tasks do: what becomes of a call, by the task's name, its positional arguments and its keyword arguments
+-- what tasks do: what becomes of a call, by the task's name, its positional arguments and its
+-- keyword arguments
 abbrev pub Behaviour : Type 0
 Behaviour = Text → List Arg → List (Text × Arg) → Outcome
 
@@ -147,4 +152,6 @@ IsInRange (Failure f) = Unit {0}
 
 -- each call's answer is in range
 abbrev pub AnswersInRange : Behaviour → Type 0
-AnswersInRange behaviour = (name : Text) (args : List Arg) (named : List (Text × Arg)) → IsInRange (behaviour name args named)
+AnswersInRange behaviour =
+    (name : Text) (args : List Arg) (named : List (Text × Arg))
+    → IsInRange (behaviour name args named)

@@ -1,4 +1,5 @@
--- Identifiers of tasks and groups: UUIDs of version 8 (RFC 9562), whose last four bytes are the number.
+-- Identifiers of tasks and groups: UUIDs of version 8 (RFC 9562), whose last four bytes are the
+-- number.
 use Rattle.std.specs.Prelude.{ℕ, ◌+◌, ◌*◌, ◌^◌, ◌/◌, ◌%◌, ◌==◌, ◌&&◌, not, if◌then◌else◌, List, [], ◌∷◌, ◌++◌, Option, Some, None, take, slice_index}
 use Rattle.std.specs.Option.{option_and_then}
 use Rattle.std.specs.Str.{bytes_eq}
@@ -26,12 +27,14 @@ identifier mark n = pattern mark ++ four_bytes n
 -- the number at the end of sixteen bytes
 abbrev pub number_at_end : List ℕ → ℕ
 number_at_end id =
-    slice_index id 12 * 2 ^ 24 + slice_index id 13 * 2 ^ 16 + slice_index id 14 * 2 ^ 8 + slice_index id 15
+    slice_index id 12 * 2 ^ 24 + slice_index id 13 * 2 ^ 16 + slice_index id 14 * 2 ^ 8
+    + slice_index id 15
 
 -- the number that sixteen bytes name; no task or group has the number 0
 abbrev pub number_named : ℕ → List ℕ → Option ℕ
 number_named mark id =
-    if bytes_eq (take 12 id) (pattern mark) && not (number_at_end id == 0) then Some (number_at_end id) else None
+    if bytes_eq (take 12 id) (pattern mark)
+    && not (number_at_end id == 0) then Some (number_at_end id) else None
 
 -- the number of the task, and of the group or chord, that a text in any form of a UUID names
 abbrev pub task_named : List ℕ → Option ℕ

@@ -22,4 +22,5 @@ why_name why.Chord = codes "ChordError"
 -- a failed header is told by the member that failed first in its order
 abbrev pub fault_text : Fault → List ℕ
 fault_text (fault.Plain kind) = kind_name kind
-fault_text (fault.Chord dep w) = codes "ChordError: Dependency " ++ task_text dep ++ codes " raised " ++ why_name w
+fault_text (fault.Chord dep w) =
+    codes "ChordError: Dependency " ++ task_text dep ++ codes " raised " ++ why_name w

@@ -21,7 +21,8 @@ pub record NamedTask : Type 0 where
 -- what such tasks do: the first of a name answers
 abbrev pub behaviour_of : List NamedTask → Behaviour
 behaviour_of [] name args named = Failure (Plain NotRegistered)
-behaviour_of (t ∷ ts) name args named = if bytes_eq t.name name then outcome (t.answers args named) else behaviour_of ts name args named
+behaviour_of (t ∷ ts) name args named =
+    if bytes_eq t.name name then outcome (t.answers args named) else behaviour_of ts name args named
 
 -- whether there is one of the name
 abbrev pub has_name : Text → List NamedTask → Bool
@@ -30,7 +31,8 @@ has_name name (t ∷ ts) = bytes_eq t.name name || has_name name ts
 
 -- why a task of this name is not added to these, memory aside
 abbrev pub fault_of : Text → List NamedTask → Option AddFault
-fault_of name ts = if not (name_ok name) then Some BadName else (if has_name name ts then Some Doubled else None)
+fault_of name ts =
+    if not (name_ok name) then Some BadName else (if has_name name ts then Some Doubled else None)
 
 -- an object as a task, by what it is called and what it answers
 abbrev pub named_task : {B : Type 0} → (B → Text) → (B → Meaning) → B → NamedTask
@@ -41,7 +43,8 @@ abbrev pub named_tasks : {B : Type 0} → (B → Text) → (B → Meaning) → L
 named_tasks called answers bs = map (named_task called answers) bs
 
 -- those of a registry, in the order in which they were added
-abbrev pub tasks_in : {X : Type 0} {F : X → Type 0} → (DynBox X Global F → Text) → (DynBox X Global F → Meaning) → Boxes X F → List NamedTask
+abbrev pub tasks_in : {X : Type 0} {F : X → Type 0} → (DynBox X Global F → Text)
+    → (DynBox X Global F → Meaning) → Boxes X F → List NamedTask
 tasks_in called answers r = named_tasks called answers r.tasks.items
 
 -- ---- the six

@@ -10,7 +10,8 @@ use Rattle.canvas_task.specs.declared.outcome.Fault.TheVariants.{Plain, Chord}
 use Rattle.canvas_task.specs.declared.outcome.Outcome.{Outcome}
 use Rattle.canvas_task.specs.declared.outcome.Outcome.TheVariants.{Success, Failure}
 
--- what an outcome holds: a success a number in range, a failed header the number of a task, from 1 and of 32 bits
+-- what an outcome holds: a success a number in range, a failed header the number of a task, from 1
+-- and of 32 bits
 abbrev pub FitsAWord : Outcome → Type 0
 FitsAWord (Success n) = in_range n ≡ true
 FitsAWord (Failure (Plain kind)) = Unit {0}
@@ -27,7 +28,8 @@ abbrev pub why_code : Why → ℕ
 why_code (why.Plain kind) = kind_code kind
 why_code why.Chord = 4
 
--- a failed header adds its member's number sixteen times, which a failure of a task's own does not have
+-- a failed header adds its member's number sixteen times, which a failure of a task's own does not
+-- have
 abbrev pub fault_word : Fault → ℕ
 fault_word (Plain kind) = 2 ^ 63 + kind_code kind
 fault_word (Chord dep w) = 2 ^ 63 + 16 * dep + why_code w

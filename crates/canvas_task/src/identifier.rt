@@ -1,7 +1,7 @@
 //! Identifiers of tasks, groups and chords as UUIDs of version 8 (RFC 9562).
-ghost use Rattle.std.specs.Prelude.{◌≡◌, ◌<◌, ◌≤◌, ◌^◌, Some, None, option_map, MatchOption};
-ghost use Rattle.canvas_task.specs.Identifiers.{task_text, group_text, task_named, group_named, identifier, number_named, task_mark, group_mark, number_at_end};
-ghost use Rattle.uuid.specs.Text.{hyphenated_text, lower};
+ghost use Rattle.std.specs.Prelude.{◌≡◌, ◌<◌, ◌≤◌, ◌^◌, ◌/◌, ◌%◌, Some, None, option_map, MatchOption};
+ghost use Rattle.canvas_task.specs.Identifiers.{task_text, group_text, task_named, group_named, identifier, number_named, four_bytes, task_mark, group_mark, number_at_end};
+ghost use Rattle.uuid.specs.Text.{hyphenated_text, lower, hex_digit};
 
 use crate::{GroupNo, TaskNo};
 use std::fmt;
@@ -39,16 +39,52 @@ impl fmt::Display for TaskNo {
     }
 }
 
-/// The text of an identifier.
-fn text_of(bytes: [u8; 16]) -> [u8; 36]
-    ensures { result ≡ hyphenated_text lower bytes }
+/// A number's bytes, the greatest first.
+fn four_bytes(n: u32) -> [u8; 4]
+    ensures { result ≡ four_bytes n }
 {
-    let id = Uuid::from_bytes(bytes);
-    let mut buffer = [0u8; 36];
-    let text = id.hyphenated().encode_lower(&mut buffer);
-    let mut out = [0u8; 36];
-    out.copy_from_slice(text.as_bytes());
-    out
+    let [a, b, c, d] = n.to_be_bytes();
+    [a, b, c, d]
+}
+
+/// The digit of sixteen that stands for the higher half of a byte.
+fn high_digit(byte: u8) -> u8
+    ensures { result ≡ hex_digit lower (byte / 16 % 16) }
+{
+    digit(byte / 16)
+}
+
+/// The digit that stands for the lower half.
+fn low_digit(byte: u8) -> u8
+    ensures { result ≡ hex_digit lower (byte % 16) }
+{
+    digit(byte % 16)
+}
+
+fn digit(value: u8) -> u8
+    requires { value < 16 }
+    ensures { result ≡ hex_digit lower value }
+{
+    if value < 10 {
+        b'0' + value
+    } else {
+        b'a' - 10 + value
+    }
+}
+
+/// The text of a number's identifier: what all have in common, the mark and eight digits.
+fn text_of(mark: u8, n: u32) -> [u8; 36]
+    ensures { result ≡ hyphenated_text lower (identifier mark n) }
+{
+    let [a, b, c, d] = four_bytes(n);
+    let m = [high_digit(mark), low_digit(mark)];
+    let h = [high_digit(a), high_digit(b), high_digit(c), high_digit(d)];
+    let l = [low_digit(a), low_digit(b), low_digit(c), low_digit(d)];
+    // 48, 45 and 56 are the characters 0, - and 8.
+    [
+        48, 48, 48, 48, 48, 48, 48, 48, 45, 48, 48, 48, 48, 45, 56, 48, 48, 48, 45, m[0], m[1], 48,
+        48, 45, 48, 48, 48, 48, h[0], l[0], h[1], l[1], h[2], l[2], h[3], l[3],
+    ]
 }
 
 /// The number that sixteen bytes name.
@@ -71,7 +107,7 @@ pub fn task_text(task: TaskNo) -> [u8; 36]
     ensures reads_back { task_named result ≡ Some task }
     ensures no_group { group_named result ≡ None }
 {
-    text_of(identifier(TASK_MARK, task.get()))
+    text_of(TASK_MARK, task.get())
 }
 
 /// The text of a group's or chord's identifier.
@@ -80,7 +116,7 @@ pub fn group_text(group: GroupNo) -> [u8; 36]
     ensures reads_back { group_named result ≡ Some group }
     ensures no_task { task_named result ≡ None }
 {
-    text_of(identifier(GROUP_MARK, group.get()))
+    text_of(GROUP_MARK, group.get())
 }
 
 /// The task that a text names, in any form of a UUID: hyphenated or not, in braces or after

@@ -1,4 +1,5 @@
-//! Outcomes of tasks, and the exceptions of those that fail, by the names that Celery and Python give them.
+//! Outcomes of tasks, and the exceptions of those that fail, by the names that Celery and Python
+//! give them.
 
 use crate::TaskNo;
 use std::fmt;
@@ -6,7 +7,8 @@ use std::fmt;
 /// A kind of exception that a task raises itself.
 #[derive(Clone, Copy, Debug, PartialEq, Eq)]
 pub enum Kind {
-    /// Printed `TypeError`: too many arguments, a parameter that is unknown, given twice or missing, or an argument of the wrong kind.
+    /// Printed `TypeError`: too many arguments, a parameter that is unknown, given twice or
+    /// missing, or an argument of the wrong kind.
     BadCall,
     /// Printed `ZeroDivisionError`: a division by 0.
     ZeroDivision,
@@ -60,7 +62,8 @@ impl fmt::Display for Why {
 pub enum Fault {
     /// One of a task's own, printed as its kind.
     Plain(Kind),
-    /// Celery's `ChordError`. `dep` is the last task of the first member, in header order, that failed.
+    /// Celery's `ChordError`. `dep` is the last task of the first member, in header order, that
+    /// failed.
     Chord { dep: TaskNo, why: Why },
 }
 

@@ -1,4 +1,5 @@
-//! Tasks of one's own: helpers that take the numbers out of a call, and tasks that need to say no more than what they answer to them.
+//! Tasks of one's own: helpers that take the numbers out of a call, and tasks that need to say no
+//! more than what they answer to them.
 
 ghost use Rattle.std.specs.Prelude.{◌≡◌, ℤ, List};
 ghost use Rattle.std.specs.Option.{option_map};
@@ -10,7 +11,8 @@ use crate::table::{one, two};
 use crate::{Arg, Kind, Task, checked};
 use std::collections::BTreeMap;
 
-/// The number for a task's only parameter. None where it isn't given, isn't a number, or more is given.
+/// The number for a task's only parameter. None where it isn't given, isn't a number, or more is
+/// given.
 pub fn one_number(x: &str, args: &[Arg], kwargs: &BTreeMap<String, Arg>) -> Option<i64>
     ensures { result ≡ one_number x.now args.now (named kwargs.now.entries) }
 {
@@ -34,7 +36,8 @@ pub fn one_list<'a>(
     }
 }
 
-/// The numbers for a task's two parameters. None where one isn't given, isn't a number, or more is given.
+/// The numbers for a task's two parameters. None where one isn't given, isn't a number, or more is
+/// given.
 pub fn two_numbers(
     x: &str,
     y: &str,

@@ -18,8 +18,9 @@ pub type BoxedTask = Box<dyn Task + Send + Sync>;
 
 /// Tasks by their names. Threads may share it.
 ///
-/// It is filled in the function that owns it, by `new` and `add` or at once by `registry_of!`: a function that boxes a task and hands out
-/// the registry with it, in its result or under a `&mut`, would hide from its caller what the task means, and the gate refuses that.
+/// It is filled in the function that owns it, by `new` and `add` or at once by `registry_of!`: a
+/// function that boxes a task and hands out the registry with it, in its result or under a `&mut`,
+/// would hide from its caller what the task means, and the gate refuses that.
 #[derive(Drop)]
 pub struct Registry {
     tasks: Vec<BoxedTask>,
@@ -72,7 +73,8 @@ impl Registry {
         false
     }
 
-    /// Adds a task, unless its name is bad or there. A refused task is given back, and the registry is as it was.
+    /// Adds a task, unless its name is bad or there. A refused task is given back, and the registry
+    /// is as it was.
     pub fn add(&mut self, task: BoxedTask) -> Result<(), NotAdded>
         ensures added { IfOk result (λ _.
             tasks_in called answers self.new
@@ -106,8 +108,8 @@ impl Registry {
         }
     }
 
-    /// What becomes of a call: NotRegistered where no task has the name, else what the task answers, where a number out of range
-    /// overflows.
+    /// What becomes of a call: NotRegistered where no task has the name, else what the task
+    /// answers, where a number out of range overflows.
     pub fn apply(&self, name: &str, args: &[Arg], kwargs: &BTreeMap<String, Arg>) -> Outcome
         ensures { result
             ≡ behaviour_of (tasks_in called answers self.now)
@@ -135,9 +137,11 @@ impl Tasks for Registry {
     ghost in_range = { λ r. behaviour_in_range _ };
 }
 
-/// A registry of these tasks, as a `Result<Registry, AddFault>`: `registry_of!(alloc; Add, Mul, Sub)?`. A task that is refused is dropped.
+/// A registry of these tasks, as a `Result<Registry, AddFault>`: `registry_of!(alloc; Add, Mul,
+/// Sub)?`. A task that is refused is dropped.
 ///
-/// It is a macro, since the boxes are to be made in the function that has the registry: one that makes them and hands them out hides what they mean.
+/// It is a macro, since the boxes are to be made in the function that has the registry: one that
+/// makes them and hands them out hides what they mean.
 #[macro_export]
 macro_rules! registry_of {
     (@ $registry:ident $alloc:ident) => { Ok($registry) };

@@ -74,7 +74,8 @@ fn by_name<'a>(parameter: &str, kwargs: &'a BTreeMap<String, Arg>) -> Option<&'a
 
 /// One of two, if just one is there.
 fn either<'a>(given: Option<&'a Arg>, named: Option<&'a Arg>) -> Option<&'a Arg>
-    ensures { option_map (λ a. a.now) result ≡ either (option_map (λ a. a.now) given.entry) (option_map (λ a. a.now) named.entry) }
+    ensures { option_map (λ a. a.now) result
+        ≡ either (option_map (λ a. a.now) given.entry) (option_map (λ a. a.now) named.entry) }
 {
     match given {
         Some(a) => match named {
@@ -85,16 +86,20 @@ fn either<'a>(given: Option<&'a Arg>, named: Option<&'a Arg>) -> Option<&'a Arg>
     }
 }
 
-/// Whether each name is one of two parameters. It passes on to `keys_known`, and is there for its contract, which speaks of entries.
+/// Whether each name is one of two parameters. It passes on to `keys_known`, and is there for its
+/// contract, which speaks of entries.
 fn known(kwargs: &BTreeMap<String, Arg>, x: &str, y: &str) -> bool
-    ensures { result ≡ list_all (λ e. list_any (bytes_eq e.0) (x.now ∷ y.now ∷ [])) (named kwargs.now.entries) }
+    ensures { result
+        ≡ list_all (λ e. list_any (bytes_eq e.0) (x.now ∷ y.now ∷ [])) (named kwargs.now.entries) }
 {
     keys_known(kwargs, x, y)
 }
 
 /// The same, with a contract that speaks of keys, as the iterator's does.
 fn keys_known(kwargs: &BTreeMap<String, Arg>, x: &str, y: &str) -> bool
-    ensures { result ≡ list_all (λ k. bytes_eq (string_bytes k) x.now || bytes_eq (string_bytes k) y.now) (keys_of kwargs.now.entries) }
+    ensures { result
+        ≡ list_all (λ k. bytes_eq (string_bytes k) x.now || bytes_eq (string_bytes k) y.now)
+        (keys_of kwargs.now.entries) }
 {
     kwargs
         .keys()
@@ -108,7 +113,8 @@ pub(crate) fn two<'a>(
     args: &'a [Arg],
     kwargs: &'a BTreeMap<String, Arg>,
 ) -> Option<(&'a Arg, &'a Arg)>
-    ensures { option_map (λ p. p.0.now ∷ p.1.now ∷ []) result ≡ bound_to (x.now ∷ y.now ∷ []) args.now (named kwargs.now.entries) }
+    ensures { option_map (λ p. p.0.now ∷ p.1.now ∷ []) result
+        ≡ bound_to (x.now ∷ y.now ∷ []) args.now (named kwargs.now.entries) }
 {
     if !known(kwargs, x, y) || args.len() > 2 {
         return None;
@@ -157,7 +163,8 @@ pub(crate) fn one<'a>(
     args: &'a [Arg],
     kwargs: &'a BTreeMap<String, Arg>,
 ) -> Option<&'a Arg>
-    ensures { option_map (λ a. a.now ∷ []) result ≡ bound_to (x.now ∷ []) args.now (named kwargs.now.entries) }
+    ensures { option_map (λ a. a.now ∷ []) result
+        ≡ bound_to (x.now ∷ []) args.now (named kwargs.now.entries) }
 {
     if !known(kwargs, x, x) || args.len() > 1 {
         return None;

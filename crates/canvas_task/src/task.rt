@@ -10,11 +10,11 @@ use std::collections::BTreeMap;
 
 /// A task: a name, and what it answers to a call.
 ///
-/// What it answers is a function of what the object holds and of the arguments, and takes no memory. `called` and `answers` say it to
-/// contracts; the two methods are proved to be them.
+/// What it answers is a function of what the object holds and of the arguments, and takes no
+/// memory. `called` and `answers` say it to contracts; the two methods are proved to be them.
 ///
-/// `TaskOfOne`, `TaskOfTwo` and `TaskOfList` are tasks that need only what they answer to their numbers. Any other is written whole, as
-/// one that answers how many arguments it is given:
+/// `TaskOfOne`, `TaskOfTwo` and `TaskOfList` are tasks that need only what they answer to their
+/// numbers. Any other is written whole, as one that answers how many arguments it is given:
 ///
 /// ```
 /// ghost use Rattle.std.specs.Prelude.{codes, pos, length, Ok};
@@ -45,12 +45,14 @@ pub trait Task: Drop {
     fn name(&self) -> &str
         ensures { result.now ≡ called self.now };
 
-    /// What it answers: a number, which `Registry::apply` keeps to its range, or a kind of exception.
+    /// What it answers: a number, which `Registry::apply` keeps to its range, or a kind of
+    /// exception.
     fn call(&self, args: &[Arg], kwargs: &BTreeMap<String, Arg>) -> Result<i64, Kind>
         ensures { result ≡ answers self.now args.now (named kwargs.now.entries) };
 }
 
-/// What a run calls its tasks by: a `Registry`, or a type of one's own that answers for its tasks itself.
+/// What a run calls its tasks by: a `Registry`, or a type of one's own that answers for its tasks
+/// itself.
 pub trait Tasks {
     ghost behaviour: { Self → Behaviour };
 

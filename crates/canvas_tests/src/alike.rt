@@ -1,5 +1,5 @@
-//! Texts of envelopes, and the message that they are read as: what is written of it says which it is. They were worked out by
-//! hand from the rules of messages.
+//! Texts of envelopes, and the message that they are read as: what is written of it says which it
+//! is. They were worked out by hand from the rules of messages.
 
 use crate::envelopes::{BODY, HEADERS, PLAIN, PROPERTIES};
 use canvas_message::{Envelope, decode, encode};

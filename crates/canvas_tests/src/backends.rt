@@ -59,13 +59,17 @@ fn says(backend: &Backend, group: GroupNo, none: GroupNo, task: TaskNo) -> bool 
 
 /// Whether a task is one that a chord waits for.
 fn plain_waits(backend: &PlainBackend, group: GroupNo, task: TaskNo) -> bool
-    ensures { IsTrue result → (task ≤ backend.now.plan.tasks) × IsTrue (is_chord backend.now.plan group) × IsTrue (is_member backend.now.plan group task) }
+    ensures { IsTrue result
+        → (task ≤ backend.now.plan.tasks) × IsTrue (is_chord backend.now.plan group)
+        × IsTrue (is_member backend.now.plan group task) }
 {
     backend.knows(task) && backend.size(group).is_some() && backend.is_member(group, task)
 }
 
 fn waits(backend: &Backend, group: GroupNo, task: TaskNo) -> bool
-    ensures { IsTrue result → (task ≤ backend.now.plan.tasks) × IsTrue (is_chord backend.now.plan group) × IsTrue (is_member backend.now.plan group task) }
+    ensures { IsTrue result
+        → (task ≤ backend.now.plan.tasks) × IsTrue (is_chord backend.now.plan group)
+        × IsTrue (is_member backend.now.plan group task) }
 {
     backend.knows(task) && backend.size(group).is_some() && backend.is_member(group, task)
 }
@@ -293,7 +297,8 @@ fn outcomes_found(backend: &Backend, seat: &mut BackendSeat, group: GroupNo) -> 
     found
 }
 
-/// Stores and returns each sixteenth member. Where a part completes the chord, the seat reads all of them.
+/// Stores and returns each sixteenth member. Where a part completes the chord, the seat reads all
+/// of them.
 fn stores_share(
     backend: &Backend,
     group: GroupNo,
@@ -358,7 +363,8 @@ fn do_shares<R: Threads + Sync>(rt: &R, backend: &Backend, group: GroupNo, share
     for_each_mut(rt, shares, 16, &each);
 }
 
-/// How many parts of a hundred members complete, and how many outcomes the seats that returned these read, over sixteen seats in threads.
+/// How many parts of a hundred members complete, and how many outcomes the seats that returned
+/// these read, over sixteen seats in threads.
 fn in_threads<R: Threads + Sync>(rt: &R, alloc: Global) -> Option<(u32, u32)> {
     let text = hundred(alloc).ok()?;
     let plan = plan_of(alloc, text.as_str())?;

@@ -1,4 +1,5 @@
-//! Which store lets a core return a part, where a line that no canvas gives isn't in the order of its numbers.
+//! Which store lets a core return a part, where a line that no canvas gives isn't in the order of
+//! its numbers.
 
 ghost use Rattle.canvas_worker.specs.Asks.{FoundInRange};
 
@@ -10,7 +11,8 @@ use canvas_task::TaskNo;
 use canvas_worker::{Ask, Core, Reply};
 use std::alloc::{AllocError, Global};
 
-/// A message whose line goes on with task 5 and then with task 2, the last of a member of the chord.
+/// A message whose line goes on with task 5 and then with task 2, the last of a member of the
+/// chord.
 fn out_of_order(alloc: Global) -> Result<Envelope, AllocError> {
     Ok(Envelope {
         properties: bytes_of(
@@ -40,7 +42,8 @@ fn stores(
         && answers(alloc, backend, core, Reply::Stored(stored))
 }
 
-/// Whether a core returns a part of group 1 by task 2, where one is wanted, and then acknowledges the envelope of task 4.
+/// Whether a core returns a part of group 1 by task 2, where one is wanted, and then acknowledges
+/// the envelope of task 4.
 fn returns_then_ends(
     alloc: Global,
     backend: &PlainBackend,
@@ -58,7 +61,8 @@ fn returns_then_ends(
     acknowledges(alloc, backend, core, envelope, Some(task(4)))
 }
 
-/// Whether a core that stores tasks 2 and 5 behind task 4, with these answers, then returns a part or none.
+/// Whether a core that stores tasks 2 and 5 behind task 4, with these answers, then returns a part
+/// or none.
 fn ends_so(alloc: Global, second: Stored, fifth: Stored, has_part: bool) -> bool {
     match (
         start(alloc, CHORD),
@@ -67,8 +71,7 @@ fn ends_so(alloc: Global, second: Stored, fifth: Stored, has_part: bool) -> bool
     ) {
         (Some((backend, _desk)), Ok(envelope), Ok(same)) => {
             let mut core = Core::new(alloc);
-            answers(alloc, &backend, &mut core, Reply::Taken(Some(envelope)))
-                && holds(&core, &same)
+            answers(alloc, &backend, &mut core, Reply::Taken(Some(envelope))) && holds(&core, &same)
                 && stores(alloc, &backend, &mut core, task(4), Stored::First)
                 && stores(alloc, &backend, &mut core, task(2), second)
                 && stores(alloc, &backend, &mut core, task(5), fifth)

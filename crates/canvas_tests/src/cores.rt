@@ -303,7 +303,8 @@ fn header_in_a_header(rt: HostRuntime) {
 
 // ---- what cores drop
 
-/// The message of the second member of the chord, changed: its task, its group, its parent, and how many members it says there are.
+/// The message of the second member of the chord, changed: its task, its group, its parent, and how
+/// many members it says there are.
 fn member(
     alloc: Global,
     task: &str,
@@ -341,8 +342,8 @@ pub(crate) fn holds(core: &Core, envelope: &Envelope) -> bool {
     }
 }
 
-/// Whether a core asks to acknowledge the envelope that it holds, of this task or dropped, holds none once that is answered,
-/// and asks for the next.
+/// Whether a core asks to acknowledge the envelope that it holds, of this task or dropped, holds
+/// none once that is answered, and asks for the next.
 pub(crate) fn acknowledges(
     alloc: Global,
     backend: &PlainBackend,
@@ -359,13 +360,13 @@ pub(crate) fn acknowledges(
         && core.next() == Ask::Take
 }
 
-/// Whether a core that is given an envelope counts it, acknowledges it as one of no task, and asks for the next.
+/// Whether a core that is given an envelope counts it, acknowledges it as one of no task, and asks
+/// for the next.
 fn is_dropped(alloc: Global, backend: &PlainBackend, core: &mut Core, envelope: Envelope) -> bool {
     let before = core.dropped();
     match envelope.copy() {
         Ok(same) => {
-            answers(alloc, backend, core, Reply::Taken(Some(envelope)))
-                && core.dropped() == before.saturating_add(1)
+            answers(alloc, backend, core, Reply::Taken(Some(envelope))) && core.dropped() == before.saturating_add(1)
                 && acknowledges(alloc, backend, core, &same, None)
                 && core.dropped() == before.saturating_add(1)
         }
@@ -385,8 +386,7 @@ fn drops(alloc: Global, backend: &PlainBackend, core: &mut Core, row: &[&str; 4]
 fn takes(alloc: Global, backend: &PlainBackend, core: &mut Core) -> bool {
     match member(alloc, "2", "1", "null", "3") {
         Ok(envelope) => {
-            answers(alloc, backend, core, Reply::Taken(Some(envelope)))
-                && core.next() == Ask::Store(task(2), ZERO_DIVISION)
+            answers(alloc, backend, core, Reply::Taken(Some(envelope))) && core.next() == Ask::Store(task(2), ZERO_DIVISION)
                 && core.is_inside()
         }
         Err(_) => false,

@@ -1,5 +1,6 @@
-//! The normal line as the rules say it, over a signature alone: a line is a list of elements, a chain among them gives way to its own
-//! elements, and what follows a group or chord goes into a body.
+//! The normal line as the rules say it, over a signature alone: a line is a list of elements, a
+//! chain among them gives way to its own elements, and what follows a group or chord goes into a
+//! body.
 
 use canvas_sig::{Node, write_node};
 use canvas_task::Memory;

@@ -1,6 +1,7 @@
-//! What follows the ends of tasks in messages that no canvas gives: numbers in any order and twice, chords in raised chords, empty
-//! headers, groups behind raised tasks, immutable bodies. The messages stand in a short notation; what follows was worked out apart from
-//! this program, by evaluating each line event by event.
+//! What follows the ends of tasks in messages that no canvas gives: numbers in any order and twice,
+//! chords in raised chords, empty headers, groups behind raised tasks, immutable bodies. The
+//! messages stand in a short notation; what follows was worked out apart from this program, by
+//! evaluating each line event by event.
 
 ghost use Rattle.std.specs.Prelude.{IfSome, All};
 ghost use Rattle.canvas_task.specs.Apply.{IsInRange};
@@ -14,9 +15,11 @@ use canvas_task::{Arg, Fault, Kind, Outcome, TaskNo, Why};
 use std::alloc::{AllocError, Global};
 use std::test::*;
 
-/// What a sign of the notation stands for; a digit stands for itself. `i5';` is task 5, `j` an immutable one, `L..]` and `E..]` its links and
-/// error callbacks, `P1'` its group and `K` its chord's body; `G1(..)` is a group, `H1[..|..;` a chord with its header and body, `C..)` a
-/// chain. `S2` begins a body with its size, and goes on with `k`, `m`, `g`, `h` or `c` for `i`, `j`, `G`, `H` or `C`.
+/// What a sign of the notation stands for; a digit stands for itself. `i5';` is task 5, `j` an
+/// immutable one, `L..]` and `E..]` its links and error callbacks, `P1'` its group and `K` its
+/// chord's body; `G1(..)` is a group, `H1[..|..;` a chord with its header and body, `C..)` a chain.
+/// `S2` begins a body with its size, and goes on with `k`, `m`, `g`, `h` or `c` for `i`, `j`, `G`,
+/// `H` or `C`.
 fn piece(sign: char) -> &'static str {
     match sign {
         'i' => r#"{"task":"tasks.ident","options":{"task_id":"00000000-0000-8000-8000-00000000000"#,
@@ -57,7 +60,8 @@ fn piece(sign: char) -> &'static str {
     }
 }
 
-/// Puts the JSON of a notation behind a text. A hexadecimal digit follows the signs that begin an identifier, and `S`.
+/// Puts the JSON of a notation behind a text. A hexadecimal digit follows the signs that begin an
+/// identifier, and `S`.
 fn push_json(text: &mut String, notation: &str) -> Result<(), AllocError> {
     let mut number = false;
     for sign in notation.chars() {
@@ -128,7 +132,8 @@ fn push_number(text: &mut String, number: u32) -> Result<(), AllocError> {
     text.push(char::from_digit(number % 16, 16).unwrap_or('?'))
 }
 
-/// `z` where a division by zero is named, and `C` with the task that it names where a header's failure is.
+/// `z` where a division by zero is named, and `C` with the task that it names where a header's
+/// failure is.
 fn push_outcome(text: &mut String, outcome: &Outcome) -> Result<(), AllocError> {
     match outcome {
         Outcome::Success(_) => text.push('?'),
@@ -252,7 +257,8 @@ fn is_shown(alloc: Global, todo: &Todo, text: &str) -> bool {
 
 const FAILS: Outcome = Outcome::Failure(Fault::Plain(Kind::ZeroDivision));
 
-/// Whether this follows the end of a message's task, by reference and where the message is given up.
+/// Whether this follows the end of a message's task, by reference and where the message is given
+/// up.
 fn follows(alloc: Global, message: Message, outcome: &Outcome, text: &str) -> bool
     requires { IsInRange outcome.now }
 {
@@ -303,7 +309,8 @@ fn number_of(sign: Option<char>) -> Option<TaskNo> {
     TaskNo::new(sign?.to_digit(16)?)
 }
 
-/// The outcome behind a task's number: a number from 0 to 9, a division by zero, or a header's failure.
+/// The outcome behind a task's number: a number from 0 to 9, a division by zero, or a header's
+/// failure.
 fn outcome_of(text: &str) -> Option<(TaskNo, Outcome)>
     ensures { IfSome result (λ e. IsInRange e.1) }
 {

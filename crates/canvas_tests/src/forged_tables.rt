@@ -1,7 +1,9 @@
-//! Messages that no canvas gives, and what follows the ends of their tasks, in the notations of the tests over them.
+//! Messages that no canvas gives, and what follows the ends of their tasks, in the notations of the
+//! tests over them.
 
-/// Messages: the task; its links; its error callbacks; what follows it on its line, the last first; its group, and the body of its chord; and
-/// what follows where it succeeds with 7, and where it fails.
+/// Messages: the task; its links; its error callbacks; what follows it on its line, the last first;
+/// its group, and the body of its chord; and what follows where it succeeds with 7, and where it
+/// fails.
 pub(crate) const ENDS: [[&str; 8]; 33] = [
     ["9", "", "", "i3';", "", "", "3<9(7)", "3=z"],
     [

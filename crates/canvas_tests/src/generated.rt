@@ -8,7 +8,11 @@ use canvas_task::{Memory, Outcome, SixTasks};
 use std::alloc::{AllocError, Global};
 
 /// Up to forty turns of workers.
-fn some_turns(alloc: Global, dice: &mut Dice, workers: u32) -> Result<Vec<u32>, AllocError> {
+pub(crate) fn some_turns(
+    alloc: Global,
+    dice: &mut Dice,
+    workers: u32,
+) -> Result<Vec<u32>, AllocError> {
     let mut turns = Vec::new(alloc);
     for _ in 0..dice.roll(41) {
         turns.push(dice.roll(workers).saturating_add(1))?;
@@ -28,7 +32,8 @@ fn stores(alloc: Global, dice: &mut Dice, plan: &Plan, states: &[Option<Outcome>
     }
 }
 
-/// Whether the run of a seed's canvas gives each task the state that the rules do; None where the canvas is refused.
+/// Whether the run of a seed's canvas gives each task the state that the rules do; None where the
+/// canvas is refused.
 fn compare(alloc: Global, seed: u32) -> Option<bool> {
     let mut dice = Dice::new(seed);
     match grow(alloc, &mut dice) {
@@ -38,7 +43,8 @@ fn compare(alloc: Global, seed: u32) -> Option<bool> {
     }
 }
 
-/// Whether most of the canvases of 250 seeds could be compared, or the seed of one whose run gives another state.
+/// Whether most of the canvases of 250 seeds could be compared, or the seed of one whose run gives
+/// another state.
 fn agree(alloc: Global, first: u32) -> Result<bool, u32> {
     let mut compared = 0u32;
     for step in 0..250 {

@@ -24,6 +24,7 @@ mod forged_tables;
 #[cfg(test)]
 mod generated;
 #[cfg(test)]
+#[cfg(test)]
 mod lines;
 #[cfg(test)]
 mod messages;
@@ -31,6 +32,8 @@ mod messages;
 mod plans;
 #[cfg(test)]
 mod reading;
+#[cfg(test)]
+mod redelivery;
 #[cfg(test)]
 mod refusals;
 #[cfg(test)]

@@ -74,7 +74,8 @@ fn is_own_line(alloc: Global, text: &str) -> bool {
     }
 }
 
-/// Whether the canvas of a notation has the normal line of the rules; None where it has a group in a group.
+/// Whether the canvas of a notation has the normal line of the rules; None where it has a group in
+/// a group.
 fn compare(alloc: Global, notation: &str) -> Option<bool> {
     match json_of(alloc, notation) {
         Ok(text) => match read_canvas(alloc, text.as_bytes()) {

@@ -1,4 +1,5 @@
-//! Runs on threads whose gate has envelopes delivered again: the reports stay, and each copy is taken.
+//! Runs on threads whose gate has envelopes delivered again: the reports stay, and each copy is
+//! taken.
 
 use crate::rows::{Sums, sums_by};
 use canvas_samples::spelled;
@@ -46,8 +47,8 @@ fn one_of_a_hundred_again(rt: HostRuntime) -> Result<(), Fail> {
     Ok(())
 }
 
-/// Has the envelopes of each task delivered again the first two times that it is asked: by one worker once at each point of the task's
-/// first message.
+/// Has the envelopes of each task delivered again the first two times that it is asked: by one
+/// worker once at each point of the task's first message.
 #[derive(Drop)]
 struct TwiceForEach {
     // A bit for each task.

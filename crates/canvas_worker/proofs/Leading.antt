@@ -1,6 +1,7 @@
 -- One ask and answer more, as a core takes them.
 use Rattle.std.proofs.Common.{◌≡◌, ◌∙◌, ℕ, ◌+◌, min, Bool, true, false, List, [], ◌∷◌, ◌++◌, None, refl, sym, ap, arith, Option, eqb, suc, length, cond, Some}
 use Rattle.std.specs.Prelude.{if◌then◌else◌, is_some}
+use Rattle.std.proofs.lemmas.Bool.{false≢true}
 use Rattle.canvas_task.specs.Apply.{Behaviour}
 use Rattle.canvas_message.specs.declared.envelope.Envelope.{Envelope}
 use Rattle.canvas_message.specs.Content.{Content}
@@ -10,13 +11,13 @@ use Rattle.canvas_runs.specs.Calls.{held_by, held_after}
 use Rattle.canvas_message.specs.Job.{store, publish, hand_in}
 use Rattle.canvas_runs.specs.Book.{Book}
 use Rattle.canvas_runs.specs.Core as C
-use Rattle.canvas_runs.specs.Core.{taking, resting, over, failed, owning, doing, reading, taken, sent, refused, kept, counted, found, rested, answered, left_after, Suits, ReadsBack, IsCoreRun, acking, acked, settled, opens, Jobs, is_due}
+use Rattle.canvas_runs.specs.Core.{taking, resting, over, failed, owning, doing, reading, taken, sent, refused, kept, counted, found, rested, answered, left_after, Suits, ReadsBack, IsCoreRun, acking, acked, settled, opens, Jobs, is_due, is_inside}
 use Rattle.canvas_worker.specs.Asks.{Asked, Answer, suits, shown, replied}
 use Rattle.canvas_worker.specs.Asks as asks
 use Rattle.canvas_worker.specs.Enveloped.{enveloped_by, applied_if}
-use Rattle.canvas_worker.specs.Leading.{left_by, drops_from, NoneLead, OneMoreLeads, HandedLeads, HandsOut}
+use Rattle.canvas_worker.specs.Leading.{left_by, drops_from, task_in, NoneLead, OneMoreLeads, HandedLeads, HandsOut}
 use Rattle.canvas_runs.specs.Tally.{greatest_count}
-use Rattle.canvas_worker.specs.Standing.{Left, asked, drops, unsent, open_of, kept_next, kept_taken}
+use Rattle.canvas_worker.specs.Standing.{Left, asked, drops, unsent, open_of, kept_next, kept_taken, task_next}
 use Rattle.canvas_worker.specs.declared.ask.Reply.{Reply}
 use Rattle.canvas_worker.specs.declared.ask.Reply.TheVariants as R
 
@@ -156,8 +157,28 @@ book_step behaviour book (reading g c fs) h (found t None) u = refl
 book_step behaviour book acking h acked u = refl
 book_step behaviour book s h r u = elim u [ ]
 
+-- inside a script the task that it names is that of the envelope's message
+pub task_step : (behaviour : Behaviour) (book : Book) (s : Left) (h : Option Envelope) (x : Option ℕ) (r : Answer) → Suits (asked s) r → (is_inside s ≡ true → x ≡ task_in book (open_of s h))
+    → is_inside (answered (enveloped_by behaviour book) s r) ≡ true → task_next book s x r ≡ task_in book (held_by (open_of s h) (asked s) r)
+task_step behaviour book taking h x (taken None) u was i = absurd (false≢true i)
+task_step behaviour book taking h x (taken (Some e)) u was i = refl
+task_step behaviour book resting h x (rested true) u was i = absurd (false≢true i)
+task_step behaviour book resting h x (rested false) u was i = absurd (false≢true i)
+task_step behaviour book (owning m) h x (kept b) u was i = was refl
+task_step behaviour book (doing (store t o ∷ js) b) h x (kept a) u was i = was refl
+task_step behaviour book (doing (publish e ∷ js) b) h x sent u was i = was refl
+task_step behaviour book (doing (publish e ∷ js) b) h x refused u was i = was refl
+task_step behaviour book (doing (hand_in g t c ∷ js) b) h x (counted n) u was i = was refl
+task_step behaviour book (reading g c fs) h x (found t o) u was i = was refl
+task_step behaviour book acking h x acked u was i = absurd (false≢true i)
+task_step behaviour book s h x r u was i = elim u [ ]
+
+inside_unsent : (s : Left) → is_inside (unsent s) ≡ is_inside s
+inside_unsent (doing (publish e ∷ js) b) = refl
+inside_unsent s = refl
+
 pub none_lead : NoneLead
-none_lead behaviour book = record { run = tt; left = refl; dropped = refl; holds = refl }
+none_lead behaviour book = record { run = tt; left = refl; dropped = refl; holds = refl; task = λ i. absurd (false≢true i) }
 
 counts : (n m d : ℕ) → d ≡ min greatest_count n → min greatest_count (d + m) ≡ min greatest_count (n + m)
 counts n m d is = omega (arith, is)
@@ -180,6 +201,9 @@ one_more_leads behaviour book xs s r leads back suit =
           ∙ (ap (λ h. held_by h (asked s.left) (replied r)) leads.holds
           ∙ (ap (λ u. held_by (held_after None xs) (asked u) (replied r)) same
           ∙ (by_standing (held_after None xs) before s.is_out (replied r) ∙ sym (held_append None xs (x ∷ [])))));
+      task = λ i.
+          task_step behaviour book s.left s.kept s.task (replied r) (suited book s.task (asked s.left) r suit) leads.task i
+          ∙ ap (task_in book) (sym (book_step behaviour book s.left s.kept (replied r) (suited book s.task (asked s.left) r suit)));
     }
 
 -- ---- handed out
@@ -193,7 +217,7 @@ handed_by before left false same false is = unsent_same left is ∙ same
 
 pub handed_leads : HandedLeads
 handed_leads behaviour book xs s leads =
-    record { run = leads.run; left = handed_by (left_by behaviour book xs) s.left s.is_out leads.left (is_some (asks.to_send (asked s.left))) refl; dropped = leads.dropped; holds = open_unsent s.left s.kept ∙ leads.holds }
+    record { run = leads.run; left = handed_by (left_by behaviour book xs) s.left s.is_out leads.left (is_some (asks.to_send (asked s.left))) refl; dropped = leads.dropped; holds = open_unsent s.left s.kept ∙ leads.holds; task = λ i. leads.task (sym (inside_unsent s.left) ∙ i) ∙ ap (task_in book) (sym (open_unsent s.left s.kept)) }
 
 pub hands_out : HandsOut
 hands_out behaviour book xs s leads held =

@@ -1,5 +1,6 @@
--- What a backend lets a worker's seat do: it may do all that the worker has left to do, whatever other workers do. It follows from what is left and from
--- what the seat has seen, for each envelope that is opened, also for one that no plan's run has.
+-- What a backend lets a worker's seat do: it may do all that the worker has left to do, whatever
+-- other workers do. It follows from what is left and from what the seat has seen, for each envelope
+-- that is opened, also for one that no plan's run has.
 use Rattle.std.specs.Prelude.{◌≡◌, ◌≤◌, ◌<◌, ℕ, Bool, true, false, IsTrue, [], ◌∷◌, length, Some, slice_get}
 use Rattle.canvas_task.specs.Apply.{Behaviour}
 use Rattle.canvas_semantics.specs.Line.{Line}
@@ -30,7 +31,8 @@ module _ (plan : Roster) where
   InPlan (publish e ∷ js) = InPlan js
   InPlan (hand_in g t c ∷ js) = IsTrue (is_member plan g t) × Carries g c × InPlan js
 
-  -- The seat may return the part that is due if its task's latest store was the first, unless that task is still to be stored.
+  -- The seat may return the part that is due if its task's latest store was the first, unless that
+  -- task is still to be stored.
   abbrev pub MayHandIn : Seat → Bool → EnvelopeJobs → Type 0
   MayHandIn s b [] = Unit {0}
   MayHandIn s b (store t o ∷ js) = is_due t js ≡ false → MayHandIn s b js
@@ -52,7 +54,8 @@ module _ (plan : Roster) where
   -- the backend lets the seat ask this, and a read is of a member that there is
   abbrev pub LetsAsk : Seat → Asked → Type 0
   LetsAsk s (keep t o) = t ≤ plan.tasks
-  LetsAsk s (part g t) = IsTrue (is_chord plan g) × IsTrue (is_member plan g t) × MayReturn plan s.seen s.name t
+  LetsAsk s (part g t) =
+      IsTrue (is_chord plan g) × IsTrue (is_member plan g t) × MayReturn plan s.seen s.name t
   LetsAsk s (read g i) = (t : ℕ) × (slice_get (members plan g) i ≡ Some t) × (t ≤ plan.tasks)
   LetsAsk s a = Unit {0}
 
@@ -62,10 +65,14 @@ WaitingCan = (plan : Roster) (s : Seat) → Can plan s taking
 
 -- what can be done may be asked
 abbrev pub CanAsk : Type 0
-CanAsk = (l : Line) → IsPlan l → (s : Seat) (left : Left) → Can (roster_of l) s left → LetsAsk (roster_of l) s (asked left)
+CanAsk =
+    (l : Line) → IsPlan l → (s : Seat) (left : Left) → Can (roster_of l) s left
+    → LetsAsk (roster_of l) s (asked left)
 
 -- and once it is asked and answered, and the seat has made the call, what is left can be done
 abbrev pub CanGoOn : Type 0
 CanGoOn =
-    (behaviour : Behaviour) (l : Line) → IsPlan l → (s t : Seat) (left : Left) (r : Answer) → Can (roster_of l) s left → Suits (asked left) r
-    → Serves (roster_of l) s (backend_call (asked left) r) t → Can (roster_of l) t (answered (enveloped behaviour (roster_of l)) left r)
+    (behaviour : Behaviour) (l : Line) → IsPlan l → (s t : Seat) (left : Left) (r : Answer)
+    → Can (roster_of l) s left → Suits (asked left) r
+    → Serves (roster_of l) s (backend_call (asked left) r) t
+    → Can (roster_of l) t (answered (enveloped behaviour (roster_of l)) left r)

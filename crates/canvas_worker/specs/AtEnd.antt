@@ -11,26 +11,33 @@ use Rattle.canvas_worker.specs.declared.ask.Reply.{Reply}
 
 -- From its end nothing leads on: no reply suits it, and no envelope is handed out.
 abbrev pub EndStays : Type 0
-EndStays = (s : Standing) → asked s.left ≡ end → ((r : Reply) → suits (shown s.task (asked s.left)) r ≡ false) × (held_out s ≡ None) × (asked (handed s).left ≡ end)
+EndStays =
+    (s : Standing) → asked s.left ≡ end
+    → ((r : Reply) → suits (shown s.task (asked s.left)) r ≡ false) × (held_out s ≡ None)
+    × (asked (handed s).left ≡ end)
 
 -- a core that was refused memory is at its end
 abbrev pub FailingEnds : Type 0
 FailingEnds = (s : Standing) → asked (failing s).left ≡ end
 
--- the ask and the answer that end a core: a rest answered with no more, and a publish that was refused
+-- the ask and the answer that end a core: a rest answered with no more, and a publish that was
+-- refused
 abbrev pub EndsACore : Asked → Answer → Type 0
 EndsACore pause (rested false) = Unit {0}
 EndsACore (send e) refused = Unit {0}
 EndsACore a r = ⊥
 
--- But for memory, a core is at its end only behind a rest that was answered with no more, or behind a publish that was refused.
+-- But for memory, a core is at its end only behind a rest that was answered with no more, or behind
+-- a publish that was refused.
 abbrev pub EndsBehind : Type 0
 EndsBehind =
-    (behaviour : Behaviour) (book : Book) (xs : List (Asked × Answer)) (s : Standing) → Leads behaviour book xs s → asked s.left ≡ end
+    (behaviour : Behaviour) (book : Book) (xs : List (Asked × Answer)) (s : Standing)
+    → Leads behaviour book xs s → asked s.left ≡ end
     → (ys : List (Asked × Answer)) × (x : Asked × Answer) × (xs ≡ ys ++ x ∷ []) × EndsACore x.0 x.1
 
 -- and it has failed only behind a publish that was refused
 abbrev pub FailsBehind : Type 0
 FailsBehind =
-    (behaviour : Behaviour) (book : Book) (xs : List (Asked × Answer)) (s : Standing) → Leads behaviour book xs s → s.left ≡ failed
+    (behaviour : Behaviour) (book : Book) (xs : List (Asked × Answer)) (s : Standing)
+    → Leads behaviour book xs s → s.left ≡ failed
     → (ys : List (Asked × Answer)) × (e : Envelope) × (xs ≡ ys ++ (send e, refused) ∷ [])

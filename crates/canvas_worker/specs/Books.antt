@@ -5,7 +5,13 @@ use Rattle.canvas_runs.specs.Book.{Book}
 
 -- what a backend keeps of its plan; there is no task of number 0
 abbrev pub book_in : Roster → Book
-book_in r = record { knows = λ k. nat_le k r.tasks; size = size r; is_member = λ g k. not (k == 0) && is_member r g k }
+book_in r =
+    record {
+      knows =
+          λ k. nat_le k r.tasks;
+      size = size r;
+      is_member = λ g k. not (k == 0) && is_member r g k;
+    }
 
 -- that of nothing
 abbrev pub no_book : Book

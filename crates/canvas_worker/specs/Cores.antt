@@ -1,4 +1,5 @@
--- How a core, which keeps messages as their envelopes (Celery's task message protocol, version 2), goes with the worker that keeps what they say.
+-- How a core, which keeps messages as their envelopes (Celery's task message protocol, version 2),
+-- goes with the worker that keeps what they say.
 use Rattle.std.specs.Prelude.{◌≡◌, List, map}
 use Rattle.canvas_task.specs.Apply.{Behaviour}
 use Rattle.canvas_task.specs.declared.outcome.Outcome.{Outcome}
@@ -14,8 +15,8 @@ use Rattle.canvas_worker.specs.Enveloped.{said, enclosed, enveloped}
 use Rattle.canvas_worker.specs.Standing.{Left}
 
 module _ (behaviour : Behaviour) where
-  -- The same point of a script: of a message that was taken the envelope says what it is, and its outcome is that of its call; each further message is there
-  -- as its envelope.
+  -- The same point of a script: of a message that was taken the envelope says what it is, and its
+  -- outcome is that of its call; each further message is there as its envelope.
   abbrev pub IsAlike : Left → CoreState Content PCarried Outcome → Type 0
   IsAlike taking taking = Unit {0}
   IsAlike resting resting = Unit {0}
@@ -28,17 +29,24 @@ module _ (behaviour : Behaviour) where
   IsAlike s t = ⊥
 
   -- that of a core and that of the worker of a plan
-  pub record GoTogether (l : Line) (s : Left) (t : CoreState Content PCarried Outcome) : Type 0 where
+  pub record GoTogether (l : Line) (s : Left) (t : CoreState Content PCarried Outcome) :
+      Type 0 where
     pub alike : IsAlike s t
     -- the next ask of the one is that of the other
-    pub asks : ReadsBack (enveloped behaviour (roster_of l)) s → ask (worker behaviour l) t ≡ ask (enveloped behaviour (roster_of l)) s
-    pub reads_back : ReadsBack (enveloped behaviour (roster_of l)) s → ReadsBack (worker behaviour l) t
+    pub asks : ReadsBack (enveloped behaviour (roster_of l)) s
+        → ask (worker behaviour l) t ≡ ask (enveloped behaviour (roster_of l)) s
+    pub reads_back : ReadsBack (enveloped behaviour (roster_of l)) s
+        → ReadsBack (worker behaviour l) t
     -- the one is between scripts just where the other is
     pub closed : Between s → Between t
     pub closes : Between t → Between s
 
--- What is a core run where messages are kept as their envelopes is one of the worker, and both have the same left to do.
+-- What is a core run where messages are kept as their envelopes is one of the worker, and both have
+-- the same left to do.
 abbrev pub CoresAreWorkers : Type 0
 CoresAreWorkers =
-    (behaviour : Behaviour) (l : Line) (xs : List (Asked × Answer)) → IsCoreRun (enveloped behaviour (roster_of l)) taking xs
-    → IsCoreRun (worker behaviour l) taking xs × GoTogether behaviour l (left_after (enveloped behaviour (roster_of l)) taking xs) (left_after (worker behaviour l) taking xs)
+    (behaviour : Behaviour) (l : Line) (xs : List (Asked × Answer))
+    → IsCoreRun (enveloped behaviour (roster_of l)) taking xs
+    → IsCoreRun (worker behaviour l) taking xs
+    × GoTogether behaviour l (left_after (enveloped behaviour (roster_of l)) taking xs)
+    (left_after (worker behaviour l) taking xs)

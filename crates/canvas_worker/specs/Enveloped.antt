@@ -1,5 +1,6 @@
--- The worker of a plan where each message is kept as its envelope, as a core keeps it (Celery task message protocol, version 2).
--- `law_of_cores` leads from here to the worker whose messages are what the envelopes say.
+-- The worker of a plan where each message is kept as its envelope, as a core keeps it (Celery task
+-- message protocol, version 2). `law_of_cores` leads from here to the worker whose messages are
+-- what the envelopes say.
 use Rattle.std.specs.Prelude.{◌≡◌, ℕ, Bool, ◌&&◌, if◌then◌else◌, List, [], map, Option, Some, None, is_none, Ok}
 use Rattle.canvas_task.specs.Apply.{Behaviour}
 use Rattle.canvas_task.specs.declared.outcome.Kind.TheVariants.{NotRegistered}
@@ -29,7 +30,8 @@ blank = record { properties = []; headers = []; body = [] }
 
 -- a content that a message may have, and whose texts nothing refuses
 abbrev pub is_sendable : Content → Bool
-is_sendable c = fits c && is_none (envelope_fault (sealed c).properties (sealed c).headers (sealed c).body)
+is_sendable c =
+    fits c && is_none (envelope_fault (sealed c).properties (sealed c).headers (sealed c).body)
 
 abbrev pub envelope_of : Content → Envelope
 envelope_of c = if is_sendable c then sealed c else blank

@@ -1,4 +1,5 @@
--- What a new worker's record says, where its backend is one of a plan: in words of the worker that the law of runs speaks of.
+-- What a new worker's record says, where its backend is one of a plan: in words of the worker that
+-- the law of runs speaks of.
 use Rattle.std.specs.Prelude.{◌≡◌, ℕ, None}
 use Rattle.std.specs.Global.{Global}
 use Rattle.canvas_task.specs.Apply.{Behaviour}
@@ -12,9 +13,11 @@ use Rattle.canvas_runs.specs.Following.{Pass, Seat, Working, Followed, begins, I
 use Rattle.canvas_worker.specs.Work.{Ready, TellsOf, working_begun, tally_of}
 use Rattle.canvas_worker.specs.declared.record.Record.{Record}
 
--- The record's pass and seat have followed a core run from where they were given to the worker; without a fault it ended with a rest that was answered with
--- no more, and the last take found nothing.
-pub record Finished (behaviour : Behaviour) (plan : Roster) (number : ℕ) (pass : Pass) (seat : Seat) (r : Record) : Type 0 where
+-- The record's pass and seat have followed a core run from where they were given to the worker;
+-- without a fault it ended with a rest that was answered with no more, and the last take found
+-- nothing.
+pub record Finished (behaviour : Behaviour) (plan : Roster) (number : ℕ) (pass : Pass) (seat : Seat)
+    (r : Record) : Type 0 where
   pub same_number : r.number ≡ number
   pub ended : Working
   pub followed : Followed behaviour plan (begins pass seat) ended
@@ -27,10 +30,15 @@ pub record Finished (behaviour : Behaviour) (plan : Roster) (number : ℕ) (pass
 -- a new worker may be polled
 abbrev pub WorkersStart : Type 0
 WorkersStart =
-    (l : Line) → IsPlan l → (broker : SegId Global) (desk : Desk) (number : ℕ) (pass : Pass) (seat : Seat) → desk.plan ≡ roster_of l → pass.of ≡ broker → seat.of ≡ desk.id
+    (l : Line) → IsPlan l
+    → (broker : SegId Global) (desk : Desk) (number : ℕ) (pass : Pass) (seat : Seat)
+    → desk.plan ≡ roster_of l → pass.of ≡ broker → seat.of ≡ desk.id
     → Ready (working_begun broker desk number pass seat)
 
 abbrev pub WorkersFinish : Type 0
 WorkersFinish =
-    (behaviour : Behaviour) (l : Line) → IsPlan l → (broker : SegId Global) (desk : Desk) (number : ℕ) (pass : Pass) (seat : Seat) → desk.plan ≡ roster_of l → (r : Record)
-    → TellsOf behaviour (working_begun broker desk number pass seat) r → Finished behaviour (roster_of l) number pass seat r
+    (behaviour : Behaviour) (l : Line) → IsPlan l
+    → (broker : SegId Global) (desk : Desk) (number : ℕ) (pass : Pass) (seat : Seat)
+    → desk.plan ≡ roster_of l → (r : Record)
+    → TellsOf behaviour (working_begun broker desk number pass seat) r
+    → Finished behaviour (roster_of l) number pass seat r

@@ -1,4 +1,5 @@
--- How far a worker is, and what it is for its pass and its seat to have followed a core run from there. Messages are kept as their envelopes.
+-- How far a worker is, and what it is for its pass and its seat to have followed a core run from
+-- there. Messages are kept as their envelopes.
 use Rattle.std.specs.Prelude.{◌+◌, ◌≡◌, List, [], length, map, Option, Some, None}
 use Rattle.canvas_task.specs.Apply.{Behaviour}
 use Rattle.canvas_task.specs.declared.outcome.Outcome.{Outcome}
@@ -12,7 +13,8 @@ use Rattle.canvas_runs.specs.Tally.{Tally, none_yet, Counted}
 use Rattle.canvas_worker.specs.Enveloped.{enveloped}
 use Rattle.canvas_worker.specs.Standing.{Left}
 
--- its pass and its seat, what its core has left to do, the envelopes that it took and has not given to its core, and its counts
+-- its pass and its seat, what its core has left to do, the envelopes that it took and has not given
+-- to its core, and its counts
 pub record Progress : Type 0 where
   pub pass : Pass
   pub seat : Seat
@@ -24,7 +26,8 @@ pub record Progress : Type 0 where
 
 -- with this pass and this seat, before the first call
 abbrev pub starting : Pass → Seat → Progress
-starting p s = record { pass = p; seat = s; left = taking; current = None; held = []; tally = none_yet }
+starting p s =
+    record { pass = p; seat = s; left = taking; current = None; held = []; tally = none_yet }
 
 -- from w on its pass and its seat have followed a core run, and it is at v then
 pub record Worked (behaviour : Behaviour) (plan : Roster) (w v : Progress) : Type 0 where

@@ -20,8 +20,9 @@ use Rattle.canvas_worker.specs.Enveloped.{Applied, unapplied, no_tasks, envelope
 abbrev pub Left : Type 0
 Left = CoreState Applied PCarried Outcome
 
--- what is left to do, whether the envelope that is to be published was handed out, how many envelopes were dropped, the envelope of the open script once its
--- message's outcome is stored, and the task of that message
+-- what is left to do, whether the envelope that is to be published was handed out, how many
+-- envelopes were dropped, the envelope of the open script once its message's outcome is stored, and
+-- the task of that message
 pub record Standing : Type 0 where
   pub left : Left
   pub is_out : Bool
@@ -75,8 +76,8 @@ open_of s h = h
 abbrev pub held : Standing → Option Envelope
 held s = open_of s.left s.kept
 
--- The point to which the open script has come, with the task of its message: before the message's first store, or before the acknowledgement. The script
--- of an envelope that was dropped has none.
+-- The point to which the open script has come, with the task of its message: before the message's
+-- first store, or before the acknowledgement. The script of an envelope that was dropped has none.
 abbrev pub point_in : Left → Option ℕ → Option (ℕ × When)
 point_in (owning m) x = option_map (λ k. (k, Early)) x
 point_in acking x = option_map (λ k. (k, Late)) x
@@ -86,23 +87,39 @@ abbrev pub point_at : Standing → Option (ℕ × When)
 point_at s = point_in s.left s.task
 
 abbrev pub after_reply : Behaviour → Book → Standing → Answer → Standing
-after_reply behaviour book s r = record { left = answered (enveloped_by behaviour book) s.left r; is_out = false; dropped = min greatest_count (s.dropped + drops book s.left r); kept = kept_next book s.left s.kept r; task = task_next book s.left s.task r }
+after_reply behaviour book s r =
+    record {
+      left = answered (enveloped_by behaviour book) s.left r;
+      is_out = false;
+      dropped = min greatest_count (s.dropped + drops book s.left r);
+      kept = kept_next book s.left s.kept r;
+      task = task_next book s.left s.task r;
+    }
 
 -- where memory was refused
 abbrev pub failing : Standing → Standing
-failing s = record { left = failed; is_out = false; dropped = s.dropped; kept = s.kept; task = s.task }
+failing s =
+    record { left = failed; is_out = false; dropped = s.dropped; kept = s.kept; task = s.task }
 
 -- the envelope that can be handed out
 abbrev pub held_out : Standing → Option Envelope
 held_out s = if s.is_out then None else to_send (asked s.left)
 
--- the core no longer has the texts of an envelope that was handed out, and still waits for its publish
+-- the core no longer has the texts of an envelope that was handed out, and still waits for its
+-- publish
 abbrev pub unsent : Left → Left
 unsent (doing (publish e ∷ js) b) = doing (publish (unapplied blank) ∷ js) b
 unsent s = s
 
 abbrev pub handed : Standing → Standing
-handed s = record { left = unsent s.left; is_out = is_some (to_send (asked s.left)); dropped = s.dropped; kept = s.kept; task = s.task }
+handed s =
+    record {
+      left = unsent s.left;
+      is_out = is_some (to_send (asked s.left));
+      dropped = s.dropped;
+      kept = s.kept;
+      task = s.task;
+    }
 
 -- a core that waits for an envelope
 abbrev pub waiting : ℕ → Option Envelope → Option ℕ → Standing

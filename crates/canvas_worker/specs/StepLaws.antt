@@ -1,4 +1,5 @@
--- A step in front of what is followed from then on is followed too, and where nothing is done that is followed.
+-- A step in front of what is followed from then on is followed too, and where nothing is done that
+-- is followed.
 use Rattle.std.specs.Prelude.{◌≡◌, List, [], Option, Some}
 use Rattle.canvas_task.specs.Apply.{Behaviour}
 use Rattle.canvas_task.specs.declared.outcome.Outcome.{Outcome}
@@ -15,23 +16,38 @@ use Rattle.canvas_runs.specs.Tally.{IsTally}
 use Rattle.canvas_worker.specs.WorkerSteps.{Called, FromHeld, Batched, Delivered}
 
 abbrev pub Rests : Type 0
-Rests = (behaviour : Behaviour) (plan : Roster) (w : Progress) → IsTally w.tally → Worked behaviour plan w w
+Rests =
+    (behaviour : Behaviour) (plan : Roster) (w : Progress) → IsTally w.tally
+    → Worked behaviour plan w w
 
 abbrev pub CallFirst : Type 0
-CallFirst = (behaviour : Behaviour) (plan : Roster) (w v x : Progress) (a : Ask Envelope Outcome) (r : Reply Envelope Outcome) → Called behaviour plan w v a r → Worked behaviour plan v x → Worked behaviour plan w x
+CallFirst =
+    (behaviour : Behaviour) (plan : Roster) (w v x : Progress) (a : Ask Envelope Outcome)
+    (r : Reply Envelope Outcome) → Called behaviour plan w v a r → Worked behaviour plan v x
+    → Worked behaviour plan w x
 
 abbrev pub HeldFirst : Type 0
-HeldFirst = (behaviour : Behaviour) (plan : Roster) (w v x : Progress) (e : Envelope) → FromHeld behaviour plan w v e → Worked behaviour plan v x → Worked behaviour plan w x
+HeldFirst =
+    (behaviour : Behaviour) (plan : Roster) (w v x : Progress) (e : Envelope)
+    → FromHeld behaviour plan w v e → Worked behaviour plan v x → Worked behaviour plan w x
 
 abbrev pub BatchFirst : Type 0
-BatchFirst = (behaviour : Behaviour) (plan : Roster) (w v x : Progress) (es : List Envelope) → Batched w v es → Worked behaviour plan v x → Worked behaviour plan w x
+BatchFirst =
+    (behaviour : Behaviour) (plan : Roster) (w v x : Progress) (es : List Envelope) → Batched w v es
+    → Worked behaviour plan v x → Worked behaviour plan w x
 
 abbrev pub AgainFirst : Type 0
-AgainFirst = (behaviour : Behaviour) (plan : Roster) (w v x : Progress) (e : Envelope) → Delivered w v e → Worked behaviour plan v x → Worked behaviour plan w x
+AgainFirst =
+    (behaviour : Behaviour) (plan : Roster) (w v x : Progress) (e : Envelope) → Delivered w v e
+    → Worked behaviour plan v x → Worked behaviour plan w x
 
--- What a pass has just taken it may deliver again, and what it might before it still may after a call of its own.
+-- What a pass has just taken it may deliver again, and what it might before it still may after a
+-- call of its own.
 abbrev pub TakenCan : Type 0
-TakenCan = (p q : Pass) (e : Envelope) → Stands p (calls p.name take (Some e)) q → HasTaken (told q) q.name e
+TakenCan =
+    (p q : Pass) (e : Envelope) → Stands p (calls p.name take (Some e)) q → HasTaken (told q) q.name e
 
 abbrev pub StillCan : Type 0
-StillCan = (p q : Pass) (d : QueueCall Envelope) (a : Option Envelope) → Stands p (calls p.name d a) q → (e : Envelope) → p.owed ≡ [] → HasTaken (told p) p.name e → HasTaken (told q) q.name e
+StillCan =
+    (p q : Pass) (d : QueueCall Envelope) (a : Option Envelope) → Stands p (calls p.name d a) q
+    → (e : Envelope) → p.owed ≡ [] → HasTaken (told p) p.name e → HasTaken (told q) q.name e

@@ -26,8 +26,9 @@ use Rattle.canvas_worker.specs.WorkerSteps.{Called, FromHeld, Batched, Delivered
 use Rattle.canvas_worker.specs.declared.cause.Cause.{Cause}
 use Rattle.canvas_worker.specs.declared.record.Record.{Record}
 
--- a worker in the middle of its work: the broker and the backend that it works at, its number, its pass and its seat, its core, the envelopes that
--- it took and has not given to its core, and its counts
+-- a worker in the middle of its work: the broker and the backend that it works at, its number, its
+-- pass and its seat, its core, the envelopes that it took and has not given to its core, and its
+-- counts
 pub record Work : Type 0 where
   pub broker : SegId Global
   pub desk : Desk
@@ -53,7 +54,8 @@ progress w = record {
   left = w.core.left;
   current = held w.core;
   held = w.held;
-  tally = record { taken = w.taken; published = w.published; first = w.first; parts = w.parts; dropped = w.core.dropped };
+  tally =
+      record { taken = w.taken; published = w.published; first = w.first; parts = w.parts; dropped = w.core.dropped };
 }
 
 -- the same worker with its core as it is here
@@ -78,7 +80,8 @@ abbrev pub with_pass : Work → Pass → Work
 with_pass w p =
     record { broker = w.broker; desk = w.desk; number = w.number; pass = p; seat = w.seat; core = w.core; held = w.held; taken = w.taken; published = w.published; first = w.first; parts = w.parts }
 
--- an envelope that the pass took and may deliver again: its take stands in what the pass has seen, and no join is owed
+-- an envelope that the pass took and may deliver again: its take stands in what the pass has seen,
+-- and no join is owed
 abbrev pub CanDeliver : Pass → Envelope → Type 0
 CanDeliver p e = (p.owed ≡ []) × HasTaken (told p) p.name e
 
@@ -87,8 +90,8 @@ abbrev pub in_hand : Option Envelope → List Envelope → List Envelope
 in_hand None es = es
 in_hand (Some e) es = e ∷ es
 
--- its pass is of its broker, its seat of its backend, which is one of a plan, and the backend lets the seat do what is left. A worker that rests
--- holds nothing, and its last take found nothing
+-- its pass is of its broker, its seat of its backend, which is one of a plan, and the backend lets
+-- the seat do what is left. A worker that rests holds nothing, and its last take found nothing
 pub record Ready (w : Work) : Type 0 where
   pub of : w.pass.of ≡ w.broker
   pub home : w.seat.of ≡ w.desk.id
@@ -101,13 +104,15 @@ pub record Ready (w : Work) : Type 0 where
   pub again : Each (CanDeliver w.pass) (in_hand (held w.core) w.held)
   pub counts : IsTally (progress w).tally
 
--- What one poll does at most for the core: one ask of it is answered, or a batch is taken, or an ask is answered by an envelope that is
--- held or of a batch that was taken for it. A take of one envelope is a batch of one.
+-- What one poll does at most for the core: one ask of it is answered, or a batch is taken, or an
+-- ask is answered by an envelope that is held or of a batch that was taken for it. A take of one
+-- envelope is a batch of one.
 pub data Acts (behaviour : Behaviour) (plan : Roster) (p q : Progress) : Type 0 where
   stays : q ≡ p → Acts behaviour plan p q
   makes_call : (a : Asked) (r : Answer) → Called behaviour plan p q a r → Acts behaviour plan p q
   takes_batch : (es : List Envelope) → Batched p q es → Acts behaviour plan p q
-  gives_held : (es : List Envelope) (e : Envelope) (between : Progress) → Batched p between es → FromHeld behaviour plan between q e → Acts behaviour plan p q
+  gives_held : (es : List Envelope) (e : Envelope) (between : Progress) → Batched p between es
+      → FromHeld behaviour plan between q e → Acts behaviour plan p q
 
 -- What one poll does at most: that, or the envelope of the open script is delivered again.
 pub data Moves (behaviour : Behaviour) (plan : Roster) (p q : Progress) : Type 0 where
@@ -117,7 +122,8 @@ pub data Moves (behaviour : Behaviour) (plan : Roster) (p q : Progress) : Type 0
 -- the envelope of the open script was delivered again, and nothing else was done
 abbrev pub Redelivered : Work → Work → Type 0
 Redelivered w v =
-    (e : Envelope) × (held w.core ≡ Some e) × Stands w.pass (calls w.pass.name (redeliver e) None) v.pass × (v ≡ with_pass w v.pass)
+    (e : Envelope) × (held w.core ≡ Some e)
+    × Stands w.pass (calls w.pass.name (redeliver e) None) v.pass × (v ≡ with_pass w v.pass)
 
 -- what a poll leaves that is pending, where it did this
 pub record PendsBy (Does : Progress → Progress → Type 0) (w v : Work) : Type 0 where
@@ -135,7 +141,14 @@ abbrev pub Acted : Behaviour → Work → Work → Type 0
 Acted behaviour w v = PendsBy (Acts behaviour w.desk.plan) w v
 
 abbrev pub tally_of : Record → Tally
-tally_of r = record { taken = r.taken; published = r.published; first = r.first; parts = r.parts; dropped = r.dropped }
+tally_of r =
+    record {
+      taken = r.taken;
+      published = r.published;
+      first = r.first;
+      parts = r.parts;
+      dropped = r.dropped;
+    }
 
 -- the record that a worker makes as it ends
 pub record Leaves (w : Work) (fault : Option Cause) (r : Record) : Type 0 where
@@ -145,8 +158,9 @@ pub record Leaves (w : Work) (fault : Option Cause) (r : Record) : Type 0 where
   pub counts : tally_of r ≡ (progress w).tally
   pub fault_is : r.fault ≡ fault
 
--- a record is that of a worker with this number that is here. Without a fault the last ask was a rest answered with no more, all that was taken was given
--- to the core, and the last take found nothing
+-- a record is that of a worker with this number that is here. Without a fault the last ask was a
+-- rest answered with no more, all that was taken was given to the core, and the last take found
+-- nothing
 pub record IsRecordOf (number : ℕ) (p : Progress) (r : Record) : Type 0 where
   pub same_number : r.number ≡ number
   pub pass : r.pass ≡ p.pass
@@ -170,9 +184,11 @@ EndsWith behaviour w fault v = (r : Record) → Leaves v fault r → Ends behavi
 
 -- the same, where nothing was delivered again
 abbrev pub ActedLast : Behaviour → Work → Option Cause → Work → Type 0
-ActedLast behaviour w fault v = (r : Record) → Leaves v fault r → EndsBy (Acts behaviour w.desk.plan) w r
+ActedLast behaviour w fault v =
+    (r : Record) → Leaves v fault r → EndsBy (Acts behaviour w.desk.plan) w r
 
--- From here on the pass and the seat of the record have followed a core run, whose counts the record has.
+-- From here on the pass and the seat of the record have followed a core run, whose counts the
+-- record has.
 pub record TellsOf (behaviour : Behaviour) (w : Work) (r : Record) : Type 0 where
   pub ended : Progress
   pub worked : Worked behaviour w.desk.plan (progress w) ended

@@ -1,4 +1,5 @@
--- The steps of a worker: an ask of its core answered by its pass or its seat or from the envelopes that it holds, and a batch taken.
+-- The steps of a worker: an ask of its core answered by its pass or its seat or from the envelopes
+-- that it holds, and a batch taken.
 use Rattle.std.specs.Prelude.{◌≡◌, List, [], ◌∷◌, ◌++◌, Some}
 use Rattle.canvas_task.specs.Apply.{Behaviour}
 use Rattle.canvas_task.specs.declared.outcome.Outcome.{Outcome}
@@ -19,7 +20,8 @@ OnlyBare a r held = Unit
 
 module _ (behaviour : Behaviour) (plan : Roster) where
   -- the core's next ask, answered
-  pub record Answered (w v : Progress) (a : Ask Envelope Outcome) (r : Reply Envelope Outcome) : Type 0 where
+  pub record Answered (w v : Progress) (a : Ask Envelope Outcome) (r : Reply Envelope Outcome) :
+      Type 0 where
     pub asked : a ≡ ask (enveloped behaviour plan) w.left
     pub suits : Suits a r
     pub back : ReadsBack (enveloped behaviour plan) w.left
@@ -29,15 +31,23 @@ module _ (behaviour : Behaviour) (plan : Roster) where
     pub current : v.current ≡ held_by w.current a r
 
   abbrev pub Called : Progress → Progress → Ask Envelope Outcome → Reply Envelope Outcome → Type 0
-  Called w v a r = Answered w v a r × (v.held ≡ w.held) × OnlyBare a r w.held × Makes w.pass (broker_call a r) v.pass × Serves plan w.seat (backend_call a r) v.seat
+  Called w v a r =
+      Answered w v a r × (v.held ≡ w.held) × OnlyBare a r w.held
+      × Makes w.pass (broker_call a r) v.pass × Serves plan w.seat (backend_call a r) v.seat
 
   abbrev pub FromHeld : Progress → Progress → Envelope → Type 0
-  FromHeld w v e = Answered w v take (taken (Some e)) × (w.held ≡ e ∷ v.held) × (v.pass ≡ w.pass) × (v.seat ≡ w.seat)
+  FromHeld w v e =
+      Answered w v take (taken (Some e)) × (w.held ≡ e ∷ v.held) × (v.pass ≡ w.pass)
+      × (v.seat ≡ w.seat)
 
 -- a batch is taken, and none of it is given to the core yet
 abbrev pub Batched : Progress → Progress → List Envelope → Type 0
-Batched w v es = (v.held ≡ w.held ++ es) × passes.Took w.pass es v.pass × (v.seat ≡ w.seat) × (v.left ≡ w.left) × (v.tally ≡ w.tally) × (v.current ≡ w.current)
+Batched w v es =
+    (v.held ≡ w.held ++ es) × passes.Took w.pass es v.pass × (v.seat ≡ w.seat) × (v.left ≡ w.left)
+    × (v.tally ≡ w.tally) × (v.current ≡ w.current)
 
 -- the envelope of the open script is delivered again
 abbrev pub Delivered : Progress → Progress → Envelope → Type 0
-Delivered w v e = (w.current ≡ Some e) × Makes w.pass (again e ∷ []) v.pass × (v.current ≡ w.current) × (v.held ≡ w.held) × (v.seat ≡ w.seat) × (v.left ≡ w.left) × (v.tally ≡ w.tally)
+Delivered w v e =
+    (w.current ≡ Some e) × Makes w.pass (again e ∷ []) v.pass × (v.current ≡ w.current)
+    × (v.held ≡ w.held) × (v.seat ≡ w.seat) × (v.left ≡ w.left) × (v.tally ≡ w.tally)

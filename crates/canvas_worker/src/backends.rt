@@ -21,7 +21,8 @@ impl Book for PlainBackend {
     }
 
     fn is_member(&self, group: GroupNo, task: TaskNo) -> bool {
-        // The first test is always true: it is here for `from_one`, by which no book has task 0 for a member.
+        // The first test is always true: it is here for `from_one`, by which no book has task 0 for
+        // a member.
         task.get() != 0 && self.is_member(group, task)
     }
 }
@@ -40,7 +41,8 @@ impl Book for Backend {
     }
 
     fn is_member(&self, group: GroupNo, task: TaskNo) -> bool {
-        // The first test is always true: it is here for `from_one`, by which no book has task 0 for a member.
+        // The first test is always true: it is here for `from_one`, by which no book has task 0 for
+        // a member.
         task.get() != 0 && self.is_member(group, task)
     }
 }

@@ -5,7 +5,8 @@ ghost use Rattle.canvas_runs.specs.Book.{Book as Known};
 
 use canvas_task::{GroupNo, TaskNo};
 
-/// What a worker knows of its plan, so that a message that names anything else is dropped and counted.
+/// What a worker knows of its plan, so that a message that names anything else is dropped and
+/// counted.
 pub trait Book {
     ghost book: { Self → Known };
 

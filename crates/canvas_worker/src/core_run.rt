@@ -1,10 +1,12 @@
 //! What a worker has left to do.
 
-ghost use Rattle.std.specs.Prelude.{◌≡◌, ◌≤◌, ◌+◌, min, true, false, Some, None, OnOk, OnErr, IfOk, IfSome};
+ghost use Rattle.std.specs.Prelude.{◌≡◌, ◌≢◌, ◌≤◌, ◌+◌, min, true, false, Some, None, OnOk, OnErr, IfOk, IfSome};
 ghost use Rattle.std.specs.Option.{option_map};
+ghost use Rattle.canvas_task.specs.Apply.{Behaviour};
 ghost use Rattle.canvas_worker.specs.Asks.{suits, shown, replied, StoresInRange, FoundInRange};
 ghost use Rattle.canvas_worker.specs.Books.{no_book};
-ghost use Rattle.canvas_runs.specs.Core.{ReadsBack, taking, acking, taken, is_inside};
+ghost use Rattle.canvas_runs.specs.Core.{ReadsBack, taking, acking, take, taken, is_inside};
+ghost use Rattle.canvas_runs.specs.Book.{Book as AnyBook};
 ghost use Rattle.canvas_worker.specs.Phases.{left_of, is_out};
 ghost use Rattle.canvas_runs.specs.Tally.{greatest_count};
 ghost use Rattle.canvas_worker.specs.Standing.{asked, begun, after_reply, failing, held, held_out, handed, point_at, waiting};
@@ -29,7 +31,8 @@ use std::mem;
 pub struct Core {
     phase: Phase,
     dropped: u64,
-    // The envelope of the open script once its message's outcome is stored, and the task of that message, None where it was dropped.
+    // The envelope of the open script once its message's outcome is stored, and the task of that
+    // message, None where it was dropped.
     kept: Option<Envelope>,
     task: Option<TaskNo>,
 }
@@ -45,7 +48,13 @@ impl Model for Core {
 
     ghost coded = { Prim.hlevel (codes, content_code, carried_code) };
 
-    ghost view = { λ c. record { left = left_of c.phase; is_out = is_out c.phase; dropped = c.dropped; kept = c.kept; task = c.task } };
+    ghost view = { λ c. record {
+      left = left_of c.phase;
+      is_out = is_out c.phase;
+      dropped = c.dropped;
+      kept = c.kept;
+      task = c.task;
+    } };
 }
 
 /// The message of an envelope, unless it is one to drop.
@@ -85,7 +94,8 @@ impl Core {
     pub fn next(&self) -> Ask
         ensures ask { result ≡ shown self.now.task (asked self.now.left) }
         ensures in_range { StoresInRange (asked self.now.left) }
-        ensures reads_back { self.now.is_out ≡ false → ReadsBack (enveloped_by no_tasks no_book) self.now.left }
+        ensures reads_back { self.now.is_out ≡ false
+            → ReadsBack (enveloped_by no_tasks no_book) self.now.left }
     {
         match &self.phase {
             Phase::Taking => Ask::Take,
@@ -135,8 +145,9 @@ impl Core {
         }
     }
 
-    /// The point of its message's script to which the core has come, and the message's task: before the first store, or before the
-    /// acknowledgement. None between them, and where the envelope was dropped.
+    /// The point of its message's script to which the core has come, and the message's task: before
+    /// the first store, or before the acknowledgement. None between them, and where the envelope
+    /// was dropped.
     pub fn point(&self) -> Option<(TaskNo, When)>
         ensures { result ≡ point_at self.now }
     {
@@ -164,56 +175,74 @@ impl Core {
     ) -> Result<(), Memory>
         requires suits { suits (shown self.old.task (asked self.old.left)) reply ≡ true }
         requires in_range { FoundInRange reply }
-        ensures ok { OnOk result (self.new ≡ after_reply (T.behaviour tasks.now) (B.book book.now) self.old (replied reply)) }
+        ensures ok { OnOk result (self.new
+            ≡ after_reply (T.behaviour tasks.now) (B.book book.now) self.old (replied reply)) }
         ensures err { OnErr result (self.new ≡ failing self.old) }
     {
-        match mem::replace(&mut self.phase, Phase::Failed) {
-            Phase::Taking => self.take_in(alloc, book, tasks, reply),
-            Phase::Resting => {
-                self.set(rested(&reply));
-                Ok(())
+        match self.phase {
+            Phase::Taking => {
+                self.phase = Phase::Failed;
+                self.take_in(alloc, book, tasks, reply)
             }
-            Phase::Over => {
-                self.set(Phase::Failed);
-                Ok(())
-            }
-            Phase::Failed => {
-                self.set(Phase::Failed);
-                Ok(())
-            }
-            Phase::Owning(owned) => {
-                let (phase, envelope) = owned.answered(&reply);
-                self.kept = Some(envelope);
-                self.set(phase);
-                Ok(())
-            }
-            Phase::Acking => {
-                self.kept = None;
-                self.set(acknowledged(&reply));
-                Ok(())
-            }
-            Phase::Storing(storing) => {
-                self.set(storing.answered(&reply));
-                Ok(())
-            }
-            Phase::Publishing(publishing) => {
-                self.set(publishing.answered(&reply));
-                Ok(())
-            }
-            Phase::Returning(part) => {
-                self.set(returned(alloc, part, &reply));
-                Ok(())
-            }
-            Phase::Reading(reading) => {
-                let phase = reading.answered(alloc, &reply)?;
-                self.set(phase);
-                Ok(())
-            }
+            _ => self.go_on(alloc, &reply),
         }
     }
 
+    /// The answer to what isn't a take, for which neither the book nor the tasks are asked.
+    fn go_on(&mut self, alloc: Global, reply: &Reply) -> Result<(), Memory>
+        requires asks { asked self.old.left ≢ take }
+        requires in_range { FoundInRange reply.now }
+        ensures ok { OnOk result ((behaviour : Behaviour) (book : AnyBook)
+            → self.new ≡ after_reply behaviour book self.old (replied reply.now)) }
+        ensures err { OnErr result (self.new ≡ failing self.old) }
+    {
+        match mem::replace(&mut self.phase, Phase::Failed) {
+            Phase::Taking => unreachable!(),
+            Phase::Resting => self.set(rested(reply)),
+            Phase::Over => self.set(Phase::Failed),
+            Phase::Failed => self.set(Phase::Failed),
+            Phase::Owning(owned) => self.keep(owned.answered(reply)),
+            Phase::Acking => {
+                self.kept = None;
+                self.set(acknowledged(reply));
+            }
+            Phase::Storing(storing) => self.set(storing.answered(reply)),
+            Phase::Publishing(publishing) => self.set(publishing.answered(reply)),
+            Phase::Returning(part) => self.set(returned(alloc, part, reply)),
+            Phase::Reading(reading) => {
+                let phase = reading.answered(alloc, reply)?;
+                self.set(phase);
+            }
+        }
+        Ok(())
+    }
+
+    /// The phase behind the first store, with the envelope that is kept until it is acknowledged.
+    fn keep(&mut self, answered: (Phase, Envelope))
+        ensures value { self.new
+            ≡ record {
+              left = left_of answered.0;
+              is_out = is_out answered.0;
+              dropped = self.old.dropped;
+              kept = Some answered.1;
+              task = self.old.task;
+            } }
+        ensures most { self.old.dropped ≤ greatest_count }
+    {
+        let (phase, envelope) = answered;
+        self.kept = Some(envelope);
+        self.set(phase);
+    }
+
     fn set(&mut self, phase: Phase)
-        ensures value { self.new ≡ record { left = left_of phase; is_out = is_out phase; dropped = self.old.dropped; kept = self.old.kept; task = self.old.task } }
+        ensures value { self.new
+            ≡ record {
+              left = left_of phase;
+              is_out = is_out phase;
+              dropped = self.old.dropped;
+              kept = self.old.kept;
+              task = self.old.task;
+            } }
         ensures most { self.old.dropped ≤ greatest_count }
     {
         // For the clause `most` alone: a count that is read is known to fit its type.
@@ -221,7 +250,8 @@ impl Core {
         self.phase = phase;
     }
 
-    /// The answer to a take. `answer` has set the phase to failed before the call, and so it stays where memory is refused.
+    /// The answer to a take. `answer` has set the phase to failed before the call, and so it stays
+    /// where memory is refused.
     fn take_in<B: Book, T: Tasks>(
         &mut self,
         alloc: Global,
@@ -229,7 +259,9 @@ impl Core {
         tasks: &T,
         reply: Reply,
     ) -> Result<(), Memory>
-        ensures ok { OnOk result (self.new ≡ after_reply (T.behaviour tasks.now) (B.book book.now) (waiting self.old.dropped self.old.kept self.old.task) (replied reply)) }
+        ensures ok { OnOk result (self.new
+            ≡ after_reply (T.behaviour tasks.now) (B.book book.now)
+            (waiting self.old.dropped self.old.kept self.old.task) (replied reply)) }
         ensures err { OnErr result (self.new ≡ self.old) }
     {
         match reply {
@@ -252,7 +284,9 @@ impl Core {
         tasks: &T,
         envelope: Envelope,
     ) -> Result<(), Memory>
-        ensures ok { OnOk result (self.new ≡ after_reply (T.behaviour tasks.now) (B.book book.now) (waiting self.old.dropped self.old.kept self.old.task) (taken (Some envelope))) }
+        ensures ok { OnOk result (self.new
+            ≡ after_reply (T.behaviour tasks.now) (B.book book.now)
+            (waiting self.old.dropped self.old.kept self.old.task) (taken (Some envelope))) }
         ensures err { OnErr result (self.new ≡ self.old) }
     {
         match open(alloc, book, &envelope)? {
@@ -271,7 +305,14 @@ impl Core {
     }
 
     fn drop_one(&mut self, envelope: Envelope)
-        ensures { self.new ≡ record { left = acking; is_out = false; dropped = min greatest_count (self.old.dropped + 1); kept = Some envelope; task = None } }
+        ensures { self.new
+            ≡ record {
+              left = acking;
+              is_out = false;
+              dropped = min greatest_count (self.old.dropped + 1);
+              kept = Some envelope;
+              task = None;
+            } }
     {
         self.dropped = self.dropped.saturating_add(1);
         self.phase = Phase::Acking;

@@ -28,9 +28,11 @@ fn is_due(script: &Script, task: TaskNo) -> bool
     }
 }
 
-/// Whether the latest store of the part's task was its first, once a store is answered: one of another task changes nothing.
+/// Whether the latest store of the part's task was its first, once a store is answered: one of
+/// another task changes nothing.
 pub(crate) fn latest(script: &Script, task: TaskNo, stored: &Stored) -> bool
-    ensures { result ≡ cond (is_due task (jobs_of script.now)) (says_first stored.now) script.now.first }
+    ensures { result
+        ≡ cond (is_due task (jobs_of script.now)) (says_first stored.now) script.now.first }
 {
     if is_due(script, task) {
         is_first(stored)

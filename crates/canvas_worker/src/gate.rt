@@ -2,18 +2,21 @@
 
 use canvas_task::TaskNo;
 
-/// Asked at two points of a message that was taken: before its first store, and before the acknowledgement of its envelope. An envelope
-/// that was dropped has no points.
+/// Asked at two points of a message that was taken: before its first store, and before the
+/// acknowledgement of its envelope. An envelope that was dropped has no points.
 ///
-/// A gate that never opens keeps a run from ending until its stop is asked, and so does one that has every copy delivered again. A worker
-/// that it holds back is polled again and again and doesn't sleep: only takes that found nothing make a worker sleep.
+/// A gate that never opens keeps a run from ending until its stop is asked, and so does one that
+/// has every copy delivered again. A worker that it holds back is polled again and again and
+/// doesn't sleep: only takes that found nothing make a worker sleep.
 pub trait Gate {
-    /// Whether this worker may go on with the message of this task. It is asked before the message's first store, at each poll until it
-    /// answers true. While it answers false that worker does nothing.
+    /// Whether this worker may go on with the message of this task. It is asked before the
+    /// message's first store, at each poll until it answers true. While it answers false that
+    /// worker does nothing.
     fn go(&self, worker: u32, task: TaskNo) -> bool;
 
-    /// Whether this worker is to deliver the message's envelope again. It is asked once at each point, and before the first store only
-    /// once `go` has answered true. That poll only delivers, and the next one goes on from there.
+    /// Whether this worker is to deliver the message's envelope again. It is asked once at each
+    /// point, and before the first store only once `go` has answered true. That poll only delivers,
+    /// and the next one goes on from there.
     fn again(&self, _worker: u32, _task: TaskNo) -> bool {
         false
     }

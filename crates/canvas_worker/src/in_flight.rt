@@ -7,7 +7,8 @@ use std::time::Duration;
 /// For how many microseconds a worker sleeps at most that has found nothing a few times in a row.
 const NAP: u64 = 100;
 
-/// How many envelopes are in flight: published or delivered again, and not acknowledged yet. No claim rests on it.
+/// How many envelopes are in flight: published or delivered again, and not acknowledged yet. No
+/// claim rests on it.
 #[derive(Drop)]
 pub struct InFlight {
     count: AtomicU64,
@@ -25,7 +26,8 @@ impl InFlight {
         self.count.fetch_add(1, Ordering::SeqCst);
     }
 
-    /// One envelope is acknowledged, unless the worker is inside its script. A count of none stays so, where one worker alone has it.
+    /// One envelope is acknowledged, unless the worker is inside its script. A count of none stays
+    /// so, where one worker alone has it.
     pub(crate) fn done_unless(&self, is_inside: bool) {
         if !is_inside && self.is_some() {
             self.count.fetch_sub(1, Ordering::SeqCst);

@@ -140,7 +140,8 @@ fn end_known<B: Book>(book: &B, end: &FrozenEnd) -> bool
 
 #[cycle(known)]
 fn members_known<B: Book>(book: &B, group: GroupNo, members: &[FrozenLine]) -> bool
-    ensures { result ≡ members_known (B.book book.now) group (p_lines_of (map p_line_view members.now)) }
+    ensures { result
+        ≡ members_known (B.book book.now) group (p_lines_of (map p_line_view members.now)) }
 {
     for member in members {
         if !member_known(book, group, member) {

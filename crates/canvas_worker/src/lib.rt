@@ -1,4 +1,5 @@
-//! Workers of a plan: what one does next, and how it does that at a broker and a backend that it shares with others.
+//! Workers of a plan: what one does next, and how it does that at a broker and a backend that it
+//! shares with others.
 #![tactic(auto)]
 
 mod ask;
@@ -39,12 +40,14 @@ pub use record::Record;
 pub use stop::Stop;
 pub use worker::Worker;
 
-/// A core keeps messages as their envelopes. The asks and answers of a core are those of the worker that the law of runs speaks of.
+/// A core keeps messages as their envelopes. The asks and answers of a core are those of the worker
+/// that the law of runs speaks of.
 pub fn law_of_cores()
     ensures { CoresAreWorkers }
 {}
 
-/// The asks and answers of a core lead to it: what it has left to do, and how many envelopes it dropped, follow from them alone.
+/// The asks and answers of a core lead to it: what it has left to do, and how many envelopes it
+/// dropped, follow from them alone.
 pub fn law_of_answers()
     ensures none { NoneLead }
     ensures one_more { OneMoreLeads }
@@ -53,8 +56,9 @@ pub fn law_of_answers()
     ensures plan { PlanLeads }
 {}
 
-/// A core that is at its end stays there: it takes no answer and hands out no envelope. It is there where memory was refused; else its
-/// last ask was a rest that was answered with no more, or a publish that was refused, and only that made it fail.
+/// A core that is at its end stays there: it takes no answer and hands out no envelope. It is there
+/// where memory was refused; else its last ask was a rest that was answered with no more, or a
+/// publish that was refused, and only that made it fail.
 pub fn law_of_ends()
     ensures stays { EndStays }
     ensures fails { FailingEnds }
@@ -62,17 +66,17 @@ pub fn law_of_ends()
     ensures failing { FailsBehind }
 {}
 
-/// What a worker asks its backend is what that lets its seat do. The worker knows of no other: this follows from what it has left to
-/// do, and from what its seat has seen.
+/// What a worker asks its backend is what that lets its seat do. The worker knows of no other: this
+/// follows from what it has left to do, and from what its seat has seen.
 pub fn law_of_seats()
     ensures starts { WaitingCan }
     ensures allows { CanAsk }
     ensures goes_on { CanGoOn }
 {}
 
-/// Where a worker does nothing that is followed, and a step in front of what is followed is followed with it: an ask of its core
-/// answered by its pass or seat, one answered from the envelopes that it holds, a batch taken, and the envelope of its open script
-/// delivered again.
+/// Where a worker does nothing that is followed, and a step in front of what is followed is
+/// followed with it: an ask of its core answered by its pass or seat, one answered from the
+/// envelopes that it holds, a batch taken, and the envelope of its open script delivered again.
 pub fn steps_of_workers()
     ensures rests { Rests }
     ensures call_first { CallFirst }
@@ -83,7 +87,8 @@ pub fn steps_of_workers()
     ensures still_can { StillCan }
 {}
 
-/// At a backend of a plan a new worker may be polled, and its record says what its pass and its seat have followed.
+/// At a backend of a plan a new worker may be polled, and its record says what its pass and its
+/// seat have followed.
 pub fn law_of_workers()
     ensures starts { WorkersStart }
     ensures finishes { WorkersFinish }

@@ -43,7 +43,8 @@ pub(crate) enum Phase {
 }
 
 fn part_or_ack(part: Option<PartCall>, first: bool) -> Phase
-    ensures { IsAt result (settled (enveloped_by no_tasks no_book) (map enclosed (part_jobs (option_map part_view part))) first) }
+    ensures { IsAt result (settled (enveloped_by no_tasks no_book)
+        (map enclosed (part_jobs (option_map part_view part))) first) }
 {
     match part {
         Some(part) => {
@@ -96,7 +97,8 @@ fn settle(script: Script) -> Phase
 
 /// The same, where a store is answered.
 fn settle_after(script: Script, task: TaskNo, stored: &Stored) -> Phase
-    ensures { IsAt result (settled (enveloped_by no_tasks no_book) (jobs_of script) (cond (is_due task (jobs_of script)) (says_first stored.now) script.first)) }
+    ensures { IsAt result (settled (enveloped_by no_tasks no_book) (jobs_of script)
+        (cond (is_due task (jobs_of script)) (says_first stored.now) script.first)) }
 {
     let first = latest(&script, task, stored);
     let Script {
@@ -138,7 +140,8 @@ impl Owned {
     ) -> Result<Owned, Memory>
         requires { said envelope ≡ message }
         ensures envelope { IfOk result (λ o. o.envelope ≡ envelope) }
-        ensures value { IfOk result (λ o. o.outcome ≡ outcome_of (T.behaviour tasks.now) (said envelope)) }
+        ensures value { IfOk result
+            (λ o. o.outcome ≡ outcome_of (T.behaviour tasks.now) (said envelope)) }
     {
         let task = message.task;
         let outcome = outcome_of(tasks, &message);
@@ -153,7 +156,9 @@ impl Owned {
 
     /// The envelope is given back, which is kept until it is acknowledged.
     pub(crate) fn answered(self, reply: &Reply) -> (Phase, Envelope)
-        ensures phase { IsAt result.0 (answered (enveloped_by no_tasks no_book) (owning (record { envelope = self.envelope; outcome = self.outcome })) (replied reply.now)) }
+        ensures phase { IsAt result.0 (answered (enveloped_by no_tasks no_book)
+            (owning (record { envelope = self.envelope; outcome = self.outcome }))
+            (replied reply.now)) }
         ensures envelope { result.1 ≡ self.envelope }
     {
         let Owned {
@@ -173,7 +178,9 @@ impl Owned {
 
 impl Storing {
     pub(crate) fn answered(self, reply: &Reply) -> Phase
-        ensures { IsAt result (answered (enveloped_by no_tasks no_book) (doing (store self.task self.outcome ∷ jobs_of self.script) self.script.first) (replied reply.now)) }
+        ensures { IsAt result (answered (enveloped_by no_tasks no_book)
+            (doing (store self.task self.outcome ∷ jobs_of self.script) self.script.first)
+            (replied reply.now)) }
     {
         match reply {
             Reply::Stored(stored) => settle_after(self.script, self.task, stored),
@@ -184,7 +191,9 @@ impl Storing {
 
 impl Publishing {
     pub(crate) fn answered(self, reply: &Reply) -> Phase
-        ensures { IsAt result (answered (enveloped_by no_tasks no_book) (doing (publish (unapplied (unwrap_or self.envelope blank)) ∷ jobs_of self.script) self.script.first) (replied reply.now)) }
+        ensures { IsAt result (answered (enveloped_by no_tasks no_book) (doing
+            (publish (unapplied (unwrap_or self.envelope blank)) ∷ jobs_of self.script)
+            self.script.first) (replied reply.now)) }
     {
         match reply {
             Reply::Published => settle(self.script),
@@ -195,7 +204,8 @@ impl Publishing {
 
 /// Where the part was the last of its header, the members are read.
 fn counted(alloc: Global, part: PartCall, count: u64) -> Phase
-    ensures { IsAt result (handed_in (enveloped_by no_tasks no_book) part.group (carried_view part.chord) count) }
+    ensures { IsAt result
+        (handed_in (enveloped_by no_tasks no_book) part.group (carried_view part.chord) count) }
 {
     let size = u64::from(size_of(&part.chord));
     if count < size && count + 1 == size {
@@ -210,7 +220,9 @@ fn counted(alloc: Global, part: PartCall, count: u64) -> Phase
 }
 
 pub(crate) fn returned(alloc: Global, part: PartCall, reply: &Reply) -> Phase
-    ensures { IsAt result (answered (enveloped_by no_tasks no_book) (doing (hand_in part.group part.task (carried_view part.chord) ∷ []) true) (replied reply.now)) }
+    ensures { IsAt result (answered (enveloped_by no_tasks no_book)
+        (doing (hand_in part.group part.task (carried_view part.chord) ∷ []) true)
+        (replied reply.now)) }
 {
     match reply {
         Reply::Counted(count) => counted(alloc, part, *count),
@@ -241,7 +253,8 @@ impl Reading {
     /// The outcome of one more member. After the last, all that the body needs is built.
     fn add(self, alloc: Global, task: TaskNo, outcome: Outcome) -> Result<Phase, Memory>
         requires { IsInRange outcome }
-        ensures { IfOk result (λ p. IsAt p (all_read (enveloped_by no_tasks no_book) self.group (carried_view self.chord) (self.found.items ++ (task, outcome) ∷ []))) }
+        ensures { IfOk result (λ p. IsAt p (all_read (enveloped_by no_tasks no_book) self.group
+            (carried_view self.chord) (self.found.items ++ (task, outcome) ∷ []))) }
     {
         let Reading {
             group,
@@ -263,7 +276,9 @@ impl Reading {
 
     pub(crate) fn answered(self, alloc: Global, reply: &Reply) -> Result<Phase, Memory>
         requires { FoundInRange reply.now }
-        ensures { IfOk result (λ p. IsAt p (answered (enveloped_by no_tasks no_book) (state_reading self.group (carried_view self.chord) self.found.items) (replied reply.now))) }
+        ensures { IfOk result (λ p. IsAt p (answered (enveloped_by no_tasks no_book)
+            (state_reading self.group (carried_view self.chord) self.found.items)
+            (replied reply.now))) }
     {
         match reply {
             Reply::Found(task, Some(outcome)) => self.add(alloc, *task, *outcome),

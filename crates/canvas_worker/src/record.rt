@@ -4,7 +4,8 @@ use crate::Cause;
 use canvas_backend::BackendSeat;
 use canvas_broker::BrokerPass;
 
-/// A worker's calls, counted, with its pass and its seat, and why it ended early, if it did. Each count stays at its greatest value.
+/// A worker's calls, counted, with its pass and its seat, and why it ended early, if it did. Each
+/// count stays at its greatest value.
 #[derive(Drop)]
 pub struct Record {
     /// The number that the worker was made with; in a run 0 is the one that takes in all others.

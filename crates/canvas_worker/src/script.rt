@@ -10,8 +10,8 @@ use canvas_message::PartCall;
 use canvas_task::{Outcome, TaskNo};
 use std::collections::VecDeque;
 
-/// What is left to store and to publish, and the part to return, in this order; and whether the latest store of the part's task was
-/// its first.
+/// What is left to store and to publish, and the part to return, in this order; and whether the
+/// latest store of the part's task was its first.
 #[derive(Drop)]
 pub(crate) struct Script {
     pub stores: VecDeque<(TaskNo, Outcome)>,

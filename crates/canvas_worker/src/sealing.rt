@@ -16,7 +16,8 @@ use std::collections::VecDeque;
 
 /// The envelopes of messages, each of which is dropped once it is written.
 fn seal_all(alloc: Global, messages: Vec<Message>) -> Result<VecDeque<Sealed>, Memory>
-    ensures { IfOk result (λ all. map (λ s. s.envelope) all.items ≡ map envelope_of messages.items) }
+    ensures { IfOk result
+        (λ all. map (λ s. s.envelope) all.items ≡ map envelope_of messages.items) }
 {
     let mut all = VecDeque::new(alloc);
     for message in messages {

@@ -6,8 +6,9 @@ ghost use Rattle.canvas_worker.specs.steps.Held.{held_in};
 use canvas_broker::Batch;
 use canvas_message::Envelope;
 
-/// A worker takes one by one until it is given its first envelope, so that no worker holds back what another could begin with.
-/// From then on it takes batches, and one alone after a batch of none.
+/// A worker takes one by one until it is given its first envelope, so that no worker holds back
+/// what another could begin with. From then on it takes batches, and one alone after a batch of
+/// none.
 #[derive(Drop)]
 pub(crate) enum Source {
     /// Nothing was given yet.
@@ -23,7 +24,8 @@ pub(crate) enum Source {
 impl Source {
     /// The next of the batch that is held.
     pub(crate) fn next(&mut self) -> Option<Envelope>
-        ensures { MatchOption result ((held_in self.old ≡ []) × (held_in self.new ≡ [])) (λ e. held_in self.old ≡ e ∷ held_in self.new) }
+        ensures { MatchOption result ((held_in self.old ≡ []) × (held_in self.new ≡ []))
+            (λ e. held_in self.old ≡ e ∷ held_in self.new) }
     {
         match self {
             Source::Batched(batch) => batch.next(),

@@ -4,8 +4,8 @@ use std::sync::atomic::{AtomicBool, Ordering};
 
 /// Asks the workers that share it to end. No claim rests on when they see it.
 ///
-/// Once asked it stays so. A worker that fails asks the stop that it was given, which is the caller's own: a second run with the same one
-/// ends as stopped at once.
+/// Once asked it stays so. A worker that fails asks the stop that it was given, which is the
+/// caller's own: a second run with the same one ends as stopped at once.
 #[derive(Drop)]
 pub struct Stop {
     flag: AtomicBool,

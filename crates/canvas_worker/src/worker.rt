@@ -17,9 +17,11 @@ use std::sync::Wait;
 
 /// A worker, as a future of its record. One poll answers at most one ask of its core.
 ///
-/// Where the stop was asked it is ready. Before a message's first store and before its acknowledgement it asks its gate. Where that holds
-/// it back it only yields, and where that wants the message's envelope delivered again it does that alone, in a poll of its own.
-/// It ends by itself once it rests while no message is in flight. Its pass and seat are used with the broker and the backend that they came from.
+/// Where the stop was asked it is ready. Before a message's first store and before its
+/// acknowledgement it asks its gate. Where that holds it back it only yields, and where that wants
+/// the message's envelope delivered again it does that alone, in a poll of its own. It ends by
+/// itself once it rests while no message is in flight. Its pass and seat are used with the broker
+/// and the backend that they came from.
 #[derive(Drop)]
 pub struct Worker<'a, R: Wait, T: Tasks, G: Gate> {
     working: Option<Working<'a, R, G>>,
@@ -41,7 +43,8 @@ impl<'a, R: Wait, T: Tasks, G: Gate> Worker<'a, R, T, G> {
         stop: &'a Stop,
         flight: &'a InFlight,
     ) -> Worker<'a, R, T, G>
-        ensures working { result.working ≡ Some (working_begun broker.now backend.now number pass seat) }
+        ensures working { result.working
+            ≡ Some (working_begun broker.now backend.now number pass seat) }
         ensures tasks { result.tasks.now ≡ tasks.now }
     {
         let working = Working::new(
@@ -55,7 +58,8 @@ impl<'a, R: Wait, T: Tasks, G: Gate> Worker<'a, R, T, G> {
 }
 
 impl<R: Wait, T: Tasks, G: Gate> Worker<'_, R, T, G> {
-    /// The record of a worker that has ended. It is made apart, since a function that only may move a worker pays for the room each time.
+    /// The record of a worker that has ended. It is made apart, since a function that only may move
+    /// a worker pays for the room each time.
     fn leave(&mut self, end: End) -> Record
         requires { IsSome self.old.working }
         ensures { IfSome self.old.working (λ w. Leaves w end.fault result) }
@@ -76,13 +80,18 @@ impl<R: Wait, T: Tasks, G: Gate> Future for Worker<'_, R, T, G> {
 
     fn poll(&mut self, cx: &mut Context<'_>) -> Poll<Record>
         requires { IsSomeAnd self.old.working Ready }
-        ensures value { IfReady result (λ r. IfSome self.old.working (λ w. TellsOf (T.behaviour self.old.tasks.now) w r)) }
+        ensures value { IfReady result
+            (λ r. IfSome self.old.working (λ w. TellsOf (T.behaviour self.old.tasks.now) w r)) }
         ensures again { OnPending result (IsSomeAnd self.new.working Ready) }
-        ensures same { OnPending result ((x : _) → IfSome self.new.working (λ v. TellsOf (T.behaviour self.new.tasks.now) v x) → IfSome self.old.working (λ w. TellsOf (T.behaviour self.old.tasks.now) w x)) }
+        ensures same { OnPending result ((x : _)
+            → IfSome self.new.working (λ v. TellsOf (T.behaviour self.new.tasks.now) v x)
+            → IfSome self.old.working (λ w. TellsOf (T.behaviour self.old.tasks.now) w x)) }
         ensures registered { OnPending result (Covers cx.new (λ _. ⊥)) }
         ensures kept { Keeps cx.old cx.new }
-        ensures once { OnPending result (IfSome self.old.working (λ w. IfSome self.new.working (λ v. Pends (T.behaviour self.old.tasks.now) w v))) }
-        ensures last { IfReady result (λ r. IfSome self.old.working (λ w. Ends (T.behaviour self.old.tasks.now) w r)) }
+        ensures once { OnPending result (IfSome self.old.working
+            (λ w. IfSome self.new.working (λ v. Pends (T.behaviour self.old.tasks.now) w v))) }
+        ensures last { IfReady result
+            (λ r. IfSome self.old.working (λ w. Ends (T.behaviour self.old.tasks.now) w r)) }
     {
         let tasks = self.tasks;
         let Some(working) = &mut self.working else {

@@ -62,8 +62,8 @@ pub(crate) struct Working<'a, R: Wait, G: Gate> {
     published: u64,
     first: u64,
     parts: u64,
-    // The latest point of the open script at which the gate let this worker go on, and how many takes in a row have found nothing. No clause
-    // reads them.
+    // The latest point of the open script at which the gate let this worker go on, and how many
+    // takes in a row have found nothing. No clause reads them.
     passed: Option<When>,
     idle: u32,
 }
@@ -79,7 +79,19 @@ impl<'a, R: Wait, G: Gate> Model for Working<'a, R, G> {
 
     ghost coded = { Prim.hlevel (codes, content_code, carried_code) };
 
-    ghost view = { λ w. record { broker = w.broker.now; desk = w.backend.now; number = w.number; pass = w.pass; seat = w.seat; core = w.core; held = held_in w.source; taken = w.taken; published = w.published; first = w.first; parts = w.parts } };
+    ghost view = { λ w. record {
+      broker = w.broker.now;
+      desk = w.backend.now;
+      number = w.number;
+      pass = w.pass;
+      seat = w.seat;
+      core = w.core;
+      held = held_in w.source;
+      taken = w.taken;
+      published = w.published;
+      first = w.first;
+      parts = w.parts;
+    } };
 }
 
 impl<'a, R: Wait, G: Gate> Working<'a, R, G> {
@@ -137,7 +149,8 @@ impl<'a, R: Wait, G: Gate> Working<'a, R, G> {
         }
     }
 
-    /// Asks the stop of all workers, so that the others end too, and gives the end where memory was refused.
+    /// Asks the stop of all workers, so that the others end too, and gives the end where memory was
+    /// refused.
     fn fails(&self) -> End
         ensures { result.fault ≡ Some cause.Memory }
     {
@@ -151,7 +164,9 @@ impl<'a, R: Wait, G: Gate> Working<'a, R, G> {
     fn answers<T: Tasks>(&mut self, tasks: &T, reply: Reply) -> Result<(), End>
         requires suits { suits (shown self.old.core.task (asked self.old.core.left)) reply ≡ true }
         requires in_range { FoundInRange reply }
-        ensures { MatchResult result (λ _. self.new ≡ with_answer (T.behaviour tasks.now) self.old (replied reply)) (λ e. (self.new ≡ lost self.old) × (e.fault ≡ Some cause.Memory)) }
+        ensures { MatchResult result
+            (λ _. self.new ≡ with_answer (T.behaviour tasks.now) self.old (replied reply))
+            (λ e. (self.new ≡ lost self.old) × (e.fault ≡ Some cause.Memory)) }
     {
         let (alloc, backend) = (self.alloc, self.backend);
         match self.core.answer(alloc, backend, tasks, reply) {
@@ -164,7 +179,9 @@ impl<'a, R: Wait, G: Gate> Working<'a, R, G> {
     fn replies<T: Tasks>(&mut self, tasks: &T, reply: Reply) -> Result<(), End>
         requires suits { suits (shown self.old.core.task (asked self.old.core.left)) reply ≡ true }
         requires in_range { FoundInRange reply }
-        ensures { MatchResult result (λ _. self.new ≡ with_answer (T.behaviour tasks.now) self.old (replied reply)) (λ e. (self.new ≡ lost self.old) × (e.fault ≡ Some cause.Memory)) }
+        ensures { MatchResult result
+            (λ _. self.new ≡ with_answer (T.behaviour tasks.now) self.old (replied reply))
+            (λ e. (self.new ≡ lost self.old) × (e.fault ≡ Some cause.Memory)) }
     {
         match self.answers(tasks, reply) {
             Ok(()) => {
@@ -178,7 +195,9 @@ impl<'a, R: Wait, G: Gate> Working<'a, R, G> {
     /// Gives an envelope to the core.
     fn gives<T: Tasks>(&mut self, tasks: &T, envelope: Envelope) -> Result<(), End>
         requires { shown self.old.core.task (asked self.old.core.left) ≡ ask.Take }
-        ensures { MatchResult result (λ _. self.new ≡ one_taken (with_answer (T.behaviour tasks.now) self.old (taken (Some envelope)))) (λ e. (self.new ≡ lost self.old) × (e.fault ≡ Some cause.Memory)) }
+        ensures { MatchResult result (λ _. self.new
+            ≡ one_taken (with_answer (T.behaviour tasks.now) self.old (taken (Some envelope))))
+            (λ e. (self.new ≡ lost self.old) × (e.fault ≡ Some cause.Memory)) }
     {
         self.passed = None;
         self.idle = 0;
@@ -195,7 +214,8 @@ impl<'a, R: Wait, G: Gate> Working<'a, R, G> {
         requires ready { Ready self.old }
         requires asks { shown self.old.core.task (asked self.old.core.left) ≡ ask.Take }
         requires bare { self.old.held ≡ [] }
-        ensures { MatchResult result (λ _. Acted (T.behaviour tasks.now) self.old self.new) (λ e. ActedLast (T.behaviour tasks.now) self.old e.fault self.new) }
+        ensures { MatchResult result (λ _. Acted (T.behaviour tasks.now) self.old self.new)
+            (λ e. ActedLast (T.behaviour tasks.now) self.old e.fault self.new) }
     {
         let (rt, broker) = (self.rt, self.broker);
         match broker.take(rt, &mut self.pass) {
@@ -215,7 +235,8 @@ impl<'a, R: Wait, G: Gate> Working<'a, R, G> {
         requires ready { Ready self.old }
         requires asks { shown self.old.core.task (asked self.old.core.left) ≡ ask.Take }
         requires bare { self.old.held ≡ [] }
-        ensures { MatchResult result (λ _. Acted (T.behaviour tasks.now) self.old self.new) (λ e. ActedLast (T.behaviour tasks.now) self.old e.fault self.new) }
+        ensures { MatchResult result (λ _. Acted (T.behaviour tasks.now) self.old self.new)
+            (λ e. ActedLast (T.behaviour tasks.now) self.old e.fault self.new) }
     {
         let (rt, broker) = (self.rt, self.broker);
         let mut batch = broker.take_batch(rt, &mut self.pass);
@@ -234,7 +255,8 @@ impl<'a, R: Wait, G: Gate> Working<'a, R, G> {
     fn takes<T: Tasks>(&mut self, tasks: &T) -> Result<(), End>
         requires ready { Ready self.old }
         requires asks { shown self.old.core.task (asked self.old.core.left) ≡ ask.Take }
-        ensures { MatchResult result (λ _. Acted (T.behaviour tasks.now) self.old self.new) (λ e. ActedLast (T.behaviour tasks.now) self.old e.fault self.new) }
+        ensures { MatchResult result (λ _. Acted (T.behaviour tasks.now) self.old self.new)
+            (λ e. ActedLast (T.behaviour tasks.now) self.old e.fault self.new) }
     {
         if let Some(envelope) = self.source.next() {
             return self.gives(tasks, envelope);
@@ -250,7 +272,8 @@ impl<'a, R: Wait, G: Gate> Working<'a, R, G> {
         requires ready { Ready self.old }
         requires asks { shown self.old.core.task (asked self.old.core.left) ≡ ask.Publish }
         requires reads_back { ReadsBack (enveloped_by no_tasks no_book) self.old.core.left }
-        ensures { MatchResult result (λ _. Acted (T.behaviour tasks.now) self.old self.new) (λ e. ActedLast (T.behaviour tasks.now) self.old e.fault self.new) }
+        ensures { MatchResult result (λ _. Acted (T.behaviour tasks.now) self.old self.new)
+            (λ e. ActedLast (T.behaviour tasks.now) self.old e.fault self.new) }
     {
         let (rt, broker) = (self.rt, self.broker);
         match self.core.envelope() {
@@ -270,10 +293,12 @@ impl<'a, R: Wait, G: Gate> Working<'a, R, G> {
 
     fn stores<T: Tasks>(&mut self, tasks: &T, task: TaskNo, outcome: Outcome) -> Result<(), End>
         requires ready { Ready self.old }
-        requires asks { shown self.old.core.task (asked self.old.core.left) ≡ ask.Store task outcome }
+        requires asks { shown self.old.core.task (asked self.old.core.left)
+            ≡ ask.Store task outcome }
         requires reads_back { ReadsBack (enveloped_by no_tasks no_book) self.old.core.left }
         requires in_range { IsInRange outcome }
-        ensures { MatchResult result (λ _. Acted (T.behaviour tasks.now) self.old self.new) (λ e. ActedLast (T.behaviour tasks.now) self.old e.fault self.new) }
+        ensures { MatchResult result (λ _. Acted (T.behaviour tasks.now) self.old self.new)
+            (λ e. ActedLast (T.behaviour tasks.now) self.old e.fault self.new) }
     {
         let backend = self.backend;
         match backend.store(&mut self.seat, task, &outcome) {
@@ -289,7 +314,8 @@ impl<'a, R: Wait, G: Gate> Working<'a, R, G> {
         requires ready { Ready self.old }
         requires asks { shown self.old.core.task (asked self.old.core.left) ≡ ask.Part group task }
         requires reads_back { ReadsBack (enveloped_by no_tasks no_book) self.old.core.left }
-        ensures { MatchResult result (λ _. Acted (T.behaviour tasks.now) self.old self.new) (λ e. ActedLast (T.behaviour tasks.now) self.old e.fault self.new) }
+        ensures { MatchResult result (λ _. Acted (T.behaviour tasks.now) self.old self.new)
+            (λ e. ActedLast (T.behaviour tasks.now) self.old e.fault self.new) }
     {
         let backend = self.backend;
         let count = backend.part(&mut self.seat, group, task);
@@ -301,7 +327,8 @@ impl<'a, R: Wait, G: Gate> Working<'a, R, G> {
         requires ready { Ready self.old }
         requires asks { shown self.old.core.task (asked self.old.core.left) ≡ ask.Read group place }
         requires reads_back { ReadsBack (enveloped_by no_tasks no_book) self.old.core.left }
-        ensures { MatchResult result (λ _. Acted (T.behaviour tasks.now) self.old self.new) (λ e. ActedLast (T.behaviour tasks.now) self.old e.fault self.new) }
+        ensures { MatchResult result (λ _. Acted (T.behaviour tasks.now) self.old self.new)
+            (λ e. ActedLast (T.behaviour tasks.now) self.old e.fault self.new) }
     {
         let backend = self.backend;
         match backend.member(group, place) {
@@ -315,9 +342,11 @@ impl<'a, R: Wait, G: Gate> Working<'a, R, G> {
 
     fn acknowledges<T: Tasks>(&mut self, tasks: &T) -> Result<(), End>
         requires ready { Ready self.old }
-        requires asks { shown self.old.core.task (asked self.old.core.left) ≡ ask.Ack self.old.core.task }
+        requires asks { shown self.old.core.task (asked self.old.core.left)
+            ≡ ask.Ack self.old.core.task }
         requires reads_back { ReadsBack (enveloped_by no_tasks no_book) self.old.core.left }
-        ensures { MatchResult result (λ _. Acted (T.behaviour tasks.now) self.old self.new) (λ e. ActedLast (T.behaviour tasks.now) self.old e.fault self.new) }
+        ensures { MatchResult result (λ _. Acted (T.behaviour tasks.now) self.old self.new)
+            (λ e. ActedLast (T.behaviour tasks.now) self.old e.fault self.new) }
     {
         self.replies(tasks, Reply::Acked)
     }
@@ -326,7 +355,8 @@ impl<'a, R: Wait, G: Gate> Working<'a, R, G> {
         requires ready { Ready self.old }
         requires asks { shown self.old.core.task (asked self.old.core.left) ≡ ask.Rest }
         requires reads_back { ReadsBack (enveloped_by no_tasks no_book) self.old.core.left }
-        ensures { MatchResult result (λ _. Acted (T.behaviour tasks.now) self.old self.new) (λ e. ActedLast (T.behaviour tasks.now) self.old e.fault self.new) }
+        ensures { MatchResult result (λ _. Acted (T.behaviour tasks.now) self.old self.new)
+            (λ e. ActedLast (T.behaviour tasks.now) self.old e.fault self.new) }
     {
         if self.has_more() {
             return self.answers(tasks, Reply::Rested { more: true });
@@ -356,11 +386,13 @@ impl<'a, R: Wait, G: Gate> Working<'a, R, G> {
         }
     }
 
-    /// Delivers the envelope of the open script again, and does nothing else. Where memory is refused nothing is delivered.
+    /// Delivers the envelope of the open script again, and does nothing else. Where memory is
+    /// refused nothing is delivered.
     fn delivers_again(&mut self) -> Result<(), End>
         requires ready { Ready self.old }
         requires inside { is_inside self.old.core.left ≡ true }
-        ensures { MatchResult result (λ _. Redelivered self.old self.new) (λ e. (self.new ≡ self.old) × (e.fault ≡ Some cause.Memory)) }
+        ensures { MatchResult result (λ _. Redelivered self.old self.new)
+            (λ e. (self.new ≡ self.old) × (e.fault ≡ Some cause.Memory)) }
     {
         let (rt, broker) = (self.rt, self.broker);
         match self.copied() {
@@ -375,8 +407,8 @@ impl<'a, R: Wait, G: Gate> Working<'a, R, G> {
         }
     }
 
-    /// What the gate says at the point to which the open script has come. The worker goes on where there is none, and from a point that
-    /// it has passed: there the gate isn't asked anew.
+    /// What the gate says at the point to which the open script has come. The worker goes on where
+    /// there is none, and from a point that it has passed: there the gate isn't asked anew.
     fn ask_gate(&mut self) -> Said
         ensures worker { self.new ≡ self.old }
         ensures inside { result ≡ Again → is_inside self.old.core.left ≡ true }
@@ -402,7 +434,8 @@ impl<'a, R: Wait, G: Gate> Working<'a, R, G> {
     #[tactic(auto, using(crate::proofs::Turns::ends_acting))]
     fn goes_on<T: Tasks>(&mut self, tasks: &T) -> Result<(), End>
         requires { Ready self.old }
-        ensures { MatchResult result (λ _. Acted (T.behaviour tasks.now) self.old self.new) (λ e. ActedLast (T.behaviour tasks.now) self.old e.fault self.new) }
+        ensures { MatchResult result (λ _. Acted (T.behaviour tasks.now) self.old self.new)
+            (λ e. ActedLast (T.behaviour tasks.now) self.old e.fault self.new) }
     {
         match self.core.next() {
             Ask::Take => self.takes(tasks),
@@ -416,16 +449,21 @@ impl<'a, R: Wait, G: Gate> Working<'a, R, G> {
         }
     }
 
-    /// One step, as the gate says: where it holds the worker back nothing is done, and where it wants the envelope of the open script
-    /// delivered again that is all.
+    /// One step, as the gate says: where it holds the worker back nothing is done, and where it
+    /// wants the envelope of the open script delivered again that is all.
     #[tactic(auto, using(crate::proofs::Turns::acted_well, crate::proofs::InHand::delivered_well))]
     fn steps<T: Tasks>(&mut self, tasks: &T, said: Said) -> Result<(), End>
         requires ready { Ready self.old }
         requires inside { said ≡ Again → is_inside self.old.core.left ≡ true }
-        ensures turned { MatchResult result (λ _. Pends (T.behaviour tasks.now) self.old self.new) (λ e. EndsWith (T.behaviour tasks.now) self.old e.fault self.new) }
+        ensures turned { MatchResult result (λ _. Pends (T.behaviour tasks.now) self.old self.new)
+            (λ e. EndsWith (T.behaviour tasks.now) self.old e.fault self.new) }
         ensures held_back { said ≡ Wait → (result ≡ Ok tt) × (self.new ≡ self.old) }
-        ensures delivers { said ≡ Again → MatchResult result (λ _. Redelivered self.old self.new) (λ e. (self.new ≡ self.old) × (e.fault ≡ Some cause.Memory)) }
-        ensures goes_on { said ≡ On → MatchResult result (λ _. Acted (T.behaviour tasks.now) self.old self.new) (λ e. ActedLast (T.behaviour tasks.now) self.old e.fault self.new) }
+        ensures delivers { said ≡ Again
+            → MatchResult result (λ _. Redelivered self.old self.new)
+            (λ e. (self.new ≡ self.old) × (e.fault ≡ Some cause.Memory)) }
+        ensures goes_on { said ≡ On
+            → MatchResult result (λ _. Acted (T.behaviour tasks.now) self.old self.new)
+            (λ e. ActedLast (T.behaviour tasks.now) self.old e.fault self.new) }
     {
         match said {
             Said::Wait => Ok(()),
@@ -438,7 +476,8 @@ impl<'a, R: Wait, G: Gate> Working<'a, R, G> {
     #[tactic(auto, using(crate::proofs::Turns::ends_here))]
     pub(crate) fn turn<T: Tasks>(&mut self, tasks: &T) -> Result<(), End>
         requires { Ready self.old }
-        ensures { MatchResult result (λ _. Pends (T.behaviour tasks.now) self.old self.new) (λ e. EndsWith (T.behaviour tasks.now) self.old e.fault self.new) }
+        ensures { MatchResult result (λ _. Pends (T.behaviour tasks.now) self.old self.new)
+            (λ e. EndsWith (T.behaviour tasks.now) self.old e.fault self.new) }
     {
         if self.stop.asked() {
             return Err(End {

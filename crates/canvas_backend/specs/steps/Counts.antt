@@ -6,4 +6,5 @@ use Rattle.canvas_backend.specs.Plain.{Shelf, held}
 -- how many members of each group or chord were returned, in the order of their numbers
 pub record AreCounts (s : Shelf) (counts : List ℕ) : Type 0 where
   pub many : length counts ≡ length s.plan.groups
-  pub are : (g : ℕ) → g < length s.plan.groups → slice_index counts g ≡ count_of s.plan (held s) (suc g)
+  pub are : (g : ℕ) → g < length s.plan.groups
+      → slice_index counts g ≡ count_of s.plan (held s) (suc g)

@@ -1,4 +1,5 @@
--- What a roster keeps of each task, to answer whether it is a member's last: the group or chord where it is.
+-- What a roster keeps of each task, to answer whether it is a member's last: the group or chord
+-- where it is.
 use Rattle.std.specs.Prelude.{◌≡◌, ◌==◌, ◌-◌, ℕ, zero, suc, Bool, false, List, [], ◌∷◌, set, slice_get, Option, Some, None}
 use Rattle.canvas_backend.specs.Roster.{Roster, is_member}
 

@@ -47,6 +47,7 @@ Arguments:
 Options:
       --workers <N>   How many workers run it, from 1 to 16 [default: 1]
       --turns <LIST>  Which worker goes on at each turn, as 1,2,2; behind the list they take turns from 1
+      --again <LIST>  What is delivered again, as 1:early,3:late; standard error counts stores that answer Again
   -h, --help          Print help
 ";
 
@@ -102,6 +103,16 @@ error: unexpected argument '--workers' found
   tip: to pass '--workers' as a value, use '-- --workers'
 
 Usage: canvas normal <FILE>
+
+For more information, try '--help'.
+";
+
+const AGAIN_ON_THREADS: &str = "\
+error: unexpected argument '--again' found
+
+  tip: to pass '--again' as a value, use '-- --again'
+
+Usage: canvas run [OPTIONS] <FILE>
 
 For more information, try '--help'.
 ";
@@ -176,6 +187,7 @@ fn words_of_commands(rt: HostRuntime) {
         ("walk -", 1, "", OTHER_COMMAND),
         ("run - -", 1, "", TWO_FILES),
         ("normal --workers 2 -", 1, "", OTHER_OPTION),
+        ("run --again 1:late -", 1, "", AGAIN_ON_THREADS),
         ("run --workers 0 -", 1, "", NO_WORKERS),
         ("turns --workers 17 nosuch", 1, "", MANY_WORKERS),
         ("turns --turns=, --workers=x -", 1, "", NO_NUMBER),

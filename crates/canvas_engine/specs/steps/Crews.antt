@@ -1,4 +1,5 @@
--- A run on threads before its first publish, and once its workers have ended and worker 0 has taken in what they left.
+-- A run on threads before its first publish, and once its workers have ended and worker 0 has taken
+-- in what they left.
 use Rattle.std.specs.Prelude.{ℕ, suc, ◌≡◌, List, [], ◌∷◌, length, map, All, Option, None, IfNone}
 use Rattle.std.specs.Global.{Global}
 use Rattle.canvas_task.specs.Apply.{Behaviour}
@@ -27,42 +28,61 @@ pub record IsStart (l : Line) (n : ℕ) (s : Start) : Type 0 where
   pub own : (s.pass.of ≡ s.broker) × (s.seat.of ≡ s.backend.id)
   pub count : length s.slots.items ≡ n
   pub ready : All (IsReadySlot s.broker s.backend.id) s.slots.items
-  pub parts : SplitsOff (roster_of l) 1 (first_pass s.broker) (first_seat s.backend.id) s.slots.items s.pass s.seat
+  pub parts : SplitsOff (roster_of l) 1 (first_pass s.broker) (first_seat s.backend.id)
+      s.slots.items s.pass s.seat
   pub envelopes : s.envelopes.items ≡ map sealed (first_messages l)
   pub back : FirstsRead l
   pub rows : length s.rows.items ≡ count_line l
   pub pending : All (λ r. r ≡ None) s.rows.items
   pub tallies : s.tallies.items ≡ nothing_counted 0 ∷ []
 
--- the workers of this queue and this table, from the splits to the joins, with the first messages published between
-pub record Crew (behaviour : Behaviour) (l : Line) (n : ℕ) (queue : SegId Global) (table : TableId) (pass : Pass) (seat : Seat) : Type 0 where
+-- the workers of this queue and this table, from the splits to the joins, with the first messages
+-- published between
+pub record Crew (behaviour : Behaviour) (l : Line) (n : ℕ) (queue : SegId Global) (table : TableId)
+    (pass : Pass) (seat : Seat) : Type 0 where
   pub mates : List (Mate behaviour (roster_of l))
   pub count : length mates ≡ n
   pub pass_parted : Pass
   pub pass_sent : Pass
-  pub splits : SplitPasses (first_pass queue) (map (λ (m : Mate behaviour (roster_of l)). m.pass) mates) pass_parted
+  pub splits : SplitPasses (first_pass queue)
+      (map (λ (m : Mate behaviour (roster_of l)). m.pass) mates) pass_parted
   pub sends : Makes pass_parted (published_all (map sealed (first_messages l))) pass_sent
   pub back : FirstsRead l
-  pub joins : JoinPasses pass_sent (map (λ (m : Mate behaviour (roster_of l)). m.ended.pass) mates) pass
+  pub joins : JoinPasses pass_sent (map (λ (m : Mate behaviour (roster_of l)). m.ended.pass) mates)
+      pass
   pub seat_parted : Seat
-  pub seat_splits : SplitSeats (roster_of l) (first_seat table) (map (λ (m : Mate behaviour (roster_of l)). m.seat) mates) seat_parted
-  pub seat_joins : JoinSeats (roster_of l) seat_parted (map (λ (m : Mate behaviour (roster_of l)). m.ended.seat) mates) seat
+  pub seat_splits : SplitSeats (roster_of l) (first_seat table)
+      (map (λ (m : Mate behaviour (roster_of l)). m.seat) mates) seat_parted
+  pub seat_joins : JoinSeats (roster_of l) seat_parted
+      (map (λ (m : Mate behaviour (roster_of l)). m.ended.seat) mates) seat
 
 -- counts with the number of their worker
 abbrev pub numbered_counts : ℕ → Counts → Tally
-numbered_counts k t = record { number = k; taken = t.taken; published = t.published; first = t.first; parts = t.parts; dropped = t.dropped }
+numbered_counts k t =
+    record {
+      number = k;
+      taken = t.taken;
+      published = t.published;
+      first = t.first;
+      parts = t.parts;
+      dropped = t.dropped;
+    }
 
 -- those of workers numbered from k on
-abbrev pub tallies_from : (behaviour : Behaviour) → {plan : Roster} → ℕ → List (Mate behaviour plan) → List Tally
+abbrev pub tallies_from : (behaviour : Behaviour) → {plan : Roster} → ℕ → List (Mate behaviour plan)
+    → List Tally
 tallies_from behaviour k [] = []
-tallies_from behaviour k (m ∷ ms) = numbered_counts k m.ended.tally ∷ tallies_from behaviour (suc k) ms
+tallies_from behaviour k (m ∷ ms) =
+    numbered_counts k m.ended.tally ∷ tallies_from behaviour (suc k) ms
 
 -- where none of them ended with a fault
-pub record IsWellGathered (behaviour : Behaviour) (l : Line) (mates : List (Mate behaviour (roster_of l))) (counted : List Tally) : Type 0 where
+pub record IsWellGathered (behaviour : Behaviour) (l : Line)
+    (mates : List (Mate behaviour (roster_of l))) (counted : List Tally) : Type 0 where
   pub done : Each (λ (m : Mate behaviour (roster_of l)). IsOver m.ended) mates
   pub tallies : counted ≡ nothing_counted 0 ∷ tallies_from behaviour 1 mates
 
-pub record AreGathered (behaviour : Behaviour) (l : Line) (n : ℕ) (fault : Option Cause) (g : Gathered) : Type 0 where
+pub record AreGathered (behaviour : Behaviour) (l : Line) (n : ℕ) (fault : Option Cause)
+    (g : Gathered) : Type 0 where
   pub planned : IsPlan l
   pub plan : g.backend.plan ≡ roster_of l
   pub own : (g.pass.of ≡ g.broker) × (g.seat.of ≡ g.backend.id)

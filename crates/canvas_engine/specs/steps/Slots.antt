@@ -29,11 +29,15 @@ abbrev pub IsReadySlot : SegId Global → TableId → Slot → Type 0
 IsReadySlot b d slot = HasHands b d slot.post
 
 abbrev pub IsSplitOff : Roster → ℕ → Pass → Seat → Slot → Pass → Seat → Type 0
-IsSplitOff plan k p s slot p' s' = (slot.number ≡ k) × ((q : Pass) × (t : Seat) × (slot.post ≡ Ready q t) × passes.Parted p p' q × seats.Parted plan s s' t)
+IsSplitOff plan k p s slot p' s' =
+    (slot.number ≡ k)
+    × ((q : Pass) × (t : Seat) × (slot.post ≡ Ready q t) × passes.Parted p p' q
+    × seats.Parted plan s s' t)
 
 abbrev pub SplitsOff : Roster → ℕ → Pass → Seat → List Slot → Pass → Seat → Type 0
 SplitsOff plan k p s [] p' s' = (p' ≡ p) × (s' ≡ s)
-SplitsOff plan k p s (slot ∷ slots) p' s' = (q : Pass) × (t : Seat) × IsSplitOff plan k p s slot q t × SplitsOff plan (suc k) q t slots p' s'
+SplitsOff plan k p s (slot ∷ slots) p' s' =
+    (q : Pass) × (t : Seat) × IsSplitOff plan k p s slot q t × SplitsOff plan (suc k) q t slots p' s'
 
 -- a worker's pass and seat are lost only with its record
 abbrev pub LeavesPost : (behaviour : Behaviour) → Roster → ℕ → Post → Post → Type 0
@@ -42,10 +46,13 @@ LeavesPost behaviour plan n (Ready q t) Lost = Unit {0}
 LeavesPost behaviour plan n x y = ⊥
 
 abbrev pub RanSlot : (behaviour : Behaviour) → Roster → Slot → Slot → Type 0
-RanSlot behaviour plan before after = (after.number ≡ before.number) × LeavesPost behaviour plan before.number before.post after.post
+RanSlot behaviour plan before after =
+    (after.number ≡ before.number) × LeavesPost behaviour plan before.number before.post after.post
 
 abbrev pub AllRan : (behaviour : Behaviour) → Roster → List Slot → List Slot → Type 0
-AllRan behaviour plan before after = (i : ℕ) (d : Slot) → i < length before → RanSlot behaviour plan (slice_index_or before i d) (slice_index_or after i d)
+AllRan behaviour plan before after =
+    (i : ℕ) (d : Slot) → i < length before
+    → RanSlot behaviour plan (slice_index_or before i d) (slice_index_or after i d)
 
 -- the worker has left a record
 abbrev pub LeftARecord : Post → Type 0
@@ -69,14 +76,24 @@ AreOf b d (slot ∷ slots) = IsPostOf b d slot.post × AreOf b d slots
 abbrev pub TakesIn : Roster → Pass → Seat → List Slot → Pass → Seat → Type 0
 TakesIn plan p s [] p' s' = (p' ≡ p) × (s' ≡ s)
 TakesIn plan p s (slot ∷ slots) p' s' =
-    (r : Record) × (slot.post ≡ Done r) × (q : Pass) × (t : Seat) × Owes p r.pass q × passes.IsHistory q × seats.Joined plan s r.seat t × TakesIn plan q t slots p' s'
+    (r : Record) × (slot.post ≡ Done r) × (q : Pass) × (t : Seat) × Owes p r.pass q
+    × passes.IsHistory q × seats.Joined plan s r.seat t × TakesIn plan q t slots p' s'
 
 -- the counts that a worker left
 abbrev pub counts : ℕ → Record → Tally
-counts n r = record { number = n; taken = r.taken; published = r.published; first = r.first; parts = r.parts; dropped = r.dropped }
+counts n r =
+    record {
+      number = n;
+      taken = r.taken;
+      published = r.published;
+      first = r.first;
+      parts = r.parts;
+      dropped = r.dropped;
+    }
 
 abbrev pub nothing_counted : ℕ → Tally
-nothing_counted n = record { number = n; taken = 0; published = 0; first = 0; parts = 0; dropped = 0 }
+nothing_counted n =
+    record { number = n; taken = 0; published = 0; first = 0; parts = 0; dropped = 0 }
 
 abbrev pub tally_in : Slot → Tally
 tally_in slot = tally_left slot.number slot.post where

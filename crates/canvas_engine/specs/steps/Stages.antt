@@ -1,6 +1,6 @@
 -- Where a run on one thread stands, and what one ask of one of its workers changes.
-use Rattle.std.specs.Prelude.{◌≡◌, ◌≤◌, ◌<◌, ◌+◌, ◌⊎◌, ℕ, Bool, true, false, suc, IsTrue, All, List, [], ◌∷◌, ◌++◌, map, length, Some, None, Ok, slice_get}
-use Rattle.canvas_runs.specs.Calls.{scripts_of}
+use Rattle.std.specs.Prelude.{◌≡◌, ◌≤◌, ◌<◌, ◌+◌, ◌⊎◌, min, not, ℕ, Bool, true, false, suc, IsTrue, All, List, [], ◌∷◌, ◌++◌, map, length, Some, None, Ok, IsSome, slice_get}
+use Rattle.canvas_runs.specs.Calls.{scripts_of, held_after}
 use Rattle.canvas_task.specs.Apply.{IsInRange, Behaviour}
 use Rattle.canvas_task.specs.declared.outcome.Outcome.{Outcome}
 use Rattle.canvas_semantics.specs.Evaluation.{State}
@@ -11,8 +11,11 @@ use Rattle.canvas_backend.specs.Backend.{Results, no_results, first_or, count_of
 use Rattle.canvas_backend.specs.Plain.{Shelf, held}
 use Rattle.canvas_backend.specs.Roster.{Roster, roster_of, members, is_chord, is_member}
 use Rattle.canvas_broker.specs.Broker as broker
-use Rattle.canvas_runs.specs.Core.{take, send, keep, part, read, pause, taken, sent, kept, counted, found, rested, taking, left_after, ReadsBack, IsCoreRun, ack, acked}
+use Rattle.canvas_runs.specs.Book.{book_of}
+use Rattle.canvas_runs.specs.Core.{take, send, keep, part, read, pause, taken, sent, kept, counted, found, rested, taking, left_after, ReadsBack, IsCoreRun, is_inside, ack, acked}
 use Rattle.canvas_runs.specs.Lists.{by, at}
+use Rattle.canvas_runs.specs.Spending.{Entry, TurnedAgain, wanted, spent, agains_in}
+use Rattle.canvas_runs.specs.Tally.{greatest_count}
 use Rattle.canvas_runs.specs.Turns.{Step, HasEnded, IsWorker, AllEnded, Begins, round, rounds, queue_after, queue_next, results_after, results_next, redeliveries_in}
 use Rattle.canvas_runs.specs.TurnLaws.{ByTurns}
 use Rattle.canvas_runs.specs.Worker.{read_envelope, sealed}
@@ -20,7 +23,9 @@ use Rattle.canvas_message.specs.Content.{Content}
 use Rattle.canvas_worker.specs.Asks.{Asked, Answer}
 use Rattle.canvas_worker.specs.Books.{no_book, book_in}
 use Rattle.canvas_worker.specs.Enveloped.{enveloped, enveloped_by, no_tasks}
-use Rattle.canvas_worker.specs.Standing.{Standing, asked, after_reply, begun}
+use Rattle.canvas_worker.specs.Leading.{task_in}
+use Rattle.canvas_worker.specs.Standing as standing
+use Rattle.canvas_worker.specs.Standing.{Standing, asked, after_reply, begun, point_at}
 use Rattle.canvas_worker.specs.declared.cause.Cause.{Cause}
 use Rattle.canvas_worker.specs.declared.cause.Cause.TheVariants.{Memory, Stopped}
 use Rattle.canvas_engine.specs.declared.stage.Stage.{Stage}
@@ -31,13 +36,16 @@ rows_of tasks results = map results.outcomes (numbers_from 1 tasks)
 
 -- ---- one ask
 
--- what the queue and the table answer where they hold this; a worker that rests is told whether there is more
+-- what the queue and the table answer where they hold this; a worker that rests is told whether
+-- there is more
 abbrev pub AnswersNow : Roster → List Envelope → Results → Bool → Asked → Answer → Type 0
 AnswersNow plan queue results more take (taken x) = x ≡ broker.answer queue broker.take
 AnswersNow plan queue results more (send e) sent = Unit {0}
-AnswersNow plan queue results more (keep t o) (kept b) = b ≡ says_first (first_or (results.outcomes t))
+AnswersNow plan queue results more (keep t o) (kept b) =
+    b ≡ says_first (first_or (results.outcomes t))
 AnswersNow plan queue results more (part g t) (counted m) = m ≡ count_of plan results g
-AnswersNow plan queue results more (read g i) (found t x) = (at i (members plan g) ≡ Some t) × (x ≡ results.outcomes t)
+AnswersNow plan queue results more (read g i) (found t x) =
+    (at i (members plan g) ≡ Some t) × (x ≡ results.outcomes t)
 AnswersNow plan queue results more pause (rested m) = m ≡ more
 AnswersNow plan queue results more ack acked = Unit {0}
 AnswersNow plan queue results more a r = ⊥
@@ -45,7 +53,9 @@ AnswersNow plan queue results more a r = ⊥
 -- the ask is one that the queue and the table take
 abbrev pub MayAsk : Roster → Results → Asked → Type 0
 MayAsk plan results (keep t o) = t ≤ plan.tasks
-MayAsk plan results (part g t) = IsTrue (is_chord plan g) × IsTrue (is_member plan g t) × ((results.outcomes t ≡ None → ⊥) × (results.returned t ≡ false))
+MayAsk plan results (part g t) =
+    IsTrue (is_chord plan g) × IsTrue (is_member plan g t)
+    × ((results.outcomes t ≡ None → ⊥) × (results.returned t ≡ false))
 MayAsk plan results (read g i) = (t : ℕ) × (at i (members plan g) ≡ Some t) × (t ≤ plan.tasks)
 MayAsk plan results a = Unit {0}
 
@@ -54,7 +64,8 @@ abbrev pub AreInRange : Results → Type 0
 AreInRange results = (t : ℕ) (o : Outcome) → results.outcomes t ≡ Some o → IsInRange o
 
 -- one answered ask of a worker: what it, the queue and the table were, and what they are
-pub record Stepped (behaviour : Behaviour) (more : Bool) (c : Standing) (queue : List Envelope) (table : Shelf) (c' : Standing) (queue' : List Envelope) (table' : Shelf) : Type 0 where
+pub record Stepped (behaviour : Behaviour) (more : Bool) (c : Standing) (queue : List Envelope)
+    (table : Shelf) (c' : Standing) (queue' : List Envelope) (table' : Shelf) : Type 0 where
   pub reply : Answer
   pub answers : AnswersNow table.plan queue (held table) more (asked c.left) reply
   pub reads_back : ReadsBack (enveloped_by no_tasks no_book) c.left
@@ -64,44 +75,92 @@ pub record Stepped (behaviour : Behaviour) (more : Bool) (c : Standing) (queue :
   pub plan_is : table'.plan ≡ table.plan
 
 -- an ask that was not answered to its end: the table is as it was, or as the ask leaves it
-pub record Tried (behaviour : Behaviour) (more : Bool) (c : Standing) (queue : List Envelope) (table table' : Shelf) : Type 0 where
+pub record Tried (behaviour : Behaviour) (more : Bool) (c : Standing) (queue : List Envelope)
+    (table table' : Shelf) : Type 0 where
   pub reply : Answer
   pub answers : AnswersNow table.plan queue (held table) more (asked c.left) reply
   pub reads_back : ReadsBack (enveloped_by no_tasks no_book) c.left
   pub table_is : held table' ≡ results_next (held table) (asked c.left)
 
-abbrev pub IsTried : (behaviour : Behaviour) → Bool → Standing → List Envelope → Shelf → Shelf → Type 0
-IsTried behaviour more c queue table table' = (table'.plan ≡ table.plan) × ((held table' ≡ held table) ⊎ Tried behaviour more c queue table table')
+abbrev pub IsTried : (behaviour : Behaviour) → Bool → Standing → List Envelope → Shelf → Shelf
+    → Type 0
+IsTried behaviour more c queue table table' =
+    (table'.plan ≡ table.plan)
+    × ((held table' ≡ held table) ⊎ Tried behaviour more c queue table table')
+
+-- whether the ask is a store that answers Again
+abbrev pub stores_again : Results → Asked → Bool
+stores_again results (keep t o) = not (says_first (first_or (results.outcomes t)))
+stores_again results a = false
+
+-- a count with one more where there is one, up to the greatest number that it holds
+abbrev pub counted_on : ℕ → Bool → ℕ
+counted_on m true = min greatest_count (m + 1)
+counted_on m false = m
+
+-- ---- a redelivery
+
+-- Before a core's ask is answered the envelope that it holds is delivered again, where an entry for
+-- its point is unspent. That entry is spent.
+pub record Redelivers (core : Standing) (s s' : Stage) : Type 0 where
+  pub envelope :
+      ((wanted (point_at core) s.again.items ≡ false) × (s'.queue ≡ s.queue)
+      × (s'.again.items ≡ s.again.items))
+      ⊎ ((wanted (point_at core) s.again.items ≡ true)
+      × ((e : Envelope) × (standing.held core ≡ Some e) × (s'.queue ≡ s.queue ++ e ∷ []))
+      × (s'.again.items ≡ spent (point_at core) s.again.items))
+  pub others : (s'.table ≡ s.table) × (s'.cores ≡ s.cores) × (s'.steps ≡ s.steps)
+      × (s'.repeats ≡ s.repeats)
 
 -- ---- a run
 
--- worker p's core has done these steps
-abbrev pub IsCoreAt : (behaviour : Behaviour) → Line → List Step → ℕ → Standing → Type 0
-IsCoreAt behaviour l xs p c = (c.left ≡ left_after (enveloped behaviour (roster_of l)) taking (scripts_of (by p xs))) × (c.is_out ≡ false)
+-- a core has asked this and was answered so
+pub record IsCoreAt (behaviour : Behaviour) (l : Line) (ys : List (Asked × Answer)) (c : Standing) :
+    Type 0 where
+  pub left : c.left ≡ left_after (enveloped behaviour (roster_of l)) taking (scripts_of ys)
+  pub is_in : c.is_out ≡ false
+  -- inside a script it holds an envelope, and names the task of that one's message
+  pub holds : standing.held c ≡ held_after None ys
+  pub has_one : is_inside c.left ≡ true → IsSome (standing.held c)
+  pub task : is_inside c.left ≡ true → c.task ≡ task_in (book_of l) (held_after None ys)
 
--- after these turns, which made these steps of at most so many
-pub record Reached (behaviour : Behaviour) (l : Line) (n most : ℕ) (us : List ℕ) (xs : List Step) (s : Stage) : Type 0 where
+-- these turns and steps lead to the stage, whatever is delivered again
+pub record LeadsTo (behaviour : Behaviour) (l : Line) (n : ℕ) (us : List ℕ) (xs : List Step)
+    (s : Stage) : Type 0 where
   pub by_turns : ByTurns behaviour l n us xs
   pub runs : (p : ℕ) → IsCoreRun (enveloped behaviour (roster_of l)) taking (scripts_of (by p xs))
-  -- nothing is delivered again
-  pub plain : redeliveries_in xs ≡ 0
   pub queue_is : s.queue ≡ queue_after l xs
   pub plan_is : s.table.plan ≡ roster_of l
   pub table_is : held s.table ≡ results_after xs
   pub many : length s.cores.items ≡ n
-  pub cores_are : (i : ℕ) (c : Standing) → slice_get s.cores.items i ≡ Some c → IsCoreAt behaviour l xs (suc i) c
-  pub count : length xs + s.steps ≡ most
+  pub cores_are : (i : ℕ) (c : Standing) → slice_get s.cores.items i ≡ Some c
+      → IsCoreAt behaviour l (by (suc i) xs) c
+
+-- the same between two turns, where these were the entries: of the answered asks there are at most
+-- so many
+pub record Reached (behaviour : Behaviour) (l : Line) (n most : ℕ) (es : List Entry) (us : List ℕ)
+    (xs : List Step) (s : Stage) : Type 0 where
+  pub leads : LeadsTo behaviour l n us xs s
+  pub turned : TurnedAgain behaviour l n [] es us xs s.again.items
+  pub agains : s.repeats ≡ min greatest_count (agains_in xs)
+  pub count : length xs + s.steps ≡ most + redeliveries_in xs
 
 -- after some steps that these turns make
-abbrev pub HasReached : (behaviour : Behaviour) → Line → ℕ → ℕ → List ℕ → Stage → Type 0
-HasReached behaviour l n most us s = (xs : List Step) × Reached behaviour l n most us xs s
+abbrev pub HasReached : (behaviour : Behaviour) → Line → ℕ → ℕ → List Entry → List ℕ → Stage
+    → Type 0
+HasReached behaviour l n most es us s = (xs : List Step) × Reached behaviour l n most es us xs s
 
 -- ---- a turn
 
--- a turn of worker p that answered an ask, or skipped
-abbrev pub IsTurn : (behaviour : Behaviour) → Bool → Line → ℕ → ℕ → List ℕ → List Step → ℕ → Stage → Type 0
-IsTurn behaviour true l n most us xs p s = (x : Asked × Answer) × Reached behaviour l n most (us ++ p ∷ []) (xs ++ (p, x) ∷ []) s
-IsTurn behaviour false l n most us xs p s = HasEnded behaviour l xs p × Reached behaviour l n most (us ++ p ∷ []) xs s
+-- A turn of worker p that answered an ask, before which it may have had an envelope delivered
+-- again; or one that skipped.
+abbrev pub IsTurn : (behaviour : Behaviour) → Bool → Line → ℕ → ℕ → List Entry → List ℕ → List Step
+    → ℕ → Stage → Type 0
+IsTurn behaviour true l n most es us xs p s =
+    (ys : List Step) × Reached behaviour l n most es (us ++ p ∷ []) (xs ++ ys) s
+    × (length ys ≡ suc (redeliveries_in ys))
+IsTurn behaviour false l n most es us xs p s =
+    HasEnded behaviour l xs p × Reached behaviour l n most es (us ++ p ∷ []) xs s
 
 -- the table is that of some run
 pub record IsHalfway (behaviour : Behaviour) (l : Line) (n : ℕ) (s : Stage) : Type 0 where
@@ -112,38 +171,51 @@ pub record IsHalfway (behaviour : Behaviour) (l : Line) (n : ℕ) (s : Stage) : 
   pub table_is : held s.table ≡ results_after steps
 
 -- no further ask may be answered, and a worker has one
-pub record IsStopped (behaviour : Behaviour) (l : Line) (n most : ℕ) (us : List ℕ) (s : Stage) : Type 0 where
+pub record IsStopped (behaviour : Behaviour) (l : Line) (n most : ℕ) (es : List Entry) (us : List ℕ)
+    (s : Stage) : Type 0 where
   pub steps : List Step
-  pub reached : Reached behaviour l n most us steps s
+  pub reached : Reached behaviour l n most es us steps s
   pub none_left : s.steps ≡ 0
   pub going : ℕ
   pub is_worker : IsWorker n going
   pub has_more : HasEnded behaviour l steps going → ⊥
 
 -- why a turn was not taken, after the turns us
-abbrev pub IsHalt : (behaviour : Behaviour) → Cause → Line → ℕ → ℕ → List ℕ → Stage → Type 0
-IsHalt behaviour Memory l n most us s = IsHalfway behaviour l n s
-IsHalt behaviour Stopped l n most us s = IsStopped behaviour l n most us s
+abbrev pub IsHalt : (behaviour : Behaviour) → Cause → Line → ℕ → ℕ → List Entry → List ℕ → Stage
+    → Type 0
+IsHalt behaviour Memory l n most es us s = IsHalfway behaviour l n s
+IsHalt behaviour Stopped l n most es us s = IsStopped behaviour l n most es us s
 
--- The first i turns of a round have been taken, after the turns us and the steps xs with so many left: whether one answered an ask.
-abbrev pub IsPartOfRound : (behaviour : Behaviour) → Bool → Line → ℕ → ℕ → List ℕ → List Step → ℕ → ℕ → Stage → Type 0
-IsPartOfRound behaviour true l n most us xs i steps s = HasReached behaviour l n most (us ++ round i) s × (s.steps < steps)
-IsPartOfRound behaviour false l n most us xs i steps s = Reached behaviour l n most (us ++ round i) xs s × ((p : ℕ) → IsWorker i p → HasEnded behaviour l xs p)
+-- The first i turns of a round have been taken, after the turns us and the steps xs with so many
+-- left: whether one answered an ask.
+abbrev pub IsPartOfRound : (behaviour : Behaviour) → Bool → Line → ℕ → ℕ → List Entry → List ℕ
+    → List Step → ℕ → ℕ → Stage → Type 0
+IsPartOfRound behaviour true l n most es us xs i steps s =
+    HasReached behaviour l n most es (us ++ round i) s × (s.steps < steps)
+IsPartOfRound behaviour false l n most es us xs i steps s =
+    Reached behaviour l n most es (us ++ round i) xs s
+    × ((p : ℕ) → IsWorker i p → HasEnded behaviour l xs p)
 
-abbrev pub IsHaltInRound : (behaviour : Behaviour) → Cause → Line → ℕ → ℕ → List ℕ → Stage → Type 0
-IsHaltInRound behaviour Memory l n most us s = IsHalfway behaviour l n s
-IsHaltInRound behaviour Stopped l n most us s = (i : ℕ) × (i ≤ n) × IsStopped behaviour l n most (us ++ round i) s
+abbrev pub IsHaltInRound : (behaviour : Behaviour) → Cause → Line → ℕ → ℕ → List Entry → List ℕ
+    → Stage → Type 0
+IsHaltInRound behaviour Memory l n most es us s = IsHalfway behaviour l n s
+IsHaltInRound behaviour Stopped l n most es us s =
+    (i : ℕ) × (i ≤ n) × IsStopped behaviour l n most es (us ++ round i) s
 
 -- why a run by these turns and then in rotation ended early
-abbrev pub IsEarlyEnd : (behaviour : Behaviour) → Cause → Line → ℕ → ℕ → List ℕ → Stage → Type 0
-IsEarlyEnd behaviour Memory l n most turns s = (s.table.plan ≡ roster_of l) × ((held s.table ≡ no_results) ⊎ IsHalfway behaviour l n s)
-IsEarlyEnd behaviour Stopped l n most turns s = (us : List ℕ) × Begins us turns n × IsStopped behaviour l n most us s
+abbrev pub IsEarlyEnd : (behaviour : Behaviour) → Cause → Line → ℕ → ℕ → List Entry → List ℕ → Stage
+    → Type 0
+IsEarlyEnd behaviour Memory l n most es turns s =
+    (s.table.plan ≡ roster_of l) × ((held s.table ≡ no_results) ⊎ IsHalfway behaviour l n s)
+IsEarlyEnd behaviour Stopped l n most es turns s =
+    (us : List ℕ) × Begins us turns n × IsStopped behaviour l n most es us s
 
 -- the turns of a list, and rounds, after which all workers have ended
-pub record IsRunThrough (behaviour : Behaviour) (l : Line) (n most : ℕ) (turns : List ℕ) (s : Stage) : Type 0 where
+pub record IsRunThrough (behaviour : Behaviour) (l : Line) (n most : ℕ) (es : List Entry)
+    (turns : List ℕ) (s : Stage) : Type 0 where
   pub further : ℕ
   pub steps : List Step
-  pub reached : Reached behaviour l n most (turns ++ rounds n further) steps s
+  pub reached : Reached behaviour l n most es (turns ++ rounds n further) steps s
   pub ended : AllEnded behaviour l n steps
 
 -- the envelope of a message reads back as the message
@@ -156,6 +228,7 @@ AreNew cores = All (λ c. c ≡ begun) cores
 
 -- a stage before its first publish
 pub record IsNew (l : Line) (n : ℕ) (s : Stage) : Type 0 where
+  pub repeats_is : s.repeats ≡ 0
   pub plan_is : s.table.plan ≡ roster_of l
   pub table_is : held s.table ≡ no_results
   pub queue_is : s.queue ≡ []

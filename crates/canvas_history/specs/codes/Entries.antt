@@ -27,11 +27,14 @@ module _ {C R : Type 0} where
   of_kind_of (calls p c r) = refl
 
   abbrev pub entry_coded : Coded C → Coded R → Coded (Entry C R)
-  entry_coded c r = code_by (Kinds C R) (coded⊎ (coded× coded_ℕ coded_ℕ) (coded⊎ (coded× coded_ℕ coded_ℕ) (coded× coded_ℕ (coded× c r)))) kind_of of_kind of_kind_of
+  entry_coded c r =
+      code_by (Kinds C R) (coded⊎ (coded× coded_ℕ coded_ℕ)
+      (coded⊎ (coded× coded_ℕ coded_ℕ) (coded× coded_ℕ (coded× c r)))) kind_of of_kind of_kind_of
 
 abbrev pub caller_coded : {I C R : Type 0} → Coded I → Coded (Entry C R) → Coded (Caller I C R)
 caller_coded {I} {C} {R} i e =
     code_by (I × (ℕ × (List ℕ × (List (Entry C R) × List (Entry C R)))))
     (coded× i (coded× coded_ℕ (coded× (coded_list coded_ℕ) (coded× (coded_list e) (coded_list e)))))
     (λ (c : Caller I C R). (c.of, (c.name, (c.mine, (c.seen, c.owed)))))
-    (λ x. record { of = x.0; name = x.1.0; mine = x.1.1.0; seen = x.1.1.1.0; owed = x.1.1.1.1 }) (λ _. refl)
+    (λ x. record { of = x.0; name = x.1.0; mine = x.1.1.0; seen = x.1.1.1.0; owed = x.1.1.1.1 })
+    (λ _. refl)

@@ -1,5 +1,6 @@
--- The rule that each step on a shared object keeps: there is one legal history, and what the callers share is what it leaves.
--- A caller stands in a view as a hat: its number, and what it has seen. In the middle of a split or a join a view has two hats, and a spent one has none.
+-- The rule that each step on a shared object keeps: there is one legal history, and what the
+-- callers share is what it leaves. A caller stands in a view as a hat: its number, and what it has
+-- seen. In the middle of a split or a join a view has two hats, and a spent one has none.
 use Rattle.std.specs.Prelude.{◌≡◌, ◌≤◌, ℕ, length, true, List, ◌++◌}
 use mathlib.Core.Option.{some}
 use lib.ListN.{get_elem?}
@@ -9,8 +10,10 @@ abbrev pub Hat : Type 0 → Type 0 → Type 0
 Hat C R = ℕ × List (Entry C R)
 
 module _ {C R : Type 0} where
-  -- this caller has seen a beginning of the history, and the rest has no entry of it. `at` says in which view it stands, and where there
-  pub record Fits (log : List (Entry C R)) (at : ℕ → ℕ × ℕ) (seat place : ℕ) (h : Hat C R) : Type 0 where
+  -- this caller has seen a beginning of the history, and the rest has no entry of it. `at` says in
+  -- which view it stands, and where there
+  pub record Fits (log : List (Entry C R)) (at : ℕ → ℕ × ℕ) (seat place : ℕ) (h : Hat C R) :
+      Type 0 where
     pub rest : List (Entry C R)
     pub is : log ≡ h.1 ++ rest
     pub others : AllOthers h.0 rest
@@ -19,9 +22,12 @@ module _ {C R : Type 0} where
     pub here : at h.0 ≡ (seat, place)
 
   abbrev pub AllFit : List (Entry C R) → (ℕ → ℕ × ℕ) → List (List (Hat C R)) → Type 0
-  AllFit log at views = (seat : ℕ) (hats : List (Hat C R)) (place : ℕ) (h : Hat C R) → get_elem? views seat ≡ some hats → get_elem? hats place ≡ some h → Fits log at seat place h
+  AllFit log at views =
+      (seat : ℕ) (hats : List (Hat C R)) (place : ℕ) (h : Hat C R) → get_elem? views seat ≡ some hats
+      → get_elem? hats place ≡ some h → Fits log at seat place h
 
-module _ {C R S : Type 0} (first : S) (answer : S → C → R) (next : S → C → S) (May : List (Entry C R) → S → ℕ → C → Type 0) where
+module _ {C R S : Type 0} (first : S) (answer : S → C → R) (next : S → C → S)
+    (May : List (Entry C R) → S → ℕ → C → Type 0) where
   pub record IsKept (shows : S → Type 0) (views : List (List (Hat C R))) : Type 0 where
     pub log : List (Entry C R)
     pub at : ℕ → ℕ × ℕ

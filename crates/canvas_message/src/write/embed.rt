@@ -16,7 +16,8 @@ use json::Writer;
 use std::alloc::AllocError;
 
 fn write_some(out: &mut Writer, tasks: &[FrozenTask]) -> Result<(), AllocError>
-    ensures { Appends result out.old out.new (begin_array ∷ rest_tokens (tasks_wire (p_tasks_of (map p_task_view tasks.now)))) }
+    ensures { Appends result out.old out.new
+        (begin_array ∷ rest_tokens (tasks_wire (p_tasks_of (map p_task_view tasks.now)))) }
 {
     out.begin_array()?;
     write_tasks(out, tasks)
@@ -24,7 +25,8 @@ fn write_some(out: &mut Writer, tasks: &[FrozenTask]) -> Result<(), AllocError>
 
 /// Links or error callbacks, null where there is none.
 fn write_callbacks(out: &mut Writer, tasks: &[FrozenTask]) -> Result<(), AllocError>
-    ensures { Appends result out.old out.new (data_tokens (list_or_null (tasks_wire (p_tasks_of (map p_task_view tasks.now))))) }
+    ensures { Appends result out.old out.new
+        (data_tokens (list_or_null (tasks_wire (p_tasks_of (map p_task_view tasks.now))))) }
 {
     if tasks.is_empty() {
         return out.null();
@@ -46,7 +48,8 @@ fn write_reversed(out: &mut Writer, tasks: &[FrozenTask]) -> Result<(), AllocErr
 
 /// The rest of a list of a line's elements, the last of them first.
 fn write_backwards(out: &mut Writer, line: &FrozenLine) -> Result<(), AllocError>
-    ensures { Appends result out.old out.new (rest_tokens (onto_reversed (elements_wire (p_line_view line.now)) no_items)) }
+    ensures { Appends result out.old out.new
+        (rest_tokens (onto_reversed (elements_wire (p_line_view line.now)) no_items)) }
 {
     write_tail(out, line)?;
     write_reversed(out, line.tasks.get())?;
@@ -54,7 +57,8 @@ fn write_backwards(out: &mut Writer, line: &FrozenLine) -> Result<(), AllocError
 }
 
 fn write_all_backwards(out: &mut Writer, line: &FrozenLine) -> Result<(), AllocError>
-    ensures { Appends result out.old out.new (begin_array ∷ rest_tokens (onto_reversed (elements_wire (p_line_view line.now)) no_items)) }
+    ensures { Appends result out.old out.new (begin_array ∷ rest_tokens
+        (onto_reversed (elements_wire (p_line_view line.now)) no_items)) }
 {
     out.begin_array()?;
     write_backwards(out, line)
@@ -89,7 +93,8 @@ pub(crate) fn write_callbacks_and_chain(
     links: &[FrozenTask],
     rest: &Option<FrozenLine>,
 ) -> Result<(), AllocError>
-    ensures { Appends result out.old out.new (begin_object ∷ (named_tokens (codes "callbacks") (list_or_null (tasks_wire (p_tasks_of (map p_task_view links.now)))) ++ named_tokens (codes "chain") (following_wire (rest_seen rest.now)))) }
+    ensures { Appends result out.old out.new (begin_object
+        ∷ (named_tokens (codes "callbacks") (list_or_null (tasks_wire (p_tasks_of (map p_task_view links.now)))) ++ named_tokens (codes "chain") (following_wire (rest_seen rest.now)))) }
 {
     out.begin_object()?;
     out.key("callbacks")?;
@@ -104,7 +109,10 @@ pub(crate) fn write_chord_and_errbacks(
     place: &Option<Place>,
     errbacks: &[FrozenTask],
 ) -> Result<(), AllocError>
-    ensures { Appends result out.old out.new (named_tokens (codes "chord") (carried_wire (place_seen place.now)) ++ named_tokens (codes "errbacks") (list_or_null (tasks_wire (p_tasks_of (map p_task_view errbacks.now))))) }
+    ensures { Appends result out.old out.new (named_tokens (codes "chord")
+        (carried_wire (place_seen place.now))
+        ++ named_tokens (codes "errbacks")
+        (list_or_null (tasks_wire (p_tasks_of (map p_task_view errbacks.now))))) }
 {
     out.key("chord")?;
     write_carried(out, place)?;

@@ -19,7 +19,8 @@ use std::alloc::AllocError;
 /// A member that is left out where its list is empty.
 #[cycle(write_task)]
 fn write_link(out: &mut Writer, name: &str, tasks: &[FrozenTask]) -> Result<(), AllocError>
-    ensures { Appends result out.old out.new (link_tokens name.now (tasks_wire (p_tasks_of (map p_task_view tasks.now)))) }
+    ensures { Appends result out.old out.new
+        (link_tokens name.now (tasks_wire (p_tasks_of (map p_task_view tasks.now)))) }
 {
     if tasks.is_empty() {
         return Ok(());
@@ -29,7 +30,8 @@ fn write_link(out: &mut Writer, name: &str, tasks: &[FrozenTask]) -> Result<(), 
 
 #[cycle(write_task)]
 fn write_member(out: &mut Writer, name: &str, tasks: &[FrozenTask]) -> Result<(), AllocError>
-    ensures { Appends result out.old out.new (member_tokens name.now (tasks_wire (p_tasks_of (map p_task_view tasks.now)))) }
+    ensures { Appends result out.old out.new
+        (member_tokens name.now (tasks_wire (p_tasks_of (map p_task_view tasks.now)))) }
 {
     out.key(name)?;
     out.begin_array()?;
@@ -39,7 +41,8 @@ fn write_member(out: &mut Writer, name: &str, tasks: &[FrozenTask]) -> Result<()
 /// The rest of a list of tasks.
 #[cycle(write_task)]
 pub(super) fn write_tasks(out: &mut Writer, tasks: &[FrozenTask]) -> Result<(), AllocError>
-    ensures { Appends result out.old out.new (rest_tokens (tasks_wire (p_tasks_of (map p_task_view tasks.now)))) }
+    ensures { Appends result out.old out.new
+        (rest_tokens (tasks_wire (p_tasks_of (map p_task_view tasks.now)))) }
 {
     for task in tasks {
         write_task(out, task, None)?;
@@ -49,7 +52,8 @@ pub(super) fn write_tasks(out: &mut Writer, tasks: &[FrozenTask]) -> Result<(), 
 
 #[cycle(write_task)]
 fn write_links(out: &mut Writer, task: &FrozenTask) -> Result<(), AllocError>
-    ensures { Appends result out.old out.new (links_tokens (links_wire (p_task_view task.now)) (errbacks_wire (p_task_view task.now))) }
+    ensures { Appends result out.old out.new
+        (links_tokens (links_wire (p_task_view task.now)) (errbacks_wire (p_task_view task.now))) }
 {
     write_link(out, "link", task.links.get())?;
     write_link(out, "link_error", task.errbacks.get())
@@ -58,7 +62,8 @@ fn write_links(out: &mut Writer, task: &FrozenTask) -> Result<(), AllocError>
 /// The body that a place carries, where there is one.
 #[cycle(write_task)]
 fn write_chord_option(out: &mut Writer, place: &Place) -> Result<(), AllocError>
-    ensures { Appends result out.old out.new (unless_null (codes "chord") (carried_wire (place_view place.now))) }
+    ensures { Appends result out.old out.new
+        (unless_null (codes "chord") (carried_wire (place_view place.now))) }
 {
     match &place.chord {
         Some(carried) => {
@@ -161,7 +166,8 @@ fn write_elements(out: &mut Writer, line: &FrozenLine) -> Result<(), AllocError>
 
 #[cycle(write_task)]
 fn write_list_of_elements(out: &mut Writer, line: &FrozenLine) -> Result<(), AllocError>
-    ensures { Appends result out.old out.new (list_tokens (codes "tasks") (elements_wire (p_line_view line.now))) }
+    ensures { Appends result out.old out.new
+        (list_tokens (codes "tasks") (elements_wire (p_line_view line.now))) }
 {
     out.key("tasks")?;
     out.begin_array()?;
@@ -171,7 +177,8 @@ fn write_list_of_elements(out: &mut Writer, line: &FrozenLine) -> Result<(), All
 
 #[cycle(write_task)]
 fn write_chain(out: &mut Writer, line: &FrozenLine, size: Option<u32>) -> Result<(), AllocError>
-    ensures { Appends result out.old out.new (data_tokens (chain_wire size (elements_wire (p_line_view line.now)))) }
+    ensures { Appends result out.old out.new
+        (data_tokens (chain_wire size (elements_wire (p_line_view line.now)))) }
 {
     write_opening(out, size)?;
     write_list_of_elements(out, line)?;
@@ -209,7 +216,8 @@ pub(super) fn write_line(
 /// The rest of a list of members.
 #[cycle(write_task)]
 fn write_lines(out: &mut Writer, lines: &[FrozenLine]) -> Result<(), AllocError>
-    ensures { Appends result out.old out.new (rest_tokens (members_wire (p_lines_of (map p_line_view lines.now)))) }
+    ensures { Appends result out.old out.new
+        (rest_tokens (members_wire (p_lines_of (map p_line_view lines.now)))) }
 {
     for line in lines {
         write_line(out, line, None)?;
@@ -219,7 +227,8 @@ fn write_lines(out: &mut Writer, lines: &[FrozenLine]) -> Result<(), AllocError>
 
 #[cycle(write_task)]
 fn write_members(out: &mut Writer, name: &str, lines: &[FrozenLine]) -> Result<(), AllocError>
-    ensures { Appends result out.old out.new (list_tokens name.now (members_wire (p_lines_of (map p_line_view lines.now)))) }
+    ensures { Appends result out.old out.new
+        (list_tokens name.now (members_wire (p_lines_of (map p_line_view lines.now)))) }
 {
     out.key(name)?;
     out.begin_array()?;
@@ -236,7 +245,9 @@ fn write_rest(
     kind: &str,
     type_name: &str,
 ) -> Result<(), AllocError>
-    ensures { Appends result out.old out.new (list_tokens name.now (members_wire (members_of_end (p_end_view end.now))) ++ group_closing (group_of_end (p_end_view end.now)) (string kind.now) type_name.now) }
+    ensures { Appends result out.old out.new (list_tokens name.now
+        (members_wire (members_of_end (p_end_view end.now)))
+        ++ group_closing (group_of_end (p_end_view end.now)) (string kind.now) type_name.now) }
 {
     write_members(out, name, end.members.get())?;
     write_group_closing(out, end.group, kind, type_name)
@@ -244,7 +255,8 @@ fn write_rest(
 
 #[cycle(write_task)]
 fn write_body(out: &mut Writer, body: &FrozenLine) -> Result<(), AllocError>
-    ensures { Appends result out.old out.new (named_tokens (codes "body") (line_wire None (p_line_view body.now))) }
+    ensures { Appends result out.old out.new
+        (named_tokens (codes "body") (line_wire None (p_line_view body.now))) }
 {
     out.key("body")?;
     write_line(out, body, None)

@@ -8,7 +8,8 @@ use Rattle.canvas_rewrite.specs.steps.GroupData.{group_entry}
 use Rattle.canvas_rewrite.specs.declared.frozen.FrozenLine.{FrozenLine}
 use Rattle.canvas_rewrite.specs.declared.groups.Group.{Group}
 
-pub record Keeps (line : FrozenLine) (tasks count : ℕ) (its_names : List (List ℕ)) (groups : List Group) (ends : List ℕ) (list : Bool) : Type 0 where
+pub record Keeps (line : FrozenLine) (tasks count : ℕ) (its_names : List (List ℕ))
+    (groups : List Group) (ends : List ℕ) (list : Bool) : Type 0 where
   -- nothing in the line has a place
   pub placeless : p_line_view line ≡ bare (line_in line)
   pub planned : IsPlan (line_in line)

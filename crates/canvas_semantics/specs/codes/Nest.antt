@@ -1,4 +1,5 @@
--- Data with two parts at each place, and how it is stored: data that holds itself can be written as such, and so be stored.
+-- Data with two parts at each place, and how it is stored: data that holds itself can be written as
+-- such, and so be stored.
 use Rattle.std.specs.Prelude.{◌≡◌, List, [], ◌∷◌, Option, Some, None, refl}
 use Rattle.std.proofs.Common.{ap, ◌∙◌}
 use Rattle.std.specs.Coded.{Coded, code_by, coded_list, coded_option}
@@ -28,12 +29,16 @@ module _ {L : Type 0} where
   first_of [] = leaf
   first_of (n ∷ parts) = n
 
-  built_spelled : (n : Nest L) (more : List (Option L)) (parts : List (Nest L)) → built (spelled n more) parts ≡ built more (n ∷ parts)
+  built_spelled : (n : Nest L) (more : List (Option L)) (parts : List (Nest L))
+      → built (spelled n more) parts ≡ built more (n ∷ parts)
   built_spelled leaf more parts = refl
-  built_spelled (branch l a b) more parts = built_spelled a (spelled b (Some l ∷ more)) parts ∙ built_spelled b (Some l ∷ more) (a ∷ parts)
+  built_spelled (branch l a b) more parts =
+      built_spelled a (spelled b (Some l ∷ more)) parts ∙ built_spelled b (Some l ∷ more) (a ∷ parts)
 
   pub spelled_back : (n : Nest L) → first_of (built (spelled n []) []) ≡ n
   spelled_back n = ap first_of (built_spelled n [] [])
 
   abbrev pub nest_code : Coded L → Coded (Nest L)
-  nest_code c = code_by (List (Option L)) (coded_list (coded_option c)) (λ n. spelled n []) (λ s. first_of (built s [])) spelled_back
+  nest_code c =
+      code_by (List (Option L)) (coded_list (coded_option c)) (λ n. spelled n [])
+      (λ s. first_of (built s [])) spelled_back

@@ -28,19 +28,24 @@ of_kind_of (arg.List ns) = refl
 of_kind_of (arg.Text s) = refl
 
 abbrev pub arg_code : Coded Arg
-arg_code = code_by ArgKinds (coded⊎ coded_ℤ (coded⊎ (coded_list coded_ℤ) (coded_list coded_ℕ))) kind_of of_kind of_kind_of
+arg_code =
+    code_by ArgKinds (coded⊎ coded_ℤ (coded⊎ (coded_list coded_ℤ) (coded_list coded_ℕ))) kind_of
+    of_kind of_kind_of
 
 abbrev CallParts : Type 0
 CallParts = List ℕ × (List Arg × (List (List ℕ × Arg) × Bool))
 
 abbrev pub call_code : Coded Call
 call_code =
-    code_by CallParts (coded× (coded_list coded_ℕ) (coded× (coded_list arg_code) (coded× (coded_list (coded× (coded_list coded_ℕ) arg_code)) coded_bool)))
-    (λ (c : Call). (c.name, (c.args, (c.kwargs, c.immutable)))) (λ p. record { name = p.0; args = p.1.0; kwargs = p.1.1.0; immutable = p.1.1.1 }) (λ _. refl)
+    code_by CallParts (coded× (coded_list coded_ℕ) (coded× (coded_list arg_code)
+    (coded× (coded_list (coded× (coded_list coded_ℕ) arg_code)) coded_bool)))
+    (λ (c : Call). (c.name, (c.args, (c.kwargs, c.immutable))))
+    (λ p. record { name = p.0; args = p.1.0; kwargs = p.1.1.0; immutable = p.1.1.1 }) (λ _. refl)
 
 -- ---- tasks and trees, as data with two parts at each place
 
--- a task's number and call; a group's; a chord's; and a lone task and a chain, by whether it is a chain
+-- a task's number and call; a group's; a chord's; and a lone task and a chain, by whether it is a
+-- chain
 abbrev Label : Type 0
 Label = (ℕ × Call) ⊎ (ℕ ⊎ (ℕ ⊎ Bool))
 
@@ -100,7 +105,8 @@ abbrev mutual
 
 mutual
   pub task_back : (t : Task) → task_from (task_to t) ≡ t
-  task_back (task k call links errbacks) = ap₂ (task k call) (tasks_back links) (tasks_back errbacks)
+  task_back (task k call links errbacks) =
+      ap₂ (task k call) (tasks_back links) (tasks_back errbacks)
 
   tasks_back : (ts : Tasks) → tasks_from (tasks_to ts) ≡ ts
   tasks_back no_tasks = refl

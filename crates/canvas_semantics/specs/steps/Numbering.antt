@@ -20,7 +20,8 @@ tasks_in (t ∷ ts) = count_task t + tasks_in ts
 -- the same of lines, with how many groups and chords there are
 abbrev pub lines_from : ℕ → ℕ → List Line → List PLine
 lines_from k g [] = []
-lines_from k g (l ∷ ls) = bare (number_line k g l) ∷ lines_from (k + count_line l) (g + line_groups l) ls
+lines_from k g (l ∷ ls) =
+    bare (number_line k g l) ∷ lines_from (k + count_line l) (g + line_groups l) ls
 
 abbrev pub lines_count : List Line → ℕ
 lines_count [] = 0
@@ -34,7 +35,8 @@ lines_group_count (l ∷ ls) = line_groups l + lines_group_count ls
 abbrev pub HasRoom : ℕ → ℕ → ℕ → ℕ → Type 0
 HasRoom k g n m = (1 ≤ k) × (1 ≤ g) × (k + n ≤ greatest_number) × (g + m ≤ greatest_number)
 
--- what the lines of a list end in, their groups and chords, and the names of tasks and lines, one after another
+-- what the lines of a list end in, their groups and chords, and the names of tasks and lines, one
+-- after another
 abbrev pub lines_ends : List Line → List ℕ
 lines_ends [] = []
 lines_ends (l ∷ ls) = ends_of l ++ lines_ends ls

@@ -1,4 +1,5 @@
--- Values that are read again as they were written: whole numbers of 64 bits, and members in the order of their names.
+-- Values that are read again as they were written: whole numbers of 64 bits, and members in the
+-- order of their names.
 use Rattle.std.specs.Prelude.{◌≡◌, ℕ, ◌<◌, ◌^◌, pos, negsuc, List}
 use Rattle.std.specs.Ordering.{nat_cmp}
 use Rattle.std.specs.declared.cmp.Ordering.TheVariants.{Greater}
@@ -37,4 +38,5 @@ abbrev mutual
   -- behind those before, in their order
   pub MembersClean : Members → Members → Type 0
   MembersClean before no_members = Unit {0}
-  MembersClean before (member k d ms) = IsAbove k before × IsClean d × MembersClean (behind_members before k d) ms
+  MembersClean before (member k d ms) =
+      IsAbove k before × IsClean d × MembersClean (behind_members before k d) ms

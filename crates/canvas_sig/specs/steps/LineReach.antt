@@ -1,5 +1,6 @@
--- The reach of a normal line, reckoned without the line: what stands behind an element is known by how many elements
--- it has, up to two, and by the greatest of their reaches. Past the limit all reaches are one more than it.
+-- The reach of a normal line, reckoned without the line: what stands behind an element is known by
+-- how many elements it has, up to two, and by the greatest of their reaches. Past the limit all
+-- reaches are one more than it.
 use Rattle.std.specs.Prelude.{ℕ, suc, ◌+◌, min, max}
 use Rattle.canvas_sig.specs.declared.reach.LineReach.{LineReach}
 use Rattle.canvas_sig.specs.declared.reach.LineReach.TheVariants.{Empty, One, More}
@@ -19,7 +20,8 @@ above r = capped (1 + r)
 
 abbrev mutual
   pub sig_reach : ℕ → Task → ℕ
-  sig_reach c (task k call links errbacks) = above (max c (max (sigs_reach links) (sigs_reach errbacks)))
+  sig_reach c (task k call links errbacks) =
+      above (max c (max (sigs_reach links) (sigs_reach errbacks)))
 
   pub sigs_reach : Tasks → ℕ
   sigs_reach no_tasks = 0

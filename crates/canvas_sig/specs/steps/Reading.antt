@@ -1,4 +1,5 @@
--- Reading step by step, as the code goes: the signature that a JSON value stands for, or its first fault.
+-- Reading step by step, as the code goes: the signature that a JSON value stands for, or its first
+-- fault.
 use Rattle.std.specs.Prelude.{ℕ, zero, suc, true, false, if◌then◌else◌, List, Option, Some, None, Result, Ok, Err, codes, ℤ, length, nat_lt}
 use Rattle.std.specs.List.{list_all}
 use Rattle.serde_json.specs.Data.{Data, number, string, array}
@@ -28,7 +29,8 @@ number_reading (number n) = in_range_or_refused (as_i64 n)
 number_reading d = Err BadNumber
 
 abbrev pub list_reading : List Data → Result Arg SigFault
-list_reading ds = if list_all is_number ds then (each number_reading ds >>= λ ns. Ok (arg.List ns)) else Err BadArgs
+list_reading ds =
+    if list_all is_number ds then (each number_reading ds >>= λ ns. Ok (arg.List ns)) else Err BadArgs
 
 abbrev pub arg_steps : Data → Result Arg SigFault
 arg_steps (number n) = in_range_or_refused (as_i64 n) >>= λ z. Ok (arg.Num z)
@@ -43,7 +45,13 @@ task_with f d =
     each named_reading (object_members (kwargs d)) >>= λ kwargs.
     each f (as_list (link d)) >>= λ links.
     each f (as_list (link_error d)) >>= λ errbacks.
-    Ok (task 0 (record { name = text_of (field (codes "task") d); args = args; kwargs = kwargs; immutable = is_true (field (codes "immutable") d) }) (tasks_of links) (tasks_of errbacks))
+    Ok (task 0 (record {
+      name = text_of (field (codes "task") d);
+      args = args;
+      kwargs = kwargs;
+      immutable = is_true (field (codes "immutable") d);
+    }) (tasks_of links)
+    (tasks_of errbacks))
 
 abbrev pub linked_with : (Data → Result Task SigFault) → Data → Result Task SigFault
 linked_with f d = unless (own_fault true d) (task_with f d)
@@ -59,14 +67,18 @@ abbrev pub header_reading : (Data → Result Tree SigFault) → Data → Result 
 header_reading f (array ds) = each f (items ds) >>= λ ts. Ok (trees_of ts)
 header_reading f d = f d >>= λ t. Ok (members_in t)
 
--- a signature that stands for a primitive, by what reads links and by what reads the signatures in it
-abbrev pub tree_as : (Data → Result Task SigFault) → (Data → Result Tree SigFault) → Option Primitive → Data → Result Tree SigFault
+-- a signature that stands for a primitive, by what reads links and by what reads the signatures in
+-- it
+abbrev pub tree_as : (Data → Result Task SigFault) → (Data → Result Tree SigFault)
+    → Option Primitive → Data → Result Tree SigFault
 tree_as g f (Some kind.Chain) d = each f (listed (tasks d)) >>= λ ts. Ok (chain (trees_of ts))
 tree_as g f (Some kind.Group) d = each f (listed (tasks d)) >>= λ ts. Ok (group 0 (trees_of ts))
-tree_as g f (Some kind.Chord) d = header_reading f (header d) >>= λ ts. f (body d) >>= λ t. Ok (chord 0 ts t)
+tree_as g f (Some kind.Chord) d =
+    header_reading f (header d) >>= λ ts. f (body d) >>= λ t. Ok (chord 0 ts t)
 tree_as g f p d = task_with g d >>= λ t. Ok (one t)
 
-abbrev pub tree_with : (Data → Result Task SigFault) → (Data → Result Tree SigFault) → Data → Result Tree SigFault
+abbrev pub tree_with : (Data → Result Task SigFault) → (Data → Result Tree SigFault) → Data
+    → Result Tree SigFault
 tree_with g f d = unless (own_fault false d) (tree_as g f (primitive_of (subtype d)) d)
 
 -- a signature that is no link, to the same depth
@@ -83,4 +95,5 @@ json_reading (Some d) = Ok d
 -- the signature that a text spells, before the checks of whole canvases
 abbrev pub signature_reading : Text → Result Tree SigFault
 signature_reading bytes =
-    unless (fault_if (nat_lt most_bytes (length bytes)) TooLarge) (json_reading (json_of bytes) >>= λ d. tree_reading (suc max_depth) d)
+    unless (fault_if (nat_lt most_bytes (length bytes)) TooLarge)
+    (json_reading (json_of bytes) >>= λ d. tree_reading (suc max_depth) d)

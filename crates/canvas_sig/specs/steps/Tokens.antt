@@ -36,7 +36,8 @@ kwargs_tokens kwargs = key (codes "kwargs") ∷ begin_object ∷ rest_members kw
 
 -- with the brace after the keyword arguments
 abbrev pub call_tokens : (args : Items) → Bool → (kwargs : Members) → List Token
-call_tokens args immutable kwargs = front_tokens args ++ (flag_tokens immutable ++ kwargs_tokens kwargs)
+call_tokens args immutable kwargs =
+    front_tokens args ++ (flag_tokens immutable ++ kwargs_tokens kwargs)
 
 abbrev pub links_wire : Task → Items
 links_wire (task k call links errbacks) = tasks_wire links
@@ -50,7 +51,8 @@ link_tokens k no_items = []
 link_tokens k (item d ds) = key k ∷ begin_array ∷ rest_tokens (item d ds)
 
 abbrev pub links_tokens : Task → List Token
-links_tokens t = link_tokens (codes "link") (links_wire t) ++ link_tokens (codes "link_error") (errbacks_wire t)
+links_tokens t =
+    link_tokens (codes "link") (links_wire t) ++ link_tokens (codes "link_error") (errbacks_wire t)
 
 abbrev pub options_tokens : Members → List Token
 options_tokens options = key (codes "options") ∷ begin_object ∷ rest_members options
@@ -64,10 +66,12 @@ name_tokens name = key (codes "task") ∷ string name ∷ end_object ∷ []
 -- ---- the parts of a chain, group or chord, around its keyword arguments
 
 abbrev pub opening_tokens : List Token
-opening_tokens = front_tokens no_items ++ (flag_tokens false ++ key (codes "kwargs") ∷ begin_object ∷ [])
+opening_tokens =
+    front_tokens no_items ++ (flag_tokens false ++ key (codes "kwargs") ∷ begin_object ∷ [])
 
 abbrev pub closing_tokens : (kind : Data) → (name : List ℕ) → List Token
-closing_tokens kind name = key (codes "options") ∷ begin_object ∷ end_object ∷ (kind_tokens kind ++ name_tokens name)
+closing_tokens kind name =
+    key (codes "options") ∷ begin_object ∷ end_object ∷ (kind_tokens kind ++ name_tokens name)
 
 abbrev pub member_tokens : List ℕ → Items → List Token
 member_tokens k ds = key k ∷ begin_array ∷ rest_tokens ds

@@ -23,7 +23,8 @@ fn write_numbers(out: &mut Writer, numbers: &[i64]) -> Result<(), AllocError>
 }
 
 fn write_list(out: &mut Writer, numbers: &[i64]) -> Result<(), AllocError>
-    ensures { Appends result out.old out.new (begin_array ∷ rest_tokens (numbers_wire numbers.now)) }
+    ensures { Appends result out.old out.new
+        (begin_array ∷ rest_tokens (numbers_wire numbers.now)) }
 {
     out.begin_array()?;
     write_numbers(out, numbers)

@@ -23,7 +23,8 @@ fn write_opening(out: &mut Writer) -> Result<(), AllocError>
 
 /// The last two members, and the closing brace.
 pub fn write_kind(out: &mut Writer, kind: &str, name: &str) -> Result<(), AllocError>
-    ensures { Appends result out.old out.new (kind_tokens (string kind.now) ++ name_tokens name.now) }
+    ensures { Appends result out.old out.new
+        (kind_tokens (string kind.now) ++ name_tokens name.now) }
 {
     out.key("subtask_type")?;
     out.string(kind)?;
@@ -45,7 +46,8 @@ pub fn write_closing(out: &mut Writer, kind: &str, name: &str) -> Result<(), All
 /// The rest of a list of signatures.
 #[cycle(write_tree)]
 fn write_nodes(out: &mut Writer, nodes: &[Node]) -> Result<(), AllocError>
-    ensures { Appends result out.old out.new (rest_tokens (trees_wire (trees_of (map view nodes.now)))) }
+    ensures { Appends result out.old out.new
+        (rest_tokens (trees_wire (trees_of (map view nodes.now)))) }
 {
     for node in nodes {
         write_tree(out, node)?;
@@ -56,14 +58,16 @@ fn write_nodes(out: &mut Writer, nodes: &[Node]) -> Result<(), AllocError>
 /// A member that is a list of signatures.
 #[cycle(write_tree)]
 fn write_member(out: &mut Writer, name: &str, nodes: &[Node]) -> Result<(), AllocError>
-    ensures { Appends result out.old out.new (member_tokens name.now (trees_wire (trees_of (map view nodes.now)))) }
+    ensures { Appends result out.old out.new
+        (member_tokens name.now (trees_wire (trees_of (map view nodes.now)))) }
 {
     out.key(name)?;
     out.begin_array()?;
     write_nodes(out, nodes)
 }
 
-/// The last keyword argument of a chain, group or chord, a list of signatures, and what stands behind it.
+/// The last keyword argument of a chain, group or chord, a list of signatures, and what stands
+/// behind it.
 #[cycle(write_tree)]
 fn write_last(
     out: &mut Writer,
@@ -72,7 +76,8 @@ fn write_last(
     kind: &str,
     type_name: &str,
 ) -> Result<(), AllocError>
-    ensures { Appends result out.old out.new (last_tokens name.now (trees_wire (trees_of (map view nodes.now))) (string kind.now) type_name.now) }
+    ensures { Appends result out.old out.new (last_tokens name.now
+        (trees_wire (trees_of (map view nodes.now))) (string kind.now) type_name.now) }
 {
     write_member(out, name, nodes)?;
     out.end_object()?;
@@ -87,7 +92,9 @@ fn write_sequence(
     kind: &str,
     type_name: &str,
 ) -> Result<(), AllocError>
-    ensures { Appends result out.old out.new (data_tokens (signature no_items false (tasks_member (trees_wire (trees_of (map view nodes.now)))) no_members (string kind.now) type_name.now)) }
+    ensures { Appends result out.old out.new (data_tokens (signature no_items false
+        (tasks_member (trees_wire (trees_of (map view nodes.now)))) no_members (string kind.now)
+        type_name.now)) }
 {
     write_opening(out)?;
     write_last(out, "tasks", nodes, kind, type_name)

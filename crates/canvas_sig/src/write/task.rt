@@ -35,7 +35,8 @@ pub fn write_flag(out: &mut Writer, immutable: bool) -> Result<(), AllocError>
 
 /// The member `kwargs` of a task.
 pub fn write_kwargs(out: &mut Writer, kwargs: &BTreeMap<String, Arg>) -> Result<(), AllocError>
-    ensures { Appends result out.old out.new (kwargs_tokens (kwargs_wire (named kwargs.now.entries))) }
+    ensures { Appends result out.old out.new
+        (kwargs_tokens (kwargs_wire (named kwargs.now.entries))) }
 {
     out.key("kwargs")?;
     out.begin_object()?;
@@ -49,7 +50,8 @@ fn write_call(
     immutable: bool,
     kwargs: &BTreeMap<String, Arg>,
 ) -> Result<(), AllocError>
-    ensures { Appends result out.old out.new (call_tokens (args_wire args.now) immutable (kwargs_wire (named kwargs.now.entries))) }
+    ensures { Appends result out.old out.new
+        (call_tokens (args_wire args.now) immutable (kwargs_wire (named kwargs.now.entries))) }
 {
     write_front(out, args)?;
     write_flag(out, immutable)?;
@@ -70,7 +72,8 @@ pub fn write_end(out: &mut Writer, name: &str) -> Result<(), AllocError>
 /// A member that is left out where its list is empty.
 #[cycle(write_task)]
 fn write_link(out: &mut Writer, name: &str, sigs: &[TaskSig]) -> Result<(), AllocError>
-    ensures { Appends result out.old out.new (link_tokens name.now (tasks_wire (tasks_of (map task_view sigs.now)))) }
+    ensures { Appends result out.old out.new
+        (link_tokens name.now (tasks_wire (tasks_of (map task_view sigs.now)))) }
 {
     if sigs.is_empty() {
         return Ok(());
@@ -80,7 +83,8 @@ fn write_link(out: &mut Writer, name: &str, sigs: &[TaskSig]) -> Result<(), Allo
 
 #[cycle(write_task)]
 fn write_member(out: &mut Writer, name: &str, sigs: &[TaskSig]) -> Result<(), AllocError>
-    ensures { Appends result out.old out.new (member_tokens name.now (tasks_wire (tasks_of (map task_view sigs.now)))) }
+    ensures { Appends result out.old out.new
+        (member_tokens name.now (tasks_wire (tasks_of (map task_view sigs.now)))) }
 {
     out.key(name)?;
     out.begin_array()?;
@@ -90,7 +94,8 @@ fn write_member(out: &mut Writer, name: &str, sigs: &[TaskSig]) -> Result<(), Al
 /// The rest of a list of signatures.
 #[cycle(write_task)]
 fn write_tasks(out: &mut Writer, sigs: &[TaskSig]) -> Result<(), AllocError>
-    ensures { Appends result out.old out.new (rest_tokens (tasks_wire (tasks_of (map task_view sigs.now)))) }
+    ensures { Appends result out.old out.new
+        (rest_tokens (tasks_wire (tasks_of (map task_view sigs.now)))) }
 {
     for sig in sigs {
         write_task(out, sig)?;
@@ -108,7 +113,8 @@ fn write_links(out: &mut Writer, sig: &TaskSig) -> Result<(), AllocError>
 
 #[cycle(write_task)]
 fn write_options(out: &mut Writer, sig: &TaskSig) -> Result<(), AllocError>
-    ensures { Appends result out.old out.new (options_tokens (options_wire (links_wire (task_view sig.now)) (errbacks_wire (task_view sig.now)))) }
+    ensures { Appends result out.old out.new (options_tokens
+        (options_wire (links_wire (task_view sig.now)) (errbacks_wire (task_view sig.now)))) }
 {
     out.key("options")?;
     out.begin_object()?;

@@ -20,10 +20,12 @@ fn number_values(alloc: Global, numbers: &[i64]) -> Result<Vec<Value>, Memory>
     Ok(values)
 }
 
-/// The JSON value that an argument is written as, which reads as the argument where its numbers are in range.
+/// The JSON value that an argument is written as, which reads as the argument where its numbers are
+/// in range.
 pub fn write_arg(alloc: Global, arg: &Arg) -> Result<Value, Memory>
     ensures value { IfOk result (λ value. view value ≡ arg_wire arg.now) }
-    ensures reads_back { IfOk result (λ value. arg_ok arg.now ≡ true → arg_reading (view value) ≡ Ok arg.now) }
+    ensures reads_back { IfOk result
+        (λ value. arg_ok arg.now ≡ true → arg_reading (view value) ≡ Ok arg.now) }
 {
     match arg {
         Arg::Num(number) => Ok(Value::from(*number)),

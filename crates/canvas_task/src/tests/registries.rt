@@ -4,8 +4,8 @@ ghost use Rattle.std.specs.Prelude.{◌≡◌, codes, ◌-ℤ◌, neg_ℤ, pos, 
 
 use super::{BAD_CALL, BOUND, OVERFLOW, list, named};
 use crate::{
-    Add, AddFault, Arg, Div, Fault, Ident, Kind, LogError, Mul, OfList, OfOne, OfTwo, Outcome,
-    Registry, Task, TaskOfList, TaskOfOne, TaskOfTwo, Xsum, apply, registry_of,
+    Add, AddFault, Arg, BoxedTask, Div, Fault, Ident, Kind, LogError, Mul, OfList, OfOne, OfTwo,
+    Outcome, Registry, Task, TaskOfList, TaskOfOne, TaskOfTwo, Xsum, apply, registry_of,
 };
 use std::collections::BTreeMap;
 use std::test::Fail;
@@ -87,10 +87,38 @@ impl Task for Always {
 
 const NOT_REGISTERED: Outcome = Outcome::Failure(Fault::Plain(Kind::NotRegistered));
 
+/// What tasks of two numbers, of one and of a list answer to numbers; and a name that isn't added
+/// has no task.
+fn answer_numbers(registry: &Registry, none: &BTreeMap<String, Arg>) -> bool {
+    let numbers = [Arg::Num(10), Arg::Num(3)];
+    registry.apply("tests.sub", &numbers, none) == Outcome::Success(7)
+        && registry.apply("tests.negate", &numbers[..1], none) == Outcome::Success(-10)
+        && registry.apply("tests.negate", &numbers, none) == BAD_CALL
+        && registry.apply("tests.negate", &[Arg::Num(i64::MIN)], none) == OVERFLOW
+        && registry.apply("tests.count", &numbers[..1], none) == BAD_CALL
+        && registry.apply("tasks.mul", &numbers, none) == Outcome::Success(30)
+        && registry.apply("tasks.add", &numbers, none) == NOT_REGISTERED
+}
+
+/// What they answer to a list of two, alone and in front of a number.
+fn answer_lists(registry: &Registry, lists: &[Arg; 2], none: &BTreeMap<String, Arg>) -> bool {
+    registry.apply("tests.count", &lists[..1], none) == Outcome::Success(2)
+        && registry.apply("tests.sub", lists, none) == BAD_CALL
+}
+
+/// What the difference of 10 and a named number is, where the second is named, and the first.
+fn answer_named(registry: &Registry, y: &BTreeMap<String, Arg>, x: &BTreeMap<String, Arg>) -> bool {
+    let number = [Arg::Num(10)];
+    registry.apply("tests.sub", &number, y) == Outcome::Success(6)
+        && registry.apply("tests.sub", &number, x) == BAD_CALL
+}
+
 #[test]
 fn tasks_of_numbers(rt: HostRuntime) -> Result<(), Fail> {
     let alloc = rt.alloc();
     let none = BTreeMap::new(alloc);
+    let (y, x) = (named(alloc, "y", 4)?, named(alloc, "x", 4)?);
+    let lists = [list(alloc, &[5, 6])?, Arg::Num(1)];
     let sub = TaskOfTwo {
         name: "tests.sub",
         parameters: ("x", "y"),
@@ -107,49 +135,19 @@ fn tasks_of_numbers(rt: HostRuntime) -> Result<(), Fail> {
         answers: Count,
     };
     let registry = registry_of!(alloc; Mul, sub, negate, count)?;
-    let numbers = [Arg::Num(10), Arg::Num(3)];
-    assert_eq!(rt;
-        registry.apply("tests.sub", &numbers, &none),
-        Outcome::Success(7)
-    );
-    assert_eq!(rt;
-        registry.apply("tests.sub", &numbers[..1], &named(alloc, "y", 4)?),
-        Outcome::Success(6)
-    );
-    assert_eq!(rt;
-        registry.apply("tests.sub", &numbers[..1], &named(alloc, "x", 4)?),
-        BAD_CALL
-    );
-    assert_eq!(rt;
-        registry.apply("tests.sub", &[list(alloc, &[1])?, Arg::Num(1)], &none),
-        BAD_CALL
-    );
-    assert_eq!(rt;
-        registry.apply("tests.negate", &numbers[..1], &none),
-        Outcome::Success(-10)
-    );
-    assert_eq!(rt; registry.apply("tests.negate", &numbers, &none), BAD_CALL);
-    assert_eq!(rt;
-        registry.apply("tests.negate", &[Arg::Num(i64::MIN)], &none),
-        OVERFLOW
-    );
-    assert_eq!(rt;
-        registry.apply("tests.count", &[list(alloc, &[5, 6])?], &none),
-        Outcome::Success(2)
-    );
-    assert_eq!(rt;
-        registry.apply("tests.count", &numbers[..1], &none),
-        BAD_CALL
-    );
-    assert_eq!(rt;
-        registry.apply("tasks.mul", &numbers, &none),
-        Outcome::Success(30)
-    );
-    assert_eq!(rt;
-        registry.apply("tasks.add", &numbers, &none),
-        NOT_REGISTERED
-    );
+    let numbers = answer_numbers(&registry, &none);
+    let lists = answer_lists(&registry, &lists, &none);
+    let named = answer_named(&registry, &y, &x);
+    assert_eq!(rt; [numbers, lists, named], [true, true, true]);
     Ok(())
+}
+
+/// What the count of the arguments answers, and the sum beside it.
+fn answer_whole(registry: &Registry, none: &BTreeMap<String, Arg>) -> bool {
+    let numbers = [Arg::Num(10), Arg::Num(3)];
+    registry.apply("tests.given", &numbers, none) == Outcome::Success(2)
+        && registry.apply("tests.given", &[], none) == Outcome::Success(0)
+        && registry.apply("tasks.add", &numbers, none) == Outcome::Success(13)
 }
 
 #[test]
@@ -157,87 +155,98 @@ fn a_task_written_whole(rt: HostRuntime) -> Result<(), Fail> {
     let alloc = rt.alloc();
     let none = BTreeMap::new(alloc);
     let registry = registry_of!(alloc; Add, Given)?;
-    let numbers = [Arg::Num(10), Arg::Num(3)];
-    assert_eq!(rt;
-        registry.apply("tests.given", &numbers, &none),
-        Outcome::Success(2)
-    );
-    assert_eq!(rt;
-        registry.apply("tests.given", &[], &none),
-        Outcome::Success(0)
-    );
-    assert_eq!(rt;
-        registry.apply("tasks.add", &numbers, &none),
-        Outcome::Success(13)
-    );
+    let answers = answer_whole(&registry, &none);
+    assert!(rt; answers);
+    Ok(())
+}
+
+/// What is wanted of a task that is given back.
+#[derive(Drop)]
+struct Wanted {
+    cause: AddFault,
+    name: &'static str,
+    answer: i64,
+    none: BTreeMap<String, Arg>,
+}
+
+/// Whether a task isn't added, and is given back as wanted.
+fn refuses(registry: &mut Registry, task: BoxedTask, wanted: &Wanted) -> bool {
+    let numbers = [Arg::Num(1), Arg::Num(2)];
+    match registry.add(task) {
+        Ok(()) => false,
+        Err(refused) => {
+            refused.cause == wanted.cause
+                && refused.task.name() == wanted.name
+                && refused.task.call(&numbers, &wanted.none) == Ok(wanted.answer)
+        }
+    }
+}
+
+#[test]
+fn tasks_of_a_name_that_is_there(rt: HostRuntime) -> Result<(), Fail> {
+    let alloc = rt.alloc();
+    let other = Always {
+        number: 5,
+        name: "tasks.add",
+    };
+    let (other, same) = (Box::new(alloc, other)?, Box::new(alloc, Add)?);
+    let mut wanted = Wanted {
+        cause: AddFault::Doubled,
+        name: "tasks.add",
+        answer: 5,
+        none: BTreeMap::new(alloc),
+    };
+    let mut registry = registry_of!(alloc; Add)?;
+    let refused = refuses(&mut registry, other, &wanted);
+    wanted.answer = 3;
+    let twice = refuses(&mut registry, same, &wanted);
+    let stays = registry.apply("tasks.add", &[Arg::Num(1), Arg::Num(1)], &wanted.none);
+    assert_eq!(rt; (refused, twice, stays), (true, true, Outcome::Success(2)));
     Ok(())
 }
 
 #[test]
-fn tasks_not_added(rt: HostRuntime) -> Result<(), Fail> {
+fn tasks_of_bad_names(rt: HostRuntime) -> Result<(), Fail> {
     let alloc = rt.alloc();
-    let none = BTreeMap::new(alloc);
     let mut registry = Registry::new(alloc);
-    registry.add(Box::new(alloc, Add)?).map_err(|e| e.cause)?;
-    let Err(doubled) = registry.add(Box::new(
-        alloc,
-        Always {
-            number: 5,
-            name: "tasks.add",
-        },
-    )?) else {
-        return Err(Fail::from("a second task of the name was added"));
-    };
-    assert_eq!(rt; doubled.cause, AddFault::Doubled);
-    assert_eq!(rt; doubled.task.call(&[], &none), Ok(5));
-    let Err(again) = registry.add(Box::new(alloc, Add)?) else {
-        return Err(Fail::from("the sum was added twice"));
-    };
-    assert_eq!(rt; again.cause, AddFault::Doubled);
-    assert_eq!(rt; again.task.call(&[Arg::Num(1), Arg::Num(2)], &none), Ok(3));
     for name in ["", "a b", "tasks.\u{e9}"] {
-        let Err(bad) = registry.add(Box::new(alloc, Always { number: 6, name })?) else {
-            return Err(Fail::from("a task of a bad name was added"));
+        let wanted = Wanted {
+            cause: AddFault::BadName,
+            name,
+            answer: 6,
+            none: BTreeMap::new(alloc),
         };
-        assert_eq!(rt; bad.cause, AddFault::BadName, "{name}");
-        assert_eq!(rt; bad.task.call(&[], &none), Ok(6), "{name}");
-        assert_eq!(rt; bad.task.name(), name);
+        let bad = Box::new(alloc, Always { number: 6, name })?;
+        let refused = refuses(&mut registry, bad, &wanted);
+        assert!(rt; refused, "{name}");
     }
-    assert_eq!(rt;
-        registry.apply("tasks.add", &[Arg::Num(1), Arg::Num(1)], &none),
-        Outcome::Success(2)
-    );
+    Ok(())
+}
+
+#[test]
+fn answers_out_of_range(rt: HostRuntime) -> Result<(), Fail> {
+    let alloc = rt.alloc();
     let past = Always {
         number: BOUND + 1,
         name: "past",
     };
-    registry.add(Box::new(alloc, past)?).map_err(|e| e.cause)?;
-    assert_eq!(rt; registry.apply("past", &[], &none), OVERFLOW);
     let at = Always {
         number: -BOUND,
         name: "at",
     };
-    registry.add(Box::new(alloc, at)?).map_err(|e| e.cause)?;
-    assert_eq!(rt; registry.apply("at", &[], &none), Outcome::Success(-BOUND));
+    let registry = registry_of!(alloc; past, at)?;
+    let none = BTreeMap::new(alloc);
+    let answers = [
+        registry.apply("past", &[], &none),
+        registry.apply("at", &[], &none),
+    ];
+    assert_eq!(rt; answers, [OVERFLOW, Outcome::Success(-BOUND)]);
     Ok(())
 }
 
-#[test]
-fn six_as_objects(rt: HostRuntime) -> Result<(), Fail> {
-    let alloc = rt.alloc();
-    let none = BTreeMap::new(alloc);
-    let mut registry = Registry::new(alloc);
-    registry
-        .add(Box::new(alloc, LogError)?)
-        .map_err(|e| e.cause)?;
-    registry.add(Box::new(alloc, Ident)?).map_err(|e| e.cause)?;
-    registry.add(Box::new(alloc, Xsum)?).map_err(|e| e.cause)?;
-    registry.add(Box::new(alloc, Div)?).map_err(|e| e.cause)?;
-    registry.add(Box::new(alloc, Mul)?).map_err(|e| e.cause)?;
-    registry.add(Box::new(alloc, Add)?).map_err(|e| e.cause)?;
-    let numbers = [Arg::Num(-7), Arg::Num(2)];
-    let list_alone = [list(alloc, &[1, 2])?];
-    for name in [
+/// Whether a registry answers to a call by each name what the six do.
+fn answer_as_six(registry: &Registry, args: &[Arg], none: &BTreeMap<String, Arg>) -> bool {
+    [
         "tasks.add",
         "tasks.mul",
         "tasks.div",
@@ -245,22 +254,21 @@ fn six_as_objects(rt: HostRuntime) -> Result<(), Fail> {
         "tasks.ident",
         "tasks.log_error",
         "nope",
-    ] {
-        assert_eq!(rt;
-            registry.apply(name, &numbers, &none),
-            apply(name, &numbers, &none),
-            "{name}"
-        );
-        assert_eq!(rt;
-            registry.apply(name, &list_alone, &none),
-            apply(name, &list_alone, &none),
-            "{name}"
-        );
-        assert_eq!(rt;
-            registry.apply(name, &numbers[..1], &none),
-            apply(name, &numbers[..1], &none),
-            "{name}"
-        );
-    }
+    ]
+    .iter()
+    .all(|name| registry.apply(name, args, none) == apply(name, args, none))
+}
+
+#[test]
+fn six_as_objects(rt: HostRuntime) -> Result<(), Fail> {
+    let alloc = rt.alloc();
+    let none = BTreeMap::new(alloc);
+    let lists = [list(alloc, &[1, 2])?];
+    let registry = registry_of!(alloc; LogError, Ident, Xsum, Div, Mul, Add)?;
+    let numbers = [Arg::Num(-7), Arg::Num(2)];
+    let two = answer_as_six(&registry, &numbers, &none);
+    let list = answer_as_six(&registry, &lists, &none);
+    let one = answer_as_six(&registry, &numbers[..1], &none);
+    assert_eq!(rt; [two, list, one], [true, true, true]);
     Ok(())
 }

@@ -1,4 +1,5 @@
--- How what a core has left to do is stored, so that a type may have it as its value; and that it tells no more than a fact.
+-- How what a core has left to do is stored, so that a type may have it as its value; and that it
+-- tells no more than a fact.
 use Rattle.std.specs.Prelude.{ℕ, zero, false, [], Option, Some, None, refl}
 use Rattle.std.specs.Coded.{Coded, code_by}
 use Rattle.std.proofs.Props.{props}
@@ -12,7 +13,12 @@ use Rattle.canvas_message.specs.codes.ContentCode.{content_code}
 
 -- a load as a message of no task
 abbrev of_carried : PCarried → Content
-of_carried c = record { parent = Some c.size; own = p_task 0 (record { name = []; args = []; kwargs = []; immutable = false }) no_p_tasks no_p_tasks p_nowhere; rest = c.body }
+of_carried c =
+    record {
+      parent = Some c.size;
+      own = p_task 0 (record { name = []; args = []; kwargs = []; immutable = false }) no_p_tasks no_p_tasks p_nowhere;
+      rest = c.body;
+    }
 
 abbrev or_none : Option ℕ → ℕ
 or_none None = zero

@@ -1,8 +1,10 @@
-use Rattle.std.proofs.Common.{sym}
+use Rattle.std.proofs.Common.{refl, sym}
+use Rattle.canvas_backend.specs.Plain.{held}
 use Rattle.canvas_runs.specs.Core as C
 use Rattle.canvas_worker.specs.Standing.{asked}
+use Rattle.canvas_worker.specs.declared.ask.Ask.TheVariants as A
 use Rattle.canvas_worker.proofs.Shown.{is_store, is_part}
-use Rattle.canvas_engine.proofs.StageAsks.{answered_err, stored_says, counted_says}
+use Rattle.canvas_engine.proofs.StageAsks.{answered_err, stored_says, counted_says, none_counted}
 use Rattle.canvas_engine.proofs.stage.step.Goals as goal
 use Rattle.canvas_backend.specs.Backend.{says_first}
 
@@ -19,3 +21,21 @@ returns-in-Part-clause-err g c =
     answered_err (g.T.Tasks.behaviour c.args.tasks.now) c.answer-in-Part.result c.args.more old old c.args.queue.now c.args.queue.now c.args.table.now c.part-count.new.self
     (C.part c.in-Part.group c.in-Part.task) (C.counted c.part-count.result) (is_part _ c.in-Part.group c.in-Part.task (asked old.left) (sym c.in-Part.ensures.ask))
     (counted_says c.part-count.result _ c.part-count.ensures.reply) (c.in-Part.ensures.reads_back c.requires.inside) c.part-count.ensures.after c.part-count.ensures.plan
+
+pub returns-in-Take-clause-again : goal.returns-in-Take-clause-again
+returns-in-Take-clause-again g c = none_counted (held c.args.table.now) c.args.core.now.task (asked c.args.core.now.left) A.Take c.args.repeats.now c.in-Take.ensures.ask refl
+
+pub returns-in-Publish-clause-again : goal.returns-in-Publish-clause-again
+returns-in-Publish-clause-again g c = none_counted (held c.args.table.now) c.args.core.now.task (asked c.args.core.now.left) A.Publish c.args.repeats.now c.in-Publish.ensures.ask refl
+
+pub returns-in-Part-clause-again : goal.returns-in-Part-clause-again
+returns-in-Part-clause-again g c = none_counted (held c.args.table.now) c.args.core.now.task (asked c.args.core.now.left) (A.Part c.in-Part.group c.in-Part.task) c.args.repeats.now c.in-Part.ensures.ask refl
+
+pub returns-in-Read-clause-again : goal.returns-in-Read-clause-again
+returns-in-Read-clause-again g c = none_counted (held c.args.table.now) c.args.core.now.task (asked c.args.core.now.left) (A.Read c.in-Read.group c.in-Read.place) c.args.repeats.now c.in-Read.ensures.ask refl
+
+pub returns-in-Ack-clause-again : goal.returns-in-Ack-clause-again
+returns-in-Ack-clause-again g c = none_counted (held c.args.table.now) c.args.core.now.task (asked c.args.core.now.left) (A.Ack c.in-Ack.field-0) c.args.repeats.now c.in-Ack.ensures.ask refl
+
+pub returns-in-Rest-clause-again : goal.returns-in-Rest-clause-again
+returns-in-Rest-clause-again g c = none_counted (held c.args.table.now) c.args.core.now.task (asked c.args.core.now.left) A.Rest c.args.repeats.now c.in-Rest.ensures.ask refl

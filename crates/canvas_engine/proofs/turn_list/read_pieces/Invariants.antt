@@ -4,7 +4,7 @@ use Rattle.std.specs.List.{slice_split}
 use denote.Text.{Utf8}
 use denote.Shadow.{shadow}
 use Rattle.canvas_runs.specs.Turns.{IsWorker}
-use Rattle.canvas_engine.specs.TurnList.{is_comma}
+use Rattle.canvas_engine.specs.CommaList.{is_comma}
 use Rattle.canvas_engine.proofs.turn_list.read_pieces.Given as goal
 
 -- the turns so far, and the pieces still to come

@@ -1,4 +1,5 @@
 use Rattle.std.proofs.Common.{ℕ, List}
+use Rattle.canvas_runs.specs.Spending.{Entry}
 use Rattle.canvas_runs.specs.Turns.{Step}
 use Rattle.canvas_engine.specs.steps.Stages.{Reached, IsPartOfRound}
 use Rattle.canvas_engine.proofs.turns.run_round.Given as goal
@@ -6,4 +7,4 @@ use Rattle.canvas_engine.proofs.turns.run_round.Given as goal
 -- a part of the round has been taken
 abbrev pub invariant-loop-index : goal.invariant-loop-index
 invariant-loop-index g l =
-    (most : ℕ) (us : List ℕ) (xs : List Step) → Reached (g.T.Tasks.behaviour l.tasks) l.plan l.workers most us xs l.fn.stage → IsPartOfRound (g.T.Tasks.behaviour l.tasks) l.answered l.plan l.workers most us xs l.index l.fn.stage.steps l.stage
+    (most : ℕ) (es : List Entry) (us : List ℕ) (xs : List Step) → Reached (g.T.Tasks.behaviour l.tasks) l.plan l.workers most es us xs l.fn.stage → IsPartOfRound (g.T.Tasks.behaviour l.tasks) l.answered l.plan l.workers most es us xs l.index l.fn.stage.steps l.stage

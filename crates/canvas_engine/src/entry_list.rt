@@ -1,0 +1,96 @@
+//! The text of a list of entries, which say what is delivered again.
+ghost use Rattle.std.specs.Prelude.{◌≡◌, ◌≢◌, ◌++◌, ◌∷◌, [], List, IfOk, IfErr, OnOk, MatchOption};
+ghost use Rattle.canvas_runs.specs.Spending.{Entry};
+ghost use Rattle.canvas_runs.specs.declared.when.When.{When};
+ghost use Rattle.canvas_engine.specs.declared.entry_list.EntryFault.TheVariants.{BadAgain};
+ghost use Rattle.canvas_engine.specs.EntryList.{IsEntry, IsEntryFault, IsEntryList};
+ghost use Rattle.canvas_engine.specs.EntryList.{entry_text, when_text};
+
+use crate::When;
+use crate::comma_list::{read_number, split};
+use canvas_task::TaskNo;
+use std::alloc::Global;
+use thiserror::Error;
+
+/// Why a text gives no entries.
+#[derive(Clone, Copy, Debug, Drop, PartialEq, Eq, Error)]
+pub enum EntryFault {
+    /// It is no list of entries.
+    #[error("BadAgain")]
+    BadAgain,
+    /// A growth was refused.
+    #[error("memory refused")]
+    Memory,
+}
+
+/// The point that a word names.
+fn read_when(word: &str) -> Option<When>
+    ensures { MatchOption result ((w : When) → word.now ≡ when_text w → ⊥)
+        (λ w. word.now ≡ when_text w) }
+{
+    match word {
+        "early" => Some(When::Early),
+        "late" => Some(When::Late),
+        _ => None,
+    }
+}
+
+/// The entry that a text is.
+fn read_entry(text: &str) -> Option<(TaskNo, When)>
+    ensures { MatchOption result ((e : Entry) → IsEntry e → text.now ≡ entry_text e → ⊥)
+        (λ e. IsEntry e × (text.now ≡ entry_text e)) }
+{
+    let (number, word) = text.split_once(':')?;
+    let task = TaskNo::new(read_number(number)?)?;
+    let when = read_when(word)?;
+    Some((task, when))
+}
+
+fn push_entry(entries: &mut Vec<(TaskNo, When)>, text: &str) -> Result<(), EntryFault>
+    ensures ok { OnOk result ((e : Entry) × IsEntry e × (text.now ≡ entry_text e)
+        × (entries.new.items ≡ entries.old.items ++ e ∷ [])) }
+    ensures err { IfErr result (λ f. f ≡ BadAgain
+        → (e : Entry) → IsEntry e → text.now ≡ entry_text e → ⊥) }
+{
+    match read_entry(text) {
+        Some(entry) => match entries.push(entry) {
+            Ok(()) => Ok(()),
+            Err(_) => Err(EntryFault::Memory),
+        },
+        None => Err(EntryFault::BadAgain),
+    }
+}
+
+/// Reads one entry or more.
+fn read_pieces(alloc: Global, text: &str) -> Result<Vec<(TaskNo, When)>, EntryFault>
+    requires { text.now ≢ [] }
+    ensures ok { IfOk result (λ entries. IsEntryList text.now entries.items) }
+    ensures err { IfErr result (λ f. f ≡ BadAgain
+        → (es : List Entry) → IsEntryList text.now es → ⊥) }
+{
+    let mut entries = Vec::new(alloc);
+    let mut rest = text;
+    while let Some((first, behind)) = split(rest) {
+        match push_entry(&mut entries, first) {
+            Ok(()) => rest = behind,
+            Err(fault) => return Err(fault),
+        }
+    }
+    match push_entry(&mut entries, rest) {
+        Ok(()) => Ok(entries),
+        Err(fault) => Err(fault),
+    }
+}
+
+/// Reads a list of entries, as `1:late,3:early`: each a task's decimal number from 1, a colon and
+/// `early` or `late`, with a single comma between two, and without signs, spaces or leading zeros.
+/// The empty text is no entries. A task may be one that no canvas has.
+pub fn read_again(alloc: Global, text: &str) -> Result<Vec<(TaskNo, When)>, EntryFault>
+    ensures ok { IfOk result (λ entries. IsEntryList text.now entries.items) }
+    ensures err { IfErr result (IsEntryFault text.now) }
+{
+    if text.is_empty() {
+        return Ok(Vec::new(alloc));
+    }
+    read_pieces(alloc, text)
+}
