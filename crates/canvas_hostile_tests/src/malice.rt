@@ -88,7 +88,8 @@ fn answers(alloc: Global, backend: &PlainBackend, core: &mut Core, reply: Reply)
 /// task, and asks for the next one.
 fn is_dropped(alloc: Global, backend: &PlainBackend, core: &mut Core, envelope: Envelope) -> bool {
     let before = core.dropped();
-    answers(alloc, backend, core, Reply::Taken(Some(envelope))) && core.next() == Ask::Ack(None)
+    answers(alloc, backend, core, Reply::Taken(Some(envelope)))
+        && core.next() == Ask::Ack(None)
         && core.held().is_some()
         && core.dropped() == before.saturating_add(1)
         && answers(alloc, backend, core, Reply::Acked)
@@ -116,7 +117,8 @@ fn takes_up(alloc: Global, backend: &PlainBackend, core: &mut Core) -> bool {
     let outcome = Outcome::Failure(Fault::Plain(Kind::ZeroDivision));
     match (genuine(alloc, &MEMBER), TaskNo::new(2)) {
         (Some(envelope), Some(task)) => {
-            answers(alloc, backend, core, Reply::Taken(Some(envelope))) && core.next() == Ask::Store(task, outcome)
+            answers(alloc, backend, core, Reply::Taken(Some(envelope)))
+                && core.next() == Ask::Store(task, outcome)
         }
         _ => false,
     }

@@ -71,7 +71,8 @@ fn ends_so(alloc: Global, second: Stored, fifth: Stored, has_part: bool) -> bool
     ) {
         (Some((backend, _desk)), Ok(envelope), Ok(same)) => {
             let mut core = Core::new(alloc);
-            answers(alloc, &backend, &mut core, Reply::Taken(Some(envelope))) && holds(&core, &same)
+            answers(alloc, &backend, &mut core, Reply::Taken(Some(envelope)))
+                && holds(&core, &same)
                 && stores(alloc, &backend, &mut core, task(4), Stored::First)
                 && stores(alloc, &backend, &mut core, task(2), second)
                 && stores(alloc, &backend, &mut core, task(5), fifth)

@@ -366,7 +366,8 @@ fn is_dropped(alloc: Global, backend: &PlainBackend, core: &mut Core, envelope: 
     let before = core.dropped();
     match envelope.copy() {
         Ok(same) => {
-            answers(alloc, backend, core, Reply::Taken(Some(envelope))) && core.dropped() == before.saturating_add(1)
+            answers(alloc, backend, core, Reply::Taken(Some(envelope)))
+                && core.dropped() == before.saturating_add(1)
                 && acknowledges(alloc, backend, core, &same, None)
                 && core.dropped() == before.saturating_add(1)
         }
@@ -386,7 +387,8 @@ fn drops(alloc: Global, backend: &PlainBackend, core: &mut Core, row: &[&str; 4]
 fn takes(alloc: Global, backend: &PlainBackend, core: &mut Core) -> bool {
     match member(alloc, "2", "1", "null", "3") {
         Ok(envelope) => {
-            answers(alloc, backend, core, Reply::Taken(Some(envelope))) && core.next() == Ask::Store(task(2), ZERO_DIVISION)
+            answers(alloc, backend, core, Reply::Taken(Some(envelope)))
+                && core.next() == Ask::Store(task(2), ZERO_DIVISION)
                 && core.is_inside()
         }
         Err(_) => false,
