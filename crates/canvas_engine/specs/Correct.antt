@@ -6,7 +6,8 @@
 --     IsThreadFault n states fault           why a run on threads has no whole report
 --     IsWholeRun l n turns rows              rows of a run by these turns, and then in rotation, that went on until all workers had ended
 --     IsWholeWithin l n turns most rows      of at most so many steps
---     IsWholeAgain l n turns es rows m       of a run in which the entries say what is delivered again, and how many of its stores answered Again
+--     IsWholeAgain l n turns es rows m       of a run in which entries say what is delivered again,
+--                                            and how many of its stores answered Again
 --     IsCut l n turns steps rows             rows of a run that was cut off after so many steps, with some worker that had not ended
 --     IsRunFault, IsFaultWithin              why a run by turns, and one of at most so many steps, has no whole report
 use Rattle.std.specs.Prelude.{◌≡◌, ◌≤◌, ℕ, suc, List, [], ◌∷◌, ◌++◌, All, length, map, Option, Some, None}

@@ -94,7 +94,9 @@ pub(crate) fn write_callbacks_and_chain(
     rest: &Option<FrozenLine>,
 ) -> Result<(), AllocError>
     ensures { Appends result out.old out.new (begin_object
-        ∷ (named_tokens (codes "callbacks") (list_or_null (tasks_wire (p_tasks_of (map p_task_view links.now)))) ++ named_tokens (codes "chain") (following_wire (rest_seen rest.now)))) }
+        ∷ (named_tokens (codes "callbacks")
+        (list_or_null (tasks_wire (p_tasks_of (map p_task_view links.now))))
+        ++ named_tokens (codes "chain") (following_wire (rest_seen rest.now)))) }
 {
     out.begin_object()?;
     out.key("callbacks")?;
