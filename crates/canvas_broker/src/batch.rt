@@ -2,7 +2,7 @@
 ghost use Rattle.std.specs.Prelude.{◌≡◌, [], ◌∷◌, MatchOption};
 
 use arrayvec::ArrayVec;
-use canvas_message::Envelope;
+use canvas_message::Letter;
 use std::marker::Model;
 
 /// What a batch took, in order, as far as it isn't read yet. What isn't read when it is dropped is
@@ -10,7 +10,7 @@ use std::marker::Model;
 #[derive(Drop)]
 pub struct Batch {
     // the marks of splits among them
-    pub(crate) items: ArrayVec<Option<Envelope>, 31>,
+    pub(crate) items: ArrayVec<Option<Letter>, 31>,
     // how many of these are read
     pub(crate) read: usize,
 }
@@ -27,7 +27,7 @@ impl Model for Batch {
 
 impl Batch {
     /// The next envelope. None at the end, and from then on.
-    pub fn next(&mut self) -> Option<Envelope>
+    pub fn next(&mut self) -> Option<Letter>
         ensures { MatchOption result ((self.old ≡ []) × (self.new ≡ []))
             (λ e. self.old ≡ e ∷ self.new) }
     {

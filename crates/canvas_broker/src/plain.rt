@@ -3,7 +3,7 @@ ghost use Rattle.std.specs.Prelude.{◌≡◌, [], ◌∷◌, ◌++◌, true, �
 ghost use Rattle.canvas_broker.specs.Broker.{publish, take, answer, next};
 
 use crate::Refused;
-use canvas_message::Envelope;
+use canvas_message::Letter;
 use std::alloc::Global;
 use std::collections::VecDeque;
 use std::marker::Model;
@@ -12,7 +12,7 @@ use std::marker::Model;
 /// first to be taken in front.
 #[derive(Drop)]
 pub struct PlainBroker {
-    queue: VecDeque<Envelope>,
+    queue: VecDeque<Letter>,
 }
 
 impl Model for PlainBroker {
@@ -36,7 +36,7 @@ impl PlainBroker {
 
     /// Adds the envelope at the end. Where memory is refused, it comes back, and the broker holds
     /// what it held.
-    pub fn publish(&mut self, envelope: Envelope) -> Result<(), Refused>
+    pub fn publish(&mut self, envelope: Letter) -> Result<(), Refused>
         ensures call { MatchResult result (λ _. self.new ≡ self.old ++ envelope ∷ [])
             (λ r. (r.envelope ≡ envelope) × (self.new ≡ self.old)) }
         ensures machine { OnOk result (self.new ≡ next self.old (publish envelope)) }
@@ -50,7 +50,7 @@ impl PlainBroker {
     }
 
     /// Takes the first envelope.
-    pub fn take(&mut self) -> Option<Envelope>
+    pub fn take(&mut self) -> Option<Letter>
         ensures call { MatchOption result ((self.old ≡ []) × (self.new ≡ []))
             (λ e. self.old ≡ e ∷ self.new) }
         ensures machine { (result ≡ answer self.old take) × (self.new ≡ next self.old take) }

@@ -1,12 +1,12 @@
 //! The answer to a publish for which there was no memory.
 
-use canvas_message::Envelope;
+use canvas_message::Letter;
 use thiserror::Error;
 
 /// An envelope that was not published, because memory was refused.
-#[derive(Debug, Drop, Error, PartialEq)]
+#[derive(Debug, Drop, Error)]
 #[error("the message was refused")]
 pub struct Refused {
     /// As it was given.
-    pub envelope: Envelope,
+    pub envelope: Letter,
 }

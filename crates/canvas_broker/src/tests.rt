@@ -1,7 +1,7 @@
 ghost use Rattle.std.specs.Prelude.{◌≡◌};
 
 use crate::{Broker, BrokerPass, PlainBroker};
-use canvas_message::Envelope;
+use canvas_message::{Envelope, Letter};
 use canvas_task::ListOf;
 use std::alloc::Global;
 use std::sync::Wait;
@@ -10,25 +10,25 @@ use std::thread;
 use std::thread::Threads;
 
 /// An envelope whose body is the number, in two bytes.
-fn numbered(alloc: Global, number: u64) -> Option<Envelope> {
+fn numbered(alloc: Global, number: u64) -> Option<Letter> {
     let mut body = Vec::new(alloc);
     body.push((number % 256) as u8).ok()?;
     body.push((number / 256 % 256) as u8).ok()?;
-    Some(Envelope {
+    Some(Letter::new(Envelope {
         properties: ListOf::of(Vec::new(alloc)),
         headers: ListOf::of(Vec::new(alloc)),
         body: ListOf::of(body),
-    })
+    }))
 }
 
-fn number_of(envelope: &Envelope) -> u64 {
-    match envelope.body.get().as_slice() {
+fn number_of(letter: &Letter) -> u64 {
+    match letter.envelope().body.get().as_slice() {
         [low, high] => *low as u64 + 256 * *high as u64,
         _ => 0,
     }
 }
 
-fn gives(taken: Option<Envelope>, number: u64) -> bool {
+fn gives(taken: Option<Letter>, number: u64) -> bool {
     taken.is_some_and(|envelope| number_of(&envelope) == number)
 }
 
@@ -191,7 +191,7 @@ fn threads_lose_nothing(rt: HostRuntime) -> Result<(), Fail> {
     Ok(())
 }
 
-fn add(order: u64, taken: Option<Envelope>) -> u64 {
+fn add(order: u64, taken: Option<Letter>) -> u64 {
     match taken {
         Some(envelope) => order.wrapping_mul(10).wrapping_add(number_of(&envelope)),
         None => order,

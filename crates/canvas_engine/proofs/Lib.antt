@@ -14,3 +14,4 @@ pub mod WholeRuns
 pub mod Slots
 pub mod ThreadRuns
 pub mod SeatRows
+pub mod Crosses

@@ -9,38 +9,38 @@ ghost use Rattle.canvas_message.specs.Effects.{first_messages};
 ghost use Rattle.canvas_runs.specs.Turns.{FirstsRead};
 
 use canvas_broker::{Broker, BrokerPass};
-use canvas_message::{Envelope, Message, encode, first_messages};
+use canvas_message::{Letter, Message, first_messages};
 use canvas_rewrite::Plan;
 use canvas_task::Memory;
 use std::alloc::Global;
 use std::sync::Wait;
 
 /// The envelope of a message, which reads back as it.
-pub(crate) fn seal(alloc: Global, message: &Message) -> Result<Envelope, Memory>
-    ensures value { IfOk result (λ e. e ≡ sealed message.now) }
-    ensures back { OnOk result (ReadsAs message.now) }
+pub(crate) fn seal(alloc: Global, message: Message) -> Result<Letter, Memory>
+    ensures value { IfOk result (λ e. e ≡ sealed message) }
+    ensures back { OnOk result (ReadsAs message) }
 {
-    match encode(alloc, message) {
-        Ok(envelope) => Ok(envelope),
+    match Letter::seal(alloc, message) {
+        Ok(letter) => Ok(letter),
         Err(Memory) => Err(Memory),
     }
 }
 
-/// The envelopes of messages, each of which is dropped once it is written.
-fn seal_all(alloc: Global, messages: Vec<Message>) -> Result<Vec<Envelope>, Memory>
+/// The envelopes of messages.
+fn seal_all(alloc: Global, messages: Vec<Message>) -> Result<Vec<Letter>, Memory>
     ensures value { IfOk result (λ es. es.items ≡ map sealed messages.items) }
     ensures back { OnOk result (Each ReadsAs messages.items) }
 {
     let mut envelopes = Vec::new(alloc);
     for message in messages {
-        let envelope = seal(alloc, &message)?;
+        let envelope = seal(alloc, message)?;
         envelopes.push(envelope)?;
     }
     Ok(envelopes)
 }
 
 /// The envelopes of the messages of the tasks that start at once.
-pub(crate) fn first_envelopes(alloc: Global, plan: &Plan) -> Result<Vec<Envelope>, Memory>
+pub(crate) fn first_envelopes(alloc: Global, plan: &Plan) -> Result<Vec<Letter>, Memory>
     ensures value { IfOk result (λ es. es.items ≡ map sealed (first_messages plan.now)) }
     ensures back { OnOk result (FirstsRead plan.now) }
 {
@@ -55,7 +55,7 @@ pub(crate) fn publish_all<R: Wait>(
     rt: &R,
     broker: &Broker,
     pass: &mut BrokerPass,
-    envelopes: Vec<Envelope>,
+    envelopes: Vec<Letter>,
 ) -> Result<(), Memory>
     requires { pass.old.of ≡ broker.now }
     ensures broker { pass.new.of ≡ broker.now }

@@ -16,7 +16,7 @@ use crate::turns::new_rows;
 use crate::{Cause, Records, Report, RunFault, Tally};
 use canvas_backend::{Backend, BackendSeat};
 use canvas_broker::{Broker, BrokerPass};
-use canvas_message::Envelope;
+use canvas_message::Letter;
 use canvas_rewrite::Plan;
 use canvas_task::{Fault, Memory, Outcome, Tasks};
 use canvas_worker::{Gate, InFlight, Stop};
@@ -33,7 +33,7 @@ pub(crate) struct Start {
     backend: Backend,
     seat: BackendSeat,
     slots: Vec<Slot>,
-    envelopes: Vec<Envelope>,
+    envelopes: Vec<Letter>,
     rows: Vec<Option<Outcome>>,
     tallies: Vec<Tally>,
 }

@@ -26,7 +26,7 @@ use crate::entries::first_for;
 use crate::firsts::first_envelopes;
 use canvas_backend::{PlainBackend, Stored};
 use canvas_broker::PlainBroker;
-use canvas_message::Envelope;
+use canvas_message::Letter;
 use canvas_rewrite::Plan;
 use canvas_task::{GroupNo, Memory, Outcome, TaskNo, Tasks};
 use canvas_worker::{Ask, Core, Reply, When};
@@ -132,7 +132,7 @@ fn step<T: Tasks>(
 }
 
 /// Publishes envelopes in their order.
-fn publish_all(queue: &mut PlainBroker, envelopes: Vec<Envelope>) -> Result<(), Memory>
+fn publish_all(queue: &mut PlainBroker, envelopes: Vec<Letter>) -> Result<(), Memory>
     ensures { OnOk result (queue.new ≡ queue.old ++ envelopes.items) }
 {
     for envelope in envelopes {

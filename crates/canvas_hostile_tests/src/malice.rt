@@ -6,7 +6,7 @@ use crate::by_hand::{Left, work};
 use crate::forgeries::{CALLBACK, Change, FORMS, MEMBER, NAMES, RESTS, Texts};
 use crate::rows::{a_failed_member, first_envelopes};
 use canvas_backend::PlainBackend;
-use canvas_message::Envelope;
+use canvas_message::{Envelope, Letter};
 use canvas_samples::frozen_texts::filled;
 use canvas_samples::sample::Sample;
 use canvas_task::{Fault, Kind, ListOf, Memory, Outcome, SixTasks, TaskNo};
@@ -63,17 +63,25 @@ fn envelope_of(
 }
 
 /// A message's envelope with a change; None where it changes nothing.
-fn forged(alloc: Global, texts: &Texts, change: &Change) -> Option<Envelope> {
+fn forged(alloc: Global, texts: &Texts, change: &Change) -> Option<Letter> {
     let mut is_changed = false;
     match envelope_of(alloc, texts, change, &mut is_changed) {
-        Ok(envelope) => { if is_changed { Some(envelope) } else { None } }
+        Ok(envelope) => {
+            if is_changed {
+                Some(Letter::new(envelope))
+            } else {
+                None
+            }
+        }
         Err(_) => None,
     }
 }
 
 /// A message's envelope as it is.
-fn genuine(alloc: Global, texts: &Texts) -> Option<Envelope> {
-    envelope_of(alloc, texts, &["&", "&"], &mut false).ok()
+fn genuine(alloc: Global, texts: &Texts) -> Option<Letter> {
+    envelope_of(alloc, texts, &["&", "&"], &mut false)
+        .ok()
+        .map(Letter::new)
 }
 
 // ---- a core
@@ -86,7 +94,7 @@ fn answers(alloc: Global, backend: &PlainBackend, core: &mut Core, reply: Reply)
 
 /// Whether a core that is given an envelope counts it as dropped, acknowledges it as one of no
 /// task, and asks for the next one.
-fn is_dropped(alloc: Global, backend: &PlainBackend, core: &mut Core, envelope: Envelope) -> bool {
+fn is_dropped(alloc: Global, backend: &PlainBackend, core: &mut Core, envelope: Letter) -> bool {
     let before = core.dropped();
     answers(alloc, backend, core, Reply::Taken(Some(envelope)))
         && core.next() == Ask::Ack(None)
@@ -170,7 +178,7 @@ fn dropped_by_a_core(rt: HostRuntime) -> Result<(), Fail> {
 /// Puts the forged messages of a table in a queue.
 fn push_forged(
     alloc: Global,
-    queue: &mut Vec<Envelope>,
+    queue: &mut Vec<Letter>,
     texts: &Texts,
     changes: &[Change],
 ) -> Result<(), Memory> {
@@ -183,7 +191,7 @@ fn push_forged(
 }
 
 /// All forged messages, in front of those that a plan begins with and behind them.
-fn queue_of(alloc: Global, canvas: &Sample) -> Result<Vec<Envelope>, Memory> {
+fn queue_of(alloc: Global, canvas: &Sample) -> Result<Vec<Letter>, Memory> {
     let mut queue = Vec::new(alloc);
     push_forged(alloc, &mut queue, &MEMBER, &NAMES)?;
     push_forged(alloc, &mut queue, &CALLBACK, &RESTS)?;

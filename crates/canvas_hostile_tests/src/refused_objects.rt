@@ -7,7 +7,7 @@ ghost use Rattle.canvas_worker.specs.Asks.{FoundInRange};
 use crate::rows::{a_failed_member, first_envelopes};
 use canvas_backend::{Backend, BackendSeat, PlainBackend, Stored};
 use canvas_broker::{Broker, BrokerPass, PlainBroker};
-use canvas_message::Envelope;
+use canvas_message::{Envelope, Letter};
 use canvas_rewrite::Plan;
 use canvas_samples::frozen_texts::bytes_of;
 use canvas_task::{Add, AddFault, Arg, Fault, Kind, Memory, Outcome, Registry, SixTasks, TaskNo};
@@ -28,26 +28,26 @@ fn envelope(alloc: Global) -> Result<Envelope, Memory> {
 
 /// Publishes an envelope, and where that is refused the one that comes back, if it is the same.
 /// Whether it was published in the end.
-fn publish_plain(broker: &mut PlainBroker, sent: Envelope, same: &Envelope) -> bool {
+fn publish_plain(broker: &mut PlainBroker, sent: Letter, same: &Envelope) -> bool {
     match broker.publish(sent) {
         Ok(()) => true,
         Err(refused) => {
-            refused.envelope == *same
+            *refused.envelope.envelope() == *same
                 && broker.is_empty()
                 && broker.publish(refused.envelope).is_ok()
         }
     }
 }
 
-fn gives(taken: Option<Envelope>, same: &Envelope) -> bool {
+fn gives(taken: Option<Letter>, same: &Envelope) -> bool {
     match taken {
-        Some(envelope) => envelope == *same,
+        Some(letter) => *letter.envelope() == *same,
         None => false,
     }
 }
 
 pub(crate) fn plain_queue(alloc: Global) -> Result<bool, Memory> {
-    let (sent, same) = (envelope(alloc)?, envelope(alloc)?);
+    let (sent, same) = (Letter::new(envelope(alloc)?), envelope(alloc)?);
     let mut broker = PlainBroker::new(alloc);
     Ok(publish_plain(&mut broker, sent, &same) && gives(broker.take(), &same) && broker.is_empty())
 }
@@ -59,7 +59,7 @@ fn publish<R: Wait>(
     rt: &R,
     broker: &Broker,
     pass: &mut BrokerPass,
-    sent: Envelope,
+    sent: Letter,
     same: &Envelope,
 ) -> bool
     requires { pass.old.of ≡ broker.now }
@@ -68,7 +68,7 @@ fn publish<R: Wait>(
     match broker.publish(rt, pass, sent) {
         Ok(()) => true,
         Err(refused) => {
-            refused.envelope == *same
+            *refused.envelope.envelope() == *same
                 && broker.take(rt, pass).is_none()
                 && broker.publish(rt, pass, refused.envelope).is_ok()
         }
@@ -81,7 +81,7 @@ fn passes<R: Wait>(
     broker: &Broker,
     pass: &mut BrokerPass,
     other: &mut BrokerPass,
-    sent: Envelope,
+    sent: Letter,
     same: &Envelope,
 ) -> bool
     requires pass { pass.old.of ≡ broker.now }
@@ -91,7 +91,7 @@ fn passes<R: Wait>(
 }
 
 pub(crate) fn queue<R: Wait>(rt: &R, alloc: Global) -> Result<bool, Memory> {
-    let (sent, same) = (envelope(alloc)?, envelope(alloc)?);
+    let (sent, same) = (Letter::new(envelope(alloc)?), envelope(alloc)?);
     let (broker, mut pass) = Broker::new(alloc)?;
     match broker.split(rt, &mut pass) {
         Ok(other) => {
@@ -242,7 +242,7 @@ fn completes(alloc: Global, backend: &PlainBackend, core: &mut Core) -> Result<b
 }
 
 /// The envelope of the third member of a chord.
-fn last_member(alloc: Global, plan: &Plan) -> Result<Option<Envelope>, Memory> {
+fn last_member(alloc: Global, plan: &Plan) -> Result<Option<Letter>, Memory> {
     let mut envelopes = first_envelopes(alloc, plan)?;
     Ok(envelopes.pop())
 }

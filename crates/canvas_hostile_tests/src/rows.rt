@@ -1,6 +1,6 @@
 //! Canvases with the states that their tasks come to.
 
-use canvas_message::{Envelope, encode, first_messages};
+use canvas_message::{Letter, first_messages};
 use canvas_rewrite::Plan;
 use canvas_samples::sample::{Sample, sample_of_text};
 use canvas_samples::worked;
@@ -25,10 +25,10 @@ pub(crate) fn are_partial(rows: &[Option<Outcome>], states: &[Option<Outcome>]) 
 }
 
 /// The envelopes of the messages that a plan begins with.
-pub(crate) fn first_envelopes(alloc: Global, plan: &Plan) -> Result<Vec<Envelope>, Memory> {
+pub(crate) fn first_envelopes(alloc: Global, plan: &Plan) -> Result<Vec<Letter>, Memory> {
     let mut envelopes = Vec::new(alloc);
     for message in first_messages(alloc, plan)? {
-        envelopes.push(encode(alloc, &message)?)?;
+        envelopes.push(Letter::seal(alloc, message)?)?;
     }
     Ok(envelopes)
 }

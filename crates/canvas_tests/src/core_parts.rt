@@ -5,7 +5,7 @@ ghost use Rattle.canvas_worker.specs.Asks.{FoundInRange};
 
 use crate::cores::{CHORD, ZERO_DIVISION, acknowledges, answers, group, holds, start, task};
 use canvas_backend::{PlainBackend, Stored};
-use canvas_message::Envelope;
+use canvas_message::{Envelope, Letter};
 use canvas_samples::frozen_texts::bytes_of;
 use canvas_task::TaskNo;
 use canvas_worker::{Ask, Core, Reply};
@@ -71,7 +71,8 @@ fn ends_so(alloc: Global, second: Stored, fifth: Stored, has_part: bool) -> bool
     ) {
         (Some((backend, _desk)), Ok(envelope), Ok(same)) => {
             let mut core = Core::new(alloc);
-            answers(alloc, &backend, &mut core, Reply::Taken(Some(envelope)))
+            let taken = Reply::Taken(Some(Letter::new(envelope)));
+            answers(alloc, &backend, &mut core, taken)
                 && holds(&core, &same)
                 && stores(alloc, &backend, &mut core, task(4), Stored::First)
                 && stores(alloc, &backend, &mut core, task(2), second)

@@ -7,7 +7,7 @@ ghost use Rattle.canvas_worker.specs.Asks.{FoundInRange};
 use crate::envelopes::PLAIN;
 use canvas_backend::{PlainBackend, Stored};
 use canvas_broker::PlainBroker;
-use canvas_message::{Envelope, encode, first_messages};
+use canvas_message::{Envelope, Letter, first_messages};
 use canvas_rewrite::Plan;
 use canvas_samples::frozen_texts::bytes_of;
 use canvas_samples::sample::plan_of;
@@ -53,7 +53,7 @@ fn small(outcome: Option<Outcome>) -> Option<Outcome>
     }
 }
 
-fn publish(queue: &mut PlainBroker, envelope: Envelope) -> Reply
+fn publish(queue: &mut PlainBroker, envelope: Letter) -> Reply
     ensures { FoundInRange result }
 {
     match queue.publish(envelope) {
@@ -134,7 +134,7 @@ fn queue_of(alloc: Global, plan: &Plan) -> Option<PlainBroker> {
     let messages = first_messages(alloc, plan).ok()?;
     let mut queue = PlainBroker::new(alloc);
     for message in messages {
-        let envelope = encode(alloc, &message).ok()?;
+        let envelope = Letter::seal(alloc, message).ok()?;
         if queue.publish(envelope).is_err() {
             return None;
         }
@@ -337,7 +337,7 @@ pub(crate) fn answers(alloc: Global, backend: &PlainBackend, core: &mut Core, re
 /// Whether a core holds just this envelope.
 pub(crate) fn holds(core: &Core, envelope: &Envelope) -> bool {
     match core.held() {
-        Some(held) => *held == *envelope,
+        Some(held) => *held.envelope() == *envelope,
         None => false,
     }
 }
@@ -366,7 +366,8 @@ fn is_dropped(alloc: Global, backend: &PlainBackend, core: &mut Core, envelope: 
     let before = core.dropped();
     match envelope.copy() {
         Ok(same) => {
-            answers(alloc, backend, core, Reply::Taken(Some(envelope)))
+            let taken = Reply::Taken(Some(Letter::new(envelope)));
+            answers(alloc, backend, core, taken)
                 && core.dropped() == before.saturating_add(1)
                 && acknowledges(alloc, backend, core, &same, None)
                 && core.dropped() == before.saturating_add(1)
@@ -387,7 +388,8 @@ fn drops(alloc: Global, backend: &PlainBackend, core: &mut Core, row: &[&str; 4]
 fn takes(alloc: Global, backend: &PlainBackend, core: &mut Core) -> bool {
     match member(alloc, "2", "1", "null", "3") {
         Ok(envelope) => {
-            answers(alloc, backend, core, Reply::Taken(Some(envelope)))
+            let taken = Reply::Taken(Some(Letter::new(envelope)));
+            answers(alloc, backend, core, taken)
                 && core.next() == Ask::Store(task(2), ZERO_DIVISION)
                 && core.is_inside()
         }
@@ -453,11 +455,11 @@ fn headers_without_a_name(rt: HostRuntime) {
 // ---- what ends a script
 
 /// A plan's backend, and the first envelope of its queue with a copy.
-fn first_taken(alloc: Global, text: &str) -> Option<(PlainBackend, Envelope, Envelope)> {
+fn first_taken(alloc: Global, text: &str) -> Option<(PlainBackend, Letter, Envelope)> {
     let (backend, desk) = start(alloc, text)?;
     let mut queue = desk.queue;
     let envelope = queue.take()?;
-    let same = envelope.copy().ok()?;
+    let same = envelope.envelope().copy().ok()?;
     Some((backend, envelope, same))
 }
 

@@ -5,6 +5,7 @@ use canvas_rewrite::{Carried, FrozenLine, FrozenTask, Place};
 use canvas_task::{Arg, GroupNo, ListOf, MapOf, TaskNo, TextOf};
 use std::alloc::{AllocError, Global};
 use std::collections::BTreeMap;
+use std::sync::Arc;
 use std::test::Fail;
 
 fn numbers(alloc: Global, numbers: &[i64]) -> Result<ListOf<Arg>, AllocError> {
@@ -132,7 +133,7 @@ fn member(alloc: Global) -> Result<Draft, AllocError> {
         errbacks: only(alloc, log)?,
         ..sum
     };
-    let body = Box::new(alloc, line(alloc, sum)?)?;
+    let body = Arc::new(alloc, line(alloc, sum)?)?;
     let quotient = call(alloc, TaskNo::new(2).unwrap(), "tasks.div", &[1, 0])?;
     Ok(Draft {
         place: Some(Place {

@@ -17,7 +17,7 @@ use crate::known::message_known;
 use crate::phase::{Phase, acknowledged, rested, returned};
 use crate::stages::Owned;
 use crate::{Ask, Book, Reply};
-use canvas_message::{Envelope, Message, MessageFault, decode};
+use canvas_message::{Letter, Message, MessageFault};
 use canvas_runs::When;
 use canvas_task::{Memory, TaskNo, Tasks};
 use std::alloc::Global;
@@ -33,7 +33,7 @@ pub struct Core {
     dropped: u64,
     // The envelope of the open script once its message's outcome is stored, and the task of that
     // message, None where it was dropped.
-    kept: Option<Envelope>,
+    kept: Option<Letter>,
     task: Option<TaskNo>,
 }
 
@@ -58,11 +58,12 @@ impl Model for Core {
 }
 
 /// The message of an envelope, unless it is one to drop.
-fn open<B: Book>(alloc: Global, book: &B, envelope: &Envelope) -> Result<Option<Message>, Memory>
-    ensures value { IfOk result (λ m. m ≡ opened (B.book book.now) envelope.now) }
-    ensures message { IfOk result (λ m. IfSome m (λ c. said envelope.now ≡ c)) }
+fn open<B: Book>(alloc: Global, book: &B, letter: &mut Letter) -> Result<Option<Message>, Memory>
+    ensures value { IfOk result (λ m. m ≡ opened (B.book book.now) letter.old) }
+    ensures message { IfOk result (λ m. IfSome m (λ c. said letter.old ≡ c)) }
+    ensures letter { letter.new ≡ letter.old }
 {
-    match decode(alloc, envelope) {
+    match letter.open(alloc) {
         Ok(message) => {
             if message_known(book, &message) {
                 Ok(Some(message))
@@ -112,7 +113,7 @@ impl Core {
     }
 
     /// Hands out the envelope that is to be published, once.
-    pub fn envelope(&mut self) -> Option<Envelope>
+    pub fn envelope(&mut self) -> Option<Letter>
         ensures value { result ≡ held_out self.old }
         ensures core { self.new ≡ handed self.old }
     {
@@ -136,7 +137,7 @@ impl Core {
     }
 
     /// The envelope of the open script, from its take until its acknowledgement is answered.
-    pub fn held(&self) -> Option<&Envelope>
+    pub fn held(&self) -> Option<&Letter>
         ensures { option_map (λ e. e.now) result ≡ held self.now }
     {
         match &self.phase {
@@ -218,7 +219,7 @@ impl Core {
     }
 
     /// The phase behind the first store, with the envelope that is kept until it is acknowledged.
-    fn keep(&mut self, answered: (Phase, Envelope))
+    fn keep(&mut self, answered: (Phase, Letter))
         ensures value { self.new
             ≡ record {
               left = left_of answered.0;
@@ -282,29 +283,29 @@ impl Core {
         alloc: Global,
         book: &B,
         tasks: &T,
-        envelope: Envelope,
+        mut letter: Letter,
     ) -> Result<(), Memory>
         ensures ok { OnOk result (self.new
             ≡ after_reply (T.behaviour tasks.now) (B.book book.now)
-            (waiting self.old.dropped self.old.kept self.old.task) (taken (Some envelope))) }
+            (waiting self.old.dropped self.old.kept self.old.task) (taken (Some letter))) }
         ensures err { OnErr result (self.new ≡ self.old) }
     {
-        match open(alloc, book, &envelope)? {
+        match open(alloc, book, &mut letter)? {
             Some(message) => {
                 let task = message.task;
-                let owned = Owned::of(alloc, tasks, envelope, message)?;
+                let owned = Owned::of(alloc, tasks, letter, message)?;
                 self.task = Some(task);
                 self.set(Phase::Owning(owned));
                 Ok(())
             }
             None => {
-                self.drop_one(envelope);
+                self.drop_one(letter);
                 Ok(())
             }
         }
     }
 
-    fn drop_one(&mut self, envelope: Envelope)
+    fn drop_one(&mut self, envelope: Letter)
         ensures { self.new
             ≡ record {
               left = acking;

@@ -23,7 +23,7 @@ use crate::sealed::Sealed;
 use crate::sealing::script_of;
 use crate::stages::{Owned, Publishing, Reading, Storing};
 use canvas_backend::Stored;
-use canvas_message::{Envelope, Message, PartCall, body_after};
+use canvas_message::{Letter, Message, PartCall, body_after};
 use canvas_rewrite::Carried;
 use canvas_task::{Memory, Outcome, TaskNo, Tasks};
 use std::alloc::Global;
@@ -135,7 +135,7 @@ impl Owned {
     pub(crate) fn of<T: Tasks>(
         alloc: Global,
         tasks: &T,
-        envelope: Envelope,
+        envelope: Letter,
         message: Message,
     ) -> Result<Owned, Memory>
         requires { said envelope ≡ message }
@@ -155,7 +155,7 @@ impl Owned {
     }
 
     /// The envelope is given back, which is kept until it is acknowledged.
-    pub(crate) fn answered(self, reply: &Reply) -> (Phase, Envelope)
+    pub(crate) fn answered(self, reply: &Reply) -> (Phase, Letter)
         ensures phase { IsAt result.0 (answered (enveloped_by no_tasks no_book)
             (owning (record { envelope = self.envelope; outcome = self.outcome }))
             (replied reply.now)) }

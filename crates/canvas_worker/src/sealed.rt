@@ -6,20 +6,20 @@ ghost use Rattle.canvas_message.specs.codes.ContentCode.{content_code};
 ghost use Rattle.canvas_runs.specs.Worker.{read_envelope};
 ghost use Rattle.canvas_worker.specs.Enveloped.{said, envelope_of};
 
-use canvas_message::{Envelope, Message, encode};
+use canvas_message::{Letter, Message};
 use canvas_task::Memory;
 use std::alloc::Global;
 
 /// An envelope that a message can be read from.
 #[derive(Drop)]
 pub(crate) struct Sealed {
-    pub envelope: Envelope,
+    pub envelope: Letter,
     ghost back: { read_envelope envelope ≡ Ok (said envelope) } by { Prim.hlevel (codes, content_code) },
 }
 
-pub(crate) fn seal(alloc: Global, message: &Message) -> Result<Sealed, Memory>
-    ensures { IfOk result (λ s. s.envelope ≡ envelope_of message.now) }
+pub(crate) fn seal(alloc: Global, message: Message) -> Result<Sealed, Memory>
+    ensures { IfOk result (λ s. s.envelope ≡ envelope_of message) }
 {
-    let envelope = encode(alloc, message)?;
+    let envelope = Letter::seal(alloc, message)?;
     Ok(Sealed { envelope })
 }

@@ -14,14 +14,14 @@ use canvas_task::Memory;
 use std::alloc::Global;
 use std::collections::VecDeque;
 
-/// The envelopes of messages, each of which is dropped once it is written.
+/// The envelopes of messages.
 fn seal_all(alloc: Global, messages: Vec<Message>) -> Result<VecDeque<Sealed>, Memory>
     ensures { IfOk result
         (λ all. map (λ s. s.envelope) all.items ≡ map envelope_of messages.items) }
 {
     let mut all = VecDeque::new(alloc);
     for message in messages {
-        all.push_back(seal(alloc, &message)?)?;
+        all.push_back(seal(alloc, message)?)?;
     }
     Ok(all)
 }

@@ -4,7 +4,7 @@ ghost use Rattle.std.specs.Prelude.{◌≡◌, [], ◌∷◌, Some, MatchOption}
 ghost use Rattle.canvas_worker.specs.steps.Held.{held_in};
 
 use canvas_broker::Batch;
-use canvas_message::Envelope;
+use canvas_message::Letter;
 
 /// A worker takes one by one until it is given its first envelope, so that no worker holds back
 /// what another could begin with. From then on it takes batches, and one alone after a batch of
@@ -23,7 +23,7 @@ pub(crate) enum Source {
 
 impl Source {
     /// The next of the batch that is held.
-    pub(crate) fn next(&mut self) -> Option<Envelope>
+    pub(crate) fn next(&mut self) -> Option<Letter>
         ensures { MatchOption result ((held_in self.old ≡ []) × (held_in self.new ≡ []))
             (λ e. held_in self.old ≡ e ∷ held_in self.new) }
     {

@@ -16,7 +16,7 @@ use crate::source::Source;
 use crate::{Ask, Cause, Core, Gate, InFlight, Record, Reply, Stop};
 use canvas_backend::{Backend, BackendSeat, Stored};
 use canvas_broker::{Broker, BrokerPass};
-use canvas_message::Envelope;
+use canvas_message::Letter;
 use canvas_runs::When;
 use canvas_task::{GroupNo, Memory, Outcome, TaskNo, Tasks};
 use std::alloc::Global;
@@ -193,7 +193,7 @@ impl<'a, R: Wait, G: Gate> Working<'a, R, G> {
     }
 
     /// Gives an envelope to the core.
-    fn gives<T: Tasks>(&mut self, tasks: &T, envelope: Envelope) -> Result<(), End>
+    fn gives<T: Tasks>(&mut self, tasks: &T, envelope: Letter) -> Result<(), End>
         requires { shown self.old.core.task (asked self.old.core.left) ≡ ask.Take }
         ensures { MatchResult result (λ _. self.new
             ≡ one_taken (with_answer (T.behaviour tasks.now) self.old (taken (Some envelope))))
@@ -376,7 +376,7 @@ impl<'a, R: Wait, G: Gate> Working<'a, R, G> {
     }
 
     /// A copy of the envelope of the open script.
-    fn copied(&self) -> Result<Envelope, Memory>
+    fn copied(&self) -> Result<Letter, Memory>
         requires { IsSome (held self.now.core) }
         ensures { IfOk result (λ e. held self.now.core ≡ Some e) }
     {

@@ -3,14 +3,15 @@ use Rattle.canvas_worker.proofs.core_run.open.Goals as goal
 
 pub returns-then-message_known-clause-value : goal.returns-then-message_known-clause-value
 returns-then-message_known-clause-value g c =
-    opens_known (g.B.Book.book c.args.book.now) c.args.envelope.now c.in-Ok.message c.message_known.result c.in-Ok.ensures.ok c.message_known.ensures c.if-message_known.true
+    opens_known (g.B.Book.book c.args.book.now) c.args.letter.now c.in-Ok.message c.message_known.result c.in-Ok.ensures.ok c.message_known.ensures c.if-message_known.true
 
 pub returns-else-message_known-clause-value : goal.returns-else-message_known-clause-value
 returns-else-message_known-clause-value g c =
-    opens_unknown (g.B.Book.book c.args.book.now) c.args.envelope.now c.in-Ok.message c.message_known.result c.in-Ok.ensures.ok c.message_known.ensures c.if-message_known.false
+    opens_unknown (g.B.Book.book c.args.book.now) c.args.letter.now c.in-Ok.message c.message_known.result c.in-Ok.ensures.ok c.message_known.ensures c.if-message_known.false
 
 pub returns-in_default : goal.returns-in_default
 returns-in_default g c = record {
-  value = opens_refused (g.B.Book.book c.args.book.now) c.args.envelope.now c.in-Err.fault (c.in-Err.ensures.err c.in_default.not-Memory);
+  value = opens_refused (g.B.Book.book c.args.book.now) c.args.letter.now c.in-Err.fault (c.in-Err.ensures.err c.in_default.not-Memory);
   message = tt;
+  letter = c.open.ensures.letter;
 }

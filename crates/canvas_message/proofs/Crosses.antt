@@ -1,0 +1,32 @@
+-- Letters may cross from one thread to another. The frozen tasks in them hold each other, so the search takes what was found of these types together.
+use Rattle.std.proofs.Crossing.{crosses}
+use denote.Param.Send.{IsSend, sendable}
+use Rattle.canvas_rewrite.proofs.frozen.Carried.TheLaws.TheKnot.{both_send-FrozenTask, both_send-FrozenLine, both_send-Place}
+use Rattle.canvas_rewrite.specs.contracts.frozen.FrozenLine as FrozenLine
+use Rattle.canvas_rewrite.specs.contracts.frozen.FrozenTask as FrozenTask
+use Rattle.canvas_rewrite.specs.contracts.frozen.Place as Place
+use Rattle.canvas_task.proofs.arg.Arg.TheSendSync.{the_send as arg_send, the_sync as arg_sync}
+use Rattle.canvas_task.proofs.list_of.ListOf.TheSendSync.{the_send as list_send, the_sync as list_sync}
+use Rattle.canvas_task.proofs.map_of.MapOf.TheSendSync.{the_send as map_send, the_sync as map_sync}
+use Rattle.canvas_task.proofs.number.GroupNo.TheSendSync.{the_send as group_send, the_sync as group_sync}
+use Rattle.canvas_task.proofs.number.TaskNo.TheSendSync.{the_send as task_send, the_sync as task_sync}
+use Rattle.canvas_task.proofs.text_of.TextOf.TheSendSync.{the_send as text_send, the_sync as text_sync}
+use Rattle.canvas_message.specs.contracts.letter.Letter as Letter
+use Rattle.canvas_message.specs.contracts.message.Message as Message
+
+ruleset plain = (arg_send, arg_sync, list_send, list_sync, map_send, map_sync, group_send, group_sync, task_send, task_sync, text_send, text_sync, sendable, crosses)
+
+task : IsSend FrozenTask.the_row
+task = search (both_send-FrozenTask, plain) depth 20
+
+line : IsSend FrozenLine.the_row
+line = search (both_send-FrozenLine, plain) depth 20
+
+place : IsSend Place.the_row
+place = search (both_send-Place, plain) depth 20
+
+message : IsSend Message.the_row
+message = search (task, line, place, plain) depth 20
+
+pub letter : IsSend Letter.the_row
+letter = search (message, plain) depth 20
