@@ -1,10 +1,12 @@
 //! What a canvas means, as plain data: its tree, its normal line, and the states and the report
-//! that evaluating it gives. There is no running code here: the function has an empty body, and its
-//! contract is a law.
+//! that evaluating it gives. There is no running code here: each function has an empty body, and
+//! its contract is a law.
 #![tactic(auto)]
 
 ghost use Rattle.std.specs.Prelude.{◌≡◌};
 ghost use Rattle.canvas_task.specs.Apply.{Behaviour};
+ghost use Rattle.canvas_semantics.specs.Evaluation.{meaning};
+ghost use Rattle.canvas_semantics.specs.Line.{Line, number_line, tree_of};
 ghost use Rattle.canvas_semantics.specs.NormalLine.{normal};
 ghost use Rattle.canvas_semantics.specs.Report.{report, report_of};
 ghost use Rattle.canvas_semantics.specs.SameMeaning.{IsSame};
@@ -22,4 +24,18 @@ pub fn law_of_normal_lines()
     ensures reported { (behaviour : Behaviour) (c : Tree) → IsFull c
         → report_of (numbered (normal c)) (rows_from 1 (states behaviour (numbered (normal c))))
         ≡ report behaviour c }
+{}
+
+/// The states of a plan are those of its canvas, whatever the tasks do. Canvases that mean the same
+/// have the same states, number by number. So where a line is the normal line of a canvas in which
+/// no chain is empty, evaluating its tree, with its numbers in file order, gives the states of the
+/// canvas. These are all rows of the canvas's meaning: one for each task, in order.
+pub fn law_of_plan_states()
+    ensures same { (behaviour : Behaviour) (s t : Tree) → IsSame s t
+        → states behaviour (numbered s) ≡ states behaviour (numbered t) }
+    ensures of_canvas { (behaviour : Behaviour) (c : Tree) → IsFull c
+        → (l : Line) → tree_of l ≡ normal c
+        → states behaviour (tree_of (number_line 1 1 l)) ≡ states behaviour (numbered c) }
+    ensures all_rows { (behaviour : Behaviour) (c : Tree)
+        → rows_from 1 (states behaviour (numbered c)) ≡ meaning behaviour c }
 {}
