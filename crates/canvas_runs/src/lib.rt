@@ -18,7 +18,8 @@ ghost use Rattle.canvas_runs.specs.CallerLaws.{OneList, OneTable, IsARun, ReadsH
 ghost use Rattle.canvas_runs.specs.Causes.{completions};
 ghost use Rattle.canvas_runs.specs.Rows.{RowsOfWell, RowsOfAny, TalliesCount, ARunStands};
 ghost use Rattle.canvas_runs.specs.Crew.{AreMates, AreRan};
-ghost use Rattle.canvas_runs.specs.Law.{FirstPart, SecondPart};
+ghost use Rattle.canvas_runs.specs.EventLaws.{EventStates};
+ghost use Rattle.canvas_runs.specs.Law.{FirstPart, SecondPart, its_state};
 ghost use Rattle.canvas_runs.specs.Run.{Run, Closed};
 ghost use Rattle.canvas_runs.specs.TurnLaws.{TurnsAreRuns, TurnRowsMay, TurnRowsAre, TurnsEmpty, TurnStatesMay, TurnStatesAre, WholeTurns, UntilTurns, NextAnswerable, HeldInRange};
 ghost use Rattle.canvas_runs.specs.Going.{FewSteps, StopsSoon, StepsFit, RoundsGo};
@@ -48,6 +49,17 @@ pub fn law_of_runs()
     ensures of_canvas { (behaviour : Behaviour) (c : Tree) → IsFull c → (l : Line) → IsPlan l
         → tree_of l ≡ numbered (normal c) → (r : Run behaviour l) → Closed behaviour l r → (t : ℕ)
         → (results (roster_of l) r.table).outcomes t ≡ state_of t (meaning behaviour c) }
+{}
+
+/// The law of events. Whatever the tasks do, evaluating a plan with events gives each task the
+/// state that evaluating its tree gives: an outcome exactly where some event stores it, which no
+/// two events do. Either the task is run, and that is what its call answers, or it fails without
+/// being run. These are the states of the canvas that the plan was made from.
+pub fn law_of_events()
+    ensures states { (behaviour : Behaviour) (l : Line) → IsPlan l → EventStates behaviour l }
+    ensures of_canvas { (behaviour : Behaviour) (c : Tree) → IsFull c
+        → (l : Line) → tree_of l ≡ numbered (normal c)
+        → (t : ℕ) → its_state behaviour l t ≡ state_of t (meaning behaviour c) }
 {}
 
 /// There is something of which the law speaks: a chord of two sums and the sum of both has a closed
