@@ -13,5 +13,6 @@ pub mod ReadRows
 pub mod WholeRuns
 pub mod Slots
 pub mod ThreadRuns
+pub mod Headlines
 pub mod SeatRows
 pub mod Crosses

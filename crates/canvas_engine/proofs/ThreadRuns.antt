@@ -40,7 +40,8 @@ use Rattle.canvas_worker.specs.Finished.{Finished}
 use Rattle.canvas_worker.specs.declared.record.Record.{Record}
 use Rattle.canvas_worker.specs.declared.cause.Cause.{Cause}
 use Rattle.canvas_worker.specs.declared.cause.Cause.TheVariants.{Memory, Stopped}
-use Rattle.canvas_engine.specs.Correct.{AreWorkers, IsRun, IsThreadFault, AreTallies}
+use Rattle.canvas_engine.specs.Correct.{AreWorkers, IsThreadFault}
+use Rattle.canvas_engine.specs.Evidence.{IsRun, AreTallies}
 use Rattle.canvas_engine.specs.steps.Crews.{Crew, IsStart, IsWellGathered, tallies_from}
 use Rattle.canvas_engine.specs.steps.Slots.{AllRan, IsWell, TakesIn, nothing_counted, tally_in}
 use Rattle.canvas_engine.specs.declared.running.Start.{Start}
@@ -155,7 +156,6 @@ module _ (behaviour : Behaviour) (l : Line) (n : ℕ) (b : SegId Global) (d : De
         record {
           objects = (of, seat_of, plan);
           ran = whole;
-          over = (f.done fine, done);
           workers = c.count;
           of_broker = (passes behaviour l r.pass after this).1;
           of_backend = seats behaviour l r.pass after this;

@@ -1,4 +1,6 @@
 pub mod Correct
+pub mod Evidence
+pub mod Headline
 pub mod CommaList
 pub mod EntryList
 pub mod Texts

@@ -11,7 +11,8 @@ ghost use Rattle.canvas_backend.specs.Backend.{read, found};
 ghost use Rattle.canvas_backend.specs.Seats.{Stands};
 ghost use Rattle.canvas_runs.specs.Following.{Serves};
 ghost use Rattle.canvas_runs.specs.Rows.{reads_from};
-ghost use Rattle.canvas_engine.specs.Correct.{AreWorkers, IsRun, IsThreadFault};
+ghost use Rattle.canvas_engine.specs.Correct.{AreWorkers, IsThreadFault};
+ghost use Rattle.canvas_engine.specs.Evidence.{IsRun};
 ghost use Rattle.canvas_engine.specs.steps.Crews.{AreGathered};
 
 use crate::in_rounds::InRounds;

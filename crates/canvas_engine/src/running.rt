@@ -3,7 +3,9 @@ ghost use Rattle.std.specs.Prelude.{◌≡◌, IfOk, IfErr};
 ghost use Rattle.canvas_semantics.specs.Line.{tree_of};
 ghost use Rattle.canvas_rewrite.specs.Planned.{IsPlan};
 ghost use Rattle.canvas_semantics.specs.States.{states};
-ghost use Rattle.canvas_engine.specs.Correct.{AreWorkers, IsRun, IsThreadFault};
+ghost use Rattle.canvas_engine.specs.Correct.{AreWorkers, IsThreadFault};
+ghost use Rattle.canvas_engine.specs.Evidence.{IsRun};
+ghost use Rattle.canvas_engine.specs.Headline.{Headline};
 ghost use Rattle.canvas_engine.specs.steps.Crews.{AreGathered, IsStart};
 
 use crate::crew::{are_done, join_all, judge, split_all};
@@ -174,6 +176,10 @@ where
     R: Threads + Wait + RandomSource + AllocGlobal + Sync,
     T: Tasks + Sync,
     G: Gate + Sync,
+    // the promise
+    ensures headline { IfOk result
+        (λ r. Headline (T.behaviour tasks.now) plan.now workers r.0.rows r.1) }
+    // what it follows from, and more of each worker
     ensures ok { IfOk result
         (λ r. AreWorkers workers × IsRun (T.behaviour tasks.now) plan.now workers r.0.rows r.1) }
     ensures err { IfErr result

@@ -1,0 +1,74 @@
+-- What a run on threads shows besides its promise (`Headline`), which follows from it.
+--     AreTallies queue table k tallies    what workers counted, the first of them being worker k
+--     IsRun l n rows records              what the callers of the queue and of the table did, by
+--                                         which these are the rows and the records of a run
+use Rattle.std.specs.Prelude.{◌≡◌, ◌≤◌, ℕ, suc, List, [], ◌∷◌, ◌++◌, length, map}
+use Rattle.canvas_task.specs.Apply.{Behaviour}
+use Rattle.canvas_semantics.specs.Evaluation.{State}
+use Rattle.canvas_semantics.specs.Line.{Line, tree_of}
+use Rattle.canvas_semantics.specs.States.{states}
+use Rattle.canvas_message.specs.declared.envelope.Envelope.{Envelope}
+use Rattle.canvas_backend.specs.Backend.{Log}
+use Rattle.canvas_backend.specs.Roster.{roster_of}
+use Rattle.canvas_broker.specs.Broker.{QueueEntry as Entries}
+use Rattle.canvas_runs.specs.Accounts.{QueueAccounts, TableAccounts}
+use Rattle.canvas_runs.specs.CallerLaws.{broker_calls_seen}
+use Rattle.canvas_runs.specs.Calls.{backend_calls}
+use Rattle.canvas_runs.specs.Causes.{ByCause, ByItsCause, completions}
+use Rattle.canvas_runs.specs.Law.{publishes}
+use Rattle.canvas_runs.specs.Rows.{RanWell}
+use Rattle.canvas_runs.specs.Run.{Run, Closed, published_all}
+use Rattle.canvas_runs.specs.Tally.{Tally as Counts, CountsOf}
+use Rattle.canvas_runs.specs.Worker.{sealed}
+use Rattle.canvas_engine.specs.declared.records.Records.{Records}
+use Rattle.canvas_engine.specs.declared.records.Tally.{Tally}
+
+abbrev pub counts_of : Tally → Counts
+counts_of t =
+    record {
+      taken = t.taken;
+      published = t.published;
+      first = t.first;
+      parts = t.parts;
+      dropped = t.dropped;
+    }
+
+-- of workers numbered from k on: each tally counts the entries of its worker in both lists, and
+-- nothing was dropped
+abbrev pub AreTallies : List (Entries Envelope) → Log → ℕ → List Tally → Type 0
+AreTallies queue table k [] = Unit {0}
+AreTallies queue table k (t ∷ ts) =
+    (t.number ≡ k) × CountsOf queue table k (counts_of t) × AreTallies queue table (suc k) ts
+
+pub record IsRun (behaviour : Behaviour) (l : Line) (n : ℕ) (rows : List State) (r : Records) :
+    Type 0 where
+  -- the pass and the seat are of this queue and this table, which is one of the plan
+  pub objects : (r.pass.of ≡ r.broker) × (r.seat.of ≡ r.backend.id) × (r.backend.plan ≡ roster_of l)
+  -- Each of the n workers, and worker 0, has followed a core run. Worker 0 published all first
+  -- messages before, and read each task at the end: these are the rows.
+  pub ran : RanWell behaviour l r.pass r.seat rows
+  pub workers : length ran.to.ran.mates ≡ n
+  -- The broker has one legal history, and the backend one. Of each worker they have just its calls,
+  -- each once and in its order; worker i is the i-th that is named in each.
+  pub of_broker : QueueAccounts behaviour (roster_of l) ran.to.ran.mates
+      (published_all (map sealed ran.to.ran.opening)) ran.to.ran.works.made
+      (broker_calls_seen r.pass)
+  pub of_backend : TableAccounts behaviour (roster_of l) ran.to.ran.mates
+      (backend_calls ran.to.ran.works.run ++ ran.to.ran.closing) r.seat.seen
+  -- they are those of a closed run of the plan
+  pub run : Run behaviour l
+  pub queue : run.queue ≡ broker_calls_seen r.pass
+  pub table : run.table ≡ r.seat.seen
+  pub closed : Closed behaviour l run
+  -- what worker 0 counted, and each further one, in the order of their numbers
+  pub tallies : AreTallies (broker_calls_seen r.pass) r.seat.seen 0 r.workers
+  pub each_tally : length r.workers ≡ suc n
+  -- each envelope that is published reads as the message of a task, each message is published at
+  -- most once, and by the worker that brought about the event which runs its task: a body's by the
+  -- one whose part completed its header
+  pub once : (k : ℕ) → publishes l k (broker_calls_seen r.pass) ≤ 1
+  pub by_cause : ByCause behaviour l (broker_calls_seen r.pass) r.seat.seen
+  pub by_its_cause : ByItsCause behaviour l (broker_calls_seen r.pass) r.seat.seen
+  pub completed_once : (g : ℕ) → completions l g r.seat.seen ≤ 1
+  -- what evaluating the plan's tree gives
+  pub are : rows ≡ states behaviour (tree_of l)
