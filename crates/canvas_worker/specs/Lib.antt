@@ -11,6 +11,7 @@ pub mod Progress
 pub mod StepLaws
 pub mod Allowed
 pub mod Work
+pub mod Gating
 pub mod Finished
 pub mod codes
 pub mod steps

@@ -1,6 +1,7 @@
 //! The worker.
 
-ghost use Rattle.std.specs.Prelude.{◌≡◌, Some, IfSome, IsSome, IsSomeAnd};
+ghost use Rattle.std.specs.Prelude.{◌≡◌, Some, None, IfSome, IsSome, IsSomeAnd};
+ghost use Rattle.canvas_worker.specs.Gating.{Heeds, LeavesHeeding};
 ghost use Rattle.canvas_worker.specs.Work.{Ready, Pends, Ends, TellsOf, Leaves, working_begun};
 ghost use Rattle.futures.specs.Poll.{OnPending, IfReady};
 ghost use Rattle.futures.specs.Task.{Covers, Keeps};
@@ -9,6 +10,7 @@ use crate::working::{End, Working};
 use crate::{Gate, InFlight, Record, Stop};
 use canvas_backend::{Backend, BackendSeat};
 use canvas_broker::{Broker, BrokerPass};
+use canvas_runs::When;
 use canvas_task::Tasks;
 use futures::Future;
 use futures::task::{Context, Poll};
@@ -24,8 +26,11 @@ use std::sync::Wait;
 /// and the backend that they came from.
 #[derive(Drop)]
 pub struct Worker<'a, R: Wait, T: Tasks, G: Gate> {
-    working: Option<Working<'a, R, G>>,
+    working: Option<Working<'a, R>>,
+    // The latest point of the open script at which the gate let this worker go on.
+    passed: Option<When>,
     tasks: &'a T,
+    gate: &'a G,
 }
 
 impl<'a, R: Wait, T: Tasks, G: Gate> Worker<'a, R, T, G> {
@@ -45,14 +50,18 @@ impl<'a, R: Wait, T: Tasks, G: Gate> Worker<'a, R, T, G> {
     ) -> Worker<'a, R, T, G>
         ensures working { result.working
             ≡ Some (working_begun broker.now backend.now number pass seat) }
+        ensures passed { result.passed ≡ None }
         ensures tasks { result.tasks.now ≡ tasks.now }
+        ensures gate { result.gate.now ≡ gate.now }
     {
         let working = Working::new(
-            rt, alloc, number, broker, pass, backend, seat, gate, stop, flight,
+            rt, alloc, number, broker, pass, backend, seat, stop, flight,
         );
         Worker {
             working: Some(working),
+            passed: None,
             tasks,
+            gate,
         }
     }
 }
@@ -92,12 +101,21 @@ impl<R: Wait, T: Tasks, G: Gate> Future for Worker<'_, R, T, G> {
             (λ w. IfSome self.new.working (λ v. Pends (T.behaviour self.old.tasks.now) w v))) }
         ensures last { IfReady result
             (λ r. IfSome self.old.working (λ w. Ends (T.behaviour self.old.tasks.now) w r)) }
+        ensures heeds { OnPending result (IfSome self.old.working
+            (λ w. IfSome self.new.working (λ v. Heeds (G.may_answer self.old.gate.now w.number)
+            (G.may_want self.old.gate.now w.number) (T.behaviour self.old.tasks.now) w
+            self.old.passed v self.new.passed))) }
+        ensures ends_heeding { IfReady result (λ r. IfSome self.old.working
+            (λ w. LeavesHeeding (G.may_answer self.old.gate.now w.number)
+            (G.may_want self.old.gate.now w.number) (T.behaviour self.old.tasks.now) w
+            self.old.passed r)) }
+        ensures gate { OnPending result (self.new.gate.now ≡ self.old.gate.now) }
     {
-        let tasks = self.tasks;
+        let (tasks, gate) = (self.tasks, self.gate);
         let Some(working) = &mut self.working else {
             return cx.yield_now();
         };
-        match working.turn(tasks) {
+        match working.turn(tasks, gate, &mut self.passed) {
             Ok(()) => cx.yield_now(),
             Err(end) => Poll::Ready(self.leave(end)),
         }

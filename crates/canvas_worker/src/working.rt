@@ -6,6 +6,7 @@ ghost use Rattle.canvas_runs.specs.Core.{ReadsBack, taken, is_inside};
 ghost use Rattle.canvas_worker.specs.Asks.{suits, shown, replied, FoundInRange};
 ghost use Rattle.canvas_worker.specs.Books.{no_book};
 ghost use Rattle.canvas_worker.specs.Enveloped.{enveloped_by, no_tasks};
+ghost use Rattle.canvas_worker.specs.Gating.{asks_at, passed_after, Heard, Heeds, EndsHeeding};
 ghost use Rattle.canvas_worker.specs.Standing.{asked, held};
 ghost use Rattle.canvas_worker.specs.Work.{Ready, Acted, ActedLast, Pends, EndsWith, Leaves, Redelivered, working_begun, with_answer, lost, one_taken};
 ghost use Rattle.canvas_worker.specs.declared.ask.Ask.TheVariants as ask;
@@ -45,7 +46,7 @@ pub(crate) enum Said {
 
 /// What a worker has, until it ends.
 #[derive(Drop)]
-pub(crate) struct Working<'a, R: Wait, G: Gate> {
+pub(crate) struct Working<'a, R: Wait> {
     rt: &'a R,
     alloc: Global,
     number: u32,
@@ -53,7 +54,6 @@ pub(crate) struct Working<'a, R: Wait, G: Gate> {
     pass: BrokerPass,
     backend: &'a Backend,
     seat: BackendSeat,
-    gate: &'a G,
     stop: &'a Stop,
     flight: &'a InFlight,
     core: Core,
@@ -62,13 +62,11 @@ pub(crate) struct Working<'a, R: Wait, G: Gate> {
     published: u64,
     first: u64,
     parts: u64,
-    // The latest point of the open script at which the gate let this worker go on, and how many
-    // takes in a row have found nothing. No clause reads them.
-    passed: Option<When>,
+    // How many takes in a row have found nothing. No clause reads it.
     idle: u32,
 }
 
-impl<'a, R: Wait, G: Gate> Model for Working<'a, R, G> {
+impl<'a, R: Wait> Model for Working<'a, R> {
     ghost use Rattle.std.specs.Coded.{codes};
     ghost use Rattle.canvas_message.specs.codes.ContentCode.{content_code};
     ghost use Rattle.canvas_worker.specs.codes.CoreCode.{carried_code};
@@ -94,7 +92,7 @@ impl<'a, R: Wait, G: Gate> Model for Working<'a, R, G> {
     } };
 }
 
-impl<'a, R: Wait, G: Gate> Working<'a, R, G> {
+impl<'a, R: Wait> Working<'a, R> {
     pub(crate) fn new(
         rt: &'a R,
         alloc: Global,
@@ -103,10 +101,9 @@ impl<'a, R: Wait, G: Gate> Working<'a, R, G> {
         pass: BrokerPass,
         backend: &'a Backend,
         seat: BackendSeat,
-        gate: &'a G,
         stop: &'a Stop,
         flight: &'a InFlight,
-    ) -> Working<'a, R, G>
+    ) -> Working<'a, R>
         ensures { result ≡ working_begun broker.now backend.now number pass seat }
     {
         Working {
@@ -117,7 +114,6 @@ impl<'a, R: Wait, G: Gate> Working<'a, R, G> {
             pass,
             backend,
             seat,
-            gate,
             stop,
             flight,
             core: Core::new(alloc),
@@ -126,7 +122,6 @@ impl<'a, R: Wait, G: Gate> Working<'a, R, G> {
             published: 0,
             first: 0,
             parts: 0,
-            passed: None,
             idle: 0,
         }
     }
@@ -199,7 +194,6 @@ impl<'a, R: Wait, G: Gate> Working<'a, R, G> {
             ≡ one_taken (with_answer (T.behaviour tasks.now) self.old (taken (Some envelope))))
             (λ e. (self.new ≡ lost self.old) × (e.fault ≡ Some cause.Memory)) }
     {
-        self.passed = None;
         self.idle = 0;
         match self.replies(tasks, Reply::Taken(Some(envelope))) {
             Ok(()) => {
@@ -409,21 +403,26 @@ impl<'a, R: Wait, G: Gate> Working<'a, R, G> {
 
     /// What the gate says at the point to which the open script has come. The worker goes on where
     /// there is none, and from a point that it has passed: there the gate isn't asked anew.
-    fn ask_gate(&mut self) -> Said
-        ensures worker { self.new ≡ self.old }
-        ensures inside { result ≡ Again → is_inside self.old.core.left ≡ true }
+    fn ask_gate<G: Gate>(&self, gate: &G, passed: &mut Option<When>) -> Said
+        ensures said { Heard (G.may_answer gate.now self.now.number)
+            (G.may_want gate.now self.now.number) (asks_at self.now.core passed.old) result }
+        ensures passed { passed.new ≡ passed_after self.now.core passed.old result }
+        ensures inside { result ≡ Again → is_inside self.now.core.left ≡ true }
     {
         let Some((task, point)) = self.core.point() else {
+            if !self.core.is_inside() {
+                *passed = None;
+            }
             return Said::On;
         };
-        if self.passed == Some(point) {
+        if *passed == Some(point) {
             return Said::On;
         }
-        if point == When::Early && !self.gate.go(self.number, task) {
+        if point == When::Early && !gate.go(self.number, task) {
             return Said::Wait;
         }
-        self.passed = Some(point);
-        if self.gate.again(self.number, task) {
+        *passed = Some(point);
+        if gate.again(self.number, task) {
             Said::Again
         } else {
             Said::On
@@ -474,17 +473,29 @@ impl<'a, R: Wait, G: Gate> Working<'a, R, G> {
 
     /// One poll: at most one ask of the core is answered. It says where the worker has ended.
     #[tactic(auto, using(crate::proofs::Turns::ends_here))]
-    pub(crate) fn turn<T: Tasks>(&mut self, tasks: &T) -> Result<(), End>
+    pub(crate) fn turn<T: Tasks, G: Gate>(
+        &mut self,
+        tasks: &T,
+        gate: &G,
+        passed: &mut Option<When>,
+    ) -> Result<(), End>
         requires { Ready self.old }
-        ensures { MatchResult result (λ _. Pends (T.behaviour tasks.now) self.old self.new)
+        ensures turned { MatchResult result (λ _. Pends (T.behaviour tasks.now) self.old self.new)
             (λ e. EndsWith (T.behaviour tasks.now) self.old e.fault self.new) }
+        ensures heeds { MatchResult result
+            (λ _. Heeds (G.may_answer gate.now self.old.number)
+            (G.may_want gate.now self.old.number) (T.behaviour tasks.now) self.old passed.old
+            self.new passed.new)
+            (λ e. EndsHeeding (G.may_answer gate.now self.old.number)
+            (G.may_want gate.now self.old.number) (T.behaviour tasks.now) self.old passed.old
+            e.fault self.new) }
     {
         if self.stop.asked() {
             return Err(End {
                 fault: Some(Cause::Stopped),
             });
         }
-        let said = self.ask_gate();
+        let said = self.ask_gate(gate, passed);
         self.steps(tasks, said)
     }
 }

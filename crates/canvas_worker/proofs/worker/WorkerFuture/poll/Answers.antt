@@ -7,10 +7,10 @@ pub returns-in-Ok-clause-same : goal.returns-in-Ok-clause-same
 returns-in-Ok-clause-same g c =
     let w : Work = c.in-Some.working in
     let was : c.args.self.now.working ≡ Some w = search rules in
-    pending c.yield_now-in-Ok.result _ (λ r given. of_one c.args.self.now.working w (λ v. TellsOf (g.T.Tasks.behaviour c.args.self.now.tasks.now) v r) was (goes_first (g.T.Tasks.behaviour c.args.self.now.tasks.now) w c.turn.new.self c.in-Ok.ensures r given))
+    pending c.yield_now-in-Ok.result _ (λ r given. of_one c.args.self.now.working w (λ v. TellsOf (g.T.Tasks.behaviour c.args.self.now.tasks.now) v r) was (goes_first (g.T.Tasks.behaviour c.args.self.now.tasks.now) w c.turn.new.self c.in-Ok.ensures.turned r given))
 
 pub returns-in-Err-clause-value : goal.returns-in-Err-clause-value
 returns-in-Err-clause-value g c =
     let w : Work = c.in-Some.working in
     let was : c.args.self.now.working ≡ Some w = search rules in
-    of_one c.args.self.now.working w (λ v. TellsOf (g.T.Tasks.behaviour c.args.self.now.tasks.now) v c.leave.result) was (ends_give (g.T.Tasks.behaviour c.args.self.now.tasks.now) w c.leave.result (c.in-Err.ensures c.leave.result c.leave.ensures))
+    of_one c.args.self.now.working w (λ v. TellsOf (g.T.Tasks.behaviour c.args.self.now.tasks.now) v c.leave.result) was (ends_give (g.T.Tasks.behaviour c.args.self.now.tasks.now) w c.leave.result (c.in-Err.ensures.turned c.leave.result c.leave.ensures))

@@ -1,0 +1,80 @@
+-- What a worker does as its gate says. `go` is what the gate may answer to this worker of a task,
+-- and `again` whether it may want the envelope of that task's message delivered again.
+use Rattle.std.specs.Prelude.{◌≡◌, ℕ, Bool, true, false, Option, Some, None}
+use Rattle.canvas_task.specs.Apply.{Behaviour}
+use Rattle.canvas_runs.specs.Core.{is_inside}
+use Rattle.canvas_runs.specs.declared.when.When.{When}
+use Rattle.canvas_runs.specs.declared.when.When.TheVariants.{Early, Late}
+use Rattle.canvas_worker.specs.Standing.{Standing, point_at}
+use Rattle.canvas_worker.specs.Work.{Work, Acts, Acted, EndsBy, Leaves, Redelivered}
+use Rattle.canvas_worker.specs.declared.cause.Cause.{Cause}
+use Rattle.canvas_worker.specs.declared.cause.Cause.TheVariants.{Memory, Stopped}
+use Rattle.canvas_worker.specs.declared.record.Record.{Record}
+use Rattle.canvas_worker.specs.declared.working.Said.{Said}
+use Rattle.canvas_worker.specs.declared.working.Said.TheVariants.{Wait, Again, On}
+
+abbrev pub unless_passed : Option (ℕ × When) → Option When → Option (ℕ × When)
+unless_passed (Some (k, Early)) (Some Early) = None
+unless_passed (Some (k, Late)) (Some Late) = None
+unless_passed x p = x
+
+-- where the gate is asked, with the task that it is asked for: the point to which the open script
+-- has come, unless that is the latest one that the worker has passed
+abbrev pub asks_at : Standing → Option When → Option (ℕ × When)
+asks_at s p = unless_passed (point_at s) p
+
+abbrev pub passed_from : Option (ℕ × When) → Bool → Option When → Option When
+passed_from (Some x) inside p = Some x.1
+passed_from None true p = p
+passed_from None false p = None
+
+-- the latest point that the worker has passed, once it goes on from here; between scripts none
+abbrev pub passed_at : Standing → Option When → Option When
+passed_at s p = passed_from (point_at s) (is_inside s.left) p
+
+abbrev pub passed_after : Standing → Option When → Said → Option When
+passed_after s p Wait = p
+passed_after s p said = passed_at s p
+
+module _ (go : ℕ → Bool → Type 0) (again : ℕ → Type 0) where
+  -- the gate lets the worker go on from here: before a first store it has said so
+  abbrev pub Opens : Option (ℕ × When) → Type 0
+  Opens (Some (k, Early)) = go k true
+  Opens x = Unit {0}
+
+  -- it holds the worker back, which it does before a first store alone
+  abbrev pub Shuts : Option (ℕ × When) → Type 0
+  Shuts (Some (k, Early)) = go k false
+  Shuts x = ⊥
+
+  -- it wants the envelope again, which it does where it is asked alone
+  abbrev pub Wants : Option (ℕ × When) → Type 0
+  Wants (Some x) = again x.0
+  Wants None = ⊥
+
+  abbrev pub Heard : Option (ℕ × When) → Said → Type 0
+  Heard x Wait = Shuts x
+  Heard x Again = Opens x × Wants x
+  Heard x On = Opens x
+
+  module _ (behaviour : Behaviour) (w : Work) (p : Option When) where
+    -- what a poll leaves that is pending, of a worker and of the latest point that it has passed:
+    -- where the gate holds it back it is as it was
+    pub data Heeds (v : Work) (q : Option When) : Type 0 where
+      waits : Shuts (asks_at w.core p) → v ≡ w → q ≡ p → Heeds v q
+      delivers : Opens (asks_at w.core p) → Wants (asks_at w.core p) → Redelivered w v
+          → q ≡ passed_at w.core p → Heeds v q
+      goes_on : Opens (asks_at w.core p) → Acted behaviour w v → q ≡ passed_at w.core p
+          → Heeds v q
+
+    -- and what one leaves that is ready: where the gate holds the worker back it has only stopped
+    pub data LeavesHeeding (r : Record) : Type 0 where
+      stops : Leaves w (Some Stopped) r → LeavesHeeding r
+      fails_again : Opens (asks_at w.core p) → Wants (asks_at w.core p)
+          → Leaves w (Some Memory) r → LeavesHeeding r
+      ends : Opens (asks_at w.core p) → EndsBy (Acts behaviour w.desk.plan) w r
+          → LeavesHeeding r
+
+    -- the same, as a worker that has ended says it of its record
+    abbrev pub EndsHeeding : Option Cause → Work → Type 0
+    EndsHeeding fault v = (r : Record) → Leaves v fault r → LeavesHeeding r
