@@ -75,6 +75,11 @@ module _ (go : ℕ → Bool → Type 0) (again : ℕ → Type 0) where
       ends : Opens (asks_at w.core p) → EndsBy (Acts behaviour w.desk.plan) w r
           → LeavesHeeding r
 
+    -- where the gate can only hold the worker back, nothing was done
+    abbrev pub HeldBack : Work → Option When → Type 0
+    HeldBack v q =
+        (k : ℕ) → asks_at w.core p ≡ Some (k, Early) → (go k true → ⊥) → (v ≡ w) × (q ≡ p)
+
     -- the same, as a worker that has ended says it of its record
     abbrev pub EndsHeeding : Option Cause → Work → Type 0
     EndsHeeding fault v = (r : Record) → Leaves v fault r → LeavesHeeding r

@@ -3,7 +3,7 @@
 ghost use Rattle.std.specs.Prelude.{◌≡◌, ◌≢◌, ◌≤◌, ◌+◌, min, true, false, Some, None, OnOk, OnErr, IfOk, IfSome};
 ghost use Rattle.std.specs.Option.{option_map};
 ghost use Rattle.canvas_task.specs.Apply.{Behaviour};
-ghost use Rattle.canvas_worker.specs.Asks.{suits, shown, replied, StoresInRange, FoundInRange};
+ghost use Rattle.canvas_worker.specs.Asks.{suits, shown, replied, StoresInRange, FoundInRange, Grows};
 ghost use Rattle.canvas_worker.specs.Books.{no_book};
 ghost use Rattle.canvas_runs.specs.Core.{ReadsBack, taking, acking, take, taken, is_inside};
 ghost use Rattle.canvas_runs.specs.Book.{Book as AnyBook};
@@ -166,7 +166,8 @@ impl Core {
         self.dropped
     }
 
-    /// Answers what the core asks for. Where memory was refused the core has failed.
+    /// Answers what the core asks for. Where memory was refused the core has failed; only an
+    /// envelope and a member's outcome may need any.
     pub fn answer<B: Book, T: Tasks>(
         &mut self,
         alloc: Global,
@@ -179,6 +180,7 @@ impl Core {
         ensures ok { OnOk result (self.new
             ≡ after_reply (T.behaviour tasks.now) (B.book book.now) self.old (replied reply)) }
         ensures err { OnErr result (self.new ≡ failing self.old) }
+        ensures memory { OnErr result (Grows reply) }
     {
         match self.phase {
             Phase::Taking => {
@@ -196,6 +198,7 @@ impl Core {
         ensures ok { OnOk result ((behaviour : Behaviour) (book : AnyBook)
             → self.new ≡ after_reply behaviour book self.old (replied reply.now)) }
         ensures err { OnErr result (self.new ≡ failing self.old) }
+        ensures memory { OnErr result (Grows reply.now) }
     {
         match mem::replace(&mut self.phase, Phase::Failed) {
             Phase::Taking => unreachable!(),
@@ -264,6 +267,7 @@ impl Core {
             ≡ after_reply (T.behaviour tasks.now) (B.book book.now)
             (waiting self.old.dropped self.old.kept self.old.task) (replied reply)) }
         ensures err { OnErr result (self.new ≡ self.old) }
+        ensures memory { OnErr result (Grows reply) }
     {
         match reply {
             Reply::Taken(Some(envelope)) => self.take_up(alloc, book, tasks, envelope),

@@ -1,6 +1,6 @@
 //! Where a core stands in the script of a message.
 
-ghost use Rattle.std.specs.Prelude.{◌≡◌, ◌<◌, ◌++◌, ◌∷◌, [], Ok, IfOk, IfSome, All, true, cond, length, map, unwrap_or};
+ghost use Rattle.std.specs.Prelude.{◌≡◌, ◌<◌, ◌++◌, ◌∷◌, [], Ok, IfOk, OnErr, IfSome, All, true, cond, length, map, unwrap_or};
 ghost use Rattle.std.specs.Option.{option_map};
 ghost use Rattle.canvas_task.specs.Apply.{IsInRange};
 ghost use Rattle.canvas_message.specs.Carrying.{carried_ok};
@@ -8,7 +8,7 @@ ghost use Rattle.canvas_message.specs.Effects.{after, outcome_of, script as whol
 ghost use Rattle.canvas_message.specs.steps.Elements.{carried_view};
 ghost use Rattle.canvas_message.specs.Job.{store, publish, hand_in};
 ghost use Rattle.canvas_message.specs.Todos.{part_view};
-ghost use Rattle.canvas_worker.specs.Asks.{replied, FoundInRange};
+ghost use Rattle.canvas_worker.specs.Asks.{replied, FoundInRange, Grows};
 ghost use Rattle.canvas_worker.specs.Books.{no_book};
 ghost use Rattle.canvas_runs.specs.Core.{is_due, settled, handed_in, all_read, answered, owning, doing, resting, acking, reading as state_reading};
 ghost use Rattle.canvas_worker.specs.Phases.{IsAt};
@@ -276,9 +276,10 @@ impl Reading {
 
     pub(crate) fn answered(self, alloc: Global, reply: &Reply) -> Result<Phase, Memory>
         requires { FoundInRange reply.now }
-        ensures { IfOk result (λ p. IsAt p (answered (enveloped_by no_tasks no_book)
+        ensures at { IfOk result (λ p. IsAt p (answered (enveloped_by no_tasks no_book)
             (state_reading self.group (carried_view self.chord) self.found.items)
             (replied reply.now))) }
+        ensures memory { OnErr result (Grows reply.now) }
     {
         match reply {
             Reply::Found(task, Some(outcome)) => self.add(alloc, *task, *outcome),

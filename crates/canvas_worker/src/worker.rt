@@ -1,7 +1,7 @@
 //! The worker.
 
 ghost use Rattle.std.specs.Prelude.{◌≡◌, Some, None, IfSome, IsSome, IsSomeAnd};
-ghost use Rattle.canvas_worker.specs.Gating.{Heeds, LeavesHeeding};
+ghost use Rattle.canvas_worker.specs.Gating.{Heeds, HeldBack, LeavesHeeding};
 ghost use Rattle.canvas_worker.specs.Work.{Ready, Pends, Ends, TellsOf, Leaves, working_begun};
 ghost use Rattle.futures.specs.Poll.{OnPending, IfReady};
 ghost use Rattle.futures.specs.Task.{Covers, Keeps};
@@ -103,6 +103,10 @@ impl<R: Wait, T: Tasks, G: Gate> Future for Worker<'_, R, T, G> {
             (λ r. IfSome self.old.working (λ w. Ends (T.behaviour self.old.tasks.now) w r)) }
         ensures heeds { OnPending result (IfSome self.old.working
             (λ w. IfSome self.new.working (λ v. Heeds (G.may_answer self.old.gate.now w.number)
+            (G.may_want self.old.gate.now w.number) (T.behaviour self.old.tasks.now) w
+            self.old.passed v self.new.passed))) }
+        ensures held_back { OnPending result (IfSome self.old.working
+            (λ w. IfSome self.new.working (λ v. HeldBack (G.may_answer self.old.gate.now w.number)
             (G.may_want self.old.gate.now w.number) (T.behaviour self.old.tasks.now) w
             self.old.passed v self.new.passed))) }
         ensures ends_heeding { IfReady result (λ r. IfSome self.old.working

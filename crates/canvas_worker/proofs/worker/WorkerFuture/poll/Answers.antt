@@ -1,5 +1,7 @@
-use Rattle.std.proofs.Common.{rules, ◌≡◌, Some}
+use Rattle.std.proofs.Common.{rules, ◌≡◌, ℕ, Bool, Some}
 use Rattle.canvas_worker.specs.Work.{Work, TellsOf}
+use Rattle.canvas_worker.specs.Gating.{HeldBack}
+use Rattle.canvas_worker.proofs.Held.{held_back}
 use Rattle.canvas_worker.proofs.Moving.{goes_first, ends_give, of_one, pending}
 use Rattle.canvas_worker.proofs.worker.WorkerFuture.poll.Goals as goal
 
@@ -8,6 +10,15 @@ returns-in-Ok-clause-same g c =
     let w : Work = c.in-Some.working in
     let was : c.args.self.now.working ≡ Some w = search rules in
     pending c.yield_now-in-Ok.result _ (λ r given. of_one c.args.self.now.working w (λ v. TellsOf (g.T.Tasks.behaviour c.args.self.now.tasks.now) v r) was (goes_first (g.T.Tasks.behaviour c.args.self.now.tasks.now) w c.turn.new.self c.in-Ok.ensures.turned r given))
+
+pub returns-in-Ok-clause-held_back : goal.returns-in-Ok-clause-held_back
+returns-in-Ok-clause-held_back g c =
+    let w : Work = c.in-Some.working in
+    let was : c.args.self.now.working ≡ Some w = search rules in
+    let go : ℕ → Bool → Type 0 = g.G.Gate.may_answer c.args.self.now.gate.now w.number in
+    let again : ℕ → Type 0 = g.G.Gate.may_want c.args.self.now.gate.now w.number in
+    let held = held_back go again (g.T.Tasks.behaviour c.args.self.now.tasks.now) w c.args.self.now.passed c.turn.new.self c.turn.new.passed c.in-Ok.ensures.heeds in
+    pending c.yield_now-in-Ok.result _ (search (rules, held, was))
 
 pub returns-in-Err-clause-value : goal.returns-in-Err-clause-value
 returns-in-Err-clause-value g c =
