@@ -5,8 +5,9 @@ use Rattle.canvas_task.specs.Apply.{Behaviour}
 use Rattle.canvas_runs.specs.Core.{is_inside}
 use Rattle.canvas_runs.specs.declared.when.When.{When}
 use Rattle.canvas_runs.specs.declared.when.When.TheVariants.{Early, Late}
-use Rattle.canvas_worker.specs.Standing.{Standing, point_at}
-use Rattle.canvas_worker.specs.Work.{Work, Acts, Acted, EndsBy, Leaves, Redelivered}
+use Rattle.canvas_worker.specs.Asks.{shown}
+use Rattle.canvas_worker.specs.Standing.{Standing, asked, point_at}
+use Rattle.canvas_worker.specs.Work.{Work, Acts, Acted, EndsBy, EndsFor, Leaves, Redelivered}
 use Rattle.canvas_worker.specs.declared.cause.Cause.{Cause}
 use Rattle.canvas_worker.specs.declared.cause.Cause.TheVariants.{Memory, Stopped}
 use Rattle.canvas_worker.specs.declared.record.Record.{Record}
@@ -73,7 +74,7 @@ module _ (go : ℕ → Bool → Type 0) (again : ℕ → Type 0) where
       fails_again : Opens (asks_at w.core p) → Wants (asks_at w.core p)
           → Leaves w (Some Memory) r → LeavesHeeding r
       ends : Opens (asks_at w.core p) → EndsBy (Acts behaviour w.desk.plan) w r
-          → LeavesHeeding r
+          → EndsFor (shown w.core.task (asked w.core.left)) r.fault → LeavesHeeding r
 
     -- where the gate can only hold the worker back, nothing was done
     abbrev pub HeldBack : Work → Option When → Type 0

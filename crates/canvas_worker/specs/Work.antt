@@ -23,7 +23,10 @@ use Rattle.canvas_worker.specs.Allowed.{Can}
 use Rattle.canvas_runs.specs.Tally.{greatest_count}
 use Rattle.canvas_worker.specs.Standing.{Standing, begun as new_core, after_reply, failing, held}
 use Rattle.canvas_worker.specs.WorkerSteps.{Called, FromHeld, Batched, Delivered}
+use Rattle.canvas_worker.specs.declared.ask.Ask.{Ask}
+use Rattle.canvas_worker.specs.declared.ask.Ask.TheVariants.{Store, Part, Ack, Rest}
 use Rattle.canvas_worker.specs.declared.cause.Cause.{Cause}
+use Rattle.canvas_worker.specs.declared.cause.Cause.TheVariants.{Memory}
 use Rattle.canvas_worker.specs.declared.record.Record.{Record}
 
 -- a worker in the middle of its work: the broker and the backend that it works at, its number, its
@@ -181,6 +184,15 @@ Ends behaviour w r = EndsBy (Moves behaviour w.desk.plan) w r
 -- what a poll leaves of a worker that has ended: its record is that of its end
 abbrev pub EndsWith : Behaviour → Work → Option Cause → Work → Type 0
 EndsWith behaviour w fault v = (r : Record) → Leaves v fault r → Ends behaviour w r
+
+-- The fault of a worker that ends at this ask: none at a rest, and memory where the answer may need
+-- some, or where the core has failed. At no other ask does a worker end.
+abbrev pub EndsFor : Ask → Option Cause → Type 0
+EndsFor Rest fault = fault ≡ None
+EndsFor (Store t o) fault = ⊥
+EndsFor (Part g t) fault = ⊥
+EndsFor (Ack x) fault = ⊥
+EndsFor a fault = fault ≡ Some Memory
 
 -- the same, where nothing was delivered again
 abbrev pub ActedLast : Behaviour → Work → Option Cause → Work → Type 0

@@ -54,9 +54,7 @@ impl<'a, R: Wait, T: Tasks, G: Gate> Worker<'a, R, T, G> {
         ensures tasks { result.tasks.now ≡ tasks.now }
         ensures gate { result.gate.now ≡ gate.now }
     {
-        let working = Working::new(
-            rt, alloc, number, broker, pass, backend, seat, stop, flight,
-        );
+        let working = Working::new(rt, alloc, number, broker, pass, backend, seat, stop, flight);
         Worker {
             working: Some(working),
             passed: None,

@@ -1,14 +1,14 @@
 //! A worker in the middle of its work.
 
-ghost use Rattle.std.specs.Prelude.{◌≡◌, [], Some, Ok, IsSome, IfOk, MatchResult, true};
+ghost use Rattle.std.specs.Prelude.{◌≡◌, [], Some, Ok, None, IsSome, IsOk, IfOk, IfErr, OnErr, MatchResult, true};
 ghost use Rattle.canvas_task.specs.Apply.{IsInRange};
 ghost use Rattle.canvas_runs.specs.Core.{ReadsBack, taken, is_inside};
-ghost use Rattle.canvas_worker.specs.Asks.{suits, shown, replied, FoundInRange};
+ghost use Rattle.canvas_worker.specs.Asks.{suits, shown, replied, FoundInRange, Grows};
 ghost use Rattle.canvas_worker.specs.Books.{no_book};
 ghost use Rattle.canvas_worker.specs.Enveloped.{enveloped_by, no_tasks};
 ghost use Rattle.canvas_worker.specs.Gating.{asks_at, passed_after, Heard, Heeds, EndsHeeding};
 ghost use Rattle.canvas_worker.specs.Standing.{asked, held};
-ghost use Rattle.canvas_worker.specs.Work.{Ready, Acted, ActedLast, Pends, EndsWith, Leaves, Redelivered, working_begun, with_answer, lost, one_taken};
+ghost use Rattle.canvas_worker.specs.Work.{Ready, EndsFor, Acted, ActedLast, Pends, EndsWith, Leaves, Redelivered, working_begun, with_answer, lost, one_taken};
 ghost use Rattle.canvas_worker.specs.declared.ask.Ask.TheVariants as ask;
 ghost use Rattle.canvas_worker.specs.declared.cause.Cause.TheVariants as cause;
 ghost use Rattle.canvas_worker.specs.declared.working.Said.TheVariants.{Wait, Again, On};
@@ -159,9 +159,10 @@ impl<'a, R: Wait> Working<'a, R> {
     fn answers<T: Tasks>(&mut self, tasks: &T, reply: Reply) -> Result<(), End>
         requires suits { suits (shown self.old.core.task (asked self.old.core.left)) reply ≡ true }
         requires in_range { FoundInRange reply }
-        ensures { MatchResult result
+        ensures value { MatchResult result
             (λ _. self.new ≡ with_answer (T.behaviour tasks.now) self.old (replied reply))
             (λ e. (self.new ≡ lost self.old) × (e.fault ≡ Some cause.Memory)) }
+        ensures memory { OnErr result (Grows reply) }
     {
         let (alloc, backend) = (self.alloc, self.backend);
         match self.core.answer(alloc, backend, tasks, reply) {
@@ -174,9 +175,10 @@ impl<'a, R: Wait> Working<'a, R> {
     fn replies<T: Tasks>(&mut self, tasks: &T, reply: Reply) -> Result<(), End>
         requires suits { suits (shown self.old.core.task (asked self.old.core.left)) reply ≡ true }
         requires in_range { FoundInRange reply }
-        ensures { MatchResult result
+        ensures value { MatchResult result
             (λ _. self.new ≡ with_answer (T.behaviour tasks.now) self.old (replied reply))
             (λ e. (self.new ≡ lost self.old) × (e.fault ≡ Some cause.Memory)) }
+        ensures memory { OnErr result (Grows reply) }
     {
         match self.answers(tasks, reply) {
             Ok(()) => {
@@ -208,8 +210,9 @@ impl<'a, R: Wait> Working<'a, R> {
         requires ready { Ready self.old }
         requires asks { shown self.old.core.task (asked self.old.core.left) ≡ ask.Take }
         requires bare { self.old.held ≡ [] }
-        ensures { MatchResult result (λ _. Acted (T.behaviour tasks.now) self.old self.new)
+        ensures acted { MatchResult result (λ _. Acted (T.behaviour tasks.now) self.old self.new)
             (λ e. ActedLast (T.behaviour tasks.now) self.old e.fault self.new) }
+        ensures memory { IfErr result (λ e. e.fault ≡ Some cause.Memory) }
     {
         let (rt, broker) = (self.rt, self.broker);
         match broker.take(rt, &mut self.pass) {
@@ -229,8 +232,9 @@ impl<'a, R: Wait> Working<'a, R> {
         requires ready { Ready self.old }
         requires asks { shown self.old.core.task (asked self.old.core.left) ≡ ask.Take }
         requires bare { self.old.held ≡ [] }
-        ensures { MatchResult result (λ _. Acted (T.behaviour tasks.now) self.old self.new)
+        ensures acted { MatchResult result (λ _. Acted (T.behaviour tasks.now) self.old self.new)
             (λ e. ActedLast (T.behaviour tasks.now) self.old e.fault self.new) }
+        ensures memory { IfErr result (λ e. e.fault ≡ Some cause.Memory) }
     {
         let (rt, broker) = (self.rt, self.broker);
         let mut batch = broker.take_batch(rt, &mut self.pass);
@@ -249,8 +253,9 @@ impl<'a, R: Wait> Working<'a, R> {
     fn takes<T: Tasks>(&mut self, tasks: &T) -> Result<(), End>
         requires ready { Ready self.old }
         requires asks { shown self.old.core.task (asked self.old.core.left) ≡ ask.Take }
-        ensures { MatchResult result (λ _. Acted (T.behaviour tasks.now) self.old self.new)
+        ensures acted { MatchResult result (λ _. Acted (T.behaviour tasks.now) self.old self.new)
             (λ e. ActedLast (T.behaviour tasks.now) self.old e.fault self.new) }
+        ensures memory { IfErr result (λ e. e.fault ≡ Some cause.Memory) }
     {
         if let Some(envelope) = self.source.next() {
             return self.gives(tasks, envelope);
@@ -266,8 +271,9 @@ impl<'a, R: Wait> Working<'a, R> {
         requires ready { Ready self.old }
         requires asks { shown self.old.core.task (asked self.old.core.left) ≡ ask.Publish }
         requires reads_back { ReadsBack (enveloped_by no_tasks no_book) self.old.core.left }
-        ensures { MatchResult result (λ _. Acted (T.behaviour tasks.now) self.old self.new)
+        ensures acted { MatchResult result (λ _. Acted (T.behaviour tasks.now) self.old self.new)
             (λ e. ActedLast (T.behaviour tasks.now) self.old e.fault self.new) }
+        ensures memory { IfErr result (λ e. e.fault ≡ Some cause.Memory) }
     {
         let (rt, broker) = (self.rt, self.broker);
         match self.core.envelope() {
@@ -291,8 +297,9 @@ impl<'a, R: Wait> Working<'a, R> {
             ≡ ask.Store task outcome }
         requires reads_back { ReadsBack (enveloped_by no_tasks no_book) self.old.core.left }
         requires in_range { IsInRange outcome }
-        ensures { MatchResult result (λ _. Acted (T.behaviour tasks.now) self.old self.new)
+        ensures acted { MatchResult result (λ _. Acted (T.behaviour tasks.now) self.old self.new)
             (λ e. ActedLast (T.behaviour tasks.now) self.old e.fault self.new) }
+        ensures lasts { IsOk result }
     {
         let backend = self.backend;
         match backend.store(&mut self.seat, task, &outcome) {
@@ -308,8 +315,9 @@ impl<'a, R: Wait> Working<'a, R> {
         requires ready { Ready self.old }
         requires asks { shown self.old.core.task (asked self.old.core.left) ≡ ask.Part group task }
         requires reads_back { ReadsBack (enveloped_by no_tasks no_book) self.old.core.left }
-        ensures { MatchResult result (λ _. Acted (T.behaviour tasks.now) self.old self.new)
+        ensures acted { MatchResult result (λ _. Acted (T.behaviour tasks.now) self.old self.new)
             (λ e. ActedLast (T.behaviour tasks.now) self.old e.fault self.new) }
+        ensures lasts { IsOk result }
     {
         let backend = self.backend;
         let count = backend.part(&mut self.seat, group, task);
@@ -321,8 +329,9 @@ impl<'a, R: Wait> Working<'a, R> {
         requires ready { Ready self.old }
         requires asks { shown self.old.core.task (asked self.old.core.left) ≡ ask.Read group place }
         requires reads_back { ReadsBack (enveloped_by no_tasks no_book) self.old.core.left }
-        ensures { MatchResult result (λ _. Acted (T.behaviour tasks.now) self.old self.new)
+        ensures acted { MatchResult result (λ _. Acted (T.behaviour tasks.now) self.old self.new)
             (λ e. ActedLast (T.behaviour tasks.now) self.old e.fault self.new) }
+        ensures memory { IfErr result (λ e. e.fault ≡ Some cause.Memory) }
     {
         let backend = self.backend;
         match backend.member(group, place) {
@@ -339,8 +348,9 @@ impl<'a, R: Wait> Working<'a, R> {
         requires asks { shown self.old.core.task (asked self.old.core.left)
             ≡ ask.Ack self.old.core.task }
         requires reads_back { ReadsBack (enveloped_by no_tasks no_book) self.old.core.left }
-        ensures { MatchResult result (λ _. Acted (T.behaviour tasks.now) self.old self.new)
+        ensures acted { MatchResult result (λ _. Acted (T.behaviour tasks.now) self.old self.new)
             (λ e. ActedLast (T.behaviour tasks.now) self.old e.fault self.new) }
+        ensures lasts { IsOk result }
     {
         self.replies(tasks, Reply::Acked)
     }
@@ -349,8 +359,9 @@ impl<'a, R: Wait> Working<'a, R> {
         requires ready { Ready self.old }
         requires asks { shown self.old.core.task (asked self.old.core.left) ≡ ask.Rest }
         requires reads_back { ReadsBack (enveloped_by no_tasks no_book) self.old.core.left }
-        ensures { MatchResult result (λ _. Acted (T.behaviour tasks.now) self.old self.new)
+        ensures acted { MatchResult result (λ _. Acted (T.behaviour tasks.now) self.old self.new)
             (λ e. ActedLast (T.behaviour tasks.now) self.old e.fault self.new) }
+        ensures by_itself { IfErr result (λ e. e.fault ≡ None) }
     {
         if self.has_more() {
             return self.answers(tasks, Reply::Rested { more: true });
@@ -430,11 +441,13 @@ impl<'a, R: Wait> Working<'a, R> {
     }
 
     /// At most one ask of the core is answered.
-    #[tactic(auto, using(crate::proofs::Turns::ends_acting))]
+    #[tactic(auto, using(crate::proofs::Turns::ends_acting, crate::proofs::Ending::ends_at))]
     fn goes_on<T: Tasks>(&mut self, tasks: &T) -> Result<(), End>
         requires { Ready self.old }
-        ensures { MatchResult result (λ _. Acted (T.behaviour tasks.now) self.old self.new)
+        ensures acted { MatchResult result (λ _. Acted (T.behaviour tasks.now) self.old self.new)
             (λ e. ActedLast (T.behaviour tasks.now) self.old e.fault self.new) }
+        ensures ends { IfErr result
+            (λ e. EndsFor (shown self.old.core.task (asked self.old.core.left)) e.fault) }
     {
         match self.core.next() {
             Ask::Take => self.takes(tasks),
@@ -463,6 +476,8 @@ impl<'a, R: Wait> Working<'a, R> {
         ensures goes_on { said ≡ On
             → MatchResult result (λ _. Acted (T.behaviour tasks.now) self.old self.new)
             (λ e. ActedLast (T.behaviour tasks.now) self.old e.fault self.new) }
+        ensures ends { said ≡ On → IfErr result
+            (λ e. EndsFor (shown self.old.core.task (asked self.old.core.left)) e.fault) }
     {
         match said {
             Said::Wait => Ok(()),
@@ -472,7 +487,7 @@ impl<'a, R: Wait> Working<'a, R> {
     }
 
     /// One poll: at most one ask of the core is answered. It says where the worker has ended.
-    #[tactic(auto, using(crate::proofs::Turns::ends_here))]
+    #[tactic(auto, using(crate::proofs::Turns::ends_here, crate::proofs::Ending::left_for))]
     pub(crate) fn turn<T: Tasks, G: Gate>(
         &mut self,
         tasks: &T,

@@ -17,13 +17,13 @@ replies-requires-clause-suits g c =
     let core : c.envelope.new.self ≡ handed w.core = search rules in
     ap (λ a. suits a R.Published) (ap (λ (k : Standing). shown k.task (asked k.left)) core ∙ still_publishes w.core.task w.core.left c.requires.asks)
 
-pub returns-in-Ok : goal.returns-in-Ok
-returns-in-Ok g c =
+pub returns-in-Ok-clause-acted : goal.returns-in-Ok-clause-acted
+returns-in-Ok-clause-acted g c =
     let w : Work = c.args.self.now in
     let u : Work = record { broker = c.self.inside.broker.now; desk = c.self.inside.backend.now; number = c.self.inside.number; pass = c.publish.new.pass; seat = c.self.inside.seat; core = c.envelope.new.self; held = held_in c.self.inside.source; taken = c.self.inside.taken; published = c.saturating_add-self-inside.result; first = c.self.inside.first; parts = c.self.inside.parts } in
     let asks : asked w.core.left ≡ C.send c.in-Some.envelope = handed_out c.in-Some.envelope w.core c.requires.ready.inside (search rules) in
     let core : u.core ≡ handed w.core = search rules in
-    asked_well (g.T.Tasks.behaviour c.args.tasks.now) w u c.replies.new.self (C.send c.in-Some.envelope) C.sent c.replies.result c.replies.ensures c.requires.ready (record {
+    asked_well (g.T.Tasks.behaviour c.args.tasks.now) w u c.replies.new.self (C.send c.in-Some.envelope) C.sent c.replies.result c.replies.ensures.value c.requires.ready (record {
       asked_is = asks;
       suits = tt;
       back = c.requires.reads_back;
@@ -38,8 +38,8 @@ returns-in-Ok g c =
       core = ap (λ z. after_reply (g.T.Tasks.behaviour c.args.tasks.now) (book_in w.desk.plan) z C.sent) core ∙ handed_same (g.T.Tasks.behaviour c.args.tasks.now) (book_in w.desk.plan) w.core C.sent;
     })
 
-pub returns-in-Err : goal.returns-in-Err
-returns-in-Err g c =
+pub returns-in-Err-clause-acted : goal.returns-in-Err-clause-acted
+returns-in-Err-clause-acted g c =
     let w : Work = c.args.self.now in
     let u : Work = record { broker = c.self.inside.broker.now; desk = c.self.inside.backend.now; number = c.self.inside.number; pass = c.publish.new.pass; seat = c.self.inside.seat; core = c.envelope.new.self; held = held_in c.self.inside.source; taken = c.self.inside.taken; published = c.self.inside.published; first = c.self.inside.first; parts = c.self.inside.parts } in
     let asks : asked w.core.left ≡ C.send c.in-Some.envelope = handed_out c.in-Some.envelope w.core c.requires.ready.inside (search rules) in

@@ -25,12 +25,12 @@ unreachable-requires g c =
     let may : LetsAsk w.desk.plan w.seat (C.read c.args.group c.args.place) = subst (LetsAsk w.desk.plan w.seat) (is_read w.core.task c.args.group c.args.place (asked w.core.left) c.requires.asks) (may_ask w.desk.plan c.requires.ready.plan w.seat w.core.left c.requires.ready.can) in
     no_place (members w.desk.plan c.args.group) c.args.place may.0 may.1 (search rules)
 
-pub returns : goal.returns
-returns g c =
+pub returns-clause-acted : goal.returns-clause-acted
+returns-clause-acted g c =
     let w : Work = c.args.self.now in
     let u : Work = record { broker = c.self.inside.broker.now; desk = c.self.inside.backend.now; number = c.self.inside.number; pass = c.self.inside.pass; seat = c.read-found.new.seat; core = c.self.inside.core; held = held_in c.self.inside.source; taken = c.self.inside.taken; published = c.self.inside.published; first = c.self.inside.first; parts = c.self.inside.parts } in
     let asks : asked w.core.left ≡ C.read c.args.group c.args.place = is_read w.core.task c.args.group c.args.place (asked w.core.left) c.requires.asks in
-    asked_well (g.T.Tasks.behaviour c.args.tasks.now) w u c.replies.new.self (C.read c.args.group c.args.place) (C.found c.in-Some.task c.read-found.result) c.replies.result c.replies.ensures c.requires.ready (record {
+    asked_well (g.T.Tasks.behaviour c.args.tasks.now) w u c.replies.new.self (C.read c.args.group c.args.place) (C.found c.in-Some.task c.read-found.result) c.replies.result c.replies.ensures.value c.requires.ready (record {
       asked_is = asks;
       suits = tt;
       back = c.requires.reads_back;
