@@ -1,3 +1,4 @@
+pub mod Crosses
 pub mod Joins
 pub mod Keeps
 pub mod Begins
