@@ -1,0 +1,5 @@
+pub mod Adding
+pub mod FirstFault
+pub mod Levels
+pub mod Indices
+pub mod Leads

@@ -1,0 +1,34 @@
+use Rattle.std.proofs.Common.{map, drop, false, sym, ap, refl, subst, arith, rules, ◌∙◌, OnOk, ◌<◌, ◌∷◌, [], length, vec_len, length-append}
+use Rattle.serde_json.specs.View.{view}
+use Rattle.canvas_sig.proofs.Json.{next_item}
+use Rattle.canvas_finding.specs.FileOrder.{sighted_within, in_each, from_index, some_in}
+use Rattle.canvas_finding.specs.Places.{Lists}
+use Rattle.canvas_finding.proofs.Adding.{and_inside, in_and_back, popped, chord_listed, one_more, array_some_in}
+use Rattle.canvas_finding.proofs.listing.Listing.+listing.Goals as goal
+
+pub list-returns : goal.list-returns
+list-returns t c =
+    and_inside c.list_inside.result c.args.left c.args.is_linked (view c.args.value.now) c.args.self.now c.push.new.self c.list_inside.new.self
+    c.if-left-eq0.false c.in_ok-push.ensures c.list_inside.ensures
+
+pub list_all-loop-index-preserved : goal.list_all-loop-index-preserved
+list_all-loop-index-preserved t c =
+    let next = next_item c.args.values.now c.loop-index.index c.index-values-index.result _ (omega (arith, c.loop-index-test.true)) (sym c.index-values-index.is) in
+    one_more _ _ _ _ _ _ _ _ _ c.loop-index.self _ c.loop-index.invariant next (omega arith) c.in_ok-list_at.ensures
+
+pub list_at-returns : goal.list_at-returns
+list_at-returns t c =
+    let steps = c.in_ok-list.ensures.steps ∙ c.in_ok-push.ensures.items in
+    let longer : 0 < vec_len c.list.new.self.steps = omega (arith, c.list.new.self.steps.ok.0, ap length steps, length-append c.args.self.now.steps.items (c.args.step ∷ [])) in
+    in_and_back _ c.args.step c.args.self.now (record c.args.self.now { steps = c.push.new.self }) c.list.new.self _ refl c.in_ok-push.ensures.items c.in_ok-list.ensures
+    refl (popped c.list.new.self.steps.items c.pop.new.self.items c.args.self.now.steps.items c.pop.result c.args.step c.pop.ensures.items (c.pop.ensures.variant.1 longer) steps)
+
+pub list_chord-returns : goal.list_chord-returns
+list_chord-returns t c =
+    chord_listed c.list_one.result (sighted_within c.args.left false) _ _ (view c.args.value.now)
+    c.args.self.now c.list_some.new.self c.list_one.new.self c.kwarg_of.ensures c.kwarg_of-2.ensures c.in_ok-list_some.ensures c.list_one.ensures
+
+pub list_one_or_more-returns-in-Array : goal.list_one_or_more-returns-in-Array
+list_one_or_more-returns-in-Array t c =
+    subst (λ ds. OnOk c.list_all.result (Lists (in_each (sighted_within c.args.left c.args.is_linked) ds) c.args.self.now c.list_all.new.self))
+    (ap (λ vs. from_index c.args.field 0 (map view vs)) c.deref.ensures.value ∙ sym (array_some_in c.args.field _ _ c.in-Array.is)) c.list_all.ensures

@@ -1,0 +1,4 @@
+pub mod Pointer
+pub mod FileOrder
+pub mod Places
+pub mod Refused

@@ -1,0 +1,15 @@
+-- What a listing holds, and what a step of it adds.
+use Rattle.std.specs.Prelude.{◌≡◌, List, ◌++◌, map}
+use Rattle.serde_json.specs.View.{view}
+use Rattle.canvas_finding.specs.FileOrder.{Sighted, behind}
+use Rattle.canvas_finding.specs.declared.listing.Place.{Place}
+use Rattle.canvas_finding.specs.declared.listing.Listing.{Listing}
+
+abbrev pub shown : Place → Sighted
+shown p = record { steps = p.steps.items; is_linked = p.is_linked; signature = view p.value.now }
+
+-- these were added, behind the steps to where the listing is
+pub record Lists (added : List Sighted) (l l' : Listing) : Type 0 where
+  pub places : map shown l'.places.items
+      ≡ map shown l.places.items ++ map (behind l.steps.items) added
+  pub steps : l'.steps.items ≡ l.steps.items

@@ -1,0 +1,73 @@
+//! The steps from a signature to one in it, and their text.
+
+ghost use Rattle.std.specs.Prelude.{◌≡◌, IfOk, string_bytes};
+ghost use Rattle.canvas_finding.specs.Pointer.{field_text, pointer_text};
+
+use std::alloc::{AllocError, Global};
+use std::fmt;
+
+/// A member of a signature in which signatures stand.
+#[derive(Clone, Copy, Drop)]
+pub enum Field {
+    /// `kwargs.tasks` of a chain.
+    Elements,
+    /// `kwargs.tasks` of a group.
+    Members,
+    /// `kwargs.header` of a chord.
+    Header,
+    /// `kwargs.body` of a chord.
+    Body,
+    /// `options.link`.
+    Links,
+    /// `options.link_error`.
+    Errbacks,
+}
+
+impl Field {
+    fn text(self) -> &'static str
+        ensures { result.now ≡ field_text self }
+    {
+        match self {
+            Field::Elements => "/kwargs/tasks",
+            Field::Members => "/kwargs/tasks",
+            Field::Header => "/kwargs/header",
+            Field::Body => "/kwargs/body",
+            Field::Links => "/options/link",
+            Field::Errbacks => "/options/link_error",
+        }
+    }
+}
+
+/// A step from a signature into it: to a place in the list that stands in a member, or to the one
+/// signature that stands there. It is printed as a JSON Pointer (RFC 6901).
+#[derive(Clone, Copy, Drop)]
+pub struct Step {
+    pub field: Field,
+    pub index: Option<usize>,
+}
+
+impl fmt::Display for Step {
+    ghost use Rattle.std.specs.Prelude.{Some};
+    ghost use Rattle.canvas_finding.specs.Pointer.{step_text};
+
+    ghost output = { λ step. Some (step_text step) };
+
+    fn fmt<W: fmt::Write>(&self, f: &mut fmt::Formatter<W>) -> fmt::Result {
+        let field = self.field.text();
+        match self.index {
+            Some(index) => write!(f, "{field}/{index}"),
+            None => f.write_str(field),
+        }
+    }
+}
+
+/// The JSON Pointer to what steps lead to; that of the whole text is empty.
+pub fn pointer_text(alloc: Global, steps: &[Step]) -> Result<String, AllocError>
+    ensures { IfOk result (λ text. string_bytes text ≡ pointer_text steps.now) }
+{
+    let mut text = String::new(alloc);
+    for step in steps {
+        write!(text, "{step}")?;
+    }
+    Ok(text)
+}
