@@ -3,3 +3,4 @@ pub mod FirstFault
 pub mod Levels
 pub mod Indices
 pub mod Leads
+pub mod Searches

@@ -2,6 +2,7 @@
 
 ghost use Rattle.std.specs.Prelude.{◌≡◌, IfOk, string_bytes};
 ghost use Rattle.canvas_finding.specs.Pointer.{field_text, pointer_text};
+ghost use Rattle.canvas_finding.specs.Limits.{goes_deeper};
 
 use std::alloc::{AllocError, Global};
 use std::fmt;
@@ -44,6 +45,19 @@ impl Field {
 pub struct Step {
     pub field: Field,
     pub index: Option<usize>,
+}
+
+impl Step {
+    /// Whether what it leads to stands one deeper than the signature that it leads from. A header's
+    /// group signature doesn't.
+    pub(crate) fn goes_deeper(&self) -> bool
+        ensures { result ≡ goes_deeper self.now }
+    {
+        match self.field {
+            Field::Header => self.index.is_some(),
+            _ => true,
+        }
+    }
 }
 
 impl fmt::Display for Step {

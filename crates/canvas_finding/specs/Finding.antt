@@ -1,0 +1,34 @@
+-- What is found of a text that is refused.
+use Rattle.std.specs.Prelude.{◌≡◌, ◌⊎◌, List, Option, Some, None, Result, Ok, Err}
+use Rattle.serde_json.specs.Data.{Data}
+use Rattle.serde_json.specs.Find.{pointer}
+use Rattle.canvas_task.specs.Text.{Text}
+use Rattle.canvas_semantics.specs.Tree.{Tree}
+use Rattle.canvas_sig.specs.CanvasText.{json_of, text_reading}
+use Rattle.canvas_sig.specs.declared.fault.SigFault.{SigFault}
+use Rattle.canvas_finding.specs.FileOrder.{Sighted}
+use Rattle.canvas_finding.specs.Limits.{place_of}
+use Rattle.canvas_finding.specs.Pointer.{pointer_text}
+use Rattle.canvas_finding.specs.declared.finding.Spot.{Spot}
+use Rattle.canvas_finding.specs.declared.finding.Spot.TheVariants as spot
+use Rattle.canvas_finding.specs.declared.step.Step.{Step}
+use Rattle.canvas_finding.specs.declared.finding.Finding.{Finding}
+
+-- The steps lead to the first signature of the text that has the refusal: their text, as a JSON
+-- Pointer (RFC 6901), leads there too.
+pub record IsPlace (d : Data) (fault : SigFault) (steps : List Step) : Type 0 where
+  pub place : Sighted
+  pub first : place_of fault d ≡ Some place
+  pub steps_are : place.steps ≡ steps
+  pub leads : pointer (pointer_text steps) d ≡ Some place.signature
+
+abbrev pub StandsAt : Text → SigFault → Spot → Type 0
+StandsAt bytes fault (spot.Signature steps) =
+    (d : Data) × (json_of bytes ≡ Some d) × IsPlace d fault steps.items
+StandsAt bytes fault (spot.Json line column) = json_of bytes ≡ None
+StandsAt bytes fault spot.Text =
+    (json_of bytes ≡ None) ⊎ ((d : Data) × (json_of bytes ≡ Some d) × (place_of fault d ≡ None))
+
+abbrev pub IsFound : Text → Option Finding → Type 0
+IsFound bytes None = (c : Tree) × (text_reading bytes ≡ Ok c)
+IsFound bytes (Some f) = (text_reading bytes ≡ Err f.fault) × StandsAt bytes f.fault f.spot

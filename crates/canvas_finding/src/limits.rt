@@ -1,0 +1,172 @@
+//! The first signature of a text that is refused, or that goes past a limit of whole canvases.
+
+ghost use Rattle.std.specs.Prelude.{◌≡◌, ◌≤◌, map, find, false};
+ghost use Rattle.std.specs.Option.{option_map, option_copied};
+ghost use Rattle.serde_json.specs.View.{view};
+ghost use Rattle.canvas_sig.specs.Fields.{value_at};
+ghost use Rattle.canvas_finding.specs.Places.{shown};
+ghost use Rattle.canvas_finding.specs.Refused.{is_refused};
+ghost use Rattle.canvas_finding.specs.Wanted.{is_wanted};
+ghost use Rattle.canvas_finding.specs.Limits.{kind_of, is_too_deep, steps_to_member, last_of, ends_by, in_some, ends_in_group, is_nested, is_header_group, is_task, is_counted_group, past};
+
+use crate::listing::Place;
+use crate::step::{Field, Step};
+use canvas_sig::parts::{
+    MOST_LEVELS, MOST_TASKS, Primitive, kwarg_of, listed, own_fault, primitive_of,
+};
+use serde_json::Value;
+
+const MOST_NESTING: usize = 8;
+
+const MOST_GROUPS: u32 = 1024;
+
+fn kind_of(value: &Value) -> Option<Primitive>
+    ensures { result ≡ kind_of (view value.now) }
+{
+    primitive_of(value.get("subtask_type"))
+}
+
+fn is_too_deep(place: &Place<'_>) -> bool
+    ensures { result ≡ is_too_deep (shown place.now) }
+{
+    place.steps.iter().filter(|step| step.goes_deeper()).count() >= MOST_NESTING
+}
+
+fn leads_to_member(steps: &[Step]) -> bool
+    ensures { result ≡ steps_to_member (last_of steps.now) }
+{
+    match steps.last() {
+        Some(step) => match step.field {
+            Field::Members => true,
+            Field::Header => step.index.is_some(),
+            _ => false,
+        },
+        None => false,
+    }
+}
+
+fn leads_to_header_group(steps: &[Step]) -> bool
+    ensures { result ≡ is_header_group (last_of steps.now) }
+{
+    match steps.last() {
+        Some(step) => !step.goes_deeper(),
+        None => false,
+    }
+}
+
+/// Whether the line of a signature ends in a group. It looks at most `left` signatures deep.
+#[cycle(ends)]
+#[tactic(auto, using(crate::proofs::Searches::ends_below))]
+fn ends_in_group(value: &Value, left: u32) -> bool
+    ensures { result ≡ ends_in_group left (view value.now) }
+{
+    if left == 0 {
+        return false;
+    }
+    ends_as(value, kind_of(value), left - 1)
+}
+
+#[cycle(ends)]
+fn ends_as(value: &Value, kind: Option<Primitive>, left: u32) -> bool
+    ensures { result ≡ ends_by (ends_in_group left) kind (view value.now) }
+{
+    match kind {
+        Some(Primitive::Group) => true,
+        Some(Primitive::Chain) => last_ends(listed(kwarg_of(value, "tasks")), left),
+        Some(Primitive::Chord) => body_ends(kwarg_of(value, "body"), left),
+        _ => false,
+    }
+}
+
+#[cycle(ends)]
+fn last_ends(values: &[Value], left: u32) -> bool
+    ensures { result ≡ in_some (ends_in_group left) (last_of (map view values.now)) }
+{
+    match values.last() {
+        Some(last) => ends_in_group(last, left),
+        None => false,
+    }
+}
+
+#[cycle(ends)]
+fn body_ends(body: Option<&Value>, left: u32) -> bool
+    ensures { result ≡ ends_in_group left (value_at body.entry) }
+{
+    match body {
+        Some(body) => ends_in_group(body, left),
+        None => ends_in_group(&Value::Null, left),
+    }
+}
+
+fn is_nested(place: &Place<'_>) -> bool
+    ensures { result ≡ is_nested (shown place.now) }
+{
+    leads_to_member(&place.steps) && ends_in_group(place.value, MOST_LEVELS)
+}
+
+fn is_task(place: &Place<'_>) -> bool
+    ensures { result ≡ is_task (shown place.now) }
+{
+    matches!(kind_of(place.value), Some(Primitive::Task))
+}
+
+fn is_counted_group(place: &Place<'_>) -> bool
+    ensures { result ≡ is_counted_group (shown place.now) }
+{
+    match kind_of(place.value) {
+        Some(Primitive::Group) => !leads_to_header_group(&place.steps),
+        Some(Primitive::Chord) => !leads_to_header_group(&place.steps),
+        _ => false,
+    }
+}
+
+/// What is looked for.
+#[derive(Clone, Copy)]
+enum Wanted {
+    Refused,
+    Nested,
+    TooDeep,
+}
+
+fn is_wanted(place: &Place<'_>, wanted: Wanted) -> bool
+    ensures { result ≡ is_wanted wanted (shown place.now) }
+{
+    match wanted {
+        Wanted::Refused => own_fault(place.value, place.is_linked).is_some(),
+        Wanted::Nested => is_nested(place),
+        Wanted::TooDeep => is_too_deep(place),
+    }
+}
+
+fn first_wanted(places: Vec<Place<'_>>, wanted: Wanted) -> Option<Place<'_>>
+    ensures { option_map shown result ≡ find (is_wanted wanted) (map shown places.entry.items) }
+{
+    for place in places {
+        if is_wanted(&place, wanted) {
+            return Some(place);
+        }
+    }
+    None
+}
+
+/// The first behind so many tasks and so many groups and chords that is one more of them.
+fn first_past(places: Vec<Place<'_>>, tasks: u32, groups: u32) -> Option<Place<'_>>
+    ensures { option_map shown result ≡ past tasks groups (map shown places.entry.items) }
+{
+    let mut tasks = tasks;
+    let mut groups = groups;
+    for place in places {
+        if is_task(&place) {
+            if tasks == 0 {
+                return Some(place);
+            }
+            tasks -= 1;
+        } else if is_counted_group(&place) {
+            if groups == 0 {
+                return Some(place);
+            }
+            groups -= 1;
+        }
+    }
+    None
+}
