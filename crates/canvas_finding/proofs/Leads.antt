@@ -1,6 +1,6 @@
 -- The pointer to each signature of a listing leads to it (RFC 6901).
-use Rattle.std.proofs.Common.{◌≡◌, ◌⊎◌, inl, inr, ℕ, zero, suc, ◌+◌, ◌^◌, ◌<◌, Bool, true, false, List, [], ◌∷◌, ◌++◌, map, Option, Some, None, option_and_then, decimal, refl, sym, ap, ap₂, subst, ◌∙◌, arith, append-nil, append_assoc}
-use Rattle.std.specs.Prelude.{codes, unwrap_or}
+use Rattle.std.proofs.Common.{◌≡◌, ◌⊎◌, inl, inr, ℕ, zero, suc, ◌+◌, ◌^◌, ◌<◌, Bool, true, false, List, [], ◌∷◌, ◌++◌, map, find, Option, Some, None, option_and_then, decimal, refl, sym, ap, ap₂, subst, ◌∙◌, arith, append-nil, append_assoc}
+use Rattle.std.specs.Prelude.{codes, unwrap_or, ◌==◌, ◌-◌, if◌then◌else◌}
 use Rattle.serde_json.specs.Data.{Data, null, boolean, number, string, array, object, Items, no_items, item, depth}
 use Rattle.serde_json.specs.Find.{get, get_item, get_member, index_of, unescape, step, walk, pointer}
 use Rattle.serde_json.proofs.Paths.{Lacks, walk_part, walk_last, unescape_plain}
@@ -10,6 +10,11 @@ use Rattle.canvas_sig.specs.Grammar.{primitive_of}
 use Rattle.canvas_sig.specs.declared.primitive.Primitive.{Primitive}
 use Rattle.canvas_sig.specs.declared.primitive.Primitive.TheVariants as kind
 use Rattle.canvas_finding.specs.FileOrder.{Sighted, behind, itself, inside, in_each, in_kwargs, from_index, one_in, some_in, sighted_within, signatures}
+use Rattle.canvas_semantics.specs.Bounds.{most_tasks, most_groups}
+use Rattle.canvas_sig.specs.declared.fault.SigFault.{SigFault}
+use Rattle.canvas_sig.specs.declared.fault.SigFault.TheVariants as fault
+use Rattle.canvas_finding.specs.Refused.{is_refused, first_refused}
+use Rattle.canvas_finding.specs.Limits.{is_nested, is_too_deep, too_deep, is_task, is_counted_group, past, place_of}
 use Rattle.canvas_finding.specs.Pointer.{field_text, index_text, step_text, pointer_text, IsIndex, AreIndices}
 use Rattle.canvas_finding.specs.declared.step.Field.{Field}
 use Rattle.canvas_finding.specs.declared.step.Field.TheVariants as field
@@ -222,7 +227,58 @@ lead_within zero linked d = (λ fit. refl, tt)
 lead_within (suc n) linked d = (
   λ fit. refl,
   leads_both d _ _ (lead_each d (sighted_within n false) (lead_within n false) (in_kwargs (primitive_of (subtype d)) d) (go_to_kwargs (primitive_of (subtype d)) d))
-  (leads_both d _ _
-  (lead_each d (sighted_within n true) (lead_within n true) (some_in field.Links (link d)) (go_to_some field.Links (codes "options") (codes "link") d (link d) in_link refl))
-  (lead_each d (sighted_within n true) (lead_within n true) (some_in field.Errbacks (link_error d)) (go_to_some field.Errbacks (codes "options") (codes "link_error") d (link_error d) in_link_error refl))),
+      (leads_both d _ _
+      (lead_each d (sighted_within n true) (lead_within n true) (some_in field.Links (link d)) (go_to_some field.Links (codes "options") (codes "link") d (link d) in_link refl))
+      (lead_each d (sighted_within n true) (lead_within n true) (some_in field.Errbacks (link_error d)) (go_to_some field.Errbacks (codes "options") (codes "link_error") d (link_error d) in_link_error refl))),
 )
+
+-- ---- the first of them
+
+by_test : (b : Bool) (x s : Sighted) (rest : Option Sighted) (P : Sighted → Type 0) → P x → (rest ≡ Some s → P s) → (if b then Some x else rest) ≡ Some s → P s
+by_test true x s rest P here later h = let same : x ≡ s = cc in subst P same here
+by_test false x s rest P here later h = later h
+
+found_leads : (d : Data) (p : Sighted → Bool) (xs : List Sighted) (s : Sighted) → AllLead d xs → find p xs ≡ Some s → Leads d s
+found_leads d p [] s all h = absurd cc
+found_leads d p (x ∷ xs) s all h = by_test (p x) x s (find p xs) (Leads d) all.0 (found_leads d p xs s all.1) h
+
+either : (b c : Bool) (s : Sighted) (one other more : Option Sighted) (P : Sighted → Type 0)
+    → (one ≡ Some s → P s) → (other ≡ Some s → P s) → (more ≡ Some s → P s) → (if b then one else (if c then other else more)) ≡ Some s → P s
+either true c s one other more P f g k h = f h
+either false true s one other more P f g k h = g h
+either false false s one other more P f g k h = k h
+
+past_leads : (d : Data) (t g : ℕ) (xs : List Sighted) (s : Sighted) → AllLead d xs → past t g xs ≡ Some s → Leads d s
+past_leads d t g [] s all h = absurd cc
+past_leads d t g (x ∷ xs) s all h =
+    either (is_task x) (is_counted_group x) s _ _ _ (Leads d)
+    (by_test (t == 0) x s (past (t - 1) g xs) (Leads d) all.0 (past_leads d (t - 1) g xs s all.1))
+    (by_test (g == 0) x s (past t (g - 1) xs) (Leads d) all.0 (past_leads d t (g - 1) xs s all.1))
+    (past_leads d t g xs s all.1) h
+
+all_lead : (d : Data) → AllLead d (signatures d)
+unfolding signatures
+all_lead d = lead_within (depth d) false d
+
+top_leads : (d : Data) (o : Option Sighted) (s : Sighted) → ((x : Sighted) → o ≡ Some x → Leads d x) → too_deep d o ≡ Some s → Leads d s
+top_leads d None s f h = let same : itself false d ≡ s = cc in subst (Leads d) same (λ fit. refl)
+top_leads d (Some x) s f h = f s h
+
+own_leads : (d : Data) (s : Sighted) → first_refused d ≡ Some s → Leads d s
+own_leads d s h = found_leads d is_refused (signatures d) s (all_lead d) h
+
+-- where a refusal stands
+pub place_leads : (e : SigFault) (d : Data) (s : Sighted) → place_of e d ≡ Some s → AreIndices s.steps → pointer (pointer_text s.steps) d ≡ Some s.signature
+place_leads fault.TooLarge d s h = absurd cc
+place_leads fault.NotJson d s h = absurd cc
+place_leads fault.Memory d s h = absurd cc
+place_leads fault.NestedGroup d s h = found_leads d is_nested (signatures d) s (all_lead d) h
+place_leads fault.TooDeep d s h = top_leads d (find is_too_deep (signatures d)) s (λ x. found_leads d is_too_deep (signatures d) x (all_lead d)) h
+place_leads fault.TooMany d s h = past_leads d most_tasks most_groups (signatures d) s (all_lead d) h
+place_leads fault.NotSignature d s h = own_leads d s h
+place_leads fault.UnknownPrimitive d s h = own_leads d s h
+place_leads fault.BadArgs d s h = own_leads d s h
+place_leads fault.BadNumber d s h = own_leads d s h
+place_leads fault.OnCanvas d s h = own_leads d s h
+place_leads fault.Frozen d s h = own_leads d s h
+place_leads fault.EmptyChain d s h = own_leads d s h

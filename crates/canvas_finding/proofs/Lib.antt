@@ -4,3 +4,4 @@ pub mod Levels
 pub mod Indices
 pub mod Leads
 pub mod Searches
+pub mod Found

@@ -1,11 +1,12 @@
 -- What is found of a text that is refused.
-use Rattle.std.specs.Prelude.{◌≡◌, ◌⊎◌, List, Option, Some, None, Result, Ok, Err}
+use Rattle.std.specs.Prelude.{◌≡◌, List, Option, Some, None, Result, Ok, Err}
 use Rattle.serde_json.specs.Data.{Data}
 use Rattle.serde_json.specs.Find.{pointer}
 use Rattle.canvas_task.specs.Text.{Text}
 use Rattle.canvas_semantics.specs.Tree.{Tree}
 use Rattle.canvas_sig.specs.CanvasText.{json_of, text_reading}
 use Rattle.canvas_sig.specs.declared.fault.SigFault.{SigFault}
+use Rattle.canvas_sig.specs.declared.fault.SigFault.TheVariants.{TooLarge}
 use Rattle.canvas_finding.specs.FileOrder.{Sighted}
 use Rattle.canvas_finding.specs.Limits.{place_of}
 use Rattle.canvas_finding.specs.Pointer.{pointer_text}
@@ -22,13 +23,20 @@ pub record IsPlace (d : Data) (fault : SigFault) (steps : List Step) : Type 0 wh
   pub steps_are : place.steps ≡ steps
   pub leads : pointer (pointer_text steps) d ≡ Some place.signature
 
+abbrev pub IsSpot : Data → SigFault → Spot → Type 0
+IsSpot d fault spot.Text = place_of fault d ≡ None
+IsSpot d fault (spot.Json line column) = ⊥
+IsSpot d fault (spot.Signature steps) = IsPlace d fault steps.items
+
 abbrev pub StandsAt : Text → SigFault → Spot → Type 0
-StandsAt bytes fault (spot.Signature steps) =
-    (d : Data) × (json_of bytes ≡ Some d) × IsPlace d fault steps.items
 StandsAt bytes fault (spot.Json line column) = json_of bytes ≡ None
-StandsAt bytes fault spot.Text =
-    (json_of bytes ≡ None) ⊎ ((d : Data) × (json_of bytes ≡ Some d) × (place_of fault d ≡ None))
+StandsAt bytes fault at = (d : Data) × (json_of bytes ≡ Some d) × IsSpot d fault at
+
+-- A text that is refused is too large, no JSON, or has the refusal at a signature.
+abbrev pub IsFoundAs : Text → SigFault → Spot → Type 0
+IsFoundAs bytes TooLarge at = at ≡ spot.Text
+IsFoundAs bytes fault at = StandsAt bytes fault at
 
 abbrev pub IsFound : Text → Option Finding → Type 0
 IsFound bytes None = (c : Tree) × (text_reading bytes ≡ Ok c)
-IsFound bytes (Some f) = (text_reading bytes ≡ Err f.fault) × StandsAt bytes f.fault f.spot
+IsFound bytes (Some f) = (text_reading bytes ≡ Err f.fault) × IsFoundAs bytes f.fault f.spot

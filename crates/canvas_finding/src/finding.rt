@@ -1,7 +1,26 @@
 //! Where a text is refused.
 
-use crate::step::Step;
-use canvas_sig::SigFault;
+ghost use Rattle.std.specs.Prelude.{◌≡◌, ◌≤◌, IfOk};
+ghost use Rattle.std.specs.Option.{option_map};
+ghost use Rattle.serde_json.specs.Data.{depth};
+ghost use Rattle.serde_json.specs.View.{view};
+ghost use Rattle.canvas_sig.specs.declared.fault.SigFault.TheVariants.{TooDeep};
+ghost use Rattle.canvas_finding.specs.Places.{shown};
+ghost use Rattle.canvas_finding.specs.Limits.{place_of};
+ghost use Rattle.canvas_finding.specs.declared.finding.Spot.TheVariants.{Text};
+ghost use Rattle.canvas_finding.specs.Finding.{IsFound, IsSpot, StandsAt};
+
+use crate::limits::{Wanted, first_past, first_wanted};
+use crate::listing::{Place, places_of};
+use crate::notes::note_of;
+use crate::step::{Step, read_indices};
+use canvas_sig::parts::{MOST_LEVELS, MOST_TASKS, is_name, text_of};
+use canvas_sig::{SigFault, read_canvas};
+use canvas_task::Memory;
+use serde_json::Value;
+use std::alloc::{AllocError, Global};
+
+const MOST_GROUPS: u32 = 1024;
 
 /// A place in a text.
 #[derive(Drop)]
@@ -19,4 +38,146 @@ pub enum Spot {
 pub struct Finding {
     pub fault: SigFault,
     pub spot: Spot,
+    /// The task that the signature there names, where that is a name.
+    pub name: Option<String>,
+    /// What was found there and what is wanted, in a line.
+    pub note: String,
+}
+
+/// The first signature of a text that has a refusal, or that goes past its limit.
+fn place_of<'v>(
+    alloc: Global,
+    value: &'v Value,
+    fault: SigFault,
+    left: u32,
+) -> Result<Option<Place<'v>>, AllocError>
+    requires { depth (view value.now) ≤ left }
+    ensures { IfOk result (λ o. option_map shown o ≡ place_of fault (view value.entry.now)) }
+{
+    match fault {
+        SigFault::TooLarge => Ok(None),
+        SigFault::NotJson => Ok(None),
+        SigFault::Memory => Ok(None),
+        SigFault::NestedGroup => {
+            Ok(first_wanted(places_of(alloc, value, left)?, Wanted::Nested))
+        }
+        SigFault::TooDeep => first_too_deep(alloc, value, left),
+        SigFault::TooMany => {
+            let places = places_of(alloc, value, left)?;
+            Ok(first_past(places, MOST_TASKS, MOST_GROUPS))
+        }
+        _ => Ok(first_wanted(places_of(alloc, value, left)?, Wanted::Refused)),
+    }
+}
+
+/// The first signature that stands too deep in others, or else the whole canvas.
+fn first_too_deep<'v>(
+    alloc: Global,
+    value: &'v Value,
+    left: u32,
+) -> Result<Option<Place<'v>>, AllocError>
+    requires { depth (view value.now) ≤ left }
+    ensures { IfOk result (λ o. option_map shown o ≡ place_of TooDeep (view value.entry.now)) }
+{
+    match first_wanted(places_of(alloc, value, left)?, Wanted::TooDeep) {
+        Some(place) => Ok(Some(place)),
+        None => Ok(Some(Place {
+            steps: Vec::new(alloc),
+            is_linked: false,
+            value,
+        })),
+    }
+}
+
+/// Where a refusal stands in a value.
+fn find_in(alloc: Global, value: &Value, fault: SigFault, left: u32) -> Result<Finding, AllocError>
+    requires { depth (view value.now) ≤ left }
+    ensures fault { IfOk result (λ f. f.fault ≡ fault) }
+    ensures spot { IfOk result (λ f. IsSpot (view value.now) fault f.spot) }
+{
+    match place_of(alloc, value, fault, left)? {
+        Some(place) => {
+            let name = name_in(alloc, place.value)?;
+            let note = note_of(alloc, &place, fault)?;
+            read_indices(&place.steps);
+            Ok(Finding {
+                fault,
+                spot: Spot::Signature(place.steps),
+                name,
+                note,
+            })
+        }
+        None => Ok(whole(fault, String::new(alloc))),
+    }
+}
+
+fn name_in(alloc: Global, value: &Value) -> Result<Option<String>, AllocError> {
+    let task = value.get("task");
+    if is_name(task) {
+        Ok(Some(text_of(alloc, task)?))
+    } else {
+        Ok(None)
+    }
+}
+
+fn whole(fault: SigFault, note: String) -> Finding
+    ensures { (result.fault ≡ fault) × (result.spot ≡ Text) }
+{
+    Finding {
+        fault,
+        spot: Spot::Text,
+        name: None,
+        note,
+    }
+}
+
+/// What serde_json says of a text, without the place, which a finding has apart.
+fn json_note(alloc: Global, error: &serde_json::Error) -> Result<String, AllocError> {
+    let said = error.to_string(alloc)?;
+    match said.split_once(" at line ") {
+        Some((reason, _place)) => String::from_str(alloc, reason),
+        None => Ok(said),
+    }
+}
+
+/// Where a text is refused that isn't too large.
+fn find_at(alloc: Global, bytes: &[u8], fault: SigFault) -> Result<Finding, Memory>
+    ensures fault { IfOk result (λ f. f.fault ≡ fault) }
+    ensures spot { IfOk result (λ f. StandsAt bytes.now fault f.spot) }
+{
+    match Value::from_slice(alloc, bytes) {
+        Ok(value) => Ok(find_in(alloc, &value, fault, MOST_LEVELS)?),
+        Err(error) => {
+            if error.is_memory() {
+                return Err(Memory);
+            }
+            Ok(Finding {
+                fault,
+                spot: Spot::Json {
+                    line: error.line(),
+                    column: error.column(),
+                },
+                name: None,
+                note: json_note(alloc, &error)?,
+            })
+        }
+    }
+}
+
+/// Why a text is no canvas, and where; none where it is one.
+pub fn find(alloc: Global, bytes: &[u8]) -> Result<Option<Finding>, Memory>
+    ensures { IfOk result (IsFound bytes.now) }
+{
+    match read_canvas(alloc, bytes) {
+        Ok(_canvas) => Ok(None),
+        Err(SigFault::Memory) => Err(Memory),
+        Err(SigFault::TooLarge) => {
+            let note = String::from_str(
+                alloc,
+                "found more than 1,048,576 bytes, wanted at most as many",
+            )?;
+            Ok(Some(whole(SigFault::TooLarge, note)))
+        }
+        Err(fault) => Ok(Some(find_at(alloc, bytes, fault)?)),
+    }
 }

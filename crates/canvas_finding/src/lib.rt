@@ -1,10 +1,25 @@
 //! Where a text that is no canvas is refused, and what was found there.
 #![tactic(auto)]
 
+ghost use Rattle.std.specs.Prelude.{◌≡◌, option_and_then};
+ghost use Rattle.serde_json.specs.Data.{Data};
+ghost use Rattle.canvas_sig.specs.Refusals.{signature_fault};
+ghost use Rattle.canvas_finding.specs.Refused.{refusal_of, first_refused};
+
+mod arguments;
 mod finding;
 mod limits;
 mod listing;
+mod notes;
+mod shown;
 mod step;
 
-pub use finding::{Finding, Spot};
+pub use finding::{Finding, Spot, find};
 pub use step::{Field, Step, pointer_text};
+
+/// The refusal of the first signature that is refused for itself, in file order, is the one that
+/// reading a text answers.
+#[tactic(auto, using(crate::proofs::FirstFault::first_refusal))]
+pub fn law_of_first_refusals()
+    ensures { (d : Data) → option_and_then refusal_of (first_refused d) ≡ signature_fault d }
+{}

@@ -11,14 +11,10 @@ ghost use Rattle.canvas_finding.specs.Limits.{kind_of, is_too_deep, steps_to_mem
 
 use crate::listing::Place;
 use crate::step::{Field, Step};
-use canvas_sig::parts::{
-    MOST_LEVELS, MOST_TASKS, Primitive, kwarg_of, listed, own_fault, primitive_of,
-};
+use canvas_sig::parts::{MOST_LEVELS, Primitive, kwarg_of, listed, own_fault, primitive_of};
 use serde_json::Value;
 
 const MOST_NESTING: usize = 8;
-
-const MOST_GROUPS: u32 = 1024;
 
 fn kind_of(value: &Value) -> Option<Primitive>
     ensures { result ≡ kind_of (view value.now) }
@@ -121,8 +117,8 @@ fn is_counted_group(place: &Place<'_>) -> bool
 }
 
 /// What is looked for.
-#[derive(Clone, Copy)]
-enum Wanted {
+#[derive(Clone, Copy, Drop)]
+pub(crate) enum Wanted {
     Refused,
     Nested,
     TooDeep,
@@ -138,7 +134,7 @@ fn is_wanted(place: &Place<'_>, wanted: Wanted) -> bool
     }
 }
 
-fn first_wanted(places: Vec<Place<'_>>, wanted: Wanted) -> Option<Place<'_>>
+pub(crate) fn first_wanted(places: Vec<Place<'_>>, wanted: Wanted) -> Option<Place<'_>>
     ensures { option_map shown result ≡ find (is_wanted wanted) (map shown places.entry.items) }
 {
     for place in places {
@@ -150,7 +146,7 @@ fn first_wanted(places: Vec<Place<'_>>, wanted: Wanted) -> Option<Place<'_>>
 }
 
 /// The first behind so many tasks and so many groups and chords that is one more of them.
-fn first_past(places: Vec<Place<'_>>, tasks: u32, groups: u32) -> Option<Place<'_>>
+pub(crate) fn first_past(places: Vec<Place<'_>>, tasks: u32, groups: u32) -> Option<Place<'_>>
     ensures { option_map shown result ≡ past tasks groups (map shown places.entry.items) }
 {
     let mut tasks = tasks;

@@ -1,10 +1,11 @@
 //! The signatures of a text in file order.
 
-ghost use Rattle.std.specs.Prelude.{◌≡◌, ◌∷◌, [], false, map, OnOk, IfOk, Some};
+ghost use Rattle.std.specs.Prelude.{◌≡◌, ◌≤◌, ◌∷◌, [], false, map, OnOk, IfOk, Some};
+ghost use Rattle.serde_json.specs.Data.{depth};
 ghost use Rattle.serde_json.specs.View.{view};
 ghost use Rattle.canvas_sig.specs.Fields.{value_at};
 ghost use Rattle.canvas_sig.specs.declared.primitive.Primitive.TheVariants.{Chord};
-ghost use Rattle.canvas_finding.specs.FileOrder.{behind, itself, in_each, inside, in_kwargs, from_index, one_in, some_in, sighted_within};
+ghost use Rattle.canvas_finding.specs.FileOrder.{behind, itself, in_each, inside, in_kwargs, from_index, one_in, some_in, sighted_within, signatures};
 ghost use Rattle.canvas_finding.specs.Places.{shown, Lists};
 
 use crate::step::{Field, Step};
@@ -69,7 +70,13 @@ impl<'v> Listing<'v> {
     {
         self.list_kwargs(alloc, value, primitive_of(value.get("subtask_type")), left)?;
         self.list_some(alloc, Field::Links, option_of(value, "link"), true, left)?;
-        self.list_some(alloc, Field::Errbacks, option_of(value, "link_error"), true, left)
+        self.list_some(
+            alloc,
+            Field::Errbacks,
+            option_of(value, "link_error"),
+            true,
+            left,
+        )
     }
 
     #[cycle(listing)]
@@ -212,14 +219,15 @@ impl<'v> Listing<'v> {
     }
 }
 
-/// The signatures of a text, in file order; signatures in it nest at most `left` deep.
+/// The signatures of a text, in file order. Arrays and objects in it nest at most `left` deep.
 pub(crate) fn places_of<'v>(
     alloc: Global,
     value: &'v Value,
     left: u32,
 ) -> Result<Vec<Place<'v>>, AllocError>
+    requires { depth (view value.now) ≤ left }
     ensures { IfOk result
-        (λ places. map shown places.items ≡ sighted_within left false (view value.entry.now)) }
+        (λ places. map shown places.items ≡ signatures (view value.entry.now)) }
 {
     let mut listing = Listing {
         places: Vec::new(alloc),

@@ -1,7 +1,7 @@
 //! The steps from a signature to one in it, and their text.
 
 ghost use Rattle.std.specs.Prelude.{◌≡◌, IfOk, string_bytes};
-ghost use Rattle.canvas_finding.specs.Pointer.{field_text, pointer_text};
+ghost use Rattle.canvas_finding.specs.Pointer.{field_text, pointer_text, AreIndices};
 ghost use Rattle.canvas_finding.specs.Limits.{goes_deeper};
 
 use std::alloc::{AllocError, Global};
@@ -84,4 +84,13 @@ pub fn pointer_text(alloc: Global, steps: &[Step]) -> Result<String, AllocError>
         write!(text, "{step}")?;
     }
     Ok(text)
+}
+
+/// For the proof alone, which knows of a number that it fits its type once it was read.
+pub(crate) fn read_indices(steps: &[Step])
+    ensures { AreIndices steps.now }
+{
+    for step in steps {
+        let _index = step.index.unwrap_or(0);
+    }
 }

@@ -1,0 +1,199 @@
+//! What was found where a text is refused, and what is wanted there, in a line.
+
+use crate::arguments::{Bad, first_bad};
+use crate::listing::Place;
+use crate::shown::{shown, shown_value};
+use canvas_sig::SigFault;
+use canvas_sig::parts::{
+    Primitive, is_list, is_list_or_null, is_name, is_null, is_object_or_null, is_true, kwarg_of,
+    option_of, primitive_of,
+};
+use serde_json::Value;
+use std::alloc::{AllocError, Global};
+
+/// What is wanted in place of an argument.
+const ARGUMENT: &str = "a whole number, a text or a list of whole numbers";
+
+const NUMBER: &str = "a whole number from -2^60 to 2^60";
+
+const SIGNATURES: &str = "a list of signatures";
+
+fn found(
+    alloc: Global,
+    what: &str,
+    value: Option<&Value>,
+    wanted: &str,
+) -> Result<String, AllocError> {
+    let shown = shown(alloc, value)?;
+    format!(in alloc; "found {what} {shown}, wanted {wanted}")
+}
+
+fn of_signature(alloc: Global, value: &Value) -> Result<String, AllocError> {
+    if !value.is_object() {
+        let shown = shown_value(alloc, value)?;
+        return format!(in alloc; "found {shown}, wanted a signature: an object that names a task");
+    }
+    let task = value.get("task");
+    if !is_name(task) {
+        return found(alloc, "task", task, "a name of 1 to 128 bytes from ! to ~");
+    }
+    found(
+        alloc,
+        "immutable",
+        value.get("immutable"),
+        "true, false or null",
+    )
+}
+
+fn is_link(field: Option<&Value>) -> bool {
+    matches!(
+        field,
+        None | Some(Value::Null | Value::Array(_) | Value::Object(_))
+    )
+}
+
+fn of_bad_args(alloc: Global, value: &Value) -> Result<String, AllocError> {
+    let args = value.get("args");
+    if !is_list_or_null(args) {
+        return found(alloc, "args", args, "a list");
+    }
+    for name in ["kwargs", "options"] {
+        let member = value.get(name);
+        if !is_object_or_null(member) {
+            return found(alloc, name, member, "an object");
+        }
+    }
+    for (name, what) in [
+        ("link", "options.link"),
+        ("link_error", "options.link_error"),
+    ] {
+        let callbacks = option_of(value, name);
+        if !is_link(callbacks) {
+            return found(alloc, what, callbacks, "a signature, or a list of some");
+        }
+    }
+    of_bad_members(alloc, value)
+}
+
+fn of_bad_members(alloc: Global, value: &Value) -> Result<String, AllocError> {
+    match primitive_of(value.get("subtask_type")) {
+        Some(Primitive::Chain | Primitive::Group) => {
+            found(alloc, "kwargs.tasks", kwarg_of(value, "tasks"), SIGNATURES)
+        }
+        Some(Primitive::Chord) => {
+            let body = kwarg_of(value, "body");
+            let header = kwarg_of(value, "header");
+            if is_list(header) && is_null(body) {
+                found(alloc, "kwargs.body", body, "a signature")
+            } else {
+                found(
+                    alloc,
+                    "kwargs.header",
+                    header,
+                    "a list of signatures, or a group",
+                )
+            }
+        }
+        _ => of_bad_argument(alloc, value, Bad::Kind, ARGUMENT),
+    }
+}
+
+fn of_bad_argument(
+    alloc: Global,
+    value: &Value,
+    bad: Bad,
+    wanted: &str,
+) -> Result<String, AllocError> {
+    match first_bad(alloc, value, bad)? {
+        Some(found) => format!(in alloc; "found {found}, wanted {wanted}"),
+        None => format!(in alloc; "wanted {wanted}"),
+    }
+}
+
+fn kind_name(value: &Value) -> &'static str {
+    match primitive_of(value.get("subtask_type")) {
+        Some(Primitive::Chain) => "a chain",
+        Some(Primitive::Group) => "a group",
+        Some(Primitive::Chord) => "a chord",
+        _ => "a task",
+    }
+}
+
+/// What only a task has, or where only a task may stand.
+fn of_canvas(alloc: Global, place: &Place<'_>) -> Result<String, AllocError> {
+    let value = place.value;
+    let kind = kind_name(value);
+    if place.is_linked {
+        return format!(in alloc; "found {kind} as a link or error callback, wanted a task");
+    }
+    let what = if is_true(value.get("immutable")) {
+        "immutable"
+    } else if !is_null(option_of(value, "link")) {
+        "options.link"
+    } else if !is_null(option_of(value, "link_error")) {
+        "options.link_error"
+    } else {
+        "args"
+    };
+    format!(in alloc; "found {what} on {kind}, wanted it on tasks alone")
+}
+
+fn of_depth(alloc: Global, place: &Place<'_>) -> Result<String, AllocError> {
+    if place.steps.is_empty() {
+        return String::from_str(
+            alloc,
+            "found signatures more than 32 deep in each other in a message of the run, wanted at most 32",
+        );
+    }
+    String::from_str(
+        alloc,
+        "found a signature more than 8 deep in others, wanted at most 8",
+    )
+}
+
+fn of_number(alloc: Global, place: &Place<'_>) -> Result<String, AllocError> {
+    match primitive_of(place.value.get("subtask_type")) {
+        Some(Primitive::Task) => {
+            String::from_str(
+                alloc,
+                "found one task more than 1,024, wanted at most 1,024",
+            )
+        }
+        _ => String::from_str(
+            alloc,
+            "found one group or chord more than 1,024, wanted at most 1,024",
+        ),
+    }
+}
+
+/// The note on a signature that has a refusal, or that goes past a limit.
+pub(crate) fn note_of(
+    alloc: Global,
+    place: &Place<'_>,
+    fault: SigFault,
+) -> Result<String, AllocError> {
+    let value = place.value;
+    match fault {
+        SigFault::NotSignature => of_signature(alloc, value),
+        SigFault::UnknownPrimitive => found(
+            alloc,
+            "subtask_type",
+            value.get("subtask_type"),
+            "null, \"chain\", \"group\" or \"chord\"",
+        ),
+        SigFault::BadArgs => of_bad_args(alloc, value),
+        SigFault::BadNumber => of_bad_argument(alloc, value, Bad::Number, NUMBER),
+        SigFault::OnCanvas => of_canvas(alloc, place),
+        SigFault::Frozen => found(alloc, "options.chord", option_of(value, "chord"), "null"),
+        SigFault::EmptyChain => {
+            String::from_str(alloc, "found a chain of no tasks, wanted one at least")
+        }
+        SigFault::NestedGroup => String::from_str(
+            alloc,
+            "found a member that ends in a group, wanted one that ends in a task",
+        ),
+        SigFault::TooDeep => of_depth(alloc, place),
+        SigFault::TooMany => of_number(alloc, place),
+        _ => Ok(String::new(alloc)),
+    }
+}

@@ -1,0 +1,51 @@
+//! A JSON value in a few words, as a note shows it.
+
+use serde_json::Value;
+use std::alloc::{AllocError, Global};
+
+/// How many characters of a text are shown.
+const MOST_SHOWN: usize = 40;
+
+/// A text in quotes, cut where it is long. What isn't printable ASCII is escaped.
+pub(crate) fn quoted(alloc: Global, text: &str) -> Result<String, AllocError> {
+    let mut shown = String::new(alloc);
+    shown.push('"')?;
+    for c in text.chars().take(MOST_SHOWN) {
+        match c {
+            '"' => shown.push_str("\\\"")?,
+            '\\' => shown.push_str("\\\\")?,
+            ' '..='~' => shown.push(c)?,
+            _ => {
+                let code = c as u32;
+                write!(shown, "\\u{{{code:x}}}")?;
+            }
+        }
+    }
+    shown.push_str(if text.chars().count() > MOST_SHOWN {
+        "..\""
+    } else {
+        "\""
+    })?;
+    Ok(shown)
+}
+
+/// What stands in a member.
+pub(crate) fn shown(alloc: Global, found: Option<&Value>) -> Result<String, AllocError> {
+    match found {
+        None => String::from_str(alloc, "nothing"),
+        Some(value) => shown_value(alloc, value),
+    }
+}
+
+/// A value; of a list and an object only that it is one.
+pub(crate) fn shown_value(alloc: Global, value: &Value) -> Result<String, AllocError> {
+    match value {
+        Value::Array(values) => {
+            let count = values.len();
+            format!(in alloc; "a list of {count}")
+        }
+        Value::Object(_) => String::from_str(alloc, "an object"),
+        Value::String(text) => quoted(alloc, text),
+        _ => value.to_string(alloc),
+    }
+}
