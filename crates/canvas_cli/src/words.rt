@@ -1,5 +1,6 @@
 //! The words of the command line.
 
+use crate::celery::{CeleryVerb, celery_commands};
 use crate::help::NOTES;
 use canvas_engine::MOST_WORKERS;
 use clap::builder::ValueParser;
@@ -23,6 +24,8 @@ pub(crate) enum Verb<'w> {
     },
     /// Its normal line, as JSON.
     Normal,
+    /// Its start or its results on Celery's own workers.
+    Celery(CeleryVerb<'w>),
 }
 
 impl<'w> Verb<'w> {
@@ -37,7 +40,7 @@ impl<'w> Verb<'w> {
                 again: given.get_str("again"),
             }),
             "normal" => Some(Verb::Normal),
-            _ => None,
+            _ => Some(Verb::Celery(CeleryVerb::of(name, given)?)),
         }
     }
 }
@@ -59,7 +62,7 @@ impl<'w> Asked<'w> {
     }
 }
 
-fn file_argument<'a>(alloc: Global) -> Arg<'a> {
+pub(crate) fn file_argument<'a>(alloc: Global) -> Arg<'a> {
     Arg::new(alloc, "FILE")
         .required(true)
         .help("The canvas as JSON; `-` is standard input")
@@ -122,7 +125,7 @@ fn program<'a>(alloc: Global) -> Result<Command<'a>, Error> {
         .subcommand(run_command(alloc)?)?
         .subcommand(turns_command(alloc)?)?
         .subcommand(normal_command(alloc)?)?;
-    Ok(program)
+    celery_commands(alloc, program)
 }
 
 /// Reads the words behind the program's name.

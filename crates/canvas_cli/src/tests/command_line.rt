@@ -14,10 +14,13 @@ Runs Celery canvases: chains, groups and chords of tasks
 Usage: canvas <COMMAND>
 
 Commands:
-  run     Runs a canvas and prints the state and result of each task
-  turns   Runs a canvas with its workers taking turns by a list, and prints the same
-  normal  Prints a canvas's normal line as JSON
-  help    Print this message or the help of the given subcommand(s)
+  run      Runs a canvas and prints the state and result of each task
+  turns    Runs a canvas with its workers taking turns by a list, and prints the same
+  normal   Prints a canvas's normal line as JSON
+  export   Prints the commands for Redis that start a canvas on Celery's workers
+  keys     Prints the keys of a canvas's results on Redis, one a line
+  collect  Prints the report of a canvas from its results on standard input, one a line
+  help     Print this message or the help of the given subcommand(s)
 
 Options:
   -h, --help  Print help
@@ -65,7 +68,7 @@ Options:
 
 const NO_COMMAND: &str = "\
 error: 'canvas' requires a subcommand but one was not provided
-  [subcommands: run, turns, normal, help]
+  [subcommands: run, turns, normal, export, keys, collect, help]
 
 Usage: canvas <COMMAND>
 

@@ -1,0 +1,12 @@
+pub mod Run
+pub mod Resp
+pub mod Keys
+pub mod Setting
+pub mod Starting
+pub mod Script
+pub mod Transaction
+pub mod Start
+pub mod Signatures
+pub mod Envelope
+pub mod View
+pub mod steps

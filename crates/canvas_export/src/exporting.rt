@@ -1,0 +1,100 @@
+//! The start of a plan as commands for Redis.
+
+ghost use Rattle.std.specs.Prelude.{◌≡◌, ◌++◌, ◌∷◌, [], OnOk, IfOk, map, codes, string_bytes, length, List};
+ghost use Rattle.canvas_task.specs.Text.{Text};
+ghost use Rattle.canvas_semantics.specs.PlacedLine.{bare};
+ghost use Rattle.canvas_message.specs.Effects.{first_messages};
+ghost use Rattle.canvas_export.specs.Resp.{resp};
+ghost use Rattle.canvas_export.specs.Starting.{starting};
+ghost use Rattle.canvas_export.specs.Start.{start};
+ghost use Rattle.canvas_export.specs.steps.Sizes.{size_view};
+ghost use Rattle.canvas_export.specs.View.{setting};
+
+use crate::by_script::push_script;
+use crate::by_transaction::push_transaction;
+use crate::envelope::envelope_text;
+use crate::starting::{Size, push_sizes};
+use crate::write::Names;
+use crate::{Run, Target};
+use canvas_message::{Message, first_messages};
+use canvas_rewrite::Plan;
+use canvas_task::Memory;
+use std::alloc::{AllocError, Global};
+
+/// The texts of messages, in their order.
+fn encode_all(
+    alloc: Global,
+    names: &Names<'_>,
+    queue: &str,
+    messages: &[Message],
+) -> Result<Vec<Vec<u8>>, AllocError>
+    ensures { IfOk result (λ texts. length texts.items ≡ length messages.now) }
+{
+    let mut texts = Vec::new(alloc);
+    for message in messages {
+        texts.push(envelope_text(alloc, names, queue, message)?)?;
+    }
+    Ok(texts)
+}
+
+/// The texts of the messages that a plan starts with.
+fn texts_of(alloc: Global, plan: &Plan, run: &Run, queue: &str) -> Result<Vec<Vec<u8>>, Memory>
+    ensures { IfOk result (λ texts. length texts.items ≡ length (first_messages plan.now)) }
+{
+    let messages = first_messages(alloc, plan)?;
+    let names = Names { run, plan };
+    Ok(encode_all(alloc, &names, queue, &messages)?)
+}
+
+/// The chords whose headers start with a plan.
+fn sizes_of(alloc: Global, plan: &Plan) -> Result<Vec<Size>, AllocError>
+    ensures { IfOk result (λ sizes. map size_view sizes.items ≡ starting (bare plan.now)) }
+{
+    let mut sizes = Vec::new(alloc);
+    push_sizes(plan.line(), &mut sizes)?;
+    Ok(sizes)
+}
+
+fn commands_of(
+    alloc: Global,
+    run: &Run,
+    target: &Target<'_>,
+    sizes: &[Size],
+    texts: &[Vec<u8>],
+) -> Result<Vec<u8>, AllocError> {
+    let mut out = Vec::new(alloc);
+    if target.by_script {
+        push_script(alloc, &mut out, run, target, sizes, texts)?;
+    } else {
+        push_transaction(alloc, &mut out, run, target, sizes, texts)?;
+    }
+    Ok(out)
+}
+
+fn start_of(
+    alloc: Global,
+    run: &Run,
+    target: &Target<'_>,
+    sizes: &[Size],
+    texts: &[Vec<u8>],
+) -> Result<Vec<u8>, AllocError> {
+    if texts.is_empty() {
+        Ok(Vec::new(alloc))
+    } else {
+        commands_of(alloc, run, target, sizes, texts)
+    }
+}
+
+/// The commands that start a plan, as the Redis serialization protocol has them; none where no task
+/// starts. They put on the queue one message for each message that the plan starts with, in their
+/// order, and the size of each chord whose header starts under its key.
+pub fn export(
+    alloc: Global,
+    plan: &Plan,
+    run: &Run,
+    target: &Target<'_>,
+) -> Result<Vec<u8>, Memory> {
+    let texts = texts_of(alloc, plan, run, target.queue)?;
+    let sizes = sizes_of(alloc, plan)?;
+    Ok(start_of(alloc, run, target, &sizes, &texts)?)
+}
