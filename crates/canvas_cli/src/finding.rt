@@ -1,0 +1,132 @@
+//! `canvas check`: the figures of a canvas, or where it is refused.
+
+use crate::command::{print, text_of};
+use crate::plan::plan_of;
+use crate::refusal::Refusal;
+use crate::words::file_argument;
+use canvas_finding::{Finding, Spot, find, pointer_text};
+use canvas_task::{Memory, Registry};
+use canvas_trace::trace_of;
+use canvas_views::quoted_json;
+use clap::Command;
+use std::alloc::{AllocError, Global};
+use std::io::{Read, Write};
+use std::rt::Files;
+
+pub(crate) fn check_command<'a>(alloc: Global) -> Result<Command<'a>, AllocError> {
+    Command::new(alloc, "check")
+        .about("Prints the figures of a canvas, or where it is refused and what is wanted there")
+        .arg(file_argument(alloc))
+}
+
+/// Where a text is refused, as a person reads it.
+fn spot_text(alloc: Global, finding: &Finding) -> Result<String, AllocError> {
+    match &finding.spot {
+        Spot::Text => String::from_str(alloc, "at the whole text"),
+        Spot::Json { line, column } => {
+            format!(in alloc; "invalid JSON at line {line} column {column}")
+        }
+        Spot::Signature(steps) => {
+            let pointer = pointer_text(alloc, steps)?;
+            let at = if pointer.is_empty() {
+                "the top"
+            } else {
+                pointer.as_str()
+            };
+            match &finding.name {
+                Some(name) => format!(in alloc; "at {at} ({name})"),
+                None => format!(in alloc; "at {at}"),
+            }
+        }
+    }
+}
+
+fn finding_text(alloc: Global, finding: &Finding) -> Result<String, AllocError> {
+    let spot = spot_text(alloc, finding)?;
+    let note = &finding.note;
+    let code = finding.fault.code();
+    let fault = finding.fault;
+    format!(in alloc; "{spot}\n{note}\ncanvas: refused {code} {fault}\n")
+}
+
+/// The pointer to a signature, as a JSON string; null where it isn't one that is refused.
+fn pointer_json(alloc: Global, spot: &Spot) -> Result<String, AllocError> {
+    match spot {
+        Spot::Signature(steps) => quoted_json(alloc, &pointer_text(alloc, steps)?),
+        _ => String::from_str(alloc, "null"),
+    }
+}
+
+fn finding_json(alloc: Global, finding: &Finding) -> Result<String, AllocError> {
+    let code = finding.fault.code();
+    let name = finding.fault;
+    let note = quoted_json(alloc, &finding.note)?;
+    let pointer = pointer_json(alloc, &finding.spot)?;
+    match &finding.spot {
+        Spot::Json { line, column } => format!(in alloc;
+            "{{\"code\":{code},\"column\":{column},\"line\":{line},\"name\":\"{name}\",\"note\":{note},\"pointer\":{pointer}}}\n"),
+        _ => format!(in alloc;
+            "{{\"code\":{code},\"name\":\"{name}\",\"note\":{note},\"pointer\":{pointer}}}\n"),
+    }
+}
+
+/// The refusal of a text as a JSON object in a line.
+pub(crate) fn refusal_json(alloc: Global, text: &[u8]) -> Result<String, Memory> {
+    match find(alloc, text)? {
+        Some(finding) => Ok(finding_json(alloc, &finding)?),
+        None => Ok(String::new(alloc)),
+    }
+}
+
+/// Why a text is refused, as a person reads it; none where it isn't.
+pub(crate) fn refusal_text(alloc: Global, text: &[u8]) -> Result<Option<String>, Memory> {
+    match find(alloc, text)? {
+        Some(finding) => Ok(Some(finding_text(alloc, &finding)?)),
+        None => Ok(None),
+    }
+}
+
+/// The figures of a canvas, one a line.
+fn figures_text<'w>(
+    alloc: Global,
+    registry: &Registry,
+    text: &[u8],
+) -> Result<String, Refusal<'w>> {
+    let plan = plan_of(alloc, text)?;
+    let trace = trace_of(alloc, &plan, registry, 1, &[])?;
+    let tasks = plan.tasks();
+    let groups = plan.groups();
+    let messages = trace.messages.len();
+    let bytes = trace.bytes();
+    let mut figures = String::new(alloc);
+    writeln!(figures, "tasks {tasks}")?;
+    writeln!(figures, "groups and chords {groups}")?;
+    writeln!(figures, "messages {messages}")?;
+    writeln!(figures, "bytes of messages {bytes}")?;
+    Ok(figures)
+}
+
+pub(crate) fn answer_check<'w, S, R: Read, W: Write, E: Write>(
+    rt: &S,
+    registry: &Registry,
+    file: &'w str,
+    input: &mut R,
+    out: &mut W,
+    err: &mut E,
+) -> Result<u8, Refusal<'w>>
+where
+    S: Files + AllocGlobal,
+{
+    let alloc = rt.alloc();
+    let text = text_of(rt, file, input)?;
+    match refusal_text(alloc, &text)? {
+        Some(said) => {
+            print(err, &said)?;
+            Ok(1)
+        }
+        None => {
+            print(out, &figures_text(alloc, registry, &text)?)?;
+            Ok(0)
+        }
+    }
+}

@@ -1,0 +1,13 @@
+//! The plan of a canvas's text.
+
+use crate::refusal::Refusal;
+use canvas_rewrite::{Plan, freeze, normalise};
+use canvas_sig::read_canvas;
+use std::alloc::Global;
+
+/// The plan of the canvas that a text spells.
+pub(crate) fn plan_of<'w>(alloc: Global, text: &[u8]) -> Result<Plan, Refusal<'w>> {
+    let canvas = read_canvas(alloc, text)?;
+    let line = normalise(alloc, &canvas)?;
+    Ok(freeze(alloc, &line)?)
+}

@@ -1,0 +1,66 @@
+//! The language of Graphviz: nodes, edges and texts.
+
+use canvas_rewrite::FrozenTask;
+use canvas_task::{GroupNo, Outcome, TaskNo};
+use std::alloc::AllocError;
+use std::fmt;
+
+/// What edges join: a task, or a group or chord of no members.
+#[derive(Clone, Copy, Drop)]
+pub(crate) enum Node {
+    Task(TaskNo),
+    Group(GroupNo),
+}
+
+impl fmt::Display for Node {
+    fn fmt<W: fmt::Write>(&self, f: &mut fmt::Formatter<W>) -> fmt::Result {
+        match self {
+            Node::Task(task) => {
+                let number = task.get();
+                write!(f, "t{number}")
+            }
+            Node::Group(group) => {
+                let number = group.get();
+                write!(f, "g{number}")
+            }
+        }
+    }
+}
+
+/// A text in quotes. What isn't printable ASCII is escaped, so that no text ends its quotes or
+/// begins an escape of Graphviz.
+pub(crate) fn push_quoted(dot: &mut String, text: &str) -> Result<(), AllocError> {
+    dot.push('"')?;
+    for c in text.chars() {
+        match c {
+            '"' => dot.push_str("\\\"")?,
+            '\\' => dot.push_str("\\\\")?,
+            '\n' => dot.push_str("\\n")?,
+            ' '..='~' => dot.push(c)?,
+            _ => {
+                let code = c as u32;
+                write!(dot, "\\\\u{{{code:x}}}")?;
+            }
+        }
+    }
+    dot.push('"')?;
+    Ok(())
+}
+
+/// How a task is drawn: states differ by their shapes and borders too, and not by colour alone.
+pub(crate) fn looks_of(row: Option<&Option<Outcome>>) -> &'static str {
+    match row {
+        None => "shape=box, style=rounded",
+        Some(None) => "shape=box, style=\"dashed,filled\", fillcolor=\"#eeeeee\"",
+        Some(Some(Outcome::Success(_))) => {
+            "shape=box, style=\"rounded,filled\", fillcolor=\"#d8f0d8\""
+        }
+        Some(Some(Outcome::Failure(_))) => {
+            "shape=octagon, style=filled, fillcolor=\"#f7d4d4\", penwidth=2"
+        }
+    }
+}
+
+pub(crate) fn node_of(task: &FrozenTask) -> Node {
+    Node::Task(task.no)
+}

@@ -1,0 +1,29 @@
+//! Texts and messages as JSON.
+
+use canvas_message::Envelope;
+use serde_json::Value;
+use std::alloc::{AllocError, Global};
+use std::str;
+
+/// A text as a JSON string.
+pub fn quoted_json(alloc: Global, text: &str) -> Result<String, AllocError> {
+    Value::String(String::from_str(alloc, text)?).to_string(alloc)
+}
+
+/// One of a message's three texts. What `encode` writes is UTF-8.
+fn text_json(alloc: Global, bytes: &[u8]) -> Result<String, AllocError> {
+    match str::from_utf8(bytes) {
+        Ok(text) => quoted_json(alloc, text),
+        Err(_) => String::from_str(alloc, "null"),
+    }
+}
+
+/// A message as a JSON object in a line: its body, its headers and its properties, each a text.
+pub fn message_line(alloc: Global, envelope: &Envelope) -> Result<String, AllocError> {
+    let body = text_json(alloc, envelope.body.get())?;
+    let headers = text_json(alloc, envelope.headers.get())?;
+    let properties = text_json(alloc, envelope.properties.get())?;
+    let mut line = String::from_str(alloc, "{\"body\":")?;
+    writeln!(line, "{body},\"headers\":{headers},\"properties\":{properties}}}")?;
+    Ok(line)
+}

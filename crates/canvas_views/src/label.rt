@@ -1,0 +1,78 @@
+//! Labels of a picture.
+
+use canvas_rewrite::FrozenTask;
+use canvas_task::{Arg, Outcome};
+use std::alloc::{AllocError, Global};
+
+/// How many characters of a text, and how many items of a list, are shown.
+const MOST_SHOWN: usize = 24;
+
+fn push_text(label: &mut String, text: &str) -> Result<(), AllocError> {
+    label.push('\'')?;
+    for c in text.chars().take(MOST_SHOWN) {
+        label.push(c)?;
+    }
+    if text.chars().count() > MOST_SHOWN {
+        label.push_str("..")?;
+    }
+    label.push('\'')?;
+    Ok(())
+}
+
+fn push_list(label: &mut String, numbers: &[i64]) -> Result<(), AllocError> {
+    label.push('[')?;
+    let mut mark = "";
+    for number in numbers.iter().take(MOST_SHOWN) {
+        write!(label, "{mark}{number}")?;
+        mark = ", ";
+    }
+    if numbers.len() > MOST_SHOWN {
+        label.push_str(", ..")?;
+    }
+    label.push(']')?;
+    Ok(())
+}
+
+fn push_argument(label: &mut String, arg: &Arg) -> Result<(), AllocError> {
+    match arg {
+        Arg::Num(number) => {
+            write!(label, "{number}")?;
+            Ok(())
+        }
+        Arg::List(numbers) => push_list(label, numbers.get()),
+        Arg::Text(text) => push_text(label, text.get()),
+    }
+}
+
+/// A task's number, its call, whether it takes no input, and what came of it where it was run.
+pub(crate) fn label_of(
+    alloc: Global,
+    task: &FrozenTask,
+    row: Option<&Option<Outcome>>,
+) -> Result<String, AllocError> {
+    let number = task.no.get();
+    let name = task.name.get().as_str();
+    let mut label = format!(in alloc; "{number} {name}(")?;
+    let mut mark = "";
+    for arg in task.args.get().iter() {
+        label.push_str(mark)?;
+        push_argument(&mut label, arg)?;
+        mark = ", ";
+    }
+    for (name, arg) in task.kwargs.get().iter() {
+        write!(label, "{mark}{name}=")?;
+        push_argument(&mut label, arg)?;
+        mark = ", ";
+    }
+    label.push(')')?;
+    if task.immutable {
+        label.push_str("\ntakes no input")?;
+    }
+    match row {
+        None => (),
+        Some(None) => label.push_str("\nPENDING")?,
+        Some(Some(Outcome::Success(value))) => write!(label, "\nSUCCESS {value}")?,
+        Some(Some(Outcome::Failure(fault))) => write!(label, "\nFAILURE {fault}")?,
+    }
+    Ok(label)
+}

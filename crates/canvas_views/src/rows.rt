@@ -1,0 +1,136 @@
+//! The tasks of a run as JSON lines, which tools such as `jq` read.
+
+use crate::json_text::quoted_json;
+use canvas_engine::Report;
+use canvas_rewrite::{Ends, Plan};
+use canvas_task::{Fault, Memory, Outcome, TaskNo};
+use std::alloc::{AllocError, Global};
+
+fn row_of(report: &Report, task: TaskNo) -> Option<Outcome> {
+    match report.rows.get().get(task.get() as usize - 1) {
+        Some(row) => *row,
+        None => None,
+    }
+}
+
+fn status_of(row: &Option<Outcome>) -> &'static str {
+    match row {
+        None => "PENDING",
+        Some(Outcome::Success(_)) => "SUCCESS",
+        Some(Outcome::Failure(_)) => "FAILURE",
+    }
+}
+
+/// An exception as Celery's result backends store it: its type, and the list of its arguments.
+fn fault_json(alloc: Global, fault: &Fault) -> Result<String, AllocError> {
+    match fault {
+        Fault::Plain(kind) => {
+            format!(in alloc; "{{\"exc_message\":[],\"exc_type\":\"{kind}\"}}")
+        }
+        Fault::Chord { dep, why } => {
+            let said = format!(in alloc; "Dependency {dep} raised {why}")?;
+            let said = quoted_json(alloc, &said)?;
+            format!(in alloc; "{{\"exc_message\":[{said}],\"exc_type\":\"ChordError\"}}")
+        }
+    }
+}
+
+/// A result: a number, an exception, or null where there is none yet.
+fn result_json(alloc: Global, row: &Option<Outcome>) -> Result<String, AllocError> {
+    match row {
+        None => String::from_str(alloc, "null"),
+        Some(Outcome::Success(number)) => number.to_string(alloc),
+        Some(Outcome::Failure(fault)) => fault_json(alloc, fault),
+    }
+}
+
+fn push_row(
+    text: &mut String,
+    alloc: Global,
+    plan: &Plan,
+    report: &Report,
+    task: TaskNo,
+) -> Result<(), AllocError> {
+    let row = row_of(report, task);
+    let name = quoted_json(alloc, plan.name(task).unwrap_or(""))?;
+    let result = result_json(alloc, &row)?;
+    let status = status_of(&row);
+    writeln!(
+        text,
+        "{{\"name\":{name},\"result\":{result},\"status\":\"{status}\",\"task_id\":\"{task}\"}}"
+    )?;
+    Ok(())
+}
+
+/// The status of a group: a failure where a member failed, else pending where one is.
+fn status_of_all(report: &Report, tasks: &[TaskNo]) -> &'static str {
+    let mut status = "SUCCESS";
+    for task in tasks {
+        match row_of(report, *task) {
+            Some(Outcome::Failure(_)) => return "FAILURE",
+            Some(Outcome::Success(_)) => (),
+            None => status = "PENDING",
+        }
+    }
+    status
+}
+
+fn push_results(
+    text: &mut String,
+    alloc: Global,
+    report: &Report,
+    tasks: &[TaskNo],
+) -> Result<(), AllocError> {
+    let mut mark = "";
+    for task in tasks {
+        let result = result_json(alloc, &row_of(report, *task))?;
+        write!(text, "{mark}{result}")?;
+        mark = ",";
+    }
+    Ok(())
+}
+
+/// The result of the canvas.
+fn push_end(
+    text: &mut String,
+    alloc: Global,
+    plan: &Plan,
+    report: &Report,
+) -> Result<(), AllocError> {
+    match plan.ends() {
+        Ends::One(task) => {
+            let row = row_of(report, task);
+            let result = result_json(alloc, &row)?;
+            let status = status_of(&row);
+            writeln!(text, "{{\"result\":{result},\"status\":\"{status}\"}}")?;
+        }
+        Ends::Many(tasks) => {
+            let status = status_of_all(report, tasks);
+            text.push_str("{\"result\":[")?;
+            push_results(text, alloc, report, tasks)?;
+            writeln!(text, "],\"status\":\"{status}\"}}")?;
+        }
+    }
+    Ok(())
+}
+
+/// A JSON object in a line for each task, in the order of their numbers, and one for the result of
+/// the canvas.
+pub fn rows_text(alloc: Global, plan: &Plan, report: &Report) -> Result<String, Memory> {
+    let mut text = String::new(alloc);
+    for index in 0..plan.tasks() {
+        if let Some(task) = TaskNo::new(index.saturating_add(1)) {
+            push_row(&mut text, alloc, plan, report, task)?;
+        }
+    }
+    push_end(&mut text, alloc, plan, report)?;
+    Ok(text)
+}
+
+/// Whether the result of the canvas is a failure, or that of a member where it is a group.
+pub fn is_failure(plan: &Plan, report: &Report) -> bool {
+    match plan.ends() {
+        Ends::One(task) => matches!(row_of(report, task), Some(Outcome::Failure(_))),
+        Ends::Many(tasks) => status_of_all(report, tasks) == "FAILURE",
+    }
+}
