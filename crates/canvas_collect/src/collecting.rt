@@ -6,7 +6,7 @@ ghost use Rattle.canvas_collect.specs.Stored.{AllSaid};
 ghost use Rattle.canvas_collect.specs.steps.Rows.{Gains};
 
 use crate::stored::{StoredFault, read_stored};
-use canvas_export::Run;
+use canvas_celery::Run;
 use canvas_rewrite::Plan;
 use canvas_task::{ListOf, Memory, Outcome, TaskNo};
 use std::alloc::{AllocError, AllocFailed, Global};

@@ -6,10 +6,10 @@ ghost use Rattle.canvas_sig.specs.CanvasText.{json_of};
 ghost use Rattle.canvas_sig.specs.Fields.{value_at, field, text_of};
 ghost use Rattle.canvas_task.specs.Numbers.{in_range};
 ghost use Rattle.canvas_task.specs.Printed.{kind_name, why_name};
-ghost use Rattle.canvas_export.specs.Run.{run_task};
+ghost use Rattle.canvas_celery.specs.Run.{run_task};
 ghost use Rattle.canvas_collect.specs.Stored.{integer_in, class_name, SaysAll, Says};
 
-use canvas_export::Run;
+use canvas_celery::Run;
 use canvas_rewrite::Plan;
 use canvas_task::{Fault, Kind, Outcome, TaskNo, Why, in_range};
 use serde_json::Value;

@@ -61,13 +61,14 @@ properties_wire n queue k =
 
 -- ---- the envelope
 
-abbrev pub envelope_wire : Naming → (queue body : Text) → Content → Data
+abbrev pub envelope_wire : Naming → (queue : Text) → (body : Data) → Content → Data
 envelope_wire n queue body c =
-    object (member (codes "body") (string (encode_of standard body))
+    object (member (codes "body") body
     (member (codes "content-encoding") (string (codes "utf-8"))
     (member (codes "content-type") (string (codes "application/json"))
     (member (codes "headers") (headers_wire n c)
     (member (codes "properties") (properties_wire n queue (number_of c.own)) no_members)))))
 
 abbrev pub message_text : Naming → (queue : Text) → Content → Text
-message_text n queue c = compact_text (envelope_wire n queue (compact_text (body_wire n c)) c)
+message_text n queue c =
+    compact_text (envelope_wire n queue (string (encode_of standard (compact_text (body_wire n c)))) c)

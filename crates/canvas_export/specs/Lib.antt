@@ -1,6 +1,4 @@
-pub mod Run
 pub mod Resp
-pub mod Keys
 pub mod Setting
 pub mod Starting
 pub mod Script

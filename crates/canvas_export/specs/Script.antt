@@ -3,7 +3,7 @@
 use Rattle.std.specs.Prelude.{ℕ, ◌+◌, List, [], ◌∷◌, ◌++◌, length, map, Option, Some, None, decimal, codes}
 use Rattle.canvas_task.specs.Text.{Text}
 use Rattle.canvas_export.specs.Setting.{Setting}
-use Rattle.canvas_export.specs.Keys.{size_key, marker_key}
+use Rattle.canvas_celery.specs.Keys.{size_key, marker_key}
 
 -- It does nothing where its last argument isn't `whole`, as in a text that was cut, nor where the
 -- run's marker is there. Else it puts the messages on the queue, the chords' sizes under their keys

@@ -8,9 +8,12 @@ use Rattle.canvas_export.specs.Setting.{Setting}
 use Rattle.canvas_export.specs.Script.{script_command}
 use Rattle.canvas_export.specs.Transaction.{transaction}
 
+abbrev pub commands : (run : Text) → Setting → (sizes : List (ℕ × ℕ)) → (messages : List Text) → List (List Text)
+commands run s sizes messages =
+    if s.by_script then script_command run s sizes messages ∷ []
+    else transaction run s sizes messages
+
 -- nothing at all where no task starts
 abbrev pub start : (run : Text) → Setting → (sizes : List (ℕ × ℕ)) → (messages : List Text) → List (List Text)
 start run s sizes [] = []
-start run s sizes (m ∷ ms) =
-    if s.by_script then script_command run s sizes (m ∷ ms) ∷ []
-    else transaction run s sizes (m ∷ ms)
+start run s sizes (m ∷ ms) = commands run s sizes (m ∷ ms)

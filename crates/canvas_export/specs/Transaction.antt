@@ -3,7 +3,7 @@
 use Rattle.std.specs.Prelude.{ℕ, List, [], ◌∷◌, ◌++◌, map, Option, Some, None, decimal, codes}
 use Rattle.canvas_task.specs.Text.{Text}
 use Rattle.canvas_export.specs.Setting.{Setting}
-use Rattle.canvas_export.specs.Keys.{size_key}
+use Rattle.canvas_celery.specs.Keys.{size_key}
 
 -- the size of a chord is kept for so many seconds
 abbrev pub size_command : (run prefix : Text) → (expires : ℕ) → ℕ × ℕ → List Text

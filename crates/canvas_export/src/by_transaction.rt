@@ -7,8 +7,9 @@ ghost use Rattle.canvas_export.specs.steps.Sizes.{size_view};
 ghost use Rattle.canvas_export.specs.View.{setting};
 
 use crate::resp::{begin_command, decimal_of, push_command, push_texts, push_word};
-use crate::starting::{Size, size_key};
-use crate::{Run, Target};
+use crate::starting::Size;
+use crate::Target;
+use canvas_celery::{Run, size_key};
 use std::alloc::{AllocError, Global};
 
 fn push_size(
@@ -22,7 +23,7 @@ fn push_size(
         (size_command run.now.digits target.now.prefix.now target.now.expires
         (size_view size.now))) }
 {
-    let key = size_key(alloc, run, target.prefix, size)?;
+    let key = size_key(alloc, run, target.prefix, size.group)?;
     let expires = decimal_of(alloc, u64::from(target.expires))?;
     let members = decimal_of(alloc, size.members as u64)?;
     push_command(

@@ -1,44 +1,99 @@
 //! kombu's envelope: a message as it lies in a list of Redis.
 
-use crate::write::{Names, body_of, write_headers, write_task_member};
+ghost use Rattle.std.specs.Prelude.{◌≡◌, ◌∷◌, ◌++◌, [], IfOk, codes, pos};
+ghost use Rattle.json.specs.Token.{begin_object};
+ghost use Rattle.serde_json.specs.Data.{string};
+ghost use Rattle.canvas_sig.specs.Writing.{number_wire};
+ghost use Rattle.canvas_sig.specs.steps.Tokens.{Appends, data_tokens};
+ghost use Rattle.canvas_message.specs.Content.{number_of};
+ghost use Rattle.canvas_message.specs.steps.Tokens.{named_tokens};
+ghost use Rattle.canvas_export.specs.Signatures.{task_id};
+ghost use Rattle.canvas_export.specs.Envelope.{delivery_wire, properties_wire, headers_wire, envelope_wire, message_text};
+ghost use Rattle.canvas_export.specs.View.{naming};
+
+use crate::write::{
+    Names, body_of, write_headers, write_number, write_task_member, write_text,
+};
 use base64::engine::general_purpose::STANDARD;
 use canvas_message::Message;
+use canvas_task::TaskNo;
 use json::Writer;
 use std::alloc::{AllocError, Global};
 
-fn write_member(out: &mut Writer, name: &str, text: &str) -> Result<(), AllocError> {
-    out.key(name)?;
-    out.string(text)
-}
-
-fn write_delivery(out: &mut Writer, queue: &str) -> Result<(), AllocError> {
+fn write_delivery(out: &mut Writer, queue: &str) -> Result<(), AllocError>
+    ensures { Appends result out.old out.new
+        (named_tokens (codes "delivery_info") (delivery_wire queue.now)) }
+{
     out.key("delivery_info")?;
     out.begin_object()?;
-    write_member(out, "exchange", "")?;
-    write_member(out, "routing_key", queue)?;
+    write_text(out, "exchange", "")?;
+    write_text(out, "routing_key", queue)?;
     out.end_object()
 }
 
-fn write_number(out: &mut Writer, name: &str, number: u64) -> Result<(), AllocError> {
-    out.key(name)?;
-    out.u64(number)
+/// The opening brace, and the members up to `delivery_info`.
+fn write_properties_front(
+    out: &mut Writer,
+    names: &Names<'_>,
+    queue: &str,
+    task: TaskNo,
+) -> Result<(), AllocError>
+    ensures { Appends result out.old out.new (begin_object
+        ∷ (named_tokens (codes "body_encoding") (string (codes "base64"))
+        ++ (named_tokens (codes "correlation_id") (task_id (naming names.now) task)
+        ++ named_tokens (codes "delivery_info") (delivery_wire queue.now)))) }
+{
+    out.begin_object()?;
+    write_text(out, "body_encoding", "base64")?;
+    write_task_member(out, names, "correlation_id", task)?;
+    write_delivery(out, queue)
 }
 
 fn write_properties(
     out: &mut Writer,
     names: &Names<'_>,
     queue: &str,
-    message: &Message,
-) -> Result<(), AllocError> {
-    out.key("properties")?;
-    out.begin_object()?;
-    write_member(out, "body_encoding", "base64")?;
-    write_task_member(out, names, "correlation_id", message.task)?;
-    write_delivery(out, queue)?;
+    task: TaskNo,
+) -> Result<(), AllocError>
+    ensures { Appends result out.old out.new
+        (data_tokens (properties_wire (naming names.now) queue.now task)) }
+{
+    write_properties_front(out, names, queue, task)?;
     write_number(out, "delivery_mode", 2)?;
-    write_task_member(out, names, "delivery_tag", message.task)?;
+    write_task_member(out, names, "delivery_tag", task)?;
     write_number(out, "priority", 0)?;
     out.end_object()
+}
+
+/// The opening brace, and the body with how it is written.
+fn write_content(out: &mut Writer, body: &str) -> Result<(), AllocError>
+    ensures { Appends result out.old out.new (begin_object
+        ∷ (named_tokens (codes "body") (string body.now)
+        ++ (named_tokens (codes "content-encoding") (string (codes "utf-8"))
+        ++ named_tokens (codes "content-type") (string (codes "application/json"))))) }
+{
+    out.begin_object()?;
+    write_text(out, "body", body)?;
+    write_text(out, "content-encoding", "utf-8")?;
+    write_text(out, "content-type", "application/json")
+}
+
+/// The members `headers` and `properties`.
+fn write_both(
+    out: &mut Writer,
+    names: &Names<'_>,
+    queue: &str,
+    message: &Message,
+) -> Result<(), AllocError>
+    ensures { Appends result out.old out.new
+        (named_tokens (codes "headers") (headers_wire (naming names.now) message.now)
+        ++ named_tokens (codes "properties")
+        (properties_wire (naming names.now) queue.now (number_of message.now.own))) }
+{
+    out.key("headers")?;
+    write_headers(out, names, message)?;
+    out.key("properties")?;
+    write_properties(out, names, queue, message.task)
 }
 
 fn write_envelope(
@@ -47,14 +102,12 @@ fn write_envelope(
     queue: &str,
     message: &Message,
     body: &str,
-) -> Result<(), AllocError> {
-    out.begin_object()?;
-    write_member(out, "body", body)?;
-    write_member(out, "content-encoding", "utf-8")?;
-    write_member(out, "content-type", "application/json")?;
-    out.key("headers")?;
-    write_headers(out, names, message)?;
-    write_properties(out, names, queue, message)?;
+) -> Result<(), AllocError>
+    ensures { Appends result out.old out.new (data_tokens
+        (envelope_wire (naming names.now) queue.now (string body.now) message.now)) }
+{
+    write_content(out, body)?;
+    write_both(out, names, queue, message)?;
     out.end_object()
 }
 
@@ -64,7 +117,10 @@ pub(crate) fn envelope_text(
     names: &Names<'_>,
     queue: &str,
     message: &Message,
-) -> Result<Vec<u8>, AllocError> {
+) -> Result<Vec<u8>, AllocError>
+    ensures { IfOk result
+        (λ text. text.items ≡ message_text (naming names.now) queue.now message.now) }
+{
     let body = body_of(alloc, names, message)?;
     let encoded = STANDARD.encode(alloc, &body)?;
     let mut out = Writer::new(Vec::new(alloc));

@@ -1,21 +1,22 @@
 //! The start of a plan as commands for Redis.
 
-ghost use Rattle.std.specs.Prelude.{◌≡◌, ◌++◌, ◌∷◌, [], OnOk, IfOk, map, codes, string_bytes, length, List};
-ghost use Rattle.canvas_task.specs.Text.{Text};
+ghost use Rattle.std.specs.Prelude.{◌≡◌, IfOk, map};
 ghost use Rattle.canvas_semantics.specs.PlacedLine.{bare};
 ghost use Rattle.canvas_message.specs.Effects.{first_messages};
 ghost use Rattle.canvas_export.specs.Resp.{resp};
 ghost use Rattle.canvas_export.specs.Starting.{starting};
-ghost use Rattle.canvas_export.specs.Start.{start};
+ghost use Rattle.canvas_export.specs.Start.{commands, start};
 ghost use Rattle.canvas_export.specs.steps.Sizes.{size_view};
-ghost use Rattle.canvas_export.specs.View.{setting};
+ghost use Rattle.canvas_export.specs.View.{setting, naming, naming_of};
+ghost use Rattle.canvas_export.specs.Envelope.{message_text};
 
 use crate::by_script::push_script;
 use crate::by_transaction::push_transaction;
 use crate::envelope::envelope_text;
 use crate::starting::{Size, push_sizes};
 use crate::write::Names;
-use crate::{Run, Target};
+use crate::Target;
+use canvas_celery::Run;
 use canvas_message::{Message, first_messages};
 use canvas_rewrite::Plan;
 use canvas_task::Memory;
@@ -28,7 +29,8 @@ fn encode_all(
     queue: &str,
     messages: &[Message],
 ) -> Result<Vec<Vec<u8>>, AllocError>
-    ensures { IfOk result (λ texts. length texts.items ≡ length messages.now) }
+    ensures { IfOk result (λ texts. map (λ t. t.items) texts.items
+        ≡ map (message_text (naming names.now) queue.now) messages.now) }
 {
     let mut texts = Vec::new(alloc);
     for message in messages {
@@ -39,7 +41,9 @@ fn encode_all(
 
 /// The texts of the messages that a plan starts with.
 fn texts_of(alloc: Global, plan: &Plan, run: &Run, queue: &str) -> Result<Vec<Vec<u8>>, Memory>
-    ensures { IfOk result (λ texts. length texts.items ≡ length (first_messages plan.now)) }
+    ensures { IfOk result (λ texts. map (λ t. t.items) texts.items
+        ≡ map (message_text (naming_of run.now.digits plan.now) queue.now)
+        (first_messages plan.now)) }
 {
     let messages = first_messages(alloc, plan)?;
     let names = Names { run, plan };
@@ -61,7 +65,11 @@ fn commands_of(
     target: &Target<'_>,
     sizes: &[Size],
     texts: &[Vec<u8>],
-) -> Result<Vec<u8>, AllocError> {
+) -> Result<Vec<u8>, AllocError>
+    ensures { IfOk result (λ bytes. bytes.items ≡ resp
+        (commands run.now.digits (setting target.now) (map size_view sizes.now)
+        (map (λ t. t.items) texts.now))) }
+{
     let mut out = Vec::new(alloc);
     if target.by_script {
         push_script(alloc, &mut out, run, target, sizes, texts)?;
@@ -77,7 +85,11 @@ fn start_of(
     target: &Target<'_>,
     sizes: &[Size],
     texts: &[Vec<u8>],
-) -> Result<Vec<u8>, AllocError> {
+) -> Result<Vec<u8>, AllocError>
+    ensures { IfOk result (λ bytes. bytes.items ≡ resp
+        (start run.now.digits (setting target.now) (map size_view sizes.now)
+        (map (λ t. t.items) texts.now))) }
+{
     if texts.is_empty() {
         Ok(Vec::new(alloc))
     } else {
@@ -93,7 +105,12 @@ pub fn export(
     plan: &Plan,
     run: &Run,
     target: &Target<'_>,
-) -> Result<Vec<u8>, Memory> {
+) -> Result<Vec<u8>, Memory>
+    ensures { IfOk result (λ bytes. bytes.items
+        ≡ resp (start run.now.digits (setting target.now) (starting (bare plan.now))
+        (map (message_text (naming_of run.now.digits plan.now) target.now.queue.now)
+        (first_messages plan.now)))) }
+{
     let texts = texts_of(alloc, plan, run, target.queue)?;
     let sizes = sizes_of(alloc, plan)?;
     Ok(start_of(alloc, run, target, &sizes, &texts)?)

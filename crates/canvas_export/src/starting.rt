@@ -1,44 +1,19 @@
 //! The chords whose headers start at once.
 
-ghost use Rattle.std.specs.Prelude.{◌≡◌, ◌++◌, OnOk, IfOk, map};
+ghost use Rattle.std.specs.Prelude.{◌≡◌, ◌++◌, OnOk, map};
 ghost use Rattle.canvas_rewrite.specs.FrozenView.{p_line_view, p_end_view, p_lines_of};
-ghost use Rattle.canvas_export.specs.Keys.{size_key};
 ghost use Rattle.canvas_export.specs.Starting.{starting, all_starting};
 ghost use Rattle.canvas_export.specs.steps.Sizes.{size_view};
 
-use crate::Run;
-use crate::key::push_key;
 use canvas_rewrite::{FrozenEnd, FrozenLine};
 use canvas_task::GroupNo;
-use std::alloc::{AllocError, Global};
+use std::alloc::AllocError;
 
 /// A chord and how many members its header has.
 #[derive(Clone, Copy)]
 pub(crate) struct Size {
     pub(crate) group: GroupNo,
     pub(crate) members: usize,
-}
-
-/// The key of a chord's size.
-pub(crate) fn size_key(
-    alloc: Global,
-    run: &Run,
-    prefix: &str,
-    size: &Size,
-) -> Result<Vec<u8>, AllocError>
-    ensures { IfOk result
-        (λ key. key.items ≡ size_key run.now.digits prefix.now size.now.group) }
-{
-    let mut key = Vec::new(alloc);
-    let id = run.group_text(size.group);
-    push_key(
-        &mut key,
-        prefix.as_bytes(),
-        b"celery-taskset-meta-",
-        &id,
-        b".s",
-    )?;
-    Ok(key)
 }
 
 /// The sizes of the chords that start when the line starts, put behind the others in file order.
