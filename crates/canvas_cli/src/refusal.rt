@@ -5,6 +5,7 @@ use canvas_engine::{Cause, EntryFault, RunFault};
 use canvas_sig::SigFault;
 use canvas_task::Memory;
 use clap::error::ErrorKind;
+use std::alloc::AllocError;
 use std::fmt;
 
 /// The reason, which is printed as one line on standard error, and decides the status. What the
@@ -25,6 +26,8 @@ pub(crate) enum Refusal<'w> {
     Memory,
     Stopped,
     CannotWrite,
+    /// What was told already; this status is left.
+    Told(u8),
 }
 
 impl Refusal<'_> {
@@ -32,6 +35,7 @@ impl Refusal<'_> {
     pub(crate) fn status(&self) -> u8 {
         match self {
             Refusal::Memory | Refusal::Stopped => 2,
+            Refusal::Told(status) => *status,
             _ => 1,
         }
     }
@@ -77,6 +81,12 @@ impl<'w> From<EntryFault> for Refusal<'w> {
     }
 }
 
+impl<'w> From<AllocError> for Refusal<'w> {
+    fn from(_refused: AllocError) -> Refusal<'w> {
+        Refusal::Memory
+    }
+}
+
 impl<'w> From<Memory> for Refusal<'w> {
     fn from(_refused: Memory) -> Refusal<'w> {
         Refusal::Memory
@@ -99,6 +109,7 @@ impl fmt::Display for Refusal<'_> {
             Refusal::Memory => writeln!(f, "canvas: memory refused"),
             Refusal::Stopped => writeln!(f, "canvas: stopped"),
             Refusal::CannotWrite => writeln!(f, "canvas: cannot write"),
+            Refusal::Told(_) => Ok(()),
         }
     }
 }

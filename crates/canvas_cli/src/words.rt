@@ -1,12 +1,19 @@
 //! The words of the command line.
 
 use crate::celery::{CeleryVerb, celery_commands};
-use crate::help::NOTES;
+use crate::finding::check_command;
+use crate::graph::graph_command;
+use crate::help::{NOTES, SHORT_NOTES};
+use crate::messages::messages_command;
+use crate::reporting::Manner;
 use canvas_engine::MOST_WORKERS;
 use clap::builder::ValueParser;
 use clap::error::ErrorKind;
-use clap::{Arg, ArgMatches, Command, Error};
+use clap::{Arg, ArgAction, ArgMatches, Command, Error};
 use std::alloc::{AllocError, Global};
+
+/// The version of the program.
+pub(crate) const VERSION: &str = "0.2.0";
 
 /// What is done with a canvas.
 #[derive(Clone, Copy)]
@@ -14,6 +21,7 @@ pub(crate) enum Verb<'w> {
     /// Its run by some workers on threads, and the report.
     Run {
         workers: u32,
+        manner: Manner,
     },
     /// Its run by some workers that take turns by a list, and the report.
     Turns {
@@ -21,9 +29,21 @@ pub(crate) enum Verb<'w> {
         turns: &'w str,
         /// What is delivered again, where that is asked for.
         again: Option<&'w str>,
+        manner: Manner,
     },
     /// Its normal line, as JSON.
     Normal,
+    /// Its figures, or where it is refused.
+    Check,
+    /// Its picture, and that of its run where a number of workers is given.
+    Graph {
+        workers: Option<u32>,
+    },
+    /// What its run by some workers that take turns publishes.
+    Messages {
+        workers: u32,
+        turns: &'w str,
+    },
     /// Its start or its results on Celery's own workers.
     Celery(CeleryVerb<'w>),
 }
@@ -33,15 +53,35 @@ impl<'w> Verb<'w> {
         match name {
             "run" => Some(Verb::Run {
                 workers: given.get_one::<u32>("workers")?,
+                manner: manner_of(given),
             }),
             "turns" => Some(Verb::Turns {
                 workers: given.get_one::<u32>("workers")?,
                 turns: given.get_str("turns").unwrap_or(""),
                 again: given.get_str("again"),
+                manner: manner_of(given),
             }),
             "normal" => Some(Verb::Normal),
+            "check" => Some(Verb::Check),
+            "graph" => {
+                let workers = given.get_one::<u32>("workers")?;
+                Some(Verb::Graph {
+                    workers: given.get_flag("run").then_some(workers),
+                })
+            }
+            "messages" => Some(Verb::Messages {
+                workers: given.get_one::<u32>("workers")?,
+                turns: given.get_str("turns").unwrap_or(""),
+            }),
             _ => Some(Verb::Celery(CeleryVerb::of(name, given)?)),
         }
+    }
+}
+
+fn manner_of(given: &ArgMatches<'_>) -> Manner {
+    Manner {
+        as_json: given.get_flag("json"),
+        fails: given.get_flag("fail"),
     }
 }
 
@@ -68,7 +108,7 @@ pub(crate) fn file_argument<'a>(alloc: Global) -> Arg<'a> {
         .help("The canvas as JSON; `-` is standard input")
 }
 
-fn workers_argument<'a>(alloc: Global) -> Arg<'a> {
+pub(crate) fn workers_argument<'a>(alloc: Global) -> Arg<'a> {
     Arg::new(alloc, "workers")
         .long("workers")
         .value_name("N")
@@ -77,7 +117,7 @@ fn workers_argument<'a>(alloc: Global) -> Arg<'a> {
         .help("How many workers run it, from 1 to 16")
 }
 
-fn turns_argument<'a>(alloc: Global) -> Arg<'a> {
+pub(crate) fn turns_argument<'a>(alloc: Global) -> Arg<'a> {
     Arg::new(alloc, "turns")
         .long("turns")
         .value_name("LIST")
@@ -93,11 +133,27 @@ fn again_argument<'a>(alloc: Global) -> Arg<'a> {
         )
 }
 
+fn json_argument<'a>(alloc: Global) -> Arg<'a> {
+    Arg::new(alloc, "json")
+        .long("json")
+        .action(ArgAction::SetTrue)
+        .help("Prints each task, and then the result, as a JSON object in a line; refusals too")
+}
+
+fn fail_argument<'a>(alloc: Global) -> Arg<'a> {
+    Arg::new(alloc, "fail")
+        .long("fail")
+        .action(ArgAction::SetTrue)
+        .help("Ends with status 3 where the canvas's result is a failure")
+}
+
 fn run_command<'a>(alloc: Global) -> Result<Command<'a>, AllocError> {
     Command::new(alloc, "run")
         .about("Runs a canvas and prints the state and result of each task")
         .arg(file_argument(alloc))?
-        .arg(workers_argument(alloc))
+        .arg(workers_argument(alloc))?
+        .arg(json_argument(alloc))?
+        .arg(fail_argument(alloc))
 }
 
 fn turns_command<'a>(alloc: Global) -> Result<Command<'a>, AllocError> {
@@ -106,7 +162,9 @@ fn turns_command<'a>(alloc: Global) -> Result<Command<'a>, AllocError> {
         .arg(file_argument(alloc))?
         .arg(workers_argument(alloc))?
         .arg(turns_argument(alloc))?
-        .arg(again_argument(alloc))
+        .arg(again_argument(alloc))?
+        .arg(json_argument(alloc))?
+        .arg(fail_argument(alloc))
 }
 
 fn normal_command<'a>(alloc: Global) -> Result<Command<'a>, AllocError> {
@@ -118,13 +176,18 @@ fn normal_command<'a>(alloc: Global) -> Result<Command<'a>, AllocError> {
 fn program<'a>(alloc: Global) -> Result<Command<'a>, Error> {
     let program = Command::new(alloc, "canvas")
         .about("Runs Celery canvases: chains, groups and chords of tasks")
-        .after_help(NOTES)
+        .version(VERSION)
+        .after_help(SHORT_NOTES)
+        .after_long_help(NOTES)
         .no_binary_name(true)
         .bin_name("canvas")?
         .subcommand_required(true)
         .subcommand(run_command(alloc)?)?
         .subcommand(turns_command(alloc)?)?
-        .subcommand(normal_command(alloc)?)?;
+        .subcommand(normal_command(alloc)?)?
+        .subcommand(check_command(alloc)?)?
+        .subcommand(graph_command(alloc)?)?
+        .subcommand(messages_command(alloc)?)?;
     celery_commands(alloc, program)
 }
 

@@ -134,10 +134,11 @@ fn whole(fault: SigFault, note: String) -> Finding
 /// What serde_json says of a text, without the place, which a finding has apart.
 fn json_note(alloc: Global, error: &serde_json::Error) -> Result<String, AllocError> {
     let said = error.to_string(alloc)?;
-    match said.split_once(" at line ") {
-        Some((reason, _place)) => String::from_str(alloc, reason),
-        None => Ok(said),
-    }
+    let reason = match said.split_once(" at line ") {
+        Some((reason, _place)) => reason,
+        None => said.as_str(),
+    };
+    format!(in alloc; "found no JSON ({reason}), wanted one JSON text in UTF-8")
 }
 
 /// Where a text is refused that isn't too large.

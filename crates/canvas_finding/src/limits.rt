@@ -146,12 +146,12 @@ pub(crate) fn first_wanted(places: Vec<Place<'_>>, wanted: Wanted) -> Option<Pla
 }
 
 /// The first behind so many tasks and so many groups and chords that is one more of them.
-pub(crate) fn first_past(places: Vec<Place<'_>>, tasks: u32, groups: u32) -> Option<Place<'_>>
-    ensures { option_map shown result ≡ past tasks groups (map shown places.entry.items) }
+pub(crate) fn first_past(listed: Vec<Place<'_>>, tasks: u32, groups: u32) -> Option<Place<'_>>
+    ensures { option_map shown result ≡ past tasks groups (map shown listed.entry.items) }
 {
     let mut tasks = tasks;
     let mut groups = groups;
-    for place in places {
+    for place in listed {
         if is_task(&place) {
             if tasks == 0 {
                 return Some(place);

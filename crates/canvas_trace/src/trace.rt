@@ -34,3 +34,16 @@ pub fn trace_of<T: Tasks>(
     stage.run_rounds(alloc, plan, tasks, workers)?;
     Ok(stage.into_trace())
 }
+
+impl Trace {
+    /// How many bytes the messages' texts have.
+    pub fn bytes(&self) -> u64 {
+        let mut bytes = 0u64;
+        for message in self.messages.iter() {
+            for text in [&message.properties, &message.headers, &message.body] {
+                bytes = bytes.saturating_add(text.get().len() as u64);
+            }
+        }
+        bytes
+    }
+}

@@ -5,7 +5,7 @@ use crate::dot::{Node, looks_of, node_of, push_quoted};
 use crate::label::label_of;
 use canvas_engine::Report;
 use canvas_rewrite::{FrozenEnd, FrozenLine, FrozenTask, Plan};
-use canvas_task::{Memory, Outcome};
+use canvas_task::{GroupNo, Memory, Outcome};
 use std::alloc::{AllocError, Global};
 
 /// The parts of a picture. Edges stand behind all frames, since what is named in a frame is drawn
@@ -19,6 +19,7 @@ struct Graph<'r> {
 }
 
 /// Where a line begins.
+#[cycle(entries)]
 fn push_entries(nodes: &mut Vec<Node>, line: &FrozenLine) -> Result<(), AllocError> {
     if let Some(task) = line.tasks.get().first() {
         nodes.push(node_of(task))?;
@@ -31,6 +32,7 @@ fn push_entries(nodes: &mut Vec<Node>, line: &FrozenLine) -> Result<(), AllocErr
 }
 
 /// Where a group or chord begins: at its members.
+#[cycle(entries)]
 fn push_end_entries(nodes: &mut Vec<Node>, end: &FrozenEnd) -> Result<(), AllocError> {
     let members = end.members.get();
     if members.is_empty() {
@@ -43,6 +45,7 @@ fn push_end_entries(nodes: &mut Vec<Node>, end: &FrozenEnd) -> Result<(), AllocE
 }
 
 /// Where a line ends.
+#[cycle(exits)]
 fn push_exits(nodes: &mut Vec<Node>, line: &FrozenLine) -> Result<(), AllocError> {
     match &line.tail {
         Some(end) => match &end.body {
@@ -58,6 +61,7 @@ fn push_exits(nodes: &mut Vec<Node>, line: &FrozenLine) -> Result<(), AllocError
     }
 }
 
+#[cycle(exits)]
 fn push_member_exits(nodes: &mut Vec<Node>, end: &FrozenEnd) -> Result<(), AllocError> {
     let members = end.members.get();
     if members.is_empty() {
@@ -70,11 +74,14 @@ fn push_member_exits(nodes: &mut Vec<Node>, end: &FrozenEnd) -> Result<(), Alloc
 }
 
 impl Graph<'_> {
-    fn join(&mut self, from: &[Node], to: &[Node]) -> Result<(), AllocError> {
-        for first in from {
-            for next in to {
-                writeln!(self.edges, "  {first} -> {next};")?;
-            }
+    fn push_edge(&mut self, from: Node, to: Node) -> Result<(), AllocError> {
+        writeln!(self.edges, "  {from} -> {to};")?;
+        Ok(())
+    }
+
+    fn push_edges(&mut self, from: Node, to: &[Node]) -> Result<(), AllocError> {
+        for node in to {
+            self.push_edge(from, *node)?;
         }
         Ok(())
     }
@@ -95,75 +102,108 @@ impl Graph<'_> {
         Ok(())
     }
 
+    #[cycle(callbacks)]
     fn push_task(&mut self, task: &FrozenTask) -> Result<(), AllocError> {
         self.push_node(task)?;
-        self.push_callbacks(task, task.links.get(), "on success")?;
-        self.push_callbacks(task, task.errbacks.get(), "on failure")
+        let node = node_of(task);
+        self.push_callbacks(task.links.get(), node, "on success")?;
+        self.push_callbacks(task.errbacks.get(), node, "on failure")
     }
 
+    #[cycle(callbacks)]
     fn push_callbacks(
         &mut self,
-        task: &FrozenTask,
         callbacks: &[FrozenTask],
+        from: Node,
         said: &str,
     ) -> Result<(), AllocError> {
-        let from = node_of(task);
         for callback in callbacks {
-            let to = node_of(callback);
-            writeln!(self.edges, "  {from} -> {to} [style=dashed, label=\"{said}\"];")?;
+            self.push_callback(from, node_of(callback), said)?;
             self.push_task(callback)?;
         }
         Ok(())
     }
 
-    fn push_line(&mut self, line: &FrozenLine) -> Result<(), AllocError> {
-        let mut before: Vec<Node> = Vec::new(self.alloc);
-        for task in line.tasks.get() {
-            let node = node_of(task);
-            self.push_task(task)?;
-            self.join(&before, &[node])?;
-            before.clear();
-            before.push(node)?;
-        }
-        match &line.tail {
-            Some(end) => self.push_end(&before, end),
-            None => Ok(()),
-        }
-    }
-
-    fn push_end(&mut self, before: &[Node], end: &FrozenEnd) -> Result<(), AllocError> {
-        let mut entries = Vec::new(self.alloc);
-        push_end_entries(&mut entries, end)?;
-        self.join(before, &entries)?;
-        self.push_frame(end)?;
-        match &end.body {
-            Some(body) => self.push_body(end, body),
-            None => Ok(()),
-        }
-    }
-
-    /// The frame of a group or chord, with its members.
-    fn push_frame(&mut self, end: &FrozenEnd) -> Result<(), AllocError> {
-        let number = end.group.get();
-        let kind = if end.body.is_some() { "chord" } else { "group" };
-        writeln!(self.nodes, "  subgraph cluster_{number} {{")?;
-        writeln!(self.nodes, "  label=\"{kind} {number}\";")?;
-        if end.members.get().is_empty() {
-            writeln!(self.nodes, "  g{number} [shape=point];")?;
-        }
-        for member in end.members.get() {
-            self.push_line(member)?;
-        }
-        self.nodes.push_str("  }\n")?;
+    fn push_callback(&mut self, from: Node, to: Node, said: &str) -> Result<(), AllocError> {
+        writeln!(self.edges, "  {from} -> {to} [style=dashed, label=\"{said}\"];")?;
         Ok(())
     }
 
-    fn push_body(&mut self, end: &FrozenEnd, body: &FrozenLine) -> Result<(), AllocError> {
-        let mut exits = Vec::new(self.alloc);
-        push_member_exits(&mut exits, end)?;
+    /// The tasks in front of a line's group or chord. The last of them is told.
+    fn push_tasks(&mut self, tasks: &[FrozenTask]) -> Result<Option<Node>, AllocError> {
+        let mut before: Option<Node> = None;
+        for task in tasks {
+            let node = node_of(task);
+            self.push_task(task)?;
+            if let Some(from) = before {
+                self.push_edge(from, node)?;
+            }
+            before = Some(node);
+        }
+        Ok(before)
+    }
+
+    #[cycle(frames)]
+    fn push_line(&mut self, line: &FrozenLine) -> Result<(), AllocError> {
+        let before = self.push_tasks(line.tasks.get())?;
+        match &line.tail {
+            Some(end) => self.push_end(end, before),
+            None => Ok(()),
+        }
+    }
+
+    #[cycle(frames)]
+    fn push_end(&mut self, end: &FrozenEnd, before: Option<Node>) -> Result<(), AllocError> {
+        if let Some(from) = before {
+            let mut entries = Vec::new(self.alloc);
+            push_end_entries(&mut entries, end)?;
+            self.push_edges(from, &entries)?;
+        }
+        self.push_frame(end.group, end.body.is_some(), end.members.get().is_empty())?;
+        self.push_members(end.members.get())?;
+        self.nodes.push_str("  }\n")?;
+        match &end.body {
+            Some(body) => {
+                let mut exits = Vec::new(self.alloc);
+                push_member_exits(&mut exits, end)?;
+                self.push_body(body, &exits)
+            }
+            None => Ok(()),
+        }
+    }
+
+    /// The head of the frame of a group or chord.
+    fn push_frame(
+        &mut self,
+        group: GroupNo,
+        is_chord: bool,
+        is_empty: bool,
+    ) -> Result<(), AllocError> {
+        let number = group.get();
+        let kind = if is_chord { "chord" } else { "group" };
+        writeln!(self.nodes, "  subgraph cluster_{number} {{")?;
+        writeln!(self.nodes, "  label=\"{kind} {number}\";")?;
+        if is_empty {
+            writeln!(self.nodes, "  g{number} [shape=point];")?;
+        }
+        Ok(())
+    }
+
+    #[cycle(frames)]
+    fn push_members(&mut self, members: &[FrozenLine]) -> Result<(), AllocError> {
+        for member in members {
+            self.push_line(member)?;
+        }
+        Ok(())
+    }
+
+    #[cycle(frames)]
+    fn push_body(&mut self, body: &FrozenLine, exits: &[Node]) -> Result<(), AllocError> {
         let mut entries = Vec::new(self.alloc);
         push_entries(&mut entries, body)?;
-        self.join(&exits, &entries)?;
+        for exit in exits {
+            self.push_edges(*exit, &entries)?;
+        }
         self.push_line(body)
     }
 }

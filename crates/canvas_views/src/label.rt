@@ -21,10 +21,11 @@ fn push_text(label: &mut String, text: &str) -> Result<(), AllocError> {
 
 fn push_list(label: &mut String, numbers: &[i64]) -> Result<(), AllocError> {
     label.push('[')?;
-    let mut mark = "";
-    for number in numbers.iter().take(MOST_SHOWN) {
-        write!(label, "{mark}{number}")?;
-        mark = ", ";
+    for (index, number) in numbers.iter().take(MOST_SHOWN).enumerate() {
+        if index > 0 {
+            label.push_str(", ")?;
+        }
+        write!(label, "{number}")?;
     }
     if numbers.len() > MOST_SHOWN {
         label.push_str(", ..")?;
