@@ -1,28 +1,22 @@
 //! The language of Graphviz: nodes, edges and texts.
 
 use canvas_rewrite::FrozenTask;
-use canvas_task::{GroupNo, Outcome, TaskNo};
+use canvas_task::Outcome;
 use std::alloc::AllocError;
 use std::fmt;
 
-/// What edges join: a task, or a group or chord of no members.
+/// What edges join: a task, or a group or chord of no members; each by its number.
 #[derive(Clone, Copy, Drop)]
 pub(crate) enum Node {
-    Task(TaskNo),
-    Group(GroupNo),
+    Task(u32),
+    Group(u32),
 }
 
 impl fmt::Display for Node {
     fn fmt<W: fmt::Write>(&self, f: &mut fmt::Formatter<W>) -> fmt::Result {
         match self {
-            Node::Task(task) => {
-                let number = task.get();
-                write!(f, "t{number}")
-            }
-            Node::Group(group) => {
-                let number = group.get();
-                write!(f, "g{number}")
-            }
+            Node::Task(number) => write!(f, "t{number}"),
+            Node::Group(number) => write!(f, "g{number}"),
         }
     }
 }
@@ -62,5 +56,5 @@ pub(crate) fn looks_of(row: Option<&Option<Outcome>>) -> &'static str {
 }
 
 pub(crate) fn node_of(task: &FrozenTask) -> Node {
-    Node::Task(task.no)
+    Node::Task(task.no.get())
 }

@@ -36,7 +36,7 @@ fn push_entries(nodes: &mut Vec<Node>, line: &FrozenLine) -> Result<(), AllocErr
 fn push_end_entries(nodes: &mut Vec<Node>, end: &FrozenEnd) -> Result<(), AllocError> {
     let members = end.members.get();
     if members.is_empty() {
-        nodes.push(Node::Group(end.group))?;
+        nodes.push(Node::Group(end.group.get()))?;
     }
     for member in members {
         push_entries(nodes, member)?;
@@ -65,7 +65,7 @@ fn push_exits(nodes: &mut Vec<Node>, line: &FrozenLine) -> Result<(), AllocError
 fn push_member_exits(nodes: &mut Vec<Node>, end: &FrozenEnd) -> Result<(), AllocError> {
     let members = end.members.get();
     if members.is_empty() {
-        nodes.push(Node::Group(end.group))?;
+        nodes.push(Node::Group(end.group.get()))?;
     }
     for member in members {
         push_exits(nodes, member)?;

@@ -45,6 +45,22 @@ fn push_argument(label: &mut String, arg: &Arg) -> Result<(), AllocError> {
     }
 }
 
+fn push_arguments(label: &mut String, task: &FrozenTask) -> Result<(), AllocError> {
+    let mut is_first = true;
+    for arg in task.args.get().iter() {
+        label.push_str(if is_first { "" } else { ", " })?;
+        push_argument(label, arg)?;
+        is_first = false;
+    }
+    for (name, arg) in task.kwargs.get().iter() {
+        label.push_str(if is_first { "" } else { ", " })?;
+        write!(label, "{name}=")?;
+        push_argument(label, arg)?;
+        is_first = false;
+    }
+    Ok(())
+}
+
 /// A task's number, its call, whether it takes no input, and what came of it where it was run.
 pub(crate) fn label_of(
     alloc: Global,
@@ -54,17 +70,7 @@ pub(crate) fn label_of(
     let number = task.no.get();
     let name = task.name.get().as_str();
     let mut label = format!(in alloc; "{number} {name}(")?;
-    let mut mark = "";
-    for arg in task.args.get().iter() {
-        label.push_str(mark)?;
-        push_argument(&mut label, arg)?;
-        mark = ", ";
-    }
-    for (name, arg) in task.kwargs.get().iter() {
-        write!(label, "{mark}{name}=")?;
-        push_argument(&mut label, arg)?;
-        mark = ", ";
-    }
+    push_arguments(&mut label, task)?;
     label.push(')')?;
     if task.immutable {
         label.push_str("\ntakes no input")?;

@@ -18,7 +18,7 @@ fn an_accepted_canvas(rt: HostRuntime) {
 const REFUSED: [(&str, &str); 14] = [
     (
         "{\n\"task\":\n\"tasks.add\"\n",
-        "invalid JSON at line 4 column 0\nfound no JSON (EOF while parsing an object), wanted one JSON text in UTF-8\ncanvas: refused 2 NotJson\n",
+        "invalid JSON at line 4 column 0\nfound no JSON (EOF while parsing), wanted one JSON text in UTF-8\ncanvas: refused 2 NotJson\n",
     ),
     (
         "[1]",

@@ -2,28 +2,43 @@
 
 use super::answers;
 use crate::command::refuse_words;
-use crate::help::NOTES;
+use crate::help::{NOTES, SHORT_NOTES};
 use canvas_sig::SigFault;
 use std::io::{self, ErrorKind};
 use std::test::Fail;
 
-/// What stands above the notes.
+/// What stands above the options.
 const COMMANDS: &str = "\
 Runs Celery canvases: chains, groups and chords of tasks
 
 Usage: canvas <COMMAND>
 
 Commands:
-  run      Runs a canvas and prints the state and result of each task
-  turns    Runs a canvas with its workers taking turns by a list, and prints the same
-  normal   Prints a canvas's normal line as JSON
-  export   Prints the commands for Redis that start a canvas on Celery's workers
-  keys     Prints the keys of a canvas's results on Redis, one a line
-  collect  Prints the report of a canvas from its results on standard input, one a line
-  help     Print this message or the help of the given subcommand(s)
+  run       Runs a canvas and prints the state and result of each task
+  turns     Runs a canvas with its workers taking turns by a list, and prints the same
+  normal    Prints a canvas's normal line as JSON
+  check     Prints the figures of a canvas, or where it is refused and what is wanted there
+  graph     Prints a canvas as a picture, in the language of Graphviz's `dot`
+  messages  Prints each message that a run by turns publishes, as JSON with its three texts
+  export    Prints the commands for Redis that start a canvas on Celery's workers
+  keys      Prints the keys of a canvas's results on Redis, one a line
+  collect   Prints the report of a canvas from its results on standard input, one a line
+  help      Print this message or the help of the given subcommand(s)
 
 Options:
-  -h, --help  Print help
+";
+
+const SHORT_OPTIONS: &str = "\
+  -h, --help     Print help (see more with '--help')
+  -V, --version  Print version
+";
+
+const LONG_OPTIONS: &str = "\
+  -h, --help
+          Print help (see a summary with '-h')
+
+  -V, --version
+          Print version
 ";
 
 const RUN_HELP: &str = "\
@@ -36,6 +51,8 @@ Arguments:
 
 Options:
       --workers <N>  How many workers run it, from 1 to 16 [default: 1]
+      --json         Prints each task, and then the result, as a JSON object in a line; refusals too
+      --fail         Ends with status 3 where the canvas's result is a failure
   -h, --help         Print help
 ";
 
@@ -51,7 +68,23 @@ Options:
       --workers <N>   How many workers run it, from 1 to 16 [default: 1]
       --turns <LIST>  Which worker goes on at each turn, as 1,2,2; behind the list they take turns from 1
       --again <LIST>  What is delivered again, as 1:early,3:late; standard error counts stores that answer Again
+      --json          Prints each task, and then the result, as a JSON object in a line; refusals too
+      --fail          Ends with status 3 where the canvas's result is a failure
   -h, --help          Print help
+";
+
+const GRAPH_HELP: &str = "\
+Prints a canvas as a picture, in the language of Graphviz's `dot`
+
+Usage: canvas graph [OPTIONS] <FILE>
+
+Arguments:
+  <FILE>  The canvas as JSON; `-` is standard input
+
+Options:
+      --run          Runs the canvas, and shows the state and value of each task
+      --workers <N>  How many workers run it, from 1 to 16 [default: 1]
+  -h, --help         Print help
 ";
 
 const NORMAL_HELP: &str = "\
@@ -68,7 +101,7 @@ Options:
 
 const NO_COMMAND: &str = "\
 error: 'canvas' requires a subcommand but one was not provided
-  [subcommands: run, turns, normal, export, keys, collect, help]
+  [subcommands: run, turns, normal, check, graph, messages, export, keys, collect, help]
 
 Usage: canvas <COMMAND>
 
@@ -148,9 +181,11 @@ For more information, try '--help'.
 
 #[test]
 fn help(rt: HostRuntime) -> Result<(), Fail> {
-    let text = format!(in rt.alloc(); "{COMMANDS}\n{NOTES}\n")?;
-    for line in ["--help", "-h", "help"] {
-        assert!(rt; answers(&rt, line, "", 0, &text, ""), "{line}");
+    let alloc = rt.alloc();
+    let short = format!(in alloc; "{COMMANDS}{SHORT_OPTIONS}\n{SHORT_NOTES}\n")?;
+    let long = format!(in alloc; "{COMMANDS}{LONG_OPTIONS}\n{NOTES}\n")?;
+    for (line, text) in [("-h", &short), ("--help", &long), ("help", &long)] {
+        assert!(rt; answers(&rt, line, "", 0, text, ""), "{line}");
     }
     Ok(())
 }
@@ -185,6 +220,9 @@ fn words_of_commands(rt: HostRuntime) {
         ("run --help", 0, RUN_HELP, ""),
         ("turns --help", 0, TURNS_HELP, ""),
         ("normal --help", 0, NORMAL_HELP, ""),
+        ("graph -h", 0, GRAPH_HELP, ""),
+        ("--version", 0, "canvas 0.2.0\n", ""),
+        ("-V", 0, "canvas 0.2.0\n", ""),
         ("", 1, "", NO_COMMAND),
         ("run", 1, "", NO_FILE),
         ("walk -", 1, "", OTHER_COMMAND),
