@@ -1,13 +1,11 @@
-use Rattle.std.proofs.Common.{◌≡◌, true, false}
-use Rattle.serde_json.specs.View.{view}
-use Rattle.canvas_finding.proofs.Found.{stands, text_reads, reads_nothing}
+use Rattle.canvas_sig.specs.Datum.{view}
+use Rattle.canvas_finding.proofs.Found.{stands, low_enough, parsed_as, no_json_at}
 use Rattle.canvas_finding.proofs.finding.find_at.Goals as goal
+
+pub find_in-requires : goal.find_in-requires
+find_in-requires c = low_enough c.args.bytes.now (view c.in-Ok.value) (parsed_as c.args.bytes.now (view c.in-Ok.value) c.in-Ok.ensures)
 
 pub returns-in_ok-find_in-in-Ok-clause-spot : goal.returns-in_ok-find_in-in-Ok-clause-spot
 returns-in_ok-find_in-in-Ok-clause-spot c =
     stands c.args.bytes.now (view c.in-Ok.value) c.args.fault c.in_ok-find_in-in-Ok.field-0.spot
-    (text_reads c.args.bytes.now (view c.in-Ok.value) c.in-Ok.ensures.ok.0 c.in-Ok.ensures.ok.1) c.in_ok-find_in-in-Ok.ensures.spot
-
-pub returns-in_ok-json_note-in-Err-clause-spot : goal.returns-in_ok-json_note-in-Err-clause-spot
-returns-in_ok-json_note-in-Err-clause-spot c =
-    reads_nothing c.args.bytes.now (c.in-Err.ensures.err (λ m. let never : false ≡ true = c.if-is_memory.ensures.1 m in absurd cc))
+    (parsed_as c.args.bytes.now (view c.in-Ok.value) c.in-Ok.ensures) c.in_ok-find_in-in-Ok.ensures.spot
