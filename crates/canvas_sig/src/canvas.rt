@@ -1,8 +1,8 @@
 //! Canvases: signatures that passed every check.
 
-ghost use Rattle.std.specs.Prelude.{◌≡◌, ◌≢◌, Ok, Err, IfOk, IfErr, MatchResult};
+ghost use Rattle.std.specs.Prelude.{◌≡◌, ◌≢◌, ◌≤◌, Ok, Err, length, IfOk, IfErr, OnOk, MatchResult};
 ghost use Rattle.canvas_sig.specs.declared.fault.SigFault.TheVariants.{Memory};
-ghost use Rattle.canvas_sig.specs.CanvasText.{text_reading};
+ghost use Rattle.canvas_sig.specs.CanvasText.{most_bytes, text_reading};
 ghost use Rattle.canvas_sig.specs.steps.Reading.{signature_reading};
 ghost use Rattle.canvas_sig.specs.ComposedRefusals.{node_fault};
 ghost use Rattle.canvas_sig.specs.Answers.{Gives};
@@ -78,7 +78,9 @@ impl Canvas {
 }
 
 fn read_signature(alloc: Global, bytes: &[u8]) -> Result<Node, SigFault>
-    ensures { Gives view result (signature_reading bytes.now) }
+    ensures reading { Gives view result (signature_reading bytes.now) }
+    ensures memory { IfErr result (λ e. e ≡ Memory → length bytes.now ≤ most_bytes) }
+    ensures short { OnOk result (length bytes.now ≤ most_bytes) }
 {
     if bytes.len() > MOST_BYTES {
         return Err(SigFault::TooLarge);
@@ -89,11 +91,12 @@ fn read_signature(alloc: Global, bytes: &[u8]) -> Result<Node, SigFault>
     read_node(alloc, &value, MOST_LEVELS)
 }
 
-/// The canvas that a text spells, or its first refusal.
+/// The canvas that a text spells, or its first refusal. A text that is too large takes no memory.
 #[tactic(auto, using(crate::proofs::TextLemmas::fails_refused))]
 pub fn read_canvas(alloc: Global, bytes: &[u8]) -> Result<Canvas, SigFault>
-    ensures { MatchResult result (λ canvas. text_reading bytes.now ≡ Ok canvas)
+    ensures reading { MatchResult result (λ canvas. text_reading bytes.now ≡ Ok canvas)
         (λ e. e ≢ Memory → text_reading bytes.now ≡ Err e) }
+    ensures memory { IfErr result (λ e. e ≡ Memory → length bytes.now ≤ most_bytes) }
 {
     let node = read_signature(alloc, bytes)?;
     match limit_fault(&node) {
