@@ -161,6 +161,23 @@ fn find_no_json(alloc: Global, bytes: &[u8], fault: SigFault) -> Result<Finding,
     })
 }
 
+fn find_parsed<'a>(
+    alloc: Global,
+    arena: &'a Bump,
+    scratch: &'a mut Scratch,
+    bytes: &'a [u8],
+    fault: SigFault,
+) -> Result<Finding, Memory>
+    ensures fault { IfOk result (λ f. f.fault ≡ fault) }
+    ensures spot { IfOk result (λ f. StandsAt bytes.entry.now fault f.spot) }
+{
+    match parse(alloc, arena, scratch, bytes) {
+        Ok(value) => Ok(find_in(alloc, &value, fault, MOST_LEVELS)?),
+        Err(SigFault::Memory) => Err(Memory),
+        Err(_) => Ok(find_no_json(alloc, bytes, fault)?),
+    }
+}
+
 /// Where a text is refused that isn't too large.
 fn find_at(alloc: Global, bytes: &[u8], fault: SigFault) -> Result<Finding, Memory>
     ensures fault { IfOk result (λ f. f.fault ≡ fault) }
@@ -168,11 +185,7 @@ fn find_at(alloc: Global, bytes: &[u8], fault: SigFault) -> Result<Finding, Memo
 {
     let arena = Bump::new(alloc);
     let mut scratch = Scratch::new(alloc);
-    match parse(alloc, &arena, &mut scratch, bytes) {
-        Ok(value) => Ok(find_in(alloc, &value, fault, MOST_LEVELS)?),
-        Err(SigFault::Memory) => Err(Memory),
-        Err(_) => Ok(find_no_json(alloc, bytes, fault)?),
-    }
+    find_parsed(alloc, &arena, &mut scratch, bytes, fault)
 }
 
 /// Why a text is no canvas, and where; none where it is one.

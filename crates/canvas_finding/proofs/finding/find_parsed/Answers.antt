@@ -1,6 +1,6 @@
 use Rattle.canvas_sig.specs.Datum.{view}
 use Rattle.canvas_finding.proofs.Found.{stands, low_enough, parsed_as, no_json_at}
-use Rattle.canvas_finding.proofs.finding.find_at.Goals as goal
+use Rattle.canvas_finding.proofs.finding.find_parsed.Goals as goal
 
 pub find_in-requires : goal.find_in-requires
 find_in-requires c = low_enough c.args.bytes.now (view c.in-Ok.value) (parsed_as c.args.bytes.now (view c.in-Ok.value) c.in-Ok.ensures)
