@@ -3,9 +3,11 @@ use Rattle.std.proofs.Common.{◌≡◌, ◌≢◌, ℕ, zero, suc, ◌-◌, ◌
 use Rattle.std.specs.Option.{option_to_list}
 use Rattle.std.proofs.lemmas.List.{map-append}
 use Rattle.serde_json.specs.Data.{Data}
-use Rattle.serde_json.specs.View.{view}
-use Rattle.serde_json.specs.declared.value.Value.{Value, Array}
-use Rattle.serde_json.proofs.Views.{view-Array}
+use Rattle.canvas_sig.specs.Datum.{view}
+use Rattle.std.specs.Borrow.{Bor}
+use Rattle.canvas_sig.specs.declared.datum.Datum.{Datum}
+use Rattle.canvas_sig.specs.declared.datum.Datum as datum
+use Rattle.canvas_sig.proofs.Parsed.{view-List}
 use Rattle.canvas_sig.specs.declared.primitive.Primitive.TheVariants as kind
 use Rattle.canvas_sig.specs.Fields.{header, body}
 use Rattle.canvas_sig.proofs.Json.{items-items_of}
@@ -103,8 +105,8 @@ and_then_in r f es gs a b c p h =
 
 -- ---- the items of a JSON list
 
-pub array_some_in : (k : Field) (v : Value) (vs : Vec Value Global) → v ≡ Array vs → some_in k (view v) ≡ from_index k 0 (map view vs.items)
-array_some_in k v vs is = ap (λ x. some_in k (view x)) is ∙ ap (some_in k) (view-Array vs) ∙ ap (from_index k 0) (items-items_of (map view vs.items))
+pub list_some_in : (k : Field) (v : Datum) (vs : Bor (List Datum)) → v ≡ datum.List vs → some_in k (view v) ≡ from_index k 0 (map view vs.now)
+list_some_in k v vs is = ap (λ x. some_in k (view x)) is ∙ ap (some_in k) (view-List vs) ∙ ap (from_index k 0) (items-items_of (map view vs.now))
 
 behind_none : (xs : List Sighted) → map (behind []) xs ≡ xs
 behind_none [] = refl

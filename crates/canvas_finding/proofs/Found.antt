@@ -1,17 +1,20 @@
 -- What is found in a text.
-use Rattle.std.proofs.Common.{◌≡◌, Bool, true, false, Option, Some, None, option_map, subst, refl, sym, ap, ◌∙◌}
+use Rattle.std.proofs.Common.{◌≡◌, ◌≢◌, ◌≤◌, Bool, true, false, Option, Some, None, Ok, Err, arith, option_map, subst, refl, sym, ap, ◌∙◌}
 use Rattle.std.specs.Prelude.{if◌then◌else◌}
-use Rattle.std.specs.Str.{IsUtf8, is_utf8}
-use Rattle.std.proofs.lemmas.Str.{is_utf8-from_IsUtf8, IsUtf8-from_is_utf8}
-use Rattle.serde_json.specs.Data.{Data}
+use Rattle.std.specs.Str.{is_utf8}
+use Rattle.serde_json.specs.Data.{Data, depth}
 use Rattle.serde_json.specs.Read.{read}
+use Rattle.serde_json.proofs.Nesting.{depth-read}
 use Rattle.canvas_task.specs.Text.{Text}
 use Rattle.canvas_sig.specs.CanvasText.{json_of}
 use Rattle.canvas_sig.specs.declared.fault.SigFault.{SigFault}
+use Rattle.canvas_sig.specs.declared.fault.SigFault.TheVariants.{Memory}
+use Rattle.canvas_sig.specs.Answers.{Fails}
+use Rattle.canvas_sig.specs.steps.Reading.{json_reading}
 use Rattle.canvas_finding.specs.Places.{shown}
 use Rattle.canvas_finding.specs.Limits.{place_of}
 use Rattle.canvas_finding.specs.Pointer.{AreIndices}
-use Rattle.canvas_finding.specs.Finding.{IsPlace, IsSpot, StandsAt}
+use Rattle.canvas_finding.specs.Finding.{IsPlace, IsSpot, IsJson, StandsAt}
 use Rattle.canvas_finding.specs.declared.listing.Place.{Place}
 use Rattle.canvas_finding.specs.declared.finding.Spot.{Spot}
 use Rattle.canvas_finding.specs.declared.finding.Spot.TheVariants as spot
@@ -29,12 +32,30 @@ stands bytes d e (spot.Signature steps) is h = (d, is, h)
 
 -- ---- JSON texts
 
-pub text_reads : (bytes : Text) (d : Data) → IsUtf8 bytes → read bytes ≡ Some d → json_of bytes ≡ Some d
-text_reads bytes d utf8 reads = rw (is_utf8-from_IsUtf8 bytes utf8) reads
+read_of : (b : Bool) (o : Option Data) (d : Data) → (if b then o else None) ≡ Some d → o ≡ Some d
+read_of true o d h = h
+read_of false o d h = absurd cc
 
-no_text : (bytes : Text) (b : Bool) → (b ≡ true → read bytes ≡ None) → (if b then read bytes else None) ≡ None
-no_text bytes true none = none refl
-no_text bytes false none = refl
+-- what reads nests no deeper than a listing goes
+pub low_enough : (bytes : Text) (d : Data) → json_of bytes ≡ Some d → depth d ≤ 128
+low_enough bytes d h = let low = depth-read bytes d (read_of (is_utf8 bytes) (read bytes) d h) in omega (arith, low)
 
-pub reads_nothing : (bytes : Text) → (IsUtf8 bytes → read bytes ≡ None) → json_of bytes ≡ None
-reads_nothing bytes none = no_text bytes (is_utf8 bytes) (λ h. none (IsUtf8-from_is_utf8 bytes h))
+was_json : (o : Option Data) (d : Data) → json_reading o ≡ Ok d → o ≡ Some d
+was_json None d h = absurd cc
+was_json (Some x) d h = let same : x ≡ d = cc in ap Some same
+
+pub parsed_as : (bytes : Text) (d : Data) → json_reading (json_of bytes) ≡ Ok d → json_of bytes ≡ Some d
+parsed_as bytes d h = was_json (json_of bytes) d h
+
+was_none : (o : Option Data) (e : SigFault) → json_reading o ≡ Err e → o ≡ None
+was_none None e h = refl
+was_none (Some x) e h = absurd cc
+
+not_parsed : (bytes : Text) (e : SigFault) → e ≢ Memory → Fails e (json_reading (json_of bytes)) → json_of bytes ≡ None
+not_parsed bytes Memory other h = absurd (other refl)
+not_parsed bytes e other h = was_none (json_of bytes) e h
+
+pub no_json_at : (bytes : Text) (e f : SigFault) (at : Spot) → e ≢ Memory → Fails e (json_reading (json_of bytes)) → IsJson at → StandsAt bytes f at
+no_json_at bytes e f (spot.Json line column) other h is = not_parsed bytes e other h
+no_json_at bytes e f spot.Text other h is = absurd is
+no_json_at bytes e f (spot.Signature steps) other h is = absurd is

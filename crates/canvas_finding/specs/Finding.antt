@@ -28,6 +28,10 @@ IsSpot d fault spot.Text = place_of fault d ≡ None
 IsSpot d fault (spot.Json line column) = ⊥
 IsSpot d fault (spot.Signature steps) = IsPlace d fault steps.items
 
+abbrev pub IsJson : Spot → Type 0
+IsJson (spot.Json line column) = Unit {0}
+IsJson at = ⊥
+
 abbrev pub StandsAt : Text → SigFault → Spot → Type 0
 StandsAt bytes fault (spot.Json line column) = json_of bytes ≡ None
 StandsAt bytes fault at = (d : Data) × (json_of bytes ≡ Some d) × IsSpot d fault at

@@ -1,6 +1,6 @@
 -- What a listing holds, and what a step of it adds.
 use Rattle.std.specs.Prelude.{◌≡◌, List, ◌++◌, map}
-use Rattle.serde_json.specs.View.{view}
+use Rattle.canvas_sig.specs.Datum.{view}
 use Rattle.canvas_finding.specs.FileOrder.{Sighted, behind}
 use Rattle.canvas_finding.specs.declared.listing.Place.{Place}
 use Rattle.canvas_finding.specs.declared.listing.Listing.{Listing}

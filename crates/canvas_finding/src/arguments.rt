@@ -1,9 +1,9 @@
 //! The first argument of a task that is of no allowed kind, or holds a bad number.
 
-use crate::shown::shown_value;
-use canvas_sig::parts::listed;
+use crate::shown::{quoted, shown_value};
+use canvas_sig::parts::{Datum, listed};
 use canvas_task::in_range;
-use serde_json::Value;
+
 use std::alloc::{AllocError, Global};
 
 /// Which fault of an argument is looked for.
@@ -13,35 +13,38 @@ pub(crate) enum Bad {
     Number,
 }
 
-fn is_whole(value: &Value) -> bool {
-    match value.as_i64() {
-        Some(number) => in_range(number),
-        None => false,
+fn is_whole(value: &Datum<'_>) -> bool {
+    match value {
+        Datum::Number(number) => match number.as_i64() {
+            Some(number) => in_range(number),
+            None => false,
+        },
+        _ => false,
     }
 }
 
-fn is_number(value: &Value) -> bool {
-    matches!(value, Value::Number(_))
+fn is_number(value: &Datum<'_>) -> bool {
+    matches!(value, Datum::Number(_))
 }
 
-fn is_bad(value: &Value, bad: Bad) -> bool {
+fn is_bad(value: &Datum<'_>, bad: Bad) -> bool {
     match bad {
         Bad::Kind => match value {
-            Value::Number(_) | Value::String(_) => false,
-            Value::Array(values) => values.iter().any(|value| !is_number(value)),
+            Datum::Number(_) | Datum::Text(_) => false,
+            Datum::List(values) => values.iter().any(|value| !is_number(value)),
             _ => true,
         },
         Bad::Number => match value {
-            Value::Number(_) => !is_whole(value),
-            Value::Array(values) => values.iter().any(|value| !is_whole(value)),
+            Datum::Number(_) => !is_whole(value),
+            Datum::List(values) => values.iter().any(|value| !is_whole(value)),
             _ => false,
         },
     }
 }
 
 /// What is bad in a value, and where in it.
-fn shown_bad(alloc: Global, at: &str, value: &Value, bad: Bad) -> Result<String, AllocError> {
-    if let Value::Array(values) = value {
+fn shown_bad(alloc: Global, at: &str, value: &Datum<'_>, bad: Bad) -> Result<String, AllocError> {
+    if let Datum::List(values) = value {
         for (index, value) in values.iter().enumerate() {
             let is_item_bad = match bad {
                 Bad::Kind => !is_number(value),
@@ -60,7 +63,7 @@ fn shown_bad(alloc: Global, at: &str, value: &Value, bad: Bad) -> Result<String,
 /// The first argument that is bad, with where it stands.
 pub(crate) fn first_bad(
     alloc: Global,
-    signature: &Value,
+    signature: &Datum<'_>,
     bad: Bad,
 ) -> Result<Option<String>, AllocError> {
     for (index, value) in listed(signature.get("args")).iter().enumerate() {
@@ -69,10 +72,10 @@ pub(crate) fn first_bad(
             return Ok(Some(shown_bad(alloc, &at, value, bad)?));
         }
     }
-    if let Some(Value::Object(members)) = signature.get("kwargs") {
+    if let Some(Datum::Object(members)) = signature.get("kwargs") {
         for (name, value) in members.iter() {
             if is_bad(value, bad) {
-                let name = crate::shown::quoted(alloc, name)?;
+                let name = quoted(alloc, name)?;
                 let at = format!(in alloc; "kwargs[{name}]")?;
                 return Ok(Some(shown_bad(alloc, &at, value, bad)?));
             }

@@ -3,20 +3,22 @@
 ghost use Rattle.std.specs.Prelude.{◌≡◌, ◌≤◌, IfOk};
 ghost use Rattle.std.specs.Option.{option_map};
 ghost use Rattle.serde_json.specs.Data.{depth};
-ghost use Rattle.serde_json.specs.View.{view};
+ghost use Rattle.canvas_sig.specs.Datum.{view};
 ghost use Rattle.canvas_sig.specs.declared.fault.SigFault.TheVariants.{TooDeep};
 ghost use Rattle.canvas_finding.specs.Places.{shown};
 ghost use Rattle.canvas_finding.specs.Limits.{place_of};
 ghost use Rattle.canvas_finding.specs.declared.finding.Spot.TheVariants.{Text};
-ghost use Rattle.canvas_finding.specs.Finding.{IsFound, IsSpot, StandsAt};
+ghost use Rattle.canvas_finding.specs.Finding.{IsFound, IsSpot, IsJson, StandsAt};
 
 use crate::limits::{Wanted, first_past, first_wanted};
 use crate::listing::{Place, places_of};
 use crate::notes::note_of;
 use crate::step::{Step, read_indices};
-use canvas_sig::parts::{MOST_LEVELS, MOST_TASKS, is_name, text_of};
+use canvas_sig::parts::{Datum, MOST_LEVELS, MOST_TASKS, is_name, parse, text_of};
 use canvas_sig::{SigFault, read_canvas};
 use canvas_task::Memory;
+use bumpalo::Bump;
+use json::Scratch;
 use serde_json::Value;
 use std::alloc::{AllocError, Global};
 
@@ -47,7 +49,7 @@ pub struct Finding {
 /// The first signature of a text that has a refusal, or that goes past its limit.
 fn place_of<'v>(
     alloc: Global,
-    value: &'v Value,
+    value: &'v Datum<'v>,
     fault: SigFault,
     left: u32,
 ) -> Result<Option<Place<'v>>, AllocError>
@@ -73,7 +75,7 @@ fn place_of<'v>(
 /// The first signature that stands too deep in others, or else the whole canvas.
 fn first_too_deep<'v>(
     alloc: Global,
-    value: &'v Value,
+    value: &'v Datum<'v>,
     left: u32,
 ) -> Result<Option<Place<'v>>, AllocError>
     requires { depth (view value.now) ≤ left }
@@ -90,7 +92,7 @@ fn first_too_deep<'v>(
 }
 
 /// Where a refusal stands in a value.
-fn find_in(alloc: Global, value: &Value, fault: SigFault, left: u32) -> Result<Finding, AllocError>
+fn find_in(alloc: Global, value: &Datum<'_>, fault: SigFault, left: u32) -> Result<Finding, AllocError>
     requires { depth (view value.now) ≤ left }
     ensures fault { IfOk result (λ f. f.fault ≡ fault) }
     ensures spot { IfOk result (λ f. IsSpot (view value.now) fault f.spot) }
@@ -111,7 +113,7 @@ fn find_in(alloc: Global, value: &Value, fault: SigFault, left: u32) -> Result<F
     }
 }
 
-fn name_in(alloc: Global, value: &Value) -> Result<Option<String>, AllocError> {
+fn name_in(alloc: Global, value: &Datum<'_>) -> Result<Option<String>, AllocError> {
     let task = value.get("task");
     if is_name(task) {
         Ok(Some(text_of(alloc, task)?))
@@ -134,11 +136,46 @@ fn whole(fault: SigFault, note: String) -> Finding
 /// What serde_json says of a text, without the place, which a finding has apart.
 fn json_note(alloc: Global, error: &serde_json::Error) -> Result<String, AllocError> {
     let said = error.to_string(alloc)?;
-    let reason = match said.split_once(" at line ") {
-        Some((reason, _place)) => reason,
-        None => said.as_str(),
+    match said.split_once(" at line ") {
+        Some((reason, _place)) => {
+            format!(in alloc; "found no JSON ({reason}), wanted one JSON text in UTF-8")
+        }
+        None => format!(in alloc; "found no JSON ({said}), wanted one JSON text in UTF-8"),
+    }
+}
+
+/// Where a text is no JSON, as serde_json says it.
+fn find_no_json(alloc: Global, bytes: &[u8], fault: SigFault) -> Result<Finding, AllocError>
+    ensures fault { IfOk result (λ f. f.fault ≡ fault) }
+    ensures spot { IfOk result (λ f. IsJson f.spot) }
+{
+    let (line, column, note) = match Value::from_slice(alloc, bytes) {
+        Ok(_value) => (0, 0, String::new(alloc)),
+        Err(error) => (error.line(), error.column(), json_note(alloc, &error)?),
     };
-    format!(in alloc; "found no JSON ({reason}), wanted one JSON text in UTF-8")
+    Ok(Finding {
+        fault,
+        spot: Spot::Json { line, column },
+        name: None,
+        note,
+    })
+}
+
+fn find_parsed<'a>(
+    alloc: Global,
+    arena: &'a Bump,
+    scratch: &'a mut Scratch,
+    bytes: &'a [u8],
+    fault: SigFault,
+) -> Result<Finding, Memory>
+    ensures fault { IfOk result (λ f. f.fault ≡ fault) }
+    ensures spot { IfOk result (λ f. StandsAt bytes.entry.now fault f.spot) }
+{
+    match parse(alloc, arena, scratch, bytes) {
+        Ok(value) => Ok(find_in(alloc, &value, fault, MOST_LEVELS)?),
+        Err(SigFault::Memory) => Err(Memory),
+        Err(_) => Ok(find_no_json(alloc, bytes, fault)?),
+    }
 }
 
 /// Where a text is refused that isn't too large.
@@ -146,23 +183,9 @@ fn find_at(alloc: Global, bytes: &[u8], fault: SigFault) -> Result<Finding, Memo
     ensures fault { IfOk result (λ f. f.fault ≡ fault) }
     ensures spot { IfOk result (λ f. StandsAt bytes.now fault f.spot) }
 {
-    match Value::from_slice(alloc, bytes) {
-        Ok(value) => Ok(find_in(alloc, &value, fault, MOST_LEVELS)?),
-        Err(error) => {
-            if error.is_memory() {
-                return Err(Memory);
-            }
-            Ok(Finding {
-                fault,
-                spot: Spot::Json {
-                    line: error.line(),
-                    column: error.column(),
-                },
-                name: None,
-                note: json_note(alloc, &error)?,
-            })
-        }
-    }
+    let arena = Bump::new(alloc);
+    let mut scratch = Scratch::new(alloc);
+    find_parsed(alloc, &arena, &mut scratch, bytes, fault)
 }
 
 /// Why a text is no canvas, and where; none where it is one.

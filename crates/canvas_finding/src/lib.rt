@@ -7,6 +7,7 @@ ghost use Rattle.canvas_sig.specs.Refusals.{signature_fault};
 ghost use Rattle.canvas_finding.specs.Refused.{refusal_of, first_refused};
 
 mod arguments;
+mod depths;
 mod finding;
 mod limits;
 mod listing;
@@ -14,6 +15,7 @@ mod notes;
 mod shown;
 mod step;
 
+pub use depths::{Depths, depths_of};
 pub use finding::{Finding, Spot, find};
 pub use step::{Field, Step, pointer_text};
 

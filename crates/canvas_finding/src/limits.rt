@@ -2,7 +2,7 @@
 
 ghost use Rattle.std.specs.Prelude.{◌≡◌, ◌≤◌, map, find, false};
 ghost use Rattle.std.specs.Option.{option_map, option_copied};
-ghost use Rattle.serde_json.specs.View.{view};
+ghost use Rattle.canvas_sig.specs.Datum.{view};
 ghost use Rattle.canvas_sig.specs.Fields.{value_at};
 ghost use Rattle.canvas_finding.specs.Places.{shown};
 ghost use Rattle.canvas_finding.specs.Refused.{is_refused};
@@ -11,12 +11,12 @@ ghost use Rattle.canvas_finding.specs.Limits.{kind_of, is_too_deep, steps_to_mem
 
 use crate::listing::Place;
 use crate::step::{Field, Step};
-use canvas_sig::parts::{MOST_LEVELS, Primitive, kwarg_of, listed, own_fault, primitive_of};
-use serde_json::Value;
+use canvas_sig::parts::{MOST_LEVELS, Datum, Primitive, kwarg_of, listed, own_fault, primitive_of};
+
 
 const MOST_NESTING: usize = 8;
 
-fn kind_of(value: &Value) -> Option<Primitive>
+fn kind_of(value: &Datum<'_>) -> Option<Primitive>
     ensures { result ≡ kind_of (view value.now) }
 {
     primitive_of(value.get("subtask_type"))
@@ -53,7 +53,7 @@ fn leads_to_header_group(steps: &[Step]) -> bool
 /// Whether the line of a signature ends in a group. It looks at most `left` signatures deep.
 #[cycle(ends)]
 #[tactic(auto, using(crate::proofs::Searches::ends_below))]
-fn ends_in_group(value: &Value, left: u32) -> bool
+fn ends_in_group(value: &Datum<'_>, left: u32) -> bool
     ensures { result ≡ ends_in_group left (view value.now) }
 {
     if left == 0 {
@@ -63,7 +63,7 @@ fn ends_in_group(value: &Value, left: u32) -> bool
 }
 
 #[cycle(ends)]
-fn ends_as(value: &Value, kind: Option<Primitive>, left: u32) -> bool
+fn ends_as(value: &Datum<'_>, kind: Option<Primitive>, left: u32) -> bool
     ensures { result ≡ ends_by (ends_in_group left) kind (view value.now) }
 {
     match kind {
@@ -75,7 +75,7 @@ fn ends_as(value: &Value, kind: Option<Primitive>, left: u32) -> bool
 }
 
 #[cycle(ends)]
-fn last_ends(values: &[Value], left: u32) -> bool
+fn last_ends(values: &[Datum<'_>], left: u32) -> bool
     ensures { result ≡ in_some (ends_in_group left) (last_of (map view values.now)) }
 {
     match values.last() {
@@ -85,12 +85,12 @@ fn last_ends(values: &[Value], left: u32) -> bool
 }
 
 #[cycle(ends)]
-fn body_ends(body: Option<&Value>, left: u32) -> bool
+fn body_ends(body: Option<&Datum<'_>>, left: u32) -> bool
     ensures { result ≡ ends_in_group left (value_at body.entry) }
 {
     match body {
         Some(body) => ends_in_group(body, left),
-        None => ends_in_group(&Value::Null, left),
+        None => ends_in_group(&Datum::Null, left),
     }
 }
 

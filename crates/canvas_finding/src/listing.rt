@@ -2,15 +2,15 @@
 
 ghost use Rattle.std.specs.Prelude.{◌≡◌, ◌≤◌, ◌∷◌, [], false, map, OnOk, IfOk, Some};
 ghost use Rattle.serde_json.specs.Data.{depth};
-ghost use Rattle.serde_json.specs.View.{view};
+ghost use Rattle.canvas_sig.specs.Datum.{view};
 ghost use Rattle.canvas_sig.specs.Fields.{value_at};
 ghost use Rattle.canvas_sig.specs.declared.primitive.Primitive.TheVariants.{Chord};
 ghost use Rattle.canvas_finding.specs.FileOrder.{behind, itself, in_each, inside, in_kwargs, from_index, one_in, some_in, sighted_within, signatures};
 ghost use Rattle.canvas_finding.specs.Places.{shown, Lists};
 
 use crate::step::{Field, Step};
-use canvas_sig::parts::{Primitive, kwarg_of, listed, option_of, primitive_of};
-use serde_json::Value;
+use canvas_sig::parts::{Datum, Primitive, kwarg_of, listed, option_of, primitive_of};
+
 use std::alloc::{AllocError, Global};
 
 /// A signature of a text, and the steps that lead to it.
@@ -19,7 +19,7 @@ pub(crate) struct Place<'v> {
     pub(crate) steps: Vec<Step>,
     /// Whether it is a link or an error callback.
     pub(crate) is_linked: bool,
-    pub(crate) value: &'v Value,
+    pub(crate) value: &'v Datum<'v>,
 }
 
 /// What was listed, and the steps to where the listing is. After an error it is given up.
@@ -35,7 +35,7 @@ impl<'v> Listing<'v> {
     fn list(
         &mut self,
         alloc: Global,
-        value: &'v Value,
+        value: &'v Datum<'v>,
         is_linked: bool,
         left: u32,
     ) -> Result<(), AllocError>
@@ -50,7 +50,7 @@ impl<'v> Listing<'v> {
     }
 
     /// A signature, without those in it.
-    fn push(&mut self, alloc: Global, value: &'v Value, is_linked: bool) -> Result<(), AllocError>
+    fn push(&mut self, alloc: Global, value: &'v Datum<'v>, is_linked: bool) -> Result<(), AllocError>
         ensures { OnOk result
             (Lists (itself is_linked (view value.entry.now) ∷ []) self.old self.new) }
     {
@@ -64,7 +64,7 @@ impl<'v> Listing<'v> {
     }
 
     #[cycle(listing)]
-    fn list_inside(&mut self, alloc: Global, value: &'v Value, left: u32) -> Result<(), AllocError>
+    fn list_inside(&mut self, alloc: Global, value: &'v Datum<'v>, left: u32) -> Result<(), AllocError>
         ensures { OnOk result
             (Lists (inside (sighted_within left) (view value.entry.now)) self.old self.new) }
     {
@@ -83,7 +83,7 @@ impl<'v> Listing<'v> {
     fn list_kwargs(
         &mut self,
         alloc: Global,
-        value: &'v Value,
+        value: &'v Datum<'v>,
         primitive: Option<Primitive>,
         left: u32,
     ) -> Result<(), AllocError>
@@ -106,7 +106,7 @@ impl<'v> Listing<'v> {
     }
 
     #[cycle(listing)]
-    fn list_chord(&mut self, alloc: Global, value: &'v Value, left: u32) -> Result<(), AllocError>
+    fn list_chord(&mut self, alloc: Global, value: &'v Datum<'v>, left: u32) -> Result<(), AllocError>
         ensures { OnOk result (Lists
             (in_each (sighted_within left false) (in_kwargs (Some Chord) (view value.entry.now)))
             self.old self.new) }
@@ -121,7 +121,7 @@ impl<'v> Listing<'v> {
         &mut self,
         alloc: Global,
         field: Field,
-        found: Option<&'v Value>,
+        found: Option<&'v Datum<'v>>,
         is_linked: bool,
         left: u32,
     ) -> Result<(), AllocError>
@@ -140,7 +140,7 @@ impl<'v> Listing<'v> {
         &mut self,
         alloc: Global,
         field: Field,
-        value: &'v Value,
+        value: &'v Datum<'v>,
         is_linked: bool,
         left: u32,
     ) -> Result<(), AllocError>
@@ -149,7 +149,7 @@ impl<'v> Listing<'v> {
             self.old self.new) }
     {
         match value {
-            Value::Array(values) => self.list_all(alloc, field, values, is_linked, left),
+            Datum::List(values) => self.list_all(alloc, field, values, is_linked, left),
             _ => self.list_one(alloc, field, Some(value), is_linked, left),
         }
     }
@@ -160,7 +160,7 @@ impl<'v> Listing<'v> {
         &mut self,
         alloc: Global,
         field: Field,
-        found: Option<&'v Value>,
+        found: Option<&'v Datum<'v>>,
         is_linked: bool,
         left: u32,
     ) -> Result<(), AllocError>
@@ -169,7 +169,7 @@ impl<'v> Listing<'v> {
             self.old self.new) }
     {
         match found {
-            None | Some(Value::Null) => Ok(()),
+            None | Some(Datum::Null) => Ok(()),
             Some(value) => {
                 let step = Step { field, index: None };
                 self.list_at(alloc, step, value, is_linked, left)
@@ -182,7 +182,7 @@ impl<'v> Listing<'v> {
         &mut self,
         alloc: Global,
         field: Field,
-        values: &'v [Value],
+        values: &'v [Datum<'v>],
         is_linked: bool,
         left: u32,
     ) -> Result<(), AllocError>
@@ -204,7 +204,7 @@ impl<'v> Listing<'v> {
         &mut self,
         alloc: Global,
         step: Step,
-        value: &'v Value,
+        value: &'v Datum<'v>,
         is_linked: bool,
         left: u32,
     ) -> Result<(), AllocError>
@@ -222,7 +222,7 @@ impl<'v> Listing<'v> {
 /// The signatures of a text, in file order. Arrays and objects in it nest at most `left` deep.
 pub(crate) fn places_of<'v>(
     alloc: Global,
-    value: &'v Value,
+    value: &'v Datum<'v>,
     left: u32,
 ) -> Result<Vec<Place<'v>>, AllocError>
     requires { depth (view value.now) ≤ left }

@@ -4,11 +4,8 @@ use crate::arguments::{Bad, first_bad};
 use crate::listing::Place;
 use crate::shown::{shown, shown_value};
 use canvas_sig::SigFault;
-use canvas_sig::parts::{
-    Primitive, is_list, is_list_or_null, is_name, is_null, is_object_or_null, is_true, kwarg_of,
-    option_of, primitive_of,
-};
-use serde_json::Value;
+use canvas_sig::parts::{Datum, Primitive, is_list, is_list_or_null, is_name, is_null, is_object_or_null, is_true, kwarg_of, option_of, primitive_of};
+
 use std::alloc::{AllocError, Global};
 
 /// What is wanted in place of an argument.
@@ -21,14 +18,14 @@ const SIGNATURES: &str = "a list of signatures";
 fn found(
     alloc: Global,
     what: &str,
-    value: Option<&Value>,
+    value: Option<&Datum<'_>>,
     wanted: &str,
 ) -> Result<String, AllocError> {
     let shown = shown(alloc, value)?;
     format!(in alloc; "found {what} {shown}, wanted {wanted}")
 }
 
-fn of_signature(alloc: Global, value: &Value) -> Result<String, AllocError> {
+fn of_signature(alloc: Global, value: &Datum<'_>) -> Result<String, AllocError> {
     if !value.is_object() {
         let shown = shown_value(alloc, value)?;
         return format!(in alloc; "found {shown}, wanted a signature: an object that names a task");
@@ -45,14 +42,14 @@ fn of_signature(alloc: Global, value: &Value) -> Result<String, AllocError> {
     )
 }
 
-fn is_link(field: Option<&Value>) -> bool {
+fn is_link(field: Option<&Datum<'_>>) -> bool {
     matches!(
         field,
-        None | Some(Value::Null | Value::Array(_) | Value::Object(_))
+        None | Some(Datum::Null | Datum::List(_) | Datum::Object(_))
     )
 }
 
-fn of_bad_args(alloc: Global, value: &Value) -> Result<String, AllocError> {
+fn of_bad_args(alloc: Global, value: &Datum<'_>) -> Result<String, AllocError> {
     let args = value.get("args");
     if !is_list_or_null(args) {
         return found(alloc, "args", args, "a list");
@@ -75,7 +72,7 @@ fn of_bad_args(alloc: Global, value: &Value) -> Result<String, AllocError> {
     of_bad_members(alloc, value)
 }
 
-fn of_bad_members(alloc: Global, value: &Value) -> Result<String, AllocError> {
+fn of_bad_members(alloc: Global, value: &Datum<'_>) -> Result<String, AllocError> {
     match primitive_of(value.get("subtask_type")) {
         Some(Primitive::Chain | Primitive::Group) => {
             found(alloc, "kwargs.tasks", kwarg_of(value, "tasks"), SIGNATURES)
@@ -100,7 +97,7 @@ fn of_bad_members(alloc: Global, value: &Value) -> Result<String, AllocError> {
 
 fn of_bad_argument(
     alloc: Global,
-    value: &Value,
+    value: &Datum<'_>,
     bad: Bad,
     wanted: &str,
 ) -> Result<String, AllocError> {
@@ -110,7 +107,7 @@ fn of_bad_argument(
     }
 }
 
-fn kind_name(value: &Value) -> &'static str {
+fn kind_name(value: &Datum<'_>) -> &'static str {
     match primitive_of(value.get("subtask_type")) {
         Some(Primitive::Chain) => "a chain",
         Some(Primitive::Group) => "a group",

@@ -1,6 +1,7 @@
 //! A JSON value in a few words, as a note shows it.
 
-use serde_json::Value;
+
+use canvas_sig::parts::Datum;
 use std::alloc::{AllocError, Global};
 
 /// How many characters of a text are shown.
@@ -30,7 +31,7 @@ pub(crate) fn quoted(alloc: Global, text: &str) -> Result<String, AllocError> {
 }
 
 /// What stands in a member.
-pub(crate) fn shown(alloc: Global, found: Option<&Value>) -> Result<String, AllocError> {
+pub(crate) fn shown(alloc: Global, found: Option<&Datum<'_>>) -> Result<String, AllocError> {
     match found {
         None => String::from_str(alloc, "nothing"),
         Some(value) => shown_value(alloc, value),
@@ -38,14 +39,16 @@ pub(crate) fn shown(alloc: Global, found: Option<&Value>) -> Result<String, Allo
 }
 
 /// A value; of a list and an object only that it is one.
-pub(crate) fn shown_value(alloc: Global, value: &Value) -> Result<String, AllocError> {
+pub(crate) fn shown_value(alloc: Global, value: &Datum<'_>) -> Result<String, AllocError> {
     match value {
-        Value::Array(values) => {
+        Datum::List(values) => {
             let count = values.len();
             format!(in alloc; "a list of {count}")
         }
-        Value::Object(_) => String::from_str(alloc, "an object"),
-        Value::String(text) => quoted(alloc, text),
-        _ => value.to_string(alloc),
+        Datum::Object(_) => String::from_str(alloc, "an object"),
+        Datum::Text(text) => quoted(alloc, text),
+        Datum::Number(number) => number.to_string(alloc),
+        Datum::Bool(flag) => flag.to_string(alloc),
+        Datum::Null => String::from_str(alloc, "null"),
     }
 }

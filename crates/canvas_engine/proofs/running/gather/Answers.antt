@@ -51,5 +51,5 @@ returns-clause-ok g c =
       first = len ∙ long_envelopes c.args.start.envelopes.items (first_messages c.args.plan.now) c.requires.start.envelopes;
       rows = c.requires.start.rows;
       well = if_none c.fault_of-fault.result (λ all_well. well_gathered (g.T.Tasks.behaviour c.args.tasks.now) c.args.plan.now all.0.mates c.deref-3.result.now c.work_on_threads.new.slots c.args.start.tallies.items c.tally_all.new.tallies.items judged c.requires.start.tallies all.1 all.2 (all_well, counted))
-      (why_well c.deref-3.result.now c.fault_of-fault.result c.fault_of-fault.ensures);
+          (why_well c.deref-3.result.now c.fault_of-fault.result c.fault_of-fault.ensures);
     }

@@ -1,5 +1,5 @@
 use Rattle.std.proofs.Common.{subst}
-use Rattle.serde_json.specs.View.{view}
+use Rattle.canvas_sig.specs.Datum.{view}
 use Rattle.canvas_finding.specs.Pointer.{AreIndices}
 use Rattle.canvas_finding.proofs.Found.{place_found}
 use Rattle.canvas_finding.proofs.finding.find_in.Goals as goal

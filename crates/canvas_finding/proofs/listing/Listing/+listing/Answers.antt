@@ -1,9 +1,9 @@
 use Rattle.std.proofs.Common.{map, drop, false, sym, ap, refl, subst, arith, rules, ◌∙◌, OnOk, ◌<◌, ◌∷◌, [], length, vec_len, length-append}
-use Rattle.serde_json.specs.View.{view}
-use Rattle.canvas_sig.proofs.Json.{next_item}
+use Rattle.canvas_sig.specs.Datum.{view}
+use Rattle.canvas_sig.proofs.Datums.{next_item}
 use Rattle.canvas_finding.specs.FileOrder.{sighted_within, in_each, from_index, some_in}
 use Rattle.canvas_finding.specs.Places.{Lists}
-use Rattle.canvas_finding.proofs.Adding.{and_inside, in_and_back, popped, chord_listed, one_more, array_some_in}
+use Rattle.canvas_finding.proofs.Adding.{and_inside, in_and_back, popped, chord_listed, one_more, list_some_in}
 use Rattle.canvas_finding.proofs.listing.Listing.+listing.Goals as goal
 
 pub list-returns : goal.list-returns
@@ -28,7 +28,7 @@ list_chord-returns t c =
     chord_listed c.list_one.result (sighted_within c.args.left false) _ _ (view c.args.value.now)
     c.args.self.now c.list_some.new.self c.list_one.new.self c.kwarg_of.ensures c.kwarg_of-2.ensures c.in_ok-list_some.ensures c.list_one.ensures
 
-pub list_one_or_more-returns-in-Array : goal.list_one_or_more-returns-in-Array
-list_one_or_more-returns-in-Array t c =
+pub list_one_or_more-returns-in-List : goal.list_one_or_more-returns-in-List
+list_one_or_more-returns-in-List t c =
     subst (λ ds. OnOk c.list_all.result (Lists (in_each (sighted_within c.args.left c.args.is_linked) ds) c.args.self.now c.list_all.new.self))
-    (ap (λ vs. from_index c.args.field 0 (map view vs)) c.deref.ensures.value ∙ sym (array_some_in c.args.field _ _ c.in-Array.is)) c.list_all.ensures
+    (sym (list_some_in c.args.field _ _ c.in-List.is)) c.list_all.ensures

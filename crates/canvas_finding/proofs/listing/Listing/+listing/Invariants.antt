@@ -1,5 +1,5 @@
 use Rattle.std.proofs.Common.{◌+◌, ◌*◌, map, drop}
-use Rattle.serde_json.specs.View.{view}
+use Rattle.canvas_sig.specs.Datum.{view}
 use Rattle.canvas_finding.specs.FileOrder.{sighted_within}
 use Rattle.canvas_finding.proofs.Adding.{Halfway}
 use Rattle.canvas_finding.proofs.listing.Listing.+listing.Given as goal
