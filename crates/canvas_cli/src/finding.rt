@@ -1,10 +1,11 @@
 //! `canvas check`: the figures of a canvas, or where it is refused.
 
 use crate::command::{print, text_of};
-use crate::plan::plan_of;
+use crate::plan::plan_of_canvas;
 use crate::refusal::Refusal;
 use crate::words::file_argument;
-use canvas_finding::{Finding, Spot, find, pointer_text};
+use canvas_finding::{Finding, Spot, depths_of, find, pointer_text};
+use canvas_sig::read_canvas;
 use canvas_task::{Memory, Registry};
 use canvas_trace::trace_of;
 use canvas_views::quoted_json;
@@ -64,9 +65,11 @@ fn finding_json(alloc: Global, finding: &Finding) -> Result<String, AllocError> 
     let pointer = pointer_json(alloc, &finding.spot)?;
     match &finding.spot {
         Spot::Json { line, column } => format!(in alloc;
-            "{{\"code\":{code},\"column\":{column},\"line\":{line},\"name\":\"{name}\",\"note\":{note},\"pointer\":{pointer}}}\n"),
+            "{{\"code\":{code},\"column\":{column},\"line\":{line},\"name\":\"{name}\",\"note\":{note},\"pointer\":{pointer}}}\n"
+        ),
         _ => format!(in alloc;
-            "{{\"code\":{code},\"name\":\"{name}\",\"note\":{note},\"pointer\":{pointer}}}\n"),
+            "{{\"code\":{code},\"name\":\"{name}\",\"note\":{note},\"pointer\":{pointer}}}\n"
+        ),
     }
 }
 
@@ -92,7 +95,9 @@ fn figures_text<'w>(
     registry: &Registry,
     text: &[u8],
 ) -> Result<String, Refusal<'w>> {
-    let plan = plan_of(alloc, text)?;
+    let canvas = read_canvas(alloc, text)?;
+    let depths = depths_of(&canvas);
+    let plan = plan_of_canvas(alloc, &canvas)?;
     let trace = trace_of(alloc, &plan, registry, 1, &[])?;
     let tasks = plan.tasks();
     let groups = plan.groups();
@@ -101,6 +106,10 @@ fn figures_text<'w>(
     let mut figures = String::new(alloc);
     writeln!(figures, "tasks {tasks}")?;
     writeln!(figures, "groups and chords {groups}")?;
+    let nesting = depths.nesting;
+    let reach = depths.reach;
+    writeln!(figures, "nesting {nesting}")?;
+    writeln!(figures, "reach {reach}")?;
     writeln!(figures, "messages {messages}")?;
     writeln!(figures, "bytes of messages {bytes}")?;
     Ok(figures)

@@ -61,7 +61,8 @@ impl Manner {
             Ok(report) => self.print_report(alloc, plan, &report, out),
             Err(fault) => {
                 if let RunFault::Halted {
-                    rows: Some(report), ..
+                    rows: Some(report),
+                    ..
                 } = &fault
                 {
                     let _ = self.print_report(alloc, plan, report, out);

@@ -35,15 +35,7 @@ where
     let alloc = rt.alloc();
     let text = text_of(rt, file, input)?;
     if manner.is_plain() {
-        let ran = run_text_threads(
-            rt,
-            alloc,
-            &text,
-            registry,
-            workers,
-            &OpenGate,
-            &Stop::new(),
-        );
+        let ran = run_text_threads(rt, alloc, &text, registry, workers, &OpenGate, &Stop::new());
         let report = whole(alloc, &text, ran, out)?;
         print(out, &report)?;
         return Ok(0);

@@ -3,7 +3,6 @@
 use crate::shown::{quoted, shown_value};
 use canvas_sig::parts::{Datum, listed};
 use canvas_task::in_range;
-
 use std::alloc::{AllocError, Global};
 
 /// Which fault of an argument is looked for.

@@ -14,10 +14,10 @@ use crate::limits::{Wanted, first_past, first_wanted};
 use crate::listing::{Place, places_of};
 use crate::notes::note_of;
 use crate::step::{Step, read_indices};
+use bumpalo::Bump;
 use canvas_sig::parts::{Datum, MOST_LEVELS, MOST_TASKS, is_name, parse, text_of};
 use canvas_sig::{SigFault, read_canvas};
 use canvas_task::Memory;
-use bumpalo::Bump;
 use json::Scratch;
 use serde_json::Value;
 use std::alloc::{AllocError, Global};
@@ -92,7 +92,12 @@ fn first_too_deep<'v>(
 }
 
 /// Where a refusal stands in a value.
-fn find_in(alloc: Global, value: &Datum<'_>, fault: SigFault, left: u32) -> Result<Finding, AllocError>
+fn find_in(
+    alloc: Global,
+    value: &Datum<'_>,
+    fault: SigFault,
+    left: u32,
+) -> Result<Finding, AllocError>
     requires { depth (view value.now) ≤ left }
     ensures fault { IfOk result (λ f. f.fault ≡ fault) }
     ensures spot { IfOk result (λ f. IsSpot (view value.now) fault f.spot) }

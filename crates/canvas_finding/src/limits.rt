@@ -11,8 +11,7 @@ ghost use Rattle.canvas_finding.specs.Limits.{kind_of, is_too_deep, steps_to_mem
 
 use crate::listing::Place;
 use crate::step::{Field, Step};
-use canvas_sig::parts::{MOST_LEVELS, Datum, Primitive, kwarg_of, listed, own_fault, primitive_of};
-
+use canvas_sig::parts::{Datum, MOST_LEVELS, Primitive, kwarg_of, listed, own_fault, primitive_of};
 
 const MOST_NESTING: usize = 8;
 

@@ -10,7 +10,6 @@ ghost use Rattle.canvas_finding.specs.Places.{shown, Lists};
 
 use crate::step::{Field, Step};
 use canvas_sig::parts::{Datum, Primitive, kwarg_of, listed, option_of, primitive_of};
-
 use std::alloc::{AllocError, Global};
 
 /// A signature of a text, and the steps that lead to it.
@@ -50,7 +49,12 @@ impl<'v> Listing<'v> {
     }
 
     /// A signature, without those in it.
-    fn push(&mut self, alloc: Global, value: &'v Datum<'v>, is_linked: bool) -> Result<(), AllocError>
+    fn push(
+        &mut self,
+        alloc: Global,
+        value: &'v Datum<'v>,
+        is_linked: bool,
+    ) -> Result<(), AllocError>
         ensures { OnOk result
             (Lists (itself is_linked (view value.entry.now) ∷ []) self.old self.new) }
     {
@@ -64,7 +68,12 @@ impl<'v> Listing<'v> {
     }
 
     #[cycle(listing)]
-    fn list_inside(&mut self, alloc: Global, value: &'v Datum<'v>, left: u32) -> Result<(), AllocError>
+    fn list_inside(
+        &mut self,
+        alloc: Global,
+        value: &'v Datum<'v>,
+        left: u32,
+    ) -> Result<(), AllocError>
         ensures { OnOk result
             (Lists (inside (sighted_within left) (view value.entry.now)) self.old self.new) }
     {
@@ -106,7 +115,12 @@ impl<'v> Listing<'v> {
     }
 
     #[cycle(listing)]
-    fn list_chord(&mut self, alloc: Global, value: &'v Datum<'v>, left: u32) -> Result<(), AllocError>
+    fn list_chord(
+        &mut self,
+        alloc: Global,
+        value: &'v Datum<'v>,
+        left: u32,
+    ) -> Result<(), AllocError>
         ensures { OnOk result (Lists
             (in_each (sighted_within left false) (in_kwargs (Some Chord) (view value.entry.now)))
             self.old self.new) }

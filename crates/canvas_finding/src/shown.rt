@@ -1,6 +1,5 @@
 //! A JSON value in a few words, as a note shows it.
 
-
 use canvas_sig::parts::Datum;
 use std::alloc::{AllocError, Global};
 

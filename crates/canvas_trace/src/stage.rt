@@ -128,12 +128,7 @@ impl Stage {
     }
 
     /// The answer to an ask; none to the end, and where nothing is handed out.
-    fn reply_to(
-        &mut self,
-        plan: &Plan,
-        index: usize,
-        ask: Ask,
-    ) -> Result<Option<Reply>, Memory>
+    fn reply_to(&mut self, plan: &Plan, index: usize, ask: Ask) -> Result<Option<Reply>, Memory>
         ensures { IfOk result (λ reply. IfSome reply FoundInRange) }
     {
         let reply = match ask {

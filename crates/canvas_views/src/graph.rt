@@ -125,7 +125,10 @@ impl Graph<'_> {
     }
 
     fn push_callback(&mut self, from: Node, to: Node, said: &str) -> Result<(), AllocError> {
-        writeln!(self.edges, "  {from} -> {to} [style=dashed, label=\"{said}\"];")?;
+        writeln!(
+            self.edges,
+            "  {from} -> {to} [style=dashed, label=\"{said}\"];"
+        )?;
         Ok(())
     }
 

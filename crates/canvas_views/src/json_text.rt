@@ -24,6 +24,9 @@ pub fn message_line(alloc: Global, envelope: &Envelope) -> Result<String, AllocE
     let headers = text_json(alloc, envelope.headers.get())?;
     let properties = text_json(alloc, envelope.properties.get())?;
     let mut line = String::from_str(alloc, "{\"body\":")?;
-    writeln!(line, "{body},\"headers\":{headers},\"properties\":{properties}}}")?;
+    writeln!(
+        line,
+        "{body},\"headers\":{headers},\"properties\":{properties}}}"
+    )?;
     Ok(line)
 }

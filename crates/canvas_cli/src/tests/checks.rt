@@ -1,17 +1,36 @@
 //! `canvas check`: figures, and where a canvas is refused.
 
-use super::{ADD_THEN_MUL, answers};
+use super::{ADD_THEN_MUL, answers, words};
+use crate::command::command_with_six;
+use std::test::Fail;
 
 const FIGURES: &str = concat!(
     "tasks 2\n",
     "groups and chords 0\n",
+    "nesting 2\n",
+    "reach 2\n",
     "messages 2\n",
     "bytes of messages 862\n"
 );
 
+/// Two pairs of a header of one task and a sum over it, in a chain: each pair has reach 3.
+const PAIRS: &str = r#"{"task":"c","subtask_type":"chain","kwargs":{"tasks":[
+    {"task":"g","subtask_type":"group","kwargs":{"tasks":[{"task":"tasks.ident","args":[1]}]}},{"task":"tasks.xsum"},
+    {"task":"g","subtask_type":"group","kwargs":{"tasks":[{"task":"tasks.ident"}]}},{"task":"tasks.xsum"}]}}"#;
+
+const FIGURES_OF_PAIRS: &str =
+    "tasks 4\ngroups and chords 2\nnesting 3\nreach 6\nmessages 4\nbytes of messages ";
+
 #[test]
-fn an_accepted_canvas(rt: HostRuntime) {
+fn accepted_canvases(rt: HostRuntime) -> Result<(), Fail> {
     assert!(rt; answers(&rt, "check -", ADD_THEN_MUL, 0, FIGURES, ""));
+    let mut written: Vec<u8> = Vec::new(rt.alloc());
+    let mut told: Vec<u8> = Vec::new(rt.alloc());
+    let words = words(rt.alloc(), "check -")?;
+    let mut input = PAIRS.as_bytes();
+    let status = command_with_six(&rt, &words, &mut input, &mut written, &mut told);
+    assert!(rt; status == 0 && written.starts_with(FIGURES_OF_PAIRS.as_bytes()));
+    Ok(())
 }
 
 /// A text, and what is said of it.

@@ -12,7 +12,8 @@ const ROWS: &str = concat!(
 );
 
 /// A group whose second member divides by zero, and whose third fails by a chord.
-const GROUP: &str = r#"{"task":"g","subtask_type":"group","kwargs":{"tasks":[{"task":"tasks.add","args":[1,1]},
+const GROUP: &str =
+    r#"{"task":"g","subtask_type":"group","kwargs":{"tasks":[{"task":"tasks.add","args":[1,1]},
     {"task":"c","subtask_type":"chord","kwargs":{"header":[{"task":"tasks.div","args":[1,0]}],"body":{"task":"\"\\"}}}]}}"#;
 
 const GROUP_ROWS: &str = concat!(
@@ -61,13 +62,7 @@ fn rows_and_statuses(rt: HostRuntime) {
             REFUSED,
         ),
         ("turns --json -", "!", 1, "", NO_JSON),
-        (
-            "run --fail -",
-            "!",
-            1,
-            "",
-            "canvas: refused 2 NotJson\n",
-        ),
+        ("run --fail -", "!", 1, "", "canvas: refused 2 NotJson\n"),
     ] {
         assert!(rt; answers(&rt, line, input, status, out, err), "{line}");
     }
@@ -84,7 +79,16 @@ fn messages(rt: HostRuntime) {
     for line in ["messages -", "messages - --workers 2 --turns 2,2,1"] {
         assert!(rt; answers(&rt, line, task, 0, MESSAGES, ""), "{line}");
     }
-    assert!(rt; answers(&rt, "messages - --turns 2", task, 1, "", "canvas: refused BadTurn\n"));
+    assert!(rt;
+        answers(
+            &rt,
+            "messages - --turns 2",
+            task,
+            1,
+            "",
+            "canvas: refused BadTurn\n"
+        )
+    );
 }
 
 /// A name that would end its quotes and begin an escape, and a text with a line feed and more.
@@ -103,7 +107,8 @@ const HOSTILE_PICTURE: &str = r#"digraph canvas {
 "#;
 
 /// A task, and then an empty header.
-const CHORD: &str = r#"{"task":"c","subtask_type":"chain","kwargs":{"tasks":[{"task":"tasks.div","args":[1,0]},
+const CHORD: &str =
+    r#"{"task":"c","subtask_type":"chain","kwargs":{"tasks":[{"task":"tasks.div","args":[1,0]},
     {"task":"c","subtask_type":"chord","kwargs":{"header":[],"body":{"task":"tasks.xsum","immutable":true}}}]}}"#;
 
 const CHORD_PICTURE: &str = r##"digraph canvas {
