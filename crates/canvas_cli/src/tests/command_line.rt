@@ -25,15 +25,16 @@ Commands:
   collect   Prints the report of a canvas from its results on standard input, one a line
   help      Print this message or the help of the given subcommand(s)
 
-Options:
 ";
 
 const SHORT_OPTIONS: &str = "\
+Options:
   -h, --help     Print help (see more with '--help')
   -V, --version  Print version
 ";
 
 const LONG_OPTIONS: &str = "\
+Options:
   -h, --help
           Print help (see a summary with '-h')
 

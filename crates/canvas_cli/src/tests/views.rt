@@ -40,7 +40,7 @@ const REFUSED: &str = concat!(
 );
 
 const NO_JSON: &str = concat!(
-    r#"{"code":2,"column":1,"line":1,"name":"NotJson","note":"found no JSON (expected value), wanted one JSON text in UTF-8","pointer":null}"#,
+    r#"{"code":2,"column":1,"line":1,"name":"NotJson","note":"found no JSON (invalid JSON), wanted one JSON text in UTF-8","pointer":null}"#,
     "\n"
 );
 
