@@ -1,17 +1,19 @@
 -- Borrowed values, as they are read: a list that grows at its end, and members that go into a map.
-use Rattle.std.proofs.Common.{◌≡◌, ℕ, List, [], ◌∷◌, ◌++◌, Option, Some, None, Ordering, Less, Equal, Greater, nat_cmp, is_eq, Bool, true, false, bytes_eq, true≢false, Bor, refl, ap, ◌∙◌, rules, suc, ◌+◌, ◌<◌, length, get_or, drop, arith}
+use Rattle.std.proofs.Common.{◌≡◌, ℕ, List, [], ◌∷◌, ◌++◌, Option, Some, None, Ordering, Less, Equal, Greater, nat_cmp, is_eq, Bool, true, false, bytes_eq, true≢false, Bor, refl, ap, ◌∙◌, rules, suc, ◌+◌, ◌<◌, length, get_or, drop, take, arith}
 use Rattle.std.proofs.Math.Seq.{drop-cons}
 use Rattle.std.proofs.lemmas.Cmp.{nat_list_cmp_total, tied_itself}
 use Rattle.std.proofs.lemmas.Map.Text.{is_eq-slice_cmp}
 use Rattle.std.proofs.lemmas.Slice.Eq.{bytes_eq-Decides}
 use Rattle.std.specs.Cmp.Lexicographic.{slice_cmp}
-use Rattle.std.specs.Ordering.{match_ordering}
+use Rattle.std.specs.Ordering.{match_ordering, ordering_reverse}
+use Rattle.std.proofs.lemmas.List.{take_more}
 use Rattle.std.specs.BTreeMap.{insert_entry}
 use Rattle.json.specs.Token.{Token}
 use Rattle.json.specs.Json.{parse_map}
-use Rattle.serde_json.specs.Data.{Data, array, object, Items, item, no_items, put}
+use Rattle.serde_json.specs.Data.{Data, array, object, Items, item, no_items, Members, member, put}
 use Rattle.serde_json.specs.Find.{get_member}
 use Rattle.canvas_sig.specs.Datum.{view, items_view, members_view}
+use Rattle.canvas_sig.specs.steps.Names.{put_all}
 use Rattle.canvas_sig.specs.declared.datum.Datum.{Datum, the_lemmas}
 use Rattle.canvas_sig.specs.declared.datum.Datum as datum
 
@@ -81,3 +83,28 @@ found_at name xs i x d lt is same = ap (λ ys. get_member name (members_view ys)
 pub later_at : (name : List ℕ) (xs : List Named) (i : ℕ) (x d : Named) → i < length xs → get_or xs i d ≡ x → (name ≡ x.0.now → ⊥)
     → get_member name (members_view (drop i xs)) ≡ get_member name (members_view (drop (i + 1) xs))
 later_at name xs i x d lt is other = ap (λ ys. get_member name (members_view ys)) (next_member xs i x d lt is) ∙ found_later name x (drop (i + 1) xs) other
+
+-- ---- members that are put one after the other
+
+pub put_pushed : (es : List Named) (e : Named) (ms : Members) → put_all (es ++ e ∷ []) ms ≡ put e.0.now (view e.1) (put_all es ms)
+put_pushed [] e ms = refl
+put_pushed (x ∷ es) e ms = put_pushed es e (put x.0.now (view x.1) ms)
+
+-- the members before the next one, and it
+pub one_more : (xs : List Named) (i : ℕ) (x d : Named) → i < length xs → get_or xs i d ≡ x → take (i + 1) xs ≡ take i xs ++ x ∷ []
+one_more xs i x d lt is = take_more xs i d lt ∙ ap (λ y. take i xs ++ y ∷ []) is
+
+abbrev pub AllBelow : List Named → List ℕ → Type 0
+AllBelow [] k = Unit {0}
+AllBelow (e ∷ es) k = (slice_cmp nat_cmp e.0.now k ≡ Less) × AllBelow es k
+
+-- one behind all others goes last
+pub put_last : (es : List Named) (e : Named) → AllBelow es e.0.now → put e.0.now (view e.1) (members_view es) ≡ members_view (es ++ e ∷ [])
+put_last [] e h = refl
+put_last (x ∷ es) e h =
+    let above : slice_cmp nat_cmp e.0.now x.0.now ≡ Greater = nat_list_cmp_total.antisymm e.0.now x.0.now ∙ ap ordering_reverse h.0 in
+    rw above (ap (member x.0.now (view x.1)) (put_last es e h.1))
+
+pub below_next : (es : List Named) (e : Named) (k : List ℕ) → AllBelow es e.0.now → slice_cmp nat_cmp e.0.now k ≡ Less → AllBelow (es ++ e ∷ []) k
+below_next [] e k h low = (low, tt)
+below_next (x ∷ es) e k h low = (nat_list_cmp_total.trans x.0.now e.0.now k h.0 low, below_next es e k h.1 low)

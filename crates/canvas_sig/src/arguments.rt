@@ -1,6 +1,6 @@
 //! Reading the arguments of a task out of JSON values.
 
-ghost use Rattle.std.specs.Prelude.{◌≡◌, ◌≢◌, map, true, option_map, IfErr};
+ghost use Rattle.std.specs.Prelude.{◌≡◌, ◌≢◌, map, IfErr};
 ghost use Rattle.std.specs.List.{list_all};
 ghost use Rattle.serde_json.specs.Find.{as_i64};
 ghost use Rattle.serde_json.specs.View.{number_view};
@@ -9,12 +9,11 @@ ghost use Rattle.canvas_task.specs.Entries.{named};
 ghost use Rattle.canvas_task.specs.Numbers.{in_range};
 ghost use Rattle.canvas_sig.specs.declared.fault.SigFault.TheVariants.{Memory};
 ghost use Rattle.canvas_sig.specs.Fields.{value_at, seen, object_members, is_number};
-ghost use Rattle.canvas_sig.specs.steps.Names.{IsBelow};
 ghost use Rattle.canvas_sig.specs.Answers.{Gives, each};
 ghost use Rattle.canvas_sig.specs.Grammar.{some_in_range, arg_reading, named_reading};
 ghost use Rattle.canvas_sig.specs.steps.Reading.{in_range_or_refused, number_reading, list_reading};
 
-use crate::datum::Datum;
+use crate::datum::{Datum, follows};
 use crate::fault::SigFault;
 use canvas_task::{Arg, ListOf, TextOf, in_range};
 use serde_json::Number;
@@ -111,16 +110,6 @@ pub fn read_args(alloc: Global, values: &[Datum<'_>]) -> Result<Vec<Arg>, SigFau
         args.push(read_argument(alloc, value)?)?;
     }
     Ok(args)
-}
-
-/// Whether a name stands behind the last one.
-fn follows(last: Option<&str>, name: &str) -> bool
-    ensures { result ≡ true → IsBelow (option_map (λ l. l.now) last.entry) name.now }
-{
-    match last {
-        Some(last) => last < name,
-        None => true,
-    }
 }
 
 /// The arguments that an object names. Where its names didn't ascend, no map would hold them in

@@ -1,7 +1,8 @@
 //! JSON values whose texts, lists and objects are borrowed.
 
-ghost use Rattle.std.specs.Prelude.{◌≡◌, option_map};
+ghost use Rattle.std.specs.Prelude.{◌≡◌, true, option_map};
 ghost use Rattle.canvas_sig.specs.Fields.{is_object};
+ghost use Rattle.canvas_sig.specs.steps.Names.{IsBelow};
 ghost use Rattle.serde_json.specs.Find.{get, get_member};
 ghost use Rattle.canvas_sig.specs.Datum.{view, members_view};
 
@@ -29,6 +30,16 @@ fn member<'a>(members: &'a [(&'a str, Datum<'a>)], name: &str) -> Option<&'a Dat
         }
     }
     None
+}
+
+/// Whether a name stands behind the last one.
+pub(crate) fn follows(last: Option<&str>, name: &str) -> bool
+    ensures { result ≡ true → IsBelow (option_map (λ l. l.now) last.entry) name.now }
+{
+    match last {
+        Some(last) => last < name,
+        None => true,
+    }
 }
 
 impl<'a> Datum<'a> {

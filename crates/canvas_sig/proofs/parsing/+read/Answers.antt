@@ -3,13 +3,14 @@ use Rattle.json.specs.Token.{Token}
 use Rattle.json.specs.Json.{parse_map, after_end_array, read_key, items, members, value}
 use Rattle.json.specs.Reads.{token_of}
 use Rattle.json.proofs.Grammar.{value_is, value-begin_array, value-begin_object, read_key-shorter}
-use Rattle.serde_json.specs.Data.{null, boolean, number, string, array, object, put}
+use Rattle.serde_json.specs.Data.{null, boolean, number, string, array, object, no_members, put}
 use Rattle.serde_json.specs.Read.{of_json, of_items, of_members, converted}
 use Rattle.serde_json.specs.View.{number_view}
 use Rattle.canvas_sig.proofs.Conversion.{of_array, of_object, item_read, item_refused, items_over, member_read, member_refused, key_refused, members_over, nothing_before}
 use Rattle.canvas_sig.specs.Datum.{view, items_view, members_view}
+use Rattle.canvas_sig.specs.steps.Names.{put_all}
 use Rattle.canvas_sig.specs.declared.datum.Datum.{Text, Number, Bool, Null, the_lemmas}
-use Rattle.canvas_sig.proofs.Parsed.{view-List, view-Object, inserted, items_before, all_before, one_more_item}
+use Rattle.canvas_sig.proofs.Parsed.{view-List, view-Object, put_pushed, items_before, all_before, one_more_item}
 use Rattle.canvas_sig.proofs.parsing.+read.Goals as goal
 
 pub read_value-returns-in_err-token-clause-err : goal.read_value-returns-in_err-token-clause-err
@@ -140,14 +141,14 @@ read_items-returns-clause-ok t c =
 pub read_members-members-init : goal.read_members-members-init
 read_members-members-init t c =
     let all = members (value c.args.left) (length c.args.reader.now) c.args.reader.now in
-    (length c.args.reader.now, omega arith, ap (λ es. converted (λ ms. of_members ms (members_view es)) all) (sym c.new-found.ensures.empty), omega arith)
+    (length c.args.reader.now, omega arith, ap (λ es. converted (λ ms. of_members ms (put_all es no_members)) all) (sym c.new-found.ensures.items), omega arith)
 
 pub read_members-returns-in_err-name-clause-err : goal.read_members-returns-in_err-name-clause-err
 read_members-returns-in_err-name-clause-err t c refused =
     let p = value c.args.left in
     let l = c.members in
     let n = l.invariant.0 in
-    let old = members_view l.found.entries in
+    let old = put_all l.found.items no_members in
     l.invariant.2 ∙ key_refused old p n l.reader c.in_err-name.ensures.value
 
 pub read_members-returns-in_err-member-clause-err : goal.read_members-returns-in_err-member-clause-err
@@ -155,7 +156,7 @@ read_members-returns-in_err-member-clause-err t c refused =
     let p = value c.args.left in
     let l = c.members in
     let n = l.invariant.0 in
-    let old = members_view l.found.entries in
+    let old = put_all l.found.items no_members in
     let k = c.in-Some.name.now in
     let s = c.next_key.new.self in
     let named : read_key l.reader ≡ Some (Some k, s) = grind arith in
@@ -166,7 +167,7 @@ read_members-members-preserved t c =
     let p = value c.args.left in
     let l = c.members in
     let n = l.invariant.0 in
-    let old = members_view l.found.entries in
+    let old = put_all l.found.items no_members in
     let k = c.in-Some.name.now in
     let s = c.next_key.new.self in
     let named : read_key l.reader ≡ Some (Some k, s) = grind arith in
@@ -175,8 +176,8 @@ read_members-members-preserved t c =
     let r = c.read_value.new.reader in
     let less = read_key-shorter l.reader (Some k) s named in
     let lesser = done.shorter in
-    let placed : members_view c.insert.new.self.entries ≡ put k (view v) old =
-    ap (λ es. members_view es) c.in_ok-insert.ensures.entries ∙ inserted l.found.entries c.in-Some.name v in (
+    let placed : put_all c.push.new.self.items no_members ≡ put k (view v) old =
+    ap (λ es. put_all es no_members) c.in_ok-push.ensures.items ∙ put_pushed l.found.items (c.in-Some.name, v) no_members in (
       n - 1,
       omega (arith, l.invariant.1),
       l.invariant.2 ∙ member_read old p n k l.reader s r (view v) (omega (arith, l.invariant.1)) named done.ok
@@ -189,6 +190,6 @@ read_members-returns-clause-ok t c =
     let p = value c.args.left in
     let l = c.members in
     let n = l.invariant.0 in
-    let old = members_view l.found.entries in
+    let old = put_all l.found.items no_members in
     l.invariant.2 ∙ members_over old p n l.reader c.next_key.new.self l.invariant.1 (grind arith)
-    ∙ ap (λ vs. Some (members_view vs, c.next_key.new.self)) (sym c.in_ok-in_order.ensures)
+    ∙ ap (λ ms. Some (ms, c.next_key.new.self)) (sym c.in_ok-in_order.ensures)

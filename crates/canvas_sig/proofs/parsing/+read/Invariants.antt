@@ -2,7 +2,7 @@ use Rattle.std.proofs.Common.{◌≡◌, ℕ, ◌+◌, ◌*◌, ◌≤◌, lengt
 use Rattle.json.specs.Json.{items, members, value, parse_map}
 use Rattle.serde_json.specs.Data.{no_members}
 use Rattle.serde_json.specs.Read.{of_items, of_members, converted}
-use Rattle.canvas_sig.specs.Datum.{members_view}
+use Rattle.canvas_sig.specs.steps.Names.{put_all}
 use Rattle.canvas_sig.proofs.Parsed.{items_before}
 use Rattle.canvas_sig.proofs.parsing.+read.Given as goal
 
@@ -27,7 +27,7 @@ decreases-read_items-items l = length l.reader
 abbrev pub invariant-read_members-members : goal.invariant-read_members-members
 invariant-read_members-members l =
     (n : ℕ) × (length l.reader ≤ n)
-    × (converted (λ ms. of_members ms no_members) (members (value l.left) (length l.initial.reader) l.initial.reader) ≡ converted (λ ms. of_members ms (members_view l.found.entries)) (members (value l.left) n l.reader))
+    × (converted (λ ms. of_members ms no_members) (members (value l.left) (length l.initial.reader) l.initial.reader) ≡ converted (λ ms. of_members ms (put_all l.found.items no_members)) (members (value l.left) n l.reader))
     × (length l.reader ≤ length l.initial.reader)
 
 abbrev pub decreases-read_members-members : goal.decreases-read_members-members
