@@ -1,6 +1,6 @@
 -- The elements of a line, by its tasks and its end, and their tokens.
 use Rattle.std.proofs.Common.{◌≡◌, ◌∙◌, ℕ, zero, suc, ◌+◌, ◌<◌, Bool, true, false, ◌==◌, arith, List, [], ◌∷◌, ◌++◌, map, length, drop, get_or, Option, Some, None, Box, Global, refl, sym, ap, ap₂, append_assoc, append-nil, subst}
-use Rattle.std.specs.Prelude.{codes, reverse}
+use Rattle.std.specs.Prelude.{codes, reverse, nat_lt}
 use Rattle.std.proofs.lemmas.List.{reverse-append}
 use Rattle.std.proofs.lemmas.Bool.Decides.{nat_tests}
 use Rattle.json.specs.Token.{Token, key, begin_object, begin_array, end_array, end_object}
@@ -278,3 +278,27 @@ pub front_called : (n : Naming) (t : FrozenTask) (a : List Arg) (w : List (List 
     → call_tokens (args_wire a) (out-FrozenTask t).immutable (kwargs_wire w) ++ options_brace ≡ sig_front (task_sig n (p_task_view t))
 front_called n t a w ha hw =
     ap₂ (λ x y. call_tokens (args_wire x) (out-FrozenTask t).immutable (kwargs_wire y) ++ options_brace) ha hw ∙ ap (λ x. sig_front (task_sig n x)) (sym (task_seen t))
+
+-- ---- whether a second element stands on a line
+
+second_front : (n : Naming) (ts : List FrozenTask) (more : List Sig) → (length ts == 0) ≡ false → (more ≡ [] → ⊥) → has_second (task_sigs n (map p_task_view ts) ++ more) ≡ true
+second_front n [] more h there = absurd cc
+second_front n (t ∷ []) [] h there = absurd (there refl)
+second_front n (t ∷ []) (s ∷ ss) h there = refl
+second_front n (t ∷ u ∷ ts) more h there = refl
+
+second_tasks : (n : Naming) (ts : List FrozenTask) → nat_lt 1 (length ts) ≡ has_second (task_sigs n (map p_task_view ts) ++ [])
+second_tasks n [] = refl
+second_tasks n (t ∷ []) = refl
+second_tasks n (t ∷ u ∷ ts) = grind (arith, nat_tests)
+
+pub second_with_end : (n : Naming) (l : FrozenLine) (ts : List FrozenTask) → ts ≡ (out-FrozenLine l).tasks → (length ts == 0) ≡ false → (b : Box FrozenEnd Global) → (out-FrozenLine l).tail ≡ Some b
+    → true ≡ has_second (elements n (p_line_view l))
+second_with_end n l ts same h b e =
+    let stands : tail_sigs n (p_line_view l) ≡ [] → ⊥ = λ none. end_stands n b.value (sym (a_tail n l b e) ∙ none) in
+    sym (ap has_second (all_seen n l ts same) ∙ second_front n ts (tail_sigs n (p_line_view l)) h stands)
+
+pub second_with_none : (n : Naming) (l : FrozenLine) (ts : List FrozenTask) → ts ≡ (out-FrozenLine l).tasks → (out-FrozenLine l).tail ≡ None
+    → nat_lt 1 (length ts) ≡ has_second (elements n (p_line_view l))
+second_with_none n l ts same e =
+    second_tasks n ts ∙ sym (ap has_second (all_seen n l ts same) ∙ ap (λ ss. has_second (task_sigs n (map p_task_view ts) ++ ss)) (no_tail n l e))
