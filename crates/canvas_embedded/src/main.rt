@@ -7,10 +7,9 @@ ghost use Rattle.std.specs.Prelude.{◌-ℤ◌, Ok};
 use anyhow::Result;
 use canvas_engine::{OpenGate, Stop, report_text, run};
 use canvas_rewrite::{Plan, freeze, normalise};
-use canvas_sig::{Canvas, Node, TaskSig};
-use canvas_task::{Add, Arg, Kind, ListOf, MapOf, OfTwo, TaskOfTwo, TextOf, Xsum, registry_of};
+use canvas_sig::{Canvas, Node};
+use canvas_task::{Add, Kind, OfTwo, TaskOfTwo, Xsum, registry_of};
 use std::alloc::{AllocError, Global};
-use std::collections::BTreeMap;
 
 /// A task of this program: `shop.change(paid, price)`.
 #[derive(Clone, Copy)]
@@ -24,31 +23,12 @@ impl OfTwo for Change {
     }
 }
 
-/// `NAME(number, ..)`, as Celery's `s()`.
-fn call(alloc: Global, name: &str, numbers: &[i64]) -> Result<Node, AllocError> {
-    let mut args = Vec::new(alloc);
-    for number in numbers {
-        args.push(Arg::Num(*number))?;
-    }
-    Ok(Node::Task(TaskSig {
-        name: TextOf::of(String::from_str(alloc, name)?),
-        args: ListOf::of(args),
-        kwargs: MapOf::of(BTreeMap::new(alloc)),
-        immutable: false,
-        links: ListOf::of(Vec::new(alloc)),
-        errbacks: ListOf::of(Vec::new(alloc)),
-    }))
-}
-
 /// `chord([shop.change(10, 3), tasks.add(2, 2)], tasks.xsum)`.
 fn sums(alloc: Global) -> Result<Node, AllocError> {
     let mut header = Vec::new(alloc);
-    header.push(call(alloc, "shop.change", &[10, 3])?)?;
-    header.push(call(alloc, "tasks.add", &[2, 2])?)?;
-    Ok(Node::Chord {
-        header: ListOf::of(header),
-        body: Box::new(alloc, call(alloc, "tasks.xsum", &[])?)?,
-    })
+    header.push(Node::call(alloc, "shop.change", &[10, 3])?)?;
+    header.push(Node::call(alloc, "tasks.add", &[2, 2])?)?;
+    Node::chord(alloc, header, Node::call(alloc, "tasks.xsum", &[])?)
 }
 
 fn plan_of(alloc: Global, node: Node) -> Result<Plan> {

@@ -43,7 +43,7 @@ use Rattle.canvas_worker.specs.declared.cause.Cause.TheVariants.{Memory, Stopped
 use Rattle.canvas_engine.specs.Correct.{AreWorkers, IsThreadFault}
 use Rattle.canvas_engine.specs.Evidence.{IsRun, AreTallies}
 use Rattle.canvas_engine.specs.steps.Crews.{Crew, IsStart, IsWellGathered, tallies_from}
-use Rattle.canvas_engine.specs.steps.Slots.{AllRan, IsWell, TakesIn, nothing_counted, tally_in}
+use Rattle.canvas_engine.specs.steps.Slots.{AllRan, IsWell, IsWhy, TakesIn, nothing_counted, tally_in}
 use Rattle.canvas_engine.specs.declared.running.Start.{Start}
 use Rattle.canvas_engine.specs.declared.slot.Slot.{Slot}
 use Rattle.canvas_engine.proofs.Slots.{each_ran, crew_of}
@@ -252,6 +252,12 @@ gathered behaviour l n s start sent after p t made ran many taken =
       c.tallies,
       c.done,
     )
+
+--- where nobody ended early all ended well
+pub why_well : (slots : List Slot) (x : Option Cause) → IsWhy slots x → IfNone x (All (λ s. IsWell s.post) slots)
+why_well slots None w = w
+why_well slots (Some Memory) w = tt
+why_well slots (Some Stopped) w = tt
 
 pub if_none : {X : Type 0} {P Q : Type 0} (x : Option X) → (P → Q) → IfNone x P → IfNone x Q
 if_none None f p = f p

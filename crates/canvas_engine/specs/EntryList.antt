@@ -1,6 +1,6 @@
 -- The text of a list of entries, as 1:late,3:early: each is a task's decimal number, a colon and a
 -- point, with a comma between two.
-use Rattle.std.specs.Prelude.{ℕ, List, ◌∷◌, ◌++◌, codes}
+use Rattle.std.specs.Prelude.{ℕ, ◌<◌, List, ◌∷◌, ◌++◌, length, codes}
 use Rattle.std.specs.Fmt.{decimal}
 use Rattle.canvas_runs.specs.Spending.{Entry}
 use Rattle.canvas_runs.specs.declared.when.When.{When}
@@ -25,7 +25,8 @@ IsEntry e = IsNumberFromOne e.0
 abbrev pub IsEntryList : List ℕ → List Entry → Type 0
 IsEntryList text es = Lists IsEntry entry_text text es
 
--- why a text has no entries: it is no such list, or memory was refused
+-- why a text has no entries: it is no such list, or memory was refused, which the empty text needs
+-- none of
 abbrev pub IsEntryFault : List ℕ → EntryFault → Type 0
 IsEntryFault text BadAgain = (es : List Entry) → IsEntryList text es → ⊥
-IsEntryFault text Memory = Unit {0}
+IsEntryFault text Memory = 0 < length text

@@ -1,6 +1,7 @@
 //! The passes and the seats of a run's workers.
-ghost use Rattle.std.specs.Prelude.{◌≡◌, ◌++◌, All, length, map, IfOk, OnOk, IfNone, MatchBool};
-ghost use Rattle.canvas_engine.specs.steps.Slots.{IsReadySlot, IsSplitOff, SplitsOff, LeftARecord, IsWell, AreOf, TakesIn, tally_in};
+ghost use Rattle.std.specs.Prelude.{◌≡◌, ◌≤◌, ◌+◌, ◌++◌, All, Any, length, map, IfOk, MatchBool};
+ghost use Rattle.std.specs.Vec.{vec_len, vec_capacity};
+ghost use Rattle.canvas_engine.specs.steps.Slots.{IsReadySlot, IsSplitOff, SplitsOff, LeftARecord, IsWell, LacksMemory, IsWhy, AreOf, TakesIn, tally_in};
 ghost use Rattle.canvas_broker.specs.Passes as passes;
 ghost use Rattle.canvas_history.specs.Callers.{Owes};
 ghost use Rattle.canvas_backend.specs.Seats as seats;
@@ -80,38 +81,37 @@ fn are_well(slots: &[Slot]) -> bool
     slots.iter().all(|slot| slot.is_well())
 }
 
+fn lack_memory(slots: &[Slot]) -> bool
+    ensures { MatchBool result (Any (λ s. LacksMemory s.post) slots.now)
+        (Any (λ s. LacksMemory s.post) slots.now → ⊥) }
+{
+    slots.iter().any(|slot| slot.lacks_memory())
+}
+
 /// Why the workers ended early, if any did: for memory, where that was refused to one of them.
-fn fault_of(slots: &[Slot]) -> Option<Cause>
-    ensures { IfNone result (All (λ s. IsWell s.post) slots.now) }
+pub(crate) fn fault_of(slots: &[Slot]) -> Option<Cause>
+    ensures { IsWhy slots.now result }
 {
     if are_well(slots) {
         return None;
     }
-    if slots.iter().any(|slot| slot.lacks_memory()) {
+    if lack_memory(slots) {
         Some(Cause::Memory)
     } else {
         Some(Cause::Stopped)
     }
 }
 
-/// What the workers counted, behind what is there.
-fn tally_all(slots: &[Slot], tallies: &mut Vec<Tally>) -> Result<(), Memory>
-    ensures { OnOk result (tallies.new.items ≡ tallies.old.items ++ map tally_in slots.now) }
+/// Puts what the workers counted behind what is there, for which there is room.
+pub(crate) fn tally_all(slots: &[Slot], tallies: &mut Vec<Tally>)
+    requires { vec_len tallies.old + length slots.now ≤ vec_capacity tallies.old }
+    ensures { tallies.new.items ≡ tallies.old.items ++ map tally_in slots.now }
 {
     for slot in slots {
-        tallies.push(slot.tally())?;
-    }
-    Ok(())
-}
-
-/// Counts what the workers did, behind what is there, and says why they ended early, if any did.
-pub(crate) fn judge(slots: &[Slot], tallies: &mut Vec<Tally>) -> Option<Cause>
-    ensures { IfNone result (All (λ s. IsWell s.post) slots.now
-        × (tallies.new.items ≡ tallies.old.items ++ map tally_in slots.now)) }
-{
-    match tally_all(slots, tallies) {
-        Ok(()) => fault_of(slots),
-        Err(Memory) => Some(Cause::Memory),
+        match tallies.push(slot.tally()) {
+            Ok(()) => (),
+            Err(_) => unreachable!(),
+        }
     }
 }
 

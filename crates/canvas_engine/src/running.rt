@@ -8,7 +8,7 @@ ghost use Rattle.canvas_engine.specs.Evidence.{IsRun};
 ghost use Rattle.canvas_engine.specs.Headline.{Headline};
 ghost use Rattle.canvas_engine.specs.steps.Crews.{AreGathered, IsStart};
 
-use crate::crew::{are_done, join_all, judge, split_all};
+use crate::crew::{are_done, fault_of, join_all, split_all, tally_all};
 use crate::fault::MOST_WORKERS;
 use crate::firsts::{first_envelopes, publish_all};
 use crate::gathered::Gathered;
@@ -110,7 +110,8 @@ where
     if !are_done(&slots) {
         return Err(RunFault::halted(Cause::Memory));
     }
-    let fault = judge(&slots, &mut tallies);
+    tally_all(&slots, &mut tallies);
+    let fault = fault_of(&slots);
     join_all(rt, &broker, &mut pass, &backend, &mut seat, slots);
     let gathered = Gathered {
         broker,

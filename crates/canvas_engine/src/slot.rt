@@ -1,6 +1,6 @@
 //! A worker's place in a run.
 ghost use Rattle.std.specs.Prelude.{◌≡◌, MatchBool};
-ghost use Rattle.canvas_engine.specs.steps.Slots.{LeftARecord, IsWell, tally_in};
+ghost use Rattle.canvas_engine.specs.steps.Slots.{LeftARecord, IsWell, LacksMemory, tally_in};
 
 use crate::{Cause, Tally};
 use canvas_backend::BackendSeat;
@@ -48,7 +48,9 @@ impl Slot {
     }
 
     /// Whether a growth was refused to the worker.
-    pub(crate) fn lacks_memory(&self) -> bool {
+    pub(crate) fn lacks_memory(&self) -> bool
+        ensures { MatchBool result (LacksMemory self.now.post) (LacksMemory self.now.post → ⊥) }
+    {
         match &self.post {
             Post::Done(record) => match &record.fault {
                 Some(Cause::Memory) => true,

@@ -1,7 +1,6 @@
 //! Canvases grown from chance: some tasks, put together into chains, groups and chords until one is
 //! left.
 
-use crate::composed::call;
 use crate::dice::Dice;
 use canvas_sig::{Node, TaskSig};
 use canvas_task::{Arg, ListOf, MapOf};
@@ -20,7 +19,7 @@ struct Part {
 
 /// A call that needs no input, and takes none.
 fn whole_call(alloc: Global, name: &str, numbers: &[i64]) -> Result<TaskSig, AllocError> {
-    let mut sig = call(alloc, name, numbers)?;
+    let mut sig = TaskSig::new(alloc, name, numbers)?;
     sig.immutable = true;
     Ok(sig)
 }
@@ -43,27 +42,27 @@ fn keyed(alloc: Global, key: &str) -> Result<TaskSig, AllocError> {
 fn plain_task(alloc: Global, dice: &mut Dice) -> Result<TaskSig, AllocError> {
     let number = i64::from(dice.roll(4));
     match dice.roll(40) {
-        0..=13 => call(alloc, "tasks.add", &[number]),
-        14..=21 => call(alloc, "tasks.mul", &[number]),
+        0..=13 => TaskSig::new(alloc, "tasks.add", &[number]),
+        14..=21 => TaskSig::new(alloc, "tasks.mul", &[number]),
         22..=27 => whole_call(alloc, "tasks.add", &[number, 5]),
-        28..=29 => call(alloc, "tasks.ident", &[]),
+        28..=29 => TaskSig::new(alloc, "tasks.ident", &[]),
         30 => whole_call(alloc, "tasks.div", &[7, number]),
-        31..=32 => call(alloc, "tasks.div", &[number]),
+        31..=32 => TaskSig::new(alloc, "tasks.div", &[number]),
         33 => whole_call(alloc, "tasks.mul", &[GREATEST, number]),
         34 => keyed(alloc, if number == 0 { "x" } else { "y" }),
-        35 => call(alloc, "nope", &[]),
-        36 => call(alloc, "tasks.add", &[number, 1]),
-        37 => call(alloc, "tasks.log_error", &[]),
-        _ => call(alloc, "tasks.xsum", &[]),
+        35 => TaskSig::new(alloc, "nope", &[]),
+        36 => TaskSig::new(alloc, "tasks.add", &[number, 1]),
+        37 => TaskSig::new(alloc, "tasks.log_error", &[]),
+        _ => TaskSig::new(alloc, "tasks.xsum", &[]),
     }
 }
 
 /// What runs where a task fails: mostly what takes its identifier.
 fn errback(alloc: Global, dice: &mut Dice) -> Result<TaskSig, AllocError> {
     match dice.roll(5) {
-        0 => call(alloc, "tasks.ident", &[]),
+        0 => TaskSig::new(alloc, "tasks.ident", &[]),
         1 => whole_call(alloc, "tasks.div", &[1, 0]),
-        _ => call(alloc, "tasks.log_error", &[]),
+        _ => TaskSig::new(alloc, "tasks.log_error", &[]),
     }
 }
 
@@ -125,7 +124,7 @@ fn task(alloc: Global, dice: &mut Dice) -> Result<Part, AllocError> {
 }
 
 fn sum(alloc: Global) -> Result<Node, AllocError> {
-    Ok(Node::Task(call(alloc, "tasks.xsum", &[])?))
+    Node::call(alloc, "tasks.xsum", &[])
 }
 
 fn sum_behind_nothing(alloc: Global) -> Result<Node, AllocError> {
@@ -282,7 +281,7 @@ fn some_tasks(alloc: Global, dice: &mut Dice) -> Result<VecDeque<Part>, AllocErr
 
 fn first_task(alloc: Global) -> Result<Part, AllocError> {
     Ok(Part {
-        node: Node::Task(call(alloc, "tasks.add", &[2, 1])?),
+        node: Node::call(alloc, "tasks.add", &[2, 1])?,
         is_open: false,
     })
 }

@@ -4,6 +4,7 @@ pub mod Writers
 pub mod Refusals
 pub mod Each
 pub mod Json
+pub mod Datums
 pub mod Named
 pub mod Level
 pub mod Law
@@ -25,3 +26,5 @@ pub mod Depth
 pub mod Fits
 pub mod FittingCalls
 pub mod LimitRows
+pub mod Parsed
+pub mod Conversion

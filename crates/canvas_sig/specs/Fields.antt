@@ -1,15 +1,14 @@
 -- The members of a JSON value (RFC 8259), where one that is missing is null.
-use Rattle.std.specs.Prelude.{String, string_bytes, Bool, true, false, ◌||◌, List, [], ◌∷◌, Option, option_map, unwrap_or, map, codes}
+use Rattle.std.specs.Prelude.{ℕ, Bool, true, false, ◌||◌, List, [], ◌∷◌, Option, option_map, unwrap_or, map, codes}
 use Rattle.std.specs.Borrow.{Bor}
-use Rattle.std.specs.declared.alloc.Global.{Global}
 use Rattle.serde_json.specs.Data.{Data, null, boolean, number, string, array, object, Items, no_items, item, Members, no_members, member}
 use Rattle.serde_json.specs.Find.{get}
-use Rattle.serde_json.specs.View.{view}
 use Rattle.canvas_task.specs.Text.{Text}
-use Rattle.serde_json.specs.declared.value.Value.{Value}
+use Rattle.canvas_sig.specs.Datum.{view}
+use Rattle.canvas_sig.specs.declared.datum.Datum.{Datum}
 
 -- what a look-up found
-abbrev pub value_at : Option (Bor Value) → Data
+abbrev pub value_at : Option (Bor Datum) → Data
 value_at o = unwrap_or (option_map (λ v. view v.now) o) null
 
 abbrev pub field : Text → Data → Data
@@ -126,5 +125,5 @@ is_empty (array no_items) = true
 is_empty d = false
 
 -- an object's entries, as data
-abbrev pub seen : List (String Global × Value) → List (Text × Data)
-seen es = map (λ e. (string_bytes e.0, view e.1)) es
+abbrev pub seen : List (Bor (List ℕ) × Datum) → List (Text × Data)
+seen es = map (λ e. (e.0.now, view e.1)) es

@@ -11,3 +11,4 @@ pub mod ByParts
 pub mod ComposedRefusals
 pub mod LimitRefusals
 pub mod RefusalNames
+pub mod Datum

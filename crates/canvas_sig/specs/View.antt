@@ -1,6 +1,7 @@
 -- The data that signatures stand for (Celery user guide, Canvas: signatures). Nothing is numbered
 -- yet: each number is 0.
-use Rattle.std.specs.Prelude.{List, [], ◌∷◌}
+use Rattle.std.specs.Prelude.{ℕ, ℤ, List, [], ◌∷◌, map, false}
+use Rattle.canvas_task.specs.declared.arg.Arg.TheVariants.{Num}
 use Rattle.canvas_semantics.specs.Tree.{Task, task, Tasks, no_tasks, and_task, Tree, one, chain, group, chord, Trees, no_trees, and_tree}
 use Rattle.canvas_sig.specs.declared.task_sig.TaskSig.{TaskSig, fold-TaskSig}
 use Rattle.canvas_sig.specs.declared.task_sig.TaskSig.TheOpen.{TaskSig-F}
@@ -32,3 +33,9 @@ one_level (Node-F.Chord header body) = chord 0 (trees_of header) body.value
 
 abbrev pub view : Node → Tree
 view = fold-Node Tree one_level
+
+-- a call with these numbers and nothing else, as Celery's `s()` makes one
+abbrev pub call_of : List ℕ → List ℤ → Task
+call_of name numbers =
+    task 0 (record { name = name; args = map Num numbers; kwargs = []; immutable = false }) no_tasks
+    no_tasks

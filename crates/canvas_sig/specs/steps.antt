@@ -4,3 +4,4 @@ pub mod Ending
 pub mod LineReach
 pub mod Tokens
 pub mod Reading
+pub mod Names

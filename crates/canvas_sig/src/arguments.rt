@@ -1,20 +1,23 @@
 //! Reading the arguments of a task out of JSON values.
 
-ghost use Rattle.std.specs.Prelude.{◌≡◌, ◌≢◌, ◌<◌, map, length, string_bytes, IsTrue, IfErr};
+ghost use Rattle.std.specs.Prelude.{◌≡◌, ◌≢◌, map, IfErr};
 ghost use Rattle.std.specs.List.{list_all};
 ghost use Rattle.serde_json.specs.Find.{as_i64};
-ghost use Rattle.serde_json.specs.View.{view, number_view};
+ghost use Rattle.serde_json.specs.View.{number_view};
+ghost use Rattle.canvas_sig.specs.Datum.{view};
 ghost use Rattle.canvas_task.specs.Entries.{named};
 ghost use Rattle.canvas_task.specs.Numbers.{in_range};
 ghost use Rattle.canvas_sig.specs.declared.fault.SigFault.TheVariants.{Memory};
 ghost use Rattle.canvas_sig.specs.Fields.{value_at, seen, object_members, is_number};
 ghost use Rattle.canvas_sig.specs.Answers.{Gives, each};
-ghost use Rattle.canvas_sig.specs.Grammar.{some_in_range, arg_reading, named_reading, takes_memory};
+ghost use Rattle.canvas_sig.specs.Grammar.{some_in_range, arg_reading, named_reading};
 ghost use Rattle.canvas_sig.specs.steps.Reading.{in_range_or_refused, number_reading, list_reading};
 
+use crate::datum::{Datum, follows};
 use crate::fault::SigFault;
 use canvas_task::{Arg, ListOf, TextOf, in_range};
-use serde_json::{Map, Number, Value};
+use serde_json::Number;
+use serde_json::value::Map;
 use std::alloc::Global;
 
 /// Whether a number is whole and in range.
@@ -28,7 +31,7 @@ pub(crate) fn is_in_range(number: &Number) -> bool
 }
 
 /// A whole number in range.
-fn whole(number: &Number) -> Result<i64, SigFault>
+pub(crate) fn whole(number: &Number) -> Result<i64, SigFault>
     ensures reading { Gives (λ n. n) result
         (in_range_or_refused (as_i64 (number_view number.now))) }
     ensures memory { IfErr result (λ e. e ≢ Memory) }
@@ -46,30 +49,28 @@ fn whole(number: &Number) -> Result<i64, SigFault>
 }
 
 /// A whole number in range, where the value is a number.
-fn read_number(value: &Value) -> Result<i64, SigFault>
-    ensures reading { Gives (λ n. n) result (number_reading (view value.now)) }
-    ensures memory { IfErr result (λ e. e ≢ Memory) }
+fn read_number(value: &Datum<'_>) -> Result<i64, SigFault>
+    ensures { Gives (λ n. n) result (number_reading (view value.now)) }
 {
     match value {
-        Value::Number(number) => whole(number),
+        Datum::Number(number) => whole(number),
         _ => Err(SigFault::BadNumber),
     }
 }
 
-pub(crate) fn all_numbers(values: &[Value]) -> bool
+pub(crate) fn all_numbers(values: &[Datum<'_>]) -> bool
     ensures { result ≡ list_all is_number (map view values.now) }
 {
     for value in values {
-        if !value.is_number() {
+        if !matches!(value, Datum::Number(_)) {
             return false;
         }
     }
     true
 }
 
-fn read_numbers(alloc: Global, values: &[Value]) -> Result<Vec<i64>, SigFault>
-    ensures reading { Gives (λ v. v.items) result (each number_reading (map view values.now)) }
-    ensures memory { IfErr result (λ e. e ≡ Memory → 0 < length values.now) }
+fn read_numbers(alloc: Global, values: &[Datum<'_>]) -> Result<Vec<i64>, SigFault>
+    ensures { Gives (λ v. v.items) result (each number_reading (map view values.now)) }
 {
     let mut numbers = Vec::new(alloc);
     for value in values {
@@ -78,10 +79,8 @@ fn read_numbers(alloc: Global, values: &[Value]) -> Result<Vec<i64>, SigFault>
     Ok(numbers)
 }
 
-fn read_list(alloc: Global, values: &[Value]) -> Result<Arg, SigFault>
-    ensures reading { Gives (λ a. a) result (list_reading (map view values.now)) }
-    ensures memory { IfErr result (λ e. e ≡ Memory
-        → (0 < length values.now) × IsTrue (list_all is_number (map view values.now))) }
+fn read_list(alloc: Global, values: &[Datum<'_>]) -> Result<Arg, SigFault>
+    ensures { Gives (λ a. a) result (list_reading (map view values.now)) }
 {
     if !all_numbers(values) {
         return Err(SigFault::BadArgs);
@@ -89,57 +88,61 @@ fn read_list(alloc: Global, values: &[Value]) -> Result<Arg, SigFault>
     Ok(Arg::List(ListOf::of(read_numbers(alloc, values)?)))
 }
 
-/// The argument that a value stands for, or its fault. Memory is asked for by a text and by a list
-/// of numbers alone.
+/// The argument that a value stands for, or its fault.
 #[tactic(auto, using(crate::proofs::ArgumentLaw::reads_so))]
-pub fn read_arg(alloc: Global, value: &Value) -> Result<Arg, SigFault>
-    ensures reading { Gives (λ a. a) result (arg_reading (view value.now)) }
-    ensures memory { IfErr result (λ e. e ≡ Memory → IsTrue (takes_memory (view value.now))) }
+fn read_argument(alloc: Global, value: &Datum<'_>) -> Result<Arg, SigFault>
+    ensures { Gives (λ a. a) result (arg_reading (view value.now)) }
 {
     match value {
-        Value::Number(number) => Ok(Arg::Num(whole(number)?)),
-        Value::String(text) => Ok(Arg::Text(TextOf::of(text.clone()?))),
-        Value::Array(values) => read_list(alloc, values),
+        Datum::Number(number) => Ok(Arg::Num(whole(number)?)),
+        Datum::Text(text) => Ok(Arg::Text(TextOf::of(String::from_str(alloc, text)?))),
+        Datum::List(values) => read_list(alloc, values),
         _ => Err(SigFault::BadArgs),
     }
 }
 
 /// The arguments of a list, in order, or the first fault among them.
-pub fn read_args(alloc: Global, values: &[Value]) -> Result<Vec<Arg>, SigFault>
+pub fn read_args(alloc: Global, values: &[Datum<'_>]) -> Result<Vec<Arg>, SigFault>
     ensures { Gives (λ v. v.items) result (each arg_reading (map view values.now)) }
 {
     let mut args = Vec::new(alloc);
     for value in values {
-        args.push(read_arg(alloc, value)?)?;
+        args.push(read_argument(alloc, value)?)?;
     }
     Ok(args)
 }
 
-/// The arguments that an object names.
-fn read_named(alloc: Global, members: &Map<String, Value>) -> Result<Map<String, Arg>, SigFault>
-    ensures { Gives (λ m. named m.entries) result (each named_reading (seen members.now.entries)) }
+/// The arguments that an object names. Where its names didn't ascend, no map would hold them in
+/// their order; no text is read so.
+fn read_named(alloc: Global, members: &[(&str, Datum<'_>)]) -> Result<Map<String, Arg>, SigFault>
+    ensures { Gives (λ m. named m.entries) result (each named_reading (seen members.now)) }
 {
     let mut args = Map::new(alloc);
-    for (name, value) in members.iter() {
-        let key = name.clone()?;
-        drop(args.insert(key, read_arg(alloc, value)?)?);
+    let mut last = None;
+    for member in members {
+        if !follows(last, member.0) {
+            return Err(SigFault::Memory);
+        }
+        let name = String::from_str(alloc, member.0)?;
+        drop(args.insert(name, read_argument(alloc, &member.1)?)?);
+        last = Some(member.0);
     }
     Ok(args)
 }
 
-fn read_members(alloc: Global, value: &Value) -> Result<Map<String, Arg>, SigFault>
+fn read_members(alloc: Global, value: &Datum<'_>) -> Result<Map<String, Arg>, SigFault>
     ensures { Gives (λ m. named m.entries) result
         (each named_reading (object_members (view value.now))) }
 {
     match value {
-        Value::Object(members) => read_named(alloc, members),
+        Datum::Object(members) => read_named(alloc, members),
         _ => Ok(Map::new(alloc)),
     }
 }
 
 /// The arguments of an object, or the first fault in the order of their names. What is missing, or
 /// is no object, has none.
-pub fn read_kwargs(alloc: Global, field: Option<&Value>) -> Result<Map<String, Arg>, SigFault>
+pub fn read_kwargs(alloc: Global, field: Option<&Datum<'_>>) -> Result<Map<String, Arg>, SigFault>
     ensures { Gives (λ m. named m.entries) result
         (each named_reading (object_members (value_at field.entry))) }
 {

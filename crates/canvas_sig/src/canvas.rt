@@ -1,10 +1,9 @@
 //! Canvases: signatures that passed every check.
 
-ghost use Rattle.std.specs.Prelude.{◌≡◌, ◌≢◌, Ok, Err, IfOk, IfErr, MatchResult};
-ghost use Rattle.serde_json.specs.View.{view as json_view};
+ghost use Rattle.std.specs.Prelude.{◌≡◌, ◌≢◌, ◌≤◌, Ok, Err, length, IfOk, IfErr, OnOk, MatchResult};
 ghost use Rattle.canvas_sig.specs.declared.fault.SigFault.TheVariants.{Memory};
-ghost use Rattle.canvas_sig.specs.CanvasText.{json_of, text_reading};
-ghost use Rattle.canvas_sig.specs.steps.Reading.{json_reading, signature_reading};
+ghost use Rattle.canvas_sig.specs.CanvasText.{most_bytes, text_reading};
+ghost use Rattle.canvas_sig.specs.steps.Reading.{signature_reading};
 ghost use Rattle.canvas_sig.specs.ComposedRefusals.{node_fault};
 ghost use Rattle.canvas_sig.specs.Answers.{Gives};
 ghost use Rattle.canvas_sig.specs.View.{view};
@@ -12,9 +11,11 @@ ghost use Rattle.canvas_sig.specs.Writable.{IsCanvas};
 
 use crate::composed::check_node;
 use crate::limits::limit_fault;
+use crate::parsing::parse;
 use crate::reader::read_node;
 use crate::{Node, SigFault};
-use serde_json::Value;
+use bumpalo::Bump;
+use json::Scratch;
 use std::alloc::Global;
 use std::marker::Model;
 
@@ -76,34 +77,26 @@ impl Canvas {
     }
 }
 
-fn parsed(alloc: Global, bytes: &[u8]) -> Result<Value, SigFault>
-    ensures { Gives json_view result (json_reading (json_of bytes.now)) }
-{
-    match Value::from_slice(alloc, bytes) {
-        Ok(value) => Ok(value),
-        Err(error) => Err(if error.is_memory() {
-            SigFault::Memory
-        } else {
-            SigFault::NotJson
-        }),
-    }
-}
-
 fn read_signature(alloc: Global, bytes: &[u8]) -> Result<Node, SigFault>
-    ensures { Gives view result (signature_reading bytes.now) }
+    ensures reading { Gives view result (signature_reading bytes.now) }
+    ensures memory { IfErr result (λ e. e ≡ Memory → length bytes.now ≤ most_bytes) }
+    ensures short { OnOk result (length bytes.now ≤ most_bytes) }
 {
     if bytes.len() > MOST_BYTES {
         return Err(SigFault::TooLarge);
     }
-    let value = parsed(alloc, bytes)?;
+    let arena = Bump::new(alloc);
+    let mut scratch = Scratch::new(alloc);
+    let value = parse(alloc, &arena, &mut scratch, bytes)?;
     read_node(alloc, &value, MOST_LEVELS)
 }
 
-/// The canvas that a text spells, or its first refusal.
+/// The canvas that a text spells, or its first refusal. A text that is too large takes no memory.
 #[tactic(auto, using(crate::proofs::TextLemmas::fails_refused))]
 pub fn read_canvas(alloc: Global, bytes: &[u8]) -> Result<Canvas, SigFault>
-    ensures { MatchResult result (λ canvas. text_reading bytes.now ≡ Ok canvas)
+    ensures reading { MatchResult result (λ canvas. text_reading bytes.now ≡ Ok canvas)
         (λ e. e ≢ Memory → text_reading bytes.now ≡ Err e) }
+    ensures memory { IfErr result (λ e. e ≡ Memory → length bytes.now ≤ most_bytes) }
 {
     let node = read_signature(alloc, bytes)?;
     match limit_fault(&node) {

@@ -1,66 +1,66 @@
 //! Look-ups in a signature, and tests of what they found.
 
 ghost use Rattle.std.specs.Prelude.{◌≡◌, map};
-ghost use Rattle.serde_json.specs.View.{view};
+ghost use Rattle.canvas_sig.specs.Datum.{view};
 ghost use Rattle.canvas_sig.specs.Fields.{value_at, kwarg, option, is_null, is_list, is_true, is_flag, is_list_or_null, is_object_or_null, is_link, is_empty, listed};
 
-use serde_json::Value;
+use crate::datum::Datum;
 
 /// Null, or missing.
-pub fn is_null(field: Option<&Value>) -> bool
+pub fn is_null(field: Option<&Datum<'_>>) -> bool
     ensures { result ≡ is_null (value_at field.entry) }
 {
-    matches!(field, None | Some(Value::Null))
+    matches!(field, None | Some(Datum::Null))
 }
 
 /// The word `true`.
-pub fn is_true(field: Option<&Value>) -> bool
+pub fn is_true(field: Option<&Datum<'_>>) -> bool
     ensures { result ≡ is_true (value_at field.entry) }
 {
     match field {
-        Some(Value::Bool(b)) => *b,
+        Some(Datum::Bool(b)) => *b,
         _ => false,
     }
 }
 
-pub(crate) fn is_flag(field: Option<&Value>) -> bool
+pub(crate) fn is_flag(field: Option<&Datum<'_>>) -> bool
     ensures { result ≡ is_flag (value_at field.entry) }
 {
-    matches!(field, None | Some(Value::Null | Value::Bool(_)))
+    matches!(field, None | Some(Datum::Null | Datum::Bool(_)))
 }
 
 /// A list, null, or missing.
-pub fn is_list_or_null(field: Option<&Value>) -> bool
+pub fn is_list_or_null(field: Option<&Datum<'_>>) -> bool
     ensures { result ≡ is_list_or_null (value_at field.entry) }
 {
-    matches!(field, None | Some(Value::Null | Value::Array(_)))
+    matches!(field, None | Some(Datum::Null | Datum::List(_)))
 }
 
 /// An object, null, or missing.
-pub fn is_object_or_null(field: Option<&Value>) -> bool
+pub fn is_object_or_null(field: Option<&Datum<'_>>) -> bool
     ensures { result ≡ is_object_or_null (value_at field.entry) }
 {
-    matches!(field, None | Some(Value::Null | Value::Object(_)))
+    matches!(field, None | Some(Datum::Null | Datum::Object(_)))
 }
 
-pub(crate) fn is_link(field: Option<&Value>) -> bool
+pub(crate) fn is_link(field: Option<&Datum<'_>>) -> bool
     ensures { result ≡ is_link (value_at field.entry) }
 {
     matches!(
         field,
-        None | Some(Value::Null | Value::Array(_) | Value::Object(_))
+        None | Some(Datum::Null | Datum::List(_) | Datum::Object(_))
     )
 }
 
 /// A list.
-pub fn is_list(field: Option<&Value>) -> bool
+pub fn is_list(field: Option<&Datum<'_>>) -> bool
     ensures { result ≡ is_list (value_at field.entry) }
 {
-    matches!(field, Some(Value::Array(_)))
+    matches!(field, Some(Datum::List(_)))
 }
 
 /// Null, or a list of nothing.
-pub(crate) fn is_empty(field: Option<&Value>) -> bool
+pub(crate) fn is_empty(field: Option<&Datum<'_>>) -> bool
     ensures { result ≡ is_empty (value_at field.entry) }
 {
     match field {
@@ -69,27 +69,27 @@ pub(crate) fn is_empty(field: Option<&Value>) -> bool
     }
 }
 
-fn is_empty_value(value: &Value) -> bool
+fn is_empty_value(value: &Datum<'_>) -> bool
     ensures { result ≡ is_empty (view value.now) }
 {
     match value {
-        Value::Null => true,
-        Value::Array(values) => values.is_empty(),
+        Datum::Null => true,
+        Datum::List(values) => values.is_empty(),
         _ => false,
     }
 }
 
-fn items(value: &Value) -> &[Value]
+fn items<'a>(value: &Datum<'a>) -> &'a [Datum<'a>]
     ensures { map view result.now ≡ listed (view value.now) }
 {
     match value {
-        Value::Array(values) => values,
+        Datum::List(values) => values,
         _ => &[],
     }
 }
 
 /// The items of a list.
-pub fn listed(field: Option<&Value>) -> &[Value]
+pub fn listed<'a>(field: Option<&Datum<'a>>) -> &'a [Datum<'a>]
     ensures { map view result.now ≡ listed (value_at field.entry) }
 {
     match field {
@@ -99,7 +99,7 @@ pub fn listed(field: Option<&Value>) -> &[Value]
 }
 
 /// A member of the keyword arguments.
-pub fn kwarg_of<'v>(value: &'v Value, name: &str) -> Option<&'v Value>
+pub fn kwarg_of<'a>(value: &Datum<'a>, name: &str) -> Option<&'a Datum<'a>>
     ensures { value_at result ≡ kwarg name.now (view value.now) }
 {
     match value.get("kwargs") {
@@ -109,7 +109,7 @@ pub fn kwarg_of<'v>(value: &'v Value, name: &str) -> Option<&'v Value>
 }
 
 /// A member of the options.
-pub fn option_of<'v>(value: &'v Value, name: &str) -> Option<&'v Value>
+pub fn option_of<'a>(value: &Datum<'a>, name: &str) -> Option<&'a Datum<'a>>
     ensures { value_at result ≡ option name.now (view value.now) }
 {
     match value.get("options") {

@@ -1,7 +1,11 @@
 //! Signatures as a tree, before any check.
+ghost use Rattle.std.specs.Prelude.{◌≡◌, IfOk, map};
+ghost use Rattle.canvas_semantics.specs.Tree.{one, chain as chain_of, group as group_of, chord as chord_of};
+ghost use Rattle.canvas_sig.specs.View.{call_of, trees_of, view};
 
 use crate::TaskSig;
 use canvas_task::ListOf;
+use std::alloc::{AllocError, Global};
 
 /// A canvas, or a part of one, as it is composed.
 #[derive(Drop)]
@@ -18,4 +22,38 @@ pub enum Node {
         header: ListOf<Node>,
         body: Box<Node>,
     },
+}
+
+impl Node {
+    /// A call with these numbers, as Celery's `add.s(4, 4)`.
+    pub fn call(alloc: Global, name: &str, numbers: &[i64]) -> Result<Node, AllocError>
+        ensures { IfOk result (λ node. view node ≡ one (call_of name.now numbers.now)) }
+    {
+        Ok(Node::Task(TaskSig::new(alloc, name, numbers)?))
+    }
+
+    /// One after the other, as Celery's `chain`.
+    pub fn chain(elements: Vec<Node>) -> Node
+        ensures { view result ≡ chain_of (trees_of (map view elements.items)) }
+    {
+        Node::Chain(ListOf::of(elements))
+    }
+
+    /// Side by side, as Celery's `group`.
+    pub fn group(members: Vec<Node>) -> Node
+        ensures { view result ≡ group_of 0 (trees_of (map view members.items)) }
+    {
+        Node::Group(ListOf::of(members))
+    }
+
+    /// A header and what takes its results, as Celery's `chord`.
+    pub fn chord(alloc: Global, header: Vec<Node>, body: Node) -> Result<Node, AllocError>
+        ensures { IfOk result
+            (λ node. view node ≡ chord_of 0 (trees_of (map view header.items)) (view body)) }
+    {
+        Ok(Node::Chord {
+            header: ListOf::of(header),
+            body: Box::new(alloc, body)?,
+        })
+    }
 }

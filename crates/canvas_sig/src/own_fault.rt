@@ -2,12 +2,13 @@
 
 ghost use Rattle.std.specs.Prelude.{◌≡◌, map, Some, false};
 ghost use Rattle.std.specs.List.{list_all};
-ghost use Rattle.serde_json.specs.View.{view};
+ghost use Rattle.canvas_sig.specs.Datum.{view};
 ghost use Rattle.canvas_sig.specs.declared.primitive.Primitive.TheVariants.{Chain, Chord};
 ghost use Rattle.canvas_sig.specs.Fields.{value_at, seen, contents};
 ghost use Rattle.canvas_sig.specs.Grammar.{is_name, is_text, is_group, kind_ok, numbers_ok, number_ok, args_ok, not_signature, bad_members, bad_args, bad_number, on_canvas, empty_chain, fault_as, own_fault};
 
 use crate::arguments::{all_numbers, is_in_range};
+use crate::datum::Datum;
 use crate::fault::SigFault;
 use crate::fields::{
     is_empty, is_flag, is_link, is_list, is_list_or_null, is_null, is_object_or_null, is_true,
@@ -15,39 +16,38 @@ use crate::fields::{
 };
 use crate::primitive::{Primitive, primitive_of};
 use canvas_task::name_ok;
-use serde_json::{Map, Value};
 
 /// Whether a member is the name of a task.
-pub fn is_name(field: Option<&Value>) -> bool
+pub fn is_name(field: Option<&Datum<'_>>) -> bool
     ensures { result ≡ is_name (value_at field.entry) }
 {
     match field {
-        Some(Value::String(text)) => name_ok(text),
+        Some(Datum::Text(text)) => name_ok(text),
         _ => false,
     }
 }
 
 /// Whether a member is this text.
-pub fn is_text(field: Option<&Value>, text: &str) -> bool
+pub fn is_text(field: Option<&Datum<'_>>, text: &str) -> bool
     ensures { result ≡ is_text text.now (value_at field.entry) }
 {
     match field {
-        Some(Value::String(found)) => found.as_str() == text,
+        Some(Datum::Text(found)) => *found == text,
         _ => false,
     }
 }
 
-fn kind_ok(value: &Value) -> bool
+fn kind_ok(value: &Datum<'_>) -> bool
     ensures { result ≡ kind_ok (view value.now) }
 {
     match value {
-        Value::Number(_) | Value::String(_) => true,
-        Value::Array(values) => all_numbers(values),
+        Datum::Number(_) | Datum::Text(_) => true,
+        Datum::List(values) => all_numbers(values),
         _ => false,
     }
 }
 
-fn kinds_ok(values: &[Value]) -> bool
+fn kinds_ok(values: &[Datum<'_>]) -> bool
     ensures { result ≡ list_all kind_ok (map view values.now) }
 {
     for value in values {
@@ -58,16 +58,16 @@ fn kinds_ok(values: &[Value]) -> bool
     true
 }
 
-fn number_ok(value: &Value) -> bool
+fn number_ok(value: &Datum<'_>) -> bool
     ensures { result ≡ number_ok (view value.now) }
 {
     match value {
-        Value::Number(number) => is_in_range(number),
+        Datum::Number(number) => is_in_range(number),
         _ => true,
     }
 }
 
-fn numbers_in_range(values: &[Value]) -> bool
+fn numbers_in_range(values: &[Datum<'_>]) -> bool
     ensures { result ≡ list_all number_ok (map view values.now) }
 {
     for value in values {
@@ -78,16 +78,16 @@ fn numbers_in_range(values: &[Value]) -> bool
     true
 }
 
-fn numbers_ok(value: &Value) -> bool
+fn numbers_ok(value: &Datum<'_>) -> bool
     ensures { result ≡ numbers_ok (view value.now) }
 {
     match value {
-        Value::Array(values) => numbers_in_range(values),
+        Datum::List(values) => numbers_in_range(values),
         _ => number_ok(value),
     }
 }
 
-fn all_numbers_ok(values: &[Value]) -> bool
+fn all_numbers_ok(values: &[Datum<'_>]) -> bool
     ensures { result ≡ list_all numbers_ok (map view values.now) }
 {
     for value in values {
@@ -98,33 +98,33 @@ fn all_numbers_ok(values: &[Value]) -> bool
     true
 }
 
-fn not_signature(value: &Value) -> bool
+fn not_signature(value: &Datum<'_>) -> bool
     ensures { result ≡ not_signature (view value.now) }
 {
     !value.is_object() || !is_name(value.get("task")) || !is_flag(value.get("immutable"))
 }
 
-fn members_kinds_ok(members: &Map<String, Value>) -> bool
-    ensures { result ≡ list_all kind_ok (map (λ e. e.1) (seen members.now.entries)) }
+fn members_kinds_ok(members: &[(&str, Datum<'_>)]) -> bool
+    ensures { result ≡ list_all kind_ok (map (λ e. e.1) (seen members.now)) }
 {
-    for (_name, value) in members.iter() {
-        if !kind_ok(value) {
+    for member in members {
+        if !kind_ok(&member.1) {
             return false;
         }
     }
     true
 }
 
-fn object_kinds_ok(value: &Value) -> bool
+fn object_kinds_ok(value: &Datum<'_>) -> bool
     ensures { result ≡ list_all kind_ok (contents (view value.now)) }
 {
     match value {
-        Value::Object(members) => members_kinds_ok(members),
+        Datum::Object(members) => members_kinds_ok(members),
         _ => true,
     }
 }
 
-fn args_kinds_ok(value: &Value) -> bool
+fn args_kinds_ok(value: &Datum<'_>) -> bool
     ensures { result ≡ args_ok kind_ok (view value.now) }
 {
     if !kinds_ok(listed(value.get("args"))) {
@@ -136,27 +136,27 @@ fn args_kinds_ok(value: &Value) -> bool
     }
 }
 
-fn members_numbers_ok(members: &Map<String, Value>) -> bool
-    ensures { result ≡ list_all numbers_ok (map (λ e. e.1) (seen members.now.entries)) }
+fn members_numbers_ok(members: &[(&str, Datum<'_>)]) -> bool
+    ensures { result ≡ list_all numbers_ok (map (λ e. e.1) (seen members.now)) }
 {
-    for (_name, value) in members.iter() {
-        if !numbers_ok(value) {
+    for member in members {
+        if !numbers_ok(&member.1) {
             return false;
         }
     }
     true
 }
 
-fn object_numbers_ok(value: &Value) -> bool
+fn object_numbers_ok(value: &Datum<'_>) -> bool
     ensures { result ≡ list_all numbers_ok (contents (view value.now)) }
 {
     match value {
-        Value::Object(members) => members_numbers_ok(members),
+        Datum::Object(members) => members_numbers_ok(members),
         _ => true,
     }
 }
 
-fn args_numbers_ok(value: &Value) -> bool
+fn args_numbers_ok(value: &Datum<'_>) -> bool
     ensures { result ≡ args_ok numbers_ok (view value.now) }
 {
     if !all_numbers_ok(listed(value.get("args"))) {
@@ -168,7 +168,7 @@ fn args_numbers_ok(value: &Value) -> bool
     }
 }
 
-fn bad_members(value: &Value, primitive: Primitive) -> bool
+fn bad_members(value: &Datum<'_>, primitive: Primitive) -> bool
     ensures { result ≡ bad_members primitive (view value.now) }
 {
     match primitive {
@@ -178,13 +178,13 @@ fn bad_members(value: &Value, primitive: Primitive) -> bool
     }
 }
 
-fn is_group_signature(value: &Value) -> bool
+fn is_group_signature(value: &Datum<'_>) -> bool
     ensures { result ≡ is_group (view value.now) }
 {
     value.is_object() && is_text(value.get("subtask_type"), "group")
 }
 
-fn is_group(field: Option<&Value>) -> bool
+fn is_group(field: Option<&Datum<'_>>) -> bool
     ensures { result ≡ is_group (value_at field.entry) }
 {
     match field {
@@ -193,14 +193,14 @@ fn is_group(field: Option<&Value>) -> bool
     }
 }
 
-fn bad_chord(value: &Value) -> bool
+fn bad_chord(value: &Datum<'_>) -> bool
     ensures { result ≡ bad_members Chord (view value.now) }
 {
     let header = kwarg_of(value, "header");
     !(is_list(header) || is_group(header)) || is_null(kwarg_of(value, "body"))
 }
 
-fn bad_args(value: &Value, primitive: Primitive) -> bool
+fn bad_args(value: &Datum<'_>, primitive: Primitive) -> bool
     ensures { result ≡ bad_args primitive (view value.now) }
 {
     !is_list_or_null(value.get("args"))
@@ -211,7 +211,7 @@ fn bad_args(value: &Value, primitive: Primitive) -> bool
         || bad_members(value, primitive)
 }
 
-fn bad_number(value: &Value, primitive: Primitive) -> bool
+fn bad_number(value: &Datum<'_>, primitive: Primitive) -> bool
     ensures { result ≡ bad_number primitive (view value.now) }
 {
     match primitive {
@@ -221,7 +221,7 @@ fn bad_number(value: &Value, primitive: Primitive) -> bool
 }
 
 /// What only a task has stands on another primitive, or this stands where only a task may.
-fn on_canvas(value: &Value, primitive: Primitive, linked: bool) -> bool
+fn on_canvas(value: &Datum<'_>, primitive: Primitive, linked: bool) -> bool
     ensures { result ≡ on_canvas linked primitive (view value.now) }
 {
     match primitive {
@@ -230,7 +230,7 @@ fn on_canvas(value: &Value, primitive: Primitive, linked: bool) -> bool
     }
 }
 
-fn has_task_members(value: &Value) -> bool
+fn has_task_members(value: &Datum<'_>) -> bool
     ensures { result ≡ on_canvas false Chain (view value.now) }
 {
     !is_empty(value.get("args"))
@@ -239,7 +239,7 @@ fn has_task_members(value: &Value) -> bool
         || !is_empty(option_of(value, "link_error"))
 }
 
-fn empty_chain(value: &Value, primitive: Primitive) -> bool
+fn empty_chain(value: &Datum<'_>, primitive: Primitive) -> bool
     ensures { result ≡ empty_chain primitive (view value.now) }
 {
     match primitive {
@@ -248,7 +248,7 @@ fn empty_chain(value: &Value, primitive: Primitive) -> bool
     }
 }
 
-fn fault_as(value: &Value, primitive: Primitive, linked: bool) -> Option<SigFault>
+fn fault_as(value: &Datum<'_>, primitive: Primitive, linked: bool) -> Option<SigFault>
     ensures { result ≡ fault_as linked (view value.now) (Some primitive) }
 {
     if bad_args(value, primitive) {
@@ -270,7 +270,7 @@ fn fault_as(value: &Value, primitive: Primitive, linked: bool) -> Option<SigFaul
 }
 
 /// The first of a signature's own faults; `linked` says that it is a link or an error callback.
-pub fn own_fault(value: &Value, linked: bool) -> Option<SigFault>
+pub fn own_fault(value: &Datum<'_>, linked: bool) -> Option<SigFault>
     ensures { result ≡ own_fault linked (view value.now) }
 {
     if not_signature(value) {

@@ -4,7 +4,7 @@ ghost use Rattle.std.specs.Prelude.{◌≡◌};
 ghost use Rattle.canvas_sig.specs.Fields.{value_at};
 ghost use Rattle.canvas_sig.specs.Grammar.{primitive_of, primitive_named};
 
-use serde_json::Value;
+use crate::datum::Datum;
 
 /// The kinds of signature, which `subtask_type` tells apart.
 #[derive(Clone, Copy, Drop)]
@@ -31,12 +31,12 @@ fn primitive_named(name: &str) -> Option<Primitive>
 }
 
 /// What a `subtask_type` says.
-pub fn primitive_of(field: Option<&Value>) -> Option<Primitive>
+pub fn primitive_of(field: Option<&Datum<'_>>) -> Option<Primitive>
     ensures { result ≡ primitive_of (value_at field.entry) }
 {
     match field {
-        None | Some(Value::Null) => Some(Primitive::Task),
-        Some(Value::String(name)) => primitive_named(name),
+        None | Some(Datum::Null) => Some(Primitive::Task),
+        Some(Datum::Text(name)) => primitive_named(name),
         _ => None,
     }
 }

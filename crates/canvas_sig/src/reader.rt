@@ -1,7 +1,7 @@
 //! Reading signatures, with the signatures in them, out of JSON values.
 
 ghost use Rattle.std.specs.Prelude.{◌≡◌, map, string_bytes, IfOk, Some};
-ghost use Rattle.serde_json.specs.View.{view};
+ghost use Rattle.canvas_sig.specs.Datum.{view};
 ghost use Rattle.canvas_sig.specs.declared.primitive.Primitive.TheVariants.{Chain, Group, Chord};
 ghost use Rattle.canvas_sig.specs.Fields.{value_at, as_list, text_of};
 ghost use Rattle.canvas_sig.specs.Answers.{Gives, each};
@@ -10,6 +10,7 @@ ghost use Rattle.canvas_sig.specs.Grammar.{members_in};
 ghost use Rattle.canvas_sig.specs.View.{task_view, trees_of, view as tree_view};
 
 use crate::arguments::{read_args, read_kwargs};
+use crate::datum::Datum;
 use crate::fault::SigFault;
 use crate::fields::{is_list, is_true, kwarg_of, listed, option_of};
 use crate::node::Node;
@@ -17,15 +18,14 @@ use crate::own_fault::own_fault;
 use crate::primitive::{Primitive, primitive_of};
 use crate::task_sig::TaskSig;
 use canvas_task::{ListOf, MapOf, TextOf};
-use serde_json::Value;
 use std::alloc::{AllocError, Global};
 
 /// The text of a name, empty where there is none.
-pub fn text_of(alloc: Global, field: Option<&Value>) -> Result<String, AllocError>
+pub fn text_of(alloc: Global, field: Option<&Datum<'_>>) -> Result<String, AllocError>
     ensures { IfOk result (λ s. string_bytes s ≡ text_of (value_at field.entry)) }
 {
     match field {
-        Some(Value::String(text)) => text.clone(),
+        Some(Datum::Text(text)) => String::from_str(alloc, text),
         _ => Ok(String::new(alloc)),
     }
 }
@@ -33,7 +33,7 @@ pub fn text_of(alloc: Global, field: Option<&Value>) -> Result<String, AllocErro
 /// The link or error callback that a value stands for; signatures in it nest at most `left` deep.
 #[cycle(read_task)]
 #[tactic(auto, using(crate::proofs::Level::task_level_below))]
-fn read_linked(alloc: Global, value: &Value, left: u32) -> Result<TaskSig, SigFault>
+fn read_linked(alloc: Global, value: &Datum<'_>, left: u32) -> Result<TaskSig, SigFault>
     ensures { Gives task_view result (task_reading left (view value.now)) }
 {
     if left == 0 {
@@ -44,7 +44,7 @@ fn read_linked(alloc: Global, value: &Value, left: u32) -> Result<TaskSig, SigFa
 
 #[cycle(read_task)]
 #[tactic(auto, using(crate::proofs::Level::fails_with))]
-fn read_checked_link(alloc: Global, value: &Value, left: u32) -> Result<TaskSig, SigFault>
+fn read_checked_link(alloc: Global, value: &Datum<'_>, left: u32) -> Result<TaskSig, SigFault>
     ensures { Gives task_view result (linked_with (task_reading left) (view value.now)) }
 {
     match own_fault(value, true) {
@@ -55,7 +55,7 @@ fn read_checked_link(alloc: Global, value: &Value, left: u32) -> Result<TaskSig,
 
 /// The task that a value without a fault of its own stands for.
 #[cycle(read_task)]
-fn read_task(alloc: Global, value: &Value, left: u32) -> Result<TaskSig, SigFault>
+fn read_task(alloc: Global, value: &Datum<'_>, left: u32) -> Result<TaskSig, SigFault>
     ensures { Gives task_view result (task_with (task_reading left) (view value.now)) }
 {
     let args = read_args(alloc, listed(value.get("args")))?;
@@ -75,7 +75,7 @@ fn read_task(alloc: Global, value: &Value, left: u32) -> Result<TaskSig, SigFaul
 
 /// The signatures in a list, one signature, or none.
 #[cycle(read_task)]
-fn read_link(alloc: Global, field: Option<&Value>, left: u32) -> Result<Vec<TaskSig>, SigFault>
+fn read_link(alloc: Global, field: Option<&Datum<'_>>, left: u32) -> Result<Vec<TaskSig>, SigFault>
     ensures { Gives (λ v. map task_view v.items) result
         (each (task_reading left) (as_list (value_at field.entry))) }
 {
@@ -86,13 +86,13 @@ fn read_link(alloc: Global, field: Option<&Value>, left: u32) -> Result<Vec<Task
 }
 
 #[cycle(read_task)]
-fn read_one_or_more(alloc: Global, value: &Value, left: u32) -> Result<Vec<TaskSig>, SigFault>
+fn read_one_or_more(alloc: Global, value: &Datum<'_>, left: u32) -> Result<Vec<TaskSig>, SigFault>
     ensures { Gives (λ v. map task_view v.items) result
         (each (task_reading left) (as_list (view value.now))) }
 {
     match value {
-        Value::Null => Ok(Vec::new(alloc)),
-        Value::Array(values) => read_all_linked(alloc, values, left),
+        Datum::Null => Ok(Vec::new(alloc)),
+        Datum::List(values) => read_all_linked(alloc, values, left),
         _ => {
             let mut tasks = Vec::new(alloc);
             tasks.push(read_linked(alloc, value, left)?)?;
@@ -102,7 +102,7 @@ fn read_one_or_more(alloc: Global, value: &Value, left: u32) -> Result<Vec<TaskS
 }
 
 #[cycle(read_task)]
-fn read_all_linked(alloc: Global, values: &[Value], left: u32) -> Result<Vec<TaskSig>, SigFault>
+fn read_all_linked(alloc: Global, values: &[Datum<'_>], left: u32) -> Result<Vec<TaskSig>, SigFault>
     ensures { Gives (λ v. map task_view v.items) result
         (each (task_reading left) (map view values.now)) }
 {
@@ -126,7 +126,7 @@ fn members_in(alloc: Global, node: Node) -> Vec<Node>
 /// The canvas that a value stands for; signatures in it nest at most `left` deep.
 #[cycle(read_node)]
 #[tactic(auto, using(crate::proofs::Level::tree_level_below))]
-pub(crate) fn read_node(alloc: Global, value: &Value, left: u32) -> Result<Node, SigFault>
+pub(crate) fn read_node(alloc: Global, value: &Datum<'_>, left: u32) -> Result<Node, SigFault>
     ensures { Gives tree_view result (tree_reading left (view value.now)) }
 {
     if left == 0 {
@@ -137,7 +137,7 @@ pub(crate) fn read_node(alloc: Global, value: &Value, left: u32) -> Result<Node,
 
 #[cycle(read_node)]
 #[tactic(auto, using(crate::proofs::Level::fails_with))]
-fn read_checked(alloc: Global, value: &Value, left: u32) -> Result<Node, SigFault>
+fn read_checked(alloc: Global, value: &Datum<'_>, left: u32) -> Result<Node, SigFault>
     ensures { Gives tree_view result
         (tree_with (task_reading left) (tree_reading left) (view value.now)) }
 {
@@ -151,7 +151,7 @@ fn read_checked(alloc: Global, value: &Value, left: u32) -> Result<Node, SigFaul
 #[cycle(read_node)]
 fn read_as(
     alloc: Global,
-    value: &Value,
+    value: &Datum<'_>,
     primitive: Option<Primitive>,
     left: u32,
 ) -> Result<Node, SigFault>
@@ -167,7 +167,7 @@ fn read_as(
 }
 
 #[cycle(read_node)]
-fn read_chain(alloc: Global, value: &Value, left: u32) -> Result<Node, SigFault>
+fn read_chain(alloc: Global, value: &Datum<'_>, left: u32) -> Result<Node, SigFault>
     ensures { Gives tree_view result
         (tree_as (task_reading left) (tree_reading left) (Some Chain) (view value.now)) }
 {
@@ -176,7 +176,7 @@ fn read_chain(alloc: Global, value: &Value, left: u32) -> Result<Node, SigFault>
 }
 
 #[cycle(read_node)]
-fn read_group(alloc: Global, value: &Value, left: u32) -> Result<Node, SigFault>
+fn read_group(alloc: Global, value: &Datum<'_>, left: u32) -> Result<Node, SigFault>
     ensures { Gives tree_view result
         (tree_as (task_reading left) (tree_reading left) (Some Group) (view value.now)) }
 {
@@ -185,7 +185,7 @@ fn read_group(alloc: Global, value: &Value, left: u32) -> Result<Node, SigFault>
 }
 
 #[cycle(read_node)]
-fn read_chord(alloc: Global, value: &Value, left: u32) -> Result<Node, SigFault>
+fn read_chord(alloc: Global, value: &Datum<'_>, left: u32) -> Result<Node, SigFault>
     ensures { Gives tree_view result
         (tree_as (task_reading left) (tree_reading left) (Some Chord) (view value.now)) }
 {
@@ -199,18 +199,18 @@ fn read_chord(alloc: Global, value: &Value, left: u32) -> Result<Node, SigFault>
 
 /// The canvas that a member stands for; one that is missing is null.
 #[cycle(read_node)]
-fn read_member(alloc: Global, field: Option<&Value>, left: u32) -> Result<Node, SigFault>
+fn read_member(alloc: Global, field: Option<&Datum<'_>>, left: u32) -> Result<Node, SigFault>
     ensures { Gives tree_view result (tree_reading left (value_at field.entry)) }
 {
     match field {
         Some(value) => read_node(alloc, value, left),
-        None => read_node(alloc, &Value::Null, left),
+        None => read_node(alloc, &Datum::Null, left),
     }
 }
 
 /// The members of a header, which is a list, or one group signature.
 #[cycle(read_node)]
-fn read_header(alloc: Global, field: Option<&Value>, left: u32) -> Result<Vec<Node>, SigFault>
+fn read_header(alloc: Global, field: Option<&Datum<'_>>, left: u32) -> Result<Vec<Node>, SigFault>
     ensures { Gives (λ v. trees_of (map tree_view v.items)) result
         (header_reading (tree_reading left) (value_at field.entry)) }
 {
@@ -222,7 +222,7 @@ fn read_header(alloc: Global, field: Option<&Value>, left: u32) -> Result<Vec<No
 }
 
 #[cycle(read_node)]
-fn read_all(alloc: Global, values: &[Value], left: u32) -> Result<Vec<Node>, SigFault>
+fn read_all(alloc: Global, values: &[Datum<'_>], left: u32) -> Result<Vec<Node>, SigFault>
     ensures { Gives (λ v. map tree_view v.items) result
         (each (tree_reading left) (map view values.now)) }
 {

@@ -1,6 +1,6 @@
 //! Canvases and arguments that were composed, with their texts.
 
-use canvas_samples::composed::{call, calls};
+use canvas_samples::composed::calls;
 use canvas_samples::notation::{is_text, is_written};
 use canvas_sig::{Canvas, Node, SigFault, TaskSig, write_arg, write_canvas};
 use canvas_task::{Arg, ListOf, MapOf, TextOf};
@@ -45,7 +45,7 @@ fn chords(rt: HostRuntime) -> Result<(), Fail> {
 
 /// A call with a list, a text, a named number and both kinds of callbacks.
 fn full_call(alloc: Global) -> Result<TaskSig, AllocError> {
-    let mut sig = call(alloc, "tasks.ident", &[])?;
+    let mut sig = TaskSig::new(alloc, "tasks.ident", &[])?;
     sig.immutable = true;
     sig.args = arguments(alloc)?;
     sig.kwargs = named(alloc)?;
@@ -69,7 +69,7 @@ fn named(alloc: Global) -> Result<MapOf<Arg>, AllocError> {
 
 fn callback(alloc: Global, name: &str, numbers: &[i64]) -> Result<ListOf<TaskSig>, AllocError> {
     let mut sigs = Vec::new(alloc);
-    sigs.push(call(alloc, name, numbers)?)?;
+    sigs.push(TaskSig::new(alloc, name, numbers)?)?;
     Ok(ListOf::of(sigs))
 }
 
@@ -128,7 +128,7 @@ fn argument_values(rt: HostRuntime) -> Result<(), Fail> {
 
 /// The fault of a call that is composed with a number.
 fn fault_of(alloc: Global, name: &str, number: i64) -> Option<SigFault> {
-    match call(alloc, name, &[number]) {
+    match TaskSig::new(alloc, name, &[number]) {
         Ok(sig) => Canvas::of(alloc, Node::Task(sig)).err(),
         Err(_) => Some(SigFault::Memory),
     }

@@ -1,6 +1,6 @@
 //! What a worker has left to do.
 
-ghost use Rattle.std.specs.Prelude.{◌≡◌, ◌≢◌, ◌≤◌, ◌+◌, min, true, false, Some, None, OnOk, OnErr, IfOk, IfSome};
+ghost use Rattle.std.specs.Prelude.{◌≡◌, ◌≢◌, ◌≤◌, ◌+◌, min, true, false, Some, None, Ok, OnOk, OnErr, IfOk, IfSome};
 ghost use Rattle.std.specs.Option.{option_map};
 ghost use Rattle.canvas_task.specs.Apply.{Behaviour};
 ghost use Rattle.canvas_worker.specs.Asks.{suits, shown, replied, StoresInRange, FoundInRange, Grows};
@@ -11,7 +11,7 @@ ghost use Rattle.canvas_worker.specs.Phases.{left_of, is_out};
 ghost use Rattle.canvas_runs.specs.Tally.{greatest_count};
 ghost use Rattle.canvas_worker.specs.Standing.{asked, begun, after_reply, failing, held, held_out, handed, point_at, waiting};
 ghost use Rattle.canvas_worker.specs.Enveloped.{enveloped_by, said, no_tasks};
-ghost use Rattle.canvas_runs.specs.Worker.{opened};
+ghost use Rattle.canvas_runs.specs.Worker.{opened, read_envelope};
 
 use crate::known::message_known;
 use crate::phase::{Phase, acknowledged, rested, returned};
@@ -115,6 +115,7 @@ impl Core {
     /// Hands out the envelope that is to be published, once.
     pub fn envelope(&mut self) -> Option<Letter>
         ensures value { result ≡ held_out self.old }
+        ensures reads { IfSome result (λ e. read_envelope e ≡ Ok (said e)) }
         ensures core { self.new ≡ handed self.old }
     {
         match &mut self.phase {

@@ -1,6 +1,7 @@
 -- A run on threads before its first publish, and once its workers have ended and worker 0 has taken
 -- in what they left.
-use Rattle.std.specs.Prelude.{ℕ, suc, ◌≡◌, List, [], ◌∷◌, length, map, All, Option, None, IfNone}
+use Rattle.std.specs.Prelude.{ℕ, suc, ◌≡◌, ◌≤◌, List, [], ◌∷◌, length, map, All, Option, None, IfNone}
+use Rattle.std.specs.Vec.{vec_capacity}
 use Rattle.std.specs.Global.{Global}
 use Rattle.canvas_task.specs.Apply.{Behaviour}
 use Rattle.crossbeam_queue.specs.SegTies.{SegId}
@@ -35,6 +36,7 @@ pub record IsStart (l : Line) (n : ℕ) (s : Start) : Type 0 where
   pub rows : length s.rows.items ≡ count_line l
   pub pending : All (λ r. r ≡ None) s.rows.items
   pub tallies : s.tallies.items ≡ nothing_counted 0 ∷ []
+  pub room : suc n ≤ vec_capacity s.tallies
 
 -- the workers of this queue and this table, from the splits to the joins, with the first messages
 -- published between

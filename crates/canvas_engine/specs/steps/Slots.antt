@@ -3,7 +3,7 @@
 --     SplitsOff plan k p s slots p' s'     places made one after the other, numbered from k on
 --     RanSlot plan before after            the worker of this place has run to its end, or was lost
 --     TakesIn plan p s slots p' s'       what the workers left, taken in one after the other
-use Rattle.std.specs.Prelude.{ℕ, suc, ◌≡◌, ◌<◌, List, [], ◌∷◌, length, slice_index_or, None}
+use Rattle.std.specs.Prelude.{ℕ, suc, ◌≡◌, ◌<◌, List, [], ◌∷◌, length, slice_index_or, All, Any, Option, Some, None}
 use Rattle.std.specs.Global.{Global}
 use Rattle.crossbeam_queue.specs.SegTies.{SegId}
 use Rattle.atomic_table.specs.Seated.{TableId}
@@ -14,6 +14,8 @@ use Rattle.canvas_broker.specs.Passes as passes
 use Rattle.canvas_history.specs.Callers.{Owes}
 use Rattle.canvas_runs.specs.Following.{Pass, Seat}
 use Rattle.canvas_worker.specs.Finished.{Finished}
+use Rattle.canvas_worker.specs.declared.cause.Cause.{Cause}
+use Rattle.canvas_worker.specs.declared.cause.Cause.TheVariants.{Memory, Stopped}
 use Rattle.canvas_worker.specs.declared.record.Record.{Record}
 use Rattle.canvas_engine.specs.declared.records.Tally.{Tally}
 use Rattle.canvas_engine.specs.declared.slot.Post.{Post}
@@ -63,6 +65,19 @@ LeftARecord p = ⊥
 abbrev pub IsWell : Post → Type 0
 IsWell (Done r) = r.fault ≡ None
 IsWell p = ⊥
+
+-- memory was refused to the worker, or its executor failed
+abbrev pub LacksMemory : Post → Type 0
+LacksMemory (Done r) = r.fault ≡ Some Memory
+LacksMemory Lost = Unit {0}
+LacksMemory (Ready q t) = ⊥
+
+-- why workers ended early, if any did: for memory exactly where it was refused to one of them
+abbrev pub IsWhy : List Slot → Option Cause → Type 0
+IsWhy slots None = All (λ s. IsWell s.post) slots
+IsWhy slots (Some Memory) = Any (λ s. LacksMemory s.post) slots
+IsWhy slots (Some Stopped) =
+    (All (λ s. IsWell s.post) slots → ⊥) × (Any (λ s. LacksMemory s.post) slots → ⊥)
 
 -- what was left is of this broker and this backend
 abbrev pub IsPostOf : SegId Global → TableId → Post → Type 0

@@ -1,4 +1,4 @@
-use Rattle.std.proofs.Common.{rules, ◌≡◌, ◌∙◌, ◌++◌, All, drop, length, take, sym, subst}
+use Rattle.std.proofs.Common.{rules, ◌≡◌, ◌∙◌, ◌++◌, All, drop, length, map, take, sym, subst}
 use Rattle.std.proofs.lemmas.List.{take_at}
 use Rattle.canvas_semantics.specs.Line.{Line, tree_of}
 use Rattle.canvas_semantics.specs.States.{states}
@@ -7,10 +7,10 @@ use Rattle.canvas_runs.specs.Following.{Makes}
 use Rattle.canvas_runs.specs.Run.{published_all}
 use Rattle.canvas_worker.specs.declared.cause.Cause.TheVariants.{Memory}
 use Rattle.canvas_engine.specs.Correct.{IsThreadFault}
-use Rattle.canvas_engine.specs.steps.Slots.{AllRan, AreOf, LeftARecord, TakesIn}
+use Rattle.canvas_engine.specs.steps.Slots.{AllRan, AreOf, LeftARecord, TakesIn, tally_in}
 use Rattle.canvas_engine.specs.declared.slot.Slot.{Slot}
 use Rattle.canvas_engine.proofs.Slots.{are_of, each_ran}
-use Rattle.canvas_engine.proofs.ThreadRuns.{gathered, halted_may, if_none, long_envelopes, long_states, pending_may, well_gathered}
+use Rattle.canvas_engine.proofs.ThreadRuns.{gathered, halted_may, if_none, long_envelopes, long_states, pending_may, well_gathered, why_well}
 use Rattle.canvas_engine.proofs.running.gather.Goals as goal
 
 pub returns-in-Err-clause-err : goal.returns-in-Err-clause-err
@@ -39,7 +39,8 @@ returns-clause-ok g c =
     let made : Makes c.args.start.pass (published_all c.args.start.envelopes.items) c.publish_all.new.pass = search rules in
     let taken : TakesIn c.args.start.backend.plan c.publish_all.new.pass c.args.start.seat c.work_on_threads.new.slots c.join_all.new.pass c.join_all.new.seat =
     subst (λ xs. TakesIn c.args.start.backend.plan c.publish_all.new.pass c.args.start.seat xs c.join_all.new.pass c.join_all.new.seat) whole c.join_all.ensures.taken in
-    let judged : c.deref-2.result.now ≡ c.work_on_threads.new.slots = search rules in
+    let judged : c.deref-3.result.now ≡ c.work_on_threads.new.slots = search rules in
+    let counted : c.tally_all.new.tallies.items ≡ c.args.start.tallies.items ++ map tally_in c.deref-3.result.now = search rules in
     let len : c.len-first.result ≡ length c.args.start.envelopes.items = search rules in
     let all = gathered (g.T.Tasks.behaviour c.args.tasks.now) c.args.plan.now c.args.workers c.args.start c.requires.start c.publish_all.new.pass c.work_on_threads.new.slots c.join_all.new.pass c.join_all.new.seat made ran many taken in
     record {
@@ -49,5 +50,6 @@ returns-clause-ok g c =
       crew = all.0;
       first = len ∙ long_envelopes c.args.start.envelopes.items (first_messages c.args.plan.now) c.requires.start.envelopes;
       rows = c.requires.start.rows;
-      well = if_none c.judge-fault.result (well_gathered (g.T.Tasks.behaviour c.args.tasks.now) c.args.plan.now all.0.mates c.deref-2.result.now c.work_on_threads.new.slots c.args.start.tallies.items c.judge-fault.new.tallies.items judged c.requires.start.tallies all.1 all.2) c.judge-fault.ensures;
+      well = if_none c.fault_of-fault.result (λ all_well. well_gathered (g.T.Tasks.behaviour c.args.tasks.now) c.args.plan.now all.0.mates c.deref-3.result.now c.work_on_threads.new.slots c.args.start.tallies.items c.tally_all.new.tallies.items judged c.requires.start.tallies all.1 all.2 (all_well, counted))
+          (why_well c.deref-3.result.now c.fault_of-fault.result c.fault_of-fault.ensures);
     }

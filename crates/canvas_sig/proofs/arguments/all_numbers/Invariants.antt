@@ -1,6 +1,6 @@
 use Rattle.std.proofs.Common.{◌≡◌, map, drop}
 use Rattle.std.specs.List.{list_all}
-use Rattle.serde_json.specs.View.{view}
+use Rattle.canvas_sig.specs.Datum.{view}
 use Rattle.canvas_sig.specs.Fields.{is_number}
 use Rattle.canvas_sig.proofs.arguments.all_numbers.Given as goal
 

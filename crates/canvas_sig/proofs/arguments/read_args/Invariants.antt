@@ -1,5 +1,5 @@
 use Rattle.std.proofs.Common.{◌≡◌, map, drop}
-use Rattle.serde_json.specs.View.{view}
+use Rattle.canvas_sig.specs.Datum.{view}
 use Rattle.canvas_sig.specs.Answers.{each}
 use Rattle.canvas_sig.specs.Grammar.{arg_reading}
 use Rattle.canvas_sig.proofs.Each.{onto}

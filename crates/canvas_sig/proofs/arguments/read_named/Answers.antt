@@ -1,33 +1,29 @@
-use Rattle.std.proofs.Common.{◌≡◌, [], ◌∷◌, ◌++◌, string_bytes, sym, ap, ◌∙◌, subst, append_assoc, Ok}
-use Rattle.std.specs.List.Sorted.{IsStrictlySortedBy}
-use Rattle.std.specs.Map.{keys_of}
-use Rattle.std.specs.String.{string_cmp}
-use Rattle.serde_json.specs.View.{view}
-use Rattle.serde_json.proofs.Views.{Entry}
+use Rattle.std.proofs.Common.{◌≡◌, ◌+◌, drop, string_bytes, sym, ap, ◌∙◌, subst, Ok, arith, rules}
 use Rattle.canvas_task.specs.Entries.{named}
+use Rattle.canvas_task.specs.Text.{Text}
+use Rattle.canvas_sig.specs.Datum.{view}
 use Rattle.canvas_sig.specs.Fields.{seen}
 use Rattle.canvas_sig.specs.Answers.{◌>>=◌, each}
 use Rattle.canvas_sig.specs.Grammar.{named_reading}
 use Rattle.canvas_sig.proofs.Each.{onto, one_more}
-use Rattle.canvas_sig.proofs.Named.{goes_last, names_last}
+use Rattle.canvas_sig.proofs.Named.{names, AllBelow, goes_last, still_below}
+use Rattle.canvas_sig.proofs.Parsed.{Named, next_member}
 use Rattle.canvas_sig.proofs.arguments.read_named.Goals as goal
 
-pub loop-name-preserved : goal.loop-name-preserved
-loop-name-preserved c =
-    let l = c.loop-name in
-    let done = l.invariant.0 in
-    let e : Entry = (c.in-Some.name.now, c.in-Some.value.now) in
-    let left = c.next.new.self in
-    let all : c.args.members.now.entries ≡ done ++ e ∷ left = l.invariant.1 ∙ ap (λ es. done ++ es) c.in-Some.ensures.steps in
-    let sorted = subst (λ es. IsStrictlySortedBy string_cmp (keys_of es)) all c.iter-name-items.ensures.ordered in
-    let key : string_bytes c.in_ok-key.key ≡ string_bytes e.0 = c.in_ok-key.ensures.cases in
-    let last = ap named c.in_ok-insert.ensures.entries ∙ goes_last l.args.entries done e left c.in_ok-key.key c.in_ok-read_arg.field-0 l.invariant.2 key sorted in
-    let read : named_reading (string_bytes e.0, view e.1) ≡ Ok (string_bytes c.in_ok-key.key, c.in_ok-read_arg.field-0) =
-    ap (λ r. r >>= λ a. Ok (string_bytes e.0, a)) c.in_ok-read_arg.ensures.reading ∙ ap (λ k. Ok (k, c.in_ok-read_arg.field-0)) (sym key) in (
-      done ++ e ∷ [],
-      all ∙ sym (append_assoc done (e ∷ []) left),
-      names_last l.args.entries done e c.in_ok-key.key c.in_ok-read_arg.field-0 _ l.invariant.2 key last,
-      l.invariant.3 ∙ ap (λ es. onto (named l.args.entries) (each named_reading (seen es))) c.in-Some.ensures.steps
-          ∙ one_more named_reading (named l.args.entries) (string_bytes e.0, view e.1) (seen left) _ read
+pub loop-member-preserved : goal.loop-member-preserved
+loop-member-preserved c =
+    let l = c.loop-member in
+    let e : Named = c.member-item.result in
+    let left = drop (l.member-index + 1) c.args.members.now in
+    let key : string_bytes c.in_ok-name.name ≡ e.0.now = search rules in
+    let arg = c.in_ok-read_argument.field-0 in
+    let P : Text → Type 0 = λ k. AllBelow (names (named l.args.entries)) k in
+    let below = l.invariant.1 e.0.now (c.follows.ensures (grind arith)) in
+    let last : named c.insert.new.self.entries ≡ _ = ap named c.in_ok-insert.ensures.entries ∙ goes_last l.args.entries c.in_ok-name.name arg (subst P (sym key) below) in
+    let read : named_reading (e.0.now, view e.1) ≡ Ok (string_bytes c.in_ok-name.name, arg) =
+    ap (λ r. r >>= λ a. Ok (e.0.now, a)) c.in_ok-read_argument.ensures ∙ ap (λ k. Ok (k, arg)) (sym key) in (
+      l.invariant.0 ∙ ap (λ es. onto (named l.args.entries) (each named_reading (seen es))) (next_member c.args.members.now l.member-index e _ (omega (arith, c.loop-member-test.true)) (sym c.member-item.is))
+          ∙ one_more named_reading (named l.args.entries) (e.0.now, view e.1) (seen left) _ read
           ∙ ap (λ es. onto es (each named_reading (seen left))) (sym last),
+      λ k low. still_below l.args.entries c.insert.new.self.entries (string_bytes c.in_ok-name.name) arg k last (subst P (sym key) below) (rw key low),
     )

@@ -1,13 +1,15 @@
-use Rattle.std.proofs.Common.{◌≡◌, List, ◌++◌, map}
-use Rattle.serde_json.proofs.Views.{Entry}
+use Rattle.std.proofs.Common.{◌≡◌, drop, option_map}
 use Rattle.canvas_task.specs.Entries.{named}
+use Rattle.canvas_task.specs.Text.{Text}
 use Rattle.canvas_sig.specs.Fields.{seen}
 use Rattle.canvas_sig.specs.Answers.{each}
 use Rattle.canvas_sig.specs.Grammar.{named_reading}
+use Rattle.canvas_sig.specs.steps.Names.{IsBelow}
 use Rattle.canvas_sig.proofs.Each.{onto}
+use Rattle.canvas_sig.proofs.Named.{names, AllBelow}
 use Rattle.canvas_sig.proofs.arguments.read_named.Given as goal
 
-abbrev pub invariant-loop-name : goal.invariant-loop-name
-invariant-loop-name l =
-    (done : List Entry) × (l.members.entries ≡ done ++ l.name-iterator) × (map (λ e. e.0) (named l.args.entries) ≡ map (λ e. e.0) (seen done))
-    × (each named_reading (seen l.members.entries) ≡ onto (named l.args.entries) (each named_reading (seen l.name-iterator)))
+abbrev pub invariant-loop-member : goal.invariant-loop-member
+invariant-loop-member l =
+    (each named_reading (seen l.members) ≡ onto (named l.args.entries) (each named_reading (seen (drop l.member-index l.members))))
+    × ((k : Text) → IsBelow (option_map (λ x. x.now) l.last) k → AllBelow (names (named l.args.entries)) k)

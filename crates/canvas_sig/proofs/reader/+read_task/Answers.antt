@@ -1,16 +1,16 @@
 use Rattle.std.proofs.Common.{◌∙◌, sym, ap, map, subst, arith, rules}
-use Rattle.serde_json.specs.View.{view}
+use Rattle.canvas_sig.specs.Datum.{view}
 use Rattle.canvas_sig.specs.Answers.{Gives, each}
 use Rattle.canvas_sig.specs.steps.Reading.{task_reading}
 use Rattle.canvas_sig.specs.View.{task_view}
 use Rattle.canvas_sig.proofs.Level.{made, next_seen}
-use Rattle.canvas_sig.proofs.Json.{array_list, next_item}
+use Rattle.canvas_sig.proofs.Datums.{array_list, next_item}
 use Rattle.canvas_sig.proofs.reader.+read_task.Goals as goal
 
-pub read_one_or_more-returns-in-Array : goal.read_one_or_more-returns-in-Array
-read_one_or_more-returns-in-Array t c =
+pub read_one_or_more-returns-in-List : goal.read_one_or_more-returns-in-List
+read_one_or_more-returns-in-List t c =
     subst (Gives (λ v. map task_view v.items) c.read_all_linked.result)
-    (ap (λ vs. each (task_reading c.args.left) (map view vs)) c.deref.ensures.value ∙ sym (ap (each (task_reading c.args.left)) (array_list _ _ c.in-Array.is))) c.read_all_linked.ensures
+    (sym (ap (each (task_reading c.args.left)) (array_list _ _ c.in-List.is))) c.read_all_linked.ensures
 
 pub read_task-returns : goal.read_task-returns
 read_task-returns t c =

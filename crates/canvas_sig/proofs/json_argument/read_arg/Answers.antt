@@ -4,7 +4,7 @@ use Rattle.canvas_sig.specs.Answers.{Gives}
 use Rattle.canvas_sig.specs.steps.Reading.{list_reading}
 use Rattle.canvas_sig.proofs.ArgumentLaw.{reads_so}
 use Rattle.canvas_sig.proofs.Json.{array_arg, array_takes}
-use Rattle.canvas_sig.proofs.arguments.read_arg.Goals as goal
+use Rattle.canvas_sig.proofs.json_argument.read_arg.Goals as goal
 
 pub returns-in-Array-clause-reading : goal.returns-in-Array-clause-reading
 returns-in-Array-clause-reading c =

@@ -1,0 +1,242 @@
+//! Parsing JSON (RFC 8259) into borrowed values.
+
+ghost use Rattle.std.specs.Prelude.{◌≡◌, true, ◌<◌, ◌++◌, length, Some, None, Err, IfOk, OnOk};
+ghost use Rattle.json.specs.Json.{value, items, members};
+ghost use Rattle.serde_json.specs.Data.{no_members};
+ghost use Rattle.serde_json.specs.Read.{of_json, of_items, of_members, converted, read as read_text};
+ghost use Rattle.canvas_sig.specs.Answers.{Gives};
+ghost use Rattle.canvas_sig.specs.CanvasText.{json_of};
+ghost use Rattle.canvas_sig.specs.Datum.{view, items_view, members_view};
+ghost use Rattle.canvas_sig.specs.steps.Names.{put_all};
+ghost use Rattle.canvas_sig.specs.steps.Reading.{json_reading};
+ghost use Rattle.canvas_sig.specs.declared.fault.SigFault.TheVariants.{Memory};
+
+use crate::datum::{Datum, follows};
+use crate::fault::SigFault;
+use crate::number::number_of;
+use bumpalo::Bump;
+use bumpalo::collections::into_bump_slice;
+use json::{Invalid, Reader, Scratch, Token};
+use serde_json::value::Map;
+use std::alloc::{AllocError, AllocFailed, Global};
+
+/// Why nothing was read.
+#[derive(Clone, Copy, Drop)]
+pub(crate) enum Unread {
+    NotJson,
+    Memory,
+}
+
+impl From<Invalid> for Unread {
+    ghost use Rattle.std.specs.Prelude.{◌≡◌};
+    ghost use Rattle.canvas_sig.specs.declared.parsing.Unread.TheVariants.{NotJson};
+
+    ghost from_gives = { λ _ e. e ≡ NotJson };
+
+    fn from(_invalid: Invalid) -> Unread {
+        Unread::NotJson
+    }
+}
+
+impl From<AllocError> for Unread {
+    ghost use Rattle.std.specs.Prelude.{◌≡◌};
+    ghost use Rattle.canvas_sig.specs.declared.parsing.Unread.TheVariants.{Memory};
+
+    ghost from_gives = { λ _ e. e ≡ Memory };
+
+    fn from(_refused: AllocError) -> Unread {
+        Unread::Memory
+    }
+}
+
+impl<T: Drop> From<AllocFailed<T>> for Unread {
+    ghost use Rattle.std.specs.Prelude.{◌≡◌};
+    ghost use Rattle.canvas_sig.specs.declared.parsing.Unread.TheVariants.{Memory};
+
+    ghost from_gives = { λ _ e. e ≡ Memory };
+
+    fn from(_refused: AllocFailed<T>) -> Unread {
+        Unread::Memory
+    }
+}
+
+/// How deep arrays and objects may nest.
+const MOST_NESTED: usize = 127;
+
+/// The value that comes next; arrays and objects in it nest at most `left` deep.
+#[cycle(read)]
+fn read_value<'a>(
+    alloc: Global,
+    arena: &'a Bump,
+    reader: &mut Reader<'a>,
+    left: usize,
+) -> Result<Datum<'a>, Unread>
+    ensures ok { IfOk result
+        (λ v. converted of_json (value left reader.old) ≡ Some (view v, reader.new)) }
+    ensures shorter { OnOk result (length reader.new < length reader.old) }
+    ensures err { result ≡ Err Unread.NotJson → converted of_json (value left reader.old) ≡ None }
+{
+    let token = reader.next().ok_or(Unread::NotJson)?;
+    match token {
+        Token::Null => Ok(Datum::Null),
+        Token::Bool(flag) => Ok(Datum::Bool(flag)),
+        Token::Number(text) => match number_of(text) {
+            Some(number) => Ok(Datum::Number(number)),
+            None => Err(Unread::NotJson),
+        },
+        Token::String(text) => Ok(Datum::Text(text)),
+        Token::BeginArray => {
+            if left == 0 {
+                return Err(Unread::NotJson);
+            }
+            Ok(Datum::List(read_items(alloc, arena, reader, left - 1)?))
+        }
+        Token::BeginObject => {
+            if left == 0 {
+                return Err(Unread::NotJson);
+            }
+            Ok(Datum::Object(read_members(alloc, arena, reader, left - 1)?))
+        }
+        Token::EndObject | Token::EndArray | Token::Key(_) | Token::Bad => Err(Unread::NotJson),
+    }
+}
+
+#[cycle(read)]
+fn read_items<'a>(
+    alloc: Global,
+    arena: &'a Bump,
+    reader: &mut Reader<'a>,
+    left: usize,
+) -> Result<&'a [Datum<'a>], Unread>
+    ensures ok { IfOk result
+        (λ v. converted of_items (items (value left) (length reader.old) reader.old)
+        ≡ Some (items_view v.now, reader.new)) }
+    ensures shorter { OnOk result (length reader.new < length reader.old) }
+    ensures err { result ≡ Err Unread.NotJson
+        → converted of_items (items (value left) (length reader.old) reader.old) ≡ None }
+{
+    let mut found = Vec::new(arena);
+    'items: while !reader.take_end_array() {
+        let item = read_value(alloc, arena, reader, left)?;
+        found.push(item)?;
+    }
+    Ok(into_bump_slice(found))
+}
+
+#[cycle(read)]
+fn read_members<'a>(
+    alloc: Global,
+    arena: &'a Bump,
+    reader: &mut Reader<'a>,
+    left: usize,
+) -> Result<&'a [(&'a str, Datum<'a>)], Unread>
+    ensures ok { IfOk result
+        (λ v. converted (λ ms. of_members ms no_members)
+        (members (value left) (length reader.old) reader.old)
+        ≡ Some (members_view v.now, reader.new)) }
+    ensures shorter { OnOk result (length reader.new < length reader.old) }
+    ensures err { result ≡ Err Unread.NotJson → converted (λ ms. of_members ms no_members)
+        (members (value left) (length reader.old) reader.old) ≡ None }
+{
+    let mut found = Vec::new(arena);
+    'members: while let Some(name) = reader.next_key()? {
+        let member = read_value(alloc, arena, reader, left)?;
+        found.push((name, member))?;
+    }
+    Ok(in_order(alloc, arena, found)?)
+}
+
+/// Whether the names ascend, so that no name comes twice.
+fn ascends(members: &[(&str, Datum<'_>)]) -> bool
+    ensures { result ≡ true → put_all members.now no_members ≡ members_view members.now }
+{
+    let mut last = None;
+    for member in members {
+        if !follows(last, member.0) {
+            return false;
+        }
+        last = Some(member.0);
+    }
+    true
+}
+
+/// Members in the order of their names, the last of those of one name.
+fn in_order<'a>(
+    alloc: Global,
+    arena: &'a Bump,
+    found: Vec<(&'a str, Datum<'a>), &'a Bump>,
+) -> Result<&'a [(&'a str, Datum<'a>)], AllocError>
+    ensures { IfOk result (λ v. members_view v.now ≡ put_all found.entry.items no_members) }
+{
+    if ascends(&found) {
+        return Ok(into_bump_slice(found));
+    }
+    let ordered = by_name(alloc, &found)?;
+    members_of(arena, &ordered)
+}
+
+/// A map of some members; of those of one name it has the last.
+fn by_name<'a>(
+    alloc: Global,
+    found: &[(&'a str, Datum<'a>)],
+) -> Result<Map<&'a str, Datum<'a>>, AllocError>
+    ensures { IfOk result (λ m. members_view m.entries ≡ put_all found.now no_members) }
+{
+    let mut ordered = Map::new(alloc);
+    for member in found {
+        drop(ordered.insert(member.0, member.1)?);
+    }
+    Ok(ordered)
+}
+
+/// The members of a map.
+fn members_of<'a>(
+    arena: &'a Bump,
+    ordered: &Map<&'a str, Datum<'a>>,
+) -> Result<&'a [(&'a str, Datum<'a>)], AllocError>
+    ensures { IfOk result (λ v. v.now ≡ ordered.now.entries) }
+{
+    let mut members = Vec::new(arena);
+    for (name, value) in ordered.iter() {
+        members.push((*name, *value))?;
+    }
+    Ok(into_bump_slice(members))
+}
+
+/// The one value of a text.
+fn read_whole<'a>(
+    alloc: Global,
+    arena: &'a Bump,
+    scratch: &'a mut Scratch,
+    text: &'a str,
+) -> Result<Datum<'a>, Unread>
+    ensures ok { IfOk result (λ v. read_text text.now ≡ Some (view v)) }
+    ensures err { result ≡ Err Unread.NotJson → read_text text.now ≡ None }
+{
+    let mut reader = Reader::new(text, scratch)?;
+    let value = read_value(alloc, arena, &mut reader, MOST_NESTED)?;
+    match reader.next() {
+        None => Ok(value),
+        Some(_) => Err(Unread::NotJson),
+    }
+}
+
+/// The JSON value that a text in UTF-8 is. The arena holds its lists and objects, and the scratch
+/// the texts that have escapes.
+pub fn parse<'a>(
+    alloc: Global,
+    arena: &'a Bump,
+    scratch: &'a mut Scratch,
+    bytes: &'a [u8],
+) -> Result<Datum<'a>, SigFault>
+    ensures { Gives view result (json_reading (json_of bytes.now)) }
+{
+    let Ok(text) = simdutf8::basic::from_utf8(bytes) else {
+        return Err(SigFault::NotJson);
+    };
+    match read_whole(alloc, arena, scratch, text) {
+        Ok(value) => Ok(value),
+        Err(Unread::NotJson) => Err(SigFault::NotJson),
+        Err(Unread::Memory) => Err(SigFault::Memory),
+    }
+}
