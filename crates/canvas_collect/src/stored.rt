@@ -3,7 +3,8 @@
 ghost use Rattle.std.specs.Prelude.{◌≡◌, true, Some, IfOk, IfSome, codes};
 ghost use Rattle.serde_json.specs.View.{view};
 ghost use Rattle.canvas_sig.specs.CanvasText.{json_of};
-ghost use Rattle.canvas_sig.specs.Fields.{value_at, field, text_of};
+ghost use Rattle.canvas_sig.specs.Fields.{field, text_of};
+ghost use Rattle.canvas_collect.specs.steps.Found.{value_at};
 ghost use Rattle.canvas_task.specs.Numbers.{in_range};
 ghost use Rattle.canvas_task.specs.Printed.{kind_name, why_name};
 ghost use Rattle.canvas_celery.specs.Run.{run_task};

@@ -1,5 +1,5 @@
 -- A task message (Celery's task message protocol, version 2) in kombu's envelope, as it lies in a list of Redis.
-use Rattle.std.specs.Prelude.{ℕ, List, [], ◌∷◌, Option, Some, None, reverse, codes, pos}
+use Rattle.std.specs.Prelude.{◌≡◌, ℕ, List, [], ◌∷◌, Option, Some, None, reverse, codes, pos}
 use Rattle.base64.specs.GeneralPurpose.{encode_of}
 use Rattle.base64.specs.Engines.{standard}
 use Rattle.canvas_task.specs.Text.{Text}
@@ -72,3 +72,16 @@ envelope_wire n queue body c =
 abbrev pub message_text : Naming → (queue : Text) → Content → Text
 message_text n queue c =
     compact_text (envelope_wire n queue (string (encode_of standard (compact_text (body_wire n c)))) c)
+
+-- ---- what lies on the queue, whatever the body says
+
+abbrev pub IsSent : Naming → (queue text : Text) → Content → Type 0
+IsSent n queue text c =
+    (body : Text) × (text ≡ compact_text (envelope_wire n queue (string (encode_of standard body)) c))
+
+-- one text for each message, in their order
+abbrev pub AllSent : Naming → (queue : Text) → (texts : List Text) → List Content → Type 0
+AllSent n queue [] [] = Unit {0}
+AllSent n queue [] (c ∷ cs) = ⊥
+AllSent n queue (t ∷ ts) [] = ⊥
+AllSent n queue (t ∷ ts) (c ∷ cs) = IsSent n queue t c × AllSent n queue ts cs

@@ -8,7 +8,7 @@ ghost use Rattle.canvas_sig.specs.steps.Tokens.{Appends, data_tokens};
 ghost use Rattle.canvas_message.specs.Content.{number_of};
 ghost use Rattle.canvas_message.specs.steps.Tokens.{named_tokens};
 ghost use Rattle.canvas_export.specs.Signatures.{task_id};
-ghost use Rattle.canvas_export.specs.Envelope.{delivery_wire, properties_wire, headers_wire, envelope_wire, message_text};
+ghost use Rattle.canvas_export.specs.Envelope.{delivery_wire, properties_wire, headers_wire, envelope_wire, IsSent};
 ghost use Rattle.canvas_export.specs.View.{naming};
 
 use crate::write::{
@@ -119,7 +119,7 @@ pub(crate) fn envelope_text(
     message: &Message,
 ) -> Result<Vec<u8>, AllocError>
     ensures { IfOk result
-        (λ text. text.items ≡ message_text (naming names.now) queue.now message.now) }
+        (λ text. IsSent (naming names.now) queue.now text.items message.now) }
 {
     let body = body_of(alloc, names, message)?;
     let encoded = STANDARD.encode(alloc, &body)?;

@@ -1,6 +1,7 @@
 //! The start of a plan as commands for Redis.
 
-ghost use Rattle.std.specs.Prelude.{◌≡◌, IfOk, map};
+ghost use Rattle.std.specs.Prelude.{◌≡◌, List, IfOk, map};
+ghost use Rattle.canvas_task.specs.Text.{Text};
 ghost use Rattle.canvas_semantics.specs.PlacedLine.{bare};
 ghost use Rattle.canvas_message.specs.Effects.{first_messages};
 ghost use Rattle.canvas_export.specs.Resp.{resp};
@@ -8,7 +9,7 @@ ghost use Rattle.canvas_export.specs.Starting.{starting};
 ghost use Rattle.canvas_export.specs.Start.{commands, start};
 ghost use Rattle.canvas_export.specs.steps.Sizes.{size_view};
 ghost use Rattle.canvas_export.specs.View.{setting, naming, naming_of};
-ghost use Rattle.canvas_export.specs.Envelope.{message_text};
+ghost use Rattle.canvas_export.specs.Envelope.{AllSent};
 
 use crate::by_script::push_script;
 use crate::by_transaction::push_transaction;
@@ -29,8 +30,8 @@ fn encode_all(
     queue: &str,
     messages: &[Message],
 ) -> Result<Vec<Vec<u8>>, AllocError>
-    ensures { IfOk result (λ texts. map (λ t. t.items) texts.items
-        ≡ map (message_text (naming names.now) queue.now) messages.now) }
+    ensures { IfOk result (λ texts. AllSent (naming names.now) queue.now
+        (map (λ t. t.items) texts.items) messages.now) }
 {
     let mut texts = Vec::new(alloc);
     for message in messages {
@@ -41,9 +42,8 @@ fn encode_all(
 
 /// The texts of the messages that a plan starts with.
 fn texts_of(alloc: Global, plan: &Plan, run: &Run, queue: &str) -> Result<Vec<Vec<u8>>, Memory>
-    ensures { IfOk result (λ texts. map (λ t. t.items) texts.items
-        ≡ map (message_text (naming_of run.now.digits plan.now) queue.now)
-        (first_messages plan.now)) }
+    ensures { IfOk result (λ texts. AllSent (naming_of run.now.digits plan.now) queue.now
+        (map (λ t. t.items) texts.items) (first_messages plan.now)) }
 {
     let messages = first_messages(alloc, plan)?;
     let names = Names { run, plan };
@@ -106,10 +106,11 @@ pub fn export(
     run: &Run,
     target: &Target<'_>,
 ) -> Result<Vec<u8>, Memory>
-    ensures { IfOk result (λ bytes. bytes.items
-        ≡ resp (start run.now.digits (setting target.now) (starting (bare plan.now))
-        (map (message_text (naming_of run.now.digits plan.now) target.now.queue.now)
-        (first_messages plan.now)))) }
+    ensures { IfOk result (λ bytes. (texts : List Text)
+        × AllSent (naming_of run.now.digits plan.now) target.now.queue.now texts
+        (first_messages plan.now)
+        × (bytes.items ≡ resp (start run.now.digits (setting target.now)
+        (starting (bare plan.now)) texts))) }
 {
     let texts = texts_of(alloc, plan, run, target.queue)?;
     let sizes = sizes_of(alloc, plan)?;
