@@ -1,7 +1,7 @@
 //! Labels of a picture.
 
 use canvas_rewrite::FrozenTask;
-use canvas_task::{Arg, Outcome};
+use canvas_task::{Arg, Fault, Outcome};
 use std::alloc::{AllocError, Global};
 
 /// How many characters of a text, and how many items of a list, are shown.
@@ -61,6 +61,18 @@ fn push_arguments(label: &mut String, task: &FrozenTask) -> Result<(), AllocErro
     Ok(())
 }
 
+/// An exception; of a chord in two lines, with the number of the member that failed.
+fn push_fault(label: &mut String, fault: &Fault) -> Result<(), AllocError> {
+    match fault {
+        Fault::Plain(kind) => write!(label, "\nFAILURE {kind}")?,
+        Fault::Chord { dep, why } => {
+            let number = dep.get();
+            write!(label, "\nFAILURE ChordError:\n{number} raised {why}")?;
+        }
+    }
+    Ok(())
+}
+
 /// A task's number, its call, whether it takes no input, and what came of it where it was run.
 pub(crate) fn label_of(
     alloc: Global,
@@ -79,7 +91,7 @@ pub(crate) fn label_of(
         None => (),
         Some(None) => label.push_str("\nPENDING")?,
         Some(Some(Outcome::Success(value))) => write!(label, "\nSUCCESS {value}")?,
-        Some(Some(Outcome::Failure(fault))) => write!(label, "\nFAILURE {fault}")?,
+        Some(Some(Outcome::Failure(fault))) => push_fault(&mut label, fault)?,
     }
     Ok(label)
 }
