@@ -1,6 +1,5 @@
 //! Why the program ends without all that it was asked for.
 
-use crate::celery::CeleryRefusal;
 use canvas_engine::{Cause, EntryFault, RunFault};
 use canvas_sig::SigFault;
 use canvas_task::Memory;
@@ -21,8 +20,6 @@ pub(crate) enum Refusal<'w> {
     BadWorkers,
     BadTurn,
     BadAgain,
-    /// A run on Celery's workers, or its results.
-    Celery(CeleryRefusal),
     Memory,
     Stopped,
     CannotWrite,
@@ -105,7 +102,6 @@ impl fmt::Display for Refusal<'_> {
             Refusal::BadWorkers => writeln!(f, "canvas: refused BadWorkers"),
             Refusal::BadTurn => writeln!(f, "canvas: refused BadTurn"),
             Refusal::BadAgain => writeln!(f, "canvas: refused BadAgain"),
-            Refusal::Celery(refusal) => writeln!(f, "canvas: refused {refusal}"),
             Refusal::Memory => writeln!(f, "canvas: memory refused"),
             Refusal::Stopped => writeln!(f, "canvas: stopped"),
             Refusal::CannotWrite => writeln!(f, "canvas: cannot write"),

@@ -1,6 +1,5 @@
 //! The words of the command line.
 
-use crate::celery::{CeleryVerb, celery_commands};
 use crate::finding::check_command;
 use crate::graph::graph_command;
 use crate::help::{NOTES, SHORT_NOTES};
@@ -44,8 +43,6 @@ pub(crate) enum Verb<'w> {
         workers: u32,
         turns: &'w str,
     },
-    /// Its start or its results on Celery's own workers.
-    Celery(CeleryVerb<'w>),
 }
 
 impl<'w> Verb<'w> {
@@ -73,7 +70,7 @@ impl<'w> Verb<'w> {
                 workers: given.get_one::<u32>("workers")?,
                 turns: given.get_str("turns").unwrap_or(""),
             }),
-            _ => Some(Verb::Celery(CeleryVerb::of(name, given)?)),
+            _ => None,
         }
     }
 }
@@ -188,7 +185,7 @@ fn program<'a>(alloc: Global) -> Result<Command<'a>, Error> {
         .subcommand(check_command(alloc)?)?
         .subcommand(graph_command(alloc)?)?
         .subcommand(messages_command(alloc)?)?;
-    celery_commands(alloc, program)
+    Ok(program)
 }
 
 /// Reads the words behind the program's name.

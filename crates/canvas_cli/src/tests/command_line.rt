@@ -20,9 +20,6 @@ Commands:
   check     Prints the figures of a canvas, or where it is refused and what is wanted there
   graph     Prints a canvas as a picture, in the language of Graphviz's `dot`
   messages  Prints each message that a run by turns publishes, as JSON with its three texts
-  export    Prints the commands for Redis that start a canvas on Celery's workers
-  keys      Prints the keys of a canvas's results on Redis, one a line
-  collect   Prints the report of a canvas from its results on standard input, one a line
   help      Print this message or the help of the given subcommand(s)
 
 ";
@@ -102,7 +99,7 @@ Options:
 
 const NO_COMMAND: &str = "\
 error: 'canvas' requires a subcommand but one was not provided
-  [subcommands: run, turns, normal, check, graph, messages, export, keys, collect, help]
+  [subcommands: run, turns, normal, check, graph, messages, help]
 
 Usage: canvas <COMMAND>
 

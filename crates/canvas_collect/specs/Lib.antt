@@ -1,3 +1,0 @@
-pub mod Stored
-pub mod Completed
-pub mod steps
