@@ -1,6 +1,7 @@
 -- What contracts see of a pass, and what the calls of a broker tell: the clauses of
 -- canvas_history's Callers, at the queue (Lamport's sequential consistency).
---     CallerAt I E       a caller of a queue of E that I names. It is a Pass E where that is a broker, and a Knowledge E where the broker is left out
+--     CallerAt I E       a caller of a queue of E that I names. It is a Pass E where that is a
+--                        broker, and a Knowledge E where the broker is left out
 --     Stands, Parted, Owes, CouldStand, IsHistory    as they are said of callers
 --     Took p es p'       the takes of es stand side by side, and p is p' from then on
 --     Empties p          where no other caller is live, what p has seen replays to the empty queue

@@ -15,6 +15,3 @@ pub use broker::Broker;
 pub use pass::BrokerPass;
 pub use plain::PlainBroker;
 pub use refused::Refused;
-
-#[cfg(test)]
-mod tests;

@@ -1,14 +1,18 @@
 -- What a run promises, whatever the number of workers and the order of their calls or turns: each
 -- task has the state that evaluating the canvas gives, as the Canvas user guide has it. A run that
 -- ended early has rows that are pending, or these.
---     AreWorkers n, AreTurns n turns         1 to 16 workers, and each turn is of one of them; IsAsked says both
+--     AreWorkers n, AreTurns n turns         1 to 16 workers, and each turn is of one of them;
+--                                            IsAsked says both
 --     IsThreadFault n states fault           why a run on threads has no whole report
---     IsWholeRun l n turns rows              rows of a run by these turns, and then in rotation, that went on until all workers had ended
+--     IsWholeRun l n turns rows              rows of a run by these turns, and then in rotation,
+--                                            that went on until all workers had ended
 --     IsWholeWithin l n turns most rows      of at most so many steps
 --     IsWholeAgain l n turns es rows m       of a run in which entries say what is delivered again,
 --                                            and how many of its stores answered Again
---     IsCut l n turns steps rows             rows of a run that was cut off after so many steps, with some worker that had not ended
---     IsRunFault, IsFaultWithin              why a run by turns, and one of at most so many steps, has no whole report
+--     IsCut l n turns steps rows             rows of a run that was cut off after so many steps,
+--                                            with some worker that had not ended
+--     IsRunFault, IsFaultWithin              why a run by turns, and one of at most so many steps,
+--                                            has no whole report
 -- A run on threads that has a whole report has the promise of Headline, and shows Evidence.
 use Rattle.std.specs.Prelude.{◌≡◌, ◌≤◌, ℕ, List, All, length, Option, Some, None}
 use Rattle.canvas_task.specs.Apply.{Behaviour}

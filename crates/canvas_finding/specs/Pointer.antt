@@ -1,4 +1,5 @@
--- The text of steps into a signature of Celery, as `json.dumps` writes it: a JSON Pointer (RFC 6901).
+-- The text of steps into a signature of Celery, as `json.dumps` writes it: a JSON Pointer (RFC
+-- 6901).
 use Rattle.std.specs.Prelude.{ℕ, ◌^◌, ◌<◌, List, [], ◌∷◌, ◌++◌, Option, Some, None, codes}
 use Rattle.std.specs.Fmt.{decimal}
 use Rattle.canvas_task.specs.Text.{Text}

@@ -3,14 +3,18 @@
 -- and R their replies.
 --     Caller I C R              a caller
 --     told p                    what it has seen, with the joins that it owes
---     Follows p es log          the history log is what p has seen, entries by others, the joins that p owes, and then the entries es
---     Stands p e p'             the call e stands in the history, and p is p' from then on. StandTogether says it of entries side by side
---     CouldStand p e            the call e stands in some history that goes on from what p has seen, though p keeps no more than that
+--     Follows p es log          the history log is what p has seen, entries by others, the joins
+--                               that p owes, and then the entries es
+--     Stands p e p'             the call e stands in the history, and p is p' from then on.
+--                               StandTogether says it of entries side by side
+--     CouldStand p e            the call e stands in some history that goes on from what p has
+--                               seen, though p keeps no more than that
 --     Parted p p' q             p has made the caller q
 --     Joined p q p'             p has taken in q, by a join that stands in the history
 --     Owes p q p'               p has taken in q, by a join that stands before its next entry
 --     Adds p es p'              of p's own entries, p' has those that p had, and then these
---     IsHistory p, LeavesOne p  what p has seen is legal; where all others have been taken in, the first caller is the only one that is live
+--     IsHistory p, LeavesOne p  what p has seen is legal; where all others have been taken in, the
+--                               first caller is the only one that is live
 use Rattle.std.specs.Prelude.{◌≡◌, ℕ, List, [], ◌∷◌, ◌++◌, ◌⊎◌, length}
 use Rattle.canvas_history.specs.History.{Entry, split, join, live_from, split_off, made_by, AllJoined, Sole, NoneBy, Since, Legal}
 

@@ -2,9 +2,13 @@
 -- one order. That each call stands in one such order, in its caller's own, is Lamport's sequential
 -- consistency (How to make a multiprocessor computer, 1979), here for callers that make and take in
 -- others.
---     Entry C R              one entry of a history: a caller makes another, takes one in, or makes a call C with the reply R. Callers are numbers, and 0 is the first
---     live, split_off, taken_in log    the callers that are live after the history, in the order of their making; those that a `split` names, and those that a `join` takes in
---     heir log c             the caller as whose own the calls of c count: c, or the one that took it in, or the one that took that one in
+--     Entry C R              one entry of a history: a caller makes another, takes one in, or makes
+--                            a call C with the reply R. Callers are numbers, and 0 is the first
+--     live, split_off, taken_in log    the callers that are live after the history, in the order of
+--                                      their making; those that a `split` names, and those that a
+--                                      `join` takes in
+--     heir log c             the caller as whose own the calls of c count: c, or the one that took
+--                            it in, or the one that took that one in
 --     made_by p log          the entries by p itself
 --     replay log             the object's state after the history
 --     Allowed log e          the entry e may follow the history
@@ -12,7 +16,8 @@
 --     Sole log p             no other caller than p is live
 --     AllJoined log          each caller but the first has been taken in
 --     NoneBy cs es, AllOthers p es    no entry is by one of the callers, or by p
---     Since cs log seen      the history goes on from that beginning with no entry by one of the callers
+--     Since cs log seen      the history goes on from that beginning with no entry by one of the
+--                            callers
 use Rattle.std.specs.Prelude.{◌≡◌, ℕ, Bool, true, false, cond, not, ◌||◌, List, [], ◌∷◌, ◌++◌, filter, ◌==◌}
 
 pub data Entry (C R : Type 0) : Type 0 where

@@ -1,4 +1,5 @@
 pub mod Tokens
+pub mod Texts
 pub mod Parts
 pub mod Walks
 pub mod FrozenReading

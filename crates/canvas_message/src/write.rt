@@ -1,6 +1,8 @@
-//! Writing messages as tokens of JSON.
+//! Writing messages: as tokens of JSON, and light ones as text.
 
 pub(crate) mod embed;
 mod frozen;
-pub(crate) mod identifiers;
+mod identifiers;
+pub(crate) mod light;
 mod pieces;
+mod text;

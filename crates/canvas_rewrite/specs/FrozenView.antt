@@ -99,12 +99,14 @@ place_step p = place_carrying p.group p.chord
 
 abbrev pub p_task_view : frozen_task.FrozenTask → PTask
 p_task_view =
-    frozen_task.fold-FrozenTask PCarried PLine PLine PTask PPlace carried_step p_end_step p_line_step
+    frozen_task.fold-FrozenTask PCarried PLine PLine PTask PPlace
+    carried_step p_end_step p_line_step
     p_task_step place_step
 
 abbrev pub p_line_view : frozen_line.FrozenLine → PLine
 p_line_view =
-    frozen_line.fold-FrozenLine PCarried PLine PLine PTask PPlace carried_step p_end_step p_line_step
+    frozen_line.fold-FrozenLine PCarried PLine PLine PTask PPlace
+    carried_step p_end_step p_line_step
     p_task_step place_step
 
 abbrev pub p_end_view : frozen_end.FrozenEnd → PLine

@@ -42,7 +42,8 @@ abbrev pub product_whole : Content
 product_whole =
     record {
       parent = Some 1;
-      own = p_task 2 (call (codes "tasks.mul") (arg.Num (pos 8) ∷ arg.Num (pos 8) ∷ [])) no_p_tasks no_p_tasks p_nowhere;
+      own = p_task 2 (call (codes "tasks.mul") (arg.Num (pos 8) ∷ arg.Num (pos 8) ∷ []))
+          no_p_tasks no_p_tasks p_nowhere;
       rest = p_stop;
     }
 

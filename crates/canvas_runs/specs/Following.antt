@@ -1,8 +1,10 @@
 -- What it is for a worker's pass and seat to have followed a core run, from where they stood
 -- (Lamport's sequential consistency, told by one caller).
---     Makes p cs q           the pass p has made these broker calls and is q then: each stands in the one legal history of its queue, after all that p had seen
+--     Makes p cs q           the pass p has made these broker calls and is q then: each stands in
+--                            the one legal history of its queue, after all that p had seen
 --     Serves plan s cs t     the same of a seat and its backend calls
---     Followed behaviour plan w v   from w on the worker's pass and seat have followed a core run, and it is v then
+--     Followed behaviour plan w v   from w on the worker's pass and seat have followed a core run,
+--                                   and it is v then
 use Rattle.std.specs.Prelude.{◌+◌, ◌≡◌, true, false, List, [], ◌∷◌, length, map, Option, Some, None}
 use Rattle.canvas_task.specs.Apply.{Behaviour}
 use Rattle.canvas_task.specs.declared.outcome.Outcome.{Outcome}
@@ -105,6 +107,7 @@ pub record Followed (behaviour : Behaviour) (plan : Roster) (w v : Working) : Ty
   pub made : List (BrokerCall Envelope)
   pub stood : Each Stood made
   pub follows : FollowsScripts w.current (map Some w.held) (core_calls run) made
-  pub used : length w.held + total takes_one made ≡ total takes_one (broker_calls run) + length v.held
+  pub used : length w.held + total takes_one made ≡ total takes_one (broker_calls run)
+      + length v.held
   pub makes : Makes w.pass made v.pass
   pub serves : Serves plan w.seat (backend_calls run) v.seat

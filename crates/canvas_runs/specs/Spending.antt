@@ -4,8 +4,9 @@
 -- the first unspent entry for it, if there is one: within the same turn, before its ask is
 -- answered, it has the envelope delivered again. So one entry at most is spent at each point.
 -- Below, the behaviour and the plan are left out:
---     TurnedAgain n before es us xs rest    after the steps before, with the entries es unspent, the turns us are taken, xs are the steps that they make, and
---                                           the entries rest stay unspent
+--     TurnedAgain n before es us xs rest    after the steps before, with the entries es unspent,
+--                                           the turns us are taken, xs are the steps that they
+--                                           make, and the entries rest stay unspent
 --     RunEntries es m     m of the entries are of tasks that evaluation runs
 use Rattle.std.specs.Prelude.{ℕ, suc, ◌≡◌, ◌≤◌, eqb, cond, Bool, true, false, ◌||◌, ◌+◌, List, [], ◌∷◌, ◌++◌, length, Option, Some, None}
 use Rattle.canvas_task.specs.Apply.{Behaviour}

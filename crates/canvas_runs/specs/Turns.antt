@@ -4,13 +4,20 @@
 -- turns in rotation, from 1 to n and again, until all have ended. A worker that has ended skips its
 -- turn. Below, the behaviour and the plan are left out:
 --     Step                  a worker's ask with its answer
---     left, holds, queue_after, results_after    what a worker has left to do, the envelope of its open script, what is queued and what is stored after these steps
---     Answers n before a r    the reply r to the ask a is what the queue and the table say at that time; a worker that asks whether there will be more
---                           to do is told so while something is queued or some worker is inside the script of a message
---     Turned n before us xs    after the steps before, the turns us are taken, and the steps xs are those that they make
+--     left, holds, queue_after, results_after    what a worker has left to do, the envelope of its
+--                                                open script, what is queued and what is stored
+--                                                after these steps
+--     Answers n before a r    the reply r to the ask a is what the queue and the table say at that
+--                             time; a worker that asks whether there will be more to do is told so
+--                             while something is queued or some worker is inside the script of a
+--                             message
+--     Turned n before us xs    after the steps before, the turns us are taken, and the steps xs are
+--                              those that they make
 --     AllEnded n before   after these steps no worker asks for anything more
---     RanWhole n ts       the turns of the list and then as many rounds as it takes until all have ended
---     RanUntil n ts steps    the turns of the list, and then turns in rotation, up to so many steps, with some worker that has not ended
+--     RanWhole n ts       the turns of the list and then as many rounds as it takes until all have
+--                         ended
+--     RanUntil n ts steps    the turns of the list, and then turns in rotation, up to so many
+--                            steps, with some worker that has not ended
 use Rattle.std.specs.Prelude.{ℕ, zero, suc, ◌≡◌, ◌≤◌, ◌||◌, Bool, true, false, List, [], ◌∷◌, ◌++◌, map, length, Option, Some, None}
 use Rattle.canvas_task.specs.Apply.{Behaviour}
 use Rattle.canvas_task.specs.declared.outcome.Outcome.{Outcome}

@@ -92,7 +92,10 @@ module _ (behaviour : Behaviour) where
 
   abbrev pub task_meaning : Task → Flow → Meaning
   task_meaning (task k call links errbacks) x =
-      record { rows = task_rows (task k call links errbacks) (Some x); out = passed_on (state behaviour call (Some x)) }
+      record {
+        rows = task_rows (task k call links errbacks) (Some x);
+        out = passed_on (state behaviour call (Some x));
+      }
 
 -- ---- the ends of an element, and what goes out of a group
 

@@ -29,7 +29,8 @@ call_numbers_ok c = list_all arg_ok c.args && list_all (λ e. arg_ok e.1) c.kwar
 
 abbrev pub call_fault : Call → Option SigFault
 call_fault c =
-    fault_if (not (name_ok c.name)) NotSignature or_else fault_if (not (call_numbers_ok c)) BadNumber
+    fault_if (not (name_ok c.name)) NotSignature
+    or_else fault_if (not (call_numbers_ok c)) BadNumber
 
 abbrev pub its_call : Task → Call
 its_call (task k call links errbacks) = call

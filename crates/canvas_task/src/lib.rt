@@ -38,6 +38,3 @@ pub use table::{apply, checked, in_range};
 pub use task::{Task, Tasks};
 pub use text_of::TextOf;
 pub use word::{outcome_of, word_of};
-
-#[cfg(test)]
-mod tests;

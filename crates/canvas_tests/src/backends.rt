@@ -6,6 +6,7 @@ ghost use Rattle.canvas_task.specs.Apply.{IsInRange};
 ghost use Rattle.canvas_backend.specs.Backend.{no_results};
 ghost use Rattle.canvas_backend.specs.Plain.{held};
 
+use crate::cores::{group, task};
 use canvas_backend::{Backend, BackendSeat, PlainBackend, Stored};
 use canvas_rewrite::Plan;
 use canvas_samples::sample::plan_of;
@@ -113,15 +114,11 @@ fn plain_parts(
 fn by_hand(alloc: Global) -> Option<(u64, u64, u64)> {
     let plan = plan_of(alloc, CHORD)?;
     let mut backend = PlainBackend::new(alloc, &plan).ok()?;
-    let group = GroupNo::new(1)?;
-    let one = TaskNo::new(1)?;
-    let two = TaskNo::new(2)?;
-    let three = TaskNo::new(3)?;
-    let body = TaskNo::new(4)?;
-    if !plain_says(&backend, group, GroupNo::new(2)?, two) || backend.knows(TaskNo::new(6)?) {
+    let (chord, two) = (group(1), task(2));
+    if !plain_says(&backend, chord, group(2), two) || backend.knows(task(6)) {
         return None;
     }
-    plain_parts(&mut backend, group, one, two, three, body)
+    plain_parts(&mut backend, chord, task(1), two, task(3), task(4))
 }
 
 #[test]
@@ -189,15 +186,11 @@ fn stores_and_returns(
 fn by_seats(alloc: Global) -> Option<((u64, u64, u64), Option<Outcome>)> {
     let plan = plan_of(alloc, CHORD)?;
     let (backend, mut seat) = Backend::new(alloc, &plan).ok()?;
-    let group = GroupNo::new(1)?;
-    let one = TaskNo::new(1)?;
-    let two = TaskNo::new(2)?;
-    let three = TaskNo::new(3)?;
-    let body = TaskNo::new(4)?;
-    if !says(&backend, group, GroupNo::new(2)?, two) || backend.knows(TaskNo::new(6)?) {
+    let (chord, two) = (group(1), task(2));
+    if !says(&backend, chord, group(2), two) || backend.knows(task(6)) {
         return None;
     }
-    let counts = parts(&backend, &mut seat, group, one, two, three, body)?;
+    let counts = parts(&backend, &mut seat, chord, task(1), two, task(3), task(4))?;
     let mut other = backend.split(&mut seat).ok()?;
     let read = if backend.knows(two) {
         backend.read(&mut other, two)
@@ -234,7 +227,7 @@ fn comes_back(backend: &Backend, seat: &mut BackendSeat, task: TaskNo, outcome: 
 fn all_come_back(alloc: Global) -> Option<bool> {
     let plan = plan_of(alloc, CHORD)?;
     let (backend, mut seat) = Backend::new(alloc, &plan).ok()?;
-    let two = TaskNo::new(2)?;
+    let two = task(2);
     let fault = Fault::Chord {
         dep: two,
         why: Why::Plain(Kind::ZeroDivision),
@@ -243,16 +236,11 @@ fn all_come_back(alloc: Global) -> Option<bool> {
     let greatest = Outcome::Success(1152921504606846976);
     let bad_call = Outcome::Failure(Fault::Plain(Kind::BadCall));
     Some(
-        comes_back(&backend, &mut seat, TaskNo::new(1)?, &least)
+        comes_back(&backend, &mut seat, task(1), &least)
             && comes_back(&backend, &mut seat, two, &greatest)
-            && comes_back(&backend, &mut seat, TaskNo::new(3)?, &Outcome::Success(0))
-            && comes_back(&backend, &mut seat, TaskNo::new(4)?, &bad_call)
-            && comes_back(
-                &backend,
-                &mut seat,
-                TaskNo::new(5)?,
-                &Outcome::Failure(fault),
-            ),
+            && comes_back(&backend, &mut seat, task(3), &Outcome::Success(0))
+            && comes_back(&backend, &mut seat, task(4), &bad_call)
+            && comes_back(&backend, &mut seat, task(5), &Outcome::Failure(fault)),
     )
 }
 
@@ -370,7 +358,7 @@ fn in_threads<R: Threads + Sync>(rt: &R, alloc: Global) -> Option<(u32, u32)> {
     let plan = plan_of(alloc, text.as_str())?;
     let (backend, seat) = Backend::new(alloc, &plan).ok()?;
     let mut shares = dealt(alloc, &backend, seat)?;
-    do_shares(rt, &backend, GroupNo::new(1)?, shares.as_mut_slice());
+    do_shares(rt, &backend, group(1), shares.as_mut_slice());
     let mut completed = 0u32;
     let mut found = 0u32;
     for share in shares {
@@ -394,7 +382,7 @@ fn splits_and_joins(alloc: Global) -> Option<bool> {
     let (backend, mut seat) = Backend::new(alloc, &plan).ok()?;
     let other = backend.split(&mut seat).ok()?;
     backend.join(&mut seat, other);
-    Some(!backend.knows(TaskNo::new(1)?))
+    Some(!backend.knows(task(1)))
 }
 
 #[test]

@@ -1,6 +1,6 @@
 //! Cores, answered by hand: what they ask, and what they drop.
 
-ghost use Rattle.std.specs.Prelude.{◌≤◌, IfSome};
+ghost use Rattle.std.specs.Prelude.{◌≡◌, ◌≤◌, IfSome};
 ghost use Rattle.canvas_task.specs.Apply.{IsInRange};
 ghost use Rattle.canvas_worker.specs.Asks.{FoundInRange};
 
@@ -221,12 +221,14 @@ fn ends_so(alloc: Global, text: &str, rows: &[Option<Outcome>]) -> bool {
 
 pub(crate) fn task(number: u32) -> TaskNo
     requires { 1 ≤ number }
+    ensures { result ≡ number }
 {
     TaskNo::new(number).unwrap()
 }
 
 pub(crate) fn group(number: u32) -> GroupNo
     requires { 1 ≤ number }
+    ensures { result ≡ number }
 {
     GroupNo::new(number).unwrap()
 }

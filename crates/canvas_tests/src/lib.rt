@@ -24,12 +24,13 @@ mod forged_tables;
 #[cfg(test)]
 mod generated;
 #[cfg(test)]
-#[cfg(test)]
 mod lines;
 #[cfg(test)]
 mod messages;
 #[cfg(test)]
 mod plans;
+#[cfg(test)]
+mod queues;
 #[cfg(test)]
 mod reading;
 #[cfg(test)]
@@ -37,7 +38,11 @@ mod redelivery;
 #[cfg(test)]
 mod refusals;
 #[cfg(test)]
+mod registries;
+#[cfg(test)]
 mod runs;
+#[cfg(test)]
+mod tasks;
 #[cfg(test)]
 mod turns;
 #[cfg(test)]

@@ -22,156 +22,159 @@ fn other<'t>(alloc: Global, texts: &[&'t str], code: u8) -> Option<&'t str> {
     None
 }
 
-#[test]
-fn not_json(rt: HostRuntime) {
-    let texts = [
-        "",
-        " ",
-        r#"{"task":"x""#,
-        r#"{"task":"x"}}"#,
-        r#"{"task":"x"} 7"#,
-        r#"{task:"x"}"#,
-        r#"{'task':'x'}"#,
-        "\u{feff}{\"task\":\"x\"}",
-        "{\"task\":\"a\nb\"}",
-        r#"{"task":"x","args":[1e400]}"#,
-        r#"{"task":"x","ignored":1e400}"#,
-        r#"{"task":"x","args":[01]}"#,
-        r#"{"task":"x","args":[+1]}"#,
-        r#"{"task":"x","args":[1,]}"#,
-        r#"{"task":"x","args":[tru]}"#,
-        r#"{"task":"\x"}"#,
-        r#"{"task":"\ud800"}"#,
-        "NaN",
-    ];
-    assert_eq!(rt; other(rt.alloc(), &texts, 2), None);
-}
+/// Numbers of refusals, each with texts that have it.
+const REFUSED: [(u8, &[&str]); 8] = [
+    // No JSON.
+    (
+        2,
+        &[
+            "",
+            " ",
+            r#"{"task":"x""#,
+            r#"{"task":"x"}}"#,
+            r#"{"task":"x"} 7"#,
+            r#"{task:"x"}"#,
+            r#"{'task':'x'}"#,
+            "\u{feff}{\"task\":\"x\"}",
+            "{\"task\":\"a\nb\"}",
+            r#"{"task":"x","args":[1e400]}"#,
+            r#"{"task":"x","ignored":1e400}"#,
+            r#"{"task":"x","args":[01]}"#,
+            r#"{"task":"x","args":[+1]}"#,
+            r#"{"task":"x","args":[1,]}"#,
+            r#"{"task":"x","args":[tru]}"#,
+            r#"{"task":"\x"}"#,
+            r#"{"task":"\ud800"}"#,
+            "NaN",
+        ],
+    ),
+    // No signature.
+    (
+        3,
+        &[
+            "null",
+            "7",
+            r#""x""#,
+            "[]",
+            "[1]",
+            r#"[{"task":"x"}]"#,
+            "{}",
+            r#"{"task":null}"#,
+            r#"{"task":7}"#,
+            r#"{"task":["x"]}"#,
+            r#"{"task":""}"#,
+            r#"{"task":"a b"}"#,
+            r#"{"task":"caf\u00e9"}"#,
+            r#"{"task":"\u007f"}"#,
+            r#"{"task":"\ud83d\ude00"}"#,
+            r#"{"task":"x","immutable":0}"#,
+            r#"{"task":"x","immutable":"true"}"#,
+            r#"{"task":"x","task":7}"#,
+            r#"{"subtask_type":"starmap","args":7}"#,
+            r#"{"task":"x","subtask_type":"chord","kwargs":{"header":[],"body":7}}"#,
+            r#"{"task":"x","subtask_type":"chord","kwargs":{"header":[null],"body":{"task":"x"}}}"#,
+            r#"{"task":"x","options":{"link":[[]]}}"#,
+        ],
+    ),
+    // No known primitive.
+    (
+        4,
+        &[
+            r#"{"task":"x","subtask_type":"starmap"}"#,
+            r#"{"task":"x","subtask_type":""}"#,
+            r#"{"task":"x","subtask_type":"Chain"}"#,
+            r#"{"task":"x","subtask_type":7}"#,
+            r#"{"task":"x","subtask_type":true}"#,
+            r#"{"task":"x","subtask_type":["chain"]}"#,
+            r#"{"task":"x","subtask_type":"starmap","args":7}"#,
+        ],
+    ),
+    // Arguments and options of no form.
+    (
+        5,
+        &[
+            r#"{"task":"x","args":{}}"#,
+            r#"{"task":"x","args":"a"}"#,
+            r#"{"task":"x","args":true}"#,
+            r#"{"task":"x","kwargs":[]}"#,
+            r#"{"task":"x","kwargs":7}"#,
+            r#"{"task":"x","options":[]}"#,
+            r#"{"task":"x","options":"o"}"#,
+            r#"{"task":"x","args":[null]}"#,
+            r#"{"task":"x","args":[true]}"#,
+            r#"{"task":"x","args":[{}]}"#,
+            r#"{"task":"x","args":[[true]]}"#,
+            r#"{"task":"x","args":[[[1]]]}"#,
+            r#"{"task":"x","kwargs":{"a":null}}"#,
+            r#"{"task":"x","kwargs":{"a":[[]]}}"#,
+            r#"{"task":"x","options":{"link":7}}"#,
+            r#"{"task":"x","options":{"link":"x"}}"#,
+            r#"{"task":"x","options":{"link_error":false}}"#,
+            r#"{"task":"x","args":[1.5,null]}"#,
+            r#"{"task":"x","args":[[1.5,"a"]]}"#,
+            r#"{"task":"x","args":[1.5],"options":{"link":7}}"#,
+            r#"{"task":"x","options":{"link_error":7,"link":{"task":"y","args":[1.5]}}}"#,
+        ],
+    ),
+    // Primitives of no form.
+    (
+        5,
+        &[
+            r#"{"task":"x","subtask_type":"chain"}"#,
+            r#"{"task":"x","subtask_type":"chain","kwargs":{"tasks":null}}"#,
+            r#"{"task":"x","subtask_type":"group","kwargs":{"tasks":{}}}"#,
+            r#"{"task":"x","subtask_type":"chain","args":{},"kwargs":{"tasks":[]}}"#,
+            r#"{"task":"x","subtask_type":"chain","args":[1]}"#,
+            r#"{"task":"x","subtask_type":"chord","kwargs":{"body":{"task":"x"}}}"#,
+            r#"{"task":"x","subtask_type":"chord","kwargs":{"header":[]}}"#,
+            r#"{"task":"x","subtask_type":"chord","kwargs":{"header":[7],"body":null}}"#,
+            r#"{"task":"x","subtask_type":"chord","kwargs":{"header":{},"body":{"task":"x"}}}"#,
+            r#"{"task":"x","subtask_type":"chord","kwargs":{"header":{"task":"y"},"body":{"task":"x"}}}"#,
+            r#"{"task":"x","subtask_type":"chord","kwargs":{"header":{"task":"y","subtask_type":"chain","kwargs":{"tasks":[]}},"body":{"task":"x"}}}"#,
+            r#"{"task":"x","subtask_type":"chord","kwargs":{"header":{"task":"y","subtask_type":"group"},"body":{"task":"x"}}}"#,
+            r#"{"task":"x","options":{"link":{"task":"y","subtask_type":"chain"}}}"#,
+        ],
+    ),
+    // What only a task has.
+    (
+        7,
+        &[
+            r#"{"task":"x","subtask_type":"chain","args":[1],"kwargs":{"tasks":[7]}}"#,
+            r#"{"task":"x","subtask_type":"group","args":[null],"kwargs":{"tasks":[]}}"#,
+            r#"{"task":"x","subtask_type":"group","immutable":true,"kwargs":{"tasks":[]}}"#,
+            r#"{"task":"x","subtask_type":"group","options":{"link":{}},"kwargs":{"tasks":[]}}"#,
+            r#"{"task":"x","subtask_type":"chord","options":{"link_error":[7]},"kwargs":{"header":[],"body":{"task":"x"}}}"#,
+            r#"{"task":"x","subtask_type":"chain","args":[1],"options":{"chord":1},"kwargs":{"tasks":[]}}"#,
+            r#"{"task":"x","options":{"link":[{"task":"y","subtask_type":"chain","kwargs":{"tasks":[]}}]}}"#,
+            r#"{"task":"x","options":{"link_error":{"task":"y","subtask_type":"group","kwargs":{"tasks":[]}}}}"#,
+            r#"{"task":"x","subtask_type":"chord","kwargs":{"header":{"task":"y","subtask_type":"group","args":[1],"kwargs":{"tasks":[]}},"body":7}}"#,
+        ],
+    ),
+    // Frozen signatures.
+    (
+        8,
+        &[
+            r#"{"task":"x","options":{"chord":{}}}"#,
+            r#"{"task":"x","options":{"chord":false}}"#,
+            r#"{"task":"x","subtask_type":"chain","options":{"chord":0},"kwargs":{"tasks":[]}}"#,
+            r#"{"task":"x","subtask_type":"chord","kwargs":{"header":{"task":"y","subtask_type":"group","options":{"chord":1},"kwargs":{"tasks":[7]}},"body":7}}"#,
+        ],
+    ),
+    // Chains of nothing.
+    (
+        9,
+        &[
+            r#"{"task":"x","subtask_type":"chain","kwargs":{"tasks":[]}}"#,
+            r#"{"task":"x","subtask_type":"group","kwargs":{"tasks":[{"task":"x","subtask_type":"chain","kwargs":{"tasks":[]}},7]}}"#,
+        ],
+    ),
+];
 
 #[test]
-fn not_a_signature(rt: HostRuntime) {
-    let texts = [
-        "null",
-        "7",
-        r#""x""#,
-        "[]",
-        "[1]",
-        r#"[{"task":"x"}]"#,
-        "{}",
-        r#"{"task":null}"#,
-        r#"{"task":7}"#,
-        r#"{"task":["x"]}"#,
-        r#"{"task":""}"#,
-        r#"{"task":"a b"}"#,
-        r#"{"task":"caf\u00e9"}"#,
-        r#"{"task":"\u007f"}"#,
-        r#"{"task":"\ud83d\ude00"}"#,
-        r#"{"task":"x","immutable":0}"#,
-        r#"{"task":"x","immutable":"true"}"#,
-        r#"{"task":"x","task":7}"#,
-        r#"{"subtask_type":"starmap","args":7}"#,
-        r#"{"task":"x","subtask_type":"chord","kwargs":{"header":[],"body":7}}"#,
-        r#"{"task":"x","subtask_type":"chord","kwargs":{"header":[null],"body":{"task":"x"}}}"#,
-        r#"{"task":"x","options":{"link":[[]]}}"#,
-    ];
-    assert_eq!(rt; other(rt.alloc(), &texts, 3), None);
-}
-
-#[test]
-fn unknown_primitives(rt: HostRuntime) {
-    let texts = [
-        r#"{"task":"x","subtask_type":"starmap"}"#,
-        r#"{"task":"x","subtask_type":""}"#,
-        r#"{"task":"x","subtask_type":"Chain"}"#,
-        r#"{"task":"x","subtask_type":7}"#,
-        r#"{"task":"x","subtask_type":true}"#,
-        r#"{"task":"x","subtask_type":["chain"]}"#,
-        r#"{"task":"x","subtask_type":"starmap","args":7}"#,
-    ];
-    assert_eq!(rt; other(rt.alloc(), &texts, 4), None);
-}
-
-#[test]
-fn arguments_of_no_form(rt: HostRuntime) {
-    let texts = [
-        r#"{"task":"x","args":{}}"#,
-        r#"{"task":"x","args":"a"}"#,
-        r#"{"task":"x","args":true}"#,
-        r#"{"task":"x","kwargs":[]}"#,
-        r#"{"task":"x","kwargs":7}"#,
-        r#"{"task":"x","options":[]}"#,
-        r#"{"task":"x","options":"o"}"#,
-        r#"{"task":"x","args":[null]}"#,
-        r#"{"task":"x","args":[true]}"#,
-        r#"{"task":"x","args":[{}]}"#,
-        r#"{"task":"x","args":[[true]]}"#,
-        r#"{"task":"x","args":[[[1]]]}"#,
-        r#"{"task":"x","kwargs":{"a":null}}"#,
-        r#"{"task":"x","kwargs":{"a":[[]]}}"#,
-        r#"{"task":"x","options":{"link":7}}"#,
-        r#"{"task":"x","options":{"link":"x"}}"#,
-        r#"{"task":"x","options":{"link_error":false}}"#,
-        r#"{"task":"x","args":[1.5,null]}"#,
-        r#"{"task":"x","args":[[1.5,"a"]]}"#,
-        r#"{"task":"x","args":[1.5],"options":{"link":7}}"#,
-        r#"{"task":"x","options":{"link_error":7,"link":{"task":"y","args":[1.5]}}}"#,
-    ];
-    assert_eq!(rt; other(rt.alloc(), &texts, 5), None);
-}
-
-#[test]
-fn primitives_of_no_form(rt: HostRuntime) {
-    let texts = [
-        r#"{"task":"x","subtask_type":"chain"}"#,
-        r#"{"task":"x","subtask_type":"chain","kwargs":{"tasks":null}}"#,
-        r#"{"task":"x","subtask_type":"group","kwargs":{"tasks":{}}}"#,
-        r#"{"task":"x","subtask_type":"chain","args":{},"kwargs":{"tasks":[]}}"#,
-        r#"{"task":"x","subtask_type":"chain","args":[1]}"#,
-        r#"{"task":"x","subtask_type":"chord","kwargs":{"body":{"task":"x"}}}"#,
-        r#"{"task":"x","subtask_type":"chord","kwargs":{"header":[]}}"#,
-        r#"{"task":"x","subtask_type":"chord","kwargs":{"header":[7],"body":null}}"#,
-        r#"{"task":"x","subtask_type":"chord","kwargs":{"header":{},"body":{"task":"x"}}}"#,
-        r#"{"task":"x","subtask_type":"chord","kwargs":{"header":{"task":"y"},"body":{"task":"x"}}}"#,
-        r#"{"task":"x","subtask_type":"chord","kwargs":{"header":{"task":"y","subtask_type":"chain","kwargs":{"tasks":[]}},"body":{"task":"x"}}}"#,
-        r#"{"task":"x","subtask_type":"chord","kwargs":{"header":{"task":"y","subtask_type":"group"},"body":{"task":"x"}}}"#,
-        r#"{"task":"x","options":{"link":{"task":"y","subtask_type":"chain"}}}"#,
-    ];
-    assert_eq!(rt; other(rt.alloc(), &texts, 5), None);
-}
-
-#[test]
-fn what_only_a_task_has(rt: HostRuntime) {
-    let texts = [
-        r#"{"task":"x","subtask_type":"chain","args":[1],"kwargs":{"tasks":[7]}}"#,
-        r#"{"task":"x","subtask_type":"group","args":[null],"kwargs":{"tasks":[]}}"#,
-        r#"{"task":"x","subtask_type":"group","immutable":true,"kwargs":{"tasks":[]}}"#,
-        r#"{"task":"x","subtask_type":"group","options":{"link":{}},"kwargs":{"tasks":[]}}"#,
-        r#"{"task":"x","subtask_type":"chord","options":{"link_error":[7]},"kwargs":{"header":[],"body":{"task":"x"}}}"#,
-        r#"{"task":"x","subtask_type":"chain","args":[1],"options":{"chord":1},"kwargs":{"tasks":[]}}"#,
-        r#"{"task":"x","options":{"link":[{"task":"y","subtask_type":"chain","kwargs":{"tasks":[]}}]}}"#,
-        r#"{"task":"x","options":{"link_error":{"task":"y","subtask_type":"group","kwargs":{"tasks":[]}}}}"#,
-        r#"{"task":"x","subtask_type":"chord","kwargs":{"header":{"task":"y","subtask_type":"group","args":[1],"kwargs":{"tasks":[]}},"body":7}}"#,
-    ];
-    assert_eq!(rt; other(rt.alloc(), &texts, 7), None);
-}
-
-#[test]
-fn frozen_signatures(rt: HostRuntime) {
-    let texts = [
-        r#"{"task":"x","options":{"chord":{}}}"#,
-        r#"{"task":"x","options":{"chord":false}}"#,
-        r#"{"task":"x","subtask_type":"chain","options":{"chord":0},"kwargs":{"tasks":[]}}"#,
-        r#"{"task":"x","subtask_type":"chord","kwargs":{"header":{"task":"y","subtask_type":"group","options":{"chord":1},"kwargs":{"tasks":[7]}},"body":7}}"#,
-    ];
-    assert_eq!(rt; other(rt.alloc(), &texts, 8), None);
-}
-
-#[test]
-fn chains_of_nothing(rt: HostRuntime) {
-    let texts = [
-        r#"{"task":"x","subtask_type":"chain","kwargs":{"tasks":[]}}"#,
-        r#"{"task":"x","subtask_type":"group","kwargs":{"tasks":[{"task":"x","subtask_type":"chain","kwargs":{"tasks":[]}},7]}}"#,
-    ];
-    assert_eq!(rt; other(rt.alloc(), &texts, 9), None);
+fn refused_texts(rt: HostRuntime) {
+    for (code, texts) in REFUSED {
+        assert_eq!(rt; other(rt.alloc(), texts, code), None, "{code}");
+    }
 }
 
 /// Whether the number of a canvas in the short notation is this one.
@@ -183,7 +186,7 @@ fn is_coded(alloc: Global, notation: &str, code: u8) -> bool {
 }
 
 #[test]
-fn groups_in_groups(rt: HostRuntime) {
+fn nested_too_far(rt: HostRuntime) {
     for (notation, code) in [
         ("G(G(x))", 10),
         ("G(H[x|G(x)])", 10),
@@ -194,14 +197,6 @@ fn groups_in_groups(rt: HostRuntime) {
         ("C(G(x),G(x))", 0),
         ("G(C(G(x),x))", 0),
         ("C(7,G(G(x)))", 3),
-    ] {
-        assert!(rt; is_coded(rt.alloc(), notation, code), "{notation}");
-    }
-}
-
-#[test]
-fn too_deep(rt: HostRuntime) {
-    for (notation, code) in [
         ("C(x)", 0),
         ("C(C(x))", 0),
         ("C(C(C(x)))", 0),

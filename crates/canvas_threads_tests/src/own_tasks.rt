@@ -1,4 +1,5 @@
-//! Tasks that the caller hands in: the six and one more, or the six alone, on threads and by turns.
+//! Tasks that the caller hands in: three of the six and one more, or the six alone, on threads and by
+//! turns.
 
 ghost use Rattle.std.specs.Prelude.{◌-ℤ◌, Ok};
 
@@ -6,8 +7,8 @@ use canvas_engine::{run, run_turns};
 use canvas_rewrite::Plan;
 use canvas_samples::sample::plan_of;
 use canvas_task::{
-    Add, Div, Fault, Ident, Kind, LogError, Mul, OfTwo, Outcome, SixTasks, TaskOfTwo, Tasks, Xsum,
-    registry_of,
+    Add, AddFault, Div, Fault, Ident, Kind, LogError, Mul, OfTwo, Outcome, Registry, SixTasks,
+    TaskOfTwo, Tasks, Xsum, registry_of,
 };
 use canvas_worker::{OpenGate, Stop};
 use std::alloc::{AllocGlobal, Global};
@@ -93,28 +94,45 @@ where
     None
 }
 
-#[test]
-fn a_task_that_was_added(rt: HostRuntime) -> Result<(), Fail> {
-    let alloc = rt.alloc();
+fn six_tasks(alloc: Global) -> Result<Registry, AddFault> {
+    registry_of!(alloc; Add, Mul, Div, Xsum, Ident, LogError)
+}
+
+/// Three of the six, and the difference.
+fn with_difference(alloc: Global) -> Result<Registry, AddFault> {
     let sub = TaskOfTwo {
         name: "tests.sub",
         parameters: ("x", "y"),
         answers: Difference,
     };
-    let registry = registry_of!(alloc; Add, Mul, Div, Xsum, Ident, LogError, sub)?;
-    let plan = plan_of(alloc, SUB_THEN_MUL).ok_or("no plan")?;
+    registry_of!(alloc; Add, Mul, LogError, sub)
+}
+
+/// Whether all runs of the canvas with these tasks give these states.
+fn always<R, T>(rt: &R, tasks: &T, states: &[Option<Outcome>]) -> bool
+where
+    R: Threads + Wait + RandomSource + AllocGlobal + Sync,
+    T: Tasks + Sync,
+{
+    match plan_of(rt.alloc(), SUB_THEN_MUL) {
+        Some(plan) => first_other(rt, &plan, tasks, states).is_none(),
+        None => false,
+    }
+}
+
+#[test]
+fn a_task_that_was_added(rt: HostRuntime) -> Result<(), Fail> {
+    let registry = with_difference(rt.alloc())?;
     let states = [Some(Outcome::Success(7)), Some(Outcome::Success(14))];
-    assert_eq!(rt; first_other(&rt, &plan, &registry, &states), None);
+    assert!(rt; always(&rt, &registry, &states));
     Ok(())
 }
 
 #[test]
 fn a_task_that_was_not(rt: HostRuntime) -> Result<(), Fail> {
-    let alloc = rt.alloc();
-    let registry = registry_of!(alloc; Add, Mul, Div, Xsum, Ident, LogError)?;
-    let plan = plan_of(alloc, SUB_THEN_MUL).ok_or("no plan")?;
+    let registry = six_tasks(rt.alloc())?;
     let states = [NOT_REGISTERED, NOT_REGISTERED];
-    assert_eq!(rt; first_other(&rt, &plan, &registry, &states), None);
-    assert_eq!(rt; first_other(&rt, &plan, &SixTasks, &states), None);
+    assert!(rt; always(&rt, &registry, &states));
+    assert!(rt; always(&rt, &SixTasks, &states));
     Ok(())
 }

@@ -5,6 +5,3 @@ mod stage;
 mod trace;
 
 pub use trace::{Trace, trace_of};
-
-#[cfg(test)]
-mod tests;

@@ -41,6 +41,7 @@ pub record Worked (behaviour : Behaviour) (plan : Roster) (w v : Progress) : Typ
   pub made : List (BrokerCall Envelope)
   pub stood : Each Stood made
   pub follows : FollowsScripts w.current (map Some w.held) (core_calls run) made
-  pub used : length w.held + total takes_one made ≡ total takes_one (broker_calls run) + length v.held
+  pub used : length w.held + total takes_one made ≡ total takes_one (broker_calls run)
+      + length v.held
   pub makes : Makes w.pass made v.pass
   pub serves : Serves plan w.seat (backend_calls run) v.seat

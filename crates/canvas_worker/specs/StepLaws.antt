@@ -45,7 +45,8 @@ AgainFirst =
 -- call of its own.
 abbrev pub TakenCan : Type 0
 TakenCan =
-    (p q : Pass) (e : Envelope) → Stands p (calls p.name take (Some e)) q → HasTaken (told q) q.name e
+    (p q : Pass) (e : Envelope) → Stands p (calls p.name take (Some e)) q
+    → HasTaken (told q) q.name e
 
 abbrev pub StillCan : Type 0
 StillCan =

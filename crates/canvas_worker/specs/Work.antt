@@ -48,7 +48,19 @@ pub record Work : Type 0 where
 -- a worker that has done nothing yet
 abbrev pub working_begun : SegId Global → Desk → ℕ → Pass → Seat → Work
 working_begun broker desk number pass seat =
-    record { broker = broker; desk = desk; number = number; pass = pass; seat = seat; core = new_core; held = []; taken = 0; published = 0; first = 0; parts = 0 }
+    record {
+      broker = broker;
+      desk = desk;
+      number = number;
+      pass = pass;
+      seat = seat;
+      core = new_core;
+      held = [];
+      taken = 0;
+      published = 0;
+      first = 0;
+      parts = 0;
+    }
 
 abbrev pub progress : Work → Progress
 progress w = record {
@@ -58,13 +70,31 @@ progress w = record {
   current = held w.core;
   held = w.held;
   tally =
-      record { taken = w.taken; published = w.published; first = w.first; parts = w.parts; dropped = w.core.dropped };
+      record {
+        taken = w.taken;
+        published = w.published;
+        first = w.first;
+        parts = w.parts;
+        dropped = w.core.dropped;
+      };
 }
 
 -- the same worker with its core as it is here
 abbrev pub with_core : Work → Standing → Work
 with_core w c =
-    record { broker = w.broker; desk = w.desk; number = w.number; pass = w.pass; seat = w.seat; core = c; held = w.held; taken = w.taken; published = w.published; first = w.first; parts = w.parts }
+    record {
+      broker = w.broker;
+      desk = w.desk;
+      number = w.number;
+      pass = w.pass;
+      seat = w.seat;
+      core = c;
+      held = w.held;
+      taken = w.taken;
+      published = w.published;
+      first = w.first;
+      parts = w.parts;
+    }
 
 -- its core was answered; and where memory was refused for that
 abbrev pub with_answer : Behaviour → Work → Answer → Work
@@ -76,12 +106,36 @@ lost w = with_core w (failing w.core)
 -- one more envelope was given to its core
 abbrev pub one_taken : Work → Work
 one_taken w =
-    record { broker = w.broker; desk = w.desk; number = w.number; pass = w.pass; seat = w.seat; core = w.core; held = w.held; taken = min greatest_count (w.taken + 1); published = w.published; first = w.first; parts = w.parts }
+    record {
+      broker = w.broker;
+      desk = w.desk;
+      number = w.number;
+      pass = w.pass;
+      seat = w.seat;
+      core = w.core;
+      held = w.held;
+      taken = min greatest_count (w.taken + 1);
+      published = w.published;
+      first = w.first;
+      parts = w.parts;
+    }
 
 -- the same worker with its pass as it is here
 abbrev pub with_pass : Work → Pass → Work
 with_pass w p =
-    record { broker = w.broker; desk = w.desk; number = w.number; pass = p; seat = w.seat; core = w.core; held = w.held; taken = w.taken; published = w.published; first = w.first; parts = w.parts }
+    record {
+      broker = w.broker;
+      desk = w.desk;
+      number = w.number;
+      pass = p;
+      seat = w.seat;
+      core = w.core;
+      held = w.held;
+      taken = w.taken;
+      published = w.published;
+      first = w.first;
+      parts = w.parts;
+    }
 
 -- an envelope that the pass took and may deliver again: its take stands in what the pass has seen,
 -- and no join is owed

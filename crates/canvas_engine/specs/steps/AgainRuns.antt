@@ -1,7 +1,8 @@
 -- What a run by turns with entries leaves, of at most so many answered asks.
 --     IsAgainWithin l n turns es most rows m    the rows of one that went on until all workers had
 --                                               ended, and how many of its stores answered Again
---     IsCutAgain l n turns es most rows         the rows of one that was cut off, with some worker that had not ended
+--     IsCutAgain l n turns es most rows         the rows of one that was cut off, with some worker
+--                                               that had not ended
 --     IsAgainFault                              why there is no whole report
 use Rattle.std.specs.Prelude.{◌≡◌, ◌≤◌, ◌+◌, ℕ, List, length, Some, None}
 use Rattle.canvas_task.specs.Apply.{Behaviour}

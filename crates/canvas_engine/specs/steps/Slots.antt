@@ -39,7 +39,8 @@ IsSplitOff plan k p s slot p' s' =
 abbrev pub SplitsOff : Roster → ℕ → Pass → Seat → List Slot → Pass → Seat → Type 0
 SplitsOff plan k p s [] p' s' = (p' ≡ p) × (s' ≡ s)
 SplitsOff plan k p s (slot ∷ slots) p' s' =
-    (q : Pass) × (t : Seat) × IsSplitOff plan k p s slot q t × SplitsOff plan (suc k) q t slots p' s'
+    (q : Pass) × (t : Seat) × IsSplitOff plan k p s slot q t
+    × SplitsOff plan (suc k) q t slots p' s'
 
 -- a worker's pass and seat are lost only with its record
 abbrev pub LeavesPost : (behaviour : Behaviour) → Roster → ℕ → Post → Post → Type 0

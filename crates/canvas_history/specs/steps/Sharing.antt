@@ -23,7 +23,8 @@ module _ {C R : Type 0} where
 
   abbrev pub AllFit : List (Entry C R) → (ℕ → ℕ × ℕ) → List (List (Hat C R)) → Type 0
   AllFit log at views =
-      (seat : ℕ) (hats : List (Hat C R)) (place : ℕ) (h : Hat C R) → get_elem? views seat ≡ some hats
+      (seat : ℕ) (hats : List (Hat C R)) (place : ℕ) (h : Hat C R)
+      → get_elem? views seat ≡ some hats
       → get_elem? hats place ≡ some h → Fits log at seat place h
 
 module _ {C R S : Type 0} (first : S) (answer : S → C → R) (next : S → C → S)

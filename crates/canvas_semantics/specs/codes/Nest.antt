@@ -33,7 +33,8 @@ module _ {L : Type 0} where
       → built (spelled n more) parts ≡ built more (n ∷ parts)
   built_spelled leaf more parts = refl
   built_spelled (branch l a b) more parts =
-      built_spelled a (spelled b (Some l ∷ more)) parts ∙ built_spelled b (Some l ∷ more) (a ∷ parts)
+      built_spelled a (spelled b (Some l ∷ more)) parts
+      ∙ built_spelled b (Some l ∷ more) (a ∷ parts)
 
   pub spelled_back : (n : Nest L) → first_of (built (spelled n []) []) ≡ n
   spelled_back n = ap first_of (built_spelled n [] [])

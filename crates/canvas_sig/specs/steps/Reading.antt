@@ -30,7 +30,8 @@ number_reading d = Err BadNumber
 
 abbrev pub list_reading : List Data → Result Arg SigFault
 list_reading ds =
-    if list_all is_number ds then (each number_reading ds >>= λ ns. Ok (arg.List ns)) else Err BadArgs
+    if list_all is_number ds then (each number_reading ds >>= λ ns. Ok (arg.List ns))
+    else Err BadArgs
 
 abbrev pub arg_steps : Data → Result Arg SigFault
 arg_steps (number n) = in_range_or_refused (as_i64 n) >>= λ z. Ok (arg.Num z)

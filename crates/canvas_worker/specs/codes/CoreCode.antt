@@ -16,7 +16,8 @@ abbrev of_carried : PCarried → Content
 of_carried c =
     record {
       parent = Some c.size;
-      own = p_task 0 (record { name = []; args = []; kwargs = []; immutable = false }) no_p_tasks no_p_tasks p_nowhere;
+      own = p_task 0 (record { name = []; args = []; kwargs = []; immutable = false })
+          no_p_tasks no_p_tasks p_nowhere;
       rest = c.body;
     }
 

@@ -1,0 +1,11 @@
+pub mod Json
+pub mod Said
+pub mod Lines
+pub mod Dependency
+pub mod Refusals
+pub mod Identifiers
+pub mod KeptRows
+pub mod Gathering
+pub mod Reached
+pub mod Walking
+pub mod Whole

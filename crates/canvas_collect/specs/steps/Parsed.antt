@@ -1,0 +1,12 @@
+-- A text that isn't read as JSON.
+use Rattle.std.specs.Prelude.{◌≡◌, None}
+use Rattle.canvas_task.specs.Text.{Text}
+use Rattle.canvas_sig.specs.CanvasText.{json_of}
+use Rattle.canvas_collect.specs.declared.stored.StoredFault.{StoredFault}
+use Rattle.canvas_collect.specs.declared.stored.StoredFault.TheVariants.{NotJson, Memory}
+
+-- it is none, or memory was refused
+abbrev pub IsUnread : Text → StoredFault → Type 0
+IsUnread text NotJson = json_of text ≡ None
+IsUnread text Memory = Unit {0}
+IsUnread text fault = ⊥

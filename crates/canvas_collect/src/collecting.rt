@@ -1,0 +1,124 @@
+//! The rows of a report from the results that Celery stored.
+
+ghost use Rattle.std.specs.Prelude.{◌≡◌, ◌≤◌, [], length, IfOk, IfErr, OnOk};
+ghost use Rattle.canvas_semantics.specs.Line.{count_line};
+ghost use Rattle.canvas_collect.specs.Pieces.{lines_in};
+ghost use Rattle.canvas_collect.specs.Stored.{AllSaid};
+ghost use Rattle.canvas_collect.specs.Refused.{IsCollectFault};
+ghost use Rattle.canvas_collect.specs.steps.Rows.{Gains, RowFault};
+
+use crate::pieces::{count_lines, split_line};
+use crate::stored::{StoredFault, read_stored};
+use canvas_celery::Run;
+use canvas_rewrite::Plan;
+use canvas_task::{ListOf, Outcome, TaskNo};
+use std::alloc::Global;
+use thiserror::Error;
+
+/// Why the results are none of a plan's run.
+#[derive(Clone, Copy, Debug, Drop, PartialEq, Eq, Error)]
+pub enum CollectFault {
+    /// Fewer or more lines than tasks.
+    #[error("BadCount")]
+    BadCount,
+    /// A task's result is refused.
+    #[error("{fault}")]
+    Stored { task: TaskNo, fault: StoredFault },
+    /// A growth was refused.
+    #[error("memory refused")]
+    Memory,
+}
+
+/// The row of a task's line, put behind the others.
+fn push_row(
+    alloc: Global,
+    plan: &Plan,
+    run: &Run,
+    task: TaskNo,
+    line: &[u8],
+    rows: &mut Vec<Option<Outcome>>,
+) -> Result<(), CollectFault>
+    ensures gains { OnOk result
+        (Gains run.now.digits (count_line plan.now) task line.now rows.old.items rows.new.items) }
+    ensures refused { IfErr result
+        (λ e. RowFault run.now.digits (count_line plan.now) task line.now e) }
+{
+    match read_stored(alloc, plan, run, task, line) {
+        Ok(row) => match rows.push(row) {
+            Ok(()) => Ok(()),
+            Err(_) => Err(CollectFault::Memory),
+        },
+        Err(StoredFault::Memory) => Err(CollectFault::Memory),
+        Err(fault) => Err(CollectFault::Stored { task, fault }),
+    }
+}
+
+/// The row of the task of a number.
+fn push_numbered(
+    alloc: Global,
+    plan: &Plan,
+    run: &Run,
+    number: u32,
+    line: &[u8],
+    rows: &mut Vec<Option<Outcome>>,
+) -> Result<(), CollectFault>
+    requires { 1 ≤ number }
+    ensures gains { OnOk result
+        (Gains run.now.digits (count_line plan.now) number line.now rows.old.items rows.new.items) }
+    ensures refused { IfErr result
+        (λ e. RowFault run.now.digits (count_line plan.now) number line.now e) }
+{
+    match TaskNo::new(number) {
+        Some(task) => push_row(alloc, plan, run, task, line, rows),
+        None => Err(CollectFault::BadCount),
+    }
+}
+
+/// The rows of all tasks, put into an empty list, from a text with a line for each.
+fn push_rows(
+    alloc: Global,
+    plan: &Plan,
+    run: &Run,
+    text: &[u8],
+    rows: &mut Vec<Option<Outcome>>,
+) -> Result<(), CollectFault>
+    requires empty { rows.old.items ≡ [] }
+    requires lines { length (lines_in text.now) ≡ count_line plan.now }
+    ensures count { OnOk result (length rows.new.items ≡ count_line plan.now) }
+    ensures said { OnOk result
+        (AllSaid run.now.digits (count_line plan.now) 1 (lines_in text.now) rows.new.items) }
+    ensures refused { IfErr result
+        (λ e. IsCollectFault run.now.digits (count_line plan.now) (lines_in text.now) e) }
+{
+    let mut rest = text;
+    for index in 0..plan.tasks() {
+        let (line, after) = split_line(rest);
+        push_numbered(alloc, plan, run, index + 1, line, rows)?;
+        rest = after;
+    }
+    Ok(())
+}
+
+/// The rows of a plan's tasks from a text with a line for each, in the order of their numbers: the
+/// stored result, empty where there is none. Each row is what its own line says, so no outcome is
+/// made up, and none that is final is overlooked. Where there are as many lines as tasks, the first
+/// line that is refused is told.
+pub fn collect(
+    alloc: Global,
+    plan: &Plan,
+    run: &Run,
+    text: &[u8],
+) -> Result<ListOf<Option<Outcome>>, CollectFault>
+    ensures count { IfOk result (λ rows. length rows ≡ count_line plan.now) }
+    ensures said { IfOk result
+        (λ rows. AllSaid run.now.digits (count_line plan.now) 1 (lines_in text.now) rows) }
+    ensures refused { IfErr result
+        (λ e. IsCollectFault run.now.digits (count_line plan.now) (lines_in text.now) e) }
+{
+    if count_lines(text) != plan.tasks() as usize {
+        return Err(CollectFault::BadCount);
+    }
+    let mut rows = Vec::new(alloc);
+    push_rows(alloc, plan, run, text, &mut rows)?;
+    Ok(ListOf::of(rows))
+}

@@ -1,0 +1,12 @@
+//! The outcomes of a canvas's tasks from the results that Celery's workers stored.
+#![tactic(auto)]
+
+mod collecting;
+mod completing;
+mod named;
+mod pieces;
+mod stored;
+
+pub use collecting::{CollectFault, collect};
+pub use completing::complete;
+pub use stored::StoredFault;

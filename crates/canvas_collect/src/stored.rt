@@ -1,0 +1,272 @@
+//! One result as Celery stores it, in JSON.
+
+ghost use Rattle.std.specs.Prelude.{◌≡◌, ◌≢◌, ◌++◌, ◌↔◌, ℕ, ℤ, true, Some};
+ghost use Rattle.std.specs.Prelude.{IsTrue, MatchBool, MatchOption, MatchResult, codes};
+ghost use Rattle.serde_json.specs.View.{view};
+ghost use Rattle.canvas_sig.specs.CanvasText.{json_of};
+ghost use Rattle.canvas_sig.specs.Fields.{text_of};
+ghost use Rattle.canvas_collect.specs.steps.Found.{value_at};
+ghost use Rattle.canvas_task.specs.Text.{Text};
+ghost use Rattle.canvas_task.specs.Numbers.{in_range};
+ghost use Rattle.canvas_task.specs.Printed.{kind_name, why_name};
+ghost use Rattle.canvas_celery.specs.Run.{run_task};
+ghost use Rattle.canvas_semantics.specs.Line.{count_line};
+ghost use Rattle.canvas_task.specs.declared.outcome.Kind.{Kind};
+ghost use Rattle.canvas_task.specs.declared.outcome.Why.{Why};
+ghost use Rattle.canvas_collect.specs.Stored.{integer_in, message_in, named_in, class_of, Blames};
+ghost use Rattle.canvas_collect.specs.Stored.{SaysFault, SaysRow, Says, Waits};
+ghost use Rattle.canvas_collect.specs.Refused.{RefusesException, RefusesResult};
+ghost use Rattle.canvas_collect.specs.steps.Parsed.{IsUnread};
+ghost use Rattle.canvas_collect.specs.steps.Rows.{LineFault};
+
+use crate::named::task_named;
+use crate::pieces::split_at_byte;
+use canvas_celery::Run;
+use canvas_rewrite::Plan;
+use canvas_task::{Fault, Kind, Outcome, TaskNo, Why, in_range};
+use serde_json::Value;
+use std::alloc::Global;
+use thiserror::Error;
+
+/// Why a stored result is none of the plan's task.
+#[derive(Clone, Copy, Debug, Drop, PartialEq, Eq, Error)]
+pub enum StoredFault {
+    /// No JSON text in UTF-8, as where another serializer, or compression, is set.
+    #[error("NotJson")]
+    NotJson,
+    /// Another task's, or of another run.
+    #[error("OtherTask")]
+    OtherTask,
+    /// A state beside PENDING, RECEIVED, STARTED, RETRY, SUCCESS and FAILURE.
+    #[error("UnknownState")]
+    UnknownState,
+    /// Of a success: no whole number from -2^60 to 2^60.
+    #[error("NotNumber")]
+    NotNumber,
+    /// Of a failure: an exception that is none of the six tasks'.
+    #[error("UnknownException")]
+    UnknownException,
+    /// A ChordError that names no task of the run.
+    #[error("UnknownDependency")]
+    UnknownDependency,
+    /// A growth was refused.
+    #[error("memory refused")]
+    Memory,
+}
+
+/// The text of a value, empty where it is none.
+fn text_in(found: Option<&Value>) -> &str
+    ensures { result.now ≡ text_of (value_at found.entry) }
+{
+    match found {
+        Some(Value::String(text)) => text,
+        _ => "",
+    }
+}
+
+/// An exception's message: a text, or the first of a list.
+fn message_in(found: Option<&Value>) -> &str
+    ensures { result.now ≡ message_in (value_at found.entry) }
+{
+    match found {
+        Some(Value::Array(texts)) => text_in(texts.first()),
+        _ => text_in(found),
+    }
+}
+
+fn kind_of(name: &[u8]) -> Option<Kind>
+    ensures { MatchOption result ((kind : Kind) → name.now ≢ kind_name kind)
+        (λ kind. name.now ≡ kind_name kind) }
+{
+    if name == b"TypeError".as_slice() {
+        Some(Kind::BadCall)
+    } else if name == b"ZeroDivisionError".as_slice() {
+        Some(Kind::ZeroDivision)
+    } else if name == b"OverflowError".as_slice() {
+        Some(Kind::Overflow)
+    } else if name == b"NotRegistered".as_slice() {
+        Some(Kind::NotRegistered)
+    } else {
+        None
+    }
+}
+
+fn why_of(name: &[u8]) -> Option<Why>
+    ensures { MatchOption result ((why : Why) → name.now ≢ why_name why)
+        (λ why. name.now ≡ why_name why) }
+{
+    if name == b"ChordError".as_slice() {
+        return Some(Why::Chord);
+    }
+    match kind_of(name) {
+        Some(kind) => Some(Why::Plain(kind)),
+        None => None,
+    }
+}
+
+/// What stands behind a beginning.
+fn behind<'a>(text: &'a [u8], start: &[u8]) -> Option<&'a [u8]>
+    ensures { MatchOption result ((rest : Text) → text.now ≢ start.now ++ rest)
+        (λ rest. text.now ≡ start.now ++ rest.now) }
+{
+    text.strip_prefix(start)
+}
+
+/// What a ChordError's message says: `Dependency ID raised NAME(..)`.
+fn dependency_of(plan: &Plan, run: &Run, message: &[u8]) -> Option<(TaskNo, Why)>
+    ensures { MatchOption result
+        ((dep : ℕ) (why : Why)
+        → ¬ Blames run.now.digits (count_line plan.now) message.now dep why)
+        (λ p. Blames run.now.digits (count_line plan.now) message.now p.0 p.1) }
+{
+    // The length of the run's number is known by its type.
+    let _digits = run.digits();
+    let text = behind(message, b"Dependency ")?;
+    if text.len() < 36 {
+        return None;
+    }
+    let (id, said) = text.split_at(36);
+    let dep = task_named(plan, run, id)?;
+    let raised = behind(said, b" raised ")?;
+    let (name, _) = split_at_byte(raised, b'(');
+    let why = why_of(name)?;
+    Some((dep, why))
+}
+
+fn chord_failure(plan: &Plan, run: &Run, exception: &Value) -> Result<Fault, StoredFault>
+    requires { class_of (view exception.now) ≡ codes "ChordError" }
+    ensures { MatchResult result
+        (λ f. SaysFault run.now.digits (count_line plan.now) (view exception.now) f)
+        (λ e. RefusesException run.now.digits (count_line plan.now) (view exception.now) e) }
+{
+    let message = message_in(exception.get("exc_message"));
+    match dependency_of(plan, run, message.as_bytes()) {
+        Some((dep, why)) => Ok(Fault::Chord { dep, why }),
+        None => Err(StoredFault::UnknownDependency),
+    }
+}
+
+fn failure_of(plan: &Plan, run: &Run, exception: &Value) -> Result<Fault, StoredFault>
+    ensures { MatchResult result
+        (λ f. SaysFault run.now.digits (count_line plan.now) (view exception.now) f)
+        (λ e. RefusesException run.now.digits (count_line plan.now) (view exception.now) e) }
+{
+    let name = text_in(exception.get("exc_type"));
+    if name == "ChordError" {
+        return chord_failure(plan, run, exception);
+    }
+    match kind_of(name.as_bytes()) {
+        Some(kind) => Ok(Fault::Plain(kind)),
+        None => Err(StoredFault::UnknownException),
+    }
+}
+
+fn failure_in(plan: &Plan, run: &Run, found: Option<&Value>) -> Result<Fault, StoredFault>
+    ensures { MatchResult result
+        (λ f. SaysFault run.now.digits (count_line plan.now) (value_at found.entry) f)
+        (λ e. RefusesException run.now.digits (count_line plan.now) (value_at found.entry) e) }
+{
+    match found {
+        Some(exception) => failure_of(plan, run, exception),
+        None => Err(StoredFault::UnknownException),
+    }
+}
+
+fn integer_in(found: Option<&Value>) -> Option<i64>
+    ensures { result ≡ integer_in (value_at found.entry) }
+{
+    match found {
+        Some(value) => value.as_i64(),
+        None => None,
+    }
+}
+
+fn success_of(found: Option<&Value>) -> Option<i64>
+    ensures { MatchOption result
+        ((n : ℤ) → integer_in (value_at found.entry) ≡ Some n → in_range n ≢ true)
+        (λ n. (integer_in (value_at found.entry) ≡ Some n) × (in_range n ≡ true)) }
+{
+    match integer_in(found) {
+        Some(number) => { if in_range(number) { Some(number) } else { None } }
+        None => None,
+    }
+}
+
+fn is_waiting(status: &str) -> bool
+    ensures { MatchBool result (Waits status.now) (¬ Waits status.now) }
+{
+    matches!(status, "PENDING" | "RECEIVED" | "STARTED" | "RETRY")
+}
+
+fn outcome_of(plan: &Plan, run: &Run, meta: &Value) -> Result<Option<Outcome>, StoredFault>
+    ensures { MatchResult result
+        (λ row. SaysRow run.now.digits (count_line plan.now) (view meta.now) row)
+        (λ e. RefusesResult run.now.digits (count_line plan.now) (view meta.now) e) }
+{
+    let status = text_in(meta.get("status"));
+    if status == "SUCCESS" {
+        return match success_of(meta.get("result")) {
+            Some(number) => Ok(Some(Outcome::Success(number))),
+            None => Err(StoredFault::NotNumber),
+        };
+    }
+    if status == "FAILURE" {
+        return match failure_in(plan, run, meta.get("result")) {
+            Ok(fault) => Ok(Some(Outcome::Failure(fault))),
+            Err(fault) => Err(fault),
+        };
+    }
+    if is_waiting(status) {
+        Ok(None)
+    } else {
+        Err(StoredFault::UnknownState)
+    }
+}
+
+/// The JSON value of a text.
+fn parsed(alloc: Global, text: &[u8]) -> Result<Value, StoredFault>
+    ensures { MatchResult result (λ meta. json_of text.now ≡ Some (view meta))
+        (λ e. IsUnread text.now e) }
+{
+    match Value::from_slice(alloc, text) {
+        Ok(meta) => Ok(meta),
+        Err(error) => Err(if error.is_memory() {
+            StoredFault::Memory
+        } else {
+            StoredFault::NotJson
+        }),
+    }
+}
+
+/// Whether the value names the task in this run.
+fn is_of(run: &Run, task: TaskNo, meta: &Value) -> bool
+    ensures { IsTrue result ↔ (named_in (view meta.now) ≡ run_task run.now.digits task) }
+{
+    let id = run.task_text(task);
+    let named = text_in(meta.get("task_id"));
+    named.as_bytes() == id.as_slice()
+}
+
+/// The outcome that a stored result says, none where there is none yet: where the text is empty, or
+/// its state isn't final.
+pub(crate) fn read_stored(
+    alloc: Global,
+    plan: &Plan,
+    run: &Run,
+    task: TaskNo,
+    text: &[u8],
+) -> Result<Option<Outcome>, StoredFault>
+    ensures { MatchResult result
+        (λ row. Says run.now.digits (count_line plan.now) task text.now row)
+        (λ e. LineFault run.now.digits (count_line plan.now) task text.now e) }
+{
+    if text.is_empty() {
+        return Ok(None);
+    }
+    let meta = parsed(alloc, text)?;
+    if is_of(run, task, &meta) {
+        outcome_of(plan, run, &meta)
+    } else {
+        Err(StoredFault::OtherTask)
+    }
+}

@@ -1,0 +1,110 @@
+//! What the program prints, and its status.
+
+use crate::refusal::Refusal;
+use std::alloc::Global;
+use std::fmt::{self, Display};
+use std::io::{self, Write};
+
+/// How many stores of a run answered Again.
+#[derive(Clone, Copy)]
+pub(crate) struct Repeats(pub(crate) u64);
+
+impl Display for Repeats {
+    fn fmt<W: fmt::Write>(&self, f: &mut fmt::Formatter<W>) -> fmt::Result {
+        match self.0 {
+            1 => writeln!(f, "canvas: 1 store answered Again"),
+            count => writeln!(f, "canvas: {count} stores answered Again"),
+        }
+    }
+}
+
+/// What the program answers. Nothing of it is printed yet.
+#[derive(Drop)]
+pub struct Answer<'w> {
+    /// What goes to standard output.
+    out: Vec<u8>,
+    /// What standard error says of a run with messages that were delivered again.
+    repeats: Option<Repeats>,
+    /// Why that isn't all that was asked for.
+    refusal: Option<Refusal<'w>>,
+    /// The status where it is.
+    status: u8,
+}
+
+impl<'w> Answer<'w> {
+    /// All that was asked for.
+    pub(crate) fn whole(out: Vec<u8>) -> Answer<'w> {
+        Answer {
+            out,
+            repeats: None,
+            refusal: None,
+            status: 0,
+        }
+    }
+
+    /// Nothing, and why.
+    pub(crate) fn refused(alloc: Global, refusal: Refusal<'w>) -> Answer<'w> {
+        Answer::in_part(Vec::new(alloc), refusal)
+    }
+
+    /// What there is, and why that isn't all.
+    pub(crate) fn in_part(out: Vec<u8>, refusal: Refusal<'w>) -> Answer<'w> {
+        Answer {
+            out,
+            repeats: None,
+            refusal: Some(refusal),
+            status: 0,
+        }
+    }
+
+    pub(crate) fn with_status(self, status: u8) -> Answer<'w> {
+        Answer { status, ..self }
+    }
+
+    pub(crate) fn with_repeats(self, repeats: Option<Repeats>) -> Answer<'w> {
+        Answer { repeats, ..self }
+    }
+
+    /// Prints the answer to both outputs, and gives the status: 0 where all went well, 1 where the
+    /// program was refused or can't print, 2 where it ended early, and 3 where that is asked for and
+    /// the canvas's result is a failure.
+    pub fn print<W: Write, E: Write>(&self, out: &mut W, err: &mut E) -> u8 {
+        let written = write_bytes(out, &self.out);
+        match &self.refusal {
+            Some(refusal) => refusal.print(err),
+            None => match written {
+                Ok(()) => self.print_repeats(err),
+                Err(_) => Refusal::CannotWrite.print(err),
+            },
+        }
+    }
+
+    fn print_repeats<E: Write>(&self, err: &mut E) -> u8 {
+        match self.repeats {
+            None => self.status,
+            Some(repeats) => match write_and_flush(err, &repeats) {
+                Ok(()) => self.status,
+                Err(_) => Refusal::CannotWrite.print(err),
+            },
+        }
+    }
+}
+
+impl Refusal<'_> {
+    /// Prints why there is no answer, piece by piece, since there may be no memory for a text. Where
+    /// that can't be printed either, the status is all that is left.
+    fn print<E: Write>(&self, err: &mut E) -> u8 {
+        let _ = write_and_flush(err, self);
+        self.status()
+    }
+}
+
+fn write_bytes<W: Write>(out: &mut W, bytes: &[u8]) -> io::Result<()> {
+    out.write_all(bytes)?;
+    out.flush()
+}
+
+fn write_and_flush<W: Write, D: Display>(out: &mut W, text: &D) -> io::Result<()> {
+    write!(out, "{text}")?;
+    out.flush()
+}

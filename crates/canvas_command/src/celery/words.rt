@@ -1,0 +1,109 @@
+//! The words of the commands for Celery's own workers.
+
+use crate::words::{file_argument, json_argument};
+use clap::builder::ValueParser;
+use clap::{Arg, ArgAction, Command, Error};
+use std::alloc::{AllocError, Global};
+
+fn run_argument<'a>(alloc: Global) -> Arg<'a> {
+    Arg::new(alloc, "run")
+        .long("run")
+        .value_name("HEX22")
+        .required(true)
+        .help("The run: 22 lower-case hexadecimal digits that no other run on this Redis has")
+}
+
+fn queue_argument<'a>(alloc: Global) -> Arg<'a> {
+    Arg::new(alloc, "queue")
+        .long("queue")
+        .value_name("NAME")
+        .default_value("celery")
+        .help("The queue that the workers read")
+}
+
+fn prefix_argument<'a>(alloc: Global) -> Arg<'a> {
+    Arg::new(alloc, "prefix")
+        .long("prefix")
+        .value_name("TEXT")
+        .help("What the result backend puts before its keys (global_keyprefix)")
+}
+
+fn expires_argument<'a>(alloc: Global) -> Arg<'a> {
+    Arg::new(alloc, "expires")
+        .long("expires")
+        .value_name("SECONDS")
+        .value_parser(ValueParser::unsigned(1, 1_000_000_000))
+        .default_value("86400")
+        .help("How long a chord's size is kept (result_expires)")
+}
+
+fn database_argument<'a>(alloc: Global, name: &'a str, help: &'a str) -> Arg<'a> {
+    Arg::new(alloc, name)
+        .long(name)
+        .value_name("N")
+        .value_parser(ValueParser::unsigned(0, 1_000_000))
+        .help(help)
+}
+
+fn script_argument<'a>(alloc: Global) -> Arg<'a> {
+    Arg::new(alloc, "without-script")
+        .long("without-script")
+        .action(ArgAction::SetTrue)
+        .help(
+            "Starts it by a transaction, where Redis takes no EVAL; a run given twice then runs twice",
+        )
+}
+
+fn export_command<'a>(alloc: Global) -> Result<Command<'a>, AllocError> {
+    Command::new(alloc, "export")
+        .about("Prints the commands for Redis that start a canvas on Celery's workers")
+        .arg(file_argument(alloc))?
+        .arg(run_argument(alloc))?
+        .arg(queue_argument(alloc))?
+        .arg(prefix_argument(alloc))?
+        .arg(expires_argument(alloc))?
+        .arg(database_argument(
+            alloc,
+            "broker-db",
+            "The database of the queue, where commands are to choose it",
+        ))?
+        .arg(database_argument(
+            alloc,
+            "backend-db",
+            "The database of the results, where commands are to choose it",
+        ))?
+        .arg(script_argument(alloc))
+}
+
+fn keys_command<'a>(alloc: Global) -> Result<Command<'a>, AllocError> {
+    Command::new(alloc, "keys")
+        .about("Prints the keys of a canvas's results on Redis, one a line")
+        .arg(file_argument(alloc))?
+        .arg(run_argument(alloc))?
+        .arg(prefix_argument(alloc))
+}
+
+fn collect_command<'a>(alloc: Global) -> Result<Command<'a>, AllocError> {
+    let complete = Arg::new(alloc, "complete")
+        .long("complete")
+        .action(ArgAction::SetTrue)
+        .help("Gives tasks that a failure reaches their state, where Celery leaves them pending");
+    Command::new(alloc, "collect")
+        .about("Prints the report of a canvas from its results on standard input, one a line")
+        .arg(file_argument(alloc))?
+        .arg(run_argument(alloc))?
+        .arg(complete)?
+        .arg(json_argument(alloc))
+}
+
+/// The program with these commands.
+pub(crate) fn celery_commands<'a>(
+    alloc: Global,
+    program: Command<'a>,
+) -> Result<Command<'a>, Error> {
+    let program = program
+        .subcommand(export_command(alloc)?)?
+        .subcommand(keys_command(alloc)?)?
+        .subcommand(collect_command(alloc)?)?;
+    Ok(program)
+}

@@ -1,0 +1,57 @@
+//! `canvas graph`: a canvas as a picture.
+
+use crate::answer::Answer;
+use crate::plan::plan_of;
+use crate::refusal::Refusal;
+use crate::runs::report_of;
+use crate::words::{file_argument, workers_argument};
+use canvas_engine::Report;
+use canvas_rewrite::Plan;
+use canvas_task::Registry;
+use canvas_views::graph_text;
+use clap::{Arg, ArgAction, Command};
+use std::alloc::{AllocError, Global};
+use std::random::RandomSource;
+use std::sync::Wait;
+use std::thread::Threads;
+
+pub(crate) fn graph_command<'a>(alloc: Global) -> Result<Command<'a>, AllocError> {
+    let run = Arg::new(alloc, "run")
+        .long("run")
+        .action(ArgAction::SetTrue)
+        .help("Runs the canvas, and shows the state and value of each task");
+    Command::new(alloc, "graph")
+        .about("Prints a canvas as a picture, in the language of Graphviz's `dot`")
+        .arg(file_argument(alloc))?
+        .arg(run)?
+        .arg(workers_argument(alloc))
+}
+
+/// The picture of a plan, and of its run where there is one.
+fn picture<'w>(
+    alloc: Global,
+    plan: &Plan,
+    report: Option<&Report>,
+) -> Result<Answer<'w>, Refusal<'w>> {
+    Ok(Answer::whole(graph_text(alloc, plan, report)?.into_bytes()))
+}
+
+/// The picture of a canvas; of its run by some workers where a number of them is given.
+pub(crate) fn answer_graph<'w, S>(
+    rt: &S,
+    registry: &Registry,
+    workers: Option<u32>,
+    text: &[u8],
+) -> Result<Answer<'w>, Refusal<'w>>
+where
+    S: Threads + Wait + RandomSource + AllocGlobal + Sync,
+{
+    let plan = plan_of(rt.alloc(), text)?;
+    match workers {
+        None => picture(rt.alloc(), &plan, None),
+        Some(workers) => {
+            let report = report_of(rt, &plan, registry, workers)?;
+            picture(rt.alloc(), &plan, Some(&report))
+        }
+    }
+}

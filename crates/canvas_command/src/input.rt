@@ -1,0 +1,74 @@
+//! Reading a canvas's text, and the results of its tasks, as far as they can be long.
+
+use crate::refusal::Refusal;
+use canvas_sig::MOST_BYTES;
+use std::alloc::Global;
+use std::fs;
+use std::io::{self, ErrorKind, Read};
+use std::rt::Files;
+
+/// The most bytes of results that are taken: 64 KiB for each of 1,024 tasks.
+pub(crate) const MOST_RESULTS: usize = 67_108_864;
+
+const CHUNK: usize = 8192;
+
+/// Reads at most so many bytes in at most that many reads, of which those that are interrupted are
+/// some. Where these end before the text does, that is a fault.
+fn read_at_most<R: Read>(alloc: Global, reader: &mut R, most: usize) -> io::Result<Vec<u8>> {
+    let mut text = Vec::new(alloc);
+    let mut chunk = [0u8; CHUNK];
+    for _ in 0..most {
+        let room = most.saturating_sub(text.len()).min(CHUNK);
+        match reader.read(&mut chunk[..room]) {
+            Ok(0) => return Ok(text),
+            Ok(count) => text.extend_from_slice(&chunk[..count])?,
+            Err(error) if error.kind() == ErrorKind::Interrupted => {}
+            Err(error) => return Err(error),
+        }
+        if text.len() >= most {
+            return Ok(text);
+        }
+    }
+    Err(io::Error::from(ErrorKind::Other))
+}
+
+/// The text of a canvas, with one byte more than the longest has, so that a longer one shows.
+fn read_text<R: Read>(alloc: Global, reader: &mut R) -> io::Result<Vec<u8>> {
+    read_at_most(alloc, reader, MOST_BYTES + 1)
+}
+
+/// The results, with one byte more than are taken, so that more of them show.
+pub(crate) fn read_results<R: Read>(alloc: Global, reader: &mut R) -> io::Result<Vec<u8>> {
+    read_at_most(alloc, reader, MOST_RESULTS + 1)
+}
+
+/// The text of a file, or of the input where it is named `-`.
+pub(crate) fn text_of<'w, S, R: Read>(
+    rt: &S,
+    file: &'w str,
+    input: &mut R,
+) -> Result<Vec<u8>, Refusal<'w>>
+where
+    S: Files + AllocGlobal,
+{
+    let text = if file == "-" {
+        read_text(rt.alloc(), input)
+    } else {
+        read_file(rt, file)
+    };
+    match text {
+        Ok(text) => Ok(text),
+        Err(error) => Err(unread(&error, file)),
+    }
+}
+
+fn read_file<S: Files + AllocGlobal>(rt: &S, file: &str) -> io::Result<Vec<u8>> {
+    read_text(rt.alloc(), &mut fs::open(rt, file)?)
+}
+
+pub(crate) fn unread<'w>(error: &io::Error, file: &'w str) -> Refusal<'w> {
+    match error.kind() {
+        ErrorKind::OutOfMemory => Refusal::Memory,
+        _ => Refusal::CannotRead(file),
+    }
+}

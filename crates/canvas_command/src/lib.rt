@@ -1,0 +1,23 @@
+//! The program `canvas` as a library: what it answers to its words and its input.
+#![tactic(auto)]
+
+mod answer;
+mod asked;
+mod celery;
+mod finding;
+mod graph;
+mod help;
+mod input;
+mod messages;
+mod plan;
+mod program;
+mod refusal;
+mod reporting;
+mod runs;
+mod words;
+
+pub use answer::Answer;
+pub use celery::CeleryRefusal;
+pub use help::{NOTES, SHORT_NOTES};
+pub use program::{command, command_with_six, given_words, refuse_words};
+pub use refusal::Refusal;

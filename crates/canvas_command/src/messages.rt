@@ -1,0 +1,40 @@
+//! `canvas messages`: what a run publishes.
+
+use crate::answer::Answer;
+use crate::plan::plan_of;
+use crate::refusal::Refusal;
+use crate::words::{file_argument, turns_argument, workers_argument};
+use canvas_task::Registry;
+use canvas_trace::{Trace, trace_of};
+use canvas_views::message_line;
+use clap::Command;
+use std::alloc::{AllocError, Global};
+
+pub(crate) fn messages_command<'a>(alloc: Global) -> Result<Command<'a>, AllocError> {
+    Command::new(alloc, "messages")
+        .about("Prints each message that a run by turns publishes, as JSON with its three texts")
+        .arg(file_argument(alloc))?
+        .arg(workers_argument(alloc))?
+        .arg(turns_argument(alloc))
+}
+
+/// Each message, a line each.
+pub(crate) fn answer_messages<'w>(
+    alloc: Global,
+    registry: &Registry,
+    workers: u32,
+    turns: &[u32],
+    text: &[u8],
+) -> Result<Answer<'w>, Refusal<'w>> {
+    let plan = plan_of(alloc, text)?;
+    let trace = trace_of(alloc, &plan, registry, workers, turns)?;
+    Ok(Answer::whole(lines_of(alloc, &trace)?))
+}
+
+fn lines_of(alloc: Global, trace: &Trace) -> Result<Vec<u8>, AllocError> {
+    let mut lines = Vec::new(alloc);
+    for envelope in trace.messages.iter() {
+        lines.extend_from_slice(message_line(alloc, envelope)?.as_bytes())?;
+    }
+    Ok(lines)
+}

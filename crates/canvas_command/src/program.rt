@@ -1,0 +1,146 @@
+//! The program over its words and its input.
+
+use crate::answer::Answer;
+use crate::asked::{Asked, Verb};
+use crate::celery::{answer_collect, answer_export, answer_keys};
+use crate::finding::answer_check;
+use crate::graph::answer_graph;
+use crate::input::text_of;
+use crate::messages::answer_messages;
+use crate::refusal::Refusal;
+use crate::runs::{answer_normal, answer_run, answer_turns};
+use crate::words::bad_text;
+use canvas_task::{Add, AddFault, Div, Ident, LogError, Mul, Registry, Xsum, registry_of};
+use clap::error::ErrorKind;
+use std::alloc::{AllocError, Global};
+use std::env;
+use std::io::{self, Read};
+use std::random::RandomSource;
+use std::rt::{Env, Files};
+use std::sync::Wait;
+use std::thread::Threads;
+
+/// The words that the program was started with, behind its name.
+pub fn given_words<S: Env + AllocGlobal>(rt: &S) -> io::Result<Vec<String>> {
+    Ok(env::args(rt)?.skip(1).collect(rt.alloc())?)
+}
+
+/// The refusal of words that can't be had, for want of memory or since one isn't UTF-8.
+pub fn refuse_words<'w>(alloc: Global, error: &io::Error) -> Answer<'w> {
+    let refusal = match error.kind() {
+        io::ErrorKind::OutOfMemory => Refusal::Memory,
+        _ => Refusal::from(bad_text(alloc)),
+    };
+    Answer::refused(alloc, refusal)
+}
+
+/// Runs the program: `words` are those after its name, `input` is what the file `-` stands for.
+/// Nothing is printed: the answer has the report, help or another text, and why there is none, or
+/// not all of it.
+pub fn command<'w, S, R: Read>(
+    rt: &S,
+    registry: &Registry,
+    words: &'w [String],
+    input: &mut R,
+) -> Answer<'w>
+where
+    S: Files + Threads + Wait + RandomSource + AllocGlobal + Sync,
+{
+    let alloc = rt.alloc();
+    let answered = match Asked::of(alloc, words) {
+        Ok(asked) => answer(rt, registry, asked, input),
+        Err(Refusal::Words(error)) => help(alloc, error),
+        Err(refusal) => Err(refusal),
+    };
+    match answered {
+        Ok(answer) => answer,
+        Err(refusal) => Answer::refused(alloc, refusal),
+    }
+}
+
+/// The registry of the six tasks, which a run calls by their names. Their names are good and differ,
+/// so that only memory can keep one out.
+fn six_tasks(alloc: Global) -> Result<Registry, AddFault> {
+    registry_of!(alloc; Add, Mul, Div, Xsum, Ident, LogError)
+}
+
+/// As `command`, with the six tasks.
+pub fn command_with_six<'w, S, R: Read>(rt: &S, words: &'w [String], input: &mut R) -> Answer<'w>
+where
+    S: Files + Threads + Wait + RandomSource + AllocGlobal + Sync,
+{
+    match six_tasks(rt.alloc()) {
+        Ok(registry) => command(rt, &registry, words, input),
+        Err(_) => Answer::refused(rt.alloc(), Refusal::Memory),
+    }
+}
+
+fn answer<'w, S, R: Read>(
+    rt: &S,
+    registry: &Registry,
+    asked: Asked<'w>,
+    input: &mut R,
+) -> Result<Answer<'w>, Refusal<'w>>
+where
+    S: Files + Threads + Wait + RandomSource + AllocGlobal + Sync,
+{
+    let Asked { verb, file } = asked;
+    if let Verb::Collect { .. } = &verb
+        && file == "-"
+    {
+        return Err(Refusal::CannotRead(file));
+    }
+    let text = text_of(rt, file, input)?;
+    match verb {
+        Verb::Collect {
+            run,
+            completes,
+            manner,
+        } => answer_collect(rt.alloc(), &run, completes, manner, &text, input),
+        verb => answer_text(rt, registry, verb, &text),
+    }
+}
+
+/// The answer to what is asked of a canvas's text alone.
+fn answer_text<'w, S>(
+    rt: &S,
+    registry: &Registry,
+    verb: Verb<'w>,
+    text: &[u8],
+) -> Result<Answer<'w>, Refusal<'w>>
+where
+    S: Files + Threads + Wait + RandomSource + AllocGlobal + Sync,
+{
+    let alloc = rt.alloc();
+    match verb {
+        Verb::Run { workers, manner } => answer_run(rt, registry, workers, manner, text),
+        Verb::Turns {
+            workers,
+            turns,
+            again,
+            manner,
+        } => answer_turns(alloc, registry, workers, &turns, again, manner, text),
+        Verb::Check => answer_check(alloc, registry, text),
+        Verb::Graph { workers } => answer_graph(rt, registry, workers, text),
+        Verb::Messages { workers, turns } => {
+            answer_messages(alloc, registry, workers, &turns, text)
+        }
+        Verb::Export { run, target } => answer_export(alloc, &run, &target, text),
+        Verb::Keys { run, prefix } => answer_keys(alloc, &run, prefix, text),
+        _ => answer_normal(alloc, text),
+    }
+}
+
+/// Help and the version are answers; any other thing that the words' parser says is a refusal.
+fn help<'w>(alloc: Global, error: clap::Error) -> Result<Answer<'w>, Refusal<'w>> {
+    match error.kind() {
+        ErrorKind::DisplayHelp | ErrorKind::DisplayVersion => {
+            Ok(Answer::whole(said(alloc, &error)?.into_bytes()))
+        }
+        _ => Err(Refusal::Words(error)),
+    }
+}
+
+fn said(alloc: Global, error: &clap::Error) -> Result<String, AllocError> {
+    format!(in alloc; "{error}")
+}

@@ -1,0 +1,153 @@
+//! `canvas run`, `canvas turns` and `canvas normal`.
+
+use crate::answer::{Answer, Repeats};
+use crate::refusal::Refusal;
+use crate::reporting::{Manner, in_part};
+use canvas_engine::{
+    OpenGate, Report, RunFault, Stop, TextFault, When, rows_text, run, run_text_again,
+    run_text_threads, run_turns_again,
+};
+use canvas_rewrite::{Plan, node_of, normalise};
+use canvas_sig::{Canvas, read_canvas, write_node};
+use canvas_task::{Memory, Registry, TaskNo};
+use std::alloc::Global;
+use std::random::RandomSource;
+use std::sync::Wait;
+use std::thread::Threads;
+
+/// The report of a plan's run on threads.
+pub(crate) fn report_of<S>(
+    rt: &S,
+    plan: &Plan,
+    registry: &Registry,
+    workers: u32,
+) -> Result<Report, RunFault>
+where
+    S: Threads + Wait + RandomSource + AllocGlobal + Sync,
+{
+    let alloc = rt.alloc();
+    match run(rt, alloc, plan, registry, workers, &OpenGate, &Stop::new()) {
+        Ok((report, _records)) => Ok(report),
+        Err(fault) => Err(fault),
+    }
+}
+
+/// The report of a text's run on threads.
+fn plain_run<'w, S>(
+    rt: &S,
+    registry: &Registry,
+    workers: u32,
+    text: &[u8],
+) -> Result<Answer<'w>, Refusal<'w>>
+where
+    S: Threads + Wait + RandomSource + AllocGlobal + Sync,
+{
+    let alloc = rt.alloc();
+    match run_text_threads(rt, alloc, text, registry, workers, &OpenGate, &Stop::new()) {
+        Ok(report) => Ok(Answer::whole(report.into_bytes())),
+        Err(fault) => ended(alloc, text, fault),
+    }
+}
+
+/// The report of a run on threads.
+pub(crate) fn answer_run<'w, S>(
+    rt: &S,
+    registry: &Registry,
+    workers: u32,
+    manner: Manner,
+    text: &[u8],
+) -> Result<Answer<'w>, Refusal<'w>>
+where
+    S: Threads + Wait + RandomSource + AllocGlobal + Sync,
+{
+    if manner.is_plain() {
+        return plain_run(rt, registry, workers, text);
+    }
+    let plan = manner.plan_of(rt.alloc(), text)?;
+    match report_of(rt, &plan, registry, workers) {
+        Ok(report) => manner.whole(rt.alloc(), &plan, &report),
+        Err(fault) => Ok(manner.early(rt.alloc(), &plan, fault)),
+    }
+}
+
+/// The report of a run by turns, with what is delivered again, where that is asked for.
+pub(crate) fn answer_turns<'w>(
+    alloc: Global,
+    registry: &Registry,
+    workers: u32,
+    turns: &[u32],
+    again: Option<Vec<(TaskNo, When)>>,
+    manner: Manner,
+    text: &[u8],
+) -> Result<Answer<'w>, Refusal<'w>> {
+    match again {
+        Some(entries) => turns_again(
+            alloc, registry, workers, turns, &entries, true, manner, text,
+        ),
+        None => turns_again(alloc, registry, workers, turns, &[], false, manner, text),
+    }
+}
+
+fn turns_again<'w>(
+    alloc: Global,
+    registry: &Registry,
+    workers: u32,
+    turns: &[u32],
+    entries: &[(TaskNo, When)],
+    counts: bool,
+    manner: Manner,
+    text: &[u8],
+) -> Result<Answer<'w>, Refusal<'w>> {
+    if manner.is_plain() {
+        return match run_text_again(alloc, text, registry, workers, turns, entries) {
+            Ok((report, repeats)) => Ok(Answer::whole(report.into_bytes()).with_repeats(
+                counts.then_some(Repeats(repeats)),
+            )),
+            Err(fault) => ended(alloc, text, fault),
+        };
+    }
+    let plan = manner.plan_of(alloc, text)?;
+    match run_turns_again(alloc, &plan, registry, workers, turns, entries) {
+        Ok((report, repeats)) => Ok(
+            manner
+                .whole(alloc, &plan, &report)?
+                .with_repeats(counts.then_some(Repeats(repeats))),
+        ),
+        Err(fault) => Ok(manner.early(alloc, &plan, fault)),
+    }
+}
+
+/// The normal line of a canvas.
+pub(crate) fn answer_normal<'w>(alloc: Global, text: &[u8]) -> Result<Answer<'w>, Refusal<'w>> {
+    let canvas = read_canvas(alloc, text)?;
+    Ok(Answer::whole(line_text(alloc, &canvas)?.into_bytes()))
+}
+
+/// The normal line of a canvas as JSON, with a line feed.
+fn line_text(alloc: Global, canvas: &Canvas) -> Result<String, Memory> {
+    let line = normalise(alloc, canvas)?;
+    let mut text = write_node(alloc, &node_of(alloc, &line)?)?;
+    text.push('\n')?;
+    Ok(text)
+}
+
+/// Why a text has no whole report, and what its run stored, where there is memory for it.
+fn ended<'w>(alloc: Global, text: &[u8], fault: TextFault) -> Result<Answer<'w>, Refusal<'w>> {
+    match fault {
+        TextFault::Sig(fault) => Err(Refusal::from(fault)),
+        TextFault::Run(fault) => Ok(early(alloc, text, fault)),
+        TextFault::Memory => Err(Refusal::Memory),
+    }
+}
+
+fn early<'w>(alloc: Global, text: &[u8], fault: RunFault) -> Answer<'w> {
+    let rows = match &fault {
+        RunFault::Halted { rows, .. } => rows.as_ref(),
+        _ => None,
+    };
+    let stored = match rows {
+        Some(report) => rows_text(alloc, text, report).ok(),
+        None => None,
+    };
+    in_part(alloc, stored, Refusal::from(fault))
+}

@@ -1,0 +1,129 @@
+//! The words of the command line.
+
+use crate::celery::celery_commands;
+use crate::finding::check_command;
+use crate::graph::graph_command;
+use crate::help::{NOTES, SHORT_NOTES};
+use crate::messages::messages_command;
+use canvas_engine::MOST_WORKERS;
+use clap::builder::ValueParser;
+use clap::error::ErrorKind;
+use clap::{Arg, ArgAction, ArgMatches, Command, Error};
+use std::alloc::{AllocError, Global};
+
+/// The version of the program.
+pub(crate) const VERSION: &str = "0.1.0";
+
+pub(crate) fn file_argument<'a>(alloc: Global) -> Arg<'a> {
+    Arg::new(alloc, "FILE")
+        .required(true)
+        .help("The canvas as JSON; `-` is standard input")
+}
+
+pub(crate) fn workers_argument<'a>(alloc: Global) -> Arg<'a> {
+    Arg::new(alloc, "workers")
+        .long("workers")
+        .value_name("N")
+        .value_parser(ValueParser::unsigned(1, MOST_WORKERS.into()))
+        .default_value("1")
+        .help("How many workers run it, from 1 to 16")
+}
+
+pub(crate) fn turns_argument<'a>(alloc: Global) -> Arg<'a> {
+    Arg::new(alloc, "turns")
+        .long("turns")
+        .value_name("LIST")
+        .help("Which worker goes on at each turn, as 1,2,2; behind the list they take turns from 1")
+}
+
+fn again_argument<'a>(alloc: Global) -> Arg<'a> {
+    Arg::new(alloc, "again")
+        .long("again")
+        .value_name("LIST")
+        .help(
+            "What is delivered again, as 1:early,3:late; standard error counts stores that answer Again",
+        )
+}
+
+pub(crate) fn json_argument<'a>(alloc: Global) -> Arg<'a> {
+    Arg::new(alloc, "json")
+        .long("json")
+        .action(ArgAction::SetTrue)
+        .help("Prints each task, and then the result, as a JSON object in a line; refusals too")
+}
+
+fn fail_argument<'a>(alloc: Global) -> Arg<'a> {
+    Arg::new(alloc, "fail")
+        .long("fail")
+        .action(ArgAction::SetTrue)
+        .help("Ends with status 3 where the canvas's result is a failure")
+}
+
+fn run_command<'a>(alloc: Global) -> Result<Command<'a>, AllocError> {
+    Command::new(alloc, "run")
+        .about("Runs a canvas and prints the state and result of each task")
+        .arg(file_argument(alloc))?
+        .arg(workers_argument(alloc))?
+        .arg(json_argument(alloc))?
+        .arg(fail_argument(alloc))
+}
+
+fn turns_command<'a>(alloc: Global) -> Result<Command<'a>, AllocError> {
+    Command::new(alloc, "turns")
+        .about("Runs a canvas with its workers taking turns by a list, and prints the same")
+        .arg(file_argument(alloc))?
+        .arg(workers_argument(alloc))?
+        .arg(turns_argument(alloc))?
+        .arg(again_argument(alloc))?
+        .arg(json_argument(alloc))?
+        .arg(fail_argument(alloc))
+}
+
+fn normal_command<'a>(alloc: Global) -> Result<Command<'a>, AllocError> {
+    Command::new(alloc, "normal")
+        .about("Prints a canvas's normal line as JSON")
+        .arg(file_argument(alloc))
+}
+
+fn program<'a>(alloc: Global) -> Result<Command<'a>, Error> {
+    let program = Command::new(alloc, "canvas")
+        .about("Runs Celery canvases: chains, groups and chords of tasks")
+        .version(VERSION)
+        .after_help(SHORT_NOTES)
+        .after_long_help(NOTES)
+        .no_binary_name(true)
+        .bin_name("canvas")?
+        .subcommand_required(true)
+        .subcommand(run_command(alloc)?)?
+        .subcommand(turns_command(alloc)?)?
+        .subcommand(normal_command(alloc)?)?
+        .subcommand(check_command(alloc)?)?
+        .subcommand(graph_command(alloc)?)?
+        .subcommand(messages_command(alloc)?)?;
+    celery_commands(alloc, program)
+}
+
+/// Parses the words behind the program's name.
+pub(crate) fn matches_of<'w>(alloc: Global, words: &'w [String]) -> Result<ArgMatches<'w>, Error> {
+    program(alloc)?.try_get_matches_from(words)
+}
+
+/// What is said of words that aren't UTF-8.
+pub(crate) fn bad_text(alloc: Global) -> Error {
+    refused(
+        alloc,
+        ErrorKind::InvalidValue,
+        "invalid UTF-8 was detected in one or more arguments",
+    )
+}
+
+fn refused(alloc: Global, kind: ErrorKind, message: &str) -> Error {
+    match refusal_with_usage(alloc, kind, message) {
+        Ok(error) => error,
+        Err(error) => error,
+    }
+}
+
+fn refusal_with_usage(alloc: Global, kind: ErrorKind, message: &str) -> Result<Error, Error> {
+    Ok(program(alloc)?.error(kind, message)?)
+}

@@ -1,0 +1,131 @@
+//! Readers and writers that fail, are slow, or have no end.
+
+use crate::program::{ADD_THEN_MUL, REPORT, answers, answers_to, words};
+use canvas_command::command_with_six;
+use std::alloc::{AllocError, Global};
+use std::io::{self, Read, Write};
+use std::test::Fail;
+
+/// A writer that takes nothing.
+#[derive(Drop)]
+struct Full;
+
+impl Write for Full {
+    fn write(&mut self, _buf: &[u8]) -> io::Result<usize> {
+        Err(io::Error::from(io::ErrorKind::StorageFull))
+    }
+
+    fn flush(&mut self) -> io::Result<()> {
+        Ok(())
+    }
+}
+
+/// A reader that fails behind its text.
+#[derive(Drop)]
+struct Broken<'a>(&'a [u8]);
+
+impl Read for Broken<'_> {
+    fn read(&mut self, buf: &mut [u8]) -> io::Result<usize> {
+        if self.0.is_empty() {
+            return Err(io::Error::from(io::ErrorKind::BrokenPipe));
+        }
+        self.0.read(buf)
+    }
+}
+
+/// A reader that is interrupted some times, and then gives a byte a read.
+#[derive(Drop)]
+struct Slow<'a> {
+    interrupts: u32,
+    text: &'a [u8],
+}
+
+impl Read for Slow<'_> {
+    fn read(&mut self, buf: &mut [u8]) -> io::Result<usize> {
+        if self.interrupts > 0 {
+            self.interrupts -= 1;
+            return Err(io::Error::from(io::ErrorKind::Interrupted));
+        }
+        let length = buf.len().min(1);
+        self.text.read(&mut buf[..length])
+    }
+}
+
+fn spaces(alloc: Global, count: usize) -> Result<String, AllocError> {
+    let mut text = String::new(alloc);
+    for _ in 0..count {
+        text.push(' ')?;
+    }
+    Ok(text)
+}
+
+#[test]
+fn long_texts_are_cut_off(rt: HostRuntime) -> Result<(), Fail> {
+    let text = spaces(rt.alloc(), 1_048_577)?;
+    assert!(rt; answers(&rt, "run -", &text, 1, "", "canvas: refused 1 TooLarge\n"));
+    let mut input = Broken(text.as_bytes());
+    assert!(rt;
+        answers_to(
+            &rt,
+            "run -",
+            &mut input,
+            1,
+            "",
+            "canvas: refused 1 TooLarge\n"
+        )
+    );
+    Ok(())
+}
+
+#[test]
+fn a_reader_that_fails(rt: HostRuntime) {
+    let mut input = Broken(ADD_THEN_MUL.as_bytes());
+    assert!(rt; answers_to(&rt, "run -", &mut input, 1, "", "canvas: cannot read -\n"));
+}
+
+#[test]
+fn a_reader_that_is_interrupted(rt: HostRuntime) {
+    let mut input = Slow {
+        interrupts: 3,
+        text: ADD_THEN_MUL.as_bytes(),
+    };
+    assert!(rt; answers_to(&rt, "run -", &mut input, 0, REPORT, ""));
+}
+
+/// There are 1,048,577 reads, the last of which has to find the end.
+#[test]
+fn reads_are_counted(rt: HostRuntime) -> Result<(), Fail> {
+    let longest = spaces(rt.alloc(), 1_048_576)?;
+    for (interrupts, err) in [
+        (0, "canvas: refused 2 NotJson\n"),
+        (1, "canvas: cannot read -\n"),
+    ] {
+        let mut input = Slow {
+            interrupts,
+            text: longest.as_bytes(),
+        };
+        assert!(rt; answers_to(&rt, "run -", &mut input, 1, "", err), "{err}");
+    }
+    Ok(())
+}
+
+#[test]
+fn a_writer_that_fails(rt: HostRuntime) -> Result<(), Fail> {
+    let mut told: Vec<u8> = Vec::new(rt.alloc());
+    let words = words(rt.alloc(), "run -")?;
+    let mut input = ADD_THEN_MUL.as_bytes();
+    let status = command_with_six(&rt, &words, &mut input).print(&mut Full, &mut told);
+    assert!(rt; status == 1 && told.as_slice() == b"canvas: cannot write\n".as_slice());
+    Ok(())
+}
+
+/// A number that can't be printed isn't passed over.
+#[test]
+fn number_that_is_not_written(rt: HostRuntime) -> Result<(), Fail> {
+    let given = words(rt.alloc(), "turns - --again 1:late")?;
+    let mut written: Vec<u8> = Vec::new(rt.alloc());
+    let mut input = ADD_THEN_MUL.as_bytes();
+    let status = command_with_six(&rt, &given, &mut input).print(&mut written, &mut Full);
+    assert!(rt; status == 1 && written.as_slice() == REPORT.as_bytes());
+    Ok(())
+}

@@ -1,0 +1,15 @@
+use Rattle.std.proofs.Common.{[], ◌∷◌, ◌∙◌, codes}
+use Rattle.json.specs.Token.{key, begin_object}
+use Rattle.canvas_sig.proofs.Writers.{after_ok, then_tokens}
+use Rattle.canvas_export.proofs.Lines.{appended}
+use Rattle.canvas_export.proofs.Elements.{front_written}
+use Rattle.canvas_export.proofs.write.pieces.write_task_front.Goals as goal
+
+pub returns : goal.returns
+returns c =
+    let named = c.in_ok-key.ensures in
+    let front = then_tokens c.args.out.now c.write_call.new.out c.key.new.self _ (key (codes "options") ∷ []) c.in_ok-write_call.ensures
+    (named.ok, named.room.0) in
+    after_ok c.begin_object.result c.args.out.now c.key.new.self c.begin_object.new.self _ (begin_object ∷ []) _ front
+    (appended c.begin_object.result c.key.new.self c.begin_object.new.self begin_object c.begin_object.ensures)
+    (front_written c.args.task.now _ _ (c.deref.ensures.value ∙ c.get.ensures) c.get-2.ensures.entries)

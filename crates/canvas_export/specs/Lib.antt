@@ -1,0 +1,14 @@
+pub mod Resp
+pub mod Reading
+pub mod Setting
+pub mod Starting
+pub mod Script
+pub mod Transaction
+pub mod Start
+pub mod Signatures
+pub mod Envelope
+pub mod Sizeless
+pub mod MessageReading
+pub mod ExportReading
+pub mod View
+pub mod steps

@@ -1,0 +1,13 @@
+-- Where a start is put: the queue, what keys of results begin with, how many seconds a chord's
+-- size is kept, the databases of the broker and of the result backend where they are chosen,
+-- and whether one script does it all (Celery's settings `task_default_queue`,
+-- `result_backend_transport_options` with `global_keyprefix`, and `result_expires`).
+use Rattle.std.specs.Prelude.{ℕ, Bool, Option}
+use Rattle.canvas_task.specs.Text.{Text}
+
+pub record Setting : Type 0 where
+  pub queue : Text
+  pub prefix : Text
+  pub expires : ℕ
+  pub databases : Option (ℕ × ℕ)
+  pub by_script : Bool

@@ -1,0 +1,166 @@
+//! A start as one script, which Redis runs whole or not at all.
+
+ghost use Rattle.std.specs.Prelude.{ℕ, ◌≡◌, ◌+◌, ◌++◌, ◌∷◌, [], OnOk, IfOk, Some, None, map, codes, decimal, length};
+ghost use Rattle.canvas_export.specs.Resp.{command_bytes, word_bytes, words_bytes};
+ghost use Rattle.canvas_celery.specs.Keys.{size_key, marker_key};
+ghost use Rattle.canvas_export.specs.Script.{script, database_words, script_command};
+ghost use Rattle.canvas_export.specs.steps.Sizes.{size_view};
+ghost use Rattle.canvas_export.specs.steps.Words.{database_word};
+ghost use Rattle.canvas_export.specs.View.{setting};
+
+use crate::Target;
+use crate::resp::{begin_command, push_number, push_texts, push_word};
+use crate::starting::Size;
+use canvas_celery::{Run, marker_key, size_key};
+use std::alloc::{AllocError, Global};
+
+/// Looks whether the text came whole and whether the run was started before, then puts the chords'
+/// sizes under their keys, the run's marker, and last the messages on the queue. So whatever fails,
+/// a wrong kind of key too, fails before the first message is put there.
+pub(crate) const SCRIPT: &str = concat!(
+    "if ARGV[#ARGV] ~= 'whole' then\n",
+    "  return redis.error_reply('CUT nothing was started: the text was cut')\n",
+    "end\n",
+    "local function at(database)\n",
+    "  if database ~= '' then redis.call('SELECT', database) end\n",
+    "end\n",
+    "at(ARGV[2])\n",
+    "if redis.call('EXISTS', KEYS[1]) == 1 then\n",
+    "  return redis.error_reply('STARTED nothing was started: this run was started before')\n",
+    "end\n",
+    "for i = 3, #KEYS do redis.call('SETEX', KEYS[i], ARGV[1], ARGV[i + 1]) end\n",
+    "redis.call('SET', KEYS[1], 'started')\n",
+    "at(ARGV[3])\n",
+    "for i = #KEYS + 2, #ARGV - 1 do redis.call('LPUSH', KEYS[2], ARGV[i]) end\n",
+    "return #ARGV - #KEYS - 2\n",
+);
+
+/// The script, how many keys there are, and the first two of them.
+fn push_head(
+    alloc: Global,
+    out: &mut Vec<u8>,
+    run: &Run,
+    target: &Target<'_>,
+    sizes: &[Size],
+) -> Result<(), AllocError>
+    ensures { OnOk result (out.new.items ≡ out.old.items ++ words_bytes
+        (codes "EVAL" ∷ script ∷ decimal (length sizes.now + 2)
+        ∷ marker_key run.now.digits target.now.prefix.now ∷ target.now.queue.now ∷ [])) }
+{
+    let marker = marker_key(alloc, run, target.prefix)?;
+    push_word(alloc, out, b"EVAL")?;
+    push_word(alloc, out, SCRIPT.as_bytes())?;
+    push_number(alloc, out, sizes.len() as u64 + 2)?;
+    push_word(alloc, out, &marker)?;
+    push_word(alloc, out, target.queue.as_bytes())
+}
+
+fn push_size_key(
+    alloc: Global,
+    out: &mut Vec<u8>,
+    run: &Run,
+    prefix: &str,
+    size: &Size,
+) -> Result<(), AllocError>
+    ensures { OnOk result (out.new.items ≡ out.old.items
+        ++ word_bytes (size_key run.now.digits prefix.now (size_view size.now).0)) }
+{
+    let key = size_key(alloc, run, prefix, size.group)?;
+    push_word(alloc, out, &key)
+}
+
+fn push_size_keys(
+    alloc: Global,
+    out: &mut Vec<u8>,
+    run: &Run,
+    prefix: &str,
+    sizes: &[Size],
+) -> Result<(), AllocError>
+    ensures { OnOk result (out.new.items ≡ out.old.items ++ words_bytes
+        (map (λ s. size_key run.now.digits prefix.now (size_view s).0) sizes.now)) }
+{
+    for size in sizes {
+        push_size_key(alloc, out, run, prefix, size)?;
+    }
+    Ok(())
+}
+
+/// The number of a database; an empty word where none is chosen.
+fn push_database(alloc: Global, out: &mut Vec<u8>, database: Option<u32>) -> Result<(), AllocError>
+    ensures { OnOk result
+        (out.new.items ≡ out.old.items ++ word_bytes (database_word database)) }
+{
+    match database {
+        Some(number) => push_number(alloc, out, u64::from(number)),
+        None => push_word(alloc, out, b""),
+    }
+}
+
+/// The databases of the results and of the queue.
+fn push_databases(
+    alloc: Global,
+    out: &mut Vec<u8>,
+    backend: Option<u32>,
+    broker: Option<u32>,
+) -> Result<(), AllocError>
+    ensures { OnOk result (out.new.items ≡ out.old.items
+        ++ words_bytes (database_word backend ∷ database_word broker ∷ [])) }
+{
+    push_database(alloc, out, backend)?;
+    push_database(alloc, out, broker)
+}
+
+fn push_chosen(
+    alloc: Global,
+    out: &mut Vec<u8>,
+    databases: Option<(u32, u32)>,
+) -> Result<(), AllocError>
+    ensures { OnOk result
+        (out.new.items ≡ out.old.items ++ words_bytes (database_words databases)) }
+{
+    match databases {
+        Some((broker, backend)) => push_databases(alloc, out, Some(backend), Some(broker)),
+        None => push_databases(alloc, out, None, None),
+    }
+}
+
+/// How long sizes are kept, and the two databases.
+fn push_settings(alloc: Global, out: &mut Vec<u8>, target: &Target<'_>) -> Result<(), AllocError>
+    ensures { OnOk result (out.new.items ≡ out.old.items ++ words_bytes
+        (decimal target.now.expires ∷ database_words target.now.databases)) }
+{
+    push_number(alloc, out, u64::from(target.expires))?;
+    push_chosen(alloc, out, target.databases)
+}
+
+fn push_members(alloc: Global, out: &mut Vec<u8>, sizes: &[Size]) -> Result<(), AllocError>
+    ensures { OnOk result (out.new.items ≡ out.old.items
+        ++ words_bytes (map (λ s. decimal (size_view s).1) sizes.now)) }
+{
+    for size in sizes {
+        push_number(alloc, out, size.members as u64)?;
+    }
+    Ok(())
+}
+
+/// The command that runs the script.
+pub(crate) fn push_script(
+    alloc: Global,
+    out: &mut Vec<u8>,
+    run: &Run,
+    target: &Target<'_>,
+    sizes: &[Size],
+    texts: &[Vec<u8>],
+) -> Result<(), AllocError>
+    ensures { OnOk result (out.new.items ≡ out.old.items ++ command_bytes
+        (script_command run.now.digits (setting target.now) (map size_view sizes.now)
+        (map (λ t. t.items) texts.now))) }
+{
+    begin_command(alloc, out, sizes.len() + sizes.len() + texts.len() + 9)?;
+    push_head(alloc, out, run, target, sizes)?;
+    push_size_keys(alloc, out, run, target.prefix, sizes)?;
+    push_settings(alloc, out, target)?;
+    push_members(alloc, out, sizes)?;
+    push_texts(alloc, out, texts)?;
+    push_word(alloc, out, b"whole")
+}

@@ -1,0 +1,16 @@
+//! Canvases as work for real Celery workers on Redis.
+#![tactic(auto)]
+
+mod by_script;
+mod by_transaction;
+mod envelope;
+mod exporting;
+mod law;
+mod resp;
+mod starting;
+mod target;
+mod write;
+
+pub use exporting::export;
+pub use law::{law_of_commands, law_of_exports, law_of_messages};
+pub use target::Target;

@@ -1,0 +1,325 @@
+//! Queues: of one thread, of passes, and what threads share.
+
+ghost use Rattle.std.specs.Prelude.{◌≡◌};
+
+use canvas_broker::{Broker, BrokerPass, PlainBroker};
+use canvas_message::{Envelope, Letter};
+use canvas_task::ListOf;
+use std::alloc::Global;
+use std::sync::Wait;
+use std::test::*;
+use std::thread;
+use std::thread::Threads;
+
+/// An envelope whose body is the number, in two bytes.
+fn numbered(alloc: Global, number: u64) -> Option<Letter> {
+    let mut body = Vec::new(alloc);
+    body.push((number % 256) as u8).ok()?;
+    body.push((number / 256 % 256) as u8).ok()?;
+    Some(Letter::new(Envelope {
+        properties: ListOf::of(Vec::new(alloc)),
+        headers: ListOf::of(Vec::new(alloc)),
+        body: ListOf::of(body),
+    }))
+}
+
+fn number_of(letter: &Letter) -> u64 {
+    match letter.envelope().body.get().as_slice() {
+        [low, high] => *low as u64 + 256 * *high as u64,
+        _ => 0,
+    }
+}
+
+fn gives(taken: Option<Letter>, number: u64) -> bool {
+    taken.is_some_and(|envelope| number_of(&envelope) == number)
+}
+
+/// Two envelopes through the queue of one thread.
+fn by_hand(alloc: Global) -> Option<bool> {
+    let mut broker = PlainBroker::new(alloc);
+    let empty = broker.is_empty();
+    broker.publish(numbered(alloc, 1)?).ok()?;
+    broker.publish(numbered(alloc, 2)?).ok()?;
+    let filled = !broker.is_empty();
+    let first = gives(broker.take(), 1);
+    let second = gives(broker.take(), 2);
+    Some(empty && filled && first && second && broker.take().is_none())
+}
+
+#[test]
+fn one_thread_has_a_queue(rt: HostRuntime) -> Result<(), Fail> {
+    assert_eq!(rt; by_hand(rt.alloc()), Some(true));
+    Ok(())
+}
+
+/// Two envelopes through one pass.
+fn by_one<R: Wait>(rt: &R, alloc: Global) -> Option<bool> {
+    let (broker, mut pass) = Broker::new(alloc).ok()?;
+    broker.publish(rt, &mut pass, numbered(alloc, 1)?).ok()?;
+    broker.publish(rt, &mut pass, numbered(alloc, 2)?).ok()?;
+    let first = gives(broker.take(rt, &mut pass), 1);
+    let second = gives(broker.take(rt, &mut pass), 2);
+    Some(first && second && broker.take(rt, &mut pass).is_none())
+}
+
+/// What one pass publishes another takes, and the rest goes to the pass that took that one in.
+fn by_two<R: Wait>(rt: &R, alloc: Global) -> Option<bool> {
+    let (broker, mut pass) = Broker::new(alloc).ok()?;
+    let mut other = broker.split(rt, &mut pass).ok()?;
+    broker.publish(rt, &mut pass, numbered(alloc, 1)?).ok()?;
+    broker.publish(rt, &mut pass, numbered(alloc, 2)?).ok()?;
+    let first = gives(broker.take(rt, &mut other), 1);
+    broker.join(rt, &mut pass, other);
+    let second = gives(broker.take(rt, &mut pass), 2);
+    Some(first && second && broker.take(rt, &mut pass).is_none())
+}
+
+#[test]
+fn passes_share_a_queue(rt: HostRuntime) -> Result<(), Fail> {
+    assert_eq!(rt; by_one(&rt, rt.alloc()), Some(true));
+    assert_eq!(rt; by_two(&rt, rt.alloc()), Some(true));
+    Ok(())
+}
+
+/// Publishes 1,000 numbers from this one on.
+fn publish_all<R: Wait>(
+    rt: &R,
+    alloc: Global,
+    broker: &Broker,
+    mut pass: BrokerPass,
+    from: u64,
+) -> BrokerPass
+    requires { pass.of ≡ broker.now }
+    ensures { result.of ≡ broker.now }
+{
+    for number in 0..1000u64 {
+        if let Some(envelope) = numbered(alloc, number.wrapping_add(from)) {
+            let _ = broker.publish(rt, &mut pass, envelope);
+        }
+    }
+    pass
+}
+
+/// Takes until there is nothing, and adds the numbers to the list.
+fn take_all<R: Wait>(
+    rt: &R,
+    broker: &Broker,
+    mut pass: BrokerPass,
+    mut taken: Vec<u64>,
+) -> (BrokerPass, Vec<u64>)
+    requires { pass.of ≡ broker.now }
+    ensures { result.0.of ≡ broker.now }
+{
+    for _ in rt.forever() {
+        match broker.take(rt, &mut pass) {
+            Some(envelope) => {
+                let _ = taken.push(number_of(&envelope));
+            }
+            None => break,
+        }
+    }
+    (pass, taken)
+}
+
+fn trade<R: Wait>(
+    rt: &R,
+    alloc: Global,
+    broker: &Broker,
+    pass: BrokerPass,
+    from: u64,
+) -> (BrokerPass, Vec<u64>)
+    requires { pass.of ≡ broker.now }
+    ensures { result.0.of ≡ broker.now }
+{
+    let pass = publish_all(rt, alloc, broker, pass, from);
+    take_all(rt, broker, pass, Vec::new(alloc))
+}
+
+/// Whether the numbers below 1,000 rise, and so do the others.
+fn in_order(taken: &[u64]) -> bool {
+    let mut low = 0;
+    let mut high = 1000;
+    for number in taken {
+        if *number < 1000 && low <= *number {
+            low = *number + 1;
+        } else if *number < 2000 && high <= *number {
+            high = *number + 1;
+        } else {
+            return false;
+        }
+    }
+    true
+}
+
+fn count(mut counts: Vec<u64>, taken: &[u64]) -> Vec<u64> {
+    for number in taken {
+        if let Some(found) = counts.get_mut(*number as usize) {
+            *found = found.wrapping_add(1);
+        }
+    }
+    counts
+}
+
+/// Two threads publish 1,000 envelopes each and take; the first pass takes the rest. Whether each
+/// came once, and what came from one to one came in order.
+fn trade_twice<R: Threads + Wait + Sync>(rt: &R, alloc: Global) -> Option<bool> {
+    let (broker, mut pass) = Broker::new(alloc).ok()?;
+    let shared = &broker;
+    let one = shared.split(rt, &mut pass).ok()?;
+    let two = shared.split(rt, &mut pass).ok()?;
+    let ((one, first), (two, second)) = thread::join(
+        rt,
+        move ||
+            requires { one.of ≡ shared.now }
+            ensures { result.0.of ≡ shared.entry.now }
+        { trade(rt, alloc, shared, one, 0) },
+        move ||
+            requires { two.of ≡ shared.now }
+            ensures { result.0.of ≡ shared.entry.now }
+        { trade(rt, alloc, shared, two, 1000) },
+    );
+    shared.join(rt, &mut pass, one);
+    shared.join(rt, &mut pass, two);
+    let (_, rest) = take_all(rt, shared, pass, Vec::new(alloc));
+    let counts = Vec::from_elem(alloc, 0, 2000).ok()?;
+    let counts = count(count(count(counts, &first), &second), &rest);
+    let once = counts.iter().all(|found| *found == 1);
+    Some(once && in_order(&first) && in_order(&second) && in_order(&rest))
+}
+
+#[test]
+fn threads_lose_nothing(rt: HostRuntime) -> Result<(), Fail> {
+    assert_eq!(rt; trade_twice(&rt, rt.alloc()), Some(true));
+    Ok(())
+}
+
+fn add(order: u64, taken: Option<Letter>) -> u64 {
+    match taken {
+        Some(envelope) => order.wrapping_mul(10).wrapping_add(number_of(&envelope)),
+        None => order,
+    }
+}
+
+/// Three envelopes, as a batch and then takes give them: the digits of all, and those of the batch.
+fn by_batch<R: Wait>(rt: &R, alloc: Global) -> Option<(u64, u64)> {
+    let (broker, mut pass) = Broker::new(alloc).ok()?;
+    broker.publish(rt, &mut pass, numbered(alloc, 1)?).ok()?;
+    broker.publish(rt, &mut pass, numbered(alloc, 2)?).ok()?;
+    broker.publish(rt, &mut pass, numbered(alloc, 3)?).ok()?;
+    let mut batch = broker.take_batch(rt, &mut pass);
+    let begun = add(add(add(0, batch.next()), batch.next()), batch.next());
+    let more = add(begun, broker.take(rt, &mut pass));
+    let all = add(
+        add(more, broker.take(rt, &mut pass)),
+        broker.take(rt, &mut pass),
+    );
+    match broker.take(rt, &mut pass) {
+        None => Some((all, begun)),
+        Some(_) => None,
+    }
+}
+
+/// In how many of 1,000 rounds the batch had an envelope; None where a round lost the order.
+fn rounds<R: Wait>(rt: &R, alloc: Global) -> Option<u64> {
+    let mut filled = 0u64;
+    for _ in 0..1000u64 {
+        match by_batch(rt, alloc)? {
+            (123, 0) => {}
+            (123, 1 | 12 | 123) => filled = filled.wrapping_add(1),
+            _ => return None,
+        }
+    }
+    Some(filled)
+}
+
+#[test]
+fn batches_keep_the_order(rt: HostRuntime) -> Result<(), Fail> {
+    assert!(rt; rounds(&rt, rt.alloc()).is_some_and(|filled| 0 < filled));
+    Ok(())
+}
+
+/// What was accepted of the envelopes numbered from 1 up to `end`, as the sum of their numbers.
+/// None where a refused one came back as another.
+fn accepted<R: Wait>(
+    rt: &R,
+    alloc: Global,
+    broker: &Broker,
+    mut pass: BrokerPass,
+    end: u64,
+) -> (BrokerPass, Option<u64>)
+    requires { pass.of ≡ broker.now }
+    ensures { result.0.of ≡ broker.now }
+{
+    let mut sum = 0u64;
+    for number in 1..end {
+        if let Some(envelope) = numbered(alloc, number) {
+            match broker.publish(rt, &mut pass, envelope) {
+                Ok(()) => sum = sum.wrapping_add(number),
+                Err(refused) if number_of(&refused.envelope) == number => {}
+                Err(_) => return (pass, None),
+            }
+        }
+    }
+    (pass, Some(sum))
+}
+
+/// The sum of the numbers that are left. None where they don't rise.
+fn left<R: Wait>(rt: &R, broker: &Broker, mut pass: BrokerPass) -> Option<u64>
+    requires { pass.of ≡ broker.now }
+{
+    let mut sum = 0u64;
+    let mut last = 0u64;
+    for _ in rt.forever() {
+        match broker.take(rt, &mut pass) {
+            Some(envelope) if last < number_of(&envelope) => {
+                last = number_of(&envelope);
+                sum = sum.wrapping_add(last);
+            }
+            Some(_) => return None,
+            None => break,
+        }
+    }
+    Some(sum)
+}
+
+/// Whether a broker holds what was accepted, with a split in between that may be refused. The
+/// split's mark takes memory where it begins a block of the queue.
+fn holds_accepted<R: Wait>(rt: &R, alloc: Global, end: u64) -> bool {
+    let Ok((broker, pass)) = Broker::new(alloc) else {
+        return true;
+    };
+    let (mut pass, sum) = accepted(rt, alloc, &broker, pass, end);
+    if let Ok(other) = broker.split(rt, &mut pass) {
+        broker.join(rt, &mut pass, other);
+    }
+    sum.is_some() && left(rt, &broker, pass) == sum
+}
+
+/// The same of the queue of one thread.
+fn plain_holds_accepted(alloc: Global) -> bool {
+    let mut broker = PlainBroker::new(alloc);
+    let mut sum = 0u64;
+    for number in 1..41u64 {
+        if let Some(envelope) = numbered(alloc, number) {
+            match broker.publish(envelope) {
+                Ok(()) => sum = sum.wrapping_add(number),
+                Err(refused) if number_of(&refused.envelope) == number => {}
+                Err(_) => return false,
+            }
+        }
+    }
+    for _ in 1..41u64 {
+        if let Some(envelope) = broker.take() {
+            sum = sum.wrapping_sub(number_of(&envelope));
+        }
+    }
+    sum == 0 && broker.is_empty()
+}
+
+/// It has to pass whichever of its allocations is refused.
+#[test]
+fn refusals_change_nothing(rt: HostRuntime) {
+    assert!(rt; holds_accepted(&rt, rt.alloc(), 31));
+    assert!(rt; holds_accepted(&rt, rt.alloc(), 41));
+    assert!(rt; plain_holds_accepted(rt.alloc()));
+}

@@ -1,0 +1,274 @@
+//! Tests of registries, with the six tasks and tasks of one's own.
+
+ghost use Rattle.std.specs.Prelude.{◌≡◌, codes, ◌-ℤ◌, neg_ℤ, pos, length, Ok};
+
+use crate::tasks::{BAD_CALL, BOUND, OVERFLOW, list, named};
+use canvas_task::{
+    Add, AddFault, Arg, BoxedTask, Div, Fault, Ident, Kind, LogError, Mul, OfList, OfOne, OfTwo,
+    Outcome, Registry, Task, TaskOfList, TaskOfOne, TaskOfTwo, Xsum, apply, registry_of,
+};
+use std::collections::BTreeMap;
+use std::test::Fail;
+
+/// The difference.
+#[derive(Clone, Copy)]
+struct Difference;
+
+impl OfTwo for Difference {
+    ghost answer = { λ _ x y. Ok (x -ℤ y) };
+
+    fn answer(&self, x: i64, y: i64) -> Result<i128, Kind> {
+        Ok(i128::from(x) - i128::from(y))
+    }
+}
+
+/// The number with its sign changed.
+#[derive(Clone, Copy)]
+struct Negated;
+
+impl OfOne for Negated {
+    ghost answer = { λ _ x. Ok (neg_ℤ x) };
+
+    fn answer(&self, x: i64) -> Result<i128, Kind> {
+        Ok(-i128::from(x))
+    }
+}
+
+/// How many numbers there are.
+#[derive(Clone, Copy)]
+struct Count;
+
+impl OfList for Count {
+    ghost answer = { λ _ numbers. Ok (pos (length numbers)) };
+
+    fn answer(&self, numbers: &[i64]) -> Result<i128, Kind> {
+        Ok(numbers.len() as i128)
+    }
+}
+
+/// The positional arguments' count, which no helper binds.
+#[derive(Clone, Copy)]
+struct Given;
+
+impl Task for Given {
+    ghost called = { λ _. codes "tests.given" };
+
+    ghost answers = { λ _ args _. Ok (pos (length args)) };
+
+    fn name(&self) -> &str {
+        "tests.given"
+    }
+
+    fn call(&self, args: &[Arg], _kwargs: &BTreeMap<String, Arg>) -> Result<i64, Kind> {
+        Ok(args.len() as i64)
+    }
+}
+
+/// Always answers a number that it holds.
+#[derive(Drop)]
+struct Always {
+    number: i64,
+    name: &'static str,
+}
+
+impl Task for Always {
+    ghost called = { λ it. it.name.now };
+
+    ghost answers = { λ it _ _. Ok it.number };
+
+    fn name(&self) -> &str {
+        self.name
+    }
+
+    fn call(&self, _args: &[Arg], _kwargs: &BTreeMap<String, Arg>) -> Result<i64, Kind> {
+        Ok(self.number)
+    }
+}
+
+const NOT_REGISTERED: Outcome = Outcome::Failure(Fault::Plain(Kind::NotRegistered));
+
+/// What tasks of two numbers, of one and of a list answer to numbers; and a name that isn't added
+/// has no task.
+fn answer_numbers(registry: &Registry, none: &BTreeMap<String, Arg>) -> bool {
+    let numbers = [Arg::Num(10), Arg::Num(3)];
+    registry.apply("tests.sub", &numbers, none) == Outcome::Success(7)
+        && registry.apply("tests.negate", &numbers[..1], none) == Outcome::Success(-10)
+        && registry.apply("tests.negate", &numbers, none) == BAD_CALL
+        && registry.apply("tests.negate", &[Arg::Num(i64::MIN)], none) == OVERFLOW
+        && registry.apply("tests.count", &numbers[..1], none) == BAD_CALL
+        && registry.apply("tasks.mul", &numbers, none) == Outcome::Success(30)
+        && registry.apply("tasks.add", &numbers, none) == NOT_REGISTERED
+}
+
+/// What they answer to a list of two, alone and in front of a number.
+fn answer_lists(registry: &Registry, lists: &[Arg; 2], none: &BTreeMap<String, Arg>) -> bool {
+    registry.apply("tests.count", &lists[..1], none) == Outcome::Success(2)
+        && registry.apply("tests.sub", lists, none) == BAD_CALL
+}
+
+/// What the difference of 10 and a named number is, where the second is named, and the first.
+fn answer_named(registry: &Registry, y: &BTreeMap<String, Arg>, x: &BTreeMap<String, Arg>) -> bool {
+    let number = [Arg::Num(10)];
+    registry.apply("tests.sub", &number, y) == Outcome::Success(6)
+        && registry.apply("tests.sub", &number, x) == BAD_CALL
+}
+
+#[test]
+fn tasks_of_numbers(rt: HostRuntime) -> Result<(), Fail> {
+    let alloc = rt.alloc();
+    let none = BTreeMap::new(alloc);
+    let (y, x) = (named(alloc, "y", 4)?, named(alloc, "x", 4)?);
+    let lists = [list(alloc, &[5, 6])?, Arg::Num(1)];
+    let sub = TaskOfTwo {
+        name: "tests.sub",
+        parameters: ("x", "y"),
+        answers: Difference,
+    };
+    let negate = TaskOfOne {
+        name: "tests.negate",
+        parameter: "x",
+        answers: Negated,
+    };
+    let count = TaskOfList {
+        name: "tests.count",
+        parameter: "numbers",
+        answers: Count,
+    };
+    let registry = registry_of!(alloc; Mul, sub, negate, count)?;
+    let numbers = answer_numbers(&registry, &none);
+    let lists = answer_lists(&registry, &lists, &none);
+    let named = answer_named(&registry, &y, &x);
+    assert_eq!(rt; [numbers, lists, named], [true, true, true]);
+    Ok(())
+}
+
+/// What the count of the arguments answers, and the sum beside it.
+fn answer_whole(registry: &Registry, none: &BTreeMap<String, Arg>) -> bool {
+    let numbers = [Arg::Num(10), Arg::Num(3)];
+    registry.apply("tests.given", &numbers, none) == Outcome::Success(2)
+        && registry.apply("tests.given", &[], none) == Outcome::Success(0)
+        && registry.apply("tasks.add", &numbers, none) == Outcome::Success(13)
+}
+
+#[test]
+fn a_task_written_whole(rt: HostRuntime) -> Result<(), Fail> {
+    let alloc = rt.alloc();
+    let none = BTreeMap::new(alloc);
+    let registry = registry_of!(alloc; Add, Given)?;
+    let answers = answer_whole(&registry, &none);
+    assert!(rt; answers);
+    Ok(())
+}
+
+/// What is wanted of a task that is given back.
+#[derive(Drop)]
+struct Wanted {
+    cause: AddFault,
+    name: &'static str,
+    answer: i64,
+    none: BTreeMap<String, Arg>,
+}
+
+/// Whether a task isn't added, and is given back as wanted.
+fn refuses(registry: &mut Registry, task: BoxedTask, wanted: &Wanted) -> bool {
+    let numbers = [Arg::Num(1), Arg::Num(2)];
+    match registry.add(task) {
+        Ok(()) => false,
+        Err(refused) => {
+            refused.cause == wanted.cause
+                && refused.task.name() == wanted.name
+                && refused.task.call(&numbers, &wanted.none) == Ok(wanted.answer)
+        }
+    }
+}
+
+#[test]
+fn tasks_of_a_name_that_is_there(rt: HostRuntime) -> Result<(), Fail> {
+    let alloc = rt.alloc();
+    let other = Always {
+        number: 5,
+        name: "tasks.add",
+    };
+    let (other, same) = (Box::new(alloc, other)?, Box::new(alloc, Add)?);
+    let mut wanted = Wanted {
+        cause: AddFault::Doubled,
+        name: "tasks.add",
+        answer: 5,
+        none: BTreeMap::new(alloc),
+    };
+    let mut registry = registry_of!(alloc; Add)?;
+    let refused = refuses(&mut registry, other, &wanted);
+    wanted.answer = 3;
+    let twice = refuses(&mut registry, same, &wanted);
+    let stays = registry.apply("tasks.add", &[Arg::Num(1), Arg::Num(1)], &wanted.none);
+    assert_eq!(rt; (refused, twice, stays), (true, true, Outcome::Success(2)));
+    Ok(())
+}
+
+#[test]
+fn tasks_of_bad_names(rt: HostRuntime) -> Result<(), Fail> {
+    let alloc = rt.alloc();
+    let mut registry = Registry::new(alloc);
+    for name in ["", "a b", "tasks.\u{e9}"] {
+        let wanted = Wanted {
+            cause: AddFault::BadName,
+            name,
+            answer: 6,
+            none: BTreeMap::new(alloc),
+        };
+        let bad = Box::new(alloc, Always { number: 6, name })?;
+        let refused = refuses(&mut registry, bad, &wanted);
+        assert!(rt; refused, "{name}");
+    }
+    Ok(())
+}
+
+#[test]
+fn answers_out_of_range(rt: HostRuntime) -> Result<(), Fail> {
+    let alloc = rt.alloc();
+    let past = Always {
+        number: BOUND + 1,
+        name: "past",
+    };
+    let at = Always {
+        number: -BOUND,
+        name: "at",
+    };
+    let registry = registry_of!(alloc; past, at)?;
+    let none = BTreeMap::new(alloc);
+    let answers = [
+        registry.apply("past", &[], &none),
+        registry.apply("at", &[], &none),
+    ];
+    assert_eq!(rt; answers, [OVERFLOW, Outcome::Success(-BOUND)]);
+    Ok(())
+}
+
+/// Whether a registry answers to a call by each name what the six do.
+fn answer_as_six(registry: &Registry, args: &[Arg], none: &BTreeMap<String, Arg>) -> bool {
+    [
+        "tasks.add",
+        "tasks.mul",
+        "tasks.div",
+        "tasks.xsum",
+        "tasks.ident",
+        "tasks.log_error",
+        "nope",
+    ]
+    .iter()
+    .all(|name| registry.apply(name, args, none) == apply(name, args, none))
+}
+
+#[test]
+fn six_as_objects(rt: HostRuntime) -> Result<(), Fail> {
+    let alloc = rt.alloc();
+    let none = BTreeMap::new(alloc);
+    let lists = [list(alloc, &[1, 2])?];
+    let registry = registry_of!(alloc; LogError, Ident, Xsum, Div, Mul, Add)?;
+    let numbers = [Arg::Num(-7), Arg::Num(2)];
+    let two = answer_as_six(&registry, &numbers, &none);
+    let list = answer_as_six(&registry, &lists, &none);
+    let one = answer_as_six(&registry, &numbers[..1], &none);
+    assert_eq!(rt; [two, list, one], [true, true, true]);
+    Ok(())
+}
