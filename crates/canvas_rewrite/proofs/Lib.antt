@@ -9,5 +9,6 @@ pub mod NameLines
 pub mod Members
 pub mod PlanLookups
 pub mod NodeLines
+pub mod Moved
 pub mod InOrder
 pub mod NamesInOrder

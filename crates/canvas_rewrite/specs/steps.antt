@@ -1,3 +1,4 @@
 pub mod GroupData
 pub mod Kept
 pub mod Growing
+pub mod Weight

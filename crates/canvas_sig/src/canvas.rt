@@ -75,6 +75,14 @@ impl Canvas {
     {
         &self.node
     }
+
+    /// The signature, given back.
+    pub fn into_node(self) -> Node
+        ensures seen { view result ≡ self }
+        ensures checked { IsCanvas self }
+    {
+        self.node
+    }
 }
 
 fn read_signature(alloc: Global, bytes: &[u8]) -> Result<Node, SigFault>

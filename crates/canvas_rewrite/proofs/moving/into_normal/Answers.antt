@@ -1,0 +1,23 @@
+use Rattle.std.proofs.Common.{◌≡◌, ◌∙◌, ap}
+use Rattle.canvas_semantics.specs.NormalLine.{onto, normal}
+use Rattle.canvas_semantics.specs.Tree.{chain, no_trees}
+use Rattle.canvas_sig.specs.View.{view}
+use Rattle.canvas_rewrite.specs.View.{line_view}
+use Rattle.canvas_rewrite.proofs.NormalRuns.{same_line}
+use Rattle.canvas_rewrite.proofs.moving.into_normal.Goals as goal
+
+pub returns-clause-value : goal.returns-clause-value
+returns-clause-value c =
+    ap chain (c.into_line.ensures ∙ c.in_ok-line.ensures ∙ ap (onto (view c.into_node.result)) c.empty.ensures ∙ ap (λ t. onto t no_trees) c.into_node.ensures.seen)
+
+pub returns-clause-meaning : goal.returns-clause-meaning
+returns-clause-meaning c =
+    let line : line_view c.into_line.result ≡ normal c.args.canvas =
+    ap chain (c.into_line.ensures ∙ c.in_ok-line.ensures ∙ ap (onto (view c.into_node.result)) c.empty.ensures ∙ ap (λ t. onto t no_trees) c.into_node.ensures.seen) in
+    (same_line c.args.canvas (line_view c.into_line.result) c.into_node.ensures.checked line).0
+
+pub returns-clause-runnable : goal.returns-clause-runnable
+returns-clause-runnable c =
+    let line : line_view c.into_line.result ≡ normal c.args.canvas =
+    ap chain (c.into_line.ensures ∙ c.in_ok-line.ensures ∙ ap (onto (view c.into_node.result)) c.empty.ensures ∙ ap (λ t. onto t no_trees) c.into_node.ensures.seen) in
+    (same_line c.args.canvas (line_view c.into_line.result) c.into_node.ensures.checked line).1
