@@ -11,7 +11,7 @@ ghost use Rattle.canvas_engine.specs.Correct.{AreWorkers, IsAsked, IsWholeAgain,
 ghost use Rattle.canvas_engine.specs.Texts.{IsCanvasText, IsPlanFault, IsPlanOfText, IsReadFault, IsTextAgain, IsTextFault};
 
 use crate::{Report, RunFault, When, report_text, run, run_turns_again};
-use canvas_rewrite::{Plan, freeze, normalise};
+use canvas_rewrite::{Plan, freeze, into_normal};
 use canvas_sig::{Canvas, SigFault, read_canvas};
 use canvas_task::{Memory, TaskNo, Tasks};
 use canvas_worker::{Gate, Stop};
@@ -46,13 +46,12 @@ impl From<Memory> for TextFault {
     }
 }
 
-/// The plan of a canvas, which is given up as soon as its normal line is there.
+/// The plan of a canvas, whose parts become its normal line.
 fn plan_of(alloc: Global, canvas: Canvas) -> Result<Plan, Memory>
     ensures tree { IfOk result (λ plan. tree_of plan ≡ numbered (normal canvas)) }
     ensures same { OnOk result (IsSame (normal canvas) canvas) }
 {
-    let line = normalise(alloc, &canvas)?;
-    drop(canvas);
+    let line = into_normal(alloc, canvas)?;
     freeze(alloc, &line)
 }
 

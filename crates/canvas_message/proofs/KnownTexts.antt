@@ -1,5 +1,5 @@
 -- The texts of light messages, by the pieces that they are written in.
-use Rattle.std.proofs.Common.{◌≡◌, ◌∙◌, ℕ, zero, suc, ℤ, pos, negsuc, Bool, true, false, List, [], ◌∷◌, ◌++◌, ◌<◌, ◌≤◌, arith, Some, Ok, Err, refl, sym, ap, subst, append_assoc}
+use Rattle.std.proofs.Common.{◌≡◌, ◌∙◌, ℕ, zero, suc, ℤ, pos, negsuc, Bool, true, false, List, [], ◌∷◌, ◌++◌, ◌<◌, ◌≤◌, arith, Option, Some, None, Ok, Err, refl, sym, ap, subst, append_assoc}
 use Rattle.std.specs.Prelude.{codes, decimal, Result, if◌then◌else◌}
 use Rattle.std.specs.Fmt.{signed_decimal}
 use Rattle.std.proofs.lemmas.Bool.Decides.{nat_tests}
@@ -12,9 +12,12 @@ use Rattle.serde_json.specs.Written.{compact_text, items_text, number_text}
 use Rattle.uuid.specs.Text.{by_index, hex_digit, nibble, digit_place, is_hyphen_place, hyphen, lower, hyphenated_text}
 use Rattle.uuid.proofs.TextLemmas.{nibble_small}
 use Rattle.canvas_task.specs.Identifiers.{identifier, task_mark, group_mark, task_text, group_text}
-use Rattle.canvas_message.specs.Wire.{frozen_wire, task_id}
-use Rattle.canvas_message.specs.steps.Texts as texts
-use Rattle.canvas_message.specs.steps.Texts.{Adds, properties_naming, headers_naming, id_text, name_text, size_text, flag_text, call_text, own_text, end_text, embed_alone, args_text, alone_text}
+use Rattle.canvas_message.specs.Wire.{frozen_wire, task_id, group_id, place_id}
+use Rattle.canvas_message.specs.View.{place_view, place_seen}
+use Rattle.canvas_message.proofs.Seen.{group_place, chord_place}
+use Rattle.canvas_rewrite.specs.declared.frozen.Place.{Place, out-Place}
+use Rattle.canvas_rewrite.specs.declared.frozen.Carried.{Carried}
+use Rattle.canvas_message.specs.steps.Texts.{Adds, properties_naming, headers_naming, front_text, origin_text, name_text, size_text, flag_text, call_text, own_text, embed_alone, args_text, alone_text}
 
 -- ---- one piece after the other
 
@@ -74,40 +77,88 @@ task_plain k = hyphenated_plain (identifier task_mark k)
 pub group_plain : (g : ℕ) → escape (group_text g) ≡ group_text g
 group_plain g = hyphenated_plain (identifier group_mark g)
 
+-- ---- identifiers between quotes
+
+abbrev quote : List ℕ
+quote = 34 ∷ []
+
+-- the group or chord of a place
+placed : (p : Place) (o : Option Carried) → (out-Place p).chord ≡ o → place_id (place_view p) ≡ group_id (out-Place p).group
+placed p None e = ap place_id (group_place p e)
+placed p (Some c) e = ap place_id (chord_place p c e)
+
+pub front_written : (p : Place) (o : Option Place) → o ≡ Some p → (codes "{\"group\":\"" ++ group_text (out-Place p).group) ++ codes "\",\"id\":\"" ≡ front_text (place_id (place_seen o))
+unfolding serde_json_on_literals
+front_written p o is =
+    between (codes "{\"group\":") (group_text (out-Place p).group) (codes ",\"id\":\"")
+    ∙ ap (λ x. codes "{\"group\":" ++ ((quote ++ (x ++ quote)) ++ codes ",\"id\":\"")) (sym (group_plain (out-Place p).group))
+    ∙ ap front_text (sym (placed p (out-Place p).chord refl)) ∙ ap (λ q. front_text (place_id (place_seen q))) (sym is)
+  where
+    between : (o i s : List ℕ) → ((o ++ quote) ++ i) ++ (quote ++ s) ≡ o ++ ((quote ++ (i ++ quote)) ++ s)
+    between o i s = simp append_assoc
+
+pub origin_written : (k : ℕ)
+    → (codes "\",\"lang\":\"rs\",\"parent_id\":\"" ++ task_text k) ++ codes "\",\"root_id\":\"00000000-0000-8000-8000-000000000001\",\"task\":" ≡ origin_text (task_id k)
+unfolding serde_json_on_literals
+origin_written k =
+    between (codes "\",\"lang\":\"rs\",\"parent_id\":") (task_text k) (codes ",\"root_id\":\"00000000-0000-8000-8000-000000000001\",\"task\":")
+    ∙ ap (λ x. codes "\",\"lang\":\"rs\",\"parent_id\":" ++ ((quote ++ (x ++ quote)) ++ codes ",\"root_id\":\"00000000-0000-8000-8000-000000000001\",\"task\":")) (sym (task_plain k))
+  where
+    between : (o i s : List ℕ) → ((o ++ quote) ++ i) ++ (quote ++ s) ≡ o ++ ((quote ++ (i ++ quote)) ++ s)
+    between o i s = simp append_assoc
+
 -- ---- whole texts
 
-pub properties_written : (id : Data) → codes "{\"content_encoding\":\"utf-8\",\"content_type\":\"application/json\",\"correlation_id\":" ++ (compact_text id ++ codes "}")
-    ≡ compact_text (properties_naming id)
+pub properties_written : (i : List ℕ) → escape i ≡ i
+    → (codes "{\"content_encoding\":\"utf-8\",\"content_type\":\"application/json\",\"correlation_id\":\"" ++ i) ++ codes "\"}" ≡ compact_text (properties_naming (string i))
 unfolding serde_json_on_literals
-properties_written id = refl
+properties_written i plain =
+    between (codes "{\"content_encoding\":\"utf-8\",\"content_type\":\"application/json\",\"correlation_id\":") i (codes "}")
+    ∙ ap (λ x. codes "{\"content_encoding\":\"utf-8\",\"content_type\":\"application/json\",\"correlation_id\":" ++ ((quote ++ (x ++ quote)) ++ codes "}")) (sym plain)
+  where
+    between : (o i s : List ℕ) → ((o ++ quote) ++ i) ++ (quote ++ s) ≡ o ++ ((quote ++ (i ++ quote)) ++ s)
+    between o i s = simp append_assoc
 
 root_known : compact_text (task_id 1) ≡ codes "\"00000000-0000-8000-8000-000000000001\""
 unfolding serde_json_on_literals by_index
 root_known = refl
 
-head : (o g s i l p r n e : List ℕ) → (((o ++ g) ++ (s ++ (i ++ l))) ++ p) ++ (r ++ (n ++ e)) ≡ o ++ (g ++ (s ++ (i ++ (l ++ (p ++ (r ++ (n ++ e)))))))
-head o g s i l p r n e = simp append_assoc
+head : (o g s q i l p r t u n e : List ℕ)
+    → (((o ++ (g ++ (s ++ q))) ++ i) ++ ((q ++ l) ++ (p ++ (r ++ (t ++ u))))) ++ (n ++ e) ≡ o ++ (g ++ (s ++ ((q ++ (i ++ q)) ++ (l ++ (p ++ (r ++ (t ++ (u ++ (n ++ e)))))))))
+head o g s q i l p r t u n e = simp append_assoc
 
-pub headers_written : (group id parent : Data) (name : List ℕ) → ((texts.group_text group ++ id_text id) ++ compact_text parent) ++ name_text name
-    ≡ compact_text (headers_naming group id parent name)
-unfolding serde_json_on_literals by_index
-headers_written group id parent name =
-    head (codes "{\"group\":") (compact_text group) (codes ",\"id\":") (compact_text id) (codes ",\"lang\":\"rs\",\"parent_id\":") (compact_text parent)
-    (codes ",\"root_id\":\"00000000-0000-8000-8000-000000000001\",\"task\":") (compact_text (string name)) (codes "}")
-
-call : (o a s d f k p i b q n e : List ℕ)
-    → (((o ++ (a ++ (s ++ d))) ++ (f ++ k)) ++ (p ++ i)) ++ ((b ++ q) ++ (n ++ e)) ≡ o ++ (a ++ (s ++ (d ++ (f ++ (k ++ ((p ++ (i ++ b)) ++ (q ++ (n ++ e))))))))
-call o a s d f k p i b q n e = simp append_assoc
-
-pub task_written : (size : ℕ) (args : Items) (immutable : Bool) (kwargs : Members) (id : Data) (name : List ℕ) → (call_text size args immutable kwargs ++ own_text id) ++ end_text name
-    ≡ compact_text (frozen_wire (Some size) args immutable kwargs (member (codes "task_id") id no_members) null name)
+pub headers_written : (group parent : Data) (i name : List ℕ) → escape i ≡ i
+    → ((front_text group ++ i) ++ origin_text parent) ++ name_text name ≡ compact_text (headers_naming group (string i) parent name)
 unfolding serde_json_on_literals
-task_written size args true kwargs id name =
-    call (codes "{\"args\":[") (items_text false args) (codes ",\"chord_size\":") (decimal size) (flag_text true) (compact_text (object kwargs)) (codes ",\"options\":{\"task_id\":")
-    (compact_text id) (codes "}") (codes ",\"subtask_type\":null,\"task\":") (compact_text (string name)) (codes "}")
-task_written size args false kwargs id name =
-    call (codes "{\"args\":[") (items_text false args) (codes ",\"chord_size\":") (decimal size) (flag_text false) (compact_text (object kwargs)) (codes ",\"options\":{\"task_id\":")
-    (compact_text id) (codes "}") (codes ",\"subtask_type\":null,\"task\":") (compact_text (string name)) (codes "}")
+headers_written group parent i name plain =
+    let text : List ℕ → List ℕ → List ℕ = λ x t.
+        codes "{\"group\":" ++ (compact_text group ++ (codes ",\"id\":" ++ ((quote ++ (x ++ quote)) ++ (codes ",\"lang\":\"rs\",\"parent_id\":" ++ (compact_text parent ++ (codes ",\"root_id\":"
+        ++ (t ++ (codes ",\"task\":" ++ (compact_text (string name) ++ codes "}"))))))))) in
+    head (codes "{\"group\":") (compact_text group) (codes ",\"id\":") quote i (codes ",\"lang\":\"rs\",\"parent_id\":") (compact_text parent) (codes ",\"root_id\":")
+    (codes "\"00000000-0000-8000-8000-000000000001\"") (codes ",\"task\":") (compact_text (string name)) (codes "}")
+    ∙ ap (λ x. text x (codes "\"00000000-0000-8000-8000-000000000001\"")) (sym plain) ∙ ap (text (escape i)) (sym root_known)
+
+call : (o a s d f k p q i b t n e : List ℕ)
+    → (((o ++ (a ++ (s ++ d))) ++ (f ++ k)) ++ ((p ++ q) ++ (i ++ (q ++ (b ++ t))))) ++ (n ++ e) ≡ o ++ (a ++ (s ++ (d ++ (f ++ (k ++ ((p ++ ((q ++ (i ++ q)) ++ b)) ++ (t ++ (n ++ e))))))))
+call o a s d f k p q i b t n e = simp append_assoc
+
+call_written : (size : ℕ) (args : Items) (flag : List ℕ) (kwargs : Members) (i name : List ℕ) → escape i ≡ i
+    → ((size_text size args ++ (flag ++ compact_text (object kwargs))) ++ own_text i) ++ name_text name
+    ≡ codes "{\"args\":[" ++ (items_text false args ++ (codes ",\"chord_size\":" ++ (decimal size ++ (flag ++ (compact_text (object kwargs)
+    ++ ((codes ",\"options\":{\"task_id\":" ++ ((quote ++ (escape i ++ quote)) ++ codes "}")) ++ (codes ",\"subtask_type\":null,\"task\":" ++ (compact_text (string name) ++ codes "}"))))))))
+call_written size args flag kwargs i name plain =
+    call (codes "{\"args\":[") (items_text false args) (codes ",\"chord_size\":") (decimal size) flag (compact_text (object kwargs)) (codes ",\"options\":{\"task_id\":") quote i (codes "}")
+    (codes ",\"subtask_type\":null,\"task\":") (compact_text (string name)) (codes "}")
+    ∙ ap (λ x. codes "{\"args\":[" ++ (items_text false args ++ (codes ",\"chord_size\":" ++ (decimal size ++ (flag ++ (compact_text (object kwargs)
+    ++ ((codes ",\"options\":{\"task_id\":" ++ ((quote ++ (x ++ quote)) ++ codes "}")) ++ (codes ",\"subtask_type\":null,\"task\":" ++ (compact_text (string name) ++ codes "}")))))))))
+    (sym plain)
+
+pub task_written : (size : ℕ) (args : Items) (immutable : Bool) (kwargs : Members) (i name : List ℕ) → escape i ≡ i
+    → (call_text size args immutable kwargs ++ own_text i) ++ name_text name
+    ≡ compact_text (frozen_wire (Some size) args immutable kwargs (member (codes "task_id") (string i) no_members) null name)
+unfolding serde_json_on_literals
+task_written size args true kwargs i name plain = call_written size args (flag_text true) kwargs i name plain
+task_written size args false kwargs i name plain = call_written size args (flag_text false) kwargs i name plain
 
 body : (o a s k p c e z : List ℕ) → (o ++ (a ++ (s ++ k))) ++ (p ++ (c ++ (e ++ z))) ≡ o ++ (a ++ (s ++ (k ++ ((p ++ (c ++ e)) ++ z))))
 body o a s k p c e z = simp append_assoc

@@ -5,4 +5,4 @@ mod frozen;
 mod identifiers;
 pub(crate) mod light;
 mod pieces;
-mod text;
+pub(crate) mod text;

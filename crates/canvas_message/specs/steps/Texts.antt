@@ -27,17 +27,18 @@ headers_naming group id parent name =
     (member (codes "root_id") (task_id 1)
     (member (codes "task") (string name) no_members))))))
 
-abbrev pub group_text : (group : Data) → List ℕ
-group_text group = codes "{\"group\":" ++ compact_text group
+-- up to the identifier, with its opening quote
+abbrev pub front_text : (group : Data) → List ℕ
+front_text group = codes "{\"group\":" ++ (compact_text group ++ codes ",\"id\":\"")
 
-abbrev pub id_text : (id : Data) → List ℕ
-id_text id = codes ",\"id\":" ++ (compact_text id ++ codes ",\"lang\":\"rs\",\"parent_id\":")
+-- from the identifier's closing quote up to the name
+abbrev pub origin_text : (parent : Data) → List ℕ
+origin_text parent =
+    codes "\",\"lang\":\"rs\",\"parent_id\":" ++ (compact_text parent
+    ++ codes ",\"root_id\":\"00000000-0000-8000-8000-000000000001\",\"task\":")
 
--- from the root on
 abbrev pub name_text : (name : List ℕ) → List ℕ
-name_text name =
-    codes ",\"root_id\":\"00000000-0000-8000-8000-000000000001\",\"task\":"
-    ++ (compact_text (string name) ++ codes "}")
+name_text name = compact_text (string name) ++ codes "}"
 
 -- ---- a task with nothing of its own behind it
 
@@ -65,12 +66,10 @@ abbrev pub call_text : (size : ℕ) (args : Items) → Bool → (kwargs : Member
 call_text size args immutable kwargs =
     size_text size args ++ (flag_text immutable ++ compact_text (object kwargs))
 
-abbrev pub own_text : (id : Data) → List ℕ
-own_text id = codes ",\"options\":{\"task_id\":" ++ compact_text id
-
-abbrev pub end_text : (name : List ℕ) → List ℕ
-end_text name =
-    codes "},\"subtask_type\":null,\"task\":" ++ (compact_text (string name) ++ codes "}")
+-- the options, and what stands behind them but the name
+abbrev pub own_text : (id : List ℕ) → List ℕ
+own_text id =
+    codes ",\"options\":{\"task_id\":\"" ++ (id ++ codes "\"},\"subtask_type\":null,\"task\":")
 
 -- ---- a body
 

@@ -4,19 +4,22 @@
 //! carries is one task with nothing of its own behind it.
 
 ghost use Rattle.std.specs.Prelude.{◌≡◌, true, Some, IfSome, string_bytes};
+ghost use Rattle.json.specs.Print.{escape};
+ghost use Rattle.serde_json.specs.Data.{string};
 ghost use Rattle.serde_json.specs.Written.{compact_text};
+ghost use Rattle.canvas_task.specs.Identifiers.{task_text};
 ghost use Rattle.canvas_sig.specs.Writing.{args_wire, kwargs_wire};
 ghost use Rattle.canvas_task.specs.Entries.{named};
 ghost use Rattle.canvas_semantics.specs.PlacedLine.{p_step, p_stop};
 ghost use Rattle.canvas_rewrite.specs.declared.frozen.FrozenTask.{out-FrozenTask};
 ghost use Rattle.canvas_rewrite.specs.declared.frozen.Carried.{out-Carried};
 ghost use Rattle.canvas_rewrite.specs.FrozenView.{p_task_view, p_line_view};
-ghost use Rattle.canvas_message.specs.Content.{place_of};
+ghost use Rattle.canvas_message.specs.Content.{number_of, place_of};
 ghost use Rattle.canvas_message.specs.View.{place_seen};
 ghost use Rattle.canvas_message.specs.Wire.{task_id, place_id, parent_id, carried_wire, task_wire, line_wire, embed_wire, body_wire, headers_wire};
-ghost use Rattle.canvas_message.specs.steps.Texts.{Adds, properties_naming, group_text, id_text, name_text, bare, size_text, flag_text, call_text, own_text, end_text, embed_alone, args_text, alone_text};
+ghost use Rattle.canvas_message.specs.steps.Texts.{Adds, properties_naming, front_text, origin_text, name_text, bare, size_text, flag_text, call_text, own_text, embed_alone, args_text, alone_text};
 
-use super::text::{put, put_args, put_group_id, put_kwargs, put_size, put_string, put_task_id};
+use super::text::{put, put_args, put_group_text, put_kwargs, put_size, put_string, put_task_text};
 use crate::Message;
 use crate::guess::Miss;
 use canvas_rewrite::{Carried, FrozenLine, FrozenTask, Place};
@@ -25,72 +28,87 @@ use std::alloc::{AllocError, Global};
 use std::collections::BTreeMap;
 
 /// The properties.
-pub(crate) fn put_properties(out: &mut String, task: TaskNo) -> Result<(), AllocError>
+pub(crate) fn put_properties(out: &mut String, id: &str) -> Result<(), AllocError>
+    requires { escape id.now ≡ id.now }
     ensures { Adds result (string_bytes out.old) (string_bytes out.new)
-        (compact_text (properties_naming (task_id task))) }
+        (compact_text (properties_naming (string id.now))) }
 {
     put(
         out,
-        "{\"content_encoding\":\"utf-8\",\"content_type\":\"application/json\",\"correlation_id\":",
+        "{\"content_encoding\":\"utf-8\",\"content_type\":\"application/json\",\"correlation_id\":\"",
     )?;
-    put_task_id(out, task)?;
-    put(out, "}")
+    put(out, id)?;
+    put(out, "\"}")
 }
 
-/// The group or chord of a place.
-fn put_group(out: &mut String, place: &Option<Place>) -> Result<(), AllocError>
+fn put_place(out: &mut String, place: &Place) -> Result<(), AllocError>
     ensures { Adds result (string_bytes out.old) (string_bytes out.new)
-        (group_text (place_id (place_seen place.now))) }
+        (front_text (place_id (place_seen (Some place.now)))) }
 {
-    put(out, "{\"group\":")?;
+    put(out, "{\"group\":\"")?;
+    put_group_text(out, place.group)?;
+    put(out, "\",\"id\":\"")
+}
+
+/// The group or chord of a place, up to the identifier.
+fn put_front(out: &mut String, place: &Option<Place>) -> Result<(), AllocError>
+    ensures { Adds result (string_bytes out.old) (string_bytes out.new)
+        (front_text (place_id (place_seen place.now))) }
+{
     match place {
-        Some(place) => put_group_id(out, place.group),
-        None => put(out, "null"),
+        Some(place) => put_place(out, place),
+        None => put(out, "{\"group\":null,\"id\":\""),
     }
 }
 
-fn put_own(out: &mut String, task: TaskNo) -> Result<(), AllocError>
-    ensures { Adds result (string_bytes out.old) (string_bytes out.new) (id_text (task_id task)) }
+fn put_parent(out: &mut String, task: TaskNo) -> Result<(), AllocError>
+    ensures { Adds result (string_bytes out.old) (string_bytes out.new)
+        (origin_text (task_id task)) }
 {
-    put(out, ",\"id\":")?;
-    put_task_id(out, task)?;
-    put(out, ",\"lang\":\"rs\",\"parent_id\":")
+    put(out, "\",\"lang\":\"rs\",\"parent_id\":\"")?;
+    put_task_text(out, task)?;
+    put(
+        out,
+        "\",\"root_id\":\"00000000-0000-8000-8000-000000000001\",\"task\":",
+    )
 }
 
-fn put_parent(out: &mut String, parent: Option<TaskNo>) -> Result<(), AllocError>
+/// What stands between the identifier and the name.
+fn put_origin(out: &mut String, parent: Option<TaskNo>) -> Result<(), AllocError>
     ensures { Adds result (string_bytes out.old) (string_bytes out.new)
-        (compact_text (parent_id parent)) }
+        (origin_text (parent_id parent)) }
 {
     match parent {
-        Some(task) => put_task_id(out, task),
-        None => put(out, "null"),
+        Some(task) => put_parent(out, task),
+        None => put(
+            out,
+            "\",\"lang\":\"rs\",\"parent_id\":null,\"root_id\":\"00000000-0000-8000-8000-000000000001\",\"task\":",
+        ),
     }
 }
 
-/// The root of all, and the name.
+/// The name, which is the last.
 fn put_name(alloc: Global, out: &mut String, name: &str) -> Result<(), AllocError>
     ensures { Adds result (string_bytes out.old) (string_bytes out.new) (name_text name.now) }
 {
-    put(
-        out,
-        ",\"root_id\":\"00000000-0000-8000-8000-000000000001\",\"task\":",
-    )?;
     put_string(alloc, out, name)?;
     put(out, "}")
 }
 
-/// The headers.
+/// The headers of a message with this identifier.
 pub(crate) fn put_headers(
     alloc: Global,
     out: &mut String,
     message: &Message,
+    id: &str,
 ) -> Result<(), AllocError>
+    requires { id.now ≡ task_text (number_of message.now.own) }
     ensures { Adds result (string_bytes out.old) (string_bytes out.new)
         (compact_text (headers_wire message.now)) }
 {
-    put_group(out, &message.place)?;
-    put_own(out, message.task)?;
-    put_parent(out, message.parent)?;
+    put_front(out, &message.place)?;
+    put(out, id)?;
+    put_origin(out, message.parent)?;
     put_name(alloc, out, message.name.get())
 }
 
@@ -148,18 +166,12 @@ fn put_call(alloc: Global, out: &mut String, size: u32, task: &FrozenTask) -> Re
 }
 
 fn put_options(out: &mut String, task: TaskNo) -> Result<(), AllocError>
-    ensures { Adds result (string_bytes out.old) (string_bytes out.new) (own_text (task_id task)) }
+    ensures { Adds result (string_bytes out.old) (string_bytes out.new)
+        (own_text (task_text task)) }
 {
-    put(out, ",\"options\":{\"task_id\":")?;
-    put_task_id(out, task)
-}
-
-fn put_end(alloc: Global, out: &mut String, name: &str) -> Result<(), AllocError>
-    ensures { Adds result (string_bytes out.old) (string_bytes out.new) (end_text name.now) }
-{
-    put(out, "},\"subtask_type\":null,\"task\":")?;
-    put_string(alloc, out, name)?;
-    put(out, "}")
+    put(out, ",\"options\":{\"task_id\":\"")?;
+    put_task_text(out, task)?;
+    put(out, "\"},\"subtask_type\":null,\"task\":")
 }
 
 /// A task that is carried for a header of this size, with nothing of its own behind it.
@@ -169,7 +181,7 @@ fn put_task(alloc: Global, out: &mut String, size: u32, task: &FrozenTask) -> Re
 {
     put_call(alloc, out, size, task)?;
     put_options(out, task.no)?;
-    put_end(alloc, out, task.name.get())
+    put_name(alloc, out, task.name.get())
 }
 
 fn put_load(alloc: Global, out: &mut String, carried: &Carried) -> Result<(), Miss>

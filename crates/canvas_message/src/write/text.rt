@@ -7,7 +7,7 @@ ghost use Rattle.serde_json.specs.Data.{string, array, object};
 ghost use Rattle.serde_json.specs.Written.{compact_text, items_text, members_text, comma_if};
 ghost use Rattle.canvas_sig.specs.Writing.{number_wire, numbers_wire, arg_wire, args_wire, kwargs_wire};
 ghost use Rattle.canvas_task.specs.Entries.{named};
-ghost use Rattle.canvas_message.specs.Wire.{task_id, group_id};
+ghost use Rattle.canvas_task.specs.Identifiers.{task_text, group_text};
 ghost use Rattle.canvas_message.specs.steps.Texts.{Adds};
 
 use canvas_task::{Arg, GroupNo, TaskNo, group_text, task_text};
@@ -172,25 +172,25 @@ pub(super) fn put_kwargs(
     put_named(alloc, out, kwargs)
 }
 
+/// Bytes as a text.
 #[tactic(auto, using(crate::proofs::Identifiers::is_text))]
-fn put_id(out: &mut String, id: &[u8]) -> Result<(), AllocError>
-    requires ascii { IsAscii id.now }
-    requires plain { escape id.now ≡ id.now }
-    ensures { Adds result (string_bytes out.old) (string_bytes out.new) (quoted id.now) }
+pub(crate) fn ascii(bytes: &[u8]) -> &str
+    requires { IsAscii bytes.now }
+    ensures { result.now ≡ bytes.now }
 {
-    put_quoted(out, str::from_utf8(id).unwrap())
+    str::from_utf8(bytes).unwrap()
 }
 
-pub(super) fn put_task_id(out: &mut String, task: TaskNo) -> Result<(), AllocError>
-    ensures { Adds result (string_bytes out.old) (string_bytes out.new)
-        (compact_text (task_id task)) }
+/// The identifier of a task, without quotes.
+pub(super) fn put_task_text(out: &mut String, task: TaskNo) -> Result<(), AllocError>
+    ensures { Adds result (string_bytes out.old) (string_bytes out.new) (task_text task) }
 {
-    put_id(out, &task_text(task))
+    put(out, ascii(&task_text(task)))
 }
 
-pub(super) fn put_group_id(out: &mut String, group: GroupNo) -> Result<(), AllocError>
-    ensures { Adds result (string_bytes out.old) (string_bytes out.new)
-        (compact_text (group_id group)) }
+/// The identifier of a group or chord, without quotes.
+pub(super) fn put_group_text(out: &mut String, group: GroupNo) -> Result<(), AllocError>
+    ensures { Adds result (string_bytes out.old) (string_bytes out.new) (group_text group) }
 {
-    put_id(out, &group_text(group))
+    put(out, ascii(&group_text(group)))
 }
