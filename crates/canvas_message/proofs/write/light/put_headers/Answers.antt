@@ -1,10 +1,10 @@
-use Rattle.std.proofs.Common.{◌≡◌, ◌++◌, ◌∙◌, ap, subst, sym}
+use Rattle.std.proofs.Common.{◌≡◌, ◌++◌, ◌∙◌, ap, sym}
 use Rattle.std.specs.Prelude.{string_bytes}
 use Rattle.json.specs.Print.{escape}
 use Rattle.serde_json.specs.Data.{string}
 use Rattle.serde_json.specs.Written.{compact_text}
 use Rattle.canvas_task.specs.Identifiers.{task_text}
-use Rattle.canvas_message.specs.Content.{number_of, place_of}
+use Rattle.canvas_message.specs.Content.{number_of}
 use Rattle.canvas_message.specs.View.{place_seen}
 use Rattle.canvas_message.specs.Wire.{place_id, parent_id, headers_wire}
 use Rattle.canvas_message.specs.steps.Texts.{front_text, origin_text, name_text, headers_naming}

@@ -1,4 +1,4 @@
-use Rattle.std.proofs.Common.{◌++◌, Some, refl, append_assoc}
+use Rattle.std.proofs.Common.{◌++◌, Some, refl}
 use Rattle.std.specs.Prelude.{codes, string_bytes}
 use Rattle.canvas_task.specs.Identifiers.{group_text}
 use Rattle.canvas_rewrite.specs.declared.frozen.Place.{out-Place}

@@ -1,4 +1,4 @@
-use Rattle.std.proofs.Common.{◌++◌, Some, refl, append_assoc}
+use Rattle.std.proofs.Common.{◌++◌}
 use Rattle.std.specs.Prelude.{codes, string_bytes}
 use Rattle.canvas_message.proofs.KnownTexts.{then_ok, then_text, properties_written}
 use Rattle.canvas_message.proofs.write.light.put_properties.Goals as goal
