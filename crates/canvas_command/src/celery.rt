@@ -17,7 +17,7 @@ use canvas_rewrite::Plan;
 pub use refusal::CeleryRefusal;
 use std::alloc::Global;
 use std::io::Read;
-pub(crate) use words::celery_commands;
+pub(crate) use words::celery_command;
 
 /// The commands for Redis that start a canvas.
 pub(crate) fn answer_export<'w>(

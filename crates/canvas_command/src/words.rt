@@ -1,6 +1,6 @@
 //! The words of the command line.
 
-use crate::celery::celery_commands;
+use crate::celery::celery_command;
 use crate::finding::check_command;
 use crate::graph::graph_command;
 use crate::help::{NOTES, SHORT_NOTES};
@@ -85,27 +85,72 @@ fn normal_command<'a>(alloc: Global) -> Result<Command<'a>, AllocError> {
         .arg(file_argument(alloc))
 }
 
-fn program<'a>(alloc: Global) -> Result<Command<'a>, Error> {
-    let program = Command::new(alloc, "canvas")
+/// The commands, in the order in which help names them.
+const COMMANDS: [&str; 9] = [
+    "run", "turns", "normal", "check", "graph", "messages", "export", "keys", "collect",
+];
+
+/// The command of a name.
+fn command_of<'a>(alloc: Global, name: &str) -> Option<Result<Command<'a>, AllocError>> {
+    match name {
+        "run" => Some(run_command(alloc)),
+        "turns" => Some(turns_command(alloc)),
+        "normal" => Some(normal_command(alloc)),
+        "check" => Some(check_command(alloc)),
+        "graph" => Some(graph_command(alloc)),
+        "messages" => Some(messages_command(alloc)),
+        _ => celery_command(alloc, name),
+    }
+}
+
+/// The program without its commands.
+fn plain_program<'a>(alloc: Global) -> Result<Command<'a>, AllocError> {
+    Command::new(alloc, "canvas")
         .about("Runs Celery canvases: chains, groups and chords of tasks")
         .version(VERSION)
         .after_help(SHORT_NOTES)
         .after_long_help(NOTES)
         .no_binary_name(true)
-        .bin_name("canvas")?
-        .subcommand_required(true)
-        .subcommand(run_command(alloc)?)?
-        .subcommand(turns_command(alloc)?)?
-        .subcommand(normal_command(alloc)?)?
-        .subcommand(check_command(alloc)?)?
-        .subcommand(graph_command(alloc)?)?
-        .subcommand(messages_command(alloc)?)?;
-    celery_commands(alloc, program)
+        .bin_name("canvas")
 }
 
-/// Parses the words behind the program's name.
+/// The program with one command.
+fn program_of<'a>(
+    alloc: Global,
+    command: Result<Command<'a>, AllocError>,
+) -> Result<Command<'a>, Error> {
+    let program = plain_program(alloc)?.subcommand_required(true);
+    Ok(program.subcommand(command?)?)
+}
+
+fn with_command<'a>(alloc: Global, program: Command<'a>, name: &str) -> Result<Command<'a>, Error> {
+    match command_of(alloc, name) {
+        Some(command) => Ok(program.subcommand(command?)?),
+        None => Ok(program),
+    }
+}
+
+/// The program with all its commands.
+fn program<'a>(alloc: Global) -> Result<Command<'a>, Error> {
+    let mut program = plain_program(alloc)?.subcommand_required(true);
+    for name in COMMANDS {
+        program = with_command(alloc, program, name)?;
+    }
+    Ok(program)
+}
+
+/// Parses the words behind the program's name. Where they begin with a command, the others aren't
+/// made, since none of them is asked.
 pub(crate) fn matches_of<'w>(alloc: Global, words: &'w [String]) -> Result<ArgMatches<'w>, Error> {
-    program(alloc)?.try_get_matches_from(words)
+    let named = match words.first() {
+        Some(word) => command_of(alloc, word),
+        None => None,
+    };
+    let program = match named {
+        Some(command) => program_of(alloc, command)?,
+        None => program(alloc)?,
+    };
+    program.try_get_matches_from(words)
 }
 
 /// What is said of words that aren't UTF-8.

@@ -9,18 +9,18 @@ ghost use Rattle.canvas_message.specs.Effects.{first_messages};
 ghost use Rattle.canvas_runs.specs.Turns.{FirstsRead};
 
 use canvas_broker::{Broker, BrokerPass};
-use canvas_message::{Letter, Message, first_messages};
+use canvas_message::{Letter, Message, Sealer, first_messages};
 use canvas_rewrite::Plan;
 use canvas_task::Memory;
 use std::alloc::Global;
 use std::sync::Wait;
 
 /// The envelope of a message, which reads back as it.
-pub(crate) fn seal(alloc: Global, message: Message) -> Result<Letter, Memory>
+fn seal(sealer: &mut Sealer, message: Message) -> Result<Letter, Memory>
     ensures value { IfOk result (λ e. e ≡ sealed message) }
     ensures back { OnOk result (ReadsAs message) }
 {
-    match Letter::seal(alloc, message) {
+    match sealer.seal(message) {
         Ok(letter) => Ok(letter),
         Err(Memory) => Err(Memory),
     }
@@ -31,9 +31,10 @@ fn seal_all(alloc: Global, messages: Vec<Message>) -> Result<Vec<Letter>, Memory
     ensures value { IfOk result (λ es. es.items ≡ map sealed messages.items) }
     ensures back { OnOk result (Each ReadsAs messages.items) }
 {
+    let mut sealer = Sealer::new(alloc);
     let mut envelopes = Vec::new(alloc);
     for message in messages {
-        let envelope = seal(alloc, message)?;
+        let envelope = seal(&mut sealer, message)?;
         envelopes.push(envelope)?;
     }
     Ok(envelopes)

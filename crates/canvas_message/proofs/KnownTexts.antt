@@ -132,8 +132,8 @@ pub headers_written : (group parent : Data) (i name : List ℕ) → escape i ≡
 unfolding serde_json_on_literals
 headers_written group parent i name plain =
     let text : List ℕ → List ℕ → List ℕ = λ x t.
-        codes "{\"group\":" ++ (compact_text group ++ (codes ",\"id\":" ++ ((quote ++ (x ++ quote)) ++ (codes ",\"lang\":\"rs\",\"parent_id\":" ++ (compact_text parent ++ (codes ",\"root_id\":"
-        ++ (t ++ (codes ",\"task\":" ++ (compact_text (string name) ++ codes "}"))))))))) in
+    codes "{\"group\":" ++ (compact_text group ++ (codes ",\"id\":" ++ ((quote ++ (x ++ quote)) ++ (codes ",\"lang\":\"rs\",\"parent_id\":" ++ (compact_text parent ++ (codes ",\"root_id\":"
+    ++ (t ++ (codes ",\"task\":" ++ (compact_text (string name) ++ codes "}"))))))))) in
     head (codes "{\"group\":") (compact_text group) (codes ",\"id\":") quote i (codes ",\"lang\":\"rs\",\"parent_id\":") (compact_text parent) (codes ",\"root_id\":")
     (codes "\"00000000-0000-8000-8000-000000000001\"") (codes ",\"task\":") (compact_text (string name)) (codes "}")
     ∙ ap (λ x. text x (codes "\"00000000-0000-8000-8000-000000000001\"")) (sym plain) ∙ ap (text (escape i)) (sym root_known)

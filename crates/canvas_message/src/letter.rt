@@ -6,6 +6,8 @@ ghost use Rattle.canvas_message.specs.EnvelopeFaults.{Says, envelope_fault};
 ghost use Rattle.canvas_message.specs.Wire.{properties_wire, headers_wire, body_wire};
 ghost use Rattle.canvas_message.specs.declared.fault.MessageFault.TheVariants as fault;
 
+use crate::encoding::encode_knowing;
+use crate::write::known::{KnownBody, known_of};
 use crate::{Envelope, Message, MessageFault, decode, encode};
 use canvas_task::Memory;
 use std::alloc::Global;
@@ -88,6 +90,40 @@ impl Letter {
         ensures { IfOk result (λ l. l ≡ self.now) }
     {
         Ok(Letter::new(self.envelope.copy()?))
+    }
+}
+
+/// Seals one message after the other, and writes a body that several of them carry once.
+#[derive(Drop)]
+pub struct Sealer {
+    alloc: Global,
+    // the body that the last message carried
+    known: Option<KnownBody>,
+}
+
+impl Sealer {
+    /// One that has sealed nothing.
+    pub fn new(alloc: Global) -> Sealer {
+        Sealer { alloc, known: None }
+    }
+
+    /// The letter that `Letter::seal` makes of a message.
+    pub fn seal(&mut self, message: Message) -> Result<Letter, Memory>
+        ensures texts { IfOk result (λ e. (e.properties ≡ compact_text (properties_wire message))
+            × (e.headers ≡ compact_text (headers_wire message))
+            × (e.body ≡ compact_text (body_wire message))) }
+        ensures reads_back { IfOk result (λ e. Says e.properties e.headers e.body message) }
+    {
+        let known = known_of(self.alloc, self.known.take(), &message.place);
+        let envelope = match &known {
+            Some(known) => encode_knowing(self.alloc, &message, Some(&known.text))?,
+            None => encode(self.alloc, &message)?,
+        };
+        self.known = known;
+        Ok(Letter {
+            envelope,
+            message: Box::new(self.alloc, message).ok(),
+        })
     }
 }
 

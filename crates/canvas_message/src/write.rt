@@ -3,6 +3,7 @@
 pub(crate) mod embed;
 mod frozen;
 mod identifiers;
+pub(crate) mod known;
 pub(crate) mod light;
 mod pieces;
 pub(crate) mod text;

@@ -6,9 +6,8 @@ ghost use Rattle.canvas_message.specs.codes.ContentCode.{content_code};
 ghost use Rattle.canvas_runs.specs.Worker.{read_envelope};
 ghost use Rattle.canvas_worker.specs.Enveloped.{said, envelope_of};
 
-use canvas_message::{Letter, Message};
+use canvas_message::{Letter, Message, Sealer};
 use canvas_task::Memory;
-use std::alloc::Global;
 
 /// An envelope that a message can be read from.
 #[derive(Drop)]
@@ -17,9 +16,9 @@ pub(crate) struct Sealed {
     ghost back: { read_envelope envelope ≡ Ok (said envelope) } by { Prim.hlevel (codes, content_code) },
 }
 
-pub(crate) fn seal(alloc: Global, message: Message) -> Result<Sealed, Memory>
+pub(crate) fn seal(sealer: &mut Sealer, message: Message) -> Result<Sealed, Memory>
     ensures { IfOk result (λ s. s.envelope ≡ envelope_of message) }
 {
-    let envelope = Letter::seal(alloc, message)?;
+    let envelope = sealer.seal(message)?;
     Ok(Sealed { envelope })
 }

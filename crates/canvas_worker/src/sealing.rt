@@ -9,7 +9,7 @@ ghost use Rattle.canvas_worker.specs.Scripts.{jobs_of};
 
 use crate::script::Script;
 use crate::sealed::{Sealed, seal};
-use canvas_message::{Message, Todo};
+use canvas_message::{Message, Sealer, Todo};
 use canvas_task::Memory;
 use std::alloc::Global;
 use std::collections::VecDeque;
@@ -19,9 +19,10 @@ fn seal_all(alloc: Global, messages: Vec<Message>) -> Result<VecDeque<Sealed>, M
     ensures { IfOk result
         (λ all. map (λ s. s.envelope) all.items ≡ map envelope_of messages.items) }
 {
+    let mut sealer = Sealer::new(alloc);
     let mut all = VecDeque::new(alloc);
     for message in messages {
-        all.push_back(seal(alloc, message)?)?;
+        all.push_back(seal(&mut sealer, message)?)?;
     }
     Ok(all)
 }

@@ -2,7 +2,7 @@
 
 use crate::words::{file_argument, json_argument};
 use clap::builder::ValueParser;
-use clap::{Arg, ArgAction, Command, Error};
+use clap::{Arg, ArgAction, Command};
 use std::alloc::{AllocError, Global};
 
 fn run_argument<'a>(alloc: Global) -> Arg<'a> {
@@ -96,14 +96,15 @@ fn collect_command<'a>(alloc: Global) -> Result<Command<'a>, AllocError> {
         .arg(json_argument(alloc))
 }
 
-/// The program with these commands.
-pub(crate) fn celery_commands<'a>(
+/// The command of a name, where it is one of these.
+pub(crate) fn celery_command<'a>(
     alloc: Global,
-    program: Command<'a>,
-) -> Result<Command<'a>, Error> {
-    let program = program
-        .subcommand(export_command(alloc)?)?
-        .subcommand(keys_command(alloc)?)?
-        .subcommand(collect_command(alloc)?)?;
-    Ok(program)
+    name: &str,
+) -> Option<Result<Command<'a>, AllocError>> {
+    match name {
+        "export" => Some(export_command(alloc)),
+        "keys" => Some(keys_command(alloc)),
+        "collect" => Some(collect_command(alloc)),
+        _ => None,
+    }
 }

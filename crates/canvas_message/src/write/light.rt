@@ -120,7 +120,7 @@ fn is_bare(task: &FrozenTask) -> bool
 }
 
 /// The task that is all of a line, where it has nothing of its own behind it.
-fn bare_task(line: &FrozenLine) -> Option<&FrozenTask>
+pub(super) fn bare_task(line: &FrozenLine) -> Option<&FrozenTask>
     ensures { IfSome result (λ task. p_line_view line.now ≡ p_step (bare task.now) p_stop) }
 {
     match (&line.tail, line.tasks.get().as_slice()) {
@@ -184,7 +184,7 @@ fn put_task(alloc: Global, out: &mut String, size: u32, task: &FrozenTask) -> Re
     put_name(alloc, out, task.name.get())
 }
 
-fn put_load(alloc: Global, out: &mut String, carried: &Carried) -> Result<(), Miss>
+pub(super) fn put_load(alloc: Global, out: &mut String, carried: &Carried) -> Result<(), Miss>
     ensures { Adds result (string_bytes out.old) (string_bytes out.new) (compact_text
         (line_wire (Some (out-Carried carried.now).size)
         (p_line_view (out-Carried carried.now).body.value))) }
@@ -196,7 +196,7 @@ fn put_load(alloc: Global, out: &mut String, carried: &Carried) -> Result<(), Mi
 }
 
 /// The body that a place carries, where it is light.
-fn put_carried(alloc: Global, out: &mut String, place: &Option<Place>) -> Result<(), Miss>
+fn put_light(alloc: Global, out: &mut String, place: &Option<Place>) -> Result<(), Miss>
     ensures { Adds result (string_bytes out.old) (string_bytes out.new)
         (compact_text (carried_wire (place_seen place.now))) }
 {
@@ -206,6 +206,24 @@ fn put_carried(alloc: Global, out: &mut String, place: &Option<Place>) -> Result
             None => Ok(put(out, "null")?),
         },
         None => Ok(put(out, "null")?),
+    }
+}
+
+/// The body that a place carries, where its text is known or it is light.
+fn put_carried(
+    alloc: Global,
+    out: &mut String,
+    place: &Option<Place>,
+    known: Option<&str>,
+) -> Result<(), Miss>
+    requires { IfSome known
+        (λ text. text.now ≡ compact_text (carried_wire (place_seen place.now))) }
+    ensures { Adds result (string_bytes out.old) (string_bytes out.new)
+        (compact_text (carried_wire (place_seen place.now))) }
+{
+    match known {
+        Some(text) => Ok(put(out, text)?),
+        None => put_light(alloc, out, place),
     }
 }
 
@@ -233,17 +251,31 @@ fn put_arguments(
 }
 
 /// What goes with a call, where that is its place alone.
-fn put_embed(alloc: Global, out: &mut String, place: &Option<Place>) -> Result<(), Miss>
+fn put_embed(
+    alloc: Global,
+    out: &mut String,
+    place: &Option<Place>,
+    known: Option<&str>,
+) -> Result<(), Miss>
+    requires { IfSome known
+        (λ text. text.now ≡ compact_text (carried_wire (place_seen place.now))) }
     ensures { Adds result (string_bytes out.old) (string_bytes out.new)
         (alone_text (carried_wire (place_seen place.now))) }
 {
     put(out, ",{\"callbacks\":null,\"chain\":null,\"chord\":")?;
-    put_carried(alloc, out, place)?;
+    put_carried(alloc, out, place, known)?;
     Ok(put(out, ",\"errbacks\":null}]")?)
 }
 
-/// The body, where the message is light.
-pub(crate) fn put_body(alloc: Global, out: &mut String, message: &Message) -> Result<(), Miss>
+/// The body, where the message is light, or the text of the body that it carries is known.
+pub(crate) fn put_body(
+    alloc: Global,
+    out: &mut String,
+    message: &Message,
+    known: Option<&str>,
+) -> Result<(), Miss>
+    requires { IfSome known
+        (λ text. text.now ≡ compact_text (carried_wire (place_of message.now.own))) }
     ensures { Adds result (string_bytes out.old) (string_bytes out.new)
         (compact_text (body_wire message.now)) }
 {
@@ -251,5 +283,5 @@ pub(crate) fn put_body(alloc: Global, out: &mut String, message: &Message) -> Re
         return Err(Miss::Other);
     }
     put_arguments(alloc, out, message.args.get(), message.kwargs.get())?;
-    put_embed(alloc, out, &message.place)
+    put_embed(alloc, out, &message.place, known)
 }

@@ -5,4 +5,4 @@ use Rattle.canvas_message.proofs.KnownTexts.{task_plain}
 use Rattle.canvas_message.proofs.encoding.texts_of.Goals as goal
 
 pub properties_of-requires : goal.properties_of-requires
-properties_of-requires c = ap escape c.requires ∙ task_plain (number_of c.args.message.now.own) ∙ sym c.requires
+properties_of-requires c = ap escape c.requires.id ∙ task_plain (number_of c.args.message.now.own) ∙ sym c.requires.id

@@ -1,5 +1,5 @@
-use Rattle.std.proofs.Common.{◌∙◌, List, ℕ, sym, ap}
-use Rattle.std.specs.Prelude.{string_bytes}
+use Rattle.std.proofs.Common.{◌≡◌, ◌∙◌, List, ℕ, sym, ap, subst}
+use Rattle.std.specs.Prelude.{string_bytes, IfSome}
 use Rattle.serde_json.specs.Data.{Data, Items, Members, array, object, item, no_items}
 use Rattle.serde_json.specs.Written.{compact_text}
 use Rattle.canvas_task.specs.Entries.{named}
@@ -27,3 +27,7 @@ returns c =
     ∙ ap (λ y. whole (args_wire m.args) (kwargs_wire y) (embed_alone chord)) c.get-2.ensures.entries
     ∙ ap (λ z. whole (args_wire (call_of z.own).args) (kwargs_wire (call_of z.own).kwargs) (embed_alone (carried_wire (place_of z.own)))) c.message.view_is
     ∙ ap (λ e. whole (args_wire (call_of n.own).args) (kwargs_wire (call_of n.own).kwargs) e) (sym (c.is_alone.ensures c.if-not-is_alone.false)))
+
+pub put_embed-requires : goal.put_embed-requires
+put_embed-requires c =
+    subst (λ x. IfSome c.args.known (λ text. text.now ≡ compact_text (carried_wire (place_of x.own)))) (sym c.message.view_is) c.requires
