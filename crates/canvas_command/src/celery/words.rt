@@ -83,6 +83,13 @@ fn keys_command<'a>(alloc: Global) -> Result<Command<'a>, AllocError> {
         .arg(prefix_argument(alloc))
 }
 
+/// The file where standard input has something else.
+fn canvas_argument<'a>(alloc: Global) -> Arg<'a> {
+    Arg::new(alloc, "FILE")
+        .required(true)
+        .help("The canvas as JSON, in a file")
+}
+
 fn collect_command<'a>(alloc: Global) -> Result<Command<'a>, AllocError> {
     let complete = Arg::new(alloc, "complete")
         .long("complete")
@@ -90,7 +97,7 @@ fn collect_command<'a>(alloc: Global) -> Result<Command<'a>, AllocError> {
         .help("Gives tasks that a failure reaches their state, where Celery leaves them pending");
     Command::new(alloc, "collect")
         .about("Prints the report of a canvas from its results on standard input, one a line")
-        .arg(file_argument(alloc))?
+        .arg(canvas_argument(alloc))?
         .arg(run_argument(alloc))?
         .arg(complete)?
         .arg(json_argument(alloc))
