@@ -1,26 +1,12 @@
 //! Texts of envelopes, and the message that they are read as: what is written of it says which it
 //! is. They were worked out by hand from the rules of messages.
 
-use crate::envelopes::{BODY, HEADERS, PLAIN, PROPERTIES};
+use crate::envelopes::{BODY, HEADERS, PLAIN, PROPERTIES, envelope};
 use canvas_message::{Envelope, decode, encode};
-use canvas_samples::frozen_texts::bytes_of;
-use std::alloc::{AllocError, Global};
+use std::alloc::Global;
 use std::test::Fail;
 
 const NOTHING: &str = r#"{"callbacks":null,"chain":null,"chord":null,"errbacks":null}"#;
-
-fn envelope(
-    alloc: Global,
-    properties: &str,
-    headers: &str,
-    body: &str,
-) -> Result<Envelope, AllocError> {
-    Ok(Envelope {
-        properties: bytes_of(alloc, properties)?,
-        headers: bytes_of(alloc, headers)?,
-        body: bytes_of(alloc, body)?,
-    })
-}
 
 /// Whether an envelope is read as the message that is written so.
 fn is_alike(alloc: Global, envelope: &Envelope, written: &Envelope) -> bool {
@@ -33,11 +19,23 @@ fn is_alike(alloc: Global, envelope: &Envelope, written: &Envelope) -> bool {
     }
 }
 
+/// Whether texts are written again as they are, where the properties have this identifier.
+fn is_written(alloc: Global, task: &str, headers: &str, body: &str) -> bool {
+    match format!(in alloc;
+        r#"{{"content_encoding":"utf-8","content_type":"application/json","correlation_id":"{task}"}}"#
+    ) {
+        Ok(properties) => match envelope(alloc, &properties, headers, body) {
+            Ok(written) => is_alike(alloc, &written, &written),
+            Err(_) => false,
+        },
+        Err(_) => false,
+    }
+}
+
 /// What is written is read as what was written.
 #[test]
-fn written_texts(rt: HostRuntime) -> Result<(), Fail> {
-    let alloc = rt.alloc();
-    for (task, headers, body) in [
+fn written_texts(rt: HostRuntime) {
+    for &(task, headers, body) in &[
         ("%1", HEADERS, BODY),
         (
             "%2",
@@ -55,13 +53,25 @@ fn written_texts(rt: HostRuntime) -> Result<(), Fail> {
             r#"[["%4"],{},{"callbacks":null,"chain":null,"chord":null,"errbacks":null}]"#,
         ),
     ] {
-        let properties = format!(in alloc;
-            r#"{{"content_encoding":"utf-8","content_type":"application/json","correlation_id":"{task}"}}"#
-        )?;
-        let written = envelope(alloc, &properties, headers, body)?;
-        assert!(rt; is_alike(alloc, &written, &written), "{headers} {body}");
+        assert!(rt;
+            is_written(rt.alloc(), task, headers, body),
+            "{headers} {body}"
+        );
     }
-    Ok(())
+}
+
+/// Whether texts are read as the message of this envelope.
+fn are_alike(
+    alloc: Global,
+    properties: &str,
+    headers: &str,
+    body: &str,
+    written: &Envelope,
+) -> bool {
+    match envelope(alloc, properties, headers, body) {
+        Ok(read) => is_alike(alloc, &read, written),
+        Err(_) => false,
+    }
 }
 
 /// Headers and properties of other texts, around the same body.
@@ -69,7 +79,7 @@ fn written_texts(rt: HostRuntime) -> Result<(), Fail> {
 fn other_headers(rt: HostRuntime) -> Result<(), Fail> {
     let alloc = rt.alloc();
     let written = envelope(alloc, PROPERTIES, HEADERS, BODY)?;
-    for (properties, headers) in [
+    for &(properties, headers) in &[
         (
             PROPERTIES,
             r#"{"task":"tasks.add","lang":"py","id":"%1","root_id":"%1","parent_id":null,"group":null,"retries":0,"origin":"a","eta":null}"#,
@@ -84,17 +94,29 @@ fn other_headers(rt: HostRuntime) -> Result<(), Fail> {
             r#"{"id":"%2","id":"%1","task":"tasks.\u0061dd","root_id":7}"#,
         ),
     ] {
-        let read = envelope(alloc, properties, headers, BODY)?;
-        assert!(rt; is_alike(alloc, &read, &written), "{properties} {headers}");
+        assert!(rt;
+            are_alike(alloc, properties, headers, BODY, &written),
+            "{properties} {headers}"
+        );
     }
     Ok(())
 }
 
+/// Whether a body is read as the one that is written with these parts.
+fn is_body(alloc: Global, read: &str, args: &str, kwargs: &str, embed: &str) -> bool {
+    match format!(in alloc; "[{args},{kwargs},{embed}]") {
+        Ok(body) => match envelope(alloc, PROPERTIES, HEADERS, &body) {
+            Ok(written) => are_alike(alloc, PROPERTIES, HEADERS, read, &written),
+            Err(_) => false,
+        },
+        Err(_) => false,
+    }
+}
+
 /// Bodies beside those that are written for the same message.
 #[test]
-fn other_bodies(rt: HostRuntime) -> Result<(), Fail> {
-    let alloc = rt.alloc();
-    for (read, args, kwargs, embed) in [
+fn other_bodies(rt: HostRuntime) {
+    for &(read, args, kwargs, embed) in &[
         ("[[2,2],{},null]", "[2,2]", "{}", NOTHING),
         ("[ [ 2 , 2 ] , null , { } ]", "[2,2]", "{}", NOTHING),
         (
@@ -116,12 +138,16 @@ fn other_bodies(rt: HostRuntime) -> Result<(), Fail> {
             r#"{"callbacks":[{"args":[],"immutable":false,"kwargs":{},"options":{"link":[{"args":[],"immutable":false,"kwargs":{},"options":{"task_id":"%3"},"subtask_type":null,"task":"z"}],"task_id":"%2"},"subtask_type":null,"task":"y"}],"chain":null,"chord":null,"errbacks":[{"args":[],"immutable":false,"kwargs":{},"options":{"task_id":"%4"},"subtask_type":null,"task":"x"}]}"#,
         ),
     ] {
-        let body = format!(in alloc; "[{args},{kwargs},{embed}]")?;
-        let written = envelope(alloc, PROPERTIES, HEADERS, &body)?;
-        let other = envelope(alloc, PROPERTIES, HEADERS, read)?;
-        assert!(rt; is_alike(alloc, &other, &written), "{read}");
+        assert!(rt; is_body(rt.alloc(), read, args, kwargs, embed), "{read}");
     }
-    Ok(())
+}
+
+/// Whether headers and a body are no envelope of the same message.
+fn differ(alloc: Global, headers: &str, body: &str, written: &Envelope) -> bool {
+    match envelope(alloc, PROPERTIES, headers, body) {
+        Ok(read) => !is_alike(alloc, &read, written),
+        Err(_) => false,
+    }
 }
 
 /// Messages that differ aren't alike.
@@ -129,13 +155,12 @@ fn other_bodies(rt: HostRuntime) -> Result<(), Fail> {
 fn other_messages(rt: HostRuntime) -> Result<(), Fail> {
     let alloc = rt.alloc();
     let written = envelope(alloc, PROPERTIES, HEADERS, BODY)?;
-    for (headers, body) in [
+    for &(headers, body) in &[
         (HEADERS, "[[4,4],{},null]"),
         (r#"{"id":"%1","task":"tasks.add","parent_id":"%2"}"#, BODY),
         (r#"{"id":"%1","task":"tasks.mul"}"#, BODY),
     ] {
-        let read = envelope(alloc, PROPERTIES, headers, body)?;
-        assert!(rt; !is_alike(alloc, &read, &written), "{headers} {body}");
+        assert!(rt; differ(alloc, headers, body, &written), "{headers} {body}");
     }
     Ok(())
 }

@@ -1,21 +1,19 @@
-//! Cores, answered by hand: what they ask, and what they drop.
+//! Cores, answered by hand: what they ask, and what ends a script.
 
 ghost use Rattle.std.specs.Prelude.{◌≡◌, ◌≤◌, IfSome};
 ghost use Rattle.canvas_task.specs.Apply.{IsInRange};
 ghost use Rattle.canvas_worker.specs.Asks.{FoundInRange};
 
-use crate::envelopes::PLAIN;
 use canvas_backend::{PlainBackend, Stored};
 use canvas_broker::PlainBroker;
 use canvas_message::{Envelope, Letter, first_messages};
 use canvas_rewrite::Plan;
-use canvas_samples::frozen_texts::bytes_of;
 use canvas_samples::sample::plan_of;
 use canvas_task::{Fault, GroupNo, Kind, Memory, Outcome, SixTasks, TaskNo, Why};
 use canvas_worker::{Ask, Core, Reply};
-use std::alloc::{AllocError, Global};
+use std::alloc::Global;
 
-const ONE: &str = r#"{"task":"tasks.add","args":[2,2]}"#;
+pub(crate) const ONE: &str = r#"{"task":"tasks.add","args":[2,2]}"#;
 
 /// A chord of three tasks of which one fails; its body has an error callback.
 pub(crate) const CHORD: &str =
@@ -31,7 +29,7 @@ pub(crate) const ZERO_DIVISION: Outcome = Outcome::Failure(Fault::Plain(Kind::Ze
 
 /// What answers a core: a queue, outcomes by task and counts by chord.
 #[derive(Drop)]
-pub(crate) struct Desk {
+struct Desk {
     queue: PlainBroker,
     rows: Vec<Option<Outcome>>,
     counts: Vec<u64>,
@@ -188,14 +186,18 @@ fn has_ended(
     false
 }
 
-/// A plan, a backend of it, and its first messages.
-pub(crate) fn start(alloc: Global, text: &str) -> Option<(PlainBackend, Desk)> {
+/// The backend of a canvas's plan.
+pub(crate) fn backend_of(alloc: Global, text: &str) -> Option<PlainBackend> {
+    let plan = plan_of(alloc, text)?;
+    PlainBackend::new(alloc, &plan).ok()
+}
+
+/// The same, and what answers a core about it.
+fn start(alloc: Global, text: &str) -> Option<(PlainBackend, Desk)> {
+    let backend = backend_of(alloc, text)?;
     let plan = plan_of(alloc, text)?;
     let desk = desk_of(alloc, &plan)?;
-    match PlainBackend::new(alloc, &plan) {
-        Ok(backend) => Some((backend, desk)),
-        Err(_) => None,
-    }
+    Some((backend, desk))
 }
 
 /// Whether a core on its own asks this for a canvas, and leaves these outcomes.
@@ -303,33 +305,6 @@ fn header_in_a_header(rt: HostRuntime) {
     assert!(rt; ends_so(rt.alloc(), NESTED, &rows));
 }
 
-// ---- what cores drop
-
-/// The message of the second member of the chord, changed: its task, its group, its parent, and how
-/// many members it says there are.
-fn member(
-    alloc: Global,
-    task: &str,
-    group: &str,
-    parent: &str,
-    size: &str,
-) -> Result<Envelope, AllocError> {
-    let properties = format!(in alloc;
-        r#"{{"content_encoding":"utf-8","content_type":"application/json","correlation_id":"%{task}"}}"#
-    )?;
-    let headers = format!(in alloc;
-        r#"{{"group":"@{group}","id":"%{task}","lang":"rs","parent_id":{parent},"root_id":"%1","task":"tasks.div"}}"#
-    )?;
-    let body = format!(in alloc;
-        r#"[[1,0],{{}},{{"callbacks":null,"chain":null,"chord":{{"args":[],"chord_size":{size},"immutable":false,"kwargs":{{}},"options":{{"link_error":[{{"args":[],"immutable":false,"kwargs":{{}},"options":{{"task_id":"%5"}},"subtask_type":null,"task":"tasks.log_error"}}],"task_id":"%4"}},"subtask_type":null,"task":"tasks.xsum"}},"errbacks":null}}]"#
-    )?;
-    Ok(Envelope {
-        properties: bytes_of(alloc, &properties)?,
-        headers: bytes_of(alloc, &headers)?,
-        body: bytes_of(alloc, &body)?,
-    })
-}
-
 pub(crate) fn answers(alloc: Global, backend: &PlainBackend, core: &mut Core, reply: Reply) -> bool
     requires { FoundInRange reply }
 {
@@ -360,98 +335,6 @@ pub(crate) fn acknowledges(
         && core.held().is_none()
         && !core.is_inside()
         && core.next() == Ask::Take
-}
-
-/// Whether a core that is given an envelope counts it, acknowledges it as one of no task, and asks
-/// for the next.
-fn is_dropped(alloc: Global, backend: &PlainBackend, core: &mut Core, envelope: Envelope) -> bool {
-    let before = core.dropped();
-    match envelope.copy() {
-        Ok(same) => {
-            let taken = Reply::Taken(Some(Letter::new(envelope)));
-            answers(alloc, backend, core, taken)
-                && core.dropped() == before.saturating_add(1)
-                && acknowledges(alloc, backend, core, &same, None)
-                && core.dropped() == before.saturating_add(1)
-        }
-        Err(Memory) => false,
-    }
-}
-
-fn drops(alloc: Global, backend: &PlainBackend, core: &mut Core, row: &[&str; 4]) -> bool {
-    let [task, group, parent, size] = *row;
-    match member(alloc, task, group, parent, size) {
-        Ok(envelope) => is_dropped(alloc, backend, core, envelope),
-        Err(_) => false,
-    }
-}
-
-/// Whether a core takes up the message as it is, and stores its outcome first.
-fn takes(alloc: Global, backend: &PlainBackend, core: &mut Core) -> bool {
-    match member(alloc, "2", "1", "null", "3") {
-        Ok(envelope) => {
-            let taken = Reply::Taken(Some(Letter::new(envelope)));
-            answers(alloc, backend, core, taken)
-                && core.next() == Ask::Store(task(2), ZERO_DIVISION)
-                && core.is_inside()
-        }
-        Err(_) => false,
-    }
-}
-
-/// Whether each of some messages is dropped, and then one that is in order taken up.
-fn drops_all(alloc: Global, rows: &[[&str; 4]]) -> bool {
-    match start(alloc, CHORD) {
-        Some((backend, _desk)) => {
-            let mut core = Core::new(alloc);
-            for row in rows {
-                if !drops(alloc, &backend, &mut core, row) {
-                    return false;
-                }
-            }
-            core.dropped() == rows.len() as u64 && takes(alloc, &backend, &mut core)
-        }
-        None => false,
-    }
-}
-
-#[test]
-fn forged_messages(rt: HostRuntime) {
-    assert!(rt;
-        drops_all(
-            rt.alloc(),
-            &[
-                ["9", "1", "null", "3"],
-                ["2", "1", "null", "4"],
-                ["2", "2", "null", "3"],
-                ["4", "1", "null", "3"],
-                ["2", "1", "\"%9\"", "3"],
-            ]
-        )
-    );
-}
-
-/// Whether headers without a name are dropped.
-fn drops_nameless(alloc: Global) -> bool {
-    match (start(alloc, ONE), nameless(alloc)) {
-        (Some((backend, _desk)), Ok(envelope)) => {
-            is_dropped(alloc, &backend, &mut Core::new(alloc), envelope)
-        }
-        _ => false,
-    }
-}
-
-fn nameless(alloc: Global) -> Result<Envelope, AllocError> {
-    Ok(Envelope {
-        properties: bytes_of(alloc, PLAIN)?,
-        headers: bytes_of(alloc, r#"{"id":"%1"}"#)?,
-        body: bytes_of(alloc, "[[2,2],{},null]")?,
-    })
-}
-
-#[test]
-fn headers_without_a_name(rt: HostRuntime) {
-    assert!(rt; drops_nameless(rt.alloc()));
 }
 
 // ---- what ends a script

@@ -3,16 +3,14 @@
 use crate::envelopes::embed_code;
 use canvas_samples::frozen_texts::filled;
 use std::alloc::{AllocError, Global};
-use std::test::Fail;
 
 const HEADERS: &str = r#"{"id":"%1","task":"x"}"#;
 
 const GROUP_HEADERS: &str = r#"{"group":"@1","id":"%1","task":"x"}"#;
 
 #[test]
-fn callbacks(rt: HostRuntime) -> Result<(), Fail> {
-    let alloc = rt.alloc();
-    for (code, embed) in [
+fn callbacks(rt: HostRuntime) {
+    for &(code, embed) in &[
         (0, "null"),
         (0, r#"{"chord":null,"other":7}"#),
         (0, r#"{"callbacks":[],"errbacks":[],"chain":[]}"#),
@@ -60,15 +58,13 @@ fn callbacks(rt: HostRuntime) -> Result<(), Fail> {
             r#"{"errbacks":[$2","link_error":$3","group_id":"@1"}}}}]}"#,
         ),
     ] {
-        assert_eq!(rt; embed_code(alloc, HEADERS, embed)?, code, "{embed}");
+        assert_eq!(rt; embed_code(rt.alloc(), HEADERS, embed), code, "{embed}");
     }
-    Ok(())
 }
 
 #[test]
-fn chains(rt: HostRuntime) -> Result<(), Fail> {
-    let alloc = rt.alloc();
-    for (code, embed) in [
+fn chains(rt: HostRuntime) {
+    for &(code, embed) in &[
         (0, r#"{"chain":[$3"}},$2"}}]}"#),
         (0, r#"{"chain":[&1"},"kwargs":{"tasks":[]}},$2"}}]}"#),
         (
@@ -128,16 +124,14 @@ fn chains(rt: HostRuntime) -> Result<(), Fail> {
             r#"{"chain":[^1"},"kwargs":{"header":[&2"},"kwargs":{"tasks":[]}}],"body":$2"}}}}]}"#,
         ),
     ] {
-        assert_eq!(rt; embed_code(alloc, HEADERS, embed)?, code, "{embed}");
+        assert_eq!(rt; embed_code(rt.alloc(), HEADERS, embed), code, "{embed}");
     }
-    Ok(())
 }
 
 /// A place stands on the last task of a line, and its members have none yet.
 #[test]
-fn places(rt: HostRuntime) -> Result<(), Fail> {
-    let alloc = rt.alloc();
-    for (code, headers, embed) in [
+fn places(rt: HostRuntime) {
+    for &(code, headers, embed) in &[
         (0, GROUP_HEADERS, "null"),
         (0, GROUP_HEADERS, r#"{"chain":[]}"#),
         (0, GROUP_HEADERS, r#"{"chord":$2"},"chord_size":1}}"#),
@@ -208,15 +202,21 @@ fn places(rt: HostRuntime) -> Result<(), Fail> {
             r#"{"chain":[^1"},"kwargs":{"header":[$2","group_id":"@1"}}],"body":$3"}}}}]}"#,
         ),
     ] {
-        assert_eq!(rt; embed_code(alloc, headers, embed)?, code, "{embed}");
+        assert_eq!(rt; embed_code(rt.alloc(), headers, embed), code, "{embed}");
     }
-    Ok(())
+}
+
+/// The number of a refusal of a chord's size.
+fn size_code(alloc: Global, size: &str) -> u8 {
+    match format!(in alloc; r#"{{"chord":$2"}},"chord_size":{size}}}}}"#) {
+        Ok(embed) => embed_code(alloc, GROUP_HEADERS, &embed),
+        Err(_) => u8::MAX,
+    }
 }
 
 #[test]
-fn sizes(rt: HostRuntime) -> Result<(), Fail> {
-    let alloc = rt.alloc();
-    for (code, size) in [
+fn sizes(rt: HostRuntime) {
+    for &(code, size) in &[
         (0, "1"),
         (0, "1024"),
         (7, "0"),
@@ -227,10 +227,8 @@ fn sizes(rt: HostRuntime) -> Result<(), Fail> {
         (7, r#""3""#),
         (7, "4294967297"),
     ] {
-        let embed = format!(in alloc; r#"{{"chord":$2"}},"chord_size":{size}}}}}"#)?;
-        assert_eq!(rt; embed_code(alloc, GROUP_HEADERS, &embed)?, code, "{size}");
+        assert_eq!(rt; size_code(rt.alloc(), size), code, "{size}");
     }
-    Ok(())
 }
 
 /// A task several times, with commas between.
@@ -242,27 +240,33 @@ fn tasks(alloc: Global, count: u32) -> Result<String, AllocError> {
     Ok(all)
 }
 
-#[test]
-fn many_members(rt: HostRuntime) -> Result<(), Fail> {
-    let alloc = rt.alloc();
-    for (count, code) in [(1024, 0), (1025, 7)] {
-        let members = tasks(alloc, count)?;
-        let chord = format!(in alloc;
-            r#"{{"chain":[^1"}},"kwargs":{{"header":[{members}],"body":$3"}}}}}}}}]}}"#
-        )?;
-        assert_eq!(rt;
-            embed_code(alloc, HEADERS, &chord)?,
-            code,
-            "a header of {count}"
-        );
-        let group = format!(in alloc; r#"{{"chain":[&1"}},"kwargs":{{"tasks":[{members}]}}}}]}}"#)?;
-        assert_eq!(rt;
-            embed_code(alloc, HEADERS, &group)?,
-            0,
-            "a group of {count}"
-        );
+/// The number of a refusal of a line of one element, which has these members.
+fn line_code(alloc: Global, before: &str, count: u32, after: &str) -> u8 {
+    match tasks(alloc, count) {
+        Ok(members) => match format!(in alloc; "{before}{members}{after}") {
+            Ok(embed) => embed_code(alloc, HEADERS, &embed),
+            Err(_) => u8::MAX,
+        },
+        Err(_) => u8::MAX,
     }
-    Ok(())
+}
+
+#[test]
+fn many_members(rt: HostRuntime) {
+    let (chord, body) = (
+        r#"{"chain":[^1"},"kwargs":{"header":["#,
+        r#"],"body":$3"}}}}]}"#,
+    );
+    let (group, end) = (r#"{"chain":[&1"},"kwargs":{"tasks":["#, "]}}]}");
+    for &(code, before, count, after) in &[
+        (0, chord, 1024, body),
+        (7, chord, 1025, body),
+        (0, group, 1024, end),
+        (0, group, 1025, end),
+    ] {
+        let found = line_code(rt.alloc(), before, count, after);
+        assert_eq!(rt; found, code, "{before} {count}");
+    }
 }
 
 /// A body that carries a body, and so on.
@@ -274,22 +278,27 @@ fn carried(alloc: Global, bodies: u32) -> Result<String, AllocError> {
     Ok(text)
 }
 
-#[test]
-fn reach(rt: HostRuntime) -> Result<(), Fail> {
-    let alloc = rt.alloc();
-    let (own, last) = (r#"{"chord":"#, r#"{"chain":[$2","group_id":"@1","chord":"#);
-    for (headers, before, after, bodies, code) in [
-        (GROUP_HEADERS, own, "}", 31, 0),
-        (GROUP_HEADERS, own, "}", 32, 7),
-        (HEADERS, last, "}}]}", 30, 0),
-        (HEADERS, last, "}}]}", 31, 7),
-    ] {
-        let embed = format!(in alloc; "{before}{}{after}", carried(alloc, bodies)?)?;
-        assert_eq!(rt;
-            embed_code(alloc, headers, &embed)?,
-            code,
-            "{before} {bodies} bodies"
-        );
+/// The number of a refusal of so many bodies between these texts.
+fn reach_code(alloc: Global, headers: &str, before: &str, bodies: u32, after: &str) -> u8 {
+    match carried(alloc, bodies) {
+        Ok(text) => match format!(in alloc; "{before}{text}{after}") {
+            Ok(embed) => embed_code(alloc, headers, &embed),
+            Err(_) => u8::MAX,
+        },
+        Err(_) => u8::MAX,
     }
-    Ok(())
+}
+
+#[test]
+fn reach(rt: HostRuntime) {
+    let (own, last) = (r#"{"chord":"#, r#"{"chain":[$2","group_id":"@1","chord":"#);
+    for &(headers, before, bodies, after, code) in &[
+        (GROUP_HEADERS, own, 31, "}", 0),
+        (GROUP_HEADERS, own, 32, "}", 7),
+        (HEADERS, last, 30, "}}]}", 0),
+        (HEADERS, last, 31, "}}]}", 7),
+    ] {
+        let found = reach_code(rt.alloc(), headers, before, bodies, after);
+        assert_eq!(rt; found, code, "{before} {bodies} bodies");
+    }
 }

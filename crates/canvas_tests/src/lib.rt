@@ -6,6 +6,8 @@ mod alike;
 #[cfg(test)]
 mod backends;
 #[cfg(test)]
+mod core_drops;
+#[cfg(test)]
 mod core_parts;
 #[cfg(test)]
 mod cores;

@@ -63,7 +63,7 @@ fn properties(rt: HostRuntime) {
 
 #[test]
 fn first_messages_of_canvases(rt: HostRuntime) {
-    for (canvas, index, headers, body) in [
+    for &(canvas, index, headers, body) in &[
         (
             ADD_THEN_MUL,
             0,
@@ -86,7 +86,7 @@ fn first_messages_of_canvases(rt: HostRuntime) {
 
 #[test]
 fn messages_that_follow(rt: HostRuntime) {
-    for (canvas, fails, headers, body) in [
+    for &(canvas, fails, headers, body) in &[
         (
             ADD_THEN_MUL,
             false,

@@ -34,7 +34,7 @@ const CHORD: &str =
 
 #[test]
 fn normal_texts(rt: HostRuntime) {
-    for (text, normal) in [
+    for &(text, normal) in &[
         (CHORD_AND_TASK, ITS_NORMAL_TEXT),
         (CHAIN_IN_A_CHAIN, FLATTENED),
         (CHAIN_OF_ONE, TASK_ALONE),

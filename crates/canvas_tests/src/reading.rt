@@ -18,7 +18,7 @@ const CHORD: &str =
 
 #[test]
 fn canvases(rt: HostRuntime) {
-    for (text, written) in [
+    for &(text, written) in &[
         (r#"{"task":"x"}"#, PLAIN),
         (PLAIN, PLAIN),
         (" {\"task\" : \"x\" }\n", PLAIN),
@@ -59,7 +59,7 @@ fn is_argument(alloc: Global, text: &str, wanted: &Result<Arg, SigFault>) -> boo
 
 #[test]
 fn numbers(rt: HostRuntime) {
-    for (text, number) in [
+    for &(text, number) in &[
         ("7", 7),
         ("0", 0),
         ("1152921504606846976", 1 << 60),
@@ -86,7 +86,7 @@ fn lists_and_texts(rt: HostRuntime) -> Result<(), Fail> {
 
 #[test]
 fn faults_of_arguments(rt: HostRuntime) {
-    for (text, fault) in [
+    for &(text, fault) in &[
         ("1.5", SigFault::BadNumber),
         ("-0", SigFault::BadNumber),
         ("1152921504606846977", SigFault::BadNumber),
@@ -106,7 +106,7 @@ fn faults_of_arguments(rt: HostRuntime) {
 #[test]
 fn names_of_faults(rt: HostRuntime) -> Result<(), Fail> {
     let alloc = rt.alloc();
-    for (fault, printed) in [
+    for &(fault, printed) in &[
         (SigFault::TooLarge, "1 TooLarge"),
         (SigFault::EmptyChain, "9 EmptyChain"),
         (SigFault::Memory, "13 Memory"),

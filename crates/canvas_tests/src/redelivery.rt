@@ -96,7 +96,7 @@ fn a_sum_and_its_product(rt: HostRuntime) -> Result<(), Fail> {
         rt.alloc(),
         "#1 tasks.add SUCCESS 8\n#2 tasks.mul SUCCESS 64\nresult 64\n",
     )?;
-    for (pairs, again) in [
+    for &(pairs, again) in &[
         (&[][..], 0),
         (&[(1, When::Early)][..], 1),
         (&[(1, When::Late)][..], 1),
@@ -139,7 +139,7 @@ fn each_task_of_a_chord(rt: HostRuntime) -> Result<(), Fail> {
     let failing = a_failed_member(rt.alloc())?;
     for task in 1..6 {
         for when in [When::Early, When::Late] {
-            for turns in [
+            for &turns in &[
                 &[][..],
                 &[1, 2, 2, 2, 1][..],
                 &[1, 2, 1, 2, 1, 2, 2, 2, 2, 1, 1][..],

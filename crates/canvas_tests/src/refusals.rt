@@ -172,7 +172,7 @@ const REFUSED: [(u8, &[&str]); 8] = [
 
 #[test]
 fn refused_texts(rt: HostRuntime) {
-    for (code, texts) in REFUSED {
+    for &(code, texts) in &REFUSED {
         assert_eq!(rt; other(rt.alloc(), texts, code), None, "{code}");
     }
 }
@@ -187,7 +187,7 @@ fn is_coded(alloc: Global, notation: &str, code: u8) -> bool {
 
 #[test]
 fn nested_too_far(rt: HostRuntime) {
-    for (notation, code) in [
+    for &(notation, code) in &[
         ("G(G(x))", 10),
         ("G(H[x|G(x)])", 10),
         ("G(C(G(x)))", 10),
@@ -223,7 +223,7 @@ const CHAIN_OF_GROUPS: &str =
 
 #[test]
 fn too_many(rt: HostRuntime) {
-    for (primitive, part, count, code) in [
+    for &(primitive, part, count, code) in &[
         ('C', "G(x),x", 10, 0),
         ('C', "G(x),x", 11, 11),
         ('G', "x", 1024, 0),
@@ -255,7 +255,7 @@ fn are_coded(alloc: Global, byte: u8, count: usize, then: u8, more: usize, code:
 
 #[test]
 fn long_and_nested_texts(rt: HostRuntime) {
-    for (byte, count, then, more, code) in [
+    for &(byte, count, then, more, code) in &[
         (b' ', 1_048_576, b' ', 0, 2),
         (b' ', 1_048_576, b' ', 1, 1),
         (b'[', 100, b']', 100, 3),
@@ -281,7 +281,7 @@ fn is_out_of_range(alloc: Global, before: &str, number: &str, after: &str) -> bo
 
 #[test]
 fn numbers_out_of_range(rt: HostRuntime) {
-    for number in [
+    for &number in &[
         "1.5",
         "1.0",
         "1e2",
@@ -293,7 +293,7 @@ fn numbers_out_of_range(rt: HostRuntime) {
         "9223372036854775808",
         "18446744073709551616",
     ] {
-        for (before, after) in [
+        for &(before, after) in &[
             (r#"{"task":"x","args":["#, r#"]}"#),
             (r#"{"task":"x","args":[[1,"#, r#"]]}"#),
             (r#"{"task":"x","kwargs":{"a":"#, r#"}}"#),

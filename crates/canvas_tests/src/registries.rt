@@ -7,6 +7,7 @@ use canvas_task::{
     Add, AddFault, Arg, BoxedTask, Div, Fault, Ident, Kind, LogError, Mul, OfList, OfOne, OfTwo,
     Outcome, Registry, Task, TaskOfList, TaskOfOne, TaskOfTwo, Xsum, apply, registry_of,
 };
+use std::alloc::Global;
 use std::collections::BTreeMap;
 use std::test::Fail;
 
@@ -101,24 +102,35 @@ fn answer_numbers(registry: &Registry, none: &BTreeMap<String, Arg>) -> bool {
 }
 
 /// What they answer to a list of two, alone and in front of a number.
-fn answer_lists(registry: &Registry, lists: &[Arg; 2], none: &BTreeMap<String, Arg>) -> bool {
-    registry.apply("tests.count", &lists[..1], none) == Outcome::Success(2)
-        && registry.apply("tests.sub", lists, none) == BAD_CALL
+fn answer_lists(alloc: Global, registry: &Registry) -> bool {
+    let none = BTreeMap::new(alloc);
+    match list(alloc, &[5, 6]) {
+        Ok(list) => {
+            let lists = [list, Arg::Num(1)];
+            registry.apply("tests.count", &lists[..1], &none) == Outcome::Success(2)
+                && registry.apply("tests.sub", &lists, &none) == BAD_CALL
+        }
+        Err(_) => false,
+    }
 }
 
-/// What the difference of 10 and a named number is, where the second is named, and the first.
-fn answer_named(registry: &Registry, y: &BTreeMap<String, Arg>, x: &BTreeMap<String, Arg>) -> bool {
-    let number = [Arg::Num(10)];
-    registry.apply("tests.sub", &number, y) == Outcome::Success(6)
-        && registry.apply("tests.sub", &number, x) == BAD_CALL
+/// What the difference of 10 and a 4 of this name is.
+fn with_named_four(alloc: Global, registry: &Registry, name: &str) -> Option<Outcome> {
+    match named(alloc, name, 4) {
+        Ok(four) => Some(registry.apply("tests.sub", &[Arg::Num(10)], &four)),
+        Err(_) => None,
+    }
+}
+
+/// What they answer where the second number is named, and where the first is.
+fn answer_named(alloc: Global, registry: &Registry) -> bool {
+    with_named_four(alloc, registry, "y") == Some(Outcome::Success(6))
+        && with_named_four(alloc, registry, "x") == Some(BAD_CALL)
 }
 
 #[test]
 fn tasks_of_numbers(rt: HostRuntime) -> Result<(), Fail> {
     let alloc = rt.alloc();
-    let none = BTreeMap::new(alloc);
-    let (y, x) = (named(alloc, "y", 4)?, named(alloc, "x", 4)?);
-    let lists = [list(alloc, &[5, 6])?, Arg::Num(1)];
     let sub = TaskOfTwo {
         name: "tests.sub",
         parameters: ("x", "y"),
@@ -135,10 +147,9 @@ fn tasks_of_numbers(rt: HostRuntime) -> Result<(), Fail> {
         answers: Count,
     };
     let registry = registry_of!(alloc; Mul, sub, negate, count)?;
-    let numbers = answer_numbers(&registry, &none);
-    let lists = answer_lists(&registry, &lists, &none);
-    let named = answer_named(&registry, &y, &x);
-    assert_eq!(rt; [numbers, lists, named], [true, true, true]);
+    assert!(rt; answer_numbers(&registry, &BTreeMap::new(alloc)));
+    assert!(rt; answer_lists(alloc, &registry));
+    assert!(rt; answer_named(alloc, &registry));
     Ok(())
 }
 
@@ -209,7 +220,7 @@ fn tasks_of_a_name_that_is_there(rt: HostRuntime) -> Result<(), Fail> {
 fn tasks_of_bad_names(rt: HostRuntime) -> Result<(), Fail> {
     let alloc = rt.alloc();
     let mut registry = Registry::new(alloc);
-    for name in ["", "a b", "tasks.\u{e9}"] {
+    for &name in &["", "a b", "tasks.\u{e9}"] {
         let wanted = Wanted {
             cause: AddFault::BadName,
             name,
@@ -259,16 +270,25 @@ fn answer_as_six(registry: &Registry, args: &[Arg], none: &BTreeMap<String, Arg>
     .all(|name| registry.apply(name, args, none) == apply(name, args, none))
 }
 
+/// Whether it does so to two numbers and to one.
+fn numbers_as_six(alloc: Global, registry: &Registry) -> bool {
+    let none = BTreeMap::new(alloc);
+    let numbers = [Arg::Num(-7), Arg::Num(2)];
+    answer_as_six(registry, &numbers, &none) && answer_as_six(registry, &numbers[..1], &none)
+}
+
+fn list_as_six(alloc: Global, registry: &Registry) -> bool {
+    match list(alloc, &[1, 2]) {
+        Ok(list) => answer_as_six(registry, &[list], &BTreeMap::new(alloc)),
+        Err(_) => false,
+    }
+}
+
 #[test]
 fn six_as_objects(rt: HostRuntime) -> Result<(), Fail> {
     let alloc = rt.alloc();
-    let none = BTreeMap::new(alloc);
-    let lists = [list(alloc, &[1, 2])?];
     let registry = registry_of!(alloc; LogError, Ident, Xsum, Div, Mul, Add)?;
-    let numbers = [Arg::Num(-7), Arg::Num(2)];
-    let two = answer_as_six(&registry, &numbers, &none);
-    let list = answer_as_six(&registry, &lists, &none);
-    let one = answer_as_six(&registry, &numbers[..1], &none);
-    assert_eq!(rt; [two, list, one], [true, true, true]);
+    assert!(rt; numbers_as_six(alloc, &registry));
+    assert!(rt; list_as_six(alloc, &registry));
     Ok(())
 }

@@ -45,7 +45,7 @@ fn of_two(name: &str, first: i64, second: i64, none: &BTreeMap<String, Arg>) -> 
 #[test]
 fn calls_of_tasks(rt: HostRuntime) {
     let none = BTreeMap::new(rt.alloc());
-    for (name, first, second, outcome) in [
+    for &(name, first, second, outcome) in &[
         ("tasks.add", 4, 4, Outcome::Success(8)),
         ("tasks.mul", BOUND, 2, OVERFLOW),
         ("tasks.mul", BOUND, 1, Outcome::Success(BOUND)),
@@ -53,7 +53,7 @@ fn calls_of_tasks(rt: HostRuntime) {
     ] {
         assert_eq!(rt; of_two(name, first, second, &none), outcome, "{name}");
     }
-    for (name, number, outcome) in [
+    for &(name, number, outcome) in &[
         ("tasks.add", 1, BAD_CALL),
         ("tasks.ident", BOUND, Outcome::Success(BOUND)),
         ("tasks.ident", BOUND + 1, OVERFLOW),
@@ -73,7 +73,7 @@ fn of_named(alloc: Global, name: &str) -> Option<Outcome> {
 
 #[test]
 fn named_arguments(rt: HostRuntime) {
-    for (name, outcome) in [("x", BAD_CALL), ("y", Outcome::Success(3)), ("z", BAD_CALL)] {
+    for &(name, outcome) in &[("x", BAD_CALL), ("y", Outcome::Success(3)), ("z", BAD_CALL)] {
         assert_eq!(rt; of_named(rt.alloc(), name), Some(outcome), "{name}");
     }
 }
@@ -146,7 +146,7 @@ fn identifiers(rt: HostRuntime) {
     let (ten, greatest) = (task(10), group(4294967295));
     assert!(rt; task_text(ten).as_slice() == TEN.as_bytes());
     assert!(rt; group_text(greatest).as_slice() == GREATEST_GROUP.as_bytes());
-    for (text, named) in [
+    for &(text, named) in &[
         (TEN, Some(ten)),
         ("00000000-0000-8000-8000-00000000000A", Some(ten)),
         ("0000000000008000800000000000000a", Some(ten)),
@@ -173,7 +173,7 @@ fn words(rt: HostRuntime) {
         dep: task(2),
         why: Why::Plain(Kind::ZeroDivision),
     });
-    for (outcome, word) in [
+    for &(outcome, word) in &[
         (Outcome::Success(-BOUND), 1),
         (Outcome::Success(0), 1152921504606846977),
         (Outcome::Success(BOUND), 2305843009213693953),
@@ -186,7 +186,7 @@ fn words(rt: HostRuntime) {
             "{word}"
         );
     }
-    for word in [
+    for &word in &[
         0,
         2305843009213693954,
         9223372036854775807,
@@ -209,7 +209,7 @@ fn prints<D: Display>(alloc: Global, said: &D, text: &str) -> bool {
 fn texts(rt: HostRuntime) {
     let alloc = rt.alloc();
     let dep = task(10);
-    for (why, text) in [
+    for &(why, text) in &[
         (
             Why::Plain(Kind::BadCall),
             "ChordError: Dependency 00000000-0000-8000-8000-00000000000a raised TypeError",
@@ -238,26 +238,53 @@ fn texts(rt: HostRuntime) {
 
 #[test]
 fn names(rt: HostRuntime) {
-    for name in ["tasks.add", "!", "~"] {
+    for &name in &["tasks.add", "!", "~"] {
         assert!(rt; name_ok(name), "{name}");
     }
-    for name in ["", " ", "a b", "tasks.\u{e9}", "\u{7f}"] {
+    for &name in &["", " ", "a b", "tasks.\u{e9}", "\u{7f}"] {
         assert!(rt; !name_ok(name), "{name}");
+    }
+}
+
+/// A number, a list and a text.
+fn some_args(alloc: Global) -> Result<ListOf<Arg>, AllocError> {
+    let text = Arg::Text(TextOf::of(String::from_str(alloc, "x")?));
+    Ok(ListOf::of(vec![in alloc; Arg::Num(1), list(alloc, &[2, 3])?, text]?))
+}
+
+fn copies_args(alloc: Global) -> bool {
+    match some_args(alloc) {
+        Ok(args) => match copy_args(&args) {
+            Ok(copy) => copy == args,
+            Err(_) => false,
+        },
+        Err(_) => false,
+    }
+}
+
+/// A named number and a named list.
+fn some_kwargs(alloc: Global) -> Result<MapOf<Arg>, AllocError> {
+    let mut kwargs = named(alloc, "y", 2)?;
+    drop(kwargs.insert(String::from_str(alloc, "a")?, list(alloc, &[4])?)?);
+    Ok(MapOf::of(kwargs))
+}
+
+/// Whether the copy is these, of which two are a number `y` and another.
+fn copies_kwargs(alloc: Global, kwargs: &MapOf<Arg>) -> bool {
+    match copy_kwargs(alloc, kwargs) {
+        Ok(copy) => {
+            copy.get() == kwargs.get()
+                && copy.get().len() == 2
+                && copy.get().get("y") == Some(&Arg::Num(2))
+        }
+        Err(_) => false,
     }
 }
 
 #[test]
 fn copies(rt: HostRuntime) -> Result<(), Fail> {
-    let alloc = rt.alloc();
-    let text = Arg::Text(TextOf::of(String::from_str(alloc, "x")?));
-    let args = ListOf::of(vec![in alloc; Arg::Num(1), list(alloc, &[2, 3])?, text]?);
-    assert_eq!(rt; copy_args(&args)?, args);
-    let mut kwargs = named(alloc, "y", 2)?;
-    drop(kwargs.insert(String::from_str(alloc, "a")?, list(alloc, &[4])?)?);
-    let kwargs = MapOf::of(kwargs);
-    let copy = copy_kwargs(alloc, &kwargs)?;
-    assert_eq!(rt; copy.get().len(), 2);
-    assert_eq!(rt; copy.get().get("y"), Some(&Arg::Num(2)));
-    assert_eq!(rt; copy.into_plain(), kwargs.into_plain());
+    assert!(rt; copies_args(rt.alloc()));
+    let kwargs = some_kwargs(rt.alloc())?;
+    assert!(rt; copies_kwargs(rt.alloc(), &kwargs));
     Ok(())
 }

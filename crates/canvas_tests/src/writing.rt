@@ -136,7 +136,7 @@ fn fault_of(alloc: Global, name: &str, number: i64) -> Option<SigFault> {
 
 #[test]
 fn composed_faults(rt: HostRuntime) {
-    for (name, number, fault) in [
+    for &(name, number, fault) in &[
         ("", 1_152_921_504_606_846_977, Some(SigFault::NotSignature)),
         (
             "tasks.add",
