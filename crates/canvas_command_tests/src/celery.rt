@@ -1,9 +1,8 @@
 //! Starts on Celery's own workers, and the keys of results.
 
-use crate::program::{ADD_THEN_MUL, answers, words};
+use crate::program::{ADD_THEN_MUL, answers, printed, words};
 use crate::starts::STARTS;
-use canvas_command::command_with_six;
-use std::alloc::AllocError;
+use std::alloc::{AllocError, Global};
 use std::random::RandomSource;
 use std::rt::Files;
 use std::sync::Wait;
@@ -23,7 +22,7 @@ const KEYS_BEHIND_A_PREFIX: &str = concat!(
 
 #[test]
 fn starts(rt: HostRuntime) {
-    for (canvas, start) in STARTS {
+    for &(canvas, start) in &STARTS {
         let line = "export - --run 0123456789abcdef012345 --without-script";
         assert!(rt; answers(&rt, line, canvas, 0, start, ""), "{canvas}");
     }
@@ -31,7 +30,7 @@ fn starts(rt: HostRuntime) {
 
 #[test]
 fn keys_and_refusals(rt: HostRuntime) {
-    for (line, input, status, out, err) in [
+    for &(line, input, status, out, err) in &[
         (
             "keys - --run 0123456789abcdef012345",
             ADD_THEN_MUL,
@@ -160,28 +159,21 @@ const WAYS: [(&str, &str, &str); 2] = [
     ),
 ];
 
-/// What the program prints to standard output, where its status is 0.
-fn printed<S>(rt: &S, line: &str, input: &str) -> Option<Vec<u8>>
-where
-    S: Files + Threads + Wait + RandomSource + AllocGlobal + Sync,
-{
-    let alloc = rt.alloc();
-    let words = words(alloc, line).ok()?;
-    let mut out: Vec<u8> = Vec::new(alloc);
-    let mut err: Vec<u8> = Vec::new(alloc);
-    let answer = command_with_six(rt, &words, &mut input.as_bytes());
-    (answer.print(&mut out, &mut err) == 0).then_some(out)
+/// The words of a start with all options.
+fn words_of_way(alloc: Global, way: &str) -> Result<Vec<String>, AllocError> {
+    let line = format!(in alloc;
+        "export - --run 0123456789abcdef012345 --queue q --expires 60 --broker-db 1 --backend-db 2 {way}"
+    )?;
+    words(alloc, &line)
 }
 
-/// Whether the start with all options begins and ends so.
+/// Whether that start begins and ends so.
 fn starts_so<S>(rt: &S, way: &str, begin: &str, end: &str) -> bool
 where
     S: Files + Threads + Wait + RandomSource + AllocGlobal + Sync,
 {
-    match format!(in rt.alloc();
-        "export - --run 0123456789abcdef012345 --queue q --expires 60 --broker-db 1 --backend-db 2 {way}"
-    ) {
-        Ok(line) => printed(rt, &line, ONE_MEMBER).is_some_and(|out| {
+    match words_of_way(rt.alloc(), way) {
+        Ok(words) => printed(rt, &words, ONE_MEMBER).is_some_and(|out| {
             out.starts_with(begin.as_bytes()) && out.ends_with(end.as_bytes())
         }),
         Err(_) => false,
@@ -190,35 +182,40 @@ where
 
 #[test]
 fn options_of_starts(rt: HostRuntime) {
-    for (way, begin, end) in WAYS {
+    for &(way, begin, end) in &WAYS {
         assert!(rt; starts_so(&rt, way, begin, end), "{way}");
     }
 }
 
-/// Whether the start for a queue has the piece.
-fn start_has<S>(rt: &S, queue: &str, piece: &str) -> Result<bool, AllocError>
+/// The words of a start for a queue, whose name is one of them.
+fn words_of_queue(alloc: Global, queue: &str) -> Result<Vec<String>, AllocError> {
+    let mut line = words(alloc, "export - --run 0123456789abcdef012345 --queue")?;
+    line.push(String::from_str(alloc, queue)?)?;
+    Ok(line)
+}
+
+/// Whether that start has the piece.
+fn start_has<S>(rt: &S, queue: &str, piece: &str) -> bool
 where
     S: Files + Threads + Wait + RandomSource + AllocGlobal + Sync,
 {
-    let alloc = rt.alloc();
-    let mut line = words(alloc, "export - --run 0123456789abcdef012345 --queue")?;
-    line.push(String::from_str(alloc, queue)?)?;
-    let mut out: Vec<u8> = Vec::new(alloc);
-    let mut err: Vec<u8> = Vec::new(alloc);
-    let answer = command_with_six(rt, &line, &mut ADD_THEN_MUL.as_bytes());
-    let status = answer.print(&mut out, &mut err);
-    Ok(status == 0 && str::from_utf8(&out).is_ok_and(|text| text.contains(piece)))
+    match words_of_queue(rt.alloc(), queue) {
+        Ok(words) => printed(rt, &words, ADD_THEN_MUL).is_some_and(|out| str::from_utf8(
+            &out,
+        ).is_ok_and(|text| text.contains(piece))),
+        Err(_) => false,
+    }
 }
 
 // The length of a word says where it ends, whatever it holds.
 #[test]
 fn hostile_queues(rt: HostRuntime) {
-    for (queue, piece) in [
+    for &(queue, piece) in &[
         ("a\r\n$1\r\nb", "\r\n$8\r\na\r\n$1\r\nb\r\n"),
         ("schlüssel", "\r\n$10\r\nschlüssel\r\n"),
         ("", "\r\n$0\r\n\r\n"),
         ("two words \"", "\r\n$11\r\ntwo words \"\r\n"),
     ] {
-        assert!(rt; start_has(&rt, queue, piece) == Ok(true), "{queue}");
+        assert!(rt; start_has(&rt, queue, piece), "{queue}");
     }
 }

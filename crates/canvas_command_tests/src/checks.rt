@@ -1,7 +1,6 @@
 //! `canvas check`: figures, and where a canvas is refused.
 
-use crate::program::{ADD_THEN_MUL, answers, words};
-use canvas_command::command_with_six;
+use crate::program::{ADD_THEN_MUL, answers, printed, words};
 use std::test::Fail;
 
 const FIGURES: &str = concat!(
@@ -24,12 +23,9 @@ const FIGURES_OF_PAIRS: &str =
 #[test]
 fn accepted_canvases(rt: HostRuntime) -> Result<(), Fail> {
     assert!(rt; answers(&rt, "check -", ADD_THEN_MUL, 0, FIGURES, ""));
-    let mut written: Vec<u8> = Vec::new(rt.alloc());
-    let mut told: Vec<u8> = Vec::new(rt.alloc());
     let words = words(rt.alloc(), "check -")?;
-    let mut input = PAIRS.as_bytes();
-    let status = command_with_six(&rt, &words, &mut input).print(&mut written, &mut told);
-    assert!(rt; status == 0 && written.starts_with(FIGURES_OF_PAIRS.as_bytes()));
+    let figures = printed(&rt, &words, PAIRS);
+    assert!(rt; figures.is_some_and(|said| said.starts_with(FIGURES_OF_PAIRS.as_bytes())));
     Ok(())
 }
 
@@ -96,7 +92,7 @@ const REFUSED: [(&str, &str); 14] = [
 
 #[test]
 fn refused_canvases(rt: HostRuntime) {
-    for (text, said) in REFUSED {
+    for &(text, said) in &REFUSED {
         assert!(rt; answers(&rt, "check -", text, 1, "", said), "{text}");
     }
 }

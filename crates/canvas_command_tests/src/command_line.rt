@@ -3,8 +3,12 @@
 use crate::program::answers;
 use canvas_command::{NOTES, SHORT_NOTES, refuse_words};
 use canvas_sig::SigFault;
+use std::alloc::Global;
 use std::io::{self, ErrorKind};
-use std::test::Fail;
+use std::random::RandomSource;
+use std::rt::Files;
+use std::sync::Wait;
+use std::thread::Threads;
 
 /// What stands above the options.
 const COMMANDS: &str = "\
@@ -179,20 +183,40 @@ Usage: canvas <COMMAND>
 For more information, try '--help'.
 ";
 
-#[test]
-fn help(rt: HostRuntime) -> Result<(), Fail> {
-    let alloc = rt.alloc();
-    let short = format!(in alloc; "{COMMANDS}{SHORT_OPTIONS}\n{SHORT_NOTES}\n")?;
-    let long = format!(in alloc; "{COMMANDS}{LONG_OPTIONS}\n{NOTES}\n")?;
-    for (line, text) in [("-h", &short), ("--help", &long), ("help", &long)] {
-        assert!(rt; answers(&rt, line, "", 0, text, ""), "{line}");
+/// Whether help is the commands with these options and notes.
+fn helps<S>(rt: &S, line: &str, options: &str, notes: &str) -> bool
+where
+    S: Files + Threads + Wait + RandomSource + AllocGlobal + Sync,
+{
+    match format!(in rt.alloc(); "{COMMANDS}{options}\n{notes}\n") {
+        Ok(text) => answers(rt, line, "", 0, &text, ""),
+        Err(_) => false,
     }
-    Ok(())
 }
 
 #[test]
-fn help_names_each_refusal(rt: HostRuntime) -> Result<(), Fail> {
-    for fault in [
+fn help(rt: HostRuntime) {
+    for &(line, options, notes) in &[
+        ("-h", SHORT_OPTIONS, SHORT_NOTES),
+        ("--help", LONG_OPTIONS, NOTES),
+        ("help", LONG_OPTIONS, NOTES),
+    ] {
+        assert!(rt; helps(&rt, line, options, notes), "{line}");
+    }
+}
+
+/// Whether the notes have a line that begins with a refusal's number and name.
+fn names(alloc: Global, fault: SigFault) -> bool {
+    let code = fault.code();
+    match format!(in alloc; "\n  {code:>2} {fault} ") {
+        Ok(line) => NOTES.contains(line.as_str()),
+        Err(_) => false,
+    }
+}
+
+#[test]
+fn help_names_each_refusal(rt: HostRuntime) {
+    for &fault in &[
         SigFault::TooLarge,
         SigFault::NotJson,
         SigFault::NotSignature,
@@ -207,16 +231,13 @@ fn help_names_each_refusal(rt: HostRuntime) -> Result<(), Fail> {
         SigFault::TooMany,
         SigFault::Memory,
     ] {
-        let code = fault.code();
-        let line = format!(in rt.alloc(); "\n  {code:>2} {fault} ")?;
-        assert!(rt; NOTES.contains(line.as_str()), "{fault}");
+        assert!(rt; names(rt.alloc(), fault), "{fault}");
     }
-    Ok(())
 }
 
 #[test]
 fn words_of_commands(rt: HostRuntime) {
-    for (line, status, out, err) in [
+    for &(line, status, out, err) in &[
         ("run --help", 0, RUN_HELP, ""),
         ("turns --help", 0, TURNS_HELP, ""),
         ("normal --help", 0, NORMAL_HELP, ""),

@@ -77,10 +77,10 @@ const REFUSED: [(&str, &str); 7] = [
 
 #[test]
 fn what_differs_from_celery(rt: HostRuntime) {
-    for (text, report) in REPORTS {
+    for &(text, report) in &REPORTS {
         assert!(rt; answers(&rt, "run -", text, 0, report, ""), "{text}");
     }
-    for (text, refusal) in REFUSED {
+    for &(text, refusal) in &REFUSED {
         assert!(rt; answers(&rt, "run -", text, 1, "", refusal), "{text}");
     }
 }

@@ -96,7 +96,7 @@ fn a_reader_that_is_interrupted(rt: HostRuntime) {
 #[test]
 fn reads_are_counted(rt: HostRuntime) -> Result<(), Fail> {
     let longest = spaces(rt.alloc(), 1_048_576)?;
-    for (interrupts, err) in [
+    for &(interrupts, err) in &[
         (0, "canvas: refused 2 NotJson\n"),
         (1, "canvas: cannot read -\n"),
     ] {

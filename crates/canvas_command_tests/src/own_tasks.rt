@@ -69,7 +69,7 @@ where
 #[test]
 fn a_task_that_was_added(rt: HostRuntime) -> Result<(), Fail> {
     let registry = two_tasks(rt.alloc())?;
-    for line in [
+    for &line in &[
         "run -",
         "run - --workers 4",
         "turns - --workers 2 --turns 2,1,2",

@@ -68,3 +68,14 @@ where
     let found = command_with_six(rt, words, input).print(&mut written, &mut told);
     found == status && written.as_slice() == out.as_bytes() && told.as_slice() == err.as_bytes()
 }
+
+/// What the program prints to standard output, where its status is 0.
+pub(crate) fn printed<S>(rt: &S, words: &[String], input: &str) -> Option<Vec<u8>>
+where
+    S: Files + Threads + Wait + RandomSource + AllocGlobal + Sync,
+{
+    let mut out: Vec<u8> = Vec::new(rt.alloc());
+    let mut err: Vec<u8> = Vec::new(rt.alloc());
+    let answer = command_with_six(rt, words, &mut input.as_bytes());
+    (answer.print(&mut out, &mut err) == 0).then_some(out)
+}

@@ -42,7 +42,7 @@ const EMPTY: &str = r#"{"task":"x","subtask_type":"chain","kwargs":{"tasks":[]}}
 
 #[test]
 fn texts_and_statuses(rt: HostRuntime) {
-    for (line, input, status, out, err) in [
+    for &(line, input, status, out, err) in &[
         ("run -", ADD_THEN_MUL, 0, REPORT, ""),
         ("run -", FAILED, 0, FAILURES, ""),
         ("run nosuch", "", 1, "", "canvas: cannot read nosuch\n"),
@@ -78,7 +78,7 @@ const BAD_TURN: &str = "canvas: refused BadTurn\n";
 
 #[test]
 fn workers_and_turns(rt: HostRuntime) {
-    for (line, input, status, out, err) in [
+    for &(line, input, status, out, err) in &[
         ("run -", FAILED_MEMBER, 0, CHORD_ERROR, ""),
         ("run --workers 2 -", FAILED_MEMBER, 0, CHORD_ERROR, ""),
         ("run - --workers=16", FAILED_MEMBER, 0, CHORD_ERROR, ""),

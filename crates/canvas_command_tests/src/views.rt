@@ -46,7 +46,7 @@ const NO_JSON: &str = concat!(
 
 #[test]
 fn rows_and_statuses(rt: HostRuntime) {
-    for (line, input, status, out, err) in [
+    for &(line, input, status, out, err) in &[
         ("run - --json", ADD_THEN_MUL, 0, ROWS, ""),
         ("turns - --json --fail", ADD_THEN_MUL, 0, ROWS, ""),
         ("run - --json --workers 4", GROUP, 0, GROUP_ROWS, ""),
@@ -76,7 +76,7 @@ const MESSAGES: &str = concat!(
 #[test]
 fn messages(rt: HostRuntime) {
     let task = r#"{"task":"tasks.add","args":[2,2]}"#;
-    for line in ["messages -", "messages - --workers 2 --turns 2,2,1"] {
+    for &line in &["messages -", "messages - --workers 2 --turns 2,2,1"] {
         assert!(rt; answers(&rt, line, task, 0, MESSAGES, ""), "{line}");
     }
     assert!(rt;
@@ -129,7 +129,7 @@ const CHORD_PICTURE: &str = r##"digraph canvas {
 
 #[test]
 fn pictures(rt: HostRuntime) {
-    for (line, input, out) in [
+    for &(line, input, out) in &[
         ("graph -", HOSTILE, HOSTILE_PICTURE),
         ("graph - --run --workers 2", CHORD, CHORD_PICTURE),
     ] {
