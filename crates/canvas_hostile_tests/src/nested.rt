@@ -32,7 +32,7 @@ fn code_of(alloc: Global, before: &str, depth: u32, behind: &str) -> Option<u8> 
 /// JSON nests at most 127 deep.
 #[test]
 fn in_canvases(rt: HostRuntime) {
-    for (before, behind, code) in [
+    for &(before, behind, code) in &[
         ("", "", 3),
         (r#"{"task":"tasks.add","args":"#, "}", 5),
         (r#"{"task":"tasks.add","kwargs":{"x":"#, "}}", 5),
@@ -92,7 +92,7 @@ fn body_code_of(alloc: Global, before: &str, depth: u32, behind: &str) -> Option
 
 #[test]
 fn in_bodies(rt: HostRuntime) {
-    for (before, behind, code) in [
+    for &(before, behind, code) in &[
         ("", "", 5),
         ("[", ",{},null]", 6),
         (r#"[[],{"x":"#, "},null]", 6),

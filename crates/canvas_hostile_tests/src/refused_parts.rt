@@ -107,7 +107,7 @@ fn is_argument(alloc: Global, value: &Value) -> Result<bool, Memory> {
 }
 
 pub(crate) fn arguments(alloc: Global) -> Result<bool, Memory> {
-    for text in ["[1,2]", r#""text""#, "7"] {
+    for &text in &["[1,2]", r#""text""#, "7"] {
         match Value::from_str(alloc, text) {
             Ok(value) => {
                 if !is_argument(alloc, &value)? {

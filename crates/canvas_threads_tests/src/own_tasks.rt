@@ -84,7 +84,7 @@ where
     R: Threads + Wait + RandomSource + AllocGlobal + Sync,
     T: Tasks + Sync,
 {
-    for (workers, turns) in TURNS {
+    for &(workers, turns) in &TURNS {
         if !stores(rt, plan, tasks, workers, states)
             || !stores_by_turns(rt.alloc(), plan, tasks, workers, turns, states)
         {
