@@ -85,28 +85,25 @@ where
     S: Files + Threads + Wait + RandomSource + AllocGlobal + Sync,
 {
     let Asked { verb, file } = asked;
-    if let Verb::Collect { .. } = &verb
-        && file == "-"
-    {
+    if reads_input(&verb) && file == "-" {
         return Err(Refusal::CannotRead(file));
     }
     let text = text_of(rt, file, input)?;
-    match verb {
-        Verb::Collect {
-            run,
-            completes,
-            manner,
-        } => answer_collect(rt.alloc(), &run, completes, manner, &text, input),
-        verb => answer_text(rt, registry, verb, &text),
-    }
+    answer_text(rt, registry, verb, &text, input)
 }
 
-/// The answer to what is asked of a canvas's text alone.
-fn answer_text<'w, S>(
+/// Whether what is asked for reads standard input besides the canvas.
+fn reads_input(verb: &Verb) -> bool {
+    matches!(verb, Verb::Collect { .. })
+}
+
+/// The answer to what is asked of a canvas's text.
+fn answer_text<'w, S, R: Read>(
     rt: &S,
     registry: &Registry,
     verb: Verb<'w>,
     text: &[u8],
+    input: &mut R,
 ) -> Result<Answer<'w>, Refusal<'w>>
 where
     S: Files + Threads + Wait + RandomSource + AllocGlobal + Sync,
@@ -127,7 +124,12 @@ where
         }
         Verb::Export { run, target } => answer_export(alloc, &run, &target, text),
         Verb::Keys { run, prefix } => answer_keys(alloc, &run, prefix, text),
-        _ => answer_normal(alloc, text),
+        Verb::Collect {
+            run,
+            completes,
+            manner,
+        } => answer_collect(alloc, &run, completes, manner, text, input),
+        Verb::Normal => answer_normal(alloc, text),
     }
 }
 
