@@ -348,16 +348,20 @@ fn first_taken(alloc: Global, text: &str) -> Option<(PlainBackend, Letter, Envel
     Some((backend, envelope, same))
 }
 
-/// Whether a message that was stored before has no effect, and its envelope is acknowledged.
-fn ends_again(alloc: Global) -> bool {
+/// Whether a message that is stored again has no effect, and its envelope is acknowledged.
+fn ends_again(alloc: Global, backend: &PlainBackend, core: &mut Core, same: &Envelope) -> bool {
+    holds(core, same)
+        && answers(alloc, backend, core, Reply::Stored(Stored::Again))
+        && acknowledges(alloc, backend, core, same, Some(task(1)))
+        && core.dropped() == 0
+}
+
+fn first_ends_again(alloc: Global) -> bool {
     match first_taken(alloc, NESTED) {
         Some((backend, envelope, same)) => {
             let mut core = Core::new(alloc);
             answers(alloc, &backend, &mut core, Reply::Taken(Some(envelope)))
-                && holds(&core, &same)
-                && answers(alloc, &backend, &mut core, Reply::Stored(Stored::Again))
-                && acknowledges(alloc, &backend, &mut core, &same, Some(task(1)))
-                && core.dropped() == 0
+                && ends_again(alloc, &backend, &mut core, &same)
         }
         None => false,
     }
@@ -365,7 +369,7 @@ fn ends_again(alloc: Global) -> bool {
 
 #[test]
 fn stored_again(rt: HostRuntime) {
-    assert!(rt; ends_again(rt.alloc()));
+    assert!(rt; first_ends_again(rt.alloc()));
 }
 
 /// Whether a core whose envelope is refused is at its end.

@@ -1,6 +1,6 @@
 //! Texts of messages, as the definition has them.
 
-use canvas_message::{Envelope, after, encode, first_messages};
+use canvas_message::{Envelope, Message, after, encode, first_messages};
 use canvas_samples::sample::plan_of;
 use canvas_task::{Fault, Kind, ListOf, Outcome};
 use std::alloc::Global;
@@ -19,24 +19,35 @@ const QUOTIENT: &str =
 
 const ZERO_DIVISION: Outcome = Outcome::Failure(Fault::Plain(Kind::ZeroDivision));
 
-/// The envelope of one of the messages that a canvas begins with.
+/// The messages that a canvas begins with.
+fn begun(alloc: Global, text: &str) -> Option<Vec<Message>> {
+    match plan_of(alloc, text) {
+        Some(plan) => first_messages(alloc, &plan).ok(),
+        None => None,
+    }
+}
+
+/// The envelope of one of them.
 fn first(alloc: Global, text: &str, index: usize) -> Option<Envelope> {
-    let plan = plan_of(alloc, text)?;
-    let messages = first_messages(alloc, &plan).ok()?;
+    let messages = begun(alloc, text)?;
     encode(alloc, messages.get(index)?).ok()
 }
 
-/// The envelope of the first message that follows where the first task of a canvas ends so.
-fn second(alloc: Global, text: &str, fails: bool) -> Option<Envelope> {
-    let plan = plan_of(alloc, text)?;
-    let messages = first_messages(alloc, &plan).ok()?;
+/// The envelope of the first message that follows where a message's task ends so.
+fn follower(alloc: Global, message: &Message, fails: bool) -> Option<Envelope> {
     let outcome = if fails {
         ZERO_DIVISION
     } else {
         Outcome::Success(8)
     };
-    let todo = after(alloc, messages.first()?, &outcome).ok()?;
+    let todo = after(alloc, message, &outcome).ok()?;
     encode(alloc, todo.messages.get().first()?).ok()
+}
+
+/// The same of the first task of a canvas.
+fn second(alloc: Global, text: &str, fails: bool) -> Option<Envelope> {
+    let messages = begun(alloc, text)?;
+    follower(alloc, messages.first()?, fails)
 }
 
 fn is(text: &ListOf<u8>, wanted: &str) -> bool {

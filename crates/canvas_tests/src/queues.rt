@@ -52,11 +52,31 @@ fn one_thread_has_a_queue(rt: HostRuntime) -> Result<(), Fail> {
     Ok(())
 }
 
+/// Whether an envelope of this number is published.
+fn publishes<R: Wait>(
+    rt: &R,
+    alloc: Global,
+    broker: &Broker,
+    pass: &mut BrokerPass,
+    number: u64,
+) -> bool
+    requires { pass.old.of ≡ broker.now }
+    ensures { pass.new.of ≡ broker.now }
+{
+    match numbered(alloc, number) {
+        Some(envelope) => broker.publish(rt, pass, envelope).is_ok(),
+        None => false,
+    }
+}
+
 /// Two envelopes through one pass.
 fn by_one<R: Wait>(rt: &R, alloc: Global) -> Option<bool> {
     let (broker, mut pass) = Broker::new(alloc).ok()?;
-    broker.publish(rt, &mut pass, numbered(alloc, 1)?).ok()?;
-    broker.publish(rt, &mut pass, numbered(alloc, 2)?).ok()?;
+    if !publishes(rt, alloc, &broker, &mut pass, 1)
+        || !publishes(rt, alloc, &broker, &mut pass, 2)
+    {
+        return None;
+    }
     let first = gives(broker.take(rt, &mut pass), 1);
     let second = gives(broker.take(rt, &mut pass), 2);
     Some(first && second && broker.take(rt, &mut pass).is_none())
@@ -66,8 +86,11 @@ fn by_one<R: Wait>(rt: &R, alloc: Global) -> Option<bool> {
 fn by_two<R: Wait>(rt: &R, alloc: Global) -> Option<bool> {
     let (broker, mut pass) = Broker::new(alloc).ok()?;
     let mut other = broker.split(rt, &mut pass).ok()?;
-    broker.publish(rt, &mut pass, numbered(alloc, 1)?).ok()?;
-    broker.publish(rt, &mut pass, numbered(alloc, 2)?).ok()?;
+    if !publishes(rt, alloc, &broker, &mut pass, 1)
+        || !publishes(rt, alloc, &broker, &mut pass, 2)
+    {
+        return None;
+    }
     let first = gives(broker.take(rt, &mut other), 1);
     broker.join(rt, &mut pass, other);
     let second = gives(broker.take(rt, &mut pass), 2);
@@ -203,9 +226,12 @@ fn add(order: u64, taken: Option<Letter>) -> u64 {
 /// Three envelopes, as a batch and then takes give them: the digits of all, and those of the batch.
 fn by_batch<R: Wait>(rt: &R, alloc: Global) -> Option<(u64, u64)> {
     let (broker, mut pass) = Broker::new(alloc).ok()?;
-    broker.publish(rt, &mut pass, numbered(alloc, 1)?).ok()?;
-    broker.publish(rt, &mut pass, numbered(alloc, 2)?).ok()?;
-    broker.publish(rt, &mut pass, numbered(alloc, 3)?).ok()?;
+    if !publishes(rt, alloc, &broker, &mut pass, 1)
+        || !publishes(rt, alloc, &broker, &mut pass, 2)
+        || !publishes(rt, alloc, &broker, &mut pass, 3)
+    {
+        return None;
+    }
     let mut batch = broker.take_batch(rt, &mut pass);
     let begun = add(add(add(0, batch.next()), batch.next()), batch.next());
     let more = add(begun, broker.take(rt, &mut pass));

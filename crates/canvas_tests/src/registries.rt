@@ -128,9 +128,14 @@ fn answer_named(alloc: Global, registry: &Registry) -> bool {
         && with_named_four(alloc, registry, "x") == Some(BAD_CALL)
 }
 
-#[test]
-fn tasks_of_numbers(rt: HostRuntime) -> Result<(), Fail> {
-    let alloc = rt.alloc();
+fn answer_all(alloc: Global, registry: &Registry) -> bool {
+    answer_numbers(registry, &BTreeMap::new(alloc))
+        && answer_lists(alloc, registry)
+        && answer_named(alloc, registry)
+}
+
+/// Whether the product, a difference, a change of sign and a count answer so.
+fn four_answer(alloc: Global) -> bool {
     let sub = TaskOfTwo {
         name: "tests.sub",
         parameters: ("x", "y"),
@@ -146,11 +151,15 @@ fn tasks_of_numbers(rt: HostRuntime) -> Result<(), Fail> {
         parameter: "numbers",
         answers: Count,
     };
-    let registry = registry_of!(alloc; Mul, sub, negate, count)?;
-    assert!(rt; answer_numbers(&registry, &BTreeMap::new(alloc)));
-    assert!(rt; answer_lists(alloc, &registry));
-    assert!(rt; answer_named(alloc, &registry));
-    Ok(())
+    match registry_of!(alloc; Mul, sub, negate, count) {
+        Ok(registry) => answer_all(alloc, &registry),
+        Err(_) => false,
+    }
+}
+
+#[test]
+fn tasks_of_numbers(rt: HostRuntime) {
+    assert!(rt; four_answer(rt.alloc()));
 }
 
 /// What the count of the arguments answers, and the sum beside it.
@@ -284,11 +293,14 @@ fn list_as_six(alloc: Global, registry: &Registry) -> bool {
     }
 }
 
+fn six_answer(alloc: Global) -> bool {
+    match registry_of!(alloc; LogError, Ident, Xsum, Div, Mul, Add) {
+        Ok(registry) => numbers_as_six(alloc, &registry) && list_as_six(alloc, &registry),
+        Err(_) => false,
+    }
+}
+
 #[test]
-fn six_as_objects(rt: HostRuntime) -> Result<(), Fail> {
-    let alloc = rt.alloc();
-    let registry = registry_of!(alloc; LogError, Ident, Xsum, Div, Mul, Add)?;
-    assert!(rt; numbers_as_six(alloc, &registry));
-    assert!(rt; list_as_six(alloc, &registry));
-    Ok(())
+fn six_as_objects(rt: HostRuntime) {
+    assert!(rt; six_answer(rt.alloc()));
 }
