@@ -10,7 +10,7 @@ use crate::messages::answer_messages;
 use crate::refusal::Refusal;
 use crate::runs::{answer_normal, answer_run, answer_turns};
 use crate::words::bad_text;
-use canvas_task::{Add, AddFault, Div, Ident, LogError, Mul, Registry, Xsum, registry_of};
+use canvas_task::{Add, Div, Ident, LogError, Mul, Registry, Xsum, registry_of};
 use clap::error::ErrorKind;
 use std::alloc::{AllocError, Global};
 use std::env;
@@ -58,20 +58,16 @@ where
     }
 }
 
-/// The registry of the six tasks, which a run calls by their names. Their names are good and differ,
-/// so that only memory can keep one out.
-fn six_tasks(alloc: Global) -> Result<Registry, AddFault> {
-    registry_of!(alloc; Add, Mul, Div, Xsum, Ident, LogError)
-}
-
 /// As `command`, with the six tasks.
 pub fn command_with_six<'w, S, R: Read>(rt: &S, words: &'w [String], input: &mut R) -> Answer<'w>
 where
     S: Files + Threads + Wait + RandomSource + AllocGlobal + Sync,
 {
-    match six_tasks(rt.alloc()) {
+    let alloc = rt.alloc();
+    // Their names are good and differ, so that only memory can keep one out.
+    match registry_of!(alloc; Add, Mul, Div, Xsum, Ident, LogError) {
         Ok(registry) => command(rt, &registry, words, input),
-        Err(_) => Answer::refused(rt.alloc(), Refusal::Memory),
+        Err(_) => Answer::refused(alloc, Refusal::Memory),
     }
 }
 
