@@ -16,7 +16,11 @@ use canvas_task::Memory;
 use std::alloc::{AllocError, Global};
 
 /// A group that a line follows, which makes it a chord where it has an element.
-pub(crate) fn group_onto(alloc: Global, members: Vec<Line>, after: Growing) -> Result<Growing, AllocError>
+pub(crate) fn group_onto(
+    alloc: Global,
+    members: Vec<Line>,
+    after: Growing,
+) -> Result<Growing, AllocError>
     ensures { IfOk result (λ line. growing line
         ≡ group_onto 0 (chains (map elements members.items)) (growing after)) }
 {

@@ -14,7 +14,7 @@ move_all_onto-move_onto-requires t c =
 pub move_all_onto-loop-node-preserved : goal.move_all_onto-loop-node-preserved
 move_all_onto-loop-node-preserved t c = (
   ap (all_onto (trees_of (map view c.pop.new.self.items))) c.in_ok-line.ensures ∙ sym (onto_last c.pop.new.self.items c.in-Some.node (growing c.loop-node.line))
-  ∙ ap (λ xs. all_onto (trees_of (map view xs)) (growing c.loop-node.line)) (sym c.in-Some.ensures.items) ∙ c.loop-node.invariant.0,
+      ∙ ap (λ xs. all_onto (trees_of (map view xs)) (growing c.loop-node.line)) (sym c.in-Some.ensures.items) ∙ c.loop-node.invariant.0,
   omega (arith, c.loop-node.invariant.1, ap weight_of c.in-Some.ensures.items ∙ weight_last c.pop.new.self.items c.in-Some.node),
 )
 
