@@ -16,6 +16,13 @@ const FAILING_HEADER: &str = r#"{"task":"celery.chord","subtask_type":"chord","k
     {"task":"tasks.div","args":[8,4]},{"task":"tasks.div","args":[1,0]}],
     "body":{"task":"tasks.xsum"}}}"#;
 
+/// What is stored where that header's tasks have ended: the body hasn't run.
+const FAILED_RESULTS: &str =
+    r#"{"status":"SUCCESS","result":2,"task_id":"01234567-89ab-8cde-8f01-234500000001"}
+{"status":"FAILURE","result":{"exc_type":"ZeroDivisionError","exc_message":["division by zero"]},"task_id":"01234567-89ab-8cde-8f01-234500000002"}
+
+"#;
+
 const RUN: &str = "0123456789abcdef012345";
 
 /// The first task's stored result.
@@ -184,6 +191,22 @@ fn states_of_a_task(rt: HostRuntime) {
         assert!(rt;
             is_told(rt.alloc(), state, result, said),
             "{state} {result}"
+        );
+    }
+}
+
+#[test]
+fn completed(rt: HostRuntime) {
+    for &(completes, said) in &[
+        (false, "2;ZeroDivisionError;-;"),
+        (
+            true,
+            "2;ZeroDivisionError;ChordError: Dependency 00000000-0000-8000-8000-000000000002 raised ZeroDivisionError;",
+        ),
+    ] {
+        assert!(rt;
+            says(rt.alloc(), FAILING_HEADER, FAILED_RESULTS, completes, said),
+            "{said}"
         );
     }
 }
