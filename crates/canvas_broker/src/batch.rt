@@ -10,7 +10,7 @@ use std::marker::Model;
 #[derive(Drop)]
 pub struct Batch {
     // the marks of splits among them
-    pub(crate) items: ArrayVec<Option<Letter>, 20>,
+    pub(crate) items: ArrayVec<Option<Letter>, 4>,
     // how many of these are read
     pub(crate) read: usize,
 }

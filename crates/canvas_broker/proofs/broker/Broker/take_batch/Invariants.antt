@@ -9,7 +9,7 @@ use Rattle.canvas_broker.proofs.broker.Broker.take_batch.Given as goal
 
 abbrev pub invariant-loop-self : goal.invariant-loop-self
 invariant-loop-self g l =
-    IsSegPassOf l.self l.pass-inside.pass × (array_vec_len l.items + l.batch.len ≤ 20)
+    IsSegPassOf l.self l.pass-inside.pass × (array_vec_len l.items + l.batch.len ≤ 4)
     × ((rest : List (Option Envelope))
     × Holds l.self l.pass-inside.pass l.batch rest
     × Took l.fn.pass (envelopes (l.items.items ++ rest)) (pass_of (record { web = l.pass-inside.pass.web; heap = l.pass-inside.pass.heap }) l.pass-inside.pass.me.view.client.knows))
