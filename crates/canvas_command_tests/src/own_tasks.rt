@@ -2,7 +2,7 @@
 
 ghost use Rattle.std.specs.Prelude.{◌-ℤ◌, Ok};
 
-use crate::program::{answers, words};
+use crate::program::words;
 use canvas_command::command;
 use canvas_task::{AddFault, Kind, Mul, OfTwo, Registry, TaskOfTwo, registry_of};
 use std::alloc::Global;
@@ -19,12 +19,6 @@ const DIFFERENCE: &str = concat!(
     "00000000-0000-8000-8000-000000000001 tests.sub SUCCESS 7\n",
     "00000000-0000-8000-8000-000000000002 tasks.mul SUCCESS 14\n",
     "result 14\n"
-);
-
-const NOT_REGISTERED: &str = concat!(
-    "00000000-0000-8000-8000-000000000001 tests.sub FAILURE NotRegistered\n",
-    "00000000-0000-8000-8000-000000000002 tasks.mul FAILURE NotRegistered\n",
-    "result NotRegistered\n"
 );
 
 /// What `tests.sub(x, y)` answers.
@@ -77,9 +71,4 @@ fn a_task_that_was_added(rt: HostRuntime) -> Result<(), Fail> {
         assert!(rt; reports(&rt, &registry, line), "{line}");
     }
     Ok(())
-}
-
-#[test]
-fn a_task_that_was_not(rt: HostRuntime) {
-    assert!(rt; answers(&rt, "run -", SUB_THEN_MUL, 0, NOT_REGISTERED, ""));
 }

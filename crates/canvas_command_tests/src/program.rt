@@ -28,13 +28,6 @@ pub(crate) fn words(alloc: Global, line: &str) -> Result<Vec<String>, AllocError
 }
 
 /// Whether the program answers words and an input with a status and texts.
-pub(crate) fn answers<S>(rt: &S, line: &str, input: &str, status: u8, out: &str, err: &str) -> bool
-where
-    S: Files + Threads + Wait + RandomSource + AllocGlobal + Sync,
-{
-    answers_to(rt, line, &mut input.as_bytes(), status, out, err)
-}
-
 pub(crate) fn answers_to<S, R: Read>(
     rt: &S,
     line: &str,
@@ -46,36 +39,14 @@ pub(crate) fn answers_to<S, R: Read>(
 where
     S: Files + Threads + Wait + RandomSource + AllocGlobal + Sync,
 {
-    match words(rt.alloc(), line) {
-        Ok(words) => answers_words(rt, &words, input, status, out, err),
-        Err(_) => false,
-    }
-}
-
-pub(crate) fn answers_words<S, R: Read>(
-    rt: &S,
-    words: &[String],
-    input: &mut R,
-    status: u8,
-    out: &str,
-    err: &str,
-) -> bool
-where
-    S: Files + Threads + Wait + RandomSource + AllocGlobal + Sync,
-{
     let mut written: Vec<u8> = Vec::new(rt.alloc());
     let mut told: Vec<u8> = Vec::new(rt.alloc());
-    let found = command_with_six(rt, words, input).print(&mut written, &mut told);
-    found == status && written.as_slice() == out.as_bytes() && told.as_slice() == err.as_bytes()
-}
-
-/// What the program prints to standard output, where its status is 0.
-pub(crate) fn printed<S>(rt: &S, words: &[String], input: &str) -> Option<Vec<u8>>
-where
-    S: Files + Threads + Wait + RandomSource + AllocGlobal + Sync,
-{
-    let mut out: Vec<u8> = Vec::new(rt.alloc());
-    let mut err: Vec<u8> = Vec::new(rt.alloc());
-    let answer = command_with_six(rt, words, &mut input.as_bytes());
-    (answer.print(&mut out, &mut err) == 0).then_some(out)
+    match words(rt.alloc(), line) {
+        Ok(words) => {
+            command_with_six(rt, &words, input).print(&mut written, &mut told) == status
+                && written.as_slice() == out.as_bytes()
+                && told.as_slice() == err.as_bytes()
+        }
+        Err(_) => false,
+    }
 }

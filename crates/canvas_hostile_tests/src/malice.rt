@@ -4,11 +4,10 @@ ghost use Rattle.canvas_worker.specs.Asks.{FoundInRange};
 
 use crate::by_hand::{Left, work};
 use crate::forgeries::{CALLBACK, Change, FORMS, MEMBER, NAMES, RESTS, Texts};
-use crate::rows::{a_failed_member, first_envelopes};
+use crate::rows::{Sample, a_failed_member, first_envelopes};
 use canvas_backend::PlainBackend;
 use canvas_message::{Envelope, Letter};
 use canvas_samples::frozen_texts::filled;
-use canvas_samples::sample::Sample;
 use canvas_task::{Fault, Kind, ListOf, Memory, Outcome, SixTasks, TaskNo};
 use canvas_worker::{Ask, Core, OpenGate, Record, Reply};
 use std::alloc::{AllocError, AllocGlobal, Global};

@@ -1,8 +1,7 @@
-//! Lists that are nested deeply, in canvases and in the bodies of messages.
+//! Lists that are nested deeply in the bodies of messages.
 
 use canvas_message::{Envelope, decode};
 use canvas_samples::frozen_texts::bytes_of;
-use canvas_sig::read_canvas;
 use std::alloc::{AllocError, Global};
 
 /// Nested lists, so many deep, between two texts.
@@ -16,51 +15,6 @@ fn nested(alloc: Global, before: &str, depth: u32, behind: &str) -> Result<Strin
     }
     text.push_str(behind)?;
     Ok(text)
-}
-
-/// The number of a canvas's refusal, 0 where there is none.
-fn code_of(alloc: Global, before: &str, depth: u32, behind: &str) -> Option<u8> {
-    match nested(alloc, before, depth, behind) {
-        Ok(text) => match read_canvas(alloc, text.as_bytes()) {
-            Ok(_) => Some(0),
-            Err(fault) => Some(fault.code()),
-        },
-        Err(_) => None,
-    }
-}
-
-/// JSON nests at most 127 deep.
-#[test]
-fn in_canvases(rt: HostRuntime) {
-    for &(before, behind, code) in &[
-        ("", "", 3),
-        (r#"{"task":"tasks.add","args":"#, "}", 5),
-        (r#"{"task":"tasks.add","kwargs":{"x":"#, "}}", 5),
-        (r#"{"task":"tasks.add","options":{"link":"#, "}}", 3),
-        (r#"{"task":"tasks.add","options":{"x":"#, "}}", 0),
-        (
-            r#"{"task":"x","subtask_type":"chain","kwargs":{"tasks":"#,
-            "}}",
-            3,
-        ),
-        (
-            r#"{"task":"x","subtask_type":"chord","kwargs":{"header":[],"body":"#,
-            "}}",
-            3,
-        ),
-        (r#"{"task":"tasks.add","args":[1,1],"x":"#, "}", 0),
-    ] {
-        assert_eq!(rt;
-            code_of(rt.alloc(), before, 100, behind),
-            Some(code),
-            "{before}"
-        );
-        assert_eq!(rt;
-            code_of(rt.alloc(), before, 200, behind),
-            Some(2),
-            "{before}"
-        );
-    }
 }
 
 fn envelope_of(
@@ -90,6 +44,7 @@ fn body_code_of(alloc: Global, before: &str, depth: u32, behind: &str) -> Option
     }
 }
 
+/// JSON nests at most 127 deep.
 #[test]
 fn in_bodies(rt: HostRuntime) {
     for &(before, behind, code) in &[

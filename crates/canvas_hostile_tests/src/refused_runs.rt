@@ -1,12 +1,11 @@
 //! Runs that may be refused memory.
 
 use crate::by_hand::{Left, work};
-use crate::rows::{are_partial, first_envelopes};
+use crate::rows::{Sample, are_partial, first_envelopes, sample_of_text};
 use canvas_engine::{
     Report, RunFault, TextFault, When, read_turns, report_text, rows_text, run, run_text,
     run_text_threads, run_turns, run_turns_again, run_turns_within,
 };
-use canvas_samples::sample::{Sample, sample_of_text};
 use canvas_samples::spelled;
 use canvas_task::{Memory, Outcome, SixTasks, TaskNo};
 use canvas_worker::{Cause, OpenGate, Stop};

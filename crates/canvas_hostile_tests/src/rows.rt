@@ -1,11 +1,32 @@
 //! Canvases with the states that their tasks come to.
 
+use canvas_engine::run_turns;
 use canvas_message::{Letter, first_messages};
 use canvas_rewrite::Plan;
-use canvas_samples::sample::{Sample, sample_of_text};
+use canvas_samples::sample::plan_of;
 use canvas_samples::worked;
-use canvas_task::{Memory, Outcome};
+use canvas_task::{ListOf, Memory, Outcome, SixTasks};
 use std::alloc::Global;
+
+/// A canvas's plan, with the states of its tasks.
+#[derive(Drop)]
+pub(crate) struct Sample {
+    pub(crate) plan: Plan,
+    pub(crate) states: ListOf<Option<Outcome>>,
+}
+
+/// The same of a canvas's text, if it is one. The states are those of a run by turns, which are the
+/// right ones by its contract.
+pub(crate) fn sample_of_text(alloc: Global, text: &str) -> Option<Sample> {
+    let plan = plan_of(alloc, text)?;
+    match run_turns(alloc, &plan, &SixTasks, 1, &[]) {
+        Ok(report) => Some(Sample {
+            plan,
+            states: report.rows,
+        }),
+        Err(_) => None,
+    }
+}
 
 /// A chord with a member that fails, and whose body has an error callback.
 pub(crate) fn a_failed_member(alloc: Global) -> Option<Sample> {

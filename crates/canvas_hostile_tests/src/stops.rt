@@ -1,9 +1,8 @@
 //! Stops: of one worker before each of its polls, and of runs of texts on threads.
 
 use crate::by_hand::{Left, work};
-use crate::rows::{a_failed_member, are_partial, first_envelopes};
+use crate::rows::{Sample, a_failed_member, are_partial, first_envelopes, sample_of_text};
 use canvas_engine::{RunFault, TextFault, run_text_threads};
-use canvas_samples::sample::{Sample, sample_of_text};
 use canvas_samples::worked;
 use canvas_task::{Outcome, SixTasks, TaskNo};
 use canvas_worker::{Cause, Gate, OpenGate, Stop};

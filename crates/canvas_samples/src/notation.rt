@@ -1,11 +1,10 @@
-//! A short notation of canvases. A small letter is a task of that name, `*` a task with a link and
-//! an error callback, `C(..)` a chain, `G(..)` a group, `H[..|..]` a chord with its header and
-//! body, and a digit stands for itself.
+//! A short notation of canvases: `C(..)` is a chain, `G(..)` a group, and `H[..|..]` a chord with its
+//! header and body.
 
 use canvas_sig::{Node, read_canvas, write_node};
 use std::alloc::{AllocError, Global};
 
-/// What a sign other than a small letter stands for.
+/// What a sign stands for.
 pub fn piece(sign: char) -> &'static str {
     match sign {
         'C' => r#"{"task":"x","subtask_type":"chain","kwargs":{"tasks":"#,
@@ -16,25 +15,8 @@ pub fn piece(sign: char) -> &'static str {
         '|' => r#"],"body":"#,
         ']' => "}}",
         ',' => ",",
-        '7' => "7",
-        '*' => r#"{"task":"x","options":{"link":{"task":"y"},"link_error":{"task":"z"}}}"#,
         _ => "",
     }
-}
-
-/// The JSON text of a canvas.
-pub fn json_of(alloc: Global, notation: &str) -> Result<String, AllocError> {
-    let mut text = String::new(alloc);
-    for sign in notation.chars() {
-        if sign.is_ascii_lowercase() {
-            text.push_str(r#"{"task":""#)?;
-            text.push(sign)?;
-            text.push_str(r#""}"#)?;
-        } else {
-            text.push_str(piece(sign))?;
-        }
-    }
-    Ok(text)
 }
 
 /// A primitive over a part that is given several times.

@@ -106,16 +106,6 @@ fn reading_ratio(clock: &impl Clock, alloc: Global, body: &str) -> Result<u128> 
     Ok(hundredths(time, parsing(clock, alloc, body)?))
 }
 
-/// The time to read a body that differs from what `encode` writes at its last byte, a space, in
-/// hundredths of that for what it writes.
-fn missing_ratio(clock: &impl Clock, alloc: Global, body: &str) -> Result<u128> {
-    let mut spaced = String::from_str(alloc, body)?;
-    spaced.push(' ')?;
-    let missed = decoding(clock, alloc, &envelope_of(alloc, &spaced)?)?;
-    let recognised = decoding(clock, alloc, &envelope_of(alloc, body)?)?;
-    Ok(hundredths(missed, recognised))
-}
-
 fn writing_ratio(clock: &impl Clock, alloc: Global, body: &str) -> Result<u128> {
     let message = decode(alloc, &envelope_of(alloc, body)?)?;
     let value = Value::from_str(alloc, body)?;
@@ -182,12 +172,8 @@ fn print_costs(rt: &HostRuntime) -> Result<()> {
 fn print_ratios(rt: &HostRuntime) -> Result<()> {
     let body = body_text(rt.alloc())?;
     let reading = reading_ratio(rt, rt.alloc(), &body)?;
-    let missing = missing_ratio(rt, rt.alloc(), &body)?;
     let writing = writing_ratio(rt, rt.alloc(), &body)?;
     println!(rt; "decode, in hundredths of Value::from_str: {reading}")?;
-    println!(rt;
-        "decode with a space behind the body, in hundredths of decode without: {missing}"
-    )?;
     println!(rt; "encode, in hundredths of Value::to_string: {writing}")?;
     Ok(())
 }

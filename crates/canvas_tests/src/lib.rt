@@ -12,10 +12,6 @@ mod core_parts;
 #[cfg(test)]
 mod cores;
 #[cfg(test)]
-mod definition;
-#[cfg(test)]
-mod effects;
-#[cfg(test)]
 mod embeds;
 #[cfg(test)]
 mod envelopes;
@@ -24,21 +20,11 @@ mod forged;
 #[cfg(test)]
 mod forged_tables;
 #[cfg(test)]
-mod generated;
-#[cfg(test)]
-mod lines;
-#[cfg(test)]
-mod messages;
-#[cfg(test)]
 mod plans;
 #[cfg(test)]
 mod queues;
 #[cfg(test)]
 mod reading;
-#[cfg(test)]
-mod redelivery;
-#[cfg(test)]
-mod refusals;
 #[cfg(test)]
 mod registries;
 #[cfg(test)]

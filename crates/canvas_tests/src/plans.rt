@@ -1,6 +1,5 @@
-//! Normal texts and plans of canvases, worked out by hand.
+//! Plans of canvases, worked out by hand.
 
-use crate::lines::is_line_of;
 use canvas_rewrite::{Ends, Plan};
 use canvas_samples::sample::plan_of;
 use canvas_task::{GroupNo, TaskNo};
@@ -10,39 +9,12 @@ use std::test::Fail;
 const CHORD_AND_TASK: &str =
     r#"{"args":[],"immutable":false,"kwargs":{"tasks":[{"args":[],"immutable":false,"kwargs":{"body":{"args":[],"immutable":false,"kwargs":{},"options":{},"subtask_type":null,"task":"tasks.xsum"},"header":[{"args":[1,1],"immutable":false,"kwargs":{},"options":{},"subtask_type":null,"task":"tasks.add"},{"args":[2,2],"immutable":false,"kwargs":{},"options":{},"subtask_type":null,"task":"tasks.add"}]},"options":{},"subtask_type":"chord","task":"celery.chord"},{"args":[2],"immutable":false,"kwargs":{},"options":{},"subtask_type":null,"task":"tasks.mul"}]},"options":{},"subtask_type":"chain","task":"celery.chain"}"#;
 
-const ITS_NORMAL_TEXT: &str =
-    r#"{"args":[],"immutable":false,"kwargs":{"body":{"args":[],"immutable":false,"kwargs":{"tasks":[{"args":[],"immutable":false,"kwargs":{},"options":{},"subtask_type":null,"task":"tasks.xsum"},{"args":[2],"immutable":false,"kwargs":{},"options":{},"subtask_type":null,"task":"tasks.mul"}]},"options":{},"subtask_type":"chain","task":"celery.chain"},"header":[{"args":[1,1],"immutable":false,"kwargs":{},"options":{},"subtask_type":null,"task":"tasks.add"},{"args":[2,2],"immutable":false,"kwargs":{},"options":{},"subtask_type":null,"task":"tasks.add"}]},"options":{},"subtask_type":"chord","task":"celery.chord"}"#;
-
-const CHAIN_IN_A_CHAIN: &str =
-    r#"{"args":[],"immutable":false,"kwargs":{"tasks":[{"args":[],"immutable":false,"kwargs":{"tasks":[{"args":[1,1],"immutable":false,"kwargs":{},"options":{},"subtask_type":null,"task":"tasks.add"}]},"options":{},"subtask_type":"chain","task":"celery.chain"},{"args":[2],"immutable":false,"kwargs":{},"options":{},"subtask_type":null,"task":"tasks.mul"}]},"options":{},"subtask_type":"chain","task":"celery.chain"}"#;
-
-const FLATTENED: &str =
-    r#"{"args":[],"immutable":false,"kwargs":{"tasks":[{"args":[1,1],"immutable":false,"kwargs":{},"options":{},"subtask_type":null,"task":"tasks.add"},{"args":[2],"immutable":false,"kwargs":{},"options":{},"subtask_type":null,"task":"tasks.mul"}]},"options":{},"subtask_type":"chain","task":"celery.chain"}"#;
-
-const CHAIN_OF_ONE: &str =
-    r#"{"args":[],"immutable":false,"kwargs":{"tasks":[{"args":[1,1],"immutable":false,"kwargs":{},"options":{},"subtask_type":null,"task":"tasks.add"}]},"options":{},"subtask_type":"chain","task":"celery.chain"}"#;
-
-const TASK_ALONE: &str =
-    r#"{"args":[1,1],"immutable":false,"kwargs":{},"options":{},"subtask_type":null,"task":"tasks.add"}"#;
-
 const GROUP_OF_TEN: &str =
     r#"{"args":[],"immutable":false,"kwargs":{"tasks":[{"args":[0,0],"immutable":false,"kwargs":{},"options":{},"subtask_type":null,"task":"tasks.add"},{"args":[1,1],"immutable":false,"kwargs":{},"options":{},"subtask_type":null,"task":"tasks.add"},{"args":[2,2],"immutable":false,"kwargs":{},"options":{},"subtask_type":null,"task":"tasks.add"},{"args":[3,3],"immutable":false,"kwargs":{},"options":{},"subtask_type":null,"task":"tasks.add"},{"args":[4,4],"immutable":false,"kwargs":{},"options":{},"subtask_type":null,"task":"tasks.add"},{"args":[5,5],"immutable":false,"kwargs":{},"options":{},"subtask_type":null,"task":"tasks.add"},{"args":[6,6],"immutable":false,"kwargs":{},"options":{},"subtask_type":null,"task":"tasks.add"},{"args":[7,7],"immutable":false,"kwargs":{},"options":{},"subtask_type":null,"task":"tasks.add"},{"args":[8,8],"immutable":false,"kwargs":{},"options":{},"subtask_type":null,"task":"tasks.add"},{"args":[9,9],"immutable":false,"kwargs":{},"options":{},"subtask_type":null,"task":"tasks.add"}]},"options":{},"subtask_type":"group","task":"celery.group"}"#;
 
 /// A chord of three tasks, whose body has an error callback.
 const CHORD: &str =
     r#"{"args":[],"immutable":false,"kwargs":{"body":{"args":[],"immutable":false,"kwargs":{},"options":{"link_error":[{"args":[],"immutable":false,"kwargs":{},"options":{},"subtask_type":null,"task":"tasks.log_error"}]},"subtask_type":null,"task":"tasks.xsum"},"header":[{"args":[4,4],"immutable":false,"kwargs":{},"options":{},"subtask_type":null,"task":"tasks.add"},{"args":[1,0],"immutable":false,"kwargs":{},"options":{},"subtask_type":null,"task":"tasks.div"},{"args":[8,8],"immutable":false,"kwargs":{},"options":{},"subtask_type":null,"task":"tasks.add"}]},"options":{},"subtask_type":"chord","task":"celery.chord"}"#;
-
-#[test]
-fn normal_texts(rt: HostRuntime) {
-    for &(text, normal) in &[
-        (CHORD_AND_TASK, ITS_NORMAL_TEXT),
-        (CHAIN_IN_A_CHAIN, FLATTENED),
-        (CHAIN_OF_ONE, TASK_ALONE),
-    ] {
-        assert!(rt; is_line_of(rt.alloc(), text, normal), "{text}");
-        assert!(rt; is_line_of(rt.alloc(), normal, normal), "{text}");
-    }
-}
 
 /// Whether a task has a name, or none.
 fn is_named(plan: &Plan, task: u32, name: Option<&str>) -> bool {
@@ -61,7 +33,7 @@ fn size_of(plan: &Plan, group: u32) -> (Option<u32>, usize) {
 }
 
 #[test]
-pub fn plan_of_a_chord_and_a_task(rt: HostRuntime) -> Result<(), Fail> {
+fn plan_of_a_chord_and_a_task(rt: HostRuntime) -> Result<(), Fail> {
     let plan = plan_of(rt.alloc(), CHORD_AND_TASK).ok_or("no plan")?;
     assert_eq!(rt; plan.tasks(), 4);
     assert!(rt; is_named(&plan, 4, Some("tasks.mul")));
@@ -71,7 +43,7 @@ pub fn plan_of_a_chord_and_a_task(rt: HostRuntime) -> Result<(), Fail> {
 }
 
 #[test]
-pub fn plan_of_a_chord(rt: HostRuntime) -> Result<(), Fail> {
+fn plan_of_a_chord(rt: HostRuntime) -> Result<(), Fail> {
     let plan = plan_of(rt.alloc(), CHORD).ok_or("no plan")?;
     assert_eq!(rt; plan.groups(), 1);
     assert_eq!(rt; size_of(&plan, 1), (Some(3), 3));

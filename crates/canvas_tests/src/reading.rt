@@ -1,53 +1,10 @@
-//! Canvases and arguments, with what they are read as.
+//! Arguments, with what they are read as, and the names of refusals.
 
-use canvas_samples::notation::is_written;
 use canvas_sig::{SigFault, read_arg};
 use canvas_task::{Arg, ListOf, TextOf};
 use serde_json::Value;
 use std::alloc::Global;
 use std::test::Fail;
-
-const PLAIN: &str =
-    r#"{"args":[],"immutable":false,"kwargs":{},"options":{},"subtask_type":null,"task":"x"}"#;
-
-const FULL: &str =
-    r#"{"args":[1152921504606846976,[-1152921504606846976,2],"s",[]],"immutable":true,"kwargs":{"":1,"k":"v"},"options":{"link":[{"args":[],"immutable":false,"kwargs":{},"options":{},"subtask_type":null,"task":"x"}],"link_error":[{"args":[],"immutable":false,"kwargs":{},"options":{},"subtask_type":null,"task":"x"},{"args":[],"immutable":false,"kwargs":{},"options":{},"subtask_type":null,"task":"~"}]},"subtask_type":null,"task":"!"}"#;
-
-const CHORD: &str =
-    r#"{"args":[],"immutable":false,"kwargs":{"body":{"args":[],"immutable":false,"kwargs":{},"options":{},"subtask_type":null,"task":"x"},"header":[{"args":[],"immutable":false,"kwargs":{},"options":{},"subtask_type":null,"task":"x"}]},"options":{},"subtask_type":"chord","task":"celery.chord"}"#;
-
-#[test]
-fn canvases(rt: HostRuntime) {
-    for &(text, written) in &[
-        (r#"{"task":"x"}"#, PLAIN),
-        (PLAIN, PLAIN),
-        (" {\"task\" : \"x\" }\n", PLAIN),
-        (r#"{"\u0074ask":"\u0078"}"#, PLAIN),
-        (r#"{"task":7,"args":7,"task":"x","args":[]}"#, PLAIN),
-        (
-            r#"{"task":"x","subtask_type":null,"args":null,"kwargs":null,"options":null,"immutable":null}"#,
-            PLAIN,
-        ),
-        (
-            r#"{"task":"x","id":7,"chord_size":{},"options":{"task_id":1,"link":null,"link_error":[],"chord":null}}"#,
-            PLAIN,
-        ),
-        (
-            r#"{"immutable":true,"options":{"link_error":[{"task":"x"},{"task":"~"}],"link":{"task":"x"}},"kwargs":{"k":"v","":1},"args":[1152921504606846976,[-1152921504606846976,2],"s",[]],"task":"!"}"#,
-            FULL,
-        ),
-        (
-            r#"{"task":"c","subtask_type":"chord","kwargs":{"header":[{"task":"x"}],"body":{"task":"x"}}}"#,
-            CHORD,
-        ),
-        (
-            r#"{"task":"c","subtask_type":"chord","args":[],"options":{"link":[]},"kwargs":{"kwargs":7,"body":{"task":"x"},"header":{"task":"g","subtask_type":"group","kwargs":{"tasks":[{"task":"x"}]}}}}"#,
-            CHORD,
-        ),
-    ] {
-        assert!(rt; is_written(rt.alloc(), text, written), "{text}");
-    }
-}
 
 /// Whether a text is read as this argument, or refused so.
 fn is_argument(alloc: Global, text: &str, wanted: &Result<Arg, SigFault>) -> bool {

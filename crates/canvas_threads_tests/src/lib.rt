@@ -4,8 +4,6 @@
 #[cfg(test)]
 mod gates;
 #[cfg(test)]
-mod grown_runs;
-#[cfg(test)]
 mod own_tasks;
 #[cfg(test)]
 mod polls;
