@@ -1,5 +1,5 @@
-//! Tests of the program by calls: readers and refusals that no run of it meets, tasks handed in, and
-//! traces. What it prints is tested in `program-tests`.
+//! Tests of the program by calls: readers and refusals that no run of it meets, tasks handed in,
+//! and traces. What it prints is tested in `program-tests`.
 #![tactic(auto)]
 
 #[cfg(test)]

@@ -5,5 +5,8 @@ mod frozen;
 mod identifiers;
 pub(crate) mod known;
 pub(crate) mod light;
+mod miss;
 mod pieces;
 pub(crate) mod text;
+
+pub(crate) use miss::Miss;

@@ -1,5 +1,5 @@
-//! What tests share: canvases in a short notation, spelled with their calls or composed in code, and
-//! some with reports worked out by hand.
+//! What tests share: canvases in a short notation, spelled with their calls or composed in code,
+//! and some with reports worked out by hand.
 #![tactic(auto)]
 
 pub mod composed;

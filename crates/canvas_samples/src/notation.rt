@@ -1,5 +1,5 @@
-//! A short notation of canvases: `C(..)` is a chain, `G(..)` a group, and `H[..|..]` a chord with its
-//! header and body.
+//! A short notation of canvases: `C(..)` is a chain, `G(..)` a group, and `H[..|..]` a chord with
+//! its header and body.
 
 use canvas_sig::{Node, read_canvas, write_node};
 use std::alloc::{AllocError, Global};

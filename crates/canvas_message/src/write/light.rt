@@ -19,9 +19,9 @@ ghost use Rattle.canvas_message.specs.View.{place_seen};
 ghost use Rattle.canvas_message.specs.Wire.{task_id, place_id, parent_id, carried_wire, task_wire, line_wire, embed_wire, body_wire, headers_wire};
 ghost use Rattle.canvas_message.specs.steps.Texts.{Adds, properties_naming, front_text, origin_text, name_text, bare, size_text, flag_text, call_text, own_text, embed_alone, args_text, alone_text};
 
+use super::Miss;
 use super::text::{put, put_args, put_group_text, put_kwargs, put_size, put_string, put_task_text};
 use crate::Message;
-use crate::guess::Miss;
 use canvas_rewrite::{Carried, FrozenLine, FrozenTask, Place};
 use canvas_task::{Arg, TaskNo};
 use std::alloc::{AllocError, Global};
@@ -191,7 +191,7 @@ pub(super) fn put_load(alloc: Global, out: &mut String, carried: &Carried) -> Re
 {
     match bare_task(&carried.body) {
         Some(task) => Ok(put_task(alloc, out, carried.size, task)?),
-        None => Err(Miss::Other),
+        None => Err(Miss::Heavy),
     }
 }
 
@@ -280,7 +280,7 @@ pub(crate) fn put_body(
         (compact_text (body_wire message.now)) }
 {
     if !is_alone(message) {
-        return Err(Miss::Other);
+        return Err(Miss::Heavy);
     }
     put_arguments(alloc, out, message.args.get(), message.kwargs.get())?;
     put_embed(alloc, out, &message.place, known)
