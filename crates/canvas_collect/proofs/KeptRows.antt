@@ -1,22 +1,48 @@
 -- Rows that stay.
-use Rattle.std.proofs.Common.{◌≡◌, ◌∙◌, ℕ, List, get_or, set, Option, Some, None, refl, sym, ap, rules}
+use Rattle.std.proofs.Common.{◌≡◌, ◌≢◌, ◌∙◌, ◌<◌, ℕ, List, length, get_or, set, Option, Some, None, refl, sym, ap, subst, ⊎_elim, rules}
+use Rattle.std.proofs.lemmas.Bool.{cases_eq}
 use Rattle.std.proofs.lemmas.List.{length-set, get_or-set_other}
+use Rattle.std.proofs.lemmas.Grind.{get_or-set_at}
+use Rattle.canvas_task.specs.declared.outcome.Fault.{Fault}
 use Rattle.canvas_task.specs.declared.outcome.Outcome.{Outcome}
-use Rattle.canvas_collect.specs.Completed.{Keeps}
+use Rattle.canvas_task.specs.declared.outcome.Outcome.TheVariants.{Failure}
+use Rattle.canvas_collect.specs.Completed.{IsFailure, Keeps}
+
+none_is_some : (row : Option Outcome) (o : Outcome) → row ≡ None → row ≡ Some o → IsFailure o
+none_is_some row o empty there = let bad : None ≡ Some o = sym empty ∙ there in absurd cc
+
+failure_found : (f : Fault) (o : Outcome) → Some (Failure f) ≡ Some o → IsFailure o
+failure_found f o same = let found : o ≡ Failure f = cc in (f, found)
 
 pub kept_refl : (rows : List (Option Outcome)) → Keeps rows rows
-kept_refl rows = record { count = refl; stays = λ k o h. h }
+kept_refl rows = record { count = refl; stays = λ k o h. h; fills = λ k o empty there. none_is_some (get_or rows k None) o empty there }
+
+filled_between : (a b c : List (Option Outcome)) → Keeps a b → Keeps b c → (k : ℕ) (o : Outcome) → get_or a k None ≡ None → get_or c k None ≡ Some o
+    → (row : Option Outcome) → get_or b k None ≡ row → IsFailure o
+filled_between a b c first second k o empty there None between = second.fills k o between there
+filled_between a b c first second k o empty there (Some p) between =
+    let same : Some p ≡ Some o = sym (second.stays k p between) ∙ there in
+    let one : p ≡ o = cc in
+    subst IsFailure one (first.fills k p empty between)
 
 pub kept_trans : (a b c : List (Option Outcome)) → Keeps a b → Keeps b c → Keeps a c
 kept_trans a b c first second =
-    record { count = second.count ∙ first.count; stays = λ k o h. second.stays k o (first.stays k o h) }
+    record {
+      count = second.count ∙ first.count;
+      stays = λ k o h. second.stays k o (first.stays k o h);
+      fills = λ k o empty there. filled_between a b c first second k o empty there (get_or b k None) refl;
+    }
 
-pub set_kept : (rows : List (Option Outcome)) (i : ℕ) (v : Option Outcome) → get_or rows i None ≡ None → Keeps rows (set rows i v)
-set_kept rows i v empty =
+pub set_kept : (rows : List (Option Outcome)) (i : ℕ) (f : Fault) → i < length rows → get_or rows i None ≡ None → Keeps rows (set rows i (Some (Failure f)))
+set_kept rows i f within empty =
     record {
       count = search (rules, length-set);
-      stays = λ k o h. get_or-set_other rows i k v None (λ e. let bad : None ≡ Some o = sym empty ∙ (ap (λ j. get_or rows j None) (sym e) ∙ h) in absurd cc)
+      stays = λ k o h. get_or-set_other rows i k (Some (Failure f)) None (λ e. let bad : None ≡ Some o = sym empty ∙ (ap (λ j. get_or rows j None) (sym e) ∙ h) in absurd cc)
           ∙ h;
+      fills = λ k o none there. ⊎_elim
+          (λ same. failure_found f o (sym (get_or-set_at rows i k (Some (Failure f)) None same within) ∙ there))
+          (λ other. none_is_some (get_or rows k None) o none (sym (get_or-set_other rows i k (Some (Failure f)) None other) ∙ there))
+          (cases_eq k i);
     }
 
 pub ruleset kept = (kept_trans, kept_refl, set_kept)
