@@ -1,5 +1,6 @@
 -- Rows that stay.
-use Rattle.std.proofs.Common.{◌≡◌, ◌≢◌, ◌∙◌, ◌<◌, ℕ, List, length, get_or, set, Option, Some, None, refl, sym, ap, subst, ⊎_elim, rules}
+use Rattle.std.proofs.Common.{◌≡◌, ◌∙◌, ◌<◌, ℕ, List, length, get_or, set, Option, Some, None}
+use Rattle.std.proofs.Common.{refl, sym, ap, subst, ⊎_elim, rules}
 use Rattle.std.proofs.lemmas.Bool.{cases_eq}
 use Rattle.std.proofs.lemmas.List.{length-set, get_or-set_other}
 use Rattle.std.proofs.lemmas.Grind.{get_or-set_at}
@@ -15,9 +16,15 @@ failure_found : (f : Fault) (o : Outcome) → Some (Failure f) ≡ Some o → Is
 failure_found f o same = let found : o ≡ Failure f = cc in (f, found)
 
 pub kept_refl : (rows : List (Option Outcome)) → Keeps rows rows
-kept_refl rows = record { count = refl; stays = λ k o h. h; fills = λ k o empty there. none_is_some (get_or rows k None) o empty there }
+kept_refl rows =
+    record {
+      count = refl;
+      stays = λ k o h. h;
+      fills = λ k o empty there. none_is_some (get_or rows k None) o empty there;
+    }
 
-filled_between : (a b c : List (Option Outcome)) → Keeps a b → Keeps b c → (k : ℕ) (o : Outcome) → get_or a k None ≡ None → get_or c k None ≡ Some o
+filled_between : (a b c : List (Option Outcome)) → Keeps a b → Keeps b c → (k : ℕ) (o : Outcome)
+    → get_or a k None ≡ None → get_or c k None ≡ Some o
     → (row : Option Outcome) → get_or b k None ≡ row → IsFailure o
 filled_between a b c first second k o empty there None between = second.fills k o between there
 filled_between a b c first second k o empty there (Some p) between =
@@ -33,16 +40,31 @@ kept_trans a b c first second =
       fills = λ k o empty there. filled_between a b c first second k o empty there (get_or b k None) refl;
     }
 
-pub set_kept : (rows : List (Option Outcome)) (i : ℕ) (f : Fault) → i < length rows → get_or rows i None ≡ None → Keeps rows (set rows i (Some (Failure f)))
+other_row : (rows : List (Option Outcome)) (i k : ℕ) (f : Fault) (o : Outcome)
+    → get_or rows i None ≡ None → get_or rows k None ≡ Some o
+    → get_or (set rows i (Some (Failure f))) k None ≡ Some o
+other_row rows i k f o empty there =
+    get_or-set_other rows i k (Some (Failure f)) None
+    (λ e.
+    let bad : None ≡ Some o = sym empty ∙ (ap (λ j. get_or rows j None) (sym e) ∙ there) in
+    absurd cc)
+    ∙ there
+
+set_row : (rows : List (Option Outcome)) (i k : ℕ) (f : Fault) (o : Outcome) → i < length rows
+    → get_or rows k None ≡ None → get_or (set rows i (Some (Failure f))) k None ≡ Some o → IsFailure o
+set_row rows i k f o within none there =
+    let row : Option Outcome = Some (Failure f) in
+    ⊎_elim (λ e. failure_found f o (sym (get_or-set_at rows i k row None e within) ∙ there))
+    (λ n. none_is_some (get_or rows k None) o none (sym (get_or-set_other rows i k row None n) ∙ there))
+    (cases_eq k i)
+
+pub set_kept : (rows : List (Option Outcome)) (i : ℕ) (f : Fault) → i < length rows
+    → get_or rows i None ≡ None → Keeps rows (set rows i (Some (Failure f)))
 set_kept rows i f within empty =
     record {
       count = search (rules, length-set);
-      stays = λ k o h. get_or-set_other rows i k (Some (Failure f)) None (λ e. let bad : None ≡ Some o = sym empty ∙ (ap (λ j. get_or rows j None) (sym e) ∙ h) in absurd cc)
-          ∙ h;
-      fills = λ k o none there. ⊎_elim
-          (λ same. failure_found f o (sym (get_or-set_at rows i k (Some (Failure f)) None same within) ∙ there))
-          (λ other. none_is_some (get_or rows k None) o none (sym (get_or-set_other rows i k (Some (Failure f)) None other) ∙ there))
-          (cases_eq k i);
+      stays = λ k o there. other_row rows i k f o empty there;
+      fills = λ k o none there. set_row rows i k f o within none there;
     }
 
 pub ruleset kept = (kept_trans, kept_refl, set_kept)
