@@ -7,7 +7,7 @@ use crate::words::file_argument;
 use canvas_finding::{Depths, Finding, Spot, depths_of, find, pointer_text};
 use canvas_rewrite::Plan;
 use canvas_sig::read_canvas;
-use canvas_task::{Memory, Registry};
+use canvas_task::{Memory, Tasks};
 use canvas_trace::trace_of;
 use canvas_views::quoted_json;
 use clap::Command;
@@ -117,13 +117,13 @@ impl fmt::Display for Figures {
 }
 
 /// The figures of a plan whose canvas has these depths.
-fn figures_of(
+fn figures_of<T: Tasks>(
     alloc: Global,
-    registry: &Registry,
+    tasks: &T,
     plan: &Plan,
     depths: Depths,
 ) -> Result<Figures, Memory> {
-    let trace = trace_of(alloc, plan, registry, 1, &[])?;
+    let trace = trace_of(alloc, plan, tasks, 1, &[])?;
     Ok(Figures {
         tasks: plan.tasks(),
         groups: plan.groups(),
@@ -140,23 +140,23 @@ fn measured<'w>(alloc: Global, text: &[u8]) -> Result<(Plan, Depths), Refusal<'w
 }
 
 /// The figures of a canvas, one a line.
-fn figures_text<'w>(
+fn figures_text<'w, T: Tasks>(
     alloc: Global,
-    registry: &Registry,
+    tasks: &T,
     text: &[u8],
 ) -> Result<String, Refusal<'w>> {
     let (plan, depths) = measured(alloc, text)?;
-    let figures = figures_of(alloc, registry, &plan, depths)?;
+    let figures = figures_of(alloc, tasks, &plan, depths)?;
     Ok(format!(in alloc; "{figures}")?)
 }
 
-pub(crate) fn answer_check<'w>(
+pub(crate) fn answer_check<'w, T: Tasks>(
     alloc: Global,
-    registry: &Registry,
+    tasks: &T,
     text: &[u8],
 ) -> Result<Answer<'w>, Refusal<'w>> {
     match refusal_text(alloc, text)? {
         Some(said) => Err(Refusal::Found(said)),
-        None => Ok(Answer::whole(figures_text(alloc, registry, text)?.into_bytes())),
+        None => Ok(Answer::whole(figures_text(alloc, tasks, text)?.into_bytes())),
     }
 }

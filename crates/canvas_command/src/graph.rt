@@ -7,7 +7,7 @@ use crate::runs::report_of;
 use crate::words::{file_argument, workers_argument};
 use canvas_engine::Report;
 use canvas_rewrite::Plan;
-use canvas_task::Registry;
+use canvas_task::Tasks;
 use canvas_views::graph_text;
 use clap::{Arg, ArgAction, Command};
 use std::alloc::{AllocError, Global};
@@ -37,20 +37,21 @@ fn picture<'w>(
 }
 
 /// The picture of a canvas; of its run by some workers where a number of them is given.
-pub(crate) fn answer_graph<'w, S>(
+pub(crate) fn answer_graph<'w, S, T>(
     rt: &S,
-    registry: &Registry,
+    tasks: &T,
     workers: Option<u32>,
     text: &[u8],
 ) -> Result<Answer<'w>, Refusal<'w>>
 where
     S: Threads + Wait + RandomSource + AllocGlobal + Sync,
+    T: Tasks + Sync,
 {
     let plan = plan_of(rt.alloc(), text)?;
     match workers {
         None => picture(rt.alloc(), &plan, None),
         Some(workers) => {
-            let report = report_of(rt, &plan, registry, workers)?;
+            let report = report_of(rt, &plan, tasks, workers)?;
             picture(rt.alloc(), &plan, Some(&report))
         }
     }

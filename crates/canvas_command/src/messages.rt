@@ -4,7 +4,7 @@ use crate::answer::Answer;
 use crate::plan::plan_of;
 use crate::refusal::Refusal;
 use crate::words::{file_argument, turns_argument, workers_argument};
-use canvas_task::Registry;
+use canvas_task::Tasks;
 use canvas_trace::{Trace, trace_of};
 use canvas_views::message_line;
 use clap::Command;
@@ -19,15 +19,15 @@ pub(crate) fn messages_command<'a>(alloc: Global) -> Result<Command<'a>, AllocEr
 }
 
 /// Each message, a line each.
-pub(crate) fn answer_messages<'w>(
+pub(crate) fn answer_messages<'w, T: Tasks>(
     alloc: Global,
-    registry: &Registry,
+    tasks: &T,
     workers: u32,
     turns: &[u32],
     text: &[u8],
 ) -> Result<Answer<'w>, Refusal<'w>> {
     let plan = plan_of(alloc, text)?;
-    let trace = trace_of(alloc, &plan, registry, workers, turns)?;
+    let trace = trace_of(alloc, &plan, tasks, workers, turns)?;
     Ok(Answer::whole(lines_of(alloc, &trace)?))
 }
 

@@ -10,7 +10,7 @@ use crate::messages::answer_messages;
 use crate::refusal::Refusal;
 use crate::runs::{answer_normal, answer_run, answer_turns};
 use crate::words::bad_text;
-use canvas_task::{Add, Div, Ident, LogError, Mul, Registry, Xsum, registry_of};
+use canvas_task::{SixTasks, Tasks};
 use clap::error::ErrorKind;
 use std::alloc::{AllocError, Global};
 use std::env;
@@ -37,18 +37,19 @@ pub fn refuse_words<'w>(alloc: Global, error: &io::Error) -> Answer<'w> {
 /// Runs the program: `words` are those after its name, `input` is what the file `-` stands for.
 /// Nothing is printed: the answer has the report, help or another text, and why there is none, or
 /// not all of it.
-pub fn command<'w, S, R: Read>(
+pub fn command<'w, S, T, R: Read>(
     rt: &S,
-    registry: &Registry,
+    tasks: &T,
     words: &'w [String],
     input: &mut R,
 ) -> Answer<'w>
 where
     S: Files + Threads + Wait + RandomSource + AllocGlobal + Sync,
+    T: Tasks + Sync,
 {
     let alloc = rt.alloc();
     let answered = match Asked::of(alloc, words) {
-        Ok(asked) => answer(rt, registry, asked, input),
+        Ok(asked) => answer(rt, tasks, asked, input),
         Err(Refusal::Words(error)) => help(alloc, error),
         Err(refusal) => Err(refusal),
     };
@@ -63,29 +64,25 @@ pub fn command_with_six<'w, S, R: Read>(rt: &S, words: &'w [String], input: &mut
 where
     S: Files + Threads + Wait + RandomSource + AllocGlobal + Sync,
 {
-    let alloc = rt.alloc();
-    // Their names are good and differ, so that only memory can keep one out.
-    match registry_of!(alloc; Add, Mul, Div, Xsum, Ident, LogError) {
-        Ok(registry) => command(rt, &registry, words, input),
-        Err(_) => Answer::refused(alloc, Refusal::Memory),
-    }
+    command(rt, &SixTasks, words, input)
 }
 
-fn answer<'w, S, R: Read>(
+fn answer<'w, S, T, R: Read>(
     rt: &S,
-    registry: &Registry,
+    tasks: &T,
     asked: Asked<'w>,
     input: &mut R,
 ) -> Result<Answer<'w>, Refusal<'w>>
 where
     S: Files + Threads + Wait + RandomSource + AllocGlobal + Sync,
+    T: Tasks + Sync,
 {
     let Asked { verb, file } = asked;
     if reads_input(&verb) && file == "-" {
         return Err(Refusal::CannotRead(file));
     }
     let text = text_of(rt, file, input)?;
-    answer_text(rt, registry, verb, &text, input)
+    answer_text(rt, tasks, verb, &text, input)
 }
 
 /// Whether what is asked for reads standard input besides the canvas.
@@ -94,29 +91,30 @@ fn reads_input(verb: &Verb) -> bool {
 }
 
 /// The answer to what is asked of a canvas's text.
-fn answer_text<'w, S, R: Read>(
+fn answer_text<'w, S, T, R: Read>(
     rt: &S,
-    registry: &Registry,
+    tasks: &T,
     verb: Verb<'w>,
     text: &[u8],
     input: &mut R,
 ) -> Result<Answer<'w>, Refusal<'w>>
 where
     S: Files + Threads + Wait + RandomSource + AllocGlobal + Sync,
+    T: Tasks + Sync,
 {
     let alloc = rt.alloc();
     match verb {
-        Verb::Run { workers, manner } => answer_run(rt, registry, workers, manner, text),
+        Verb::Run { workers, manner } => answer_run(rt, tasks, workers, manner, text),
         Verb::Turns {
             workers,
             turns,
             again,
             manner,
-        } => answer_turns(alloc, registry, workers, &turns, again, manner, text),
-        Verb::Check => answer_check(alloc, registry, text),
-        Verb::Graph { workers } => answer_graph(rt, registry, workers, text),
+        } => answer_turns(alloc, tasks, workers, &turns, again, manner, text),
+        Verb::Check => answer_check(alloc, tasks, text),
+        Verb::Graph { workers } => answer_graph(rt, tasks, workers, text),
         Verb::Messages { workers, turns } => {
-            answer_messages(alloc, registry, workers, &turns, text)
+            answer_messages(alloc, tasks, workers, &turns, text)
         }
         Verb::Export { run, target } => answer_export(alloc, &run, &target, text),
         Verb::Keys { run, prefix } => answer_keys(alloc, &run, prefix, text),

@@ -9,71 +9,74 @@ use canvas_engine::{
 };
 use canvas_rewrite::{Plan, node_of, normalise};
 use canvas_sig::{Canvas, read_canvas, write_node};
-use canvas_task::{Memory, Registry, TaskNo};
+use canvas_task::{Memory, TaskNo, Tasks};
 use std::alloc::Global;
 use std::random::RandomSource;
 use std::sync::Wait;
 use std::thread::Threads;
 
 /// The report of a plan's run on threads.
-pub(crate) fn report_of<S>(
+pub(crate) fn report_of<S, T>(
     rt: &S,
     plan: &Plan,
-    registry: &Registry,
+    tasks: &T,
     workers: u32,
 ) -> Result<Report, RunFault>
 where
     S: Threads + Wait + RandomSource + AllocGlobal + Sync,
+    T: Tasks + Sync,
 {
     let alloc = rt.alloc();
-    match run(rt, alloc, plan, registry, workers, &OpenGate, &Stop::new()) {
+    match run(rt, alloc, plan, tasks, workers, &OpenGate, &Stop::new()) {
         Ok((report, _records)) => Ok(report),
         Err(fault) => Err(fault),
     }
 }
 
 /// The report of a text's run on threads.
-fn plain_run<'w, S>(
+fn plain_run<'w, S, T>(
     rt: &S,
-    registry: &Registry,
+    tasks: &T,
     workers: u32,
     text: &[u8],
 ) -> Result<Answer<'w>, Refusal<'w>>
 where
     S: Threads + Wait + RandomSource + AllocGlobal + Sync,
+    T: Tasks + Sync,
 {
     let alloc = rt.alloc();
-    match run_text_threads(rt, alloc, text, registry, workers, &OpenGate, &Stop::new()) {
+    match run_text_threads(rt, alloc, text, tasks, workers, &OpenGate, &Stop::new()) {
         Ok(report) => Ok(Answer::whole(report.into_bytes())),
         Err(fault) => ended(alloc, text, fault),
     }
 }
 
 /// The report of a run on threads.
-pub(crate) fn answer_run<'w, S>(
+pub(crate) fn answer_run<'w, S, T>(
     rt: &S,
-    registry: &Registry,
+    tasks: &T,
     workers: u32,
     manner: Manner,
     text: &[u8],
 ) -> Result<Answer<'w>, Refusal<'w>>
 where
     S: Threads + Wait + RandomSource + AllocGlobal + Sync,
+    T: Tasks + Sync,
 {
     if manner.is_plain() {
-        return plain_run(rt, registry, workers, text);
+        return plain_run(rt, tasks, workers, text);
     }
     let plan = manner.plan_of(rt.alloc(), text)?;
-    match report_of(rt, &plan, registry, workers) {
+    match report_of(rt, &plan, tasks, workers) {
         Ok(report) => manner.whole(rt.alloc(), &plan, &report),
         Err(fault) => Ok(manner.early(rt.alloc(), &plan, fault)),
     }
 }
 
 /// The report of a run by turns, with what is delivered again, where that is asked for.
-pub(crate) fn answer_turns<'w>(
+pub(crate) fn answer_turns<'w, T: Tasks>(
     alloc: Global,
-    registry: &Registry,
+    tasks: &T,
     workers: u32,
     turns: &[u32],
     again: Option<Vec<(TaskNo, When)>>,
@@ -81,16 +84,14 @@ pub(crate) fn answer_turns<'w>(
     text: &[u8],
 ) -> Result<Answer<'w>, Refusal<'w>> {
     match again {
-        Some(entries) => turns_again(
-            alloc, registry, workers, turns, &entries, true, manner, text,
-        ),
-        None => turns_again(alloc, registry, workers, turns, &[], false, manner, text),
+        Some(entries) => turns_again(alloc, tasks, workers, turns, &entries, true, manner, text),
+        None => turns_again(alloc, tasks, workers, turns, &[], false, manner, text),
     }
 }
 
-fn turns_again<'w>(
+fn turns_again<'w, T: Tasks>(
     alloc: Global,
-    registry: &Registry,
+    tasks: &T,
     workers: u32,
     turns: &[u32],
     entries: &[(TaskNo, When)],
@@ -99,7 +100,7 @@ fn turns_again<'w>(
     text: &[u8],
 ) -> Result<Answer<'w>, Refusal<'w>> {
     if manner.is_plain() {
-        return match run_text_again(alloc, text, registry, workers, turns, entries) {
+        return match run_text_again(alloc, text, tasks, workers, turns, entries) {
             Ok((report, repeats)) => Ok(Answer::whole(report.into_bytes()).with_repeats(
                 counts.then_some(Repeats(repeats)),
             )),
@@ -107,7 +108,7 @@ fn turns_again<'w>(
         };
     }
     let plan = manner.plan_of(alloc, text)?;
-    match run_turns_again(alloc, &plan, registry, workers, turns, entries) {
+    match run_turns_again(alloc, &plan, tasks, workers, turns, entries) {
         Ok((report, repeats)) => Ok(
             manner
                 .whole(alloc, &plan, &report)?
