@@ -1,10 +1,13 @@
 //! Queues: of one thread, of passes, and what threads share.
 
 ghost use Rattle.std.specs.Prelude.{◌≡◌};
+ghost use Rattle.canvas_history.specs.Callers.{told};
+ghost use Rattle.canvas_broker.specs.Broker.{HasTaken};
 
 use canvas_broker::{Broker, BrokerPass, PlainBroker};
 use canvas_message::{Envelope, Letter};
 use canvas_task::ListOf;
+use canvas_worker::steps_of_workers;
 use std::alloc::Global;
 use std::sync::Wait;
 use std::test::*;
@@ -95,6 +98,39 @@ fn by_two<R: Wait>(rt: &R, alloc: Global) -> Option<bool> {
     broker.join(rt, &mut pass, other);
     let second = gives(broker.take(rt, &mut pass), 2);
     Some(first && second && broker.take(rt, &mut pass).is_none())
+}
+
+/// Whether an envelope that was taken comes once more where a copy of it is delivered again.
+fn comes_again<R: Wait>(
+    rt: &R,
+    broker: &Broker,
+    pass: &mut BrokerPass,
+    taken: &Letter,
+) -> Option<bool>
+    requires same { pass.old.of ≡ broker.now }
+    requires taken { HasTaken (told pass.old) pass.old.name taken.now }
+{
+    let copy = taken.copy().ok()?;
+    broker.redeliver(rt, pass, copy).ok()?;
+    let again = broker.take(rt, pass)?;
+    Some(again.envelope() == taken.envelope() && broker.take(rt, pass).is_none())
+}
+
+/// One envelope, which its pass takes and delivers again.
+fn by_one_again<R: Wait>(rt: &R, alloc: Global) -> Option<bool> {
+    let (broker, mut pass) = Broker::new(alloc).ok()?;
+    if !publishes(rt, alloc, &broker, &mut pass, 1) {
+        return None;
+    }
+    let taken = broker.take(rt, &mut pass)?;
+    steps_of_workers();
+    comes_again(rt, &broker, &mut pass, &taken)
+}
+
+#[test]
+fn a_pass_delivers_again(rt: HostRuntime) -> Result<(), Fail> {
+    assert_eq!(rt; by_one_again(&rt, rt.alloc()), Some(true));
+    Ok(())
 }
 
 #[test]

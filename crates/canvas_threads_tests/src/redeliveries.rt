@@ -130,3 +130,36 @@ fn a_failed_member_again(rt: HostRuntime) -> Result<(), Fail> {
     }
     Ok(())
 }
+
+/// A chord in a header, whose only member fails: its body is failed, and so is that of the whole.
+fn nested_chords(alloc: Global) -> Result<Worked, Memory> {
+    let report = concat!(
+        "#1 tasks.div FAILURE ZeroDivisionError\n",
+        "#2 tasks.xsum FAILURE ChordError: Dependency #1 raised ZeroDivisionError\n",
+        "#3 tasks.add SUCCESS 2\n",
+        "#4 tasks.xsum FAILURE ChordError: Dependency #2 raised ChordError\n",
+        "result ChordError: Dependency #2 raised ChordError\n"
+    );
+    Ok(Worked {
+        text: spelled::canvas(alloc, "H[H[.|.],.|.]", "div:1,0 xsum: add:1,1 xsum:")?,
+        report: spelled::report(alloc, report)?,
+    })
+}
+
+/// Both messages are taken three times; the bodies have none. Each member returns its part once.
+#[test]
+fn nested_chords_again(rt: HostRuntime) -> Result<(), Fail> {
+    let nested = nested_chords(rt.alloc())?;
+    let wanted = Sums {
+        taken: 6,
+        published: 2,
+        first: 4,
+        parts: 3,
+        dropped: 0,
+    };
+    for workers in [1, 2, 4, 16] {
+        let found = sums_by(&rt, rt.alloc(), &nested, workers, &TwiceForEach::new());
+        assert_eq!(rt; found, Some(wanted), "{workers} workers");
+    }
+    Ok(())
+}
