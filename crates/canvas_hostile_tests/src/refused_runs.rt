@@ -2,6 +2,7 @@
 
 use crate::by_hand::{Left, work};
 use crate::rows::{Sample, are_partial, first_envelopes, sample_of_text};
+use crate::stops::FirstTimes;
 use canvas_engine::{
     Report, RunFault, TextFault, When, read_turns, report_text, rows_text, run, run_text,
     run_text_threads, run_turns, run_turns_again, run_turns_within,
@@ -12,6 +13,7 @@ use canvas_worker::{Cause, OpenGate, Stop};
 use std::alloc::{AllocGlobal, Global};
 use std::random::RandomSource;
 use std::sync::Wait;
+use std::sync::atomic::AtomicU32;
 use std::thread::Threads;
 
 /// A canvas, by its frame and its calls, and its report, all spelled shortly.
@@ -48,7 +50,7 @@ pub(crate) enum How {
     Again(u32),
     /// On threads, with so many workers.
     Threads(u32),
-    /// By one worker that is polled by hand.
+    /// By one worker that is polled by hand, and delivers two envelopes again.
     ByHand,
     /// By turns, with its report written.
     Report,
@@ -132,7 +134,11 @@ fn by_hand<R: Wait + RandomSource + AllocGlobal>(
     canvas: &Sample,
 ) -> Result<bool, Memory> {
     let envelopes = first_envelopes(alloc, &canvas.plan)?;
-    match work(rt, alloc, &canvas.plan, envelopes, &OpenGate, u32::MAX) {
+    let gate = FirstTimes {
+        times: 2,
+        asked: AtomicU32::new(0),
+    };
+    match work(rt, alloc, &canvas.plan, envelopes, &gate, u32::MAX) {
         Some(left) => is_left(canvas, &left),
         None => Err(Memory),
     }

@@ -18,9 +18,9 @@ const MOST: u32 = 100;
 
 /// Has an envelope delivered again each of the first times that it is asked.
 #[derive(Drop)]
-struct FirstTimes {
-    times: u32,
-    asked: AtomicU32,
+pub(crate) struct FirstTimes {
+    pub(crate) times: u32,
+    pub(crate) asked: AtomicU32,
 }
 
 impl Gate for FirstTimes {
