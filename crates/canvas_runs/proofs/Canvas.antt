@@ -73,8 +73,6 @@ module _ (behaviour : Behaviour) where
     sealed = λ m. m;
     Back = λ m. Unit;
     opened = λ m. Some m;
-    members = p.members;
-    first = messages_of (enter p.line (run no_input) nowhere 0 None);
   }
 
 module _ (members : ℕ → List ℕ) where
@@ -87,7 +85,12 @@ module _ (behaviour : Behaviour) (p : Plan) where
   X = canvas behaviour p
 
   abbrev pub form : Form X
-  form = record { Formed = Formed p.members p.limit; FormedPart = FormedPart p.members p.limit }
+  form = record {
+    members = p.members;
+    first = messages_of (enter p.line (run no_input) nowhere 0 None);
+    Formed = Formed p.members p.limit;
+    FormedPart = FormedPart p.members p.limit;
+  }
 
   abbrev pub Does : Event → AJob → Type 0
   Does = DoesIn behaviour p.line

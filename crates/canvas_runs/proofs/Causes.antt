@@ -91,7 +91,7 @@ heavy_total w (y ∷ xs) x (inr i) = let h = heavy_total w xs x i in omega arith
 
 module _ (behaviour : Behaviour) (l : Line) (plan : IsPlan l) (r : Run behaviour l) where
   -- what shows an event
-  brought : (p : ℕ) (v : Event) (c : BackendCall Outcome) → (shows (X behaviour l plan) v c ≡ 0 → ⊥) → In (row (p, c)) r.table → Brought l p r.table v
+  brought : (p : ℕ) (v : Event) (c : BackendCall Outcome) → (shows (X behaviour l plan) (form behaviour l plan) v c ≡ 0 → ⊥) → In (row (p, c)) r.table → Brought l p r.table v
   brought p v (stored t o false) d i = absurd (d refl)
   brought p v (has_read t o) d i = absurd (d refl)
   brought p start (stored t o true) d i = absurd (d refl)
@@ -146,10 +146,10 @@ module _ (behaviour : Behaviour) (l : Line) (plan : IsPlan l) (r : Run behaviour
       let bound = one_caller (X behaviour l plan) (form behaviour l plan) (Does behaviour l plan) (order behaviour l plan) (value behaviour l plan) (once behaviour l plan) (inner_run behaviour l plan r) k v
       (λ w n other q. (once behaviour l plan).event w v n c other does q) p in
       let shown : Brought l p r.table v = ⊎_elim
-      (λ (z : total (shows (X behaviour l plan) v) (by p (table_calls r.table)) ≡ 0). at_start p v (omega (arith, weight, some, bound, z)))
-      (λ (h : (x : BackendCall Outcome) × In x (by p (table_calls r.table)) × (shows (X behaviour l plan) v x ≡ 0 → ⊥)).
+      (λ (z : total (shows (X behaviour l plan) (form behaviour l plan) v) (by p (table_calls r.table)) ≡ 0). at_start p v (omega (arith, weight, some, bound, z)))
+      (λ (h : (x : BackendCall Outcome) × In x (by p (table_calls r.table)) × (shows (X behaviour l plan) (form behaviour l plan) v x ≡ 0 → ⊥)).
       brought p v h.0 h.2 (row_in r.table (p, h.0) (by_in p h.0 (table_calls r.table) h.1)))
-      (find_heavy (shows (X behaviour l plan) v) (by p (table_calls r.table))) in
+      (find_heavy (shows (X behaviour l plan) (form behaviour l plan) v) (by p (table_calls r.table))) in
       (c, v, good.1, ap (opened (book_of l)) good.1 ∙ (order behaviour l plan).opened c good.3 good.2, does, shown)
 
   pub by_cause : ByCause behaviour l r.queue r.table
@@ -165,7 +165,7 @@ module _ (behaviour : Behaviour) (l : Line) (plan : IsPlan l) (r : Run behaviour
       subst (λ w. Brought l p r.table w) ((once behaviour l plan).event k.1 v k.0 c k.4 does (ap (λ (d : Content). number_of d.own) same)) k.5
 
   -- a chord is completed at most once
-  completes_less : (g : ℕ) (c : BackendCall Outcome) → completes_one l g c ≤ shows (X behaviour l plan) (completion g) c
+  completes_less : (g : ℕ) (c : BackendCall Outcome) → completes_one l g c ≤ shows (X behaviour l plan) (form behaviour l plan) (completion g) c
   completes_less g (stored t o true) = omega arith
   completes_less g (stored t o false) = omega arith
   completes_less g (has_read t o) = omega arith
@@ -178,6 +178,6 @@ module _ (behaviour : Behaviour) (l : Line) (plan : IsPlan l) (r : Run behaviour
   pub completed_once : (g : ℕ) → completions l g r.table ≤ 1
   completed_once g =
       let table = table_is l (plan_apart l plan) [] r.table no_results [] [] refl (table_starts l (plan_apart l plan)) r.table_legal in
-      let less = total-le (completes_one l g) (shows (X behaviour l plan) (completion g)) (completes_less g) (seconds (table_calls r.table)) in
-      let once = shows_once (X behaviour l plan) (completion g) (seconds (table_calls r.table)) table in
+      let less = total-le (completes_one l g) (shows (X behaviour l plan) (form behaviour l plan) (completion g)) (completes_less g) (seconds (table_calls r.table)) in
+      let once = shows_once (X behaviour l plan) (form behaviour l plan) (completion g) (seconds (table_calls r.table)) table in
       omega (arith, less, once)

@@ -11,7 +11,7 @@ use Rattle.canvas_rewrite.specs.FrozenView.{PCarried}
 use Rattle.canvas_rewrite.specs.Planned.{IsPlan}
 use Rattle.canvas_message.specs.Content.{Content, number_of}
 use Rattle.canvas_message.specs.Effects as effects
-use Rattle.canvas_message.specs.Effects.{effect_of, script, stores_in, messages_in, part_in, part_jobs}
+use Rattle.canvas_message.specs.Effects.{first_messages, effect_of, script, stores_in, messages_in, part_in, part_jobs}
 use Rattle.canvas_message.specs.Events as events
 use Rattle.canvas_message.specs.Events.{In, Event, start, running, end_of_line, completion}
 use Rattle.canvas_message.specs.Flowing.{no_input, run, after_outcome}
@@ -156,6 +156,8 @@ module _ (behaviour : Behaviour) (l : Line) (plan : IsPlan l) where
 
   abbrev pub form : Form X
   form = record {
+    members = members l;
+    first = first_messages l;
     Formed = λ c. (m : Message) × (c ≡ content m) × Formed' m;
     FormedPart = λ g t d. (c : Carried) × (d ≡ p_carried c) × FormedPart' g t c;
   }
@@ -229,7 +231,7 @@ module _ (behaviour : Behaviour) (l : Line) (plan : IsPlan l) where
   first_formed (publish m ∷ js) f s = ((m, refl, (f.0, s.0)), first_formed js f.1 s.1)
   first_formed (hand_in g t c ∷ js) f s = first_formed js f s.1
 
-  first_same : X.first ≡ map content (plan_facts.X behaviour p).first
+  first_same : form.first ≡ map content (plan_facts.form behaviour p).first
   first_same = first_sent (members l) p.limit l p.numbered
 
   opened_back : (c : Content) → form.Formed c → read_envelope (sealed c) ≡ Ok c → opened (book_of l) (sealed c) ≡ Some c
@@ -292,7 +294,7 @@ module _ (behaviour : Behaviour) (l : Line) (plan : IsPlan l) where
 
   pub value : Evaluates X Does form
   value = record {
-    first = subst (Each (λ c. Does start (publish c))) (sym first_same) (first_does (plan_facts.X behaviour p).first (plan_facts.value behaviour p).first);
+    first = subst (Each (λ c. Does start (publish c))) (sym first_same) (first_does (plan_facts.form behaviour p).first (plan_facts.value behaviour p).first);
     own = λ c r. own c r.0 (published r.0 c r.1);
     ended = λ c f r. ended c r.0 (published r.0 c r.1);
     completed = λ g t d fs f r same has. completed g t d fs r.0 (returned r.0 g t d r.1) same has;
@@ -345,7 +347,7 @@ module _ (behaviour : Behaviour) (l : Line) (plan : IsPlan l) where
   once = record {
     event = λ e f c d i j same. event e f c d (published e c i) (published f d j) same;
     message = λ e f c d i j same. message e f c d (published e c i) (published f d j) same;
-    at_start = λ k. subst (λ n. n ≤ 1) (sym (ap (total (names X k)) first_same ∙ names_sent k (plan_facts.X behaviour p).first)) ((plan_facts.once behaviour p).at_start k);
+    at_start = λ k. subst (λ n. n ≤ 1) (sym (ap (total (names X k)) first_same ∙ names_sent k (plan_facts.form behaviour p).first)) ((plan_facts.once behaviour p).at_start k);
     at_end = λ k c f. end_weight (publishes X k) (publishes (plan_facts.X behaviour p) k) (publishes_sent k) c (effects.outcome_of behaviour c) f
         (λ m e g. subst (λ o. total (publishes (plan_facts.X behaviour p) k) (after m o) ≤ 1) (sym (outcome_same c m e)) ((plan_facts.once behaviour p).at_end k m g));
     at_completion = λ k g t d fs f same. completion_weight (publishes X k) (publishes (plan_facts.X behaviour p) k) (publishes_sent k) g t d fs f (λ c h. (plan_facts.once behaviour p).at_completion k g t c fs h same);

@@ -55,7 +55,7 @@ module _ (behaviour : Behaviour) (l : Line) (plan : IsPlan l) where
     abbrev pub callers : ℕ
     callers = total (λ e. e.0) (queue_calls r.queue) + total (λ e. e.0) (table_calls r.table)
 
-    abbrev pub inner_run : inner.Run (X behaviour l plan)
+    abbrev pub inner_run : inner.Run (X behaviour l plan) (form behaviour l plan)
     inner_run = record {
       workers = callers;
       broker = queue_calls r.queue;

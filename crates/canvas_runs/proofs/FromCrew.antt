@@ -25,7 +25,6 @@ use Rattle.canvas_runs.specs.Worker.{worker_of, sealed}
 use Rattle.canvas_runs.proofs.CallsOf.{queue_by, queue_append, queue_splits, queue_joins, queue_entries, table_by, table_append, table_splits, table_joins, table_rows}
 use Rattle.canvas_runs.proofs.Passes.{accounts}
 use Rattle.canvas_runs.proofs.Seats.{ledger}
-use Rattle.canvas_runs.proofs.Starting.{core_run_same, left_same}
 use Rattle.canvas_runs.proofs.Sums.{total-append}
 use Rattle.canvas_runs.proofs.Words.{in_each, cond_cases}
 
@@ -189,7 +188,7 @@ module _ (behaviour : Behaviour) (l : Line) where
       queue_legal = passes.1.legal;
       table_legal = seats.legal;
       core = core;
-      is_core = λ p. core_run_same behaviour P F taking (core p) (for_all (λ p x. IsCoreRun (worker_of behaviour P) taking x) r.works.is_core (λ p e f. f.mate.followed.is_core) (λ p e n. tt) p);
+      is_core = λ p. (for_all (λ p x. IsCoreRun (worker_of behaviour P) taking x) r.works.is_core (λ p e f. f.mate.followed.is_core) (λ p e n. tt) p);
       reads = λ p. for_all (λ p x. ReadsMembers (members P) x) r.works.reads (λ p e f. f.mate.followed.reads) (λ p e n. tt) p;
       opening = r.opening;
       unsent = r.unsent;
@@ -226,7 +225,7 @@ module _ (behaviour : Behaviour) (l : Line) where
         all_sent = w.all_sent;
         drained = w.empty (subst (λ n. Sole the_queue n) (sym passes.0) passes.1.sole);
         all_used = the_used;
-        all_ended = λ p. subst (λ x. Between x) (sym (left_same behaviour P F taking (core p)))
+        all_ended = λ p.
             (for_all (λ p x. Between (left_after (worker_of behaviour P) taking x))
             (subst (λ x. Between x) (sym r.works.leaves) w.own.0)
             (λ p e f. subst (λ x. Between x) (sym f.mate.followed.leaves) (mate_done f.mate f.there).0)

@@ -256,7 +256,7 @@ module _ (behaviour : Behaviour) (l : Line) (plan : IsPlan l) (r : Run behaviour
       let one = (first_part behaviour l plan r).stored_once t in
       let takes = taken_once t in
       let same = total-same (takes_task (X behaviour l plan) t) (takes_one_of l t) (take_weight t) (seconds (queue_calls r.queue)) in
-      let stores = taken_stored (X behaviour l plan) t (inner_run behaviour l plan r) c.all_used c.all_ended in
+      let stores = taken_stored (X behaviour l plan) t (form behaviour l plan) (inner_run behaviour l plan r) c.all_used c.all_ended in
       let both = both_answers (X behaviour l plan) (form behaviour l plan) (Does behaviour l plan) (order behaviour l plan) (value behaviour l plan) (once behaviour l plan) (keeping behaviour l plan) (inner_run behaviour l plan r) t calls in
       let f = total-same (first_of t) (firsts_one t) (first_weight behaviour l plan r t) calls in
       let a = total-same (again_of (X behaviour l plan) (form behaviour l plan) (Does behaviour l plan) (order behaviour l plan) (value behaviour l plan) (once behaviour l plan) (keeping behaviour l plan) (inner_run behaviour l plan r) t) (agains_one t) (repeat_weight behaviour l plan r t) calls in

@@ -43,9 +43,9 @@ use Rattle.canvas_runs.proofs.Words.{in_right, in_each, each_right, each_weaker,
 
 -- what is left after a core run is good, where the answers are
 module _ (Y : Protocol) (G : Goods Y) (k : Closed Y G) where
-  pub left_good : (s : Doing Y) (xs : List (AskedAndAnswered Y.Envelope Y.Outcome)) → GoodState Y G s → IsCoreRun Y s xs → ReadsMembers Y.members xs → Each (λ x. GoodAnswer Y G x.1) xs → GoodState Y G (left_after Y s xs)
+  pub left_good : (s : Doing Y) (xs : List (AskedAndAnswered Y.Envelope Y.Outcome)) → GoodState Y G s → IsCoreRun Y s xs → ReadsMembers G.members xs → Each (λ x. GoodAnswer Y G x.1) xs → GoodState Y G (left_after Y s xs)
   left_good s [] good c m a = good
-  left_good s (x ∷ xs) good c m a = left_good (answered Y s x.1) xs (next_good Y G k s x.1 good (subst (λ z. reads_member Y.members z x.1) c.0 m.0) a.0) c.2 m.1 a.1
+  left_good s (x ∷ xs) good c m a = left_good (answered Y s x.1) xs (next_good Y G k s x.1 good (subst (λ z. reads_member G.members z x.1) c.0 m.0) a.0) c.2 m.1 a.1
 
 rows_others : (p q : ℕ) (cs : List (BackendCall Outcome)) → q ≢ p → AllOthers p (backend_entries q cs)
 rows_others p q [] apart = tt
@@ -98,7 +98,7 @@ module _ (behaviour : Behaviour) (l : Line) (plan : IsPlan l) where
   Ready n xs p acking = Unit {0}
   Ready n xs p (doing [] b) = ⊥
   Ready n xs p (doing (j ∷ js) b) = (us : List ℕ) × Backed (worker behaviour l) us (j ∷ js) × Each (May n xs p) us
-  Ready n xs p (reading g c fs) = Each (IsStored xs) ((worker behaviour l).members g) × (eqb (length fs) c.size ≡ false)
+  Ready n xs p (reading g c fs) = Each (IsStored xs) ((form behaviour l plan).members g) × (eqb (length fs) c.size ≡ false)
 
   settled_ready : (n : ℕ) (xs : List Step) (p : ℕ) (us : List ℕ) (js : Jobs (worker behaviour l)) (b : Bool) → Backed (worker behaviour l) us js → Each (May n xs p) us → Ready n xs p (settled (worker behaviour l) js b)
   settled_ready n xs p us [] b k m = tt
@@ -123,7 +123,7 @@ module _ (behaviour : Behaviour) (l : Line) (plan : IsPlan l) where
   part_may n xs p (doing (hand_in g t c ∷ js) b) is good k =
       let mine = in_each (May n xs p) k.0 k.2 t k.1.0 in
       let formed = good.0.0 in
-      (ap is_some formed.2.1.0, among_members t ((worker behaviour l).members g) ((order behaviour l plan).member g t c formed), mine.own, mine.free)
+      (ap is_some formed.2.1.0, among_members t ((form behaviour l plan).members g) ((order behaviour l plan).member g t c formed), mine.own, mine.free)
   part_may n xs p (reading g c fs) is good k = tt
   part_may n xs p acking is good k = tt
 
@@ -154,7 +154,7 @@ module _ (behaviour : Behaviour) (l : Line) (plan : IsPlan l) where
   other_ready n xs p q a r w apart legal acking k = tt
   other_ready n xs p q a r w apart legal (doing [] b) k = k
   other_ready n xs p q a r w apart legal (doing (j ∷ js) b) k = (k.0, k.1, each_weaker (λ t m. other_may n xs p q a r t w apart legal m) k.0 k.2)
-  other_ready n xs p q a r w apart legal (reading g c fs) k = (each_weaker (λ t m. stored_more xs (q, (a, r)) t m) ((worker behaviour l).members g) k.0, k.1)
+  other_ready n xs p q a r w apart legal (reading g c fs) k = (each_weaker (λ t m. stored_more xs (q, (a, r)) t m) ((form behaviour l plan).members g) k.0, k.1)
 
   -- ---- nor does a call of its own that returns no part
 
@@ -207,12 +207,12 @@ module _ (behaviour : Behaviour) (l : Line) (plan : IsPlan l) where
       let there : In call log = subst (In call) (sym f.is) (in_right f.before (call ∷ f.rest) call (inl refl)) in
       stored_stays l (plan_apart l plan) t o true log no_results (store_in log f.caller t o First there)
 
-  header_stored : (n : ℕ) (xs : List Step) (p g t m : ℕ) → results.results P (table_log behaviour l n xs) ≡ results_after xs → results.IsLegal P (table_log behaviour l n (xs ++ (p, (part g t, counted m)) ∷ [])) → suc m ≡ length ((worker behaviour l).members g)
-      → Each (IsStored (xs ++ (p, (part g t, counted m)) ∷ [])) ((worker behaviour l).members g)
+  header_stored : (n : ℕ) (xs : List Step) (p g t m : ℕ) → results.results P (table_log behaviour l n xs) ≡ results_after xs → results.IsLegal P (table_log behaviour l n (xs ++ (p, (part g t, counted m)) ∷ [])) → suc m ≡ length ((form behaviour l plan).members g)
+      → Each (IsStored (xs ++ (p, (part g t, counted m)) ∷ [])) ((form behaviour l plan).members g)
   header_stored n xs p g t m is legal full =
       let x : Step = (p, (part g t, counted m)) in
-      each_from_in ((worker behaviour l).members g) (λ u i.
-      let w = all_first P (table_log behaviour l n (xs ++ x ∷ [])) (table_log behaviour l n xs) [] p g t m legal (table_log_more behaviour l n xs x) full u (among_members u ((worker behaviour l).members g) i) in
+      each_from_in ((form behaviour l plan).members g) (λ u i.
+      let w = all_first P (table_log behaviour l n (xs ++ x ∷ [])) (table_log behaviour l n xs) [] p g t m legal (table_log_more behaviour l n xs x) full u (among_members u ((form behaviour l plan).members g) i) in
       let k = was_in (table_log behaviour l n xs) u w.0 w.1 in
       stored_more xs x u (k.0, ap (λ s. s.outcomes u) (sym is) ∙ k.1))
 
@@ -251,7 +251,7 @@ module _ (behaviour : Behaviour) (l : Line) (plan : IsPlan l) where
       cond_cases (Ready n (xs ++ x ∷ []) p) (eqb (length (fs ++ (t, o) ∷ [])) c.size) (settled (worker behaviour l) ((worker behaviour l).completed c (fs ++ (t, o) ∷ [])) false) (reading g c (fs ++ (t, o) ∷ []))
       (λ full. settled_ready n (xs ++ x ∷ []) p [] ((worker behaviour l).completed c (fs ++ (t, o) ∷ [])) false
       ((its_backs behaviour l plan).completed g state.0 c (fs ++ (t, o) ∷ []) state.1.0 (all_found (worker behaviour l) (right_goods (X behaviour l plan) (form behaviour l plan) (Does behaviour l plan)) (right_closed (X behaviour l plan) (form behaviour l plan) (Does behaviour l plan) (order behaviour l plan) (value behaviour l plan)) g c (fs ++ (t, o) ∷ []) state full)) tt)
-      (λ less. (each_weaker (λ u m. stored_more xs x u m) ((worker behaviour l).members g) k.0, less))
+      (λ less. (each_weaker (λ u m. stored_more xs x u m) ((form behaviour l plan).members g) k.0, less))
   own_ready back n xs p (reading g c fs) (found t None) is good k h law = tt
   own_ready back n xs p acking acked is good k h law = tt
   own_ready back n xs p s r is good k h law = elim h [ ]
@@ -267,4 +267,4 @@ module _ (behaviour : Behaviour) (l : Line) (plan : IsPlan l) where
   delivers_ready n xs p q e legal acking k = tt
   delivers_ready n xs p q e legal (doing [] b) k = k
   delivers_ready n xs p q e legal (doing (j ∷ js) b) k = (k.0, k.1, each_weaker (λ t m. subst (λ g. MayReturn P g p t) (sym (table_delivers behaviour l n xs q e)) m) k.0 k.2)
-  delivers_ready n xs p q e legal (reading g c fs) k = (each_weaker (λ t m. stored_more xs (q, (deliver e, sent)) t m) ((worker behaviour l).members g) k.0, k.1)
+  delivers_ready n xs p q e legal (reading g c fs) k = (each_weaker (λ t m. stored_more xs (q, (deliver e, sent)) t m) ((form behaviour l plan).members g) k.0, k.1)

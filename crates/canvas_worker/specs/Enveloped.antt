@@ -15,7 +15,7 @@ use Rattle.canvas_message.specs.EnvelopeFaults.{envelope_fault}
 use Rattle.canvas_message.specs.Fits.{fits}
 use Rattle.canvas_message.specs.Job.{Job, store, publish, hand_in}
 use Rattle.canvas_message.specs.declared.envelope.Envelope.{Envelope}
-use Rattle.canvas_backend.specs.Roster.{Roster, members}
+use Rattle.canvas_backend.specs.Roster.{Roster}
 use Rattle.canvas_runs.specs.Book.{Book, book_on}
 use Rattle.canvas_runs.specs.Protocol.{Protocol}
 use Rattle.canvas_runs.specs.Worker.{sealed, read_envelope, opened}
@@ -61,9 +61,9 @@ module _ (behaviour : Behaviour) where
   applied_if None e = None
   applied_if (Some c) e = Some (record { envelope = e; outcome = outcome_of behaviour (said e) })
 
-  -- of what a book knows, and of the last tasks of groups' members
-  abbrev pub enveloped_on : Book → (ℕ → List ℕ) → Protocol
-  enveloped_on book lasts = record {
+  -- of what a book knows
+  abbrev pub enveloped_by : Book → Protocol
+  enveloped_by book = record {
     Envelope = Envelope;
     Message = Applied;
     Carried = PCarried;
@@ -76,13 +76,7 @@ module _ (behaviour : Behaviour) where
     sealed = λ m. m.envelope;
     Back = λ m. read_envelope m.envelope ≡ Ok (said m.envelope);
     opened = λ e. applied_if (opened book e) e;
-    members = lasts;
-    first = [];
   }
 
   abbrev pub enveloped : Roster → Protocol
-  enveloped plan = enveloped_on (book_on plan) (members plan)
-
-  -- that of a book alone, for what a core asks and what an answer leads to
-  abbrev pub enveloped_by : Book → Protocol
-  enveloped_by book = enveloped_on book (λ g. [])
+  enveloped plan = enveloped_by (book_on plan)
