@@ -210,7 +210,6 @@ still behaviour plan p s = record {
   counts = record { taken = refl; published = refl; first = refl; parts = refl; dropped = refl };
   leaves = refl;
   made = [];
-  stood = tt;
   follows = scripts_all;
   used = refl;
   makes = refl;

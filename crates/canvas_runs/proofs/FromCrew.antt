@@ -16,9 +16,9 @@ use Rattle.canvas_broker.specs.Broker as broker
 use Rattle.canvas_runs.specs.Accounts.{splits_of, joins_of, broker_entries, backend_entries, HasQueueCalls, HasTableCalls, QueueAccounts, TableAccounts}
 use Rattle.canvas_runs.specs.Core.{IsCoreRun, taking, left_after, Between}
 use Rattle.canvas_runs.specs.Crew.{Mate, Ran, EndedWell, numbers_along as numbers, first_pass, first_seat}
-use Rattle.canvas_runs.specs.Following.{Pass, Seat, Stood, Serves, IsDone}
+use Rattle.canvas_runs.specs.Following.{Pass, Seat, Serves, IsDone}
 use Rattle.canvas_runs.specs.Calls.{BrokerCall, CoreCall, makes, BackendCall, FollowsScripts, scripts_all, scripts_publish, AskedAndAnswered, broker_calls, core_calls, backend_calls, ReadsMembers, takes_one}
-use Rattle.canvas_runs.specs.Lists.{Each, by, seconds, total}
+use Rattle.canvas_runs.specs.Lists.{by, seconds, total}
 use Rattle.canvas_runs.specs.Logs.{queue_calls, table_calls}
 use Rattle.canvas_runs.specs.Run.{Run, Closed, published_all}
 use Rattle.canvas_runs.specs.Worker.{worker_of, sealed}
@@ -31,10 +31,6 @@ use Rattle.canvas_runs.proofs.Words.{in_each, cond_cases}
 serves_append : (plan : Roster) (cs ds : List (BackendCall Outcome)) (s t u : Seat) → Serves plan s cs t → Serves plan t ds u → Serves plan s (cs ++ ds) u
 serves_append plan [] ds s t u f g = subst (λ x. Serves plan x ds u) f g
 serves_append plan (c ∷ cs) ds s t u f g = (f.0, f.1, serves_append plan cs ds f.0 t u f.2 g)
-
-stood_all : (es : List Envelope) → Each Stood (published_all es)
-stood_all [] = tt
-stood_all (e ∷ es) = (tt, stood_all es)
 
 no_takes : (es : List Envelope) → total takes_one (published_all es) ≡ 0
 no_takes [] = refl
@@ -131,8 +127,8 @@ module _ (behaviour : Behaviour) (l : Line) where
         let qs : List ℕ = numbers 1 r.mates in
         let a : List (broker.QueueEntry Envelope) = splits_of qs ++ broker_entries 0 sent in
         let b : List (broker.QueueEntry Envelope) = joins_of qs ++ broker_entries 0 r.works.made in
-        let left : seconds (queue_calls a) ≡ sent = queue_append (splits_of qs) (broker_entries 0 sent) ∙ (ap (λ x. x ++ seconds (queue_calls (broker_entries 0 sent))) (queue_splits qs) ∙ queue_entries 0 sent (stood_all (map sealed r.opening))) in
-        let right : seconds (queue_calls b) ≡ r.works.made = queue_append (joins_of qs) (broker_entries 0 r.works.made) ∙ (ap (λ x. x ++ seconds (queue_calls (broker_entries 0 r.works.made))) (queue_joins qs) ∙ queue_entries 0 r.works.made r.works.stood) in
+        let left : seconds (queue_calls a) ≡ sent = queue_append (splits_of qs) (broker_entries 0 sent) ∙ (ap (λ x. x ++ seconds (queue_calls (broker_entries 0 sent))) (queue_splits qs) ∙ queue_entries 0 sent) in
+        let right : seconds (queue_calls b) ≡ r.works.made = queue_append (joins_of qs) (broker_entries 0 r.works.made) ∙ (ap (λ x. x ++ seconds (queue_calls (broker_entries 0 r.works.made))) (queue_joins qs) ∙ queue_entries 0 r.works.made) in
         queue_by 0 the_queue ∙ (ap (λ x. seconds (queue_calls x)) passes.1.own ∙ (queue_append a b ∙ (ap (λ x. x ++ seconds (queue_calls b)) left ∙ ap (λ x. sent ++ x) right)))
 
     pub table_zero : by 0 (table_calls seat.seen) ≡ zero_calls
@@ -143,7 +139,7 @@ module _ (behaviour : Behaviour) (l : Line) where
         table_by 0 seat.seen ∙ (ap (λ x. seconds (table_calls x)) seats.own ∙ (table_append a (backend_entries 0 zero_calls) ∙ (ap (λ x. x ++ seconds (table_calls (backend_entries 0 zero_calls))) left ∙ table_rows 0 zero_calls)))
 
     queue_mate : (p : ℕ) (f : Found p r.mates (core_at 1 r.mates p) the_queue seat.seen) → by p (queue_calls the_queue) ≡ f.mate.followed.made
-    queue_mate p f = queue_by p the_queue ∙ (ap (λ x. seconds (queue_calls x)) f.calls ∙ queue_entries p f.mate.followed.made f.mate.followed.stood)
+    queue_mate p f = queue_by p the_queue ∙ (ap (λ x. seconds (queue_calls x)) f.calls ∙ queue_entries p f.mate.followed.made)
 
     table_mate : (p : ℕ) (f : Found p r.mates (core_at 1 r.mates p) the_queue seat.seen) → by p (table_calls seat.seen) ≡ backend_calls f.mate.followed.run
     table_mate p f = table_by p seat.seen ∙ (ap (λ x. seconds (table_calls x)) f.replies ∙ table_rows p (backend_calls f.mate.followed.run))

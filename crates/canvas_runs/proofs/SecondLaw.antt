@@ -180,8 +180,7 @@ module _ (behaviour : Behaviour) (l : Line) (plan : IsPlan l) (r : Run behaviour
   drained_total k q (again e ∷ cs) d =
       let t = drained_total k (q ++ e ∷ []) cs d in
       omega (arith, total-append (λ e. of_task l k (opened (book_of l) e)) q (e ∷ []))
-  drained_total k q (took None ∷ cs) d = let t = drained_total k q cs d in omega arith
-  drained_total k q (took (Some e) ∷ cs) (rest, same, d) =
+  drained_total k q (took e ∷ cs) (rest, same, d) =
       let t = drained_total k rest cs d in
       let s : total (λ e. of_task l k (opened (book_of l) e)) q ≡ of_task l k (opened (book_of l) e) + total (λ e. of_task l k (opened (book_of l) e)) rest = ap (total (λ e. of_task l k (opened (book_of l) e))) same in
       omega arith
@@ -241,8 +240,7 @@ module _ (behaviour : Behaviour) (l : Line) (plan : IsPlan l) (r : Run behaviour
 
   take_weight : (k : ℕ) (c : BrokerCall Envelope) → takes_task (X behaviour l plan) k c ≡ takes_one_of l k c
   take_weight k (published e) = refl
-  take_weight k (took None) = refl
-  take_weight k (took (Some e)) = go (opened (book_of l) e)
+  take_weight k (took e) = go (opened (book_of l) e)
     where
       go : (x : _) → of_opened (X behaviour l plan) k x ≡ of_task l k x
       go None = refl

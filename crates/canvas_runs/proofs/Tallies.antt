@@ -1,5 +1,5 @@
 -- The counts of the workers are those of their entries.
-use Rattle.std.proofs.Common.{◌≡◌, ℕ, suc, ◌+◌, true, false, List, [], ◌∷◌, ◌++◌, length, map, Option, Some, None, refl, sym, ap, subst, ◌∙◌, arith}
+use Rattle.std.proofs.Common.{◌≡◌, ℕ, suc, ◌+◌, true, false, List, [], ◌∷◌, ◌++◌, length, map, Some, refl, sym, ap, subst, ◌∙◌, arith}
 use Rattle.canvas_task.specs.Apply.{Behaviour}
 use Rattle.canvas_task.specs.declared.outcome.Outcome.{Outcome}
 use Rattle.canvas_semantics.specs.Line.{Line}
@@ -92,7 +92,7 @@ module _ (behaviour : Behaviour) (plan : Roster) where
       let rest = none_dropped xs (each_right (GoodTake Opens) (broker_call x.0 x.1) (broker_calls xs) g) in
       omega (arith, here, rest)
 
-follows_publishing : {ts : List (Option Envelope)} {cs ls : List (BrokerCall Envelope)} → FollowsCore ts cs ls → total publishing ls ≡ total publishing cs
+follows_publishing : {ts : List Envelope} {cs ls : List (BrokerCall Envelope)} → FollowsCore ts cs ls → total publishing ls ≡ total publishing cs
 follows_publishing follows_all = refl
 follows_publishing (follows_publish f) = let k = follows_publishing f in omega (arith, k)
 follows_publishing (follows_list_take f) = let k = follows_publishing f in omega (arith, k)
@@ -138,8 +138,7 @@ module _ (behaviour : Behaviour) (plan : Roster) (p : Pass) (s : Seat) (w : Work
       weaker : (cs : List (BrokerCall Envelope)) → Each (GoodTake P) cs → Each (GoodTake (Opens behaviour plan)) cs
       weaker [] g = tt
       weaker (published e ∷ cs) g = (tt, weaker cs g.1)
-      weaker (took None ∷ cs) g = (tt, weaker cs g.1)
-      weaker (took (Some e) ∷ cs) g = (opens e g.0, weaker cs g.1)
+      weaker (took e ∷ cs) g = (opens e g.0, weaker cs g.1)
       weaker (again e ∷ cs) g = (tt, weaker cs g.1)
 
 module _ (behaviour : Behaviour) (l : Line) (plan : IsPlan l) (pass : Pass) (seat : Seat) (r : Ran behaviour l pass seat) (w : EndedWell behaviour l pass seat r) where
@@ -168,7 +167,7 @@ module _ (behaviour : Behaviour) (l : Line) (plan : IsPlan l) (pass : Pass) (sea
   mates_count k [] h t d = tt
   mates_count k (m ∷ ms) h t d =
       let f = m.followed in
-      let calls : by k (queue_calls queue) ≡ f.made = queue_by k queue ∙ (ap (λ x. seconds (queue_calls x)) h.0 ∙ queue_entries k f.made f.stood) in
+      let calls : by k (queue_calls queue) ≡ f.made = queue_by k queue ∙ (ap (λ x. seconds (queue_calls x)) h.0 ∙ queue_entries k f.made) in
       let replies : by k (table_calls seat.seen) ≡ backend_calls f.run = table_by k seat.seen ∙ (ap (λ x. seconds (table_calls x)) t.0 ∙ table_rows k (backend_calls f.run)) in
       let c = f.counts in
       let lost = taken_kept behaviour P m.pass m.seat m.ended f d.0.1 Good good_opens (subst (λ cs. Each (GoodTake Good) cs) calls (good_by k)) in (

@@ -16,8 +16,8 @@ use Rattle.canvas_broker.specs.Broker as broker
 use Rattle.canvas_runs.specs.Accounts.{splits_of, broker_entries, backend_entries}
 use Rattle.canvas_runs.specs.Core.{Ask, Reply, take, send, keep, part, read, pause, ack, taken, sent, kept, counted, found as found_it, rested, acked, taking, IsCoreRun, Between, deliver}
 use Rattle.canvas_runs.specs.Calls.{BrokerCall, makes, BackendCall, stored, FollowsScripts, scripts_all, scripts_publish, scripts_list_take, scripts_core_take, scripts_ack, AskedAndAnswered, broker_calls, core_calls, backend_call, backend_calls, ReadsMembers, takes_one, again, worker_call, worker_calls, scripts_of, scripts_again, held_by, held_after, delivers, DeliversHeld}
-use Rattle.canvas_runs.specs.Following.{Stood, table_reply}
-use Rattle.canvas_runs.specs.Lists.{Each, by, total}
+use Rattle.canvas_runs.specs.Following.{table_reply}
+use Rattle.canvas_runs.specs.Lists.{by, total}
 use Rattle.canvas_runs.specs.Logs.{queue_calls, table_calls}
 use Rattle.canvas_runs.specs.Run.{Run, Closed, published_all}
 use Rattle.canvas_runs.specs.Turns.{Step, queue_next, results_next, results_after, queue_after, left, round, IsWorker, Answers, FirstsRead, holds}
@@ -87,10 +87,6 @@ held_taken h (x ∷ xs) e k = ⊎_elim (λ a. one x.0 x.1 a) (λ b. inr (inr b))
 no_takes : (es : List Envelope) → total takes_one (published_all es) ≡ 0
 no_takes [] = refl
 no_takes (e ∷ es) = let k = no_takes es in omega (arith, k)
-
-pub stood_all : (es : List Envelope) → Each Stood (published_all es)
-stood_all [] = tt
-stood_all (e ∷ es) = (tt, stood_all es)
 
 store_reply : (t : ℕ) (o : Outcome) (b : Bool) (s : Stored) → b ≡ says_first s → table_reply (stored t o b) ≡ was s
 store_reply t o true First e = refl
@@ -312,19 +308,13 @@ module _ (behaviour : Behaviour) (l : Line) where
 
   -- ---- each worker's calls are those of its steps
 
-  pub call_stood : (a : Ask Envelope Outcome) (r : Reply Envelope Outcome) → Each Stood (worker_call a r)
-  call_stood take (taken (Some e)) = (tt, tt)
-  call_stood (send e) sent = (tt, tt)
-  call_stood (deliver e) sent = (tt, tt)
-  call_stood a r = tt
-
   lines_by : (p : ℕ) (xs : List Step) → by p (queue_calls (queue_lines xs)) ≡ worker_calls (by p xs)
   lines_by p [] = refl
   lines_by p (x ∷ xs) =
       let call : List (BrokerCall Envelope) = worker_call x.1.0 x.1.1 in
       ap (by p) (queue_calls_append (broker_entries x.0 call) (queue_lines xs))
       ∙ (by_append p (queue_calls (broker_entries x.0 call)) (queue_calls (queue_lines xs))
-      ∙ (ap₂ (λ u v. u ++ v) (ap (by p) (queue_calls_entries x.0 call (call_stood x.1.0 x.1.1)) ∙ by_tag x.0 p call) (lines_by p xs) ∙ go (eqb x.0 p)))
+      ∙ (ap₂ (λ u v. u ++ v) (ap (by p) (queue_calls_entries x.0 call) ∙ by_tag x.0 p call) (lines_by p xs) ∙ go (eqb x.0 p)))
     where
       go : (b : Bool) → cond b (worker_call x.1.0 x.1.1) [] ++ worker_calls (by p xs) ≡ worker_calls (cond b (x.1 ∷ by p xs) (by p xs))
       go true = refl
@@ -355,7 +345,7 @@ module _ (behaviour : Behaviour) (l : Line) where
       ap (by p) (queue_calls_append (splits_of (round n)) (opening ++ queue_lines xs) ∙ ap (λ g. g ++ queue_calls (opening ++ queue_lines xs)) (queue_calls_splits (round n)))
       ∙ (ap (by p) (queue_calls_append opening (queue_lines xs))
       ∙ (by_append p (queue_calls opening) (queue_calls (queue_lines xs))
-      ∙ ap₂ (λ u v. u ++ v) (ap (by p) (queue_calls_entries 0 (published_all firsts) (stood_all firsts)) ∙ (by_tag 0 p (published_all firsts) ∙ ap (λ b. cond b (published_all firsts) []) (swapped p))) (lines_by p xs)))
+      ∙ ap₂ (λ u v. u ++ v) (ap (by p) (queue_calls_entries 0 (published_all firsts)) ∙ (by_tag 0 p (published_all firsts) ∙ ap (λ b. cond b (published_all firsts) []) (swapped p))) (lines_by p xs)))
 
   pub table_by : (n : ℕ) (xs : List Step) (p : ℕ) → by p (table_calls (table_log n xs)) ≡ backend_calls (by p xs)
   table_by n xs p =

@@ -42,7 +42,7 @@ use Rattle.canvas_runs.proofs.Sums.{total-append, sum_to, sum_to-le, sum_to-both
 use Rattle.canvas_runs.proofs.Tables.{part_of, part_once}
 use Rattle.canvas_runs.proofs.TurnLaw.{holds, the_run}
 use Rattle.canvas_runs.proofs.TurnLogs.{tag, queue_calls_append, queue_calls_splits, queue_calls_entries, table_calls_append, table_calls_splits, table_calls_rows}
-use Rattle.canvas_runs.proofs.TurnRuns.{queue_lines, table_lines, queue_log, table_log, table_by, firsts as first_envelopes, call_stood, stood_all, backend_scripts}
+use Rattle.canvas_runs.proofs.TurnRuns.{queue_lines, table_lines, queue_log, table_log, table_by, firsts as first_envelopes, backend_scripts}
 use Rattle.canvas_runs.proofs.Words.{each_append, each_weaker, each_from_in, in_each, cond_cases}
 use Rattle.canvas_backend.specs.Roster.{roster_of, members as roster_members}
 
@@ -111,8 +111,7 @@ takes_few : (ts q : List Envelope) (cs : List (BrokerCall Envelope)) → IsQueue
 takes_few ts q [] k = omega arith
 takes_few ts q (published e ∷ cs) k = let r = takes_few ts (q ++ e ∷ []) cs k in omega (arith, r, length-append q (e ∷ []))
 takes_few ts q (again e ∷ cs) k = let r = takes_few ts (q ++ e ∷ []) cs k.1 in omega (arith, r, length-append q (e ∷ []))
-takes_few ts q (took None ∷ cs) k = let r = takes_few ts q cs k.1 in omega (arith, r)
-takes_few ts q (took (Some e) ∷ cs) (rest, same, k) = let r = takes_few (e ∷ ts) rest cs k in let many : length q ≡ suc (length rest) = ap length same in omega (arith, r, many)
+takes_few ts q (took e ∷ cs) (rest, same, k) = let r = takes_few (e ∷ ts) rest cs k in let many : length q ≡ suc (length rest) = ap length same in omega (arith, r, many)
 
 abbrev pub keeping_one : BackendCall Outcome → ℕ
 keeping_one (stored t o b) = 1
@@ -157,7 +156,7 @@ module _ (behaviour : Behaviour) (l : Line) where
   lines_total w [] = refl
   lines_total w (x ∷ xs) =
       let call : List (BrokerCall Envelope) = worker_call x.1.0 x.1.1 in
-      ap (λ g. total w (seconds g)) (queue_calls_append (broker_entries x.0 call) (queue_lines behaviour l xs) ∙ ap (λ g. g ++ queue_calls (queue_lines behaviour l xs)) (queue_calls_entries x.0 call (call_stood behaviour l x.1.0 x.1.1)))
+      ap (λ g. total w (seconds g)) (queue_calls_append (broker_entries x.0 call) (queue_lines behaviour l xs) ∙ ap (λ g. g ++ queue_calls (queue_lines behaviour l xs)) (queue_calls_entries x.0 call))
       ∙ (ap (total w) (seconds-append (tag x.0 call) (queue_calls (queue_lines behaviour l xs)))
       ∙ (total-append w (seconds (tag x.0 call)) (seconds (queue_calls (queue_lines behaviour l xs))) ∙ ap₂ (λ a b. a + b) (total-tag w x.0 call) (lines_total w xs)))
 
@@ -173,7 +172,7 @@ module _ (behaviour : Behaviour) (l : Line) where
   queue_split w n xs =
       let opening = broker_entries 0 (published_all (first_envelopes behaviour l)) in
       ap (λ g. total w (seconds g)) (queue_calls_append (splits_of (round n)) (opening ++ queue_lines behaviour l xs) ∙ ap (λ g. g ++ queue_calls (opening ++ queue_lines behaviour l xs)) (queue_calls_splits (round n)))
-      ∙ (ap (λ g. total w (seconds g)) (queue_calls_append opening (queue_lines behaviour l xs) ∙ ap (λ g. g ++ queue_calls (queue_lines behaviour l xs)) (queue_calls_entries 0 (published_all (first_envelopes behaviour l)) (stood_all (first_envelopes behaviour l))))
+      ∙ (ap (λ g. total w (seconds g)) (queue_calls_append opening (queue_lines behaviour l xs) ∙ ap (λ g. g ++ queue_calls (queue_lines behaviour l xs)) (queue_calls_entries 0 (published_all (first_envelopes behaviour l))))
       ∙ (ap (total w) (seconds-append (tag 0 (published_all (first_envelopes behaviour l))) (queue_calls (queue_lines behaviour l xs)))
       ∙ (total-append w (seconds (tag 0 (published_all (first_envelopes behaviour l)))) (seconds (queue_calls (queue_lines behaviour l xs))) ∙ ap₂ (λ a b. a + b) (total-tag w 0 (published_all (first_envelopes behaviour l))) (lines_total w xs))))
 

@@ -38,7 +38,6 @@ module _ (behaviour : Behaviour) (b : SegId Global) (d : TableId) where
       counts = record { taken = refl; published = refl; first = refl; parts = refl; dropped = refl };
       leaves = refl;
       made = [];
-      stood = tt;
       follows = scripts_all;
       used = refl;
       makes = refl;
@@ -89,7 +88,6 @@ module _ (behaviour : Behaviour) (b : SegId Global) (d : TableId) where
       counts = record { taken = refl; published = refl; first = refl; parts = refl; dropped = refl };
       leaves = refl;
       made = [];
-      stood = tt;
       follows = scripts_all;
       used = refl;
       makes = refl;

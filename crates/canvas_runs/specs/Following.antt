@@ -5,7 +5,7 @@
 --     Serves plan s cs t     the same of a seat and its backend calls
 --     Followed behaviour plan w v   from w on the worker's pass and seat have followed a core run,
 --                                   and it is v then
-use Rattle.std.specs.Prelude.{◌+◌, ◌≡◌, true, false, List, [], ◌∷◌, length, map, Option, Some, None}
+use Rattle.std.specs.Prelude.{◌+◌, ◌≡◌, true, false, List, [], ◌∷◌, length, Option, Some, None}
 use Rattle.canvas_task.specs.Apply.{Behaviour}
 use Rattle.canvas_task.specs.declared.outcome.Outcome.{Outcome}
 use Rattle.canvas_history.specs.History.{calls}
@@ -20,7 +20,7 @@ use Rattle.canvas_broker.specs.Broker.{QueueCall, publish, take, redeliver}
 use Rattle.canvas_broker.specs.Passes as passes
 use Rattle.canvas_runs.specs.Core.{CoreState, taking, over, IsCoreRun, left_after, Between}
 use Rattle.canvas_runs.specs.Calls.{BrokerCall, published, took, again, BackendCall, stored, returned, has_read, FollowsScripts, AskedAndAnswered, broker_calls, core_calls, backend_calls, ReadsMembers, takes_one}
-use Rattle.canvas_runs.specs.Lists.{Each, total}
+use Rattle.canvas_runs.specs.Lists.{total}
 use Rattle.canvas_runs.specs.Tally.{Tally, none_yet, Counted}
 use Rattle.canvas_runs.specs.Worker.{worker_of}
 
@@ -33,20 +33,13 @@ Seat = seats.Seat
 -- what a broker call asks, and what it was answered
 abbrev pub queue_call : BrokerCall Envelope → QueueCall Envelope
 queue_call (published e) = publish e
-queue_call (took x) = take
+queue_call (took e) = take
 queue_call (again e) = redeliver e
 
 abbrev pub queue_answer : BrokerCall Envelope → Option Envelope
 queue_answer (published e) = None
-queue_answer (took x) = x
+queue_answer (took e) = Some e
 queue_answer (again e) = None
-
--- a take that found nothing stands in no history
-abbrev pub Stood : BrokerCall Envelope → Type 0
-Stood (published e) = Unit
-Stood (took (Some e)) = Unit
-Stood (took None) = ⊥
-Stood (again e) = Unit
 
 -- what a backend call asks, and what it was answered
 abbrev pub table_call : BackendCall Outcome → TableCall
@@ -105,8 +98,7 @@ pub record Followed (behaviour : Behaviour) (plan : Roster) (w v : Working) : Ty
   -- the calls of its pass. A take may stand before the core's, and an envelope may be delivered
   -- again while its script is open
   pub made : List (BrokerCall Envelope)
-  pub stood : Each Stood made
-  pub follows : FollowsScripts w.current (map Some w.held) (core_calls run) made
+  pub follows : FollowsScripts w.current w.held (core_calls run) made
   pub used : length w.held + total takes_one made ≡ total takes_one (broker_calls run)
       + length v.held
   pub makes : Makes w.pass made v.pass

@@ -64,18 +64,17 @@ module _ (l : Line) where
   -- 1 where the call publishes, or takes, or delivers again, a message of task k
   abbrev pub publishes_one : ℕ → BrokerCall Envelope → ℕ
   publishes_one k (published e) = of_task k (opened (book_of l) e)
-  publishes_one k (took t) = 0
+  publishes_one k (took e) = 0
   publishes_one k (again e) = 0
 
   abbrev pub takes_one_of : ℕ → BrokerCall Envelope → ℕ
   takes_one_of k (published e) = 0
-  takes_one_of k (took None) = 0
-  takes_one_of k (took (Some e)) = of_task k (opened (book_of l) e)
+  takes_one_of k (took e) = of_task k (opened (book_of l) e)
   takes_one_of k (again e) = 0
 
   abbrev pub agains_one_of : ℕ → BrokerCall Envelope → ℕ
   agains_one_of k (published e) = 0
-  agains_one_of k (took t) = 0
+  agains_one_of k (took e) = 0
   agains_one_of k (again e) = of_task k (opened (book_of l) e)
 
   -- how often a message of task k is published, and taken, and delivered again

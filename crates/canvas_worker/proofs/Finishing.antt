@@ -46,7 +46,6 @@ module _ (behaviour : Behaviour) (l : Line) where
     counts = w.counts;
     leaves = refl;
     made = w.made;
-    stood = w.stood;
     follows = w.follows;
     used = w.used;
     makes = w.makes;

@@ -10,16 +10,15 @@ use Rattle.canvas_broker.specs.Broker as broker
 use Rattle.canvas_broker.specs.Broker.{QueueEntry as Entries, answer, next, May, IsLegal, takes_of}
 use Rattle.canvas_broker.specs.Passes.{Took}
 use Rattle.canvas_runs.specs.Core.{Ask, Reply, take, send, taken, sent, IsCoreRun, left_after, ack, acked}
-use Rattle.canvas_runs.specs.Following.{Pass, Seat, Stood, Makes, Serves}
+use Rattle.canvas_runs.specs.Following.{Pass, Seat, Makes, Serves}
 use Rattle.canvas_worker.specs.Progress.{Progress, Worked}
 use Rattle.canvas_runs.specs.Calls.{BrokerCall, took, CoreCall, makes, BackendCall, FollowsScripts, scripts_all, scripts_publish, scripts_list_take, scripts_core_take, scripts_ack, held_by, broker_call, broker_calls, core_call, core_calls, backend_call, backend_calls, takes_one, again, scripts_again}
 use Rattle.std.specs.Prelude.{slice_get}
-use Rattle.canvas_runs.specs.Lists.{Each, total, at}
+use Rattle.canvas_runs.specs.Lists.{total, at}
 use Rattle.canvas_worker.specs.WorkerSteps.{OnlyBare, Called, FromHeld, Batched, Delivered}
 use Rattle.canvas_runs.specs.Tally.{Tally, CountsMore, IsTally, Counted, greatest_count, often, is_taken, is_published, is_first, is_part, is_dropped}
 use Rattle.canvas_worker.specs.Enveloped.{enveloped}
 use Rattle.canvas_runs.proofs.Sums.{total-append}
-use Rattle.canvas_runs.proofs.Words.{each_append}
 
 makes_append : (cs ds : List (BrokerCall Envelope)) (p q r : Pass) → Makes p cs q → Makes q ds r → Makes p (cs ++ ds) r
 makes_append [] ds p q r f g = subst (λ x. Makes x ds r) f g
@@ -32,7 +31,7 @@ serves_append plan (c ∷ cs) ds s t u f g = (f.0, f.1, serves_append plan cs ds
 -- takes of a batch, as calls
 abbrev pub taking_all : List Envelope → List (BrokerCall Envelope)
 taking_all [] = []
-taking_all (e ∷ es) = took (Some e) ∷ taking_all es
+taking_all (e ∷ es) = took e ∷ taking_all es
 
 -- takes that stand side by side stand one after the other
 pub took_makes : (p q : Pass) (es : List Envelope) → Took p es q → Makes p (taking_all es) q
@@ -48,17 +47,9 @@ took_makes p q (e ∷ d ∷ es) t =
     let legal : IsLegal mid.seen = legal_left [] answer next May [] mid.seen rest (subst (λ l. IsLegal l) shape x.3) in
     (mid, (refl, refl, refl, refl, (x.0, refl, x.2, legal, x.4)), took_makes mid q (d ∷ es) (t.0, t.1, t.2, t.3, ([], shape, tt, x.3, λ _. refl)))
 
-batch_follows : (h : Option Envelope) (es : List Envelope) (ts : List (Option Envelope)) (cs : List (CoreCall Envelope)) (ls : List (BrokerCall Envelope)) → FollowsScripts h (ts ++ map Some es) cs ls → FollowsScripts h ts cs (taking_all es ++ ls)
+batch_follows : (h : Option Envelope) (es : List Envelope) (ts : List Envelope) (cs : List (CoreCall Envelope)) (ls : List (BrokerCall Envelope)) → FollowsScripts h (ts ++ es) cs ls → FollowsScripts h ts cs (taking_all es ++ ls)
 batch_follows h [] ts cs ls f = subst (λ xs. FollowsScripts h xs cs ls) (append-nil ts) f
-batch_follows h (e ∷ es) ts cs ls f = scripts_list_take (batch_follows h es (ts ++ Some e ∷ []) cs ls (subst (λ xs. FollowsScripts h xs cs ls) (sym (append_assoc ts (Some e ∷ []) (map Some es))) f))
-
-map_more : (xs ys : List Envelope) → ◌≡◌ {A = List (Option Envelope)} (map Some (xs ++ ys)) (map Some xs ++ map Some ys)
-map_more [] ys = refl
-map_more (x ∷ xs) ys = ap (λ l. Some x ∷ l) (map_more xs ys)
-
-batch_stood : (es : List Envelope) → Each Stood (taking_all es)
-batch_stood [] = tt
-batch_stood (e ∷ es) = (tt, batch_stood es)
+batch_follows h (e ∷ es) ts cs ls f = scripts_list_take (batch_follows h es (ts ++ e ∷ []) cs ls (subst (λ xs. FollowsScripts h xs cs ls) (sym (append_assoc ts (e ∷ []) es)) f))
 
 batch_takes : (es : List Envelope) → total takes_one (taking_all es) ≡ length es
 batch_takes [] = refl
@@ -81,19 +72,14 @@ module _ (plan : Roster) where
     dropped = more_added t.dropped u.dropped (is_dropped plan a r) (often (is_dropped plan) run) v.dropped c.dropped d.dropped;
   }
 
-  call_stood : (a : Ask Envelope Outcome) (r : Reply Envelope Outcome) → Each Stood (broker_call a r)
-  call_stood take (taken (Some e)) = (tt, tt)
-  call_stood (send e) sent = (tt, tt)
-  call_stood a r = tt
-
-  call_follows : (a : Ask Envelope Outcome) (r : Reply Envelope Outcome) (h g : Option Envelope) (held : List Envelope) (cs : List (CoreCall Envelope)) (ls : List (BrokerCall Envelope)) → OnlyBare a r held → g ≡ held_by h a r → FollowsScripts g (map Some held) cs ls
-      → FollowsScripts h (map Some held) (core_call a r ++ cs) (broker_call a r ++ ls)
+  call_follows : (a : Ask Envelope Outcome) (r : Reply Envelope Outcome) (h g : Option Envelope) (held : List Envelope) (cs : List (CoreCall Envelope)) (ls : List (BrokerCall Envelope)) → OnlyBare a r held → g ≡ held_by h a r → FollowsScripts g held cs ls
+      → FollowsScripts h held (core_call a r ++ cs) (broker_call a r ++ ls)
   call_follows take (taken (Some e)) h g held cs ls b q f =
-      subst (λ hs. FollowsScripts h (map Some hs) (makes (took (Some e)) ∷ cs) (took (Some e) ∷ ls)) (sym b)
-      (scripts_list_take (scripts_core_take (subst (λ hs. FollowsScripts (Some e) (map Some hs) cs ls) b (subst (λ k. FollowsScripts k (map Some held) cs ls) q f))))
-  call_follows (send e) sent h g held cs ls b q f = scripts_publish (subst (λ k. FollowsScripts k (map Some held) cs ls) q f)
-  call_follows ack acked h g held cs ls b q f = scripts_ack (subst (λ k. FollowsScripts k (map Some held) cs ls) q f)
-  call_follows a r h g held cs ls b q f = subst (λ k. FollowsScripts k (map Some held) cs ls) q f
+      subst (λ hs. FollowsScripts h hs (makes (took e) ∷ cs) (took e ∷ ls)) (sym b)
+      (scripts_list_take (scripts_core_take (subst (λ hs. FollowsScripts (Some e) hs cs ls) b (subst (λ k. FollowsScripts k held cs ls) q f))))
+  call_follows (send e) sent h g held cs ls b q f = scripts_publish (subst (λ k. FollowsScripts k held cs ls) q f)
+  call_follows ack acked h g held cs ls b q f = scripts_ack (subst (λ k. FollowsScripts k held cs ls) q f)
+  call_follows a r h g held cs ls b q f = subst (λ k. FollowsScripts k held cs ls) q f
 
   none_added : (n : ℕ) → n ≤ greatest_count → CountsMore n 0 n
   none_added n h = omega (arith, h)
@@ -107,7 +93,6 @@ module _ (behaviour : Behaviour) (plan : Roster) where
     reads = tt;
     leaves = refl;
     made = [];
-    stood = tt;
     follows = scripts_all;
     used = omega arith;
     makes = refl;
@@ -124,8 +109,7 @@ module _ (behaviour : Behaviour) (plan : Roster) where
         counts = counted_more plan a r f.run w.tally v.tally x.tally s.0.counts f.counts;
         leaves = subst (λ u. left_after (enveloped behaviour plan) u f.run ≡ x.left) s.0.left f.leaves;
         made = call ++ f.made;
-        stood = each_append Stood call f.made (call_stood plan a r) f.stood;
-        follows = call_follows plan a r w.current v.current w.held (core_calls f.run) f.made s.2 s.0.current (subst (λ hs. FollowsScripts v.current (map Some hs) (core_calls f.run) f.made) s.1 f.follows);
+        follows = call_follows plan a r w.current v.current w.held (core_calls f.run) f.made s.2 s.0.current (subst (λ hs. FollowsScripts v.current hs (core_calls f.run) f.made) s.1 f.follows);
         used = (let same : length v.held ≡ length w.held = ap length s.1 in omega (arith, same, f.used, total-append takes_one call f.made, total-append takes_one call (broker_calls f.run)));
         makes = makes_append call f.made w.pass v.pass x.pass s.3 f.makes;
         serves = serves_append plan (backend_call a r) (backend_calls f.run) w.seat v.seat x.seat s.4 f.serves;
@@ -139,8 +123,7 @@ module _ (behaviour : Behaviour) (plan : Roster) where
     counts = counted_more plan take (taken (Some e)) f.run w.tally v.tally x.tally s.0.counts f.counts;
     leaves = subst (λ u. left_after (enveloped behaviour plan) u f.run ≡ x.left) s.0.left f.leaves;
     made = f.made;
-    stood = f.stood;
-    follows = subst (λ hs. FollowsScripts w.current (map Some hs) (makes (took (Some e)) ∷ core_calls f.run) f.made) (sym s.1) (scripts_core_take (subst (λ k. FollowsScripts k (map Some v.held) (core_calls f.run) f.made) s.0.current f.follows));
+    follows = subst (λ hs. FollowsScripts w.current hs (makes (took e) ∷ core_calls f.run) f.made) (sym s.1) (scripts_core_take (subst (λ k. FollowsScripts k v.held (core_calls f.run) f.made) s.0.current f.follows));
     used = (let same : length w.held ≡ length (e ∷ v.held) = ap length s.1 in omega (arith, same, f.used));
     makes = subst (λ p. Makes p f.made x.pass) s.2 f.makes;
     serves = subst (λ p. Serves plan p (backend_calls f.run) x.seat) s.3 f.serves;
@@ -154,9 +137,8 @@ module _ (behaviour : Behaviour) (plan : Roster) where
     counts = subst (λ t. Counted plan f.run t x.tally) s.4 f.counts;
     leaves = subst (λ u. left_after (enveloped behaviour plan) u f.run ≡ x.left) s.3 f.leaves;
     made = taking_all es ++ f.made;
-    stood = each_append Stood (taking_all es) f.made (batch_stood es) f.stood;
-    follows = batch_follows w.current es (map Some w.held) (core_calls f.run) f.made
-        (subst (λ xs. FollowsScripts w.current xs (core_calls f.run) f.made) (ap (λ hs. map Some hs) s.0 ∙ map_more w.held es) (subst (λ k. FollowsScripts k (map Some v.held) (core_calls f.run) f.made) s.5 f.follows));
+    follows = batch_follows w.current es w.held (core_calls f.run) f.made
+        (subst (λ xs. FollowsScripts w.current xs (core_calls f.run) f.made) s.0 (subst (λ k. FollowsScripts k v.held (core_calls f.run) f.made) s.5 f.follows));
     used = (let same : length v.held ≡ length (w.held ++ es) = ap length s.0 in omega (arith, same, longer w.held es, f.used, total-append takes_one (taking_all es) f.made, batch_takes es));
     makes = makes_append (taking_all es) f.made w.pass v.pass x.pass (took_makes w.pass v.pass es s.1) f.makes;
     serves = subst (λ p. Serves plan p (backend_calls f.run) x.seat) s.2 f.serves;
@@ -170,9 +152,8 @@ module _ (behaviour : Behaviour) (plan : Roster) where
     counts = subst (λ t. Counted plan f.run t x.tally) s.6 f.counts;
     leaves = subst (λ u. left_after (enveloped behaviour plan) u f.run ≡ x.left) s.5 f.leaves;
     made = again e ∷ f.made;
-    stood = (tt, f.stood);
-    follows = subst (λ h. FollowsScripts h (map Some w.held) (core_calls f.run) (again e ∷ f.made)) (sym s.0)
-        (scripts_again (subst (λ h. FollowsScripts h (map Some w.held) (core_calls f.run) f.made) (s.2 ∙ s.0) (subst (λ hs. FollowsScripts v.current (map Some hs) (core_calls f.run) f.made) s.3 f.follows)));
+    follows = subst (λ h. FollowsScripts h w.held (core_calls f.run) (again e ∷ f.made)) (sym s.0)
+        (scripts_again (subst (λ h. FollowsScripts h w.held (core_calls f.run) f.made) (s.2 ∙ s.0) (subst (λ hs. FollowsScripts v.current hs (core_calls f.run) f.made) s.3 f.follows)));
     used = (let same : length v.held ≡ length w.held = ap length s.3 in omega (arith, same, f.used));
     makes = makes_append (again e ∷ []) f.made w.pass v.pass x.pass s.1 f.makes;
     serves = subst (λ p. Serves plan p (backend_calls f.run) x.seat) s.4 f.serves;

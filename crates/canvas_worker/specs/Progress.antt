@@ -1,14 +1,14 @@
 -- How far a worker is, and what it is for its pass and its seat to have followed a core run from
 -- there. Messages are kept as their envelopes.
-use Rattle.std.specs.Prelude.{◌+◌, ◌≡◌, List, [], length, map, Option, Some, None}
+use Rattle.std.specs.Prelude.{◌+◌, ◌≡◌, List, [], length, Option, None}
 use Rattle.canvas_task.specs.Apply.{Behaviour}
 use Rattle.canvas_task.specs.declared.outcome.Outcome.{Outcome}
 use Rattle.canvas_message.specs.declared.envelope.Envelope.{Envelope}
 use Rattle.canvas_backend.specs.Roster.{Roster, members}
 use Rattle.canvas_runs.specs.Calls.{BrokerCall, FollowsScripts, AskedAndAnswered, broker_calls, core_calls, backend_calls, ReadsMembers, takes_one}
 use Rattle.canvas_runs.specs.Core.{taking, IsCoreRun, left_after}
-use Rattle.canvas_runs.specs.Following.{Pass, Seat, Stood, Makes, Serves}
-use Rattle.canvas_runs.specs.Lists.{Each, total}
+use Rattle.canvas_runs.specs.Following.{Pass, Seat, Makes, Serves}
+use Rattle.canvas_runs.specs.Lists.{total}
 use Rattle.canvas_runs.specs.Tally.{Tally, none_yet, Counted}
 use Rattle.canvas_worker.specs.Enveloped.{enveloped}
 use Rattle.canvas_worker.specs.Standing.{Left}
@@ -39,8 +39,7 @@ pub record Worked (behaviour : Behaviour) (plan : Roster) (w v : Progress) : Typ
   pub leaves : left_after (enveloped behaviour plan) w.left run ≡ v.left
   -- the calls of its pass. A take may stand before the core's
   pub made : List (BrokerCall Envelope)
-  pub stood : Each Stood made
-  pub follows : FollowsScripts w.current (map Some w.held) (core_calls run) made
+  pub follows : FollowsScripts w.current w.held (core_calls run) made
   pub used : length w.held + total takes_one made ≡ total takes_one (broker_calls run)
       + length v.held
   pub makes : Makes w.pass made v.pass
