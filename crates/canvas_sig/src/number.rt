@@ -74,7 +74,7 @@ fn of_numeral(text: &str) -> Option<Number>
 }
 
 /// The number that a token spells; none where it is too large for a float. Most are digits alone,
-/// which are read in a quarter of the steps.
+/// which are read by themselves in fewer steps.
 pub(crate) fn number_of(text: &str) -> Option<Number>
     ensures { option_map number_view result ≡ number_of text.now }
 {
