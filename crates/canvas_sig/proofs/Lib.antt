@@ -1,4 +1,5 @@
 pub mod Views
+pub mod DigitTexts
 pub mod NormalTexts
 pub mod Writers
 pub mod Refusals

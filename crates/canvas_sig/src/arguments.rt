@@ -72,7 +72,7 @@ pub(crate) fn all_numbers(values: &[Datum<'_>]) -> bool
 fn read_numbers(alloc: Global, values: &[Datum<'_>]) -> Result<Vec<i64>, SigFault>
     ensures { Gives (λ v. v.items) result (each number_reading (map view values.now)) }
 {
-    let mut numbers = Vec::new(alloc);
+    let mut numbers = Vec::with_capacity(alloc, values.len())?;
     for value in values {
         numbers.push(read_number(value)?)?;
     }

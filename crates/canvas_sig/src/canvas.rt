@@ -85,6 +85,19 @@ impl Canvas {
     }
 }
 
+/// How many bytes the lists of a text take at most for each byte of it: an item has 24, and two
+/// bytes spell one, and a list that grows has twice the room that it needs.
+const LISTS_ROOM: usize = 24;
+
+/// An arena for the lists of a text, in one piece where there is memory for it, since a list grows
+/// in its place there and else leaves behind what it was. What isn't used of it stays untouched.
+fn new_arena(alloc: Global, length: usize) -> Bump {
+    match Bump::try_with_capacity(alloc, length.saturating_mul(LISTS_ROOM)) {
+        Ok(arena) => arena,
+        Err(_) => Bump::new(alloc),
+    }
+}
+
 fn read_signature(alloc: Global, bytes: &[u8]) -> Result<Node, SigFault>
     ensures reading { Gives view result (signature_reading bytes.now) }
     ensures memory { IfErr result (λ e. e ≡ Memory → length bytes.now ≤ most_bytes) }
@@ -93,7 +106,7 @@ fn read_signature(alloc: Global, bytes: &[u8]) -> Result<Node, SigFault>
     if bytes.len() > MOST_BYTES {
         return Err(SigFault::TooLarge);
     }
-    let arena = Bump::new(alloc);
+    let arena = new_arena(alloc, bytes.len());
     let mut scratch = Scratch::new(alloc);
     let value = parse(alloc, &arena, &mut scratch, bytes)?;
     read_node(alloc, &value, MOST_LEVELS)

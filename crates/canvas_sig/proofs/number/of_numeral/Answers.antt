@@ -1,7 +1,7 @@
 use Rattle.std.proofs.Common.{◌≡◌, drop, get_or, true, false, ◌==◌, sym, ap, ◌∙◌, arith, take_all, length-drop}
 use Rattle.fast_float.specs.Text.{scan}
 use Rattle.serde_json.specs.Read.{number_of, number_from}
-use Rattle.canvas_sig.proofs.number.number_of.Goals as goal
+use Rattle.canvas_sig.proofs.number.of_numeral.Goals as goal
 
 pub returns-then-is_negative : goal.returns-then-is_negative
 unfolding number_of
