@@ -13,7 +13,7 @@ use Rattle.canvas_rewrite.specs.Planned.{IsPlan}
 use Rattle.canvas_semantics.specs.States.{states, numbers_from}
 use Rattle.canvas_semantics.proofs.Numbered.{count_elements}
 use Rattle.canvas_message.specs.Content.{Content}
-use Rattle.canvas_message.specs.Effects.{first_messages}
+use Rattle.canvas_effects.specs.Effects.{first_messages}
 use Rattle.canvas_message.specs.declared.envelope.Envelope.{Envelope}
 use Rattle.canvas_backend.specs.Backend.{Log}
 use Rattle.canvas_backend.specs.Seats.{Desk}

@@ -9,7 +9,7 @@ use Rattle.canvas_semantics.specs.Line.{Line, count_line, tree_of}
 use Rattle.canvas_semantics.proofs.Numbered.{count_elements}
 use Rattle.canvas_rewrite.specs.Planned.{IsPlan}
 use Rattle.canvas_semantics.specs.States.{numbers_from, states}
-use Rattle.canvas_message.specs.Effects.{first_messages}
+use Rattle.canvas_effects.specs.Effects.{first_messages}
 use Rattle.canvas_backend.specs.Backend.{no_results}
 use Rattle.canvas_backend.specs.Plain.{held}
 use Rattle.canvas_runs.specs.Going.{most_steps}

@@ -11,8 +11,8 @@ use Rattle.canvas_semantics.specs.Evaluation.{State}
 use Rattle.canvas_semantics.specs.Line.{Line, tree_of}
 use Rattle.canvas_semantics.specs.States.{states, numbers_from}
 use Rattle.canvas_message.specs.Content.{Content, number_of}
-use Rattle.canvas_message.specs.Events.{Event, DoesIn}
-use Rattle.canvas_message.specs.Job as job
+use Rattle.canvas_effects.specs.Events.{Event, DoesIn}
+use Rattle.canvas_effects.specs.Job as job
 use Rattle.canvas_message.specs.declared.envelope.Envelope.{Envelope}
 use Rattle.canvas_backend.specs.Backend as table
 use Rattle.canvas_backend.specs.Roster.{roster_of}

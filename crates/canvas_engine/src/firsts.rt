@@ -5,11 +5,13 @@ ghost use Rattle.canvas_runs.specs.Lists.{Each};
 ghost use Rattle.canvas_runs.specs.Run.{published_all};
 ghost use Rattle.canvas_runs.specs.Worker.{sealed};
 ghost use Rattle.canvas_engine.specs.steps.Stages.{ReadsAs};
-ghost use Rattle.canvas_message.specs.Effects.{first_messages};
+ghost use Rattle.canvas_effects.specs.Effects.{first_messages};
 ghost use Rattle.canvas_runs.specs.Turns.{FirstsRead};
 
 use canvas_broker::{Broker, BrokerPass};
-use canvas_message::{Letter, Message, Sealer, first_messages};
+use canvas_codec::Sealer;
+use canvas_effects::first_messages;
+use canvas_message::{Letter, Message};
 use canvas_rewrite::Plan;
 use canvas_task::Memory;
 use std::alloc::Global;

@@ -3,7 +3,7 @@ ghost use Rattle.std.specs.Prelude.{◌≡◌, ◌≤◌, ◌<◌, ◌+◌, ◌+
 ghost use Rattle.std.specs.List.{list_any};
 ghost use Rattle.canvas_semantics.specs.Line.{count_line};
 ghost use Rattle.canvas_rewrite.specs.Planned.{IsPlan};
-ghost use Rattle.canvas_message.specs.Effects.{first_messages};
+ghost use Rattle.canvas_effects.specs.Effects.{first_messages};
 ghost use Rattle.canvas_backend.specs.Backend.{no_results, says_first};
 ghost use Rattle.canvas_backend.specs.Plain.{held};
 ghost use Rattle.canvas_backend.specs.Roster.{roster_of};

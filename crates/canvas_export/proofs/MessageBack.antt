@@ -21,9 +21,9 @@ use Rattle.canvas_semantics.specs.PlacedLine.{PTask, p_task, PTasks, PPlace, p_n
 use Rattle.canvas_message.specs.Content.{Content}
 use Rattle.canvas_message.specs.Fits.{is_task_number, parent_ok, task_ok, tasks_ok, place_ok, line_ok, task_reach, tasks_reach, place_reach, line_reach, greatest_reach, fits}
 use Rattle.canvas_message.specs.FrozenGrammar.{levels}
-use Rattle.canvas_message.specs.Wire.{list_or_null}
-use Rattle.canvas_message.proofs.RoundTrip.{task_parts}
-use Rattle.canvas_message.proofs.Wholes.{as_content}
+use Rattle.canvas_codec.specs.Wire.{list_or_null}
+use Rattle.canvas_codec.proofs.RoundTrip.{task_parts}
+use Rattle.canvas_codec.proofs.Wholes.{as_content}
 use Rattle.canvas_export.specs.Signatures.{Naming, task_id, group_id, index_wire, sig_wire, each_wire, tasks_wire, elements}
 use Rattle.canvas_export.specs.Envelope.{body_wire, parent_id, headers_wire, properties_wire, envelope_wire, message_text}
 use Rattle.canvas_export.specs.MessageReading.{task_of, line_within, own_in, content_in, envelope_content, read_message}

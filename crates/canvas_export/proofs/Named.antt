@@ -17,7 +17,7 @@ use Rattle.canvas_sig.proofs.FittingCalls.{ArgFits, ArgsFit, KwargsFit, CallFits
 use Rattle.canvas_sig.proofs.RoundTrip.{arg_back}
 use Rattle.canvas_semantics.specs.Tree.{Call}
 use Rattle.canvas_message.specs.Fits.{is_task_number}
-use Rattle.canvas_message.proofs.RoundTrip.{numbered}
+use Rattle.canvas_codec.proofs.RoundTrip.{numbered}
 use Rattle.canvas_celery.specs.Run.{run_task, run_group}
 use Rattle.canvas_celery.proofs.Pieces.{in_run_seen}
 use Rattle.canvas_export.specs.Signatures.{sig_wire}

@@ -15,7 +15,7 @@ use Rattle.canvas_semantics.specs.PlacedLine.{PTask, p_task, PTasks, no_p_tasks,
 use Rattle.canvas_rewrite.specs.FrozenView.{p_tasks_of, p_lines_of}
 use Rattle.canvas_message.specs.Fits.{is_task_number, size_ok, task_ok, tasks_ok, place_ok, line_ok, members_ok, task_reach, tasks_reach, place_reach, line_reach, greatest_reach, members_reach}
 use Rattle.canvas_message.specs.FrozenGrammar.{is_chain}
-use Rattle.canvas_message.proofs.RoundTrip.{task_parts, chord_parts}
+use Rattle.canvas_codec.proofs.RoundTrip.{task_parts, chord_parts}
 use Rattle.canvas_export.specs.Signatures.{Naming, task_id, group_id, Sig, sig_wire, each_wire, own_option, place_options, first_wire, behind, carried_wire, member_wire, task_sig, tasks_wire, body_at, elements, members_wire}
 use Rattle.canvas_export.specs.MessageReading.{group_number, carried_elements, place_from, task_from, member_elements, task_within, line_within}
 use Rattle.canvas_export.specs.Sizeless.{sizeless_task, sizeless_tasks, sizeless_place, sizeless_line, sizeless_lines}

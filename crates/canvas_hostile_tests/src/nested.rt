@@ -1,6 +1,7 @@
 //! Lists that are nested deeply in the bodies of messages.
 
-use canvas_message::{Envelope, decode};
+use canvas_codec::decode;
+use canvas_message::Envelope;
 use canvas_samples::frozen_texts::bytes_of;
 use std::alloc::{AllocError, Global};
 

@@ -5,9 +5,9 @@ ghost use Rattle.std.specs.Prelude.{IfSome, All};
 ghost use Rattle.canvas_task.specs.Apply.{IsInRange};
 
 use crate::rows::a_failed_member;
-use canvas_message::{
-    Envelope, Message, MessageFault, PartCall, after, body_after, decode, encode, first_messages,
-};
+use canvas_codec::{decode, encode};
+use canvas_effects::{PartCall, after, body_after, first_messages, into_todo};
+use canvas_message::{Envelope, Message, MessageFault};
 use canvas_rewrite::{Plan, freeze, node_of, normalise};
 use canvas_samples::spelled;
 use canvas_sig::{
@@ -206,7 +206,7 @@ fn ends(alloc: Global, message: Message) -> Result<bool, Memory> {
     match part_after(alloc, &message)? {
         Some(part) => {
             let is_right = raises(alloc, &part)?;
-            let todo = message.into_todo(alloc, &FAILS)?;
+            let todo = into_todo(alloc, message, &FAILS)?;
             Ok(is_right && todo.part.is_some())
         }
         None => Ok(false),

@@ -1,7 +1,9 @@
 //! Canvases with the states that their tasks come to.
 
+use canvas_codec::seal;
+use canvas_effects::first_messages;
 use canvas_engine::run_turns;
-use canvas_message::{Letter, first_messages};
+use canvas_message::Letter;
 use canvas_rewrite::Plan;
 use canvas_samples::sample::plan_of;
 use canvas_samples::worked;
@@ -49,7 +51,7 @@ pub(crate) fn are_partial(rows: &[Option<Outcome>], states: &[Option<Outcome>]) 
 pub(crate) fn first_envelopes(alloc: Global, plan: &Plan) -> Result<Vec<Letter>, Memory> {
     let mut envelopes = Vec::new(alloc);
     for message in first_messages(alloc, plan)? {
-        envelopes.push(Letter::seal(alloc, message)?)?;
+        envelopes.push(seal(alloc, message)?)?;
     }
     Ok(envelopes)
 }

@@ -1,17 +1,16 @@
 -- What the ends of tasks and the completions of headers do, in the order of the file and each once: the facts that a history needs, on messages with the rest of their line.
 use Rattle.std.proofs.Common.{◌≡◌, ℕ, suc, ◌+◌, ◌<◌, ◌≤◌, Bool, true, false, cond, eqb, List, [], ◌∷◌, ◌++◌, length, Some, None, refl, sym, ap, subst, ◌∙◌, ⊎_elim, arith, le_refl}
 use Rattle.canvas_task.specs.Apply.{Behaviour}
-use Rattle.canvas_message.specs.Events.{In}
+use Rattle.canvas_message.specs.Among.{In}
 use Rattle.canvas_runs.specs.Lists.{Each, total, firsts}
-use Rattle.canvas_message.specs.Job.{store, publish, hand_in}
+use Rattle.canvas_effects.specs.Job.{store, publish, hand_in}
 use Rattle.canvas_runs.specs.Protocol.{Protocol}
-use Rattle.canvas_message.specs.Events.{Event, start, completion}
+use Rattle.canvas_effects.specs.Events.{Event, start, completion}
 use Rattle.canvas_runs.proofs.Meaning.{Form, After, Beyond, Ordered, Evaluates, Once, KeptOnce, publishes, keeps, names, Has, IsReturned}
-use Rattle.canvas_message.specs.Flowing.{no_input, number_input, list_input, id_input, LineFlow, run, skips, raise}
+use Rattle.canvas_effects.specs.Flowing.{no_input, number_input, list_input, id_input, LineFlow, run, skips, raise, after_outcome}
 use Rattle.canvas_task.specs.declared.outcome.Outcome.{Outcome}
 use Rattle.canvas_task.specs.declared.outcome.Outcome.TheVariants.{Success, Failure}
 use Rattle.canvas_runs.proofs.Messages.{nowhere, in_chord, Carried, carried, Message, header, joined_number}
-use Rattle.canvas_message.specs.Flowing.{after_outcome}
 use Rattle.canvas_runs.proofs.Effects.{Jobs, callbacks, called, enter, after, body_after, outcome_of, by_kind}
 use Rattle.canvas_runs.proofs.Evaluation.{evaluated, DoesIn}
 use Rattle.canvas_semantics.specs.FileOrder.{TasksIn}

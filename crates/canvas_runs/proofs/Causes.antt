@@ -8,8 +8,9 @@ use Rattle.canvas_semantics.specs.Line.{Line, members}
 use Rattle.canvas_rewrite.specs.Planned.{IsPlan}
 use Rattle.canvas_rewrite.proofs.Members.{plan_apart}
 use Rattle.canvas_message.specs.Content.{Content, number_of}
-use Rattle.canvas_message.specs.Events.{In, Event, start, running, end_of_line, completion, DoesIn}
-use Rattle.canvas_message.specs.Job as job
+use Rattle.canvas_message.specs.Among.{In}
+use Rattle.canvas_effects.specs.Events.{Event, start, running, end_of_line, completion, DoesIn}
+use Rattle.canvas_effects.specs.Job as job
 use Rattle.canvas_message.specs.declared.envelope.Envelope.{Envelope}
 use Rattle.canvas_backend.specs.declared.stored.Stored.TheVariants.{First, Again}
 use Rattle.canvas_backend.specs.Backend.{Log, TableCall, TableReply, store, part, read, was, count, found, no_results}

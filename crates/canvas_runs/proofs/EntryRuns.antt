@@ -8,10 +8,10 @@ use Rattle.json.proofs.Printed.Utf8.{are_ascii, IsUtf8-are_ascii}
 use Rattle.canvas_task.specs.Apply.{six_tasks}
 use Rattle.canvas_task.specs.declared.outcome.Outcome.{Outcome}
 use Rattle.canvas_semantics.specs.Line.{Line}
-use Rattle.canvas_message.specs.Wire.{properties_wire, headers_wire, body_wire}
+use Rattle.canvas_codec.specs.Wire.{properties_wire, headers_wire, body_wire}
 use Rattle.canvas_message.specs.declared.envelope.Envelope.{Envelope}
-use Rattle.canvas_message.proofs.EnvelopeBack.{envelope_back}
-use Rattle.canvas_message.proofs.EnvelopeLaw.{envelope_judged}
+use Rattle.canvas_codec.proofs.EnvelopeBack.{envelope_back}
+use Rattle.canvas_codec.proofs.EnvelopeLaw.{envelope_judged}
 use Rattle.canvas_runs.specs.Book.{book_of}
 use Rattle.canvas_runs.specs.Calls.{AskedAndAnswered}
 use Rattle.canvas_runs.specs.Core.{Ask, Reply, take, send, keep, pause, ack, deliver, taken, sent, kept, rested, acked, ask, opens, left_after, ReadsBack, Doing, is_inside}

@@ -11,10 +11,11 @@ use Rattle.canvas_semantics.specs.Tree.{Task, task, Tasks, no_tasks, and_task}
 use Rattle.canvas_rewrite.specs.FrozenView.{PCarried}
 use Rattle.canvas_rewrite.specs.Planned.{IsPlan}
 use Rattle.canvas_message.specs.Content.{Content, number_of}
-use Rattle.canvas_message.specs.Effects.{outcome_of, part_of}
-use Rattle.canvas_message.specs.Events.{Event, start, running, end_of_line, completion, Items, labelled, In, DoesIn, evaluated, chosen, input_of_success, body_event, header_place, group_flow, outs, outcome_with, message_of, errbacks_in, ran, ran_all, events_in_file, items_all}
-use Rattle.canvas_message.specs.Flowing.{Input, no_input, id_input, LineFlow, run, skips, raise, after_outcome}
-use Rattle.canvas_message.specs.Job.{Job, store, publish, hand_in}
+use Rattle.canvas_effects.specs.Effects.{outcome_of, part_of}
+use Rattle.canvas_effects.specs.Events.{Event, start, running, end_of_line, completion, Items, labelled, DoesIn, evaluated, chosen, input_of_success, body_event, header_place, group_flow, outs, outcome_with, message_of, errbacks_in, ran, ran_all, events_in_file, items_all}
+use Rattle.canvas_message.specs.Among.{In}
+use Rattle.canvas_effects.specs.Flowing.{Input, no_input, id_input, LineFlow, run, skips, raise, after_outcome}
+use Rattle.canvas_effects.specs.Job.{Job, store, publish, hand_in}
 use Rattle.canvas_runs.specs.EventLaws.{IsStored, IsRunWith, IsNotRun, IsFailedUnrun, EventStates}
 use Rattle.canvas_runs.specs.Law.{its_state}
 use Rattle.canvas_runs.proofs.Facts.{keeping, one_outcome, value}

@@ -10,13 +10,14 @@ use Rattle.canvas_semantics.specs.Line.{Line, stop, step, group_end, chord_end, 
 use Rattle.canvas_rewrite.specs.FrozenView.{PCarried}
 use Rattle.canvas_rewrite.specs.Planned.{IsPlan}
 use Rattle.canvas_message.specs.Content.{Content, number_of}
-use Rattle.canvas_message.specs.Effects as effects
-use Rattle.canvas_message.specs.Effects.{first_messages, effect_of, script, stores_in, messages_in, part_in, part_jobs}
-use Rattle.canvas_message.specs.Events as events
-use Rattle.canvas_message.specs.Events.{In, Event, start, running, end_of_line, completion}
-use Rattle.canvas_message.specs.Flowing.{no_input, run, after_outcome}
-use Rattle.canvas_message.specs.Job.{Job, store, publish, hand_in}
-use Rattle.canvas_message.specs.Ordered.{put, in_order}
+use Rattle.canvas_effects.specs.Effects as effects
+use Rattle.canvas_effects.specs.Effects.{first_messages, effect_of, script, stores_in, messages_in, part_in, part_jobs}
+use Rattle.canvas_effects.specs.Events as events
+use Rattle.canvas_message.specs.Among.{In}
+use Rattle.canvas_effects.specs.Events.{Event, start, running, end_of_line, completion}
+use Rattle.canvas_effects.specs.Flowing.{no_input, run, after_outcome}
+use Rattle.canvas_effects.specs.Job.{Job, store, publish, hand_in}
+use Rattle.canvas_effects.specs.Ordered.{put, in_order}
 use Rattle.canvas_runs.specs.Book.{book_of, message_known}
 use Rattle.canvas_runs.specs.Protocol.{Protocol}
 use Rattle.canvas_runs.specs.Lists.{Each, total, firsts}

@@ -7,8 +7,9 @@ use Rattle.canvas_semantics.specs.Line.{Line, tree_of}
 use Rattle.canvas_rewrite.specs.Planned.{IsPlan}
 use Rattle.canvas_rewrite.proofs.Members.{plan_apart}
 use Rattle.canvas_message.specs.Content.{Content}
-use Rattle.canvas_message.specs.Events.{In, start}
-use Rattle.canvas_message.specs.Flowing.{run, no_input}
+use Rattle.canvas_message.specs.Among.{In}
+use Rattle.canvas_effects.specs.Events.{start}
+use Rattle.canvas_effects.specs.Flowing.{run, no_input}
 use Rattle.canvas_message.specs.declared.envelope.Envelope.{Envelope}
 use Rattle.canvas_backend.specs.Backend as results
 use Rattle.canvas_backend.specs.Roster.{roster_of}

@@ -7,8 +7,8 @@ use Rattle.canvas_history.specs.History.{among, made_by, Sole}
 use Rattle.canvas_history.proofs.Histories.{fresh_from}
 use Rattle.canvas_semantics.specs.Line.{Line}
 use Rattle.canvas_message.specs.Content.{Content}
-use Rattle.canvas_message.specs.Effects.{first_messages}
-use Rattle.canvas_message.specs.Events.{In}
+use Rattle.canvas_effects.specs.Effects.{first_messages}
+use Rattle.canvas_message.specs.Among.{In}
 use Rattle.canvas_message.specs.declared.envelope.Envelope.{Envelope}
 use Rattle.canvas_backend.specs.Backend.{Log, no_results, reply_of, next_of, May}
 use Rattle.canvas_backend.specs.Roster.{Roster, roster_of, members}

@@ -4,7 +4,7 @@ use Rattle.canvas_task.specs.Apply.{Behaviour}
 use Rattle.canvas_task.specs.declared.outcome.Outcome.{Outcome}
 use Rattle.canvas_semantics.specs.Line.{Line}
 use Rattle.canvas_message.specs.Content.{Content, number_of}
-use Rattle.canvas_message.specs.Job.{store, publish, hand_in}
+use Rattle.canvas_effects.specs.Job.{store, publish, hand_in}
 use Rattle.canvas_message.specs.declared.envelope.Envelope.{Envelope}
 use Rattle.canvas_runs.specs.Book.{book_of}
 use Rattle.canvas_runs.specs.Calls.{AskedAndAnswered, scripts_of, held_by, held_after}

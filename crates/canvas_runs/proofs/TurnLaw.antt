@@ -10,8 +10,8 @@ use Rattle.canvas_semantics.specs.Line.{Line, count_line, tree_of}
 use Rattle.canvas_semantics.specs.States.{states, numbers_from}
 use Rattle.canvas_semantics.proofs.Numbered.{count_elements}
 use Rattle.canvas_rewrite.specs.Planned.{IsPlan}
-use Rattle.canvas_message.specs.Events.{In}
-use Rattle.canvas_message.specs.Job.{store, publish, hand_in}
+use Rattle.canvas_message.specs.Among.{In}
+use Rattle.canvas_effects.specs.Job.{store, publish, hand_in}
 use Rattle.canvas_backend.proofs.HistoryLaws.{member_test}
 use Rattle.canvas_backend.proofs.Rosters.{roster_sound}
 use Rattle.canvas_backend.specs.Roster.{roster_of, members}

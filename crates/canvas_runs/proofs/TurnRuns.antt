@@ -5,7 +5,7 @@ use Rattle.canvas_task.specs.declared.outcome.Outcome.{Outcome}
 use Rattle.canvas_history.specs.History.{calls, among, live, state_from, LegalFrom, Entry, split, join, heir}
 use Rattle.canvas_history.proofs.Histories.{OnlyCalls, live_append, state_append, legal_append}
 use Rattle.canvas_semantics.specs.Line.{Line}
-use Rattle.canvas_message.specs.Effects.{first_messages}
+use Rattle.canvas_effects.specs.Effects.{first_messages}
 use Rattle.canvas_message.specs.declared.envelope.Envelope.{Envelope}
 use Rattle.canvas_backend.specs.declared.stored.Stored.{Stored}
 use Rattle.canvas_backend.specs.declared.stored.Stored.TheVariants.{First, Again}
@@ -22,7 +22,7 @@ use Rattle.canvas_runs.specs.Logs.{queue_calls, table_calls}
 use Rattle.canvas_runs.specs.Run.{Run, Closed, published_all}
 use Rattle.canvas_runs.specs.Turns.{Step, queue_next, results_next, results_after, queue_after, left, round, IsWorker, Answers, FirstsRead, holds}
 use Rattle.canvas_runs.specs.Worker.{worker, sealed}
-use Rattle.canvas_message.specs.Events.{In as IsIn}
+use Rattle.canvas_message.specs.Among.{In as IsIn}
 use Rattle.std.proofs.lemmas.Bool.{eqb-true}
 use Rattle.canvas_runs.proofs.Words.{in_right}
 use Rattle.canvas_runs.proofs.Sums.{total-append}

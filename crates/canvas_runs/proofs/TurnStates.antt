@@ -10,8 +10,8 @@ use Rattle.canvas_semantics.specs.Line.{Line}
 use Rattle.canvas_rewrite.specs.Planned.{IsPlan}
 use Rattle.canvas_rewrite.proofs.Members.{plan_apart}
 use Rattle.canvas_message.specs.Content.{Content}
-use Rattle.canvas_message.specs.Events.{In}
-use Rattle.canvas_message.specs.Job.{store, publish, hand_in}
+use Rattle.canvas_message.specs.Among.{In}
+use Rattle.canvas_effects.specs.Job.{store, publish, hand_in}
 use Rattle.canvas_message.specs.declared.envelope.Envelope.{Envelope}
 use Rattle.canvas_backend.proofs.HistoryLaws.{all_first, keeps_first, still_free, first_may, still_may}
 use Rattle.canvas_backend.specs.declared.stored.Stored.TheVariants.{First, Again}

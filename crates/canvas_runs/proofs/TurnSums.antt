@@ -9,8 +9,9 @@ use Rattle.canvas_rewrite.specs.FrozenView.{PCarried}
 use Rattle.canvas_rewrite.specs.Planned.{times}
 use Rattle.canvas_rewrite.proofs.Members.{plan_apart}
 use Rattle.canvas_message.specs.Content.{Content, number_of}
-use Rattle.canvas_message.specs.Events.{In, running}
-use Rattle.canvas_message.specs.Job.{store, publish, hand_in}
+use Rattle.canvas_message.specs.Among.{In}
+use Rattle.canvas_effects.specs.Events.{running}
+use Rattle.canvas_effects.specs.Job.{store, publish, hand_in}
 use Rattle.canvas_message.specs.declared.envelope.Envelope.{Envelope}
 use Rattle.canvas_backend.proofs.HistoryLaws.{member_test}
 use Rattle.canvas_backend.proofs.Rosters.{roster_sound}

@@ -7,8 +7,8 @@ use Rattle.canvas_semantics.specs.Line.{Line}
 use Rattle.canvas_rewrite.specs.FrozenView.{PCarried}
 use Rattle.canvas_rewrite.specs.Planned.{IsPlan}
 use Rattle.canvas_message.specs.Content.{Content}
-use Rattle.canvas_message.specs.Effects.{first_messages}
-use Rattle.canvas_message.specs.Job.{store, publish, hand_in}
+use Rattle.canvas_effects.specs.Effects.{first_messages}
+use Rattle.canvas_effects.specs.Job.{store, publish, hand_in}
 use Rattle.canvas_message.specs.declared.envelope.Envelope.{Envelope}
 use Rattle.canvas_backend.specs.Backend as results
 use Rattle.canvas_backend.specs.Backend.{no_results}

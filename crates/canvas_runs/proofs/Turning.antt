@@ -6,7 +6,7 @@ use Rattle.canvas_semantics.specs.Line.{Line}
 use Rattle.canvas_message.specs.declared.envelope.Envelope.{Envelope}
 use Rattle.canvas_backend.specs.Backend.{Results}
 use Rattle.canvas_runs.specs.Core.{Ask, Reply, take, send, keep, part, read, pause, ack, taken, sent, kept, counted, found, rested, acked, CoreState, taking, ask, answered, left_after, Suits, ReadsBack, IsCoreRun, deliver, acking, over, failed, resting, owning, doing, reading}
-use Rattle.canvas_message.specs.Job.{store, publish, hand_in}
+use Rattle.canvas_effects.specs.Job.{store, publish, hand_in}
 use Rattle.canvas_runs.specs.Calls.{AskedAndAnswered, reads_member, of_scripts, scripts_of, held_by, held_after, delivers, DeliversHeld}
 use Rattle.canvas_runs.specs.Lists.{by}
 use Rattle.canvas_runs.specs.Protocol.{Protocol}

@@ -8,9 +8,9 @@ use Rattle.canvas_task.specs.declared.outcome.Outcome.{Outcome}
 use Rattle.canvas_task.specs.declared.outcome.Outcome.TheVariants.{Failure}
 use Rattle.canvas_semantics.specs.Line.{Line}
 use Rattle.canvas_message.specs.Content.{Content, number_of}
-use Rattle.canvas_message.specs.Effects.{outcome_of}
-use Rattle.canvas_message.specs.Events.{Event, running, DoesIn}
-use Rattle.canvas_message.specs.Job.{store}
+use Rattle.canvas_effects.specs.Effects.{outcome_of}
+use Rattle.canvas_effects.specs.Events.{Event, running, DoesIn}
+use Rattle.canvas_effects.specs.Job.{store}
 use Rattle.canvas_runs.specs.Law.{its_state, IsRunMessage}
 
 module _ (behaviour : Behaviour) (l : Line) where

@@ -11,8 +11,9 @@ use Rattle.canvas_semantics.specs.Evaluation.{State, state_of, eval, nothing}
 use Rattle.canvas_semantics.specs.Line.{Line, tree_of}
 use Rattle.canvas_rewrite.specs.FrozenView.{PCarried}
 use Rattle.canvas_message.specs.Content.{Content, number_of}
-use Rattle.canvas_message.specs.Events.{In, Event, DoesIn}
-use Rattle.canvas_message.specs.Job.{publish, hand_in}
+use Rattle.canvas_message.specs.Among.{In}
+use Rattle.canvas_effects.specs.Events.{Event, DoesIn}
+use Rattle.canvas_effects.specs.Job.{publish, hand_in}
 use Rattle.canvas_message.specs.declared.envelope.Envelope.{Envelope}
 use Rattle.canvas_backend.specs.declared.stored.Stored.{Stored}
 use Rattle.canvas_backend.specs.Backend as results

@@ -6,7 +6,7 @@ use Rattle.canvas_semantics.specs.Evaluation.{State}
 use Rattle.canvas_semantics.specs.Line.{Line, count_line, tree_of}
 use Rattle.canvas_rewrite.specs.Planned.{IsPlan}
 use Rattle.canvas_semantics.specs.States.{states, numbers_from}
-use Rattle.canvas_message.specs.Effects.{first_messages}
+use Rattle.canvas_effects.specs.Effects.{first_messages}
 use Rattle.canvas_message.specs.declared.envelope.Envelope.{Envelope}
 use Rattle.canvas_backend.specs.Backend.{results}
 use Rattle.canvas_backend.specs.Roster.{Roster, roster_of, members, is_chord, is_member}

@@ -3,7 +3,8 @@
 
 use crate::{envelope_of, hundredths};
 use anyhow::Result;
-use canvas_message::{Envelope, decode};
+use canvas_codec::decode;
+use canvas_message::Envelope;
 use canvas_sig::read_canvas;
 use serde_json::Value;
 use std::alloc::{AllocError, Global};

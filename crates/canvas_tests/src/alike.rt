@@ -2,7 +2,8 @@
 //! is. They were worked out by hand from the rules of messages.
 
 use crate::envelopes::{BODY, HEADERS, PLAIN, PROPERTIES, envelope};
-use canvas_message::{Envelope, decode, encode};
+use canvas_codec::{decode, encode};
+use canvas_message::Envelope;
 use std::alloc::Global;
 use std::test::Fail;
 

@@ -6,7 +6,9 @@ ghost use Rattle.canvas_worker.specs.Asks.{FoundInRange};
 
 use canvas_backend::{PlainBackend, Stored};
 use canvas_broker::PlainBroker;
-use canvas_message::{Envelope, Letter, first_messages};
+use canvas_codec::seal;
+use canvas_effects::first_messages;
+use canvas_message::{Envelope, Letter};
 use canvas_rewrite::Plan;
 use canvas_samples::sample::plan_of;
 use canvas_task::{Fault, GroupNo, Kind, Memory, Outcome, SixTasks, TaskNo, Why};
@@ -132,7 +134,7 @@ fn queue_of(alloc: Global, plan: &Plan) -> Option<PlainBroker> {
     let messages = first_messages(alloc, plan).ok()?;
     let mut queue = PlainBroker::new(alloc);
     for message in messages {
-        let envelope = Letter::seal(alloc, message).ok()?;
+        let envelope = seal(alloc, message).ok()?;
         if queue.publish(envelope).is_err() {
             return None;
         }

@@ -8,7 +8,8 @@ ghost use Rattle.canvas_task.specs.Apply.{IsInRange};
 
 use crate::envelopes::read;
 use crate::forged_tables::{BODIES, ENDS};
-use canvas_message::{Message, PartCall, Todo, after, body_after};
+use canvas_effects::{PartCall, Todo, after, body_after, into_todo};
+use canvas_message::Message;
 use canvas_rewrite::{FrozenLine, Place};
 use canvas_samples::frozen_texts::filled;
 use canvas_task::{Arg, Fault, Kind, Outcome, TaskNo, Why};
@@ -266,7 +267,7 @@ fn follows(alloc: Global, message: Message, outcome: &Outcome, text: &str) -> bo
         Ok(todo) => is_shown(alloc, &todo, text),
         Err(_) => false,
     };
-    lent && match message.into_todo(alloc, outcome) {
+    lent && match into_todo(alloc, message, outcome) {
         Ok(todo) => is_shown(alloc, &todo, text),
         Err(_) => false,
     }
@@ -349,7 +350,7 @@ fn outcomes_of(alloc: Global, text: &str) -> Option<Vec<(TaskNo, Outcome)>>
 fn part_of(alloc: Global, chord: &str) -> Option<PartCall> {
     let body = body_of(alloc, "", "", "", chord).ok()?;
     let message = message_of(alloc, "3", "1", &body)?;
-    match message.into_todo(alloc, &Outcome::Success(7)) {
+    match into_todo(alloc, message, &Outcome::Success(7)) {
         Ok(todo) => todo.part,
         Err(_) => None,
     }

@@ -8,8 +8,10 @@ ghost use Rattle.canvas_worker.specs.Asks.{FoundInRange};
 use crate::trace::Trace;
 use canvas_backend::{PlainBackend, Stored};
 use canvas_broker::PlainBroker;
+use canvas_codec::seal;
+use canvas_effects::first_messages;
 use canvas_engine::Report;
-use canvas_message::{Envelope, Letter, first_messages};
+use canvas_message::{Envelope, Letter};
 use canvas_rewrite::Plan;
 use canvas_task::{GroupNo, ListOf, Memory, Outcome, TaskNo, Tasks, in_range};
 use canvas_worker::{Ask, Core, Reply};
@@ -74,7 +76,7 @@ impl Stage {
     /// Publishes the messages of the tasks that start at once.
     pub(crate) fn open(&mut self, alloc: Global, plan: &Plan) -> Result<(), Memory> {
         for message in first_messages(alloc, plan)? {
-            self.publish(Letter::seal(alloc, message)?)?;
+            self.publish(seal(alloc, message)?)?;
         }
         Ok(())
     }

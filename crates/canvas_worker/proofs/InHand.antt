@@ -4,7 +4,7 @@ use Rattle.std.specs.Prelude.{true, false, IsSome, MatchResult}
 use Rattle.std.proofs.lemmas.Bool.{false≢true}
 use Rattle.canvas_task.specs.Apply.{Behaviour}
 use Rattle.canvas_history.specs.History.{calls}
-use Rattle.canvas_message.specs.Job.{store, publish, hand_in}
+use Rattle.canvas_effects.specs.Job.{store, publish, hand_in}
 use Rattle.canvas_message.specs.declared.envelope.Envelope.{Envelope}
 use Rattle.canvas_backend.specs.Roster.{Roster}
 use Rattle.canvas_broker.specs.Broker as broker

@@ -9,7 +9,7 @@ use Rattle.canvas_rewrite.specs.declared.frozen.FrozenLine.{FrozenLine, out-Froz
 use Rattle.canvas_rewrite.specs.declared.frozen.FrozenEnd.{FrozenEnd, out-FrozenEnd}
 use Rattle.canvas_message.specs.Content.{number_of}
 use Rattle.canvas_message.specs.Fits.{how_many}
-use Rattle.canvas_message.specs.Placing.{last_task}
+use Rattle.canvas_effects.specs.Placing.{last_task}
 use Rattle.canvas_message.proofs.Seen.{task_seen, line_none, line_some, end_some}
 use Rattle.canvas_runs.specs.Book.{Book, task_known, tasks_known, line_known, members_known, has_size}
 use Rattle.canvas_worker.specs.steps.Lasts.{last_number}

@@ -4,10 +4,10 @@ use Rattle.std.proofs.lemmas.Bool.{eq-eqb}
 use Rattle.std.specs.Prelude.{IsTrue, if◌then◌else◌, nat_lt}
 use Rattle.canvas_task.specs.declared.outcome.Outcome.{Outcome}
 use Rattle.canvas_message.specs.Content.{Content}
-use Rattle.canvas_message.specs.Effects.{Jobs, Part, stores_in, part_in, part_jobs, script, effect_of}
-use Rattle.canvas_message.specs.Events.{In}
-use Rattle.canvas_message.specs.Job.{store, publish, hand_in}
-use Rattle.canvas_message.specs.Ordered.{put, in_order}
+use Rattle.canvas_effects.specs.Effects.{Jobs, Part, stores_in, part_in, part_jobs, script, effect_of}
+use Rattle.canvas_message.specs.Among.{In}
+use Rattle.canvas_effects.specs.Job.{store, publish, hand_in}
+use Rattle.canvas_effects.specs.Ordered.{put, in_order}
 use Rattle.canvas_backend.specs.Backend.{MayReturn}
 use Rattle.canvas_backend.specs.Roster.{Roster, is_member}
 use Rattle.canvas_runs.specs.Core.{is_due}

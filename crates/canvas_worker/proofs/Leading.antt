@@ -8,7 +8,7 @@ use Rattle.canvas_message.specs.Content.{Content}
 use Rattle.canvas_runs.specs.Worker.{opened}
 use Rattle.canvas_runs.proofs.Turning.{held_append}
 use Rattle.canvas_runs.specs.Calls.{held_by, held_after}
-use Rattle.canvas_message.specs.Job.{store, publish, hand_in}
+use Rattle.canvas_effects.specs.Job.{store, publish, hand_in}
 use Rattle.canvas_runs.specs.Book.{Book}
 use Rattle.canvas_runs.specs.Core as C
 use Rattle.canvas_runs.specs.Core.{taking, resting, over, failed, owning, doing, reading, taken, sent, refused, kept, counted, found, rested, answered, left_after, Suits, ReadsBack, IsCoreRun, acking, acked, settled, opens, Jobs, is_due, is_inside}

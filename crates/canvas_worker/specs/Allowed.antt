@@ -6,7 +6,7 @@ use Rattle.canvas_task.specs.Apply.{Behaviour}
 use Rattle.canvas_semantics.specs.Line.{Line}
 use Rattle.canvas_rewrite.specs.FrozenView.{PCarried}
 use Rattle.canvas_rewrite.specs.Planned.{IsPlan}
-use Rattle.canvas_message.specs.Job.{store, publish, hand_in}
+use Rattle.canvas_effects.specs.Job.{store, publish, hand_in}
 use Rattle.canvas_backend.specs.Backend.{MayReturn}
 use Rattle.canvas_backend.specs.Roster.{Roster, roster_of, members, size, is_chord, is_member}
 use Rattle.canvas_runs.specs.Book.{book_on, has_size, line_known}

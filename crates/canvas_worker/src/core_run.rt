@@ -63,7 +63,7 @@ fn open<B: Book>(alloc: Global, book: &B, letter: &mut Letter) -> Result<Option<
     ensures message { IfOk result (λ m. IfSome m (λ c. said letter.old ≡ c)) }
     ensures letter { letter.new ≡ letter.old }
 {
-    match letter.open(alloc) {
+    match canvas_codec::open(alloc, letter) {
         Ok(message) => {
             if message_known(book, &message) {
                 Ok(Some(message))

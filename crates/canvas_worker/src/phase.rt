@@ -3,11 +3,11 @@
 ghost use Rattle.std.specs.Prelude.{◌≡◌, ◌<◌, ◌++◌, ◌∷◌, [], Ok, IfOk, OnErr, IfSome, All, true, cond, length, map, unwrap_or};
 ghost use Rattle.std.specs.Option.{option_map};
 ghost use Rattle.canvas_task.specs.Apply.{IsInRange};
-ghost use Rattle.canvas_message.specs.Carrying.{carried_ok};
-ghost use Rattle.canvas_message.specs.Effects.{after, outcome_of, script as whole, part_jobs};
-ghost use Rattle.canvas_message.specs.steps.Elements.{carried_view};
-ghost use Rattle.canvas_message.specs.Job.{store, publish, hand_in};
-ghost use Rattle.canvas_message.specs.Todos.{part_view};
+ghost use Rattle.canvas_effects.specs.Carrying.{carried_ok};
+ghost use Rattle.canvas_effects.specs.Effects.{after, outcome_of, script as whole, part_jobs};
+ghost use Rattle.canvas_message.specs.View.{carried_view};
+ghost use Rattle.canvas_effects.specs.Job.{store, publish, hand_in};
+ghost use Rattle.canvas_effects.specs.Todos.{part_view};
 ghost use Rattle.canvas_worker.specs.Asks.{replied, FoundInRange, Grows};
 ghost use Rattle.canvas_worker.specs.Books.{no_book};
 ghost use Rattle.canvas_runs.specs.Core.{is_due, settled, handed_in, all_read, answered, owning, doing, resting, acking, reading as state_reading};
@@ -23,7 +23,8 @@ use crate::sealed::Sealed;
 use crate::sealing::script_of;
 use crate::stages::{Owned, Publishing, Reading, Storing};
 use canvas_backend::Stored;
-use canvas_message::{Letter, Message, PartCall, body_after};
+use canvas_effects::{PartCall, body_after, into_todo};
+use canvas_message::{Letter, Message};
 use canvas_rewrite::Carried;
 use canvas_task::{Memory, Outcome, TaskNo, Tasks};
 use std::alloc::Global;
@@ -145,7 +146,7 @@ impl Owned {
     {
         let task = message.task;
         let outcome = outcome_of(tasks, &message);
-        let script = script_of(alloc, message.into_todo(alloc, &outcome)?, true)?;
+        let script = script_of(alloc, into_todo(alloc, message, &outcome)?, true)?;
         Ok(Owned {
             envelope,
             task,

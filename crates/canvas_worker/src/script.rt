@@ -6,7 +6,7 @@ ghost use Rattle.canvas_task.specs.Apply.{IsInRange};
 ghost use Rattle.canvas_worker.specs.codes.CoreCode.{range_prop};
 
 use crate::sealed::Sealed;
-use canvas_message::PartCall;
+use canvas_effects::PartCall;
 use canvas_task::{Outcome, TaskNo};
 use std::collections::VecDeque;
 

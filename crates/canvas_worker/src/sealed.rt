@@ -6,7 +6,8 @@ ghost use Rattle.canvas_message.specs.codes.ContentCode.{content_code};
 ghost use Rattle.canvas_runs.specs.Worker.{read_envelope};
 ghost use Rattle.canvas_worker.specs.Enveloped.{said, envelope_of};
 
-use canvas_message::{Letter, Message, Sealer};
+use canvas_codec::Sealer;
+use canvas_message::{Letter, Message};
 use canvas_task::Memory;
 
 /// An envelope that a message can be read from.

@@ -2,14 +2,16 @@
 
 ghost use Rattle.std.specs.Prelude.{◌≡◌, IfOk, All, map};
 ghost use Rattle.canvas_task.specs.Apply.{IsInRange};
-ghost use Rattle.canvas_message.specs.Effects.{script};
-ghost use Rattle.canvas_message.specs.Todos.{todo_view};
+ghost use Rattle.canvas_effects.specs.Effects.{script};
+ghost use Rattle.canvas_effects.specs.Todos.{todo_view};
 ghost use Rattle.canvas_worker.specs.Enveloped.{enclosed, envelope_of};
 ghost use Rattle.canvas_worker.specs.Scripts.{jobs_of};
 
 use crate::script::Script;
 use crate::sealed::{Sealed, seal};
-use canvas_message::{Message, Sealer, Todo};
+use canvas_codec::Sealer;
+use canvas_effects::Todo;
+use canvas_message::Message;
 use canvas_task::Memory;
 use std::alloc::Global;
 use std::collections::VecDeque;

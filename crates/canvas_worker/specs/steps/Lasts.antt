@@ -3,7 +3,7 @@ use Rattle.std.specs.Prelude.{ℕ, Bool, ◌&&◌, List, map, Option, Some, None
 use Rattle.canvas_semantics.specs.PlacedLine.{PLine, p_stop}
 use Rattle.canvas_rewrite.specs.FrozenView.{p_steps, p_task_view}
 use Rattle.canvas_rewrite.specs.declared.frozen.FrozenTask.{FrozenTask}
-use Rattle.canvas_message.specs.Placing.{last_task}
+use Rattle.canvas_effects.specs.Placing.{last_task}
 use Rattle.canvas_runs.specs.Book.{Book, line_known}
 
 abbrev pub or_zero : Option ℕ → ℕ

@@ -2,7 +2,7 @@ use Rattle.std.proofs.Common.{rules, ◌≡◌, ◌∙◌, ◌++◌, All, drop, 
 use Rattle.std.proofs.lemmas.List.{take_at}
 use Rattle.canvas_semantics.specs.Line.{Line, tree_of}
 use Rattle.canvas_semantics.specs.States.{states}
-use Rattle.canvas_message.specs.Effects.{first_messages}
+use Rattle.canvas_effects.specs.Effects.{first_messages}
 use Rattle.canvas_runs.specs.Following.{Makes}
 use Rattle.canvas_runs.specs.Run.{published_all}
 use Rattle.canvas_worker.specs.declared.cause.Cause.TheVariants.{Memory}

@@ -1,4 +1,4 @@
-use Rattle.canvas_message.proofs.PlanStands.{plan_stands}
+use Rattle.canvas_effects.proofs.PlanStands.{plan_stands}
 use Rattle.canvas_export.proofs.exporting.sizes_of.Goals as goal
 
 pub returns-clause-whole : goal.returns-clause-whole

@@ -1,5 +1,5 @@
-use Rattle.canvas_message.specs.steps.Elements.{carried_view}
-use Rattle.canvas_message.specs.Todos.{todo_view}
+use Rattle.canvas_message.specs.View.{carried_view}
+use Rattle.canvas_effects.specs.Todos.{todo_view}
 use Rattle.canvas_worker.proofs.Stores.{body_todo_stores}
 use Rattle.canvas_worker.proofs.stages.Reading.add.Goals as goal
 

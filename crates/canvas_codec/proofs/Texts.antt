@@ -1,0 +1,20 @@
+-- What is said of a text that was parsed.
+use Rattle.std.proofs.Common.{◌≡◌, ◌≢◌, Option, Some, None, Ok, Err, refl, ap}
+use Rattle.serde_json.specs.Data.{Data}
+use Rattle.canvas_sig.specs.declared.fault.SigFault.{SigFault}
+use Rattle.canvas_sig.specs.declared.fault.SigFault.TheVariants.{Memory}
+use Rattle.canvas_sig.specs.Answers.{Fails}
+use Rattle.canvas_sig.specs.steps.Reading as sig
+use Rattle.canvas_message.specs.declared.fault.MessageFault.TheVariants.{NotJson}
+use Rattle.canvas_codec.specs.steps.Reading.{some_or}
+
+-- the value of a text that reads
+pub value_read : (o : Option Data) (d : Data) → sig.json_reading o ≡ Ok d → some_or NotJson o ≡ Ok d
+value_read None d e = absurd cc
+value_read (Some x) d e = let same : x ≡ d = cc in ap Ok same
+
+-- one that doesn't read
+pub nothing_read : (o : Option Data) (e : SigFault) → Fails e (sig.json_reading o) → e ≢ Memory → some_or NotJson o ≡ Err NotJson
+nothing_read None e h other = refl
+nothing_read (Some x) Memory h other = absurd (other refl)
+nothing_read (Some x) e h other = absurd cc

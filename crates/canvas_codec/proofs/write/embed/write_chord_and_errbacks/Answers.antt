@@ -1,0 +1,19 @@
+use Rattle.std.proofs.Common.{[], ◌∷◌, map, codes, append_assoc}
+use Rattle.json.specs.Token.{key}
+use Rattle.canvas_sig.specs.steps.Tokens.{data_tokens}
+use Rattle.canvas_sig.proofs.Writers.{after_ok, then_tokens}
+use Rattle.canvas_rewrite.specs.FrozenView.{p_tasks_of, p_task_view}
+use Rattle.canvas_codec.specs.steps.Tokens.{named_tokens}
+use Rattle.canvas_message.specs.View.{place_seen}
+use Rattle.canvas_codec.specs.Wire.{tasks_wire, list_or_null, carried_wire}
+use Rattle.canvas_codec.proofs.write.embed.write_chord_and_errbacks.Goals as goal
+
+pub returns : goal.returns
+returns c =
+    let chord = c.in_ok-key.ensures in
+    let errbacks = c.in_ok-key-2.ensures in
+    let first = then_tokens c.args.out.now c.key.new.self c.write_carried.new.out (key (codes "chord") ∷ []) _ (chord.ok, chord.room.0) c.in_ok-write_carried.ensures in
+    let second = then_tokens c.args.out.now c.write_carried.new.out c.key-2.new.self _ (key (codes "errbacks") ∷ []) first (errbacks.ok, errbacks.room.0) in
+    after_ok c.write_callbacks.result c.args.out.now c.key-2.new.self c.write_callbacks.new.out _ _ _ second c.write_callbacks.ensures
+    (append_assoc (named_tokens (codes "chord") (carried_wire (place_seen c.args.place.now))) (key (codes "errbacks") ∷ [])
+    (data_tokens (list_or_null (tasks_wire (p_tasks_of (map p_task_view c.args.errbacks.now))))))

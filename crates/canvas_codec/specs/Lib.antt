@@ -1,0 +1,3 @@
+pub mod Wire
+pub mod FrozenParts
+pub mod steps

@@ -1,0 +1,5 @@
+pub mod Tokens
+pub mod Texts
+pub mod FrozenReading
+pub mod Reading
+pub mod Elements

@@ -1,0 +1,91 @@
+-- The texts of light messages, by their parts.
+use Rattle.std.specs.Prelude.{◌≡◌, ℕ, Bool, true, false, List, ◌++◌, OnOk, Result, codes, decimal}
+use Rattle.serde_json.specs.Data.{Data, null, string, object, Items, Members, member, no_members}
+use Rattle.serde_json.specs.Written.{compact_text, items_text}
+use Rattle.canvas_semantics.specs.PlacedLine.{PTask, p_task, no_p_tasks, p_nowhere}
+use Rattle.canvas_rewrite.specs.declared.frozen.FrozenTask.{FrozenTask, out-FrozenTask}
+use Rattle.canvas_codec.specs.Wire.{task_id}
+
+-- the text stands behind what stood there
+abbrev pub Adds : {E : Type 0} → Result (Unit {0}) E → (old new : List ℕ) → List ℕ → Type 0
+Adds r old new text = OnOk r (new ≡ old ++ text)
+
+-- ---- properties and headers
+
+abbrev pub properties_naming : (id : Data) → Data
+properties_naming id =
+    object (member (codes "content_encoding") (string (codes "utf-8"))
+    (member (codes "content_type") (string (codes "application/json"))
+    (member (codes "correlation_id") id no_members)))
+
+abbrev pub headers_naming : (group id parent : Data) (name : List ℕ) → Data
+headers_naming group id parent name =
+    object (member (codes "group") group
+    (member (codes "id") id
+    (member (codes "lang") (string (codes "rs"))
+    (member (codes "parent_id") parent
+    (member (codes "root_id") (task_id 1)
+    (member (codes "task") (string name) no_members))))))
+
+-- up to the identifier, with its opening quote
+abbrev pub front_text : (group : Data) → List ℕ
+front_text group = codes "{\"group\":" ++ (compact_text group ++ codes ",\"id\":\"")
+
+-- from the identifier's closing quote up to the name
+abbrev pub origin_text : (parent : Data) → List ℕ
+origin_text parent =
+    codes "\",\"lang\":\"rs\",\"parent_id\":" ++ (compact_text parent
+    ++ codes ",\"root_id\":\"00000000-0000-8000-8000-000000000001\",\"task\":")
+
+abbrev pub name_text : (name : List ℕ) → List ℕ
+name_text name = compact_text (string name) ++ codes "}"
+
+-- ---- a task with nothing of its own behind it
+
+abbrev pub bare : FrozenTask → PTask
+bare t =
+    p_task (out-FrozenTask t).no
+    (record {
+      name = (out-FrozenTask t).name;
+      args = (out-FrozenTask t).args;
+      kwargs = (out-FrozenTask t).kwargs;
+      immutable = (out-FrozenTask t).immutable;
+    })
+    no_p_tasks no_p_tasks p_nowhere
+
+abbrev pub size_text : (size : ℕ) (args : Items) → List ℕ
+size_text size args =
+    codes "{\"args\":[" ++ (items_text false args ++ (codes ",\"chord_size\":" ++ decimal size))
+
+abbrev pub flag_text : Bool → List ℕ
+flag_text true = codes ",\"immutable\":true,\"kwargs\":"
+flag_text false = codes ",\"immutable\":false,\"kwargs\":"
+
+-- up to the options
+abbrev pub call_text : (size : ℕ) (args : Items) → Bool → (kwargs : Members) → List ℕ
+call_text size args immutable kwargs =
+    size_text size args ++ (flag_text immutable ++ compact_text (object kwargs))
+
+-- the options, and what stands behind them but the name
+abbrev pub own_text : (id : List ℕ) → List ℕ
+own_text id =
+    codes ",\"options\":{\"task_id\":\"" ++ (id ++ codes "\"},\"subtask_type\":null,\"task\":")
+
+-- ---- a body
+
+-- what goes with a call that has nothing behind it but its place
+abbrev pub embed_alone : (chord : Data) → Data
+embed_alone chord =
+    object (member (codes "callbacks") null
+    (member (codes "chain") null
+    (member (codes "chord") chord
+    (member (codes "errbacks") null no_members))))
+
+abbrev pub args_text : (args : Items) (kwargs : Members) → List ℕ
+args_text args kwargs =
+    codes "[[" ++ (items_text false args ++ (codes "," ++ compact_text (object kwargs)))
+
+abbrev pub alone_text : (chord : Data) → List ℕ
+alone_text chord =
+    codes ",{\"callbacks\":null,\"chain\":null,\"chord\":"
+    ++ (compact_text chord ++ codes ",\"errbacks\":null}]")

@@ -1,0 +1,437 @@
+//! Reading frozen signatures, with the signatures in them, out of JSON values.
+
+ghost use Rattle.std.specs.Prelude.{◌≡◌, false, map};
+ghost use Rattle.canvas_sig.specs.Datum.{view};
+ghost use Rattle.canvas_sig.specs.Fields.{value_at, as_list, listed, tasks, subtype};
+ghost use Rattle.canvas_sig.specs.Answers.{Gives, ◌or_else◌, unless, each};
+ghost use Rattle.canvas_sig.specs.Grammar.{own_fault, primitive_of};
+ghost use Rattle.canvas_rewrite.specs.FrozenView.{p_task_view, p_line_view, p_end_view};
+ghost use Rattle.canvas_message.specs.View.{place_seen, carried_view};
+ghost use Rattle.canvas_codec.specs.steps.Elements.{element_view, line_with};
+ghost use Rattle.canvas_message.specs.FrozenGrammar.{but_a_place};
+ghost use Rattle.canvas_codec.specs.steps.FrozenReading.{place_with, carried_with, task_with, task_as, group_with, chord_with, header_fault, step_as, last_as, elements_with, link_reading, step_reading, last_reading, line_reading};
+
+use super::identifiers::{known_group, known_task, read_size};
+use super::made::{Element, line_of};
+use canvas_rewrite::{Carried, FrozenEnd, FrozenLine, FrozenTask, Place};
+use canvas_sig::SigFault;
+use canvas_sig::parts::{
+    Datum, Primitive, is_list, is_null, is_text, is_true, kwarg_of, listed, option_of, own_fault,
+    primitive_of, read_args, read_kwargs, text_of,
+};
+use canvas_task::{ListOf, MapOf, TextOf};
+use std::alloc::Global;
+use std::sync::Arc;
+
+/// A place isn't a fault of a task.
+fn but_a_place(fault: Option<SigFault>) -> Option<SigFault>
+    ensures { result ≡ but_a_place fault }
+{
+    match fault {
+        Some(SigFault::Frozen) => None,
+        other => other,
+    }
+}
+
+fn header_fault(value: &Datum<'_>) -> Option<SigFault>
+    ensures { result ≡ header_fault (view value.now) }
+{
+    if is_list(kwarg_of(value, "header")) {
+        None
+    } else {
+        Some(SigFault::BadArgs)
+    }
+}
+
+/// The link or error callback that a value stands for; signatures in it nest at most `left` deep.
+#[cycle(read)]
+#[tactic(auto, using(crate::proofs::Levels::link_level_below))]
+pub(crate) fn read_link(alloc: Global, value: &Datum<'_>, left: u32) -> Result<FrozenTask, SigFault>
+    ensures { Gives p_task_view result (link_reading left (view value.now)) }
+{
+    if left == 0 {
+        return Err(SigFault::TooDeep);
+    }
+    read_task_as(alloc, value, true, left - 1)
+}
+
+#[cycle(read)]
+#[tactic(auto, using(crate::proofs::Levels::fails_with))]
+fn read_task_as(
+    alloc: Global,
+    value: &Datum<'_>,
+    linked: bool,
+    left: u32,
+) -> Result<FrozenTask, SigFault>
+    ensures { Gives p_task_view result
+        (task_as linked (link_reading left) (line_reading left) (view value.now)) }
+{
+    match but_a_place(own_fault(value, linked)) {
+        Some(fault) => Err(fault),
+        None => read_task(alloc, value, left),
+    }
+}
+
+/// The task that a value without a fault of its own stands for.
+#[cycle(read)]
+fn read_task(alloc: Global, value: &Datum<'_>, left: u32) -> Result<FrozenTask, SigFault>
+    ensures { Gives p_task_view result
+        (task_with (link_reading left) (line_reading left) (view value.now)) }
+{
+    let no = known_task(option_of(value, "task_id"))?;
+    let args = read_args(alloc, listed(value.get("args")))?;
+    let kwargs = read_kwargs(alloc, value.get("kwargs"))?;
+    let links = read_links(alloc, option_of(value, "link"), left)?;
+    let errbacks = read_links(alloc, option_of(value, "link_error"), left)?;
+    let group = option_of(value, "group_id");
+    let place = read_place(alloc, group, option_of(value, "chord"), left)?;
+    let name = text_of(alloc, value.get("task"))?;
+    Ok(FrozenTask {
+        no,
+        name: TextOf::of(name),
+        args: ListOf::of(args),
+        kwargs: MapOf::of(kwargs),
+        immutable: is_true(value.get("immutable")),
+        links: ListOf::of(links),
+        errbacks: ListOf::of(errbacks),
+        place,
+    })
+}
+
+/// The signatures in a list, one signature, or none.
+#[cycle(read)]
+fn read_links(
+    alloc: Global,
+    field: Option<&Datum<'_>>,
+    left: u32,
+) -> Result<Vec<FrozenTask>, SigFault>
+    ensures { Gives (λ v. map p_task_view v.items) result
+        (each (link_reading left) (as_list (value_at field.entry))) }
+{
+    match field {
+        None => Ok(Vec::new(alloc)),
+        Some(value) => read_one_or_more(alloc, value, left),
+    }
+}
+
+#[cycle(read)]
+fn read_one_or_more(
+    alloc: Global,
+    value: &Datum<'_>,
+    left: u32,
+) -> Result<Vec<FrozenTask>, SigFault>
+    ensures { Gives (λ v. map p_task_view v.items) result
+        (each (link_reading left) (as_list (view value.now))) }
+{
+    match value {
+        Datum::Null => Ok(Vec::new(alloc)),
+        Datum::List(values) => read_all_links(alloc, values, left),
+        _ => {
+            let mut tasks = Vec::new(alloc);
+            tasks.push(read_link(alloc, value, left)?)?;
+            Ok(tasks)
+        }
+    }
+}
+
+#[cycle(read)]
+pub(crate) fn read_all_links(
+    alloc: Global,
+    values: &[Datum<'_>],
+    left: u32,
+) -> Result<Vec<FrozenTask>, SigFault>
+    ensures { Gives (λ v. map p_task_view v.items) result
+        (each (link_reading left) (map view values.now)) }
+{
+    let mut tasks = Vec::new(alloc);
+    for value in values {
+        tasks.push(read_link(alloc, value, left)?)?;
+    }
+    Ok(tasks)
+}
+
+/// The place that a group's identifier and a chord's body give.
+#[cycle(read)]
+pub(crate) fn read_place(
+    alloc: Global,
+    group: Option<&Datum<'_>>,
+    body: Option<&Datum<'_>>,
+    left: u32,
+) -> Result<Option<Place>, SigFault>
+    ensures { Gives place_seen result
+        (place_with (line_reading left) (value_at group.entry) (value_at body.entry)) }
+{
+    if is_null(group) {
+        if is_null(body) {
+            return Ok(None);
+        }
+        return Err(SigFault::Frozen);
+    }
+    let group = known_group(group)?;
+    if is_null(body) {
+        return Ok(Some(Place { group, chord: None }));
+    }
+    let carried = read_carried(alloc, body, left)?;
+    Ok(Some(Place {
+        group,
+        chord: Some(carried),
+    }))
+}
+
+#[cycle(read)]
+fn read_carried(alloc: Global, field: Option<&Datum<'_>>, left: u32) -> Result<Carried, SigFault>
+    ensures { Gives carried_view result (carried_with (line_reading left) (value_at field.entry)) }
+{
+    match field {
+        Some(value) => read_load(alloc, value, left),
+        None => Err(SigFault::TooMany),
+    }
+}
+
+#[cycle(read)]
+fn read_load(alloc: Global, value: &Datum<'_>, left: u32) -> Result<Carried, SigFault>
+    ensures { Gives carried_view result (carried_with (line_reading left) (view value.now)) }
+{
+    let size = read_size(value.get("chord_size"))?;
+    let body = read_line(alloc, value, left)?;
+    Ok(Carried {
+        size,
+        body: Arc::new(alloc, body)?,
+    })
+}
+
+/// The line that a value stands for: one element, or a chain of some.
+#[cycle(read)]
+#[tactic(auto, using(crate::proofs::Levels::line_level_below))]
+pub(crate) fn read_line(alloc: Global, value: &Datum<'_>, left: u32) -> Result<FrozenLine, SigFault>
+    ensures { Gives p_line_view result (line_reading left (view value.now)) }
+{
+    if left == 0 {
+        return Err(SigFault::TooDeep);
+    }
+    if is_text(value.get("subtask_type"), "chain") {
+        read_chain(alloc, value, left - 1)
+    } else {
+        read_single(alloc, value, left - 1)
+    }
+}
+
+#[cycle(read)]
+#[tactic(auto, using(crate::proofs::Levels::fails_with))]
+fn read_chain(alloc: Global, value: &Datum<'_>, left: u32) -> Result<FrozenLine, SigFault>
+    ensures { Gives p_line_view result (unless (own_fault false (view value.now)) (elements_with
+        (step_reading left) (last_reading left) (listed (tasks (view value.now))))) }
+{
+    match own_fault(value, false) {
+        Some(fault) => Err(fault),
+        None => read_elements(alloc, listed(kwarg_of(value, "tasks")), left),
+    }
+}
+
+#[cycle(read)]
+fn read_single(alloc: Global, value: &Datum<'_>, left: u32) -> Result<FrozenLine, SigFault>
+    ensures { Gives p_line_view result (last_as (link_reading left) (line_reading left)
+        (primitive_of (subtype (view value.now))) (view value.now)) }
+{
+    let element = read_last_as(alloc, value, primitive_of(value.get("subtask_type")), left)?;
+    Ok(line_of(alloc, Vec::new(alloc), element)?)
+}
+
+/// The line of a chain's elements.
+#[cycle(read)]
+fn read_elements(alloc: Global, values: &[Datum<'_>], left: u32) -> Result<FrozenLine, SigFault>
+    ensures { Gives p_line_view result
+        (elements_with (step_reading left) (last_reading left) (map view values.now)) }
+{
+    match values {
+        [] => Ok(FrozenLine {
+            tasks: ListOf::of(Vec::new(alloc)),
+            tail: None,
+        }),
+        [steps @ .., last] => read_parts(alloc, steps, last, left),
+    }
+}
+
+#[cycle(read)]
+fn read_parts(
+    alloc: Global,
+    steps: &[Datum<'_>],
+    last: &Datum<'_>,
+    left: u32,
+) -> Result<FrozenLine, SigFault>
+    ensures { Gives p_line_view result
+        (line_with (step_reading left) (last_reading left) (map view steps.now) (view last.now)) }
+{
+    let tasks = read_steps(alloc, steps, left)?;
+    let last = read_last(alloc, last, left)?;
+    Ok(line_of(alloc, tasks, last)?)
+}
+
+/// The elements of a line that aren't its last.
+#[cycle(read)]
+pub(crate) fn read_steps(
+    alloc: Global,
+    values: &[Datum<'_>],
+    left: u32,
+) -> Result<Vec<FrozenTask>, SigFault>
+    ensures { Gives (λ v. map p_task_view v.items) result
+        (each (step_reading left) (map view values.now)) }
+{
+    let mut tasks = Vec::new(alloc);
+    for value in values {
+        tasks.push(read_step(alloc, value, left)?)?;
+    }
+    Ok(tasks)
+}
+
+#[cycle(read)]
+#[tactic(auto, using(crate::proofs::Levels::step_level_below))]
+fn read_step(alloc: Global, value: &Datum<'_>, left: u32) -> Result<FrozenTask, SigFault>
+    ensures { Gives p_task_view result (step_reading left (view value.now)) }
+{
+    if left == 0 {
+        return Err(SigFault::TooDeep);
+    }
+    read_step_as(
+        alloc,
+        value,
+        primitive_of(value.get("subtask_type")),
+        left - 1,
+    )
+}
+
+#[cycle(read)]
+fn read_step_as(
+    alloc: Global,
+    value: &Datum<'_>,
+    primitive: Option<Primitive>,
+    left: u32,
+) -> Result<FrozenTask, SigFault>
+    ensures { Gives p_task_view result
+        (step_as (link_reading left) (line_reading left) primitive (view value.now)) }
+{
+    match primitive {
+        Some(Primitive::Task) => read_task_as(alloc, value, false, left),
+        _ => Err(SigFault::OnCanvas),
+    }
+}
+
+/// The last element of a line.
+#[cycle(read)]
+#[tactic(auto, using(crate::proofs::Levels::last_level_below))]
+pub(crate) fn read_last(alloc: Global, value: &Datum<'_>, left: u32) -> Result<Element, SigFault>
+    ensures { Gives element_view result (last_reading left (view value.now)) }
+{
+    if left == 0 {
+        return Err(SigFault::TooDeep);
+    }
+    read_last_as(
+        alloc,
+        value,
+        primitive_of(value.get("subtask_type")),
+        left - 1,
+    )
+}
+
+#[cycle(read)]
+fn read_last_as(
+    alloc: Global,
+    value: &Datum<'_>,
+    primitive: Option<Primitive>,
+    left: u32,
+) -> Result<Element, SigFault>
+    ensures { Gives element_view result
+        (last_as (link_reading left) (line_reading left) primitive (view value.now)) }
+{
+    match primitive {
+        Some(Primitive::Task) => Ok(Element::Task(read_task_as(alloc, value, false, left)?)),
+        Some(Primitive::Group) => Ok(Element::End(read_group_as(alloc, value, left)?)),
+        Some(Primitive::Chord) => Ok(Element::End(read_chord_as(alloc, value, left)?)),
+        _ => Err(SigFault::OnCanvas),
+    }
+}
+
+#[cycle(read)]
+#[tactic(auto, using(crate::proofs::Levels::fails_with))]
+fn read_group_as(alloc: Global, value: &Datum<'_>, left: u32) -> Result<FrozenEnd, SigFault>
+    ensures { Gives p_end_view result (unless (own_fault false (view value.now))
+        (group_with (line_reading left) (view value.now))) }
+{
+    match own_fault(value, false) {
+        Some(fault) => Err(fault),
+        None => read_group(alloc, value, left),
+    }
+}
+
+#[cycle(read)]
+fn read_group(alloc: Global, value: &Datum<'_>, left: u32) -> Result<FrozenEnd, SigFault>
+    ensures { Gives p_end_view result (group_with (line_reading left) (view value.now)) }
+{
+    let group = known_group(option_of(value, "group_id"))?;
+    let members = read_lines(alloc, listed(kwarg_of(value, "tasks")), left)?;
+    Ok(FrozenEnd {
+        group,
+        members: ListOf::of(members),
+        body: None,
+    })
+}
+
+/// A fault of a chord's own.
+fn chord_fault(value: &Datum<'_>) -> Option<SigFault>
+    ensures { result ≡ (own_fault false (view value.now) or_else header_fault (view value.now)) }
+{
+    match own_fault(value, false) {
+        None => header_fault(value),
+        fault => fault,
+    }
+}
+
+#[cycle(read)]
+#[tactic(auto, using(crate::proofs::Levels::fails_with))]
+fn read_chord_as(alloc: Global, value: &Datum<'_>, left: u32) -> Result<FrozenEnd, SigFault>
+    ensures { Gives p_end_view result (unless
+        (own_fault false (view value.now) or_else header_fault (view value.now))
+        (chord_with (line_reading left) (view value.now))) }
+{
+    match chord_fault(value) {
+        Some(fault) => Err(fault),
+        None => read_chord(alloc, value, left),
+    }
+}
+
+#[cycle(read)]
+fn read_chord(alloc: Global, value: &Datum<'_>, left: u32) -> Result<FrozenEnd, SigFault>
+    ensures { Gives p_end_view result (chord_with (line_reading left) (view value.now)) }
+{
+    let group = known_group(option_of(value, "group_id"))?;
+    let members = read_lines(alloc, listed(kwarg_of(value, "header")), left)?;
+    let body = read_member(alloc, kwarg_of(value, "body"), left)?;
+    Ok(FrozenEnd {
+        group,
+        members: ListOf::of(members),
+        body: Some(body),
+    })
+}
+
+/// The line that a member stands for; one that is missing is null.
+#[cycle(read)]
+fn read_member(alloc: Global, field: Option<&Datum<'_>>, left: u32) -> Result<FrozenLine, SigFault>
+    ensures { Gives p_line_view result (line_reading left (value_at field.entry)) }
+{
+    match field {
+        Some(value) => read_line(alloc, value, left),
+        None => read_line(alloc, &Datum::Null, left),
+    }
+}
+
+#[cycle(read)]
+fn read_lines(alloc: Global, values: &[Datum<'_>], left: u32) -> Result<Vec<FrozenLine>, SigFault>
+    ensures { Gives (λ v. map p_line_view v.items) result
+        (each (line_reading left) (map view values.now)) }
+{
+    let mut lines = Vec::new(alloc);
+    for value in values {
+        lines.push(read_line(alloc, value, left)?)?;
+    }
+    Ok(lines)
+}

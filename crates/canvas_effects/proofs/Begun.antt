@@ -1,0 +1,222 @@
+-- Messages of tasks, and what lines begin with, as the code has them.
+use Rattle.std.proofs.Common.{◌≡◌, ◌∙◌, ℕ, suc, ◌≤◌, ◌<◌, ◌+◌, arith, true, false, List, [], ◌∷◌, ◌++◌, map, drop, get_or, length, Option, Some, None, Box, Global, refl, sym, ap, ap₂, subst, append_assoc, add-one, drop-cons, rules}
+use Rattle.std.specs.declared.sync.Arc.{Arc}
+use Rattle.std.specs.Prelude.{ℤ, ◌&&◌, nat_le}
+use Rattle.canvas_task.specs.declared.arg.Arg.{Arg}
+use Rattle.canvas_sig.proofs.ComposedLemmas.{both}
+use Rattle.canvas_semantics.specs.Evaluation.{arguments}
+use Rattle.canvas_semantics.specs.PlacedLine.{PTask, p_task, PTasks, and_p_task, PPlace, p_nowhere, p_group, p_chord, PLine, p_stop, p_step, p_chord_end, no_p_lines}
+use Rattle.canvas_rewrite.specs.FrozenView.{p_tasks_of, p_steps, p_lines_of, p_task_view, p_line_view, p_end_view}
+use Rattle.canvas_rewrite.specs.declared.frozen.Carried as block
+use Rattle.canvas_rewrite.specs.declared.frozen.Carried.{roll-Carried}
+use Rattle.canvas_rewrite.specs.declared.frozen.Place.{Place, roll-Place}
+use Rattle.canvas_rewrite.specs.declared.frozen.FrozenTask.{FrozenTask, out-FrozenTask}
+use Rattle.canvas_rewrite.specs.declared.frozen.FrozenLine.{FrozenLine, out-FrozenLine}
+use Rattle.canvas_rewrite.specs.declared.frozen.FrozenEnd.{FrozenEnd, out-FrozenEnd}
+use Rattle.canvas_effects.specs.Carrying.{stands, AllStand, callbacks_ok, input_ok}
+use Rattle.canvas_message.specs.Content.{Content, call_of, place_of}
+use Rattle.canvas_effects.specs.Effects.{message, callbacks, messages_in}
+use Rattle.canvas_message.specs.Fits.{parent_ok, task_ok, line_ok, line_reach, fits}
+use Rattle.canvas_effects.specs.Flowing.{Input, list_input, input_flow, given, parent_for}
+use Rattle.canvas_message.specs.steps.Parts.{is_stop}
+use Rattle.canvas_effects.specs.Placing.{last_at, placed}
+use Rattle.canvas_message.specs.View.{content, place_view, place_seen, rest_seen}
+use Rattle.canvas_effects.specs.steps.Walks.{at_place, tail_seen, member_place, started, all_started}
+use Rattle.canvas_effects.proofs.Copied.{own_place, place_there, line_parts}
+use Rattle.canvas_effects.proofs.Entered.{started_group, started_chord}
+use Rattle.canvas_message.proofs.FitLemmas.{counted, end_stands, never_stops}
+use Rattle.canvas_message.proofs.Seen.{called, task_seen, line_some, end_none, end_some}
+use Rattle.canvas_effects.proofs.Standing.{task_parts, begun, message_fits, called_parts, step_is, same_at, keeps_on, no_place, group_stands, header_stands, few_members}
+
+-- ---- the message of a task
+
+pub message_made : (t : FrozenTask) (u : Option ℕ) (x : Input) (p : Option Place) (rest : Option FrozenLine)
+    (parent : Option ℕ) (n : List ℕ) (a : List Arg) (w : List (List ℕ × Arg)) (ls es new_links new_errbacks links errbacks : List FrozenTask)
+    → parent ≡ parent_for u x → n ≡ (out-FrozenTask t).name → a ≡ arguments (call_of (p_task_view t)) (input_flow x) → w ≡ (out-FrozenTask t).kwargs
+    → ls ≡ new_links → map p_task_view new_links ≡ map p_task_view links → links ≡ (out-FrozenTask t).links
+    → es ≡ new_errbacks → map p_task_view new_errbacks ≡ map p_task_view errbacks → errbacks ≡ (out-FrozenTask t).errbacks
+    → content parent (out-FrozenTask t).no n a w ls es p rest ≡ message u (at_place (place_seen p) (p_task_view t)) x (rest_seen rest)
+message_made t u x p rest parent n a w ls es new_links new_errbacks links errbacks hp hn ha hw hl hl' hl'' he he' he'' =
+    let k : ℕ = (out-FrozenTask t).no in
+    let its : List ℕ = (out-FrozenTask t).name in
+    let all : List Arg = arguments (called t) (input_flow x) in
+    let named = (out-FrozenTask t).kwargs in
+    let Goal : Option ℕ → List ℕ → List Arg → List (List ℕ × Arg) → List PTask → List PTask → Content =
+    λ parent' n' a' w' ls' es'. record {
+      parent = parent';
+      own = p_task k (record { name = n'; args = a'; kwargs = w'; immutable = false }) (p_tasks_of ls') (p_tasks_of es') (place_seen p);
+      rest = rest_seen rest;
+    } in
+    ap (λ z. Goal z n a w (map p_task_view ls) (map p_task_view es)) hp
+    ∙ ap (λ z. Goal (parent_for u x) z a w (map p_task_view ls) (map p_task_view es)) hn
+    ∙ ap (λ z. Goal (parent_for u x) its z w (map p_task_view ls) (map p_task_view es)) (ha ∙ ap (λ y. arguments (call_of y) (input_flow x)) (task_seen t))
+    ∙ ap (λ z. Goal (parent_for u x) its all z (map p_task_view ls) (map p_task_view es)) hw
+    ∙ ap (λ z. Goal (parent_for u x) its all named z (map p_task_view es)) (ap (map p_task_view) hl ∙ hl' ∙ ap (map p_task_view) hl'')
+    ∙ ap (λ z. Goal (parent_for u x) its all named (map p_task_view (out-FrozenTask t).links) z) (ap (map p_task_view) he ∙ he' ∙ ap (map p_task_view) he'')
+    ∙ sym (ap (λ y. message u (at_place (place_seen p) y) x (rest_seen rest)) (task_seen t))
+
+-- ---- callbacks
+
+at_its_place : (t : FrozenTask) (p : Option Place) → place_seen p ≡ place_seen (out-FrozenTask t).place → at_place (place_seen p) (p_task_view t) ≡ p_task_view t
+at_its_place t p same = ap (λ q. at_place q (p_task_view t)) (same ∙ sym (place_there t)) ∙ own_place (p_task_view t)
+
+tasks_dropped : (ts : List FrozenTask) (i : ℕ) (t : FrozenTask) → i < length ts → t ≡ get_or ts i t → map p_task_view (drop i ts) ≡ p_task_view t ∷ map p_task_view (drop (i + 1) ts)
+tasks_dropped ts i t lt is =
+    ap (map p_task_view) (drop-cons ts i t lt) ∙ ap (λ y. p_task_view y ∷ map p_task_view (drop (suc i) ts)) (sym is) ∙ ap (λ k. p_task_view t ∷ map p_task_view (drop k ts)) (sym (add-one i))
+
+pub callback_fits : (ts : List FrozenTask) (i : ℕ) (t : FrozenTask) (p : Option Place) (u : Option ℕ) (x : Input) → i < length ts → t ≡ get_or ts i t
+    → place_seen p ≡ place_seen (out-FrozenTask t).place → callbacks_ok (p_tasks_of (map p_task_view (drop i ts))) ≡ true → parent_ok u ≡ true → input_ok x ≡ true
+    → fits (message u (at_place (place_seen p) (p_task_view t)) x p_stop) ≡ true
+callback_fits ts i t p u x lt is same ok hu hx =
+    let here : callbacks_ok (and_p_task (p_task_view t) (p_tasks_of (map p_task_view (drop (i + 1) ts)))) ≡ true = sym (ap (λ xs. callbacks_ok (p_tasks_of xs)) (tasks_dropped ts i t lt is)) ∙ ok in
+    ap (λ y. fits (message u y x p_stop)) (at_its_place t p same) ∙ message_fits u (p_task_view t) x p_stop hu hx (called_parts (p_task_view t) (p_tasks_of (map p_task_view (drop (i + 1) ts))) here).first
+
+pub callbacks_on : (ts : List FrozenTask) (i : ℕ) (t : FrozenTask) (p : Option Place) (u : Option ℕ) (x : Input) (before after all : List Content) (m : Content) → i < length ts → t ≡ get_or ts i t
+    → place_seen p ≡ place_seen (out-FrozenTask t).place
+    → (callbacks_ok (p_tasks_of (map p_task_view (drop i ts))) ≡ true) × (before ++ messages_in (callbacks (p_tasks_of (map p_task_view (drop i ts))) x u) ≡ all)
+    → m ≡ message u (at_place (place_seen p) (p_task_view t)) x p_stop → after ≡ before ++ m ∷ []
+    → (callbacks_ok (p_tasks_of (map p_task_view (drop (i + 1) ts))) ≡ true) × (after ++ messages_in (callbacks (p_tasks_of (map p_task_view (drop (i + 1) ts))) x u) ≡ all)
+callbacks_on ts i t p u x before after all m lt is same h made pushed =
+    let step = tasks_dropped ts i t lt is in
+    let rest : PTasks = p_tasks_of (map p_task_view (drop (i + 1) ts)) in
+    let here : callbacks_ok (and_p_task (p_task_view t) rest) ≡ true = sym (ap (λ xs. callbacks_ok (p_tasks_of xs)) step) ∙ h.0 in
+    let its : m ≡ message u (p_task_view t) x p_stop = made ∙ ap (λ y. message u y x p_stop) (at_its_place t p same) in (
+      (called_parts (p_task_view t) rest here).others,
+      ap (λ ms. ms ++ messages_in (callbacks rest x u)) (pushed ∙ ap (λ y. before ++ y ∷ []) its)
+          ∙ append_assoc before (message u (p_task_view t) x p_stop ∷ []) (messages_in (callbacks rest x u))
+          ∙ ap (λ xs. before ++ messages_in (callbacks (p_tasks_of xs) x u)) (sym step) ∙ h.1,
+    )
+
+-- ---- the first task of a line
+
+nowhere_by : (u : Option ℕ) (t : PTask) (x : Input) (l : PLine) → is_stop l ≡ false → fits (message u t x l) ≡ true → place_of t ≡ p_nowhere
+nowhere_by u (p_task k call links errbacks place) x l h ok =
+    let t : PTask = begun (p_task k call links errbacks place) x in
+    let p = both (parent_ok (parent_for u x) && true && line_ok true (p_step t l)) (nat_le (line_reach 0 (p_step t l)) 32) ok in
+    let q = both (parent_ok (parent_for u x) && true) (line_ok true (p_step t l)) p.0 in
+    let r = both (task_ok false t) (line_ok true l) (sym (step_is true t l h) ∙ q.1) in
+    no_place place (task_parts false k (given call x) links errbacks place r.0).there
+
+at_nowhere : (t : PTask) → place_of t ≡ p_nowhere → at_place p_nowhere t ≡ t
+at_nowhere t h = ap (λ q. at_place q t) (sym h) ∙ own_place t
+
+-- where others follow it has no place
+pub followed_same : (u : Option ℕ) (t : PTask) (x : Input) (p : PPlace) (l : PLine) → is_stop l ≡ false → fits (message u (last_at p t l) x (placed p l)) ≡ true → at_place p_nowhere t ≡ last_at p t l
+followed_same u t x p l h ok =
+    at_nowhere t (nowhere_by u t x (placed p l) (keeps_on p l h) (sym (ap (λ y. fits (message u y x (placed p l))) (same_at p t l h)) ∙ ok)) ∙ sym (same_at p t l h)
+
+pub followed_fits : (u : Option ℕ) (t : PTask) (x : Input) (p : PPlace) (l rest : PLine) → is_stop l ≡ false → rest ≡ placed p l → fits (message u (last_at p t l) x (placed p l)) ≡ true
+    → fits (message u (at_place p_nowhere t) x rest) ≡ true
+followed_fits u t x p l rest h made ok = ap₂ (λ y r. fits (message u y x r)) (followed_same u t x p l h ok) made ∙ ok
+
+pub followed_is : (u : Option ℕ) (t : PTask) (x : Input) (p : PPlace) (l rest : PLine) → is_stop l ≡ false → rest ≡ placed p l → fits (message u (last_at p t l) x (placed p l)) ≡ true
+    → message u (at_place p_nowhere t) x rest ≡ message u (last_at p t l) x (placed p l)
+followed_is u t x p l rest h made ok = ap₂ (λ y r. message u y x r) (followed_same u t x p l h ok) made
+
+pub tail_follows : (ts : List FrozenTask) (o : Option (Box FrozenEnd Global)) (b : Box FrozenEnd Global) → o ≡ Some b → is_stop (p_steps (map p_task_view ts) (tail_seen o)) ≡ false
+tail_follows ts o b some = ap (λ x. is_stop (p_steps (map p_task_view ts) (tail_seen x))) some ∙ never_stops (map p_task_view ts) (p_end_view b.value) (end_stands b.value)
+
+none_behind : (ts : List FrozenTask) (o : Option (Box FrozenEnd Global)) → o ≡ None → length ts ≡ 0 → p_steps (map p_task_view ts) (tail_seen o) ≡ p_stop
+none_behind [] o none few = ap tail_seen none
+none_behind (t ∷ ts) o none few = absurd cc
+
+-- ---- places of members
+
+pub fits_size : (t : FrozenEnd) (b : FrozenLine) (p : PPlace) (ms : List FrozenLine) → (out-FrozenEnd t).body ≡ Some b → ms ≡ (out-FrozenEnd t).members → stands (p_end_view t) p ≡ true → length ms ≤ 1024
+fits_size t b p ms some same h =
+    let few = few_members (out-FrozenEnd t).group (p_lines_of (map p_line_view (out-FrozenEnd t).members)) (p_line_view b) p (sym (ap (λ l. stands l p) (end_some t b some)) ∙ h) in
+    omega (arith, few, counted (out-FrozenEnd t).members, ap length same)
+
+pub group_made : (t : FrozenEnd) (p : PPlace) → (out-FrozenEnd t).body ≡ None → place_view (roll-Place (record { group = (out-FrozenEnd t).group; chord = None })) ≡ member_place (p_end_view t) p
+group_made t p none = made (out-FrozenEnd t).group ∙ sym (ap (λ l. member_place l p) (end_none t none)) where
+  made : (g : ℕ) → place_view (roll-Place (record { group = g; chord = None })) ≡ p_group g
+  made g = search (rules, block.the_lemmas)
+
+chord_rolled : (g n : ℕ) (b : Arc FrozenLine Global) → place_view (roll-Place (record { group = g; chord = Some (roll-Carried (record { size = n; body = b })) })) ≡ p_chord g n (p_line_view b.value)
+chord_rolled g n b = search (rules, block.the_lemmas)
+
+pub chord_made : (t : FrozenEnd) (b : FrozenLine) (p q : PPlace) (ms : List FrozenLine) (n : ℕ) (body : FrozenLine) (shared : Arc FrozenLine Global)
+    → (out-FrozenEnd t).body ≡ Some b → ms ≡ (out-FrozenEnd t).members → n ≡ length ms → q ≡ p → p_line_view body ≡ placed q (p_line_view b) → shared.value ≡ body
+    → place_view (roll-Place (record { group = (out-FrozenEnd t).group; chord = Some (roll-Carried (record { size = n; body = shared })) })) ≡ member_place (p_end_view t) p
+chord_made t b p q ms n body shared some same sized there copied value =
+    chord_rolled (out-FrozenEnd t).group n shared
+    ∙ ap₂ (p_chord (out-FrozenEnd t).group) (sized ∙ ap length same ∙ sym (counted (out-FrozenEnd t).members)) (ap p_line_view value ∙ copied ∙ ap (λ z. placed z (p_line_view b)) there)
+    ∙ sym (ap (λ l. member_place l p) (end_some t b some))
+
+-- ---- lines
+
+pub line_first : (l : FrozenLine) (all others : List FrozenTask) (t : FrozenTask) → all ≡ (out-FrozenLine l).tasks → all ≡ t ∷ others
+    → p_line_view l ≡ p_step (p_task_view t) (p_steps (map p_task_view others) (tail_seen (out-FrozenLine l).tail))
+line_first l all others t same split = line_parts l ∙ ap (λ xs. p_steps (map p_task_view xs) (tail_seen (out-FrozenLine l).tail)) (sym same ∙ split)
+
+no_steps : (ts : List FrozenTask) (l : PLine) → length ts ≡ 0 → p_steps (map p_task_view ts) l ≡ l
+no_steps [] l few = refl
+no_steps (t ∷ ts) l few = absurd cc
+
+pub line_tail : (l : FrozenLine) (b : Box FrozenEnd Global) (all : List FrozenTask) (e : FrozenEnd) → (out-FrozenLine l).tail ≡ Some b → all ≡ (out-FrozenLine l).tasks → length all ≡ 0 → e ≡ b.value → p_line_view l ≡ p_end_view e
+line_tail l b all e some same few there =
+    line_some l b some ∙ ap (λ xs. p_steps (map p_task_view xs) (p_end_view b.value)) (sym same) ∙ no_steps all (p_end_view b.value) few ∙ ap p_end_view (sym there)
+
+-- ---- ends
+
+pub group_members : (t : FrozenEnd) (p : PPlace) (ms : List FrozenLine) → (out-FrozenEnd t).body ≡ None → ms ≡ (out-FrozenEnd t).members → stands (p_end_view t) p ≡ true
+    → AllStand (member_place (p_end_view t) p) (map p_line_view ms)
+group_members t p ms none same ok =
+    let ls : List PLine = map p_line_view (out-FrozenEnd t).members in
+    let e = end_none t none in
+    let all : AllStand (member_place (p_end_view t) p) ls =
+    subst (λ l. AllStand (member_place l p) ls) (sym e) (group_stands (out-FrozenEnd t).group ls p (sym (ap (λ l. stands l p) e) ∙ ok)) in
+    subst (λ xs. AllStand (member_place (p_end_view t) p) (map p_line_view xs)) (sym same) all
+
+pub header_members : (t : FrozenEnd) (b : FrozenLine) (p : PPlace) (ms others : List FrozenLine) (m : FrozenLine) → (out-FrozenEnd t).body ≡ Some b → ms ≡ (out-FrozenEnd t).members → ms ≡ m ∷ others
+    → stands (p_end_view t) p ≡ true → AllStand (member_place (p_end_view t) p) (map p_line_view ms)
+header_members t b p ms others m some same split ok =
+    let ls : List PLine = map p_line_view (m ∷ others) in
+    let e : p_end_view t ≡ p_chord_end (out-FrozenEnd t).group (p_lines_of ls) (p_line_view b) =
+    end_some t b some ∙ ap (λ xs. p_chord_end (out-FrozenEnd t).group (p_lines_of (map p_line_view xs)) (p_line_view b)) (sym same ∙ split) in
+    let all : AllStand (member_place (p_end_view t) p) ls =
+    subst (λ l. AllStand (member_place l p) ls) (sym e)
+    (header_stands (out-FrozenEnd t).group (p_line_view m) (map p_line_view others) (p_line_view b) p (sym (ap (λ l. stands l p) e) ∙ ok)) in
+    subst (λ xs. AllStand (member_place (p_end_view t) p) (map p_line_view xs)) (sym split) all
+
+pub group_started : (t : FrozenEnd) (x : Input) (p : PPlace) (u : Option ℕ) (ms : List FrozenLine) → (out-FrozenEnd t).body ≡ None → ms ≡ (out-FrozenEnd t).members
+    → all_started (map p_line_view ms) x (member_place (p_end_view t) p) u ≡ started (p_end_view t) x p u
+group_started t x p u ms none same =
+    ap (λ xs. all_started (map p_line_view xs) x (member_place (p_end_view t) p) u) same
+    ∙ ap (λ l. all_started (map p_line_view (out-FrozenEnd t).members) x (member_place l p) u) (end_none t none)
+    ∙ sym (ap (λ l. started l x p u) (end_none t none) ∙ started_group (out-FrozenEnd t).group (map p_line_view (out-FrozenEnd t).members) x p u)
+
+pub header_started : (t : FrozenEnd) (b : FrozenLine) (x : Input) (p : PPlace) (u : Option ℕ) (ms others : List FrozenLine) (m : FrozenLine) → (out-FrozenEnd t).body ≡ Some b → ms ≡ (out-FrozenEnd t).members → ms ≡ m ∷ others
+    → all_started (map p_line_view ms) x (member_place (p_end_view t) p) u ≡ started (p_end_view t) x p u
+header_started t b x p u ms others m some same split =
+    let e : p_end_view t ≡ p_chord_end (out-FrozenEnd t).group (p_lines_of (map p_line_view (m ∷ others))) (p_line_view b) =
+    end_some t b some ∙ ap (λ xs. p_chord_end (out-FrozenEnd t).group (p_lines_of (map p_line_view xs)) (p_line_view b)) (sym same ∙ split) in
+    ap (λ xs. all_started (map p_line_view xs) x (member_place (p_end_view t) p) u) split
+    ∙ ap (λ l. all_started (map p_line_view (m ∷ others)) x (member_place l p) u) e
+    ∙ sym (ap (λ l. started l x p u) e ∙ started_chord (out-FrozenEnd t).group (p_line_view m) (map p_line_view others) (p_line_view b) x p u)
+
+no_lines : (ms : List FrozenLine) → length ms ≡ 0 → p_lines_of (map p_line_view ms) ≡ no_p_lines
+no_lines [] h = refl
+no_lines (m ∷ ms) h = absurd cc
+
+pub empty_is : (t : FrozenEnd) (b : FrozenLine) (ms : List FrozenLine) → (out-FrozenEnd t).body ≡ Some b → ms ≡ (out-FrozenEnd t).members → length ms ≡ 0
+    → p_end_view t ≡ p_chord_end (out-FrozenEnd t).group no_p_lines (p_line_view b)
+empty_is t b ms some same few =
+    end_some t b some ∙ ap (λ xs. p_chord_end (out-FrozenEnd t).group (p_lines_of (map p_line_view xs)) (p_line_view b)) (sym same)
+    ∙ ap (λ ls. p_chord_end (out-FrozenEnd t).group ls (p_line_view b)) (no_lines ms few)
+
+-- ---- members one after the other
+
+pub empty_started : (t : FrozenEnd) (b : FrozenLine) (ms : List FrozenLine) (ns : List ℤ) (x : Input) (p : PPlace) (u : Option ℕ) → (out-FrozenEnd t).body ≡ Some b → ms ≡ (out-FrozenEnd t).members → length ms ≡ 0 → ns ≡ []
+    → started (p_line_view b) (list_input ns) p u ≡ started (p_end_view t) x p u
+empty_started t b ms ns x p u some same few none =
+    ap (λ z. started (p_line_view b) (list_input z) p u) none ∙ sym (ap (λ l. started l x p u) (empty_is t b ms some same few))
+
+standing_by : (t : FrozenEnd) (o : Option FrozenLine) (ms : List FrozenLine) (p : PPlace) → (out-FrozenEnd t).body ≡ o → ms ≡ (out-FrozenEnd t).members → stands (p_end_view t) p ≡ true
+    → AllStand (member_place (p_end_view t) p) (map p_line_view ms)
+standing_by t None ms p none same ok = group_members t p ms none same ok
+standing_by t (Some b) [] p some same ok = tt
+standing_by t (Some b) (m ∷ ms) p some same ok = header_members t b p (m ∷ ms) ms m some same refl ok
+
+pub members_stand : (t : FrozenEnd) (ms : List FrozenLine) (p : PPlace) → ms ≡ (out-FrozenEnd t).members → stands (p_end_view t) p ≡ true → AllStand (member_place (p_end_view t) p) (map p_line_view ms)
+members_stand t ms p same ok = standing_by t (out-FrozenEnd t).body ms p refl same ok

@@ -1,0 +1,310 @@
+-- The effect of the end of a task, and of that of a header's members, by the walks.
+use Rattle.std.proofs.Common.{◌≡◌, ◌∙◌, ℕ, Bool, true, false, List, [], ◌∷◌, ◌++◌, map, Option, Some, None, refl, sym, ap, ap₂, append-nil, rules, All}
+use Rattle.std.specs.List.{list_all}
+use Rattle.std.proofs.lemmas.List.Elements.{All-head, All-tail}
+use Rattle.canvas_task.specs.Numbers.{in_range}
+use Rattle.canvas_task.specs.Apply.{IsInRange}
+use Rattle.canvas_effects.proofs.FitsOn.{all_true, next, next_fits}
+use Rattle.std.specs.Prelude.{ℤ, ◌&&◌, not, nat_le}
+use Rattle.canvas_task.specs.declared.outcome.Fault.{Fault}
+use Rattle.canvas_task.specs.declared.outcome.Fault.TheVariants as fault
+use Rattle.canvas_task.specs.declared.outcome.Outcome.{Outcome}
+use Rattle.canvas_task.specs.declared.outcome.Outcome.TheVariants.{Success, Failure}
+use Rattle.canvas_sig.proofs.ComposedLemmas.{both}
+use Rattle.canvas_semantics.specs.Evaluation as eval
+use Rattle.canvas_semantics.specs.PlacedLine.{PTask, p_task, PPlace, p_nowhere, p_group, p_chord, PLine, p_stop, p_step, p_group_end, p_chord_end, PLines, no_p_lines, and_p_line}
+use Rattle.canvas_rewrite.specs.FrozenView.{p_task_view, p_line_view}
+use Rattle.canvas_rewrite.specs.declared.frozen.Carried as block
+use Rattle.canvas_rewrite.specs.declared.frozen.Carried.{Carried, out-Carried}
+use Rattle.canvas_rewrite.specs.declared.frozen.FrozenTask.{FrozenTask, out-FrozenTask}
+use Rattle.canvas_effects.specs.Carrying.{is_whole, carried_ok}
+use Rattle.canvas_message.specs.Content.{Content, line, number_of, links_of, errbacks_of, place_of, call_of}
+use Rattle.canvas_effects.specs.Effects.{Jobs, Effect, Part, message, callbacks, part_of, enter, enter_all, effect_of, stores_in, messages_in, part_in, after, body_after, into_body}
+use Rattle.canvas_message.specs.View.{carried_view, place_seen}
+use Rattle.canvas_message.specs.Fits.{parent_ok, line_ok, members_ok, line_reach, how_many, fits}
+use Rattle.canvas_effects.specs.Flowing.{Input, number_input, list_input, id_input, run, skips, raise}
+use Rattle.canvas_effects.specs.Ordered.{in_order}
+use Rattle.canvas_message.specs.steps.Parts.{is_stop}
+use Rattle.canvas_effects.specs.Placing.{last_at, placed, end_place, last_task}
+use Rattle.canvas_effects.specs.steps.Walks.{last_of, started, skipped, raised_stores, raised_messages, part_at_end, first_failure, successes}
+use Rattle.canvas_effects.proofs.Copied.{place_there}
+use Rattle.canvas_effects.proofs.Entered.{stores_on, messages_on, part_on, called_stores, called_part, called_messages, place_stores, place_messages, no_part_on, no_store_on, skipped_so, skip_quiet, raised_stores_so, raised_messages_so}
+use Rattle.canvas_effects.proofs.Standing.{as_it_stands, Stepped, first_stepped, rest_whole, place_last, place_never, whole_ok, member_first, member_others}
+use Rattle.canvas_effects.proofs.Walked.{number_seen, last_number}
+
+-- ---- lines that are started store nothing, and return nothing where they have an element
+
+mutual
+  run_stores : (l : PLine) (x : Input) (p : PPlace) (k : ℕ) (u : Option ℕ) → stores_in (enter l (run x) p k u) ≡ []
+  run_stores p_stop x p k u = place_stores p k
+  run_stores (p_step t l) x p k u = refl
+  run_stores (p_group_end g ms) x p k u = run_all_stores ms x (p_group g) u
+  run_stores (p_chord_end g no_p_lines b) x p k u = run_stores b (list_input []) p 0 u
+  run_stores (p_chord_end g (and_p_line m ms) b) x p k u =
+      no_store_on (enter_all (and_p_line m ms) (run x) (p_chord g (how_many (and_p_line m ms)) (placed p b)) u) []
+      (run_all_stores (and_p_line m ms) x (p_chord g (how_many (and_p_line m ms)) (placed p b)) u) refl
+
+  run_all_stores : (ms : PLines) (x : Input) (p : PPlace) (u : Option ℕ) → stores_in (enter_all ms (run x) p u) ≡ []
+  run_all_stores no_p_lines x p u = refl
+  run_all_stores (and_p_line m ms) x p u = no_store_on (enter m (run x) p 0 u) (enter_all ms (run x) p u) (run_stores m x p 0 u) (run_all_stores ms x p u)
+
+mutual
+  run_part : (last : Bool) (l : PLine) (x : Input) (p : PPlace) (k : ℕ) (u : Option ℕ) → line_ok last l ≡ true → part_in (enter l (run x) p k u) ≡ None
+  run_part last p_stop x p k u ok = absurd cc
+  run_part last (p_step t l) x p k u ok = refl
+  run_part last (p_group_end g ms) x p k u ok = run_all_part ms x (p_group g) u (both _ (members_ok ms) ok).1
+  run_part last (p_chord_end g no_p_lines b) x p k u ok = run_part last b (list_input []) p 0 u (both _ (line_ok last b) ok).1
+  run_part last (p_chord_end g (and_p_line m ms) b) x p k u ok =
+      let q = both _ (line_ok last b) ok in
+      no_part_on (enter_all (and_p_line m ms) (run x) (p_chord g (how_many (and_p_line m ms)) (placed p b)) u) []
+      (run_all_part (and_p_line m ms) x (p_chord g (how_many (and_p_line m ms)) (placed p b)) u (both _ (members_ok (and_p_line m ms)) q.0).1) refl
+
+  run_all_part : (ms : PLines) (x : Input) (p : PPlace) (u : Option ℕ) → members_ok ms ≡ true → part_in (enter_all ms (run x) p u) ≡ None
+  run_all_part no_p_lines x p u ok = refl
+  run_all_part (and_p_line m ms) x p u ok =
+      no_part_on (enter m (run x) p 0 u) (enter_all ms (run x) p u) (run_part false m x p 0 u (member_first m ms ok).ok) (run_all_part ms x p u (member_others m ms ok))
+
+-- the task before matters to a part alone
+run_any : (l : PLine) (x : Input) (p : PPlace) (k : ℕ) (u : Option ℕ) → messages_in (enter l (run x) p k u) ≡ started l x p u
+run_any p_stop x p k u = place_messages p k ∙ sym (place_messages p 0)
+run_any (p_step t l) x p k u = refl
+run_any (p_group_end g ms) x p k u = refl
+run_any (p_chord_end g ms b) x p k u = refl
+
+-- ---- parts of lines that are skipped, or in which an exception is raised
+
+mutual
+  skip_part_none : (l : PLine) (f : Fault) (p : PPlace) (k : ℕ) (u : Option ℕ) → ((j : ℕ) → part_of p j ≡ []) → part_in (enter l (skips f) p k u) ≡ None
+  skip_part_none p_stop f p k u h = ap part_in (h k)
+  skip_part_none (p_step t l) f p k u h = skip_part_none l f p (number_of t) u h
+  skip_part_none (p_group_end g ms) f p k u h = skip_all_none ms f (p_group g) u (λ j. refl)
+  skip_part_none (p_chord_end g ms b) f p k u h =
+      no_part_on (enter_all ms (skips f) p_nowhere u) (enter b (skips f) p 0 u) (skip_all_none ms f p_nowhere u (λ j. refl)) (skip_part_none b f p 0 u h)
+
+  skip_all_none : (ms : PLines) (f : Fault) (p : PPlace) (u : Option ℕ) → ((j : ℕ) → part_of p j ≡ []) → part_in (enter_all ms (skips f) p u) ≡ None
+  skip_all_none no_p_lines f p u h = refl
+  skip_all_none (and_p_line m ms) f p u h =
+      no_part_on (enter m (skips f) p 0 u) (enter_all ms (skips f) p u) (skip_part_none m f p 0 u h) (skip_all_none ms f p u h)
+
+skip_part : (l : PLine) (f : Fault) (k : ℕ) (u : Option ℕ) → part_in (enter l (skips f) (end_place l) k u) ≡ part_in (part_of (end_place l) (last_task k l))
+skip_part p_stop f k u = refl
+skip_part (p_step t p_stop) f k u = refl
+skip_part (p_step t (p_step v l)) f k u = skip_part (p_step v l) f (number_of t) u
+skip_part (p_step t (p_group_end g ms)) f k u = skip_part (p_group_end g ms) f (number_of t) u
+skip_part (p_step t (p_chord_end g ms b)) f k u = skip_part (p_chord_end g ms b) f (number_of t) u
+skip_part (p_group_end g ms) f k u = skip_all_none ms f (p_group g) u (λ j. refl)
+skip_part (p_chord_end g ms b) f k u =
+    part_on (enter_all ms (skips f) p_nowhere u) (enter b (skips f) (end_place b) 0 u) (skip_all_none ms f p_nowhere u (λ j. refl)) ∙ skip_part b f 0 u
+
+mutual
+  raise_part_none : (l : PLine) (f : Fault) (p : PPlace) (k : ℕ) (u : Option ℕ) → ((j : ℕ) → part_of p j ≡ []) → part_in (enter l (raise f) p k u) ≡ None
+  raise_part_none p_stop f p k u h = ap part_in (h k)
+  raise_part_none (p_step t l) f p k u h =
+      no_part_on (callbacks (errbacks_of t) (id_input (number_of t)) u) (enter l (skips f) p (number_of t) u) (called_part (errbacks_of t) (id_input (number_of t)) u) (skip_part_none l f p (number_of t) u h)
+  raise_part_none (p_group_end g ms) f p k u h = raise_all_none ms f (p_group g) u (λ j. refl)
+  raise_part_none (p_chord_end g ms b) f p k u h =
+      no_part_on (enter_all ms (raise f) p_nowhere u) (enter b (raise _) p 0 u) (raise_all_none ms f p_nowhere u (λ j. refl)) (raise_part_none b _ p 0 u h)
+
+  raise_all_none : (ms : PLines) (f : Fault) (p : PPlace) (u : Option ℕ) → ((j : ℕ) → part_of p j ≡ []) → part_in (enter_all ms (raise f) p u) ≡ None
+  raise_all_none no_p_lines f p u h = refl
+  raise_all_none (and_p_line m ms) f p u h =
+      no_part_on (enter m (raise f) p 0 u) (enter_all ms (raise f) p u) (raise_part_none m f p 0 u h) (raise_all_none ms f p u h)
+
+raise_step : (t : PTask) (l : PLine) (f : Fault) (k : ℕ) (u : Option ℕ)
+    → part_in (callbacks (errbacks_of t) (id_input (number_of t)) u ++ enter l (skips f) (end_place l) (number_of t) u) ≡ part_in (part_of (end_place l) (last_task (number_of t) l))
+raise_step t l f k u =
+    part_on (callbacks (errbacks_of t) (id_input (number_of t)) u) (enter l (skips f) (end_place l) (number_of t) u) (called_part (errbacks_of t) (id_input (number_of t)) u) ∙ skip_part l f (number_of t) u
+
+raise_part : (l : PLine) (f : Fault) (k : ℕ) (u : Option ℕ) → part_in (enter l (raise f) (end_place l) k u) ≡ part_in (part_of (end_place l) (last_task k l))
+raise_part p_stop f k u = refl
+raise_part (p_step t p_stop) f k u =
+    part_on (callbacks (errbacks_of t) (id_input (number_of t)) u) (part_of (place_of t) (number_of t)) (called_part (errbacks_of t) (id_input (number_of t)) u)
+raise_part (p_step t (p_step v l)) f k u = raise_step t (p_step v l) f k u
+raise_part (p_step t (p_group_end g ms)) f k u = raise_step t (p_group_end g ms) f k u
+raise_part (p_step t (p_chord_end g ms b)) f k u = raise_step t (p_chord_end g ms b) f k u
+raise_part (p_group_end g ms) f k u = raise_all_none ms f (p_group g) u (λ j. refl)
+raise_part (p_chord_end g ms b) f k u =
+    part_on (enter_all ms (raise f) p_nowhere u) (enter b (raise _) (end_place b) 0 u) (raise_all_none ms f p_nowhere u (λ j. refl)) ∙ raise_part b _ 0 u
+
+-- ---- effects by their parts
+
+pub effect_is : (js : Jobs) (ss : List (ℕ × Outcome)) (ms : List Content) (p : Option Part) → ss ≡ stores_in js → ms ≡ messages_in js → p ≡ part_in js
+    → record { stores = in_order (λ e. e.0) ss; messages = in_order (λ m. number_of m.own) ms; part = p } ≡ effect_of js
+effect_is js ss ms p hs hm hp =
+    let Goal : List (ℕ × Outcome) → List Content → Option Part → Effect =
+    λ a b c. record { stores = in_order (λ e. e.0) a; messages = in_order (λ m. number_of m.own) b; part = c } in
+    ap (λ a. Goal a ms p) hs ∙ ap (λ b. Goal (stores_in js) b p) hm ∙ ap (Goal (stores_in js) (messages_in js)) hp
+
+-- a body
+pub body_started : (l : PLine) (x : Input) (ss : List (ℕ × Outcome)) (old ms : List Content) (p : Option Part) → is_whole l ≡ true → ss ≡ [] → old ≡ [] → ms ≡ old ++ started l x (end_place l) None → p ≡ None
+    → record { stores = in_order (λ e. e.0) ss; messages = in_order (λ m. number_of m.own) ms; part = p } ≡ effect_of (enter l (run x) (end_place l) 0 None)
+body_started l x ss old ms p ok hs ho hm hp =
+    effect_is (enter l (run x) (end_place l) 0 None) ss ms p (hs ∙ sym (run_stores l x (end_place l) 0 None)) (hm ∙ ap (λ xs. xs ++ started l x (end_place l) None) ho)
+    (hp ∙ sym (run_part true l x (end_place l) 0 None (whole_ok l ok)))
+
+pub body_raised : (l : PLine) (f : Fault) (olds ss : List (ℕ × Outcome)) (old ms : List Content) (p : Option Part) → olds ≡ [] → ss ≡ olds ++ raised_stores f l → old ≡ [] → ms ≡ old ++ raised_messages f l → p ≡ part_at_end l
+    → record { stores = in_order (λ e. e.0) ss; messages = in_order (λ m. number_of m.own) ms; part = p } ≡ effect_of (enter l (raise f) (end_place l) 0 None)
+body_raised l f olds ss old ms p hos hs ho hm hp =
+    effect_is (enter l (raise f) (end_place l) 0 None) ss ms p
+    (hs ∙ ap (λ xs. xs ++ raised_stores f l) hos ∙ sym (raised_stores_so l f (end_place l) 0 None))
+    (hm ∙ ap (λ xs. xs ++ raised_messages f l) ho ∙ sym (raised_messages_so l f (end_place l) 0 None))
+    (hp ∙ sym (raise_part l f 0 None))
+
+-- ---- the end of a message's task
+
+pub fits_whole : (c : Content) → fits c ≡ true → is_whole (line c) ≡ true
+fits_whole c ok =
+    let p = both (parent_ok c.parent && not (call_of c.own).immutable && line_ok true (line c)) (nat_le (line_reach 0 (line c)) 32) ok in
+    let q = both (parent_ok c.parent && not (call_of c.own).immutable) (line_ok true (line c)) p.0 in
+    ap₂ (λ a b. a && b) q.1 p.1
+
+pub own_stepped : (c : Content) → fits c ≡ true → Stepped c.own
+own_stepped c ok = first_stepped c.own c.rest (fits_whole c ok)
+
+pub rest_stands : (c : Content) (l : PLine) → fits c ≡ true → c.rest ≡ l → is_stop l ≡ false → is_whole l ≡ true
+rest_stands c l ok same h = rest_whole c.own l h (ap (λ r. is_whole (p_step c.own r)) (sym same) ∙ fits_whole c ok)
+
+end_behind : (t : PTask) (l : PLine) → is_stop l ≡ false → end_place (p_step t l) ≡ end_place l
+end_behind t p_stop h = absurd cc
+end_behind t (p_step u l) h = refl
+end_behind t (p_group_end g ms) h = refl
+end_behind t (p_chord_end g ms b) h = refl
+
+last_behind : (k : ℕ) (l : PLine) → is_whole l ≡ true → last_of l ≡ last_of l → part_in (part_of (end_place l) (last_task k l)) ≡ part_at_end l
+last_behind k p_stop ok h = absurd cc
+last_behind k (p_step t l) ok h = refl
+last_behind k (p_group_end g ms) ok h = refl
+last_behind k (p_chord_end g ms b) ok h = refl
+
+abbrev Done : Content → List (ℕ × Outcome) → List Content → Option Part → Outcome → Type 0
+Done c ss ms p o = record { stores = in_order (λ e. e.0) ss; messages = in_order (λ m. number_of m.own) ms; part = p } ≡ after c o
+
+-- on a success, where something follows
+pub succeeded : (c : Content) (l : PLine) (n : ℤ) (ss : List (ℕ × Outcome)) (old one ms : List Content) (p : Option Part) → fits c ≡ true → c.rest ≡ l → is_stop l ≡ false
+    → ss ≡ [] → old ≡ [] → one ≡ old ++ messages_in (callbacks (links_of c.own) (number_input n) (Some (number_of c.own)))
+    → ms ≡ one ++ started l (number_input n) (end_place l) (Some (number_of c.own)) → p ≡ None → Done c ss ms p (Success n)
+succeeded c l n ss old one ms p ok same h hs ho h1 hm hp =
+    let k : ℕ = number_of c.own in
+    let first : Jobs = callbacks (links_of c.own) (number_input n) (Some k) in
+    let more : Jobs = enter l (run (number_input n)) (end_place l) k (Some k) in
+    let whole = rest_stands c l ok same h in
+    let js : after c (Success n) ≡ effect_of (first ++ more) =
+    ap (λ r. effect_of (first ++ enter r (run (number_input n)) (end_place (p_step c.own r)) k (Some k))) same ∙ ap (λ q. effect_of (first ++ enter l (run (number_input n)) q k (Some k))) (end_behind c.own l h) in
+    effect_is (first ++ more) ss ms p (hs ∙ sym (no_store_on first more (called_stores (links_of c.own) (number_input n) (Some k)) (run_stores l (number_input n) (end_place l) k (Some k))))
+    (hm ∙ ap₂ (λ a b. a ++ b) (h1 ∙ ap (λ xs. xs ++ messages_in first) ho) (sym (run_any l (number_input n) (end_place l) k (Some k))) ∙ sym (messages_on first more))
+    (hp ∙ sym (no_part_on first more (called_part (links_of c.own) (number_input n) (Some k)) (run_part true l (number_input n) (end_place l) k (Some k) (whole_ok l whole))))
+    ∙ sym js
+
+-- where that is a task, it takes over what it carries
+next_begun : (u : ℕ) (t : PTask) (l : PLine) (n : ℤ) → message (Some u) t (number_input n) l ∷ [] ≡ started (p_step t l) (number_input n) (end_place (p_step t l)) (Some u)
+next_begun u t l n =
+    let there : p_step (last_at (end_place (p_step t l)) t l) (placed (end_place (p_step t l)) l) ≡ p_step t l = as_it_stands (p_step t l) in
+    let own : last_at (end_place (p_step t l)) t l ≡ t = cc in
+    let rest : placed (end_place (p_step t l)) l ≡ l = cc in
+    sym (ap₂ (λ v r. message (Some u) v (number_input n) r ∷ []) own rest)
+
+pub succeeded_next : (c : Content) (t : PTask) (l : PLine) (n : ℤ) (ss : List (ℕ × Outcome)) (old one ms : List Content) (p : Option Part) → fits c ≡ true → c.rest ≡ p_step t l
+    → ss ≡ [] → old ≡ [] → one ≡ old ++ messages_in (callbacks (links_of c.own) (number_input n) (Some (number_of c.own)))
+    → ms ≡ one ++ message (Some (number_of c.own)) t (number_input n) l ∷ [] → p ≡ None → Done c ss ms p (Success n)
+succeeded_next c t l n ss old one ms p ok same hs ho h1 hm hp =
+    succeeded c (p_step t l) n ss old one ms p ok same refl hs ho h1 (hm ∙ ap (λ xs. one ++ xs) (next_begun (number_of c.own) t l n)) hp
+
+its_call : (k : ℕ) (t : PTask) (l : PLine) (n : ℤ) (c : Content) → k ≡ number_of c.own → message (Some k) t (number_input n) l ≡ next c t l n
+its_call k (p_task j call links errbacks place) l n c same = ap (λ u. message (Some u) (p_task j call links errbacks place) (number_input n) l) same
+
+pub next_stands : (c : Content) (k : ℕ) (t : PTask) (l : PLine) (n : ℤ) → fits c ≡ true → c.rest ≡ p_step t l → k ≡ number_of c.own → in_range n ≡ true → fits (message (Some k) t (number_input n) l) ≡ true
+next_stands c k t l n ok same its h = ap fits (its_call k t l n c its) ∙ next_fits c t l n h same ok
+
+-- and where nothing does
+pub succeeded_last : (c : Content) (n : ℤ) (ss : List (ℕ × Outcome)) (old ms : List Content) (p : Option Part) → c.rest ≡ p_stop
+    → ss ≡ [] → old ≡ [] → ms ≡ old ++ messages_in (callbacks (links_of c.own) (number_input n) (Some (number_of c.own))) → p ≡ part_in (part_of (place_of c.own) (number_of c.own)) → Done c ss ms p (Success n)
+succeeded_last c n ss old ms p same hs ho hm hp =
+    let k : ℕ = number_of c.own in
+    let first : Jobs = callbacks (links_of c.own) (number_input n) (Some k) in
+    let more : Jobs = part_of (place_of c.own) k in
+    let js : after c (Success n) ≡ effect_of (first ++ more) = ap (λ r. effect_of (first ++ enter r (run (number_input n)) (end_place (p_step c.own r)) k (Some k))) same in
+    effect_is (first ++ more) ss ms p (hs ∙ sym (no_store_on first more (called_stores (links_of c.own) (number_input n) (Some k)) (place_stores (place_of c.own) k)))
+    (hm ∙ ap (λ xs. xs ++ messages_in first) ho ∙ sym (messages_on first more ∙ ap (λ xs. messages_in first ++ xs) (place_messages (place_of c.own) k) ∙ append-nil (messages_in first)))
+    (hp ∙ sym (part_on first more (called_part (links_of c.own) (number_input n) (Some k))))
+    ∙ sym js
+
+-- on a failure
+pub failed : (c : Content) (l : PLine) (f : Fault) (olds ss : List (ℕ × Outcome)) (old ms : List Content) (p : Option Part) → fits c ≡ true → c.rest ≡ l → is_stop l ≡ false
+    → olds ≡ [] → ss ≡ olds ++ skipped f l → old ≡ [] → ms ≡ old ++ messages_in (callbacks (errbacks_of c.own) (id_input (number_of c.own)) None) → p ≡ part_at_end l → Done c ss ms p (Failure f)
+failed c l f olds ss old ms p ok same h hos hs ho hm hp =
+    let k : ℕ = number_of c.own in
+    let first : Jobs = callbacks (errbacks_of c.own) (id_input k) (Some k) in
+    let more : Jobs = enter l (skips f) (end_place l) k (Some k) in
+    let js : after c (Failure f) ≡ effect_of (first ++ more) =
+    ap (λ r. effect_of (first ++ enter r (skips f) (end_place (p_step c.own r)) k (Some k))) same ∙ ap (λ q. effect_of (first ++ enter l (skips f) q k (Some k))) (end_behind c.own l h) in
+    effect_is (first ++ more) ss ms p
+    (hs ∙ ap (λ xs. xs ++ skipped f l) hos ∙ sym (stores_on first more ∙ ap₂ (λ a b. a ++ b) (called_stores (errbacks_of c.own) (id_input k) (Some k)) (skipped_so l f (end_place l) k (Some k))))
+    (hm ∙ ap (λ xs. xs ++ messages_in (callbacks (errbacks_of c.own) (id_input k) None)) ho ∙ called_messages (errbacks_of c.own) k None (Some k)
+    ∙ sym (messages_on first more ∙ ap (λ xs. messages_in first ++ xs) (skip_quiet l f (end_place l) k (Some k)) ∙ append-nil (messages_in first)))
+    (hp ∙ sym (part_on first more (called_part (errbacks_of c.own) (id_input k) (Some k)) ∙ skip_part l f k (Some k) ∙ last_behind k l (rest_stands c l ok same h) refl))
+    ∙ sym js
+
+pub failed_last : (c : Content) (f : Fault) (ss : List (ℕ × Outcome)) (old ms : List Content) (p : Option Part) → c.rest ≡ p_stop
+    → ss ≡ [] → old ≡ [] → ms ≡ old ++ messages_in (callbacks (errbacks_of c.own) (id_input (number_of c.own)) None) → p ≡ part_in (part_of (place_of c.own) (number_of c.own)) → Done c ss ms p (Failure f)
+failed_last c f ss old ms p same hs ho hm hp =
+    let k : ℕ = number_of c.own in
+    let first : Jobs = callbacks (errbacks_of c.own) (id_input k) (Some k) in
+    let more : Jobs = part_of (place_of c.own) k in
+    let js : after c (Failure f) ≡ effect_of (first ++ more) = ap (λ r. effect_of (first ++ enter r (skips f) (end_place (p_step c.own r)) k (Some k))) same in
+    effect_is (first ++ more) ss ms p (hs ∙ sym (no_store_on first more (called_stores (errbacks_of c.own) (id_input k) (Some k)) (place_stores (place_of c.own) k)))
+    (hm ∙ ap (λ xs. xs ++ messages_in (callbacks (errbacks_of c.own) (id_input k) None)) ho ∙ called_messages (errbacks_of c.own) k None (Some k)
+    ∙ sym (messages_on first more ∙ ap (λ xs. messages_in first ++ xs) (place_messages (place_of c.own) k) ∙ append-nil (messages_in first)))
+    (hp ∙ sym (part_on first more (called_part (errbacks_of c.own) (id_input k) (Some k))))
+    ∙ sym js
+
+-- ---- the end of a line
+
+pub last_there_place : (l : PLine) (t : FrozenTask) → Some (p_task_view t) ≡ last_of l → place_seen (out-FrozenTask t).place ≡ end_place l
+last_there_place l t h = sym (place_there t) ∙ sym (place_last l (p_task_view t) (sym h))
+
+pub last_there_part : (l : PLine) (t : FrozenTask) → Some (p_task_view t) ≡ last_of l → part_in (part_of (place_seen (out-FrozenTask t).place) (out-FrozenTask t).no) ≡ part_at_end l
+last_there_part l t h = ap₂ (λ q n. part_in (part_of q n)) (last_there_place l t h) (sym (number_seen t) ∙ sym (last_number 0 l (p_task_view t) (sym h)))
+
+pub no_end_part : (l : PLine) → None ≡ last_of l → None ≡ part_at_end l
+no_end_part l h = sym (ap (λ q. part_in (part_of q (last_task 0 l))) (place_never l (sym h)))
+
+-- ---- headers
+
+gathered_failed : (es : List (ℕ × Outcome)) (f : Fault) → first_failure es ≡ Some f → eval.gathered (map (λ e. (e.0, Some e.1)) es) ≡ eval.raised f
+gathered_failed [] f h = absurd cc
+gathered_failed ((k, Success n) ∷ es) f h = ap (eval.in_front n) (gathered_failed es f h)
+gathered_failed ((k, Failure g) ∷ es) f h = let same : fault.Chord k (eval.why_of g) ≡ f = cc in ap eval.raised same
+
+gathered_all : (es : List (ℕ × Outcome)) → first_failure es ≡ None → eval.gathered (map (λ e. (e.0, Some e.1)) es) ≡ eval.list (successes es)
+gathered_all [] h = refl
+gathered_all ((k, Success n) ∷ es) h = ap (eval.in_front n) (gathered_all es h)
+gathered_all ((k, Failure g) ∷ es) h = absurd cc
+
+pub carried_seen : (c : Carried) → carried_view c ≡ record { size = (out-Carried c).size; body = p_line_view (out-Carried c).body.value }
+carried_seen c = search (rules, block.the_lemmas)
+
+pub body_stands : (c : Carried) → carried_ok (carried_view c) ≡ true → is_whole (p_line_view (out-Carried c).body.value) ≡ true
+body_stands c ok = grind (rules, carried_seen c)
+
+pub after_failed : (c : Carried) (es : List (ℕ × Outcome)) (f : Fault) → Some f ≡ first_failure es
+    → effect_of (enter (p_line_view (out-Carried c).body.value) (raise f) (end_place (p_line_view (out-Carried c).body.value)) 0 None) ≡ body_after (carried_view c) es
+after_failed c es f h =
+    let l : PLine = p_line_view (out-Carried c).body.value in
+    ap (λ x. effect_of (enter l x (end_place l) 0 None)) (sym (ap into_body (gathered_failed es f (sym h)))) ∙ sym (ap (λ z. body_after z es) (carried_seen c))
+
+pub after_all : (c : Carried) (es : List (ℕ × Outcome)) (ns : List ℤ) → None ≡ first_failure es → ns ≡ successes es
+    → effect_of (enter (p_line_view (out-Carried c).body.value) (run (list_input ns)) (end_place (p_line_view (out-Carried c).body.value)) 0 None) ≡ body_after (carried_view c) es
+after_all c es ns h hn =
+    let l : PLine = p_line_view (out-Carried c).body.value in
+    ap (λ x. effect_of (enter l (run (list_input x)) (end_place l) 0 None)) hn
+    ∙ ap (λ x. effect_of (enter l x (end_place l) 0 None)) (sym (ap into_body (gathered_all es (sym h)))) ∙ sym (ap (λ z. body_after z es) (carried_seen c))
+
+-- the numbers of outcomes in range are in range
+successes_fit : (es : List (ℕ × Outcome)) → All (λ e. IsInRange e.1) es → list_all in_range (successes es) ≡ true
+successes_fit [] h = refl
+successes_fit ((k, Success n) ∷ es) h =
+    all_true (in_range n) (list_all in_range (successes es)) (All-head (λ e. IsInRange e.1) (k, Success n) es h) (successes_fit es (All-tail (λ e. IsInRange e.1) (k, Success n) es h))
+successes_fit ((k, Failure f) ∷ es) h = successes_fit es (All-tail (λ e. IsInRange e.1) (k, Failure f) es h)
+
+pub numbers_fit : (es : List (ℕ × Outcome)) (ns : List ℤ) → ns ≡ successes es → All (λ e. IsInRange e.1) es → list_all in_range ns ≡ true
+numbers_fit es ns same h = ap (list_all in_range) same ∙ successes_fit es h

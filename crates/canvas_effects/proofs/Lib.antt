@@ -1,0 +1,12 @@
+pub mod FitsOn
+pub mod EffectRows
+pub mod NothingMoves
+pub mod Copied
+pub mod Sorts
+pub mod Entered
+pub mod Walked
+pub mod Standing
+pub mod Begun
+pub mod Raised
+pub mod Ended
+pub mod PlanStands

@@ -1,0 +1,9 @@
+pub mod Job
+pub mod Flowing
+pub mod Placing
+pub mod Ordered
+pub mod Effects
+pub mod Events
+pub mod Carrying
+pub mod Todos
+pub mod steps

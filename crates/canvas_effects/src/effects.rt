@@ -1,0 +1,227 @@
+//! What the start of a plan, the end of a task and the end of a header's members make a worker do.
+
+ghost use Rattle.std.specs.Prelude.{◌≡◌, ◌++◌, true, None, IfOk, OnOk, All};
+ghost use Rattle.std.specs.Option.{option_map};
+ghost use Rattle.canvas_task.specs.Numbers.{in_range};
+ghost use Rattle.canvas_task.specs.Apply.{IsInRange};
+ghost use Rattle.canvas_task.specs.declared.outcome.Outcome.TheVariants.{Success, Failure};
+ghost use Rattle.canvas_rewrite.specs.FrozenView.{p_line_view};
+ghost use Rattle.canvas_effects.specs.Carrying.{is_whole, place_stands, carried_ok, input_ok};
+ghost use Rattle.canvas_message.specs.Content.{number_of};
+ghost use Rattle.canvas_effects.specs.Effects.{first_messages, after, body_after, enter, effect_of, stores_in, messages_in, part_in, part_of};
+ghost use Rattle.canvas_message.specs.View.{carried_view, place_seen};
+ghost use Rattle.canvas_message.specs.Fits.{parent_ok};
+ghost use Rattle.canvas_effects.specs.Flowing.{run, raise, list_input};
+ghost use Rattle.canvas_effects.specs.Ordered.{in_order};
+ghost use Rattle.canvas_effects.specs.Placing.{end_place};
+ghost use Rattle.canvas_effects.specs.Todos.{part_view, todo_view};
+ghost use Rattle.canvas_effects.specs.steps.Walks.{input_seen, part_at_end, started};
+
+mod header;
+mod lasts;
+mod moved;
+mod order;
+mod raised;
+mod skipped;
+mod started;
+
+use crate::input::Input;
+use crate::{PartCall, Todo};
+use canvas_message::{Message, following, share_carried};
+use canvas_rewrite::{Carried, FrozenLine, Place, Plan};
+use canvas_task::{Fault, ListOf, Memory, Outcome, TaskNo};
+use header::{failure_of, numbers_of};
+use lasts::last_task;
+pub use moved::into_todo;
+use order::{sort_messages, sort_stores};
+use raised::raise_line;
+use skipped::skip_line;
+use started::{call_back, start_line};
+use std::alloc::{AllocError, Global};
+
+/// The messages that a run begins with.
+pub fn first_messages(alloc: Global, plan: &Plan) -> Result<Vec<Message>, Memory>
+    ensures { IfOk result (λ messages. messages.items ≡ first_messages plan.now) }
+{
+    let mut messages = Vec::new(alloc);
+    start_whole(alloc, plan.line(), &Input::Nothing, &None, &mut messages)?;
+    sort_messages(&mut messages)?;
+    Ok(messages)
+}
+
+/// What follows the end of a message's task.
+pub fn after(alloc: Global, message: &Message, outcome: &Outcome) -> Result<Todo, Memory>
+    requires { IsInRange outcome.now }
+    ensures { IfOk result (λ todo. todo_view todo ≡ after message.now outcome.now) }
+{
+    match outcome {
+        Outcome::Success(number) => Ok(after_success(alloc, message, *number)?),
+        Outcome::Failure(fault) => Ok(after_failure(alloc, message, fault)?),
+    }
+}
+
+/// What follows the end of a header's members on what they carry, by the outcomes of their last
+/// tasks in order.
+pub fn body_after(
+    alloc: Global,
+    carried: &Carried,
+    outcomes: &[(TaskNo, Outcome)],
+) -> Result<Todo, Memory>
+    requires carried { carried_ok (carried_view carried.now) ≡ true }
+    requires outcomes { All (λ e. IsInRange e.1) outcomes.now }
+    ensures { IfOk result
+        (λ todo. todo_view todo ≡ body_after (carried_view carried.now) outcomes.now) }
+{
+    match failure_of(outcomes) {
+        Some(fault) => Ok(raise_body(alloc, &carried.body, &fault)?),
+        None => {
+            let input = Input::Numbers(numbers_of(alloc, outcomes)?);
+            Ok(start_body(alloc, &carried.body, &input)?)
+        }
+    }
+}
+
+fn after_success(alloc: Global, message: &Message, number: i64) -> Result<Todo, AllocError>
+    requires { in_range number ≡ true }
+    ensures { IfOk result (λ todo. todo_view todo ≡ after message.now (Success number)) }
+{
+    let input = Input::Number(number);
+    let parent = Some(message.task);
+    let mut messages = Vec::new(alloc);
+    call_back(alloc, message.links.get(), &input, &parent, &mut messages)?;
+    match following(&message.rest) {
+        Some(rest) => {
+            start_whole(alloc, rest, &input, &parent, &mut messages)?;
+            todo_of(Vec::new(alloc), messages, None)
+        }
+        None => {
+            let part = part_of(&message.place, message.task)?;
+            todo_of(Vec::new(alloc), messages, part)
+        }
+    }
+}
+
+fn after_failure(alloc: Global, message: &Message, fault: &Fault) -> Result<Todo, AllocError>
+    ensures { IfOk result (λ todo. todo_view todo ≡ after message.now (Failure fault.now)) }
+{
+    let input = Input::Ident(message.task);
+    let mut stores = Vec::new(alloc);
+    let mut messages = Vec::new(alloc);
+    call_back(alloc, message.errbacks.get(), &input, &None, &mut messages)?;
+    match following(&message.rest) {
+        Some(rest) => {
+            skip_line(rest, fault, &mut stores)?;
+            let part = last_part(rest)?;
+            todo_of(stores, messages, part)
+        }
+        None => {
+            let part = part_of(&message.place, message.task)?;
+            todo_of(stores, messages, part)
+        }
+    }
+}
+
+fn start_body(alloc: Global, body: &FrozenLine, input: &Input) -> Result<Todo, AllocError>
+    requires line { is_whole (p_line_view body.now) ≡ true }
+    requires input { input_ok (input_seen input.now) ≡ true }
+    ensures { IfOk result (λ todo. todo_view todo
+        ≡ effect_of (enter (p_line_view body.now) (run (input_seen input.now))
+        (end_place (p_line_view body.now)) 0 None)) }
+{
+    let mut messages = Vec::new(alloc);
+    start_whole(alloc, body, input, &None, &mut messages)?;
+    todo_of(Vec::new(alloc), messages, None)
+}
+
+fn raise_body(alloc: Global, body: &FrozenLine, fault: &Fault) -> Result<Todo, AllocError>
+    requires { is_whole (p_line_view body.now) ≡ true }
+    ensures { IfOk result (λ todo. todo_view todo
+        ≡ effect_of (enter (p_line_view body.now) (raise fault.now)
+        (end_place (p_line_view body.now)) 0 None)) }
+{
+    let mut stores = Vec::new(alloc);
+    let mut messages = Vec::new(alloc);
+    raise_line(alloc, body, fault, &mut stores, &mut messages)?;
+    let part = last_part(body)?;
+    todo_of(stores, messages, part)
+}
+
+/// The messages that a line begins with whose end goes where its last task says, put behind the
+/// others.
+fn start_whole(
+    alloc: Global,
+    line: &FrozenLine,
+    input: &Input,
+    parent: &Option<TaskNo>,
+    messages: &mut Vec<Message>,
+) -> Result<(), AllocError>
+    requires line { is_whole (p_line_view line.now) ≡ true }
+    requires input { input_ok (input_seen input.now) ≡ true }
+    requires parent { parent_ok parent.now ≡ true }
+    ensures { OnOk result (messages.new.items
+        ≡ messages.old.items
+        ++ started (p_line_view line.now) (input_seen input.now)
+        (end_place (p_line_view line.now)) parent.now) }
+{
+    match last_task(line) {
+        Some(last) => start_line(alloc, line, &last.place, input, parent, messages),
+        None => start_line(alloc, line, &None, input, parent, messages),
+    }
+}
+
+/// The part that the end of a line returns.
+fn last_part(line: &FrozenLine) -> Result<Option<PartCall>, AllocError>
+    requires { is_whole (p_line_view line.now) ≡ true }
+    ensures { IfOk result (λ part. option_map part_view part ≡ part_at_end (p_line_view line.now)) }
+{
+    match last_task(line) {
+        Some(last) => part_of(&last.place, last.no),
+        None => Ok(None),
+    }
+}
+
+/// The part that the task of a place returns.
+fn part_of(place: &Option<Place>, task: TaskNo) -> Result<Option<PartCall>, AllocError>
+    requires { place_stands (place_seen place.now) ≡ true }
+    ensures { IfOk result
+        (λ part. option_map part_view part ≡ part_in (part_of (place_seen place.now) task)) }
+{
+    match place {
+        Some(place) => match &place.chord {
+            Some(carried) => {
+                let chord = share_carried(carried)?;
+                Ok(Some(PartCall {
+                    group: place.group,
+                    task,
+                    chord,
+                }))
+            }
+            None => Ok(None),
+        },
+        None => Ok(None),
+    }
+}
+
+/// What is to be done, in the order of the tasks' numbers.
+fn todo_of(
+    stores: Vec<(TaskNo, Outcome)>,
+    messages: Vec<Message>,
+    part: Option<PartCall>,
+) -> Result<Todo, AllocError>
+    ensures { IfOk result (λ todo. todo_view todo
+        ≡ record {
+          stores = in_order (λ e. e.0) stores.items;
+          messages = in_order (λ m. number_of m.own) messages.items;
+          part = option_map part_view part;
+        }) }
+{
+    let mut stores = stores;
+    sort_stores(&mut stores)?;
+    let mut messages = messages;
+    sort_messages(&mut messages)?;
+    Ok(Todo {
+        stores: ListOf::of(stores),
+        messages: ListOf::of(messages),
+        part,
+    })
+}

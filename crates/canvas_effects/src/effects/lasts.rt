@@ -1,0 +1,32 @@
+//! The last tasks of lines.
+
+ghost use Rattle.std.specs.Prelude.{◌≡◌};
+ghost use Rattle.std.specs.Option.{option_map};
+ghost use Rattle.canvas_rewrite.specs.FrozenView.{p_task_view, p_line_view, p_end_view};
+ghost use Rattle.canvas_effects.specs.steps.Walks.{last_of};
+
+use canvas_rewrite::{FrozenEnd, FrozenLine, FrozenTask};
+
+/// The last task of a line; none of one that ends in a group.
+#[cycle(last)]
+pub(super) fn last_task(line: &FrozenLine) -> Option<&FrozenTask>
+    ensures { option_map (λ t. p_task_view t.now) result ≡ last_of (p_line_view line.now) }
+{
+    match &line.tail {
+        Some(end) => last_of_end(end),
+        None => match line.tasks.get().split_last() {
+            Some((last, _others)) => Some(last),
+            None => None,
+        },
+    }
+}
+
+#[cycle(last)]
+fn last_of_end(end: &FrozenEnd) -> Option<&FrozenTask>
+    ensures { option_map (λ t. p_task_view t.now) result ≡ last_of (p_end_view end.now) }
+{
+    match &end.body {
+        Some(body) => last_task(body),
+        None => None,
+    }
+}

@@ -1,0 +1,222 @@
+//! What follows a message that is given up: the next task of its line, or the part that its end
+//! returns, takes over what it carries.
+
+ghost use Rattle.std.specs.Prelude.{◌≡◌, true, false, IfOk, MatchBool, MatchOption};
+ghost use Rattle.std.specs.Option.{option_map};
+ghost use Rattle.canvas_task.specs.Numbers.{in_range};
+ghost use Rattle.canvas_task.specs.Apply.{IsInRange};
+ghost use Rattle.canvas_task.specs.declared.outcome.Outcome.TheVariants.{Success, Failure};
+ghost use Rattle.canvas_rewrite.specs.FrozenView.{p_line_view, p_task_view};
+ghost use Rattle.canvas_semantics.specs.PlacedLine.{p_step, p_stop};
+ghost use Rattle.canvas_effects.specs.Carrying.{place_stands};
+ghost use Rattle.canvas_effects.specs.Effects.{after, message, part_in, part_of};
+ghost use Rattle.canvas_message.specs.Fits.{fits};
+ghost use Rattle.canvas_effects.specs.Todos.{part_view, todo_view};
+ghost use Rattle.canvas_message.specs.View.{place_seen, rest_seen};
+ghost use Rattle.canvas_effects.specs.steps.Walks.{input_seen, begins_with_task};
+
+use super::started::{call_back, parent_of, put_input};
+use super::{after, todo_of};
+use crate::input::Input;
+use crate::{PartCall, Todo};
+use canvas_message::{Message, following};
+use canvas_rewrite::{FrozenLine, FrozenTask, Place};
+use canvas_task::{Fault, ListOf, Memory, Outcome, TaskNo};
+use std::alloc::{AllocError, Global};
+
+/// What follows the end of a message's task, as `after` says, where the message isn't needed
+/// any more: the task that follows it on its line, or the part that its end returns, takes over
+/// what it carries, and no copy is made of that. The message is given up, also where memory is
+/// refused.
+pub fn into_todo(alloc: Global, message: Message, outcome: &Outcome) -> Result<Todo, Memory>
+    requires { IsInRange outcome.now }
+    ensures { IfOk result (λ todo. todo_view todo ≡ after message outcome.now) }
+{
+    match outcome {
+        Outcome::Success(number) => {
+            if has_next(&message.rest) {
+                Ok(hand_on(alloc, message, *number)?)
+            } else if is_last(&message.rest) {
+                Ok(end_succeeded(alloc, message, *number)?)
+            } else {
+                after(alloc, &message, outcome)
+            }
+        }
+        Outcome::Failure(fault) => {
+            if is_last(&message.rest) {
+                Ok(end_failed(alloc, message, fault)?)
+            } else {
+                after(alloc, &message, outcome)
+            }
+        }
+    }
+}
+
+/// Whether a task comes next on a line.
+fn has_next(rest: &Option<FrozenLine>) -> bool
+    ensures { result ≡ begins_with_task (rest_seen rest.now) }
+{
+    match rest {
+        Some(line) => !line.tasks.get().is_empty(),
+        None => false,
+    }
+}
+
+/// Whether nothing comes next on a line.
+fn is_last(rest: &Option<FrozenLine>) -> bool
+    ensures { MatchBool result (rest_seen rest.now ≡ p_stop) (rest_seen rest.now ≡ p_stop → ⊥) }
+{
+    match following(rest) {
+        Some(_) => false,
+        None => true,
+    }
+}
+
+/// The task that comes next on a line, and what follows it.
+fn take_next(line: FrozenLine) -> Option<(FrozenTask, Option<FrozenLine>)>
+    ensures { MatchOption result (begins_with_task (p_line_view line) ≡ false)
+        (λ p. p_line_view line ≡ p_step (p_task_view p.0) (rest_seen p.1)) }
+{
+    let FrozenLine { tasks, tail } = line;
+    let mut tasks = tasks.into_plain();
+    if tasks.is_empty() {
+        return None;
+    }
+    let next = tasks.remove(0);
+    if tasks.is_empty() && tail.is_none() {
+        return Some((next, None));
+    }
+    let tasks = ListOf::of(tasks);
+    Some((next, Some(FrozenLine { tasks, tail })))
+}
+
+fn take_rest(rest: Option<FrozenLine>) -> Option<(FrozenTask, Option<FrozenLine>)>
+    ensures { MatchOption result (begins_with_task (rest_seen rest) ≡ false)
+        (λ p. rest_seen rest ≡ p_step (p_task_view p.0) (rest_seen p.1)) }
+{
+    match rest {
+        Some(line) => take_next(line),
+        None => None,
+    }
+}
+
+/// The message of a task that is run, which takes over what the task carries.
+fn message_from(
+    alloc: Global,
+    task: FrozenTask,
+    input: &Input,
+    parent: &Option<TaskNo>,
+    rest: Option<FrozenLine>,
+) -> Result<Message, AllocError>
+    requires { fits (message parent.now (p_task_view task) (input_seen input.now) (rest_seen rest))
+        ≡ true }
+    ensures { IfOk result
+        (λ m. m ≡ message parent.now (p_task_view task) (input_seen input.now) (rest_seen rest)) }
+{
+    let FrozenTask {
+        no,
+        name,
+        args,
+        kwargs,
+        immutable,
+        links,
+        errbacks,
+        place,
+    } = task;
+    let args = put_input(alloc, args, immutable, input)?;
+    Ok(Message {
+        task: no,
+        name,
+        parent: parent_of(input, parent),
+        place,
+        args,
+        kwargs,
+        links,
+        errbacks,
+        rest,
+    })
+}
+
+/// The end of a task that succeeded and that another follows.
+fn hand_on(alloc: Global, message: Message, number: i64) -> Result<Todo, AllocError>
+    requires number { in_range number ≡ true }
+    requires next { begins_with_task message.rest ≡ true }
+    ensures { IfOk result (λ todo. todo_view todo ≡ after message (Success number)) }
+{
+    let Message {
+        task,
+        links,
+        rest,
+        ..
+    } = message;
+    let input = Input::Number(number);
+    let parent = Some(task);
+    let mut messages = Vec::new(alloc);
+    call_back(alloc, links.get(), &input, &parent, &mut messages)?;
+    match take_rest(rest) {
+        Some((next, rest)) => {
+            messages.push(message_from(alloc, next, &input, &parent, rest)?)?;
+            todo_of(Vec::new(alloc), messages, None)
+        }
+        None => todo_of(Vec::new(alloc), messages, None),
+    }
+}
+
+/// The part that the task of a place returns, which takes over what the place carries.
+fn take_part(place: Option<Place>, task: TaskNo) -> Option<PartCall>
+    requires { place_stands (place_seen place) ≡ true }
+    ensures { option_map part_view result ≡ part_in (part_of (place_seen place) task) }
+{
+    match place {
+        Some(Place { group, chord }) => match chord {
+            Some(chord) => Some(PartCall { group, task, chord }),
+            None => None,
+        },
+        None => None,
+    }
+}
+
+/// The end of a task that succeeded and is the last of its line.
+fn end_succeeded(alloc: Global, message: Message, number: i64) -> Result<Todo, AllocError>
+    requires number { in_range number ≡ true }
+    requires last { message.rest ≡ p_stop }
+    ensures { IfOk result (λ todo. todo_view todo ≡ after message (Success number)) }
+{
+    let Message {
+        task,
+        links,
+        place,
+        ..
+    } = message;
+    let mut messages = Vec::new(alloc);
+    call_back(
+        alloc,
+        links.get(),
+        &Input::Number(number),
+        &Some(task),
+        &mut messages,
+    )?;
+    todo_of(Vec::new(alloc), messages, take_part(place, task))
+}
+
+/// The end of a task that failed and is the last of its line.
+fn end_failed(alloc: Global, message: Message, fault: &Fault) -> Result<Todo, AllocError>
+    requires last { message.rest ≡ p_stop }
+    ensures { IfOk result (λ todo. todo_view todo ≡ after message (Failure fault.now)) }
+{
+    let Message {
+        task,
+        errbacks,
+        place,
+        ..
+    } = message;
+    let mut messages = Vec::new(alloc);
+    call_back(
+        alloc,
+        errbacks.get(),
+        &Input::Ident(task),
+        &None,
+        &mut messages,
+    )?;
+    todo_of(Vec::new(alloc), messages, take_part(place, task))
+}

@@ -1,0 +1,336 @@
+//! Lines that are started: the messages of their first tasks.
+
+ghost use Rattle.std.specs.Prelude.{◌≡◌, ◌++◌, true, false, IfOk, OnOk, map, if◌then◌else◌};
+ghost use Rattle.canvas_semantics.specs.Evaluation.{arguments, value};
+ghost use Rattle.canvas_rewrite.specs.FrozenView.{p_tasks_of, p_steps, p_task_view, p_line_view, p_end_view};
+ghost use Rattle.canvas_rewrite.specs.declared.frozen.FrozenEnd.{out-FrozenEnd};
+ghost use Rattle.canvas_effects.specs.Carrying.{stands, AllStand, callbacks_ok, input_ok};
+ghost use Rattle.canvas_message.specs.Content.{call_of};
+ghost use Rattle.canvas_effects.specs.Effects.{message, callbacks, messages_in};
+ghost use Rattle.canvas_message.specs.Fits.{fits, parent_ok};
+ghost use Rattle.canvas_effects.specs.Flowing.{input_flow, parent_for};
+ghost use Rattle.canvas_message.specs.steps.Parts.{is_stop};
+ghost use Rattle.canvas_effects.specs.Placing.{last_at, placed};
+ghost use Rattle.canvas_message.specs.View.{place_seen, place_view, rest_seen};
+ghost use Rattle.canvas_effects.specs.steps.Walks.{input_seen, tail_seen, at_place, member_place, started, all_started};
+
+use crate::copies::{copy_tasks, share_if_some, share_place};
+use crate::input::Input;
+use crate::placing::{place_line, place_rest};
+use canvas_message::Message;
+use canvas_rewrite::{Carried, FrozenEnd, FrozenLine, FrozenTask, Place};
+use canvas_task::{Arg, ListOf, TaskNo, copy_args, copy_kwargs};
+use std::alloc::{AllocError, Global};
+use std::sync::Arc;
+
+/// Arguments with an input in front, unless their task is immutable.
+pub(super) fn put_input(
+    alloc: Global,
+    args: ListOf<Arg>,
+    immutable: bool,
+    input: &Input,
+) -> Result<ListOf<Arg>, AllocError>
+    ensures { IfOk result (λ all. all
+        ≡ (if immutable then args else value (input_flow (input_seen input.now)) ++ args)) }
+{
+    if immutable {
+        return Ok(args);
+    }
+    let mut args = args.into_plain();
+    input.put_before(alloc, &mut args)?;
+    Ok(ListOf::of(args))
+}
+
+/// A task's arguments with its input in front, unless it is immutable.
+fn args_with(alloc: Global, task: &FrozenTask, input: &Input) -> Result<ListOf<Arg>, AllocError>
+    ensures { IfOk result (λ all. all
+        ≡ arguments (call_of (p_task_view task.now)) (input_flow (input_seen input.now))) }
+{
+    put_input(alloc, copy_args(&task.args)?, task.immutable, input)
+}
+
+/// The task whose end publishes a message: the failed task that is the input, or another.
+pub(super) fn parent_of(input: &Input, parent: &Option<TaskNo>) -> Option<TaskNo>
+    ensures { result ≡ parent_for parent.now (input_seen input.now) }
+{
+    match input {
+        Input::Ident(task) => Some(*task),
+        _ => *parent,
+    }
+}
+
+/// The message of a task that is run, with its place and what follows it.
+fn message_of(
+    alloc: Global,
+    task: &FrozenTask,
+    input: &Input,
+    parent: &Option<TaskNo>,
+    place: Option<Place>,
+    rest: Option<FrozenLine>,
+) -> Result<Message, AllocError>
+    requires { fits (message parent.now (at_place (place_seen place) (p_task_view task.now))
+        (input_seen input.now) (rest_seen rest)) ≡ true }
+    ensures { IfOk result (λ m. m
+        ≡ message parent.now (at_place (place_seen place) (p_task_view task.now))
+        (input_seen input.now) (rest_seen rest)) }
+{
+    let name = task.name.clone()?;
+    let args = args_with(alloc, task, input)?;
+    let kwargs = copy_kwargs(alloc, &task.kwargs)?;
+    let links = copy_tasks(alloc, task.links.get())?;
+    let errbacks = copy_tasks(alloc, task.errbacks.get())?;
+    Ok(Message {
+        task: task.no,
+        name,
+        parent: parent_of(input, parent),
+        place,
+        args,
+        kwargs,
+        links: ListOf::of(links),
+        errbacks: ListOf::of(errbacks),
+        rest,
+    })
+}
+
+/// The messages of links or error callbacks, put behind the others.
+pub(super) fn call_back(
+    alloc: Global,
+    tasks: &[FrozenTask],
+    input: &Input,
+    parent: &Option<TaskNo>,
+    messages: &mut Vec<Message>,
+) -> Result<(), AllocError>
+    requires callbacks { callbacks_ok (p_tasks_of (map p_task_view tasks.now)) ≡ true }
+    requires input { input_ok (input_seen input.now) ≡ true }
+    requires parent { parent_ok parent.now ≡ true }
+    ensures { OnOk result (messages.new.items
+        ≡ messages.old.items
+        ++ messages_in (callbacks (p_tasks_of (map p_task_view tasks.now))
+        (input_seen input.now) parent.now)) }
+{
+    for task in tasks {
+        let place = share_if_some(&task.place)?;
+        messages.push(message_of(alloc, task, input, parent, place, None)?)?;
+    }
+    Ok(())
+}
+
+/// The message of a line's first task, where others follow and the line's end goes to the place.
+fn followed_message(
+    alloc: Global,
+    first: &FrozenTask,
+    others: &[FrozenTask],
+    tail: &Option<Box<FrozenEnd>>,
+    place: Option<Place>,
+    input: &Input,
+    parent: &Option<TaskNo>,
+) -> Result<Message, AllocError>
+    requires fits { fits (message parent.now (last_at (place_seen place) (p_task_view first.now)
+        (p_steps (map p_task_view others.now) (tail_seen tail.now))) (input_seen input.now)
+        (placed (place_seen place) (p_steps (map p_task_view others.now) (tail_seen tail.now))))
+        ≡ true }
+    requires follows { is_stop (p_steps (map p_task_view others.now) (tail_seen tail.now)) ≡ false }
+    ensures { IfOk result (λ m. m
+        ≡ message parent.now (last_at (place_seen place) (p_task_view first.now)
+        (p_steps (map p_task_view others.now) (tail_seen tail.now))) (input_seen input.now) (placed
+        (place_seen place) (p_steps (map p_task_view others.now) (tail_seen tail.now)))) }
+{
+    let rest = place_rest(alloc, tail, others, place)?;
+    message_of(alloc, first, input, parent, None, Some(rest))
+}
+
+/// The message of a line's first task, where the line's end goes to the place.
+fn first_message(
+    alloc: Global,
+    first: &FrozenTask,
+    others: &[FrozenTask],
+    tail: &Option<Box<FrozenEnd>>,
+    place: Option<Place>,
+    input: &Input,
+    parent: &Option<TaskNo>,
+) -> Result<Message, AllocError>
+    requires { fits (message parent.now (last_at (place_seen place) (p_task_view first.now)
+        (p_steps (map p_task_view others.now) (tail_seen tail.now))) (input_seen input.now)
+        (placed (place_seen place) (p_steps (map p_task_view others.now) (tail_seen tail.now))))
+        ≡ true }
+    ensures { IfOk result (λ m. m
+        ≡ message parent.now (last_at (place_seen place) (p_task_view first.now)
+        (p_steps (map p_task_view others.now) (tail_seen tail.now))) (input_seen input.now) (placed
+        (place_seen place) (p_steps (map p_task_view others.now) (tail_seen tail.now)))) }
+{
+    match tail {
+        Some(_end) => followed_message(alloc, first, others, tail, place, input, parent),
+        None => match others.split_first() {
+            Some((_second, _others)) => {
+                followed_message(alloc, first, others, tail, place, input, parent)
+            }
+            None => message_of(alloc, first, input, parent, place, None),
+        },
+    }
+}
+
+/// The place of a member, where the end of the whole goes to another.
+fn member_place(alloc: Global, end: &FrozenEnd, place: &Option<Place>) -> Result<Place, AllocError>
+    requires { stands (p_end_view end.now) (place_seen place.now) ≡ true }
+    ensures { IfOk result
+        (λ p. place_view p ≡ member_place (p_end_view end.now) (place_seen place.now)) }
+{
+    match &end.body {
+        Some(body) => {
+            let outer = share_if_some(place)?;
+            let body = place_line(alloc, body, outer)?;
+            let size = end.members.get().len() as u32;
+            let body = Arc::new(alloc, body)?;
+            let chord = Carried { size, body };
+            Ok(Place {
+                group: end.group,
+                chord: Some(chord),
+            })
+        }
+        None => Ok(Place {
+            group: end.group,
+            chord: None,
+        }),
+    }
+}
+
+/// The members of a group or chord. It is a function for its contract's sake: each of them can
+/// stand where its end goes.
+fn standing_members<'a>(end: &'a FrozenEnd, place: &Option<Place>) -> &'a [FrozenLine]
+    requires { stands (p_end_view end.now) (place_seen place.now) ≡ true }
+    ensures value { result.now ≡ (out-FrozenEnd end.now).members }
+    ensures stand { AllStand (member_place (p_end_view end.now) (place_seen place.now))
+        (map p_line_view result.now) }
+{
+    end.members.get()
+}
+
+/// The messages that a line begins with whose end goes to the place, put behind the others.
+#[cycle(start)]
+pub(super) fn start_line(
+    alloc: Global,
+    line: &FrozenLine,
+    place: &Option<Place>,
+    input: &Input,
+    parent: &Option<TaskNo>,
+    messages: &mut Vec<Message>,
+) -> Result<(), AllocError>
+    requires line { stands (p_line_view line.now) (place_seen place.now) ≡ true }
+    requires input { input_ok (input_seen input.now) ≡ true }
+    requires parent { parent_ok parent.now ≡ true }
+    ensures { OnOk result (messages.new.items
+        ≡ messages.old.items
+        ++ started (p_line_view line.now) (input_seen input.now) (place_seen place.now)
+        parent.now) }
+{
+    match line.tasks.get().split_first() {
+        Some((first, others)) => {
+            let place = share_if_some(place)?;
+            messages.push(first_message(alloc, first, others, &line.tail, place, input, parent)?)?;
+            Ok(())
+        }
+        None => match &line.tail {
+            Some(end) => start_end(alloc, end, place, input, parent, messages),
+            None => Ok(()),
+        },
+    }
+}
+
+/// The same of a group or chord. An empty header starts its body at once.
+#[cycle(start)]
+fn start_end(
+    alloc: Global,
+    end: &FrozenEnd,
+    place: &Option<Place>,
+    input: &Input,
+    parent: &Option<TaskNo>,
+    messages: &mut Vec<Message>,
+) -> Result<(), AllocError>
+    requires line { stands (p_end_view end.now) (place_seen place.now) ≡ true }
+    requires input { input_ok (input_seen input.now) ≡ true }
+    requires parent { parent_ok parent.now ≡ true }
+    ensures { OnOk result (messages.new.items
+        ≡ messages.old.items
+        ++ started (p_end_view end.now) (input_seen input.now) (place_seen place.now)
+        parent.now) }
+{
+    let members = standing_members(end, place);
+    match &end.body {
+        Some(body) => match members.split_first() {
+            Some((_first, _others)) => {
+                start_members(alloc, members, end, place, input, parent, messages)
+            }
+            None => {
+                let input = Input::Numbers(ListOf::of(Vec::new(alloc)));
+                start_line(alloc, body, place, &input, parent, messages)
+            }
+        },
+        None => start_members(alloc, members, end, place, input, parent, messages),
+    }
+}
+
+#[cycle(start)]
+fn start_members(
+    alloc: Global,
+    members: &[FrozenLine],
+    end: &FrozenEnd,
+    place: &Option<Place>,
+    input: &Input,
+    parent: &Option<TaskNo>,
+    messages: &mut Vec<Message>,
+) -> Result<(), AllocError>
+    requires end { stands (p_end_view end.now) (place_seen place.now) ≡ true }
+    requires members { AllStand (member_place (p_end_view end.now) (place_seen place.now))
+        (map p_line_view members.now) }
+    requires input { input_ok (input_seen input.now) ≡ true }
+    requires parent { parent_ok parent.now ≡ true }
+    ensures { OnOk result (messages.new.items
+        ≡ messages.old.items
+        ++ all_started (map p_line_view members.now) (input_seen input.now)
+        (member_place (p_end_view end.now) (place_seen place.now)) parent.now) }
+{
+    let shared = member_place(alloc, end, place)?;
+    for member in members {
+        let place = share_place(&shared)?;
+        start_member(alloc, member, place, input, parent, messages)?;
+    }
+    Ok(())
+}
+
+/// The same of a member, whose message takes its place.
+#[cycle(start)]
+fn start_member(
+    alloc: Global,
+    member: &FrozenLine,
+    place: Place,
+    input: &Input,
+    parent: &Option<TaskNo>,
+    messages: &mut Vec<Message>,
+) -> Result<(), AllocError>
+    requires line { stands (p_line_view member.now) (place_view place) ≡ true }
+    requires input { input_ok (input_seen input.now) ≡ true }
+    requires parent { parent_ok parent.now ≡ true }
+    ensures { OnOk result (messages.new.items
+        ≡ messages.old.items
+        ++ started (p_line_view member.now) (input_seen input.now) (place_view place)
+        parent.now) }
+{
+    match member.tasks.get().split_first() {
+        Some((first, others)) => {
+            messages.push(first_message(
+                alloc,
+                first,
+                others,
+                &member.tail,
+                Some(place),
+                input,
+                parent,
+            )?)?;
+            Ok(())
+        }
+        None => match &member.tail {
+            Some(end) => start_end(alloc, end, &Some(place), input, parent, messages),
+            None => Ok(()),
+        },
+    }
+}

@@ -1,0 +1,12 @@
+//! What follows a message: what the start of a plan, the end of a task and the end of a header's
+//! members make a worker do.
+#![tactic(auto)]
+
+mod copies;
+mod effects;
+mod input;
+mod placing;
+mod todo;
+
+pub use effects::{after, body_after, first_messages, into_todo};
+pub use todo::{PartCall, Todo};
