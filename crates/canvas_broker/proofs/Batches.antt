@@ -11,7 +11,7 @@ use Rattle.canvas_broker.specs.Broker.{take, QueueEntry, answer, next, May, IsLe
 use Rattle.canvas_broker.specs.steps.Rule.{envelopes, IsReady, IsKept, Kept, knowledge, view_of, TakesAll}
 use Rattle.canvas_broker.specs.declared.view.View.{View}
 use Rattle.canvas_broker.proofs.Joins.{orderly_left}
-use Rattle.canvas_broker.proofs.Keeps.{sole_rest, tail_of, named_after, queue_after, calls_stay, orderly, caller_lives, unseen, adds}
+use Rattle.canvas_broker.proofs.RuleSteps.{sole_rest, tail_of, named_after, queue_after, calls_stay, orderly, caller_lives, unseen, adds}
 
 pub first_rest : {A : Type 0} (xs : List A) → 0 < length xs → (x : A) × (ys : List A) × (xs ≡ x ∷ ys)
 first_rest [] h = absurd (omega (arith, h))

@@ -10,7 +10,7 @@ use Rattle.canvas_history.specs.History.{live, NoneBy}
 use Rattle.canvas_history.proofs.Histories.{In, in_cases}
 use Rattle.canvas_broker.specs.steps.Rule.{callers, Fits, Kept, root, newcomer}
 use Rattle.canvas_broker.specs.declared.view.View.{View}
-use Rattle.canvas_broker.proofs.Keeps.{All, none_of_none, old_caller, all_set, at_push}
+use Rattle.canvas_broker.proofs.RuleSteps.{All, none_of_none, old_caller, all_set, at_push}
 
 module _ {E : Type 0} where
   pub begins : Kept [] (newcomer {E = E} ∷ [])

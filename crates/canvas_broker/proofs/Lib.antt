@@ -1,6 +1,6 @@
 pub mod Crosses
 pub mod Joins
-pub mod Keeps
+pub mod RuleSteps
 pub mod Begins
 pub mod Batches
 pub mod Made

@@ -13,7 +13,7 @@ use Rattle.uuid.specs.Text.{by_index, hex_digit, nibble, digit_place, is_hyphen_
 use Rattle.uuid.proofs.TextLemmas.{nibble_small}
 use Rattle.canvas_task.specs.Identifiers.{identifier, task_mark, group_mark, task_text, group_text}
 use Rattle.canvas_codec.specs.Wire.{frozen_wire, task_id, group_id, place_id}
-use Rattle.canvas_message.specs.View.{place_view, place_seen}
+use Rattle.canvas_message.specs.MessageView.{place_view, place_seen}
 use Rattle.canvas_message.proofs.Seen.{group_place, chord_place}
 use Rattle.canvas_rewrite.specs.declared.frozen.Place.{Place, out-Place}
 use Rattle.canvas_rewrite.specs.declared.frozen.Carried.{Carried}

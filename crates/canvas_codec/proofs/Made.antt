@@ -19,7 +19,7 @@ use Rattle.canvas_rewrite.specs.declared.frozen.FrozenLine.{FrozenLine, roll-Fro
 use Rattle.canvas_rewrite.specs.declared.frozen.FrozenEnd.{roll-FrozenEnd}
 use Rattle.canvas_rewrite.specs.declared.frozen.Place.{Place}
 use Rattle.canvas_rewrite.proofs.FrozenViews.{made_line, made_group, made_chord}
-use Rattle.canvas_message.specs.View.{place_seen}
+use Rattle.canvas_message.specs.MessageView.{place_seen}
 use Rattle.canvas_message.proofs.Seen.{task_made}
 use Rattle.canvas_codec.specs.steps.Elements.{line_with, reversed_with, element_view}
 use Rattle.canvas_codec.specs.steps.Reading.{parts_of, chain_reading}

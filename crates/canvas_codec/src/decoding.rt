@@ -7,7 +7,7 @@ ghost use Rattle.canvas_message.specs.declared.fault.MessageFault.TheVariants.{B
 ghost use Rattle.canvas_codec.specs.steps.Elements.{given_view, embed_view};
 ghost use Rattle.canvas_message.specs.EnvelopeFaults.{Says, envelope_fault};
 ghost use Rattle.canvas_codec.specs.steps.Reading.{Gives, refused_as, given_reading, embed_reading, if_fits, content_of, message_reading, json_reading};
-ghost use Rattle.canvas_message.specs.View.{draft_view};
+ghost use Rattle.canvas_message.specs.MessageView.{draft_view};
 
 use crate::read::{
     Embed, Given, Parts, is_json, is_version_2, parts_of, read_embed, read_given, read_id, task_of,

@@ -20,7 +20,7 @@ use Rattle.canvas_message.specs.Fits.{parent_ok, task_ok, line_ok, line_reach, f
 use Rattle.canvas_effects.specs.Flowing.{Input, list_input, input_flow, given, parent_for}
 use Rattle.canvas_message.specs.steps.Parts.{is_stop}
 use Rattle.canvas_effects.specs.Placing.{last_at, placed}
-use Rattle.canvas_message.specs.View.{content, place_view, place_seen, rest_seen}
+use Rattle.canvas_message.specs.MessageView.{content, place_view, place_seen, rest_seen}
 use Rattle.canvas_effects.specs.steps.Walks.{at_place, tail_seen, member_place, started, all_started}
 use Rattle.canvas_effects.proofs.Copied.{own_place, place_there, line_parts}
 use Rattle.canvas_effects.proofs.Entered.{started_group, started_chord}

@@ -11,7 +11,7 @@ use Rattle.canvas_rewrite.specs.declared.frozen.FrozenEnd.{FrozenEnd, out-Frozen
 use Rattle.canvas_rewrite.proofs.FrozenViews.{made_line, made_longer, made_group, made_chord}
 use Rattle.canvas_message.specs.Content.{place_of}
 use Rattle.canvas_effects.specs.Placing.{placed}
-use Rattle.canvas_message.specs.View.{place_seen}
+use Rattle.canvas_message.specs.MessageView.{place_seen}
 use Rattle.canvas_effects.specs.steps.Walks.{at_place, tail_seen}
 use Rattle.canvas_message.specs.steps.Parts.{is_stop}
 use Rattle.canvas_message.proofs.FitLemmas.{never_stops, end_stands}

@@ -20,7 +20,7 @@ use Rattle.canvas_rewrite.specs.declared.frozen.FrozenTask.{FrozenTask, out-Froz
 use Rattle.canvas_effects.specs.Carrying.{is_whole, carried_ok}
 use Rattle.canvas_message.specs.Content.{Content, line, number_of, links_of, errbacks_of, place_of, call_of}
 use Rattle.canvas_effects.specs.Effects.{Jobs, Effect, Part, message, callbacks, part_of, enter, enter_all, effect_of, stores_in, messages_in, part_in, after, body_after, into_body}
-use Rattle.canvas_message.specs.View.{carried_view, place_seen}
+use Rattle.canvas_message.specs.MessageView.{carried_view, place_seen}
 use Rattle.canvas_message.specs.Fits.{parent_ok, line_ok, members_ok, line_reach, how_many, fits}
 use Rattle.canvas_effects.specs.Flowing.{Input, number_input, list_input, id_input, run, skips, raise}
 use Rattle.canvas_effects.specs.Ordered.{in_order}

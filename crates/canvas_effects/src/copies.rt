@@ -2,7 +2,7 @@
 
 ghost use Rattle.std.specs.Prelude.{◌≡◌, IfOk, map};
 ghost use Rattle.canvas_rewrite.specs.FrozenView.{p_task_view, p_line_view, p_end_view};
-ghost use Rattle.canvas_message.specs.View.{place_seen, place_view};
+ghost use Rattle.canvas_message.specs.MessageView.{place_seen, place_view};
 ghost use Rattle.canvas_effects.specs.steps.Walks.{at_place};
 
 use canvas_message::share_carried;

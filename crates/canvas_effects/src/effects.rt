@@ -9,7 +9,7 @@ ghost use Rattle.canvas_rewrite.specs.FrozenView.{p_line_view};
 ghost use Rattle.canvas_effects.specs.Carrying.{is_whole, place_stands, carried_ok, input_ok};
 ghost use Rattle.canvas_message.specs.Content.{number_of};
 ghost use Rattle.canvas_effects.specs.Effects.{first_messages, after, body_after, enter, effect_of, stores_in, messages_in, part_in, part_of};
-ghost use Rattle.canvas_message.specs.View.{carried_view, place_seen};
+ghost use Rattle.canvas_message.specs.MessageView.{carried_view, place_seen};
 ghost use Rattle.canvas_message.specs.Fits.{parent_ok};
 ghost use Rattle.canvas_effects.specs.Flowing.{run, raise, list_input};
 ghost use Rattle.canvas_effects.specs.Ordered.{in_order};

@@ -4,7 +4,7 @@ ghost use Rattle.std.specs.Prelude.{◌≡◌, IfOk, map};
 ghost use Rattle.canvas_rewrite.specs.FrozenView.{p_steps, p_task_view, p_line_view, p_end_view};
 ghost use Rattle.canvas_semantics.specs.PlacedLine.{p_stop};
 ghost use Rattle.canvas_effects.specs.Placing.{placed};
-ghost use Rattle.canvas_message.specs.View.{place_seen};
+ghost use Rattle.canvas_message.specs.MessageView.{place_seen};
 ghost use Rattle.canvas_effects.specs.steps.Walks.{tail_seen};
 
 use crate::copies::{copy_lines, copy_task, copy_tasks};

@@ -2,7 +2,7 @@
 
 ghost use Rattle.std.specs.Prelude.{◌≡◌, true};
 ghost use Rattle.canvas_effects.specs.Carrying.{carried_ok};
-ghost use Rattle.canvas_message.specs.View.{carried_view};
+ghost use Rattle.canvas_message.specs.MessageView.{carried_view};
 
 use canvas_message::Message;
 use canvas_rewrite::Carried;

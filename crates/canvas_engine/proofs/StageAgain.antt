@@ -28,10 +28,10 @@ use Rattle.canvas_runs.proofs.Turning.{by_append, scripts_append, held_append, q
 use Rattle.canvas_worker.specs.Asks.{Asked, Answer}
 use Rattle.canvas_worker.specs.Cores.{IsAlike}
 use Rattle.canvas_worker.specs.Books.{no_book}
-use Rattle.canvas_worker.specs.Enveloped.{enveloped, enveloped_by, no_tasks}
-use Rattle.canvas_worker.specs.Leading.{task_in}
-use Rattle.canvas_worker.specs.Standing as standing
-use Rattle.canvas_worker.specs.Standing.{Standing, Left, asked, task_of, point_in, point_at}
+use Rattle.canvas_worker.specs.EnvelopeWorker.{enveloped, enveloped_by, no_tasks}
+use Rattle.canvas_worker.specs.CorePast.{task_in}
+use Rattle.canvas_worker.specs.CoreState as standing
+use Rattle.canvas_worker.specs.CoreState.{Standing, Left, asked, task_of, point_in, point_at}
 use Rattle.canvas_engine.specs.steps.Stages.{AnswersNow, Stepped, stores_again, counted_on, Redelivers, IsCoreAt, LeadsTo, Reached, IsTurn}
 use Rattle.canvas_engine.specs.declared.stage.Stage.{Stage}
 use Rattle.canvas_engine.proofs.StageSteps.{together, more_is, same_ask, worker_back, answered_so, IsPut, stepped}

@@ -15,8 +15,8 @@ use Rattle.canvas_runs.specs.Lists.{at}
 use Rattle.canvas_runs.specs.Turns.{queue_next, results_next}
 use Rattle.canvas_worker.specs.Asks.{Asked, Answer, FoundInRange, shown}
 use Rattle.canvas_worker.specs.Books.{no_book, book_in}
-use Rattle.canvas_worker.specs.Enveloped.{enveloped_by, no_tasks}
-use Rattle.canvas_worker.specs.Standing.{Standing, asked, after_reply}
+use Rattle.canvas_worker.specs.EnvelopeWorker.{enveloped_by, no_tasks}
+use Rattle.canvas_worker.specs.CoreState.{Standing, asked, after_reply}
 use Rattle.canvas_worker.specs.declared.ask.Ask.{Ask}
 use Rattle.canvas_worker.specs.declared.ask.Ask.TheVariants as A
 use Rattle.canvas_worker.specs.declared.ask.Reply.TheVariants as R

@@ -22,14 +22,14 @@ use Rattle.canvas_runs.proofs.Turning.{by_more, by_other, left_more, core_more, 
 use Rattle.canvas_worker.specs.Asks.{Asked, Answer}
 use Rattle.canvas_worker.specs.Books.{no_book, book_in}
 use Rattle.canvas_worker.specs.Cores.{GoTogether, IsAlike}
-use Rattle.canvas_worker.specs.Enveloped.{enveloped, enveloped_by, no_tasks}
-use Rattle.canvas_worker.specs.Leading.{task_in}
-use Rattle.canvas_worker.specs.Standing as standing
-use Rattle.canvas_worker.specs.Standing.{Standing, Left, asked, after_reply}
+use Rattle.canvas_worker.specs.EnvelopeWorker.{enveloped, enveloped_by, no_tasks}
+use Rattle.canvas_worker.specs.CorePast.{task_in}
+use Rattle.canvas_worker.specs.CoreState as standing
+use Rattle.canvas_worker.specs.CoreState.{Standing, Left, asked, after_reply}
 use Rattle.canvas_worker.proofs.Books.{books_alike}
 use Rattle.canvas_worker.proofs.CoreLaw.{cores_are_workers}
 use Rattle.canvas_worker.proofs.InHand.{has_open}
-use Rattle.canvas_worker.proofs.Leading.{book_step, task_step}
+use Rattle.canvas_worker.proofs.CorePasts.{book_step, task_step}
 use Rattle.canvas_engine.specs.steps.Stages.{AnswersNow, Stepped, IsCoreAt, LeadsTo}
 use Rattle.canvas_engine.specs.declared.stage.Stage.{Stage}
 

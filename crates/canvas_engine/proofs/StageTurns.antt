@@ -16,9 +16,9 @@ use Rattle.canvas_runs.proofs.Spending.{again_skip}
 use Rattle.canvas_runs.proofs.Turning.{results_more, turned_skip}
 use Rattle.canvas_worker.specs.Asks.{Asked}
 use Rattle.canvas_worker.specs.Books.{no_book}
-use Rattle.canvas_worker.specs.Enveloped.{enveloped_by, no_tasks}
-use Rattle.canvas_worker.specs.Standing as standing
-use Rattle.canvas_worker.specs.Standing.{Standing, asked}
+use Rattle.canvas_worker.specs.EnvelopeWorker.{enveloped_by, no_tasks}
+use Rattle.canvas_worker.specs.CoreState as standing
+use Rattle.canvas_worker.specs.CoreState.{Standing, asked}
 use Rattle.canvas_engine.specs.steps.Stages.{MayAsk, AreInRange, Stepped, IsTried, Tried, stores_again, counted_on, Redelivers, LeadsTo, Reached, HasReached, IsTurn, IsHalfway, IsStopped}
 use Rattle.canvas_engine.specs.declared.stage.Stage.{Stage}
 use Rattle.canvas_engine.proofs.StageAgain.{one_turn, stood}

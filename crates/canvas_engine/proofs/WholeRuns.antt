@@ -24,7 +24,7 @@ use Rattle.canvas_runs.proofs.Agains.{few_again, agains_few, agains_are}
 use Rattle.canvas_runs.proofs.Spending.{are_turns}
 use Rattle.canvas_runs.proofs.Spends.{spends_length}
 use Rattle.canvas_runs.proofs.TurnLaw.{states_are, states_may}
-use Rattle.canvas_worker.specs.Standing.{Standing, begun}
+use Rattle.canvas_worker.specs.CoreState.{Standing, begun}
 use Rattle.canvas_worker.specs.declared.cause.Cause.{Cause}
 use Rattle.canvas_worker.specs.declared.cause.Cause.TheVariants.{Memory, Stopped}
 use Rattle.canvas_engine.specs.Correct.{IsAsked, IsWholeRun, IsWholeWithin, IsWholeAgain, IsRunFault, IsFaultWithin}

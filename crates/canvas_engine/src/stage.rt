@@ -15,9 +15,9 @@ ghost use Rattle.canvas_runs.specs.Turns.{Step, IsWorker, FirstsRead, is_queued}
 ghost use Rattle.canvas_runs.specs.Worker.{sealed};
 ghost use Rattle.canvas_worker.specs.Asks.{shown};
 ghost use Rattle.canvas_worker.specs.Books.{no_book};
-ghost use Rattle.canvas_worker.specs.Enveloped.{enveloped_by, no_tasks};
-ghost use Rattle.canvas_worker.specs.Standing as standing;
-ghost use Rattle.canvas_worker.specs.Standing.{Standing, asked};
+ghost use Rattle.canvas_worker.specs.EnvelopeWorker.{enveloped_by, no_tasks};
+ghost use Rattle.canvas_worker.specs.CoreState as standing;
+ghost use Rattle.canvas_worker.specs.CoreState.{Standing, asked};
 ghost use Rattle.canvas_worker.specs.declared.ask.Ask.TheVariants as ask;
 ghost use Rattle.canvas_engine.specs.steps.Stages.{rows_of, MayAsk, AreInRange, Stepped, IsTried, stores_again, counted_on, Redelivers, AreNew, Reached, HasReached, IsTurn, IsHalt, IsNew};
 

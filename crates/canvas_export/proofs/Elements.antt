@@ -16,7 +16,7 @@ use Rattle.canvas_rewrite.specs.declared.frozen.FrozenEnd.{FrozenEnd, out-Frozen
 use Rattle.canvas_rewrite.specs.declared.frozen.Place.{Place, out-Place}
 use Rattle.canvas_rewrite.specs.declared.frozen.Carried.{Carried, out-Carried}
 use Rattle.canvas_message.specs.Content.{call_of, links_of, errbacks_of}
-use Rattle.canvas_message.specs.View.{place_view, place_seen}
+use Rattle.canvas_message.specs.MessageView.{place_view, place_seen}
 use Rattle.canvas_codec.specs.Wire.{list_or_null}
 use Rattle.canvas_codec.specs.steps.Tokens.{named_tokens, links_tokens, list_tokens}
 use Rattle.canvas_message.proofs.Seen.{called, task_seen, chord_place, line_none, line_some, end_none, end_some}

@@ -20,7 +20,7 @@ use Rattle.canvas_export.specs.Setting.{Setting}
 use Rattle.canvas_export.specs.Start.{start}
 use Rattle.canvas_export.specs.Starting.{starting}
 use Rattle.canvas_export.specs.Sizeless.{sizeless}
-use Rattle.canvas_export.specs.View.{naming_of}
+use Rattle.canvas_export.specs.ExportView.{naming_of}
 use Rattle.canvas_export.proofs.ExportBack.{starting_named, export_back}
 use Rattle.canvas_export.proofs.Texts.{at_once}
 use Rattle.canvas_export.proofs.CleanSignatures.{IsBounded}

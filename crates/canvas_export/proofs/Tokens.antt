@@ -6,7 +6,7 @@ use Rattle.json.specs.Token.{Token}
 use Rattle.canvas_rewrite.specs.declared.frozen.Carried.{Carried}
 use Rattle.canvas_rewrite.specs.declared.frozen.Place.{Place, out-Place}
 use Rattle.canvas_sig.specs.steps.Tokens.{Appends}
-use Rattle.canvas_message.specs.View.{place_view}
+use Rattle.canvas_message.specs.MessageView.{place_view}
 use Rattle.canvas_codec.specs.steps.Tokens.{named_tokens}
 use Rattle.canvas_message.proofs.Seen.{group_place, chord_place}
 use Rattle.canvas_export.specs.Signatures.{Naming, group_id, index_wire}

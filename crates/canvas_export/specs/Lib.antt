@@ -10,5 +10,5 @@ pub mod Envelope
 pub mod Sizeless
 pub mod MessageReading
 pub mod ExportReading
-pub mod View
+pub mod ExportView
 pub mod steps

@@ -6,7 +6,7 @@ ghost use Rattle.canvas_celery.specs.Keys.{size_key, marker_key};
 ghost use Rattle.canvas_export.specs.Script.{script, database_words, script_command};
 ghost use Rattle.canvas_export.specs.steps.Sizes.{size_view};
 ghost use Rattle.canvas_export.specs.steps.Words.{database_word};
-ghost use Rattle.canvas_export.specs.View.{setting};
+ghost use Rattle.canvas_export.specs.ExportView.{setting};
 
 use crate::Target;
 use crate::resp::{begin_command, push_number, push_texts, push_word};

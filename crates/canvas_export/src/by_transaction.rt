@@ -4,7 +4,7 @@ ghost use Rattle.std.specs.Prelude.{◌≡◌, ◌++◌, ◌∷◌, [], OnOk, If
 ghost use Rattle.canvas_export.specs.Resp.{command_bytes, words_bytes, resp};
 ghost use Rattle.canvas_export.specs.Transaction.{size_command, select, select_backend, select_broker, sizes_between, transaction};
 ghost use Rattle.canvas_export.specs.steps.Sizes.{size_view};
-ghost use Rattle.canvas_export.specs.View.{setting};
+ghost use Rattle.canvas_export.specs.ExportView.{setting};
 
 use crate::Target;
 use crate::resp::{begin_command, decimal_of, push_command, push_texts, push_word};

@@ -12,7 +12,7 @@ ghost use Rattle.canvas_export.specs.Signatures.{task_id};
 ghost use Rattle.canvas_export.specs.Envelope.{delivery_wire, properties_wire, headers_wire, envelope_wire, message_text};
 ghost use Rattle.canvas_export.specs.MessageReading.{IsSound, read_message};
 ghost use Rattle.canvas_export.specs.Sizeless.{sizeless};
-ghost use Rattle.canvas_export.specs.View.{naming};
+ghost use Rattle.canvas_export.specs.ExportView.{naming};
 
 use crate::write::{Names, body_of, write_headers, write_number, write_task_member, write_text};
 use base64::engine::general_purpose::STANDARD;

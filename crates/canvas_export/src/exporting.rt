@@ -9,7 +9,7 @@ ghost use Rattle.canvas_export.specs.Resp.{resp};
 ghost use Rattle.canvas_export.specs.Starting.{starting};
 ghost use Rattle.canvas_export.specs.Start.{commands, start};
 ghost use Rattle.canvas_export.specs.steps.Sizes.{size_view};
-ghost use Rattle.canvas_export.specs.View.{setting, naming, naming_of};
+ghost use Rattle.canvas_export.specs.ExportView.{setting, naming, naming_of};
 ghost use Rattle.canvas_export.specs.Envelope.{message_text};
 ghost use Rattle.canvas_export.specs.MessageReading.{IsSound, read_message};
 ghost use Rattle.canvas_export.specs.Sizeless.{sizeless};

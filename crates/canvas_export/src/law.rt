@@ -16,7 +16,7 @@ ghost use Rattle.canvas_export.specs.ExportReading.{AreNamed, read_export, start
 ghost use Rattle.canvas_export.specs.Setting.{Setting};
 ghost use Rattle.canvas_export.specs.Start.{start};
 ghost use Rattle.canvas_export.specs.Sizeless.{sizeless};
-ghost use Rattle.canvas_export.specs.View.{naming_of};
+ghost use Rattle.canvas_export.specs.ExportView.{naming_of};
 
 /// Commands read back from their bytes, where these are fewer than 2^64, and what reads as commands
 /// is their bytes.

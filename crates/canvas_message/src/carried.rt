@@ -1,7 +1,7 @@
 //! What a place carries.
 
 ghost use Rattle.std.specs.Prelude.{◌≡◌, IfOk};
-ghost use Rattle.canvas_message.specs.View.{carried_view};
+ghost use Rattle.canvas_message.specs.MessageView.{carried_view};
 
 use canvas_rewrite::Carried;
 use std::alloc::AllocError;

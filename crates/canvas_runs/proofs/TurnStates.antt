@@ -33,7 +33,7 @@ use Rattle.canvas_runs.proofs.StoredOnce.{FirstWhereSkipped, all_skipped_first}
 use Rattle.canvas_runs.specs.Logs.{table_calls}
 use Rattle.canvas_runs.proofs.Finish.{Backed}
 use Rattle.canvas_runs.proofs.FirstLaw.{inner_run}
-use Rattle.canvas_runs.proofs.Keeps.{GoodState, GoodAnswer, Goods, Closed, next_good, more_found, all_found}
+use Rattle.canvas_runs.proofs.GoodRuns.{GoodState, GoodAnswer, Goods, Closed, next_good, more_found, all_found}
 use Rattle.canvas_runs.proofs.Knowing.{found as among_members}
 use Rattle.canvas_runs.proofs.Right.{right_goods, right_closed, answers_right}
 use Rattle.canvas_runs.proofs.TurnLogs.{worker_lives}

@@ -32,7 +32,7 @@ use Rattle.canvas_runs.specs.Worker.{worker, opened}
 use Rattle.canvas_runs.proofs.Facts.{X, form, Does, order, value, once, keeping}
 use Rattle.canvas_runs.proofs.FirstLaw.{first_part, inner_run, stored_right, has_state}
 use Rattle.canvas_runs.proofs.Histories.{GoodPublish, each_seconds, each_from_by}
-use Rattle.canvas_runs.proofs.Keeps.{Goods, Closed, GoodAsk, GoodAnswer, GoodState, goods_from_careful, keeps, next_good}
+use Rattle.canvas_runs.proofs.GoodRuns.{Goods, Closed, GoodAsk, GoodAnswer, GoodState, goods_from_careful, keeps, next_good}
 use Rattle.canvas_runs.proofs.Knowing.{found as among_members}
 use Rattle.canvas_runs.proofs.Meaning.{Form, IsRun}
 use Rattle.canvas_runs.proofs.Replay.{IsQueue}

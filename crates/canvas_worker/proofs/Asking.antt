@@ -10,9 +10,9 @@ use Rattle.canvas_runs.specs.Core.{answered, Suits}
 use Rattle.canvas_runs.specs.Following.{Seat, Serves}
 use Rattle.canvas_worker.specs.Asks.{Answer}
 use Rattle.canvas_worker.specs.Books.{book_in}
-use Rattle.canvas_worker.specs.Enveloped.{enveloped}
-use Rattle.canvas_worker.specs.Allowed.{Can, LetsAsk}
-use Rattle.canvas_worker.specs.Standing.{Left, asked}
+use Rattle.canvas_worker.specs.EnvelopeWorker.{enveloped}
+use Rattle.canvas_worker.specs.SeatRights.{Can, LetsAsk}
+use Rattle.canvas_worker.specs.CoreState.{Left, asked}
 use Rattle.canvas_worker.proofs.Books.{books_alike}
 use Rattle.canvas_worker.proofs.Seats.{can_ask, can_go_on}
 

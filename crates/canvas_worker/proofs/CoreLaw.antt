@@ -15,8 +15,8 @@ use Rattle.canvas_runs.specs.Protocol.{Protocol}
 use Rattle.canvas_runs.specs.Worker.{worker, opened}
 use Rattle.canvas_worker.specs.Asks.{Asked, Answer}
 use Rattle.canvas_worker.specs.Cores.{IsAlike, GoTogether, CoresAreWorkers}
-use Rattle.canvas_worker.specs.Enveloped.{Applied, said, enclosed, enveloped, applied_if as kept_envelope}
-use Rattle.canvas_worker.specs.Standing.{Left}
+use Rattle.canvas_worker.specs.EnvelopeWorker.{Applied, said, enclosed, enveloped, applied_if as kept_envelope}
+use Rattle.canvas_worker.specs.CoreState.{Left}
 use Rattle.canvas_worker.proofs.Opening.{opened_as}
 use Rattle.canvas_worker.proofs.Sendable.{envelope_so, said_of}
 

@@ -14,11 +14,11 @@ use Rattle.canvas_runs.specs.Core.{taking, resting, over, failed, owning, doing,
 use Rattle.canvas_worker.specs.Asks.{Asked, Answer, suits, shown}
 use Rattle.canvas_worker.specs.Asks as asks
 use Rattle.canvas_worker.specs.AtEnd.{EndStays, FailingEnds, EndsACore, EndsBehind, FailsBehind}
-use Rattle.canvas_worker.proofs.Leading.{left_one_more}
-use Rattle.canvas_worker.specs.Enveloped as enveloping
-use Rattle.canvas_worker.specs.Enveloped.{Applied, enveloped_by}
-use Rattle.canvas_worker.specs.Leading.{left_by}
-use Rattle.canvas_worker.specs.Standing.{Left, asked, unsent}
+use Rattle.canvas_worker.proofs.CorePasts.{left_one_more}
+use Rattle.canvas_worker.specs.EnvelopeWorker as enveloping
+use Rattle.canvas_worker.specs.EnvelopeWorker.{Applied, enveloped_by}
+use Rattle.canvas_worker.specs.CorePast.{left_by}
+use Rattle.canvas_worker.specs.CoreState.{Left, asked, unsent}
 use Rattle.canvas_worker.specs.declared.ask.Reply.{Reply}
 use Rattle.canvas_worker.specs.declared.ask.Ask.TheVariants.{End}
 use Rattle.canvas_worker.specs.declared.ask.Reply.TheVariants as R

@@ -1,7 +1,7 @@
 -- Why a worker ends.
 use Rattle.std.proofs.Common.{◌≡◌, Option, Some, Result, Ok, Err, sym, subst}
 use Rattle.std.specs.Prelude.{IfErr}
-use Rattle.canvas_worker.specs.Work.{Work, EndsFor, Leaves}
+use Rattle.canvas_worker.specs.Polls.{Work, EndsFor, Leaves}
 use Rattle.canvas_worker.specs.declared.ask.Ask.{Ask}
 use Rattle.canvas_worker.specs.declared.cause.Cause.{Cause}
 use Rattle.canvas_worker.specs.declared.record.Record.{Record}

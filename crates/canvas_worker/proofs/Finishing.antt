@@ -13,10 +13,10 @@ use Rattle.canvas_runs.specs.Following.{Pass, Seat, Working, Followed, begins, I
 use Rattle.canvas_runs.specs.Worker.{worker, worker_of}
 use Rattle.canvas_worker.specs.Asks.{Asked, Answer}
 use Rattle.canvas_worker.specs.Cores.{IsAlike, GoTogether}
-use Rattle.canvas_worker.specs.Enveloped.{enveloped}
+use Rattle.canvas_worker.specs.EnvelopeWorker.{enveloped}
 use Rattle.canvas_worker.specs.Finished.{WorkersStart, WorkersFinish}
 use Rattle.canvas_worker.specs.Progress.{Progress, Worked, starting}
-use Rattle.canvas_worker.specs.Standing.{Left}
+use Rattle.canvas_worker.specs.CoreState.{Left}
 use Rattle.canvas_worker.proofs.CoreLaw.{cores_are_workers}
 
 -- over together

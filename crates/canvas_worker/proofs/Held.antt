@@ -3,8 +3,8 @@ use Rattle.std.proofs.Common.{◌≡◌, ℕ, Bool, true, Option, Some, subst}
 use Rattle.canvas_task.specs.Apply.{Behaviour}
 use Rattle.canvas_runs.specs.declared.when.When.{When}
 use Rattle.canvas_runs.specs.declared.when.When.TheVariants.{Early}
-use Rattle.canvas_worker.specs.Gating.{Opens, asks_at, Heeds, waits, delivers, goes_on, HeldBack}
-use Rattle.canvas_worker.specs.Work.{Work}
+use Rattle.canvas_worker.specs.GateAnswers.{Opens, asks_at, Heeds, waits, delivers, goes_on, HeldBack}
+use Rattle.canvas_worker.specs.Polls.{Work}
 
 module _ (go : ℕ → Bool → Type 0) (again : ℕ → Type 0) where
   not_open : (x : Option (ℕ × When)) (k : ℕ) → x ≡ Some (k, Early) → (go k true → ⊥) → Opens go again x → ⊥

@@ -17,9 +17,9 @@ use Rattle.canvas_runs.specs.Following.{Pass, Makes}
 use Rattle.canvas_runs.specs.Lists.{Each}
 use Rattle.canvas_runs.proofs.Words.{each_append, each_weaker}
 use Rattle.canvas_worker.specs.Asks.{Asked, Answer}
-use Rattle.canvas_worker.specs.Enveloped.{enveloped}
-use Rattle.canvas_worker.specs.Standing.{Left, asked, open_of, held}
-use Rattle.canvas_worker.specs.Work.{Work, CanDeliver, in_hand, Ready, delivers, Redelivered, Pends, EndsWith}
+use Rattle.canvas_worker.specs.EnvelopeWorker.{enveloped}
+use Rattle.canvas_worker.specs.CoreState.{Left, asked, open_of, held}
+use Rattle.canvas_worker.specs.Polls.{Work, CanDeliver, in_hand, Ready, delivers, Redelivered, Pends, EndsWith}
 use Rattle.canvas_worker.specs.declared.cause.Cause.TheVariants.{Memory}
 use Rattle.canvas_worker.specs.declared.working.End.{End}
 use Rattle.canvas_worker.proofs.Redelivering.{just_has, still_has}

@@ -19,7 +19,7 @@ use Rattle.canvas_backend.specs.Roster.{Roster, size, is_member}
 use Rattle.canvas_runs.specs.Book.{Book, book_on, has_size, task_known, tasks_known, place_known, line_known, members_known, parent_known, message_known}
 use Rattle.canvas_runs.specs.Lists.{Each}
 use Rattle.canvas_runs.proofs.Words.{each_append, in_left, in_right}
-use Rattle.canvas_worker.specs.Allowed.{Carries}
+use Rattle.canvas_worker.specs.SeatRights.{Carries}
 
 -- a store of the task is among the jobs
 abbrev pub Stored : Jobs → ℕ → Type 0

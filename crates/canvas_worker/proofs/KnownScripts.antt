@@ -13,9 +13,9 @@ use Rattle.canvas_backend.specs.Roster.{Roster, is_member}
 use Rattle.canvas_runs.specs.Core.{is_due}
 use Rattle.canvas_runs.specs.Following.{Seat}
 use Rattle.canvas_runs.specs.Lists.{Each, firsts}
-use Rattle.canvas_worker.specs.Enveloped.{enclosed}
+use Rattle.canvas_worker.specs.EnvelopeWorker.{enclosed}
 use Rattle.canvas_worker.specs.Scripts as scripts
-use Rattle.canvas_worker.specs.Allowed.{Carries, InPlan, MayHandIn}
+use Rattle.canvas_worker.specs.SeatRights.{Carries, InPlan, MayHandIn}
 use Rattle.canvas_worker.proofs.KnownJobs.{Known, Stored}
 
 abbrev Stores : Type 0

@@ -6,9 +6,9 @@ use Rattle.canvas_runs.specs.Book.{book_on}
 use Rattle.canvas_runs.specs.Core.{taking, answered, left_after, IsCoreRun}
 use Rattle.canvas_worker.specs.Asks.{Asked, Answer}
 use Rattle.canvas_worker.specs.Books.{book_in}
-use Rattle.canvas_worker.specs.Enveloped.{enveloped, enveloped_by}
-use Rattle.canvas_worker.specs.Leading.{left_by, PlanLeads}
-use Rattle.canvas_worker.specs.Standing.{Left}
+use Rattle.canvas_worker.specs.EnvelopeWorker.{enveloped, enveloped_by}
+use Rattle.canvas_worker.specs.CorePast.{left_by, PlanLeads}
+use Rattle.canvas_worker.specs.CoreState.{Left}
 use Rattle.canvas_worker.proofs.Books.{books_alike}
 
 module _ (behaviour : Behaviour) (plan : Roster) where

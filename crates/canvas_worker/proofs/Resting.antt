@@ -10,8 +10,8 @@ use Rattle.canvas_runs.specs.Core as C
 use Rattle.canvas_runs.specs.Core.{taken, sent, kept, counted, found, rested, taking, resting, over, failed, owning, doing, reading, settled, opens, owned, job_done, answered, acking, acked}
 use Rattle.canvas_runs.specs.Protocol.{Protocol}
 use Rattle.canvas_worker.specs.Asks.{Asked, Answer}
-use Rattle.canvas_worker.specs.Enveloped.{Applied, enveloped}
-use Rattle.canvas_worker.specs.Standing.{Left, asked}
+use Rattle.canvas_worker.specs.EnvelopeWorker.{Applied, enveloped}
+use Rattle.canvas_worker.specs.CoreState.{Left, asked}
 
 -- an ask other than a take
 abbrev pub Busy : Asked → Type 0

@@ -24,10 +24,10 @@ use Rattle.canvas_runs.specs.Core.{taken, sent, kept, counted, found, rested, ta
 use Rattle.canvas_runs.specs.Following.{Seat, Serves, table_reply}
 use Rattle.canvas_runs.specs.Worker.{opened}
 use Rattle.canvas_worker.specs.Asks.{Answer}
-use Rattle.canvas_worker.specs.Enveloped.{said, enclosed, enveloped, applied_if as kept_envelope, no_tasks}
+use Rattle.canvas_worker.specs.EnvelopeWorker.{said, enclosed, enveloped, applied_if as kept_envelope, no_tasks}
 use Rattle.canvas_worker.specs.Scripts.{EnvelopeJobs}
-use Rattle.canvas_worker.specs.Allowed.{Carries, InPlan, MayHandIn, Can, LetsAsk, CanAsk, CanGoOn}
-use Rattle.canvas_worker.specs.Standing.{Left, asked}
+use Rattle.canvas_worker.specs.SeatRights.{Carries, InPlan, MayHandIn, Can, LetsAsk, CanAsk, CanGoOn}
+use Rattle.canvas_worker.specs.CoreState.{Left, asked}
 use Rattle.canvas_worker.proofs.Books.{no_member_zero}
 use Rattle.canvas_worker.proofs.KnownJobs.{Stored, Behind, own_known, ended_jobs, body_jobs, ended_known, body_known}
 use Rattle.canvas_worker.proofs.KnownScripts.{script_known, script_may}

@@ -17,7 +17,7 @@ use Rattle.canvas_codec.proofs.EnvelopeBack.{envelope_back}
 use Rattle.canvas_codec.proofs.EnvelopeLaw.{envelope_judged}
 use Rattle.canvas_runs.proofs.Readings.{reading_says, says_reading}
 use Rattle.canvas_runs.specs.Worker.{sealed, read_envelope}
-use Rattle.canvas_worker.specs.Enveloped.{said, blank, is_sendable, envelope_of}
+use Rattle.canvas_worker.specs.EnvelopeWorker.{said, blank, is_sendable, envelope_of}
 
 -- ---- the texts of an envelope that nothing refuses
 

@@ -17,7 +17,7 @@ use Rattle.std.specs.Prelude.{slice_get}
 use Rattle.canvas_runs.specs.Lists.{total, at}
 use Rattle.canvas_worker.specs.WorkerSteps.{OnlyBare, Called, FromHeld, Batched, Delivered}
 use Rattle.canvas_runs.specs.Tally.{Tally, CountsMore, IsTally, Counted, greatest_count, often, is_taken, is_published, is_first, is_part, is_dropped}
-use Rattle.canvas_worker.specs.Enveloped.{enveloped}
+use Rattle.canvas_worker.specs.EnvelopeWorker.{enveloped}
 use Rattle.canvas_runs.proofs.Sums.{total-append}
 
 makes_append : (cs ds : List (BrokerCall Envelope)) (p q r : Pass) → Makes p cs q → Makes q ds r → Makes p (cs ++ ds) r

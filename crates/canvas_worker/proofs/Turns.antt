@@ -5,7 +5,7 @@ use Rattle.canvas_task.specs.Apply.{Behaviour}
 use Rattle.canvas_backend.specs.Roster.{Roster}
 use Rattle.canvas_runs.specs.Tally.{Tally, IsTally, Counted, CountsMore, is_taken, is_published, is_first, is_part, is_dropped, greatest_count}
 use Rattle.canvas_worker.specs.Asks.{Asked, Answer}
-use Rattle.canvas_worker.specs.Work.{Work, progress, Ready, Acts, stays, acts, Pends, Acted, EndsBy, EndsWith, ActedLast}
+use Rattle.canvas_worker.specs.Polls.{Work, progress, Ready, Acts, stays, acts, Pends, Acted, EndsBy, EndsWith, ActedLast}
 use Rattle.canvas_worker.specs.declared.cause.Cause.{Cause}
 use Rattle.canvas_worker.specs.declared.working.End.{End}
 

@@ -5,8 +5,8 @@ use Rattle.canvas_message.specs.declared.envelope.Envelope.{Envelope}
 use Rattle.canvas_runs.specs.Book.{Book}
 use Rattle.canvas_runs.specs.Core.{failed, end, pause, send, rested, refused}
 use Rattle.canvas_worker.specs.Asks.{Asked, Answer, suits, shown}
-use Rattle.canvas_worker.specs.Leading.{Leads}
-use Rattle.canvas_worker.specs.Standing.{Standing, asked, failing, held_out, handed}
+use Rattle.canvas_worker.specs.CorePast.{Leads}
+use Rattle.canvas_worker.specs.CoreState.{Standing, asked, failing, held_out, handed}
 use Rattle.canvas_worker.specs.declared.ask.Reply.{Reply}
 
 -- From its end nothing leads on: no reply suits it, and no envelope is handed out.

@@ -11,8 +11,8 @@ use Rattle.canvas_backend.specs.Roster.{roster_of}
 use Rattle.canvas_runs.specs.Core.{CoreState, taking, resting, over, failed, owning, doing, reading, ask, left_after, Between, ReadsBack, IsCoreRun, acking}
 use Rattle.canvas_runs.specs.Worker.{worker}
 use Rattle.canvas_worker.specs.Asks.{Asked, Answer}
-use Rattle.canvas_worker.specs.Enveloped.{said, enclosed, enveloped}
-use Rattle.canvas_worker.specs.Standing.{Left}
+use Rattle.canvas_worker.specs.EnvelopeWorker.{said, enclosed, enveloped}
+use Rattle.canvas_worker.specs.CoreState.{Left}
 
 module _ (behaviour : Behaviour) where
   -- The same point of a script: of a message that was taken the envelope says what it is, and its

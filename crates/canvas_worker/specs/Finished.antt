@@ -10,7 +10,7 @@ use Rattle.canvas_backend.specs.Seats.{Desk}
 use Rattle.canvas_backend.specs.Roster.{Roster, roster_of}
 use Rattle.canvas_broker.specs.Passes.{Empties}
 use Rattle.canvas_runs.specs.Following.{Pass, Seat, Working, Followed, begins, IsOver}
-use Rattle.canvas_worker.specs.Work.{Ready, TellsOf, working_begun, tally_of}
+use Rattle.canvas_worker.specs.Polls.{Ready, TellsOf, working_begun, tally_of}
 use Rattle.canvas_worker.specs.declared.record.Record.{Record}
 
 -- The record's pass and seat have followed a core run from where they were given to the worker;

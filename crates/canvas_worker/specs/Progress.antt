@@ -10,8 +10,8 @@ use Rattle.canvas_runs.specs.Core.{taking, IsCoreRun, left_after}
 use Rattle.canvas_runs.specs.Following.{Pass, Seat, Makes, Serves}
 use Rattle.canvas_runs.specs.Lists.{total}
 use Rattle.canvas_runs.specs.Tally.{Tally, none_yet, Counted}
-use Rattle.canvas_worker.specs.Enveloped.{enveloped}
-use Rattle.canvas_worker.specs.Standing.{Left}
+use Rattle.canvas_worker.specs.EnvelopeWorker.{enveloped}
+use Rattle.canvas_worker.specs.CoreState.{Left}
 
 -- its pass and its seat, what its core has left to do, the envelopes that it took and has not given
 -- to its core, and its counts

@@ -11,7 +11,7 @@ use Rattle.canvas_runs.specs.Following.{Makes, Serves}
 use Rattle.canvas_worker.specs.Progress.{Progress}
 use Rattle.canvas_runs.specs.Calls.{broker_call, backend_call, reads_member, held_by, again}
 use Rattle.canvas_runs.specs.Tally.{Counted}
-use Rattle.canvas_worker.specs.Enveloped.{enveloped}
+use Rattle.canvas_worker.specs.EnvelopeWorker.{enveloped}
 
 -- an envelope is taken from the broker only where none is held
 abbrev pub OnlyBare : Ask Envelope Outcome → Reply Envelope Outcome → List Envelope → Type 0

@@ -9,8 +9,8 @@ ghost use Rattle.canvas_runs.specs.Core.{ReadsBack, taking, acking, take, taken,
 ghost use Rattle.canvas_runs.specs.Book.{Book as AnyBook};
 ghost use Rattle.canvas_worker.specs.Phases.{left_of, is_out};
 ghost use Rattle.canvas_runs.specs.Tally.{greatest_count};
-ghost use Rattle.canvas_worker.specs.Standing.{asked, begun, after_reply, failing, held, held_out, handed, point_at, waiting};
-ghost use Rattle.canvas_worker.specs.Enveloped.{enveloped_by, said, no_tasks};
+ghost use Rattle.canvas_worker.specs.CoreState.{asked, begun, after_reply, failing, held, held_out, handed, point_at, waiting};
+ghost use Rattle.canvas_worker.specs.EnvelopeWorker.{enveloped_by, said, no_tasks};
 ghost use Rattle.canvas_runs.specs.Worker.{opened, read_envelope};
 
 use crate::known::message_known;
@@ -39,7 +39,7 @@ pub struct Core {
 
 impl Model for Core {
     ghost use Rattle.canvas_worker.specs.Phases.{left_of, is_out};
-    ghost use Rattle.canvas_worker.specs.Standing.{Standing};
+    ghost use Rattle.canvas_worker.specs.CoreState.{Standing};
     ghost use Rattle.std.specs.Coded.{codes};
     ghost use Rattle.canvas_message.specs.codes.ContentCode.{content_code};
     ghost use Rattle.canvas_worker.specs.codes.CoreCode.{carried_code};

@@ -4,7 +4,7 @@ ghost use Rattle.std.specs.Prelude.{◌≡◌, map};
 ghost use Rattle.canvas_rewrite.specs.FrozenView.{p_tasks_of, p_lines_of, p_task_view, p_line_view, p_end_view};
 ghost use Rattle.canvas_message.specs.Fits.{how_many};
 ghost use Rattle.canvas_effects.specs.Placing.{last_task};
-ghost use Rattle.canvas_message.specs.View.{place_seen, rest_seen};
+ghost use Rattle.canvas_message.specs.MessageView.{place_seen, rest_seen};
 ghost use Rattle.canvas_runs.specs.Book.{task_known, tasks_known, place_known, line_known, members_known, message_known, parent_known, has_size};
 ghost use Rattle.canvas_worker.specs.steps.Lasts.{or_zero, last_number, member_is_known};
 

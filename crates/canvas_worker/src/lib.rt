@@ -25,8 +25,8 @@ mod working;
 ghost use Rattle.canvas_worker.specs.AtEnd.{EndStays, EndsBehind, FailingEnds, FailsBehind};
 ghost use Rattle.canvas_worker.specs.Cores.{CoresAreWorkers};
 ghost use Rattle.canvas_worker.specs.Finished.{WorkersStart, WorkersFinish};
-ghost use Rattle.canvas_worker.specs.Leading.{NoneLead, OneMoreLeads, HandedLeads, HandsOut, PlanLeads};
-ghost use Rattle.canvas_worker.specs.Allowed.{WaitingCan, CanAsk, CanGoOn};
+ghost use Rattle.canvas_worker.specs.CorePast.{NoneLead, OneMoreLeads, HandedLeads, HandsOut, PlanLeads};
+ghost use Rattle.canvas_worker.specs.SeatRights.{WaitingCan, CanAsk, CanGoOn};
 ghost use Rattle.canvas_worker.specs.StepLaws.{Rests, CallFirst, HeldFirst, BatchFirst, AgainFirst, TakenCan, StillCan};
 
 pub use ask::{Ask, Reply};

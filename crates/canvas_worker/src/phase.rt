@@ -5,7 +5,7 @@ ghost use Rattle.std.specs.Option.{option_map};
 ghost use Rattle.canvas_task.specs.Apply.{IsInRange};
 ghost use Rattle.canvas_effects.specs.Carrying.{carried_ok};
 ghost use Rattle.canvas_effects.specs.Effects.{after, outcome_of, script as whole, part_jobs};
-ghost use Rattle.canvas_message.specs.View.{carried_view};
+ghost use Rattle.canvas_message.specs.MessageView.{carried_view};
 ghost use Rattle.canvas_effects.specs.Job.{store, publish, hand_in};
 ghost use Rattle.canvas_effects.specs.Todos.{part_view};
 ghost use Rattle.canvas_worker.specs.Asks.{replied, FoundInRange, Grows};
@@ -13,7 +13,7 @@ ghost use Rattle.canvas_worker.specs.Books.{no_book};
 ghost use Rattle.canvas_runs.specs.Core.{is_due, settled, handed_in, all_read, answered, owning, doing, resting, acking, reading as state_reading};
 ghost use Rattle.canvas_worker.specs.Phases.{IsAt};
 ghost use Rattle.canvas_worker.specs.Scripts.{jobs_of};
-ghost use Rattle.canvas_worker.specs.Enveloped.{enveloped_by, no_tasks, said, enclosed, unapplied, blank};
+ghost use Rattle.canvas_worker.specs.EnvelopeWorker.{enveloped_by, no_tasks, said, enclosed, unapplied, blank};
 ghost use Rattle.canvas_backend.specs.Backend.{says_first};
 
 use crate::Reply;

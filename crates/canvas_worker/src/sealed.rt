@@ -4,7 +4,7 @@ ghost use Rattle.std.specs.Prelude.{◌≡◌, Ok, IfOk};
 ghost use Rattle.std.specs.Coded.{codes};
 ghost use Rattle.canvas_message.specs.codes.ContentCode.{content_code};
 ghost use Rattle.canvas_runs.specs.Worker.{read_envelope};
-ghost use Rattle.canvas_worker.specs.Enveloped.{said, envelope_of};
+ghost use Rattle.canvas_worker.specs.EnvelopeWorker.{said, envelope_of};
 
 use canvas_codec::Sealer;
 use canvas_message::{Letter, Message};

@@ -4,7 +4,7 @@ ghost use Rattle.std.specs.Prelude.{◌≡◌, IfOk, All, map};
 ghost use Rattle.canvas_task.specs.Apply.{IsInRange};
 ghost use Rattle.canvas_effects.specs.Effects.{script};
 ghost use Rattle.canvas_effects.specs.Todos.{todo_view};
-ghost use Rattle.canvas_worker.specs.Enveloped.{enclosed, envelope_of};
+ghost use Rattle.canvas_worker.specs.EnvelopeWorker.{enclosed, envelope_of};
 ghost use Rattle.canvas_worker.specs.Scripts.{jobs_of};
 
 use crate::script::Script;

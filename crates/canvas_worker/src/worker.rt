@@ -1,8 +1,8 @@
 //! The worker.
 
 ghost use Rattle.std.specs.Prelude.{◌≡◌, Some, None, IfSome, IsSome, IsSomeAnd};
-ghost use Rattle.canvas_worker.specs.Gating.{Heeds, HeldBack, LeavesHeeding};
-ghost use Rattle.canvas_worker.specs.Work.{Ready, Pends, Ends, TellsOf, Leaves, working_begun};
+ghost use Rattle.canvas_worker.specs.GateAnswers.{Heeds, HeldBack, LeavesHeeding};
+ghost use Rattle.canvas_worker.specs.Polls.{Ready, Pends, Ends, TellsOf, Leaves, working_begun};
 ghost use Rattle.futures.specs.Poll.{OnPending, IfReady};
 ghost use Rattle.futures.specs.Task.{Covers, Keeps};
 

@@ -5,10 +5,10 @@ ghost use Rattle.canvas_task.specs.Apply.{IsInRange};
 ghost use Rattle.canvas_runs.specs.Core.{ReadsBack, taken, is_inside};
 ghost use Rattle.canvas_worker.specs.Asks.{suits, shown, replied, FoundInRange, Grows};
 ghost use Rattle.canvas_worker.specs.Books.{no_book};
-ghost use Rattle.canvas_worker.specs.Enveloped.{enveloped_by, no_tasks};
-ghost use Rattle.canvas_worker.specs.Gating.{asks_at, passed_after, Heard, Heeds, EndsHeeding};
-ghost use Rattle.canvas_worker.specs.Standing.{asked, held};
-ghost use Rattle.canvas_worker.specs.Work.{Ready, EndsFor, Acted, ActedLast, Pends, EndsWith, Leaves, Redelivered, working_begun, with_answer, lost, one_taken};
+ghost use Rattle.canvas_worker.specs.EnvelopeWorker.{enveloped_by, no_tasks};
+ghost use Rattle.canvas_worker.specs.GateAnswers.{asks_at, passed_after, Heard, Heeds, EndsHeeding};
+ghost use Rattle.canvas_worker.specs.CoreState.{asked, held};
+ghost use Rattle.canvas_worker.specs.Polls.{Ready, EndsFor, Acted, ActedLast, Pends, EndsWith, Leaves, Redelivered, working_begun, with_answer, lost, one_taken};
 ghost use Rattle.canvas_worker.specs.declared.ask.Ask.TheVariants as ask;
 ghost use Rattle.canvas_worker.specs.declared.cause.Cause.TheVariants as cause;
 ghost use Rattle.canvas_worker.specs.declared.working.Said.TheVariants.{Wait, Again, On};
@@ -71,7 +71,7 @@ impl<'a, R: Wait> Model for Working<'a, R> {
     ghost use Rattle.canvas_message.specs.codes.ContentCode.{content_code};
     ghost use Rattle.canvas_worker.specs.codes.CoreCode.{carried_code};
     ghost use Rattle.canvas_worker.specs.steps.Held.{held_in};
-    ghost use Rattle.canvas_worker.specs.Work.{Work};
+    ghost use Rattle.canvas_worker.specs.Polls.{Work};
 
     ghost Value = { Work };
 

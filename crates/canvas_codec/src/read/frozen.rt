@@ -6,7 +6,7 @@ ghost use Rattle.canvas_sig.specs.Fields.{value_at, as_list, listed, tasks, subt
 ghost use Rattle.canvas_sig.specs.Answers.{Gives, ◌or_else◌, unless, each};
 ghost use Rattle.canvas_sig.specs.Grammar.{own_fault, primitive_of};
 ghost use Rattle.canvas_rewrite.specs.FrozenView.{p_task_view, p_line_view, p_end_view};
-ghost use Rattle.canvas_message.specs.View.{place_seen, carried_view};
+ghost use Rattle.canvas_message.specs.MessageView.{place_seen, carried_view};
 ghost use Rattle.canvas_codec.specs.steps.Elements.{element_view, line_with};
 ghost use Rattle.canvas_message.specs.FrozenGrammar.{but_a_place};
 ghost use Rattle.canvas_codec.specs.steps.FrozenReading.{place_with, carried_with, task_with, task_as, group_with, chord_with, header_fault, step_as, last_as, elements_with, link_reading, step_reading, last_reading, line_reading};

@@ -6,7 +6,7 @@ ghost use Rattle.serde_json.specs.Data.{no_items};
 ghost use Rattle.canvas_sig.specs.steps.Tokens.{Appends, data_tokens, rest_tokens};
 ghost use Rattle.canvas_rewrite.specs.FrozenView.{p_tasks_of, p_task_view, p_line_view};
 ghost use Rattle.canvas_codec.specs.steps.Tokens.{reversed_tokens, following_wire, named_tokens};
-ghost use Rattle.canvas_message.specs.View.{place_seen, rest_seen};
+ghost use Rattle.canvas_message.specs.MessageView.{place_seen, rest_seen};
 ghost use Rattle.canvas_codec.specs.Wire.{tasks_wire, carried_wire, elements_wire, onto_reversed, list_or_null};
 
 use super::frozen::{write_line, write_tail, write_task, write_tasks};

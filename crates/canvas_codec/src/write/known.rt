@@ -5,7 +5,7 @@ ghost use Rattle.serde_json.specs.Written.{compact_text};
 ghost use Rattle.canvas_rewrite.specs.declared.frozen.FrozenTask.{out-FrozenTask};
 ghost use Rattle.canvas_rewrite.specs.declared.frozen.Carried.{out-Carried};
 ghost use Rattle.canvas_rewrite.specs.FrozenView.{p_line_view};
-ghost use Rattle.canvas_message.specs.View.{place_seen};
+ghost use Rattle.canvas_message.specs.MessageView.{place_seen};
 ghost use Rattle.canvas_codec.specs.Wire.{carried_wire, line_wire};
 ghost use Rattle.canvas_codec.specs.steps.Texts.{bare};
 

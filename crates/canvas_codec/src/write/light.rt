@@ -15,7 +15,7 @@ ghost use Rattle.canvas_rewrite.specs.declared.frozen.FrozenTask.{out-FrozenTask
 ghost use Rattle.canvas_rewrite.specs.declared.frozen.Carried.{out-Carried};
 ghost use Rattle.canvas_rewrite.specs.FrozenView.{p_task_view, p_line_view};
 ghost use Rattle.canvas_message.specs.Content.{number_of, place_of};
-ghost use Rattle.canvas_message.specs.View.{place_seen};
+ghost use Rattle.canvas_message.specs.MessageView.{place_seen};
 ghost use Rattle.canvas_codec.specs.Wire.{task_id, place_id, parent_id, carried_wire, task_wire, line_wire, embed_wire, body_wire, headers_wire};
 ghost use Rattle.canvas_codec.specs.steps.Texts.{Adds, properties_naming, front_text, origin_text, name_text, bare, size_text, flag_text, call_text, own_text, embed_alone, args_text, alone_text};
 

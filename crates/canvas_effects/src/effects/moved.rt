@@ -12,7 +12,7 @@ ghost use Rattle.canvas_effects.specs.Carrying.{place_stands};
 ghost use Rattle.canvas_effects.specs.Effects.{after, message, part_in, part_of};
 ghost use Rattle.canvas_message.specs.Fits.{fits};
 ghost use Rattle.canvas_effects.specs.Todos.{part_view, todo_view};
-ghost use Rattle.canvas_message.specs.View.{place_seen, rest_seen};
+ghost use Rattle.canvas_message.specs.MessageView.{place_seen, rest_seen};
 ghost use Rattle.canvas_effects.specs.steps.Walks.{input_seen, begins_with_task};
 
 use super::started::{call_back, parent_of, put_input};

@@ -11,7 +11,7 @@ ghost use Rattle.canvas_message.specs.Fits.{fits, parent_ok};
 ghost use Rattle.canvas_effects.specs.Flowing.{input_flow, parent_for};
 ghost use Rattle.canvas_message.specs.steps.Parts.{is_stop};
 ghost use Rattle.canvas_effects.specs.Placing.{last_at, placed};
-ghost use Rattle.canvas_message.specs.View.{place_seen, place_view, rest_seen};
+ghost use Rattle.canvas_message.specs.MessageView.{place_seen, place_view, rest_seen};
 ghost use Rattle.canvas_effects.specs.steps.Walks.{input_seen, tail_seen, at_place, member_place, started, all_started};
 
 use crate::copies::{copy_tasks, share_if_some, share_place};

@@ -22,10 +22,10 @@ use Rattle.canvas_runs.specs.Worker.{read_envelope, sealed}
 use Rattle.canvas_message.specs.Content.{Content}
 use Rattle.canvas_worker.specs.Asks.{Asked, Answer}
 use Rattle.canvas_worker.specs.Books.{no_book, book_in}
-use Rattle.canvas_worker.specs.Enveloped.{enveloped, enveloped_by, no_tasks}
-use Rattle.canvas_worker.specs.Leading.{task_in}
-use Rattle.canvas_worker.specs.Standing as standing
-use Rattle.canvas_worker.specs.Standing.{Standing, asked, after_reply, begun, point_at}
+use Rattle.canvas_worker.specs.EnvelopeWorker.{enveloped, enveloped_by, no_tasks}
+use Rattle.canvas_worker.specs.CorePast.{task_in}
+use Rattle.canvas_worker.specs.CoreState as standing
+use Rattle.canvas_worker.specs.CoreState.{Standing, asked, after_reply, begun, point_at}
 use Rattle.canvas_worker.specs.declared.cause.Cause.{Cause}
 use Rattle.canvas_worker.specs.declared.cause.Cause.TheVariants.{Memory, Stopped}
 use Rattle.canvas_engine.specs.declared.stage.Stage.{Stage}

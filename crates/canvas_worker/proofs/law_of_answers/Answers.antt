@@ -1,5 +1,5 @@
 use Rattle.canvas_worker.proofs.PlanBooks.{plan_leads}
-use Rattle.canvas_worker.proofs.Leading.{none_lead, one_more_leads, handed_leads, hands_out}
+use Rattle.canvas_worker.proofs.CorePasts.{none_lead, one_more_leads, handed_leads, hands_out}
 use Rattle.canvas_worker.proofs.law_of_answers.Goals as goal
 
 pub returns-clause-none : goal.returns-clause-none

@@ -10,7 +10,7 @@ use Rattle.canvas_message.specs.Content.{number_of, links_of, place_of}
 use Rattle.canvas_effects.specs.Effects.{callbacks, messages_in, part_in, part_of}
 use Rattle.canvas_message.specs.Fits.{fits}
 use Rattle.canvas_effects.specs.Flowing.{number_input}
-use Rattle.canvas_message.specs.View.{place_seen}
+use Rattle.canvas_message.specs.MessageView.{place_seen}
 use Rattle.canvas_effects.proofs.Ended.{own_stepped, rest_stands, succeeded, succeeded_last}
 use Rattle.canvas_effects.proofs.effects.after_success.Goals as goal
 

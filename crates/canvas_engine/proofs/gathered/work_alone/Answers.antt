@@ -1,7 +1,7 @@
 use Rattle.std.proofs.Common.{rules, sym, subst}
 use Rattle.canvas_worker.proofs.Finishing.{workers_finish}
 use Rattle.canvas_worker.specs.Finished.{Finished}
-use Rattle.canvas_worker.specs.Work.{TellsOf, working_begun}
+use Rattle.canvas_worker.specs.Polls.{TellsOf, working_begun}
 use Rattle.canvas_engine.proofs.gathered.work_alone.Goals as goal
 
 pub returns-in-Ok : goal.returns-in-Ok

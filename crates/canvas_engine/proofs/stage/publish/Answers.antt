@@ -1,8 +1,8 @@
 use Rattle.std.proofs.Common.{◌≡◌, OnOk, refl, sym, ap, ◌∙◌, subst}
 use Rattle.canvas_runs.specs.Core as C
 use Rattle.canvas_worker.specs.Books.{book_in}
-use Rattle.canvas_worker.specs.Standing.{after_reply}
-use Rattle.canvas_worker.proofs.Shown.{handed_out, handed_same}
+use Rattle.canvas_worker.specs.CoreState.{after_reply}
+use Rattle.canvas_worker.proofs.ShownAsks.{handed_out, handed_same}
 use Rattle.canvas_engine.specs.steps.Stages.{Stepped}
 use Rattle.canvas_engine.proofs.StageAsks.{answered_ok, of_each}
 use Rattle.canvas_engine.proofs.stage.publish.Goals as goal

@@ -2,8 +2,8 @@ use Rattle.std.proofs.Common.{rules, ◌≤◌, refl, sym, ◌∙◌, subst}
 use Rattle.canvas_backend.specs.Plain.{held}
 use Rattle.canvas_backend.specs.Roster.{members}
 use Rattle.canvas_runs.specs.Core as C
-use Rattle.canvas_worker.specs.Standing.{asked}
-use Rattle.canvas_worker.proofs.Shown.{is_read, no_place}
+use Rattle.canvas_worker.specs.CoreState.{asked}
+use Rattle.canvas_worker.proofs.ShownAsks.{is_read, no_place}
 use Rattle.canvas_engine.specs.steps.Stages.{MayAsk, Stepped}
 use Rattle.canvas_engine.proofs.StageAsks.{answered_ok, at_place, found_says, found_in_range, each_queue, same_place}
 use Rattle.canvas_engine.proofs.stage.read.Goals as goal

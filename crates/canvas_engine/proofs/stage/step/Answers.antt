@@ -1,9 +1,9 @@
 use Rattle.std.proofs.Common.{refl, sym}
 use Rattle.canvas_backend.specs.Plain.{held}
 use Rattle.canvas_runs.specs.Core as C
-use Rattle.canvas_worker.specs.Standing.{asked}
+use Rattle.canvas_worker.specs.CoreState.{asked}
 use Rattle.canvas_worker.specs.declared.ask.Ask.TheVariants as A
-use Rattle.canvas_worker.proofs.Shown.{is_store, is_part}
+use Rattle.canvas_worker.proofs.ShownAsks.{is_store, is_part}
 use Rattle.canvas_engine.proofs.StageAsks.{answered_err, stored_says, counted_says, none_counted}
 use Rattle.canvas_engine.proofs.stage.step.Goals as goal
 use Rattle.canvas_backend.specs.Backend.{says_first}

@@ -1,7 +1,7 @@
 use Rattle.std.proofs.Common.{rules, ◌≡◌, refl, sym, subst}
 use Rattle.canvas_worker.proofs.Finishing.{workers_finish}
 use Rattle.canvas_worker.specs.Finished.{Finished}
-use Rattle.canvas_worker.specs.Work.{TellsOf, working_begun}
+use Rattle.canvas_worker.specs.Polls.{TellsOf, working_begun}
 use Rattle.canvas_engine.specs.steps.Slots.{LeavesPost}
 use Rattle.canvas_engine.specs.declared.slot.Post.TheVariants.{Ready, Done}
 use Rattle.canvas_engine.proofs.threads.work.Goals as goal

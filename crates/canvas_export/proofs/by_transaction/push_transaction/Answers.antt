@@ -1,6 +1,6 @@
 use Rattle.std.proofs.Common.{[], ◌∷◌, map, codes}
 use Rattle.canvas_export.specs.Transaction.{sizes_between}
-use Rattle.canvas_export.specs.View.{setting}
+use Rattle.canvas_export.specs.ExportView.{setting}
 use Rattle.canvas_export.specs.steps.Sizes.{size_view}
 use Rattle.canvas_export.proofs.Pieces.{whole_ok}
 use Rattle.canvas_export.proofs.by_transaction.push_transaction.Goals as goal

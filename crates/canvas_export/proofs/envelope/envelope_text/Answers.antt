@@ -6,7 +6,7 @@ use Rattle.base64.specs.GeneralPurpose.{encode_of}
 use Rattle.base64.specs.Engines.{standard}
 use Rattle.canvas_export.specs.Envelope.{body_wire, envelope_wire}
 use Rattle.canvas_export.specs.MessageReading.{read_message}
-use Rattle.canvas_export.specs.View.{naming}
+use Rattle.canvas_export.specs.ExportView.{naming}
 use Rattle.canvas_export.proofs.MessageBack.{kept_by, message_back}
 use Rattle.canvas_export.proofs.envelope.envelope_text.Goals as goal
 

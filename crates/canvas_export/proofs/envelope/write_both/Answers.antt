@@ -4,7 +4,7 @@ use Rattle.canvas_sig.specs.steps.Tokens.{data_tokens}
 use Rattle.canvas_sig.proofs.Writers.{after_ok, then_tokens}
 use Rattle.canvas_message.specs.Content.{number_of}
 use Rattle.canvas_export.specs.Envelope.{headers_wire, properties_wire}
-use Rattle.canvas_export.specs.View.{naming}
+use Rattle.canvas_export.specs.ExportView.{naming}
 use Rattle.canvas_export.proofs.envelope.write_both.Goals as goal
 
 pub returns-clause-tokens : goal.returns-clause-tokens

@@ -2,7 +2,7 @@ use Rattle.std.proofs.Common.{◌<◌, length, Some, arith, sym}
 use Rattle.canvas_export.specs.Envelope.{message_text}
 use Rattle.canvas_export.specs.MessageReading.{read_message}
 use Rattle.canvas_export.specs.Sizeless.{sizeless}
-use Rattle.canvas_export.specs.View.{naming}
+use Rattle.canvas_export.specs.ExportView.{naming}
 use Rattle.canvas_export.proofs.Texts.{next_text, last_text}
 use Rattle.canvas_export.proofs.exporting.encode_all.Goals as goal
 

@@ -1,6 +1,6 @@
 use Rattle.std.proofs.Common.{rules, ◌≡◌, ◌∙◌, ◌<◌, ◌^◌, length, sym, ap, arith}
 use Rattle.canvas_effects.specs.Effects.{first_messages}
-use Rattle.canvas_export.specs.View.{setting}
+use Rattle.canvas_export.specs.ExportView.{setting}
 use Rattle.canvas_export.proofs.Plans.{start_back}
 use Rattle.canvas_export.proofs.exporting.export.Goals as goal
 

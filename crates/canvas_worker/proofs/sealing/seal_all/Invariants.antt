@@ -1,5 +1,5 @@
 use Rattle.std.proofs.Common.{◌≡◌, ◌++◌, map}
-use Rattle.canvas_worker.specs.Enveloped.{envelope_of}
+use Rattle.canvas_worker.specs.EnvelopeWorker.{envelope_of}
 use Rattle.canvas_worker.proofs.sealing.seal_all.Given as goal
 
 abbrev pub invariant-loop-message : goal.invariant-loop-message

@@ -6,7 +6,7 @@ use Rattle.canvas_broker.specs.Passes.{IsHistory}
 use Rattle.canvas_broker.specs.steps.Rule.{IsReady, united}
 use Rattle.canvas_broker.specs.declared.view.View.{View}
 use Rattle.canvas_message.specs.declared.envelope.Envelope.{Envelope}
-use Rattle.canvas_broker.proofs.Keeps.{merges, hears, united_ready}
+use Rattle.canvas_broker.proofs.RuleSteps.{merges, hears, united_ready}
 use Rattle.canvas_broker.proofs.broker.Broker.join.Goals as goal
 
 pub absorb-requires-clause-rule : goal.absorb-requires-clause-rule

@@ -4,7 +4,7 @@ use Rattle.canvas_history.specs.History.{calls}
 use Rattle.canvas_message.specs.declared.envelope.Envelope.{Envelope}
 use Rattle.canvas_broker.specs.Broker.{publish}
 use Rattle.canvas_broker.specs.Passes.{Knowledge, Pass, pass_of}
-use Rattle.canvas_broker.proofs.Keeps.{publishes}
+use Rattle.canvas_broker.proofs.RuleSteps.{publishes}
 use Rattle.canvas_broker.proofs.Made.{stands_own}
 use Rattle.canvas_broker.proofs.broker.Broker.publish.Goals.{in-Ok, in-Err}
 use Rattle.canvas_broker.proofs.broker.Broker.publish.Goals as goal

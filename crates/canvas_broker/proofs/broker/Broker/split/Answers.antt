@@ -6,7 +6,7 @@ use Rattle.canvas_message.specs.declared.envelope.Envelope.{Envelope}
 use Rattle.canvas_broker.specs.Broker.{answer, next, May}
 use Rattle.canvas_broker.specs.Passes.{Knowledge, Pass}
 use Rattle.canvas_broker.specs.declared.view.View.{View}
-use Rattle.canvas_broker.proofs.Keeps.{splits, forks}
+use Rattle.canvas_broker.proofs.RuleSteps.{splits, forks}
 use Rattle.canvas_broker.proofs.Made.{stands_own, child_is}
 use Rattle.canvas_broker.proofs.broker.Broker.split.Goals.{in-Ok, in-Err}
 use Rattle.canvas_broker.proofs.broker.Broker.split.Goals as goal

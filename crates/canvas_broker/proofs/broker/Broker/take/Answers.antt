@@ -6,7 +6,7 @@ use Rattle.canvas_broker.specs.Broker.{take}
 use Rattle.canvas_broker.specs.Passes.{Knowledge, Pass, pass_of, Stands, Empties}
 use Rattle.canvas_broker.specs.steps.Rule.{IsReady}
 use Rattle.canvas_broker.specs.declared.view.View.{View}
-use Rattle.canvas_broker.proofs.Keeps.{takes, misses}
+use Rattle.canvas_broker.proofs.RuleSteps.{takes, misses}
 use Rattle.canvas_broker.proofs.Made.{stands_own, empties}
 use Rattle.canvas_broker.proofs.broker.Broker.take.Goals as goal
 

@@ -9,7 +9,7 @@ use Rattle.canvas_history.proofs.Histories.{In}
 use Rattle.canvas_broker.specs.Passes.{Pass, pass_of, Took}
 use Rattle.canvas_broker.specs.declared.view.View.{View}
 use Rattle.canvas_broker.specs.steps.Rule.{envelopes, IsReady, Kept, newcomer}
-use Rattle.canvas_broker.proofs.Keeps.{misses}
+use Rattle.canvas_broker.proofs.RuleSteps.{misses}
 use Rattle.canvas_broker.proofs.Begins.{admits}
 use Rattle.canvas_broker.proofs.Batches.{takes_many, first_rest, no_rest}
 use Rattle.canvas_broker.proofs.Made.{took_own}

@@ -4,7 +4,7 @@ use Rattle.canvas_sig.specs.steps.Tokens.{data_tokens}
 use Rattle.canvas_sig.proofs.Writers.{after_ok, then_tokens}
 use Rattle.canvas_rewrite.specs.FrozenView.{p_tasks_of, p_task_view}
 use Rattle.canvas_codec.specs.steps.Tokens.{following_wire, named_tokens}
-use Rattle.canvas_message.specs.View.{rest_seen}
+use Rattle.canvas_message.specs.MessageView.{rest_seen}
 use Rattle.canvas_codec.specs.Wire.{tasks_wire, list_or_null}
 use Rattle.canvas_codec.proofs.write.embed.write_callbacks_and_chain.Goals as goal
 

@@ -4,7 +4,7 @@ use Rattle.canvas_sig.specs.steps.Tokens.{data_tokens}
 use Rattle.canvas_sig.proofs.Writers.{after_ok, then_tokens}
 use Rattle.canvas_rewrite.specs.FrozenView.{p_tasks_of, p_task_view}
 use Rattle.canvas_codec.specs.steps.Tokens.{named_tokens}
-use Rattle.canvas_message.specs.View.{place_seen}
+use Rattle.canvas_message.specs.MessageView.{place_seen}
 use Rattle.canvas_codec.specs.Wire.{tasks_wire, list_or_null, carried_wire}
 use Rattle.canvas_codec.proofs.write.embed.write_chord_and_errbacks.Goals as goal
 

@@ -5,7 +5,7 @@ use Rattle.serde_json.specs.Written.{compact_text}
 use Rattle.canvas_task.specs.Entries.{named}
 use Rattle.canvas_sig.specs.Writing.{args_wire, kwargs_wire}
 use Rattle.canvas_message.specs.Content.{call_of, place_of}
-use Rattle.canvas_message.specs.View.{place_seen}
+use Rattle.canvas_message.specs.MessageView.{place_seen}
 use Rattle.canvas_codec.specs.Wire.{carried_wire}
 use Rattle.canvas_codec.specs.steps.Texts.{args_text, alone_text, embed_alone}
 use Rattle.canvas_codec.proofs.KnownTexts.{then_ok, body_written}

@@ -1,7 +1,7 @@
 use Rattle.std.proofs.Common.{◌++◌, ◌∙◌, ap, append_assoc}
 use Rattle.std.specs.Prelude.{codes, string_bytes}
 use Rattle.serde_json.specs.Written.{compact_text}
-use Rattle.canvas_message.specs.View.{place_seen}
+use Rattle.canvas_message.specs.MessageView.{place_seen}
 use Rattle.canvas_codec.specs.Wire.{carried_wire}
 use Rattle.canvas_codec.proofs.KnownTexts.{then_text}
 use Rattle.canvas_codec.proofs.write.light.put_embed.Goals as goal

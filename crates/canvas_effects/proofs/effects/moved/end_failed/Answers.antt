@@ -4,7 +4,7 @@ use Rattle.canvas_rewrite.specs.FrozenView.{p_tasks_of, p_task_view}
 use Rattle.canvas_message.specs.Content.{number_of, errbacks_of, place_of}
 use Rattle.canvas_effects.specs.Effects.{callbacks, messages_in, part_in, part_of}
 use Rattle.canvas_effects.specs.Flowing.{id_input}
-use Rattle.canvas_message.specs.View.{place_seen}
+use Rattle.canvas_message.specs.MessageView.{place_seen}
 use Rattle.canvas_effects.proofs.Ended.{failed_last}
 use Rattle.canvas_effects.proofs.effects.moved.end_failed.Goals as goal
 

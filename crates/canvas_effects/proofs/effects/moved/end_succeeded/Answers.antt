@@ -6,7 +6,7 @@ use Rattle.canvas_semantics.specs.PlacedLine.{p_stop}
 use Rattle.canvas_message.specs.Content.{number_of, links_of, place_of}
 use Rattle.canvas_effects.specs.Effects.{callbacks, messages_in, part_in, part_of}
 use Rattle.canvas_effects.specs.Flowing.{number_input}
-use Rattle.canvas_message.specs.View.{place_seen}
+use Rattle.canvas_message.specs.MessageView.{place_seen}
 use Rattle.canvas_effects.proofs.Ended.{succeeded_last}
 use Rattle.canvas_effects.proofs.effects.moved.end_succeeded.Goals as goal
 

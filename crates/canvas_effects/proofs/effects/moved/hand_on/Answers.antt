@@ -6,7 +6,7 @@ use Rattle.canvas_message.specs.Content.{number_of, links_of}
 use Rattle.canvas_effects.specs.Effects.{message, callbacks, messages_in}
 use Rattle.canvas_message.specs.Fits.{fits}
 use Rattle.canvas_effects.specs.Flowing.{number_input}
-use Rattle.canvas_message.specs.View.{rest_seen}
+use Rattle.canvas_message.specs.MessageView.{rest_seen}
 use Rattle.canvas_effects.proofs.Ended.{next_stands, succeeded_next}
 use Rattle.canvas_effects.proofs.effects.moved.hand_on.Goals as goal
 

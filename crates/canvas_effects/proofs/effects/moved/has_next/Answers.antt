@@ -1,7 +1,7 @@
 use Rattle.std.proofs.Common.{◌≡◌, ◌∙◌, ap, sym, arith, length, vec_len}
 use Rattle.std.specs.Prelude.{◌==◌, not}
 use Rattle.canvas_rewrite.specs.declared.frozen.FrozenLine.{out-FrozenLine}
-use Rattle.canvas_message.specs.View.{rest_seen}
+use Rattle.canvas_message.specs.MessageView.{rest_seen}
 use Rattle.canvas_effects.specs.steps.Walks.{begins_with_task}
 use Rattle.canvas_effects.proofs.Walked.{begins_seen}
 use Rattle.canvas_effects.proofs.effects.moved.has_next.Goals as goal

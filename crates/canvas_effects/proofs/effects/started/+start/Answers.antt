@@ -1,6 +1,6 @@
 use Rattle.std.proofs.Common.{rules, ◌≡◌, ◌∙◌, ◌∷◌, ◌++◌, ap}
 use Rattle.canvas_rewrite.proofs.PlanLines.{ok_same}
-use Rattle.canvas_message.specs.View.{place_seen}
+use Rattle.canvas_message.specs.MessageView.{place_seen}
 use Rattle.canvas_effects.specs.steps.Walks.{input_seen}
 use Rattle.canvas_effects.proofs.Begun.{group_started, header_started, empty_started}
 use Rattle.canvas_effects.proofs.effects.started.+start.Goals as goal

@@ -1,7 +1,7 @@
 use Rattle.std.proofs.Common.{◌∙◌, map}
 use Rattle.std.proofs.lemmas.Result.{IfOk-weaker}
 use Rattle.canvas_rewrite.specs.FrozenView.{p_steps, p_task_view, p_line_view}
-use Rattle.canvas_message.specs.View.{place_seen}
+use Rattle.canvas_message.specs.MessageView.{place_seen}
 use Rattle.canvas_effects.specs.steps.Walks.{input_seen, tail_seen}
 use Rattle.canvas_effects.proofs.Begun.{followed_fits, followed_is}
 use Rattle.canvas_effects.proofs.effects.started.followed_message.Goals as goal

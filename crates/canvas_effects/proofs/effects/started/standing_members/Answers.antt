@@ -1,5 +1,5 @@
 use Rattle.std.proofs.Common.{◌∙◌}
-use Rattle.canvas_message.specs.View.{place_seen}
+use Rattle.canvas_message.specs.MessageView.{place_seen}
 use Rattle.canvas_effects.proofs.Begun.{members_stand}
 use Rattle.canvas_effects.proofs.effects.started.standing_members.Goals as goal
 

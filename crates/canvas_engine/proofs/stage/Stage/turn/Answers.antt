@@ -4,8 +4,8 @@ use Rattle.std.proofs.lemmas.Option.{slice_get_read}
 use Rattle.canvas_backend.specs.Plain.{Shelf, held}
 use Rattle.canvas_runs.specs.Core.{ReadsBack}
 use Rattle.canvas_worker.specs.Books.{no_book}
-use Rattle.canvas_worker.specs.Enveloped.{enveloped_by, no_tasks}
-use Rattle.canvas_worker.specs.Standing.{Standing, asked}
+use Rattle.canvas_worker.specs.EnvelopeWorker.{enveloped_by, no_tasks}
+use Rattle.canvas_worker.specs.CoreState.{Standing, asked}
 use Rattle.canvas_engine.specs.steps.Stages.{MayAsk, AreInRange}
 use Rattle.canvas_engine.proofs.StageTurns.{is_place, not_out, has_open, skipped, stopped, may_ask, held_in_range, went, halfway, same_core, one_fewer}
 use Rattle.canvas_engine.proofs.stage.Stage.turn.Goals as goal

@@ -1,7 +1,7 @@
 use Rattle.std.proofs.Common.{[], ◌∷◌, ◌∙◌}
 use Rattle.json.specs.Token.{end_array}
 use Rattle.canvas_sig.proofs.Writers.{after_ok, then_tokens}
-use Rattle.canvas_export.specs.View.{naming}
+use Rattle.canvas_export.specs.ExportView.{naming}
 use Rattle.canvas_export.proofs.Lines.{appended, turned_written}
 use Rattle.canvas_export.proofs.write.body.write_backwards.Goals as goal
 

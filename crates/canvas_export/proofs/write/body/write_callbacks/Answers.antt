@@ -1,6 +1,6 @@
 use Rattle.std.proofs.Common.{[], ◌∷◌, ◌∙◌, sym}
 use Rattle.json.specs.Token.{null}
-use Rattle.canvas_export.specs.View.{naming}
+use Rattle.canvas_export.specs.ExportView.{naming}
 use Rattle.canvas_export.proofs.Tokens.{appends_as}
 use Rattle.canvas_export.proofs.Lines.{appended}
 use Rattle.canvas_export.proofs.Elements.{no_tasks, some_tasks}

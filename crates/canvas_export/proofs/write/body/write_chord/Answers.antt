@@ -1,9 +1,9 @@
 use Rattle.std.proofs.Common.{[], ◌∷◌, ap, sym}
 use Rattle.json.specs.Token.{null}
 use Rattle.canvas_sig.specs.steps.Tokens.{data_tokens}
-use Rattle.canvas_message.specs.View.{place_seen}
+use Rattle.canvas_message.specs.MessageView.{place_seen}
 use Rattle.canvas_export.specs.Signatures.{body_at}
-use Rattle.canvas_export.specs.View.{naming}
+use Rattle.canvas_export.specs.ExportView.{naming}
 use Rattle.canvas_export.proofs.Tokens.{appends_as}
 use Rattle.canvas_export.proofs.Lines.{appended}
 use Rattle.canvas_export.proofs.write.body.write_chord.Goals as goal

@@ -4,7 +4,7 @@ use Rattle.canvas_sig.specs.steps.Tokens.{data_tokens}
 use Rattle.canvas_rewrite.specs.FrozenView.{p_line_view}
 use Rattle.canvas_message.proofs.Seen.{group_place, chord_place}
 use Rattle.canvas_export.specs.Signatures.{carried_wire, elements, body_at}
-use Rattle.canvas_export.specs.View.{naming}
+use Rattle.canvas_export.specs.ExportView.{naming}
 use Rattle.canvas_export.proofs.Tokens.{appends_as}
 use Rattle.canvas_export.proofs.Lines.{appended}
 use Rattle.canvas_export.proofs.write.body.write_chord_of.Goals as goal

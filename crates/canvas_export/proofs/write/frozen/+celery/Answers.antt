@@ -4,11 +4,11 @@ use Rattle.json.specs.Token.{null, key, begin_array, begin_object, end_array, en
 use Rattle.canvas_sig.specs.steps.Tokens.{data_tokens, link_tokens}
 use Rattle.canvas_sig.proofs.Writers.{after_ok, then_tokens}
 use Rattle.canvas_rewrite.specs.FrozenView.{p_tasks_of, p_task_view, p_line_view, p_end_view}
-use Rattle.canvas_message.specs.View.{place_seen}
+use Rattle.canvas_message.specs.MessageView.{place_seen}
 use Rattle.canvas_codec.specs.steps.Tokens.{named_tokens}
 use Rattle.canvas_message.proofs.Seen.{group_place}
 use Rattle.canvas_export.specs.Signatures.{tasks_wire, elements, behind, carried_wire, first_wire}
-use Rattle.canvas_export.specs.View.{naming}
+use Rattle.canvas_export.specs.ExportView.{naming}
 use Rattle.canvas_export.specs.steps.Elements.{chord_option, each_tokens, task_sigs}
 use Rattle.canvas_export.proofs.Tokens.{appends_as}
 use Rattle.canvas_export.proofs.Sigs.{tasks_items, task_whole, each_items, two_elements, linked_behind, none_behind, chain_member, lone_member, chain_written, first_whole}

@@ -4,7 +4,7 @@ use Rattle.canvas_sig.proofs.Writers.{after_ok, then_tokens}
 use Rattle.canvas_message.specs.Content.{number_of, place_of}
 use Rattle.canvas_codec.specs.steps.Tokens.{named_tokens}
 use Rattle.canvas_export.specs.Signatures.{task_id}
-use Rattle.canvas_export.specs.View.{naming}
+use Rattle.canvas_export.specs.ExportView.{naming}
 use Rattle.canvas_export.specs.steps.Tokens.{header_place}
 use Rattle.canvas_export.proofs.write.message.write_headers_front.Goals as goal
 

@@ -1,7 +1,7 @@
 use Rattle.std.proofs.Common.{◌∙◌, ap, sym}
 use Rattle.canvas_sig.proofs.Writers.{after_ok}
-use Rattle.canvas_message.specs.View.{place_seen}
-use Rattle.canvas_export.specs.View.{naming}
+use Rattle.canvas_message.specs.MessageView.{place_seen}
+use Rattle.canvas_export.specs.ExportView.{naming}
 use Rattle.canvas_export.specs.steps.Tokens.{header_place}
 use Rattle.canvas_export.proofs.Tokens.{header_of}
 use Rattle.canvas_export.proofs.write.message.write_place.Goals as goal

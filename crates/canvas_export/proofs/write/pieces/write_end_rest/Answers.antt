@@ -1,5 +1,5 @@
 use Rattle.std.proofs.Common.{ap, sym}
-use Rattle.canvas_export.specs.View.{naming}
+use Rattle.canvas_export.specs.ExportView.{naming}
 use Rattle.canvas_export.specs.steps.Elements.{first_rest}
 use Rattle.canvas_export.proofs.Tokens.{appends_as}
 use Rattle.canvas_export.proofs.Elements.{a_group, a_header}

@@ -1,4 +1,4 @@
-use Rattle.canvas_message.specs.View.{carried_view}
+use Rattle.canvas_message.specs.MessageView.{carried_view}
 use Rattle.canvas_effects.specs.Todos.{todo_view}
 use Rattle.canvas_worker.proofs.Stores.{body_todo_stores}
 use Rattle.canvas_worker.proofs.stages.Reading.add.Goals as goal

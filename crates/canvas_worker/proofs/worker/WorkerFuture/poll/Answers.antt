@@ -1,8 +1,8 @@
 use Rattle.std.proofs.Common.{rules, ◌≡◌, ℕ, Bool, Some}
-use Rattle.canvas_worker.specs.Work.{Work, TellsOf}
-use Rattle.canvas_worker.specs.Gating.{HeldBack}
+use Rattle.canvas_worker.specs.Polls.{Work, TellsOf}
+use Rattle.canvas_worker.specs.GateAnswers.{HeldBack}
 use Rattle.canvas_worker.proofs.Held.{held_back}
-use Rattle.canvas_worker.proofs.Moving.{goes_first, ends_give, of_one, pending}
+use Rattle.canvas_worker.proofs.PollsFollowed.{goes_first, ends_give, of_one, pending}
 use Rattle.canvas_worker.proofs.worker.WorkerFuture.poll.Goals as goal
 
 pub returns-in-Ok-clause-same : goal.returns-in-Ok-clause-same

@@ -1,9 +1,9 @@
 use Rattle.std.proofs.Common.{◌≡◌}
 use Rattle.canvas_runs.specs.Core as C
-use Rattle.canvas_worker.specs.Standing.{asked}
-use Rattle.canvas_worker.specs.Work.{Work}
-use Rattle.canvas_worker.proofs.Shown.{is_ack}
-use Rattle.canvas_worker.proofs.Telling.{asked_well, ack_asks}
+use Rattle.canvas_worker.specs.CoreState.{asked}
+use Rattle.canvas_worker.specs.Polls.{Work}
+use Rattle.canvas_worker.proofs.ShownAsks.{is_ack}
+use Rattle.canvas_worker.proofs.ToldAnswers.{asked_well, ack_asks}
 use Rattle.canvas_worker.proofs.working.Working.acknowledges.Goals as goal
 
 pub returns-clause-acted : goal.returns-clause-acted

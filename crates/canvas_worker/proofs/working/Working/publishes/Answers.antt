@@ -1,14 +1,14 @@
 use Rattle.std.proofs.Common.{rules, ◌≡◌, refl, ap, ◌∙◌}
 use Rattle.canvas_runs.specs.Core as C
 use Rattle.canvas_worker.specs.steps.Held.{held_in}
-use Rattle.canvas_worker.specs.Work.{Work}
+use Rattle.canvas_worker.specs.Polls.{Work}
 use Rattle.canvas_worker.proofs.Resting.{busy_never}
 use Rattle.canvas_worker.specs.Books.{book_in}
 use Rattle.canvas_worker.specs.Asks.{suits, shown}
-use Rattle.canvas_worker.specs.Standing.{Standing, asked, handed, after_reply}
+use Rattle.canvas_worker.specs.CoreState.{Standing, asked, handed, after_reply}
 use Rattle.canvas_worker.specs.declared.ask.Reply.TheVariants as R
-use Rattle.canvas_worker.proofs.Shown.{handed_out, handed_same, still_publishes}
-use Rattle.canvas_worker.proofs.Telling.{asked_well, ends_badly}
+use Rattle.canvas_worker.proofs.ShownAsks.{handed_out, handed_same, still_publishes}
+use Rattle.canvas_worker.proofs.ToldAnswers.{asked_well, ends_badly}
 use Rattle.canvas_worker.proofs.working.Working.publishes.Goals as goal
 
 pub replies-requires-clause-suits : goal.replies-requires-clause-suits

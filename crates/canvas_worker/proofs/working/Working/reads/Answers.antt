@@ -1,15 +1,15 @@
 use Rattle.std.proofs.Common.{rules, ◌≡◌, refl, subst, ◌∙◌, ◌≤◌}
 use Rattle.canvas_runs.specs.Core as C
 use Rattle.canvas_worker.specs.steps.Held.{held_in}
-use Rattle.canvas_worker.specs.Standing.{asked}
-use Rattle.canvas_worker.specs.Work.{Work}
+use Rattle.canvas_worker.specs.CoreState.{asked}
+use Rattle.canvas_worker.specs.Polls.{Work}
 use Rattle.canvas_worker.proofs.Resting.{busy_never}
 use Rattle.canvas_backend.specs.Roster.{members}
-use Rattle.canvas_worker.specs.Allowed.{LetsAsk}
+use Rattle.canvas_worker.specs.SeatRights.{LetsAsk}
 use Rattle.canvas_worker.proofs.Asking.{may_ask}
-use Rattle.canvas_worker.proofs.Shown.{is_read, same_place, no_place}
+use Rattle.canvas_worker.proofs.ShownAsks.{is_read, same_place, no_place}
 use Rattle.canvas_worker.proofs.Stepping.{at_get}
-use Rattle.canvas_worker.proofs.Telling.{asked_well}
+use Rattle.canvas_worker.proofs.ToldAnswers.{asked_well}
 use Rattle.canvas_worker.proofs.working.Working.reads.Goals as goal
 
 pub read-found-requires-clause-task : goal.read-found-requires-clause-task

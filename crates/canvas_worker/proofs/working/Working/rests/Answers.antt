@@ -1,9 +1,9 @@
 use Rattle.std.proofs.Common.{◌≡◌, true, false}
 use Rattle.canvas_runs.specs.Core as C
-use Rattle.canvas_worker.specs.Standing.{asked}
-use Rattle.canvas_worker.specs.Work.{Work}
-use Rattle.canvas_worker.proofs.Shown.{is_rest}
-use Rattle.canvas_worker.proofs.Telling.{rest_asks, asked_well, asked_badly, rests_well}
+use Rattle.canvas_worker.specs.CoreState.{asked}
+use Rattle.canvas_worker.specs.Polls.{Work}
+use Rattle.canvas_worker.proofs.ShownAsks.{is_rest}
+use Rattle.canvas_worker.proofs.ToldAnswers.{rest_asks, asked_well, asked_badly, rests_well}
 use Rattle.canvas_worker.proofs.working.Working.rests.Goals as goal
 
 pub returns-then-has_more-clause-acted : goal.returns-then-has_more-clause-acted

@@ -1,11 +1,11 @@
 use Rattle.std.proofs.Common.{rules, ◌≡◌, refl}
 use Rattle.canvas_runs.specs.Core as C
 use Rattle.canvas_worker.specs.steps.Held.{held_in}
-use Rattle.canvas_worker.specs.Standing.{asked}
-use Rattle.canvas_worker.specs.Work.{Work}
+use Rattle.canvas_worker.specs.CoreState.{asked}
+use Rattle.canvas_worker.specs.Polls.{Work}
 use Rattle.canvas_worker.proofs.Resting.{busy_never}
-use Rattle.canvas_worker.proofs.Shown.{is_part}
-use Rattle.canvas_worker.proofs.Telling.{asked_well}
+use Rattle.canvas_worker.proofs.ShownAsks.{is_part}
+use Rattle.canvas_worker.proofs.ToldAnswers.{asked_well}
 use Rattle.canvas_worker.proofs.working.Working.returns.Goals as goal
 
 pub returns-clause-acted : goal.returns-clause-acted

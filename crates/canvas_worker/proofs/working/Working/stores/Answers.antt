@@ -1,13 +1,13 @@
 use Rattle.std.proofs.Common.{rules, ◌≡◌, refl, subst, true, false, ◌≤◌}
 use Rattle.canvas_runs.specs.Core as C
 use Rattle.canvas_worker.specs.steps.Held.{held_in}
-use Rattle.canvas_worker.specs.Standing.{asked}
-use Rattle.canvas_worker.specs.Work.{Work}
+use Rattle.canvas_worker.specs.CoreState.{asked}
+use Rattle.canvas_worker.specs.Polls.{Work}
 use Rattle.canvas_worker.proofs.Resting.{busy_never}
-use Rattle.canvas_worker.specs.Allowed.{LetsAsk}
+use Rattle.canvas_worker.specs.SeatRights.{LetsAsk}
 use Rattle.canvas_worker.proofs.Asking.{may_ask}
-use Rattle.canvas_worker.proofs.Shown.{is_store}
-use Rattle.canvas_worker.proofs.Telling.{asked_well}
+use Rattle.canvas_worker.proofs.ShownAsks.{is_store}
+use Rattle.canvas_worker.proofs.ToldAnswers.{asked_well}
 use Rattle.canvas_worker.proofs.working.Working.stores.Goals as goal
 
 pub store-requires-clause-task : goal.store-requires-clause-task

@@ -1,10 +1,10 @@
 use Rattle.std.proofs.Common.{rules, ◌≡◌, ap, ◌∙◌, ◌∷◌, ◌++◌, List}
 use Rattle.canvas_message.specs.declared.envelope.Envelope.{Envelope}
 use Rattle.canvas_broker.specs.Passes.{Took}
-use Rattle.canvas_worker.specs.Standing.{asked}
-use Rattle.canvas_worker.specs.Work.{Work}
-use Rattle.canvas_worker.proofs.Giving.{given_well}
-use Rattle.canvas_worker.proofs.Shown.{is_take}
+use Rattle.canvas_worker.specs.CoreState.{asked}
+use Rattle.canvas_worker.specs.Polls.{Work}
+use Rattle.canvas_worker.proofs.GivenEnvelope.{given_well}
+use Rattle.canvas_worker.proofs.ShownAsks.{is_take}
 use Rattle.canvas_worker.proofs.working.Working.takes_batch.Goals as goal
 
 pub returns-in-Some-clause-acted : goal.returns-in-Some-clause-acted

@@ -5,11 +5,11 @@ use Rattle.canvas_broker.specs.Broker as broker
 use Rattle.canvas_broker.specs.Passes.{Stands, Empties}
 use Rattle.canvas_runs.specs.Core as C
 use Rattle.canvas_worker.specs.steps.Held.{held_in}
-use Rattle.canvas_worker.specs.Standing.{asked}
-use Rattle.canvas_worker.specs.Work.{Work}
-use Rattle.canvas_worker.proofs.Giving.{given_well}
-use Rattle.canvas_worker.proofs.Shown.{is_take, reads_back}
-use Rattle.canvas_worker.proofs.Telling.{asked_well}
+use Rattle.canvas_worker.specs.CoreState.{asked}
+use Rattle.canvas_worker.specs.Polls.{Work}
+use Rattle.canvas_worker.proofs.GivenEnvelope.{given_well}
+use Rattle.canvas_worker.proofs.ShownAsks.{is_take, reads_back}
+use Rattle.canvas_worker.proofs.ToldAnswers.{asked_well}
 use Rattle.canvas_worker.proofs.working.Working.takes_one.Goals as goal
 
 pub returns-in-Some-clause-acted : goal.returns-in-Some-clause-acted

@@ -12,9 +12,9 @@ use Rattle.canvas_runs.specs.Core.{taking, answered, left_after, ReadsBack, IsCo
 use Rattle.canvas_runs.specs.Worker.{opened}
 use Rattle.canvas_worker.specs.Asks.{Asked, Answer, suits, shown, to_send, replied}
 use Rattle.canvas_worker.specs.Books.{book_in}
-use Rattle.canvas_worker.specs.Enveloped.{enveloped, enveloped_by}
+use Rattle.canvas_worker.specs.EnvelopeWorker.{enveloped, enveloped_by}
 use Rattle.canvas_runs.specs.Tally.{greatest_count}
-use Rattle.canvas_worker.specs.Standing.{Left, Standing, held, asked, drops, unsent, begun, after_reply, held_out, handed, task_of}
+use Rattle.canvas_worker.specs.CoreState.{Left, Standing, held, asked, drops, unsent, begun, after_reply, held_out, handed, task_of}
 use Rattle.canvas_worker.specs.declared.ask.Reply.{Reply}
 
 -- what is left to do after asks and answers

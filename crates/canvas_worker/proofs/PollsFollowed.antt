@@ -8,7 +8,7 @@ use Rattle.canvas_task.specs.Apply.{Behaviour}
 use Rattle.canvas_backend.specs.Seats.{Desk}
 use Rattle.canvas_backend.specs.Roster.{Roster}
 use Rattle.canvas_worker.specs.Progress.{Progress, Worked}
-use Rattle.canvas_worker.specs.Work.{Work, progress, Acts, stays, makes_call, takes_batch, gives_held, Moves, acts, delivers, Pends, IsRecordOf, Ends, TellsOf}
+use Rattle.canvas_worker.specs.Polls.{Work, progress, Acts, stays, makes_call, takes_batch, gives_held, Moves, acts, delivers, Pends, IsRecordOf, Ends, TellsOf}
 use Rattle.canvas_worker.specs.declared.record.Record.{Record}
 use Rattle.canvas_worker.proofs.Stepping.{rests, call_first, held_first, batch_first, again_first}
 

@@ -19,9 +19,9 @@ use Rattle.canvas_runs.specs.Tally.{Tally, IsTally}
 use Rattle.canvas_worker.specs.Asks.{Asked, Answer}
 use Rattle.canvas_worker.specs.Books.{book_in}
 use Rattle.canvas_worker.specs.Progress.{Progress, Worked}
-use Rattle.canvas_worker.specs.Allowed.{Can}
+use Rattle.canvas_worker.specs.SeatRights.{Can}
 use Rattle.canvas_runs.specs.Tally.{greatest_count}
-use Rattle.canvas_worker.specs.Standing.{Standing, begun as new_core, after_reply, failing, held}
+use Rattle.canvas_worker.specs.CoreState.{Standing, begun as new_core, after_reply, failing, held}
 use Rattle.canvas_worker.specs.WorkerSteps.{Called, FromHeld, Batched, Delivered}
 use Rattle.canvas_worker.specs.declared.ask.Ask.{Ask}
 use Rattle.canvas_worker.specs.declared.ask.Ask.TheVariants.{Store, Part, Ack, Rest}

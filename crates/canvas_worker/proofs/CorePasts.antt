@@ -14,10 +14,10 @@ use Rattle.canvas_runs.specs.Core as C
 use Rattle.canvas_runs.specs.Core.{taking, resting, over, failed, owning, doing, reading, taken, sent, refused, kept, counted, found, rested, answered, left_after, Suits, ReadsBack, IsCoreRun, acking, acked, settled, opens, Jobs, is_due, is_inside}
 use Rattle.canvas_worker.specs.Asks.{Asked, Answer, suits, shown, replied}
 use Rattle.canvas_worker.specs.Asks as asks
-use Rattle.canvas_worker.specs.Enveloped.{enveloped_by, applied_if}
-use Rattle.canvas_worker.specs.Leading.{left_by, drops_from, task_in, NoneLead, OneMoreLeads, HandedLeads, HandsOut}
+use Rattle.canvas_worker.specs.EnvelopeWorker.{enveloped_by, applied_if}
+use Rattle.canvas_worker.specs.CorePast.{left_by, drops_from, task_in, NoneLead, OneMoreLeads, HandedLeads, HandsOut}
 use Rattle.canvas_runs.specs.Tally.{greatest_count}
-use Rattle.canvas_worker.specs.Standing.{Left, asked, drops, unsent, open_of, kept_next, kept_taken, task_next}
+use Rattle.canvas_worker.specs.CoreState.{Left, asked, drops, unsent, open_of, kept_next, kept_taken, task_next}
 use Rattle.canvas_worker.specs.declared.ask.Reply.{Reply}
 use Rattle.canvas_worker.specs.declared.ask.Reply.TheVariants as R
 

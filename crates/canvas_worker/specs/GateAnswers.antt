@@ -6,8 +6,8 @@ use Rattle.canvas_runs.specs.Core.{is_inside}
 use Rattle.canvas_runs.specs.declared.when.When.{When}
 use Rattle.canvas_runs.specs.declared.when.When.TheVariants.{Early, Late}
 use Rattle.canvas_worker.specs.Asks.{shown}
-use Rattle.canvas_worker.specs.Standing.{Standing, asked, point_at}
-use Rattle.canvas_worker.specs.Work.{Work, Acts, Acted, EndsBy, EndsFor, Leaves, Redelivered}
+use Rattle.canvas_worker.specs.CoreState.{Standing, asked, point_at}
+use Rattle.canvas_worker.specs.Polls.{Work, Acts, Acted, EndsBy, EndsFor, Leaves, Redelivered}
 use Rattle.canvas_worker.specs.declared.cause.Cause.{Cause}
 use Rattle.canvas_worker.specs.declared.cause.Cause.TheVariants.{Memory, Stopped}
 use Rattle.canvas_worker.specs.declared.record.Record.{Record}

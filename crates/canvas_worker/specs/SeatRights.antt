@@ -15,9 +15,9 @@ use Rattle.canvas_runs.specs.Core.{keep, part, read, taking, owning, doing, read
 use Rattle.canvas_runs.specs.Following.{Seat, Serves}
 use Rattle.canvas_runs.specs.Worker.{opened}
 use Rattle.canvas_worker.specs.Asks.{Asked, Answer}
-use Rattle.canvas_worker.specs.Enveloped.{said, enveloped}
+use Rattle.canvas_worker.specs.EnvelopeWorker.{said, enveloped}
 use Rattle.canvas_worker.specs.Scripts.{EnvelopeJobs}
-use Rattle.canvas_worker.specs.Standing.{Left, asked}
+use Rattle.canvas_worker.specs.CoreState.{Left, asked}
 
 module _ (plan : Roster) where
   -- what a member of this chord carries names only what the plan has

@@ -15,11 +15,11 @@ use Rattle.canvas_runs.specs.Tally.{is_dropped, is_lost}
 use Rattle.canvas_runs.specs.Worker.{opened}
 use Rattle.canvas_worker.specs.Asks.{Asked, Answer, shown, to_send}
 use Rattle.canvas_worker.specs.Books.{no_book}
-use Rattle.canvas_worker.specs.Enveloped.{no_tasks, enveloped_by, enveloped, applied_if}
+use Rattle.canvas_worker.specs.EnvelopeWorker.{no_tasks, enveloped_by, enveloped, applied_if}
 use Rattle.canvas_runs.specs.Tally.{greatest_count}
-use Rattle.canvas_worker.specs.Standing.{Standing, Left, asked, unread, drops, held_out, handed, unsent, after_reply, kept_next, task_next, open_of, kept_taken}
+use Rattle.canvas_worker.specs.CoreState.{Standing, Left, asked, unread, drops, held_out, handed, unsent, after_reply, kept_next, task_next, open_of, kept_taken}
 use Rattle.canvas_worker.specs.declared.ask.Ask.TheVariants.{Take, Publish, Store, Part, Read, Rest, Ack}
-use Rattle.canvas_worker.proofs.Leading.{unsent_answered, unsent_drops}
+use Rattle.canvas_worker.proofs.CorePasts.{unsent_answered, unsent_drops}
 
 -- ---- which ask is shown
 

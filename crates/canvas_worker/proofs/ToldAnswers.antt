@@ -14,19 +14,19 @@ use Rattle.canvas_runs.specs.Lists.{Each}
 use Rattle.canvas_runs.specs.Tally.{Counted, CountsMore, is_taken, is_published, is_first, is_part, is_dropped, greatest_count}
 use Rattle.canvas_worker.specs.Asks.{Asked, Answer}
 use Rattle.canvas_worker.specs.Books.{book_in, no_book}
-use Rattle.canvas_worker.specs.Enveloped.{enveloped, enveloped_by, no_tasks}
+use Rattle.canvas_worker.specs.EnvelopeWorker.{enveloped, enveloped_by, no_tasks}
 use Rattle.canvas_worker.specs.Progress.{Progress}
-use Rattle.canvas_worker.specs.Allowed.{Can}
-use Rattle.canvas_worker.specs.Standing.{Standing, asked, drops, after_reply, open_of, kept_next, task_next}
+use Rattle.canvas_worker.specs.SeatRights.{Can}
+use Rattle.canvas_worker.specs.CoreState.{Standing, asked, drops, after_reply, open_of, kept_next, task_next}
 use Rattle.canvas_worker.specs.WorkerSteps.{OnlyBare, Called}
-use Rattle.canvas_worker.specs.Work.{Work, progress, with_core, with_answer, lost, CanDeliver, in_hand, Ready, makes_call, Acts, Acted, Leaves, EndsBy, ActedLast}
+use Rattle.canvas_worker.specs.Polls.{Work, progress, with_core, with_answer, lost, CanDeliver, in_hand, Ready, makes_call, Acts, Acted, Leaves, EndsBy, ActedLast}
 use Rattle.canvas_worker.specs.declared.cause.Cause.TheVariants.{Memory}
 use Rattle.canvas_worker.specs.declared.record.Record.{Record}
 use Rattle.canvas_worker.specs.declared.working.End.{End}
 use Rattle.canvas_worker.proofs.Asking.{same_book, may_go_on}
 use Rattle.canvas_worker.proofs.InHand.{call_can, has_open}
 use Rattle.canvas_worker.proofs.Resting.{busy_never}
-use Rattle.canvas_worker.proofs.Shown.{drops_so, rests_over, held_step}
+use Rattle.canvas_worker.proofs.ShownAsks.{drops_so, rests_over, held_step}
 use Rattle.canvas_worker.proofs.Turns.{tallied, some_none}
 
 -- ---- one ask answered by the broker or the backend

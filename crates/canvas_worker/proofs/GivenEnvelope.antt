@@ -14,17 +14,17 @@ use Rattle.canvas_runs.specs.Following.{Seat, Serves}
 use Rattle.canvas_runs.specs.Lists.{Each}
 use Rattle.canvas_runs.specs.Tally.{Tally, Counted, CountsMore, is_dropped, greatest_count}
 use Rattle.canvas_worker.specs.Books.{book_in}
-use Rattle.canvas_worker.specs.Enveloped.{enveloped}
+use Rattle.canvas_worker.specs.EnvelopeWorker.{enveloped}
 use Rattle.canvas_worker.specs.Progress.{Progress}
-use Rattle.canvas_worker.specs.Allowed.{Can}
-use Rattle.canvas_worker.specs.Standing.{Standing, asked, drops, after_reply, held, kept_next, task_next}
+use Rattle.canvas_worker.specs.SeatRights.{Can}
+use Rattle.canvas_worker.specs.CoreState.{Standing, asked, drops, after_reply, held, kept_next, task_next}
 use Rattle.canvas_worker.specs.WorkerSteps.{Batched, FromHeld}
-use Rattle.canvas_worker.specs.Work.{Work, progress, with_core, with_answer, lost, one_taken, CanDeliver, in_hand, Ready, takes_batch, gives_held, Acts, Acted, Leaves, EndsBy, ActedLast}
+use Rattle.canvas_worker.specs.Polls.{Work, progress, with_core, with_answer, lost, one_taken, CanDeliver, in_hand, Ready, takes_batch, gives_held, Acts, Acted, Leaves, EndsBy, ActedLast}
 use Rattle.canvas_worker.specs.declared.cause.Cause.TheVariants.{Memory}
 use Rattle.canvas_worker.specs.declared.record.Record.{Record}
 use Rattle.canvas_worker.specs.declared.working.End.{End}
 use Rattle.canvas_worker.proofs.Asking.{same_book, may_go_on}
-use Rattle.canvas_worker.proofs.Shown.{drops_so, takes_taking, held_step}
+use Rattle.canvas_worker.proofs.ShownAsks.{drops_so, takes_taking, held_step}
 use Rattle.canvas_worker.proofs.InHand.{batch_can, but_open}
 use Rattle.canvas_worker.proofs.Resting.{given_never}
 use Rattle.canvas_worker.proofs.Turns.{unchanged, one_more, tallied, some_none}

@@ -15,7 +15,7 @@ use Rattle.canvas_runs.specs.declared.when.When.{When}
 use Rattle.canvas_runs.specs.declared.when.When.TheVariants.{Early, Late}
 use Rattle.canvas_worker.specs.Asks.{Asked, Answer, to_send}
 use Rattle.canvas_worker.specs.Books.{no_book}
-use Rattle.canvas_worker.specs.Enveloped.{Applied, unapplied, no_tasks, enveloped_by, blank}
+use Rattle.canvas_worker.specs.EnvelopeWorker.{Applied, unapplied, no_tasks, enveloped_by, blank}
 
 abbrev pub Left : Type 0
 Left = CoreState Applied PCarried Outcome
