@@ -22,23 +22,29 @@ set_home : (homes : List (Option ℕ)) (g i t : ℕ) → i < length homes → ho
 set_home homes g i zero within = sym (ap (λ b. cond b (Some g) None) (ne_eqb (suc i) 0 (λ e. absurd (cc))))
 set_home homes g i (suc k) within =
     dite (ℕ_discrete k i)
-    (λ e. ap (λ z. home_or (slice_get (set homes i (Some g)) z)) e ∙ (ap home_or (placed_inside homes i (Some g) within) ∙ sym (ap (λ b. cond b (Some g) (home_or (slice_get homes k))) (eq-eqb (suc i) (suc k) (ap suc (sym e))))))
-    (λ ne. ap home_or (placed_else homes i k (Some g) ne) ∙ sym (ap (λ b. cond b (Some g) (home_or (slice_get homes k))) (ne_eqb (suc i) (suc k) (λ e. ne (omega (arith, e))))))
+    (λ e. ap (λ z. home_or (slice_get (set homes i (Some g)) z)) e
+    ∙ (ap home_or (placed_inside homes i (Some g) within)
+    ∙ sym (ap (λ b. cond b (Some g) (home_or (slice_get homes k))) (eq-eqb (suc i) (suc k) (ap suc (sym e))))))
+    (λ ne. ap home_or (placed_else homes i k (Some g) ne)
+    ∙ sym (ap (λ b. cond b (Some g) (home_or (slice_get homes k))) (ne_eqb (suc i) (suc k) (λ e. ne (omega (arith, e))))))
 
 -- tasks that the list knows
 abbrev Known : ℕ → List ℕ → Type 0
 Known n ts = (t : ℕ) → IsTrue (list_any (λ x. x == t) ts) → (1 ≤ t) × (t ≤ n)
 
-pub moved_home : (homes : List (Option ℕ)) (g : ℕ) (ts : List ℕ) (t : ℕ) → Known (length homes) ts → home_at (moved_in homes g ts) t ≡ cond (list_any (λ x. x == t) ts) (Some g) (home_at homes t)
+pub moved_home : (homes : List (Option ℕ)) (g : ℕ) (ts : List ℕ) (t : ℕ) → Known (length homes) ts
+    → home_at (moved_in homes g ts) t ≡ cond (list_any (λ x. x == t) ts) (Some g) (home_at homes t)
 moved_home homes g [] t known = refl
 moved_home homes g (u ∷ us) t known =
     let here = known u (ap (λ (b : Bool). b || list_any (λ x. x == u) us) (eq-eqb u u refl)) in
     let some = here.0 in let most = here.1 in
     let at : suc (u - 1) ≡ u = omega arith in
     let within : u - 1 < length homes = omega arith in
-    let rest : Known (length (set homes (u - 1) (Some g))) us = λ w m. subst (λ (n : ℕ). (1 ≤ w) × (w ≤ n)) (sym (length-set homes (u - 1) (Some g))) (known w (later w (u == w) m)) in
+    let rest : Known (length (set homes (u - 1) (Some g))) us =
+    λ w m. subst (λ (n : ℕ). (1 ≤ w) × (w ≤ n)) (sym (length-set homes (u - 1) (Some g))) (known w (later w (u == w) m)) in
     moved_home (set homes (u - 1) (Some g)) g us t rest
-    ∙ (ap (cond (list_any (λ x. x == t) us) (Some g)) (set_home homes g (u - 1) t within ∙ ap (λ (z : ℕ). cond (z == t) (Some g) (home_at homes t)) at) ∙ either (u == t) (list_any (λ x. x == t) us) (home_at homes t))
+    ∙ (ap (cond (list_any (λ x. x == t) us) (Some g)) (set_home homes g (u - 1) t within ∙ ap (λ (z : ℕ). cond (z == t) (Some g) (home_at homes t)) at)
+    ∙ either (u == t) (list_any (λ x. x == t) us) (home_at homes t))
   where
     later : (w : ℕ) (b : Bool) → IsTrue (list_any (λ x. x == w) us) → IsTrue (b || list_any (λ x. x == w) us)
     later w true m = refl
@@ -56,7 +62,8 @@ pub record HomesTo (plan : Roster) (n : ℕ) (homes : List (Option ℕ)) : Type 
   pub sound : (g t : ℕ) → home_at homes t ≡ Some g → IsTrue (is_member plan g t)
   pub full : (g t : ℕ) → IsTrue (is_member plan g t) → g ≤ n → home_at homes t ≡ Some g
 
-pub homes_more : (plan : Roster) (n : ℕ) (homes : List (Option ℕ)) → Apart plan → Known plan.tasks (members plan (suc n)) → HomesTo plan n homes → HomesTo plan (suc n) (moved_in homes (suc n) (members plan (suc n)))
+pub homes_more : (plan : Roster) (n : ℕ) (homes : List (Option ℕ)) → Apart plan → Known plan.tasks (members plan (suc n)) → HomesTo plan n homes
+    → HomesTo plan (suc n) (moved_in homes (suc n) (members plan (suc n)))
 homes_more plan n homes apart known h = record {
   many = length_moved homes (suc n) ms ∙ h.many;
   sound = λ g t there. sound g t (is_member plan (suc n) t) refl (sym (moved t) ∙ there);
@@ -88,14 +95,16 @@ few_groups plan zero t member = omega arith
 few_groups plan (suc g) t member =
     ⊎_elim
     (λ (l : (x : GroupEntry) × (g < length plan.groups) × (slice_get plan.groups g ≡ Some x) × (get_or plan.groups g x ≡ x)). l.1)
-    (λ (r : (length plan.groups ≤ g) × (slice_get plan.groups g ≡ None)). absurd (true≢false (sym member ∙ ap (λ (o : Option GroupEntry). list_any (λ x. x == t) (entry_members o)) r.1)))
+    (λ (r : (length plan.groups ≤ g) × (slice_get plan.groups g ≡ None)). absurd
+    (true≢false (sym member ∙ ap (λ (o : Option GroupEntry). list_any (λ x. x == t) (entry_members o)) r.1)))
     (slice_get_cases plan.groups g).1
 
 pub homes_all : (plan : Roster) (n : ℕ) (homes : List (Option ℕ)) → length plan.groups ≤ n → HomesTo plan n homes → AreHomes plan homes
 homes_all plan n homes all h g t = by (is_member plan g t) refl (home_at homes t) refl
   where
     by : (b : Bool) → is_member plan g t ≡ b → (o : Option ℕ) → home_at homes t ≡ o → b ≡ is_home o g
-    by true is o at = let most = few_groups plan g t is in let e : o ≡ Some g = sym at ∙ h.full g t is (omega arith) in sym (ap (λ (z : Option ℕ). is_home z g) e ∙ eq-eqb g g refl)
+    by true is o at = let most = few_groups plan g t is in let e : o ≡ Some g = sym at ∙ h.full g t is (omega arith) in
+        sym (ap (λ (z : Option ℕ). is_home z g) e ∙ eq-eqb g g refl)
     by false is None at = refl
     by false is (Some k) at = sym (ne_eqb k g (λ e. true≢false (sym (h.sound g t (at ∙ ap Some e)) ∙ is)))
 
@@ -103,7 +112,8 @@ homes_all plan n homes all h g t = by (is_member plan g t) refl (home_at homes t
 pub known_members : (l : Line) → IsPlan l → (g : ℕ) → Known (count_line l) (members (roster_of l) g)
 known_members l plan g t member = let s = stands (roster_of l) t g member in member_known l plan g t (omega arith)
 
-pub line_more : (l : Line) (n g : ℕ) (homes : List (Option ℕ)) → IsPlan l → g ≡ n + 1 → HomesTo (roster_of l) n homes → HomesTo (roster_of l) (n + 1) (moved_in homes g (members (roster_of l) g))
+pub line_more : (l : Line) (n g : ℕ) (homes : List (Option ℕ)) → IsPlan l → g ≡ n + 1 → HomesTo (roster_of l) n homes
+    → HomesTo (roster_of l) (n + 1) (moved_in homes g (members (roster_of l) g))
 line_more l n g homes plan is h =
     let at : n + 1 ≡ suc n = omega arith in
     subst (λ (z : ℕ × ℕ). HomesTo (roster_of l) z.0 (moved_in homes z.1 (members (roster_of l) z.1))) (λ j. (sym at j, sym (is ∙ at) j))

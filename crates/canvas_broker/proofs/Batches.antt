@@ -22,9 +22,11 @@ no_rest [] h = refl
 no_rest (x ∷ xs) h = absurd (omega (arith, h))
 
 module _ {E : Type 0} where
-  takes_append_owed : (owed : List (QueueEntry E)) (log : List (QueueEntry E)) (p : ℕ) (x : E) (es : List E) → (log ++ (owed ++ calls p take (Some x) ∷ [])) ++ takes_of p es ≡ log ++ (owed ++ takes_of p (x ∷ es))
+  takes_append_owed : (owed : List (QueueEntry E)) (log : List (QueueEntry E)) (p : ℕ) (x : E) (es : List E)
+      → (log ++ (owed ++ calls p take (Some x) ∷ [])) ++ takes_of p es ≡ log ++ (owed ++ takes_of p (x ∷ es))
   takes_append_owed owed log p x es =
-      append_assoc log (owed ++ calls p take (Some x) ∷ []) (takes_of p es) ∙ ap (λ l. log ++ l) (append_assoc owed (calls p take (Some x) ∷ []) (takes_of p es))
+      append_assoc log (owed ++ calls p take (Some x) ∷ []) (takes_of p es)
+      ∙ ap (λ l. log ++ l) (append_assoc owed (calls p take (Some x) ∷ []) (takes_of p es))
 
   set_twice : (views : List (View E)) (i : ℕ) (v w : View E) → set (set views i v) i w ≡ set views i w
   set_twice [] i v w = refl
@@ -37,14 +39,18 @@ module _ {E : Type 0} where
   below (x ∷ xs) (suc i) v e = let r = below xs i v e in omega (arith, r)
 
   -- one take, by a pass that may have seen less than all
-  one_take : (x : E) (items : List (Option E)) (views : List (View E)) (log : List (QueueEntry E)) (owner : ℕ → ℕ) (kept : IsKept (Some x ∷ items) views log owner) (pass : ℕ) (v : View E)
+  one_take : (x : E) (items : List (Option E)) (views : List (View E)) (log : List (QueueEntry E)) (owner : ℕ → ℕ)
+      (kept : IsKept (Some x ∷ items) views log owner) (pass : ℕ) (v : View E)
       → get_elem? views pass ≡ some v → IsReady v
-      → IsKept items (set views pass (view_of (knowledge v.knows.name (live_from v.knows.mine v.knows.owed) (log ++ tail_of v (calls v.knows.name take (Some x))) []) [])) (log ++ tail_of v (calls v.knows.name take (Some x))) owner
+      → IsKept items (set views pass
+      (view_of (knowledge v.knows.name (live_from v.knows.mine v.knows.owed) (log ++ tail_of v (calls v.knows.name take (Some x))) []) []))
+      (log ++ tail_of v (calls v.knows.name take (Some x))) owner
   one_take x items views log owner kept pass v at ready =
       let o = orderly (Some x ∷ items) views log owner kept pass v at ready in
       let e : QueueEntry E = calls v.knows.name take (Some x) in
       let front : queue_of (log ++ v.knows.owed) ≡ x ∷ envelopes items = queue_after v log o ∙ kept.replays in
-      let may : Allowed [] answer next May (log ++ v.knows.owed) e = (caller_lives (Some x ∷ items) views log owner kept pass v at ready, sym (ap (λ s. answer s take) front), tt) in
+      let may : Allowed [] answer next May (log ++ v.knows.owed) e =
+      (caller_lives (Some x ∷ items) views log owner kept pass v at ready, sym (ap (λ s. answer s take) front), tt) in
       let names : split_off (log ++ tail_of v e) ≡ split_off log = named_after v log e o ∙ append-nil (split_off log) in
       adds (Some x ∷ items) views log owner kept pass v at ready items e owner [] refl may
       (ap (λ s. next s take) kept.replays)
@@ -56,11 +62,13 @@ module _ {E : Type 0} where
   -- further takes, by a pass that has seen all
   more_takes : (xs items : List (Option E)) (views : List (View E)) (log : List (QueueEntry E)) (owner : ℕ → ℕ) (pass p : ℕ) (cs : List ℕ)
       → IsKept (xs ++ items) views log owner → get_elem? views pass ≡ some (view_of (knowledge p cs log []) []) → In p cs
-      → (log' : List (QueueEntry E)) × (log' ≡ log ++ takes_of p (envelopes xs)) × IsKept items (set views pass (view_of (knowledge p cs log' []) [])) log' owner
+      → (log' : List (QueueEntry E)) × (log' ≡ log ++ takes_of p (envelopes xs))
+      × IsKept items (set views pass (view_of (knowledge p cs log' []) [])) log' owner
   more_takes [] items views log owner pass p cs kept at here =
       (log, sym (append-nil log), subst (λ l. IsKept items l log owner) (sym (set_again views pass (view_of (knowledge p cs log []) []) at)) kept)
   more_takes (None ∷ xs) items views log owner pass p cs kept at here =
-      more_takes xs items views log owner pass p cs (record { legal = kept.legal; replays = kept.replays; numbered = kept.numbered; fits = kept.fits; begun = kept.begun; opened = kept.opened }) at here
+      more_takes xs items views log owner pass p cs
+      (record { legal = kept.legal; replays = kept.replays; numbered = kept.numbered; fits = kept.fits; begun = kept.begun; opened = kept.opened }) at here
   more_takes (Some x ∷ xs) items views log owner pass p cs kept at here =
       let e : QueueEntry E = calls p take (Some x) in
       let v : View E = view_of (knowledge p cs log []) [] in
@@ -76,9 +84,11 @@ module _ {E : Type 0} where
   many : (xs items : List (Option E)) (views : List (View E)) (log : List (QueueEntry E)) (owner : ℕ → ℕ) (pass : ℕ) (v : View E)
       → IsKept (xs ++ items) views log owner → get_elem? views pass ≡ some v → IsReady v
       → (w : View E) × Kept items (set views pass w) × TakesAll v xs w
-  many [] items views log owner pass v kept at ready = (v, (log, owner, subst (λ l. IsKept items l log owner) (sym (set_again views pass v at)) kept), (refl, ready))
+  many [] items views log owner pass v kept at ready =
+      (v, (log, owner, subst (λ l. IsKept items l log owner) (sym (set_again views pass v at)) kept), (refl, ready))
   many (None ∷ xs) items views log owner pass v kept at ready =
-      many xs items views log owner pass v (record { legal = kept.legal; replays = kept.replays; numbered = kept.numbered; fits = kept.fits; begun = kept.begun; opened = kept.opened }) at ready
+      many xs items views log owner pass v
+      (record { legal = kept.legal; replays = kept.replays; numbered = kept.numbered; fits = kept.fits; begun = kept.begun; opened = kept.opened }) at ready
   many (Some x ∷ xs) items views log owner pass v kept at ready =
       let p = v.knows.name in let cs = live_from v.knows.mine v.knows.owed in
       let e : QueueEntry E = calls p take (Some x) in

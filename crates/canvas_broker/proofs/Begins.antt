@@ -16,14 +16,21 @@ module _ {E : Type 0} where
   pub begins : Kept [] (newcomer {E = E} ∷ [])
   begins =
       let only : (j : ℕ) (u : View E) → get_elem? (newcomer ∷ []) j ≡ some u → newcomer ≡ u =
-      λ j u e. ⊎_elim (λ (t : (j < 0) × (get_elem? [] j ≡ some u)). absurd (omega (arith, t.0))) (λ (t : (j ≡ 0) × (newcomer ≡ u)). t.1) (at_push [] newcomer u j e) in (
+      λ j u e. ⊎_elim (λ (t : (j < 0) × (get_elem? [] j ≡ some u)). absurd (omega (arith, t.0))) (λ (t : (j ≡ 0) × (newcomer ≡ u)). t.1)
+      (at_push [] newcomer u j e) in (
         [],
         λ c. 0,
         record {
           legal = tt;
           replays = refl;
           numbered = λ c i. absurd (false≢true i);
-          fits = λ j u e. subst (λ (x : View E). Fits [] (λ c. 0) j x) (only j u e) (([], refl, tt), (λ c i. absurd (false≢true i)), (λ i. absurd (false≢true i)), tt, (λ c i. absurd (false≢true i)));
+          fits = λ j u e. subst (λ (x : View E). Fits [] (λ c. 0) j x) (only j u e) (
+            ([], refl, tt),
+            (λ c i. absurd (false≢true i)),
+            (λ i. absurd (false≢true i)),
+            tt,
+            (λ c i. absurd (false≢true i)),
+          );
           begun = λ _. (refl, λ j u e. ap (λ (x : View E). callers x) (sym (only j u e)));
           opened = omega arith;
         },
@@ -46,7 +53,8 @@ module _ {E : Type 0} where
               (at_push views newcomer newcomer 0 e) in
               let b = kept.begun first in (
                 b.0,
-                λ j u e'. ⊎_elim (λ (t : (j < length views) × (get_elem? views j ≡ some u)). b.1 j u t.1) (λ (t : (j ≡ length views) × (newcomer ≡ u)). ap (λ (x : View E). callers x) (sym t.1))
+                λ j u e'. ⊎_elim (λ (t : (j < length views) × (get_elem? views j ≡ some u)). b.1 j u t.1)
+                    (λ (t : (j ≡ length views) × (newcomer ≡ u)). ap (λ (x : View E). callers x) (sym t.1))
                     (at_push views newcomer u j e'),
               );
           fits = λ j u e. ⊎_elim (λ (t : (j < length views) × (get_elem? views j ≡ some u)). kept.fits j u t.1)
@@ -63,8 +71,13 @@ module _ {E : Type 0} where
       let owner' : ℕ → ℕ = λ c. 0 in
       let vs : List (View E) = set views 0 root in
       let F : ℕ → View E → Type 0 = λ j u. Fits log owner' j u in
-      let old : All F vs = all_set F views 0 root
-      ((log, refl, subst (λ l. NoneBy (0 ∷ []) l) (sym b.0) tt), (λ c i. (refl, subst (λ l. In c (live l)) (sym b.0) i)), (λ i. i), tt, (λ c i. ⊎_elim (λ (z : 0 ≡ c). inl (sym z)) (λ t. absurd (false≢true t)) (in_cases c 0 [] i)))
+      let old : All F vs = all_set F views 0 root (
+        (log, refl, subst (λ l. NoneBy (0 ∷ []) l) (sym b.0) tt),
+        (λ c i. (refl, subst (λ l. In c (live l)) (sym b.0) i)),
+        (λ i. i),
+        tt,
+        (λ c i. ⊎_elim (λ (z : 0 ≡ c). inl (sym z)) (λ t. absurd (false≢true t)) (in_cases c 0 [] i)),
+      )
       (λ j u apart e. let f = kept.fits j u e in (f.0, (λ c i. absurd (false≢true (subst (λ l. In c l) (b.1 j u e) i))), f.2, f.3, f.4)) in
       let size : length vs ≡ length views = length-set views 0 root in (
         log,

@@ -17,8 +17,13 @@ module _ {E : Type 0} where
   pub orderly_more : (p : ℕ) (cs ds : List ℕ) (js : List (QueueEntry E)) → Orderly p cs js → ((c : ℕ) → In c cs → In c ds) → Orderly p ds js
   orderly_more p cs ds [] o more = more p o
   orderly_more p cs ds (split r q ∷ js) o more = absurd o
-  orderly_more p cs ds (join r q ∷ js) o more =
-      (more r o.0, more q o.1, o.2, orderly_more p (without q cs) (without q ds) js o.3 (λ c h. let t = in_within c q cs h in in_without c q ds (more c t.0) t.1))
+  orderly_more p cs ds (join r q ∷ js) o more = (
+    more r o.0,
+    more q o.1,
+    o.2,
+    orderly_more p (without q cs) (without q ds) js o.3 (λ c h. let t = in_within c q cs h in
+        in_without c q ds (more c t.0) t.1),
+  )
   orderly_more p cs ds (calls r c a ∷ js) o more = absurd o
 
   -- the caller is left
@@ -40,14 +45,17 @@ module _ {E : Type 0} where
   orderly_stays p c cs ds [] o out h = h
   orderly_stays p c cs ds (split r q ∷ js) o out h = absurd o
   orderly_stays p c cs ds (join r q ∷ js) o out h =
-      orderly_stays p c (without q cs) (without q ds) js o.3 (λ x. out (in_within c q cs x).0) (in_without c q ds h (λ (e : c ≡ q). out (subst (λ k. In k cs) (sym e) o.1)))
+      orderly_stays p c (without q cs) (without q ds) js o.3 (λ x. out (in_within c q cs x).0)
+      (in_without c q ds h (λ (e : c ≡ q). out (subst (λ k. In k cs) (sym e) o.1)))
   orderly_stays p c cs ds (calls r d a ∷ js) o out h = absurd o
 
   -- who is left of a part is left of the whole
-  pub orderly_part : (p c : ℕ) (cs ds : List ℕ) (js : List (QueueEntry E)) → Orderly p cs js → ((k : ℕ) → In k cs → In k ds) → In c (live_from cs js) → In c (live_from ds js)
+  pub orderly_part : (p c : ℕ) (cs ds : List ℕ) (js : List (QueueEntry E)) → Orderly p cs js → ((k : ℕ) → In k cs → In k ds) → In c (live_from cs js)
+      → In c (live_from ds js)
   orderly_part p c cs ds [] o more h = more c h
   orderly_part p c cs ds (split r q ∷ js) o more h = absurd o
-  orderly_part p c cs ds (join r q ∷ js) o more h = orderly_part p c (without q cs) (without q ds) js o.3 (λ k x. let t = in_within k q cs x in in_without k q ds (more k t.0) t.1) h
+  orderly_part p c cs ds (join r q ∷ js) o more h =
+      orderly_part p c (without q cs) (without q ds) js o.3 (λ k x. let t = in_within k q cs x in in_without k q ds (more k t.0) t.1) h
   orderly_part p c cs ds (calls r d a ∷ js) o more h = absurd o
 
   pub orderly_append : (a p : ℕ) (cs : List ℕ) (js ks : List (QueueEntry E)) → Orderly a cs js → Orderly p (live_from cs js) ks → Orderly p cs (js ++ ks)
@@ -90,7 +98,8 @@ module _ {E : Type 0} where
   orderly_made p q cs js o out = made_others q js (orderly_none p cs (q ∷ []) js o (λ c i. other_of c q (ne_eqb c q (λ e. out (subst (λ k. In k cs) e i)))))
 
   -- two passes come together
-  pub orderly_both : (p q : ℕ) (cs ds : List ℕ) (js ks : List (QueueEntry E)) → Orderly p cs js → Orderly q ds ks → In p cs → In q ds → ((c : ℕ) → In c cs → In c ds → ⊥)
+  pub orderly_both : (p q : ℕ) (cs ds : List ℕ) (js ks : List (QueueEntry E)) → Orderly p cs js → Orderly q ds ks → In p cs → In q ds
+      → ((c : ℕ) → In c cs → In c ds → ⊥)
       → Orderly p (cs ++ ds) (js ++ (ks ++ join p q ∷ []))
   orderly_both p q cs ds js ks o m here there apart =
       let first : Orderly p (cs ++ ds) js = orderly_more p cs (cs ++ ds) js o (λ c h. in_left c cs ds h) in

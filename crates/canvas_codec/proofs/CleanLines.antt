@@ -16,7 +16,8 @@ use Rattle.canvas_codec.proofs.RoundTrip.{task_parts, chord_parts}
 
 -- ---- optional members, behind those before
 
-null_clean : (before : Members) (k : List ℕ) (d : Data) (more : Members) → IsAbove k before → IsClean d → MembersClean before more → MembersClean (behind_members before k d) more
+null_clean : (before : Members) (k : List ℕ) (d : Data) (more : Members) → IsAbove k before → IsClean d → MembersClean before more
+    → MembersClean (behind_members before k d) more
     → MembersClean before (member_unless_null k d more)
 null_clean before k null more above clean without with_it = without
 null_clean before k (boolean b) more above clean without with_it = (above, clean, with_it)
@@ -25,7 +26,8 @@ null_clean before k (string s) more above clean without with_it = (above, clean,
 null_clean before k (array ds) more above clean without with_it = (above, clean, with_it)
 null_clean before k (object ms) more above clean without with_it = (above, clean, with_it)
 
-list_clean : (before : Members) (k : List ℕ) (ds : Items) (more : Members) → IsAbove k before → AreClean ds → MembersClean before more → MembersClean (behind_members before k (array ds)) more
+list_clean : (before : Members) (k : List ℕ) (ds : Items) (more : Members) → IsAbove k before → AreClean ds → MembersClean before more
+    → MembersClean (behind_members before k (array ds)) more
     → MembersClean before (member_unless_empty k ds more)
 list_clean before k no_items more above clean without with_it = without
 list_clean before k (item d ds) more above clean without with_it = (above, clean, with_it)
@@ -71,7 +73,8 @@ SizeOk (Some n) = n ≤ 1024
 wide : (n : ℕ) → n ≤ 1024 → n < 2 ^ 64
 wide n h = omega (arith, h)
 
-frozen_clean : (size : Option ℕ) (args : Items) (immutable : Bool) (kwargs options : Members) (kind : Data) (name : List ℕ) → SizeOk size → AreClean args → MembersClean no_members kwargs
+frozen_clean : (size : Option ℕ) (args : Items) (immutable : Bool) (kwargs options : Members) (kind : Data) (name : List ℕ) → SizeOk size → AreClean args
+    → MembersClean no_members kwargs
     → MembersClean no_members options → IsClean kind → IsClean (frozen_wire size args immutable kwargs options kind name)
 frozen_clean None args immutable kwargs options kind name s a k o kd = (
   tt,
@@ -125,7 +128,8 @@ mutual
       let p = task_parts last k call links errbacks place ok in
       frozen_clean size (args_wire call.args) call.immutable (kwargs_wire call.kwargs) _ null call.name s (args_clean call.args p.called.args)
       (kwargs_clean no_members call.kwargs p.called.kwargs p.called.ordered (all_above call.kwargs))
-      (options_clean k (tasks_wire links) (tasks_wire errbacks) (place_id place) (carried_wire place) (tasks_clean links p.linked) (tasks_clean errbacks p.failing) (place_id_clean place) (carried_clean last place p.placed)) tt
+      (options_clean k (tasks_wire links) (tasks_wire errbacks) (place_id place) (carried_wire place) (tasks_clean links p.linked)
+      (tasks_clean errbacks p.failing) (place_id_clean place) (carried_clean last place p.placed)) tt
 
   pub tasks_clean : (ts : PTasks) → tasks_ok ts ≡ true → AreClean (tasks_wire ts)
   tasks_clean no_p_tasks ok = tt
@@ -146,10 +150,12 @@ mutual
       chain_clean size (item (task_wire None t) (elements_wire (p_step u l))) s (task_clean false None t tt p.0, elements_clean last (p_step u l) p.1)
   line_clean last size (p_step t (p_group_end g ms)) s ok =
       let p = both (task_ok false t) (line_ok last (p_group_end g ms)) ok in
-      chain_clean size (item (task_wire None t) (elements_wire (p_group_end g ms))) s (task_clean false None t tt p.0, elements_clean last (p_group_end g ms) p.1)
+      chain_clean size (item (task_wire None t) (elements_wire (p_group_end g ms))) s
+      (task_clean false None t tt p.0, elements_clean last (p_group_end g ms) p.1)
   line_clean last size (p_step t (p_chord_end g ms b)) s ok =
       let p = both (task_ok false t) (line_ok last (p_chord_end g ms b)) ok in
-      chain_clean size (item (task_wire None t) (elements_wire (p_chord_end g ms b))) s (task_clean false None t tt p.0, elements_clean last (p_chord_end g ms b) p.1)
+      chain_clean size (item (task_wire None t) (elements_wire (p_chord_end g ms b))) s
+      (task_clean false None t tt p.0, elements_clean last (p_chord_end g ms b) p.1)
   line_clean last size (p_group_end g ms) s ok = grouped_clean size g (members_wire ms) s (members_clean ms (both (is_task_number g) (members_ok ms) ok).1)
   line_clean last size (p_chord_end g ms b) s ok =
       let p = chord_parts last g ms b ok in
@@ -192,7 +198,8 @@ list_depth : (k : List ℕ) (ds : Items) (more : Members) → members_depth (mem
 list_depth k no_items more = omega arith
 list_depth k (item d ds) more = omega arith
 
-options_depth : (k : ℕ) (l e : Items) (g c : Data) → members_depth (task_options k l e g c) ≤ max (max (depth c) (depth g)) (1 + max (items_depth l) (items_depth e))
+options_depth : (k : ℕ) (l e : Items) (g c : Data)
+    → members_depth (task_options k l e g c) ≤ max (max (depth c) (depth g)) (1 + max (items_depth l) (items_depth e))
 options_depth k l e g c =
     omega (
       arith,
@@ -221,7 +228,8 @@ group_depth size g ds = omega (arith, frozen_depth size no_items false (tasks_me
 chord_depth : (size : Option ℕ) (g : ℕ) (ds : Items) (b : Data) → depth (chord_wire size g ds b) ≤ 3 + max (depth b) (items_depth ds)
 chord_depth size g ds b = omega (arith, frozen_depth size no_items false (chord_members b ds) (group_options g) (string (codes "chord")) (codes "celery.chord") refl)
 
-task_level : (size : Option ℕ) (k n : ℕ) (call : Call) (l e : Items) (place : PPlace) → items_depth l ≤ 3 + 3 * n → items_depth e ≤ 3 + 3 * n → depth (carried_wire place) ≤ 3 + 3 * n
+task_level : (size : Option ℕ) (k n : ℕ) (call : Call) (l e : Items) (place : PPlace) → items_depth l ≤ 3 + 3 * n → items_depth e ≤ 3 + 3 * n
+    → depth (carried_wire place) ≤ 3 + 3 * n
     → depth (call_wire size call (task_options k l e (place_id place) (carried_wire place))) ≤ 3 + 3 * (1 + n)
 task_level size k n call l e place hl he hc =
     let o = task_options k l e (place_id place) (carried_wire place) in
@@ -241,7 +249,8 @@ mutual
   pub task_depth : (c : ℕ) (size : Option ℕ) (t : PTask) → depth (task_wire size t) ≤ 3 + 3 * task_reach c t
   task_depth c size (p_task k call links errbacks place) =
       let n = max (max c (place_reach place)) (max (tasks_reach links) (tasks_reach errbacks)) in
-      task_level size k n call (tasks_wire links) (tasks_wire errbacks) place (omega (arith, tasks_depth links)) (omega (arith, tasks_depth errbacks)) (omega (arith, carried_depth place))
+      task_level size k n call (tasks_wire links) (tasks_wire errbacks) place (omega (arith, tasks_depth links)) (omega (arith, tasks_depth errbacks))
+      (omega (arith, carried_depth place))
 
   pub tasks_depth : (ts : PTasks) → items_depth (tasks_wire ts) ≤ 3 + 3 * tasks_reach ts
   tasks_depth no_p_tasks = omega arith
@@ -255,13 +264,15 @@ mutual
   line_depth : (c : ℕ) (size : Option ℕ) (l : PLine) → depth (line_wire size l) ≤ 3 + 3 * line_reach c l
   line_depth c size p_stop = omega (arith, chain_depth size no_items)
   line_depth c size (p_step t p_stop) = task_depth c size t
-  line_depth c size (p_step t (p_step u l)) = omega (arith, chain_depth size (item (task_wire None t) (elements_wire (p_step u l))), task_depth 0 None t, elements_depth c (p_step u l))
+  line_depth c size (p_step t (p_step u l)) =
+      omega (arith, chain_depth size (item (task_wire None t) (elements_wire (p_step u l))), task_depth 0 None t, elements_depth c (p_step u l))
   line_depth c size (p_step t (p_group_end g ms)) =
       omega (arith, chain_depth size (item (task_wire None t) (elements_wire (p_group_end g ms))), task_depth 0 None t, elements_depth c (p_group_end g ms))
   line_depth c size (p_step t (p_chord_end g ms b)) =
       omega (arith, chain_depth size (item (task_wire None t) (elements_wire (p_chord_end g ms b))), task_depth 0 None t, elements_depth c (p_chord_end g ms b))
   line_depth c size (p_group_end g ms) = omega (arith, group_depth size g (members_wire ms), members_depth_of 0 ms)
-  line_depth c size (p_chord_end g ms b) = omega (arith, chord_depth size g (members_wire ms) (line_wire None b), line_depth c None b, members_depth_of (line_reach c b) ms)
+  line_depth c size (p_chord_end g ms b) =
+      omega (arith, chord_depth size g (members_wire ms) (line_wire None b), line_depth c None b, members_depth_of (line_reach c b) ms)
 
   pub elements_depth : (c : ℕ) (l : PLine) → items_depth (elements_wire l) ≤ 3 + 3 * greatest_reach c l
   elements_depth c p_stop = omega arith
@@ -270,7 +281,8 @@ mutual
   elements_depth c (p_step t (p_group_end g ms)) = omega (arith, task_depth 0 None t, elements_depth c (p_group_end g ms))
   elements_depth c (p_step t (p_chord_end g ms b)) = omega (arith, task_depth 0 None t, elements_depth c (p_chord_end g ms b))
   elements_depth c (p_group_end g ms) = omega (arith, group_depth None g (members_wire ms), members_depth_of 0 ms)
-  elements_depth c (p_chord_end g ms b) = omega (arith, chord_depth None g (members_wire ms) (line_wire None b), line_depth c None b, members_depth_of (line_reach c b) ms)
+  elements_depth c (p_chord_end g ms b) =
+      omega (arith, chord_depth None g (members_wire ms) (line_wire None b), line_depth c None b, members_depth_of (line_reach c b) ms)
 
   members_depth_of : (c : ℕ) (ms : PLines) → items_depth (members_wire ms) ≤ 3 + 3 * members_reach c ms
   members_depth_of c no_p_lines = omega arith

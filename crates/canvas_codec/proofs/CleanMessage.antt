@@ -39,7 +39,8 @@ parent_depth None = refl
 parent_depth (Some k) = refl
 
 abbrev embed_of : PTasks → PTasks → PPlace → PLine → Data
-embed_of links errbacks place rest = embed_wire (record { parent = None; own = p_task 0 (record { name = []; args = []; kwargs = []; immutable = false }) links errbacks place; rest = rest })
+embed_of links errbacks place rest =
+    embed_wire (record { parent = None; own = p_task 0 (record { name = []; args = []; kwargs = []; immutable = false }) links errbacks place; rest = rest })
 
 -- a line that fits, or none
 rest_clean : (l : PLine) → RestFits l → AreClean (elements_wire l)
@@ -54,7 +55,8 @@ rest_depth (p_step t l) h = omega (arith, h.1, elements_depth 0 (p_step t l))
 rest_depth (p_group_end g ms) h = omega (arith, h.1, elements_depth 0 (p_group_end g ms))
 rest_depth (p_chord_end g ms b) h = omega (arith, h.1, elements_depth 0 (p_chord_end g ms b))
 
-embed_clean : (links errbacks : PTasks) (place : PPlace) (rest : PLine) → tasks_ok links ≡ true → tasks_ok errbacks ≡ true → IsClean (carried_wire place) → RestFits rest
+embed_clean : (links errbacks : PTasks) (place : PPlace) (rest : PLine) → tasks_ok links ≡ true → tasks_ok errbacks ≡ true → IsClean (carried_wire place)
+    → RestFits rest
     → IsClean (embed_of links errbacks place rest)
 embed_clean links errbacks place rest l e c r = (
   tt,
@@ -66,7 +68,8 @@ embed_clean links errbacks place rest l e c r = (
   ),
 )
 
-embed_depth : (links errbacks : PTasks) (place : PPlace) (rest : PLine) → max (max (tasks_reach links) (tasks_reach errbacks)) (place_reach place) ≤ 32 → RestFits rest
+embed_depth : (links errbacks : PTasks) (place : PPlace) (rest : PLine) → max (max (tasks_reach links) (tasks_reach errbacks)) (place_reach place) ≤ 32
+    → RestFits rest
     → depth (embed_of links errbacks place rest) ≤ 101
 embed_depth links errbacks place rest low r =
     omega (
@@ -111,14 +114,18 @@ texts_by parent k call links errbacks place rest w =
       );
       body = (
         args_clean call.args w.called.args,
-        (kwargs_clean no_members call.kwargs w.called.kwargs w.called.ordered (all_above call.kwargs), (embed_clean links errbacks place rest w.linked w.failing w.carried w.following, tt)),
+        (
+          kwargs_clean no_members call.kwargs w.called.kwargs w.called.ordered (all_above call.kwargs),
+          (embed_clean links errbacks place rest w.linked w.failing w.carried w.following, tt),
+        ),
       );
       low_properties = omega arith;
       low_headers = omega (arith, place_id_depth place, parent_depth parent);
       low_body = omega (arith, args_depth call.args, kwargs_depth call.kwargs, embed_depth links errbacks place rest w.low w.following);
     }
 
-texts_at : (parent : Option ℕ) (own : PTask) (rest : PLine) → fits (record { parent = parent; own = own; rest = rest }) ≡ true → Texts (record { parent = parent; own = own; rest = rest })
+texts_at : (parent : Option ℕ) (own : PTask) (rest : PLine) → fits (record { parent = parent; own = own; rest = rest }) ≡ true
+    → Texts (record { parent = parent; own = own; rest = rest })
 texts_at parent (p_task k call links errbacks place) rest h = texts_by parent k call links errbacks place rest (whole parent k call links errbacks place rest h)
 
 pub texts : (c : Content) → fits c ≡ true → Texts c

@@ -21,7 +21,8 @@ json_back : (d : Data) (text : Text) → text ≡ compact_text d → IsUtf8 text
 json_back d text is utf8 clean low =
     ap (λ b. if b then read text else None) (is_utf8-from_IsUtf8 text utf8) ∙ ap read is ∙ text_read d clean low
 
-pub envelope_back : (c : Content) (p h b : Text) → fits c ≡ true → p ≡ compact_text (properties_wire c) → h ≡ compact_text (headers_wire c) → b ≡ compact_text (body_wire c)
+pub envelope_back : (c : Content) (p h b : Text) → fits c ≡ true → p ≡ compact_text (properties_wire c) → h ≡ compact_text (headers_wire c)
+    → b ≡ compact_text (body_wire c)
     → IsUtf8 p → IsUtf8 h → IsUtf8 b → envelope_reading p h b ≡ Ok c
 envelope_back c p h b ok is_p is_h is_b utf8_p utf8_h utf8_b =
     let t = texts c ok in

@@ -44,9 +44,12 @@ given_seen a k =
     let first = list_any bad_argument (listed a) in
     let second = list_any bad_argument (contents k) in
     unless_seen (fault_if wrong BadArgs) _ (first || second) said
-    (λ none. then_seen (each arg_reading (listed a)) _ first second (map argument_of (listed a)) said (each_seen arg_reading bad_argument argument_of argument_seen (listed a))
-    (made_seen (each named_reading (object_members k)) (λ kwargs. record { args = map argument_of (listed a); kwargs = kwargs }) second (map named_of (object_members k))
-    (each_seen named_reading (λ e. bad_argument e.1) named_of named_seen (object_members k) ∙ ap (λ b. but_for b (map named_of (object_members k))) (any_content (object_members k)))))
+    (λ none. then_seen (each arg_reading (listed a)) _ first second (map argument_of (listed a)) said
+    (each_seen arg_reading bad_argument argument_of argument_seen (listed a))
+    (made_seen (each named_reading (object_members k)) (λ kwargs. record { args = map argument_of (listed a); kwargs = kwargs }) second
+    (map named_of (object_members k))
+    (each_seen named_reading (λ e. bad_argument e.1) named_of named_seen (object_members k)
+    ∙ ap (λ b. but_for b (map named_of (object_members k))) (any_content (object_members k)))))
     ∙ ap (λ b. but_for b said) (ap (λ b. b || (first || second)) (fault_if_so wrong) ∙ sym (or_assoc wrong first second))
 
 -- ---- what follows, the last element first
@@ -101,10 +104,13 @@ chain_is (d ∷ ds) =
     let others = list_any bad_task ds in
     let said = p_steps (reverse (map task_in ds)) (last_in d) in
     then_seen (last_reading levels d) _ (bad_last d) others (last_in d) said (last_is d)
-    (made_seen (each (step_reading levels) ds) (λ ts. p_steps (reverse ts) (last_in d)) others (map task_in ds) (each_seen (step_reading levels) bad_task task_in step_is ds))
-    ∙ ap₂ but_for (or_comm (bad_last d) others ∙ ap (λ b. b || bad_last d) (sym (any_reversed bad_task ds)) ∙ sym (elements_apart bad_task bad_last (reverse ds) d)
+    (made_seen (each (step_reading levels) ds) (λ ts. p_steps (reverse ts) (last_in d)) others (map task_in ds)
+    (each_seen (step_reading levels) bad_task task_in step_is ds))
+    ∙ ap₂ but_for (or_comm (bad_last d) others ∙ ap (λ b. b || bad_last d) (sym (any_reversed bad_task ds))
+    ∙ sym (elements_apart bad_task bad_last (reverse ds) d)
     ∙ sym (ap (bad_elements bad_task bad_last) (last_first d ds)))
-    (ap (λ ts. p_steps ts (last_in d)) (map_reversed task_in ds) ∙ sym (line_apart task_in last_in (reverse ds) d) ∙ sym (ap (line_from task_in last_in) (last_first d ds)))
+    (ap (λ ts. p_steps ts (last_in d)) (map_reversed task_in ds) ∙ sym (line_apart task_in last_in (reverse ds) d)
+    ∙ sym (ap (line_from task_in last_in) (last_first d ds)))
 
 -- ---- what goes with the call
 
@@ -187,7 +193,8 @@ parts_are b = refl
 
 -- ---- one refusal after the other
 
-row : {A B : Type 0} (b : Bool) (e : MessageFault) (rows : List (Bool × MessageFault)) (r : Result A MessageFault) (f : A → Result B MessageFault) (x : A) (y : B)
+row : {A B : Type 0} (b : Bool) (e : MessageFault) (rows : List (Bool × MessageFault)) (r : Result A MessageFault) (f : A → Result B MessageFault) (x : A)
+    (y : B)
     → r ≡ some_or e (but_for b x) → f x ≡ judged (first_of rows) y → (r so f) ≡ judged (first_of ((b, e) ∷ rows)) y
 row true e rows r f x y h k = ap (λ r. r so f) h
 row false e rows r f x y h k = ap (λ r. r so f) h ∙ k
@@ -212,7 +219,8 @@ check_by true c = refl
 check_by false c = refl
 
 -- the last of them: a part that is refused, or a whole that no message is
-last_row : (b w : Bool) (r : Result Embed MessageFault) (f : Embed → Content) (x : Embed) (c : Content) → r ≡ some_or BadEmbed (but_for b x) → f x ≡ c → w ≡ not (fits c)
+last_row : (b w : Bool) (r : Result Embed MessageFault) (f : Embed → Content) (x : Embed) (c : Content) → r ≡ some_or BadEmbed (but_for b x) → f x ≡ c
+    → w ≡ not (fits c)
     → (r so λ e. if_fits (f e)) ≡ judged (first_of ((b || w, BadEmbed) ∷ [])) c
 last_row true w r f x c h same off = ap (λ r. r so λ e. if_fits (f e)) h
 last_row false w r f x c h same off =
@@ -232,7 +240,8 @@ message_judged p h b =
     (row (bad_id p h) BadId after_id (some_or BadId (id_reading p h)) _ k (content_in h b) (ap (some_or BadId) (id_is p h))
     (must_row (is_json p) (bad_content_type p) BadContentType after_type _ (content_in h b)
     (not_both (is_text (codes "application/json") (field (codes "content_type") p)) (is_text (codes "utf-8") (field (codes "content_encoding") p)))
-    (row (bad_body b) BadBody after_body (some_or BadBody (parts_of b)) _ (record { args = args_in b; kwargs = kwargs_in b; embed = embed_in b }) (content_in h b)
+    (row (bad_body b) BadBody after_body (some_or BadBody (parts_of b)) _ (record { args = args_in b; kwargs = kwargs_in b; embed = embed_in b })
+    (content_in h b)
     (ap (some_or BadBody) (parts_are b))
     (row (bad_args b) bad_arguments after_args (refused_as bad_arguments (given_reading (args_in b) (kwargs_in b))) _ given (content_in h b)
     (refused_is bad_arguments (given_reading (args_in b) (kwargs_in b)) ∙ ap (some_or bad_arguments) (given_seen (args_in b) (kwargs_in b)))
@@ -244,7 +253,8 @@ message_judged p h b =
 
 texts_by : (p h b : Option Data)
     → (some_or NotJson p so λ p. some_or NotJson h so λ h. some_or NotJson b so λ b. message_reading p h b)
-    ≡ judged (first_of ((is_none p || is_none h || is_none b, NotJson) ∷ refusals (unwrap_or p null) (unwrap_or h null) (unwrap_or b null))) (content_in (unwrap_or h null) (unwrap_or b null))
+    ≡ judged (first_of ((is_none p || is_none h || is_none b, NotJson) ∷ refusals (unwrap_or p null) (unwrap_or h null) (unwrap_or b null)))
+    (content_in (unwrap_or h null) (unwrap_or b null))
 texts_by None h b = refl
 texts_by (Some p) None b = refl
 texts_by (Some p) (Some h) None = refl
@@ -287,6 +297,7 @@ pub found_says : (r : Result Content MessageFault) (p h b : Text) → Gives (λ 
 found_says (Ok m) p h b found = reading_says p h b m found
 found_says (Err e) p h b found = tt
 
-pub found_refused : (r : Result Content MessageFault) (p h b : Text) → Gives (λ m. m) r (envelope_reading p h b) → IfErr r (λ e. e ≢ Memory → envelope_fault p h b ≡ Some e)
+pub found_refused : (r : Result Content MessageFault) (p h b : Text) → Gives (λ m. m) r (envelope_reading p h b)
+    → IfErr r (λ e. e ≢ Memory → envelope_fault p h b ≡ Some e)
 found_refused (Ok m) p h b found = tt
 found_refused (Err e) p h b found = λ n. reading_refused p h b e (fails_is e (envelope_reading p h b) found n)

@@ -127,7 +127,8 @@ module _ (s t f g : Data → Bool) where
   task_step zero a b d low = flat_task s t f g d low
   task_step (suc k) a b d low = same_bad_task k s t f g a b d low
 
-  last_step : (k : ℕ) → Agree k s t → Agree k f g → (d : Data) → depth d ≤ k → bad_last_by s f (primitive_of (subtype d)) d ≡ bad_last_by t g (primitive_of (subtype d)) d
+  last_step : (k : ℕ) → Agree k s t → Agree k f g → (d : Data) → depth d ≤ k
+      → bad_last_by s f (primitive_of (subtype d)) d ≡ bad_last_by t g (primitive_of (subtype d)) d
   last_step zero a b d low = flat_last s t f g d low
   last_step (suc k) a b d low = same_bad_last k s t f g a b (primitive_of (subtype d)) d low
 
@@ -141,32 +142,40 @@ mutual
   tasks_agree (suc k) zero n h i = absurd (omega arith)
   tasks_agree (suc k) (suc m) zero h i = absurd (omega arith)
   tasks_agree (suc k) (suc m) (suc n) h i =
-      λ d l. task_step (bad_task_within m) (bad_task_within n) (bad_line_within m) (bad_line_within n) k (tasks_agree k m n (omega arith) (omega arith)) (lines_agree k m n (omega arith) (omega arith)) d (omega arith)
+      λ d l. task_step (bad_task_within m) (bad_task_within n) (bad_line_within m) (bad_line_within n) k (tasks_agree k m n (omega arith) (omega arith))
+      (lines_agree k m n (omega arith) (omega arith)) d (omega arith)
 
   lasts_agree : (k m n : ℕ) → k ≤ m → k ≤ n → Agree k (bad_last_within m) (bad_last_within n)
   lasts_agree zero m n h i = λ d l. absurd (omega arith)
   lasts_agree (suc k) zero n h i = absurd (omega arith)
   lasts_agree (suc k) (suc m) zero h i = absurd (omega arith)
   lasts_agree (suc k) (suc m) (suc n) h i =
-      λ d l. last_step (bad_task_within m) (bad_task_within n) (bad_line_within m) (bad_line_within n) k (tasks_agree k m n (omega arith) (omega arith)) (lines_agree k m n (omega arith) (omega arith)) d (omega arith)
+      λ d l. last_step (bad_task_within m) (bad_task_within n) (bad_line_within m) (bad_line_within n) k (tasks_agree k m n (omega arith) (omega arith))
+      (lines_agree k m n (omega arith) (omega arith)) d (omega arith)
 
   lines_agree : (k m n : ℕ) → k ≤ m → k ≤ n → Agree k (bad_line_within m) (bad_line_within n)
   lines_agree zero m n h i = λ d l. absurd (omega arith)
   lines_agree (suc k) zero n h i = absurd (omega arith)
   lines_agree (suc k) (suc m) zero h i = absurd (omega arith)
   lines_agree (suc k) (suc m) (suc n) h i =
-      λ d l. line_step (bad_task_within m) (bad_task_within n) (bad_line_within m) (bad_line_within n) (bad_last_within m) (bad_last_within n) k (tasks_agree k m n (omega arith) (omega arith)) (lines_agree k m n (omega arith) (omega arith)) (lasts_agree k m n (omega arith) (omega arith)) d (omega arith)
+      λ d l. line_step (bad_task_within m) (bad_task_within n) (bad_line_within m) (bad_line_within n) (bad_last_within m) (bad_last_within n) k
+      (tasks_agree k m n (omega arith) (omega arith)) (lines_agree k m n (omega arith) (omega arith)) (lasts_agree k m n (omega arith) (omega arith)) d
+      (omega arith)
 
 -- one level says it by its own
 module _ (n : ℕ) (d : Data) (low : depth d ≤ n) where
   task_again : bad_task_within (suc n) d ≡ bad_task_by (bad_task_within (suc n)) (bad_line_within (suc n)) d
-  task_again = task_step (bad_task_within n) (bad_task_within (suc n)) (bad_line_within n) (bad_line_within (suc n)) n (tasks_agree n n (suc n) (omega arith) (omega arith)) (lines_agree n n (suc n) (omega arith) (omega arith)) d low
+  task_again = task_step (bad_task_within n) (bad_task_within (suc n)) (bad_line_within n) (bad_line_within (suc n)) n
+      (tasks_agree n n (suc n) (omega arith) (omega arith)) (lines_agree n n (suc n) (omega arith) (omega arith)) d low
 
   last_again : bad_last_within (suc n) d ≡ bad_last_by (bad_task_within (suc n)) (bad_line_within (suc n)) (primitive_of (subtype d)) d
-  last_again = last_step (bad_task_within n) (bad_task_within (suc n)) (bad_line_within n) (bad_line_within (suc n)) n (tasks_agree n n (suc n) (omega arith) (omega arith)) (lines_agree n n (suc n) (omega arith) (omega arith)) d low
+  last_again = last_step (bad_task_within n) (bad_task_within (suc n)) (bad_line_within n) (bad_line_within (suc n)) n
+      (tasks_agree n n (suc n) (omega arith) (omega arith)) (lines_agree n n (suc n) (omega arith) (omega arith)) d low
 
   line_again : bad_line_within (suc n) d ≡ bad_line_by (bad_task_within (suc n)) (bad_last_within (suc n)) (bad_line_within (suc n)) d
-  line_again = line_step (bad_task_within n) (bad_task_within (suc n)) (bad_line_within n) (bad_line_within (suc n)) (bad_last_within n) (bad_last_within (suc n)) n (tasks_agree n n (suc n) (omega arith) (omega arith)) (lines_agree n n (suc n) (omega arith) (omega arith)) (lasts_agree n n (suc n) (omega arith) (omega arith)) d low
+  line_again = line_step (bad_task_within n) (bad_task_within (suc n)) (bad_line_within n) (bad_line_within (suc n)) (bad_last_within n)
+      (bad_last_within (suc n)) n (tasks_agree n n (suc n) (omega arith) (omega arith)) (lines_agree n n (suc n) (omega arith) (omega arith))
+      (lasts_agree n n (suc n) (omega arith) (omega arith)) d low
 
 pub refused_by_parts : (d : Data) → depth d ≤ max_depth → RefusedByParts d
 unfolding bad_task bad_last bad_line
@@ -178,7 +187,8 @@ module _ (n : ℕ) where
   same_all : {B : Type 0} (f g : Data → B) → Agree (suc n) f g → (ds : List Data) → AllLow n ds → map f ds ≡ map g ds
   same_all f g same ds low = same_map n f g (λ d l. same d (omega arith)) ds low
 
-  same_elements_said : (s t : Data → PTask) (e h : Data → PLine) → Agree (suc n) s t → Agree (suc n) e h → (ds : List Data) → AllLow n ds → line_from s e ds ≡ line_from t h ds
+  same_elements_said : (s t : Data → PTask) (e h : Data → PLine) → Agree (suc n) s t → Agree (suc n) e h → (ds : List Data) → AllLow n ds
+      → line_from s e ds ≡ line_from t h ds
   same_elements_said s t e h tasks_same lasts_same [] low = refl
   same_elements_said s t e h tasks_same lasts_same (d ∷ []) low = lasts_same d (omega (arith, low.0))
   same_elements_said s t e h tasks_same lasts_same (d ∷ x ∷ ds) low =
@@ -187,7 +197,8 @@ module _ (n : ℕ) where
   module _ (f g : Data → PLine) (lines_same : Agree (suc n) f g) where
     same_place_said : (group_at body_at : Data) → depth body_at < suc n → place_from f group_at body_at ≡ place_from g group_at body_at
     same_place_said group_at body_at low =
-        ap (λ b. if is_null group_at then p_nowhere else (if is_null body_at then p_group (group_number group_at) else p_chord (group_number group_at) (size_in body_at) b)) (lines_same body_at low)
+        ap (λ b. if is_null group_at then p_nowhere else
+        (if is_null body_at then p_group (group_number group_at) else p_chord (group_number group_at) (size_in body_at) b)) (lines_same body_at low)
 
     same_task_said : (s t : Data → PTask) → Agree (suc n) s t → (d : Data) → depth d ≤ suc n → task_from s f d ≡ task_from t g d
     same_task_said s t tasks_same d low =
@@ -219,7 +230,8 @@ module _ (s t : Data → PTask) (f g : Data → PLine) where
   flat_task_said (array ds) low = absurd (omega arith)
   flat_task_said (object ms) low = absurd (omega arith)
 
-  flat_last_said : (a b : PTask) (d : Data) → a ≡ b → depth d ≤ 0 → element_from a f (primitive_of (subtype d)) d ≡ element_from b g (primitive_of (subtype d)) d
+  flat_last_said : (a b : PTask) (d : Data) → a ≡ b → depth d ≤ 0
+      → element_from a f (primitive_of (subtype d)) d ≡ element_from b g (primitive_of (subtype d)) d
   flat_last_said a b null e low = ap (λ x. p_step x p_stop) e
   flat_last_said a b (boolean y) e low = ap (λ x. p_step x p_stop) e
   flat_last_said a b (number y) e low = ap (λ x. p_step x p_stop) e
@@ -239,11 +251,13 @@ module _ (s t : Data → PTask) (f g : Data → PLine) where
   said_task_step zero u v d low = flat_task_said d low
   said_task_step (suc k) u v d low = same_task_said k f g v s t u d low
 
-  said_last_step : (k : ℕ) → Agree k f g → (a b : PTask) (d : Data) → a ≡ b → depth d ≤ k → element_from a f (primitive_of (subtype d)) d ≡ element_from b g (primitive_of (subtype d)) d
+  said_last_step : (k : ℕ) → Agree k f g → (a b : PTask) (d : Data) → a ≡ b → depth d ≤ k
+      → element_from a f (primitive_of (subtype d)) d ≡ element_from b g (primitive_of (subtype d)) d
   said_last_step zero v a b d q low = flat_last_said a b d q low
   said_last_step (suc k) v a b d q low = same_last_said k f g v a b (primitive_of (subtype d)) d q low
 
-  said_line_step : (e h : Data → PLine) (k : ℕ) → Agree k s t → Agree k f g → Agree k e h → (a b : PTask) (d : Data) → a ≡ b → depth d ≤ k → line_as a s e f d ≡ line_as b t h g d
+  said_line_step : (e h : Data → PLine) (k : ℕ) → Agree k s t → Agree k f g → Agree k e h → (a b : PTask) (d : Data) → a ≡ b → depth d ≤ k
+      → line_as a s e f d ≡ line_as b t h g d
   said_line_step e h zero u v w a b d q low = flat_line_said e h a b d q low
   said_line_step e h (suc k) u v w a b d q low =
       ap₂ (λ x y. if is_chain d then x else y) (same_elements_said k s t e h u w (listed (tasks d)) (tasks_low k d low))
@@ -255,33 +269,43 @@ mutual
   said_tasks_agree (suc k) zero n h i = absurd (omega arith)
   said_tasks_agree (suc k) (suc m) zero h i = absurd (omega arith)
   said_tasks_agree (suc k) (suc m) (suc n) h i =
-      λ d l. said_task_step (task_within m) (task_within n) (line_within m) (line_within n) k (said_tasks_agree k m n (omega arith) (omega arith)) (said_lines_agree k m n (omega arith) (omega arith)) d (omega arith)
+      λ d l. said_task_step (task_within m) (task_within n) (line_within m) (line_within n) k (said_tasks_agree k m n (omega arith) (omega arith))
+      (said_lines_agree k m n (omega arith) (omega arith)) d (omega arith)
 
   said_lasts_agree : (k m n : ℕ) → k ≤ m → k ≤ n → Agree k (last_within m) (last_within n)
   said_lasts_agree zero m n h i = λ d l. absurd (omega arith)
   said_lasts_agree (suc k) zero n h i = absurd (omega arith)
   said_lasts_agree (suc k) (suc m) zero h i = absurd (omega arith)
   said_lasts_agree (suc k) (suc m) (suc n) h i =
-      λ d l. said_last_step (task_within m) (task_within n) (line_within m) (line_within n) k (said_lines_agree k m n (omega arith) (omega arith)) (task_within (suc m) d) (task_within (suc n) d) d
-      (said_task_step (task_within m) (task_within n) (line_within m) (line_within n) k (said_tasks_agree k m n (omega arith) (omega arith)) (said_lines_agree k m n (omega arith) (omega arith)) d (omega arith)) (omega arith)
+      λ d l. said_last_step (task_within m) (task_within n) (line_within m) (line_within n) k (said_lines_agree k m n (omega arith) (omega arith))
+      (task_within (suc m) d) (task_within (suc n) d) d
+      (said_task_step (task_within m) (task_within n) (line_within m) (line_within n) k (said_tasks_agree k m n (omega arith) (omega arith))
+      (said_lines_agree k m n (omega arith) (omega arith)) d (omega arith)) (omega arith)
 
   said_lines_agree : (k m n : ℕ) → k ≤ m → k ≤ n → Agree k (line_within m) (line_within n)
   said_lines_agree zero m n h i = λ d l. absurd (omega arith)
   said_lines_agree (suc k) zero n h i = absurd (omega arith)
   said_lines_agree (suc k) (suc m) zero h i = absurd (omega arith)
   said_lines_agree (suc k) (suc m) (suc n) h i =
-      λ d l. said_line_step (task_within m) (task_within n) (line_within m) (line_within n) (last_within m) (last_within n) k (said_tasks_agree k m n (omega arith) (omega arith)) (said_lines_agree k m n (omega arith) (omega arith)) (said_lasts_agree k m n (omega arith) (omega arith)) (task_within (suc m) d) (task_within (suc n) d) d
-      (said_task_step (task_within m) (task_within n) (line_within m) (line_within n) k (said_tasks_agree k m n (omega arith) (omega arith)) (said_lines_agree k m n (omega arith) (omega arith)) d (omega arith)) (omega arith)
+      λ d l. said_line_step (task_within m) (task_within n) (line_within m) (line_within n) (last_within m) (last_within n) k
+      (said_tasks_agree k m n (omega arith) (omega arith)) (said_lines_agree k m n (omega arith) (omega arith))
+      (said_lasts_agree k m n (omega arith) (omega arith)) (task_within (suc m) d) (task_within (suc n) d) d
+      (said_task_step (task_within m) (task_within n) (line_within m) (line_within n) k (said_tasks_agree k m n (omega arith) (omega arith))
+      (said_lines_agree k m n (omega arith) (omega arith)) d (omega arith)) (omega arith)
 
 module _ (n : ℕ) (d : Data) (low : depth d ≤ n) where
   said_task_again : task_within (suc n) d ≡ task_from (task_within (suc n)) (line_within (suc n)) d
-  said_task_again = said_task_step (task_within n) (task_within (suc n)) (line_within n) (line_within (suc n)) n (said_tasks_agree n n (suc n) (omega arith) (omega arith)) (said_lines_agree n n (suc n) (omega arith) (omega arith)) d low
+  said_task_again = said_task_step (task_within n) (task_within (suc n)) (line_within n) (line_within (suc n)) n
+      (said_tasks_agree n n (suc n) (omega arith) (omega arith)) (said_lines_agree n n (suc n) (omega arith) (omega arith)) d low
 
   said_last_again : last_within (suc n) d ≡ element_from (task_within (suc n) d) (line_within (suc n)) (primitive_of (subtype d)) d
-  said_last_again = said_last_step (task_within n) (task_within (suc n)) (line_within n) (line_within (suc n)) n (said_lines_agree n n (suc n) (omega arith) (omega arith)) (task_within (suc n) d) (task_within (suc n) d) d refl low
+  said_last_again = said_last_step (task_within n) (task_within (suc n)) (line_within n) (line_within (suc n)) n
+      (said_lines_agree n n (suc n) (omega arith) (omega arith)) (task_within (suc n) d) (task_within (suc n) d) d refl low
 
   said_line_again : line_within (suc n) d ≡ line_by (task_within (suc n)) (last_within (suc n)) (line_within (suc n)) d
-  said_line_again = said_line_step (task_within n) (task_within (suc n)) (line_within n) (line_within (suc n)) (last_within n) (last_within (suc n)) n (said_tasks_agree n n (suc n) (omega arith) (omega arith)) (said_lines_agree n n (suc n) (omega arith) (omega arith)) (said_lasts_agree n n (suc n) (omega arith) (omega arith)) (task_within (suc n) d) (task_within (suc n) d) d refl low
+  said_line_again = said_line_step (task_within n) (task_within (suc n)) (line_within n) (line_within (suc n)) (last_within n) (last_within (suc n)) n
+      (said_tasks_agree n n (suc n) (omega arith) (omega arith)) (said_lines_agree n n (suc n) (omega arith) (omega arith))
+      (said_lasts_agree n n (suc n) (omega arith) (omega arith)) (task_within (suc n) d) (task_within (suc n) d) d refl low
 
 pub said_by_parts : (d : Data) → depth d ≤ max_depth → SaidByParts d
 unfolding task_in last_in line_in
@@ -401,7 +425,8 @@ module _ (n : ℕ) (more : levels ≤ n) where
   same_fault : (p h b : Text) → envelope_fault_within n p h b ≡ envelope_fault p h b
   unfolding envelope_fault
   same_fault p h b =
-      ap (λ x. first_of ((not_json p || not_json h || not_json b, NotJson) ∷ (not_version_2 (json_in h), NotVersion2) ∷ (bad_id (json_in p) (json_in h), BadId) ∷ (bad_content_type (json_in p), BadContentType)
+      ap (λ x. first_of ((not_json p || not_json h || not_json b, NotJson) ∷ (not_version_2 (json_in h), NotVersion2) ∷ (bad_id (json_in p) (json_in h), BadId)
+      ∷ (bad_content_type (json_in p), BadContentType)
       ∷ (bad_body (json_in b), BadBody) ∷ (bad_args (json_in b), BadArgs) ∷ (x, BadEmbed) ∷ [])) (same_embed (json_in h) (json_in b) (json_low b))
 
   same_said : (h b : Text) → content_within n (json_in h) (json_in b) ≡ content_said h b

@@ -87,7 +87,8 @@ none_bad (d ∷ ds) k h =
     let p = both_of (kind_ok d) (list_all kind_ok ds) k in let q = both_of (numbers_ok d) (list_all numbers_ok ds) h in
     ap (λ b. not b || not (numbers_ok d) || list_any bad_argument ds) p.0 ∙ ap (λ b. not b || list_any bad_argument ds) q.0 ∙ none_bad ds p.1 q.1
 
-calm : (b : Bool) (e : SigFault) (o : Option SigFault) → but_a_place (Some e) ≡ Some e → but_a_place (fault_if b e or_else o) ≡ None → (b ≡ false) × (but_a_place o ≡ None)
+calm : (b : Bool) (e : SigFault) (o : Option SigFault) → but_a_place (Some e) ≡ Some e → but_a_place (fault_if b e or_else o) ≡ None
+    → (b ≡ false) × (but_a_place o ≡ None)
 calm true e o k h = absurd (let clash : None ≡ Some e = sym h ∙ k in cc)
 calm false e o k h = (refl, h)
 
@@ -113,7 +114,8 @@ call_seen d k h =
     let p = both_of (list_all kind_ok (listed (args d))) (list_all kind_ok (contents (kwargs d))) k in
     let q = both_of (list_all numbers_ok (listed (args d))) (list_all numbers_ok (contents (kwargs d))) h in
     then_seen (each arg_reading (listed (args d))) _ false false (map argument_of (listed (args d))) (spelled_call d)
-    (each_seen arg_reading bad_argument argument_of argument_seen (listed (args d)) ∙ ap (λ b. but_for b (map argument_of (listed (args d)))) (none_bad (listed (args d)) p.0 q.0))
+    (each_seen arg_reading bad_argument argument_of argument_seen (listed (args d))
+    ∙ ap (λ b. but_for b (map argument_of (listed (args d)))) (none_bad (listed (args d)) p.0 q.0))
     (made_seen (each named_reading (object_members (kwargs d))) _ false (map named_of (object_members (kwargs d)))
     (each_seen named_reading (λ e. bad_argument e.1) named_of named_seen (object_members (kwargs d))
     ∙ ap (λ b. but_for b (map named_of (object_members (kwargs d)))) (any_content (object_members (kwargs d)) ∙ none_bad (contents (kwargs d)) p.1 q.1)))
@@ -143,8 +145,10 @@ module _ (f : Data → Result PLine SigFault) (bad : Data → Bool) (v : Data �
       (size_seen (field (codes "chord_size") d)) (made_seen (f d) _ (bad d) (v d) (is d))
 
   place_by : (a b : Bool) (o : Option ℕ) (c : Result PCarried SigFault) (w : Bool) (l : PCarried) → seen c ≡ but_for w l
-      → seen (if a then (if b then Ok p_nowhere else Err Frozen) else (if_numbered o >>= λ g. if b then Ok (p_group g) else (c >>= λ c. Ok (p_chord g c.size c.body))))
-      ≡ but_for (if a then not b else (is_none o || (not b && w))) (if a then p_nowhere else (if b then p_group (unwrap_or o 0) else p_chord (unwrap_or o 0) l.size l.body))
+      → seen (if a then (if b then Ok p_nowhere else Err Frozen) else
+      (if_numbered o >>= λ g. if b then Ok (p_group g) else (c >>= λ c. Ok (p_chord g c.size c.body))))
+      ≡ but_for (if a then not b else (is_none o || (not b && w)))
+      (if a then p_nowhere else (if b then p_group (unwrap_or o 0) else p_chord (unwrap_or o 0) l.size l.body))
   place_by true true o c w l h = refl
   place_by true false o c w l h = refl
   place_by false true None c w l h = refl
@@ -167,7 +171,8 @@ module _ (f : Data → Result PLine SigFault) (bad : Data → Bool) (v : Data �
       let said = p_group_end (group_number (option (codes "group_id") d)) (p_lines_of (map v (listed (tasks d)))) in
       unless_seen (own_fault false d) (group_with f d) (is_none id || inner) said
       (λ none. then_seen (if_numbered id) _ (is_none id) inner (unwrap_or id 0) said (numbered_seen id)
-      (made_seen (each f (listed (tasks d))) (λ ms. p_group_end (unwrap_or id 0) (p_lines_of ms)) inner (map v (listed (tasks d))) (each_seen f bad v is (listed (tasks d)))))
+      (made_seen (each f (listed (tasks d))) (λ ms. p_group_end (unwrap_or id 0) (p_lines_of ms)) inner (map v (listed (tasks d)))
+      (each_seen f bad v is (listed (tasks d)))))
       ∙ ap (λ b. but_for b said) (sym (or_assoc (is_some (own_fault false d)) (is_none id) inner))
 
   own_or_header : (o : Option SigFault) (b : Bool) → is_some (o or_else fault_if b BadArgs) ≡ (is_some o || b)
@@ -256,7 +261,8 @@ module _ (f : Data → Result PLine SigFault) (bad : Data → Bool) (v : Data �
     unknown_fault false = refl
 
     -- one that stands for none is no link
-    no_link : (d : Data) (p : Option Primitive) → is_task p ≡ false → is_some (but_a_place (fault_if (not_signature d) NotSignature or_else fault_as true d p)) ≡ true
+    no_link : (d : Data) (p : Option Primitive) → is_task p ≡ false → is_some (but_a_place (fault_if (not_signature d) NotSignature or_else fault_as true d p))
+        ≡ true
     no_link d None h = unknown_fault (not_signature d)
     no_link d (Some kind.Task) h = absurd cc
     no_link d (Some kind.Chain) h = linked_fault (not_signature d) (bad_args kind.Chain d)
@@ -270,15 +276,18 @@ module _ (f : Data → Result PLine SigFault) (bad : Data → Bool) (v : Data �
         ∙ ap (λ b. not b || is_some (but_a_place (own_fault false d)) || is_none (task_of (option (codes "task_id") d)) || list_any faulty (as_list (link d))
         || list_any faulty (as_list (link_error d)) || bad_place bad (option (codes "group_id") d) (option (codes "chord") d)) h
 
-    not_linked : (d : Data) (p : Option Primitive) → primitive_of (subtype d) ≡ p → is_task p ≡ false → seen (task_as true t f d) ≡ but_for (bad_task_by faulty bad d) (task_from w v d)
+    not_linked : (d : Data) (p : Option Primitive) → primitive_of (subtype d) ≡ p → is_task p ≡ false
+        → seen (task_as true t f d) ≡ but_for (bad_task_by faulty bad d) (task_from w v d)
     not_linked d p here h =
-        unless_seen (but_a_place (own_fault true d)) (task_with t f d) true (task_from w v d) (λ none. absurd (let clash : false ≡ true = sym (ap is_some none) ∙ wrong in cc))
+        unless_seen (but_a_place (own_fault true d)) (task_with t f d) true (task_from w v d)
+        (λ none. absurd (let clash : false ≡ true = sym (ap is_some none) ∙ wrong in cc))
         ∙ ap (λ b. but_for (b || true) (task_from w v d)) wrong ∙ ap (λ b. but_for b (task_from w v d)) (sym (no_task d p here h))
       where
         wrong : is_some (but_a_place (own_fault true d)) ≡ true
         wrong = ap (λ q. is_some (but_a_place (fault_if (not_signature d) NotSignature or_else fault_as true d q))) here ∙ no_link d p h
 
-    link_by : (d : Data) (p : Option Primitive) → primitive_of (subtype d) ≡ p → seen (task_as true t f d) ≡ but_for (bad_task_by faulty bad d) (task_from w v d)
+    link_by : (d : Data) (p : Option Primitive) → primitive_of (subtype d) ≡ p
+        → seen (task_as true t f d) ≡ but_for (bad_task_by faulty bad d) (task_from w v d)
     link_by d (Some kind.Task) here = own_seen true d (Some kind.Task) here refl
     link_by d None here = not_linked d None here refl
     link_by d (Some kind.Chain) here = not_linked d (Some kind.Chain) here refl
@@ -299,7 +308,8 @@ module _ (f : Data → Result PLine SigFault) (bad : Data → Bool) (v : Data �
     step_seen d (Some kind.Group) here = refused (bad_task_by faulty bad d) (task_from w v d) (no_task d (Some kind.Group) here refl)
     step_seen d (Some kind.Chord) here = refused (bad_task_by faulty bad d) (task_from w v d) (no_task d (Some kind.Chord) here refl)
 
-    last_seen : (d : Data) (p : Option Primitive) → primitive_of (subtype d) ≡ p → seen (last_as t f p d) ≡ but_for (bad_last_by faulty bad p d) (element_from (task_from w v d) v p d)
+    last_seen : (d : Data) (p : Option Primitive) → primitive_of (subtype d) ≡ p
+        → seen (last_as t f p d) ≡ but_for (bad_last_by faulty bad p d) (element_from (task_from w v d) v p d)
     last_seen d (Some kind.Task) here =
         made_seen (task_as false t f d) (λ x. p_step x p_stop) (bad_task_by faulty bad d) (task_from w v d) (own_seen false d (Some kind.Task) here refl)
     last_seen d (Some kind.Group) here = group_seen d
@@ -346,16 +356,20 @@ line_seen n l d =
     (but_for (is_some (own_fault false d) || bad_chain) whole_chain)
     (but_for (bad_last_within (suc n) d) (last_within (suc n) d))
     (chain_seen (own_fault false d) chain bad_chain whole_chain
-    (elements_seen (step_reading n) (bad_task_within n) (task_within n) l.steps (last_reading n) (bad_last_within n) (last_within n) l.lasts (listed (tasks d))))
-    (last_seen (line_reading n) (bad_line_within n) (line_within n) l.lines (link_reading n) (bad_task_within n) (task_within n) l.links d (primitive_of (subtype d)) refl)
+    (elements_seen (step_reading n) (bad_task_within n) (task_within n) l.steps (last_reading n) (bad_last_within n) (last_within n) l.lasts
+    (listed (tasks d))))
+    (last_seen (line_reading n) (bad_line_within n) (line_within n) l.lines (link_reading n) (bad_task_within n) (task_within n) l.links d
+    (primitive_of (subtype d)) refl)
     ∙ chosen (is_chain d) (is_some (own_fault false d) || bad_chain) (bad_last_within (suc n) d) whole_chain (last_within (suc n) d)
 
 next : (n : ℕ) → Level n → Level (suc n)
 next n l =
     record {
       links = λ d. link_seen (line_reading n) (bad_line_within n) (line_within n) l.lines (link_reading n) (bad_task_within n) (task_within n) l.links d;
-      steps = λ d. step_seen (line_reading n) (bad_line_within n) (line_within n) l.lines (link_reading n) (bad_task_within n) (task_within n) l.links d (primitive_of (subtype d)) refl;
-      lasts = λ d. last_seen (line_reading n) (bad_line_within n) (line_within n) l.lines (link_reading n) (bad_task_within n) (task_within n) l.links d (primitive_of (subtype d)) refl;
+      steps = λ d. step_seen (line_reading n) (bad_line_within n) (line_within n) l.lines (link_reading n) (bad_task_within n) (task_within n) l.links d
+          (primitive_of (subtype d)) refl;
+      lasts = λ d. last_seen (line_reading n) (bad_line_within n) (line_within n) l.lines (link_reading n) (bad_task_within n) (task_within n) l.links d
+          (primitive_of (subtype d)) refl;
       lines = line_seen n l;
     }
 

@@ -64,12 +64,14 @@ all_plain : (n : ℕ) (f : ℕ → ℕ) → ((k : ℕ) → escape_byte (f k) ≡
 unfolding by_index
 all_plain zero f own = refl
 all_plain (suc n) f own =
-    escape_append (by_index n f) (f n ∷ []) ∙ ap (λ xs. xs ++ escape (f n ∷ [])) (all_plain n f own) ∙ ap (λ xs. by_index n f ++ xs) (plain_next (f n) [] (own n) refl)
+    escape_append (by_index n f) (f n ∷ []) ∙ ap (λ xs. xs ++ escape (f n ∷ [])) (all_plain n f own)
+    ∙ ap (λ xs. by_index n f ++ xs) (plain_next (f n) [] (own n) refl)
 
 hyphenated_plain : (xs : List ℕ) → escape (hyphenated_text lower xs) ≡ hyphenated_text lower xs
 hyphenated_plain xs =
     all_plain 36 (λ k. if is_hyphen_place k then hyphen else hex_digit lower (nibble xs (digit_place k)))
-    (λ k. place_plain (is_hyphen_place k) (hex_digit lower (nibble xs (digit_place k))) (digit_plain (nibble xs (digit_place k)) (nibble_small xs (digit_place k))))
+    (λ k. place_plain (is_hyphen_place k) (hex_digit lower (nibble xs (digit_place k)))
+    (digit_plain (nibble xs (digit_place k)) (nibble_small xs (digit_place k))))
 
 pub task_plain : (k : ℕ) → escape (task_text k) ≡ task_text k
 task_plain k = hyphenated_plain (identifier task_mark k)
@@ -124,7 +126,8 @@ unfolding serde_json_on_literals by_index
 root_known = refl
 
 head : (o g s q i l p r t u n e : List ℕ)
-    → (((o ++ (g ++ (s ++ q))) ++ i) ++ ((q ++ l) ++ (p ++ (r ++ (t ++ u))))) ++ (n ++ e) ≡ o ++ (g ++ (s ++ ((q ++ (i ++ q)) ++ (l ++ (p ++ (r ++ (t ++ (u ++ (n ++ e)))))))))
+    → (((o ++ (g ++ (s ++ q))) ++ i) ++ ((q ++ l) ++ (p ++ (r ++ (t ++ u))))) ++ (n ++ e) ≡ o
+    ++ (g ++ (s ++ ((q ++ (i ++ q)) ++ (l ++ (p ++ (r ++ (t ++ (u ++ (n ++ e)))))))))
 head o g s q i l p r t u n e = simp append_assoc
 
 pub headers_written : (group parent : Data) (i name : List ℕ) → escape i ≡ i
@@ -139,7 +142,8 @@ headers_written group parent i name plain =
     ∙ ap (λ x. text x (codes "\"00000000-0000-8000-8000-000000000001\"")) (sym plain) ∙ ap (text (escape i)) (sym root_known)
 
 call : (o a s d f k p q i b t n e : List ℕ)
-    → (((o ++ (a ++ (s ++ d))) ++ (f ++ k)) ++ ((p ++ q) ++ (i ++ (q ++ (b ++ t))))) ++ (n ++ e) ≡ o ++ (a ++ (s ++ (d ++ (f ++ (k ++ ((p ++ ((q ++ (i ++ q)) ++ b)) ++ (t ++ (n ++ e))))))))
+    → (((o ++ (a ++ (s ++ d))) ++ (f ++ k)) ++ ((p ++ q) ++ (i ++ (q ++ (b ++ t))))) ++ (n ++ e) ≡ o
+    ++ (a ++ (s ++ (d ++ (f ++ (k ++ ((p ++ ((q ++ (i ++ q)) ++ b)) ++ (t ++ (n ++ e))))))))
 call o a s d f k p q i b t n e = simp append_assoc
 
 call_written : (size : ℕ) (args : Items) (flag : List ℕ) (kwargs : Members) (i name : List ℕ) → escape i ≡ i

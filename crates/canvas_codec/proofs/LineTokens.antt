@@ -20,11 +20,13 @@ use Rattle.canvas_message.proofs.Seen.{line_none, line_some, end_none, end_some}
 pub elements_tokens : (l : PLine) → rest_tokens (elements_wire l) ≡ each_tokens (tasks_of_line l) ++ (tail_tokens l ++ end_array ∷ [])
 elements_tokens p_stop = refl
 elements_tokens (p_step t l) =
-    ap (λ x. data_tokens (task_wire None t) ++ x) (elements_tokens l) ∙ sym (append_assoc (data_tokens (task_wire None t)) (each_tokens (tasks_of_line l)) (tail_tokens l ++ end_array ∷ []))
+    ap (λ x. data_tokens (task_wire None t) ++ x) (elements_tokens l)
+    ∙ sym (append_assoc (data_tokens (task_wire None t)) (each_tokens (tasks_of_line l)) (tail_tokens l ++ end_array ∷ []))
 elements_tokens (p_group_end g ms) = refl
 elements_tokens (p_chord_end g ms b) = refl
 
-turned : (l : PLine) (more : Items) → rest_tokens (onto_reversed (elements_wire l) more) ≡ tail_tokens l ++ (reversed_tokens (tasks_of_line l) ++ rest_tokens more)
+turned : (l : PLine) (more : Items)
+    → rest_tokens (onto_reversed (elements_wire l) more) ≡ tail_tokens l ++ (reversed_tokens (tasks_of_line l) ++ rest_tokens more)
 turned p_stop more = refl
 turned (p_step t l) more =
     turned l (item (task_wire None t) more)
@@ -32,7 +34,8 @@ turned (p_step t l) more =
 turned (p_group_end g ms) more = refl
 turned (p_chord_end g ms b) more = refl
 
-pub turned_tokens : (l : PLine) → rest_tokens (onto_reversed (elements_wire l) no_items) ≡ tail_tokens l ++ (reversed_tokens (tasks_of_line l) ++ end_array ∷ [])
+pub turned_tokens : (l : PLine)
+    → rest_tokens (onto_reversed (elements_wire l) no_items) ≡ tail_tokens l ++ (reversed_tokens (tasks_of_line l) ++ end_array ∷ [])
 turned_tokens l = turned l no_items
 
 -- ---- views
@@ -45,10 +48,12 @@ no_tasks_by : (t : FrozenEnd) (o : Option FrozenLine) → (out-FrozenEnd t).body
 no_tasks_by t None e = ap tasks_of_line (end_none t e)
 no_tasks_by t (Some b) e = ap tasks_of_line (end_some t b e)
 
-tasks_by : (l : FrozenLine) (o : Option (Box FrozenEnd Global)) → (out-FrozenLine l).tail ≡ o → tasks_of_line (p_line_view l) ≡ map p_task_view (out-FrozenLine l).tasks
+tasks_by : (l : FrozenLine) (o : Option (Box FrozenEnd Global)) → (out-FrozenLine l).tail ≡ o
+    → tasks_of_line (p_line_view l) ≡ map p_task_view (out-FrozenLine l).tasks
 tasks_by l None e = ap tasks_of_line (line_none l e) ∙ in_steps (map p_task_view (out-FrozenLine l).tasks) p_stop refl
 tasks_by l (Some b) e =
-    ap tasks_of_line (line_some l b e) ∙ in_steps (map p_task_view (out-FrozenLine l).tasks) (p_end_view b.value) (no_tasks_by b.value (out-FrozenEnd b.value).body refl)
+    ap tasks_of_line (line_some l b e)
+    ∙ in_steps (map p_task_view (out-FrozenLine l).tasks) (p_end_view b.value) (no_tasks_by b.value (out-FrozenEnd b.value).body refl)
 
 pub tasks_seen : (l : FrozenLine) → tasks_of_line (p_line_view l) ≡ map p_task_view (out-FrozenLine l).tasks
 tasks_seen l = tasks_by l (out-FrozenLine l).tail refl
@@ -64,8 +69,10 @@ tail_by t (Some b) e = ap tail_tokens (end_some t b e) ∙ ap (λ x. data_tokens
 pub no_tail : (l : FrozenLine) → (out-FrozenLine l).tail ≡ None → tail_tokens (p_line_view l) ≡ []
 no_tail l e = ap tail_tokens (line_none l e) ∙ tail_steps (map p_task_view (out-FrozenLine l).tasks) p_stop
 
-pub a_tail : (l : FrozenLine) (b : Box FrozenEnd Global) → (out-FrozenLine l).tail ≡ Some b → tail_tokens (p_line_view l) ≡ data_tokens (line_wire None (p_end_view b.value))
-a_tail l b e = ap tail_tokens (line_some l b e) ∙ tail_steps (map p_task_view (out-FrozenLine l).tasks) (p_end_view b.value) ∙ tail_by b.value (out-FrozenEnd b.value).body refl
+pub a_tail : (l : FrozenLine) (b : Box FrozenEnd Global) → (out-FrozenLine l).tail ≡ Some b
+    → tail_tokens (p_line_view l) ≡ data_tokens (line_wire None (p_end_view b.value))
+a_tail l b e = ap tail_tokens (line_some l b e) ∙ tail_steps (map p_task_view (out-FrozenLine l).tasks) (p_end_view b.value)
+    ∙ tail_by b.value (out-FrozenEnd b.value).body refl
 
 pub elements_written : (l : FrozenLine) (ts : List FrozenTask) → ts ≡ (out-FrozenLine l).tasks
     → (each_tokens (map p_task_view ts) ++ tail_tokens (p_line_view l)) ++ end_array ∷ [] ≡ rest_tokens (elements_wire (p_line_view l))
@@ -75,7 +82,8 @@ elements_written l ts same =
     ∙ sym (elements_tokens (p_line_view l))
 
 pub turned_written : (l : FrozenLine) (ts : List FrozenTask) → ts ≡ (out-FrozenLine l).tasks
-    → (tail_tokens (p_line_view l) ++ reversed_tokens (map p_task_view ts)) ++ end_array ∷ [] ≡ rest_tokens (onto_reversed (elements_wire (p_line_view l)) no_items)
+    → (tail_tokens (p_line_view l) ++ reversed_tokens (map p_task_view ts)) ++ end_array ∷ []
+    ≡ rest_tokens (onto_reversed (elements_wire (p_line_view l)) no_items)
 turned_written l ts same =
     append_assoc (tail_tokens (p_line_view l)) (reversed_tokens (map p_task_view ts)) (end_array ∷ [])
     ∙ ap (λ xs. tail_tokens (p_line_view l) ++ (reversed_tokens xs ++ end_array ∷ [])) (ap (map p_task_view) same ∙ sym (tasks_seen l))
@@ -92,20 +100,24 @@ step_chain size t (p_chord_end g ms b) h = refl
 abbrev line : List FrozenTask → PLine → PLine
 line ts e = p_steps (map p_task_view ts) e
 
-longer_end : (size : Option ℕ) (ts : List FrozenTask) (t : FrozenEnd) → (length ts == 0) ≡ false → line_wire size (line ts (p_end_view t)) ≡ chain_wire size (elements_wire (line ts (p_end_view t)))
+longer_end : (size : Option ℕ) (ts : List FrozenTask) (t : FrozenEnd) → (length ts == 0) ≡ false
+    → line_wire size (line ts (p_end_view t)) ≡ chain_wire size (elements_wire (line ts (p_end_view t)))
 longer_end size [] t h = absurd cc
 longer_end size (u ∷ us) t h = step_chain size (p_task_view u) (line us (p_end_view t)) (never_stops (map p_task_view us) (p_end_view t) (end_stands t))
 
-only_end : (size : Option ℕ) (ts : List FrozenTask) (t : FrozenEnd) → (length ts == 0) ≡ true → line_wire size (line ts (p_end_view t)) ≡ line_wire size (p_end_view t)
+only_end : (size : Option ℕ) (ts : List FrozenTask) (t : FrozenEnd) → (length ts == 0) ≡ true
+    → line_wire size (line ts (p_end_view t)) ≡ line_wire size (p_end_view t)
 only_end size [] t h = refl
 only_end size (u ∷ us) t h = absurd (grind (arith, nat_tests))
 
-longer_tasks : (size : Option ℕ) (ts : List FrozenTask) → (length ts ≡ 1 → ⊥) → line_wire size (line ts p_stop) ≡ chain_wire size (elements_wire (line ts p_stop))
+longer_tasks : (size : Option ℕ) (ts : List FrozenTask) → (length ts ≡ 1 → ⊥)
+    → line_wire size (line ts p_stop) ≡ chain_wire size (elements_wire (line ts p_stop))
 longer_tasks size [] h = refl
 longer_tasks size (t ∷ []) h = absurd (h refl)
 longer_tasks size (t ∷ u ∷ us) h = refl
 
-only_task : (size : Option ℕ) (ts : List FrozenTask) (t : FrozenTask) → length ts ≡ 1 → t ≡ get_or ts 0 t → line_wire size (line ts p_stop) ≡ task_wire size (p_task_view t)
+only_task : (size : Option ℕ) (ts : List FrozenTask) (t : FrozenTask) → length ts ≡ 1 → t ≡ get_or ts 0 t
+    → line_wire size (line ts p_stop) ≡ task_wire size (p_task_view t)
 only_task size [] t h at = absurd cc
 only_task size (u ∷ []) t h at = ap (λ x. task_wire size (p_task_view x)) (sym at)
 only_task size (u ∷ v ∷ vs) t h at = absurd (omega (arith, h))
@@ -117,14 +129,17 @@ module _ (size : Option ℕ) (l : FrozenLine) (ts : List FrozenTask) (same : ts 
   seen_none : (out-FrozenLine l).tail ≡ None → p_line_view l ≡ line ts p_stop
   seen_none e = line_none l e ∙ ap (λ xs. line xs p_stop) (sym same)
 
-  pub is_end : (b : Box FrozenEnd Global) (t : FrozenEnd) → (out-FrozenLine l).tail ≡ Some b → t ≡ b.value → (length ts == 0) ≡ true → line_wire size (p_end_view t) ≡ line_wire size (p_line_view l)
+  pub is_end : (b : Box FrozenEnd Global) (t : FrozenEnd) → (out-FrozenLine l).tail ≡ Some b → t ≡ b.value → (length ts == 0) ≡ true
+      → line_wire size (p_end_view t) ≡ line_wire size (p_line_view l)
   is_end b t e there h = ap (λ x. line_wire size (p_end_view x)) there ∙ sym (ap (line_wire size) (seen_some b e) ∙ only_end size ts b.value h)
 
-  pub is_chain_to_end : (b : Box FrozenEnd Global) → (out-FrozenLine l).tail ≡ Some b → (length ts == 0) ≡ false → chain_wire size (elements_wire (p_line_view l)) ≡ line_wire size (p_line_view l)
+  pub is_chain_to_end : (b : Box FrozenEnd Global) → (out-FrozenLine l).tail ≡ Some b → (length ts == 0) ≡ false
+      → chain_wire size (elements_wire (p_line_view l)) ≡ line_wire size (p_line_view l)
   is_chain_to_end b e h =
       ap (λ x. chain_wire size (elements_wire x)) (seen_some b e) ∙ sym (ap (line_wire size) (seen_some b e) ∙ longer_end size ts b.value h)
 
-  pub is_task : (t : FrozenTask) → (out-FrozenLine l).tail ≡ None → length ts ≡ 1 → t ≡ get_or ts 0 t → task_wire size (p_task_view t) ≡ line_wire size (p_line_view l)
+  pub is_task : (t : FrozenTask) → (out-FrozenLine l).tail ≡ None → length ts ≡ 1 → t ≡ get_or ts 0 t
+      → task_wire size (p_task_view t) ≡ line_wire size (p_line_view l)
   is_task t e h at = sym (ap (line_wire size) (seen_none e) ∙ only_task size ts t h at)
 
   pub is_chain : (out-FrozenLine l).tail ≡ None → (length ts ≡ 1 → ⊥) → chain_wire size (elements_wire (p_line_view l)) ≡ line_wire size (p_line_view l)

@@ -40,7 +40,8 @@ pub task_read : (t : Data → Result PTask SigFault) (f : Data → Result PLine 
     → place_with f (option (codes "group_id") d) (option (codes "chord") d) ≡ Ok (place_seen p)
     → text_of (field (codes "task") d) ≡ n
     → is_true (field (codes "immutable") d) ≡ i
-    → task_with t f d ≡ Ok (p_task_view (roll-FrozenTask (record { no = k; name = n; args = a; kwargs = w; immutable = i; links = ls; errbacks = es; place = p })))
+    → task_with t f d ≡ Ok (p_task_view
+    (roll-FrozenTask (record { no = k; name = n; args = a; kwargs = w; immutable = i; links = ls; errbacks = es; place = p })))
 task_read t f d k n a w i ls es p hk ha hw hl he hp hn hi = rw (hk, ha, hw, hl, he, hp, hn, hi) (ap Ok (sym (task_made k n a w i ls es p)))
 
 -- ---- groups and chords
@@ -65,7 +66,8 @@ steps_pushed (x ∷ ts) t = ap (p_step x) (steps_pushed ts t)
 pub pushed_line : (ts new : List FrozenTask) (t : FrozenTask) → new ≡ ts ++ t ∷ []
     → p_line_view (roll-FrozenLine (record { tasks = new; tail = None })) ≡ p_steps (map p_task_view ts) (p_step (p_task_view t) p_stop)
 pushed_line ts new t is =
-    made_line new ∙ ap (λ x. p_steps (map p_task_view x) p_stop) is ∙ ap (λ x. p_steps x p_stop) (map_push p_task_view ts t) ∙ steps_pushed (map p_task_view ts) (p_task_view t)
+    made_line new ∙ ap (λ x. p_steps (map p_task_view x) p_stop) is ∙ ap (λ x. p_steps x p_stop) (map_push p_task_view ts t)
+    ∙ steps_pushed (map p_task_view ts) (p_task_view t)
 
 -- all but the last, and the last
 alone : (r : Result PLine SigFault) → r ≡ (r >>= λ l. Ok l)
@@ -73,12 +75,14 @@ alone (Ok l) = refl
 alone (Err f) = refl
 
 module _ (s : Data → Result PTask SigFault) (e : Data → Result PLine SigFault) where
-  one_more : (x : Data) (ds : List Data) (d : Data) → elements_with s e (x ∷ ds ++ d ∷ []) ≡ (s x >>= λ t. elements_with s e (ds ++ d ∷ []) >>= λ l. Ok (p_step t l))
+  one_more : (x : Data) (ds : List Data) (d : Data)
+      → elements_with s e (x ∷ ds ++ d ∷ []) ≡ (s x >>= λ t. elements_with s e (ds ++ d ∷ []) >>= λ l. Ok (p_step t l))
   one_more x [] d = refl
   one_more x (y ∷ ds) d = refl
 
   regroup : (r : Result PTask SigFault) (ts : Result (List PTask) SigFault) (l : Result PLine SigFault)
-      → (r >>= λ t. (ts >>= λ ts. l >>= λ l. Ok (p_steps ts l)) >>= λ l. Ok (p_step t l)) ≡ ((r >>= λ t. ts >>= λ ts. Ok (t ∷ ts)) >>= λ ts. l >>= λ l. Ok (p_steps ts l))
+      → (r >>= λ t. (ts >>= λ ts. l >>= λ l. Ok (p_steps ts l)) >>= λ l. Ok (p_step t l))
+      ≡ ((r >>= λ t. ts >>= λ ts. Ok (t ∷ ts)) >>= λ ts. l >>= λ l. Ok (p_steps ts l))
   regroup (Ok t) (Ok ts) (Ok l) = refl
   regroup (Ok t) (Ok ts) (Err f) = refl
   regroup (Ok t) (Err f) l = refl
@@ -93,7 +97,8 @@ pub no_line : (ds : List Data) (s : Data → Result PTask SigFault) (e : Data �
 no_line ds s e ts hd ht = rw hd (ap Ok (sym (made_line ts ∙ ap (λ x. p_steps (map p_task_view x) p_stop) ht)))
 
 -- a list of JSON values, its last apart
-pub last_item : (xs : List Datum) (x : Datum) → 1 ≤ length xs → x ≡ get_or xs (length xs - 1) x → map view xs ≡ map view (take (length xs - 1) xs) ++ view x ∷ []
+pub last_item : (xs : List Datum) (x : Datum) → 1 ≤ length xs → x ≡ get_or xs (length xs - 1) x
+    → map view xs ≡ map view (take (length xs - 1) xs) ++ view x ∷ []
 last_item xs x some is =
     let n : ℕ = length xs - 1 in
     let up : length xs ≡ n + 1 = omega (arith, some) in
@@ -112,7 +117,8 @@ map_reverse (t ∷ ts) =
     ∙ sym (reverse-append (p_task_view t ∷ []) (map p_task_view ts))
 
 -- the line whose last element is given first
-pub reversed_read : (s : Data → Result PTask SigFault) (e : Data → Result PLine SigFault) (d : Data) (ds : List Data) (x : Element) (ts new : List FrozenTask) (l : FrozenLine)
+pub reversed_read : (s : Data → Result PTask SigFault) (e : Data → Result PLine SigFault) (d : Data) (ds : List Data) (x : Element) (ts new : List FrozenTask)
+    (l : FrozenLine)
     → e d ≡ Ok (element_view x) → each s ds ≡ Ok (map p_task_view ts) → new ≡ reverse ts
     → p_line_view l ≡ p_steps (map p_task_view new) (element_view x) → reversed_with s e d ds ≡ Ok (p_line_view l)
 reversed_read s e d ds x ts new l hd hs turned made =

@@ -74,7 +74,8 @@ twice_reversed xs = reverse-reverse xs
 items_reversed : (ds more : Items) → items (onto_reversed ds more) ≡ reverse (items ds) ++ items more
 items_reversed no_items more = refl
 items_reversed (item d ds) more =
-    items_reversed ds (item d more) ∙ sym (append_assoc (reverse (items ds)) (d ∷ []) (items more)) ∙ ap (λ xs. xs ++ items more) (sym (last_first d (items ds)))
+    items_reversed ds (item d more) ∙ sym (append_assoc (reverse (items ds)) (d ∷ []) (items more))
+    ∙ ap (λ xs. xs ++ items more) (sym (last_first d (items ds)))
 
 -- a line by its last element and those before
 record Split (n : ℕ) (l : PLine) : Type 0 where
@@ -84,7 +85,8 @@ record Split (n : ℕ) (l : PLine) : Type 0 where
   steps : Steps n (front l)
   whole : p_steps (front l) (final l) ≡ l
 
-longer : (n : ℕ) (t : PTask) (l : PLine) (r : PLine) → r ≡ p_step t l → front r ≡ t ∷ front l → final r ≡ final l → elements_wire r ≡ item (task_wire None t) (elements_wire l)
+longer : (n : ℕ) (t : PTask) (l : PLine) (r : PLine) → r ≡ p_step t l → front r ≡ t ∷ front l → final r ≡ final l
+    → elements_wire r ≡ item (task_wire None t) (elements_wire l)
     → step_reading n (task_wire None t) ≡ Ok t → Split n l → Split n r
 longer n t l r is first then wire read s =
     record {
@@ -104,14 +106,23 @@ split n c last (p_step t (p_step u l)) ok low =
     longer n t (p_step u l) (p_step t (p_step u l)) refl refl refl refl (step_back n t p.0 (omega arith)) (split n c last (p_step u l) p.1 (omega arith))
 split n c last (p_step t (p_group_end g ms)) ok low =
     let p = both (task_ok false t) (line_ok last (p_group_end g ms)) ok in
-    longer n t (p_group_end g ms) (p_step t (p_group_end g ms)) refl refl refl refl (step_back n t p.0 (omega arith)) (split n c last (p_group_end g ms) p.1 (omega arith))
+    longer n t (p_group_end g ms) (p_step t (p_group_end g ms)) refl refl refl refl (step_back n t p.0 (omega arith))
+    (split n c last (p_group_end g ms) p.1 (omega arith))
 split n c last (p_step t (p_chord_end g ms b)) ok low =
     let p = both (task_ok false t) (line_ok last (p_chord_end g ms b)) ok in
-    longer n t (p_chord_end g ms b) (p_step t (p_chord_end g ms b)) refl refl refl refl (step_back n t p.0 (omega arith)) (split n c last (p_chord_end g ms b) p.1 (omega arith))
+    longer n t (p_chord_end g ms b) (p_step t (p_chord_end g ms b)) refl refl refl refl (step_back n t p.0 (omega arith))
+    (split n c last (p_chord_end g ms b) p.1 (omega arith))
 split n c last (p_group_end g ms) ok low =
     record { d = group_wire None g (members_wire ms); wires = refl; last = elements_back n c last (p_group_end g ms) ok low; steps = tt; whole = refl }
 split n c last (p_chord_end g ms b) ok low =
-    record { d = chord_wire None g (members_wire ms) (line_wire None b); wires = refl; last = elements_back n c last (p_chord_end g ms b) ok low; steps = tt; whole = refl }
+    record {
+      d = chord_wire None g (members_wire ms) (line_wire None b);
+      wires = refl;
+      last = elements_back n c last
+          (p_chord_end g ms b) ok low;
+      steps = tt;
+      whole = refl;
+    }
 
 listed_of : (ds : Items) → listed (list_or_null ds) ≡ items ds
 listed_of no_items = refl
@@ -121,7 +132,8 @@ listed_of (item d ds) = refl
 chain_read : (l : PLine) → Split levels l → chain_reading (listed (list_or_null (onto_reversed (elements_wire l) no_items))) ≡ Ok l
 chain_read l s =
     let backwards : items (onto_reversed (elements_wire l) no_items) ≡ s.d ∷ map (task_wire None) (reverse (front l)) =
-    items_reversed (elements_wire l) no_items ∙ ap (λ ds. reverse ds ++ []) s.wires ∙ ap (λ ds. ds ++ []) (reverse-append (map (task_wire None) (front l)) (s.d ∷ []))
+    items_reversed (elements_wire l) no_items ∙ ap (λ ds. reverse ds ++ []) s.wires
+    ∙ ap (λ ds. ds ++ []) (reverse-append (map (task_wire None) (front l)) (s.d ∷ []))
     ∙ append-nil (s.d ∷ reverse (map (task_wire None) (front l))) ∙ ap (λ ds. s.d ∷ ds) (map_reversed (task_wire None) (front l)) in
     ap chain_reading (listed_of (onto_reversed (elements_wire l) no_items) ∙ backwards)
     ∙ rw (s.last, steps_read levels (reverse (front l)) (steps_reversed levels (front l) s.steps), twice_reversed (front l), s.whole) refl
@@ -156,24 +168,28 @@ embed_back parent k call links errbacks place rest w =
       rest_back rest w.following,
     ) refl
 
-given_back : (call : Call) → CallFits call → given_reading (array (args_wire call.args)) (object (kwargs_wire call.kwargs)) ≡ Ok (record { args = call.args; kwargs = call.kwargs })
+given_back : (call : Call) → CallFits call → given_reading (array (args_wire call.args)) (object (kwargs_wire call.kwargs))
+    ≡ Ok (record { args = call.args; kwargs = call.kwargs })
 given_back call fits = rw (args_back call.args fits.args, kwargs_back call.kwargs fits.kwargs) refl
 
 ids_back : (parent : Option ℕ) (k : ℕ) (call : Call) (links errbacks : PTasks) (place : PPlace) (rest : PLine) → Whole parent k call links errbacks place rest
-    → id_reading (properties_wire (as_content parent k call links errbacks place rest)) (headers_wire (as_content parent k call links errbacks place rest)) ≡ Some k
+    → id_reading (properties_wire (as_content parent k call links errbacks place rest)) (headers_wire (as_content parent k call links errbacks place rest))
+    ≡ Some k
 ids_back parent k call links errbacks place rest w = rw (task_id_back k w.here, w.named, same_number k) refl
 
 parent_back : (parent : Option ℕ) → parent_ok parent ≡ true → task_of (parent_id parent) ≡ parent
 parent_back None h = refl
 parent_back (Some k) h = task_id_back k h
 
-content_back : (parent : Option ℕ) (k : ℕ) (call : Call) (links errbacks : PTasks) (place : PPlace) (rest : PLine) → Whole parent k call links errbacks place rest
+content_back : (parent : Option ℕ) (k : ℕ) (call : Call) (links errbacks : PTasks) (place : PPlace) (rest : PLine)
+    → Whole parent k call links errbacks place rest
     → content_of (headers_wire (as_content parent k call links errbacks place rest)) k (record { args = call.args; kwargs = call.kwargs })
     (record { links = listed_tasks links; errbacks = listed_tasks errbacks; place = place; rest = rest })
     ≡ as_content parent k call links errbacks place rest
 content_back parent k call links errbacks place rest w =
     rw (parent_back parent w.known, tasks_listed links, tasks_listed errbacks)
-    (ap (λ b. as_content parent k (record { name = call.name; args = call.args; kwargs = call.kwargs; immutable = b }) links errbacks place rest) (sym w.mutable))
+    (ap (λ b. as_content parent k (record { name = call.name; args = call.args; kwargs = call.kwargs; immutable = b }) links errbacks place rest)
+    (sym w.mutable))
 
 kept : (b : Bool) (c : Content) → b ≡ true → must b BadEmbed (Ok c) ≡ Ok c
 kept true c h = refl
@@ -191,7 +207,8 @@ message_of parent k call links errbacks place rest h =
       ids_back parent k call links errbacks place rest w,
       given_back call w.called,
       embed_back parent k call links errbacks place rest w,
-    ) (ap if_fits (content_back parent k call links errbacks place rest w) ∙ kept (fits (as_content parent k call links errbacks place rest)) (as_content parent k call links errbacks place rest) h)
+    ) (ap if_fits (content_back parent k call links errbacks place rest w)
+    ∙ kept (fits (as_content parent k call links errbacks place rest)) (as_content parent k call links errbacks place rest) h)
 
 message_at : (parent : Option ℕ) (own : PTask) (rest : PLine) → fits (record { parent = parent; own = own; rest = rest }) ≡ true
     → message_reading (properties_wire (record { parent = parent; own = own; rest = rest })) (headers_wire (record { parent = parent; own = own; rest = rest }))

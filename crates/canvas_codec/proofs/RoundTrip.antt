@@ -63,7 +63,8 @@ group_id_back g h = let p = numbered g h in identifiers.group_back g p.0 p.1
 -- ---- the options of a task
 
 -- a look-up passes a member of another name
-null_passed : (k j : List ℕ) (d : Data) (more : Members) → slice_cmp nat_cmp k j ≡ Greater → field k (object (member_unless_null j d more)) ≡ field k (object more)
+null_passed : (k j : List ℕ) (d : Data) (more : Members) → slice_cmp nat_cmp k j ≡ Greater
+    → field k (object (member_unless_null j d more)) ≡ field k (object more)
 null_passed k j null more h = refl
 null_passed k j (boolean b) more h = rw h refl
 null_passed k j (number n) more h = rw h refl
@@ -71,7 +72,8 @@ null_passed k j (string s) more h = rw h refl
 null_passed k j (array ds) more h = rw h refl
 null_passed k j (object ms) more h = rw h refl
 
-list_passed : (k j : List ℕ) (ds : Items) (more : Members) → slice_cmp nat_cmp k j ≡ Greater → field k (object (member_unless_empty j ds more)) ≡ field k (object more)
+list_passed : (k j : List ℕ) (ds : Items) (more : Members) → slice_cmp nat_cmp k j ≡ Greater
+    → field k (object (member_unless_empty j ds more)) ≡ field k (object more)
 list_passed k j no_items more h = refl
 list_passed k j (item d ds) more h = rw h refl
 
@@ -84,7 +86,8 @@ null_before k j (string s) more h = rw h refl
 null_before k j (array ds) more h = rw h refl
 null_before k j (object ms) more h = rw h refl
 
-list_before : (k j : List ℕ) (ds : Items) (more : Members) → slice_cmp nat_cmp k j ≡ Less → field k (object (member_unless_empty j ds more)) ≡ field k (object more)
+list_before : (k j : List ℕ) (ds : Items) (more : Members) → slice_cmp nat_cmp k j ≡ Less
+    → field k (object (member_unless_empty j ds more)) ≡ field k (object more)
 list_before k j no_items more h = refl
 list_before k j (item d ds) more h = rw h refl
 
@@ -212,7 +215,8 @@ found None call k l e g c =
 found (Some n) call k l e g c =
     record { id = id_found k l e g c; group = group_found k l e g c; body = chord_found k l e g c; links = link_found k l e g c; errbacks = errbacks_found k l e g c }
 
-read_with : (size : Option ℕ) (call : Call) (k : ℕ) (links errbacks : PTasks) (place : PPlace) (t : Data → Result PTask SigFault) (f : Data → Result PLine SigFault)
+read_with : (size : Option ℕ) (call : Call) (k : ℕ) (links errbacks : PTasks) (place : PPlace) (t : Data → Result PTask SigFault) (f : Data
+    → Result PLine SigFault)
     → is_task_number k ≡ true → CallFits call
     → each t (items (tasks_wire links)) ≡ Ok (listed_tasks links) → each t (items (tasks_wire errbacks)) ≡ Ok (listed_tasks errbacks)
     → place_with f (place_id place) (carried_wire place) ≡ Ok place
@@ -236,7 +240,8 @@ read_with size call k links errbacks place t f here fits ls es at =
       tasks_listed errbacks,
     ) refl
 
-task_read : (linked : Bool) (size : Option ℕ) (call : Call) (k : ℕ) (links errbacks : PTasks) (place : PPlace) (t : Data → Result PTask SigFault) (f : Data → Result PLine SigFault)
+task_read : (linked : Bool) (size : Option ℕ) (call : Call) (k : ℕ) (links errbacks : PTasks) (place : PPlace) (t : Data → Result PTask SigFault) (f : Data
+    → Result PLine SigFault)
     → is_task_number k ≡ true → CallFits call
     → each t (items (tasks_wire links)) ≡ Ok (listed_tasks links) → each t (items (tasks_wire errbacks)) ≡ Ok (listed_tasks errbacks)
     → place_with f (place_id place) (carried_wire place) ≡ Ok place
@@ -272,7 +277,8 @@ size_found n (p_step t (p_chord_end g ms b)) = refl
 size_found n (p_group_end g ms) = refl
 size_found n (p_chord_end g ms b) = refl
 
-pub group_place : (f : Data → Result PLine SigFault) (g : ℕ) → is_task_number g ≡ true → place_with f (place_id (p_group g)) (carried_wire (p_group g)) ≡ Ok (p_group g)
+pub group_place : (f : Data → Result PLine SigFault) (g : ℕ) → is_task_number g ≡ true
+    → place_with f (place_id (p_group g)) (carried_wire (p_group g)) ≡ Ok (p_group g)
 group_place f g here = rw (group_id_back g here) refl
 
 pub chord_place : (f : Data → Result PLine SigFault) (g n : ℕ) (body : PLine) → is_task_number g ≡ true → size_ok n ≡ true
@@ -302,7 +308,8 @@ alone size (p_task k call links errbacks place) n read =
     rw (kind_found size call (task_options k (tasks_wire links) (tasks_wire errbacks) (place_id place) (carried_wire place)), read) refl
 
 last_group : (size : Option ℕ) (g : ℕ) (ms : PLines) (n : ℕ) → is_task_number g ≡ true → each (line_reading n) (items (members_wire ms)) ≡ Ok (listed_lines ms)
-    → last_as (link_reading n) (line_reading n) (primitive_of (subtype (group_wire size g (members_wire ms)))) (group_wire size g (members_wire ms)) ≡ Ok (p_group_end g ms)
+    → last_as (link_reading n) (line_reading n) (primitive_of (subtype (group_wire size g (members_wire ms)))) (group_wire size g (members_wire ms))
+    ≡ Ok (p_group_end g ms)
 last_group None g ms n here read = rw (group_id_back g here, read, lines_listed ms) refl
 last_group (Some s) g ms n here read = rw (group_id_back g here, read, lines_listed ms) refl
 
@@ -311,14 +318,17 @@ alone_group : (size : Option ℕ) (g : ℕ) (ms : PLines) (n : ℕ) → is_task_
 alone_group None g ms n here read = rw (group_id_back g here, read, lines_listed ms) refl
 alone_group (Some s) g ms n here read = rw (group_id_back g here, read, lines_listed ms) refl
 
-last_chord : (size : Option ℕ) (g : ℕ) (ms : PLines) (b : PLine) (n : ℕ) → is_task_number g ≡ true → each (line_reading n) (items (members_wire ms)) ≡ Ok (listed_lines ms)
+last_chord : (size : Option ℕ) (g : ℕ) (ms : PLines) (b : PLine) (n : ℕ) → is_task_number g ≡ true
+    → each (line_reading n) (items (members_wire ms)) ≡ Ok (listed_lines ms)
     → line_reading n (line_wire None b) ≡ Ok b
-    → last_as (link_reading n) (line_reading n) (primitive_of (subtype (chord_wire size g (members_wire ms) (line_wire None b)))) (chord_wire size g (members_wire ms) (line_wire None b))
+    → last_as (link_reading n) (line_reading n) (primitive_of (subtype (chord_wire size g (members_wire ms) (line_wire None b))))
+    (chord_wire size g (members_wire ms) (line_wire None b))
     ≡ Ok (p_chord_end g ms b)
 last_chord None g ms b n here read body = rw (line_is_some None b, group_id_back g here, read, body, lines_listed ms) refl
 last_chord (Some s) g ms b n here read body = rw (line_is_some None b, group_id_back g here, read, body, lines_listed ms) refl
 
-alone_chord : (size : Option ℕ) (g : ℕ) (ms : PLines) (b : PLine) (n : ℕ) → is_task_number g ≡ true → each (line_reading n) (items (members_wire ms)) ≡ Ok (listed_lines ms)
+alone_chord : (size : Option ℕ) (g : ℕ) (ms : PLines) (b : PLine) (n : ℕ) → is_task_number g ≡ true
+    → each (line_reading n) (items (members_wire ms)) ≡ Ok (listed_lines ms)
     → line_reading n (line_wire None b) ≡ Ok b
     → line_reading (suc n) (chord_wire size g (members_wire ms) (line_wire None b)) ≡ Ok (p_chord_end g ms b)
 alone_chord None g ms b n here read body = rw (line_is_some None b, group_id_back g here, read, body, lines_listed ms) refl
@@ -397,19 +407,22 @@ mutual
   line_back (suc (suc n)) c last size (p_step t (p_step u l)) ok low =
       let p = both (task_ok false t) (line_ok last (p_step u l)) ok in
       chain_read size (elements_wire (p_step u l)) (task_wire None t) (suc n) (p_step t (p_step u l))
-      (first_then n t (task_wire None u) (items (elements_wire l)) (p_step u l) (task_back n 0 false false None t p.0 (omega arith)) (elements_back (suc n) c last (p_step u l) p.1 (omega arith)))
+      (first_then n t (task_wire None u) (items (elements_wire l)) (p_step u l) (task_back n 0 false false None t p.0 (omega arith))
+      (elements_back (suc n) c last (p_step u l) p.1 (omega arith)))
   line_back zero c last size (p_step t (p_group_end g ms)) ok low = absurd (omega arith)
   line_back (suc zero) c last size (p_step (p_task k call links errbacks place) (p_group_end g ms)) ok low = absurd (omega arith)
   line_back (suc (suc n)) c last size (p_step t (p_group_end g ms)) ok low =
       let p = both (task_ok false t) (line_ok last (p_group_end g ms)) ok in
       chain_read size (elements_wire (p_group_end g ms)) (task_wire None t) (suc n) (p_step t (p_group_end g ms))
-      (first_then n t (group_wire None g (members_wire ms)) [] (p_group_end g ms) (task_back n 0 false false None t p.0 (omega arith)) (elements_back (suc n) c last (p_group_end g ms) p.1 (omega arith)))
+      (first_then n t (group_wire None g (members_wire ms)) [] (p_group_end g ms) (task_back n 0 false false None t p.0 (omega arith))
+      (elements_back (suc n) c last (p_group_end g ms) p.1 (omega arith)))
   line_back zero c last size (p_step t (p_chord_end g ms b)) ok low = absurd (omega arith)
   line_back (suc zero) c last size (p_step (p_task k call links errbacks place) (p_chord_end g ms b)) ok low = absurd (omega arith)
   line_back (suc (suc n)) c last size (p_step t (p_chord_end g ms b)) ok low =
       let p = both (task_ok false t) (line_ok last (p_chord_end g ms b)) ok in
       chain_read size (elements_wire (p_chord_end g ms b)) (task_wire None t) (suc n) (p_step t (p_chord_end g ms b))
-      (first_then n t (chord_wire None g (members_wire ms) (line_wire None b)) [] (p_chord_end g ms b) (task_back n 0 false false None t p.0 (omega arith)) (elements_back (suc n) c last (p_chord_end g ms b) p.1 (omega arith)))
+      (first_then n t (chord_wire None g (members_wire ms) (line_wire None b)) [] (p_chord_end g ms b) (task_back n 0 false false None t p.0 (omega arith))
+      (elements_back (suc n) c last (p_chord_end g ms b) p.1 (omega arith)))
   line_back zero c last size (p_group_end g ms) ok low = absurd (omega arith)
   line_back (suc n) c last size (p_group_end g ms) ok low =
       let p = both (is_task_number g) (members_ok ms) ok in
@@ -427,15 +440,18 @@ mutual
   elements_back zero c last (p_step (p_task k call links errbacks place) (p_step u l)) ok low = absurd (omega arith)
   elements_back (suc n) c last (p_step t (p_step u l)) ok low =
       let p = both (task_ok false t) (line_ok last (p_step u l)) ok in
-      first_then n t (task_wire None u) (items (elements_wire l)) (p_step u l) (task_back n 0 false false None t p.0 (omega arith)) (elements_back (suc n) c last (p_step u l) p.1 (omega arith))
+      first_then n t (task_wire None u) (items (elements_wire l)) (p_step u l) (task_back n 0 false false None t p.0 (omega arith))
+      (elements_back (suc n) c last (p_step u l) p.1 (omega arith))
   elements_back zero c last (p_step (p_task k call links errbacks place) (p_group_end g ms)) ok low = absurd (omega arith)
   elements_back (suc n) c last (p_step t (p_group_end g ms)) ok low =
       let p = both (task_ok false t) (line_ok last (p_group_end g ms)) ok in
-      first_then n t (group_wire None g (members_wire ms)) [] (p_group_end g ms) (task_back n 0 false false None t p.0 (omega arith)) (elements_back (suc n) c last (p_group_end g ms) p.1 (omega arith))
+      first_then n t (group_wire None g (members_wire ms)) [] (p_group_end g ms) (task_back n 0 false false None t p.0 (omega arith))
+      (elements_back (suc n) c last (p_group_end g ms) p.1 (omega arith))
   elements_back zero c last (p_step (p_task k call links errbacks place) (p_chord_end g ms b)) ok low = absurd (omega arith)
   elements_back (suc n) c last (p_step t (p_chord_end g ms b)) ok low =
       let p = both (task_ok false t) (line_ok last (p_chord_end g ms b)) ok in
-      first_then n t (chord_wire None g (members_wire ms) (line_wire None b)) [] (p_chord_end g ms b) (task_back n 0 false false None t p.0 (omega arith)) (elements_back (suc n) c last (p_chord_end g ms b) p.1 (omega arith))
+      first_then n t (chord_wire None g (members_wire ms) (line_wire None b)) [] (p_chord_end g ms b) (task_back n 0 false false None t p.0 (omega arith))
+      (elements_back (suc n) c last (p_chord_end g ms b) p.1 (omega arith))
   elements_back zero c last (p_group_end g ms) ok low = absurd (omega arith)
   elements_back (suc n) c last (p_group_end g ms) ok low =
       let p = both (is_task_number g) (members_ok ms) ok in
@@ -445,7 +461,8 @@ mutual
       let p = chord_parts last g ms b ok in
       last_chord None g ms b n p.here (members_back n (line_reach c b) ms p.members (omega arith)) (line_back n c last None b p.body (omega arith))
 
-  members_back : (n c : ℕ) (ms : PLines) → members_ok ms ≡ true → members_reach c ms ≤ n → each (line_reading n) (items (members_wire ms)) ≡ Ok (listed_lines ms)
+  members_back : (n c : ℕ) (ms : PLines) → members_ok ms ≡ true → members_reach c ms ≤ n
+      → each (line_reading n) (items (members_wire ms)) ≡ Ok (listed_lines ms)
   members_back n c no_p_lines ok low = refl
   members_back n c (and_p_line m ms) ok low =
       let p = both (line_ok false m && not (in_group (strip m))) (members_ok ms) ok in

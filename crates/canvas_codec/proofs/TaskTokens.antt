@@ -58,22 +58,27 @@ options_are k links errbacks group chord =
 joined : (a s f w o k : List Token) → a ++ (s ++ (f ++ (w ++ (o ++ k)))) ≡ ((a ++ s) ++ (f ++ w)) ++ (o ++ k)
 joined a s f w o k = simp append_assoc
 
-frozen_tokens : (size : Option ℕ) (args : Items) (i : Bool) (kwargs options : Members) (kind : Data) (name : List ℕ) → data_tokens (frozen_wire size args i kwargs options kind name)
+frozen_tokens : (size : Option ℕ) (args : Items) (i : Bool) (kwargs options : Members) (kind : Data) (name : List ℕ)
+    → data_tokens (frozen_wire size args i kwargs options kind name)
     ≡ call_tokens size args i kwargs ++ ((key (codes "options") ∷ begin_object ∷ rest_members options) ++ (kind_tokens kind ++ name_tokens name))
 frozen_tokens None args i kwargs options kind name = joined (front_tokens args) [] (flag_tokens i) (kwargs_tokens kwargs) (key (codes "options") ∷ begin_object ∷ rest_members options) (kind_tokens kind ++ name_tokens name)
 frozen_tokens (Some n) args i kwargs options kind name = joined (front_tokens args) (size_tokens (Some n)) (flag_tokens i) (kwargs_tokens kwargs) (key (codes "options") ∷ begin_object ∷ rest_members options) (kind_tokens kind ++ name_tokens name)
 
 abbrev parts : Option ℕ → Call → PTask → List Token
-parts size call t = call_tokens size (args_wire call.args) call.immutable (kwargs_wire call.kwargs) ++ (options_tokens t ++ (kind_tokens null ++ name_tokens call.name))
+parts size call t = call_tokens size (args_wire call.args) call.immutable (kwargs_wire call.kwargs)
+    ++ (options_tokens t ++ (kind_tokens null ++ name_tokens call.name))
 
-task_parts : (size : Option ℕ) (k : ℕ) (call : Call) (links errbacks : PTasks) (p : PPlace) → data_tokens (task_wire size (p_task k call links errbacks p)) ≡ parts size call (p_task k call links errbacks p)
+task_parts : (size : Option ℕ) (k : ℕ) (call : Call) (links errbacks : PTasks) (p : PPlace)
+    → data_tokens (task_wire size (p_task k call links errbacks p)) ≡ parts size call (p_task k call links errbacks p)
 task_parts size k call links errbacks p =
-    frozen_tokens size (args_wire call.args) call.immutable (kwargs_wire call.kwargs) (task_options k (tasks_wire links) (tasks_wire errbacks) (place_id p) (carried_wire p)) null call.name
+    frozen_tokens size (args_wire call.args) call.immutable (kwargs_wire call.kwargs)
+    (task_options k (tasks_wire links) (tasks_wire errbacks) (place_id p) (carried_wire p)) null call.name
     ∙ ap (λ x. call_tokens size (args_wire call.args) call.immutable (kwargs_wire call.kwargs) ++ ((key (codes "options") ∷ begin_object ∷ x) ++ (kind_tokens null ++ name_tokens call.name)))
     (options_are k (tasks_wire links) (tasks_wire errbacks) (place_id p) (carried_wire p))
 
 pub task_tokens : (size : Option ℕ) (t : FrozenTask) → data_tokens (task_wire size (p_task_view t))
-    ≡ call_tokens size (args_wire (out-FrozenTask t).args) (out-FrozenTask t).immutable (kwargs_wire (out-FrozenTask t).kwargs) ++ (options_tokens (p_task_view t) ++ (kind_tokens null ++ name_tokens (out-FrozenTask t).name))
+    ≡ call_tokens size (args_wire (out-FrozenTask t).args) (out-FrozenTask t).immutable (kwargs_wire (out-FrozenTask t).kwargs)
+    ++ (options_tokens (p_task_view t) ++ (kind_tokens null ++ name_tokens (out-FrozenTask t).name))
 task_tokens size t =
     ap (λ p. data_tokens (task_wire size p)) (task_seen t) ∙ task_parts size _ (called t) _ _ _ ∙ ap (parts size (called t)) (sym (task_seen t))
 
@@ -153,13 +158,19 @@ pub chain_written : (size : Option ℕ) (ds : Items) → (opening_tokens size ++
 chain_written size ds =
     append_assoc (opening_tokens size) (list_tokens (codes "tasks") ds) (closing_tokens (string (codes "chain")) (codes "celery.chain")) ∙ chain_tokens size ds
 
-pub task_written : (size : Option ℕ) (t : FrozenTask) (a : List Arg) (w : List (List ℕ × Arg)) (n : List ℕ) → a ≡ (out-FrozenTask t).args → w ≡ (out-FrozenTask t).kwargs → n ≡ (out-FrozenTask t).name
-    → (call_tokens size (args_wire a) (out-FrozenTask t).immutable (kwargs_wire w) ++ options_tokens (p_task_view t)) ++ (kind_tokens null ++ name_tokens n) ≡ data_tokens (task_wire size (p_task_view t))
+pub task_written : (size : Option ℕ) (t : FrozenTask) (a : List Arg) (w : List (List ℕ × Arg)) (n : List ℕ) → a ≡ (out-FrozenTask t).args
+    → w ≡ (out-FrozenTask t).kwargs → n ≡ (out-FrozenTask t).name
+    → (call_tokens size (args_wire a) (out-FrozenTask t).immutable (kwargs_wire w) ++ options_tokens (p_task_view t)) ++ (kind_tokens null ++ name_tokens n)
+    ≡ data_tokens (task_wire size (p_task_view t))
 task_written size t a w n ha hw hn =
-    append_assoc (call_tokens size (args_wire a) (out-FrozenTask t).immutable (kwargs_wire w)) (options_tokens (p_task_view t)) (kind_tokens null ++ name_tokens n)
-    ∙ ap (λ x. call_tokens size (args_wire x) (out-FrozenTask t).immutable (kwargs_wire w) ++ (options_tokens (p_task_view t) ++ (kind_tokens null ++ name_tokens n))) ha
-    ∙ ap (λ x. call_tokens size (args_wire (out-FrozenTask t).args) (out-FrozenTask t).immutable (kwargs_wire x) ++ (options_tokens (p_task_view t) ++ (kind_tokens null ++ name_tokens n))) hw
-    ∙ ap (λ x. call_tokens size (args_wire (out-FrozenTask t).args) (out-FrozenTask t).immutable (kwargs_wire (out-FrozenTask t).kwargs) ++ (options_tokens (p_task_view t) ++ (kind_tokens null ++ name_tokens x))) hn
+    append_assoc (call_tokens size (args_wire a) (out-FrozenTask t).immutable (kwargs_wire w)) (options_tokens (p_task_view t))
+    (kind_tokens null ++ name_tokens n)
+    ∙ ap (λ x. call_tokens size (args_wire x) (out-FrozenTask t).immutable (kwargs_wire w)
+    ++ (options_tokens (p_task_view t) ++ (kind_tokens null ++ name_tokens n))) ha
+    ∙ ap (λ x. call_tokens size (args_wire (out-FrozenTask t).args) (out-FrozenTask t).immutable (kwargs_wire x)
+    ++ (options_tokens (p_task_view t) ++ (kind_tokens null ++ name_tokens n))) hw
+    ∙ ap (λ x. call_tokens size (args_wire (out-FrozenTask t).args) (out-FrozenTask t).immutable (kwargs_wire (out-FrozenTask t).kwargs)
+    ++ (options_tokens (p_task_view t) ++ (kind_tokens null ++ name_tokens x))) hn
     ∙ sym (task_tokens size t)
 
 pub opened : (s f a b : List Token) → ((s ++ f) ++ a) ++ b ≡ s ++ (f ++ (a ++ b))

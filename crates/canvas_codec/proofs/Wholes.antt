@@ -53,7 +53,8 @@ abbrev pub as_content : Option ℕ → ℕ → Call → PTasks → PTasks → PP
 as_content parent k call links errbacks place rest = record { parent = parent; own = p_task k call links errbacks place; rest = rest }
 
 whole_by : (last : Bool) (parent : Option ℕ) (k : ℕ) (call : Call) (links errbacks : PTasks) (place : PPlace) (rest : PLine)
-    → parent_ok parent ≡ true → call.immutable ≡ false → task_ok last (p_task k call links errbacks place) ≡ true → task_reach 0 (p_task k call links errbacks place) ≤ 32 → RestFits rest
+    → parent_ok parent ≡ true → call.immutable ≡ false → task_ok last (p_task k call links errbacks place) ≡ true
+    → task_reach 0 (p_task k call links errbacks place) ≤ 32 → RestFits rest
     → Whole parent k call links errbacks place rest
 whole_by last parent k call links errbacks place rest known mutable ok low following =
     let p = task_parts last k call links errbacks place ok in
@@ -85,10 +86,12 @@ by_line parent k call links errbacks place (p_step t l) known mutable ok low =
     whole_by false parent k call links errbacks place (p_step t l) known mutable p.0 (omega (arith, low)) (some_fits (p_step t l) p.1 (omega (arith, low)))
 by_line parent k call links errbacks place (p_group_end g ms) known mutable ok low =
     let p = both (task_ok false (p_task k call links errbacks place)) (line_ok true (p_group_end g ms)) ok in
-    whole_by false parent k call links errbacks place (p_group_end g ms) known mutable p.0 (omega (arith, low)) (some_fits (p_group_end g ms) p.1 (omega (arith, low)))
+    whole_by false parent k call links errbacks place (p_group_end g ms) known mutable p.0 (omega (arith, low))
+    (some_fits (p_group_end g ms) p.1 (omega (arith, low)))
 by_line parent k call links errbacks place (p_chord_end g ms b) known mutable ok low =
     let p = both (task_ok false (p_task k call links errbacks place)) (line_ok true (p_chord_end g ms b)) ok in
-    whole_by false parent k call links errbacks place (p_chord_end g ms b) known mutable p.0 (omega (arith, low)) (some_fits (p_chord_end g ms b) p.1 (omega (arith, low)))
+    whole_by false parent k call links errbacks place (p_chord_end g ms b) known mutable p.0 (omega (arith, low))
+    (some_fits (p_chord_end g ms b) p.1 (omega (arith, low)))
 
 pub whole : (parent : Option ℕ) (k : ℕ) (call : Call) (links errbacks : PTasks) (place : PPlace) (rest : PLine)
     → fits (as_content parent k call links errbacks place rest) ≡ true → Whole parent k call links errbacks place rest

@@ -57,25 +57,34 @@ message_made t u x p rest parent n a w ls es new_links new_errbacks links errbac
 
 -- ---- callbacks
 
-at_its_place : (t : FrozenTask) (p : Option Place) → place_seen p ≡ place_seen (out-FrozenTask t).place → at_place (place_seen p) (p_task_view t) ≡ p_task_view t
+at_its_place : (t : FrozenTask) (p : Option Place) → place_seen p ≡ place_seen (out-FrozenTask t).place
+    → at_place (place_seen p) (p_task_view t) ≡ p_task_view t
 at_its_place t p same = ap (λ q. at_place q (p_task_view t)) (same ∙ sym (place_there t)) ∙ own_place (p_task_view t)
 
-tasks_dropped : (ts : List FrozenTask) (i : ℕ) (t : FrozenTask) → i < length ts → t ≡ get_or ts i t → map p_task_view (drop i ts) ≡ p_task_view t ∷ map p_task_view (drop (i + 1) ts)
+tasks_dropped : (ts : List FrozenTask) (i : ℕ) (t : FrozenTask) → i < length ts → t ≡ get_or ts i t
+    → map p_task_view (drop i ts) ≡ p_task_view t ∷ map p_task_view (drop (i + 1) ts)
 tasks_dropped ts i t lt is =
-    ap (map p_task_view) (drop-cons ts i t lt) ∙ ap (λ y. p_task_view y ∷ map p_task_view (drop (suc i) ts)) (sym is) ∙ ap (λ k. p_task_view t ∷ map p_task_view (drop k ts)) (sym (add-one i))
+    ap (map p_task_view) (drop-cons ts i t lt) ∙ ap (λ y. p_task_view y ∷ map p_task_view (drop (suc i) ts)) (sym is)
+    ∙ ap (λ k. p_task_view t ∷ map p_task_view (drop k ts)) (sym (add-one i))
 
 pub callback_fits : (ts : List FrozenTask) (i : ℕ) (t : FrozenTask) (p : Option Place) (u : Option ℕ) (x : Input) → i < length ts → t ≡ get_or ts i t
-    → place_seen p ≡ place_seen (out-FrozenTask t).place → callbacks_ok (p_tasks_of (map p_task_view (drop i ts))) ≡ true → parent_ok u ≡ true → input_ok x ≡ true
+    → place_seen p ≡ place_seen (out-FrozenTask t).place → callbacks_ok (p_tasks_of (map p_task_view (drop i ts))) ≡ true → parent_ok u ≡ true
+    → input_ok x ≡ true
     → fits (message u (at_place (place_seen p) (p_task_view t)) x p_stop) ≡ true
 callback_fits ts i t p u x lt is same ok hu hx =
-    let here : callbacks_ok (and_p_task (p_task_view t) (p_tasks_of (map p_task_view (drop (i + 1) ts)))) ≡ true = sym (ap (λ xs. callbacks_ok (p_tasks_of xs)) (tasks_dropped ts i t lt is)) ∙ ok in
-    ap (λ y. fits (message u y x p_stop)) (at_its_place t p same) ∙ message_fits u (p_task_view t) x p_stop hu hx (called_parts (p_task_view t) (p_tasks_of (map p_task_view (drop (i + 1) ts))) here).first
+    let here : callbacks_ok (and_p_task (p_task_view t) (p_tasks_of (map p_task_view (drop (i + 1) ts)))) ≡ true =
+    sym (ap (λ xs. callbacks_ok (p_tasks_of xs)) (tasks_dropped ts i t lt is)) ∙ ok in
+    ap (λ y. fits (message u y x p_stop)) (at_its_place t p same)
+    ∙ message_fits u (p_task_view t) x p_stop hu hx (called_parts (p_task_view t) (p_tasks_of (map p_task_view (drop (i + 1) ts))) here).first
 
-pub callbacks_on : (ts : List FrozenTask) (i : ℕ) (t : FrozenTask) (p : Option Place) (u : Option ℕ) (x : Input) (before after all : List Content) (m : Content) → i < length ts → t ≡ get_or ts i t
+pub callbacks_on : (ts : List FrozenTask) (i : ℕ) (t : FrozenTask) (p : Option Place) (u : Option ℕ) (x : Input) (before after all : List Content) (m : Content)
+    → i < length ts → t ≡ get_or ts i t
     → place_seen p ≡ place_seen (out-FrozenTask t).place
-    → (callbacks_ok (p_tasks_of (map p_task_view (drop i ts))) ≡ true) × (before ++ messages_in (callbacks (p_tasks_of (map p_task_view (drop i ts))) x u) ≡ all)
+    → (callbacks_ok (p_tasks_of (map p_task_view (drop i ts))) ≡ true)
+    × (before ++ messages_in (callbacks (p_tasks_of (map p_task_view (drop i ts))) x u) ≡ all)
     → m ≡ message u (at_place (place_seen p) (p_task_view t)) x p_stop → after ≡ before ++ m ∷ []
-    → (callbacks_ok (p_tasks_of (map p_task_view (drop (i + 1) ts))) ≡ true) × (after ++ messages_in (callbacks (p_tasks_of (map p_task_view (drop (i + 1) ts))) x u) ≡ all)
+    → (callbacks_ok (p_tasks_of (map p_task_view (drop (i + 1) ts))) ≡ true)
+    × (after ++ messages_in (callbacks (p_tasks_of (map p_task_view (drop (i + 1) ts))) x u) ≡ all)
 callbacks_on ts i t p u x before after all m lt is same h made pushed =
     let step = tasks_dropped ts i t lt is in
     let rest : PTasks = p_tasks_of (map p_task_view (drop (i + 1) ts)) in
@@ -101,20 +110,26 @@ at_nowhere : (t : PTask) → place_of t ≡ p_nowhere → at_place p_nowhere t �
 at_nowhere t h = ap (λ q. at_place q t) (sym h) ∙ own_place t
 
 -- where others follow it has no place
-pub followed_same : (u : Option ℕ) (t : PTask) (x : Input) (p : PPlace) (l : PLine) → is_stop l ≡ false → fits (message u (last_at p t l) x (placed p l)) ≡ true → at_place p_nowhere t ≡ last_at p t l
+pub followed_same : (u : Option ℕ) (t : PTask) (x : Input) (p : PPlace) (l : PLine) → is_stop l ≡ false → fits (message u (last_at p t l) x (placed p l)) ≡ true
+    → at_place p_nowhere t ≡ last_at p t l
 followed_same u t x p l h ok =
-    at_nowhere t (nowhere_by u t x (placed p l) (keeps_on p l h) (sym (ap (λ y. fits (message u y x (placed p l))) (same_at p t l h)) ∙ ok)) ∙ sym (same_at p t l h)
+    at_nowhere t (nowhere_by u t x (placed p l) (keeps_on p l h) (sym (ap (λ y. fits (message u y x (placed p l))) (same_at p t l h)) ∙ ok))
+    ∙ sym (same_at p t l h)
 
-pub followed_fits : (u : Option ℕ) (t : PTask) (x : Input) (p : PPlace) (l rest : PLine) → is_stop l ≡ false → rest ≡ placed p l → fits (message u (last_at p t l) x (placed p l)) ≡ true
+pub followed_fits : (u : Option ℕ) (t : PTask) (x : Input) (p : PPlace) (l rest : PLine) → is_stop l ≡ false → rest ≡ placed p l
+    → fits (message u (last_at p t l) x (placed p l)) ≡ true
     → fits (message u (at_place p_nowhere t) x rest) ≡ true
 followed_fits u t x p l rest h made ok = ap₂ (λ y r. fits (message u y x r)) (followed_same u t x p l h ok) made ∙ ok
 
-pub followed_is : (u : Option ℕ) (t : PTask) (x : Input) (p : PPlace) (l rest : PLine) → is_stop l ≡ false → rest ≡ placed p l → fits (message u (last_at p t l) x (placed p l)) ≡ true
+pub followed_is : (u : Option ℕ) (t : PTask) (x : Input) (p : PPlace) (l rest : PLine) → is_stop l ≡ false → rest ≡ placed p l
+    → fits (message u (last_at p t l) x (placed p l)) ≡ true
     → message u (at_place p_nowhere t) x rest ≡ message u (last_at p t l) x (placed p l)
 followed_is u t x p l rest h made ok = ap₂ (λ y r. message u y x r) (followed_same u t x p l h ok) made
 
-pub tail_follows : (ts : List FrozenTask) (o : Option (Box FrozenEnd Global)) (b : Box FrozenEnd Global) → o ≡ Some b → is_stop (p_steps (map p_task_view ts) (tail_seen o)) ≡ false
-tail_follows ts o b some = ap (λ x. is_stop (p_steps (map p_task_view ts) (tail_seen x))) some ∙ never_stops (map p_task_view ts) (p_end_view b.value) (end_stands b.value)
+pub tail_follows : (ts : List FrozenTask) (o : Option (Box FrozenEnd Global)) (b : Box FrozenEnd Global) → o ≡ Some b
+    → is_stop (p_steps (map p_task_view ts) (tail_seen o)) ≡ false
+tail_follows ts o b some = ap (λ x. is_stop (p_steps (map p_task_view ts) (tail_seen x))) some
+    ∙ never_stops (map p_task_view ts) (p_end_view b.value) (end_stands b.value)
 
 none_behind : (ts : List FrozenTask) (o : Option (Box FrozenEnd Global)) → o ≡ None → length ts ≡ 0 → p_steps (map p_task_view ts) (tail_seen o) ≡ p_stop
 none_behind [] o none few = ap tail_seen none
@@ -122,25 +137,32 @@ none_behind (t ∷ ts) o none few = absurd cc
 
 -- ---- places of members
 
-pub fits_size : (t : FrozenEnd) (b : FrozenLine) (p : PPlace) (ms : List FrozenLine) → (out-FrozenEnd t).body ≡ Some b → ms ≡ (out-FrozenEnd t).members → stands (p_end_view t) p ≡ true → length ms ≤ 1024
+pub fits_size : (t : FrozenEnd) (b : FrozenLine) (p : PPlace) (ms : List FrozenLine) → (out-FrozenEnd t).body ≡ Some b → ms ≡ (out-FrozenEnd t).members
+    → stands (p_end_view t) p ≡ true → length ms ≤ 1024
 fits_size t b p ms some same h =
-    let few = few_members (out-FrozenEnd t).group (p_lines_of (map p_line_view (out-FrozenEnd t).members)) (p_line_view b) p (sym (ap (λ l. stands l p) (end_some t b some)) ∙ h) in
+    let few = few_members (out-FrozenEnd t).group (p_lines_of (map p_line_view (out-FrozenEnd t).members)) (p_line_view b) p
+    (sym (ap (λ l. stands l p) (end_some t b some)) ∙ h) in
     omega (arith, few, counted (out-FrozenEnd t).members, ap length same)
 
-pub group_made : (t : FrozenEnd) (p : PPlace) → (out-FrozenEnd t).body ≡ None → place_view (roll-Place (record { group = (out-FrozenEnd t).group; chord = None })) ≡ member_place (p_end_view t) p
+pub group_made : (t : FrozenEnd) (p : PPlace) → (out-FrozenEnd t).body ≡ None
+    → place_view (roll-Place (record { group = (out-FrozenEnd t).group; chord = None })) ≡ member_place (p_end_view t) p
 group_made t p none = made (out-FrozenEnd t).group ∙ sym (ap (λ l. member_place l p) (end_none t none)) where
   made : (g : ℕ) → place_view (roll-Place (record { group = g; chord = None })) ≡ p_group g
   made g = search (rules, block.the_lemmas)
 
-chord_rolled : (g n : ℕ) (b : Arc FrozenLine Global) → place_view (roll-Place (record { group = g; chord = Some (roll-Carried (record { size = n; body = b })) })) ≡ p_chord g n (p_line_view b.value)
+chord_rolled : (g n : ℕ) (b : Arc FrozenLine Global)
+    → place_view (roll-Place (record { group = g; chord = Some (roll-Carried (record { size = n; body = b })) })) ≡ p_chord g n (p_line_view b.value)
 chord_rolled g n b = search (rules, block.the_lemmas)
 
 pub chord_made : (t : FrozenEnd) (b : FrozenLine) (p q : PPlace) (ms : List FrozenLine) (n : ℕ) (body : FrozenLine) (shared : Arc FrozenLine Global)
-    → (out-FrozenEnd t).body ≡ Some b → ms ≡ (out-FrozenEnd t).members → n ≡ length ms → q ≡ p → p_line_view body ≡ placed q (p_line_view b) → shared.value ≡ body
-    → place_view (roll-Place (record { group = (out-FrozenEnd t).group; chord = Some (roll-Carried (record { size = n; body = shared })) })) ≡ member_place (p_end_view t) p
+    → (out-FrozenEnd t).body ≡ Some b → ms ≡ (out-FrozenEnd t).members → n ≡ length ms → q ≡ p → p_line_view body ≡ placed q (p_line_view b)
+    → shared.value ≡ body
+    → place_view (roll-Place (record { group = (out-FrozenEnd t).group; chord = Some (roll-Carried (record { size = n; body = shared })) }))
+    ≡ member_place (p_end_view t) p
 chord_made t b p q ms n body shared some same sized there copied value =
     chord_rolled (out-FrozenEnd t).group n shared
-    ∙ ap₂ (p_chord (out-FrozenEnd t).group) (sized ∙ ap length same ∙ sym (counted (out-FrozenEnd t).members)) (ap p_line_view value ∙ copied ∙ ap (λ z. placed z (p_line_view b)) there)
+    ∙ ap₂ (p_chord (out-FrozenEnd t).group) (sized ∙ ap length same ∙ sym (counted (out-FrozenEnd t).members))
+    (ap p_line_view value ∙ copied ∙ ap (λ z. placed z (p_line_view b)) there)
     ∙ sym (ap (λ l. member_place l p) (end_some t b some))
 
 -- ---- lines
@@ -153,13 +175,16 @@ no_steps : (ts : List FrozenTask) (l : PLine) → length ts ≡ 0 → p_steps (m
 no_steps [] l few = refl
 no_steps (t ∷ ts) l few = absurd cc
 
-pub line_tail : (l : FrozenLine) (b : Box FrozenEnd Global) (all : List FrozenTask) (e : FrozenEnd) → (out-FrozenLine l).tail ≡ Some b → all ≡ (out-FrozenLine l).tasks → length all ≡ 0 → e ≡ b.value → p_line_view l ≡ p_end_view e
+pub line_tail : (l : FrozenLine) (b : Box FrozenEnd Global) (all : List FrozenTask) (e : FrozenEnd) → (out-FrozenLine l).tail ≡ Some b
+    → all ≡ (out-FrozenLine l).tasks → length all ≡ 0 → e ≡ b.value → p_line_view l ≡ p_end_view e
 line_tail l b all e some same few there =
-    line_some l b some ∙ ap (λ xs. p_steps (map p_task_view xs) (p_end_view b.value)) (sym same) ∙ no_steps all (p_end_view b.value) few ∙ ap p_end_view (sym there)
+    line_some l b some ∙ ap (λ xs. p_steps (map p_task_view xs) (p_end_view b.value)) (sym same) ∙ no_steps all (p_end_view b.value) few
+    ∙ ap p_end_view (sym there)
 
 -- ---- ends
 
-pub group_members : (t : FrozenEnd) (p : PPlace) (ms : List FrozenLine) → (out-FrozenEnd t).body ≡ None → ms ≡ (out-FrozenEnd t).members → stands (p_end_view t) p ≡ true
+pub group_members : (t : FrozenEnd) (p : PPlace) (ms : List FrozenLine) → (out-FrozenEnd t).body ≡ None → ms ≡ (out-FrozenEnd t).members
+    → stands (p_end_view t) p ≡ true
     → AllStand (member_place (p_end_view t) p) (map p_line_view ms)
 group_members t p ms none same ok =
     let ls : List PLine = map p_line_view (out-FrozenEnd t).members in
@@ -168,7 +193,8 @@ group_members t p ms none same ok =
     subst (λ l. AllStand (member_place l p) ls) (sym e) (group_stands (out-FrozenEnd t).group ls p (sym (ap (λ l. stands l p) e) ∙ ok)) in
     subst (λ xs. AllStand (member_place (p_end_view t) p) (map p_line_view xs)) (sym same) all
 
-pub header_members : (t : FrozenEnd) (b : FrozenLine) (p : PPlace) (ms others : List FrozenLine) (m : FrozenLine) → (out-FrozenEnd t).body ≡ Some b → ms ≡ (out-FrozenEnd t).members → ms ≡ m ∷ others
+pub header_members : (t : FrozenEnd) (b : FrozenLine) (p : PPlace) (ms others : List FrozenLine) (m : FrozenLine) → (out-FrozenEnd t).body ≡ Some b
+    → ms ≡ (out-FrozenEnd t).members → ms ≡ m ∷ others
     → stands (p_end_view t) p ≡ true → AllStand (member_place (p_end_view t) p) (map p_line_view ms)
 header_members t b p ms others m some same split ok =
     let ls : List PLine = map p_line_view (m ∷ others) in
@@ -179,14 +205,16 @@ header_members t b p ms others m some same split ok =
     (header_stands (out-FrozenEnd t).group (p_line_view m) (map p_line_view others) (p_line_view b) p (sym (ap (λ l. stands l p) e) ∙ ok)) in
     subst (λ xs. AllStand (member_place (p_end_view t) p) (map p_line_view xs)) (sym split) all
 
-pub group_started : (t : FrozenEnd) (x : Input) (p : PPlace) (u : Option ℕ) (ms : List FrozenLine) → (out-FrozenEnd t).body ≡ None → ms ≡ (out-FrozenEnd t).members
+pub group_started : (t : FrozenEnd) (x : Input) (p : PPlace) (u : Option ℕ) (ms : List FrozenLine) → (out-FrozenEnd t).body ≡ None
+    → ms ≡ (out-FrozenEnd t).members
     → all_started (map p_line_view ms) x (member_place (p_end_view t) p) u ≡ started (p_end_view t) x p u
 group_started t x p u ms none same =
     ap (λ xs. all_started (map p_line_view xs) x (member_place (p_end_view t) p) u) same
     ∙ ap (λ l. all_started (map p_line_view (out-FrozenEnd t).members) x (member_place l p) u) (end_none t none)
     ∙ sym (ap (λ l. started l x p u) (end_none t none) ∙ started_group (out-FrozenEnd t).group (map p_line_view (out-FrozenEnd t).members) x p u)
 
-pub header_started : (t : FrozenEnd) (b : FrozenLine) (x : Input) (p : PPlace) (u : Option ℕ) (ms others : List FrozenLine) (m : FrozenLine) → (out-FrozenEnd t).body ≡ Some b → ms ≡ (out-FrozenEnd t).members → ms ≡ m ∷ others
+pub header_started : (t : FrozenEnd) (b : FrozenLine) (x : Input) (p : PPlace) (u : Option ℕ) (ms others : List FrozenLine) (m : FrozenLine)
+    → (out-FrozenEnd t).body ≡ Some b → ms ≡ (out-FrozenEnd t).members → ms ≡ m ∷ others
     → all_started (map p_line_view ms) x (member_place (p_end_view t) p) u ≡ started (p_end_view t) x p u
 header_started t b x p u ms others m some same split =
     let e : p_end_view t ≡ p_chord_end (out-FrozenEnd t).group (p_lines_of (map p_line_view (m ∷ others))) (p_line_view b) =
@@ -207,16 +235,19 @@ empty_is t b ms some same few =
 
 -- ---- members one after the other
 
-pub empty_started : (t : FrozenEnd) (b : FrozenLine) (ms : List FrozenLine) (ns : List ℤ) (x : Input) (p : PPlace) (u : Option ℕ) → (out-FrozenEnd t).body ≡ Some b → ms ≡ (out-FrozenEnd t).members → length ms ≡ 0 → ns ≡ []
+pub empty_started : (t : FrozenEnd) (b : FrozenLine) (ms : List FrozenLine) (ns : List ℤ) (x : Input) (p : PPlace) (u : Option ℕ)
+    → (out-FrozenEnd t).body ≡ Some b → ms ≡ (out-FrozenEnd t).members → length ms ≡ 0 → ns ≡ []
     → started (p_line_view b) (list_input ns) p u ≡ started (p_end_view t) x p u
 empty_started t b ms ns x p u some same few none =
     ap (λ z. started (p_line_view b) (list_input z) p u) none ∙ sym (ap (λ l. started l x p u) (empty_is t b ms some same few))
 
-standing_by : (t : FrozenEnd) (o : Option FrozenLine) (ms : List FrozenLine) (p : PPlace) → (out-FrozenEnd t).body ≡ o → ms ≡ (out-FrozenEnd t).members → stands (p_end_view t) p ≡ true
+standing_by : (t : FrozenEnd) (o : Option FrozenLine) (ms : List FrozenLine) (p : PPlace) → (out-FrozenEnd t).body ≡ o → ms ≡ (out-FrozenEnd t).members
+    → stands (p_end_view t) p ≡ true
     → AllStand (member_place (p_end_view t) p) (map p_line_view ms)
 standing_by t None ms p none same ok = group_members t p ms none same ok
 standing_by t (Some b) [] p some same ok = tt
 standing_by t (Some b) (m ∷ ms) p some same ok = header_members t b p (m ∷ ms) ms m some same refl ok
 
-pub members_stand : (t : FrozenEnd) (ms : List FrozenLine) (p : PPlace) → ms ≡ (out-FrozenEnd t).members → stands (p_end_view t) p ≡ true → AllStand (member_place (p_end_view t) p) (map p_line_view ms)
+pub members_stand : (t : FrozenEnd) (ms : List FrozenLine) (p : PPlace) → ms ≡ (out-FrozenEnd t).members → stands (p_end_view t) p ≡ true
+    → AllStand (member_place (p_end_view t) p) (map p_line_view ms)
 members_stand t ms p same ok = standing_by t (out-FrozenEnd t).body ms p refl same ok

@@ -23,7 +23,8 @@ pub task_copied : (t : FrozenTask) (n : List ℕ) (a : List Arg) (w : List (List
     → n ≡ (out-FrozenTask t).name → a ≡ (out-FrozenTask t).args → w ≡ (out-FrozenTask t).kwargs
     → map p_task_view ls ≡ map p_task_view links → links ≡ (out-FrozenTask t).links
     → map p_task_view es ≡ map p_task_view errbacks → errbacks ≡ (out-FrozenTask t).errbacks
-    → p_task_view (roll-FrozenTask (record { no = (out-FrozenTask t).no; name = n; args = a; kwargs = w; immutable = (out-FrozenTask t).immutable; links = ls; errbacks = es; place = p }))
+    → p_task_view (roll-FrozenTask
+    (record { no = (out-FrozenTask t).no; name = n; args = a; kwargs = w; immutable = (out-FrozenTask t).immutable; links = ls; errbacks = es; place = p }))
     ≡ at_place (place_seen p) (p_task_view t)
 task_copied t n a w ls es links errbacks p hn ha hw hl hl' he he' =
     let k : ℕ = (out-FrozenTask t).no in
@@ -35,7 +36,8 @@ task_copied t n a w ls es links errbacks p hn ha hw hl hl' he he' =
     ∙ ap (λ x. Goal (out-FrozenTask t).name x w (map p_task_view ls) (map p_task_view es)) ha
     ∙ ap (λ x. Goal (out-FrozenTask t).name (out-FrozenTask t).args x (map p_task_view ls) (map p_task_view es)) hw
     ∙ ap (λ x. Goal (out-FrozenTask t).name (out-FrozenTask t).args (out-FrozenTask t).kwargs x (map p_task_view es)) (hl ∙ ap (map p_task_view) hl')
-    ∙ ap (λ x. Goal (out-FrozenTask t).name (out-FrozenTask t).args (out-FrozenTask t).kwargs (map p_task_view (out-FrozenTask t).links) x) (he ∙ ap (map p_task_view) he')
+    ∙ ap (λ x. Goal (out-FrozenTask t).name (out-FrozenTask t).args (out-FrozenTask t).kwargs (map p_task_view (out-FrozenTask t).links) x)
+    (he ∙ ap (map p_task_view) he')
     ∙ sym (ap (at_place (place_seen p)) (task_seen t))
 
 pub own_place : (t : PTask) → at_place (place_of t) t ≡ t
@@ -45,19 +47,22 @@ pub place_there : (t : FrozenTask) → place_of (p_task_view t) ≡ place_seen (
 place_there t = ap place_of (task_seen t)
 
 -- with its own place
-pub task_kept : (t c : FrozenTask) (p : Option Place) → place_seen p ≡ place_seen (out-FrozenTask t).place → p_task_view c ≡ at_place (place_seen p) (p_task_view t)
+pub task_kept : (t c : FrozenTask) (p : Option Place) → place_seen p ≡ place_seen (out-FrozenTask t).place
+    → p_task_view c ≡ at_place (place_seen p) (p_task_view t)
     → p_task_view c ≡ p_task_view t
 task_kept t c p same copied =
     copied ∙ ap (λ q. at_place q (p_task_view t)) (same ∙ sym (place_there t)) ∙ own_place (p_task_view t)
 
 -- ---- lines
 
-pub line_copied : (l : FrozenLine) → (out-FrozenLine l).tail ≡ None → (new ts : List FrozenTask) → map p_task_view new ≡ map p_task_view ts → ts ≡ (out-FrozenLine l).tasks
+pub line_copied : (l : FrozenLine) → (out-FrozenLine l).tail ≡ None → (new ts : List FrozenTask) → map p_task_view new ≡ map p_task_view ts
+    → ts ≡ (out-FrozenLine l).tasks
     → p_line_view (roll-FrozenLine (record { tasks = new; tail = None })) ≡ p_line_view l
 line_copied l none new ts h same =
     made_line new ∙ ap (λ xs. p_steps xs p_stop) (h ∙ ap (map p_task_view) same) ∙ sym (line_none l none)
 
-pub longer_copied : (l : FrozenLine) (b : Box FrozenEnd Global) → (out-FrozenLine l).tail ≡ Some b → (new ts : List FrozenTask) (e end : FrozenEnd) (tail : Box FrozenEnd Global)
+pub longer_copied : (l : FrozenLine) (b : Box FrozenEnd Global) → (out-FrozenLine l).tail ≡ Some b
+    → (new ts : List FrozenTask) (e end : FrozenEnd) (tail : Box FrozenEnd Global)
     → map p_task_view new ≡ map p_task_view ts → ts ≡ (out-FrozenLine l).tasks → e ≡ b.value → p_end_view end ≡ p_end_view e → tail.value ≡ end
     → p_line_view (roll-FrozenLine (record { tasks = new; tail = Some tail })) ≡ p_line_view l
 longer_copied l b some new ts e end tail h same there copied boxed =
@@ -65,10 +70,12 @@ longer_copied l b some new ts e end tail h same there copied boxed =
     ∙ ap (p_steps (map p_task_view (out-FrozenLine l).tasks)) (ap p_end_view boxed ∙ copied ∙ ap p_end_view there)
     ∙ sym (line_some l b some)
 
-pub group_copied : (t : FrozenEnd) → (out-FrozenEnd t).body ≡ None → (new ls : List FrozenLine) → map p_line_view new ≡ map p_line_view ls → ls ≡ (out-FrozenEnd t).members
+pub group_copied : (t : FrozenEnd) → (out-FrozenEnd t).body ≡ None → (new ls : List FrozenLine) → map p_line_view new ≡ map p_line_view ls
+    → ls ≡ (out-FrozenEnd t).members
     → p_end_view (roll-FrozenEnd (record { group = (out-FrozenEnd t).group; members = new; body = None })) ≡ p_end_view t
 group_copied t none new ls h same =
-    made_group (out-FrozenEnd t).group new ∙ ap (λ ms. p_group_end (out-FrozenEnd t).group (p_lines_of ms)) (h ∙ ap (map p_line_view) same) ∙ sym (end_none t none)
+    made_group (out-FrozenEnd t).group new ∙ ap (λ ms. p_group_end (out-FrozenEnd t).group (p_lines_of ms)) (h ∙ ap (map p_line_view) same)
+    ∙ sym (end_none t none)
 
 pub chord_copied : (t : FrozenEnd) (b : FrozenLine) → (out-FrozenEnd t).body ≡ Some b → (new ls : List FrozenLine) (body : FrozenLine)
     → map p_line_view new ≡ map p_line_view ls → ls ≡ (out-FrozenEnd t).members → p_line_view body ≡ p_line_view b
@@ -97,15 +104,18 @@ last_placed p (u ∷ []) t = step_placed p u (p_step t p_stop) refl
 last_placed p (u ∷ v ∷ us) t = step_placed p u (p_steps ((v ∷ us) ++ t ∷ []) p_stop) refl ∙ ap (p_step u) (last_placed p (v ∷ us) t)
 
 -- the last of some tasks
-pub tasks_placed : (p : PPlace) (ts others copies : List FrozenTask) (last copy : FrozenTask) (all : List FrozenTask) → all ≡ others ++ last ∷ [] → map p_task_view copies ≡ map p_task_view others
+pub tasks_placed : (p : PPlace) (ts others copies : List FrozenTask) (last copy : FrozenTask) (all : List FrozenTask) → all ≡ others ++ last ∷ []
+    → map p_task_view copies ≡ map p_task_view others
     → p_task_view copy ≡ at_place p (p_task_view last) → ts ≡ copies ++ copy ∷ []
     → p_steps (map p_task_view ts) p_stop ≡ placed p (p_steps (map p_task_view all) p_stop)
 tasks_placed p ts others copies last copy all split h hc pushed =
-    ap (λ xs. p_steps (map p_task_view xs) p_stop) pushed ∙ ap (λ xs. p_steps xs p_stop) (map-append p_task_view copies (copy ∷ []) ∙ ap₂ (λ xs x. xs ++ x ∷ []) h hc)
+    ap (λ xs. p_steps (map p_task_view xs) p_stop) pushed
+    ∙ ap (λ xs. p_steps xs p_stop) (map-append p_task_view copies (copy ∷ []) ∙ ap₂ (λ xs x. xs ++ x ∷ []) h hc)
     ∙ sym (ap (λ xs. placed p (p_steps (map p_task_view xs) p_stop)) split ∙ ap (λ xs. placed p (p_steps xs p_stop)) (map-append p_task_view others (last ∷ []))
     ∙ last_placed p (map p_task_view others) (p_task_view last))
 
-pub longer_placed : (p : PPlace) (o : Option (Box FrozenEnd Global)) (b : Box FrozenEnd Global) → o ≡ Some b → (new ts : List FrozenTask) (e end : FrozenEnd) (tail : Box FrozenEnd Global)
+pub longer_placed : (p : PPlace) (o : Option (Box FrozenEnd Global)) (b : Box FrozenEnd Global) → o ≡ Some b
+    → (new ts : List FrozenTask) (e end : FrozenEnd) (tail : Box FrozenEnd Global)
     → map p_task_view new ≡ map p_task_view ts → e ≡ b.value → p_end_view end ≡ placed p (p_end_view e) → tail.value ≡ end
     → p_line_view (roll-FrozenLine (record { tasks = new; tail = Some tail })) ≡ placed p (p_steps (map p_task_view ts) (tail_seen o))
 longer_placed p o b some new ts e end tail h there copied boxed =
@@ -113,7 +123,8 @@ longer_placed p o b some new ts e end tail h there copied boxed =
     ∙ ap (p_steps (map p_task_view ts)) (ap p_end_view boxed ∙ copied ∙ ap (λ x. placed p (p_end_view x)) there)
     ∙ sym (ap (λ x. placed p (p_steps (map p_task_view ts) (tail_seen x))) some ∙ steps_placed p (map p_task_view ts) (p_end_view b.value) (end_stands b.value))
 
-pub group_placed : (p : PPlace) (t : FrozenEnd) → (out-FrozenEnd t).body ≡ None → (new ls : List FrozenLine) → map p_line_view new ≡ map p_line_view ls → ls ≡ (out-FrozenEnd t).members
+pub group_placed : (p : PPlace) (t : FrozenEnd) → (out-FrozenEnd t).body ≡ None → (new ls : List FrozenLine) → map p_line_view new ≡ map p_line_view ls
+    → ls ≡ (out-FrozenEnd t).members
     → p_end_view (roll-FrozenEnd (record { group = (out-FrozenEnd t).group; members = new; body = None })) ≡ placed p (p_end_view t)
 group_placed p t none new ls h same = group_copied t none new ls h same ∙ sym (ap (placed p) (end_none t none) ∙ sym (end_none t none))
 
@@ -127,7 +138,8 @@ chord_placed p t b some new ls body h same copied =
     ∙ sym (ap (placed p) (end_some t b some))
 
 -- a whole line by its parts
-tail_by : (l : FrozenLine) (o : Option (Box FrozenEnd Global)) → (out-FrozenLine l).tail ≡ o → p_line_view l ≡ p_steps (map p_task_view (out-FrozenLine l).tasks) (tail_seen o)
+tail_by : (l : FrozenLine) (o : Option (Box FrozenEnd Global)) → (out-FrozenLine l).tail ≡ o
+    → p_line_view l ≡ p_steps (map p_task_view (out-FrozenLine l).tasks) (tail_seen o)
 tail_by l None e = line_none l e
 tail_by l (Some b) e = line_some l b e
 

@@ -62,7 +62,8 @@ mutual
   run_all_part : (ms : PLines) (x : Input) (p : PPlace) (u : Option ℕ) → members_ok ms ≡ true → part_in (enter_all ms (run x) p u) ≡ None
   run_all_part no_p_lines x p u ok = refl
   run_all_part (and_p_line m ms) x p u ok =
-      no_part_on (enter m (run x) p 0 u) (enter_all ms (run x) p u) (run_part false m x p 0 u (member_first m ms ok).ok) (run_all_part ms x p u (member_others m ms ok))
+      no_part_on (enter m (run x) p 0 u) (enter_all ms (run x) p u) (run_part false m x p 0 u (member_first m ms ok).ok)
+      (run_all_part ms x p u (member_others m ms ok))
 
 -- the task before matters to a part alone
 run_any : (l : PLine) (x : Input) (p : PPlace) (k : ℕ) (u : Option ℕ) → messages_in (enter l (run x) p k u) ≡ started l x p u
@@ -100,7 +101,8 @@ mutual
   raise_part_none : (l : PLine) (f : Fault) (p : PPlace) (k : ℕ) (u : Option ℕ) → ((j : ℕ) → part_of p j ≡ []) → part_in (enter l (raise f) p k u) ≡ None
   raise_part_none p_stop f p k u h = ap part_in (h k)
   raise_part_none (p_step t l) f p k u h =
-      no_part_on (callbacks (errbacks_of t) (id_input (number_of t)) u) (enter l (skips f) p (number_of t) u) (called_part (errbacks_of t) (id_input (number_of t)) u) (skip_part_none l f p (number_of t) u h)
+      no_part_on (callbacks (errbacks_of t) (id_input (number_of t)) u) (enter l (skips f) p (number_of t) u)
+      (called_part (errbacks_of t) (id_input (number_of t)) u) (skip_part_none l f p (number_of t) u h)
   raise_part_none (p_group_end g ms) f p k u h = raise_all_none ms f (p_group g) u (λ j. refl)
   raise_part_none (p_chord_end g ms b) f p k u h =
       no_part_on (enter_all ms (raise f) p_nowhere u) (enter b (raise _) p 0 u) (raise_all_none ms f p_nowhere u (λ j. refl)) (raise_part_none b _ p 0 u h)
@@ -111,9 +113,11 @@ mutual
       no_part_on (enter m (raise f) p 0 u) (enter_all ms (raise f) p u) (raise_part_none m f p 0 u h) (raise_all_none ms f p u h)
 
 raise_step : (t : PTask) (l : PLine) (f : Fault) (k : ℕ) (u : Option ℕ)
-    → part_in (callbacks (errbacks_of t) (id_input (number_of t)) u ++ enter l (skips f) (end_place l) (number_of t) u) ≡ part_in (part_of (end_place l) (last_task (number_of t) l))
+    → part_in (callbacks (errbacks_of t) (id_input (number_of t)) u ++ enter l (skips f) (end_place l) (number_of t) u)
+    ≡ part_in (part_of (end_place l) (last_task (number_of t) l))
 raise_step t l f k u =
-    part_on (callbacks (errbacks_of t) (id_input (number_of t)) u) (enter l (skips f) (end_place l) (number_of t) u) (called_part (errbacks_of t) (id_input (number_of t)) u) ∙ skip_part l f (number_of t) u
+    part_on (callbacks (errbacks_of t) (id_input (number_of t)) u) (enter l (skips f) (end_place l) (number_of t) u)
+    (called_part (errbacks_of t) (id_input (number_of t)) u) ∙ skip_part l f (number_of t) u
 
 raise_part : (l : PLine) (f : Fault) (k : ℕ) (u : Option ℕ) → part_in (enter l (raise f) (end_place l) k u) ≡ part_in (part_of (end_place l) (last_task k l))
 raise_part p_stop f k u = refl
@@ -136,13 +140,16 @@ effect_is js ss ms p hs hm hp =
     ap (λ a. Goal a ms p) hs ∙ ap (λ b. Goal (stores_in js) b p) hm ∙ ap (Goal (stores_in js) (messages_in js)) hp
 
 -- a body
-pub body_started : (l : PLine) (x : Input) (ss : List (ℕ × Outcome)) (old ms : List Content) (p : Option Part) → is_whole l ≡ true → ss ≡ [] → old ≡ [] → ms ≡ old ++ started l x (end_place l) None → p ≡ None
+pub body_started : (l : PLine) (x : Input) (ss : List (ℕ × Outcome)) (old ms : List Content) (p : Option Part) → is_whole l ≡ true → ss ≡ [] → old ≡ []
+    → ms ≡ old ++ started l x (end_place l) None → p ≡ None
     → record { stores = in_order (λ e. e.0) ss; messages = in_order (λ m. number_of m.own) ms; part = p } ≡ effect_of (enter l (run x) (end_place l) 0 None)
 body_started l x ss old ms p ok hs ho hm hp =
-    effect_is (enter l (run x) (end_place l) 0 None) ss ms p (hs ∙ sym (run_stores l x (end_place l) 0 None)) (hm ∙ ap (λ xs. xs ++ started l x (end_place l) None) ho)
+    effect_is (enter l (run x) (end_place l) 0 None) ss ms p (hs ∙ sym (run_stores l x (end_place l) 0 None))
+    (hm ∙ ap (λ xs. xs ++ started l x (end_place l) None) ho)
     (hp ∙ sym (run_part true l x (end_place l) 0 None (whole_ok l ok)))
 
-pub body_raised : (l : PLine) (f : Fault) (olds ss : List (ℕ × Outcome)) (old ms : List Content) (p : Option Part) → olds ≡ [] → ss ≡ olds ++ raised_stores f l → old ≡ [] → ms ≡ old ++ raised_messages f l → p ≡ part_at_end l
+pub body_raised : (l : PLine) (f : Fault) (olds ss : List (ℕ × Outcome)) (old ms : List Content) (p : Option Part) → olds ≡ [] → ss ≡ olds ++ raised_stores f l
+    → old ≡ [] → ms ≡ old ++ raised_messages f l → p ≡ part_at_end l
     → record { stores = in_order (λ e. e.0) ss; messages = in_order (λ m. number_of m.own) ms; part = p } ≡ effect_of (enter l (raise f) (end_place l) 0 None)
 body_raised l f olds ss old ms p hos hs ho hm hp =
     effect_is (enter l (raise f) (end_place l) 0 None) ss ms p
@@ -180,7 +187,8 @@ abbrev Done : Content → List (ℕ × Outcome) → List Content → Option Part
 Done c ss ms p o = record { stores = in_order (λ e. e.0) ss; messages = in_order (λ m. number_of m.own) ms; part = p } ≡ after c o
 
 -- on a success, where something follows
-pub succeeded : (c : Content) (l : PLine) (n : ℤ) (ss : List (ℕ × Outcome)) (old one ms : List Content) (p : Option Part) → fits c ≡ true → c.rest ≡ l → is_stop l ≡ false
+pub succeeded : (c : Content) (l : PLine) (n : ℤ) (ss : List (ℕ × Outcome)) (old one ms : List Content) (p : Option Part) → fits c ≡ true → c.rest ≡ l
+    → is_stop l ≡ false
     → ss ≡ [] → old ≡ [] → one ≡ old ++ messages_in (callbacks (links_of c.own) (number_input n) (Some (number_of c.own)))
     → ms ≡ one ++ started l (number_input n) (end_place l) (Some (number_of c.own)) → p ≡ None → Done c ss ms p (Success n)
 succeeded c l n ss old one ms p ok same h hs ho h1 hm hp =
@@ -189,21 +197,27 @@ succeeded c l n ss old one ms p ok same h hs ho h1 hm hp =
     let more : Jobs = enter l (run (number_input n)) (end_place l) k (Some k) in
     let whole = rest_stands c l ok same h in
     let js : after c (Success n) ≡ effect_of (first ++ more) =
-    ap (λ r. effect_of (first ++ enter r (run (number_input n)) (end_place (p_step c.own r)) k (Some k))) same ∙ ap (λ q. effect_of (first ++ enter l (run (number_input n)) q k (Some k))) (end_behind c.own l h) in
-    effect_is (first ++ more) ss ms p (hs ∙ sym (no_store_on first more (called_stores (links_of c.own) (number_input n) (Some k)) (run_stores l (number_input n) (end_place l) k (Some k))))
-    (hm ∙ ap₂ (λ a b. a ++ b) (h1 ∙ ap (λ xs. xs ++ messages_in first) ho) (sym (run_any l (number_input n) (end_place l) k (Some k))) ∙ sym (messages_on first more))
-    (hp ∙ sym (no_part_on first more (called_part (links_of c.own) (number_input n) (Some k)) (run_part true l (number_input n) (end_place l) k (Some k) (whole_ok l whole))))
+    ap (λ r. effect_of (first ++ enter r (run (number_input n)) (end_place (p_step c.own r)) k (Some k))) same
+    ∙ ap (λ q. effect_of (first ++ enter l (run (number_input n)) q k (Some k))) (end_behind c.own l h) in
+    effect_is (first ++ more) ss ms p
+    (hs ∙ sym (no_store_on first more (called_stores (links_of c.own) (number_input n) (Some k)) (run_stores l (number_input n) (end_place l) k (Some k))))
+    (hm ∙ ap₂ (λ a b. a ++ b) (h1 ∙ ap (λ xs. xs ++ messages_in first) ho) (sym (run_any l (number_input n) (end_place l) k (Some k)))
+    ∙ sym (messages_on first more))
+    (hp ∙ sym (no_part_on first more (called_part (links_of c.own) (number_input n) (Some k))
+    (run_part true l (number_input n) (end_place l) k (Some k) (whole_ok l whole))))
     ∙ sym js
 
 -- where that is a task, it takes over what it carries
-next_begun : (u : ℕ) (t : PTask) (l : PLine) (n : ℤ) → message (Some u) t (number_input n) l ∷ [] ≡ started (p_step t l) (number_input n) (end_place (p_step t l)) (Some u)
+next_begun : (u : ℕ) (t : PTask) (l : PLine) (n : ℤ)
+    → message (Some u) t (number_input n) l ∷ [] ≡ started (p_step t l) (number_input n) (end_place (p_step t l)) (Some u)
 next_begun u t l n =
     let there : p_step (last_at (end_place (p_step t l)) t l) (placed (end_place (p_step t l)) l) ≡ p_step t l = as_it_stands (p_step t l) in
     let own : last_at (end_place (p_step t l)) t l ≡ t = cc in
     let rest : placed (end_place (p_step t l)) l ≡ l = cc in
     sym (ap₂ (λ v r. message (Some u) v (number_input n) r ∷ []) own rest)
 
-pub succeeded_next : (c : Content) (t : PTask) (l : PLine) (n : ℤ) (ss : List (ℕ × Outcome)) (old one ms : List Content) (p : Option Part) → fits c ≡ true → c.rest ≡ p_step t l
+pub succeeded_next : (c : Content) (t : PTask) (l : PLine) (n : ℤ) (ss : List (ℕ × Outcome)) (old one ms : List Content) (p : Option Part) → fits c ≡ true
+    → c.rest ≡ p_step t l
     → ss ≡ [] → old ≡ [] → one ≡ old ++ messages_in (callbacks (links_of c.own) (number_input n) (Some (number_of c.own)))
     → ms ≡ one ++ message (Some (number_of c.own)) t (number_input n) l ∷ [] → p ≡ None → Done c ss ms p (Success n)
 succeeded_next c t l n ss old one ms p ok same hs ho h1 hm hp =
@@ -212,46 +226,58 @@ succeeded_next c t l n ss old one ms p ok same hs ho h1 hm hp =
 its_call : (k : ℕ) (t : PTask) (l : PLine) (n : ℤ) (c : Content) → k ≡ number_of c.own → message (Some k) t (number_input n) l ≡ next c t l n
 its_call k (p_task j call links errbacks place) l n c same = ap (λ u. message (Some u) (p_task j call links errbacks place) (number_input n) l) same
 
-pub next_stands : (c : Content) (k : ℕ) (t : PTask) (l : PLine) (n : ℤ) → fits c ≡ true → c.rest ≡ p_step t l → k ≡ number_of c.own → in_range n ≡ true → fits (message (Some k) t (number_input n) l) ≡ true
+pub next_stands : (c : Content) (k : ℕ) (t : PTask) (l : PLine) (n : ℤ) → fits c ≡ true → c.rest ≡ p_step t l → k ≡ number_of c.own → in_range n ≡ true
+    → fits (message (Some k) t (number_input n) l) ≡ true
 next_stands c k t l n ok same its h = ap fits (its_call k t l n c its) ∙ next_fits c t l n h same ok
 
 -- and where nothing does
 pub succeeded_last : (c : Content) (n : ℤ) (ss : List (ℕ × Outcome)) (old ms : List Content) (p : Option Part) → c.rest ≡ p_stop
-    → ss ≡ [] → old ≡ [] → ms ≡ old ++ messages_in (callbacks (links_of c.own) (number_input n) (Some (number_of c.own))) → p ≡ part_in (part_of (place_of c.own) (number_of c.own)) → Done c ss ms p (Success n)
+    → ss ≡ [] → old ≡ [] → ms ≡ old ++ messages_in (callbacks (links_of c.own) (number_input n) (Some (number_of c.own)))
+    → p ≡ part_in (part_of (place_of c.own) (number_of c.own)) → Done c ss ms p (Success n)
 succeeded_last c n ss old ms p same hs ho hm hp =
     let k : ℕ = number_of c.own in
     let first : Jobs = callbacks (links_of c.own) (number_input n) (Some k) in
     let more : Jobs = part_of (place_of c.own) k in
-    let js : after c (Success n) ≡ effect_of (first ++ more) = ap (λ r. effect_of (first ++ enter r (run (number_input n)) (end_place (p_step c.own r)) k (Some k))) same in
-    effect_is (first ++ more) ss ms p (hs ∙ sym (no_store_on first more (called_stores (links_of c.own) (number_input n) (Some k)) (place_stores (place_of c.own) k)))
-    (hm ∙ ap (λ xs. xs ++ messages_in first) ho ∙ sym (messages_on first more ∙ ap (λ xs. messages_in first ++ xs) (place_messages (place_of c.own) k) ∙ append-nil (messages_in first)))
+    let js : after c (Success n) ≡ effect_of (first ++ more) =
+    ap (λ r. effect_of (first ++ enter r (run (number_input n)) (end_place (p_step c.own r)) k (Some k))) same in
+    effect_is (first ++ more) ss ms p
+    (hs ∙ sym (no_store_on first more (called_stores (links_of c.own) (number_input n) (Some k)) (place_stores (place_of c.own) k)))
+    (hm ∙ ap (λ xs. xs ++ messages_in first) ho
+    ∙ sym (messages_on first more ∙ ap (λ xs. messages_in first ++ xs) (place_messages (place_of c.own) k) ∙ append-nil (messages_in first)))
     (hp ∙ sym (part_on first more (called_part (links_of c.own) (number_input n) (Some k))))
     ∙ sym js
 
 -- on a failure
-pub failed : (c : Content) (l : PLine) (f : Fault) (olds ss : List (ℕ × Outcome)) (old ms : List Content) (p : Option Part) → fits c ≡ true → c.rest ≡ l → is_stop l ≡ false
-    → olds ≡ [] → ss ≡ olds ++ skipped f l → old ≡ [] → ms ≡ old ++ messages_in (callbacks (errbacks_of c.own) (id_input (number_of c.own)) None) → p ≡ part_at_end l → Done c ss ms p (Failure f)
+pub failed : (c : Content) (l : PLine) (f : Fault) (olds ss : List (ℕ × Outcome)) (old ms : List Content) (p : Option Part) → fits c ≡ true → c.rest ≡ l
+    → is_stop l ≡ false
+    → olds ≡ [] → ss ≡ olds ++ skipped f l → old ≡ [] → ms ≡ old ++ messages_in (callbacks (errbacks_of c.own) (id_input (number_of c.own)) None)
+    → p ≡ part_at_end l → Done c ss ms p (Failure f)
 failed c l f olds ss old ms p ok same h hos hs ho hm hp =
     let k : ℕ = number_of c.own in
     let first : Jobs = callbacks (errbacks_of c.own) (id_input k) (Some k) in
     let more : Jobs = enter l (skips f) (end_place l) k (Some k) in
     let js : after c (Failure f) ≡ effect_of (first ++ more) =
-    ap (λ r. effect_of (first ++ enter r (skips f) (end_place (p_step c.own r)) k (Some k))) same ∙ ap (λ q. effect_of (first ++ enter l (skips f) q k (Some k))) (end_behind c.own l h) in
+    ap (λ r. effect_of (first ++ enter r (skips f) (end_place (p_step c.own r)) k (Some k))) same
+    ∙ ap (λ q. effect_of (first ++ enter l (skips f) q k (Some k))) (end_behind c.own l h) in
     effect_is (first ++ more) ss ms p
-    (hs ∙ ap (λ xs. xs ++ skipped f l) hos ∙ sym (stores_on first more ∙ ap₂ (λ a b. a ++ b) (called_stores (errbacks_of c.own) (id_input k) (Some k)) (skipped_so l f (end_place l) k (Some k))))
+    (hs ∙ ap (λ xs. xs ++ skipped f l) hos
+    ∙ sym (stores_on first more ∙ ap₂ (λ a b. a ++ b) (called_stores (errbacks_of c.own) (id_input k) (Some k)) (skipped_so l f (end_place l) k (Some k))))
     (hm ∙ ap (λ xs. xs ++ messages_in (callbacks (errbacks_of c.own) (id_input k) None)) ho ∙ called_messages (errbacks_of c.own) k None (Some k)
     ∙ sym (messages_on first more ∙ ap (λ xs. messages_in first ++ xs) (skip_quiet l f (end_place l) k (Some k)) ∙ append-nil (messages_in first)))
-    (hp ∙ sym (part_on first more (called_part (errbacks_of c.own) (id_input k) (Some k)) ∙ skip_part l f k (Some k) ∙ last_behind k l (rest_stands c l ok same h) refl))
+    (hp ∙ sym (part_on first more (called_part (errbacks_of c.own) (id_input k) (Some k)) ∙ skip_part l f k (Some k)
+    ∙ last_behind k l (rest_stands c l ok same h) refl))
     ∙ sym js
 
 pub failed_last : (c : Content) (f : Fault) (ss : List (ℕ × Outcome)) (old ms : List Content) (p : Option Part) → c.rest ≡ p_stop
-    → ss ≡ [] → old ≡ [] → ms ≡ old ++ messages_in (callbacks (errbacks_of c.own) (id_input (number_of c.own)) None) → p ≡ part_in (part_of (place_of c.own) (number_of c.own)) → Done c ss ms p (Failure f)
+    → ss ≡ [] → old ≡ [] → ms ≡ old ++ messages_in (callbacks (errbacks_of c.own) (id_input (number_of c.own)) None)
+    → p ≡ part_in (part_of (place_of c.own) (number_of c.own)) → Done c ss ms p (Failure f)
 failed_last c f ss old ms p same hs ho hm hp =
     let k : ℕ = number_of c.own in
     let first : Jobs = callbacks (errbacks_of c.own) (id_input k) (Some k) in
     let more : Jobs = part_of (place_of c.own) k in
     let js : after c (Failure f) ≡ effect_of (first ++ more) = ap (λ r. effect_of (first ++ enter r (skips f) (end_place (p_step c.own r)) k (Some k))) same in
-    effect_is (first ++ more) ss ms p (hs ∙ sym (no_store_on first more (called_stores (errbacks_of c.own) (id_input k) (Some k)) (place_stores (place_of c.own) k)))
+    effect_is (first ++ more) ss ms p
+    (hs ∙ sym (no_store_on first more (called_stores (errbacks_of c.own) (id_input k) (Some k)) (place_stores (place_of c.own) k)))
     (hm ∙ ap (λ xs. xs ++ messages_in (callbacks (errbacks_of c.own) (id_input k) None)) ho ∙ called_messages (errbacks_of c.own) k None (Some k)
     ∙ sym (messages_on first more ∙ ap (λ xs. messages_in first ++ xs) (place_messages (place_of c.own) k) ∙ append-nil (messages_in first)))
     (hp ∙ sym (part_on first more (called_part (errbacks_of c.own) (id_input k) (Some k))))
@@ -262,7 +288,8 @@ failed_last c f ss old ms p same hs ho hm hp =
 pub last_there_place : (l : PLine) (t : FrozenTask) → Some (p_task_view t) ≡ last_of l → place_seen (out-FrozenTask t).place ≡ end_place l
 last_there_place l t h = sym (place_there t) ∙ sym (place_last l (p_task_view t) (sym h))
 
-pub last_there_part : (l : PLine) (t : FrozenTask) → Some (p_task_view t) ≡ last_of l → part_in (part_of (place_seen (out-FrozenTask t).place) (out-FrozenTask t).no) ≡ part_at_end l
+pub last_there_part : (l : PLine) (t : FrozenTask) → Some (p_task_view t) ≡ last_of l
+    → part_in (part_of (place_seen (out-FrozenTask t).place) (out-FrozenTask t).no) ≡ part_at_end l
 last_there_part l t h = ap₂ (λ q n. part_in (part_of q n)) (last_there_place l t h) (sym (number_seen t) ∙ sym (last_number 0 l (p_task_view t) (sym h)))
 
 pub no_end_part : (l : PLine) → None ≡ last_of l → None ≡ part_at_end l
@@ -287,13 +314,15 @@ pub body_stands : (c : Carried) → carried_ok (carried_view c) ≡ true → is_
 body_stands c ok = grind (rules, carried_seen c)
 
 pub after_failed : (c : Carried) (es : List (ℕ × Outcome)) (f : Fault) → Some f ≡ first_failure es
-    → effect_of (enter (p_line_view (out-Carried c).body.value) (raise f) (end_place (p_line_view (out-Carried c).body.value)) 0 None) ≡ body_after (carried_view c) es
+    → effect_of (enter (p_line_view (out-Carried c).body.value) (raise f) (end_place (p_line_view (out-Carried c).body.value)) 0 None)
+    ≡ body_after (carried_view c) es
 after_failed c es f h =
     let l : PLine = p_line_view (out-Carried c).body.value in
     ap (λ x. effect_of (enter l x (end_place l) 0 None)) (sym (ap into_body (gathered_failed es f (sym h)))) ∙ sym (ap (λ z. body_after z es) (carried_seen c))
 
 pub after_all : (c : Carried) (es : List (ℕ × Outcome)) (ns : List ℤ) → None ≡ first_failure es → ns ≡ successes es
-    → effect_of (enter (p_line_view (out-Carried c).body.value) (run (list_input ns)) (end_place (p_line_view (out-Carried c).body.value)) 0 None) ≡ body_after (carried_view c) es
+    → effect_of (enter (p_line_view (out-Carried c).body.value) (run (list_input ns)) (end_place (p_line_view (out-Carried c).body.value)) 0 None)
+    ≡ body_after (carried_view c) es
 after_all c es ns h hn =
     let l : PLine = p_line_view (out-Carried c).body.value in
     ap (λ x. effect_of (enter l (run (list_input x)) (end_place l) 0 None)) hn
@@ -303,7 +332,8 @@ after_all c es ns h hn =
 successes_fit : (es : List (ℕ × Outcome)) → All (λ e. IsInRange e.1) es → list_all in_range (successes es) ≡ true
 successes_fit [] h = refl
 successes_fit ((k, Success n) ∷ es) h =
-    all_true (in_range n) (list_all in_range (successes es)) (All-head (λ e. IsInRange e.1) (k, Success n) es h) (successes_fit es (All-tail (λ e. IsInRange e.1) (k, Success n) es h))
+    all_true (in_range n) (list_all in_range (successes es)) (All-head (λ e. IsInRange e.1) (k, Success n) es h)
+    (successes_fit es (All-tail (λ e. IsInRange e.1) (k, Success n) es h))
 successes_fit ((k, Failure f) ∷ es) h = successes_fit es (All-tail (λ e. IsInRange e.1) (k, Failure f) es h)
 
 pub numbers_fit : (es : List (ℕ × Outcome)) (ns : List ℤ) → ns ≡ successes es → All (λ e. IsInRange e.1) es → list_all in_range ns ≡ true

@@ -108,7 +108,8 @@ skipped_group f g ls = all_skipped_so ls f (p_group g) None
 
 pub skipped_chord : (f : Fault) (g : ℕ) (ls : List PLine) (body : PLine) → skipped f (p_chord_end g (p_lines_of ls) body) ≡ all_skipped f ls ++ skipped f body
 skipped_chord f g ls body =
-    stores_on (enter_all (p_lines_of ls) (skips f) p_nowhere None) (enter body (skips f) p_nowhere 0 None) ∙ ap (λ xs. xs ++ skipped f body) (all_skipped_so ls f p_nowhere None)
+    stores_on (enter_all (p_lines_of ls) (skips f) p_nowhere None) (enter body (skips f) p_nowhere 0 None)
+    ∙ ap (λ xs. xs ++ skipped f body) (all_skipped_so ls f p_nowhere None)
 
 -- nothing is published
 mutual
@@ -132,7 +133,8 @@ mutual
   raise_any (p_step t rest) f p q k j u v =
       ap (λ xs. (number_of t, Failure f) ∷ xs)
       (stores_on (callbacks (errbacks_of t) (id_input (number_of t)) u) (enter rest (skips f) p (number_of t) u)
-      ∙ ap₂ (λ a b. a ++ b) (called_stores (errbacks_of t) (id_input (number_of t)) u ∙ sym (called_stores (errbacks_of t) (id_input (number_of t)) v)) (skip_any rest f p q (number_of t) (number_of t) u v)
+      ∙ ap₂ (λ a b. a ++ b) (called_stores (errbacks_of t) (id_input (number_of t)) u ∙ sym (called_stores (errbacks_of t) (id_input (number_of t)) v))
+      (skip_any rest f p q (number_of t) (number_of t) u v)
       ∙ sym (stores_on (callbacks (errbacks_of t) (id_input (number_of t)) v) (enter rest (skips f) q (number_of t) v)))
   raise_any (p_group_end g ms) f p q k j u v = raise_all_any ms f (p_group g) (p_group g) u v
   raise_any (p_chord_end g ms body) f p q k j u v =
@@ -153,14 +155,17 @@ raised_stores_so l f p k u = raise_any l f p p_nowhere k 0 u None
 all_raised_stores_so : (ls : List PLine) (f : Fault) (p : PPlace) (u : Option ℕ) → stores_in (enter_all (p_lines_of ls) (raise f) p u) ≡ all_raised_stores f ls
 all_raised_stores_so [] f p u = refl
 all_raised_stores_so (l ∷ ls) f p u =
-    stores_on (enter l (raise f) p 0 u) (enter_all (p_lines_of ls) (raise f) p u) ∙ ap₂ (λ a b. a ++ b) (raised_stores_so l f p 0 u) (all_raised_stores_so ls f p u)
+    stores_on (enter l (raise f) p 0 u) (enter_all (p_lines_of ls) (raise f) p u)
+    ∙ ap₂ (λ a b. a ++ b) (raised_stores_so l f p 0 u) (all_raised_stores_so ls f p u)
 
 mutual
-  raise_messages_any : (l : PLine) (f : Fault) (p q : PPlace) (k j : ℕ) (u v : Option ℕ) → messages_in (enter l (raise f) p k u) ≡ messages_in (enter l (raise f) q j v)
+  raise_messages_any : (l : PLine) (f : Fault) (p q : PPlace) (k j : ℕ) (u v : Option ℕ)
+      → messages_in (enter l (raise f) p k u) ≡ messages_in (enter l (raise f) q j v)
   raise_messages_any p_stop f p q k j u v = place_messages p k ∙ sym (place_messages q j)
   raise_messages_any (p_step t rest) f p q k j u v =
       messages_on (callbacks (errbacks_of t) (id_input (number_of t)) u) (enter rest (skips f) p (number_of t) u)
-      ∙ ap₂ (λ a b. a ++ b) (called_messages (errbacks_of t) (number_of t) u v) (skip_quiet rest f p (number_of t) u ∙ sym (skip_quiet rest f q (number_of t) v))
+      ∙ ap₂ (λ a b. a ++ b) (called_messages (errbacks_of t) (number_of t) u v)
+      (skip_quiet rest f p (number_of t) u ∙ sym (skip_quiet rest f q (number_of t) v))
       ∙ sym (messages_on (callbacks (errbacks_of t) (id_input (number_of t)) v) (enter rest (skips f) q (number_of t) v))
   raise_messages_any (p_group_end g ms) f p q k j u v = raise_all_messages_any ms f (p_group g) (p_group g) u v
   raise_messages_any (p_chord_end g ms body) f p q k j u v =
@@ -168,7 +173,8 @@ mutual
       ∙ ap₂ (λ a b. a ++ b) (raise_all_messages_any ms f p_nowhere p_nowhere u v) (raise_messages_any body (fault_behind ms f) p q 0 0 u v)
       ∙ sym (messages_on (enter_all ms (raise f) p_nowhere v) (enter body (raise (fault_behind ms f)) q 0 v))
 
-  raise_all_messages_any : (ms : PLines) (f : Fault) (p q : PPlace) (u v : Option ℕ) → messages_in (enter_all ms (raise f) p u) ≡ messages_in (enter_all ms (raise f) q v)
+  raise_all_messages_any : (ms : PLines) (f : Fault) (p q : PPlace) (u v : Option ℕ)
+      → messages_in (enter_all ms (raise f) p u) ≡ messages_in (enter_all ms (raise f) q v)
   raise_all_messages_any no_p_lines f p q u v = refl
   raise_all_messages_any (and_p_line m ms) f p q u v =
       messages_on (enter m (raise f) p 0 u) (enter_all ms (raise f) p u)
@@ -178,19 +184,23 @@ mutual
 pub raised_messages_so : (l : PLine) (f : Fault) (p : PPlace) (k : ℕ) (u : Option ℕ) → messages_in (enter l (raise f) p k u) ≡ raised_messages f l
 raised_messages_so l f p k u = raise_messages_any l f p p_nowhere k 0 u None
 
-all_raised_messages_so : (ls : List PLine) (f : Fault) (p : PPlace) (u : Option ℕ) → messages_in (enter_all (p_lines_of ls) (raise f) p u) ≡ all_raised_messages f ls
+all_raised_messages_so : (ls : List PLine) (f : Fault) (p : PPlace) (u : Option ℕ)
+    → messages_in (enter_all (p_lines_of ls) (raise f) p u) ≡ all_raised_messages f ls
 all_raised_messages_so [] f p u = refl
 all_raised_messages_so (l ∷ ls) f p u =
-    messages_on (enter l (raise f) p 0 u) (enter_all (p_lines_of ls) (raise f) p u) ∙ ap₂ (λ a b. a ++ b) (raised_messages_so l f p 0 u) (all_raised_messages_so ls f p u)
+    messages_on (enter l (raise f) p 0 u) (enter_all (p_lines_of ls) (raise f) p u)
+    ∙ ap₂ (λ a b. a ++ b) (raised_messages_so l f p 0 u) (all_raised_messages_so ls f p u)
 
 pub raised_step : (f : Fault) (t : PTask) (ts : List PTask) (l : PLine)
     → raised_stores f (p_steps (t ∷ ts) l) ≡ (number_of t, Failure f) ∷ skipped_tasks f ts ++ skipped f l
 raised_step f t ts l =
     ap (λ xs. (number_of t, Failure f) ∷ xs)
     (stores_on (callbacks (errbacks_of t) (id_input (number_of t)) None) (enter (p_steps ts l) (skips f) p_nowhere (number_of t) None)
-    ∙ ap₂ (λ a b. a ++ b) (called_stores (errbacks_of t) (id_input (number_of t)) None) (skipped_so (p_steps ts l) f p_nowhere (number_of t) None ∙ skipped_steps f ts l))
+    ∙ ap₂ (λ a b. a ++ b) (called_stores (errbacks_of t) (id_input (number_of t)) None) (skipped_so (p_steps ts l) f p_nowhere (number_of t) None
+    ∙ skipped_steps f ts l))
 
-pub raised_step_messages : (f : Fault) (t : PTask) (l : PLine) → raised_messages f (p_step t l) ≡ messages_in (callbacks (errbacks_of t) (id_input (number_of t)) None)
+pub raised_step_messages : (f : Fault) (t : PTask) (l : PLine)
+    → raised_messages f (p_step t l) ≡ messages_in (callbacks (errbacks_of t) (id_input (number_of t)) None)
 raised_step_messages f t l =
     messages_on (callbacks (errbacks_of t) (id_input (number_of t)) None) (enter l (skips f) p_nowhere (number_of t) None)
     ∙ ap (λ xs. messages_in (callbacks (errbacks_of t) (id_input (number_of t)) None) ++ xs) (skip_quiet l f p_nowhere (number_of t) None)
@@ -221,7 +231,8 @@ all_started_so [] x p u = refl
 all_started_so (l ∷ ls) x p u =
     messages_on (enter l (run x) p 0 u) (enter_all (p_lines_of ls) (run x) p u) ∙ ap (λ xs. started l x p u ++ xs) (all_started_so ls x p u)
 
-pub started_group : (g : ℕ) (ls : List PLine) (x : Input) (p : PPlace) (u : Option ℕ) → started (p_group_end g (p_lines_of ls)) x p u ≡ all_started ls x (member_place (p_group_end g (p_lines_of ls)) p) u
+pub started_group : (g : ℕ) (ls : List PLine) (x : Input) (p : PPlace) (u : Option ℕ)
+    → started (p_group_end g (p_lines_of ls)) x p u ≡ all_started ls x (member_place (p_group_end g (p_lines_of ls)) p) u
 started_group g ls x p u = all_started_so ls x (p_group g) u
 
 pub started_chord : (g : ℕ) (l : PLine) (ls : List PLine) (body : PLine) (x : Input) (p : PPlace) (u : Option ℕ)

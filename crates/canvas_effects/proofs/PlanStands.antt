@@ -41,7 +41,8 @@ mutual
   line_same c (step t (chord_end g ms b)) = ap₂ (λ a b. 1 + max a b) (task_same 0 t) (greatest_same c (chord_end g ms b))
   line_same c (group_end g ms) = ap (λ n. 1 + n) (members_same 0 ms)
   line_same c (chord_end g ms b) =
-      ap (λ r. 1 + max r (members_reach r (all_bare ms))) (line_same c b) ∙ ap (λ n. 1 + max (tree.reach c (chain (elements_of b))) n) (members_same (tree.reach c (chain (elements_of b))) ms)
+      ap (λ r. 1 + max r (members_reach r (all_bare ms))) (line_same c b)
+      ∙ ap (λ n. 1 + max (tree.reach c (chain (elements_of b))) n) (members_same (tree.reach c (chain (elements_of b))) ms)
 
   greatest_same : (c : ℕ) (l : Line) → greatest_reach c (bare l) ≡ tree.line_reach c (elements_of l)
   greatest_same c stop = refl
@@ -51,7 +52,8 @@ mutual
   greatest_same c (step t (chord_end g ms b)) = ap₂ max (task_same 0 t) (greatest_same c (chord_end g ms b))
   greatest_same c (group_end g ms) = ap (λ n. 1 + n) (members_same 0 ms)
   greatest_same c (chord_end g ms b) =
-      ap (λ r. 1 + max r (members_reach r (all_bare ms))) (line_same c b) ∙ ap (λ n. 1 + max (tree.reach c (chain (elements_of b))) n) (members_same (tree.reach c (chain (elements_of b))) ms)
+      ap (λ r. 1 + max r (members_reach r (all_bare ms))) (line_same c b)
+      ∙ ap (λ n. 1 + max (tree.reach c (chain (elements_of b))) n) (members_same (tree.reach c (chain (elements_of b))) ms)
 
   members_same : (c : ℕ) (ms : Lines) → members_reach c (all_bare ms) ≡ tree.members_reach c (members_of ms)
   members_same c no_lines = refl
@@ -104,7 +106,8 @@ mutual
       all_true (is_task_number k && call_ok call && tasks_ok (bare_tasks ls) && tasks_ok (bare_tasks es)) true
       (all_true (is_task_number k && call_ok call && tasks_ok (bare_tasks ls)) (tasks_ok (bare_tasks es))
       (all_true (is_task_number k && call_ok call) (tasks_ok (bare_tasks ls))
-      (all_true (is_task_number k) (call_ok call) (number_fits k (omega (arith, h.0, from)) (omega (arith, one_span, two_span, up))) (call_is call (call_fits call sound.0 sound.1)))
+      (all_true (is_task_number k) (call_ok call) (number_fits k (omega (arith, h.0, from)) (omega (arith, one_span, two_span, up)))
+      (call_is call (call_fits call sound.0 sound.1)))
       (bare_tasks_ok ls (suc k) middle h.2 (omega arith) (omega (arith, two_span, up)) sound.2))
       (bare_tasks_ok es middle high h.3 (omega (arith, one_span)) up sound.3)) refl
 
@@ -123,22 +126,26 @@ step_holds last t (p_chord_end g ms c) h a b = all_true (task_ok false t) (line_
 
 module _ (table : ℕ → List ℕ) where
   mutual
-    bare_ok : (last : Bool) (l : Line) (low high k g : ℕ) → LineIn table l low high → 1 ≤ low → high ≤ 1025 → number_line k g l ≡ l → 1 ≤ g → g + line_groups l ≤ 1025
+    bare_ok : (last : Bool) (l : Line) (low high k g : ℕ) → LineIn table l low high → 1 ≤ low → high ≤ 1025 → number_line k g l ≡ l → 1 ≤ g
+        → g + line_groups l ≤ 1025
         → AreSound (elements_of l) → IsFull (chain (elements_of l)) → line_ok last (bare l) ≡ true
     bare_ok last stop low high k g h from up same gs room sound full = elim full [ ]
     bare_ok last (step t stop) low high k g h from up same gs room sound full =
         bare_task_ok last t low h.0 h.1 from (omega (arith, h.2, up)) sound.0
     bare_ok last (step t (step u l)) low high k g h from up same gs room sound full =
         let later : number_line (k + count_task t) g (step u l) ≡ step u l = cc in
-        step_holds last (bare_task t) (bare (step u l)) refl (bare_task_ok false t low h.0 h.1 from (omega (arith, line_span table (step u l) h.0 high h.2, up)) sound.0)
+        step_holds last (bare_task t) (bare (step u l)) refl
+        (bare_task_ok false t low h.0 h.1 from (omega (arith, line_span table (step u l) h.0 high h.2, up)) sound.0)
         (bare_ok last (step u l) h.0 high (k + count_task t) g h.2 (omega (arith, task_span t low h.0 h.1, from)) up later gs room sound.1 full.1)
     bare_ok last (step t (group_end j ms)) low high k g h from up same gs room sound full =
         let later : number_line (k + count_task t) g (group_end j ms) ≡ group_end j ms = cc in
-        step_holds last (bare_task t) (bare (group_end j ms)) refl (bare_task_ok false t low h.0 h.1 from (omega (arith, line_span table (group_end j ms) h.0 high h.2, up)) sound.0)
+        step_holds last (bare_task t) (bare (group_end j ms)) refl
+        (bare_task_ok false t low h.0 h.1 from (omega (arith, line_span table (group_end j ms) h.0 high h.2, up)) sound.0)
         (bare_ok last (group_end j ms) h.0 high (k + count_task t) g h.2 (omega (arith, task_span t low h.0 h.1, from)) up later gs room sound.1 full.1)
     bare_ok last (step t (chord_end j ms b)) low high k g h from up same gs room sound full =
         let later : number_line (k + count_task t) g (chord_end j ms b) ≡ chord_end j ms b = cc in
-        step_holds last (bare_task t) (bare (chord_end j ms b)) refl (bare_task_ok false t low h.0 h.1 from (omega (arith, line_span table (chord_end j ms b) h.0 high h.2, up)) sound.0)
+        step_holds last (bare_task t) (bare (chord_end j ms b)) refl
+        (bare_task_ok false t low h.0 h.1 from (omega (arith, line_span table (chord_end j ms b) h.0 high h.2, up)) sound.0)
         (bare_ok last (chord_end j ms b) h.0 high (k + count_task t) g h.2 (omega (arith, task_span t low h.0 h.1, from)) up later gs room sound.1 full.1)
     bare_ok last (group_end j ms) low high k g h from up same gs room sound full =
         let its : g ≡ j = cc in
@@ -156,9 +163,11 @@ module _ (table : ℕ → List ℕ) where
         (all_true (is_task_number j) (nat_le (how_many (all_bare ms)) most_members) (number_fits j (omega (arith, its, gs)) (omega (arith, its, room)))
         (le-leb (how_many (all_bare ms)) most_members (omega (arith, head_span, body_span, from, up))))
         (all_bare_ok ms low h.0 k (g + 1) h.1 from (omega (arith, body_span, up)) inside (omega arith) (omega (arith, room)) sound.0.0 full.0.0))
-        (bare_ok last b h.0 high (k + count_lines ms) (g + 1 + lines_groups ms) h.2 (omega (arith, head_span, from)) up later (omega arith) (omega (arith, room)) sound.0.1 full.0.1)
+        (bare_ok last b h.0 high (k + count_lines ms) (g + 1 + lines_groups ms) h.2 (omega (arith, head_span, from)) up later (omega arith)
+        (omega (arith, room)) sound.0.1 full.0.1)
 
-    all_bare_ok : (ms : Lines) (low high k g : ℕ) → LinesIn table ms low high → 1 ≤ low → high ≤ 1025 → number_lines k g ms ≡ ms → 1 ≤ g → g + lines_groups ms ≤ 1025
+    all_bare_ok : (ms : Lines) (low high k g : ℕ) → LinesIn table ms low high → 1 ≤ low → high ≤ 1025 → number_lines k g ms ≡ ms → 1 ≤ g
+        → g + lines_groups ms ≤ 1025
         → AreSound (members_of ms) → AreFull (members_of ms) → members_ok (all_bare ms) ≡ true
     all_bare_ok no_lines low high k g h from up same gs room sound full = refl
     all_bare_ok (and_line m ms) low high k g h from up same gs room sound full =
@@ -169,7 +178,8 @@ module _ (table : ℕ → List ℕ) where
         (all_true (line_ok false (bare m)) (not (in_group (strip (bare m))))
         (bare_ok false m low h.0 k g h.1 from (omega (arith, span, up)) first gs (omega (arith, room)) sound.0 full.0)
         (ap not (ends_apart false m h.2)))
-        (all_bare_ok ms h.0 high (k + count_line m) (g + line_groups m) h.3 (omega (arith, line_span table m low h.0 h.1, from)) up others (omega (arith, gs)) (omega (arith, room)) sound.1 full.1)
+        (all_bare_ok ms h.0 high (k + count_line m) (g + line_groups m) h.3 (omega (arith, line_span table m low h.0 h.1, from)) up others (omega (arith, gs))
+        (omega (arith, room)) sound.1 full.1)
 
 -- ---- a plan's line
 
@@ -189,7 +199,9 @@ bare_place (step t (chord_end g ms b)) = bare_place (chord_end g ms b)
 bare_place (group_end g ms) = refl
 bare_place (chord_end g ms b) = bare_place b
 
-pub first_is : (l : Line) (v : PLine) (old made : List Content) → v ≡ bare l → old ≡ [] → made ≡ old ++ started v no_input (end_place v) None → in_order (λ m. number_of m.own) made ≡ first_messages l
+pub first_is : (l : Line) (v : PLine) (old made : List Content) → v ≡ bare l → old ≡ [] → made ≡ old ++ started v no_input (end_place v) None
+    → in_order (λ m. number_of m.own) made ≡ first_messages l
 first_is l v old made same none h =
     ap (in_order (λ m. number_of m.own))
-    (h ∙ ap (λ xs. xs ++ started v no_input (end_place v) None) none ∙ ap (λ z. started z no_input (end_place z) None) same ∙ ap (λ q. started (bare l) no_input q None) (bare_place l))
+    (h ∙ ap (λ xs. xs ++ started v no_input (end_place v) None) none ∙ ap (λ z. started z no_input (end_place z) None) same
+    ∙ ap (λ q. started (bare l) no_input q None) (bare_place l))

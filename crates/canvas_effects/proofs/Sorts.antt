@@ -148,4 +148,5 @@ module _ {A : Type 0} (key : A → ℕ) where
   -- a list that stands in the order of its numbers already stays as it is
   pub in_order_stays : (xs : List A) → AllAdjacentBelow (λ x y. true ≡ is_some_and is_le (Some (nat_cmp (key x) (key y)))) xs (length xs) → in_order key xs ≡ xs
   in_order_stays xs h =
-      sym (ordered_by_sort xs xs (IsNonDecreasingBy-from_all_adjacent key xs (λ k d lt. at_most (key (get_or xs k d)) (key (get_or xs (k + 1) d)) (h k d lt))) (λ x. refl))
+      sym (ordered_by_sort xs xs (IsNonDecreasingBy-from_all_adjacent key xs (λ k d lt. at_most (key (get_or xs k d)) (key (get_or xs (k + 1) d)) (h k d lt)))
+      (λ x. refl))

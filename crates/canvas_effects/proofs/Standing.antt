@@ -32,7 +32,8 @@ pub record TaskParts (last : Bool) (k : ℕ) (call : Call) (links errbacks : PTa
   pub caught : tasks_ok errbacks ≡ true
   pub there : place_ok last place ≡ true
 
-pub task_parts : (last : Bool) (k : ℕ) (call : Call) (links errbacks : PTasks) (place : PPlace) → task_ok last (p_task k call links errbacks place) ≡ true → TaskParts last k call links errbacks place
+pub task_parts : (last : Bool) (k : ℕ) (call : Call) (links errbacks : PTasks) (place : PPlace) → task_ok last (p_task k call links errbacks place) ≡ true
+    → TaskParts last k call links errbacks place
 task_parts last k call links errbacks place ok =
     let p = both (is_task_number k && call_ok call && tasks_ok links && tasks_ok errbacks) (place_ok last place) ok in
     let q = both (is_task_number k && call_ok call && tasks_ok links) (tasks_ok errbacks) p.0 in
@@ -40,7 +41,8 @@ task_parts last k call links errbacks place ok =
     let s = both (is_task_number k) (call_ok call) r.0 in
     record { numbered = s.0; called = s.1; linked = r.1; caught = q.1; there = p.1 }
 
-task_whole : (last : Bool) (k : ℕ) (call : Call) (links errbacks : PTasks) (place : PPlace) → TaskParts last k call links errbacks place → task_ok last (p_task k call links errbacks place) ≡ true
+task_whole : (last : Bool) (k : ℕ) (call : Call) (links errbacks : PTasks) (place : PPlace) → TaskParts last k call links errbacks place
+    → task_ok last (p_task k call links errbacks place) ≡ true
 task_whole last k call links errbacks place h =
     all_true (is_task_number k && call_ok call && tasks_ok links && tasks_ok errbacks) (place_ok last place)
     (all_true (is_task_number k && call_ok call && tasks_ok links) (tasks_ok errbacks)
@@ -48,7 +50,8 @@ task_whole last k call links errbacks place h =
 
 -- ---- a task with an input
 
-list_given : (immutable : Bool) (args : List Arg) (a : Arg) → arg_ok a ≡ true → list_all arg_ok args ≡ true → list_all arg_ok (if immutable then args else a ∷ args) ≡ true
+list_given : (immutable : Bool) (args : List Arg) (a : Arg) → arg_ok a ≡ true → list_all arg_ok args ≡ true
+    → list_all arg_ok (if immutable then args else a ∷ args) ≡ true
 list_given true args a h ok = ok
 list_given false args a h ok = all_true (arg_ok a) (list_all arg_ok args) h ok
 
@@ -84,16 +87,20 @@ begun t x = p_task (number_of t) (given (call_of t) x) (links_of t) (errbacks_of
 begun_ok : (last : Bool) (t : PTask) (x : Input) → input_ok x ≡ true → task_ok last t ≡ true → task_ok last (begun t x) ≡ true
 begun_ok last (p_task k call links errbacks place) x h ok =
     let p = task_parts last k call links errbacks place ok in
-    task_whole last k (given call x) links errbacks place (record { numbered = p.numbered; called = given_ok call x h p.called; linked = p.linked; caught = p.caught; there = p.there })
+    task_whole last k (given call x) links errbacks place
+    (record { numbered = p.numbered; called = given_ok call x h p.called; linked = p.linked; caught = p.caught; there = p.there })
 
 begun_line : (t : PTask) (l : PLine) (x : Input) → input_ok x ≡ true → line_ok true (p_step t l) ≡ true → line_ok true (p_step (begun t x) l) ≡ true
 begun_line t p_stop x h ok = begun_ok true t x h ok
 begun_line t (p_step u l) x h ok =
-    let p = both (task_ok false t) (line_ok true (p_step u l)) ok in all_true (task_ok false (begun t x)) (line_ok true (p_step u l)) (begun_ok false t x h p.0) p.1
+    let p = both (task_ok false t) (line_ok true (p_step u l)) ok in
+    all_true (task_ok false (begun t x)) (line_ok true (p_step u l)) (begun_ok false t x h p.0) p.1
 begun_line t (p_group_end g ms) x h ok =
-    let p = both (task_ok false t) (line_ok true (p_group_end g ms)) ok in all_true (task_ok false (begun t x)) (line_ok true (p_group_end g ms)) (begun_ok false t x h p.0) p.1
+    let p = both (task_ok false t) (line_ok true (p_group_end g ms)) ok in
+    all_true (task_ok false (begun t x)) (line_ok true (p_group_end g ms)) (begun_ok false t x h p.0) p.1
 begun_line t (p_chord_end g ms b) x h ok =
-    let p = both (task_ok false t) (line_ok true (p_chord_end g ms b)) ok in all_true (task_ok false (begun t x)) (line_ok true (p_chord_end g ms b)) (begun_ok false t x h p.0) p.1
+    let p = both (task_ok false t) (line_ok true (p_chord_end g ms b)) ok in
+    all_true (task_ok false (begun t x)) (line_ok true (p_chord_end g ms b)) (begun_ok false t x h p.0) p.1
 
 begun_reach : (t : PTask) (x : Input) → task_reach 0 (begun t x) ≡ task_reach 0 t
 begun_reach (p_task k call links errbacks place) x = refl
@@ -105,12 +112,14 @@ line_begun t (p_group_end g ms) x = ap (λ r. 1 + max r (greatest_reach 0 (p_gro
 line_begun t (p_chord_end g ms b) x = ap (λ r. 1 + max r (greatest_reach 0 (p_chord_end g ms b))) (begun_reach t x)
 
 -- a line that can stand in a message can be its line
-pub message_fits : (u : Option ℕ) (t : PTask) (x : Input) (l : PLine) → parent_ok u ≡ true → input_ok x ≡ true → is_whole (p_step t l) ≡ true → fits (message u t x l) ≡ true
+pub message_fits : (u : Option ℕ) (t : PTask) (x : Input) (l : PLine) → parent_ok u ≡ true → input_ok x ≡ true → is_whole (p_step t l) ≡ true
+    → fits (message u t x l) ≡ true
 message_fits u t x l hu hx ok =
     let p = both (line_ok true (p_step t l)) (nat_le (line_reach 0 (p_step t l)) 32) ok in
     let after : PLine = p_step (begun t x) l in
     all_true (parent_ok (parent_for u x) && true && line_ok true after) (nat_le (line_reach 0 after) 32)
-    (all_true (parent_ok (parent_for u x) && true) (line_ok true after) (all_true (parent_ok (parent_for u x)) true (parent_given u x hu hx) refl) (begun_line t l x hx p.0))
+    (all_true (parent_ok (parent_for u x) && true) (line_ok true after) (all_true (parent_ok (parent_for u x)) true (parent_given u x hu hx) refl)
+    (begun_line t l x hx p.0))
     (le-leb (line_reach 0 after) 32 (omega (arith, leb-true (line_reach 0 (p_step t l)) 32 p.1, line_begun t l x)))
 
 -- ---- callbacks
@@ -127,7 +136,8 @@ place_true false p h = ap (place_ok true) (no_place p h)
 task_true : (last : Bool) (t : PTask) → task_ok last t ≡ true → task_ok true t ≡ true
 task_true last (p_task k call links errbacks place) ok =
     let p = task_parts last k call links errbacks place ok in
-    task_whole true k call links errbacks place (record { numbered = p.numbered; called = p.called; linked = p.linked; caught = p.caught; there = place_true last place p.there })
+    task_whole true k call links errbacks place
+    (record { numbered = p.numbered; called = p.called; linked = p.linked; caught = p.caught; there = place_true last place p.there })
 
 -- one of them, and the others
 pub record Called (t : PTask) (ts : PTasks) : Type 0 where
@@ -154,7 +164,8 @@ mutual
       let p = both (task_ok false t) (line_ok false (p_step u l)) ok in all_true (task_ok false t) (line_ok true (p_step u l)) p.0 (line_true (p_step u l) p.1)
   line_true (p_step t (p_group_end g ms)) ok = ok
   line_true (p_step t (p_chord_end g ms b)) ok =
-      let p = both (task_ok false t) (line_ok false (p_chord_end g ms b)) ok in all_true (task_ok false t) (line_ok true (p_chord_end g ms b)) p.0 (line_true (p_chord_end g ms b) p.1)
+      let p = both (task_ok false t) (line_ok false (p_chord_end g ms b)) ok in
+      all_true (task_ok false t) (line_ok true (p_chord_end g ms b)) p.0 (line_true (p_chord_end g ms b) p.1)
   line_true (p_group_end g ms) ok = ok
   line_true (p_chord_end g ms b) ok =
       let head : Bool = is_task_number g && nat_le (how_many ms) most_members && members_ok ms in
@@ -187,7 +198,8 @@ step_is last t (p_chord_end g ms b) h = refl
 pub step_at : (p : PPlace) (t : PTask) (l : PLine) → is_stop l ≡ false → placed p (p_step t l) ≡ p_step t (placed p l)
 step_at p t l h = ap (λ u. p_step u (placed p l)) (same_at p t l h)
 
-step_placed_ok : (p : PPlace) (t : PTask) (l : PLine) → is_stop l ≡ false → line_ok true (p_step t l) ≡ true → line_ok true (placed p l) ≡ true → line_ok true (placed p (p_step t l)) ≡ true
+step_placed_ok : (p : PPlace) (t : PTask) (l : PLine) → is_stop l ≡ false → line_ok true (p_step t l) ≡ true → line_ok true (placed p l) ≡ true
+    → line_ok true (placed p (p_step t l)) ≡ true
 step_placed_ok p t l h ok more =
     let q = both (task_ok false t) (line_ok true l) (sym (step_is true t l h) ∙ ok) in
     ap (line_ok true) (step_at p t l h) ∙ step_is true t (placed p l) (keeps_on p l h) ∙ all_true (task_ok false t) (line_ok true (placed p l)) q.0 more
@@ -316,11 +328,14 @@ stepped_by last (p_task k call links errbacks place) ok near =
 pub first_stepped : (t : PTask) (l : PLine) → is_whole (p_step t l) ≡ true → Stepped t
 first_stepped t p_stop h = stepped_by true t (whole_ok (p_step t p_stop) h) (whole_near (p_step t p_stop) h)
 first_stepped t (p_step u l) h =
-    stepped_by false t (both (task_ok false t) (line_ok true (p_step u l)) (whole_ok (p_step t (p_step u l)) h)).0 (omega (arith, whole_near (p_step t (p_step u l)) h))
+    stepped_by false t (both (task_ok false t) (line_ok true (p_step u l)) (whole_ok (p_step t (p_step u l)) h)).0
+    (omega (arith, whole_near (p_step t (p_step u l)) h))
 first_stepped t (p_group_end g ms) h =
-    stepped_by false t (both (task_ok false t) (line_ok true (p_group_end g ms)) (whole_ok (p_step t (p_group_end g ms)) h)).0 (omega (arith, whole_near (p_step t (p_group_end g ms)) h))
+    stepped_by false t (both (task_ok false t) (line_ok true (p_group_end g ms)) (whole_ok (p_step t (p_group_end g ms)) h)).0
+    (omega (arith, whole_near (p_step t (p_group_end g ms)) h))
 first_stepped t (p_chord_end g ms b) h =
-    stepped_by false t (both (task_ok false t) (line_ok true (p_chord_end g ms b)) (whole_ok (p_step t (p_chord_end g ms b)) h)).0 (omega (arith, whole_near (p_step t (p_chord_end g ms b)) h))
+    stepped_by false t (both (task_ok false t) (line_ok true (p_chord_end g ms b)) (whole_ok (p_step t (p_chord_end g ms b)) h)).0
+    (omega (arith, whole_near (p_step t (p_chord_end g ms b)) h))
 
 -- the place of a last task without a rest
 place_by : (last : Bool) (t : PTask) → task_ok last t ≡ true → task_reach 0 t ≤ 32 → place_stands (place_of t) ≡ true
@@ -340,7 +355,8 @@ behind t (p_chord_end g ms b) h = omega arith
 
 pub rest_whole : (t : PTask) (l : PLine) → is_stop l ≡ false → is_whole (p_step t l) ≡ true → is_whole l ≡ true
 rest_whole t l h ok =
-    whole_by l (both (task_ok false t) (line_ok true l) (sym (step_is true t l h) ∙ whole_ok (p_step t l) ok)).1 (omega (arith, whole_near (p_step t l) ok, behind t l h))
+    whole_by l (both (task_ok false t) (line_ok true l) (sym (step_is true t l h) ∙ whole_ok (p_step t l) ok)).1
+    (omega (arith, whole_near (p_step t l) ok, behind t l h))
 
 pub record Chord (g : ℕ) (ms : PLines) (b : PLine) : Type 0 where
   pub numbered : is_task_number g ≡ true
@@ -394,24 +410,28 @@ members_whole c (m ∷ ms) ok near =
 
 pub group_whole : (g : ℕ) (ls : List PLine) → is_whole (p_group_end g (p_lines_of ls)) ≡ true → AllWhole ls
 group_whole g ls h =
-    members_whole 0 ls (both (is_task_number g) (members_ok (p_lines_of ls)) (whole_ok (p_group_end g (p_lines_of ls)) h)).1 (omega (arith, whole_near (p_group_end g (p_lines_of ls)) h))
+    members_whole 0 ls (both (is_task_number g) (members_ok (p_lines_of ls)) (whole_ok (p_group_end g (p_lines_of ls)) h)).1
+    (omega (arith, whole_near (p_group_end g (p_lines_of ls)) h))
 
 pub header_whole : (g : ℕ) (ls : List PLine) (b : PLine) → is_whole (p_chord_end g (p_lines_of ls) b) ≡ true → AllWhole ls
 header_whole g ls b h =
-    members_whole (line_reach 0 b) ls (chord_parts g (p_lines_of ls) b (whole_ok (p_chord_end g (p_lines_of ls) b) h)).members (omega (arith, whole_near (p_chord_end g (p_lines_of ls) b) h))
+    members_whole (line_reach 0 b) ls (chord_parts g (p_lines_of ls) b (whole_ok (p_chord_end g (p_lines_of ls) b) h)).members
+    (omega (arith, whole_near (p_chord_end g (p_lines_of ls) b) h))
 
 -- and where its end goes to the place of the whole
 standing : (p : PPlace) (m : PLine) → place_ok true p ≡ true → line_ok false m ≡ true → line_reach (place_reach p) m ≤ 32 → stands m p ≡ true
 standing p m there ok near = whole_by (placed p m) (placed_ok p m there (line_true m ok)) (omega (arith, near, placed_reach p m))
 
-members_stand_by : (p : PPlace) (ls : List PLine) → place_ok true p ≡ true → members_ok (p_lines_of ls) ≡ true → members_reach (place_reach p) (p_lines_of ls) ≤ 32 → AllStand p ls
+members_stand_by : (p : PPlace) (ls : List PLine) → place_ok true p ≡ true → members_ok (p_lines_of ls) ≡ true
+    → members_reach (place_reach p) (p_lines_of ls) ≤ 32 → AllStand p ls
 members_stand_by p [] there ok near = tt
 members_stand_by p (m ∷ ms) there ok near = (
   standing p m there (member_first m (p_lines_of ms) ok).ok (omega (arith, near)),
   members_stand_by p ms there (member_others m (p_lines_of ms) ok) (omega (arith, near)),
 )
 
-pub group_stands : (g : ℕ) (ls : List PLine) (p : PPlace) → stands (p_group_end g (p_lines_of ls)) p ≡ true → AllStand (member_place (p_group_end g (p_lines_of ls)) p) ls
+pub group_stands : (g : ℕ) (ls : List PLine) (p : PPlace) → stands (p_group_end g (p_lines_of ls)) p ≡ true
+    → AllStand (member_place (p_group_end g (p_lines_of ls)) p) ls
 group_stands g ls p h =
     let q = both (is_task_number g) (members_ok (p_lines_of ls)) (whole_ok (p_group_end g (p_lines_of ls)) h) in
     members_stand_by (p_group g) ls q.0 q.1 (omega (arith, whole_near (p_group_end g (p_lines_of ls)) h))
@@ -421,9 +441,11 @@ pub header_stands : (g : ℕ) (l : PLine) (ls : List PLine) (b : PLine) (p : PPl
 header_stands g l ls b p h =
     let ms : PLines = p_lines_of (l ∷ ls) in
     let q = chord_parts g ms (placed p b) (whole_ok (p_chord_end g ms (placed p b)) h) in
-    let sized : size_ok (how_many ms) ≡ true = all_true (nat_lt 0 (how_many ms)) (nat_le (how_many ms) most_members) (lt-ltb 0 (how_many ms) (omega arith)) q.few in
+    let sized : size_ok (how_many ms) ≡ true =
+    all_true (nat_lt 0 (how_many ms)) (nat_le (how_many ms) most_members) (lt-ltb 0 (how_many ms) (omega arith)) q.few in
     let there : place_ok true (p_chord g (how_many ms) (placed p b)) ≡ true =
-    all_true (is_task_number g && size_ok (how_many ms)) (line_ok true (placed p b)) (all_true (is_task_number g) (size_ok (how_many ms)) q.numbered sized) q.body in
+    all_true (is_task_number g && size_ok (how_many ms)) (line_ok true (placed p b))
+    (all_true (is_task_number g) (size_ok (how_many ms)) q.numbered sized) q.body in
     members_stand_by (p_chord g (how_many ms) (placed p b)) (l ∷ ls) there q.members (omega (arith, whole_near (p_chord_end g ms (placed p b)) h))
 
 pub body_stands : (g : ℕ) (ms : PLines) (b : PLine) (p : PPlace) → stands (p_chord_end g ms b) p ≡ true → stands b p ≡ true
@@ -438,7 +460,8 @@ as_it_stands p_stop = refl
 as_it_stands (p_step (p_task k call links errbacks place) p_stop) = refl
 as_it_stands (p_step (p_task k call links errbacks place) (p_step u l)) = ap (p_step (p_task k call links errbacks place)) (as_it_stands (p_step u l))
 as_it_stands (p_step (p_task k call links errbacks place) (p_group_end g ms)) = refl
-as_it_stands (p_step (p_task k call links errbacks place) (p_chord_end g ms b)) = ap (p_step (p_task k call links errbacks place)) (as_it_stands (p_chord_end g ms b))
+as_it_stands (p_step (p_task k call links errbacks place) (p_chord_end g ms b)) =
+    ap (p_step (p_task k call links errbacks place)) (as_it_stands (p_chord_end g ms b))
 as_it_stands (p_group_end g ms) = refl
 as_it_stands (p_chord_end g ms b) = ap (p_chord_end g ms) (as_it_stands b)
 

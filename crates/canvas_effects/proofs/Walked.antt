@@ -37,11 +37,14 @@ pub skipped_line : (f : Fault) (l : FrozenLine) (ts : List FrozenTask) → ts �
     → skipped f (p_steps (map p_task_view ts) (tail_seen (out-FrozenLine l).tail)) ≡ skipped f (p_line_view l)
 skipped_line f l ts same = ap (λ xs. skipped f (p_steps (map p_task_view xs) (tail_seen (out-FrozenLine l).tail))) same ∙ sym (ap (skipped f) (line_parts l))
 
-pub skipped_rest_none : (f : Fault) (ts : List FrozenTask) (o : Option (Box FrozenEnd Global)) → o ≡ None → skipped f (p_steps (map p_task_view ts) (tail_seen o)) ≡ skipped_tasks f (map p_task_view ts)
+pub skipped_rest_none : (f : Fault) (ts : List FrozenTask) (o : Option (Box FrozenEnd Global)) → o ≡ None
+    → skipped f (p_steps (map p_task_view ts) (tail_seen o)) ≡ skipped_tasks f (map p_task_view ts)
 skipped_rest_none f ts o none =
-    ap (λ x. skipped f (p_steps (map p_task_view ts) (tail_seen x))) none ∙ skipped_steps f (map p_task_view ts) p_stop ∙ append-nil (skipped_tasks f (map p_task_view ts))
+    ap (λ x. skipped f (p_steps (map p_task_view ts) (tail_seen x))) none ∙ skipped_steps f (map p_task_view ts) p_stop
+    ∙ append-nil (skipped_tasks f (map p_task_view ts))
 
-pub skipped_rest_some : (f : Fault) (ts : List FrozenTask) (o : Option (Box FrozenEnd Global)) (b : Box FrozenEnd Global) → o ≡ Some b → (e : FrozenEnd) → e ≡ b.value
+pub skipped_rest_some : (f : Fault) (ts : List FrozenTask) (o : Option (Box FrozenEnd Global)) (b : Box FrozenEnd Global) → o ≡ Some b → (e : FrozenEnd)
+    → e ≡ b.value
     → skipped f (p_steps (map p_task_view ts) (tail_seen o)) ≡ skipped_tasks f (map p_task_view ts) ++ skipped f (p_end_view e)
 skipped_rest_some f ts o b some e there =
     ap (λ x. skipped f (p_steps (map p_task_view ts) x)) (tail_is o b e some there) ∙ skipped_steps f (map p_task_view ts) (p_end_view e)
@@ -49,7 +52,8 @@ skipped_rest_some f ts o b some e there =
 pub skipped_end_none : (f : Fault) (t : FrozenEnd) → (out-FrozenEnd t).body ≡ None → (ls : List FrozenLine) → ls ≡ (out-FrozenEnd t).members
     → skipped f (p_end_view t) ≡ all_skipped f (map p_line_view ls)
 skipped_end_none f t none ls same =
-    ap (skipped f) (end_none t none) ∙ skipped_group f (out-FrozenEnd t).group (map p_line_view (out-FrozenEnd t).members) ∙ ap (λ xs. all_skipped f (map p_line_view xs)) (sym same)
+    ap (skipped f) (end_none t none) ∙ skipped_group f (out-FrozenEnd t).group (map p_line_view (out-FrozenEnd t).members)
+    ∙ ap (λ xs. all_skipped f (map p_line_view xs)) (sym same)
 
 pub skipped_end_some : (f : Fault) (t : FrozenEnd) (b : FrozenLine) → (out-FrozenEnd t).body ≡ Some b → (ls : List FrozenLine) → ls ≡ (out-FrozenEnd t).members
     → skipped f (p_end_view t) ≡ all_skipped f (map p_line_view ls) ++ skipped f (p_line_view b)
@@ -68,17 +72,20 @@ last_steps (t ∷ ts) l h = step_last t (p_steps ts l) (never_stops ts l h) ∙ 
   step_last t (p_group_end g ms) h = refl
   step_last t (p_chord_end g ms b) h = refl
 
-pub last_some : (l : FrozenLine) (b : Box FrozenEnd Global) → (out-FrozenLine l).tail ≡ Some b → (e : FrozenEnd) → e ≡ b.value → last_of (p_end_view e) ≡ last_of (p_line_view l)
+pub last_some : (l : FrozenLine) (b : Box FrozenEnd Global) → (out-FrozenLine l).tail ≡ Some b → (e : FrozenEnd) → e ≡ b.value
+    → last_of (p_end_view e) ≡ last_of (p_line_view l)
 last_some l b some e there =
     ap (λ x. last_of (p_end_view x)) there
     ∙ sym (ap last_of (line_some l b some) ∙ last_steps (map p_task_view (out-FrozenLine l).tasks) (p_end_view b.value) (end_stands b.value))
 
-pub last_there : (l : FrozenLine) → (out-FrozenLine l).tail ≡ None → (all others : List FrozenTask) (t : FrozenTask) → all ≡ (out-FrozenLine l).tasks → all ≡ others ++ t ∷ []
+pub last_there : (l : FrozenLine) → (out-FrozenLine l).tail ≡ None → (all others : List FrozenTask) (t : FrozenTask) → all ≡ (out-FrozenLine l).tasks
+    → all ≡ others ++ t ∷ []
     → Some (p_task_view t) ≡ last_of (p_line_view l)
 last_there l none all others t same split =
     sym (ap last_of (line_last l none others t (sym same ∙ split)) ∙ last_steps (map p_task_view others) (p_step (p_task_view t) p_stop) refl)
 
-pub last_never : (l : FrozenLine) → (out-FrozenLine l).tail ≡ None → (all : List FrozenTask) → all ≡ (out-FrozenLine l).tasks → length all ≡ 0 → None ≡ last_of (p_line_view l)
+pub last_never : (l : FrozenLine) → (out-FrozenLine l).tail ≡ None → (all : List FrozenTask) → all ≡ (out-FrozenLine l).tasks → length all ≡ 0
+    → None ≡ last_of (p_line_view l)
 last_never l none all same few = sym (ap last_of (line_empty l none all same few))
 
 pub last_end_none : (t : FrozenEnd) → (out-FrozenEnd t).body ≡ None → None ≡ last_of (p_end_view t)
@@ -103,7 +110,8 @@ never_last last p_stop ok grouped h = cc
 never_last last (p_step t p_stop) ok grouped h = cc
 never_last last (p_step t (p_step u l)) ok grouped h = never_last last (p_step u l) (both (task_ok false t) (line_ok last (p_step u l)) ok).1 grouped h
 never_last last (p_step t (p_group_end g ms)) ok grouped h = cc
-never_last last (p_step t (p_chord_end g ms b)) ok grouped h = never_last last (p_chord_end g ms b) (both (task_ok false t) (line_ok last (p_chord_end g ms b)) ok).1 grouped h
+never_last last (p_step t (p_chord_end g ms b)) ok grouped h =
+    never_last last (p_chord_end g ms b) (both (task_ok false t) (line_ok last (p_chord_end g ms b)) ok).1 grouped h
 never_last last (p_group_end g ms) ok grouped h = cc
 never_last last (p_chord_end g ms b) ok grouped h = never_last last b (both _ (line_ok last b) ok).1 grouped h
 
@@ -117,10 +125,12 @@ steps_begin : (ts : List FrozenTask) (l : PLine) → begins_with_task l ≡ fals
 steps_begin [] l h = sym h
 steps_begin (t ∷ ts) l h = ap not (ne_eqb (suc (length ts)) 0 (λ e. absurd cc))
 
-begins_by : (l : FrozenLine) (o : Option (Box FrozenEnd Global)) → (out-FrozenLine l).tail ≡ o → not (length (out-FrozenLine l).tasks == 0) ≡ begins_with_task (p_line_view l)
+begins_by : (l : FrozenLine) (o : Option (Box FrozenEnd Global)) → (out-FrozenLine l).tail ≡ o
+    → not (length (out-FrozenLine l).tasks == 0) ≡ begins_with_task (p_line_view l)
 begins_by l None e = steps_begin (out-FrozenLine l).tasks p_stop refl ∙ sym (ap begins_with_task (line_none l e))
 begins_by l (Some b) e =
-    steps_begin (out-FrozenLine l).tasks (p_end_view b.value) (end_begins b.value (out-FrozenEnd b.value).body refl) ∙ sym (ap begins_with_task (line_some l b e))
+    steps_begin (out-FrozenLine l).tasks (p_end_view b.value) (end_begins b.value (out-FrozenEnd b.value).body refl)
+    ∙ sym (ap begins_with_task (line_some l b e))
 
 pub begins_seen : (l : FrozenLine) → not (length (out-FrozenLine l).tasks == 0) ≡ begins_with_task (p_line_view l)
 begins_seen l = begins_by l (out-FrozenLine l).tail refl

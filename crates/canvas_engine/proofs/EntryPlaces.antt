@@ -8,17 +8,20 @@ use Rattle.canvas_runs.specs.Spending.{Entry, is_for, has, without}
 use Rattle.canvas_runs.specs.declared.when.When.{When}
 
 module _ (k : ℕ) (w : When) where
-  pub none_more : (es : List Entry) (i : ℕ) (e : Entry) → slice_get es i ≡ Some e → has k w (take i es) ≡ false → is_for k w e ≡ false → has k w (take (suc i) es) ≡ false
+  pub none_more : (es : List Entry) (i : ℕ) (e : Entry) → slice_get es i ≡ Some e → has k w (take i es) ≡ false → is_for k w e ≡ false
+      → has k w (take (suc i) es) ≡ false
   none_more [] zero e at before here = refl
   none_more [] (suc i) e at before here = refl
   none_more (d ∷ es) zero e at before here = let same : d ≡ e = cc in ap (λ x. is_for k w x || false) same ∙ ap (λ b. b || false) here
   none_more (d ∷ es) (suc i) e at before here = go (is_for k w d) (λ h. none_more es i e at h here) before
     where
-      go : (b : Bool) → (has k w (take i es) ≡ false → has k w (take (suc i) es) ≡ false) → (b || has k w (take i es)) ≡ false → (b || has k w (take (suc i) es)) ≡ false
+      go : (b : Bool) → (has k w (take i es) ≡ false → has k w (take (suc i) es) ≡ false) → (b || has k w (take i es)) ≡ false
+          → (b || has k w (take (suc i) es)) ≡ false
       go true f h = absurd (false≢true (sym h))
       go false f h = f h
 
-  pub is_first : (es : List Entry) (i : ℕ) (e : Entry) → slice_get es i ≡ Some e → has k w (take i es) ≡ false → is_for k w e ≡ true → (has k w es ≡ true) × (remove es i ≡ without k w es)
+  pub is_first : (es : List Entry) (i : ℕ) (e : Entry) → slice_get es i ≡ Some e → has k w (take i es) ≡ false → is_for k w e ≡ true
+      → (has k w es ≡ true) × (remove es i ≡ without k w es)
   is_first [] zero e at before here = absurd cc
   is_first [] (suc i) e at before here = absurd cc
   is_first (d ∷ es) zero e at before here =

@@ -37,11 +37,14 @@ module _ (behaviour : Behaviour) (l : Line) (table : Log) where
   sent_in [] f = record { sent = []; all = refl; many = λ k. refl; caused = tt }
   sent_in (split p q ∷ es) f = let s = sent_in es (λ c e a i. f c e a (inr i)) in record { sent = s.sent; all = s.all; many = s.many; caused = s.caused }
   sent_in (join p q ∷ es) f = let s = sent_in es (λ c e a i. f c e a (inr i)) in record { sent = s.sent; all = s.all; many = s.many; caused = s.caused }
-  sent_in (calls p take None ∷ es) f = let s = sent_in es (λ c e a i. f c e a (inr i)) in record { sent = s.sent; all = s.all; many = s.many; caused = s.caused }
+  sent_in (calls p take None ∷ es) f = let s = sent_in es (λ c e a i. f c e a (inr i)) in
+      record { sent = s.sent; all = s.all; many = s.many; caused = s.caused }
   sent_in (calls p take (Some x) ∷ es) f =
-      let s = sent_in es (λ c e a i. f c e a (inr i)) in record { sent = s.sent; all = s.all; many = λ k. s.many k ∙ none_more (publishes l k es); caused = s.caused }
+      let s = sent_in es (λ c e a i. f c e a (inr i)) in
+      record { sent = s.sent; all = s.all; many = λ k. s.many k ∙ none_more (publishes l k es); caused = s.caused }
   sent_in (calls p (redeliver x) r ∷ es) f =
-      let s = sent_in es (λ c e a i. f c e a (inr i)) in record { sent = s.sent; all = s.all; many = λ k. s.many k ∙ none_more (publishes l k es); caused = s.caused }
+      let s = sent_in es (λ c e a i. f c e a (inr i)) in
+      record { sent = s.sent; all = s.all; many = λ k. s.many k ∙ none_more (publishes l k es); caused = s.caused }
   sent_in (calls p (publish e) a ∷ es) f =
       let s = sent_in es (λ c e a i. f c e a (inr i)) in
       let h = f p e a (inl refl) in
@@ -70,6 +73,7 @@ headline behaviour l n rows r h =
       caused = s.caused;
     }
 
-pub headline_ok : {E : Type 0} (behaviour : Behaviour) (l : Line) (n : ℕ) (x : Result (Report × Records) E) → IfOk x (λ r. IsRun behaviour l n r.0.rows r.1) → IfOk x (λ r. Headline behaviour l n r.0.rows r.1)
+pub headline_ok : {E : Type 0} (behaviour : Behaviour) (l : Line) (n : ℕ) (x : Result (Report × Records) E) → IfOk x (λ r. IsRun behaviour l n r.0.rows r.1)
+    → IfOk x (λ r. Headline behaviour l n r.0.rows r.1)
 headline_ok behaviour l n (Ok r) h = headline behaviour l n r.0.rows r.1 h
 headline_ok behaviour l n (Err e) h = tt

@@ -13,13 +13,15 @@ use Rattle.canvas_engine.specs.steps.Stages.{ReadsAs}
 of_texts : Text → Text → Text → Envelope
 of_texts p h b = record { properties = p; headers = h; body = b }
 
-is_sealed : (e : Envelope) (m : Content) → e.properties ≡ compact_text (properties_wire m) → e.headers ≡ compact_text (headers_wire m) → e.body ≡ compact_text (body_wire m) → e ≡ sealed m
+is_sealed : (e : Envelope) (m : Content) → e.properties ≡ compact_text (properties_wire m) → e.headers ≡ compact_text (headers_wire m)
+    → e.body ≡ compact_text (body_wire m) → e ≡ sealed m
 unfolding of_texts
 is_sealed e m p h b =
     ap (λ t. of_texts t e.headers e.body) p ∙ ap (λ t. of_texts (compact_text (properties_wire m)) t e.body) h
     ∙ ap (λ t. of_texts (compact_text (properties_wire m)) (compact_text (headers_wire m)) t) b
 
 -- an envelope of a message's texts reads back as the message
-pub reads_as : (e : Envelope) (m : Content) → e.properties ≡ compact_text (properties_wire m) → e.headers ≡ compact_text (headers_wire m) → e.body ≡ compact_text (body_wire m)
+pub reads_as : (e : Envelope) (m : Content) → e.properties ≡ compact_text (properties_wire m) → e.headers ≡ compact_text (headers_wire m)
+    → e.body ≡ compact_text (body_wire m)
     → Says e.properties e.headers e.body m → ReadsAs m
 reads_as e m p h b says = ap read_envelope (sym (is_sealed e m p h b)) ∙ says_reading e.properties e.headers e.body m says

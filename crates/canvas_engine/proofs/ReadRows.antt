@@ -14,7 +14,8 @@ outcomes_more f k (suc n) =
     ap (λ r. f k ∷ r) (outcomes_more f (suc k) n) ∙ ap (λ m. f k ∷ (map f (numbers_from (suc k) n) ++ f m ∷ [])) same
 
 -- one more row is filled
-pub row_more : (results : Results) (rows : List State) (i : ℕ) (s : State) → i < length rows → s ≡ results.outcomes (i + 1) → take i rows ≡ rows_of i results → take (i + 1) (set rows i s) ≡ rows_of (i + 1) results
+pub row_more : (results : Results) (rows : List State) (i : ℕ) (s : State) → i < length rows → s ≡ results.outcomes (i + 1) → take i rows ≡ rows_of i results
+    → take (i + 1) (set rows i s) ≡ rows_of (i + 1) results
 row_more results rows i s h is so_far =
     let same : i + 1 ≡ 1 + i = omega arith in
     ap (λ n. take n (set rows i s)) (add-one i)

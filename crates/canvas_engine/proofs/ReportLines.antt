@@ -12,7 +12,8 @@ use Rattle.canvas_rewrite.proofs.Members.{in_group_tree}
 use Rattle.canvas_engine.specs.steps.ReportRows.{line_if, listed_behind}
 
 -- the line of the task at place i, and of those behind it
-pub further : (ns : List Text) (i k : ℕ) (rows : Rows) → line_if (k + i) (slice_get ns i) rows ++ lines (counted_from (k + suc i) (drop (suc i) ns)) rows ≡ lines (counted_from (k + i) (drop i ns)) rows
+pub further : (ns : List Text) (i k : ℕ) (rows : Rows) → line_if (k + i) (slice_get ns i) rows ++ lines (counted_from (k + suc i) (drop (suc i) ns)) rows
+    ≡ lines (counted_from (k + i) (drop i ns)) rows
 further [] zero k rows = refl
 further [] (suc i) k rows = refl
 further (n ∷ ns) zero k rows = ap (λ m. report_line (k + 0, n) (state_of (k + 0) rows) ++ lines (counted_from m ns) rows) (omega arith)
@@ -39,7 +40,8 @@ one_more ns i rows before after all e so_far =
     ∙ so_far
 
 -- at the end nothing is left to write
-pub all_written : (ns : List Text) (n : ℕ) (rows : Rows) (before all : Text) → length ns ≡ n → before ++ lines (counted_from (1 + n) (drop n ns)) rows ≡ all → before ≡ all
+pub all_written : (ns : List Text) (n : ℕ) (rows : Rows) (before all : Text) → length ns ≡ n → before ++ lines (counted_from (1 + n) (drop n ns)) rows ≡ all
+    → before ≡ all
 all_written ns n rows before all long so_far =
     let none : drop n ns ≡ [] = drop_all n ns (omega (arith, long)) in
     sym (append-nil before) ∙ ap (λ xs. before ++ lines (counted_from (1 + n) xs) rows) (sym none) ∙ so_far

@@ -22,10 +22,13 @@ pub on_ok : {X E : Type 0} (r : Result X E) (P : Type 0) → P → OnOk r P
 on_ok (Ok x) P h = h
 on_ok (Err e) P h = tt
 
-pub same_states : (behaviour : Behaviour) → (c : Tree) (all : Line) → IsSame (normal c) c → tree_of all ≡ numbered (normal c) → states behaviour (tree_of all) ≡ states behaviour (numbered c)
-same_states behaviour c all h e = ap (states behaviour) e ∙ states_listed behaviour (normal c) ∙ ap (λ m. states_in m.rows) (h.means behaviour nothing) ∙ sym (states_listed behaviour c)
+pub same_states : (behaviour : Behaviour) → (c : Tree) (all : Line) → IsSame (normal c) c → tree_of all ≡ numbered (normal c)
+    → states behaviour (tree_of all) ≡ states behaviour (numbered c)
+same_states behaviour c all h e = ap (states behaviour) e ∙ states_listed behaviour (normal c) ∙ ap (λ m. states_in m.rows) (h.means behaviour nothing)
+    ∙ sym (states_listed behaviour c)
 
-pub same_text : (behaviour : Behaviour) → (c : Tree) (all : Line) → IsSame (normal c) c → tree_of all ≡ numbered (normal c) → report_of (tree_of all) (rows_from 1 (states behaviour (tree_of all))) ≡ report behaviour c
+pub same_text : (behaviour : Behaviour) → (c : Tree) (all : Line) → IsSame (normal c) c → tree_of all ≡ numbered (normal c)
+    → report_of (tree_of all) (rows_from 1 (states behaviour (tree_of all))) ≡ report behaviour c
 same_text behaviour c all h e = ap (λ t. report_of t (rows_from 1 (states behaviour t))) e ∙ same_report behaviour c h
 
 -- ---- what a text answers, by what its plan answers
@@ -38,7 +41,8 @@ module _ (behaviour : Behaviour) (bytes : Text) (c : Tree) (all : Line) (plan : 
   ran_text Asked (Err f) k = tt
 
   pub ran_again : (n : ℕ) (turns : List ℕ) (es : List Entry) (r : Result (String Global × ℕ) TextFault)
-      → IfOk r (λ x. IsAsked n turns × (rows : List State) × (string_bytes x.0 ≡ report_of (tree_of all) (rows_from 1 rows)) × IsWholeAgain behaviour all n turns es rows x.1)
+      → IfOk r (λ x. IsAsked n turns × (rows : List State) × (string_bytes x.0 ≡ report_of (tree_of all) (rows_from 1 rows))
+      × IsWholeAgain behaviour all n turns es rows x.1)
       → IfOk r (λ x. IsTextAgain behaviour bytes n turns es (string_bytes x.0) x.1)
   ran_again n turns es (Ok x) k = record {
     canvas = c;
@@ -51,11 +55,14 @@ module _ (behaviour : Behaviour) (bytes : Text) (c : Tree) (all : Line) (plan : 
   }
   ran_again n turns es (Err f) k = tt
 
-  pub ran_fault : {X : Type 0} (Says : List State → RunFault → Type 0) (r : Result X TextFault) → IfErr r (IsPlanFault (Says (states behaviour (tree_of all)))) → IfErr r (IsTextFault behaviour bytes Says)
+  pub ran_fault : {X : Type 0} (Says : List State → RunFault → Type 0) (r : Result X TextFault) → IfErr r (IsPlanFault (Says (states behaviour (tree_of all))))
+      → IfErr r (IsTextFault behaviour bytes Says)
   ran_fault Says (Ok text) k = tt
   ran_fault Says (Err (a_fault.Sig f)) k = absurd k
-  ran_fault Says (Err (a_fault.Run f)) k = let P : List State → Type 0 = λ ss. Says ss f in (c, plan.text, subst P (same_states behaviour c all plan.same plan.tree) k)
+  ran_fault Says (Err (a_fault.Run f)) k = let P : List State → Type 0 = λ ss. Says ss f in
+      (c, plan.text, subst P (same_states behaviour c all plan.same plan.tree) k)
   ran_fault Says (Err a_fault.Memory) k = tt
 
-  pub rows_reported : (rows : Rows) (text : Text) → text ≡ report_of (tree_of all) rows → (x : Tree) × IsCanvasText bytes x × (text ≡ report_of (numbered x) rows)
+  pub rows_reported : (rows : Rows) (text : Text) → text ≡ report_of (tree_of all) rows
+      → (x : Tree) × IsCanvasText bytes x × (text ≡ report_of (numbered x) rows)
   rows_reported rows text e = (c, plan.text, e ∙ ap (λ t. report_of t rows) plan.tree ∙ same_report_of c rows plan.same)

@@ -11,7 +11,9 @@ use Rattle.canvas_runs.specs.Following.{Seat, Serves}
 use Rattle.canvas_runs.specs.Rows.{reads_from}
 use Rattle.canvas_runs.proofs.Snoc.{read_more}
 
-pub row_read : (plan : Roster) (s t u : Seat) (rows : List State) (i n : ℕ) (x : State) → i < length rows → n ≡ i + 1 → length (take i rows) ≡ i → Serves plan s (reads_from 1 (take i rows)) t
+pub row_read : (plan : Roster) (s t u : Seat) (rows : List State) (i n : ℕ) (x : State) → i < length rows → n ≡ i + 1 → length (take i rows) ≡ i
+    → Serves plan s (reads_from 1 (take i rows)) t
     → Stands plan t (calls t.name (read n) (found x)) u → Serves plan s (reads_from 1 (take (i + 1) (set rows i x))) u
 row_read plan s t u rows i n x h e long so_far stands =
-    subst (λ r. Serves plan s (reads_from 1 r) u) (sym (ap (λ m. take m (set rows i x)) (add-one i) ∙ take-suc-set rows i x h)) (read_more plan s t u (take i rows) x n so_far (omega (arith, e, long)) stands)
+    subst (λ r. Serves plan s (reads_from 1 r) u) (sym (ap (λ m. take m (set rows i x)) (add-one i) ∙ take-suc-set rows i x h))
+    (read_more plan s t u (take i rows) x n so_far (omega (arith, e, long)) stands)

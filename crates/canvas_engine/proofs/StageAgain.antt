@@ -47,7 +47,8 @@ module _ (l : Line) where
   of_held w None = refl
   of_held w (Some e) = of_message w (opened (book_of l) e)
 
-  point_alike : (behaviour : Behaviour) (s : Left) (t : CoreState Content PCarried Outcome) → IsAlike behaviour s t → (x : Option ℕ) (h : Option Envelope) → (is_inside s ≡ true → x ≡ task_in (book_of l) h) → point_in s x ≡ point l t h
+  point_alike : (behaviour : Behaviour) (s : Left) (t : CoreState Content PCarried Outcome) → IsAlike behaviour s t → (x : Option ℕ) (h : Option Envelope)
+      → (is_inside s ≡ true → x ≡ task_in (book_of l) h) → point_in s x ≡ point l t h
   point_alike behaviour taking taking a x h task = refl
   point_alike behaviour resting resting a x h task = refl
   point_alike behaviour over over a x h task = refl
@@ -64,7 +65,8 @@ pub no_copy : (a : Asked) → of_scripts a ≡ true → redelivers_one a ≡ 0
 no_copy (deliver e) h = absurd cc
 no_copy a h = refl
 
-again_said : (plan : Roster) (queue : List Envelope) (results : Results) (more : Bool) (a : Asked) (r : Answer) → AnswersNow plan queue results more a r → answers_again a r ≡ cond (stores_again results a) 1 0
+again_said : (plan : Roster) (queue : List Envelope) (results : Results) (more : Bool) (a : Asked) (r : Answer) → AnswersNow plan queue results more a r
+    → answers_again a r ≡ cond (stores_again results a) 1 0
 again_said plan queue results more take (taken x) h = refl
 again_said plan queue results more (send e) sent h = refl
 again_said plan queue results more (keep t o) (kept b) h = one b ∙ ap (λ z. cond (not z) 1 0) h
@@ -102,7 +104,9 @@ module _ (behaviour : Behaviour) (l : Line) (n : ℕ) (us : List ℕ) (xs : List
     pub point_is : point_at c ≡ comes_to behaviour l xs (suc i)
     point_is =
         let at = leads.cores_are i c here in
-        point_alike l behaviour c.left (left behaviour l xs (suc i)) (subst (λ z. IsAlike behaviour z (left behaviour l xs (suc i))) (sym at.left) (together behaviour l n us xs s leads (suc i)).1.alike) c.task (holds xs (suc i)) at.task
+        point_alike l behaviour c.left (left behaviour l xs (suc i))
+        (subst (λ z. IsAlike behaviour z (left behaviour l xs (suc i))) (sym at.left) (together behaviour l n us xs s leads (suc i)).1.alike) c.task
+        (holds xs (suc i)) at.task
 
     module _ (own : IsWorker n (suc i)) (e : Envelope) (has : standing.held c ≡ Some e) where
       abbrev copy : Step
@@ -120,10 +124,12 @@ module _ (behaviour : Behaviour) (l : Line) (n : ℕ) (us : List ℕ) (xs : List
       still_held h false = refl
 
       scripts_same : (p : ℕ) → scripts_of (by p (xs ++ copy ∷ [])) ≡ scripts_of (by p xs)
-      scripts_same p = ap scripts_of (by_append p xs (copy ∷ [])) ∙ scripts_append (by p xs) (by p (copy ∷ [])) ∙ ap (λ ys. scripts_of (by p xs) ++ ys) (none_asked (eqb (suc i) p)) ∙ append-nil (scripts_of (by p xs))
+      scripts_same p = ap scripts_of (by_append p xs (copy ∷ [])) ∙ scripts_append (by p xs) (by p (copy ∷ []))
+          ∙ ap (λ ys. scripts_of (by p xs) ++ ys) (none_asked (eqb (suc i) p)) ∙ append-nil (scripts_of (by p xs))
 
       held_same : (p : ℕ) → held_after None (by p (xs ++ copy ∷ [])) ≡ held_after None (by p xs)
-      held_same p = ap (held_after None) (by_append p xs (copy ∷ [])) ∙ held_append None (by p xs) (by p (copy ∷ [])) ∙ still_held (held_after None (by p xs)) (eqb (suc i) p)
+      held_same p = ap (held_after None) (by_append p xs (copy ∷ [])) ∙ held_append None (by p xs) (by p (copy ∷ []))
+          ∙ still_held (held_after None (by p xs)) (eqb (suc i) p)
 
       pub delivered : (t : Stage) → t.queue ≡ s.queue ++ e ∷ [] → t.table ≡ s.table → t.cores ≡ s.cores → LeadsTo behaviour l n us (xs ++ copy ∷ []) t
       delivered t q table cores = record {
@@ -131,7 +137,8 @@ module _ (behaviour : Behaviour) (l : Line) (n : ℕ) (us : List ℕ) (xs : List
           plan = leads.by_turns.plan;
           opens_back = leads.by_turns.opens_back;
           workers = leads.by_turns.workers;
-          turned = subst (λ vs. Turned behaviour l n [] vs (xs ++ copy ∷ [])) (append-nil us) (turned_append behaviour l n [] us [] xs (copy ∷ []) leads.by_turns.turned (delivers_again own holds_it all_taken));
+          turned = subst (λ vs. Turned behaviour l n [] vs (xs ++ copy ∷ [])) (append-nil us)
+              (turned_append behaviour l n [] us [] xs (copy ∷ []) leads.by_turns.turned (delivers_again own holds_it all_taken));
         };
         runs = λ p. subst (IsCoreRun (enveloped behaviour (roster_of l)) taking) (sym (scripts_same p)) (leads.runs p);
         queue_is = q ∙ ap (λ z. z ++ e ∷ []) leads.queue_is ∙ sym (queue_more _ xs copy);
@@ -151,26 +158,33 @@ module _ (behaviour : Behaviour) (l : Line) (n : ℕ) (us : List ℕ) (xs : List
           }
 
 -- whichever it is, some steps lead to the stage
-pub stood : (behaviour : Behaviour) (l : Line) (n : ℕ) (us : List ℕ) (xs : List Step) (s : Stage) (leads : LeadsTo behaviour l n us xs s) (i : ℕ) (c : Standing) (here : slice_get s.cores.items i ≡ Some c) → IsWorker n (suc i)
+pub stood : (behaviour : Behaviour) (l : Line) (n : ℕ) (us : List ℕ) (xs : List Step) (s : Stage) (leads : LeadsTo behaviour l n us xs s) (i : ℕ) (c : Standing)
+    (here : slice_get s.cores.items i ≡ Some c) → IsWorker n (suc i)
     → (t : Stage) → Redelivers c s t → (ys : List Step) × LeadsTo behaviour l n us ys t
 stood behaviour l n us xs s leads i c here own t gone = go gone.envelope
   where
     go : ((wanted (point_at c) s.again.items ≡ false) × (t.queue ≡ s.queue) × (t.again.items ≡ s.again.items))
-        ⊎ ((wanted (point_at c) s.again.items ≡ true) × ((e : Envelope) × (standing.held c ≡ Some e) × (t.queue ≡ s.queue ++ e ∷ [])) × (t.again.items ≡ spent (point_at c) s.again.items))
+        ⊎ ((wanted (point_at c) s.again.items ≡ true) × ((e : Envelope) × (standing.held c ≡ Some e) × (t.queue ≡ s.queue ++ e ∷ []))
+        × (t.again.items ≡ spent (point_at c) s.again.items))
         → (ys : List Step) × LeadsTo behaviour l n us ys t
     go (inl (w, q, a)) = (xs, leads_too behaviour l n us xs s leads t q gone.others.0 gone.others.1)
-    go (inr (w, (e, has, q), a)) = (xs ++ (suc i, (deliver e, sent)) ∷ [], delivered behaviour l n us xs s leads i c here own e has t q gone.others.0 gone.others.1)
+    go (inr (w, (e, has, q), a)) =
+        (xs ++ (suc i, (deliver e, sent)) ∷ [], delivered behaviour l n us xs s leads i c here own e has t q gone.others.0 gone.others.1)
 
 -- ---- a turn
 
-module _ (behaviour : Behaviour) (l : Line) (n most : ℕ) (es : List Entry) (us : List ℕ) (xs : List Step) (s : Stage) (reached : Reached behaviour l n most es us xs s) (i : ℕ) (c : Standing) (here : slice_get s.cores.items i ≡ Some c) (own : IsWorker n (suc i)) where
-  module _ (t : Stage) (gone : Redelivers c s t) (more : Bool) (told : asked c.left ≡ pause → more ≡ (is_queued t.queue || list_any (λ d. is_inside d.left) t.cores.items)) where
+module _ (behaviour : Behaviour) (l : Line) (n most : ℕ) (es : List Entry) (us : List ℕ) (xs : List Step) (s : Stage)
+    (reached : Reached behaviour l n most es us xs s) (i : ℕ) (c : Standing) (here : slice_get s.cores.items i ≡ Some c) (own : IsWorker n (suc i)) where
+  module _ (t : Stage) (gone : Redelivers c s t) (more : Bool) (told : asked c.left ≡ pause
+      → more ≡ (is_queued t.queue || list_any (λ d. is_inside d.left) t.cores.items)) where
     here_too : slice_get t.cores.items i ≡ Some c
     here_too = ap (λ z. slice_get z.items i) gone.others.1 ∙ here
 
     module _ (s' : Stage) (c' : Standing) (step : Stepped behaviour more c t.queue t.table c' s'.queue s'.table)
-        (put : (length s'.cores.items ≡ length t.cores.items) × ((j : ℕ) (e : Standing) → slice_get s'.cores.items j ≡ Some e → ((j ≡ i) × (e ≡ c')) ⊎ ((j ≡ i → ⊥) × (slice_get t.cores.items j ≡ Some e))))
-        (fewer : t.steps ≡ suc s'.steps) (said : s'.repeats ≡ counted_on t.repeats (stores_again (held t.table) (asked c.left))) (kept_so : s'.again.items ≡ t.again.items) where
+        (put : (length s'.cores.items ≡ length t.cores.items)
+        × ((j : ℕ) (e : Standing) → slice_get s'.cores.items j ≡ Some e → ((j ≡ i) × (e ≡ c')) ⊎ ((j ≡ i → ⊥) × (slice_get t.cores.items j ≡ Some e))))
+        (fewer : t.steps ≡ suc s'.steps) (said : s'.repeats ≡ counted_on t.repeats (stores_again (held t.table) (asked c.left)))
+        (kept_so : s'.again.items ≡ t.again.items) where
       abbrev answer : Step
       answer = (suc i, (asked c.left, step.reply))
 
@@ -180,9 +194,11 @@ module _ (behaviour : Behaviour) (l : Line) (n most : ℕ) (es : List Entry) (us
       -- the answers Again so far
       agains_so : (ys : List Step) → t.repeats ≡ min greatest_count (agains_in ys) → s'.repeats ≡ min greatest_count (agains_in (ys ++ answer ∷ []))
       agains_so ys so_far =
-          let said_so : answers_again (asked c.left) step.reply ≡ cond (stores_again (held t.table) (asked c.left)) 1 0 = again_said t.table.plan t.queue (held t.table) more (asked c.left) step.reply step.answers in
+          let said_so : answers_again (asked c.left) step.reply ≡ cond (stores_again (held t.table) (asked c.left)) 1 0 =
+          again_said t.table.plan t.queue (held t.table) more (asked c.left) step.reply step.answers in
           let whole = total-append (λ (y : Step). answers_again y.1.0 y.1.1) ys (answer ∷ []) in
-          more_agains (agains_in ys) t.repeats s'.repeats (stores_again (held t.table) (asked c.left)) so_far said ∙ ap (min greatest_count) (omega (arith, whole, said_so))
+          more_agains (agains_in ys) t.repeats s'.repeats (stores_again (held t.table) (asked c.left)) so_far said
+          ∙ ap (min greatest_count) (omega (arith, whole, said_so))
 
       module _ (ys : List Step) (leads : LeadsTo behaviour l n us ys t) where
         told_so : asked c.left ≡ pause → more ≡ holds_more behaviour l n ys
@@ -195,7 +211,8 @@ module _ (behaviour : Behaviour) (l : Line) (n most : ℕ) (es : List Entry) (us
       one_turn = go gone.envelope
         where
           go : ((wanted (point_at c) s.again.items ≡ false) × (t.queue ≡ s.queue) × (t.again.items ≡ s.again.items))
-              ⊎ ((wanted (point_at c) s.again.items ≡ true) × ((e : Envelope) × (standing.held c ≡ Some e) × (t.queue ≡ s.queue ++ e ∷ [])) × (t.again.items ≡ spent (point_at c) s.again.items))
+              ⊎ ((wanted (point_at c) s.again.items ≡ true) × ((e : Envelope) × (standing.held c ≡ Some e) × (t.queue ≡ s.queue ++ e ∷ []))
+              × (t.again.items ≡ spent (point_at c) s.again.items))
               → IsTurn behaviour true l n most es us xs (suc i) s'
           go (inl (w, q, a)) =
               let leads = leads_too behaviour l n us xs s reached.leads t q gone.others.0 gone.others.1 in
@@ -204,8 +221,10 @@ module _ (behaviour : Behaviour) (l : Line) (n most : ℕ) (es : List Entry) (us
                 record {
                   leads = leads_then xs leads;
                   turned = subst (TurnedAgain behaviour l n [] es (us ++ suc i ∷ []) (xs ++ answer ∷ [])) (sym (kept_so ∙ a))
-                      (again_step behaviour l n es us xs s.again.items reached.turned (suc i) (asked c.left) step.reply (ap (λ z. wanted z s.again.items) (sym here_point) ∙ w)
-                      (worker_back behaviour l n us xs t leads i c here_too step.reads_back) (same_ask behaviour l n us xs t leads i c here_too step.reads_back) (answered_so behaviour l n us xs t leads i c here_too more (told_so xs leads) step.reply step.answers));
+                      (again_step behaviour l n es us xs s.again.items reached.turned (suc i) (asked c.left) step.reply
+                      (ap (λ z. wanted z s.again.items) (sym here_point) ∙ w)
+                      (worker_back behaviour l n us xs t leads i c here_too step.reads_back) (same_ask behaviour l n us xs t leads i c here_too step.reads_back)
+                      (answered_so behaviour l n us xs t leads i c here_too more (told_so xs leads) step.reply step.answers));
                   agains = agains_so xs (gone.others.3 ∙ reached.agains);
                   count =
                       let long = length-append xs (answer ∷ []) in
@@ -221,14 +240,19 @@ module _ (behaviour : Behaviour) (l : Line) (n most : ℕ) (es : List Entry) (us
               let leads : LeadsTo behaviour l n us ys t = delivered behaviour l n us xs s there i c here own e has t q gone.others.0 gone.others.1 in
               let here_point = point_is behaviour l n us xs s there i c here in
               let all : ys ++ answer ∷ [] ≡ xs ++ d ∷ answer ∷ [] = append_assoc xs (d ∷ []) (answer ∷ []) in
-              let none_more : agains_in ys ≡ agains_in xs = (let whole = total-append (λ (y : Step). answers_again y.1.0 y.1.1) xs (d ∷ []) in omega (arith, whole)) in (
+              let none_more : agains_in ys ≡ agains_in xs =
+              (let whole = total-append (λ (y : Step). answers_again y.1.0 y.1.1) xs (d ∷ []) in omega (arith, whole)) in (
                 d ∷ answer ∷ [],
                 record {
                   leads = subst (λ zs. LeadsTo behaviour l n (us ++ suc i ∷ []) zs s') all (leads_then ys leads);
-                  turned = subst (TurnedAgain behaviour l n [] es (us ++ suc i ∷ []) (xs ++ d ∷ answer ∷ [])) (sym (kept_so ∙ a ∙ ap (λ z. spent z s.again.items) here_point))
-                      (again_spend behaviour l n es us xs s.again.items reached.turned (suc i) e (asked c.left) step.reply (ap (λ z. wanted z s.again.items) (sym here_point) ∙ w) own (sym (there.cores_are i c here).holds ∙ has)
-                      (worker_back behaviour l n us ys t leads i c here_too step.reads_back) (same_ask behaviour l n us ys t leads i c here_too step.reads_back) (answered_so behaviour l n us ys t leads i c here_too more (told_so ys leads) step.reply step.answers));
-                  agains = agains_so ys (gone.others.3 ∙ reached.agains ∙ ap (min greatest_count) (sym none_more)) ∙ ap (λ zs. min greatest_count (agains_in zs)) all;
+                  turned = subst (TurnedAgain behaviour l n [] es (us ++ suc i ∷ []) (xs ++ d ∷ answer ∷ []))
+                      (sym (kept_so ∙ a ∙ ap (λ z. spent z s.again.items) here_point))
+                      (again_spend behaviour l n es us xs s.again.items reached.turned (suc i) e (asked c.left) step.reply
+                      (ap (λ z. wanted z s.again.items) (sym here_point) ∙ w) own (sym (there.cores_are i c here).holds ∙ has)
+                      (worker_back behaviour l n us ys t leads i c here_too step.reads_back) (same_ask behaviour l n us ys t leads i c here_too step.reads_back)
+                      (answered_so behaviour l n us ys t leads i c here_too more (told_so ys leads) step.reply step.answers));
+                  agains = agains_so ys (gone.others.3 ∙ reached.agains ∙ ap (min greatest_count) (sym none_more))
+                      ∙ ap (λ zs. min greatest_count (agains_in zs)) all;
                   count =
                       let long = length-append xs (d ∷ answer ∷ []) in
                       let few = total-append (λ (y : Step). redelivers_one y.1.0) xs (d ∷ answer ∷ []) in

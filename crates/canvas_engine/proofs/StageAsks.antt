@@ -24,13 +24,16 @@ use Rattle.canvas_engine.specs.steps.Stages.{AnswersNow, AreInRange, Stepped, Is
 
 -- ---- an answered ask
 
-module _ (behaviour : Behaviour) {E : Type 0} (result : Result (Unit {0}) E) (more : Bool) (c c' : Standing) (queue queue' : List Envelope) (table table' : Shelf) (a : Asked) (r : Answer) (is : asked c.left ≡ a) where
+module _ (behaviour : Behaviour) {E : Type 0} (result : Result (Unit {0}) E) (more : Bool) (c c' : Standing) (queue queue' : List Envelope)
+    (table table' : Shelf) (a : Asked) (r : Answer) (is : asked c.left ≡ a) where
   -- the core's own answer, where the queue and the table have changed as they should
-  pub answered_ok : AnswersNow table.plan queue (held table) more a r → ReadsBack (enveloped_by no_tasks no_book) c.left → queue' ≡ queue_next queue a → held table' ≡ results_next (held table) a → table'.plan ≡ table.plan
+  pub answered_ok : AnswersNow table.plan queue (held table) more a r → ReadsBack (enveloped_by no_tasks no_book) c.left → queue' ≡ queue_next queue a
+      → held table' ≡ results_next (held table) a → table'.plan ≡ table.plan
       → OnOk result (c' ≡ after_reply behaviour (book_in table'.plan) c r) → OnOk result (Stepped behaviour more c queue table c' queue' table')
   answered_ok answers back q t plan ok = go result ok
     where
-      go : (x : Result (Unit {0}) E) → OnOk x (c' ≡ after_reply behaviour (book_in table'.plan) c r) → OnOk x (Stepped behaviour more c queue table c' queue' table')
+      go : (x : Result (Unit {0}) E) → OnOk x (c' ≡ after_reply behaviour (book_in table'.plan) c r)
+          → OnOk x (Stepped behaviour more c queue table c' queue' table')
       go (Ok u) e = record {
         reply = r;
         answers = subst (λ z. AnswersNow table.plan queue (held table) more z r) (sym is) answers;
@@ -42,7 +45,8 @@ module _ (behaviour : Behaviour) {E : Type 0} (result : Result (Unit {0}) E) (mo
       }
       go (Err x) e = tt
 
-  pub answered_err : AnswersNow table.plan queue (held table) more a r → ReadsBack (enveloped_by no_tasks no_book) c.left → held table' ≡ results_next (held table) a → table'.plan ≡ table.plan
+  pub answered_err : AnswersNow table.plan queue (held table) more a r → ReadsBack (enveloped_by no_tasks no_book) c.left
+      → held table' ≡ results_next (held table) a → table'.plan ≡ table.plan
       → OnErr result (IsTried behaviour more c queue table table')
   answered_err answers back t plan = go result
     where
@@ -85,7 +89,8 @@ pub found_in_range : (t : ℕ) (x : Option Outcome) (s : Results) → AreInRange
 found_in_range t None s h e = tt
 found_in_range t (Some o) s h e = h t o (sym e)
 
-pub each_queue : {E : Type 0} (result : Result (Unit {0}) E) (P : Bool → List Envelope → Type 0) → ((b : Bool) (q : List Envelope) → OnOk result (P b q)) → OnOk result ((b : Bool) (q : List Envelope) → P b q)
+pub each_queue : {E : Type 0} (result : Result (Unit {0}) E) (P : Bool → List Envelope → Type 0) → ((b : Bool) (q : List Envelope) → OnOk result (P b q))
+    → OnOk result ((b : Bool) (q : List Envelope) → P b q)
 each_queue (Ok u) P h = h
 each_queue (Err x) P h = tt
 

@@ -47,7 +47,8 @@ module _ (behaviour : Behaviour) (l : Line) (n : ℕ) (xs : List Step) where
   answers_run more ack acked m h = tt
   answers_run more a r m h = elim h [ ]
 
-suits_now : (plan : Roster) (queue : List Envelope) (results : Results) (more : Bool) (a : Asked) (r : Answer) → AnswersNow plan queue results more a r → Suits a r
+suits_now : (plan : Roster) (queue : List Envelope) (results : Results) (more : Bool) (a : Asked) (r : Answer) → AnswersNow plan queue results more a r
+    → Suits a r
 suits_now plan queue results more take (taken x) h = tt
 suits_now plan queue results more (send e) sent h = tt
 suits_now plan queue results more (keep t o) (kept b) h = tt
@@ -82,12 +83,14 @@ or_none false = refl
 
 module _ (behaviour : Behaviour) (l : Line) (xs : List Step) where
   -- those of the cores, and those of the workers 1 to k
-  inside_from : (cores : List Standing) (k : ℕ) → ((i : ℕ) (c : Standing) → slice_get cores i ≡ Some c → is_inside c.left ≡ is_inside (left behaviour l xs (suc (k + i))))
+  inside_from : (cores : List Standing) (k : ℕ)
+      → ((i : ℕ) (c : Standing) → slice_get cores i ≡ Some c → is_inside c.left ≡ is_inside (left behaviour l xs (suc (k + i))))
       → (list_any (λ c. is_inside c.left) cores || some_inside behaviour l k xs) ≡ some_inside behaviour l (k + length cores) xs
   inside_from [] k h = ap (λ m. some_inside behaviour l m xs) (omega arith)
   inside_from (c ∷ cs) k h =
       or_front (is_inside c.left) (list_any (λ d. is_inside d.left) cs) (some_inside behaviour l k xs)
-      ∙ ap (λ b. list_any (λ d. is_inside d.left) cs || (b || some_inside behaviour l k xs)) (h 0 c refl ∙ ap (λ m. is_inside (left behaviour l xs (suc m))) (omega arith))
+      ∙ ap (λ b. list_any (λ d. is_inside d.left) cs || (b || some_inside behaviour l k xs))
+      (h 0 c refl ∙ ap (λ m. is_inside (left behaviour l xs (suc m))) (omega arith))
       ∙ inside_from cs (suc k) (λ i d e. h (suc i) d e ∙ ap (λ m. is_inside (left behaviour l xs (suc m))) (omega arith))
       ∙ ap (λ m. some_inside behaviour l m xs) (omega arith)
 
@@ -98,15 +101,18 @@ each_more (u ∷ us) p a w = (a.0, each_more us p a.1 w)
 -- ---- the worker that a core leads for
 
 module _ (behaviour : Behaviour) (l : Line) (n : ℕ) (us : List ℕ) (xs : List Step) (s : Stage) (leads : LeadsTo behaviour l n us xs s) where
-  pub together : (p : ℕ) → IsCoreRun (worker behaviour l) taking (scripts_of (by p xs)) × GoTogether behaviour l (left_after (enveloped behaviour (roster_of l)) taking (scripts_of (by p xs))) (left behaviour l xs p)
+  pub together : (p : ℕ) → IsCoreRun (worker behaviour l) taking (scripts_of (by p xs))
+      × GoTogether behaviour l (left_after (enveloped behaviour (roster_of l)) taking (scripts_of (by p xs))) (left behaviour l xs p)
   together p = cores_are_workers behaviour l (scripts_of (by p xs)) (leads.runs p)
 
   pub more_is : (is_queued s.queue || list_any (λ c. is_inside c.left) s.cores.items) ≡ holds_more behaviour l n xs
   more_is =
       let one : (i : ℕ) (c : Standing) → slice_get s.cores.items i ≡ Some c → is_inside c.left ≡ is_inside (left behaviour l xs (suc (0 + i))) = λ i c e.
-      ap is_inside (leads.cores_are i c e).left ∙ inside_alike behaviour _ _ (together (suc i)).1.alike ∙ ap (λ m. is_inside (left behaviour l xs (suc m))) (omega arith) in
+      ap is_inside (leads.cores_are i c e).left ∙ inside_alike behaviour _ _ (together (suc i)).1.alike
+      ∙ ap (λ m. is_inside (left behaviour l xs (suc m))) (omega arith) in
       ap (λ q. is_queued q || list_any (λ c. is_inside c.left) s.cores.items) leads.queue_is
-      ∙ ap (λ b. is_queued (queue_after l xs) || b) (sym (or_none (list_any (λ c. is_inside c.left) s.cores.items)) ∙ inside_from behaviour l xs s.cores.items 0 one ∙ ap (λ m. some_inside behaviour l m xs) (omega (arith, leads.many)))
+      ∙ ap (λ b. is_queued (queue_after l xs) || b) (sym (or_none (list_any (λ c. is_inside c.left) s.cores.items))
+      ∙ inside_from behaviour l xs s.cores.items 0 one ∙ ap (λ m. some_inside behaviour l m xs) (omega (arith, leads.many)))
 
   -- the core at place i
   module _ (i : ℕ) (c : Standing) (here : slice_get s.cores.items i ≡ Some c) where
@@ -139,9 +145,11 @@ module _ (behaviour : Behaviour) (l : Line) (n : ℕ) (us : List ℕ) (xs : List
 
       -- the cores are as they were, but for the one
       abbrev pub IsPut : List Standing → Standing → List Standing → Type 0
-      IsPut old d new = (length new ≡ length old) × ((j : ℕ) (e : Standing) → slice_get new j ≡ Some e → ((j ≡ i) × (e ≡ d)) ⊎ ((j ≢ i) × (slice_get old j ≡ Some e)))
+      IsPut old d new = (length new ≡ length old)
+          × ((j : ℕ) (e : Standing) → slice_get new j ≡ Some e → ((j ≡ i) × (e ≡ d)) ⊎ ((j ≢ i) × (slice_get old j ≡ Some e)))
 
-      pub stepped : (s' : Stage) (c' : Standing) → IsWorker n (suc i) → (step : Stepped behaviour more c s.queue s.table c' s'.queue s'.table) → IsPut s.cores.items c' s'.cores.items
+      pub stepped : (s' : Stage) (c' : Standing) → IsWorker n (suc i) → (step : Stepped behaviour more c s.queue s.table c' s'.queue s'.table)
+          → IsPut s.cores.items c' s'.cores.items
           → LeadsTo behaviour l n (us ++ suc i ∷ []) (xs ++ (suc i, (asked c.left, step.reply)) ∷ []) s'
       stepped s' c' own step put =
           let plan = leads.by_turns.plan in
@@ -153,27 +161,35 @@ module _ (behaviour : Behaviour) (l : Line) (n : ℕ) (us : List ℕ) (xs : List
           let X = enveloped behaviour (roster_of l) in
           let was = leads.cores_are i c here in
           let asks_core : of_scripts a ≡ true = asks_of_scripts X c.left in
-          let suits : Suits a r = suits_now (roster_of l) s.queue (held s.table) more a r (subst (λ z. AnswersNow z s.queue (held s.table) more a r) leads.plan_is step.answers) in
+          let suits : Suits a r = suits_now (roster_of l) s.queue (held s.table) more a r
+          (subst (λ z. AnswersNow z s.queue (held s.table) more a r) leads.plan_is step.answers) in
           let asks : a ≡ ask X (left_after X taking (scripts_of (by p xs))) = ap asked env_left in
           let back : ReadsBack X (left_after X taking (scripts_of (by p xs))) = subst (ReadsBack X) env_left step.reads_back in
-          let mine : IsCoreRun X taking (scripts_of (by p ys)) = subst (IsCoreRun X taking) (sym (ap scripts_of (by_more p xs (a, r)) ∙ scripts_more (by p xs) a r asks_core)) (core_more X taking (scripts_of (by p xs)) (a, r) (leads.runs p) asks suits back) in
+          let mine : IsCoreRun X taking (scripts_of (by p ys)) =
+          subst (IsCoreRun X taking) (sym (ap scripts_of (by_more p xs (a, r)) ∙ scripts_more (by p xs) a r asks_core))
+          (core_more X taking (scripts_of (by p xs)) (a, r) (leads.runs p) asks suits back) in
           let core_is : c' ≡ after_reply behaviour (book_of l) c r =
           step.core ∙ ap (λ z. after_reply behaviour (book_in z) c r) leads.plan_is ∙ ap (λ b. after_reply behaviour b c r) (books_alike l plan) in
           let left_new : c'.left ≡ left_after X taking (scripts_of (by p ys)) =
           ap (λ d. d.left) core_is
           ∙ same_answer c.left r
           ∙ ap (λ z. answered X z r) env_left
-          ∙ sym (ap (left_after X taking) (ap scripts_of (by_more p xs (a, r)) ∙ scripts_more (by p xs) a r asks_core) ∙ left_more X taking (scripts_of (by p xs)) (a, r)) in
+          ∙ sym (ap (left_after X taking) (ap scripts_of (by_more p xs (a, r)) ∙ scripts_more (by p xs) a r asks_core)
+          ∙ left_more X taking (scripts_of (by p xs)) (a, r)) in
           let hold_old : standing.held c' ≡ held_by (standing.held c) a r = ap standing.held core_is ∙ book_step behaviour (book_of l) c.left c.kept r suits in
-          let hold_new : held_by (held_after None (by p xs)) a r ≡ held_after None (by p ys) = sym (ap (held_after None) (by_more p xs (a, r)) ∙ held_append None (by p xs) ((a, r) ∷ [])) in
+          let hold_new : held_by (held_after None (by p xs)) a r ≡ held_after None (by p ys) =
+          sym (ap (held_after None) (by_more p xs (a, r)) ∙ held_append None (by p xs) ((a, r) ∷ [])) in
           let new : IsCoreAt behaviour l (by p ys) c' = record {
             left = left_new;
             is_in = ap (λ d. d.is_out) core_is;
             holds = hold_old ∙ ap (λ h. held_by h a r) was.holds ∙ hold_new;
-            has_one = λ inside. subst IsSome (sym hold_old) (has_open behaviour (roster_of l) c.left c.kept r suits was.has_one (ap is_inside (sym (ap (λ d. d.left) core_is ∙ same_answer c.left r)) ∙ inside));
+            has_one = λ inside. subst IsSome (sym hold_old)
+                (has_open behaviour (roster_of l) c.left c.kept r suits was.has_one (ap is_inside (sym (ap (λ d. d.left) core_is ∙ same_answer c.left r))
+                ∙ inside));
             task = λ inside.
                 ap (λ d. d.task) core_is
-                ∙ task_step behaviour (book_of l) c.left c.kept c.task r suits (λ j. was.task j ∙ ap (task_in (book_of l)) (sym was.holds)) (ap is_inside (sym (ap (λ d. d.left) core_is)) ∙ inside)
+                ∙ task_step behaviour (book_of l) c.left c.kept c.task r suits (λ j. was.task j ∙ ap (task_in (book_of l)) (sym was.holds))
+                (ap is_inside (sym (ap (λ d. d.left) core_is)) ∙ inside)
                 ∙ ap (λ h. task_in (book_of l) (held_by h a r)) was.holds
                 ∙ ap (task_in (book_of l)) hold_new;
           } in
@@ -195,17 +211,22 @@ module _ (behaviour : Behaviour) (l : Line) (n : ℕ) (us : List ℕ) (xs : List
           same_answer : (z : Left) (r : Answer) → answered (enveloped_by behaviour (book_of l)) z r ≡ answered (enveloped behaviour (roster_of l)) z r
           same_answer z r = refl
 
-          runs_now : (q : ℕ) (a : Asked) (r : Answer) → IsCoreRun (enveloped behaviour (roster_of l)) taking (scripts_of (by (suc i) (xs ++ (suc i, (a, r)) ∷ []))) → IsCoreRun (enveloped behaviour (roster_of l)) taking (scripts_of (by q (xs ++ (suc i, (a, r)) ∷ [])))
+          runs_now : (q : ℕ) (a : Asked) (r : Answer)
+              → IsCoreRun (enveloped behaviour (roster_of l)) taking (scripts_of (by (suc i) (xs ++ (suc i, (a, r)) ∷ [])))
+              → IsCoreRun (enveloped behaviour (roster_of l)) taking (scripts_of (by q (xs ++ (suc i, (a, r)) ∷ [])))
           runs_now q a r mine = go (eqb (suc i) q) refl
             where
               go : (b : Bool) → eqb (suc i) q ≡ b → IsCoreRun (enveloped behaviour (roster_of l)) taking (scripts_of (by q (xs ++ (suc i, (a, r)) ∷ [])))
-              go true e = subst (λ m. IsCoreRun (enveloped behaviour (roster_of l)) taking (scripts_of (by m (xs ++ (suc i, (a, r)) ∷ [])))) (eqb-true (suc i) q e) mine
-              go false e = subst (IsCoreRun (enveloped behaviour (roster_of l)) taking) (sym (ap scripts_of (by_other q (suc i) xs (a, r) (eqb-false (suc i) q e)))) (leads.runs q)
+              go true e = subst (λ m. IsCoreRun (enveloped behaviour (roster_of l)) taking (scripts_of (by m (xs ++ (suc i, (a, r)) ∷ []))))
+                  (eqb-true (suc i) q e) mine
+              go false e = subst (IsCoreRun (enveloped behaviour (roster_of l)) taking)
+                  (sym (ap scripts_of (by_other q (suc i) xs (a, r) (eqb-false (suc i) q e)))) (leads.runs q)
 
           core_now : (j : ℕ) (d : Standing) (a : Asked) (r : Answer) (c' : Standing) → IsCoreAt behaviour l (by (suc i) (xs ++ (suc i, (a, r)) ∷ [])) c'
               → ((j ≡ i) × (d ≡ c')) ⊎ ((j ≢ i) × (slice_get s.cores.items j ≡ Some d)) → IsCoreAt behaviour l (by (suc j) (xs ++ (suc i, (a, r)) ∷ [])) d
           core_now j d a r c' new (inl h) =
-              subst (λ m. IsCoreAt behaviour l (by (suc m) (xs ++ (suc i, (a, r)) ∷ [])) d) (sym h.0) (subst (IsCoreAt behaviour l (by (suc i) (xs ++ (suc i, (a, r)) ∷ []))) (sym h.1) new)
+              subst (λ m. IsCoreAt behaviour l (by (suc m) (xs ++ (suc i, (a, r)) ∷ [])) d) (sym h.0)
+              (subst (IsCoreAt behaviour l (by (suc i) (xs ++ (suc i, (a, r)) ∷ []))) (sym h.1) new)
           core_now j d a r c' new (inr h) =
               let apart : suc i ≢ suc j = λ e. h.0 (omega (arith, e)) in
               subst (λ ys. IsCoreAt behaviour l ys d) (sym (by_other (suc j) (suc i) xs (a, r) apart)) (leads.cores_are j d h.1)

@@ -25,7 +25,8 @@ use Rattle.canvas_engine.proofs.StageAgain.{one_turn, stood}
 use Rattle.canvas_engine.proofs.StageSteps.{each_more, has_ended, not_ended, same_ask, more_is, turned_so}
 
 -- what is there after a core was put back at its place
-put_at : (cores : List Standing) (i : ℕ) (d : Standing) (j : ℕ) (e : Standing) → slice_get (slice_set cores i d) j ≡ Some e → ((j ≡ i) × (e ≡ d)) ⊎ ((j ≢ i) × (slice_get cores j ≡ Some e))
+put_at : (cores : List Standing) (i : ℕ) (d : Standing) (j : ℕ) (e : Standing) → slice_get (slice_set cores i d) j ≡ Some e
+    → ((j ≡ i) × (e ≡ d)) ⊎ ((j ≢ i) × (slice_get cores j ≡ Some e))
 put_at [] i d j e h = inr ((λ q. absurd (nothing j h)), h)
   where
     nothing : (k : ℕ) → slice_get [] k ≡ Some e → ⊥
@@ -81,10 +82,12 @@ module _ (behaviour : Behaviour) (fits : AnswersInRange behaviour) (l : Line) (p
       own_place : IsWorker n (suc (p - 1))
       own_place = subst (IsWorker n) (sym same_number) own
 
-      pub skipped : ReadsBack (enveloped_by no_tasks no_book) core.left → asked core.left ≡ end → HasEnded behaviour l xs p × Reached behaviour l n most es (us ++ p ∷ []) xs s
+      pub skipped : ReadsBack (enveloped_by no_tasks no_book) core.left → asked core.left ≡ end
+          → HasEnded behaviour l xs p × Reached behaviour l n most es (us ++ p ∷ []) xs s
       skipped back e =
           let leads = reached.leads in
-          let ended : HasEnded behaviour l xs p = subst (HasEnded behaviour l xs) same_number (has_ended behaviour l n us xs s leads (p - 1) core here back e) in (
+          let ended : HasEnded behaviour l xs p =
+          subst (HasEnded behaviour l xs) same_number (has_ended behaviour l n us xs s leads (p - 1) core here back e) in (
             ended,
             record {
               leads = record {
@@ -129,24 +132,32 @@ module _ (behaviour : Behaviour) (fits : AnswersInRange behaviour) (l : Line) (p
           (subst (λ t. MayAsk (roster_of l) t (asked core.left)) (sym reached.leads.table_is) (may_here back))
 
       pub held_in_range : AreInRange (held s.table)
-      held_in_range t o e = (held_range behaviour l n us xs reached.leads.by_turns fits t o (ap (λ (r : Results). r.outcomes t) (sym reached.leads.table_is) ∙ e)).1
+      held_in_range t o e = (held_range behaviour l n us xs reached.leads.by_turns fits t o (ap (λ (r : Results). r.outcomes t) (sym reached.leads.table_is)
+          ∙ e)).1
 
-      module _ (t : Stage) (gone : Redelivers core s t) (more : Bool) (told : asked core.left ≡ pause → more ≡ (is_queued t.queue || list_any (λ c. is_inside c.left) t.cores.items)) where
+      module _ (t : Stage) (gone : Redelivers core s t) (more : Bool) (told : asked core.left ≡ pause
+          → more ≡ (is_queued t.queue || list_any (λ c. is_inside c.left) t.cores.items)) where
         here_then : slice_get t.cores.items (p - 1) ≡ Some core
         here_then = ap (λ z. slice_get z.items (p - 1)) gone.others.1 ∙ here
 
-        pub went : (s' : Stage) (core' : Standing) → Stepped behaviour more core t.queue t.table core' s'.queue s'.table → s'.cores.items ≡ slice_set t.cores.items (p - 1) core' → t.steps ≡ suc s'.steps
-            → s'.repeats ≡ counted_on t.repeats (stores_again (held t.table) (asked core.left)) → s'.again.items ≡ t.again.items → IsTurn behaviour true l n most es us xs p s'
+        pub went : (s' : Stage) (core' : Standing) → Stepped behaviour more core t.queue t.table core' s'.queue s'.table
+            → s'.cores.items ≡ slice_set t.cores.items (p - 1) core' → t.steps ≡ suc s'.steps
+            → s'.repeats ≡ counted_on t.repeats (stores_again (held t.table) (asked core.left)) → s'.again.items ≡ t.again.items
+            → IsTurn behaviour true l n most es us xs p s'
         went s' core' step put fewer said kept =
             subst (λ q. IsTurn behaviour true l n most es us xs q s') same_number
-            (one_turn behaviour l n most es us xs s reached (p - 1) core here own_place t gone more told s' core' step
-            (ap length put ∙ put_length t.cores.items (p - 1) core', λ j e h. put_at t.cores.items (p - 1) core' j e (ap (λ cs. slice_get cs j) (sym put) ∙ h)) fewer said kept)
+            (one_turn behaviour l n most es us xs s reached (p - 1) core here own_place t gone more told s' core' step (
+              ap length put ∙ put_length t.cores.items (p - 1) core',
+              λ j e h. put_at t.cores.items (p - 1) core' j e (ap (λ cs. slice_get cs j) (sym put) ∙ h),
+            ) fewer said kept)
 
         pub halfway : (s' : Stage) → IsTried behaviour more core t.queue t.table s'.table → IsHalfway behaviour l n s'
         halfway s' tried = go (stood behaviour l n us xs s reached.leads (p - 1) core here own_place t gone) tried.1
           where
-            go : ((ys : List Step) × LeadsTo behaviour l n us ys t) → (held s'.table ≡ held t.table) ⊎ Tried behaviour more core t.queue t.table s'.table → IsHalfway behaviour l n s'
-            go (ys, leads) (inl same) = record { turns = us; steps = ys; by_turns = leads.by_turns; plan_is = tried.0 ∙ leads.plan_is; table_is = same ∙ leads.table_is }
+            go : ((ys : List Step) × LeadsTo behaviour l n us ys t) → (held s'.table ≡ held t.table) ⊎ Tried behaviour more core t.queue t.table s'.table
+                → IsHalfway behaviour l n s'
+            go (ys, leads) (inl same) =
+                record { turns = us; steps = ys; by_turns = leads.by_turns; plan_is = tried.0 ∙ leads.plan_is; table_is = same ∙ leads.table_is }
             go (ys, leads) (inr r) =
                 let x : Step = (suc (p - 1), (asked core.left, r.reply)) in
                 record {
@@ -156,7 +167,8 @@ module _ (behaviour : Behaviour) (fits : AnswersInRange behaviour) (l : Line) (p
                     plan = leads.by_turns.plan;
                     opens_back = leads.by_turns.opens_back;
                     workers = each_more us (suc (p - 1)) leads.by_turns.workers own_place;
-                    turned = turned_so behaviour l n us ys t leads (p - 1) core here_then more (λ e. told e ∙ more_is behaviour l n us ys t leads) r.reply r.reads_back r.answers;
+                    turned = turned_so behaviour l n us ys t leads (p - 1) core here_then more
+                        (λ e. told e ∙ more_is behaviour l n us ys t leads) r.reply r.reads_back r.answers;
                   };
                   plan_is = tried.0 ∙ leads.plan_is;
                   table_is = r.table_is ∙ ap (λ z. results_next z (asked core.left)) leads.table_is ∙ sym (results_more _ ys x);

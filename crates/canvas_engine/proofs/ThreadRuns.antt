@@ -59,9 +59,11 @@ reads_are_reads k (s ∷ ss) = (tt, reads_are_reads (suc k) ss)
 over_done : (w : Working) → IsOver w → IsDone w
 over_done w h = (subst (λ s. Between s) (sym h.0) tt, h.1)
 
-module _ (behaviour : Behaviour) (l : Line) (n : ℕ) (queue : SegId Global) (table : TableId) (pass : Pass) (seat : Seat) (c : Crew behaviour l n queue table pass seat) where
+module _ (behaviour : Behaviour) (l : Line) (n : ℕ) (queue : SegId Global) (table : TableId) (pass : Pass) (seat : Seat)
+    (c : Crew behaviour l n queue table pass seat) where
   -- worker 0 works on, and reads
-  abbrev pub ran_with : (own : Working) → Followed behaviour (roster_of l) (begins pass seat) own → (last : Pass) → last ≡ own.pass → (at : Seat) → own.seat ≡ at → (after : Seat) (rows : List State)
+  abbrev pub ran_with : (own : Working) → Followed behaviour (roster_of l) (begins pass seat) own → (last : Pass) → last ≡ own.pass → (at : Seat)
+      → own.seat ≡ at → (after : Seat) (rows : List State)
       → Serves (roster_of l) at (reads_from 1 rows) after → Ran behaviour l last after
   ran_with own follows last e at f after rows reads = record {
     mates = c.mates;
@@ -89,27 +91,41 @@ module _ (behaviour : Behaviour) (l : Line) (n : ℕ) (queue : SegId Global) (ta
     ends = subst (λ (x : Seat). Serves (roster_of l) x (reads_from 1 rows) after) (sym f) reads;
   }
 
-  abbrev pub ran_to : (own : Working) → Followed behaviour (roster_of l) (begins pass seat) own → (last : Pass) → last ≡ own.pass → (at : Seat) → own.seat ≡ at → (after : Seat) (rows : List State)
+  abbrev pub ran_to : (own : Working) → Followed behaviour (roster_of l) (begins pass seat) own → (last : Pass) → last ≡ own.pass → (at : Seat) → own.seat ≡ at
+      → (after : Seat) (rows : List State)
       → Serves (roster_of l) at (reads_from 1 rows) after → length rows ≡ count_line l → RanTo behaviour l last after rows
   ran_to own follows last e at f after rows reads many = record { ran = ran_with own follows last e at f after rows reads; read = refl; each = many }
 
   -- a run that ended early: each row is pending or its task's state
-  pub rows_may : IsPlan l → (own : Working) → Followed behaviour (roster_of l) (begins pass seat) own → (at : Seat) → own.seat ≡ at → (after : Seat) (rows : List State)
+  pub rows_may : IsPlan l → (own : Working) → Followed behaviour (roster_of l) (begins pass seat) own → (at : Seat) → own.seat ≡ at
+      → (after : Seat) (rows : List State)
       → Serves (roster_of l) at (reads_from 1 rows) after → length rows ≡ count_line l → EachMay rows (states behaviour (tree_of l))
-  rows_may planned own follows at f after rows reads many = rows_of_any behaviour l planned own.pass after rows (ran_to own follows own.pass refl at f after rows reads many)
+  rows_may planned own follows at f after rows reads many =
+      rows_of_any behaviour l planned own.pass after rows (ran_to own follows own.pass refl at f after rows reads many)
 
   -- a run that ended well
-  module _ (r : Record) (f : Finished behaviour (roster_of l) 0 pass seat r) (fine : r.fault ≡ None) (done : Each (λ (m : Mate behaviour (roster_of l)). IsOver m.ended) c.mates) where
+  module _ (r : Record) (f : Finished behaviour (roster_of l) 0 pass seat r) (fine : r.fault ≡ None)
+      (done : Each (λ (m : Mate behaviour (roster_of l)). IsOver m.ended) c.mates) where
     pub ended_well : (after : Seat) (rows : List State) (reads : Serves (roster_of l) r.seat (reads_from 1 rows) after)
         → EndedWell behaviour l r.pass after (ran_with f.ended f.followed r.pass f.pass_is r.seat (sym f.seat_is) after rows reads)
-    ended_well after rows reads = record { all_sent = refl; empty = f.empty fine; own = over_done f.ended (f.done fine); each = each_weaker (λ (m : Mate behaviour (roster_of l)). over_done m.ended) c.mates done }
+    ended_well after rows reads =
+        record {
+          all_sent = refl;
+          empty = f.empty fine;
+          own = over_done f.ended (f.done fine);
+          each = each_weaker
+              (λ (m : Mate behaviour (roster_of l)). over_done m.ended) c.mates done;
+        }
 
-    abbrev pub ran_well : (after : Seat) (rows : List State) → Serves (roster_of l) r.seat (reads_from 1 rows) after → length rows ≡ count_line l → RanWell behaviour l r.pass after rows
-    ran_well after rows reads many = record { to = ran_to f.ended f.followed r.pass f.pass_is r.seat (sym f.seat_is) after rows reads many; well = ended_well after rows reads }
+    abbrev pub ran_well : (after : Seat) (rows : List State) → Serves (roster_of l) r.seat (reads_from 1 rows) after → length rows ≡ count_line l
+        → RanWell behaviour l r.pass after rows
+    ran_well after rows reads many =
+        record { to = ran_to f.ended f.followed r.pass f.pass_is r.seat (sym f.seat_is) after rows reads many; well = ended_well after rows reads }
 
 -- ---- counts
 
-tallies_are : (behaviour : Behaviour) → {plan : _} (queue : List (Entries Envelope)) (table : Log) (k : ℕ) (ms : List (Mate behaviour plan)) → EachCounts queue table k (map (λ (m : Mate behaviour plan). m.ended.tally) ms) → AreTallies queue table k (tallies_from behaviour k ms)
+tallies_are : (behaviour : Behaviour) → {plan : _} (queue : List (Entries Envelope)) (table : Log) (k : ℕ) (ms : List (Mate behaviour plan))
+    → EachCounts queue table k (map (λ (m : Mate behaviour plan). m.ended.tally) ms) → AreTallies queue table k (tallies_from behaviour k ms)
 tallies_are behaviour queue table k [] c = tt
 tallies_are behaviour queue table k (m ∷ ms) c = (refl, c.0, tallies_are behaviour queue table (suc k) ms c.1)
 
@@ -121,8 +137,10 @@ long_tallies behaviour k (m ∷ ms) = ap suc (long_tallies behaviour (suc k) ms)
 swapped : (a b : ℕ) → min greatest_count (a + b) ≡ min greatest_count (b + a)
 swapped a b = let same : a + b ≡ b + a = omega arith in ap (λ n. min greatest_count n) same
 
-module _ (behaviour : Behaviour) (l : Line) (n : ℕ) (b : SegId Global) (d : Desk) (pass : Pass) (seat : Seat) (c : Crew behaviour l n b d.id pass seat) (planned : IsPlan l) where
-  module _ (r : Record) (f : Finished behaviour (roster_of l) 0 pass seat r) (fine : r.fault ≡ None) (done : Each (λ (m : Mate behaviour (roster_of l)). IsOver m.ended) c.mates) (after : Seat) (rows : List State)
+module _ (behaviour : Behaviour) (l : Line) (n : ℕ) (b : SegId Global) (d : Desk) (pass : Pass) (seat : Seat) (c : Crew behaviour l n b d.id pass seat)
+    (planned : IsPlan l) where
+  module _ (r : Record) (f : Finished behaviour (roster_of l) 0 pass seat r) (fine : r.fault ≡ None)
+      (done : Each (λ (m : Mate behaviour (roster_of l)). IsOver m.ended) c.mates) (after : Seat) (rows : List State)
       (reads : Serves (roster_of l) r.seat (reads_from 1 rows) after) (many : length rows ≡ count_line l) where
     abbrev whole : RanWell behaviour l r.pass after rows
     whole = ran_well behaviour l n b d.id pass seat c r f fine done after rows reads many
@@ -132,7 +150,14 @@ module _ (behaviour : Behaviour) (l : Line) (n : ℕ) (b : SegId Global) (d : De
 
     -- worker 0's counts, the first messages among them
     abbrev own_counts : Counts
-    own_counts = record { taken = r.taken; published = min greatest_count (r.published + length (first_messages l)); first = r.first; parts = r.parts; dropped = r.dropped }
+    own_counts = record {
+      taken = r.taken;
+      published = min greatest_count
+          (r.published + length (first_messages l));
+      first = r.first;
+      parts = r.parts;
+      dropped = r.dropped;
+    }
 
     own_tally : OwnTally behaviour l r.pass after this own_counts
     own_tally = (
@@ -147,7 +172,15 @@ module _ (behaviour : Behaviour) (l : Line) (n : ℕ) (b : SegId Global) (d : De
     records_of ts = record { broker = b; pass = r.pass; backend = d; seat = after; workers = ts }
 
     abbrev all_tallies : List Tally
-    all_tallies = record { number = 0; taken = r.taken; published = min greatest_count (r.published + length (first_messages l)); first = r.first; parts = r.parts; dropped = r.dropped } ∷ tallies_from behaviour 1 c.mates
+    all_tallies = record {
+      number = 0;
+      taken = r.taken;
+      published = min greatest_count
+          (r.published + length (first_messages l));
+      first = r.first;
+      parts = r.parts;
+      dropped = r.dropped;
+    } ∷ tallies_from behaviour 1 c.mates
 
     pub is_run : r.pass.of ≡ b → after.of ≡ d.id → d.plan ≡ roster_of l → IsRun behaviour l n rows (records_of all_tallies)
     is_run of seat_of plan =
@@ -174,7 +207,8 @@ module _ (behaviour : Behaviour) (l : Line) (n : ℕ) (b : SegId Global) (d : De
 
 -- ---- runs that ended early
 
-pub halted_may : (n : ℕ) (ss : List State) (cause : Cause) (rows : List State) → AreWorkers n → EachMay rows ss → IsThreadFault n ss (Halted cause (Some (record { rows = rows })))
+pub halted_may : (n : ℕ) (ss : List State) (cause : Cause) (rows : List State) → AreWorkers n → EachMay rows ss
+    → IsThreadFault n ss (Halted cause (Some (record { rows = rows })))
 halted_may n ss Memory rows w may = (w, may)
 halted_may n ss Stopped rows w may = (w, may)
 
@@ -188,7 +222,8 @@ long_map f (x ∷ xs) = ap suc (long_map f xs)
 
 -- there is a state for each task
 pub long_states : (behaviour : Behaviour) → (l : Line) → length (states behaviour (tree_of l)) ≡ count_line l
-long_states behaviour l = long_map (λ k. state_of k (eval behaviour (tree_of l) nothing).rows) (numbers_from 1 (count (tree_of l))) ∙ (long_numbers 1 (count (tree_of l)) ∙ count_elements l)
+long_states behaviour l = long_map (λ k. state_of k (eval behaviour (tree_of l) nothing).rows) (numbers_from 1 (count (tree_of l)))
+    ∙ (long_numbers 1 (count (tree_of l)) ∙ count_elements l)
 
 -- and an envelope for each message
 pub long_envelopes : (es : List Envelope) (ms : List Content) → es ≡ map sealed ms → length es ≡ length ms
@@ -217,23 +252,30 @@ still behaviour plan p s = record {
 }
 
 -- the rows that worker 0 reads where it has done nothing else
-pub unworked_may : (behaviour : Behaviour) → (l : Line) (n : ℕ) (queue : SegId Global) (table : TableId) (pass : Pass) (seat : Seat) → Crew behaviour l n queue table pass seat → IsPlan l → (after : Seat) (rows : List State)
+pub unworked_may : (behaviour : Behaviour) → (l : Line) (n : ℕ) (queue : SegId Global) (table : TableId) (pass : Pass) (seat : Seat)
+    → Crew behaviour l n queue table pass seat → IsPlan l → (after : Seat) (rows : List State)
     → Serves (roster_of l) seat (reads_from 1 rows) after → length rows ≡ count_line l → EachMay rows (states behaviour (tree_of l))
-unworked_may behaviour l n queue table pass seat c planned after rows reads many = rows_may behaviour l n queue table pass seat c planned (begins pass seat) (still behaviour (roster_of l) pass seat) seat refl after rows reads many
+unworked_may behaviour l n queue table pass seat c planned after rows reads many =
+    rows_may behaviour l n queue table pass seat c planned (begins pass seat) (still behaviour (roster_of l) pass seat) seat refl after rows reads many
 
 -- and those that it reads where it has worked, however that ended
-pub worked_may : (behaviour : Behaviour) → (l : Line) (n : ℕ) (queue : SegId Global) (table : TableId) (pass : Pass) (seat : Seat) → Crew behaviour l n queue table pass seat → IsPlan l → (r : Record) → Finished behaviour (roster_of l) 0 pass seat r → (after : Seat) (rows : List State)
+pub worked_may : (behaviour : Behaviour) → (l : Line) (n : ℕ) (queue : SegId Global) (table : TableId) (pass : Pass) (seat : Seat)
+    → Crew behaviour l n queue table pass seat → IsPlan l → (r : Record) → Finished behaviour (roster_of l) 0 pass seat r → (after : Seat) (rows : List State)
     → Serves (roster_of l) r.seat (reads_from 1 rows) after → length rows ≡ count_line l → EachMay rows (states behaviour (tree_of l))
-worked_may behaviour l n queue table pass seat c planned r f after rows reads many = rows_may behaviour l n queue table pass seat c planned f.ended f.followed r.seat (sym f.seat_is) after rows reads many
+worked_may behaviour l n queue table pass seat c planned r f after rows reads many =
+    rows_may behaviour l n queue table pass seat c planned f.ended f.followed r.seat (sym f.seat_is) after rows reads many
 
 -- ---- what worker 0 has taken in
 
-pub gathered : (behaviour : Behaviour) → (l : Line) (n : ℕ) (s : Start) (start : IsStart l n s) (sent : Pass) (after : List Slot) (p : Pass) (t : Seat) → Makes s.pass (published_all s.envelopes.items) sent → AllRan behaviour s.backend.plan s.slots.items after → length after ≡ length s.slots.items
+pub gathered : (behaviour : Behaviour) → (l : Line) (n : ℕ) (s : Start) (start : IsStart l n s) (sent : Pass) (after : List Slot) (p : Pass) (t : Seat)
+    → Makes s.pass (published_all s.envelopes.items) sent → AllRan behaviour s.backend.plan s.slots.items after → length after ≡ length s.slots.items
     → TakesIn s.backend.plan sent s.seat after p t
-    → (c : Crew behaviour l n s.broker s.backend.id p t) × (map tally_in after ≡ tallies_from behaviour 1 c.mates) × (All (λ x. IsWell x.post) after → Each (λ (m : Mate behaviour (roster_of l)). IsOver m.ended) c.mates)
+    → (c : Crew behaviour l n s.broker s.backend.id p t) × (map tally_in after ≡ tallies_from behaviour 1 c.mates)
+    × (All (λ x. IsWell x.post) after → Each (λ (m : Mate behaviour (roster_of l)). IsOver m.ended) c.mates)
 gathered behaviour l n s start sent after p t made ran many taken =
     let each = each_ran behaviour (roster_of l) s.slots.items after many (subst (λ plan. AllRan behaviour plan s.slots.items after) start.plan ran) in
-    let all = crew_of behaviour (roster_of l) 1 s.slots.items after (first_pass s.broker) s.pass (first_seat s.backend.id) s.seat sent p s.seat t start.parts each (subst (λ plan. TakesIn plan sent s.seat after p t) start.plan taken) in
+    let all = crew_of behaviour (roster_of l) 1 s.slots.items after (first_pass s.broker) s.pass
+    (first_seat s.backend.id) s.seat sent p s.seat t start.parts each (subst (λ plan. TakesIn plan sent s.seat after p t) start.plan taken) in
     let c = all.1 in (
       record {
         mates = all.0;
@@ -263,8 +305,10 @@ if_none None f p = f p
 if_none (Some a) f p = tt
 
 -- where none of them ended with a fault
-pub well_gathered : (behaviour : Behaviour) → (l : Line) (ms : List (Mate behaviour (roster_of l))) (xs after : List Slot) (before counted : List Tally) → xs ≡ after → before ≡ nothing_counted 0 ∷ [] → map tally_in after ≡ tallies_from behaviour 1 ms
-    → (All (λ x. IsWell x.post) after → Each (λ (m : Mate behaviour (roster_of l)). IsOver m.ended) ms) → All (λ x. IsWell x.post) xs × (counted ≡ before ++ map tally_in xs) → IsWellGathered behaviour l ms counted
+pub well_gathered : (behaviour : Behaviour) → (l : Line) (ms : List (Mate behaviour (roster_of l))) (xs after : List Slot) (before counted : List Tally)
+    → xs ≡ after → before ≡ nothing_counted 0 ∷ [] → map tally_in after ≡ tallies_from behaviour 1 ms
+    → (All (λ x. IsWell x.post) after → Each (λ (m : Mate behaviour (roster_of l)). IsOver m.ended) ms)
+    → All (λ x. IsWell x.post) xs × (counted ≡ before ++ map tally_in xs) → IsWellGathered behaviour l ms counted
 well_gathered behaviour l ms xs after before counted same b t d w = record {
   done = d (subst (All (λ x. IsWell x.post)) same w.0);
   tallies = w.1 ∙ (ap (λ ts. ts ++ map tally_in xs) b ∙ ap (λ ts. nothing_counted 0 ∷ ts) (ap (λ ys. map tally_in ys) same ∙ t));

@@ -37,10 +37,12 @@ use Rattle.canvas_engine.specs.declared.stage.Stage.{Stage}
 
 -- ---- how it starts
 
-new_core : (behaviour : Behaviour) → (l : Line) (cores : List Standing) → AreNew cores → (i : ℕ) (c : Standing) → slice_get cores i ≡ Some c → IsCoreAt behaviour l [] c
+new_core : (behaviour : Behaviour) → (l : Line) (cores : List Standing) → AreNew cores → (i : ℕ) (c : Standing) → slice_get cores i ≡ Some c
+    → IsCoreAt behaviour l [] c
 new_core behaviour l cores new i c here =
     let is : c ≡ begun = at_get cores i c here (λ d. d ≡ begun) new in
-    subst (IsCoreAt behaviour l []) (sym is) (record { left = refl; is_in = refl; holds = refl; has_one = λ inside. absurd (false≢true inside); task = λ inside. absurd (false≢true inside) })
+    subst (IsCoreAt behaviour l []) (sym is)
+    (record { left = refl; is_in = refl; holds = refl; has_one = λ inside. absurd (false≢true inside); task = λ inside. absurd (false≢true inside) })
   where
     at_get : (xs : List Standing) (j : ℕ) (d : Standing) → slice_get xs j ≡ Some d → (P : Standing → Type 0) → All P xs → P d
     at_get xs j d e P a = subst P (got xs j d e) (a j d (slice_get_within xs j d e))
@@ -51,7 +53,8 @@ new_core behaviour l cores new i c here =
         got (y ∷ ys) zero x e = cc
         got (y ∷ ys) (suc k) x e = got ys k x e
 
-pub starts : (behaviour : Behaviour) → (l : Line) (n : ℕ) (old s : Stage) → IsPlan l → IsNew l n old → s.queue ≡ map sealed (first_messages l) → FirstsRead l → s.table ≡ old.table → s.cores ≡ old.cores → s.steps ≡ old.steps
+pub starts : (behaviour : Behaviour) → (l : Line) (n : ℕ) (old s : Stage) → IsPlan l → IsNew l n old → s.queue ≡ map sealed (first_messages l) → FirstsRead l
+    → s.table ≡ old.table → s.cores ≡ old.cores → s.steps ≡ old.steps
     → s.again ≡ old.again → s.repeats ≡ old.repeats → Reached behaviour l n old.steps old.again.items [] [] s
 starts behaviour l n old s plan new queue back table cores steps again repeats = record {
   leads = record {
@@ -70,21 +73,25 @@ starts behaviour l n old s plan new queue back table cores steps again repeats =
 
 -- ---- how it ends
 
-pub ok_at : {E : Type 0} (r : Result (Unit {0}) E) (Q P : ℕ → List Entry → Type 0) (m : ℕ) (es : List Entry) → Q m es → OnOk r ((k : ℕ) (ds : List Entry) → Q k ds → P k ds) → OnOk r (P m es)
+pub ok_at : {E : Type 0} (r : Result (Unit {0}) E) (Q P : ℕ → List Entry → Type 0) (m : ℕ) (es : List Entry) → Q m es
+    → OnOk r ((k : ℕ) (ds : List Entry) → Q k ds → P k ds) → OnOk r (P m es)
 ok_at (Ok u) Q P m es q h = h m es q
 ok_at (Err e) Q P m es q h = tt
 
-pub err_at : {T : Type 0} (r : Result T Cause) (Q : ℕ → List Entry → Type 0) (P : Cause → ℕ → List Entry → Type 0) (m : ℕ) (es : List Entry) → Q m es → IfErr r (λ cause. (k : ℕ) (ds : List Entry) → Q k ds → P cause k ds) → IfErr r (λ cause. P cause m es)
+pub err_at : {T : Type 0} (r : Result T Cause) (Q : ℕ → List Entry → Type 0) (P : Cause → ℕ → List Entry → Type 0) (m : ℕ) (es : List Entry) → Q m es
+    → IfErr r (λ cause. (k : ℕ) (ds : List Entry) → Q k ds → P cause k ds) → IfErr r (λ cause. P cause m es)
 err_at (Ok u) Q P m es q h = tt
 err_at (Err e) Q P m es q h = h m es q
 
-module _ (behaviour : Behaviour) (l : Line) (n most : ℕ) (ts : List ℕ) (es : List Entry) (rows : List State) (s : Stage) (are : rows ≡ rows_of (count_line l) (held s.table)) where
+module _ (behaviour : Behaviour) (l : Line) (n most : ℕ) (ts : List ℕ) (es : List Entry) (rows : List State) (s : Stage)
+    (are : rows ≡ rows_of (count_line l) (held s.table)) where
   pub whole_rows : 1 ≤ n → length es ≤ greatest_count → IsRunThrough behaviour l n most es ts s → IsAgainWithin behaviour l n ts es most rows s.repeats
   whole_rows some fits done =
       let reached = done.reached in
       let by_turns = reached.leads.by_turns in
       let us = ts ++ rounds n done.further in
-      let by_entries : ByEntries behaviour l n es us done.steps s.again.items = record { plan = by_turns.plan; opens_back = by_turns.opens_back; workers = by_turns.workers; turned = reached.turned } in
+      let by_entries : ByEntries behaviour l n es us done.steps s.again.items =
+      record { plan = by_turns.plan; opens_back = by_turns.opens_back; workers = by_turns.workers; turned = reached.turned } in
       let same : rows ≡ held_rows l done.steps = are ∙ ap (rows_of (count_line l)) reached.leads.table_is in
       let few = agains_few behaviour l n es us done.steps s.again.items by_entries in
       let again : s.repeats ≡ agains_in done.steps = omega (arith, reached.agains, few, fits) in (
@@ -116,8 +123,10 @@ module _ (behaviour : Behaviour) (l : Line) (n most : ℕ) (ts : List ℕ) (es :
     where
       go : (held s.table ≡ no_results) ⊎ IsHalfway behaviour l n s → EachMay rows (states behaviour (tree_of l))
       go (inl none) = subst (λ rs. EachMay rs (states behaviour (tree_of l))) (ap (rows_of (count_line l)) (sym none) ∙ sym are)
-          (subst (λ k. EachMay (rows_of (count_line l) no_results) (map (λ t. its_state behaviour l t) (numbers_from 1 k))) (sym (count_elements l)) (none_yet (its_state behaviour l) (numbers_from 1 (count_line l))))
-      go (inr half) = subst (λ rs. EachMay rs (states behaviour (tree_of l))) (ap (rows_of (count_line l)) (sym half.table_is) ∙ sym are) (states_may behaviour l n half.turns half.steps half.by_turns)
+          (subst (λ k. EachMay (rows_of (count_line l) no_results) (map (λ t. its_state behaviour l t) (numbers_from 1 k))) (sym (count_elements l))
+          (none_yet (its_state behaviour l) (numbers_from 1 (count_line l))))
+      go (inr half) = subst (λ rs. EachMay rs (states behaviour (tree_of l))) (ap (rows_of (count_line l)) (sym half.table_is) ∙ sym are)
+          (states_may behaviour l n half.turns half.steps half.by_turns)
 
   pub cut_rows : IsEarlyEnd behaviour Stopped l n most es ts s → IsCutAgain behaviour l n ts es most rows
   cut_rows ended =
@@ -139,12 +148,14 @@ module _ (behaviour : Behaviour) (l : Line) (n most : ℕ) (ts : List ℕ) (es :
         may = subst (λ rs. EachMay rs (states behaviour (tree_of l))) (sym same) (states_may behaviour l n ended.0 stopped.steps by_turns);
       }
 
-  pub early_fault : (cause : Cause) (report : Report) → report.rows ≡ rows → IsPlan l → IsAsked n ts → IsEarlyEnd behaviour cause l n most es ts s → IsAgainFault behaviour l n ts es most (Halted cause (Some report))
+  pub early_fault : (cause : Cause) (report : Report) → report.rows ≡ rows → IsPlan l → IsAsked n ts → IsEarlyEnd behaviour cause l n most es ts s
+      → IsAgainFault behaviour l n ts es most (Halted cause (Some report))
   early_fault Memory report is plan asked ended = (asked, subst (λ rs. EachMay rs (states behaviour (tree_of l))) (sym is) (halted_rows plan ended))
   early_fault Stopped report is plan asked ended = (asked, subst (IsCutAgain behaviour l n ts es most) (sym is) (cut_rows ended))
 
 -- a run that may have more asks than it can have isn't stopped
-pub never_stopped : (behaviour : Behaviour) → (l : Line) (n most : ℕ) (ts : List ℕ) (es : List Entry) (f : RunFault) → most ≡ suc (most_steps l n (length ts) (length es)) → IsAgainFault behaviour l n ts es most f → IsRunFault n ts (states behaviour (tree_of l)) f
+pub never_stopped : (behaviour : Behaviour) → (l : Line) (n most : ℕ) (ts : List ℕ) (es : List Entry) (f : RunFault)
+    → most ≡ suc (most_steps l n (length ts) (length es)) → IsAgainFault behaviour l n ts es most f → IsRunFault n ts (states behaviour (tree_of l)) f
 never_stopped behaviour l n most ts es BadWorkers e h = h
 never_stopped behaviour l n most ts es BadTurn e h = h
 never_stopped behaviour l n most ts es (Halted Memory rows) e h = h
@@ -153,22 +164,26 @@ never_stopped behaviour l n most ts es (Halted Stopped (Some report)) e h =
     let cut = h.1 in
     let soon = few_again behaviour l n es cut.so_far cut.steps cut.rest cut.by_entries ts h.0.0.0 cut.begin in absurd (omega (arith, soon, e, cut.many))
 
-pub never_stopped_in : (behaviour : Behaviour) → {T : Type 0} (l : Line) (n most : ℕ) (ts : List ℕ) (es : List Entry) (r : Result T RunFault) → most ≡ suc (most_steps l n (length ts) (length es)) → IfErr r (IsAgainFault behaviour l n ts es most)
+pub never_stopped_in : (behaviour : Behaviour) → {T : Type 0} (l : Line) (n most : ℕ) (ts : List ℕ) (es : List Entry) (r : Result T RunFault)
+    → most ≡ suc (most_steps l n (length ts) (length es)) → IfErr r (IsAgainFault behaviour l n ts es most)
     → IfErr r (IsRunFault n ts (states behaviour (tree_of l)))
 never_stopped_in behaviour l n most ts es (Ok x) e h = tt
 never_stopped_in behaviour l n most ts es (Err f) e h = never_stopped behaviour l n most ts es f e h
 
-pub again_ok : (behaviour : Behaviour) (l : Line) (n most : ℕ) (ts : List ℕ) (es : List Entry) (r : Result (Report × ℕ) RunFault) → IfOk r (λ x. IsAsked n ts × IsAgainWithin behaviour l n ts es most x.0.rows x.1)
+pub again_ok : (behaviour : Behaviour) (l : Line) (n most : ℕ) (ts : List ℕ) (es : List Entry) (r : Result (Report × ℕ) RunFault)
+    → IfOk r (λ x. IsAsked n ts × IsAgainWithin behaviour l n ts es most x.0.rows x.1)
     → IfOk r (λ x. IsAsked n ts × IsWholeAgain behaviour l n ts es x.0.rows x.1)
 again_ok behaviour l n most ts es (Ok x) h = (h.0, h.1.0)
 again_ok behaviour l n most ts es (Err f) h = tt
 
 -- ---- without entries
 
-none_spent : (behaviour : Behaviour) (l : Line) (n : ℕ) (us : List ℕ) (xs : List Step) (rest : List Entry) → TurnedAgain behaviour l n [] [] us xs rest → redeliveries_in xs ≡ 0
+none_spent : (behaviour : Behaviour) (l : Line) (n : ℕ) (us : List ℕ) (xs : List Step) (rest : List Entry) → TurnedAgain behaviour l n [] [] us xs rest
+    → redeliveries_in xs ≡ 0
 none_spent behaviour l n us xs rest t = let all = spends_length behaviour l n [] [] us xs rest t in omega (arith, all)
 
-pub plain_run : (behaviour : Behaviour) (l : Line) (n : ℕ) (ts : List ℕ) (rows : List State) (m : ℕ) → IsWholeAgain behaviour l n ts [] rows m → IsWholeRun behaviour l n ts rows
+pub plain_run : (behaviour : Behaviour) (l : Line) (n : ℕ) (ts : List ℕ) (rows : List State) (m : ℕ) → IsWholeAgain behaviour l n ts [] rows m
+    → IsWholeRun behaviour l n ts rows
 plain_run behaviour l n ts rows m whole = record {
   run = record {
     opens_back = whole.run.opens_back;
@@ -184,14 +199,16 @@ plain_run behaviour l n ts rows m whole = record {
   are = whole.are;
 }
 
-pub plain_within : (behaviour : Behaviour) (l : Line) (n most : ℕ) (ts : List ℕ) (rows : List State) (m : ℕ) → IsAgainWithin behaviour l n ts [] most rows m → IsWholeWithin behaviour l n ts most rows
+pub plain_within : (behaviour : Behaviour) (l : Line) (n most : ℕ) (ts : List ℕ) (rows : List State) (m : ℕ) → IsAgainWithin behaviour l n ts [] most rows m
+    → IsWholeWithin behaviour l n ts most rows
 unfolding plain_run
 plain_within behaviour l n most ts rows m (whole, few) =
     let none = none_spent behaviour l n whole.run.turns whole.run.steps whole.run.rest whole.run.turned in
     let few_steps : length whole.run.steps ≤ most = omega (arith, few, none) in
     (plain_run behaviour l n ts rows m whole, few_steps)
 
-pub plain_fault : (behaviour : Behaviour) (l : Line) (n most : ℕ) (ts : List ℕ) (f : RunFault) → IsAgainFault behaviour l n ts [] most f → IsFaultWithin behaviour l n ts most f
+pub plain_fault : (behaviour : Behaviour) (l : Line) (n most : ℕ) (ts : List ℕ) (f : RunFault) → IsAgainFault behaviour l n ts [] most f
+    → IsFaultWithin behaviour l n ts most f
 plain_fault behaviour l n most ts BadWorkers h = h
 plain_fault behaviour l n most ts BadTurn h = h
 plain_fault behaviour l n most ts (Halted Memory rows) h = h

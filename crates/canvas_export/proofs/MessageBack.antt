@@ -165,7 +165,13 @@ module _ (n : Naming) (whole : length n.run ≡ 22) where
       let before = ap task_of h.parent ∙ parent_back parent p.known in
       let own = own_back parent k call links errbacks place rest p in
       let after = rest_back rest p.following in
-      ap (λ x. record { parent = x; own = own_in (headers_wire n (as_content parent k call links errbacks place rest)) (body_wire n (as_content parent k call links errbacks place rest)); rest = line_within levels (reverse (listed (list_or_null (each_wire (reverse (elements n rest)))))) }) before
+      ap (λ x. record {
+        parent = x;
+        own = own_in (headers_wire n (as_content parent k call links errbacks place rest))
+            (body_wire n (as_content parent k call links errbacks place rest));
+        rest =
+            line_within levels (reverse (listed (list_or_null (each_wire (reverse (elements n rest))))));
+      }) before
       ∙ ap₂ (λ x y. record { parent = parent; own = x; rest = y }) own after
 
   content_at : (parent : Option ℕ) (own : PTask) (rest : PLine) → fits (record { parent = parent; own = own; rest = rest }) ≡ true
@@ -236,7 +242,11 @@ body_clean n b parent k call links errbacks place rest p = (
         (
           (refl, tt),
           list_clean (each_wire (reverse (elements n rest))) (rest_clean n b rest p.following),
-          ((refl, (refl, tt)), clean.place_clean n b true place p.placed, ((refl, (refl, (refl, tt))), list_clean (tasks_wire n errbacks) (clean.tasks_clean n b errbacks p.failing), tt)),
+          (
+            (refl, (refl, tt)),
+            clean.place_clean n b true place p.placed,
+            ((refl, (refl, (refl, tt))), list_clean (tasks_wire n errbacks) (clean.tasks_clean n b errbacks p.failing), tt),
+          ),
         ),
       ),
       tt,
@@ -326,7 +336,11 @@ envelope_back n b queue body parent k call links errbacks place rest =
         (
           (refl, (refl, tt)),
           tt,
-          ((refl, (refl, (refl, tt))), headed_clean n b parent k call links errbacks place rest, ((refl, (refl, (refl, (refl, tt)))), properties_clean n queue k, tt)),
+          (
+            (refl, (refl, (refl, tt))),
+            headed_clean n b parent k call links errbacks place rest,
+            ((refl, (refl, (refl, (refl, tt)))), properties_clean n queue k, tt),
+          ),
         ),
       ),
     )
@@ -345,7 +359,8 @@ kept_by e t text is back same = subst (λ x. IsKept x) same (decoded_of-ok stand
 message_by : (n : Naming) → length n.run ≡ 22 → clean.IsBounded n
     → (queue : Text) (parent : Option ℕ) (k : ℕ) (call : Call) (links errbacks : PTasks) (place : PPlace) (rest : PLine)
     → IsKept (compact_text (body_wire n (as_content parent k call links errbacks place rest))) → Parts parent k call links errbacks place rest
-    → read_message (message_text n queue (as_content parent k call links errbacks place rest)) ≡ Some (sizeless (as_content parent k call links errbacks place rest))
+    → read_message (message_text n queue (as_content parent k call links errbacks place rest))
+    ≡ Some (sizeless (as_content parent k call links errbacks place rest))
 message_by n whole b queue parent k call links errbacks place rest bytes p =
     let c = as_content parent k call links errbacks place rest in
     let inner = compact_text (body_wire n c) in
@@ -358,7 +373,8 @@ message_by n whole b queue parent k call links errbacks place rest bytes p =
 message_at : (n : Naming) → length n.run ≡ 22 → clean.IsBounded n → (queue : Text) (parent : Option ℕ) (own : PTask) (rest : PLine)
     → IsKept (compact_text (body_wire n (record { parent = parent; own = own; rest = rest })))
     → fits (record { parent = parent; own = own; rest = rest }) ≡ true
-    → read_message (message_text n queue (record { parent = parent; own = own; rest = rest })) ≡ Some (sizeless (record { parent = parent; own = own; rest = rest }))
+    → read_message (message_text n queue (record { parent = parent; own = own; rest = rest }))
+    ≡ Some (sizeless (record { parent = parent; own = own; rest = rest }))
 message_at n whole b queue parent (p_task k call links errbacks place) rest bytes h =
     message_by n whole b queue parent k call links errbacks place rest bytes (parts parent k call links errbacks place rest h)
 

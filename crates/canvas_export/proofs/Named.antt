@@ -74,7 +74,9 @@ named_back (e ∷ es) h = ap₂ (λ x xs. (e.0, x) ∷ xs) (argument_back e.1 h.
 
 -- a signature's call, whatever stands in its options
 pub call_back : (chain : Items) (call : Call) (options : Members) → CallFits call
-    → spelled_call (sig_wire chain (record { args = args_wire call.args; immutable = call.immutable; kwargs = kwargs_wire call.kwargs; options = options; kind = null; name = call.name })) ≡ call
+    → spelled_call (sig_wire chain
+    (record { args = args_wire call.args; immutable = call.immutable; kwargs = kwargs_wire call.kwargs; options = options; kind = null; name = call.name }))
+    ≡ call
 call_back chain call options fits =
     ap₂ (λ xs ys. record { name = call.name; args = xs; kwargs = ys; immutable = call.immutable }) (arguments_back call.args fits.args)
     (named_back call.kwargs fits.kwargs)

@@ -225,14 +225,16 @@ module _ (n : Naming) (whole : length n.run ≡ 22) where
       → line_within m (wires (chained ss) ss) ≡ sizeless_line body
       → place_from (line_within m) (group_id n g) (carried_wire ss) ≡ p_chord g 0 (sizeless_line body)
   place_named m g size body ss here h p is =
-      ap (λ b. if b then p_group (group_number (group_id n g)) else p_chord (group_number (group_id n g)) 0 (line_within m (carried_elements (carried_wire ss)))) (carried_some ss h)
+      ap (λ b. if b then p_group (group_number (group_id n g)) else p_chord (group_number (group_id n g)) 0
+      (line_within m (carried_elements (carried_wire ss)))) (carried_some ss h)
       ∙ ap₂ (λ i l. p_chord i 0 l) (group_number_back n.run g whole here) (ap (line_within m) (carried_split ss h p) ∙ is)
 
   assembled : (m k : ℕ) (call : Call) (links errbacks : PTasks) (place : PPlace) (ch : Items) → CallFits call → is_task_number k ≡ true
       → p_tasks_of (map (task_within m) (items (tasks_wire n links))) ≡ sizeless_tasks links
       → p_tasks_of (map (task_within m) (items (tasks_wire n errbacks))) ≡ sizeless_tasks errbacks
       → place_from (line_within m) (place_id n place) (body_at n place) ≡ sizeless_place place
-      → task_from (task_within m) (line_within m) (sig_wire ch (task_sig n (p_task k call links errbacks place))) ≡ sizeless_task (p_task k call links errbacks place)
+      → task_from (task_within m) (line_within m) (sig_wire ch (task_sig n (p_task k call links errbacks place)))
+      ≡ sizeless_task (p_task k call links errbacks place)
   assembled m k call links errbacks place ch fits here ls es at =
       let l = tasks_wire n links in
       let e = tasks_wire n errbacks in
@@ -317,7 +319,8 @@ module _ (n : Naming) (whole : length n.run ≡ 22) where
         let p = both (line_ok false x && not (in_group (strip x))) (members_ok ms) ok in
         let q = both (line_ok false x) (not (in_group (strip x))) p.0 in
         ap₂ and_p_line
-        (ap (line_within m) (member_split (elements n x) (filled n false x q.0) (are_plain n x)) ∙ line_back m c false x no_items q.0 (omega (arith, low, greatest_low c x)))
+        (ap (line_within m) (member_split (elements n x) (filled n false x q.0) (are_plain n x))
+        ∙ line_back m c false x no_items q.0 (omega (arith, low, greatest_low c x)))
         (members_back m c ms p.1 (omega (arith, low)))
 
 pub in_order : (ss : List Sig) → wires no_items ss ≡ map (sig_wire no_items) ss

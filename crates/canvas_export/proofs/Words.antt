@@ -32,7 +32,8 @@ last_words (Ok x) o n m us vs first second = then_words o n m us vs first second
 last_words (Err x) o n m us vs first second = tt
 
 -- one word more of a list
-pub next_word : {X : Type 0} (g : X → Text) (xs : List X) (i : ℕ) (x d : X) (out new old : Text) → i < length xs → get_or xs i d ≡ x → new ≡ out ++ word_bytes (g x)
+pub next_word : {X : Type 0} (g : X → Text) (xs : List X) (i : ℕ) (x d : X) (out new old : Text) → i < length xs → get_or xs i d ≡ x
+    → new ≡ out ++ word_bytes (g x)
     → out ++ words_bytes (map g (drop i xs)) ≡ old ++ words_bytes (map g xs) → new ++ words_bytes (map g (drop (i + 1) xs)) ≡ old ++ words_bytes (map g xs)
 next_word g xs i x d out new old h is written kept =
     let e : suc i ≡ i + 1 = omega arith in
@@ -60,7 +61,8 @@ two_databases (Some d) = refl
 abbrev pub script_parts : (head keys settings counts messages : List Text) → List Text
 script_parts head keys settings counts messages = (((head ++ keys) ++ settings) ++ counts) ++ messages ++ codes "whole" ∷ []
 
-pub five_lengths : (a b c d e : List Text) (w : Text) → length (((((a ++ b) ++ c) ++ d) ++ e) ++ w ∷ []) ≡ length a + length b + length c + length d + length e + 1
+pub five_lengths : (a b c d e : List Text) (w : Text) → length (((((a ++ b) ++ c) ++ d) ++ e) ++ w ∷ []) ≡ length a + length b + length c + length d + length e
+    + 1
 five_lengths a b c d e w =
     simp (length-append {A = Text}) (omega arith)
 
@@ -75,7 +77,8 @@ pub ok_word_as : {E : Type 0} (r : Result (Unit {0}) E) (n m v w : Text) → v �
 ok_word_as (Ok x) n m v w e h = word_as n m v w e h
 ok_word_as (Err x) n m v w e h = tt
 
-pub ok_command_as : {E : Type 0} (r : Result (Unit {0}) E) (o n : Text) (us vs : List Text) → us ≡ vs → OnOk r (n ≡ o ++ command_bytes us) → OnOk r (n ≡ o ++ command_bytes vs)
+pub ok_command_as : {E : Type 0} (r : Result (Unit {0}) E) (o n : Text) (us vs : List Text) → us ≡ vs → OnOk r (n ≡ o ++ command_bytes us)
+    → OnOk r (n ≡ o ++ command_bytes vs)
 ok_command_as (Ok x) o n us vs e h = h ∙ ap (λ ws. o ++ command_bytes ws) e
 ok_command_as (Err x) o n us vs e h = tt
 

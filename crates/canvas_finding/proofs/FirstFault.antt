@@ -93,14 +93,16 @@ first_in_each f g same (e ∷ es) =
 first_inside : (f : Bool → Data → List Sighted) (g : Bool → Data → Option SigFault) → ((b : Bool) (d : Data) → first_of (f b d) ≡ g b d)
     → (linked : Bool) (d : Data) → fault_as linked d (primitive_of (subtype d)) ≡ None
     → first_of (inside f d)
-    ≡ (first_fault (g false) (data_in_kwargs (primitive_of (subtype d)) d) or_else (first_fault (g true) (as_list (link d)) or_else first_fault (g true) (as_list (link_error d))))
+    ≡ (first_fault (g false) (data_in_kwargs (primitive_of (subtype d)) d) or_else
+    (first_fault (g true) (as_list (link d)) or_else first_fault (g true) (as_list (link_error d))))
 first_inside f g same linked d h =
     let kwargs = in_each (f false) (in_kwargs (primitive_of (subtype d)) d) in
     let links = in_each (f true) (some_in field.Links (link d)) in
     let errbacks = in_each (f true) (some_in field.Errbacks (link_error d)) in
     first_of_both kwargs (links ++ errbacks)
     ∙ ap₂ (λ a b. a or_else b)
-    (first_in_each (f false) (g false) (same false) (in_kwargs (primitive_of (subtype d)) d) ∙ ap (first_fault (g false)) (of_kwargs linked (primitive_of (subtype d)) d h))
+    (first_in_each (f false) (g false) (same false) (in_kwargs (primitive_of (subtype d)) d)
+    ∙ ap (first_fault (g false)) (of_kwargs linked (primitive_of (subtype d)) d h))
     (first_of_both links errbacks ∙ ap₂ (λ a b. a or_else b)
     (first_in_each (f true) (g true) (same true) (some_in field.Links (link d)) ∙ ap (first_fault (g true)) (of_some field.Links (link d)))
     (first_in_each (f true) (g true) (same true) (some_in field.Errbacks (link_error d)) ∙ ap (first_fault (g true)) (of_some field.Errbacks (link_error d))))

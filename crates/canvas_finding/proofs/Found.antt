@@ -20,7 +20,8 @@ use Rattle.canvas_finding.specs.declared.finding.Spot.{Spot}
 use Rattle.canvas_finding.specs.declared.finding.Spot.TheVariants as spot
 use Rattle.canvas_finding.proofs.Leads.{place_leads}
 
-pub place_found : (e : SigFault) (d : Data) (o : Option Place) (p : Place) → option_map shown o ≡ place_of e d → o ≡ Some p → AreIndices p.steps.items → IsPlace d e p.steps.items
+pub place_found : (e : SigFault) (d : Data) (o : Option Place) (p : Place) → option_map shown o ≡ place_of e d → o ≡ Some p → AreIndices p.steps.items
+    → IsPlace d e p.steps.items
 place_found e d o p found is fit =
     let first : place_of e d ≡ Some (shown p) = sym found ∙ ap (option_map shown) is in
     record { place = shown p; first = first; steps_are = refl; leads = place_leads e d (shown p) first fit }

@@ -41,7 +41,8 @@ digits ds = record { whole = ds; point = false; fraction = []; exponent_negative
 scanned : (n : ℕ) → n < 2 ^ 64 → scan (decimal n) ≡ digits (decimal n)
 scanned n h =
     let e = decimal_is_IsNumeral n h in
-    let formed : IsWellFormed (digits (decimal n)) = record { whole_digits = e.0.1; fraction_digits = tt; exponent_digits = tt; no_point = λ _. refl; no_exponent = λ _. refl; len_is = refl } in
+    let formed : IsWellFormed (digits (decimal n)) =
+    record { whole_digits = e.0.1; fraction_digits = tt; exponent_digits = tt; no_point = λ _. refl; no_exponent = λ _. refl; len_is = refl } in
     ap scan (sym (append-nil (decimal n))) ∙ scan-text_of (digits (decimal n)) formed
 
 no_zero_first : (n : ℕ) → n < 2 ^ 64 → (eqb (length (decimal n)) 1 || not (eqb (get_or (decimal n) 0 0) 48)) ≡ true
@@ -55,4 +56,5 @@ unfolding index_of
 index_of-decimal n h =
     let some = decimal_nonempty n h in
     let value = (decimal_is_IsNumeral n h).1 in
-    rw (scanned n h) (rw (lt-ltb _ _ some, append-nil (decimal n)) (rw (eq-eqb (length (decimal n)) (length (decimal n)) refl, value) (rw (lt-ltb _ _ h, no_zero_first n h) refl)))
+    rw (scanned n h) (rw (lt-ltb _ _ some, append-nil (decimal n))
+    (rw (eq-eqb (length (decimal n)) (length (decimal n)) refl, value) (rw (lt-ltb _ _ h, no_zero_first n h) refl)))

@@ -62,7 +62,8 @@ record Plain (k : Text) : Type 0 where
 over_members : (l m rest : Text) (d : Data) → Plain l → Plain m → is_null (field m (field l d)) ≡ false → IsPointer rest
     → pointer (47 ∷ l ++ (47 ∷ m ++ rest)) d ≡ pointer rest (field m (field l d))
 over_members l m rest d p q h r =
-    over_part l (47 ∷ m ++ rest) d (field l d) p.no_slash (inr (m ++ rest, refl)) (over_member l d (field l d) p.no_tilde (there (get l d) (holder_there m (field l d) h)))
+    over_part l (47 ∷ m ++ rest) d (field l d) p.no_slash (inr (m ++ rest, refl))
+    (over_member l d (field l d) p.no_tilde (there (get l d) (holder_there m (field l d) h)))
     ∙ over_part m rest (field l d) (field m (field l d)) q.no_slash r (over_member m (field l d) (field m (field l d)) q.no_tilde (there (get m (field l d)) h))
 
 -- the members that a field is
@@ -226,7 +227,8 @@ lead_within : (n : ℕ) (linked : Bool) (d : Data) → AllLead d (sighted_within
 lead_within zero linked d = (λ fit. refl, tt)
 lead_within (suc n) linked d = (
   λ fit. refl,
-  leads_both d _ _ (lead_each d (sighted_within n false) (lead_within n false) (in_kwargs (primitive_of (subtype d)) d) (go_to_kwargs (primitive_of (subtype d)) d))
+  leads_both d _ _ (lead_each d (sighted_within n false) (lead_within n false) (in_kwargs (primitive_of (subtype d)) d)
+      (go_to_kwargs (primitive_of (subtype d)) d))
       (leads_both d _ _
       (lead_each d (sighted_within n true) (lead_within n true) (some_in field.Links (link d)) (go_to_some field.Links (codes "options") (codes "link") d (link d) in_link refl))
       (lead_each d (sighted_within n true) (lead_within n true) (some_in field.Errbacks (link_error d)) (go_to_some field.Errbacks (codes "options") (codes "link_error") d (link_error d) in_link_error refl))),

@@ -52,7 +52,8 @@ kwargs_low (Some kind.Chord) d n h =
     (both_low n _ _ (some_low field.Header (header d) n (as_list_low (header d) n (inner_low (codes "header") (codes "kwargs") d n h)))
     (one_low field.Body (body d) n (inner_low (codes "body") (codes "kwargs") d n h)))
 
-same_each : (n : ℕ) (f g : Data → List Sighted) → ((d : Data) → depth d ≤ n → f d ≡ g d) → (es : List (Step × Data)) → AllLow n (data_of es) → in_each f es ≡ in_each g es
+same_each : (n : ℕ) (f g : Data → List Sighted) → ((d : Data) → depth d ≤ n → f d ≡ g d) → (es : List (Step × Data)) → AllLow n (data_of es)
+    → in_each f es ≡ in_each g es
 same_each n f g same [] low = refl
 same_each n f g same (e ∷ es) low =
     ap₂ (λ xs ys. map (behind (e.0 ∷ [])) xs ++ ys) (same e.1 low.0) (same_each n f g same es low.1)
@@ -67,7 +68,8 @@ enough (suc m) zero linked (string s) low h = refl
 enough (suc m) zero linked (array ds) low h = absurd (omega arith)
 enough (suc m) zero linked (object ms) low h = absurd (omega arith)
 enough (suc m) (suc n) linked d low h =
-    let kwargs = same_each n (sighted_within m false) (sighted_within n false) (λ x l. enough m n false x l (omega arith)) (in_kwargs (primitive_of (subtype d)) d) (kwargs_low (primitive_of (subtype d)) d n low) in
+    let kwargs = same_each n (sighted_within m false) (sighted_within n false) (λ x l. enough m n false x l (omega arith))
+    (in_kwargs (primitive_of (subtype d)) d) (kwargs_low (primitive_of (subtype d)) d n low) in
     let links = same_each n (sighted_within m true) (sighted_within n true) (λ x l. enough m n true x l (omega arith)) (some_in field.Links (link d)) (some_low field.Links (link d) n (link_low (codes "link") d n low)) in
     let errbacks = same_each n (sighted_within m true) (sighted_within n true) (λ x l. enough m n true x l (omega arith)) (some_in field.Errbacks (link_error d)) (some_low field.Errbacks (link_error d) n (link_low (codes "link_error") d n low)) in
     ap (λ xs. itself linked d ∷ xs) (ap₂ (λ xs ys. xs ++ ys) kwargs (ap₂ (λ xs ys. xs ++ ys) links errbacks))

@@ -56,7 +56,8 @@ module _ {C R S : Type 0} (first : S) (answer : S → C → R) (next : S → C �
   abbrev IsLegal : List (Entry C R) → Type 0
   IsLegal = Legal first answer next May
 
-  pub state_push : (h : List (Entry C R)) (e : Entry C R) → replay first answer next May (h ++ e ∷ []) ≡ state_after first answer next May (replay first answer next May h) e
+  pub state_push : (h : List (Entry C R)) (e : Entry C R)
+      → replay first answer next May (h ++ e ∷ []) ≡ state_after first answer next May (replay first answer next May h) e
   state_push h e = state_append first answer next May first h (e ∷ [])
 
   -- one more entry that is allowed
@@ -78,7 +79,8 @@ module _ {C R S : Type 0} (first : S) (answer : S → C → R) (next : S → C �
   alone h p [] g legal others sole = refl
   alone h p (e ∷ es) g legal others sole =
       let here : In (by_of e) (p ∷ []) = subst (λ cs. In (by_of e) cs) sole (by_live first answer next May h e (legal_at h e (es ++ g) legal)) in
-      absurd (⊎_elim (λ (s : p ≡ by_of e). false≢true (sym (not_of (by_of e) p others.0) ∙ eq-eqb (by_of e) p (sym s))) (λ u. false≢true u) (in_cases (by_of e) p [] here))
+      absurd (⊎_elim (λ (s : p ≡ by_of e). false≢true (sym (not_of (by_of e) p others.0) ∙ eq-eqb (by_of e) p (sym s))) (λ u. false≢true u)
+      (in_cases (by_of e) p [] here))
 
   -- who is live at the end was live when it was known
   pub was_live : (h r : List (Entry C R)) (p : ℕ) → LegalAfter h r → IsKnown p h → In p (live (h ++ r)) → In p (live h)
@@ -87,8 +89,13 @@ module _ {C R S : Type 0} (first : S) (answer : S → C → R) (next : S → C �
   -- who is live at the end is its own heir
   pub own_heir : (h r : List (Entry C R)) (p : ℕ) → LegalAfter h r → In p (live (h ++ r)) → heir r p ≡ p
   own_heir h [] p legal alive = refl
-  own_heir h (split a q ∷ es) p legal alive = own_heir (h ++ split a q ∷ []) es p legal.1 (subst (λ l. In p (live l)) (sym (append_assoc h (split a q ∷ []) es)) alive)
+  own_heir h (split a q ∷ es) p legal alive =
+      own_heir (h ++ split a q ∷ []) es p legal.1 (subst (λ l. In p (live l)) (sym (append_assoc h (split a q ∷ []) es)) alive)
   own_heir h (join a q ∷ es) p legal alive =
-      let stays : (p == q) ≡ false = not_true (p == q) (λ x. gone first answer next May h (join a q ∷ es) legal p (subst (λ k. In p (k ∷ taken_in es)) (eqb-true p q x) (in_here p (taken_in es))) alive) in
-      ap (λ b. heir es (cond b a p)) stays ∙ own_heir (h ++ join a q ∷ []) es p legal.1 (subst (λ l. In p (live l)) (sym (append_assoc h (join a q ∷ []) es)) alive)
-  own_heir h (calls a c r ∷ es) p legal alive = own_heir (h ++ calls a c r ∷ []) es p legal.1 (subst (λ l. In p (live l)) (sym (append_assoc h (calls a c r ∷ []) es)) alive)
+      let stays : (p == q) ≡ false =
+      not_true (p == q) (λ x. gone first answer next May h (join a q ∷ es) legal p
+      (subst (λ k. In p (k ∷ taken_in es)) (eqb-true p q x) (in_here p (taken_in es))) alive) in
+      ap (λ b. heir es (cond b a p)) stays
+      ∙ own_heir (h ++ join a q ∷ []) es p legal.1 (subst (λ l. In p (live l)) (sym (append_assoc h (join a q ∷ []) es)) alive)
+  own_heir h (calls a c r ∷ es) p legal alive =
+      own_heir (h ++ calls a c r ∷ []) es p legal.1 (subst (λ l. In p (live l)) (sym (append_assoc h (calls a c r ∷ []) es)) alive)

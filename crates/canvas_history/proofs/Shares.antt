@@ -28,7 +28,8 @@ at_end (x ∷ xs) a b (suc j) e = ⊎_elim inl (λ r. inr (ap suc r.0, r.1)) (at
 
 module _ {C R : Type 0} where
   -- a caller fits still, after an entry that isn't its own and leaves it live
-  fit_more : (log : List (Entry C R)) (at at' : ℕ → ℕ × ℕ) (seat place : ℕ) (h : Hat C R) (e : Entry C R) → (by_of e == h.0) ≡ false → among h.0 (live_after (live log) e) ≡ true → at' h.0 ≡ at h.0
+  fit_more : (log : List (Entry C R)) (at at' : ℕ → ℕ × ℕ) (seat place : ℕ) (h : Hat C R) (e : Entry C R) → (by_of e == h.0) ≡ false
+      → among h.0 (live_after (live log) e) ≡ true → at' h.0 ≡ at h.0
       → Fits log at seat place h → Fits (log ++ e ∷ []) at' seat place h
   fit_more log at at' seat place h e apart alive same f = record {
     rest = f.rest ++ e ∷ [];
@@ -44,12 +45,14 @@ module _ {C R : Type 0} where
   fit_all log at seat place p alive here = record { rest = []; is = sym (append-nil log); others = tt; alive = alive; was_alive = alive; here = here }
 
   fits_set : (log : List (Entry C R)) (at : ℕ → ℕ × ℕ) (views : List (List (Hat C R))) (id : ℕ) (w : List (Hat C R))
-      → ((seat : ℕ) (v : List (Hat C R)) (place : ℕ) (h : Hat C R) → seat ≢ id → get_elem? views seat ≡ some v → get_elem? v place ≡ some h → Fits log at seat place h)
+      → ((seat : ℕ) (v : List (Hat C R)) (place : ℕ) (h : Hat C R) → seat ≢ id → get_elem? views seat ≡ some v → get_elem? v place ≡ some h
+      → Fits log at seat place h)
       → ((place : ℕ) (h : Hat C R) → get_elem? w place ≡ some h → Fits log at id place h)
       → AllFit log at (set views id w)
   fits_set log at views id w others mine seat v place h e k =
       ⊎_elim
-      (λ (x : (seat ≡ id) × (w ≡ v)). subst (λ (z : ℕ). Fits log at z place h) (sym x.0) (mine place h (subst (λ (u : List (Hat C R)). get_elem? u place ≡ some h) (sym x.1) k)))
+      (λ (x : (seat ≡ id) × (w ≡ v)). subst (λ (z : ℕ). Fits log at z place h) (sym x.0)
+      (mine place h (subst (λ (u : List (Hat C R)). get_elem? u place ≡ some h) (sym x.1) k)))
       (λ (x : (seat ≢ id) × (get_elem? views seat ≡ some v)). others seat v place h x.0 x.1 k)
       (at_set views id seat w v e)
 
@@ -94,14 +97,22 @@ module _ {C R S : Type 0} (first : S) (answer : S → C → R) (next : S → C �
     abbrev all : Entry C R → List (Entry C R)
     all e = k.log ++ e ∷ []
 
-    told : (p : ℕ) (seen : List (Entry C R)) (place : ℕ) (e : Entry C R) → Fits k.log k.at id place (p, seen) → Allowed first answer next May k.log e → IsCall p seen (all e) e
+    told : (p : ℕ) (seen : List (Entry C R)) (place : ℕ) (e : Entry C R) → Fits k.log k.at id place (p, seen) → Allowed first answer next May k.log e
+        → IsCall p seen (all e) e
     told p seen place e f good =
         let legal = legal_push first answer next May k.log e k.legal good in
-        let is : all e ≡ seen ++ (f.rest ++ e ∷ []) = ap (λ (z : List (Entry C R)). z ++ e ∷ []) f.is ∙ append_assoc seen f.rest (e ∷ []) in
-        (f.rest, is, f.others, legal, λ sole. alone first answer next May seen p f.rest (e ∷ []) (subst (Legal first answer next May) is legal) f.others (subst (λ l. Sole l p) (append-nil seen) sole))
+        let is : all e ≡ seen ++ (f.rest ++ e ∷ []) = ap (λ (z : List (Entry C R)). z ++ e ∷ []) f.is ∙ append_assoc seen f.rest (e ∷ []) in (
+          f.rest,
+          is,
+          f.others,
+          legal,
+          λ sole. alone first answer next May seen p f.rest (e ∷ []) (subst (Legal first answer next May) is legal) f.others
+              (subst (λ l. Sole l p) (append-nil seen) sole),
+        )
 
     -- a call
-    pub calls_step : (p : ℕ) (seen : List (Entry C R)) → get_elem? views id ≡ some ((p, seen) ∷ []) → (shows' : S → Type 0) (c : C) → May k.log (State k.log) p c → shows' (next (State k.log) c)
+    pub calls_step : (p : ℕ) (seen : List (Entry C R)) → get_elem? views id ≡ some ((p, seen) ∷ []) → (shows' : S → Type 0) (c : C)
+        → May k.log (State k.log) p c → shows' (next (State k.log) c)
         → let e = calls p c (answer (State k.log) c) in Kept shows' (set views id ((p, all e) ∷ [])) × IsCall p seen (all e) e
     calls_step p seen here shows' c may right =
         let f : Fits k.log k.at id 0 (p, seen) = k.fits id ((p, seen) ∷ []) 0 (p, seen) here refl in
@@ -123,7 +134,8 @@ module _ {C R S : Type 0} (first : S) (answer : S → C → R) (next : S → C �
 
     -- a new caller is named, and stands beside the one that made it
     pub split_step : (p : ℕ) (seen : List (Entry C R)) → get_elem? views id ≡ some ((p, seen) ∷ [])
-        → let q = suc (length (split_off k.log)) in let e = split p q in Kept shows (set views id ((p, all e) ∷ (q, all e) ∷ [])) × IsCall p seen (all e) e × (q ≡ length (split_off (all e)))
+        → let q = suc (length (split_off k.log)) in let e = split p q in Kept shows (set views id ((p, all e) ∷ (q, all e) ∷ [])) × IsCall p seen (all e) e
+        × (q ≡ length (split_off (all e)))
     split_step p seen here =
         let f : Fits k.log k.at id 0 (p, seen) = k.fits id ((p, seen) ∷ []) 0 (p, seen) here refl in
         let q : ℕ = suc (length (split_off k.log)) in
@@ -133,17 +145,22 @@ module _ {C R S : Type 0} (first : S) (answer : S → C → R) (next : S → C �
         let new : among q (split_off k.log) ≡ false = not_true (among q (split_off k.log)) (λ is. let l = k.numbered q is in absurd (omega arith)) in
         let good : Allowed first answer next May k.log e = (f.alive, ne_eqb q 0 (λ z. absurd (omega arith)), new) in
         let at' : ℕ → ℕ × ℕ = placed k.at q (id, 1) in
-        let alive : (x : ℕ) → among x (live k.log) ≡ true → among x (live (all e)) ≡ true = λ x is. ap (among x) (live_push k.log e) ∙ among_more x (live k.log) q is in
-        let old : (x : ℕ) → among x (live k.log) ≡ true → (x == q) ≡ false = λ x is. ne_eqb x q (λ z. ⊎_elim (λ (o : x ≡ 0). absurd (omega arith)) (λ h. let l = k.numbered x h in absurd (omega arith)) (live_known k.log x is)) in (
+        let alive : (x : ℕ) → among x (live k.log) ≡ true → among x (live (all e)) ≡ true = λ x is. ap (among x) (live_push k.log e)
+        ∙ among_more x (live k.log) q is in
+        let old : (x : ℕ) → among x (live k.log) ≡ true → (x == q) ≡ false =
+        λ x is. ne_eqb x q (λ z. ⊎_elim (λ (o : x ≡ 0). absurd (omega arith)) (λ h. let l = k.numbered x h in absurd (omega arith))
+        (live_known k.log x is)) in (
           record {
             log = all e;
             at = at';
             legal = legal_push first answer next May k.log e k.legal good;
             shown = subst shows (sym (state_push first answer next May k.log e)) k.shown;
-            numbered = λ x is. ⊎_elim (λ h. let l = k.numbered x h in omega (arith, number)) (λ h. omega (arith, number)) (among_last x (split_off k.log) q (ap (among x) (sym more) ∙ is));
+            numbered = λ x is. ⊎_elim (λ h. let l = k.numbered x h in omega (arith, number)) (λ h. omega (arith, number))
+                (among_last x (split_off k.log) q (ap (among x) (sym more) ∙ is));
             fits = fits_set (all e) at' views id ((p, all e) ∷ (q, all e) ∷ [])
                 (λ seat v place h ne x y. let g = k.fits seat v place h x y in
-                fit_more k.log k.at at' seat place h e (apart_of k.log k.at seat id place 0 h (p, seen) ne g f) (among_more h.0 (live k.log) q g.alive) (placed_else k.at q (id, 1) h.0 (old h.0 g.alive)) g)
+                fit_more k.log k.at at' seat place h e (apart_of k.log k.at seat id place 0 h (p, seen) ne g f) (among_more h.0 (live k.log) q g.alive)
+                (placed_else k.at q (id, 1) h.0 (old h.0 g.alive)) g)
                 (two_fit (Fits (all e) at' id) (p, all e) (q, all e)
                 (fit_all (all e) at' id 0 p (alive p f.alive) (placed_else k.at q (id, 1) p (old p f.alive) ∙ f.here))
                 (fit_all (all e) at' id 1 q (ap (among q) (live_push k.log e) ∙ among_here q (live k.log)) (placed_here k.at q (id, 1))));
@@ -153,7 +170,8 @@ module _ {C R S : Type 0} (first : S) (answer : S → C → R) (next : S → C �
         )
 
     -- the second caller gets a view of its own
-    pub cut_step : (p q : ℕ) (a b : List (Entry C R)) → get_elem? views id ≡ some ((p, a) ∷ (q, b) ∷ []) → Kept shows (set views id ((p, a) ∷ []) ++ ((q, b) ∷ []) ∷ [])
+    pub cut_step : (p q : ℕ) (a b : List (Entry C R)) → get_elem? views id ≡ some ((p, a) ∷ (q, b) ∷ [])
+        → Kept shows (set views id ((p, a) ∷ []) ++ ((q, b) ∷ []) ∷ [])
     cut_step p q a b here =
         let f : Fits k.log k.at id 0 (p, a) = k.fits id ((p, a) ∷ (q, b) ∷ []) 0 (p, a) here refl in
         let g : Fits k.log k.at id 1 (q, b) = k.fits id ((p, a) ∷ (q, b) ∷ []) 1 (q, b) here refl in
@@ -168,17 +186,22 @@ module _ {C R S : Type 0} (first : S) (answer : S → C → R) (next : S → C �
           fits = λ seat v place h e y. ⊎_elim
               (λ (was : get_elem? cut seat ≡ some v). fits_set k.log at' views id ((p, a) ∷ [])
               (λ seat v place h ne x y. let o = k.fits seat v place h x y in
-              fit_moved k.log k.at at' seat place seat place h (placed_else k.at q (length cut, 0) h.0 (apart_of k.log k.at id seat 1 place (q, b) h (λ z. ne (sym z)) g o) ∙ o.here) o)
-              (one_fits (Fits k.log at' id) (p, a) (fit_moved k.log k.at at' id 0 id 0 (p, a) (placed_else k.at q (length cut, 0) p (apart_at k.log k.at id 1 id 0 (q, b) (p, a) (λ z. absurd (omega arith)) g f) ∙ f.here) f))
+              fit_moved k.log k.at at' seat place seat place h
+              (placed_else k.at q (length cut, 0) h.0 (apart_of k.log k.at id seat 1 place (q, b) h (λ z. ne (sym z)) g o) ∙ o.here) o)
+              (one_fits (Fits k.log at' id) (p, a)
+              (fit_moved k.log k.at at' id 0 id 0 (p, a)
+              (placed_else k.at q (length cut, 0) p (apart_at k.log k.at id 1 id 0 (q, b) (p, a) (λ z. absurd (omega arith)) g f) ∙ f.here) f))
               seat v place h was y)
               (λ (new : (seat ≡ length cut) × (((q, b) ∷ []) ≡ v)).
-              one_fits (Fits k.log at' seat) (q, b) (fit_moved k.log k.at at' id 1 seat 0 (q, b) (placed_here k.at q (length cut, 0) ∙ ap (λ (z : ℕ). (z, 0)) (sym new.0)) g) place h
+              one_fits (Fits k.log at' seat) (q, b)
+              (fit_moved k.log k.at at' id 1 seat 0 (q, b) (placed_here k.at q (length cut, 0) ∙ ap (λ (z : ℕ). (z, 0)) (sym new.0)) g) place h
               (subst (λ (u : List (Hat C R)). get_elem? u place ≡ some h) (sym new.1) y))
               (at_end cut ((q, b) ∷ []) v seat e);
         }
 
     -- another view's caller is put beside this one's
-    pub glue_step : (p q other : ℕ) (a b : List (Entry C R)) → get_elem? views id ≡ some ((p, a) ∷ []) → other ≢ id → get_elem? (set views id ((p, a) ∷ (q, b) ∷ [])) other ≡ some ((q, b) ∷ [])
+    pub glue_step : (p q other : ℕ) (a b : List (Entry C R)) → get_elem? views id ≡ some ((p, a) ∷ []) → other ≢ id
+        → get_elem? (set views id ((p, a) ∷ (q, b) ∷ [])) other ≡ some ((q, b) ∷ [])
         → Kept shows (set (set views id ((p, a) ∷ (q, b) ∷ [])) other [])
     glue_step p q other a b here ne there =
         let f : Fits k.log k.at id 0 (p, a) = k.fits id ((p, a) ∷ []) 0 (p, a) here refl in
@@ -199,7 +222,8 @@ module _ {C R S : Type 0} (first : S) (answer : S → C → R) (next : S → C �
               (fit_moved k.log k.at at' other 0 id 1 (q, b) (placed_here k.at q (id, 1)) g)
               place h (subst (λ (u : List (Hat C R)). get_elem? u place ≡ some h) (sym x.1) y)))
               (λ (x : (seat ≢ id) × (get_elem? views seat ≡ some v)). let o = k.fits seat v place h x.1 y in
-              fit_moved k.log k.at at' seat place seat place h (placed_else k.at q (id, 1) h.0 (apart_of k.log k.at other seat 0 place (q, b) h (λ z. apart (sym z)) g o) ∙ o.here) o)
+              fit_moved k.log k.at at' seat place seat place h
+              (placed_else k.at q (id, 1) h.0 (apart_of k.log k.at other seat 0 place (q, b) h (λ z. apart (sym z)) g o) ∙ o.here) o)
               (at_set views id seat both v e))
               (none_fits (Fits k.log at' other));
         }
@@ -224,7 +248,8 @@ module _ {C R S : Type 0} (first : S) (answer : S → C → R) (next : S → C �
                 (λ seat v place h ne x y. let o = k.fits seat v place h x y in
                 fit_more k.log k.at k.at seat place h e (apart_of k.log k.at seat id place 0 h (p, a) ne o f)
                 (among_without h.0 q (live k.log) (apart_of k.log k.at id seat 1 place (q, b) h (λ z. ne (sym z)) g o) o.alive) refl o)
-                (one_fits (Fits (all e) k.at id) (p, all e) (fit_all (all e) k.at id 0 p (ap (among p) (live_push k.log e) ∙ among_without p q (live k.log) two' f.alive) f.here));
+                (one_fits (Fits (all e) k.at id) (p, all e)
+                (fit_all (all e) k.at id 0 p (ap (among p) (live_push k.log e) ∙ among_without p q (live k.log) two' f.alive) f.here));
           },
           told p a 0 e f good,
           told q b 1 e g good,

@@ -14,7 +14,22 @@ use Rattle.canvas_task.proofs.text_of.TextOf.TheSendSync.{the_send as text_send,
 use Rattle.canvas_message.specs.contracts.letter.Letter as Letter
 use Rattle.canvas_message.specs.contracts.message.Message as Message
 
-ruleset plain = (arg_send, arg_sync, list_send, list_sync, map_send, map_sync, group_send, group_sync, task_send, task_sync, text_send, text_sync, sendable, crosses)
+ruleset plain = (
+  arg_send,
+  arg_sync,
+  list_send,
+  list_sync,
+  map_send,
+  map_sync,
+  group_send,
+  group_sync,
+  task_send,
+  task_sync,
+  text_send,
+  text_sync,
+  sendable,
+  crosses,
+)
 
 task : IsSend FrozenTask.the_row
 task = search (both_send-FrozenTask, plain) depth 20

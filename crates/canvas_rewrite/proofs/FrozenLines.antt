@@ -58,7 +58,8 @@ module _ (t : LineEnd) where
     pub end_groups_none : line_groups (end_of t) ≡ 1 + lines_group_count (map line_of (out-LineEnd t).members)
     end_groups_none = ap line_groups (end_none t e) ∙ ap (λ n. 1 + n) (in_entries its_members)
 
-    pub end_numbered_none : (k g : ℕ) → bare (number_line k g (end_of t)) ≡ p_group_end g (p_lines_of (lines_from k (g + 1) (map line_of (out-LineEnd t).members)))
+    pub end_numbered_none : (k g : ℕ)
+        → bare (number_line k g (end_of t)) ≡ p_group_end g (p_lines_of (lines_from k (g + 1) (map line_of (out-LineEnd t).members)))
     end_numbered_none k g = ap (λ x. bare (number_line k g x)) (end_none t e) ∙ ap (p_group_end g) (sym (lines_numbered k (g + 1) its_members))
 
   module _ (b : line.Line) (e : (out-LineEnd t).body ≡ Some b) where
@@ -70,15 +71,20 @@ module _ (t : LineEnd) where
 
     pub end_numbered_some : (k g : ℕ) → bare (number_line k g (end_of t))
         ≡ p_chord_end g (p_lines_of (lines_from k (g + 1) (map line_of (out-LineEnd t).members)))
-        (bare (number_line (k + lines_count (map line_of (out-LineEnd t).members)) (g + 1 + lines_group_count (map line_of (out-LineEnd t).members)) (line_of b)))
+        (bare (number_line (k + lines_count (map line_of (out-LineEnd t).members)) (g + 1 + lines_group_count (map line_of (out-LineEnd t).members))
+        (line_of b)))
     end_numbered_some k g =
         ap (λ x. bare (number_line k g x)) (end_some t b e)
-        ∙ ap (λ ms. p_chord_end g ms (bare (number_line (k + count_lines (lines_of its_members)) (g + 1 + lines_groups (lines_of its_members)) (line_of b)))) (sym (lines_numbered k (g + 1) its_members))
-        ∙ ap (λ n. p_chord_end g (p_lines_of (lines_from k (g + 1) its_members)) (bare (number_line (k + n) (g + 1 + lines_groups (lines_of its_members)) (line_of b)))) (in_lines its_members)
-        ∙ ap (λ n. p_chord_end g (p_lines_of (lines_from k (g + 1) its_members)) (bare (number_line (k + lines_count its_members) (g + 1 + n) (line_of b)))) (in_entries its_members)
+        ∙ ap (λ ms. p_chord_end g ms (bare (number_line (k + count_lines (lines_of its_members)) (g + 1 + lines_groups (lines_of its_members)) (line_of b))))
+        (sym (lines_numbered k (g + 1) its_members))
+        ∙ ap (λ n. p_chord_end g (p_lines_of (lines_from k (g + 1) its_members))
+        (bare (number_line (k + n) (g + 1 + lines_groups (lines_of its_members)) (line_of b)))) (in_lines its_members)
+        ∙ ap (λ n. p_chord_end g (p_lines_of (lines_from k (g + 1) its_members)) (bare (number_line (k + lines_count its_members) (g + 1 + n) (line_of b))))
+        (in_entries its_members)
 
 members_by : (t : LineEnd) (o : Option line.Line) → (out-LineEnd t).body ≡ o
-    → (lines_count (map line_of (out-LineEnd t).members) ≤ count_line (end_of t)) × (1 + lines_group_count (map line_of (out-LineEnd t).members) ≤ line_groups (end_of t))
+    → (lines_count (map line_of (out-LineEnd t).members) ≤ count_line (end_of t))
+    × (1 + lines_group_count (map line_of (out-LineEnd t).members) ≤ line_groups (end_of t))
 members_by t None e = (omega (arith, end_count_none t e), omega (arith, end_groups_none t e))
 members_by t (Some b) e = (omega (arith, end_count_some t b e), omega (arith, end_groups_some t b e))
 

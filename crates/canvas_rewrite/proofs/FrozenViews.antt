@@ -22,13 +22,15 @@ use Rattle.canvas_rewrite.specs.declared.frozen.FrozenEnd.{FrozenEnd, roll-Froze
 pub line_none : (l : line.Line) → (out-Line l).tail ≡ None → line_of l ≡ steps_onto (map task_view (out-Line l).tasks) stop
 line_none l e = search (rules, line.the_lemmas)
 
-pub line_some : (l : line.Line) (b : Box LineEnd Global) → (out-Line l).tail ≡ Some b → line_of l ≡ steps_onto (map task_view (out-Line l).tasks) (end_of b.value)
+pub line_some : (l : line.Line) (b : Box LineEnd Global) → (out-Line l).tail ≡ Some b
+    → line_of l ≡ steps_onto (map task_view (out-Line l).tasks) (end_of b.value)
 line_some l b e = search (rules, line.the_lemmas)
 
 pub end_none : (e : LineEnd) → (out-LineEnd e).body ≡ None → end_of e ≡ group_end 0 (lines_of (map line_of (out-LineEnd e).members))
 end_none e h = search (rules, line.the_lemmas)
 
-pub end_some : (e : LineEnd) (b : line.Line) → (out-LineEnd e).body ≡ Some b → end_of e ≡ chord_end 0 (lines_of (map line_of (out-LineEnd e).members)) (line_of b)
+pub end_some : (e : LineEnd) (b : line.Line) → (out-LineEnd e).body ≡ Some b
+    → end_of e ≡ chord_end 0 (lines_of (map line_of (out-LineEnd e).members)) (line_of b)
 end_some e b h = search (rules, line.the_lemmas)
 
 pub made_task : (k : ℕ) (n : List ℕ) (a : List Arg) (w : List (List ℕ × Arg)) (i : Bool) (ls es : List FrozenTask)
@@ -39,10 +41,12 @@ made_task k n a w i ls es = search (rules, block.the_lemmas)
 pub made_line : (ts : List FrozenTask) → p_line_view (roll-FrozenLine (record { tasks = ts; tail = None })) ≡ p_steps (map p_task_view ts) p_stop
 made_line ts = search (rules, block.the_lemmas)
 
-pub made_longer : (ts : List FrozenTask) (b : Box FrozenEnd Global) → p_line_view (roll-FrozenLine (record { tasks = ts; tail = Some b })) ≡ p_steps (map p_task_view ts) (p_end_view b.value)
+pub made_longer : (ts : List FrozenTask) (b : Box FrozenEnd Global)
+    → p_line_view (roll-FrozenLine (record { tasks = ts; tail = Some b })) ≡ p_steps (map p_task_view ts) (p_end_view b.value)
 made_longer ts b = search (rules, block.the_lemmas)
 
-pub made_group : (g : ℕ) (ms : List FrozenLine) → p_end_view (roll-FrozenEnd (record { group = g; members = ms; body = None })) ≡ p_group_end g (p_lines_of (map p_line_view ms))
+pub made_group : (g : ℕ) (ms : List FrozenLine)
+    → p_end_view (roll-FrozenEnd (record { group = g; members = ms; body = None })) ≡ p_group_end g (p_lines_of (map p_line_view ms))
 made_group g ms = search (rules, block.the_lemmas)
 
 pub made_chord : (g : ℕ) (ms : List FrozenLine) (b : FrozenLine)
@@ -79,7 +83,8 @@ pub groups_steps : (ts : List Task) (l : Line) → line_groups (steps_onto ts l)
 groups_steps [] l = refl
 groups_steps (t ∷ ts) l = groups_steps ts l
 
-pub steps_numbered : (k g : ℕ) (ts : List Task) (l : Line) → bare (number_line k g (steps_onto ts l)) ≡ p_steps (tasks_from k ts) (bare (number_line (k + tasks_in ts) g l))
+pub steps_numbered : (k g : ℕ) (ts : List Task) (l : Line)
+    → bare (number_line k g (steps_onto ts l)) ≡ p_steps (tasks_from k ts) (bare (number_line (k + tasks_in ts) g l))
 steps_numbered k g [] l = ap (λ n. bare (number_line n g l)) (omega arith)
 steps_numbered k g (t ∷ ts) l =
     ap (p_step (bare_task (number_task k t))) (steps_numbered (k + count_task t) g ts l
@@ -87,7 +92,8 @@ steps_numbered k g (t ∷ ts) l =
 
 -- ---- the task's own numbers
 
-pub task_counted : (s : TaskSig) → count_task (task_view s) ≡ 1 + tasks_in (map task_view (out-TaskSig s).links) + tasks_in (map task_view (out-TaskSig s).errbacks)
+pub task_counted : (s : TaskSig)
+    → count_task (task_view s) ≡ 1 + tasks_in (map task_view (out-TaskSig s).links) + tasks_in (map task_view (out-TaskSig s).errbacks)
 task_counted s =
     let ls : List Task = map task_view (out-TaskSig s).links in
     let es : List Task = map task_view (out-TaskSig s).errbacks in
@@ -111,19 +117,24 @@ pub made_as : (s : TaskSig) (k next number : ℕ) (n : List ℕ) (a : List Arg) 
     → number ≡ k → n ≡ (out-TaskSig s).name → a ≡ (out-TaskSig s).args → w ≡ (out-TaskSig s).kwargs
     → map p_task_view ls ≡ tasks_from (k + 1) (map task_view links) → links ≡ (out-TaskSig s).links → next ≡ k + 1 + tasks_in (map task_view links)
     → map p_task_view es ≡ tasks_from next (map task_view errbacks) → errbacks ≡ (out-TaskSig s).errbacks
-    → p_task_view (roll-FrozenTask (record { no = number; name = n; args = a; kwargs = w; immutable = (out-TaskSig s).immutable; links = ls; errbacks = es; place = None })) ≡ bare_task (number_task k (task_view s))
+    → p_task_view (roll-FrozenTask
+    (record { no = number; name = n; args = a; kwargs = w; immutable = (out-TaskSig s).immutable; links = ls; errbacks = es; place = None }))
+    ≡ bare_task (number_task k (task_view s))
 made_as s k next number n a w ls es links errbacks hk hn ha hw hl hl' hnext he he' =
     let i : Bool = (out-TaskSig s).immutable in
     let there : tasks_in (map task_view links) ≡ tasks_in (map task_view (out-TaskSig s).links) = ap (λ ss. tasks_in (map task_view ss)) hl' in
     let Goal : ℕ → List ℕ → List Arg → List (List ℕ × Arg) → List PTask → List PTask → PTask =
     λ k' n' a' w' ls' es'. p_task k' (record { name = n'; args = a'; kwargs = w'; immutable = i }) (p_tasks_of ls') (p_tasks_of es') p_nowhere in
-    let links_same : map p_task_view ls ≡ tasks_from (k + 1) (map task_view (out-TaskSig s).links) = hl ∙ ap (λ ss. tasks_from (k + 1) (map task_view ss)) hl' in
+    let links_same : map p_task_view ls ≡ tasks_from (k + 1) (map task_view (out-TaskSig s).links) =
+    hl ∙ ap (λ ss. tasks_from (k + 1) (map task_view ss)) hl' in
     let errbacks_same : map p_task_view es ≡ tasks_from (k + 1 + tasks_in (map task_view (out-TaskSig s).links)) (map task_view (out-TaskSig s).errbacks) =
-    he ∙ ap (λ m. tasks_from m (map task_view errbacks)) (hnext ∙ ap (λ m. k + 1 + m) there) ∙ ap (λ ss. tasks_from (k + 1 + tasks_in (map task_view (out-TaskSig s).links)) (map task_view ss)) he' in
+    he ∙ ap (λ m. tasks_from m (map task_view errbacks)) (hnext ∙ ap (λ m. k + 1 + m) there)
+    ∙ ap (λ ss. tasks_from (k + 1 + tasks_in (map task_view (out-TaskSig s).links)) (map task_view ss)) he' in
     made_task number n a w i ls es
     ∙ ap (λ x. Goal x n a w (map p_task_view ls) (map p_task_view es)) hk ∙ ap (λ x. Goal k x a w (map p_task_view ls) (map p_task_view es)) hn
     ∙ ap (λ x. Goal k (out-TaskSig s).name x w (map p_task_view ls) (map p_task_view es)) ha
     ∙ ap (λ x. Goal k (out-TaskSig s).name (out-TaskSig s).args x (map p_task_view ls) (map p_task_view es)) hw
     ∙ ap (λ x. Goal k (out-TaskSig s).name (out-TaskSig s).args (out-TaskSig s).kwargs x (map p_task_view es)) links_same
-    ∙ ap (λ x. Goal k (out-TaskSig s).name (out-TaskSig s).args (out-TaskSig s).kwargs (tasks_from (k + 1) (map task_view (out-TaskSig s).links)) x) errbacks_same
+    ∙ ap (λ x. Goal k (out-TaskSig s).name (out-TaskSig s).args (out-TaskSig s).kwargs
+    (tasks_from (k + 1) (map task_view (out-TaskSig s).links)) x) errbacks_same
     ∙ sym (task_numbered s k)

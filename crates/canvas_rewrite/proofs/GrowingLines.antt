@@ -35,10 +35,12 @@ front (t ∷ ts) l =
 made_none : (ts : List TaskSig) → line_of (roll-Line (record { tasks = ts; tail = None })) ≡ steps_onto (map task_view ts) stop
 made_none ts = search (rules, line.the_lemmas)
 
-made_some : (ts : List TaskSig) (b : Box LineEnd Global) → line_of (roll-Line (record { tasks = ts; tail = Some b })) ≡ steps_onto (map task_view ts) (end_of b.value)
+made_some : (ts : List TaskSig) (b : Box LineEnd Global)
+    → line_of (roll-Line (record { tasks = ts; tail = Some b })) ≡ steps_onto (map task_view ts) (end_of b.value)
 made_some ts b = search (rules, line.the_lemmas)
 
-pub in_order : (ts xs : List TaskSig) (o : Option (Box LineEnd Global)) → xs ≡ reverse ts → elements (roll-Line (record { tasks = xs; tail = o })) ≡ grown ts (tail_trees o)
+pub in_order : (ts xs : List TaskSig) (o : Option (Box LineEnd Global)) → xs ≡ reverse ts
+    → elements (roll-Line (record { tasks = xs; tail = o })) ≡ grown ts (tail_trees o)
 in_order ts xs None e = ap elements_of (made_none xs ∙ ap (λ ys. steps_onto (map task_view ys) stop) e) ∙ sym (front ts stop)
 in_order ts xs (Some b) e = ap elements_of (made_some xs b ∙ ap (λ ys. steps_onto (map task_view ys) (end_of b.value)) e) ∙ sym (front ts (end_of b.value))
 
@@ -57,7 +59,8 @@ some_tail ts (Some b) h e =
     let tail = end_elements b.value (out-LineEnd b.value).body refl in
     never ts tail.0 no_trees (sym (ap (grown ts) tail.1) ∙ e)
 
-pub no_tail : (ts : List TaskSig) (o : Option (Box LineEnd Global)) (b : Bool) → is_some o ≡ false → b ≡ (length ts == 0) → IsTrue b ↔ (grown ts (tail_trees o) ≡ no_trees)
+pub no_tail : (ts : List TaskSig) (o : Option (Box LineEnd Global)) (b : Bool) → is_some o ≡ false → b ≡ (length ts == 0)
+    → IsTrue b ↔ (grown ts (tail_trees o) ≡ no_trees)
 no_tail [] None b h e = (λ _. refl, λ _. e)
 no_tail (t ∷ ts) None b h e =
     (λ is. absurd (true≢false (sym is ∙ e ∙ more_than_none (length ts))), λ same. absurd (never ts (one (task_view t)) no_trees same))
@@ -65,7 +68,8 @@ no_tail ts (Some x) b h e = absurd (true≢false h)
 
 -- ---- a line of one group or chord
 
-pub of_end_is : (ts : List TaskSig) (b : Box LineEnd Global) (ms xs : List Line) (o : Option Line) → ts ≡ [] → xs ≡ ms → b.value ≡ roll-LineEnd (record { members = xs; body = o })
+pub of_end_is : (ts : List TaskSig) (b : Box LineEnd Global) (ms xs : List Line) (o : Option Line) → ts ≡ [] → xs ≡ ms
+    → b.value ≡ roll-LineEnd (record { members = xs; body = o })
     → grown ts (tail_trees (Some b)) ≡ and_tree (group_or_chord (map elements ms) (option_map elements o)) no_trees
 of_end_is ts b ms xs o none same e =
     ap (λ us. grown us (elements_of (end_of b.value))) none ∙ ap (λ x. elements_of (end_of x)) e ∙ end_elements_of xs o

@@ -42,9 +42,11 @@ module _ (r : Result Growing AllocError) (n : Node) (after : Trees) (nodes xs : 
   group_line is same e =
       same_elements r _ _ (ap (λ ms. group_onto 0 ms after) (lines_same same e) ∙ sym (ap (λ t. onto t after) (ap view is ∙ view-Group nodes)))
 
-  pub chord_line : (b : Box Node Global) (x : Node) (body : Growing) (following : Line) → n ≡ Chord nodes b → xs ≡ nodes → map elements ls ≡ map (λ m. onto (view m) no_trees) xs
+  pub chord_line : (b : Box Node Global) (x : Node) (body : Growing) (following : Line) → n ≡ Chord nodes b → xs ≡ nodes
+      → map elements ls ≡ map (λ m. onto (view m) no_trees) xs
       → x ≡ b.value → growing body ≡ onto (view x) after → elements following ≡ growing body
-      → IfOk r (λ l. growing l ≡ and_tree (group_or_chord (map elements ls) (Some (elements following))) no_trees) → IfOk r (λ l. growing l ≡ onto (view n) after)
+      → IfOk r (λ l. growing l ≡ and_tree (group_or_chord (map elements ls) (Some (elements following))) no_trees)
+      → IfOk r (λ l. growing l ≡ onto (view n) after)
   chord_line b x body following is same e there of_body made =
       same_elements r _ _ (ap (λ ms. and_tree (chord 0 ms (chain (elements following))) no_trees) (lines_same same e)
       ∙ ap (λ ts. and_tree (chord 0 (normal_all (trees_of (map view nodes))) (chain ts)) no_trees) (made ∙ of_body ∙ ap (λ y. onto (view y) after) there)
@@ -55,13 +57,15 @@ module _ (r : Result Growing AllocError) (n : Node) (after : Trees) (nodes xs : 
 group_ended : (ms : List Line) → end_of (roll-LineEnd (record { members = ms; body = None })) ≡ Frozen.group_end 0 (lines_of (map line_of ms))
 group_ended ms = search (rules, line.the_lemmas)
 
-chord_ended : (ms : List Line) (b : Line) → end_of (roll-LineEnd (record { members = ms; body = Some b })) ≡ Frozen.chord_end 0 (lines_of (map line_of ms)) (line_of b)
+chord_ended : (ms : List Line) (b : Line)
+    → end_of (roll-LineEnd (record { members = ms; body = Some b })) ≡ Frozen.chord_end 0 (lines_of (map line_of ms)) (line_of b)
 chord_ended ms b = search (rules, line.the_lemmas)
 
 members_chains : (ms : List Line) → members_of (lines_of (map line_of ms)) ≡ chains (map elements ms)
 members_chains [] = refl
 members_chains (m ∷ ms) = ap (and_tree (chain (elements m))) (members_chains ms)
 
-pub end_elements_of : (ms : List Line) (o : Option Line) → elements_of (end_of (roll-LineEnd (record { members = ms; body = o }))) ≡ and_tree (group_or_chord (map elements ms) (option_map elements o)) no_trees
+pub end_elements_of : (ms : List Line) (o : Option Line)
+    → elements_of (end_of (roll-LineEnd (record { members = ms; body = o }))) ≡ and_tree (group_or_chord (map elements ms) (option_map elements o)) no_trees
 end_elements_of ms None = ap elements_of (group_ended ms) ∙ ap (λ x. and_tree (group 0 x) no_trees) (members_chains ms)
 end_elements_of ms (Some b) = ap elements_of (chord_ended ms b) ∙ ap (λ x. and_tree (chord 0 x (chain (elements b))) no_trees) (members_chains ms)

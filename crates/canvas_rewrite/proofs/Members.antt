@@ -74,10 +74,12 @@ never : (k low high : ℕ) → Once k low high 0
 never k low high = record { once = omega arith; above = λ h. omega arith; below = λ h. omega arith }
 
 wider : (k low high low' high' n : ℕ) → Once k low high n → low' ≤ low → high ≤ high' → Once k low' high' n
-wider k low high low' high' n o l h = let a = o.above in let b = o.below in record { once = o.once; above = λ p. omega (arith, a p); below = λ p. omega (arith, b p) }
+wider k low high low' high' n o l h = let a = o.above in let b = o.below in
+    record { once = o.once; above = λ p. omega (arith, a p); below = λ p. omega (arith, b p) }
 
 both : (k low middle high a b n : ℕ) → Once k low middle a → Once k middle high b → n ≡ a + b → low ≤ middle → middle ≤ high → Once k low high n
-both k low middle high zero b n p q e l h = wider k middle high low high n (subst (λ m. Once k middle high m) (let same : b ≡ n = omega arith in same) q) l (omega arith)
+both k low middle high zero b n p q e l h =
+    wider k middle high low high n (subst (λ m. Once k middle high m) (let same : b ≡ n = omega arith in same) q) l (omega arith)
 both k low middle high (suc a) b n p q e l h =
     let small = p.once in
     let up = p.below (omega arith) in
@@ -97,7 +99,8 @@ just k low high h = elim (cases_eq low k) [
 abbrev unless : Bool → ℕ → ℕ
 unless b n = if b then 0 else n
 
-no_widened : (k low g : ℕ) (t : Task) (l : Line) (n : ℕ) → Once k (low + count_task t) ((low + count_task t) + count_line l) n → Once k low (low + count_line (step t l)) n
+no_widened : (k low g : ℕ) (t : Task) (l : Line) (n : ℕ) → Once k (low + count_task t) ((low + count_task t) + count_line l) n
+    → Once k low (low + count_line (step t l)) n
 no_widened k low g t l n o = wider k _ _ low _ n o (omega arith) (omega arith)
 
 none_more : (k low high n : ℕ) → Once k low high n → Once k low high (0 + n)
@@ -110,7 +113,8 @@ mutual
   apart : (k low g : ℕ) (l : Line) → Alone l
       → Once k low (low + count_line l) (in_entries k (group_entries (number_line low g l)) + unless (in_group l) (times_in k (ends_of (number_line low g l))))
   apart k low g stop a = never k low (low + 0)
-  apart k low g (step (task _ call ls es) stop) a = none_more k _ _ _ (wider k low (low + 1) low _ _ (just k low (low + 1) (omega arith)) (omega arith) (omega arith))
+  apart k low g (step (task _ call ls es) stop) a =
+      none_more k _ _ _ (wider k low (low + 1) low _ _ (just k low (low + 1) (omega arith)) (omega arith) (omega arith))
   apart k low g (step t (step u l)) a = no_widened k low g t (step u l) _ (apart k (low + count_task t) g (step u l) a)
   apart k low g (step t (group_end h ms)) a = no_widened k low g t (group_end h ms) _ (apart k (low + count_task t) g (group_end h ms) a)
   apart k low g (step t (chord_end h ms b)) a = no_widened k low g t (chord_end h ms b) _ (apart k (low + count_task t) g (chord_end h ms b) a)
@@ -119,7 +123,8 @@ mutual
       let mine = number_lines low (g + 1) ms in
       let body = number_line (low + count_lines ms) (g + 1 + lines_groups ms) b in
       let far = apart k (low + count_lines ms) (g + 1 + lines_groups ms) b a.1 in
-      both k low (low + count_lines ms) _ _ _ _ (all_apart k low (g + 1) ms a.0) (wider k _ _ (low + count_lines ms) (low + (count_lines ms + count_line b)) _ far (omega arith) (omega arith))
+      both k low (low + count_lines ms) _ _ _ _ (all_apart k low (g + 1) ms a.0)
+      (wider k _ _ (low + count_lines ms) (low + (count_lines ms + count_line b)) _ far (omega arith) (omega arith))
       (omega (arith, entries_both k (all_group_entries mine) (group_entries body))) (omega arith) (omega arith)
 
   all_apart : (k low g : ℕ) (ms : Lines) → AllAlone ms
@@ -130,8 +135,10 @@ mutual
       let rest = number_lines (low + count_line m) (g + line_groups m) ms in
       let own : unless (in_group m) (times_in k (ends_of mine)) ≡ times_in k (ends_of mine) = rw a.0 refl in
       let far = all_apart k (low + count_line m) (g + line_groups m) ms a.2 in
-      both k low (low + count_line m) _ _ _ _ (apart k low g m a.1) (wider k _ _ (low + count_line m) (low + (count_line m + count_lines ms)) _ far (omega arith) (omega arith))
-      (omega (arith, own, times_both k (ends_of mine) (all_ends_of rest), entries_both k (group_entries mine) (all_group_entries rest))) (omega arith) (omega arith)
+      both k low (low + count_line m) _ _ _ _ (apart k low g m a.1)
+      (wider k _ _ (low + count_line m) (low + (count_line m + count_lines ms)) _ far (omega arith) (omega arith))
+      (omega (arith, own, times_both k (ends_of mine) (all_ends_of rest), entries_both k (group_entries mine) (all_group_entries rest))) (omega arith)
+      (omega arith)
 
 -- ---- one group or chord among all
 
@@ -177,7 +184,8 @@ module _ (l : Line) (plan : IsPlan l) where
 
   its_once : (k : ℕ) → Once k 1 (1 + count_line l) (in_entries k (group_entries l) + unless (in_group l) (times_in k (ends_of l)))
   its_once k =
-      subst (λ n. Once k 1 (1 + count_line l) (in_entries k (group_entries n) + unless (in_group l) (times_in k (ends_of n)))) plan.numbered (apart k 1 1 l its_alone)
+      subst (λ n. Once k 1 (1 + count_line l) (in_entries k (group_entries n) + unless (in_group l) (times_in k (ends_of n)))) plan.numbered
+      (apart k 1 1 l its_alone)
 
   pub plan_apart : Apart l
   plan_apart = are_apart l (λ k. let o = (its_once k).once in omega (arith, o))
@@ -232,12 +240,15 @@ mutual
   short (group_end g ms) = (few_ends_all ms, short_all ms)
   short (chord_end g ms b) = (
     let f = few_ends_all ms in omega arith,
-    short_both _ (all_group_entries ms) (group_entries b) (short_wider _ _ (all_group_entries ms) (omega arith) (short_all ms)) (short_wider _ _ (group_entries b) (omega arith) (short b)),
+    short_both _ (all_group_entries ms) (group_entries b) (short_wider _ _ (all_group_entries ms) (omega arith) (short_all ms))
+        (short_wider _ _ (group_entries b) (omega arith) (short b)),
   )
 
   short_all : (ms : Lines) → Short (count_lines ms) (all_group_entries ms)
   short_all no_lines = tt
-  short_all (and_line m ms) = short_both _ (group_entries m) (all_group_entries ms) (short_wider _ _ (group_entries m) (omega arith) (short m)) (short_wider _ _ (all_group_entries ms) (omega arith) (short_all ms))
+  short_all (and_line m ms) =
+      short_both _ (group_entries m) (all_group_entries ms) (short_wider _ _ (group_entries m) (omega arith) (short m))
+      (short_wider _ _ (all_group_entries ms) (omega arith) (short_all ms))
 
 short_at : (n : ℕ) (ts : List GroupEntry) (g : ℕ) → Short n ts → length (entry_members (entry_at ts g)) ≤ n
 short_at n [] zero p = omega arith

@@ -18,7 +18,8 @@ weight_last [] n = refl
 weight_last (m ∷ ms) n = omega (arith, weight_last ms n)
 
 -- the last of them goes onto the line first
-pub onto_last : (ns : List Node) (n : Node) (after : Trees) → all_onto (trees_of (map view (ns ++ n ∷ []))) after ≡ all_onto (trees_of (map view ns)) (onto (view n) after)
+pub onto_last : (ns : List Node) (n : Node) (after : Trees)
+    → all_onto (trees_of (map view (ns ++ n ∷ []))) after ≡ all_onto (trees_of (map view ns)) (onto (view n) after)
 onto_last [] n after = refl
 onto_last (m ∷ ms) n after = ap (onto (view m)) (onto_last ms n after)
 

@@ -28,7 +28,8 @@ of_list ts = ap tasks_names (strip_list ts) ∙ all_of_tasks (map task_in ts)
 pub task_named : (t : FrozenTask) → task_names (task_in t)
     ≡ (out-FrozenTask t).name ∷ tasks_all_names (map task_in (out-FrozenTask t).links) ++ tasks_all_names (map task_in (out-FrozenTask t).errbacks)
 task_named t =
-    ap (λ p. task_names (strip_task p)) (ftask.fold_out-FrozenTask PCarried PLine PLine PTask PPlace carried_step p_end_step p_line_step p_task_step place_step t)
+    ap (λ p. task_names (strip_task p))
+    (ftask.fold_out-FrozenTask PCarried PLine PLine PTask PPlace carried_step p_end_step p_line_step p_task_step place_step t)
     ∙ (λ i. (out-FrozenTask t).name ∷ of_list (out-FrozenTask t).links i ++ of_list (out-FrozenTask t).errbacks i)
 
 -- appended one after another

@@ -38,7 +38,8 @@ mutual
 mutual
   of_task : (t : Task) (k : ℕ) → names_of_task (number_task k t) ≡ counted_from k (task_names t)
   of_task (task _ call ls es) k =
-      ap (λ r. (k, call.name) ∷ r) ((λ i. of_tasks ls (k + 1) i ++ of_tasks es (k + 1 + count_tasks ls) i) ∙ parts (k + 1) (count_tasks ls) (tasks_names ls) (tasks_names es) (long_tasks ls))
+      ap (λ r. (k, call.name) ∷ r) ((λ i. of_tasks ls (k + 1) i ++ of_tasks es (k + 1 + count_tasks ls) i)
+      ∙ parts (k + 1) (count_tasks ls) (tasks_names ls) (tasks_names es) (long_tasks ls))
 
   of_tasks : (ts : Tasks) (k : ℕ) → names_of_tasks (number_tasks k ts) ≡ counted_from k (tasks_names ts)
   of_tasks no_tasks k = refl
@@ -50,7 +51,8 @@ mutual
   of_line (step t l) k g = (λ i. of_task t k i ++ of_line l (k + count_task t) g i) ∙ parts k (count_task t) (task_names t) (Frozen.names l) (long_task t)
   of_line (group_end _ ms) k g = append-nil (all_names_by_number (members_of (number_lines k (g + 1) ms))) ∙ of_lines ms k (g + 1)
   of_line (chord_end _ ms b) k g =
-      append-nil (all_names_by_number (members_of (number_lines k (g + 1) ms)) ++ all_names_by_number (elements_of (number_line (k + count_lines ms) (g + 1 + lines_groups ms) b)))
+      append-nil (all_names_by_number (members_of (number_lines k (g + 1) ms))
+      ++ all_names_by_number (elements_of (number_line (k + count_lines ms) (g + 1 + lines_groups ms) b)))
       ∙ (λ i. of_lines ms k (g + 1) i ++ of_line b (k + count_lines ms) (g + 1 + lines_groups ms) i)
       ∙ parts k (count_lines ms) (Frozen.all_names ms) (Frozen.names b) (long_all ms)
 

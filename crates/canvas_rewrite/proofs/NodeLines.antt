@@ -32,10 +32,12 @@ front (t ∷ ts) l us e = ap (and_tree (one (task_view t))) (front ts l us e)
 module _ (l : Line) (tasks : List TaskSig) (same : tasks ≡ (out-Line l).tasks) (ns : List Node) (made : map view ns ≡ map (λ s. one (task_view s)) tasks) where
   pub node_none : (out-Line l).tail ≡ None → element_or_chain (trees_of (map view ns)) ≡ compact (line_of l)
   node_none e =
-      ap (λ us. element_or_chain (trees_of us)) (made ∙ ap (map (λ s. one (task_view s))) same ∙ sym (append-nil (map (λ s. one (task_view s)) (out-Line l).tasks)))
+      ap (λ us. element_or_chain (trees_of us)) (made ∙ ap (map (λ s. one (task_view s))) same
+      ∙ sym (append-nil (map (λ s. one (task_view s)) (out-Line l).tasks)))
       ∙ ap element_or_chain (sym (front (out-Line l).tasks stop [] refl)) ∙ sym (ap compact (line_none l e))
 
-  pub node_some : (b : Box LineEnd Global) → (out-Line l).tail ≡ Some b → (n : Node) (end : LineEnd) → end ≡ b.value → and_tree (view n) no_trees ≡ compact_elements (end_of end)
+  pub node_some : (b : Box LineEnd Global) → (out-Line l).tail ≡ Some b → (n : Node) (end : LineEnd) → end ≡ b.value
+      → and_tree (view n) no_trees ≡ compact_elements (end_of end)
       → (all : List Node) → all ≡ ns ++ n ∷ [] → element_or_chain (trees_of (map view all)) ≡ compact (line_of l)
   node_some b e n end at of_end all pushed =
       let seen : map view all ≡ map (λ s. one (task_view s)) (out-Line l).tasks ++ view n ∷ [] =
@@ -50,9 +52,11 @@ members_seen : (ls : List Line) → trees_of (map (λ x. compact (line_of x)) ls
 members_seen [] = refl
 members_seen (l ∷ ls) = ap (and_tree (compact (line_of l))) (members_seen ls)
 
-module _ (t : LineEnd) (members : List Line) (same : members ≡ (out-LineEnd t).members) (ns ms : List Node) (listed : ms ≡ ns) (made : map view ns ≡ map (λ x. compact (line_of x)) members) where
+module _ (t : LineEnd) (members : List Line) (same : members ≡ (out-LineEnd t).members) (ns ms : List Node) (listed : ms ≡ ns)
+    (made : map view ns ≡ map (λ x. compact (line_of x)) members) where
   its_members : trees_of (map view ms) ≡ compact_members (lines_of (map line_of (out-LineEnd t).members))
-  its_members = ap (λ xs. trees_of (map view xs)) listed ∙ ap trees_of made ∙ ap (λ ls. trees_of (map (λ x. compact (line_of x)) ls)) same ∙ members_seen (out-LineEnd t).members
+  its_members = ap (λ xs. trees_of (map view xs)) listed ∙ ap trees_of made ∙ ap (λ ls. trees_of (map (λ x. compact (line_of x)) ls)) same
+      ∙ members_seen (out-LineEnd t).members
 
   pub end_group : (out-LineEnd t).body ≡ None → and_tree (view (Group ms)) no_trees ≡ compact_elements (end_of t)
   end_group e =

@@ -18,10 +18,12 @@ use Rattle.canvas_rewrite.specs.declared.frozen.FrozenEnd.{FrozenEnd, out-Frozen
 seen_none : (l : FrozenLine) → (out-FrozenLine l).tail ≡ None → p_line_view l ≡ p_steps (map p_task_view (out-FrozenLine l).tasks) p_stop
 seen_none l e = search (rules, block.the_lemmas)
 
-seen_some : (l : FrozenLine) (b : Box FrozenEnd Global) → (out-FrozenLine l).tail ≡ Some b → p_line_view l ≡ p_steps (map p_task_view (out-FrozenLine l).tasks) (p_end_view b.value)
+seen_some : (l : FrozenLine) (b : Box FrozenEnd Global) → (out-FrozenLine l).tail ≡ Some b
+    → p_line_view l ≡ p_steps (map p_task_view (out-FrozenLine l).tasks) (p_end_view b.value)
 seen_some l b e = search (rules, block.the_lemmas)
 
-seen_group : (t : FrozenEnd) → (out-FrozenEnd t).body ≡ None → p_end_view t ≡ p_group_end (out-FrozenEnd t).group (p_lines_of (map p_line_view (out-FrozenEnd t).members))
+seen_group : (t : FrozenEnd) → (out-FrozenEnd t).body ≡ None
+    → p_end_view t ≡ p_group_end (out-FrozenEnd t).group (p_lines_of (map p_line_view (out-FrozenEnd t).members))
 seen_group t e = search (rules, block.the_lemmas)
 
 seen_chord : (t : FrozenEnd) (b : FrozenLine) → (out-FrozenEnd t).body ≡ Some b
@@ -39,13 +41,15 @@ strip_lines (l ∷ ls) = ap (and_line (line_in l)) (strip_lines ls)
 pub in_none : (l : FrozenLine) → (out-FrozenLine l).tail ≡ None → line_in l ≡ steps_onto (map task_in (out-FrozenLine l).tasks) stop
 in_none l e = ap strip (seen_none l e) ∙ strip_steps _ p_stop
 
-pub in_some : (l : FrozenLine) (b : Box FrozenEnd Global) → (out-FrozenLine l).tail ≡ Some b → line_in l ≡ steps_onto (map task_in (out-FrozenLine l).tasks) (end_in b.value)
+pub in_some : (l : FrozenLine) (b : Box FrozenEnd Global) → (out-FrozenLine l).tail ≡ Some b
+    → line_in l ≡ steps_onto (map task_in (out-FrozenLine l).tasks) (end_in b.value)
 in_some l b e = ap strip (seen_some l b e) ∙ strip_steps _ (p_end_view b.value)
 
 pub in_group : (t : FrozenEnd) → (out-FrozenEnd t).body ≡ None → end_in t ≡ group_end (out-FrozenEnd t).group (lines_of (map line_in (out-FrozenEnd t).members))
 in_group t e = ap strip (seen_group t e) ∙ ap (group_end (out-FrozenEnd t).group) (strip_lines _)
 
-pub in_chord : (t : FrozenEnd) (b : FrozenLine) → (out-FrozenEnd t).body ≡ Some b → end_in t ≡ chord_end (out-FrozenEnd t).group (lines_of (map line_in (out-FrozenEnd t).members)) (line_in b)
+pub in_chord : (t : FrozenEnd) (b : FrozenLine) → (out-FrozenEnd t).body ≡ Some b
+    → end_in t ≡ chord_end (out-FrozenEnd t).group (lines_of (map line_in (out-FrozenEnd t).members)) (line_in b)
 in_chord t b e = ap strip (seen_chord t b e) ∙ ap (λ ms. chord_end (out-FrozenEnd t).group ms (line_in b)) (strip_lines _)
 
 -- ---- ends
@@ -68,9 +72,14 @@ ends_chord [] g ms b = refl
 ends_chord (t ∷ []) g ms b = refl
 ends_chord (t ∷ u ∷ ts) g ms b = ends_chord (u ∷ ts) g ms b
 
-by_body : (l : FrozenLine) (b : Box FrozenEnd Global) → (out-FrozenLine l).tail ≡ Some b → (o : Option FrozenLine) → (out-FrozenEnd b.value).body ≡ o → ends_of (line_in l) ≡ ends_of (end_in b.value)
-by_body l b e None h = ap ends_of (in_some l b e) ∙ ap (λ x. ends_of (steps_onto (map task_in (out-FrozenLine l).tasks) x)) (in_group b.value h) ∙ ends_group (map task_in (out-FrozenLine l).tasks) (out-FrozenEnd b.value).group (lines_of (map line_in (out-FrozenEnd b.value).members)) ∙ sym (ap ends_of (in_group b.value h))
-by_body l b e (Some x) h = ap ends_of (in_some l b e) ∙ ap (λ y. ends_of (steps_onto (map task_in (out-FrozenLine l).tasks) y)) (in_chord b.value x h) ∙ ends_chord (map task_in (out-FrozenLine l).tasks) (out-FrozenEnd b.value).group (lines_of (map line_in (out-FrozenEnd b.value).members)) (line_in x) ∙ sym (ap ends_of (in_chord b.value x h))
+by_body : (l : FrozenLine) (b : Box FrozenEnd Global) → (out-FrozenLine l).tail ≡ Some b → (o : Option FrozenLine) → (out-FrozenEnd b.value).body ≡ o
+    → ends_of (line_in l) ≡ ends_of (end_in b.value)
+by_body l b e None h = ap ends_of (in_some l b e) ∙ ap (λ x. ends_of (steps_onto (map task_in (out-FrozenLine l).tasks) x)) (in_group b.value h)
+    ∙ ends_group (map task_in (out-FrozenLine l).tasks) (out-FrozenEnd b.value).group (lines_of (map line_in (out-FrozenEnd b.value).members))
+    ∙ sym (ap ends_of (in_group b.value h))
+by_body l b e (Some x) h = ap ends_of (in_some l b e) ∙ ap (λ y. ends_of (steps_onto (map task_in (out-FrozenLine l).tasks) y)) (in_chord b.value x h)
+    ∙ ends_chord (map task_in (out-FrozenLine l).tasks) (out-FrozenEnd b.value).group (lines_of (map line_in (out-FrozenEnd b.value).members)) (line_in x)
+    ∙ sym (ap ends_of (in_chord b.value x h))
 
 pub ends_some : (l : FrozenLine) (b : Box FrozenEnd Global) → (out-FrozenLine l).tail ≡ Some b → ends_of (line_in l) ≡ ends_of (end_in b.value)
 ends_some l b e = by_body l b e (out-FrozenEnd b.value).body refl
@@ -91,17 +100,20 @@ pub entries_some : (l : FrozenLine) (b : Box FrozenEnd Global) → (out-FrozenLi
 entries_some l b e = ap group_entries (in_some l b e) ∙ entries_steps (map task_in (out-FrozenLine l).tasks) (end_in b.value)
 
 pub entries_group : (t : FrozenEnd) → (out-FrozenEnd t).body ≡ None
-    → group_entries (end_in t) ≡ record { chord = false; members = lines_ends (map line_in (out-FrozenEnd t).members) } ∷ lines_group_entries (map line_in (out-FrozenEnd t).members)
+    → group_entries (end_in t) ≡ record { chord = false; members = lines_ends (map line_in (out-FrozenEnd t).members) }
+    ∷ lines_group_entries (map line_in (out-FrozenEnd t).members)
 entries_group t e =
     let ls : List Line = map line_in (out-FrozenEnd t).members in
     ap group_entries (in_group t e) ∙ ap (λ ms. record { chord = false; members = ms } ∷ all_group_entries (lines_of ls)) (all_ends ls)
     ∙ ap (λ es. record { chord = false; members = lines_ends ls } ∷ es) (every_entry ls)
 
 pub entries_chord : (t : FrozenEnd) (b : FrozenLine) → (out-FrozenEnd t).body ≡ Some b
-    → group_entries (end_in t) ≡ record { chord = true; members = lines_ends (map line_in (out-FrozenEnd t).members) } ∷ lines_group_entries (map line_in (out-FrozenEnd t).members) ++ group_entries (line_in b)
+    → group_entries (end_in t) ≡ record { chord = true; members = lines_ends (map line_in (out-FrozenEnd t).members) }
+    ∷ lines_group_entries (map line_in (out-FrozenEnd t).members) ++ group_entries (line_in b)
 entries_chord t b e =
     let ls : List Line = map line_in (out-FrozenEnd t).members in
-    ap group_entries (in_chord t b e) ∙ ap (λ ms. record { chord = true; members = ms } ∷ all_group_entries (lines_of ls) ++ group_entries (line_in b)) (all_ends ls)
+    ap group_entries (in_chord t b e) ∙ ap (λ ms. record { chord = true; members = ms } ∷ all_group_entries (lines_of ls) ++ group_entries (line_in b))
+    (all_ends ls)
     ∙ ap (λ es. record { chord = true; members = lines_ends ls } ∷ es ++ group_entries (line_in b)) (every_entry ls)
 
 -- ---- results
@@ -112,9 +124,11 @@ ok_same {X = X} r x a b e h = let P : List X → Type 0 = λ y. OnOk r (x ≡ y)
 -- ---- the last task
 
 no_out : (t : FrozenTask) → no_of (task_in t) ≡ (out-FrozenTask t).no
-no_out t = ap (λ p. no_of (strip_task p)) (ftask.fold_out-FrozenTask PCarried PLine PLine PTask PPlace carried_step p_end_step p_line_step p_task_step place_step t)
+no_out t = ap (λ p. no_of (strip_task p))
+    (ftask.fold_out-FrozenTask PCarried PLine PLine PTask PPlace carried_step p_end_step p_line_step p_task_step place_step t)
 
-ends_from : (t : FrozenTask) (ts : List FrozenTask) (x : FrozenTask) → Some x ≡ slice_get (t ∷ ts) (length ts) → ends_of (steps_onto (map task_in (t ∷ ts)) stop) ≡ (out-FrozenTask x).no ∷ []
+ends_from : (t : FrozenTask) (ts : List FrozenTask) (x : FrozenTask) → Some x ≡ slice_get (t ∷ ts) (length ts)
+    → ends_of (steps_onto (map task_in (t ∷ ts)) stop) ≡ (out-FrozenTask x).no ∷ []
 ends_from t [] x h = let same : t ≡ x = cc in ap (λ k. k ∷ []) (no_out t ∙ ap (λ y. (out-FrozenTask y).no) same)
 ends_from t (u ∷ us) x h = ends_from u us x h
 
@@ -125,7 +139,8 @@ never_from t (u ∷ us) h = never_from u us h
 less_one : (t : FrozenTask) (ts : List FrozenTask) → length (t ∷ ts) - 1 ≡ length ts
 less_one t ts = omega arith
 
-pub ends_last : (ts : List FrozenTask) (x : FrozenTask) → Some x ≡ slice_get ts (length ts - 1) → ends_of (steps_onto (map task_in ts) stop) ≡ (out-FrozenTask x).no ∷ []
+pub ends_last : (ts : List FrozenTask) (x : FrozenTask) → Some x ≡ slice_get ts (length ts - 1)
+    → ends_of (steps_onto (map task_in ts) stop) ≡ (out-FrozenTask x).no ∷ []
 ends_last [] x h = cc
 ends_last (t ∷ ts) x h = ends_from t ts x (h ∙ ap (slice_get (t ∷ ts)) (less_one t ts))
 
@@ -151,9 +166,12 @@ chord_pushed t b e g gs gs1 gs2 xs ys hc hm hx h1 h2 hy =
     let ls : List Line = map line_in (out-FrozenEnd t).members in
     let own : GroupEntry = record { chord = true; members = lines_ends ls } in
     let first : group_entry g ≡ own = same_entry g true (lines_ends ls) hc (hm ∙ ap (λ zs. lines_ends (map line_in zs)) hx) in
-    let before : map group_entry gs1 ≡ map group_entry gs ++ own ∷ [] = ap (map group_entry) h1 ∙ entries_pushed gs g ∙ ap (λ x. map group_entry gs ++ x ∷ []) first in
-    let all : map group_entry gs2 ≡ (map group_entry gs ++ own ∷ []) ++ lines_group_entries ls = h2 ∙ ap (λ x. x ++ lines_group_entries (map line_in ys)) before ∙ ap (λ zs. (map group_entry gs ++ own ∷ []) ++ lines_group_entries (map line_in zs)) hy in
-    ap (λ x. x ++ group_entries (line_in b)) (all ∙ append_assoc (map group_entry gs) (own ∷ []) (lines_group_entries ls)) ∙ append_assoc (map group_entry gs) (own ∷ lines_group_entries ls) (group_entries (line_in b))
+    let before : map group_entry gs1 ≡ map group_entry gs ++ own ∷ [] = ap (map group_entry) h1 ∙ entries_pushed gs g
+    ∙ ap (λ x. map group_entry gs ++ x ∷ []) first in
+    let all : map group_entry gs2 ≡ (map group_entry gs ++ own ∷ []) ++ lines_group_entries ls = h2 ∙ ap (λ x. x ++ lines_group_entries (map line_in ys)) before
+    ∙ ap (λ zs. (map group_entry gs ++ own ∷ []) ++ lines_group_entries (map line_in zs)) hy in
+    ap (λ x. x ++ group_entries (line_in b)) (all ∙ append_assoc (map group_entry gs) (own ∷ []) (lines_group_entries ls))
+    ∙ append_assoc (map group_entry gs) (own ∷ lines_group_entries ls) (group_entries (line_in b))
     ∙ ap (λ x. map group_entry gs ++ x) (sym (entries_chord t b e))
 
 pub group_pushed : (t : FrozenEnd) → (out-FrozenEnd t).body ≡ None
@@ -165,6 +183,7 @@ group_pushed t e g gs gs1 xs ys hc hm hx h1 hy =
     let ls : List Line = map line_in (out-FrozenEnd t).members in
     let own : GroupEntry = record { chord = false; members = lines_ends ls } in
     let first : group_entry g ≡ own = same_entry g false (lines_ends ls) hc (hm ∙ ap (λ zs. lines_ends (map line_in zs)) hx) in
-    let before : map group_entry gs1 ≡ map group_entry gs ++ own ∷ [] = ap (map group_entry) h1 ∙ entries_pushed gs g ∙ ap (λ x. map group_entry gs ++ x ∷ []) first in
+    let before : map group_entry gs1 ≡ map group_entry gs ++ own ∷ [] = ap (map group_entry) h1 ∙ entries_pushed gs g
+    ∙ ap (λ x. map group_entry gs ++ x ∷ []) first in
     ap (λ x. x ++ lines_group_entries (map line_in ys)) before ∙ ap (λ zs. (map group_entry gs ++ own ∷ []) ++ lines_group_entries (map line_in zs)) hy
     ∙ append_assoc (map group_entry gs) (own ∷ []) (lines_group_entries ls) ∙ ap (λ x. map group_entry gs ++ x) (sym (entries_group t e))

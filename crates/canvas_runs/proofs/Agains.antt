@@ -83,7 +83,8 @@ module _ (behaviour : Behaviour) (l : Line) where
   again_of_task : (k : ℕ) (x : Step) → cond (eqb (stores_of x.1.0) k) (answers_again x.1.0 x.1.1) 0 ≡ in_table behaviour l (agains_one k) x.1
   again_of_task k (p, (a, r)) = go a r
     where
-      go : (a : Ask Envelope Outcome) (r : Reply Envelope Outcome) → cond (eqb (stores_of a) k) (answers_again a r) 0 ≡ in_table behaviour l (agains_one k) (a, r)
+      go : (a : Ask Envelope Outcome) (r : Reply Envelope Outcome)
+          → cond (eqb (stores_of a) k) (answers_again a r) 0 ≡ in_table behaviour l (agains_one k) (a, r)
       go (keep t o) (kept true) = zero_either (eqb t k)
       go (keep t o) (kept false) = omega arith
       go (part g t) (counted n) = zero_either (eqb 0 k)
@@ -116,7 +117,8 @@ module _ (D : ℕ → ℕ) (k : ℕ) where
       go j false e = refl
 
   weighed_none : D k ≡ 0 → (es : List Entry) → total (λ (e : Entry). cond (eqb e.0 k) (D e.0) 0) es ≡ 0
-  weighed_none z es = weighed es ∙ (ap (λ d. total (λ (e : Entry). cond (eqb e.0 k) d 0) es) z ∙ total-zero (λ (e : Entry). cond (eqb e.0 k) 0 0) (λ e. zero_either (eqb e.0 k)) es)
+  weighed_none z es = weighed es
+      ∙ (ap (λ d. total (λ (e : Entry). cond (eqb e.0 k) d 0) es) z ∙ total-zero (λ (e : Entry). cond (eqb e.0 k) 0 0) (λ e. zero_either (eqb e.0 k)) es)
 
   weighed_one : D k ≡ 1 → (es : List Entry) → total (λ (e : Entry). cond (eqb e.0 k) (D e.0) 0) es ≡ entries_for k Early es + entries_for k Late es
   weighed_one o es = weighed es ∙ (ap (λ d. total (λ (e : Entry). cond (eqb e.0 k) d 0) es) o ∙ entry_points k es)
@@ -141,7 +143,8 @@ module _ (behaviour : Behaviour) (l : Line) (k : ℕ) where
   none_ahead Late over h b = refl
   none_ahead w s h b = elim b [ ]
 
-module _ (behaviour : Behaviour) (l : Line) (n : ℕ) (es : List Entry) (us : List ℕ) (xs : List Step) (rest : List Entry) (t : ByEntries behaviour l n es us xs rest) where
+module _ (behaviour : Behaviour) (l : Line) (n : ℕ) (es : List Entry) (us : List ℕ) (xs : List Step) (rest : List Entry)
+    (t : ByEntries behaviour l n es us xs rest) where
   pub its_turns : ByTurns behaviour l n us xs
   its_turns = record { plan = t.plan; opens_back = t.opens_back; workers = t.workers; turned = are_turns behaviour l n [] es us xs rest t.turned }
 
@@ -159,19 +162,24 @@ module _ (behaviour : Behaviour) (l : Line) (n : ℕ) (es : List Entry) (us : Li
   abbrev the_run_so_far : Run behaviour l
   the_run_so_far = the_run behaviour l n us xs its_turns
 
-  task_agains : (k : ℕ) → total (λ (x : Step). cond (eqb (stores_of x.1.0) k) (answers_again x.1.0 x.1.1) 0) xs ≤ total (agains_task (X behaviour l t.plan) k) (seconds (queue_calls the_run_so_far.queue))
+  task_agains : (k : ℕ) → total (λ (x : Step). cond (eqb (stores_of x.1.0) k) (answers_again x.1.0 x.1.1) 0) xs ≤ total (agains_task (X behaviour l t.plan) k)
+      (seconds (queue_calls the_run_so_far.queue))
   task_agains k =
-      let stores : again_stores k the_run_so_far.table ≡ total (λ (x : Step). in_table behaviour l (agains_one k) x.1) xs = table_total behaviour l (agains_one k) n xs in
-      let steps = total_as (λ (x : Step). cond (eqb (stores_of x.1.0) k) (answers_again x.1.0 x.1.1) 0) (λ (x : Step). in_table behaviour l (agains_one k) x.1) (again_of_task behaviour l k) xs in
+      let stores : again_stores k the_run_so_far.table ≡ total (λ (x : Step). in_table behaviour l (agains_one k) x.1) xs =
+      table_total behaviour l (agains_one k) n xs in
+      let steps = total_as (λ (x : Step). cond (eqb (stores_of x.1.0) k) (answers_again x.1.0 x.1.1) 0) (λ (x : Step). in_table behaviour l (agains_one k) x.1)
+      (again_of_task behaviour l k) xs in
       let few_stores = (first_part behaviour l t.plan the_run_so_far).stored_again k in
-      let weights = total_as (agains_task (X behaviour l t.plan) k) (agains_one_of l k) (again_weight behaviour l t.plan the_run_so_far k) (seconds (queue_calls the_run_so_far.queue)) in
+      let weights = total_as (agains_task (X behaviour l t.plan) k) (agains_one_of l k) (again_weight behaviour l t.plan the_run_so_far k)
+      (seconds (queue_calls the_run_so_far.queue)) in
       omega (arith, stores, steps, few_stores, weights)
 
   pub agains_few : agains_in xs ≤ length es
   agains_few =
       let N = total (λ (x : Step). stores_of x.1.0) xs in
       let a = by_key (λ (x : Step). stores_of x.1.0) (λ (x : Step). answers_again x.1.0 x.1.1) N xs (omega arith) in
-      let b = sum_to-le N (λ k. total (λ (x : Step). cond (eqb (stores_of x.1.0) k) (answers_again x.1.0 x.1.1) 0) xs) (λ k. total (agains_task (X behaviour l t.plan) k) (seconds (queue_calls the_run_so_far.queue))) task_agains in
+      let b = sum_to-le N (λ k. total (λ (x : Step). cond (eqb (stores_of x.1.0) k) (answers_again x.1.0 x.1.1) 0) xs)
+      (λ k. total (agains_task (X behaviour l t.plan) k) (seconds (queue_calls the_run_so_far.queue))) task_agains in
       let c = again_sum behaviour l n us xs its_turns N in
       let d = redelivers_few behaviour l n us xs its_turns in
       omega (arith, a, b, c, d, its_entries)
@@ -197,10 +205,12 @@ module _ (behaviour : Behaviour) (l : Line) (n : ℕ) (es : List Entry) (us : Li
     its_agains k = let s = queue_split behaviour l (agains_one_of l k) n xs in let z = no_agains l k (firsts behaviour l) in omega (arith, s, z)
 
     none_at_first : (k : ℕ) (w : When) → waiting behaviour l n k w [] ≡ 0
-    none_at_first k w = sum_to-same n (λ p. ahead behaviour l k w (left behaviour l [] p) (holds [] p)) (λ p. 0) (λ p m. none_ahead behaviour l k w (left behaviour l [] p) (holds [] p) tt) ∙ sum_to-zero n
+    none_at_first k w = sum_to-same n (λ p. ahead behaviour l k w (left behaviour l [] p) (holds [] p)) (λ p. 0)
+        (λ p m. none_ahead behaviour l k w (left behaviour l [] p) (holds [] p) tt) ∙ sum_to-zero n
 
     none_at_last : (k : ℕ) (w : When) → waiting behaviour l n k w xs ≡ 0
-    none_at_last k w = sum_to-same n (λ p. ahead behaviour l k w (left behaviour l xs p) (holds xs p)) (λ p. 0) (λ p m. none_ahead behaviour l k w (left behaviour l xs p) (holds xs p) (all_between behaviour l n us xs its_turns all p)) ∙ sum_to-zero n
+    none_at_last k w = sum_to-same n (λ p. ahead behaviour l k w (left behaviour l xs p) (holds xs p)) (λ p. 0)
+        (λ p m. none_ahead behaviour l k w (left behaviour l xs p) (holds xs p) (all_between behaviour l n us xs its_turns all p)) ∙ sum_to-zero n
 
     -- a task is run where its message is published
     run_once : (k : ℕ) → IsRunTask behaviour l k → D k ≡ 1
@@ -244,7 +254,8 @@ module _ (behaviour : Behaviour) (l : Line) (n : ℕ) (es : List Entry) (us : Li
         of_call (again e) i d = absurd (d refl)
 
     few_publishes : (k : ℕ) → (D k ≡ 0) ⊎ (D k ≡ 1)
-    few_publishes k = let f = first.published_once k in ⊎_elim (λ (z : D k < 1). inl (omega (arith, z))) (λ (z : 1 ≤ D k). inr (omega (arith, z, f))) (cases_lt (D k) 1)
+    few_publishes k = let f = first.published_once k in
+        ⊎_elim (λ (z : D k < 1). inl (omega (arith, z))) (λ (z : 1 ≤ D k). inr (omega (arith, z, f))) (cases_lt (D k) 1)
 
     -- where the task isn't run nothing answers again, and where it is, each entry is spent
     abbrev Counted : ℕ → Type 0
@@ -265,20 +276,24 @@ module _ (behaviour : Behaviour) (l : Line) (n : ℕ) (es : List Entry) (us : Li
         let fe = few_left behaviour l n k Early [] es us xs rest t.turned in
         let fl = few_left behaviour l n k Late [] es us xs rest t.turned in
         let e_none : entries_for k Early rest ≡ 0 =
-        ⊎_elim (λ z. z) (λ (m : T + waiting behaviour l n k Early [] + entries_for k Early rest ≡ entries_for k Early es + waiting behaviour l n k Early xs). omega (arith, m, none_at_first k Early, none_at_last k Early, taken, sum, fl))
+        ⊎_elim (λ z. z) (λ (m : T + waiting behaviour l n k Early [] + entries_for k Early rest ≡ entries_for k Early es
+        + waiting behaviour l n k Early xs). omega (arith, m, none_at_first k Early, none_at_last k Early, taken, sum, fl))
         (spends_all behaviour l n k Early [] es us xs rest t.workers t.turned) in
         let l_none : entries_for k Late rest ≡ 0 =
-        ⊎_elim (λ z. z) (λ (m : T + waiting behaviour l n k Late [] + entries_for k Late rest ≡ entries_for k Late es + waiting behaviour l n k Late xs). omega (arith, m, none_at_first k Late, none_at_last k Late, taken, sum, fe))
+        ⊎_elim (λ z. z) (λ (m : T + waiting behaviour l n k Late [] + entries_for k Late rest ≡ entries_for k Late es + waiting behaviour l n k Late xs). omega
+        (arith, m, none_at_first k Late, none_at_last k Late, taken, sum, fe))
         (spends_all behaviour l n k Late [] es us xs rest t.workers t.turned) in
         let stores : again_stores k R.table ≡ A = second.stored_again k ∙ its_agains k in
         (omega (arith, stores, sum, e_none, l_none), e_none, l_none)
 
     -- ---- all tasks together
 
-    each_key : (k : ℕ) → total (λ (x : Step). cond (eqb (stores_of x.1.0) k) (answers_again x.1.0 x.1.1) 0) xs ≡ total (λ (e : Entry). cond (eqb e.0 k) (D e.0) 0) es
+    each_key : (k : ℕ) → total (λ (x : Step). cond (eqb (stores_of x.1.0) k) (answers_again x.1.0 x.1.1) 0) xs
+        ≡ total (λ (e : Entry). cond (eqb e.0 k) (D e.0) 0) es
     each_key k =
         let stores : again_stores k R.table ≡ total (λ (x : Step). in_table behaviour l (agains_one k) x.1) xs = table_total behaviour l (agains_one k) n xs in
-        let steps = total_as (λ (x : Step). cond (eqb (stores_of x.1.0) k) (answers_again x.1.0 x.1.1) 0) (λ (x : Step). in_table behaviour l (agains_one k) x.1) (again_of_task behaviour l k) xs in
+        let steps = total_as (λ (x : Step). cond (eqb (stores_of x.1.0) k) (answers_again x.1.0 x.1.1) 0)
+        (λ (x : Step). in_table behaviour l (agains_one k) x.1) (again_of_task behaviour l k) xs in
         elim (few_publishes k) [
           | inl z ↦ let a = not_run k z in let b = weighed_none D k z es in omega (arith, stores, steps, a, b)
           | inr o ↦ let a = (counted_run k o).0 in let b = weighed_one D k o es in omega (arith, stores, steps, a, b)
@@ -289,7 +304,8 @@ module _ (behaviour : Behaviour) (l : Line) (n : ℕ) (es : List Entry) (us : Li
         let N = total (λ (x : Step). stores_of x.1.0) xs + total (λ (e : Entry). e.0) es in
         let a = by_key (λ (x : Step). stores_of x.1.0) (λ (x : Step). answers_again x.1.0 x.1.1) N xs (omega arith) in
         let b = by_key (λ (e : Entry). e.0) (λ (e : Entry). D e.0) N es (omega arith) in
-        sym a ∙ (sum_to-same N (λ k. total (λ (x : Step). cond (eqb (stores_of x.1.0) k) (answers_again x.1.0 x.1.1) 0) xs) (λ k. total (λ (e : Entry). cond (eqb e.0 k) (D e.0) 0) es) (λ k m. each_key k) ∙ b)
+        sym a ∙ (sum_to-same N (λ k. total (λ (x : Step). cond (eqb (stores_of x.1.0) k) (answers_again x.1.0 x.1.1) 0) xs)
+        (λ k. total (λ (e : Entry). cond (eqb e.0 k) (D e.0) 0) es) (λ k m. each_key k) ∙ b)
 
     run_entries : (ds : List Entry) → RunEntries behaviour l ds (total (λ (e : Entry). D e.0) ds)
     run_entries [] = no_entry
@@ -297,7 +313,8 @@ module _ (behaviour : Behaviour) (l : Line) (n : ℕ) (es : List Entry) (us : Li
         let further : ℕ = total (λ (x : Entry). D x.0) ds in
         let r = run_entries ds in
         elim (few_publishes e.0) [
-          | inl z ↦ let same : further ≡ D e.0 + further = omega (arith, z) in subst (RunEntries behaviour l (e ∷ ds)) same (one_idle (λ i. let o = run_once e.0 i in omega (arith, o, z)) r)
+          | inl z ↦ let same : further ≡ D e.0 + further = omega (arith, z) in
+              subst (RunEntries behaviour l (e ∷ ds)) same (one_idle (λ i. let o = run_once e.0 i in omega (arith, o, z)) r)
           | inr o ↦ let same : suc further ≡ D e.0 + further = omega (arith, o) in subst (RunEntries behaviour l (e ∷ ds)) same (one_run (was_run e.0 o) r)
         ]
 
@@ -313,7 +330,8 @@ module _ (behaviour : Behaviour) (l : Line) (n : ℕ) (es : List Entry) (us : Li
         none_left Late k m c = omega (arith, m, c.2)
 
 module _ (behaviour : Behaviour) where
-  pub again_turns : (l : Line) → IsPlan l → (n : ℕ) (ts : List ℕ) (es : List Entry) → Each (IsWorker n) ts → (r : RanAgain behaviour l n ts es) → ByEntries behaviour l n es r.turns r.steps r.rest
+  pub again_turns : (l : Line) → IsPlan l → (n : ℕ) (ts : List ℕ) (es : List Entry) → Each (IsWorker n) ts → (r : RanAgain behaviour l n ts es)
+      → ByEntries behaviour l n es r.turns r.steps r.rest
   again_turns l plan n ts es w r = record {
     plan = plan;
     opens_back = r.opens_back;
@@ -321,5 +339,7 @@ module _ (behaviour : Behaviour) where
     turned = r.turned;
   }
 
-  pub without_entries : (l : Line) (n : ℕ) (us : List ℕ) (xs : List Step) → ByTurns behaviour l n us xs → redeliveries_in xs ≡ 0 → ByEntries behaviour l n [] us xs []
-  without_entries l n us xs t z = record { plan = t.plan; opens_back = t.opens_back; workers = t.workers; turned = no_entries behaviour l n [] us xs t.turned z }
+  pub without_entries : (l : Line) (n : ℕ) (us : List ℕ) (xs : List Step) → ByTurns behaviour l n us xs → redeliveries_in xs ≡ 0
+      → ByEntries behaviour l n [] us xs []
+  without_entries l n us xs t z =
+      record { plan = t.plan; opens_back = t.opens_back; workers = t.workers; turned = no_entries behaviour l n [] us xs t.turned z }

@@ -27,7 +27,8 @@ total-same w v f [] = refl
 total-same w v f (x ∷ xs) = let r = total-same w v f xs in let h = f x in omega arith
 
 -- pairs with the same first parts, and second parts that these determine
-pub same_pairs : (Q : ℕ → Outcome → Type 0) → ((t : ℕ) (o q : Outcome) → Q t o → Q t q → o ≡ q) → (xs ys : List (ℕ × Outcome)) → firsts xs ≡ firsts ys → Each (λ f. Q f.0 f.1) xs → Each (λ f. Q f.0 f.1) ys → xs ≡ ys
+pub same_pairs : (Q : ℕ → Outcome → Type 0) → ((t : ℕ) (o q : Outcome) → Q t o → Q t q → o ≡ q) → (xs ys : List (ℕ × Outcome)) → firsts xs ≡ firsts ys
+    → Each (λ f. Q f.0 f.1) xs → Each (λ f. Q f.0 f.1) ys → xs ≡ ys
 same_pairs Q one [] [] e a b = refl
 same_pairs Q one [] (y ∷ ys) e a b = absurd (cc)
 same_pairs Q one (x ∷ xs) [] e a b = absurd (cc)
@@ -75,9 +76,14 @@ module _ (behaviour : Behaviour) where
   }
 
 module _ (members : ℕ → List ℕ) where
-  pub called_rises : (d : Bool) (m : Message) (o : Outcome) (a b : ℕ) → TasksIn m.links (suc m.no) a → TasksIn m.errbacks a b → Rises (job_key d) (suc m.no) (called m.links m.errbacks m.no o) b
-  called_rises d m (Success n) a b i j = rises_higher (job_key d) (suc m.no) a b (callbacks m.links (number_input n) (Some m.no)) (tasks_span m.errbacks a b j) (callbacks_rise members d m.links (number_input n) (Some m.no) (suc m.no) a i)
-  called_rises d m (Failure f) a b i j = rises_lower (job_key d) (suc m.no) a (callbacks m.errbacks (id_input m.no) (Some m.no)) b (tasks_span m.links (suc m.no) a i) (callbacks_rise members d m.errbacks (id_input m.no) (Some m.no) a b j)
+  pub called_rises : (d : Bool) (m : Message) (o : Outcome) (a b : ℕ) → TasksIn m.links (suc m.no) a → TasksIn m.errbacks a b
+      → Rises (job_key d) (suc m.no) (called m.links m.errbacks m.no o) b
+  called_rises d m (Success n) a b i j =
+      rises_higher (job_key d) (suc m.no) a b (callbacks m.links (number_input n) (Some m.no)) (tasks_span m.errbacks a b j)
+      (callbacks_rise members d m.links (number_input n) (Some m.no) (suc m.no) a i)
+  called_rises d m (Failure f) a b i j =
+      rises_lower (job_key d) (suc m.no) a (callbacks m.errbacks (id_input m.no) (Some m.no)) b (tasks_span m.links (suc m.no) a i)
+      (callbacks_rise members d m.errbacks (id_input m.no) (Some m.no) a b j)
 
 module _ (behaviour : Behaviour) (p : Plan) where
   abbrev pub X : Protocol
@@ -101,13 +107,16 @@ module _ (behaviour : Behaviour) (p : Plan) where
   messages_each P Q f (hand_in g t c ∷ js) a = messages_each P Q f js a.1
 
   first_after : Each (AtLeast p.members p.limit 0 0) (enter p.line (run no_input) nowhere 0 None)
-  first_after = enter_after p.members p.limit p.line (run no_input) nowhere 0 None false 0 0 1 p.limit (omega arith) (omega arith) (λ e. omega arith) (omega arith) (le_refl _) tt tt p.numbered tt tt
+  first_after = enter_after p.members p.limit p.line (run no_input) nowhere 0 None false 0 0 1 p.limit (omega arith) (omega arith) (λ e. omega arith)
+      (omega arith) (le_refl _) tt tt p.numbered tt tt
 
-  called_after : (m : Message) (o : Outcome) (a b : ℕ) → 1 ≤ m.no → b ≤ p.limit → TasksIn m.links (suc m.no) a → TasksIn m.errbacks a b → Each (AtLeast p.members p.limit (suc m.no) m.no) (called m.links m.errbacks m.no o)
+  called_after : (m : Message) (o : Outcome) (a b : ℕ) → 1 ≤ m.no → b ≤ p.limit → TasksIn m.links (suc m.no) a → TasksIn m.errbacks a b
+      → Each (AtLeast p.members p.limit (suc m.no) m.no) (called m.links m.errbacks m.no o)
   called_after m (Success n) a b one top i j =
       let x = tasks_span m.links (suc m.no) a i in
       let y = tasks_span m.errbacks a b j in
-      callbacks_after p.members p.limit m.links (number_input n) (Some m.no) (suc m.no) m.no (suc m.no) a (one, omega arith) (le_refl _) (omega arith) (omega arith) i
+      callbacks_after p.members p.limit m.links (number_input n) (Some m.no) (suc m.no) m.no (suc m.no) a (one, omega arith) (le_refl _) (omega arith)
+      (omega arith) i
   called_after m (Failure f) a b one top i j =
       let x = tasks_span m.links (suc m.no) a i in
       let y = tasks_span m.errbacks a b j in
@@ -139,7 +148,8 @@ module _ (behaviour : Behaviour) (p : Plan) where
   completed_beyond : (g t : ℕ) (c : Carried) (fs : List (ℕ × Outcome)) → FormedPart p.members p.limit g t c → Each (Beyond X form g) (body_after c fs)
   completed_beyond g t (carried n body q) fs (i, (from, upto, l, top, below, size, inside, behind, lands)) =
       each_weaker (λ x a. beyond g from x below a) _ (each_by_kind (AtLeast p.members p.limit from from) _
-      (enter_after p.members p.limit body (header fs) q 0 None false from from from upto (le_refl _) (le_refl _) (λ e. absurd (cc)) (first_number (in_each (λ u. u < from) (p.members g) below t i)) top tt (header_in fs) inside behind lands))
+      (enter_after p.members p.limit body (header fs) q 0 None false from from from upto (le_refl _) (le_refl _) (λ e. absurd (cc))
+      (first_number (in_each (λ u. u < from) (p.members g) below t i)) top tt (header_in fs) inside behind lands))
     where
       first_number : {k n : ℕ} → k < n → 1 ≤ n
       first_number l = omega arith
@@ -161,23 +171,28 @@ module _ (behaviour : Behaviour) (p : Plan) where
       outcome_in (Success n) l h = (l, h)
       outcome_in (Failure f) l h = tt
 
-      whole : (m : Message) (o : Outcome) → Formed p.members p.limit m → Each (AtLeast p.members p.limit (suc m.no) m.no) (called m.links m.errbacks m.no o ++ enter m.rest (after_outcome o) m.place m.no (Some m.no))
+      whole : (m : Message) (o : Outcome) → Formed p.members p.limit m
+          → Each (AtLeast p.members p.limit (suc m.no) m.no) (called m.links m.errbacks m.no o ++ enter m.rest (after_outcome o) m.place m.no (Some m.no))
       whole m o (a, b, c, one, top, i, j, r, q, s) =
           let x = tasks_span m.links (suc m.no) a i in
           let y = tasks_span m.errbacks a b j in
           let z = line_span p.members m.rest b c r in
           each_append (AtLeast p.members p.limit (suc m.no) m.no) (called m.links m.errbacks m.no o) _ (called_after m o a b one.0 (omega arith) i j)
-          (enter_after p.members p.limit m.rest (after_outcome o) m.place m.no (Some m.no) true (suc m.no) m.no b c (omega arith) (omega arith) (λ e. le_refl _) (omega arith) top (one.0, omega arith) (outcome_in o one.0 (omega arith)) r q s)
+          (enter_after p.members p.limit m.rest (after_outcome o) m.place m.no (Some m.no) true (suc m.no) m.no b c (omega arith) (omega arith) (λ e. le_refl _)
+          (omega arith) top (one.0, omega arith) (outcome_in o one.0 (omega arith)) r q s)
 
   -- each task has one outcome and one message
   pub one_outcome : (t : ℕ) (o q : Outcome) → Has X Does t o → Has X Does t q → o ≡ q
   one_outcome t o q a b =
       let same : ◌≡◌ {A = Event × AJob} (a.0, store t o) (b.0, store t q) =
-      rises_unique (item_key false) 1 (evaluated behaviour p.line) p.limit (items_rise behaviour p.members false p.line (run no_input) nowhere 0 start 1 p.limit p.numbered) (a.0, store t o) (b.0, store t q) t a.1 b.1 refl refl in
+      rises_unique (item_key false) 1 (evaluated behaviour p.line) p.limit
+      (items_rise behaviour p.members false p.line (run no_input) nowhere 0 start 1 p.limit p.numbered) (a.0, store t o)
+      (b.0, store t q) t a.1 b.1 refl refl in
       let jobs : ◌≡◌ {A = AJob} (store t o) (store t q) = ap (λ x. x.1) same in
       cc
 
-  pub completed_does : (g t : ℕ) (c : Carried) (fs : List (ℕ × Outcome)) → IsReturned X Does g t c → firsts fs ≡ p.members g → Each (λ f. Has X Does f.0 f.1) fs → Each (Does (completion g)) (body_after c fs)
+  pub completed_does : (g t : ℕ) (c : Carried) (fs : List (ℕ × Outcome)) → IsReturned X Does g t c → firsts fs ≡ p.members g → Each (λ f. Has X Does f.0 f.1) fs
+      → Each (Does (completion g)) (body_after c fs)
   completed_does g t c fs (v, i) same has =
       ⊎_elim (λ e. absurd (no_place e))
       (λ k. subst (λ es. AllIn (completion g) (evaluated behaviour p.line) (body_after c es))
@@ -189,7 +204,8 @@ module _ (behaviour : Behaviour) (p : Plan) where
 
   pub value : Evaluates X Does form
   value = record {
-    first = messages_each (λ j. In (start, j) (evaluated behaviour p.line)) (λ m. Does start (publish m)) (λ m i. i) _ (enter_in behaviour p.line (run no_input) nowhere 0 start);
+    first = messages_each (λ j. In (start, j) (evaluated behaviour p.line)) (λ m. Does start (publish m)) (λ m i. i) _
+        (enter_in behaviour p.line (run no_input) nowhere 0 start);
     own = λ m r. (items_followed behaviour p.line (run no_input) nowhere 0 start r.0 m r.1).0;
     ended = λ m f r. (items_followed behaviour p.line (run no_input) nowhere 0 start r.0 m r.1).1;
     completed = λ g t c fs f r e all. completed_does g t c fs r e all;
@@ -215,11 +231,14 @@ module _ (behaviour : Behaviour) (p : Plan) where
   pub once : Once X Does form
   once = record {
     event = λ e f m n i j same. ap (λ x. x.0) (rises_unique (item_key true) 1 (evaluated behaviour p.line) p.limit
-        (items_rise behaviour p.members true p.line (run no_input) nowhere 0 start 1 p.limit p.numbered) (e, publish m) (f, publish n) m.no i j refl (ap Some (sym same)));
+        (items_rise behaviour p.members true p.line (run no_input) nowhere 0 start 1 p.limit p.numbered) (e, publish m) (f, publish n) m.no i j refl
+        (ap Some (sym same)));
     message = λ e f m n i j same. same_message m n (ap (λ x. x.1) (rises_unique (item_key true) 1 (evaluated behaviour p.line) p.limit
-        (items_rise behaviour p.members true p.line (run no_input) nowhere 0 start 1 p.limit p.numbered) (e, publish m) (f, publish n) m.no i j refl (ap Some (sym same))));
+        (items_rise behaviour p.members true p.line (run no_input) nowhere 0 start 1 p.limit p.numbered) (e, publish m) (f, publish n) m.no i j refl
+        (ap Some (sym same))));
     at_start = λ k. subst (λ n. n ≤ 1) (sym (first_sends k (enter p.line (run no_input) nowhere 0 None)))
-        (rising_once k 1 p.limit (enter p.line (run no_input) nowhere 0 None) (enter_rises p.members true p.line (run no_input) nowhere 0 None 1 p.limit p.numbered)).0;
+        (rising_once k 1 p.limit (enter p.line (run no_input) nowhere 0 None)
+        (enter_rises p.members true p.line (run no_input) nowhere 0 None 1 p.limit p.numbered)).0;
     at_end = λ k m f. ended_once k m f;
     at_completion = λ k g t c fs f same. completed_once k g t c fs f;
   }
@@ -229,7 +248,10 @@ module _ (behaviour : Behaviour) (p : Plan) where
 
       ended_once : (k : ℕ) (m : Message) → Formed p.members p.limit m → total (publishes X k) (after m (outcome_of behaviour m)) ≤ 1
       ended_once k m (a, b, c, one, top, i, j, r, q, s) =
-          kinds_once k (suc m.no) c (called m.links m.errbacks m.no (outcome_of behaviour m) ++ enter m.rest (after_outcome (outcome_of behaviour m)) m.place m.no (Some m.no)) (rises_append (job_key true) (suc m.no) b c (called m.links m.errbacks m.no (outcome_of behaviour m)) _ (called_rises p.members true m (outcome_of behaviour m) a b i j)
+          kinds_once k (suc m.no) c
+          (called m.links m.errbacks m.no (outcome_of behaviour m) ++ enter m.rest (after_outcome (outcome_of behaviour m)) m.place m.no (Some m.no))
+          (rises_append (job_key true) (suc m.no) b c (called m.links m.errbacks m.no (outcome_of behaviour m)) _
+          (called_rises p.members true m (outcome_of behaviour m) a b i j)
           (enter_rises p.members true m.rest (after_outcome (outcome_of behaviour m)) m.place m.no (Some m.no) b c r))
 
       completed_once : (k g t : ℕ) (c : Carried) (fs : List (ℕ × Outcome)) → FormedPart p.members p.limit g t c → total (publishes X k) (body_after c fs) ≤ 1
@@ -257,8 +279,10 @@ module _ (behaviour : Behaviour) (p : Plan) where
     where
       ended_once : (k : ℕ) (m : Message) → Formed p.members p.limit m → total (keeps X k) (after m (outcome_of behaviour m)) ≤ 1
       ended_once k m (a, b, c, one, top, i, j, r, q, s) =
-          kinds_kept_once k (suc m.no) c (called m.links m.errbacks m.no (outcome_of behaviour m) ++ enter m.rest (after_outcome (outcome_of behaviour m)) m.place m.no (Some m.no))
-          (rises_append (job_key false) (suc m.no) b c (called m.links m.errbacks m.no (outcome_of behaviour m)) _ (called_rises p.members false m (outcome_of behaviour m) a b i j)
+          kinds_kept_once k (suc m.no) c
+          (called m.links m.errbacks m.no (outcome_of behaviour m) ++ enter m.rest (after_outcome (outcome_of behaviour m)) m.place m.no (Some m.no))
+          (rises_append (job_key false) (suc m.no) b c (called m.links m.errbacks m.no (outcome_of behaviour m)) _
+          (called_rises p.members false m (outcome_of behaviour m) a b i j)
           (enter_rises p.members false m.rest (after_outcome (outcome_of behaviour m)) m.place m.no (Some m.no) b c r))
 
       completed_once : (k g t : ℕ) (c : Carried) (fs : List (ℕ × Outcome)) → FormedPart p.members p.limit g t c → total (keeps X k) (body_after c fs) ≤ 1

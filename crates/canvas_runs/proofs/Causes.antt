@@ -45,7 +45,8 @@ by_in {A} p c (e ∷ es) i = go (eqb e.0 p) refl (λ k. by_in p c es k) i
 
 in_by : {A : Type 0} (p : ℕ) (c : A) (es : List (ℕ × A)) → In (p, c) es → In c (by p es)
 in_by p c [] i = elim i [ ]
-in_by {A} p c (e ∷ es) (inl s) = subst (λ b. In c (cond b (e.1 ∷ by p es) (by p es))) (sym (eq-eqb e.0 p (sym (ap (λ (x : ℕ × A). x.0) s)))) (inl (ap (λ (x : ℕ × A). x.1) s))
+in_by {A} p c (e ∷ es) (inl s) =
+    subst (λ b. In c (cond b (e.1 ∷ by p es) (by p es))) (sym (eq-eqb e.0 p (sym (ap (λ (x : ℕ × A). x.0) s)))) (inl (ap (λ (x : ℕ × A). x.1) s))
 in_by p c (e ∷ es) (inr i) = go (eqb e.0 p) (in_by p c es i)
   where
     go : (b : Bool) → In c (by p es) → In c (cond b (e.1 ∷ by p es) (by p es))
@@ -92,7 +93,8 @@ heavy_total w (y ∷ xs) x (inr i) = let h = heavy_total w xs x i in omega arith
 
 module _ (behaviour : Behaviour) (l : Line) (plan : IsPlan l) (r : Run behaviour l) where
   -- what shows an event
-  brought : (p : ℕ) (v : Event) (c : BackendCall Outcome) → (shows (X behaviour l plan) (form behaviour l plan) v c ≡ 0 → ⊥) → In (row (p, c)) r.table → Brought l p r.table v
+  brought : (p : ℕ) (v : Event) (c : BackendCall Outcome) → (shows (X behaviour l plan) (form behaviour l plan) v c ≡ 0 → ⊥) → In (row (p, c)) r.table
+      → Brought l p r.table v
   brought p v (stored t o false) d i = absurd (d refl)
   brought p v (has_read t o) d i = absurd (d refl)
   brought p start (stored t o true) d i = absurd (d refl)
@@ -105,7 +107,8 @@ module _ (behaviour : Behaviour) (l : Line) (plan : IsPlan l) (r : Run behaviour
       go false e d = absurd (d refl)
   brought p v (returned h t n) d i = go (eqb (suc n) (length (members l h))) refl v d
     where
-      go : (b : Bool) → eqb (suc n) (length (members l h)) ≡ b → (v : Event) → (◌≡◌ {A = ℕ} (cond b (is_event (completion h) v) 0) 0 → ⊥) → Brought l p r.table v
+      go : (b : Bool) → eqb (suc n) (length (members l h)) ≡ b → (v : Event) → (◌≡◌ {A = ℕ} (cond b (is_event (completion h) v) 0) 0 → ⊥)
+          → Brought l p r.table v
       go false e v d = absurd (d refl)
       go true e start d = absurd (d refl)
       go true e (running k) d = absurd (d refl)
@@ -114,8 +117,12 @@ module _ (behaviour : Behaviour) (l : Line) (plan : IsPlan l) (r : Run behaviour
         where
           same : (b : Bool) → eqb h g ≡ b → (◌≡◌ {A = ℕ} (cond b 1 0) 0 → ⊥) → Brought l p r.table (completion g)
           same true f d =
-              let is : h ≡ g = eqb-true h g f in
-              (t, n, subst (λ k. In (calls p (part k t) (count n)) r.table) is i, subst (λ k. suc n ≡ length (members l k)) is (eqb-true (suc n) (length (members l h)) e))
+              let is : h ≡ g = eqb-true h g f in (
+                t,
+                n,
+                subst (λ k. In (calls p (part k t) (count n)) r.table) is i,
+                subst (λ k. suc n ≡ length (members l k)) is (eqb-true (suc n) (length (members l h)) e),
+              )
           same false f d = absurd (d refl)
 
   at_start : (p : ℕ) (v : Event) → 1 ≤ cond (eqb p 0) (is_event start v) 0 → Brought l p r.table v
@@ -129,25 +136,35 @@ module _ (behaviour : Behaviour) (l : Line) (plan : IsPlan l) (r : Run behaviour
       go true e (completion g) m = absurd (omega arith)
 
   -- a publish, with the message that its envelope opens as
-  caused : (p : ℕ) (e : Envelope) (a : Option Envelope) → In (calls p (publish e) a) r.queue → (c : Content) × (v : Event) × (e ≡ sealed c) × (opened (book_of l) e ≡ Some c) × DoesIn behaviour l v (job.publish c) × Brought l p r.table v
+  caused : (p : ℕ) (e : Envelope) (a : Option Envelope) → In (calls p (publish e) a) r.queue → (c : Content) × (v : Event) × (e ≡ sealed c)
+      × (opened (book_of l) e ≡ Some c) × DoesIn behaviour l v (job.publish c) × Brought l p r.table v
   caused p e a i =
       let there : In (p, published e) (queue_calls r.queue) = publish_by r.queue p e a i in
-      let good : IsRunSealed (X behaviour l plan) (form behaviour l plan) (Does behaviour l plan) (order behaviour l plan) (value behaviour l plan) (inner_run behaviour l plan r) e =
-      in_each (GoodPublish (IsRunSealed (X behaviour l plan) (form behaviour l plan) (Does behaviour l plan) (order behaviour l plan) (value behaviour l plan) (inner_run behaviour l plan r))) (seconds (queue_calls r.queue))
-      (each_seconds (GoodPublish (IsRunSealed (X behaviour l plan) (form behaviour l plan) (Does behaviour l plan) (order behaviour l plan) (value behaviour l plan) (inner_run behaviour l plan r))) (queue_calls r.queue)
-      (publishes_right (X behaviour l plan) (form behaviour l plan) (Does behaviour l plan) (order behaviour l plan) (value behaviour l plan) (inner_run behaviour l plan r))) (published e) (publish_in r.queue p e a i) in
+      let good : IsRunSealed (X behaviour l plan) (form behaviour l plan) (Does behaviour l plan) (order behaviour l plan) (value behaviour l plan)
+      (inner_run behaviour l plan r) e =
+      in_each (GoodPublish (IsRunSealed (X behaviour l plan) (form behaviour l plan) (Does behaviour l plan) (order behaviour l plan) (value behaviour l plan)
+      (inner_run behaviour l plan r))) (seconds (queue_calls r.queue))
+      (each_seconds (GoodPublish
+      (IsRunSealed (X behaviour l plan) (form behaviour l plan) (Does behaviour l plan) (order behaviour l plan) (value behaviour l plan)
+      (inner_run behaviour l plan r))) (queue_calls r.queue)
+      (publishes_right (X behaviour l plan) (form behaviour l plan) (Does behaviour l plan) (order behaviour l plan) (value behaviour l plan)
+      (inner_run behaviour l plan r))) (published e) (publish_in r.queue p e a i) in
       let c : Content = good.0 in
       let k : ℕ = number_of c.own in
       let v : Event = good.4.0 in
       let does : DoesIn behaviour l v (job.publish c) = good.4.1 in
       let weight : publishes_task (X behaviour l plan) k (published e) ≡ 1 =
-      ap (λ x. of_opened (X behaviour l plan) k x) (ap (X behaviour l plan).opened good.1 ∙ (order behaviour l plan).opened c good.3 good.2) ∙ ap (λ b. cond b 1 0) (eq-eqb k k refl) in
+      ap (λ x. of_opened (X behaviour l plan) k x) (ap (X behaviour l plan).opened good.1 ∙ (order behaviour l plan).opened c good.3 good.2)
+      ∙ ap (λ b. cond b 1 0) (eq-eqb k k refl) in
       let calls_of : ℕ = total (publishes_task (X behaviour l plan) k) (by p (queue_calls r.queue)) in
-      let some : publishes_task (X behaviour l plan) k (published e) ≤ calls_of = heavy_total (publishes_task (X behaviour l plan) k) (by p (queue_calls r.queue)) (published e) (in_by p (published e) (queue_calls r.queue) there) in
-      let bound = one_caller (X behaviour l plan) (form behaviour l plan) (Does behaviour l plan) (order behaviour l plan) (value behaviour l plan) (once behaviour l plan) (inner_run behaviour l plan r) k v
+      let some : publishes_task (X behaviour l plan) k (published e) ≤ calls_of =
+      heavy_total (publishes_task (X behaviour l plan) k) (by p (queue_calls r.queue)) (published e) (in_by p (published e) (queue_calls r.queue) there) in
+      let bound = one_caller (X behaviour l plan) (form behaviour l plan) (Does behaviour l plan) (order behaviour l plan) (value behaviour l plan)
+      (once behaviour l plan) (inner_run behaviour l plan r) k v
       (λ w n other q. (once behaviour l plan).event w v n c other does q) p in
       let shown : Brought l p r.table v = ⊎_elim
-      (λ (z : total (shows (X behaviour l plan) (form behaviour l plan) v) (by p (table_calls r.table)) ≡ 0). at_start p v (omega (arith, weight, some, bound, z)))
+      (λ (z : total (shows (X behaviour l plan) (form behaviour l plan) v) (by p (table_calls r.table)) ≡ 0). at_start p v
+      (omega (arith, weight, some, bound, z)))
       (λ (h : (x : BackendCall Outcome) × In x (by p (table_calls r.table)) × (shows (X behaviour l plan) (form behaviour l plan) v x ≡ 0 → ⊥)).
       brought p v h.0 h.2 (row_in r.table (p, h.0) (by_in p h.0 (table_calls r.table) h.1)))
       (find_heavy (shows (X behaviour l plan) (form behaviour l plan) v) (by p (table_calls r.table))) in
@@ -179,6 +196,7 @@ module _ (behaviour : Behaviour) (l : Line) (plan : IsPlan l) (r : Run behaviour
   pub completed_once : (g : ℕ) → completions l g r.table ≤ 1
   completed_once g =
       let table = table_is l (plan_apart l plan) [] r.table no_results [] [] refl (table_starts l (plan_apart l plan)) r.table_legal in
-      let less = total-le (completes_one l g) (shows (X behaviour l plan) (form behaviour l plan) (completion g)) (completes_less g) (seconds (table_calls r.table)) in
+      let less = total-le (completes_one l g) (shows (X behaviour l plan) (form behaviour l plan) (completion g)) (completes_less g)
+      (seconds (table_calls r.table)) in
       let once = shows_once (X behaviour l plan) (form behaviour l plan) (completion g) (seconds (table_calls r.table)) table in
       omega (arith, less, once)

@@ -66,7 +66,8 @@ module _ (behaviour : Behaviour) where
   sourced_append xs ys f g =
       sourced_both xs ys (xs ++ ys) (sourced_more xs xs (xs ++ ys) (λ x i. in_left xs ys x i) f) (sourced_more ys ys (xs ++ ys) (λ x i. in_right xs ys x i) g)
 
-  sourced_fails : (v : Event) (k : ℕ) (f : Fault) (is : Items) → Other v → Sourced is is → Sourced ((v, store k (Failure f)) ∷ is) ((v, store k (Failure f)) ∷ is)
+  sourced_fails : (v : Event) (k : ℕ) (f : Fault) (is : Items) → Other v → Sourced is is
+      → Sourced ((v, store k (Failure f)) ∷ is) ((v, store k (Failure f)) ∷ is)
   sourced_fails v k f is h s w t o (inl e) =
       let jobs : ◌≡◌ {A = AJob} (store t o) (store k (Failure f)) = ap (λ p. p.1) e in
       let out : o ≡ Failure f = cc in
@@ -97,7 +98,8 @@ module _ (behaviour : Behaviour) where
 
     ran_all_sourced : (ts : Tasks) (x : Input) (v : Event) → Sourced (ran_all behaviour ts x v) (ran_all behaviour ts x v)
     ran_all_sourced no_tasks x v = λ w t o i. elim i [ ]
-    ran_all_sourced (and_task t ts) x v = sourced_append (ran behaviour t x v stop p_nowhere) (ran_all behaviour ts x v) (ran_sourced t x v stop p_nowhere) (ran_all_sourced ts x v)
+    ran_all_sourced (and_task t ts) x v =
+        sourced_append (ran behaviour t x v stop p_nowhere) (ran_all behaviour ts x v) (ran_sourced t x v stop p_nowhere) (ran_all_sourced ts x v)
 
   stop_sourced : (p : PPlace) (k : ℕ) (v : Event) (all : Items) → Sourced (labelled v (part_of p k)) all
   stop_sourced p_nowhere k v all w t o i = elim i [ ]
@@ -107,10 +109,12 @@ module _ (behaviour : Behaviour) where
   stop_sourced (p_chord g n b) k v all w t o (inr i) = elim i [ ]
 
   mutual
-    events_sourced : (l : Line) (x : LineFlow) (p : PPlace) (k : ℕ) (v : Event) → Other v → Sourced (events_in_file behaviour l x p k v) (events_in_file behaviour l x p k v)
+    events_sourced : (l : Line) (x : LineFlow) (p : PPlace) (k : ℕ) (v : Event) → Other v
+        → Sourced (events_in_file behaviour l x p k v) (events_in_file behaviour l x p k v)
     events_sourced stop x p k v h = stop_sourced p k v _
     events_sourced (step t rest) (run x) p k v h =
-        sourced_append (ran behaviour t x v rest p) (events_in_file behaviour rest (after_outcome (outcome_with behaviour t x)) p (no_of t) (end_of_line (no_of t)))
+        sourced_append (ran behaviour t x v rest p)
+        (events_in_file behaviour rest (after_outcome (outcome_with behaviour t x)) p (no_of t) (end_of_line (no_of t)))
         (ran_sourced t x v rest p) (events_sourced rest (after_outcome (outcome_with behaviour t x)) p (no_of t) (end_of_line (no_of t)) tt)
     events_sourced (step t rest) (skips f) p k v h = sourced_fails v (no_of t) f _ h (events_sourced rest (skips f) p (no_of t) v h)
     events_sourced (step t rest) (raise f) p k v h =
@@ -119,7 +123,8 @@ module _ (behaviour : Behaviour) where
         (ran_all_sourced (errbacks_in t) (id_input (no_of t)) v) (events_sourced rest (skips f) p (no_of t) v h))
     events_sourced (group_end g ms) x p k v h = all_sourced ms x (p_group g) v h
     events_sourced (chord_end g ms body) x p k v h =
-        sourced_append (items_all behaviour ms x (header_place x g ms body p) v) (events_in_file behaviour body (group_flow x (outs behaviour ms x)) p 0 (body_event x ms g v))
+        sourced_append (items_all behaviour ms x (header_place x g ms body p) v)
+        (events_in_file behaviour body (group_flow x (outs behaviour ms x)) p 0 (body_event x ms g v))
         (all_sourced ms x (header_place x g ms body p) v h)
         (events_sourced body (group_flow x (outs behaviour ms x)) p 0 (body_event x ms g v) (other_body x ms g v h))
 
@@ -139,7 +144,8 @@ module _ (behaviour : Behaviour) (l : Line) (plan : IsPlan l) where
   run_state t o (c, runs, its_no, out) =
       let own : DoesIn behaviour l (running (number_of c.own)) (store (number_of c.own) (outcome_of behaviour c)) = (value behaviour l plan).own c runs in
       let there : DoesIn behaviour l (running t) (store t o) =
-      subst (λ n. DoesIn behaviour l (running n) (store n o)) its_no (subst (λ u. DoesIn behaviour l (running (number_of c.own)) (store (number_of c.own) u)) out own) in
+      subst (λ n. DoesIn behaviour l (running n) (store n o)) its_no
+      (subst (λ u. DoesIn behaviour l (running (number_of c.own)) (store (number_of c.own) u)) out own) in
       (has_state behaviour l plan t o (running t, there), there)
 
   not_run : (t : ℕ) (o : Outcome) (v : Event) → Other v → DoesIn behaviour l v (store t o) → IsNotRun behaviour l t

@@ -140,7 +140,8 @@ module _ (P : Job Content PCarried Outcome → Type 0) where
       each_append P (map (λ s. store s.0 s.1) (effect_of js).stores) (map (λ m. publish m) (effect_of js).messages ++ part_jobs (effect_of js).part)
       (each_map (λ s. store s.0 s.1) P (effect_of js).stores (each_in_order (λ e. e.0) (λ e. P (store e.0 e.1)) (stores_in js) (stores_each js a)))
       (each_append P (map (λ m. publish m) (effect_of js).messages) (part_jobs (effect_of js).part)
-      (each_map (λ m. publish m) P (effect_of js).messages (each_in_order (λ m. number_of m.own) (λ m. P (publish m)) (messages_in js) (messages_each js a))) (part_each js a))
+      (each_map (λ m. publish m) P (effect_of js).messages (each_in_order (λ m. number_of m.own) (λ m. P (publish m)) (messages_in js) (messages_each js a)))
+      (part_each js a))
 
 module _ (behaviour : Behaviour) (l : Line) (plan : IsPlan l) where
   abbrev pub X : Protocol
@@ -180,18 +181,21 @@ module _ (behaviour : Behaviour) (l : Line) (plan : IsPlan l) where
   pub does_on : (v : Event) (x : AJob) → In (v, x) (evaluation.evaluated behaviour l) → Does v (sent x)
   does_on v x i = subst (In (v, sent x)) (sym all_items) (map_in both_sent (evaluation.evaluated behaviour l) (v, x) i)
 
-  store_back : (v : Event) (t : ℕ) (o : Outcome) (x : AJob) → store t o ≡ sent x → In (v, x) (evaluation.evaluated behaviour l) → In (v, store t o) (evaluation.evaluated behaviour l)
+  store_back : (v : Event) (t : ℕ) (o : Outcome) (x : AJob) → store t o ≡ sent x → In (v, x) (evaluation.evaluated behaviour l)
+      → In (v, store t o) (evaluation.evaluated behaviour l)
   store_back v t o (store u q) e i =
       let tasks : t ≡ u = cc in
       let outs : o ≡ q = cc in
-      subst (λ w. In (v, store w o) (evaluation.evaluated behaviour l)) (sym tasks) (subst (λ w. In (v, store u w) (evaluation.evaluated behaviour l)) (sym outs) i)
+      subst (λ w. In (v, store w o) (evaluation.evaluated behaviour l)) (sym tasks)
+      (subst (λ w. In (v, store u w) (evaluation.evaluated behaviour l)) (sym outs) i)
   store_back v t o (publish m) e i = absurd cc
   store_back v t o (hand_in g u c) e i = absurd cc
 
   pub stored : (v : Event) (t : ℕ) (o : Outcome) → Does v (store t o) → In (v, store t o) (evaluation.evaluated behaviour l)
   stored v t o i = let r = does_back v (store t o) i in store_back v t o r.0 r.1 r.2
 
-  message_back : (v : Event) (c : Content) (x : AJob) → publish c ≡ sent x → In (v, x) (evaluation.evaluated behaviour l) → (m : Message) × (c ≡ content m) × In (v, publish m) (evaluation.evaluated behaviour l)
+  message_back : (v : Event) (c : Content) (x : AJob) → publish c ≡ sent x → In (v, x) (evaluation.evaluated behaviour l)
+      → (m : Message) × (c ≡ content m) × In (v, publish m) (evaluation.evaluated behaviour l)
   message_back v c (publish m) e i = let same : c ≡ content m = cc in (m, same, i)
   message_back v c (store u q) e i = absurd cc
   message_back v c (hand_in g u d) e i = absurd cc
@@ -199,16 +203,22 @@ module _ (behaviour : Behaviour) (l : Line) (plan : IsPlan l) where
   pub published : (v : Event) (c : Content) → Does v (publish c) → (m : Message) × (c ≡ content m) × In (v, publish m) (evaluation.evaluated behaviour l)
   published v c i = let r = does_back v (publish c) i in message_back v c r.0 r.1 r.2
 
-  part_back : (v : Event) (g t : ℕ) (d : PCarried) (x : AJob) → hand_in g t d ≡ sent x → In (v, x) (evaluation.evaluated behaviour l) → (c : Carried) × (d ≡ p_carried c) × In (v, hand_in g t c) (evaluation.evaluated behaviour l)
+  part_back : (v : Event) (g t : ℕ) (d : PCarried) (x : AJob) → hand_in g t d ≡ sent x → In (v, x) (evaluation.evaluated behaviour l)
+      → (c : Carried) × (d ≡ p_carried c) × In (v, hand_in g t c) (evaluation.evaluated behaviour l)
   part_back v g t d (hand_in h u c) e i =
       let groups : g ≡ h = cc in
       let tasks : t ≡ u = cc in
-      let same : d ≡ p_carried c = cc in
-      (c, same, subst (λ w. In (v, hand_in w t c) (evaluation.evaluated behaviour l)) (sym groups) (subst (λ w. In (v, hand_in h w c) (evaluation.evaluated behaviour l)) (sym tasks) i))
+      let same : d ≡ p_carried c = cc in (
+        c,
+        same,
+        subst (λ w. In (v, hand_in w t c) (evaluation.evaluated behaviour l)) (sym groups)
+            (subst (λ w. In (v, hand_in h w c) (evaluation.evaluated behaviour l)) (sym tasks) i),
+      )
   part_back v g t d (store u q) e i = absurd cc
   part_back v g t d (publish m) e i = absurd cc
 
-  pub returned : (v : Event) (g t : ℕ) (d : PCarried) → Does v (hand_in g t d) → (c : Carried) × (d ≡ p_carried c) × In (v, hand_in g t c) (evaluation.evaluated behaviour l)
+  pub returned : (v : Event) (g t : ℕ) (d : PCarried) → Does v (hand_in g t d)
+      → (c : Carried) × (d ≡ p_carried c) × In (v, hand_in g t c) (evaluation.evaluated behaviour l)
   returned v g t d i = let r = does_back v (hand_in g t d) i in part_back v g t d r.0 r.1 r.2
 
   ends_there : (v : Event) (x : AJob) → In (v, x) (evaluation.evaluated behaviour l) → EndsJob x
@@ -226,7 +236,8 @@ module _ (behaviour : Behaviour) (l : Line) (plan : IsPlan l) where
   beyond g (publish m) a = (a.0.0, (m, refl, (a.0.1, a.1)))
   beyond g (hand_in h t c) a = (a.0.0, (c, refl, (a.0.1, a.1)))
 
-  first_formed : (js : Jobs) → Each (Formed p.members p.limit) (messages_of js) → Each (SizedJob (size l) (members l)) js → Each form.Formed (map content (messages_of js))
+  first_formed : (js : Jobs) → Each (Formed p.members p.limit) (messages_of js) → Each (SizedJob (size l) (members l)) js
+      → Each form.Formed (map content (messages_of js))
   first_formed [] f s = tt
   first_formed (store t o ∷ js) f s = first_formed js f s.1
   first_formed (publish m ∷ js) f s = ((m, refl, (f.0, s.0)), first_formed js f.1 s.1)
@@ -246,21 +257,26 @@ module _ (behaviour : Behaviour) (l : Line) (plan : IsPlan l) where
       subst (λ d. Each (After X form (number_of d.own)) (X.ended d o)) (sym e)
       (subst (Each (After X form m.no)) (sym (ended_script (members l) p.limit m o f.0))
       (each_sent (After X form m.no) (after m o) (each_weaker (later m.no) (after m o)
-      (each_both (After (plan_facts.X behaviour p) (plan_facts.form behaviour p) m.no) (SizedJob (size l) (members l)) (after m o) ((plan_facts.order behaviour p).ended m o f.0) (after_sized (size l) (members l) m o f.1)))))
+      (each_both (After (plan_facts.X behaviour p) (plan_facts.form behaviour p) m.no) (SizedJob (size l) (members l)) (after m o)
+      ((plan_facts.order behaviour p).ended m o f.0) (after_sized (size l) (members l) m o f.1)))))
 
-  completed_beyond : (g t : ℕ) (d : PCarried) (fs : List (ℕ × Outcome)) → form.FormedPart g t d → firsts fs ≡ members l g → Each (Beyond X form g) (X.completed d fs)
+  completed_beyond : (g t : ℕ) (d : PCarried) (fs : List (ℕ × Outcome)) → form.FormedPart g t d → firsts fs ≡ members l g
+      → Each (Beyond X form g) (X.completed d fs)
   completed_beyond g t d fs (c, e, f) same =
       subst (λ d. Each (Beyond X form g) (X.completed d fs)) (sym e)
       (subst (Each (Beyond X form g)) (sym (completed_script (members l) p.limit g t c fs f.0))
       (each_sent (Beyond X form g) (body_after c fs) (each_weaker (beyond g) (body_after c fs)
-      (each_both (Beyond (plan_facts.X behaviour p) (plan_facts.form behaviour p) g) (SizedJob (size l) (members l)) (body_after c fs) ((plan_facts.order behaviour p).completed g t c fs f.0 same) (body_sized (size l) (members l) c fs f.1.1)))))
+      (each_both (Beyond (plan_facts.X behaviour p) (plan_facts.form behaviour p) g) (SizedJob (size l) (members l)) (body_after c fs)
+      ((plan_facts.order behaviour p).completed g t c fs f.0 same) (body_sized (size l) (members l) c fs f.1.1)))))
 
   p_carried_size : (c : Carried) → (p_carried c).size ≡ plan_facts.carried_size c
   p_carried_size (carried n body q) = refl
 
   pub order : Ordered X form
   order = record {
-    first = subst (Each form.Formed) (sym first_same) (first_formed (enter l (run no_input) nowhere 0 None) (plan_facts.order behaviour p).first (enter_sized (size l) (members l) l (run no_input) nowhere 0 None (plan_sized l plan) tt));
+    first = subst (Each form.Formed) (sym first_same)
+        (first_formed (enter l (run no_input) nowhere 0 None) (plan_facts.order behaviour p).first
+        (enter_sized (size l) (members l) l (run no_input) nowhere 0 None (plan_sized l plan) tt));
     opened = opened_back;
     ended = ended_later;
     completed = completed_beyond;
@@ -271,25 +287,30 @@ module _ (behaviour : Behaviour) (l : Line) (plan : IsPlan l) where
   -- ---- value
 
   -- each job of a message's end is done by it
-  raw_ended : (m : Message) (v : Event) → In (v, publish m) (evaluation.evaluated behaviour l) → Each (Does (end_of_line m.no)) (X.ended (content m) (outcome_of behaviour m))
+  raw_ended : (m : Message) (v : Event) → In (v, publish m) (evaluation.evaluated behaviour l)
+      → Each (Does (end_of_line m.no)) (X.ended (content m) (outcome_of behaviour m))
   raw_ended m v i =
       let o : Outcome = outcome_of behaviour m in
       let js : Jobs = called m.links m.errbacks m.no o ++ enter m.rest (after_outcome o) m.place m.no (Some m.no) in
-      let does : Each (λ x. In (end_of_line m.no, x) (evaluation.evaluated behaviour l)) (after m o) = (items_followed behaviour l (run no_input) nowhere 0 start v m i).1 in
+      let does : Each (λ x. In (end_of_line m.no, x) (evaluation.evaluated behaviour l)) (after m o) =
+      (items_followed behaviour l (run no_input) nowhere 0 start v m i).1 in
       subst (λ ks. Each (Does (end_of_line m.no)) (script (effect_of ks))) (sym (ended_sent m o (ends_there v (publish m) i)))
       (each_script (Does (end_of_line m.no)) (all_sent js) (each_sent (Does (end_of_line m.no)) js
       (each_weaker (λ x z. does_on (end_of_line m.no) x z) js (from_kind (λ x. In (end_of_line m.no, x) (evaluation.evaluated behaviour l)) js does))))
 
-  raw_completed : (g t : ℕ) (c : Carried) (fs : List (ℕ × Outcome)) (v : Event) → In (v, hand_in g t c) (evaluation.evaluated behaviour l) → firsts fs ≡ members l g
+  raw_completed : (g t : ℕ) (c : Carried) (fs : List (ℕ × Outcome)) (v : Event) → In (v, hand_in g t c) (evaluation.evaluated behaviour l)
+      → firsts fs ≡ members l g
       → Each (λ f. Has (plan_facts.X behaviour p) (plan_facts.Does behaviour p) f.0 f.1) fs → Each (Does (completion g)) (X.completed (p_carried c) fs)
   raw_completed g t (carried n body q) fs v i same has =
       let js : Jobs = enter body (header fs) q 0 None in
-      let does : Each (λ x. In (completion g, x) (evaluation.evaluated behaviour l)) (body_after (carried n body q) fs) = plan_facts.completed_does behaviour p g t (carried n body q) fs (v, i) same has in
+      let does : Each (λ x. In (completion g, x) (evaluation.evaluated behaviour l)) (body_after (carried n body q) fs) =
+      plan_facts.completed_does behaviour p g t (carried n body q) fs (v, i) same has in
       subst (λ ks. Each (Does (completion g)) (script (effect_of ks))) (sym (completed_sent n body q fs (ends_there v (hand_in g t (carried n body q)) i)))
       (each_script (Does (completion g)) (all_sent js) (each_sent (Does (completion g)) js
       (each_weaker (λ x z. does_on (completion g) x z) js (from_kind (λ x. In (completion g, x) (evaluation.evaluated behaviour l)) js does))))
 
-  first_does : (ms : List Message) → Each (λ m. In (start, publish m) (evaluation.evaluated behaviour l)) ms → Each (λ c. Does start (publish c)) (map content ms)
+  first_does : (ms : List Message) → Each (λ m. In (start, publish m) (evaluation.evaluated behaviour l)) ms
+      → Each (λ c. Does start (publish c)) (map content ms)
   first_does [] a = tt
   first_does (m ∷ ms) a = (does_on start (publish m) a.0, first_does ms a.1)
 
@@ -301,16 +322,21 @@ module _ (behaviour : Behaviour) (l : Line) (plan : IsPlan l) where
     completed = λ g t d fs f r same has. completed g t d fs r.0 (returned r.0 g t d r.1) same has;
   }
     where
-      own : (c : Content) (v : Event) → (m : Message) × (c ≡ content m) × In (v, publish m) (evaluation.evaluated behaviour l) → Does (running (number_of c.own)) (store (number_of c.own) (effects.outcome_of behaviour c))
-      own c v (m, e, i) = subst (λ d. Does (running (number_of d.own)) (store (number_of d.own) (effects.outcome_of behaviour d))) (sym e) (does_on (running m.no) (store m.no (outcome_of behaviour m)) ((plan_facts.value behaviour p).own m (v, i)))
+      own : (c : Content) (v : Event) → (m : Message) × (c ≡ content m) × In (v, publish m) (evaluation.evaluated behaviour l)
+          → Does (running (number_of c.own)) (store (number_of c.own) (effects.outcome_of behaviour c))
+      own c v (m, e, i) = subst (λ d. Does (running (number_of d.own)) (store (number_of d.own) (effects.outcome_of behaviour d))) (sym e)
+          (does_on (running m.no) (store m.no (outcome_of behaviour m)) ((plan_facts.value behaviour p).own m (v, i)))
 
-      ended : (c : Content) (v : Event) → (m : Message) × (c ≡ content m) × In (v, publish m) (evaluation.evaluated behaviour l) → Each (Does (end_of_line (number_of c.own))) (X.ended c (effects.outcome_of behaviour c))
+      ended : (c : Content) (v : Event) → (m : Message) × (c ≡ content m) × In (v, publish m) (evaluation.evaluated behaviour l)
+          → Each (Does (end_of_line (number_of c.own))) (X.ended c (effects.outcome_of behaviour c))
       ended c v (m, e, i) = subst (λ d. Each (Does (end_of_line (number_of d.own))) (X.ended d (effects.outcome_of behaviour d))) (sym e) (raw_ended m v i)
 
-      completed : (g t : ℕ) (d : PCarried) (fs : List (ℕ × Outcome)) (v : Event) → (c : Carried) × (d ≡ p_carried c) × In (v, hand_in g t c) (evaluation.evaluated behaviour l) → firsts fs ≡ members l g
+      completed : (g t : ℕ) (d : PCarried) (fs : List (ℕ × Outcome)) (v : Event)
+          → (c : Carried) × (d ≡ p_carried c) × In (v, hand_in g t c) (evaluation.evaluated behaviour l) → firsts fs ≡ members l g
           → Each (λ f. Has X Does f.0 f.1) fs → Each (Does (completion g)) (X.completed d fs)
       completed g t d fs v (c, e, i) same has =
-          subst (λ d. Each (Does (completion g)) (X.completed d fs)) (sym e) (raw_completed g t c fs v i same (each_weaker (λ f h. (h.0, stored h.0 f.0 f.1 h.1)) fs has))
+          subst (λ d. Each (Does (completion g)) (X.completed d fs)) (sym e)
+          (raw_completed g t c fs v i same (each_weaker (λ f h. (h.0, stored h.0 f.0 f.1 h.1)) fs has))
 
   -- ---- once
 
@@ -331,15 +357,19 @@ module _ (behaviour : Behaviour) (l : Line) (plan : IsPlan l) where
   names_sent k (m ∷ ms) = ap (λ n. cond (eqb m.no k) 1 0 + n) (names_sent k ms)
 
   -- a weight of the jobs of a message's end, or of a completed header
-  end_weight : (w : Job Content PCarried Outcome → ℕ) (w' : AJob → ℕ) → ((js : Jobs) → total w (all_sent js) ≡ total w' js) → (c : Content) (o : Outcome) → form.Formed c
+  end_weight : (w : Job Content PCarried Outcome → ℕ) (w' : AJob → ℕ) → ((js : Jobs) → total w (all_sent js) ≡ total w' js) → (c : Content) (o : Outcome)
+      → form.Formed c
       → ((m : Message) → c ≡ content m → Formed p.members p.limit m → total w' (after m o) ≤ 1) → total w (X.ended c o) ≤ 1
   end_weight w w' same c o (m, e, f) small =
-      subst (λ n. n ≤ 1) (sym (ap (λ d. total w (X.ended d o)) e ∙ (ap (total w) (ended_script (members l) p.limit m o f.0) ∙ same (after m o)))) (small m e f.0)
+      subst (λ n. n ≤ 1) (sym (ap (λ d. total w (X.ended d o)) e ∙ (ap (total w) (ended_script (members l) p.limit m o f.0) ∙ same (after m o))))
+      (small m e f.0)
 
-  completion_weight : (w : Job Content PCarried Outcome → ℕ) (w' : AJob → ℕ) → ((js : Jobs) → total w (all_sent js) ≡ total w' js) → (g t : ℕ) (d : PCarried) (fs : List (ℕ × Outcome)) → form.FormedPart g t d
+  completion_weight : (w : Job Content PCarried Outcome → ℕ) (w' : AJob → ℕ) → ((js : Jobs) → total w (all_sent js) ≡ total w' js)
+      → (g t : ℕ) (d : PCarried) (fs : List (ℕ × Outcome)) → form.FormedPart g t d
       → ((c : Carried) → FormedPart p.members p.limit g t c → total w' (body_after c fs) ≤ 1) → total w (X.completed d fs) ≤ 1
   completion_weight w w' same g t d fs (c, e, f) small =
-      subst (λ n. n ≤ 1) (sym (ap (λ d. total w (X.completed d fs)) e ∙ (ap (total w) (completed_script (members l) p.limit g t c fs f.0) ∙ same (body_after c fs)))) (small c f.0)
+      subst (λ n. n ≤ 1) (sym (ap (λ d. total w (X.completed d fs)) e
+      ∙ (ap (total w) (completed_script (members l) p.limit g t c fs f.0) ∙ same (body_after c fs)))) (small c f.0)
 
   outcome_same : (c : Content) (m : Message) → c ≡ content m → effects.outcome_of behaviour c ≡ outcome_of behaviour m
   outcome_same c m e = ap (effects.outcome_of behaviour) e
@@ -348,26 +378,36 @@ module _ (behaviour : Behaviour) (l : Line) (plan : IsPlan l) where
   once = record {
     event = λ e f c d i j same. event e f c d (published e c i) (published f d j) same;
     message = λ e f c d i j same. message e f c d (published e c i) (published f d j) same;
-    at_start = λ k. subst (λ n. n ≤ 1) (sym (ap (total (names X k)) first_same ∙ names_sent k (plan_facts.form behaviour p).first)) ((plan_facts.once behaviour p).at_start k);
+    at_start = λ k. subst (λ n. n ≤ 1) (sym (ap (total (names X k)) first_same ∙ names_sent k (plan_facts.form behaviour p).first))
+        ((plan_facts.once behaviour p).at_start k);
     at_end = λ k c f. end_weight (publishes X k) (publishes (plan_facts.X behaviour p) k) (publishes_sent k) c (effects.outcome_of behaviour c) f
-        (λ m e g. subst (λ o. total (publishes (plan_facts.X behaviour p) k) (after m o) ≤ 1) (sym (outcome_same c m e)) ((plan_facts.once behaviour p).at_end k m g));
-    at_completion = λ k g t d fs f same. completion_weight (publishes X k) (publishes (plan_facts.X behaviour p) k) (publishes_sent k) g t d fs f (λ c h. (plan_facts.once behaviour p).at_completion k g t c fs h same);
+        (λ m e g. subst (λ o. total (publishes (plan_facts.X behaviour p) k) (after m o) ≤ 1) (sym (outcome_same c m e))
+        ((plan_facts.once behaviour p).at_end k m g));
+    at_completion = λ k g t d fs f same. completion_weight (publishes X k) (publishes (plan_facts.X behaviour p) k) (publishes_sent k) g t d fs f
+        (λ c h. (plan_facts.once behaviour p).at_completion k g t c fs h same);
   }
     where
-      event : (e f : Event) (c d : Content) → (m : Message) × (c ≡ content m) × In (e, publish m) (evaluation.evaluated behaviour l) → (m : Message) × (d ≡ content m) × In (f, publish m) (evaluation.evaluated behaviour l)
+      event : (e f : Event) (c d : Content) → (m : Message) × (c ≡ content m) × In (e, publish m) (evaluation.evaluated behaviour l)
+          → (m : Message) × (d ≡ content m) × In (f, publish m) (evaluation.evaluated behaviour l)
           → number_of c.own ≡ number_of d.own → e ≡ f
-      event e f c d (m, a, i) (n, b, j) same = (plan_facts.once behaviour p).event e f m n i j (sym (ap (λ c. number_of c.own) a) ∙ (same ∙ ap (λ c. number_of c.own) b))
+      event e f c d (m, a, i) (n, b, j) same =
+          (plan_facts.once behaviour p).event e f m n i j (sym (ap (λ c. number_of c.own) a) ∙ (same ∙ ap (λ c. number_of c.own) b))
 
-      message : (e f : Event) (c d : Content) → (m : Message) × (c ≡ content m) × In (e, publish m) (evaluation.evaluated behaviour l) → (m : Message) × (d ≡ content m) × In (f, publish m) (evaluation.evaluated behaviour l)
+      message : (e f : Event) (c d : Content) → (m : Message) × (c ≡ content m) × In (e, publish m) (evaluation.evaluated behaviour l)
+          → (m : Message) × (d ≡ content m) × In (f, publish m) (evaluation.evaluated behaviour l)
           → number_of c.own ≡ number_of d.own → c ≡ d
-      message e f c d (m, a, i) (n, b, j) same = a ∙ (ap content ((plan_facts.once behaviour p).message e f m n i j (sym (ap (λ c. number_of c.own) a) ∙ (same ∙ ap (λ c. number_of c.own) b))) ∙ sym b)
+      message e f c d (m, a, i) (n, b, j) same =
+          a ∙ (ap content ((plan_facts.once behaviour p).message e f m n i j (sym (ap (λ c. number_of c.own) a) ∙ (same ∙ ap (λ c. number_of c.own) b)))
+          ∙ sym b)
 
   pub keeping : KeptOnce X Does form
   keeping = record {
     event = λ e f t o q i j. (plan_facts.keeping behaviour p).event e f t o q (stored e t o i) (stored f t q j);
     at_end = λ k c f. end_weight (keeps X k) (keeps (plan_facts.X behaviour p) k) (keeps_sent k) c (effects.outcome_of behaviour c) f
-        (λ m e g. subst (λ o. total (keeps (plan_facts.X behaviour p) k) (after m o) ≤ 1) (sym (outcome_same c m e)) ((plan_facts.keeping behaviour p).at_end k m g));
-    at_completion = λ k g t d fs f same. completion_weight (keeps X k) (keeps (plan_facts.X behaviour p) k) (keeps_sent k) g t d fs f (λ c h. (plan_facts.keeping behaviour p).at_completion k g t c fs h same);
+        (λ m e g. subst (λ o. total (keeps (plan_facts.X behaviour p) k) (after m o) ≤ 1) (sym (outcome_same c m e))
+        ((plan_facts.keeping behaviour p).at_end k m g));
+    at_completion = λ k g t d fs f same. completion_weight (keeps X k) (keeps (plan_facts.X behaviour p) k) (keeps_sent k) g t d fs f
+        (λ c h. (plan_facts.keeping behaviour p).at_completion k g t c fs h same);
   }
 
   pub one_outcome : (t : ℕ) (o q : Outcome) → Has X Does t o → Has X Does t q → o ≡ q
@@ -387,9 +427,11 @@ module _ (behaviour : Behaviour) (l : Line) (plan : IsPlan l) where
       ended : (c : Content) (o : Outcome) → form.Formed c → Backed X (number_of c.own ∷ []) (X.ended c o)
       ended c o (m, e, f) =
           subst (λ d. Backed X (number_of d.own ∷ []) (X.ended d o)) (sym e)
-          (subst (Backed X (m.no ∷ [])) (sym (ended_script (members l) p.limit m o f.0)) (backed_sent (m.no ∷ []) (after m o) ((backs behaviour p).ended m o f.0)))
+          (subst (Backed X (m.no ∷ [])) (sym (ended_script (members l) p.limit m o f.0))
+          (backed_sent (m.no ∷ []) (after m o) ((backs behaviour p).ended m o f.0)))
 
       completed : (g t : ℕ) (d : PCarried) (fs : List (ℕ × Outcome)) → form.FormedPart g t d → firsts fs ≡ members l g → Backed X [] (X.completed d fs)
       completed g t d fs (c, e, f) same =
           subst (λ d. Backed X [] (X.completed d fs)) (sym e)
-          (subst (Backed X []) (sym (completed_script (members l) p.limit g t c fs f.0)) (backed_sent [] (body_after c fs) ((backs behaviour p).completed g t c fs f.0 same)))
+          (subst (Backed X []) (sym (completed_script (members l) p.limit g t c fs f.0))
+          (backed_sent [] (body_after c fs) ((backs behaviour p).completed g t c fs f.0 same)))

@@ -44,12 +44,14 @@ module _ (behaviour : Behaviour) (l : Line) (plan : IsPlan l) where
   -- an outcome of the evaluation is the task's state in the tree
   pub has_state : (t : ℕ) (o : Outcome) → Has (X behaviour l plan) (Does behaviour l plan) t o → its_state behaviour l t ≡ Some o
   has_state t o (v, i) =
-      rows.look behaviour 1 (eval.eval behaviour (tree_of l) eval.nothing).rows (p behaviour l plan).limit (rows.line_up behaviour (p behaviour l plan).members l eval.nothing 1 (p behaviour l plan).limit (p behaviour l plan).numbered) t o
+      rows.look behaviour 1 (eval.eval behaviour (tree_of l) eval.nothing).rows (p behaviour l plan).limit
+      (rows.line_up behaviour (p behaviour l plan).members l eval.nothing 1 (p behaviour l plan).limit (p behaviour l plan).numbered) t o
       (subst (In (t, o)) (sym its_rows) (rows.in_stored behaviour v t o (evaluation.evaluated behaviour l) (facts.stored behaviour l plan v t o i)))
 
   pub state_has : (t : ℕ) (o : Outcome) → its_state behaviour l t ≡ Some o → Has (X behaviour l plan) (Does behaviour l plan) t o
   state_has t o e =
-      let r = rows.from_stored behaviour t o (evaluation.evaluated behaviour l) (subst (In (t, o)) its_rows (rows.looked behaviour (eval.eval behaviour (tree_of l) eval.nothing).rows t o e)) in
+      let r = rows.from_stored behaviour t o (evaluation.evaluated behaviour l)
+      (subst (In (t, o)) its_rows (rows.looked behaviour (eval.eval behaviour (tree_of l) eval.nothing).rows t o e)) in
       (r.0, facts.does_on behaviour l plan r.0 _ r.1)
 
   module _ (r : Run behaviour l) where
@@ -78,26 +80,37 @@ module _ (behaviour : Behaviour) (l : Line) (plan : IsPlan l) where
       keeps = r.keeps;
     }
 
-    call_right : (c : BackendCall Outcome) → In c (seconds (table_calls r.table)) → CallRight (X behaviour l plan) (form behaviour l plan) (Does behaviour l plan) (order behaviour l plan) (value behaviour l plan) inner_run c
-    call_right c i = in_each (CallRight (X behaviour l plan) (form behaviour l plan) (Does behaviour l plan) (order behaviour l plan) (value behaviour l plan) inner_run) (seconds (table_calls r.table)) (calls_right (X behaviour l plan) (form behaviour l plan) (Does behaviour l plan) (order behaviour l plan) (value behaviour l plan) inner_run) c i
+    call_right : (c : BackendCall Outcome) → In c (seconds (table_calls r.table))
+        → CallRight (X behaviour l plan) (form behaviour l plan) (Does behaviour l plan) (order behaviour l plan) (value behaviour l plan) inner_run c
+    call_right c i = in_each (CallRight (X behaviour l plan) (form behaviour l plan) (Does behaviour l plan) (order behaviour l plan)
+        (value behaviour l plan) inner_run) (seconds (table_calls r.table))
+        (calls_right (X behaviour l plan) (form behaviour l plan) (Does behaviour l plan) (order behaviour l plan) (value behaviour l plan) inner_run) c i
 
-    pub stored_right : (t : ℕ) (o : Outcome) (b : Bool) → In (stored t o b) (seconds (table_calls r.table)) → Has (X behaviour l plan) (Does behaviour l plan) t o
+    pub stored_right : (t : ℕ) (o : Outcome) (b : Bool) → In (stored t o b) (seconds (table_calls r.table))
+        → Has (X behaviour l plan) (Does behaviour l plan) t o
     stored_right t o b i = call_right (stored t o b) i
 
     pub returned_right : (g t n : ℕ) → In (returned g t n) (seconds (table_calls r.table)) → IsPart behaviour l g t
     returned_right g t n i = let c = call_right (returned g t n) i in (c.0, c.1.0, c.1.1)
 
-    rows_by : (t : ℕ) (s : eval.State) → (results.results (roster_of l) r.table).outcomes t ≡ s → ((results.results (roster_of l) r.table).outcomes t ≡ None) ⊎ ((results.results (roster_of l) r.table).outcomes t ≡ its_state behaviour l t)
+    rows_by : (t : ℕ) (s : eval.State) → (results.results (roster_of l) r.table).outcomes t ≡ s → ((results.results (roster_of l) r.table).outcomes t ≡ None)
+        ⊎ ((results.results (roster_of l) r.table).outcomes t ≡ its_state behaviour l t)
     rows_by t None e = inl e
     rows_by t (Some o) e =
         ⊎_elim (λ n. absurd (let bad : ◌≡◌ {A = eval.State} None (Some o) = n in cc)) (λ i. inr (e ∙ sym (has_state t o (stored_right t o true i))))
         (was_stored l (plan_apart l plan) t o [] r.table results.no_results refl r.table_legal e)
 
-    pub run_sealed : (e : Envelope) → In (published e) (seconds (queue_calls r.queue)) → (c : Content) × (e ≡ sealed c) × (opened (book_of l) e ≡ Some c) × IsRunMessage behaviour l c
+    pub run_sealed : (e : Envelope) → In (published e) (seconds (queue_calls r.queue)) → (c : Content) × (e ≡ sealed c) × (opened (book_of l) e ≡ Some c)
+        × IsRunMessage behaviour l c
     run_sealed e i =
-        let good = in_each (GoodPublish (IsRunSealed (X behaviour l plan) (form behaviour l plan) (Does behaviour l plan) (order behaviour l plan) (value behaviour l plan) inner_run)) (seconds (queue_calls r.queue))
-        (each_seconds (GoodPublish (IsRunSealed (X behaviour l plan) (form behaviour l plan) (Does behaviour l plan) (order behaviour l plan) (value behaviour l plan) inner_run)) (queue_calls r.queue)
-        (publishes_right (X behaviour l plan) (form behaviour l plan) (Does behaviour l plan) (order behaviour l plan) (value behaviour l plan) inner_run)) (published e) i in
+        let good = in_each (GoodPublish
+        (IsRunSealed (X behaviour l plan) (form behaviour l plan) (Does behaviour l plan) (order behaviour l plan) (value behaviour l plan) inner_run))
+        (seconds (queue_calls r.queue))
+        (each_seconds (GoodPublish
+        (IsRunSealed (X behaviour l plan) (form behaviour l plan) (Does behaviour l plan) (order behaviour l plan) (value behaviour l plan) inner_run))
+        (queue_calls r.queue)
+        (publishes_right (X behaviour l plan) (form behaviour l plan) (Does behaviour l plan) (order behaviour l plan) (value behaviour l plan) inner_run))
+        (published e) i in
         (good.0, good.1, ap (opened (book_of l)) good.1 ∙ (order behaviour l plan).opened good.0 good.3 good.2, good.4)
 
     opened_weight : (k : ℕ) (x : Option Content) → of_opened (X behaviour l plan) k x ≡ of_task l k x
@@ -120,25 +133,35 @@ module _ (behaviour : Behaviour) (l : Line) (plan : IsPlan l) where
     first_weight k (returned g m n) = refl
     first_weight k (has_read t o) = refl
 
-    pub repeat_weight : (k : ℕ) (c : BackendCall Outcome) → again_of (X behaviour l plan) (form behaviour l plan) (Does behaviour l plan) (order behaviour l plan) (value behaviour l plan) (once behaviour l plan) (keeping behaviour l plan) inner_run k c ≡ agains_one k c
+    pub repeat_weight : (k : ℕ) (c : BackendCall Outcome)
+        → again_of (X behaviour l plan) (form behaviour l plan) (Does behaviour l plan) (order behaviour l plan) (value behaviour l plan)
+        (once behaviour l plan) (keeping behaviour l plan) inner_run k c ≡ agains_one k c
     repeat_weight k (stored t o true) = refl
     repeat_weight k (stored t o false) = refl
     repeat_weight k (returned g m n) = refl
     repeat_weight k (has_read t o) = refl
 
-    pub run_again : (e : Envelope) → In (again e) (seconds (queue_calls r.queue)) → (c : Content) × (e ≡ sealed c) × (opened (book_of l) e ≡ Some c) × IsRunMessage behaviour l c
+    pub run_again : (e : Envelope) → In (again e) (seconds (queue_calls r.queue)) → (c : Content) × (e ≡ sealed c) × (opened (book_of l) e ≡ Some c)
+        × IsRunMessage behaviour l c
     run_again e i =
-        let good = in_each (GoodAgain (IsRunSealed (X behaviour l plan) (form behaviour l plan) (Does behaviour l plan) (order behaviour l plan) (value behaviour l plan) inner_run)) (seconds (queue_calls r.queue)) (agains_right (X behaviour l plan) (form behaviour l plan) (Does behaviour l plan) (order behaviour l plan) (value behaviour l plan) inner_run) (again e) i in
+        let good = in_each (GoodAgain
+        (IsRunSealed (X behaviour l plan) (form behaviour l plan) (Does behaviour l plan) (order behaviour l plan) (value behaviour l plan) inner_run))
+        (seconds (queue_calls r.queue))
+        (agains_right (X behaviour l plan) (form behaviour l plan) (Does behaviour l plan) (order behaviour l plan) (value behaviour l plan) inner_run)
+        (again e) i in
         (good.0, good.1, ap (opened (book_of l)) good.1 ∙ (order behaviour l plan).opened good.0 good.3 good.2, good.4)
 
     -- how often each store answers
     firsts_few : (k : ℕ) → total (firsts_one k) (seconds (table_calls r.table)) ≤ 1
-    firsts_few k = subst (λ n. n ≤ 1) (total-same (first_of k) (firsts_one k) (first_weight k) (seconds (table_calls r.table))) (one_first k [] [] (seconds (table_calls r.table)) inner_run.table)
+    firsts_few k = subst (λ n. n ≤ 1) (total-same (first_of k) (firsts_one k) (first_weight k) (seconds (table_calls r.table)))
+        (one_first k [] [] (seconds (table_calls r.table)) inner_run.table)
 
     again_few : (k : ℕ) → total (agains_one k) (seconds (table_calls r.table)) ≤ total (agains_one_of l k) (seconds (queue_calls r.queue))
     again_few k =
-        let few = agains_few (X behaviour l plan) (form behaviour l plan) (Does behaviour l plan) (order behaviour l plan) (value behaviour l plan) (once behaviour l plan) (keeping behaviour l plan) inner_run k in
-        let a = total-same (again_of (X behaviour l plan) (form behaviour l plan) (Does behaviour l plan) (order behaviour l plan) (value behaviour l plan) (once behaviour l plan) (keeping behaviour l plan) inner_run k) (agains_one k) (repeat_weight k) (seconds (table_calls r.table)) in
+        let few = agains_few (X behaviour l plan) (form behaviour l plan) (Does behaviour l plan) (order behaviour l plan) (value behaviour l plan)
+        (once behaviour l plan) (keeping behaviour l plan) inner_run k in
+        let a = total-same (again_of (X behaviour l plan) (form behaviour l plan) (Does behaviour l plan) (order behaviour l plan) (value behaviour l plan)
+        (once behaviour l plan) (keeping behaviour l plan) inner_run k) (agains_one k) (repeat_weight k) (seconds (table_calls r.table)) in
         let b = total-same (agains_task (X behaviour l plan) k) (agains_one_of l k) (again_weight k) (seconds (queue_calls r.queue)) in
         omega arith
 
@@ -150,7 +173,9 @@ module _ (behaviour : Behaviour) (l : Line) (plan : IsPlan l) where
       redelivered = λ q e a i. run_again e (redeliver_in r.queue q e a i);
       rows = λ t. rows_by t ((results.results (roster_of l) r.table).outcomes t) refl;
       published = λ q e a i. run_sealed e (publish_in r.queue q e a i);
-      published_once = λ k. subst (λ n. n ≤ 1) (total-same (publishes_task (X behaviour l plan) k) (publishes_one l k) (publish_weight k) (seconds (queue_calls r.queue)))
-          (published_once (X behaviour l plan) (form behaviour l plan) (Does behaviour l plan) (order behaviour l plan) (value behaviour l plan) (once behaviour l plan) inner_run k);
+      published_once = λ k. subst (λ n. n ≤ 1)
+          (total-same (publishes_task (X behaviour l plan) k) (publishes_one l k) (publish_weight k) (seconds (queue_calls r.queue)))
+          (published_once (X behaviour l plan) (form behaviour l plan) (Does behaviour l plan) (order behaviour l plan) (value behaviour l plan)
+          (once behaviour l plan) inner_run k);
       returned = λ q g t n i. returned_right g t n (part_in r.table q g t n i);
     }

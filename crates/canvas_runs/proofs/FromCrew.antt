@@ -36,7 +36,8 @@ no_takes : (es : List Envelope) → total takes_one (published_all es) ≡ 0
 no_takes [] = refl
 no_takes (e ∷ es) = let k = no_takes es in omega (arith, k)
 
-follows_front : (es : List Envelope) (cs : List (CoreCall Envelope)) (ls : List (BrokerCall Envelope)) → FollowsScripts None [] cs ls → FollowsScripts None [] (map makes (published_all es) ++ cs) (published_all es ++ ls)
+follows_front : (es : List Envelope) (cs : List (CoreCall Envelope)) (ls : List (BrokerCall Envelope)) → FollowsScripts None [] cs ls
+    → FollowsScripts None [] (map makes (published_all es) ++ cs) (published_all es ++ ls)
 follows_front [] cs ls f = f
 follows_front (e ∷ es) cs ls f = scripts_publish (follows_front es cs ls f)
 
@@ -63,10 +64,12 @@ module _ (behaviour : Behaviour) (l : Line) where
     calls : made_by p queue ≡ broker_entries p mate.followed.made
     replies : made_by p table ≡ backend_entries p (backend_calls mate.followed.run)
 
-  more_found : (p : ℕ) (m : Mate behaviour P) (ms : List (Mate behaviour P)) (core : Course) (queue : List (broker.QueueEntry Envelope)) (table : Log) → Found p ms core queue table → Found p (m ∷ ms) core queue table
+  more_found : (p : ℕ) (m : Mate behaviour P) (ms : List (Mate behaviour P)) (core : Course) (queue : List (broker.QueueEntry Envelope)) (table : Log)
+      → Found p ms core queue table → Found p (m ∷ ms) core queue table
   more_found p m ms core queue table f = record { mate = f.mate; there = inr f.there; is = f.is; calls = f.calls; replies = f.replies }
 
-  which : (k : ℕ) (ms : List (Mate behaviour P)) (queue : List (broker.QueueEntry Envelope)) (table : Log) → HasQueueCalls behaviour P k ms queue → HasTableCalls behaviour P k ms table → (p : ℕ)
+  which : (k : ℕ) (ms : List (Mate behaviour P)) (queue : List (broker.QueueEntry Envelope)) (table : Log) → HasQueueCalls behaviour P k ms queue
+      → HasTableCalls behaviour P k ms table → (p : ℕ)
       → Found p ms (core_at k ms p) queue table ⊎ ((core_at k ms p ≡ []) × (among p (numbers k ms) ≡ false))
   which k [] queue table h r p = inr (refl, refl)
   which k (m ∷ ms) queue table h r p =
@@ -119,7 +122,8 @@ module _ (behaviour : Behaviour) (l : Line) where
         ⊎_elim (λ f. inl f) (λ (f : (core_at 1 r.mates p ≡ []) × (among p (numbers 1 r.mates) ≡ false)). inr (record {
           is = f.0;
           calls = fresh_from [] broker.answer broker.next broker.May p [] the_queue passes.1.legal z (ap (λ ns. among p ns) passes.1.names ∙ f.1);
-          replies = fresh_from no_results (reply_of (roster_of l)) next_of (May (roster_of l)) p [] seat.seen seats.legal z (ap (λ ns. among p ns) seats.names ∙ f.1);
+          replies = fresh_from no_results (reply_of (roster_of l)) next_of (May (roster_of l)) p [] seat.seen seats.legal z
+              (ap (λ ns. among p ns) seats.names ∙ f.1);
         })) (which 1 r.mates the_queue seat.seen passes.1.each seats.each p)
 
     pub queue_zero : by 0 (queue_calls the_queue) ≡ sent ++ r.works.made
@@ -127,16 +131,22 @@ module _ (behaviour : Behaviour) (l : Line) where
         let qs : List ℕ = numbers 1 r.mates in
         let a : List (broker.QueueEntry Envelope) = splits_of qs ++ broker_entries 0 sent in
         let b : List (broker.QueueEntry Envelope) = joins_of qs ++ broker_entries 0 r.works.made in
-        let left : seconds (queue_calls a) ≡ sent = queue_append (splits_of qs) (broker_entries 0 sent) ∙ (ap (λ x. x ++ seconds (queue_calls (broker_entries 0 sent))) (queue_splits qs) ∙ queue_entries 0 sent) in
-        let right : seconds (queue_calls b) ≡ r.works.made = queue_append (joins_of qs) (broker_entries 0 r.works.made) ∙ (ap (λ x. x ++ seconds (queue_calls (broker_entries 0 r.works.made))) (queue_joins qs) ∙ queue_entries 0 r.works.made) in
-        queue_by 0 the_queue ∙ (ap (λ x. seconds (queue_calls x)) passes.1.own ∙ (queue_append a b ∙ (ap (λ x. x ++ seconds (queue_calls b)) left ∙ ap (λ x. sent ++ x) right)))
+        let left : seconds (queue_calls a) ≡ sent = queue_append (splits_of qs) (broker_entries 0 sent)
+        ∙ (ap (λ x. x ++ seconds (queue_calls (broker_entries 0 sent))) (queue_splits qs) ∙ queue_entries 0 sent) in
+        let right : seconds (queue_calls b) ≡ r.works.made = queue_append (joins_of qs) (broker_entries 0 r.works.made)
+        ∙ (ap (λ x. x ++ seconds (queue_calls (broker_entries 0 r.works.made))) (queue_joins qs) ∙ queue_entries 0 r.works.made) in
+        queue_by 0 the_queue ∙ (ap (λ x. seconds (queue_calls x)) passes.1.own
+        ∙ (queue_append a b ∙ (ap (λ x. x ++ seconds (queue_calls b)) left ∙ ap (λ x. sent ++ x) right)))
 
     pub table_zero : by 0 (table_calls seat.seen) ≡ zero_calls
     table_zero =
         let qs : List ℕ = numbers 1 r.mates in
         let a : Log = splits_of qs ++ joins_of qs in
-        let left : seconds (table_calls a) ≡ [] = table_append (splits_of qs) (joins_of qs) ∙ (ap (λ x. x ++ seconds (table_calls (joins_of qs))) (table_splits qs) ∙ table_joins qs) in
-        table_by 0 seat.seen ∙ (ap (λ x. seconds (table_calls x)) seats.own ∙ (table_append a (backend_entries 0 zero_calls) ∙ (ap (λ x. x ++ seconds (table_calls (backend_entries 0 zero_calls))) left ∙ table_rows 0 zero_calls)))
+        let left : seconds (table_calls a) ≡ [] = table_append (splits_of qs) (joins_of qs)
+        ∙ (ap (λ x. x ++ seconds (table_calls (joins_of qs))) (table_splits qs) ∙ table_joins qs) in
+        table_by 0 seat.seen ∙ (ap (λ x. seconds (table_calls x)) seats.own
+        ∙ (table_append a (backend_entries 0 zero_calls)
+        ∙ (ap (λ x. x ++ seconds (table_calls (backend_entries 0 zero_calls))) left ∙ table_rows 0 zero_calls)))
 
     queue_mate : (p : ℕ) (f : Found p r.mates (core_at 1 r.mates p) the_queue seat.seen) → by p (queue_calls the_queue) ≡ f.mate.followed.made
     queue_mate p f = queue_by p the_queue ∙ (ap (λ x. seconds (queue_calls x)) f.calls ∙ queue_entries p f.mate.followed.made)
@@ -164,17 +174,20 @@ module _ (behaviour : Behaviour) (l : Line) where
 
     pub the_follows : (p : ℕ) → FollowsCourse p (core p)
     the_follows = for_all FollowsCourse
-        (subst (λ x. FollowsScripts None [] (map makes sent ++ core_calls r.works.run) x) (sym queue_zero) (follows_front (map sealed r.opening) (core_calls r.works.run) r.works.made r.works.follows))
+        (subst (λ x. FollowsScripts None [] (map makes sent ++ core_calls r.works.run) x) (sym queue_zero)
+        (follows_front (map sealed r.opening) (core_calls r.works.run) r.works.made r.works.follows))
         (λ p e f. subst (λ b. FollowsScripts None [] (map makes (cond b sent []) ++ core_calls f.mate.followed.run) (by p (queue_calls the_queue))) (sym e)
         (subst (λ x. FollowsScripts None [] (core_calls f.mate.followed.run) x) (sym (queue_mate p f)) f.mate.followed.follows))
-        (λ p e n. subst (λ b. FollowsScripts None [] (map makes (cond b sent []) ++ []) (by p (queue_calls the_queue))) (sym e) (subst (λ x. FollowsScripts None [] [] x) (sym (queue_nobody p n)) scripts_all))
+        (λ p e n. subst (λ b. FollowsScripts None [] (map makes (cond b sent []) ++ []) (by p (queue_calls the_queue))) (sym e)
+        (subst (λ x. FollowsScripts None [] [] x) (sym (queue_nobody p n)) scripts_all))
 
     abbrev pub KeepsCore : ℕ → Course → Type 0
     KeepsCore p x = by p (table_calls seat.seen) ≡ backend_calls x ++ cond (eqb p 0) r.closing []
 
     pub the_keeps : (p : ℕ) → KeepsCore p (core p)
     the_keeps = for_all KeepsCore table_zero
-        (λ p e f. table_mate p f ∙ (sym (append-nil (backend_calls f.mate.followed.run)) ∙ ap (λ b. backend_calls f.mate.followed.run ++ cond b r.closing []) (sym e)))
+        (λ p e f. table_mate p f ∙ (sym (append-nil (backend_calls f.mate.followed.run))
+        ∙ ap (λ b. backend_calls f.mate.followed.run ++ cond b r.closing []) (sym e)))
         (λ p e n. table_nobody p n ∙ ap (λ b. cond b r.closing []) (sym e))
 
     abbrev pub the_run : Run behaviour l
@@ -213,7 +226,8 @@ module _ (behaviour : Behaviour) (l : Line) where
           let used = all_used (total takes_one r.works.made) (total takes_one (broker_calls r.works.run)) r.own.held w.own.1 r.works.used in
           omega (arith, none, used))))
           (λ p e f. ap (λ x. total takes_one x) (queue_mate p f)
-          ∙ all_used (total takes_one f.mate.followed.made) (total takes_one (broker_calls f.mate.followed.run)) f.mate.ended.held (mate_done f.mate f.there).1 f.mate.followed.used)
+          ∙ all_used (total takes_one f.mate.followed.made) (total takes_one (broker_calls f.mate.followed.run)) f.mate.ended.held
+          (mate_done f.mate f.there).1 f.mate.followed.used)
           (λ p e n. ap (λ x. total takes_one x) (queue_nobody p n))
 
       pub the_closed : Closed behaviour l the_run

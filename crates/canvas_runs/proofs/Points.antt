@@ -27,7 +27,8 @@ module _ (behaviour : Behaviour) (l : Line) where
   owns_other (owning m) h e = absurd (cc)
   owns_other s h e = tt
 
-  owns_step : (s : Doing (worker behaviour l)) (h : Option Envelope) (r : Reply Envelope Outcome) → Suits (ask (worker behaviour l) s) r → Owns (answered (worker behaviour l) s r) (held_by h (ask (worker behaviour l) s) r)
+  owns_step : (s : Doing (worker behaviour l)) (h : Option Envelope) (r : Reply Envelope Outcome) → Suits (ask (worker behaviour l) s) r
+      → Owns (answered (worker behaviour l) s r) (held_by h (ask (worker behaviour l) s) r)
   owns_step taking h (taken None) u = tt
   owns_step taking h (taken (Some e)) u = go (opened (book_of l) e) refl
     where
@@ -37,27 +38,34 @@ module _ (behaviour : Behaviour) (l : Line) where
   owns_step resting h (rested true) u = tt
   owns_step resting h (rested false) u = tt
   owns_step (owning m) h (kept b) u = owns_other (owned (worker behaviour l) m b) h (past_owned behaviour l 0 m b).0
-  owns_step (doing (store t o ∷ js) b) h (kept a) u = owns_other (settled (worker behaviour l) js (cond (is_due t js) a b)) h (past_settled behaviour l 0 js (cond (is_due t js) a b)).0
+  owns_step (doing (store t o ∷ js) b) h (kept a) u =
+      owns_other (settled (worker behaviour l) js (cond (is_due t js) a b)) h (past_settled behaviour l 0 js (cond (is_due t js) a b)).0
   owns_step (doing (publish m ∷ js) b) h sent u = owns_other (settled (worker behaviour l) js b) h (past_settled behaviour l 0 js b).0
   owns_step (doing (publish m ∷ js) b) h refused u = tt
   owns_step (doing (hand_in g t c ∷ js) b) h (counted i) u = owns_other (handed_in (worker behaviour l) g c i) h (past_handed behaviour l 0 g c i).0
-  owns_step (reading g c fs) h (found t (Some o)) u = owns_other (all_read (worker behaviour l) g c (fs ++ (t, o) ∷ [])) h (past_read behaviour l 0 g c (fs ++ (t, o) ∷ [])).0
+  owns_step (reading g c fs) h (found t (Some o)) u =
+      owns_other (all_read (worker behaviour l) g c (fs ++ (t, o) ∷ [])) h (past_read behaviour l 0 g c (fs ++ (t, o) ∷ [])).0
   owns_step (reading g c fs) h (found t None) u = tt
   owns_step acking h acked u = tt
   owns_step s h r u = elim u [ ]
 
-  owns_run : (s : Doing (worker behaviour l)) (h : Option Envelope) (ys : List (AskedAndAnswered Envelope Outcome)) → Owns s h → IsCoreRun (worker behaviour l) s (scripts_of ys) → Owns (left_after (worker behaviour l) s (scripts_of ys)) (held_after h ys)
+  owns_run : (s : Doing (worker behaviour l)) (h : Option Envelope) (ys : List (AskedAndAnswered Envelope Outcome)) → Owns s h
+      → IsCoreRun (worker behaviour l) s (scripts_of ys) → Owns (left_after (worker behaviour l) s (scripts_of ys)) (held_after h ys)
   owns_run s h [] o c = o
   owns_run s h ((a, r) ∷ ys) o c = go a r (λ z k p q. owns_run z k ys p q) c
     where
       go : (a : Ask Envelope Outcome) (r : Reply Envelope Outcome)
-          → ((z : Doing (worker behaviour l)) (k : Option Envelope) → Owns z k → IsCoreRun (worker behaviour l) z (scripts_of ys) → Owns (left_after (worker behaviour l) z (scripts_of ys)) (held_after k ys))
-          → IsCoreRun (worker behaviour l) s (scripts_of ((a, r) ∷ ys)) → Owns (left_after (worker behaviour l) s (scripts_of ((a, r) ∷ ys))) (held_after (held_by h a r) ys)
+          → ((z : Doing (worker behaviour l)) (k : Option Envelope) → Owns z k → IsCoreRun (worker behaviour l) z (scripts_of ys)
+          → Owns (left_after (worker behaviour l) z (scripts_of ys)) (held_after k ys))
+          → IsCoreRun (worker behaviour l) s (scripts_of ((a, r) ∷ ys))
+          → Owns (left_after (worker behaviour l) s (scripts_of ((a, r) ∷ ys))) (held_after (held_by h a r) ys)
       go (deliver e) r f c = f s h o c
-      go a r f c = f (answered (worker behaviour l) s r) (held_by h a r) (subst (λ b. Owns (answered (worker behaviour l) s r) (held_by h b r)) (sym c.0) (owns_step s h r (subst (λ b. Suits b r) c.0 c.1.0))) c.2
+      go a r f c = f (answered (worker behaviour l) s r) (held_by h a r)
+          (subst (λ b. Owns (answered (worker behaviour l) s r) (held_by h b r)) (sym c.0) (owns_step s h r (subst (λ b. Suits b r) c.0 c.1.0))) c.2
 
   -- so before a message's own store a worker has come to the early point of its task
-  pub comes_early : (n : ℕ) (us : List ℕ) (xs : List Step) → ByTurns behaviour l n us xs → (p : ℕ) (m : Content) → left behaviour l xs p ≡ owning m → comes_to behaviour l xs p ≡ Some (number_of m.own, Early)
+  pub comes_early : (n : ℕ) (us : List ℕ) (xs : List Step) → ByTurns behaviour l n us xs → (p : ℕ) (m : Content) → left behaviour l xs p ≡ owning m
+      → comes_to behaviour l xs p ≡ Some (number_of m.own, Early)
   comes_early n us xs t p m e =
       let own : Owns (left behaviour l xs p) (holds xs p) = owns_run taking None (by p xs) tt ((sound behaviour l n us xs t).lawful.core p) in
       let here : message_in l (holds xs p) ≡ Some m = subst (λ s. Owns s (holds xs p)) e own in

@@ -64,7 +64,8 @@ module _ (behaviour : Behaviour) (l : Line) (plan : IsPlan l) (r : Run behaviour
   drained = drained_is [] r.queue [] refl r.queue_legal c.drained
 
   abbrev Finished : Job Content PCarried Outcome → Type 0
-  Finished j = IsDone (X behaviour l plan) (form behaviour l plan) (Does behaviour l plan) (order behaviour l plan) (value behaviour l plan) (once behaviour l plan) (keeping behaviour l plan) (its_backs behaviour l plan) (inner_run behaviour l plan r) c.all_sent drained c.all_used c.all_ended j
+  Finished j = IsDone (X behaviour l plan) (form behaviour l plan) (Does behaviour l plan) (order behaviour l plan) (value behaviour l plan)
+      (once behaviour l plan) (keeping behaviour l plan) (its_backs behaviour l plan) (inner_run behaviour l plan r) c.all_sent drained c.all_used c.all_ended j
 
   -- ---- as the proof has the jobs, with their form
 
@@ -76,12 +77,14 @@ module _ (behaviour : Behaviour) (l : Line) (plan : IsPlan l) (r : Run behaviour
   abbrev Made : AJob → Type 0
   Made x = Finished (sent x) × FormedJob x
 
-  later_formed : (j : ℕ) (x : AJob) → After (plan_facts.X behaviour (p behaviour l plan)) (plan_facts.form behaviour (p behaviour l plan)) j x × SizedJob (size l) (members l) x → FormedJob x
+  later_formed : (j : ℕ) (x : AJob) → After (plan_facts.X behaviour (p behaviour l plan)) (plan_facts.form behaviour (p behaviour l plan)) j x
+      × SizedJob (size l) (members l) x → FormedJob x
   later_formed j (store t o) a = tt
   later_formed j (publish m) a = (a.0.1, a.1)
   later_formed j (hand_in g t d) a = (a.0.1, a.1)
 
-  beyond_formed : (g : ℕ) (x : AJob) → Beyond (plan_facts.X behaviour (p behaviour l plan)) (plan_facts.form behaviour (p behaviour l plan)) g x × SizedJob (size l) (members l) x → FormedJob x
+  beyond_formed : (g : ℕ) (x : AJob) → Beyond (plan_facts.X behaviour (p behaviour l plan)) (plan_facts.form behaviour (p behaviour l plan)) g x
+      × SizedJob (size l) (members l) x → FormedJob x
   beyond_formed g (store t o) a = tt
   beyond_formed g (publish m) a = (a.0.1, a.1)
   beyond_formed g (hand_in h t d) a = (a.0.1, a.1)
@@ -89,34 +92,48 @@ module _ (behaviour : Behaviour) (l : Line) (plan : IsPlan l) (r : Run behaviour
   after_formed : (m : Message) (o : Outcome) → Formed' behaviour l plan m → Each FormedJob (after m o)
   after_formed m o f =
       each_weaker (later_formed m.no) (after m o)
-      (each_both (After (plan_facts.X behaviour (p behaviour l plan)) (plan_facts.form behaviour (p behaviour l plan)) m.no) (SizedJob (size l) (members l)) (after m o) ((plan_facts.order behaviour (p behaviour l plan)).ended m o f.0) (after_sized (size l) (members l) m o f.1))
+      (each_both (After (plan_facts.X behaviour (p behaviour l plan)) (plan_facts.form behaviour (p behaviour l plan)) m.no) (SizedJob (size l) (members l))
+      (after m o) ((plan_facts.order behaviour (p behaviour l plan)).ended m o f.0) (after_sized (size l) (members l) m o f.1))
 
-  body_formed : (g t : ℕ) (d : Carried) (fs : List (ℕ × Outcome)) → FormedPart' behaviour l plan g t d → firsts fs ≡ members l g → Each FormedJob (body_after d fs)
+  body_formed : (g t : ℕ) (d : Carried) (fs : List (ℕ × Outcome)) → FormedPart' behaviour l plan g t d → firsts fs ≡ members l g
+      → Each FormedJob (body_after d fs)
   body_formed g t d fs f same =
       each_weaker (beyond_formed g) (body_after d fs)
-      (each_both (Beyond (plan_facts.X behaviour (p behaviour l plan)) (plan_facts.form behaviour (p behaviour l plan)) g) (SizedJob (size l) (members l)) (body_after d fs) ((plan_facts.order behaviour (p behaviour l plan)).completed g t d fs f.0 same) (body_sized (size l) (members l) d fs f.1.1))
+      (each_both (Beyond (plan_facts.X behaviour (p behaviour l plan)) (plan_facts.form behaviour (p behaviour l plan)) g) (SizedJob (size l) (members l))
+      (body_after d fs) ((plan_facts.order behaviour (p behaviour l plan)).completed g t d fs f.0 same) (body_sized (size l) (members l) d fs f.1.1))
 
   script : (m : Message) → Made (publish m) → Made (store m.no (outcome_of behaviour m)) × Each Made (after m (outcome_of behaviour m))
   script m d =
-      let done = published_done (X behaviour l plan) (form behaviour l plan) (Does behaviour l plan) (order behaviour l plan) (value behaviour l plan) (once behaviour l plan) (keeping behaviour l plan) (its_backs behaviour l plan) (inner_run behaviour l plan r) c.all_sent drained c.all_used c.all_ended (content m) d.0 in
-      let jobs : Each Finished (all_sent (after m (outcome_of behaviour m))) = subst (Each Finished) (ended_script (members l) (p behaviour l plan).limit m (outcome_of behaviour m) d.1.0) done.1 in
-      ((done.0, tt), each_both (λ x. Finished (sent x)) FormedJob (after m (outcome_of behaviour m)) (each_unsent Finished (after m (outcome_of behaviour m)) jobs) (after_formed m (outcome_of behaviour m) d.1))
+      let done = published_done (X behaviour l plan) (form behaviour l plan) (Does behaviour l plan) (order behaviour l plan) (value behaviour l plan)
+      (once behaviour l plan) (keeping behaviour l plan) (its_backs behaviour l plan)
+      (inner_run behaviour l plan r) c.all_sent drained c.all_used c.all_ended (content m) d.0 in
+      let jobs : Each Finished (all_sent (after m (outcome_of behaviour m))) =
+      subst (Each Finished) (ended_script (members l) (p behaviour l plan).limit m (outcome_of behaviour m) d.1.0) done.1 in (
+        (done.0, tt),
+        each_both (λ x. Finished (sent x)) FormedJob (after m (outcome_of behaviour m))
+            (each_unsent Finished (after m (outcome_of behaviour m)) jobs) (after_formed m (outcome_of behaviour m) d.1),
+      )
 
   some_member : (g k : ℕ) (d : Carried) (ns : List ℕ) → length ns ≡ suc k → Each (λ t. Made (hand_in g t d)) ns → (t : ℕ) × FormedPart' behaviour l plan g t d
   some_member g k d [] e a = absurd (omega (arith, e))
   some_member g k d (n ∷ ns) e a = (n, a.0.1)
 
   completes : (g k : ℕ) (d : Carried) → Distinct (members l g) → length (members l g) ≡ suc k → Each (λ t. Made (hand_in g t d)) (members l g)
-      → (fs : List (ℕ × Outcome)) × (firsts fs ≡ members l g) × Each (λ f. Kept behaviour (members l) (evaluation.evaluated behaviour l) f.0 f.1) fs × Each Made (body_after d fs)
+      → (fs : List (ℕ × Outcome)) × (firsts fs ≡ members l g) × Each (λ f. Kept behaviour (members l) (evaluation.evaluated behaviour l) f.0 f.1) fs
+      × Each Made (body_after d fs)
   completes g k d distinct many all =
-      let done = header_done (X behaviour l plan) (form behaviour l plan) (Does behaviour l plan) (order behaviour l plan) (value behaviour l plan) (once behaviour l plan) (keeping behaviour l plan) (its_backs behaviour l plan) (inner_run behaviour l plan r) c.all_sent drained c.all_used c.all_ended g k (p_carried d) distinct many
+      let done = header_done (X behaviour l plan) (form behaviour l plan) (Does behaviour l plan) (order behaviour l plan) (value behaviour l plan)
+      (once behaviour l plan) (keeping behaviour l plan) (its_backs behaviour l plan)
+      (inner_run behaviour l plan r) c.all_sent drained c.all_used c.all_ended g k (p_carried d) distinct many
       (each_weaker (λ t h. h.0) (members l g) all) in
       let one = some_member g k d (members l g) many all in
-      let jobs : Each Finished (all_sent (body_after d done.0)) = subst (Each Finished) (completed_script (members l) (p behaviour l plan).limit g one.0 d done.0 one.1.0) done.3 in (
+      let jobs : Each Finished (all_sent (body_after d done.0)) =
+      subst (Each Finished) (completed_script (members l) (p behaviour l plan).limit g one.0 d done.0 one.1.0) done.3 in (
         done.0,
         done.1,
         each_weaker (λ f h. (h.0, facts.stored behaviour l plan h.0 f.0 f.1 h.1)) done.0 done.2,
-        each_both (λ x. Finished (sent x)) FormedJob (body_after d done.0) (each_unsent Finished (body_after d done.0) jobs) (body_formed g one.0 d done.0 one.1 done.1),
+        each_both (λ x. Finished (sent x)) FormedJob (body_after d done.0) (each_unsent Finished (body_after d done.0) jobs)
+            (body_formed g one.0 d done.0 one.1 done.1),
       )
 
   -- ---- the first messages
@@ -138,8 +155,10 @@ module _ (behaviour : Behaviour) (l : Line) (plan : IsPlan l) (r : Run behaviour
 
   first_made : (m : Message) → In m (messages_of first_jobs) → Made (publish m)
   first_made m i = (
-    first_done (X behaviour l plan) (form behaviour l plan) (Does behaviour l plan) (order behaviour l plan) (value behaviour l plan) (once behaviour l plan) (keeping behaviour l plan) (its_backs behaviour l plan) (inner_run behaviour l plan r) c.all_sent drained c.all_used c.all_ended (content m)
-        (subst (In (content m)) (sym (first_sent (members l) (p behaviour l plan).limit l (p behaviour l plan).numbered)) (map_in (messages_of first_jobs) m i)),
+    first_done (X behaviour l plan) (form behaviour l plan) (Does behaviour l plan) (order behaviour l plan) (value behaviour l plan) (once behaviour l plan)
+        (keeping behaviour l plan) (its_backs behaviour l plan) (inner_run behaviour l plan r) c.all_sent drained c.all_used c.all_ended (content m)
+        (subst (In (content m)) (sym (first_sent (members l) (p behaviour l plan).limit l (p behaviour l plan).numbered))
+        (map_in (messages_of first_jobs) m i)),
     (
       in_each (plan_facts.form behaviour (p behaviour l plan)).Formed (messages_of first_jobs) (plan_facts.order behaviour (p behaviour l plan)).first m i,
       messages_sized first_jobs (enter_sized (size l) (members l) l (run no_input) nowhere 0 None (plan_sized l plan) tt) m i,
@@ -154,7 +173,8 @@ module _ (behaviour : Behaviour) (l : Line) (plan : IsPlan l) (r : Run behaviour
   -- ---- all that the evaluation does is done
 
   all_made : Each (λ i. Made i.1) (evaluation.evaluated behaviour l)
-  all_made = items_done behaviour (members l) Made (evaluation.evaluated behaviour l) script completes (plan_facts.one_outcome behaviour (p behaviour l plan)) l (run no_input) nowhere 0 start 1 (p behaviour l plan).limit (p behaviour l plan).numbered (λ i z. z) started
+  all_made = items_done behaviour (members l) Made (evaluation.evaluated behaviour l) script completes (plan_facts.one_outcome behaviour (p behaviour l plan)) l
+      (run no_input) nowhere 0 start 1 (p behaviour l plan).limit (p behaviour l plan).numbered (λ i z. z) started
 
   finished : (v : Event) (j : Job Content PCarried Outcome) → Does behaviour l plan v j → Finished j
   finished v j i =
@@ -169,12 +189,14 @@ module _ (behaviour : Behaviour) (l : Line) (plan : IsPlan l) (r : Run behaviour
       let few = (first_part behaviour l plan r).published_once (number_of d.own) in
       let here = in_total (publishes_one l (number_of d.own)) (seconds (queue_calls r.queue)) (published (sealed d)) done.2 in
       let mine : publishes_one l (number_of d.own) (published (sealed d)) ≡ 1 =
-      ap (of_task l (number_of d.own)) ((order behaviour l plan).opened d done.0 done.1) ∙ ap (λ b. cond b 1 0) (eq-eqb (number_of d.own) (number_of d.own) refl) in
+      ap (of_task l (number_of d.own)) ((order behaviour l plan).opened d done.0 done.1)
+      ∙ ap (λ b. cond b 1 0) (eq-eqb (number_of d.own) (number_of d.own) refl) in
       omega arith
 
   drained_total : (k : ℕ) (q : List Envelope) (cs : List (BrokerCall Envelope)) → IsDrained q cs →
       total (takes_one_of l k) cs ≡ total (λ e. of_task l k (opened (book_of l) e)) q + (total (publishes_one l k) cs + total (agains_one_of l k) cs)
-  drained_total k q [] same = let s : total (λ e. of_task l k (opened (book_of l) e)) q ≡ 0 = ap (total (λ e. of_task l k (opened (book_of l) e))) same in omega arith
+  drained_total k q [] same = let s : total (λ e. of_task l k (opened (book_of l) e)) q ≡ 0 = ap (total (λ e. of_task l k (opened (book_of l) e))) same in
+      omega arith
   drained_total k q (published e ∷ cs) d =
       let t = drained_total k (q ++ e ∷ []) cs d in
       omega (arith, total-append (λ e. of_task l k (opened (book_of l) e)) q (e ∷ []))
@@ -183,7 +205,8 @@ module _ (behaviour : Behaviour) (l : Line) (plan : IsPlan l) (r : Run behaviour
       omega (arith, total-append (λ e. of_task l k (opened (book_of l) e)) q (e ∷ []))
   drained_total k q (took e ∷ cs) (rest, same, d) =
       let t = drained_total k rest cs d in
-      let s : total (λ e. of_task l k (opened (book_of l) e)) q ≡ of_task l k (opened (book_of l) e) + total (λ e. of_task l k (opened (book_of l) e)) rest = ap (total (λ e. of_task l k (opened (book_of l) e))) same in
+      let s : total (λ e. of_task l k (opened (book_of l) e)) q ≡ of_task l k (opened (book_of l) e) + total (λ e. of_task l k (opened (book_of l) e)) rest =
+      ap (total (λ e. of_task l k (opened (book_of l) e))) same in
       omega arith
 
   taken_once : (k : ℕ) → takes_of_task l k r.queue ≡ publishes l k r.queue + redeliveries l k r.queue
@@ -204,15 +227,19 @@ module _ (behaviour : Behaviour) (l : Line) (plan : IsPlan l) (r : Run behaviour
 
   pending_none : (t : ℕ) → its_state behaviour l t ≡ None → first_stores t r.table + again_stores t r.table ≡ 0
   pending_none t none =
-      let a : first_stores t r.table ≡ 0 = ⊎_elim (λ z. z) (λ h. absurd (first_heavy h.0 h.1 h.2)) (find_heavy (firsts_one t) (seconds (table_calls r.table))) in
-      let b : again_stores t r.table ≡ 0 = ⊎_elim (λ z. z) (λ h. absurd (again_heavy h.0 h.1 h.2)) (find_heavy (agains_one t) (seconds (table_calls r.table))) in
+      let a : first_stores t r.table ≡ 0 =
+      ⊎_elim (λ z. z) (λ h. absurd (first_heavy h.0 h.1 h.2)) (find_heavy (firsts_one t) (seconds (table_calls r.table))) in
+      let b : again_stores t r.table ≡ 0 =
+      ⊎_elim (λ z. z) (λ h. absurd (again_heavy h.0 h.1 h.2)) (find_heavy (agains_one t) (seconds (table_calls r.table))) in
       omega arith
     where
       no_state : (o : Outcome) → its_state behaviour l t ≡ Some o → ⊥
       no_state o e = let bad : ◌≡◌ {A = eval.State} None (Some o) = sym none ∙ e in cc
 
       no_store : (u : ℕ) (o : Outcome) (b : Bool) → In (stored u o b) (seconds (table_calls r.table)) → (◌≡◌ {A = ℕ} (cond (eqb u t) 1 0) 0 → ⊥) → ⊥
-      no_store u o b i d = no_state o (subst (λ k. its_state behaviour l k ≡ Some o) (named t u (eqb u t) refl d) (has_state behaviour l plan u o (stored_right behaviour l plan r u o b i)))
+      no_store u o b i d = no_state o
+          (subst (λ k. its_state behaviour l k ≡ Some o) (named t u (eqb u t) refl d)
+          (has_state behaviour l plan u o (stored_right behaviour l plan r u o b i)))
 
       first_heavy : (x : BackendCall Outcome) → In x (seconds (table_calls r.table)) → (firsts_one t x ≡ 0 → ⊥) → ⊥
       first_heavy (stored u o true) i d = no_store u o true i d
@@ -230,7 +257,8 @@ module _ (behaviour : Behaviour) (l : Line) (plan : IsPlan l) (r : Run behaviour
   again_published : (k : ℕ) → (redeliveries l k r.queue ≡ 0) ⊎ (publishes l k r.queue ≡ 1)
   again_published k = ⊎_elim (λ z. inl z) (λ h. heavy h.0 h.1 h.2) (find_heavy (agains_one_of l k) (seconds (queue_calls r.queue)))
     where
-      heavy : (x : BrokerCall Envelope) → In x (seconds (queue_calls r.queue)) → (agains_one_of l k x ≡ 0 → ⊥) → (redeliveries l k r.queue ≡ 0) ⊎ (publishes l k r.queue ≡ 1)
+      heavy : (x : BrokerCall Envelope) → In x (seconds (queue_calls r.queue)) → (agains_one_of l k x ≡ 0 → ⊥)
+          → (redeliveries l k r.queue ≡ 0) ⊎ (publishes l k r.queue ≡ 1)
       heavy (published e) i d = absurd (d refl)
       heavy (took t) i d = absurd (d refl)
       heavy (again e) i d =
@@ -256,9 +284,11 @@ module _ (behaviour : Behaviour) (l : Line) (plan : IsPlan l) (r : Run behaviour
       let takes = taken_once t in
       let same = total-same (takes_task (X behaviour l plan) t) (takes_one_of l t) (take_weight t) (seconds (queue_calls r.queue)) in
       let stores = taken_stored (X behaviour l plan) t (form behaviour l plan) (inner_run behaviour l plan r) c.all_used c.all_ended in
-      let both = both_answers (X behaviour l plan) (form behaviour l plan) (Does behaviour l plan) (order behaviour l plan) (value behaviour l plan) (once behaviour l plan) (keeping behaviour l plan) (inner_run behaviour l plan r) t calls in
+      let both = both_answers (X behaviour l plan) (form behaviour l plan) (Does behaviour l plan) (order behaviour l plan) (value behaviour l plan)
+      (once behaviour l plan) (keeping behaviour l plan) (inner_run behaviour l plan r) t calls in
       let f = total-same (first_of t) (firsts_one t) (first_weight behaviour l plan r t) calls in
-      let a = total-same (again_of (X behaviour l plan) (form behaviour l plan) (Does behaviour l plan) (order behaviour l plan) (value behaviour l plan) (once behaviour l plan) (keeping behaviour l plan) (inner_run behaviour l plan r) t) (agains_one t) (repeat_weight behaviour l plan r t) calls in
+      let a = total-same (again_of (X behaviour l plan) (form behaviour l plan) (Does behaviour l plan) (order behaviour l plan) (value behaviour l plan)
+      (once behaviour l plan) (keeping behaviour l plan) (inner_run behaviour l plan r) t) (agains_one t) (repeat_weight behaviour l plan r t) calls in
       ⊎_elim (λ z. omega arith) (λ p. omega arith) (again_published t)
 
   part_weight : (g m : ℕ) (x : BackendCall Outcome) → returns_one g m x ≡ part_of g m x
@@ -272,13 +302,15 @@ module _ (behaviour : Behaviour) (l : Line) (plan : IsPlan l) (r : Run behaviour
       let few = (part_once g t [] [] (seconds (table_calls r.table)) (inner_run behaviour l plan r).table).0 in
       let same = total-same (returns_one g t) (part_of g t) (part_weight g t) (seconds (table_calls r.table)) in
       let here = in_total (returns_one g t) (seconds (table_calls r.table)) (returned g t done.0) done.1 in
-      let mine : returns_one g t (returned g t done.0) ≡ 1 = ap (λ b. cond b (cond (eqb t t) 1 0) 0) (eq-eqb g g refl) ∙ ap (λ b. cond b 1 0) (eq-eqb t t refl) in
+      let mine : returns_one g t (returned g t done.0) ≡ 1 = ap (λ b. cond b (cond (eqb t t) 1 0) 0) (eq-eqb g g refl)
+      ∙ ap (λ b. cond b 1 0) (eq-eqb t t refl) in
       omega arith
 
   rows_are : (t : ℕ) → (results.results (roster_of l) r.table).outcomes t ≡ its_state behaviour l t
   rows_are t = ⊎_elim (λ none. by_state none (its_state behaviour l t) refl) (λ e. e) ((first_part behaviour l plan r).rows t)
     where
-      by_state : (results.results (roster_of l) r.table).outcomes t ≡ None → (s : eval.State) → its_state behaviour l t ≡ s → (results.results (roster_of l) r.table).outcomes t ≡ its_state behaviour l t
+      by_state : (results.results (roster_of l) r.table).outcomes t ≡ None → (s : eval.State) → its_state behaviour l t ≡ s
+          → (results.results (roster_of l) r.table).outcomes t ≡ its_state behaviour l t
       by_state none None e = none ∙ sym e
       by_state none (Some o) e =
           let has = state_has behaviour l plan t o e in

@@ -40,11 +40,13 @@ for_same (a, v) (b, u) i k w = go (same_when u v) refl i
     go true s j = let m : b ≡ a = eqb-true b a j in let n : u ≡ v = when_same u v s in ap₂ (λ y z. cond (same_when z w) (eqb y k) false) m n
     go false s j = absurd (false≢true j)
 
-spent_one : (x : Entry) (es : List Entry) → has x.0 x.1 es ≡ true → (k : ℕ) (w : When) → entries_for k w es ≡ here k w (Some x) + entries_for k w (without x.0 x.1 es)
+spent_one : (x : Entry) (es : List Entry) → has x.0 x.1 es ≡ true → (k : ℕ) (w : When)
+    → entries_for k w es ≡ here k w (Some x) + entries_for k w (without x.0 x.1 es)
 spent_one x [] h k w = absurd (false≢true h)
 spent_one x (e ∷ es) h k w = go (is_for x.0 x.1 e) refl h (λ j. spent_one x es j k w)
   where
-    go : (b : Bool) → is_for x.0 x.1 e ≡ b → (b || has x.0 x.1 es) ≡ true → (has x.0 x.1 es ≡ true → entries_for k w es ≡ here k w (Some x) + entries_for k w (without x.0 x.1 es))
+    go : (b : Bool) → is_for x.0 x.1 e ≡ b → (b || has x.0 x.1 es) ≡ true
+        → (has x.0 x.1 es ≡ true → entries_for k w es ≡ here k w (Some x) + entries_for k w (without x.0 x.1 es))
         → entries_for k w (e ∷ es) ≡ here k w (Some x) + entries_for k w (cond b es (e ∷ without x.0 x.1 es))
     go true s j f = ap (λ c. cond c 1 0 + entries_for k w es) (for_same x e s k w)
     go false s j f = let r = f j in omega (arith, r)
@@ -57,7 +59,8 @@ without_length : (x : Entry) (es : List Entry) → has x.0 x.1 es ≡ true → l
 without_length x [] h = absurd (false≢true h)
 without_length x (e ∷ es) h = at_head (is_for x.0 x.1 e) h (without_length x es)
   where
-    at_head : (b : Bool) → (b || has x.0 x.1 es) ≡ true → (has x.0 x.1 es ≡ true → length es ≡ suc (length (without x.0 x.1 es))) → length (e ∷ es) ≡ suc (length (cond b es (e ∷ without x.0 x.1 es)))
+    at_head : (b : Bool) → (b || has x.0 x.1 es) ≡ true → (has x.0 x.1 es ≡ true → length es ≡ suc (length (without x.0 x.1 es)))
+        → length (e ∷ es) ≡ suc (length (cond b es (e ∷ without x.0 x.1 es)))
     at_head true j f = refl
     at_head false j f = ap suc (f j)
 
@@ -92,7 +95,8 @@ not_wanted (Some x) es h k w = go (is_for k w x) refl
 -- ---- such turns are turns
 
 module _ (behaviour : Behaviour) (l : Line) (n : ℕ) where
-  pub are_turns : (before : List Step) (es : List Entry) (us : List ℕ) (xs : List Step) (rest : List Entry) → TurnedAgain behaviour l n before es us xs rest → Turned behaviour l n before us xs
+  pub are_turns : (before : List Step) (es : List Entry) (us : List ℕ) (xs : List Step) (rest : List Entry) → TurnedAgain behaviour l n before es us xs rest
+      → Turned behaviour l n before us xs
   are_turns before es [] [] rest no_turn = all_taken
   are_turns before es [] (x ∷ xs) rest t = elim t [ ]
   are_turns before es (p ∷ us) xs rest (skips e t) = skips_turn e (are_turns before es us xs rest t)
@@ -103,34 +107,44 @@ module _ (behaviour : Behaviour) (l : Line) (n : ℕ) where
 -- ---- such turns put together
 
 module _ (behaviour : Behaviour) (l : Line) (n : ℕ) where
-  pub again_append : (before : List Step) (es : List Entry) (us vs : List ℕ) (xs ys : List Step) (mid rest : List Entry) → TurnedAgain behaviour l n before es us xs mid → TurnedAgain behaviour l n (before ++ xs) mid vs ys rest
+  pub again_append : (before : List Step) (es : List Entry) (us vs : List ℕ) (xs ys : List Step) (mid rest : List Entry)
+      → TurnedAgain behaviour l n before es us xs mid → TurnedAgain behaviour l n (before ++ xs) mid vs ys rest
       → TurnedAgain behaviour l n before es (us ++ vs) (xs ++ ys) rest
   again_append before es [] vs [] ys mid rest no_turn u = subst (λ b. TurnedAgain behaviour l n b es vs ys rest) (append-nil before) u
   again_append before es [] vs (x ∷ xs) ys mid rest t u = elim t [ ]
   again_append before es (p ∷ us) vs xs ys mid rest (skips e t) u = skips e (again_append before es us vs xs ys mid rest t u)
   again_append before es (p ∷ us) vs (x ∷ xs) ys mid rest (takes f b e h t) u =
-      takes f b e h (again_append (before ++ x ∷ []) es us vs xs ys mid rest t (subst (λ z. TurnedAgain behaviour l n z mid vs ys rest) (sym (append_assoc before (x ∷ []) xs)) u))
+      takes f b e h (again_append (before ++ x ∷ []) es us vs xs ys mid rest t
+      (subst (λ z. TurnedAgain behaviour l n z mid vs ys rest) (sym (append_assoc before (x ∷ []) xs)) u))
   again_append before es (p ∷ us) vs (x ∷ y ∷ xs) ys mid rest (spends f w d b e h t) u =
       spends f w d b e h (again_append ((before ++ x ∷ []) ++ y ∷ []) (spent (comes_to behaviour l before p) es) us vs xs ys mid rest t
       (subst (λ z. TurnedAgain behaviour l n z mid vs ys rest) (sym (append_assoc (before ++ x ∷ []) (y ∷ []) xs ∙ append_assoc before (x ∷ []) (y ∷ xs))) u))
 
 -- ---- one more turn
 
-module _ (behaviour : Behaviour) (l : Line) (n : ℕ) (es : List Entry) (us : List ℕ) (xs : List Step) (rest : List Entry) (t : TurnedAgain behaviour l n [] es us xs rest) (p : ℕ) where
+module _ (behaviour : Behaviour) (l : Line) (n : ℕ) (es : List Entry) (us : List ℕ) (xs : List Step) (rest : List Entry)
+    (t : TurnedAgain behaviour l n [] es us xs rest) (p : ℕ) where
   -- of a worker that has ended
   pub again_skip : HasEnded behaviour l xs p → TurnedAgain behaviour l n [] es (us ++ p ∷ []) xs rest
-  again_skip e = subst (λ z. TurnedAgain behaviour l n [] es (us ++ p ∷ []) z rest) (append-nil xs) (again_append behaviour l n [] es us (p ∷ []) xs [] rest rest t (skips e no_turn))
+  again_skip e = subst (λ z. TurnedAgain behaviour l n [] es (us ++ p ∷ []) z rest) (append-nil xs)
+      (again_append behaviour l n [] es us (p ∷ []) xs [] rest rest t (skips e no_turn))
 
   -- with its step
-  pub again_step : (a : Ask Envelope Outcome) (r : Reply Envelope Outcome) → wanted (comes_to behaviour l xs p) rest ≡ false → ReadsBack (worker behaviour l) (left behaviour l xs p) → a ≡ ask (worker behaviour l) (left behaviour l xs p) → Answers behaviour l n xs a r
+  pub again_step : (a : Ask Envelope Outcome) (r : Reply Envelope Outcome) → wanted (comes_to behaviour l xs p) rest ≡ false
+      → ReadsBack (worker behaviour l) (left behaviour l xs p) → a ≡ ask (worker behaviour l) (left behaviour l xs p) → Answers behaviour l n xs a r
       → TurnedAgain behaviour l n [] es (us ++ p ∷ []) (xs ++ (p, (a, r)) ∷ []) rest
   again_step a r f b e h = again_append behaviour l n [] es us (p ∷ []) xs ((p, (a, r)) ∷ []) rest rest t (takes f b e h no_turn)
 
   -- with a redelivery and its step
-  pub again_spend : (d : Envelope) (a : Ask Envelope Outcome) (r : Reply Envelope Outcome) → wanted (comes_to behaviour l xs p) rest ≡ true → IsWorker n p → holds xs p ≡ Some d
-      → ReadsBack (worker behaviour l) (left behaviour l (xs ++ (p, (deliver d, sent)) ∷ []) p) → a ≡ ask (worker behaviour l) (left behaviour l (xs ++ (p, (deliver d, sent)) ∷ []) p) → Answers behaviour l n (xs ++ (p, (deliver d, sent)) ∷ []) a r
+  pub again_spend : (d : Envelope) (a : Ask Envelope Outcome) (r : Reply Envelope Outcome) → wanted (comes_to behaviour l xs p) rest ≡ true → IsWorker n p
+      → holds xs p ≡ Some d
+      → ReadsBack (worker behaviour l) (left behaviour l (xs ++ (p, (deliver d, sent)) ∷ []) p)
+      → a ≡ ask (worker behaviour l) (left behaviour l (xs ++ (p, (deliver d, sent)) ∷ []) p)
+      → Answers behaviour l n (xs ++ (p, (deliver d, sent)) ∷ []) a r
       → TurnedAgain behaviour l n [] es (us ++ p ∷ []) (xs ++ (p, (deliver d, sent)) ∷ (p, (a, r)) ∷ []) (spent (comes_to behaviour l xs p) rest)
-  again_spend d a r f w g b e h = again_append behaviour l n [] es us (p ∷ []) xs ((p, (deliver d, sent)) ∷ (p, (a, r)) ∷ []) rest (spent (comes_to behaviour l xs p) rest) t (spends f w g b e h no_turn)
+  again_spend d a r f w g b e h =
+      again_append behaviour l n [] es us (p ∷ []) xs ((p, (deliver d, sent)) ∷ (p, (a, r)) ∷ []) rest (spent (comes_to behaviour l xs p) rest) t
+      (spends f w g b e h no_turn)
 
 -- ---- without entries
 
@@ -139,11 +153,13 @@ nothing_wanted None = refl
 nothing_wanted (Some x) = refl
 
 module _ (behaviour : Behaviour) (l : Line) (n : ℕ) where
-  pub no_entries : (before : List Step) (us : List ℕ) (xs : List Step) → Turned behaviour l n before us xs → redeliveries_in xs ≡ 0 → TurnedAgain behaviour l n before [] us xs []
+  pub no_entries : (before : List Step) (us : List ℕ) (xs : List Step) → Turned behaviour l n before us xs → redeliveries_in xs ≡ 0
+      → TurnedAgain behaviour l n before [] us xs []
   no_entries before [] [] all_taken z = no_turn
   no_entries before us (x ∷ xs) (delivers_again w e t) z = absurd (omega (arith, z))
   no_entries before (p ∷ us) xs (skips_turn e t) z = skips e (no_entries before us xs t z)
-  no_entries before (p ∷ us) ((q, (a, r)) ∷ xs) (takes_turn b e h t) z = takes (nothing_wanted (comes_to behaviour l before q)) b e h (no_entries (before ++ (q, (a, r)) ∷ []) us xs t (omega (arith, z)))
+  no_entries before (p ∷ us) ((q, (a, r)) ∷ xs) (takes_turn b e h t) z =
+      takes (nothing_wanted (comes_to behaviour l before q)) b e h (no_entries (before ++ (q, (a, r)) ∷ []) us xs t (omega (arith, z)))
 
 -- ---- a worker's step
 
@@ -203,7 +219,8 @@ module _ (behaviour : Behaviour) (l : Line) (k : ℕ) where
   sure r = true
 
   abbrev Steps : When → Doing (worker behaviour l) → Option Envelope → Reply Envelope Outcome → Type 0
-  Steps w s h r = in_queue behaviour l (takes_one_of l k) (ask (worker behaviour l) s, r) + ahead w s h ≡ here k w (point l s h) + ahead w (answered (worker behaviour l) s r) (held_by h (ask (worker behaviour l) s) r)
+  Steps w s h r = in_queue behaviour l (takes_one_of l k) (ask (worker behaviour l) s, r) + ahead w s h ≡ here k w (point l s h)
+      + ahead w (answered (worker behaviour l) s r) (held_by h (ask (worker behaviour l) s) r)
 
   none_here : (w v : When) → same_when v w ≡ false → (x : Option Content) → here k w (point_of l v x) ≡ 0
   none_here w v d None = refl
@@ -220,7 +237,8 @@ module _ (behaviour : Behaviour) (l : Line) (k : ℕ) where
   goes_late : (s' : Doing (worker behaviour l)) (h : Option Envelope) → Past s' → ahead Late s' h ≡ of_task l k (message_in l h)
   goes_late s' h e = ap (λ b. cond b (of_task l k (message_in l h)) 0) e.1
 
-  step_early : (s : Doing (worker behaviour l)) (h : Option Envelope) (r : Reply Envelope Outcome) → Suits (ask (worker behaviour l) s) r → sure r ≡ true → Steps Early s h r
+  step_early : (s : Doing (worker behaviour l)) (h : Option Envelope) (r : Reply Envelope Outcome) → Suits (ask (worker behaviour l) s) r → sure r ≡ true
+      → Steps Early s h r
   step_early taking h (taken None) u f = refl
   step_early taking h (taken (Some e)) u f = go (opened (book_of l) e)
     where
@@ -229,17 +247,22 @@ module _ (behaviour : Behaviour) (l : Line) (k : ℕ) where
       go (Some m) = omega arith
   step_early resting h (rested true) u f = refl
   step_early resting h (rested false) u f = refl
-  step_early (owning m) h (kept b) u f = let a = one_here Early Early refl (message_in l h) in let z = goes_early taking (owned (worker behaviour l) m b) h (past_owned m b) in omega (arith, a, z)
-  step_early (doing (store t o ∷ js) b) h (kept a) u f = let z = goes_early taking (settled (worker behaviour l) js (cond (is_due t js) a b)) h (past_settled js (cond (is_due t js) a b)) in omega (arith, z)
+  step_early (owning m) h (kept b) u f = let a = one_here Early Early refl (message_in l h) in let z =
+      goes_early taking (owned (worker behaviour l) m b) h (past_owned m b) in omega (arith, a, z)
+  step_early (doing (store t o ∷ js) b) h (kept a) u f = let z =
+      goes_early taking (settled (worker behaviour l) js (cond (is_due t js) a b)) h (past_settled js (cond (is_due t js) a b)) in omega (arith, z)
   step_early (doing (publish m ∷ js) b) h sent u f = let z = goes_early taking (settled (worker behaviour l) js b) h (past_settled js b) in omega (arith, z)
   step_early (doing (publish m ∷ js) b) h refused u f = absurd (false≢true f)
-  step_early (doing (hand_in g t c ∷ js) b) h (counted i) u f = let z = goes_early taking (handed_in (worker behaviour l) g c i) h (past_handed g c i) in omega (arith, z)
-  step_early (reading g c fs) h (found t (Some o)) u f = let z = goes_early taking (all_read (worker behaviour l) g c (fs ++ (t, o) ∷ [])) h (past_read g c (fs ++ (t, o) ∷ [])) in omega (arith, z)
+  step_early (doing (hand_in g t c ∷ js) b) h (counted i) u f = let z = goes_early taking (handed_in (worker behaviour l) g c i) h (past_handed g c i) in
+      omega (arith, z)
+  step_early (reading g c fs) h (found t (Some o)) u f = let z =
+      goes_early taking (all_read (worker behaviour l) g c (fs ++ (t, o) ∷ [])) h (past_read g c (fs ++ (t, o) ∷ [])) in omega (arith, z)
   step_early (reading g c fs) h (found t None) u f = refl
   step_early acking h acked u f = let z = none_here Early Late refl (message_in l h) in omega (arith, z)
   step_early s h r u f = elim u [ ]
 
-  step_late : (s : Doing (worker behaviour l)) (h : Option Envelope) (r : Reply Envelope Outcome) → Suits (ask (worker behaviour l) s) r → sure r ≡ true → Steps Late s h r
+  step_late : (s : Doing (worker behaviour l)) (h : Option Envelope) (r : Reply Envelope Outcome) → Suits (ask (worker behaviour l) s) r → sure r ≡ true
+      → Steps Late s h r
   step_late taking h (taken None) u f = refl
   step_late taking h (taken (Some e)) u f = go (opened (book_of l) e)
     where
@@ -248,25 +271,32 @@ module _ (behaviour : Behaviour) (l : Line) (k : ℕ) where
       go (Some m) = omega arith
   step_late resting h (rested true) u f = refl
   step_late resting h (rested false) u f = refl
-  step_late (owning m) h (kept b) u f = let a = none_here Late Early refl (message_in l h) in let z = goes_late (owned (worker behaviour l) m b) h (past_owned m b) in omega (arith, a, z)
-  step_late (doing (store t o ∷ js) b) h (kept a) u f = let z = goes_late (settled (worker behaviour l) js (cond (is_due t js) a b)) h (past_settled js (cond (is_due t js) a b)) in omega (arith, z)
+  step_late (owning m) h (kept b) u f = let a = none_here Late Early refl (message_in l h) in let z =
+      goes_late (owned (worker behaviour l) m b) h (past_owned m b) in omega (arith, a, z)
+  step_late (doing (store t o ∷ js) b) h (kept a) u f = let z =
+      goes_late (settled (worker behaviour l) js (cond (is_due t js) a b)) h (past_settled js (cond (is_due t js) a b)) in omega (arith, z)
   step_late (doing (publish m ∷ js) b) h sent u f = let z = goes_late (settled (worker behaviour l) js b) h (past_settled js b) in omega (arith, z)
   step_late (doing (publish m ∷ js) b) h refused u f = absurd (false≢true f)
-  step_late (doing (hand_in g t c ∷ js) b) h (counted i) u f = let z = goes_late (handed_in (worker behaviour l) g c i) h (past_handed g c i) in omega (arith, z)
-  step_late (reading g c fs) h (found t (Some o)) u f = let z = goes_late (all_read (worker behaviour l) g c (fs ++ (t, o) ∷ [])) h (past_read g c (fs ++ (t, o) ∷ [])) in omega (arith, z)
+  step_late (doing (hand_in g t c ∷ js) b) h (counted i) u f = let z = goes_late (handed_in (worker behaviour l) g c i) h (past_handed g c i) in
+      omega (arith, z)
+  step_late (reading g c fs) h (found t (Some o)) u f = let z =
+      goes_late (all_read (worker behaviour l) g c (fs ++ (t, o) ∷ [])) h (past_read g c (fs ++ (t, o) ∷ [])) in omega (arith, z)
   step_late (reading g c fs) h (found t None) u f = omega arith
   step_late acking h acked u f = let a = one_here Late Late refl (message_in l h) in omega (arith, a)
   step_late s h r u f = elim u [ ]
 
-  pub one_step : (w : When) (s : Doing (worker behaviour l)) (h : Option Envelope) (r : Reply Envelope Outcome) → Suits (ask (worker behaviour l) s) r → sure r ≡ true → Steps w s h r
+  pub one_step : (w : When) (s : Doing (worker behaviour l)) (h : Option Envelope) (r : Reply Envelope Outcome) → Suits (ask (worker behaviour l) s) r
+      → sure r ≡ true → Steps w s h r
   one_step Early s h r u f = step_early s h r u f
   one_step Late s h r u f = step_late s h r u f
 
   -- a redelivery of the task's message spends an entry for the task
   pub redelivers : (s : Doing (worker behaviour l)) (h : Option Envelope) (e : Envelope) (es : List Entry) → h ≡ Some e → wanted (point l s h) es ≡ true
       → of_task l k (opened (book_of l) e) ≡ here k Early (point l s h) + here k Late (point l s h)
-  redelivers (owning m) h e es d f = let a = one_here Early Early refl (message_in l h) in let b = none_here Late Early refl (message_in l h) in let c : of_task l k (message_in l h) ≡ of_task l k (opened (book_of l) e) = ap (λ x. of_task l k (message_in l x)) d in omega (arith, a, b, c)
-  redelivers acking h e es d f = let a = one_here Late Late refl (message_in l h) in let b = none_here Early Late refl (message_in l h) in let c : of_task l k (message_in l h) ≡ of_task l k (opened (book_of l) e) = ap (λ x. of_task l k (message_in l x)) d in omega (arith, a, b, c)
+  redelivers (owning m) h e es d f = let a = one_here Early Early refl (message_in l h) in let b = none_here Late Early refl (message_in l h) in
+      let c : of_task l k (message_in l h) ≡ of_task l k (opened (book_of l) e) = ap (λ x. of_task l k (message_in l x)) d in omega (arith, a, b, c)
+  redelivers acking h e es d f = let a = one_here Late Late refl (message_in l h) in let b = none_here Early Late refl (message_in l h) in
+      let c : of_task l k (message_in l h) ≡ of_task l k (opened (book_of l) e) = ap (λ x. of_task l k (message_in l x)) d in omega (arith, a, b, c)
   redelivers taking h e es d f = absurd (false≢true f)
   redelivers resting h e es d f = absurd (false≢true f)
   redelivers over h e es d f = absurd (false≢true f)

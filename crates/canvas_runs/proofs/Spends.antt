@@ -72,7 +72,8 @@ module _ (behaviour : Behaviour) (l : Line) (n : ℕ) where
 
   -- ---- as many entries are spent as envelopes delivered again
 
-  pub spends_length : (before : List Step) (es : List Entry) (us : List ℕ) (xs : List Step) (rest : List Entry) → TurnedAgain behaviour l n before es us xs rest → redeliveries_in xs + length rest ≡ length es
+  pub spends_length : (before : List Step) (es : List Entry) (us : List ℕ) (xs : List Step) (rest : List Entry) → TurnedAgain behaviour l n before es us xs rest
+      → redeliveries_in xs + length rest ≡ length es
   spends_length before es [] [] rest no_turn = omega arith
   spends_length before es [] (x ∷ xs) rest t = elim t [ ]
   spends_length before es (p ∷ us) xs rest (skips e t) = spends_length before es us xs rest t
@@ -93,7 +94,8 @@ module _ (behaviour : Behaviour) (l : Line) (n : ℕ) where
     agains_of xs = total (λ x. in_queue behaviour l (agains_one_of l k) x.1) xs
 
     -- the entries for one of the two points
-    pub few_left : (w : When) (before : List Step) (es : List Entry) (us : List ℕ) (xs : List Step) (rest : List Entry) → TurnedAgain behaviour l n before es us xs rest → entries_for k w rest ≤ entries_for k w es
+    pub few_left : (w : When) (before : List Step) (es : List Entry) (us : List ℕ) (xs : List Step) (rest : List Entry)
+        → TurnedAgain behaviour l n before es us xs rest → entries_for k w rest ≤ entries_for k w es
     few_left w before es [] [] rest no_turn = omega arith
     few_left w before es [] (x ∷ xs) rest t = elim t [ ]
     few_left w before es (p ∷ us) xs rest (skips e t) = few_left w before es us xs rest t
@@ -104,7 +106,8 @@ module _ (behaviour : Behaviour) (l : Line) (n : ℕ) where
         omega (arith, i, m)
 
     -- what is spent for the task is a redelivery of its message
-    pub spends_agains : (before : List Step) (es : List Entry) (us : List ℕ) (xs : List Step) (rest : List Entry) → TurnedAgain behaviour l n before es us xs rest
+    pub spends_agains : (before : List Step) (es : List Entry) (us : List ℕ) (xs : List Step) (rest : List Entry)
+        → TurnedAgain behaviour l n before es us xs rest
         → agains_of xs + (entries_for k Early rest + entries_for k Late rest) ≡ entries_for k Early es + entries_for k Late es
     spends_agains before es [] [] rest no_turn = omega arith
     spends_agains before es [] (x ∷ xs) rest t = elim t [ ]
@@ -125,29 +128,39 @@ module _ (behaviour : Behaviour) (l : Line) (n : ℕ) where
 
     waits_still : (w : When) (before : List Step) (q : ℕ) (d : Envelope) → waiting w (before ++ (q, (deliver d, sent)) ∷ []) ≡ waiting w before
     waits_still w before q d =
-        sum_to-same n (λ p. ahead behaviour l k w (left behaviour l (before ++ (q, (deliver d, sent)) ∷ []) p) (holds (before ++ (q, (deliver d, sent)) ∷ []) p)) (λ p. ahead behaviour l k w (left behaviour l before p) (holds before p))
+        sum_to-same n (λ p. ahead behaviour l k w (left behaviour l (before ++ (q, (deliver d, sent)) ∷ []) p)
+        (holds (before ++ (q, (deliver d, sent)) ∷ []) p)) (λ p. ahead behaviour l k w (left behaviour l before p) (holds before p))
         (λ p m. ap₂ (ahead behaviour l k w) (left_delivers behaviour l before p q d sent) (holds_delivers before p q d))
 
-    waits_step : (w : When) (before : List Step) (p : ℕ) (a : Ask Envelope Outcome) (r : Reply Envelope Outcome) → p ≤ n → a ≡ ask (worker behaviour l) (left behaviour l before p) → Answers behaviour l n before a r
+    waits_step : (w : When) (before : List Step) (p : ℕ) (a : Ask Envelope Outcome) (r : Reply Envelope Outcome) → p ≤ n
+        → a ≡ ask (worker behaviour l) (left behaviour l before p) → Answers behaviour l n before a r
         → in_queue behaviour l (takes_one_of l k) (a, r) + waiting w before ≡ here k w (comes_to behaviour l before p) + waiting w (before ++ (p, (a, r)) ∷ [])
     waits_step w before p a r le e h =
         let s : Doing (worker behaviour l) = left behaviour l before p in
         let suits : Suits (ask (worker behaviour l) s) r = subst (λ b. Suits b r) e (answers_suit behaviour l n before a r h).0 in
         let one = one_step behaviour l k w s (holds before p) r suits (answers_sure k before a r h) in
-        let two : in_queue behaviour l (takes_one_of l k) (a, r) + ahead behaviour l k w s (holds before p) ≡ here k w (comes_to behaviour l before p) + ahead behaviour l k w (answered (worker behaviour l) s r) (held_by (holds before p) a r) =
-        subst (λ b. in_queue behaviour l (takes_one_of l k) (b, r) + ahead behaviour l k w s (holds before p) ≡ here k w (comes_to behaviour l before p) + ahead behaviour l k w (answered (worker behaviour l) s r) (held_by (holds before p) b r)) (sym e) one in
-        let after : ahead behaviour l k w (left behaviour l (before ++ (p, (a, r)) ∷ []) p) (holds (before ++ (p, (a, r)) ∷ []) p) ≡ ahead behaviour l k w (answered (worker behaviour l) s r) (held_by (holds before p) a r) =
+        let two : in_queue behaviour l (takes_one_of l k) (a, r) + ahead behaviour l k w s (holds before p) ≡ here k w (comes_to behaviour l before p)
+        + ahead behaviour l k w (answered (worker behaviour l) s r) (held_by (holds before p) a r) =
+        subst (λ b. in_queue behaviour l (takes_one_of l k) (b, r) + ahead behaviour l k w s (holds before p) ≡ here k w (comes_to behaviour l before p)
+        + ahead behaviour l k w (answered (worker behaviour l) s r) (held_by (holds before p) b r)) (sym e) one in
+        let after : ahead behaviour l k w (left behaviour l (before ++ (p, (a, r)) ∷ []) p) (holds (before ++ (p, (a, r)) ∷ []) p)
+        ≡ ahead behaviour l k w (answered (worker behaviour l) s r) (held_by (holds before p) a r) =
         ap₂ (ahead behaviour l k w) (left_here behaviour l before p a r (of_script before p a e)) (holds_here before p a r) in
-        changed n p (in_queue behaviour l (takes_one_of l k) (a, r)) (here k w (comes_to behaviour l before p)) (λ q. ahead behaviour l k w (left behaviour l before q) (holds before q))
+        changed n p (in_queue behaviour l (takes_one_of l k) (a, r)) (here k w (comes_to behaviour l before p))
+        (λ q. ahead behaviour l k w (left behaviour l before q) (holds before q))
         (λ q. ahead behaviour l k w (left behaviour l (before ++ (p, (a, r)) ∷ []) q) (holds (before ++ (p, (a, r)) ∷ []) q)) le
-        (λ q apart. sym (ap₂ (ahead behaviour l k w) (left_other behaviour l before q p a r apart) (holds_other before q p a r apart))) (omega (arith, two, after))
+        (λ q apart. sym (ap₂ (ahead behaviour l k w) (left_other behaviour l before q p a r apart) (holds_other before q p a r apart)))
+        (omega (arith, two, after))
 
     -- entries stay unspent for a point only where each message that came to it has spent one
     abbrev pub AllSpent : When → List Step → List Entry → List Step → List Entry → Type 0
-    AllSpent w before es xs rest = (entries_for k w rest ≡ 0) ⊎ (takes_in xs + waiting w before + entries_for k w rest ≡ entries_for k w es + waiting w (before ++ xs))
+    AllSpent w before es xs rest =
+        (entries_for k w rest ≡ 0) ⊎ (takes_in xs + waiting w before + entries_for k w rest ≡ entries_for k w es + waiting w (before ++ xs))
 
-    pub spends_all : (w : When) (before : List Step) (es : List Entry) (us : List ℕ) (xs : List Step) (rest : List Entry) → Each (IsWorker n) us → TurnedAgain behaviour l n before es us xs rest → AllSpent w before es xs rest
-    spends_all w before es [] [] rest ws no_turn = inr (let s : waiting w (before ++ []) ≡ waiting w before = ap (waiting w) (append-nil before) in omega (arith, s))
+    pub spends_all : (w : When) (before : List Step) (es : List Entry) (us : List ℕ) (xs : List Step) (rest : List Entry) → Each (IsWorker n) us
+        → TurnedAgain behaviour l n before es us xs rest → AllSpent w before es xs rest
+    spends_all w before es [] [] rest ws no_turn =
+        inr (let s : waiting w (before ++ []) ≡ waiting w before = ap (waiting w) (append-nil before) in omega (arith, s))
     spends_all w before es [] (x ∷ xs) rest ws t = elim t [ ]
     spends_all w before es (p ∷ us) xs rest ws (skips e t) = spends_all w before es us xs rest ws.1 t
     spends_all w before es (p ∷ us) ((q, (a, r)) ∷ xs) rest ws (takes f b e h t) =
@@ -157,17 +170,21 @@ module _ (behaviour : Behaviour) (l : Line) (n : ℕ) where
         let few = few_left w (before ++ x ∷ []) es us xs rest t in
         ⊎_elim (λ none. inl none)
         (λ (all : takes_in xs + waiting w (before ++ x ∷ []) + entries_for k w rest ≡ entries_for k w es + waiting w ((before ++ x ∷ []) ++ xs)).
-        ⊎_elim (λ (z : here k w (comes_to behaviour l before q) ≡ 0). inr (omega (arith, s, same, all, z))) (λ (z : entries_for k w es ≡ 0). inl (omega (arith, few, z))) (not_wanted (comes_to behaviour l before q) es f k w))
+        ⊎_elim (λ (z : here k w (comes_to behaviour l before q) ≡ 0). inr (omega (arith, s, same, all, z)))
+        (λ (z : entries_for k w es ≡ 0). inl (omega (arith, few, z))) (not_wanted (comes_to behaviour l before q) es f k w))
         (spends_all w (before ++ x ∷ []) es us xs rest ws.1 t)
     spends_all w before es (p ∷ us) ((q, (deliver d, sent)) ∷ (q', (a, r)) ∷ xs) rest ws (spends f v g b e h t) =
         let x : Step = (q, (deliver d, sent)) in
         let y : Step = (q', (a, r)) in
         let s = waits_step w (before ++ x ∷ []) q' a r ws.0.1 e h in
         let still = waits_still w before q d in
-        let point_is : here k w (comes_to behaviour l (before ++ x ∷ []) q) ≡ here k w (comes_to behaviour l before q) = ap (here k w) (comes_still before q q d) in
-        let same : waiting w (((before ++ x ∷ []) ++ y ∷ []) ++ xs) ≡ waiting w (before ++ x ∷ y ∷ xs) = ap (waiting w) (append_assoc (before ++ x ∷ []) (y ∷ []) xs ∙ append_assoc before (x ∷ []) (y ∷ xs)) in
+        let point_is : here k w (comes_to behaviour l (before ++ x ∷ []) q) ≡ here k w (comes_to behaviour l before q) =
+        ap (here k w) (comes_still before q q d) in
+        let same : waiting w (((before ++ x ∷ []) ++ y ∷ []) ++ xs) ≡ waiting w (before ++ x ∷ y ∷ xs) =
+        ap (waiting w) (append_assoc (before ++ x ∷ []) (y ∷ []) xs ∙ append_assoc before (x ∷ []) (y ∷ xs)) in
         let m = spent_some (comes_to behaviour l before q) es f k w in
         ⊎_elim (λ none. inl none)
-        (λ (all : takes_in xs + waiting w ((before ++ x ∷ []) ++ y ∷ []) + entries_for k w rest ≡ entries_for k w (spent (comes_to behaviour l before q) es) + waiting w (((before ++ x ∷ []) ++ y ∷ []) ++ xs)).
+        (λ (all : takes_in xs + waiting w ((before ++ x ∷ []) ++ y ∷ []) + entries_for k w rest ≡ entries_for k w (spent (comes_to behaviour l before q) es)
+        + waiting w (((before ++ x ∷ []) ++ y ∷ []) ++ xs)).
         inr (omega (arith, s, still, point_is, same, m, all)))
         (spends_all w ((before ++ x ∷ []) ++ y ∷ []) (spent (comes_to behaviour l before q) es) us xs rest ws.1 t)

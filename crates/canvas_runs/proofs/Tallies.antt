@@ -55,9 +55,12 @@ module _ (behaviour : Behaviour) (plan : Roster) where
   part_step (read g i) (found t x) = omega arith
   part_step a r = refl
 
-  sum_calls : {A : Type 0} (call : Ask Envelope Outcome → Reply Envelope Outcome → List A) (w : A → ℕ) (u : Ask Envelope Outcome → Reply Envelope Outcome → ℕ) (all : List (Ask Envelope Outcome × Reply Envelope Outcome) → List A)
-      → all [] ≡ [] → ((x : Ask Envelope Outcome × Reply Envelope Outcome) (xs : List (Ask Envelope Outcome × Reply Envelope Outcome)) → all (x ∷ xs) ≡ call x.0 x.1 ++ all xs)
-      → ((a : Ask Envelope Outcome) (r : Reply Envelope Outcome) → total w (call a r) ≡ u a r) → (xs : List (Ask Envelope Outcome × Reply Envelope Outcome)) → total w (all xs) ≡ often u xs
+  sum_calls : {A : Type 0} (call : Ask Envelope Outcome → Reply Envelope Outcome → List A) (w : A → ℕ) (u : Ask Envelope Outcome → Reply Envelope Outcome → ℕ)
+      (all : List (Ask Envelope Outcome × Reply Envelope Outcome) → List A)
+      → all [] ≡ [] → ((x : Ask Envelope Outcome × Reply Envelope Outcome) (xs : List (Ask Envelope Outcome × Reply Envelope Outcome))
+      → all (x ∷ xs) ≡ call x.0 x.1 ++ all xs)
+      → ((a : Ask Envelope Outcome) (r : Reply Envelope Outcome) → total w (call a r) ≡ u a r) → (xs : List (Ask Envelope Outcome × Reply Envelope Outcome))
+      → total w (all xs) ≡ often u xs
   sum_calls call w u all none more step [] = ap (λ l. total w l) none
   sum_calls call w u all none more step (x ∷ xs) =
       let k = sum_calls call w u all none more step xs in
@@ -125,7 +128,8 @@ only_reads (returned g t n ∷ cs) i = absurd i.0
 
 -- ---- a worker that was followed from its beginning
 
-module _ (behaviour : Behaviour) (plan : Roster) (p : Pass) (s : Seat) (w : Working) (f : Followed behaviour plan (begins p s) w) (none_held : w.held ≡ []) where
+module _ (behaviour : Behaviour) (plan : Roster) (p : Pass) (s : Seat) (w : Working) (f : Followed behaviour plan (begins p s) w)
+    (none_held : w.held ≡ []) where
   made_taken : total takes_one f.made ≡ often is_taken f.run
   made_taken = let none : length w.held ≡ 0 = ap length none_held in omega (arith, f.used, none, calls_taken behaviour plan f.run)
 
@@ -141,7 +145,8 @@ module _ (behaviour : Behaviour) (plan : Roster) (p : Pass) (s : Seat) (w : Work
       weaker (took e ∷ cs) g = (opens e g.0, weaker cs g.1)
       weaker (again e ∷ cs) g = (tt, weaker cs g.1)
 
-module _ (behaviour : Behaviour) (l : Line) (plan : IsPlan l) (pass : Pass) (seat : Seat) (r : Ran behaviour l pass seat) (w : EndedWell behaviour l pass seat r) where
+module _ (behaviour : Behaviour) (l : Line) (plan : IsPlan l) (pass : Pass) (seat : Seat) (r : Ran behaviour l pass seat)
+    (w : EndedWell behaviour l pass seat r) where
   abbrev P : Roster
   P = roster_of l
 
@@ -152,7 +157,8 @@ module _ (behaviour : Behaviour) (l : Line) (plan : IsPlan l) (pass : Pass) (sea
   its_run = the_run behaviour l pass seat r
 
   abbrev Good : Envelope → Type 0
-  Good e = IsRunSealed (X behaviour l plan) (form behaviour l plan) (Does behaviour l plan) (order behaviour l plan) (value behaviour l plan) (inner_run behaviour l plan its_run) e
+  Good e = IsRunSealed (X behaviour l plan) (form behaviour l plan) (Does behaviour l plan) (order behaviour l plan) (value behaviour l plan)
+      (inner_run behaviour l plan its_run) e
 
   good_opens : (e : Envelope) → Good e → Opens behaviour P e
   unfolding Opens
@@ -161,21 +167,29 @@ module _ (behaviour : Behaviour) (l : Line) (plan : IsPlan l) (pass : Pass) (sea
   good_by : (p : ℕ) → Each (GoodTake Good) (by p (queue_calls queue))
   good_by p =
       each_by (GoodTake Good) p (queue_calls queue) (queue_takes Good [] [] (seconds (queue_calls queue)) (inner_run behaviour l plan its_run).queue tt tt
-      (each_seconds (GoodPublish Good) (queue_calls queue) (publishes_right (X behaviour l plan) (form behaviour l plan) (Does behaviour l plan) (order behaviour l plan) (value behaviour l plan) (inner_run behaviour l plan its_run))))
+      (each_seconds (GoodPublish Good) (queue_calls queue)
+      (publishes_right (X behaviour l plan) (form behaviour l plan) (Does behaviour l plan) (order behaviour l plan) (value behaviour l plan)
+      (inner_run behaviour l plan its_run))))
 
-  mates_count : (k : ℕ) (ms : List (Mate behaviour P)) → HasQueueCalls behaviour P k ms queue → HasTableCalls behaviour P k ms seat.seen → Each (λ (m : Mate behaviour P). IsDone m.ended) ms → EachCounts queue seat.seen k (map (λ (m : Mate behaviour P). m.ended.tally) ms)
+  mates_count : (k : ℕ) (ms : List (Mate behaviour P)) → HasQueueCalls behaviour P k ms queue → HasTableCalls behaviour P k ms seat.seen
+      → Each (λ (m : Mate behaviour P). IsDone m.ended) ms → EachCounts queue seat.seen k (map (λ (m : Mate behaviour P). m.ended.tally) ms)
   mates_count k [] h t d = tt
   mates_count k (m ∷ ms) h t d =
       let f = m.followed in
       let calls : by k (queue_calls queue) ≡ f.made = queue_by k queue ∙ (ap (λ x. seconds (queue_calls x)) h.0 ∙ queue_entries k f.made) in
-      let replies : by k (table_calls seat.seen) ≡ backend_calls f.run = table_by k seat.seen ∙ (ap (λ x. seconds (table_calls x)) t.0 ∙ table_rows k (backend_calls f.run)) in
+      let replies : by k (table_calls seat.seen) ≡ backend_calls f.run =
+      table_by k seat.seen ∙ (ap (λ x. seconds (table_calls x)) t.0 ∙ table_rows k (backend_calls f.run)) in
       let c = f.counts in
       let lost = taken_kept behaviour P m.pass m.seat m.ended f d.0.1 Good good_opens (subst (λ cs. Each (GoodTake Good) cs) calls (good_by k)) in (
         (
-          same_count (often is_taken f.run) (total takes_one (by k (queue_calls queue))) m.ended.tally.taken c.taken (sym (ap (λ x. total takes_one x) calls ∙ made_taken behaviour P m.pass m.seat m.ended f d.0.1)),
-          same_count (often is_published f.run) (total publishing (by k (queue_calls queue))) m.ended.tally.published c.published (sym (ap (λ x. total publishing x) calls ∙ made_published behaviour P m.pass m.seat m.ended f d.0.1)),
-          same_count (often is_first f.run) (total storing (by k (table_calls seat.seen))) m.ended.tally.first c.first (sym (ap (λ x. total storing x) replies ∙ calls_first behaviour P f.run)),
-          same_count (often is_part f.run) (total returning (by k (table_calls seat.seen))) m.ended.tally.parts c.parts (sym (ap (λ x. total returning x) replies ∙ calls_parts behaviour P f.run)),
+          same_count (often is_taken f.run) (total takes_one (by k (queue_calls queue))) m.ended.tally.taken c.taken
+              (sym (ap (λ x. total takes_one x) calls ∙ made_taken behaviour P m.pass m.seat m.ended f d.0.1)),
+          same_count (often is_published f.run) (total publishing (by k (queue_calls queue))) m.ended.tally.published c.published
+              (sym (ap (λ x. total publishing x) calls ∙ made_published behaviour P m.pass m.seat m.ended f d.0.1)),
+          same_count (often is_first f.run) (total storing (by k (table_calls seat.seen))) m.ended.tally.first c.first
+              (sym (ap (λ x. total storing x) replies ∙ calls_first behaviour P f.run)),
+          same_count (often is_part f.run) (total returning (by k (table_calls seat.seen))) m.ended.tally.parts c.parts
+              (sym (ap (λ x. total returning x) replies ∙ calls_parts behaviour P f.run)),
           no_count (often (is_dropped P) f.run) m.ended.tally.dropped c.dropped lost,
         ),
         mates_count (suc k) ms h.1 t.1 d.1,
@@ -195,22 +209,31 @@ module _ (behaviour : Behaviour) (l : Line) (plan : IsPlan l) (pass : Pass) (sea
       let sends = publishing_all (map sealed r.opening) ∙ mapped r.opening in
       let reads = only_reads r.closing r.closes in
       let all_taken : total takes_one (by 0 (queue_calls queue)) ≡ often is_taken f.run =
-      ap (λ x. total takes_one x) calls ∙ (total-append takes_one before f.made ∙ (let k = made_taken behaviour P r.pass_joined r.seat_joined r.own f w.own.1 in omega (arith, k, none))) in
+      ap (λ x. total takes_one x) calls
+      ∙ (total-append takes_one before f.made ∙ (let k = made_taken behaviour P r.pass_joined r.seat_joined r.own f w.own.1 in omega (arith, k, none))) in
       let all_sent : total publishing (by 0 (queue_calls queue)) ≡ length r.opening + often is_published f.run =
-      ap (λ x. total publishing x) calls ∙ (total-append publishing before f.made ∙ (let k = made_published behaviour P r.pass_joined r.seat_joined r.own f w.own.1 in omega (arith, k, sends))) in
+      ap (λ x. total publishing x) calls
+      ∙ (total-append publishing before f.made ∙ (let k = made_published behaviour P r.pass_joined r.seat_joined r.own f w.own.1 in
+      omega (arith, k, sends))) in
       let all_first : total storing (by 0 (table_calls seat.seen)) ≡ often is_first f.run =
-      ap (λ x. total storing x) replies ∙ (total-append storing (backend_calls f.run) r.closing ∙ (let k = calls_first behaviour P f.run in let z = reads.0 in omega (arith, k, z))) in
+      ap (λ x. total storing x) replies
+      ∙ (total-append storing (backend_calls f.run) r.closing ∙ (let k = calls_first behaviour P f.run in let z = reads.0 in omega (arith, k, z))) in
       let all_parts : total returning (by 0 (table_calls seat.seen)) ≡ often is_part f.run =
-      ap (λ x. total returning x) replies ∙ (total-append returning (backend_calls f.run) r.closing ∙ (let k = calls_parts behaviour P f.run in let z = reads.1 in omega (arith, k, z))) in
+      ap (λ x. total returning x) replies
+      ∙ (total-append returning (backend_calls f.run) r.closing ∙ (let k = calls_parts behaviour P f.run in let z = reads.1 in omega (arith, k, z))) in
       let lost = taken_kept behaviour P r.pass_joined r.seat_joined r.own f w.own.1 Good good_opens
       (each_right (GoodTake Good) before f.made (subst (λ cs. Each (GoodTake Good) cs) calls (good_by 0))) in (
-        subst (λ n. CountsMore 0 (total takes_one (by 0 (queue_calls queue))) n) (sym o.0) (same_count (often is_taken f.run) (total takes_one (by 0 (queue_calls queue))) r.own.tally.taken c.taken (sym all_taken)),
+        subst (λ n. CountsMore 0 (total takes_one (by 0 (queue_calls queue))) n) (sym o.0)
+            (same_count (often is_taken f.run) (total takes_one (by 0 (queue_calls queue))) r.own.tally.taken c.taken (sym all_taken)),
         same_count (length r.opening + often is_published f.run) (total publishing (by 0 (queue_calls queue))) t.published
             (more_sent (length r.opening) (often is_published f.run) r.own.tally.published t.published c.published o.1) (sym all_sent),
-        subst (λ n. CountsMore 0 (total storing (by 0 (table_calls seat.seen))) n) (sym o.2) (same_count (often is_first f.run) (total storing (by 0 (table_calls seat.seen))) r.own.tally.first c.first (sym all_first)),
-        subst (λ n. CountsMore 0 (total returning (by 0 (table_calls seat.seen))) n) (sym o.3) (same_count (often is_part f.run) (total returning (by 0 (table_calls seat.seen))) r.own.tally.parts c.parts (sym all_parts)),
+        subst (λ n. CountsMore 0 (total storing (by 0 (table_calls seat.seen))) n) (sym o.2)
+            (same_count (often is_first f.run) (total storing (by 0 (table_calls seat.seen))) r.own.tally.first c.first (sym all_first)),
+        subst (λ n. CountsMore 0 (total returning (by 0 (table_calls seat.seen))) n) (sym o.3)
+            (same_count (often is_part f.run) (total returning (by 0 (table_calls seat.seen))) r.own.tally.parts c.parts (sym all_parts)),
         o.4 ∙ no_count (often (is_dropped P) f.run) r.own.tally.dropped c.dropped lost,
       )
 
-  pub tallies_count : (own : Tally) → OwnTally behaviour l pass seat r own → EachCounts queue seat.seen 0 (own ∷ map (λ (m : Mate behaviour P). m.ended.tally) r.mates)
+  pub tallies_count : (own : Tally) → OwnTally behaviour l pass seat r own
+      → EachCounts queue seat.seen 0 (own ∷ map (λ (m : Mate behaviour P). m.ended.tally) r.mates)
   tallies_count own o = (own_counts own o, mates_count 1 r.mates (passes behaviour l pass seat r).1.each (seats behaviour l pass seat r).each w.each)

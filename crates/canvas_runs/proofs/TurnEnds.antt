@@ -81,17 +81,23 @@ module _ (behaviour : Behaviour) (l : Line) (n : ℕ) (us : List ℕ) (xs : List
       let firsts : Each (IsWorker n) (whole ts) = each_left (IsWorker n) (whole ts) vs workers in
       let cut = turned_part behaviour l n [] (whole ts) vs xs (subst (λ z. Turned behaviour l n [] z xs) e t.turned) in
       let parts = turned_part behaviour l n [] ts (rounds n (2 * busy)) cut.0 cut.3 in
-      let before = holds_turned behaviour l t.plan t.opens_back n [] ts parts.0 (each_left (IsWorker n) ts (rounds n (2 * busy)) firsts) (holds_first behaviour l t.plan t.opens_back n) parts.3 in
-      let rotation : Turned behaviour l n parts.0 (some_pairs busy) parts.1 = subst (λ z. Turned behaviour l n parts.0 z parts.1) (ap (rounds n) (sym (twice_is busy)) ∙ two_rounds busy) parts.4 in
-      let sums : calls_in behaviour l xs ≡ calls_in behaviour l cut.0 + calls_in behaviour l cut.1 = ap (calls_in behaviour l) cut.2 ∙ total-append (λ x. calls_of behaviour l x.1) cut.0 cut.1 in
-      let parted : calls_in behaviour l cut.0 ≡ calls_in behaviour l parts.0 + calls_in behaviour l parts.1 = ap (calls_in behaviour l) parts.2 ∙ total-append (λ x. calls_of behaviour l x.1) parts.0 parts.1 in
+      let before = holds_turned behaviour l t.plan t.opens_back n [] ts parts.0 (each_left (IsWorker n) ts (rounds n (2 * busy)) firsts)
+      (holds_first behaviour l t.plan t.opens_back n) parts.3 in
+      let rotation : Turned behaviour l n parts.0 (some_pairs busy) parts.1 =
+      subst (λ z. Turned behaviour l n parts.0 z parts.1) (ap (rounds n) (sym (twice_is busy)) ∙ two_rounds busy) parts.4 in
+      let sums : calls_in behaviour l xs ≡ calls_in behaviour l cut.0 + calls_in behaviour l cut.1 =
+      ap (calls_in behaviour l) cut.2 ∙ total-append (λ x. calls_of behaviour l x.1) cut.0 cut.1 in
+      let parted : calls_in behaviour l cut.0 ≡ calls_in behaviour l parts.0 + calls_in behaviour l parts.1 =
+      ap (calls_in behaviour l) parts.2 ∙ total-append (λ x. calls_of behaviour l x.1) parts.0 parts.1 in
       let lengths : length xs ≡ length cut.0 + length cut.1 = ap length cut.2 ∙ length-append cut.0 cut.1 in
       let fewer = few_steps behaviour l n [] (whole ts) cut.0 cut.3 in
-      let copies : redeliveries_in xs ≡ redeliveries_in cut.0 + redeliveries_in cut.1 = ap redeliveries_in cut.2 ∙ total-append (λ (x : Step). redelivers_one x.1.0) cut.0 cut.1 in
+      let copies : redeliveries_in xs ≡ redeliveries_in cut.0 + redeliveries_in cut.1 =
+      ap redeliveries_in cut.2 ∙ total-append (λ (x : Step). redelivers_one x.1.0) cut.0 cut.1 in
       let sound = holds_turned behaviour l t.plan t.opens_back n [] (whole ts) cut.0 firsts (holds_first behaviour l t.plan t.opens_back n) cut.3 in
       ⊎_elim
       (λ done.
-      let stop = none_further behaviour l t.plan t.opens_back n cut.0 vs cut.1 sound (subst (AllEnded behaviour l n) (sym parts.2) done) (each_right (IsWorker n) (whole ts) vs workers) cut.4 in
+      let stop = none_further behaviour l t.plan t.opens_back n cut.0 vs cut.1 sound (subst (AllEnded behaviour l n) (sym parts.2) done)
+      (each_right (IsWorker n) (whole ts) vs workers) cut.4 in
       let none : length cut.1 ≡ 0 = ap length stop in
       omega (arith, lengths, none, fewer, copies))
       (λ many. absurd (let few = few_calls behaviour l n us xs t in omega (arith, many, few, sums, parted)))
@@ -103,15 +109,19 @@ module _ (behaviour : Behaviour) (l : Line) (n : ℕ) (us : List ℕ) (xs : List
     where
       too_few : k < 2 * busy → ⊥
       too_few less =
-          let a : length us + length rest ≡ length ts + k * n = sym (length-append us rest) ∙ (ap length e ∙ (length-append ts (rounds n k) ∙ ap (λ m. length ts + m) (rounds_length n k))) in
-          let b : length (whole ts) ≡ length ts + 2 * busy * n = length-append ts (rounds n (2 * busy)) ∙ ap (λ m. length ts + m) (rounds_length n (2 * busy)) in
+          let a : length us + length rest ≡ length ts + k * n =
+          sym (length-append us rest) ∙ (ap length e ∙ (length-append ts (rounds n k) ∙ ap (λ m. length ts + m) (rounds_length n k))) in
+          let b : length (whole ts) ≡ length ts + 2 * busy * n =
+          length-append ts (rounds n (2 * busy)) ∙ ap (λ m. length ts + m) (rounds_length n (2 * busy)) in
           let c : suc k * n ≤ 2 * busy * n = mul-le-mul_right n less in
           omega (arith, a, b, c, suc-mul k n, h, some)
 
       further : 2 * busy ≤ k → (vs : List ℕ) × (us ≡ whole ts ++ vs)
       further more =
           let count : k ≡ 2 * busy + (k - 2 * busy) = omega (arith, more) in
-          goes_on us (whole ts) rest (rounds n (k - 2 * busy)) (e ∙ (ap (λ j. ts ++ rounds n j) count ∙ (ap (λ g. ts ++ g) (rounds_more n (2 * busy) (k - 2 * busy)) ∙ sym (append_assoc ts (rounds n (2 * busy)) (rounds n (k - 2 * busy)))))) h
+          goes_on us (whole ts) rest (rounds n (k - 2 * busy))
+          (e ∙ (ap (λ j. ts ++ rounds n j) count
+          ∙ (ap (λ g. ts ++ g) (rounds_more n (2 * busy) (k - 2 * busy)) ∙ sym (append_assoc ts (rounds n (2 * busy)) (rounds n (k - 2 * busy)))))) h
 
   pub few : (ts : List ℕ) → Begins us ts n → length xs ≤ most_steps l n (length ts) (redeliveries_in xs)
   few ts (k, rest, e) =
@@ -120,8 +130,11 @@ module _ (behaviour : Behaviour) (l : Line) (n : ℕ) (us : List ℕ) (xs : List
       (λ long. let m = more_turns ts rest k e long in let a = all_done ts m.0 m.1 in omega (arith, a, same)) (cases_lt (length us) (length (whole ts)))
 
 module _ (behaviour : Behaviour) where
-  pub stops_soon : (l : Line) → IsPlan l → (n : ℕ) (ts : List ℕ) (most : ℕ) → 1 ≤ n → Each (IsWorker n) ts → RanUntil behaviour l n ts most → most ≤ most_steps l n (length ts) 0
-  stops_soon l plan n ts most some w r = let a = few behaviour l n r.turns r.steps (until_turns behaviour l plan n ts most w r) some ts r.begin in let b : most_steps l n (length ts) (redeliveries_in r.steps) ≡ most_steps l n (length ts) 0 = ap (most_steps l n (length ts)) r.plain in omega (arith, a, b, r.many)
+  pub stops_soon : (l : Line) → IsPlan l → (n : ℕ) (ts : List ℕ) (most : ℕ) → 1 ≤ n → Each (IsWorker n) ts → RanUntil behaviour l n ts most
+      → most ≤ most_steps l n (length ts) 0
+  stops_soon l plan n ts most some w r = let a = few behaviour l n r.turns r.steps (until_turns behaviour l plan n ts most w r) some ts r.begin in
+      let b : most_steps l n (length ts) (redeliveries_in r.steps) ≡ most_steps l n (length ts) 0 = ap (most_steps l n (length ts)) r.plain in
+      omega (arith, a, b, r.many)
 
 pub steps_fit : (l : Line) (n k again : ℕ) → count_line l < 2 ^ 32 → n ≤ 16 → k < 2 ^ 64 → again < 2 ^ 64 → most_steps l n k again < 2 ^ 127
 steps_fit l n k again tasks workers listed some =
@@ -162,5 +175,6 @@ begins_rotation n k i ts h =
     let r = round_begins n i h in (
       suc k,
       r.0,
-      append_assoc (ts ++ rounds n k) (round i) r.0 ∙ (ap (λ l. (ts ++ rounds n k) ++ l) r.1 ∙ (append_assoc ts (rounds n k) (round n) ∙ ap (λ l. ts ++ l) (sym (rounds_next n k)))),
+      append_assoc (ts ++ rounds n k) (round i) r.0
+          ∙ (ap (λ l. (ts ++ rounds n k) ++ l) r.1 ∙ (append_assoc ts (rounds n k) (round n) ∙ ap (λ l. ts ++ l) (sym (rounds_next n k)))),
     )

@@ -104,10 +104,12 @@ module _ (behaviour : Behaviour) (l : Line) (n : ℕ) (us : List ℕ) (xs : List
   }
 
   pub rows_may : (k : ℕ) → ((results_after xs).outcomes k ≡ None) ⊎ ((results_after xs).outcomes k ≡ its_state behaviour l k)
-  rows_may k = subst (λ s. (s.outcomes k ≡ None) ⊎ (s.outcomes k ≡ its_state behaviour l k)) holds.lawful.table_is ((first_part behaviour l t.plan the_run).rows k)
+  rows_may k = subst (λ s. (s.outcomes k ≡ None) ⊎ (s.outcomes k ≡ its_state behaviour l k)) holds.lawful.table_is
+      ((first_part behaviour l t.plan the_run).rows k)
 
   pub rows_are : 1 ≤ n → AllEnded behaviour l n xs → (k : ℕ) → (results_after xs).outcomes k ≡ its_state behaviour l k
-  rows_are some all k = subst (λ s. s.outcomes k ≡ its_state behaviour l k) holds.lawful.table_is ((second_part behaviour l t.plan the_run (the_closed some all)).rows k)
+  rows_are some all k = subst (λ s. s.outcomes k ≡ its_state behaviour l k) holds.lawful.table_is
+      ((second_part behaviour l t.plan the_run (the_closed some all)).rows k)
 
   -- ---- outcomes
 
@@ -124,15 +126,19 @@ module _ (behaviour : Behaviour) (l : Line) (n : ℕ) (us : List ℕ) (xs : List
       let some = (member_test k (members (roster_of l) g)).0 (among_members k (members (roster_of l) g) i) in
       (roster_sound l t.plan).known g k (omega (arith, some))
 
-  answerable : AnswersInRange behaviour → (p : ℕ) (s : Doing (worker behaviour l)) → Good behaviour l t.plan s → Ready behaviour l t.plan n xs p s → Answerable (roster_of l) xs (ask (worker behaviour l) s)
+  answerable : AnswersInRange behaviour → (p : ℕ) (s : Doing (worker behaviour l)) → Good behaviour l t.plan s → Ready behaviour l t.plan n xs p s
+      → Answerable (roster_of l) xs (ask (worker behaviour l) s)
   answerable ranged p taking good k = tt
   answerable ranged p resting good k = tt
   answerable ranged p over good k = tt
   answerable ranged p failed good k = tt
   answerable ranged p (owning m) good k =
-      let has = (right_closed (X behaviour l t.plan) (form behaviour l t.plan) (Does behaviour l t.plan) (order behaviour l t.plan) (value behaviour l t.plan)).own m good in
-      let s = has_state behaviour l t.plan ((worker behaviour l).no m) ((worker behaviour l).outcome m) has in
-      ((state_task behaviour l t.plan ((worker behaviour l).no m) ((worker behaviour l).outcome m) s).1, state_range behaviour l t.plan ranged ((worker behaviour l).no m) ((worker behaviour l).outcome m) s)
+      let has = (right_closed (X behaviour l t.plan) (form behaviour l t.plan) (Does behaviour l t.plan) (order behaviour l t.plan)
+      (value behaviour l t.plan)).own m good in
+      let s = has_state behaviour l t.plan ((worker behaviour l).no m) ((worker behaviour l).outcome m) has in (
+        (state_task behaviour l t.plan ((worker behaviour l).no m) ((worker behaviour l).outcome m) s).1,
+        state_range behaviour l t.plan ranged ((worker behaviour l).no m) ((worker behaviour l).outcome m) s,
+      )
   answerable ranged p (doing [] b) good k = tt
   answerable ranged p (doing (store u o ∷ js) b) good k =
       let s = has_state behaviour l t.plan u o (good.0.0, good.0.2) in
@@ -141,7 +147,8 @@ module _ (behaviour : Behaviour) (l : Line) (n : ℕ) (us : List ℕ) (xs : List
   answerable ranged p (doing (hand_in g u c ∷ js) b) good k =
       let may = part_may behaviour l t.plan n xs p (doing (hand_in g u c ∷ js) b) holds.lawful.table_is good k in
       let first = may.2 in
-      let held = was_in behaviour l t.plan (table_log behaviour l n xs) u first.outcome (record { before = first.before; rest = first.rest; caller = first.caller; is = first.is }) in (
+      let held = was_in behaviour l t.plan (table_log behaviour l n xs) u first.outcome
+      (record { before = first.before; rest = first.rest; caller = first.caller; is = first.is }) in (
         may.0,
         may.1,
         not_none ((results_after xs).outcomes u) held.0 (ap (λ s. s.outcomes u) (sym holds.lawful.table_is) ∙ held.1),
@@ -177,15 +184,18 @@ module _ (behaviour : Behaviour) (l : Line) (n : ℕ) (us : List ℕ) (xs : List
   its_rows = ap (λ k. map (its_state behaviour l) (numbers_from 1 k)) (sym (count_elements l))
 
   pub states_are : 1 ≤ n → AllEnded behaviour l n xs → held_rows l xs ≡ states behaviour (tree_of l)
-  states_are some all = map_same (results_after xs).outcomes (its_state behaviour l) (rows_are behaviour l n us xs t some all) (numbers_from 1 (count_line l)) ∙ its_rows
+  states_are some all = map_same (results_after xs).outcomes (its_state behaviour l) (rows_are behaviour l n us xs t some all) (numbers_from 1 (count_line l))
+      ∙ its_rows
 
   pub states_may : EachMay (held_rows l xs) (states behaviour (tree_of l))
-  states_may = subst (EachMay (held_rows l xs)) its_rows (map_may (results_after xs).outcomes (its_state behaviour l) (rows_may behaviour l n us xs t) (numbers_from 1 (count_line l)))
+  states_may = subst (EachMay (held_rows l xs)) its_rows
+      (map_may (results_after xs).outcomes (its_state behaviour l) (rows_may behaviour l n us xs t) (numbers_from 1 (count_line l)))
 
 -- ---- lists of turns with the rotation behind them
 
 module _ (behaviour : Behaviour) where
-  pub whole_turns : (l : Line) → IsPlan l → (n : ℕ) (ts : List ℕ) → Each (IsWorker n) ts → (r : RanWhole behaviour l n ts) → ByTurns behaviour l n r.turns r.steps
+  pub whole_turns : (l : Line) → IsPlan l → (n : ℕ) (ts : List ℕ) → Each (IsWorker n) ts → (r : RanWhole behaviour l n ts)
+      → ByTurns behaviour l n r.turns r.steps
   whole_turns l plan n ts w r = record {
     plan = plan;
     opens_back = r.opens_back;
@@ -193,10 +203,12 @@ module _ (behaviour : Behaviour) where
     turned = r.turned;
   }
 
-  pub until_turns : (l : Line) → IsPlan l → (n : ℕ) (ts : List ℕ) (most : ℕ) → Each (IsWorker n) ts → (r : RanUntil behaviour l n ts most) → ByTurns behaviour l n r.turns r.steps
+  pub until_turns : (l : Line) → IsPlan l → (n : ℕ) (ts : List ℕ) (most : ℕ) → Each (IsWorker n) ts → (r : RanUntil behaviour l n ts most)
+      → ByTurns behaviour l n r.turns r.steps
   until_turns l plan n ts most w r = record {
     plan = plan;
     opens_back = r.opens_back;
-    workers = each_left (IsWorker n) r.turns r.begin.1 (subst (Each (IsWorker n)) (sym r.begin.2) (each_append (IsWorker n) ts (rounds n r.begin.0) w (rounds_workers n r.begin.0)));
+    workers = each_left (IsWorker n) r.turns r.begin.1
+        (subst (Each (IsWorker n)) (sym r.begin.2) (each_append (IsWorker n) ts (rounds n r.begin.0) w (rounds_workers n r.begin.0)));
     turned = r.turned;
   }

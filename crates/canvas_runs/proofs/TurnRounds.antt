@@ -62,7 +62,8 @@ module _ (behaviour : Behaviour) (l : Line) where
     takes_none : Quiet taking (taken None)
     rests_on : {b : Bool} → Quiet resting (rested b)
 
-  pub quiet_step : (n : ℕ) (xs : List Step) (s : Doing (worker behaviour l)) (r : Reply Envelope Outcome) → Answers behaviour l n xs (ask (worker behaviour l) s) r → calls_of behaviour l (ask (worker behaviour l) s, r) ≡ 0 → Quiet s r
+  pub quiet_step : (n : ℕ) (xs : List Step) (s : Doing (worker behaviour l)) (r : Reply Envelope Outcome)
+      → Answers behaviour l n xs (ask (worker behaviour l) s) r → calls_of behaviour l (ask (worker behaviour l) s, r) ≡ 0 → Quiet s r
   quiet_step n xs taking (taken None) h z = takes_none
   quiet_step n xs taking (taken (Some e)) h z = absurd (omega (arith, z))
   quiet_step n xs resting (rested b) h z = rests_on
@@ -74,13 +75,15 @@ module _ (behaviour : Behaviour) (l : Line) where
   quiet_step n xs acking acked h z = absurd (omega (arith, z))
   quiet_step n xs s r h z = elim h [ ]
 
-  quiet_outside : (s : Doing (worker behaviour l)) (r : Reply Envelope Outcome) → Quiet s r → (is_inside s ≡ false) × (is_inside (answered (worker behaviour l) s r) ≡ false)
+  quiet_outside : (s : Doing (worker behaviour l)) (r : Reply Envelope Outcome) → Quiet s r
+      → (is_inside s ≡ false) × (is_inside (answered (worker behaviour l) s r) ≡ false)
   quiet_outside taking (taken None) takes_none = (refl, refl)
   quiet_outside resting (rested true) rests_on = (refl, refl)
   quiet_outside resting (rested false) rests_on = (refl, refl)
   quiet_outside s r q = elim q [ ]
 
-  quiet_queue : (q : List Envelope) (n : ℕ) (xs : List Step) (s : Doing (worker behaviour l)) (r : Reply Envelope Outcome) → Quiet s r → queue_after l xs ≡ q → Answers behaviour l n xs (ask (worker behaviour l) s) r → queue_next q (ask (worker behaviour l) s) ≡ q
+  quiet_queue : (q : List Envelope) (n : ℕ) (xs : List Step) (s : Doing (worker behaviour l)) (r : Reply Envelope Outcome) → Quiet s r → queue_after l xs ≡ q
+      → Answers behaviour l n xs (ask (worker behaviour l) s) r → queue_next q (ask (worker behaviour l) s) ≡ q
   quiet_queue [] n xs taking (taken None) takes_none e h = refl
   quiet_queue (x ∷ q) n xs taking (taken None) takes_none e h = absurd (let wrong : None ≡ Some x = h ∙ ap (λ z. broker.answer z broker.take) e in cc)
   quiet_queue q n xs resting (rested b) rests_on e h = refl
@@ -127,27 +130,36 @@ module _ (behaviour : Behaviour) (l : Line) where
       pub quiet : Quiet (left behaviour l xs p) r
       pub answers : Answers behaviour l n xs (ask (worker behaviour l) (left behaviour l xs p)) r
 
-    first_of : (xs : List Step) (p : ℕ) (a : Ask Envelope Outcome) (r : Reply Envelope Outcome) (k : ℕ) → a ≡ ask (worker behaviour l) (left behaviour l xs p) → Answers behaviour l n xs a r → calls_of behaviour l (a, r) + k ≡ 0 → First xs p r
+    first_of : (xs : List Step) (p : ℕ) (a : Ask Envelope Outcome) (r : Reply Envelope Outcome) (k : ℕ) → a ≡ ask (worker behaviour l) (left behaviour l xs p)
+        → Answers behaviour l n xs a r → calls_of behaviour l (a, r) + k ≡ 0 → First xs p r
     first_of xs p a r k e h z =
         let here : calls_of behaviour l (a, r) ≡ 0 = omega (arith, z) in
         record {
-          quiet = quiet_step n xs (left behaviour l xs p) r (subst (λ y. Answers behaviour l n xs y r) e h) (subst (λ y. calls_of behaviour l (y, r) ≡ 0) e here);
+          quiet = quiet_step n xs (left behaviour l xs p) r (subst (λ y. Answers behaviour l n xs y r) e h)
+              (subst (λ y. calls_of behaviour l (y, r) ≡ 0) e here);
           answers = subst (λ y. Answers behaviour l n xs y r) e h;
         }
 
-    left_after_one : (xs : List Step) (p : ℕ) (a : Ask Envelope Outcome) (r : Reply Envelope Outcome) (q : ℕ) → q ≡ p → a ≡ ask (worker behaviour l) (left behaviour l xs p) → left behaviour l (xs ++ (p, (a, r)) ∷ []) q ≡ answered (worker behaviour l) (left behaviour l xs p) r
-    left_after_one xs p a r q same e = ap (left behaviour l (xs ++ (p, (a, r)) ∷ [])) same ∙ left_here behaviour l xs p a r (ap of_scripts e ∙ asks_of_scripts (worker behaviour l) (left behaviour l xs p))
+    left_after_one : (xs : List Step) (p : ℕ) (a : Ask Envelope Outcome) (r : Reply Envelope Outcome) (q : ℕ) → q ≡ p
+        → a ≡ ask (worker behaviour l) (left behaviour l xs p)
+        → left behaviour l (xs ++ (p, (a, r)) ∷ []) q ≡ answered (worker behaviour l) (left behaviour l xs p) r
+    left_after_one xs p a r q same e = ap (left behaviour l (xs ++ (p, (a, r)) ∷ [])) same
+        ∙ left_here behaviour l xs p a r (ap of_scripts e ∙ asks_of_scripts (worker behaviour l) (left behaviour l xs p))
 
-    queue_same : (xs : List Step) (p : ℕ) (a : Ask Envelope Outcome) (r : Reply Envelope Outcome) → a ≡ ask (worker behaviour l) (left behaviour l xs p) → First xs p r → queue_after l (xs ++ (p, (a, r)) ∷ []) ≡ queue_after l xs
+    queue_same : (xs : List Step) (p : ℕ) (a : Ask Envelope Outcome) (r : Reply Envelope Outcome) → a ≡ ask (worker behaviour l) (left behaviour l xs p)
+        → First xs p r → queue_after l (xs ++ (p, (a, r)) ∷ []) ≡ queue_after l xs
     queue_same xs p a r e f =
-        queue_more (map sealed (first_messages l)) xs (p, (a, r)) ∙ (ap (queue_next (queue_after l xs)) e ∙ quiet_queue (queue_after l xs) n xs (left behaviour l xs p) r f.quiet refl f.answers)
+        queue_more (map sealed (first_messages l)) xs (p, (a, r))
+        ∙ (ap (queue_next (queue_after l xs)) e ∙ quiet_queue (queue_after l xs) n xs (left behaviour l xs p) r f.quiet refl f.answers)
 
     -- ---- whoever has a turn without a call is outside of scripts
 
-    outside : (before : List Step) (us : List ℕ) (ys : List Step) → Sound before → Each (IsWorker n) us → Turned behaviour l n before us ys → calls_in behaviour l ys ≡ 0 → Each (λ p. is_inside (left behaviour l before p) ≡ false) us
+    outside : (before : List Step) (us : List ℕ) (ys : List Step) → Sound before → Each (IsWorker n) us → Turned behaviour l n before us ys
+        → calls_in behaviour l ys ≡ 0 → Each (λ p. is_inside (left behaviour l before p) ≡ false) us
     outside before [] ys s w t z = tt
     outside before (p ∷ us) (x ∷ ys) s w (delivers_again i h t) z = absurd (omega (arith, z))
-    outside before (p ∷ us) ys s w (skips_turn e t) z = (ap is_inside (ended_over behaviour l plan back n before p (left behaviour l before p) (s.ready p w.0) e), outside before us ys s w.1 t z)
+    outside before (p ∷ us) ys s w (skips_turn e t) z =
+        (ap is_inside (ended_over behaviour l plan back n before p (left behaviour l before p) (s.ready p w.0) e), outside before us ys s w.1 t z)
     outside before (p ∷ us) ((q, (a, r)) ∷ ys) s w (takes_turn b e h t) z =
         let f = first_of before q a r (calls_in behaviour l ys) e h z in
         let out = (quiet_outside (left behaviour l before q) r f.quiet).0 in (
@@ -166,7 +178,9 @@ module _ (behaviour : Behaviour) (l : Line) where
     more_false : (xs : List Step) (b : Bool) → Idle behaviour l n xs → b ≡ holds_more behaviour l n xs → b ≡ false
     more_false xs b i e = e ∙ idle_more behaviour l n xs i
 
-    own_nearer : (xs : List Step) (s : Doing (worker behaviour l)) (r : Reply Envelope Outcome) → Idle behaviour l n xs → Quiet s r → Answers behaviour l n xs (ask (worker behaviour l) s) r → (k j : ℕ) → (k + j ≤ rank (answered (worker behaviour l) s r)) ⊎ (k ≡ 0) → (k + (1 + j) ≤ rank s) ⊎ (k ≡ 0)
+    own_nearer : (xs : List Step) (s : Doing (worker behaviour l)) (r : Reply Envelope Outcome) → Idle behaviour l n xs → Quiet s r
+        → Answers behaviour l n xs (ask (worker behaviour l) s) r → (k j : ℕ) → (k + j ≤ rank (answered (worker behaviour l) s r)) ⊎ (k ≡ 0)
+        → (k + (1 + j) ≤ rank s) ⊎ (k ≡ 0)
     own_nearer xs taking (taken None) i takes_none h k j (inl e) = inl (omega (arith, e))
     own_nearer xs taking (taken None) i takes_none h k j (inr e) = inr e
     own_nearer xs resting (rested true) i rests_on h k j e = absurd (false≢true (sym (more_false xs true i h)))
@@ -174,14 +188,18 @@ module _ (behaviour : Behaviour) (l : Line) where
     own_nearer xs resting (rested false) i rests_on h k j (inr e) = inr e
     own_nearer xs s r i q h k j e = elim q [ ]
 
-    nearer : (before : List Step) (us : List ℕ) (ys : List Step) → Sound before → Idle behaviour l n before → Each (IsWorker n) us → Turned behaviour l n before us ys → calls_in behaviour l ys ≡ 0 → (p : ℕ) → Nearer before us (before ++ ys) p
-    nearer before [] [] s i w all_taken z p = inl (let same : rank (left behaviour l (before ++ []) p) ≡ rank (left behaviour l before p) = ap (λ xs. rank (left behaviour l xs p)) (append-nil before) in omega (arith, same))
+    nearer : (before : List Step) (us : List ℕ) (ys : List Step) → Sound before → Idle behaviour l n before → Each (IsWorker n) us
+        → Turned behaviour l n before us ys → calls_in behaviour l ys ≡ 0 → (p : ℕ) → Nearer before us (before ++ ys) p
+    nearer before [] [] s i w all_taken z p =
+        inl (let same : rank (left behaviour l (before ++ []) p) ≡ rank (left behaviour l before p) = ap (λ xs. rank (left behaviour l xs p))
+        (append-nil before) in omega (arith, same))
     nearer before us (x ∷ ys) s i w (delivers_again j h t) z p = absurd (omega (arith, z))
     nearer before (q ∷ us) ys s i w (skips_turn e t) z p =
         let rest = nearer before us ys s i w.1 t z p in
         elim (cases_eq q p) [
           | inl same ↦
-              let none : rank (left behaviour l before p) ≡ 0 = ap (λ v. rank (left behaviour l before v)) (sym same) ∙ ap rank (ended_over behaviour l plan back n before q (left behaviour l before q) (s.ready q w.0) e) in
+              let none : rank (left behaviour l before p) ≡ 0 = ap (λ v. rank (left behaviour l before v)) (sym same)
+              ∙ ap rank (ended_over behaviour l plan back n before q (left behaviour l before q) (s.ready q w.0) e) in
               inr (⊎_elim (λ a. omega (arith, a, none)) (λ b. b) rest)
           | inr apart ↦ let k = not_here p q us apart in ⊎_elim (λ a. inl (omega (arith, a, k))) (λ b. inr b) rest
         ]
@@ -189,13 +207,16 @@ module _ (behaviour : Behaviour) (l : Line) where
         let f = first_of before q a r (calls_in behaviour l ys) e h z in
         let next : List Step = before ++ (q, (a, r)) ∷ [] in
         let stays = subst (λ y. Idle behaviour l n (before ++ (q, (y, r)) ∷ [])) (sym e) (idle_stays behaviour l plan back n before s q w.0 r b f.answers i) in
-        let rest = subst (λ xs. Nearer next us xs p) (append_assoc before ((q, (a, r)) ∷ []) ys) (nearer next us ys (holds_step behaviour l plan back n before q a r s w.0 b e h) stays w.1 t (omega (arith, z)) p) in
+        let rest = subst (λ xs. Nearer next us xs p) (append_assoc before ((q, (a, r)) ∷ []) ys)
+        (nearer next us ys (holds_step behaviour l plan back n before q a r s w.0 b e h) stays w.1 t (omega (arith, z)) p) in
         elim (cases_eq q p) [
           | inl same ↦
-              let mine : rank (left behaviour l next p) ≡ rank (answered (worker behaviour l) (left behaviour l before q) r) = ap rank (left_after_one before q a r p (sym same) e) in
+              let mine : rank (left behaviour l next p) ≡ rank (answered (worker behaviour l) (left behaviour l before q) r) =
+              ap rank (left_after_one before q a r p (sym same) e) in
               let then : rank (left behaviour l before q) ≡ rank (left behaviour l before p) = ap (λ u. rank (left behaviour l before u)) same in
               let k = here p q us same in
-              let one = own_nearer before (left behaviour l before q) r i f.quiet f.answers (rank (left behaviour l (before ++ (q, (a, r)) ∷ ys) p)) (turns_of p us) (⊎_elim (λ c. inl (omega (arith, c, mine))) (λ c. inr c) rest) in
+              let one = own_nearer before (left behaviour l before q) r i f.quiet f.answers (rank (left behaviour l (before ++ (q, (a, r)) ∷ ys) p))
+              (turns_of p us) (⊎_elim (λ c. inl (omega (arith, c, mine))) (λ c. inr c) rest) in
               ⊎_elim (λ c. inl (omega (arith, c, k, then))) (λ c. inr c) one
           | inr apart ↦
               let same : rank (left behaviour l next p) ≡ rank (left behaviour l before p) = ap rank (left_other behaviour l before p q a r apart) in
@@ -212,13 +233,15 @@ module _ (behaviour : Behaviour) (l : Line) where
     none_queued [] e h = cc
     none_queued (x ∷ q) e h = cc
 
-    own_waits : (xs : List Step) (s : Doing (worker behaviour l)) (r : Reply Envelope Outcome) → is_queued (queue_after l xs) ≡ true → Quiet s r → Answers behaviour l n xs (ask (worker behaviour l) s) r → (j : ℕ) → j ≤ waits (answered (worker behaviour l) s r) → 1 + j ≤ waits s
+    own_waits : (xs : List Step) (s : Doing (worker behaviour l)) (r : Reply Envelope Outcome) → is_queued (queue_after l xs) ≡ true → Quiet s r
+        → Answers behaviour l n xs (ask (worker behaviour l) s) r → (j : ℕ) → j ≤ waits (answered (worker behaviour l) s r) → 1 + j ≤ waits s
     own_waits xs taking (taken None) i takes_none h j e = absurd (none_queued (queue_after l xs) i h)
     own_waits xs resting (rested true) i rests_on h j e = omega (arith, e)
     own_waits xs resting (rested false) i rests_on h j e = absurd (false≢true (more_true xs false i h))
     own_waits xs s r i q h j e = elim q [ ]
 
-    waiting : (before : List Step) (us : List ℕ) (ys : List Step) → Sound before → is_queued (queue_after l before) ≡ true → Each (IsWorker n) us → Turned behaviour l n before us ys → calls_in behaviour l ys ≡ 0 → (p : ℕ) → turns_of p us ≤ waits (left behaviour l before p)
+    waiting : (before : List Step) (us : List ℕ) (ys : List Step) → Sound before → is_queued (queue_after l before) ≡ true → Each (IsWorker n) us
+        → Turned behaviour l n before us ys → calls_in behaviour l ys ≡ 0 → (p : ℕ) → turns_of p us ≤ waits (left behaviour l before p)
     waiting before [] ys s i w t z p = omega arith
     waiting before (q ∷ us) (x ∷ ys) s i w (delivers_again j h t) z p = absurd (omega (arith, z))
     waiting before (q ∷ us) ys s i w (skips_turn e t) z p =
@@ -227,10 +250,12 @@ module _ (behaviour : Behaviour) (l : Line) where
     waiting before (q ∷ us) ((v, (a, r)) ∷ ys) s i w (takes_turn b e h t) z p =
         let f = first_of before q a r (calls_in behaviour l ys) e h z in
         let next : List Step = before ++ (q, (a, r)) ∷ [] in
-        let rest = waiting next us ys (holds_step behaviour l plan back n before q a r s w.0 b e h) (ap is_queued (queue_same before q a r e f) ∙ i) w.1 t (omega (arith, z)) p in
+        let rest = waiting next us ys (holds_step behaviour l plan back n before q a r s w.0 b e h) (ap is_queued (queue_same before q a r e f) ∙ i) w.1 t
+        (omega (arith, z)) p in
         elim (cases_eq q p) [
           | inl same ↦
-              let mine : waits (left behaviour l next p) ≡ waits (answered (worker behaviour l) (left behaviour l before q) r) = ap waits (left_after_one before q a r p (sym same) e) in
+              let mine : waits (left behaviour l next p) ≡ waits (answered (worker behaviour l) (left behaviour l before q) r) =
+              ap waits (left_after_one before q a r p (sym same) e) in
               let then : waits (left behaviour l before q) ≡ waits (left behaviour l before p) = ap (λ u. waits (left behaviour l before u)) same in
               let k = here p q us same in
               let one = own_waits before (left behaviour l before q) r i f.quiet f.answers (turns_of p us) (omega (arith, rest, mine)) in
@@ -267,11 +292,14 @@ module _ (behaviour : Behaviour) (l : Line) where
     empty_or (x ∷ q) = inr refl
 
     -- without a call in two rounds all have ended
-    pub quiet_pair : 1 ≤ n → (before ys : List Step) → Sound before → Turned behaviour l n before pair ys → calls_in behaviour l ys ≡ 0 → AllEnded behaviour l n (before ++ ys)
-    quiet_pair some before ys s t z p w = ⊎_elim (λ empty. ended (record { empty = empty; outside = out })) (λ queued. absurd (stuck queued)) (empty_or (queue_after l before))
+    pub quiet_pair : 1 ≤ n → (before ys : List Step) → Sound before → Turned behaviour l n before pair ys → calls_in behaviour l ys ≡ 0
+        → AllEnded behaviour l n (before ++ ys)
+    quiet_pair some before ys s t z p w =
+        ⊎_elim (λ empty. ended (record { empty = empty; outside = out })) (λ queued. absurd (stuck queued)) (empty_or (queue_after l before))
       where
         out : (q : ℕ) → IsWorker n q → is_inside (left behaviour l before q) ≡ false
-        out q u = each_round n (λ v. is_inside (left behaviour l before v) ≡ false) (each_left (λ v. is_inside (left behaviour l before v) ≡ false) (round n) (round n) (outside before pair ys s pair_workers t z)) q u
+        out q u = each_round n (λ v. is_inside (left behaviour l before v) ≡ false)
+            (each_left (λ v. is_inside (left behaviour l before v) ≡ false) (round n) (round n) (outside before pair ys s pair_workers t z)) q u
 
         stuck : is_queued (queue_after l before) ≡ true → ⊥
         stuck queued =
@@ -288,10 +316,12 @@ module _ (behaviour : Behaviour) (l : Line) where
             ap (ask (worker behaviour l)) (rank_over (left behaviour l (before ++ ys) p) (⊎_elim (λ d. omega (arith, d, b, c)) (λ d. d) a))
 
     -- who has ended takes no further step
-    pub none_further : (before : List Step) (us : List ℕ) (ys : List Step) → Sound before → AllEnded behaviour l n before → Each (IsWorker n) us → Turned behaviour l n before us ys → ys ≡ []
+    pub none_further : (before : List Step) (us : List ℕ) (ys : List Step) → Sound before → AllEnded behaviour l n before → Each (IsWorker n) us
+        → Turned behaviour l n before us ys → ys ≡ []
     none_further before [] [] s e w t = refl
     none_further before us (x ∷ ys) s e w (delivers_again {p = p} {e = d} i h t) =
-        absurd (inside behaviour l plan back n before s p i d h (ap is_inside (ended_over behaviour l plan back n before p (left behaviour l before p) (s.ready p i) (e p i))))
+        absurd (inside behaviour l plan back n before s p i d h
+        (ap is_inside (ended_over behaviour l plan back n before p (left behaviour l before p) (s.ready p i) (e p i))))
     none_further before (p ∷ us) ys s e w (skips_turn f t) = none_further before us ys s e w.1 t
     none_further before (p ∷ us) ((q, (a, r)) ∷ ys) s e w (takes_turn b f h t) = absurd (nothing a (f ∙ e q w.0) h)
       where
@@ -310,17 +340,20 @@ module _ (behaviour : Behaviour) (l : Line) where
     pairs_workers (suc m) = each_append (IsWorker n) pair (pairs m) pair_workers (pairs_workers m)
 
     -- so many pairs of rounds have as many calls, or all have ended
-    pub pairs_go : 1 ≤ n → (m : ℕ) (before ys : List Step) → Sound before → Turned behaviour l n before (pairs m) ys → AllEnded behaviour l n (before ++ ys) ⊎ (m ≤ calls_in behaviour l ys)
+    pub pairs_go : 1 ≤ n → (m : ℕ) (before ys : List Step) → Sound before → Turned behaviour l n before (pairs m) ys
+        → AllEnded behaviour l n (before ++ ys) ⊎ (m ≤ calls_in behaviour l ys)
     pairs_go some zero before ys s t = inr (omega arith)
     pairs_go some (suc m) before ys s t =
         let cut = turned_part behaviour l n before pair (pairs m) ys t in
-        let sum : calls_in behaviour l ys ≡ calls_in behaviour l cut.0 + calls_in behaviour l cut.1 = ap (calls_in behaviour l) cut.2 ∙ total-append (λ x. calls_of behaviour l x.1) cut.0 cut.1 in
+        let sum : calls_in behaviour l ys ≡ calls_in behaviour l cut.0 + calls_in behaviour l cut.1 =
+        ap (calls_in behaviour l) cut.2 ∙ total-append (λ x. calls_of behaviour l x.1) cut.0 cut.1 in
         let whole : (before ++ cut.0) ++ cut.1 ≡ before ++ ys = append_assoc before cut.0 cut.1 ∙ ap (λ zs. before ++ zs) (sym cut.2) in
         let rest = pairs_go some m (before ++ cut.0) cut.1 (holds_turned behaviour l plan back n before pair cut.0 pair_workers s cut.3) cut.4 in
         elim (cases_eq (calls_in behaviour l cut.0) 0) [
           | inl none ↦
               let done = quiet_pair some before cut.0 s cut.3 none in
-              let stop = none_further (before ++ cut.0) (pairs m) cut.1 (holds_turned behaviour l plan back n before pair cut.0 pair_workers s cut.3) done (pairs_workers m) cut.4 in
+              let stop = none_further (before ++ cut.0) (pairs m) cut.1 (holds_turned behaviour l plan back n before pair cut.0 pair_workers s cut.3) done
+              (pairs_workers m) cut.4 in
               inl (subst (AllEnded behaviour l n) (sym (append-nil (before ++ cut.0)) ∙ (ap (λ zs. (before ++ cut.0) ++ zs) (sym stop) ∙ whole)) done)
           | inr busy ↦ ⊎_elim (λ e. inl (subst (AllEnded behaviour l n) whole e)) (λ k. inr (omega (arith, k, busy, sum))) rest
         ]

@@ -30,28 +30,33 @@ use Rattle.canvas_runs.proofs.TurnLogs.{Made, worker_lives, first_lives, only_ap
 use Rattle.canvas_runs.proofs.Turning.{by_append}
 
 -- a worker whose redeliveries are of the envelope of its open script follows its core run
-one_same : (h : Option Envelope) (a : Ask Envelope Outcome) (r : Reply Envelope Outcome) (ys : List (AskedAndAnswered Envelope Outcome)) → delivers h a → FollowsScripts (held_by h a r) [] (core_calls (scripts_of ys)) (worker_calls ys)
+one_same : (h : Option Envelope) (a : Ask Envelope Outcome) (r : Reply Envelope Outcome) (ys : List (AskedAndAnswered Envelope Outcome)) → delivers h a
+    → FollowsScripts (held_by h a r) [] (core_calls (scripts_of ys)) (worker_calls ys)
     → FollowsScripts h [] (core_calls (scripts_of ((a, r) ∷ ys))) (worker_call a r ++ worker_calls ys)
 one_same h take (taken (Some e)) ys d k = scripts_list_take (scripts_core_take k)
 one_same h take (taken None) ys d k = k
 one_same h (send e) sent ys d k = scripts_publish k
 one_same h ack acked ys d k = scripts_ack k
 one_same h (deliver e) sent ys d k =
-    subst (λ g. FollowsScripts g [] (core_calls (scripts_of ys)) (again e ∷ worker_calls ys)) (sym d) (scripts_again (subst (λ g. FollowsScripts g [] (core_calls (scripts_of ys)) (worker_calls ys)) d k))
+    subst (λ g. FollowsScripts g [] (core_calls (scripts_of ys)) (again e ∷ worker_calls ys)) (sym d)
+    (scripts_again (subst (λ g. FollowsScripts g [] (core_calls (scripts_of ys)) (worker_calls ys)) d k))
 one_same h (deliver e) r ys d k = k
 one_same h a r ys d k = k
 
-scripts_same : (h : Option Envelope) (xs : List (AskedAndAnswered Envelope Outcome)) → DeliversHeld h xs → FollowsScripts h [] (core_calls (scripts_of xs)) (worker_calls xs)
+scripts_same : (h : Option Envelope) (xs : List (AskedAndAnswered Envelope Outcome)) → DeliversHeld h xs
+    → FollowsScripts h [] (core_calls (scripts_of xs)) (worker_calls xs)
 scripts_same h [] d = scripts_all
 scripts_same h (x ∷ xs) d = one_same h x.0 x.1 xs d.0 (scripts_same (held_by h x.0 x.1) xs d.1)
 
-pub follows_same : (es : List Envelope) (xs : List (AskedAndAnswered Envelope Outcome)) (b : Bool) → DeliversHeld None xs → FollowsScripts None [] (map makes (cond b (published_all es) []) ++ core_calls (scripts_of xs)) (cond b (published_all es) [] ++ worker_calls xs)
+pub follows_same : (es : List Envelope) (xs : List (AskedAndAnswered Envelope Outcome)) (b : Bool) → DeliversHeld None xs
+    → FollowsScripts None [] (map makes (cond b (published_all es) []) ++ core_calls (scripts_of xs)) (cond b (published_all es) [] ++ worker_calls xs)
 follows_same es xs false d = scripts_same None xs d
 follows_same [] xs true d = scripts_same None xs d
 follows_same (e ∷ es) xs true d = scripts_publish (follows_same es xs true d)
 
 -- what a redelivery has no part in
-one_backend : (a : Ask Envelope Outcome) (r : Reply Envelope Outcome) (ys : List (AskedAndAnswered Envelope Outcome)) (l : List (BackendCall Outcome)) → l ≡ backend_calls (scripts_of ys) → backend_call a r ++ l ≡ backend_calls (scripts_of ((a, r) ∷ ys))
+one_backend : (a : Ask Envelope Outcome) (r : Reply Envelope Outcome) (ys : List (AskedAndAnswered Envelope Outcome)) (l : List (BackendCall Outcome))
+    → l ≡ backend_calls (scripts_of ys) → backend_call a r ++ l ≡ backend_calls (scripts_of ((a, r) ∷ ys))
 one_backend (deliver e) r ys l k = k
 one_backend a r ys l k = ap (λ g. backend_call a r ++ g) k
 
@@ -59,7 +64,8 @@ pub backend_scripts : (xs : List (AskedAndAnswered Envelope Outcome)) → backen
 backend_scripts [] = refl
 backend_scripts (x ∷ xs) = one_backend x.0 x.1 xs (backend_calls xs) (backend_scripts xs)
 
-one_takes : (a : Ask Envelope Outcome) (r : Reply Envelope Outcome) (ys : List (AskedAndAnswered Envelope Outcome)) (k : ℕ) → k ≡ total takes_one (broker_calls (scripts_of ys)) → total takes_one (worker_call a r) + k ≡ total takes_one (broker_calls (scripts_of ((a, r) ∷ ys)))
+one_takes : (a : Ask Envelope Outcome) (r : Reply Envelope Outcome) (ys : List (AskedAndAnswered Envelope Outcome)) (k : ℕ)
+    → k ≡ total takes_one (broker_calls (scripts_of ys)) → total takes_one (worker_call a r) + k ≡ total takes_one (broker_calls (scripts_of ((a, r) ∷ ys)))
 one_takes (deliver e) sent ys k h = omega (arith, h)
 one_takes (deliver e) r ys k h = omega (arith, h)
 one_takes take (taken (Some e)) ys k h = omega (arith, h)
@@ -68,10 +74,12 @@ one_takes a r ys k h = omega (arith, h)
 
 pub takes_scripts : (xs : List (AskedAndAnswered Envelope Outcome)) → total takes_one (worker_calls xs) ≡ total takes_one (broker_calls (scripts_of xs))
 takes_scripts [] = refl
-takes_scripts (x ∷ xs) = total-append takes_one (worker_call x.0 x.1) (worker_calls xs) ∙ one_takes x.0 x.1 xs (total takes_one (worker_calls xs)) (takes_scripts xs)
+takes_scripts (x ∷ xs) = total-append takes_one (worker_call x.0 x.1) (worker_calls xs)
+    ∙ one_takes x.0 x.1 xs (total takes_one (worker_calls xs)) (takes_scripts xs)
 
 -- what a worker holds it has taken
-held_taken : (h : Option Envelope) (xs : List (AskedAndAnswered Envelope Outcome)) (e : Envelope) → held_after h xs ≡ Some e → (h ≡ Some e) ⊎ IsIn (take, taken (Some e)) xs
+held_taken : (h : Option Envelope) (xs : List (AskedAndAnswered Envelope Outcome)) (e : Envelope) → held_after h xs ≡ Some e
+    → (h ≡ Some e) ⊎ IsIn (take, taken (Some e)) xs
 held_taken h [] e k = inl k
 held_taken h (x ∷ xs) e k = ⊎_elim (λ a. one x.0 x.1 a) (λ b. inr (inr b)) (held_taken (held_by h x.0 x.1) xs e k)
   where
@@ -137,11 +145,13 @@ module _ (behaviour : Behaviour) (l : Line) where
       let new : List (broker.QueueEntry Envelope) = broker_entries x.0 (worker_call x.1.0 x.1.1) in
       let opening : List (broker.QueueEntry Envelope) = broker_entries 0 (published_all firsts) in
       ap (λ g. splits_of (round n) ++ (opening ++ g)) (queue_lines_more xs x)
-      ∙ (ap (λ g. splits_of (round n) ++ g) (sym (append_assoc opening (queue_lines xs) new)) ∙ sym (append_assoc (splits_of (round n)) (opening ++ queue_lines xs) new))
+      ∙ (ap (λ g. splits_of (round n) ++ g) (sym (append_assoc opening (queue_lines xs) new))
+      ∙ sym (append_assoc (splits_of (round n)) (opening ++ queue_lines xs) new))
 
   pub table_log_more : (n : ℕ) (xs : List Step) (x : Step) → table_log n (xs ++ x ∷ []) ≡ table_log n xs ++ backend_entries x.0 (backend_call x.1.0 x.1.1)
   table_log_more n xs x =
-      ap (λ g. splits_of (round n) ++ g) (table_lines_more xs x) ∙ sym (append_assoc (splits_of (round n)) (table_lines xs) (backend_entries x.0 (backend_call x.1.0 x.1.1)))
+      ap (λ g. splits_of (round n) ++ g) (table_lines_more xs x)
+      ∙ sym (append_assoc (splits_of (round n)) (table_lines xs) (backend_entries x.0 (backend_call x.1.0 x.1.1)))
 
   -- ---- the workers are made first, and then they call
 
@@ -172,8 +182,10 @@ module _ (behaviour : Behaviour) (l : Line) where
   queue_from_log q es = state_from [] broker.answer broker.next broker.May q es
 
   -- what a step adds to a history of the queue
-  queue_adds : (n : ℕ) (xs : List Step) (p : ℕ) (a : Ask Envelope Outcome) (r : Reply Envelope Outcome) (log : List (broker.QueueEntry Envelope)) → among p (live log) ≡ true → broker.queue_of log ≡ queue_after l xs
-      → Answers behaviour l n xs a r → QueueLegal log (broker_entries p (worker_call a r)) × (queue_from_log (queue_after l xs) (broker_entries p (worker_call a r)) ≡ queue_next (queue_after l xs) a)
+  queue_adds : (n : ℕ) (xs : List Step) (p : ℕ) (a : Ask Envelope Outcome) (r : Reply Envelope Outcome) (log : List (broker.QueueEntry Envelope))
+      → among p (live log) ≡ true → broker.queue_of log ≡ queue_after l xs
+      → Answers behaviour l n xs a r → QueueLegal log (broker_entries p (worker_call a r))
+      × (queue_from_log (queue_after l xs) (broker_entries p (worker_call a r)) ≡ queue_next (queue_after l xs) a)
   queue_adds n xs p take (taken None) log alive is h = (tt, sym (none_left (queue_after l xs) h))
   queue_adds n xs p take (taken (Some e)) log alive is h = (((alive, h ∙ ap (λ q. broker.answer q broker.take) (sym is), tt), tt), refl)
   queue_adds n xs p (send e) sent log alive is h = (((alive, refl, tt), tt), refl)
@@ -195,8 +207,10 @@ module _ (behaviour : Behaviour) (l : Line) where
   MayPart log p (part g t) = results.May (roster_of l) log (results.results (roster_of l) log) p (results.part g t)
   MayPart log p a = Unit
 
-  table_adds : (n : ℕ) (xs : List Step) (p : ℕ) (a : Ask Envelope Outcome) (r : Reply Envelope Outcome) (log : results.Log) → among p (live log) ≡ true → results.results (roster_of l) log ≡ results_after xs
-      → Answers behaviour l n xs a r → MayPart log p a → TableLegal log (backend_entries p (backend_call a r)) × (table_from_log (results_after xs) (backend_entries p (backend_call a r)) ≡ results_next (results_after xs) a)
+  table_adds : (n : ℕ) (xs : List Step) (p : ℕ) (a : Ask Envelope Outcome) (r : Reply Envelope Outcome) (log : results.Log) → among p (live log) ≡ true
+      → results.results (roster_of l) log ≡ results_after xs
+      → Answers behaviour l n xs a r → MayPart log p a → TableLegal log (backend_entries p (backend_call a r))
+      × (table_from_log (results_after xs) (backend_entries p (backend_call a r)) ≡ results_next (results_after xs) a)
   table_adds n xs p take (taken x) log alive is h may = (tt, refl)
   table_adds n xs p (send e) sent log alive is h may = (tt, refl)
   table_adds n xs p (keep t o) (kept b) log alive is h may =
@@ -209,7 +223,8 @@ module _ (behaviour : Behaviour) (l : Line) where
   table_adds n xs p ack acked log alive is h may = (tt, refl)
   table_adds n xs p a r log alive is h may = elim h [ ]
 
-  pub queue_stays : (n : ℕ) (xs : List Step) (p : ℕ) (a : Ask Envelope Outcome) (r : Reply Envelope Outcome) → IsWorker n p → broker.IsLegal (queue_log n xs) → broker.queue_of (queue_log n xs) ≡ queue_after l xs → Answers behaviour l n xs a r
+  pub queue_stays : (n : ℕ) (xs : List Step) (p : ℕ) (a : Ask Envelope Outcome) (r : Reply Envelope Outcome) → IsWorker n p → broker.IsLegal (queue_log n xs)
+      → broker.queue_of (queue_log n xs) ≡ queue_after l xs → Answers behaviour l n xs a r
       → broker.IsLegal (queue_log n (xs ++ (p, (a, r)) ∷ [])) × (broker.queue_of (queue_log n (xs ++ (p, (a, r)) ∷ [])) ≡ queue_next (queue_after l xs) a)
   queue_stays n xs p a r w legal is h =
       let new : List (broker.QueueEntry Envelope) = broker_entries p (worker_call a r) in
@@ -219,16 +234,20 @@ module _ (behaviour : Behaviour) (l : Line) where
         ap broker.queue_of more ∙ (state_append [] broker.answer broker.next broker.May [] (queue_log n xs) new ∙ (ap (λ q. queue_from_log q new) is ∙ adds.1)),
       )
 
-  pub table_stays : (n : ℕ) (xs : List Step) (p : ℕ) (a : Ask Envelope Outcome) (r : Reply Envelope Outcome) → IsWorker n p → results.IsLegal (roster_of l) (table_log n xs)
+  pub table_stays : (n : ℕ) (xs : List Step) (p : ℕ) (a : Ask Envelope Outcome) (r : Reply Envelope Outcome) → IsWorker n p
+      → results.IsLegal (roster_of l) (table_log n xs)
       → results.results (roster_of l) (table_log n xs) ≡ results_after xs → Answers behaviour l n xs a r → MayPart (table_log n xs) p a
-      → results.IsLegal (roster_of l) (table_log n (xs ++ (p, (a, r)) ∷ [])) × (results.results (roster_of l) (table_log n (xs ++ (p, (a, r)) ∷ [])) ≡ results_next (results_after xs) a)
+      → results.IsLegal (roster_of l) (table_log n (xs ++ (p, (a, r)) ∷ []))
+      × (results.results (roster_of l) (table_log n (xs ++ (p, (a, r)) ∷ [])) ≡ results_next (results_after xs) a)
   table_stays n xs p a r w legal is h may =
       let new : results.Log = backend_entries p (backend_call a r) in
       let adds = table_adds n xs p a r (table_log n xs) (worker_lives n p (table_log n xs) (table_made n xs) w) is h may in
       let more = table_log_more n xs (p, (a, r)) in (
-        subst (results.IsLegal (roster_of l)) (sym more) (legal_append no_results (reply_of (roster_of l)) next_of (results.May (roster_of l)) [] (table_log n xs) new legal adds.0),
+        subst (results.IsLegal (roster_of l)) (sym more)
+            (legal_append no_results (reply_of (roster_of l)) next_of (results.May (roster_of l)) [] (table_log n xs) new legal adds.0),
         ap (results.results (roster_of l)) more
-            ∙ (state_append no_results (reply_of (roster_of l)) next_of (results.May (roster_of l)) no_results (table_log n xs) new ∙ (ap (λ s. table_from_log s new) is ∙ adds.1)),
+            ∙ (state_append no_results (reply_of (roster_of l)) next_of (results.May (roster_of l)) no_results (table_log n xs) new
+            ∙ (ap (λ s. table_from_log s new) is ∙ adds.1)),
       )
 
   -- ---- a redelivery
@@ -237,10 +256,12 @@ module _ (behaviour : Behaviour) (l : Line) where
   line_in [] p e i = absurd i
   line_in (x ∷ xs) p e i = go (eqb x.0 p) refl (λ k. line_in xs p e k) i
     where
-      go : (b : Bool) → eqb x.0 p ≡ b → (IsIn (take, taken (Some e)) (by p xs) → IsIn (calls p broker.take (Some e)) (queue_lines xs)) → IsIn (take, taken (Some e)) (cond b (x.1 ∷ by p xs) (by p xs)) → IsIn (calls p broker.take (Some e)) (queue_lines (x ∷ xs))
+      go : (b : Bool) → eqb x.0 p ≡ b → (IsIn (take, taken (Some e)) (by p xs) → IsIn (calls p broker.take (Some e)) (queue_lines xs))
+          → IsIn (take, taken (Some e)) (cond b (x.1 ∷ by p xs) (by p xs)) → IsIn (calls p broker.take (Some e)) (queue_lines (x ∷ xs))
       go true f m (inl s) =
           let who : x.0 ≡ p = eqb-true _ _ f in
-          let entry : broker_entries x.0 (worker_call x.1.0 x.1.1) ≡ calls p broker.take (Some e) ∷ [] = ap₂ (λ n (y : AskedAndAnswered Envelope Outcome). broker_entries n (worker_call y.0 y.1)) who (sym s) in
+          let entry : broker_entries x.0 (worker_call x.1.0 x.1.1) ≡ calls p broker.take (Some e) ∷ [] =
+          ap₂ (λ n (y : AskedAndAnswered Envelope Outcome). broker_entries n (worker_call y.0 y.1)) who (sym s) in
           subst (λ g. IsIn (calls p broker.take (Some e)) (g ++ queue_lines xs)) (sym entry) (inl refl)
       go true f m (inr k) = in_right (broker_entries x.0 (worker_call x.1.0 x.1.1)) (queue_lines xs) (calls p broker.take (Some e)) (m k)
       go false f m k = in_right (broker_entries x.0 (worker_call x.1.0 x.1.1)) (queue_lines xs) (calls p broker.take (Some e)) (m k)
@@ -257,20 +278,24 @@ module _ (behaviour : Behaviour) (l : Line) where
       let made = queue_made n xs in
       let mine : IsIn (take, taken (Some e)) (by p xs) = ⊎_elim (λ a. absurd (none a)) (λ b. b) (held_taken None (by p xs) e h) in (
         p,
-        in_right (splits_of (round n)) (broker_entries 0 (published_all firsts) ++ queue_lines xs) (calls p broker.take (Some e)) (in_right (broker_entries 0 (published_all firsts)) (queue_lines xs) (calls p broker.take (Some e)) (line_in xs p e mine)),
+        in_right (splits_of (round n)) (broker_entries 0 (published_all firsts) ++ queue_lines xs) (calls p broker.take (Some e))
+            (in_right (broker_entries 0 (published_all firsts)) (queue_lines xs) (calls p broker.take (Some e)) (line_in xs p e mine)),
         ap (λ g. heir g p) made.is ∙ no_joins p (round n) made.rest made.only,
       )
     where
       none : None ≡ Some e → ⊥
       none q = cc
 
-  pub queue_delivers : (n : ℕ) (xs : List Step) (p : ℕ) (e : Envelope) → IsWorker n p → broker.IsLegal (queue_log n xs) → broker.queue_of (queue_log n xs) ≡ queue_after l xs → holds xs p ≡ Some e
-      → broker.IsLegal (queue_log n (xs ++ (p, (deliver e, sent)) ∷ [])) × (broker.queue_of (queue_log n (xs ++ (p, (deliver e, sent)) ∷ [])) ≡ queue_next (queue_after l xs) (deliver e))
+  pub queue_delivers : (n : ℕ) (xs : List Step) (p : ℕ) (e : Envelope) → IsWorker n p → broker.IsLegal (queue_log n xs)
+      → broker.queue_of (queue_log n xs) ≡ queue_after l xs → holds xs p ≡ Some e
+      → broker.IsLegal (queue_log n (xs ++ (p, (deliver e, sent)) ∷ []))
+      × (broker.queue_of (queue_log n (xs ++ (p, (deliver e, sent)) ∷ [])) ≡ queue_next (queue_after l xs) (deliver e))
   queue_delivers n xs p e w legal is h =
       let new : List (broker.QueueEntry Envelope) = calls p (broker.redeliver e) None ∷ [] in
       let alive = worker_lives n p (queue_log n xs) (queue_made n xs) w in
       let more = queue_log_more n xs (p, (deliver e, sent)) in (
-        subst broker.IsLegal (sym more) (legal_append [] broker.answer broker.next broker.May [] (queue_log n xs) new legal ((alive, refl, has_taken n xs p e h), tt)),
+        subst broker.IsLegal (sym more)
+            (legal_append [] broker.answer broker.next broker.May [] (queue_log n xs) new legal ((alive, refl, has_taken n xs p e h), tt)),
         ap broker.queue_of more ∙ (state_append [] broker.answer broker.next broker.May [] (queue_log n xs) new ∙ ap (λ q. queue_from_log q new) is),
       )
 
@@ -279,10 +304,14 @@ module _ (behaviour : Behaviour) (l : Line) where
 
   -- ---- before the first step
 
-  published_legal : (log : List (broker.QueueEntry Envelope)) (es : List Envelope) → among 0 (live log) ≡ true → QueueLegal log (broker_entries 0 (published_all es))
+  published_legal : (log : List (broker.QueueEntry Envelope)) (es : List Envelope) → among 0 (live log) ≡ true
+      → QueueLegal log (broker_entries 0 (published_all es))
   published_legal log [] alive = tt
-  published_legal log (e ∷ es) alive =
-      ((alive, refl, tt), published_legal (log ++ calls 0 (broker.publish e) None ∷ []) es (subst (λ ls. among 0 ls ≡ true) (sym (live_append (0 ∷ []) log (calls 0 (broker.publish e) None ∷ []))) alive))
+  published_legal log (e ∷ es) alive = (
+    (alive, refl, tt),
+    published_legal (log ++ calls 0 (broker.publish e) None ∷ []) es
+        (subst (λ ls. among 0 ls ≡ true) (sym (live_append (0 ∷ []) log (calls 0 (broker.publish e) None ∷ []))) alive),
+  )
 
   published_state : (q es : List Envelope) → queue_from_log q (broker_entries 0 (published_all es)) ≡ q ++ es
   published_state q [] = sym (append-nil q)
@@ -293,10 +322,12 @@ module _ (behaviour : Behaviour) (l : Line) where
       let opening : List (broker.QueueEntry Envelope) = broker_entries 0 (published_all firsts) in
       let made : Made n (splits_of (round n)) = record { rest = []; is = sym (append-nil (splits_of (round n))); only = tt } in
       let shape : queue_log n [] ≡ splits_of (round n) ++ opening = ap (λ g. splits_of (round n) ++ g) (append-nil opening) in (
-        subst broker.IsLegal (sym shape) (legal_append [] broker.answer broker.next broker.May [] (splits_of (round n)) opening (splits_legal [] broker.answer broker.next broker.May n)
+        subst broker.IsLegal (sym shape)
+            (legal_append [] broker.answer broker.next broker.May [] (splits_of (round n)) opening (splits_legal [] broker.answer broker.next broker.May n)
             (published_legal (splits_of (round n)) firsts (first_lives n (splits_of (round n)) made))),
         ap broker.queue_of shape
-            ∙ (state_append [] broker.answer broker.next broker.May [] (splits_of (round n)) opening ∙ (ap (λ q. queue_from_log q opening) (splits_state [] broker.answer broker.next broker.May [] (round n)) ∙ published_state [] firsts)),
+            ∙ (state_append [] broker.answer broker.next broker.May [] (splits_of (round n)) opening
+            ∙ (ap (λ q. queue_from_log q opening) (splits_state [] broker.answer broker.next broker.May [] (round n)) ∙ published_state [] firsts)),
       )
 
   pub table_starts : (n : ℕ) → results.IsLegal (roster_of l) (table_log n []) × (results.results (roster_of l) (table_log n []) ≡ results_after [])
@@ -342,14 +373,17 @@ module _ (behaviour : Behaviour) (l : Line) where
   pub queue_by : (n : ℕ) (xs : List Step) (p : ℕ) → by p (queue_calls (queue_log n xs)) ≡ opened_by p ++ worker_calls (by p xs)
   queue_by n xs p =
       let opening : List (broker.QueueEntry Envelope) = broker_entries 0 (published_all firsts) in
-      ap (by p) (queue_calls_append (splits_of (round n)) (opening ++ queue_lines xs) ∙ ap (λ g. g ++ queue_calls (opening ++ queue_lines xs)) (queue_calls_splits (round n)))
+      ap (by p) (queue_calls_append (splits_of (round n)) (opening ++ queue_lines xs)
+      ∙ ap (λ g. g ++ queue_calls (opening ++ queue_lines xs)) (queue_calls_splits (round n)))
       ∙ (ap (by p) (queue_calls_append opening (queue_lines xs))
       ∙ (by_append p (queue_calls opening) (queue_calls (queue_lines xs))
-      ∙ ap₂ (λ u v. u ++ v) (ap (by p) (queue_calls_entries 0 (published_all firsts)) ∙ (by_tag 0 p (published_all firsts) ∙ ap (λ b. cond b (published_all firsts) []) (swapped p))) (lines_by p xs)))
+      ∙ ap₂ (λ u v. u ++ v) (ap (by p) (queue_calls_entries 0 (published_all firsts))
+      ∙ (by_tag 0 p (published_all firsts) ∙ ap (λ b. cond b (published_all firsts) []) (swapped p))) (lines_by p xs)))
 
   pub table_by : (n : ℕ) (xs : List Step) (p : ℕ) → by p (table_calls (table_log n xs)) ≡ backend_calls (by p xs)
   table_by n xs p =
-      ap (by p) (table_calls_append (splits_of (round n)) (table_lines xs) ∙ ap (λ g. g ++ table_calls (table_lines xs)) (table_calls_splits (round n))) ∙ rows_by p xs
+      ap (by p) (table_calls_append (splits_of (round n)) (table_lines xs) ∙ ap (λ g. g ++ table_calls (table_lines xs)) (table_calls_splits (round n)))
+      ∙ rows_by p xs
 
   pub no_closing : (b : Bool) → ◌≡◌ {A = List (BackendCall Outcome)} (cond b [] []) []
   no_closing true = refl
@@ -383,8 +417,11 @@ module _ (behaviour : Behaviour) (l : Line) where
       opens = sym (append-nil (first_messages l));
       opens_back = back;
       closes = tt;
-      follows = λ p. subst (λ ls. FollowsScripts None [] (map makes (opened_by p) ++ core_calls (scripts_of (by p xs))) ls) (sym (queue_by n xs p)) (follows_same firsts (by p xs) (eqb p 0) (s.held p));
-      keeps = λ p. table_by n xs p ∙ (backend_scripts (by p xs) ∙ (sym (append-nil (backend_calls (scripts_of (by p xs)))) ∙ ap (λ g. backend_calls (scripts_of (by p xs)) ++ g) (sym (no_closing (eqb p 0)))));
+      follows = λ p. subst (λ ls. FollowsScripts None [] (map makes (opened_by p) ++ core_calls (scripts_of (by p xs))) ls) (sym (queue_by n xs p))
+          (follows_same firsts (by p xs) (eqb p 0) (s.held p));
+      keeps = λ p. table_by n xs p
+          ∙ (backend_scripts (by p xs)
+          ∙ (sym (append-nil (backend_calls (scripts_of (by p xs)))) ∙ ap (λ g. backend_calls (scripts_of (by p xs)) ++ g) (sym (no_closing (eqb p 0)))));
     }
 
     none_taken : (b : Bool) → total takes_one (cond b (published_all firsts) []) ≡ 0
@@ -395,7 +432,9 @@ module _ (behaviour : Behaviour) (l : Line) where
     closed empty between = record {
       all_sent = refl;
       drained = s.queue_is ∙ empty;
-      all_used = λ p. ap (total takes_one) (queue_by n xs p) ∙ (total-append takes_one (opened_by p) (worker_calls (by p xs)) ∙ (plain (total takes_one (opened_by p)) (none_taken (eqb p 0)) ∙ takes_scripts (by p xs)));
+      all_used = λ p. ap (total takes_one) (queue_by n xs p)
+          ∙ (total-append takes_one (opened_by p) (worker_calls (by p xs))
+          ∙ (plain (total takes_one (opened_by p)) (none_taken (eqb p 0)) ∙ takes_scripts (by p xs)));
       all_ended = between;
     }
       where

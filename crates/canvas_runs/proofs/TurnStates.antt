@@ -43,9 +43,11 @@ use Rattle.canvas_runs.proofs.Words.{in_right, in_each, each_right, each_weaker,
 
 -- what is left after a core run is good, where the answers are
 module _ (Y : Protocol) (G : Goods Y) (k : Closed Y G) where
-  pub left_good : (s : Doing Y) (xs : List (AskedAndAnswered Y.Envelope Y.Outcome)) → GoodState Y G s → IsCoreRun Y s xs → ReadsMembers G.members xs → Each (λ x. GoodAnswer Y G x.1) xs → GoodState Y G (left_after Y s xs)
+  pub left_good : (s : Doing Y) (xs : List (AskedAndAnswered Y.Envelope Y.Outcome)) → GoodState Y G s → IsCoreRun Y s xs → ReadsMembers G.members xs
+      → Each (λ x. GoodAnswer Y G x.1) xs → GoodState Y G (left_after Y s xs)
   left_good s [] good c m a = good
-  left_good s (x ∷ xs) good c m a = left_good (answered Y s x.1) xs (next_good Y G k s x.1 good (subst (λ z. reads_member G.members z x.1) c.0 m.0) a.0) c.2 m.1 a.1
+  left_good s (x ∷ xs) good c m a =
+      left_good (answered Y s x.1) xs (next_good Y G k s x.1 good (subst (λ z. reads_member G.members z x.1) c.0 m.0) a.0) c.2 m.1 a.1
 
 rows_others : (p q : ℕ) (cs : List (BackendCall Outcome)) → q ≢ p → AllOthers p (backend_entries q cs)
 rows_others p q [] apart = tt
@@ -69,17 +71,22 @@ module _ (behaviour : Behaviour) (l : Line) (plan : IsPlan l) where
 
   pub good_left : (back : FirstsRead l) (n : ℕ) (xs : List Step) (s : Lawful behaviour l n xs) (p : ℕ) → Good (left behaviour l xs p)
   good_left back n xs s p =
-      left_good (worker behaviour l) (right_goods (X behaviour l plan) (form behaviour l plan) (Does behaviour l plan)) (right_closed (X behaviour l plan) (form behaviour l plan) (Does behaviour l plan) (order behaviour l plan) (value behaviour l plan)) taking (scripts_of (by p xs)) tt (s.core p) (s.reads p)
-      (answers_right (X behaviour l plan) (form behaviour l plan) (Does behaviour l plan) (order behaviour l plan) (value behaviour l plan) (inner_run behaviour l plan (run behaviour l back n xs s)) p)
+      left_good (worker behaviour l) (right_goods (X behaviour l plan) (form behaviour l plan) (Does behaviour l plan))
+      (right_closed (X behaviour l plan) (form behaviour l plan) (Does behaviour l plan) (order behaviour l plan) (value behaviour l plan)) taking
+      (scripts_of (by p xs)) tt (s.core p) (s.reads p)
+      (answers_right (X behaviour l plan) (form behaviour l plan) (Does behaviour l plan) (order behaviour l plan) (value behaviour l plan)
+      (inner_run behaviour l plan (run behaviour l back n xs s)) p)
 
   abbrev pub GoodReply : Reply Envelope Outcome → Type 0
   GoodReply r = GoodAnswer (worker behaviour l) (right_goods (X behaviour l plan) (form behaviour l plan) (Does behaviour l plan)) r
 
-  good_answer : (back : FirstsRead l) (n : ℕ) (xs : List Step) (p : ℕ) (a : Ask Envelope Outcome) (r : Reply Envelope Outcome) → of_scripts a ≡ true → Lawful behaviour l n (xs ++ (p, (a, r)) ∷ []) → GoodReply r
+  good_answer : (back : FirstsRead l) (n : ℕ) (xs : List Step) (p : ℕ) (a : Ask Envelope Outcome) (r : Reply Envelope Outcome) → of_scripts a ≡ true
+      → Lawful behaviour l n (xs ++ (p, (a, r)) ∷ []) → GoodReply r
   good_answer back n xs p a r mine s =
       (each_right (λ (x : AskedAndAnswered Envelope Outcome). GoodReply x.1) (scripts_of (by p xs)) ((a, r) ∷ [])
       (subst (Each (λ (x : AskedAndAnswered Envelope Outcome). GoodReply x.1)) (ap scripts_of (by_more p xs (a, r)) ∙ scripts_more (by p xs) a r mine)
-      (answers_right (X behaviour l plan) (form behaviour l plan) (Does behaviour l plan) (order behaviour l plan) (value behaviour l plan) (inner_run behaviour l plan (run behaviour l back n (xs ++ (p, (a, r)) ∷ []) s)) p))).0
+      (answers_right (X behaviour l plan) (form behaviour l plan) (Does behaviour l plan) (order behaviour l plan) (value behaviour l plan)
+      (inner_run behaviour l plan (run behaviour l back n (xs ++ (p, (a, r)) ∷ []) s)) p))).0
 
   -- ---- what is known of states
 
@@ -100,7 +107,8 @@ module _ (behaviour : Behaviour) (l : Line) (plan : IsPlan l) where
   Ready n xs p (doing (j ∷ js) b) = (us : List ℕ) × Backed (worker behaviour l) us (j ∷ js) × Each (May n xs p) us
   Ready n xs p (reading g c fs) = Each (IsStored xs) ((form behaviour l plan).members g) × (eqb (length fs) c.size ≡ false)
 
-  settled_ready : (n : ℕ) (xs : List Step) (p : ℕ) (us : List ℕ) (js : Jobs (worker behaviour l)) (b : Bool) → Backed (worker behaviour l) us js → Each (May n xs p) us → Ready n xs p (settled (worker behaviour l) js b)
+  settled_ready : (n : ℕ) (xs : List Step) (p : ℕ) (us : List ℕ) (js : Jobs (worker behaviour l)) (b : Bool) → Backed (worker behaviour l) us js
+      → Each (May n xs p) us → Ready n xs p (settled (worker behaviour l) js b)
   settled_ready n xs p us [] b k m = tt
   settled_ready n xs p us (store t o ∷ js) true k m = (us, k, m)
   settled_ready n xs p us (store t o ∷ js) false k m = (us, k, m)
@@ -111,7 +119,8 @@ module _ (behaviour : Behaviour) (l : Line) (plan : IsPlan l) where
 
   -- ---- a part that comes next may be returned
 
-  pub part_may : (n : ℕ) (xs : List Step) (p : ℕ) (s : Doing (worker behaviour l)) → results.results P (table_log behaviour l n xs) ≡ results_after xs → Good s → Ready n xs p s → MayPart behaviour l (table_log behaviour l n xs) p (ask (worker behaviour l) s)
+  pub part_may : (n : ℕ) (xs : List Step) (p : ℕ) (s : Doing (worker behaviour l)) → results.results P (table_log behaviour l n xs) ≡ results_after xs → Good s
+      → Ready n xs p s → MayPart behaviour l (table_log behaviour l n xs) p (ask (worker behaviour l) s)
   part_may n xs p taking is good k = tt
   part_may n xs p resting is good k = tt
   part_may n xs p over is good k = tt
@@ -129,12 +138,15 @@ module _ (behaviour : Behaviour) (l : Line) (plan : IsPlan l) where
 
   -- ---- another worker's step changes nothing of it
 
-  pub other_may : (n : ℕ) (xs : List Step) (p q : ℕ) (a : Ask Envelope Outcome) (r : Reply Envelope Outcome) (t : ℕ) → IsWorker n p → q ≢ p → results.IsLegal P (table_log behaviour l n (xs ++ (q, (a, r)) ∷ [])) → May n xs p t → May n (xs ++ (q, (a, r)) ∷ []) p t
+  pub other_may : (n : ℕ) (xs : List Step) (p q : ℕ) (a : Ask Envelope Outcome) (r : Reply Envelope Outcome) (t : ℕ) → IsWorker n p → q ≢ p
+      → results.IsLegal P (table_log behaviour l n (xs ++ (q, (a, r)) ∷ [])) → May n xs p t → May n (xs ++ (q, (a, r)) ∷ []) p t
   other_may n xs p q a r t w apart legal m =
       let new : results.Log = backend_entries q (backend_call a r) in
       let more = table_log_more behaviour l n xs (q, (a, r)) in
       let lawful : results.IsLegal P (table_log behaviour l n xs ++ new) = subst (results.IsLegal P) more legal in
-      let alive : among p (live (table_log behaviour l n xs ++ new)) ≡ true = subst (λ g. among p (live g) ≡ true) more (worker_lives n p (table_log behaviour l n (xs ++ (q, (a, r)) ∷ [])) (table_made behaviour l n (xs ++ (q, (a, r)) ∷ [])) w) in
+      let alive : among p (live (table_log behaviour l n xs ++ new)) ≡ true =
+      subst (λ g. among p (live g) ≡ true) more
+      (worker_lives n p (table_log behaviour l n (xs ++ (q, (a, r)) ∷ [])) (table_made behaviour l n (xs ++ (q, (a, r)) ∷ [])) w) in
       subst (λ g. MayReturn P g p t) (sym more) (record {
         own = keeps_first P (table_log behaviour l n xs) new p t lawful m.alive alive m.own;
         free = still_free P (table_log behaviour l n xs) new p t lawful (rows_others p q (backend_call a r) apart) m.alive alive m.own m.free;
@@ -144,7 +156,8 @@ module _ (behaviour : Behaviour) (l : Line) (plan : IsPlan l) where
   pub stored_more : (xs : List Step) (x : Step) (t : ℕ) → IsStored xs t → IsStored (xs ++ x ∷ []) t
   stored_more xs x t k = (k.0, ap (λ s. s.outcomes t) (results_more no_results xs x) ∙ kept_stays (results_after xs) x.1.0 t k.0 k.1)
 
-  pub other_ready : (n : ℕ) (xs : List Step) (p q : ℕ) (a : Ask Envelope Outcome) (r : Reply Envelope Outcome) → IsWorker n p → q ≢ p → results.IsLegal P (table_log behaviour l n (xs ++ (q, (a, r)) ∷ []))
+  pub other_ready : (n : ℕ) (xs : List Step) (p q : ℕ) (a : Ask Envelope Outcome) (r : Reply Envelope Outcome) → IsWorker n p → q ≢ p
+      → results.IsLegal P (table_log behaviour l n (xs ++ (q, (a, r)) ∷ []))
       → (s : Doing (worker behaviour l)) → Ready n xs p s → Ready n (xs ++ (q, (a, r)) ∷ []) p s
   other_ready n xs p q a r w apart legal taking k = tt
   other_ready n xs p q a r w apart legal resting k = tt
@@ -165,38 +178,52 @@ module _ (behaviour : Behaviour) (l : Line) (plan : IsPlan l) where
   abbrev OwnMay : results.Log → results.Log → ℕ → ℕ → Type 0
   OwnMay log new p t = results.IsLegal P (log ++ new) → MayReturn P log p t → MayReturn P (log ++ new) p t
 
-  one_own : (log : results.Log) (p t : ℕ) (c : results.TableCall) (r : results.TableReply) → ((g : ℕ) → c ≢ results.part g t) → OwnMay log (calls p c r ∷ []) p t
+  one_own : (log : results.Log) (p t : ℕ) (c : results.TableCall) (r : results.TableReply) → ((g : ℕ) → c ≢ results.part g t)
+      → OwnMay log (calls p c r ∷ []) p t
   one_own log p t c r other legal m = still_may P p t c r log (log ++ calls p c r ∷ []) other m ([], refl, tt, legal, λ e. refl)
 
-  own_step : (log : results.Log) (p t : ℕ) (a : Ask Envelope Outcome) (r : Reply Envelope Outcome) → NotPart a → OwnMay log (backend_entries p (backend_call a r)) p t
+  own_step : (log : results.Log) (p t : ℕ) (a : Ask Envelope Outcome) (r : Reply Envelope Outcome) → NotPart a
+      → OwnMay log (backend_entries p (backend_call a r)) p t
   own_step log p t (keep u o) (kept b) plain = one_own log p t (results.store u o) (table_reply (stored u o b)) (λ g e. absurd cc)
   own_step log p t (part g u) r plain = absurd plain
   own_step log p t (read g i) (found u x) plain = one_own log p t (results.read u) (table_reply (has_read u x)) (λ g e. absurd cc)
   own_step log p t a r plain = λ legal m. subst (λ g. MayReturn P g p t) (sym (append-nil log)) m
 
-  pub own_may : (n : ℕ) (xs : List Step) (p : ℕ) (a : Ask Envelope Outcome) (r : Reply Envelope Outcome) (t : ℕ) → NotPart a → results.IsLegal P (table_log behaviour l n (xs ++ (p, (a, r)) ∷ [])) → May n xs p t → May n (xs ++ (p, (a, r)) ∷ []) p t
+  pub own_may : (n : ℕ) (xs : List Step) (p : ℕ) (a : Ask Envelope Outcome) (r : Reply Envelope Outcome) (t : ℕ) → NotPart a
+      → results.IsLegal P (table_log behaviour l n (xs ++ (p, (a, r)) ∷ [])) → May n xs p t → May n (xs ++ (p, (a, r)) ∷ []) p t
   own_may n xs p a r t plain legal m =
       let more = table_log_more behaviour l n xs (p, (a, r)) in
       subst (λ g. MayReturn P g p t) (sym more) (own_step (table_log behaviour l n xs) p t a r plain (subst (results.IsLegal P) more legal) m)
 
   -- a task that the worker has just stored
-  pub stored_may : (n : ℕ) (xs : List Step) (p t : ℕ) (o : Outcome) → results.IsLegal P (table_log behaviour l n (xs ++ (p, (keep t o, kept true)) ∷ [])) → May n (xs ++ (p, (keep t o, kept true)) ∷ []) p t
+  pub stored_may : (n : ℕ) (xs : List Step) (p t : ℕ) (o : Outcome) → results.IsLegal P (table_log behaviour l n (xs ++ (p, (keep t o, kept true)) ∷ []))
+      → May n (xs ++ (p, (keep t o, kept true)) ∷ []) p t
   stored_may n xs p t o legal =
       let more = table_log_more behaviour l n xs (p, (keep t o, kept true)) in
       let call = calls p (results.store t o) (was First) in
-      subst (λ g. MayReturn P g p t) (sym more) (first_may P p t o (table_log behaviour l n xs) (table_log behaviour l n xs ++ call ∷ []) ([], refl, tt, subst (results.IsLegal P) more legal, λ e. refl))
+      subst (λ g. MayReturn P g p t) (sym more)
+      (first_may P p t o (table_log behaviour l n xs) (table_log behaviour l n xs ++ call ∷ []) (
+        [],
+        refl,
+        tt,
+        subst (results.IsLegal P) more legal,
+        λ e. refl,
+      ))
 
   -- each store that is an event's answers first
-  pub first_answer : (back : FirstsRead l) (n : ℕ) (xs : List Step) (p t : ℕ) (o : Outcome) (b : Bool) → IsSkipped (X behaviour l plan) (Does behaviour l plan) t o → Lawful behaviour l n (xs ++ (p, (keep t o, kept b)) ∷ []) → b ≡ true
+  pub first_answer : (back : FirstsRead l) (n : ℕ) (xs : List Step) (p t : ℕ) (o : Outcome) (b : Bool)
+      → IsSkipped (X behaviour l plan) (Does behaviour l plan) t o → Lawful behaviour l n (xs ++ (p, (keep t o, kept b)) ∷ []) → b ≡ true
   first_answer back n xs p t o true skipped s = refl
   first_answer back n xs p t o false skipped s =
       let call = calls p (results.store t o) (was Again) in
       let there : In call (table_log behaviour l n (xs ++ (p, (keep t o, kept false)) ∷ [])) =
       subst (In call) (sym (table_log_more behaviour l n xs (p, (keep t o, kept false)))) (in_right (table_log behaviour l n xs) (call ∷ []) call (inl refl)) in
       let its_run = inner_run behaviour l plan (run behaviour l back n (xs ++ (p, (keep t o, kept false)) ∷ []) s) in
-      in_each (FirstWhereSkipped (X behaviour l plan) (form behaviour l plan) (Does behaviour l plan) (order behaviour l plan) (value behaviour l plan) (once behaviour l plan) (keeping behaviour l plan) its_run)
+      in_each (FirstWhereSkipped (X behaviour l plan) (form behaviour l plan) (Does behaviour l plan) (order behaviour l plan) (value behaviour l plan)
+      (once behaviour l plan) (keeping behaviour l plan) its_run)
       (seconds (table_calls (table_log behaviour l n (xs ++ (p, (keep t o, kept false)) ∷ []))))
-      (all_skipped_first (X behaviour l plan) (form behaviour l plan) (Does behaviour l plan) (order behaviour l plan) (value behaviour l plan) (once behaviour l plan) (keeping behaviour l plan) its_run)
+      (all_skipped_first (X behaviour l plan) (form behaviour l plan) (Does behaviour l plan) (order behaviour l plan) (value behaviour l plan)
+      (once behaviour l plan) (keeping behaviour l plan) its_run)
       (stored t o false) (store_in (table_log behaviour l n (xs ++ (p, (keep t o, kept false)) ∷ [])) p t o Again there) skipped
 
   -- ---- the header whose last part is returned is stored
@@ -207,19 +234,23 @@ module _ (behaviour : Behaviour) (l : Line) (plan : IsPlan l) where
       let there : In call log = subst (In call) (sym f.is) (in_right f.before (call ∷ f.rest) call (inl refl)) in
       stored_stays l (plan_apart l plan) t o true log no_results (store_in log f.caller t o First there)
 
-  header_stored : (n : ℕ) (xs : List Step) (p g t m : ℕ) → results.results P (table_log behaviour l n xs) ≡ results_after xs → results.IsLegal P (table_log behaviour l n (xs ++ (p, (part g t, counted m)) ∷ [])) → suc m ≡ length ((form behaviour l plan).members g)
+  header_stored : (n : ℕ) (xs : List Step) (p g t m : ℕ) → results.results P (table_log behaviour l n xs) ≡ results_after xs
+      → results.IsLegal P (table_log behaviour l n (xs ++ (p, (part g t, counted m)) ∷ [])) → suc m ≡ length ((form behaviour l plan).members g)
       → Each (IsStored (xs ++ (p, (part g t, counted m)) ∷ [])) ((form behaviour l plan).members g)
   header_stored n xs p g t m is legal full =
       let x : Step = (p, (part g t, counted m)) in
       each_from_in ((form behaviour l plan).members g) (λ u i.
-      let w = all_first P (table_log behaviour l n (xs ++ x ∷ [])) (table_log behaviour l n xs) [] p g t m legal (table_log_more behaviour l n xs x) full u (among_members u ((form behaviour l plan).members g) i) in
+      let w = all_first P (table_log behaviour l n (xs ++ x ∷ [])) (table_log behaviour l n xs) [] p g t m legal (table_log_more behaviour l n xs x) full u
+      (among_members u ((form behaviour l plan).members g) i) in
       let k = was_in (table_log behaviour l n xs) u w.0 w.1 in
       stored_more xs x u (k.0, ap (λ s. s.outcomes u) (sym is) ∙ k.1))
 
   -- ---- what is left after the worker's own step
 
-  pub own_ready : (back : FirstsRead l) (n : ℕ) (xs : List Step) (p : ℕ) (s : Doing (worker behaviour l)) (r : Reply Envelope Outcome) → results.results P (table_log behaviour l n xs) ≡ results_after xs → Good s → Ready n xs p s → Answers behaviour l n xs (ask (worker behaviour l) s) r
-      → Lawful behaviour l n (xs ++ (p, (ask (worker behaviour l) s, r)) ∷ []) → Ready n (xs ++ (p, (ask (worker behaviour l) s, r)) ∷ []) p (answered (worker behaviour l) s r)
+  pub own_ready : (back : FirstsRead l) (n : ℕ) (xs : List Step) (p : ℕ) (s : Doing (worker behaviour l)) (r : Reply Envelope Outcome)
+      → results.results P (table_log behaviour l n xs) ≡ results_after xs → Good s → Ready n xs p s → Answers behaviour l n xs (ask (worker behaviour l) s) r
+      → Lawful behaviour l n (xs ++ (p, (ask (worker behaviour l) s, r)) ∷ [])
+      → Ready n (xs ++ (p, (ask (worker behaviour l) s, r)) ∷ []) p (answered (worker behaviour l) s r)
   own_ready back n xs p taking (taken None) is good k h law = tt
   own_ready back n xs p taking (taken (Some e)) is good k h law = go ((worker behaviour l).opened e)
     where
@@ -230,27 +261,37 @@ module _ (behaviour : Behaviour) (l : Line) (plan : IsPlan l) where
   own_ready back n xs p resting (rested false) is good k h law = tt
   own_ready back n xs p (owning m) (kept true) is good k h law =
       let us : List ℕ = (worker behaviour l).no m ∷ [] in
-      settled_ready n (xs ++ (p, (keep ((worker behaviour l).no m) ((worker behaviour l).outcome m), kept true)) ∷ []) p us ((worker behaviour l).ended m ((worker behaviour l).outcome m)) true ((its_backs behaviour l plan).ended m ((worker behaviour l).outcome m) good.0)
+      settled_ready n (xs ++ (p, (keep ((worker behaviour l).no m) ((worker behaviour l).outcome m), kept true)) ∷ []) p us
+      ((worker behaviour l).ended m ((worker behaviour l).outcome m)) true ((its_backs behaviour l plan).ended m ((worker behaviour l).outcome m) good.0)
       (stored_may n xs p ((worker behaviour l).no m) ((worker behaviour l).outcome m) law.table_legal, tt)
   own_ready back n xs p (owning m) (kept false) is good k h law = tt
   own_ready back n xs p (doing (store t o ∷ js) d) (kept true) is good k h law =
       settled_ready n (xs ++ (p, (keep t o, kept true)) ∷ []) p (t ∷ k.0) js (cond (is_due t js) true d) k.1
       (stored_may n xs p t o law.table_legal, each_weaker (λ u m. own_may n xs p (keep t o) (kept true) u tt law.table_legal m) k.0 k.2)
-  own_ready back n xs p (doing (store t o ∷ js) d) (kept false) is good k h law = absurd (let wrong : false ≡ true = first_answer back n xs p t o false good.0 law in cc)
+  own_ready back n xs p (doing (store t o ∷ js) d) (kept false) is good k h law =
+      absurd (let wrong : false ≡ true = first_answer back n xs p t o false good.0 law in cc)
   own_ready back n xs p (doing (publish m ∷ js) d) sent is good k h law =
       settled_ready n (xs ++ (p, (send ((worker behaviour l).sealed m), sent)) ∷ []) p k.0 js d k.1
       (each_weaker (λ u f. own_may n xs p (send ((worker behaviour l).sealed m)) sent u tt law.table_legal f) k.0 k.2)
   own_ready back n xs p (doing (hand_in g t c ∷ js) d) (counted i) is good k h law =
       cond_cases (Ready n (xs ++ (p, (part g t, counted i)) ∷ []) p) (eqb (suc i) c.size) (reading g c []) acking
-      (λ full. let size : suc i ≡ c.size = eqb-true _ _ full in
-      (header_stored n xs p g t i is law.table_legal (size ∙ (order behaviour l plan).size g t c good.0.0), subst (λ z. eqb 0 z ≡ false) size (ne_eqb 0 (suc i) (λ e. omega (arith, e)))))
+      (λ full. let size : suc i ≡ c.size = eqb-true _ _ full in (
+        header_stored n xs p g t i is law.table_legal (size ∙ (order behaviour l plan).size g t c good.0.0),
+        subst (λ z. eqb 0 z ≡ false) size (ne_eqb 0 (suc i) (λ e. omega (arith, e))),
+      ))
       (λ less. tt)
   own_ready back n xs p (reading g c fs) (found t (Some o)) is good k h law =
       let x : Step = (p, (read g (length fs), found t (Some o))) in
-      let state = more_found (worker behaviour l) (right_goods (X behaviour l plan) (form behaviour l plan) (Does behaviour l plan)) (right_closed (X behaviour l plan) (form behaviour l plan) (Does behaviour l plan) (order behaviour l plan) (value behaviour l plan)) g c fs t o good h.0 (good_answer back n xs p (read g (length fs)) (found t (Some o)) refl law) in
-      cond_cases (Ready n (xs ++ x ∷ []) p) (eqb (length (fs ++ (t, o) ∷ [])) c.size) (settled (worker behaviour l) ((worker behaviour l).completed c (fs ++ (t, o) ∷ [])) false) (reading g c (fs ++ (t, o) ∷ []))
+      let state = more_found (worker behaviour l) (right_goods (X behaviour l plan) (form behaviour l plan) (Does behaviour l plan))
+      (right_closed (X behaviour l plan) (form behaviour l plan) (Does behaviour l plan) (order behaviour l plan)
+      (value behaviour l plan)) g c fs t o good h.0 (good_answer back n xs p (read g (length fs)) (found t (Some o)) refl law) in
+      cond_cases (Ready n (xs ++ x ∷ []) p) (eqb (length (fs ++ (t, o) ∷ [])) c.size)
+      (settled (worker behaviour l) ((worker behaviour l).completed c (fs ++ (t, o) ∷ [])) false) (reading g c (fs ++ (t, o) ∷ []))
       (λ full. settled_ready n (xs ++ x ∷ []) p [] ((worker behaviour l).completed c (fs ++ (t, o) ∷ [])) false
-      ((its_backs behaviour l plan).completed g state.0 c (fs ++ (t, o) ∷ []) state.1.0 (all_found (worker behaviour l) (right_goods (X behaviour l plan) (form behaviour l plan) (Does behaviour l plan)) (right_closed (X behaviour l plan) (form behaviour l plan) (Does behaviour l plan) (order behaviour l plan) (value behaviour l plan)) g c (fs ++ (t, o) ∷ []) state full)) tt)
+      ((its_backs behaviour l plan).completed g state.0 c (fs ++ (t, o) ∷ []) state.1.0
+      (all_found (worker behaviour l) (right_goods (X behaviour l plan) (form behaviour l plan) (Does behaviour l plan))
+      (right_closed (X behaviour l plan) (form behaviour l plan) (Does behaviour l plan) (order behaviour l plan) (value behaviour l plan)) g c
+      (fs ++ (t, o) ∷ []) state full)) tt)
       (λ less. (each_weaker (λ u m. stored_more xs x u m) ((form behaviour l plan).members g) k.0, less))
   own_ready back n xs p (reading g c fs) (found t None) is good k h law = tt
   own_ready back n xs p acking acked is good k h law = tt
@@ -258,7 +299,8 @@ module _ (behaviour : Behaviour) (l : Line) (plan : IsPlan l) where
 
   -- ---- a redelivery changes nothing of what is known
 
-  pub delivers_ready : (n : ℕ) (xs : List Step) (p q : ℕ) (e : Envelope) → results.IsLegal P (table_log behaviour l n (xs ++ (q, (deliver e, sent)) ∷ [])) → (s : Doing (worker behaviour l)) → Ready n xs p s → Ready n (xs ++ (q, (deliver e, sent)) ∷ []) p s
+  pub delivers_ready : (n : ℕ) (xs : List Step) (p q : ℕ) (e : Envelope) → results.IsLegal P (table_log behaviour l n (xs ++ (q, (deliver e, sent)) ∷ []))
+      → (s : Doing (worker behaviour l)) → Ready n xs p s → Ready n (xs ++ (q, (deliver e, sent)) ∷ []) p s
   delivers_ready n xs p q e legal taking k = tt
   delivers_ready n xs p q e legal resting k = tt
   delivers_ready n xs p q e legal over k = tt
@@ -266,5 +308,7 @@ module _ (behaviour : Behaviour) (l : Line) (plan : IsPlan l) where
   delivers_ready n xs p q e legal (owning m) k = tt
   delivers_ready n xs p q e legal acking k = tt
   delivers_ready n xs p q e legal (doing [] b) k = k
-  delivers_ready n xs p q e legal (doing (j ∷ js) b) k = (k.0, k.1, each_weaker (λ t m. subst (λ g. MayReturn P g p t) (sym (table_delivers behaviour l n xs q e)) m) k.0 k.2)
-  delivers_ready n xs p q e legal (reading g c fs) k = (each_weaker (λ t m. stored_more xs (q, (deliver e, sent)) t m) ((form behaviour l plan).members g) k.0, k.1)
+  delivers_ready n xs p q e legal (doing (j ∷ js) b) k =
+      (k.0, k.1, each_weaker (λ t m. subst (λ g. MayReturn P g p t) (sym (table_delivers behaviour l n xs q e)) m) k.0 k.2)
+  delivers_ready n xs p q e legal (reading g c fs) k =
+      (each_weaker (λ t m. stored_more xs (q, (deliver e, sent)) t m) ((form behaviour l plan).members g) k.0, k.1)

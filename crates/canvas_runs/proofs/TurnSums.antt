@@ -61,7 +61,8 @@ ones zero f l = l 0
 ones (suc n) f l = let r = ones n f l in let h = l (suc n) in omega (arith, r, h)
 
 -- Where each element is of some number up to n, and no number has two, there are n + 1 at most.
-spread : {A : Type 0} (w : A → ℕ) (v : ℕ → A → ℕ) (n : ℕ) (xs : List A) → Each (λ x. w x ≤ sum_to n (λ k. v k x)) xs → ((k : ℕ) → total (v k) xs ≤ 1) → total w xs ≤ suc n
+spread : {A : Type 0} (w : A → ℕ) (v : ℕ → A → ℕ) (n : ℕ) (xs : List A) → Each (λ x. w x ≤ sum_to n (λ k. v k x)) xs → ((k : ℕ) → total (v k) xs ≤ 1)
+    → total w xs ≤ suc n
 spread {A} w v n xs each one = let a = below xs each in let b = ones n (λ k. total (v k) xs) one in omega (arith, a, b)
   where
     below : (ys : List A) → Each (λ x. w x ≤ sum_to n (λ k. v k x)) ys → total w ys ≤ sum_to n (λ k. total (v k) ys)
@@ -69,7 +70,8 @@ spread {A} w v n xs each one = let a = below xs each in let b = ones n (λ k. to
     below (y ∷ ys) e = let r = below ys e.1 in omega (arith, r, e.0, sum_to-both n (λ k. v k y) (λ k. total (v k) ys))
 
 -- the same where a number may have some more
-spread_by : {A : Type 0} (w : A → ℕ) (v : ℕ → A → ℕ) (g : ℕ → ℕ) (n : ℕ) (xs : List A) → Each (λ x. w x ≤ sum_to n (λ k. v k x)) xs → ((k : ℕ) → total (v k) xs ≤ 1 + g k) → total w xs ≤ suc n + sum_to n g
+spread_by : {A : Type 0} (w : A → ℕ) (v : ℕ → A → ℕ) (g : ℕ → ℕ) (n : ℕ) (xs : List A) → Each (λ x. w x ≤ sum_to n (λ k. v k x)) xs
+    → ((k : ℕ) → total (v k) xs ≤ 1 + g k) → total w xs ≤ suc n + sum_to n g
 spread_by {A} w v g n xs each one =
     let a = below xs each in
     let b = sum_to-le n (λ k. total (v k) xs) (λ k. 1 + g k) one in
@@ -108,11 +110,13 @@ redelivering (took x) = 0
 redelivering (again e) = 1
 
 -- what is taken was published or delivered again
-takes_few : (ts q : List Envelope) (cs : List (BrokerCall Envelope)) → IsQueue ts q cs → total takes_one cs ≤ length q + total publishing cs + total redelivering cs
+takes_few : (ts q : List Envelope) (cs : List (BrokerCall Envelope)) → IsQueue ts q cs
+    → total takes_one cs ≤ length q + total publishing cs + total redelivering cs
 takes_few ts q [] k = omega arith
 takes_few ts q (published e ∷ cs) k = let r = takes_few ts (q ++ e ∷ []) cs k in omega (arith, r, length-append q (e ∷ []))
 takes_few ts q (again e ∷ cs) k = let r = takes_few ts (q ++ e ∷ []) cs k.1 in omega (arith, r, length-append q (e ∷ []))
-takes_few ts q (took e ∷ cs) (rest, same, k) = let r = takes_few (e ∷ ts) rest cs k in let many : length q ≡ suc (length rest) = ap length same in omega (arith, r, many)
+takes_few ts q (took e ∷ cs) (rest, same, k) = let r = takes_few (e ∷ ts) rest cs k in let many : length q ≡ suc (length rest) = ap length same in
+    omega (arith, r, many)
 
 abbrev pub keeping_one : BackendCall Outcome → ℕ
 keeping_one (stored t o b) = 1
@@ -148,7 +152,8 @@ module _ (behaviour : Behaviour) (l : Line) where
   acks_one a r = 0
 
   abbrev pub calls_of : AskedAndAnswered Envelope Outcome → ℕ
-  calls_of y = (in_queue publishing y + in_queue takes_one y) + (in_table keeping_one y + in_table returning y + in_table reading_one y) + acks_one y.0 y.1 + redelivers_one y.0
+  calls_of y = (in_queue publishing y + in_queue takes_one y) + (in_table keeping_one y + in_table returning y + in_table reading_one y) + acks_one y.0 y.1
+      + redelivers_one y.0
 
   abbrev pub calls_in : List Step → ℕ
   calls_in xs = total (λ x. calls_of x.1) xs
@@ -157,35 +162,46 @@ module _ (behaviour : Behaviour) (l : Line) where
   lines_total w [] = refl
   lines_total w (x ∷ xs) =
       let call : List (BrokerCall Envelope) = worker_call x.1.0 x.1.1 in
-      ap (λ g. total w (seconds g)) (queue_calls_append (broker_entries x.0 call) (queue_lines behaviour l xs) ∙ ap (λ g. g ++ queue_calls (queue_lines behaviour l xs)) (queue_calls_entries x.0 call))
+      ap (λ g. total w (seconds g)) (queue_calls_append (broker_entries x.0 call) (queue_lines behaviour l xs)
+      ∙ ap (λ g. g ++ queue_calls (queue_lines behaviour l xs)) (queue_calls_entries x.0 call))
       ∙ (ap (total w) (seconds-append (tag x.0 call) (queue_calls (queue_lines behaviour l xs)))
-      ∙ (total-append w (seconds (tag x.0 call)) (seconds (queue_calls (queue_lines behaviour l xs))) ∙ ap₂ (λ a b. a + b) (total-tag w x.0 call) (lines_total w xs)))
+      ∙ (total-append w (seconds (tag x.0 call)) (seconds (queue_calls (queue_lines behaviour l xs)))
+      ∙ ap₂ (λ a b. a + b) (total-tag w x.0 call) (lines_total w xs)))
 
   rows_total : (w : BackendCall Outcome → ℕ) (xs : List Step) → total w (seconds (table_calls (table_lines behaviour l xs))) ≡ total (λ x. in_table w x.1) xs
   rows_total w [] = refl
   rows_total w (x ∷ xs) =
       let call : List (BackendCall Outcome) = backend_call x.1.0 x.1.1 in
-      ap (λ g. total w (seconds g)) (table_calls_append (backend_entries x.0 call) (table_lines behaviour l xs) ∙ ap (λ g. g ++ table_calls (table_lines behaviour l xs)) (table_calls_rows x.0 call))
+      ap (λ g. total w (seconds g)) (table_calls_append (backend_entries x.0 call) (table_lines behaviour l xs)
+      ∙ ap (λ g. g ++ table_calls (table_lines behaviour l xs)) (table_calls_rows x.0 call))
       ∙ (ap (total w) (seconds-append (tag x.0 call) (table_calls (table_lines behaviour l xs)))
-      ∙ (total-append w (seconds (tag x.0 call)) (seconds (table_calls (table_lines behaviour l xs))) ∙ ap₂ (λ a b. a + b) (total-tag w x.0 call) (rows_total w xs)))
+      ∙ (total-append w (seconds (tag x.0 call)) (seconds (table_calls (table_lines behaviour l xs)))
+      ∙ ap₂ (λ a b. a + b) (total-tag w x.0 call) (rows_total w xs)))
 
-  pub queue_split : (w : BrokerCall Envelope → ℕ) (n : ℕ) (xs : List Step) → total w (seconds (queue_calls (queue_log behaviour l n xs))) ≡ total w (published_all (first_envelopes behaviour l)) + total (λ x. in_queue w x.1) xs
+  pub queue_split : (w : BrokerCall Envelope → ℕ) (n : ℕ) (xs : List Step)
+      → total w (seconds (queue_calls (queue_log behaviour l n xs))) ≡ total w (published_all (first_envelopes behaviour l)) + total (λ x. in_queue w x.1) xs
   queue_split w n xs =
       let opening = broker_entries 0 (published_all (first_envelopes behaviour l)) in
-      ap (λ g. total w (seconds g)) (queue_calls_append (splits_of (round n)) (opening ++ queue_lines behaviour l xs) ∙ ap (λ g. g ++ queue_calls (opening ++ queue_lines behaviour l xs)) (queue_calls_splits (round n)))
-      ∙ (ap (λ g. total w (seconds g)) (queue_calls_append opening (queue_lines behaviour l xs) ∙ ap (λ g. g ++ queue_calls (queue_lines behaviour l xs)) (queue_calls_entries 0 (published_all (first_envelopes behaviour l))))
+      ap (λ g. total w (seconds g)) (queue_calls_append (splits_of (round n)) (opening ++ queue_lines behaviour l xs)
+      ∙ ap (λ g. g ++ queue_calls (opening ++ queue_lines behaviour l xs)) (queue_calls_splits (round n)))
+      ∙ (ap (λ g. total w (seconds g)) (queue_calls_append opening (queue_lines behaviour l xs)
+      ∙ ap (λ g. g ++ queue_calls (queue_lines behaviour l xs)) (queue_calls_entries 0 (published_all (first_envelopes behaviour l))))
       ∙ (ap (total w) (seconds-append (tag 0 (published_all (first_envelopes behaviour l))) (queue_calls (queue_lines behaviour l xs)))
-      ∙ (total-append w (seconds (tag 0 (published_all (first_envelopes behaviour l)))) (seconds (queue_calls (queue_lines behaviour l xs))) ∙ ap₂ (λ a b. a + b) (total-tag w 0 (published_all (first_envelopes behaviour l))) (lines_total w xs))))
+      ∙ (total-append w (seconds (tag 0 (published_all (first_envelopes behaviour l)))) (seconds (queue_calls (queue_lines behaviour l xs)))
+      ∙ ap₂ (λ a b. a + b) (total-tag w 0 (published_all (first_envelopes behaviour l))) (lines_total w xs))))
 
-  queue_total : (w : BrokerCall Envelope → ℕ) (n : ℕ) (xs : List Step) → total (λ x. in_queue w x.1) xs ≤ total w (seconds (queue_calls (queue_log behaviour l n xs)))
+  queue_total : (w : BrokerCall Envelope → ℕ) (n : ℕ) (xs : List Step)
+      → total (λ x. in_queue w x.1) xs ≤ total w (seconds (queue_calls (queue_log behaviour l n xs)))
   queue_total w n xs = let same = queue_split w n xs in omega (arith, same)
 
   -- what redeliveries have no part in
-  scripts_total : (w : AskedAndAnswered Envelope Outcome → ℕ) → ((e : Envelope) (r : Reply Envelope Outcome) → w (deliver e, r) ≡ 0) → (ys : List (AskedAndAnswered Envelope Outcome)) → total w (scripts_of ys) ≡ total w ys
+  scripts_total : (w : AskedAndAnswered Envelope Outcome → ℕ) → ((e : Envelope) (r : Reply Envelope Outcome) → w (deliver e, r) ≡ 0)
+      → (ys : List (AskedAndAnswered Envelope Outcome)) → total w (scripts_of ys) ≡ total w ys
   scripts_total w none [] = refl
   scripts_total w none (y ∷ ys) = go y.0 y.1 (scripts_total w none ys)
     where
-      go : (a : Ask Envelope Outcome) (r : Reply Envelope Outcome) → total w (scripts_of ys) ≡ total w ys → total w (scripts_of ((a, r) ∷ ys)) ≡ w (a, r) + total w ys
+      go : (a : Ask Envelope Outcome) (r : Reply Envelope Outcome) → total w (scripts_of ys) ≡ total w ys
+          → total w (scripts_of ((a, r) ∷ ys)) ≡ w (a, r) + total w ys
       go (deliver e) r k = let z = none e r in omega (arith, k, z)
       go a r k = ap (λ m. w (a, r) + m) k
 
@@ -193,12 +209,16 @@ module _ (behaviour : Behaviour) (l : Line) where
   no_take e sent = refl
   no_take e r = refl
 
-  pub table_total : (w : BackendCall Outcome → ℕ) (n : ℕ) (xs : List Step) → total w (seconds (table_calls (table_log behaviour l n xs))) ≡ total (λ x. in_table w x.1) xs
+  pub table_total : (w : BackendCall Outcome → ℕ) (n : ℕ) (xs : List Step)
+      → total w (seconds (table_calls (table_log behaviour l n xs))) ≡ total (λ x. in_table w x.1) xs
   table_total w n xs =
-      ap (λ g. total w (seconds g)) (table_calls_append (splits_of (round n)) (table_lines behaviour l xs) ∙ ap (λ g. g ++ table_calls (table_lines behaviour l xs)) (table_calls_splits (round n)))
+      ap (λ g. total w (seconds g)) (table_calls_append (splits_of (round n)) (table_lines behaviour l xs)
+      ∙ ap (λ g. g ++ table_calls (table_lines behaviour l xs)) (table_calls_splits (round n)))
       ∙ rows_total w xs
 
-  parts_sum : (xs : List Step) → calls_in xs ≡ (total (λ x. in_queue publishing x.1) xs + total (λ x. in_queue takes_one x.1) xs) + (total (λ x. in_table keeping_one x.1) xs + total (λ x. in_table returning x.1) xs + total (λ x. in_table reading_one x.1) xs) + total (λ x. acks_one x.1.0 x.1.1) xs + redeliveries_in xs
+  parts_sum : (xs : List Step) → calls_in xs ≡ (total (λ x. in_queue publishing x.1) xs + total (λ x. in_queue takes_one x.1) xs)
+      + (total (λ x. in_table keeping_one x.1) xs + total (λ x. in_table returning x.1) xs + total (λ x. in_table reading_one x.1) xs)
+      + total (λ x. acks_one x.1.0 x.1.1) xs + redeliveries_in xs
   parts_sum [] = refl
   parts_sum (x ∷ xs) = let r = parts_sum xs in omega (arith, r)
 
@@ -231,7 +251,8 @@ module _ (behaviour : Behaviour) (l : Line) (n : ℕ) (us : List ℕ) (xs : List
       let opening = broker_entries 0 (published_all (first_envelopes behaviour l)) in
       let lines = lines_total behaviour l redelivering xs in
       let first = none_opened (first_envelopes behaviour l) in
-      let same : total redelivering Q ≡ total redelivering (published_all (first_envelopes behaviour l)) + total (λ x. in_queue behaviour l redelivering x.1) xs = queue_split behaviour l redelivering n xs in
+      let same : total redelivering Q ≡ total redelivering (published_all (first_envelopes behaviour l))
+      + total (λ x. in_queue behaviour l redelivering x.1) xs = queue_split behaviour l redelivering n xs in
       let each = fewer xs in
       omega (arith, lines, first, same, each)
     where
@@ -263,12 +284,15 @@ module _ (behaviour : Behaviour) (l : Line) (n : ℕ) (us : List ℕ) (xs : List
         where
           below : (m : ℕ) → m < j → sum_to m (λ k. cond (eqb j k) 1 0) ≡ 0
           below zero h = ap (λ b. cond b 1 0) (ne_eqb j 0 (λ e. omega (arith, h, e)))
-          below (suc m) h = let r = below m (omega (arith, h)) in let z : ◌≡◌ {A = ℕ} (cond (eqb j (suc m)) 1 0) 0 = ap (λ b. cond b 1 0) (ne_eqb j (suc m) (λ e. omega (arith, h, e))) in omega (arith, r, z)
+          below (suc m) h = let r = below m (omega (arith, h)) in let z : ◌≡◌ {A = ℕ} (cond (eqb j (suc m)) 1 0) 0 =
+              ap (λ b. cond b 1 0) (ne_eqb j (suc m) (λ e. omega (arith, h, e))) in omega (arith, r, z)
 
           upto : (m : ℕ) → (m < j) ⊎ (j ≤ m) → sum_to m (λ k. cond (eqb j k) 1 0) ≤ 1
           upto m (inl h) = let r = below m h in omega (arith, r)
           upto zero (inr h) = bit (eqb j 0)
-          upto (suc m) (inr h) = ⊎_elim (λ b. let r = below m b in let z = bit (eqb j (suc m)) in omega (arith, r, z)) (λ b. let r = upto m (inr b) in let z : ◌≡◌ {A = ℕ} (cond (eqb j (suc m)) 1 0) 0 = ap (λ b. cond b 1 0) (ne_eqb j (suc m) (λ e. omega (arith, b, e))) in omega (arith, r, z)) (cases_lt m j)
+          upto (suc m) (inr h) = ⊎_elim (λ b. let r = below m b in let z = bit (eqb j (suc m)) in omega (arith, r, z)) (λ b. let r = upto m (inr b) in
+              let z : ◌≡◌ {A = ℕ} (cond (eqb j (suc m)) 1 0) 0 = ap (λ b. cond b 1 0) (ne_eqb j (suc m) (λ e. omega (arith, b, e))) in omega (arith, r, z))
+              (cases_lt m j)
 
       zeros : (m : ℕ) → sum_to m (λ k. 0) ≡ 0
       zeros zero = refl
@@ -285,7 +309,8 @@ module _ (behaviour : Behaviour) (l : Line) (n : ℕ) (us : List ℕ) (xs : List
 
       go : (cs : List (BrokerCall Envelope)) → sum_to m (λ k. total (agains_task (X behaviour l t.plan) k) cs) ≤ total redelivering cs
       go [] = let z = zeros m in omega (arith, z)
-      go (c ∷ cs) = let h = one c in let r = go cs in let s = sum_to-both m (λ k. agains_task (X behaviour l t.plan) k c) (λ k. total (agains_task (X behaviour l t.plan) k) cs) in omega (arith, h, r, s)
+      go (c ∷ cs) = let h = one c in let r = go cs in let s =
+          sum_to-both m (λ k. agains_task (X behaviour l t.plan) k c) (λ k. total (agains_task (X behaviour l t.plan) k) cs) in omega (arith, h, r, s)
 
   -- ---- acknowledgements
 
@@ -294,7 +319,8 @@ module _ (behaviour : Behaviour) (l : Line) (n : ℕ) (us : List ℕ) (xs : List
   open_one false = 0
 
   abbrev Acks : Doing (worker behaviour l) → Reply Envelope Outcome → Type 0
-  Acks s r = acks_one behaviour l (ask (worker behaviour l) s) r + open_one (is_inside (answered (worker behaviour l) s r)) ≤ open_one (is_inside s) + in_queue behaviour l takes_one (ask (worker behaviour l) s, r)
+  Acks s r = acks_one behaviour l (ask (worker behaviour l) s) r + open_one (is_inside (answered (worker behaviour l) s r)) ≤ open_one (is_inside s)
+      + in_queue behaviour l takes_one (ask (worker behaviour l) s, r)
 
   at_most_open : (b : Bool) → open_one b ≤ 1
   at_most_open true = omega arith
@@ -306,19 +332,25 @@ module _ (behaviour : Behaviour) (l : Line) (n : ℕ) (us : List ℕ) (xs : List
   acks_step resting (rested true) u = omega arith
   acks_step resting (rested false) u = omega arith
   acks_step (owning m) (kept b) u = let h = at_most_open (is_inside (answered (worker behaviour l) (owning m) (kept b))) in omega (arith, h)
-  acks_step (doing (store v o ∷ js) d) (kept b) u = let h = at_most_open (is_inside (answered (worker behaviour l) (doing (store v o ∷ js) d) (kept b))) in omega (arith, h)
-  acks_step (doing (publish m ∷ js) d) sent u = let h = at_most_open (is_inside (answered (worker behaviour l) (doing (publish m ∷ js) d) sent)) in omega (arith, h)
+  acks_step (doing (store v o ∷ js) d) (kept b) u = let h = at_most_open (is_inside (answered (worker behaviour l) (doing (store v o ∷ js) d) (kept b))) in
+      omega (arith, h)
+  acks_step (doing (publish m ∷ js) d) sent u = let h = at_most_open (is_inside (answered (worker behaviour l) (doing (publish m ∷ js) d) sent)) in
+      omega (arith, h)
   acks_step (doing (publish m ∷ js) d) refused u = omega arith
-  acks_step (doing (hand_in g v c ∷ js) d) (counted i) u = let h = at_most_open (is_inside (answered (worker behaviour l) (doing (hand_in g v c ∷ js) d) (counted i))) in omega (arith, h)
+  acks_step (doing (hand_in g v c ∷ js) d) (counted i) u = let h =
+      at_most_open (is_inside (answered (worker behaviour l) (doing (hand_in g v c ∷ js) d) (counted i))) in omega (arith, h)
   acks_step (reading g c fs) (found v x) u = let h = at_most_open (is_inside (answered (worker behaviour l) (reading g c fs) (found v x))) in omega (arith, h)
   acks_step acking acked u = omega arith
   acks_step s r u = elim u [ ]
 
-  acks_of : (s : Doing (worker behaviour l)) (ys : List (AskedAndAnswered Envelope Outcome)) → IsCoreRun (worker behaviour l) s ys → total (λ y. acks_one behaviour l y.0 y.1) ys ≤ open_one (is_inside s) + total (in_queue behaviour l takes_one) ys
+  acks_of : (s : Doing (worker behaviour l)) (ys : List (AskedAndAnswered Envelope Outcome)) → IsCoreRun (worker behaviour l) s ys
+      → total (λ y. acks_one behaviour l y.0 y.1) ys ≤ open_one (is_inside s) + total (in_queue behaviour l takes_one) ys
   acks_of s [] c = omega arith
   acks_of s (y ∷ ys) c =
-      let now : acks_one behaviour l y.0 y.1 + open_one (is_inside (answered (worker behaviour l) s y.1)) ≤ open_one (is_inside s) + in_queue behaviour l takes_one (y.0, y.1) =
-      subst (λ a. acks_one behaviour l a y.1 + open_one (is_inside (answered (worker behaviour l) s y.1)) ≤ open_one (is_inside s) + in_queue behaviour l takes_one (a, y.1)) (sym c.0)
+      let now : acks_one behaviour l y.0 y.1 + open_one (is_inside (answered (worker behaviour l) s y.1)) ≤ open_one (is_inside s)
+      + in_queue behaviour l takes_one (y.0, y.1) =
+      subst (λ a. acks_one behaviour l a y.1 + open_one (is_inside (answered (worker behaviour l) s y.1)) ≤ open_one (is_inside s)
+      + in_queue behaviour l takes_one (a, y.1)) (sym c.0)
       (acks_step s y.1 (subst (λ a. Suits a y.1) c.0 c.1.0)) in
       let later = acks_of (answered (worker behaviour l) s y.1) ys c.2 in
       omega (arith, now, later)
@@ -328,15 +360,21 @@ module _ (behaviour : Behaviour) (l : Line) (n : ℕ) (us : List ℕ) (xs : List
       let below : Each (λ (x : Step). x.0 ≤ n) xs = each_weaker (λ x w. w.1) xs (holds behaviour l n us xs t).workers in
       let a = total-seconds (λ y. acks_one behaviour l y.0 y.1) xs ∙ total_by (λ y. acks_one behaviour l y.0 y.1) n xs below in
       let b = total-seconds (in_queue behaviour l takes_one) xs ∙ total_by (in_queue behaviour l takes_one) n xs below in
-      let c = sum_to-le n (λ p. total (λ y. acks_one behaviour l y.0 y.1) (by p xs)) (λ p. total (in_queue behaviour l takes_one) (by p xs)) (λ p. let h = acks_of taking (scripts_of (by p xs)) (R.is_core p) in let i = scripts_total behaviour l (λ (y : AskedAndAnswered Envelope Outcome). acks_one behaviour l y.0 y.1) (λ e r. refl) (by p xs) in let j = scripts_total behaviour l (in_queue behaviour l takes_one) (no_take behaviour l) (by p xs) in omega (arith, h, i, j)) in
+      let c = sum_to-le n (λ p. total (λ y. acks_one behaviour l y.0 y.1) (by p xs)) (λ p. total (in_queue behaviour l takes_one) (by p xs))
+      (λ p. let h = acks_of taking (scripts_of (by p xs)) (R.is_core p) in
+      let i = scripts_total behaviour l (λ (y : AskedAndAnswered Envelope Outcome). acks_one behaviour l y.0 y.1) (λ e r. refl) (by p xs) in let j =
+      scripts_total behaviour l (in_queue behaviour l takes_one) (no_take behaviour l) (by p xs) in omega (arith, h, i, j)) in
       omega (arith, a, b, c)
 
   -- ---- publishes
 
   run_task : (c : Content) → F.Formed c → IsRun (X behaviour l t.plan) (Does behaviour l t.plan) c → number_of c.own ≤ T
-  run_task c f r = (state_task behaviour l t.plan (number_of c.own) ((worker behaviour l).outcome c) (has_state behaviour l t.plan (number_of c.own) ((worker behaviour l).outcome c) (running (number_of c.own), (value behaviour l t.plan).own c r))).1
+  run_task c f r = (state_task behaviour l t.plan (number_of c.own) ((worker behaviour l).outcome c)
+      (has_state behaviour l t.plan (number_of c.own) ((worker behaviour l).outcome c) (running (number_of c.own), (value behaviour l t.plan).own c r))).1
 
-  publish_picked : (c : BrokerCall Envelope) → GoodPublish (IsRunSealed (X behaviour l t.plan) (form behaviour l t.plan) (Does behaviour l t.plan) (order behaviour l t.plan) (value behaviour l t.plan) (inner_run behaviour l t.plan R)) c → publishing c ≤ sum_to T (λ k. publishes_one l k c)
+  publish_picked : (c : BrokerCall Envelope)
+      → GoodPublish (IsRunSealed (X behaviour l t.plan) (form behaviour l t.plan) (Does behaviour l t.plan) (order behaviour l t.plan)
+      (value behaviour l t.plan) (inner_run behaviour l t.plan R)) c → publishing c ≤ sum_to T (λ k. publishes_one l k c)
   publish_picked (took x) g = omega arith
   publish_picked (again e) g = omega arith
   publish_picked (published e) (m, same, back, formed, runs) =
@@ -346,21 +384,28 @@ module _ (behaviour : Behaviour) (l : Line) (n : ℕ) (us : List ℕ) (xs : List
   publishes_few : total publishing Q ≤ suc T
   publishes_few =
       spread publishing (publishes_one l) T Q
-      (each_weaker publish_picked Q (each_seconds (GoodPublish (IsRunSealed (X behaviour l t.plan) (form behaviour l t.plan) (Does behaviour l t.plan) (order behaviour l t.plan) (value behaviour l t.plan) (inner_run behaviour l t.plan R))) (queue_calls R.queue)
-      (publishes_right (X behaviour l t.plan) (form behaviour l t.plan) (Does behaviour l t.plan) (order behaviour l t.plan) (value behaviour l t.plan) (inner_run behaviour l t.plan R))))
+      (each_weaker publish_picked Q
+      (each_seconds (GoodPublish
+      (IsRunSealed (X behaviour l t.plan) (form behaviour l t.plan) (Does behaviour l t.plan) (order behaviour l t.plan) (value behaviour l t.plan)
+      (inner_run behaviour l t.plan R))) (queue_calls R.queue)
+      (publishes_right (X behaviour l t.plan) (form behaviour l t.plan) (Does behaviour l t.plan) (order behaviour l t.plan) (value behaviour l t.plan)
+      (inner_run behaviour l t.plan R))))
       (λ k. (first_part behaviour l t.plan R).published_once k)
 
   -- ---- stores
 
   stores_few : total keeping_one B ≤ suc T + total redelivering Q
   stores_few =
-      let a = spread_by keeping_one (stores_task (X behaviour l t.plan)) (λ k. total (agains_task (X behaviour l t.plan) k) Q) T B (each_from_in B stored_picked)
-      (λ k. kept_few (X behaviour l t.plan) (form behaviour l t.plan) (Does behaviour l t.plan) (order behaviour l t.plan) (value behaviour l t.plan) (once behaviour l t.plan) (keeping behaviour l t.plan) (inner_run behaviour l t.plan R) k) in
+      let a = spread_by keeping_one (stores_task (X behaviour l t.plan)) (λ k. total (agains_task (X behaviour l t.plan) k) Q) T B
+      (each_from_in B stored_picked)
+      (λ k. kept_few (X behaviour l t.plan) (form behaviour l t.plan) (Does behaviour l t.plan) (order behaviour l t.plan) (value behaviour l t.plan)
+      (once behaviour l t.plan) (keeping behaviour l t.plan) (inner_run behaviour l t.plan R) k) in
       let c = again_sum T in
       omega (arith, a, c)
     where
       stored_picked : (c : BackendCall Outcome) → In c B → keeping_one c ≤ sum_to T (λ k. stores_task (X behaviour l t.plan) k c)
-      stored_picked (stored u o b) i = picked T u (state_task behaviour l t.plan u o (has_state behaviour l t.plan u o (stored_right behaviour l t.plan R u o b i))).1
+      stored_picked (stored u o b) i =
+          picked T u (state_task behaviour l t.plan u o (has_state behaviour l t.plan u o (stored_right behaviour l t.plan R u o b i))).1
       stored_picked (returned g u m) i = omega arith
       stored_picked (has_read u x) i = omega arith
 
@@ -382,16 +427,19 @@ module _ (behaviour : Behaviour) (l : Line) (n : ℕ) (us : List ℕ) (xs : List
   member_steps (y ∷ ys) g = each_append OfMember _ _ (member_step y.0 y.1 g.0) (member_steps ys g.1)
 
   its_answers : (p : ℕ) → Each (λ (y : AskedAndAnswered Envelope Outcome). GoodAnswer (worker behaviour l) G y.1) (scripts_of (by p xs))
-  its_answers p = answers_right (X behaviour l t.plan) (form behaviour l t.plan) (Does behaviour l t.plan) (order behaviour l t.plan) (value behaviour l t.plan) (inner_run behaviour l t.plan R) p
+  its_answers p = answers_right (X behaviour l t.plan) (form behaviour l t.plan) (Does behaviour l t.plan) (order behaviour l t.plan) (value behaviour l t.plan)
+      (inner_run behaviour l t.plan R) p
 
   abbrev its_closed : Closed (worker behaviour l) G
   its_closed = right_closed (X behaviour l t.plan) (form behaviour l t.plan) (Does behaviour l t.plan) (order behaviour l t.plan) (value behaviour l t.plan)
 
   its_asks : (p : ℕ) → Each (λ (y : AskedAndAnswered Envelope Outcome). GoodAsk (worker behaviour l) G y.0) (scripts_of (by p xs))
-  its_asks p = goods_from_careful (worker behaviour l) G (scripts_of (by p xs)) (keeps (worker behaviour l) G its_closed taking (scripts_of (by p xs)) tt (R.is_core p) (R.reads p)) (its_answers p)
+  its_asks p = goods_from_careful (worker behaviour l) G (scripts_of (by p xs))
+      (keeps (worker behaviour l) G its_closed taking (scripts_of (by p xs)) tt (R.is_core p) (R.reads p)) (its_answers p)
 
   all_members : Each OfMember B
-  all_members = each_from_by OfMember (table_calls R.table) (λ p. subst (Each OfMember) (sym (table_by behaviour l n xs p ∙ backend_scripts (by p xs))) (member_steps (scripts_of (by p xs)) (its_asks p)))
+  all_members = each_from_by OfMember (table_calls R.table)
+      (λ p. subst (Each OfMember) (sym (table_by behaviour l n xs p ∙ backend_scripts (by p xs))) (member_steps (scripts_of (by p xs)) (its_asks p)))
 
   some_times : (g u : ℕ) → In u (members l g) → 0 < times l u g
   some_times g u i = let some = (member_test u (members l g)).0 (among_members u (members l g) i) in omega (arith, some)
@@ -447,7 +495,8 @@ module _ (behaviour : Behaviour) (l : Line) (n : ℕ) (us : List ℕ) (xs : List
   -- what a step reads, and what is still to be read behind it, is covered by what was to be read and by the parts that it returns
   abbrev Covers : Doing (worker behaviour l) → Reply Envelope Outcome → Type 0
   Covers s r =
-      (k : ℕ) → Still s k → (j : ℕ) × Still (answered (worker behaviour l) s r) j × (in_table behaviour l reading_one (ask (worker behaviour l) s, r) + j ≤ k + T * in_table behaviour l returning (ask (worker behaviour l) s, r))
+      (k : ℕ) → Still s k → (j : ℕ) × Still (answered (worker behaviour l) s r) j
+      × (in_table behaviour l reading_one (ask (worker behaviour l) s, r) + j ≤ k + T * in_table behaviour l returning (ask (worker behaviour l) s, r))
 
   settled_still : (js : Jobs (worker behaviour l)) (b : Bool) → Still (settled (worker behaviour l) js b) 0
   settled_still [] b = refl
@@ -468,7 +517,8 @@ module _ (behaviour : Behaviour) (l : Line) (n : ℕ) (us : List ℕ) (xs : List
   header_few : (g u : ℕ) (c : PCarried) → F.FormedPart g u c → c.size ≤ T
   header_few g u c f = let a = (order behaviour l t.plan).size g u c f in let b = few_members g in omega (arith, a, b)
 
-  covers : (s : Doing (worker behaviour l)) (r : Reply Envelope Outcome) → GoodState (worker behaviour l) G s → reads_member (roster_members (roster_of l)) (ask (worker behaviour l) s) r → Covers s r
+  covers : (s : Doing (worker behaviour l)) (r : Reply Envelope Outcome) → GoodState (worker behaviour l) G s
+      → reads_member (roster_members (roster_of l)) (ask (worker behaviour l) s) r → Covers s r
   covers taking (taken None) p m k e = (0, refl, omega arith)
   covers taking (taken (Some e)) p m k h = (0, opens_still ((worker behaviour l).opened e), omega arith)
   covers resting (rested true) p m k e = (0, refl, omega arith)
@@ -485,7 +535,8 @@ module _ (behaviour : Behaviour) (l : Line) (n : ℕ) (us : List ℕ) (xs : List
       let many = (order behaviour l t.plan).size g p.0 c p.1.0 in
       let within = at_within (length fs) (members l g) u m in
       let more : length (fs ++ (u, o) ∷ []) ≡ length fs + 1 = length-append fs ((u, o) ∷ []) in
-      cond_cases (λ s. (j : ℕ) × Still s j × ((1 + 0) + j ≤ k + T * 0)) (eqb (length (fs ++ (u, o) ∷ [])) c.size) (settled (worker behaviour l) ((worker behaviour l).completed c (fs ++ (u, o) ∷ [])) false) (reading g c (fs ++ (u, o) ∷ []))
+      cond_cases (λ s. (j : ℕ) × Still s j × ((1 + 0) + j ≤ k + T * 0)) (eqb (length (fs ++ (u, o) ∷ [])) c.size)
+      (settled (worker behaviour l) ((worker behaviour l).completed c (fs ++ (u, o) ∷ [])) false) (reading g c (fs ++ (u, o) ∷ []))
       (λ full. (0, settled_still ((worker behaviour l).completed c (fs ++ (u, o) ∷ [])) false, omega (arith, many, within, e)))
       (λ less. one_less k (length fs) c.size (length (fs ++ (u, o) ∷ [])) e more (omega (arith, many, within)))
     where
@@ -499,14 +550,16 @@ module _ (behaviour : Behaviour) (l : Line) (n : ℕ) (us : List ℕ) (xs : List
   covers acking acked p m k e = (0, refl, omega arith)
   covers s r p m k e = (0, refl, omega arith)
 
-  reads_of : (s : Doing (worker behaviour l)) (ys : List Y) → GoodState (worker behaviour l) G s → IsCoreRun (worker behaviour l) s ys → ReadsMembers (roster_members (roster_of l)) ys → Each (λ (y : Y). GoodAnswer (worker behaviour l) G y.1) ys → (k : ℕ) → Still s k
+  reads_of : (s : Doing (worker behaviour l)) (ys : List Y) → GoodState (worker behaviour l) G s → IsCoreRun (worker behaviour l) s ys
+      → ReadsMembers (roster_members (roster_of l)) ys → Each (λ (y : Y). GoodAnswer (worker behaviour l) G y.1) ys → (k : ℕ) → Still s k
       → total (in_table behaviour l reading_one) ys ≤ k + T * total (in_table behaviour l returning) ys
   reads_of s [] p c m a k e = omega arith
   reads_of s (y ∷ ys) p c m a k e =
       let mine = subst (λ z. reads_member (roster_members (roster_of l)) z y.1) c.0 m.0 in
       let step = covers s y.1 p mine k e in
       let rest = reads_of (answered (worker behaviour l) s y.1) ys (next_good (worker behaviour l) G its_closed s y.1 p mine a.0) c.2 m.1 a.1 step.0 step.1 in
-      let step' : in_table behaviour l reading_one y + step.0 ≤ k + T * in_table behaviour l returning y = subst (λ z. in_table behaviour l reading_one (z, y.1) + step.0 ≤ k + T * in_table behaviour l returning (z, y.1)) (sym c.0) step.2 in
+      let step' : in_table behaviour l reading_one y + step.0 ≤ k + T * in_table behaviour l returning y =
+      subst (λ z. in_table behaviour l reading_one (z, y.1) + step.0 ≤ k + T * in_table behaviour l returning (z, y.1)) (sym c.0) step.2 in
       omega (arith, rest, step', mul-add T (in_table behaviour l returning y) (total (in_table behaviour l returning) ys))
 
   reads_few : total (λ x. in_table behaviour l reading_one x.1) xs ≤ T * total (λ x. in_table behaviour l returning x.1) xs
@@ -514,9 +567,15 @@ module _ (behaviour : Behaviour) (l : Line) (n : ℕ) (us : List ℕ) (xs : List
       let below : Each (λ (x : Step). x.0 ≤ n) xs = each_weaker (λ x w. w.1) xs (holds behaviour l n us xs t).workers in
       let a = total-seconds (in_table behaviour l reading_one) xs ∙ total_by (in_table behaviour l reading_one) n xs below in
       let b = total-seconds (in_table behaviour l returning) xs ∙ total_by (in_table behaviour l returning) n xs below in
-      let c = sum_to-le n (λ p. total (in_table behaviour l reading_one) (by p xs)) (λ p. T * total (in_table behaviour l returning) (by p xs)) (λ p. let h = reads_of taking (scripts_of (by p xs)) tt (R.is_core p) (R.reads p) (its_answers p) 0 refl in let i = scripts_total behaviour l (in_table behaviour l reading_one) (λ e r. refl) (by p xs) in let j = scripts_total behaviour l (in_table behaviour l returning) (λ e r. refl) (by p xs) in let q : T * total (in_table behaviour l returning) (scripts_of (by p xs)) ≡ T * total (in_table behaviour l returning) (by p xs) = ap (λ z. T * z) j in omega (i, q, arith, h)) in
+      let c = sum_to-le n (λ p. total (in_table behaviour l reading_one) (by p xs)) (λ p. T * total (in_table behaviour l returning) (by p xs))
+      (λ p. let h = reads_of taking (scripts_of (by p xs)) tt (R.is_core p) (R.reads p) (its_answers p) 0 refl in
+      let i = scripts_total behaviour l (in_table behaviour l reading_one) (λ e r. refl) (by p xs) in let j =
+      scripts_total behaviour l (in_table behaviour l returning) (λ e r. refl) (by p xs) in
+      let q : T * total (in_table behaviour l returning) (scripts_of (by p xs)) ≡ T * total (in_table behaviour l returning) (by p xs) =
+      ap (λ z. T * z) j in omega (i, q, arith, h)) in
       let d = sum_to-times n T (λ p. total (in_table behaviour l returning) (by p xs)) in
-      let e : T * total (λ x. in_table behaviour l returning x.1) xs ≡ T * sum_to n (λ p. total (in_table behaviour l returning) (by p xs)) = ap (λ k. T * k) b in
+      let e : T * total (λ x. in_table behaviour l returning x.1) xs ≡ T * sum_to n (λ p. total (in_table behaviour l returning) (by p xs)) =
+      ap (λ k. T * k) b in
       omega (arith, a, c, d, e)
 
   -- ---- all of them

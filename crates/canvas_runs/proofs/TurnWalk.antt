@@ -56,7 +56,8 @@ module _ (X : Protocol) where
   read_inside true js g c fs k = settled_inside js false k
   read_inside false js g c fs k = k
 
-  step_outside : (s : Doing X) (r : Reply X.Envelope X.Outcome) (h : Option X.Envelope) → Suits (ask X s) r → (Between s → h ≡ None) → Between (answered X s r) → held_by h (ask X s) r ≡ None
+  step_outside : (s : Doing X) (r : Reply X.Envelope X.Outcome) (h : Option X.Envelope) → Suits (ask X s) r → (Between s → h ≡ None) → Between (answered X s r)
+      → held_by h (ask X s) r ≡ None
   step_outside taking (taken None) h u f k = f tt
   step_outside taking (taken (Some e)) h u f k = absurd (opens_inside (X.opened e) k)
   step_outside resting (rested b) h u f k = f tt
@@ -66,18 +67,23 @@ module _ (X : Protocol) where
   step_outside (doing (publish m ∷ js) b) sent h u f k = absurd (settled_inside js b k)
   step_outside (doing (publish m ∷ js) b) refused h u f k = absurd k
   step_outside (doing (hand_in g t c ∷ js) b) (counted i) h u f k = absurd (handed_inside (eqb (suc i) (X.size c)) g c k)
-  step_outside (reading g c fs) (found t (Some o)) h u f k = absurd (read_inside (eqb (length (fs ++ (t, o) ∷ [])) (X.size c)) (X.completed c (fs ++ (t, o) ∷ [])) g c (fs ++ (t, o) ∷ []) k)
+  step_outside (reading g c fs) (found t (Some o)) h u f k =
+      absurd (read_inside (eqb (length (fs ++ (t, o) ∷ [])) (X.size c)) (X.completed c (fs ++ (t, o) ∷ [])) g c (fs ++ (t, o) ∷ []) k)
   step_outside (reading g c fs) (found t None) h u f k = absurd k
   step_outside acking acked h u f k = refl
   step_outside s r h u f k = elim u [ ]
 
-  pub held_outside : (s : Doing X) (h : Option X.Envelope) (ys : List (AskedAndAnswered X.Envelope X.Outcome)) → IsCoreRun X s (scripts_of ys) → (Between s → h ≡ None) → Between (left_after X s (scripts_of ys)) → held_after h ys ≡ None
+  pub held_outside : (s : Doing X) (h : Option X.Envelope) (ys : List (AskedAndAnswered X.Envelope X.Outcome)) → IsCoreRun X s (scripts_of ys)
+      → (Between s → h ≡ None) → Between (left_after X s (scripts_of ys)) → held_after h ys ≡ None
   held_outside s h [] c f k = f k
   held_outside s h (y ∷ ys) c f k = go (λ t g d i j. held_outside t g ys d i j) y.0 y.1 c k
     where
-      go : ((t : Doing X) (g : Option X.Envelope) → IsCoreRun X t (scripts_of ys) → (Between t → g ≡ None) → Between (left_after X t (scripts_of ys)) → held_after g ys ≡ None) → (a : Ask X.Envelope X.Outcome) (r : Reply X.Envelope X.Outcome) → IsCoreRun X s (scripts_of ((a, r) ∷ ys)) → Between (left_after X s (scripts_of ((a, r) ∷ ys))) → held_after h ((a, r) ∷ ys) ≡ None
+      go : ((t : Doing X) (g : Option X.Envelope) → IsCoreRun X t (scripts_of ys) → (Between t → g ≡ None) → Between (left_after X t (scripts_of ys))
+          → held_after g ys ≡ None) → (a : Ask X.Envelope X.Outcome) (r : Reply X.Envelope X.Outcome) → IsCoreRun X s (scripts_of ((a, r) ∷ ys))
+          → Between (left_after X s (scripts_of ((a, r) ∷ ys))) → held_after h ((a, r) ∷ ys) ≡ None
       go later (deliver e) r c k = later s h c f k
-      go later a r c k = later (answered X s r) (held_by h a r) c.2 (λ b. subst (λ z. held_by h z r ≡ None) (sym c.0) (step_outside s r h (subst (λ z. Suits z r) c.0 c.1.0) f b)) k
+      go later a r c k = later (answered X s r) (held_by h a r) c.2
+          (λ b. subst (λ z. held_by h z r ≡ None) (sym c.0) (step_outside s r h (subst (λ z. Suits z r) c.0 c.1.0) f b)) k
 
 module _ (behaviour : Behaviour) (l : Line) where
   -- nothing is queued, and no worker is inside a script
@@ -113,7 +119,8 @@ module _ (behaviour : Behaviour) (l : Line) where
   none_taken [] e i h = cc
   none_taken (x ∷ q) e i h = cc
 
-  stays_outside : (n : ℕ) (xs : List Step) (s : Doing (worker behaviour l)) (r : Reply Envelope Outcome) → queue_after l xs ≡ [] → is_inside s ≡ false → Answers behaviour l n xs (ask (worker behaviour l) s) r
+  stays_outside : (n : ℕ) (xs : List Step) (s : Doing (worker behaviour l)) (r : Reply Envelope Outcome) → queue_after l xs ≡ [] → is_inside s ≡ false
+      → Answers behaviour l n xs (ask (worker behaviour l) s) r
       → (is_inside (answered (worker behaviour l) s r) ≡ false) × (queue_next (queue_after l xs) (ask (worker behaviour l) s) ≡ [])
   stays_outside n xs taking (taken None) e i h = (refl, ap (λ q. broker.next q broker.take) e)
   stays_outside n xs taking (taken (Some x)) e i h = absurd (none_taken (queue_after l xs) x e h)
@@ -144,11 +151,13 @@ module _ (behaviour : Behaviour) (l : Line) where
   handed_on true g c e = cc
   handed_on false g c e = cc
 
-  read_on : (b : Bool) (js : Jobs (worker behaviour l)) (g : ℕ) (c : PCarried) (fs : List (ℕ × Outcome)) → cond b (settled (worker behaviour l) js false) (reading g c fs) ≡ over → ⊥
+  read_on : (b : Bool) (js : Jobs (worker behaviour l)) (g : ℕ) (c : PCarried) (fs : List (ℕ × Outcome))
+      → cond b (settled (worker behaviour l) js false) (reading g c fs) ≡ over → ⊥
   read_on true js g c fs e = settled_on js false e
   read_on false js g c fs e = cc
 
-  ends_idle : (n : ℕ) (xs : List Step) (s : Doing (worker behaviour l)) (r : Reply Envelope Outcome) → Answers behaviour l n xs (ask (worker behaviour l) s) r → answered (worker behaviour l) s r ≡ over → holds_more behaviour l n xs ≡ false
+  ends_idle : (n : ℕ) (xs : List Step) (s : Doing (worker behaviour l)) (r : Reply Envelope Outcome) → Answers behaviour l n xs (ask (worker behaviour l) s) r
+      → answered (worker behaviour l) s r ≡ over → holds_more behaviour l n xs ≡ false
   ends_idle n xs taking (taken None) h e = absurd cc
   ends_idle n xs taking (taken (Some x)) h e = absurd (opens_on ((worker behaviour l).opened x) e)
   ends_idle n xs resting (rested true) h e = absurd cc
@@ -158,14 +167,16 @@ module _ (behaviour : Behaviour) (l : Line) where
   ends_idle n xs (doing (store t o ∷ js) b) (kept a) h e = absurd (settled_on js (cond (is_due t js) a b) e)
   ends_idle n xs (doing (publish m ∷ js) b) sent h e = absurd (settled_on js b e)
   ends_idle n xs (doing (hand_in g t c ∷ js) b) (counted i) h e = absurd (handed_on (eqb (suc i) c.size) g c e)
-  ends_idle n xs (reading g c fs) (found t (Some o)) h e = absurd (read_on (eqb (length (fs ++ (t, o) ∷ [])) c.size) ((worker behaviour l).completed c (fs ++ (t, o) ∷ [])) g c (fs ++ (t, o) ∷ []) e)
+  ends_idle n xs (reading g c fs) (found t (Some o)) h e =
+      absurd (read_on (eqb (length (fs ++ (t, o) ∷ [])) c.size) ((worker behaviour l).completed c (fs ++ (t, o) ∷ [])) g c (fs ++ (t, o) ∷ []) e)
   ends_idle n xs (reading g c fs) (found t None) h e = absurd cc
   ends_idle n xs acking acked h e = absurd cc
   ends_idle n xs s r h e = elim h [ ]
 
   module _ (plan : IsPlan l) (back : FirstsRead l) where
     -- a worker that has ended has done so after its rest
-    pub ended_over : (n : ℕ) (xs : List Step) (p : ℕ) (s : Doing (worker behaviour l)) → Ready behaviour l plan n xs p s → ask (worker behaviour l) s ≡ end → s ≡ over
+    pub ended_over : (n : ℕ) (xs : List Step) (p : ℕ) (s : Doing (worker behaviour l)) → Ready behaviour l plan n xs p s → ask (worker behaviour l) s ≡ end
+        → s ≡ over
     ended_over n xs p taking k e = absurd cc
     ended_over n xs p resting k e = absurd cc
     ended_over n xs p over k e = refl
@@ -202,37 +213,49 @@ module _ (behaviour : Behaviour) (l : Line) where
       idle = λ p w e. absurd cc;
     }
 
-    module _ (n : ℕ) (xs : List Step) (k : Holds n xs) (p : ℕ) (w : IsWorker n p) (r : Reply Envelope Outcome) (b : ReadsBack (worker behaviour l) (left behaviour l xs p)) (h : Answers behaviour l n xs (ask (worker behaviour l) (left behaviour l xs p)) r) where
+    module _ (n : ℕ) (xs : List Step) (k : Holds n xs) (p : ℕ) (w : IsWorker n p) (r : Reply Envelope Outcome)
+        (b : ReadsBack (worker behaviour l) (left behaviour l xs p)) (h : Answers behaviour l n xs (ask (worker behaviour l) (left behaviour l xs p)) r) where
       abbrev a : Ask Envelope Outcome
       a = ask (worker behaviour l) (left behaviour l xs p)
 
       abbrev x : Step
       x = (p, (a, r))
 
-      more_reads : (zs : List (AskedAndAnswered Envelope Outcome)) → ReadsMembers (members (roster_of l)) zs → ReadsMembers (members (roster_of l)) (zs ++ (a, r) ∷ [])
-      more_reads zs m = each_append (λ (z : AskedAndAnswered Envelope Outcome). reads_member (members (roster_of l)) z.0 z.1) zs ((a, r) ∷ []) m ((answers_suit behaviour l n xs a r h).1, tt)
+      more_reads : (zs : List (AskedAndAnswered Envelope Outcome)) → ReadsMembers (members (roster_of l)) zs
+          → ReadsMembers (members (roster_of l)) (zs ++ (a, r) ∷ [])
+      more_reads zs m = each_append (λ (z : AskedAndAnswered Envelope Outcome). reads_member (members (roster_of l)) z.0 z.1) zs ((a, r) ∷ []) m
+          ((answers_suit behaviour l n xs a r h).1, tt)
 
       plain : of_scripts a ≡ true
       plain = asks_of_scripts (worker behaviour l) (left behaviour l xs p)
 
-      core_next : (q : ℕ) → IsCoreRun (worker behaviour l) taking (scripts_of (by q (xs ++ x ∷ []))) × ReadsMembers (members (roster_of l)) (scripts_of (by q (xs ++ x ∷ [])))
+      core_next : (q : ℕ) → IsCoreRun (worker behaviour l) taking (scripts_of (by q (xs ++ x ∷ [])))
+          × ReadsMembers (members (roster_of l)) (scripts_of (by q (xs ++ x ∷ [])))
       core_next q = elim (cases_eq p q) [
         | inl same ↦
-            subst (λ u. IsCoreRun (worker behaviour l) taking (scripts_of (by u (xs ++ x ∷ []))) × ReadsMembers (members (roster_of l)) (scripts_of (by u (xs ++ x ∷ [])))) same
-            (subst (λ ys. IsCoreRun (worker behaviour l) taking ys × ReadsMembers (members (roster_of l)) ys) (sym (ap scripts_of (by_more p xs (a, r)) ∙ scripts_more (by p xs) a r plain))
-            (core_more (worker behaviour l) taking (scripts_of (by p xs)) (a, r) (k.lawful.core p) refl (answers_suit behaviour l n xs a r h).0 b, more_reads (scripts_of (by p xs)) (k.lawful.reads p)))
-        | inr apart ↦ subst (λ ys. IsCoreRun (worker behaviour l) taking ys × ReadsMembers (members (roster_of l)) ys) (sym (ap scripts_of (by_other q p xs (a, r) apart))) (k.lawful.core q, k.lawful.reads q)
+            subst (λ u. IsCoreRun (worker behaviour l) taking (scripts_of (by u (xs ++ x ∷ [])))
+            × ReadsMembers (members (roster_of l)) (scripts_of (by u (xs ++ x ∷ [])))) same
+            (subst (λ ys. IsCoreRun (worker behaviour l) taking ys × ReadsMembers (members (roster_of l)) ys)
+            (sym (ap scripts_of (by_more p xs (a, r)) ∙ scripts_more (by p xs) a r plain)) (
+              core_more (worker behaviour l) taking (scripts_of (by p xs)) (a, r) (k.lawful.core p) refl (answers_suit behaviour l n xs a r h).0 b,
+              more_reads (scripts_of (by p xs)) (k.lawful.reads p),
+            ))
+        | inr apart ↦ subst (λ ys. IsCoreRun (worker behaviour l) taking ys × ReadsMembers (members (roster_of l)) ys)
+            (sym (ap scripts_of (by_other q p xs (a, r) apart))) (k.lawful.core q, k.lawful.reads q)
       ]
 
       held_next : (q : ℕ) → DeliversHeld None (by q (xs ++ x ∷ []))
       held_next q = elim (cases_eq p q) [
-        | inl same ↦ subst (λ u. DeliversHeld None (by u (xs ++ x ∷ []))) same (subst (DeliversHeld None) (sym (by_more p xs (a, r))) (delivers_append None (by p xs) (a, r) (k.lawful.held p) (plain_ask (worker behaviour l) (left behaviour l xs p) (held_after None (by p xs)))))
+        | inl same ↦ subst (λ u. DeliversHeld None (by u (xs ++ x ∷ []))) same
+            (subst (DeliversHeld None) (sym (by_more p xs (a, r)))
+            (delivers_append None (by p xs) (a, r) (k.lawful.held p) (plain_ask (worker behaviour l) (left behaviour l xs p) (held_after None (by p xs)))))
         | inr apart ↦ subst (DeliversHeld None) (sym (by_other q p xs (a, r) apart)) (k.lawful.held q)
       ]
 
       lawful_next : Lawful behaviour l n (xs ++ x ∷ [])
       lawful_next =
-          let may = part_may behaviour l plan n xs p (left behaviour l xs p) k.lawful.table_is (good_left behaviour l plan back n xs k.lawful p) (k.ready p w) in
+          let may = part_may behaviour l plan n xs p (left behaviour l xs p) k.lawful.table_is (good_left behaviour l plan back n xs k.lawful p)
+          (k.ready p w) in
           let queue = queue_stays behaviour l n xs p a r w k.lawful.queue_legal k.lawful.queue_is h in
           let table = table_stays behaviour l n xs p a r w k.lawful.table_legal k.lawful.table_is h may in
           record {
@@ -250,7 +273,8 @@ module _ (behaviour : Behaviour) (l : Line) where
         | inl same ↦
             subst (λ v. Ready behaviour l plan n (xs ++ x ∷ []) v (left behaviour l (xs ++ x ∷ []) v)) same
             (subst (Ready behaviour l plan n (xs ++ x ∷ []) p) (sym (left_here behaviour l xs p a r plain))
-            (own_ready behaviour l plan back n xs p (left behaviour l xs p) r k.lawful.table_is (good_left behaviour l plan back n xs k.lawful p) (k.ready p w) h lawful_next))
+            (own_ready behaviour l plan back n xs p (left behaviour l xs p) r k.lawful.table_is (good_left behaviour l plan back n xs k.lawful p)
+            (k.ready p w) h lawful_next))
         | inr apart ↦
             subst (Ready behaviour l plan n (xs ++ x ∷ []) q) (sym (left_other behaviour l xs q p a r apart))
             (other_ready behaviour l plan n xs q p a r u apart lawful_next.table_legal (left behaviour l xs q) (k.ready q u))
@@ -269,7 +293,9 @@ module _ (behaviour : Behaviour) (l : Line) where
 
       idle_next : (q : ℕ) → IsWorker n q → left behaviour l (xs ++ x ∷ []) q ≡ over → Idle n (xs ++ x ∷ [])
       idle_next q u e = elim (cases_eq p q) [
-        | inl same ↦ idle_stays (idle_from n xs (ends_idle n xs (left behaviour l xs p) r h (sym (left_here behaviour l xs p a r plain) ∙ subst (λ v. left behaviour l (xs ++ x ∷ []) v ≡ over) (sym same) e)))
+        | inl same ↦ idle_stays (idle_from n xs
+            (ends_idle n xs (left behaviour l xs p) r h (sym (left_here behaviour l xs p a r plain)
+            ∙ subst (λ v. left behaviour l (xs ++ x ∷ []) v ≡ over) (sym same) e)))
         | inr apart ↦ idle_stays (k.idle q u (sym (left_other behaviour l xs q p a r apart) ∙ e))
       ]
 
@@ -289,7 +315,8 @@ module _ (behaviour : Behaviour) (l : Line) where
 
       -- who holds an envelope is inside its script
       pub inside : is_inside (left behaviour l xs p) ≡ false → ⊥
-      inside out = none (sym (held_outside (worker behaviour l) taking None (by p xs) (k.lawful.core p) (λ b. refl) (between (left behaviour l xs p) (k.ready p w) out)) ∙ h)
+      inside out = none (sym (held_outside (worker behaviour l) taking None (by p xs) (k.lawful.core p) (λ b. refl)
+          (between (left behaviour l xs p) (k.ready p w) out)) ∙ h)
         where
           none : None ≡ Some e → ⊥
           none q = cc
@@ -305,7 +332,8 @@ module _ (behaviour : Behaviour) (l : Line) where
           between acking r o = absurd cc
 
       by_delivers : (q : ℕ) → scripts_of (by q (xs ++ y ∷ [])) ≡ scripts_of (by q xs)
-      by_delivers q = ap scripts_of (by_append q xs (y ∷ [])) ∙ (scripts_append (by q xs) (by q (y ∷ [])) ∙ (ap (λ ys. scripts_of (by q xs) ++ ys) (none (eqb p q)) ∙ append-nil (scripts_of (by q xs))))
+      by_delivers q = ap scripts_of (by_append q xs (y ∷ []))
+          ∙ (scripts_append (by q xs) (by q (y ∷ [])) ∙ (ap (λ ys. scripts_of (by q xs) ++ ys) (none (eqb p q)) ∙ append-nil (scripts_of (by q xs))))
         where
           none : (b : Bool) → ◌≡◌ {A = List (AskedAndAnswered Envelope Outcome)} (scripts_of (cond b ((deliver e, sent) ∷ []) [])) []
           none true = refl
@@ -313,7 +341,8 @@ module _ (behaviour : Behaviour) (l : Line) where
 
       held_delivers : (q : ℕ) → DeliversHeld None (by q (xs ++ y ∷ []))
       held_delivers q = elim (cases_eq p q) [
-        | inl same ↦ subst (λ u. DeliversHeld None (by u (xs ++ y ∷ []))) same (subst (DeliversHeld None) (sym (by_more p xs (deliver e, sent))) (delivers_append None (by p xs) (deliver e, sent) (k.lawful.held p) h))
+        | inl same ↦ subst (λ u. DeliversHeld None (by u (xs ++ y ∷ []))) same
+            (subst (DeliversHeld None) (sym (by_more p xs (deliver e, sent))) (delivers_append None (by p xs) (deliver e, sent) (k.lawful.held p) h))
         | inr apart ↦ subst (DeliversHeld None) (sym (by_other q p xs (deliver e, sent) apart)) (k.lawful.held q)
       ]
 
@@ -335,20 +364,25 @@ module _ (behaviour : Behaviour) (l : Line) where
       holds_delivers = record {
         lawful = lawful_delivers;
         workers = each_append (λ (z : Step). IsWorker n z.0) xs (y ∷ []) k.workers (w, tt);
-        ready = λ q u. subst (Ready behaviour l plan n (xs ++ y ∷ []) q) (sym (left_delivers behaviour l xs q p e sent)) (delivers_ready behaviour l plan n xs q p e lawful_delivers.table_legal (left behaviour l xs q) (k.ready q u));
+        ready = λ q u. subst (Ready behaviour l plan n (xs ++ y ∷ []) q) (sym (left_delivers behaviour l xs q p e sent))
+            (delivers_ready behaviour l plan n xs q p e lawful_delivers.table_legal (left behaviour l xs q) (k.ready q u));
         idle = λ q u o. absurd (inside ((k.idle q u (sym (left_delivers behaviour l xs q p e sent) ∙ o)).outside p w));
       }
 
     -- one more step, of a worker's ask
-    pub holds_step : (n : ℕ) (xs : List Step) (p : ℕ) (a : Ask Envelope Outcome) (r : Reply Envelope Outcome) → Holds n xs → IsWorker n p → ReadsBack (worker behaviour l) (left behaviour l xs p) → a ≡ ask (worker behaviour l) (left behaviour l xs p) → Answers behaviour l n xs a r → Holds n (xs ++ (p, (a, r)) ∷ [])
+    pub holds_step : (n : ℕ) (xs : List Step) (p : ℕ) (a : Ask Envelope Outcome) (r : Reply Envelope Outcome) → Holds n xs → IsWorker n p
+        → ReadsBack (worker behaviour l) (left behaviour l xs p) → a ≡ ask (worker behaviour l) (left behaviour l xs p) → Answers behaviour l n xs a r
+        → Holds n (xs ++ (p, (a, r)) ∷ [])
     holds_step n xs p a r k w b e h =
         subst (λ z. Holds n (xs ++ (p, (z, r)) ∷ [])) (sym e) (holds_next n xs k p w r b (subst (λ z. Answers behaviour l n xs z r) e h))
 
     -- all steps of a run by turns
-    pub holds_turned : (n : ℕ) (before : List Step) (us : List ℕ) (xs : List Step) → Each (IsWorker n) us → Holds n before → Turned behaviour l n before us xs → Holds n (before ++ xs)
+    pub holds_turned : (n : ℕ) (before : List Step) (us : List ℕ) (xs : List Step) → Each (IsWorker n) us → Holds n before → Turned behaviour l n before us xs
+        → Holds n (before ++ xs)
     holds_turned n before [] [] w k all_taken = subst (Holds n) (sym (append-nil before)) k
     holds_turned n before us (x ∷ xs) w k (delivers_again {p = p} {e = e} i h t) =
         subst (Holds n) (append_assoc before (x ∷ []) xs) (holds_turned n (before ++ x ∷ []) us xs w (holds_delivers n before k p i e h) t)
     holds_turned n before (p ∷ us) xs w k (skips_turn e t) = holds_turned n before us xs w.1 k t
     holds_turned n before (p ∷ us) ((q, (a, r)) ∷ xs) w k (takes_turn b e h t) =
-        subst (Holds n) (append_assoc before ((q, (a, r)) ∷ []) xs) (holds_turned n (before ++ (q, (a, r)) ∷ []) us xs w.1 (holds_step n before q a r k w.0 b e h) t)
+        subst (Holds n) (append_assoc before ((q, (a, r)) ∷ []) xs)
+        (holds_turned n (before ++ (q, (a, r)) ∷ []) us xs w.1 (holds_step n before q a r k w.0 b e h) t)

@@ -34,11 +34,13 @@ module _ {A : Type 0} where
 -- ---- one more answered ask of a core run
 
 module _ (X : Protocol) where
-  pub left_more : (s : CoreState X.Message X.Carried X.Outcome) (xs : List (AskedAndAnswered X.Envelope X.Outcome)) (x : AskedAndAnswered X.Envelope X.Outcome) → left_after X s (xs ++ x ∷ []) ≡ answered X (left_after X s xs) x.1
+  pub left_more : (s : CoreState X.Message X.Carried X.Outcome) (xs : List (AskedAndAnswered X.Envelope X.Outcome)) (x : AskedAndAnswered X.Envelope X.Outcome)
+      → left_after X s (xs ++ x ∷ []) ≡ answered X (left_after X s xs) x.1
   left_more s [] x = refl
   left_more s (y ∷ xs) x = left_more (answered X s y.1) xs x
 
-  pub core_more : (s : CoreState X.Message X.Carried X.Outcome) (xs : List (AskedAndAnswered X.Envelope X.Outcome)) (x : AskedAndAnswered X.Envelope X.Outcome) → IsCoreRun X s xs → x.0 ≡ ask X (left_after X s xs) → Suits x.0 x.1 → ReadsBack X (left_after X s xs)
+  pub core_more : (s : CoreState X.Message X.Carried X.Outcome) (xs : List (AskedAndAnswered X.Envelope X.Outcome)) (x : AskedAndAnswered X.Envelope X.Outcome)
+      → IsCoreRun X s xs → x.0 ≡ ask X (left_after X s xs) → Suits x.0 x.1 → ReadsBack X (left_after X s xs)
       → IsCoreRun X s (xs ++ x ∷ [])
   core_more s [] x run asks suits back = (asks, (suits, back), tt)
   core_more s (y ∷ xs) x run asks suits back = (run.0, run.1, core_more (answered X s y.1) xs x run.2 asks suits back)
@@ -50,18 +52,21 @@ module _ {E O : Type 0} where
   scripts_append [] ys = refl
   scripts_append (x ∷ xs) ys = go (of_scripts x.0) (scripts_append xs ys)
     where
-      go : (b : Bool) → scripts_of (xs ++ ys) ≡ scripts_of xs ++ scripts_of ys → cond b (x ∷ scripts_of (xs ++ ys)) (scripts_of (xs ++ ys)) ≡ cond b (x ∷ scripts_of xs) (scripts_of xs) ++ scripts_of ys
+      go : (b : Bool) → scripts_of (xs ++ ys) ≡ scripts_of xs ++ scripts_of ys
+          → cond b (x ∷ scripts_of (xs ++ ys)) (scripts_of (xs ++ ys)) ≡ cond b (x ∷ scripts_of xs) (scripts_of xs) ++ scripts_of ys
       go true e = ap (λ l. x ∷ l) e
       go false e = e
 
-  pub scripts_more : (xs : List (AskedAndAnswered E O)) (a : Ask E O) (r : Reply E O) → of_scripts a ≡ true → scripts_of (xs ++ (a, r) ∷ []) ≡ scripts_of xs ++ (a, r) ∷ []
+  pub scripts_more : (xs : List (AskedAndAnswered E O)) (a : Ask E O) (r : Reply E O) → of_scripts a ≡ true
+      → scripts_of (xs ++ (a, r) ∷ []) ≡ scripts_of xs ++ (a, r) ∷ []
   scripts_more xs a r e = scripts_append xs ((a, r) ∷ []) ∙ ap (λ b. scripts_of xs ++ cond b ((a, r) ∷ []) []) e
 
   pub held_append : (h : Option E) (xs ys : List (AskedAndAnswered E O)) → held_after h (xs ++ ys) ≡ held_after (held_after h xs) ys
   held_append h [] ys = refl
   held_append h (x ∷ xs) ys = held_append (held_by h x.0 x.1) xs ys
 
-  pub delivers_append : (h : Option E) (xs : List (AskedAndAnswered E O)) (x : AskedAndAnswered E O) → DeliversHeld h xs → delivers (held_after h xs) x.0 → DeliversHeld h (xs ++ x ∷ [])
+  pub delivers_append : (h : Option E) (xs : List (AskedAndAnswered E O)) (x : AskedAndAnswered E O) → DeliversHeld h xs → delivers (held_after h xs) x.0
+      → DeliversHeld h (xs ++ x ∷ [])
   delivers_append h [] x d k = (k, tt)
   delivers_append h (y ∷ xs) x d k = (d.0, delivers_append (held_by h y.0 y.1) xs x d.1 k)
 
@@ -109,22 +114,30 @@ results_more s [] x = refl
 results_more s (y ∷ xs) x = results_more (results_next s y.1.0) xs x
 
 module _ (behaviour : Behaviour) (l : Line) where
-  pub left_here : (xs : List Step) (p : ℕ) (a : Ask Envelope Outcome) (r : Reply Envelope Outcome) → of_scripts a ≡ true → left behaviour l (xs ++ (p, (a, r)) ∷ []) p ≡ answered (worker behaviour l) (left behaviour l xs p) r
-  left_here xs p a r e = ap (λ ys. left_after (worker behaviour l) taking (scripts_of ys)) (by_more p xs (a, r)) ∙ (ap (left_after (worker behaviour l) taking) (scripts_more (by p xs) a r e) ∙ left_more (worker behaviour l) taking (scripts_of (by p xs)) (a, r))
+  pub left_here : (xs : List Step) (p : ℕ) (a : Ask Envelope Outcome) (r : Reply Envelope Outcome) → of_scripts a ≡ true
+      → left behaviour l (xs ++ (p, (a, r)) ∷ []) p ≡ answered (worker behaviour l) (left behaviour l xs p) r
+  left_here xs p a r e = ap (λ ys. left_after (worker behaviour l) taking (scripts_of ys)) (by_more p xs (a, r))
+      ∙ (ap (left_after (worker behaviour l) taking) (scripts_more (by p xs) a r e) ∙ left_more (worker behaviour l) taking (scripts_of (by p xs)) (a, r))
 
   -- a redelivery leaves all workers what they had to do
-  pub left_delivers : (xs : List Step) (p q : ℕ) (d : Envelope) (r : Reply Envelope Outcome) → left behaviour l (xs ++ (q, (deliver d, r)) ∷ []) p ≡ left behaviour l xs p
-  left_delivers xs p q d r = ap (left_after (worker behaviour l) taking) (ap scripts_of (by_append p xs ((q, (deliver d, r)) ∷ [])) ∙ (scripts_append (by p xs) (by p ((q, (deliver d, r)) ∷ [])) ∙ (ap (λ ys. scripts_of (by p xs) ++ ys) (none (eqb q p)) ∙ append-nil (scripts_of (by p xs)))))
+  pub left_delivers : (xs : List Step) (p q : ℕ) (d : Envelope) (r : Reply Envelope Outcome)
+      → left behaviour l (xs ++ (q, (deliver d, r)) ∷ []) p ≡ left behaviour l xs p
+  left_delivers xs p q d r =
+      ap (left_after (worker behaviour l) taking) (ap scripts_of (by_append p xs ((q, (deliver d, r)) ∷ []))
+      ∙ (scripts_append (by p xs) (by p ((q, (deliver d, r)) ∷ []))
+      ∙ (ap (λ ys. scripts_of (by p xs) ++ ys) (none (eqb q p)) ∙ append-nil (scripts_of (by p xs)))))
     where
       none : (b : Bool) → scripts_of (cond b ((deliver d, r) ∷ []) []) ≡ []
       none true = refl
       none false = refl
 
-  pub left_other : (xs : List Step) (p q : ℕ) (a : Ask Envelope Outcome) (r : Reply Envelope Outcome) → q ≢ p → left behaviour l (xs ++ (q, (a, r)) ∷ []) p ≡ left behaviour l xs p
+  pub left_other : (xs : List Step) (p q : ℕ) (a : Ask Envelope Outcome) (r : Reply Envelope Outcome) → q ≢ p
+      → left behaviour l (xs ++ (q, (a, r)) ∷ []) p ≡ left behaviour l xs p
   left_other xs p q a r apart = ap (λ ys. left_after (worker behaviour l) taking (scripts_of ys)) (by_other p q xs (a, r) apart)
 
   -- the answer is one to the ask, and a read's is of the member that it names
-  pub answers_suit : (n : ℕ) (xs : List Step) (a : Ask Envelope Outcome) (r : Reply Envelope Outcome) → Answers behaviour l n xs a r → Suits a r × reads_member (members (roster_of l)) a r
+  pub answers_suit : (n : ℕ) (xs : List Step) (a : Ask Envelope Outcome) (r : Reply Envelope Outcome) → Answers behaviour l n xs a r
+      → Suits a r × reads_member (members (roster_of l)) a r
   answers_suit n xs take (taken x) h = (tt, tt)
   answers_suit n xs (send e) sent h = (tt, tt)
   answers_suit n xs (keep t o) (kept b) h = (tt, tt)
@@ -136,30 +149,37 @@ module _ (behaviour : Behaviour) (l : Line) where
 
   -- ---- turns put together
 
-  pub turned_append : (n : ℕ) (before : List Step) (us vs : List ℕ) (xs ys : List Step) → Turned behaviour l n before us xs → Turned behaviour l n (before ++ xs) vs ys → Turned behaviour l n before (us ++ vs) (xs ++ ys)
+  pub turned_append : (n : ℕ) (before : List Step) (us vs : List ℕ) (xs ys : List Step) → Turned behaviour l n before us xs
+      → Turned behaviour l n (before ++ xs) vs ys → Turned behaviour l n before (us ++ vs) (xs ++ ys)
   turned_append n before [] vs [] ys all_taken u = subst (λ b. Turned behaviour l n b vs ys) (append-nil before) u
   turned_append n before (p ∷ us) vs xs ys (skips_turn e t) u = skips_turn e (turned_append n before us vs xs ys t u)
   turned_append n before (p ∷ us) vs ((q, (a, r)) ∷ xs) ys (takes_turn b e h t) u =
-      takes_turn b e h (turned_append n (before ++ (q, (a, r)) ∷ []) us vs xs ys t (subst (λ z. Turned behaviour l n z vs ys) (sym (append_assoc before ((q, (a, r)) ∷ []) xs)) u))
+      takes_turn b e h (turned_append n (before ++ (q, (a, r)) ∷ []) us vs xs ys t
+      (subst (λ z. Turned behaviour l n z vs ys) (sym (append_assoc before ((q, (a, r)) ∷ []) xs)) u))
   turned_append n before us vs (x ∷ xs) ys (delivers_again w e t) u =
-      delivers_again w e (turned_append n (before ++ x ∷ []) us vs xs ys t (subst (λ z. Turned behaviour l n z vs ys) (sym (append_assoc before (x ∷ []) xs)) u))
+      delivers_again w e (turned_append n (before ++ x ∷ []) us vs xs ys t
+      (subst (λ z. Turned behaviour l n z vs ys) (sym (append_assoc before (x ∷ []) xs)) u))
 
   -- one more turn, of a worker that has ended
-  pub turned_skip : (n : ℕ) (us : List ℕ) (xs : List Step) (p : ℕ) → Turned behaviour l n [] us xs → HasEnded behaviour l xs p → Turned behaviour l n [] (us ++ p ∷ []) xs
+  pub turned_skip : (n : ℕ) (us : List ℕ) (xs : List Step) (p : ℕ) → Turned behaviour l n [] us xs → HasEnded behaviour l xs p
+      → Turned behaviour l n [] (us ++ p ∷ []) xs
   turned_skip n us xs p t e = subst (Turned behaviour l n [] (us ++ p ∷ [])) (append-nil xs) (turned_append n [] us (p ∷ []) xs [] t (skips_turn e all_taken))
 
   -- one more turn with its step
-  pub turned_step : (n : ℕ) (us : List ℕ) (xs : List Step) (p : ℕ) (a : Ask Envelope Outcome) (r : Reply Envelope Outcome) → Turned behaviour l n [] us xs → ReadsBack (worker behaviour l) (left behaviour l xs p) → a ≡ ask (worker behaviour l) (left behaviour l xs p) → Answers behaviour l n xs a r
+  pub turned_step : (n : ℕ) (us : List ℕ) (xs : List Step) (p : ℕ) (a : Ask Envelope Outcome) (r : Reply Envelope Outcome) → Turned behaviour l n [] us xs
+      → ReadsBack (worker behaviour l) (left behaviour l xs p) → a ≡ ask (worker behaviour l) (left behaviour l xs p) → Answers behaviour l n xs a r
       → Turned behaviour l n [] (us ++ p ∷ []) (xs ++ (p, (a, r)) ∷ [])
   turned_step n us xs p a r t b e h = turned_append n [] us (p ∷ []) xs ((p, (a, r)) ∷ []) t (takes_turn b e h all_taken)
 
   -- ---- and taken apart
 
   abbrev pub Parted : ℕ → List Step → List ℕ → List ℕ → List Step → Type 0
-  Parted n before us vs zs = (xs : List Step) × (ys : List Step) × (zs ≡ xs ++ ys) × Turned behaviour l n before us xs × Turned behaviour l n (before ++ xs) vs ys
+  Parted n before us vs zs = (xs : List Step) × (ys : List Step) × (zs ≡ xs ++ ys) × Turned behaviour l n before us xs
+      × Turned behaviour l n (before ++ xs) vs ys
 
   part_at : (n : ℕ) (before : List Step) (ws us vs : List ℕ) (zs : List Step) → ws ≡ us ++ vs → Turned behaviour l n before ws zs → Parted n before us vs zs
-  part_at n before ws [] vs zs same t = ([], zs, refl, all_taken, subst (λ b. Turned behaviour l n b vs zs) (sym (append-nil before)) (subst (λ w. Turned behaviour l n before w zs) same t))
+  part_at n before ws [] vs zs same t =
+      ([], zs, refl, all_taken, subst (λ b. Turned behaviour l n b vs zs) (sym (append-nil before)) (subst (λ w. Turned behaviour l n before w zs) same t))
   part_at n before ws (u ∷ us) vs (x ∷ zs) same (delivers_again w e t) =
       let s = part_at n (before ++ x ∷ []) ws (u ∷ us) vs zs same t in
       (x ∷ s.0, s.1, ap (λ z. x ∷ z) s.2, delivers_again w e s.3, subst (λ z. Turned behaviour l n z vs s.1) (append_assoc before (x ∷ []) s.0) s.4)
@@ -170,8 +190,13 @@ module _ (behaviour : Behaviour) (l : Line) where
   part_at n before (p ∷ ws) (u ∷ us) vs ((q, (a, r)) ∷ zs) same (takes_turn b e h t) =
       let x : Step = (q, (a, r)) in
       let who : q ≡ u = head_same q u ws (us ++ vs) same in
-      let s = part_at n (before ++ x ∷ []) ws us vs zs (tail_same q u ws (us ++ vs) same) t in
-      (x ∷ s.0, s.1, ap (λ z. x ∷ z) s.2, subst (λ k. Turned behaviour l n before (k ∷ us) (x ∷ s.0)) who (takes_turn b e h s.3), subst (λ z. Turned behaviour l n z vs s.1) (append_assoc before (x ∷ []) s.0) s.4)
+      let s = part_at n (before ++ x ∷ []) ws us vs zs (tail_same q u ws (us ++ vs) same) t in (
+        x ∷ s.0,
+        s.1,
+        ap (λ z. x ∷ z) s.2,
+        subst (λ k. Turned behaviour l n before (k ∷ us) (x ∷ s.0)) who (takes_turn b e h s.3),
+        subst (λ z. Turned behaviour l n z vs s.1) (append_assoc before (x ∷ []) s.0) s.4,
+      )
   part_at n before [] (u ∷ us) vs zs same t = absurd (cc)
 
   pub turned_part : (n : ℕ) (before : List Step) (us vs : List ℕ) (zs : List Step) → Turned behaviour l n before (us ++ vs) zs → Parted n before us vs zs

@@ -79,7 +79,14 @@ module _ (behaviour : Behaviour) (b : SegId Global) (d : TableId) where
     seat_parted = seat_parted;
     seat_joined = seat_joined;
     seat_splits = (seat_parted, ((refl, refl, refl, refl, ([], refl, tt, ((refl, refl, refl), tt), λ _. refl)), refl), refl);
-    seat_joins = (seat_joined, ((refl, refl, refl, refl, ([], refl, tt, ((refl, refl, refl), ((refl, refl, refl), tt)), λ _. refl)), ([], refl, tt, ((refl, refl, refl), ((refl, refl, refl), tt)), λ _. refl)), refl);
+    seat_joins = (
+      seat_joined,
+      (
+        (refl, refl, refl, refl, ([], refl, tt, ((refl, refl, refl), ((refl, refl, refl), tt)), λ _. refl)),
+        ([], refl, tt, ((refl, refl, refl), ((refl, refl, refl), tt)), λ _. refl),
+      ),
+      refl,
+    );
     own = own;
     works = record {
       run = (take, taken None) ∷ (pause, rested false) ∷ [];

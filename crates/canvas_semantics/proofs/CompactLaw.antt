@@ -97,7 +97,8 @@ module _ (behaviour : Behaviour) where
       → as_group x (compact_members ms) (member_rows behaviour (compact_members ms) x) ≡ as_group x (members_of ms) (member_rows behaviour (members_of ms) x)
   as_group_same ms x rows_are =
       ap (λ rows. record { rows = rows; out = group_value x (with_states rows (all_ends (compact_members ms))) }) rows_are
-      ∙ ap (λ es. record { rows = member_rows behaviour (members_of ms) x; out = group_value x (with_states (member_rows behaviour (members_of ms) x) es) }) (all_ends_same ms)
+      ∙ ap (λ es. record { rows = member_rows behaviour (members_of ms) x; out = group_value x (with_states (member_rows behaviour (members_of ms) x) es) })
+      (all_ends_same ms)
 
   mutual
     means : (l : Line) (x : Flow) → eval_chain behaviour (compact_elements l) x ≡ eval_chain behaviour (elements_of l) x
@@ -106,7 +107,8 @@ module _ (behaviour : Behaviour) where
     means (group_end g ms) x = ap (λ m. and_then m (eval_chain behaviour no_trees)) (as_group_same ms x (rows_same ms x))
     means (chord_end g ms b) x =
         let header = as_group x (members_of ms) (member_rows behaviour (members_of ms) x) in
-        ap (λ m. and_then (and_then m (eval behaviour (element_or_chain (compact_elements b)))) (eval_chain behaviour no_trees)) (as_group_same ms x (rows_same ms x))
+        ap (λ m. and_then (and_then m (eval behaviour (element_or_chain (compact_elements b)))) (eval_chain behaviour no_trees))
+        (as_group_same ms x (rows_same ms x))
         ∙ ap (λ m. and_then (behind header.rows m) (eval_chain behaviour no_trees)) (whole_means behaviour (compact_elements b) header.out ∙ means b header.out)
 
     rows_same : (ms : Lines) (x : Flow) → member_rows behaviour (compact_members ms) x ≡ member_rows behaviour (members_of ms) x
@@ -144,14 +146,17 @@ mutual
       ap (and_tree (one (number_task k t))) (at _ _ _ _ (compact_elements l) refl (omega arith) ∙ number_compact l _ g)
   number_compact (group_end _ ms) k g = ap (λ x. and_tree (group g x) no_trees) (number_members ms k (g + 1))
   number_compact (chord_end _ ms b) k g =
-      (λ i. and_tree (chord g (number_members ms k (g + 1) i) (number (k + count_members ms i) (g + 1 + groups_members ms i) (element_or_chain (compact_elements b)))) no_trees)
+      (λ i. and_tree (chord g (number_members ms k (g + 1) i)
+      (number (k + count_members ms i) (g + 1 + groups_members ms i) (element_or_chain (compact_elements b)))) no_trees)
       ∙ ap (λ x. and_tree (chord g (compact_members (number_lines k (g + 1) ms)) x) no_trees)
       (whole_number (compact_elements b) _ _ ∙ ap element_or_chain (number_compact b (k + count_lines ms) (g + 1 + lines_groups ms)))
 
   number_members : (ms : Lines) (k g : ℕ) → number_all k g (compact_members ms) ≡ compact_members (number_lines k g ms)
   number_members no_lines k g = refl
   number_members (and_line m ms) k g =
-      (λ i. and_tree (whole_number (compact_elements m) k g i) (number_all (k + (whole_count (compact_elements m) ∙ count_compact m) i) (g + (whole_groups (compact_elements m) ∙ groups_compact m) i) (compact_members ms)))
+      (λ i. and_tree (whole_number (compact_elements m) k g i)
+      (number_all (k + (whole_count (compact_elements m) ∙ count_compact m) i) (g + (whole_groups (compact_elements m) ∙ groups_compact m) i)
+      (compact_members ms)))
       ∙ (λ i. and_tree (element_or_chain (number_compact m k g i)) (number_members ms (k + count_line m) (g + line_groups m) i))
 
 -- ---- the law
@@ -162,7 +167,8 @@ compact_same l =
     let numbers : numbered (compact l) ≡ compact n = whole_number (compact_elements l) 1 1 ∙ ap element_or_chain (number_compact l 1 1) in
     let line : tree_of n ≡ numbered (tree_of l) = tree_numbered l in
     record {
-      means = λ behaviour x. ap (λ t. eval behaviour t x) numbers ∙ whole_means behaviour (compact_elements n) x ∙ means behaviour n x ∙ ap (λ t. eval behaviour t x) line;
+      means = λ behaviour x. ap (λ t. eval behaviour t x) numbers ∙ whole_means behaviour (compact_elements n) x ∙ means behaviour n x
+          ∙ ap (λ t. eval behaviour t x) line;
       ends_alike = ap ends numbers ∙ whole_ends (compact_elements n) ∙ ends_same n ∙ ap ends line;
       in_group_alike = ap ends_in_group numbers ∙ whole_group (compact_elements n) ∙ group_same n ∙ ap ends_in_group line;
       groups_alike = ap groups_of numbers ∙ whole_groups_of (compact_elements n) ∙ groups_kept n ∙ ap groups_of line;

@@ -65,18 +65,21 @@ module _ (behaviour : Behaviour) where
       ∙ ap (λ es. record { rows = member_rows behaviour ms x; out = group_value x (with_states (member_rows behaviour ms x) es) }) same_ends
 
   mutual
-    pub onto_keeps : (t : Tree) (after : Trees) (x : Flow) → IsFull t → eval_chain behaviour (onto t after) x ≡ and_then (eval behaviour t x) (eval_chain behaviour after)
+    pub onto_keeps : (t : Tree) (after : Trees) (x : Flow) → IsFull t
+        → eval_chain behaviour (onto t after) x ≡ and_then (eval behaviour t x) (eval_chain behaviour after)
     onto_keeps (one t) after x h = refl
     onto_keeps (chain no_trees) after x h = absurd h
     onto_keeps (chain (and_tree t ts)) after x h = all_keeps (and_tree t ts) after x h
     onto_keeps (group g ms) no_trees x h = ap (λ m. and_then m (eval_chain behaviour no_trees)) (group_same ms x (ends_members ms h) (members_keep ms x h))
-    onto_keeps (group g ms) (and_tree u us) x h = and_then_nothing _ ∙ ap (λ m. and_then m (eval_chain behaviour (and_tree u us))) (group_same ms x (ends_members ms h) (members_keep ms x h))
+    onto_keeps (group g ms) (and_tree u us) x h =
+        and_then_nothing _ ∙ ap (λ m. and_then m (eval_chain behaviour (and_tree u us))) (group_same ms x (ends_members ms h) (members_keep ms x h))
     onto_keeps (chord g ms b) after x h =
         let header = as_group x ms (member_rows behaviour ms x) in
         and_then_nothing _ ∙ ap (λ m. and_then m (eval_chain behaviour (onto b after))) (group_same ms x (ends_members ms h.0) (members_keep ms x h.0))
         ∙ ap (λ m. behind header.rows m) (onto_keeps b after header.out h.1) ∙ sym (and_then_both header (eval behaviour b) (eval_chain behaviour after))
 
-    all_keeps : (ts after : Trees) (x : Flow) → AreFull ts → eval_chain behaviour (all_onto ts after) x ≡ and_then (eval_chain behaviour ts x) (eval_chain behaviour after)
+    all_keeps : (ts after : Trees) (x : Flow) → AreFull ts
+        → eval_chain behaviour (all_onto ts after) x ≡ and_then (eval_chain behaviour ts x) (eval_chain behaviour after)
     all_keeps no_trees after x h = refl
     all_keeps (and_tree t ts) after x h =
         onto_keeps t (all_onto ts after) x h.0 ∙ ap (λ m. behind (eval behaviour t x).rows m) (all_keeps ts after (eval behaviour t x).out h.1)
@@ -84,7 +87,8 @@ module _ (behaviour : Behaviour) where
 
     members_keep : (ms : Trees) (x : Flow) → AreFull ms → member_rows behaviour (normal_all ms) x ≡ member_rows behaviour ms x
     members_keep no_trees x h = refl
-    members_keep (and_tree t ts) x h = ap (λ m. m.rows ++ member_rows behaviour (normal_all ts) x) (onto_keeps t no_trees x h.0 ∙ and_then_nothing _) ∙ ap (λ rows. (eval behaviour t x).rows ++ rows) (members_keep ts x h.1)
+    members_keep (and_tree t ts) x h = ap (λ m. m.rows ++ member_rows behaviour (normal_all ts) x) (onto_keeps t no_trees x h.0 ∙ and_then_nothing _)
+        ∙ ap (λ rows. (eval behaviour t x).rows ++ rows) (members_keep ts x h.1)
 
   pub normal_keeps : (t : Tree) (x : Flow) → IsFull t → eval behaviour (normal t) x ≡ eval behaviour t x
   normal_keeps t x h = onto_keeps t no_trees x h ∙ and_then_nothing _

@@ -56,22 +56,27 @@ pub at : (k k' g g' : ℕ) (ts : Trees) → k ≡ k' → g ≡ g' → number_all
 at k k' g g' ts e f = ap (λ n. number_all n g ts) e ∙ ap (λ n. number_all k' n ts) f
 
 mutual
-  pub number_onto : (t : Tree) (after : Trees) (k g : ℕ) → number_all k g (onto t after) ≡ onto (number k g t) (number_all (k + count t) (g + count_groups t) after)
+  pub number_onto : (t : Tree) (after : Trees) (k g : ℕ)
+      → number_all k g (onto t after) ≡ onto (number k g t) (number_all (k + count t) (g + count_groups t) after)
   number_onto (one t) after k g = refl
   number_onto (chain ts) after k g = number_all_onto ts after k g
   number_onto (group _ ms) no_trees k g = ap (λ nms. and_tree (group g nms) no_trees) (number_normal ms k (g + 1))
   number_onto (group _ ms) (and_tree u us) k g =
-      ap (λ nms. and_tree (chord g nms (chain (number_all (k + count_all (normal_all ms)) (g + 1 + count_all_groups (normal_all ms)) (and_tree u us)))) no_trees) (number_normal ms k (g + 1))
+      ap (λ nms. and_tree (chord g nms
+      (chain (number_all (k + count_all (normal_all ms)) (g + 1 + count_all_groups (normal_all ms)) (and_tree u us)))) no_trees)
+      (number_normal ms k (g + 1))
       ∙ ap (λ rest. and_tree (chord g (normal_all (number_all k (g + 1) ms)) (chain rest)) no_trees)
       (at _ _ _ _ (and_tree u us) (ap (λ n. k + n) (count_normal ms)) (omega (arith, groups_normal ms)))
   number_onto (chord _ h b) after k g =
-      ap (λ nms. and_tree (chord g nms (chain (number_all (k + count_all (normal_all h)) (g + 1 + count_all_groups (normal_all h)) (onto b after)))) no_trees) (number_normal h k (g + 1))
+      ap (λ nms. and_tree (chord g nms (chain (number_all (k + count_all (normal_all h)) (g + 1 + count_all_groups (normal_all h)) (onto b after)))) no_trees)
+      (number_normal h k (g + 1))
       ∙ ap (λ rest. and_tree (chord g (normal_all (number_all k (g + 1) h)) (chain rest)) no_trees)
       (at _ _ _ _ (onto b after) (ap (λ n. k + n) (count_normal h)) (ap (λ n. g + 1 + n) (groups_normal h))
       ∙ number_onto b after (k + count_all h) (g + 1 + count_all_groups h)
       ∙ ap (onto (number (k + count_all h) (g + 1 + count_all_groups h) b)) (at _ _ _ _ after (omega arith) (omega arith)))
 
-  number_all_onto : (ts after : Trees) (k g : ℕ) → number_all k g (all_onto ts after) ≡ all_onto (number_all k g ts) (number_all (k + count_all ts) (g + count_all_groups ts) after)
+  number_all_onto : (ts after : Trees) (k g : ℕ)
+      → number_all k g (all_onto ts after) ≡ all_onto (number_all k g ts) (number_all (k + count_all ts) (g + count_all_groups ts) after)
   number_all_onto no_trees after k g = at _ _ _ _ after (omega arith) (omega arith)
   number_all_onto (and_tree t ts) after k g =
       number_onto t (all_onto ts after) k g
@@ -81,7 +86,8 @@ mutual
   pub number_normal : (ms : Trees) (k g : ℕ) → number_all k g (normal_all ms) ≡ normal_all (number_all k g ms)
   number_normal no_trees k g = refl
   number_normal (and_tree t ts) k g =
-      ap (λ first. and_tree (chain first) (number_all (k + count_all (onto t no_trees)) (g + count_all_groups (onto t no_trees)) (normal_all ts))) (number_onto t no_trees k g)
+      ap (λ first. and_tree (chain first) (number_all (k + count_all (onto t no_trees)) (g + count_all_groups (onto t no_trees)) (normal_all ts)))
+      (number_onto t no_trees k g)
       ∙ ap (λ rest. and_tree (chain (onto (number k g t) no_trees)) rest)
       (at _ _ _ _ (normal_all ts) (omega (arith, count_onto t no_trees)) (omega (arith, groups_onto t no_trees))
       ∙ number_normal ts (k + count t) (g + count_groups t))

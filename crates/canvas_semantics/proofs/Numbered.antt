@@ -72,10 +72,12 @@ at k k' g g' ts e f = ap (λ n. number_all n g ts) e ∙ ap (λ n. number_all k'
 mutual
   pub elements_numbered : (l : Line) (k g : ℕ) → elements_of (number_line k g l) ≡ number_all k g (elements_of l)
   elements_numbered stop k g = refl
-  elements_numbered (step t l) k g = ap (and_tree (one (number_task k t))) (elements_numbered l (k + count_task t) g ∙ at _ _ _ _ (elements_of l) refl (omega arith))
+  elements_numbered (step t l) k g =
+      ap (and_tree (one (number_task k t))) (elements_numbered l (k + count_task t) g ∙ at _ _ _ _ (elements_of l) refl (omega arith))
   elements_numbered (group_end _ ms) k g = ap (λ x. and_tree (group g x) no_trees) (members_numbered ms k (g + 1))
   elements_numbered (chord_end _ ms b) k g =
-      ap (λ x. and_tree (chord g x (chain (elements_of (number_line (k + count_lines ms) (g + 1 + lines_groups ms) b)))) no_trees) (members_numbered ms k (g + 1))
+      ap (λ x. and_tree (chord g x (chain (elements_of (number_line (k + count_lines ms) (g + 1 + lines_groups ms) b)))) no_trees)
+      (members_numbered ms k (g + 1))
       ∙ ap (λ x. and_tree (chord g (number_all k (g + 1) (members_of ms)) (chain x)) no_trees)
       (elements_numbered b (k + count_lines ms) (g + 1 + lines_groups ms)
       ∙ at _ _ _ _ (elements_of b) (ap (λ n. k + n) (sym (count_members ms))) (ap (λ n. g + 1 + n) (sym (groups_members ms))))

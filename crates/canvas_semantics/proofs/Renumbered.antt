@@ -7,7 +7,8 @@ use Rattle.canvas_semantics.proofs.Numbered.{count_numbered_task, count_numbered
 mutual
   again_task : (t : Task) (k m : ℕ) → number_task k (number_task m t) ≡ number_task k t
   again_task (task _ call ls es) k m =
-      ap (λ n. task k call (number_tasks (k + 1) (number_tasks (m + 1) ls)) (number_tasks (k + 1 + n) (number_tasks (m + 1 + count_tasks ls) es))) (count_numbered_tasks ls (m + 1))
+      ap (λ n. task k call (number_tasks (k + 1) (number_tasks (m + 1) ls)) (number_tasks (k + 1 + n) (number_tasks (m + 1 + count_tasks ls) es)))
+      (count_numbered_tasks ls (m + 1))
       ∙ (λ i. task k call (again_tasks ls (k + 1) (m + 1) i) (again_tasks es (k + 1 + count_tasks ls) (m + 1 + count_tasks ls) i))
 
   again_tasks : (ts : Tasks) (k m : ℕ) → number_tasks k (number_tasks m ts) ≡ number_tasks k ts
@@ -25,8 +26,10 @@ mutual
   again (group_end _ ms) k g m h = ap (group_end g) (again_all ms k (g + 1) m (h + 1))
   again (chord_end _ ms b) k g m h =
       (λ i. chord_end g (number_lines k (g + 1) (number_lines m (h + 1) ms))
-      (number_line (k + count_numbered_all ms m (h + 1) i) (g + 1 + groups_numbered_all ms m (h + 1) i) (number_line (m + count_lines ms) (h + 1 + lines_groups ms) b)))
-      ∙ (λ i. chord_end g (again_all ms k (g + 1) m (h + 1) i) (again b (k + count_lines ms) (g + 1 + lines_groups ms) (m + count_lines ms) (h + 1 + lines_groups ms) i))
+      (number_line (k + count_numbered_all ms m (h + 1) i) (g + 1 + groups_numbered_all ms m (h + 1) i)
+      (number_line (m + count_lines ms) (h + 1 + lines_groups ms) b)))
+      ∙ (λ i. chord_end g (again_all ms k (g + 1) m (h + 1) i)
+      (again b (k + count_lines ms) (g + 1 + lines_groups ms) (m + count_lines ms) (h + 1 + lines_groups ms) i))
 
   again_all : (ls : Lines) (k g m h : ℕ) → number_lines k g (number_lines m h ls) ≡ number_lines k g ls
   again_all no_lines k g m h = refl

@@ -26,6 +26,7 @@ at_place (s ∷ ss) (suc i) j k e =
     ap (λ b. if b then s else state_of k (rows_from (suc j) ss)) (other_number j k below) ∙ at_place ss i (suc j) k (omega (arith, e))
 
 -- what a look-up at the number n of task k found, given as o
-pub of_task : (ss : List State) (k n : ℕ) (found o : Option State) → n ≡ k → 1 ≤ n → found ≡ slice_get ss (n - 1) → found ≡ o → flat o ≡ state_of k (rows_from 1 ss)
+pub of_task : (ss : List State) (k n : ℕ) (found o : Option State) → n ≡ k → 1 ≤ n → found ≡ slice_get ss (n - 1) → found ≡ o
+    → flat o ≡ state_of k (rows_from 1 ss)
 of_task ss k n found o same some e is =
     ap flat (sym is ∙ e) ∙ sym (at_place ss (n - 1) 1 k (omega (arith, same, some)))

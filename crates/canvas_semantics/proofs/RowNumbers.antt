@@ -17,7 +17,8 @@ split (suc a) k j b zero h i = absurd (omega (arith, i))
 split (suc a) k j b (suc n) h i = ap (λ xs. k ∷ xs) (split a (suc k) j b n (omega (arith, h)) (omega (arith, i)))
 
 -- rows, then rows
-joined : (xs ys : Rows) (k j a b n : ℕ) → j ≡ k + a → n ≡ a + b → numbers xs ≡ numbers_from k a → numbers ys ≡ numbers_from j b → numbers (xs ++ ys) ≡ numbers_from k n
+joined : (xs ys : Rows) (k j a b n : ℕ) → j ≡ k + a → n ≡ a + b → numbers xs ≡ numbers_from k a → numbers ys ≡ numbers_from j b
+    → numbers (xs ++ ys) ≡ numbers_from k n
 joined xs ys k j a b n h i e f = map-append (λ r. r.0) xs ys ∙ ap (λ l. l ++ numbers ys) e ∙ ap (λ l. numbers_from k a ++ l) f ∙ sym (split a k j b n h i)
 
 module _ (behaviour : Behaviour) where
@@ -25,15 +26,18 @@ module _ (behaviour : Behaviour) where
     task_numbers : (t : Task) (k : ℕ) (x : Option Flow) → numbers (task_rows behaviour (number_task k t) x) ≡ numbers_from k (count_task t)
     task_numbers (task _ call ls es) k x =
         let s = state behaviour call x in
-        joined ((k, s) ∷ tasks_rows behaviour (number_tasks (k + 1) ls) (to_links s)) (tasks_rows behaviour (number_tasks (k + 1 + count_tasks ls) es) (to_errbacks k x s))
+        joined ((k, s) ∷ tasks_rows behaviour (number_tasks (k + 1) ls) (to_links s))
+        (tasks_rows behaviour (number_tasks (k + 1 + count_tasks ls) es) (to_errbacks k x s))
         k (k + 1 + count_tasks ls) (1 + count_tasks ls) (count_tasks es) (1 + count_tasks ls + count_tasks es) (omega arith) (omega arith)
-        (joined ((k, s) ∷ []) (tasks_rows behaviour (number_tasks (k + 1) ls) (to_links s)) k (k + 1) 1 (count_tasks ls) (1 + count_tasks ls) refl refl refl (tasks_numbers ls (k + 1) (to_links s)))
+        (joined ((k, s) ∷ []) (tasks_rows behaviour (number_tasks (k + 1) ls) (to_links s)) k (k + 1) 1 (count_tasks ls) (1 + count_tasks ls) refl refl refl
+        (tasks_numbers ls (k + 1) (to_links s)))
         (tasks_numbers es (k + 1 + count_tasks ls) (to_errbacks k x s))
 
     tasks_numbers : (ts : Tasks) (k : ℕ) (x : Option Flow) → numbers (tasks_rows behaviour (number_tasks k ts) x) ≡ numbers_from k (count_tasks ts)
     tasks_numbers no_tasks k x = refl
     tasks_numbers (and_task t ts) k x =
-        joined (task_rows behaviour (number_task k t) x) (tasks_rows behaviour (number_tasks (k + count_task t) ts) x) k (k + count_task t) (count_task t) (count_tasks ts) _ refl refl
+        joined (task_rows behaviour (number_task k t) x) (tasks_rows behaviour (number_tasks (k + count_task t) ts) x) k (k + count_task t) (count_task t)
+        (count_tasks ts) _ refl refl
         (task_numbers t k x) (tasks_numbers ts (k + count_task t) x)
 
   one_numbers : (t : Task) (k : ℕ) (x : Flow) → numbers (eval behaviour (one (number_task k t)) x).rows ≡ numbers_from k (count_task t)
@@ -47,20 +51,23 @@ module _ (behaviour : Behaviour) where
     tree_numbers (chord _ h b) k g x =
         let header = number_all k (g + 1) h in
         let out = (as_group x header (member_rows behaviour header x)).out in
-        joined (member_rows behaviour header x) (eval behaviour (number (k + count_all h) (g + 1 + count_all_groups h) b) out).rows k (k + count_all h) (count_all h) (count b) _ refl refl
+        joined (member_rows behaviour header x) (eval behaviour (number (k + count_all h) (g + 1 + count_all_groups h) b) out).rows k (k + count_all h)
+        (count_all h) (count b) _ refl refl
         (members_numbers h k (g + 1) x) (tree_numbers b (k + count_all h) (g + 1 + count_all_groups h) out)
 
     chain_numbers : (ts : Trees) (k g : ℕ) (x : Flow) → numbers (eval_chain behaviour (number_all k g ts) x).rows ≡ numbers_from k (count_all ts)
     chain_numbers no_trees k g x = refl
     chain_numbers (and_tree t ts) k g x =
         let out = (eval behaviour (number k g t) x).out in
-        joined (eval behaviour (number k g t) x).rows (eval_chain behaviour (number_all (k + count t) (g + count_groups t) ts) out).rows k (k + count t) (count t) (count_all ts) _ refl refl
+        joined (eval behaviour (number k g t) x).rows (eval_chain behaviour (number_all (k + count t) (g + count_groups t) ts) out).rows k (k + count t)
+        (count t) (count_all ts) _ refl refl
         (tree_numbers t k g x) (chain_numbers ts (k + count t) (g + count_groups t) out)
 
     members_numbers : (ms : Trees) (k g : ℕ) (x : Flow) → numbers (member_rows behaviour (number_all k g ms) x) ≡ numbers_from k (count_all ms)
     members_numbers no_trees k g x = refl
     members_numbers (and_tree t ts) k g x =
-        joined (eval behaviour (number k g t) x).rows (member_rows behaviour (number_all (k + count t) (g + count_groups t) ts) x) k (k + count t) (count t) (count_all ts) _ refl refl
+        joined (eval behaviour (number k g t) x).rows (member_rows behaviour (number_all (k + count t) (g + count_groups t) ts) x) k (k + count t) (count t)
+        (count_all ts) _ refl refl
         (tree_numbers t k g x) (members_numbers ts (k + count t) (g + count_groups t) x)
 
 -- ---- look-ups in rows that stand in order
@@ -127,7 +134,8 @@ module _ (behaviour : Behaviour) where
   -- the states by number are those of the rows, in their order
   pub states_listed : (c : Tree) → states behaviour (numbered c) ≡ states_in (meaning behaviour c)
   states_listed c =
-      ap (λ n. map (λ k. state_of k (meaning behaviour c)) (numbers_from 1 n)) (counted c 1 1) ∙ looked_up (meaning behaviour c) 1 (count c) (tree_numbers behaviour c 1 1 nothing)
+      ap (λ n. map (λ k. state_of k (meaning behaviour c)) (numbers_from 1 n)) (counted c 1 1)
+      ∙ looked_up (meaning behaviour c) 1 (count c) (tree_numbers behaviour c 1 1 nothing)
 
   -- and the table gives the rows back
   pub states_whole : (c : Tree) → rows_from 1 (states behaviour (numbered c)) ≡ meaning behaviour c

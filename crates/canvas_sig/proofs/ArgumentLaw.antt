@@ -28,7 +28,8 @@ whole_judged (Some z) = whole_by z (in_range z)
 
 -- one number, then the others
 then_others : (b c : Bool) (z : ℤ) (zs : List ℤ)
-    → (judged (fault_if (not b) BadNumber) z >>= λ y. judged (fault_if (not c) BadNumber) zs >>= λ ys. Ok (y ∷ ys)) ≡ judged (fault_if (not (b && c)) BadNumber) (z ∷ zs)
+    → (judged (fault_if (not b) BadNumber) z >>= λ y. judged (fault_if (not c) BadNumber) zs >>= λ ys. Ok (y ∷ ys)) ≡ judged (fault_if (not (b && c)) BadNumber)
+    (z ∷ zs)
 then_others true true z zs = refl
 then_others true false z zs = refl
 then_others false c z zs = refl
@@ -41,7 +42,8 @@ number_judged : (d : Data) → is_number d ≡ true → number_reading d ≡ jud
 number_judged (number n) h = whole_judged (as_i64 n)
 number_judged d h = absurd cc
 
-numbers_judged : (ds : List Data) → list_all is_number ds ≡ true → each number_reading ds ≡ judged (fault_if (not (list_all number_ok ds)) BadNumber) (map whole_number ds)
+numbers_judged : (ds : List Data) → list_all is_number ds ≡ true
+    → each number_reading ds ≡ judged (fault_if (not (list_all number_ok ds)) BadNumber) (map whole_number ds)
 numbers_judged [] h = refl
 numbers_judged (d ∷ ds) h =
     let p = all_numbers (is_number d) (list_all is_number ds) h in
@@ -50,12 +52,14 @@ numbers_judged (d ∷ ds) h =
 list_by : (ds : List Data) (b : Bool) → list_all is_number ds ≡ b
     → (if b then (each number_reading ds >>= λ ns. Ok (arg.List ns)) else Err BadArgs)
     ≡ judged (fault_if (not b) BadArgs or_else fault_if (not (list_all number_ok ds)) BadNumber) (arg.List (map whole_number ds))
-list_by ds true h = ap (λ r. r >>= λ ns. Ok (arg.List ns)) (numbers_judged ds h) ∙ judged_map (fault_if (not (list_all number_ok ds)) BadNumber) (map whole_number ds) arg.List
+list_by ds true h = ap (λ r. r >>= λ ns. Ok (arg.List ns)) (numbers_judged ds h)
+    ∙ judged_map (fault_if (not (list_all number_ok ds)) BadNumber) (map whole_number ds) arg.List
 list_by ds false h = refl
 
 pub steps_judged : (d : Data) → arg_steps d ≡ arg_reading d
 steps_judged (number n) =
-    ap (λ r. r >>= λ z. Ok (arg.Num z)) (whole_judged (as_i64 n)) ∙ judged_map (fault_if (not (some_in_range (as_i64 n))) BadNumber) (some_or_zero (as_i64 n)) arg.Num
+    ap (λ r. r >>= λ z. Ok (arg.Num z)) (whole_judged (as_i64 n))
+    ∙ judged_map (fault_if (not (some_in_range (as_i64 n))) BadNumber) (some_or_zero (as_i64 n)) arg.Num
 steps_judged (string s) = refl
 steps_judged (array ds) = list_by (items ds) (list_all is_number (items ds)) refl
 steps_judged null = refl

@@ -72,7 +72,8 @@ options_clean no_items (item f fs) l e = (tt, e, tt)
 options_clean (item d ds) no_items l e = (tt, l, tt)
 options_clean (item d ds) (item f fs) l e = (tt, l, ((refl, tt), e, tt))
 
-call_clean : (call : Call) (links errbacks : Items) → CallFits call → AreClean links → AreClean errbacks → IsClean (call_wire call (options_wire links errbacks))
+call_clean : (call : Call) (links errbacks : Items) → CallFits call → AreClean links → AreClean errbacks
+    → IsClean (call_wire call (options_wire links errbacks))
 call_clean call links errbacks fits l e = (
   tt,
   args_clean call.args fits.args,
@@ -82,7 +83,11 @@ call_clean call links errbacks fits l e = (
     (
       (refl, (refl, tt)),
       kwargs_clean no_members call.kwargs fits.kwargs fits.ordered (all_above call.kwargs),
-      ((refl, (refl, (refl, tt))), options_clean links errbacks l e, ((refl, (refl, (refl, (refl, tt)))), tt, ((refl, (refl, (refl, (refl, (refl, tt))))), tt, tt))),
+      (
+        (refl, (refl, (refl, tt))),
+        options_clean links errbacks l e,
+        ((refl, (refl, (refl, (refl, tt)))), tt, ((refl, (refl, (refl, (refl, (refl, tt))))), tt, tt)),
+      ),
     ),
   ),
 )
@@ -104,7 +109,8 @@ primitive_clean kind kwargs clean = (
 
 mutual
   task_clean : (t : Task) → TaskFits t → IsClean (task_wire t)
-  task_clean (task k call links errbacks) fits = call_clean call (tasks_wire links) (tasks_wire errbacks) fits.1 (tasks_clean links fits.2) (tasks_clean errbacks fits.3)
+  task_clean (task k call links errbacks) fits =
+      call_clean call (tasks_wire links) (tasks_wire errbacks) fits.1 (tasks_clean links fits.2) (tasks_clean errbacks fits.3)
 
   tasks_clean : (ts : Tasks) → TasksFit ts → AreClean (tasks_wire ts)
   tasks_clean no_tasks fits = tt
@@ -150,13 +156,15 @@ options_depth n no_items (item f fs) l e = omega arith
 options_depth n (item d ds) no_items l e = omega arith
 options_depth n (item d ds) (item f fs) l e = omega arith
 
-call_depth : (n : ℕ) (call : Call) (links errbacks : Items) → items_depth links ≤ 3 * n → items_depth errbacks ≤ 3 * n → depth (call_wire call (options_wire links errbacks)) ≤ 3 * (1 + n)
+call_depth : (n : ℕ) (call : Call) (links errbacks : Items) → items_depth links ≤ 3 * n → items_depth errbacks ≤ 3 * n
+    → depth (call_wire call (options_wire links errbacks)) ≤ 3 * (1 + n)
 call_depth n call links errbacks l e = omega (arith, args_depth call.args, kwargs_depth call.kwargs, options_depth (3 * n) links errbacks l e)
 
 mutual
   task_depth : (t : Task) → depth (task_wire t) ≤ 3 * task_nesting t
   task_depth (task k call links errbacks) =
-      call_depth (max (tasks_nesting links) (tasks_nesting errbacks)) call (tasks_wire links) (tasks_wire errbacks) (omega (arith, tasks_depth links)) (omega (arith, tasks_depth errbacks))
+      call_depth (max (tasks_nesting links) (tasks_nesting errbacks)) call (tasks_wire links) (tasks_wire errbacks) (omega (arith, tasks_depth links))
+      (omega (arith, tasks_depth errbacks))
 
   tasks_depth : (ts : Tasks) → items_depth (tasks_wire ts) ≤ 3 * tasks_nesting ts
   tasks_depth no_tasks = omega arith

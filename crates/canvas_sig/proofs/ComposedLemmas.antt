@@ -50,9 +50,12 @@ pub call_ordered : (s : TaskSig) → Ascends (out-TaskSig s).kwargs → Ascends 
 call_ordered s o = subst (λ c. Ascends c.kwargs) (sym (call_seen s)) o
 
 pub task_faults : (s : TaskSig) → task_fault (task_view s)
-    ≡ (call_fault (its_call (task_view s)) or_else tasks_fault (tasks_of (map task_view (out-TaskSig s).links)) or_else tasks_fault (tasks_of (map task_view (out-TaskSig s).errbacks)))
+    ≡ (call_fault (its_call (task_view s)) or_else tasks_fault (tasks_of (map task_view (out-TaskSig s).links)) or_else tasks_fault
+    (tasks_of (map task_view (out-TaskSig s).errbacks)))
 task_faults s =
-    ap task_fault (task_seen s) ∙ ap (λ c. call_fault c or_else tasks_fault (tasks_of (map task_view (out-TaskSig s).links)) or_else tasks_fault (tasks_of (map task_view (out-TaskSig s).errbacks))) (sym (call_seen s))
+    ap task_fault (task_seen s)
+    ∙ ap (λ c. call_fault c or_else tasks_fault (tasks_of (map task_view (out-TaskSig s).links)) or_else tasks_fault
+    (tasks_of (map task_view (out-TaskSig s).errbacks))) (sym (call_seen s))
 
 pub task_composed : (s : TaskSig) → Ascends (its_call (task_view s)).kwargs → TasksComposed (tasks_of (map task_view (out-TaskSig s).links))
     → TasksComposed (tasks_of (map task_view (out-TaskSig s).errbacks)) → TaskComposed (task_view s)
@@ -60,7 +63,8 @@ task_composed s o ls es = subst TaskComposed (sym (task_seen s)) (refl, subst (�
 
 -- ---- one check after the other
 
-pub links_fail : (s : TaskSig) (e : SigFault) → None ≡ call_fault (its_call (task_view s)) → Some e ≡ tasks_fault (tasks_of (map task_view (out-TaskSig s).links))
+pub links_fail : (s : TaskSig) (e : SigFault) → None ≡ call_fault (its_call (task_view s))
+    → Some e ≡ tasks_fault (tasks_of (map task_view (out-TaskSig s).links))
     → Some e ≡ task_fault (task_view s)
 links_fail s e c l = sym (task_faults s ∙ rw (sym c, sym l) refl)
 

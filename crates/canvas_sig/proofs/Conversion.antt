@@ -36,7 +36,8 @@ pub of_array : (o : Option (json.Items × List Token)) → converted of_json (pa
 of_array None = refl
 of_array (Some p) = through of_items array p.1 (of_items p.0)
 
-pub of_object : (o : Option (json.Members × List Token)) → converted of_json (parse_map json.object o) ≡ parse_map object (converted (λ ms. of_members ms no_members) o)
+pub of_object : (o : Option (json.Members × List Token))
+    → converted of_json (parse_map json.object o) ≡ parse_map object (converted (λ ms. of_members ms no_members) o)
 of_object None = refl
 of_object (Some p) = through (λ ms. of_members ms no_members) object p.1 (of_members p.0 no_members)
 
@@ -46,7 +47,8 @@ nothing_before (Some p) = refl
 
 -- ---- a list's loop
 
-first_item : (j : json.Json) (d : Data) → of_json j ≡ Some d → (o : Option (json.Items × List Token)) → converted of_items (parse_map (json.item j) o) ≡ parse_map (item d) (converted of_items o)
+first_item : (j : json.Json) (d : Data) → of_json j ≡ Some d → (o : Option (json.Items × List Token))
+    → converted of_items (parse_map (json.item j) o) ≡ parse_map (item d) (converted of_items o)
 first_item j d e None = refl
 first_item j d e (Some p) = rw e (through of_items (item d) p.1 (of_items p.0))
 
@@ -108,7 +110,8 @@ module _ (old : Members) where
     pub key_refused : (n : ℕ) (ts : List Token) → read_key ts ≡ None → converted (λ ms. of_members ms old) (members p n ts) ≡ None
     key_refused n ts e = ap (converted (λ ms. of_members ms old)) (members_no_key p n ts e)
 
-    pub members_over : (n : ℕ) (ts r : List Token) → length ts ≤ n → read_key ts ≡ Some (None, r) → converted (λ ms. of_members ms old) (members p n ts) ≡ Some (old, r)
+    pub members_over : (n : ℕ) (ts r : List Token) → length ts ≤ n → read_key ts ≡ Some (None, r)
+        → converted (λ ms. of_members ms old) (members p n ts) ≡ Some (old, r)
     members_over n ts r enough e = ap (converted (λ ms. of_members ms old)) (members_end p n ts r enough e)
 
 -- ---- a whole text

@@ -45,7 +45,8 @@ array_kind_ok v vs is = ap (λ x. kind_ok (view x)) is ∙ ap kind_ok (view-List
 pub array_numbers_ok : (v : Datum) (vs : Bor (List Datum)) → v ≡ datum.List vs → numbers_ok (view v) ≡ list_all number_ok (map view vs.now)
 array_numbers_ok v vs is = ap (λ x. numbers_ok (view x)) is ∙ ap numbers_ok (view-List vs) ∙ ap (list_all number_ok) (items-items_of (map view vs.now))
 
-pub object_contents : {B : Type 0} (f : List Data → B) (v : Datum) (m : Bor (List Named)) → v ≡ datum.Object m → f (contents (view v)) ≡ f (map (λ e. e.1) (seen m.now))
+pub object_contents : {B : Type 0} (f : List Data → B) (v : Datum) (m : Bor (List Named)) → v ≡ datum.Object m
+    → f (contents (view v)) ≡ f (map (λ e. e.1) (seen m.now))
 object_contents f v m is = ap (λ xs. f (map (λ e. e.1) xs)) (object_members v m is)
 
 pub next_item : (xs : List Datum) (i : ℕ) (x d : Datum) → i < length xs → get_or xs i d ≡ x → map view (drop i xs) ≡ view x ∷ map view (drop (i + 1) xs)

@@ -19,7 +19,8 @@ parts ds = record { whole = ds; point = false; fraction = []; exponent_negative 
 
 scanned : (ds : List ℕ) → IsNumeral 10 ds → scan ds ≡ parts ds
 scanned ds h =
-    let formed : IsWellFormed (parts ds) = record { whole_digits = h.1; fraction_digits = tt; exponent_digits = tt; no_point = λ _. refl; no_exponent = λ _. refl; len_is = refl } in
+    let formed : IsWellFormed (parts ds) =
+    record { whole_digits = h.1; fraction_digits = tt; exponent_digits = tt; no_point = λ _. refl; no_exponent = λ _. refl; len_is = refl } in
     ap scan (sym (append-nil ds)) ∙ scan-text_of (parts ds) formed
 
 spelled : (ds : List ℕ) → 48 ≤ get_or ds 0 0 → IsNumeral 10 ds → digits_value 10 ds < 2 ^ 64 → number_of ds ≡ Some (unsigned (digits_value 10 ds))
@@ -31,7 +32,8 @@ spelled ds high h few =
     rw (ne_eqb (get_or ds 0 0) 45 (λ e. omega (arith, high, e))) (ap (number_from false) (scanned ds h) ∙ read)
 
 -- what `parse` reads, where no sign stands first
-is_read : (bs : List ℕ) (k : ℕ) → 48 ≤ get_or bs 0 0 → IsNumeral 10 (without_leading_plus bs) × (digits_value 10 (without_leading_plus bs) < 2 ^ 64) × (k ≡ digits_value 10 (without_leading_plus bs)) → number_of bs ≡ Some (unsigned k)
+is_read : (bs : List ℕ) (k : ℕ) → 48 ≤ get_or bs 0 0 → IsNumeral 10 (without_leading_plus bs) × (digits_value 10 (without_leading_plus bs) < 2 ^ 64)
+    × (k ≡ digits_value 10 (without_leading_plus bs)) → number_of bs ≡ Some (unsigned k)
 is_read bs k high q =
     let same = no_plus bs high in
     let numeral : IsNumeral 10 bs = subst (IsNumeral 10) same q.0 in

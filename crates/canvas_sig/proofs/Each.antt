@@ -12,5 +12,6 @@ regroup front y (Ok ys) = ap Ok (sym (append_assoc front (y ∷ []) ys))
 regroup front y (Err f) = refl
 
 -- one more was read
-pub one_more : {A B : Type 0} (f : A → Result B SigFault) (front : List B) (x : A) (xs : List A) (y : B) → f x ≡ Ok y → onto front (each f (x ∷ xs)) ≡ onto (front ++ y ∷ []) (each f xs)
+pub one_more : {A B : Type 0} (f : A → Result B SigFault) (front : List B) (x : A) (xs : List A) (y : B) → f x ≡ Ok y
+    → onto front (each f (x ∷ xs)) ≡ onto (front ++ y ∷ []) (each f xs)
 one_more f front x xs y is = rw is (regroup front y (each f xs))

@@ -16,10 +16,12 @@ abbrev chain_of : Bool → Trees → Option Bool
 chain_of nests ts = if nests then None else Some (last_in_group ts)
 
 some_last : (b : Bool) (t : Tree) (ts : List Tree) → last_ending b (t ∷ ts) ≡ chain_of (some_nests_group (trees_of (t ∷ ts))) (trees_of (t ∷ ts))
-some_last b t [] = elim (nests_group t) as (λ n. option_and_then (λ e. last_ending e []) (if n then None else Some (ends_in_group t)) ≡ (if (n || false) then None else Some (ends_in_group t))) [ true ↦ refl | false ↦ refl ]
+some_last b t [] = elim (nests_group t) as (λ n. option_and_then (λ e. last_ending e []) (if n then None else Some (ends_in_group t))
+    ≡ (if (n || false) then None else Some (ends_in_group t))) [ true ↦ refl | false ↦ refl ]
 some_last b t (u ∷ us) =
     let others = some_last (ends_in_group t) u us in
-    elim (nests_group t) as (λ n. option_and_then (λ e. last_ending e (u ∷ us)) (if n then None else Some (ends_in_group t)) ≡ chain_of (n || some_nests_group (trees_of (u ∷ us))) (trees_of (u ∷ us))) [ true ↦ refl | false ↦ others ]
+    elim (nests_group t) as (λ n. option_and_then (λ e. last_ending e (u ∷ us)) (if n then None else Some (ends_in_group t))
+    ≡ chain_of (n || some_nests_group (trees_of (u ∷ us))) (trees_of (u ∷ us))) [ true ↦ refl | false ↦ others ]
 
 last_of : (ts : List Tree) → last_ending false ts ≡ ending (chain (trees_of ts))
 last_of [] = refl

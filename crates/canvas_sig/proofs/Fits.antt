@@ -52,7 +52,13 @@ pub call_fits : (call : Call) → call_fault call ≡ None → Ascends call.kwar
 call_fits call h o =
     let parts = neither_fault (fault_if (not (name_ok call.name)) NotSignature) _ h in
     let numbers = both (list_all arg_ok call.args) _ (no_fault_if (call_numbers_ok call) BadNumber parts.1) in
-    record { name = no_fault_if (name_ok call.name) NotSignature parts.0; args = args_fit call.args numbers.0; kwargs = kwargs_fit call.kwargs numbers.1; ordered = o }
+    record {
+      name = no_fault_if
+          (name_ok call.name) NotSignature parts.0;
+      args = args_fit call.args numbers.0;
+      kwargs = kwargs_fit call.kwargs numbers.1;
+      ordered = o;
+    }
 
 mutual
   task_fits : (t : Task) → task_fault t ≡ None → TaskComposed t → TaskFits t

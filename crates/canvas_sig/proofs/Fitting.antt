@@ -56,7 +56,8 @@ arguments_fit (d ∷ ds) k h =
     let p = and_parts _ _ k in let q = and_parts _ _ h in
     (argument_fits d p.0 q.0, arguments_fit ds p.1 q.1)
 
-named_fit : (es : List (Text × Data)) → list_all kind_ok (map (λ e. e.1) es) ≡ true → list_all numbers_ok (map (λ e. e.1) es) ≡ true → KwargsFit (map named_of es)
+named_fit : (es : List (Text × Data)) → list_all kind_ok (map (λ e. e.1) es) ≡ true → list_all numbers_ok (map (λ e. e.1) es) ≡ true
+    → KwargsFit (map named_of es)
 named_fit [] k h = tt
 named_fit (e ∷ es) k h =
     let p = and_parts _ _ k in let q = and_parts _ _ h in
@@ -145,11 +146,13 @@ linked_task : (n : ℕ) (d : Data) → fault_left n true d ≡ None → primitiv
 linked_task zero d h = absurd cc
 linked_task (suc n) d h = only_task d (primitive_of (subtype d)) (all_quiet n true d h).its_own
 
-task_fits : (n : ℕ) (linked : Bool) (d : Data) → IsSorted d → fault_left n linked d ≡ None → primitive_of (subtype d) ≡ Some kind.Task → TaskFits (task_within n d)
+task_fits : (n : ℕ) (linked : Bool) (d : Data) → IsSorted d → fault_left n linked d ≡ None → primitive_of (subtype d) ≡ Some kind.Task
+    → TaskFits (task_within n d)
 task_fits zero linked d sorted h is = absurd cc
 task_fits (suc n) linked d sorted h is =
     let q = all_quiet n linked d h in
-    let fits : (x : Data) → IsSorted x → fault_left n true x ≡ None → TaskFits (task_within n x) = λ x s none. task_fits n true x s none (linked_task n x none) in
+    let fits : (x : Data) → IsSorted x → fault_left n true x ≡ None → TaskFits (task_within n x) =
+    λ x s none. task_fits n true x s none (linked_task n x none) in
     let call = call_fits linked d sorted q.signature (fine linked kind.Task d (ap (fault_as linked d) (sym is) ∙ q.its_own)) in (
       refl,
       call,
@@ -166,7 +169,8 @@ each_tree f g fits (d ∷ ds) sorted h =
     let p = both_quiet (g d) (first_fault g ds) h in
     (fits d sorted.0 p.0, each_tree f g fits ds sorted.1 p.1)
 
-full_chain : (f : Data → Tree) (d : Data) → is_list d ≡ true → is_empty d ≡ false → TreesFit (trees_of (map f (listed d))) → TreeFits (chain (trees_of (map f (listed d))))
+full_chain : (f : Data → Tree) (d : Data) → is_list d ≡ true → is_empty d ≡ false → TreesFit (trees_of (map f (listed d)))
+    → TreeFits (chain (trees_of (map f (listed d))))
 full_chain f (array no_items) list some fit = absurd cc
 full_chain f (array (item d ds)) list some fit = fit
 full_chain f null list some fit = absurd cc
@@ -203,7 +207,8 @@ kwarg_sorted k d sorted = field_sorted k (kwargs d) (field_sorted (codes "kwargs
 
 -- one level, by what is said of the signatures inside
 level_fits : (t : Task) (f : Data → Tree) (g : Data → Option SigFault) → ((d : Data) → IsSorted d → g d ≡ None → TreeFits (f d))
-    → (p : Option Primitive) (d : Data) → IsSorted d → fault_as false d p ≡ None → first_fault g (in_kwargs p d) ≡ None → (p ≡ Some kind.Task → TaskFits t) → TreeFits (tree_from t f p d)
+    → (p : Option Primitive) (d : Data) → IsSorted d → fault_as false d p ≡ None → first_fault g (in_kwargs p d) ≡ None → (p ≡ Some kind.Task → TaskFits t)
+    → TreeFits (tree_from t f p d)
 level_fits t f g fits None d sorted its inside alone = absurd cc
 level_fits t f g fits (Some kind.Task) d sorted its inside alone = alone refl
 level_fits t f g fits (Some kind.Chain) d sorted its inside alone =
@@ -212,7 +217,8 @@ level_fits t f g fits (Some kind.Chain) d sorted its inside alone =
 level_fits t f g fits (Some kind.Group) d sorted its inside alone =
     (refl, each_tree f g fits (listed (tasks d)) (all_listed (tasks d) (kwarg_sorted (codes "tasks") d sorted)) inside)
 level_fits t f g fits (Some kind.Chord) d sorted its inside alone =
-    let list = back (is_list (header d) || is_group (header d)) (neither (not (is_list (header d) || is_group (header d))) (is_null (body d)) (fine false kind.Chord d its).its_members).0 in
+    let list = back (is_list (header d) || is_group (header d))
+    (neither (not (is_list (header d) || is_group (header d))) (is_null (body d)) (fine false kind.Chord d its).its_members).0 in
     let parts = first_then g (as_list (header d)) (body d) inside in
     (refl, header_fits f g fits (header d) list (kwarg_sorted (codes "header") d sorted) parts.0, fits (body d) (kwarg_sorted (codes "body") d sorted) parts.1)
 

@@ -42,7 +42,8 @@ before_all k l (member j d ms) low h = (nat_list_cmp_total.trans k l j low h.0, 
 after_flip : (k l : List ℕ) → slice_cmp nat_cmp k l ≡ Greater → slice_cmp nat_cmp l k ≡ Less
 after_flip k l h = nat_list_cmp_total.antisymm l k ∙ ap ordering_reverse h
 
-before_placed : (j : List ℕ) (o : Ordering) (k l : List ℕ) (d e : Data) (ms : Members) → slice_cmp nat_cmp j k ≡ Less → IsBefore j (member l e ms) → IsBefore j (put k d ms)
+before_placed : (j : List ℕ) (o : Ordering) (k l : List ℕ) (d e : Data) (ms : Members) → slice_cmp nat_cmp j k ≡ Less → IsBefore j (member l e ms)
+    → IsBefore j (put k d ms)
     → IsBefore j (match_ordering o (member k d (member l e ms)) (member l d ms) (member l e (put k d ms)))
 before_placed j Less k l d e ms low h more = (low, h)
 before_placed j Equal k l d e ms low h more = h
@@ -52,7 +53,8 @@ before_put : (j k : List ℕ) (d : Data) (ms : Members) → slice_cmp nat_cmp j 
 before_put j k d no_members low h = (low, tt)
 before_put j k d (member l e ms) low h = before_placed j (slice_cmp nat_cmp k l) k l d e ms low h (before_put j k d ms low h.1)
 
-sorted_placed : (o : Ordering) (k l : List ℕ) (d e : Data) (ms : Members) → slice_cmp nat_cmp k l ≡ o → IsSorted d → MembersSorted (member l e ms) → MembersSorted (put k d ms)
+sorted_placed : (o : Ordering) (k l : List ℕ) (d e : Data) (ms : Members) → slice_cmp nat_cmp k l ≡ o → IsSorted d → MembersSorted (member l e ms)
+    → MembersSorted (put k d ms)
     → MembersSorted (match_ordering o (member k d (member l e ms)) (member l d ms) (member l e (put k d ms)))
 sorted_placed Less k l d e ms is sorted h more = ((is, before_all k l ms is h.0), sorted, h)
 sorted_placed Equal k l d e ms is sorted h more = (h.0, sorted, h.2)

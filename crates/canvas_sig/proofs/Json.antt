@@ -33,4 +33,5 @@ pub array_takes : (v : Value) (vs : Vec Value Global) (xs : List Value) (r : Res
 array_takes v vs xs (Ok a) is same h = tt
 array_takes v vs xs (Err e) is same h =
     λ memory. let p = h memory in
-    ap (λ x. takes_memory (view x)) is ∙ ap takes_memory (view-Array vs) ∙ ap (λ ys. takes_memory (array (items_of (map view ys)))) (sym same) ∙ list_takes xs p.0 p.1
+    ap (λ x. takes_memory (view x)) is ∙ ap takes_memory (view-Array vs) ∙ ap (λ ys. takes_memory (array (items_of (map view ys)))) (sym same)
+    ∙ list_takes xs p.0 p.1

@@ -31,7 +31,8 @@ args_are (d ∷ ds) k h =
     let p = both _ _ k in let q = both _ _ h in
     rw (arg_is d p.0 q.0, args_are ds p.1 q.1) refl
 
-named_are : (es : List (Text × Data)) → list_all kind_ok (map (λ e. e.1) es) ≡ true → list_all numbers_ok (map (λ e. e.1) es) ≡ true → each named_reading es ≡ Ok (map named_of es)
+named_are : (es : List (Text × Data)) → list_all kind_ok (map (λ e. e.1) es) ≡ true → list_all numbers_ok (map (λ e. e.1) es) ≡ true
+    → each named_reading es ≡ Ok (map named_of es)
 named_are [] k h = refl
 named_are (e ∷ es) k h =
     let p = both _ _ k in let q = both _ _ h in
@@ -88,7 +89,8 @@ judged_map : {A B : Type 0} (p : Option SigFault) (x : A) (f : A → B) → (jud
 judged_map (Some e) x f = refl
 judged_map None x f = refl
 
-two : {A B C : Type 0} (p q : Option SigFault) (x : A) (y : B) (f : A → B → C) → (judged p x >>= λ a. judged q y >>= λ b. Ok (f a b)) ≡ judged (p or_else q) (f x y)
+two : {A B C : Type 0} (p q : Option SigFault) (x : A) (y : B) (f : A → B → C)
+    → (judged p x >>= λ a. judged q y >>= λ b. Ok (f a b)) ≡ judged (p or_else q) (f x y)
 two (Some e) q x y f = refl
 two None (Some e) x y f = refl
 two None None x y f = refl
@@ -162,7 +164,8 @@ header_judged : (f : Data → Result Tree SigFault) (k : Data → Option SigFaul
     → (d : Data) → (is_list d || is_group d) ≡ true → header_reading f d ≡ judged (first_fault k (as_list d)) (header_of c d)
 header_judged f k c is (array ds) h = rw (judged_each f k c is (items ds)) (judged_map (first_fault k (items ds)) (map c (items ds)) trees_of)
 header_judged f k c is (object ms) h =
-    rw (is (object ms)) (judged_map (k (object ms)) (c (object ms)) members_in ∙ ap (λ o. judged o (members_in (c (object ms)))) (sym (or_nothing (k (object ms)))))
+    rw (is (object ms)) (judged_map (k (object ms)) (c (object ms)) members_in
+    ∙ ap (λ o. judged o (members_in (c (object ms)))) (sym (or_nothing (k (object ms)))))
 header_judged f k c is null h = absurd cc
 header_judged f k c is (boolean b) h = absurd cc
 header_judged f k c is (number n) h = absurd cc
@@ -182,7 +185,8 @@ chord_level : (f : Data → Result Tree SigFault) (k : Data → Option SigFault)
 chord_level f k c is d h rest none =
     rw (header_judged f k c is (header d) h, is (body d)) (two (first_fault k (as_list (header d))) (k (body d)) (header_of c (header d)) (c (body d)) (chord 0)
     ∙ ap (λ o. judged o (chord 0 (header_of c (header d)) (c (body d))))
-    (sym (ap (λ r. first_fault k (as_list (header d) ++ body d ∷ []) or_else r) none ∙ or_nothing (first_fault k (as_list (header d) ++ body d ∷ [])) ∙ first_of_both k (as_list (header d)) (body d))))
+    (sym (ap (λ r. first_fault k (as_list (header d) ++ body d ∷ []) or_else r) none ∙ or_nothing (first_fault k (as_list (header d) ++ body d ∷ []))
+    ∙ first_of_both k (as_list (header d)) (body d))))
 
 kind_level : (g : Data → Result Task SigFault) (q : Data → Option SigFault) (t : Data → Task) → ((d : Data) → g d ≡ judged (q d) (t d))
     → (f : Data → Result Tree SigFault) (k : Data → Option SigFault) (c : Data → Tree) → ((d : Data) → f d ≡ judged (k d) (c d))
@@ -190,18 +194,22 @@ kind_level : (g : Data → Result Task SigFault) (q : Data → Option SigFault) 
     → tree_as g f p d ≡ judged (first_fault k (in_kwargs p d) or_else in_links q d) (tree_from (task_from t d) c p d)
 kind_level g q t gs f k c fs d None h = absurd cc
 kind_level g q t gs f k c fs d (Some kind.Task) h = rw (task_level g q t gs false d h) (judged_map (in_links q d) (task_from t d) one)
-kind_level g q t gs f k c fs d (Some kind.Chain) h = listed_level f k c fs chain (listed (tasks d)) (in_links q d) (no_links q d (fine false kind.Chain d h).placed)
-kind_level g q t gs f k c fs d (Some kind.Group) h = listed_level f k c fs (group 0) (listed (tasks d)) (in_links q d) (no_links q d (fine false kind.Group d h).placed)
+kind_level g q t gs f k c fs d (Some kind.Chain) h =
+    listed_level f k c fs chain (listed (tasks d)) (in_links q d) (no_links q d (fine false kind.Chain d h).placed)
+kind_level g q t gs f k c fs d (Some kind.Group) h =
+    listed_level f k c fs (group 0) (listed (tasks d)) (in_links q d) (no_links q d (fine false kind.Group d h).placed)
 kind_level g q t gs f k c fs d (Some kind.Chord) h =
     let clean = fine false kind.Chord d h in
-    let there = back (is_list (header d) || is_group (header d)) (neither (not (is_list (header d) || is_group (header d))) (is_null (body d)) clean.its_members).0 in
+    let there = back (is_list (header d) || is_group (header d))
+    (neither (not (is_list (header d) || is_group (header d))) (is_null (body d)) clean.its_members).0 in
     chord_level f k c fs d there (in_links q d) (no_links q d clean.placed)
 
 tree_level : (g : Data → Result Task SigFault) (q : Data → Option SigFault) (t : Data → Task) → ((d : Data) → g d ≡ judged (q d) (t d))
     → (f : Data → Result Tree SigFault) (k : Data → Option SigFault) (c : Data → Tree) → ((d : Data) → f d ≡ judged (k d) (c d))
     → (d : Data) (o : Option SigFault) → own_fault false d ≡ o
     → unless o (tree_as g f (primitive_of (subtype d)) d)
-    ≡ judged (o or_else (first_fault k (in_kwargs (primitive_of (subtype d)) d) or_else in_links q d)) (tree_from (task_from t d) c (primitive_of (subtype d)) d)
+    ≡ judged (o or_else (first_fault k (in_kwargs (primitive_of (subtype d)) d) or_else in_links q d))
+    (tree_from (task_from t d) c (primitive_of (subtype d)) d)
 tree_level g q t gs f k c fs d (Some e) h = refl
 tree_level g q t gs f k c fs d None h =
     kind_level g q t gs f k c fs d (primitive_of (subtype d)) (quiet (not_signature d) NotSignature (fault_as false d (primitive_of (subtype d))) h).1
@@ -222,4 +230,5 @@ task_judged (suc n) d = linked_level (task_reading n) (fault_left n false) (faul
 pub tree_judged : (n : ℕ) (d : Data) → tree_reading n d ≡ judged (fault_left n false d) (tree_within n d)
 tree_judged zero d = refl
 tree_judged (suc n) d =
-    tree_level (task_reading n) (fault_left n true) (task_within n) (task_judged n) (tree_reading n) (fault_left n false) (tree_within n) (tree_judged n) d (own_fault false d) refl
+    tree_level (task_reading n) (fault_left n true) (task_within n) (task_judged n) (tree_reading n) (fault_left n false) (tree_within n) (tree_judged n) d
+    (own_fault false d) refl

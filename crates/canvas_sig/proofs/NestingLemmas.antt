@@ -39,7 +39,8 @@ listed b xs ns whole most e same some h =
     (λ t. omega (arith, within (most - 1) ns (subst P same (h.0 t))), λ le. h.1 (subst P (sym same) (all_within (most - 1) ns (omega arith))))
 
 -- two parts a level below, the second looked at where the first passes
-pub both : (a b : Bool) (l r whole most : ℕ) → whole ≡ 1 + max l r → 0 < most → a ≡ true → IsTrue a ↔ (l ≤ most - 1) → IsTrue b ↔ (r ≤ most - 1) → IsTrue b ↔ (whole ≤ most)
+pub both : (a b : Bool) (l r whole most : ℕ) → whole ≡ 1 + max l r → 0 < most → a ≡ true → IsTrue a ↔ (l ≤ most - 1) → IsTrue b ↔ (r ≤ most - 1)
+    → IsTrue b ↔ (whole ≤ most)
 both a b l r whole most e some is ha hb =
     let left = ha.0 is in
     (λ t. omega (arith, hb.0 t), λ le. hb.1 (omega arith))
@@ -48,12 +49,14 @@ pub first_fails : (a : Bool) (l r whole most : ℕ) → whole ≡ 1 + max l r �
 first_fails a l r whole most e some is ha =
     (λ t. absurd (true≢false (sym t ∙ is)), λ le. ha.1 (omega arith))
 
-pub of_nodes : (b : Bool) (xs ns : List Node) (m : ℕ) → xs ≡ ns → IsTrue b ↔ All (λ n. nesting (view n) ≤ m) xs → IsTrue b ↔ (all_nesting (trees_of (map view ns)) ≤ m)
+pub of_nodes : (b : Bool) (xs ns : List Node) (m : ℕ) → xs ≡ ns → IsTrue b ↔ All (λ n. nesting (view n) ≤ m) xs
+    → IsTrue b ↔ (all_nesting (trees_of (map view ns)) ≤ m)
 of_nodes b xs ns m same h =
     let P : List Node → Type 0 = All (λ n. nesting (view n) ≤ m) in
     (λ t. within m ns (subst P same (h.0 t)), λ le. h.1 (subst P (sym same) (all_within m ns le)))
 
-pub of_sigs : (b : Bool) (xs ns : List TaskSig) (m : ℕ) → xs ≡ ns → IsTrue b ↔ All (λ n. task_nesting (task_view n) ≤ m) xs → IsTrue b ↔ (tasks_nesting (tasks_of (map task_view ns)) ≤ m)
+pub of_sigs : (b : Bool) (xs ns : List TaskSig) (m : ℕ) → xs ≡ ns → IsTrue b ↔ All (λ n. task_nesting (task_view n) ≤ m) xs
+    → IsTrue b ↔ (tasks_nesting (tasks_of (map task_view ns)) ≤ m)
 of_sigs b xs ns m same h =
     let P : List TaskSig → Type 0 = All (λ n. task_nesting (task_view n) ≤ m) in
     (λ t. tasks_within m ns (subst P same (h.0 t)), λ le. h.1 (subst P (sym same) (all_tasks_within m ns le)))

@@ -39,7 +39,8 @@ pushed : (vs : List Datum) (v : Datum) (rest : Items) → items_before vs (item 
 pushed [] v rest = refl
 pushed (w ∷ vs) v rest = ap (item (view w)) (pushed vs v rest)
 
-pub one_more_item : (vs : List Datum) (v : Datum) (r : Option (Items × List Token)) → parse_map (items_before vs) (parse_map (item (view v)) r) ≡ parse_map (items_before (vs ++ v ∷ [])) r
+pub one_more_item : (vs : List Datum) (v : Datum) (r : Option (Items × List Token))
+    → parse_map (items_before vs) (parse_map (item (view v)) r) ≡ parse_map (items_before (vs ++ v ∷ [])) r
 one_more_item vs v None = refl
 one_more_item vs v (Some p) = ap (λ ds. Some (ds, p.1)) (pushed vs v p.0)
 
@@ -50,7 +51,8 @@ at_ordering Less a b c = refl
 at_ordering Equal a b c = refl
 at_ordering Greater a b c = refl
 
-pub inserted : (es : List Named) (k : Bor (List ℕ)) (v : Datum) → members_view (insert_entry (λ x y. slice_cmp nat_cmp x.now y.now) es k v) ≡ put k.now (view v) (members_view es)
+pub inserted : (es : List Named) (k : Bor (List ℕ)) (v : Datum)
+    → members_view (insert_entry (λ x y. slice_cmp nat_cmp x.now y.now) es k v) ≡ put k.now (view v) (members_view es)
 inserted [] k v = refl
 inserted (e ∷ es) k v = at_ordering (slice_cmp nat_cmp k.now e.0.now) _ _ _ ∙ rw (inserted es k v)
 
@@ -68,7 +70,8 @@ differ : (xs ys : List ℕ) (b : Bool) → bytes_eq xs ys ≡ b → (xs ≡ ys �
 differ xs ys true e other = absurd (other ((bytes_eq-Decides xs ys).0 e))
 differ xs ys false e other = refl
 
-pub found_later : (name : List ℕ) (e : Named) (es : List Named) → (name ≡ e.0.now → ⊥) → get_member name (members_view (e ∷ es)) ≡ get_member name (members_view es)
+pub found_later : (name : List ℕ) (e : Named) (es : List Named) → (name ≡ e.0.now → ⊥)
+    → get_member name (members_view (e ∷ es)) ≡ get_member name (members_view es)
 found_later name e es other = either (slice_cmp nat_cmp name e.0.now) _ _ (is_eq-slice_cmp name e.0.now ∙ differ name e.0.now _ refl other)
 
 -- the member that a loop is at, and those behind it
@@ -77,7 +80,8 @@ next_member xs i x d lt is =
     let up : suc i ≡ i + 1 = omega arith in
     drop-cons xs i d lt ∙ ap (λ y. y ∷ drop (suc i) xs) is ∙ ap (λ k. x ∷ drop k xs) up
 
-pub found_at : (name : List ℕ) (xs : List Named) (i : ℕ) (x d : Named) → i < length xs → get_or xs i d ≡ x → name ≡ x.0.now → get_member name (members_view (drop i xs)) ≡ Some (view x.1)
+pub found_at : (name : List ℕ) (xs : List Named) (i : ℕ) (x d : Named) → i < length xs → get_or xs i d ≡ x → name ≡ x.0.now
+    → get_member name (members_view (drop i xs)) ≡ Some (view x.1)
 found_at name xs i x d lt is same = ap (λ ys. get_member name (members_view ys)) (next_member xs i x d lt is) ∙ found_here name x (drop (i + 1) xs) same
 
 pub later_at : (name : List ℕ) (xs : List Named) (i : ℕ) (x d : Named) → i < length xs → get_or xs i d ≡ x → (name ≡ x.0.now → ⊥)

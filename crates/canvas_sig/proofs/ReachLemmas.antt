@@ -65,7 +65,8 @@ mutual
   onto_shape (chain ts) c after = all_shape ts c after
   onto_shape (group g ms) c after = of_group c g (normal_all ms) after (greatest ms) (λ b. members_capped ms b)
   onto_shape (chord g h b) c after =
-      of_chord c g (normal_all h) (onto b after) (greatest h) (λ x. members_capped h x) _ (ap reach_of_line (onto_shape b c after) ∙ whole_shape c (onto b after))
+      of_chord c g (normal_all h) (onto b after) (greatest h) (λ x. members_capped h x) _ (ap reach_of_line (onto_shape b c after)
+      ∙ whole_shape c (onto b after))
 
   all_shape : (ts : Trees) (c : ℕ) (after : Trees) → all_onto_reach ts (shape c after) (capped c) ≡ shape c (all_onto ts after)
   all_shape no_trees c after = refl

@@ -86,14 +86,17 @@ not_deep t h =
 reads_as : (t : Tree) (d : Data) → depth d ≤ max_depth → tree_reading (suc max_depth) d ≡ Ok t → (signature_fault d ≡ None) × (tree_said d ≡ t)
 reads_as t d low h =
     judged_ok (signature_fault d) (tree_said d) t
-    (sym (tree_judged (suc max_depth) d ∙ ap₂ judged (fault_enough (suc max_depth) d (omega (arith, low))) (tree_enough (suc max_depth) d (omega (arith, low)))) ∙ h)
+    (sym (tree_judged (suc max_depth) d ∙ ap₂ judged (fault_enough (suc max_depth) d (omega (arith, low))) (tree_enough (suc max_depth) d (omega (arith, low))))
+    ∙ h)
 
-no_refusal : (t : Tree) (d : Data) (text : List ℕ) → length text ≤ most_bytes → json_of text ≡ Some d → signature_fault d ≡ None → tree_said d ≡ t → tree_fault t ≡ None
+no_refusal : (t : Tree) (d : Data) (text : List ℕ) → length text ≤ most_bytes → json_of text ≡ Some d → signature_fault d ≡ None → tree_said d ≡ t
+    → tree_fault t ≡ None
     → text_reading text ≡ Ok t
 no_refusal t d text short json first spells within =
     rw (le-ltb most_bytes (length text) short, json, first, spells, within) refl
 
-pub reads_again : (t : Tree) (text : List ℕ) → IsCanvas t → text ≡ compact_text (tree_wire t) → IsUtf8 text → length text ≤ most_bytes → text_reading text ≡ Ok t
+pub reads_again : (t : Tree) (text : List ℕ) → IsCanvas t → text ≡ compact_text (tree_wire t) → IsUtf8 text → length text ≤ most_bytes
+    → text_reading text ≡ Ok t
 reads_again t text canvas is utf8 short =
     let fits = canvas_fits t canvas in
     let within = canvas_within t canvas in
@@ -108,5 +111,6 @@ reads_again t text canvas is utf8 short =
 -- What a writer of the tree u returned reads as the canvas that u is.
 pub written_again : {E : Type 0} (r : Result (String Global) E) (u t : Tree) → u ≡ t → IsCanvas t → IfOk r (λ s. string_bytes s ≡ compact_text (tree_wire u))
     → IfOk r (λ s. length (string_bytes s) ≤ most_bytes → text_reading (string_bytes s) ≡ Ok t)
-written_again (Ok s) u t same canvas is = λ short. reads_again t (string_bytes s) canvas (is ∙ ap (λ x. compact_text (tree_wire x)) same) (IsUtf8-string_bytes s) short
+written_again (Ok s) u t same canvas is =
+    λ short. reads_again t (string_bytes s) canvas (is ∙ ap (λ x. compact_text (tree_wire x)) same) (IsUtf8-string_bytes s) short
 written_again (Err e) u t same canvas is = tt

@@ -139,7 +139,8 @@ no_fault linked call links errbacks fits =
     ) refl
 
 call_back : (n : ℕ) (call : Call) (links errbacks : Tasks) → CallFits call
-    → each (task_reading n) (items (tasks_wire links)) ≡ Ok (listed_tasks links) → each (task_reading n) (items (tasks_wire errbacks)) ≡ Ok (listed_tasks errbacks)
+    → each (task_reading n) (items (tasks_wire links)) ≡ Ok (listed_tasks links)
+    → each (task_reading n) (items (tasks_wire errbacks)) ≡ Ok (listed_tasks errbacks)
     → task_with (task_reading n) (call_wire call (options_wire (tasks_wire links) (tasks_wire errbacks))) ≡ Ok (task 0 call links errbacks)
 call_back n call links errbacks fits l e =
     rw (

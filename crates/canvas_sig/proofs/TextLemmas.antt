@@ -41,7 +41,8 @@ signature_judged bytes d json =
 
 -- what was read, and where it has no fault of its signatures
 module _ (f : Data → Result Tree SigFault) (k : Data → Option SigFault) (c : Data → Tree) where
-  was_read : (b : Bool) (o : Option Data) (t : Tree) → ((d : Data) → o ≡ Some d → f d ≡ judged (k d) (c d)) → unless (fault_if b TooLarge) (json_reading o >>= f) ≡ Ok t
+  was_read : (b : Bool) (o : Option Data) (t : Tree) → ((d : Data) → o ≡ Some d → f d ≡ judged (k d) (c d))
+      → unless (fault_if b TooLarge) (json_reading o >>= f) ≡ Ok t
       → (b ≡ false) × ((d : Data) × (o ≡ Some d) × (k d ≡ None) × (c d ≡ t))
   was_read true o t is h = absurd cc
   was_read false None t is h = absurd cc
@@ -64,7 +65,8 @@ record WasRead (bytes : Text) (t : Tree) : Type 0 where
 
 what_was_read : (bytes : Text) (t : Tree) → signature_reading bytes ≡ Ok t → WasRead bytes t
 what_was_read bytes t h =
-    let read = was_read (tree_reading (suc max_depth)) signature_fault tree_said (nat_lt most_bytes (length bytes)) (json_of bytes) t (signature_judged bytes) h in
+    let read = was_read (tree_reading (suc max_depth)) signature_fault tree_said (nat_lt most_bytes (length bytes)) (json_of bytes) t
+    (signature_judged bytes) h in
     record { short = read.0; its_json = read.1.0; json = read.1.1; fine = read.1.2; tree = read.1.3 }
 
 -- a text whose signatures have no fault is refused by the limits alone
@@ -90,7 +92,8 @@ canvas_later d e h = ap (λ f. judged (f or_else tree_fault (tree_said d)) (tree
 
 refused : (bytes : Text) (e : SigFault) → signature_reading bytes ≡ Err e → text_reading bytes ≡ Err e
 refused bytes e h =
-    was_refused (tree_reading (suc max_depth)) signature_fault tree_said json_canvas refl canvas_later (nat_lt most_bytes (length bytes)) (json_of bytes) e (signature_judged bytes) h
+    was_refused (tree_reading (suc max_depth)) signature_fault tree_said json_canvas refl canvas_later (nat_lt most_bytes (length bytes)) (json_of bytes) e
+    (signature_judged bytes) h
 
 pub fails_refused : (bytes : Text) (e : SigFault) → Fails e (signature_reading bytes) → e ≢ Memory → text_reading bytes ≡ Err e
 fails_refused bytes Memory h other = absurd (other refl)

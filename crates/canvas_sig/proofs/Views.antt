@@ -8,7 +8,8 @@ use Rattle.canvas_sig.specs.declared.task_sig.TaskSig.{TaskSig, out-TaskSig, rol
 use Rattle.canvas_sig.specs.declared.node.Node as node
 use Rattle.canvas_sig.specs.declared.node.Node.{Node, Chain, Group, Chord}
 
-pub task_seen : (s : TaskSig) → task_view s ≡ task 0 (record { name = (out-TaskSig s).name; args = (out-TaskSig s).args; kwargs = (out-TaskSig s).kwargs; immutable = (out-TaskSig s).immutable })
+pub task_seen : (s : TaskSig)
+    → task_view s ≡ task 0 (record { name = (out-TaskSig s).name; args = (out-TaskSig s).args; kwargs = (out-TaskSig s).kwargs; immutable = (out-TaskSig s).immutable })
     (tasks_of (map task_view (out-TaskSig s).links)) (tasks_of (map task_view (out-TaskSig s).errbacks))
 task_seen s = sig.fold_out-TaskSig Task task_step s
 
@@ -17,7 +18,8 @@ abbrev pub parts : List ℕ → List Arg → List (List ℕ × Arg) → Bool →
 parts n a k i ls es = task 0 (record { name = n; args = a; kwargs = k; immutable = i }) (tasks_of ls) (tasks_of es)
 
 pub made : (n : List ℕ) (a : List Arg) (k : List (List ℕ × Arg)) (i : Bool) (ls es : List TaskSig)
-    → task_view (roll-TaskSig (record { name = n; args = a; kwargs = k; immutable = i; links = ls; errbacks = es })) ≡ parts n a k i (map task_view ls) (map task_view es)
+    → task_view (roll-TaskSig (record { name = n; args = a; kwargs = k; immutable = i; links = ls; errbacks = es }))
+    ≡ parts n a k i (map task_view ls) (map task_view es)
 made n a k i ls es = search (rules, sig.the_lemmas)
 
 same_parts : {n n' : List ℕ} {a a' : List Arg} {k k' : List (List ℕ × Arg)} {i i' : Bool} {ls ls' es es' : List Task}

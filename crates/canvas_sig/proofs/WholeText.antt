@@ -37,4 +37,5 @@ whole o = option_and_then of_json (option_and_then (λ p. json.if_last p.0 p.1) 
 
 pub text_again : (d : Data) (text : List ℕ) → IsClean d → depth d ≤ max_depth → tokens text ≡ json_tokens (outline d) → read text ≡ Some d
 text_again d text clean low same =
-    ap whole (ap (json.value max_depth) (same ∙ sym (append-nil _)) ∙ value-json_tokens (outline d) max_depth [] (omega (arith, same_depth d))) ∙ read_again d clean
+    ap whole (ap (json.value max_depth) (same ∙ sym (append-nil _)) ∙ value-json_tokens (outline d) max_depth [] (omega (arith, same_depth d)))
+    ∙ read_again d clean

@@ -21,7 +21,8 @@ use Rattle.canvas_sig.specs.steps.Tokens.{Appends, data_tokens, rest_tokens, res
 use Rattle.canvas_sig.specs.declared.task_sig.TaskSig.{TaskSig, out-TaskSig}
 use Rattle.canvas_sig.proofs.Views.{task_seen}
 
-pub after_ok : {E : Type 0} (r : Result (Unit {0}) E) (old mid new : Written) (ts us all : List Token) → (mid.tokens ≡ old.tokens ++ ts) × (mid.before ≡ old.before)
+pub after_ok : {E : Type 0} (r : Result (Unit {0}) E) (old mid new : Written) (ts us all : List Token)
+    → (mid.tokens ≡ old.tokens ++ ts) × (mid.before ≡ old.before)
     → Appends r mid new us → ts ++ us ≡ all → Appends r old new all
 after_ok (Ok x) old mid new ts us all first second is =
     (second.0 ∙ ap (λ xs. xs ++ us) first.0 ∙ append_assoc old.tokens ts us ∙ ap (λ xs. old.tokens ++ xs) is, second.1 ∙ first.1)

@@ -19,9 +19,11 @@ some_times k (x ∷ xs) h = go (x == k) refl (some_times k xs)
   where
     go : (b : Bool) → (x == k) ≡ b → (among k xs ≡ true → 0 < count_by (λ y. y == k) xs) → 0 < count_by (λ y. y == k) (x ∷ xs)
     go true e f =
-        let more : count_by (λ y. y == k) (x ∷ xs) ≡ 1 + count_by (λ y. y == k) xs = sum_by-cons (λ y. cond (y == k) 1 0) x xs ∙ ap (λ b. cond b 1 0 + count_by (λ y. y == k) xs) e in omega (arith, more)
+        let more : count_by (λ y. y == k) (x ∷ xs) ≡ 1 + count_by (λ y. y == k) xs = sum_by-cons (λ y. cond (y == k) 1 0) x xs
+        ∙ ap (λ b. cond b 1 0 + count_by (λ y. y == k) xs) e in omega (arith, more)
     go false e f =
-        let more : count_by (λ y. y == k) (x ∷ xs) ≡ 0 + count_by (λ y. y == k) xs = sum_by-cons (λ y. cond (y == k) 1 0) x xs ∙ ap (λ b. cond b 1 0 + count_by (λ y. y == k) xs) e in
+        let more : count_by (λ y. y == k) (x ∷ xs) ≡ 0 + count_by (λ y. y == k) xs = sum_by-cons (λ y. cond (y == k) 1 0) x xs
+        ∙ ap (λ b. cond b 1 0 + count_by (λ y. y == k) xs) e in
         omega (arith, more, f (sym (ap (λ b. b || among k xs) e) ∙ h))
 
 -- no task has the number 0

@@ -53,8 +53,11 @@ module _ (behaviour : Behaviour) (l : Line) where
   due_alike t (publish c ∷ ks) = due_alike t ks
   due_alike t (hand_in g u c ∷ ks) = refl
 
-  job_alike : (k : Job Content PCarried Outcome) (ks : Jobs) (b : Bool) (r : Answer) → IsAlike behaviour (job_done X (enclosed k) (map enclosed ks) b r) (job_done Y k ks b r)
-  job_alike (store t o) ks b (kept a) = subst (λ z. IsAlike behaviour (settled X (map enclosed ks) (cond z a b)) (settled Y ks (cond (is_due t ks) a b))) (sym (due_alike t ks)) (settled_alike ks (cond (is_due t ks) a b))
+  job_alike : (k : Job Content PCarried Outcome) (ks : Jobs) (b : Bool) (r : Answer)
+      → IsAlike behaviour (job_done X (enclosed k) (map enclosed ks) b r) (job_done Y k ks b r)
+  job_alike (store t o) ks b (kept a) =
+      subst (λ z. IsAlike behaviour (settled X (map enclosed ks) (cond z a b)) (settled Y ks (cond (is_due t ks) a b))) (sym (due_alike t ks))
+      (settled_alike ks (cond (is_due t ks) a b))
   job_alike (publish c) ks b sent = settled_alike ks b
   job_alike (hand_in g t c) ks b (counted n) = part_alike (eqb (suc n) c.size)
     where
@@ -76,24 +79,30 @@ module _ (behaviour : Behaviour) (l : Line) where
   -- ---- members
 
   read_alike : (g : ℕ) (c : PCarried) (fs : List (ℕ × Outcome)) (z : Bool)
-      → IsAlike behaviour (cond z (settled X (map enclosed (script (body_after c fs))) false) (state_reading g c fs)) (cond z (settled Y (script (body_after c fs)) false) (state_reading g c fs))
+      → IsAlike behaviour (cond z (settled X (map enclosed (script (body_after c fs))) false) (state_reading g c fs))
+      (cond z (settled Y (script (body_after c fs)) false) (state_reading g c fs))
   read_alike g c fs true = settled_alike (script (body_after c fs)) false
   read_alike g c fs false = (refl, (refl, refl))
 
   -- ---- answers
 
-  step_owning : (m : Applied) (c : Content) → said m.envelope ≡ c → m.outcome ≡ outcome_of behaviour c → (a : Bool) → IsAlike behaviour (owned X m a) (owned Y c a)
+  step_owning : (m : Applied) (c : Content) → said m.envelope ≡ c → m.outcome ≡ outcome_of behaviour c → (a : Bool)
+      → IsAlike behaviour (owned X m a) (owned Y c a)
   step_owning m c is value true =
       subst (λ d. IsAlike behaviour (owned X m true) (settled Y (script (after d (outcome_of behaviour c))) true)) is
-      (subst (λ o. IsAlike behaviour (owned X m true) (settled Y (script (after (said m.envelope) o)) true)) value (settled_alike (script (after (said m.envelope) m.outcome)) true))
+      (subst (λ o. IsAlike behaviour (owned X m true) (settled Y (script (after (said m.envelope) o)) true)) value
+      (settled_alike (script (after (said m.envelope) m.outcome)) true))
   step_owning m c is value false = tt
 
-  step_doing : (js : List (Job Applied PCarried Outcome)) (b : Bool) (ks : Jobs) (d : Bool) (r : Answer) → js ≡ map enclosed ks → b ≡ d → IsAlike behaviour (answered X (doing js b) r) (answered Y (doing ks d) r)
+  step_doing : (js : List (Job Applied PCarried Outcome)) (b : Bool) (ks : Jobs) (d : Bool) (r : Answer) → js ≡ map enclosed ks → b ≡ d
+      → IsAlike behaviour (answered X (doing js b) r) (answered Y (doing ks d) r)
   step_doing js b [] d r is same = subst (λ x. IsAlike behaviour (answered X (doing x b) r) failed) (sym is) tt
   step_doing js b (k ∷ ks) d r is same =
-      subst (λ x. IsAlike behaviour (answered X (doing x b) r) (job_done Y k ks d r)) (sym is) (subst (λ x. IsAlike behaviour (job_done X (enclosed k) (map enclosed ks) b r) (job_done Y k ks x r)) same (job_alike k ks b r))
+      subst (λ x. IsAlike behaviour (answered X (doing x b) r) (job_done Y k ks d r)) (sym is)
+      (subst (λ x. IsAlike behaviour (job_done X (enclosed k) (map enclosed ks) b r) (job_done Y k ks x r)) same (job_alike k ks b r))
 
-  step_reading : (g : ℕ) (c : PCarried) (fs : List (ℕ × Outcome)) (r : Answer) → IsAlike behaviour (answered X (state_reading g c fs) r) (answered Y (state_reading g c fs) r)
+  step_reading : (g : ℕ) (c : PCarried) (fs : List (ℕ × Outcome)) (r : Answer)
+      → IsAlike behaviour (answered X (state_reading g c fs) r) (answered Y (state_reading g c fs) r)
   step_reading g c fs (found t (Some o)) = read_alike g c (fs ++ (t, o) ∷ []) (eqb (length (fs ++ (t, o) ∷ [])) c.size)
   step_reading g c fs (found t None) = tt
   step_reading g c fs (taken x) = tt
@@ -136,7 +145,8 @@ module _ (behaviour : Behaviour) (l : Line) where
   step_acking (found t o) = tt
   step_acking (rested a) = tt
 
-  step_own : (m : Applied) (c : Content) (r : Answer) → said m.envelope ≡ c → m.outcome ≡ outcome_of behaviour c → IsAlike behaviour (answered X (owning m) r) (answered Y (owning c) r)
+  step_own : (m : Applied) (c : Content) (r : Answer) → said m.envelope ≡ c → m.outcome ≡ outcome_of behaviour c
+      → IsAlike behaviour (answered X (owning m) r) (answered Y (owning c) r)
   step_own m c (kept a) is value = step_owning m c is value a
   step_own m c (taken x) is value = tt
   step_own m c sent is value = tt
@@ -172,7 +182,8 @@ module _ (behaviour : Behaviour) (l : Line) where
       → (ask Y (doing ks d) ≡ ask X (doing js b)) × ReadsBack Y (doing ks d)
   jobs_ask js b [] d is back = subst (λ x. (ask Y (doing [] d) ≡ ask X (doing x b)) × ReadsBack Y (doing [] d)) (sym is) (refl, tt)
   jobs_ask js b (k ∷ ks) d is back =
-      subst (λ x. (ask Y (doing (k ∷ ks) d) ≡ ask X (doing x b)) × ReadsBack Y (doing (k ∷ ks) d)) (sym is) (job_asks k ks b d (subst (λ x. ReadsBack X (doing x b)) is back))
+      subst (λ x. (ask Y (doing (k ∷ ks) d) ≡ ask X (doing x b)) × ReadsBack Y (doing (k ∷ ks) d)) (sym is)
+      (job_asks k ks b d (subst (λ x. ReadsBack X (doing x b)) is back))
 
   asks : (s : Left) (t : Doing) → IsAlike behaviour s t → ReadsBack X s → (ask Y t ≡ ask X s) × ReadsBack Y t
   asks taking taking a back = (refl, tt)

@@ -48,7 +48,8 @@ unsent_shown n (doing (hand_in g t c ∷ js) b) = refl
 unsent_shown n (reading g c fs) = refl
 unsent_shown n acking = refl
 
-pub unsent_answered : (behaviour : Behaviour) (book : Book) (s : Left) (r : Answer) → answered (enveloped_by behaviour book) (unsent s) r ≡ answered (enveloped_by behaviour book) s r
+pub unsent_answered : (behaviour : Behaviour) (book : Book) (s : Left) (r : Answer)
+    → answered (enveloped_by behaviour book) (unsent s) r ≡ answered (enveloped_by behaviour book) s r
 unsent_answered behaviour book (doing (publish e ∷ js) b) sent = refl
 unsent_answered behaviour book (doing (publish e ∷ js) b) refused = refl
 unsent_answered behaviour book (doing (publish e ∷ js) b) (taken x) = refl
@@ -89,10 +90,13 @@ drops_one_more : (behaviour : Behaviour) (book : Book) (s : Left) (xs : List (As
 drops_one_more behaviour book s [] x = omega arith
 drops_one_more behaviour book s (y ∷ xs) x = let more = drops_one_more behaviour book (answered (enveloped_by behaviour book) s y.1) xs x in omega (arith, more)
 
-run_one_more : (behaviour : Behaviour) (book : Book) (s : Left) (xs : List (Asked × Answer)) (x : Asked × Answer) → IsCoreRun (enveloped_by behaviour book) s xs → x.0 ≡ asked (left_after (enveloped_by behaviour book) s xs)
-    → Suits x.0 x.1 → ReadsBack (enveloped_by behaviour book) (left_after (enveloped_by behaviour book) s xs) → IsCoreRun (enveloped_by behaviour book) s (xs ++ x ∷ [])
+run_one_more : (behaviour : Behaviour) (book : Book) (s : Left) (xs : List (Asked × Answer)) (x : Asked × Answer) → IsCoreRun (enveloped_by behaviour book) s xs
+    → x.0 ≡ asked (left_after (enveloped_by behaviour book) s xs)
+    → Suits x.0 x.1 → ReadsBack (enveloped_by behaviour book) (left_after (enveloped_by behaviour book) s xs)
+    → IsCoreRun (enveloped_by behaviour book) s (xs ++ x ∷ [])
 run_one_more behaviour book s [] x run is suit back = (is, (suit, back), tt)
-run_one_more behaviour book s (y ∷ xs) x run is suit back = (run.0, run.1, run_one_more behaviour book (answered (enveloped_by behaviour book) s y.1) xs x run.2 is suit back)
+run_one_more behaviour book s (y ∷ xs) x run is suit back =
+    (run.0, run.1, run_one_more behaviour book (answered (enveloped_by behaviour book) s y.1) xs x run.2 is suit back)
 
 -- what a core has left by whether its envelope was handed out
 abbrev standing : Left → Bool → Left
@@ -102,7 +106,8 @@ shown_so : (x : Option ℕ) (s : Left) (out : Bool) → shown x (asked (standing
 shown_so n s true = unsent_shown n s
 shown_so n s false = refl
 
-answered_so : (behaviour : Behaviour) (book : Book) (s : Left) (out : Bool) (r : Answer) → answered (enveloped_by behaviour book) (standing s out) r ≡ answered (enveloped_by behaviour book) s r
+answered_so : (behaviour : Behaviour) (book : Book) (s : Left) (out : Bool) (r : Answer)
+    → answered (enveloped_by behaviour book) (standing s out) r ≡ answered (enveloped_by behaviour book) s r
 answered_so behaviour book s true r = unsent_answered behaviour book s r
 answered_so behaviour book s false r = refl
 
@@ -122,7 +127,8 @@ open_unsent : (s : Left) (h : Option Envelope) → open_of (unsent s) h ≡ open
 open_unsent (doing (publish e ∷ js) b) h = refl
 open_unsent s h = refl
 
-open_settled : (behaviour : Behaviour) (book : Book) (js : Jobs (enveloped_by behaviour book)) (b : Bool) (h : Option Envelope) → open_of (settled (enveloped_by behaviour book) js b) h ≡ h
+open_settled : (behaviour : Behaviour) (book : Book) (js : Jobs (enveloped_by behaviour book)) (b : Bool) (h : Option Envelope)
+    → open_of (settled (enveloped_by behaviour book) js b) h ≡ h
 open_settled behaviour book [] b h = refl
 open_settled behaviour book (store t o ∷ js) true h = refl
 open_settled behaviour book (store t o ∷ js) false h = refl
@@ -136,7 +142,8 @@ open_either true s t h i j = i
 open_either false s t h i j = j
 
 -- the envelope that it holds is the one that its asks and answers show
-pub book_step : (behaviour : Behaviour) (book : Book) (s : Left) (h : Option Envelope) (r : Answer) → Suits (asked s) r → open_of (answered (enveloped_by behaviour book) s r) (kept_next book s h r) ≡ held_by (open_of s h) (asked s) r
+pub book_step : (behaviour : Behaviour) (book : Book) (s : Left) (h : Option Envelope) (r : Answer) → Suits (asked s) r
+    → open_of (answered (enveloped_by behaviour book) s r) (kept_next book s h r) ≡ held_by (open_of s h) (asked s) r
 book_step behaviour book taking h (taken None) u = refl
 book_step behaviour book taking h (taken (Some e)) u = go (opened book e)
   where
@@ -145,20 +152,24 @@ book_step behaviour book taking h (taken (Some e)) u = go (opened book e)
     go (Some c) = refl
 book_step behaviour book resting h (rested true) u = refl
 book_step behaviour book resting h (rested false) u = refl
-book_step behaviour book (owning m) h (kept true) u = open_settled behaviour book ((enveloped_by behaviour book).ended m ((enveloped_by behaviour book).outcome m)) true (Some m.envelope)
+book_step behaviour book (owning m) h (kept true) u =
+    open_settled behaviour book ((enveloped_by behaviour book).ended m ((enveloped_by behaviour book).outcome m)) true (Some m.envelope)
 book_step behaviour book (owning m) h (kept false) u = refl
 book_step behaviour book (doing (store t o ∷ js) b) h (kept a) u = open_settled behaviour book js (cond (is_due t js) a b) h
 book_step behaviour book (doing (publish e ∷ js) b) h sent u = open_settled behaviour book js b h
 book_step behaviour book (doing (publish e ∷ js) b) h refused u = refl
 book_step behaviour book (doing (hand_in g t c ∷ js) b) h (counted n) u = open_either (eqb (suc n) c.size) (reading g c []) acking h refl refl
 book_step behaviour book (reading g c fs) h (found t (Some o)) u =
-    open_either (eqb (length (fs ++ (t, o) ∷ [])) c.size) (settled (enveloped_by behaviour book) ((enveloped_by behaviour book).completed c (fs ++ (t, o) ∷ [])) false) (reading g c (fs ++ (t, o) ∷ [])) h (open_settled behaviour book ((enveloped_by behaviour book).completed c (fs ++ (t, o) ∷ [])) false h) refl
+    open_either (eqb (length (fs ++ (t, o) ∷ [])) c.size)
+    (settled (enveloped_by behaviour book) ((enveloped_by behaviour book).completed c (fs ++ (t, o) ∷ [])) false) (reading g c (fs ++ (t, o) ∷ [])) h
+    (open_settled behaviour book ((enveloped_by behaviour book).completed c (fs ++ (t, o) ∷ [])) false h) refl
 book_step behaviour book (reading g c fs) h (found t None) u = refl
 book_step behaviour book acking h acked u = refl
 book_step behaviour book s h r u = elim u [ ]
 
 -- inside a script the task that it names is that of the envelope's message
-pub task_step : (behaviour : Behaviour) (book : Book) (s : Left) (h : Option Envelope) (x : Option ℕ) (r : Answer) → Suits (asked s) r → (is_inside s ≡ true → x ≡ task_in book (open_of s h))
+pub task_step : (behaviour : Behaviour) (book : Book) (s : Left) (h : Option Envelope) (x : Option ℕ) (r : Answer) → Suits (asked s) r
+    → (is_inside s ≡ true → x ≡ task_in book (open_of s h))
     → is_inside (answered (enveloped_by behaviour book) s r) ≡ true → task_next book s x r ≡ task_in book (held_by (open_of s h) (asked s) r)
 task_step behaviour book taking h x (taken None) u was i = absurd (false≢true i)
 task_step behaviour book taking h x (taken (Some e)) u was i = refl
@@ -188,13 +199,16 @@ one_more_leads behaviour book xs s r leads back suit =
     let before : Left = left_by behaviour book xs in
     let x : Asked × Answer = (asked before, replied r) in
     let same : s.left ≡ standing before s.is_out = leads.left in
-    let fits : suits (shown s.task (asked before)) r ≡ true = ap (λ a. suits a r) (sym (ap (λ u. shown s.task (asked u)) same ∙ shown_so s.task before s.is_out)) ∙ suit in
+    let fits : suits (shown s.task (asked before)) r ≡ true =
+    ap (λ a. suits a r) (sym (ap (λ u. shown s.task (asked u)) same ∙ shown_so s.task before s.is_out)) ∙ suit in
     record {
       run = run_one_more behaviour book taking xs x leads.run refl (suited book s.task (asked before) r fits) back;
-      left = ap (λ u. answered (enveloped_by behaviour book) u (replied r)) same ∙ answered_so behaviour book before s.is_out (replied r) ∙ sym (left_one_more behaviour book taking xs x);
+      left = ap (λ u. answered (enveloped_by behaviour book) u (replied r)) same ∙ answered_so behaviour book before s.is_out (replied r)
+          ∙ sym (left_one_more behaviour book taking xs x);
       dropped =
           counts (drops_from behaviour book taking xs) (drops book s.left (replied r)) s.dropped leads.dropped
-          ∙ ap (λ n. min greatest_count (drops_from behaviour book taking xs + n)) (ap (λ u. drops book u (replied r)) same ∙ drops_so book before s.is_out (replied r))
+          ∙ ap (λ n. min greatest_count (drops_from behaviour book taking xs + n)) (ap (λ u. drops book u (replied r)) same
+          ∙ drops_so book before s.is_out (replied r))
           ∙ ap (λ n. min greatest_count n) (sym (drops_one_more behaviour book taking xs x));
       holds =
           book_step behaviour book s.left s.kept (replied r) (suited book s.task (asked s.left) r suit)
@@ -208,7 +222,8 @@ one_more_leads behaviour book xs s r leads back suit =
 
 -- ---- handed out
 
-handed_by : (before left : Left) (out : Bool) → left ≡ standing before out → (b : Bool) → is_some (asks.to_send (asked left)) ≡ b → unsent left ≡ standing before b
+handed_by : (before left : Left) (out : Bool) → left ≡ standing before out → (b : Bool) → is_some (asks.to_send (asked left)) ≡ b
+    → unsent left ≡ standing before b
 handed_by before left true same true is = ap unsent same ∙ unsent_twice before
 handed_by before left false same true is = ap unsent same
 handed_by before left true same false is =
@@ -217,7 +232,15 @@ handed_by before left false same false is = unsent_same left is ∙ same
 
 pub handed_leads : HandedLeads
 handed_leads behaviour book xs s leads =
-    record { run = leads.run; left = handed_by (left_by behaviour book xs) s.left s.is_out leads.left (is_some (asks.to_send (asked s.left))) refl; dropped = leads.dropped; holds = open_unsent s.left s.kept ∙ leads.holds; task = λ i. leads.task (sym (inside_unsent s.left) ∙ i) ∙ ap (task_in book) (sym (open_unsent s.left s.kept)) }
+    record {
+      run = leads.run;
+      left = handed_by (left_by behaviour book xs) s.left s.is_out leads.left
+          (is_some (asks.to_send (asked s.left))) refl;
+      dropped = leads.dropped;
+      holds = open_unsent s.left s.kept ∙ leads.holds;
+      task =
+          λ i. leads.task (sym (inside_unsent s.left) ∙ i) ∙ ap (task_in book) (sym (open_unsent s.left s.kept));
+    }
 
 pub hands_out : HandsOut
 hands_out behaviour book xs s leads held =

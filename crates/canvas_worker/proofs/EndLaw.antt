@@ -81,13 +81,16 @@ either_on false s t hs ht = ht
 no_end : {A : Type 0} (s : Left) → GoesOn s → is_end (asked s) ≡ true → A
 no_end s on h = absurd (true≢false (sym h ∙ on))
 
-all_read_on : {A : Type 0} (behaviour : Behaviour) (book : Book) (g : ℕ) (c : PCarried) (fs : List (ℕ × Outcome)) → is_end (asked (C.all_read (enveloped_by behaviour book) g c fs)) ≡ true → A
+all_read_on : {A : Type 0} (behaviour : Behaviour) (book : Book) (g : ℕ) (c : PCarried) (fs : List (ℕ × Outcome))
+    → is_end (asked (C.all_read (enveloped_by behaviour book) g c fs)) ≡ true → A
 all_read_on behaviour book g c fs h =
     no_end (C.all_read (enveloped_by behaviour book) g c fs)
-    (either_on (eqb (length fs) c.size) (settled (enveloped_by behaviour book) (map enveloping.enclosed (script (body_after c fs))) false) (reading g c fs) (settled_on behaviour book (map enveloping.enclosed (script (body_after c fs))) false) refl)
+    (either_on (eqb (length fs) c.size) (settled (enveloped_by behaviour book) (map enveloping.enclosed (script (body_after c fs))) false) (reading g c fs)
+    (settled_on behaviour book (map enveloping.enclosed (script (body_after c fs))) false) refl)
     h
 
-ends_by : (behaviour : Behaviour) (book : Book) (s : Left) (r : Answer) → GoesOn s → Suits (asked s) r → is_end (asked (answered (enveloped_by behaviour book) s r)) ≡ true → EndsACore (asked s) r
+ends_by : (behaviour : Behaviour) (book : Book) (s : Left) (r : Answer) → GoesOn s → Suits (asked s) r
+    → is_end (asked (answered (enveloped_by behaviour book) s r)) ≡ true → EndsACore (asked s) r
 ends_by behaviour book taking (taken None) on suit h = no_end resting refl h
 ends_by behaviour book taking (taken (Some e)) on suit h = no_end _ (opens_on behaviour book (enveloping.applied_if behaviour (opened book e) e)) h
 ends_by behaviour book resting (rested true) on suit h = no_end taking refl h
@@ -107,7 +110,8 @@ ends_by behaviour book acking acked on suit h = no_end taking refl h
 ends_by behaviour book s r on suit h = absurd suit
 
 -- nothing is answered at the end
-none_after : (behaviour : Behaviour) (book : Book) (s : Left) (xs : List (Asked × Answer)) → is_end (asked s) ≡ true → IsCoreRun (enveloped_by behaviour book) s xs → xs ≡ []
+none_after : (behaviour : Behaviour) (book : Book) (s : Left) (xs : List (Asked × Answer)) → is_end (asked s) ≡ true
+    → IsCoreRun (enveloped_by behaviour book) s xs → xs ≡ []
 none_after behaviour book s [] h run = refl
 none_after behaviour book s (x ∷ xs) h run = absurd (unsuited book x.0 x.1 (ap is_end run.0 ∙ h) run.1.0)
   where
@@ -119,17 +123,20 @@ abbrev Behind : List (Asked × Answer) → Type 0
 Behind xs = (ys : List (Asked × Answer)) × (x : Asked × Answer) × (xs ≡ ys ++ x ∷ []) × EndsACore x.0 x.1
 
 -- behind this step, or behind one of those after it
-next : (behaviour : Behaviour) (book : Book) (s : Left) (x : Asked × Answer) (xs : List (Asked × Answer)) (b : Bool) → is_end (asked (answered (enveloped_by behaviour book) s x.1)) ≡ b
+next : (behaviour : Behaviour) (book : Book) (s : Left) (x : Asked × Answer) (xs : List (Asked × Answer)) (b : Bool)
+    → is_end (asked (answered (enveloped_by behaviour book) s x.1)) ≡ b
     → GoesOn s → IsCoreRun (enveloped_by behaviour book) s (x ∷ xs) → (GoesOn (answered (enveloped_by behaviour book) s x.1) → Behind xs) → Behind (x ∷ xs)
 next behaviour book s x xs true is on run later =
     let last : EndsACore x.0 x.1 = subst (λ a. EndsACore a x.1) (sym run.0) (ends_by behaviour book s x.1 on (subst (λ a. Suits a x.1) run.0 run.1.0) is) in
     ([], x, ap (λ zs. x ∷ zs) (none_after behaviour book (answered (enveloped_by behaviour book) s x.1) xs is run.2), last)
 next behaviour book s x xs false is on run later = let rest = later is in (x ∷ rest.0, rest.1, ap (λ zs. x ∷ zs) rest.2, rest.3)
 
-ends_behind_from : (behaviour : Behaviour) (book : Book) (s : Left) (xs : List (Asked × Answer)) → GoesOn s → IsCoreRun (enveloped_by behaviour book) s xs → is_end (asked (left_after (enveloped_by behaviour book) s xs)) ≡ true → Behind xs
+ends_behind_from : (behaviour : Behaviour) (book : Book) (s : Left) (xs : List (Asked × Answer)) → GoesOn s → IsCoreRun (enveloped_by behaviour book) s xs
+    → is_end (asked (left_after (enveloped_by behaviour book) s xs)) ≡ true → Behind xs
 ends_behind_from behaviour book s [] on run h = no_end s on h
 ends_behind_from behaviour book s (x ∷ xs) on run h =
-    next behaviour book s x xs (is_end (asked (answered (enveloped_by behaviour book) s x.1))) refl on run (λ on'. ends_behind_from behaviour book (answered (enveloped_by behaviour book) s x.1) xs on' run.2 h)
+    next behaviour book s x xs (is_end (asked (answered (enveloped_by behaviour book) s x.1))) refl on run
+    (λ on'. ends_behind_from behaviour book (answered (enveloped_by behaviour book) s x.1) xs on' run.2 h)
 
 -- what a core has left ends where what the asks and answers leave does
 unsent_end : (s : Left) → is_end (asked (unsent s)) ≡ is_end (asked s)
@@ -142,7 +149,8 @@ end_so s false = refl
 
 pub ends_behind : EndsBehind
 ends_behind behaviour book xs s leads h =
-    ends_behind_from behaviour book taking xs refl leads.run (sym (end_so (left_by behaviour book xs) s.is_out) ∙ ap (λ u. is_end (asked u)) (sym leads.left) ∙ ap is_end h)
+    ends_behind_from behaviour book taking xs refl leads.run (sym (end_so (left_by behaviour book xs) s.is_out) ∙ ap (λ u. is_end (asked u)) (sym leads.left)
+    ∙ ap is_end h)
 
 -- ---- what fails
 
@@ -169,7 +177,8 @@ pausing (reading g c fs) h = absurd (true≢false (sym (ap is_pause h)))
 pausing acking h = absurd (true≢false (sym (ap is_pause h)))
 
 -- the last ask of a core run is what was asked then
-last_asked : (behaviour : Behaviour) (book : Book) (s : Left) (ys : List (Asked × Answer)) (x : Asked × Answer) → IsCoreRun (enveloped_by behaviour book) s (ys ++ x ∷ []) → x.0 ≡ asked (left_after (enveloped_by behaviour book) s ys)
+last_asked : (behaviour : Behaviour) (book : Book) (s : Left) (ys : List (Asked × Answer)) (x : Asked × Answer)
+    → IsCoreRun (enveloped_by behaviour book) s (ys ++ x ∷ []) → x.0 ≡ asked (left_after (enveloped_by behaviour book) s ys)
 last_asked behaviour book s [] x run = run.0
 last_asked behaviour book s (y ∷ ys) x run = last_asked behaviour book (answered (enveloped_by behaviour book) s y.1) ys x run.2
 
@@ -182,18 +191,25 @@ failed_so s true = unsent_failed s
 failed_so s false = refl
 
 -- behind a rest that was answered with no more it hasn't failed
-over_then : (behaviour : Behaviour) (book : Book) (ys : List (Asked × Answer)) → IsCoreRun (enveloped_by behaviour book) taking (ys ++ (C.pause, rested false) ∷ []) → is_failed (left_by behaviour book (ys ++ (C.pause, rested false) ∷ [])) ≡ false
+over_then : (behaviour : Behaviour) (book : Book) (ys : List (Asked × Answer))
+    → IsCoreRun (enveloped_by behaviour book) taking (ys ++ (C.pause, rested false) ∷ [])
+    → is_failed (left_by behaviour book (ys ++ (C.pause, rested false) ∷ [])) ≡ false
 over_then behaviour book ys run =
-    ap is_failed (left_one_more behaviour book taking ys (C.pause, rested false) ∙ ap (λ u. answered (enveloped_by behaviour book) u (rested false)) (pausing (left_by behaviour book ys) (sym (last_asked behaviour book taking ys (C.pause, rested false) run))))
+    ap is_failed (left_one_more behaviour book taking ys (C.pause, rested false)
+    ∙ ap (λ u. answered (enveloped_by behaviour book) u (rested false))
+    (pausing (left_by behaviour book ys) (sym (last_asked behaviour book taking ys (C.pause, rested false) run))))
 
-which : (behaviour : Behaviour) (book : Book) (xs ys : List (Asked × Answer)) (a : Asked) (r : Answer) → IsCoreRun (enveloped_by behaviour book) taking xs → is_failed (left_by behaviour book xs) ≡ true → xs ≡ ys ++ (a, r) ∷ [] → EndsACore a r
+which : (behaviour : Behaviour) (book : Book) (xs ys : List (Asked × Answer)) (a : Asked) (r : Answer) → IsCoreRun (enveloped_by behaviour book) taking xs
+    → is_failed (left_by behaviour book xs) ≡ true → xs ≡ ys ++ (a, r) ∷ [] → EndsACore a r
     → (zs : List (Asked × Answer)) × (e : Envelope) × (xs ≡ zs ++ (C.send e, refused) ∷ [])
 which behaviour book xs ys C.pause (rested false) run fails same by =
-    absurd (true≢false (sym fails ∙ ap (λ zs. is_failed (left_by behaviour book zs)) same ∙ over_then behaviour book ys (subst (λ zs. IsCoreRun (enveloped_by behaviour book) taking zs) same run)))
+    absurd (true≢false (sym fails ∙ ap (λ zs. is_failed (left_by behaviour book zs)) same
+    ∙ over_then behaviour book ys (subst (λ zs. IsCoreRun (enveloped_by behaviour book) taking zs) same run)))
 which behaviour book xs ys (C.send e) refused run fails same by = (ys, e, same)
 which behaviour book xs ys a r run fails same by = absurd by
 
 pub fails_behind : FailsBehind
 fails_behind behaviour book xs s leads h =
     let last = ends_behind behaviour book xs s leads (ap asked h) in
-    which behaviour book xs last.0 last.1.0 last.1.1 leads.run (sym (failed_so (left_by behaviour book xs) s.is_out) ∙ ap is_failed (sym leads.left) ∙ ap is_failed h) last.2 last.3
+    which behaviour book xs last.0 last.1.0 last.1.1 leads.run (sym (failed_so (left_by behaviour book xs) s.is_out) ∙ ap is_failed (sym leads.left)
+    ∙ ap is_failed h) last.2 last.3

@@ -26,19 +26,30 @@ over_alike behaviour t a = absurd a
 
 -- a worker needs no first messages
 module _ (behaviour : Behaviour) (l : Line) where
-  run_same : (s : CoreState Content PCarried Outcome) (xs : List (Asked × Answer)) → IsCoreRun (worker behaviour l) s xs → IsCoreRun (worker_of behaviour (roster_of l)) s xs
+  run_same : (s : CoreState Content PCarried Outcome) (xs : List (Asked × Answer)) → IsCoreRun (worker behaviour l) s xs
+      → IsCoreRun (worker_of behaviour (roster_of l)) s xs
   run_same s [] r = tt
   run_same s (x ∷ xs) r = (r.0, r.1, run_same (answered (worker_of behaviour (roster_of l)) s x.1) xs r.2)
 
-  left_same : (s : CoreState Content PCarried Outcome) (xs : List (Asked × Answer)) → left_after (worker behaviour l) s xs ≡ left_after (worker_of behaviour (roster_of l)) s xs
+  left_same : (s : CoreState Content PCarried Outcome) (xs : List (Asked × Answer))
+      → left_after (worker behaviour l) s xs ≡ left_after (worker_of behaviour (roster_of l)) s xs
   left_same s [] = refl
   left_same s (x ∷ xs) = left_same (answered (worker_of behaviour (roster_of l)) s x.1) xs
 
   -- the same point of the same worker
   abbrev carried : Progress → List (Asked × Answer) → Working
-  carried p xs = record { pass = p.pass; seat = p.seat; left = left_after (worker_of behaviour (roster_of l)) taking xs; current = p.current; held = p.held; tally = p.tally }
+  carried p xs = record {
+    pass = p.pass;
+    seat = p.seat;
+    left = left_after
+        (worker_of behaviour (roster_of l)) taking xs;
+    current = p.current;
+    held = p.held;
+    tally = p.tally;
+  }
 
-  followed : (pass : Pass) (seat : Seat) (p : Progress) (w : Worked behaviour (roster_of l) (starting pass seat) p) → Followed behaviour (roster_of l) (begins pass seat) (carried p w.run)
+  followed : (pass : Pass) (seat : Seat) (p : Progress) (w : Worked behaviour (roster_of l) (starting pass seat) p)
+      → Followed behaviour (roster_of l) (begins pass seat) (carried p w.run)
   followed pass seat p w = record {
     run = w.run;
     is_core = run_same taking w.run (cores_are_workers behaviour l w.run w.is_core).0;
@@ -52,10 +63,16 @@ module _ (behaviour : Behaviour) (l : Line) where
     serves = w.serves;
   }
 
-  closed : (pass : Pass) (seat : Seat) (p : Progress) (w : Worked behaviour (roster_of l) (starting pass seat) p) → (p.left ≡ over) × (p.held ≡ []) × Empties p.pass → IsOver (carried p w.run)
+  closed : (pass : Pass) (seat : Seat) (p : Progress) (w : Worked behaviour (roster_of l) (starting pass seat) p)
+      → (p.left ≡ over) × (p.held ≡ []) × Empties p.pass → IsOver (carried p w.run)
   closed pass seat p w whole =
-      let together : GoTogether behaviour l (left_after (enveloped behaviour (roster_of l)) taking w.run) (left_after (worker behaviour l) taking w.run) = (cores_are_workers behaviour l w.run w.is_core).1 in
-      (sym (left_same taking w.run) ∙ over_alike behaviour (left_after (worker behaviour l) taking w.run) (subst (λ s. IsAlike behaviour s (left_after (worker behaviour l) taking w.run)) (w.leaves ∙ whole.0) together.alike), whole.1)
+      let together : GoTogether behaviour l (left_after (enveloped behaviour (roster_of l)) taking w.run) (left_after (worker behaviour l) taking w.run) =
+      (cores_are_workers behaviour l w.run w.is_core).1 in (
+        sym (left_same taking w.run)
+            ∙ over_alike behaviour (left_after (worker behaviour l) taking w.run)
+            (subst (λ s. IsAlike behaviour s (left_after (worker behaviour l) taking w.run)) (w.leaves ∙ whole.0) together.alike),
+        whole.1,
+      )
 
 pub workers_start : WorkersStart
 workers_start l plan broker desk number pass seat is of home = record {
@@ -75,7 +92,8 @@ workers_start l plan broker desk number pass seat is of home = record {
 
 pub workers_finish : WorkersFinish
 workers_finish behaviour l plan broker desk number pass seat is r f =
-    let worked : Worked behaviour (roster_of l) (starting pass seat) f.ended = subst (λ (p : Roster). Worked behaviour p (starting pass seat) f.ended) is f.worked in
+    let worked : Worked behaviour (roster_of l) (starting pass seat) f.ended =
+    subst (λ (p : Roster). Worked behaviour p (starting pass seat) f.ended) is f.worked in
     record {
       same_number = f.is_of.same_number;
       ended = carried behaviour l f.ended worked.run;

@@ -32,7 +32,8 @@ use Rattle.canvas_worker.proofs.Turns.{unchanged, one_more, tallied, some_none}
 -- ---- an envelope given to the core
 
 same_tallies : {a b c d n p q r s m : ℕ} → a ≡ p → b ≡ q → c ≡ r → d ≡ s → n ≡ m
-    → ◌≡◌ {A = Tally} (record { taken = a; published = b; first = c; parts = d; dropped = n }) (record { taken = p; published = q; first = r; parts = s; dropped = m })
+    → ◌≡◌ {A = Tally} (record { taken = a; published = b; first = c; parts = d; dropped = n })
+    (record { taken = p; published = q; first = r; parts = s; dropped = m })
 same_tallies e f g h i = cc
 
 -- Where from w on es were taken, and e is the first of all that is held then; u is the worker before its core is given it.
@@ -63,14 +64,32 @@ module _ (behaviour : Behaviour) (w u : Work) (es : List Envelope) (e : Envelope
   batched = (refl, x.took, refl, refl, refl, refl)
 
   abbrev core : Standing
-  core = record { left = answered (enveloped behaviour plan) w.core.left (C.taken (Some e)); is_out = false; dropped = min greatest_count (w.core.dropped + is_dropped plan C.take (C.taken (Some e))); kept = kept_next (book_on plan) w.core.left w.core.kept (C.taken (Some e)); task = task_next (book_on plan) w.core.left w.core.task (C.taken (Some e)) }
+  core = record {
+    left = answered (enveloped behaviour plan) w.core.left (C.taken (Some e));
+    is_out = false;
+    dropped = min greatest_count
+        (w.core.dropped + is_dropped plan C.take (C.taken (Some e)));
+    kept = kept_next (book_on plan) w.core.left w.core.kept (C.taken (Some e));
+    task =
+        task_next (book_on plan) w.core.left w.core.task (C.taken (Some e));
+  }
 
   core_is : after_reply behaviour (book_in u.desk.plan) u.core (C.taken (Some e)) ≡ core
   core_is =
-      let so : drops (book_on plan) w.core.left (C.taken (Some e)) ≡ is_dropped plan C.take (C.taken (Some e)) = drops_so plan w.core.left (C.taken (Some e)) ∙ ap (λ b. is_dropped plan b (C.taken (Some e))) x.asked_is in
-      ap (λ (d : Desk). after_reply behaviour (book_in d.plan) u.core (C.taken (Some e))) x.desk ∙ ap (λ c. after_reply behaviour (book_in plan) c (C.taken (Some e))) x.core
+      let so : drops (book_on plan) w.core.left (C.taken (Some e)) ≡ is_dropped plan C.take (C.taken (Some e)) = drops_so plan w.core.left (C.taken (Some e))
+      ∙ ap (λ b. is_dropped plan b (C.taken (Some e))) x.asked_is in
+      ap (λ (d : Desk). after_reply behaviour (book_in d.plan) u.core (C.taken (Some e))) x.desk
+      ∙ ap (λ c. after_reply behaviour (book_in plan) c (C.taken (Some e))) x.core
       ∙ ap (λ b. after_reply behaviour b w.core (C.taken (Some e))) (same_book plan ready.plan)
-      ∙ ap (λ (n : ℕ). record { left = answered (enveloped behaviour plan) w.core.left (C.taken (Some e)); is_out = false; dropped = min greatest_count (w.core.dropped + n); kept = kept_next (book_on plan) w.core.left w.core.kept (C.taken (Some e)); task = task_next (book_on plan) w.core.left w.core.task (C.taken (Some e)) }) so
+      ∙ ap (λ (n : ℕ). record {
+        left = answered (enveloped behaviour plan) w.core.left (C.taken (Some e));
+        is_out = false;
+        dropped = min greatest_count
+            (w.core.dropped + n);
+        kept = kept_next (book_on plan) w.core.left w.core.kept (C.taken (Some e));
+        task =
+            task_next (book_on plan) w.core.left w.core.task (C.taken (Some e));
+      }) so
 
   abbrev given : Work
   given = one_taken (with_core u core)
@@ -119,7 +138,8 @@ module _ (behaviour : Behaviour) (w u : Work) (es : List Envelope) (e : Envelope
       plan = (ready.plan.0, ready.plan.1, ap (λ (d : Desk). d.plan) x.desk ∙ ready.plan.2);
       inside = refl;
       can = subst (λ (d : Desk). Can d.plan u.seat core.left) (sym x.desk) can;
-      rested = λ rests. absurd (given_never behaviour plan e (subst (λ s. answered (enveloped behaviour plan) s (C.taken (Some e)) ≡ C.resting) (takes_taking w.core.left x.asked_is) rests));
+      rested = λ rests. absurd (given_never behaviour plan e
+          (subst (λ s. answered (enveloped behaviour plan) s (C.taken (Some e)) ≡ C.resting) (takes_taking w.core.left x.asked_is) rests));
       current = λ _. subst (λ h. IsSome h) (sym current) refl;
       again = again;
       counts = tallied plan C.take (C.taken (Some e)) (progress w).tally (progress given).tally counted;
@@ -138,18 +158,27 @@ module _ (behaviour : Behaviour) (w u : Work) (es : List Envelope) (e : Envelope
     ended = between;
     counted = ready.counts;
     moved = takes_batch es batched;
-    is_of = record { same_number = leaves.same_number ∙ x.number; pass = leaves.pass; seat = leaves.seat ∙ x.seat; counts = leaves.counts ∙ same_tally; whole = λ none. absurd (some_none Memory (sym leaves.fault_is ∙ none)) };
+    is_of = record {
+      same_number = leaves.same_number ∙ x.number;
+      pass = leaves.pass;
+      seat = leaves.seat ∙ x.seat;
+      counts = leaves.counts
+          ∙ same_tally;
+      whole = λ none. absurd (some_none Memory (sym leaves.fault_is ∙ none));
+    };
   }
 
   lost_is : (v : Work) → v ≡ lost u → ActedLast behaviour w (Some Memory) v
   lost_is v is s leaves = fails s (subst (λ z. Leaves z (Some Memory) s) is leaves)
 
-  well : {A : Type 0} (result : Result A End) (v : Work) → MatchResult result (λ _. v ≡ one_taken (with_answer behaviour u (C.taken (Some e)))) (λ end. (v ≡ lost u) × (end.fault ≡ Some Memory))
+  well : {A : Type 0} (result : Result A End) (v : Work)
+      → MatchResult result (λ _. v ≡ one_taken (with_answer behaviour u (C.taken (Some e)))) (λ end. (v ≡ lost u) × (end.fault ≡ Some Memory))
       → MatchResult result (λ _. Acted behaviour w v) (λ end. ActedLast behaviour w end.fault v)
   well (Ok _) v is = told_is v is
   well (Err end) v is = subst (λ f. ActedLast behaviour w f v) (sym is.1) (lost_is v is.0)
 
 pub given_well : {A : Type 0} (behaviour : Behaviour) (w u v : Work) (es : List Envelope) (e : Envelope) (result : Result A End)
-    → MatchResult result (λ _. v ≡ one_taken (with_answer behaviour u (C.taken (Some e)))) (λ end. (v ≡ lost u) × (end.fault ≡ Some Memory)) → Ready w → Takes w u es e
+    → MatchResult result (λ _. v ≡ one_taken (with_answer behaviour u (C.taken (Some e)))) (λ end. (v ≡ lost u) × (end.fault ≡ Some Memory)) → Ready w
+    → Takes w u es e
     → MatchResult result (λ _. Acted behaviour w v) (λ end. ActedLast behaviour w end.fault v)
 given_well behaviour w u v es e result is ready x = well behaviour w u es e ready x result v is

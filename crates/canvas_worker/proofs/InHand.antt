@@ -34,7 +34,8 @@ taken_can p q e s = (s.3, just_has p q e s)
 still_can : (p q : Pass) (d : QueueCall Envelope) (a : Option Envelope) → Stands p (calls p.name d a) q → (e : Envelope) → CanDeliver p e → CanDeliver q e
 still_can p q d a s e c = (s.3, still_has p q d a s e c.0 c.1)
 
-all_still : (p q : Pass) (d : QueueCall Envelope) (a : Option Envelope) → Stands p (calls p.name d a) q → (es : List Envelope) → Each (CanDeliver p) es → Each (CanDeliver q) es
+all_still : (p q : Pass) (d : QueueCall Envelope) (a : Option Envelope) → Stands p (calls p.name d a) q → (es : List Envelope) → Each (CanDeliver p) es
+    → Each (CanDeliver q) es
 all_still p q d a s es c = each_weaker {P = CanDeliver p} {Q = CanDeliver q} (still_can p q d a s) es c
 
 pub but_open : (p : Pass) (h : Option Envelope) (es : List Envelope) → Each (CanDeliver p) (in_hand h es) → Each (CanDeliver p) es
@@ -44,7 +45,8 @@ but_open p (Some e) es c = c.1
 makes_can : (es xs : List Envelope) (p q : Pass) → Makes p (taking_all es) q → Each (CanDeliver p) xs → Each (CanDeliver q) (xs ++ es)
 makes_can [] xs p q m c = subst (Each (CanDeliver q)) (sym (append-nil xs)) (subst (λ r. Each (CanDeliver r) xs) (sym m) c)
 makes_can (e ∷ es) xs p q m c =
-    let all : Each (CanDeliver m.0) (xs ++ e ∷ []) = each_append (CanDeliver m.0) xs (e ∷ []) (all_still p m.0 broker.take (Some e) m.1 xs c) (taken_can p m.0 e m.1, tt) in
+    let all : Each (CanDeliver m.0) (xs ++ e ∷ []) =
+    each_append (CanDeliver m.0) xs (e ∷ []) (all_still p m.0 broker.take (Some e) m.1 xs c) (taken_can p m.0 e m.1, tt) in
     subst (Each (CanDeliver q)) (append_assoc xs (e ∷ []) es) (makes_can es (xs ++ e ∷ []) m.0 q m.2 all)
 
 -- a batch is taken
@@ -52,17 +54,20 @@ pub batch_can : (es xs : List Envelope) (p q : Pass) → Took p es q → Each (C
 batch_can es xs p q t c = makes_can es xs p q (took_makes p q es t) c
 
 -- an ask of the core is answered
-pub call_can : (a : Asked) (r : Answer) (h : Option Envelope) (es : List Envelope) (p q : Pass) → Makes p (broker_call a r) q → Each (CanDeliver p) (in_hand h es) → Each (CanDeliver q) (in_hand (held_by h a r) es)
+pub call_can : (a : Asked) (r : Answer) (h : Option Envelope) (es : List Envelope) (p q : Pass) → Makes p (broker_call a r) q
+    → Each (CanDeliver p) (in_hand h es) → Each (CanDeliver q) (in_hand (held_by h a r) es)
 call_can C.take (C.taken (Some e)) h es p q m c =
     subst (λ z. Each (CanDeliver z) (e ∷ es)) (sym m.2) (taken_can p m.0 e m.1, all_still p m.0 broker.take (Some e) m.1 es (but_open p h es c))
-call_can (C.send e) C.sent h es p q m c = subst (λ z. Each (CanDeliver z) (in_hand h es)) (sym m.2) (all_still p m.0 (broker.publish e) None m.1 (in_hand h es) c)
+call_can (C.send e) C.sent h es p q m c =
+    subst (λ z. Each (CanDeliver z) (in_hand h es)) (sym m.2) (all_still p m.0 (broker.publish e) None m.1 (in_hand h es) c)
 call_can C.ack C.acked h es p q m c = subst (λ z. Each (CanDeliver z) es) (sym m) (but_open p h es c)
 call_can a r h es p q m c = subst (λ z. Each (CanDeliver z) (in_hand h es)) (sym m) c
 
 -- ---- an open script has an envelope
 
 module _ (behaviour : Behaviour) (plan : Roster) where
-  pub has_open : (s : Left) (h : Option Envelope) (r : Answer) → C.Suits (asked s) r → (is_inside s ≡ true → IsSome (open_of s h)) → is_inside (answered (enveloped behaviour plan) s r) ≡ true → IsSome (held_by (open_of s h) (asked s) r)
+  pub has_open : (s : Left) (h : Option Envelope) (r : Answer) → C.Suits (asked s) r → (is_inside s ≡ true → IsSome (open_of s h))
+      → is_inside (answered (enveloped behaviour plan) s r) ≡ true → IsSome (held_by (open_of s h) (asked s) r)
   has_open C.taking h (C.taken None) u has i = absurd (false≢true i)
   has_open C.taking h (C.taken (Some e)) u has i = refl
   has_open C.resting h (C.rested true) u has i = absurd (false≢true i)
@@ -103,7 +108,8 @@ redelivered behaviour w v ready inside d =
     })
 
 pub delivered_well : {A : Type 0} (behaviour : Behaviour) (w v : Work) (result : Result A End) → Ready w → is_inside w.core.left ≡ true
-    → MatchResult result (λ _. Redelivered w v) (λ e. (v ≡ w) × (e.fault ≡ Some Memory)) → MatchResult result (λ _. Pends behaviour w v) (λ e. EndsWith behaviour w e.fault v)
+    → MatchResult result (λ _. Redelivered w v) (λ e. (v ≡ w) × (e.fault ≡ Some Memory))
+    → MatchResult result (λ _. Pends behaviour w v) (λ e. EndsWith behaviour w e.fault v)
 delivered_well behaviour w v (Ok _) ready inside d = redelivered behaviour w v ready inside d
 delivered_well behaviour w v (Err e) ready inside d =
     subst (λ f. EndsWith behaviour w f v) (sym d.1) (subst (λ z. EndsWith behaviour w (Some Memory) z) (sym d.0) (ends_here behaviour w Memory ready))

@@ -42,7 +42,8 @@ stored_right js ks d s = (s.0, in_right js ks (store d s.0) s.1)
 -- what the end of a message's task does, and what completes a header, in file order
 abbrev pub ended_jobs : Content → Outcome → Jobs
 ended_jobs c o =
-    called (links_of c.own) (errbacks_of c.own) (number_of c.own) o ++ enter c.rest (after_outcome o) (end_place (line c)) (number_of c.own) (Some (number_of c.own))
+    called (links_of c.own) (errbacks_of c.own) (number_of c.own) o ++ enter c.rest (after_outcome o) (end_place (line c)) (number_of c.own)
+    (Some (number_of c.own))
 
 abbrev pub body_jobs : PCarried → List (ℕ × Outcome) → Jobs
 body_jobs c es = enter c.body (header_flow es) (end_place c.body) 0 None
@@ -61,11 +62,13 @@ module _ (plan : Roster) where
       (and_parts (nat_le n plan.tasks && tasks_known book ls && tasks_known book es) (place_known book n p) own).1
   end_known (p_step t (p_step u l)) k h = end_known (p_step u l) (number_of t) (and_parts (task_known book t) (line_known book (p_step u l)) h).1
   end_known (p_step t (p_group_end g ms)) k h = refl
-  end_known (p_step t (p_chord_end g ms b)) k h = end_known (p_chord_end g ms b) (number_of t) (and_parts (task_known book t) (line_known book (p_chord_end g ms b)) h).1
+  end_known (p_step t (p_chord_end g ms b)) k h =
+      end_known (p_chord_end g ms b) (number_of t) (and_parts (task_known book t) (line_known book (p_chord_end g ms b)) h).1
   end_known (p_group_end g ms) k h = refl
   end_known (p_chord_end g ms b) k h = end_known b 0 (and_parts (has_size (how_many ms) (size plan g) && members_known book g ms) (line_known book b) h).1
 
-  last_known : (t : PTask) (rest : PLine) (p : PPlace) → task_known book t ≡ true → place_known book (last_task (number_of t) rest) p ≡ true → task_known book (last_at p t rest) ≡ true
+  last_known : (t : PTask) (rest : PLine) (p : PPlace) → task_known book t ≡ true → place_known book (last_task (number_of t) rest) p ≡ true
+      → task_known book (last_at p t rest) ≡ true
   last_known (p_task n call ls es own) p_stop p h q =
       let before : Bool = nat_le n plan.tasks && tasks_known book ls && tasks_known book es in
       all_true before (place_known book n p) (and_parts before (place_known book n own) h).0 q
@@ -77,7 +80,8 @@ module _ (plan : Roster) where
   placed_known p_stop p k h q = refl
   placed_known (p_step t rest) p k h q =
       let parts = and_parts (task_known book t) (line_known book rest) h in
-      all_true (task_known book (last_at p t rest)) (line_known book (placed p rest)) (last_known t rest p parts.0 q) (placed_known rest p (number_of t) parts.1 q)
+      all_true (task_known book (last_at p t rest)) (line_known book (placed p rest)) (last_known t rest p parts.0 q)
+      (placed_known rest p (number_of t) parts.1 q)
   placed_known (p_group_end g ms) p k h q = h
   placed_known (p_chord_end g ms b) p k h q =
       let before : Bool = has_size (how_many ms) (size plan g) && members_known book g ms in
@@ -91,7 +95,8 @@ module _ (plan : Roster) where
       leb-true n plan.tasks (and_parts (nat_le n plan.tasks) (tasks_known book ls) links).0
 
   pub own_known : (c : Content) → message_known book c ≡ true → number_of c.own ≤ plan.tasks
-  own_known c h = number_known c.own (and_parts (task_known book c.own) (line_known book c.rest) (and_parts (parent_known book c.parent) (line_known book (line c)) h).1).0
+  own_known c h = number_known c.own
+      (and_parts (task_known book c.own) (line_known book c.rest) (and_parts (parent_known book c.parent) (line_known book (line c)) h).1).0
 
   -- ---- jobs
 
@@ -143,7 +148,8 @@ module _ (plan : Roster) where
     any_known k js h = known_more (Stored js) (Behind k js) js (λ d z s. inr s) h
 
     -- after jobs that return no part
-    after_known : (k n : ℕ) (o : Outcome) (cs js : Jobs) → Each (Known (Behind k (store n o ∷ (cs ++ js)))) cs → Each (Known (Behind n js)) js → Each (Known (Behind k (store n o ∷ (cs ++ js)))) (cs ++ js)
+    after_known : (k n : ℕ) (o : Outcome) (cs js : Jobs) → Each (Known (Behind k (store n o ∷ (cs ++ js)))) cs → Each (Known (Behind n js)) js
+        → Each (Known (Behind k (store n o ∷ (cs ++ js)))) (cs ++ js)
     after_known k n o cs js a b =
         each_append (Known (Behind k (store n o ∷ (cs ++ js)))) cs js a
         (known_more (Behind n js) (Behind k (store n o ∷ (cs ++ js))) js
@@ -155,8 +161,11 @@ module _ (plan : Roster) where
       enter_known p_stop x p k u h q = part_known p k q
       enter_known (p_step t rest) (run x) p k u h q = (tt, tt)
       enter_known (p_step t rest) (skips f) p k u h q =
-          let parts = and_parts (task_known book t) (line_known book rest) h in
-          (number_known t parts.0, after_known k (number_of t) (Failure f) [] (enter rest (skips f) p (number_of t) u) tt (enter_known rest (skips f) p (number_of t) u parts.1 q))
+          let parts = and_parts (task_known book t) (line_known book rest) h in (
+            number_known t parts.0,
+            after_known k (number_of t) (Failure f) [] (enter rest (skips f) p (number_of t) u) tt
+                (enter_known rest (skips f) p (number_of t) u parts.1 q),
+          )
       enter_known (p_step t rest) (raise f) p k u h q =
           let parts = and_parts (task_known book t) (line_known book rest) h in (
             number_known t parts.0,
@@ -179,21 +188,25 @@ module _ (plan : Roster) where
           let first = and_parts (has_size (how_many ms) (size plan g)) (members_known book g ms) parts.0 in
           let js : Jobs = enter_all ms (skips f) p_nowhere u in
           let ks : Jobs = enter body (skips f) p 0 u in
-          any_known k (js ++ ks) (both_known js ks (all_known g ms (skips f) p_nowhere u first.1 (λ n i. refl)) (alone_known ks (enter_known body (skips f) p 0 u parts.1 q)))
+          any_known k (js ++ ks) (both_known js ks (all_known g ms (skips f) p_nowhere u first.1 (λ n i. refl))
+          (alone_known ks (enter_known body (skips f) p 0 u parts.1 q)))
       enter_known (p_chord_end g ms body) (raise f) p k u h q =
           let parts = and_parts (has_size (how_many ms) (size plan g) && members_known book g ms) (line_known book body) h in
           let first = and_parts (has_size (how_many ms) (size plan g)) (members_known book g ms) parts.0 in
           let js : Jobs = enter_all ms (raise f) p_nowhere u in
           let ks : Jobs = enter body (raise (fault_behind ms f)) p 0 u in
-          any_known k (js ++ ks) (both_known js ks (all_known g ms (raise f) p_nowhere u first.1 (λ n i. refl)) (alone_known ks (enter_known body (raise (fault_behind ms f)) p 0 u parts.1 q)))
+          any_known k (js ++ ks) (both_known js ks (all_known g ms (raise f) p_nowhere u first.1 (λ n i. refl))
+          (alone_known ks (enter_known body (raise (fault_behind ms f)) p 0 u parts.1 q)))
 
-      all_known : (g : ℕ) (ms : PLines) (x : LineFlow) (p : PPlace) (u : Option ℕ) → members_known book g ms ≡ true → ((n : ℕ) → is_member plan g n ≡ true → place_known book n p ≡ true)
+      all_known : (g : ℕ) (ms : PLines) (x : LineFlow) (p : PPlace) (u : Option ℕ) → members_known book g ms ≡ true
+          → ((n : ℕ) → is_member plan g n ≡ true → place_known book n p ≡ true)
           → Each (Known (Stored (enter_all ms x p u))) (enter_all ms x p u)
       all_known g no_p_lines x p u h f = tt
       all_known g (and_p_line m ms) x p u h f =
           let parts = and_parts (is_member plan g (last_task 0 m) && line_known book m) (members_known book g ms) h in
           let first = and_parts (is_member plan g (last_task 0 m)) (line_known book m) parts.0 in
-          both_known (enter m x p 0 u) (enter_all ms x p u) (alone_known (enter m x p 0 u) (enter_known m x p 0 u first.1 (f (last_task 0 m) first.0))) (all_known g ms x p u parts.1 f)
+          both_known (enter m x p 0 u) (enter_all ms x p u) (alone_known (enter m x p 0 u) (enter_known m x p 0 u first.1 (f (last_task 0 m) first.0)))
+          (all_known g ms x p u parts.1 f)
 
     -- ---- effects
 

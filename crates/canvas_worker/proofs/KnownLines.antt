@@ -28,7 +28,8 @@ and_and false b c = refl
 
 steps_known : (book : Book) (ts : List PTask) (l : PLine) → line_known book (p_steps ts l) ≡ (tasks_known book (p_tasks_of ts) && line_known book l)
 steps_known book [] l = refl
-steps_known book (t ∷ ts) l = ap (λ b. task_known book t && b) (steps_known book ts l) ∙ sym (and_and (task_known book t) (tasks_known book (p_tasks_of ts)) (line_known book l))
+steps_known book (t ∷ ts) l = ap (λ b. task_known book t && b) (steps_known book ts l)
+    ∙ sym (and_and (task_known book t) (tasks_known book (p_tasks_of ts)) (line_known book l))
 
 and_true : (b : Bool) → (b && true) ≡ b
 and_true true = refl
@@ -59,10 +60,12 @@ pub own_none : (ts : List FrozenTask) → length ts ≡ 0 → 0 ≡ last_number 
 own_none [] h = refl
 own_none (t ∷ ts) h = absurd cc
 
-pub last_none : (l : FrozenLine) → (out-FrozenLine l).tail ≡ None → (ts : List FrozenTask) → ts ≡ (out-FrozenLine l).tasks → last_number ts ≡ last_task 0 (p_line_view l)
+pub last_none : (l : FrozenLine) → (out-FrozenLine l).tail ≡ None → (ts : List FrozenTask) → ts ≡ (out-FrozenLine l).tasks
+    → last_number ts ≡ last_task 0 (p_line_view l)
 last_none l none ts same = ap last_number same ∙ sym (ap (last_task 0) (line_none l none))
 
-pub last_some : (l : FrozenLine) (b : Box FrozenEnd Global) → (out-FrozenLine l).tail ≡ Some b → (k : ℕ) (ts : List FrozenTask) (e : FrozenEnd) → k ≡ last_number ts
+pub last_some : (l : FrozenLine) (b : Box FrozenEnd Global) → (out-FrozenLine l).tail ≡ Some b → (k : ℕ) (ts : List FrozenTask) (e : FrozenEnd)
+    → k ≡ last_number ts
     → ts ≡ (out-FrozenLine l).tasks → e ≡ b.value → last_task k (p_end_view e) ≡ last_task 0 (p_line_view l)
 last_some l b some k ts e own same there =
     ap (λ x. last_task k (p_end_view x)) there ∙ ap (λ n. last_task n (p_end_view b.value)) (own ∙ ap last_number same)
@@ -76,11 +79,13 @@ counted (l ∷ ls) = omega (arith, counted ls)
 
 pub chord_known : (book : Book) (e : FrozenEnd) (b : FrozenLine) → (out-FrozenEnd e).body ≡ Some b → (ms : List FrozenLine) → ms ≡ (out-FrozenEnd e).members
     → line_known book (p_end_view e)
-    ≡ (has_size (length ms) (book.size (out-FrozenEnd e).group) && members_known book (out-FrozenEnd e).group (p_lines_of (map p_line_view ms)) && line_known book (p_line_view b))
+    ≡ (has_size (length ms) (book.size (out-FrozenEnd e).group) && members_known book (out-FrozenEnd e).group (p_lines_of (map p_line_view ms))
+    && line_known book (p_line_view b))
 chord_known book e b some ms same =
     let g : ℕ = (out-FrozenEnd e).group in
     ap (line_known book) (end_some e b some)
-    ∙ ap (λ xs. has_size (how_many (p_lines_of (map p_line_view xs))) (book.size g) && members_known book g (p_lines_of (map p_line_view xs)) && line_known book (p_line_view b)) (sym same)
+    ∙ ap (λ xs. has_size (how_many (p_lines_of (map p_line_view xs))) (book.size g) && members_known book g (p_lines_of (map p_line_view xs))
+    && line_known book (p_line_view b)) (sym same)
     ∙ ap (λ n. has_size n (book.size g) && members_known book g (p_lines_of (map p_line_view ms)) && line_known book (p_line_view b)) (counted ms)
 
 -- ---- one check after the other

@@ -41,7 +41,8 @@ each_sorted : (P : ℕ × Outcome → Type 0) (xs : Stores) → Each P xs → Ea
 each_sorted P [] a = tt
 each_sorted P (x ∷ xs) a = each_put P x (sorted xs) a.0 (each_sorted P xs a.1)
 
-in_by : (d : ℕ) (b : Bool) (x y : ℕ × Outcome) (ys zs : Stores) → (In d (firsts (x ∷ ys)) → In d (firsts zs)) → In d (firsts (x ∷ y ∷ ys)) → In d (firsts (if b then y ∷ zs else x ∷ y ∷ ys))
+in_by : (d : ℕ) (b : Bool) (x y : ℕ × Outcome) (ys zs : Stores) → (In d (firsts (x ∷ ys)) → In d (firsts zs)) → In d (firsts (x ∷ y ∷ ys))
+    → In d (firsts (if b then y ∷ zs else x ∷ y ∷ ys))
 in_by d false x y ys zs f i = i
 in_by d true x y ys zs f (inl e) = inr (f (inl e))
 in_by d true x y ys zs f (inr (inl e)) = inl e
@@ -112,7 +113,8 @@ module _ (plan : Roster) where
   not_in s b p (inl i) e = elim i [ ]
   not_in s b p (inr f) e = f e
 
-  fewer : (s : Seat) (b : Bool) (e : ℕ × Outcome) (es : Stores) (ms : List Content) (o : Option Part) → PartMay s b (e ∷ es) o → is_due e.0 (sent es ms o) ≡ false → PartMay s b es o
+  fewer : (s : Seat) (b : Bool) (e : ℕ × Outcome) (es : Stores) (ms : List Content) (o : Option Part) → PartMay s b (e ∷ es) o
+      → is_due e.0 (sent es ms o) ≡ false → PartMay s b es o
   fewer s b e es ms None h n = tt
   fewer s b e es ms (Some p) (inl (inl same)) n = absurd (true≢false (sym (eq-eqb e.0 p.task (sym same)) ∙ (sym (sent_due e.0 es ms p) ∙ n)))
   fewer s b e es ms (Some p) (inl (inr i)) n = inl i
@@ -124,7 +126,8 @@ module _ (plan : Roster) where
   sent_may s b [] (m ∷ ms) o h = sent_may s b [] ms o h
   sent_may s b (e ∷ es) ms o h = λ n. sent_may s b es ms o (fewer s b e es ms o h n)
 
-  part_may : (s : Seat) (b : Bool) (Q : ℕ → Type 0) (es : Stores) (o : Option Part) → ((d : ℕ) → Q d → In d (firsts es) ⊎ (b ≡ true → MayReturn plan s.seen s.name d)) → PartKnown Q o → PartMay s b es o
+  part_may : (s : Seat) (b : Bool) (Q : ℕ → Type 0) (es : Stores) (o : Option Part)
+      → ((d : ℕ) → Q d → In d (firsts es) ⊎ (b ≡ true → MayReturn plan s.seen s.name d)) → PartKnown Q o → PartMay s b es o
   part_may s b Q es None f h = tt
   part_may s b Q es (Some p) f h = f p.task h.2
 
@@ -132,8 +135,10 @@ module _ (plan : Roster) where
   script_known Q js h =
       sent_known Q (sorted (stores_in js)) (effect_of js).messages (part_in js) (each_sorted IsTask (stores_in js) (tasks_in Q js h)) (part_in_known Q js h)
 
-  pub script_may : (s : Seat) (b : Bool) (Q : ℕ → Type 0) (js : Jobs) → ((d : ℕ) → Q d → Stored js d ⊎ (b ≡ true → MayReturn plan s.seen s.name d)) → Each (Known plan Q) js
+  pub script_may : (s : Seat) (b : Bool) (Q : ℕ → Type 0) (js : Jobs) → ((d : ℕ) → Q d → Stored js d ⊎ (b ≡ true → MayReturn plan s.seen s.name d))
+      → Each (Known plan Q) js
       → MayHandIn plan s b (map enclosed (script (effect_of js)))
   script_may s b Q js f h =
       sent_may s b (sorted (stores_in js)) (effect_of js).messages (part_in js)
-      (part_may s b Q (sorted (stores_in js)) (part_in js) (λ d q. ⊎_elim (λ y. inl (in_sorted d (stores_in js) (stored_in d js y))) (λ g. inr g) (f d q)) (part_in_known Q js h))
+      (part_may s b Q (sorted (stores_in js)) (part_in js) (λ d q. ⊎_elim (λ y. inl (in_sorted d (stores_in js) (stored_in d js y))) (λ g. inr g) (f d q))
+      (part_in_known Q js h))

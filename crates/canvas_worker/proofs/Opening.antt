@@ -9,13 +9,16 @@ use Rattle.canvas_runs.proofs.Readings.{says_reading, refused_reading}
 use Rattle.canvas_runs.specs.Book.{Book, message_known}
 use Rattle.canvas_runs.specs.Worker.{read_envelope, known_one, opened}
 
-read_so : (book : Book) (e : Envelope) (c : Content) (k : Bool) → Says e.properties e.headers e.body c → message_known book c ≡ k → opened book e ≡ (if k then Some c else None)
+read_so : (book : Book) (e : Envelope) (c : Content) (k : Bool) → Says e.properties e.headers e.body c → message_known book c ≡ k
+    → opened book e ≡ (if k then Some c else None)
 read_so book e c k says known = ap (known_one book) (says_reading e.properties e.headers e.body c says) ∙ ap (λ b. if b then Some c else None) known
 
-pub opens_known : (book : Book) (e : Envelope) (c : Content) (k : Bool) → Says e.properties e.headers e.body c → k ≡ message_known book c → k ≡ true → Some c ≡ opened book e
+pub opens_known : (book : Book) (e : Envelope) (c : Content) (k : Bool) → Says e.properties e.headers e.body c → k ≡ message_known book c → k ≡ true
+    → Some c ≡ opened book e
 opens_known book e c k says known is = sym (read_so book e c true says (sym known ∙ is))
 
-pub opens_unknown : (book : Book) (e : Envelope) (c : Content) (k : Bool) → Says e.properties e.headers e.body c → k ≡ message_known book c → k ≡ false → None ≡ opened book e
+pub opens_unknown : (book : Book) (e : Envelope) (c : Content) (k : Bool) → Says e.properties e.headers e.body c → k ≡ message_known book c → k ≡ false
+    → None ≡ opened book e
 opens_unknown book e c k says known is = sym (read_so book e c false says (sym known ∙ is))
 
 pub opens_refused : (book : Book) (e : Envelope) (f : MessageFault) → envelope_fault e.properties e.headers e.body ≡ Some f → None ≡ opened book e
@@ -28,7 +31,8 @@ opened_as book e c is = by (read_envelope e) is
     by : (r : Result Content MessageFault) → known_one book r ≡ Some c → (r ≡ Ok c) × (message_known book c ≡ true)
     by (Ok d) h = go (message_known book d) refl h
       where
-        go : (z : Bool) → message_known book d ≡ z → (if z then Some d else None) ≡ Some c → (◌≡◌ {A = Result Content MessageFault} (Ok d) (Ok c)) × (message_known book c ≡ true)
+        go : (z : Bool) → message_known book d ≡ z → (if z then Some d else None) ≡ Some c → (◌≡◌ {A = Result Content MessageFault} (Ok d) (Ok c))
+            × (message_known book c ≡ true)
         go true e h = let same : d ≡ c = cc in (ap Ok same, subst (λ x. message_known book x ≡ true) same e)
         go false e h = absurd cc
     by (Err f) h = absurd cc

@@ -16,7 +16,8 @@ acted_first : (behaviour : Behaviour) (plan : Roster) (p q x : Progress) → Act
 acted_first behaviour plan p q x (stays e) f = subst (λ z. Worked behaviour plan z x) e f
 acted_first behaviour plan p q x (makes_call a r step) f = call_first behaviour plan p q x a r step f
 acted_first behaviour plan p q x (takes_batch es step) f = batch_first behaviour plan p q x es step f
-acted_first behaviour plan p q x (gives_held es e between taken step) f = batch_first behaviour plan p between x es taken (held_first behaviour plan between q x e step f)
+acted_first behaviour plan p q x (gives_held es e between taken step) f =
+    batch_first behaviour plan p between x es taken (held_first behaviour plan between q x e step f)
 
 moved_first : (behaviour : Behaviour) (plan : Roster) (p q x : Progress) → Moves behaviour plan p q → Worked behaviour plan q x → Worked behaviour plan p x
 moved_first behaviour plan p q x (acts m) f = acted_first behaviour plan p q x m f
@@ -25,10 +26,21 @@ moved_first behaviour plan p q x (delivers e step) f = again_first behaviour pla
 pub goes_first : (behaviour : Behaviour) (w v : Work) → Pends behaviour w v → (r : Record) → TellsOf behaviour v r → TellsOf behaviour w r
 goes_first behaviour w v g r f =
     let worked : Worked behaviour w.desk.plan (progress v) f.ended = subst (λ (d : Desk). Worked behaviour d.plan (progress v) f.ended) g.desk f.worked in
-    record { ended = f.ended; worked = moved_first behaviour w.desk.plan (progress w) (progress v) f.ended g.moved worked; is_of = subst (λ n. IsRecordOf n f.ended r) g.number f.is_of }
+    record {
+      ended = f.ended;
+      worked = moved_first behaviour w.desk.plan (progress w) (progress v) f.ended g.moved worked;
+      is_of = subst
+          (λ n. IsRecordOf n f.ended r) g.number f.is_of;
+    }
 
 pub ends_give : (behaviour : Behaviour) (w : Work) (r : Record) → Ends behaviour w r → TellsOf behaviour w r
-ends_give behaviour w r e = record { ended = e.ended; worked = moved_first behaviour w.desk.plan (progress w) e.ended e.ended e.moved (rests behaviour w.desk.plan e.ended e.counted); is_of = e.is_of }
+ends_give behaviour w r e =
+    record {
+      ended = e.ended;
+      worked = moved_first behaviour w.desk.plan (progress w) e.ended e.ended e.moved
+          (rests behaviour w.desk.plan e.ended e.counted);
+      is_of = e.is_of;
+    }
 
 -- of a worker that was there
 pub of_one : (o : Option Work) (w : Work) (P : Work → Type 0) → o ≡ Some w → P w → IfSome o P

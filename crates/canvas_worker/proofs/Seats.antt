@@ -54,14 +54,16 @@ module _ (plan : Roster) where
   due_in s d b (publish x ∷ js) e m = due_in s d b js e m
   due_in s d b (hand_in g u c ∷ js) e m = subst (λ z. b ≡ true → MayReturn plan s.seen s.name z) (eqb-true d u e) m
 
-  store_in : (s t : Seat) (d : ℕ) (a b : Bool) (js : EnvelopeJobs) → Keeps s t → (a ≡ true → MayReturn plan t.seen t.name d) → (is_due d js ≡ false → MayHandIn plan s b js) → MayHandIn plan t (cond (is_due d js) a b) js
+  store_in : (s t : Seat) (d : ℕ) (a b : Bool) (js : EnvelopeJobs) → Keeps s t → (a ≡ true → MayReturn plan t.seen t.name d)
+      → (is_due d js ≡ false → MayHandIn plan s b js) → MayHandIn plan t (cond (is_due d js) a b) js
   store_in s t d a b js k m h = go (is_due d js) refl
     where
       go : (z : Bool) → is_due d js ≡ z → MayHandIn plan t (cond z a b) js
       go true e = due_in t d a js e m
       go false e = still_in s t b js k (h e)
 
-  settled_can : (behaviour : Behaviour) (s : Seat) (b : Bool) (js : EnvelopeJobs) → InPlan plan js → MayHandIn plan s b js → Can plan s (settled (enveloped behaviour plan) js b)
+  settled_can : (behaviour : Behaviour) (s : Seat) (b : Bool) (js : EnvelopeJobs) → InPlan plan js → MayHandIn plan s b js
+      → Can plan s (settled (enveloped behaviour plan) js b)
   settled_can behaviour s b [] i m = tt
   settled_can behaviour s true (store t o ∷ js) i m = (i, m, tt)
   settled_can behaviour s false (store t o ∷ js) i m = (i, m, tt)
@@ -71,16 +73,19 @@ module _ (plan : Roster) where
   settled_can behaviour s false (hand_in g t c ∷ js) i m = tt
 
   -- the one call of a seat
-  served : (s t : Seat) (c : results.TableCall) (r : results.TableReply) → IsCall plan s.name s.seen t.seen (calls s.name c r) → t.name ≡ s.name → ((g d : ℕ) → c ≡ results.part g d → ⊥) → Keeps s t
+  served : (s t : Seat) (c : results.TableCall) (r : results.TableReply) → IsCall plan s.name s.seen t.seen (calls s.name c r) → t.name ≡ s.name
+      → ((g d : ℕ) → c ≡ results.part g d → ⊥) → Keeps s t
   served s t c r call name other d m = subst (λ n. MayReturn plan t.seen n d) (sym name) (still_may plan s.name d c r s.seen t.seen (λ g. other g d) m call)
 
-  first_of : (s t : Seat) (d : ℕ) (o : Outcome) (a : Bool) → IsCall plan s.name s.seen t.seen (calls s.name (results.store d o) (table_reply (stored d o a))) → t.name ≡ s.name → a ≡ true → MayReturn plan t.seen t.name d
+  first_of : (s t : Seat) (d : ℕ) (o : Outcome) (a : Bool) → IsCall plan s.name s.seen t.seen (calls s.name (results.store d o) (table_reply (stored d o a)))
+      → t.name ≡ s.name → a ≡ true → MayReturn plan t.seen t.name d
   first_of s t d o true call name e = subst (λ n. MayReturn plan t.seen n d) (sym name) (first_may plan s.name d o s.seen t.seen call)
   first_of s t d o false call name e = absurd cc
 
   -- ---- messages
 
-  opened_can : (behaviour : Behaviour) (s : Seat) (e : Envelope) (o : Option Content) → opened (book_on plan) e ≡ o → Can plan s (opens (enveloped behaviour plan) (kept_envelope behaviour o e))
+  opened_can : (behaviour : Behaviour) (s : Seat) (e : Envelope) (o : Option Content) → opened (book_on plan) e ≡ o
+      → Can plan s (opens (enveloped behaviour plan) (kept_envelope behaviour o e))
   opened_can behaviour s e None is = tt
   opened_can behaviour s e (Some c) is = is ∙ ap Some (sym (said_of e c (opened_as (book_on plan) e c is).0))
 
@@ -90,7 +95,8 @@ module _ (plan : Roster) where
   chord_size None n h = absurd cc
   chord_size (Some t) n h = go t.chord h
     where
-      go : (b : Bool) → has_size n (if b then Some (length t.members) else None) ≡ true → IsTrue (is_some (if b then Some (length t.members) else None)) × (length t.members ≡ n)
+      go : (b : Bool) → has_size n (if b then Some (length t.members) else None) ≡ true → IsTrue (is_some (if b then Some (length t.members) else None))
+          × (length t.members ≡ n)
       go true e = (refl, eqb-true (length t.members) n e)
       go false e = absurd cc
 
@@ -112,7 +118,8 @@ module _ (behaviour : Behaviour) (l : Line) (is_plan : IsPlan l) where
   none : (g : ℕ) → is_member plan g 0 ≡ false
   none g = no_member_zero l is_plan g
 
-  ended_can : (s : Seat) (c : Content) (o : Outcome) → message_known (book_on plan) c ≡ true → MayReturn plan s.seen s.name (number_of c.own) → Can plan s (settled (enveloped behaviour plan) (map enclosed (script (after c o))) true)
+  ended_can : (s : Seat) (c : Content) (o : Outcome) → message_known (book_on plan) c ≡ true → MayReturn plan s.seen s.name (number_of c.own)
+      → Can plan s (settled (enveloped behaviour plan) (map enclosed (script (after c o))) true)
   ended_can s c o h m =
       let k : ℕ = number_of c.own in
       let js = ended_jobs c o in
@@ -120,11 +127,13 @@ module _ (behaviour : Behaviour) (l : Line) (is_plan : IsPlan l) where
       settled_can plan behaviour s true (map enclosed (script (after c o))) (script_known plan (Behind k js) js known)
       (script_may plan s true (Behind k js) js (λ d q. ⊎_elim (λ e. inr (λ t. subst (λ z. MayReturn plan s.seen s.name z) (sym e) m)) (λ y. inl y) q) known)
 
-  completed_can : (s : Seat) (c : PCarried) (es : List (ℕ × Outcome)) → line_known (book_on plan) c.body ≡ true → Can plan s (settled (enveloped behaviour plan) (map enclosed (script (body_after c es))) false)
+  completed_can : (s : Seat) (c : PCarried) (es : List (ℕ × Outcome)) → line_known (book_on plan) c.body ≡ true
+      → Can plan s (settled (enveloped behaviour plan) (map enclosed (script (body_after c es))) false)
   completed_can s c es h =
       let js = body_jobs c es in
       let known = body_known plan none c es h in
-      settled_can plan behaviour s false (map enclosed (script (body_after c es))) (script_known plan (Stored js) js known) (script_may plan s false (Stored js) js (λ d q. inl q) known)
+      settled_can plan behaviour s false (map enclosed (script (body_after c es))) (script_known plan (Stored js) js known)
+      (script_may plan s false (Stored js) js (λ d q. inl q) known)
 
   member_there : (g i : ℕ) → i < length (members plan g) → (t : ℕ) × (slice_get (members plan g) i ≡ Some t) × (t ≤ plan.tasks)
   member_there g i h =
@@ -150,7 +159,8 @@ module _ (behaviour : Behaviour) (l : Line) (is_plan : IsPlan l) where
 
   -- ---- answers
 
-  goes_on : (s t : Seat) (left : Left) (r : Answer) → Can plan s left → Serves plan s (backend_call (asked left) r) t → Can plan t (answered (enveloped behaviour plan) left r)
+  goes_on : (s t : Seat) (left : Left) (r : Answer) → Can plan s left → Serves plan s (backend_call (asked left) r) t
+      → Can plan t (answered (enveloped behaviour plan) left r)
   goes_on s t taking (taken None) c call = tt
   goes_on s t taking (taken (Some e)) c call = opened_can plan behaviour t e (opened (book_on plan) e) refl
   goes_on s t resting (rested true) c call = tt
@@ -163,15 +173,22 @@ module _ (behaviour : Behaviour) (l : Line) (is_plan : IsPlan l) where
   goes_on s t (doing (store d o ∷ js) b) (kept a) c (u, stands, same) =
       subst (λ v. Can plan v (settled (enveloped behaviour plan) js (cond (is_due d js) a b))) (sym same)
       (settled_can plan behaviour u (cond (is_due d js) a b) js c.0.1
-      (store_in plan s u d a b js (served plan s u (results.store d o) (table_reply (stored d o a)) stands.4 stands.1 (λ g k e. absurd cc)) (first_of plan s u d o a stands.4 stands.1) c.1))
-  goes_on s t (doing (publish e ∷ js) b) sent c same = subst (λ v. Can plan v (settled (enveloped behaviour plan) js b)) (sym same) (settled_can plan behaviour s b js c.0 c.1)
+      (store_in plan s u d a b js (served plan s u (results.store d o) (table_reply (stored d o a)) stands.4 stands.1 (λ g k e. absurd cc))
+      (first_of plan s u d o a stands.4 stands.1) c.1))
+  goes_on s t (doing (publish e ∷ js) b) sent c same =
+      subst (λ v. Can plan v (settled (enveloped behaviour plan) js b)) (sym same) (settled_can plan behaviour s b js c.0 c.1)
   goes_on s t (doing (hand_in g d h ∷ js) b) (counted n) c call = handed_can plan t g h n c.0.1
   goes_on s t (reading g h fs) (found d (Some o)) c call = go (eqb (length (fs ++ (d, o) ∷ [])) h.size) refl
     where
       go : (z : Bool) → eqb (length (fs ++ (d, o) ∷ [])) h.size ≡ z
-          → Can plan t (cond z (settled (enveloped behaviour plan) (map enclosed (script (body_after h (fs ++ (d, o) ∷ [])))) false) (reading g h (fs ++ (d, o) ∷ [])))
+          → Can plan t (cond z (settled (enveloped behaviour plan) (map enclosed (script (body_after h (fs ++ (d, o) ∷ [])))) false)
+          (reading g h (fs ++ (d, o) ∷ [])))
       go true e = completed_can t h (fs ++ (d, o) ∷ []) c.0.1
-      go false e = (c.0, let more : length (fs ++ (d, o) ∷ []) ≡ length fs + 1 = length-append fs ((d, o) ∷ []) in let apart = eqb-false (length (fs ++ (d, o) ∷ [])) h.size e in let before = c.1 in omega (arith, more, apart, before))
+      go false e = (
+        c.0,
+        let more : length (fs ++ (d, o) ∷ []) ≡ length fs + 1 = length-append fs ((d, o) ∷ []) in
+            let apart = eqb-false (length (fs ++ (d, o) ∷ [])) h.size e in let before = c.1 in omega (arith, more, apart, before),
+      )
   goes_on s t (reading g h fs) (found d None) c call = tt
   goes_on s t acking acked c call = tt
   goes_on s t left r c call = tt

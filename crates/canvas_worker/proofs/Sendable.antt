@@ -33,7 +33,8 @@ neither false false true h = absurd cc
 
 all_json : (p h b : List ℕ) → envelope_fault p h b ≡ None → (not_json p ≡ false) × ((not_json h ≡ false) × (not_json b ≡ false))
 unfolding envelope_fault
-all_json p h b none = neither (not_json p) (not_json h) (not_json b) (not_first (not_json p || not_json h || not_json b) NotJson (first_of (refusals (json_in p) (json_in h) (json_in b))) none).0
+all_json p h b none = neither (not_json p) (not_json h) (not_json b)
+    (not_first (not_json p || not_json h || not_json b) NotJson (first_of (refusals (json_in p) (json_in h) (json_in b))) none).0
 
 utf8_by : (b : Bool) (o : Option Data) → is_none (if b then o else None) ≡ false → b ≡ true
 utf8_by true o h = refl
@@ -100,7 +101,8 @@ blank_is_none c h = never (not_json []) (no_text (is_utf8 []) (read []) nothing_
 
 -- ---- the envelope of a content
 
-envelope_by : (c : Content) (b : Bool) → is_sendable c ≡ b → read_envelope (envelope_of c) ≡ Ok (said (envelope_of c)) → (envelope_of c ≡ sealed c) × (read_envelope (sealed c) ≡ Ok c)
+envelope_by : (c : Content) (b : Bool) → is_sendable c ≡ b → read_envelope (envelope_of c) ≡ Ok (said (envelope_of c))
+    → (envelope_of c ≡ sealed c) × (read_envelope (sealed c) ≡ Ok c)
 envelope_by c true is h = (ap (λ b. if b then sealed c else blank) is, sendable_back c is)
 envelope_by c false is h =
     let gone : envelope_of c ≡ blank = ap (λ b. if b then sealed c else blank) is in
@@ -117,11 +119,13 @@ said_of e c h = (reading_says e.properties e.headers e.body c h).1
 pub written : (c : Content) (e : Envelope) → e ≡ sealed c → Says e.properties e.headers e.body c → (e ≡ envelope_of c) × (read_envelope e ≡ Ok (said e))
 written c e is says =
     let ok = all_fits e.properties e.headers e.body c says in
-    let none : envelope_fault (sealed c).properties (sealed c).headers (sealed c).body ≡ None = subst (λ x. envelope_fault x.properties x.headers x.body ≡ None) is says.0 in
+    let none : envelope_fault (sealed c).properties (sealed c).headers (sealed c).body ≡ None =
+    subst (λ x. envelope_fault x.properties x.headers x.body ≡ None) is says.0 in
     let sendable : is_sendable c ≡ true = rw (ok, none) refl in
     (is ∙ sym (ap (λ b. if b then sealed c else blank) sendable), says_reading e.properties e.headers e.body c says ∙ ap Ok (sym says.1))
 
 pub written_texts : (c : Content) (e : Envelope) → e.properties ≡ (sealed c).properties → e.headers ≡ (sealed c).headers → e.body ≡ (sealed c).body
     → Says e.properties e.headers e.body c → (e ≡ envelope_of c) × (read_envelope e ≡ Ok (said e))
 written_texts c e is_p is_h is_b says =
-    written c e (ap (λ p. record { properties = p; headers = e.headers; body = e.body }) is_p ∙ ap₂ (λ h b. record { properties = (sealed c).properties; headers = h; body = b }) is_h is_b) says
+    written c e (ap (λ p. record { properties = p; headers = e.headers; body = e.body }) is_p
+    ∙ ap₂ (λ h b. record { properties = (sealed c).properties; headers = h; body = b }) is_h is_b) says

@@ -115,8 +115,22 @@ unsent_task book s x r = refl
 
 pub handed_same : (behaviour : Behaviour) (book : Book) (c : Standing) (r : Answer) → after_reply behaviour book (handed c) r ≡ after_reply behaviour book c r
 handed_same behaviour book c r =
-    ap₂ (λ (s : Left) (n : ℕ). record { left = s; is_out = false; dropped = min greatest_count (c.dropped + n); kept = kept_next book (unsent c.left) c.kept r; task = task_next book (unsent c.left) c.task r }) (unsent_answered behaviour book c.left r) (unsent_drops book c.left r)
-    ∙ ap₂ (λ (h : Option Envelope) (x : Option ℕ). record { left = answered (enveloped_by behaviour book) c.left r; is_out = false; dropped = min greatest_count (c.dropped + drops book c.left r); kept = h; task = x }) (unsent_kept book c.left c.kept r) (unsent_task book c.left c.task r)
+    ap₂ (λ (s : Left) (n : ℕ). record {
+      left = s;
+      is_out = false;
+      dropped = min greatest_count (c.dropped + n);
+      kept = kept_next book
+          (unsent c.left) c.kept r;
+      task = task_next book (unsent c.left) c.task r;
+    }) (unsent_answered behaviour book c.left r) (unsent_drops book c.left r)
+    ∙ ap₂ (λ (h : Option Envelope) (x : Option ℕ). record {
+      left = answered (enveloped_by behaviour book) c.left r;
+      is_out = false;
+      dropped = min greatest_count
+          (c.dropped + drops book c.left r);
+      kept = h;
+      task = x;
+    }) (unsent_kept book c.left c.kept r) (unsent_task book c.left c.task r)
 
 -- nor does it to the ask
 pub still_publishes : (x : Option ℕ) (s : Left) → shown x (asked s) ≡ Publish → shown x (asked (unsent s)) ≡ Publish
@@ -210,7 +224,8 @@ module _ (behaviour : Behaviour) (plan : Roster) where
   open_either true s t h i j = i
   open_either false s t h i j = j
 
-  pub held_step : (s : Left) (h : Option Envelope) (r : Answer) → C.Suits (asked s) r → open_of (answered (enveloped behaviour plan) s r) (kept_next (book_on plan) s h r) ≡ held_by (open_of s h) (asked s) r
+  pub held_step : (s : Left) (h : Option Envelope) (r : Answer) → C.Suits (asked s) r
+      → open_of (answered (enveloped behaviour plan) s r) (kept_next (book_on plan) s h r) ≡ held_by (open_of s h) (asked s) r
   held_step C.taking h (C.taken None) u = refl
   held_step C.taking h (C.taken (Some e)) u = go (opened (book_on plan) e)
     where
@@ -226,7 +241,9 @@ module _ (behaviour : Behaviour) (plan : Roster) where
   held_step (C.doing (publish e ∷ js) b) h C.refused u = refl
   held_step (C.doing (hand_in g t c ∷ js) b) h (C.counted n) u = open_either (eqb (suc n) c.size) (C.reading g c []) C.acking h refl refl
   held_step (C.reading g c fs) h (C.found t (Some o)) u =
-      open_either (eqb (length (fs ++ (t, o) ∷ [])) c.size) (C.settled (enveloped behaviour plan) ((enveloped behaviour plan).completed c (fs ++ (t, o) ∷ [])) false) (C.reading g c (fs ++ (t, o) ∷ [])) h (open_settled ((enveloped behaviour plan).completed c (fs ++ (t, o) ∷ [])) false h) refl
+      open_either (eqb (length (fs ++ (t, o) ∷ [])) c.size)
+      (C.settled (enveloped behaviour plan) ((enveloped behaviour plan).completed c (fs ++ (t, o) ∷ [])) false) (C.reading g c (fs ++ (t, o) ∷ [])) h
+      (open_settled ((enveloped behaviour plan).completed c (fs ++ (t, o) ∷ [])) false h) refl
   held_step (C.reading g c fs) h (C.found t None) u = refl
   held_step C.acking h C.acked u = refl
   held_step s h r u = elim u [ ]

@@ -43,13 +43,16 @@ took_makes p q (e ∷ d ∷ es) t =
     let rest : List (Entries Envelope) = takes_of p.name (d ∷ es) in
     let mid : Pass = record { of = p.of; name = p.name; mine = live_from p.mine p.owed; seen = p.seen ++ (x.0 ++ (p.owed ++ call ∷ [])); owed = [] } in
     let shape : q.seen ≡ mid.seen ++ rest =
-    x.1 ∙ (ap (λ l. p.seen ++ (x.0 ++ l)) (sym (append_assoc p.owed (call ∷ []) rest)) ∙ (ap (λ l. p.seen ++ l) (sym (append_assoc x.0 (p.owed ++ call ∷ []) rest)) ∙ sym (append_assoc p.seen (x.0 ++ (p.owed ++ call ∷ [])) rest))) in
+    x.1 ∙ (ap (λ l. p.seen ++ (x.0 ++ l)) (sym (append_assoc p.owed (call ∷ []) rest))
+    ∙ (ap (λ l. p.seen ++ l) (sym (append_assoc x.0 (p.owed ++ call ∷ []) rest)) ∙ sym (append_assoc p.seen (x.0 ++ (p.owed ++ call ∷ [])) rest))) in
     let legal : IsLegal mid.seen = legal_left [] answer next May [] mid.seen rest (subst (λ l. IsLegal l) shape x.3) in
     (mid, (refl, refl, refl, refl, (x.0, refl, x.2, legal, x.4)), took_makes mid q (d ∷ es) (t.0, t.1, t.2, t.3, ([], shape, tt, x.3, λ _. refl)))
 
-batch_follows : (h : Option Envelope) (es : List Envelope) (ts : List Envelope) (cs : List (CoreCall Envelope)) (ls : List (BrokerCall Envelope)) → FollowsScripts h (ts ++ es) cs ls → FollowsScripts h ts cs (taking_all es ++ ls)
+batch_follows : (h : Option Envelope) (es : List Envelope) (ts : List Envelope) (cs : List (CoreCall Envelope)) (ls : List (BrokerCall Envelope))
+    → FollowsScripts h (ts ++ es) cs ls → FollowsScripts h ts cs (taking_all es ++ ls)
 batch_follows h [] ts cs ls f = subst (λ xs. FollowsScripts h xs cs ls) (append-nil ts) f
-batch_follows h (e ∷ es) ts cs ls f = scripts_list_take (batch_follows h es (ts ++ e ∷ []) cs ls (subst (λ xs. FollowsScripts h xs cs ls) (sym (append_assoc ts (e ∷ []) es)) f))
+batch_follows h (e ∷ es) ts cs ls f =
+    scripts_list_take (batch_follows h es (ts ++ e ∷ []) cs ls (subst (λ xs. FollowsScripts h xs cs ls) (sym (append_assoc ts (e ∷ []) es)) f))
 
 batch_takes : (es : List Envelope) → total takes_one (taking_all es) ≡ length es
 batch_takes [] = refl
@@ -63,7 +66,8 @@ more_added : (x y a b n : ℕ) → CountsMore x (a + 0) y → CountsMore y b n �
 more_added x y a b n e f = omega (arith, e, f)
 
 module _ (plan : Roster) where
-  counted_more : (a : Ask Envelope Outcome) (r : Reply Envelope Outcome) (run : List (Ask Envelope Outcome × Reply Envelope Outcome)) (t u v : Tally) → Counted plan ((a, r) ∷ []) t u → Counted plan run u v → Counted plan ((a, r) ∷ run) t v
+  counted_more : (a : Ask Envelope Outcome) (r : Reply Envelope Outcome) (run : List (Ask Envelope Outcome × Reply Envelope Outcome)) (t u v : Tally)
+      → Counted plan ((a, r) ∷ []) t u → Counted plan run u v → Counted plan ((a, r) ∷ run) t v
   counted_more a r run t u v c d = record {
     taken = more_added t.taken u.taken (is_taken a r) (often is_taken run) v.taken c.taken d.taken;
     published = more_added t.published u.published (is_published a r) (often is_published run) v.published c.published d.published;
@@ -72,7 +76,8 @@ module _ (plan : Roster) where
     dropped = more_added t.dropped u.dropped (is_dropped plan a r) (often (is_dropped plan) run) v.dropped c.dropped d.dropped;
   }
 
-  call_follows : (a : Ask Envelope Outcome) (r : Reply Envelope Outcome) (h g : Option Envelope) (held : List Envelope) (cs : List (CoreCall Envelope)) (ls : List (BrokerCall Envelope)) → OnlyBare a r held → g ≡ held_by h a r → FollowsScripts g held cs ls
+  call_follows : (a : Ask Envelope Outcome) (r : Reply Envelope Outcome) (h g : Option Envelope) (held : List Envelope) (cs : List (CoreCall Envelope))
+      (ls : List (BrokerCall Envelope)) → OnlyBare a r held → g ≡ held_by h a r → FollowsScripts g held cs ls
       → FollowsScripts h held (core_call a r ++ cs) (broker_call a r ++ ls)
   call_follows take (taken (Some e)) h g held cs ls b q f =
       subst (λ hs. FollowsScripts h hs (makes (took e) ∷ cs) (took e ∷ ls)) (sym b)
@@ -99,7 +104,8 @@ module _ (behaviour : Behaviour) (plan : Roster) where
     serves = refl;
   }
 
-  pub call_first : (w v x : Progress) (a : Ask Envelope Outcome) (r : Reply Envelope Outcome) → Called behaviour plan w v a r → Worked behaviour plan v x → Worked behaviour plan w x
+  pub call_first : (w v x : Progress) (a : Ask Envelope Outcome) (r : Reply Envelope Outcome) → Called behaviour plan w v a r → Worked behaviour plan v x
+      → Worked behaviour plan w x
   call_first w v x a r s f =
       let call : List (BrokerCall Envelope) = broker_call a r in
       record {
@@ -109,8 +115,10 @@ module _ (behaviour : Behaviour) (plan : Roster) where
         counts = counted_more plan a r f.run w.tally v.tally x.tally s.0.counts f.counts;
         leaves = subst (λ u. left_after (enveloped behaviour plan) u f.run ≡ x.left) s.0.left f.leaves;
         made = call ++ f.made;
-        follows = call_follows plan a r w.current v.current w.held (core_calls f.run) f.made s.2 s.0.current (subst (λ hs. FollowsScripts v.current hs (core_calls f.run) f.made) s.1 f.follows);
-        used = (let same : length v.held ≡ length w.held = ap length s.1 in omega (arith, same, f.used, total-append takes_one call f.made, total-append takes_one call (broker_calls f.run)));
+        follows = call_follows plan a r w.current v.current w.held (core_calls f.run) f.made s.2 s.0.current
+            (subst (λ hs. FollowsScripts v.current hs (core_calls f.run) f.made) s.1 f.follows);
+        used = (let same : length v.held ≡ length w.held = ap length s.1 in
+            omega (arith, same, f.used, total-append takes_one call f.made, total-append takes_one call (broker_calls f.run)));
         makes = makes_append call f.made w.pass v.pass x.pass s.3 f.makes;
         serves = serves_append plan (backend_call a r) (backend_calls f.run) w.seat v.seat x.seat s.4 f.serves;
       }
@@ -123,7 +131,8 @@ module _ (behaviour : Behaviour) (plan : Roster) where
     counts = counted_more plan take (taken (Some e)) f.run w.tally v.tally x.tally s.0.counts f.counts;
     leaves = subst (λ u. left_after (enveloped behaviour plan) u f.run ≡ x.left) s.0.left f.leaves;
     made = f.made;
-    follows = subst (λ hs. FollowsScripts w.current hs (makes (took e) ∷ core_calls f.run) f.made) (sym s.1) (scripts_core_take (subst (λ k. FollowsScripts k v.held (core_calls f.run) f.made) s.0.current f.follows));
+    follows = subst (λ hs. FollowsScripts w.current hs (makes (took e) ∷ core_calls f.run) f.made) (sym s.1)
+        (scripts_core_take (subst (λ k. FollowsScripts k v.held (core_calls f.run) f.made) s.0.current f.follows));
     used = (let same : length w.held ≡ length (e ∷ v.held) = ap length s.1 in omega (arith, same, f.used));
     makes = subst (λ p. Makes p f.made x.pass) s.2 f.makes;
     serves = subst (λ p. Serves plan p (backend_calls f.run) x.seat) s.3 f.serves;
@@ -138,8 +147,10 @@ module _ (behaviour : Behaviour) (plan : Roster) where
     leaves = subst (λ u. left_after (enveloped behaviour plan) u f.run ≡ x.left) s.3 f.leaves;
     made = taking_all es ++ f.made;
     follows = batch_follows w.current es w.held (core_calls f.run) f.made
-        (subst (λ xs. FollowsScripts w.current xs (core_calls f.run) f.made) s.0 (subst (λ k. FollowsScripts k v.held (core_calls f.run) f.made) s.5 f.follows));
-    used = (let same : length v.held ≡ length (w.held ++ es) = ap length s.0 in omega (arith, same, longer w.held es, f.used, total-append takes_one (taking_all es) f.made, batch_takes es));
+        (subst (λ xs. FollowsScripts w.current xs (core_calls f.run) f.made) s.0
+        (subst (λ k. FollowsScripts k v.held (core_calls f.run) f.made) s.5 f.follows));
+    used = (let same : length v.held ≡ length (w.held ++ es) = ap length s.0 in
+        omega (arith, same, longer w.held es, f.used, total-append takes_one (taking_all es) f.made, batch_takes es));
     makes = makes_append (taking_all es) f.made w.pass v.pass x.pass (took_makes w.pass v.pass es s.1) f.makes;
     serves = subst (λ p. Serves plan p (backend_calls f.run) x.seat) s.2 f.serves;
   }
@@ -153,7 +164,8 @@ module _ (behaviour : Behaviour) (plan : Roster) where
     leaves = subst (λ u. left_after (enveloped behaviour plan) u f.run ≡ x.left) s.5 f.leaves;
     made = again e ∷ f.made;
     follows = subst (λ h. FollowsScripts h w.held (core_calls f.run) (again e ∷ f.made)) (sym s.0)
-        (scripts_again (subst (λ h. FollowsScripts h w.held (core_calls f.run) f.made) (s.2 ∙ s.0) (subst (λ hs. FollowsScripts v.current hs (core_calls f.run) f.made) s.3 f.follows)));
+        (scripts_again (subst (λ h. FollowsScripts h w.held (core_calls f.run) f.made) (s.2 ∙ s.0)
+        (subst (λ hs. FollowsScripts v.current hs (core_calls f.run) f.made) s.3 f.follows)));
     used = (let same : length v.held ≡ length w.held = ap length s.3 in omega (arith, same, f.used));
     makes = makes_append (again e ∷ []) f.made w.pass v.pass x.pass s.1 f.makes;
     serves = subst (λ p. Serves plan p (backend_calls f.run) x.seat) s.4 f.serves;

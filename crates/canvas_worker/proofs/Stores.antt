@@ -47,12 +47,17 @@ mutual
   enters p_stop x p k u = parts p k
   enters (p_step t rest) (run x) p k u = (tt, tt)
   enters (p_step t rest) (skips f) p k u = (tt, enters rest (skips f) p (number_of t) u)
-  enters (p_step t rest) (raise f) p k u = (tt, joined (callbacks (errbacks_of t) (id_input (number_of t)) u) _ (calls (errbacks_of t) (id_input (number_of t)) u) (enters rest (skips f) p (number_of t) u))
+  enters (p_step t rest) (raise f) p k u = (
+    tt,
+    joined (callbacks (errbacks_of t) (id_input (number_of t)) u) _ (calls (errbacks_of t) (id_input (number_of t)) u)
+        (enters rest (skips f) p (number_of t) u),
+  )
   enters (p_group_end g ms) x p k u = enters_all ms x (p_group g) u
   enters (p_chord_end g ms body) (run x) p k u =
       joined (enter_all ms (run x) (p_chord g (how_many ms) (placed p body)) u) _ (enters_all ms (run x) (p_chord g (how_many ms) (placed p body)) u)
       (empties ms (enter body (run (list_input [])) p 0 u) (enters body (run (list_input [])) p 0 u))
-  enters (p_chord_end g ms body) (skips f) p k u = joined (enter_all ms (skips f) p_nowhere u) _ (enters_all ms (skips f) p_nowhere u) (enters body (skips f) p 0 u)
+  enters (p_chord_end g ms body) (skips f) p k u =
+      joined (enter_all ms (skips f) p_nowhere u) _ (enters_all ms (skips f) p_nowhere u) (enters body (skips f) p 0 u)
   enters (p_chord_end g ms body) (raise f) p k u =
       joined (enter_all ms (raise f) p_nowhere u) _ (enters_all ms (raise f) p_nowhere u) (enters body (raise (fault_behind ms f)) p 0 u)
 
@@ -102,7 +107,8 @@ calls_back links errbacks k (Failure f) = calls errbacks (id_input k) (Some k)
 
 pub after_stores : (c : Content) (o : Outcome) → All (λ e. IsInRange e.1) (after c o).stores
 after_stores c o =
-    ordered (called (links_of c.own) (errbacks_of c.own) (number_of c.own) o ++ enter c.rest (after_outcome o) (end_place (line c)) (number_of c.own) (Some (number_of c.own)))
+    ordered (called (links_of c.own) (errbacks_of c.own) (number_of c.own) o ++ enter c.rest (after_outcome o) (end_place (line c)) (number_of c.own)
+    (Some (number_of c.own)))
     (joined (called (links_of c.own) (errbacks_of c.own) (number_of c.own) o) _ (calls_back (links_of c.own) (errbacks_of c.own) (number_of c.own) o)
     (enters c.rest (after_outcome o) (end_place (line c)) (number_of c.own) (Some (number_of c.own))))
 

@@ -67,7 +67,8 @@ counts_more n zero m h e = omega (arith, h, e)
 counts_more n (suc k) m h e = omega (arith, e)
 
 -- a core whose script is done is answered without a call
-pub ack_asks : (behaviour : Behaviour) (w : Work) → Ready w → asked w.core.left ≡ C.ack → ReadsBack (enveloped_by no_tasks no_book) w.core.left → Asks behaviour w w C.ack C.acked
+pub ack_asks : (behaviour : Behaviour) (w : Work) → Ready w → asked w.core.left ≡ C.ack → ReadsBack (enveloped_by no_tasks no_book) w.core.left
+    → Asks behaviour w w C.ack C.acked
 ack_asks behaviour w ready asks back = record {
   asked_is = asks;
   suits = tt;
@@ -84,7 +85,8 @@ ack_asks behaviour w ready asks back = record {
 }
 
 -- a core that rests is answered without a call
-pub rest_asks : (behaviour : Behaviour) (w : Work) (more : Bool) → Ready w → asked w.core.left ≡ C.pause → ReadsBack (enveloped_by no_tasks no_book) w.core.left → Asks behaviour w w C.pause (C.rested more)
+pub rest_asks : (behaviour : Behaviour) (w : Work) (more : Bool) → Ready w → asked w.core.left ≡ C.pause → ReadsBack (enveloped_by no_tasks no_book) w.core.left
+    → Asks behaviour w w C.pause (C.rested more)
 rest_asks behaviour w more ready asks back = record {
   asked_is = asks;
   suits = tt;
@@ -152,19 +154,26 @@ module _ (behaviour : Behaviour) (w u : Work) (a : Asked) (r : Answer) (ready : 
   current = held_step behaviour plan w.core.left w.core.kept r suits_left ∙ ap (λ b. held_by (open_of w.core.left w.core.kept) b r) x.asked_is
 
   pub called : Called behaviour plan (progress w) after a r
-  called =
-      (record { asked = sym x.asked_is; suits = x.suits; back = x.back; member = x.member; counts = counted; left = refl; current = current }, held, x.bare, x.makes, x.serves)
+  called = (
+    record { asked = sym x.asked_is; suits = x.suits; back = x.back; member = x.member; counts = counted; left = refl; current = current },
+    held,
+    x.bare,
+    x.makes,
+    x.serves,
+  )
 
   -- the envelopes in hand
   again : Each (CanDeliver u.pass) (in_hand after.current u.held)
   again =
-      let all : Each (CanDeliver u.pass) (in_hand (held_by (open_of w.core.left w.core.kept) a r) w.held) = call_can a r (open_of w.core.left w.core.kept) w.held w.pass u.pass x.makes ready.again in
+      let all : Each (CanDeliver u.pass) (in_hand (held_by (open_of w.core.left w.core.kept) a r) w.held) =
+      call_can a r (open_of w.core.left w.core.kept) w.held w.pass u.pass x.makes ready.again in
       subst (λ h. Each (CanDeliver u.pass) (in_hand h u.held)) (sym current)
       (subst (λ es. Each (CanDeliver u.pass) (in_hand (held_by (open_of w.core.left w.core.kept) a r) es)) (sym held) all)
 
   has_current : is_inside after.left ≡ true → IsSome after.current
   has_current i =
-      subst (λ h. IsSome h) (sym (held_step behaviour plan w.core.left w.core.kept r suits_left)) (has_open behaviour plan w.core.left w.core.kept r suits_left ready.current i)
+      subst (λ h. IsSome h) (sym (held_step behaviour plan w.core.left w.core.kept r suits_left))
+      (has_open behaviour plan w.core.left w.core.kept r suits_left ready.current i)
 
   can : Can plan u.seat (answered (enveloped behaviour plan) w.core.left r)
   can =
@@ -173,14 +182,29 @@ module _ (behaviour : Behaviour) (w u : Work) (a : Asked) (r : Answer) (ready : 
 
   -- the core that was told
   abbrev core : Standing
-  core = record { left = answered (enveloped behaviour plan) w.core.left r; is_out = false; dropped = u.core.dropped; kept = kept_next (book_on plan) w.core.left w.core.kept r; task = task_next (book_on plan) w.core.left w.core.task r }
+  core = record {
+    left = answered (enveloped behaviour plan) w.core.left r;
+    is_out = false;
+    dropped = u.core.dropped;
+    kept = kept_next
+        (book_on plan) w.core.left w.core.kept r;
+    task = task_next (book_on plan) w.core.left w.core.task r;
+  }
 
   core_is : after_reply behaviour (book_in u.desk.plan) u.core r ≡ core
   core_is =
       let so : drops (book_on plan) w.core.left r ≡ is_dropped plan a r = drops_so plan w.core.left r ∙ ap (λ b. is_dropped plan b r) x.asked_is in
-      let dropped : min greatest_count (w.core.dropped + drops (book_on plan) w.core.left r) ≡ u.core.dropped = no_more w.core.dropped u.core.dropped (drops (book_on plan) w.core.left r) ready.counts.4 same_drops (so ∙ x.none_dropped) in
+      let dropped : min greatest_count (w.core.dropped + drops (book_on plan) w.core.left r) ≡ u.core.dropped =
+      no_more w.core.dropped u.core.dropped (drops (book_on plan) w.core.left r) ready.counts.4 same_drops (so ∙ x.none_dropped) in
       ap (λ (d : Desk). after_reply behaviour (book_in d.plan) u.core r) desk ∙ x.core ∙ ap (λ b. after_reply behaviour b w.core r) (same_book plan ready.plan)
-      ∙ ap (λ (n : ℕ). record { left = answered (enveloped behaviour plan) w.core.left r; is_out = false; dropped = n; kept = kept_next (book_on plan) w.core.left w.core.kept r; task = task_next (book_on plan) w.core.left w.core.task r }) dropped
+      ∙ ap (λ (n : ℕ). record {
+        left = answered (enveloped behaviour plan) w.core.left r;
+        is_out = false;
+        dropped = n;
+        kept = kept_next
+            (book_on plan) w.core.left w.core.kept r;
+        task = task_next (book_on plan) w.core.left w.core.task r;
+      }) dropped
 
   ready_then : Ready (with_core u core)
   ready_then = record {
@@ -197,14 +221,22 @@ module _ (behaviour : Behaviour) (w u : Work) (a : Asked) (r : Answer) (ready : 
 
   told_is : (v : Work) → v ≡ with_answer behaviour u r → Acted behaviour w v
   told_is v e =
-      subst (λ z. Acted behaviour w z) (sym (e ∙ ap (λ c. with_core u c) core_is)) (record { broker = broker; desk = desk; number = number; ready = ready_then; moved = makes_call a r called })
+      subst (λ z. Acted behaviour w z) (sym (e ∙ ap (λ c. with_core u c) core_is))
+      (record { broker = broker; desk = desk; number = number; ready = ready_then; moved = makes_call a r called })
 
   fails : (s : Record) → Leaves (lost u) (Some Memory) s → EndsBy (Acts behaviour w.desk.plan) w s
   fails s leaves = record {
     ended = after;
     counted = tallied plan a r (progress w).tally after.tally counted;
     moved = makes_call a r called;
-    is_of = record { same_number = leaves.same_number ∙ number; pass = leaves.pass; seat = leaves.seat; counts = leaves.counts; whole = λ none. absurd (some_none Memory (sym leaves.fault_is ∙ none)) };
+    is_of = record {
+      same_number = leaves.same_number ∙ number;
+      pass = leaves.pass;
+      seat = leaves.seat;
+      counts = leaves.counts;
+      whole = λ none. absurd
+          (some_none Memory (sym leaves.fault_is ∙ none));
+    };
   }
 
   lost_is : (v : Work) → v ≡ lost u → ActedLast behaviour w (Some Memory) v
@@ -216,7 +248,8 @@ module _ (behaviour : Behaviour) (w u : Work) (a : Asked) (r : Answer) (ready : 
   well (Err e) v is = subst (λ f. ActedLast behaviour w f v) (sym is.1) (lost_is v is.0)
 
   -- a worker that ends without a fault
-  ends_so : (v : Work) → v ≡ with_answer behaviour u r → (s : Record) → Leaves v None s → (after.left ≡ C.over) × (after.held ≡ []) × Empties after.pass → EndsBy (Acts behaviour w.desk.plan) w s
+  ends_so : (v : Work) → v ≡ with_answer behaviour u r → (s : Record) → Leaves v None s → (after.left ≡ C.over) × (after.held ≡ []) × Empties after.pass
+      → EndsBy (Acts behaviour w.desk.plan) w s
   ends_so v e s leaves whole =
       let is : v ≡ with_core u core = e ∙ ap (λ c. with_core u c) core_is in
       record {
@@ -232,21 +265,29 @@ module _ (behaviour : Behaviour) (w u : Work) (a : Asked) (r : Answer) (ready : 
         };
       }
 
-pub asked_well : {A : Type 0} (behaviour : Behaviour) (w u v : Work) (a : Asked) (r : Answer) (result : Result A End) → MatchResult result (λ _. v ≡ with_answer behaviour u r) (λ e. (v ≡ lost u) × (e.fault ≡ Some Memory))
+pub asked_well : {A : Type 0} (behaviour : Behaviour) (w u v : Work) (a : Asked) (r : Answer) (result : Result A End)
+    → MatchResult result (λ _. v ≡ with_answer behaviour u r) (λ e. (v ≡ lost u) × (e.fault ≡ Some Memory))
     → Ready w → Asks behaviour w u a r → MatchResult result (λ _. Acted behaviour w v) (λ e. ActedLast behaviour w e.fault v)
 asked_well behaviour w u v a r result is ready x = well behaviour w u a r ready x result v is
 
 -- where memory was refused, to the queue or to the core
-pub ends_badly : (behaviour : Behaviour) (w u : Work) (a : Asked) (r : Answer) (e : End) → e.fault ≡ Some Memory → Ready w → Asks behaviour w u a r → ActedLast behaviour w e.fault u
+pub ends_badly : (behaviour : Behaviour) (w u : Work) (a : Asked) (r : Answer) (e : End) → e.fault ≡ Some Memory → Ready w → Asks behaviour w u a r
+    → ActedLast behaviour w e.fault u
 ends_badly behaviour w u a r e is ready x s leaves =
     let so : Leaves u (Some Memory) s = subst (λ f. Leaves u f s) is leaves in
     fails behaviour w u a r ready x s (record { same_number = so.same_number; pass = so.pass; seat = so.seat; counts = so.counts; fault_is = so.fault_is })
 
-pub asked_badly : (behaviour : Behaviour) (w u v : Work) (a : Asked) (r : Answer) (e : End) → (v ≡ lost u) × (e.fault ≡ Some Memory) → Ready w → Asks behaviour w u a r → ActedLast behaviour w e.fault v
+pub asked_badly : (behaviour : Behaviour) (w u v : Work) (a : Asked) (r : Answer) (e : End) → (v ≡ lost u) × (e.fault ≡ Some Memory) → Ready w
+    → Asks behaviour w u a r → ActedLast behaviour w e.fault v
 asked_badly behaviour w u v a r e is ready x = subst (λ f. ActedLast behaviour w f v) (sym is.1) (lost_is behaviour w u a r ready x v is.0)
 
 -- a worker that is told that no more will come
-pub rests_well : (behaviour : Behaviour) (w u v : Work) → v ≡ with_answer behaviour u (C.rested false) → Ready w → Asks behaviour w u C.pause (C.rested false) → ActedLast behaviour w None v
+pub rests_well : (behaviour : Behaviour) (w u v : Work) → v ≡ with_answer behaviour u (C.rested false) → Ready w → Asks behaviour w u C.pause (C.rested false)
+    → ActedLast behaviour w None v
 rests_well behaviour w u v is ready x s leaves =
     let rests : w.core.left ≡ C.resting = rests_over w.core.left x.asked_is in
-    ends_so behaviour w u C.pause (C.rested false) ready x v is s leaves (ap (λ l. answered (enveloped behaviour w.desk.plan) l (C.rested false)) rests, x.beside.5 ∙ (ready.rested rests).0, subst (λ p. Empties p) (sym x.makes) (ready.rested rests).1)
+    ends_so behaviour w u C.pause (C.rested false) ready x v is s leaves (
+      ap (λ l. answered (enveloped behaviour w.desk.plan) l (C.rested false)) rests,
+      x.beside.5 ∙ (ready.rested rests).0,
+      subst (λ p. Empties p) (sym x.makes) (ready.rested rests).1,
+    )

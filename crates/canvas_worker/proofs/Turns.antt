@@ -39,7 +39,14 @@ ends_acting behaviour w c ready r leaves = record {
   ended = progress w;
   counted = ready.counts;
   moved = stays refl;
-  is_of = record { same_number = leaves.same_number; pass = leaves.pass; seat = leaves.seat; counts = leaves.counts; whole = λ none. absurd (some_none c (sym leaves.fault_is ∙ none)) };
+  is_of = record {
+    same_number = leaves.same_number;
+    pass = leaves.pass;
+    seat = leaves.seat;
+    counts = leaves.counts;
+    whole = λ none. absurd
+        (some_none c (sym leaves.fault_is ∙ none));
+  };
 }
 
 -- ---- where nothing was delivered again
@@ -52,7 +59,8 @@ acts_last behaviour w v f a r leaves =
     let e : EndsBy (Acts behaviour w.desk.plan) w r = a r leaves in
     record { ended = e.ended; counted = e.counted; moved = acts e.moved; is_of = e.is_of }
 
-pub acted_well : {A : Type 0} (behaviour : Behaviour) (w v : Work) (result : Result A End) → MatchResult result (λ _. Acted behaviour w v) (λ e. ActedLast behaviour w e.fault v)
+pub acted_well : {A : Type 0} (behaviour : Behaviour) (w v : Work) (result : Result A End)
+    → MatchResult result (λ _. Acted behaviour w v) (λ e. ActedLast behaviour w e.fault v)
     → MatchResult result (λ _. Pends behaviour w v) (λ e. EndsWith behaviour w e.fault v)
 acted_well behaviour w v (Ok _) a = acts_pending behaviour w v a
 acted_well behaviour w v (Err e) a = acts_last behaviour w v e.fault a

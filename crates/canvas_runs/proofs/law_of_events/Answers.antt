@@ -8,4 +8,5 @@ pub returns-clause-states : goal.returns-clause-states
 returns-clause-states c = λ behaviour l plan. event_states behaviour l plan
 
 pub returns-clause-of_canvas : goal.returns-clause-of_canvas
-returns-clause-of_canvas c = λ behaviour d full l same t. ap (λ u. state_of t (eval behaviour u nothing).rows) same ∙ ap (λ m. state_of t m.rows) (law behaviour d nothing full)
+returns-clause-of_canvas c = λ behaviour d full l same t. ap (λ u. state_of t (eval behaviour u nothing).rows) same
+    ∙ ap (λ m. state_of t m.rows) (law behaviour d nothing full)

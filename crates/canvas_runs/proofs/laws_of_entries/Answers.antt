@@ -9,7 +9,8 @@ pub returns-clause-few : goal.returns-clause-few
 returns-clause-few c = λ behaviour l n es ts us xs rest some t b. few_again behaviour l n es us xs rest t ts some b
 
 pub returns-clause-agains : goal.returns-clause-agains
-returns-clause-agains c = λ behaviour l n es us xs rest t some all. (agains_are behaviour l n es us xs rest t some all, unspent behaviour l n es us xs rest t some all)
+returns-clause-agains c =
+    λ behaviour l n es us xs rest t some all. (agains_are behaviour l n es us xs rest t some all, unspent behaviour l n es us xs rest t some all)
 
 pub returns-clause-whole : goal.returns-clause-whole
 returns-clause-whole c = λ behaviour l plan n ts es w r. again_turns behaviour l plan n ts es w r

@@ -79,14 +79,16 @@ result_of_a_failed_header : result six_tasks with_failed_header ≡ (4, failed 2
 unfolding uuid_on_literals digits
 result_of_a_failed_header = refl
 
-failure_skips_the_rest : meaning six_tasks (chain (trees (div 1 0 ∷ group 0 (trees (add1 1 ∷ add1 2 ∷ [])) ∷ xsum ∷ []))) ≡ (1, zd) ∷ (2, zd) ∷ (3, zd) ∷ (4, zd) ∷ []
+failure_skips_the_rest : meaning six_tasks (chain (trees (div 1 0 ∷ group 0 (trees (add1 1 ∷ add1 2 ∷ [])) ∷ xsum ∷ []))) ≡ (1, zd) ∷ (2, zd) ∷ (3, zd)
+    ∷ (4, zd) ∷ []
 failure_skips_the_rest = refl
 
 chord_in_a_header : meaning six_tasks (chord 0 (trees (chord 0 (trees (div 1 0 ∷ [])) xsum ∷ add 1 1 ∷ [])) xsum)
     ≡ (1, zd) ∷ (2, failed 1) ∷ (3, ok 2) ∷ (4, Some (Failure (fault.Chord 2 why.Chord))) ∷ []
 chord_in_a_header = refl
 
-chord_with_a_follower : meaning six_tasks (chain (trees (chord 0 (trees (add 1 1 ∷ add 2 2 ∷ [])) xsum ∷ mul1 2 ∷ []))) ≡ (1, ok 2) ∷ (2, ok 4) ∷ (3, ok 6) ∷ (4, ok 12) ∷ []
+chord_with_a_follower : meaning six_tasks (chain (trees (chord 0 (trees (add 1 1 ∷ add 2 2 ∷ [])) xsum ∷ mul1 2 ∷ []))) ≡ (1, ok 2) ∷ (2, ok 4) ∷ (3, ok 6)
+    ∷ (4, ok 12) ∷ []
 chord_with_a_follower = refl
 
 normal_line_of_a_chord_with_a_follower : normal (chain (trees (chord 0 (trees (add 1 1 ∷ add 2 2 ∷ [])) xsum ∷ mul1 2 ∷ [])))

@@ -7,10 +7,13 @@ use Rattle.canvas_backend.proofs.roster.homes_of.Goals as goal
 
 pub loop-index-preserved : goal.loop-index-preserved
 loop-index-preserved c =
-    let moved : c.move_in.new.homes.items ≡ moved_in c.loop-index.homes.items c.in-Some.group (members (roster_of c.args.plan.now) c.in-Some.group) = search rules in
-    subst (HomesTo (roster_of c.args.plan.now) _) (sym moved) (line_more c.args.plan.now c.loop-index.index c.in-Some.group c.loop-index.homes.items c.tasks.ensures.planned (search rules) c.loop-index.invariant)
+    let moved : c.move_in.new.homes.items ≡ moved_in c.loop-index.homes.items c.in-Some.group (members (roster_of c.args.plan.now) c.in-Some.group) =
+    search rules in
+    subst (HomesTo (roster_of c.args.plan.now) _) (sym moved)
+    (line_more c.args.plan.now c.loop-index.index c.in-Some.group c.loop-index.homes.items c.tasks.ensures.planned (search rules) c.loop-index.invariant)
 
 pub returns : goal.returns
 returns c =
     let done : c.loop-index.index ≡ line_groups c.args.plan.now = search rules in
-    subst (AreHomes (roster_of c.args.plan.now)) (sym c.of.ensures) (line_all c.args.plan.now c.loop-index.index c.loop-index.homes.items done c.loop-index.invariant)
+    subst (AreHomes (roster_of c.args.plan.now)) (sym c.of.ensures)
+    (line_all c.args.plan.now c.loop-index.index c.loop-index.homes.items done c.loop-index.invariant)

@@ -10,4 +10,5 @@ returns-clause-value c =
     c.in_ok-write_body.ensures c.text_of.ensures.value
 
 pub returns-clause-utf8 : goal.returns-clause-utf8
-returns-clause-utf8 c = utf8_text c.text_of.result _ _ c.text_of.ensures.value (c.in_ok-write_body.ensures.1 ∙ c.new_writer-out.ensures.0) c.text_of.ensures.utf8
+returns-clause-utf8 c = utf8_text c.text_of.result _ _ c.text_of.ensures.value
+    (c.in_ok-write_body.ensures.1 ∙ c.new_writer-out.ensures.0) c.text_of.ensures.utf8

@@ -9,14 +9,17 @@ copy_line-returns-in-None t c =
 
 pub copy_line-returns-in_ok-tail-in-Some : goal.copy_line-returns-in_ok-tail-in-Some
 copy_line-returns-in_ok-tail-in-Some t c =
-    longer_copied c.args.line.now c.in-Some.end c.in-Some.is _ _ _ _ _ (ap (map p_task_view) c.of-tasks.ensures ∙ c.in_ok-copy_tasks.ensures) (c.deref.ensures.value ∙ c.get.ensures)
+    longer_copied c.args.line.now c.in-Some.end c.in-Some.is _ _ _ _ _ (ap (map p_task_view) c.of-tasks.ensures ∙ c.in_ok-copy_tasks.ensures)
+    (c.deref.ensures.value ∙ c.get.ensures)
     c.deref-in-Some.ensures c.in_ok-end-in-Some.ensures c.in_ok-tail-in-Some.ensures.ok
 
 pub copy_end-returns-in-None : goal.copy_end-returns-in-None
 copy_end-returns-in-None t c =
-    group_copied c.args.end.now c.in-None.is _ _ (ap (map p_line_view) c.of-members.ensures ∙ c.in_ok-copy_lines.ensures) (c.deref.ensures.value ∙ c.get.ensures)
+    group_copied c.args.end.now c.in-None.is _ _ (ap (map p_line_view) c.of-members.ensures ∙ c.in_ok-copy_lines.ensures)
+    (c.deref.ensures.value ∙ c.get.ensures)
 
 pub copy_end-returns-in_ok-body-in-Some : goal.copy_end-returns-in_ok-body-in-Some
 copy_end-returns-in_ok-body-in-Some t c =
-    chord_copied c.args.end.now c.in-Some.body c.in-Some.is _ _ _ (ap (map p_line_view) c.of-members.ensures ∙ c.in_ok-copy_lines.ensures) (c.deref.ensures.value ∙ c.get.ensures)
+    chord_copied c.args.end.now c.in-Some.body c.in-Some.is _ _ _ (ap (map p_line_view) c.of-members.ensures ∙ c.in_ok-copy_lines.ensures)
+    (c.deref.ensures.value ∙ c.get.ensures)
     c.in_ok-body-in-Some.ensures

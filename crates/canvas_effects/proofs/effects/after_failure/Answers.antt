@@ -30,7 +30,8 @@ returns-in-Some c =
     let errbacks : p_tasks_of (map p_task_view c.deref.result.now) ≡ errbacks_of c.args.message.now.own = search rules in
     let task : c.message.inside.task ≡ number_of c.args.message.now.own = search rules in
     IfOk-weaker c.todo_of.result _ _
-    (λ todo is. is ∙ failed c.args.message.now (p_line_view c.in-Some.rest.now) c.args.fault.now _ _ _ _ _ whole rest c.in-Some.ensures.1 c.new-stores.ensures.items c.in_ok-skip_line-in-Some.ensures c.new-messages.ensures.items
+    (λ todo is. is ∙ failed c.args.message.now
+    (p_line_view c.in-Some.rest.now) c.args.fault.now _ _ _ _ _ whole rest c.in-Some.ensures.1 c.new-stores.ensures.items c.in_ok-skip_line-in-Some.ensures c.new-messages.ensures.items
     (c.in_ok-call_back.ensures ∙ ap₂ (λ l k. c.new-messages.result.items ++ messages_in (callbacks l (id_input k) None)) errbacks task)
     c.in_ok-part-in-Some.ensures) c.todo_of.ensures
 

@@ -34,10 +34,15 @@ returns-in-Some c =
     let task : c.message.inside.task ≡ number_of c.args.message.now.own = search rules in
     let back = to_z-of_z w64 c.args.number (search rules) in
     IfOk-weaker c.todo_of.result _ _
-    (λ todo is. is ∙ succeeded c.args.message.now (p_line_view c.in-Some.rest.now) c.args.number _ _ _ _ _ whole rest c.in-Some.ensures.1 c.new.ensures.items c.new-messages.ensures.items
-    (c.in_ok-call_back.ensures ∙ ap (λ z. c.new-messages.result.items ++ messages_in (callbacks (p_tasks_of (map p_task_view c.deref.result.now)) (number_input z) (Some c.message.inside.task))) back
+    (λ todo is. is ∙ succeeded c.args.message.now
+    (p_line_view c.in-Some.rest.now) c.args.number _ _ _ _ _ whole rest c.in-Some.ensures.1 c.new.ensures.items c.new-messages.ensures.items
+    (c.in_ok-call_back.ensures
+    ∙ ap (λ z. c.new-messages.result.items
+    ++ messages_in (callbacks (p_tasks_of (map p_task_view c.deref.result.now)) (number_input z) (Some c.message.inside.task))) back
     ∙ ap₂ (λ l k. c.new-messages.result.items ++ messages_in (callbacks l (number_input c.args.number) (Some k))) links task)
-    (c.in_ok-start_whole-in-Some.ensures ∙ ap₂ (λ z k. c.call_back.new.messages.items ++ started (p_line_view c.in-Some.rest.now) (number_input z) (end_place (p_line_view c.in-Some.rest.now)) (Some k)) back task) refl) c.todo_of.ensures
+    (c.in_ok-start_whole-in-Some.ensures
+    ∙ ap₂ (λ z k. c.call_back.new.messages.items ++ started (p_line_view c.in-Some.rest.now) (number_input z) (end_place (p_line_view c.in-Some.rest.now))
+    (Some k)) back task) refl) c.todo_of.ensures
 
 pub returns : goal.returns
 returns c =
@@ -48,6 +53,8 @@ returns c =
     let back = to_z-of_z w64 c.args.number (search rules) in
     IfOk-weaker c.todo_of-in-None.result _ _
     (λ todo is. is ∙ succeeded_last c.args.message.now c.args.number _ _ _ _ rest c.new-in-None.ensures.items c.new-messages.ensures.items
-    (c.in_ok-call_back.ensures ∙ ap (λ z. c.new-messages.result.items ++ messages_in (callbacks (p_tasks_of (map p_task_view c.deref.result.now)) (number_input z) (Some c.message.inside.task))) back
+    (c.in_ok-call_back.ensures
+    ∙ ap (λ z. c.new-messages.result.items
+    ++ messages_in (callbacks (p_tasks_of (map p_task_view c.deref.result.now)) (number_input z) (Some c.message.inside.task))) back
     ∙ ap₂ (λ l k. c.new-messages.result.items ++ messages_in (callbacks l (number_input c.args.number) (Some k))) links task)
     (c.in_ok-part-in-None.ensures ∙ ap₂ (λ q k. part_in (part_of q k)) place task)) c.todo_of-in-None.ensures

@@ -18,5 +18,6 @@ returns-in_ok-raise_body-in-Some c =
 pub returns-in_ok-start_body-in-None : goal.returns-in_ok-start_body-in-None
 returns-in_ok-start_body-in-None c =
     c.in_ok-start_body-in-None.ensures
-    ∙ ap (λ l. effect_of (enter (p_line_view l) (run (list_input c.in_ok-numbers_of-in-None.field-0)) (end_place (p_line_view l)) 0 None)) c.deref-in-None.ensures
+    ∙ ap (λ l. effect_of (enter (p_line_view l) (run (list_input c.in_ok-numbers_of-in-None.field-0))
+    (end_place (p_line_view l)) 0 None)) c.deref-in-None.ensures
     ∙ after_all c.args.carried.now c.args.outcomes.now _ c.in-None.ensures c.in_ok-numbers_of-in-None.ensures

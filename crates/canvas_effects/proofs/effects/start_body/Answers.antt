@@ -8,4 +8,5 @@ use Rattle.canvas_effects.proofs.effects.start_body.Goals as goal
 pub returns : goal.returns
 returns c =
     IfOk-weaker c.todo_of.result _ _
-    (λ todo is. is ∙ body_started (p_line_view c.args.body.now) (input_seen c.args.input.now) _ _ _ _ c.requires.line c.new.ensures.items c.new-messages.ensures.items c.in_ok-start_whole.ensures refl) c.todo_of.ensures
+    (λ todo is. is ∙ body_started (p_line_view c.args.body.now)
+    (input_seen c.args.input.now) _ _ _ _ c.requires.line c.new.ensures.items c.new-messages.ensures.items c.in_ok-start_whole.ensures refl) c.todo_of.ensures

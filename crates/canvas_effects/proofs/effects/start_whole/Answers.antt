@@ -9,11 +9,13 @@ use Rattle.canvas_effects.proofs.effects.start_whole.Goals as goal
 
 pub start_line-requires-clause-line : goal.start_line-requires-clause-line
 start_line-requires-clause-line c =
-    ap (stands (p_line_view c.args.line.now)) (last_there_place (p_line_view c.args.line.now) c.in-Some.last.now c.in-Some.ensures) ∙ stands_there (p_line_view c.args.line.now) c.requires.line
+    ap (stands (p_line_view c.args.line.now)) (last_there_place (p_line_view c.args.line.now) c.in-Some.last.now c.in-Some.ensures)
+    ∙ stands_there (p_line_view c.args.line.now) c.requires.line
 
 pub start_line-requires-in-None-clause-line : goal.start_line-requires-in-None-clause-line
 start_line-requires-in-None-clause-line c =
-    ap (stands (p_line_view c.args.line.now)) (sym (place_never (p_line_view c.args.line.now) (sym c.in-None.ensures))) ∙ stands_there (p_line_view c.args.line.now) c.requires.line
+    ap (stands (p_line_view c.args.line.now)) (sym (place_never (p_line_view c.args.line.now) (sym c.in-None.ensures)))
+    ∙ stands_there (p_line_view c.args.line.now) c.requires.line
 
 pub returns-in-Some : goal.returns-in-Some
 returns-in-Some c =

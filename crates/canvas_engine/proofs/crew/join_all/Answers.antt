@@ -18,5 +18,14 @@ loop-slot-preserved g c =
       search rules,
       (subst (λ l. AreOf c.args.broker.now c.args.backend.now.id l) items c.loop-slot.invariant.3).1,
       λ p s t. c.loop-slot.invariant.4 p s
-          (subst (λ l. TakesIn c.args.backend.now.plan c.loop-slot.pass c.loop-slot.seat l p s) (sym items) (c.in-Done.left, post, c.join_one.new.pass, c.join_one.new.seat, passes.0, passes.1, seats, t)),
+          (subst (λ l. TakesIn c.args.backend.now.plan c.loop-slot.pass c.loop-slot.seat l p s) (sym items) (
+            c.in-Done.left,
+            post,
+            c.join_one.new.pass,
+            c.join_one.new.seat,
+            passes.0,
+            passes.1,
+            seats,
+            t,
+          )),
     )

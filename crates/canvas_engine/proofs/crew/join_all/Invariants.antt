@@ -11,4 +11,5 @@ invariant-loop-slot g l =
     (goal.iterator-loop-slot g).is_finite l.slot-iterator ×
     ((l.pass.of ≡ l.broker) × (l.seat.of ≡ l.backend.id)) ×
     AreOf l.broker l.backend.id (into_iter_items l.slot-iterator) ×
-    ((p : Pass) (s : Seat) → TakesIn l.backend.plan l.pass l.seat (into_iter_items l.slot-iterator) p s → TakesIn l.backend.plan l.initial.pass l.initial.seat (into_iter_items l.initial.slot-iterator) p s)
+    ((p : Pass) (s : Seat) → TakesIn l.backend.plan l.pass l.seat (into_iter_items l.slot-iterator) p s
+    → TakesIn l.backend.plan l.initial.pass l.initial.seat (into_iter_items l.initial.slot-iterator) p s)

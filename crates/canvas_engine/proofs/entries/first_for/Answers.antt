@@ -21,4 +21,5 @@ loop-index-preserved c =
     let e = c.index-entries-index.result in
     let at : slice_get es i ≡ Some e = slice_get_read es _ i e refl c.loop-index-test.true c.index-entries-index.is in
     let up : suc i ≡ i + 1 = omega arith in
-    subst (λ j. has c.args.point.now.0 c.args.point.now.1 (take j es) ≡ false) up (none_more c.args.point.now.0 c.args.point.now.1 es i e at c.loop-index.invariant (sym c.is_for.ensures ∙ c.if-is_for.false))
+    subst (λ j. has c.args.point.now.0 c.args.point.now.1 (take j es) ≡ false) up
+    (none_more c.args.point.now.0 c.args.point.now.1 es i e at c.loop-index.invariant (sym c.is_for.ensures ∙ c.if-is_for.false))

@@ -10,4 +10,5 @@ invariant-loop-envelope g l =
     (goal.iterator-loop-envelope g).can_next l.envelope-iterator ×
     (goal.iterator-loop-envelope g).is_finite l.envelope-iterator ×
     (l.pass.of ≡ l.broker) ×
-    ((p : Pass) → Makes l.pass (published_all (into_iter_items l.envelope-iterator)) p → Makes l.initial.pass (published_all (into_iter_items l.initial.envelope-iterator)) p)
+    ((p : Pass) → Makes l.pass (published_all (into_iter_items l.envelope-iterator)) p
+    → Makes l.initial.pass (published_all (into_iter_items l.initial.envelope-iterator)) p)

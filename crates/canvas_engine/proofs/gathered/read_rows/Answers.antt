@@ -8,10 +8,13 @@ use Rattle.canvas_engine.proofs.gathered.read_rows.Goals as goal
 
 pub loop-index-preserved : goal.loop-index-preserved
 loop-index-preserved c =
-    let inside : c.loop-index.index < length c.loop-index.rows = omega (arith, c.loop-index-test.true, c.loop-index.auto.rows, c.requires.rows, c.tasks-index-end.ensures.value) in
+    let inside : c.loop-index.index < length c.loop-index.rows =
+    omega (arith, c.loop-index-test.true, c.loop-index.auto.rows, c.requires.rows, c.tasks-index-end.ensures.value) in
     let before : c.loop-index.index ≤ length c.loop-index.rows = omega (arith, inside) in
-    let stands : Stands c.args.backend.now.plan c.loop-index.seat (calls c.loop-index.seat.name (read (c.loop-index.index + 1)) (found c.read_row.result)) c.read_row.new.seat = c.read_row.ensures.read in (
+    let stands : Stands c.args.backend.now.plan c.loop-index.seat
+    (calls c.loop-index.seat.name (read (c.loop-index.index + 1)) (found c.read_row.result)) c.read_row.new.seat = c.read_row.ensures.read in (
       search rules,
-      row_read c.args.backend.now.plan c.args.seat.now c.loop-index.seat c.read_row.new.seat c.loop-index.rows c.loop-index.index (c.loop-index.index + 1) c.read_row.result inside refl
+      row_read c.args.backend.now.plan c.args.seat.now c.loop-index.seat c.read_row.new.seat c.loop-index.rows c.loop-index.index
+          (c.loop-index.index + 1) c.read_row.result inside refl
           (length-take-le c.loop-index.index c.loop-index.rows before) c.loop-index.invariant.1 stands,
     )

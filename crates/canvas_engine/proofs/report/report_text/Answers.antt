@@ -14,5 +14,6 @@ returns c =
     ∙ ap (λ rs. string_bytes c.new-text.result ++ lines (named (tree_of c.args.plan.now)) (rows_from 1 rs)) (c.deref.ensures.value ∙ c.get-rows.ensures))
     c.in_ok-push_str.ensures.bytes c.ends.ensures.tasks c.ends.ensures.list
     (c.in_ok-push_result.ensures
-    ∙ ap (λ rs. string_bytes c.push_str.new.self ++ result_text (gives_a_list c.ends.result) (with_states (rows_from 1 rs) (end_tasks c.ends.result))) (c.deref-2.ensures.value ∙ c.get-rows.ensures))
+    ∙ ap (λ rs. string_bytes c.push_str.new.self ++ result_text (gives_a_list c.ends.result) (with_states (rows_from 1 rs) (end_tasks c.ends.result)))
+    (c.deref-2.ensures.value ∙ c.get-rows.ensures))
     c.in_ok-push_str-2.ensures.bytes

@@ -17,22 +17,28 @@ pub returns-in-Err-clause-err : goal.returns-in-Err-clause-err
 returns-in-Err-clause-err g c =
     let l : Line = c.args.plan.now in
     subst (IsThreadFault c.args.workers (states (g.T.Tasks.behaviour c.args.tasks.now) (tree_of l))) (sym c.halted_with.ensures)
-    (halted_may c.args.workers (states (g.T.Tasks.behaviour c.args.tasks.now) (tree_of l)) Memory c.args.start.rows.items c.requires.workers (pending_may c.args.start.rows.items (states (g.T.Tasks.behaviour c.args.tasks.now) (tree_of l)) (c.requires.start.rows ∙ sym (long_states (g.T.Tasks.behaviour c.args.tasks.now) l)) c.requires.start.pending))
+    (halted_may c.args.workers (states (g.T.Tasks.behaviour c.args.tasks.now) (tree_of l)) Memory c.args.start.rows.items c.requires.workers
+    (pending_may c.args.start.rows.items (states (g.T.Tasks.behaviour c.args.tasks.now) (tree_of l))
+    (c.requires.start.rows ∙ sym (long_states (g.T.Tasks.behaviour c.args.tasks.now) l)) c.requires.start.pending))
 
 pub join_all-requires-clause-others : goal.join_all-requires-clause-others
 join_all-requires-clause-others g c =
-    let whole : take c.args.start.slots.len (c.work_on_threads.new.slots ++ drop (length c.work_on_threads.new.slots) c.args.start.slots.items) ≡ c.work_on_threads.new.slots =
+    let whole : take c.args.start.slots.len (c.work_on_threads.new.slots ++ drop (length c.work_on_threads.new.slots) c.args.start.slots.items)
+    ≡ c.work_on_threads.new.slots =
     take_at c.work_on_threads.new.slots _ c.args.start.slots.len (search rules) in
     let many : length c.work_on_threads.new.slots ≡ length c.args.start.slots.items = search rules in
     let ran : AllRan (g.T.Tasks.behaviour c.args.tasks.now) c.args.start.backend.plan c.args.start.slots.items c.work_on_threads.new.slots = search rules in
-    let done : All (λ s. LeftARecord s.post) (take c.args.start.slots.len (c.work_on_threads.new.slots ++ drop (length c.work_on_threads.new.slots) c.args.start.slots.items)) = search rules in
+    let done : All (λ s. LeftARecord s.post)
+    (take c.args.start.slots.len (c.work_on_threads.new.slots ++ drop (length c.work_on_threads.new.slots) c.args.start.slots.items)) = search rules in
     subst (AreOf c.args.start.broker c.args.start.backend.id) (sym whole)
     (are_of (g.T.Tasks.behaviour c.args.tasks.now) c.args.start.broker c.args.start.backend.id c.args.start.backend.plan c.args.start.slots.items c.work_on_threads.new.slots c.requires.start.ready
-    (each_ran (g.T.Tasks.behaviour c.args.tasks.now) c.args.start.backend.plan c.args.start.slots.items c.work_on_threads.new.slots many ran) (subst (All (λ (s : Slot). LeftARecord s.post)) whole done))
+    (each_ran (g.T.Tasks.behaviour c.args.tasks.now) c.args.start.backend.plan c.args.start.slots.items c.work_on_threads.new.slots many ran)
+    (subst (All (λ (s : Slot). LeftARecord s.post)) whole done))
 
 pub returns-clause-ok : goal.returns-clause-ok
 returns-clause-ok g c =
-    let whole : take c.args.start.slots.len (c.work_on_threads.new.slots ++ drop (length c.work_on_threads.new.slots) c.args.start.slots.items) ≡ c.work_on_threads.new.slots =
+    let whole : take c.args.start.slots.len (c.work_on_threads.new.slots ++ drop (length c.work_on_threads.new.slots) c.args.start.slots.items)
+    ≡ c.work_on_threads.new.slots =
     take_at c.work_on_threads.new.slots _ c.args.start.slots.len (search rules) in
     let many : length c.work_on_threads.new.slots ≡ length c.args.start.slots.items = search rules in
     let ran : AllRan (g.T.Tasks.behaviour c.args.tasks.now) c.args.start.backend.plan c.args.start.slots.items c.work_on_threads.new.slots = search rules in
@@ -50,6 +56,8 @@ returns-clause-ok g c =
       crew = all.0;
       first = len ∙ long_envelopes c.args.start.envelopes.items (first_messages c.args.plan.now) c.requires.start.envelopes;
       rows = c.requires.start.rows;
-      well = if_none c.fault_of-fault.result (λ all_well. well_gathered (g.T.Tasks.behaviour c.args.tasks.now) c.args.plan.now all.0.mates c.deref-3.result.now c.work_on_threads.new.slots c.args.start.tallies.items c.tally_all.new.tallies.items judged c.requires.start.tallies all.1 all.2 (all_well, counted))
+      well = if_none c.fault_of-fault.result
+          (λ all_well. well_gathered
+          (g.T.Tasks.behaviour c.args.tasks.now) c.args.plan.now all.0.mates c.deref-3.result.now c.work_on_threads.new.slots c.args.start.tallies.items c.tally_all.new.tallies.items judged c.requires.start.tallies all.1 all.2 (all_well, counted))
           (why_well c.deref-3.result.now c.fault_of-fault.result c.fault_of-fault.ensures);
     }

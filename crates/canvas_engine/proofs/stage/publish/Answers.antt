@@ -12,8 +12,12 @@ returns-in-Ok g c =
     let old = c.args.core.now in
     let table = c.args.table.now in
     let asks = handed_out c.in-Some.envelope old c.requires.inside (sym c.in-Some.ensures.value) in
-    let same : after_reply (g.T.Tasks.behaviour c.args.tasks.now) (book_in table.plan) c.envelope.new.self C.sent ≡ after_reply (g.T.Tasks.behaviour c.args.tasks.now) (book_in table.plan) old C.sent =
-    ap (λ s. after_reply (g.T.Tasks.behaviour c.args.tasks.now) (book_in table.plan) s C.sent) c.in-Some.ensures.core ∙ handed_same (g.T.Tasks.behaviour c.args.tasks.now) (book_in table.plan) old C.sent in
-    of_each c.answer.result (λ more. Stepped (g.T.Tasks.behaviour c.args.tasks.now) more old c.args.queue.now table c.answer.new.self c.publish.new.self table) (λ more.
-    answered_ok (g.T.Tasks.behaviour c.args.tasks.now) c.answer.result more old c.answer.new.self c.args.queue.now c.publish.new.self table table (C.send c.in-Some.envelope) C.sent asks tt c.requires.reads_back c.in-Ok.ensures.call refl refl
+    let same : after_reply (g.T.Tasks.behaviour c.args.tasks.now) (book_in table.plan) c.envelope.new.self C.sent
+    ≡ after_reply (g.T.Tasks.behaviour c.args.tasks.now) (book_in table.plan) old C.sent =
+    ap (λ s. after_reply (g.T.Tasks.behaviour c.args.tasks.now) (book_in table.plan) s C.sent) c.in-Some.ensures.core
+    ∙ handed_same (g.T.Tasks.behaviour c.args.tasks.now) (book_in table.plan) old C.sent in
+    of_each c.answer.result (λ more. Stepped (g.T.Tasks.behaviour c.args.tasks.now) more old c.args.queue.now table c.answer.new.self c.publish.new.self table)
+    (λ more.
+    answered_ok (g.T.Tasks.behaviour c.args.tasks.now) c.answer.result more old c.answer.new.self c.args.queue.now c.publish.new.self table table
+    (C.send c.in-Some.envelope) C.sent asks tt c.requires.reads_back c.in-Ok.ensures.call refl refl
     (subst (λ s. OnOk c.answer.result (c.answer.new.self ≡ s)) same c.answer.ensures.ok))

@@ -12,30 +12,42 @@ pub returns-in-Store-clause-err : goal.returns-in-Store-clause-err
 returns-in-Store-clause-err g c =
     let old = c.args.core.now in
     answered_err (g.T.Tasks.behaviour c.args.tasks.now) c.answer-in-Store.result c.args.more old old c.args.queue.now c.args.queue.now c.args.table.now c.store-stored.new.self
-    (C.keep c.in-Store.task c.in-Store.outcome) (C.kept (says_first c.store-stored.result)) (is_store _ c.in-Store.task c.in-Store.outcome (asked old.left) (sym c.in-Store.ensures.ask))
-    (stored_says c.store-stored.result _ c.store-stored.ensures.reply) (c.in-Store.ensures.reads_back c.requires.inside) c.store-stored.ensures.after c.store-stored.ensures.plan
+    (C.keep c.in-Store.task c.in-Store.outcome) (C.kept (says_first c.store-stored.result))
+    (is_store _ c.in-Store.task c.in-Store.outcome (asked old.left) (sym c.in-Store.ensures.ask))
+    (stored_says c.store-stored.result _ c.store-stored.ensures.reply)
+    (c.in-Store.ensures.reads_back c.requires.inside) c.store-stored.ensures.after c.store-stored.ensures.plan
 
 pub returns-in-Part-clause-err : goal.returns-in-Part-clause-err
 returns-in-Part-clause-err g c =
     let old = c.args.core.now in
     answered_err (g.T.Tasks.behaviour c.args.tasks.now) c.answer-in-Part.result c.args.more old old c.args.queue.now c.args.queue.now c.args.table.now c.part-count.new.self
-    (C.part c.in-Part.group c.in-Part.task) (C.counted c.part-count.result) (is_part _ c.in-Part.group c.in-Part.task (asked old.left) (sym c.in-Part.ensures.ask))
-    (counted_says c.part-count.result _ c.part-count.ensures.reply) (c.in-Part.ensures.reads_back c.requires.inside) c.part-count.ensures.after c.part-count.ensures.plan
+    (C.part c.in-Part.group c.in-Part.task) (C.counted c.part-count.result)
+    (is_part _ c.in-Part.group c.in-Part.task (asked old.left) (sym c.in-Part.ensures.ask))
+    (counted_says c.part-count.result _ c.part-count.ensures.reply)
+    (c.in-Part.ensures.reads_back c.requires.inside) c.part-count.ensures.after c.part-count.ensures.plan
 
 pub returns-in-Take-clause-again : goal.returns-in-Take-clause-again
-returns-in-Take-clause-again g c = none_counted (held c.args.table.now) c.args.core.now.task (asked c.args.core.now.left) A.Take c.args.repeats.now c.in-Take.ensures.ask refl
+returns-in-Take-clause-again g c =
+    none_counted (held c.args.table.now) c.args.core.now.task (asked c.args.core.now.left) A.Take c.args.repeats.now c.in-Take.ensures.ask refl
 
 pub returns-in-Publish-clause-again : goal.returns-in-Publish-clause-again
-returns-in-Publish-clause-again g c = none_counted (held c.args.table.now) c.args.core.now.task (asked c.args.core.now.left) A.Publish c.args.repeats.now c.in-Publish.ensures.ask refl
+returns-in-Publish-clause-again g c =
+    none_counted (held c.args.table.now) c.args.core.now.task (asked c.args.core.now.left) A.Publish c.args.repeats.now c.in-Publish.ensures.ask refl
 
 pub returns-in-Part-clause-again : goal.returns-in-Part-clause-again
-returns-in-Part-clause-again g c = none_counted (held c.args.table.now) c.args.core.now.task (asked c.args.core.now.left) (A.Part c.in-Part.group c.in-Part.task) c.args.repeats.now c.in-Part.ensures.ask refl
+returns-in-Part-clause-again g c =
+    none_counted (held c.args.table.now) c.args.core.now.task (asked c.args.core.now.left)
+    (A.Part c.in-Part.group c.in-Part.task) c.args.repeats.now c.in-Part.ensures.ask refl
 
 pub returns-in-Read-clause-again : goal.returns-in-Read-clause-again
-returns-in-Read-clause-again g c = none_counted (held c.args.table.now) c.args.core.now.task (asked c.args.core.now.left) (A.Read c.in-Read.group c.in-Read.place) c.args.repeats.now c.in-Read.ensures.ask refl
+returns-in-Read-clause-again g c =
+    none_counted (held c.args.table.now) c.args.core.now.task (asked c.args.core.now.left)
+    (A.Read c.in-Read.group c.in-Read.place) c.args.repeats.now c.in-Read.ensures.ask refl
 
 pub returns-in-Ack-clause-again : goal.returns-in-Ack-clause-again
-returns-in-Ack-clause-again g c = none_counted (held c.args.table.now) c.args.core.now.task (asked c.args.core.now.left) (A.Ack c.in-Ack.field-0) c.args.repeats.now c.in-Ack.ensures.ask refl
+returns-in-Ack-clause-again g c =
+    none_counted (held c.args.table.now) c.args.core.now.task (asked c.args.core.now.left) (A.Ack c.in-Ack.field-0) c.args.repeats.now c.in-Ack.ensures.ask refl
 
 pub returns-in-Rest-clause-again : goal.returns-in-Rest-clause-again
-returns-in-Rest-clause-again g c = none_counted (held c.args.table.now) c.args.core.now.task (asked c.args.core.now.left) A.Rest c.args.repeats.now c.in-Rest.ensures.ask refl
+returns-in-Rest-clause-again g c =
+    none_counted (held c.args.table.now) c.args.core.now.task (asked c.args.core.now.left) A.Rest c.args.repeats.now c.in-Rest.ensures.ask refl

@@ -11,4 +11,5 @@ returns-clause-ok g c =
 pub returns-clause-err : goal.returns-clause-err
 returns-clause-err g c =
     let plan = c.in_ok-plan.ensures.ok in
-    ran_fault (g.T.Tasks.behaviour c.args.tasks.now) c.args.bytes.now plan.0 c.in_ok-plan.plan plan.1 (IsRunFault c.args.workers c.args.turns.now) c.plan_text.result c.plan_text.ensures.err
+    ran_fault (g.T.Tasks.behaviour c.args.tasks.now) c.args.bytes.now plan.0 c.in_ok-plan.plan plan.1
+    (IsRunFault c.args.workers c.args.turns.now) c.plan_text.result c.plan_text.ensures.err

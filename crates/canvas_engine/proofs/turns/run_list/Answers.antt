@@ -13,7 +13,8 @@ pub returns-in-Err-clause-err : goal.returns-in-Err-clause-err
 returns-in-Err-clause-err g c = λ most es reached.
     let here = c.loop-worker.invariant most es reached in
     let i = c.loop-worker.worker-index in
-    halt_in_list (g.T.Tasks.behaviour c.args.tasks.now) c.args.plan.now c.args.workers most es c.args.turns.now c.in-Err.cause (take i c.args.turns.now) (drop i c.args.turns.now) _ (take-append-drop i c.args.turns.now)
+    halt_in_list (g.T.Tasks.behaviour c.args.tasks.now) c.args.plan.now c.args.workers most es c.args.turns.now c.in-Err.cause (take i c.args.turns.now)
+    (drop i c.args.turns.now) _ (take-append-drop i c.args.turns.now)
     (c.in-Err.ensures.err c.args.workers most es (take i c.args.turns.now) here.0 here.1)
 
 pub loop-worker-preserved : goal.loop-worker-preserved

@@ -12,7 +12,8 @@ turn-requires g c =
 pub returns-in-Err-clause-err : goal.returns-in-Err-clause-err
 returns-in-Err-clause-err g c = λ most es us xs reached.
     let part = part_reached (g.T.Tasks.behaviour c.args.tasks.now) c.args.plan.now c.args.workers most es us xs c.loop-index.answered c.loop-index.index _ c.loop-index.stage (c.loop-index.invariant most es us xs reached) in
-    halt_in_round (g.T.Tasks.behaviour c.args.tasks.now) c.args.plan.now c.args.workers most es us xs c.in-Err.cause c.loop-index.index _ (omega (arith, c.loop-index-test.true)) (c.in-Err.ensures.err c.args.workers most es _ part.0 part.1)
+    halt_in_round (g.T.Tasks.behaviour c.args.tasks.now) c.args.plan.now c.args.workers most es us xs c.in-Err.cause c.loop-index.index _
+    (omega (arith, c.loop-index-test.true)) (c.in-Err.ensures.err c.args.workers most es _ part.0 part.1)
 
 pub loop-index-preserved : goal.loop-index-preserved
 loop-index-preserved g c = λ most es us xs reached.
@@ -20,5 +21,6 @@ loop-index-preserved g c = λ most es us xs reached.
 
 pub returns-clause-ok : goal.returns-clause-ok
 returns-clause-ok g c = λ most es us xs reached.
-    subst (λ i. IsPartOfRound (g.T.Tasks.behaviour c.args.tasks.now) c.loop-index.answered c.args.plan.now c.args.workers most es us xs i c.args.stage.now.steps c.loop-index.stage)
+    subst (λ i. IsPartOfRound
+    (g.T.Tasks.behaviour c.args.tasks.now) c.loop-index.answered c.args.plan.now c.args.workers most es us xs i c.args.stage.now.steps c.loop-index.stage)
     (omega (arith, c.loop-index-test.false, c.loop-index.auto.index-end)) (c.loop-index.invariant most es us xs reached)

@@ -7,4 +7,5 @@ use Rattle.canvas_engine.proofs.turns.run_round.Given as goal
 -- a part of the round has been taken
 abbrev pub invariant-loop-index : goal.invariant-loop-index
 invariant-loop-index g l =
-    (most : ℕ) (es : List Entry) (us : List ℕ) (xs : List Step) → Reached (g.T.Tasks.behaviour l.tasks) l.plan l.workers most es us xs l.fn.stage → IsPartOfRound (g.T.Tasks.behaviour l.tasks) l.answered l.plan l.workers most es us xs l.index l.fn.stage.steps l.stage
+    (most : ℕ) (es : List Entry) (us : List ℕ) (xs : List Step) → Reached (g.T.Tasks.behaviour l.tasks) l.plan l.workers most es us xs l.fn.stage
+    → IsPartOfRound (g.T.Tasks.behaviour l.tasks) l.answered l.plan l.workers most es us xs l.index l.fn.stage.steps l.stage

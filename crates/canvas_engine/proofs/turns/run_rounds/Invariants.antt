@@ -6,7 +6,8 @@ use Rattle.canvas_engine.proofs.turns.run_rounds.Given as goal
 
 -- some rounds have been taken behind the list
 abbrev pub invariant-loop-cause : goal.invariant-loop-cause
-invariant-loop-cause g l = (most : ℕ) (es : List Entry) → HasReached (g.T.Tasks.behaviour l.tasks) l.plan l.workers most es l.turns l.fn.stage → (k : ℕ) × HasReached (g.T.Tasks.behaviour l.tasks) l.plan l.workers most es (l.turns ++ rounds l.workers k) l.stage
+invariant-loop-cause g l = (most : ℕ) (es : List Entry) → HasReached (g.T.Tasks.behaviour l.tasks) l.plan l.workers most es l.turns l.fn.stage
+    → (k : ℕ) × HasReached (g.T.Tasks.behaviour l.tasks) l.plan l.workers most es (l.turns ++ rounds l.workers k) l.stage
 
 abbrev pub decreases-loop-cause : goal.decreases-loop-cause
 decreases-loop-cause g l = l.stage.steps

@@ -5,5 +5,6 @@ use Rattle.canvas_export.proofs.by_script.push_databases.Goals as goal
 
 pub returns : goal.returns
 returns c =
-    last_word c.push_database-2.result c.args.out.now.items c.push_database.new.out.items c.push_database-2.new.out.items (database_word c.args.backend ∷ []) (database_word c.args.broker)
+    last_word c.push_database-2.result c.args.out.now.items c.push_database.new.out.items c.push_database-2.new.out.items (database_word c.args.backend ∷ [])
+    (database_word c.args.broker)
     (first_word c.args.out.now.items c.push_database.new.out.items (database_word c.args.backend) c.in_ok-push_database.ensures) c.push_database-2.ensures

@@ -21,15 +21,19 @@ returns c =
     let o = c.begin_command.new.out.items in
     let keyed = then_words o c.push_head.new.out.items c.push_size_keys.new.out.items head keys c.in_ok-push_head.ensures c.in_ok-push_size_keys.ensures in
     let set = then_words o c.push_size_keys.new.out.items c.push_settings.new.out.items (head ++ keys) settings keyed c.in_ok-push_settings.ensures in
-    let counted = then_words o c.push_settings.new.out.items c.push_members.new.out.items ((head ++ keys) ++ settings) counts set c.in_ok-push_members.ensures in
-    let sent = then_words o c.push_members.new.out.items c.push_texts.new.out.items (((head ++ keys) ++ settings) ++ counts) messages counted c.in_ok-push_texts.ensures in
+    let counted = then_words o c.push_settings.new.out.items c.push_members.new.out.items
+    ((head ++ keys) ++ settings) counts set c.in_ok-push_members.ensures in
+    let sent = then_words o c.push_members.new.out.items c.push_texts.new.out.items
+    (((head ++ keys) ++ settings) ++ counts) messages counted c.in_ok-push_texts.ensures in
     let all = last_word c.push_word.result o c.push_texts.new.out.items c.push_word.new.out.items ((((head ++ keys) ++ settings) ++ counts) ++ messages) (codes "whole") sent c.push_word.ensures in
     let seen = map size_view sizes in
     let key : ℕ × ℕ → Text = λ z. size_key run t.prefix.now z.0 in
     let count : ℕ × ℕ → Text = λ z. decimal z.1 in
     let F : ℕ → List Text → List Text → List Text = λ n ks cs. codes "EVAL" ∷ script ∷ decimal (n + 2) ∷ marker_key run t.prefix.now ∷ t.queue.now ∷ (ks ++ (settings ++ (cs ++ (messages ++ codes "whole" ∷ [])))) in
     let same : F (length sizes) keys counts ≡ F (length seen) (map key seen) (map count seen) =
-    ap (λ n. F n keys counts) (sym (length-map size_view sizes)) ∙ (ap (λ ks. F (length seen) ks counts) (sym (maps key size_view sizes)) ∙ ap (λ cs. F (length seen) (map key seen) cs) (sym (maps count size_view sizes))) in
+    ap (λ n. F n keys counts) (sym (length-map size_view sizes))
+    ∙ (ap (λ ks. F (length seen) ks counts) (sym (maps key size_view sizes))
+    ∙ ap (λ cs. F (length seen) (map key seen) cs) (sym (maps count size_view sizes))) in
     let long : length settings ≡ 3 = three_settings (decimal t.expires) t.databases in
     ok_command_as c.push_word.result c.args.out.now.items c.push_word.new.out.items _ _
     (in_order head keys settings counts messages (codes "whole") ∙ same)

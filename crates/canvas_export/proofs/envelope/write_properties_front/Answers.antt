@@ -6,6 +6,7 @@ use Rattle.canvas_export.proofs.envelope.write_properties_front.Goals as goal
 pub returns : goal.returns
 returns c =
     let begun = c.in_ok-begin_object.ensures in
-    let first = then_tokens c.args.out.now c.begin_object.new.self c.write_text.new.out (begin_object ∷ []) _ (begun.ok, begun.room.0) c.in_ok-write_text.ensures in
+    let first = then_tokens c.args.out.now c.begin_object.new.self c.write_text.new.out (begin_object ∷ []) _
+    (begun.ok, begun.room.0) c.in_ok-write_text.ensures in
     let second = then_tokens c.args.out.now c.write_text.new.out c.write_task_member.new.out _ _ first c.in_ok-write_task_member.ensures in
     after_ok c.write_delivery.result c.args.out.now c.write_task_member.new.out c.write_delivery.new.out _ _ _ second c.write_delivery.ensures refl

@@ -8,14 +8,17 @@ line_node-returns-in-None t c =
 
 pub line_node-returns-in_ok-push-in-Some : goal.line_node-returns-in_ok-push-in-Some
 line_node-returns-in_ok-push-in-Some t c =
-    c.whole.ensures ∙ node_some c.args.line.now _ (c.deref.ensures.value ∙ c.get.ensures) c.in_ok-nodes.nodes.items c.in_ok-nodes.ensures c.in-Some.end c.in-Some.is
+    c.whole.ensures ∙ node_some c.args.line.now _
+    (c.deref.ensures.value ∙ c.get.ensures) c.in_ok-nodes.nodes.items c.in_ok-nodes.ensures c.in-Some.end c.in-Some.is
     c.in_ok-end_node-in-Some.field-0 c.deref-in-Some.result.now c.deref-in-Some.ensures c.in_ok-end_node-in-Some.ensures _ c.in_ok-push-in-Some.ensures.items
 
 pub end_node-returns-in-None : goal.end_node-returns-in-None
 end_node-returns-in-None t c =
-    end_group c.args.end.now _ (c.deref.ensures.value ∙ c.get.ensures) c.in_ok-line_nodes.field-0.items c.of-members.result c.of-members.ensures c.in_ok-line_nodes.ensures c.in-None.is
+    end_group c.args.end.now _
+    (c.deref.ensures.value ∙ c.get.ensures) c.in_ok-line_nodes.field-0.items c.of-members.result c.of-members.ensures c.in_ok-line_nodes.ensures c.in-None.is
 
 pub end_node-returns-in_ok-body-in-Some : goal.end_node-returns-in_ok-body-in-Some
 end_node-returns-in_ok-body-in-Some t c =
-    end_chord c.args.end.now _ (c.deref.ensures.value ∙ c.get.ensures) c.in_ok-line_nodes.field-0.items c.of-members.result c.of-members.ensures c.in_ok-line_nodes.ensures
+    end_chord c.args.end.now _
+    (c.deref.ensures.value ∙ c.get.ensures) c.in_ok-line_nodes.field-0.items c.of-members.result c.of-members.ensures c.in_ok-line_nodes.ensures
     c.in-Some.body c.in-Some.is c.in_ok-line_node-in-Some.field-0 c.in_ok-body-in-Some.body c.in_ok-body-in-Some.ensures.ok c.in_ok-line_node-in-Some.ensures

@@ -6,4 +6,5 @@ use Rattle.canvas_rewrite.proofs.groups.+groups.Given as goal
 
 abbrev pub invariant-push_all_groups-loop-line : goal.invariant-push_all_groups-loop-line
 invariant-push_all_groups-loop-line l =
-    map group_entry l.groups.items ++ lines_group_entries (map line_in (drop l.line-index l.lines)) ≡ map group_entry l.fn.groups.items ++ lines_group_entries (map line_in l.lines)
+    map group_entry l.groups.items ++ lines_group_entries (map line_in (drop l.line-index l.lines)) ≡ map group_entry l.fn.groups.items
+    ++ lines_group_entries (map line_in l.lines)

@@ -19,15 +19,22 @@ move_all_onto-loop-node-preserved t c = (
 )
 
 pub move_onto-move_all_onto-requires : goal.move_onto-move_all_onto-requires
-move_onto-move_all_onto-requires t c = (omega (arith, c.decreases, in_chain c.args.node c.in-Chain.nodes c.into_plain.result.items c.in-Chain.is c.into_plain.ensures), tt)
+move_onto-move_all_onto-requires t c =
+    (omega (arith, c.decreases, in_chain c.args.node c.in-Chain.nodes c.into_plain.result.items c.in-Chain.is c.into_plain.ensures), tt)
 
 pub move_onto-move_lines-requires : goal.move_onto-move_lines-requires
 move_onto-move_lines-requires t c =
     (omega (arith, c.decreases, in_group c.args.node c.in-Group.nodes c.into_plain-in-Group.result.items c.in-Group.is c.into_plain-in-Group.ensures), tt)
 
 pub move_onto-move_lines-requires-in-Chord : goal.move_onto-move_lines-requires-in-Chord
-move_onto-move_lines-requires-in-Chord t c =
-    (omega (arith, c.decreases, in_header c.args.node c.in-Chord.header c.into_plain-in-Chord.result.items c.in-Chord.body c.in-Chord.is c.into_plain-in-Chord.ensures), tt)
+move_onto-move_lines-requires-in-Chord t c = (
+  omega (
+    arith,
+    c.decreases,
+    in_header c.args.node c.in-Chord.header c.into_plain-in-Chord.result.items c.in-Chord.body c.in-Chord.is c.into_plain-in-Chord.ensures,
+  ),
+  tt,
+)
 
 pub move_onto-returns-in_ok-move_lines-in-Group : goal.move_onto-returns-in_ok-move_lines-in-Group
 move_onto-returns-in_ok-move_lines-in-Group t c =

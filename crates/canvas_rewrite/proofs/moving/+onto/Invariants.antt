@@ -10,7 +10,8 @@ use Rattle.canvas_rewrite.proofs.moving.+onto.Given as goal
 -- what is left goes onto the line so far
 abbrev pub invariant-move_all_onto-loop-node : goal.invariant-move_all_onto-loop-node
 invariant-move_all_onto-loop-node l =
-    (all_onto (trees_of (map view l.left.items)) (growing l.line) ≡ all_onto (trees_of (map view l.fn.nodes.items)) (growing l.fn.after)) × (weight_of l.left.items ≤ weight_of l.fn.nodes.items)
+    (all_onto (trees_of (map view l.left.items)) (growing l.line) ≡ all_onto (trees_of (map view l.fn.nodes.items)) (growing l.fn.after))
+    × (weight_of l.left.items ≤ weight_of l.fn.nodes.items)
 
 abbrev pub invariant-move_lines-loop-node : goal.invariant-move_lines-loop-node
 invariant-move_lines-loop-node l =

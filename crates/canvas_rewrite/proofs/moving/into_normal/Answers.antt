@@ -8,16 +8,19 @@ use Rattle.canvas_rewrite.proofs.moving.into_normal.Goals as goal
 
 pub returns-clause-value : goal.returns-clause-value
 returns-clause-value c =
-    ap chain (c.into_line.ensures ∙ c.in_ok-line.ensures ∙ ap (onto (view c.into_node.result)) c.empty.ensures ∙ ap (λ t. onto t no_trees) c.into_node.ensures.seen)
+    ap chain (c.into_line.ensures ∙ c.in_ok-line.ensures ∙ ap (onto (view c.into_node.result)) c.empty.ensures
+    ∙ ap (λ t. onto t no_trees) c.into_node.ensures.seen)
 
 pub returns-clause-meaning : goal.returns-clause-meaning
 returns-clause-meaning c =
     let line : line_view c.into_line.result ≡ normal c.args.canvas =
-    ap chain (c.into_line.ensures ∙ c.in_ok-line.ensures ∙ ap (onto (view c.into_node.result)) c.empty.ensures ∙ ap (λ t. onto t no_trees) c.into_node.ensures.seen) in
+    ap chain (c.into_line.ensures ∙ c.in_ok-line.ensures ∙ ap (onto (view c.into_node.result)) c.empty.ensures
+    ∙ ap (λ t. onto t no_trees) c.into_node.ensures.seen) in
     (same_line c.args.canvas (line_view c.into_line.result) c.into_node.ensures.checked line).0
 
 pub returns-clause-runnable : goal.returns-clause-runnable
 returns-clause-runnable c =
     let line : line_view c.into_line.result ≡ normal c.args.canvas =
-    ap chain (c.into_line.ensures ∙ c.in_ok-line.ensures ∙ ap (onto (view c.into_node.result)) c.empty.ensures ∙ ap (λ t. onto t no_trees) c.into_node.ensures.seen) in
+    ap chain (c.into_line.ensures ∙ c.in_ok-line.ensures ∙ ap (onto (view c.into_node.result)) c.empty.ensures
+    ∙ ap (λ t. onto t no_trees) c.into_node.ensures.seen) in
     (same_line c.args.canvas (line_view c.into_line.result) c.into_node.ensures.checked line).1

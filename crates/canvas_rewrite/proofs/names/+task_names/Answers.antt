@@ -13,7 +13,8 @@ push_task-returns t c =
     let links = ap (λ ts. tasks_all_names (map task_in ts)) (c.deref.ensures.value ∙ c.get.ensures) in
     let errbacks = ap (λ ts. tasks_all_names (map task_in ts)) (c.deref-2.ensures.value ∙ c.get-2.ensures) in
     ok_same _ _ (c.push_tasks.new.found.items ++ tasks_all_names (map task_in c.deref-2.result.now)) _
-    (two before task.name _ _ (tasks_all_names (map task_in task.links)) (tasks_all_names (map task_in task.errbacks)) c.push.new.self.items c.push_tasks.new.found.items
+    (two before task.name _ _ (tasks_all_names (map task_in task.links))
+    (tasks_all_names (map task_in task.errbacks)) c.push.new.self.items c.push_tasks.new.found.items
     (c.in_ok-push.ensures.items ∙ ap (λ n. before ++ n ∷ []) c.in_ok-clone.ensures.cases) c.in_ok-push_tasks.ensures links errbacks
     ∙ ap (λ ns. before ++ ns) (sym (task_named c.args.task.now)))
     c.push_tasks-2.ensures

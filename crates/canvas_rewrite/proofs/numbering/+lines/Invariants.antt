@@ -18,4 +18,5 @@ invariant-freeze_lines-loop-line l =
     (1 ≤ l.task) × (1 ≤ l.group) × (l.fn.group ≤ l.group)
     × (l.task + lines_count (map line_of (drop l.line-index l.lines)) ≡ l.fn.task + lines_count (map line_of l.lines))
     × (l.group + lines_group_count (map line_of (drop l.line-index l.lines)) ≡ l.fn.group + lines_group_count (map line_of l.lines))
-    × (map p_line_view l.frozen.items ++ lines_from l.task l.group (map line_of (drop l.line-index l.lines)) ≡ lines_from l.fn.task l.fn.group (map line_of l.lines))
+    × (map p_line_view l.frozen.items ++ lines_from l.task l.group (map line_of (drop l.line-index l.lines))
+    ≡ lines_from l.fn.task l.fn.group (map line_of l.lines))

@@ -8,15 +8,20 @@ use Rattle.canvas_rewrite.proofs.numbering.+tasks.Goals as goal
 pub freeze_task-freeze_tasks-requires : goal.freeze_task-freeze_tasks-requires
 freeze_task-freeze_tasks-requires t c =
     let s : TaskSig = c.args.sig.now in
-    let same : tasks_in (map task_view c.deref.result.now) ≡ tasks_in (map task_view (out-TaskSig s).links) = ap (λ ss. tasks_in (map task_view ss)) (c.deref.ensures.value ∙ c.get.ensures) in
+    let same : tasks_in (map task_view c.deref.result.now) ≡ tasks_in (map task_view (out-TaskSig s).links) =
+    ap (λ ss. tasks_in (map task_view ss)) (c.deref.ensures.value ∙ c.get.ensures) in
     (omega (arith, same, task_counted s), (omega arith, omega (arith, same, c.requires.few, task_counted s)))
 
 pub freeze_task-freeze_tasks-requires-2 : goal.freeze_task-freeze_tasks-requires-2
 freeze_task-freeze_tasks-requires-2 t c =
     let s : TaskSig = c.args.sig.now in
-    let same : tasks_in (map task_view c.deref.result.now) ≡ tasks_in (map task_view (out-TaskSig s).links) = ap (λ ss. tasks_in (map task_view ss)) (c.deref.ensures.value ∙ c.get.ensures) in
-    let same_too : tasks_in (map task_view c.deref-2.result.now) ≡ tasks_in (map task_view (out-TaskSig s).errbacks) = ap (λ ss. tasks_in (map task_view ss)) (c.deref-2.ensures.value ∙ c.get-2.ensures) in
-    (omega (arith, same_too, task_counted s), (omega (arith, c.in_ok-links.ensures.next), omega (arith, same, same_too, c.in_ok-links.ensures.next, c.requires.few, task_counted s)))
+    let same : tasks_in (map task_view c.deref.result.now) ≡ tasks_in (map task_view (out-TaskSig s).links) =
+    ap (λ ss. tasks_in (map task_view ss)) (c.deref.ensures.value ∙ c.get.ensures) in
+    let same_too : tasks_in (map task_view c.deref-2.result.now) ≡ tasks_in (map task_view (out-TaskSig s).errbacks) =
+    ap (λ ss. tasks_in (map task_view ss)) (c.deref-2.ensures.value ∙ c.get-2.ensures) in (
+      omega (arith, same_too, task_counted s),
+      (omega (arith, c.in_ok-links.ensures.next), omega (arith, same, same_too, c.in_ok-links.ensures.next, c.requires.few, task_counted s)),
+    )
 
 pub freeze_task-returns-clause-value : goal.freeze_task-returns-clause-value
 freeze_task-returns-clause-value t c =

@@ -41,4 +41,5 @@ pub returns-clause-line : goal.returns-clause-line
 returns-clause-line c = ap strip c.in_ok-frozen.ensures.value ∙ strip_bare (number_line 1 1 (line_of c.args.line.now))
 
 pub returns-clause-tree : goal.returns-clause-tree
-returns-clause-tree c = ap tree_of (ap strip c.in_ok-frozen.ensures.value ∙ strip_bare (number_line 1 1 (line_of c.args.line.now))) ∙ tree_numbered (line_of c.args.line.now)
+returns-clause-tree c = ap tree_of (ap strip c.in_ok-frozen.ensures.value ∙ strip_bare (number_line 1 1 (line_of c.args.line.now)))
+    ∙ tree_numbered (line_of c.args.line.now)

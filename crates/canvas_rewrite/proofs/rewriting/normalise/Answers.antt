@@ -13,11 +13,13 @@ returns-clause-value c =
 pub returns-clause-meaning : goal.returns-clause-meaning
 returns-clause-meaning c =
     let line : line_view c.into_line.result ≡ normal c.args.canvas.now =
-    ap chain (c.into_line.ensures ∙ c.in_ok-line.ensures ∙ ap (onto (view c.node.result.now)) c.empty.ensures ∙ ap (λ t. onto t no_trees) c.node.ensures.seen) in
+    ap chain (c.into_line.ensures ∙ c.in_ok-line.ensures ∙ ap (onto (view c.node.result.now)) c.empty.ensures
+    ∙ ap (λ t. onto t no_trees) c.node.ensures.seen) in
     (same_line c.args.canvas.now (line_view c.into_line.result) c.node.ensures.checked line).0
 
 pub returns-clause-runnable : goal.returns-clause-runnable
 returns-clause-runnable c =
     let line : line_view c.into_line.result ≡ normal c.args.canvas.now =
-    ap chain (c.into_line.ensures ∙ c.in_ok-line.ensures ∙ ap (onto (view c.node.result.now)) c.empty.ensures ∙ ap (λ t. onto t no_trees) c.node.ensures.seen) in
+    ap chain (c.into_line.ensures ∙ c.in_ok-line.ensures ∙ ap (onto (view c.node.result.now)) c.empty.ensures
+    ∙ ap (λ t. onto t no_trees) c.node.ensures.seen) in
     (same_line c.args.canvas.now (line_view c.into_line.result) c.node.ensures.checked line).1

@@ -10,4 +10,5 @@ pub returns-in-None-clause-reading : goal.returns-in-None-clause-reading
 returns-in-None-clause-reading c = read_whole c.args.bytes.now (view c.in_ok-node.node) c.in_ok-node.ensures.reading (sym c.in-None.ensures)
 
 pub returns-in-Some-clause-reading : goal.returns-in-Some-clause-reading
-returns-in-Some-clause-reading c = λ other. refused_whole c.args.bytes.now (view c.in_ok-node.node) c.in-Some.fault c.in_ok-node.ensures.reading (sym c.in-Some.ensures)
+returns-in-Some-clause-reading c =
+    λ other. refused_whole c.args.bytes.now (view c.in_ok-node.node) c.in-Some.fault c.in_ok-node.ensures.reading (sym c.in-Some.ensures)

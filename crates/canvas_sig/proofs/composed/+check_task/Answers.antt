@@ -20,4 +20,5 @@ pub check_task-returns-clause-composed : goal.check_task-returns-clause-composed
 check_task-returns-clause-composed t c =
     let links = subst (λ xs. TasksComposed (tasks_of (map task_view xs))) (c.deref.ensures.value ∙ c.get.ensures) c.in_ok-check_tasks.ensures.composed in
     on_ok c.check_tasks-2.result _ _ c.check_tasks-2.ensures.composed
-    (λ fits. task_composed c.args.sig.now c.in_ok-check_call.ensures.ordered links (subst (λ xs. TasksComposed (tasks_of (map task_view xs))) (c.deref-2.ensures.value ∙ c.get-2.ensures) fits))
+    (λ fits. task_composed c.args.sig.now c.in_ok-check_call.ensures.ordered links
+    (subst (λ xs. TasksComposed (tasks_of (map task_view xs))) (c.deref-2.ensures.value ∙ c.get-2.ensures) fits))

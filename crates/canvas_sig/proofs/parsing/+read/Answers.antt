@@ -35,13 +35,16 @@ read_value-returns-then-left-eq0-2-clause-err t c never =
 pub read_value-returns-in_err-read_items-in-BeginArray-clause-err : goal.read_value-returns-in_err-read_items-in-BeginArray-clause-err
 read_value-returns-in_err-read_items-in-BeginArray-clause-err t c refused =
     let first : c.args.reader.now ≡ token_of c.in_ok-token.token ∷ c.next.new.self = grind arith in
-    let opened = ap (converted of_json) (ap (value c.args.left) (first ∙ ap (λ k. token_of k ∷ c.next.new.self) c.in-BeginArray.is) ∙ value-begin_array c.args.left c.next.new.self (omega arith)) ∙ of_array (items (value (c.args.left - 1)) (length c.next.new.self) c.next.new.self) in
+    let opened = ap (converted of_json) (ap (value c.args.left) (first ∙ ap (λ k. token_of k ∷ c.next.new.self) c.in-BeginArray.is)
+    ∙ value-begin_array c.args.left c.next.new.self (omega arith)) ∙ of_array (items (value (c.args.left - 1)) (length c.next.new.self) c.next.new.self) in
     opened ∙ ap (parse_map array) (c.read_items.ensures.err (grind arith))
 
 pub read_value-returns-in_err-read_members-in-BeginObject-clause-err : goal.read_value-returns-in_err-read_members-in-BeginObject-clause-err
 read_value-returns-in_err-read_members-in-BeginObject-clause-err t c refused =
     let first : c.args.reader.now ≡ token_of c.in_ok-token.token ∷ c.next.new.self = grind arith in
-    let opened = ap (converted of_json) (ap (value c.args.left) (first ∙ ap (λ k. token_of k ∷ c.next.new.self) c.in-BeginObject.is) ∙ value-begin_object c.args.left c.next.new.self (omega arith)) ∙ of_object (members (value (c.args.left - 1)) (length c.next.new.self) c.next.new.self) in
+    let opened = ap (converted of_json) (ap (value c.args.left) (first ∙ ap (λ k. token_of k ∷ c.next.new.self) c.in-BeginObject.is)
+    ∙ value-begin_object c.args.left c.next.new.self (omega arith))
+    ∙ of_object (members (value (c.args.left - 1)) (length c.next.new.self) c.next.new.self) in
     opened ∙ ap (parse_map object) (c.read_members.ensures.err (grind arith))
 
 pub read_value-returns-in-String-clause-ok : goal.read_value-returns-in-String-clause-ok
@@ -87,14 +90,17 @@ read_value-returns-in-EndObject-clause-err t c refused =
 pub read_value-returns-in_ok-read_items-in-BeginArray-clause-ok : goal.read_value-returns-in_ok-read_items-in-BeginArray-clause-ok
 read_value-returns-in_ok-read_items-in-BeginArray-clause-ok t c =
     let first : c.args.reader.now ≡ token_of c.in_ok-token.token ∷ c.next.new.self = grind arith in
-    let opened = ap (converted of_json) (ap (value c.args.left) (first ∙ ap (λ k. token_of k ∷ c.next.new.self) c.in-BeginArray.is) ∙ value-begin_array c.args.left c.next.new.self (omega arith)) ∙ of_array (items (value (c.args.left - 1)) (length c.next.new.self) c.next.new.self) in
+    let opened = ap (converted of_json) (ap (value c.args.left) (first ∙ ap (λ k. token_of k ∷ c.next.new.self) c.in-BeginArray.is)
+    ∙ value-begin_array c.args.left c.next.new.self (omega arith)) ∙ of_array (items (value (c.args.left - 1)) (length c.next.new.self) c.next.new.self) in
     let found = c.in_ok-read_items-in-BeginArray in
     opened ∙ ap (parse_map array) found.ensures.ok ∙ ap (λ d. Some (d, c.read_items.new.reader)) (sym (view-List found.field-0))
 
 pub read_value-returns-in_ok-read_members-in-BeginObject-clause-ok : goal.read_value-returns-in_ok-read_members-in-BeginObject-clause-ok
 read_value-returns-in_ok-read_members-in-BeginObject-clause-ok t c =
     let first : c.args.reader.now ≡ token_of c.in_ok-token.token ∷ c.next.new.self = grind arith in
-    let opened = ap (converted of_json) (ap (value c.args.left) (first ∙ ap (λ k. token_of k ∷ c.next.new.self) c.in-BeginObject.is) ∙ value-begin_object c.args.left c.next.new.self (omega arith)) ∙ of_object (members (value (c.args.left - 1)) (length c.next.new.self) c.next.new.self) in
+    let opened = ap (converted of_json) (ap (value c.args.left) (first ∙ ap (λ k. token_of k ∷ c.next.new.self) c.in-BeginObject.is)
+    ∙ value-begin_object c.args.left c.next.new.self (omega arith))
+    ∙ of_object (members (value (c.args.left - 1)) (length c.next.new.self) c.next.new.self) in
     let found = c.in_ok-read_members-in-BeginObject in
     opened ∙ ap (parse_map object) found.ensures.ok ∙ ap (λ d. Some (d, c.read_members.new.reader)) (sym (view-Object found.field-0))
 

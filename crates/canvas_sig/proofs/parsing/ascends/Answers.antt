@@ -13,6 +13,7 @@ loop-member-preserved c =
     let done = take l.member-index xs in
     let next = one_more xs l.member-index e _ (omega (arith, c.loop-member-test.true)) (sym c.member-item.is) in
     let below = l.invariant.1 e.0.now (c.follows.ensures (grind arith)) in (
-      ap (λ es. put_all es no_members) next ∙ put_pushed done e no_members ∙ ap (put e.0.now (view e.1)) l.invariant.0 ∙ put_last done e below ∙ ap (λ es. members_view es) (sym next),
+      ap (λ es. put_all es no_members) next ∙ put_pushed done e no_members ∙ ap (put e.0.now (view e.1)) l.invariant.0 ∙ put_last done e below
+          ∙ ap (λ es. members_view es) (sym next),
       λ k low. let P : List Named → Type 0 = λ es. AllBelow es k in subst P (sym next) (below_next done e k below low),
     )

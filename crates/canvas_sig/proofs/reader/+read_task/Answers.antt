@@ -21,4 +21,5 @@ read_task-returns t c =
 pub read_all_linked-loop-value-preserved : goal.read_all_linked-loop-value-preserved
 read_all_linked-loop-value-preserved t c =
     let step = next_item c.args.values.now c.loop-value.value-index c.value-item.result _ (omega (arith, c.loop-value-test.true)) (sym c.value-item.is) in
-    c.loop-value.invariant ∙ next_seen task_view (task_reading c.args.left) c.loop-value.tasks.items _ c.in_ok-read_linked.field-0 _ _ _ c.in_ok-push.ensures.items c.in_ok-read_linked.ensures step
+    c.loop-value.invariant ∙ next_seen task_view
+    (task_reading c.args.left) c.loop-value.tasks.items _ c.in_ok-read_linked.field-0 _ _ _ c.in_ok-push.ensures.items c.in_ok-read_linked.ensures step

@@ -10,4 +10,5 @@ invariant-members_known-loop-member g l =
 
 abbrev pub invariant-tasks_known-loop-task : goal.invariant-tasks_known-loop-task
 invariant-tasks_known-loop-task g l =
-    tasks_known (g.B.Book.book l.book) (p_tasks_of (map p_task_view l.tasks)) ≡ tasks_known (g.B.Book.book l.book) (p_tasks_of (map p_task_view (drop l.task-index l.tasks)))
+    tasks_known (g.B.Book.book l.book) (p_tasks_of (map p_task_view l.tasks))
+    ≡ tasks_known (g.B.Book.book l.book) (p_tasks_of (map p_task_view (drop l.task-index l.tasks)))

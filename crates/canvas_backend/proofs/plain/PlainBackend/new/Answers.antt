@@ -13,10 +13,12 @@ invariant_of-result c =
     let plan = c.in_ok-roster.roster in
     let slots : c.in_ok-slots.slots.items ≡ replicate c.tasks.result (record { outcome = None; returned = false }) = search rules in
     let counts : c.in_ok-counts.counts.items ≡ replicate c.groups.result 0 = search rules in
-    let many : c.groups.result ≡ length plan.groups = omega (arith, c.groups.ensures, entries_length c.args.plan.now, ap (λ (r : Roster). length r.groups) c.in_ok-roster.ensures) in (
+    let many : c.groups.result ≡ length plan.groups =
+    omega (arith, c.groups.ensures, entries_length c.args.plan.now, ap (λ (r : Roster). length r.groups) c.in_ok-roster.ensures) in (
       c.tasks.ensures.sound,
       ap length slots ∙ (length-replicate c.tasks.result _ ∙ c.tasks.ensures.value),
-      subst (λ (z : List Slot × List ℕ). AreCounts (shelf plan z.0) z.1) (λ j. (sym slots j, sym counts j)) (counts_none plan c.tasks.result c.groups.result many),
+      subst (λ (z : List Slot × List ℕ). AreCounts (shelf plan z.0) z.1) (λ j. (sym slots j, sym counts j))
+          (counts_none plan c.tasks.result c.groups.result many),
     )
 
 pub returns-clause-empty : goal.returns-clause-empty

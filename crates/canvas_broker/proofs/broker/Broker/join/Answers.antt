@@ -13,7 +13,8 @@ pub absorb-requires-clause-rule : goal.absorb-requires-clause-rule
 absorb-requires-clause-rule g c = merges _ _ _ _ c.pass.invariant.2 c.other.invariant.2
 
 pub len_as-requires-clause-rule : goal.len_as-requires-clause-rule
-len_as-requires-clause-rule g c = hears _ _ (united_ready c.pass.inside.pass.me.view.client c.other.inside.pass.me.view.client _ c.absorb.ensures.rule c.pass.invariant.2.0)
+len_as-requires-clause-rule g c =
+    hears _ _ (united_ready c.pass.inside.pass.me.view.client c.other.inside.pass.me.view.client _ c.absorb.ensures.rule c.pass.invariant.2.0)
 
 pub invariant_of-pass : goal.invariant_of-pass
 invariant_of-pass g c =
@@ -26,4 +27,5 @@ invariant_of-pass g c =
 
 pub returns-clause-alone : goal.returns-clause-alone
 returns-clause-alone g c =
-    leaves_one [] answer next May c.len_as.new.pass.me.view.client.knows (subst (λ (x : View Envelope). IsHistory x.knows) (sym c.len_as.ensures.queue.2) c.len_as.ensures.rule.2.1)
+    leaves_one [] answer next May c.len_as.new.pass.me.view.client.knows
+    (subst (λ (x : View Envelope). IsHistory x.knows) (sym c.len_as.ensures.queue.2) c.len_as.ensures.rule.2.1)

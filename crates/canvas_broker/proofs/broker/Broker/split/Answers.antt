@@ -26,11 +26,14 @@ returns-clause-own g c =
     elim c.match-push_as.branch [
       | in-Ok w ↦
           let made = w.in-Ok.ensures.rule.0 in
-          let name : w.another.result.me.view.client.knows.name ≡ made.0 = ap (λ (v : View Envelope). v.knows.name) (w.another.ensures.rule.1 ∙ child_is c.pass.inside.pass.me.view.client c.push_as.new.pass.me.view.client made) in
+          let name : w.another.result.me.view.client.knows.name ≡ made.0 =
+          ap (λ (v : View Envelope). v.knows.name)
+          (w.another.ensures.rule.1 ∙ child_is c.pass.inside.pass.me.view.client c.push_as.new.pass.me.view.client made) in
           let own : Adds old (split old.name made.0 ∷ []) new = stands_own old (split old.name made.0) new c.pass.invariant.2.0 (refl, tt) made.2 in
           let there : Adds old (split old.name w.another.result.me.view.client.knows.name ∷ []) w.another.new.pass.me.view.client.knows =
           subst (λ (x : ℕ × View Envelope). Adds old (split old.name x.0 ∷ []) x.1.knows) (λ i. (sym name i, sym w.another.ensures.rule.0 i)) own in
-          rw w.result-is (subst (λ (x : Pass Envelope × Pass Envelope). Adds x.0 (split x.0.name w.another.result.me.view.client.knows.name ∷ []) x.1) (λ i. (c.pass.view_is i, sym w.pass-is i)) there)
+          rw w.result-is (subst (λ (x : Pass Envelope × Pass Envelope). Adds x.0 (split x.0.name w.another.result.me.view.client.knows.name ∷ []) x.1)
+          (λ i. (c.pass.view_is i, sym w.pass-is i)) there)
       | in-Err w ↦ rw w.result-is tt
     ]
 
@@ -41,7 +44,8 @@ returns-clause-fresh g c =
     elim c.match-push_as.branch [
       | in-Ok w ↦
           let made = w.in-Ok.ensures.rule.0 in
-          rw w.result-is (subst (λ (v : View Envelope). made_by v.knows.name v.knows.seen ≡ []) (sym (w.another.ensures.rule.1 ∙ child_is c.pass.inside.pass.me.view.client c.push_as.new.pass.me.view.client made))
+          rw w.result-is (subst (λ (v : View Envelope). made_by v.knows.name v.knows.seen ≡ [])
+          (sym (w.another.ensures.rule.1 ∙ child_is c.pass.inside.pass.me.view.client c.push_as.new.pass.me.view.client made))
           (made_fresh [] answer next May old made.0 new.seen made.2.4))
       | in-Err w ↦ rw w.result-is tt
     ]

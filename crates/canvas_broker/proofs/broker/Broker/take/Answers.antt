@@ -18,12 +18,15 @@ pop_as-requires-clause-rule g c =
 pub returns-in-None-pop_as-clause-empty : goal.returns-in-None-pop_as-clause-empty
 returns-in-None-pop_as-clause-empty g c =
     let v : View Envelope = c.loop.pass-inside.pass.me.view.client in
-    subst (λ (p : Pass Envelope). Empties p) c.pass.view_is (subst (λ (x : View Envelope). Empties x.knows) c.loop.invariant.3 (empties v.knows (c.in-None-pop_as.ensures.rule.1 refl)))
+    subst (λ (p : Pass Envelope). Empties p) c.pass.view_is
+    (subst (λ (x : View Envelope). Empties x.knows) c.loop.invariant.3 (empties v.knows (c.in-None-pop_as.ensures.rule.1 refl)))
 
 pub returns-in-Some-Some-clause-own : goal.returns-in-Some-Some-clause-own
 returns-in-Some-Some-clause-own g c =
     let e : Envelope = c.in-Some-Some.envelope in
     let new : Knowledge Envelope = c.pop_as.new.pass.me.view.client.knows in
-    let stands : Stands c.loop.pass-inside.pass.me.view.client.knows (calls c.loop.pass-inside.pass.me.view.client.knows.name take (Some e)) new = search rules in
+    let stands : Stands c.loop.pass-inside.pass.me.view.client.knows (calls c.loop.pass-inside.pass.me.view.client.knows.name take (Some e)) new =
+    search rules in
     subst (λ (p : Pass Envelope). Adds p (calls p.name take (Some e) ∷ []) (pass_of p.of new)) c.pass.view_is
-    (stands_own c.pass.inside.pass.me.view.client.knows _ new c.pass.invariant.2.0 (refl, tt) (subst (λ (x : View Envelope). Stands x.knows (calls x.knows.name take (Some e)) new) c.loop.invariant.3 stands))
+    (stands_own c.pass.inside.pass.me.view.client.knows _ new c.pass.invariant.2.0 (refl, tt)
+    (subst (λ (x : View Envelope). Stands x.knows (calls x.knows.name take (Some e)) new) c.loop.invariant.3 stands))

@@ -4,4 +4,5 @@ use Rattle.canvas_broker.proofs.broker.Broker.take.Given as goal
 
 abbrev pub invariant-loop : goal.invariant-loop
 invariant-loop g l =
-    (goal.iterator-loop g).can_next l.iterator' × (goal.iterator-loop g).is_finite l.iterator' × IsSegPassOf l.self l.pass-inside.pass × (l.pass-inside.pass.me.view.client ≡ l.initial.pass-inside.pass.me.view.client)
+    (goal.iterator-loop g).can_next l.iterator' × (goal.iterator-loop g).is_finite l.iterator' × IsSegPassOf l.self l.pass-inside.pass
+    × (l.pass-inside.pass.me.view.client ≡ l.initial.pass-inside.pass.me.view.client)

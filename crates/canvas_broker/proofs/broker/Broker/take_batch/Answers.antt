@@ -26,7 +26,8 @@ next_of-requires g c =
     let some : 0 < c.loop-self.batch.len = search rules in
     let f = first_rest i.2.0 (subst (λ n. 0 < n) (sym i.2.1.8) some) in
     let h = subst (λ (l : List (Option Envelope)). Holds c.args.self.now c.loop-self.pass-inside.pass c.loop-self.batch l) f.2 i.2.1 in
-    subst (λ (q : SegId Global). IsSegPassOf q c.loop-self.pass-inside.pass × Admits (Kept {E = Envelope}) newcomer × ((x : Option Envelope) × (xs : List (Option Envelope)) × Holds q c.loop-self.pass-inside.pass c.loop-self.batch (x ∷ xs)))
+    subst (λ (q : SegId Global). IsSegPassOf q c.loop-self.pass-inside.pass × Admits (Kept {E = Envelope}) newcomer
+    × ((x : Option Envelope) × (xs : List (Option Envelope)) × Holds q c.loop-self.pass-inside.pass c.loop-self.batch (x ∷ xs)))
     (sym c.self.view_is) (i.0, admits, (f.0, f.1, h))
 
 pub loop-self-smaller : goal.loop-self-smaller
@@ -34,7 +35,8 @@ loop-self-smaller g c =
     let i = c.loop-self.invariant in
     let some : 0 < c.loop-self.batch.len = search rules in
     let f = first_rest i.2.0 (subst (λ n. 0 < n) (sym i.2.1.8) some) in
-    let h = subst (λ (x : SegId Global × List (Option Envelope)). Holds x.0 c.loop-self.pass-inside.pass c.loop-self.batch x.1) (λ j. (sym c.self.view_is j, f.2 j)) i.2.1 in
+    let h = subst (λ (x : SegId Global × List (Option Envelope)). Holds x.0 c.loop-self.pass-inside.pass c.loop-self.batch x.1)
+    (λ j. (sym c.self.view_is j, f.2 j)) i.2.1 in
     let old : suc (length f.1) ≡ c.loop-self.batch.len = h.8 in
     let new : length f.1 ≡ c.next_of.new.batch.len = (c.next_of.ensures.item f.0 f.1 h).1.8 in
     omega (arith, old, new)
@@ -44,7 +46,8 @@ loop-self-preserved g c =
     let i = c.loop-self.invariant in
     let some : 0 < c.loop-self.batch.len = search rules in
     let f = first_rest i.2.0 (subst (λ n. 0 < n) (sym i.2.1.8) some) in
-    let h = subst (λ (x : SegId Global × List (Option Envelope)). Holds x.0 c.loop-self.pass-inside.pass c.loop-self.batch x.1) (λ j. (sym c.self.view_is j, f.2 j)) i.2.1 in
+    let h = subst (λ (x : SegId Global × List (Option Envelope)). Holds x.0 c.loop-self.pass-inside.pass c.loop-self.batch x.1)
+    (λ j. (sym c.self.view_is j, f.2 j)) i.2.1 in
     let next = c.next_of.ensures.item f.0 f.1 h in
     let old : suc (length f.1) ≡ c.loop-self.batch.len = h.8 in
     let new : length f.1 ≡ c.next_of.new.batch.len = next.1.8 in
@@ -52,7 +55,8 @@ loop-self-preserved g c =
     let one : array_vec_len c.push.new.self ≡ array_vec_len c.loop-self.items + 1 = c.push.ensures.len in
     let was : List (Option Envelope) = c.loop-self.items.items in
     let all : was ++ i.2.0 ≡ c.push.new.self.items ++ f.1 =
-    ap (λ l. was ++ l) f.2 ∙ (ap (λ (x : Option Envelope). was ++ x ∷ f.1) (sym next.0) ∙ (sym (append_assoc was (c.next_of.result ∷ []) f.1) ∙ ap (λ l. l ++ f.1) (sym c.push.ensures.items))) in
+    ap (λ l. was ++ l) f.2 ∙ (ap (λ (x : Option Envelope). was ++ x ∷ f.1) (sym next.0)
+    ∙ (sym (append_assoc was (c.next_of.result ∷ []) f.1) ∙ ap (λ l. l ++ f.1) (sym c.push.ensures.items))) in
     let same = c.next_of.ensures.queue in
     let web : c.next_of.new.pass.web ≡ c.loop-self.pass-inside.pass.web = same.0.0.0 ∙ (ap (λ (q : SegId Global). q.web) c.self.view_is ∙ sym i.0.0.0) in
     let heap : c.next_of.new.pass.heap ≡ c.loop-self.pass-inside.pass.heap = same.0.0.1 ∙ (ap (λ (q : SegId Global). q.heap) c.self.view_is ∙ sym i.0.0.1) in (
@@ -72,6 +76,9 @@ returns-clause-own g c =
     let here = subst (λ (p : Pass Envelope). In p.name p.mine) c.pass.view_is c.pass.invariant.2.0 in
     let i = c.loop-self.invariant in
     let none : c.loop-self.batch.len ≡ 0 = search rules in
-    let new : Pass Envelope = pass_of (record { web = c.loop-self.pass-inside.pass.web; heap = c.loop-self.pass-inside.pass.heap }) c.loop-self.pass-inside.pass.me.view.client.knows in
-    let all : c.loop-self.items.items ++ i.2.0 ≡ c.loop-self.items.items = ap (λ l. c.loop-self.items.items ++ l) (no_rest i.2.0 (i.2.1.8 ∙ none)) ∙ append-nil c.loop-self.items.items in
-    took_own c.args.pass.now (envelopes c.loop-self.items.items) new here (subst (λ (x : List (Option Envelope)). Took c.args.pass.now (envelopes x) new) all i.2.2)
+    let new : Pass Envelope =
+    pass_of (record { web = c.loop-self.pass-inside.pass.web; heap = c.loop-self.pass-inside.pass.heap }) c.loop-self.pass-inside.pass.me.view.client.knows in
+    let all : c.loop-self.items.items ++ i.2.0 ≡ c.loop-self.items.items = ap (λ l. c.loop-self.items.items ++ l) (no_rest i.2.0 (i.2.1.8 ∙ none))
+    ∙ append-nil c.loop-self.items.items in
+    took_own c.args.pass.now (envelopes c.loop-self.items.items) new here
+    (subst (λ (x : List (Option Envelope)). Took c.args.pass.now (envelopes x) new) all i.2.2)

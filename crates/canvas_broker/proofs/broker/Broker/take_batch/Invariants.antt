@@ -12,7 +12,8 @@ invariant-loop-self g l =
     IsSegPassOf l.self l.pass-inside.pass × (array_vec_len l.items + l.batch.len ≤ 4)
     × ((rest : List (Option Envelope))
     × Holds l.self l.pass-inside.pass l.batch rest
-    × Took l.fn.pass (envelopes (l.items.items ++ rest)) (pass_of (record { web = l.pass-inside.pass.web; heap = l.pass-inside.pass.heap }) l.pass-inside.pass.me.view.client.knows))
+    × Took l.fn.pass (envelopes (l.items.items ++ rest))
+    (pass_of (record { web = l.pass-inside.pass.web; heap = l.pass-inside.pass.heap }) l.pass-inside.pass.me.view.client.knows))
     × IsReady l.pass-inside.pass.me.view.client
 
 abbrev pub decreases-loop-self : goal.decreases-loop-self

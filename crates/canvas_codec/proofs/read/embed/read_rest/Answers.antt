@@ -6,4 +6,5 @@ use Rattle.canvas_codec.proofs.read.embed.read_rest.Goals as goal
 
 pub returns-in-len1-up : goal.returns-in-len1-up
 returns-in-len1-up c =
-    subst (Gives rest_seen c.read_reversed.result) (sym (chain_starts c.args.values.now c.last-item.result c.in-len1-up.len_at_least c.last-item.is)) c.read_reversed.ensures
+    subst (Gives rest_seen c.read_reversed.result)
+    (sym (chain_starts c.args.values.now c.last-item.result c.in-len1-up.len_at_least c.last-item.is)) c.read_reversed.ensures

@@ -14,22 +14,26 @@ read_one_or_more-returns-in-List t c =
 
 pub read_task-returns : goal.read_task-returns
 read_task-returns t c =
-    task_read (link_reading c.args.left) (line_reading c.args.left) (view c.args.value.now) c.in_ok-no.no c.of.result c.of-2.result c.of-3.result c.is_true.result c.of-4.result c.of-5.result c.in_ok-place.place
+    task_read (link_reading c.args.left) (line_reading c.args.left)
+    (view c.args.value.now) c.in_ok-no.no c.of.result c.of-2.result c.of-3.result c.is_true.result c.of-4.result c.of-5.result c.in_ok-place.place
     (search rules) (search rules) (search rules) (search rules) (search rules) (search rules) (search rules) (search rules)
 
 pub read_group-returns : goal.read_group-returns
 read_group-returns t c = group_read (line_reading c.args.left) (view c.args.value.now) c.in_ok-group.group c.of.result (search rules) (search rules)
 
 pub read_chord-returns : goal.read_chord-returns
-read_chord-returns t c = chord_read (line_reading c.args.left) (view c.args.value.now) c.in_ok-group.group c.of.result c.in_ok-body.body (search rules) (search rules) (search rules)
+read_chord-returns t c = chord_read (line_reading c.args.left) (view c.args.value.now) c.in_ok-group.group c.of.result c.in_ok-body.body (search rules)
+    (search rules) (search rules)
 
 pub read_elements-returns-in-empty : goal.read_elements-returns-in-empty
 read_elements-returns-in-empty t c =
-    no_line (map view c.args.values.now) (step_reading c.args.left) (last_reading c.args.left) c.of.result (no_items c.args.values.now c.in-empty.len_below) (c.of.ensures ∙ c.new.ensures.items)
+    no_line (map view c.args.values.now) (step_reading c.args.left) (last_reading c.args.left) c.of.result (no_items c.args.values.now c.in-empty.len_below)
+    (c.of.ensures ∙ c.new.ensures.items)
 
 pub read_elements-returns-in-len1-up : goal.read_elements-returns-in-len1-up
 read_elements-returns-in-len1-up t c =
     let elements = elements_with (step_reading c.args.left) (last_reading c.args.left) in
     subst (Gives p_line_view c.read_parts.result)
-    (sym (ap elements (last_item c.args.values.now c.last-item.result c.in-len1-up.len_at_least c.last-item.is) ∙ last_apart (step_reading c.args.left) (last_reading c.args.left) _ _))
+    (sym (ap elements (last_item c.args.values.now c.last-item.result c.in-len1-up.len_at_least c.last-item.is)
+    ∙ last_apart (step_reading c.args.left) (last_reading c.args.left) _ _))
     c.read_parts.ensures

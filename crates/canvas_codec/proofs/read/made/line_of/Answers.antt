@@ -5,4 +5,5 @@ use Rattle.canvas_codec.proofs.Made.{pushed_line}
 use Rattle.canvas_codec.proofs.read.made.line_of.Goals as goal
 
 pub returns-in_ok-push-in-Task : goal.returns-in_ok-push-in-Task
-returns-in_ok-push-in-Task c = pushed_line c.args.tasks.items c.of.result c.in-Task.task (search rules) ∙ ap (λ x. p_steps (map p_task_view c.args.tasks.items) (element_view x)) (sym c.in-Task.is)
+returns-in_ok-push-in-Task c = pushed_line c.args.tasks.items c.of.result c.in-Task.task (search rules)
+    ∙ ap (λ x. p_steps (map p_task_view c.args.tasks.items) (element_view x)) (sym c.in-Task.is)

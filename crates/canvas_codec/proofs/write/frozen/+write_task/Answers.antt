@@ -43,21 +43,26 @@ write_last-returns-in_ok-write_opening-in-None t c =
 pub write_line-returns-else-is_empty : goal.write_line-returns-else-is_empty
 write_line-returns-else-is_empty t c =
     let tasks = c.as_slice-tasks.ensures.value ∙ c.get.ensures in
-    alike c.write_chain.result c.args.out.now c.write_chain.new.out _ _ (ap data_tokens (is_chain_to_end c.args.size c.args.line.now c.as_slice-tasks.result.now tasks c.in-Some.end c.in-Some.is (sym c.is_empty.ensures ∙ c.if-is_empty.false))) c.write_chain.ensures
+    alike c.write_chain.result c.args.out.now c.write_chain.new.out _ _
+    (ap data_tokens (is_chain_to_end c.args.size c.args.line.now c.as_slice-tasks.result.now tasks c.in-Some.end c.in-Some.is
+    (sym c.is_empty.ensures ∙ c.if-is_empty.false))) c.write_chain.ensures
 
 pub write_line-returns-then-tasks-eq1 : goal.write_line-returns-then-tasks-eq1
 write_line-returns-then-tasks-eq1 t c =
     let tasks = c.as_slice-tasks.ensures.value ∙ c.get.ensures in
-    alike c.write_task.result c.args.out.now c.write_task.new.out _ _ (ap data_tokens (is_task c.args.size c.args.line.now c.as_slice-tasks.result.now tasks c.index-tasks-0.result c.in-None.is c.if-tasks-eq1.true c.index-tasks-0.is)) c.write_task.ensures
+    alike c.write_task.result c.args.out.now c.write_task.new.out _ _
+    (ap data_tokens (is_task c.args.size c.args.line.now c.as_slice-tasks.result.now tasks c.index-tasks-0.result c.in-None.is c.if-tasks-eq1.true c.index-tasks-0.is)) c.write_task.ensures
 
 pub write_line-returns-else-tasks-eq1 : goal.write_line-returns-else-tasks-eq1
 write_line-returns-else-tasks-eq1 t c =
     let tasks = c.as_slice-tasks.ensures.value ∙ c.get.ensures in
-    alike c.write_chain-else-tasks-eq1.result c.args.out.now c.write_chain-else-tasks-eq1.new.out _ _ (ap data_tokens (is_chain c.args.size c.args.line.now c.as_slice-tasks.result.now tasks c.in-None.is c.if-tasks-eq1.false)) c.write_chain-else-tasks-eq1.ensures
+    alike c.write_chain-else-tasks-eq1.result c.args.out.now c.write_chain-else-tasks-eq1.new.out _ _
+    (ap data_tokens (is_chain c.args.size c.args.line.now c.as_slice-tasks.result.now tasks c.in-None.is c.if-tasks-eq1.false)) c.write_chain-else-tasks-eq1.ensures
 
 pub write_link-returns : goal.write_link-returns
 write_link-returns t c =
-    alike c.write_member.result c.args.out.now c.write_member.new.out _ _ (sym (some_link c.args.name.now c.args.tasks.now (sym c.is_empty.ensures ∙ c.if-is_empty.false))) c.write_member.ensures
+    alike c.write_member.result c.args.out.now c.write_member.new.out _ _
+    (sym (some_link c.args.name.now c.args.tasks.now (sym c.is_empty.ensures ∙ c.if-is_empty.false))) c.write_member.ensures
 
 pub write_links-returns : goal.write_links-returns
 write_links-returns t c =
@@ -67,7 +72,8 @@ write_links-returns t c =
 
 pub write_tail-returns-in-Some : goal.write_tail-returns-in-Some
 write_tail-returns-in-Some t c =
-    alike c.write_last.result c.args.out.now c.write_last.new.out _ _ (ap (λ e. data_tokens (line_wire None (p_end_view e))) c.deref.ensures ∙ sym (a_tail c.args.line.now c.in-Some.end c.in-Some.is)) c.write_last.ensures
+    alike c.write_last.result c.args.out.now c.write_last.new.out _ _ (ap (λ e. data_tokens (line_wire None (p_end_view e))) c.deref.ensures
+    ∙ sym (a_tail c.args.line.now c.in-Some.end c.in-Some.is)) c.write_last.ensures
 
 pub write_tail-returns-in-None : goal.write_tail-returns-in-None
 write_tail-returns-in-None t c =

@@ -7,12 +7,15 @@ use Rattle.canvas_codec.proofs.write.frozen.+write_task.Given as goal
 
 abbrev pub invariant-write_tasks-loop-task : goal.invariant-write_tasks-loop-task
 invariant-write_tasks-loop-task l =
-    (l.out.tokens ++ rest_tokens (tasks_wire (p_tasks_of (map p_task_view (drop l.task-index l.tasks)))) ≡ l.fn.out.tokens ++ rest_tokens (tasks_wire (p_tasks_of (map p_task_view l.tasks)))) × (l.out.before ≡ l.fn.out.before)
+    (l.out.tokens ++ rest_tokens (tasks_wire (p_tasks_of (map p_task_view (drop l.task-index l.tasks)))) ≡ l.fn.out.tokens
+    ++ rest_tokens (tasks_wire (p_tasks_of (map p_task_view l.tasks)))) × (l.out.before ≡ l.fn.out.before)
 
 abbrev pub invariant-write_each-loop-task : goal.invariant-write_each-loop-task
 invariant-write_each-loop-task l =
-    (l.out.tokens ++ each_tokens (map p_task_view (drop l.task-index l.tasks)) ≡ l.fn.out.tokens ++ each_tokens (map p_task_view l.tasks)) × (l.out.before ≡ l.fn.out.before)
+    (l.out.tokens ++ each_tokens (map p_task_view (drop l.task-index l.tasks)) ≡ l.fn.out.tokens ++ each_tokens (map p_task_view l.tasks))
+    × (l.out.before ≡ l.fn.out.before)
 
 abbrev pub invariant-write_lines-loop-line : goal.invariant-write_lines-loop-line
 invariant-write_lines-loop-line l =
-    (l.out.tokens ++ rest_tokens (members_wire (p_lines_of (map p_line_view (drop l.line-index l.lines)))) ≡ l.fn.out.tokens ++ rest_tokens (members_wire (p_lines_of (map p_line_view l.lines)))) × (l.out.before ≡ l.fn.out.before)
+    (l.out.tokens ++ rest_tokens (members_wire (p_lines_of (map p_line_view (drop l.line-index l.lines)))) ≡ l.fn.out.tokens
+    ++ rest_tokens (members_wire (p_lines_of (map p_line_view l.lines)))) × (l.out.before ≡ l.fn.out.before)

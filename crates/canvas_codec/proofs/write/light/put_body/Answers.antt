@@ -21,9 +21,11 @@ returns c =
     let x = c.deref.result.now in
     let w = named c.get-2.result.now.entries in
     let chord = carried_wire (place_seen m.place) in
-    then_ok c.put_embed.result (string_bytes c.args.out.now) (string_bytes c.put_arguments.new.out) (string_bytes c.put_embed.new.out) (args_text (args_wire x) (kwargs_wire w))
+    then_ok c.put_embed.result (string_bytes c.args.out.now) (string_bytes c.put_arguments.new.out) (string_bytes c.put_embed.new.out)
+    (args_text (args_wire x) (kwargs_wire w))
     (alone_text chord) _ c.in_ok-put_arguments.ensures c.put_embed.ensures
-    (body_written (args_wire x) (kwargs_wire w) chord ∙ ap (λ y. whole (args_wire y) (kwargs_wire w) (embed_alone chord)) (c.deref.ensures.value ∙ c.get.ensures)
+    (body_written (args_wire x) (kwargs_wire w) chord
+    ∙ ap (λ y. whole (args_wire y) (kwargs_wire w) (embed_alone chord)) (c.deref.ensures.value ∙ c.get.ensures)
     ∙ ap (λ y. whole (args_wire m.args) (kwargs_wire y) (embed_alone chord)) c.get-2.ensures.entries
     ∙ ap (λ z. whole (args_wire (call_of z.own).args) (kwargs_wire (call_of z.own).kwargs) (embed_alone (carried_wire (place_of z.own)))) c.message.view_is
     ∙ ap (λ e. whole (args_wire (call_of n.own).args) (kwargs_wire (call_of n.own).kwargs) e) (sym (c.is_alone.ensures c.if-not-is_alone.false)))

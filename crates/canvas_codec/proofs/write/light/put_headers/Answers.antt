@@ -23,7 +23,8 @@ returns c =
     let plain : escape i ≡ i = ap escape own ∙ task_plain m.task ∙ sym own in
     then_ok c.put_name.result o (string_bytes c.put_origin.new.out) (string_bytes c.put_name.new.out) ((front_text g ++ i) ++ origin_text p) (name_text n) _
     (then_text o (string_bytes c.put.new.out) (string_bytes c.put_origin.new.out) (front_text g ++ i) (origin_text p)
-    (then_text o (string_bytes c.put_front.new.out) (string_bytes c.put.new.out) (front_text g) i c.in_ok-put_front.ensures c.in_ok-put.ensures) c.in_ok-put_origin.ensures)
+    (then_text o (string_bytes c.put_front.new.out) (string_bytes c.put.new.out)
+    (front_text g) i c.in_ok-put_front.ensures c.in_ok-put.ensures) c.in_ok-put_origin.ensures)
     c.put_name.ensures
     (headers_written g p i n plain ∙ ap (λ x. compact_text (headers_naming g (string i) p x)) (c.deref.ensures ∙ c.get.ensures)
     ∙ ap (λ x. compact_text (headers_naming g (string x) p m.name)) own ∙ ap (λ x. compact_text (headers_wire x)) c.message.view_is)

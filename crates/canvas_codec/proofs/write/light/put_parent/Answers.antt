@@ -11,4 +11,5 @@ returns c =
     let b = task_text c.args.task in
     let e = codes "\",\"root_id\":\"00000000-0000-8000-8000-000000000001\",\"task\":" in
     then_ok c.put-2.result o (string_bytes c.put_task_text.new.out) (string_bytes c.put-2.new.out) (a ++ b) e _
-    (then_text o (string_bytes c.put.new.out) (string_bytes c.put_task_text.new.out) a b c.in_ok-put.ensures c.in_ok-put_task_text.ensures) c.put-2.ensures (origin_written c.args.task)
+    (then_text o (string_bytes c.put.new.out) (string_bytes c.put_task_text.new.out) a b c.in_ok-put.ensures c.in_ok-put_task_text.ensures) c.put-2.ensures
+    (origin_written c.args.task)

@@ -12,4 +12,5 @@ returns c =
     let b = group_text (out-Place c.args.place.now).group in
     let e = codes "\",\"id\":\"" in
     then_ok c.put-2.result o (string_bytes c.put_group_text.new.out) (string_bytes c.put-2.new.out) (a ++ b) e _
-    (then_text o (string_bytes c.put.new.out) (string_bytes c.put_group_text.new.out) a b c.in_ok-put.ensures c.in_ok-put_group_text.ensures) c.put-2.ensures (front_written c.args.place.now (Some c.args.place.now) refl)
+    (then_text o (string_bytes c.put.new.out) (string_bytes c.put_group_text.new.out) a b c.in_ok-put.ensures c.in_ok-put_group_text.ensures) c.put-2.ensures
+    (front_written c.args.place.now (Some c.args.place.now) refl)

@@ -10,4 +10,5 @@ returns c =
     let b = c.args.id.now in
     let e = codes "\"}" in
     then_ok c.put-3.result o (string_bytes c.put-2.new.out) (string_bytes c.put-3.new.out) (a ++ b) e _
-    (then_text o (string_bytes c.put.new.out) (string_bytes c.put-2.new.out) a b c.in_ok-put.ensures c.in_ok-put-2.ensures) c.put-3.ensures (properties_written c.args.id.now c.requires)
+    (then_text o (string_bytes c.put.new.out) (string_bytes c.put-2.new.out) a b c.in_ok-put.ensures c.in_ok-put-2.ensures) c.put-3.ensures
+    (properties_written c.args.id.now c.requires)

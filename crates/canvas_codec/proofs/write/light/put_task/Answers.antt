@@ -18,7 +18,8 @@ returns c =
     let b = own_text (task_text t.no) in
     let n = c.deref.result.now in
     then_ok c.put_name.result o (string_bytes c.put_options.new.out) (string_bytes c.put_name.new.out) (a ++ b) (name_text n) _
-    (then_text o (string_bytes c.put_call.new.out) (string_bytes c.put_options.new.out) a b c.in_ok-put_call.ensures c.in_ok-put_options.ensures) c.put_name.ensures
+    (then_text o (string_bytes c.put_call.new.out)
+    (string_bytes c.put_options.new.out) a b c.in_ok-put_call.ensures c.in_ok-put_options.ensures) c.put_name.ensures
     (task_written c.args.size (args_wire t.args) t.immutable (kwargs_wire t.kwargs) (task_text t.no) n (task_plain t.no)
     ∙ ap (λ x. compact_text (frozen_wire (Some c.args.size) (args_wire t.args) t.immutable (kwargs_wire t.kwargs) (member (codes "task_id") (task_id t.no) no_members) null x))
     (c.deref.ensures ∙ c.get.ensures))

@@ -7,4 +7,5 @@ use Rattle.canvas_codec.proofs.write.text.put_named.Given as goal
 
 abbrev pub invariant-loop-name : goal.invariant-loop-name
 invariant-loop-name l =
-    string_bytes l.out ++ members_text l.later (kwargs_wire (named l.name-iterator)) ≡ string_bytes l.fn.out ++ members_text false (kwargs_wire (named l.kwargs.entries))
+    string_bytes l.out ++ members_text l.later (kwargs_wire (named l.name-iterator)) ≡ string_bytes l.fn.out
+    ++ members_text false (kwargs_wire (named l.kwargs.entries))

@@ -18,6 +18,8 @@ returns c =
     let back = to_z-of_z w64 c.args.number (search rules) in
     IfOk-weaker c.todo_of.result _ _
     (λ todo is. is ∙ succeeded_last c.args.message c.args.number _ _ _ _ c.requires.last c.new.ensures.items c.new-messages.ensures.items
-    (c.in_ok-call_back.ensures ∙ ap (λ z. c.new-messages.result.items ++ messages_in (callbacks (p_tasks_of (map p_task_view c.deref.result.now)) (number_input z) (Some c.message.inside.task))) back
+    (c.in_ok-call_back.ensures
+    ∙ ap (λ z. c.new-messages.result.items
+    ++ messages_in (callbacks (p_tasks_of (map p_task_view c.deref.result.now)) (number_input z) (Some c.message.inside.task))) back
     ∙ ap₂ (λ l k. c.new-messages.result.items ++ messages_in (callbacks l (number_input c.args.number) (Some k))) links task)
     (c.take_part.ensures ∙ ap₂ (λ q k. part_in (part_of q k)) place task)) c.todo_of.ensures

@@ -17,7 +17,8 @@ message_from-requires c =
     let task : c.message.inside.task ≡ number_of c.args.message.own = search rules in
     let back = to_z-of_z w64 c.args.number (search rules) in
     ap (λ z. fits (message (Some c.message.inside.task) (p_task_view c.in-Some.next) (number_input z) (rest_seen c.in-Some.rest))) back
-    ∙ next_stands c.args.message c.message.inside.task (p_task_view c.in-Some.next) (rest_seen c.in-Some.rest) c.args.number whole (same ∙ c.in-Some.ensures) task c.requires.number
+    ∙ next_stands c.args.message c.message.inside.task (p_task_view c.in-Some.next) (rest_seen c.in-Some.rest) c.args.number whole
+    (same ∙ c.in-Some.ensures) task c.requires.number
 
 pub returns-in-Some : goal.returns-in-Some
 returns-in-Some c =
@@ -27,10 +28,14 @@ returns-in-Some c =
     let links : p_tasks_of (map p_task_view c.deref.result.now) ≡ links_of c.args.message.own = search rules in
     let back = to_z-of_z w64 c.args.number (search rules) in
     IfOk-weaker c.todo_of.result _ _
-    (λ todo is. is ∙ succeeded_next c.args.message (p_task_view c.in-Some.next) (rest_seen c.in-Some.rest) c.args.number _ _ _ _ _ whole (same ∙ c.in-Some.ensures) c.new.ensures.items c.new-messages.ensures.items
-    (c.in_ok-call_back.ensures ∙ ap (λ z. c.new-messages.result.items ++ messages_in (callbacks (p_tasks_of (map p_task_view c.deref.result.now)) (number_input z) (Some c.message.inside.task))) back
+    (λ todo is. is ∙ succeeded_next c.args.message (p_task_view c.in-Some.next) (rest_seen c.in-Some.rest) c.args.number _ _ _ _ _ whole
+    (same ∙ c.in-Some.ensures) c.new.ensures.items c.new-messages.ensures.items
+    (c.in_ok-call_back.ensures
+    ∙ ap (λ z. c.new-messages.result.items
+    ++ messages_in (callbacks (p_tasks_of (map p_task_view c.deref.result.now)) (number_input z) (Some c.message.inside.task))) back
     ∙ ap₂ (λ l k. c.new-messages.result.items ++ messages_in (callbacks l (number_input c.args.number) (Some k))) links task)
     (c.in_ok-push-in-Some.ensures.items
     ∙ ap (λ m. c.call_back.new.messages.items ++ m ∷ [])
-    (c.in_ok-message_from-in-Some.ensures ∙ ap (λ z. message (Some c.message.inside.task) (p_task_view c.in-Some.next) (number_input z) (rest_seen c.in-Some.rest)) back
+    (c.in_ok-message_from-in-Some.ensures
+    ∙ ap (λ z. message (Some c.message.inside.task) (p_task_view c.in-Some.next) (number_input z) (rest_seen c.in-Some.rest)) back
     ∙ ap (λ k. message (Some k) (p_task_view c.in-Some.next) (number_input c.args.number) (rest_seen c.in-Some.rest)) task)) refl) c.todo_of.ensures

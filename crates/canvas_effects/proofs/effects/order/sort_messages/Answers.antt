@@ -12,4 +12,5 @@ pub returns : goal.returns
 returns c =
     let keys = answers_always _ _ _ (λ f a r next called. search rules) in
     let stable = c.sort_by_key.ensures.stable number keys in
-    on_ok_weaker c.sort_by_key.result (λ sorted. ordered_by_sort number _ _ (IsNonDecreasingBy-from_sort number _ (sorted number keys)) stable) c.sort_by_key.ensures.sorted
+    on_ok_weaker c.sort_by_key.result
+    (λ sorted. ordered_by_sort number _ _ (IsNonDecreasingBy-from_sort number _ (sorted number keys)) stable) c.sort_by_key.ensures.sorted

@@ -4,7 +4,8 @@ use Rattle.canvas_effects.proofs.effects.raised.+fault.Goals as goal
 
 pub fault_at_tail-returns-in-Some : goal.fault_at_tail-returns-in-Some
 fault_at_tail-returns-in-Some t c =
-    c.fault_at_end.ensures ∙ fault_chord c.args.fault.now _ c.args.end.now c.in-Some.body _ c.in-Some.is (c.deref.ensures.value ∙ c.get.ensures) c.fault_behind-behind.ensures
+    c.fault_at_end.ensures ∙ fault_chord c.args.fault.now _ c.args.end.now c.in-Some.body _ c.in-Some.is
+    (c.deref.ensures.value ∙ c.get.ensures) c.fault_behind-behind.ensures
 
 pub fault_behind-returns-in-Some-last_task : goal.fault_behind-returns-in-Some-last_task
 fault_behind-returns-in-Some-last_task t c =

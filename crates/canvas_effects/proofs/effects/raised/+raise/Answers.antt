@@ -12,28 +12,37 @@ raise_line-raise_task-requires-clause-callbacks t c =
 pub raise_line-returns-in_ok-raise_task-in-Some-clause-stores : goal.raise_line-returns-in_ok-raise_task-in-Some-clause-stores
 raise_line-returns-in_ok-raise_task-in-Some-clause-stores t c =
     let split : c.deref.result.now ≡ c.in-Some.first.now ∷ c.in-Some.others.now = search rules in
-    ok_same _ _ _ _ (raised_on c.args.fault.now c.args.line.now _ c.in-Some.others.now c.in-Some.first.now c.args.stores.now.items _ (c.deref.ensures.value ∙ c.get.ensures) split c.in_ok-raise_task-in-Some.ensures.stores) c.skip_rest.ensures
+    ok_same _ _ _ _ (raised_on c.args.fault.now c.args.line.now _ c.in-Some.others.now c.in-Some.first.now c.args.stores.now.items _
+    (c.deref.ensures.value ∙ c.get.ensures) split c.in_ok-raise_task-in-Some.ensures.stores) c.skip_rest.ensures
 
 pub raise_line-returns-in_ok-raise_task-in-Some-clause-messages : goal.raise_line-returns-in_ok-raise_task-in-Some-clause-messages
 raise_line-returns-in_ok-raise_task-in-Some-clause-messages t c =
     let split : c.deref.result.now ≡ c.in-Some.first.now ∷ c.in-Some.others.now = search rules in
-    ok_there c.skip_rest.result _ _ (first_messages c.args.fault.now c.args.line.now _ _ c.in-Some.first.now _ _ (c.deref.ensures.value ∙ c.get.ensures) split c.in_ok-raise_task-in-Some.ensures.messages)
+    ok_there c.skip_rest.result _ _
+    (first_messages c.args.fault.now c.args.line.now _ _ c.in-Some.first.now _ _
+    (c.deref.ensures.value ∙ c.get.ensures) split c.in_ok-raise_task-in-Some.ensures.messages)
 
 pub raise_line-returns-in-Some-tail-clause-stores : goal.raise_line-returns-in-Some-tail-clause-stores
 raise_line-returns-in-Some-tail-clause-stores t c =
-    ok_same _ _ _ _ (ap (λ xs. c.args.stores.now.items ++ xs) (raised_tail c.args.fault.now c.args.line.now c.in-Some-tail.end _ c.deref-in-Some-tail.result.now c.in-Some-tail.is (c.deref.ensures.value ∙ c.get.ensures)
+    ok_same _ _ _ _ (ap (λ xs. c.args.stores.now.items ++ xs)
+    (raised_tail c.args.fault.now c.args.line.now c.in-Some-tail.end _ c.deref-in-Some-tail.result.now c.in-Some-tail.is
+    (c.deref.ensures.value ∙ c.get.ensures)
     c.in-None.ensures.cases c.deref-in-Some-tail.ensures)) c.raise_end.ensures.stores
 
 pub raise_line-returns-in-Some-tail-clause-messages : goal.raise_line-returns-in-Some-tail-clause-messages
 raise_line-returns-in-Some-tail-clause-messages t c =
-    ok_same _ _ _ _ (ap (λ xs. c.args.messages.now.items ++ xs) (raised_tail_messages c.args.fault.now c.args.line.now c.in-Some-tail.end _ c.deref-in-Some-tail.result.now c.in-Some-tail.is (c.deref.ensures.value ∙ c.get.ensures)
+    ok_same _ _ _ _ (ap (λ xs. c.args.messages.now.items ++ xs)
+    (raised_tail_messages c.args.fault.now c.args.line.now c.in-Some-tail.end _ c.deref-in-Some-tail.result.now c.in-Some-tail.is
+    (c.deref.ensures.value ∙ c.get.ensures)
     c.in-None.ensures.cases c.deref-in-Some-tail.ensures)) c.raise_end.ensures.messages
 
 pub raise_line-returns-in-None-tail-clause-stores : goal.raise_line-returns-in-None-tail-clause-stores
-raise_line-returns-in-None-tail-clause-stores t c = absurd (never_whole c.args.line.now _ c.in-None-tail.is (c.deref.ensures.value ∙ c.get.ensures) c.in-None.ensures.cases c.requires)
+raise_line-returns-in-None-tail-clause-stores t c =
+    absurd (never_whole c.args.line.now _ c.in-None-tail.is (c.deref.ensures.value ∙ c.get.ensures) c.in-None.ensures.cases c.requires)
 
 pub raise_line-returns-in-None-tail-clause-messages : goal.raise_line-returns-in-None-tail-clause-messages
-raise_line-returns-in-None-tail-clause-messages t c = absurd (never_whole c.args.line.now _ c.in-None-tail.is (c.deref.ensures.value ∙ c.get.ensures) c.in-None.ensures.cases c.requires)
+raise_line-returns-in-None-tail-clause-messages t c =
+    absurd (never_whole c.args.line.now _ c.in-None-tail.is (c.deref.ensures.value ∙ c.get.ensures) c.in-None.ensures.cases c.requires)
 
 pub raise_end-returns-in-Some-clause-stores : goal.raise_end-returns-in-Some-clause-stores
 raise_end-returns-in-Some-clause-stores t c =
@@ -47,8 +56,10 @@ raise_end-returns-in-Some-clause-messages t c =
 
 pub raise_end-returns-in-None-clause-stores : goal.raise_end-returns-in-None-clause-stores
 raise_end-returns-in-None-clause-stores t c =
-    c.in_ok-raise_lines.ensures.stores ∙ ap (λ xs. c.args.stores.now.items ++ xs) (stores_group c.args.fault.now c.args.end.now _ c.in-None.is c.whole_members-members.ensures.value)
+    c.in_ok-raise_lines.ensures.stores
+    ∙ ap (λ xs. c.args.stores.now.items ++ xs) (stores_group c.args.fault.now c.args.end.now _ c.in-None.is c.whole_members-members.ensures.value)
 
 pub raise_end-returns-in-None-clause-messages : goal.raise_end-returns-in-None-clause-messages
 raise_end-returns-in-None-clause-messages t c =
-    c.in_ok-raise_lines.ensures.messages ∙ ap (λ xs. c.args.messages.now.items ++ xs) (messages_group c.args.fault.now c.args.end.now _ c.in-None.is c.whole_members-members.ensures.value)
+    c.in_ok-raise_lines.ensures.messages
+    ∙ ap (λ xs. c.args.messages.now.items ++ xs) (messages_group c.args.fault.now c.args.end.now _ c.in-None.is c.whole_members-members.ensures.value)

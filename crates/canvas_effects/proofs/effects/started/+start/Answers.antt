@@ -8,15 +8,18 @@ use Rattle.canvas_effects.proofs.effects.started.+start.Goals as goal
 pub start_end-returns-in-Some-split_first : goal.start_end-returns-in-Some-split_first
 start_end-returns-in-Some-split_first t c =
     let split : c.standing_members-members.result.now ≡ c.in-Some-split_first._first.now ∷ c.in-Some-split_first._others.now = search rules in
-    ok_same _ _ _ _ (ap (λ ms. c.args.messages.now.items ++ ms) (header_started c.args.end.now c.in-Some.body (input_seen c.args.input.now) (place_seen c.args.place.now) c.args.parent.now _ _ _ c.in-Some.is
+    ok_same _ _ _ _ (ap (λ ms. c.args.messages.now.items ++ ms)
+    (header_started c.args.end.now c.in-Some.body (input_seen c.args.input.now) (place_seen c.args.place.now) c.args.parent.now _ _ _ c.in-Some.is
     c.standing_members-members.ensures.value split)) c.start_members.ensures
 
 pub start_end-returns-in-None-split_first : goal.start_end-returns-in-None-split_first
 start_end-returns-in-None-split_first t c =
-    ok_same _ _ _ _ (ap (λ ms. c.args.messages.now.items ++ ms) (empty_started c.args.end.now c.in-Some.body _ _ (input_seen c.args.input.now) (place_seen c.args.place.now) c.args.parent.now c.in-Some.is
+    ok_same _ _ _ _ (ap (λ ms. c.args.messages.now.items ++ ms)
+    (empty_started c.args.end.now c.in-Some.body _ _ (input_seen c.args.input.now) (place_seen c.args.place.now) c.args.parent.now c.in-Some.is
     c.standing_members-members.ensures.value c.in-None-split_first.ensures.cases (c.of.ensures ∙ c.new.ensures.items))) c.start_line.ensures
 
 pub start_end-returns-in-None : goal.start_end-returns-in-None
 start_end-returns-in-None t c =
-    ok_same _ _ _ _ (ap (λ ms. c.args.messages.now.items ++ ms) (group_started c.args.end.now (input_seen c.args.input.now) (place_seen c.args.place.now) c.args.parent.now _ c.in-None.is
+    ok_same _ _ _ _ (ap (λ ms. c.args.messages.now.items ++ ms)
+    (group_started c.args.end.now (input_seen c.args.input.now) (place_seen c.args.place.now) c.args.parent.now _ c.in-None.is
     c.standing_members-members.ensures.value)) c.start_members-in-None.ensures

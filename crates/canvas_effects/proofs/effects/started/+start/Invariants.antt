@@ -8,5 +8,6 @@ use Rattle.canvas_effects.proofs.effects.started.+start.Given as goal
 abbrev pub invariant-start_members-loop-member : goal.invariant-start_members-loop-member
 invariant-start_members-loop-member l =
     AllStand (member_place (p_end_view l.end) (place_seen l.place)) (map p_line_view (drop l.member-index l.members))
-    × (l.messages.items ++ all_started (map p_line_view (drop l.member-index l.members)) (input_seen l.input) (member_place (p_end_view l.end) (place_seen l.place)) l.parent
+    × (l.messages.items ++ all_started (map p_line_view (drop l.member-index l.members)) (input_seen l.input)
+    (member_place (p_end_view l.end) (place_seen l.place)) l.parent
     ≡ l.fn.messages.items ++ all_started (map p_line_view l.members) (input_seen l.input) (member_place (p_end_view l.end) (place_seen l.place)) l.parent)

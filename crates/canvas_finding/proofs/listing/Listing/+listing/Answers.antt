@@ -13,15 +13,19 @@ list-returns t c =
 
 pub list_all-loop-index-preserved : goal.list_all-loop-index-preserved
 list_all-loop-index-preserved t c =
-    let next = next_item c.args.values.now c.loop-index.index c.index-values-index.result _ (omega (arith, c.loop-index-test.true)) (sym c.index-values-index.is) in
+    let next = next_item c.args.values.now c.loop-index.index c.index-values-index.result _ (omega (arith, c.loop-index-test.true))
+    (sym c.index-values-index.is) in
     one_more _ _ _ _ _ _ _ _ _ c.loop-index.self _ c.loop-index.invariant next (omega arith) c.in_ok-list_at.ensures
 
 pub list_at-returns : goal.list_at-returns
 list_at-returns t c =
     let steps = c.in_ok-list.ensures.steps ∙ c.in_ok-push.ensures.items in
-    let longer : 0 < vec_len c.list.new.self.steps = omega (arith, c.list.new.self.steps.ok.0, ap length steps, length-append c.args.self.now.steps.items (c.args.step ∷ [])) in
-    in_and_back _ c.args.step c.args.self.now (record c.args.self.now { steps = c.push.new.self }) c.list.new.self _ refl c.in_ok-push.ensures.items c.in_ok-list.ensures
-    refl (popped c.list.new.self.steps.items c.pop.new.self.items c.args.self.now.steps.items c.pop.result c.args.step c.pop.ensures.items (c.pop.ensures.variant.1 longer) steps)
+    let longer : 0 < vec_len c.list.new.self.steps =
+    omega (arith, c.list.new.self.steps.ok.0, ap length steps, length-append c.args.self.now.steps.items (c.args.step ∷ [])) in
+    in_and_back _ c.args.step c.args.self.now
+    (record c.args.self.now { steps = c.push.new.self }) c.list.new.self _ refl c.in_ok-push.ensures.items c.in_ok-list.ensures
+    refl (popped c.list.new.self.steps.items c.pop.new.self.items c.args.self.now.steps.items c.pop.result c.args.step c.pop.ensures.items
+    (c.pop.ensures.variant.1 longer) steps)
 
 pub list_chord-returns : goal.list_chord-returns
 list_chord-returns t c =

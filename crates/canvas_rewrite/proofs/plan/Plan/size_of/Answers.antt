@@ -8,4 +8,12 @@ pub overflow_cast-result : goal.overflow_cast-result
 overflow_cast-result c =
     let v = c.in_ok-group_entry.group_entry.now.members in
     let same : members c.args.self.now c.args.group ≡ v.items = ap entry_members (sym c.in_ok-group_entry.ensures.value) in
-    omega (arith, v.ok.0, ap length same, few_members c.args.self.now c.args.group, c.len.ensures, c.group_entry.ensures.planned.runnable.few_tasks, count_elements c.args.self.now)
+    omega (
+      arith,
+      v.ok.0,
+      ap length same,
+      few_members c.args.self.now c.args.group,
+      c.len.ensures,
+      c.group_entry.ensures.planned.runnable.few_tasks,
+      count_elements c.args.self.now,
+    )

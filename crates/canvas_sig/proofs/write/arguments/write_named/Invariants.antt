@@ -6,4 +6,5 @@ use Rattle.canvas_sig.proofs.write.arguments.write_named.Given as goal
 
 abbrev pub invariant-loop-name : goal.invariant-loop-name
 invariant-loop-name l =
-    (l.out.tokens ++ rest_members (kwargs_wire (named l.name-iterator)) ≡ l.fn.out.tokens ++ rest_members (kwargs_wire (named l.args.entries))) × (l.out.before ≡ l.fn.out.before)
+    (l.out.tokens ++ rest_members (kwargs_wire (named l.name-iterator)) ≡ l.fn.out.tokens ++ rest_members (kwargs_wire (named l.args.entries)))
+    × (l.out.before ≡ l.fn.out.before)

@@ -28,7 +28,8 @@ write_tree-returns-in-Chain t c =
 
 pub write_tree-returns-in-Group : goal.write_tree-returns-in-Group
 write_tree-returns-in-Group t c =
-    let seen = ap view c.in-Group.is ∙ view-Group c.in-Group.nodes ∙ ap (λ ns. group 0 (trees_of (map view ns))) (sym (c.deref-in-Group.ensures.value ∙ c.get-in-Group.ensures)) in
+    let seen = ap view c.in-Group.is ∙ view-Group c.in-Group.nodes
+    ∙ ap (λ ns. group 0 (trees_of (map view ns))) (sym (c.deref-in-Group.ensures.value ∙ c.get-in-Group.ensures)) in
     let P : Tree → Type 0 = λ u. Appends c.write_sequence-in-Group.result c.args.out.now c.write_sequence-in-Group.new.out (data_tokens (tree_wire u)) in
     subst P (sym seen) c.write_sequence-in-Group.ensures
 

@@ -6,4 +6,5 @@ use Rattle.canvas_sig.proofs.write.node.+write_tree.Given as goal
 
 abbrev pub invariant-write_nodes-loop-node : goal.invariant-write_nodes-loop-node
 invariant-write_nodes-loop-node l =
-    (l.out.tokens ++ rest_tokens (trees_wire (trees_of (map view (drop l.node-index l.nodes)))) ≡ l.fn.out.tokens ++ rest_tokens (trees_wire (trees_of (map view l.nodes)))) × (l.out.before ≡ l.fn.out.before)
+    (l.out.tokens ++ rest_tokens (trees_wire (trees_of (map view (drop l.node-index l.nodes)))) ≡ l.fn.out.tokens
+    ++ rest_tokens (trees_wire (trees_of (map view l.nodes)))) × (l.out.before ≡ l.fn.out.before)

@@ -6,4 +6,5 @@ use Rattle.canvas_sig.proofs.write.task.+write_task.Given as goal
 
 abbrev pub invariant-write_tasks-loop-sig : goal.invariant-write_tasks-loop-sig
 invariant-write_tasks-loop-sig l =
-    (l.out.tokens ++ rest_tokens (tasks_wire (tasks_of (map task_view (drop l.sig-index l.sigs)))) ≡ l.fn.out.tokens ++ rest_tokens (tasks_wire (tasks_of (map task_view l.sigs)))) × (l.out.before ≡ l.fn.out.before)
+    (l.out.tokens ++ rest_tokens (tasks_wire (tasks_of (map task_view (drop l.sig-index l.sigs)))) ≡ l.fn.out.tokens
+    ++ rest_tokens (tasks_wire (tasks_of (map task_view l.sigs)))) × (l.out.before ≡ l.fn.out.before)

@@ -9,7 +9,9 @@ pub returns-in-Ok-clause-same : goal.returns-in-Ok-clause-same
 returns-in-Ok-clause-same g c =
     let w : Work = c.in-Some.working in
     let was : c.args.self.now.working ≡ Some w = search rules in
-    pending c.yield_now-in-Ok.result _ (λ r given. of_one c.args.self.now.working w (λ v. TellsOf (g.T.Tasks.behaviour c.args.self.now.tasks.now) v r) was (goes_first (g.T.Tasks.behaviour c.args.self.now.tasks.now) w c.turn.new.self c.in-Ok.ensures.turned r given))
+    pending c.yield_now-in-Ok.result _
+    (λ r given. of_one c.args.self.now.working w (λ v. TellsOf (g.T.Tasks.behaviour c.args.self.now.tasks.now) v r) was
+    (goes_first (g.T.Tasks.behaviour c.args.self.now.tasks.now) w c.turn.new.self c.in-Ok.ensures.turned r given))
 
 pub returns-in-Ok-clause-held_back : goal.returns-in-Ok-clause-held_back
 returns-in-Ok-clause-held_back g c =
@@ -17,11 +19,13 @@ returns-in-Ok-clause-held_back g c =
     let was : c.args.self.now.working ≡ Some w = search rules in
     let go : ℕ → Bool → Type 0 = g.G.Gate.may_answer c.args.self.now.gate.now w.number in
     let again : ℕ → Type 0 = g.G.Gate.may_want c.args.self.now.gate.now w.number in
-    let held = held_back go again (g.T.Tasks.behaviour c.args.self.now.tasks.now) w c.args.self.now.passed c.turn.new.self c.turn.new.passed c.in-Ok.ensures.heeds in
+    let held = held_back go again
+    (g.T.Tasks.behaviour c.args.self.now.tasks.now) w c.args.self.now.passed c.turn.new.self c.turn.new.passed c.in-Ok.ensures.heeds in
     pending c.yield_now-in-Ok.result _ (search (rules, held, was))
 
 pub returns-in-Err-clause-value : goal.returns-in-Err-clause-value
 returns-in-Err-clause-value g c =
     let w : Work = c.in-Some.working in
     let was : c.args.self.now.working ≡ Some w = search rules in
-    of_one c.args.self.now.working w (λ v. TellsOf (g.T.Tasks.behaviour c.args.self.now.tasks.now) v c.leave.result) was (ends_give (g.T.Tasks.behaviour c.args.self.now.tasks.now) w c.leave.result (c.in-Err.ensures.turned c.leave.result c.leave.ensures))
+    of_one c.args.self.now.working w (λ v. TellsOf (g.T.Tasks.behaviour c.args.self.now.tasks.now) v c.leave.result) was
+    (ends_give (g.T.Tasks.behaviour c.args.self.now.tasks.now) w c.leave.result (c.in-Err.ensures.turned c.leave.result c.leave.ensures))

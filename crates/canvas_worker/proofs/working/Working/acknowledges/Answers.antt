@@ -10,4 +10,5 @@ pub returns-clause-acted : goal.returns-clause-acted
 returns-clause-acted g c =
     let w : Work = c.args.self.now in
     let asks : asked w.core.left ≡ C.ack = is_ack w.core.task (asked w.core.left) c.requires.asks in
-    asked_well (g.T.Tasks.behaviour c.args.tasks.now) w w c.replies.new.self C.ack C.acked c.replies.result c.replies.ensures.value c.requires.ready (ack_asks (g.T.Tasks.behaviour c.args.tasks.now) w c.requires.ready asks c.requires.reads_back)
+    asked_well (g.T.Tasks.behaviour c.args.tasks.now) w w c.replies.new.self C.ack C.acked c.replies.result c.replies.ensures.value c.requires.ready
+    (ack_asks (g.T.Tasks.behaviour c.args.tasks.now) w c.requires.ready asks c.requires.reads_back)

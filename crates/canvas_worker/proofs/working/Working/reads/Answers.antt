@@ -16,13 +16,18 @@ pub read-found-requires-clause-task : goal.read-found-requires-clause-task
 read-found-requires-clause-task g c =
     let w : Work = c.args.self.now in
     let same : w.desk ≡ c.self.inside.backend.now = search rules in
-    let may : LetsAsk w.desk.plan w.seat (C.read c.args.group c.args.place) = subst (LetsAsk w.desk.plan w.seat) (is_read w.core.task c.args.group c.args.place (asked w.core.left) c.requires.asks) (may_ask w.desk.plan c.requires.ready.plan w.seat w.core.left c.requires.ready.can) in
-    subst (λ d. c.in-Some.task ≤ d.plan.tasks) same (subst (λ t. t ≤ w.desk.plan.tasks) (same_place (members w.desk.plan c.args.group) c.args.place may.0 c.in-Some.task may.1 (search rules)) may.2)
+    let may : LetsAsk w.desk.plan w.seat (C.read c.args.group c.args.place) =
+    subst (LetsAsk w.desk.plan w.seat) (is_read w.core.task c.args.group c.args.place (asked w.core.left) c.requires.asks)
+    (may_ask w.desk.plan c.requires.ready.plan w.seat w.core.left c.requires.ready.can) in
+    subst (λ d. c.in-Some.task ≤ d.plan.tasks) same
+    (subst (λ t. t ≤ w.desk.plan.tasks) (same_place (members w.desk.plan c.args.group) c.args.place may.0 c.in-Some.task may.1 (search rules)) may.2)
 
 pub unreachable-requires : goal.unreachable-requires
 unreachable-requires g c =
     let w : Work = c.args.self.now in
-    let may : LetsAsk w.desk.plan w.seat (C.read c.args.group c.args.place) = subst (LetsAsk w.desk.plan w.seat) (is_read w.core.task c.args.group c.args.place (asked w.core.left) c.requires.asks) (may_ask w.desk.plan c.requires.ready.plan w.seat w.core.left c.requires.ready.can) in
+    let may : LetsAsk w.desk.plan w.seat (C.read c.args.group c.args.place) =
+    subst (LetsAsk w.desk.plan w.seat) (is_read w.core.task c.args.group c.args.place (asked w.core.left) c.requires.asks)
+    (may_ask w.desk.plan c.requires.ready.plan w.seat w.core.left c.requires.ready.can) in
     no_place (members w.desk.plan c.args.group) c.args.place may.0 may.1 (search rules)
 
 pub returns-clause-acted : goal.returns-clause-acted
@@ -30,7 +35,8 @@ returns-clause-acted g c =
     let w : Work = c.args.self.now in
     let u : Work = record { broker = c.self.inside.broker.now; desk = c.self.inside.backend.now; number = c.self.inside.number; pass = c.self.inside.pass; seat = c.read-found.new.seat; core = c.self.inside.core; held = held_in c.self.inside.source; taken = c.self.inside.taken; published = c.self.inside.published; first = c.self.inside.first; parts = c.self.inside.parts } in
     let asks : asked w.core.left ≡ C.read c.args.group c.args.place = is_read w.core.task c.args.group c.args.place (asked w.core.left) c.requires.asks in
-    asked_well (g.T.Tasks.behaviour c.args.tasks.now) w u c.replies.new.self (C.read c.args.group c.args.place) (C.found c.in-Some.task c.read-found.result) c.replies.result c.replies.ensures.value c.requires.ready (record {
+    asked_well (g.T.Tasks.behaviour c.args.tasks.now) w u c.replies.new.self (C.read c.args.group c.args.place)
+    (C.found c.in-Some.task c.read-found.result) c.replies.result c.replies.ensures.value c.requires.ready (record {
       asked_is = asks;
       suits = tt;
       back = c.requires.reads_back;
@@ -40,7 +46,8 @@ returns-clause-acted g c =
       makes = search rules;
       serves = search rules;
       counts = search rules;
-      still = λ rests. absurd (busy_never (g.T.Tasks.behaviour c.args.tasks.now) w.desk.plan w.core.left (C.found c.in-Some.task c.read-found.result) (C.read c.args.group c.args.place) asks tt rests);
+      still = λ rests. absurd (busy_never (g.T.Tasks.behaviour c.args.tasks.now) w.desk.plan w.core.left (C.found c.in-Some.task c.read-found.result)
+          (C.read c.args.group c.args.place) asks tt rests);
       none_dropped = refl;
       core = search rules;
     })

@@ -15,14 +15,16 @@ store-requires-clause-task g c =
     let w : Work = c.args.self.now in
     let same : w.desk ≡ c.self.inside.backend.now = search rules in
     subst (λ d. c.args.task ≤ d.plan.tasks) same
-    (subst (LetsAsk w.desk.plan w.seat) (is_store w.core.task c.args.task c.args.outcome (asked w.core.left) c.requires.asks) (may_ask w.desk.plan c.requires.ready.plan w.seat w.core.left c.requires.ready.can))
+    (subst (LetsAsk w.desk.plan w.seat) (is_store w.core.task c.args.task c.args.outcome (asked w.core.left) c.requires.asks)
+    (may_ask w.desk.plan c.requires.ready.plan w.seat w.core.left c.requires.ready.can))
 
 pub returns-in-First-clause-acted : goal.returns-in-First-clause-acted
 returns-in-First-clause-acted g c =
     let w : Work = c.args.self.now in
     let u : Work = record { broker = c.self.inside.broker.now; desk = c.self.inside.backend.now; number = c.self.inside.number; pass = c.self.inside.pass; seat = c.store.new.seat; core = c.self.inside.core; held = held_in c.self.inside.source; taken = c.self.inside.taken; published = c.self.inside.published; first = c.saturating_add-self-inside.result; parts = c.self.inside.parts } in
     let asks : asked w.core.left ≡ C.keep c.args.task c.args.outcome = is_store w.core.task c.args.task c.args.outcome (asked w.core.left) c.requires.asks in
-    asked_well (g.T.Tasks.behaviour c.args.tasks.now) w u c.replies.new.self (C.keep c.args.task c.args.outcome) (C.kept true) c.replies.result c.replies.ensures.value c.requires.ready (record {
+    asked_well (g.T.Tasks.behaviour c.args.tasks.now) w u c.replies.new.self (C.keep c.args.task c.args.outcome)
+    (C.kept true) c.replies.result c.replies.ensures.value c.requires.ready (record {
       asked_is = asks;
       suits = tt;
       back = c.requires.reads_back;
@@ -32,7 +34,8 @@ returns-in-First-clause-acted g c =
       makes = search rules;
       serves = search rules;
       counts = search rules;
-      still = λ rests. absurd (busy_never (g.T.Tasks.behaviour c.args.tasks.now) w.desk.plan w.core.left (C.kept true) (C.keep c.args.task c.args.outcome) asks tt rests);
+      still = λ rests. absurd (busy_never (g.T.Tasks.behaviour c.args.tasks.now) w.desk.plan w.core.left (C.kept true)
+          (C.keep c.args.task c.args.outcome) asks tt rests);
       none_dropped = refl;
       core = search rules;
     })
@@ -42,7 +45,8 @@ returns-in-Again-clause-acted g c =
     let w : Work = c.args.self.now in
     let u : Work = record { broker = c.self.inside.broker.now; desk = c.self.inside.backend.now; number = c.self.inside.number; pass = c.self.inside.pass; seat = c.store.new.seat; core = c.self.inside.core; held = held_in c.self.inside.source; taken = c.self.inside.taken; published = c.self.inside.published; first = c.self.inside.first; parts = c.self.inside.parts } in
     let asks : asked w.core.left ≡ C.keep c.args.task c.args.outcome = is_store w.core.task c.args.task c.args.outcome (asked w.core.left) c.requires.asks in
-    asked_well (g.T.Tasks.behaviour c.args.tasks.now) w u c.replies-in-Again.new.self (C.keep c.args.task c.args.outcome) (C.kept false) c.replies-in-Again.result c.replies-in-Again.ensures.value c.requires.ready (record {
+    asked_well (g.T.Tasks.behaviour c.args.tasks.now) w u c.replies-in-Again.new.self (C.keep c.args.task c.args.outcome)
+    (C.kept false) c.replies-in-Again.result c.replies-in-Again.ensures.value c.requires.ready (record {
       asked_is = asks;
       suits = tt;
       back = c.requires.reads_back;
@@ -52,7 +56,8 @@ returns-in-Again-clause-acted g c =
       makes = search rules;
       serves = search rules;
       counts = search rules;
-      still = λ rests. absurd (busy_never (g.T.Tasks.behaviour c.args.tasks.now) w.desk.plan w.core.left (C.kept false) (C.keep c.args.task c.args.outcome) asks tt rests);
+      still = λ rests. absurd (busy_never (g.T.Tasks.behaviour c.args.tasks.now) w.desk.plan w.core.left (C.kept false)
+          (C.keep c.args.task c.args.outcome) asks tt rests);
       none_dropped = refl;
       core = search rules;
     })

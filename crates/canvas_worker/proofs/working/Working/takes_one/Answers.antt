@@ -41,7 +41,8 @@ returns-in-None-clause-acted g c =
     let asks : asked w.core.left ≡ C.take = is_take w.core.task (asked w.core.left) c.requires.asks in
     let bare : u.held ≡ [] = search rules in
     let empty : Empties u.pass = search rules in
-    asked_well (g.T.Tasks.behaviour c.args.tasks.now) w u c.answers.new.self C.take (C.taken None) c.answers.result c.answers.ensures.value c.requires.ready (record {
+    asked_well (g.T.Tasks.behaviour c.args.tasks.now) w u c.answers.new.self C.take (C.taken None) c.answers.result c.answers.ensures.value c.requires.ready
+    (record {
       asked_is = asks;
       suits = tt;
       back = reads_back w.core.left asks;
