@@ -66,8 +66,8 @@ impl<'w> Answer<'w> {
     }
 
     /// Prints the answer to both outputs, and gives the status: 0 where all went well, 1 where the
-    /// program was refused or can't print, 2 where it ended early, and 3 where that is asked for and
-    /// the canvas's result is a failure.
+    /// program was refused or can't print, 2 where it ended early, and 3 where that is asked for
+    /// and the canvas's result is a failure.
     pub fn print<W: Write, E: Write>(&self, out: &mut W, err: &mut E) -> u8 {
         let written = write_bytes(out, &self.out);
         match &self.refusal {
@@ -91,8 +91,8 @@ impl<'w> Answer<'w> {
 }
 
 impl Refusal<'_> {
-    /// Prints why there is no answer, piece by piece, since there may be no memory for a text. Where
-    /// that can't be printed either, the status is all that is left.
+    /// Prints why there is no answer, piece by piece, since there may be no memory for a text.
+    /// Where that can't be printed either, the status is all that is left.
     fn print<E: Write>(&self, err: &mut E) -> u8 {
         let _ = write_and_flush(err, self);
         self.status()

@@ -1,5 +1,5 @@
-//! Tasks that the caller hands in: three of the six and one more, or the six alone, on threads and by
-//! turns.
+//! Tasks that the caller hands in: three of the six and one more, or the six alone, on threads and
+//! by turns.
 
 ghost use Rattle.std.specs.Prelude.{◌-ℤ◌, Ok};
 

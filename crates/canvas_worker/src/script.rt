@@ -18,5 +18,6 @@ pub(crate) struct Script {
     pub publishes: VecDeque<Sealed>,
     pub part: Option<PartCall>,
     pub first: bool,
-    ghost in_range: { All (λ e. IsInRange e.1) stores.items } by { Prim.hlevel (props, range_prop) },
+    ghost in_range: { All (λ e. IsInRange e.1)
+        stores.items } by { Prim.hlevel (props, range_prop) },
 }

@@ -14,7 +14,8 @@ use canvas_task::Memory;
 #[derive(Drop)]
 pub(crate) struct Sealed {
     pub envelope: Letter,
-    ghost back: { read_envelope envelope ≡ Ok (said envelope) } by { Prim.hlevel (codes, content_code) },
+    ghost back: { read_envelope envelope
+        ≡ Ok (said envelope) } by { Prim.hlevel (codes, content_code) },
 }
 
 pub(crate) fn seal(sealer: &mut Sealer, message: Message) -> Result<Sealed, Memory>
