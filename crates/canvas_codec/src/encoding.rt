@@ -87,6 +87,23 @@ fn new_writer(alloc: Global, room: usize) -> Writer
     }
 }
 
+/// How many bytes an argument has at least, with its comma.
+fn argument_room(arg: &Arg) -> usize {
+    match arg {
+        Arg::Num(_) => 8,
+        Arg::List(numbers) => numbers.get().len().saturating_mul(2).saturating_add(8),
+        Arg::Text(text) => text.get().len().saturating_add(8),
+    }
+}
+
+fn arguments_room(args: &[Arg]) -> usize {
+    let mut room: usize = 0;
+    for arg in args {
+        room = room.saturating_add(argument_room(arg));
+    }
+    room
+}
+
 /// About how many bytes the text of a task has, with its callbacks.
 fn task_room(task: &FrozenTask) -> usize {
     let callbacks = task
@@ -94,10 +111,9 @@ fn task_room(task: &FrozenTask) -> usize {
         .get()
         .len()
         .saturating_add(task.errbacks.get().len());
-    let args = task.args.get().len();
     callbacks
         .saturating_mul(160)
-        .saturating_add(args.saturating_mul(8))
+        .saturating_add(arguments_room(task.args.get()))
         .saturating_add(200)
 }
 
@@ -129,21 +145,17 @@ fn place_room(place: &Option<Place>) -> usize {
     }
 }
 
-/// About how many bytes a body has, so that most bodies stay where they are begun.
-fn body_room(message: &Message) -> usize {
-    let args = message.args.get().len();
-    rest_room(&message.rest)
-        .saturating_add(place_room(&message.place))
-        .saturating_add(args.saturating_mul(8))
-        .saturating_add(256)
-}
-
-/// How many bytes a known text has.
-fn known_room(known: Option<&str>) -> usize {
-    match known {
+/// About how many bytes a body has, so that most bodies stay where they are begun. What the message
+/// carries may be known.
+fn body_room(message: &Message, known: Option<&str>) -> usize {
+    let carried = match known {
         Some(text) => text.len(),
-        None => 0,
-    }
+        None => place_room(&message.place),
+    };
+    rest_room(&message.rest)
+        .saturating_add(carried)
+        .saturating_add(arguments_room(message.args.get()))
+        .saturating_add(256)
 }
 
 /// The bytes of a text, which are UTF-8.
@@ -180,7 +192,7 @@ fn body_by_tokens(alloc: Global, message: &Message) -> Result<ListOf<u8>, AllocE
     ensures value { IfOk result (λ text. text ≡ compact_text (body_wire message.now)) }
     ensures utf8 { IfOk result (λ text. IsUtf8 text) }
 {
-    let mut out = new_writer(alloc, body_room(message));
+    let mut out = new_writer(alloc, body_room(message, None));
     write_body(&mut out, message)?;
     Ok(text_of(out))
 }
@@ -192,8 +204,7 @@ fn light_body(alloc: Global, message: &Message, known: Option<&str>) -> Result<L
     ensures value { IfOk result (λ text. text ≡ compact_text (body_wire message.now)) }
     ensures utf8 { IfOk result (λ text. IsUtf8 text) }
 {
-    let room = body_room(message).saturating_add(known_room(known));
-    let mut out = String::with_capacity(alloc, room)?;
+    let mut out = String::with_capacity(alloc, body_room(message, known))?;
     put_body(alloc, &mut out, message, known)?;
     Ok(bytes_of(out))
 }

@@ -64,7 +64,8 @@ where
     }
 }
 
-/// Runs each worker on a thread of its own, or on this one where none can be made.
+/// Runs each worker on a thread of its own, or on this one where none can be made or where this one
+/// serves. There they work one after the other, each until no message is in flight.
 pub(crate) fn work_on_threads<R, T, G>(
     rt: &R,
     alloc: Global,
@@ -75,6 +76,7 @@ pub(crate) fn work_on_threads<R, T, G>(
     stop: &Stop,
     flight: &InFlight,
     slots: &mut [Slot],
+    one_serves: bool,
 )
 where
     R: Threads + Wait + RandomSource + AllocGlobal + Sync,
@@ -93,5 +95,6 @@ where
         ensures { RanSlot (T.behaviour tasks.entry.now) backend.entry.now.plan slot.entry.now
             slot.exit.now }
     { work(rt, alloc, broker, backend, tasks, gate, stop, flight, slot) };
-    for_each_mut(rt, slots, slots.len(), &each);
+    let threads = if one_serves { 1 } else { slots.len() };
+    for_each_mut(rt, slots, threads, &each);
 }

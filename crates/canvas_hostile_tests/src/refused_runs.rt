@@ -2,14 +2,14 @@
 
 use crate::by_hand::{Left, work};
 use crate::rows::{Sample, are_partial, first_envelopes, sample_of_text};
-use crate::stops::FirstTimes;
+use crate::stops::{FirstTimes, OnThreads};
 use canvas_engine::{
     Report, RunFault, TextFault, When, read_turns, report_text, rows_text, run, run_text,
     run_text_threads, run_turns, run_turns_again, run_turns_within,
 };
 use canvas_samples::spelled;
 use canvas_task::{Memory, Outcome, SixTasks, TaskNo};
-use canvas_worker::{Cause, OpenGate, Stop};
+use canvas_worker::{Cause, Stop};
 use std::alloc::{AllocGlobal, Global};
 use std::random::RandomSource;
 use std::sync::Wait;
@@ -104,7 +104,7 @@ where
         &canvas.plan,
         &SixTasks,
         workers,
-        &OpenGate,
+        &OnThreads,
         &Stop::new(),
     ) {
         Ok((report, _records)) => Ok(report.rows.get().as_slice() == states.as_slice()),
@@ -226,7 +226,7 @@ where
                 text.as_bytes(),
                 &SixTasks,
                 2,
-                &OpenGate,
+                &OnThreads,
                 &Stop::new(),
             );
             reported(states, ran, report)

@@ -5,7 +5,7 @@ use crate::rows::{Sample, a_failed_member, are_partial, first_envelopes, sample_
 use canvas_engine::{RunFault, TextFault, run_text_threads};
 use canvas_samples::worked;
 use canvas_task::{Outcome, SixTasks, TaskNo};
-use canvas_worker::{Cause, Gate, OpenGate, Stop};
+use canvas_worker::{Cause, Gate, Stop};
 use std::alloc::{AllocGlobal, Global};
 use std::random::RandomSource;
 use std::sync::Wait;
@@ -15,6 +15,15 @@ use std::thread::Threads;
 
 /// More polls than the worker takes.
 const MOST: u32 = 100;
+
+/// Lets every worker go on, each on a thread of its own: it doesn't say that it never holds one.
+pub(crate) struct OnThreads;
+
+impl Gate for OnThreads {
+    fn go(&self, _worker: u32, _task: TaskNo) -> bool {
+        true
+    }
+}
 
 /// Has an envelope delivered again each of the first times that it is asked.
 #[derive(Drop)]
@@ -175,7 +184,7 @@ where
 {
     let stop = Stop::new();
     stop.ask();
-    rows_of_text(rt, alloc, text, workers, &OpenGate, &stop)
+    rows_of_text(rt, alloc, text, workers, &OnThreads, &stop)
 }
 
 fn rows_stopped_by_gate<R>(rt: &R, alloc: Global, text: &str, workers: u32) -> Option<usize>
