@@ -160,9 +160,9 @@ where
 /// this one. The workers, numbered from 1, work until no message is in flight; then this thread, as
 /// worker 0, joins what they have seen, works until it finds nothing and reads each task once.
 ///
-/// All work on this thread, one after the other, where more threads gain nothing: where no task runs
-/// beside another, and where `tasks` are light and have little to do. A gate that may hold a worker
-/// back has a thread for each.
+/// All work on this thread, one after the other, where more threads gain nothing: where no task
+/// runs beside another, and where `tasks` are light and have little to do. A gate that may hold a
+/// worker back has a thread for each.
 ///
 /// `gate` is asked between a worker's take and its first store. One that never opens keeps the run
 /// from ending, unless `stop` is asked; a worker that it holds back doesn't sleep.
