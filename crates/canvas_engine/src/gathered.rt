@@ -21,7 +21,7 @@ use canvas_backend::{Backend, BackendSeat};
 use canvas_broker::{Broker, BrokerPass};
 use canvas_rewrite::Plan;
 use canvas_task::{Fault, ListOf, Outcome, TaskNo, Tasks};
-use canvas_worker::{InFlight, OpenGate, Record, Stop, Worker};
+use canvas_worker::{InFlight, OpenGate, Record, Shared, Stop, Worker};
 use futures::executor::block_on;
 use std::alloc::{AllocGlobal, Global};
 use std::random::RandomSource;
@@ -73,21 +73,16 @@ fn read_rows(backend: &Backend, seat: &mut BackendSeat, plan: &Plan, rows: &mut 
 fn work_alone<R: Wait + RandomSource + AllocGlobal, T: Tasks>(
     rt: &R,
     alloc: Global,
-    broker: &Broker,
+    shared: &Shared<'_, T, OpenGate>,
     pass: BrokerPass,
-    backend: &Backend,
     seat: BackendSeat,
-    tasks: &T,
-    stop: &Stop,
 ) -> Option<Record>
-    requires plan { (l : Line) × IsPlan l × (backend.now.plan ≡ roster_of l) }
-    requires own { (pass.of ≡ broker.now) × (seat.of ≡ backend.now.id) }
-    ensures { IfSome result (Finished (T.behaviour tasks.now) backend.now.plan 0 pass seat) }
+    requires plan { (l : Line) × IsPlan l × (shared.now.backend.now.plan ≡ roster_of l) }
+    requires own { (pass.of ≡ shared.now.broker.now) × (seat.of ≡ shared.now.backend.now.id) }
+    ensures { IfSome result
+        (Finished (T.behaviour shared.now.tasks.now) shared.now.backend.now.plan 0 pass seat) }
 {
-    let flight = InFlight::new(0);
-    let worker = Worker::new(
-        rt, alloc, 0, broker, pass, backend, seat, tasks, &OpenGate, stop, &flight,
-    );
+    let worker = Worker::new(rt, alloc, shared, 0, pass, seat);
     match block_on(rt, InRounds { future: worker }) {
         Ok(left) => Some(left),
         Err(_) => None,
@@ -146,7 +141,15 @@ impl Gathered {
             mut rows,
             mut tallies,
         } = self;
-        let Some(left) = work_alone(rt, alloc, &broker, pass, &backend, seat, tasks, stop) else {
+        let shared = Shared {
+            broker: &broker,
+            backend: &backend,
+            tasks,
+            gate: &OpenGate,
+            stop,
+            flight: &InFlight::new(0),
+        };
+        let Some(left) = work_alone(rt, alloc, &shared, pass, seat) else {
             stop.ask();
             return Err(RunFault::halted(Cause::Memory));
         };

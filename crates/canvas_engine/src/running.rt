@@ -22,7 +22,7 @@ use canvas_broker::{Broker, BrokerPass};
 use canvas_message::Letter;
 use canvas_rewrite::Plan;
 use canvas_task::{Fault, Memory, Outcome, Tasks};
-use canvas_worker::{Gate, InFlight, Stop};
+use canvas_worker::{Gate, InFlight, Shared, Stop};
 use std::alloc::{AllocGlobal, Global};
 use std::random::RandomSource;
 use std::sync::Wait;
@@ -106,9 +106,15 @@ where
         Err(Memory) => return Err(RunFault::halted_with(Cause::Memory, rows)),
     }
     let one_serves = one_thread_serves(plan, tasks, gate);
-    work_on_threads(
-        rt, alloc, &broker, &backend, tasks, gate, stop, &flight, &mut slots, one_serves,
-    );
+    let shared = Shared {
+        broker: &broker,
+        backend: &backend,
+        tasks,
+        gate,
+        stop,
+        flight: &flight,
+    };
+    work_on_threads(rt, alloc, &shared, &mut slots, one_serves);
     if !are_done(&slots) {
         return Err(RunFault::halted(Cause::Memory));
     }

@@ -8,10 +8,8 @@ ghost use Rattle.canvas_engine.specs.steps.Slots.{IsReadySlot, RanSlot, AllRan};
 
 use crate::in_rounds::InRounds;
 use crate::slot::{Post, Slot};
-use canvas_backend::Backend;
-use canvas_broker::Broker;
 use canvas_task::Tasks;
-use canvas_worker::{Gate, InFlight, Stop, Worker};
+use canvas_worker::{Gate, Shared, Worker};
 use futures::executor::block_on;
 use std::alloc::{AllocGlobal, Global};
 use std::mem;
@@ -20,43 +18,22 @@ use std::sync::Wait;
 use std::thread::{Threads, for_each_mut};
 
 /// Runs one worker to its end on this thread.
-fn work<R, T, G>(
-    rt: &R,
-    alloc: Global,
-    broker: &Broker,
-    backend: &Backend,
-    tasks: &T,
-    gate: &G,
-    stop: &Stop,
-    flight: &InFlight,
-    slot: &mut Slot,
-)
+fn work<R, T, G>(rt: &R, alloc: Global, shared: &Shared<'_, T, G>, slot: &mut Slot)
 where
     R: Wait + RandomSource + AllocGlobal,
     T: Tasks,
     G: Gate,
-    requires plan { (l : Line) × IsPlan l × (backend.now.plan ≡ roster_of l) }
-    requires ready { IsReadySlot broker.now backend.now.id slot.old }
-    ensures { RanSlot (T.behaviour tasks.now) backend.now.plan slot.old slot.new }
+    requires plan { (l : Line) × IsPlan l × (shared.now.backend.now.plan ≡ roster_of l) }
+    requires ready { IsReadySlot shared.now.broker.now shared.now.backend.now.id slot.old }
+    ensures { RanSlot (T.behaviour shared.now.tasks.now) shared.now.backend.now.plan slot.old
+        slot.new }
 {
     match mem::replace(&mut slot.post, Post::Lost) {
         Post::Ready(pass, seat) => {
-            let worker = Worker::new(
-                rt,
-                alloc,
-                slot.number,
-                broker,
-                pass,
-                backend,
-                seat,
-                tasks,
-                gate,
-                stop,
-                flight,
-            );
+            let worker = Worker::new(rt, alloc, shared, slot.number, pass, seat);
             match block_on(rt, InRounds { future: worker }) {
                 Ok(left) => slot.post = Post::Done(left),
-                Err(_) => stop.ask(),
+                Err(_) => shared.stop.ask(),
             }
         }
         Post::Done(_) => unreachable!(),
@@ -69,12 +46,7 @@ where
 pub(crate) fn work_on_threads<R, T, G>(
     rt: &R,
     alloc: Global,
-    broker: &Broker,
-    backend: &Backend,
-    tasks: &T,
-    gate: &G,
-    stop: &Stop,
-    flight: &InFlight,
+    shared: &Shared<'_, T, G>,
     slots: &mut [Slot],
     one_serves: bool,
 )
@@ -82,19 +54,32 @@ where
     R: Threads + Wait + RandomSource + AllocGlobal + Sync,
     T: Tasks + Sync,
     G: Gate + Sync,
-    requires plan { (l : Line) × IsPlan l × (backend.now.plan ≡ roster_of l) }
-    requires ready { All (IsReadySlot broker.now backend.now.id) slots.old }
-    ensures { AllRan (T.behaviour tasks.now) backend.now.plan slots.old slots.new }
+    requires plan { (l : Line) × IsPlan l × (shared.now.backend.now.plan ≡ roster_of l) }
+    requires ready { All (IsReadySlot shared.now.broker.now shared.now.backend.now.id) slots.old }
+    ensures { AllRan (T.behaviour shared.now.tasks.now) shared.now.backend.now.plan slots.old
+        slots.new }
 {
     if slots.is_empty() {
         return;
     }
+    let (broker, backend, tasks) = (shared.broker, shared.backend, shared.tasks);
+    let (gate, stop, flight) = (shared.gate, shared.stop, shared.flight);
     let each = |_: usize, slot: &mut Slot|
         requires { ((l : Line) × IsPlan l × (backend.now.plan ≡ roster_of l))
             × IsReadySlot broker.now backend.now.id slot.now }
         ensures { RanSlot (T.behaviour tasks.entry.now) backend.entry.now.plan slot.entry.now
             slot.exit.now }
-    { work(rt, alloc, broker, backend, tasks, gate, stop, flight, slot) };
+    {
+        let shared = Shared {
+            broker,
+            backend,
+            tasks,
+            gate,
+            stop,
+            flight,
+        };
+        work(rt, alloc, &shared, slot)
+    };
     let threads = if one_serves { 1 } else { slots.len() };
     for_each_mut(rt, slots, threads, &each);
 }

@@ -16,6 +16,7 @@ mod record;
 mod script;
 mod sealed;
 mod sealing;
+mod shared;
 mod source;
 mod stages;
 mod stop;
@@ -37,6 +38,7 @@ pub use core_run::Core;
 pub use gate::{Gate, OpenGate};
 pub use in_flight::InFlight;
 pub use record::Record;
+pub use shared::Shared;
 pub use stop::Stop;
 pub use worker::Worker;
 

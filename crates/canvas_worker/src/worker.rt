@@ -7,9 +7,9 @@ ghost use Rattle.futures.specs.Poll.{OnPending, IfReady};
 ghost use Rattle.futures.specs.Task.{Covers, Keeps};
 
 use crate::working::{End, Working};
-use crate::{Gate, InFlight, Record, Stop};
-use canvas_backend::{Backend, BackendSeat};
-use canvas_broker::{Broker, BrokerPass};
+use crate::{Gate, Record, Shared};
+use canvas_backend::BackendSeat;
+use canvas_broker::BrokerPass;
 use canvas_runs::When;
 use canvas_task::Tasks;
 use futures::Future;
@@ -38,28 +38,22 @@ impl<'a, R: Wait, T: Tasks, G: Gate> Worker<'a, R, T, G> {
     pub fn new(
         rt: &'a R,
         alloc: Global,
+        shared: &Shared<'a, T, G>,
         number: u32,
-        broker: &'a Broker,
         pass: BrokerPass,
-        backend: &'a Backend,
         seat: BackendSeat,
-        tasks: &'a T,
-        gate: &'a G,
-        stop: &'a Stop,
-        flight: &'a InFlight,
     ) -> Worker<'a, R, T, G>
         ensures working { result.working
-            ≡ Some (working_begun broker.now backend.now number pass seat) }
+            ≡ Some (working_begun shared.now.broker.now shared.now.backend.now number pass seat) }
         ensures passed { result.passed ≡ None }
-        ensures tasks { result.tasks.now ≡ tasks.now }
-        ensures gate { result.gate.now ≡ gate.now }
+        ensures tasks { result.tasks.now ≡ shared.now.tasks.now }
+        ensures gate { result.gate.now ≡ shared.now.gate.now }
     {
-        let working = Working::new(rt, alloc, number, broker, pass, backend, seat, stop, flight);
         Worker {
-            working: Some(working),
+            working: Some(Working::new(rt, alloc, shared, number, pass, seat)),
             passed: None,
-            tasks,
-            gate,
+            tasks: shared.tasks,
+            gate: shared.gate,
         }
     }
 }

@@ -14,7 +14,7 @@ ghost use Rattle.canvas_worker.specs.declared.cause.Cause.TheVariants as cause;
 ghost use Rattle.canvas_worker.specs.declared.working.Said.TheVariants.{Wait, Again, On};
 
 use crate::source::Source;
-use crate::{Ask, Cause, Core, Gate, InFlight, Record, Reply, Stop};
+use crate::{Ask, Cause, Core, Gate, InFlight, Record, Reply, Shared, Stop};
 use canvas_backend::{Backend, BackendSeat, Stored};
 use canvas_broker::{Broker, BrokerPass};
 use canvas_message::Letter;
@@ -93,29 +93,27 @@ impl<'a, R: Wait> Model for Working<'a, R> {
 }
 
 impl<'a, R: Wait> Working<'a, R> {
-    pub(crate) fn new(
+    pub(crate) fn new<T, G>(
         rt: &'a R,
         alloc: Global,
+        shared: &Shared<'a, T, G>,
         number: u32,
-        broker: &'a Broker,
         pass: BrokerPass,
-        backend: &'a Backend,
         seat: BackendSeat,
-        stop: &'a Stop,
-        flight: &'a InFlight,
     ) -> Working<'a, R>
-        ensures { result ≡ working_begun broker.now backend.now number pass seat }
+        ensures { result
+            ≡ working_begun shared.now.broker.now shared.now.backend.now number pass seat }
     {
         Working {
             rt,
             alloc,
             number,
-            broker,
+            broker: shared.broker,
             pass,
-            backend,
+            backend: shared.backend,
             seat,
-            stop,
-            flight,
+            stop: shared.stop,
+            flight: shared.flight,
             core: Core::new(alloc),
             source: Source::First,
             taken: 0,

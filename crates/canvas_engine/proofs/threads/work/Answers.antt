@@ -11,9 +11,9 @@ returns-in-Ok g c =
     let plan = c.requires.plan in
     let number = c.args.slot.now.number in
     let post : c.args.slot.now.post ≡ Ready c.in-Ready.pass c.in-Ready.seat = search rules in
-    let gives : TellsOf (g.T.Tasks.behaviour c.args.tasks.now)
-    (working_begun c.args.broker.now c.args.backend.now number c.in-Ready.pass c.in-Ready.seat) c.in-Ok.left = search rules in
-    let finished : Finished (g.T.Tasks.behaviour c.args.tasks.now) c.args.backend.now.plan number c.in-Ready.pass c.in-Ready.seat c.in-Ok.left =
-    subst (λ p. Finished (g.T.Tasks.behaviour c.args.tasks.now) p number c.in-Ready.pass c.in-Ready.seat c.in-Ok.left) (sym plan.2)
-    (workers_finish (g.T.Tasks.behaviour c.args.tasks.now) plan.0 plan.1 c.args.broker.now c.args.backend.now number c.in-Ready.pass c.in-Ready.seat plan.2 c.in-Ok.left gives) in
-    (refl, subst (λ p. LeavesPost (g.T.Tasks.behaviour c.args.tasks.now) c.args.backend.now.plan number p (Done c.in-Ok.left)) (sym post) finished)
+    let gives : TellsOf (g.T.Tasks.behaviour c.args.shared.now.tasks.now)
+    (working_begun c.args.shared.now.broker.now c.args.shared.now.backend.now number c.in-Ready.pass c.in-Ready.seat) c.in-Ok.left = search rules in
+    let finished : Finished (g.T.Tasks.behaviour c.args.shared.now.tasks.now) c.args.shared.now.backend.now.plan number c.in-Ready.pass c.in-Ready.seat c.in-Ok.left =
+    subst (λ p. Finished (g.T.Tasks.behaviour c.args.shared.now.tasks.now) p number c.in-Ready.pass c.in-Ready.seat c.in-Ok.left) (sym plan.2)
+    (workers_finish (g.T.Tasks.behaviour c.args.shared.now.tasks.now) plan.0 plan.1 c.args.shared.now.broker.now c.args.shared.now.backend.now number c.in-Ready.pass c.in-Ready.seat plan.2 c.in-Ok.left gives) in
+    (refl, subst (λ p. LeavesPost (g.T.Tasks.behaviour c.args.shared.now.tasks.now) c.args.shared.now.backend.now.plan number p (Done c.in-Ok.left)) (sym post) finished)
