@@ -44,11 +44,15 @@ impl<'w> Answer<'w> {
 
     /// Nothing, and why.
     pub(crate) fn refused(alloc: Global, refusal: Refusal<'w>) -> Answer<'w> {
-        Answer::in_part(Vec::new(alloc), refusal)
+        Answer::in_part(alloc, None, refusal)
     }
 
-    /// What there is, and why that isn't all.
-    pub(crate) fn in_part(out: Vec<u8>, refusal: Refusal<'w>) -> Answer<'w> {
+    /// What there is of a report, and why that isn't all.
+    pub(crate) fn in_part(alloc: Global, text: Option<String>, refusal: Refusal<'w>) -> Answer<'w> {
+        let out = match text {
+            Some(text) => text.into_bytes(),
+            None => Vec::new(alloc),
+        };
         Answer {
             out,
             repeats: None,

@@ -54,15 +54,14 @@ impl Manner {
 
     /// Why a run has no whole report, and what it stored, where there is memory for it.
     pub(crate) fn early<'w>(&self, alloc: Global, plan: &Plan, fault: RunFault) -> Answer<'w> {
-        let rows = match &fault {
-            RunFault::Halted { rows, .. } => rows.as_ref(),
+        let stored = match &fault {
+            RunFault::Halted {
+                rows: Some(report),
+                ..
+            } => self.text(alloc, plan, report).ok(),
             _ => None,
         };
-        let text = match rows {
-            Some(report) => self.text(alloc, plan, report).ok(),
-            None => None,
-        };
-        in_part(alloc, text, Refusal::from(fault))
+        Answer::in_part(alloc, stored, Refusal::from(fault))
     }
 
     /// The plan of a text. Where it is refused and JSON is asked for, the refusal is printed so.
@@ -73,13 +72,5 @@ impl Manner {
             }
             other => other,
         }
-    }
-}
-
-/// What there is of a report, and why that isn't all.
-pub(crate) fn in_part<'w>(alloc: Global, text: Option<String>, refusal: Refusal<'w>) -> Answer<'w> {
-    match text {
-        Some(text) => Answer::in_part(text.into_bytes(), refusal),
-        None => Answer::refused(alloc, refusal),
     }
 }

@@ -2,10 +2,10 @@
 
 use crate::answer::{Answer, Repeats};
 use crate::refusal::Refusal;
-use crate::reporting::{Manner, in_part};
+use crate::reporting::Manner;
 use canvas_engine::{
-    OpenGate, Report, RunFault, Stop, TextFault, When, rows_text, run, run_text_again,
-    run_text_threads, run_turns_again,
+    OpenGate, Report, RunFault, Stop, TextFault, When, run, run_text_again, run_text_threads,
+    run_turns_again,
 };
 use canvas_rewrite::{Plan, node_of, normalise};
 use canvas_sig::{Canvas, read_canvas, write_node};
@@ -33,24 +33,6 @@ where
     }
 }
 
-/// The report of a text's run on threads.
-fn plain_run<'w, S, T>(
-    rt: &S,
-    tasks: &T,
-    workers: u32,
-    text: &[u8],
-) -> Result<Answer<'w>, Refusal<'w>>
-where
-    S: Threads + Wait + RandomSource + AllocGlobal + Sync,
-    T: Tasks + Sync,
-{
-    let alloc = rt.alloc();
-    match run_text_threads(rt, alloc, text, tasks, workers, &OpenGate, &Stop::new()) {
-        Ok(report) => Ok(Answer::whole(report.into_bytes())),
-        Err(fault) => ended(alloc, text, fault),
-    }
-}
-
 /// The report of a run on threads.
 pub(crate) fn answer_run<'w, S, T>(
     rt: &S,
@@ -63,13 +45,17 @@ where
     S: Threads + Wait + RandomSource + AllocGlobal + Sync,
     T: Tasks + Sync,
 {
+    let alloc = rt.alloc();
     if manner.is_plain() {
-        return plain_run(rt, tasks, workers, text);
+        return match run_text_threads(rt, alloc, text, tasks, workers, &OpenGate, &Stop::new()) {
+            Ok(report) => Ok(Answer::whole(report.into_bytes())),
+            Err(fault) => early(alloc, fault),
+        };
     }
-    let plan = manner.plan_of(rt.alloc(), text)?;
+    let plan = manner.plan_of(alloc, text)?;
     match report_of(rt, &plan, tasks, workers) {
-        Ok(report) => manner.whole(rt.alloc(), &plan, &report),
-        Err(fault) => Ok(manner.early(rt.alloc(), &plan, fault)),
+        Ok(report) => manner.whole(alloc, &plan, &report),
+        Err(fault) => Ok(manner.early(alloc, &plan, fault)),
     }
 }
 
@@ -83,28 +69,14 @@ pub(crate) fn answer_turns<'w, T: Tasks>(
     manner: Manner,
     text: &[u8],
 ) -> Result<Answer<'w>, Refusal<'w>> {
-    match again {
-        Some(entries) => turns_again(alloc, tasks, workers, turns, &entries, true, manner, text),
-        None => turns_again(alloc, tasks, workers, turns, &[], false, manner, text),
-    }
-}
-
-fn turns_again<'w, T: Tasks>(
-    alloc: Global,
-    tasks: &T,
-    workers: u32,
-    turns: &[u32],
-    entries: &[(TaskNo, When)],
-    counts: bool,
-    manner: Manner,
-    text: &[u8],
-) -> Result<Answer<'w>, Refusal<'w>> {
+    let entries = again.as_deref().unwrap_or(&[]);
+    let counts = again.is_some();
     if manner.is_plain() {
         return match run_text_again(alloc, text, tasks, workers, turns, entries) {
             Ok((report, repeats)) => Ok(Answer::whole(report.into_bytes()).with_repeats(
                 counts.then_some(Repeats(repeats)),
             )),
-            Err(fault) => ended(alloc, text, fault),
+            Err(fault) => early(alloc, fault),
         };
     }
     let plan = manner.plan_of(alloc, text)?;
@@ -133,22 +105,12 @@ fn line_text(alloc: Global, canvas: &Canvas) -> Result<String, Memory> {
 }
 
 /// Why a text has no whole report, and what its run stored, where there is memory for it.
-fn ended<'w>(alloc: Global, text: &[u8], fault: TextFault) -> Result<Answer<'w>, Refusal<'w>> {
+fn early<'w>(alloc: Global, fault: TextFault) -> Result<Answer<'w>, Refusal<'w>> {
     match fault {
         TextFault::Sig(fault) => Err(Refusal::from(fault)),
-        TextFault::Run(fault) => Ok(early(alloc, text, fault)),
+        TextFault::Run { fault, stored } => {
+            Ok(Answer::in_part(alloc, stored, Refusal::from(fault)))
+        }
         TextFault::Memory => Err(Refusal::Memory),
     }
-}
-
-fn early<'w>(alloc: Global, text: &[u8], fault: RunFault) -> Answer<'w> {
-    let rows = match &fault {
-        RunFault::Halted { rows, .. } => rows.as_ref(),
-        _ => None,
-    };
-    let stored = match rows {
-        Some(report) => rows_text(alloc, text, report).ok(),
-        None => None,
-    };
-    in_part(alloc, stored, Refusal::from(fault))
 }

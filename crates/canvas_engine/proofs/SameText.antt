@@ -1,10 +1,12 @@
 -- What a plan says of the canvas that it was made from.
-use Rattle.std.proofs.Common.{◌≡◌, ℕ, List, Result, Ok, Err, IfOk, IfErr, OnOk, String, Global, string_bytes, sym, ap, ◌∙◌, subst}
+use Rattle.std.proofs.Common.{◌≡◌, ℕ, List, Option, Some, None, Result, Ok, Err, IfOk, IfErr, IfSome, OnOk, String, Global, string_bytes, sym, ap, ◌∙◌, subst}
+use Rattle.std.specs.Result.{result_ok}
 use Rattle.canvas_task.specs.Apply.{Behaviour}
 use Rattle.canvas_task.specs.Text.{Text}
+use Rattle.canvas_sig.specs.CanvasText.{text_reading}
 use Rattle.canvas_semantics.specs.NormalLine.{normal}
 use Rattle.canvas_semantics.specs.Tree.{Tree, numbered}
-use Rattle.canvas_semantics.specs.Evaluation.{State, Rows, nothing}
+use Rattle.canvas_semantics.specs.Evaluation.{State, nothing}
 use Rattle.canvas_semantics.specs.Line.{Line, tree_of}
 use Rattle.canvas_semantics.specs.Report.{report, report_of}
 use Rattle.canvas_semantics.specs.SameMeaning.{IsSame}
@@ -13,8 +15,12 @@ use Rattle.canvas_semantics.proofs.RowNumbers.{states_in, states_listed}
 use Rattle.canvas_semantics.proofs.SameReport.{same_report, same_report_of}
 use Rattle.canvas_runs.specs.Spending.{Entry}
 use Rattle.canvas_engine.specs.Correct.{IsAsked, IsWholeAgain}
-use Rattle.canvas_engine.specs.Texts.{IsCanvasText, IsPlanFault, IsPlanOfText, IsTextAgain, IsTextFault}
+use Rattle.canvas_engine.specs.Texts.{IsPlanOfText, IsStored, IsTextAgain, IsTextFault}
+use Rattle.canvas_engine.specs.steps.PlanTexts.{IsPlanFault}
 use Rattle.canvas_engine.specs.declared.fault.RunFault.{RunFault}
+use Rattle.canvas_engine.specs.declared.fault.RunFault.TheVariants.{Halted}
+use Rattle.canvas_engine.specs.declared.report.Report.{Report}
+use Rattle.canvas_worker.specs.declared.cause.Cause.{Cause}
 use Rattle.canvas_engine.specs.declared.text.TextFault.{TextFault}
 use Rattle.canvas_engine.specs.declared.text.TextFault.TheVariants as a_fault
 
@@ -31,12 +37,18 @@ pub same_text : (behaviour : Behaviour) → (c : Tree) (all : Line) → IsSame (
     → report_of (tree_of all) (rows_from 1 (states behaviour (tree_of all))) ≡ report behaviour c
 same_text behaviour c all h e = ap (λ t. report_of t (rows_from 1 (states behaviour t))) e ∙ same_report behaviour c h
 
+-- what a fault's rows are written as, where they are
+pub stored_report : {E : Type 0} (t : Tree) (f : RunFault) (cause : Cause) (rows : Report) (r : Result (String Global) E) (o : Option (String Global))
+    → f ≡ Halted cause (Some rows) → o ≡ result_ok r → IfOk r (λ text. string_bytes text ≡ report_of t (rows_from 1 rows.rows)) → IfSome o (IsStored t f)
+stored_report t f cause rows (Ok text) o is made k = rw made (cause, rows, is, k)
+stored_report t f cause rows (Err e) o is made k = rw made tt
+
 -- ---- what a text answers, by what its plan answers
 
 module _ (behaviour : Behaviour) (bytes : Text) (c : Tree) (all : Line) (plan : IsPlanOfText bytes c all) where
   pub ran_text : (Asked : Type 0) (r : Result (String Global) TextFault)
       → IfOk r (λ text. Asked × (string_bytes text ≡ report_of (tree_of all) (rows_from 1 (states behaviour (tree_of all)))))
-      → IfOk r (λ text. (x : Tree) × IsCanvasText bytes x × Asked × (string_bytes text ≡ report behaviour x))
+      → IfOk r (λ text. (x : Tree) × (text_reading bytes ≡ Ok x) × Asked × (string_bytes text ≡ report behaviour x))
   ran_text Asked (Ok text) k = (c, plan.text, k.0, k.1 ∙ same_text behaviour c all plan.same plan.tree)
   ran_text Asked (Err f) k = tt
 
@@ -50,19 +62,20 @@ module _ (behaviour : Behaviour) (bytes : Text) (c : Tree) (all : Line) (plan : 
     planned = plan;
     asked = k.0;
     reported = k.2 ∙ ap (λ rows. report_of (tree_of all) (rows_from 1 rows)) k.3.are ∙ same_text behaviour c all plan.same plan.tree;
-    rows = k.1;
-    ran = k.3;
+    ran = let P : List State → Type 0 = λ rows. IsWholeAgain behaviour all n turns es rows x.1 in subst P k.3.are k.3;
   }
   ran_again n turns es (Err f) k = tt
 
-  pub ran_fault : {X : Type 0} (Says : List State → RunFault → Type 0) (r : Result X TextFault) → IfErr r (IsPlanFault (Says (states behaviour (tree_of all))))
-      → IfErr r (IsTextFault behaviour bytes Says)
+  ran_stored : (f : RunFault) (stored : Option (String Global)) → IfSome stored (IsStored (tree_of all) f) → IfSome stored (IsStored (numbered c) f)
+  ran_stored f None k = tt
+  ran_stored f (Some text) k =
+      let rows = rows_from 1 k.1.rows in
+      (k.0, k.1, k.2, k.3 ∙ ap (λ t. report_of t rows) plan.tree ∙ same_report_of c rows plan.same)
+
+  pub ran_fault : {X : Type 0} (Says : List State → RunFault → Type 0) (r : Result X TextFault)
+      → IfErr r (IsPlanFault (tree_of all) (Says (states behaviour (tree_of all)))) → IfErr r (IsTextFault behaviour bytes Says)
   ran_fault Says (Ok text) k = tt
   ran_fault Says (Err (a_fault.Sig f)) k = absurd k
-  ran_fault Says (Err (a_fault.Run f)) k = let P : List State → Type 0 = λ ss. Says ss f in
-      (c, plan.text, subst P (same_states behaviour c all plan.same plan.tree) k)
+  ran_fault Says (Err (a_fault.Run f stored)) k = let P : List State → Type 0 = λ ss. Says ss f in
+      (c, plan.text, subst P (same_states behaviour c all plan.same plan.tree) k.0, ran_stored f stored k.1)
   ran_fault Says (Err a_fault.Memory) k = tt
-
-  pub rows_reported : (rows : Rows) (text : Text) → text ≡ report_of (tree_of all) rows
-      → (x : Tree) × IsCanvasText bytes x × (text ≡ report_of (numbered x) rows)
-  rows_reported rows text e = (c, plan.text, e ∙ ap (λ t. report_of t rows) plan.tree ∙ same_report_of c rows plan.same)

@@ -14,7 +14,7 @@
 --     IsRunFault, IsFaultWithin              why a run by turns, and one of at most so many steps,
 --                                            has no whole report
 -- A run on threads that has a whole report has the promise of Headline, and shows Evidence.
-use Rattle.std.specs.Prelude.{◌≡◌, ◌≤◌, ℕ, List, All, length, Option, Some, None}
+use Rattle.std.specs.Prelude.{◌≡◌, ◌≤◌, ℕ, List, All, length, Option, Some, None, IfSome}
 use Rattle.canvas_task.specs.Apply.{Behaviour}
 use Rattle.canvas_semantics.specs.Evaluation.{State}
 use Rattle.canvas_semantics.specs.Line.{Line, tree_of}
@@ -66,21 +66,16 @@ pub record IsCut (behaviour : Behaviour) (l : Line) (n : ℕ) (turns : List ℕ)
   pub rows_held : rows ≡ held_rows l run.steps
   pub may : EachMay rows (states behaviour (tree_of l))
 
--- The rows that are given. None are where memory was refused before the first publish, or on
--- threads to a worker's executor.
-abbrev pub GivesRows : Option Report → List State → Type 0
-GivesRows None ss = Unit {0}
-GivesRows (Some report) ss = EachMay report.rows ss
-
 abbrev pub GivesCut : (behaviour : Behaviour) → Option Report → Line → ℕ → List ℕ → ℕ → Type 0
 GivesCut behaviour None l n turns steps = ⊥
 GivesCut behaviour (Some report) l n turns steps = IsCut behaviour l n turns steps report.rows
 
 -- Why a run with no bound has no whole report, where these are the states: it isn't stopped.
+-- Without rows it is for memory that was refused before the first publish.
 abbrev pub IsRunFault : ℕ → List ℕ → List State → RunFault → Type 0
 IsRunFault n turns ss BadWorkers = AreWorkers n → ⊥
 IsRunFault n turns ss BadTurn = AreWorkers n × (AreTurns n turns → ⊥)
-IsRunFault n turns ss (Halted Memory rows) = IsAsked n turns × GivesRows rows ss
+IsRunFault n turns ss (Halted Memory rows) = IsAsked n turns × IfSome rows (λ r. EachMay r.rows ss)
 IsRunFault n turns ss (Halted Stopped rows) = ⊥
 
 -- the same of a run of at most so many steps, which is stopped there
@@ -88,7 +83,7 @@ abbrev pub IsFaultWithin : (behaviour : Behaviour) → Line → ℕ → List ℕ
 IsFaultWithin behaviour l n turns steps BadWorkers = AreWorkers n → ⊥
 IsFaultWithin behaviour l n turns steps BadTurn = AreWorkers n × (AreTurns n turns → ⊥)
 IsFaultWithin behaviour l n turns steps (Halted Memory rows) =
-    IsAsked n turns × GivesRows rows (states behaviour (tree_of l))
+    IsAsked n turns × IfSome rows (λ r. EachMay r.rows (states behaviour (tree_of l)))
 IsFaultWithin behaviour l n turns steps (Halted Stopped rows) =
     IsAsked n turns × GivesCut behaviour rows l n turns steps
 
@@ -99,6 +94,6 @@ IsFaultWithin behaviour l n turns steps (Halted Stopped rows) =
 abbrev pub IsThreadFault : ℕ → List State → RunFault → Type 0
 IsThreadFault n ss BadWorkers = AreWorkers n → ⊥
 IsThreadFault n ss BadTurn = ⊥
-IsThreadFault n ss (Halted Memory rows) = AreWorkers n × GivesRows rows ss
+IsThreadFault n ss (Halted Memory rows) = AreWorkers n × IfSome rows (λ r. EachMay r.rows ss)
 IsThreadFault n ss (Halted Stopped None) = ⊥
 IsThreadFault n ss (Halted Stopped (Some report)) = AreWorkers n × EachMay report.rows ss

@@ -1,6 +1,7 @@
 -- The report of a text: of the canvas that it reads as (JSON, RFC 8259; signatures as Celery writes
 -- them); or why there is none.
-use Rattle.std.specs.Prelude.{◌≡◌, ℕ, List, Ok, Err}
+use Rattle.std.specs.Prelude.{◌≡◌, ℕ, List, Some, Ok, Err, IfSome, String, string_bytes}
+use Rattle.std.specs.Global.{Global}
 use Rattle.canvas_task.specs.Apply.{Behaviour}
 use Rattle.canvas_sig.specs.CanvasText.{text_reading}
 use Rattle.canvas_task.specs.Text.{Text}
@@ -8,39 +9,36 @@ use Rattle.canvas_semantics.specs.NormalLine.{normal}
 use Rattle.canvas_semantics.specs.Tree.{Tree, numbered}
 use Rattle.canvas_semantics.specs.Evaluation.{State}
 use Rattle.canvas_semantics.specs.Line.{Line, tree_of}
-use Rattle.canvas_semantics.specs.Report.{report}
+use Rattle.canvas_semantics.specs.Report.{report, report_of}
 use Rattle.canvas_semantics.specs.SameMeaning.{IsSame}
-use Rattle.canvas_semantics.specs.States.{states}
+use Rattle.canvas_semantics.specs.States.{rows_from, states}
 use Rattle.canvas_runs.specs.Spending.{Entry}
 use Rattle.canvas_engine.specs.Correct.{IsAsked, IsWholeAgain}
 use Rattle.canvas_engine.specs.declared.fault.RunFault.{RunFault}
+use Rattle.canvas_engine.specs.declared.fault.RunFault.TheVariants.{Halted}
+use Rattle.canvas_engine.specs.declared.report.Report.{Report}
 use Rattle.canvas_engine.specs.declared.text.TextFault.{TextFault}
 use Rattle.canvas_engine.specs.declared.text.TextFault.TheVariants.{Sig, Run, Memory}
-
--- the text reads as the canvas
-abbrev pub IsCanvasText : Text → Tree → Type 0
-IsCanvasText bytes c = text_reading bytes ≡ Ok c
-
--- why a text has no plan
-abbrev pub IsReadFault : Text → TextFault → Type 0
-IsReadFault bytes (Sig e) = text_reading bytes ≡ Err e
-IsReadFault bytes (Run f) = ⊥
-IsReadFault bytes Memory = Unit {0}
+use Rattle.canvas_worker.specs.declared.cause.Cause.{Cause}
 
 -- the line is the numbered normal line of the canvas that the text reads as
 pub record IsPlanOfText (bytes : Text) (c : Tree) (all : Line) : Type 0 where
-  pub text : IsCanvasText bytes c
+  pub text : text_reading bytes ≡ Ok c
   pub same : IsSame (normal c) c
   pub tree : tree_of all ≡ numbered (normal c)
 
--- Why a text has no report: its first refusal; else, of the run of the canvas that it reads as; or
--- memory that was refused before the run or after it. `Says` is what a fault of a run with these
--- states says.
-abbrev pub IsTextFault : (behaviour : Behaviour) → Text → (List State → RunFault → Type 0)
-    → TextFault → Type 0
+-- the text is the report, over the tree, of the rows that the fault has
+abbrev pub IsStored : Tree → RunFault → String Global → Type 0
+IsStored t f s = (cause : Cause) × (r : Report) × (f ≡ Halted cause (Some r))
+    × (string_bytes s ≡ report_of t (rows_from 1 r.rows))
+
+-- Why a text has no report: its first refusal; else, of the run of the canvas that it reads as,
+-- with the report of the rows that there are, unless memory was refused to it; or memory that was
+-- refused before the run or after it. `Says` is what a fault of a run with these states says.
+abbrev pub IsTextFault : Behaviour → Text → (List State → RunFault → Type 0) → TextFault → Type 0
 IsTextFault behaviour bytes Says (Sig e) = text_reading bytes ≡ Err e
-IsTextFault behaviour bytes Says (Run f) =
-    (c : Tree) × IsCanvasText bytes c × Says (states behaviour (numbered c)) f
+IsTextFault behaviour bytes Says (Run f stored) = (c : Tree) × (text_reading bytes ≡ Ok c)
+    × Says (states behaviour (numbered c)) f × IfSome stored (IsStored (numbered c) f)
 IsTextFault behaviour bytes Says Memory = Unit {0}
 
 -- The text is the report of the canvas that the bytes read as, and m of the stores of a run of its
@@ -53,11 +51,4 @@ pub record IsTextAgain (behaviour : Behaviour) (bytes : Text) (n : ℕ) (turns :
   pub planned : IsPlanOfText bytes canvas line
   pub asked : IsAsked n turns
   pub reported : text ≡ report behaviour canvas
-  pub rows : List State
-  pub ran : IsWholeAgain behaviour line n turns es rows m
-
--- of a plan's run, whose faults say this
-abbrev pub IsPlanFault : (RunFault → Type 0) → TextFault → Type 0
-IsPlanFault Says (Sig e) = ⊥
-IsPlanFault Says (Run f) = Says f
-IsPlanFault Says Memory = Unit {0}
+  pub ran : IsWholeAgain behaviour line n turns es (states behaviour (tree_of line)) m

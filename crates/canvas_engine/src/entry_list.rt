@@ -1,13 +1,12 @@
 //! The text of a list of entries, which say what is delivered again.
-ghost use Rattle.std.specs.Prelude.{◌≡◌, ◌≢◌, ◌++◌, ◌∷◌, [], List, IfOk, IfErr, OnOk, MatchOption};
+ghost use Rattle.std.specs.Prelude.{◌≡◌, IfOk, IfErr, MatchOption};
 ghost use Rattle.canvas_runs.specs.Spending.{Entry};
 ghost use Rattle.canvas_runs.specs.declared.when.When.{When};
-ghost use Rattle.canvas_engine.specs.declared.entry_list.EntryFault.TheVariants.{BadAgain};
 ghost use Rattle.canvas_engine.specs.EntryList.{IsEntry, IsEntryFault, IsEntryList};
 ghost use Rattle.canvas_engine.specs.EntryList.{entry_text, when_text};
 
 use crate::When;
-use crate::comma_list::{read_number, split};
+use crate::comma_list::{ItemReader, ListFault, read_list, read_number};
 use canvas_task::TaskNo;
 use std::alloc::Global;
 use thiserror::Error;
@@ -46,39 +45,18 @@ fn read_entry(text: &str) -> Option<(TaskNo, When)>
     Some((task, when))
 }
 
-fn push_entry(entries: &mut Vec<(TaskNo, When)>, text: &str) -> Result<(), EntryFault>
-    ensures ok { OnOk result ((e : Entry) × IsEntry e × (text.now ≡ entry_text e)
-        × (entries.new.items ≡ entries.old.items ++ e ∷ [])) }
-    ensures err { IfErr result (λ f. f ≡ BadAgain
-        → (e : Entry) → IsEntry e → text.now ≡ entry_text e → ⊥) }
-{
-    match read_entry(text) {
-        Some(entry) => match entries.push(entry) {
-            Ok(()) => Ok(()),
-            Err(_) => Err(EntryFault::Memory),
-        },
-        None => Err(EntryFault::BadAgain),
-    }
-}
+#[derive(Drop)]
+struct EntryReader;
 
-/// Reads one entry or more.
-fn read_pieces(alloc: Global, text: &str) -> Result<Vec<(TaskNo, When)>, EntryFault>
-    requires { text.now ≢ [] }
-    ensures ok { IfOk result (λ entries. IsEntryList text.now entries.items) }
-    ensures err { IfErr result (λ f. f ≡ BadAgain
-        → (es : List Entry) → IsEntryList text.now es → ⊥) }
-{
-    let mut entries = Vec::new(alloc);
-    let mut rest = text;
-    while let Some((first, behind)) = split(rest) {
-        match push_entry(&mut entries, first) {
-            Ok(()) => rest = behind,
-            Err(fault) => return Err(fault),
-        }
-    }
-    match push_entry(&mut entries, rest) {
-        Ok(()) => Ok(entries),
-        Err(fault) => Err(fault),
+impl ItemReader for EntryReader {
+    type Item = (TaskNo, When);
+
+    ghost is_item = { λ reader. IsEntry };
+
+    ghost item_text = { entry_text };
+
+    fn read(&self, text: &str) -> Option<(TaskNo, When)> {
+        read_entry(text)
     }
 }
 
@@ -89,8 +67,9 @@ pub fn read_again(alloc: Global, text: &str) -> Result<Vec<(TaskNo, When)>, Entr
     ensures ok { IfOk result (λ entries. IsEntryList text.now entries.items) }
     ensures err { IfErr result (IsEntryFault text.now) }
 {
-    if text.is_empty() {
-        return Ok(Vec::new(alloc));
+    match read_list(alloc, text, &EntryReader) {
+        Ok(entries) => Ok(entries),
+        Err(ListFault::BadItem) => Err(EntryFault::BadAgain),
+        Err(ListFault::Memory) => Err(EntryFault::Memory),
     }
-    read_pieces(alloc, text)
 }

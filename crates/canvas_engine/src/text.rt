@@ -1,5 +1,6 @@
 //! From the text of a canvas to the text of its report.
-ghost use Rattle.std.specs.Prelude.{◌≡◌, List, IfOk, IfErr, OnOk, string_bytes};
+ghost use Rattle.std.specs.Prelude.{◌≡◌, List, Ok, IfOk, IfErr, IfSome, OnOk, string_bytes};
+ghost use Rattle.canvas_sig.specs.CanvasText.{text_reading};
 ghost use Rattle.canvas_semantics.specs.NormalLine.{normal};
 ghost use Rattle.canvas_semantics.specs.Tree.{Tree, numbered};
 ghost use Rattle.canvas_semantics.specs.Evaluation.{State};
@@ -8,9 +9,10 @@ ghost use Rattle.canvas_semantics.specs.Report.{report, report_of};
 ghost use Rattle.canvas_semantics.specs.SameMeaning.{IsSame};
 ghost use Rattle.canvas_semantics.specs.States.{rows_from, states};
 ghost use Rattle.canvas_engine.specs.Correct.{AreWorkers, IsAsked, IsWholeAgain, IsRunFault, IsThreadFault};
-ghost use Rattle.canvas_engine.specs.Texts.{IsCanvasText, IsPlanFault, IsPlanOfText, IsReadFault, IsTextAgain, IsTextFault};
+ghost use Rattle.canvas_engine.specs.Texts.{IsPlanOfText, IsStored, IsTextAgain, IsTextFault};
+ghost use Rattle.canvas_engine.specs.steps.PlanTexts.{IsPlanFault, IsReadFault};
 
-use crate::{Report, RunFault, When, report_text, run, run_turns_again};
+use crate::{RunFault, When, report_text, run, run_turns_again};
 use canvas_rewrite::{Plan, freeze, into_normal};
 use canvas_sig::{Canvas, SigFault, read_canvas};
 use canvas_task::{Memory, TaskNo, Tasks};
@@ -27,9 +29,13 @@ pub enum TextFault {
     /// The text is refused.
     #[error("{0}")]
     Sig(SigFault),
-    /// Its run has no whole report.
-    #[error("{0}")]
-    Run(RunFault),
+    /// Its run has no whole report. `stored` is the text of the rows that `fault` has: it is None
+    /// where there are none, or no memory for their text.
+    #[error("{fault}")]
+    Run {
+        fault: RunFault,
+        stored: Option<String>,
+    },
     /// A growth was refused before the run, or after it.
     #[error("memory refused")]
     Memory,
@@ -71,6 +77,19 @@ fn read_plan(alloc: Global, bytes: &[u8]) -> Result<Plan, TextFault>
     }
 }
 
+/// The report of the rows that a fault has, where there is memory for it.
+fn stored_text(alloc: Global, plan: &Plan, fault: &RunFault) -> Option<String>
+    ensures { IfSome result (IsStored (tree_of plan.now) fault.now) }
+{
+    match fault {
+        RunFault::Halted {
+            rows: Some(report),
+            ..
+        } => report_text(alloc, plan, report).ok(),
+        _ => None,
+    }
+}
+
 /// Runs a plan on one thread, and writes its report. With it comes how many stores answered Again.
 fn plan_text<T: Tasks>(
     alloc: Global,
@@ -83,12 +102,15 @@ fn plan_text<T: Tasks>(
     ensures ok { IfOk result (λ r. IsAsked workers turns.now × (rows : List State)
         × (string_bytes r.0 ≡ report_of (tree_of plan.now) (rows_from 1 rows))
         × IsWholeAgain (T.behaviour tasks.now) plan.now workers turns.now again.now rows r.1) }
-    ensures err { IfErr result (IsPlanFault
+    ensures err { IfErr result (IsPlanFault (tree_of plan.now)
         (IsRunFault workers turns.now (states (T.behaviour tasks.now) (tree_of plan.now)))) }
 {
     match run_turns_again(alloc, plan, tasks, workers, turns, again) {
         Ok((report, repeats)) => Ok((report_text(alloc, plan, &report)?, repeats)),
-        Err(fault) => Err(TextFault::Run(fault)),
+        Err(fault) => Err(TextFault::Run {
+            stored: stored_text(alloc, plan, &fault),
+            fault,
+        }),
     }
 }
 
@@ -101,7 +123,7 @@ pub fn run_text<T: Tasks>(
     workers: u32,
     turns: &[u32],
 ) -> Result<String, TextFault>
-    ensures ok { IfOk result (λ text. (c : Tree) × IsCanvasText bytes.now c
+    ensures ok { IfOk result (λ text. (c : Tree) × (text_reading bytes.now ≡ Ok c)
         × IsAsked workers turns.now × (string_bytes text ≡ report (T.behaviour tasks.now) c)) }
     ensures err { IfErr result
         (IsTextFault (T.behaviour tasks.now) bytes.now (IsRunFault workers turns.now)) }
@@ -149,12 +171,15 @@ where
         × (string_bytes text
         ≡ report_of (tree_of plan.now)
         (rows_from 1 (states (T.behaviour tasks.now) (tree_of plan.now))))) }
-    ensures err { IfErr result
-        (IsPlanFault (IsThreadFault workers (states (T.behaviour tasks.now) (tree_of plan.now)))) }
+    ensures err { IfErr result (IsPlanFault (tree_of plan.now)
+        (IsThreadFault workers (states (T.behaviour tasks.now) (tree_of plan.now)))) }
 {
     match run(rt, alloc, plan, tasks, workers, gate, stop) {
         Ok((report, _records)) => Ok(report_text(alloc, plan, &report)?),
-        Err(fault) => Err(TextFault::Run(fault)),
+        Err(fault) => Err(TextFault::Run {
+            stored: stored_text(alloc, plan, &fault),
+            fault,
+        }),
     }
 }
 
@@ -174,22 +199,11 @@ where
     R: Threads + Wait + RandomSource + AllocGlobal + Sync,
     T: Tasks + Sync,
     G: Gate + Sync,
-    ensures ok { IfOk result (λ text. (c : Tree) × IsCanvasText bytes.now c × AreWorkers workers
-        × (string_bytes text ≡ report (T.behaviour tasks.now) c)) }
+    ensures ok { IfOk result (λ text. (c : Tree) × (text_reading bytes.now ≡ Ok c)
+        × AreWorkers workers × (string_bytes text ≡ report (T.behaviour tasks.now) c)) }
     ensures err { IfErr result
         (IsTextFault (T.behaviour tasks.now) bytes.now (IsThreadFault workers)) }
 {
     let plan = read_plan(alloc, bytes)?;
     plan_text_threads(rt, alloc, &plan, tasks, workers, gate, stop)
-}
-
-/// The report of rows that a run of a text has stored: the canvas is read again, since such a run
-/// gives back its rows alone.
-pub fn rows_text(alloc: Global, bytes: &[u8], report: &Report) -> Result<String, TextFault>
-    ensures ok { IfOk result (λ text. (c : Tree) × IsCanvasText bytes.now c
-        × (string_bytes text ≡ report_of (numbered c) (rows_from 1 report.now.rows))) }
-    ensures err { IfErr result (IsReadFault bytes.now) }
-{
-    let plan = read_plan(alloc, bytes)?;
-    Ok(report_text(alloc, &plan, report)?)
 }

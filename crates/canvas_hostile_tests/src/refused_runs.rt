@@ -1,11 +1,11 @@
 //! Runs that may be refused memory.
 
 use crate::by_hand::{Left, work};
-use crate::rows::{Sample, are_partial, first_envelopes, sample_of_text};
+use crate::rows::{Sample, are_partial, first_envelopes, is_stored, sample_of_text};
 use crate::stops::{FirstTimes, OnThreads};
 use canvas_engine::{
-    Report, RunFault, TextFault, When, read_turns, report_text, rows_text, run, run_text,
-    run_text_threads, run_turns, run_turns_again, run_turns_within,
+    Report, RunFault, TextFault, When, read_turns, report_text, run, run_text, run_text_threads,
+    run_turns, run_turns_again, run_turns_within,
 };
 use canvas_samples::spelled;
 use canvas_task::{Memory, Outcome, SixTasks, TaskNo};
@@ -144,16 +144,23 @@ fn by_hand<R: Wait + RandomSource + AllocGlobal>(
     }
 }
 
-/// Whether a text has a report.
+/// Whether a text has a report, or that of its rows where its run ended early.
 fn reported(
-    states: &[Option<Outcome>],
+    alloc: Global,
+    canvas: &Sample,
     ran: Result<String, TextFault>,
     report: &str,
 ) -> Result<bool, Memory> {
     match ran {
         Ok(text) => Ok(text.as_str() == report),
         Err(TextFault::Memory) => Err(Memory),
-        Err(TextFault::Run(fault)) => ended_early(states, &fault),
+        Err(TextFault::Run { fault, stored }) => {
+            if is_stored(alloc, &canvas.plan, &fault, &stored)? {
+                ended_early(canvas.states.get(), &fault)
+            } else {
+                Ok(false)
+            }
+        }
         Err(TextFault::Sig(_)) => Ok(false),
     }
 }
@@ -174,17 +181,14 @@ fn again(alloc: Global, canvas: &Sample, workers: u32) -> Result<bool, Memory> {
     }
 }
 
-/// Whether a canvas's states are written as a report, by its plan and by its text.
-fn is_reported(alloc: Global, canvas: &Sample, text: &str, report: &str) -> Result<bool, Memory> {
-    let states = canvas.states.get();
+/// Whether a canvas's states are written as a report.
+fn is_reported(alloc: Global, canvas: &Sample, report: &str) -> Result<bool, Memory> {
     match run_turns(alloc, &canvas.plan, &SixTasks, 1, &[]) {
         Ok(found) => {
-            let by_plan = report_text(alloc, &canvas.plan, &found)?;
-            let by_text = rows_text(alloc, text.as_bytes(), &found);
-            let is_same = by_plan.as_str() == report;
-            Ok(reported(states, by_text, report)? && is_same)
+            let text = report_text(alloc, &canvas.plan, &found)?;
+            Ok(text.as_str() == report)
         }
-        Err(fault) => ended_early(states, &fault),
+        Err(fault) => ended_early(canvas.states.get(), &fault),
     }
 }
 
@@ -213,9 +217,10 @@ where
         How::Again(workers) => again(alloc, canvas, workers),
         How::Threads(workers) => by_threads(rt, alloc, canvas, workers),
         How::ByHand => by_hand(rt, alloc, canvas),
-        How::Report => is_reported(alloc, canvas, text, report),
+        How::Report => is_reported(alloc, canvas, report),
         How::Text => reported(
-            states,
+            alloc,
+            canvas,
             run_text(alloc, text.as_bytes(), &SixTasks, 1, &[]),
             report,
         ),
@@ -229,7 +234,7 @@ where
                 &OnThreads,
                 &Stop::new(),
             );
-            reported(states, ran, report)
+            reported(alloc, canvas, ran, report)
         }
     }
 }

@@ -2,7 +2,7 @@
 
 use canvas_codec::seal;
 use canvas_effects::first_messages;
-use canvas_engine::run_turns;
+use canvas_engine::{RunFault, report_text, run_turns};
 use canvas_message::Letter;
 use canvas_rewrite::Plan;
 use canvas_samples::sample::plan_of;
@@ -45,6 +45,25 @@ pub(crate) fn are_partial(rows: &[Option<Outcome>], states: &[Option<Outcome>]) 
             .iter()
             .zip(states)
             .all(|(row, state)| row.is_none() || row == state)
+}
+
+/// Whether what a run of a text has stored is the report of its rows, and there if it has rows.
+pub(crate) fn is_stored(
+    alloc: Global,
+    plan: &Plan,
+    fault: &RunFault,
+    stored: &Option<String>,
+) -> Result<bool, Memory> {
+    match fault {
+        RunFault::Halted {
+            rows: Some(report),
+            ..
+        } => {
+            let text = report_text(alloc, plan, report)?;
+            Ok(stored.as_deref() == Some(text.as_str()))
+        }
+        _ => Ok(stored.is_none()),
+    }
 }
 
 /// The envelopes of the messages that a plan begins with.

@@ -1,7 +1,9 @@
 //! Stops: of one worker before each of its polls, and of runs of texts on threads.
 
 use crate::by_hand::{Left, work};
-use crate::rows::{Sample, a_failed_member, are_partial, first_envelopes, sample_of_text};
+use crate::rows::{
+    Sample, a_failed_member, are_partial, first_envelopes, is_stored, sample_of_text,
+};
 use canvas_engine::{RunFault, TextFault, run_text_threads};
 use canvas_samples::worked;
 use canvas_task::{Outcome, SixTasks, TaskNo};
@@ -153,7 +155,7 @@ fn rows_of_stopped(fault: &RunFault, states: &[Option<Outcome>]) -> Option<usize
     }
 }
 
-/// The same of a text's run.
+/// The same of a text's run, which has the report of its rows too.
 fn rows_of_text<R, G>(
     rt: &R,
     alloc: Global,
@@ -168,7 +170,12 @@ where
 {
     let canvas = sample_of_text(alloc, text)?;
     match run_text_threads(rt, alloc, text.as_bytes(), &SixTasks, workers, gate, stop) {
-        Err(TextFault::Run(fault)) => rows_of_stopped(&fault, canvas.states.get()),
+        Err(TextFault::Run { fault, stored }) => {
+            match is_stored(alloc, &canvas.plan, &fault, &stored) {
+                Ok(true) => rows_of_stopped(&fault, canvas.states.get()),
+                _ => None,
+            }
+        }
         _ => None,
     }
 }

@@ -4,7 +4,7 @@
 --     IsCutAgain l n turns es most rows         the rows of one that was cut off, with some worker
 --                                               that had not ended
 --     IsAgainFault                              why there is no whole report
-use Rattle.std.specs.Prelude.{◌≡◌, ◌≤◌, ◌+◌, ℕ, List, length, Some, None}
+use Rattle.std.specs.Prelude.{◌≡◌, ◌≤◌, ◌+◌, ℕ, List, length, Some, None, IfSome}
 use Rattle.canvas_task.specs.Apply.{Behaviour}
 use Rattle.canvas_semantics.specs.Evaluation.{State}
 use Rattle.canvas_semantics.specs.Line.{Line, tree_of}
@@ -13,7 +13,7 @@ use Rattle.canvas_runs.specs.Spending.{Entry, ByEntries}
 use Rattle.canvas_runs.specs.TurnLaws.{held_rows}
 use Rattle.canvas_runs.specs.Turns.{Step, IsWorker, HasEnded, Begins, redeliveries_in}
 use Rattle.canvas_worker.specs.declared.cause.Cause.TheVariants.{Memory, Stopped}
-use Rattle.canvas_engine.specs.Correct.{AreWorkers, AreTurns, IsAsked, IsWholeAgain, GivesRows}
+use Rattle.canvas_engine.specs.Correct.{AreWorkers, AreTurns, IsAsked, IsWholeAgain}
 use Rattle.canvas_engine.specs.declared.fault.RunFault.{RunFault}
 use Rattle.canvas_engine.specs.declared.fault.RunFault.TheVariants.{BadWorkers, BadTurn, Halted}
 
@@ -42,7 +42,7 @@ abbrev pub IsAgainFault : (behaviour : Behaviour) → Line → ℕ → List ℕ 
 IsAgainFault behaviour l n turns es most BadWorkers = AreWorkers n → ⊥
 IsAgainFault behaviour l n turns es most BadTurn = AreWorkers n × (AreTurns n turns → ⊥)
 IsAgainFault behaviour l n turns es most (Halted Memory rows) =
-    IsAsked n turns × GivesRows rows (states behaviour (tree_of l))
+    IsAsked n turns × IfSome rows (λ r. EachMay r.rows (states behaviour (tree_of l)))
 IsAgainFault behaviour l n turns es most (Halted Stopped None) = ⊥
 IsAgainFault behaviour l n turns es most (Halted Stopped (Some report)) =
     IsAsked n turns × IsCutAgain behaviour l n turns es most report.rows
