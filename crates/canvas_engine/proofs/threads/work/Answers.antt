@@ -9,11 +9,15 @@ use Rattle.canvas_engine.proofs.threads.work.Goals as goal
 pub returns-in-Ok : goal.returns-in-Ok
 returns-in-Ok g c =
     let plan = c.requires.plan in
+    let shared = c.args.shared.now in
+    let behaviour = g.T.Tasks.behaviour shared.tasks.now in
     let number = c.args.slot.now.number in
-    let post : c.args.slot.now.post ≡ Ready c.in-Ready.pass c.in-Ready.seat = search rules in
-    let gives : TellsOf (g.T.Tasks.behaviour c.args.shared.now.tasks.now)
-    (working_begun c.args.shared.now.broker.now c.args.shared.now.backend.now number c.in-Ready.pass c.in-Ready.seat) c.in-Ok.left = search rules in
-    let finished : Finished (g.T.Tasks.behaviour c.args.shared.now.tasks.now) c.args.shared.now.backend.now.plan number c.in-Ready.pass c.in-Ready.seat c.in-Ok.left =
-    subst (λ p. Finished (g.T.Tasks.behaviour c.args.shared.now.tasks.now) p number c.in-Ready.pass c.in-Ready.seat c.in-Ok.left) (sym plan.2)
-    (workers_finish (g.T.Tasks.behaviour c.args.shared.now.tasks.now) plan.0 plan.1 c.args.shared.now.broker.now c.args.shared.now.backend.now number c.in-Ready.pass c.in-Ready.seat plan.2 c.in-Ok.left gives) in
-    (refl, subst (λ p. LeavesPost (g.T.Tasks.behaviour c.args.shared.now.tasks.now) c.args.shared.now.backend.now.plan number p (Done c.in-Ok.left)) (sym post) finished)
+    let pass = c.in-Ready.pass in
+    let seat = c.in-Ready.seat in
+    let left = c.in-Ok.left in
+    let post : c.args.slot.now.post ≡ Ready pass seat = search rules in
+    let gives : TellsOf behaviour (working_begun shared.broker.now shared.backend.now number pass seat) left = search rules in
+    let finished : Finished behaviour shared.backend.now.plan number pass seat left =
+    subst (λ p. Finished behaviour p number pass seat left) (sym plan.2)
+    (workers_finish behaviour plan.0 plan.1 shared.broker.now shared.backend.now number pass seat plan.2 left gives) in
+    (refl, subst (λ p. LeavesPost behaviour shared.backend.now.plan number p (Done left)) (sym post) finished)
