@@ -1,6 +1,7 @@
 -- A worker's turn: what the queue, the table and the worker's core were tells what may be asked, and what is there after it.
 use Rattle.std.proofs.Common.{◌≡◌, ◌≢◌, ◌<◌, ◌-◌, ◌⊎◌, inl, inr, ℕ, zero, suc, Bool, true, false, List, [], ◌∷◌, ◌++◌, length, Some, refl, sym, ap, ◌∙◌, subst, arith}
-use Rattle.std.specs.Prelude.{◌||◌, IsSome, slice_get, slice_set}
+use Rattle.std.specs.Prelude.{◌||◌, IsSome, get_or, slice_get, slice_set}
+use Rattle.std.proofs.lemmas.Option.{slice_get_read}
 use Rattle.std.specs.List.{list_any}
 use Rattle.canvas_task.specs.Apply.{Behaviour, AnswersInRange}
 use Rattle.canvas_semantics.specs.Line.{Line}
@@ -58,6 +59,9 @@ may_of plan xs end h = tt
 may_of plan xs ack h = tt
 may_of plan xs (deliver e) h = tt
 
+same_core : (cores : List Standing) (i : ℕ) (c d : Standing) → slice_get cores i ≡ Some c → slice_get cores i ≡ Some d → c ≡ d
+same_core cores i c d e f = let both : Some c ≡ Some d = sym e ∙ f in cc
+
 abbrev pub HasTurn : (behaviour : Behaviour) → Line → ℕ → Stage → Type 0
 HasTurn behaviour l p s = (n : ℕ) × (most : ℕ) × (es : List Entry) × (us : List ℕ) × IsWorker n p × HasReached behaviour l n most es us s
 
@@ -67,6 +71,28 @@ module _ (behaviour : Behaviour) (fits : AnswersInRange behaviour) (l : Line) (p
 
   same_number : suc (p - 1) ≡ p
   same_number = omega (arith, turn.4.0)
+
+  -- the worker's core, and what is there once its envelope may have been delivered again
+  module _ (first : Standing) (is_first : first ≡ get_or s.cores.items (p - 1) first) where
+    pub here_first : slice_get s.cores.items (p - 1) ≡ Some first
+    here_first = slice_get_read s.cores.items _ (p - 1) first refl is_place is_first
+
+    module _ (t : Stage) (gone : (c : Standing) → slice_get s.cores.items (p - 1) ≡ Some c → Redelivers c s t) where
+      pub others : (t.table ≡ s.table) × (t.cores ≡ s.cores) × (t.steps ≡ s.steps) × (t.repeats ≡ s.repeats)
+      others = (gone first here_first).others
+
+      pub place_then : p - 1 < length t.cores.items
+      place_then = subst (λ cs. p - 1 < length cs.items) (sym others.1) is_place
+
+      module _ (core : Standing) (is_core : core ≡ get_or t.cores.items (p - 1) core) where
+        pub core_then : slice_get t.cores.items (p - 1) ≡ Some core
+        core_then = slice_get_read t.cores.items _ (p - 1) core refl place_then is_core
+
+        pub core_now : slice_get s.cores.items (p - 1) ≡ Some core
+        core_now = ap (λ cs. slice_get cs.items (p - 1)) (sym others.1) ∙ core_then
+
+        pub unchanged : first ≡ core
+        unchanged = same_core s.cores.items (p - 1) first core here_first core_now
 
   module _ (core : Standing) (here : slice_get s.cores.items (p - 1) ≡ Some core) where
     pub not_out : core.is_out ≡ false
@@ -173,9 +199,6 @@ module _ (behaviour : Behaviour) (fits : AnswersInRange behaviour) (l : Line) (p
                   plan_is = tried.0 ∙ leads.plan_is;
                   table_is = r.table_is ∙ ap (λ z. results_next z (asked core.left)) leads.table_is ∙ sym (results_more _ ys x);
                 }
-
-pub same_core : (cores : List Standing) (i : ℕ) (c d : Standing) → slice_get cores i ≡ Some c → slice_get cores i ≡ Some d → c ≡ d
-same_core cores i c d e f = let both : Some c ≡ Some d = sym e ∙ f in cc
 
 pub one_fewer : (k : ℕ) → (k ≡ 0 → ⊥) → k ≡ suc (k - 1)
 one_fewer zero h = absurd (h refl)

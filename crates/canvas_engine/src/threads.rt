@@ -70,15 +70,19 @@ where
         ensures { RanSlot (T.behaviour tasks.entry.now) backend.entry.now.plan slot.entry.now
             slot.exit.now }
     {
-        let shared = Shared {
-            broker,
-            backend,
-            tasks,
-            gate,
-            stop,
-            flight,
-        };
-        work(rt, alloc, &shared, slot)
+        work(
+            rt,
+            alloc,
+            &Shared {
+                broker,
+                backend,
+                tasks,
+                gate,
+                stop,
+                flight,
+            },
+            slot,
+        )
     };
     let threads = if one_serves { 1 } else { slots.len() };
     for_each_mut(rt, slots, threads, &each);
