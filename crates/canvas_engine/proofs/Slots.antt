@@ -11,7 +11,7 @@ use Rattle.canvas_message.specs.declared.envelope.Envelope.{Envelope}
 use Rattle.canvas_backend.specs.Seats as seats
 use Rattle.canvas_backend.specs.Roster.{Roster}
 use Rattle.canvas_history.specs.Callers.{Owes}
-use Rattle.canvas_runs.specs.Calls.{BrokerCall, BackendCall}
+use Rattle.canvas_runs.specs.Calls.{QueueAnswered, TableAnswered}
 use Rattle.canvas_runs.specs.Crew.{Mate, SplitPasses, JoinPasses, SplitSeats, JoinSeats}
 use Rattle.canvas_runs.specs.Following.{Pass, Seat, Makes, Serves, IsOver as IsEnded}
 use Rattle.canvas_runs.specs.Lists.{Each}
@@ -45,11 +45,11 @@ one_longer (y ∷ ys) x = let k = one_longer ys x in omega (arith, k)
 
 -- ---- of one broker and one backend
 
-pub makes_of : (p q : Pass) (cs : List (BrokerCall Envelope)) → Makes p cs q → q.of ≡ p.of
+pub makes_of : (p q : Pass) (cs : List (QueueAnswered Envelope)) → Makes p cs q → q.of ≡ p.of
 makes_of p q [] m = ap (λ (x : Pass). x.of) m
 makes_of p q (c ∷ cs) m = makes_of m.0 q cs m.2 ∙ m.1.0
 
-pub serves_of : (plan : Roster) (s t : Seat) (cs : List (BackendCall Outcome)) → Serves plan s cs t → t.of ≡ s.of
+pub serves_of : (plan : Roster) (s t : Seat) (cs : List TableAnswered) → Serves plan s cs t → t.of ≡ s.of
 serves_of plan s t [] m = ap (λ (x : Seat). x.of) m
 serves_of plan s t (c ∷ cs) m = serves_of plan m.0 t cs m.2 ∙ m.1.0
 

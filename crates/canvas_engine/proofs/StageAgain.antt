@@ -9,12 +9,14 @@ use Rattle.canvas_semantics.specs.Line.{Line}
 use Rattle.canvas_rewrite.specs.FrozenView.{PCarried}
 use Rattle.canvas_message.specs.Content.{Content}
 use Rattle.canvas_message.specs.declared.envelope.Envelope.{Envelope}
+use Rattle.canvas_backend.specs.declared.stored.Stored.{Stored}
+use Rattle.canvas_backend.specs.declared.stored.Stored.TheVariants.{First, Again}
 use Rattle.canvas_backend.specs.Backend.{Results}
 use Rattle.canvas_backend.specs.Plain.{held}
 use Rattle.canvas_backend.specs.Roster.{Roster, roster_of}
 use Rattle.canvas_runs.specs.Book.{book_of}
 use Rattle.canvas_runs.specs.Calls.{AskedAndAnswered, scripts_of, of_scripts, held_by, held_after}
-use Rattle.canvas_runs.specs.Core.{take, send, keep, part, read, pause, deliver, ack, taken, sent, kept, counted, found, rested, acked, CoreState, taking, resting, over, failed, owning, doing, reading, acking, left_after, IsCoreRun, is_inside}
+use Rattle.canvas_runs.specs.Core.{take, publish, store, part, read, rest, redeliver, ack, taken, sent, stored, counted, found, rested, acked, CoreState, taking, resting, over, failed, owning, doing, reading, acking, left_after, IsCoreRun, is_inside}
 use Rattle.canvas_runs.specs.Lists.{by}
 use Rattle.canvas_runs.specs.Spending.{Entry, TurnedAgain, wanted, spent, comes_to, message_in, point_of, point, answers_again, agains_in}
 use Rattle.canvas_runs.specs.Tally.{greatest_count}
@@ -32,7 +34,7 @@ use Rattle.canvas_worker.specs.EnvelopeWorker.{enveloped, enveloped_by, no_tasks
 use Rattle.canvas_worker.specs.CorePast.{task_in}
 use Rattle.canvas_worker.specs.CoreState as standing
 use Rattle.canvas_worker.specs.CoreState.{Standing, Left, asked, task_of, point_in, point_at}
-use Rattle.canvas_engine.specs.steps.Stages.{AnswersNow, Stepped, stores_again, counted_on, Redelivers, IsCoreAt, LeadsTo, Reached, IsTurn}
+use Rattle.canvas_engine.specs.steps.Stages.{AnswersNow, Stepped, store_answer, counted_on, Redelivers, IsCoreAt, LeadsTo, Reached, IsTurn}
 use Rattle.canvas_engine.specs.declared.stage.Stage.{Stage}
 use Rattle.canvas_engine.proofs.StageSteps.{together, more_is, same_ask, worker_back, answered_so, IsPut, stepped}
 
@@ -47,7 +49,7 @@ module _ (l : Line) where
   of_held w None = refl
   of_held w (Some e) = of_message w (opened (book_of l) e)
 
-  point_alike : (behaviour : Behaviour) (s : Left) (t : CoreState Content PCarried Outcome) → IsAlike behaviour s t → (x : Option ℕ) (h : Option Envelope)
+  point_alike : (behaviour : Behaviour) (s : Left) (t : CoreState Content PCarried) → IsAlike behaviour s t → (x : Option ℕ) (h : Option Envelope)
       → (is_inside s ≡ true → x ≡ task_in (book_of l) h) → point_in s x ≡ point l t h
   point_alike behaviour taking taking a x h task = refl
   point_alike behaviour resting resting a x h task = refl
@@ -62,27 +64,31 @@ module _ (l : Line) where
 -- ---- counts
 
 pub no_copy : (a : Asked) → of_scripts a ≡ true → redelivers_one a ≡ 0
-no_copy (deliver e) h = absurd cc
+no_copy (redeliver e) h = absurd cc
 no_copy a h = refl
 
+abbrev again_one : Stored → ℕ
+again_one First = 0
+again_one Again = 1
+
 again_said : (plan : Roster) (queue : List Envelope) (results : Results) (more : Bool) (a : Asked) (r : Answer) → AnswersNow plan queue results more a r
-    → answers_again a r ≡ cond (stores_again results a) 1 0
+    → answers_again a r ≡ again_one (store_answer results a)
 again_said plan queue results more take (taken x) h = refl
-again_said plan queue results more (send e) sent h = refl
-again_said plan queue results more (keep t o) (kept b) h = one b ∙ ap (λ z. cond (not z) 1 0) h
+again_said plan queue results more (publish e) sent h = refl
+again_said plan queue results more (store t o) (stored b) h = one b ∙ ap again_one h
   where
-    one : (b : Bool) → answers_again (keep t o) (kept b) ≡ cond (not b) 1 0
-    one true = refl
-    one false = refl
+    one : (b : Stored) → answers_again (store t o) (stored b) ≡ again_one b
+    one First = refl
+    one Again = refl
 again_said plan queue results more (part g t) (counted m) h = refl
 again_said plan queue results more (read g i) (found t x) h = refl
-again_said plan queue results more pause (rested m) h = refl
+again_said plan queue results more rest (rested m) h = refl
 again_said plan queue results more ack acked h = refl
 again_said plan queue results more a r h = elim h [ ]
 
-more_agains : (n r s : ℕ) (b : Bool) → r ≡ min greatest_count n → s ≡ counted_on r b → s ≡ min greatest_count (n + cond b 1 0)
-more_agains n r s true a b = omega (arith, a, b)
-more_agains n r s false a b = omega (arith, a, b)
+more_agains : (n r s : ℕ) (b : Stored) → r ≡ min greatest_count n → s ≡ counted_on r b → s ≡ min greatest_count (n + again_one b)
+more_agains n r s Again a b = omega (arith, a, b)
+more_agains n r s First a b = omega (arith, a, b)
 
 -- ---- a stage with the same queue, table and cores
 
@@ -110,16 +116,16 @@ module _ (behaviour : Behaviour) (l : Line) (n : ℕ) (us : List ℕ) (xs : List
 
     module _ (own : IsWorker n (suc i)) (e : Envelope) (has : standing.held c ≡ Some e) where
       abbrev copy : Step
-      copy = (suc i, (deliver e, sent))
+      copy = (suc i, (redeliver e, sent))
 
       holds_it : holds xs (suc i) ≡ Some e
       holds_it = sym (leads.cores_are i c here).holds ∙ has
 
-      none_asked : (b : Bool) → scripts_of {E = Envelope} {O = Outcome} (cond b ((deliver e, sent) ∷ []) []) ≡ []
+      none_asked : (b : Bool) → scripts_of {E = Envelope} (cond b ((redeliver e, sent) ∷ []) []) ≡ []
       none_asked true = refl
       none_asked false = refl
 
-      still_held : (h : Option Envelope) (b : Bool) → held_after {E = Envelope} {O = Outcome} h (cond b ((deliver e, sent) ∷ []) []) ≡ h
+      still_held : (h : Option Envelope) (b : Bool) → held_after {E = Envelope} h (cond b ((redeliver e, sent) ∷ []) []) ≡ h
       still_held h true = refl
       still_held h false = refl
 
@@ -169,13 +175,13 @@ stood behaviour l n us xs s leads i c here own t gone = go gone.envelope
         → (ys : List Step) × LeadsTo behaviour l n us ys t
     go (inl (w, q, a)) = (xs, leads_too behaviour l n us xs s leads t q gone.others.0 gone.others.1)
     go (inr (w, (e, has, q), a)) =
-        (xs ++ (suc i, (deliver e, sent)) ∷ [], delivered behaviour l n us xs s leads i c here own e has t q gone.others.0 gone.others.1)
+        (xs ++ (suc i, (redeliver e, sent)) ∷ [], delivered behaviour l n us xs s leads i c here own e has t q gone.others.0 gone.others.1)
 
 -- ---- a turn
 
 module _ (behaviour : Behaviour) (l : Line) (n most : ℕ) (es : List Entry) (us : List ℕ) (xs : List Step) (s : Stage)
     (reached : Reached behaviour l n most es us xs s) (i : ℕ) (c : Standing) (here : slice_get s.cores.items i ≡ Some c) (own : IsWorker n (suc i)) where
-  module _ (t : Stage) (gone : Redelivers c s t) (more : Bool) (told : asked c.left ≡ pause
+  module _ (t : Stage) (gone : Redelivers c s t) (more : Bool) (told : asked c.left ≡ rest
       → more ≡ (is_queued t.queue || list_any (λ d. is_inside d.left) t.cores.items)) where
     here_too : slice_get t.cores.items i ≡ Some c
     here_too = ap (λ z. slice_get z.items i) gone.others.1 ∙ here
@@ -183,7 +189,7 @@ module _ (behaviour : Behaviour) (l : Line) (n most : ℕ) (es : List Entry) (us
     module _ (s' : Stage) (c' : Standing) (step : Stepped behaviour more c t.queue t.table c' s'.queue s'.table)
         (put : (length s'.cores.items ≡ length t.cores.items)
         × ((j : ℕ) (e : Standing) → slice_get s'.cores.items j ≡ Some e → ((j ≡ i) × (e ≡ c')) ⊎ ((j ≡ i → ⊥) × (slice_get t.cores.items j ≡ Some e))))
-        (fewer : t.steps ≡ suc s'.steps) (said : s'.repeats ≡ counted_on t.repeats (stores_again (held t.table) (asked c.left)))
+        (fewer : t.steps ≡ suc s'.steps) (said : s'.repeats ≡ counted_on t.repeats (store_answer (held t.table) (asked c.left)))
         (kept_so : s'.again.items ≡ t.again.items) where
       abbrev answer : Step
       answer = (suc i, (asked c.left, step.reply))
@@ -194,14 +200,14 @@ module _ (behaviour : Behaviour) (l : Line) (n most : ℕ) (es : List Entry) (us
       -- the answers Again so far
       agains_so : (ys : List Step) → t.repeats ≡ min greatest_count (agains_in ys) → s'.repeats ≡ min greatest_count (agains_in (ys ++ answer ∷ []))
       agains_so ys so_far =
-          let said_so : answers_again (asked c.left) step.reply ≡ cond (stores_again (held t.table) (asked c.left)) 1 0 =
+          let said_so : answers_again (asked c.left) step.reply ≡ again_one (store_answer (held t.table) (asked c.left)) =
           again_said t.table.plan t.queue (held t.table) more (asked c.left) step.reply step.answers in
           let whole = total-append (λ (y : Step). answers_again y.1.0 y.1.1) ys (answer ∷ []) in
-          more_agains (agains_in ys) t.repeats s'.repeats (stores_again (held t.table) (asked c.left)) so_far said
+          more_agains (agains_in ys) t.repeats s'.repeats (store_answer (held t.table) (asked c.left)) so_far said
           ∙ ap (min greatest_count) (omega (arith, whole, said_so))
 
       module _ (ys : List Step) (leads : LeadsTo behaviour l n us ys t) where
-        told_so : asked c.left ≡ pause → more ≡ holds_more behaviour l n ys
+        told_so : asked c.left ≡ rest → more ≡ holds_more behaviour l n ys
         told_so e = told e ∙ more_is behaviour l n us ys t leads
 
         leads_then : LeadsTo behaviour l n (us ++ suc i ∷ []) (ys ++ answer ∷ []) s'
@@ -235,7 +241,7 @@ module _ (behaviour : Behaviour) (l : Line) (n most : ℕ) (es : List Entry) (us
               )
           go (inr (w, (e, has, q), a)) =
               let there = reached.leads in
-              let d : Step = (suc i, (deliver e, sent)) in
+              let d : Step = (suc i, (redeliver e, sent)) in
               let ys = xs ++ d ∷ [] in
               let leads : LeadsTo behaviour l n us ys t = delivered behaviour l n us xs s there i c here own e has t q gone.others.0 gone.others.1 in
               let here_point = point_is behaviour l n us xs s there i c here in

@@ -7,7 +7,7 @@ use Rattle.canvas_message.specs.declared.envelope.Envelope.{Envelope}
 use Rattle.canvas_backend.specs.declared.stored.Stored.{Stored}
 use Rattle.canvas_backend.specs.declared.stored.Stored.TheVariants.{First, Again}
 use Rattle.canvas_backend.specs.Backend as results
-use Rattle.canvas_backend.specs.Backend.{Results, says_first}
+use Rattle.canvas_backend.specs.Backend.{Results}
 use Rattle.canvas_backend.specs.Plain.{Shelf, held}
 use Rattle.canvas_runs.specs.Core as C
 use Rattle.canvas_runs.specs.Core.{ReadsBack}
@@ -20,7 +20,7 @@ use Rattle.canvas_worker.specs.CoreState.{Standing, asked, after_reply}
 use Rattle.canvas_worker.specs.declared.ask.Ask.{Ask}
 use Rattle.canvas_worker.specs.declared.ask.Ask.TheVariants as A
 use Rattle.canvas_worker.specs.declared.ask.Reply.TheVariants as R
-use Rattle.canvas_engine.specs.steps.Stages.{AnswersNow, AreInRange, Stepped, IsTried, stores_again, counted_on}
+use Rattle.canvas_engine.specs.steps.Stages.{AnswersNow, AreInRange, Stepped, IsTried, store_answer, counted_on}
 
 -- ---- an answered ask
 
@@ -73,11 +73,8 @@ at_place i [] = refl
 at_place zero (x ∷ xs) = refl
 at_place (suc i) (x ∷ xs) = at_place i xs
 
-pub stored_says : (x y : Stored) → results.was x ≡ results.was y → says_first x ≡ says_first y
-stored_says First First e = refl
-stored_says Again Again e = refl
-stored_says First Again e = absurd cc
-stored_says Again First e = absurd cc
+pub stored_says : (x y : Stored) → results.was x ≡ results.was y → x ≡ y
+stored_says x y e = cc
 
 pub counted_says : (x y : ℕ) → results.count x ≡ results.count y → x ≡ y
 counted_says x y e = cc
@@ -100,24 +97,24 @@ same_place xs i t u e f = let both : Some t ≡ Some u = sym e ∙ at_place i xs
 -- ---- stores that answer Again
 
 -- the same of an ask as it is shown
-abbrev pub shown_again : Results → Ask → Bool
-shown_again s (A.Store t o) = not (says_first (results.first_or (s.outcomes t)))
-shown_again s v = false
+abbrev pub shown_again : Results → Ask → Stored
+shown_again s (A.Store t o) = results.first_or (s.outcomes t)
+shown_again s v = First
 
-again_shown : (s : Results) (x : Option ℕ) (a : Asked) (v : Ask) → v ≡ shown x a → stores_again s a ≡ shown_again s v
+again_shown : (s : Results) (x : Option ℕ) (a : Asked) (v : Ask) → v ≡ shown x a → store_answer s a ≡ shown_again s v
 again_shown s x a v e = same a ∙ ap (shown_again s) (sym e)
   where
-    same : (b : Asked) → stores_again s b ≡ shown_again s (shown x b)
+    same : (b : Asked) → store_answer s b ≡ shown_again s (shown x b)
     same C.take = refl
-    same (C.send d) = refl
-    same (C.keep t o) = refl
+    same (C.publish d) = refl
+    same (C.store t o) = refl
     same (C.part g t) = refl
     same (C.read g i) = refl
-    same C.pause = refl
+    same C.rest = refl
     same C.end = refl
     same C.ack = refl
-    same (C.deliver d) = refl
+    same (C.redeliver d) = refl
 
 -- an ask that is no store isn't counted
-pub none_counted : (s : Results) (x : Option ℕ) (a : Asked) (v : Ask) (m : ℕ) → v ≡ shown x a → shown_again s v ≡ false → m ≡ counted_on m (stores_again s a)
+pub none_counted : (s : Results) (x : Option ℕ) (a : Asked) (v : Ask) (m : ℕ) → v ≡ shown x a → shown_again s v ≡ First → m ≡ counted_on m (store_answer s a)
 none_counted s x a v m is none = sym (ap (counted_on m) (again_shown s x a v is ∙ none))

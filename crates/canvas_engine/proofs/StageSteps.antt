@@ -14,7 +14,7 @@ use Rattle.canvas_backend.specs.Backend.{Results}
 use Rattle.canvas_backend.specs.Plain.{held}
 use Rattle.canvas_backend.specs.Roster.{Roster, roster_of}
 use Rattle.canvas_runs.specs.Book.{book_of}
-use Rattle.canvas_runs.specs.Core.{take, send, keep, part, read, pause, end, taken, sent, kept, counted, found, rested, CoreState, taking, resting, over, failed, owning, doing, reading, ask, answered, left_after, Suits, ReadsBack, IsCoreRun, is_inside, deliver, ack, acked, acking}
+use Rattle.canvas_runs.specs.Core.{take, publish, store, part, read, rest, end, taken, sent, stored, counted, found, rested, CoreState, taking, resting, over, failed, owning, doing, reading, ask, answered, left_after, Suits, ReadsBack, IsCoreRun, is_inside, redeliver, ack, acked, acking}
 use Rattle.canvas_runs.specs.Lists.{Each, by}
 use Rattle.canvas_runs.specs.Turns.{Step, IsWorker, Turned, Answers, HasEnded, left, queue_after, queue_next, results_after, results_next, holds_more, some_inside, is_queued}
 use Rattle.canvas_runs.specs.Worker.{worker}
@@ -36,31 +36,31 @@ use Rattle.canvas_engine.specs.declared.stage.Stage.{Stage}
 -- ---- what was answered
 
 module _ (behaviour : Behaviour) (l : Line) (n : ℕ) (xs : List Step) where
-  pub answers_run : (more : Bool) (a : Asked) (r : Answer) → (a ≡ pause → more ≡ holds_more behaviour l n xs)
+  pub answers_run : (more : Bool) (a : Asked) (r : Answer) → (a ≡ rest → more ≡ holds_more behaviour l n xs)
       → AnswersNow (roster_of l) (queue_after l xs) (results_after xs) more a r → Answers behaviour l n xs a r
   answers_run more take (taken x) m h = h
-  answers_run more (send e) sent m h = tt
-  answers_run more (keep t o) (kept b) m h = h
+  answers_run more (publish e) sent m h = tt
+  answers_run more (store t o) (stored b) m h = h
   answers_run more (part g t) (counted k) m h = h
   answers_run more (read g i) (found t x) m h = h
-  answers_run more pause (rested b) m h = h ∙ m refl
+  answers_run more rest (rested b) m h = h ∙ m refl
   answers_run more ack acked m h = tt
   answers_run more a r m h = elim h [ ]
 
 suits_now : (plan : Roster) (queue : List Envelope) (results : Results) (more : Bool) (a : Asked) (r : Answer) → AnswersNow plan queue results more a r
     → Suits a r
 suits_now plan queue results more take (taken x) h = tt
-suits_now plan queue results more (send e) sent h = tt
-suits_now plan queue results more (keep t o) (kept b) h = tt
+suits_now plan queue results more (publish e) sent h = tt
+suits_now plan queue results more (store t o) (stored b) h = tt
 suits_now plan queue results more (part g t) (counted k) h = tt
 suits_now plan queue results more (read g i) (found t x) h = tt
-suits_now plan queue results more pause (rested b) h = tt
+suits_now plan queue results more rest (rested b) h = tt
 suits_now plan queue results more ack acked h = tt
 suits_now plan queue results more a r h = elim h [ ]
 
 -- ---- whether somebody is inside a message
 
-inside_alike : (behaviour : Behaviour) → (s : Left) (t : CoreState Content PCarried Outcome) → IsAlike behaviour s t → is_inside s ≡ is_inside t
+inside_alike : (behaviour : Behaviour) → (s : Left) (t : CoreState Content PCarried) → IsAlike behaviour s t → is_inside s ≡ is_inside t
 inside_alike behaviour taking taking h = refl
 inside_alike behaviour resting resting h = refl
 inside_alike behaviour over over h = refl
@@ -131,7 +131,7 @@ module _ (behaviour : Behaviour) (l : Line) (n : ℕ) (us : List ℕ) (xs : List
     pub worker_back : ReadsBack (enveloped_by no_tasks no_book) c.left → ReadsBack (worker behaviour l) (left behaviour l xs (suc i))
     worker_back back = (together (suc i)).1.reads_back (subst (ReadsBack (enveloped behaviour (roster_of l))) env_left back)
 
-    module _ (more : Bool) (more_so : asked c.left ≡ pause → more ≡ holds_more behaviour l n xs) where
+    module _ (more : Bool) (more_so : asked c.left ≡ rest → more ≡ holds_more behaviour l n xs) where
       pub answered_so : (r : Answer) → AnswersNow s.table.plan s.queue (held s.table) more (asked c.left) r → Answers behaviour l n xs (asked c.left) r
       answered_so r h =
           let h1 = subst (λ plan. AnswersNow plan s.queue (held s.table) more (asked c.left) r) leads.plan_is h in

@@ -8,7 +8,7 @@ use Rattle.canvas_semantics.specs.Line.{Line}
 use Rattle.canvas_backend.specs.Backend.{Results}
 use Rattle.canvas_backend.specs.Plain.{held}
 use Rattle.canvas_backend.specs.Roster.{Roster, roster_of}
-use Rattle.canvas_runs.specs.Core.{take, send, keep, part, read, pause, end, ReadsBack, is_inside, ack, deliver}
+use Rattle.canvas_runs.specs.Core.{take, publish, store, part, read, rest, end, ReadsBack, is_inside, ack, redeliver}
 use Rattle.canvas_runs.specs.Spending.{Entry}
 use Rattle.canvas_runs.specs.TurnLaws.{Answerable}
 use Rattle.canvas_runs.specs.Turns.{Step, IsWorker, HasEnded, results_after, results_next, is_queued}
@@ -20,7 +20,7 @@ use Rattle.canvas_worker.specs.Books.{no_book}
 use Rattle.canvas_worker.specs.EnvelopeWorker.{enveloped_by, no_tasks}
 use Rattle.canvas_worker.specs.CoreState as standing
 use Rattle.canvas_worker.specs.CoreState.{Standing, asked}
-use Rattle.canvas_engine.specs.steps.Stages.{MayAsk, AreInRange, Stepped, IsTried, Tried, stores_again, counted_on, Redelivers, LeadsTo, Reached, HasReached, IsTurn, IsHalfway, IsStopped}
+use Rattle.canvas_engine.specs.steps.Stages.{MayAsk, AreInRange, Stepped, IsTried, Tried, store_answer, counted_on, Redelivers, LeadsTo, Reached, HasReached, IsTurn, IsHalfway, IsStopped}
 use Rattle.canvas_engine.specs.declared.stage.Stage.{Stage}
 use Rattle.canvas_engine.proofs.StageAgain.{one_turn, stood}
 use Rattle.canvas_engine.proofs.StageSteps.{each_more, has_ended, not_ended, same_ask, more_is, turned_so}
@@ -50,14 +50,14 @@ put_length (c ∷ cs) (suc i) d = ap suc (put_length cs i d)
 -- what can be answered may be asked
 may_of : (plan : Roster) (xs : List Step) (a : Asked) → Answerable plan xs a → MayAsk plan (results_after xs) a
 may_of plan xs take h = tt
-may_of plan xs (send e) h = tt
-may_of plan xs (keep t o) h = h.0
+may_of plan xs (publish e) h = tt
+may_of plan xs (store t o) h = h.0
 may_of plan xs (part g t) h = (h.0, h.1, (h.2, h.3))
 may_of plan xs (read g i) h = (h.0, h.2, h.3)
-may_of plan xs pause h = tt
+may_of plan xs rest h = tt
 may_of plan xs end h = tt
 may_of plan xs ack h = tt
-may_of plan xs (deliver e) h = tt
+may_of plan xs (redeliver e) h = tt
 
 same_core : (cores : List Standing) (i : ℕ) (c d : Standing) → slice_get cores i ≡ Some c → slice_get cores i ≡ Some d → c ≡ d
 same_core cores i c d e f = let both : Some c ≡ Some d = sym e ∙ f in cc
@@ -161,14 +161,14 @@ module _ (behaviour : Behaviour) (fits : AnswersInRange behaviour) (l : Line) (p
       held_in_range t o e = (held_range behaviour l n us xs reached.leads.by_turns fits t o (ap (λ (r : Results). r.outcomes t) (sym reached.leads.table_is)
           ∙ e)).1
 
-      module _ (t : Stage) (gone : Redelivers core s t) (more : Bool) (told : asked core.left ≡ pause
+      module _ (t : Stage) (gone : Redelivers core s t) (more : Bool) (told : asked core.left ≡ rest
           → more ≡ (is_queued t.queue || list_any (λ c. is_inside c.left) t.cores.items)) where
         here_then : slice_get t.cores.items (p - 1) ≡ Some core
         here_then = ap (λ z. slice_get z.items (p - 1)) gone.others.1 ∙ here
 
         pub went : (s' : Stage) (core' : Standing) → Stepped behaviour more core t.queue t.table core' s'.queue s'.table
             → s'.cores.items ≡ slice_set t.cores.items (p - 1) core' → t.steps ≡ suc s'.steps
-            → s'.repeats ≡ counted_on t.repeats (stores_again (held t.table) (asked core.left)) → s'.again.items ≡ t.again.items
+            → s'.repeats ≡ counted_on t.repeats (store_answer (held t.table) (asked core.left)) → s'.again.items ≡ t.again.items
             → IsTurn behaviour true l n most es us xs p s'
         went s' core' step put fewer said kept =
             subst (λ q. IsTurn behaviour true l n most es us xs q s') same_number

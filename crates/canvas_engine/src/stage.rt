@@ -4,10 +4,10 @@ ghost use Rattle.std.specs.List.{list_any};
 ghost use Rattle.canvas_semantics.specs.Line.{count_line};
 ghost use Rattle.canvas_rewrite.specs.Planned.{IsPlan};
 ghost use Rattle.canvas_effects.specs.Effects.{first_messages};
-ghost use Rattle.canvas_backend.specs.Backend.{no_results, says_first};
+ghost use Rattle.canvas_backend.specs.Backend.{no_results};
 ghost use Rattle.canvas_backend.specs.Plain.{held};
 ghost use Rattle.canvas_backend.specs.Roster.{roster_of};
-ghost use Rattle.canvas_runs.specs.Core.{end, pause, ReadsBack, is_inside};
+ghost use Rattle.canvas_runs.specs.Core.{end, rest, ReadsBack, is_inside};
 ghost use Rattle.canvas_message.specs.declared.envelope.Envelope.{Envelope};
 ghost use Rattle.canvas_runs.specs.Spending.{Entry};
 ghost use Rattle.canvas_runs.specs.Tally.{greatest_count};
@@ -19,7 +19,7 @@ ghost use Rattle.canvas_worker.specs.EnvelopeWorker.{enveloped_by, no_tasks};
 ghost use Rattle.canvas_worker.specs.CoreState as standing;
 ghost use Rattle.canvas_worker.specs.CoreState.{Standing, asked};
 ghost use Rattle.canvas_worker.specs.declared.ask.Ask.TheVariants as ask;
-ghost use Rattle.canvas_engine.specs.steps.Stages.{rows_of, MayAsk, AreInRange, Stepped, IsTried, stores_again, counted_on, Redelivers, AreNew, Reached, HasReached, IsTurn, IsHalt, IsNew};
+ghost use Rattle.canvas_engine.specs.steps.Stages.{rows_of, MayAsk, AreInRange, Stepped, IsTried, store_answer, counted_on, Redelivers, AreNew, Reached, HasReached, IsTurn, IsHalt, IsNew};
 
 use crate::Cause;
 use crate::entries::first_for;
@@ -82,7 +82,7 @@ fn read<T: Tasks>(
 
 /// A count with one more where a store answered Again. It stays at its greatest value.
 fn count_again(repeats: u64, stored: Stored) -> u64
-    ensures { result ≡ counted_on repeats (not (says_first stored)) }
+    ensures { result ≡ counted_on repeats stored }
 {
     match stored {
         Stored::First => repeats,
@@ -108,7 +108,7 @@ fn step<T: Tasks>(
     ensures ok { OnOk result (Stepped (T.behaviour tasks.now) more core.old queue.old table.old
         core.new queue.new table.new) }
     ensures again { repeats.new
-        ≡ counted_on repeats.old (stores_again (held table.old) (asked core.old.left)) }
+        ≡ counted_on repeats.old (store_answer (held table.old) (asked core.old.left)) }
     ensures err { OnErr result
         (IsTried (T.behaviour tasks.now) more core.old queue.old table.old table.new) }
 {
@@ -254,7 +254,7 @@ impl Stage {
     fn tells_more(&self, index: usize) -> bool
         requires { index < length self.now.cores.items }
         ensures { (core : Standing) → slice_get self.now.cores.items index ≡ Some core
-            → asked core.left ≡ pause
+            → asked core.left ≡ rest
             → result
             ≡ (is_queued self.now.queue
             || list_any (λ c. is_inside c.left) self.now.cores.items) }

@@ -1,4 +1,5 @@
 pub mod History
 pub mod Callers
+pub mod Answers
 pub mod codes
 pub mod steps

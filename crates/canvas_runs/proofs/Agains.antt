@@ -3,15 +3,16 @@ use Rattle.std.proofs.Common.{◌≡◌, ◌⊎◌, ℕ, zero, suc, ◌+◌, ◌
 use Rattle.std.proofs.lemmas.Bool.{cases_eq, cases_lt, eqb-true}
 use Rattle.std.proofs.lemmas.Nat.{mul-le}
 use Rattle.canvas_task.specs.Apply.{Behaviour}
-use Rattle.canvas_task.specs.declared.outcome.Outcome.{Outcome}
 use Rattle.canvas_semantics.specs.Line.{Line}
 use Rattle.canvas_rewrite.specs.Planned.{IsPlan}
 use Rattle.canvas_message.specs.Content.{Content, number_of}
 use Rattle.canvas_message.specs.Among.{In}
 use Rattle.canvas_message.specs.declared.envelope.Envelope.{Envelope}
+use Rattle.canvas_backend.specs.declared.stored.Stored.TheVariants.{First, Again}
+use Rattle.canvas_broker.specs.Broker as broker
 use Rattle.canvas_runs.specs.Book.{book_of}
-use Rattle.canvas_runs.specs.Calls.{BrokerCall, published, took, again}
-use Rattle.canvas_runs.specs.Core.{Ask, Reply, keep, part, read, kept, counted, found, taking, resting, over, Doing, Between}
+use Rattle.canvas_runs.specs.Calls.{QueueAnswered}
+use Rattle.canvas_runs.specs.Core.{Ask, Reply, store, part, read, stored, counted, found, taking, resting, over, Doing, Between}
 use Rattle.canvas_runs.specs.Going.{most_steps}
 use Rattle.canvas_runs.specs.Law.{of_task, takes_one_of, agains_one_of, agains_one, IsRunMessage, publishes, publishes_one, takes_of_task, redeliveries, again_stores, FirstPart, SecondPart}
 use Rattle.canvas_runs.specs.Lists.{Each, total, seconds}
@@ -75,18 +76,18 @@ total_as v w e [] = refl
 total_as v w e (x ∷ xs) = ap₂ (λ a b. a + b) (e x) (total_as v w e xs)
 
 -- the task whose store answers
-abbrev stores_of : Ask Envelope Outcome → ℕ
-stores_of (keep t o) = t
+abbrev stores_of : Ask Envelope → ℕ
+stores_of (store t o) = t
 stores_of a = 0
 
 module _ (behaviour : Behaviour) (l : Line) where
   again_of_task : (k : ℕ) (x : Step) → cond (eqb (stores_of x.1.0) k) (answers_again x.1.0 x.1.1) 0 ≡ in_table behaviour l (agains_one k) x.1
   again_of_task k (p, (a, r)) = go a r
     where
-      go : (a : Ask Envelope Outcome) (r : Reply Envelope Outcome)
+      go : (a : Ask Envelope) (r : Reply Envelope)
           → cond (eqb (stores_of a) k) (answers_again a r) 0 ≡ in_table behaviour l (agains_one k) (a, r)
-      go (keep t o) (kept true) = zero_either (eqb t k)
-      go (keep t o) (kept false) = omega arith
+      go (store t o) (stored First) = zero_either (eqb t k)
+      go (store t o) (stored Again) = omega arith
       go (part g t) (counted n) = zero_either (eqb 0 k)
       go (read g i) (found t x) = zero_either (eqb 0 k)
       go a r = zero_either (eqb (stores_of a) k)
@@ -233,12 +234,11 @@ module _ (behaviour : Behaviour) (l : Line) (n : ℕ) (es : List Entry) (us : Li
       | inr y ↦ inr (of_call y.0 y.1 y.2)
     ]
       where
-        of_call : (y : BrokerCall Envelope) → In y (seconds (queue_calls R.queue)) → (agains_one_of l k y ≡ 0 → ⊥) → IsRunTask behaviour l k
-        of_call (published e) i d = absurd (d refl)
-        of_call (took x) i d = absurd (d refl)
-        of_call (again e) i d =
-            let m = run_again behaviour l t.plan R e i in
+        of_call : (y : QueueAnswered Envelope) → In y (seconds (queue_calls R.queue)) → (agains_one_of l k y ≡ 0 → ⊥) → IsRunTask behaviour l k
+        of_call (broker.redeliver e, r) i d =
+            let m = run_again behaviour l t.plan R e r i in
             run_where k (opened (book_of l) e) (λ c o. subst (IsRunMessage behaviour l) (some_same (opened (book_of l) e) m.0 c m.2 o) m.3) d
+        of_call c i d = absurd (d refl)
 
     was_run : (k : ℕ) → D k ≡ 1 → IsRunTask behaviour l k
     was_run k o = elim (find_heavy (publishes_one l k) (seconds (queue_calls R.queue))) [
@@ -246,12 +246,11 @@ module _ (behaviour : Behaviour) (l : Line) (n : ℕ) (es : List Entry) (us : Li
       | inr y ↦ of_call y.0 y.1 y.2
     ]
       where
-        of_call : (y : BrokerCall Envelope) → In y (seconds (queue_calls R.queue)) → (publishes_one l k y ≡ 0 → ⊥) → IsRunTask behaviour l k
-        of_call (published e) i d =
-            let m = run_sealed behaviour l t.plan R e i in
+        of_call : (y : QueueAnswered Envelope) → In y (seconds (queue_calls R.queue)) → (publishes_one l k y ≡ 0 → ⊥) → IsRunTask behaviour l k
+        of_call (broker.publish e, r) i d =
+            let m = run_sealed behaviour l t.plan R e r i in
             run_where k (opened (book_of l) e) (λ c o. subst (IsRunMessage behaviour l) (some_same (opened (book_of l) e) m.0 c m.2 o) m.3) d
-        of_call (took x) i d = absurd (d refl)
-        of_call (again e) i d = absurd (d refl)
+        of_call c i d = absurd (d refl)
 
     few_publishes : (k : ℕ) → (D k ≡ 0) ⊎ (D k ≡ 1)
     few_publishes k = let f = first.published_once k in

@@ -64,7 +64,6 @@ module _ (behaviour : Behaviour) where
     Envelope = Message;
     Message = Message;
     Carried = Carried;
-    Outcome = Outcome;
     no = λ m. m.no;
     outcome = outcome_of behaviour;
     ended = after;

@@ -1,9 +1,8 @@
 -- Each publish is by the caller that brought its event about, and a chord is completed at most once.
-use Rattle.std.proofs.Common.{⊎_elim, ◌≡◌, ℕ, suc, ◌≤◌, Bool, true, false, cond, eqb, List, [], ◌∷◌, length, Option, Some, None, refl, sym, ap, subst, ◌∙◌, inl, inr, arith}
+use Rattle.std.proofs.Common.{⊎_elim, ◌≡◌, ℕ, suc, ◌≤◌, Bool, true, false, cond, eqb, List, [], ◌∷◌, length, Option, Some, refl, sym, ap, subst, ◌∙◌, inl, inr, arith}
 use Rattle.std.proofs.lemmas.Bool.{eqb-true, eq-eqb}
 use Rattle.canvas_task.specs.Apply.{Behaviour}
-use Rattle.canvas_task.specs.declared.outcome.Outcome.{Outcome}
-use Rattle.canvas_history.specs.History.{Entry, split, join, calls}
+use Rattle.canvas_history.specs.History.{Entry, calls}
 use Rattle.canvas_semantics.specs.Line.{Line, members}
 use Rattle.canvas_rewrite.specs.Planned.{IsPlan}
 use Rattle.canvas_rewrite.proofs.Members.{plan_apart}
@@ -12,18 +11,19 @@ use Rattle.canvas_message.specs.Among.{In}
 use Rattle.canvas_effects.specs.Events.{Event, start, running, end_of_line, completion, DoesIn}
 use Rattle.canvas_effects.specs.Job as job
 use Rattle.canvas_message.specs.declared.envelope.Envelope.{Envelope}
-use Rattle.canvas_backend.specs.declared.stored.Stored.TheVariants.{First, Again}
-use Rattle.canvas_backend.specs.Backend.{Log, TableCall, TableReply, store, part, read, was, count, found, no_results}
-use Rattle.canvas_broker.specs.Broker.{QueueEntry as Entries, publish, take, redeliver}
+use Rattle.canvas_backend.specs.declared.stored.Stored.TheVariants.{First}
+use Rattle.canvas_backend.specs.Backend.{TableCall, TableReply, store, part, was, count, no_results}
+use Rattle.canvas_broker.specs.Broker.{publish}
+use Rattle.canvas_history.specs.Answers.{answered_calls}
 use Rattle.canvas_runs.specs.Causes.{Brought, ByCause, ByItsCause, completes_one, completions}
-use Rattle.canvas_runs.specs.Following.{table_call, table_reply}
-use Rattle.canvas_runs.specs.Calls.{published, BackendCall, stored, returned, has_read}
+use Rattle.canvas_runs.specs.Calls.{TableAnswered}
 use Rattle.canvas_runs.specs.Lists.{by, total, seconds}
-use Rattle.canvas_runs.specs.Logs.{queue_calls, table_calls}
+use Rattle.canvas_runs.specs.Logs.{queue_calls}
 use Rattle.canvas_runs.specs.Run.{Run}
 use Rattle.canvas_runs.specs.Book.{book_of}
 use Rattle.canvas_runs.specs.Worker.{sealed, opened}
-use Rattle.canvas_runs.proofs.Bridges.{table_is, table_starts, publish_in}
+use Rattle.canvas_runs.proofs.Bridges.{table_is, table_starts}
+use Rattle.canvas_runs.proofs.CallsOf.{seconds_in, entry_in, queue_call_in}
 use Rattle.canvas_runs.proofs.Facts.{X, form, Does, order, value, once}
 use Rattle.canvas_runs.proofs.FirstLaw.{inner_run}
 use Rattle.canvas_runs.proofs.Histories.{GoodPublish, each_seconds}
@@ -53,38 +53,9 @@ in_by p c (e ∷ es) (inr i) = go (eqb e.0 p) (in_by p c es i)
     go true k = inr k
     go false k = k
 
-publish_by : (es : List (Entries Envelope)) (p : ℕ) (e : Envelope) (a : Option Envelope) → In (calls p (publish e) a) es → In (p, published e) (queue_calls es)
-publish_by [] p e a i = elim i [ ]
-publish_by (split q r ∷ es) p e a (inl s) = absurd (cc)
-publish_by (split q r ∷ es) p e a (inr i) = publish_by es p e a i
-publish_by (join q r ∷ es) p e a (inl s) = absurd (cc)
-publish_by (join q r ∷ es) p e a (inr i) = publish_by es p e a i
-publish_by (calls q (publish d) r ∷ es) p e a (inl s) = let who : p ≡ q = cc in let same : e ≡ d = cc in inl (λ j. (who j, published (same j)))
-publish_by (calls q (publish d) r ∷ es) p e a (inr i) = inr (publish_by es p e a i)
-publish_by (calls q take None ∷ es) p e a (inl s) = absurd (cc)
-publish_by (calls q take None ∷ es) p e a (inr i) = publish_by es p e a i
-publish_by (calls q take (Some d) ∷ es) p e a (inl s) = absurd (cc)
-publish_by (calls q take (Some d) ∷ es) p e a (inr i) = inr (publish_by es p e a i)
-publish_by (calls q (redeliver d) r ∷ es) p e a (inl s) = absurd (cc)
-publish_by (calls q (redeliver d) r ∷ es) p e a (inr i) = inr (publish_by es p e a i)
-
 -- the entry of a call
-abbrev row : ℕ × BackendCall Outcome → Entry TableCall TableReply
-row x = calls x.0 (table_call x.1) (table_reply x.1)
-
-row_in : (es : Log) (x : ℕ × BackendCall Outcome) → In x (table_calls es) → In (row x) es
-row_in [] x i = elim i [ ]
-row_in (split q r ∷ es) x i = inr (row_in es x i)
-row_in (join q r ∷ es) x i = inr (row_in es x i)
-row_in (calls q (store u w) (was First) ∷ es) x (inl s) = inl (ap row s)
-row_in (calls q (store u w) (was First) ∷ es) x (inr i) = inr (row_in es x i)
-row_in (calls q (store u w) (was Again) ∷ es) x (inl s) = inl (ap row s)
-row_in (calls q (store u w) (was Again) ∷ es) x (inr i) = inr (row_in es x i)
-row_in (calls q (part g t) (count n) ∷ es) x (inl s) = inl (ap row s)
-row_in (calls q (part g t) (count n) ∷ es) x (inr i) = inr (row_in es x i)
-row_in (calls q (read t) (found o) ∷ es) x (inl s) = inl (ap row s)
-row_in (calls q (read t) (found o) ∷ es) x (inr i) = inr (row_in es x i)
-row_in (calls q c a ∷ es) x i = inr (row_in es x i)
+abbrev row : ℕ × TableAnswered → Entry TableCall TableReply
+row x = calls x.0 x.1.0 x.1.1
 
 heavy_total : {A : Type 0} (w : A → ℕ) (xs : List A) (x : A) → In x xs → w x ≤ total w xs
 heavy_total w [] x i = elim i [ ]
@@ -93,19 +64,17 @@ heavy_total w (y ∷ xs) x (inr i) = let h = heavy_total w xs x i in omega arith
 
 module _ (behaviour : Behaviour) (l : Line) (plan : IsPlan l) (r : Run behaviour l) where
   -- what shows an event
-  brought : (p : ℕ) (v : Event) (c : BackendCall Outcome) → (shows (X behaviour l plan) (form behaviour l plan) v c ≡ 0 → ⊥) → In (row (p, c)) r.table
+  brought : (p : ℕ) (v : Event) (c : TableAnswered) → (shows (X behaviour l plan) (form behaviour l plan) v c ≡ 0 → ⊥) → In (row (p, c)) r.table
       → Brought l p r.table v
-  brought p v (stored t o false) d i = absurd (d refl)
-  brought p v (has_read t o) d i = absurd (d refl)
-  brought p start (stored t o true) d i = absurd (d refl)
-  brought p (running k) (stored t o true) d i = absurd (d refl)
-  brought p (completion g) (stored t o true) d i = absurd (d refl)
-  brought p (end_of_line k) (stored t o true) d i = go (eqb t k) refl d
+  brought p start (store t o, was First) d i = absurd (d refl)
+  brought p (running k) (store t o, was First) d i = absurd (d refl)
+  brought p (completion g) (store t o, was First) d i = absurd (d refl)
+  brought p (end_of_line k) (store t o, was First) d i = go (eqb t k) refl d
     where
       go : (b : Bool) → eqb t k ≡ b → (◌≡◌ {A = ℕ} (cond b 1 0) 0 → ⊥) → Brought l p r.table (end_of_line k)
       go true e d = (o, subst (λ n. In (calls p (store n o) (was First)) r.table) (eqb-true t k e) i)
       go false e d = absurd (d refl)
-  brought p v (returned h t n) d i = go (eqb (suc n) (length (members l h))) refl v d
+  brought p v (part h t, count n) d i = go (eqb (suc n) (length (members l h))) refl v d
     where
       go : (b : Bool) → eqb (suc n) (length (members l h)) ≡ b → (v : Event) → (◌≡◌ {A = ℕ} (cond b (is_event (completion h) v) 0) 0 → ⊥)
           → Brought l p r.table v
@@ -124,6 +93,7 @@ module _ (behaviour : Behaviour) (l : Line) (plan : IsPlan l) (r : Run behaviour
                 subst (λ k. suc n ≡ length (members l k)) is (eqb-true (suc n) (length (members l h)) e),
               )
           same false f d = absurd (d refl)
+  brought p v c d i = absurd (d refl)
 
   at_start : (p : ℕ) (v : Event) → 1 ≤ cond (eqb p 0) (is_event start v) 0 → Brought l p r.table v
   at_start p v m = go (eqb p 0) refl v m
@@ -139,7 +109,7 @@ module _ (behaviour : Behaviour) (l : Line) (plan : IsPlan l) (r : Run behaviour
   caused : (p : ℕ) (e : Envelope) (a : Option Envelope) → In (calls p (publish e) a) r.queue → (c : Content) × (v : Event) × (e ≡ sealed c)
       × (opened (book_of l) e ≡ Some c) × DoesIn behaviour l v (job.publish c) × Brought l p r.table v
   caused p e a i =
-      let there : In (p, published e) (queue_calls r.queue) = publish_by r.queue p e a i in
+      let there : In (p, (publish e, a)) (queue_calls r.queue) = queue_call_in r.queue p (publish e) a refl i in
       let good : IsRunSealed (X behaviour l plan) (form behaviour l plan) (Does behaviour l plan) (order behaviour l plan) (value behaviour l plan)
       (inner_run behaviour l plan r) e =
       in_each (GoodPublish (IsRunSealed (X behaviour l plan) (form behaviour l plan) (Does behaviour l plan) (order behaviour l plan) (value behaviour l plan)
@@ -148,26 +118,26 @@ module _ (behaviour : Behaviour) (l : Line) (plan : IsPlan l) (r : Run behaviour
       (IsRunSealed (X behaviour l plan) (form behaviour l plan) (Does behaviour l plan) (order behaviour l plan) (value behaviour l plan)
       (inner_run behaviour l plan r))) (queue_calls r.queue)
       (publishes_right (X behaviour l plan) (form behaviour l plan) (Does behaviour l plan) (order behaviour l plan) (value behaviour l plan)
-      (inner_run behaviour l plan r))) (published e) (publish_in r.queue p e a i) in
+      (inner_run behaviour l plan r))) (publish e, a) (seconds_in (queue_calls r.queue) (p, (publish e, a)) there) in
       let c : Content = good.0 in
       let k : ℕ = number_of c.own in
       let v : Event = good.4.0 in
       let does : DoesIn behaviour l v (job.publish c) = good.4.1 in
-      let weight : publishes_task (X behaviour l plan) k (published e) ≡ 1 =
+      let weight : publishes_task (X behaviour l plan) k (publish e, a) ≡ 1 =
       ap (λ x. of_opened (X behaviour l plan) k x) (ap (X behaviour l plan).opened good.1 ∙ (order behaviour l plan).opened c good.3 good.2)
       ∙ ap (λ b. cond b 1 0) (eq-eqb k k refl) in
       let calls_of : ℕ = total (publishes_task (X behaviour l plan) k) (by p (queue_calls r.queue)) in
-      let some : publishes_task (X behaviour l plan) k (published e) ≤ calls_of =
-      heavy_total (publishes_task (X behaviour l plan) k) (by p (queue_calls r.queue)) (published e) (in_by p (published e) (queue_calls r.queue) there) in
+      let some : publishes_task (X behaviour l plan) k (publish e, a) ≤ calls_of =
+      heavy_total (publishes_task (X behaviour l plan) k) (by p (queue_calls r.queue)) (publish e, a) (in_by p (publish e, a) (queue_calls r.queue) there) in
       let bound = one_caller (X behaviour l plan) (form behaviour l plan) (Does behaviour l plan) (order behaviour l plan) (value behaviour l plan)
       (once behaviour l plan) (inner_run behaviour l plan r) k v
       (λ w n other q. (once behaviour l plan).event w v n c other does q) p in
       let shown : Brought l p r.table v = ⊎_elim
-      (λ (z : total (shows (X behaviour l plan) (form behaviour l plan) v) (by p (table_calls r.table)) ≡ 0). at_start p v
+      (λ (z : total (shows (X behaviour l plan) (form behaviour l plan) v) (by p (answered_calls r.table)) ≡ 0). at_start p v
       (omega (arith, weight, some, bound, z)))
-      (λ (h : (x : BackendCall Outcome) × In x (by p (table_calls r.table)) × (shows (X behaviour l plan) (form behaviour l plan) v x ≡ 0 → ⊥)).
-      brought p v h.0 h.2 (row_in r.table (p, h.0) (by_in p h.0 (table_calls r.table) h.1)))
-      (find_heavy (shows (X behaviour l plan) (form behaviour l plan) v) (by p (table_calls r.table))) in
+      (λ (h : (x : TableAnswered) × In x (by p (answered_calls r.table)) × (shows (X behaviour l plan) (form behaviour l plan) v x ≡ 0 → ⊥)).
+      brought p v h.0 h.2 (entry_in r.table (p, h.0) (by_in p h.0 (answered_calls r.table) h.1)))
+      (find_heavy (shows (X behaviour l plan) (form behaviour l plan) v) (by p (answered_calls r.table))) in
       (c, v, good.1, ap (opened (book_of l)) good.1 ∙ (order behaviour l plan).opened c good.3 good.2, does, shown)
 
   pub by_cause : ByCause behaviour l r.queue r.table
@@ -183,20 +153,19 @@ module _ (behaviour : Behaviour) (l : Line) (plan : IsPlan l) (r : Run behaviour
       subst (λ w. Brought l p r.table w) ((once behaviour l plan).event k.1 v k.0 c k.4 does (ap (λ (d : Content). number_of d.own) same)) k.5
 
   -- a chord is completed at most once
-  completes_less : (g : ℕ) (c : BackendCall Outcome) → completes_one l g c ≤ shows (X behaviour l plan) (form behaviour l plan) (completion g) c
-  completes_less g (stored t o true) = omega arith
-  completes_less g (stored t o false) = omega arith
-  completes_less g (has_read t o) = omega arith
-  completes_less g (returned h t n) = go (eqb h g) refl
+  completes_less : (g : ℕ) (c : TableAnswered) → completes_one l g c ≤ shows (X behaviour l plan) (form behaviour l plan) (completion g) c
+  completes_less g (store t o, was First) = omega arith
+  completes_less g (part h t, count n) = go (eqb h g) refl
     where
       go : (b : Bool) → eqb h g ≡ b → cond b (cond (eqb (suc n) (length (members l g))) 1 0) 0 ≤ cond (eqb (suc n) (length (members l h))) (cond b 1 0) 0
       go false e = omega arith
       go true e = subst (λ k. cond (eqb (suc n) (length (members l k))) 1 0 ≤ cond (eqb (suc n) (length (members l h))) 1 0) (eqb-true h g e) (omega arith)
+  completes_less g c = omega arith
 
   pub completed_once : (g : ℕ) → completions l g r.table ≤ 1
   completed_once g =
       let table = table_is l (plan_apart l plan) [] r.table no_results [] [] refl (table_starts l (plan_apart l plan)) r.table_legal in
       let less = total-le (completes_one l g) (shows (X behaviour l plan) (form behaviour l plan) (completion g)) (completes_less g)
-      (seconds (table_calls r.table)) in
-      let once = shows_once (X behaviour l plan) (form behaviour l plan) (completion g) (seconds (table_calls r.table)) table in
+      (seconds (answered_calls r.table)) in
+      let once = shows_once (X behaviour l plan) (form behaviour l plan) (completion g) (seconds (answered_calls r.table)) table in
       omega (arith, less, once)

@@ -1,5 +1,5 @@
 -- The first part of the law, over the product's histories.
-use Rattle.std.proofs.Common.{⊎_elim, ◌≡◌, ◌⊎◌, ℕ, ◌+◌, ◌≤◌, Bool, true, false, cond, eqb, map, [], Option, Some, None, refl, sym, ap, subst, ◌∙◌, inl, inr, arith}
+use Rattle.std.proofs.Common.{⊎_elim, ◌≡◌, ◌⊎◌, ℕ, ◌+◌, ◌≤◌, cond, eqb, map, [], Option, Some, None, refl, sym, ap, subst, ◌∙◌, inl, inr, arith}
 use Rattle.canvas_task.specs.Apply.{Behaviour}
 use Rattle.canvas_task.specs.declared.outcome.Outcome.{Outcome}
 use Rattle.canvas_semantics.specs.Evaluation as eval
@@ -11,17 +11,21 @@ use Rattle.canvas_message.specs.Among.{In}
 use Rattle.canvas_effects.specs.Events.{start}
 use Rattle.canvas_effects.specs.Flowing.{run, no_input}
 use Rattle.canvas_message.specs.declared.envelope.Envelope.{Envelope}
+use Rattle.canvas_backend.specs.declared.stored.Stored.{Stored}
+use Rattle.canvas_backend.specs.declared.stored.Stored.TheVariants.{First}
 use Rattle.canvas_backend.specs.Backend as results
 use Rattle.canvas_backend.specs.Roster.{roster_of}
-use Rattle.canvas_backend.specs.Backend.{says_first}
+use Rattle.canvas_history.specs.Answers.{answered_calls}
+use Rattle.canvas_broker.specs.Broker as broker
 use Rattle.canvas_runs.specs.Book.{book_of}
-use Rattle.canvas_runs.specs.Calls.{BrokerCall, published, took, again, BackendCall, stored, returned, has_read}
+use Rattle.canvas_runs.specs.Calls.{QueueAnswered, TableAnswered}
 use Rattle.canvas_runs.specs.Law.{its_state, IsRunMessage, IsPart, of_task, publishes_one, agains_one_of, firsts_one, agains_one, FirstPart}
 use Rattle.canvas_runs.specs.Lists.{total, seconds}
-use Rattle.canvas_runs.specs.Logs.{queue_calls, table_calls}
+use Rattle.canvas_runs.specs.Logs.{queue_calls}
 use Rattle.canvas_runs.specs.Run.{Run, published_all}
 use Rattle.canvas_runs.specs.Worker.{sealed, opened}
-use Rattle.canvas_runs.proofs.Bridges.{queue_is, table_is, table_starts, callers_below, store_in, part_in, publish_in, redeliver_in, was_stored}
+use Rattle.canvas_runs.proofs.Bridges.{queue_is, table_is, table_starts, callers_below, was_stored}
+use Rattle.canvas_runs.proofs.CallsOf.{seconds_in, call_in, queue_call_in}
 use Rattle.canvas_runs.proofs.Canvas.{total-same}
 use Rattle.canvas_runs.proofs.Evaluation as evaluation
 use Rattle.canvas_runs.proofs.Facts as facts
@@ -56,13 +60,13 @@ module _ (behaviour : Behaviour) (l : Line) (plan : IsPlan l) where
 
   module _ (r : Run behaviour l) where
     abbrev pub callers : ℕ
-    callers = total (λ e. e.0) (queue_calls r.queue) + total (λ e. e.0) (table_calls r.table)
+    callers = total (λ e. e.0) (queue_calls r.queue) + total (λ e. e.0) (answered_calls r.table)
 
     abbrev pub inner_run : inner.Run (X behaviour l plan) (form behaviour l plan)
     inner_run = record {
       workers = callers;
       broker = queue_calls r.queue;
-      backend = table_calls r.table;
+      backend = answered_calls r.table;
       core = r.core;
       opening = r.opening;
       unsent = r.unsent;
@@ -71,7 +75,7 @@ module _ (behaviour : Behaviour) (l : Line) (plan : IsPlan l) where
       opens_back = r.opens_back;
       closes = r.closes;
       broker_callers = each_weaker (λ e h. omega arith) (queue_calls r.queue) (callers_below (queue_calls r.queue));
-      backend_callers = each_weaker (λ e h. omega arith) (table_calls r.table) (callers_below (table_calls r.table));
+      backend_callers = each_weaker (λ e h. omega arith) (answered_calls r.table) (callers_below (answered_calls r.table));
       queue = queue_is [] r.queue [] [] refl (λ c e i. i) r.queue_legal;
       table = table_is l (plan_apart l plan) [] r.table results.no_results [] [] refl (table_starts l (plan_apart l plan)) r.table_legal;
       is_core = r.is_core;
@@ -80,29 +84,30 @@ module _ (behaviour : Behaviour) (l : Line) (plan : IsPlan l) where
       keeps = r.keeps;
     }
 
-    call_right : (c : BackendCall Outcome) → In c (seconds (table_calls r.table))
+    call_right : (c : TableAnswered) → In c (seconds (answered_calls r.table))
         → CallRight (X behaviour l plan) (form behaviour l plan) (Does behaviour l plan) (order behaviour l plan) (value behaviour l plan) inner_run c
     call_right c i = in_each (CallRight (X behaviour l plan) (form behaviour l plan) (Does behaviour l plan) (order behaviour l plan)
-        (value behaviour l plan) inner_run) (seconds (table_calls r.table))
+        (value behaviour l plan) inner_run) (seconds (answered_calls r.table))
         (calls_right (X behaviour l plan) (form behaviour l plan) (Does behaviour l plan) (order behaviour l plan) (value behaviour l plan) inner_run) c i
 
-    pub stored_right : (t : ℕ) (o : Outcome) (b : Bool) → In (stored t o b) (seconds (table_calls r.table))
+    pub stored_right : (t : ℕ) (o : Outcome) (b : Stored) → In (results.store t o, results.was b) (seconds (answered_calls r.table))
         → Has (X behaviour l plan) (Does behaviour l plan) t o
-    stored_right t o b i = call_right (stored t o b) i
+    stored_right t o b i = call_right (results.store t o, results.was b) i
 
-    pub returned_right : (g t n : ℕ) → In (returned g t n) (seconds (table_calls r.table)) → IsPart behaviour l g t
-    returned_right g t n i = let c = call_right (returned g t n) i in (c.0, c.1.0, c.1.1)
+    pub returned_right : (g t n : ℕ) → In (results.part g t, results.count n) (seconds (answered_calls r.table)) → IsPart behaviour l g t
+    returned_right g t n i = let c = call_right (results.part g t, results.count n) i in (c.0, c.1.0, c.1.1)
 
     rows_by : (t : ℕ) (s : eval.State) → (results.results (roster_of l) r.table).outcomes t ≡ s → ((results.results (roster_of l) r.table).outcomes t ≡ None)
         ⊎ ((results.results (roster_of l) r.table).outcomes t ≡ its_state behaviour l t)
     rows_by t None e = inl e
     rows_by t (Some o) e =
-        ⊎_elim (λ n. absurd (let bad : ◌≡◌ {A = eval.State} None (Some o) = n in cc)) (λ i. inr (e ∙ sym (has_state t o (stored_right t o true i))))
+        ⊎_elim (λ n. absurd (let bad : ◌≡◌ {A = eval.State} None (Some o) = n in cc)) (λ i. inr (e ∙ sym (has_state t o (stored_right t o First i))))
         (was_stored l (plan_apart l plan) t o [] r.table results.no_results refl r.table_legal e)
 
-    pub run_sealed : (e : Envelope) → In (published e) (seconds (queue_calls r.queue)) → (c : Content) × (e ≡ sealed c) × (opened (book_of l) e ≡ Some c)
+    pub run_sealed : (e : Envelope) (a : Option Envelope) → In (broker.publish e, a) (seconds (queue_calls r.queue)) → (c : Content) × (e ≡ sealed c)
+        × (opened (book_of l) e ≡ Some c)
         × IsRunMessage behaviour l c
-    run_sealed e i =
+    run_sealed e a i =
         let good = in_each (GoodPublish
         (IsRunSealed (X behaviour l plan) (form behaviour l plan) (Does behaviour l plan) (order behaviour l plan) (value behaviour l plan) inner_run))
         (seconds (queue_calls r.queue))
@@ -110,72 +115,65 @@ module _ (behaviour : Behaviour) (l : Line) (plan : IsPlan l) where
         (IsRunSealed (X behaviour l plan) (form behaviour l plan) (Does behaviour l plan) (order behaviour l plan) (value behaviour l plan) inner_run))
         (queue_calls r.queue)
         (publishes_right (X behaviour l plan) (form behaviour l plan) (Does behaviour l plan) (order behaviour l plan) (value behaviour l plan) inner_run))
-        (published e) i in
+        (broker.publish e, a) i in
         (good.0, good.1, ap (opened (book_of l)) good.1 ∙ (order behaviour l plan).opened good.0 good.3 good.2, good.4)
 
     opened_weight : (k : ℕ) (x : Option Content) → of_opened (X behaviour l plan) k x ≡ of_task l k x
     opened_weight k None = refl
     opened_weight k (Some c) = refl
 
-    publish_weight : (k : ℕ) (c : BrokerCall Envelope) → publishes_task (X behaviour l plan) k c ≡ publishes_one l k c
-    publish_weight k (published e) = opened_weight k (opened (book_of l) e)
-    publish_weight k (took t) = refl
-    publish_weight k (again e) = refl
+    publish_weight : (k : ℕ) (c : QueueAnswered Envelope) → publishes_task (X behaviour l plan) k c ≡ publishes_one l k c
+    publish_weight k (broker.publish e, r) = opened_weight k (opened (book_of l) e)
+    publish_weight k c = refl
 
-    pub again_weight : (k : ℕ) (c : BrokerCall Envelope) → agains_task (X behaviour l plan) k c ≡ agains_one_of l k c
-    again_weight k (published e) = refl
-    again_weight k (took t) = refl
-    again_weight k (again e) = opened_weight k (opened (book_of l) e)
+    pub again_weight : (k : ℕ) (c : QueueAnswered Envelope) → agains_task (X behaviour l plan) k c ≡ agains_one_of l k c
+    again_weight k (broker.redeliver e, r) = opened_weight k (opened (book_of l) e)
+    again_weight k c = refl
 
-    pub first_weight : (k : ℕ) (c : BackendCall Outcome) → first_of k c ≡ firsts_one k c
-    first_weight k (stored t o true) = refl
-    first_weight k (stored t o false) = refl
-    first_weight k (returned g m n) = refl
-    first_weight k (has_read t o) = refl
+    pub first_weight : (k : ℕ) (c : TableAnswered) → first_of k c ≡ firsts_one k c
+    first_weight k c = refl
 
-    pub repeat_weight : (k : ℕ) (c : BackendCall Outcome)
+    pub repeat_weight : (k : ℕ) (c : TableAnswered)
         → again_of (X behaviour l plan) (form behaviour l plan) (Does behaviour l plan) (order behaviour l plan) (value behaviour l plan)
         (once behaviour l plan) (keeping behaviour l plan) inner_run k c ≡ agains_one k c
-    repeat_weight k (stored t o true) = refl
-    repeat_weight k (stored t o false) = refl
-    repeat_weight k (returned g m n) = refl
-    repeat_weight k (has_read t o) = refl
+    repeat_weight k c = refl
 
-    pub run_again : (e : Envelope) → In (again e) (seconds (queue_calls r.queue)) → (c : Content) × (e ≡ sealed c) × (opened (book_of l) e ≡ Some c)
+    pub run_again : (e : Envelope) (a : Option Envelope) → In (broker.redeliver e, a) (seconds (queue_calls r.queue)) → (c : Content) × (e ≡ sealed c)
+        × (opened (book_of l) e ≡ Some c)
         × IsRunMessage behaviour l c
-    run_again e i =
+    run_again e a i =
         let good = in_each (GoodAgain
         (IsRunSealed (X behaviour l plan) (form behaviour l plan) (Does behaviour l plan) (order behaviour l plan) (value behaviour l plan) inner_run))
         (seconds (queue_calls r.queue))
         (agains_right (X behaviour l plan) (form behaviour l plan) (Does behaviour l plan) (order behaviour l plan) (value behaviour l plan) inner_run)
-        (again e) i in
+        (broker.redeliver e, a) i in
         (good.0, good.1, ap (opened (book_of l)) good.1 ∙ (order behaviour l plan).opened good.0 good.3 good.2, good.4)
 
     -- how often each store answers
-    firsts_few : (k : ℕ) → total (firsts_one k) (seconds (table_calls r.table)) ≤ 1
-    firsts_few k = subst (λ n. n ≤ 1) (total-same (first_of k) (firsts_one k) (first_weight k) (seconds (table_calls r.table)))
-        (one_first k [] [] (seconds (table_calls r.table)) inner_run.table)
+    firsts_few : (k : ℕ) → total (firsts_one k) (seconds (answered_calls r.table)) ≤ 1
+    firsts_few k = subst (λ n. n ≤ 1) (total-same (first_of k) (firsts_one k) (first_weight k) (seconds (answered_calls r.table)))
+        (one_first k [] [] (seconds (answered_calls r.table)) inner_run.table)
 
-    again_few : (k : ℕ) → total (agains_one k) (seconds (table_calls r.table)) ≤ total (agains_one_of l k) (seconds (queue_calls r.queue))
+    again_few : (k : ℕ) → total (agains_one k) (seconds (answered_calls r.table)) ≤ total (agains_one_of l k) (seconds (queue_calls r.queue))
     again_few k =
         let few = agains_few (X behaviour l plan) (form behaviour l plan) (Does behaviour l plan) (order behaviour l plan) (value behaviour l plan)
         (once behaviour l plan) (keeping behaviour l plan) inner_run k in
         let a = total-same (again_of (X behaviour l plan) (form behaviour l plan) (Does behaviour l plan) (order behaviour l plan) (value behaviour l plan)
-        (once behaviour l plan) (keeping behaviour l plan) inner_run k) (agains_one k) (repeat_weight k) (seconds (table_calls r.table)) in
+        (once behaviour l plan) (keeping behaviour l plan) inner_run k) (agains_one k) (repeat_weight k) (seconds (answered_calls r.table)) in
         let b = total-same (agains_task (X behaviour l plan) k) (agains_one_of l k) (again_weight k) (seconds (queue_calls r.queue)) in
         omega arith
 
     pub first_part : FirstPart behaviour l r
     first_part = record {
-      stored = λ q t o a i. let c = store_in r.table q t o a i in has_state t o (stored_right t o (says_first a) c);
+      stored = λ q t o a i. has_state t o (stored_right t o a (seconds_in (answered_calls r.table) _ (call_in r.table q (results.store t o) (results.was a) i)));
       stored_once = firsts_few;
       stored_again = again_few;
-      redelivered = λ q e a i. run_again e (redeliver_in r.queue q e a i);
+      redelivered = λ q e a i. run_again e a (seconds_in (queue_calls r.queue) _ (queue_call_in r.queue q (broker.redeliver e) a refl i));
       rows = λ t. rows_by t ((results.results (roster_of l) r.table).outcomes t) refl;
-      published = λ q e a i. run_sealed e (publish_in r.queue q e a i);
+      published = λ q e a i. run_sealed e a (seconds_in (queue_calls r.queue) _ (queue_call_in r.queue q (broker.publish e) a refl i));
       published_once = λ k. subst (λ n. n ≤ 1)
           (total-same (publishes_task (X behaviour l plan) k) (publishes_one l k) (publish_weight k) (seconds (queue_calls r.queue)))
           (published_once (X behaviour l plan) (form behaviour l plan) (Does behaviour l plan) (order behaviour l plan) (value behaviour l plan)
           (once behaviour l plan) inner_run k);
-      returned = λ q g t n i. returned_right g t n (part_in r.table q g t n i);
+      returned = λ q g t n i. returned_right g t n (seconds_in (answered_calls r.table) _ (call_in r.table q (results.part g t) (results.count n) i));
     }

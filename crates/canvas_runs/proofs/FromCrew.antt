@@ -2,7 +2,6 @@
 use Rattle.std.proofs.Common.{None, ◌≡◌, ℕ, suc, ◌+◌, true, false, cond, eqb, List, [], ◌∷◌, ◌++◌, length, map, ◌==◌, ◌⊎◌, inl, inr, refl, sym, ap, ◌∙◌, subst, append-nil, ⊎_elim, arith}
 use Rattle.std.proofs.lemmas.Bool.{eqb-true, cases_Bool}
 use Rattle.canvas_task.specs.Apply.{Behaviour}
-use Rattle.canvas_task.specs.declared.outcome.Outcome.{Outcome}
 use Rattle.canvas_history.specs.History.{among, made_by, Sole}
 use Rattle.canvas_history.proofs.Histories.{fresh_from}
 use Rattle.canvas_semantics.specs.Line.{Line}
@@ -13,22 +12,23 @@ use Rattle.canvas_message.specs.declared.envelope.Envelope.{Envelope}
 use Rattle.canvas_backend.specs.Backend.{Log, no_results, reply_of, next_of, May}
 use Rattle.canvas_backend.specs.Roster.{Roster, roster_of, members}
 use Rattle.canvas_broker.specs.Broker as broker
-use Rattle.canvas_runs.specs.Accounts.{splits_of, joins_of, broker_entries, backend_entries, HasQueueCalls, HasTableCalls, QueueAccounts, TableAccounts}
+use Rattle.canvas_history.specs.Answers.{answered_calls, entries_by}
+use Rattle.canvas_runs.specs.Accounts.{splits_of, joins_of, HasQueueCalls, HasTableCalls, QueueAccounts, TableAccounts}
 use Rattle.canvas_runs.specs.Core.{IsCoreRun, taking, left_after, Between}
 use Rattle.canvas_runs.specs.Crew.{Mate, Ran, EndedWell, numbers_along as numbers, first_pass, first_seat}
 use Rattle.canvas_runs.specs.Following.{Pass, Seat, Serves, IsDone}
-use Rattle.canvas_runs.specs.Calls.{BrokerCall, CoreCall, makes, BackendCall, FollowsScripts, scripts_all, scripts_publish, AskedAndAnswered, broker_calls, core_calls, backend_calls, ReadsMembers, takes_one}
-use Rattle.canvas_runs.specs.Lists.{by, seconds, total}
-use Rattle.canvas_runs.specs.Logs.{queue_calls, table_calls}
+use Rattle.canvas_runs.specs.Calls.{QueueAnswered, TableAnswered, CoreCall, makes, FollowsScripts, scripts_all, scripts_publish, AskedAndAnswered, broker_calls, core_calls, backend_calls, ReadsMembers, takes_one}
+use Rattle.canvas_runs.specs.Lists.{by, total}
+use Rattle.canvas_runs.specs.Logs.{queue_calls}
 use Rattle.canvas_runs.specs.Run.{Run, Closed, published_all}
 use Rattle.canvas_runs.specs.Worker.{worker_of, sealed}
-use Rattle.canvas_runs.proofs.CallsOf.{queue_by, queue_append, queue_splits, queue_joins, queue_entries, table_by, table_append, table_splits, table_joins, table_rows}
+use Rattle.canvas_runs.proofs.CallsOf.{calls_append, calls_splits, calls_joins, own_calls, own_both, queue_own}
 use Rattle.canvas_runs.proofs.Passes.{accounts}
 use Rattle.canvas_runs.proofs.Seats.{ledger}
 use Rattle.canvas_runs.proofs.Sums.{total-append}
 use Rattle.canvas_runs.proofs.Words.{in_each, cond_cases}
 
-serves_append : (plan : Roster) (cs ds : List (BackendCall Outcome)) (s t u : Seat) → Serves plan s cs t → Serves plan t ds u → Serves plan s (cs ++ ds) u
+serves_append : (plan : Roster) (cs ds : List TableAnswered) (s t u : Seat) → Serves plan s cs t → Serves plan t ds u → Serves plan s (cs ++ ds) u
 serves_append plan [] ds s t u f g = subst (λ x. Serves plan x ds u) f g
 serves_append plan (c ∷ cs) ds s t u f g = (f.0, f.1, serves_append plan cs ds f.0 t u f.2 g)
 
@@ -36,7 +36,7 @@ no_takes : (es : List Envelope) → total takes_one (published_all es) ≡ 0
 no_takes [] = refl
 no_takes (e ∷ es) = let k = no_takes es in omega (arith, k)
 
-follows_front : (es : List Envelope) (cs : List (CoreCall Envelope)) (ls : List (BrokerCall Envelope)) → FollowsScripts None [] cs ls
+follows_front : (es : List Envelope) (cs : List (CoreCall Envelope)) (ls : List (QueueAnswered Envelope)) → FollowsScripts None [] cs ls
     → FollowsScripts None [] (map makes (published_all es) ++ cs) (published_all es ++ ls)
 follows_front [] cs ls f = f
 follows_front (e ∷ es) cs ls f = scripts_publish (follows_front es cs ls f)
@@ -49,7 +49,7 @@ module _ (behaviour : Behaviour) (l : Line) where
   F = first_messages l
 
   abbrev pub Course : Type 0
-  Course = List (AskedAndAnswered Envelope Outcome)
+  Course = List (AskedAndAnswered Envelope)
 
   -- the core run of the worker of a number, of those from k on
   abbrev pub core_at : ℕ → List (Mate behaviour P) → ℕ → Course
@@ -61,8 +61,8 @@ module _ (behaviour : Behaviour) (l : Line) where
     mate : Mate behaviour P
     there : In mate ms
     is : core ≡ mate.followed.run
-    calls : made_by p queue ≡ broker_entries p mate.followed.made
-    replies : made_by p table ≡ backend_entries p (backend_calls mate.followed.run)
+    calls : made_by p queue ≡ entries_by p mate.followed.made
+    replies : made_by p table ≡ entries_by p (backend_calls mate.followed.run)
 
   more_found : (p : ℕ) (m : Mate behaviour P) (ms : List (Mate behaviour P)) (core : Course) (queue : List (broker.QueueEntry Envelope)) (table : Log)
       → Found p ms core queue table → Found p (m ∷ ms) core queue table
@@ -79,8 +79,8 @@ module _ (behaviour : Behaviour) (l : Line) where
         mate = m;
         there = inl refl;
         is = ap (λ b. cond b m.followed.run (core_at (suc k) ms p)) e;
-        calls = subst (λ n. made_by n queue ≡ broker_entries n m.followed.made) same h.0;
-        replies = subst (λ n. made_by n table ≡ backend_entries n (backend_calls m.followed.run)) same r.0;
+        calls = subst (λ n. made_by n queue ≡ entries_by n m.followed.made) same h.0;
+        replies = subst (λ n. made_by n table ≡ entries_by n (backend_calls m.followed.run)) same r.0;
       }))
       (λ (e : (k == p) ≡ false).
       let skip : core_at k (m ∷ ms) p ≡ core_at (suc k) ms p = ap (λ b. cond b m.followed.run (core_at (suc k) ms p)) e in
@@ -92,7 +92,7 @@ module _ (behaviour : Behaviour) (l : Line) where
     abbrev pub the_queue : List (broker.QueueEntry Envelope)
     the_queue = pass.seen ++ pass.owed
 
-    abbrev pub sent : List (BrokerCall Envelope)
+    abbrev pub sent : List (QueueAnswered Envelope)
     sent = published_all (map sealed r.opening)
 
     pub passes : (pass.name ≡ 0) × QueueAccounts behaviour P r.mates sent r.works.made the_queue
@@ -100,7 +100,7 @@ module _ (behaviour : Behaviour) (l : Line) where
         subst (λ (x : Pass). (x.name ≡ 0) × QueueAccounts behaviour P r.mates sent r.works.made (x.seen ++ x.owed)) (sym r.last)
         (accounts behaviour P (first_pass r.queue) r.pass_parted r.pass_sent r.pass_joined r.own.pass r.mates sent r.works.made refl refl refl refl r.splits r.sends r.joins r.works.makes)
 
-    abbrev pub zero_calls : List (BackendCall Outcome)
+    abbrev pub zero_calls : List TableAnswered
     zero_calls = backend_calls r.works.run ++ r.closing
 
     pub seats : TableAccounts behaviour P r.mates zero_calls seat.seen
@@ -126,39 +126,32 @@ module _ (behaviour : Behaviour) (l : Line) where
               (ap (λ ns. among p ns) seats.names ∙ f.1);
         })) (which 1 r.mates the_queue seat.seen passes.1.each seats.each p)
 
+    follows_zero : FollowsScripts None [] (map makes sent ++ core_calls r.works.run) (sent ++ r.works.made)
+    follows_zero = follows_front (map sealed r.opening) (core_calls r.works.run) r.works.made r.works.follows
+
     pub queue_zero : by 0 (queue_calls the_queue) ≡ sent ++ r.works.made
     queue_zero =
         let qs : List ℕ = numbers 1 r.mates in
-        let a : List (broker.QueueEntry Envelope) = splits_of qs ++ broker_entries 0 sent in
-        let b : List (broker.QueueEntry Envelope) = joins_of qs ++ broker_entries 0 r.works.made in
-        let left : seconds (queue_calls a) ≡ sent = queue_append (splits_of qs) (broker_entries 0 sent)
-        ∙ (ap (λ x. x ++ seconds (queue_calls (broker_entries 0 sent))) (queue_splits qs) ∙ queue_entries 0 sent) in
-        let right : seconds (queue_calls b) ≡ r.works.made = queue_append (joins_of qs) (broker_entries 0 r.works.made)
-        ∙ (ap (λ x. x ++ seconds (queue_calls (broker_entries 0 r.works.made))) (queue_joins qs) ∙ queue_entries 0 r.works.made) in
-        queue_by 0 the_queue ∙ (ap (λ x. seconds (queue_calls x)) passes.1.own
-        ∙ (queue_append a b ∙ (ap (λ x. x ++ seconds (queue_calls b)) left ∙ ap (λ x. sent ++ x) right)))
+        queue_own 0 the_queue (sent ++ r.works.made) follows_zero
+        (own_both 0 the_queue (splits_of qs) (joins_of qs) sent r.works.made (calls_splits qs) (calls_joins qs) passes.1.own)
 
-    pub table_zero : by 0 (table_calls seat.seen) ≡ zero_calls
+    pub table_zero : by 0 (answered_calls seat.seen) ≡ zero_calls
     table_zero =
         let qs : List ℕ = numbers 1 r.mates in
-        let a : Log = splits_of qs ++ joins_of qs in
-        let left : seconds (table_calls a) ≡ [] = table_append (splits_of qs) (joins_of qs)
-        ∙ (ap (λ x. x ++ seconds (table_calls (joins_of qs))) (table_splits qs) ∙ table_joins qs) in
-        table_by 0 seat.seen ∙ (ap (λ x. seconds (table_calls x)) seats.own
-        ∙ (table_append a (backend_entries 0 zero_calls)
-        ∙ (ap (λ x. x ++ seconds (table_calls (backend_entries 0 zero_calls))) left ∙ table_rows 0 zero_calls)))
+        own_calls 0 seat.seen (splits_of qs ++ joins_of qs) zero_calls
+        (calls_append (splits_of qs) (joins_of qs) ∙ (ap (λ x. x ++ answered_calls (joins_of qs)) (calls_splits qs) ∙ calls_joins qs)) seats.own
 
     queue_mate : (p : ℕ) (f : Found p r.mates (core_at 1 r.mates p) the_queue seat.seen) → by p (queue_calls the_queue) ≡ f.mate.followed.made
-    queue_mate p f = queue_by p the_queue ∙ (ap (λ x. seconds (queue_calls x)) f.calls ∙ queue_entries p f.mate.followed.made)
+    queue_mate p f = queue_own p the_queue f.mate.followed.made f.mate.followed.follows (own_calls p the_queue [] f.mate.followed.made refl f.calls)
 
-    table_mate : (p : ℕ) (f : Found p r.mates (core_at 1 r.mates p) the_queue seat.seen) → by p (table_calls seat.seen) ≡ backend_calls f.mate.followed.run
-    table_mate p f = table_by p seat.seen ∙ (ap (λ x. seconds (table_calls x)) f.replies ∙ table_rows p (backend_calls f.mate.followed.run))
+    table_mate : (p : ℕ) (f : Found p r.mates (core_at 1 r.mates p) the_queue seat.seen) → by p (answered_calls seat.seen) ≡ backend_calls f.mate.followed.run
+    table_mate p f = own_calls p seat.seen [] (backend_calls f.mate.followed.run) refl f.replies
 
     queue_nobody : (p : ℕ) → Nobody p → by p (queue_calls the_queue) ≡ []
-    queue_nobody p n = queue_by p the_queue ∙ ap (λ x. seconds (queue_calls x)) n.calls
+    queue_nobody p n = queue_own p the_queue [] (scripts_all {h = None} {ts = []}) (own_calls p the_queue [] [] refl n.calls)
 
-    table_nobody : (p : ℕ) → Nobody p → by p (table_calls seat.seen) ≡ []
-    table_nobody p n = table_by p seat.seen ∙ ap (λ x. seconds (table_calls x)) n.replies
+    table_nobody : (p : ℕ) → Nobody p → by p (answered_calls seat.seen) ≡ []
+    table_nobody p n = own_calls p seat.seen [] [] refl n.replies
 
     -- what holds of worker 0's course, of each other's and of none holds of all
     pub for_all : (P : ℕ → Course → Type 0) → P 0 r.works.run
@@ -175,14 +168,14 @@ module _ (behaviour : Behaviour) (l : Line) where
     pub the_follows : (p : ℕ) → FollowsCourse p (core p)
     the_follows = for_all FollowsCourse
         (subst (λ x. FollowsScripts None [] (map makes sent ++ core_calls r.works.run) x) (sym queue_zero)
-        (follows_front (map sealed r.opening) (core_calls r.works.run) r.works.made r.works.follows))
+        follows_zero)
         (λ p e f. subst (λ b. FollowsScripts None [] (map makes (cond b sent []) ++ core_calls f.mate.followed.run) (by p (queue_calls the_queue))) (sym e)
         (subst (λ x. FollowsScripts None [] (core_calls f.mate.followed.run) x) (sym (queue_mate p f)) f.mate.followed.follows))
         (λ p e n. subst (λ b. FollowsScripts None [] (map makes (cond b sent []) ++ []) (by p (queue_calls the_queue))) (sym e)
         (subst (λ x. FollowsScripts None [] [] x) (sym (queue_nobody p n)) scripts_all))
 
     abbrev pub KeepsCore : ℕ → Course → Type 0
-    KeepsCore p x = by p (table_calls seat.seen) ≡ backend_calls x ++ cond (eqb p 0) r.closing []
+    KeepsCore p x = by p (answered_calls seat.seen) ≡ backend_calls x ++ cond (eqb p 0) r.closing []
 
     pub the_keeps : (p : ℕ) → KeepsCore p (core p)
     the_keeps = for_all KeepsCore table_zero

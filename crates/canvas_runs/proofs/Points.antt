@@ -1,14 +1,13 @@
 -- The task of a point: before a message's own store the envelope of the open script reads as that message.
 use Rattle.std.proofs.Common.{◌≡◌, ℕ, cond, true, false, List, [], ◌∷◌, ◌++◌, Option, Some, None, refl, sym, ap, ◌∙◌, subst}
 use Rattle.canvas_task.specs.Apply.{Behaviour}
-use Rattle.canvas_task.specs.declared.outcome.Outcome.{Outcome}
 use Rattle.canvas_semantics.specs.Line.{Line}
 use Rattle.canvas_message.specs.Content.{Content, number_of}
 use Rattle.canvas_effects.specs.Job.{store, publish, hand_in}
 use Rattle.canvas_message.specs.declared.envelope.Envelope.{Envelope}
 use Rattle.canvas_runs.specs.Book.{book_of}
 use Rattle.canvas_runs.specs.Calls.{AskedAndAnswered, scripts_of, held_by, held_after}
-use Rattle.canvas_runs.specs.Core.{Ask, Reply, deliver, taken, sent, refused, kept, counted, found, rested, acked, taking, resting, owning, doing, reading, acking, ask, answered, Doing, settled, opens, owned, handed_in, all_read, is_due, Suits, IsCoreRun, left_after}
+use Rattle.canvas_runs.specs.Core.{Ask, Reply, redeliver, taken, sent, refused, stored, counted, found, rested, acked, taking, resting, owning, doing, reading, acking, ask, answered, Doing, settled, opens, owned, handed_in, all_read, is_due, Suits, IsCoreRun, left_after}
 use Rattle.canvas_runs.specs.Lists.{by}
 use Rattle.canvas_runs.specs.declared.when.When.TheVariants.{Early}
 use Rattle.canvas_runs.specs.Spending.{message_in, point_of, point, comes_to}
@@ -27,7 +26,7 @@ module _ (behaviour : Behaviour) (l : Line) where
   owns_other (owning m) h e = absurd (cc)
   owns_other s h e = tt
 
-  owns_step : (s : Doing (worker behaviour l)) (h : Option Envelope) (r : Reply Envelope Outcome) → Suits (ask (worker behaviour l) s) r
+  owns_step : (s : Doing (worker behaviour l)) (h : Option Envelope) (r : Reply Envelope) → Suits (ask (worker behaviour l) s) r
       → Owns (answered (worker behaviour l) s r) (held_by h (ask (worker behaviour l) s) r)
   owns_step taking h (taken None) u = tt
   owns_step taking h (taken (Some e)) u = go (opened (book_of l) e) refl
@@ -37,8 +36,8 @@ module _ (behaviour : Behaviour) (l : Line) where
       go (Some m) q = q
   owns_step resting h (rested true) u = tt
   owns_step resting h (rested false) u = tt
-  owns_step (owning m) h (kept b) u = owns_other (owned (worker behaviour l) m b) h (past_owned behaviour l 0 m b).0
-  owns_step (doing (store t o ∷ js) b) h (kept a) u =
+  owns_step (owning m) h (stored b) u = owns_other (owned (worker behaviour l) m b) h (past_owned behaviour l 0 m b).0
+  owns_step (doing (store t o ∷ js) b) h (stored a) u =
       owns_other (settled (worker behaviour l) js (cond (is_due t js) a b)) h (past_settled behaviour l 0 js (cond (is_due t js) a b)).0
   owns_step (doing (publish m ∷ js) b) h sent u = owns_other (settled (worker behaviour l) js b) h (past_settled behaviour l 0 js b).0
   owns_step (doing (publish m ∷ js) b) h refused u = tt
@@ -49,17 +48,17 @@ module _ (behaviour : Behaviour) (l : Line) where
   owns_step acking h acked u = tt
   owns_step s h r u = elim u [ ]
 
-  owns_run : (s : Doing (worker behaviour l)) (h : Option Envelope) (ys : List (AskedAndAnswered Envelope Outcome)) → Owns s h
+  owns_run : (s : Doing (worker behaviour l)) (h : Option Envelope) (ys : List (AskedAndAnswered Envelope)) → Owns s h
       → IsCoreRun (worker behaviour l) s (scripts_of ys) → Owns (left_after (worker behaviour l) s (scripts_of ys)) (held_after h ys)
   owns_run s h [] o c = o
   owns_run s h ((a, r) ∷ ys) o c = go a r (λ z k p q. owns_run z k ys p q) c
     where
-      go : (a : Ask Envelope Outcome) (r : Reply Envelope Outcome)
+      go : (a : Ask Envelope) (r : Reply Envelope)
           → ((z : Doing (worker behaviour l)) (k : Option Envelope) → Owns z k → IsCoreRun (worker behaviour l) z (scripts_of ys)
           → Owns (left_after (worker behaviour l) z (scripts_of ys)) (held_after k ys))
           → IsCoreRun (worker behaviour l) s (scripts_of ((a, r) ∷ ys))
           → Owns (left_after (worker behaviour l) s (scripts_of ((a, r) ∷ ys))) (held_after (held_by h a r) ys)
-      go (deliver e) r f c = f s h o c
+      go (redeliver e) r f c = f s h o c
       go a r f c = f (answered (worker behaviour l) s r) (held_by h a r)
           (subst (λ b. Owns (answered (worker behaviour l) s r) (held_by h b r)) (sym c.0) (owns_step s h r (subst (λ b. Suits b r) c.0 c.1.0))) c.2
 

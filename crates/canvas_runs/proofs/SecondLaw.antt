@@ -14,14 +14,18 @@ use Rattle.canvas_effects.specs.Events.{Event, start}
 use Rattle.canvas_effects.specs.Flowing.{run, no_input}
 use Rattle.canvas_effects.specs.Job.{Job, store, publish, hand_in}
 use Rattle.canvas_message.specs.declared.envelope.Envelope.{Envelope}
+use Rattle.canvas_backend.specs.declared.stored.Stored.{Stored}
+use Rattle.canvas_backend.specs.declared.stored.Stored.TheVariants.{First, Again}
 use Rattle.canvas_backend.specs.Backend as results
 use Rattle.canvas_backend.specs.Roster.{roster_of}
+use Rattle.canvas_history.specs.Answers.{answered_calls}
+use Rattle.canvas_broker.specs.Broker as broker
 use Rattle.canvas_runs.specs.Book.{book_of}
-use Rattle.canvas_runs.specs.Calls.{BrokerCall, published, took, again, BackendCall, stored, returned, has_read}
+use Rattle.canvas_runs.specs.Calls.{QueueAnswered, TableAnswered}
 use Rattle.canvas_runs.proofs.Replay.{IsDrained}
 use Rattle.canvas_runs.specs.Law.{its_state, IsRunMessage, IsPart, of_task, publishes_one, takes_one_of, agains_one_of, publishes, takes_of_task, redeliveries, firsts_one, first_stores, agains_one, again_stores, returns_one, returns, SecondPart}
 use Rattle.canvas_runs.specs.Lists.{Each, total, seconds, firsts}
-use Rattle.canvas_runs.specs.Logs.{queue_calls, table_calls}
+use Rattle.canvas_runs.specs.Logs.{queue_calls}
 use Rattle.canvas_runs.specs.Run.{Run, Closed}
 use Rattle.canvas_runs.specs.Worker.{sealed, opened}
 use Rattle.canvas_runs.proofs.Backing.{open_none}
@@ -187,27 +191,28 @@ module _ (behaviour : Behaviour) (l : Line) (plan : IsPlan l) (r : Run behaviour
   published_one d i =
       let done = finished i.0 (publish d) i.1 in
       let few = (first_part behaviour l plan r).published_once (number_of d.own) in
-      let here = in_total (publishes_one l (number_of d.own)) (seconds (queue_calls r.queue)) (published (sealed d)) done.2 in
-      let mine : publishes_one l (number_of d.own) (published (sealed d)) ≡ 1 =
+      let here = in_total (publishes_one l (number_of d.own)) (seconds (queue_calls r.queue)) (broker.publish (sealed d), None) done.2 in
+      let mine : publishes_one l (number_of d.own) (broker.publish (sealed d), None) ≡ 1 =
       ap (of_task l (number_of d.own)) ((order behaviour l plan).opened d done.0 done.1)
       ∙ ap (λ b. cond b 1 0) (eq-eqb (number_of d.own) (number_of d.own) refl) in
       omega arith
 
-  drained_total : (k : ℕ) (q : List Envelope) (cs : List (BrokerCall Envelope)) → IsDrained q cs →
+  drained_total : (k : ℕ) (q : List Envelope) (cs : List (QueueAnswered Envelope)) → IsDrained q cs →
       total (takes_one_of l k) cs ≡ total (λ e. of_task l k (opened (book_of l) e)) q + (total (publishes_one l k) cs + total (agains_one_of l k) cs)
   drained_total k q [] same = let s : total (λ e. of_task l k (opened (book_of l) e)) q ≡ 0 = ap (total (λ e. of_task l k (opened (book_of l) e))) same in
       omega arith
-  drained_total k q (published e ∷ cs) d =
+  drained_total k q ((broker.publish e, y) ∷ cs) d =
       let t = drained_total k (q ++ e ∷ []) cs d in
       omega (arith, total-append (λ e. of_task l k (opened (book_of l) e)) q (e ∷ []))
-  drained_total k q (again e ∷ cs) d =
+  drained_total k q ((broker.redeliver e, y) ∷ cs) d =
       let t = drained_total k (q ++ e ∷ []) cs d in
       omega (arith, total-append (λ e. of_task l k (opened (book_of l) e)) q (e ∷ []))
-  drained_total k q (took e ∷ cs) (rest, same, d) =
+  drained_total k q ((broker.take, Some e) ∷ cs) (rest, same, d) =
       let t = drained_total k rest cs d in
       let s : total (λ e. of_task l k (opened (book_of l) e)) q ≡ of_task l k (opened (book_of l) e) + total (λ e. of_task l k (opened (book_of l) e)) rest =
       ap (total (λ e. of_task l k (opened (book_of l) e))) same in
       omega arith
+  drained_total k q (c ∷ cs) d = elim d [ ]
 
   taken_once : (k : ℕ) → takes_of_task l k r.queue ≡ publishes l k r.queue + redeliveries l k r.queue
   taken_once k = let t = drained_total k [] (seconds (queue_calls r.queue)) drained in omega arith
@@ -217,8 +222,8 @@ module _ (behaviour : Behaviour) (l : Line) (plan : IsPlan l) (r : Run behaviour
       let has = state_has behaviour l plan t o e in
       let done = finished has.0 (store t o) has.1 in
       let few = (first_part behaviour l plan r).stored_once t in
-      let here = in_total (firsts_one t) (seconds (table_calls r.table)) (stored t o true) done in
-      let mine : firsts_one t (stored t o true) ≡ 1 = ap (λ b. cond b 1 0) (eq-eqb t t refl) in
+      let here = in_total (firsts_one t) (seconds (answered_calls r.table)) (results.store t o, results.was First) done in
+      let mine : firsts_one t (results.store t o, results.was First) ≡ 1 = ap (λ b. cond b 1 0) (eq-eqb t t refl) in
       omega arith
 
   named : (t u : ℕ) (b : Bool) → eqb u t ≡ b → (◌≡◌ {A = ℕ} (cond b 1 0) 0 → ⊥) → u ≡ t
@@ -228,57 +233,52 @@ module _ (behaviour : Behaviour) (l : Line) (plan : IsPlan l) (r : Run behaviour
   pending_none : (t : ℕ) → its_state behaviour l t ≡ None → first_stores t r.table + again_stores t r.table ≡ 0
   pending_none t none =
       let a : first_stores t r.table ≡ 0 =
-      ⊎_elim (λ z. z) (λ h. absurd (first_heavy h.0 h.1 h.2)) (find_heavy (firsts_one t) (seconds (table_calls r.table))) in
+      ⊎_elim (λ z. z) (λ h. absurd (first_heavy h.0 h.1 h.2)) (find_heavy (firsts_one t) (seconds (answered_calls r.table))) in
       let b : again_stores t r.table ≡ 0 =
-      ⊎_elim (λ z. z) (λ h. absurd (again_heavy h.0 h.1 h.2)) (find_heavy (agains_one t) (seconds (table_calls r.table))) in
+      ⊎_elim (λ z. z) (λ h. absurd (again_heavy h.0 h.1 h.2)) (find_heavy (agains_one t) (seconds (answered_calls r.table))) in
       omega arith
     where
       no_state : (o : Outcome) → its_state behaviour l t ≡ Some o → ⊥
       no_state o e = let bad : ◌≡◌ {A = eval.State} None (Some o) = sym none ∙ e in cc
 
-      no_store : (u : ℕ) (o : Outcome) (b : Bool) → In (stored u o b) (seconds (table_calls r.table)) → (◌≡◌ {A = ℕ} (cond (eqb u t) 1 0) 0 → ⊥) → ⊥
+      no_store : (u : ℕ) (o : Outcome) (b : Stored) → In (results.store u o, results.was b) (seconds (answered_calls r.table))
+          → (◌≡◌ {A = ℕ} (cond (eqb u t) 1 0) 0 → ⊥) → ⊥
       no_store u o b i d = no_state o
           (subst (λ k. its_state behaviour l k ≡ Some o) (named t u (eqb u t) refl d)
           (has_state behaviour l plan u o (stored_right behaviour l plan r u o b i)))
 
-      first_heavy : (x : BackendCall Outcome) → In x (seconds (table_calls r.table)) → (firsts_one t x ≡ 0 → ⊥) → ⊥
-      first_heavy (stored u o true) i d = no_store u o true i d
-      first_heavy (stored u o false) i d = d refl
-      first_heavy (returned g m n) i d = d refl
-      first_heavy (has_read u o) i d = d refl
+      first_heavy : (x : TableAnswered) → In x (seconds (answered_calls r.table)) → (firsts_one t x ≡ 0 → ⊥) → ⊥
+      first_heavy (results.store u o, results.was First) i d = no_store u o First i d
+      first_heavy c i d = d refl
 
-      again_heavy : (x : BackendCall Outcome) → In x (seconds (table_calls r.table)) → (agains_one t x ≡ 0 → ⊥) → ⊥
-      again_heavy (stored u o true) i d = d refl
-      again_heavy (stored u o false) i d = no_store u o false i d
-      again_heavy (returned g m n) i d = d refl
-      again_heavy (has_read u o) i d = d refl
+      again_heavy : (x : TableAnswered) → In x (seconds (answered_calls r.table)) → (agains_one t x ≡ 0 → ⊥) → ⊥
+      again_heavy (results.store u o, results.was Again) i d = no_store u o Again i d
+      again_heavy c i d = d refl
 
   -- what is delivered again was published once
   again_published : (k : ℕ) → (redeliveries l k r.queue ≡ 0) ⊎ (publishes l k r.queue ≡ 1)
   again_published k = ⊎_elim (λ z. inl z) (λ h. heavy h.0 h.1 h.2) (find_heavy (agains_one_of l k) (seconds (queue_calls r.queue)))
     where
-      heavy : (x : BrokerCall Envelope) → In x (seconds (queue_calls r.queue)) → (agains_one_of l k x ≡ 0 → ⊥)
+      heavy : (x : QueueAnswered Envelope) → In x (seconds (queue_calls r.queue)) → (agains_one_of l k x ≡ 0 → ⊥)
           → (redeliveries l k r.queue ≡ 0) ⊎ (publishes l k r.queue ≡ 1)
-      heavy (published e) i d = absurd (d refl)
-      heavy (took t) i d = absurd (d refl)
-      heavy (again e) i d =
-          let a = run_again behaviour l plan r e i in
+      heavy (broker.redeliver e, y) i d =
+          let a = run_again behaviour l plan r e y i in
           let one = published_one a.0 a.3 in
           let no : number_of a.0.own ≡ k = named k (number_of a.0.own) (eqb (number_of a.0.own) k) refl (subst (λ x. of_task l k x ≡ 0 → ⊥) a.2 d) in
           inr (subst (λ n. publishes l n r.queue ≡ 1) no one)
+      heavy c i d = absurd (d refl)
 
-  take_weight : (k : ℕ) (c : BrokerCall Envelope) → takes_task (X behaviour l plan) k c ≡ takes_one_of l k c
-  take_weight k (published e) = refl
-  take_weight k (took e) = go (opened (book_of l) e)
+  take_weight : (k : ℕ) (c : QueueAnswered Envelope) → takes_task (X behaviour l plan) k c ≡ takes_one_of l k c
+  take_weight k (broker.take, Some e) = go (opened (book_of l) e)
     where
       go : (x : _) → of_opened (X behaviour l plan) k x ≡ of_task l k x
       go None = refl
       go (Some c) = refl
-  take_weight k (again e) = refl
+  take_weight k c = refl
 
   stored_again : (t : ℕ) → again_stores t r.table ≡ redeliveries l t r.queue
   stored_again t =
-      let calls = seconds (table_calls r.table) in
+      let calls = seconds (answered_calls r.table) in
       let few = (first_part behaviour l plan r).stored_again t in
       let one = (first_part behaviour l plan r).stored_once t in
       let takes = taken_once t in
@@ -291,18 +291,16 @@ module _ (behaviour : Behaviour) (l : Line) (plan : IsPlan l) (r : Run behaviour
       (once behaviour l plan) (keeping behaviour l plan) (inner_run behaviour l plan r) t) (agains_one t) (repeat_weight behaviour l plan r t) calls in
       ⊎_elim (λ z. omega arith) (λ p. omega arith) (again_published t)
 
-  part_weight : (g m : ℕ) (x : BackendCall Outcome) → returns_one g m x ≡ part_of g m x
-  part_weight g m (stored u q b) = refl
-  part_weight g m (returned h t n) = refl
-  part_weight g m (has_read u q) = refl
+  part_weight : (g m : ℕ) (x : TableAnswered) → returns_one g m x ≡ part_of g m x
+  part_weight g m c = refl
 
   returned_once : (g t : ℕ) → IsPart behaviour l g t → returns g t r.table ≡ 1
   returned_once g t (d, v, i) =
       let done = finished v (hand_in g t d) i in
-      let few = (part_once g t [] [] (seconds (table_calls r.table)) (inner_run behaviour l plan r).table).0 in
-      let same = total-same (returns_one g t) (part_of g t) (part_weight g t) (seconds (table_calls r.table)) in
-      let here = in_total (returns_one g t) (seconds (table_calls r.table)) (returned g t done.0) done.1 in
-      let mine : returns_one g t (returned g t done.0) ≡ 1 = ap (λ b. cond b (cond (eqb t t) 1 0) 0) (eq-eqb g g refl)
+      let few = (part_once g t [] [] (seconds (answered_calls r.table)) (inner_run behaviour l plan r).table).0 in
+      let same = total-same (returns_one g t) (part_of g t) (part_weight g t) (seconds (answered_calls r.table)) in
+      let here = in_total (returns_one g t) (seconds (answered_calls r.table)) (results.part g t, results.count done.0) done.1 in
+      let mine : returns_one g t (results.part g t, results.count done.0) ≡ 1 = ap (λ b. cond b (cond (eqb t t) 1 0) 0) (eq-eqb g g refl)
       ∙ ap (λ b. cond b 1 0) (eq-eqb t t refl) in
       omega arith
 
@@ -314,8 +312,17 @@ module _ (behaviour : Behaviour) (l : Line) (plan : IsPlan l) (r : Run behaviour
       by_state none None e = none ∙ sym e
       by_state none (Some o) e =
           let has = state_has behaviour l plan t o e in
-          let there = stored_stays l (plan_apart l plan) t o true r.table results.no_results (finished has.0 (store t o) has.1) in
+          let there = stored_stays l (plan_apart l plan) t o First r.table results.no_results (finished has.0 (store t o) has.1) in
           absurd (let bad : ◌≡◌ {A = eval.State} None (Some there.0) = sym none ∙ there.1 in cc)
 
   pub second_part : SecondPart behaviour l r
-  second_part = record { rows = rows_are; published = published_one; taken = taken_once; stored = stored_once; stored_again = stored_again; pending = pending_none; returned = returned_once }
+  second_part = record {
+    rows = rows_are;
+    published = published_one;
+    taken = taken_once;
+    stored = stored_once;
+    stored_again = stored_again;
+    pending =
+        pending_none;
+    returned = returned_once;
+  }

@@ -8,9 +8,11 @@ use Rattle.canvas_rewrite.specs.FrozenView.{PCarried}
 use Rattle.canvas_message.specs.Content.{Content, number_of}
 use Rattle.canvas_effects.specs.Job.{store, publish, hand_in}
 use Rattle.canvas_message.specs.declared.envelope.Envelope.{Envelope}
+use Rattle.canvas_backend.specs.declared.stored.Stored.{Stored}
+use Rattle.canvas_backend.specs.declared.stored.Stored.TheVariants.{First, Again}
 use Rattle.canvas_runs.specs.Book.{book_of}
 use Rattle.canvas_runs.specs.Calls.{held_by}
-use Rattle.canvas_runs.specs.Core.{Reply, taken, sent, refused, kept, counted, found, rested, acked, taking, resting, over, failed, owning, doing, reading, acking, ask, answered, Doing, Jobs, settled, opens, owned, handed_in, all_read, is_inside, is_due, Suits, Ask, ReadsBack, deliver}
+use Rattle.canvas_runs.specs.Core.{Reply, taken, sent, refused, stored, counted, found, rested, acked, taking, resting, over, failed, owning, doing, reading, acking, ask, answered, Doing, Jobs, settled, opens, owned, handed_in, all_read, is_inside, is_due, Suits, Ask, ReadsBack, redeliver}
 use Rattle.canvas_runs.specs.Law.{of_task, takes_one_of}
 use Rattle.canvas_runs.specs.declared.when.When.{When}
 use Rattle.canvas_runs.specs.declared.when.When.TheVariants.{Early, Late}
@@ -130,20 +132,20 @@ module _ (behaviour : Behaviour) (l : Line) (n : ℕ) (es : List Entry) (us : Li
       (again_append behaviour l n [] es us (p ∷ []) xs [] rest rest t (skips e no_turn))
 
   -- with its step
-  pub again_step : (a : Ask Envelope Outcome) (r : Reply Envelope Outcome) → wanted (comes_to behaviour l xs p) rest ≡ false
+  pub again_step : (a : Ask Envelope) (r : Reply Envelope) → wanted (comes_to behaviour l xs p) rest ≡ false
       → ReadsBack (worker behaviour l) (left behaviour l xs p) → a ≡ ask (worker behaviour l) (left behaviour l xs p) → Answers behaviour l n xs a r
       → TurnedAgain behaviour l n [] es (us ++ p ∷ []) (xs ++ (p, (a, r)) ∷ []) rest
   again_step a r f b e h = again_append behaviour l n [] es us (p ∷ []) xs ((p, (a, r)) ∷ []) rest rest t (takes f b e h no_turn)
 
   -- with a redelivery and its step
-  pub again_spend : (d : Envelope) (a : Ask Envelope Outcome) (r : Reply Envelope Outcome) → wanted (comes_to behaviour l xs p) rest ≡ true → IsWorker n p
+  pub again_spend : (d : Envelope) (a : Ask Envelope) (r : Reply Envelope) → wanted (comes_to behaviour l xs p) rest ≡ true → IsWorker n p
       → holds xs p ≡ Some d
-      → ReadsBack (worker behaviour l) (left behaviour l (xs ++ (p, (deliver d, sent)) ∷ []) p)
-      → a ≡ ask (worker behaviour l) (left behaviour l (xs ++ (p, (deliver d, sent)) ∷ []) p)
-      → Answers behaviour l n (xs ++ (p, (deliver d, sent)) ∷ []) a r
-      → TurnedAgain behaviour l n [] es (us ++ p ∷ []) (xs ++ (p, (deliver d, sent)) ∷ (p, (a, r)) ∷ []) (spent (comes_to behaviour l xs p) rest)
+      → ReadsBack (worker behaviour l) (left behaviour l (xs ++ (p, (redeliver d, sent)) ∷ []) p)
+      → a ≡ ask (worker behaviour l) (left behaviour l (xs ++ (p, (redeliver d, sent)) ∷ []) p)
+      → Answers behaviour l n (xs ++ (p, (redeliver d, sent)) ∷ []) a r
+      → TurnedAgain behaviour l n [] es (us ++ p ∷ []) (xs ++ (p, (redeliver d, sent)) ∷ (p, (a, r)) ∷ []) (spent (comes_to behaviour l xs p) rest)
   again_spend d a r f w g b e h =
-      again_append behaviour l n [] es us (p ∷ []) xs ((p, (deliver d, sent)) ∷ (p, (a, r)) ∷ []) rest (spent (comes_to behaviour l xs p) rest) t
+      again_append behaviour l n [] es us (p ∷ []) xs ((p, (redeliver d, sent)) ∷ (p, (a, r)) ∷ []) rest (spent (comes_to behaviour l xs p) rest) t
       (spends f w g b e h no_turn)
 
 -- ---- without entries
@@ -187,16 +189,16 @@ module _ (behaviour : Behaviour) (l : Line) (k : ℕ) where
   abbrev pub Past : Doing (worker behaviour l) → Type 0
   Past s = (is_owning s ≡ false) × (is_inside s ≡ true)
 
-  pub past_settled : (js : Jobs (worker behaviour l)) (b : Bool) → Past (settled (worker behaviour l) js b)
+  pub past_settled : (js : Jobs (worker behaviour l)) (b : Stored) → Past (settled (worker behaviour l) js b)
   past_settled [] b = (refl, refl)
-  past_settled (hand_in g t c ∷ js) true = (refl, refl)
-  past_settled (hand_in g t c ∷ js) false = (refl, refl)
+  past_settled (hand_in g t c ∷ js) First = (refl, refl)
+  past_settled (hand_in g t c ∷ js) Again = (refl, refl)
   past_settled (store t o ∷ js) b = (refl, refl)
   past_settled (publish m ∷ js) b = (refl, refl)
 
-  pub past_owned : (m : Content) (b : Bool) → Past (owned (worker behaviour l) m b)
-  past_owned m true = past_settled _ true
-  past_owned m false = (refl, refl)
+  pub past_owned : (m : Content) (b : Stored) → Past (owned (worker behaviour l) m b)
+  past_owned m First = past_settled _ First
+  past_owned m Again = (refl, refl)
 
   pub past_handed : (g : ℕ) (c : PCarried) (i : ℕ) → Past (handed_in (worker behaviour l) g c i)
   past_handed g c i = go (eqb (suc i) c.size)
@@ -208,17 +210,17 @@ module _ (behaviour : Behaviour) (l : Line) (k : ℕ) where
   pub past_read : (g : ℕ) (c : PCarried) (fs : List (ℕ × Outcome)) → Past (all_read (worker behaviour l) g c fs)
   past_read g c fs = go (eqb (length fs) c.size)
     where
-      go : (b : Bool) → Past (cond b (settled (worker behaviour l) ((worker behaviour l).completed c fs) false) (reading g c fs))
-      go true = past_settled _ false
+      go : (b : Bool) → Past (cond b (settled (worker behaviour l) ((worker behaviour l).completed c fs) Again) (reading g c fs))
+      go true = past_settled _ Again
       go false = (refl, refl)
 
   -- ---- a message is ahead of each of its points once
 
-  abbrev pub sure : Reply Envelope Outcome → Bool
+  abbrev pub sure : Reply Envelope → Bool
   sure refused = false
   sure r = true
 
-  abbrev Steps : When → Doing (worker behaviour l) → Option Envelope → Reply Envelope Outcome → Type 0
+  abbrev Steps : When → Doing (worker behaviour l) → Option Envelope → Reply Envelope → Type 0
   Steps w s h r = in_queue behaviour l (takes_one_of l k) (ask (worker behaviour l) s, r) + ahead w s h ≡ here k w (point l s h)
       + ahead w (answered (worker behaviour l) s r) (held_by h (ask (worker behaviour l) s) r)
 
@@ -237,7 +239,7 @@ module _ (behaviour : Behaviour) (l : Line) (k : ℕ) where
   goes_late : (s' : Doing (worker behaviour l)) (h : Option Envelope) → Past s' → ahead Late s' h ≡ of_task l k (message_in l h)
   goes_late s' h e = ap (λ b. cond b (of_task l k (message_in l h)) 0) e.1
 
-  step_early : (s : Doing (worker behaviour l)) (h : Option Envelope) (r : Reply Envelope Outcome) → Suits (ask (worker behaviour l) s) r → sure r ≡ true
+  step_early : (s : Doing (worker behaviour l)) (h : Option Envelope) (r : Reply Envelope) → Suits (ask (worker behaviour l) s) r → sure r ≡ true
       → Steps Early s h r
   step_early taking h (taken None) u f = refl
   step_early taking h (taken (Some e)) u f = go (opened (book_of l) e)
@@ -247,9 +249,9 @@ module _ (behaviour : Behaviour) (l : Line) (k : ℕ) where
       go (Some m) = omega arith
   step_early resting h (rested true) u f = refl
   step_early resting h (rested false) u f = refl
-  step_early (owning m) h (kept b) u f = let a = one_here Early Early refl (message_in l h) in let z =
+  step_early (owning m) h (stored b) u f = let a = one_here Early Early refl (message_in l h) in let z =
       goes_early taking (owned (worker behaviour l) m b) h (past_owned m b) in omega (arith, a, z)
-  step_early (doing (store t o ∷ js) b) h (kept a) u f = let z =
+  step_early (doing (store t o ∷ js) b) h (stored a) u f = let z =
       goes_early taking (settled (worker behaviour l) js (cond (is_due t js) a b)) h (past_settled js (cond (is_due t js) a b)) in omega (arith, z)
   step_early (doing (publish m ∷ js) b) h sent u f = let z = goes_early taking (settled (worker behaviour l) js b) h (past_settled js b) in omega (arith, z)
   step_early (doing (publish m ∷ js) b) h refused u f = absurd (false≢true f)
@@ -261,7 +263,7 @@ module _ (behaviour : Behaviour) (l : Line) (k : ℕ) where
   step_early acking h acked u f = let z = none_here Early Late refl (message_in l h) in omega (arith, z)
   step_early s h r u f = elim u [ ]
 
-  step_late : (s : Doing (worker behaviour l)) (h : Option Envelope) (r : Reply Envelope Outcome) → Suits (ask (worker behaviour l) s) r → sure r ≡ true
+  step_late : (s : Doing (worker behaviour l)) (h : Option Envelope) (r : Reply Envelope) → Suits (ask (worker behaviour l) s) r → sure r ≡ true
       → Steps Late s h r
   step_late taking h (taken None) u f = refl
   step_late taking h (taken (Some e)) u f = go (opened (book_of l) e)
@@ -271,9 +273,9 @@ module _ (behaviour : Behaviour) (l : Line) (k : ℕ) where
       go (Some m) = omega arith
   step_late resting h (rested true) u f = refl
   step_late resting h (rested false) u f = refl
-  step_late (owning m) h (kept b) u f = let a = none_here Late Early refl (message_in l h) in let z =
+  step_late (owning m) h (stored b) u f = let a = none_here Late Early refl (message_in l h) in let z =
       goes_late (owned (worker behaviour l) m b) h (past_owned m b) in omega (arith, a, z)
-  step_late (doing (store t o ∷ js) b) h (kept a) u f = let z =
+  step_late (doing (store t o ∷ js) b) h (stored a) u f = let z =
       goes_late (settled (worker behaviour l) js (cond (is_due t js) a b)) h (past_settled js (cond (is_due t js) a b)) in omega (arith, z)
   step_late (doing (publish m ∷ js) b) h sent u f = let z = goes_late (settled (worker behaviour l) js b) h (past_settled js b) in omega (arith, z)
   step_late (doing (publish m ∷ js) b) h refused u f = absurd (false≢true f)
@@ -285,7 +287,7 @@ module _ (behaviour : Behaviour) (l : Line) (k : ℕ) where
   step_late acking h acked u f = let a = one_here Late Late refl (message_in l h) in omega (arith, a)
   step_late s h r u f = elim u [ ]
 
-  pub one_step : (w : When) (s : Doing (worker behaviour l)) (h : Option Envelope) (r : Reply Envelope Outcome) → Suits (ask (worker behaviour l) s) r
+  pub one_step : (w : When) (s : Doing (worker behaviour l)) (h : Option Envelope) (r : Reply Envelope) → Suits (ask (worker behaviour l) s) r
       → sure r ≡ true → Steps w s h r
   one_step Early s h r u f = step_early s h r u f
   one_step Late s h r u f = step_late s h r u f

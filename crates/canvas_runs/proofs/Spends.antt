@@ -2,11 +2,11 @@
 use Rattle.std.proofs.Common.{◌≡◌, ◌≢◌, ◌⊎◌, ℕ, zero, suc, ◌+◌, ◌≤◌, true, List, [], ◌∷◌, ◌++◌, length, Some, None, refl, sym, ap, ap₂, ◌∙◌, subst, inl, inr, ⊎_elim, append_assoc, append-nil, arith}
 use Rattle.std.proofs.lemmas.Bool.{cases_eq, false≢true}
 use Rattle.canvas_task.specs.Apply.{Behaviour}
-use Rattle.canvas_task.specs.declared.outcome.Outcome.{Outcome}
 use Rattle.canvas_semantics.specs.Line.{Line}
 use Rattle.canvas_message.specs.declared.envelope.Envelope.{Envelope}
+use Rattle.canvas_runs.specs.Core as core
 use Rattle.canvas_runs.specs.Calls.{of_scripts, held_by, held_after}
-use Rattle.canvas_runs.specs.Core.{Ask, Reply, take, send, keep, part, read, pause, ack, deliver, taken, sent, kept, counted, found, rested, acked, ask, answered, Doing, Suits}
+use Rattle.canvas_runs.specs.Core.{Ask, Reply, take, publish, store, part, read, ack, redeliver, taken, sent, stored, counted, found, rested, acked, ask, answered, Doing, Suits}
 use Rattle.canvas_runs.specs.Law.{takes_one_of, agains_one_of}
 use Rattle.canvas_runs.specs.Lists.{Each, total, by}
 use Rattle.canvas_runs.specs.declared.when.When.{When}
@@ -31,43 +31,43 @@ changed (suc n) p a b f g le off e = elim (cases_eq p (suc n)) [
 ]
 
 -- the envelope of a worker's open script after one more step
-holds_here : (xs : List Step) (p : ℕ) (a : Ask Envelope Outcome) (r : Reply Envelope Outcome) → holds (xs ++ (p, (a, r)) ∷ []) p ≡ held_by (holds xs p) a r
+holds_here : (xs : List Step) (p : ℕ) (a : Ask Envelope) (r : Reply Envelope) → holds (xs ++ (p, (a, r)) ∷ []) p ≡ held_by (holds xs p) a r
 holds_here xs p a r = ap (held_after None) (by_more p xs (a, r)) ∙ held_append None (by p xs) ((a, r) ∷ [])
 
-holds_other : (xs : List Step) (p q : ℕ) (a : Ask Envelope Outcome) (r : Reply Envelope Outcome) → q ≢ p → holds (xs ++ (q, (a, r)) ∷ []) p ≡ holds xs p
+holds_other : (xs : List Step) (p q : ℕ) (a : Ask Envelope) (r : Reply Envelope) → q ≢ p → holds (xs ++ (q, (a, r)) ∷ []) p ≡ holds xs p
 holds_other xs p q a r apart = ap (held_after None) (by_other p q xs (a, r) apart)
 
-holds_delivers : (xs : List Step) (p q : ℕ) (d : Envelope) → holds (xs ++ (q, (deliver d, sent)) ∷ []) p ≡ holds xs p
+holds_delivers : (xs : List Step) (p q : ℕ) (d : Envelope) → holds (xs ++ (q, (redeliver d, sent)) ∷ []) p ≡ holds xs p
 holds_delivers xs p q d = elim (cases_eq q p) [
-  | inl s ↦ subst (λ i. holds (xs ++ (i, (deliver d, sent)) ∷ []) p ≡ holds xs p) (sym s) (holds_here xs p (deliver d) sent)
-  | inr apart ↦ holds_other xs p q (deliver d) sent apart
+  | inl s ↦ subst (λ i. holds (xs ++ (i, (redeliver d, sent)) ∷ []) p ≡ holds xs p) (sym s) (holds_here xs p (redeliver d) sent)
+  | inr apart ↦ holds_other xs p q (redeliver d) sent apart
 ]
 
 module _ (behaviour : Behaviour) (l : Line) (n : ℕ) where
-  answers_sure : (k : ℕ) (xs : List Step) (a : Ask Envelope Outcome) (r : Reply Envelope Outcome) → Answers behaviour l n xs a r → sure behaviour l k r ≡ true
+  answers_sure : (k : ℕ) (xs : List Step) (a : Ask Envelope) (r : Reply Envelope) → Answers behaviour l n xs a r → sure behaviour l k r ≡ true
   answers_sure k xs take (taken x) h = refl
-  answers_sure k xs (send e) sent h = refl
-  answers_sure k xs (keep t o) (kept b) h = refl
+  answers_sure k xs (publish e) sent h = refl
+  answers_sure k xs (store t o) (stored b) h = refl
   answers_sure k xs (part g t) (counted m) h = refl
   answers_sure k xs (read g i) (found t x) h = refl
-  answers_sure k xs pause (rested m) h = refl
+  answers_sure k xs core.rest (rested m) h = refl
   answers_sure k xs ack acked h = refl
   answers_sure k xs a r h = elim h [ ]
 
-  plain_step : (a : Ask Envelope Outcome) → of_scripts a ≡ true → redelivers_one a ≡ 0
-  plain_step (deliver e) o = absurd (false≢true o)
+  plain_step : (a : Ask Envelope) → of_scripts a ≡ true → redelivers_one a ≡ 0
+  plain_step (redeliver e) o = absurd (false≢true o)
   plain_step a o = refl
 
-  plain_call : (k : ℕ) (a : Ask Envelope Outcome) (r : Reply Envelope Outcome) → of_scripts a ≡ true → in_queue behaviour l (agains_one_of l k) (a, r) ≡ 0
-  plain_call k (deliver e) r o = absurd (false≢true o)
+  plain_call : (k : ℕ) (a : Ask Envelope) (r : Reply Envelope) → of_scripts a ≡ true → in_queue behaviour l (agains_one_of l k) (a, r) ≡ 0
+  plain_call k (redeliver e) r o = absurd (false≢true o)
   plain_call k take (taken (Some e)) o = refl
-  plain_call k (send e) sent o = refl
+  plain_call k (publish e) sent o = refl
   plain_call k a r o = refl
 
-  of_script : (before : List Step) (p : ℕ) (a : Ask Envelope Outcome) → a ≡ ask (worker behaviour l) (left behaviour l before p) → of_scripts a ≡ true
+  of_script : (before : List Step) (p : ℕ) (a : Ask Envelope) → a ≡ ask (worker behaviour l) (left behaviour l before p) → of_scripts a ≡ true
   of_script before p a e = subst (λ b. of_scripts b ≡ true) (sym e) (asks_of_scripts (worker behaviour l) (left behaviour l before p))
 
-  comes_still : (before : List Step) (p q : ℕ) (d : Envelope) → comes_to behaviour l (before ++ (q, (deliver d, sent)) ∷ []) p ≡ comes_to behaviour l before p
+  comes_still : (before : List Step) (p q : ℕ) (d : Envelope) → comes_to behaviour l (before ++ (q, (redeliver d, sent)) ∷ []) p ≡ comes_to behaviour l before p
   comes_still before p q d = ap₂ (point l) (left_delivers behaviour l before p q d sent) (holds_delivers before p q d)
 
   -- ---- as many entries are spent as envelopes delivered again
@@ -114,9 +114,9 @@ module _ (behaviour : Behaviour) (l : Line) (n : ℕ) where
     spends_agains before es (p ∷ us) xs rest (skips e t) = spends_agains before es us xs rest t
     spends_agains before es (p ∷ us) ((q, (a, r)) ∷ xs) rest (takes f b e h t) =
         let i = spends_agains (before ++ (q, (a, r)) ∷ []) es us xs rest t in let z = plain_call k a r (of_script before q a e) in omega (arith, i, z)
-    spends_agains before es (p ∷ us) ((q, (deliver d, sent)) ∷ (q', (a, r)) ∷ xs) rest (spends f w g b e h t) =
-        let i = spends_agains ((before ++ (q, (deliver d, sent)) ∷ []) ++ (q', (a, r)) ∷ []) (spent (comes_to behaviour l before p) es) us xs rest t in
-        let z = plain_call k a r (of_script (before ++ (q, (deliver d, sent)) ∷ []) q' a e) in
+    spends_agains before es (p ∷ us) ((q, (redeliver d, sent)) ∷ (q', (a, r)) ∷ xs) rest (spends f w g b e h t) =
+        let i = spends_agains ((before ++ (q, (redeliver d, sent)) ∷ []) ++ (q', (a, r)) ∷ []) (spent (comes_to behaviour l before p) es) us xs rest t in
+        let z = plain_call k a r (of_script (before ++ (q, (redeliver d, sent)) ∷ []) q' a e) in
         let m = spent_some (comes_to behaviour l before p) es f k Early in
         let o = spent_some (comes_to behaviour l before p) es f k Late in
         let c = redelivers behaviour l k (left behaviour l before p) (holds before p) d es g f in
@@ -126,13 +126,13 @@ module _ (behaviour : Behaviour) (l : Line) (n : ℕ) where
     abbrev pub waiting : When → List Step → ℕ
     waiting w before = sum_to n (λ p. ahead behaviour l k w (left behaviour l before p) (holds before p))
 
-    waits_still : (w : When) (before : List Step) (q : ℕ) (d : Envelope) → waiting w (before ++ (q, (deliver d, sent)) ∷ []) ≡ waiting w before
+    waits_still : (w : When) (before : List Step) (q : ℕ) (d : Envelope) → waiting w (before ++ (q, (redeliver d, sent)) ∷ []) ≡ waiting w before
     waits_still w before q d =
-        sum_to-same n (λ p. ahead behaviour l k w (left behaviour l (before ++ (q, (deliver d, sent)) ∷ []) p)
-        (holds (before ++ (q, (deliver d, sent)) ∷ []) p)) (λ p. ahead behaviour l k w (left behaviour l before p) (holds before p))
+        sum_to-same n (λ p. ahead behaviour l k w (left behaviour l (before ++ (q, (redeliver d, sent)) ∷ []) p)
+        (holds (before ++ (q, (redeliver d, sent)) ∷ []) p)) (λ p. ahead behaviour l k w (left behaviour l before p) (holds before p))
         (λ p m. ap₂ (ahead behaviour l k w) (left_delivers behaviour l before p q d sent) (holds_delivers before p q d))
 
-    waits_step : (w : When) (before : List Step) (p : ℕ) (a : Ask Envelope Outcome) (r : Reply Envelope Outcome) → p ≤ n
+    waits_step : (w : When) (before : List Step) (p : ℕ) (a : Ask Envelope) (r : Reply Envelope) → p ≤ n
         → a ≡ ask (worker behaviour l) (left behaviour l before p) → Answers behaviour l n before a r
         → in_queue behaviour l (takes_one_of l k) (a, r) + waiting w before ≡ here k w (comes_to behaviour l before p) + waiting w (before ++ (p, (a, r)) ∷ [])
     waits_step w before p a r le e h =
@@ -173,8 +173,8 @@ module _ (behaviour : Behaviour) (l : Line) (n : ℕ) where
         ⊎_elim (λ (z : here k w (comes_to behaviour l before q) ≡ 0). inr (omega (arith, s, same, all, z)))
         (λ (z : entries_for k w es ≡ 0). inl (omega (arith, few, z))) (not_wanted (comes_to behaviour l before q) es f k w))
         (spends_all w (before ++ x ∷ []) es us xs rest ws.1 t)
-    spends_all w before es (p ∷ us) ((q, (deliver d, sent)) ∷ (q', (a, r)) ∷ xs) rest ws (spends f v g b e h t) =
-        let x : Step = (q, (deliver d, sent)) in
+    spends_all w before es (p ∷ us) ((q, (redeliver d, sent)) ∷ (q', (a, r)) ∷ xs) rest ws (spends f v g b e h t) =
+        let x : Step = (q, (redeliver d, sent)) in
         let y : Step = (q', (a, r)) in
         let s = waits_step w (before ++ x ∷ []) q' a r ws.0.1 e h in
         let still = waits_still w before q d in

@@ -1,7 +1,6 @@
 -- Of each two rounds one has a call, until all have ended.
 use Rattle.std.proofs.Common.{◌≡◌, ◌≢◌, ◌⊎◌, ℕ, zero, suc, ◌+◌, ◌≤◌, ◌||◌, Bool, true, false, cond, eqb, List, [], ◌∷◌, ◌++◌, Some, None, refl, sym, ap, ◌∙◌, subst, append_assoc, append-nil, inl, inr, ⊎_elim, ne_eqb, eq-eqb, arith}
 use Rattle.std.proofs.lemmas.Bool.{cases_eq, false≢true}
-use Rattle.canvas_task.specs.declared.outcome.Outcome.{Outcome}
 use Rattle.canvas_history.proofs.Histories.{In, in_cases}
 use Rattle.canvas_semantics.specs.Line.{Line}
 use Rattle.canvas_rewrite.specs.Planned.{IsPlan}
@@ -9,7 +8,7 @@ use Rattle.canvas_effects.specs.Job.{store, publish, hand_in}
 use Rattle.canvas_message.specs.declared.envelope.Envelope.{Envelope}
 use Rattle.canvas_broker.specs.Broker as broker
 use Rattle.canvas_runs.specs.Calls.{of_scripts}
-use Rattle.canvas_runs.specs.Core.{Ask, Reply, end, taken, sent, kept, counted, found, rested, acked, taking, resting, over, failed, owning, doing, reading, acking, ask, answered, Doing, is_inside}
+use Rattle.canvas_runs.specs.Core.{Ask, Reply, end, taken, sent, stored, counted, found, rested, acked, taking, resting, over, failed, owning, doing, reading, acking, ask, answered, Doing, is_inside}
 use Rattle.canvas_runs.specs.Lists.{Each, total}
 use Rattle.canvas_runs.specs.Turns.{Step, is_queued, queue_next, queue_after, left, IsWorker, Answers, FirstsRead, some_inside, holds_more, HasEnded, Turned, all_taken, skips_turn, takes_turn, delivers_again, AllEnded, round}
 use Rattle.canvas_runs.specs.Worker.{worker, sealed}
@@ -55,34 +54,34 @@ each_round n P a p w = go (round n) a (round_has n p w)
 
 module _ (behaviour : Behaviour) (l : Line) where
   abbrev Y : Type 0
-  Y = Ask Envelope Outcome × Reply Envelope Outcome
+  Y = Ask Envelope × Reply Envelope
 
   -- one step without a call: a worker that takes nothing, or that rests
-  pub data Quiet : Doing (worker behaviour l) → Reply Envelope Outcome → Type 0 where
+  pub data Quiet : Doing (worker behaviour l) → Reply Envelope → Type 0 where
     takes_none : Quiet taking (taken None)
     rests_on : {b : Bool} → Quiet resting (rested b)
 
-  pub quiet_step : (n : ℕ) (xs : List Step) (s : Doing (worker behaviour l)) (r : Reply Envelope Outcome)
+  pub quiet_step : (n : ℕ) (xs : List Step) (s : Doing (worker behaviour l)) (r : Reply Envelope)
       → Answers behaviour l n xs (ask (worker behaviour l) s) r → calls_of behaviour l (ask (worker behaviour l) s, r) ≡ 0 → Quiet s r
   quiet_step n xs taking (taken None) h z = takes_none
   quiet_step n xs taking (taken (Some e)) h z = absurd (omega (arith, z))
   quiet_step n xs resting (rested b) h z = rests_on
-  quiet_step n xs (owning m) (kept b) h z = absurd (omega (arith, z))
-  quiet_step n xs (doing (store t o ∷ js) d) (kept b) h z = absurd (omega (arith, z))
+  quiet_step n xs (owning m) (stored b) h z = absurd (omega (arith, z))
+  quiet_step n xs (doing (store t o ∷ js) d) (stored b) h z = absurd (omega (arith, z))
   quiet_step n xs (doing (publish m ∷ js) d) sent h z = absurd (omega (arith, z))
   quiet_step n xs (doing (hand_in g t c ∷ js) d) (counted m) h z = absurd (omega (arith, z))
   quiet_step n xs (reading g c fs) (found t x) h z = absurd (omega (arith, z))
   quiet_step n xs acking acked h z = absurd (omega (arith, z))
   quiet_step n xs s r h z = elim h [ ]
 
-  quiet_outside : (s : Doing (worker behaviour l)) (r : Reply Envelope Outcome) → Quiet s r
+  quiet_outside : (s : Doing (worker behaviour l)) (r : Reply Envelope) → Quiet s r
       → (is_inside s ≡ false) × (is_inside (answered (worker behaviour l) s r) ≡ false)
   quiet_outside taking (taken None) takes_none = (refl, refl)
   quiet_outside resting (rested true) rests_on = (refl, refl)
   quiet_outside resting (rested false) rests_on = (refl, refl)
   quiet_outside s r q = elim q [ ]
 
-  quiet_queue : (q : List Envelope) (n : ℕ) (xs : List Step) (s : Doing (worker behaviour l)) (r : Reply Envelope Outcome) → Quiet s r → queue_after l xs ≡ q
+  quiet_queue : (q : List Envelope) (n : ℕ) (xs : List Step) (s : Doing (worker behaviour l)) (r : Reply Envelope) → Quiet s r → queue_after l xs ≡ q
       → Answers behaviour l n xs (ask (worker behaviour l) s) r → queue_next q (ask (worker behaviour l) s) ≡ q
   quiet_queue [] n xs taking (taken None) takes_none e h = refl
   quiet_queue (x ∷ q) n xs taking (taken None) takes_none e h = absurd (let wrong : None ≡ Some x = h ∙ ap (λ z. broker.answer z broker.take) e in cc)
@@ -126,11 +125,11 @@ module _ (behaviour : Behaviour) (l : Line) where
     Sound xs = Holds behaviour l plan back n xs
 
     -- the first step of these turns, in what it is without a call
-    pub record First (xs : List Step) (p : ℕ) (r : Reply Envelope Outcome) : Type 0 where
+    pub record First (xs : List Step) (p : ℕ) (r : Reply Envelope) : Type 0 where
       pub quiet : Quiet (left behaviour l xs p) r
       pub answers : Answers behaviour l n xs (ask (worker behaviour l) (left behaviour l xs p)) r
 
-    first_of : (xs : List Step) (p : ℕ) (a : Ask Envelope Outcome) (r : Reply Envelope Outcome) (k : ℕ) → a ≡ ask (worker behaviour l) (left behaviour l xs p)
+    first_of : (xs : List Step) (p : ℕ) (a : Ask Envelope) (r : Reply Envelope) (k : ℕ) → a ≡ ask (worker behaviour l) (left behaviour l xs p)
         → Answers behaviour l n xs a r → calls_of behaviour l (a, r) + k ≡ 0 → First xs p r
     first_of xs p a r k e h z =
         let here : calls_of behaviour l (a, r) ≡ 0 = omega (arith, z) in
@@ -140,13 +139,13 @@ module _ (behaviour : Behaviour) (l : Line) where
           answers = subst (λ y. Answers behaviour l n xs y r) e h;
         }
 
-    left_after_one : (xs : List Step) (p : ℕ) (a : Ask Envelope Outcome) (r : Reply Envelope Outcome) (q : ℕ) → q ≡ p
+    left_after_one : (xs : List Step) (p : ℕ) (a : Ask Envelope) (r : Reply Envelope) (q : ℕ) → q ≡ p
         → a ≡ ask (worker behaviour l) (left behaviour l xs p)
         → left behaviour l (xs ++ (p, (a, r)) ∷ []) q ≡ answered (worker behaviour l) (left behaviour l xs p) r
     left_after_one xs p a r q same e = ap (left behaviour l (xs ++ (p, (a, r)) ∷ [])) same
         ∙ left_here behaviour l xs p a r (ap of_scripts e ∙ asks_of_scripts (worker behaviour l) (left behaviour l xs p))
 
-    queue_same : (xs : List Step) (p : ℕ) (a : Ask Envelope Outcome) (r : Reply Envelope Outcome) → a ≡ ask (worker behaviour l) (left behaviour l xs p)
+    queue_same : (xs : List Step) (p : ℕ) (a : Ask Envelope) (r : Reply Envelope) → a ≡ ask (worker behaviour l) (left behaviour l xs p)
         → First xs p r → queue_after l (xs ++ (p, (a, r)) ∷ []) ≡ queue_after l xs
     queue_same xs p a r e f =
         queue_more (map sealed (first_messages l)) xs (p, (a, r))
@@ -178,7 +177,7 @@ module _ (behaviour : Behaviour) (l : Line) where
     more_false : (xs : List Step) (b : Bool) → Idle behaviour l n xs → b ≡ holds_more behaviour l n xs → b ≡ false
     more_false xs b i e = e ∙ idle_more behaviour l n xs i
 
-    own_nearer : (xs : List Step) (s : Doing (worker behaviour l)) (r : Reply Envelope Outcome) → Idle behaviour l n xs → Quiet s r
+    own_nearer : (xs : List Step) (s : Doing (worker behaviour l)) (r : Reply Envelope) → Idle behaviour l n xs → Quiet s r
         → Answers behaviour l n xs (ask (worker behaviour l) s) r → (k j : ℕ) → (k + j ≤ rank (answered (worker behaviour l) s r)) ⊎ (k ≡ 0)
         → (k + (1 + j) ≤ rank s) ⊎ (k ≡ 0)
     own_nearer xs taking (taken None) i takes_none h k j (inl e) = inl (omega (arith, e))
@@ -233,7 +232,7 @@ module _ (behaviour : Behaviour) (l : Line) where
     none_queued [] e h = cc
     none_queued (x ∷ q) e h = cc
 
-    own_waits : (xs : List Step) (s : Doing (worker behaviour l)) (r : Reply Envelope Outcome) → is_queued (queue_after l xs) ≡ true → Quiet s r
+    own_waits : (xs : List Step) (s : Doing (worker behaviour l)) (r : Reply Envelope) → is_queued (queue_after l xs) ≡ true → Quiet s r
         → Answers behaviour l n xs (ask (worker behaviour l) s) r → (j : ℕ) → j ≤ waits (answered (worker behaviour l) s r) → 1 + j ≤ waits s
     own_waits xs taking (taken None) i takes_none h j e = absurd (none_queued (queue_after l xs) i h)
     own_waits xs resting (rested true) i rests_on h j e = omega (arith, e)
@@ -325,10 +324,10 @@ module _ (behaviour : Behaviour) (l : Line) where
     none_further before (p ∷ us) ys s e w (skips_turn f t) = none_further before us ys s e w.1 t
     none_further before (p ∷ us) ((q, (a, r)) ∷ ys) s e w (takes_turn b f h t) = absurd (nothing a (f ∙ e q w.0) h)
       where
-        nothing : (c : Ask Envelope Outcome) → c ≡ end → Answers behaviour l n before c r → ⊥
+        nothing : (c : Ask Envelope) → c ≡ end → Answers behaviour l n before c r → ⊥
         nothing c g k = ended_none r (subst (λ y. Answers behaviour l n before y r) g k)
           where
-            ended_none : (v : Reply Envelope Outcome) → Answers behaviour l n before end v → ⊥
+            ended_none : (v : Reply Envelope) → Answers behaviour l n before end v → ⊥
             ended_none v k = k
 
     abbrev pub pairs : ℕ → List ℕ

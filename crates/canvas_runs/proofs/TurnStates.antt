@@ -11,26 +11,27 @@ use Rattle.canvas_rewrite.specs.Planned.{IsPlan}
 use Rattle.canvas_rewrite.proofs.Members.{plan_apart}
 use Rattle.canvas_message.specs.Content.{Content}
 use Rattle.canvas_message.specs.Among.{In}
-use Rattle.canvas_effects.specs.Job.{store, publish, hand_in}
+use Rattle.canvas_effects.specs.Job.{hand_in}
 use Rattle.canvas_message.specs.declared.envelope.Envelope.{Envelope}
+use Rattle.canvas_backend.specs.declared.stored.Stored.{Stored}
 use Rattle.canvas_backend.proofs.HistoryLaws.{all_first, keeps_first, still_free, first_may, still_may}
 use Rattle.canvas_backend.specs.declared.stored.Stored.TheVariants.{First, Again}
 use Rattle.canvas_backend.specs.Backend as results
 use Rattle.canvas_backend.specs.Backend.{Results, no_results, kept_or, was, MayReturn}
 use Rattle.canvas_backend.specs.Roster.{Roster, roster_of}
-use Rattle.canvas_runs.specs.Accounts.{backend_entries}
-use Rattle.canvas_runs.specs.Calls.{BackendCall, stored, has_read, backend_call, reads_member, ReadsMembers, AskedAndAnswered, of_scripts, scripts_of}
-use Rattle.canvas_runs.specs.Core.{Ask, Reply, take, send, keep, part, read, taken, sent, kept, counted, found, rested, acked, taking, resting, over, failed, owning, doing, reading, acking, is_due, settled, ask, opens, answered, left_after, IsCoreRun, Doing, Jobs, deliver}
-use Rattle.canvas_runs.specs.Following.{table_reply}
+use Rattle.canvas_history.specs.Answers.{answered_calls, entries_by}
+use Rattle.canvas_effects.specs.Job as job
+use Rattle.canvas_runs.specs.Calls.{TableAnswered, backend_call, reads_member, ReadsMembers, AskedAndAnswered, of_scripts, scripts_of}
+use Rattle.canvas_runs.specs.Core.{Ask, Reply, take, publish, store, part, read, taken, sent, stored, counted, found, rested, acked, taking, resting, over, failed, owning, doing, reading, acking, is_due, settled, ask, opens, answered, left_after, IsCoreRun, Doing, Jobs, redeliver}
 use Rattle.canvas_runs.specs.Lists.{Each, by, seconds}
 use Rattle.canvas_runs.specs.Protocol.{Protocol}
 use Rattle.canvas_runs.specs.Turns.{Step, results_next, results_after, left, IsWorker, Answers, FirstsRead}
 use Rattle.canvas_runs.specs.Worker.{worker}
-use Rattle.canvas_runs.proofs.Bridges.{stored_stays, store_in}
+use Rattle.canvas_runs.proofs.Bridges.{stored_stays}
+use Rattle.canvas_runs.proofs.CallsOf.{seconds_in, call_in}
 use Rattle.canvas_runs.proofs.Facts.{X, form, Does, order, value, once, keeping, its_backs}
 use Rattle.canvas_runs.proofs.Meaning.{IsSkipped}
 use Rattle.canvas_runs.proofs.StoredOnce.{FirstWhereSkipped, all_skipped_first}
-use Rattle.canvas_runs.specs.Logs.{table_calls}
 use Rattle.canvas_runs.proofs.Finish.{Backed}
 use Rattle.canvas_runs.proofs.FirstLaw.{inner_run}
 use Rattle.canvas_runs.proofs.GoodRuns.{GoodState, GoodAnswer, Goods, Closed, next_good, more_found, all_found}
@@ -43,18 +44,18 @@ use Rattle.canvas_runs.proofs.Words.{in_right, in_each, each_right, each_weaker,
 
 -- what is left after a core run is good, where the answers are
 module _ (Y : Protocol) (G : Goods Y) (k : Closed Y G) where
-  pub left_good : (s : Doing Y) (xs : List (AskedAndAnswered Y.Envelope Y.Outcome)) → GoodState Y G s → IsCoreRun Y s xs → ReadsMembers G.members xs
+  pub left_good : (s : Doing Y) (xs : List (AskedAndAnswered Y.Envelope)) → GoodState Y G s → IsCoreRun Y s xs → ReadsMembers G.members xs
       → Each (λ x. GoodAnswer Y G x.1) xs → GoodState Y G (left_after Y s xs)
   left_good s [] good c m a = good
   left_good s (x ∷ xs) good c m a =
       left_good (answered Y s x.1) xs (next_good Y G k s x.1 good (subst (λ z. reads_member G.members z x.1) c.0 m.0) a.0) c.2 m.1 a.1
 
-rows_others : (p q : ℕ) (cs : List (BackendCall Outcome)) → q ≢ p → AllOthers p (backend_entries q cs)
+rows_others : (p q : ℕ) (cs : List TableAnswered) → q ≢ p → AllOthers p (entries_by q cs)
 rows_others p q [] apart = tt
 rows_others p q (c ∷ cs) apart = (other_of q p (ne_eqb q p apart), rows_others p q cs apart)
 
-kept_stays : (s : Results) (a : Ask Envelope Outcome) (t : ℕ) (o : Outcome) → s.outcomes t ≡ Some o → (results_next s a).outcomes t ≡ Some o
-kept_stays s (keep u w) t o e = go (t == u)
+kept_stays : (s : Results) (a : Ask Envelope) (t : ℕ) (o : Outcome) → s.outcomes t ≡ Some o → (results_next s a).outcomes t ≡ Some o
+kept_stays s (store u w) t o e = go (t == u)
   where
     go : (b : Bool) → (if b then kept_or (s.outcomes t) w else s.outcomes t) ≡ Some o
     go true = ap (λ y. kept_or y w) e
@@ -77,14 +78,14 @@ module _ (behaviour : Behaviour) (l : Line) (plan : IsPlan l) where
       (answers_right (X behaviour l plan) (form behaviour l plan) (Does behaviour l plan) (order behaviour l plan) (value behaviour l plan)
       (inner_run behaviour l plan (run behaviour l back n xs s)) p)
 
-  abbrev pub GoodReply : Reply Envelope Outcome → Type 0
+  abbrev pub GoodReply : Reply Envelope → Type 0
   GoodReply r = GoodAnswer (worker behaviour l) (right_goods (X behaviour l plan) (form behaviour l plan) (Does behaviour l plan)) r
 
-  good_answer : (back : FirstsRead l) (n : ℕ) (xs : List Step) (p : ℕ) (a : Ask Envelope Outcome) (r : Reply Envelope Outcome) → of_scripts a ≡ true
+  good_answer : (back : FirstsRead l) (n : ℕ) (xs : List Step) (p : ℕ) (a : Ask Envelope) (r : Reply Envelope) → of_scripts a ≡ true
       → Lawful behaviour l n (xs ++ (p, (a, r)) ∷ []) → GoodReply r
   good_answer back n xs p a r mine s =
-      (each_right (λ (x : AskedAndAnswered Envelope Outcome). GoodReply x.1) (scripts_of (by p xs)) ((a, r) ∷ [])
-      (subst (Each (λ (x : AskedAndAnswered Envelope Outcome). GoodReply x.1)) (ap scripts_of (by_more p xs (a, r)) ∙ scripts_more (by p xs) a r mine)
+      (each_right (λ (x : AskedAndAnswered Envelope). GoodReply x.1) (scripts_of (by p xs)) ((a, r) ∷ [])
+      (subst (Each (λ (x : AskedAndAnswered Envelope). GoodReply x.1)) (ap scripts_of (by_more p xs (a, r)) ∙ scripts_more (by p xs) a r mine)
       (answers_right (X behaviour l plan) (form behaviour l plan) (Does behaviour l plan) (order behaviour l plan) (value behaviour l plan)
       (inner_run behaviour l plan (run behaviour l back n (xs ++ (p, (a, r)) ∷ []) s)) p))).0
 
@@ -107,15 +108,15 @@ module _ (behaviour : Behaviour) (l : Line) (plan : IsPlan l) where
   Ready n xs p (doing (j ∷ js) b) = (us : List ℕ) × Backed (worker behaviour l) us (j ∷ js) × Each (May n xs p) us
   Ready n xs p (reading g c fs) = Each (IsStored xs) ((form behaviour l plan).members g) × (eqb (length fs) c.size ≡ false)
 
-  settled_ready : (n : ℕ) (xs : List Step) (p : ℕ) (us : List ℕ) (js : Jobs (worker behaviour l)) (b : Bool) → Backed (worker behaviour l) us js
+  settled_ready : (n : ℕ) (xs : List Step) (p : ℕ) (us : List ℕ) (js : Jobs (worker behaviour l)) (b : Stored) → Backed (worker behaviour l) us js
       → Each (May n xs p) us → Ready n xs p (settled (worker behaviour l) js b)
   settled_ready n xs p us [] b k m = tt
-  settled_ready n xs p us (store t o ∷ js) true k m = (us, k, m)
-  settled_ready n xs p us (store t o ∷ js) false k m = (us, k, m)
-  settled_ready n xs p us (publish c ∷ js) true k m = (us, k, m)
-  settled_ready n xs p us (publish c ∷ js) false k m = (us, k, m)
-  settled_ready n xs p us (hand_in g t c ∷ js) true k m = (us, k, m)
-  settled_ready n xs p us (hand_in g t c ∷ js) false k m = tt
+  settled_ready n xs p us (job.store t o ∷ js) First k m = (us, k, m)
+  settled_ready n xs p us (job.store t o ∷ js) Again k m = (us, k, m)
+  settled_ready n xs p us (job.publish c ∷ js) First k m = (us, k, m)
+  settled_ready n xs p us (job.publish c ∷ js) Again k m = (us, k, m)
+  settled_ready n xs p us (hand_in g t c ∷ js) First k m = (us, k, m)
+  settled_ready n xs p us (hand_in g t c ∷ js) Again k m = tt
 
   -- ---- a part that comes next may be returned
 
@@ -127,8 +128,8 @@ module _ (behaviour : Behaviour) (l : Line) (plan : IsPlan l) where
   part_may n xs p failed is good k = tt
   part_may n xs p (owning m) is good k = tt
   part_may n xs p (doing [] b) is good k = tt
-  part_may n xs p (doing (store t o ∷ js) b) is good k = tt
-  part_may n xs p (doing (publish m ∷ js) b) is good k = tt
+  part_may n xs p (doing (job.store t o ∷ js) b) is good k = tt
+  part_may n xs p (doing (job.publish m ∷ js) b) is good k = tt
   part_may n xs p (doing (hand_in g t c ∷ js) b) is good k =
       let mine = in_each (May n xs p) k.0 k.2 t k.1.0 in
       let formed = good.0.0 in
@@ -138,10 +139,10 @@ module _ (behaviour : Behaviour) (l : Line) (plan : IsPlan l) where
 
   -- ---- another worker's step changes nothing of it
 
-  pub other_may : (n : ℕ) (xs : List Step) (p q : ℕ) (a : Ask Envelope Outcome) (r : Reply Envelope Outcome) (t : ℕ) → IsWorker n p → q ≢ p
+  pub other_may : (n : ℕ) (xs : List Step) (p q : ℕ) (a : Ask Envelope) (r : Reply Envelope) (t : ℕ) → IsWorker n p → q ≢ p
       → results.IsLegal P (table_log behaviour l n (xs ++ (q, (a, r)) ∷ [])) → May n xs p t → May n (xs ++ (q, (a, r)) ∷ []) p t
   other_may n xs p q a r t w apart legal m =
-      let new : results.Log = backend_entries q (backend_call a r) in
+      let new : results.Log = entries_by q (backend_call a r) in
       let more = table_log_more behaviour l n xs (q, (a, r)) in
       let lawful : results.IsLegal P (table_log behaviour l n xs ++ new) = subst (results.IsLegal P) more legal in
       let alive : among p (live (table_log behaviour l n xs ++ new)) ≡ true =
@@ -156,7 +157,7 @@ module _ (behaviour : Behaviour) (l : Line) (plan : IsPlan l) where
   pub stored_more : (xs : List Step) (x : Step) (t : ℕ) → IsStored xs t → IsStored (xs ++ x ∷ []) t
   stored_more xs x t k = (k.0, ap (λ s. s.outcomes t) (results_more no_results xs x) ∙ kept_stays (results_after xs) x.1.0 t k.0 k.1)
 
-  pub other_ready : (n : ℕ) (xs : List Step) (p q : ℕ) (a : Ask Envelope Outcome) (r : Reply Envelope Outcome) → IsWorker n p → q ≢ p
+  pub other_ready : (n : ℕ) (xs : List Step) (p q : ℕ) (a : Ask Envelope) (r : Reply Envelope) → IsWorker n p → q ≢ p
       → results.IsLegal P (table_log behaviour l n (xs ++ (q, (a, r)) ∷ []))
       → (s : Doing (worker behaviour l)) → Ready n xs p s → Ready n (xs ++ (q, (a, r)) ∷ []) p s
   other_ready n xs p q a r w apart legal taking k = tt
@@ -171,7 +172,7 @@ module _ (behaviour : Behaviour) (l : Line) (plan : IsPlan l) where
 
   -- ---- nor does a call of its own that returns no part
 
-  abbrev NotPart : Ask Envelope Outcome → Type 0
+  abbrev NotPart : Ask Envelope → Type 0
   NotPart (part g t) = ⊥
   NotPart a = Unit {0}
 
@@ -182,24 +183,24 @@ module _ (behaviour : Behaviour) (l : Line) (plan : IsPlan l) where
       → OwnMay log (calls p c r ∷ []) p t
   one_own log p t c r other legal m = still_may P p t c r log (log ++ calls p c r ∷ []) other m ([], refl, tt, legal, λ e. refl)
 
-  own_step : (log : results.Log) (p t : ℕ) (a : Ask Envelope Outcome) (r : Reply Envelope Outcome) → NotPart a
-      → OwnMay log (backend_entries p (backend_call a r)) p t
-  own_step log p t (keep u o) (kept b) plain = one_own log p t (results.store u o) (table_reply (stored u o b)) (λ g e. absurd cc)
+  own_step : (log : results.Log) (p t : ℕ) (a : Ask Envelope) (r : Reply Envelope) → NotPart a
+      → OwnMay log (entries_by p (backend_call a r)) p t
+  own_step log p t (store u o) (stored b) plain = one_own log p t (results.store u o) (results.was b) (λ g e. absurd cc)
   own_step log p t (part g u) r plain = absurd plain
-  own_step log p t (read g i) (found u x) plain = one_own log p t (results.read u) (table_reply (has_read u x)) (λ g e. absurd cc)
+  own_step log p t (read g i) (found u x) plain = one_own log p t (results.read u) (results.found x) (λ g e. absurd cc)
   own_step log p t a r plain = λ legal m. subst (λ g. MayReturn P g p t) (sym (append-nil log)) m
 
-  pub own_may : (n : ℕ) (xs : List Step) (p : ℕ) (a : Ask Envelope Outcome) (r : Reply Envelope Outcome) (t : ℕ) → NotPart a
+  pub own_may : (n : ℕ) (xs : List Step) (p : ℕ) (a : Ask Envelope) (r : Reply Envelope) (t : ℕ) → NotPart a
       → results.IsLegal P (table_log behaviour l n (xs ++ (p, (a, r)) ∷ [])) → May n xs p t → May n (xs ++ (p, (a, r)) ∷ []) p t
   own_may n xs p a r t plain legal m =
       let more = table_log_more behaviour l n xs (p, (a, r)) in
       subst (λ g. MayReturn P g p t) (sym more) (own_step (table_log behaviour l n xs) p t a r plain (subst (results.IsLegal P) more legal) m)
 
   -- a task that the worker has just stored
-  pub stored_may : (n : ℕ) (xs : List Step) (p t : ℕ) (o : Outcome) → results.IsLegal P (table_log behaviour l n (xs ++ (p, (keep t o, kept true)) ∷ []))
-      → May n (xs ++ (p, (keep t o, kept true)) ∷ []) p t
+  pub stored_may : (n : ℕ) (xs : List Step) (p t : ℕ) (o : Outcome) → results.IsLegal P (table_log behaviour l n (xs ++ (p, (store t o, stored First)) ∷ []))
+      → May n (xs ++ (p, (store t o, stored First)) ∷ []) p t
   stored_may n xs p t o legal =
-      let more = table_log_more behaviour l n xs (p, (keep t o, kept true)) in
+      let more = table_log_more behaviour l n xs (p, (store t o, stored First)) in
       let call = calls p (results.store t o) (was First) in
       subst (λ g. MayReturn P g p t) (sym more)
       (first_may P p t o (table_log behaviour l n xs) (table_log behaviour l n xs ++ call ∷ []) (
@@ -211,20 +212,22 @@ module _ (behaviour : Behaviour) (l : Line) (plan : IsPlan l) where
       ))
 
   -- each store that is an event's answers first
-  pub first_answer : (back : FirstsRead l) (n : ℕ) (xs : List Step) (p t : ℕ) (o : Outcome) (b : Bool)
-      → IsSkipped (X behaviour l plan) (Does behaviour l plan) t o → Lawful behaviour l n (xs ++ (p, (keep t o, kept b)) ∷ []) → b ≡ true
-  first_answer back n xs p t o true skipped s = refl
-  first_answer back n xs p t o false skipped s =
+  pub first_answer : (back : FirstsRead l) (n : ℕ) (xs : List Step) (p t : ℕ) (o : Outcome) (b : Stored)
+      → IsSkipped (X behaviour l plan) (Does behaviour l plan) t o → Lawful behaviour l n (xs ++ (p, (store t o, stored b)) ∷ []) → b ≡ First
+  first_answer back n xs p t o First skipped s = refl
+  first_answer back n xs p t o Again skipped s =
       let call = calls p (results.store t o) (was Again) in
-      let there : In call (table_log behaviour l n (xs ++ (p, (keep t o, kept false)) ∷ [])) =
-      subst (In call) (sym (table_log_more behaviour l n xs (p, (keep t o, kept false)))) (in_right (table_log behaviour l n xs) (call ∷ []) call (inl refl)) in
-      let its_run = inner_run behaviour l plan (run behaviour l back n (xs ++ (p, (keep t o, kept false)) ∷ []) s) in
+      let there : In call (table_log behaviour l n (xs ++ (p, (store t o, stored Again)) ∷ [])) =
+      subst (In call) (sym (table_log_more behaviour l n xs (p, (store t o, stored Again)))) (in_right (table_log behaviour l n xs) (call
+      ∷ []) call (inl refl)) in
+      let its_run = inner_run behaviour l plan (run behaviour l back n (xs ++ (p, (store t o, stored Again)) ∷ []) s) in
       in_each (FirstWhereSkipped (X behaviour l plan) (form behaviour l plan) (Does behaviour l plan) (order behaviour l plan) (value behaviour l plan)
       (once behaviour l plan) (keeping behaviour l plan) its_run)
-      (seconds (table_calls (table_log behaviour l n (xs ++ (p, (keep t o, kept false)) ∷ []))))
+      (seconds (answered_calls (table_log behaviour l n (xs ++ (p, (store t o, stored Again)) ∷ []))))
       (all_skipped_first (X behaviour l plan) (form behaviour l plan) (Does behaviour l plan) (order behaviour l plan) (value behaviour l plan)
       (once behaviour l plan) (keeping behaviour l plan) its_run)
-      (stored t o false) (store_in (table_log behaviour l n (xs ++ (p, (keep t o, kept false)) ∷ [])) p t o Again there) skipped
+      (results.store t o, results.was Again) (seconds_in (answered_calls (table_log behaviour l n (xs ++ (p, (store t o, stored Again)) ∷ []))) _
+      (call_in (table_log behaviour l n (xs ++ (p, (store t o, stored Again)) ∷ [])) p (results.store t o) (was Again) there)) skipped
 
   -- ---- the header whose last part is returned is stored
 
@@ -232,7 +235,8 @@ module _ (behaviour : Behaviour) (l : Line) (plan : IsPlan l) where
   was_in log t o f =
       let call = calls f.caller (results.store t o) (was First) in
       let there : In call log = subst (In call) (sym f.is) (in_right f.before (call ∷ f.rest) call (inl refl)) in
-      stored_stays l (plan_apart l plan) t o true log no_results (store_in log f.caller t o First there)
+      stored_stays l (plan_apart l plan) t o First log no_results
+      (seconds_in (answered_calls log) _ (call_in log f.caller (results.store t o) (was First) there))
 
   header_stored : (n : ℕ) (xs : List Step) (p g t m : ℕ) → results.results P (table_log behaviour l n xs) ≡ results_after xs
       → results.IsLegal P (table_log behaviour l n (xs ++ (p, (part g t, counted m)) ∷ [])) → suc m ≡ length ((form behaviour l plan).members g)
@@ -247,7 +251,7 @@ module _ (behaviour : Behaviour) (l : Line) (plan : IsPlan l) where
 
   -- ---- what is left after the worker's own step
 
-  pub own_ready : (back : FirstsRead l) (n : ℕ) (xs : List Step) (p : ℕ) (s : Doing (worker behaviour l)) (r : Reply Envelope Outcome)
+  pub own_ready : (back : FirstsRead l) (n : ℕ) (xs : List Step) (p : ℕ) (s : Doing (worker behaviour l)) (r : Reply Envelope)
       → results.results P (table_log behaviour l n xs) ≡ results_after xs → Good s → Ready n xs p s → Answers behaviour l n xs (ask (worker behaviour l) s) r
       → Lawful behaviour l n (xs ++ (p, (ask (worker behaviour l) s, r)) ∷ [])
       → Ready n (xs ++ (p, (ask (worker behaviour l) s, r)) ∷ []) p (answered (worker behaviour l) s r)
@@ -259,20 +263,20 @@ module _ (behaviour : Behaviour) (l : Line) (plan : IsPlan l) where
       go (Some m) = tt
   own_ready back n xs p resting (rested true) is good k h law = tt
   own_ready back n xs p resting (rested false) is good k h law = tt
-  own_ready back n xs p (owning m) (kept true) is good k h law =
+  own_ready back n xs p (owning m) (stored First) is good k h law =
       let us : List ℕ = (worker behaviour l).no m ∷ [] in
-      settled_ready n (xs ++ (p, (keep ((worker behaviour l).no m) ((worker behaviour l).outcome m), kept true)) ∷ []) p us
-      ((worker behaviour l).ended m ((worker behaviour l).outcome m)) true ((its_backs behaviour l plan).ended m ((worker behaviour l).outcome m) good.0)
+      settled_ready n (xs ++ (p, (store ((worker behaviour l).no m) ((worker behaviour l).outcome m), stored First)) ∷ []) p us
+      ((worker behaviour l).ended m ((worker behaviour l).outcome m)) First ((its_backs behaviour l plan).ended m ((worker behaviour l).outcome m) good.0)
       (stored_may n xs p ((worker behaviour l).no m) ((worker behaviour l).outcome m) law.table_legal, tt)
-  own_ready back n xs p (owning m) (kept false) is good k h law = tt
-  own_ready back n xs p (doing (store t o ∷ js) d) (kept true) is good k h law =
-      settled_ready n (xs ++ (p, (keep t o, kept true)) ∷ []) p (t ∷ k.0) js (cond (is_due t js) true d) k.1
-      (stored_may n xs p t o law.table_legal, each_weaker (λ u m. own_may n xs p (keep t o) (kept true) u tt law.table_legal m) k.0 k.2)
-  own_ready back n xs p (doing (store t o ∷ js) d) (kept false) is good k h law =
-      absurd (let wrong : false ≡ true = first_answer back n xs p t o false good.0 law in cc)
-  own_ready back n xs p (doing (publish m ∷ js) d) sent is good k h law =
-      settled_ready n (xs ++ (p, (send ((worker behaviour l).sealed m), sent)) ∷ []) p k.0 js d k.1
-      (each_weaker (λ u f. own_may n xs p (send ((worker behaviour l).sealed m)) sent u tt law.table_legal f) k.0 k.2)
+  own_ready back n xs p (owning m) (stored Again) is good k h law = tt
+  own_ready back n xs p (doing (job.store t o ∷ js) d) (stored First) is good k h law =
+      settled_ready n (xs ++ (p, (store t o, stored First)) ∷ []) p (t ∷ k.0) js (cond (is_due t js) First d) k.1
+      (stored_may n xs p t o law.table_legal, each_weaker (λ u m. own_may n xs p (store t o) (stored First) u tt law.table_legal m) k.0 k.2)
+  own_ready back n xs p (doing (job.store t o ∷ js) d) (stored Again) is good k h law =
+      absurd (let wrong : Again ≡ First = first_answer back n xs p t o Again good.0 law in cc)
+  own_ready back n xs p (doing (job.publish m ∷ js) d) sent is good k h law =
+      settled_ready n (xs ++ (p, (publish ((worker behaviour l).sealed m), sent)) ∷ []) p k.0 js d k.1
+      (each_weaker (λ u f. own_may n xs p (publish ((worker behaviour l).sealed m)) sent u tt law.table_legal f) k.0 k.2)
   own_ready back n xs p (doing (hand_in g t c ∷ js) d) (counted i) is good k h law =
       cond_cases (Ready n (xs ++ (p, (part g t, counted i)) ∷ []) p) (eqb (suc i) c.size) (reading g c []) acking
       (λ full. let size : suc i ≡ c.size = eqb-true _ _ full in (
@@ -286,8 +290,8 @@ module _ (behaviour : Behaviour) (l : Line) (plan : IsPlan l) where
       (right_closed (X behaviour l plan) (form behaviour l plan) (Does behaviour l plan) (order behaviour l plan)
       (value behaviour l plan)) g c fs t o good h.0 (good_answer back n xs p (read g (length fs)) (found t (Some o)) refl law) in
       cond_cases (Ready n (xs ++ x ∷ []) p) (eqb (length (fs ++ (t, o) ∷ [])) c.size)
-      (settled (worker behaviour l) ((worker behaviour l).completed c (fs ++ (t, o) ∷ [])) false) (reading g c (fs ++ (t, o) ∷ []))
-      (λ full. settled_ready n (xs ++ x ∷ []) p [] ((worker behaviour l).completed c (fs ++ (t, o) ∷ [])) false
+      (settled (worker behaviour l) ((worker behaviour l).completed c (fs ++ (t, o) ∷ [])) Again) (reading g c (fs ++ (t, o) ∷ []))
+      (λ full. settled_ready n (xs ++ x ∷ []) p [] ((worker behaviour l).completed c (fs ++ (t, o) ∷ [])) Again
       ((its_backs behaviour l plan).completed g state.0 c (fs ++ (t, o) ∷ []) state.1.0
       (all_found (worker behaviour l) (right_goods (X behaviour l plan) (form behaviour l plan) (Does behaviour l plan))
       (right_closed (X behaviour l plan) (form behaviour l plan) (Does behaviour l plan) (order behaviour l plan) (value behaviour l plan)) g c
@@ -299,8 +303,8 @@ module _ (behaviour : Behaviour) (l : Line) (plan : IsPlan l) where
 
   -- ---- a redelivery changes nothing of what is known
 
-  pub delivers_ready : (n : ℕ) (xs : List Step) (p q : ℕ) (e : Envelope) → results.IsLegal P (table_log behaviour l n (xs ++ (q, (deliver e, sent)) ∷ []))
-      → (s : Doing (worker behaviour l)) → Ready n xs p s → Ready n (xs ++ (q, (deliver e, sent)) ∷ []) p s
+  pub delivers_ready : (n : ℕ) (xs : List Step) (p q : ℕ) (e : Envelope) → results.IsLegal P (table_log behaviour l n (xs ++ (q, (redeliver e, sent)) ∷ []))
+      → (s : Doing (worker behaviour l)) → Ready n xs p s → Ready n (xs ++ (q, (redeliver e, sent)) ∷ []) p s
   delivers_ready n xs p q e legal taking k = tt
   delivers_ready n xs p q e legal resting k = tt
   delivers_ready n xs p q e legal over k = tt
@@ -311,4 +315,4 @@ module _ (behaviour : Behaviour) (l : Line) (plan : IsPlan l) where
   delivers_ready n xs p q e legal (doing (j ∷ js) b) k =
       (k.0, k.1, each_weaker (λ t m. subst (λ g. MayReturn P g p t) (sym (table_delivers behaviour l n xs q e)) m) k.0 k.2)
   delivers_ready n xs p q e legal (reading g c fs) k =
-      (each_weaker (λ t m. stored_more xs (q, (deliver e, sent)) t m) ((form behaviour l plan).members g) k.0, k.1)
+      (each_weaker (λ t m. stored_more xs (q, (redeliver e, sent)) t m) ((form behaviour l plan).members g) k.0, k.1)

@@ -3,7 +3,6 @@ use Rattle.std.proofs.Common.{◌≡◌, ◌≢◌, ℕ, zero, suc, ◌+◌, ◌
 use Rattle.std.proofs.lemmas.Bool.{cases_eq, eqb-true, cases_lt}
 use Rattle.std.proofs.lemmas.List.{length-append}
 use Rattle.canvas_task.specs.Apply.{Behaviour}
-use Rattle.canvas_task.specs.declared.outcome.Outcome.{Outcome}
 use Rattle.canvas_semantics.specs.Line.{Line, count_line, members}
 use Rattle.canvas_rewrite.specs.FrozenView.{PCarried}
 use Rattle.canvas_rewrite.specs.Planned.{times}
@@ -11,19 +10,25 @@ use Rattle.canvas_rewrite.proofs.Members.{plan_apart}
 use Rattle.canvas_message.specs.Content.{Content, number_of}
 use Rattle.canvas_message.specs.Among.{In}
 use Rattle.canvas_effects.specs.Events.{running}
-use Rattle.canvas_effects.specs.Job.{store, publish, hand_in}
+use Rattle.canvas_effects.specs.Job.{hand_in}
 use Rattle.canvas_message.specs.declared.envelope.Envelope.{Envelope}
+use Rattle.canvas_backend.specs.declared.stored.Stored.{Stored}
+use Rattle.canvas_backend.specs.declared.stored.Stored.TheVariants.{First, Again}
 use Rattle.canvas_backend.proofs.HistoryLaws.{member_test}
 use Rattle.canvas_backend.proofs.Rosters.{roster_sound}
+use Rattle.canvas_history.specs.Answers.{answered_calls, entries_by}
+use Rattle.canvas_backend.specs.Backend as results
+use Rattle.canvas_broker.specs.Broker as broker
+use Rattle.canvas_effects.specs.Job as job
 use Rattle.canvas_runs.proofs.OnceEach.{of_opened}
-use Rattle.canvas_runs.specs.Accounts.{splits_of, broker_entries, backend_entries}
+use Rattle.canvas_runs.specs.Accounts.{splits_of}
 use Rattle.canvas_runs.specs.Book.{book_of}
-use Rattle.canvas_runs.specs.Calls.{BrokerCall, published, took, again, BackendCall, stored, returned, has_read, backend_call, backend_calls, takes_one, AskedAndAnswered, reads_member, ReadsMembers, worker_call, scripts_of}
-use Rattle.canvas_runs.specs.Core.{Ask, Reply, keep, part, read, taken, sent, kept, counted, found, rested, taking, resting, owning, doing, reading, ask, answered, Doing, Jobs, is_due, settled, opens, IsCoreRun, take, send, ack, acked, refused, acking, is_inside, Suits, deliver}
+use Rattle.canvas_runs.specs.Calls.{QueueAnswered, TableAnswered, backend_call, backend_calls, takes_one, AskedAndAnswered, reads_member, ReadsMembers, worker_call, scripts_of}
+use Rattle.canvas_runs.specs.Core.{Ask, Reply, store, part, read, taken, sent, stored, counted, found, rested, taking, resting, owning, doing, reading, ask, answered, Doing, Jobs, is_due, settled, opens, IsCoreRun, take, publish, ack, acked, refused, acking, is_inside, Suits, redeliver}
 use Rattle.canvas_runs.specs.Going.{most_calls}
 use Rattle.canvas_runs.specs.Law.{of_task, publishes_one}
 use Rattle.canvas_runs.specs.Lists.{Each, by, at, total, seconds}
-use Rattle.canvas_runs.specs.Logs.{queue_calls, table_calls}
+use Rattle.canvas_runs.specs.Logs.{queue_calls}
 use Rattle.canvas_runs.specs.Run.{Run, published_all}
 use Rattle.canvas_runs.specs.Tally.{publishing, returning}
 use Rattle.canvas_runs.specs.TurnLaws.{ByTurns}
@@ -42,7 +47,7 @@ use Rattle.canvas_runs.proofs.StoredOnce.{stores_task, kept_few, agains_task}
 use Rattle.canvas_runs.proofs.Sums.{total-append, sum_to, sum_to-le, sum_to-both, total_by, find_heavy}
 use Rattle.canvas_runs.proofs.Tables.{part_of, part_once}
 use Rattle.canvas_runs.proofs.TurnLaw.{holds, the_run}
-use Rattle.canvas_runs.proofs.TurnLogs.{tag, queue_calls_append, queue_calls_splits, queue_calls_entries, table_calls_append, table_calls_splits, table_calls_rows}
+use Rattle.canvas_runs.proofs.CallsOf.{tag, seconds-append, calls_append, calls_splits, calls_entries, queue_append, queue_splits, queue_entries, worker_found, published_found}
 use Rattle.canvas_runs.proofs.TurnRuns.{queue_lines, table_lines, queue_log, table_log, table_by, firsts as first_envelopes, backend_scripts}
 use Rattle.canvas_runs.proofs.Words.{each_append, each_weaker, each_from_in, in_each, cond_cases}
 use Rattle.canvas_backend.specs.Roster.{roster_of, members as roster_members}
@@ -95,43 +100,37 @@ total-tag : {A : Type 0} (w : A → ℕ) (p : ℕ) (cs : List A) → total w (se
 total-tag w p [] = refl
 total-tag w p (c ∷ cs) = ap (λ k. w c + k) (total-tag w p cs)
 
-seconds-append : {A B : Type 0} (xs ys : List (A × B)) → seconds (xs ++ ys) ≡ seconds xs ++ seconds ys
-seconds-append [] ys = refl
-seconds-append (x ∷ xs) ys = ap (λ l. x.1 ∷ l) (seconds-append xs ys)
-
 total-seconds : {A : Type 0} (w : A → ℕ) (xs : List (ℕ × A)) → total (λ x. w x.1) xs ≡ total w (seconds xs)
 total-seconds w [] = refl
 total-seconds w (x ∷ xs) = ap (λ k. w x.1 + k) (total-seconds w xs)
 
 -- 1 where the call delivers an envelope again
-abbrev redelivering : BrokerCall Envelope → ℕ
-redelivering (published e) = 0
-redelivering (took x) = 0
-redelivering (again e) = 1
+abbrev redelivering : QueueAnswered Envelope → ℕ
+redelivering (broker.redeliver e, r) = 1
+redelivering c = 0
 
 -- what is taken was published or delivered again
-takes_few : (ts q : List Envelope) (cs : List (BrokerCall Envelope)) → IsQueue ts q cs
+takes_few : (ts q : List Envelope) (cs : List (QueueAnswered Envelope)) → IsQueue ts q cs
     → total takes_one cs ≤ length q + total publishing cs + total redelivering cs
 takes_few ts q [] k = omega arith
-takes_few ts q (published e ∷ cs) k = let r = takes_few ts (q ++ e ∷ []) cs k in omega (arith, r, length-append q (e ∷ []))
-takes_few ts q (again e ∷ cs) k = let r = takes_few ts (q ++ e ∷ []) cs k.1 in omega (arith, r, length-append q (e ∷ []))
-takes_few ts q (took e ∷ cs) (rest, same, k) = let r = takes_few (e ∷ ts) rest cs k in let many : length q ≡ suc (length rest) = ap length same in
+takes_few ts q ((broker.publish e, y) ∷ cs) k = let r = takes_few ts (q ++ e ∷ []) cs k in omega (arith, r, length-append q (e ∷ []))
+takes_few ts q ((broker.redeliver e, y) ∷ cs) k = let r = takes_few ts (q ++ e ∷ []) cs k.1 in omega (arith, r, length-append q (e ∷ []))
+takes_few ts q ((broker.take, Some e) ∷ cs) (rest, same, k) = let r = takes_few (e ∷ ts) rest cs k in let many : length q ≡ suc (length rest) =
+    ap length same in
     omega (arith, r, many)
+takes_few ts q (c ∷ cs) k = elim k [ ]
 
-abbrev pub keeping_one : BackendCall Outcome → ℕ
-keeping_one (stored t o b) = 1
-keeping_one (returned g t n) = 0
-keeping_one (has_read t x) = 0
+abbrev pub keeping_one : TableAnswered → ℕ
+keeping_one (results.store t o, results.was b) = 1
+keeping_one c = 0
 
-abbrev pub reading_one : BackendCall Outcome → ℕ
-reading_one (stored t o b) = 0
-reading_one (returned g t n) = 0
-reading_one (has_read t x) = 1
+abbrev pub reading_one : TableAnswered → ℕ
+reading_one (results.read t, results.found x) = 1
+reading_one c = 0
 
-abbrev part_by : ℕ → BackendCall Outcome → ℕ
-part_by k (stored t o b) = 0
-part_by k (returned g t n) = cond (eqb t k) 1 0
-part_by k (has_read t x) = 0
+abbrev part_by : ℕ → TableAnswered → ℕ
+part_by k (results.part g t, results.count n) = cond (eqb t k) 1 0
+part_by k c = 0
 
 at_within : (i : ℕ) (xs : List ℕ) (t : ℕ) → at i xs ≡ Some t → i < length xs
 at_within i [] t e = absurd cc
@@ -140,80 +139,82 @@ at_within (suc i) (x ∷ xs) t e = let r = at_within i xs t e in omega (arith, r
 
 module _ (behaviour : Behaviour) (l : Line) where
   -- whether a step is a call
-  abbrev pub in_queue : (BrokerCall Envelope → ℕ) → AskedAndAnswered Envelope Outcome → ℕ
+  abbrev pub in_queue : (QueueAnswered Envelope → ℕ) → AskedAndAnswered Envelope → ℕ
   in_queue w y = total w (worker_call y.0 y.1)
 
-  abbrev pub in_table : (BackendCall Outcome → ℕ) → AskedAndAnswered Envelope Outcome → ℕ
+  abbrev pub in_table : (TableAnswered → ℕ) → AskedAndAnswered Envelope → ℕ
   in_table w y = total w (backend_call y.0 y.1)
 
   -- or an acknowledgement
-  abbrev pub acks_one : Ask Envelope Outcome → Reply Envelope Outcome → ℕ
+  abbrev pub acks_one : Ask Envelope → Reply Envelope → ℕ
   acks_one ack acked = 1
   acks_one a r = 0
 
-  abbrev pub calls_of : AskedAndAnswered Envelope Outcome → ℕ
+  abbrev pub calls_of : AskedAndAnswered Envelope → ℕ
   calls_of y = (in_queue publishing y + in_queue takes_one y) + (in_table keeping_one y + in_table returning y + in_table reading_one y) + acks_one y.0 y.1
       + redelivers_one y.0
 
   abbrev pub calls_in : List Step → ℕ
   calls_in xs = total (λ x. calls_of x.1) xs
 
-  lines_total : (w : BrokerCall Envelope → ℕ) (xs : List Step) → total w (seconds (queue_calls (queue_lines behaviour l xs))) ≡ total (λ x. in_queue w x.1) xs
+  lines_total : (w : QueueAnswered Envelope → ℕ) (xs : List Step) → total w (seconds (queue_calls (queue_lines behaviour l xs)))
+      ≡ total (λ x. in_queue w x.1) xs
   lines_total w [] = refl
   lines_total w (x ∷ xs) =
-      let call : List (BrokerCall Envelope) = worker_call x.1.0 x.1.1 in
-      ap (λ g. total w (seconds g)) (queue_calls_append (broker_entries x.0 call) (queue_lines behaviour l xs)
-      ∙ ap (λ g. g ++ queue_calls (queue_lines behaviour l xs)) (queue_calls_entries x.0 call))
+      let call : List (QueueAnswered Envelope) = worker_call x.1.0 x.1.1 in
+      ap (λ g. total w (seconds g)) (queue_append (entries_by x.0 call) (queue_lines behaviour l xs)
+      ∙ ap (λ g. g ++ queue_calls (queue_lines behaviour l xs)) (queue_entries x.0 call (worker_found x.1.0 x.1.1)))
       ∙ (ap (total w) (seconds-append (tag x.0 call) (queue_calls (queue_lines behaviour l xs)))
       ∙ (total-append w (seconds (tag x.0 call)) (seconds (queue_calls (queue_lines behaviour l xs)))
       ∙ ap₂ (λ a b. a + b) (total-tag w x.0 call) (lines_total w xs)))
 
-  rows_total : (w : BackendCall Outcome → ℕ) (xs : List Step) → total w (seconds (table_calls (table_lines behaviour l xs))) ≡ total (λ x. in_table w x.1) xs
+  rows_total : (w : TableAnswered → ℕ) (xs : List Step) → total w (seconds (answered_calls (table_lines behaviour l xs))) ≡ total (λ x. in_table w x.1) xs
   rows_total w [] = refl
   rows_total w (x ∷ xs) =
-      let call : List (BackendCall Outcome) = backend_call x.1.0 x.1.1 in
-      ap (λ g. total w (seconds g)) (table_calls_append (backend_entries x.0 call) (table_lines behaviour l xs)
-      ∙ ap (λ g. g ++ table_calls (table_lines behaviour l xs)) (table_calls_rows x.0 call))
-      ∙ (ap (total w) (seconds-append (tag x.0 call) (table_calls (table_lines behaviour l xs)))
-      ∙ (total-append w (seconds (tag x.0 call)) (seconds (table_calls (table_lines behaviour l xs)))
+      let call : List TableAnswered = backend_call x.1.0 x.1.1 in
+      ap (λ g. total w (seconds g)) (calls_append (entries_by x.0 call) (table_lines behaviour l xs)
+      ∙ ap (λ g. g ++ answered_calls (table_lines behaviour l xs)) (calls_entries x.0 call))
+      ∙ (ap (total w) (seconds-append (tag x.0 call) (answered_calls (table_lines behaviour l xs)))
+      ∙ (total-append w (seconds (tag x.0 call)) (seconds (answered_calls (table_lines behaviour l xs)))
       ∙ ap₂ (λ a b. a + b) (total-tag w x.0 call) (rows_total w xs)))
 
-  pub queue_split : (w : BrokerCall Envelope → ℕ) (n : ℕ) (xs : List Step)
+  pub queue_split : (w : QueueAnswered Envelope → ℕ) (n : ℕ) (xs : List Step)
       → total w (seconds (queue_calls (queue_log behaviour l n xs))) ≡ total w (published_all (first_envelopes behaviour l)) + total (λ x. in_queue w x.1) xs
   queue_split w n xs =
-      let opening = broker_entries 0 (published_all (first_envelopes behaviour l)) in
-      ap (λ g. total w (seconds g)) (queue_calls_append (splits_of (round n)) (opening ++ queue_lines behaviour l xs)
-      ∙ ap (λ g. g ++ queue_calls (opening ++ queue_lines behaviour l xs)) (queue_calls_splits (round n)))
-      ∙ (ap (λ g. total w (seconds g)) (queue_calls_append opening (queue_lines behaviour l xs)
-      ∙ ap (λ g. g ++ queue_calls (queue_lines behaviour l xs)) (queue_calls_entries 0 (published_all (first_envelopes behaviour l))))
+      let opening = entries_by 0 (published_all (first_envelopes behaviour l)) in
+      ap (λ g. total w (seconds g)) (queue_append (splits_of (round n)) (opening ++ queue_lines behaviour l xs)
+      ∙ ap (λ g. g ++ queue_calls (opening ++ queue_lines behaviour l xs)) (queue_splits (round n)))
+      ∙ (ap (λ g. total w (seconds g)) (queue_append opening (queue_lines behaviour l xs)
+      ∙ ap (λ g. g ++ queue_calls (queue_lines behaviour l xs))
+      (queue_entries 0 (published_all (first_envelopes behaviour l)) (published_found (first_envelopes behaviour l))))
       ∙ (ap (total w) (seconds-append (tag 0 (published_all (first_envelopes behaviour l))) (queue_calls (queue_lines behaviour l xs)))
       ∙ (total-append w (seconds (tag 0 (published_all (first_envelopes behaviour l)))) (seconds (queue_calls (queue_lines behaviour l xs)))
       ∙ ap₂ (λ a b. a + b) (total-tag w 0 (published_all (first_envelopes behaviour l))) (lines_total w xs))))
 
-  queue_total : (w : BrokerCall Envelope → ℕ) (n : ℕ) (xs : List Step)
+  queue_total : (w : QueueAnswered Envelope → ℕ) (n : ℕ) (xs : List Step)
       → total (λ x. in_queue w x.1) xs ≤ total w (seconds (queue_calls (queue_log behaviour l n xs)))
   queue_total w n xs = let same = queue_split w n xs in omega (arith, same)
 
   -- what redeliveries have no part in
-  scripts_total : (w : AskedAndAnswered Envelope Outcome → ℕ) → ((e : Envelope) (r : Reply Envelope Outcome) → w (deliver e, r) ≡ 0)
-      → (ys : List (AskedAndAnswered Envelope Outcome)) → total w (scripts_of ys) ≡ total w ys
+  scripts_total : (w : AskedAndAnswered Envelope → ℕ) → ((e : Envelope) (r : Reply Envelope) → w (redeliver e, r) ≡ 0)
+      → (ys : List (AskedAndAnswered Envelope)) → total w (scripts_of ys) ≡ total w ys
   scripts_total w none [] = refl
   scripts_total w none (y ∷ ys) = go y.0 y.1 (scripts_total w none ys)
     where
-      go : (a : Ask Envelope Outcome) (r : Reply Envelope Outcome) → total w (scripts_of ys) ≡ total w ys
+      go : (a : Ask Envelope) (r : Reply Envelope) → total w (scripts_of ys) ≡ total w ys
           → total w (scripts_of ((a, r) ∷ ys)) ≡ w (a, r) + total w ys
-      go (deliver e) r k = let z = none e r in omega (arith, k, z)
+      go (redeliver e) r k = let z = none e r in omega (arith, k, z)
       go a r k = ap (λ m. w (a, r) + m) k
 
-  no_take : (e : Envelope) (r : Reply Envelope Outcome) → in_queue takes_one (deliver e, r) ≡ 0
+  no_take : (e : Envelope) (r : Reply Envelope) → in_queue takes_one (redeliver e, r) ≡ 0
   no_take e sent = refl
   no_take e r = refl
 
-  pub table_total : (w : BackendCall Outcome → ℕ) (n : ℕ) (xs : List Step)
-      → total w (seconds (table_calls (table_log behaviour l n xs))) ≡ total (λ x. in_table w x.1) xs
+  pub table_total : (w : TableAnswered → ℕ) (n : ℕ) (xs : List Step)
+      → total w (seconds (answered_calls (table_log behaviour l n xs))) ≡ total (λ x. in_table w x.1) xs
   table_total w n xs =
-      ap (λ g. total w (seconds g)) (table_calls_append (splits_of (round n)) (table_lines behaviour l xs)
-      ∙ ap (λ g. g ++ table_calls (table_lines behaviour l xs)) (table_calls_splits (round n)))
+      ap (λ g. total w (seconds g)) (calls_append (splits_of (round n)) (table_lines behaviour l xs)
+      ∙ ap (λ g. g ++ answered_calls (table_lines behaviour l xs)) (calls_splits (round n)))
       ∙ rows_total w xs
 
   parts_sum : (xs : List Step) → calls_in xs ≡ (total (λ x. in_queue publishing x.1) xs + total (λ x. in_queue takes_one x.1) xs)
@@ -226,11 +227,11 @@ module _ (behaviour : Behaviour) (l : Line) (n : ℕ) (us : List ℕ) (xs : List
   abbrev R : Run behaviour l
   R = the_run behaviour l n us xs t
 
-  abbrev Q : List (BrokerCall Envelope)
+  abbrev Q : List (QueueAnswered Envelope)
   Q = seconds (queue_calls R.queue)
 
-  abbrev B : List (BackendCall Outcome)
-  B = seconds (table_calls R.table)
+  abbrev B : List TableAnswered
+  B = seconds (answered_calls R.table)
 
   abbrev T : ℕ
   T = count_line l
@@ -248,7 +249,7 @@ module _ (behaviour : Behaviour) (l : Line) (n : ℕ) (us : List ℕ) (xs : List
 
   pub redelivers_few : total redelivering Q ≤ again_total
   redelivers_few =
-      let opening = broker_entries 0 (published_all (first_envelopes behaviour l)) in
+      let opening = entries_by 0 (published_all (first_envelopes behaviour l)) in
       let lines = lines_total behaviour l redelivering xs in
       let first = none_opened (first_envelopes behaviour l) in
       let same : total redelivering Q ≡ total redelivering (published_all (first_envelopes behaviour l))
@@ -260,11 +261,11 @@ module _ (behaviour : Behaviour) (l : Line) (n : ℕ) (us : List ℕ) (xs : List
       none_opened [] = refl
       none_opened (e ∷ es) = let r = none_opened es in omega (arith, r)
 
-      one : (a : Ask Envelope Outcome) (r : Reply Envelope Outcome) → total redelivering (worker_call a r) ≤ redelivers_one a
-      one (deliver e) sent = omega arith
-      one (deliver e) r = omega arith
+      one : (a : Ask Envelope) (r : Reply Envelope) → total redelivering (worker_call a r) ≤ redelivers_one a
+      one (redeliver e) sent = omega arith
+      one (redeliver e) r = omega arith
       one take (taken (Some e)) = omega arith
-      one (send e) sent = omega arith
+      one (publish e) sent = omega arith
       one a r = omega arith
 
       fewer : (ys : List Step) → total (λ x. in_queue behaviour l redelivering x.1) ys ≤ redeliveries_in ys
@@ -302,12 +303,11 @@ module _ (behaviour : Behaviour) (l : Line) (n : ℕ) (us : List ℕ) (xs : List
       opened_few None = let z = zeros m in omega (arith, z)
       opened_few (Some c) = at_most (number_of c.own) m
 
-      one : (c : BrokerCall Envelope) → sum_to m (λ k. agains_task (X behaviour l t.plan) k c) ≤ redelivering c
-      one (published e) = let z = zeros m in omega (arith, z)
-      one (took x) = let z = zeros m in omega (arith, z)
-      one (again e) = opened_few (opened (book_of l) e)
+      one : (c : QueueAnswered Envelope) → sum_to m (λ k. agains_task (X behaviour l t.plan) k c) ≤ redelivering c
+      one (broker.redeliver e, r) = opened_few (opened (book_of l) e)
+      one c = let z = zeros m in omega (arith, z)
 
-      go : (cs : List (BrokerCall Envelope)) → sum_to m (λ k. total (agains_task (X behaviour l t.plan) k) cs) ≤ total redelivering cs
+      go : (cs : List (QueueAnswered Envelope)) → sum_to m (λ k. total (agains_task (X behaviour l t.plan) k) cs) ≤ total redelivering cs
       go [] = let z = zeros m in omega (arith, z)
       go (c ∷ cs) = let h = one c in let r = go cs in let s =
           sum_to-both m (λ k. agains_task (X behaviour l t.plan) k c) (λ k. total (agains_task (X behaviour l t.plan) k) cs) in omega (arith, h, r, s)
@@ -318,7 +318,7 @@ module _ (behaviour : Behaviour) (l : Line) (n : ℕ) (us : List ℕ) (xs : List
   open_one true = 1
   open_one false = 0
 
-  abbrev Acks : Doing (worker behaviour l) → Reply Envelope Outcome → Type 0
+  abbrev Acks : Doing (worker behaviour l) → Reply Envelope → Type 0
   Acks s r = acks_one behaviour l (ask (worker behaviour l) s) r + open_one (is_inside (answered (worker behaviour l) s r)) ≤ open_one (is_inside s)
       + in_queue behaviour l takes_one (ask (worker behaviour l) s, r)
 
@@ -326,24 +326,25 @@ module _ (behaviour : Behaviour) (l : Line) (n : ℕ) (us : List ℕ) (xs : List
   at_most_open true = omega arith
   at_most_open false = omega arith
 
-  acks_step : (s : Doing (worker behaviour l)) (r : Reply Envelope Outcome) → Suits (ask (worker behaviour l) s) r → Acks s r
+  acks_step : (s : Doing (worker behaviour l)) (r : Reply Envelope) → Suits (ask (worker behaviour l) s) r → Acks s r
   acks_step taking (taken None) u = omega arith
   acks_step taking (taken (Some e)) u = let h = at_most_open (is_inside (opens (worker behaviour l) ((worker behaviour l).opened e))) in omega (arith, h)
   acks_step resting (rested true) u = omega arith
   acks_step resting (rested false) u = omega arith
-  acks_step (owning m) (kept b) u = let h = at_most_open (is_inside (answered (worker behaviour l) (owning m) (kept b))) in omega (arith, h)
-  acks_step (doing (store v o ∷ js) d) (kept b) u = let h = at_most_open (is_inside (answered (worker behaviour l) (doing (store v o ∷ js) d) (kept b))) in
+  acks_step (owning m) (stored b) u = let h = at_most_open (is_inside (answered (worker behaviour l) (owning m) (stored b))) in omega (arith, h)
+  acks_step (doing (job.store v o ∷ js) d) (stored b) u = let h =
+      at_most_open (is_inside (answered (worker behaviour l) (doing (job.store v o ∷ js) d) (stored b))) in
       omega (arith, h)
-  acks_step (doing (publish m ∷ js) d) sent u = let h = at_most_open (is_inside (answered (worker behaviour l) (doing (publish m ∷ js) d) sent)) in
+  acks_step (doing (job.publish m ∷ js) d) sent u = let h = at_most_open (is_inside (answered (worker behaviour l) (doing (job.publish m ∷ js) d) sent)) in
       omega (arith, h)
-  acks_step (doing (publish m ∷ js) d) refused u = omega arith
+  acks_step (doing (job.publish m ∷ js) d) refused u = omega arith
   acks_step (doing (hand_in g v c ∷ js) d) (counted i) u = let h =
       at_most_open (is_inside (answered (worker behaviour l) (doing (hand_in g v c ∷ js) d) (counted i))) in omega (arith, h)
   acks_step (reading g c fs) (found v x) u = let h = at_most_open (is_inside (answered (worker behaviour l) (reading g c fs) (found v x))) in omega (arith, h)
   acks_step acking acked u = omega arith
   acks_step s r u = elim u [ ]
 
-  acks_of : (s : Doing (worker behaviour l)) (ys : List (AskedAndAnswered Envelope Outcome)) → IsCoreRun (worker behaviour l) s ys
+  acks_of : (s : Doing (worker behaviour l)) (ys : List (AskedAndAnswered Envelope)) → IsCoreRun (worker behaviour l) s ys
       → total (λ y. acks_one behaviour l y.0 y.1) ys ≤ open_one (is_inside s) + total (in_queue behaviour l takes_one) ys
   acks_of s [] c = omega arith
   acks_of s (y ∷ ys) c =
@@ -362,7 +363,7 @@ module _ (behaviour : Behaviour) (l : Line) (n : ℕ) (us : List ℕ) (xs : List
       let b = total-seconds (in_queue behaviour l takes_one) xs ∙ total_by (in_queue behaviour l takes_one) n xs below in
       let c = sum_to-le n (λ p. total (λ y. acks_one behaviour l y.0 y.1) (by p xs)) (λ p. total (in_queue behaviour l takes_one) (by p xs))
       (λ p. let h = acks_of taking (scripts_of (by p xs)) (R.is_core p) in
-      let i = scripts_total behaviour l (λ (y : AskedAndAnswered Envelope Outcome). acks_one behaviour l y.0 y.1) (λ e r. refl) (by p xs) in let j =
+      let i = scripts_total behaviour l (λ (y : AskedAndAnswered Envelope). acks_one behaviour l y.0 y.1) (λ e r. refl) (by p xs) in let j =
       scripts_total behaviour l (in_queue behaviour l takes_one) (no_take behaviour l) (by p xs) in omega (arith, h, i, j)) in
       omega (arith, a, b, c)
 
@@ -372,14 +373,13 @@ module _ (behaviour : Behaviour) (l : Line) (n : ℕ) (us : List ℕ) (xs : List
   run_task c f r = (state_task behaviour l t.plan (number_of c.own) ((worker behaviour l).outcome c)
       (has_state behaviour l t.plan (number_of c.own) ((worker behaviour l).outcome c) (running (number_of c.own), (value behaviour l t.plan).own c r))).1
 
-  publish_picked : (c : BrokerCall Envelope)
+  publish_picked : (c : QueueAnswered Envelope)
       → GoodPublish (IsRunSealed (X behaviour l t.plan) (form behaviour l t.plan) (Does behaviour l t.plan) (order behaviour l t.plan)
       (value behaviour l t.plan) (inner_run behaviour l t.plan R)) c → publishing c ≤ sum_to T (λ k. publishes_one l k c)
-  publish_picked (took x) g = omega arith
-  publish_picked (again e) g = omega arith
-  publish_picked (published e) (m, same, back, formed, runs) =
+  publish_picked (broker.publish e, r) (m, same, back, formed, runs) =
       let opens : opened (book_of l) e ≡ Some m = ap (opened (book_of l)) same ∙ (order behaviour l t.plan).opened m formed back in
       subst (λ o. 1 ≤ sum_to T (λ k. of_task l k o)) (sym opens) (picked T (number_of m.own) (run_task m formed runs))
+  publish_picked c g = omega arith
 
   publishes_few : total publishing Q ≤ suc T
   publishes_few =
@@ -403,42 +403,40 @@ module _ (behaviour : Behaviour) (l : Line) (n : ℕ) (us : List ℕ) (xs : List
       let c = again_sum T in
       omega (arith, a, c)
     where
-      stored_picked : (c : BackendCall Outcome) → In c B → keeping_one c ≤ sum_to T (λ k. stores_task (X behaviour l t.plan) k c)
-      stored_picked (stored u o b) i =
+      stored_picked : (c : TableAnswered) → In c B → keeping_one c ≤ sum_to T (λ k. stores_task (X behaviour l t.plan) k c)
+      stored_picked (results.store u o, results.was b) i =
           picked T u (state_task behaviour l t.plan u o (has_state behaviour l t.plan u o (stored_right behaviour l t.plan R u o b i))).1
-      stored_picked (returned g u m) i = omega arith
-      stored_picked (has_read u x) i = omega arith
+      stored_picked c i = omega arith
 
   -- ---- parts
 
-  abbrev OfMember : BackendCall Outcome → Type 0
-  OfMember (stored u o b) = Unit {0}
-  OfMember (returned g u m) = In u (members l g)
-  OfMember (has_read u x) = Unit {0}
+  abbrev OfMember : TableAnswered → Type 0
+  OfMember (results.part g u, results.count m) = In u (members l g)
+  OfMember c = Unit {0}
 
-  member_step : (a : Ask Envelope Outcome) (r : Reply Envelope Outcome) → GoodAsk (worker behaviour l) G a → Each OfMember (backend_call a r)
-  member_step (keep u o) (kept b) g = (tt, tt)
+  member_step : (a : Ask Envelope) (r : Reply Envelope) → GoodAsk (worker behaviour l) G a → Each OfMember (backend_call a r)
+  member_step (store u o) (stored b) g = (tt, tt)
   member_step (part h u) (counted m) g = ((order behaviour l t.plan).member h u g.0 g.1.0, tt)
   member_step (read h i) (found u x) g = (tt, tt)
   member_step a r g = tt
 
-  member_steps : (ys : List (AskedAndAnswered Envelope Outcome)) → Each (λ y. GoodAsk (worker behaviour l) G y.0) ys → Each OfMember (backend_calls ys)
+  member_steps : (ys : List (AskedAndAnswered Envelope)) → Each (λ y. GoodAsk (worker behaviour l) G y.0) ys → Each OfMember (backend_calls ys)
   member_steps [] g = tt
   member_steps (y ∷ ys) g = each_append OfMember _ _ (member_step y.0 y.1 g.0) (member_steps ys g.1)
 
-  its_answers : (p : ℕ) → Each (λ (y : AskedAndAnswered Envelope Outcome). GoodAnswer (worker behaviour l) G y.1) (scripts_of (by p xs))
+  its_answers : (p : ℕ) → Each (λ (y : AskedAndAnswered Envelope). GoodAnswer (worker behaviour l) G y.1) (scripts_of (by p xs))
   its_answers p = answers_right (X behaviour l t.plan) (form behaviour l t.plan) (Does behaviour l t.plan) (order behaviour l t.plan) (value behaviour l t.plan)
       (inner_run behaviour l t.plan R) p
 
   abbrev its_closed : Closed (worker behaviour l) G
   its_closed = right_closed (X behaviour l t.plan) (form behaviour l t.plan) (Does behaviour l t.plan) (order behaviour l t.plan) (value behaviour l t.plan)
 
-  its_asks : (p : ℕ) → Each (λ (y : AskedAndAnswered Envelope Outcome). GoodAsk (worker behaviour l) G y.0) (scripts_of (by p xs))
+  its_asks : (p : ℕ) → Each (λ (y : AskedAndAnswered Envelope). GoodAsk (worker behaviour l) G y.0) (scripts_of (by p xs))
   its_asks p = goods_from_careful (worker behaviour l) G (scripts_of (by p xs))
       (keeps (worker behaviour l) G its_closed taking (scripts_of (by p xs)) tt (R.is_core p) (R.reads p)) (its_answers p)
 
   all_members : Each OfMember B
-  all_members = each_from_by OfMember (table_calls R.table)
+  all_members = each_from_by OfMember (answered_calls R.table)
       (λ p. subst (Each OfMember) (sym (table_by behaviour l n xs p ∙ backend_scripts (by p xs))) (member_steps (scripts_of (by p xs)) (its_asks p)))
 
   some_times : (g u : ℕ) → In u (members l g) → 0 < times l u g
@@ -461,27 +459,25 @@ module _ (behaviour : Behaviour) (l : Line) (n : ℕ) (us : List ℕ) (xs : List
           subst (λ b. 1 ≤ cond b 1 0) (sym (eq-eqb h g groups)) (omega arith)
       same_group g h u i j false e = omega arith
 
-      few : (g : ℕ) → In k (members l g) → (c : BackendCall Outcome) → OfMember c → part_by k c ≤ part_of g k c
-      few g i (stored u o b) m = omega arith
-      few g i (returned h u j) m = same_group g h u i m (eqb u k) refl
-      few g i (has_read u x) m = omega arith
+      few : (g : ℕ) → In k (members l g) → (c : TableAnswered) → OfMember c → part_by k c ≤ part_of g k c
+      few g i (results.part h u, results.count j) m = same_group g h u i m (eqb u k) refl
+      few g i c m = omega arith
 
-      heavy : (c : BackendCall Outcome) → In c B → part_by k c ≢ 0 → total (part_by k) B ≤ 1
-      heavy (stored u o b) i d = absurd (d refl)
-      heavy (returned g u m) i d =
-          let here : In k (members l g) = subst (λ v. In v (members l g)) (named u (eqb u k) refl d) (in_each OfMember B all_members (returned g u m) i) in
+      heavy : (c : TableAnswered) → In c B → part_by k c ≢ 0 → total (part_by k) B ≤ 1
+      heavy (results.part g u, results.count m) i d =
+          let here : In k (members l g) = subst (λ v. In v (members l g)) (named u (eqb u k) refl d)
+          (in_each OfMember B all_members (results.part g u, results.count m) i) in
           let a = total-le-each (part_by k) (part_of g k) B (each_weaker (few g here) B all_members) in
           let b = (part_once g k [] [] B (inner_run behaviour l t.plan R).table).0 in
           omega (arith, a, b)
-      heavy (has_read u x) i d = absurd (d refl)
+      heavy c i d = absurd (d refl)
 
   parts_few : total returning B ≤ suc T
   parts_few = spread returning part_by T B (each_weaker part_picked B all_members) part_task
     where
-      part_picked : (c : BackendCall Outcome) → OfMember c → returning c ≤ sum_to T (λ k. part_by k c)
-      part_picked (stored u o b) m = omega arith
-      part_picked (returned g u j) m = picked T u (member_task g u m)
-      part_picked (has_read u x) m = omega arith
+      part_picked : (c : TableAnswered) → OfMember c → returning c ≤ sum_to T (λ k. part_by k c)
+      part_picked (results.part g u, results.count j) m = picked T u (member_task g u m)
+      part_picked c m = omega arith
 
   -- ---- reads: those of the header that is read are still to come
 
@@ -490,22 +486,22 @@ module _ (behaviour : Behaviour) (l : Line) (n : ℕ) (us : List ℕ) (xs : List
   Still s k = k ≡ 0
 
   abbrev Y : Type 0
-  Y = AskedAndAnswered Envelope Outcome
+  Y = AskedAndAnswered Envelope
 
   -- what a step reads, and what is still to be read behind it, is covered by what was to be read and by the parts that it returns
-  abbrev Covers : Doing (worker behaviour l) → Reply Envelope Outcome → Type 0
+  abbrev Covers : Doing (worker behaviour l) → Reply Envelope → Type 0
   Covers s r =
       (k : ℕ) → Still s k → (j : ℕ) × Still (answered (worker behaviour l) s r) j
       × (in_table behaviour l reading_one (ask (worker behaviour l) s, r) + j ≤ k + T * in_table behaviour l returning (ask (worker behaviour l) s, r))
 
-  settled_still : (js : Jobs (worker behaviour l)) (b : Bool) → Still (settled (worker behaviour l) js b) 0
+  settled_still : (js : Jobs (worker behaviour l)) (b : Stored) → Still (settled (worker behaviour l) js b) 0
   settled_still [] b = refl
-  settled_still (store u o ∷ js) true = refl
-  settled_still (store u o ∷ js) false = refl
-  settled_still (publish m ∷ js) true = refl
-  settled_still (publish m ∷ js) false = refl
-  settled_still (hand_in g u c ∷ js) true = refl
-  settled_still (hand_in g u c ∷ js) false = refl
+  settled_still (job.store u o ∷ js) First = refl
+  settled_still (job.store u o ∷ js) Again = refl
+  settled_still (job.publish m ∷ js) First = refl
+  settled_still (job.publish m ∷ js) Again = refl
+  settled_still (hand_in g u c ∷ js) First = refl
+  settled_still (hand_in g u c ∷ js) Again = refl
 
   opens_still : (x : Option Content) → Still (opens (worker behaviour l) x) 0
   opens_still None = refl
@@ -517,15 +513,15 @@ module _ (behaviour : Behaviour) (l : Line) (n : ℕ) (us : List ℕ) (xs : List
   header_few : (g u : ℕ) (c : PCarried) → F.FormedPart g u c → c.size ≤ T
   header_few g u c f = let a = (order behaviour l t.plan).size g u c f in let b = few_members g in omega (arith, a, b)
 
-  covers : (s : Doing (worker behaviour l)) (r : Reply Envelope Outcome) → GoodState (worker behaviour l) G s
+  covers : (s : Doing (worker behaviour l)) (r : Reply Envelope) → GoodState (worker behaviour l) G s
       → reads_member (roster_members (roster_of l)) (ask (worker behaviour l) s) r → Covers s r
   covers taking (taken None) p m k e = (0, refl, omega arith)
   covers taking (taken (Some e)) p m k h = (0, opens_still ((worker behaviour l).opened e), omega arith)
   covers resting (rested true) p m k e = (0, refl, omega arith)
-  covers (owning c) (kept true) p m k e = (0, settled_still ((worker behaviour l).ended c ((worker behaviour l).outcome c)) true, omega arith)
-  covers (owning c) (kept false) p m k e = (0, refl, omega arith)
-  covers (doing (store u o ∷ js) b) (kept a) p m k e = (0, settled_still js (cond (is_due u js) a b), omega arith)
-  covers (doing (publish c ∷ js) b) sent p m k e = (0, settled_still js b, omega arith)
+  covers (owning c) (stored First) p m k e = (0, settled_still ((worker behaviour l).ended c ((worker behaviour l).outcome c)) First, omega arith)
+  covers (owning c) (stored Again) p m k e = (0, refl, omega arith)
+  covers (doing (job.store u o ∷ js) b) (stored a) p m k e = (0, settled_still js (cond (is_due u js) a b), omega arith)
+  covers (doing (job.publish c ∷ js) b) sent p m k e = (0, settled_still js b, omega arith)
   covers (doing (hand_in g u c ∷ js) b) (counted i) p m k e =
       let few = header_few g u c p.0.0 in
       cond_cases (λ s. (j : ℕ) × Still s j × (0 + j ≤ k + T * (1 + 0))) (eqb (suc i) c.size) (reading g c []) acking
@@ -536,8 +532,8 @@ module _ (behaviour : Behaviour) (l : Line) (n : ℕ) (us : List ℕ) (xs : List
       let within = at_within (length fs) (members l g) u m in
       let more : length (fs ++ (u, o) ∷ []) ≡ length fs + 1 = length-append fs ((u, o) ∷ []) in
       cond_cases (λ s. (j : ℕ) × Still s j × ((1 + 0) + j ≤ k + T * 0)) (eqb (length (fs ++ (u, o) ∷ [])) c.size)
-      (settled (worker behaviour l) ((worker behaviour l).completed c (fs ++ (u, o) ∷ [])) false) (reading g c (fs ++ (u, o) ∷ []))
-      (λ full. (0, settled_still ((worker behaviour l).completed c (fs ++ (u, o) ∷ [])) false, omega (arith, many, within, e)))
+      (settled (worker behaviour l) ((worker behaviour l).completed c (fs ++ (u, o) ∷ [])) Again) (reading g c (fs ++ (u, o) ∷ []))
+      (λ full. (0, settled_still ((worker behaviour l).completed c (fs ++ (u, o) ∷ [])) Again, omega (arith, many, within, e)))
       (λ less. one_less k (length fs) c.size (length (fs ++ (u, o) ∷ [])) e more (omega (arith, many, within)))
     where
       one_less : (k a size b : ℕ) → a + k ≡ size → b ≡ a + 1 → a < size → (j : ℕ) × (b + j ≡ size) × ((1 + 0) + j ≤ k + T * 0)

@@ -10,12 +10,14 @@ use Rattle.canvas_message.specs.Content.{Content}
 use Rattle.canvas_effects.specs.Effects.{first_messages}
 use Rattle.canvas_effects.specs.Job.{store, publish, hand_in}
 use Rattle.canvas_message.specs.declared.envelope.Envelope.{Envelope}
+use Rattle.canvas_backend.specs.declared.stored.Stored.{Stored}
+use Rattle.canvas_backend.specs.declared.stored.Stored.TheVariants.{First, Again}
 use Rattle.canvas_backend.specs.Backend as results
 use Rattle.canvas_backend.specs.Backend.{no_results}
 use Rattle.canvas_runs.specs.Protocol.{Protocol}
 use Rattle.canvas_broker.specs.Broker as broker
 use Rattle.canvas_runs.specs.Calls.{ReadsMembers, AskedAndAnswered, reads_member, scripts_of, of_scripts, held_by, held_after, DeliversHeld}
-use Rattle.canvas_runs.specs.Core.{Ask, Reply, end, taken, sent, kept, counted, found, rested, acked, taking, resting, over, failed, owning, doing, reading, acking, is_due, settled, ask, opens, answered, IsCoreRun, ReadsBack, Doing, Jobs, is_inside, deliver, refused, Suits, Between, left_after}
+use Rattle.canvas_runs.specs.Core.{Ask, Reply, end, taken, sent, stored, counted, found, rested, acked, taking, resting, over, failed, owning, doing, reading, acking, is_due, settled, ask, opens, answered, IsCoreRun, ReadsBack, Doing, Jobs, is_inside, redeliver, refused, Suits, Between, left_after}
 use Rattle.canvas_runs.specs.Lists.{Each, by}
 use Rattle.canvas_runs.specs.Turns.{Step, is_queued, queue_next, queue_after, left, IsWorker, Answers, FirstsRead, some_inside, holds_more, Turned, all_taken, skips_turn, takes_turn, delivers_again, holds}
 use Rattle.canvas_runs.specs.Worker.{worker, sealed}
@@ -35,14 +37,14 @@ none_queued (x ∷ q) e = absurd cc
 
 -- who is between scripts holds no envelope
 module _ (X : Protocol) where
-  settled_inside : (js : Jobs X) (b : Bool) → Between (settled X js b) → ⊥
+  settled_inside : (js : Jobs X) (b : Stored) → Between (settled X js b) → ⊥
   settled_inside [] b k = k
-  settled_inside (store t o ∷ js) true k = k
-  settled_inside (store t o ∷ js) false k = k
-  settled_inside (publish m ∷ js) true k = k
-  settled_inside (publish m ∷ js) false k = k
-  settled_inside (hand_in g t c ∷ js) true k = k
-  settled_inside (hand_in g t c ∷ js) false k = k
+  settled_inside (store t o ∷ js) First k = k
+  settled_inside (store t o ∷ js) Again k = k
+  settled_inside (publish m ∷ js) First k = k
+  settled_inside (publish m ∷ js) Again k = k
+  settled_inside (hand_in g t c ∷ js) First k = k
+  settled_inside (hand_in g t c ∷ js) Again k = k
 
   opens_inside : (x : Option X.Message) → Between (opens X x) → ⊥
   opens_inside None k = k
@@ -52,18 +54,18 @@ module _ (X : Protocol) where
   handed_inside true g c k = k
   handed_inside false g c k = k
 
-  read_inside : (b : Bool) (js : Jobs X) (g : ℕ) (c : X.Carried) (fs : List (ℕ × X.Outcome)) → Between (cond b (settled X js false) (reading g c fs)) → ⊥
-  read_inside true js g c fs k = settled_inside js false k
+  read_inside : (b : Bool) (js : Jobs X) (g : ℕ) (c : X.Carried) (fs : List (ℕ × Outcome)) → Between (cond b (settled X js Again) (reading g c fs)) → ⊥
+  read_inside true js g c fs k = settled_inside js Again k
   read_inside false js g c fs k = k
 
-  step_outside : (s : Doing X) (r : Reply X.Envelope X.Outcome) (h : Option X.Envelope) → Suits (ask X s) r → (Between s → h ≡ None) → Between (answered X s r)
+  step_outside : (s : Doing X) (r : Reply X.Envelope) (h : Option X.Envelope) → Suits (ask X s) r → (Between s → h ≡ None) → Between (answered X s r)
       → held_by h (ask X s) r ≡ None
   step_outside taking (taken None) h u f k = f tt
   step_outside taking (taken (Some e)) h u f k = absurd (opens_inside (X.opened e) k)
   step_outside resting (rested b) h u f k = f tt
-  step_outside (owning m) (kept true) h u f k = absurd (settled_inside (X.ended m (X.outcome m)) true k)
-  step_outside (owning m) (kept false) h u f k = absurd k
-  step_outside (doing (store t o ∷ js) b) (kept a) h u f k = absurd (settled_inside js (cond (is_due t js) a b) k)
+  step_outside (owning m) (stored First) h u f k = absurd (settled_inside (X.ended m (X.outcome m)) First k)
+  step_outside (owning m) (stored Again) h u f k = absurd k
+  step_outside (doing (store t o ∷ js) b) (stored a) h u f k = absurd (settled_inside js (cond (is_due t js) a b) k)
   step_outside (doing (publish m ∷ js) b) sent h u f k = absurd (settled_inside js b k)
   step_outside (doing (publish m ∷ js) b) refused h u f k = absurd k
   step_outside (doing (hand_in g t c ∷ js) b) (counted i) h u f k = absurd (handed_inside (eqb (suc i) (X.size c)) g c k)
@@ -73,15 +75,15 @@ module _ (X : Protocol) where
   step_outside acking acked h u f k = refl
   step_outside s r h u f k = elim u [ ]
 
-  pub held_outside : (s : Doing X) (h : Option X.Envelope) (ys : List (AskedAndAnswered X.Envelope X.Outcome)) → IsCoreRun X s (scripts_of ys)
+  pub held_outside : (s : Doing X) (h : Option X.Envelope) (ys : List (AskedAndAnswered X.Envelope)) → IsCoreRun X s (scripts_of ys)
       → (Between s → h ≡ None) → Between (left_after X s (scripts_of ys)) → held_after h ys ≡ None
   held_outside s h [] c f k = f k
   held_outside s h (y ∷ ys) c f k = go (λ t g d i j. held_outside t g ys d i j) y.0 y.1 c k
     where
       go : ((t : Doing X) (g : Option X.Envelope) → IsCoreRun X t (scripts_of ys) → (Between t → g ≡ None) → Between (left_after X t (scripts_of ys))
-          → held_after g ys ≡ None) → (a : Ask X.Envelope X.Outcome) (r : Reply X.Envelope X.Outcome) → IsCoreRun X s (scripts_of ((a, r) ∷ ys))
+          → held_after g ys ≡ None) → (a : Ask X.Envelope) (r : Reply X.Envelope) → IsCoreRun X s (scripts_of ((a, r) ∷ ys))
           → Between (left_after X s (scripts_of ((a, r) ∷ ys))) → held_after h ((a, r) ∷ ys) ≡ None
-      go later (deliver e) r c k = later s h c f k
+      go later (redeliver e) r c k = later s h c f k
       go later a r c k = later (answered X s r) (held_by h a r) c.2
           (λ b. subst (λ z. held_by h z r ≡ None) (sym c.0) (step_outside s r h (subst (λ z. Suits z r) c.0 c.1.0) f b)) k
 
@@ -119,7 +121,7 @@ module _ (behaviour : Behaviour) (l : Line) where
   none_taken [] e i h = cc
   none_taken (x ∷ q) e i h = cc
 
-  stays_outside : (n : ℕ) (xs : List Step) (s : Doing (worker behaviour l)) (r : Reply Envelope Outcome) → queue_after l xs ≡ [] → is_inside s ≡ false
+  stays_outside : (n : ℕ) (xs : List Step) (s : Doing (worker behaviour l)) (r : Reply Envelope) → queue_after l xs ≡ [] → is_inside s ≡ false
       → Answers behaviour l n xs (ask (worker behaviour l) s) r
       → (is_inside (answered (worker behaviour l) s r) ≡ false) × (queue_next (queue_after l xs) (ask (worker behaviour l) s) ≡ [])
   stays_outside n xs taking (taken None) e i h = (refl, ap (λ q. broker.next q broker.take) e)
@@ -134,14 +136,14 @@ module _ (behaviour : Behaviour) (l : Line) where
 
   -- ---- only a rest that was answered with no more ends a worker
 
-  settled_on : (js : Jobs (worker behaviour l)) (b : Bool) → settled (worker behaviour l) js b ≡ over → ⊥
+  settled_on : (js : Jobs (worker behaviour l)) (b : Stored) → settled (worker behaviour l) js b ≡ over → ⊥
   settled_on [] b e = cc
-  settled_on (store t o ∷ js) true e = cc
-  settled_on (store t o ∷ js) false e = cc
-  settled_on (publish m ∷ js) true e = cc
-  settled_on (publish m ∷ js) false e = cc
-  settled_on (hand_in g t c ∷ js) true e = cc
-  settled_on (hand_in g t c ∷ js) false e = cc
+  settled_on (store t o ∷ js) First e = cc
+  settled_on (store t o ∷ js) Again e = cc
+  settled_on (publish m ∷ js) First e = cc
+  settled_on (publish m ∷ js) Again e = cc
+  settled_on (hand_in g t c ∷ js) First e = cc
+  settled_on (hand_in g t c ∷ js) Again e = cc
 
   opens_on : (x : Option Content) → opens (worker behaviour l) x ≡ over → ⊥
   opens_on None e = cc
@@ -152,19 +154,19 @@ module _ (behaviour : Behaviour) (l : Line) where
   handed_on false g c e = cc
 
   read_on : (b : Bool) (js : Jobs (worker behaviour l)) (g : ℕ) (c : PCarried) (fs : List (ℕ × Outcome))
-      → cond b (settled (worker behaviour l) js false) (reading g c fs) ≡ over → ⊥
-  read_on true js g c fs e = settled_on js false e
+      → cond b (settled (worker behaviour l) js Again) (reading g c fs) ≡ over → ⊥
+  read_on true js g c fs e = settled_on js Again e
   read_on false js g c fs e = cc
 
-  ends_idle : (n : ℕ) (xs : List Step) (s : Doing (worker behaviour l)) (r : Reply Envelope Outcome) → Answers behaviour l n xs (ask (worker behaviour l) s) r
+  ends_idle : (n : ℕ) (xs : List Step) (s : Doing (worker behaviour l)) (r : Reply Envelope) → Answers behaviour l n xs (ask (worker behaviour l) s) r
       → answered (worker behaviour l) s r ≡ over → holds_more behaviour l n xs ≡ false
   ends_idle n xs taking (taken None) h e = absurd cc
   ends_idle n xs taking (taken (Some x)) h e = absurd (opens_on ((worker behaviour l).opened x) e)
   ends_idle n xs resting (rested true) h e = absurd cc
   ends_idle n xs resting (rested false) h e = sym h
-  ends_idle n xs (owning m) (kept true) h e = absurd (settled_on ((worker behaviour l).ended m ((worker behaviour l).outcome m)) true e)
-  ends_idle n xs (owning m) (kept false) h e = absurd cc
-  ends_idle n xs (doing (store t o ∷ js) b) (kept a) h e = absurd (settled_on js (cond (is_due t js) a b) e)
+  ends_idle n xs (owning m) (stored First) h e = absurd (settled_on ((worker behaviour l).ended m ((worker behaviour l).outcome m)) First e)
+  ends_idle n xs (owning m) (stored Again) h e = absurd cc
+  ends_idle n xs (doing (store t o ∷ js) b) (stored a) h e = absurd (settled_on js (cond (is_due t js) a b) e)
   ends_idle n xs (doing (publish m ∷ js) b) sent h e = absurd (settled_on js b e)
   ends_idle n xs (doing (hand_in g t c ∷ js) b) (counted i) h e = absurd (handed_on (eqb (suc i) c.size) g c e)
   ends_idle n xs (reading g c fs) (found t (Some o)) h e =
@@ -213,17 +215,17 @@ module _ (behaviour : Behaviour) (l : Line) where
       idle = λ p w e. absurd cc;
     }
 
-    module _ (n : ℕ) (xs : List Step) (k : Holds n xs) (p : ℕ) (w : IsWorker n p) (r : Reply Envelope Outcome)
+    module _ (n : ℕ) (xs : List Step) (k : Holds n xs) (p : ℕ) (w : IsWorker n p) (r : Reply Envelope)
         (b : ReadsBack (worker behaviour l) (left behaviour l xs p)) (h : Answers behaviour l n xs (ask (worker behaviour l) (left behaviour l xs p)) r) where
-      abbrev a : Ask Envelope Outcome
+      abbrev a : Ask Envelope
       a = ask (worker behaviour l) (left behaviour l xs p)
 
       abbrev x : Step
       x = (p, (a, r))
 
-      more_reads : (zs : List (AskedAndAnswered Envelope Outcome)) → ReadsMembers (members (roster_of l)) zs
+      more_reads : (zs : List (AskedAndAnswered Envelope)) → ReadsMembers (members (roster_of l)) zs
           → ReadsMembers (members (roster_of l)) (zs ++ (a, r) ∷ [])
-      more_reads zs m = each_append (λ (z : AskedAndAnswered Envelope Outcome). reads_member (members (roster_of l)) z.0 z.1) zs ((a, r) ∷ []) m
+      more_reads zs m = each_append (λ (z : AskedAndAnswered Envelope). reads_member (members (roster_of l)) z.0 z.1) zs ((a, r) ∷ []) m
           ((answers_suit behaviour l n xs a r h).1, tt)
 
       plain : of_scripts a ≡ true
@@ -311,7 +313,7 @@ module _ (behaviour : Behaviour) (l : Line) where
 
     module _ (n : ℕ) (xs : List Step) (k : Holds n xs) (p : ℕ) (w : IsWorker n p) (e : Envelope) (h : holds xs p ≡ Some e) where
       abbrev y : Step
-      y = (p, (deliver e, sent))
+      y = (p, (redeliver e, sent))
 
       -- who holds an envelope is inside its script
       pub inside : is_inside (left behaviour l xs p) ≡ false → ⊥
@@ -335,15 +337,15 @@ module _ (behaviour : Behaviour) (l : Line) where
       by_delivers q = ap scripts_of (by_append q xs (y ∷ []))
           ∙ (scripts_append (by q xs) (by q (y ∷ [])) ∙ (ap (λ ys. scripts_of (by q xs) ++ ys) (none (eqb p q)) ∙ append-nil (scripts_of (by q xs))))
         where
-          none : (b : Bool) → ◌≡◌ {A = List (AskedAndAnswered Envelope Outcome)} (scripts_of (cond b ((deliver e, sent) ∷ []) [])) []
+          none : (b : Bool) → ◌≡◌ {A = List (AskedAndAnswered Envelope)} (scripts_of (cond b ((redeliver e, sent) ∷ []) [])) []
           none true = refl
           none false = refl
 
       held_delivers : (q : ℕ) → DeliversHeld None (by q (xs ++ y ∷ []))
       held_delivers q = elim (cases_eq p q) [
         | inl same ↦ subst (λ u. DeliversHeld None (by u (xs ++ y ∷ []))) same
-            (subst (DeliversHeld None) (sym (by_more p xs (deliver e, sent))) (delivers_append None (by p xs) (deliver e, sent) (k.lawful.held p) h))
-        | inr apart ↦ subst (DeliversHeld None) (sym (by_other q p xs (deliver e, sent) apart)) (k.lawful.held q)
+            (subst (DeliversHeld None) (sym (by_more p xs (redeliver e, sent))) (delivers_append None (by p xs) (redeliver e, sent) (k.lawful.held p) h))
+        | inr apart ↦ subst (DeliversHeld None) (sym (by_other q p xs (redeliver e, sent) apart)) (k.lawful.held q)
       ]
 
       lawful_delivers : Lawful behaviour l n (xs ++ y ∷ [])
@@ -370,7 +372,7 @@ module _ (behaviour : Behaviour) (l : Line) where
       }
 
     -- one more step, of a worker's ask
-    pub holds_step : (n : ℕ) (xs : List Step) (p : ℕ) (a : Ask Envelope Outcome) (r : Reply Envelope Outcome) → Holds n xs → IsWorker n p
+    pub holds_step : (n : ℕ) (xs : List Step) (p : ℕ) (a : Ask Envelope) (r : Reply Envelope) → Holds n xs → IsWorker n p
         → ReadsBack (worker behaviour l) (left behaviour l xs p) → a ≡ ask (worker behaviour l) (left behaviour l xs p) → Answers behaviour l n xs a r
         → Holds n (xs ++ (p, (a, r)) ∷ [])
     holds_step n xs p a r k w b e h =

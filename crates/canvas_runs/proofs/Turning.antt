@@ -1,12 +1,12 @@
 -- Turns, one after the other: what one more step changes, and turns put together and taken apart.
 use Rattle.std.proofs.Common.{◌≡◌, ◌≢◌, ℕ, ◌+◌, Option, ◌≤◌, Bool, true, false, cond, eqb, List, [], ◌∷◌, ◌++◌, length, refl, sym, ap, ◌∙◌, subst, append_assoc, append-nil, eq-eqb, ne_eqb, arith}
 use Rattle.canvas_task.specs.Apply.{Behaviour}
-use Rattle.canvas_task.specs.declared.outcome.Outcome.{Outcome}
 use Rattle.canvas_semantics.specs.Line.{Line}
 use Rattle.canvas_message.specs.declared.envelope.Envelope.{Envelope}
 use Rattle.canvas_backend.specs.Backend.{Results}
-use Rattle.canvas_runs.specs.Core.{Ask, Reply, take, send, keep, part, read, pause, ack, taken, sent, kept, counted, found, rested, acked, CoreState, taking, ask, answered, left_after, Suits, ReadsBack, IsCoreRun, deliver, acking, over, failed, resting, owning, doing, reading}
-use Rattle.canvas_effects.specs.Job.{store, publish, hand_in}
+use Rattle.canvas_effects.specs.Job as job
+use Rattle.canvas_runs.specs.Core.{Ask, Reply, take, publish, store, part, read, rest, ack, taken, sent, stored, counted, found, rested, acked, CoreState, taking, ask, answered, left_after, Suits, ReadsBack, IsCoreRun, redeliver, acking, over, failed, resting, owning, doing, reading}
+use Rattle.canvas_effects.specs.Job.{hand_in}
 use Rattle.canvas_runs.specs.Calls.{AskedAndAnswered, reads_member, of_scripts, scripts_of, held_by, held_after, delivers, DeliversHeld}
 use Rattle.canvas_runs.specs.Lists.{by}
 use Rattle.canvas_runs.specs.Protocol.{Protocol}
@@ -34,12 +34,12 @@ module _ {A : Type 0} where
 -- ---- one more answered ask of a core run
 
 module _ (X : Protocol) where
-  pub left_more : (s : CoreState X.Message X.Carried X.Outcome) (xs : List (AskedAndAnswered X.Envelope X.Outcome)) (x : AskedAndAnswered X.Envelope X.Outcome)
+  pub left_more : (s : CoreState X.Message X.Carried) (xs : List (AskedAndAnswered X.Envelope)) (x : AskedAndAnswered X.Envelope)
       → left_after X s (xs ++ x ∷ []) ≡ answered X (left_after X s xs) x.1
   left_more s [] x = refl
   left_more s (y ∷ xs) x = left_more (answered X s y.1) xs x
 
-  pub core_more : (s : CoreState X.Message X.Carried X.Outcome) (xs : List (AskedAndAnswered X.Envelope X.Outcome)) (x : AskedAndAnswered X.Envelope X.Outcome)
+  pub core_more : (s : CoreState X.Message X.Carried) (xs : List (AskedAndAnswered X.Envelope)) (x : AskedAndAnswered X.Envelope)
       → IsCoreRun X s xs → x.0 ≡ ask X (left_after X s xs) → Suits x.0 x.1 → ReadsBack X (left_after X s xs)
       → IsCoreRun X s (xs ++ x ∷ [])
   core_more s [] x run asks suits back = (asks, (suits, back), tt)
@@ -47,8 +47,8 @@ module _ (X : Protocol) where
 
 -- ---- a worker's steps and its core run
 
-module _ {E O : Type 0} where
-  pub scripts_append : (xs ys : List (AskedAndAnswered E O)) → scripts_of (xs ++ ys) ≡ scripts_of xs ++ scripts_of ys
+module _ {E : Type 0} where
+  pub scripts_append : (xs ys : List (AskedAndAnswered E)) → scripts_of (xs ++ ys) ≡ scripts_of xs ++ scripts_of ys
   scripts_append [] ys = refl
   scripts_append (x ∷ xs) ys = go (of_scripts x.0) (scripts_append xs ys)
     where
@@ -57,42 +57,42 @@ module _ {E O : Type 0} where
       go true e = ap (λ l. x ∷ l) e
       go false e = e
 
-  pub scripts_more : (xs : List (AskedAndAnswered E O)) (a : Ask E O) (r : Reply E O) → of_scripts a ≡ true
+  pub scripts_more : (xs : List (AskedAndAnswered E)) (a : Ask E) (r : Reply E) → of_scripts a ≡ true
       → scripts_of (xs ++ (a, r) ∷ []) ≡ scripts_of xs ++ (a, r) ∷ []
   scripts_more xs a r e = scripts_append xs ((a, r) ∷ []) ∙ ap (λ b. scripts_of xs ++ cond b ((a, r) ∷ []) []) e
 
-  pub held_append : (h : Option E) (xs ys : List (AskedAndAnswered E O)) → held_after h (xs ++ ys) ≡ held_after (held_after h xs) ys
+  pub held_append : (h : Option E) (xs ys : List (AskedAndAnswered E)) → held_after h (xs ++ ys) ≡ held_after (held_after h xs) ys
   held_append h [] ys = refl
   held_append h (x ∷ xs) ys = held_append (held_by h x.0 x.1) xs ys
 
-  pub delivers_append : (h : Option E) (xs : List (AskedAndAnswered E O)) (x : AskedAndAnswered E O) → DeliversHeld h xs → delivers (held_after h xs) x.0
+  pub delivers_append : (h : Option E) (xs : List (AskedAndAnswered E)) (x : AskedAndAnswered E) → DeliversHeld h xs → delivers (held_after h xs) x.0
       → DeliversHeld h (xs ++ x ∷ [])
   delivers_append h [] x d k = (k, tt)
   delivers_append h (y ∷ xs) x d k = (d.0, delivers_append (held_by h y.0 y.1) xs x d.1 k)
 
 module _ (X : Protocol) where
-  pub asks_of_scripts : (s : CoreState X.Message X.Carried X.Outcome) → of_scripts (ask X s) ≡ true
+  pub asks_of_scripts : (s : CoreState X.Message X.Carried) → of_scripts (ask X s) ≡ true
   asks_of_scripts taking = refl
   asks_of_scripts resting = refl
   asks_of_scripts over = refl
   asks_of_scripts failed = refl
   asks_of_scripts (owning m) = refl
   asks_of_scripts (doing [] b) = refl
-  asks_of_scripts (doing (store t o ∷ js) b) = refl
-  asks_of_scripts (doing (publish m ∷ js) b) = refl
+  asks_of_scripts (doing (job.store t o ∷ js) b) = refl
+  asks_of_scripts (doing (job.publish m ∷ js) b) = refl
   asks_of_scripts (doing (hand_in g t c ∷ js) b) = refl
   asks_of_scripts (reading g c fs) = refl
   asks_of_scripts acking = refl
 
-  pub plain_ask : (s : CoreState X.Message X.Carried X.Outcome) (h : Option X.Envelope) → delivers h (ask X s)
+  pub plain_ask : (s : CoreState X.Message X.Carried) (h : Option X.Envelope) → delivers h (ask X s)
   plain_ask taking h = tt
   plain_ask resting h = tt
   plain_ask over h = tt
   plain_ask failed h = tt
   plain_ask (owning m) h = tt
   plain_ask (doing [] b) h = tt
-  plain_ask (doing (store t o ∷ js) b) h = tt
-  plain_ask (doing (publish m ∷ js) b) h = tt
+  plain_ask (doing (job.store t o ∷ js) b) h = tt
+  plain_ask (doing (job.publish m ∷ js) b) h = tt
   plain_ask (doing (hand_in g t c ∷ js) b) h = tt
   plain_ask (reading g c fs) h = tt
   plain_ask acking h = tt
@@ -114,36 +114,36 @@ results_more s [] x = refl
 results_more s (y ∷ xs) x = results_more (results_next s y.1.0) xs x
 
 module _ (behaviour : Behaviour) (l : Line) where
-  pub left_here : (xs : List Step) (p : ℕ) (a : Ask Envelope Outcome) (r : Reply Envelope Outcome) → of_scripts a ≡ true
+  pub left_here : (xs : List Step) (p : ℕ) (a : Ask Envelope) (r : Reply Envelope) → of_scripts a ≡ true
       → left behaviour l (xs ++ (p, (a, r)) ∷ []) p ≡ answered (worker behaviour l) (left behaviour l xs p) r
   left_here xs p a r e = ap (λ ys. left_after (worker behaviour l) taking (scripts_of ys)) (by_more p xs (a, r))
       ∙ (ap (left_after (worker behaviour l) taking) (scripts_more (by p xs) a r e) ∙ left_more (worker behaviour l) taking (scripts_of (by p xs)) (a, r))
 
   -- a redelivery leaves all workers what they had to do
-  pub left_delivers : (xs : List Step) (p q : ℕ) (d : Envelope) (r : Reply Envelope Outcome)
-      → left behaviour l (xs ++ (q, (deliver d, r)) ∷ []) p ≡ left behaviour l xs p
+  pub left_delivers : (xs : List Step) (p q : ℕ) (d : Envelope) (r : Reply Envelope)
+      → left behaviour l (xs ++ (q, (redeliver d, r)) ∷ []) p ≡ left behaviour l xs p
   left_delivers xs p q d r =
-      ap (left_after (worker behaviour l) taking) (ap scripts_of (by_append p xs ((q, (deliver d, r)) ∷ []))
-      ∙ (scripts_append (by p xs) (by p ((q, (deliver d, r)) ∷ []))
+      ap (left_after (worker behaviour l) taking) (ap scripts_of (by_append p xs ((q, (redeliver d, r)) ∷ []))
+      ∙ (scripts_append (by p xs) (by p ((q, (redeliver d, r)) ∷ []))
       ∙ (ap (λ ys. scripts_of (by p xs) ++ ys) (none (eqb q p)) ∙ append-nil (scripts_of (by p xs)))))
     where
-      none : (b : Bool) → scripts_of (cond b ((deliver d, r) ∷ []) []) ≡ []
+      none : (b : Bool) → scripts_of (cond b ((redeliver d, r) ∷ []) []) ≡ []
       none true = refl
       none false = refl
 
-  pub left_other : (xs : List Step) (p q : ℕ) (a : Ask Envelope Outcome) (r : Reply Envelope Outcome) → q ≢ p
+  pub left_other : (xs : List Step) (p q : ℕ) (a : Ask Envelope) (r : Reply Envelope) → q ≢ p
       → left behaviour l (xs ++ (q, (a, r)) ∷ []) p ≡ left behaviour l xs p
   left_other xs p q a r apart = ap (λ ys. left_after (worker behaviour l) taking (scripts_of ys)) (by_other p q xs (a, r) apart)
 
   -- the answer is one to the ask, and a read's is of the member that it names
-  pub answers_suit : (n : ℕ) (xs : List Step) (a : Ask Envelope Outcome) (r : Reply Envelope Outcome) → Answers behaviour l n xs a r
+  pub answers_suit : (n : ℕ) (xs : List Step) (a : Ask Envelope) (r : Reply Envelope) → Answers behaviour l n xs a r
       → Suits a r × reads_member (members (roster_of l)) a r
   answers_suit n xs take (taken x) h = (tt, tt)
-  answers_suit n xs (send e) sent h = (tt, tt)
-  answers_suit n xs (keep t o) (kept b) h = (tt, tt)
+  answers_suit n xs (publish e) sent h = (tt, tt)
+  answers_suit n xs (store t o) (stored b) h = (tt, tt)
   answers_suit n xs (part g t) (counted m) h = (tt, tt)
   answers_suit n xs (read g i) (found t x) h = (tt, h.0)
-  answers_suit n xs pause (rested m) h = (tt, tt)
+  answers_suit n xs rest (rested m) h = (tt, tt)
   answers_suit n xs ack acked h = (tt, tt)
   answers_suit n xs a r h = elim h [ ]
 
@@ -166,7 +166,7 @@ module _ (behaviour : Behaviour) (l : Line) where
   turned_skip n us xs p t e = subst (Turned behaviour l n [] (us ++ p ∷ [])) (append-nil xs) (turned_append n [] us (p ∷ []) xs [] t (skips_turn e all_taken))
 
   -- one more turn with its step
-  pub turned_step : (n : ℕ) (us : List ℕ) (xs : List Step) (p : ℕ) (a : Ask Envelope Outcome) (r : Reply Envelope Outcome) → Turned behaviour l n [] us xs
+  pub turned_step : (n : ℕ) (us : List ℕ) (xs : List Step) (p : ℕ) (a : Ask Envelope) (r : Reply Envelope) → Turned behaviour l n [] us xs
       → ReadsBack (worker behaviour l) (left behaviour l xs p) → a ≡ ask (worker behaviour l) (left behaviour l xs p) → Answers behaviour l n xs a r
       → Turned behaviour l n [] (us ++ p ∷ []) (xs ++ (p, (a, r)) ∷ [])
   turned_step n us xs p a r t b e h = turned_append n [] us (p ∷ []) xs ((p, (a, r)) ∷ []) t (takes_turn b e h all_taken)

@@ -6,7 +6,7 @@ use Rattle.crossbeam_queue.specs.SegTies.{SegId}
 use Rattle.atomic_table.specs.Seated.{TableId}
 use Rattle.canvas_history.specs.History.{split, join}
 use Rattle.canvas_backend.specs.Roster.{Roster, roster_of}
-use Rattle.canvas_runs.specs.Core.{take, pause, taken, rested, over}
+use Rattle.canvas_runs.specs.Core.{take, rest, taken, rested, over}
 use Rattle.canvas_runs.specs.Crew.{Mate, Ran, EndedWell}
 use Rattle.canvas_runs.specs.Following.{Pass, Seat, Working}
 use Rattle.canvas_runs.specs.Calls.{scripts_all}
@@ -32,7 +32,7 @@ module _ (behaviour : Behaviour) (b : SegId Global) (d : TableId) where
     seat = seat_one;
     ended = one_left;
     followed = record {
-      run = (take, taken None) ∷ (pause, rested false) ∷ [];
+      run = (take, taken None) ∷ (rest, rested false) ∷ [];
       is_core = (refl, (tt, tt), (refl, (tt, tt), tt));
       reads = (tt, (tt, tt));
       counts = record { taken = refl; published = refl; first = refl; parts = refl; dropped = refl };
@@ -89,7 +89,7 @@ module _ (behaviour : Behaviour) (b : SegId Global) (d : TableId) where
     );
     own = own;
     works = record {
-      run = (take, taken None) ∷ (pause, rested false) ∷ [];
+      run = (take, taken None) ∷ (rest, rested false) ∷ [];
       is_core = (refl, (tt, tt), (refl, (tt, tt), tt));
       reads = (tt, (tt, tt));
       counts = record { taken = refl; published = refl; first = refl; parts = refl; dropped = refl };

@@ -1,7 +1,7 @@
 -- Runs by turns with entries: a sum and its product, whose first message is delivered again at both
 -- points, and a division by zero with a link, whose task isn't run, so that an entry for it does
 -- nothing.
-use Rattle.std.specs.Prelude.{true, false, List, [], ◌∷◌, Some, None, pos, codes}
+use Rattle.std.specs.Prelude.{false, List, [], ◌∷◌, Some, None, pos, codes}
 use Rattle.canvas_task.specs.declared.arg.Arg.TheVariants as arg
 use Rattle.canvas_task.specs.declared.outcome.Outcome.{Outcome}
 use Rattle.canvas_task.specs.declared.outcome.Outcome.TheVariants.{Success, Failure}
@@ -11,7 +11,8 @@ use Rattle.canvas_semantics.specs.Tree.{task, no_tasks, and_task}
 use Rattle.canvas_semantics.specs.Line.{Line, stop, step}
 use Rattle.canvas_semantics.specs.PlacedLine.{p_task, no_p_tasks, and_p_task, p_nowhere, p_stop, p_step}
 use Rattle.canvas_message.specs.Content.{Content}
-use Rattle.canvas_runs.specs.Core.{take, send, keep, pause, ack, deliver, taken, sent, kept, rested, acked}
+use Rattle.canvas_backend.specs.declared.stored.Stored.TheVariants.{First, Again}
+use Rattle.canvas_runs.specs.Core.{take, publish, store, rest, ack, redeliver, taken, sent, stored, rested, acked}
 use Rattle.canvas_runs.specs.declared.when.When.TheVariants.{Early, Late}
 use Rattle.canvas_runs.specs.Spending.{Entry}
 use Rattle.canvas_runs.specs.Turns.{Step}
@@ -58,14 +59,14 @@ both_points = (1, Early) ∷ (1, Late) ∷ []
 
 abbrev pub product_steps : List Step
 product_steps =
-    (1, (take, taken (Some (sealed product_sum)))) ∷ (1, (deliver (sealed product_sum), sent))
-    ∷ (1, (keep 1 eight, kept true)) ∷ (1, (send (sealed product_whole), sent))
-    ∷ (1, (deliver (sealed product_sum), sent)) ∷ (1, (ack, acked))
-    ∷ (1, (take, taken (Some (sealed product_sum)))) ∷ (1, (keep 1 eight, kept false))
+    (1, (take, taken (Some (sealed product_sum)))) ∷ (1, (redeliver (sealed product_sum), sent))
+    ∷ (1, (store 1 eight, stored First)) ∷ (1, (publish (sealed product_whole), sent))
+    ∷ (1, (redeliver (sealed product_sum), sent)) ∷ (1, (ack, acked))
+    ∷ (1, (take, taken (Some (sealed product_sum)))) ∷ (1, (store 1 eight, stored Again))
     ∷ (1, (ack, acked)) ∷ (1, (take, taken (Some (sealed product_whole))))
-    ∷ (1, (keep 2 sixty_four, kept true)) ∷ (1, (ack, acked))
-    ∷ (1, (take, taken (Some (sealed product_sum)))) ∷ (1, (keep 1 eight, kept false))
-    ∷ (1, (ack, acked)) ∷ (1, (take, taken None)) ∷ (1, (pause, rested false)) ∷ []
+    ∷ (1, (store 2 sixty_four, stored First)) ∷ (1, (ack, acked))
+    ∷ (1, (take, taken (Some (sealed product_sum)))) ∷ (1, (store 1 eight, stored Again))
+    ∷ (1, (ack, acked)) ∷ (1, (take, taken None)) ∷ (1, (rest, rested false)) ∷ []
 
 -- ---- 1 by 0, with a link
 
@@ -93,11 +94,11 @@ link_entry = (2, Early) ∷ []
 
 abbrev pub quotient_steps : List Step
 quotient_steps =
-    (1, (take, taken (Some (sealed quotient_linked)))) ∷ (1, (keep 1 no_quotient, kept true))
-    ∷ (1, (ack, acked)) ∷ (1, (take, taken None)) ∷ (1, (pause, rested false)) ∷ []
+    (1, (take, taken (Some (sealed quotient_linked)))) ∷ (1, (store 1 no_quotient, stored First))
+    ∷ (1, (ack, acked)) ∷ (1, (take, taken None)) ∷ (1, (rest, rested false)) ∷ []
 
 -- ---- a near miss: the worker has the store of its message answered, though an entry for the point
 -- before it is unspent
 
 abbrev pub unspent : List Step
-unspent = (1, (take, taken (Some (sealed product_sum)))) ∷ (1, (keep 1 eight, kept true)) ∷ []
+unspent = (1, (take, taken (Some (sealed product_sum)))) ∷ (1, (store 1 eight, stored First)) ∷ []

@@ -5,21 +5,17 @@
 --     Serves plan s cs t     the same of a seat and its backend calls
 --     Followed behaviour plan w v   from w on the worker's pass and seat have followed a core run,
 --                                   and it is v then
-use Rattle.std.specs.Prelude.{◌+◌, ◌≡◌, true, false, List, [], ◌∷◌, length, Option, Some, None}
+use Rattle.std.specs.Prelude.{◌+◌, ◌≡◌, List, [], ◌∷◌, length, Option, None}
 use Rattle.canvas_task.specs.Apply.{Behaviour}
-use Rattle.canvas_task.specs.declared.outcome.Outcome.{Outcome}
 use Rattle.canvas_history.specs.History.{calls}
 use Rattle.canvas_rewrite.specs.FrozenView.{PCarried}
 use Rattle.canvas_message.specs.Content.{Content}
 use Rattle.canvas_message.specs.declared.envelope.Envelope.{Envelope}
-use Rattle.canvas_backend.specs.declared.stored.Stored.TheVariants.{First, Again}
-use Rattle.canvas_backend.specs.Backend.{TableCall, TableReply, store, part, read, was, count, found}
 use Rattle.canvas_backend.specs.Seats as seats
 use Rattle.canvas_backend.specs.Roster.{Roster, members}
-use Rattle.canvas_broker.specs.Broker.{QueueCall, publish, take, redeliver}
 use Rattle.canvas_broker.specs.Passes as passes
 use Rattle.canvas_runs.specs.Core.{CoreState, taking, over, IsCoreRun, left_after, Between}
-use Rattle.canvas_runs.specs.Calls.{BrokerCall, published, took, again, BackendCall, stored, returned, has_read, FollowsScripts, AskedAndAnswered, broker_calls, core_calls, backend_calls, ReadsMembers, takes_one}
+use Rattle.canvas_runs.specs.Calls.{QueueAnswered, TableAnswered, FollowsScripts, AskedAndAnswered, broker_calls, core_calls, backend_calls, ReadsMembers, takes_one}
 use Rattle.canvas_runs.specs.Lists.{total}
 use Rattle.canvas_runs.specs.Tally.{Tally, none_yet, Counted}
 use Rattle.canvas_runs.specs.Worker.{worker_of}
@@ -30,39 +26,16 @@ Pass = passes.Pass Envelope
 abbrev pub Seat : Type 0
 Seat = seats.Seat
 
--- what a broker call asks, and what it was answered
-abbrev pub queue_call : BrokerCall Envelope → QueueCall Envelope
-queue_call (published e) = publish e
-queue_call (took e) = take
-queue_call (again e) = redeliver e
-
-abbrev pub queue_answer : BrokerCall Envelope → Option Envelope
-queue_answer (published e) = None
-queue_answer (took e) = Some e
-queue_answer (again e) = None
-
--- what a backend call asks, and what it was answered
-abbrev pub table_call : BackendCall Outcome → TableCall
-table_call (stored t o b) = store t o
-table_call (returned g t n) = part g t
-table_call (has_read t x) = read t
-
-abbrev pub table_reply : BackendCall Outcome → TableReply
-table_reply (stored t o true) = was First
-table_reply (stored t o false) = was Again
-table_reply (returned g t n) = count n
-table_reply (has_read t x) = found x
-
-abbrev pub Makes : Pass → List (BrokerCall Envelope) → Pass → Type 0
+abbrev pub Makes : Pass → List (QueueAnswered Envelope) → Pass → Type 0
 Makes p [] q = q ≡ p
 Makes p (c ∷ cs) q =
-    (between : Pass) × passes.Stands p (calls p.name (queue_call c) (queue_answer c)) between
+    (between : Pass) × passes.Stands p (calls p.name c.0 c.1) between
     × Makes between cs q
 
-abbrev pub Serves : Roster → Seat → List (BackendCall Outcome) → Seat → Type 0
+abbrev pub Serves : Roster → Seat → List TableAnswered → Seat → Type 0
 Serves plan s [] t = t ≡ s
 Serves plan s (c ∷ cs) t =
-    (between : Seat) × seats.Stands plan s (calls s.name (table_call c) (table_reply c)) between
+    (between : Seat) × seats.Stands plan s (calls s.name c.0 c.1) between
     × Serves plan between cs t
 
 -- a worker: its pass and its seat, what its core has left to do, the envelope of the open script,
@@ -70,7 +43,7 @@ Serves plan s (c ∷ cs) t =
 pub record Working : Type 0 where
   pub pass : Pass
   pub seat : Seat
-  pub left : CoreState Content PCarried Outcome
+  pub left : CoreState Content PCarried
   pub current : Option Envelope
   pub held : List Envelope
   pub tally : Tally
@@ -89,7 +62,7 @@ abbrev pub IsOver : Working → Type 0
 IsOver w = (w.left ≡ over) × (w.held ≡ [])
 
 pub record Followed (behaviour : Behaviour) (plan : Roster) (w v : Working) : Type 0 where
-  pub run : List (AskedAndAnswered Envelope Outcome)
+  pub run : List (AskedAndAnswered Envelope)
   pub is_core : IsCoreRun (worker_of behaviour plan) w.left run
   -- a read is of the member that it names
   pub reads : ReadsMembers (members plan) run
@@ -97,7 +70,7 @@ pub record Followed (behaviour : Behaviour) (plan : Roster) (w v : Working) : Ty
   pub leaves : left_after (worker_of behaviour plan) w.left run ≡ v.left
   -- the calls of its pass. A take may stand before the core's, and an envelope may be delivered
   -- again while its script is open
-  pub made : List (BrokerCall Envelope)
+  pub made : List (QueueAnswered Envelope)
   pub follows : FollowsScripts w.current w.held (core_calls run) made
   pub used : length w.held + total takes_one made ≡ total takes_one (broker_calls run)
       + length v.held

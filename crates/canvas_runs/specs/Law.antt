@@ -3,9 +3,10 @@
 -- user guide, Canvas: a chord's body is called once, when all tasks of the header have returned).
 -- An envelope that is delivered again is taken once more, and of the stores of its task one answers
 -- that it was the first.
-use Rattle.std.specs.Prelude.{◌≡◌, ◌≤◌, ◌⊎◌, ◌+◌, ℕ, true, false, eqb, cond, List, Option, Some, None}
+use Rattle.std.specs.Prelude.{◌≡◌, ◌≤◌, ◌⊎◌, ◌+◌, ℕ, eqb, cond, List, Option, Some, None}
 use Rattle.canvas_task.specs.Apply.{Behaviour}
 use Rattle.canvas_task.specs.declared.outcome.Outcome.{Outcome}
+use Rattle.canvas_history.specs.Answers.{answered_calls}
 use Rattle.canvas_history.specs.History.{calls}
 use Rattle.canvas_semantics.specs.Evaluation.{State, state_of, eval, nothing}
 use Rattle.canvas_semantics.specs.Line.{Line, tree_of}
@@ -15,47 +16,43 @@ use Rattle.canvas_message.specs.Among.{In}
 use Rattle.canvas_effects.specs.Events.{Event, DoesIn}
 use Rattle.canvas_effects.specs.Job.{publish, hand_in}
 use Rattle.canvas_message.specs.declared.envelope.Envelope.{Envelope}
+use Rattle.canvas_backend.specs.declared.stored.Stored.TheVariants.{First, Again}
 use Rattle.canvas_backend.specs.declared.stored.Stored.{Stored}
 use Rattle.canvas_backend.specs.Backend as results
 use Rattle.canvas_backend.specs.Roster.{roster_of}
 use Rattle.canvas_broker.specs.Broker as broker
 use Rattle.canvas_runs.specs.Book.{book_of}
-use Rattle.canvas_runs.specs.Calls.{BrokerCall, published, took, again, BackendCall, stored, returned, has_read}
+use Rattle.canvas_runs.specs.Calls.{QueueAnswered, TableAnswered}
 use Rattle.canvas_runs.specs.Lists.{total, seconds}
-use Rattle.canvas_runs.specs.Logs.{queue_calls, table_calls}
+use Rattle.canvas_runs.specs.Logs.{queue_calls}
 use Rattle.canvas_runs.specs.Run.{Run}
 use Rattle.canvas_runs.specs.Worker.{sealed, opened}
 
 -- ---- how often
 
 -- 1 where the call stores the outcome of task k first, or again, or returns the part
-abbrev pub firsts_one : ℕ → BackendCall Outcome → ℕ
-firsts_one k (stored t o true) = cond (eqb t k) 1 0
-firsts_one k (stored t o false) = 0
-firsts_one k (returned g m n) = 0
-firsts_one k (has_read t o) = 0
+abbrev pub firsts_one : ℕ → TableAnswered → ℕ
+firsts_one k (results.store t o, results.was First) = cond (eqb t k) 1 0
+firsts_one k c = 0
 
-abbrev pub agains_one : ℕ → BackendCall Outcome → ℕ
-agains_one k (stored t o true) = 0
-agains_one k (stored t o false) = cond (eqb t k) 1 0
-agains_one k (returned g m n) = 0
-agains_one k (has_read t o) = 0
+abbrev pub agains_one : ℕ → TableAnswered → ℕ
+agains_one k (results.store t o, results.was Again) = cond (eqb t k) 1 0
+agains_one k c = 0
 
-abbrev pub returns_one : ℕ → ℕ → BackendCall Outcome → ℕ
-returns_one g m (stored t o b) = 0
-returns_one g m (returned h t n) = cond (eqb h g) (cond (eqb t m) 1 0) 0
-returns_one g m (has_read t o) = 0
+abbrev pub returns_one : ℕ → ℕ → TableAnswered → ℕ
+returns_one g m (results.part h t, results.count n) = cond (eqb h g) (cond (eqb t m) 1 0) 0
+returns_one g m c = 0
 
 -- how often a store of task k answers First, and Again, and how often the part of task m to chord g
 -- is returned
 abbrev pub first_stores : ℕ → results.Log → ℕ
-first_stores k table = total (firsts_one k) (seconds (table_calls table))
+first_stores k table = total (firsts_one k) (seconds (answered_calls table))
 
 abbrev pub again_stores : ℕ → results.Log → ℕ
-again_stores k table = total (agains_one k) (seconds (table_calls table))
+again_stores k table = total (agains_one k) (seconds (answered_calls table))
 
 abbrev pub returns : ℕ → ℕ → results.Log → ℕ
-returns g m table = total (returns_one g m) (seconds (table_calls table))
+returns g m table = total (returns_one g m) (seconds (answered_calls table))
 
 module _ (l : Line) where
   abbrev pub of_task : ℕ → Option Content → ℕ
@@ -63,20 +60,17 @@ module _ (l : Line) where
   of_task k (Some c) = cond (eqb (number_of c.own) k) 1 0
 
   -- 1 where the call publishes, or takes, or delivers again, a message of task k
-  abbrev pub publishes_one : ℕ → BrokerCall Envelope → ℕ
-  publishes_one k (published e) = of_task k (opened (book_of l) e)
-  publishes_one k (took e) = 0
-  publishes_one k (again e) = 0
+  abbrev pub publishes_one : ℕ → QueueAnswered Envelope → ℕ
+  publishes_one k (broker.publish e, r) = of_task k (opened (book_of l) e)
+  publishes_one k c = 0
 
-  abbrev pub takes_one_of : ℕ → BrokerCall Envelope → ℕ
-  takes_one_of k (published e) = 0
-  takes_one_of k (took e) = of_task k (opened (book_of l) e)
-  takes_one_of k (again e) = 0
+  abbrev pub takes_one_of : ℕ → QueueAnswered Envelope → ℕ
+  takes_one_of k (broker.take, Some e) = of_task k (opened (book_of l) e)
+  takes_one_of k c = 0
 
-  abbrev pub agains_one_of : ℕ → BrokerCall Envelope → ℕ
-  agains_one_of k (published e) = 0
-  agains_one_of k (took e) = 0
-  agains_one_of k (again e) = of_task k (opened (book_of l) e)
+  abbrev pub agains_one_of : ℕ → QueueAnswered Envelope → ℕ
+  agains_one_of k (broker.redeliver e, r) = of_task k (opened (book_of l) e)
+  agains_one_of k c = 0
 
   -- how often a message of task k is published, and taken, and delivered again
   abbrev pub publishes : ℕ → List (broker.QueueEntry Envelope) → ℕ

@@ -2,7 +2,7 @@
 -- broker, a legal history of the backend, and for each caller a core run that its calls follow.
 use Rattle.std.specs.Prelude.{◌≡◌, ℕ, eqb, cond, List, [], ◌∷◌, ◌++◌, map, None}
 use Rattle.canvas_task.specs.Apply.{Behaviour}
-use Rattle.canvas_task.specs.declared.outcome.Outcome.{Outcome}
+use Rattle.canvas_history.specs.Answers.{answered_calls}
 use Rattle.canvas_semantics.specs.Line.{Line}
 use Rattle.canvas_message.specs.Content.{Content}
 use Rattle.canvas_effects.specs.Effects.{first_messages}
@@ -11,26 +11,25 @@ use Rattle.canvas_backend.specs.Backend as results
 use Rattle.canvas_backend.specs.Roster.{roster_of, members}
 use Rattle.canvas_broker.specs.Broker as broker
 use Rattle.canvas_runs.specs.Core.{IsCoreRun, taking, left_after, Between}
-use Rattle.canvas_runs.specs.Calls.{BrokerCall, published, makes, BackendCall, stored, returned, has_read, FollowsScripts, AskedAndAnswered, broker_calls, core_calls, backend_calls, ReadsMembers, takes_one}
+use Rattle.canvas_runs.specs.Calls.{QueueAnswered, TableAnswered, makes, FollowsScripts, AskedAndAnswered, broker_calls, core_calls, backend_calls, ReadsMembers, takes_one}
 use Rattle.canvas_runs.specs.Lists.{Each, by, total}
-use Rattle.canvas_runs.specs.Logs.{queue_calls, table_calls}
+use Rattle.canvas_runs.specs.Logs.{queue_calls}
 use Rattle.canvas_runs.specs.Worker.{IsReadBack, worker, sealed}
 
-abbrev pub IsRead : {O : Type 0} → BackendCall O → Type 0
-IsRead (has_read t x) = Unit
-IsRead (stored t o b) = ⊥
-IsRead (returned g m n) = ⊥
+abbrev pub IsRead : TableAnswered → Type 0
+IsRead (results.read t, results.found x) = Unit
+IsRead c = ⊥
 
-abbrev pub published_all : {E : Type 0} → List E → List (BrokerCall E)
+abbrev pub published_all : {E : Type 0} → List E → List (QueueAnswered E)
 published_all [] = []
-published_all (e ∷ es) = published e ∷ published_all es
+published_all (e ∷ es) = (broker.publish e, None) ∷ published_all es
 
 pub record Run (behaviour : Behaviour) (l : Line) : Type 0 where
   pub queue : List (broker.QueueEntry Envelope)
   pub table : results.Log
   pub queue_legal : broker.IsLegal queue
   pub table_legal : results.IsLegal (roster_of l) table
-  pub core : ℕ → List (AskedAndAnswered Envelope Outcome)
+  pub core : ℕ → List (AskedAndAnswered Envelope)
   pub is_core : (p : ℕ) → IsCoreRun (worker behaviour l) taking (core p)
   -- a read is of the member that it names
   pub reads : (p : ℕ) → ReadsMembers (members (roster_of l)) (core p)
@@ -38,7 +37,7 @@ pub record Run (behaviour : Behaviour) (l : Line) : Type 0 where
   -- at the end.
   pub opening : List Content
   pub unsent : List Content
-  pub closing : List (BackendCall Outcome)
+  pub closing : List TableAnswered
   pub opens : first_messages l ≡ opening ++ unsent
   -- these envelopes read as their messages
   pub opens_back : Each IsReadBack opening
@@ -49,7 +48,7 @@ pub record Run (behaviour : Behaviour) (l : Line) : Type 0 where
       (map makes (cond (eqb p 0) (published_all (map sealed opening)) []) ++ core_calls (core p))
       (by p (queue_calls queue))
   pub keeps : (p : ℕ)
-      → by p (table_calls table) ≡ backend_calls (core p) ++ cond (eqb p 0) closing []
+      → by p (answered_calls table) ≡ backend_calls (core p) ++ cond (eqb p 0) closing []
 
 -- All first messages are published, the queue is empty at the end, each envelope taken has its
 -- script, and no core run stops inside one.

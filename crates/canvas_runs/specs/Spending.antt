@@ -10,16 +10,16 @@
 --     RunEntries es m     m of the entries are of tasks that evaluation runs
 use Rattle.std.specs.Prelude.{ℕ, suc, ◌≡◌, ◌≤◌, eqb, cond, Bool, true, false, ◌||◌, ◌+◌, List, [], ◌∷◌, ◌++◌, length, Option, Some, None}
 use Rattle.canvas_task.specs.Apply.{Behaviour}
-use Rattle.canvas_task.specs.declared.outcome.Outcome.{Outcome}
 use Rattle.canvas_semantics.specs.Line.{Line}
 use Rattle.canvas_rewrite.specs.FrozenView.{PCarried}
 use Rattle.canvas_rewrite.specs.Planned.{IsPlan}
 use Rattle.canvas_message.specs.Content.{Content, number_of}
 use Rattle.canvas_message.specs.declared.envelope.Envelope.{Envelope}
+use Rattle.canvas_backend.specs.declared.stored.Stored.TheVariants.{Again}
 use Rattle.canvas_runs.specs.declared.when.When.{When}
 use Rattle.canvas_runs.specs.declared.when.When.TheVariants.{Early, Late}
 use Rattle.canvas_runs.specs.Book.{book_of}
-use Rattle.canvas_runs.specs.Core.{Ask, Reply, keep, deliver, sent, kept, CoreState, owning, acking, ask, ReadsBack}
+use Rattle.canvas_runs.specs.Core.{Ask, Reply, store, redeliver, sent, stored, CoreState, owning, acking, ask, ReadsBack}
 use Rattle.canvas_runs.specs.Going.{most_steps}
 use Rattle.canvas_runs.specs.Law.{IsRunMessage}
 use Rattle.canvas_runs.specs.Lists.{Each, total}
@@ -75,7 +75,7 @@ module _ (l : Line) where
 
   -- The point to which a script has come: the state is what is left to do of it. A dropped envelope
   -- reads as no message, so its script has none.
-  abbrev pub point : CoreState Content PCarried Outcome → Option Envelope → Option Entry
+  abbrev pub point : CoreState Content PCarried → Option Envelope → Option Entry
   point (owning m) h = point_of Early (message_in h)
   point acking h = point_of Late (message_in h)
   point s h = None
@@ -92,8 +92,8 @@ module _ (behaviour : Behaviour) (l : Line) where
     skips : {before : List Step} {es rest : List Entry} {p : ℕ} {us : List ℕ} {xs : List Step}
         → HasEnded behaviour l before p → TurnedAgain n before es us xs rest
         → TurnedAgain n before es (p ∷ us) xs rest
-    takes : {before : List Step} {es rest : List Entry} {p : ℕ} {a : Ask Envelope Outcome}
-        {r : Reply Envelope Outcome} {us : List ℕ} {xs : List Step}
+    takes : {before : List Step} {es rest : List Entry} {p : ℕ} {a : Ask Envelope}
+        {r : Reply Envelope} {us : List ℕ} {xs : List Step}
         → wanted (comes_to before p) es ≡ false
         → ReadsBack (worker behaviour l) (left behaviour l before p)
         → a ≡ ask (worker behaviour l) (left behaviour l before p)
@@ -101,16 +101,16 @@ module _ (behaviour : Behaviour) (l : Line) where
         → TurnedAgain n (before ++ (p, (a, r)) ∷ []) es us xs rest
         → TurnedAgain n before es (p ∷ us) ((p, (a, r)) ∷ xs) rest
     spends : {before : List Step} {es rest : List Entry} {p : ℕ} {e : Envelope}
-        {a : Ask Envelope Outcome} {r : Reply Envelope Outcome} {us : List ℕ} {xs : List Step}
+        {a : Ask Envelope} {r : Reply Envelope} {us : List ℕ} {xs : List Step}
         → wanted (comes_to before p) es ≡ true → IsWorker n p → holds before p ≡ Some e
         → ReadsBack (worker behaviour l)
-        (left behaviour l (before ++ (p, (deliver e, sent)) ∷ []) p)
+        (left behaviour l (before ++ (p, (redeliver e, sent)) ∷ []) p)
         → a
-        ≡ ask (worker behaviour l) (left behaviour l (before ++ (p, (deliver e, sent)) ∷ []) p)
-        → Answers behaviour l n (before ++ (p, (deliver e, sent)) ∷ []) a r
-        → TurnedAgain n ((before ++ (p, (deliver e, sent)) ∷ []) ++ (p, (a, r)) ∷ [])
+        ≡ ask (worker behaviour l) (left behaviour l (before ++ (p, (redeliver e, sent)) ∷ []) p)
+        → Answers behaviour l n (before ++ (p, (redeliver e, sent)) ∷ []) a r
+        → TurnedAgain n ((before ++ (p, (redeliver e, sent)) ∷ []) ++ (p, (a, r)) ∷ [])
         (spent (comes_to before p) es) us xs rest
-        → TurnedAgain n before es (p ∷ us) ((p, (deliver e, sent)) ∷ (p, (a, r)) ∷ xs) rest
+        → TurnedAgain n before es (p ∷ us) ((p, (redeliver e, sent)) ∷ (p, (a, r)) ∷ xs) rest
 
 -- a plan's run by these turns of workers 1 to n, with these entries, steps, and entries that stay
 -- unspent
@@ -135,8 +135,8 @@ pub record RanAgain (behaviour : Behaviour) (l : Line) (n : ℕ) (ts : List ℕ)
 
 -- ---- how many stores answer Again
 
-abbrev pub answers_again : Ask Envelope Outcome → Reply Envelope Outcome → ℕ
-answers_again (keep t o) (kept false) = 1
+abbrev pub answers_again : Ask Envelope → Reply Envelope → ℕ
+answers_again (store t o) (stored Again) = 1
 answers_again a r = 0
 
 abbrev pub agains_in : List Step → ℕ

@@ -12,7 +12,7 @@ use Rattle.canvas_backend.specs.Backend.{results}
 use Rattle.canvas_backend.specs.Roster.{Roster, roster_of, members, is_chord, is_member}
 use Rattle.canvas_broker.specs.Broker.{queue_of}
 use Rattle.canvas_runs.specs.Calls.{scripts_of}
-use Rattle.canvas_runs.specs.Core.{Ask, keep, part, read, ask}
+use Rattle.canvas_runs.specs.Core.{Ask, store, part, read, ask}
 use Rattle.canvas_runs.specs.Law.{its_state}
 use Rattle.canvas_runs.specs.Lists.{Each, by, at}
 use Rattle.canvas_semantics.specs.States.{EachMay}
@@ -95,8 +95,8 @@ UntilTurns =
 
 -- a store is of a task of the plan; a part is of a chord's member that is stored and not returned;
 -- a read is of a place of the chord whose member is stored
-abbrev pub Answerable : Roster → List Step → Ask Envelope Outcome → Type 0
-Answerable plan xs (keep t o) = (t ≤ plan.tasks) × IsInRange o
+abbrev pub Answerable : Roster → List Step → Ask Envelope → Type 0
+Answerable plan xs (store t o) = (t ≤ plan.tasks) × IsInRange o
 Answerable plan xs (part g t) =
     IsTrue (is_chord plan g) × IsTrue (is_member plan g t) × ((results_after xs).outcomes t ≢ None)
     × ((results_after xs).returned t ≡ false)

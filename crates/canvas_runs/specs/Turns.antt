@@ -20,34 +20,33 @@
 --                            steps, with some worker that has not ended
 use Rattle.std.specs.Prelude.{ℕ, zero, suc, ◌≡◌, ◌≤◌, ◌||◌, Bool, true, false, List, [], ◌∷◌, ◌++◌, map, length, Option, Some, None}
 use Rattle.canvas_task.specs.Apply.{Behaviour}
-use Rattle.canvas_task.specs.declared.outcome.Outcome.{Outcome}
 use Rattle.canvas_semantics.specs.Line.{Line}
 use Rattle.canvas_rewrite.specs.FrozenView.{PCarried}
 use Rattle.canvas_message.specs.Content.{Content}
 use Rattle.canvas_effects.specs.Effects.{first_messages}
 use Rattle.canvas_message.specs.declared.envelope.Envelope.{Envelope}
 use Rattle.canvas_backend.specs.Backend as results
-use Rattle.canvas_backend.specs.Backend.{Results, no_results, first_or, next_of, count_of, says_first}
+use Rattle.canvas_backend.specs.Backend.{Results, no_results, first_or, next_of, count_of}
 use Rattle.canvas_backend.specs.Roster.{roster_of, members}
 use Rattle.canvas_broker.specs.Broker as broker
-use Rattle.canvas_runs.specs.Core.{Ask, Reply, take, send, keep, part, read, pause, end, ack, deliver, taken, sent, kept, counted, found, rested, acked, CoreState, taking, ask, left_after, ReadsBack, is_inside}
+use Rattle.canvas_runs.specs.Core.{Ask, Reply, take, publish, store, part, read, rest, end, ack, redeliver, taken, sent, stored, counted, found, rested, acked, CoreState, taking, ask, left_after, ReadsBack, is_inside}
 use Rattle.canvas_runs.specs.Calls.{scripts_of, held_after}
 use Rattle.canvas_runs.specs.Lists.{Each, by, at, total}
 use Rattle.canvas_runs.specs.Worker.{IsReadBack, worker, sealed}
 
 -- an answered ask of a worker
 abbrev pub Step : Type 0
-Step = ℕ × (Ask Envelope Outcome × Reply Envelope Outcome)
+Step = ℕ × (Ask Envelope × Reply Envelope)
 
 -- what an ask leaves of the queue, and of the results
-abbrev pub queue_next : List Envelope → Ask Envelope Outcome → List Envelope
+abbrev pub queue_next : List Envelope → Ask Envelope → List Envelope
 queue_next q take = broker.next q broker.take
-queue_next q (send e) = broker.next q (broker.publish e)
-queue_next q (deliver e) = broker.next q (broker.redeliver e)
+queue_next q (publish e) = broker.next q (broker.publish e)
+queue_next q (redeliver e) = broker.next q (broker.redeliver e)
 queue_next q a = q
 
-abbrev pub results_next : Results → Ask Envelope Outcome → Results
-results_next s (keep t o) = next_of s (results.store t o)
+abbrev pub results_next : Results → Ask Envelope → Results
+results_next s (store t o) = next_of s (results.store t o)
 results_next s (part g t) = next_of s (results.part g t)
 results_next s a = s
 
@@ -72,8 +71,8 @@ abbrev pub holds : List Step → ℕ → Option Envelope
 holds before p = held_after None (by p before)
 
 -- how many of the steps are redeliveries
-abbrev pub redelivers_one : Ask Envelope Outcome → ℕ
-redelivers_one (deliver e) = 1
+abbrev pub redelivers_one : Ask Envelope → ℕ
+redelivers_one (redeliver e) = 1
 redelivers_one a = 0
 
 abbrev pub redeliveries_in : List Step → ℕ
@@ -93,7 +92,7 @@ module _ (l : Line) where
   FirstsRead = Each IsReadBack (first_messages l)
 
 module _ (behaviour : Behaviour) (l : Line) where
-  abbrev pub left : List Step → ℕ → CoreState Content PCarried Outcome
+  abbrev pub left : List Step → ℕ → CoreState Content PCarried
   left before p = left_after (worker behaviour l) taking (scripts_of (by p before))
 
   -- one of the workers 1 to n is inside the script of a message
@@ -104,15 +103,15 @@ module _ (behaviour : Behaviour) (l : Line) where
   abbrev pub holds_more : ℕ → List Step → Bool
   holds_more n before = is_queued (queue_after l before) || some_inside n before
 
-  abbrev pub Answers : ℕ → List Step → Ask Envelope Outcome → Reply Envelope Outcome → Type 0
+  abbrev pub Answers : ℕ → List Step → Ask Envelope → Reply Envelope → Type 0
   Answers n before take (taken x) = x ≡ broker.answer (queue_after l before) broker.take
-  Answers n before (send e) sent = Unit {0}
-  Answers n before (keep t o) (kept b) =
-      b ≡ says_first (first_or ((results_after before).outcomes t))
+  Answers n before (publish e) sent = Unit {0}
+  Answers n before (store t o) (stored b) =
+      b ≡ first_or ((results_after before).outcomes t)
   Answers n before (part g t) (counted m) = m ≡ count_of (roster_of l) (results_after before) g
   Answers n before (read g i) (found t x) =
       (at i (members (roster_of l) g) ≡ Some t) × (x ≡ (results_after before).outcomes t)
-  Answers n before pause (rested m) = m ≡ holds_more n before
+  Answers n before rest (rested m) = m ≡ holds_more n before
   Answers n before ack acked = Unit {0}
   Answers n before a r = ⊥
 
@@ -127,15 +126,15 @@ module _ (behaviour : Behaviour) (l : Line) where
     all_taken : {before : List Step} → Turned n before [] []
     skips_turn : {before : List Step} {p : ℕ} {us : List ℕ} {xs : List Step} → HasEnded before p
         → Turned n before us xs → Turned n before (p ∷ us) xs
-    takes_turn : {before : List Step} {p : ℕ} {a : Ask Envelope Outcome}
-        {r : Reply Envelope Outcome} {us : List ℕ} {xs : List Step}
+    takes_turn : {before : List Step} {p : ℕ} {a : Ask Envelope}
+        {r : Reply Envelope} {us : List ℕ} {xs : List Step}
         → ReadsBack (worker behaviour l) (left before p)
         → a ≡ ask (worker behaviour l) (left before p) → Answers n before a r
         → Turned n (before ++ (p, (a, r)) ∷ []) us xs → Turned n before (p ∷ us) ((p, (a, r)) ∷ xs)
     delivers_again : {before : List Step} {p : ℕ} {e : Envelope} {us : List ℕ} {xs : List Step}
         → IsWorker n p → holds before p ≡ Some e
-        → Turned n (before ++ (p, (deliver e, sent)) ∷ []) us xs
-        → Turned n before us ((p, (deliver e, sent)) ∷ xs)
+        → Turned n (before ++ (p, (redeliver e, sent)) ∷ []) us xs
+        → Turned n before us ((p, (redeliver e, sent)) ∷ xs)
 
   abbrev pub AllEnded : ℕ → List Step → Type 0
   AllEnded n before = (p : ℕ) → IsWorker n p → HasEnded before p

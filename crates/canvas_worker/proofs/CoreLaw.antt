@@ -6,11 +6,14 @@ use Rattle.canvas_semantics.specs.Line.{Line}
 use Rattle.canvas_rewrite.specs.FrozenView.{PCarried}
 use Rattle.canvas_message.specs.Content.{Content, number_of}
 use Rattle.canvas_effects.specs.Effects.{outcome_of, after, body_after, script}
-use Rattle.canvas_effects.specs.Job.{Job, store, publish, hand_in}
+use Rattle.canvas_effects.specs.Job.{Job, hand_in}
 use Rattle.canvas_message.specs.declared.envelope.Envelope.{Envelope}
+use Rattle.canvas_backend.specs.declared.stored.Stored.{Stored}
+use Rattle.canvas_backend.specs.declared.stored.Stored.TheVariants.{First, Again}
 use Rattle.canvas_backend.specs.Roster.{roster_of}
+use Rattle.canvas_effects.specs.Job as job
 use Rattle.canvas_runs.specs.Book.{Book, book_on}
-use Rattle.canvas_runs.specs.Core.{send, keep, read, taken, sent, refused, kept, counted, found, rested, CoreState, taking, resting, over, failed, owning, doing, reading as state_reading, is_due, settled, opens, owned, job_done, ask, answered, ReadsBack, Between, left_after, IsCoreRun, acking, acked}
+use Rattle.canvas_runs.specs.Core.{publish, store, read, taken, sent, refused, stored, counted, found, rested, CoreState, taking, resting, over, failed, owning, doing, reading as state_reading, is_due, settled, opens, owned, job_done, ask, answered, ReadsBack, Between, left_after, IsCoreRun, acking, acked}
 use Rattle.canvas_runs.specs.Protocol.{Protocol}
 use Rattle.canvas_runs.specs.Worker.{worker, opened}
 use Rattle.canvas_worker.specs.Asks.{Asked, Answer}
@@ -28,7 +31,7 @@ module _ (behaviour : Behaviour) (l : Line) where
   Y = worker behaviour l
 
   abbrev Doing : Type 0
-  Doing = CoreState Content PCarried Outcome
+  Doing = CoreState Content PCarried
 
   abbrev Jobs : Type 0
   Jobs = List (Job Content PCarried Outcome)
@@ -38,34 +41,34 @@ module _ (behaviour : Behaviour) (l : Line) where
 
   -- ---- scripts
 
-  settled_alike : (ks : Jobs) (b : Bool) → IsAlike behaviour (settled X (map enclosed ks) b) (settled Y ks b)
+  settled_alike : (ks : Jobs) (b : Stored) → IsAlike behaviour (settled X (map enclosed ks) b) (settled Y ks b)
   settled_alike [] b = tt
-  settled_alike (store t o ∷ ks) true = (refl, refl)
-  settled_alike (store t o ∷ ks) false = (refl, refl)
-  settled_alike (publish c ∷ ks) true = (refl, refl)
-  settled_alike (publish c ∷ ks) false = (refl, refl)
-  settled_alike (hand_in g t c ∷ ks) true = (refl, refl)
-  settled_alike (hand_in g t c ∷ ks) false = tt
+  settled_alike (job.store t o ∷ ks) First = (refl, refl)
+  settled_alike (job.store t o ∷ ks) Again = (refl, refl)
+  settled_alike (job.publish c ∷ ks) First = (refl, refl)
+  settled_alike (job.publish c ∷ ks) Again = (refl, refl)
+  settled_alike (hand_in g t c ∷ ks) First = (refl, refl)
+  settled_alike (hand_in g t c ∷ ks) Again = tt
 
   due_alike : (t : ℕ) (ks : Jobs) → is_due t (map enclosed ks) ≡ is_due t ks
   due_alike t [] = refl
-  due_alike t (store u o ∷ ks) = due_alike t ks
-  due_alike t (publish c ∷ ks) = due_alike t ks
+  due_alike t (job.store u o ∷ ks) = due_alike t ks
+  due_alike t (job.publish c ∷ ks) = due_alike t ks
   due_alike t (hand_in g u c ∷ ks) = refl
 
-  job_alike : (k : Job Content PCarried Outcome) (ks : Jobs) (b : Bool) (r : Answer)
+  job_alike : (k : Job Content PCarried Outcome) (ks : Jobs) (b : Stored) (r : Answer)
       → IsAlike behaviour (job_done X (enclosed k) (map enclosed ks) b r) (job_done Y k ks b r)
-  job_alike (store t o) ks b (kept a) =
+  job_alike (job.store t o) ks b (stored a) =
       subst (λ z. IsAlike behaviour (settled X (map enclosed ks) (cond z a b)) (settled Y ks (cond (is_due t ks) a b))) (sym (due_alike t ks))
       (settled_alike ks (cond (is_due t ks) a b))
-  job_alike (publish c) ks b sent = settled_alike ks b
+  job_alike (job.publish c) ks b sent = settled_alike ks b
   job_alike (hand_in g t c) ks b (counted n) = part_alike (eqb (suc n) c.size)
     where
       part_alike : (z : Bool) → IsAlike behaviour (cond z (state_reading g c []) acking) (cond z (state_reading g c []) acking)
       part_alike true = (refl, (refl, refl))
       part_alike false = tt
-  job_alike (store t o) ks b r = tt
-  job_alike (publish c) ks b r = tt
+  job_alike (job.store t o) ks b r = tt
+  job_alike (job.publish c) ks b r = tt
   job_alike (hand_in g t c) ks b r = tt
 
   -- ---- what was taken
@@ -79,22 +82,22 @@ module _ (behaviour : Behaviour) (l : Line) where
   -- ---- members
 
   read_alike : (g : ℕ) (c : PCarried) (fs : List (ℕ × Outcome)) (z : Bool)
-      → IsAlike behaviour (cond z (settled X (map enclosed (script (body_after c fs))) false) (state_reading g c fs))
-      (cond z (settled Y (script (body_after c fs)) false) (state_reading g c fs))
-  read_alike g c fs true = settled_alike (script (body_after c fs)) false
+      → IsAlike behaviour (cond z (settled X (map enclosed (script (body_after c fs))) Again) (state_reading g c fs))
+      (cond z (settled Y (script (body_after c fs)) Again) (state_reading g c fs))
+  read_alike g c fs true = settled_alike (script (body_after c fs)) Again
   read_alike g c fs false = (refl, (refl, refl))
 
   -- ---- answers
 
-  step_owning : (m : Applied) (c : Content) → said m.envelope ≡ c → m.outcome ≡ outcome_of behaviour c → (a : Bool)
+  step_owning : (m : Applied) (c : Content) → said m.envelope ≡ c → m.outcome ≡ outcome_of behaviour c → (a : Stored)
       → IsAlike behaviour (owned X m a) (owned Y c a)
-  step_owning m c is value true =
-      subst (λ d. IsAlike behaviour (owned X m true) (settled Y (script (after d (outcome_of behaviour c))) true)) is
-      (subst (λ o. IsAlike behaviour (owned X m true) (settled Y (script (after (said m.envelope) o)) true)) value
-      (settled_alike (script (after (said m.envelope) m.outcome)) true))
-  step_owning m c is value false = tt
+  step_owning m c is value First =
+      subst (λ d. IsAlike behaviour (owned X m First) (settled Y (script (after d (outcome_of behaviour c))) First)) is
+      (subst (λ o. IsAlike behaviour (owned X m First) (settled Y (script (after (said m.envelope) o)) First)) value
+      (settled_alike (script (after (said m.envelope) m.outcome)) First))
+  step_owning m c is value Again = tt
 
-  step_doing : (js : List (Job Applied PCarried Outcome)) (b : Bool) (ks : Jobs) (d : Bool) (r : Answer) → js ≡ map enclosed ks → b ≡ d
+  step_doing : (js : List (Job Applied PCarried Outcome)) (b : Stored) (ks : Jobs) (d : Stored) (r : Answer) → js ≡ map enclosed ks → b ≡ d
       → IsAlike behaviour (answered X (doing js b) r) (answered Y (doing ks d) r)
   step_doing js b [] d r is same = subst (λ x. IsAlike behaviour (answered X (doing x b) r) failed) (sym is) tt
   step_doing js b (k ∷ ks) d r is same =
@@ -108,7 +111,7 @@ module _ (behaviour : Behaviour) (l : Line) where
   step_reading g c fs (taken x) = tt
   step_reading g c fs sent = tt
   step_reading g c fs refused = tt
-  step_reading g c fs (kept a) = tt
+  step_reading g c fs (stored a) = tt
   step_reading g c fs (counted n) = tt
   step_reading g c fs (rested a) = tt
   step_reading g c fs acked = tt
@@ -118,7 +121,7 @@ module _ (behaviour : Behaviour) (l : Line) where
   step_taking (taken (Some e)) = opens_alike e (opened book e) refl
   step_taking sent = tt
   step_taking refused = tt
-  step_taking (kept a) = tt
+  step_taking (stored a) = tt
   step_taking (counted n) = tt
   step_taking (found t o) = tt
   step_taking (rested a) = tt
@@ -130,7 +133,7 @@ module _ (behaviour : Behaviour) (l : Line) where
   step_resting (taken x) = tt
   step_resting sent = tt
   step_resting refused = tt
-  step_resting (kept a) = tt
+  step_resting (stored a) = tt
   step_resting (counted n) = tt
   step_resting (found t o) = tt
   step_resting acked = tt
@@ -140,14 +143,14 @@ module _ (behaviour : Behaviour) (l : Line) where
   step_acking (taken x) = tt
   step_acking sent = tt
   step_acking refused = tt
-  step_acking (kept a) = tt
+  step_acking (stored a) = tt
   step_acking (counted n) = tt
   step_acking (found t o) = tt
   step_acking (rested a) = tt
 
   step_own : (m : Applied) (c : Content) (r : Answer) → said m.envelope ≡ c → m.outcome ≡ outcome_of behaviour c
       → IsAlike behaviour (answered X (owning m) r) (answered Y (owning c) r)
-  step_own m c (kept a) is value = step_owning m c is value a
+  step_own m c (stored a) is value = step_owning m c is value a
   step_own m c (taken x) is value = tt
   step_own m c sent is value = tt
   step_own m c refused is value = tt
@@ -172,13 +175,13 @@ module _ (behaviour : Behaviour) (l : Line) where
 
   -- ---- asks
 
-  job_asks : (k : Job Content PCarried Outcome) (ks : Jobs) (b d : Bool) → ReadsBack X (doing (enclosed k ∷ map enclosed ks) b)
+  job_asks : (k : Job Content PCarried Outcome) (ks : Jobs) (b d : Stored) → ReadsBack X (doing (enclosed k ∷ map enclosed ks) b)
       → (ask Y (doing (k ∷ ks) d) ≡ ask X (doing (enclosed k ∷ map enclosed ks) b)) × ReadsBack Y (doing (k ∷ ks) d)
-  job_asks (store t o) ks b d back = (refl, tt)
-  job_asks (publish c) ks b d back = let so = envelope_so c back in (ap (λ e. send e) (sym so.0), so.1)
+  job_asks (job.store t o) ks b d back = (refl, tt)
+  job_asks (job.publish c) ks b d back = let so = envelope_so c back in (ap (λ e. publish e) (sym so.0), so.1)
   job_asks (hand_in g t c) ks b d back = (refl, tt)
 
-  jobs_ask : (js : List (Job Applied PCarried Outcome)) (b : Bool) (ks : Jobs) (d : Bool) → js ≡ map enclosed ks → ReadsBack X (doing js b)
+  jobs_ask : (js : List (Job Applied PCarried Outcome)) (b : Stored) (ks : Jobs) (d : Stored) → js ≡ map enclosed ks → ReadsBack X (doing js b)
       → (ask Y (doing ks d) ≡ ask X (doing js b)) × ReadsBack Y (doing ks d)
   jobs_ask js b [] d is back = subst (λ x. (ask Y (doing [] d) ≡ ask X (doing x b)) × ReadsBack Y (doing [] d)) (sym is) (refl, tt)
   jobs_ask js b (k ∷ ks) d is back =
@@ -191,7 +194,7 @@ module _ (behaviour : Behaviour) (l : Line) where
   asks over over a back = (refl, tt)
   asks failed failed a back = (refl, tt)
   asks acking acking a back = (refl, tt)
-  asks (owning m) (owning c) a back = (ap₂ (λ (d : Content) (o : Outcome). keep (number_of d.own) o) (sym a.0) (sym a.1), tt)
+  asks (owning m) (owning c) a back = (ap₂ (λ (d : Content) (o : Outcome). store (number_of d.own) o) (sym a.0) (sym a.1), tt)
   asks (doing js b) (doing ks d) a back = jobs_ask js b ks d a.0 back
   asks (state_reading g c fs) (state_reading h d gs) a back = (ap₂ (λ x y. read x (length y)) (sym a.0) (sym a.1.1), tt)
   asks s t a back = absurd a

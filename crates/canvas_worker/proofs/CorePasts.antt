@@ -5,13 +5,15 @@ use Rattle.std.proofs.lemmas.Bool.{false≢true}
 use Rattle.canvas_task.specs.Apply.{Behaviour}
 use Rattle.canvas_message.specs.declared.envelope.Envelope.{Envelope}
 use Rattle.canvas_message.specs.Content.{Content}
+use Rattle.canvas_backend.specs.declared.stored.Stored.{Stored}
+use Rattle.canvas_backend.specs.declared.stored.Stored.TheVariants.{First, Again}
 use Rattle.canvas_runs.specs.Worker.{opened}
 use Rattle.canvas_runs.proofs.Turning.{held_append}
 use Rattle.canvas_runs.specs.Calls.{held_by, held_after}
 use Rattle.canvas_effects.specs.Job.{store, publish, hand_in}
 use Rattle.canvas_runs.specs.Book.{Book}
 use Rattle.canvas_runs.specs.Core as C
-use Rattle.canvas_runs.specs.Core.{taking, resting, over, failed, owning, doing, reading, taken, sent, refused, kept, counted, found, rested, answered, left_after, Suits, ReadsBack, IsCoreRun, acking, acked, settled, opens, Jobs, is_due, is_inside}
+use Rattle.canvas_runs.specs.Core.{taking, resting, over, failed, owning, doing, reading, taken, sent, refused, stored, counted, found, rested, answered, left_after, Suits, ReadsBack, IsCoreRun, acking, acked, settled, opens, Jobs, is_due, is_inside}
 use Rattle.canvas_worker.specs.Asks.{Asked, Answer, suits, shown, replied}
 use Rattle.canvas_worker.specs.Asks as asks
 use Rattle.canvas_worker.specs.EnvelopeWorker.{enveloped_by, applied_if}
@@ -24,12 +26,12 @@ use Rattle.canvas_worker.specs.declared.ask.Reply.TheVariants as R
 -- a reply that suits by kind is one that the machine's ask admits
 pub suited : (book : Book) (x : Option ℕ) (a : Asked) (r : Reply) → suits (shown x a) r ≡ true → Suits a (replied r)
 suited book n C.take (R.Taken x) h = tt
-suited book n (C.send e) R.Published h = tt
-suited book n (C.send e) (R.NotPublished f) h = tt
-suited book n (C.keep t o) (R.Stored s) h = tt
+suited book n (C.publish e) R.Published h = tt
+suited book n (C.publish e) (R.NotPublished f) h = tt
+suited book n (C.store t o) (R.Stored s) h = tt
 suited book n (C.part g t) (R.Counted m) h = tt
 suited book n (C.read g i) (R.Found t x) h = tt
-suited book n C.pause (R.Rested more) h = tt
+suited book n C.rest (R.Rested more) h = tt
 suited book n C.ack R.Acked h = tt
 suited book n a r h = absurd cc
 
@@ -53,7 +55,7 @@ pub unsent_answered : (behaviour : Behaviour) (book : Book) (s : Left) (r : Answ
 unsent_answered behaviour book (doing (publish e ∷ js) b) sent = refl
 unsent_answered behaviour book (doing (publish e ∷ js) b) refused = refl
 unsent_answered behaviour book (doing (publish e ∷ js) b) (taken x) = refl
-unsent_answered behaviour book (doing (publish e ∷ js) b) (kept a) = refl
+unsent_answered behaviour book (doing (publish e ∷ js) b) (stored a) = refl
 unsent_answered behaviour book (doing (publish e ∷ js) b) (counted n) = refl
 unsent_answered behaviour book (doing (publish e ∷ js) b) (found t x) = refl
 unsent_answered behaviour book (doing (publish e ∷ js) b) (rested a) = refl
@@ -127,15 +129,15 @@ open_unsent : (s : Left) (h : Option Envelope) → open_of (unsent s) h ≡ open
 open_unsent (doing (publish e ∷ js) b) h = refl
 open_unsent s h = refl
 
-open_settled : (behaviour : Behaviour) (book : Book) (js : Jobs (enveloped_by behaviour book)) (b : Bool) (h : Option Envelope)
+open_settled : (behaviour : Behaviour) (book : Book) (js : Jobs (enveloped_by behaviour book)) (b : Stored) (h : Option Envelope)
     → open_of (settled (enveloped_by behaviour book) js b) h ≡ h
 open_settled behaviour book [] b h = refl
-open_settled behaviour book (store t o ∷ js) true h = refl
-open_settled behaviour book (store t o ∷ js) false h = refl
-open_settled behaviour book (publish e ∷ js) true h = refl
-open_settled behaviour book (publish e ∷ js) false h = refl
-open_settled behaviour book (hand_in g t c ∷ js) true h = refl
-open_settled behaviour book (hand_in g t c ∷ js) false h = refl
+open_settled behaviour book (store t o ∷ js) First h = refl
+open_settled behaviour book (store t o ∷ js) Again h = refl
+open_settled behaviour book (publish e ∷ js) First h = refl
+open_settled behaviour book (publish e ∷ js) Again h = refl
+open_settled behaviour book (hand_in g t c ∷ js) First h = refl
+open_settled behaviour book (hand_in g t c ∷ js) Again h = refl
 
 open_either : (b : Bool) (s t : Left) (h : Option Envelope) → open_of s h ≡ h → open_of t h ≡ h → open_of (cond b s t) h ≡ h
 open_either true s t h i j = i
@@ -152,17 +154,17 @@ book_step behaviour book taking h (taken (Some e)) u = go (opened book e)
     go (Some c) = refl
 book_step behaviour book resting h (rested true) u = refl
 book_step behaviour book resting h (rested false) u = refl
-book_step behaviour book (owning m) h (kept true) u =
-    open_settled behaviour book ((enveloped_by behaviour book).ended m ((enveloped_by behaviour book).outcome m)) true (Some m.envelope)
-book_step behaviour book (owning m) h (kept false) u = refl
-book_step behaviour book (doing (store t o ∷ js) b) h (kept a) u = open_settled behaviour book js (cond (is_due t js) a b) h
+book_step behaviour book (owning m) h (stored First) u =
+    open_settled behaviour book ((enveloped_by behaviour book).ended m ((enveloped_by behaviour book).outcome m)) First (Some m.envelope)
+book_step behaviour book (owning m) h (stored Again) u = refl
+book_step behaviour book (doing (store t o ∷ js) b) h (stored a) u = open_settled behaviour book js (cond (is_due t js) a b) h
 book_step behaviour book (doing (publish e ∷ js) b) h sent u = open_settled behaviour book js b h
 book_step behaviour book (doing (publish e ∷ js) b) h refused u = refl
 book_step behaviour book (doing (hand_in g t c ∷ js) b) h (counted n) u = open_either (eqb (suc n) c.size) (reading g c []) acking h refl refl
 book_step behaviour book (reading g c fs) h (found t (Some o)) u =
     open_either (eqb (length (fs ++ (t, o) ∷ [])) c.size)
-    (settled (enveloped_by behaviour book) ((enveloped_by behaviour book).completed c (fs ++ (t, o) ∷ [])) false) (reading g c (fs ++ (t, o) ∷ [])) h
-    (open_settled behaviour book ((enveloped_by behaviour book).completed c (fs ++ (t, o) ∷ [])) false h) refl
+    (settled (enveloped_by behaviour book) ((enveloped_by behaviour book).completed c (fs ++ (t, o) ∷ [])) Again) (reading g c (fs ++ (t, o) ∷ [])) h
+    (open_settled behaviour book ((enveloped_by behaviour book).completed c (fs ++ (t, o) ∷ [])) Again h) refl
 book_step behaviour book (reading g c fs) h (found t None) u = refl
 book_step behaviour book acking h acked u = refl
 book_step behaviour book s h r u = elim u [ ]
@@ -175,8 +177,8 @@ task_step behaviour book taking h x (taken None) u was i = absurd (false≢true 
 task_step behaviour book taking h x (taken (Some e)) u was i = refl
 task_step behaviour book resting h x (rested true) u was i = absurd (false≢true i)
 task_step behaviour book resting h x (rested false) u was i = absurd (false≢true i)
-task_step behaviour book (owning m) h x (kept b) u was i = was refl
-task_step behaviour book (doing (store t o ∷ js) b) h x (kept a) u was i = was refl
+task_step behaviour book (owning m) h x (stored b) u was i = was refl
+task_step behaviour book (doing (store t o ∷ js) b) h x (stored a) u was i = was refl
 task_step behaviour book (doing (publish e ∷ js) b) h x sent u was i = was refl
 task_step behaviour book (doing (publish e ∷ js) b) h x refused u was i = was refl
 task_step behaviour book (doing (hand_in g t c ∷ js) b) h x (counted n) u was i = was refl

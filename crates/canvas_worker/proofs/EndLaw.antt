@@ -7,10 +7,12 @@ use Rattle.canvas_rewrite.specs.FrozenView.{PCarried}
 use Rattle.canvas_effects.specs.Effects.{body_after, script}
 use Rattle.canvas_effects.specs.Job.{store, publish, hand_in}
 use Rattle.canvas_message.specs.declared.envelope.Envelope.{Envelope}
+use Rattle.canvas_backend.specs.declared.stored.Stored.{Stored}
+use Rattle.canvas_backend.specs.declared.stored.Stored.TheVariants.{First, Again}
 use Rattle.canvas_runs.specs.Book.{Book}
 use Rattle.canvas_runs.specs.Worker.{opened}
 use Rattle.canvas_runs.specs.Core as C
-use Rattle.canvas_runs.specs.Core.{taking, resting, over, failed, owning, doing, reading, taken, sent, refused, kept, counted, found, rested, answered, left_after, settled, opens, Suits, IsCoreRun, acking, acked}
+use Rattle.canvas_runs.specs.Core.{taking, resting, over, failed, owning, doing, reading, taken, sent, refused, stored, counted, found, rested, answered, left_after, settled, opens, Suits, IsCoreRun, acking, acked}
 use Rattle.canvas_worker.specs.Asks.{Asked, Answer, suits, shown}
 use Rattle.canvas_worker.specs.Asks as asks
 use Rattle.canvas_worker.specs.AtEnd.{EndStays, FailingEnds, EndsACore, EndsBehind, FailsBehind}
@@ -61,14 +63,15 @@ failing_ends s = refl
 abbrev GoesOn : Left → Type 0
 GoesOn s = is_end (asked s) ≡ false
 
-settled_on : (behaviour : Behaviour) (book : Book) (js : C.Jobs (enveloped_by behaviour book)) (b : Bool) → GoesOn (settled (enveloped_by behaviour book) js b)
+settled_on : (behaviour : Behaviour) (book : Book) (js : C.Jobs (enveloped_by behaviour book)) (b : Stored)
+    → GoesOn (settled (enveloped_by behaviour book) js b)
 settled_on behaviour book [] b = refl
-settled_on behaviour book (store t o ∷ js) true = refl
-settled_on behaviour book (store t o ∷ js) false = refl
-settled_on behaviour book (publish e ∷ js) true = refl
-settled_on behaviour book (publish e ∷ js) false = refl
-settled_on behaviour book (hand_in g t c ∷ js) true = refl
-settled_on behaviour book (hand_in g t c ∷ js) false = refl
+settled_on behaviour book (store t o ∷ js) First = refl
+settled_on behaviour book (store t o ∷ js) Again = refl
+settled_on behaviour book (publish e ∷ js) First = refl
+settled_on behaviour book (publish e ∷ js) Again = refl
+settled_on behaviour book (hand_in g t c ∷ js) First = refl
+settled_on behaviour book (hand_in g t c ∷ js) Again = refl
 
 opens_on : (behaviour : Behaviour) (book : Book) (x : Option Applied) → GoesOn (opens (enveloped_by behaviour book) x)
 opens_on behaviour book None = refl
@@ -85,8 +88,8 @@ all_read_on : {A : Type 0} (behaviour : Behaviour) (book : Book) (g : ℕ) (c : 
     → is_end (asked (C.all_read (enveloped_by behaviour book) g c fs)) ≡ true → A
 all_read_on behaviour book g c fs h =
     no_end (C.all_read (enveloped_by behaviour book) g c fs)
-    (either_on (eqb (length fs) c.size) (settled (enveloped_by behaviour book) (map enveloping.enclosed (script (body_after c fs))) false) (reading g c fs)
-    (settled_on behaviour book (map enveloping.enclosed (script (body_after c fs))) false) refl)
+    (either_on (eqb (length fs) c.size) (settled (enveloped_by behaviour book) (map enveloping.enclosed (script (body_after c fs))) Again) (reading g c fs)
+    (settled_on behaviour book (map enveloping.enclosed (script (body_after c fs))) Again) refl)
     h
 
 ends_by : (behaviour : Behaviour) (book : Book) (s : Left) (r : Answer) → GoesOn s → Suits (asked s) r
@@ -97,10 +100,10 @@ ends_by behaviour book resting (rested true) on suit h = no_end taking refl h
 ends_by behaviour book resting (rested false) on suit h = tt
 ends_by behaviour book over r on suit h = absurd (true≢false on)
 ends_by behaviour book failed r on suit h = absurd (true≢false on)
-ends_by behaviour book (owning e) (kept true) on suit h = no_end _ (settled_on behaviour book _ true) h
-ends_by behaviour book (owning e) (kept false) on suit h = no_end acking refl h
+ends_by behaviour book (owning e) (stored First) on suit h = no_end _ (settled_on behaviour book _ First) h
+ends_by behaviour book (owning e) (stored Again) on suit h = no_end acking refl h
 ends_by behaviour book (doing [] b) r on suit h = absurd (true≢false on)
-ends_by behaviour book (doing (store t o ∷ js) b) (kept a) on suit h = no_end _ (settled_on behaviour book js _) h
+ends_by behaviour book (doing (store t o ∷ js) b) (stored a) on suit h = no_end _ (settled_on behaviour book js _) h
 ends_by behaviour book (doing (publish e ∷ js) b) sent on suit h = no_end _ (settled_on behaviour book js b) h
 ends_by behaviour book (doing (publish e ∷ js) b) refused on suit h = tt
 ends_by behaviour book (doing (hand_in g t c ∷ js) b) (counted n) on suit h = no_end _ (either_on _ (reading g c []) acking refl refl) h
@@ -155,7 +158,7 @@ ends_behind behaviour book xs s leads h =
 -- ---- what fails
 
 abbrev is_pause : Asked → Bool
-is_pause C.pause = true
+is_pause C.rest = true
 is_pause a = false
 
 abbrev is_failed : Left → Bool
@@ -163,7 +166,7 @@ is_failed failed = true
 is_failed s = false
 
 -- a core that asks for a rest is resting
-pausing : (s : Left) → asked s ≡ C.pause → s ≡ resting
+pausing : (s : Left) → asked s ≡ C.rest → s ≡ resting
 pausing taking h = absurd (true≢false (sym (ap is_pause h)))
 pausing resting h = refl
 pausing over h = absurd (true≢false (sym (ap is_pause h)))
@@ -192,20 +195,20 @@ failed_so s false = refl
 
 -- behind a rest that was answered with no more it hasn't failed
 over_then : (behaviour : Behaviour) (book : Book) (ys : List (Asked × Answer))
-    → IsCoreRun (enveloped_by behaviour book) taking (ys ++ (C.pause, rested false) ∷ [])
-    → is_failed (left_by behaviour book (ys ++ (C.pause, rested false) ∷ [])) ≡ false
+    → IsCoreRun (enveloped_by behaviour book) taking (ys ++ (C.rest, rested false) ∷ [])
+    → is_failed (left_by behaviour book (ys ++ (C.rest, rested false) ∷ [])) ≡ false
 over_then behaviour book ys run =
-    ap is_failed (left_one_more behaviour book taking ys (C.pause, rested false)
+    ap is_failed (left_one_more behaviour book taking ys (C.rest, rested false)
     ∙ ap (λ u. answered (enveloped_by behaviour book) u (rested false))
-    (pausing (left_by behaviour book ys) (sym (last_asked behaviour book taking ys (C.pause, rested false) run))))
+    (pausing (left_by behaviour book ys) (sym (last_asked behaviour book taking ys (C.rest, rested false) run))))
 
 which : (behaviour : Behaviour) (book : Book) (xs ys : List (Asked × Answer)) (a : Asked) (r : Answer) → IsCoreRun (enveloped_by behaviour book) taking xs
     → is_failed (left_by behaviour book xs) ≡ true → xs ≡ ys ++ (a, r) ∷ [] → EndsACore a r
-    → (zs : List (Asked × Answer)) × (e : Envelope) × (xs ≡ zs ++ (C.send e, refused) ∷ [])
-which behaviour book xs ys C.pause (rested false) run fails same by =
+    → (zs : List (Asked × Answer)) × (e : Envelope) × (xs ≡ zs ++ (C.publish e, refused) ∷ [])
+which behaviour book xs ys C.rest (rested false) run fails same by =
     absurd (true≢false (sym fails ∙ ap (λ zs. is_failed (left_by behaviour book zs)) same
     ∙ over_then behaviour book ys (subst (λ zs. IsCoreRun (enveloped_by behaviour book) taking zs) same run)))
-which behaviour book xs ys (C.send e) refused run fails same by = (ys, e, same)
+which behaviour book xs ys (C.publish e) refused run fails same by = (ys, e, same)
 which behaviour book xs ys a r run fails same by = absurd by
 
 pub fails_behind : FailsBehind

@@ -1,5 +1,5 @@
 -- Why a worker ends.
-use Rattle.std.proofs.Common.{◌≡◌, Option, Some, Result, Ok, Err, sym, subst}
+use Rattle.std.proofs.Common.{◌≡◌, Option, Result, sym, subst}
 use Rattle.std.specs.Prelude.{IfErr}
 use Rattle.canvas_worker.specs.Polls.{Work, EndsFor, Leaves}
 use Rattle.canvas_worker.specs.declared.ask.Ask.{Ask}

@@ -2,7 +2,6 @@
 use Rattle.std.proofs.Common.{◌≡◌, ◌∙◌, List, [], ◌∷◌, refl, sym, subst, arith}
 use Rattle.std.proofs.lemmas.Bool.{false≢true}
 use Rattle.canvas_task.specs.Apply.{Behaviour}
-use Rattle.canvas_task.specs.declared.outcome.Outcome.{Outcome}
 use Rattle.canvas_semantics.specs.Line.{Line}
 use Rattle.canvas_rewrite.specs.FrozenView.{PCarried}
 use Rattle.canvas_message.specs.Content.{Content}
@@ -20,18 +19,18 @@ use Rattle.canvas_worker.specs.CoreState.{Left}
 use Rattle.canvas_worker.proofs.CoreLaw.{cores_are_workers}
 
 -- over together
-over_alike : (behaviour : Behaviour) (t : CoreState Content PCarried Outcome) → IsAlike behaviour over t → t ≡ over
+over_alike : (behaviour : Behaviour) (t : CoreState Content PCarried) → IsAlike behaviour over t → t ≡ over
 over_alike behaviour over a = refl
 over_alike behaviour t a = absurd a
 
 -- a worker needs no first messages
 module _ (behaviour : Behaviour) (l : Line) where
-  run_same : (s : CoreState Content PCarried Outcome) (xs : List (Asked × Answer)) → IsCoreRun (worker behaviour l) s xs
+  run_same : (s : CoreState Content PCarried) (xs : List (Asked × Answer)) → IsCoreRun (worker behaviour l) s xs
       → IsCoreRun (worker_of behaviour (roster_of l)) s xs
   run_same s [] r = tt
   run_same s (x ∷ xs) r = (r.0, r.1, run_same (answered (worker_of behaviour (roster_of l)) s x.1) xs r.2)
 
-  left_same : (s : CoreState Content PCarried Outcome) (xs : List (Asked × Answer))
+  left_same : (s : CoreState Content PCarried) (xs : List (Asked × Answer))
       → left_after (worker behaviour l) s xs ≡ left_after (worker_of behaviour (roster_of l)) s xs
   left_same s [] = refl
   left_same s (x ∷ xs) = left_same (answered (worker_of behaviour (roster_of l)) s x.1) xs

@@ -58,7 +58,7 @@ pub call_can : (a : Asked) (r : Answer) (h : Option Envelope) (es : List Envelop
     → Each (CanDeliver p) (in_hand h es) → Each (CanDeliver q) (in_hand (held_by h a r) es)
 call_can C.take (C.taken (Some e)) h es p q m c =
     subst (λ z. Each (CanDeliver z) (e ∷ es)) (sym m.2) (taken_can p m.0 e m.1, all_still p m.0 broker.take (Some e) m.1 es (but_open p h es c))
-call_can (C.send e) C.sent h es p q m c =
+call_can (C.publish e) C.sent h es p q m c =
     subst (λ z. Each (CanDeliver z) (in_hand h es)) (sym m.2) (all_still p m.0 (broker.publish e) None m.1 (in_hand h es) c)
 call_can C.ack C.acked h es p q m c = subst (λ z. Each (CanDeliver z) es) (sym m) (but_open p h es c)
 call_can a r h es p q m c = subst (λ z. Each (CanDeliver z) (in_hand h es)) (sym m) c
@@ -72,8 +72,8 @@ module _ (behaviour : Behaviour) (plan : Roster) where
   has_open C.taking h (C.taken (Some e)) u has i = refl
   has_open C.resting h (C.rested true) u has i = absurd (false≢true i)
   has_open C.resting h (C.rested false) u has i = absurd (false≢true i)
-  has_open (C.owning m) h (C.kept b) u has i = refl
-  has_open (C.doing (store t o ∷ js) b) h (C.kept a) u has i = has refl
+  has_open (C.owning m) h (C.stored b) u has i = refl
+  has_open (C.doing (store t o ∷ js) b) h (C.stored a) u has i = has refl
   has_open (C.doing (publish e ∷ js) b) h C.sent u has i = has refl
   has_open (C.doing (publish e ∷ js) b) h C.refused u has i = has refl
   has_open (C.doing (hand_in g t c ∷ js) b) h (C.counted n) u has i = has refl

@@ -22,21 +22,21 @@ use Rattle.canvas_runs.proofs.Words.{each_append, in_left, in_right}
 use Rattle.canvas_worker.specs.SeatRights.{Carries}
 
 -- a store of the task is among the jobs
-abbrev pub Stored : Jobs → ℕ → Type 0
-Stored js d = (o : Outcome) × In (store d o) js
+abbrev pub StoredIn : Jobs → ℕ → Type 0
+StoredIn js d = (o : Outcome) × In (store d o) js
 
 -- or the task is k
 abbrev pub Behind : ℕ → Jobs → ℕ → Type 0
-Behind k js d = (d ≡ k) ⊎ Stored js d
+Behind k js d = (d ≡ k) ⊎ StoredIn js d
 
-stored_here : (n : ℕ) (o : Outcome) (js : Jobs) (d : ℕ) → Behind n js d → Stored (store n o ∷ js) d
+stored_here : (n : ℕ) (o : Outcome) (js : Jobs) (d : ℕ) → Behind n js d → StoredIn (store n o ∷ js) d
 stored_here n o js d (inl e) = (o, inl (ap (λ y. store y o) e))
 stored_here n o js d (inr s) = (s.0, inr s.1)
 
-stored_left : (js ks : Jobs) (d : ℕ) → Stored js d → Stored (js ++ ks) d
+stored_left : (js ks : Jobs) (d : ℕ) → StoredIn js d → StoredIn (js ++ ks) d
 stored_left js ks d s = (s.0, in_left js ks (store d s.0) s.1)
 
-stored_right : (js ks : Jobs) (d : ℕ) → Stored ks d → Stored (js ++ ks) d
+stored_right : (js ks : Jobs) (d : ℕ) → StoredIn ks d → StoredIn (js ++ ks) d
 stored_right js ks d s = (s.0, in_right js ks (store d s.0) s.1)
 
 -- what the end of a message's task does, and what completes a header, in file order
@@ -122,7 +122,7 @@ module _ (plan : Roster) where
       let first = and_parts (is_member plan g k) (has_size n (size plan g)) parts.0 in
       ((first.0, (first.1, parts.1), inl refl), tt)
 
-  empty_known : (ms : PLines) (js : Jobs) → Each (Known (Stored js)) js → Each (Known (Stored (when_empty ms js))) (when_empty ms js)
+  empty_known : (ms : PLines) (js : Jobs) → Each (Known (StoredIn js)) js → Each (Known (StoredIn (when_empty ms js))) (when_empty ms js)
   empty_known no_p_lines js h = h
   empty_known (and_p_line m ms) js h = tt
 
@@ -135,17 +135,17 @@ module _ (plan : Roster) where
     known_more Q R (hand_in g t c ∷ js) f h =
         ((h.0.0, h.0.1, f t (λ e. true≢false (sym h.0.0 ∙ (ap (is_member plan g) e ∙ none g))) h.0.2), known_more Q R js f h.1)
 
-    both_known : (js ks : Jobs) → Each (Known (Stored js)) js → Each (Known (Stored ks)) ks → Each (Known (Stored (js ++ ks))) (js ++ ks)
+    both_known : (js ks : Jobs) → Each (Known (StoredIn js)) js → Each (Known (StoredIn ks)) ks → Each (Known (StoredIn (js ++ ks))) (js ++ ks)
     both_known js ks a b =
-        each_append (Known (Stored (js ++ ks))) js ks (known_more (Stored js) (Stored (js ++ ks)) js (λ d z s. stored_left js ks d s) a)
-        (known_more (Stored ks) (Stored (js ++ ks)) ks (λ d z s. stored_right js ks d s) b)
+        each_append (Known (StoredIn (js ++ ks))) js ks (known_more (StoredIn js) (StoredIn (js ++ ks)) js (λ d z s. stored_left js ks d s) a)
+        (known_more (StoredIn ks) (StoredIn (js ++ ks)) ks (λ d z s. stored_right js ks d s) b)
 
     -- where no task is behind a line
-    alone_known : (js : Jobs) → Each (Known (Behind 0 js)) js → Each (Known (Stored js)) js
-    alone_known js h = known_more (Behind 0 js) (Stored js) js (λ d z s. ⊎_elim (λ e. absurd (z e)) (λ y. y) s) h
+    alone_known : (js : Jobs) → Each (Known (Behind 0 js)) js → Each (Known (StoredIn js)) js
+    alone_known js h = known_more (Behind 0 js) (StoredIn js) js (λ d z s. ⊎_elim (λ e. absurd (z e)) (λ y. y) s) h
 
-    any_known : (k : ℕ) (js : Jobs) → Each (Known (Stored js)) js → Each (Known (Behind k js)) js
-    any_known k js h = known_more (Stored js) (Behind k js) js (λ d z s. inr s) h
+    any_known : (k : ℕ) (js : Jobs) → Each (Known (StoredIn js)) js → Each (Known (Behind k js)) js
+    any_known k js h = known_more (StoredIn js) (Behind k js) js (λ d z s. inr s) h
 
     -- after jobs that return no part
     after_known : (k n : ℕ) (o : Outcome) (cs js : Jobs) → Each (Known (Behind k (store n o ∷ (cs ++ js)))) cs → Each (Known (Behind n js)) js
@@ -200,7 +200,7 @@ module _ (plan : Roster) where
 
       all_known : (g : ℕ) (ms : PLines) (x : LineFlow) (p : PPlace) (u : Option ℕ) → members_known book g ms ≡ true
           → ((n : ℕ) → is_member plan g n ≡ true → place_known book n p ≡ true)
-          → Each (Known (Stored (enter_all ms x p u))) (enter_all ms x p u)
+          → Each (Known (StoredIn (enter_all ms x p u))) (enter_all ms x p u)
       all_known g no_p_lines x p u h f = tt
       all_known g (and_p_line m ms) x p u h f =
           let parts = and_parts (is_member plan g (last_task 0 m) && line_known book m) (members_known book g ms) h in
@@ -221,5 +221,5 @@ module _ (plan : Roster) where
         (known_more (Behind k ks) (Behind k (js ++ ks)) ks (λ d z s. ⊎_elim (λ e. inl e) (λ y. inr (stored_right js ks d y)) s)
         (enter_known c.rest (after_outcome o) (end_place (line c)) k (Some k) rest (end_known (line c) 0 whole)))
 
-    pub body_known : (c : PCarried) (es : List (ℕ × Outcome)) → line_known book c.body ≡ true → Each (Known (Stored (body_jobs c es))) (body_jobs c es)
+    pub body_known : (c : PCarried) (es : List (ℕ × Outcome)) → line_known book c.body ≡ true → Each (Known (StoredIn (body_jobs c es))) (body_jobs c es)
     body_known c es h = alone_known (body_jobs c es) (enter_known c.body (header_flow es) (end_place c.body) 0 None h (end_known c.body 0 h))

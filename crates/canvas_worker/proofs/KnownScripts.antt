@@ -8,6 +8,8 @@ use Rattle.canvas_effects.specs.Effects.{Jobs, Part, stores_in, part_in, part_jo
 use Rattle.canvas_message.specs.Among.{In}
 use Rattle.canvas_effects.specs.Job.{store, publish, hand_in}
 use Rattle.canvas_effects.specs.Ordered.{put, in_order}
+use Rattle.canvas_backend.specs.declared.stored.Stored.{Stored}
+use Rattle.canvas_backend.specs.declared.stored.Stored.TheVariants.{First}
 use Rattle.canvas_backend.specs.Backend.{MayReturn}
 use Rattle.canvas_backend.specs.Roster.{Roster, is_member}
 use Rattle.canvas_runs.specs.Core.{is_due}
@@ -16,7 +18,7 @@ use Rattle.canvas_runs.specs.Lists.{Each, firsts}
 use Rattle.canvas_worker.specs.EnvelopeWorker.{enclosed}
 use Rattle.canvas_worker.specs.Scripts as scripts
 use Rattle.canvas_worker.specs.SeatRights.{Carries, InPlan, MayHandIn}
-use Rattle.canvas_worker.proofs.KnownJobs.{Known, Stored}
+use Rattle.canvas_worker.proofs.KnownJobs.{Known, StoredIn}
 
 abbrev Stores : Type 0
 Stores = List (ℕ × Outcome)
@@ -59,7 +61,7 @@ in_sorted d (x ∷ xs) (inr i) = in_put d x (sorted xs) (inr (in_sorted d xs i))
 
 -- ---- stores and parts of jobs
 
-stored_in : (d : ℕ) (js : Jobs) → Stored js d → In d (firsts (stores_in js))
+stored_in : (d : ℕ) (js : Jobs) → StoredIn js d → In d (firsts (stores_in js))
 stored_in d [] s = elim s.1 [ ]
 stored_in d (store t w ∷ js) (o, inl e) = inl cc
 stored_in d (store t w ∷ js) (o, inr i) = inr (stored_in d js (o, i))
@@ -105,29 +107,29 @@ module _ (plan : Roster) where
   sent_due t (e ∷ es) ms p = sent_due t es ms p
 
   -- the part's task is stored before, or its part may be returned
-  abbrev PartMay : Seat → Bool → Stores → Option Part → Type 0
+  abbrev PartMay : Seat → Stored → Stores → Option Part → Type 0
   PartMay s b es None = Unit {0}
-  PartMay s b es (Some p) = In p.task (firsts es) ⊎ (b ≡ true → MayReturn plan s.seen s.name p.task)
+  PartMay s b es (Some p) = In p.task (firsts es) ⊎ (b ≡ First → MayReturn plan s.seen s.name p.task)
 
-  not_in : (s : Seat) (b : Bool) (p : Part) → PartMay s b [] (Some p) → b ≡ true → MayReturn plan s.seen s.name p.task
+  not_in : (s : Seat) (b : Stored) (p : Part) → PartMay s b [] (Some p) → b ≡ First → MayReturn plan s.seen s.name p.task
   not_in s b p (inl i) e = elim i [ ]
   not_in s b p (inr f) e = f e
 
-  fewer : (s : Seat) (b : Bool) (e : ℕ × Outcome) (es : Stores) (ms : List Content) (o : Option Part) → PartMay s b (e ∷ es) o
+  fewer : (s : Seat) (b : Stored) (e : ℕ × Outcome) (es : Stores) (ms : List Content) (o : Option Part) → PartMay s b (e ∷ es) o
       → is_due e.0 (sent es ms o) ≡ false → PartMay s b es o
   fewer s b e es ms None h n = tt
   fewer s b e es ms (Some p) (inl (inl same)) n = absurd (true≢false (sym (eq-eqb e.0 p.task (sym same)) ∙ (sym (sent_due e.0 es ms p) ∙ n)))
   fewer s b e es ms (Some p) (inl (inr i)) n = inl i
   fewer s b e es ms (Some p) (inr f) n = inr f
 
-  sent_may : (s : Seat) (b : Bool) (es : Stores) (ms : List Content) (o : Option Part) → PartMay s b es o → MayHandIn plan s b (sent es ms o)
+  sent_may : (s : Seat) (b : Stored) (es : Stores) (ms : List Content) (o : Option Part) → PartMay s b es o → MayHandIn plan s b (sent es ms o)
   sent_may s b [] [] None h = tt
   sent_may s b [] [] (Some p) h = not_in s b p h
   sent_may s b [] (m ∷ ms) o h = sent_may s b [] ms o h
   sent_may s b (e ∷ es) ms o h = λ n. sent_may s b es ms o (fewer s b e es ms o h n)
 
-  part_may : (s : Seat) (b : Bool) (Q : ℕ → Type 0) (es : Stores) (o : Option Part)
-      → ((d : ℕ) → Q d → In d (firsts es) ⊎ (b ≡ true → MayReturn plan s.seen s.name d)) → PartKnown Q o → PartMay s b es o
+  part_may : (s : Seat) (b : Stored) (Q : ℕ → Type 0) (es : Stores) (o : Option Part)
+      → ((d : ℕ) → Q d → In d (firsts es) ⊎ (b ≡ First → MayReturn plan s.seen s.name d)) → PartKnown Q o → PartMay s b es o
   part_may s b Q es None f h = tt
   part_may s b Q es (Some p) f h = f p.task h.2
 
@@ -135,7 +137,7 @@ module _ (plan : Roster) where
   script_known Q js h =
       sent_known Q (sorted (stores_in js)) (effect_of js).messages (part_in js) (each_sorted IsTask (stores_in js) (tasks_in Q js h)) (part_in_known Q js h)
 
-  pub script_may : (s : Seat) (b : Bool) (Q : ℕ → Type 0) (js : Jobs) → ((d : ℕ) → Q d → Stored js d ⊎ (b ≡ true → MayReturn plan s.seen s.name d))
+  pub script_may : (s : Seat) (b : Stored) (Q : ℕ → Type 0) (js : Jobs) → ((d : ℕ) → Q d → StoredIn js d ⊎ (b ≡ First → MayReturn plan s.seen s.name d))
       → Each (Known plan Q) js
       → MayHandIn plan s b (map enclosed (script (effect_of js)))
   script_may s b Q js f h =

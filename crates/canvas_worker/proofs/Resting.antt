@@ -5,9 +5,11 @@ use Rattle.canvas_task.specs.declared.outcome.Outcome.{Outcome}
 use Rattle.canvas_rewrite.specs.FrozenView.{PCarried}
 use Rattle.canvas_effects.specs.Job.{Job, store, publish, hand_in}
 use Rattle.canvas_message.specs.declared.envelope.Envelope.{Envelope}
+use Rattle.canvas_backend.specs.declared.stored.Stored.{Stored}
+use Rattle.canvas_backend.specs.declared.stored.Stored.TheVariants.{First, Again}
 use Rattle.canvas_backend.specs.Roster.{Roster}
 use Rattle.canvas_runs.specs.Core as C
-use Rattle.canvas_runs.specs.Core.{taken, sent, kept, counted, found, rested, taking, resting, over, failed, owning, doing, reading, settled, opens, owned, job_done, answered, acking, acked}
+use Rattle.canvas_runs.specs.Core.{taken, sent, stored, counted, found, rested, taking, resting, over, failed, owning, doing, reading, settled, opens, owned, job_done, answered, acking, acked}
 use Rattle.canvas_runs.specs.Protocol.{Protocol}
 use Rattle.canvas_worker.specs.Asks.{Asked, Answer}
 use Rattle.canvas_worker.specs.EnvelopeWorker.{Applied, enveloped}
@@ -25,33 +27,33 @@ module _ (behaviour : Behaviour) (plan : Roster) where
   abbrev Jobs : Type 0
   Jobs = List (Job Applied PCarried Outcome)
 
-  settled_never : (js : Jobs) (b : Bool) → settled X js b ≡ resting → ⊥
+  settled_never : (js : Jobs) (b : Stored) → settled X js b ≡ resting → ⊥
   settled_never [] b e = cc
-  settled_never (store t o ∷ js) true e = cc
-  settled_never (store t o ∷ js) false e = cc
-  settled_never (publish m ∷ js) true e = cc
-  settled_never (publish m ∷ js) false e = cc
-  settled_never (hand_in g t c ∷ js) true e = cc
-  settled_never (hand_in g t c ∷ js) false e = cc
+  settled_never (store t o ∷ js) First e = cc
+  settled_never (store t o ∷ js) Again e = cc
+  settled_never (publish m ∷ js) First e = cc
+  settled_never (publish m ∷ js) Again e = cc
+  settled_never (hand_in g t c ∷ js) First e = cc
+  settled_never (hand_in g t c ∷ js) Again e = cc
 
   opens_never : (o : Option Applied) → opens X o ≡ resting → ⊥
   opens_never None e = cc
   opens_never (Some m) e = cc
 
-  owned_never : (m : Applied) (a : Bool) → owned X m a ≡ resting → ⊥
-  owned_never m true e = settled_never (X.ended m (X.outcome m)) true e
-  owned_never m false e = cc
+  owned_never : (m : Applied) (a : Stored) → owned X m a ≡ resting → ⊥
+  owned_never m First e = settled_never (X.ended m (X.outcome m)) First e
+  owned_never m Again e = cc
 
   counted_never : (g : ℕ) (c : PCarried) (z : Bool) → ◌≡◌ {A = Left} (cond z (reading g c []) acking) resting → ⊥
   counted_never g c true e = cc
   counted_never g c false e = cc
 
-  read_never : (g : ℕ) (c : PCarried) (fs : List (ℕ × Outcome)) (z : Bool) → cond z (settled X (X.completed c fs) false) (reading g c fs) ≡ resting → ⊥
-  read_never g c fs true e = settled_never (X.completed c fs) false e
+  read_never : (g : ℕ) (c : PCarried) (fs : List (ℕ × Outcome)) (z : Bool) → cond z (settled X (X.completed c fs) Again) (reading g c fs) ≡ resting → ⊥
+  read_never g c fs true e = settled_never (X.completed c fs) Again e
   read_never g c fs false e = cc
 
-  job_never : (j : Job Applied PCarried Outcome) (js : Jobs) (b : Bool) (r : Answer) → job_done X j js b r ≡ resting → ⊥
-  job_never (store t o) js b (kept a) e = settled_never js (cond (C.is_due t js) a b) e
+  job_never : (j : Job Applied PCarried Outcome) (js : Jobs) (b : Stored) (r : Answer) → job_done X j js b r ≡ resting → ⊥
+  job_never (store t o) js b (stored a) e = settled_never js (cond (C.is_due t js) a b) e
   job_never (publish m) js b sent e = settled_never js b e
   job_never (hand_in g t c) js b (counted n) e = counted_never g c (eqb (suc n) (X.size c)) e
   job_never j js b r e = cc
@@ -66,7 +68,7 @@ module _ (behaviour : Behaviour) (plan : Roster) where
   never_rests resting r not e = cc
   never_rests over r not e = cc
   never_rests failed r not e = cc
-  never_rests (owning m) (kept a) not e = owned_never m a e
+  never_rests (owning m) (stored a) not e = owned_never m a e
   never_rests (owning m) r not e = cc
   never_rests (doing [] b) r not e = cc
   never_rests (doing (j ∷ js) b) r not e = job_never j js b r e

@@ -14,14 +14,16 @@ use Rattle.canvas_message.specs.Content.{Content, number_of}
 use Rattle.canvas_effects.specs.Effects.{after, body_after, script}
 use Rattle.canvas_effects.specs.Job.{store, publish, hand_in}
 use Rattle.canvas_message.specs.declared.envelope.Envelope.{Envelope}
+use Rattle.canvas_backend.specs.declared.stored.Stored.{Stored}
+use Rattle.canvas_backend.specs.declared.stored.Stored.TheVariants.{First, Again}
 use Rattle.canvas_backend.specs.Backend as results
 use Rattle.canvas_backend.specs.Backend.{TableCall, TableReply, IsCall, MayReturn}
 use Rattle.canvas_backend.specs.Roster.{Roster, roster_of, members, is_chord, is_member}
 use Rattle.canvas_backend.proofs.HistoryLaws.{first_may, still_may}
 use Rattle.canvas_runs.specs.Book.{book_on, has_size, line_known, message_known}
-use Rattle.canvas_runs.specs.Calls.{stored, backend_call}
-use Rattle.canvas_runs.specs.Core.{taken, sent, kept, counted, found, rested, taking, resting, over, failed, owning, doing, reading, is_due, settled, opens, answered, acking, acked}
-use Rattle.canvas_runs.specs.Following.{Seat, Serves, table_reply}
+use Rattle.canvas_runs.specs.Calls.{backend_call}
+use Rattle.canvas_runs.specs.Core.{taken, sent, stored, counted, found, rested, taking, resting, over, failed, owning, doing, reading, is_due, settled, opens, answered, acking, acked}
+use Rattle.canvas_runs.specs.Following.{Seat, Serves}
 use Rattle.canvas_runs.specs.Worker.{opened}
 use Rattle.canvas_worker.specs.Asks.{Answer}
 use Rattle.canvas_worker.specs.EnvelopeWorker.{said, enclosed, enveloped, applied_if as kept_envelope, no_tasks}
@@ -29,7 +31,7 @@ use Rattle.canvas_worker.specs.Scripts.{EnvelopeJobs}
 use Rattle.canvas_worker.specs.SeatRights.{Carries, InPlan, MayHandIn, Can, LetsAsk, CanAsk, CanGoOn}
 use Rattle.canvas_worker.specs.CoreState.{Left, asked}
 use Rattle.canvas_worker.proofs.Books.{no_member_zero}
-use Rattle.canvas_worker.proofs.KnownJobs.{Stored, Behind, own_known, ended_jobs, body_jobs, ended_known, body_known}
+use Rattle.canvas_worker.proofs.KnownJobs.{StoredIn, Behind, own_known, ended_jobs, body_jobs, ended_known, body_known}
 use Rattle.canvas_worker.proofs.KnownScripts.{script_known, script_may}
 use Rattle.canvas_worker.proofs.Opening.{opened_as}
 use Rattle.canvas_worker.proofs.Sendable.{said_of}
@@ -41,20 +43,20 @@ module _ (plan : Roster) where
   abbrev Keeps : Seat → Seat → Type 0
   Keeps s t = (d : ℕ) → MayReturn plan s.seen s.name d → MayReturn plan t.seen t.name d
 
-  still_in : (s t : Seat) (b : Bool) (js : EnvelopeJobs) → Keeps s t → MayHandIn plan s b js → MayHandIn plan t b js
+  still_in : (s t : Seat) (b : Stored) (js : EnvelopeJobs) → Keeps s t → MayHandIn plan s b js → MayHandIn plan t b js
   still_in s t b [] k h = tt
   still_in s t b (store d o ∷ js) k h = λ n. still_in s t b js k (h n)
   still_in s t b (publish e ∷ js) k h = still_in s t b js k h
   still_in s t b (hand_in g d c ∷ js) k h = λ e. k d (h e)
 
   -- the store of the task whose part is due
-  due_in : (s : Seat) (d : ℕ) (b : Bool) (js : EnvelopeJobs) → is_due d js ≡ true → (b ≡ true → MayReturn plan s.seen s.name d) → MayHandIn plan s b js
+  due_in : (s : Seat) (d : ℕ) (b : Stored) (js : EnvelopeJobs) → is_due d js ≡ true → (b ≡ First → MayReturn plan s.seen s.name d) → MayHandIn plan s b js
   due_in s d b [] e m = tt
   due_in s d b (store u o ∷ js) e m = λ n. due_in s d b js e m
   due_in s d b (publish x ∷ js) e m = due_in s d b js e m
-  due_in s d b (hand_in g u c ∷ js) e m = subst (λ z. b ≡ true → MayReturn plan s.seen s.name z) (eqb-true d u e) m
+  due_in s d b (hand_in g u c ∷ js) e m = subst (λ z. b ≡ First → MayReturn plan s.seen s.name z) (eqb-true d u e) m
 
-  store_in : (s t : Seat) (d : ℕ) (a b : Bool) (js : EnvelopeJobs) → Keeps s t → (a ≡ true → MayReturn plan t.seen t.name d)
+  store_in : (s t : Seat) (d : ℕ) (a b : Stored) (js : EnvelopeJobs) → Keeps s t → (a ≡ First → MayReturn plan t.seen t.name d)
       → (is_due d js ≡ false → MayHandIn plan s b js) → MayHandIn plan t (cond (is_due d js) a b) js
   store_in s t d a b js k m h = go (is_due d js) refl
     where
@@ -62,25 +64,25 @@ module _ (plan : Roster) where
       go true e = due_in t d a js e m
       go false e = still_in s t b js k (h e)
 
-  settled_can : (behaviour : Behaviour) (s : Seat) (b : Bool) (js : EnvelopeJobs) → InPlan plan js → MayHandIn plan s b js
+  settled_can : (behaviour : Behaviour) (s : Seat) (b : Stored) (js : EnvelopeJobs) → InPlan plan js → MayHandIn plan s b js
       → Can plan s (settled (enveloped behaviour plan) js b)
   settled_can behaviour s b [] i m = tt
-  settled_can behaviour s true (store t o ∷ js) i m = (i, m, tt)
-  settled_can behaviour s false (store t o ∷ js) i m = (i, m, tt)
-  settled_can behaviour s true (publish e ∷ js) i m = (i, m, tt)
-  settled_can behaviour s false (publish e ∷ js) i m = (i, m, tt)
-  settled_can behaviour s true (hand_in g t c ∷ js) i m = (i, m, refl)
-  settled_can behaviour s false (hand_in g t c ∷ js) i m = tt
+  settled_can behaviour s First (store t o ∷ js) i m = (i, m, tt)
+  settled_can behaviour s Again (store t o ∷ js) i m = (i, m, tt)
+  settled_can behaviour s First (publish e ∷ js) i m = (i, m, tt)
+  settled_can behaviour s Again (publish e ∷ js) i m = (i, m, tt)
+  settled_can behaviour s First (hand_in g t c ∷ js) i m = (i, m, refl)
+  settled_can behaviour s Again (hand_in g t c ∷ js) i m = tt
 
   -- the one call of a seat
   served : (s t : Seat) (c : results.TableCall) (r : results.TableReply) → IsCall plan s.name s.seen t.seen (calls s.name c r) → t.name ≡ s.name
       → ((g d : ℕ) → c ≡ results.part g d → ⊥) → Keeps s t
   served s t c r call name other d m = subst (λ n. MayReturn plan t.seen n d) (sym name) (still_may plan s.name d c r s.seen t.seen (λ g. other g d) m call)
 
-  first_of : (s t : Seat) (d : ℕ) (o : Outcome) (a : Bool) → IsCall plan s.name s.seen t.seen (calls s.name (results.store d o) (table_reply (stored d o a)))
-      → t.name ≡ s.name → a ≡ true → MayReturn plan t.seen t.name d
-  first_of s t d o true call name e = subst (λ n. MayReturn plan t.seen n d) (sym name) (first_may plan s.name d o s.seen t.seen call)
-  first_of s t d o false call name e = absurd cc
+  first_of : (s t : Seat) (d : ℕ) (o : Outcome) (a : Stored) → IsCall plan s.name s.seen t.seen (calls s.name (results.store d o) (results.was a))
+      → t.name ≡ s.name → a ≡ First → MayReturn plan t.seen t.name d
+  first_of s t d o First call name e = subst (λ n. MayReturn plan t.seen n d) (sym name) (first_may plan s.name d o s.seen t.seen call)
+  first_of s t d o Again call name e = absurd cc
 
   -- ---- messages
 
@@ -119,21 +121,21 @@ module _ (behaviour : Behaviour) (l : Line) (is_plan : IsPlan l) where
   none g = no_member_zero l is_plan g
 
   ended_can : (s : Seat) (c : Content) (o : Outcome) → message_known (book_on plan) c ≡ true → MayReturn plan s.seen s.name (number_of c.own)
-      → Can plan s (settled (enveloped behaviour plan) (map enclosed (script (after c o))) true)
+      → Can plan s (settled (enveloped behaviour plan) (map enclosed (script (after c o))) First)
   ended_can s c o h m =
       let k : ℕ = number_of c.own in
       let js = ended_jobs c o in
       let known = ended_known plan none c o h in
-      settled_can plan behaviour s true (map enclosed (script (after c o))) (script_known plan (Behind k js) js known)
-      (script_may plan s true (Behind k js) js (λ d q. ⊎_elim (λ e. inr (λ t. subst (λ z. MayReturn plan s.seen s.name z) (sym e) m)) (λ y. inl y) q) known)
+      settled_can plan behaviour s First (map enclosed (script (after c o))) (script_known plan (Behind k js) js known)
+      (script_may plan s First (Behind k js) js (λ d q. ⊎_elim (λ e. inr (λ t. subst (λ z. MayReturn plan s.seen s.name z) (sym e) m)) (λ y. inl y) q) known)
 
   completed_can : (s : Seat) (c : PCarried) (es : List (ℕ × Outcome)) → line_known (book_on plan) c.body ≡ true
-      → Can plan s (settled (enveloped behaviour plan) (map enclosed (script (body_after c es))) false)
+      → Can plan s (settled (enveloped behaviour plan) (map enclosed (script (body_after c es))) Again)
   completed_can s c es h =
       let js = body_jobs c es in
       let known = body_known plan none c es h in
-      settled_can plan behaviour s false (map enclosed (script (body_after c es))) (script_known plan (Stored js) js known)
-      (script_may plan s false (Stored js) js (λ d q. inl q) known)
+      settled_can plan behaviour s Again (map enclosed (script (body_after c es))) (script_known plan (StoredIn js) js known)
+      (script_may plan s Again (StoredIn js) js (λ d q. inl q) known)
 
   member_there : (g i : ℕ) → i < length (members plan g) → (t : ℕ) × (slice_get (members plan g) i ≡ Some t) × (t ≤ plan.tasks)
   member_there g i h =
@@ -165,15 +167,15 @@ module _ (behaviour : Behaviour) (l : Line) (is_plan : IsPlan l) where
   goes_on s t taking (taken (Some e)) c call = opened_can plan behaviour t e (opened (book_on plan) e) refl
   goes_on s t resting (rested true) c call = tt
   goes_on s t resting (rested false) c call = tt
-  goes_on s t (owning m) (kept true) c (u, stands, same) =
+  goes_on s t (owning m) (stored First) c (u, stands, same) =
       ended_can t (said m.envelope) m.outcome (opened_as (book_on plan) m.envelope (said m.envelope) c).1
       (subst (λ v. MayReturn plan v.seen v.name (number_of (said m.envelope).own)) (sym same)
-      (first_of plan s u (number_of (said m.envelope).own) m.outcome true stands.4 stands.1 refl))
-  goes_on s t (owning m) (kept false) c call = tt
-  goes_on s t (doing (store d o ∷ js) b) (kept a) c (u, stands, same) =
+      (first_of plan s u (number_of (said m.envelope).own) m.outcome First stands.4 stands.1 refl))
+  goes_on s t (owning m) (stored Again) c call = tt
+  goes_on s t (doing (store d o ∷ js) b) (stored a) c (u, stands, same) =
       subst (λ v. Can plan v (settled (enveloped behaviour plan) js (cond (is_due d js) a b))) (sym same)
       (settled_can plan behaviour u (cond (is_due d js) a b) js c.0.1
-      (store_in plan s u d a b js (served plan s u (results.store d o) (table_reply (stored d o a)) stands.4 stands.1 (λ g k e. absurd cc))
+      (store_in plan s u d a b js (served plan s u (results.store d o) (results.was a) stands.4 stands.1 (λ g k e. absurd cc))
       (first_of plan s u d o a stands.4 stands.1) c.1))
   goes_on s t (doing (publish e ∷ js) b) sent c same =
       subst (λ v. Can plan v (settled (enveloped behaviour plan) js b)) (sym same) (settled_can plan behaviour s b js c.0 c.1)
@@ -181,7 +183,7 @@ module _ (behaviour : Behaviour) (l : Line) (is_plan : IsPlan l) where
   goes_on s t (reading g h fs) (found d (Some o)) c call = go (eqb (length (fs ++ (d, o) ∷ [])) h.size) refl
     where
       go : (z : Bool) → eqb (length (fs ++ (d, o) ∷ [])) h.size ≡ z
-          → Can plan t (cond z (settled (enveloped behaviour plan) (map enclosed (script (body_after h (fs ++ (d, o) ∷ [])))) false)
+          → Can plan t (cond z (settled (enveloped behaviour plan) (map enclosed (script (body_after h (fs ++ (d, o) ∷ [])))) Again)
           (reading g h (fs ++ (d, o) ∷ [])))
       go true e = completed_can t h (fs ++ (d, o) ∷ []) c.0.1
       go false e = (

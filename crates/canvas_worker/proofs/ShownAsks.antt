@@ -7,6 +7,8 @@ use Rattle.canvas_task.specs.declared.outcome.Outcome.{Outcome}
 use Rattle.canvas_message.specs.Content.{Content}
 use Rattle.canvas_effects.specs.Job.{store, publish, hand_in}
 use Rattle.canvas_message.specs.declared.envelope.Envelope.{Envelope}
+use Rattle.canvas_backend.specs.declared.stored.Stored.{Stored}
+use Rattle.canvas_backend.specs.declared.stored.Stored.TheVariants.{First, Again}
 use Rattle.canvas_backend.specs.Roster.{Roster}
 use Rattle.canvas_runs.specs.Book.{Book, book_on}
 use Rattle.canvas_runs.specs.Core as C
@@ -25,83 +27,83 @@ use Rattle.canvas_worker.proofs.CorePasts.{unsent_answered, unsent_drops}
 
 pub is_take : (x : Option ℕ) (a : Asked) → shown x a ≡ Take → a ≡ C.take
 is_take n C.take e = refl
-is_take n (C.send x) e = absurd cc
-is_take n (C.keep u w) e = absurd cc
+is_take n (C.publish x) e = absurd cc
+is_take n (C.store u w) e = absurd cc
 is_take n (C.part g u) e = absurd cc
 is_take n (C.read g i) e = absurd cc
-is_take n C.pause e = absurd cc
+is_take n C.rest e = absurd cc
 is_take n C.end e = absurd cc
 is_take n C.ack e = absurd cc
-is_take n (C.deliver d) e = absurd cc
+is_take n (C.redeliver d) e = absurd cc
 
-pub is_rest : (x : Option ℕ) (a : Asked) → shown x a ≡ Rest → a ≡ C.pause
+pub is_rest : (x : Option ℕ) (a : Asked) → shown x a ≡ Rest → a ≡ C.rest
 is_rest n C.take e = absurd cc
-is_rest n (C.send x) e = absurd cc
-is_rest n (C.keep u w) e = absurd cc
+is_rest n (C.publish x) e = absurd cc
+is_rest n (C.store u w) e = absurd cc
 is_rest n (C.part g u) e = absurd cc
 is_rest n (C.read g i) e = absurd cc
-is_rest n C.pause e = refl
+is_rest n C.rest e = refl
 is_rest n C.end e = absurd cc
 is_rest n C.ack e = absurd cc
-is_rest n (C.deliver d) e = absurd cc
+is_rest n (C.redeliver d) e = absurd cc
 
-pub is_store : (x : Option ℕ) (t : ℕ) (o : Outcome) (a : Asked) → shown x a ≡ Store t o → a ≡ C.keep t o
+pub is_store : (x : Option ℕ) (t : ℕ) (o : Outcome) (a : Asked) → shown x a ≡ Store t o → a ≡ C.store t o
 is_store n t o C.take e = absurd cc
-is_store n t o (C.send x) e = absurd cc
-is_store n t o (C.keep u w) e = cc
+is_store n t o (C.publish x) e = absurd cc
+is_store n t o (C.store u w) e = cc
 is_store n t o (C.part g u) e = absurd cc
 is_store n t o (C.read g i) e = absurd cc
-is_store n t o C.pause e = absurd cc
+is_store n t o C.rest e = absurd cc
 is_store n t o C.end e = absurd cc
 is_store n t o C.ack e = absurd cc
-is_store n t o (C.deliver d) e = absurd cc
+is_store n t o (C.redeliver d) e = absurd cc
 
 pub is_part : (x : Option ℕ) (g t : ℕ) (a : Asked) → shown x a ≡ Part g t → a ≡ C.part g t
 is_part n g t C.take e = absurd cc
-is_part n g t (C.send x) e = absurd cc
-is_part n g t (C.keep u w) e = absurd cc
+is_part n g t (C.publish x) e = absurd cc
+is_part n g t (C.store u w) e = absurd cc
 is_part n g t (C.part h u) e = cc
 is_part n g t (C.read h i) e = absurd cc
-is_part n g t C.pause e = absurd cc
+is_part n g t C.rest e = absurd cc
 is_part n g t C.end e = absurd cc
 is_part n g t C.ack e = absurd cc
-is_part n g t (C.deliver d) e = absurd cc
+is_part n g t (C.redeliver d) e = absurd cc
 
 pub is_read : (x : Option ℕ) (g i : ℕ) (a : Asked) → shown x a ≡ Read g i → a ≡ C.read g i
 is_read n g i C.take e = absurd cc
-is_read n g i (C.send x) e = absurd cc
-is_read n g i (C.keep u w) e = absurd cc
+is_read n g i (C.publish x) e = absurd cc
+is_read n g i (C.store u w) e = absurd cc
 is_read n g i (C.part h u) e = absurd cc
 is_read n g i (C.read h j) e = cc
-is_read n g i C.pause e = absurd cc
+is_read n g i C.rest e = absurd cc
 is_read n g i C.end e = absurd cc
 is_read n g i C.ack e = absurd cc
-is_read n g i (C.deliver d) e = absurd cc
+is_read n g i (C.redeliver d) e = absurd cc
 
 pub is_ack : (x : Option ℕ) (a : Asked) → shown x a ≡ Ack x → a ≡ C.ack
 is_ack n C.take e = absurd cc
-is_ack n (C.send x) e = absurd cc
-is_ack n (C.keep u w) e = absurd cc
+is_ack n (C.publish x) e = absurd cc
+is_ack n (C.store u w) e = absurd cc
 is_ack n (C.part g u) e = absurd cc
 is_ack n (C.read g i) e = absurd cc
-is_ack n C.pause e = absurd cc
+is_ack n C.rest e = absurd cc
 is_ack n C.end e = absurd cc
 is_ack n C.ack e = refl
-is_ack n (C.deliver d) e = absurd cc
+is_ack n (C.redeliver d) e = absurd cc
 
-pub is_send : (x : Envelope) (a : Asked) → to_send a ≡ Some x → a ≡ C.send x
+pub is_send : (x : Envelope) (a : Asked) → to_send a ≡ Some x → a ≡ C.publish x
 is_send x C.take e = absurd cc
-is_send x (C.send y) e = cc
-is_send x (C.keep u w) e = absurd cc
+is_send x (C.publish y) e = cc
+is_send x (C.store u w) e = absurd cc
 is_send x (C.part h u) e = absurd cc
 is_send x (C.read h i) e = absurd cc
-is_send x C.pause e = absurd cc
+is_send x C.rest e = absurd cc
 is_send x C.end e = absurd cc
 is_send x C.ack e = absurd cc
-is_send x (C.deliver d) e = absurd cc
+is_send x (C.redeliver d) e = absurd cc
 
 -- the envelope that is handed out is the one that the ask publishes
-pub handed_out : (x : Envelope) (c : Standing) → c.is_out ≡ false → held_out c ≡ Some x → asked c.left ≡ C.send x
+pub handed_out : (x : Envelope) (c : Standing) → c.is_out ≡ false → held_out c ≡ Some x → asked c.left ≡ C.publish x
 handed_out x c out e = is_send x (asked c.left) (sym (ap (λ b. if b then None else to_send (asked c.left)) out) ∙ e)
 
 -- an envelope that was handed out makes no difference to the answer
@@ -149,7 +151,7 @@ still_publishes n C.acking e = e
 -- ---- what is left
 
 -- only a core that rests asks to
-pub rests_over : (s : Left) → asked s ≡ C.pause → s ≡ C.resting
+pub rests_over : (s : Left) → asked s ≡ C.rest → s ≡ C.resting
 rests_over C.taking e = absurd cc
 rests_over C.resting e = refl
 rests_over C.over e = absurd cc
@@ -211,14 +213,14 @@ no_place xs i t e f = cc
 -- ---- the envelope of the open script
 
 module _ (behaviour : Behaviour) (plan : Roster) where
-  open_settled : (js : C.Jobs (enveloped behaviour plan)) (b : Bool) (h : Option Envelope) → open_of (C.settled (enveloped behaviour plan) js b) h ≡ h
+  open_settled : (js : C.Jobs (enveloped behaviour plan)) (b : Stored) (h : Option Envelope) → open_of (C.settled (enveloped behaviour plan) js b) h ≡ h
   open_settled [] b h = refl
-  open_settled (store t o ∷ js) true h = refl
-  open_settled (store t o ∷ js) false h = refl
-  open_settled (publish e ∷ js) true h = refl
-  open_settled (publish e ∷ js) false h = refl
-  open_settled (hand_in g t c ∷ js) true h = refl
-  open_settled (hand_in g t c ∷ js) false h = refl
+  open_settled (store t o ∷ js) First h = refl
+  open_settled (store t o ∷ js) Again h = refl
+  open_settled (publish e ∷ js) First h = refl
+  open_settled (publish e ∷ js) Again h = refl
+  open_settled (hand_in g t c ∷ js) First h = refl
+  open_settled (hand_in g t c ∷ js) Again h = refl
 
   open_either : (b : Bool) (s t : Left) (h : Option Envelope) → open_of s h ≡ h → open_of t h ≡ h → open_of (cond b s t) h ≡ h
   open_either true s t h i j = i
@@ -234,16 +236,16 @@ module _ (behaviour : Behaviour) (plan : Roster) where
       go (Some c) = refl
   held_step C.resting h (C.rested true) u = refl
   held_step C.resting h (C.rested false) u = refl
-  held_step (C.owning m) h (C.kept true) u = open_settled ((enveloped behaviour plan).ended m ((enveloped behaviour plan).outcome m)) true (Some m.envelope)
-  held_step (C.owning m) h (C.kept false) u = refl
-  held_step (C.doing (store t o ∷ js) b) h (C.kept a) u = open_settled js (cond (C.is_due t js) a b) h
+  held_step (C.owning m) h (C.stored First) u = open_settled ((enveloped behaviour plan).ended m ((enveloped behaviour plan).outcome m)) First (Some m.envelope)
+  held_step (C.owning m) h (C.stored Again) u = refl
+  held_step (C.doing (store t o ∷ js) b) h (C.stored a) u = open_settled js (cond (C.is_due t js) a b) h
   held_step (C.doing (publish e ∷ js) b) h C.sent u = open_settled js b h
   held_step (C.doing (publish e ∷ js) b) h C.refused u = refl
   held_step (C.doing (hand_in g t c ∷ js) b) h (C.counted n) u = open_either (eqb (suc n) c.size) (C.reading g c []) C.acking h refl refl
   held_step (C.reading g c fs) h (C.found t (Some o)) u =
       open_either (eqb (length (fs ++ (t, o) ∷ [])) c.size)
-      (C.settled (enveloped behaviour plan) ((enveloped behaviour plan).completed c (fs ++ (t, o) ∷ [])) false) (C.reading g c (fs ++ (t, o) ∷ [])) h
-      (open_settled ((enveloped behaviour plan).completed c (fs ++ (t, o) ∷ [])) false h) refl
+      (C.settled (enveloped behaviour plan) ((enveloped behaviour plan).completed c (fs ++ (t, o) ∷ [])) Again) (C.reading g c (fs ++ (t, o) ∷ [])) h
+      (open_settled ((enveloped behaviour plan).completed c (fs ++ (t, o) ∷ [])) Again h) refl
   held_step (C.reading g c fs) h (C.found t None) u = refl
   held_step C.acking h C.acked u = refl
   held_step s h r u = elim u [ ]

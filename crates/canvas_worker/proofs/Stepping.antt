@@ -1,7 +1,6 @@
 -- A step in front of what is followed from then on.
-use Rattle.std.proofs.Common.{◌≡◌, ℕ, zero, suc, ◌+◌, ◌≤◌, List, [], ◌∷◌, ◌++◌, length, map, Option, Some, refl, sym, ap, ◌∙◌, subst, append_assoc, append-nil, arith}
+use Rattle.std.proofs.Common.{◌≡◌, ℕ, zero, suc, ◌+◌, ◌≤◌, List, [], ◌∷◌, ◌++◌, length, Option, Some, None, refl, sym, ap, ◌∙◌, subst, append_assoc, append-nil, arith}
 use Rattle.canvas_task.specs.Apply.{Behaviour}
-use Rattle.canvas_task.specs.declared.outcome.Outcome.{Outcome}
 use Rattle.canvas_history.specs.History.{calls, live_from}
 use Rattle.canvas_history.proofs.Histories.{legal_left}
 use Rattle.canvas_message.specs.declared.envelope.Envelope.{Envelope}
@@ -9,10 +8,10 @@ use Rattle.canvas_backend.specs.Roster.{Roster}
 use Rattle.canvas_broker.specs.Broker as broker
 use Rattle.canvas_broker.specs.Broker.{QueueEntry as Entries, answer, next, May, IsLegal, takes_of}
 use Rattle.canvas_broker.specs.Passes.{Took}
-use Rattle.canvas_runs.specs.Core.{Ask, Reply, take, send, taken, sent, IsCoreRun, left_after, ack, acked}
+use Rattle.canvas_runs.specs.Core.{Ask, Reply, take, publish, taken, sent, IsCoreRun, left_after, ack, acked}
 use Rattle.canvas_runs.specs.Following.{Pass, Seat, Makes, Serves}
 use Rattle.canvas_worker.specs.Progress.{Progress, Worked}
-use Rattle.canvas_runs.specs.Calls.{BrokerCall, took, CoreCall, makes, BackendCall, FollowsScripts, scripts_all, scripts_publish, scripts_list_take, scripts_core_take, scripts_ack, held_by, broker_call, broker_calls, core_call, core_calls, backend_call, backend_calls, takes_one, again, scripts_again}
+use Rattle.canvas_runs.specs.Calls.{QueueAnswered, TableAnswered, CoreCall, makes, FollowsScripts, scripts_all, scripts_publish, scripts_list_take, scripts_core_take, scripts_ack, held_by, broker_call, broker_calls, core_call, core_calls, backend_call, backend_calls, takes_one, scripts_again}
 use Rattle.std.specs.Prelude.{slice_get}
 use Rattle.canvas_runs.specs.Lists.{total, at}
 use Rattle.canvas_worker.specs.WorkerSteps.{OnlyBare, Called, FromHeld, Batched, Delivered}
@@ -20,18 +19,18 @@ use Rattle.canvas_runs.specs.Tally.{Tally, CountsMore, IsTally, Counted, greates
 use Rattle.canvas_worker.specs.EnvelopeWorker.{enveloped}
 use Rattle.canvas_runs.proofs.Sums.{total-append}
 
-makes_append : (cs ds : List (BrokerCall Envelope)) (p q r : Pass) → Makes p cs q → Makes q ds r → Makes p (cs ++ ds) r
+makes_append : (cs ds : List (QueueAnswered Envelope)) (p q r : Pass) → Makes p cs q → Makes q ds r → Makes p (cs ++ ds) r
 makes_append [] ds p q r f g = subst (λ x. Makes x ds r) f g
 makes_append (c ∷ cs) ds p q r f g = (f.0, f.1, makes_append cs ds f.0 q r f.2 g)
 
-pub serves_append : (plan : Roster) (cs ds : List (BackendCall Outcome)) (s t u : Seat) → Serves plan s cs t → Serves plan t ds u → Serves plan s (cs ++ ds) u
+pub serves_append : (plan : Roster) (cs ds : List TableAnswered) (s t u : Seat) → Serves plan s cs t → Serves plan t ds u → Serves plan s (cs ++ ds) u
 serves_append plan [] ds s t u f g = subst (λ x. Serves plan x ds u) f g
 serves_append plan (c ∷ cs) ds s t u f g = (f.0, f.1, serves_append plan cs ds f.0 t u f.2 g)
 
 -- takes of a batch, as calls
-abbrev pub taking_all : List Envelope → List (BrokerCall Envelope)
+abbrev pub taking_all : List Envelope → List (QueueAnswered Envelope)
 taking_all [] = []
-taking_all (e ∷ es) = took e ∷ taking_all es
+taking_all (e ∷ es) = (broker.take, Some e) ∷ taking_all es
 
 -- takes that stand side by side stand one after the other
 pub took_makes : (p q : Pass) (es : List Envelope) → Took p es q → Makes p (taking_all es) q
@@ -48,7 +47,7 @@ took_makes p q (e ∷ d ∷ es) t =
     let legal : IsLegal mid.seen = legal_left [] answer next May [] mid.seen rest (subst (λ l. IsLegal l) shape x.3) in
     (mid, (refl, refl, refl, refl, (x.0, refl, x.2, legal, x.4)), took_makes mid q (d ∷ es) (t.0, t.1, t.2, t.3, ([], shape, tt, x.3, λ _. refl)))
 
-batch_follows : (h : Option Envelope) (es : List Envelope) (ts : List Envelope) (cs : List (CoreCall Envelope)) (ls : List (BrokerCall Envelope))
+batch_follows : (h : Option Envelope) (es : List Envelope) (ts : List Envelope) (cs : List (CoreCall Envelope)) (ls : List (QueueAnswered Envelope))
     → FollowsScripts h (ts ++ es) cs ls → FollowsScripts h ts cs (taking_all es ++ ls)
 batch_follows h [] ts cs ls f = subst (λ xs. FollowsScripts h xs cs ls) (append-nil ts) f
 batch_follows h (e ∷ es) ts cs ls f =
@@ -66,7 +65,7 @@ more_added : (x y a b n : ℕ) → CountsMore x (a + 0) y → CountsMore y b n �
 more_added x y a b n e f = omega (arith, e, f)
 
 module _ (plan : Roster) where
-  counted_more : (a : Ask Envelope Outcome) (r : Reply Envelope Outcome) (run : List (Ask Envelope Outcome × Reply Envelope Outcome)) (t u v : Tally)
+  counted_more : (a : Ask Envelope) (r : Reply Envelope) (run : List (Ask Envelope × Reply Envelope)) (t u v : Tally)
       → Counted plan ((a, r) ∷ []) t u → Counted plan run u v → Counted plan ((a, r) ∷ run) t v
   counted_more a r run t u v c d = record {
     taken = more_added t.taken u.taken (is_taken a r) (often is_taken run) v.taken c.taken d.taken;
@@ -76,13 +75,13 @@ module _ (plan : Roster) where
     dropped = more_added t.dropped u.dropped (is_dropped plan a r) (often (is_dropped plan) run) v.dropped c.dropped d.dropped;
   }
 
-  call_follows : (a : Ask Envelope Outcome) (r : Reply Envelope Outcome) (h g : Option Envelope) (held : List Envelope) (cs : List (CoreCall Envelope))
-      (ls : List (BrokerCall Envelope)) → OnlyBare a r held → g ≡ held_by h a r → FollowsScripts g held cs ls
+  call_follows : (a : Ask Envelope) (r : Reply Envelope) (h g : Option Envelope) (held : List Envelope) (cs : List (CoreCall Envelope))
+      (ls : List (QueueAnswered Envelope)) → OnlyBare a r held → g ≡ held_by h a r → FollowsScripts g held cs ls
       → FollowsScripts h held (core_call a r ++ cs) (broker_call a r ++ ls)
   call_follows take (taken (Some e)) h g held cs ls b q f =
-      subst (λ hs. FollowsScripts h hs (makes (took e) ∷ cs) (took e ∷ ls)) (sym b)
+      subst (λ hs. FollowsScripts h hs (makes (broker.take, Some e) ∷ cs) ((broker.take, Some e) ∷ ls)) (sym b)
       (scripts_list_take (scripts_core_take (subst (λ hs. FollowsScripts (Some e) hs cs ls) b (subst (λ k. FollowsScripts k held cs ls) q f))))
-  call_follows (send e) sent h g held cs ls b q f = scripts_publish (subst (λ k. FollowsScripts k held cs ls) q f)
+  call_follows (publish e) sent h g held cs ls b q f = scripts_publish (subst (λ k. FollowsScripts k held cs ls) q f)
   call_follows ack acked h g held cs ls b q f = scripts_ack (subst (λ k. FollowsScripts k held cs ls) q f)
   call_follows a r h g held cs ls b q f = subst (λ k. FollowsScripts k held cs ls) q f
 
@@ -92,7 +91,14 @@ module _ (plan : Roster) where
 module _ (behaviour : Behaviour) (plan : Roster) where
   pub rests : (w : Progress) → IsTally w.tally → Worked behaviour plan w w
   rests w t = record {
-    counts = record { taken = none_added plan w.tally.taken t.0; published = none_added plan w.tally.published t.1; first = none_added plan w.tally.first t.2; parts = none_added plan w.tally.parts t.3; dropped = none_added plan w.tally.dropped t.4 };
+    counts = record {
+      taken = none_added plan w.tally.taken t.0;
+      published = none_added plan w.tally.published t.1;
+      first =
+          none_added plan w.tally.first t.2;
+      parts = none_added plan w.tally.parts t.3;
+      dropped = none_added plan w.tally.dropped t.4;
+    };
     run = [];
     is_core = tt;
     reads = tt;
@@ -104,10 +110,10 @@ module _ (behaviour : Behaviour) (plan : Roster) where
     serves = refl;
   }
 
-  pub call_first : (w v x : Progress) (a : Ask Envelope Outcome) (r : Reply Envelope Outcome) → Called behaviour plan w v a r → Worked behaviour plan v x
+  pub call_first : (w v x : Progress) (a : Ask Envelope) (r : Reply Envelope) → Called behaviour plan w v a r → Worked behaviour plan v x
       → Worked behaviour plan w x
   call_first w v x a r s f =
-      let call : List (BrokerCall Envelope) = broker_call a r in
+      let call : List (QueueAnswered Envelope) = broker_call a r in
       record {
         run = (a, r) ∷ f.run;
         is_core = (s.0.asked, (s.0.suits, s.0.back), subst (λ u. IsCoreRun (enveloped behaviour plan) u f.run) s.0.left f.is_core);
@@ -131,7 +137,7 @@ module _ (behaviour : Behaviour) (plan : Roster) where
     counts = counted_more plan take (taken (Some e)) f.run w.tally v.tally x.tally s.0.counts f.counts;
     leaves = subst (λ u. left_after (enveloped behaviour plan) u f.run ≡ x.left) s.0.left f.leaves;
     made = f.made;
-    follows = subst (λ hs. FollowsScripts w.current hs (makes (took e) ∷ core_calls f.run) f.made) (sym s.1)
+    follows = subst (λ hs. FollowsScripts w.current hs (makes (broker.take, Some e) ∷ core_calls f.run) f.made) (sym s.1)
         (scripts_core_take (subst (λ k. FollowsScripts k v.held (core_calls f.run) f.made) s.0.current f.follows));
     used = (let same : length w.held ≡ length (e ∷ v.held) = ap length s.1 in omega (arith, same, f.used));
     makes = subst (λ p. Makes p f.made x.pass) s.2 f.makes;
@@ -162,12 +168,12 @@ module _ (behaviour : Behaviour) (plan : Roster) where
     reads = f.reads;
     counts = subst (λ t. Counted plan f.run t x.tally) s.6 f.counts;
     leaves = subst (λ u. left_after (enveloped behaviour plan) u f.run ≡ x.left) s.5 f.leaves;
-    made = again e ∷ f.made;
-    follows = subst (λ h. FollowsScripts h w.held (core_calls f.run) (again e ∷ f.made)) (sym s.0)
+    made = (broker.redeliver e, None) ∷ f.made;
+    follows = subst (λ h. FollowsScripts h w.held (core_calls f.run) ((broker.redeliver e, None) ∷ f.made)) (sym s.0)
         (scripts_again (subst (λ h. FollowsScripts h w.held (core_calls f.run) f.made) (s.2 ∙ s.0)
         (subst (λ hs. FollowsScripts v.current hs (core_calls f.run) f.made) s.3 f.follows)));
     used = (let same : length v.held ≡ length w.held = ap length s.3 in omega (arith, same, f.used));
-    makes = makes_append (again e ∷ []) f.made w.pass v.pass x.pass s.1 f.makes;
+    makes = makes_append ((broker.redeliver e, None) ∷ []) f.made w.pass v.pass x.pass s.1 f.makes;
     serves = subst (λ p. Serves plan p (backend_calls f.run) x.seat) s.4 f.serves;
   }
 

@@ -85,8 +85,8 @@ ack_asks behaviour w ready asks back = record {
 }
 
 -- a core that rests is answered without a call
-pub rest_asks : (behaviour : Behaviour) (w : Work) (more : Bool) → Ready w → asked w.core.left ≡ C.pause → ReadsBack (enveloped_by no_tasks no_book) w.core.left
-    → Asks behaviour w w C.pause (C.rested more)
+pub rest_asks : (behaviour : Behaviour) (w : Work) (more : Bool) → Ready w → asked w.core.left ≡ C.rest → ReadsBack (enveloped_by no_tasks no_book) w.core.left
+    → Asks behaviour w w C.rest (C.rested more)
 rest_asks behaviour w more ready asks back = record {
   asked_is = asks;
   suits = tt;
@@ -97,7 +97,7 @@ rest_asks behaviour w more ready asks back = record {
   makes = refl;
   serves = refl;
   counts = (refl, refl, refl, refl);
-  still = λ rests. absurd (busy_never behaviour w.desk.plan w.core.left (C.rested more) C.pause asks tt rests);
+  still = λ rests. absurd (busy_never behaviour w.desk.plan w.core.left (C.rested more) C.rest asks tt rests);
   none_dropped = refl;
   core = refl;
 }
@@ -282,11 +282,11 @@ pub asked_badly : (behaviour : Behaviour) (w u v : Work) (a : Asked) (r : Answer
 asked_badly behaviour w u v a r e is ready x = subst (λ f. ActedLast behaviour w f v) (sym is.1) (lost_is behaviour w u a r ready x v is.0)
 
 -- a worker that is told that no more will come
-pub rests_well : (behaviour : Behaviour) (w u v : Work) → v ≡ with_answer behaviour u (C.rested false) → Ready w → Asks behaviour w u C.pause (C.rested false)
+pub rests_well : (behaviour : Behaviour) (w u v : Work) → v ≡ with_answer behaviour u (C.rested false) → Ready w → Asks behaviour w u C.rest (C.rested false)
     → ActedLast behaviour w None v
 rests_well behaviour w u v is ready x s leaves =
     let rests : w.core.left ≡ C.resting = rests_over w.core.left x.asked_is in
-    ends_so behaviour w u C.pause (C.rested false) ready x v is s leaves (
+    ends_so behaviour w u C.rest (C.rested false) ready x v is s leaves (
       ap (λ l. answered (enveloped behaviour w.desk.plan) l (C.rested false)) rests,
       x.beside.5 ∙ (ready.rested rests).0,
       subst (λ p. Empties p) (sym x.makes) (ready.rested rests).1,

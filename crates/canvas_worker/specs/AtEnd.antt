@@ -3,7 +3,7 @@ use Rattle.std.specs.Prelude.{◌≡◌, false, List, [], ◌∷◌, ◌++◌, N
 use Rattle.canvas_task.specs.Apply.{Behaviour}
 use Rattle.canvas_message.specs.declared.envelope.Envelope.{Envelope}
 use Rattle.canvas_runs.specs.Book.{Book}
-use Rattle.canvas_runs.specs.Core.{failed, end, pause, send, rested, refused}
+use Rattle.canvas_runs.specs.Core.{failed, end, rest, publish, rested, refused}
 use Rattle.canvas_worker.specs.Asks.{Asked, Answer, suits, shown}
 use Rattle.canvas_worker.specs.CorePast.{Leads}
 use Rattle.canvas_worker.specs.CoreState.{Standing, asked, failing, held_out, handed}
@@ -23,8 +23,8 @@ FailingEnds = (s : Standing) → asked (failing s).left ≡ end
 -- the ask and the answer that end a core: a rest answered with no more, and a publish that was
 -- refused
 abbrev pub EndsACore : Asked → Answer → Type 0
-EndsACore pause (rested false) = Unit {0}
-EndsACore (send e) refused = Unit {0}
+EndsACore rest (rested false) = Unit {0}
+EndsACore (publish e) refused = Unit {0}
 EndsACore a r = ⊥
 
 -- But for memory, a core is at its end only behind a rest that was answered with no more, or behind
@@ -40,4 +40,4 @@ abbrev pub FailsBehind : Type 0
 FailsBehind =
     (behaviour : Behaviour) (book : Book) (xs : List (Asked × Answer)) (s : Standing)
     → Leads behaviour book xs s → s.left ≡ failed
-    → (ys : List (Asked × Answer)) × (e : Envelope) × (xs ≡ ys ++ (send e, refused) ∷ [])
+    → (ys : List (Asked × Answer)) × (e : Envelope) × (xs ≡ ys ++ (publish e, refused) ∷ [])

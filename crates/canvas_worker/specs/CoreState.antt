@@ -2,7 +2,6 @@
 use Rattle.std.specs.Option.{option_map}
 use Rattle.std.specs.Prelude.{ℕ, ◌+◌, ◌∷◌, min, is_some, if◌then◌else◌, Bool, false, Option, Some, None}
 use Rattle.canvas_task.specs.Apply.{Behaviour}
-use Rattle.canvas_task.specs.declared.outcome.Outcome.{Outcome}
 use Rattle.canvas_rewrite.specs.FrozenView.{PCarried}
 use Rattle.canvas_message.specs.Content.{Content, number_of}
 use Rattle.canvas_effects.specs.Job.{publish}
@@ -18,7 +17,7 @@ use Rattle.canvas_worker.specs.Books.{no_book}
 use Rattle.canvas_worker.specs.EnvelopeWorker.{Applied, unapplied, no_tasks, enveloped_by, blank}
 
 abbrev pub Left : Type 0
-Left = CoreState Applied PCarried Outcome
+Left = CoreState Applied PCarried
 
 -- what is left to do, whether the envelope that is to be published was handed out, how many
 -- envelopes were dropped, the envelope of the open script once its message's outcome is stored, and

@@ -2,7 +2,6 @@
 -- goes with the worker that keeps what they say.
 use Rattle.std.specs.Prelude.{◌≡◌, List, map}
 use Rattle.canvas_task.specs.Apply.{Behaviour}
-use Rattle.canvas_task.specs.declared.outcome.Outcome.{Outcome}
 use Rattle.canvas_semantics.specs.Line.{Line}
 use Rattle.canvas_rewrite.specs.FrozenView.{PCarried}
 use Rattle.canvas_message.specs.Content.{Content}
@@ -17,7 +16,7 @@ use Rattle.canvas_worker.specs.CoreState.{Left}
 module _ (behaviour : Behaviour) where
   -- The same point of a script: of a message that was taken the envelope says what it is, and its
   -- outcome is that of its call; each further message is there as its envelope.
-  abbrev pub IsAlike : Left → CoreState Content PCarried Outcome → Type 0
+  abbrev pub IsAlike : Left → CoreState Content PCarried → Type 0
   IsAlike taking taking = Unit {0}
   IsAlike resting resting = Unit {0}
   IsAlike over over = Unit {0}
@@ -29,7 +28,7 @@ module _ (behaviour : Behaviour) where
   IsAlike s t = ⊥
 
   -- that of a core and that of the worker of a plan
-  pub record GoTogether (l : Line) (s : Left) (t : CoreState Content PCarried Outcome) :
+  pub record GoTogether (l : Line) (s : Left) (t : CoreState Content PCarried) :
       Type 0 where
     pub alike : IsAlike s t
     -- the next ask of the one is that of the other

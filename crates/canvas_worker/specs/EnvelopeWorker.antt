@@ -1,7 +1,7 @@
 -- The worker of a plan where each message is kept as its envelope, as a core keeps it (Celery task
 -- message protocol, version 2). `law_of_cores` leads from here to the worker whose messages are
 -- what the envelopes say.
-use Rattle.std.specs.Prelude.{◌≡◌, ℕ, Bool, ◌&&◌, if◌then◌else◌, List, [], map, Option, Some, None, is_none, Ok}
+use Rattle.std.specs.Prelude.{◌≡◌, Bool, ◌&&◌, if◌then◌else◌, [], map, Option, Some, None, is_none, Ok}
 use Rattle.canvas_task.specs.Apply.{Behaviour}
 use Rattle.canvas_task.specs.declared.outcome.Kind.TheVariants.{NotRegistered}
 use Rattle.canvas_task.specs.declared.outcome.Fault.TheVariants.{Plain}
@@ -67,7 +67,6 @@ module _ (behaviour : Behaviour) where
     Envelope = Envelope;
     Message = Applied;
     Carried = PCarried;
-    Outcome = Outcome;
     no = λ m. number_of (said m.envelope).own;
     outcome = λ m. m.outcome;
     ended = λ m o. map enclosed (script (after (said m.envelope) o));

@@ -2,10 +2,9 @@
 -- there. Messages are kept as their envelopes.
 use Rattle.std.specs.Prelude.{◌+◌, ◌≡◌, List, [], length, Option, None}
 use Rattle.canvas_task.specs.Apply.{Behaviour}
-use Rattle.canvas_task.specs.declared.outcome.Outcome.{Outcome}
 use Rattle.canvas_message.specs.declared.envelope.Envelope.{Envelope}
 use Rattle.canvas_backend.specs.Roster.{Roster, members}
-use Rattle.canvas_runs.specs.Calls.{BrokerCall, FollowsScripts, AskedAndAnswered, broker_calls, core_calls, backend_calls, ReadsMembers, takes_one}
+use Rattle.canvas_runs.specs.Calls.{QueueAnswered, FollowsScripts, AskedAndAnswered, broker_calls, core_calls, backend_calls, ReadsMembers, takes_one}
 use Rattle.canvas_runs.specs.Core.{taking, IsCoreRun, left_after}
 use Rattle.canvas_runs.specs.Following.{Pass, Seat, Makes, Serves}
 use Rattle.canvas_runs.specs.Lists.{total}
@@ -31,14 +30,14 @@ starting p s =
 
 -- from w on its pass and its seat have followed a core run, and it is at v then
 pub record Worked (behaviour : Behaviour) (plan : Roster) (w v : Progress) : Type 0 where
-  pub run : List (AskedAndAnswered Envelope Outcome)
+  pub run : List (AskedAndAnswered Envelope)
   pub is_core : IsCoreRun (enveloped behaviour plan) w.left run
   -- a read is of the member that it names
   pub reads : ReadsMembers (members plan) run
   pub counts : Counted plan run w.tally v.tally
   pub leaves : left_after (enveloped behaviour plan) w.left run ≡ v.left
   -- the calls of its pass. A take may stand before the core's
-  pub made : List (BrokerCall Envelope)
+  pub made : List (QueueAnswered Envelope)
   pub follows : FollowsScripts w.current w.held (core_calls run) made
   pub used : length w.held + total takes_one made ≡ total takes_one (broker_calls run)
       + length v.held

@@ -1,17 +1,20 @@
 -- What a backend lets a worker's seat do: it may do all that the worker has left to do, whatever
 -- other workers do. It follows from what is left and from what the seat has seen, for each envelope
 -- that is opened, also for one that no plan's run has.
-use Rattle.std.specs.Prelude.{◌≡◌, ◌≤◌, ◌<◌, ℕ, Bool, true, false, IsTrue, [], ◌∷◌, length, Some, slice_get}
+use Rattle.std.specs.Prelude.{◌≡◌, ◌≤◌, ◌<◌, ℕ, true, false, IsTrue, [], ◌∷◌, length, Some, slice_get}
 use Rattle.canvas_task.specs.Apply.{Behaviour}
 use Rattle.canvas_semantics.specs.Line.{Line}
 use Rattle.canvas_rewrite.specs.FrozenView.{PCarried}
 use Rattle.canvas_rewrite.specs.Planned.{IsPlan}
-use Rattle.canvas_effects.specs.Job.{store, publish, hand_in}
+use Rattle.canvas_effects.specs.Job.{publish, hand_in}
+use Rattle.canvas_backend.specs.declared.stored.Stored.{Stored}
+use Rattle.canvas_backend.specs.declared.stored.Stored.TheVariants.{First}
 use Rattle.canvas_backend.specs.Backend.{MayReturn}
 use Rattle.canvas_backend.specs.Roster.{Roster, roster_of, members, size, is_chord, is_member}
+use Rattle.canvas_effects.specs.Job as job
 use Rattle.canvas_runs.specs.Book.{book_on, has_size, line_known}
 use Rattle.canvas_runs.specs.Calls.{backend_call}
-use Rattle.canvas_runs.specs.Core.{keep, part, read, taking, owning, doing, reading, answered, is_due, Suits}
+use Rattle.canvas_runs.specs.Core.{store, part, read, taking, owning, doing, reading, answered, is_due, Suits}
 use Rattle.canvas_runs.specs.Following.{Seat, Serves}
 use Rattle.canvas_runs.specs.Worker.{opened}
 use Rattle.canvas_worker.specs.Asks.{Asked, Answer}
@@ -27,21 +30,21 @@ module _ (plan : Roster) where
   -- each task that is stored is the plan's, and each part is that of a chord's member
   abbrev pub InPlan : EnvelopeJobs → Type 0
   InPlan [] = Unit {0}
-  InPlan (store t o ∷ js) = (t ≤ plan.tasks) × InPlan js
+  InPlan (job.store t o ∷ js) = (t ≤ plan.tasks) × InPlan js
   InPlan (publish e ∷ js) = InPlan js
   InPlan (hand_in g t c ∷ js) = IsTrue (is_member plan g t) × Carries g c × InPlan js
 
   -- The seat may return the part that is due if its task's latest store was the first, unless that
   -- task is still to be stored.
-  abbrev pub MayHandIn : Seat → Bool → EnvelopeJobs → Type 0
+  abbrev pub MayHandIn : Seat → Stored → EnvelopeJobs → Type 0
   MayHandIn s b [] = Unit {0}
-  MayHandIn s b (store t o ∷ js) = is_due t js ≡ false → MayHandIn s b js
+  MayHandIn s b (job.store t o ∷ js) = is_due t js ≡ false → MayHandIn s b js
   MayHandIn s b (publish e ∷ js) = MayHandIn s b js
-  MayHandIn s b (hand_in g t c ∷ js) = b ≡ true → MayReturn plan s.seen s.name t
+  MayHandIn s b (hand_in g t c ∷ js) = b ≡ First → MayReturn plan s.seen s.name t
 
   -- a part comes next only where that store was the first
-  abbrev pub IsNext : Bool → EnvelopeJobs → Type 0
-  IsNext b (hand_in g t c ∷ js) = b ≡ true
+  abbrev pub IsNext : Stored → EnvelopeJobs → Type 0
+  IsNext b (hand_in g t c ∷ js) = b ≡ First
   IsNext b js = Unit {0}
 
   -- the backend lets the seat do what is left to do
@@ -53,7 +56,7 @@ module _ (plan : Roster) where
 
   -- the backend lets the seat ask this, and a read is of a member that there is
   abbrev pub LetsAsk : Seat → Asked → Type 0
-  LetsAsk s (keep t o) = t ≤ plan.tasks
+  LetsAsk s (store t o) = t ≤ plan.tasks
   LetsAsk s (part g t) =
       IsTrue (is_chord plan g) × IsTrue (is_member plan g t) × MayReturn plan s.seen s.name t
   LetsAsk s (read g i) = (t : ℕ) × (slice_get (members plan g) i ≡ Some t) × (t ≤ plan.tasks)

@@ -2,7 +2,6 @@
 -- is followed.
 use Rattle.std.specs.Prelude.{◌≡◌, List, [], Option, Some}
 use Rattle.canvas_task.specs.Apply.{Behaviour}
-use Rattle.canvas_task.specs.declared.outcome.Outcome.{Outcome}
 use Rattle.canvas_message.specs.declared.envelope.Envelope.{Envelope}
 use Rattle.canvas_backend.specs.Roster.{Roster}
 use Rattle.canvas_history.specs.Callers.{told}
@@ -22,8 +21,8 @@ Rests =
 
 abbrev pub CallFirst : Type 0
 CallFirst =
-    (behaviour : Behaviour) (plan : Roster) (w v x : Progress) (a : Ask Envelope Outcome)
-    (r : Reply Envelope Outcome) → Called behaviour plan w v a r → Worked behaviour plan v x
+    (behaviour : Behaviour) (plan : Roster) (w v x : Progress) (a : Ask Envelope)
+    (r : Reply Envelope) → Called behaviour plan w v a r → Worked behaviour plan v x
     → Worked behaviour plan w x
 
 abbrev pub HeldFirst : Type 0

@@ -1,26 +1,26 @@
 -- The steps of a worker: an ask of its core answered by its pass or its seat or from the envelopes
 -- that it holds, and a batch taken.
-use Rattle.std.specs.Prelude.{◌≡◌, List, [], ◌∷◌, ◌++◌, Some}
+use Rattle.std.specs.Prelude.{◌≡◌, List, [], ◌∷◌, ◌++◌, Some, None}
 use Rattle.canvas_task.specs.Apply.{Behaviour}
-use Rattle.canvas_task.specs.declared.outcome.Outcome.{Outcome}
 use Rattle.canvas_message.specs.declared.envelope.Envelope.{Envelope}
 use Rattle.canvas_backend.specs.Roster.{Roster, members}
+use Rattle.canvas_broker.specs.Broker.{redeliver}
 use Rattle.canvas_broker.specs.Passes as passes
 use Rattle.canvas_runs.specs.Core.{Ask, Reply, take, taken, ask, answered, Suits, ReadsBack}
 use Rattle.canvas_runs.specs.Following.{Makes, Serves}
 use Rattle.canvas_worker.specs.Progress.{Progress}
-use Rattle.canvas_runs.specs.Calls.{broker_call, backend_call, reads_member, held_by, again}
+use Rattle.canvas_runs.specs.Calls.{broker_call, backend_call, reads_member, held_by}
 use Rattle.canvas_runs.specs.Tally.{Counted}
 use Rattle.canvas_worker.specs.EnvelopeWorker.{enveloped}
 
 -- an envelope is taken from the broker only where none is held
-abbrev pub OnlyBare : Ask Envelope Outcome → Reply Envelope Outcome → List Envelope → Type 0
+abbrev pub OnlyBare : Ask Envelope → Reply Envelope → List Envelope → Type 0
 OnlyBare take (taken (Some e)) held = held ≡ []
 OnlyBare a r held = Unit
 
 module _ (behaviour : Behaviour) (plan : Roster) where
   -- the core's next ask, answered
-  pub record Answered (w v : Progress) (a : Ask Envelope Outcome) (r : Reply Envelope Outcome) :
+  pub record Answered (w v : Progress) (a : Ask Envelope) (r : Reply Envelope) :
       Type 0 where
     pub asked : a ≡ ask (enveloped behaviour plan) w.left
     pub suits : Suits a r
@@ -30,7 +30,7 @@ module _ (behaviour : Behaviour) (plan : Roster) where
     pub left : v.left ≡ answered (enveloped behaviour plan) w.left r
     pub current : v.current ≡ held_by w.current a r
 
-  abbrev pub Called : Progress → Progress → Ask Envelope Outcome → Reply Envelope Outcome → Type 0
+  abbrev pub Called : Progress → Progress → Ask Envelope → Reply Envelope → Type 0
   Called w v a r =
       Answered w v a r × (v.held ≡ w.held) × OnlyBare a r w.held
       × Makes w.pass (broker_call a r) v.pass × Serves plan w.seat (backend_call a r) v.seat
@@ -49,5 +49,5 @@ Batched w v es =
 -- the envelope of the open script is delivered again
 abbrev pub Delivered : Progress → Progress → Envelope → Type 0
 Delivered w v e =
-    (w.current ≡ Some e) × Makes w.pass (again e ∷ []) v.pass × (v.current ≡ w.current)
+    (w.current ≡ Some e) × Makes w.pass ((redeliver e, None) ∷ []) v.pass × (v.current ≡ w.current)
     × (v.held ≡ w.held) × (v.seat ≡ w.seat) × (v.left ≡ w.left) × (v.tally ≡ w.tally)

@@ -8,13 +8,13 @@ ghost use Rattle.canvas_effects.specs.Effects.{after, outcome_of, script as whol
 ghost use Rattle.canvas_message.specs.MessageView.{carried_view};
 ghost use Rattle.canvas_effects.specs.Job.{store, publish, hand_in};
 ghost use Rattle.canvas_effects.specs.Todos.{part_view};
+ghost use Rattle.canvas_backend.specs.declared.stored.Stored.TheVariants.{First};
 ghost use Rattle.canvas_worker.specs.Asks.{replied, FoundInRange, Grows};
 ghost use Rattle.canvas_worker.specs.Books.{no_book};
 ghost use Rattle.canvas_runs.specs.Core.{is_due, settled, handed_in, all_read, answered, owning, doing, resting, acking, reading as state_reading};
 ghost use Rattle.canvas_worker.specs.Phases.{IsAt};
 ghost use Rattle.canvas_worker.specs.Scripts.{jobs_of};
 ghost use Rattle.canvas_worker.specs.EnvelopeWorker.{enveloped_by, no_tasks, said, enclosed, unapplied, blank};
-ghost use Rattle.canvas_backend.specs.Backend.{says_first};
 
 use crate::Reply;
 use crate::due::latest;
@@ -43,38 +43,35 @@ pub(crate) enum Phase {
     Acking,
 }
 
-fn part_or_ack(part: Option<PartCall>, first: bool) -> Phase
+fn part_or_ack(part: Option<PartCall>, latest: Stored) -> Phase
     ensures { IsAt result (settled (enveloped_by no_tasks no_book)
-        (map enclosed (part_jobs (option_map part_view part))) first) }
+        (map enclosed (part_jobs (option_map part_view part))) latest) }
 {
     match part {
-        Some(part) => {
-            if first {
-                Phase::Returning(part)
-            } else {
-                Phase::Acking
-            }
-        }
+        Some(part) => match latest {
+            Stored::First => Phase::Returning(part),
+            Stored::Again => Phase::Acking,
+        },
         None => Phase::Acking,
     }
 }
 
 /// What is next in a script.
 fn settle(script: Script) -> Phase
-    ensures { IsAt result (settled (enveloped_by no_tasks no_book) (jobs_of script) script.first) }
+    ensures { IsAt result (settled (enveloped_by no_tasks no_book) (jobs_of script) script.latest) }
 {
     let Script {
         mut stores,
         mut publishes,
         part,
-        first,
+        latest,
     } = script;
     if let Some((task, outcome)) = stores.pop_front() {
         let script = Script {
             stores,
             publishes,
             part,
-            first,
+            latest,
         };
         return Phase::Storing(Storing {
             task,
@@ -89,30 +86,30 @@ fn settle(script: Script) -> Phase
                 stores,
                 publishes,
                 part,
-                first,
+                latest,
             },
         }),
-        None => part_or_ack(part, first),
+        None => part_or_ack(part, latest),
     }
 }
 
 /// The same, where a store is answered.
-fn settle_after(script: Script, task: TaskNo, stored: &Stored) -> Phase
+fn settle_after(script: Script, task: TaskNo, stored: Stored) -> Phase
     ensures { IsAt result (settled (enveloped_by no_tasks no_book) (jobs_of script)
-        (cond (is_due task (jobs_of script)) (says_first stored.now) script.first)) }
+        (cond (is_due task (jobs_of script)) stored script.latest)) }
 {
-    let first = latest(&script, task, stored);
+    let latest = latest(&script, task, stored);
     let Script {
         stores,
         publishes,
         part,
-        first: _,
+        latest: _,
     } = script;
     settle(Script {
         stores,
         publishes,
         part,
-        first,
+        latest,
     })
 }
 
@@ -146,7 +143,7 @@ impl Owned {
     {
         let task = message.task;
         let outcome = outcome_of(tasks, &message);
-        let script = script_of(alloc, into_todo(alloc, message, &outcome)?, true)?;
+        let script = script_of(alloc, into_todo(alloc, message, &outcome)?, Stored::First)?;
         Ok(Owned {
             envelope,
             task,
@@ -180,11 +177,11 @@ impl Owned {
 impl Storing {
     pub(crate) fn answered(self, reply: &Reply) -> Phase
         ensures { IsAt result (answered (enveloped_by no_tasks no_book)
-            (doing (store self.task self.outcome ∷ jobs_of self.script) self.script.first)
+            (doing (store self.task self.outcome ∷ jobs_of self.script) self.script.latest)
             (replied reply.now)) }
     {
         match reply {
-            Reply::Stored(stored) => settle_after(self.script, self.task, stored),
+            Reply::Stored(stored) => settle_after(self.script, self.task, *stored),
             _ => Phase::Failed,
         }
     }
@@ -194,7 +191,7 @@ impl Publishing {
     pub(crate) fn answered(self, reply: &Reply) -> Phase
         ensures { IsAt result (answered (enveloped_by no_tasks no_book) (doing
             (publish (unapplied (unwrap_or self.envelope blank)) ∷ jobs_of self.script)
-            self.script.first) (replied reply.now)) }
+            self.script.latest) (replied reply.now)) }
     {
         match reply {
             Reply::Published => settle(self.script),
@@ -222,7 +219,7 @@ fn counted(alloc: Global, part: PartCall, count: u64) -> Phase
 
 pub(crate) fn returned(alloc: Global, part: PartCall, reply: &Reply) -> Phase
     ensures { IsAt result (answered (enveloped_by no_tasks no_book)
-        (doing (hand_in part.group part.task (carried_view part.chord) ∷ []) true)
+        (doing (hand_in part.group part.task (carried_view part.chord) ∷ []) First)
         (replied reply.now)) }
 {
     match reply {
@@ -265,7 +262,7 @@ impl Reading {
         found.push((task, outcome))?;
         if found.len() == size_of(&chord) as usize {
             let todo = body_after(alloc, &chord, &found)?;
-            Ok(settle(script_of(alloc, todo, false)?))
+            Ok(settle(script_of(alloc, todo, Stored::Again)?))
         } else {
             Ok(Phase::Reading(Reading {
                 group,

@@ -6,18 +6,19 @@ ghost use Rattle.canvas_task.specs.Apply.{IsInRange};
 ghost use Rattle.canvas_worker.specs.codes.CoreCode.{range_prop};
 
 use crate::sealed::Sealed;
+use canvas_backend::Stored;
 use canvas_effects::PartCall;
 use canvas_task::{Outcome, TaskNo};
 use std::collections::VecDeque;
 
-/// What is left to store and to publish, and the part to return, in this order; and whether the
-/// latest store of the part's task was its first.
+/// What is left to store and to publish, and the part to return, in this order; and what the
+/// latest store of the part's task answered, Again where none was answered.
 #[derive(Drop)]
 pub(crate) struct Script {
     pub stores: VecDeque<(TaskNo, Outcome)>,
     pub publishes: VecDeque<Sealed>,
     pub part: Option<PartCall>,
-    pub first: bool,
+    pub latest: Stored,
     ghost in_range: { All (λ e. IsInRange e.1)
         stores.items } by { Prim.hlevel (props, range_prop) },
 }

@@ -9,6 +9,7 @@ ghost use Rattle.canvas_worker.specs.Scripts.{jobs_of};
 
 use crate::script::Script;
 use crate::sealed::{Sealed, seal};
+use canvas_backend::Stored;
 use canvas_codec::Sealer;
 use canvas_effects::Todo;
 use canvas_message::Message;
@@ -30,10 +31,10 @@ fn seal_all(alloc: Global, messages: Vec<Message>) -> Result<VecDeque<Sealed>, M
 }
 
 /// The script of what is to be done, with all its envelopes.
-pub(crate) fn script_of(alloc: Global, todo: Todo, first: bool) -> Result<Script, Memory>
+pub(crate) fn script_of(alloc: Global, todo: Todo, latest: Stored) -> Result<Script, Memory>
     requires { All (λ e. IsInRange e.1) todo.stores }
     ensures jobs { IfOk result (λ s. jobs_of s ≡ map enclosed (script (todo_view todo))) }
-    ensures first { IfOk result (λ s. s.first ≡ first) }
+    ensures latest { IfOk result (λ s. s.latest ≡ latest) }
 {
     let Todo {
         stores,
@@ -44,6 +45,6 @@ pub(crate) fn script_of(alloc: Global, todo: Todo, first: bool) -> Result<Script
         stores: VecDeque::from(stores.into_plain()),
         publishes: seal_all(alloc, messages.into_plain())?,
         part,
-        first,
+        latest,
     })
 }

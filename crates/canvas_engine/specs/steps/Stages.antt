@@ -7,12 +7,14 @@ use Rattle.canvas_semantics.specs.Evaluation.{State}
 use Rattle.canvas_semantics.specs.Line.{Line}
 use Rattle.canvas_semantics.specs.States.{numbers_from}
 use Rattle.canvas_message.specs.declared.envelope.Envelope.{Envelope}
-use Rattle.canvas_backend.specs.Backend.{Results, no_results, first_or, count_of, says_first}
+use Rattle.canvas_backend.specs.declared.stored.Stored.{Stored}
+use Rattle.canvas_backend.specs.declared.stored.Stored.TheVariants.{First, Again}
+use Rattle.canvas_backend.specs.Backend.{Results, no_results, first_or, count_of}
 use Rattle.canvas_backend.specs.Plain.{Shelf, held}
 use Rattle.canvas_backend.specs.Roster.{Roster, roster_of, members, is_chord, is_member}
 use Rattle.canvas_broker.specs.Broker as broker
 use Rattle.canvas_runs.specs.Book.{book_of}
-use Rattle.canvas_runs.specs.Core.{take, send, keep, part, read, pause, taken, sent, kept, counted, found, rested, taking, left_after, ReadsBack, IsCoreRun, is_inside, ack, acked}
+use Rattle.canvas_runs.specs.Core.{take, publish, store, part, read, rest, taken, sent, stored, counted, found, rested, taking, left_after, ReadsBack, IsCoreRun, is_inside, ack, acked}
 use Rattle.canvas_runs.specs.Lists.{by, at}
 use Rattle.canvas_runs.specs.Spending.{Entry, TurnedAgain, wanted, spent, agains_in}
 use Rattle.canvas_runs.specs.Tally.{greatest_count}
@@ -40,19 +42,19 @@ rows_of tasks results = map results.outcomes (numbers_from 1 tasks)
 -- there is more
 abbrev pub AnswersNow : Roster → List Envelope → Results → Bool → Asked → Answer → Type 0
 AnswersNow plan queue results more take (taken x) = x ≡ broker.answer queue broker.take
-AnswersNow plan queue results more (send e) sent = Unit {0}
-AnswersNow plan queue results more (keep t o) (kept b) =
-    b ≡ says_first (first_or (results.outcomes t))
+AnswersNow plan queue results more (publish e) sent = Unit {0}
+AnswersNow plan queue results more (store t o) (stored b) =
+    b ≡ first_or (results.outcomes t)
 AnswersNow plan queue results more (part g t) (counted m) = m ≡ count_of plan results g
 AnswersNow plan queue results more (read g i) (found t x) =
     (at i (members plan g) ≡ Some t) × (x ≡ results.outcomes t)
-AnswersNow plan queue results more pause (rested m) = m ≡ more
+AnswersNow plan queue results more rest (rested m) = m ≡ more
 AnswersNow plan queue results more ack acked = Unit {0}
 AnswersNow plan queue results more a r = ⊥
 
 -- the ask is one that the queue and the table take
 abbrev pub MayAsk : Roster → Results → Asked → Type 0
-MayAsk plan results (keep t o) = t ≤ plan.tasks
+MayAsk plan results (store t o) = t ≤ plan.tasks
 MayAsk plan results (part g t) =
     IsTrue (is_chord plan g) × IsTrue (is_member plan g t)
     × ((results.outcomes t ≡ None → ⊥) × (results.returned t ≡ false))
@@ -88,15 +90,15 @@ IsTried behaviour more c queue table table' =
     (table'.plan ≡ table.plan)
     × ((held table' ≡ held table) ⊎ Tried behaviour more c queue table table')
 
--- whether the ask is a store that answers Again
-abbrev pub stores_again : Results → Asked → Bool
-stores_again results (keep t o) = not (says_first (first_or (results.outcomes t)))
-stores_again results a = false
+-- what the ask is answered where it is a store, First where it is none
+abbrev pub store_answer : Results → Asked → Stored
+store_answer results (store t o) = first_or (results.outcomes t)
+store_answer results a = First
 
--- a count with one more where there is one, up to the greatest number that it holds
-abbrev pub counted_on : ℕ → Bool → ℕ
-counted_on m true = min greatest_count (m + 1)
-counted_on m false = m
+-- a count with one more where a store answered Again, up to the greatest number that it holds
+abbrev pub counted_on : ℕ → Stored → ℕ
+counted_on m First = m
+counted_on m Again = min greatest_count (m + 1)
 
 -- ---- a redelivery
 

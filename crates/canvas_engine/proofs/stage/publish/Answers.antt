@@ -19,5 +19,5 @@ returns-in-Ok g c =
     of_each c.answer.result (λ more. Stepped (g.T.Tasks.behaviour c.args.tasks.now) more old c.args.queue.now table c.answer.new.self c.publish.new.self table)
     (λ more.
     answered_ok (g.T.Tasks.behaviour c.args.tasks.now) c.answer.result more old c.answer.new.self c.args.queue.now c.publish.new.self table table
-    (C.send c.in-Some.envelope) C.sent asks tt c.requires.reads_back c.in-Ok.ensures.call refl refl
+    (C.publish c.in-Some.envelope) C.sent asks tt c.requires.reads_back c.in-Ok.ensures.call refl refl
     (subst (λ s. OnOk c.answer.result (c.answer.new.self ≡ s)) same c.answer.ensures.ok))

@@ -6,13 +6,12 @@ use Rattle.canvas_worker.specs.declared.ask.Ask.TheVariants as A
 use Rattle.canvas_worker.proofs.ShownAsks.{is_store, is_part}
 use Rattle.canvas_engine.proofs.StageAsks.{answered_err, stored_says, counted_says, none_counted}
 use Rattle.canvas_engine.proofs.stage.step.Goals as goal
-use Rattle.canvas_backend.specs.Backend.{says_first}
 
 pub returns-in-Store-clause-err : goal.returns-in-Store-clause-err
 returns-in-Store-clause-err g c =
     let old = c.args.core.now in
     answered_err (g.T.Tasks.behaviour c.args.tasks.now) c.answer-in-Store.result c.args.more old old c.args.queue.now c.args.queue.now c.args.table.now c.store-stored.new.self
-    (C.keep c.in-Store.task c.in-Store.outcome) (C.kept (says_first c.store-stored.result))
+    (C.store c.in-Store.task c.in-Store.outcome) (C.stored c.store-stored.result)
     (is_store _ c.in-Store.task c.in-Store.outcome (asked old.left) (sym c.in-Store.ensures.ask))
     (stored_says c.store-stored.result _ c.store-stored.ensures.reply)
     (c.in-Store.ensures.reads_back c.requires.inside) c.store-stored.ensures.after c.store-stored.ensures.plan

@@ -1,6 +1,5 @@
 use Rattle.std.proofs.Common.{rules, ◌≡◌, ℕ, Bool, Some}
 use Rattle.canvas_worker.specs.Polls.{Work, TellsOf}
-use Rattle.canvas_worker.specs.GateAnswers.{HeldBack}
 use Rattle.canvas_worker.proofs.Held.{held_back}
 use Rattle.canvas_worker.proofs.PollsFollowed.{goes_first, ends_give, of_one, pending}
 use Rattle.canvas_worker.proofs.worker.WorkerFuture.poll.Goals as goal

@@ -20,11 +20,25 @@ replies-requires-clause-suits g c =
 pub returns-in-Ok-clause-acted : goal.returns-in-Ok-clause-acted
 returns-in-Ok-clause-acted g c =
     let w : Work = c.args.self.now in
-    let u : Work = record { broker = c.self.inside.broker.now; desk = c.self.inside.backend.now; number = c.self.inside.number; pass = c.publish.new.pass; seat = c.self.inside.seat; core = c.envelope.new.self; held = held_in c.self.inside.source; taken = c.self.inside.taken; published = c.saturating_add-self-inside.result; first = c.self.inside.first; parts = c.self.inside.parts } in
-    let asks : asked w.core.left ≡ C.send c.in-Some.envelope = handed_out c.in-Some.envelope w.core c.requires.ready.inside (search rules) in
+    let u : Work = record {
+      broker = c.self.inside.broker.now;
+      desk = c.self.inside.backend.now;
+      number = c.self.inside.number;
+      pass =
+          c.publish.new.pass;
+      seat = c.self.inside.seat;
+      core = c.envelope.new.self;
+      held = held_in c.self.inside.source;
+      taken = c.self.inside.taken;
+      published =
+          c.saturating_add-self-inside.result;
+      first = c.self.inside.first;
+      parts = c.self.inside.parts;
+    } in
+    let asks : asked w.core.left ≡ C.publish c.in-Some.envelope = handed_out c.in-Some.envelope w.core c.requires.ready.inside (search rules) in
     let core : u.core ≡ handed w.core = search rules in
     asked_well (g.T.Tasks.behaviour c.args.tasks.now) w u c.replies.new.self
-    (C.send c.in-Some.envelope) C.sent c.replies.result c.replies.ensures.value c.requires.ready (record {
+    (C.publish c.in-Some.envelope) C.sent c.replies.result c.replies.ensures.value c.requires.ready (record {
       asked_is = asks;
       suits = tt;
       back = c.requires.reads_back;
@@ -34,7 +48,7 @@ returns-in-Ok-clause-acted g c =
       makes = search rules;
       serves = search rules;
       counts = search rules;
-      still = λ rests. absurd (busy_never (g.T.Tasks.behaviour c.args.tasks.now) w.desk.plan w.core.left C.sent (C.send c.in-Some.envelope) asks tt rests);
+      still = λ rests. absurd (busy_never (g.T.Tasks.behaviour c.args.tasks.now) w.desk.plan w.core.left C.sent (C.publish c.in-Some.envelope) asks tt rests);
       none_dropped = refl;
       core = ap (λ z. after_reply (g.T.Tasks.behaviour c.args.tasks.now) (book_in w.desk.plan) z C.sent) core
           ∙ handed_same (g.T.Tasks.behaviour c.args.tasks.now) (book_in w.desk.plan) w.core C.sent;
@@ -43,10 +57,24 @@ returns-in-Ok-clause-acted g c =
 pub returns-in-Err-clause-acted : goal.returns-in-Err-clause-acted
 returns-in-Err-clause-acted g c =
     let w : Work = c.args.self.now in
-    let u : Work = record { broker = c.self.inside.broker.now; desk = c.self.inside.backend.now; number = c.self.inside.number; pass = c.publish.new.pass; seat = c.self.inside.seat; core = c.envelope.new.self; held = held_in c.self.inside.source; taken = c.self.inside.taken; published = c.self.inside.published; first = c.self.inside.first; parts = c.self.inside.parts } in
-    let asks : asked w.core.left ≡ C.send c.in-Some.envelope = handed_out c.in-Some.envelope w.core c.requires.ready.inside (search rules) in
+    let u : Work = record {
+      broker = c.self.inside.broker.now;
+      desk = c.self.inside.backend.now;
+      number = c.self.inside.number;
+      pass =
+          c.publish.new.pass;
+      seat = c.self.inside.seat;
+      core = c.envelope.new.self;
+      held = held_in c.self.inside.source;
+      taken = c.self.inside.taken;
+      published =
+          c.self.inside.published;
+      first = c.self.inside.first;
+      parts = c.self.inside.parts;
+    } in
+    let asks : asked w.core.left ≡ C.publish c.in-Some.envelope = handed_out c.in-Some.envelope w.core c.requires.ready.inside (search rules) in
     let core : u.core ≡ handed w.core = search rules in
-    ends_badly (g.T.Tasks.behaviour c.args.tasks.now) w u (C.send c.in-Some.envelope) C.refused c.fails.result c.fails.ensures c.requires.ready (record {
+    ends_badly (g.T.Tasks.behaviour c.args.tasks.now) w u (C.publish c.in-Some.envelope) C.refused c.fails.result c.fails.ensures c.requires.ready (record {
       asked_is = asks;
       suits = tt;
       back = c.requires.reads_back;
@@ -56,7 +84,7 @@ returns-in-Err-clause-acted g c =
       makes = search rules;
       serves = search rules;
       counts = search rules;
-      still = λ rests. absurd (busy_never (g.T.Tasks.behaviour c.args.tasks.now) w.desk.plan w.core.left C.refused (C.send c.in-Some.envelope) asks tt rests);
+      still = λ rests. absurd (busy_never (g.T.Tasks.behaviour c.args.tasks.now) w.desk.plan w.core.left C.refused (C.publish c.in-Some.envelope) asks tt rests);
       none_dropped = refl;
       core = ap (λ z. after_reply (g.T.Tasks.behaviour c.args.tasks.now) (book_in w.desk.plan) z C.refused) core
           ∙ handed_same (g.T.Tasks.behaviour c.args.tasks.now) (book_in w.desk.plan) w.core C.refused;

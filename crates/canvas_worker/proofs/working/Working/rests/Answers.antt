@@ -9,20 +9,20 @@ use Rattle.canvas_worker.proofs.working.Working.rests.Goals as goal
 pub returns-then-has_more-clause-acted : goal.returns-then-has_more-clause-acted
 returns-then-has_more-clause-acted g c =
     let w : Work = c.args.self.now in
-    let asks : asked w.core.left ≡ C.pause = is_rest w.core.task (asked w.core.left) c.requires.asks in
-    asked_well (g.T.Tasks.behaviour c.args.tasks.now) w w c.answers.new.self C.pause (C.rested true) c.answers.result c.answers.ensures.value c.requires.ready
+    let asks : asked w.core.left ≡ C.rest = is_rest w.core.task (asked w.core.left) c.requires.asks in
+    asked_well (g.T.Tasks.behaviour c.args.tasks.now) w w c.answers.new.self C.rest (C.rested true) c.answers.result c.answers.ensures.value c.requires.ready
     (rest_asks (g.T.Tasks.behaviour c.args.tasks.now) w true c.requires.ready asks c.requires.reads_back)
 
 pub returns-in-Ok-clause-acted : goal.returns-in-Ok-clause-acted
 returns-in-Ok-clause-acted g c =
     let w : Work = c.args.self.now in
-    let asks : asked w.core.left ≡ C.pause = is_rest w.core.task (asked w.core.left) c.requires.asks in
+    let asks : asked w.core.left ≡ C.rest = is_rest w.core.task (asked w.core.left) c.requires.asks in
     rests_well (g.T.Tasks.behaviour c.args.tasks.now) w w c.answers-2.new.self c.in-Ok.ensures.value c.requires.ready
     (rest_asks (g.T.Tasks.behaviour c.args.tasks.now) w false c.requires.ready asks c.requires.reads_back)
 
 pub returns-in-Err-clause-acted : goal.returns-in-Err-clause-acted
 returns-in-Err-clause-acted g c =
     let w : Work = c.args.self.now in
-    let asks : asked w.core.left ≡ C.pause = is_rest w.core.task (asked w.core.left) c.requires.asks in
-    asked_badly (g.T.Tasks.behaviour c.args.tasks.now) w w c.answers-2.new.self C.pause (C.rested false) c.in-Err.end c.in-Err.ensures.value c.requires.ready
+    let asks : asked w.core.left ≡ C.rest = is_rest w.core.task (asked w.core.left) c.requires.asks in
+    asked_badly (g.T.Tasks.behaviour c.args.tasks.now) w w c.answers-2.new.self C.rest (C.rested false) c.in-Err.end c.in-Err.ensures.value c.requires.ready
     (rest_asks (g.T.Tasks.behaviour c.args.tasks.now) w false c.requires.ready asks c.requires.reads_back)

@@ -1,4 +1,5 @@
-use Rattle.std.proofs.Common.{rules, ◌≡◌, refl, subst, true, false, ◌≤◌}
+use Rattle.std.proofs.Common.{rules, ◌≡◌, refl, subst, ◌≤◌}
+use Rattle.canvas_backend.specs.declared.stored.Stored.TheVariants.{First, Again}
 use Rattle.canvas_runs.specs.Core as C
 use Rattle.canvas_worker.specs.steps.Held.{held_in}
 use Rattle.canvas_worker.specs.CoreState.{asked}
@@ -21,10 +22,24 @@ store-requires-clause-task g c =
 pub returns-in-First-clause-acted : goal.returns-in-First-clause-acted
 returns-in-First-clause-acted g c =
     let w : Work = c.args.self.now in
-    let u : Work = record { broker = c.self.inside.broker.now; desk = c.self.inside.backend.now; number = c.self.inside.number; pass = c.self.inside.pass; seat = c.store.new.seat; core = c.self.inside.core; held = held_in c.self.inside.source; taken = c.self.inside.taken; published = c.self.inside.published; first = c.saturating_add-self-inside.result; parts = c.self.inside.parts } in
-    let asks : asked w.core.left ≡ C.keep c.args.task c.args.outcome = is_store w.core.task c.args.task c.args.outcome (asked w.core.left) c.requires.asks in
-    asked_well (g.T.Tasks.behaviour c.args.tasks.now) w u c.replies.new.self (C.keep c.args.task c.args.outcome)
-    (C.kept true) c.replies.result c.replies.ensures.value c.requires.ready (record {
+    let u : Work = record {
+      broker = c.self.inside.broker.now;
+      desk = c.self.inside.backend.now;
+      number = c.self.inside.number;
+      pass =
+          c.self.inside.pass;
+      seat = c.store.new.seat;
+      core = c.self.inside.core;
+      held = held_in c.self.inside.source;
+      taken = c.self.inside.taken;
+      published =
+          c.self.inside.published;
+      first = c.saturating_add-self-inside.result;
+      parts = c.self.inside.parts;
+    } in
+    let asks : asked w.core.left ≡ C.store c.args.task c.args.outcome = is_store w.core.task c.args.task c.args.outcome (asked w.core.left) c.requires.asks in
+    asked_well (g.T.Tasks.behaviour c.args.tasks.now) w u c.replies.new.self (C.store c.args.task c.args.outcome)
+    (C.stored First) c.replies.result c.replies.ensures.value c.requires.ready (record {
       asked_is = asks;
       suits = tt;
       back = c.requires.reads_back;
@@ -34,8 +49,8 @@ returns-in-First-clause-acted g c =
       makes = search rules;
       serves = search rules;
       counts = search rules;
-      still = λ rests. absurd (busy_never (g.T.Tasks.behaviour c.args.tasks.now) w.desk.plan w.core.left (C.kept true)
-          (C.keep c.args.task c.args.outcome) asks tt rests);
+      still = λ rests. absurd (busy_never (g.T.Tasks.behaviour c.args.tasks.now) w.desk.plan w.core.left (C.stored First)
+          (C.store c.args.task c.args.outcome) asks tt rests);
       none_dropped = refl;
       core = search rules;
     })
@@ -43,10 +58,24 @@ returns-in-First-clause-acted g c =
 pub returns-in-Again-clause-acted : goal.returns-in-Again-clause-acted
 returns-in-Again-clause-acted g c =
     let w : Work = c.args.self.now in
-    let u : Work = record { broker = c.self.inside.broker.now; desk = c.self.inside.backend.now; number = c.self.inside.number; pass = c.self.inside.pass; seat = c.store.new.seat; core = c.self.inside.core; held = held_in c.self.inside.source; taken = c.self.inside.taken; published = c.self.inside.published; first = c.self.inside.first; parts = c.self.inside.parts } in
-    let asks : asked w.core.left ≡ C.keep c.args.task c.args.outcome = is_store w.core.task c.args.task c.args.outcome (asked w.core.left) c.requires.asks in
-    asked_well (g.T.Tasks.behaviour c.args.tasks.now) w u c.replies-in-Again.new.self (C.keep c.args.task c.args.outcome)
-    (C.kept false) c.replies-in-Again.result c.replies-in-Again.ensures.value c.requires.ready (record {
+    let u : Work = record {
+      broker = c.self.inside.broker.now;
+      desk = c.self.inside.backend.now;
+      number = c.self.inside.number;
+      pass =
+          c.self.inside.pass;
+      seat = c.store.new.seat;
+      core = c.self.inside.core;
+      held = held_in c.self.inside.source;
+      taken = c.self.inside.taken;
+      published =
+          c.self.inside.published;
+      first = c.self.inside.first;
+      parts = c.self.inside.parts;
+    } in
+    let asks : asked w.core.left ≡ C.store c.args.task c.args.outcome = is_store w.core.task c.args.task c.args.outcome (asked w.core.left) c.requires.asks in
+    asked_well (g.T.Tasks.behaviour c.args.tasks.now) w u c.replies-in-Again.new.self (C.store c.args.task c.args.outcome)
+    (C.stored Again) c.replies-in-Again.result c.replies-in-Again.ensures.value c.requires.ready (record {
       asked_is = asks;
       suits = tt;
       back = c.requires.reads_back;
@@ -56,8 +85,8 @@ returns-in-Again-clause-acted g c =
       makes = search rules;
       serves = search rules;
       counts = search rules;
-      still = λ rests. absurd (busy_never (g.T.Tasks.behaviour c.args.tasks.now) w.desk.plan w.core.left (C.kept false)
-          (C.keep c.args.task c.args.outcome) asks tt rests);
+      still = λ rests. absurd (busy_never (g.T.Tasks.behaviour c.args.tasks.now) w.desk.plan w.core.left (C.stored Again)
+          (C.store c.args.task c.args.outcome) asks tt rests);
       none_dropped = refl;
       core = search rules;
     })
