@@ -10,9 +10,9 @@ use Rattle.canvas_message.specs.declared.envelope.Envelope.{Envelope}
 use Rattle.canvas_backend.specs.Backend.{Log}
 use Rattle.canvas_broker.specs.Broker.{QueueEntry, publish, take, redeliver}
 use Rattle.canvas_runs.specs.Causes.{ByCause}
-use Rattle.canvas_runs.specs.Crew.{numbers_along}
 use Rattle.canvas_runs.specs.Law.{publishes, of_task as of_content}
 use Rattle.canvas_runs.specs.Lists.{Each, total}
+use Rattle.canvas_callers.specs.Crew.{numbers_along}
 use Rattle.canvas_engine.specs.Evidence.{IsRun}
 use Rattle.canvas_engine.specs.Headline.{Publish, published_in, envelope_of, of_task, IsCaused, Headline}
 use Rattle.canvas_engine.specs.declared.records.Records.{Records}

@@ -6,10 +6,10 @@ use Rattle.std.proofs.Math.Seq.{take-suc}
 use Rattle.std.proofs.lemmas.List.{take_all}
 use Rattle.canvas_task.specs.Apply.{Behaviour}
 use Rattle.canvas_semantics.specs.Line.{Line}
-use Rattle.canvas_runs.specs.Spending.{Entry}
-use Rattle.canvas_runs.specs.Turns.{Step, IsWorker, HasEnded, round, rounds, redelivers_one, redeliveries_in}
 use Rattle.canvas_runs.proofs.Sums.{total-append}
-use Rattle.canvas_runs.proofs.TurnEnds.{begins_list, begins_rotation, rounds_next}
+use Rattle.canvas_turns.specs.Spending.{Entry}
+use Rattle.canvas_turns.specs.Turns.{Step, IsWorker, HasEnded, round, rounds, redelivers_one, redeliveries_in}
+use Rattle.canvas_turns.proofs.TurnEnds.{begins_list, begins_rotation, rounds_next}
 use Rattle.canvas_worker.specs.declared.cause.Cause.{Cause}
 use Rattle.canvas_worker.specs.declared.cause.Cause.TheVariants.{Memory, Stopped}
 use Rattle.canvas_engine.specs.steps.Stages.{Reached, HasReached, IsTurn, IsHalt, IsPartOfRound, IsHaltInRound, IsEarlyEnd, IsRunThrough}

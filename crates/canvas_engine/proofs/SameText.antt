@@ -13,7 +13,7 @@ use Rattle.canvas_semantics.specs.SameMeaning.{IsSame}
 use Rattle.canvas_semantics.specs.States.{states, rows_from}
 use Rattle.canvas_semantics.proofs.RowNumbers.{states_in, states_listed}
 use Rattle.canvas_semantics.proofs.SameReport.{same_report, same_report_of}
-use Rattle.canvas_runs.specs.Spending.{Entry}
+use Rattle.canvas_turns.specs.Spending.{Entry}
 use Rattle.canvas_engine.specs.Correct.{IsAsked, IsWholeAgain}
 use Rattle.canvas_engine.specs.Texts.{IsPlanOfText, IsStored, IsTextAgain, IsTextFault}
 use Rattle.canvas_engine.specs.steps.PlanTexts.{IsPlanFault}

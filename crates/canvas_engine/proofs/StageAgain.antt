@@ -18,15 +18,16 @@ use Rattle.canvas_runs.specs.Book.{book_of}
 use Rattle.canvas_runs.specs.Calls.{AskedAndAnswered, scripts_of, of_scripts, held_by, held_after}
 use Rattle.canvas_runs.specs.Core.{take, publish, store, part, read, rest, redeliver, ack, taken, sent, stored, counted, found, rested, acked, CoreState, taking, resting, over, failed, owning, doing, reading, acking, left_after, IsCoreRun, is_inside}
 use Rattle.canvas_runs.specs.Lists.{by}
-use Rattle.canvas_runs.specs.Spending.{Entry, TurnedAgain, wanted, spent, comes_to, message_in, point_of, point, answers_again, agains_in}
 use Rattle.canvas_runs.specs.Tally.{greatest_count}
-use Rattle.canvas_runs.specs.Turns.{Step, IsWorker, Turned, all_taken, delivers_again, left, holds, holds_more, is_queued, redelivers_one, redeliveries_in}
 use Rattle.canvas_runs.specs.Worker.{opened}
 use Rattle.canvas_runs.specs.declared.when.When.{When}
 use Rattle.canvas_runs.specs.declared.when.When.TheVariants.{Early, Late}
-use Rattle.canvas_runs.proofs.Spending.{again_step, again_spend}
 use Rattle.canvas_runs.proofs.Sums.{total-append}
-use Rattle.canvas_runs.proofs.Turning.{by_append, scripts_append, held_append, queue_more, results_more, turned_append, asks_of_scripts}
+use Rattle.canvas_runs.proofs.MoreAsks.{by_append, scripts_append, held_append, asks_of_scripts}
+use Rattle.canvas_turns.specs.Spending.{Entry, TurnedAgain, wanted, spent, comes_to, message_in, point_of, point, answers_again, agains_in}
+use Rattle.canvas_turns.specs.Turns.{Step, IsWorker, Turned, all_taken, delivers_again, left, holds, holds_more, is_queued, redelivers_one, redeliveries_in}
+use Rattle.canvas_turns.proofs.Spending.{again_step, again_spend}
+use Rattle.canvas_turns.proofs.Turning.{queue_more, results_more, turned_append}
 use Rattle.canvas_worker.specs.Asks.{Asked, Answer}
 use Rattle.canvas_worker.specs.Cores.{IsAlike}
 use Rattle.canvas_worker.specs.Books.{no_book}

@@ -12,7 +12,7 @@ use Rattle.canvas_backend.specs.Plain.{Shelf, held}
 use Rattle.canvas_runs.specs.Core as C
 use Rattle.canvas_runs.specs.Core.{ReadsBack}
 use Rattle.canvas_runs.specs.Lists.{at}
-use Rattle.canvas_runs.specs.Turns.{queue_next, results_next}
+use Rattle.canvas_turns.specs.Turns.{queue_next, results_next}
 use Rattle.canvas_worker.specs.Asks.{Asked, Answer, FoundInRange, shown}
 use Rattle.canvas_worker.specs.Books.{no_book, book_in}
 use Rattle.canvas_worker.specs.EnvelopeWorker.{enveloped_by, no_tasks}

@@ -16,9 +16,10 @@ use Rattle.canvas_backend.specs.Roster.{Roster, roster_of}
 use Rattle.canvas_runs.specs.Book.{book_of}
 use Rattle.canvas_runs.specs.Core.{take, publish, store, part, read, rest, end, taken, sent, stored, counted, found, rested, CoreState, taking, resting, over, failed, owning, doing, reading, ask, answered, left_after, Suits, ReadsBack, IsCoreRun, is_inside, redeliver, ack, acked, acking}
 use Rattle.canvas_runs.specs.Lists.{Each, by}
-use Rattle.canvas_runs.specs.Turns.{Step, IsWorker, Turned, Answers, HasEnded, left, queue_after, queue_next, results_after, results_next, holds_more, some_inside, is_queued}
 use Rattle.canvas_runs.specs.Worker.{worker}
-use Rattle.canvas_runs.proofs.Turning.{by_more, by_other, left_more, core_more, queue_more, results_more, turned_step, scripts_more, asks_of_scripts, held_append}
+use Rattle.canvas_runs.proofs.MoreAsks.{by_more, by_other, left_more, core_more, scripts_more, asks_of_scripts, held_append}
+use Rattle.canvas_turns.specs.Turns.{Step, IsWorker, Turned, Answers, HasEnded, left, queue_after, queue_next, results_after, results_next, holds_more, some_inside, is_queued}
+use Rattle.canvas_turns.proofs.Turning.{queue_more, results_more, turned_step}
 use Rattle.canvas_worker.specs.Asks.{Asked, Answer}
 use Rattle.canvas_worker.specs.Books.{no_book, book_in}
 use Rattle.canvas_worker.specs.Cores.{GoTogether, IsAlike}

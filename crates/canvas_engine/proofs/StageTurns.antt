@@ -9,12 +9,12 @@ use Rattle.canvas_backend.specs.Backend.{Results}
 use Rattle.canvas_backend.specs.Plain.{held}
 use Rattle.canvas_backend.specs.Roster.{Roster, roster_of}
 use Rattle.canvas_runs.specs.Core.{take, publish, store, part, read, rest, end, ReadsBack, is_inside, ack, redeliver}
-use Rattle.canvas_runs.specs.Spending.{Entry}
-use Rattle.canvas_runs.specs.TurnLaws.{Answerable}
-use Rattle.canvas_runs.specs.Turns.{Step, IsWorker, HasEnded, results_after, results_next, is_queued}
-use Rattle.canvas_runs.proofs.TurnLaw.{next_answerable, held_range}
-use Rattle.canvas_runs.proofs.Spending.{again_skip}
-use Rattle.canvas_runs.proofs.Turning.{results_more, turned_skip}
+use Rattle.canvas_turns.specs.Spending.{Entry}
+use Rattle.canvas_turns.specs.TurnLaws.{Answerable}
+use Rattle.canvas_turns.specs.Turns.{Step, IsWorker, HasEnded, results_after, results_next, is_queued}
+use Rattle.canvas_turns.proofs.TurnLaw.{next_answerable, held_range}
+use Rattle.canvas_turns.proofs.Spending.{again_skip}
+use Rattle.canvas_turns.proofs.Turning.{results_more, turned_skip}
 use Rattle.canvas_worker.specs.Asks.{Asked}
 use Rattle.canvas_worker.specs.Books.{no_book}
 use Rattle.canvas_worker.specs.EnvelopeWorker.{enveloped_by, no_tasks}

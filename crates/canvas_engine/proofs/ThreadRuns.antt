@@ -20,22 +20,22 @@ use Rattle.canvas_backend.specs.Seats.{Desk}
 use Rattle.canvas_backend.specs.Roster.{Roster, roster_of}
 use Rattle.canvas_broker.specs.Broker.{QueueEntry as Entries}
 use Rattle.canvas_runs.specs.Calls.{scripts_all}
-use Rattle.canvas_runs.specs.CallerLaws.{broker_calls_seen}
-use Rattle.canvas_runs.specs.Crew.{Mate, Ran, EndedWell, OwnTally, first_pass, first_seat}
 use Rattle.canvas_runs.specs.Following.{Pass, Seat, Makes, Serves, Working, begins, IsDone, IsOver, Followed}
 use Rattle.canvas_runs.specs.Lists.{Each}
-use Rattle.canvas_runs.specs.Rows.{reads_from, RanTo, RanWell}
+use Rattle.canvas_callers.specs.CallerLaws.{broker_calls_seen}
+use Rattle.canvas_callers.specs.Crew.{Mate, Ran, EndedWell, OwnTally, first_pass, first_seat}
+use Rattle.canvas_callers.specs.Rows.{reads_from, RanTo, RanWell}
 use Rattle.canvas_semantics.specs.States.{EachMay}
 use Rattle.canvas_runs.specs.Run.{IsRead, published_all}
 use Rattle.canvas_runs.specs.Tally.{Tally as Counts, EachCounts, greatest_count}
 use Rattle.canvas_runs.specs.Worker.{sealed}
 use Rattle.canvas_runs.proofs.Causes.{by_cause, completed_once, by_its_cause}
 use Rattle.canvas_runs.proofs.FirstLaw.{first_part}
-use Rattle.canvas_runs.proofs.FromCrew.{passes, seats, the_run, the_closed}
-use Rattle.canvas_runs.proofs.Rows.{rows_of_well, rows_of_any}
-use Rattle.canvas_runs.proofs.Tallies.{tallies_count}
 use Rattle.canvas_runs.proofs.Words.{each_weaker}
 use Rattle.canvas_runs.specs.Core.{Between}
+use Rattle.canvas_callers.proofs.FromCrew.{passes, seats, the_run, the_closed}
+use Rattle.canvas_callers.proofs.Rows.{rows_of_well, rows_of_any}
+use Rattle.canvas_callers.proofs.Tallies.{tallies_count}
 use Rattle.canvas_worker.specs.Finished.{Finished}
 use Rattle.canvas_worker.specs.declared.record.Record.{Record}
 use Rattle.canvas_worker.specs.declared.cause.Cause.{Cause}

@@ -12,18 +12,18 @@ use Rattle.canvas_semantics.specs.States.{numbers_from, states}
 use Rattle.canvas_effects.specs.Effects.{first_messages}
 use Rattle.canvas_backend.specs.Backend.{no_results}
 use Rattle.canvas_backend.specs.Plain.{held}
-use Rattle.canvas_runs.specs.Going.{most_steps}
-use Rattle.canvas_runs.specs.Spending.{Entry, TurnedAgain, no_turn, ByEntries, RunEntries, agains_in}
 use Rattle.canvas_runs.specs.Tally.{greatest_count}
 use Rattle.canvas_runs.specs.Law.{its_state}
+use Rattle.canvas_turns.specs.Going.{most_steps}
+use Rattle.canvas_turns.specs.Spending.{Entry, TurnedAgain, no_turn, ByEntries, RunEntries, agains_in}
 use Rattle.canvas_semantics.specs.States.{EachMay}
-use Rattle.canvas_runs.specs.TurnLaws.{held_rows}
-use Rattle.canvas_runs.specs.Turns.{Step, IsWorker, FirstsRead, all_taken, rounds, redeliveries_in}
 use Rattle.canvas_runs.specs.Worker.{sealed}
-use Rattle.canvas_runs.proofs.Agains.{few_again, agains_few, agains_are}
-use Rattle.canvas_runs.proofs.Spending.{are_turns}
-use Rattle.canvas_runs.proofs.Spends.{spends_length}
-use Rattle.canvas_runs.proofs.TurnLaw.{states_are, states_may}
+use Rattle.canvas_turns.specs.TurnLaws.{held_rows}
+use Rattle.canvas_turns.specs.Turns.{Step, IsWorker, FirstsRead, all_taken, rounds, redeliveries_in}
+use Rattle.canvas_turns.proofs.Agains.{few_again, agains_few, agains_are}
+use Rattle.canvas_turns.proofs.Spending.{are_turns}
+use Rattle.canvas_turns.proofs.Spends.{spends_length}
+use Rattle.canvas_turns.proofs.TurnLaw.{states_are, states_may}
 use Rattle.canvas_worker.specs.CoreState.{Standing, begun}
 use Rattle.canvas_worker.specs.declared.cause.Cause.{Cause}
 use Rattle.canvas_worker.specs.declared.cause.Cause.TheVariants.{Memory, Stopped}

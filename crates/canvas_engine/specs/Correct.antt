@@ -19,9 +19,9 @@ use Rattle.canvas_task.specs.Apply.{Behaviour}
 use Rattle.canvas_semantics.specs.Evaluation.{State}
 use Rattle.canvas_semantics.specs.Line.{Line, tree_of}
 use Rattle.canvas_semantics.specs.States.{states, EachMay}
-use Rattle.canvas_runs.specs.TurnLaws.{held_rows}
-use Rattle.canvas_runs.specs.Spending.{Entry, RanAgain, RunEntries, agains_in}
-use Rattle.canvas_runs.specs.Turns.{IsWorker, RanWhole, RanUntil, redeliveries_in}
+use Rattle.canvas_turns.specs.TurnLaws.{held_rows}
+use Rattle.canvas_turns.specs.Spending.{Entry, RanAgain, RunEntries, agains_in}
+use Rattle.canvas_turns.specs.Turns.{IsWorker, RanWhole, RanUntil, redeliveries_in}
 use Rattle.canvas_engine.specs.declared.report.Report.{Report}
 use Rattle.canvas_worker.specs.declared.cause.Cause.TheVariants.{Memory, Stopped}
 use Rattle.canvas_engine.specs.declared.fault.RunFault.{RunFault}

@@ -2,9 +2,9 @@
 -- point, with a comma between two.
 use Rattle.std.specs.Prelude.{ℕ, ◌<◌, List, ◌∷◌, ◌++◌, length, codes}
 use Rattle.std.specs.Fmt.{decimal}
-use Rattle.canvas_runs.specs.Spending.{Entry}
 use Rattle.canvas_runs.specs.declared.when.When.{When}
 use Rattle.canvas_runs.specs.declared.when.When.TheVariants.{Early, Late}
+use Rattle.canvas_turns.specs.Spending.{Entry}
 use Rattle.canvas_engine.specs.CommaList.{IsNumberFromOne, Lists}
 use Rattle.canvas_engine.specs.declared.entry_list.EntryFault.{EntryFault}
 use Rattle.canvas_engine.specs.declared.entry_list.EntryFault.TheVariants.{BadAgain, Memory}

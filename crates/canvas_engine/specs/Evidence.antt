@@ -11,15 +11,15 @@ use Rattle.canvas_message.specs.declared.envelope.Envelope.{Envelope}
 use Rattle.canvas_backend.specs.Backend.{Log}
 use Rattle.canvas_backend.specs.Roster.{roster_of}
 use Rattle.canvas_broker.specs.Broker.{QueueEntry as Entries}
-use Rattle.canvas_runs.specs.Accounts.{QueueAccounts, TableAccounts}
-use Rattle.canvas_runs.specs.CallerLaws.{broker_calls_seen}
 use Rattle.canvas_runs.specs.Calls.{backend_calls}
 use Rattle.canvas_runs.specs.Causes.{ByCause, ByItsCause, completions}
 use Rattle.canvas_runs.specs.Law.{publishes}
-use Rattle.canvas_runs.specs.Rows.{RanWell}
 use Rattle.canvas_runs.specs.Run.{Run, Closed, published_all}
 use Rattle.canvas_runs.specs.Tally.{Tally as Counts, CountsOf}
 use Rattle.canvas_runs.specs.Worker.{sealed}
+use Rattle.canvas_callers.specs.Accounts.{QueueAccounts, TableAccounts}
+use Rattle.canvas_callers.specs.CallerLaws.{broker_calls_seen}
+use Rattle.canvas_callers.specs.Rows.{RanWell}
 use Rattle.canvas_engine.specs.declared.records.Records.{Records}
 use Rattle.canvas_engine.specs.declared.records.Tally.{Tally}
 

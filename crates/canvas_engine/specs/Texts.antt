@@ -12,7 +12,7 @@ use Rattle.canvas_semantics.specs.Line.{Line, tree_of}
 use Rattle.canvas_semantics.specs.Report.{report, report_of}
 use Rattle.canvas_semantics.specs.SameMeaning.{IsSame}
 use Rattle.canvas_semantics.specs.States.{rows_from, states}
-use Rattle.canvas_runs.specs.Spending.{Entry}
+use Rattle.canvas_turns.specs.Spending.{Entry}
 use Rattle.canvas_engine.specs.Correct.{IsAsked, IsWholeAgain}
 use Rattle.canvas_engine.specs.declared.fault.RunFault.{RunFault}
 use Rattle.canvas_engine.specs.declared.fault.RunFault.TheVariants.{Halted}

@@ -1,7 +1,7 @@
 -- The text of a list of turns: the decimal numbers of workers, with a comma between two.
 use Rattle.std.specs.Prelude.{ℕ, ◌<◌, List, length, None}
 use Rattle.std.specs.Fmt.{decimal}
-use Rattle.canvas_runs.specs.Turns.{IsWorker}
+use Rattle.canvas_turns.specs.Turns.{IsWorker}
 use Rattle.canvas_worker.specs.declared.cause.Cause.TheVariants.{Memory}
 use Rattle.canvas_engine.specs.CommaList.{Lists}
 use Rattle.canvas_engine.specs.declared.fault.RunFault.{RunFault}

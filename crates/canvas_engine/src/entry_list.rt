@@ -1,7 +1,7 @@
 //! The text of a list of entries, which say what is delivered again.
 ghost use Rattle.std.specs.Prelude.{◌≡◌, IfOk, IfErr, MatchOption};
-ghost use Rattle.canvas_runs.specs.Spending.{Entry};
 ghost use Rattle.canvas_runs.specs.declared.when.When.{When};
+ghost use Rattle.canvas_turns.specs.Spending.{Entry};
 ghost use Rattle.canvas_engine.specs.EntryList.{IsEntry, IsEntryFault, IsEntryList};
 ghost use Rattle.canvas_engine.specs.EntryList.{entry_text, when_text};
 

@@ -6,7 +6,7 @@ ghost use Rattle.canvas_runs.specs.Run.{published_all};
 ghost use Rattle.canvas_runs.specs.Worker.{sealed};
 ghost use Rattle.canvas_engine.specs.steps.Stages.{ReadsAs};
 ghost use Rattle.canvas_effects.specs.Effects.{first_messages};
-ghost use Rattle.canvas_runs.specs.Turns.{FirstsRead};
+ghost use Rattle.canvas_turns.specs.Turns.{FirstsRead};
 
 use canvas_broker::{Broker, BrokerPass};
 use canvas_codec::Sealer;

@@ -10,7 +10,7 @@ ghost use Rattle.canvas_worker.specs.Finished.{Finished};
 ghost use Rattle.canvas_backend.specs.Backend.{read, found};
 ghost use Rattle.canvas_backend.specs.Seats.{Stands};
 ghost use Rattle.canvas_runs.specs.Following.{Serves};
-ghost use Rattle.canvas_runs.specs.Rows.{reads_from};
+ghost use Rattle.canvas_callers.specs.Rows.{reads_from};
 ghost use Rattle.canvas_engine.specs.Correct.{AreWorkers, IsThreadFault};
 ghost use Rattle.canvas_engine.specs.Evidence.{IsRun};
 ghost use Rattle.canvas_engine.specs.steps.Crews.{AreGathered};

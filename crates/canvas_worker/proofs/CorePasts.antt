@@ -8,7 +8,7 @@ use Rattle.canvas_message.specs.Content.{Content}
 use Rattle.canvas_backend.specs.declared.stored.Stored.{Stored}
 use Rattle.canvas_backend.specs.declared.stored.Stored.TheVariants.{First, Again}
 use Rattle.canvas_runs.specs.Worker.{opened}
-use Rattle.canvas_runs.proofs.Turning.{held_append}
+use Rattle.canvas_runs.proofs.MoreAsks.{held_append}
 use Rattle.canvas_runs.specs.Calls.{held_by, held_after}
 use Rattle.canvas_effects.specs.Job.{store, publish, hand_in}
 use Rattle.canvas_runs.specs.Book.{Book}

@@ -10,13 +10,13 @@ use Rattle.canvas_semantics.specs.Line.{Line, count_line}
 use Rattle.canvas_rewrite.specs.Planned.{IsPlan}
 use Rattle.canvas_effects.specs.Effects.{first_messages}
 use Rattle.canvas_backend.specs.Roster.{Roster, roster_of}
-use Rattle.canvas_runs.specs.Crew.{Mate, SplitPasses, JoinPasses, SplitSeats, JoinSeats, first_pass, first_seat}
 use Rattle.canvas_runs.specs.Following.{Pass, Seat, Makes, IsOver}
 use Rattle.canvas_runs.specs.Lists.{Each}
 use Rattle.canvas_runs.specs.Run.{published_all}
 use Rattle.canvas_runs.specs.Tally.{Tally as Counts}
-use Rattle.canvas_runs.specs.Turns.{FirstsRead}
 use Rattle.canvas_runs.specs.Worker.{sealed}
+use Rattle.canvas_callers.specs.Crew.{Mate, SplitPasses, JoinPasses, SplitSeats, JoinSeats, first_pass, first_seat}
+use Rattle.canvas_turns.specs.Turns.{FirstsRead}
 use Rattle.canvas_worker.specs.declared.cause.Cause.{Cause}
 use Rattle.canvas_engine.specs.steps.Slots.{IsReadySlot, SplitsOff, nothing_counted}
 use Rattle.canvas_engine.specs.declared.records.Tally.{Tally}

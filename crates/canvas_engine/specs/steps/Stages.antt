@@ -16,11 +16,11 @@ use Rattle.canvas_broker.specs.Broker as broker
 use Rattle.canvas_runs.specs.Book.{book_of}
 use Rattle.canvas_runs.specs.Core.{take, publish, store, part, read, rest, taken, sent, stored, counted, found, rested, taking, left_after, ReadsBack, IsCoreRun, is_inside, ack, acked}
 use Rattle.canvas_runs.specs.Lists.{by, at}
-use Rattle.canvas_runs.specs.Spending.{Entry, TurnedAgain, wanted, spent, agains_in}
 use Rattle.canvas_runs.specs.Tally.{greatest_count}
-use Rattle.canvas_runs.specs.Turns.{Step, HasEnded, IsWorker, AllEnded, Begins, round, rounds, queue_after, queue_next, results_after, results_next, redeliveries_in}
-use Rattle.canvas_runs.specs.TurnLaws.{ByTurns}
 use Rattle.canvas_runs.specs.Worker.{read_envelope, sealed}
+use Rattle.canvas_turns.specs.Spending.{Entry, TurnedAgain, wanted, spent, agains_in}
+use Rattle.canvas_turns.specs.Turns.{Step, HasEnded, IsWorker, AllEnded, Begins, round, rounds, queue_after, queue_next, results_after, results_next, redeliveries_in}
+use Rattle.canvas_turns.specs.TurnLaws.{ByTurns}
 use Rattle.canvas_message.specs.Content.{Content}
 use Rattle.canvas_worker.specs.Asks.{Asked, Answer}
 use Rattle.canvas_worker.specs.Books.{no_book, book_in}

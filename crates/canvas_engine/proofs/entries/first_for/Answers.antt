@@ -1,7 +1,7 @@
 use Rattle.std.proofs.Common.{◌≡◌, false, Some, refl, sym, ap, ◌∙◌, subst, take, suc, ◌+◌, arith}
 use Rattle.std.specs.Prelude.{slice_get}
 use Rattle.std.proofs.lemmas.Option.{slice_get_read}
-use Rattle.canvas_runs.specs.Spending.{has}
+use Rattle.canvas_turns.specs.Spending.{has}
 use Rattle.canvas_engine.proofs.EntryPlaces.{none_more, is_first}
 use Rattle.canvas_engine.proofs.entries.first_for.Goals as goal
 

@@ -1,5 +1,5 @@
 use Rattle.std.proofs.Common.{ℕ, List, take, []}
-use Rattle.canvas_runs.specs.Spending.{Entry}
+use Rattle.canvas_turns.specs.Spending.{Entry}
 use Rattle.canvas_engine.specs.steps.Stages.{Reached, HasReached}
 use Rattle.canvas_engine.proofs.turns.run_list.Given as goal
 

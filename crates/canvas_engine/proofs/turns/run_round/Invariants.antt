@@ -1,6 +1,6 @@
 use Rattle.std.proofs.Common.{ℕ, List}
-use Rattle.canvas_runs.specs.Spending.{Entry}
-use Rattle.canvas_runs.specs.Turns.{Step}
+use Rattle.canvas_turns.specs.Spending.{Entry}
+use Rattle.canvas_turns.specs.Turns.{Step}
 use Rattle.canvas_engine.specs.steps.Stages.{Reached, IsPartOfRound}
 use Rattle.canvas_engine.proofs.turns.run_round.Given as goal
 

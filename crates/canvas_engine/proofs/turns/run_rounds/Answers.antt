@@ -1,5 +1,5 @@
 use Rattle.std.proofs.Common.{suc, ◌++◌, subst}
-use Rattle.canvas_runs.specs.Turns.{rounds}
+use Rattle.canvas_turns.specs.Turns.{rounds}
 use Rattle.canvas_engine.specs.steps.Stages.{IsPartOfRound}
 use Rattle.canvas_engine.proofs.RoundTurns.{another_round, halt_in_rounds, last_round}
 use Rattle.canvas_engine.proofs.turns.run_rounds.Goals as goal

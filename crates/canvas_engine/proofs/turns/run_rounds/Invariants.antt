@@ -1,6 +1,6 @@
 use Rattle.std.proofs.Common.{ℕ, List, ◌++◌}
-use Rattle.canvas_runs.specs.Spending.{Entry}
-use Rattle.canvas_runs.specs.Turns.{rounds}
+use Rattle.canvas_turns.specs.Spending.{Entry}
+use Rattle.canvas_turns.specs.Turns.{rounds}
 use Rattle.canvas_engine.specs.steps.Stages.{HasReached}
 use Rattle.canvas_engine.proofs.turns.run_rounds.Given as goal
 

@@ -7,8 +7,8 @@ use Rattle.canvas_effects.specs.Effects.{first_messages}
 use Rattle.canvas_backend.specs.Roster.{roster_of}
 use Rattle.canvas_runs.specs.Following.{Serves}
 use Rattle.canvas_semantics.specs.States.{EachMay}
-use Rattle.canvas_runs.specs.Rows.{reads_from}
 use Rattle.canvas_runs.specs.Tally.{greatest_count}
+use Rattle.canvas_callers.specs.Rows.{reads_from}
 use Rattle.canvas_worker.specs.Finished.{Finished}
 use Rattle.canvas_engine.specs.Correct.{IsThreadFault}
 use Rattle.canvas_engine.specs.Evidence.{IsRun}

@@ -5,7 +5,7 @@ use Rattle.canvas_semantics.specs.States.{states}
 use Rattle.canvas_backend.specs.Roster.{roster_of}
 use Rattle.canvas_runs.specs.Following.{Serves}
 use Rattle.canvas_semantics.specs.States.{EachMay}
-use Rattle.canvas_runs.specs.Rows.{reads_from}
+use Rattle.canvas_callers.specs.Rows.{reads_from}
 use Rattle.canvas_engine.specs.Correct.{IsThreadFault}
 use Rattle.canvas_engine.proofs.ThreadRuns.{halted_may, unworked_may}
 use Rattle.canvas_engine.proofs.gathered.Gathered.halt.Goals as goal

@@ -1,0 +1,50 @@
+-- What the one list of all calls of a run has of each caller (Lamport's sequential consistency: its
+-- own calls in its own order): worker 0's calls, and for the workers, numbered from 1 in the order
+-- of their making, just theirs.
+use Rattle.std.specs.Prelude.{ℕ, suc, ◌≡◌, List, [], ◌∷◌, ◌++◌}
+use Rattle.canvas_task.specs.Apply.{Behaviour}
+use Rattle.canvas_history.specs.Answers.{entries_by}
+use Rattle.canvas_history.specs.History.{split_off, made_by, Sole}
+use Rattle.canvas_message.specs.declared.envelope.Envelope.{Envelope}
+use Rattle.canvas_backend.specs.Backend as backend
+use Rattle.canvas_backend.specs.Roster.{Roster}
+use Rattle.canvas_broker.specs.Broker as broker
+use Rattle.canvas_runs.specs.Calls.{QueueAnswered, TableAnswered, backend_calls}
+use Rattle.canvas_runs.specs.CallerEntries.{joins_of, splits_of}
+use Rattle.canvas_callers.specs.Crew.{Mate, numbers_along}
+
+module _ (behaviour : Behaviour) (plan : Roster) where
+  abbrev pub HasQueueCalls : ℕ → List (Mate behaviour plan) → List (broker.QueueEntry Envelope)
+      → Type 0
+  HasQueueCalls k [] log = Unit
+  HasQueueCalls k (m ∷ ms) log =
+      (made_by k log ≡ entries_by k m.followed.made) × HasQueueCalls (suc k) ms log
+
+  abbrev pub HasTableCalls : ℕ → List (Mate behaviour plan) → backend.Log → Type 0
+  HasTableCalls k [] log = Unit
+  HasTableCalls k (m ∷ ms) log =
+      (made_by k log ≡ entries_by k (backend_calls m.followed.run))
+      × HasTableCalls (suc k) ms log
+
+  -- of the broker: what worker 0 called before and after it took in the workers
+  pub record QueueAccounts (mates : List (Mate behaviour plan))
+      (first last : List (QueueAnswered Envelope)) (log : List (broker.QueueEntry Envelope)) :
+      Type 0 where
+    pub legal : broker.IsLegal log
+    pub own : made_by 0 log
+        ≡ (splits_of (numbers_along 1 mates) ++ entries_by 0 first)
+        ++ (joins_of (numbers_along 1 mates) ++ entries_by 0 last)
+    pub each : HasQueueCalls 1 mates log
+    pub names : split_off log ≡ numbers_along 1 mates
+    pub sole : Sole log 0
+
+  -- of the backend, where worker 0 calls after it took in the workers
+  pub record TableAccounts (mates : List (Mate behaviour plan)) (last : List TableAnswered)
+      (log : backend.Log) : Type 0 where
+    pub legal : backend.IsLegal plan log
+    pub own : made_by 0 log
+        ≡ (splits_of (numbers_along 1 mates) ++ joins_of (numbers_along 1 mates))
+        ++ entries_by 0 last
+    pub each : HasTableCalls 1 mates log
+    pub names : split_off log ≡ numbers_along 1 mates
+    pub sole : Sole log 0

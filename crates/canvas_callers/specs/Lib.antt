@@ -1,0 +1,4 @@
+pub mod Crew
+pub mod Accounts
+pub mod CallerLaws
+pub mod Rows

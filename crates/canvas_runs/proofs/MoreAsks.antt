@@ -1,0 +1,91 @@
+-- One more answered ask: of a key, of a core run, of a worker's scripts.
+use Rattle.std.proofs.Common.{◌≡◌, ◌≢◌, ℕ, Option, Bool, true, false, cond, eqb, List, [], ◌∷◌, ◌++◌, refl, ap, ◌∙◌, append-nil, eq-eqb, ne_eqb}
+use Rattle.canvas_effects.specs.Job as job
+use Rattle.canvas_runs.specs.Core.{Ask, Reply, CoreState, taking, ask, answered, left_after, Suits, ReadsBack, IsCoreRun, acking, over, failed, resting, owning, doing, reading}
+use Rattle.canvas_effects.specs.Job.{hand_in}
+use Rattle.canvas_runs.specs.Calls.{AskedAndAnswered, of_scripts, scripts_of, held_by, held_after, delivers, DeliversHeld}
+use Rattle.canvas_runs.specs.Lists.{by}
+use Rattle.canvas_runs.specs.Protocol.{Protocol}
+
+-- ---- one more entry of a key, or of another
+
+module _ {A : Type 0} where
+  pub by_append : (p : ℕ) (xs ys : List (ℕ × A)) → by p (xs ++ ys) ≡ by p xs ++ by p ys
+  by_append p [] ys = refl
+  by_append p (x ∷ xs) ys = go (eqb x.0 p) (by_append p xs ys)
+    where
+      go : (b : Bool) → by p (xs ++ ys) ≡ by p xs ++ by p ys → cond b (x.1 ∷ by p (xs ++ ys)) (by p (xs ++ ys)) ≡ cond b (x.1 ∷ by p xs) (by p xs) ++ by p ys
+      go true e = ap (λ l. x.1 ∷ l) e
+      go false e = e
+
+  pub by_more : (p : ℕ) (xs : List (ℕ × A)) (y : A) → by p (xs ++ (p, y) ∷ []) ≡ by p xs ++ y ∷ []
+  by_more p xs y = by_append p xs ((p, y) ∷ []) ∙ ap (λ b. by p xs ++ cond b (y ∷ []) []) (eq-eqb p p refl)
+
+  pub by_other : (p q : ℕ) (xs : List (ℕ × A)) (y : A) → q ≢ p → by p (xs ++ (q, y) ∷ []) ≡ by p xs
+  by_other p q xs y apart = by_append p xs ((q, y) ∷ []) ∙ (ap (λ b. by p xs ++ cond b (y ∷ []) []) (ne_eqb q p apart) ∙ append-nil (by p xs))
+
+-- ---- one more answered ask of a core run
+
+module _ (X : Protocol) where
+  pub left_more : (s : CoreState X.Message X.Carried) (xs : List (AskedAndAnswered X.Envelope)) (x : AskedAndAnswered X.Envelope)
+      → left_after X s (xs ++ x ∷ []) ≡ answered X (left_after X s xs) x.1
+  left_more s [] x = refl
+  left_more s (y ∷ xs) x = left_more (answered X s y.1) xs x
+
+  pub core_more : (s : CoreState X.Message X.Carried) (xs : List (AskedAndAnswered X.Envelope)) (x : AskedAndAnswered X.Envelope)
+      → IsCoreRun X s xs → x.0 ≡ ask X (left_after X s xs) → Suits x.0 x.1 → ReadsBack X (left_after X s xs)
+      → IsCoreRun X s (xs ++ x ∷ [])
+  core_more s [] x run asks suits back = (asks, (suits, back), tt)
+  core_more s (y ∷ xs) x run asks suits back = (run.0, run.1, core_more (answered X s y.1) xs x run.2 asks suits back)
+
+-- ---- a worker's steps and its core run
+
+module _ {E : Type 0} where
+  pub scripts_append : (xs ys : List (AskedAndAnswered E)) → scripts_of (xs ++ ys) ≡ scripts_of xs ++ scripts_of ys
+  scripts_append [] ys = refl
+  scripts_append (x ∷ xs) ys = go (of_scripts x.0) (scripts_append xs ys)
+    where
+      go : (b : Bool) → scripts_of (xs ++ ys) ≡ scripts_of xs ++ scripts_of ys
+          → cond b (x ∷ scripts_of (xs ++ ys)) (scripts_of (xs ++ ys)) ≡ cond b (x ∷ scripts_of xs) (scripts_of xs) ++ scripts_of ys
+      go true e = ap (λ l. x ∷ l) e
+      go false e = e
+
+  pub scripts_more : (xs : List (AskedAndAnswered E)) (a : Ask E) (r : Reply E) → of_scripts a ≡ true
+      → scripts_of (xs ++ (a, r) ∷ []) ≡ scripts_of xs ++ (a, r) ∷ []
+  scripts_more xs a r e = scripts_append xs ((a, r) ∷ []) ∙ ap (λ b. scripts_of xs ++ cond b ((a, r) ∷ []) []) e
+
+  pub held_append : (h : Option E) (xs ys : List (AskedAndAnswered E)) → held_after h (xs ++ ys) ≡ held_after (held_after h xs) ys
+  held_append h [] ys = refl
+  held_append h (x ∷ xs) ys = held_append (held_by h x.0 x.1) xs ys
+
+  pub delivers_append : (h : Option E) (xs : List (AskedAndAnswered E)) (x : AskedAndAnswered E) → DeliversHeld h xs → delivers (held_after h xs) x.0
+      → DeliversHeld h (xs ++ x ∷ [])
+  delivers_append h [] x d k = (k, tt)
+  delivers_append h (y ∷ xs) x d k = (d.0, delivers_append (held_by h y.0 y.1) xs x d.1 k)
+
+module _ (X : Protocol) where
+  pub asks_of_scripts : (s : CoreState X.Message X.Carried) → of_scripts (ask X s) ≡ true
+  asks_of_scripts taking = refl
+  asks_of_scripts resting = refl
+  asks_of_scripts over = refl
+  asks_of_scripts failed = refl
+  asks_of_scripts (owning m) = refl
+  asks_of_scripts (doing [] b) = refl
+  asks_of_scripts (doing (job.store t o ∷ js) b) = refl
+  asks_of_scripts (doing (job.publish m ∷ js) b) = refl
+  asks_of_scripts (doing (hand_in g t c ∷ js) b) = refl
+  asks_of_scripts (reading g c fs) = refl
+  asks_of_scripts acking = refl
+
+  pub plain_ask : (s : CoreState X.Message X.Carried) (h : Option X.Envelope) → delivers h (ask X s)
+  plain_ask taking h = tt
+  plain_ask resting h = tt
+  plain_ask over h = tt
+  plain_ask failed h = tt
+  plain_ask (owning m) h = tt
+  plain_ask (doing [] b) h = tt
+  plain_ask (doing (job.store t o ∷ js) b) h = tt
+  plain_ask (doing (job.publish m ∷ js) b) h = tt
+  plain_ask (doing (hand_in g t c ∷ js) b) h = tt
+  plain_ask (reading g c fs) h = tt
+  plain_ask acking h = tt

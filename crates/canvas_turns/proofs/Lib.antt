@@ -1,0 +1,16 @@
+pub mod Turning
+pub mod TurnLogs
+pub mod TurnRuns
+pub mod TurnStates
+pub mod TurnWalk
+pub mod RowRanges
+pub mod TurnLaw
+pub mod TurnSums
+pub mod TurnRounds
+pub mod TurnEnds
+pub mod ChordTurns
+pub mod Spending
+pub mod Spends
+pub mod Agains
+pub mod EntryRuns
+pub mod Points

@@ -1,0 +1,114 @@
+-- The histories of a run by turns: worker 0 makes the workers and publishes the first messages, and then each step that is a call stands with its worker.
+use Rattle.std.proofs.Common.{◌≡◌, ◌≢◌, ℕ, zero, suc, ◌≤◌, Bool, true, false, cond, eqb, ◌==◌, List, [], ◌∷◌, ◌++◌, refl, sym, ap, ◌∙◌, subst, append_assoc, append-nil, ne_eqb, ⊎_elim, arith}
+use Rattle.std.proofs.lemmas.Bool.{false≢true, eqb-true, eqb-false, cases_Bool}
+use Rattle.canvas_history.specs.History.{Entry, split, join, calls, among, live, live_from, split_off, state_from, Legal}
+use Rattle.canvas_history.proofs.Histories.{In, in_left, in_right, in_append, in_here, in_later, in_cases, live_append, legal_append, OnlyCalls}
+use Rattle.canvas_history.specs.Answers.{entries_by}
+use Rattle.canvas_runs.specs.CallerEntries.{splits_of}
+use Rattle.canvas_runs.specs.Lists.{by}
+use Rattle.canvas_runs.proofs.CallsOf.{tag}
+use Rattle.canvas_turns.specs.Turns.{round, IsWorker}
+
+-- ---- the numbers 1 to n
+
+pub in_round : (n p : ℕ) → In p (round n) → IsWorker n p
+in_round zero p h = absurd (false≢true h)
+in_round (suc n) p h =
+    ⊎_elim (λ i. let k = in_round n p i in (k.0, omega (arith, k.1)))
+    (λ i. ⊎_elim (λ (e : suc n ≡ p). (omega (arith, e), omega (arith, e))) (λ f. absurd (false≢true f)) (in_cases p (suc n) [] i))
+    (in_append p (round n) (suc n ∷ []) h)
+
+pub round_has : (n p : ℕ) → IsWorker n p → In p (round n)
+round_has zero p h = absurd (omega (arith, h.0, h.1))
+round_has (suc n) p h =
+    ⊎_elim (λ (e : (p == suc n) ≡ true). let same : p ≡ suc n = eqb-true p (suc n) e in
+    in_right p (round n) (suc n ∷ []) (subst (λ k. In p (k ∷ [])) same (in_here p [])))
+    (λ (e : (p == suc n) ≡ false). in_left p (round n) (suc n ∷ []) (round_has n p (h.0, below e))) (cases_Bool (p == suc n))
+  where
+    below : (p == suc n) ≡ false → p ≤ n
+    below e = let apart : p ≢ suc n = eqb-false p (suc n) e in omega (arith, apart, h.1)
+
+-- ---- splits, and calls after them
+
+named_splits : (C R : Type 0) (qs : List ℕ) → split_off (splits_of {C = C} {R = R} qs) ≡ qs
+named_splits C R [] = refl
+named_splits C R (q ∷ qs) = ap (λ l. q ∷ l) (named_splits C R qs)
+
+live_splits : (C R : Type 0) (cs qs : List ℕ) → live_from cs (splits_of {C = C} {R = R} qs) ≡ cs ++ qs
+live_splits C R cs [] = sym (append-nil cs)
+live_splits C R cs (q ∷ qs) = live_splits C R (cs ++ q ∷ []) qs ∙ append_assoc cs (q ∷ []) qs
+
+module _ {C R : Type 0} where
+  splits_more : (qs rs : List ℕ) → splits_of {C = C} {R = R} (qs ++ rs) ≡ splits_of qs ++ splits_of rs
+  splits_more [] rs = refl
+  splits_more (q ∷ qs) rs = ap (λ l. split 0 q ∷ l) (splits_more qs rs)
+
+  pub only_live : (cs : List ℕ) (es : List (Entry C R)) → OnlyCalls es → live_from cs es ≡ cs
+  only_live cs [] o = refl
+  only_live cs (split p q ∷ es) o = absurd o
+  only_live cs (join p q ∷ es) o = absurd o
+  only_live cs (calls p c r ∷ es) o = only_live cs es o
+
+  pub only_append : (xs ys : List (Entry C R)) → OnlyCalls xs → OnlyCalls ys → OnlyCalls (xs ++ ys)
+  only_append [] ys o u = u
+  only_append (split p q ∷ xs) ys o u = absurd o
+  only_append (join p q ∷ xs) ys o u = absurd o
+  only_append (calls p c r ∷ xs) ys o u = only_append xs ys o u
+
+  -- the workers were made, and calls are all that follows
+  pub record Made (n : ℕ) (log : List (Entry C R)) : Type 0 where
+    pub rest : List (Entry C R)
+    pub is : log ≡ splits_of (round n) ++ rest
+    pub only : OnlyCalls rest
+
+  pub made_live : (n : ℕ) (log : List (Entry C R)) → Made n log → live log ≡ 0 ∷ round n
+  made_live n log m =
+      ap live m.is ∙ (live_append (0 ∷ []) (splits_of (round n)) m.rest
+      ∙ (only_live (live (splits_of (round n))) m.rest m.only ∙ live_splits C R (0 ∷ []) (round n)))
+
+  pub worker_lives : (n p : ℕ) (log : List (Entry C R)) → Made n log → IsWorker n p → among p (live log) ≡ true
+  worker_lives n p log m w = subst (λ ls. In p ls) (sym (made_live n log m)) (in_later p 0 (round n) (round_has n p w))
+
+  pub first_lives : (n : ℕ) (log : List (Entry C R)) → Made n log → among 0 (live log) ≡ true
+  first_lives n log m = subst (λ ls. In 0 ls) (sym (made_live n log m)) (in_here 0 (round n))
+
+module _ {C R S : Type 0} (first : S) (answer : S → C → R) (next : S → C → S) (May : List (Entry C R) → S → ℕ → C → Type 0) where
+  pub splits_legal : (n : ℕ) → Legal first answer next May (splits_of (round n))
+  splits_legal zero = tt
+  splits_legal (suc n) =
+      subst (Legal first answer next May) (sym (splits_more (round n) (suc n ∷ [])))
+      (legal_append first answer next May [] (splits_of (round n)) (split 0 (suc n) ∷ []) (splits_legal n)
+      ((alive, ne_eqb (suc n) 0 (λ e. omega (arith, e)), fresh), tt))
+    where
+      alive : among 0 (live (splits_of {C = C} {R = R} (round n))) ≡ true
+      alive = subst (λ ls. In 0 ls) (sym (live_splits C R (0 ∷ []) (round n))) (in_here 0 (round n))
+
+      fresh : among (suc n) (split_off (splits_of {C = C} {R = R} (round n))) ≡ false
+      fresh = subst (λ ls. among (suc n) ls ≡ false) (sym (named_splits C R (round n)))
+          (⊎_elim (λ (h : among (suc n) (round n) ≡ true). let k = in_round n (suc n) h in absurd (omega (arith, k.1)))
+          (λ (h : among (suc n) (round n) ≡ false). h) (cases_Bool (among (suc n) (round n))))
+
+  pub splits_state : (s : S) (qs : List ℕ) → state_from first answer next May s (splits_of qs) ≡ s
+  splits_state s [] = refl
+  splits_state s (q ∷ qs) = splits_state s qs
+
+-- ---- calls by one caller
+
+pub by_tag : {A : Type 0} (p q : ℕ) (cs : List A) → by q (tag p cs) ≡ cond (eqb p q) cs []
+by_tag {A} p q cs = go (eqb p q) refl
+  where
+    here : (ds : List A) → eqb p q ≡ true → by q (tag p ds) ≡ ds
+    here [] e = refl
+    here (d ∷ ds) e = ap (λ b. cond b (d ∷ by q (tag p ds)) (by q (tag p ds))) e ∙ ap (λ l. d ∷ l) (here ds e)
+
+    off : (ds : List A) → eqb p q ≡ false → by q (tag p ds) ≡ []
+    off [] e = refl
+    off (d ∷ ds) e = ap (λ b. cond b (d ∷ by q (tag p ds)) (by q (tag p ds))) e ∙ off ds e
+
+    go : (b : Bool) → eqb p q ≡ b → by q (tag p cs) ≡ cond b cs []
+    go true e = here cs e
+    go false e = off cs e
+
+pub entries_only : {C R : Type 0} (p : ℕ) (cs : List (C × R)) → OnlyCalls (entries_by p cs)
+entries_only p [] = tt
+entries_only p (c ∷ cs) = entries_only p cs

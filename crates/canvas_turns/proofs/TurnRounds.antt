@@ -1,0 +1,359 @@
+-- Of each two rounds one has a call, until all have ended.
+use Rattle.std.proofs.Common.{◌≡◌, ◌≢◌, ◌⊎◌, ℕ, zero, suc, ◌+◌, ◌≤◌, ◌||◌, Bool, true, false, cond, eqb, List, [], ◌∷◌, ◌++◌, Some, None, refl, sym, ap, ◌∙◌, subst, append_assoc, append-nil, inl, inr, ⊎_elim, ne_eqb, eq-eqb, arith}
+use Rattle.std.proofs.lemmas.Bool.{cases_eq, false≢true}
+use Rattle.canvas_history.proofs.Histories.{In, in_cases}
+use Rattle.canvas_semantics.specs.Line.{Line}
+use Rattle.canvas_rewrite.specs.Planned.{IsPlan}
+use Rattle.canvas_effects.specs.Job.{store, publish, hand_in}
+use Rattle.canvas_message.specs.declared.envelope.Envelope.{Envelope}
+use Rattle.canvas_broker.specs.Broker as broker
+use Rattle.canvas_runs.specs.Calls.{of_scripts}
+use Rattle.canvas_runs.specs.Core.{Ask, Reply, end, taken, sent, stored, counted, found, rested, acked, taking, resting, over, failed, owning, doing, reading, acking, ask, answered, Doing, is_inside}
+use Rattle.canvas_runs.specs.Lists.{Each, total}
+use Rattle.canvas_runs.specs.Worker.{worker, sealed}
+use Rattle.canvas_turns.specs.Turns.{Step, is_queued, queue_next, queue_after, left, IsWorker, Answers, FirstsRead, some_inside, holds_more, HasEnded, Turned, all_taken, skips_turn, takes_turn, delivers_again, AllEnded, round}
+use Rattle.canvas_effects.specs.Effects.{first_messages}
+use Rattle.std.specs.Prelude.{map}
+use Rattle.canvas_task.specs.Apply.{Behaviour}
+use Rattle.canvas_runs.proofs.Sums.{total-append}
+use Rattle.canvas_runs.proofs.MoreAsks.{asks_of_scripts}
+use Rattle.canvas_runs.proofs.Words.{each_append, each_left, each_weaker}
+use Rattle.canvas_turns.proofs.TurnLaw.{round_workers}
+use Rattle.canvas_turns.proofs.TurnLogs.{round_has}
+use Rattle.canvas_turns.proofs.TurnStates.{Ready}
+use Rattle.canvas_turns.proofs.TurnSums.{calls_of, calls_in}
+use Rattle.canvas_turns.proofs.TurnWalk.{inside, Idle, Holds, ended_over, holds_step, holds_turned, idle_more, idle_stays}
+use Rattle.canvas_turns.proofs.Turning.{turned_part, queue_more, left_here, left_other}
+
+-- how often the worker has a turn
+abbrev pub turns_of : ℕ → List ℕ → ℕ
+turns_of p us = total (λ q. cond (eqb q p) 1 0) us
+
+not_here : (p q : ℕ) (us : List ℕ) → q ≢ p → turns_of p (q ∷ us) ≡ turns_of p us
+not_here p q us apart = let z : ◌≡◌ {A = ℕ} (cond (eqb q p) 1 0) 0 = ap (λ b. cond b 1 0) (ne_eqb q p apart) in omega (arith, z)
+
+here : (p q : ℕ) (us : List ℕ) → q ≡ p → turns_of p (q ∷ us) ≡ 1 + turns_of p us
+here p q us same = let z : ◌≡◌ {A = ℕ} (cond (eqb q p) 1 0) 1 = ap (λ b. cond b 1 0) (eq-eqb q p same) in omega (arith, z)
+
+-- each worker has one in each round
+once_round : (n p : ℕ) → IsWorker n p → 1 ≤ turns_of p (round n)
+once_round zero p w = absurd (omega (arith, w.0, w.1))
+once_round (suc n) p w =
+    let split = total-append (λ q. cond (eqb q p) 1 0) (round n) (suc n ∷ []) in
+    elim (cases_eq (suc n) p) [
+      | inl e ↦ let z = here p (suc n) [] e in omega (arith, split, z)
+      | inr f ↦ let r = once_round n p (w.0, omega (arith, w.1, f)) in omega (arith, split, r)
+    ]
+
+-- what holds of the numbers of a round holds of each worker
+pub each_round : (n : ℕ) (P : ℕ → Type 0) → Each P (round n) → (p : ℕ) → IsWorker n p → P p
+each_round n P a p w = go (round n) a (round_has n p w)
+  where
+    go : (us : List ℕ) → Each P us → In p us → P p
+    go [] a i = absurd (false≢true i)
+    go (u ∷ us) a i = ⊎_elim (λ (same : u ≡ p). subst P same a.0) (λ j. go us a.1 j) (in_cases p u us i)
+
+module _ (behaviour : Behaviour) (l : Line) where
+  abbrev Y : Type 0
+  Y = Ask Envelope × Reply Envelope
+
+  -- one step without a call: a worker that takes nothing, or that rests
+  pub data Quiet : Doing (worker behaviour l) → Reply Envelope → Type 0 where
+    takes_none : Quiet taking (taken None)
+    rests_on : {b : Bool} → Quiet resting (rested b)
+
+  pub quiet_step : (n : ℕ) (xs : List Step) (s : Doing (worker behaviour l)) (r : Reply Envelope)
+      → Answers behaviour l n xs (ask (worker behaviour l) s) r → calls_of behaviour l (ask (worker behaviour l) s, r) ≡ 0 → Quiet s r
+  quiet_step n xs taking (taken None) h z = takes_none
+  quiet_step n xs taking (taken (Some e)) h z = absurd (omega (arith, z))
+  quiet_step n xs resting (rested b) h z = rests_on
+  quiet_step n xs (owning m) (stored b) h z = absurd (omega (arith, z))
+  quiet_step n xs (doing (store t o ∷ js) d) (stored b) h z = absurd (omega (arith, z))
+  quiet_step n xs (doing (publish m ∷ js) d) sent h z = absurd (omega (arith, z))
+  quiet_step n xs (doing (hand_in g t c ∷ js) d) (counted m) h z = absurd (omega (arith, z))
+  quiet_step n xs (reading g c fs) (found t x) h z = absurd (omega (arith, z))
+  quiet_step n xs acking acked h z = absurd (omega (arith, z))
+  quiet_step n xs s r h z = elim h [ ]
+
+  quiet_outside : (s : Doing (worker behaviour l)) (r : Reply Envelope) → Quiet s r
+      → (is_inside s ≡ false) × (is_inside (answered (worker behaviour l) s r) ≡ false)
+  quiet_outside taking (taken None) takes_none = (refl, refl)
+  quiet_outside resting (rested true) rests_on = (refl, refl)
+  quiet_outside resting (rested false) rests_on = (refl, refl)
+  quiet_outside s r q = elim q [ ]
+
+  quiet_queue : (q : List Envelope) (n : ℕ) (xs : List Step) (s : Doing (worker behaviour l)) (r : Reply Envelope) → Quiet s r → queue_after l xs ≡ q
+      → Answers behaviour l n xs (ask (worker behaviour l) s) r → queue_next q (ask (worker behaviour l) s) ≡ q
+  quiet_queue [] n xs taking (taken None) takes_none e h = refl
+  quiet_queue (x ∷ q) n xs taking (taken None) takes_none e h = absurd (let wrong : None ≡ Some x = h ∙ ap (λ z. broker.answer z broker.take) e in cc)
+  quiet_queue q n xs resting (rested b) rests_on e h = refl
+  quiet_queue q n xs s r k e h = elim k [ ]
+
+  -- how far a worker is from its end, where there is nothing more to do
+  abbrev rank : Doing (worker behaviour l) → ℕ
+  rank over = 0
+  rank resting = 1
+  rank taking = 2
+  rank s = 3
+
+  -- the turns for which a worker finds nothing, where something is queued
+  abbrev waits : Doing (worker behaviour l) → ℕ
+  waits resting = 1
+  waits s = 0
+
+  rank_over : (s : Doing (worker behaviour l)) → rank s ≡ 0 → s ≡ over
+  rank_over taking e = absurd (omega (arith, e))
+  rank_over resting e = absurd (omega (arith, e))
+  rank_over over e = refl
+  rank_over failed e = absurd (omega (arith, e))
+  rank_over (owning m) e = absurd (omega (arith, e))
+  rank_over (doing js b) e = absurd (omega (arith, e))
+  rank_over (reading g c fs) e = absurd (omega (arith, e))
+  rank_over acking e = absurd (omega (arith, e))
+
+  few_waits : (s : Doing (worker behaviour l)) → waits s ≤ 1
+  few_waits taking = omega arith
+  few_waits resting = omega arith
+  few_waits over = omega arith
+  few_waits failed = omega arith
+  few_waits (owning m) = omega arith
+  few_waits (doing js b) = omega arith
+  few_waits (reading g c fs) = omega arith
+  few_waits acking = omega arith
+
+  module _ (plan : IsPlan l) (back : FirstsRead l) (n : ℕ) where
+    abbrev Sound : List Step → Type 0
+    Sound xs = Holds behaviour l plan back n xs
+
+    -- the first step of these turns, in what it is without a call
+    pub record First (xs : List Step) (p : ℕ) (r : Reply Envelope) : Type 0 where
+      pub quiet : Quiet (left behaviour l xs p) r
+      pub answers : Answers behaviour l n xs (ask (worker behaviour l) (left behaviour l xs p)) r
+
+    first_of : (xs : List Step) (p : ℕ) (a : Ask Envelope) (r : Reply Envelope) (k : ℕ) → a ≡ ask (worker behaviour l) (left behaviour l xs p)
+        → Answers behaviour l n xs a r → calls_of behaviour l (a, r) + k ≡ 0 → First xs p r
+    first_of xs p a r k e h z =
+        let here : calls_of behaviour l (a, r) ≡ 0 = omega (arith, z) in
+        record {
+          quiet = quiet_step n xs (left behaviour l xs p) r (subst (λ y. Answers behaviour l n xs y r) e h)
+              (subst (λ y. calls_of behaviour l (y, r) ≡ 0) e here);
+          answers = subst (λ y. Answers behaviour l n xs y r) e h;
+        }
+
+    left_after_one : (xs : List Step) (p : ℕ) (a : Ask Envelope) (r : Reply Envelope) (q : ℕ) → q ≡ p
+        → a ≡ ask (worker behaviour l) (left behaviour l xs p)
+        → left behaviour l (xs ++ (p, (a, r)) ∷ []) q ≡ answered (worker behaviour l) (left behaviour l xs p) r
+    left_after_one xs p a r q same e = ap (left behaviour l (xs ++ (p, (a, r)) ∷ [])) same
+        ∙ left_here behaviour l xs p a r (ap of_scripts e ∙ asks_of_scripts (worker behaviour l) (left behaviour l xs p))
+
+    queue_same : (xs : List Step) (p : ℕ) (a : Ask Envelope) (r : Reply Envelope) → a ≡ ask (worker behaviour l) (left behaviour l xs p)
+        → First xs p r → queue_after l (xs ++ (p, (a, r)) ∷ []) ≡ queue_after l xs
+    queue_same xs p a r e f =
+        queue_more (map sealed (first_messages l)) xs (p, (a, r))
+        ∙ (ap (queue_next (queue_after l xs)) e ∙ quiet_queue (queue_after l xs) n xs (left behaviour l xs p) r f.quiet refl f.answers)
+
+    -- ---- whoever has a turn without a call is outside of scripts
+
+    outside : (before : List Step) (us : List ℕ) (ys : List Step) → Sound before → Each (IsWorker n) us → Turned behaviour l n before us ys
+        → calls_in behaviour l ys ≡ 0 → Each (λ p. is_inside (left behaviour l before p) ≡ false) us
+    outside before [] ys s w t z = tt
+    outside before (p ∷ us) (x ∷ ys) s w (delivers_again i h t) z = absurd (omega (arith, z))
+    outside before (p ∷ us) ys s w (skips_turn e t) z =
+        (ap is_inside (ended_over behaviour l plan back n before p (left behaviour l before p) (s.ready p w.0) e), outside before us ys s w.1 t z)
+    outside before (p ∷ us) ((q, (a, r)) ∷ ys) s w (takes_turn b e h t) z =
+        let f = first_of before q a r (calls_in behaviour l ys) e h z in
+        let out = (quiet_outside (left behaviour l before q) r f.quiet).0 in (
+          out,
+          each_weaker (λ u i. elim (cases_eq q u) [
+            | inl same ↦ ap (λ v. is_inside (left behaviour l before v)) (sym same) ∙ out
+            | inr apart ↦ ap is_inside (sym (left_other behaviour l before u q a r apart)) ∙ i
+          ]) us (outside (before ++ (q, (a, r)) ∷ []) us ys (holds_step behaviour l plan back n before q a r s w.0 b e h) w.1 t (omega (arith, z))),
+        )
+
+    -- ---- where nothing is left to do each worker comes nearer to its end
+
+    abbrev Nearer : List Step → List ℕ → List Step → ℕ → Type 0
+    Nearer before us after p = (rank (left behaviour l after p) + turns_of p us ≤ rank (left behaviour l before p)) ⊎ (rank (left behaviour l after p) ≡ 0)
+
+    more_false : (xs : List Step) (b : Bool) → Idle behaviour l n xs → b ≡ holds_more behaviour l n xs → b ≡ false
+    more_false xs b i e = e ∙ idle_more behaviour l n xs i
+
+    own_nearer : (xs : List Step) (s : Doing (worker behaviour l)) (r : Reply Envelope) → Idle behaviour l n xs → Quiet s r
+        → Answers behaviour l n xs (ask (worker behaviour l) s) r → (k j : ℕ) → (k + j ≤ rank (answered (worker behaviour l) s r)) ⊎ (k ≡ 0)
+        → (k + (1 + j) ≤ rank s) ⊎ (k ≡ 0)
+    own_nearer xs taking (taken None) i takes_none h k j (inl e) = inl (omega (arith, e))
+    own_nearer xs taking (taken None) i takes_none h k j (inr e) = inr e
+    own_nearer xs resting (rested true) i rests_on h k j e = absurd (false≢true (sym (more_false xs true i h)))
+    own_nearer xs resting (rested false) i rests_on h k j (inl e) = inr (omega (arith, e))
+    own_nearer xs resting (rested false) i rests_on h k j (inr e) = inr e
+    own_nearer xs s r i q h k j e = elim q [ ]
+
+    nearer : (before : List Step) (us : List ℕ) (ys : List Step) → Sound before → Idle behaviour l n before → Each (IsWorker n) us
+        → Turned behaviour l n before us ys → calls_in behaviour l ys ≡ 0 → (p : ℕ) → Nearer before us (before ++ ys) p
+    nearer before [] [] s i w all_taken z p =
+        inl (let same : rank (left behaviour l (before ++ []) p) ≡ rank (left behaviour l before p) = ap (λ xs. rank (left behaviour l xs p))
+        (append-nil before) in omega (arith, same))
+    nearer before us (x ∷ ys) s i w (delivers_again j h t) z p = absurd (omega (arith, z))
+    nearer before (q ∷ us) ys s i w (skips_turn e t) z p =
+        let rest = nearer before us ys s i w.1 t z p in
+        elim (cases_eq q p) [
+          | inl same ↦
+              let none : rank (left behaviour l before p) ≡ 0 = ap (λ v. rank (left behaviour l before v)) (sym same)
+              ∙ ap rank (ended_over behaviour l plan back n before q (left behaviour l before q) (s.ready q w.0) e) in
+              inr (⊎_elim (λ a. omega (arith, a, none)) (λ b. b) rest)
+          | inr apart ↦ let k = not_here p q us apart in ⊎_elim (λ a. inl (omega (arith, a, k))) (λ b. inr b) rest
+        ]
+    nearer before (q ∷ us) ((v, (a, r)) ∷ ys) s i w (takes_turn b e h t) z p =
+        let f = first_of before q a r (calls_in behaviour l ys) e h z in
+        let next : List Step = before ++ (q, (a, r)) ∷ [] in
+        let stays = subst (λ y. Idle behaviour l n (before ++ (q, (y, r)) ∷ [])) (sym e) (idle_stays behaviour l plan back n before s q w.0 r b f.answers i) in
+        let rest = subst (λ xs. Nearer next us xs p) (append_assoc before ((q, (a, r)) ∷ []) ys)
+        (nearer next us ys (holds_step behaviour l plan back n before q a r s w.0 b e h) stays w.1 t (omega (arith, z)) p) in
+        elim (cases_eq q p) [
+          | inl same ↦
+              let mine : rank (left behaviour l next p) ≡ rank (answered (worker behaviour l) (left behaviour l before q) r) =
+              ap rank (left_after_one before q a r p (sym same) e) in
+              let then : rank (left behaviour l before q) ≡ rank (left behaviour l before p) = ap (λ u. rank (left behaviour l before u)) same in
+              let k = here p q us same in
+              let one = own_nearer before (left behaviour l before q) r i f.quiet f.answers (rank (left behaviour l (before ++ (q, (a, r)) ∷ ys) p))
+              (turns_of p us) (⊎_elim (λ c. inl (omega (arith, c, mine))) (λ c. inr c) rest) in
+              ⊎_elim (λ c. inl (omega (arith, c, k, then))) (λ c. inr c) one
+          | inr apart ↦
+              let same : rank (left behaviour l next p) ≡ rank (left behaviour l before p) = ap rank (left_other behaviour l before p q a r apart) in
+              let k = not_here p q us apart in
+              ⊎_elim (λ c. inl (omega (arith, c, k, same))) (λ c. inr c) rest
+        ]
+
+    -- ---- where something is queued a worker has one turn without a call at most
+
+    more_true : (xs : List Step) (b : Bool) → is_queued (queue_after l xs) ≡ true → b ≡ holds_more behaviour l n xs → b ≡ true
+    more_true xs b q e = e ∙ ap (λ c. c || some_inside behaviour l n xs) q
+
+    none_queued : (q : List Envelope) → is_queued q ≡ true → None ≡ broker.answer q broker.take → ⊥
+    none_queued [] e h = cc
+    none_queued (x ∷ q) e h = cc
+
+    own_waits : (xs : List Step) (s : Doing (worker behaviour l)) (r : Reply Envelope) → is_queued (queue_after l xs) ≡ true → Quiet s r
+        → Answers behaviour l n xs (ask (worker behaviour l) s) r → (j : ℕ) → j ≤ waits (answered (worker behaviour l) s r) → 1 + j ≤ waits s
+    own_waits xs taking (taken None) i takes_none h j e = absurd (none_queued (queue_after l xs) i h)
+    own_waits xs resting (rested true) i rests_on h j e = omega (arith, e)
+    own_waits xs resting (rested false) i rests_on h j e = absurd (false≢true (more_true xs false i h))
+    own_waits xs s r i q h j e = elim q [ ]
+
+    waiting : (before : List Step) (us : List ℕ) (ys : List Step) → Sound before → is_queued (queue_after l before) ≡ true → Each (IsWorker n) us
+        → Turned behaviour l n before us ys → calls_in behaviour l ys ≡ 0 → (p : ℕ) → turns_of p us ≤ waits (left behaviour l before p)
+    waiting before [] ys s i w t z p = omega arith
+    waiting before (q ∷ us) (x ∷ ys) s i w (delivers_again j h t) z p = absurd (omega (arith, z))
+    waiting before (q ∷ us) ys s i w (skips_turn e t) z p =
+        let empty = (s.idle q w.0 (ended_over behaviour l plan back n before q (left behaviour l before q) (s.ready q w.0) e)).empty in
+        absurd (false≢true (sym (ap is_queued empty) ∙ i))
+    waiting before (q ∷ us) ((v, (a, r)) ∷ ys) s i w (takes_turn b e h t) z p =
+        let f = first_of before q a r (calls_in behaviour l ys) e h z in
+        let next : List Step = before ++ (q, (a, r)) ∷ [] in
+        let rest = waiting next us ys (holds_step behaviour l plan back n before q a r s w.0 b e h) (ap is_queued (queue_same before q a r e f) ∙ i) w.1 t
+        (omega (arith, z)) p in
+        elim (cases_eq q p) [
+          | inl same ↦
+              let mine : waits (left behaviour l next p) ≡ waits (answered (worker behaviour l) (left behaviour l before q) r) =
+              ap waits (left_after_one before q a r p (sym same) e) in
+              let then : waits (left behaviour l before q) ≡ waits (left behaviour l before p) = ap (λ u. waits (left behaviour l before u)) same in
+              let k = here p q us same in
+              let one = own_waits before (left behaviour l before q) r i f.quiet f.answers (turns_of p us) (omega (arith, rest, mine)) in
+              omega (arith, one, k, then)
+          | inr apart ↦
+              let same : waits (left behaviour l next p) ≡ waits (left behaviour l before p) = ap waits (left_other behaviour l before p q a r apart) in
+              let k = not_here p q us apart in
+              omega (arith, rest, k, same)
+        ]
+
+    -- ---- two rounds
+
+    abbrev pub pair : List ℕ
+    pair = round n ++ round n
+
+    pair_workers : Each (IsWorker n) pair
+    pair_workers = each_append (IsWorker n) (round n) (round n) (round_workers n) (round_workers n)
+
+    twice_pair : (p : ℕ) → IsWorker n p → 2 ≤ turns_of p pair
+    twice_pair p w = let a = once_round n p w in let b = total-append (λ q. cond (eqb q p) 1 0) (round n) (round n) in omega (arith, a, b)
+
+    low_rank : (xs : List Step) (p : ℕ) (s : Doing (worker behaviour l)) → Ready behaviour l plan n xs p s → is_inside s ≡ false → rank s ≤ 2
+    low_rank xs p taking k e = omega arith
+    low_rank xs p resting k e = omega arith
+    low_rank xs p over k e = omega arith
+    low_rank xs p failed k e = absurd k
+    low_rank xs p (owning m) k e = absurd cc
+    low_rank xs p (doing js b) k e = absurd cc
+    low_rank xs p (reading g c fs) k e = absurd cc
+    low_rank xs p acking k e = absurd cc
+
+    empty_or : (q : List Envelope) → (q ≡ []) ⊎ (is_queued q ≡ true)
+    empty_or [] = inl refl
+    empty_or (x ∷ q) = inr refl
+
+    -- without a call in two rounds all have ended
+    pub quiet_pair : 1 ≤ n → (before ys : List Step) → Sound before → Turned behaviour l n before pair ys → calls_in behaviour l ys ≡ 0
+        → AllEnded behaviour l n (before ++ ys)
+    quiet_pair some before ys s t z p w =
+        ⊎_elim (λ empty. ended (record { empty = empty; outside = out })) (λ queued. absurd (stuck queued)) (empty_or (queue_after l before))
+      where
+        out : (q : ℕ) → IsWorker n q → is_inside (left behaviour l before q) ≡ false
+        out q u = each_round n (λ v. is_inside (left behaviour l before v) ≡ false)
+            (each_left (λ v. is_inside (left behaviour l before v) ≡ false) (round n) (round n) (outside before pair ys s pair_workers t z)) q u
+
+        stuck : is_queued (queue_after l before) ≡ true → ⊥
+        stuck queued =
+            let a = waiting before pair ys s queued pair_workers t z p in
+            let b = twice_pair p w in
+            let c = few_waits (left behaviour l before p) in
+            omega (arith, a, b, c)
+
+        ended : Idle behaviour l n before → HasEnded behaviour l (before ++ ys) p
+        ended i =
+            let a = nearer before pair ys s i pair_workers t z p in
+            let b = twice_pair p w in
+            let c = low_rank before p (left behaviour l before p) (s.ready p w) (i.outside p w) in
+            ap (ask (worker behaviour l)) (rank_over (left behaviour l (before ++ ys) p) (⊎_elim (λ d. omega (arith, d, b, c)) (λ d. d) a))
+
+    -- who has ended takes no further step
+    pub none_further : (before : List Step) (us : List ℕ) (ys : List Step) → Sound before → AllEnded behaviour l n before → Each (IsWorker n) us
+        → Turned behaviour l n before us ys → ys ≡ []
+    none_further before [] [] s e w t = refl
+    none_further before us (x ∷ ys) s e w (delivers_again {p = p} {e = d} i h t) =
+        absurd (inside behaviour l plan back n before s p i d h
+        (ap is_inside (ended_over behaviour l plan back n before p (left behaviour l before p) (s.ready p i) (e p i))))
+    none_further before (p ∷ us) ys s e w (skips_turn f t) = none_further before us ys s e w.1 t
+    none_further before (p ∷ us) ((q, (a, r)) ∷ ys) s e w (takes_turn b f h t) = absurd (nothing a (f ∙ e q w.0) h)
+      where
+        nothing : (c : Ask Envelope) → c ≡ end → Answers behaviour l n before c r → ⊥
+        nothing c g k = ended_none r (subst (λ y. Answers behaviour l n before y r) g k)
+          where
+            ended_none : (v : Reply Envelope) → Answers behaviour l n before end v → ⊥
+            ended_none v k = k
+
+    abbrev pub pairs : ℕ → List ℕ
+    pairs zero = []
+    pairs (suc m) = pair ++ pairs m
+
+    pairs_workers : (m : ℕ) → Each (IsWorker n) (pairs m)
+    pairs_workers zero = tt
+    pairs_workers (suc m) = each_append (IsWorker n) pair (pairs m) pair_workers (pairs_workers m)
+
+    -- so many pairs of rounds have as many calls, or all have ended
+    pub pairs_go : 1 ≤ n → (m : ℕ) (before ys : List Step) → Sound before → Turned behaviour l n before (pairs m) ys
+        → AllEnded behaviour l n (before ++ ys) ⊎ (m ≤ calls_in behaviour l ys)
+    pairs_go some zero before ys s t = inr (omega arith)
+    pairs_go some (suc m) before ys s t =
+        let cut = turned_part behaviour l n before pair (pairs m) ys t in
+        let sum : calls_in behaviour l ys ≡ calls_in behaviour l cut.0 + calls_in behaviour l cut.1 =
+        ap (calls_in behaviour l) cut.2 ∙ total-append (λ x. calls_of behaviour l x.1) cut.0 cut.1 in
+        let whole : (before ++ cut.0) ++ cut.1 ≡ before ++ ys = append_assoc before cut.0 cut.1 ∙ ap (λ zs. before ++ zs) (sym cut.2) in
+        let rest = pairs_go some m (before ++ cut.0) cut.1 (holds_turned behaviour l plan back n before pair cut.0 pair_workers s cut.3) cut.4 in
+        elim (cases_eq (calls_in behaviour l cut.0) 0) [
+          | inl none ↦
+              let done = quiet_pair some before cut.0 s cut.3 none in
+              let stop = none_further (before ++ cut.0) (pairs m) cut.1 (holds_turned behaviour l plan back n before pair cut.0 pair_workers s cut.3) done
+              (pairs_workers m) cut.4 in
+              inl (subst (AllEnded behaviour l n) (sym (append-nil (before ++ cut.0)) ∙ (ap (λ zs. (before ++ cut.0) ++ zs) (sym stop) ∙ whole)) done)
+          | inr busy ↦ ⊎_elim (λ e. inl (subst (AllEnded behaviour l n) whole e)) (λ k. inr (omega (arith, k, busy, sum))) rest
+        ]

@@ -1,0 +1,14 @@
+use Rattle.canvas_turns.proofs.TurnEnds.{few, stops_soon, steps_fit, rounds_go}
+use Rattle.canvas_turns.proofs.ends_of_turns.Goals as goal
+
+pub returns-clause-few : goal.returns-clause-few
+returns-clause-few c = λ behaviour l n ts us xs some t b. few behaviour l n us xs t some ts b
+
+pub returns-clause-stops : goal.returns-clause-stops
+returns-clause-stops c = λ behaviour l plan n ts most some w r. stops_soon behaviour l plan n ts most some w r
+
+pub returns-clause-fit : goal.returns-clause-fit
+returns-clause-fit c = λ l n k tasks workers listed. steps_fit l n k tasks workers listed
+
+pub returns-clause-rounds : goal.returns-clause-rounds
+returns-clause-rounds c = λ behaviour l n before t. rounds_go behaviour l n before t

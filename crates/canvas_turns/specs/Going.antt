@@ -1,0 +1,44 @@
+-- How many steps a run by turns takes at most.
+use Rattle.std.specs.Prelude.{ℕ, suc, ◌≤◌, ◌<◌, ◌+◌, ◌*◌, ◌^◌, List, [], length}
+use Rattle.canvas_task.specs.Apply.{Behaviour}
+use Rattle.canvas_semantics.specs.Line.{Line, count_line}
+use Rattle.canvas_rewrite.specs.Planned.{IsPlan}
+use Rattle.canvas_runs.specs.Lists.{Each}
+use Rattle.canvas_turns.specs.Turns.{Step, Begins, Turned, AllEnded, round, IsWorker, RanUntil, redeliveries_in}
+use Rattle.canvas_turns.specs.TurnLaws.{ByTurns}
+
+-- The steps that are calls or acknowledgements: each task is published, taken, stored and
+-- acknowledged at most once, and its part returned at most once. A part completes a header at most,
+-- of which as many members are read as there are tasks. Each redelivery is a step, and has its
+-- envelope taken, stored again and acknowledged once more.
+abbrev pub most_calls : Line → ℕ → ℕ
+most_calls l again = (count_line l + 5) * suc (count_line l) + 4 * again
+
+-- The steps of k turns of a list and of the rotation behind it, with so many redeliveries: of each
+-- two rounds one has a call, until all have ended.
+abbrev pub most_steps : Line → ℕ → ℕ → ℕ → ℕ
+most_steps l n k again = k + 2 * suc (most_calls l again) * n + again
+
+abbrev pub FewSteps : Type 0
+FewSteps =
+    (behaviour : Behaviour) (l : Line) (n : ℕ) (ts us : List ℕ) (xs : List Step) → 1 ≤ n
+    → ByTurns behaviour l n us xs → Begins us ts n
+    → length xs ≤ most_steps l n (length ts) (redeliveries_in xs)
+
+-- so a run that stops at a number of steps with a worker going on stops at one that is no greater
+abbrev pub StopsSoon : Type 0
+StopsSoon =
+    (behaviour : Behaviour) (l : Line) → IsPlan l → (n : ℕ) (ts : List ℕ) (most : ℕ) → 1 ≤ n
+    → Each (IsWorker n) ts → RanUntil behaviour l n ts most → most ≤ most_steps l n (length ts) 0
+
+-- fewer than a count of 128 bits holds
+abbrev pub StepsFit : Type 0
+StepsFit =
+    (l : Line) (n k again : ℕ) → count_line l < 2 ^ 32 → n ≤ 16 → k < 2 ^ 64 → again < 2 ^ 64
+    → most_steps l n k again < 2 ^ 127
+
+-- a round without a step is one in which all have ended
+abbrev pub RoundsGo : Type 0
+RoundsGo =
+    (behaviour : Behaviour) (l : Line) (n : ℕ) (before : List Step)
+    → Turned behaviour l n before (round n) [] → AllEnded behaviour l n before

@@ -1,0 +1,87 @@
+//! Runs by turns on one thread, also with entries that say which envelopes are delivered again: the
+//! law of runs speaks of each, and it ends. There is no running code here: each function has an
+//! empty body, and its contract is a law.
+#![tactic(auto)]
+
+ghost use Rattle.std.specs.Prelude.{◌≡◌, ℕ, List, []};
+ghost use Rattle.canvas_task.specs.Apply.{six_tasks};
+ghost use Rattle.canvas_runs.specs.Witness.{small};
+ghost use Rattle.canvas_turns.specs.TurnLaws.{TurnsAreRuns, TurnRowsMay, TurnRowsAre, TurnsEmpty, TurnStatesMay, TurnStatesAre, WholeTurns, UntilTurns, NextAnswerable, HeldInRange};
+ghost use Rattle.canvas_turns.specs.Going.{FewSteps, StopsSoon, StepsFit, RoundsGo};
+ghost use Rattle.canvas_turns.specs.Turns.{Turned, RanWhole};
+ghost use Rattle.canvas_turns.specs.Spending.{EntriesAreTurns, EntriesFew, OwnPoints, AgainsAreEntries, AgainsFew, NoEntries, AgainTurns, TurnedAgain, RanAgain, Entry, agains_in};
+ghost use Rattle.canvas_turns.specs.TurnWitness.{listed_turns, witness_steps, hasty};
+ghost use Rattle.canvas_turns.specs.EntryWitness.{product, both_points, product_steps, quotient, link_entry, quotient_steps, unspent};
+
+/// Runs by turns, on one thread: a turn answers one ask of one worker by what the queue and the
+/// table say then. Whatever the number of workers and the list of turns, it is a run, closed where
+/// all have ended, so the law of runs speaks of it: each task is pending or has the state that
+/// evaluating the plan gives, and has that state where all have ended. What a worker asks next can
+/// be answered: a task that it names is one of the plan's, its part is of a chord's member that is
+/// stored and was not returned, and a member that it reads is stored.
+pub fn laws_of_turns()
+    ensures runs { TurnsAreRuns }
+    ensures rows_may { TurnRowsMay }
+    ensures rows_are { TurnRowsAre }
+    ensures emptied { TurnsEmpty }
+    ensures states_may { TurnStatesMay }
+    ensures states_are { TurnStatesAre }
+    ensures whole { WholeTurns }
+    ensures until { UntilTurns }
+    ensures answerable { NextAnswerable }
+    ensures in_range { HeldInRange }
+{}
+
+/// A run by turns ends. In rotation a round in which nobody asks for anything is the last, and of
+/// each two rounds one has a call of the queue or of the table, of which there are few: each task
+/// is published, taken, stored and its part returned at most once. So the steps are fewer than a
+/// count of 128 bits holds.
+pub fn ends_of_turns()
+    ensures few { FewSteps }
+    ensures stops { StopsSoon }
+    ensures fit { StepsFit }
+    ensures rounds { RoundsGo }
+{}
+
+/// Runs by turns in which envelopes are delivered again by a list of entries, each a task with one
+/// of the two points of a script of its message, before its first store or before its
+/// acknowledgement. Whatever the entries, such a run is a run by turns, so it ends, and where all
+/// have ended each task has the state that evaluating the plan gives. Its redeliveries are the
+/// entries that were spent. A worker whose next ask is a message's own store has come to the first
+/// of the two points of that message's task. The stores that answered that they were not the first
+/// are as many as the entries whose task evaluation runs, and no such entry stays unspent; at any
+/// time they are no more than the entries. A run by turns without redeliveries is one without
+/// entries.
+pub fn laws_of_entries()
+    ensures turns { EntriesAreTurns }
+    ensures few { EntriesFew }
+    ensures own { OwnPoints }
+    ensures agains { AgainsAreEntries }
+    ensures at_most { AgainsFew }
+    ensures none { NoEntries }
+    ensures whole { AgainTurns }
+{}
+
+/// There is something of which the laws of entries speak. A sum and its product, with an entry for
+/// each of the two points of the sum's message, have these steps, and two stores answer that they
+/// were not the first. A division by zero with a link has these, and the entry for the link's
+/// message, which is never published, does nothing. By no turns is a store answered with an entry
+/// for the point before it unspent.
+pub fn runs_by_entries()
+    ensures both { (r : RanAgain six_tasks product 1 [] both_points) × (r.steps ≡ product_steps)
+        × (agains_in r.steps ≡ 2) }
+    ensures idle { (r : RanAgain six_tasks quotient 1 [] link_entry) × (r.steps ≡ quotient_steps)
+        × (agains_in r.steps ≡ 0) }
+    ensures none_unspent { (us : List ℕ) (rest : List Entry)
+        → TurnedAgain six_tasks product 1 [] both_points us unspent rest → ⊥ }
+{}
+
+/// There is something of which the laws of turns speak: by a list of fourteen turns and two rounds
+/// behind it two workers run the chord of two sums and the sum of both, with these steps. By no
+/// turns is a worker told that nothing more will come while another one is inside the script of a
+/// message.
+pub fn turns_of_a_chord()
+    ensures stands { (r : RanWhole six_tasks small 2 listed_turns) × (r.steps ≡ witness_steps)
+        × (r.further ≡ 2) }
+    ensures none_hasty { (us : List ℕ) → Turned six_tasks small 2 [] us hasty → ⊥ }
+{}
