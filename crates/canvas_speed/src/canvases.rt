@@ -77,6 +77,22 @@ pub(crate) fn wide_chains(alloc: Global) -> Result<String, AllocError> {
     list_text(alloc, "group", &member, &member, 16)
 }
 
+/// A call of a sum over 400 numbers, which takes no input.
+fn heavy_call(alloc: Global) -> Result<String, AllocError> {
+    let mut text = String::from_str(alloc, r#"{"task":"tasks.xsum","immutable":true,"args":["#)?;
+    push_list(&mut text, "1", "2", 400)?;
+    text.push_str("]}")?;
+    Ok(text)
+}
+
+/// A group of so many chains of so many heavy tasks. What follows a task travels in its message, so
+/// that a longer chain has more to write.
+pub(crate) fn heavy_chains(alloc: Global, members: u32, length: u32) -> Result<String, AllocError> {
+    let call = heavy_call(alloc)?;
+    let member = list_text(alloc, "chain", &call, &call, length)?;
+    list_text(alloc, "group", &member, &member, members)
+}
+
 /// The plan of a canvas's text.
 pub(crate) fn plan_of(alloc: Global, text: &str) -> Result<Plan> {
     let canvas = read_canvas(alloc, text.as_bytes())?;

@@ -9,7 +9,7 @@ mod hostile;
 mod runs;
 mod threads;
 
-use crate::canvases::{chain, chord, group, nested_chords, wide_chains};
+use crate::canvases::{chain, chord, group, heavy_chains, nested_chords, wide_chains};
 use crate::hostile::{Cost, PARTS, cost_of_members, cost_of_parts};
 use crate::runs::speed_of;
 use crate::threads::thread_speed_of;
@@ -151,7 +151,13 @@ where
     print_thread_speed(rt, "group", &group(rt.alloc())?)?;
     print_thread_speed(rt, "chord", &chord(rt.alloc())?)?;
     print_thread_speed(rt, "nested chords", &nested_chords(rt.alloc())?)?;
-    print_thread_speed(rt, "group of chains", &wide_chains(rt.alloc())?)
+    print_thread_speed(rt, "group of chains", &wide_chains(rt.alloc())?)?;
+    for (members, length) in [(16, 60), (8, 120), (4, 240)] {
+        println!(rt; "{members} chains of {length} heavy tasks:")?;
+        let text = heavy_chains(rt.alloc(), members, length)?;
+        print_thread_speed(rt, "group of heavy chains", &text)?;
+    }
+    Ok(())
 }
 
 fn print_cost(rt: &HostRuntime, name: &str, costs: &[Cost; 2]) -> Result<()> {
