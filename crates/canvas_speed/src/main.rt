@@ -151,11 +151,22 @@ where
     print_thread_speed(rt, "group", &group(rt.alloc())?)?;
     print_thread_speed(rt, "chord", &chord(rt.alloc())?)?;
     print_thread_speed(rt, "nested chords", &nested_chords(rt.alloc())?)?;
-    print_thread_speed(rt, "group of chains", &wide_chains(rt.alloc())?)?;
-    for (members, length) in [(16, 60), (8, 120), (4, 240)] {
-        println!(rt; "{members} chains of {length} heavy tasks:")?;
-        let text = heavy_chains(rt.alloc(), members, length)?;
-        print_thread_speed(rt, "group of heavy chains", &text)?;
+    print_thread_speed(rt, "group of chains", &wide_chains(rt.alloc())?)
+}
+
+/// Groups of chains of heavy tasks, with how many chains there are and how long they are.
+const HEAVY: [(&str, u32, u32); 3] = [
+    ("16 chains of 60 heavy tasks", 16, 60),
+    ("8 chains of 120 heavy tasks", 8, 120),
+    ("4 chains of 240 heavy tasks", 4, 240),
+];
+
+fn print_heavy_speeds<R>(rt: &R) -> Result<()>
+where
+    R: Print + Clock + Threads + Wait + RandomSource + AllocGlobal + Sync,
+{
+    for &(name, members, length) in &HEAVY {
+        print_thread_speed(rt, name, &heavy_chains(rt.alloc(), members, length)?)?;
     }
     Ok(())
 }
@@ -192,7 +203,8 @@ fn main(rt: HostRuntime) -> Result<()> {
         Some(_) => {
             print_ratios(&rt)?;
             print_speeds(&rt)?;
-            print_thread_speeds(&rt)
+            print_thread_speeds(&rt)?;
+            print_heavy_speeds(&rt)
         }
         None => Ok(()),
     }
