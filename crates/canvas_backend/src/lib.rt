@@ -8,7 +8,7 @@ mod laws;
 mod plain;
 mod roster;
 mod rule;
-mod slot;
+mod row;
 mod stored;
 
 pub use backend::{Backend, BackendSeat};

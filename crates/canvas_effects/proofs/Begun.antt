@@ -13,7 +13,7 @@ use Rattle.canvas_rewrite.specs.declared.frozen.Place.{Place, roll-Place}
 use Rattle.canvas_rewrite.specs.declared.frozen.FrozenTask.{FrozenTask, out-FrozenTask}
 use Rattle.canvas_rewrite.specs.declared.frozen.FrozenLine.{FrozenLine, out-FrozenLine}
 use Rattle.canvas_rewrite.specs.declared.frozen.FrozenEnd.{FrozenEnd, out-FrozenEnd}
-use Rattle.canvas_effects.specs.Carrying.{stands, AllStand, callbacks_ok, input_ok}
+use Rattle.canvas_effects.specs.Carrying.{can_stand, AllStand, callbacks_ok, input_ok}
 use Rattle.canvas_message.specs.Content.{Content, call_of, place_of}
 use Rattle.canvas_effects.specs.Effects.{message, callbacks, messages_in}
 use Rattle.canvas_message.specs.Fits.{parent_ok, task_ok, line_ok, line_reach, fits}
@@ -138,10 +138,10 @@ none_behind (t ∷ ts) o none few = absurd cc
 -- ---- places of members
 
 pub fits_size : (t : FrozenEnd) (b : FrozenLine) (p : PPlace) (ms : List FrozenLine) → (out-FrozenEnd t).body ≡ Some b → ms ≡ (out-FrozenEnd t).members
-    → stands (p_end_view t) p ≡ true → length ms ≤ 1024
+    → can_stand (p_end_view t) p ≡ true → length ms ≤ 1024
 fits_size t b p ms some same h =
     let few = few_members (out-FrozenEnd t).group (p_lines_of (map p_line_view (out-FrozenEnd t).members)) (p_line_view b) p
-    (sym (ap (λ l. stands l p) (end_some t b some)) ∙ h) in
+    (sym (ap (λ l. can_stand l p) (end_some t b some)) ∙ h) in
     omega (arith, few, counted (out-FrozenEnd t).members, ap length same)
 
 pub group_made : (t : FrozenEnd) (p : PPlace) → (out-FrozenEnd t).body ≡ None
@@ -184,25 +184,25 @@ line_tail l b all e some same few there =
 -- ---- ends
 
 pub group_members : (t : FrozenEnd) (p : PPlace) (ms : List FrozenLine) → (out-FrozenEnd t).body ≡ None → ms ≡ (out-FrozenEnd t).members
-    → stands (p_end_view t) p ≡ true
+    → can_stand (p_end_view t) p ≡ true
     → AllStand (member_place (p_end_view t) p) (map p_line_view ms)
 group_members t p ms none same ok =
     let ls : List PLine = map p_line_view (out-FrozenEnd t).members in
     let e = end_none t none in
     let all : AllStand (member_place (p_end_view t) p) ls =
-    subst (λ l. AllStand (member_place l p) ls) (sym e) (group_stands (out-FrozenEnd t).group ls p (sym (ap (λ l. stands l p) e) ∙ ok)) in
+    subst (λ l. AllStand (member_place l p) ls) (sym e) (group_stands (out-FrozenEnd t).group ls p (sym (ap (λ l. can_stand l p) e) ∙ ok)) in
     subst (λ xs. AllStand (member_place (p_end_view t) p) (map p_line_view xs)) (sym same) all
 
 pub header_members : (t : FrozenEnd) (b : FrozenLine) (p : PPlace) (ms others : List FrozenLine) (m : FrozenLine) → (out-FrozenEnd t).body ≡ Some b
     → ms ≡ (out-FrozenEnd t).members → ms ≡ m ∷ others
-    → stands (p_end_view t) p ≡ true → AllStand (member_place (p_end_view t) p) (map p_line_view ms)
+    → can_stand (p_end_view t) p ≡ true → AllStand (member_place (p_end_view t) p) (map p_line_view ms)
 header_members t b p ms others m some same split ok =
     let ls : List PLine = map p_line_view (m ∷ others) in
     let e : p_end_view t ≡ p_chord_end (out-FrozenEnd t).group (p_lines_of ls) (p_line_view b) =
     end_some t b some ∙ ap (λ xs. p_chord_end (out-FrozenEnd t).group (p_lines_of (map p_line_view xs)) (p_line_view b)) (sym same ∙ split) in
     let all : AllStand (member_place (p_end_view t) p) ls =
     subst (λ l. AllStand (member_place l p) ls) (sym e)
-    (header_stands (out-FrozenEnd t).group (p_line_view m) (map p_line_view others) (p_line_view b) p (sym (ap (λ l. stands l p) e) ∙ ok)) in
+    (header_stands (out-FrozenEnd t).group (p_line_view m) (map p_line_view others) (p_line_view b) p (sym (ap (λ l. can_stand l p) e) ∙ ok)) in
     subst (λ xs. AllStand (member_place (p_end_view t) p) (map p_line_view xs)) (sym split) all
 
 pub group_started : (t : FrozenEnd) (x : Input) (p : PPlace) (u : Option ℕ) (ms : List FrozenLine) → (out-FrozenEnd t).body ≡ None
@@ -242,12 +242,12 @@ empty_started t b ms ns x p u some same few none =
     ap (λ z. started (p_line_view b) (list_input z) p u) none ∙ sym (ap (λ l. started l x p u) (empty_is t b ms some same few))
 
 standing_by : (t : FrozenEnd) (o : Option FrozenLine) (ms : List FrozenLine) (p : PPlace) → (out-FrozenEnd t).body ≡ o → ms ≡ (out-FrozenEnd t).members
-    → stands (p_end_view t) p ≡ true
+    → can_stand (p_end_view t) p ≡ true
     → AllStand (member_place (p_end_view t) p) (map p_line_view ms)
 standing_by t None ms p none same ok = group_members t p ms none same ok
 standing_by t (Some b) [] p some same ok = tt
 standing_by t (Some b) (m ∷ ms) p some same ok = header_members t b p (m ∷ ms) ms m some same refl ok
 
-pub members_stand : (t : FrozenEnd) (ms : List FrozenLine) (p : PPlace) → ms ≡ (out-FrozenEnd t).members → stands (p_end_view t) p ≡ true
+pub members_stand : (t : FrozenEnd) (ms : List FrozenLine) (p : PPlace) → ms ≡ (out-FrozenEnd t).members → can_stand (p_end_view t) p ≡ true
     → AllStand (member_place (p_end_view t) p) (map p_line_view ms)
 members_stand t ms p same ok = standing_by t (out-FrozenEnd t).body ms p refl same ok

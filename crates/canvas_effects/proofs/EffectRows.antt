@@ -20,7 +20,8 @@ use Rattle.canvas_semantics.specs.PlacedLine.{PTask, p_task, PTasks, no_p_tasks,
 use Rattle.canvas_message.specs.Content.{Content, number_of}
 use Rattle.canvas_effects.specs.Effects.{after, body_after, first_messages}
 use Rattle.canvas_effects.specs.Events.{Items, evaluated}
-use Rattle.canvas_effects.specs.Job.{store, publish, hand_in}
+use Rattle.canvas_effects.specs.Job as job
+use Rattle.canvas_effects.specs.Job.{store, publish}
 
 abbrev call : List ℕ → List Arg → Call
 call name args = record { name = name; args = args; kwargs = []; immutable = false }
@@ -68,7 +69,7 @@ abbrev states : Items → List (ℕ × Outcome)
 states [] = []
 states ((v, store t o) ∷ is) = (t, o) ∷ states is
 states ((v, publish m) ∷ is) = states is
-states ((v, hand_in g t c) ∷ is) = states is
+states ((v, job.part g t c) ∷ is) = states is
 
 -- ---- a chain of two
 

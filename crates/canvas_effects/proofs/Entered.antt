@@ -8,7 +8,7 @@ use Rattle.canvas_message.specs.Content.{number_of, errbacks_of}
 use Rattle.canvas_effects.specs.Effects.{Jobs, message, callbacks, part_of, enter, enter_all, fault_behind, stores_in, messages_in, part_in}
 use Rattle.canvas_message.specs.Fits.{how_many}
 use Rattle.canvas_effects.specs.Flowing.{Input, id_input, run, skips, raise}
-use Rattle.canvas_effects.specs.Job.{store, publish, hand_in}
+use Rattle.canvas_effects.specs.Job.{store, publish, part}
 use Rattle.canvas_effects.specs.Placing.{placed}
 use Rattle.canvas_effects.specs.steps.Walks.{started, all_started, skipped, all_skipped, skipped_tasks, raised_stores, all_raised_stores, raised_messages, all_raised_messages, member_place}
 
@@ -18,19 +18,19 @@ pub stores_on : (js ks : Jobs) → stores_in (js ++ ks) ≡ stores_in js ++ stor
 stores_on [] ks = refl
 stores_on (store k o ∷ js) ks = ap (λ xs. (k, o) ∷ xs) (stores_on js ks)
 stores_on (publish m ∷ js) ks = stores_on js ks
-stores_on (hand_in g k c ∷ js) ks = stores_on js ks
+stores_on (part g k c ∷ js) ks = stores_on js ks
 
 pub messages_on : (js ks : Jobs) → messages_in (js ++ ks) ≡ messages_in js ++ messages_in ks
 messages_on [] ks = refl
 messages_on (store k o ∷ js) ks = messages_on js ks
 messages_on (publish m ∷ js) ks = ap (λ xs. m ∷ xs) (messages_on js ks)
-messages_on (hand_in g k c ∷ js) ks = messages_on js ks
+messages_on (part g k c ∷ js) ks = messages_on js ks
 
 pub part_on : (js ks : Jobs) → part_in js ≡ None → part_in (js ++ ks) ≡ part_in ks
 part_on [] ks h = refl
 part_on (store k o ∷ js) ks h = part_on js ks h
 part_on (publish m ∷ js) ks h = part_on js ks h
-part_on (hand_in g k c ∷ js) ks h = absurd cc
+part_on (part g k c ∷ js) ks h = absurd cc
 
 pub no_part_on : (js ks : Jobs) → part_in js ≡ None → part_in ks ≡ None → part_in (js ++ ks) ≡ None
 no_part_on js ks h i = part_on js ks h ∙ i

@@ -13,7 +13,7 @@ use Rattle.canvas_semantics.specs.Evaluation.{arguments}
 use Rattle.canvas_semantics.specs.Line.{in_group}
 use Rattle.canvas_semantics.specs.PlacedLine.{PTask, p_task, PTasks, and_p_task, PPlace, p_nowhere, p_group, p_chord, PLine, p_stop, p_step, p_group_end, p_chord_end, PLines, no_p_lines, and_p_line, strip}
 use Rattle.canvas_rewrite.specs.FrozenView.{p_lines_of}
-use Rattle.canvas_effects.specs.Carrying.{is_whole, stands, AllWhole, AllStand, callbacks_ok, place_stands, input_ok}
+use Rattle.canvas_effects.specs.Carrying.{is_whole, can_stand, AllWhole, AllStand, callbacks_ok, place_stands, input_ok}
 use Rattle.canvas_message.specs.Content.{number_of, call_of, links_of, errbacks_of, place_of}
 use Rattle.canvas_effects.specs.Effects.{message}
 use Rattle.canvas_message.specs.Fits.{is_task_number, size_ok, call_ok, ascends, parent_ok, how_many, most_members, task_ok, tasks_ok, place_ok, line_ok, members_ok, task_reach, tasks_reach, place_reach, line_reach, greatest_reach, members_reach, fits}
@@ -419,7 +419,7 @@ header_whole g ls b h =
     (omega (arith, whole_near (p_chord_end g (p_lines_of ls) b) h))
 
 -- and where its end goes to the place of the whole
-standing : (p : PPlace) (m : PLine) → place_ok true p ≡ true → line_ok false m ≡ true → line_reach (place_reach p) m ≤ 32 → stands m p ≡ true
+standing : (p : PPlace) (m : PLine) → place_ok true p ≡ true → line_ok false m ≡ true → line_reach (place_reach p) m ≤ 32 → can_stand m p ≡ true
 standing p m there ok near = whole_by (placed p m) (placed_ok p m there (line_true m ok)) (omega (arith, near, placed_reach p m))
 
 members_stand_by : (p : PPlace) (ls : List PLine) → place_ok true p ≡ true → members_ok (p_lines_of ls) ≡ true
@@ -430,13 +430,13 @@ members_stand_by p (m ∷ ms) there ok near = (
   members_stand_by p ms there (member_others m (p_lines_of ms) ok) (omega (arith, near)),
 )
 
-pub group_stands : (g : ℕ) (ls : List PLine) (p : PPlace) → stands (p_group_end g (p_lines_of ls)) p ≡ true
+pub group_stands : (g : ℕ) (ls : List PLine) (p : PPlace) → can_stand (p_group_end g (p_lines_of ls)) p ≡ true
     → AllStand (member_place (p_group_end g (p_lines_of ls)) p) ls
 group_stands g ls p h =
     let q = both (is_task_number g) (members_ok (p_lines_of ls)) (whole_ok (p_group_end g (p_lines_of ls)) h) in
     members_stand_by (p_group g) ls q.0 q.1 (omega (arith, whole_near (p_group_end g (p_lines_of ls)) h))
 
-pub header_stands : (g : ℕ) (l : PLine) (ls : List PLine) (b : PLine) (p : PPlace) → stands (p_chord_end g (p_lines_of (l ∷ ls)) b) p ≡ true
+pub header_stands : (g : ℕ) (l : PLine) (ls : List PLine) (b : PLine) (p : PPlace) → can_stand (p_chord_end g (p_lines_of (l ∷ ls)) b) p ≡ true
     → AllStand (member_place (p_chord_end g (p_lines_of (l ∷ ls)) b) p) (l ∷ ls)
 header_stands g l ls b p h =
     let ms : PLines = p_lines_of (l ∷ ls) in
@@ -448,10 +448,10 @@ header_stands g l ls b p h =
     (all_true (is_task_number g) (size_ok (how_many ms)) q.numbered sized) q.body in
     members_stand_by (p_chord g (how_many ms) (placed p b)) (l ∷ ls) there q.members (omega (arith, whole_near (p_chord_end g ms (placed p b)) h))
 
-pub body_stands : (g : ℕ) (ms : PLines) (b : PLine) (p : PPlace) → stands (p_chord_end g ms b) p ≡ true → stands b p ≡ true
+pub body_stands : (g : ℕ) (ms : PLines) (b : PLine) (p : PPlace) → can_stand (p_chord_end g ms b) p ≡ true → can_stand b p ≡ true
 body_stands g ms b p h = body_whole g ms (placed p b) h
 
-pub few_members : (g : ℕ) (ms : PLines) (b : PLine) (p : PPlace) → stands (p_chord_end g ms b) p ≡ true → how_many ms ≤ 1024
+pub few_members : (g : ℕ) (ms : PLines) (b : PLine) (p : PPlace) → can_stand (p_chord_end g ms b) p ≡ true → how_many ms ≤ 1024
 few_members g ms b p h = leb-true (how_many ms) 1024 (chord_parts g ms (placed p b) (whole_ok (p_chord_end g ms (placed p b)) h)).few
 
 -- a line as it stands goes where its last task says
@@ -465,7 +465,7 @@ as_it_stands (p_step (p_task k call links errbacks place) (p_chord_end g ms b)) 
 as_it_stands (p_group_end g ms) = refl
 as_it_stands (p_chord_end g ms b) = ap (p_chord_end g ms) (as_it_stands b)
 
-pub stands_there : (l : PLine) → is_whole l ≡ true → stands l (end_place l) ≡ true
+pub stands_there : (l : PLine) → is_whole l ≡ true → can_stand l (end_place l) ≡ true
 stands_there l h = ap is_whole (as_it_stands l) ∙ h
 
 -- the place of the last task, by the task

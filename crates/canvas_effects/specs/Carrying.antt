@@ -18,8 +18,8 @@ is_whole l = line_ok true l && nat_le (line_reach 0 l) most_reach
 abbrev pub is_walkable : PLine → Bool
 is_walkable l = line_ok false l || line_ok true l
 
-abbrev pub stands : PLine → PPlace → Bool
-stands l p = is_whole (placed p l)
+abbrev pub can_stand : PLine → PPlace → Bool
+can_stand l p = is_whole (placed p l)
 
 -- what stands in a message's own task: its callbacks, and its place
 abbrev pub callbacks_ok : PTasks → Bool
@@ -46,4 +46,4 @@ AllWhole (l ∷ ls) = (is_whole l ≡ true) × AllWhole ls
 
 abbrev pub AllStand : PPlace → List PLine → Type 0
 AllStand p [] = Unit {0}
-AllStand p (l ∷ ls) = (stands l p ≡ true) × AllStand p ls
+AllStand p (l ∷ ls) = (can_stand l p ≡ true) × AllStand p ls

@@ -14,7 +14,8 @@ use Rattle.canvas_semantics.specs.PlacedLine.{PTask, p_task, PTasks, no_p_tasks,
 use Rattle.canvas_message.specs.Content.{Content, line, number_of, call_of, links_of, errbacks_of, place_of}
 use Rattle.canvas_message.specs.Fits.{how_many}
 use Rattle.canvas_effects.specs.Flowing.{Input, no_input, number_input, list_input, id_input, LineFlow, run, skips, raise, given, after_outcome, parent_for}
-use Rattle.canvas_effects.specs.Job.{Job, store, publish, hand_in}
+use Rattle.canvas_effects.specs.Job as job
+use Rattle.canvas_effects.specs.Job.{Job, store, publish}
 use Rattle.canvas_effects.specs.Ordered.{in_order}
 use Rattle.canvas_effects.specs.Placing.{last_at, placed, end_place, last_task}
 
@@ -47,7 +48,7 @@ callbacks (and_p_task t ts) x u = publish (message u t x p_stop) ∷ callbacks t
 abbrev pub part_of : PPlace → ℕ → Jobs
 part_of p_nowhere k = []
 part_of (p_group g) k = []
-part_of (p_chord g size body) k = hand_in g k (record { size = size; body = body }) ∷ []
+part_of (p_chord g size body) k = job.part g k (record { size = size; body = body }) ∷ []
 
 -- Where an exception is raised in a line: the one that its last task fails with. Behind a header it
 -- is the ChordError that names the first member's last task.
@@ -110,19 +111,19 @@ abbrev pub stores_in : Jobs → List (ℕ × Outcome)
 stores_in [] = []
 stores_in (store k o ∷ js) = (k, o) ∷ stores_in js
 stores_in (publish m ∷ js) = stores_in js
-stores_in (hand_in g k c ∷ js) = stores_in js
+stores_in (job.part g k c ∷ js) = stores_in js
 
 abbrev pub messages_in : Jobs → List Content
 messages_in [] = []
 messages_in (store k o ∷ js) = messages_in js
 messages_in (publish m ∷ js) = m ∷ messages_in js
-messages_in (hand_in g k c ∷ js) = messages_in js
+messages_in (job.part g k c ∷ js) = messages_in js
 
 abbrev pub part_in : Jobs → Option Part
 part_in [] = None
 part_in (store k o ∷ js) = part_in js
 part_in (publish m ∷ js) = part_in js
-part_in (hand_in g k c ∷ js) = Some (record { chord = g; task = k; carried = c })
+part_in (job.part g k c ∷ js) = Some (record { chord = g; task = k; carried = c })
 
 abbrev pub effect_of : Jobs → Effect
 effect_of js =
@@ -169,7 +170,7 @@ first_messages l = (at_start l).messages
 -- what a worker does of an effect, in this order
 abbrev pub part_jobs : Option Part → Jobs
 part_jobs None = []
-part_jobs (Some p) = hand_in p.chord p.task p.carried ∷ []
+part_jobs (Some p) = job.part p.chord p.task p.carried ∷ []
 
 abbrev pub script : Effect → Jobs
 script e =

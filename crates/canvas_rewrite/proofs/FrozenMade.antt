@@ -1,6 +1,6 @@
 -- A frozen line, made of frozen parts.
 use Rattle.std.proofs.Common.{◌≡◌, ◌∙◌, ℕ, ◌+◌, List, map, Some, None, Box, Global, sym, ap}
-use Rattle.canvas_sig.specs.View.{task_view}
+use Rattle.canvas_sig.specs.SignatureView.{task_view}
 use Rattle.canvas_sig.specs.declared.task_sig.TaskSig.{TaskSig}
 use Rattle.canvas_semantics.specs.Line.{number_line}
 use Rattle.canvas_semantics.specs.PlacedLine.{p_stop, p_group_end, p_chord_end, bare}

@@ -2,7 +2,7 @@
 use Rattle.std.proofs.Common.{◌≡◌, ◌∙◌, ℕ, ◌+◌, Bool, List, [], ◌∷◌, map, Some, None, Box, Global, refl, sym, ap, rules, arith}
 use Rattle.canvas_task.specs.declared.arg.Arg.{Arg}
 use Rattle.canvas_semantics.specs.Tree.{Call, Task, count_task, count_tasks, number_task, number_tasks}
-use Rattle.canvas_sig.specs.View.{task_view, tasks_of}
+use Rattle.canvas_sig.specs.SignatureView.{task_view, tasks_of}
 use Rattle.canvas_sig.proofs.Views.{task_seen}
 use Rattle.canvas_sig.specs.declared.task_sig.TaskSig.{TaskSig, out-TaskSig}
 use Rattle.canvas_semantics.specs.Line.{Line, stop, group_end, chord_end, count_line, count_lines, line_groups, lines_groups, number_line, number_lines}

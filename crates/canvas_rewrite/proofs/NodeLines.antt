@@ -2,7 +2,7 @@
 use Rattle.std.proofs.Common.{◌≡◌, ◌≢◌, ◌∙◌, ◌++◌, List, [], ◌∷◌, map, length, Some, None, Box, Global, refl, sym, ap, append-nil}
 use Rattle.std.proofs.lemmas.List.{map-append}
 use Rattle.canvas_semantics.specs.Tree.{Tree, one, chain, group, chord, no_trees, and_tree}
-use Rattle.canvas_sig.specs.View.{view, task_view, trees_of}
+use Rattle.canvas_sig.specs.SignatureView.{view, task_view, trees_of}
 use Rattle.canvas_sig.specs.declared.node.Node.{Node, Chain, Group, Chord}
 use Rattle.canvas_sig.specs.declared.task_sig.TaskSig.{TaskSig}
 use Rattle.canvas_sig.proofs.Views.{view-Chain, view-Group, view-Chord}

@@ -1,4 +1,4 @@
-pub mod View
+pub mod LineView
 pub mod FrozenView
 pub mod Runnable
 pub mod Planned

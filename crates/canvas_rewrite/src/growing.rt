@@ -2,8 +2,8 @@
 ghost use Rattle.std.specs.Prelude.{◌≡◌, IfOk, OnOk, map, ◌↔◌, IsTrue};
 ghost use Rattle.std.specs.Option.{option_map};
 ghost use Rattle.canvas_semantics.specs.Tree.{no_trees, and_tree, one};
-ghost use Rattle.canvas_sig.specs.View.{task_view};
-ghost use Rattle.canvas_rewrite.specs.View.{elements, group_or_chord};
+ghost use Rattle.canvas_sig.specs.SignatureView.{task_view};
+ghost use Rattle.canvas_rewrite.specs.LineView.{elements, group_or_chord};
 ghost use Rattle.canvas_rewrite.specs.steps.Growing.{growing};
 
 use crate::{Line, LineEnd};

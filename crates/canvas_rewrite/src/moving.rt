@@ -1,8 +1,8 @@
 //! The normal line of a canvas that is given up: its parts are moved, and none is copied.
 ghost use Rattle.std.specs.Prelude.{◌≡◌, IfOk, map};
 ghost use Rattle.canvas_semantics.specs.Tree.{no_trees};
-ghost use Rattle.canvas_sig.specs.View.{view, trees_of};
-ghost use Rattle.canvas_rewrite.specs.View.{elements, line_view};
+ghost use Rattle.canvas_sig.specs.SignatureView.{view, trees_of};
+ghost use Rattle.canvas_rewrite.specs.LineView.{elements, line_view};
 ghost use Rattle.canvas_rewrite.specs.steps.Growing.{growing};
 ghost use Rattle.canvas_rewrite.specs.Runnable.{IsRunnable};
 ghost use Rattle.canvas_semantics.specs.SameMeaning.{IsSame};

@@ -1,7 +1,7 @@
 //! Numbers in file order.
 ghost use Rattle.std.specs.Prelude.{◌≡◌, ◌≤◌, ◌+◌, IfOk, map};
 ghost use Rattle.canvas_semantics.specs.Tree.{count_task, number_task};
-ghost use Rattle.canvas_sig.specs.View.{task_view};
+ghost use Rattle.canvas_sig.specs.SignatureView.{task_view};
 ghost use Rattle.canvas_semantics.specs.Line.{count_line, line_groups, number_line};
 ghost use Rattle.canvas_semantics.specs.PlacedLine.{bare, bare_task};
 ghost use Rattle.canvas_rewrite.specs.FrozenView.{line_of, end_of, p_task_view, p_line_view, p_end_view};

@@ -2,8 +2,8 @@
 ghost use Rattle.std.specs.Prelude.{◌≡◌, IfOk, map};
 ghost use Rattle.std.specs.Option.{option_map};
 ghost use Rattle.canvas_semantics.specs.Tree.{no_trees, and_tree, one};
-ghost use Rattle.canvas_sig.specs.View.{view, trees_of};
-ghost use Rattle.canvas_rewrite.specs.View.{elements, line_view, chains};
+ghost use Rattle.canvas_sig.specs.SignatureView.{view, trees_of};
+ghost use Rattle.canvas_rewrite.specs.LineView.{elements, line_view, chains};
 ghost use Rattle.canvas_rewrite.specs.steps.Growing.{growing};
 ghost use Rattle.canvas_rewrite.specs.Runnable.{IsRunnable};
 ghost use Rattle.canvas_semantics.specs.SameMeaning.{IsSame};

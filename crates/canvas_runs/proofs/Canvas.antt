@@ -3,7 +3,7 @@ use Rattle.std.proofs.Common.{◌≡◌, ℕ, suc, ◌+◌, ◌<◌, ◌≤◌, 
 use Rattle.canvas_task.specs.Apply.{Behaviour}
 use Rattle.canvas_message.specs.Among.{In}
 use Rattle.canvas_runs.specs.Lists.{Each, total, firsts}
-use Rattle.canvas_effects.specs.Job.{store, publish, hand_in}
+use Rattle.canvas_effects.specs.Job.{store, publish, part}
 use Rattle.canvas_runs.specs.Protocol.{Protocol}
 use Rattle.canvas_effects.specs.Events.{Event, start, completion}
 use Rattle.canvas_runs.proofs.Meaning.{Form, After, Beyond, Ordered, Evaluates, Once, KeptOnce, publishes, keeps, names, Has, IsReturned}
@@ -55,7 +55,7 @@ abbrev pub messages_of : Jobs → List Message
 messages_of [] = []
 messages_of (store t o ∷ js) = messages_of js
 messages_of (publish m ∷ js) = m ∷ messages_of js
-messages_of (hand_in g t c ∷ js) = messages_of js
+messages_of (part g t c ∷ js) = messages_of js
 
 module _ (behaviour : Behaviour) where
   -- a worker that publishes the messages themselves
@@ -103,7 +103,7 @@ module _ (behaviour : Behaviour) (p : Plan) where
   messages_each P Q f [] a = tt
   messages_each P Q f (store t o ∷ js) a = messages_each P Q f js a.1
   messages_each P Q f (publish m ∷ js) a = (f m a.0, messages_each P Q f js a.1)
-  messages_each P Q f (hand_in g t c ∷ js) a = messages_each P Q f js a.1
+  messages_each P Q f (part g t c ∷ js) a = messages_each P Q f js a.1
 
   first_after : Each (AtLeast p.members p.limit 0 0) (enter p.line (run no_input) nowhere 0 None)
   first_after = enter_after p.members p.limit p.line (run no_input) nowhere 0 None false 0 0 1 p.limit (omega arith) (omega arith) (λ e. omega arith)
@@ -124,12 +124,12 @@ module _ (behaviour : Behaviour) (p : Plan) where
   later : (j : ℕ) (x : AJob) → AtLeast p.members p.limit (suc j) j x → After X form j x
   later j (store t o) a = a
   later j (publish m) a = a
-  later j (hand_in g t c) a = a
+  later j (part g t c) a = a
 
   beyond : (g from : ℕ) (x : AJob) → Each (λ u. u < from) (p.members g) → AtLeast p.members p.limit from from x → Beyond X form g x
   beyond g from (store t o) below a = each_weaker (λ u l. omega arith) (p.members g) below
   beyond g from (publish m) below a = (each_weaker (λ u l. omega (arith, a.0)) (p.members g) below, a.1)
-  beyond g from (hand_in h t c) below a = (each_weaker (λ u l. omega (arith, a.0)) (p.members g) below, a.1)
+  beyond g from (part h t c) below a = (each_weaker (λ u l. omega (arith, a.0)) (p.members g) below, a.1)
 
   joined_in : (n : _) (x : LineFlow) → FlowIn p.members p.limit None x → FlowIn p.members p.limit None (joined_number n x)
   joined_in n (run no_input) h = h
@@ -213,13 +213,13 @@ module _ (behaviour : Behaviour) (p : Plan) where
   publishes_sends : (k : ℕ) (x : AJob) → publishes X k x ≡ sends k x
   publishes_sends k (store t o) = refl
   publishes_sends k (publish m) = refl
-  publishes_sends k (hand_in g t c) = refl
+  publishes_sends k (part g t c) = refl
 
   first_sends : (k : ℕ) (js : Jobs) → total (names X k) (messages_of js) ≡ total (sends k) js
   first_sends k [] = refl
   first_sends k (store t o ∷ js) = let r = first_sends k js in omega arith
   first_sends k (publish m ∷ js) = ap (λ n. cond (eqb m.no k) 1 0 + n) (first_sends k js)
-  first_sends k (hand_in g t c ∷ js) = let r = first_sends k js in omega arith
+  first_sends k (part g t c ∷ js) = let r = first_sends k js in omega arith
 
   kinds_once : (k low high : ℕ) (js : Jobs) → Rises (job_key true) low js high → total (publishes X k) (by_kind js) ≤ 1
   kinds_once k low high js r =
@@ -260,7 +260,7 @@ module _ (behaviour : Behaviour) (p : Plan) where
   keeps_same : (k : ℕ) (x : AJob) → keeps X k x ≡ keeps_of k x
   keeps_same k (store t o) = refl
   keeps_same k (publish m) = refl
-  keeps_same k (hand_in g t c) = refl
+  keeps_same k (part g t c) = refl
 
   kinds_kept_once : (k low high : ℕ) (js : Jobs) → Rises (job_key false) low js high → total (keeps X k) (by_kind js) ≤ 1
   kinds_kept_once k low high js r =

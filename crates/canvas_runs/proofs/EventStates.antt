@@ -15,7 +15,7 @@ use Rattle.canvas_effects.specs.Effects.{outcome_of, part_of}
 use Rattle.canvas_effects.specs.Events.{Event, start, running, end_of_line, completion, Items, labelled, DoesIn, evaluated, chosen, input_of_success, body_event, header_place, group_flow, outs, outcome_with, message_of, errbacks_in, ran, ran_all, events_in_file, items_all}
 use Rattle.canvas_message.specs.Among.{In}
 use Rattle.canvas_effects.specs.Flowing.{Input, no_input, id_input, LineFlow, run, skips, raise, after_outcome}
-use Rattle.canvas_effects.specs.Job.{Job, store, publish, hand_in}
+use Rattle.canvas_effects.specs.Job.{Job, store, publish, part}
 use Rattle.canvas_runs.specs.EventLaws.{IsStored, IsRunWith, IsNotRun, IsFailedUnrun, EventStates}
 use Rattle.canvas_runs.specs.Law.{its_state}
 use Rattle.canvas_runs.proofs.Facts.{keeping, one_outcome, value}
@@ -105,7 +105,7 @@ module _ (behaviour : Behaviour) where
   stop_sourced p_nowhere k v all w t o i = elim i [ ]
   stop_sourced (p_group g) k v all w t o i = elim i [ ]
   stop_sourced (p_chord g n b) k v all w t o (inl e) =
-      absurd (let jobs : ◌≡◌ {A = AJob} (store t o) (hand_in g k (record { size = n; body = b })) = ap (λ p. p.1) e in cc)
+      absurd (let jobs : ◌≡◌ {A = AJob} (store t o) (part g k (record { size = n; body = b })) = ap (λ p. p.1) e in cc)
   stop_sourced (p_chord g n b) k v all w t o (inr i) = elim i [ ]
 
   mutual

@@ -16,7 +16,7 @@ use Rattle.canvas_effects.specs.Events as events
 use Rattle.canvas_message.specs.Among.{In}
 use Rattle.canvas_effects.specs.Events.{Event, start, running, end_of_line, completion}
 use Rattle.canvas_effects.specs.Flowing.{no_input, run, after_outcome}
-use Rattle.canvas_effects.specs.Job.{Job, store, publish, hand_in}
+use Rattle.canvas_effects.specs.Job.{Job, store, publish, part}
 use Rattle.canvas_effects.specs.Ordered.{put, in_order}
 use Rattle.canvas_runs.specs.Book.{book_of, message_known}
 use Rattle.canvas_runs.specs.Protocol.{Protocol}
@@ -120,19 +120,19 @@ module _ (P : Job Content PCarried Outcome → Type 0) where
   stores_each [] a = tt
   stores_each (store t o ∷ js) a = (a.0, stores_each js a.1)
   stores_each (publish m ∷ js) a = stores_each js a.1
-  stores_each (hand_in g t c ∷ js) a = stores_each js a.1
+  stores_each (part g t c ∷ js) a = stores_each js a.1
 
   messages_each : (js : effects.Jobs) → Each P js → Each (λ m. P (publish m)) (messages_in js)
   messages_each [] a = tt
   messages_each (store t o ∷ js) a = messages_each js a.1
   messages_each (publish m ∷ js) a = (a.0, messages_each js a.1)
-  messages_each (hand_in g t c ∷ js) a = messages_each js a.1
+  messages_each (part g t c ∷ js) a = messages_each js a.1
 
   part_each : (js : effects.Jobs) → Each P js → Each P (part_jobs (part_in js))
   part_each [] a = tt
   part_each (store t o ∷ js) a = part_each js a.1
   part_each (publish m ∷ js) a = part_each js a.1
-  part_each (hand_in g t c ∷ js) a = (a.0, tt)
+  part_each (part g t c ∷ js) a = (a.0, tt)
 
   -- what holds of each job holds of the script
   each_script : (js : effects.Jobs) → Each P js → Each P (script (effect_of js))
@@ -154,7 +154,7 @@ module _ (behaviour : Behaviour) (l : Line) (plan : IsPlan l) where
   Formed' m = Formed p.members p.limit m × SizedMessage (size l) (members l) m
 
   abbrev pub FormedPart' : ℕ → ℕ → Carried → Type 0
-  FormedPart' g t c = FormedPart p.members p.limit g t c × SizedJob (size l) (members l) (hand_in g t c)
+  FormedPart' g t c = FormedPart p.members p.limit g t c × SizedJob (size l) (members l) (part g t c)
 
   abbrev pub form : Form X
   form = record {
@@ -189,7 +189,7 @@ module _ (behaviour : Behaviour) (l : Line) (plan : IsPlan l) where
       subst (λ w. In (v, store w o) (evaluation.evaluated behaviour l)) (sym tasks)
       (subst (λ w. In (v, store u w) (evaluation.evaluated behaviour l)) (sym outs) i)
   store_back v t o (publish m) e i = absurd cc
-  store_back v t o (hand_in g u c) e i = absurd cc
+  store_back v t o (part g u c) e i = absurd cc
 
   pub stored : (v : Event) (t : ℕ) (o : Outcome) → Does v (store t o) → In (v, store t o) (evaluation.evaluated behaviour l)
   stored v t o i = let r = does_back v (store t o) i in store_back v t o r.0 r.1 r.2
@@ -198,28 +198,28 @@ module _ (behaviour : Behaviour) (l : Line) (plan : IsPlan l) where
       → (m : Message) × (c ≡ content m) × In (v, publish m) (evaluation.evaluated behaviour l)
   message_back v c (publish m) e i = let same : c ≡ content m = cc in (m, same, i)
   message_back v c (store u q) e i = absurd cc
-  message_back v c (hand_in g u d) e i = absurd cc
+  message_back v c (part g u d) e i = absurd cc
 
   pub published : (v : Event) (c : Content) → Does v (publish c) → (m : Message) × (c ≡ content m) × In (v, publish m) (evaluation.evaluated behaviour l)
   published v c i = let r = does_back v (publish c) i in message_back v c r.0 r.1 r.2
 
-  part_back : (v : Event) (g t : ℕ) (d : PCarried) (x : AJob) → hand_in g t d ≡ sent x → In (v, x) (evaluation.evaluated behaviour l)
-      → (c : Carried) × (d ≡ p_carried c) × In (v, hand_in g t c) (evaluation.evaluated behaviour l)
-  part_back v g t d (hand_in h u c) e i =
+  part_back : (v : Event) (g t : ℕ) (d : PCarried) (x : AJob) → part g t d ≡ sent x → In (v, x) (evaluation.evaluated behaviour l)
+      → (c : Carried) × (d ≡ p_carried c) × In (v, part g t c) (evaluation.evaluated behaviour l)
+  part_back v g t d (part h u c) e i =
       let groups : g ≡ h = cc in
       let tasks : t ≡ u = cc in
       let same : d ≡ p_carried c = cc in (
         c,
         same,
-        subst (λ w. In (v, hand_in w t c) (evaluation.evaluated behaviour l)) (sym groups)
-            (subst (λ w. In (v, hand_in h w c) (evaluation.evaluated behaviour l)) (sym tasks) i),
+        subst (λ w. In (v, part w t c) (evaluation.evaluated behaviour l)) (sym groups)
+            (subst (λ w. In (v, part h w c) (evaluation.evaluated behaviour l)) (sym tasks) i),
       )
   part_back v g t d (store u q) e i = absurd cc
   part_back v g t d (publish m) e i = absurd cc
 
-  pub returned : (v : Event) (g t : ℕ) (d : PCarried) → Does v (hand_in g t d)
-      → (c : Carried) × (d ≡ p_carried c) × In (v, hand_in g t c) (evaluation.evaluated behaviour l)
-  returned v g t d i = let r = does_back v (hand_in g t d) i in part_back v g t d r.0 r.1 r.2
+  pub returned : (v : Event) (g t : ℕ) (d : PCarried) → Does v (part g t d)
+      → (c : Carried) × (d ≡ p_carried c) × In (v, part g t c) (evaluation.evaluated behaviour l)
+  returned v g t d i = let r = does_back v (part g t d) i in part_back v g t d r.0 r.1 r.2
 
   ends_there : (v : Event) (x : AJob) → In (v, x) (evaluation.evaluated behaviour l) → EndsJob x
   ends_there v x i = in_each (λ i. EndsJob i.1) (evaluation.evaluated behaviour l) (plan_ends behaviour (members l) l 1 p.limit p.numbered) (v, x) i
@@ -229,19 +229,19 @@ module _ (behaviour : Behaviour) (l : Line) (plan : IsPlan l) where
   later : (j : ℕ) (x : AJob) → After (plan_facts.X behaviour p) (plan_facts.form behaviour p) j x × SizedJob (size l) (members l) x → After X form j (sent x)
   later j (store t o) a = a.0
   later j (publish m) a = (a.0.0, (m, refl, (a.0.1, a.1)))
-  later j (hand_in g t c) a = (a.0.0, (c, refl, (a.0.1, a.1)))
+  later j (part g t c) a = (a.0.0, (c, refl, (a.0.1, a.1)))
 
   beyond : (g : ℕ) (x : AJob) → Beyond (plan_facts.X behaviour p) (plan_facts.form behaviour p) g x × SizedJob (size l) (members l) x → Beyond X form g (sent x)
   beyond g (store t o) a = a.0
   beyond g (publish m) a = (a.0.0, (m, refl, (a.0.1, a.1)))
-  beyond g (hand_in h t c) a = (a.0.0, (c, refl, (a.0.1, a.1)))
+  beyond g (part h t c) a = (a.0.0, (c, refl, (a.0.1, a.1)))
 
   first_formed : (js : Jobs) → Each (Formed p.members p.limit) (messages_of js) → Each (SizedJob (size l) (members l)) js
       → Each form.Formed (map content (messages_of js))
   first_formed [] f s = tt
   first_formed (store t o ∷ js) f s = first_formed js f s.1
   first_formed (publish m ∷ js) f s = ((m, refl, (f.0, s.0)), first_formed js f.1 s.1)
-  first_formed (hand_in g t c ∷ js) f s = first_formed js f s.1
+  first_formed (part g t c ∷ js) f s = first_formed js f s.1
 
   first_same : form.first ≡ map content (plan_facts.form behaviour p).first
   first_same = first_sent (members l) p.limit l p.numbered
@@ -298,14 +298,14 @@ module _ (behaviour : Behaviour) (l : Line) (plan : IsPlan l) where
       (each_script (Does (end_of_line m.no)) (all_sent js) (each_sent (Does (end_of_line m.no)) js
       (each_weaker (λ x z. does_on (end_of_line m.no) x z) js (from_kind (λ x. In (end_of_line m.no, x) (evaluation.evaluated behaviour l)) js does))))
 
-  raw_completed : (g t : ℕ) (c : Carried) (fs : List (ℕ × Outcome)) (v : Event) → In (v, hand_in g t c) (evaluation.evaluated behaviour l)
+  raw_completed : (g t : ℕ) (c : Carried) (fs : List (ℕ × Outcome)) (v : Event) → In (v, part g t c) (evaluation.evaluated behaviour l)
       → firsts fs ≡ members l g
       → Each (λ f. Has (plan_facts.X behaviour p) (plan_facts.Does behaviour p) f.0 f.1) fs → Each (Does (completion g)) (X.completed (p_carried c) fs)
   raw_completed g t (carried n body q) fs v i same has =
       let js : Jobs = enter body (header fs) q 0 None in
       let does : Each (λ x. In (completion g, x) (evaluation.evaluated behaviour l)) (body_after (carried n body q) fs) =
       plan_facts.completed_does behaviour p g t (carried n body q) fs (v, i) same has in
-      subst (λ ks. Each (Does (completion g)) (script (effect_of ks))) (sym (completed_sent n body q fs (ends_there v (hand_in g t (carried n body q)) i)))
+      subst (λ ks. Each (Does (completion g)) (script (effect_of ks))) (sym (completed_sent n body q fs (ends_there v (part g t (carried n body q)) i)))
       (each_script (Does (completion g)) (all_sent js) (each_sent (Does (completion g)) js
       (each_weaker (λ x z. does_on (completion g) x z) js (from_kind (λ x. In (completion g, x) (evaluation.evaluated behaviour l)) js does))))
 
@@ -332,7 +332,7 @@ module _ (behaviour : Behaviour) (l : Line) (plan : IsPlan l) where
       ended c v (m, e, i) = subst (λ d. Each (Does (end_of_line (number_of d.own))) (X.ended d (effects.outcome_of behaviour d))) (sym e) (raw_ended m v i)
 
       completed : (g t : ℕ) (d : PCarried) (fs : List (ℕ × Outcome)) (v : Event)
-          → (c : Carried) × (d ≡ p_carried c) × In (v, hand_in g t c) (evaluation.evaluated behaviour l) → firsts fs ≡ members l g
+          → (c : Carried) × (d ≡ p_carried c) × In (v, part g t c) (evaluation.evaluated behaviour l) → firsts fs ≡ members l g
           → Each (λ f. Has X Does f.0 f.1) fs → Each (Does (completion g)) (X.completed d fs)
       completed g t d fs v (c, e, i) same has =
           subst (λ d. Each (Does (completion g)) (X.completed d fs)) (sym e)
@@ -344,13 +344,13 @@ module _ (behaviour : Behaviour) (l : Line) (plan : IsPlan l) where
   publishes_sent k [] = refl
   publishes_sent k (store t o ∷ js) = ap (λ n. 0 + n) (publishes_sent k js)
   publishes_sent k (publish m ∷ js) = ap (λ n. cond (eqb m.no k) 1 0 + n) (publishes_sent k js)
-  publishes_sent k (hand_in g t c ∷ js) = ap (λ n. 0 + n) (publishes_sent k js)
+  publishes_sent k (part g t c ∷ js) = ap (λ n. 0 + n) (publishes_sent k js)
 
   keeps_sent : (k : ℕ) (js : Jobs) → total (keeps X k) (all_sent js) ≡ total (keeps (plan_facts.X behaviour p) k) js
   keeps_sent k [] = refl
   keeps_sent k (store t o ∷ js) = ap (λ n. cond (eqb t k) 1 0 + n) (keeps_sent k js)
   keeps_sent k (publish m ∷ js) = ap (λ n. 0 + n) (keeps_sent k js)
-  keeps_sent k (hand_in g t c ∷ js) = ap (λ n. 0 + n) (keeps_sent k js)
+  keeps_sent k (part g t c ∷ js) = ap (λ n. 0 + n) (keeps_sent k js)
 
   names_sent : (k : ℕ) (ms : List Message) → total (names X k) (map content ms) ≡ total (names (plan_facts.X behaviour p) k) ms
   names_sent k [] = refl
@@ -419,7 +419,7 @@ module _ (behaviour : Behaviour) (l : Line) (plan : IsPlan l) where
   backed_sent us [] b = tt
   backed_sent us (store t o ∷ js) b = backed_sent (t ∷ us) js b
   backed_sent us (publish m ∷ js) b = backed_sent us js b
-  backed_sent us (hand_in g t c ∷ js) b = (b.0, ap all_sent b.1)
+  backed_sent us (part g t c ∷ js) b = (b.0, ap all_sent b.1)
 
   pub its_backs : Backs X form
   its_backs = record { ended = λ c o f. ended c o f; completed = λ g t d fs f same. completed g t d fs f same }

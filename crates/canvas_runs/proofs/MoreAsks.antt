@@ -2,7 +2,6 @@
 use Rattle.std.proofs.Common.{◌≡◌, ◌≢◌, ℕ, Option, Bool, true, false, cond, eqb, List, [], ◌∷◌, ◌++◌, refl, ap, ◌∙◌, append-nil, eq-eqb, ne_eqb}
 use Rattle.canvas_effects.specs.Job as job
 use Rattle.canvas_runs.specs.Core.{Ask, Reply, CoreState, taking, ask, answered, left_after, Suits, ReadsBack, IsCoreRun, acking, over, failed, resting, owning, doing, reading}
-use Rattle.canvas_effects.specs.Job.{hand_in}
 use Rattle.canvas_runs.specs.Calls.{AskedAndAnswered, of_scripts, scripts_of, held_by, held_after, delivers, DeliversHeld}
 use Rattle.canvas_runs.specs.Lists.{by}
 use Rattle.canvas_runs.specs.Protocol.{Protocol}
@@ -73,7 +72,7 @@ module _ (X : Protocol) where
   asks_of_scripts (doing [] b) = refl
   asks_of_scripts (doing (job.store t o ∷ js) b) = refl
   asks_of_scripts (doing (job.publish m ∷ js) b) = refl
-  asks_of_scripts (doing (hand_in g t c ∷ js) b) = refl
+  asks_of_scripts (doing (job.part g t c ∷ js) b) = refl
   asks_of_scripts (reading g c fs) = refl
   asks_of_scripts acking = refl
 
@@ -86,6 +85,6 @@ module _ (X : Protocol) where
   plain_ask (doing [] b) h = tt
   plain_ask (doing (job.store t o ∷ js) b) h = tt
   plain_ask (doing (job.publish m ∷ js) b) h = tt
-  plain_ask (doing (hand_in g t c ∷ js) b) h = tt
+  plain_ask (doing (job.part g t c ∷ js) b) h = tt
   plain_ask (reading g c fs) h = tt
   plain_ask acking h = tt

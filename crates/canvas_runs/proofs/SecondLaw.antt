@@ -12,7 +12,7 @@ use Rattle.canvas_message.specs.Content.{Content, number_of}
 use Rattle.canvas_message.specs.Among.{In}
 use Rattle.canvas_effects.specs.Events.{Event, start}
 use Rattle.canvas_effects.specs.Flowing.{run, no_input}
-use Rattle.canvas_effects.specs.Job.{Job, store, publish, hand_in}
+use Rattle.canvas_effects.specs.Job.{Job, store, publish, part}
 use Rattle.canvas_message.specs.declared.envelope.Envelope.{Envelope}
 use Rattle.canvas_backend.specs.declared.stored.Stored.{Stored}
 use Rattle.canvas_backend.specs.declared.stored.Stored.TheVariants.{First, Again}
@@ -76,7 +76,7 @@ module _ (behaviour : Behaviour) (l : Line) (plan : IsPlan l) (r : Run behaviour
   abbrev FormedJob : AJob → Type 0
   FormedJob (store t o) = Unit {0}
   FormedJob (publish m) = Formed' behaviour l plan m
-  FormedJob (hand_in g t d) = FormedPart' behaviour l plan g t d
+  FormedJob (part g t d) = FormedPart' behaviour l plan g t d
 
   abbrev Made : AJob → Type 0
   Made x = Finished (sent x) × FormedJob x
@@ -85,13 +85,13 @@ module _ (behaviour : Behaviour) (l : Line) (plan : IsPlan l) (r : Run behaviour
       × SizedJob (size l) (members l) x → FormedJob x
   later_formed j (store t o) a = tt
   later_formed j (publish m) a = (a.0.1, a.1)
-  later_formed j (hand_in g t d) a = (a.0.1, a.1)
+  later_formed j (part g t d) a = (a.0.1, a.1)
 
   beyond_formed : (g : ℕ) (x : AJob) → Beyond (plan_facts.X behaviour (p behaviour l plan)) (plan_facts.form behaviour (p behaviour l plan)) g x
       × SizedJob (size l) (members l) x → FormedJob x
   beyond_formed g (store t o) a = tt
   beyond_formed g (publish m) a = (a.0.1, a.1)
-  beyond_formed g (hand_in h t d) a = (a.0.1, a.1)
+  beyond_formed g (part h t d) a = (a.0.1, a.1)
 
   after_formed : (m : Message) (o : Outcome) → Formed' behaviour l plan m → Each FormedJob (after m o)
   after_formed m o f =
@@ -118,11 +118,11 @@ module _ (behaviour : Behaviour) (l : Line) (plan : IsPlan l) (r : Run behaviour
             (each_unsent Finished (after m (outcome_of behaviour m)) jobs) (after_formed m (outcome_of behaviour m) d.1),
       )
 
-  some_member : (g k : ℕ) (d : Carried) (ns : List ℕ) → length ns ≡ suc k → Each (λ t. Made (hand_in g t d)) ns → (t : ℕ) × FormedPart' behaviour l plan g t d
+  some_member : (g k : ℕ) (d : Carried) (ns : List ℕ) → length ns ≡ suc k → Each (λ t. Made (part g t d)) ns → (t : ℕ) × FormedPart' behaviour l plan g t d
   some_member g k d [] e a = absurd (omega (arith, e))
   some_member g k d (n ∷ ns) e a = (n, a.0.1)
 
-  completes : (g k : ℕ) (d : Carried) → Distinct (members l g) → length (members l g) ≡ suc k → Each (λ t. Made (hand_in g t d)) (members l g)
+  completes : (g k : ℕ) (d : Carried) → Distinct (members l g) → length (members l g) ≡ suc k → Each (λ t. Made (part g t d)) (members l g)
       → (fs : List (ℕ × Outcome)) × (firsts fs ≡ members l g) × Each (λ f. Kept behaviour (members l) (evaluation.evaluated behaviour l) f.0 f.1) fs
       × Each Made (body_after d fs)
   completes g k d distinct many all =
@@ -147,7 +147,7 @@ module _ (behaviour : Behaviour) (l : Line) (plan : IsPlan l) (r : Run behaviour
   messages_sized (store t o ∷ js) a m i = messages_sized js a.1 m i
   messages_sized (publish n ∷ js) a m (inl e) = subst (λ u. SizedJob (size l) (members l) (publish u)) (sym e) a.0
   messages_sized (publish n ∷ js) a m (inr i) = messages_sized js a.1 m i
-  messages_sized (hand_in g t d ∷ js) a m i = messages_sized js a.1 m i
+  messages_sized (part g t d ∷ js) a m i = messages_sized js a.1 m i
 
   map_in : (ms : List Message) (m : Message) → In m ms → In (content m) (map content ms)
   map_in [] m i = elim i [ ]
@@ -296,7 +296,7 @@ module _ (behaviour : Behaviour) (l : Line) (plan : IsPlan l) (r : Run behaviour
 
   returned_once : (g t : ℕ) → IsPart behaviour l g t → returns g t r.table ≡ 1
   returned_once g t (d, v, i) =
-      let done = finished v (hand_in g t d) i in
+      let done = finished v (part g t d) i in
       let few = (part_once g t [] [] (seconds (answered_calls r.table)) (inner_run behaviour l plan r).table).0 in
       let same = total-same (returns_one g t) (part_of g t) (part_weight g t) (seconds (answered_calls r.table)) in
       let here = in_total (returns_one g t) (seconds (answered_calls r.table)) (results.part g t, results.count done.0) done.1 in

@@ -14,7 +14,7 @@ use Rattle.canvas_rewrite.specs.FrozenView.{PCarried}
 use Rattle.canvas_message.specs.Content.{Content, number_of}
 use Rattle.canvas_message.specs.Among.{In}
 use Rattle.canvas_effects.specs.Events.{Event, DoesIn}
-use Rattle.canvas_effects.specs.Job.{publish, hand_in}
+use Rattle.canvas_effects.specs.Job.{publish, part}
 use Rattle.canvas_message.specs.declared.envelope.Envelope.{Envelope}
 use Rattle.canvas_backend.specs.declared.stored.Stored.TheVariants.{First, Again}
 use Rattle.canvas_backend.specs.declared.stored.Stored.{Stored}
@@ -95,7 +95,7 @@ module _ (behaviour : Behaviour) (l : Line) where
 
   -- a part that evaluation returns
   abbrev pub IsPart : ℕ → ℕ → Type 0
-  IsPart g t = (c : PCarried) × (v : Event) × DoesIn behaviour l v (hand_in g t c)
+  IsPart g t = (c : PCarried) × (v : Event) × DoesIn behaviour l v (part g t c)
 
   -- every run, closed or not
   pub record FirstPart (r : Run behaviour l) : Type 0 where

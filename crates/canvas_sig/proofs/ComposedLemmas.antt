@@ -9,7 +9,7 @@ use Rattle.canvas_task.specs.declared.arg.Arg.TheVariants as arg
 use Rattle.canvas_sig.specs.ComposedRefusals.{arg_ok, its_call, call_fault, task_fault, tasks_fault, signatures_fault, all_fault}
 use Rattle.canvas_sig.specs.Answers.{◌or_else◌}
 use Rattle.canvas_semantics.specs.Tree.{chain}
-use Rattle.canvas_sig.specs.View.{task_view, tasks_of, view, trees_of}
+use Rattle.canvas_sig.specs.SignatureView.{task_view, tasks_of, view, trees_of}
 use Rattle.canvas_sig.specs.Writable.{TaskComposed, TasksComposed}
 use Rattle.canvas_sig.proofs.FittingCalls.{NumbersFit, ArgFits, ArgsFit, KwargsFit}
 use Rattle.canvas_sig.specs.declared.fault.SigFault.{SigFault}

@@ -5,7 +5,7 @@ use Rattle.std.specs.Option.{option_and_then}
 use Rattle.canvas_semantics.specs.Tree.{Tree, chain, Trees, ends_in_group, last_in_group}
 use Rattle.canvas_semantics.specs.Bounds.{nests_group, some_nests_group, some_ends_in_group}
 use Rattle.canvas_sig.specs.steps.Ending.{ending, last_ending, ends_in_task}
-use Rattle.canvas_sig.specs.View.{view, trees_of}
+use Rattle.canvas_sig.specs.SignatureView.{view, trees_of}
 use Rattle.canvas_sig.specs.declared.node.Node.{Node, Chain, Group, Chord}
 use Rattle.canvas_sig.proofs.Views.{view-Chain, view-Group, view-Chord}
 

@@ -20,7 +20,7 @@ use Rattle.canvas_sig.specs.Grammar.{some_or_zero, whole_number, argument_of, is
 use Rattle.canvas_sig.specs.steps.Reading.{tree_reading}
 use Rattle.canvas_sig.specs.Refusals.{first_fault, in_kwargs, named_of, spelled_call, task_within, header_of, tree_from, tree_within}
 use Rattle.canvas_semantics.specs.Tree.{Task, Tree, one, chain, group, chord}
-use Rattle.canvas_sig.specs.View.{tasks_of, trees_of}
+use Rattle.canvas_sig.specs.SignatureView.{tasks_of, trees_of}
 use Rattle.canvas_sig.proofs.FittingCalls.{NumbersFit, ArgFits, ArgsFit, KwargsFit, CallFits}
 use Rattle.canvas_sig.proofs.Fits.{TaskFits, TasksFit, TreeFits, TreesFit}
 use Rattle.canvas_sig.proofs.InOrder.{IsBefore, IsSorted, MembersSorted, AllSorted, all_items, all_in_list, all_listed, field_sorted, read_sorted}

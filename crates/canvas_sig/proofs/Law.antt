@@ -10,7 +10,7 @@ use Rattle.canvas_sig.specs.declared.primitive.Primitive.TheVariants as kind
 use Rattle.canvas_task.specs.Text.{Text}
 use Rattle.canvas_sig.specs.Fields.{field, subtype, args, kwargs, tasks, header, body, link, link_error, items, listed, as_list, object_members, is_null, is_list, is_true, is_empty, is_list_or_null, is_object_or_null, is_link}
 use Rattle.canvas_semantics.specs.Tree.{Task, task, Tree, one, chain, group, chord, Trees}
-use Rattle.canvas_sig.specs.View.{tasks_of, trees_of}
+use Rattle.canvas_sig.specs.SignatureView.{tasks_of, trees_of}
 use Rattle.canvas_sig.specs.Answers.{◌>>=◌, ◌or_else◌, unless, fault_if, judged, each}
 use Rattle.canvas_sig.specs.Grammar.{argument_of, arg_reading, named_reading, kind_ok, numbers_ok, args_ok, is_group, not_signature, bad_members, bad_args, bad_number, on_canvas, primitive_of, fault_as, own_fault, members_in}
 use Rattle.canvas_sig.specs.steps.Reading.{task_with, task_reading, header_reading, tree_as, tree_reading}

@@ -10,7 +10,7 @@ use Rattle.canvas_sig.specs.Answers.{Fails, each}
 use Rattle.canvas_sig.specs.Grammar.{arg_reading, named_reading}
 use Rattle.canvas_sig.specs.steps.Reading.{task_with, linked_with, task_reading, tree_with, tree_reading}
 use Rattle.canvas_semantics.specs.Tree.{Task}
-use Rattle.canvas_sig.specs.View.{task_view}
+use Rattle.canvas_sig.specs.SignatureView.{task_view}
 use Rattle.canvas_sig.specs.declared.task_sig.TaskSig.{TaskSig}
 use Rattle.canvas_sig.specs.declared.task_sig.TaskSig.TheViews.{roll-TaskSig}
 use Rattle.canvas_sig.specs.declared.task_sig.TaskSig.TheOpen.{TaskSig-F}

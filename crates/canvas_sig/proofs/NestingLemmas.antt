@@ -2,7 +2,7 @@
 use Rattle.std.proofs.Common.{◌≡◌, ℕ, ◌≤◌, ◌↔◌, ◌+◌, ◌-◌, ◌<◌, max, Bool, true, false, IsTrue, true≢false, List, [], ◌∷◌, map, All, arith, sym, subst, ◌∙◌}
 use Rattle.std.proofs.lemmas.List.Elements.{All-nil, All-cons, All-head, All-tail}
 use Rattle.canvas_semantics.specs.Nesting.{nesting, all_nesting, task_nesting, tasks_nesting}
-use Rattle.canvas_sig.specs.View.{view, task_view, tasks_of, trees_of}
+use Rattle.canvas_sig.specs.SignatureView.{view, task_view, tasks_of, trees_of}
 use Rattle.canvas_sig.specs.declared.task_sig.TaskSig.{TaskSig}
 use Rattle.canvas_sig.specs.declared.node.Node.{Node}
 

@@ -11,7 +11,7 @@ use Rattle.canvas_task.specs.declared.arg.Arg.TheVariants as arg
 use Rattle.canvas_sig.specs.Fields.{field, items, entries, as_list, is_number, is_null, is_link}
 use Rattle.canvas_semantics.specs.Tree.{Call, Task, task, Tasks, no_tasks, and_task, Tree, one, chain, group, chord, Trees, no_trees, and_tree}
 use Rattle.canvas_semantics.specs.Nesting.{task_nesting, tasks_nesting, nesting, all_nesting}
-use Rattle.canvas_sig.specs.View.{tasks_of, trees_of}
+use Rattle.canvas_sig.specs.SignatureView.{tasks_of, trees_of}
 use Rattle.canvas_sig.specs.Answers.{each}
 use Rattle.canvas_sig.specs.Grammar.{whole_number, arg_reading, named_reading, kind_ok, numbers_ok, number_ok, own_fault}
 use Rattle.canvas_sig.specs.steps.Reading.{task_with, task_reading, tree_reading}

@@ -1,7 +1,7 @@
 -- The data of a signature, from that of the signatures in it.
 use Rattle.std.proofs.Common.{◌≡◌, ℕ, Bool, ap, ◌∙◌, sym, List, map, Box, Global, rules}
 use Rattle.canvas_semantics.specs.Tree.{Task, task, one, chain, group, chord}
-use Rattle.canvas_sig.specs.View.{view, task_view, task_step, tasks_of, trees_of}
+use Rattle.canvas_sig.specs.SignatureView.{view, task_view, task_step, tasks_of, trees_of}
 use Rattle.canvas_task.specs.declared.arg.Arg.{Arg}
 use Rattle.canvas_sig.specs.declared.task_sig.TaskSig as sig
 use Rattle.canvas_sig.specs.declared.task_sig.TaskSig.{TaskSig, out-TaskSig, roll-TaskSig}

@@ -7,7 +7,7 @@ use Rattle.canvas_sig.specs.Answers.{◌or_else◌}
 use Rattle.canvas_sig.specs.Fields.{subtype, link, link_error, as_list}
 use Rattle.canvas_sig.specs.Grammar.{own_fault, primitive_of}
 use Rattle.canvas_sig.specs.Refusals.{first_fault, in_kwargs, fault_within, spelled_call, task_within, tree_from, tree_said}
-use Rattle.canvas_sig.specs.View.{tasks_of}
+use Rattle.canvas_sig.specs.SignatureView.{tasks_of}
 use Rattle.canvas_sig.specs.declared.fault.SigFault.{SigFault}
 
 -- the first fault of a signature, and of one that stands as a link or an error callback

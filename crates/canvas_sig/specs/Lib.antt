@@ -1,4 +1,4 @@
-pub mod View
+pub mod SignatureView
 pub mod Writing
 pub mod Fields
 pub mod Answers

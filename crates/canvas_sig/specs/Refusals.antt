@@ -11,7 +11,7 @@ use Rattle.canvas_sig.specs.Fields.{field, subtype, args, kwargs, tasks, header,
 use Rattle.canvas_sig.specs.Answers.{◌or_else◌}
 use Rattle.canvas_sig.specs.Grammar.{argument_of, own_fault, primitive_of, members_in}
 use Rattle.canvas_semantics.specs.Tree.{Call, Task, task, Tree, one, chain, group, chord, Trees}
-use Rattle.canvas_sig.specs.View.{tasks_of, trees_of}
+use Rattle.canvas_sig.specs.SignatureView.{tasks_of, trees_of}
 
 -- ---- the first fault
 

@@ -6,7 +6,7 @@ ghost use Rattle.canvas_sig.specs.CanvasText.{most_bytes, text_reading};
 ghost use Rattle.canvas_sig.specs.steps.Reading.{signature_reading};
 ghost use Rattle.canvas_sig.specs.ComposedRefusals.{node_fault};
 ghost use Rattle.canvas_sig.specs.Answers.{Gives};
-ghost use Rattle.canvas_sig.specs.View.{view};
+ghost use Rattle.canvas_sig.specs.SignatureView.{view};
 ghost use Rattle.canvas_sig.specs.Writable.{IsCanvas};
 
 use crate::composed::check_node;
@@ -40,7 +40,7 @@ impl Model for Canvas {
 
     ghost coded = { tree_code };
 
-    ghost use Rattle.canvas_sig.specs.View.{view as tree_view};
+    ghost use Rattle.canvas_sig.specs.SignatureView.{view as tree_view};
     ghost use Rattle.canvas_sig.specs.Writable.{IsCanvas};
 
     ghost view = { λ c. tree_view c.node };

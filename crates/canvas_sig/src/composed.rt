@@ -6,7 +6,7 @@ ghost use Rattle.canvas_task.specs.Entries.{named, Ascends};
 ghost use Rattle.canvas_task.specs.Numbers.{in_range};
 ghost use Rattle.canvas_sig.specs.ComposedRefusals.{refusal_of, arg_ok, its_call, call_fault, task_fault, tasks_fault, signatures_fault, all_fault};
 ghost use Rattle.canvas_semantics.specs.Tree.{chain};
-ghost use Rattle.canvas_sig.specs.View.{task_view, view, tasks_of, trees_of};
+ghost use Rattle.canvas_sig.specs.SignatureView.{task_view, view, tasks_of, trees_of};
 ghost use Rattle.canvas_sig.specs.Writable.{TaskComposed, TasksComposed, IsComposed, AreComposed};
 
 use crate::{Node, SigFault, TaskSig};

@@ -1,6 +1,6 @@
 //! Copies of signatures.
 ghost use Rattle.std.specs.Prelude.{◌≡◌, IfOk, map};
-ghost use Rattle.canvas_sig.specs.View.{task_view};
+ghost use Rattle.canvas_sig.specs.SignatureView.{task_view};
 
 use crate::TaskSig;
 use canvas_task::{ListOf, copy_args, copy_kwargs};

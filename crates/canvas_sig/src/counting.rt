@@ -2,7 +2,7 @@
 
 ghost use Rattle.std.specs.Prelude.{map};
 ghost use Rattle.canvas_semantics.specs.Tree.{count, count_all, count_task, count_tasks, count_groups, count_all_groups};
-ghost use Rattle.canvas_sig.specs.View.{view, task_view, tasks_of, trees_of};
+ghost use Rattle.canvas_sig.specs.SignatureView.{view, task_view, tasks_of, trees_of};
 ghost use Rattle.canvas_sig.specs.steps.Budget.{LeavesOver};
 
 use crate::{Node, TaskSig};

@@ -3,7 +3,7 @@
 ghost use Rattle.std.specs.Prelude.{◌≡◌, false, map};
 ghost use Rattle.std.specs.List.{list_all};
 ghost use Rattle.canvas_sig.specs.steps.Ending.{ending, last_ending, ends_in_task};
-ghost use Rattle.canvas_sig.specs.View.{view};
+ghost use Rattle.canvas_sig.specs.SignatureView.{view};
 
 use crate::Node;
 

@@ -3,7 +3,7 @@
 ghost use Rattle.std.specs.Prelude.{◌≡◌};
 ghost use Rattle.canvas_semantics.specs.Bounds.{is_too_deep, is_too_many};
 ghost use Rattle.canvas_sig.specs.LimitRefusals.{tree_fault};
-ghost use Rattle.canvas_sig.specs.View.{view};
+ghost use Rattle.canvas_sig.specs.SignatureView.{view};
 
 use crate::counting::{groups_left, tasks_left};
 use crate::group_nesting::ending;

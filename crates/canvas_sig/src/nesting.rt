@@ -3,7 +3,7 @@
 ghost use Rattle.std.specs.Prelude.{◌≡◌, ◌≤◌, ◌↔◌, IsTrue};
 ghost use Rattle.std.specs.List.{All};
 ghost use Rattle.canvas_semantics.specs.Nesting.{nesting, task_nesting};
-ghost use Rattle.canvas_sig.specs.View.{view, task_view};
+ghost use Rattle.canvas_sig.specs.SignatureView.{view, task_view};
 
 use crate::{Node, TaskSig};
 

@@ -1,7 +1,7 @@
 //! Signatures as a tree, before any check.
 ghost use Rattle.std.specs.Prelude.{◌≡◌, IfOk, map};
 ghost use Rattle.canvas_semantics.specs.Tree.{one, chain as chain_of, group as group_of, chord as chord_of};
-ghost use Rattle.canvas_sig.specs.View.{call_of, trees_of, view};
+ghost use Rattle.canvas_sig.specs.SignatureView.{call_of, trees_of, view};
 
 use crate::TaskSig;
 use canvas_task::ListOf;

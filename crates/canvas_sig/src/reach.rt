@@ -3,7 +3,7 @@
 
 ghost use Rattle.std.specs.Prelude.{◌≡◌, ◌+◌, max, map};
 ghost use Rattle.canvas_sig.specs.steps.LineReach.{past, above, reach_of_line, sig_reach, sigs_reach, chord_reach, task_onto, group_reach, onto_reach, all_onto_reach, greatest};
-ghost use Rattle.canvas_sig.specs.View.{view, task_view, tasks_of, trees_of};
+ghost use Rattle.canvas_sig.specs.SignatureView.{view, task_view, tasks_of, trees_of};
 
 use crate::limits::MOST_REACH;
 use crate::{Node, TaskSig};

@@ -7,7 +7,7 @@ ghost use Rattle.canvas_sig.specs.Fields.{value_at, as_list, text_of};
 ghost use Rattle.canvas_sig.specs.Answers.{Gives, each};
 ghost use Rattle.canvas_sig.specs.steps.Reading.{task_with, linked_with, task_reading, header_reading, tree_as, tree_with, tree_reading};
 ghost use Rattle.canvas_sig.specs.Grammar.{members_in};
-ghost use Rattle.canvas_sig.specs.View.{task_view, trees_of, view as tree_view};
+ghost use Rattle.canvas_sig.specs.SignatureView.{task_view, trees_of, view as tree_view};
 
 use crate::arguments::{read_args, read_kwargs};
 use crate::datum::Datum;

@@ -1,7 +1,7 @@
 //! The signature of one task.
 ghost use Rattle.std.specs.Prelude.{◌≡◌, IfOk, map};
 ghost use Rattle.canvas_task.specs.declared.arg.Arg.TheVariants.{Num};
-ghost use Rattle.canvas_sig.specs.View.{call_of, task_view};
+ghost use Rattle.canvas_sig.specs.SignatureView.{call_of, task_view};
 
 use canvas_task::{Arg, ListOf, MapOf, TextOf};
 use std::alloc::{AllocError, Global};

@@ -4,7 +4,7 @@ ghost use Rattle.std.specs.Prelude.{◌≡◌, ◌≤◌, Ok, IfOk, length, stri
 ghost use Rattle.serde_json.specs.Written.{compact_text};
 ghost use Rattle.canvas_sig.specs.CanvasText.{most_bytes, text_reading};
 ghost use Rattle.canvas_sig.specs.Writing.{tree_wire};
-ghost use Rattle.canvas_sig.specs.View.{view};
+ghost use Rattle.canvas_sig.specs.SignatureView.{view};
 
 mod arguments;
 mod node;

@@ -3,11 +3,11 @@ use Rattle.std.proofs.Common.{◌≡◌, ℕ, cond, true, false, List, [], ◌�
 use Rattle.canvas_task.specs.Apply.{Behaviour}
 use Rattle.canvas_semantics.specs.Line.{Line}
 use Rattle.canvas_message.specs.Content.{Content, number_of}
-use Rattle.canvas_effects.specs.Job.{store, publish, hand_in}
+use Rattle.canvas_effects.specs.Job.{store, publish, part}
 use Rattle.canvas_message.specs.declared.envelope.Envelope.{Envelope}
 use Rattle.canvas_runs.specs.Book.{book_of}
 use Rattle.canvas_runs.specs.Calls.{AskedAndAnswered, scripts_of, held_by, held_after}
-use Rattle.canvas_runs.specs.Core.{Ask, Reply, redeliver, taken, sent, refused, stored, counted, found, rested, acked, taking, resting, owning, doing, reading, acking, ask, answered, Doing, settled, opens, owned, handed_in, all_read, is_due, Suits, IsCoreRun, left_after}
+use Rattle.canvas_runs.specs.Core.{Ask, Reply, redeliver, taken, sent, refused, stored, counted, found, rested, acked, taking, resting, owning, doing, reading, acking, ask, answered, Doing, settled, opens, owned, part_counted, all_read, is_due, Suits, IsCoreRun, left_after}
 use Rattle.canvas_runs.specs.Lists.{by}
 use Rattle.canvas_runs.specs.declared.when.When.TheVariants.{Early}
 use Rattle.canvas_runs.specs.Worker.{worker, opened}
@@ -41,7 +41,7 @@ module _ (behaviour : Behaviour) (l : Line) where
       owns_other (settled (worker behaviour l) js (cond (is_due t js) a b)) h (past_settled behaviour l 0 js (cond (is_due t js) a b)).0
   owns_step (doing (publish m ∷ js) b) h sent u = owns_other (settled (worker behaviour l) js b) h (past_settled behaviour l 0 js b).0
   owns_step (doing (publish m ∷ js) b) h refused u = tt
-  owns_step (doing (hand_in g t c ∷ js) b) h (counted i) u = owns_other (handed_in (worker behaviour l) g c i) h (past_handed behaviour l 0 g c i).0
+  owns_step (doing (part g t c ∷ js) b) h (counted i) u = owns_other (part_counted (worker behaviour l) g c i) h (past_handed behaviour l 0 g c i).0
   owns_step (reading g c fs) h (found t (Some o)) u =
       owns_other (all_read (worker behaviour l) g c (fs ++ (t, o) ∷ [])) h (past_read behaviour l 0 g c (fs ++ (t, o) ∷ [])).0
   owns_step (reading g c fs) h (found t None) u = tt

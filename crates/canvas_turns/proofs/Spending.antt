@@ -6,13 +6,13 @@ use Rattle.canvas_task.specs.declared.outcome.Outcome.{Outcome}
 use Rattle.canvas_semantics.specs.Line.{Line}
 use Rattle.canvas_rewrite.specs.FrozenView.{PCarried}
 use Rattle.canvas_message.specs.Content.{Content, number_of}
-use Rattle.canvas_effects.specs.Job.{store, publish, hand_in}
+use Rattle.canvas_effects.specs.Job.{store, publish, part}
 use Rattle.canvas_message.specs.declared.envelope.Envelope.{Envelope}
 use Rattle.canvas_backend.specs.declared.stored.Stored.{Stored}
 use Rattle.canvas_backend.specs.declared.stored.Stored.TheVariants.{First, Again}
 use Rattle.canvas_runs.specs.Book.{book_of}
 use Rattle.canvas_runs.specs.Calls.{held_by}
-use Rattle.canvas_runs.specs.Core.{Reply, taken, sent, refused, stored, counted, found, rested, acked, taking, resting, over, failed, owning, doing, reading, acking, ask, answered, Doing, Jobs, settled, opens, owned, handed_in, all_read, is_inside, is_due, Suits, Ask, ReadsBack, redeliver}
+use Rattle.canvas_runs.specs.Core.{Reply, taken, sent, refused, stored, counted, found, rested, acked, taking, resting, over, failed, owning, doing, reading, acking, ask, answered, Doing, Jobs, settled, opens, owned, part_counted, all_read, is_inside, is_due, Suits, Ask, ReadsBack, redeliver}
 use Rattle.canvas_runs.specs.Law.{of_task, takes_one_of}
 use Rattle.canvas_runs.specs.declared.when.When.{When}
 use Rattle.canvas_runs.specs.declared.when.When.TheVariants.{Early, Late}
@@ -191,8 +191,8 @@ module _ (behaviour : Behaviour) (l : Line) (k : ℕ) where
 
   pub past_settled : (js : Jobs (worker behaviour l)) (b : Stored) → Past (settled (worker behaviour l) js b)
   past_settled [] b = (refl, refl)
-  past_settled (hand_in g t c ∷ js) First = (refl, refl)
-  past_settled (hand_in g t c ∷ js) Again = (refl, refl)
+  past_settled (part g t c ∷ js) First = (refl, refl)
+  past_settled (part g t c ∷ js) Again = (refl, refl)
   past_settled (store t o ∷ js) b = (refl, refl)
   past_settled (publish m ∷ js) b = (refl, refl)
 
@@ -200,7 +200,7 @@ module _ (behaviour : Behaviour) (l : Line) (k : ℕ) where
   past_owned m First = past_settled _ First
   past_owned m Again = (refl, refl)
 
-  pub past_handed : (g : ℕ) (c : PCarried) (i : ℕ) → Past (handed_in (worker behaviour l) g c i)
+  pub past_handed : (g : ℕ) (c : PCarried) (i : ℕ) → Past (part_counted (worker behaviour l) g c i)
   past_handed g c i = go (eqb (suc i) c.size)
     where
       go : (b : Bool) → Past (cond b (reading g c []) acking)
@@ -255,7 +255,7 @@ module _ (behaviour : Behaviour) (l : Line) (k : ℕ) where
       goes_early taking (settled (worker behaviour l) js (cond (is_due t js) a b)) h (past_settled js (cond (is_due t js) a b)) in omega (arith, z)
   step_early (doing (publish m ∷ js) b) h sent u f = let z = goes_early taking (settled (worker behaviour l) js b) h (past_settled js b) in omega (arith, z)
   step_early (doing (publish m ∷ js) b) h refused u f = absurd (false≢true f)
-  step_early (doing (hand_in g t c ∷ js) b) h (counted i) u f = let z = goes_early taking (handed_in (worker behaviour l) g c i) h (past_handed g c i) in
+  step_early (doing (part g t c ∷ js) b) h (counted i) u f = let z = goes_early taking (part_counted (worker behaviour l) g c i) h (past_handed g c i) in
       omega (arith, z)
   step_early (reading g c fs) h (found t (Some o)) u f = let z =
       goes_early taking (all_read (worker behaviour l) g c (fs ++ (t, o) ∷ [])) h (past_read g c (fs ++ (t, o) ∷ [])) in omega (arith, z)
@@ -279,7 +279,7 @@ module _ (behaviour : Behaviour) (l : Line) (k : ℕ) where
       goes_late (settled (worker behaviour l) js (cond (is_due t js) a b)) h (past_settled js (cond (is_due t js) a b)) in omega (arith, z)
   step_late (doing (publish m ∷ js) b) h sent u f = let z = goes_late (settled (worker behaviour l) js b) h (past_settled js b) in omega (arith, z)
   step_late (doing (publish m ∷ js) b) h refused u f = absurd (false≢true f)
-  step_late (doing (hand_in g t c ∷ js) b) h (counted i) u f = let z = goes_late (handed_in (worker behaviour l) g c i) h (past_handed g c i) in
+  step_late (doing (part g t c ∷ js) b) h (counted i) u f = let z = goes_late (part_counted (worker behaviour l) g c i) h (past_handed g c i) in
       omega (arith, z)
   step_late (reading g c fs) h (found t (Some o)) u f = let z =
       goes_late (all_read (worker behaviour l) g c (fs ++ (t, o) ∷ [])) h (past_read g c (fs ++ (t, o) ∷ [])) in omega (arith, z)

@@ -11,7 +11,7 @@ use Rattle.canvas_semantics.specs.States.{states, numbers_from}
 use Rattle.canvas_semantics.proofs.Numbered.{count_elements}
 use Rattle.canvas_rewrite.specs.Planned.{IsPlan}
 use Rattle.canvas_message.specs.Among.{In}
-use Rattle.canvas_effects.specs.Job.{store, publish, hand_in}
+use Rattle.canvas_effects.specs.Job.{store, publish, part}
 use Rattle.canvas_backend.proofs.HistoryLaws.{member_test}
 use Rattle.canvas_backend.proofs.Rosters.{roster_sound}
 use Rattle.canvas_backend.specs.Roster.{roster_of, members}
@@ -144,8 +144,8 @@ module _ (behaviour : Behaviour) (l : Line) (n : ℕ) (us : List ℕ) (xs : List
       let s = has_state behaviour l t.plan u o (good.0.0, good.0.2) in
       ((state_task behaviour l t.plan u o s).1, state_range behaviour l t.plan ranged u o s)
   answerable ranged p (doing (publish m ∷ js) b) good k = tt
-  answerable ranged p (doing (hand_in g u c ∷ js) b) good k =
-      let may = part_may behaviour l t.plan n xs p (doing (hand_in g u c ∷ js) b) holds.lawful.table_is good k in
+  answerable ranged p (doing (part g u c ∷ js) b) good k =
+      let may = part_may behaviour l t.plan n xs p (doing (part g u c ∷ js) b) holds.lawful.table_is good k in
       let first = may.2 in
       let held = was_in behaviour l t.plan (table_log behaviour l n xs) u first.outcome
       (record { before = first.before; rest = first.rest; caller = first.caller; is = first.is }) in (

@@ -4,7 +4,7 @@ use Rattle.std.proofs.lemmas.Bool.{cases_eq, false≢true}
 use Rattle.canvas_history.proofs.Histories.{In, in_cases}
 use Rattle.canvas_semantics.specs.Line.{Line}
 use Rattle.canvas_rewrite.specs.Planned.{IsPlan}
-use Rattle.canvas_effects.specs.Job.{store, publish, hand_in}
+use Rattle.canvas_effects.specs.Job.{store, publish, part}
 use Rattle.canvas_message.specs.declared.envelope.Envelope.{Envelope}
 use Rattle.canvas_broker.specs.Broker as broker
 use Rattle.canvas_runs.specs.Calls.{of_scripts}
@@ -70,7 +70,7 @@ module _ (behaviour : Behaviour) (l : Line) where
   quiet_step n xs (owning m) (stored b) h z = absurd (omega (arith, z))
   quiet_step n xs (doing (store t o ∷ js) d) (stored b) h z = absurd (omega (arith, z))
   quiet_step n xs (doing (publish m ∷ js) d) sent h z = absurd (omega (arith, z))
-  quiet_step n xs (doing (hand_in g t c ∷ js) d) (counted m) h z = absurd (omega (arith, z))
+  quiet_step n xs (doing (part g t c ∷ js) d) (counted m) h z = absurd (omega (arith, z))
   quiet_step n xs (reading g c fs) (found t x) h z = absurd (omega (arith, z))
   quiet_step n xs acking acked h z = absurd (omega (arith, z))
   quiet_step n xs s r h z = elim h [ ]

@@ -11,7 +11,6 @@ use Rattle.canvas_rewrite.specs.Planned.{IsPlan}
 use Rattle.canvas_rewrite.proofs.Members.{plan_apart}
 use Rattle.canvas_message.specs.Content.{Content}
 use Rattle.canvas_message.specs.Among.{In}
-use Rattle.canvas_effects.specs.Job.{hand_in}
 use Rattle.canvas_message.specs.declared.envelope.Envelope.{Envelope}
 use Rattle.canvas_backend.specs.declared.stored.Stored.{Stored}
 use Rattle.canvas_backend.proofs.HistoryLaws.{all_first, keeps_first, still_free, first_may, still_may}
@@ -116,8 +115,8 @@ module _ (behaviour : Behaviour) (l : Line) (plan : IsPlan l) where
   settled_ready n xs p us (job.store t o ∷ js) Again k m = (us, k, m)
   settled_ready n xs p us (job.publish c ∷ js) First k m = (us, k, m)
   settled_ready n xs p us (job.publish c ∷ js) Again k m = (us, k, m)
-  settled_ready n xs p us (hand_in g t c ∷ js) First k m = (us, k, m)
-  settled_ready n xs p us (hand_in g t c ∷ js) Again k m = tt
+  settled_ready n xs p us (job.part g t c ∷ js) First k m = (us, k, m)
+  settled_ready n xs p us (job.part g t c ∷ js) Again k m = tt
 
   -- ---- a part that comes next may be returned
 
@@ -131,7 +130,7 @@ module _ (behaviour : Behaviour) (l : Line) (plan : IsPlan l) where
   part_may n xs p (doing [] b) is good k = tt
   part_may n xs p (doing (job.store t o ∷ js) b) is good k = tt
   part_may n xs p (doing (job.publish m ∷ js) b) is good k = tt
-  part_may n xs p (doing (hand_in g t c ∷ js) b) is good k =
+  part_may n xs p (doing (job.part g t c ∷ js) b) is good k =
       let mine = in_each (May n xs p) k.0 k.2 t k.1.0 in
       let formed = good.0.0 in
       (ap is_some formed.2.1.0, among_members t ((form behaviour l plan).members g) ((order behaviour l plan).member g t c formed), mine.own, mine.free)
@@ -278,7 +277,7 @@ module _ (behaviour : Behaviour) (l : Line) (plan : IsPlan l) where
   own_ready back n xs p (doing (job.publish m ∷ js) d) sent is good k h law =
       settled_ready n (xs ++ (p, (publish ((worker behaviour l).sealed m), sent)) ∷ []) p k.0 js d k.1
       (each_weaker (λ u f. own_may n xs p (publish ((worker behaviour l).sealed m)) sent u tt law.table_legal f) k.0 k.2)
-  own_ready back n xs p (doing (hand_in g t c ∷ js) d) (counted i) is good k h law =
+  own_ready back n xs p (doing (job.part g t c ∷ js) d) (counted i) is good k h law =
       cond_cases (Ready n (xs ++ (p, (part g t, counted i)) ∷ []) p) (eqb (suc i) c.size) (reading g c []) acking
       (λ full. let size : suc i ≡ c.size = eqb-true _ _ full in (
         header_stored n xs p g t i is law.table_legal (size ∙ (order behaviour l plan).size g t c good.0.0),

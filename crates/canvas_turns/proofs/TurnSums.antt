@@ -10,7 +10,6 @@ use Rattle.canvas_rewrite.proofs.Members.{plan_apart}
 use Rattle.canvas_message.specs.Content.{Content, number_of}
 use Rattle.canvas_message.specs.Among.{In}
 use Rattle.canvas_effects.specs.Events.{running}
-use Rattle.canvas_effects.specs.Job.{hand_in}
 use Rattle.canvas_message.specs.declared.envelope.Envelope.{Envelope}
 use Rattle.canvas_backend.specs.declared.stored.Stored.{Stored}
 use Rattle.canvas_backend.specs.declared.stored.Stored.TheVariants.{First, Again}
@@ -338,8 +337,8 @@ module _ (behaviour : Behaviour) (l : Line) (n : ℕ) (us : List ℕ) (xs : List
   acks_step (doing (job.publish m ∷ js) d) sent u = let h = at_most_open (is_inside (answered (worker behaviour l) (doing (job.publish m ∷ js) d) sent)) in
       omega (arith, h)
   acks_step (doing (job.publish m ∷ js) d) refused u = omega arith
-  acks_step (doing (hand_in g v c ∷ js) d) (counted i) u = let h =
-      at_most_open (is_inside (answered (worker behaviour l) (doing (hand_in g v c ∷ js) d) (counted i))) in omega (arith, h)
+  acks_step (doing (job.part g v c ∷ js) d) (counted i) u = let h =
+      at_most_open (is_inside (answered (worker behaviour l) (doing (job.part g v c ∷ js) d) (counted i))) in omega (arith, h)
   acks_step (reading g c fs) (found v x) u = let h = at_most_open (is_inside (answered (worker behaviour l) (reading g c fs) (found v x))) in omega (arith, h)
   acks_step acking acked u = omega arith
   acks_step s r u = elim u [ ]
@@ -500,8 +499,8 @@ module _ (behaviour : Behaviour) (l : Line) (n : ℕ) (us : List ℕ) (xs : List
   settled_still (job.store u o ∷ js) Again = refl
   settled_still (job.publish m ∷ js) First = refl
   settled_still (job.publish m ∷ js) Again = refl
-  settled_still (hand_in g u c ∷ js) First = refl
-  settled_still (hand_in g u c ∷ js) Again = refl
+  settled_still (job.part g u c ∷ js) First = refl
+  settled_still (job.part g u c ∷ js) Again = refl
 
   opens_still : (x : Option Content) → Still (opens (worker behaviour l) x) 0
   opens_still None = refl
@@ -522,7 +521,7 @@ module _ (behaviour : Behaviour) (l : Line) (n : ℕ) (us : List ℕ) (xs : List
   covers (owning c) (stored Again) p m k e = (0, refl, omega arith)
   covers (doing (job.store u o ∷ js) b) (stored a) p m k e = (0, settled_still js (cond (is_due u js) a b), omega arith)
   covers (doing (job.publish c ∷ js) b) sent p m k e = (0, settled_still js b, omega arith)
-  covers (doing (hand_in g u c ∷ js) b) (counted i) p m k e =
+  covers (doing (job.part g u c ∷ js) b) (counted i) p m k e =
       let few = header_few g u c p.0.0 in
       cond_cases (λ s. (j : ℕ) × Still s j × (0 + j ≤ k + T * (1 + 0))) (eqb (suc i) c.size) (reading g c []) acking
       (λ full. (c.size, omega arith, omega (arith, few)))

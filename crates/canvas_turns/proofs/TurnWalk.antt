@@ -8,7 +8,7 @@ use Rattle.canvas_rewrite.specs.FrozenView.{PCarried}
 use Rattle.canvas_rewrite.specs.Planned.{IsPlan}
 use Rattle.canvas_message.specs.Content.{Content}
 use Rattle.canvas_effects.specs.Effects.{first_messages}
-use Rattle.canvas_effects.specs.Job.{store, publish, hand_in}
+use Rattle.canvas_effects.specs.Job.{store, publish, part}
 use Rattle.canvas_message.specs.declared.envelope.Envelope.{Envelope}
 use Rattle.canvas_backend.specs.declared.stored.Stored.{Stored}
 use Rattle.canvas_backend.specs.declared.stored.Stored.TheVariants.{First, Again}
@@ -44,8 +44,8 @@ module _ (X : Protocol) where
   settled_inside (store t o ∷ js) Again k = k
   settled_inside (publish m ∷ js) First k = k
   settled_inside (publish m ∷ js) Again k = k
-  settled_inside (hand_in g t c ∷ js) First k = k
-  settled_inside (hand_in g t c ∷ js) Again k = k
+  settled_inside (part g t c ∷ js) First k = k
+  settled_inside (part g t c ∷ js) Again k = k
 
   opens_inside : (x : Option X.Message) → Between (opens X x) → ⊥
   opens_inside None k = k
@@ -69,7 +69,7 @@ module _ (X : Protocol) where
   step_outside (doing (store t o ∷ js) b) (stored a) h u f k = absurd (settled_inside js (cond (is_due t js) a b) k)
   step_outside (doing (publish m ∷ js) b) sent h u f k = absurd (settled_inside js b k)
   step_outside (doing (publish m ∷ js) b) refused h u f k = absurd k
-  step_outside (doing (hand_in g t c ∷ js) b) (counted i) h u f k = absurd (handed_inside (eqb (suc i) (X.size c)) g c k)
+  step_outside (doing (part g t c ∷ js) b) (counted i) h u f k = absurd (handed_inside (eqb (suc i) (X.size c)) g c k)
   step_outside (reading g c fs) (found t (Some o)) h u f k =
       absurd (read_inside (eqb (length (fs ++ (t, o) ∷ [])) (X.size c)) (X.completed c (fs ++ (t, o) ∷ [])) g c (fs ++ (t, o) ∷ []) k)
   step_outside (reading g c fs) (found t None) h u f k = absurd k
@@ -143,8 +143,8 @@ module _ (behaviour : Behaviour) (l : Line) where
   settled_on (store t o ∷ js) Again e = cc
   settled_on (publish m ∷ js) First e = cc
   settled_on (publish m ∷ js) Again e = cc
-  settled_on (hand_in g t c ∷ js) First e = cc
-  settled_on (hand_in g t c ∷ js) Again e = cc
+  settled_on (part g t c ∷ js) First e = cc
+  settled_on (part g t c ∷ js) Again e = cc
 
   opens_on : (x : Option Content) → opens (worker behaviour l) x ≡ over → ⊥
   opens_on None e = cc
@@ -169,7 +169,7 @@ module _ (behaviour : Behaviour) (l : Line) where
   ends_idle n xs (owning m) (stored Again) h e = absurd cc
   ends_idle n xs (doing (store t o ∷ js) b) (stored a) h e = absurd (settled_on js (cond (is_due t js) a b) e)
   ends_idle n xs (doing (publish m ∷ js) b) sent h e = absurd (settled_on js b e)
-  ends_idle n xs (doing (hand_in g t c ∷ js) b) (counted i) h e = absurd (handed_on (eqb (suc i) c.size) g c e)
+  ends_idle n xs (doing (part g t c ∷ js) b) (counted i) h e = absurd (handed_on (eqb (suc i) c.size) g c e)
   ends_idle n xs (reading g c fs) (found t (Some o)) h e =
       absurd (read_on (eqb (length (fs ++ (t, o) ∷ [])) c.size) ((worker behaviour l).completed c (fs ++ (t, o) ∷ [])) g c (fs ++ (t, o) ∷ []) e)
   ends_idle n xs (reading g c fs) (found t None) h e = absurd cc
@@ -188,7 +188,7 @@ module _ (behaviour : Behaviour) (l : Line) where
     ended_over n xs p (doing [] b) k e = absurd k
     ended_over n xs p (doing (store u o ∷ js) b) k e = absurd cc
     ended_over n xs p (doing (publish m ∷ js) b) k e = absurd cc
-    ended_over n xs p (doing (hand_in g u c ∷ js) b) k e = absurd cc
+    ended_over n xs p (doing (part g u c ∷ js) b) k e = absurd cc
     ended_over n xs p (reading g c fs) k e = absurd cc
     ended_over n xs p acking k e = absurd cc
 

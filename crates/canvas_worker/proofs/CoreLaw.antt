@@ -6,7 +6,7 @@ use Rattle.canvas_semantics.specs.Line.{Line}
 use Rattle.canvas_rewrite.specs.FrozenView.{PCarried}
 use Rattle.canvas_message.specs.Content.{Content, number_of}
 use Rattle.canvas_effects.specs.Effects.{outcome_of, after, body_after, script}
-use Rattle.canvas_effects.specs.Job.{Job, hand_in}
+use Rattle.canvas_effects.specs.Job.{Job}
 use Rattle.canvas_message.specs.declared.envelope.Envelope.{Envelope}
 use Rattle.canvas_backend.specs.declared.stored.Stored.{Stored}
 use Rattle.canvas_backend.specs.declared.stored.Stored.TheVariants.{First, Again}
@@ -47,14 +47,14 @@ module _ (behaviour : Behaviour) (l : Line) where
   settled_alike (job.store t o ∷ ks) Again = (refl, refl)
   settled_alike (job.publish c ∷ ks) First = (refl, refl)
   settled_alike (job.publish c ∷ ks) Again = (refl, refl)
-  settled_alike (hand_in g t c ∷ ks) First = (refl, refl)
-  settled_alike (hand_in g t c ∷ ks) Again = tt
+  settled_alike (job.part g t c ∷ ks) First = (refl, refl)
+  settled_alike (job.part g t c ∷ ks) Again = tt
 
   due_alike : (t : ℕ) (ks : Jobs) → is_due t (map enclosed ks) ≡ is_due t ks
   due_alike t [] = refl
   due_alike t (job.store u o ∷ ks) = due_alike t ks
   due_alike t (job.publish c ∷ ks) = due_alike t ks
-  due_alike t (hand_in g u c ∷ ks) = refl
+  due_alike t (job.part g u c ∷ ks) = refl
 
   job_alike : (k : Job Content PCarried Outcome) (ks : Jobs) (b : Stored) (r : Answer)
       → IsAlike behaviour (job_done X (enclosed k) (map enclosed ks) b r) (job_done Y k ks b r)
@@ -62,14 +62,14 @@ module _ (behaviour : Behaviour) (l : Line) where
       subst (λ z. IsAlike behaviour (settled X (map enclosed ks) (cond z a b)) (settled Y ks (cond (is_due t ks) a b))) (sym (due_alike t ks))
       (settled_alike ks (cond (is_due t ks) a b))
   job_alike (job.publish c) ks b sent = settled_alike ks b
-  job_alike (hand_in g t c) ks b (counted n) = part_alike (eqb (suc n) c.size)
+  job_alike (job.part g t c) ks b (counted n) = part_alike (eqb (suc n) c.size)
     where
       part_alike : (z : Bool) → IsAlike behaviour (cond z (state_reading g c []) acking) (cond z (state_reading g c []) acking)
       part_alike true = (refl, (refl, refl))
       part_alike false = tt
   job_alike (job.store t o) ks b r = tt
   job_alike (job.publish c) ks b r = tt
-  job_alike (hand_in g t c) ks b r = tt
+  job_alike (job.part g t c) ks b r = tt
 
   -- ---- what was taken
 
@@ -179,7 +179,7 @@ module _ (behaviour : Behaviour) (l : Line) where
       → (ask Y (doing (k ∷ ks) d) ≡ ask X (doing (enclosed k ∷ map enclosed ks) b)) × ReadsBack Y (doing (k ∷ ks) d)
   job_asks (job.store t o) ks b d back = (refl, tt)
   job_asks (job.publish c) ks b d back = let so = envelope_so c back in (ap (λ e. publish e) (sym so.0), so.1)
-  job_asks (hand_in g t c) ks b d back = (refl, tt)
+  job_asks (job.part g t c) ks b d back = (refl, tt)
 
   jobs_ask : (js : List (Job Applied PCarried Outcome)) (b : Stored) (ks : Jobs) (d : Stored) → js ≡ map enclosed ks → ReadsBack X (doing js b)
       → (ask Y (doing ks d) ≡ ask X (doing js b)) × ReadsBack Y (doing ks d)

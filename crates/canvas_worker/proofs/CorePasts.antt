@@ -10,7 +10,7 @@ use Rattle.canvas_backend.specs.declared.stored.Stored.TheVariants.{First, Again
 use Rattle.canvas_runs.specs.Worker.{opened}
 use Rattle.canvas_runs.proofs.MoreAsks.{held_append}
 use Rattle.canvas_runs.specs.Calls.{held_by, held_after}
-use Rattle.canvas_effects.specs.Job.{store, publish, hand_in}
+use Rattle.canvas_effects.specs.Job.{store, publish, part}
 use Rattle.canvas_runs.specs.Book.{Book}
 use Rattle.canvas_runs.specs.Core as C
 use Rattle.canvas_runs.specs.Core.{taking, resting, over, failed, owning, doing, reading, taken, sent, refused, stored, counted, found, rested, answered, left_after, Suits, ReadsBack, IsCoreRun, acking, acked, settled, opens, Jobs, is_due, is_inside}
@@ -46,7 +46,7 @@ unsent_shown n (owning e) = refl
 unsent_shown n (doing [] b) = refl
 unsent_shown n (doing (store t o ∷ js) b) = refl
 unsent_shown n (doing (publish e ∷ js) b) = refl
-unsent_shown n (doing (hand_in g t c ∷ js) b) = refl
+unsent_shown n (doing (part g t c ∷ js) b) = refl
 unsent_shown n (reading g c fs) = refl
 unsent_shown n acking = refl
 
@@ -136,8 +136,8 @@ open_settled behaviour book (store t o ∷ js) First h = refl
 open_settled behaviour book (store t o ∷ js) Again h = refl
 open_settled behaviour book (publish e ∷ js) First h = refl
 open_settled behaviour book (publish e ∷ js) Again h = refl
-open_settled behaviour book (hand_in g t c ∷ js) First h = refl
-open_settled behaviour book (hand_in g t c ∷ js) Again h = refl
+open_settled behaviour book (part g t c ∷ js) First h = refl
+open_settled behaviour book (part g t c ∷ js) Again h = refl
 
 open_either : (b : Bool) (s t : Left) (h : Option Envelope) → open_of s h ≡ h → open_of t h ≡ h → open_of (cond b s t) h ≡ h
 open_either true s t h i j = i
@@ -160,7 +160,7 @@ book_step behaviour book (owning m) h (stored Again) u = refl
 book_step behaviour book (doing (store t o ∷ js) b) h (stored a) u = open_settled behaviour book js (cond (is_due t js) a b) h
 book_step behaviour book (doing (publish e ∷ js) b) h sent u = open_settled behaviour book js b h
 book_step behaviour book (doing (publish e ∷ js) b) h refused u = refl
-book_step behaviour book (doing (hand_in g t c ∷ js) b) h (counted n) u = open_either (eqb (suc n) c.size) (reading g c []) acking h refl refl
+book_step behaviour book (doing (part g t c ∷ js) b) h (counted n) u = open_either (eqb (suc n) c.size) (reading g c []) acking h refl refl
 book_step behaviour book (reading g c fs) h (found t (Some o)) u =
     open_either (eqb (length (fs ++ (t, o) ∷ [])) c.size)
     (settled (enveloped_by behaviour book) ((enveloped_by behaviour book).completed c (fs ++ (t, o) ∷ [])) Again) (reading g c (fs ++ (t, o) ∷ [])) h
@@ -181,7 +181,7 @@ task_step behaviour book (owning m) h x (stored b) u was i = was refl
 task_step behaviour book (doing (store t o ∷ js) b) h x (stored a) u was i = was refl
 task_step behaviour book (doing (publish e ∷ js) b) h x sent u was i = was refl
 task_step behaviour book (doing (publish e ∷ js) b) h x refused u was i = was refl
-task_step behaviour book (doing (hand_in g t c ∷ js) b) h x (counted n) u was i = was refl
+task_step behaviour book (doing (part g t c ∷ js) b) h x (counted n) u was i = was refl
 task_step behaviour book (reading g c fs) h x (found t o) u was i = was refl
 task_step behaviour book acking h x acked u was i = absurd (false≢true i)
 task_step behaviour book s h x r u was i = elim u [ ]

@@ -5,7 +5,7 @@ use Rattle.canvas_task.specs.Apply.{Behaviour}
 use Rattle.canvas_task.specs.declared.outcome.Outcome.{Outcome}
 use Rattle.canvas_rewrite.specs.FrozenView.{PCarried}
 use Rattle.canvas_effects.specs.Effects.{body_after, script}
-use Rattle.canvas_effects.specs.Job.{store, publish, hand_in}
+use Rattle.canvas_effects.specs.Job.{store, publish, part}
 use Rattle.canvas_message.specs.declared.envelope.Envelope.{Envelope}
 use Rattle.canvas_backend.specs.declared.stored.Stored.{Stored}
 use Rattle.canvas_backend.specs.declared.stored.Stored.TheVariants.{First, Again}
@@ -70,8 +70,8 @@ settled_on behaviour book (store t o ∷ js) First = refl
 settled_on behaviour book (store t o ∷ js) Again = refl
 settled_on behaviour book (publish e ∷ js) First = refl
 settled_on behaviour book (publish e ∷ js) Again = refl
-settled_on behaviour book (hand_in g t c ∷ js) First = refl
-settled_on behaviour book (hand_in g t c ∷ js) Again = refl
+settled_on behaviour book (part g t c ∷ js) First = refl
+settled_on behaviour book (part g t c ∷ js) Again = refl
 
 opens_on : (behaviour : Behaviour) (book : Book) (x : Option Applied) → GoesOn (opens (enveloped_by behaviour book) x)
 opens_on behaviour book None = refl
@@ -106,7 +106,7 @@ ends_by behaviour book (doing [] b) r on suit h = absurd (true≢false on)
 ends_by behaviour book (doing (store t o ∷ js) b) (stored a) on suit h = no_end _ (settled_on behaviour book js _) h
 ends_by behaviour book (doing (publish e ∷ js) b) sent on suit h = no_end _ (settled_on behaviour book js b) h
 ends_by behaviour book (doing (publish e ∷ js) b) refused on suit h = tt
-ends_by behaviour book (doing (hand_in g t c ∷ js) b) (counted n) on suit h = no_end _ (either_on _ (reading g c []) acking refl refl) h
+ends_by behaviour book (doing (part g t c ∷ js) b) (counted n) on suit h = no_end _ (either_on _ (reading g c []) acking refl refl) h
 ends_by behaviour book (reading g c fs) (found t (Some o)) on suit h = all_read_on behaviour book g c (fs ++ (t, o) ∷ []) h
 ends_by behaviour book (reading g c fs) (found t None) on suit h = no_end acking refl h
 ends_by behaviour book acking acked on suit h = no_end taking refl h
@@ -175,7 +175,7 @@ pausing (owning e) h = absurd (true≢false (sym (ap is_pause h)))
 pausing (doing [] b) h = absurd (true≢false (sym (ap is_pause h)))
 pausing (doing (store t o ∷ js) b) h = absurd (true≢false (sym (ap is_pause h)))
 pausing (doing (publish e ∷ js) b) h = absurd (true≢false (sym (ap is_pause h)))
-pausing (doing (hand_in g t c ∷ js) b) h = absurd (true≢false (sym (ap is_pause h)))
+pausing (doing (part g t c ∷ js) b) h = absurd (true≢false (sym (ap is_pause h)))
 pausing (reading g c fs) h = absurd (true≢false (sym (ap is_pause h)))
 pausing acking h = absurd (true≢false (sym (ap is_pause h)))
 

@@ -4,7 +4,7 @@ use Rattle.std.specs.Prelude.{true, false, IsSome, MatchResult}
 use Rattle.std.proofs.lemmas.Bool.{false≢true}
 use Rattle.canvas_task.specs.Apply.{Behaviour}
 use Rattle.canvas_history.specs.History.{calls}
-use Rattle.canvas_effects.specs.Job.{store, publish, hand_in}
+use Rattle.canvas_effects.specs.Job.{store, publish, part}
 use Rattle.canvas_message.specs.declared.envelope.Envelope.{Envelope}
 use Rattle.canvas_backend.specs.Roster.{Roster}
 use Rattle.canvas_broker.specs.Broker as broker
@@ -76,7 +76,7 @@ module _ (behaviour : Behaviour) (plan : Roster) where
   has_open (C.doing (store t o ∷ js) b) h (C.stored a) u has i = has refl
   has_open (C.doing (publish e ∷ js) b) h C.sent u has i = has refl
   has_open (C.doing (publish e ∷ js) b) h C.refused u has i = has refl
-  has_open (C.doing (hand_in g t c ∷ js) b) h (C.counted n) u has i = has refl
+  has_open (C.doing (part g t c ∷ js) b) h (C.counted n) u has i = has refl
   has_open (C.reading g c fs) h (C.found t x) u has i = has refl
   has_open C.acking h C.acked u has i = absurd (false≢true i)
   has_open s h r u has i = elim u [ ]

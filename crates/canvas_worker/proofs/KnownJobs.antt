@@ -12,7 +12,7 @@ use Rattle.canvas_effects.specs.Effects.{Jobs, callbacks, part_of, fault_behind,
 use Rattle.canvas_message.specs.Among.{In}
 use Rattle.canvas_message.specs.Fits.{how_many}
 use Rattle.canvas_effects.specs.Flowing.{Input, number_input, list_input, id_input, LineFlow, run, skips, raise, after_outcome}
-use Rattle.canvas_effects.specs.Job.{Job, store, publish, hand_in}
+use Rattle.canvas_effects.specs.Job.{Job, store, publish, part}
 use Rattle.canvas_effects.specs.Placing.{last_at, placed, end_place, last_task}
 use Rattle.canvas_effects.proofs.FitsOn.{all_true}
 use Rattle.canvas_backend.specs.Roster.{Roster, size, is_member}
@@ -104,7 +104,7 @@ module _ (plan : Roster) where
   abbrev pub Known : (ℕ → Type 0) → Job Content PCarried Outcome → Type 0
   Known Q (store t o) = t ≤ plan.tasks
   Known Q (publish m) = Unit {0}
-  Known Q (hand_in g t c) = IsTrue (is_member plan g t) × Carries plan g c × Q t
+  Known Q (part g t c) = IsTrue (is_member plan g t) × Carries plan g c × Q t
 
   callbacks_known : (Q : ℕ → Type 0) (ts : PTasks) (x : Input) (u : Option ℕ) → Each (Known Q) (callbacks ts x u)
   callbacks_known Q no_p_tasks x u = tt
@@ -132,7 +132,7 @@ module _ (plan : Roster) where
     known_more Q R [] f h = tt
     known_more Q R (store t o ∷ js) f h = (h.0, known_more Q R js f h.1)
     known_more Q R (publish m ∷ js) f h = (tt, known_more Q R js f h.1)
-    known_more Q R (hand_in g t c ∷ js) f h =
+    known_more Q R (part g t c ∷ js) f h =
         ((h.0.0, h.0.1, f t (λ e. true≢false (sym h.0.0 ∙ (ap (is_member plan g) e ∙ none g))) h.0.2), known_more Q R js f h.1)
 
     both_known : (js ks : Jobs) → Each (Known (StoredIn js)) js → Each (Known (StoredIn ks)) ks → Each (Known (StoredIn (js ++ ks))) (js ++ ks)

@@ -6,7 +6,7 @@ use Rattle.canvas_task.specs.declared.outcome.Outcome.{Outcome}
 use Rattle.canvas_message.specs.Content.{Content}
 use Rattle.canvas_effects.specs.Effects.{Jobs, Part, stores_in, part_in, part_jobs, script, effect_of}
 use Rattle.canvas_message.specs.Among.{In}
-use Rattle.canvas_effects.specs.Job.{store, publish, hand_in}
+use Rattle.canvas_effects.specs.Job.{store, publish, part}
 use Rattle.canvas_effects.specs.Ordered.{put, in_order}
 use Rattle.canvas_backend.specs.declared.stored.Stored.{Stored}
 use Rattle.canvas_backend.specs.declared.stored.Stored.TheVariants.{First}
@@ -17,7 +17,7 @@ use Rattle.canvas_runs.specs.Following.{Seat}
 use Rattle.canvas_runs.specs.Lists.{Each, firsts}
 use Rattle.canvas_worker.specs.EnvelopeWorker.{enclosed}
 use Rattle.canvas_worker.specs.Scripts as scripts
-use Rattle.canvas_worker.specs.SeatRights.{Carries, InPlan, MayHandIn}
+use Rattle.canvas_worker.specs.SeatRights.{Carries, InPlan, MayReturnDue}
 use Rattle.canvas_worker.proofs.KnownJobs.{Known, StoredIn}
 
 abbrev Stores : Type 0
@@ -67,8 +67,8 @@ stored_in d (store t w ∷ js) (o, inl e) = inl cc
 stored_in d (store t w ∷ js) (o, inr i) = inr (stored_in d js (o, i))
 stored_in d (publish m ∷ js) (o, inl e) = absurd cc
 stored_in d (publish m ∷ js) (o, inr i) = stored_in d js (o, i)
-stored_in d (hand_in g t c ∷ js) (o, inl e) = absurd cc
-stored_in d (hand_in g t c ∷ js) (o, inr i) = stored_in d js (o, i)
+stored_in d (part g t c ∷ js) (o, inl e) = absurd cc
+stored_in d (part g t c ∷ js) (o, inr i) = stored_in d js (o, i)
 
 module _ (plan : Roster) where
   abbrev IsTask : ℕ × Outcome → Type 0
@@ -82,13 +82,13 @@ module _ (plan : Roster) where
   tasks_in Q [] h = tt
   tasks_in Q (store t o ∷ js) h = (h.0, tasks_in Q js h.1)
   tasks_in Q (publish m ∷ js) h = tasks_in Q js h.1
-  tasks_in Q (hand_in g t c ∷ js) h = tasks_in Q js h.1
+  tasks_in Q (part g t c ∷ js) h = tasks_in Q js h.1
 
   part_in_known : (Q : ℕ → Type 0) (js : Jobs) → Each (Known plan Q) js → PartKnown Q (part_in js)
   part_in_known Q [] h = tt
   part_in_known Q (store t o ∷ js) h = part_in_known Q js h.1
   part_in_known Q (publish m ∷ js) h = part_in_known Q js h.1
-  part_in_known Q (hand_in g t c ∷ js) h = h.0
+  part_in_known Q (part g t c ∷ js) h = h.0
 
   -- ---- scripts
 
@@ -122,7 +122,7 @@ module _ (plan : Roster) where
   fewer s b e es ms (Some p) (inl (inr i)) n = inl i
   fewer s b e es ms (Some p) (inr f) n = inr f
 
-  sent_may : (s : Seat) (b : Stored) (es : Stores) (ms : List Content) (o : Option Part) → PartMay s b es o → MayHandIn plan s b (sent es ms o)
+  sent_may : (s : Seat) (b : Stored) (es : Stores) (ms : List Content) (o : Option Part) → PartMay s b es o → MayReturnDue plan s b (sent es ms o)
   sent_may s b [] [] None h = tt
   sent_may s b [] [] (Some p) h = not_in s b p h
   sent_may s b [] (m ∷ ms) o h = sent_may s b [] ms o h
@@ -139,7 +139,7 @@ module _ (plan : Roster) where
 
   pub script_may : (s : Seat) (b : Stored) (Q : ℕ → Type 0) (js : Jobs) → ((d : ℕ) → Q d → StoredIn js d ⊎ (b ≡ First → MayReturn plan s.seen s.name d))
       → Each (Known plan Q) js
-      → MayHandIn plan s b (map enclosed (script (effect_of js)))
+      → MayReturnDue plan s b (map enclosed (script (effect_of js)))
   script_may s b Q js f h =
       sent_may s b (sorted (stores_in js)) (effect_of js).messages (part_in js)
       (part_may s b Q (sorted (stores_in js)) (part_in js) (λ d q. ⊎_elim (λ y. inl (in_sorted d (stores_in js) (stored_in d js y))) (λ g. inr g) (f d q))

@@ -3,7 +3,7 @@ use Rattle.std.proofs.Common.{◌≡◌, ◌∙◌, ℕ, suc, Bool, true, false,
 use Rattle.canvas_task.specs.Apply.{Behaviour}
 use Rattle.canvas_task.specs.declared.outcome.Outcome.{Outcome}
 use Rattle.canvas_rewrite.specs.FrozenView.{PCarried}
-use Rattle.canvas_effects.specs.Job.{Job, store, publish, hand_in}
+use Rattle.canvas_effects.specs.Job.{Job, store, publish, part}
 use Rattle.canvas_message.specs.declared.envelope.Envelope.{Envelope}
 use Rattle.canvas_backend.specs.declared.stored.Stored.{Stored}
 use Rattle.canvas_backend.specs.declared.stored.Stored.TheVariants.{First, Again}
@@ -33,8 +33,8 @@ module _ (behaviour : Behaviour) (plan : Roster) where
   settled_never (store t o ∷ js) Again e = cc
   settled_never (publish m ∷ js) First e = cc
   settled_never (publish m ∷ js) Again e = cc
-  settled_never (hand_in g t c ∷ js) First e = cc
-  settled_never (hand_in g t c ∷ js) Again e = cc
+  settled_never (part g t c ∷ js) First e = cc
+  settled_never (part g t c ∷ js) Again e = cc
 
   opens_never : (o : Option Applied) → opens X o ≡ resting → ⊥
   opens_never None e = cc
@@ -55,7 +55,7 @@ module _ (behaviour : Behaviour) (plan : Roster) where
   job_never : (j : Job Applied PCarried Outcome) (js : Jobs) (b : Stored) (r : Answer) → job_done X j js b r ≡ resting → ⊥
   job_never (store t o) js b (stored a) e = settled_never js (cond (C.is_due t js) a b) e
   job_never (publish m) js b sent e = settled_never js b e
-  job_never (hand_in g t c) js b (counted n) e = counted_never g c (eqb (suc n) (X.size c)) e
+  job_never (part g t c) js b (counted n) e = counted_never g c (eqb (suc n) (X.size c)) e
   job_never j js b r e = cc
 
   pub given_never : (x : Envelope) → answered X taking (taken (Some x)) ≡ resting → ⊥

@@ -12,7 +12,7 @@ use Rattle.canvas_rewrite.specs.Planned.{IsPlan}
 use Rattle.canvas_rewrite.proofs.Members.{all_known}
 use Rattle.canvas_message.specs.Content.{Content, number_of}
 use Rattle.canvas_effects.specs.Effects.{after, body_after, script}
-use Rattle.canvas_effects.specs.Job.{store, publish, hand_in}
+use Rattle.canvas_effects.specs.Job.{store, publish, part}
 use Rattle.canvas_message.specs.declared.envelope.Envelope.{Envelope}
 use Rattle.canvas_backend.specs.declared.stored.Stored.{Stored}
 use Rattle.canvas_backend.specs.declared.stored.Stored.TheVariants.{First, Again}
@@ -28,7 +28,7 @@ use Rattle.canvas_runs.specs.Worker.{opened}
 use Rattle.canvas_worker.specs.Asks.{Answer}
 use Rattle.canvas_worker.specs.EnvelopeWorker.{said, enclosed, enveloped, applied_if as kept_envelope, no_tasks}
 use Rattle.canvas_worker.specs.Scripts.{EnvelopeJobs}
-use Rattle.canvas_worker.specs.SeatRights.{Carries, InPlan, MayHandIn, Can, LetsAsk, CanAsk, CanGoOn}
+use Rattle.canvas_worker.specs.SeatRights.{Carries, InPlan, MayReturnDue, Can, LetsAsk, CanAsk, CanGoOn}
 use Rattle.canvas_worker.specs.CoreState.{Left, asked}
 use Rattle.canvas_worker.proofs.Books.{no_member_zero}
 use Rattle.canvas_worker.proofs.KnownJobs.{StoredIn, Behind, own_known, ended_jobs, body_jobs, ended_known, body_known}
@@ -43,36 +43,36 @@ module _ (plan : Roster) where
   abbrev Keeps : Seat → Seat → Type 0
   Keeps s t = (d : ℕ) → MayReturn plan s.seen s.name d → MayReturn plan t.seen t.name d
 
-  still_in : (s t : Seat) (b : Stored) (js : EnvelopeJobs) → Keeps s t → MayHandIn plan s b js → MayHandIn plan t b js
+  still_in : (s t : Seat) (b : Stored) (js : EnvelopeJobs) → Keeps s t → MayReturnDue plan s b js → MayReturnDue plan t b js
   still_in s t b [] k h = tt
   still_in s t b (store d o ∷ js) k h = λ n. still_in s t b js k (h n)
   still_in s t b (publish e ∷ js) k h = still_in s t b js k h
-  still_in s t b (hand_in g d c ∷ js) k h = λ e. k d (h e)
+  still_in s t b (part g d c ∷ js) k h = λ e. k d (h e)
 
   -- the store of the task whose part is due
-  due_in : (s : Seat) (d : ℕ) (b : Stored) (js : EnvelopeJobs) → is_due d js ≡ true → (b ≡ First → MayReturn plan s.seen s.name d) → MayHandIn plan s b js
+  due_in : (s : Seat) (d : ℕ) (b : Stored) (js : EnvelopeJobs) → is_due d js ≡ true → (b ≡ First → MayReturn plan s.seen s.name d) → MayReturnDue plan s b js
   due_in s d b [] e m = tt
   due_in s d b (store u o ∷ js) e m = λ n. due_in s d b js e m
   due_in s d b (publish x ∷ js) e m = due_in s d b js e m
-  due_in s d b (hand_in g u c ∷ js) e m = subst (λ z. b ≡ First → MayReturn plan s.seen s.name z) (eqb-true d u e) m
+  due_in s d b (part g u c ∷ js) e m = subst (λ z. b ≡ First → MayReturn plan s.seen s.name z) (eqb-true d u e) m
 
   store_in : (s t : Seat) (d : ℕ) (a b : Stored) (js : EnvelopeJobs) → Keeps s t → (a ≡ First → MayReturn plan t.seen t.name d)
-      → (is_due d js ≡ false → MayHandIn plan s b js) → MayHandIn plan t (cond (is_due d js) a b) js
+      → (is_due d js ≡ false → MayReturnDue plan s b js) → MayReturnDue plan t (cond (is_due d js) a b) js
   store_in s t d a b js k m h = go (is_due d js) refl
     where
-      go : (z : Bool) → is_due d js ≡ z → MayHandIn plan t (cond z a b) js
+      go : (z : Bool) → is_due d js ≡ z → MayReturnDue plan t (cond z a b) js
       go true e = due_in t d a js e m
       go false e = still_in s t b js k (h e)
 
-  settled_can : (behaviour : Behaviour) (s : Seat) (b : Stored) (js : EnvelopeJobs) → InPlan plan js → MayHandIn plan s b js
+  settled_can : (behaviour : Behaviour) (s : Seat) (b : Stored) (js : EnvelopeJobs) → InPlan plan js → MayReturnDue plan s b js
       → Can plan s (settled (enveloped behaviour plan) js b)
   settled_can behaviour s b [] i m = tt
   settled_can behaviour s First (store t o ∷ js) i m = (i, m, tt)
   settled_can behaviour s Again (store t o ∷ js) i m = (i, m, tt)
   settled_can behaviour s First (publish e ∷ js) i m = (i, m, tt)
   settled_can behaviour s Again (publish e ∷ js) i m = (i, m, tt)
-  settled_can behaviour s First (hand_in g t c ∷ js) i m = (i, m, refl)
-  settled_can behaviour s Again (hand_in g t c ∷ js) i m = tt
+  settled_can behaviour s First (part g t c ∷ js) i m = (i, m, refl)
+  settled_can behaviour s Again (part g t c ∷ js) i m = tt
 
   -- the one call of a seat
   served : (s t : Seat) (c : results.TableCall) (r : results.TableReply) → IsCall plan s.name s.seen t.seen (calls s.name c r) → t.name ≡ s.name
@@ -156,7 +156,7 @@ module _ (behaviour : Behaviour) (l : Line) (is_plan : IsPlan l) where
   asks s (doing [] b) c = tt
   asks s (doing (store t o ∷ js) b) c = c.0.0
   asks s (doing (publish e ∷ js) b) c = tt
-  asks s (doing (hand_in g t h ∷ js) b) c = ((carried_size plan g h c.0.1).0, c.0.0, c.1 c.2)
+  asks s (doing (part g t h ∷ js) b) c = ((carried_size plan g h c.0.1).0, c.0.0, c.1 c.2)
   asks s (reading g h fs) c = member_there g (length fs) (subst (λ n. length fs < n) (sym (carried_size plan g h c.0).1) c.1)
 
   -- ---- answers
@@ -179,7 +179,7 @@ module _ (behaviour : Behaviour) (l : Line) (is_plan : IsPlan l) where
       (first_of plan s u d o a stands.4 stands.1) c.1))
   goes_on s t (doing (publish e ∷ js) b) sent c same =
       subst (λ v. Can plan v (settled (enveloped behaviour plan) js b)) (sym same) (settled_can plan behaviour s b js c.0 c.1)
-  goes_on s t (doing (hand_in g d h ∷ js) b) (counted n) c call = handed_can plan t g h n c.0.1
+  goes_on s t (doing (part g d h ∷ js) b) (counted n) c call = handed_can plan t g h n c.0.1
   goes_on s t (reading g h fs) (found d (Some o)) c call = go (eqb (length (fs ++ (d, o) ∷ [])) h.size) refl
     where
       go : (z : Bool) → eqb (length (fs ++ (d, o) ∷ [])) h.size ≡ z

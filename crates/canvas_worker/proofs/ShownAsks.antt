@@ -5,7 +5,7 @@ use Rattle.canvas_runs.specs.Calls.{held_by}
 use Rattle.canvas_task.specs.Apply.{Behaviour}
 use Rattle.canvas_task.specs.declared.outcome.Outcome.{Outcome}
 use Rattle.canvas_message.specs.Content.{Content}
-use Rattle.canvas_effects.specs.Job.{store, publish, hand_in}
+use Rattle.canvas_effects.specs.Job.{store, publish, part}
 use Rattle.canvas_message.specs.declared.envelope.Envelope.{Envelope}
 use Rattle.canvas_backend.specs.declared.stored.Stored.{Stored}
 use Rattle.canvas_backend.specs.declared.stored.Stored.TheVariants.{First, Again}
@@ -144,7 +144,7 @@ still_publishes n (C.owning m) e = e
 still_publishes n (C.doing [] b) e = e
 still_publishes n (C.doing (store t o ∷ js) b) e = e
 still_publishes n (C.doing (publish m ∷ js) b) e = refl
-still_publishes n (C.doing (hand_in g t l ∷ js) b) e = e
+still_publishes n (C.doing (part g t l ∷ js) b) e = e
 still_publishes n (C.reading g c fs) e = e
 still_publishes n C.acking e = e
 
@@ -160,7 +160,7 @@ rests_over (C.owning m) e = absurd cc
 rests_over (C.doing [] b) e = absurd cc
 rests_over (C.doing (store t o ∷ js) b) e = absurd cc
 rests_over (C.doing (publish m ∷ js) b) e = absurd cc
-rests_over (C.doing (hand_in g t l ∷ js) b) e = absurd cc
+rests_over (C.doing (part g t l ∷ js) b) e = absurd cc
 rests_over (C.reading g l fs) e = absurd cc
 rests_over C.acking e = absurd cc
 
@@ -174,7 +174,7 @@ takes_taking (C.owning m) e = absurd cc
 takes_taking (C.doing [] b) e = absurd cc
 takes_taking (C.doing (store t o ∷ js) b) e = absurd cc
 takes_taking (C.doing (publish m ∷ js) b) e = absurd cc
-takes_taking (C.doing (hand_in g t l ∷ js) b) e = absurd cc
+takes_taking (C.doing (part g t l ∷ js) b) e = absurd cc
 takes_taking (C.reading g l fs) e = absurd cc
 takes_taking C.acking e = absurd cc
 
@@ -198,7 +198,7 @@ drops_so plan (C.owning m) r = refl
 drops_so plan (C.doing [] b) r = refl
 drops_so plan (C.doing (store t o ∷ js) b) r = refl
 drops_so plan (C.doing (publish m ∷ js) b) r = refl
-drops_so plan (C.doing (hand_in g t l ∷ js) b) r = refl
+drops_so plan (C.doing (part g t l ∷ js) b) r = refl
 drops_so plan (C.reading g l fs) r = refl
 drops_so plan C.acking r = refl
 
@@ -219,8 +219,8 @@ module _ (behaviour : Behaviour) (plan : Roster) where
   open_settled (store t o ∷ js) Again h = refl
   open_settled (publish e ∷ js) First h = refl
   open_settled (publish e ∷ js) Again h = refl
-  open_settled (hand_in g t c ∷ js) First h = refl
-  open_settled (hand_in g t c ∷ js) Again h = refl
+  open_settled (part g t c ∷ js) First h = refl
+  open_settled (part g t c ∷ js) Again h = refl
 
   open_either : (b : Bool) (s t : Left) (h : Option Envelope) → open_of s h ≡ h → open_of t h ≡ h → open_of (cond b s t) h ≡ h
   open_either true s t h i j = i
@@ -241,7 +241,7 @@ module _ (behaviour : Behaviour) (plan : Roster) where
   held_step (C.doing (store t o ∷ js) b) h (C.stored a) u = open_settled js (cond (C.is_due t js) a b) h
   held_step (C.doing (publish e ∷ js) b) h C.sent u = open_settled js b h
   held_step (C.doing (publish e ∷ js) b) h C.refused u = refl
-  held_step (C.doing (hand_in g t c ∷ js) b) h (C.counted n) u = open_either (eqb (suc n) c.size) (C.reading g c []) C.acking h refl refl
+  held_step (C.doing (part g t c ∷ js) b) h (C.counted n) u = open_either (eqb (suc n) c.size) (C.reading g c []) C.acking h refl refl
   held_step (C.reading g c fs) h (C.found t (Some o)) u =
       open_either (eqb (length (fs ++ (t, o) ∷ [])) c.size)
       (C.settled (enveloped behaviour plan) ((enveloped behaviour plan).completed c (fs ++ (t, o) ∷ [])) Again) (C.reading g c (fs ++ (t, o) ∷ [])) h

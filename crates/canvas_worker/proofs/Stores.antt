@@ -11,7 +11,7 @@ use Rattle.canvas_message.specs.Content.{Content, line, number_of, links_of, err
 use Rattle.canvas_effects.specs.Effects.{Jobs, Effect, callbacks, part_of, fault_behind, when_empty, enter, enter_all, stores_in, called, after, header_flow, body_after}
 use Rattle.canvas_effects.specs.Flowing.{Input, number_input, list_input, id_input, LineFlow, run, skips, raise, after_outcome}
 use Rattle.canvas_message.specs.Fits.{how_many}
-use Rattle.canvas_effects.specs.Job.{Job, store, publish, hand_in}
+use Rattle.canvas_effects.specs.Job.{Job, store, publish, part}
 use Rattle.canvas_effects.specs.Ordered.{put, in_order}
 use Rattle.canvas_effects.specs.Placing.{placed, end_place}
 
@@ -19,7 +19,7 @@ use Rattle.canvas_effects.specs.Placing.{placed, end_place}
 abbrev StoresFailure : Job Content PCarried Outcome → Type 0
 StoresFailure (store t o) = IsInRange o
 StoresFailure (publish m) = Unit {0}
-StoresFailure (hand_in g t c) = Unit {0}
+StoresFailure (part g t c) = Unit {0}
 
 abbrev Failures : Jobs → Type 0
 Failures [] = Unit {0}
@@ -82,7 +82,7 @@ stored : (js : Jobs) → Failures js → AllKept (stores_in js)
 stored [] h = tt
 stored (store t o ∷ js) h = (h.0, stored js h.1)
 stored (publish m ∷ js) h = stored js h.1
-stored (hand_in g t c ∷ js) h = stored js h.1
+stored (part g t c ∷ js) h = stored js h.1
 
 one_put : (b : Bool) (xs ys : List (ℕ × Outcome)) → AllKept xs → AllKept ys → AllKept (if b then xs else ys)
 one_put true xs ys a c = a

@@ -13,7 +13,7 @@ use Rattle.canvas_effects.specs.Effects.{outcome_of, after, body_after, script}
 use Rattle.canvas_message.specs.EnvelopeContent.{content_said}
 use Rattle.canvas_message.specs.EnvelopeFaults.{envelope_fault}
 use Rattle.canvas_message.specs.Fits.{fits}
-use Rattle.canvas_effects.specs.Job.{Job, store, publish, hand_in}
+use Rattle.canvas_effects.specs.Job.{Job, store, publish, part}
 use Rattle.canvas_message.specs.declared.envelope.Envelope.{Envelope}
 use Rattle.canvas_backend.specs.Roster.{Roster}
 use Rattle.canvas_runs.specs.Book.{Book, book_on}
@@ -49,7 +49,7 @@ unapplied e = record { envelope = e; outcome = Failure (Plain NotRegistered) }
 abbrev pub enclosed : Job Content PCarried Outcome → Job Applied PCarried Outcome
 enclosed (store t o) = store t o
 enclosed (publish c) = publish (unapplied (envelope_of c))
-enclosed (hand_in g t l) = hand_in g t l
+enclosed (part g t l) = part g t l
 
 -- no tasks
 abbrev pub no_tasks : Behaviour

@@ -6,7 +6,7 @@ use Rattle.canvas_task.specs.Apply.{Behaviour}
 use Rattle.canvas_semantics.specs.Line.{Line}
 use Rattle.canvas_rewrite.specs.FrozenView.{PCarried}
 use Rattle.canvas_rewrite.specs.Planned.{IsPlan}
-use Rattle.canvas_effects.specs.Job.{publish, hand_in}
+use Rattle.canvas_effects.specs.Job.{publish}
 use Rattle.canvas_backend.specs.declared.stored.Stored.{Stored}
 use Rattle.canvas_backend.specs.declared.stored.Stored.TheVariants.{First}
 use Rattle.canvas_backend.specs.Backend.{MayReturn}
@@ -32,25 +32,25 @@ module _ (plan : Roster) where
   InPlan [] = Unit {0}
   InPlan (job.store t o ∷ js) = (t ≤ plan.tasks) × InPlan js
   InPlan (publish e ∷ js) = InPlan js
-  InPlan (hand_in g t c ∷ js) = IsTrue (is_member plan g t) × Carries g c × InPlan js
+  InPlan (job.part g t c ∷ js) = IsTrue (is_member plan g t) × Carries g c × InPlan js
 
   -- The seat may return the part that is due if its task's latest store was the first, unless that
   -- task is still to be stored.
-  abbrev pub MayHandIn : Seat → Stored → EnvelopeJobs → Type 0
-  MayHandIn s b [] = Unit {0}
-  MayHandIn s b (job.store t o ∷ js) = is_due t js ≡ false → MayHandIn s b js
-  MayHandIn s b (publish e ∷ js) = MayHandIn s b js
-  MayHandIn s b (hand_in g t c ∷ js) = b ≡ First → MayReturn plan s.seen s.name t
+  abbrev pub MayReturnDue : Seat → Stored → EnvelopeJobs → Type 0
+  MayReturnDue s b [] = Unit {0}
+  MayReturnDue s b (job.store t o ∷ js) = is_due t js ≡ false → MayReturnDue s b js
+  MayReturnDue s b (publish e ∷ js) = MayReturnDue s b js
+  MayReturnDue s b (job.part g t c ∷ js) = b ≡ First → MayReturn plan s.seen s.name t
 
   -- a part comes next only where that store was the first
   abbrev pub IsNext : Stored → EnvelopeJobs → Type 0
-  IsNext b (hand_in g t c ∷ js) = b ≡ First
+  IsNext b (job.part g t c ∷ js) = b ≡ First
   IsNext b js = Unit {0}
 
   -- the backend lets the seat do what is left to do
   abbrev pub Can : Seat → Left → Type 0
   Can s (owning m) = opened (book_on plan) m.envelope ≡ Some (said m.envelope)
-  Can s (doing js b) = InPlan js × MayHandIn s b js × IsNext b js
+  Can s (doing js b) = InPlan js × MayReturnDue s b js × IsNext b js
   Can s (reading g c fs) = Carries g c × (length fs < c.size)
   Can s left = Unit {0}
 

@@ -6,12 +6,13 @@ ghost use Rattle.canvas_task.specs.Apply.{IsInRange};
 ghost use Rattle.canvas_effects.specs.Carrying.{carried_ok};
 ghost use Rattle.canvas_effects.specs.Effects.{after, outcome_of, script as whole, part_jobs};
 ghost use Rattle.canvas_message.specs.MessageView.{carried_view};
-ghost use Rattle.canvas_effects.specs.Job.{store, publish, hand_in};
+ghost use Rattle.canvas_effects.specs.Job as job;
+ghost use Rattle.canvas_effects.specs.Job.{store, publish};
 ghost use Rattle.canvas_effects.specs.Todos.{part_view};
 ghost use Rattle.canvas_backend.specs.declared.stored.Stored.TheVariants.{First};
 ghost use Rattle.canvas_worker.specs.Asks.{replied, FoundInRange, Grows};
 ghost use Rattle.canvas_worker.specs.Books.{no_book};
-ghost use Rattle.canvas_runs.specs.Core.{is_due, settled, handed_in, all_read, answered, owning, doing, resting, acking, reading as state_reading};
+ghost use Rattle.canvas_runs.specs.Core.{is_due, settled, part_counted, all_read, answered, owning, doing, resting, acking, reading as state_reading};
 ghost use Rattle.canvas_worker.specs.Phases.{IsAt};
 ghost use Rattle.canvas_worker.specs.Scripts.{jobs_of};
 ghost use Rattle.canvas_worker.specs.EnvelopeWorker.{enveloped_by, no_tasks, said, enclosed, unapplied, blank};
@@ -203,7 +204,7 @@ impl Publishing {
 /// Where the part was the last of its header, the members are read.
 fn counted(alloc: Global, part: PartCall, count: u64) -> Phase
     ensures { IsAt result
-        (handed_in (enveloped_by no_tasks no_book) part.group (carried_view part.chord) count) }
+        (part_counted (enveloped_by no_tasks no_book) part.group (carried_view part.chord) count) }
 {
     let size = u64::from(size_of(&part.chord));
     if count < size && count + 1 == size {
@@ -219,7 +220,7 @@ fn counted(alloc: Global, part: PartCall, count: u64) -> Phase
 
 pub(crate) fn returned(alloc: Global, part: PartCall, reply: &Reply) -> Phase
     ensures { IsAt result (answered (enveloped_by no_tasks no_book)
-        (doing (hand_in part.group part.task (carried_view part.chord) ∷ []) First)
+        (doing (job.part part.group part.task (carried_view part.chord) ∷ []) First)
         (replied reply.now)) }
 {
     match reply {

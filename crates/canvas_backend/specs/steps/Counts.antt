@@ -1,4 +1,4 @@
--- The counts that the plain backend keeps beside its slots.
+-- The counts that the plain backend keeps beside its rows.
 use Rattle.std.specs.Prelude.{◌≡◌, ◌<◌, ℕ, suc, List, length, slice_index}
 use Rattle.canvas_backend.specs.Backend.{count_of}
 use Rattle.canvas_backend.specs.Plain.{Shelf, held}

@@ -4,7 +4,7 @@ ghost use Rattle.std.specs.Prelude.{◌≡◌, ◌++◌, true, false, IfOk, OnOk
 ghost use Rattle.canvas_semantics.specs.Evaluation.{arguments, value};
 ghost use Rattle.canvas_rewrite.specs.FrozenView.{p_tasks_of, p_steps, p_task_view, p_line_view, p_end_view};
 ghost use Rattle.canvas_rewrite.specs.declared.frozen.FrozenEnd.{out-FrozenEnd};
-ghost use Rattle.canvas_effects.specs.Carrying.{stands, AllStand, callbacks_ok, input_ok};
+ghost use Rattle.canvas_effects.specs.Carrying.{can_stand, AllStand, callbacks_ok, input_ok};
 ghost use Rattle.canvas_message.specs.Content.{call_of};
 ghost use Rattle.canvas_effects.specs.Effects.{message, callbacks, messages_in};
 ghost use Rattle.canvas_message.specs.Fits.{fits, parent_ok};
@@ -171,7 +171,7 @@ fn first_message(
 
 /// The place of a member, where the end of the whole goes to another.
 fn member_place(alloc: Global, end: &FrozenEnd, place: &Option<Place>) -> Result<Place, AllocError>
-    requires { stands (p_end_view end.now) (place_seen place.now) ≡ true }
+    requires { can_stand (p_end_view end.now) (place_seen place.now) ≡ true }
     ensures { IfOk result
         (λ p. place_view p ≡ member_place (p_end_view end.now) (place_seen place.now)) }
 {
@@ -197,7 +197,7 @@ fn member_place(alloc: Global, end: &FrozenEnd, place: &Option<Place>) -> Result
 /// The members of a group or chord. It is a function for its contract's sake: each of them can
 /// stand where its end goes.
 fn standing_members<'a>(end: &'a FrozenEnd, place: &Option<Place>) -> &'a [FrozenLine]
-    requires { stands (p_end_view end.now) (place_seen place.now) ≡ true }
+    requires { can_stand (p_end_view end.now) (place_seen place.now) ≡ true }
     ensures value { result.now ≡ (out-FrozenEnd end.now).members }
     ensures stand { AllStand (member_place (p_end_view end.now) (place_seen place.now))
         (map p_line_view result.now) }
@@ -215,7 +215,7 @@ pub(super) fn start_line(
     parent: &Option<TaskNo>,
     messages: &mut Vec<Message>,
 ) -> Result<(), AllocError>
-    requires line { stands (p_line_view line.now) (place_seen place.now) ≡ true }
+    requires line { can_stand (p_line_view line.now) (place_seen place.now) ≡ true }
     requires input { input_ok (input_seen input.now) ≡ true }
     requires parent { parent_ok parent.now ≡ true }
     ensures { OnOk result (messages.new.items
@@ -246,7 +246,7 @@ fn start_end(
     parent: &Option<TaskNo>,
     messages: &mut Vec<Message>,
 ) -> Result<(), AllocError>
-    requires line { stands (p_end_view end.now) (place_seen place.now) ≡ true }
+    requires line { can_stand (p_end_view end.now) (place_seen place.now) ≡ true }
     requires input { input_ok (input_seen input.now) ≡ true }
     requires parent { parent_ok parent.now ≡ true }
     ensures { OnOk result (messages.new.items
@@ -279,7 +279,7 @@ fn start_members(
     parent: &Option<TaskNo>,
     messages: &mut Vec<Message>,
 ) -> Result<(), AllocError>
-    requires end { stands (p_end_view end.now) (place_seen place.now) ≡ true }
+    requires end { can_stand (p_end_view end.now) (place_seen place.now) ≡ true }
     requires members { AllStand (member_place (p_end_view end.now) (place_seen place.now))
         (map p_line_view members.now) }
     requires input { input_ok (input_seen input.now) ≡ true }
@@ -307,7 +307,7 @@ fn start_member(
     parent: &Option<TaskNo>,
     messages: &mut Vec<Message>,
 ) -> Result<(), AllocError>
-    requires line { stands (p_line_view member.now) (place_view place) ≡ true }
+    requires line { can_stand (p_line_view member.now) (place_view place) ≡ true }
     requires input { input_ok (input_seen input.now) ≡ true }
     requires parent { parent_ok parent.now ≡ true }
     ensures { OnOk result (messages.new.items

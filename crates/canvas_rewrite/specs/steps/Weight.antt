@@ -2,7 +2,7 @@
 use Rattle.std.specs.Prelude.{ℕ, ◌+◌, List, [], ◌∷◌}
 use Rattle.canvas_semantics.specs.Tree.{Tree, one, chain, group, chord, Trees, no_trees, and_tree}
 use Rattle.canvas_sig.specs.declared.node.Node.{Node}
-use Rattle.canvas_sig.specs.View.{view}
+use Rattle.canvas_sig.specs.SignatureView.{view}
 
 abbrev mutual
   pub weight : Tree → ℕ

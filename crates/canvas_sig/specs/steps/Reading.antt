@@ -14,7 +14,7 @@ use Rattle.canvas_sig.specs.declared.primitive.Primitive.TheVariants as kind
 use Rattle.canvas_task.specs.Text.{Text}
 use Rattle.canvas_sig.specs.Fields.{field, subtype, args, kwargs, tasks, header, body, link, link_error, items, listed, as_list, object_members, text_of, is_number, is_true}
 use Rattle.canvas_semantics.specs.Tree.{Task, task, Tree, one, chain, group, chord, Trees}
-use Rattle.canvas_sig.specs.View.{tasks_of, trees_of}
+use Rattle.canvas_sig.specs.SignatureView.{tasks_of, trees_of}
 use Rattle.serde_json.specs.Read.{max_depth}
 use Rattle.canvas_sig.specs.Answers.{◌>>=◌, fault_if, unless, each}
 use Rattle.canvas_sig.specs.Grammar.{arg_reading, named_reading, primitive_of, own_fault, members_in}

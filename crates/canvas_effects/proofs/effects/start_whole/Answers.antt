@@ -1,7 +1,7 @@
 use Rattle.std.proofs.Common.{◌∙◌, ◌++◌, ap, sym}
 use Rattle.canvas_rewrite.proofs.PlanLines.{ok_same}
 use Rattle.canvas_rewrite.specs.FrozenView.{p_line_view}
-use Rattle.canvas_effects.specs.Carrying.{stands}
+use Rattle.canvas_effects.specs.Carrying.{can_stand}
 use Rattle.canvas_effects.specs.steps.Walks.{input_seen, started}
 use Rattle.canvas_effects.proofs.Standing.{stands_there, place_never}
 use Rattle.canvas_effects.proofs.Ended.{last_there_place}
@@ -9,12 +9,12 @@ use Rattle.canvas_effects.proofs.effects.start_whole.Goals as goal
 
 pub start_line-requires-clause-line : goal.start_line-requires-clause-line
 start_line-requires-clause-line c =
-    ap (stands (p_line_view c.args.line.now)) (last_there_place (p_line_view c.args.line.now) c.in-Some.last.now c.in-Some.ensures)
+    ap (can_stand (p_line_view c.args.line.now)) (last_there_place (p_line_view c.args.line.now) c.in-Some.last.now c.in-Some.ensures)
     ∙ stands_there (p_line_view c.args.line.now) c.requires.line
 
 pub start_line-requires-in-None-clause-line : goal.start_line-requires-in-None-clause-line
 start_line-requires-in-None-clause-line c =
-    ap (stands (p_line_view c.args.line.now)) (sym (place_never (p_line_view c.args.line.now) (sym c.in-None.ensures)))
+    ap (can_stand (p_line_view c.args.line.now)) (sym (place_never (p_line_view c.args.line.now) (sym c.in-None.ensures)))
     ∙ stands_there (p_line_view c.args.line.now) c.requires.line
 
 pub returns-in-Some : goal.returns-in-Some

@@ -1,7 +1,7 @@
 use Rattle.std.proofs.Common.{sym, subst}
 use Rattle.canvas_rewrite.specs.FrozenView.{line_of}
 use Rattle.canvas_semantics.specs.SameMeaning.{IsSame}
-use Rattle.canvas_rewrite.specs.View.{line_view}
+use Rattle.canvas_rewrite.specs.LineView.{line_view}
 use Rattle.canvas_semantics.proofs.CompactLaw.{compact_same}
 use Rattle.canvas_rewrite.proofs.as_node.node_of.Goals as goal
 

@@ -1,8 +1,8 @@
 use Rattle.std.proofs.Common.{◌≡◌, ◌∙◌, ap}
 use Rattle.canvas_semantics.specs.NormalLine.{onto, normal}
 use Rattle.canvas_semantics.specs.Tree.{chain, no_trees}
-use Rattle.canvas_sig.specs.View.{view}
-use Rattle.canvas_rewrite.specs.View.{line_view}
+use Rattle.canvas_sig.specs.SignatureView.{view}
+use Rattle.canvas_rewrite.specs.LineView.{line_view}
 use Rattle.canvas_rewrite.proofs.NormalRuns.{same_line}
 use Rattle.canvas_rewrite.proofs.moving.into_normal.Goals as goal
 

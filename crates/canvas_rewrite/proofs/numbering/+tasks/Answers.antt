@@ -1,5 +1,5 @@
 use Rattle.std.proofs.Common.{◌≡◌, ◌∙◌, arith, map, ap}
-use Rattle.canvas_sig.specs.View.{task_view}
+use Rattle.canvas_sig.specs.SignatureView.{task_view}
 use Rattle.canvas_sig.specs.declared.task_sig.TaskSig.{TaskSig, out-TaskSig}
 use Rattle.canvas_semantics.specs.steps.Numbering.{tasks_in}
 use Rattle.canvas_rewrite.proofs.FrozenViews.{task_counted, made_as}

@@ -1,5 +1,5 @@
 use Rattle.std.proofs.Common.{sym}
-use Rattle.canvas_sig.specs.View.{view}
+use Rattle.canvas_sig.specs.SignatureView.{view}
 use Rattle.canvas_sig.proofs.TextLemmas.{read_whole, refused_whole, is_canvas}
 use Rattle.canvas_sig.proofs.canvas.read_canvas.Goals as goal
 

@@ -1,6 +1,6 @@
 use Rattle.std.proofs.Common.{◌≡◌, map, drop}
 use Rattle.canvas_sig.specs.ComposedRefusals.{all_fault}
-use Rattle.canvas_sig.specs.View.{view, trees_of}
+use Rattle.canvas_sig.specs.SignatureView.{view, trees_of}
 use Rattle.canvas_sig.specs.Writable.{AreComposed}
 use Rattle.canvas_sig.proofs.composed.+check_node.Given as goal
 

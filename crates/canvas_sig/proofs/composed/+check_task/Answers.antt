@@ -1,6 +1,6 @@
 use Rattle.std.proofs.Common.{rules, map, sym, ap, subst, ◌∙◌}
 use Rattle.canvas_sig.specs.ComposedRefusals.{tasks_fault}
-use Rattle.canvas_sig.specs.View.{task_view, tasks_of}
+use Rattle.canvas_sig.specs.SignatureView.{task_view, tasks_of}
 use Rattle.canvas_sig.specs.Writable.{TasksComposed}
 use Rattle.canvas_sig.proofs.ComposedLemmas.{links_fail, errbacks_decide, on_ok, task_composed}
 use Rattle.canvas_sig.proofs.composed.+check_task.Goals as goal

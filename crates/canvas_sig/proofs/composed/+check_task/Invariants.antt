@@ -1,6 +1,6 @@
 use Rattle.std.proofs.Common.{◌≡◌, map, drop}
 use Rattle.canvas_sig.specs.ComposedRefusals.{tasks_fault}
-use Rattle.canvas_sig.specs.View.{task_view, tasks_of}
+use Rattle.canvas_sig.specs.SignatureView.{task_view, tasks_of}
 use Rattle.canvas_sig.specs.Writable.{TasksComposed}
 use Rattle.canvas_sig.proofs.composed.+check_task.Given as goal
 

@@ -1,5 +1,5 @@
 use Rattle.std.proofs.Common.{◌∙◌, refl, ap, map}
-use Rattle.canvas_sig.specs.View.{task_view}
+use Rattle.canvas_sig.specs.SignatureView.{task_view}
 use Rattle.canvas_sig.proofs.Views.{alike}
 use Rattle.canvas_sig.proofs.copy.+copy.Goals as goal
 

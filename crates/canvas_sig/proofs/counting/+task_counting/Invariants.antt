@@ -1,6 +1,6 @@
 use Rattle.std.proofs.Common.{◌≡◌, ◌+◌, map, drop}
 use Rattle.canvas_semantics.specs.Tree.{count_tasks}
-use Rattle.canvas_sig.specs.View.{task_view, tasks_of}
+use Rattle.canvas_sig.specs.SignatureView.{task_view, tasks_of}
 use Rattle.canvas_sig.proofs.counting.+task_counting.Given as goal
 
 -- what is left, less those still to come, is what will be left

@@ -1,6 +1,6 @@
 use Rattle.std.proofs.Common.{◌≡◌, ◌+◌, map, drop}
 use Rattle.canvas_semantics.specs.Tree.{count_all}
-use Rattle.canvas_sig.specs.View.{view, trees_of}
+use Rattle.canvas_sig.specs.SignatureView.{view, trees_of}
 use Rattle.canvas_sig.proofs.counting.+tasks.Given as goal
 
 -- what is left, less those still to come, is what will be left

@@ -1,6 +1,6 @@
 use Rattle.std.proofs.Common.{◌∙◌, sym, ap}
 use Rattle.canvas_sig.specs.steps.Ending.{ending}
-use Rattle.canvas_sig.specs.View.{view}
+use Rattle.canvas_sig.specs.SignatureView.{view}
 use Rattle.canvas_sig.proofs.Endings.{chain_ends, group_ends, group_nests, chord_ends, chord_nests}
 use Rattle.canvas_sig.proofs.group_nesting.+endings.Goals as goal
 

@@ -1,7 +1,7 @@
 use Rattle.std.proofs.Common.{◌≡◌, false, map, drop}
 use Rattle.std.specs.List.{list_all}
 use Rattle.canvas_sig.specs.steps.Ending.{ending, last_ending, ends_in_task}
-use Rattle.canvas_sig.specs.View.{view}
+use Rattle.canvas_sig.specs.SignatureView.{view}
 use Rattle.canvas_sig.proofs.group_nesting.+endings.Given as goal
 
 abbrev pub invariant-last_ending-loop-node : goal.invariant-last_ending-loop-node

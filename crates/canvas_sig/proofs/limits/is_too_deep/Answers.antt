@@ -1,6 +1,6 @@
 use Rattle.std.proofs.Common.{◌∙◌, ap}
 use Rattle.canvas_sig.specs.steps.LineReach.{reach_of_line}
-use Rattle.canvas_sig.specs.View.{view}
+use Rattle.canvas_sig.specs.SignatureView.{view}
 use Rattle.canvas_sig.proofs.ReachLemmas.{normal_reach, deep_by_reach}
 use Rattle.canvas_sig.proofs.limits.is_too_deep.Goals as goal
 

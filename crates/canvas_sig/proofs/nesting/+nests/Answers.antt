@@ -1,6 +1,6 @@
 use Rattle.std.proofs.Common.{◌∙◌, ◌+◌, max, map, sym, ap, arith}
 use Rattle.canvas_semantics.specs.Nesting.{nesting, all_nesting}
-use Rattle.canvas_sig.specs.View.{view, trees_of}
+use Rattle.canvas_sig.specs.SignatureView.{view, trees_of}
 use Rattle.canvas_sig.proofs.Views.{view-Chain, view-Group, view-Chord}
 use Rattle.canvas_sig.proofs.NestingLemmas.{listed, both, first_fails, of_nodes}
 use Rattle.canvas_sig.proofs.nesting.+nests.Goals as goal

@@ -1,6 +1,6 @@
 use Rattle.std.proofs.Common.{ℕ, ◌<◌, ◌≤◌, get_or}
 use Rattle.canvas_semantics.specs.Nesting.{nesting}
-use Rattle.canvas_sig.specs.View.{view}
+use Rattle.canvas_sig.specs.SignatureView.{view}
 use Rattle.canvas_sig.specs.declared.node.Node.{Node}
 use Rattle.canvas_sig.proofs.nesting.+nests.Given as goal
 

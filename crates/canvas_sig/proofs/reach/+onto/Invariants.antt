@@ -1,6 +1,6 @@
 use Rattle.std.proofs.Common.{◌≡◌, ◌≤◌, max, length, map, drop}
 use Rattle.canvas_sig.specs.steps.LineReach.{all_onto_reach, greatest}
-use Rattle.canvas_sig.specs.View.{view, trees_of}
+use Rattle.canvas_sig.specs.SignatureView.{view, trees_of}
 use Rattle.canvas_sig.proofs.reach.+onto.Given as goal
 
 -- the line so far is that of the nodes from the place on

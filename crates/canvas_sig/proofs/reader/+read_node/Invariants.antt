@@ -2,7 +2,7 @@ use Rattle.std.proofs.Common.{◌≡◌, ◌+◌, ◌*◌, map, drop}
 use Rattle.canvas_sig.specs.Datum.{view}
 use Rattle.canvas_sig.specs.Answers.{each}
 use Rattle.canvas_sig.specs.steps.Reading.{tree_reading}
-use Rattle.canvas_sig.specs.View.{view as tree_view}
+use Rattle.canvas_sig.specs.SignatureView.{view as tree_view}
 use Rattle.canvas_sig.proofs.Each.{onto}
 use Rattle.canvas_sig.proofs.reader.+read_node.Given as goal
 

@@ -2,7 +2,7 @@ use Rattle.std.proofs.Common.{◌≡◌, ◌+◌, ◌*◌, map, drop}
 use Rattle.canvas_sig.specs.Datum.{view}
 use Rattle.canvas_sig.specs.Answers.{each}
 use Rattle.canvas_sig.specs.steps.Reading.{task_reading}
-use Rattle.canvas_sig.specs.View.{task_view}
+use Rattle.canvas_sig.specs.SignatureView.{task_view}
 use Rattle.canvas_sig.proofs.Each.{onto}
 use Rattle.canvas_sig.proofs.reader.+read_task.Given as goal
 

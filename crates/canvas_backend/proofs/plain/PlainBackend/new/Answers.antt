@@ -1,7 +1,7 @@
 use Rattle.std.proofs.Common.{◌≡◌, ◌∙◌, ℕ, List, None, false, length, replicate, rules, sym, subst, ap, arith}
 use Rattle.std.proofs.lemmas.List.{length-replicate}
 use Rattle.canvas_rewrite.proofs.InOrder.{entries_length}
-use Rattle.canvas_backend.specs.declared.slot.Slot.{Slot}
+use Rattle.canvas_backend.specs.declared.row.Row.{Row}
 use Rattle.canvas_backend.specs.Roster.{Roster}
 use Rattle.canvas_backend.specs.Plain.{held}
 use Rattle.canvas_backend.specs.steps.Counts.{AreCounts}
@@ -11,17 +11,17 @@ use Rattle.canvas_backend.proofs.plain.PlainBackend.new.Goals as goal
 pub invariant_of-result : goal.invariant_of-result
 invariant_of-result c =
     let plan = c.in_ok-roster.roster in
-    let slots : c.in_ok-slots.slots.items ≡ replicate c.tasks.result (record { outcome = None; returned = false }) = search rules in
+    let rows : c.in_ok-rows.rows.items ≡ replicate c.tasks.result (record { outcome = None; returned = false }) = search rules in
     let counts : c.in_ok-counts.counts.items ≡ replicate c.groups.result 0 = search rules in
     let many : c.groups.result ≡ length plan.groups =
     omega (arith, c.groups.ensures, entries_length c.args.plan.now, ap (λ (r : Roster). length r.groups) c.in_ok-roster.ensures) in (
       c.tasks.ensures.sound,
-      ap length slots ∙ (length-replicate c.tasks.result _ ∙ c.tasks.ensures.value),
-      subst (λ (z : List Slot × List ℕ). AreCounts (shelf plan z.0) z.1) (λ j. (sym slots j, sym counts j))
+      ap length rows ∙ (length-replicate c.tasks.result _ ∙ c.tasks.ensures.value),
+      subst (λ (z : List Row × List ℕ). AreCounts (shelf plan z.0) z.1) (λ j. (sym rows j, sym counts j))
           (counts_none plan c.tasks.result c.groups.result many),
     )
 
 pub returns-clause-empty : goal.returns-clause-empty
 returns-clause-empty c =
-    let slots : c.in_ok-slots.slots.items ≡ replicate c.tasks.result (record { outcome = None; returned = false }) = search rules in
-    ap (λ (z : List Slot). held (shelf c.in_ok-roster.roster z)) slots ∙ none_held c.in_ok-roster.roster c.tasks.result
+    let rows : c.in_ok-rows.rows.items ≡ replicate c.tasks.result (record { outcome = None; returned = false }) = search rules in
+    ap (λ (z : List Row). held (shelf c.in_ok-roster.roster z)) rows ∙ none_held c.in_ok-roster.roster c.tasks.result
