@@ -12,8 +12,7 @@ use Rattle.canvas_message.specs.declared.envelope.Envelope.{Envelope}
 use Rattle.canvas_backend.specs.Backend.{Log, no_results, reply_of, next_of, May}
 use Rattle.canvas_backend.specs.Roster.{Roster, roster_of, members}
 use Rattle.canvas_broker.specs.Broker as broker
-use Rattle.canvas_history.specs.Answers.{answered_calls, entries_by}
-use Rattle.canvas_runs.specs.CallerEntries.{splits_of, joins_of}
+use Rattle.canvas_history.specs.Answers.{answered_calls, entries_by, splits_of, joins_of}
 use Rattle.canvas_runs.specs.Core.{IsCoreRun, taking, left_after, Between}
 use Rattle.canvas_runs.specs.Following.{Pass, Seat, Serves, IsDone}
 use Rattle.canvas_runs.specs.Calls.{QueueAnswered, TableAnswered, CoreCall, makes, FollowsScripts, scripts_all, scripts_publish, AskedAndAnswered, broker_calls, core_calls, backend_calls, ReadsMembers, takes_one}

@@ -3,7 +3,7 @@ use Rattle.std.proofs.Common.{◌≡◌, ℕ, suc, true, false, cond, not, List,
 use Rattle.std.proofs.lemmas.Bool.{false≢true, eqb-true, eq-eqb, ne_eqb, cases_Bool}
 use Rattle.canvas_history.specs.History.{Entry, split, join, calls, without, by_of, live_from, live, split_off, taken_in, made_by, LegalFrom, Legal}
 use Rattle.canvas_history.proofs.Histories.{StartsWith, In, in_cases, in_here, in_left, in_within, named_append, legal_append, made_here, made_off, OthersCall, named_first, was_live, gone}
-use Rattle.canvas_runs.specs.CallerEntries.{splits_of, joins_of}
+use Rattle.canvas_history.specs.Answers.{splits_of, joins_of}
 
 abbrev pub NoZero : List ℕ → Type 0
 NoZero [] = Unit {0}

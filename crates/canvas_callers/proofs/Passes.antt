@@ -10,8 +10,7 @@ use Rattle.canvas_message.specs.declared.envelope.Envelope.{Envelope}
 use Rattle.canvas_broker.specs.Broker.{QueueEntry as Entries, answer, next, May, IsLegal}
 use Rattle.canvas_broker.specs.Passes.{Stands, Parted, IsHistory}
 use Rattle.canvas_history.specs.Callers.{Owes}
-use Rattle.canvas_history.specs.Answers.{entries_by}
-use Rattle.canvas_runs.specs.CallerEntries.{splits_of, joins_of}
+use Rattle.canvas_history.specs.Answers.{entries_by, splits_of, joins_of}
 use Rattle.canvas_runs.specs.Following.{Pass, Makes}
 use Rattle.canvas_runs.specs.Calls.{QueueAnswered}
 use Rattle.canvas_callers.specs.Accounts.{HasQueueCalls, QueueAccounts}

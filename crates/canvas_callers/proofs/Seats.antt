@@ -10,8 +10,7 @@ use Rattle.canvas_backend.specs.Seats.{Stands, Parted, Joined}
 use Rattle.canvas_backend.specs.Roster.{Roster}
 use Rattle.canvas_history.specs.Callers.{Caller}
 use Rattle.atomic_table.specs.Seated.{TableId}
-use Rattle.canvas_history.specs.Answers.{entries_by}
-use Rattle.canvas_runs.specs.CallerEntries.{splits_of, joins_of}
+use Rattle.canvas_history.specs.Answers.{entries_by, splits_of, joins_of}
 use Rattle.canvas_runs.specs.Following.{Seat, Serves}
 use Rattle.canvas_runs.specs.Calls.{TableAnswered, backend_calls}
 use Rattle.canvas_callers.specs.Accounts.{HasTableCalls, TableAccounts}

@@ -3,14 +3,13 @@
 -- of their making, just theirs.
 use Rattle.std.specs.Prelude.{ℕ, suc, ◌≡◌, List, [], ◌∷◌, ◌++◌}
 use Rattle.canvas_task.specs.Apply.{Behaviour}
-use Rattle.canvas_history.specs.Answers.{entries_by}
+use Rattle.canvas_history.specs.Answers.{entries_by, joins_of, splits_of}
 use Rattle.canvas_history.specs.History.{split_off, made_by, Sole}
 use Rattle.canvas_message.specs.declared.envelope.Envelope.{Envelope}
 use Rattle.canvas_backend.specs.Backend as backend
 use Rattle.canvas_backend.specs.Roster.{Roster}
 use Rattle.canvas_broker.specs.Broker as broker
 use Rattle.canvas_runs.specs.Calls.{QueueAnswered, TableAnswered, backend_calls}
-use Rattle.canvas_runs.specs.CallerEntries.{joins_of, splits_of}
 use Rattle.canvas_callers.specs.Crew.{Mate, numbers_along}
 
 module _ (behaviour : Behaviour) (plan : Roster) where

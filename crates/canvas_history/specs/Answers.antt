@@ -1,4 +1,5 @@
--- Calls with their answers, as the entries of a history have them.
+-- Calls with their answers, as the entries of a history have them, and the entries of a caller that
+-- makes others and takes them in.
 use Rattle.std.specs.Prelude.{ℕ, List, [], ◌∷◌}
 use Rattle.canvas_history.specs.History.{Entry, split, join, calls}
 
@@ -14,3 +15,12 @@ module _ {C R : Type 0} where
   abbrev pub entries_by : ℕ → List (C × R) → List (Entry C R)
   entries_by p [] = []
   entries_by p (x ∷ xs) = calls p x.0 x.1 ∷ entries_by p xs
+
+  -- those by which the caller 0 makes these callers, and takes them in
+  abbrev pub splits_of : List ℕ → List (Entry C R)
+  splits_of [] = []
+  splits_of (q ∷ qs) = split 0 q ∷ splits_of qs
+
+  abbrev pub joins_of : List ℕ → List (Entry C R)
+  joins_of [] = []
+  joins_of (q ∷ qs) = join 0 q ∷ joins_of qs

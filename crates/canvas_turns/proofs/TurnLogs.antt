@@ -3,8 +3,7 @@ use Rattle.std.proofs.Common.{◌≡◌, ◌≢◌, ℕ, zero, suc, ◌≤◌, B
 use Rattle.std.proofs.lemmas.Bool.{false≢true, eqb-true, eqb-false, cases_Bool}
 use Rattle.canvas_history.specs.History.{Entry, split, join, calls, among, live, live_from, split_off, state_from, Legal}
 use Rattle.canvas_history.proofs.Histories.{In, in_left, in_right, in_append, in_here, in_later, in_cases, live_append, legal_append, OnlyCalls}
-use Rattle.canvas_history.specs.Answers.{entries_by}
-use Rattle.canvas_runs.specs.CallerEntries.{splits_of}
+use Rattle.canvas_history.specs.Answers.{entries_by, splits_of}
 use Rattle.canvas_runs.specs.Lists.{by}
 use Rattle.canvas_runs.proofs.CallsOf.{tag}
 use Rattle.canvas_turns.specs.Turns.{round, IsWorker}

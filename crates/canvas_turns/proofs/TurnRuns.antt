@@ -10,8 +10,7 @@ use Rattle.canvas_backend.specs.Backend as results
 use Rattle.canvas_backend.specs.Backend.{Results, no_results, first_or, next_of, reply_of, count_of, was, count, found}
 use Rattle.canvas_backend.specs.Roster.{roster_of, members}
 use Rattle.canvas_broker.specs.Broker as broker
-use Rattle.canvas_history.specs.Answers.{answered_calls, entries_by}
-use Rattle.canvas_runs.specs.CallerEntries.{splits_of}
+use Rattle.canvas_history.specs.Answers.{answered_calls, entries_by, splits_of}
 use Rattle.canvas_runs.specs.Core.{Ask, Reply, take, publish, store, part, read, rest, ack, taken, sent, stored, counted, found as found_it, rested, acked, taking, IsCoreRun, Between, redeliver}
 use Rattle.canvas_runs.specs.Calls.{QueueAnswered, TableAnswered, makes, FollowsScripts, scripts_all, scripts_publish, scripts_list_take, scripts_core_take, scripts_ack, AskedAndAnswered, broker_calls, core_calls, backend_call, backend_calls, ReadsMembers, takes_one, worker_call, worker_calls, scripts_of, scripts_again, held_by, held_after, delivers, DeliversHeld}
 use Rattle.canvas_runs.specs.Lists.{by, total}

@@ -15,12 +15,11 @@ use Rattle.canvas_backend.specs.declared.stored.Stored.{Stored}
 use Rattle.canvas_backend.specs.declared.stored.Stored.TheVariants.{First, Again}
 use Rattle.canvas_backend.proofs.HistoryLaws.{member_test}
 use Rattle.canvas_backend.proofs.Rosters.{roster_sound}
-use Rattle.canvas_history.specs.Answers.{answered_calls, entries_by}
+use Rattle.canvas_history.specs.Answers.{answered_calls, entries_by, splits_of}
 use Rattle.canvas_backend.specs.Backend as results
 use Rattle.canvas_broker.specs.Broker as broker
 use Rattle.canvas_effects.specs.Job as job
 use Rattle.canvas_runs.proofs.OnceEach.{of_opened}
-use Rattle.canvas_runs.specs.CallerEntries.{splits_of}
 use Rattle.canvas_runs.specs.Book.{book_of}
 use Rattle.canvas_runs.specs.Calls.{QueueAnswered, TableAnswered, backend_call, backend_calls, takes_one, AskedAndAnswered, reads_member, ReadsMembers, worker_call, scripts_of}
 use Rattle.canvas_runs.specs.Core.{Ask, Reply, store, part, read, taken, sent, stored, counted, found, rested, taking, resting, owning, doing, reading, ask, answered, Doing, Jobs, is_due, settled, opens, IsCoreRun, take, publish, ack, acked, refused, acking, is_inside, Suits, redeliver}
