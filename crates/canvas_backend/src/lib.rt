@@ -7,8 +7,8 @@ mod knowledge;
 mod laws;
 mod plain;
 mod roster;
-mod rule;
 mod row;
+mod rule;
 mod stored;
 
 pub use backend::{Backend, BackendSeat};

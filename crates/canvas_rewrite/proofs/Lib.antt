@@ -7,7 +7,6 @@ pub mod NormalRuns
 pub mod GrowingLines
 pub mod NameLines
 pub mod Members
-pub mod PlanLookups
 pub mod NodeLines
 pub mod Moved
 pub mod InOrder

@@ -1,11 +1,13 @@
 -- A task is the last of one member of one group or chord at most.
-use Rattle.std.proofs.Common.{◌≡◌, ◌≢◌, ◌<◌, ◌≤◌, ◌==◌, ◌∙◌, ℕ, zero, suc, ◌+◌, Bool, false, true≢false, if◌then◌else◌, List, [], ◌∷◌, ◌++◌, length, count_by, slice_get, get_or, length-append, All, refl, sym, ap, subst, inl, inr, arith, eq-eqb, ne_eqb, zero-add, add-zero}
+use Rattle.std.proofs.Common.{◌≡◌, ◌≢◌, ◌<◌, ◌^◌, ◌≤◌, ◌==◌, ◌∙◌, ℕ, zero, suc, ◌+◌, Bool, false, true≢false, if◌then◌else◌, List, [], ◌∷◌, ◌++◌, length, count_by, slice_get, get_or, length-append, All, refl, sym, ap, subst, inl, inr, arith, eq-eqb, ne_eqb, zero-add, add-zero}
 use Rattle.std.proofs.lemmas.Bool.{or_parts, cases_eq}
+use Rattle.std.proofs.lemmas.List.Elements.{All-nil, All-cons}
 use Rattle.std.proofs.lemmas.List.Sums.{sum_by-append, sum_by-cons}
 use Rattle.canvas_semantics.specs.Tree.{Task, task, IsFull, count_task, ends_in_group, last_in_group}
 use Rattle.canvas_semantics.specs.Bounds.{some_nests_group, some_ends_in_group}
 use Rattle.canvas_semantics.specs.Line.{Line, stop, step, group_end, chord_end, Lines, no_lines, and_line, elements_of, members_of, tree_of, count_line, count_lines, line_groups, lines_groups, number_line, number_lines, ends_of, all_ends_of, GroupEntry, group_entries, all_group_entries, entry_at, entry_members, members, in_group}
 use Rattle.canvas_rewrite.specs.Planned.{IsPlan, Apart, times}
+use Rattle.canvas_semantics.proofs.Numbered.{count_elements}
 
 -- ---- members that end in a task
 
@@ -270,3 +272,11 @@ one_end (step t (group_end g ms)) h f = absurd (true≢false h)
 one_end (step t (chord_end g ms b)) h f = one_end b h f.1.0.1
 one_end (group_end g ms) h f = absurd (true≢false h)
 one_end (chord_end g ms b) h f = one_end b h f.0.1
+
+-- each group and chord has fewer members than 32 bits can count
+pub entries_few : (l : Line) → IsPlan l → All (λ t. length t.members < 2 ^ 32) (group_entries l)
+entries_few l plan = few (group_entries l) (short l)
+  where
+    few : (ts : List GroupEntry) → Short (count_line l) ts → All (λ t. length t.members < 2 ^ 32) ts
+    few [] s = All-nil (λ t. length t.members < 2 ^ 32)
+    few (t ∷ ts) s = All-cons (λ t. length t.members < 2 ^ 32) t ts (let h = s.0 in omega (arith, plan.runnable.few_tasks, count_elements l)) (few ts s.1)

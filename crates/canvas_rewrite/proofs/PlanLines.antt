@@ -6,8 +6,6 @@ use Rattle.canvas_semantics.specs.Line.{Line, stop, step, group_end, chord_end, 
 use Rattle.canvas_semantics.specs.PlacedLine.{PTask, PPlace, PLine, p_stop, p_group_end, p_chord_end, strip, strip_all, strip_task}
 use Rattle.canvas_rewrite.specs.FrozenView.{steps_onto, lines_of, p_steps, p_lines_of, p_task_view, p_line_view, p_end_view, task_in, line_in, end_in, PCarried, carried_step, p_end_step, p_line_step, p_task_step, place_step}
 use Rattle.canvas_semantics.specs.steps.Numbering.{lines_ends, lines_group_entries}
-use Rattle.canvas_rewrite.specs.steps.GroupData.{group_entry}
-use Rattle.canvas_rewrite.specs.declared.groups.Group.{Group}
 use Rattle.canvas_rewrite.specs.declared.frozen.Carried as block
 use Rattle.canvas_rewrite.specs.declared.frozen.FrozenTask as ftask
 use Rattle.std.specs.declared.alloc.AllocError.{AllocError}
@@ -150,40 +148,34 @@ ends_never (t ∷ ts) h = absurd (never_from t ts (h ∙ ap (slice_get (t ∷ ts
 
 -- ---- a group pushed, with the groups in its members
 
-module _ (gs : List Group) (g : Group) where
-  entries_pushed : map group_entry (gs ++ g ∷ []) ≡ map group_entry gs ++ group_entry g ∷ []
-  entries_pushed = map-append group_entry gs (g ∷ [])
-
-same_entry : (g : Group) (b : Bool) (ms : List ℕ) → g.chord ≡ b → g.members.items ≡ ms → group_entry g ≡ record { chord = b; members = ms }
-same_entry g b ms hb hm = ap (λ x. record { chord = x; members = g.members.items }) hb ∙ ap (λ x. record { chord = b; members = x }) hm
+same_entry : (g : GroupEntry) (b : Bool) (ms : List ℕ) → g.chord ≡ b → g.members ≡ ms → g ≡ record { chord = b; members = ms }
+same_entry g b ms hb hm = λ i. record { chord = hb i; members = hm i }
 
 pub chord_pushed : (t : FrozenEnd) (b : FrozenLine) → (out-FrozenEnd t).body ≡ Some b
-    → (g : Group) (gs gs1 gs2 : List Group) (xs ys : List FrozenLine)
-    → g.chord ≡ true → g.members.items ≡ lines_ends (map line_in xs) → xs ≡ (out-FrozenEnd t).members
-    → gs1 ≡ gs ++ g ∷ [] → map group_entry gs2 ≡ map group_entry gs1 ++ lines_group_entries (map line_in ys) → ys ≡ (out-FrozenEnd t).members
-    → map group_entry gs2 ++ group_entries (line_in b) ≡ map group_entry gs ++ group_entries (end_in t)
+    → (g : GroupEntry) (gs gs1 gs2 : List GroupEntry) (xs ys : List FrozenLine)
+    → g.chord ≡ true → g.members ≡ lines_ends (map line_in xs) → xs ≡ (out-FrozenEnd t).members
+    → gs1 ≡ gs ++ g ∷ [] → gs2 ≡ gs1 ++ lines_group_entries (map line_in ys) → ys ≡ (out-FrozenEnd t).members
+    → gs2 ++ group_entries (line_in b) ≡ gs ++ group_entries (end_in t)
 chord_pushed t b e g gs gs1 gs2 xs ys hc hm hx h1 h2 hy =
     let ls : List Line = map line_in (out-FrozenEnd t).members in
     let own : GroupEntry = record { chord = true; members = lines_ends ls } in
-    let first : group_entry g ≡ own = same_entry g true (lines_ends ls) hc (hm ∙ ap (λ zs. lines_ends (map line_in zs)) hx) in
-    let before : map group_entry gs1 ≡ map group_entry gs ++ own ∷ [] = ap (map group_entry) h1 ∙ entries_pushed gs g
-    ∙ ap (λ x. map group_entry gs ++ x ∷ []) first in
-    let all : map group_entry gs2 ≡ (map group_entry gs ++ own ∷ []) ++ lines_group_entries ls = h2 ∙ ap (λ x. x ++ lines_group_entries (map line_in ys)) before
-    ∙ ap (λ zs. (map group_entry gs ++ own ∷ []) ++ lines_group_entries (map line_in zs)) hy in
-    ap (λ x. x ++ group_entries (line_in b)) (all ∙ append_assoc (map group_entry gs) (own ∷ []) (lines_group_entries ls))
-    ∙ append_assoc (map group_entry gs) (own ∷ lines_group_entries ls) (group_entries (line_in b))
-    ∙ ap (λ x. map group_entry gs ++ x) (sym (entries_chord t b e))
+    let first : g ≡ own = same_entry g true (lines_ends ls) hc (hm ∙ ap (λ zs. lines_ends (map line_in zs)) hx) in
+    let before : gs1 ≡ gs ++ own ∷ [] = h1 ∙ ap (λ x. gs ++ x ∷ []) first in
+    let all : gs2 ≡ (gs ++ own ∷ []) ++ lines_group_entries ls = h2 ∙ ap (λ x. x ++ lines_group_entries (map line_in ys)) before
+    ∙ ap (λ zs. (gs ++ own ∷ []) ++ lines_group_entries (map line_in zs)) hy in
+    ap (λ x. x ++ group_entries (line_in b)) (all ∙ append_assoc gs (own ∷ []) (lines_group_entries ls))
+    ∙ append_assoc gs (own ∷ lines_group_entries ls) (group_entries (line_in b))
+    ∙ ap (λ x. gs ++ x) (sym (entries_chord t b e))
 
 pub group_pushed : (t : FrozenEnd) → (out-FrozenEnd t).body ≡ None
-    → (g : Group) (gs gs1 : List Group) (xs ys : List FrozenLine)
-    → g.chord ≡ false → g.members.items ≡ lines_ends (map line_in xs) → xs ≡ (out-FrozenEnd t).members
+    → (g : GroupEntry) (gs gs1 : List GroupEntry) (xs ys : List FrozenLine)
+    → g.chord ≡ false → g.members ≡ lines_ends (map line_in xs) → xs ≡ (out-FrozenEnd t).members
     → gs1 ≡ gs ++ g ∷ [] → ys ≡ (out-FrozenEnd t).members
-    → map group_entry gs1 ++ lines_group_entries (map line_in ys) ≡ map group_entry gs ++ group_entries (end_in t)
+    → gs1 ++ lines_group_entries (map line_in ys) ≡ gs ++ group_entries (end_in t)
 group_pushed t e g gs gs1 xs ys hc hm hx h1 hy =
     let ls : List Line = map line_in (out-FrozenEnd t).members in
     let own : GroupEntry = record { chord = false; members = lines_ends ls } in
-    let first : group_entry g ≡ own = same_entry g false (lines_ends ls) hc (hm ∙ ap (λ zs. lines_ends (map line_in zs)) hx) in
-    let before : map group_entry gs1 ≡ map group_entry gs ++ own ∷ [] = ap (map group_entry) h1 ∙ entries_pushed gs g
-    ∙ ap (λ x. map group_entry gs ++ x ∷ []) first in
-    ap (λ x. x ++ lines_group_entries (map line_in ys)) before ∙ ap (λ zs. (map group_entry gs ++ own ∷ []) ++ lines_group_entries (map line_in zs)) hy
-    ∙ append_assoc (map group_entry gs) (own ∷ []) (lines_group_entries ls) ∙ ap (λ x. map group_entry gs ++ x) (sym (entries_group t e))
+    let first : g ≡ own = same_entry g false (lines_ends ls) hc (hm ∙ ap (λ zs. lines_ends (map line_in zs)) hx) in
+    let before : gs1 ≡ gs ++ own ∷ [] = h1 ∙ ap (λ x. gs ++ x ∷ []) first in
+    ap (λ x. x ++ lines_group_entries (map line_in ys)) before ∙ ap (λ zs. (gs ++ own ∷ []) ++ lines_group_entries (map line_in zs)) hy
+    ∙ append_assoc gs (own ∷ []) (lines_group_entries ls) ∙ ap (λ x. gs ++ x) (sym (entries_group t e))

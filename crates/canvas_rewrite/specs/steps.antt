@@ -1,4 +1,3 @@
-pub mod GroupData
 pub mod Kept
 pub mod Growing
 pub mod Weight

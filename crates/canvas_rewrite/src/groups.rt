@@ -3,18 +3,11 @@ ghost use Rattle.std.specs.Prelude.{◌≡◌, ◌++◌, IfOk, map, OnOk};
 ghost use Rattle.canvas_semantics.specs.Line.{ends_of, group_entries, in_group};
 ghost use Rattle.canvas_rewrite.specs.FrozenView.{line_in, end_in};
 ghost use Rattle.canvas_semantics.specs.steps.Numbering.{lines_ends, lines_group_entries};
-ghost use Rattle.canvas_rewrite.specs.steps.GroupData.{group_entry};
 
+use crate::group_list::GroupEntry;
 use crate::{FrozenEnd, FrozenLine};
-use canvas_task::TaskNo;
+use canvas_task::{ListOf, TaskNo};
 use std::alloc::{AllocError, Global};
-
-/// A group or chord, with the last tasks of its members.
-#[derive(Drop)]
-pub(crate) struct Group {
-    pub(crate) chord: bool,
-    pub(crate) members: Vec<TaskNo>,
-}
 
 /// The tasks that the line ends in, put behind the others.
 #[cycle(ends)]
@@ -71,10 +64,10 @@ pub fn is_in_group(line: &FrozenLine) -> bool
 pub(crate) fn push_groups(
     alloc: Global,
     line: &FrozenLine,
-    groups: &mut Vec<Group>,
+    groups: &mut Vec<GroupEntry>,
 ) -> Result<(), AllocError>
-    ensures { OnOk result (map group_entry groups.new.items
-        ≡ map group_entry groups.old.items ++ group_entries (line_in line.now)) }
+    ensures { OnOk result (groups.new.items
+        ≡ groups.old.items ++ group_entries (line_in line.now)) }
 {
     match &line.tail {
         Some(end) => push_group(alloc, end, groups),
@@ -83,25 +76,29 @@ pub(crate) fn push_groups(
 }
 
 #[cycle(groups)]
-fn push_group(alloc: Global, end: &FrozenEnd, groups: &mut Vec<Group>) -> Result<(), AllocError>
-    ensures { OnOk result (map group_entry groups.new.items
-        ≡ map group_entry groups.old.items ++ group_entries (end_in end.now)) }
+fn push_group(
+    alloc: Global,
+    end: &FrozenEnd,
+    groups: &mut Vec<GroupEntry>,
+) -> Result<(), AllocError>
+    ensures { OnOk result (groups.new.items
+        ≡ groups.old.items ++ group_entries (end_in end.now)) }
 {
     let mut members = Vec::new(alloc);
     push_all(end.members.get(), &mut members)?;
     match &end.body {
         Some(body) => {
-            groups.push(Group {
+            groups.push(GroupEntry {
                 chord: true,
-                members,
+                members: ListOf::of(members),
             })?;
             push_all_groups(alloc, end.members.get(), groups)?;
             push_groups(alloc, body, groups)
         }
         None => {
-            groups.push(Group {
+            groups.push(GroupEntry {
                 chord: false,
-                members,
+                members: ListOf::of(members),
             })?;
             push_all_groups(alloc, end.members.get(), groups)
         }
@@ -112,10 +109,10 @@ fn push_group(alloc: Global, end: &FrozenEnd, groups: &mut Vec<Group>) -> Result
 fn push_all_groups(
     alloc: Global,
     lines: &[FrozenLine],
-    groups: &mut Vec<Group>,
+    groups: &mut Vec<GroupEntry>,
 ) -> Result<(), AllocError>
-    ensures { OnOk result (map group_entry groups.new.items
-        ≡ map group_entry groups.old.items ++ lines_group_entries (map line_in lines.now)) }
+    ensures { OnOk result (groups.new.items
+        ≡ groups.old.items ++ lines_group_entries (map line_in lines.now)) }
 {
     for line in lines {
         push_groups(alloc, line, groups)?;

@@ -4,6 +4,7 @@
 mod as_node;
 mod ends;
 mod frozen;
+mod group_list;
 mod groups;
 mod growing;
 mod line;
@@ -21,6 +22,7 @@ pub mod parts {
 pub use as_node::node_of;
 pub use ends::Ends;
 pub use frozen::{Carried, FrozenEnd, FrozenLine, FrozenTask, Place};
+pub use group_list::Groups;
 pub use line::{Line, LineEnd};
 pub use moving::into_normal;
 pub use plan::{Plan, freeze};

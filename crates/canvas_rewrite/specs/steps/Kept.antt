@@ -1,21 +1,19 @@
 -- What a plan keeps beside its line: all of it is said by the line.
-use Rattle.std.specs.Prelude.{◌≡◌, ℕ, Bool, List, map}
-use Rattle.canvas_semantics.specs.Line.{count_line, line_groups, group_entries, ends_of, in_group, names}
+use Rattle.std.specs.Prelude.{◌≡◌, ℕ, Bool, List}
+use Rattle.canvas_semantics.specs.Line.{GroupEntry, count_line, line_groups, group_entries, ends_of, in_group, names}
 use Rattle.canvas_semantics.specs.PlacedLine.{bare}
 use Rattle.canvas_rewrite.specs.FrozenView.{p_line_view, line_in}
 use Rattle.canvas_rewrite.specs.Planned.{IsPlan}
-use Rattle.canvas_rewrite.specs.steps.GroupData.{group_entry}
 use Rattle.canvas_rewrite.specs.declared.frozen.FrozenLine.{FrozenLine}
-use Rattle.canvas_rewrite.specs.declared.groups.Group.{Group}
 
 pub record Keeps (line : FrozenLine) (tasks count : ℕ) (its_names : List (List ℕ))
-    (groups : List Group) (ends : List ℕ) (list : Bool) : Type 0 where
+    (groups : List GroupEntry) (ends : List ℕ) (list : Bool) : Type 0 where
   -- nothing in the line has a place
   pub placeless : p_line_view line ≡ bare (line_in line)
   pub planned : IsPlan (line_in line)
   pub counted : tasks ≡ count_line (line_in line)
   pub groups_counted : count ≡ line_groups (line_in line)
   pub named : its_names ≡ names (line_in line)
-  pub grouped : map group_entry groups ≡ group_entries (line_in line)
+  pub grouped : groups ≡ group_entries (line_in line)
   pub ended : ends ≡ ends_of (line_in line)
   pub listed : list ≡ in_group (line_in line)

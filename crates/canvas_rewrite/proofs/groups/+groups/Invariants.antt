@@ -1,10 +1,9 @@
 use Rattle.std.proofs.Common.{◌≡◌, ◌++◌, map, drop}
 use Rattle.canvas_rewrite.specs.FrozenView.{line_in}
 use Rattle.canvas_semantics.specs.steps.Numbering.{lines_group_entries}
-use Rattle.canvas_rewrite.specs.steps.GroupData.{group_entry}
 use Rattle.canvas_rewrite.proofs.groups.+groups.Given as goal
 
 abbrev pub invariant-push_all_groups-loop-line : goal.invariant-push_all_groups-loop-line
 invariant-push_all_groups-loop-line l =
-    map group_entry l.groups.items ++ lines_group_entries (map line_in (drop l.line-index l.lines)) ≡ map group_entry l.fn.groups.items
+    l.groups.items ++ lines_group_entries (map line_in (drop l.line-index l.lines)) ≡ l.fn.groups.items
     ++ lines_group_entries (map line_in l.lines)

@@ -1,16 +1,14 @@
-use Rattle.std.proofs.Common.{◌≡◌, ◌∙◌, ◌≤◌, All, ap, sym, subst}
-use Rattle.canvas_semantics.specs.Line.{count_line, members, entry_members}
+use Rattle.std.proofs.Common.{◌≡◌, ◌∙◌, ◌≤◌, All, rules, subst}
+use Rattle.canvas_semantics.specs.Line.{count_line, members, entry_members, entry_at, group_entries}
+use Rattle.canvas_rewrite.specs.Planned.{IsPlan, Apart}
 use Rattle.canvas_rewrite.proofs.Members.{plan_apart, all_known}
 use Rattle.canvas_rewrite.proofs.plan.Plan.members.Goals as goal
 
-pub returns-in-Some-clause-apart : goal.returns-in-Some-clause-apart
-returns-in-Some-clause-apart c = plan_apart c.args.self.now c.group_entry.ensures.planned
+pub returns-clause-apart : goal.returns-clause-apart
+returns-clause-apart c = subst Apart c.self.view_is (plan_apart _ c.self.invariant.planned)
 
-pub returns-in-None-clause-apart : goal.returns-in-None-clause-apart
-returns-in-None-clause-apart c = plan_apart c.args.self.now c.group_entry.ensures.planned
-
-pub returns-in-Some-clause-known : goal.returns-in-Some-clause-known
-returns-in-Some-clause-known c =
-    let same : members c.args.self.now c.args.group ≡ c.deref.result.now =
-    ap entry_members (sym c.in-Some.ensures.value) ∙ sym c.deref.ensures.value in
-    subst (λ ks. All (λ k. k ≤ count_line c.args.self.now) ks) same (all_known c.args.self.now c.group_entry.ensures.planned c.args.group)
+pub returns-clause-known : goal.returns-clause-known
+returns-clause-known c =
+    let same : members c.args.self.now c.args.group ≡ c.members.result.now = search rules in
+    subst (λ ks. All (λ k. k ≤ count_line c.args.self.now) ks) same
+    (all_known c.args.self.now (subst IsPlan c.self.view_is c.self.invariant.planned) c.args.group)
