@@ -12,14 +12,14 @@ use canvas_sig::TaskSig;
 use canvas_task::{GroupNo, ListOf, TaskNo, copy_args, copy_kwargs};
 use std::alloc::{AllocError, Global};
 
-fn task_no(number: u32) -> TaskNo
+pub(crate) fn task_no(number: u32) -> TaskNo
     requires { 1 ≤ number }
     ensures { result ≡ number }
 {
     TaskNo::new(number).unwrap()
 }
 
-fn group_no(number: u32) -> GroupNo
+pub(crate) fn group_no(number: u32) -> GroupNo
     requires { 1 ≤ number }
     ensures { result ≡ number }
 {
