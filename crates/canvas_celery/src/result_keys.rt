@@ -1,6 +1,6 @@
 //! The keys that results are stored under.
 
-ghost use Rattle.std.specs.Prelude.{◌≡◌, ◌≢◌, ◌++◌, OnOk, IfOk};
+ghost use Rattle.std.specs.Prelude.{◌≡◌, ◌++◌, OnOk, IfOk};
 ghost use Rattle.canvas_semantics.specs.Line.{count_line};
 ghost use Rattle.canvas_celery.specs.Keys.{key_line, result_keys};
 
@@ -18,17 +18,6 @@ fn push_task(out: &mut Vec<u8>, run: &Run, prefix: &str, task: TaskNo) -> Result
     push_key(out, prefix.as_bytes(), b"celery-task-meta-", &id, b"\n")
 }
 
-fn push_numbered(out: &mut Vec<u8>, run: &Run, prefix: &str, number: u32) -> Result<(), AllocError>
-    requires { number ≢ 0 }
-    ensures { OnOk result (out.new.items
-        ≡ out.old.items ++ key_line run.now.digits prefix.now number) }
-{
-    match TaskNo::new(number) {
-        Some(task) => push_task(out, run, prefix, task),
-        None => Ok(()),
-    }
-}
-
 /// The keys of all tasks in the order of their numbers, each with a line feed.
 pub fn keys(alloc: Global, plan: &Plan, run: &Run, prefix: &str) -> Result<Vec<u8>, Memory>
     ensures { IfOk result (λ text. text.items
@@ -36,7 +25,7 @@ pub fn keys(alloc: Global, plan: &Plan, run: &Run, prefix: &str) -> Result<Vec<u
 {
     let mut out = Vec::new(alloc);
     for index in 0..plan.tasks() {
-        push_numbered(&mut out, run, prefix, index + 1)?;
+        push_task(&mut out, run, prefix, plan.task_at(index))?;
     }
     Ok(out)
 }

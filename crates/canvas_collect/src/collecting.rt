@@ -1,6 +1,6 @@
 //! The rows of a report from the results that Celery stored.
 
-ghost use Rattle.std.specs.Prelude.{◌≡◌, ◌≤◌, [], length, IfOk, IfErr, OnOk};
+ghost use Rattle.std.specs.Prelude.{◌≡◌, [], length, IfOk, IfErr, OnOk};
 ghost use Rattle.canvas_semantics.specs.Line.{count_line};
 ghost use Rattle.canvas_collect.specs.Pieces.{lines_in};
 ghost use Rattle.canvas_collect.specs.Stored.{AllSaid};
@@ -53,27 +53,6 @@ fn push_row(
     }
 }
 
-/// The row of the task of a number.
-fn push_numbered(
-    alloc: Global,
-    plan: &Plan,
-    run: &Run,
-    number: u32,
-    line: &[u8],
-    rows: &mut Vec<Option<Outcome>>,
-) -> Result<(), CollectFault>
-    requires { 1 ≤ number }
-    ensures gains { OnOk result
-        (Gains run.now.digits (count_line plan.now) number line.now rows.old.items rows.new.items) }
-    ensures refused { IfErr result
-        (λ e. RowFault run.now.digits (count_line plan.now) number line.now e) }
-{
-    match TaskNo::new(number) {
-        Some(task) => push_row(alloc, plan, run, task, line, rows),
-        None => Err(CollectFault::BadCount),
-    }
-}
-
 /// The rows of all tasks, put into an empty list, from a text with a line for each.
 fn push_rows(
     alloc: Global,
@@ -93,7 +72,7 @@ fn push_rows(
     let mut rest = text;
     for index in 0..plan.tasks() {
         let (line, after) = split_line(rest);
-        push_numbered(alloc, plan, run, index + 1, line, rows)?;
+        push_row(alloc, plan, run, plan.task_at(index), line, rows)?;
         rest = after;
     }
     Ok(())

@@ -36,29 +36,13 @@ fn push_task(
     }
 }
 
-fn push_number(
-    text: &mut String,
-    plan: &Plan,
-    number: u32,
-    rows: &[Option<Outcome>],
-) -> Result<(), Memory>
-    ensures { OnOk result (string_bytes text.new
-        ≡ string_bytes text.old
-        ++ line_if number (name_of plan.now number) (rows_from 1 rows.now)) }
-{
-    match TaskNo::new(number) {
-        Some(task) => push_task(text, plan, task, rows),
-        None => Ok(()),
-    }
-}
-
 /// The lines of all tasks, in the order of their numbers.
 fn push_rows(text: &mut String, plan: &Plan, rows: &[Option<Outcome>]) -> Result<(), Memory>
     ensures { OnOk result (string_bytes text.new
         ≡ string_bytes text.old ++ lines (named (tree_of plan.now)) (rows_from 1 rows.now)) }
 {
     for index in 0..plan.tasks() {
-        push_number(text, plan, index + 1, rows)?;
+        push_task(text, plan, plan.task_at(index), rows)?;
     }
     Ok(())
 }

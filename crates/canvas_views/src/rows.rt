@@ -119,9 +119,7 @@ fn push_end(
 pub fn rows_text(alloc: Global, plan: &Plan, report: &Report) -> Result<String, Memory> {
     let mut text = String::new(alloc);
     for index in 0..plan.tasks() {
-        if let Some(task) = TaskNo::new(index.saturating_add(1)) {
-            push_row(&mut text, alloc, plan, report, task)?;
-        }
+        push_row(&mut text, alloc, plan, report, plan.task_at(index))?;
     }
     push_end(&mut text, alloc, plan, report)?;
     Ok(text)

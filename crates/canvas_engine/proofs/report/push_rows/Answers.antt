@@ -1,14 +1,17 @@
 use Rattle.std.proofs.Common.{◌++◌, ◌∙◌, ap, sym, arith, string_bytes}
-use Rattle.canvas_semantics.specs.Line.{names}
+use Rattle.canvas_semantics.specs.Line.{names, name_of}
 use Rattle.canvas_semantics.specs.Report.{lines}
 use Rattle.canvas_semantics.specs.States.{rows_from}
 use Rattle.canvas_rewrite.proofs.NamesInOrder.{plan_names}
+use Rattle.canvas_engine.specs.steps.ReportRows.{line_if}
 use Rattle.canvas_engine.proofs.ReportLines.{one_more, all_written, names_long}
 use Rattle.canvas_engine.proofs.report.push_rows.Goals as goal
 
 pub loop-index-preserved : goal.loop-index-preserved
 loop-index-preserved c =
-    one_more (names c.args.plan.now) c.loop-index.index (rows_from 1 c.args.rows.now) _ _ _ c.in_ok-push_number.ensures c.loop-index.invariant
+    let written = c.in_ok-push_task.ensures
+    ∙ ap (λ k. string_bytes c.loop-index.text ++ line_if k (name_of c.args.plan.now k) (rows_from 1 c.args.rows.now)) c.task_at.ensures in
+    one_more (names c.args.plan.now) c.loop-index.index (rows_from 1 c.args.rows.now) _ _ _ written c.loop-index.invariant
 
 pub returns : goal.returns
 returns c =
