@@ -7,6 +7,8 @@ use Rattle.crossbeam_queue.specs.Fifo.{PopsMany}
 use Rattle.crossbeam_queue.proofs.Lists.{set_again, set_here}
 use Rattle.canvas_history.specs.History.{calls, live_from, split_off, Allowed}
 use Rattle.canvas_history.proofs.Histories.{In}
+use Rattle.canvas_broker.specs.declared.item.Item.{Item}
+use Rattle.canvas_broker.specs.declared.item.Item.TheVariants.{Queued, Mark}
 use Rattle.canvas_broker.specs.Broker.{take, QueueEntry, answer, next, May, IsLegal, queue_of, takes_of}
 use Rattle.canvas_broker.specs.steps.Rule.{envelopes, IsReady, IsKept, Kept, knowledge, view_of, TakesAll}
 use Rattle.canvas_broker.specs.declared.view.View.{View}
@@ -39,20 +41,20 @@ module _ {E : Type 0} where
   below (x ∷ xs) (suc i) v e = let r = below xs i v e in omega (arith, r)
 
   -- one take, by a pass that may have seen less than all
-  one_take : (x : E) (items : List (Option E)) (views : List (View E)) (log : List (QueueEntry E)) (owner : ℕ → ℕ)
-      (kept : IsKept (Some x ∷ items) views log owner) (pass : ℕ) (v : View E)
+  one_take : (x : E) (items : List (Item E)) (views : List (View E)) (log : List (QueueEntry E)) (owner : ℕ → ℕ)
+      (kept : IsKept (Queued x ∷ items) views log owner) (pass : ℕ) (v : View E)
       → get_elem? views pass ≡ some v → IsReady v
       → IsKept items (set views pass
       (view_of (knowledge v.knows.name (live_from v.knows.mine v.knows.owed) (log ++ tail_of v (calls v.knows.name take (Some x))) []) []))
       (log ++ tail_of v (calls v.knows.name take (Some x))) owner
   one_take x items views log owner kept pass v at ready =
-      let o = orderly (Some x ∷ items) views log owner kept pass v at ready in
+      let o = orderly (Queued x ∷ items) views log owner kept pass v at ready in
       let e : QueueEntry E = calls v.knows.name take (Some x) in
       let front : queue_of (log ++ v.knows.owed) ≡ x ∷ envelopes items = queue_after v log o ∙ kept.replays in
       let may : Allowed [] answer next May (log ++ v.knows.owed) e =
-      (caller_lives (Some x ∷ items) views log owner kept pass v at ready, sym (ap (λ s. answer s take) front), tt) in
+      (caller_lives (Queued x ∷ items) views log owner kept pass v at ready, sym (ap (λ s. answer s take) front), tt) in
       let names : split_off (log ++ tail_of v e) ≡ split_off log = named_after v log e o ∙ append-nil (split_off log) in
-      adds (Some x ∷ items) views log owner kept pass v at ready items e owner [] refl may
+      adds (Queued x ∷ items) views log owner kept pass v at ready items e owner [] refl may
       (ap (λ s. next s take) kept.replays)
       (calls_stay v.knows.name take (Some x))
       (λ c i. subst (λ l. c ≤ length l) (sym names) (kept.numbered c (subst (λ l. In c l) names i)))
@@ -60,16 +62,16 @@ module _ {E : Type 0} where
       (λ c i. refl)
 
   -- further takes, by a pass that has seen all
-  more_takes : (xs items : List (Option E)) (views : List (View E)) (log : List (QueueEntry E)) (owner : ℕ → ℕ) (pass p : ℕ) (cs : List ℕ)
+  more_takes : (xs items : List (Item E)) (views : List (View E)) (log : List (QueueEntry E)) (owner : ℕ → ℕ) (pass p : ℕ) (cs : List ℕ)
       → IsKept (xs ++ items) views log owner → get_elem? views pass ≡ some (view_of (knowledge p cs log []) []) → In p cs
       → (log' : List (QueueEntry E)) × (log' ≡ log ++ takes_of p (envelopes xs))
       × IsKept items (set views pass (view_of (knowledge p cs log' []) [])) log' owner
   more_takes [] items views log owner pass p cs kept at here =
       (log, sym (append-nil log), subst (λ l. IsKept items l log owner) (sym (set_again views pass (view_of (knowledge p cs log []) []) at)) kept)
-  more_takes (None ∷ xs) items views log owner pass p cs kept at here =
+  more_takes (Mark ∷ xs) items views log owner pass p cs kept at here =
       more_takes xs items views log owner pass p cs
       (record { legal = kept.legal; replays = kept.replays; numbered = kept.numbered; fits = kept.fits; begun = kept.begun; opened = kept.opened }) at here
-  more_takes (Some x ∷ xs) items views log owner pass p cs kept at here =
+  more_takes (Queued x ∷ xs) items views log owner pass p cs kept at here =
       let e : QueueEntry E = calls p take (Some x) in
       let v : View E = view_of (knowledge p cs log []) [] in
       let log₁ : List (QueueEntry E) = log ++ e ∷ [] in
@@ -81,18 +83,18 @@ module _ {E : Type 0} where
         subst (λ l. IsKept items l rest.0 owner) (set_twice views pass w (view_of (knowledge p cs rest.0 []) [])) rest.2,
       )
 
-  many : (xs items : List (Option E)) (views : List (View E)) (log : List (QueueEntry E)) (owner : ℕ → ℕ) (pass : ℕ) (v : View E)
+  many : (xs items : List (Item E)) (views : List (View E)) (log : List (QueueEntry E)) (owner : ℕ → ℕ) (pass : ℕ) (v : View E)
       → IsKept (xs ++ items) views log owner → get_elem? views pass ≡ some v → IsReady v
       → (w : View E) × Kept items (set views pass w) × TakesAll v xs w
   many [] items views log owner pass v kept at ready =
       (v, (log, owner, subst (λ l. IsKept items l log owner) (sym (set_again views pass v at)) kept), (refl, ready))
-  many (None ∷ xs) items views log owner pass v kept at ready =
+  many (Mark ∷ xs) items views log owner pass v kept at ready =
       many xs items views log owner pass v
       (record { legal = kept.legal; replays = kept.replays; numbered = kept.numbered; fits = kept.fits; begun = kept.begun; opened = kept.opened }) at ready
-  many (Some x ∷ xs) items views log owner pass v kept at ready =
+  many (Queued x ∷ xs) items views log owner pass v kept at ready =
       let p = v.knows.name in let cs = live_from v.knows.mine v.knows.owed in
       let e : QueueEntry E = calls p take (Some x) in
-      let o = orderly (Some x ∷ (xs ++ items)) views log owner kept pass v at ready in
+      let o = orderly (Queued x ∷ (xs ++ items)) views log owner kept pass v at ready in
       let log₁ : List (QueueEntry E) = log ++ tail_of v e in
       let w₁ : View E = view_of (knowledge p cs log₁ []) [] in
       let here : In p cs = orderly_left p v.knows.mine v.knows.owed o in
@@ -113,9 +115,9 @@ module _ {E : Type 0} where
             (
               f.0,
               whole ∙ (ap (λ l. l ++ (v.knows.owed ++ es)) f.1 ∙ append_assoc v.knows.seen f.0 (v.knows.owed ++ es)),
-              unseen (Some x ∷ (xs ++ items)) views log owner kept pass v at ready,
+              unseen (Queued x ∷ (xs ++ items)) views log owner kept pass v at ready,
               rest.2.legal,
-              sole_rest v.knows f.0 o ready.0 (unseen (Some x ∷ (xs ++ items)) views log owner kept pass v at ready) (subst (λ l. IsLegal l) f.1 kept.legal),
+              sole_rest v.knows f.0 o ready.0 (unseen (Queued x ∷ (xs ++ items)) views log owner kept pass v at ready) (subst (λ l. IsLegal l) f.1 kept.legal),
             ),
           ),
           (here, refl),

@@ -5,6 +5,8 @@ use Rattle.canvas_history.specs.Callers.{told, Adds}
 use Rattle.canvas_history.specs.History.{calls, made_by}
 use Rattle.canvas_history.proofs.CallerLaws.{AllBy, adds_all}
 use Rattle.canvas_history.proofs.Histories.{In, legal_right}
+use Rattle.canvas_broker.specs.declared.item.Item.{Item}
+use Rattle.canvas_broker.specs.declared.item.Item.TheVariants.{Queued, Mark}
 use Rattle.canvas_broker.specs.Broker.{take, QueueEntry, answer, next, May, IsLegal, queue_of, takes_of}
 use Rattle.canvas_broker.specs.Passes.{CallerAt, Stands, CouldStand, Took, Empties}
 use Rattle.canvas_broker.specs.steps.Rule.{Splits, child, knowledge, view_of}
@@ -21,7 +23,7 @@ module _ {E : Type 0} where
 
 module _ {E : Type 0} where
   -- the new caller that a split has made, by the view of its pass
-  pub child_is : (v w : View E) → (s : Splits v None w) → child w ≡ view_of (knowledge s.0 (s.0 ∷ []) w.knows.seen []) []
+  pub child_is : (v w : View E) → (s : Splits v Mark w) → child w ≡ view_of (knowledge s.0 (s.0 ∷ []) w.knows.seen []) []
   child_is v w s = ap (λ qs. view_of (knowledge (slice_index_or qs 0 0) qs w.knows.seen []) []) s.1
 
 module _ {I E : Type 0} where

@@ -1,16 +1,18 @@
 //! A batch of takes.
 ghost use Rattle.std.specs.Prelude.{◌≡◌, [], ◌∷◌, MatchOption};
 
+use crate::item::Item;
 use arrayvec::ArrayVec;
 use canvas_message::Letter;
 use std::marker::Model;
+use std::mem;
 
 /// What a batch took, in order, as far as it isn't read yet. What isn't read when it is dropped is
 /// gone: its takes stand in the history.
 #[derive(Drop)]
 pub struct Batch {
     // the marks of splits among them
-    pub(crate) items: ArrayVec<Option<Letter>, 4>,
+    pub(crate) items: ArrayVec<Item<Letter>, 4>,
     // how many of these are read
     pub(crate) read: usize,
 }
@@ -32,10 +34,10 @@ impl Batch {
             (λ e. self.old ≡ e ∷ self.new) }
     {
         while self.read < self.items.len() {
-            let item = self.items[self.read].take();
+            let item = mem::replace(&mut self.items[self.read], Item::Mark);
             self.read += 1;
-            if item.is_some() {
-                return item;
+            if let Item::Queued(envelope) = item {
+                return Some(envelope);
             }
         }
         None

@@ -4,6 +4,7 @@
 
 mod batch;
 mod broker;
+mod item;
 mod pass;
 mod plain;
 mod refused;

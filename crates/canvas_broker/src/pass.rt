@@ -1,18 +1,18 @@
 //! A pass: one caller's handle on the broker.
+use crate::item::Item;
 use crate::rule::OneHistory;
 use crate::view::View;
 use canvas_message::Letter;
 use crossbeam_queue::{RuledSegQueue, SegPass};
 use std::marker::Model;
 
-// A None among the items is the mark of a split.
-pub(crate) type Queue = RuledSegQueue<Option<Letter>, View<Letter>, OneHistory>;
+pub(crate) type Queue = RuledSegQueue<Item<Letter>, View<Letter>, OneHistory>;
 
 /// What one caller has seen of the broker's history, and its own calls in it. It has no bytes. A
 /// pass that is dropped, and not joined, stays a live caller of the history.
 #[derive(Drop)]
 pub struct BrokerPass {
-    pub(crate) pass: SegPass<Option<Letter>, View<Letter>>,
+    pub(crate) pass: SegPass<Item<Letter>, View<Letter>>,
 }
 
 impl Model for BrokerPass {

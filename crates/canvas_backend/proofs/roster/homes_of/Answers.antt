@@ -7,10 +7,10 @@ use Rattle.canvas_backend.proofs.roster.homes_of.Goals as goal
 
 pub loop-index-preserved : goal.loop-index-preserved
 loop-index-preserved c =
-    let moved : c.move_in.new.homes.items ≡ moved_in c.loop-index.homes.items c.in-Some.group (members (roster_of c.args.plan.now) c.in-Some.group) =
+    let moved : c.move_in.new.homes.items ≡ moved_in c.loop-index.homes.items c.group_at-group.result (members (roster_of c.args.plan.now) c.group_at-group.result) =
     search rules in
     subst (HomesTo (roster_of c.args.plan.now) _) (sym moved)
-    (line_more c.args.plan.now c.loop-index.index c.in-Some.group c.loop-index.homes.items c.tasks.ensures.planned (search rules) c.loop-index.invariant)
+    (line_more c.args.plan.now c.loop-index.index c.group_at-group.result c.loop-index.homes.items c.tasks.ensures.planned (search rules) c.loop-index.invariant)
 
 pub returns : goal.returns
 returns c =

@@ -6,6 +6,8 @@ use Rattle.arrayvec.specs.ArrayVec.{array_vec_len}
 use Rattle.crossbeam_queue.specs.SegBatches.{Holds}
 use Rattle.canvas_message.specs.declared.envelope.Envelope.{Envelope}
 use Rattle.canvas_history.proofs.Histories.{In}
+use Rattle.canvas_broker.specs.declared.item.Item.{Item}
+use Rattle.canvas_broker.specs.declared.item.Item.TheVariants.{Queued, Mark}
 use Rattle.canvas_broker.specs.Passes.{Pass, pass_of, Took}
 use Rattle.canvas_broker.specs.declared.view.View.{View}
 use Rattle.canvas_broker.specs.steps.Rule.{envelopes, IsReady, Kept, newcomer}
@@ -25,9 +27,9 @@ next_of-requires g c =
     let i = c.loop-self.invariant in
     let some : 0 < c.loop-self.batch.len = search rules in
     let f = first_rest i.2.0 (subst (λ n. 0 < n) (sym i.2.1.8) some) in
-    let h = subst (λ (l : List (Option Envelope)). Holds c.args.self.now c.loop-self.pass-inside.pass c.loop-self.batch l) f.2 i.2.1 in
+    let h = subst (λ (l : List (Item Envelope)). Holds c.args.self.now c.loop-self.pass-inside.pass c.loop-self.batch l) f.2 i.2.1 in
     subst (λ (q : SegId Global). IsSegPassOf q c.loop-self.pass-inside.pass × Admits (Kept {E = Envelope}) newcomer
-    × ((x : Option Envelope) × (xs : List (Option Envelope)) × Holds q c.loop-self.pass-inside.pass c.loop-self.batch (x ∷ xs)))
+    × ((x : Item Envelope) × (xs : List (Item Envelope)) × Holds q c.loop-self.pass-inside.pass c.loop-self.batch (x ∷ xs)))
     (sym c.self.view_is) (i.0, admits, (f.0, f.1, h))
 
 pub loop-self-smaller : goal.loop-self-smaller
@@ -35,7 +37,7 @@ loop-self-smaller g c =
     let i = c.loop-self.invariant in
     let some : 0 < c.loop-self.batch.len = search rules in
     let f = first_rest i.2.0 (subst (λ n. 0 < n) (sym i.2.1.8) some) in
-    let h = subst (λ (x : SegId Global × List (Option Envelope)). Holds x.0 c.loop-self.pass-inside.pass c.loop-self.batch x.1)
+    let h = subst (λ (x : SegId Global × List (Item Envelope)). Holds x.0 c.loop-self.pass-inside.pass c.loop-self.batch x.1)
     (λ j. (sym c.self.view_is j, f.2 j)) i.2.1 in
     let old : suc (length f.1) ≡ c.loop-self.batch.len = h.8 in
     let new : length f.1 ≡ c.next_of.new.batch.len = (c.next_of.ensures.item f.0 f.1 h).1.8 in
@@ -46,16 +48,16 @@ loop-self-preserved g c =
     let i = c.loop-self.invariant in
     let some : 0 < c.loop-self.batch.len = search rules in
     let f = first_rest i.2.0 (subst (λ n. 0 < n) (sym i.2.1.8) some) in
-    let h = subst (λ (x : SegId Global × List (Option Envelope)). Holds x.0 c.loop-self.pass-inside.pass c.loop-self.batch x.1)
+    let h = subst (λ (x : SegId Global × List (Item Envelope)). Holds x.0 c.loop-self.pass-inside.pass c.loop-self.batch x.1)
     (λ j. (sym c.self.view_is j, f.2 j)) i.2.1 in
     let next = c.next_of.ensures.item f.0 f.1 h in
     let old : suc (length f.1) ≡ c.loop-self.batch.len = h.8 in
     let new : length f.1 ≡ c.next_of.new.batch.len = next.1.8 in
     let bound : array_vec_len c.loop-self.items + c.loop-self.batch.len ≤ 4 = i.1 in
     let one : array_vec_len c.push.new.self ≡ array_vec_len c.loop-self.items + 1 = c.push.ensures.len in
-    let was : List (Option Envelope) = c.loop-self.items.items in
+    let was : List (Item Envelope) = c.loop-self.items.items in
     let all : was ++ i.2.0 ≡ c.push.new.self.items ++ f.1 =
-    ap (λ l. was ++ l) f.2 ∙ (ap (λ (x : Option Envelope). was ++ x ∷ f.1) (sym next.0)
+    ap (λ l. was ++ l) f.2 ∙ (ap (λ (x : Item Envelope). was ++ x ∷ f.1) (sym next.0)
     ∙ (sym (append_assoc was (c.next_of.result ∷ []) f.1) ∙ ap (λ l. l ++ f.1) (sym c.push.ensures.items))) in
     let same = c.next_of.ensures.queue in
     let web : c.next_of.new.pass.web ≡ c.loop-self.pass-inside.pass.web = same.0.0.0 ∙ (ap (λ (q : SegId Global). q.web) c.self.view_is ∙ sym i.0.0.0) in
@@ -65,7 +67,7 @@ loop-self-preserved g c =
       (
         f.1,
         subst (λ (q : SegId Global). Holds q c.next_of.new.pass c.next_of.new.batch f.1) c.self.view_is next.1,
-        subst (λ (x : List (Option Envelope) × Pass Envelope). Took c.args.pass.now (envelopes x.0) x.1)
+        subst (λ (x : List (Item Envelope) × Pass Envelope). Took c.args.pass.now (envelopes x.0) x.1)
             (λ j. (all j, pass_of (record { web = sym web j; heap = sym heap j }) (sym same.2 j).knows)) i.2.2,
       ),
       subst (λ (v : View Envelope). IsReady v) (sym same.2) i.3,
@@ -81,4 +83,4 @@ returns-clause-own g c =
     let all : c.loop-self.items.items ++ i.2.0 ≡ c.loop-self.items.items = ap (λ l. c.loop-self.items.items ++ l) (no_rest i.2.0 (i.2.1.8 ∙ none))
     ∙ append-nil c.loop-self.items.items in
     took_own c.args.pass.now (envelopes c.loop-self.items.items) new here
-    (subst (λ (x : List (Option Envelope)). Took c.args.pass.now (envelopes x) new) all i.2.2)
+    (subst (λ (x : List (Item Envelope)). Took c.args.pass.now (envelopes x) new) all i.2.2)

@@ -3,6 +3,8 @@ use Rattle.arrayvec.specs.ArrayVec.{array_vec_len}
 use Rattle.crossbeam_queue.specs.SegTies.{IsSegPassOf}
 use Rattle.crossbeam_queue.specs.SegBatches.{Holds}
 use Rattle.canvas_message.specs.declared.envelope.Envelope.{Envelope}
+use Rattle.canvas_broker.specs.declared.item.Item.{Item}
+use Rattle.canvas_broker.specs.declared.item.Item.TheVariants.{Queued, Mark}
 use Rattle.canvas_broker.specs.Passes.{Took, pass_of}
 use Rattle.canvas_broker.specs.steps.Rule.{envelopes, IsReady}
 use Rattle.canvas_broker.proofs.broker.Broker.take_batch.Given as goal
@@ -10,7 +12,7 @@ use Rattle.canvas_broker.proofs.broker.Broker.take_batch.Given as goal
 abbrev pub invariant-loop-self : goal.invariant-loop-self
 invariant-loop-self g l =
     IsSegPassOf l.self l.pass-inside.pass × (array_vec_len l.items + l.batch.len ≤ 4)
-    × ((rest : List (Option Envelope))
+    × ((rest : List (Item Envelope))
     × Holds l.self l.pass-inside.pass l.batch rest
     × Took l.fn.pass (envelopes (l.items.items ++ rest))
     (pass_of (record { web = l.pass-inside.pass.web; heap = l.pass-inside.pass.heap }) l.pass-inside.pass.me.view.client.knows))

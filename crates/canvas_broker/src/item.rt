@@ -1,0 +1,23 @@
+//! What stands in the queue.
+ghost use Rattle.std.specs.Prelude.{◌≡◌};
+ghost use Rattle.canvas_broker.specs.declared.item.Item.TheVariants.{Queued};
+
+/// An envelope, or the mark of a split, which takes pass over.
+#[derive(Drop)]
+pub enum Item<T> {
+    Queued(T),
+    Mark,
+}
+
+impl<T> Item<T> {
+    /// The envelope of an item that has one.
+    pub(crate) fn into_envelope(self) -> T
+        requires { (e : T) × (self ≡ Queued e) }
+        ensures { self ≡ Queued result }
+    {
+        match self {
+            Item::Queued(envelope) => envelope,
+            Item::Mark => unreachable!(),
+        }
+    }
+}
