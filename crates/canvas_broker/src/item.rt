@@ -3,9 +3,10 @@ ghost use Rattle.std.specs.Prelude.{◌≡◌};
 ghost use Rattle.canvas_broker.specs.declared.item.Item.TheVariants.{Queued};
 
 /// An envelope, or the mark of a split, which takes pass over.
-#[derive(Drop)]
+#[derive(Default, Drop)]
 pub enum Item<T> {
     Queued(T),
+    #[default]
     Mark,
 }
 

@@ -21,9 +21,9 @@ returns-in-None-pop_as-clause-empty g c =
     subst (λ (p : Pass Envelope). Empties p) c.pass.view_is
     (subst (λ (x : View Envelope). Empties x.knows) c.loop.invariant.3 (empties v.knows (c.in-None-pop_as.ensures.rule.1 refl)))
 
-pub returns-in-Some-Some-clause-own : goal.returns-in-Some-Some-clause-own
-returns-in-Some-Some-clause-own g c =
-    let e : Envelope = c.in-Some-Some.envelope in
+pub returns-in-Some-Queued-clause-own : goal.returns-in-Some-Queued-clause-own
+returns-in-Some-Queued-clause-own g c =
+    let e : Envelope = c.in-Some-Queued.envelope in
     let new : Knowledge Envelope = c.pop_as.new.pass.me.view.client.knows in
     let stands : Stands c.loop.pass-inside.pass.me.view.client.knows (calls c.loop.pass-inside.pass.me.view.client.knows.name take (Some e)) new =
     search rules in
