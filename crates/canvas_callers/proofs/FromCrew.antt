@@ -10,12 +10,12 @@ use Rattle.canvas_effects.specs.Effects.{first_messages}
 use Rattle.canvas_message.specs.Among.{In}
 use Rattle.canvas_message.specs.declared.envelope.Envelope.{Envelope}
 use Rattle.canvas_backend.specs.Backend.{Log, no_results, reply_of, next_of, May}
-use Rattle.canvas_backend.specs.Roster.{Roster, roster_of, members}
+use Rattle.canvas_backend.specs.Roster.{Roster, roster_of}
 use Rattle.canvas_broker.specs.Broker as broker
 use Rattle.canvas_history.specs.Answers.{answered_calls, entries_by, splits_of, joins_of}
 use Rattle.canvas_runs.specs.Core.{IsCoreRun, taking, left_after, Between}
 use Rattle.canvas_runs.specs.Following.{Pass, Seat, Serves, IsDone}
-use Rattle.canvas_runs.specs.Calls.{QueueAnswered, TableAnswered, CoreCall, makes, FollowsScripts, scripts_all, scripts_publish, AskedAndAnswered, broker_calls, core_calls, backend_calls, ReadsMembers, takes_one}
+use Rattle.canvas_runs.specs.Calls.{QueueAnswered, TableAnswered, CoreCall, makes, FollowsScripts, scripts_all, scripts_publish, AskedAndAnswered, broker_calls, core_calls, backend_calls, takes_one}
 use Rattle.canvas_runs.specs.Lists.{by, total}
 use Rattle.canvas_runs.specs.Logs.{queue_calls}
 use Rattle.canvas_runs.specs.Run.{Run, Closed, published_all}
@@ -191,7 +191,6 @@ module _ (behaviour : Behaviour) (l : Line) where
       table_legal = seats.legal;
       core = core;
       is_core = λ p. (for_all (λ p x. IsCoreRun (worker_of behaviour P) taking x) r.works.is_core (λ p e f. f.mate.followed.is_core) (λ p e n. tt) p);
-      reads = λ p. for_all (λ p x. ReadsMembers (members P) x) r.works.reads (λ p e f. f.mate.followed.reads) (λ p e n. tt) p;
       opening = r.opening;
       unsent = r.unsent;
       closing = r.closing;

@@ -3,20 +3,20 @@ use Rattle.std.proofs.Common.{◌≡◌, ◌∙◌, suc, List, [], ◌∷◌, le
 use Rattle.canvas_task.specs.Apply.{Behaviour}
 use Rattle.canvas_semantics.specs.Line.{Line}
 use Rattle.canvas_backend.specs.Roster.{Roster, roster_of}
-use Rattle.canvas_runs.specs.Following.{Pass, Seat, Working, begins, Followed}
-use Rattle.canvas_callers.specs.Crew.{Mate, SideBySide, MatesOf, Ran, Sides, SplitPasses, JoinPasses, SplitSeats, JoinSeats, first_pass, first_seat}
+use Rattle.canvas_runs.specs.Following.{Pass, Seat, starting}
+use Rattle.canvas_callers.specs.Crew.{PlanWorker, HasFollowed, Mate, SideBySide, MatesOf, Ran, Sides, SplitPasses, JoinPasses, SplitSeats, JoinSeats, first_pass, first_seat}
 
 module _ (behaviour : Behaviour) (plan : Roster) where
-  pub mates_of : (starts : List (Pass × Seat)) (ends : List Working) → length starts ≡ length ends → SideBySide behaviour plan starts ends
+  pub mates_of : (starts : List (Pass × Seat)) (ends : List PlanWorker) → length starts ≡ length ends → SideBySide behaviour plan starts ends
       → MatesOf behaviour plan starts ends
   mates_of [] [] n f = ([], refl, refl)
   mates_of [] (w ∷ ws) n f = absurd (omega (arith, n))
   mates_of (x ∷ xs) [] n f = absurd (omega (arith, n))
   mates_of (x ∷ xs) (w ∷ ws) n f =
-      let here : Followed behaviour plan (begins x.0 x.1) w = f 0 x w (omega arith) in
+      let here : HasFollowed behaviour plan (starting x.0 x.1) w = f 0 x w (omega arith) in
       let rest = mates_of xs ws (omega (arith, n)) (λ i d e b. f (suc i) d e (omega (arith, b))) in
       let m : Mate behaviour plan = record { pass = x.0; seat = x.1; ended = w; followed = here } in
-      (m ∷ rest.0, ap (λ (l : List (Pass × Seat)). x ∷ l) rest.1, ap (λ (l : List Working). w ∷ l) rest.2)
+      (m ∷ rest.0, ap (λ (l : List (Pass × Seat)). x ∷ l) rest.1, ap (λ (l : List PlanWorker). w ∷ l) rest.2)
 
 map_twice : {A B C : Type 0} (f : A → B) (g : B → C) (xs : List A) → map g (map f xs) ≡ map (λ x. g (f x)) xs
 map_twice f g [] = refl
@@ -34,10 +34,10 @@ module _ (behaviour : Behaviour) (l : Line) (pass : Pass) (seat : Seat) (s : Sid
       sym (map_twice (λ (m : Mate behaviour P). (m.pass, m.seat)) (λ (x : Pass × Seat). x.0) ms.0) ∙ ap (λ xs. map (λ (x : Pass × Seat). x.0) xs) ms.1 in
       let seats : map (λ (m : Mate behaviour P). m.seat) ms.0 ≡ map (λ (x : Pass × Seat). x.1) s.starts =
       sym (map_twice (λ (m : Mate behaviour P). (m.pass, m.seat)) (λ (x : Pass × Seat). x.1) ms.0) ∙ ap (λ xs. map (λ (x : Pass × Seat). x.1) xs) ms.1 in
-      let passes_left : map (λ (m : Mate behaviour P). m.ended.pass) ms.0 ≡ map (λ (w : Working). w.pass) s.ends =
-      sym (map_twice (λ (m : Mate behaviour P). m.ended) (λ (w : Working). w.pass) ms.0) ∙ ap (λ ws. map (λ (w : Working). w.pass) ws) ms.2 in
-      let seats_left : map (λ (m : Mate behaviour P). m.ended.seat) ms.0 ≡ map (λ (w : Working). w.seat) s.ends =
-      sym (map_twice (λ (m : Mate behaviour P). m.ended) (λ (w : Working). w.seat) ms.0) ∙ ap (λ ws. map (λ (w : Working). w.seat) ws) ms.2 in (
+      let passes_left : map (λ (m : Mate behaviour P). m.ended.pass) ms.0 ≡ map (λ (w : PlanWorker). w.pass) s.ends =
+      sym (map_twice (λ (m : Mate behaviour P). m.ended) (λ (w : PlanWorker). w.pass) ms.0) ∙ ap (λ ws. map (λ (w : PlanWorker). w.pass) ws) ms.2 in
+      let seats_left : map (λ (m : Mate behaviour P). m.ended.seat) ms.0 ≡ map (λ (w : PlanWorker). w.seat) s.ends =
+      sym (map_twice (λ (m : Mate behaviour P). m.ended) (λ (w : PlanWorker). w.seat) ms.0) ∙ ap (λ ws. map (λ (w : PlanWorker). w.seat) ws) ms.2 in (
         record {
           mates = ms.0;
           opening = s.opening;

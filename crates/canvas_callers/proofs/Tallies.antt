@@ -1,24 +1,22 @@
 -- The counts of the workers are those of their entries.
-use Rattle.std.proofs.Common.{◌≡◌, ℕ, suc, ◌+◌, List, [], ◌∷◌, ◌++◌, length, map, Some, refl, sym, ap, subst, ◌∙◌, arith}
+use Rattle.std.proofs.Common.{◌≡◌, ℕ, suc, ◌+◌, List, [], ◌∷◌, length, map, Some, refl, sym, ap, subst, ◌∙◌, arith}
 use Rattle.canvas_task.specs.Apply.{Behaviour}
 use Rattle.canvas_semantics.specs.Line.{Line}
 use Rattle.canvas_rewrite.specs.Planned.{IsPlan}
 use Rattle.canvas_message.specs.Content.{Content}
 use Rattle.canvas_message.specs.declared.envelope.Envelope.{Envelope}
-use Rattle.canvas_backend.specs.declared.stored.Stored.TheVariants.{First, Again}
 use Rattle.canvas_backend.specs.Roster.{Roster, roster_of}
 use Rattle.canvas_broker.specs.Broker.{QueueEntry as Entries}
 use Rattle.canvas_history.specs.Answers.{answered_calls}
 use Rattle.canvas_backend.specs.Backend as results
 use Rattle.canvas_broker.specs.Broker as broker
 use Rattle.canvas_runs.specs.Book.{book_on}
-use Rattle.canvas_runs.specs.Core.{Ask, Reply, take, publish, store, part, read, taken, sent, stored, counted, found}
-use Rattle.canvas_runs.specs.Following.{Pass, Seat, IsDone, Followed, Working, begins}
-use Rattle.canvas_runs.specs.Calls.{QueueAnswered, TableAnswered, broker_call, backend_call, broker_calls, backend_calls, takes_one}
+use Rattle.canvas_runs.specs.Following.{Pass, Seat, IsDone, starting}
+use Rattle.canvas_runs.specs.Calls.{QueueAnswered, TableAnswered, broker_calls, backend_calls, takes_one}
 use Rattle.canvas_runs.specs.Lists.{Each, by, seconds, total}
 use Rattle.canvas_runs.specs.Logs.{queue_calls}
 use Rattle.canvas_runs.specs.Run.{Run, IsRead, published_all}
-use Rattle.canvas_runs.specs.Tally.{Tally, CountsMore, CountsOf, EachCounts, often, is_taken, is_published, is_first, is_part, is_lost, is_dropped, publishing, storing, returning}
+use Rattle.canvas_runs.specs.Tally.{Tally, CountsMore, CountsOf, EachCounts, is_lost, publishing, storing, returning, dropping}
 use Rattle.canvas_runs.specs.Worker.{opened, sealed}
 use Rattle.canvas_runs.proofs.Accords.{FollowsCore, follows_all, follows_publish, follows_list_take, follows_core_take, follows_again, accords_run}
 use Rattle.canvas_runs.proofs.CallsOf.{own_calls, queue_own}
@@ -27,76 +25,23 @@ use Rattle.canvas_runs.proofs.FirstLaw.{inner_run}
 use Rattle.canvas_runs.proofs.Histories.{GoodPublish, GoodTake, follows_takes, queue_takes, each_by, each_seconds}
 use Rattle.canvas_runs.proofs.Right.{IsRunSealed, publishes_right}
 use Rattle.canvas_runs.proofs.Sums.{total-append}
-use Rattle.canvas_runs.proofs.Words.{each_left, each_right}
+use Rattle.canvas_runs.proofs.Words.{each_right}
 use Rattle.canvas_callers.specs.Accounts.{HasQueueCalls, HasTableCalls}
-use Rattle.canvas_callers.specs.Crew.{Mate, Ran, EndedWell, OwnTally}
+use Rattle.canvas_callers.specs.Crew.{PlanWorker, HasFollowed, Mate, Ran, EndedWell, OwnTally}
 use Rattle.canvas_callers.proofs.FromCrew.{the_run, the_queue, sent as opening_calls, passes, seats, queue_zero, table_zero}
 
--- ---- core runs and their calls
+-- ---- calls
 
 module _ (behaviour : Behaviour) (plan : Roster) where
-  taken_step : (a : Ask Envelope) (r : Reply Envelope) → total takes_one (broker_call a r) ≡ is_taken a r
-  taken_step take (taken (Some e)) = omega arith
-  taken_step (publish e) sent = omega arith
-  taken_step a r = refl
-
-  published_step : (a : Ask Envelope) (r : Reply Envelope) → total publishing (broker_call a r) ≡ is_published a r
-  published_step take (taken (Some e)) = omega arith
-  published_step (publish e) sent = omega arith
-  published_step a r = refl
-
-  first_step : (a : Ask Envelope) (r : Reply Envelope) → total storing (backend_call a r) ≡ is_first a r
-  first_step (store t o) (stored First) = omega arith
-  first_step (store t o) (stored Again) = omega arith
-  first_step (part g t) (counted n) = omega arith
-  first_step (read g i) (found t x) = omega arith
-  first_step a r = refl
-
-  part_step : (a : Ask Envelope) (r : Reply Envelope) → total returning (backend_call a r) ≡ is_part a r
-  part_step (store t o) (stored b) = omega arith
-  part_step (part g t) (counted n) = omega arith
-  part_step (read g i) (found t x) = omega arith
-  part_step a r = refl
-
-  sum_calls : {A : Type 0} (call : Ask Envelope → Reply Envelope → List A) (w : A → ℕ) (u : Ask Envelope → Reply Envelope → ℕ)
-      (all : List (Ask Envelope × Reply Envelope) → List A)
-      → all [] ≡ [] → ((x : Ask Envelope × Reply Envelope) (xs : List (Ask Envelope × Reply Envelope))
-      → all (x ∷ xs) ≡ call x.0 x.1 ++ all xs)
-      → ((a : Ask Envelope) (r : Reply Envelope) → total w (call a r) ≡ u a r) → (xs : List (Ask Envelope × Reply Envelope))
-      → total w (all xs) ≡ often u xs
-  sum_calls call w u all none more step [] = ap (λ l. total w l) none
-  sum_calls call w u all none more step (x ∷ xs) =
-      let k = sum_calls call w u all none more step xs in
-      let parts = ap (λ l. total w l) (more x xs) ∙ total-append w (call x.0 x.1) (all xs) in
-      omega (arith, k, parts, step x.0 x.1)
-
-  calls_taken : (xs : List (Ask Envelope × Reply Envelope)) → total takes_one (broker_calls xs) ≡ often is_taken xs
-  calls_taken = sum_calls (broker_call) takes_one is_taken (broker_calls) refl (λ x xs. refl) taken_step
-
-  calls_published : (xs : List (Ask Envelope × Reply Envelope)) → total publishing (broker_calls xs) ≡ often is_published xs
-  calls_published = sum_calls (broker_call) publishing is_published (broker_calls) refl (λ x xs. refl) published_step
-
-  calls_first : (xs : List (Ask Envelope × Reply Envelope)) → total storing (backend_calls xs) ≡ often is_first xs
-  calls_first = sum_calls (backend_call) storing is_first (backend_calls) refl (λ x xs. refl) first_step
-
-  calls_parts : (xs : List (Ask Envelope × Reply Envelope)) → total returning (backend_calls xs) ≡ often is_part xs
-  calls_parts = sum_calls (backend_call) returning is_part (backend_calls) refl (λ x xs. refl) part_step
-
   -- envelopes that open are not dropped
   Opens : Envelope → Type 0
   Opens e = is_lost (opened (book_on plan) e) ≡ 0
 
-  kept_step : (a : Ask Envelope) (r : Reply Envelope) → Each (GoodTake Opens) (broker_call a r) → is_dropped plan a r ≡ 0
+  none_dropped : (cs : List (QueueAnswered Envelope)) → Each (GoodTake Opens) cs → total (dropping plan) cs ≡ 0
   unfolding Opens
-  kept_step take (taken (Some e)) g = g.0
-  kept_step a r g = refl
-
-  none_dropped : (xs : List (Ask Envelope × Reply Envelope)) → Each (GoodTake Opens) (broker_calls xs) → often (is_dropped plan) xs ≡ 0
   none_dropped [] g = refl
-  none_dropped (x ∷ xs) g =
-      let here = kept_step x.0 x.1 (each_left (GoodTake Opens) (broker_call x.0 x.1) (broker_calls xs) g) in
-      let rest = none_dropped xs (each_right (GoodTake Opens) (broker_call x.0 x.1) (broker_calls xs) g) in
-      omega (arith, here, rest)
+  none_dropped ((broker.take, Some e) ∷ cs) g = let more = none_dropped cs g.1 in let here = g.0 in omega (arith, here, more)
+  none_dropped (c ∷ cs) g = let more = none_dropped cs g.1 in omega (arith, more)
 
 follows_publishing : {ts : List Envelope} {cs ls : List (QueueAnswered Envelope)} → FollowsCore ts cs ls → total publishing ls ≡ total publishing cs
 follows_publishing follows_all = refl
@@ -130,16 +75,17 @@ only_reads (c ∷ cs) i = absurd i.0
 
 -- ---- a worker that was followed from its beginning
 
-module _ (behaviour : Behaviour) (plan : Roster) (p : Pass) (s : Seat) (w : Working) (f : Followed behaviour plan (begins p s) w)
+module _ (behaviour : Behaviour) (plan : Roster) (p : Pass) (s : Seat) (w : PlanWorker) (f : HasFollowed behaviour plan (starting p s) w)
     (none_held : w.held ≡ []) where
-  made_taken : total takes_one f.made ≡ often is_taken f.run
-  made_taken = let none : length w.held ≡ 0 = ap length none_held in omega (arith, f.used, none, calls_taken behaviour plan f.run)
+  made_taken : total takes_one f.made ≡ total takes_one (broker_calls f.run)
+  made_taken = let none : length w.held ≡ 0 = ap length none_held in omega (arith, f.used, none)
 
-  made_published : total publishing f.made ≡ often is_published f.run
-  made_published = follows_publishing (accords_run f.run f.follows) ∙ calls_published behaviour plan f.run
+  made_published : total publishing f.made ≡ total publishing (broker_calls f.run)
+  made_published = follows_publishing (accords_run f.run f.follows)
 
-  taken_kept : (P : Envelope → Type 0) → ((e : Envelope) → P e → Opens behaviour plan e) → Each (GoodTake P) f.made → often (is_dropped plan) f.run ≡ 0
-  taken_kept P opens g = none_dropped behaviour plan f.run (weaker (broker_calls f.run) (follows_takes P (accords_run f.run f.follows) tt g))
+  taken_kept : (P : Envelope → Type 0) → ((e : Envelope) → P e → Opens behaviour plan e) → Each (GoodTake P) f.made
+      → total (dropping plan) (broker_calls f.run) ≡ 0
+  taken_kept P opens g = none_dropped behaviour plan (broker_calls f.run) (weaker (broker_calls f.run) (follows_takes P (accords_run f.run f.follows) tt g))
     where
       weaker : (cs : List (QueueAnswered Envelope)) → Each (GoodTake P) cs → Each (GoodTake (Opens behaviour plan)) cs
       weaker [] g = tt
@@ -182,15 +128,15 @@ module _ (behaviour : Behaviour) (l : Line) (plan : IsPlan l) (pass : Pass) (sea
       let c = f.counts in
       let lost = taken_kept behaviour P m.pass m.seat m.ended f d.0.1 Good good_opens (subst (λ cs. Each (GoodTake Good) cs) calls (good_by k)) in (
         (
-          same_count (often is_taken f.run) (total takes_one (by k (queue_calls queue))) m.ended.tally.taken c.taken
+          same_count (total takes_one (broker_calls f.run)) (total takes_one (by k (queue_calls queue))) m.ended.tally.taken c.taken
               (sym (ap (λ x. total takes_one x) calls ∙ made_taken behaviour P m.pass m.seat m.ended f d.0.1)),
-          same_count (often is_published f.run) (total publishing (by k (queue_calls queue))) m.ended.tally.published c.published
+          same_count (total publishing (broker_calls f.run)) (total publishing (by k (queue_calls queue))) m.ended.tally.published c.published
               (sym (ap (λ x. total publishing x) calls ∙ made_published behaviour P m.pass m.seat m.ended f d.0.1)),
-          same_count (often is_first f.run) (total storing (by k (answered_calls seat.seen))) m.ended.tally.first c.first
-              (sym (ap (λ x. total storing x) replies ∙ calls_first behaviour P f.run)),
-          same_count (often is_part f.run) (total returning (by k (answered_calls seat.seen))) m.ended.tally.parts c.parts
-              (sym (ap (λ x. total returning x) replies ∙ calls_parts behaviour P f.run)),
-          no_count (often (is_dropped P) f.run) m.ended.tally.dropped c.dropped lost,
+          same_count (total storing (backend_calls f.run)) (total storing (by k (answered_calls seat.seen))) m.ended.tally.first c.first
+              (sym (ap (λ x. total storing x) replies)),
+          same_count (total returning (backend_calls f.run)) (total returning (by k (answered_calls seat.seen))) m.ended.tally.parts c.parts
+              (sym (ap (λ x. total returning x) replies)),
+          no_count (total (dropping P) (broker_calls f.run)) m.ended.tally.dropped c.dropped lost,
         ),
         mates_count (suc k) ms h.1 t.1 d.1,
       )
@@ -208,30 +154,30 @@ module _ (behaviour : Behaviour) (l : Line) (plan : IsPlan l) (pass : Pass) (sea
       let none = taking_none (map sealed r.opening) in
       let sends = publishing_all (map sealed r.opening) ∙ mapped r.opening in
       let reads = only_reads r.closing r.closes in
-      let all_taken : total takes_one (by 0 (queue_calls queue)) ≡ often is_taken f.run =
+      let all_taken : total takes_one (by 0 (queue_calls queue)) ≡ total takes_one (broker_calls f.run) =
       ap (λ x. total takes_one x) calls
       ∙ (total-append takes_one before f.made ∙ (let k = made_taken behaviour P r.pass_joined r.seat_joined r.own f w.own.1 in omega (arith, k, none))) in
-      let all_sent : total publishing (by 0 (queue_calls queue)) ≡ length r.opening + often is_published f.run =
+      let all_sent : total publishing (by 0 (queue_calls queue)) ≡ length r.opening + total publishing (broker_calls f.run) =
       ap (λ x. total publishing x) calls
       ∙ (total-append publishing before f.made ∙ (let k = made_published behaviour P r.pass_joined r.seat_joined r.own f w.own.1 in
       omega (arith, k, sends))) in
-      let all_first : total storing (by 0 (answered_calls seat.seen)) ≡ often is_first f.run =
+      let all_first : total storing (by 0 (answered_calls seat.seen)) ≡ total storing (backend_calls f.run) =
       ap (λ x. total storing x) replies
-      ∙ (total-append storing (backend_calls f.run) r.closing ∙ (let k = calls_first behaviour P f.run in let z = reads.0 in omega (arith, k, z))) in
-      let all_parts : total returning (by 0 (answered_calls seat.seen)) ≡ often is_part f.run =
+      ∙ (total-append storing (backend_calls f.run) r.closing ∙ (let z = reads.0 in omega (arith, z))) in
+      let all_parts : total returning (by 0 (answered_calls seat.seen)) ≡ total returning (backend_calls f.run) =
       ap (λ x. total returning x) replies
-      ∙ (total-append returning (backend_calls f.run) r.closing ∙ (let k = calls_parts behaviour P f.run in let z = reads.1 in omega (arith, k, z))) in
+      ∙ (total-append returning (backend_calls f.run) r.closing ∙ (let z = reads.1 in omega (arith, z))) in
       let lost = taken_kept behaviour P r.pass_joined r.seat_joined r.own f w.own.1 Good good_opens
       (each_right (GoodTake Good) before f.made (subst (λ cs. Each (GoodTake Good) cs) calls (good_by 0))) in (
         subst (λ n. CountsMore 0 (total takes_one (by 0 (queue_calls queue))) n) (sym o.0)
-            (same_count (often is_taken f.run) (total takes_one (by 0 (queue_calls queue))) r.own.tally.taken c.taken (sym all_taken)),
-        same_count (length r.opening + often is_published f.run) (total publishing (by 0 (queue_calls queue))) t.published
-            (more_sent (length r.opening) (often is_published f.run) r.own.tally.published t.published c.published o.1) (sym all_sent),
+            (same_count (total takes_one (broker_calls f.run)) (total takes_one (by 0 (queue_calls queue))) r.own.tally.taken c.taken (sym all_taken)),
+        same_count (length r.opening + total publishing (broker_calls f.run)) (total publishing (by 0 (queue_calls queue))) t.published
+            (more_sent (length r.opening) (total publishing (broker_calls f.run)) r.own.tally.published t.published c.published o.1) (sym all_sent),
         subst (λ n. CountsMore 0 (total storing (by 0 (answered_calls seat.seen))) n) (sym o.2)
-            (same_count (often is_first f.run) (total storing (by 0 (answered_calls seat.seen))) r.own.tally.first c.first (sym all_first)),
+            (same_count (total storing (backend_calls f.run)) (total storing (by 0 (answered_calls seat.seen))) r.own.tally.first c.first (sym all_first)),
         subst (λ n. CountsMore 0 (total returning (by 0 (answered_calls seat.seen))) n) (sym o.3)
-            (same_count (often is_part f.run) (total returning (by 0 (answered_calls seat.seen))) r.own.tally.parts c.parts (sym all_parts)),
-        o.4 ∙ no_count (often (is_dropped P) f.run) r.own.tally.dropped c.dropped lost,
+            (same_count (total returning (backend_calls f.run)) (total returning (by 0 (answered_calls seat.seen))) r.own.tally.parts c.parts (sym all_parts)),
+        o.4 ∙ no_count (total (dropping P) (broker_calls f.run)) r.own.tally.dropped c.dropped lost,
       )
 
   pub tallies_count : (own : Tally) → OwnTally behaviour l pass seat r own

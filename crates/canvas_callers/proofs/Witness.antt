@@ -6,11 +6,12 @@ use Rattle.crossbeam_queue.specs.SegTies.{SegId}
 use Rattle.atomic_table.specs.Seated.{TableId}
 use Rattle.canvas_history.specs.History.{split, join}
 use Rattle.canvas_backend.specs.Roster.{Roster, roster_of}
-use Rattle.canvas_runs.specs.Core.{take, rest, taken, rested, over}
-use Rattle.canvas_runs.specs.Following.{Pass, Seat, Working}
+use Rattle.canvas_broker.specs.Broker.{take}
+use Rattle.canvas_runs.specs.Core.{to_queue, rest, from_queue, rested, over}
+use Rattle.canvas_runs.specs.Following.{Pass, Seat}
 use Rattle.canvas_runs.specs.Calls.{scripts_all}
 use Rattle.canvas_runs.specs.Tally.{none_yet}
-use Rattle.canvas_callers.specs.Crew.{Mate, Ran, EndedWell}
+use Rattle.canvas_callers.specs.Crew.{PlanWorker, Mate, Ran, EndedWell}
 use Rattle.canvas_callers.specs.Rows.{empty_group}
 
 module _ (behaviour : Behaviour) (b : SegId Global) (d : TableId) where
@@ -23,7 +24,7 @@ module _ (behaviour : Behaviour) (b : SegId Global) (d : TableId) where
   abbrev seat_one : Seat
   seat_one = record { of = d; name = 1; seen = split 0 1 ∷ [] }
 
-  abbrev one_left : Working
+  abbrev one_left : PlanWorker
   one_left = record { pass = pass_one; seat = seat_one; left = over; current = None; held = []; tally = none_yet }
 
   one : Mate behaviour P
@@ -32,9 +33,8 @@ module _ (behaviour : Behaviour) (b : SegId Global) (d : TableId) where
     seat = seat_one;
     ended = one_left;
     followed = record {
-      run = (take, taken None) ∷ (rest, rested false) ∷ [];
+      run = (to_queue take, from_queue None) ∷ (rest, rested false) ∷ [];
       is_core = (refl, (tt, tt), (refl, (tt, tt), tt));
-      reads = (tt, (tt, tt));
       counts = record { taken = refl; published = refl; first = refl; parts = refl; dropped = refl };
       leaves = refl;
       made = [];
@@ -57,7 +57,7 @@ module _ (behaviour : Behaviour) (b : SegId Global) (d : TableId) where
   abbrev seat_joined : Seat
   seat_joined = record { of = d; name = 0; seen = split 0 1 ∷ join 0 1 ∷ [] }
 
-  abbrev own : Working
+  abbrev own : PlanWorker
   own = record { pass = joined; seat = seat_joined; left = over; current = None; held = []; tally = none_yet }
 
   abbrev ran : Ran behaviour empty_group joined seat_joined
@@ -89,9 +89,8 @@ module _ (behaviour : Behaviour) (b : SegId Global) (d : TableId) where
     );
     own = own;
     works = record {
-      run = (take, taken None) ∷ (rest, rested false) ∷ [];
+      run = (to_queue take, from_queue None) ∷ (rest, rested false) ∷ [];
       is_core = (refl, (tt, tt), (refl, (tt, tt), tt));
-      reads = (tt, (tt, tt));
       counts = record { taken = refl; published = refl; first = refl; parts = refl; dropped = refl };
       leaves = refl;
       made = [];

@@ -16,7 +16,9 @@ use Rattle.canvas_backend.specs.Plain.{held}
 use Rattle.canvas_backend.specs.Roster.{Roster, roster_of}
 use Rattle.canvas_runs.specs.Book.{book_of}
 use Rattle.canvas_runs.specs.Calls.{AskedAndAnswered, scripts_of, of_scripts, held_by, held_after}
-use Rattle.canvas_runs.specs.Core.{take, publish, store, part, read, rest, redeliver, ack, taken, sent, stored, counted, found, rested, acked, CoreState, taking, resting, over, failed, owning, doing, reading, acking, left_after, IsCoreRun, is_inside}
+use Rattle.canvas_backend.specs.Backend as results
+use Rattle.canvas_broker.specs.Broker.{redeliver}
+use Rattle.canvas_runs.specs.Core.{to_queue, to_table, rest, ack, from_queue, from_table, rested, acked, CoreState, taking, resting, over, failed, owning, doing, reading, acking, left_after, IsCoreRun, is_inside}
 use Rattle.canvas_runs.specs.Lists.{by}
 use Rattle.canvas_runs.specs.Tally.{greatest_count}
 use Rattle.canvas_runs.specs.Worker.{opened}
@@ -25,7 +27,7 @@ use Rattle.canvas_runs.specs.declared.when.When.TheVariants.{Early, Late}
 use Rattle.canvas_runs.proofs.Sums.{total-append}
 use Rattle.canvas_runs.proofs.MoreAsks.{by_append, scripts_append, held_append, asks_of_scripts}
 use Rattle.canvas_turns.specs.Spending.{Entry, TurnedAgain, wanted, spent, comes_to, message_in, point_of, point, answers_again, agains_in}
-use Rattle.canvas_turns.specs.Turns.{Step, IsWorker, Turned, all_taken, delivers_again, left, holds, holds_more, is_queued, redelivers_one, redeliveries_in}
+use Rattle.canvas_turns.specs.Turns.{Step, IsWorker, redelivery, Turned, all_taken, delivers_again, left, holds, holds_more, is_queued, redelivers_one, redeliveries_in}
 use Rattle.canvas_turns.proofs.Spending.{again_step, again_spend}
 use Rattle.canvas_turns.proofs.Turning.{queue_more, results_more, turned_append}
 use Rattle.canvas_worker.specs.Asks.{Asked, Answer}
@@ -37,6 +39,7 @@ use Rattle.canvas_worker.specs.CoreState as standing
 use Rattle.canvas_worker.specs.CoreState.{Standing, Left, asked, task_of, point_in, point_at}
 use Rattle.canvas_engine.specs.steps.Stages.{AnswersNow, Stepped, store_answer, counted_on, Redelivers, IsCoreAt, LeadsTo, Reached, IsTurn}
 use Rattle.canvas_engine.specs.declared.stage.Stage.{Stage}
+use Rattle.canvas_engine.proofs.StageAsks.{stored_says}
 use Rattle.canvas_engine.proofs.StageSteps.{together, more_is, same_ask, worker_back, answered_so, IsPut, stepped}
 
 -- ---- the point to which a core has come
@@ -58,34 +61,35 @@ module _ (l : Line) where
   point_alike behaviour failed failed a x h task = refl
   point_alike behaviour (owning e) (owning c) a x h task = ap (option_map (λ k. (k, Early))) (task refl) ∙ of_held Early h
   point_alike behaviour (doing js b) (doing ks d) a x h task = refl
-  point_alike behaviour (reading g c fs) (reading k d gs) a x h task = refl
+  point_alike behaviour (reading g c t fs) (reading k d u gs) a x h task = refl
   point_alike behaviour acking acking a x h task = ap (option_map (λ k. (k, Late))) (task refl) ∙ of_held Late h
   point_alike behaviour s t a x h task = elim a [ ]
 
 -- ---- counts
 
 pub no_copy : (a : Asked) → of_scripts a ≡ true → redelivers_one a ≡ 0
-no_copy (redeliver e) h = absurd cc
+no_copy (to_queue (redeliver e)) h = absurd cc
 no_copy a h = refl
 
 abbrev again_one : Stored → ℕ
 again_one First = 0
 again_one Again = 1
 
-again_said : (plan : Roster) (queue : List Envelope) (results : Results) (more : Bool) (a : Asked) (r : Answer) → AnswersNow plan queue results more a r
-    → answers_again a r ≡ again_one (store_answer results a)
-again_said plan queue results more take (taken x) h = refl
-again_said plan queue results more (publish e) sent h = refl
-again_said plan queue results more (store t o) (stored b) h = one b ∙ ap again_one h
+again_said : (plan : Roster) (queue : List Envelope) (held : Results) (more : Bool) (a : Asked) (r : Answer) → AnswersNow plan queue held more a r
+    → answers_again a r ≡ again_one (store_answer held a)
+again_said plan queue held more (to_queue c) (from_queue x) h = refl
+again_said plan queue held more (to_table (results.store t o)) (from_table (results.was b)) h =
+    one b ∙ ap again_one (stored_says b (results.first_or (held.outcomes t)) h)
   where
-    one : (b : Stored) → answers_again (store t o) (stored b) ≡ again_one b
+    one : (b : Stored) → answers_again (to_table (results.store t o)) (from_table (results.was b)) ≡ again_one b
     one First = refl
     one Again = refl
-again_said plan queue results more (part g t) (counted m) h = refl
-again_said plan queue results more (read g i) (found t x) h = refl
-again_said plan queue results more rest (rested m) h = refl
-again_said plan queue results more ack acked h = refl
-again_said plan queue results more a r h = elim h [ ]
+again_said plan queue held more (to_table (results.store t o)) (from_table r) h = absurd cc
+again_said plan queue held more (to_table (results.part g t)) (from_table r) h = refl
+again_said plan queue held more (to_table (results.read t)) (from_table r) h = refl
+again_said plan queue held more rest (rested m) h = refl
+again_said plan queue held more ack acked h = refl
+again_said plan queue held more a r h = elim h [ ]
 
 more_agains : (n r s : ℕ) (b : Stored) → r ≡ min greatest_count n → s ≡ counted_on r b → s ≡ min greatest_count (n + again_one b)
 more_agains n r s Again a b = omega (arith, a, b)
@@ -117,16 +121,16 @@ module _ (behaviour : Behaviour) (l : Line) (n : ℕ) (us : List ℕ) (xs : List
 
     module _ (own : IsWorker n (suc i)) (e : Envelope) (has : standing.held c ≡ Some e) where
       abbrev copy : Step
-      copy = (suc i, (redeliver e, sent))
+      copy = redelivery (suc i) e
 
       holds_it : holds xs (suc i) ≡ Some e
       holds_it = sym (leads.cores_are i c here).holds ∙ has
 
-      none_asked : (b : Bool) → scripts_of {E = Envelope} (cond b ((redeliver e, sent) ∷ []) []) ≡ []
+      none_asked : (b : Bool) → scripts_of {E = Envelope} (cond b ((to_queue (redeliver e), from_queue None) ∷ []) []) ≡ []
       none_asked true = refl
       none_asked false = refl
 
-      still_held : (h : Option Envelope) (b : Bool) → held_after {E = Envelope} h (cond b ((redeliver e, sent) ∷ []) []) ≡ h
+      still_held : (h : Option Envelope) (b : Bool) → held_after {E = Envelope} h (cond b ((to_queue (redeliver e), from_queue None) ∷ []) []) ≡ h
       still_held h true = refl
       still_held h false = refl
 
@@ -176,7 +180,7 @@ stood behaviour l n us xs s leads i c here own t gone = go gone.envelope
         → (ys : List Step) × LeadsTo behaviour l n us ys t
     go (inl (w, q, a)) = (xs, leads_too behaviour l n us xs s leads t q gone.others.0 gone.others.1)
     go (inr (w, (e, has, q), a)) =
-        (xs ++ (suc i, (redeliver e, sent)) ∷ [], delivered behaviour l n us xs s leads i c here own e has t q gone.others.0 gone.others.1)
+        (xs ++ redelivery (suc i) e ∷ [], delivered behaviour l n us xs s leads i c here own e has t q gone.others.0 gone.others.1)
 
 -- ---- a turn
 
@@ -242,7 +246,7 @@ module _ (behaviour : Behaviour) (l : Line) (n most : ℕ) (es : List Entry) (us
               )
           go (inr (w, (e, has, q), a)) =
               let there = reached.leads in
-              let d : Step = (suc i, (redeliver e, sent)) in
+              let d : Step = redelivery (suc i) e in
               let ys = xs ++ d ∷ [] in
               let leads : LeadsTo behaviour l n us ys t = delivered behaviour l n us xs s there i c here own e has t q gone.others.0 gone.others.1 in
               let here_point = point_is behaviour l n us xs s there i c here in

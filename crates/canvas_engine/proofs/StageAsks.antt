@@ -1,6 +1,6 @@
 -- What the answer to an ask of a core leaves, where the queue and the table have changed as they should.
-use Rattle.std.proofs.Common.{◌≡◌, inr, ℕ, zero, suc, Bool, true, false, List, [], ◌∷◌, Option, Some, None, Result, Ok, Err, OnOk, OnErr, refl, sym, ap, ◌∙◌, subst}
-use Rattle.std.specs.Prelude.{not, slice_get}
+use Rattle.std.proofs.Common.{◌≡◌, inr, ℕ, Bool, true, false, List, [], ◌∷◌, Option, Some, None, Result, Ok, Err, OnOk, OnErr, refl, sym, ap, ◌∙◌, subst}
+use Rattle.std.specs.Prelude.{not}
 use Rattle.canvas_task.specs.Apply.{Behaviour}
 use Rattle.canvas_task.specs.declared.outcome.Outcome.{Outcome}
 use Rattle.canvas_message.specs.declared.envelope.Envelope.{Envelope}
@@ -11,7 +11,6 @@ use Rattle.canvas_backend.specs.Backend.{Results}
 use Rattle.canvas_backend.specs.Plain.{Shelf, held}
 use Rattle.canvas_runs.specs.Core as C
 use Rattle.canvas_runs.specs.Core.{ReadsBack}
-use Rattle.canvas_runs.specs.Lists.{at}
 use Rattle.canvas_turns.specs.Turns.{queue_next, results_next}
 use Rattle.canvas_worker.specs.Asks.{Asked, Answer, FoundInRange, shown}
 use Rattle.canvas_worker.specs.Books.{no_book, book_in}
@@ -68,31 +67,15 @@ of_each (Err x) P h = tt
 
 -- ---- what the table says
 
-pub at_place : {X : Type 0} (i : ℕ) (xs : List X) → at i xs ≡ slice_get xs i
-at_place i [] = refl
-at_place zero (x ∷ xs) = refl
-at_place (suc i) (x ∷ xs) = at_place i xs
-
 pub stored_says : (x y : Stored) → results.was x ≡ results.was y → x ≡ y
 stored_says x y e = cc
-
-pub counted_says : (x y : ℕ) → results.count x ≡ results.count y → x ≡ y
-counted_says x y e = cc
 
 pub found_says : (x y : Option Outcome) → results.found x ≡ results.found y → x ≡ y
 found_says x y e = cc
 
-pub found_in_range : (t : ℕ) (x : Option Outcome) (s : Results) → AreInRange s → x ≡ s.outcomes t → FoundInRange (R.Found t x)
+pub found_in_range : (t : ℕ) (x : Option Outcome) (s : Results) → AreInRange s → x ≡ s.outcomes t → FoundInRange (R.Found x)
 found_in_range t None s h e = tt
 found_in_range t (Some o) s h e = h t o (sym e)
-
-pub each_queue : {E : Type 0} (result : Result (Unit {0}) E) (P : Bool → List Envelope → Type 0) → ((b : Bool) (q : List Envelope) → OnOk result (P b q))
-    → OnOk result ((b : Bool) (q : List Envelope) → P b q)
-each_queue (Ok u) P h = h
-each_queue (Err x) P h = tt
-
-pub same_place : (xs : List ℕ) (i t u : ℕ) → at i xs ≡ Some t → slice_get xs i ≡ Some u → t ≡ u
-same_place xs i t u e f = let both : Some t ≡ Some u = sym e ∙ at_place i xs ∙ f in cc
 
 -- ---- stores that answer Again
 
@@ -105,15 +88,8 @@ again_shown : (s : Results) (x : Option ℕ) (a : Asked) (v : Ask) → v ≡ sho
 again_shown s x a v e = same a ∙ ap (shown_again s) (sym e)
   where
     same : (b : Asked) → store_answer s b ≡ shown_again s (shown x b)
-    same C.take = refl
-    same (C.publish d) = refl
-    same (C.store t o) = refl
-    same (C.part g t) = refl
-    same (C.read g i) = refl
-    same C.rest = refl
-    same C.end = refl
-    same C.ack = refl
-    same (C.redeliver d) = refl
+    same (C.to_table (results.store t o)) = refl
+    same b = refl
 
 -- an ask that is no store isn't counted
 pub none_counted : (s : Results) (x : Option ℕ) (a : Asked) (v : Ask) (m : ℕ) → v ≡ shown x a → shown_again s v ≡ First → m ≡ counted_on m (store_answer s a)

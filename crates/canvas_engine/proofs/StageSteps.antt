@@ -14,7 +14,9 @@ use Rattle.canvas_backend.specs.Backend.{Results}
 use Rattle.canvas_backend.specs.Plain.{held}
 use Rattle.canvas_backend.specs.Roster.{Roster, roster_of}
 use Rattle.canvas_runs.specs.Book.{book_of}
-use Rattle.canvas_runs.specs.Core.{take, publish, store, part, read, rest, end, taken, sent, stored, counted, found, rested, CoreState, taking, resting, over, failed, owning, doing, reading, ask, answered, left_after, Suits, ReadsBack, IsCoreRun, is_inside, redeliver, ack, acked, acking}
+use Rattle.canvas_backend.specs.Backend as results
+use Rattle.canvas_broker.specs.Broker as broker
+use Rattle.canvas_runs.specs.Core.{to_queue, to_table, rest, end, from_queue, from_table, rested, CoreState, taking, resting, over, failed, owning, doing, reading, ask, answered, left_after, Suits, ReadsBack, IsCoreRun, is_inside, ack, acked, acking}
 use Rattle.canvas_runs.specs.Lists.{Each, by}
 use Rattle.canvas_runs.specs.Worker.{worker}
 use Rattle.canvas_runs.proofs.MoreAsks.{by_more, by_other, left_more, core_more, scripts_more, asks_of_scripts, held_append}
@@ -39,25 +41,25 @@ use Rattle.canvas_engine.specs.declared.stage.Stage.{Stage}
 module _ (behaviour : Behaviour) (l : Line) (n : ℕ) (xs : List Step) where
   pub answers_run : (more : Bool) (a : Asked) (r : Answer) → (a ≡ rest → more ≡ holds_more behaviour l n xs)
       → AnswersNow (roster_of l) (queue_after l xs) (results_after xs) more a r → Answers behaviour l n xs a r
-  answers_run more take (taken x) m h = h
-  answers_run more (publish e) sent m h = tt
-  answers_run more (store t o) (stored b) m h = h
-  answers_run more (part g t) (counted k) m h = h
-  answers_run more (read g i) (found t x) m h = h
+  answers_run more (to_queue c) (from_queue x) m h = h
+  answers_run more (to_table c) (from_table r) m h = h
   answers_run more rest (rested b) m h = h ∙ m refl
   answers_run more ack acked m h = tt
   answers_run more a r m h = elim h [ ]
 
-suits_now : (plan : Roster) (queue : List Envelope) (results : Results) (more : Bool) (a : Asked) (r : Answer) → AnswersNow plan queue results more a r
-    → Suits a r
-suits_now plan queue results more take (taken x) h = tt
-suits_now plan queue results more (publish e) sent h = tt
-suits_now plan queue results more (store t o) (stored b) h = tt
-suits_now plan queue results more (part g t) (counted k) h = tt
-suits_now plan queue results more (read g i) (found t x) h = tt
-suits_now plan queue results more rest (rested b) h = tt
-suits_now plan queue results more ack acked h = tt
-suits_now plan queue results more a r h = elim h [ ]
+suits_now : (plan : Roster) (queue : List Envelope) (held : Results) (more : Bool) (a : Asked) (r : Answer) → of_scripts a ≡ true
+    → AnswersNow plan queue held more a r → Suits a r
+suits_now plan queue held more (to_queue broker.take) (from_queue x) asks h = tt
+suits_now plan queue held more (to_queue (broker.publish e)) (from_queue None) asks h = tt
+suits_now plan queue held more (to_queue (broker.publish e)) (from_queue (Some x)) asks h = absurd cc
+suits_now plan queue held more (to_queue (broker.redeliver e)) (from_queue x) asks h = absurd cc
+suits_now plan queue held more (to_table (results.store t o)) (from_table (results.was b)) asks h = tt
+suits_now plan queue held more (to_table (results.part g t)) (from_table (results.count k)) asks h = tt
+suits_now plan queue held more (to_table (results.read t)) (from_table (results.found x)) asks h = tt
+suits_now plan queue held more (to_table c) (from_table r) asks h = absurd cc
+suits_now plan queue held more rest (rested b) asks h = tt
+suits_now plan queue held more ack acked asks h = tt
+suits_now plan queue held more a r asks h = elim h [ ]
 
 -- ---- whether somebody is inside a message
 
@@ -68,7 +70,7 @@ inside_alike behaviour over over h = refl
 inside_alike behaviour failed failed h = refl
 inside_alike behaviour (owning e) (owning c) h = refl
 inside_alike behaviour (doing js b) (doing ks d) h = refl
-inside_alike behaviour (reading g c fs) (reading h d gs) k = refl
+inside_alike behaviour (reading g c t fs) (reading h d u gs) k = refl
 inside_alike behaviour acking acking h = refl
 inside_alike behaviour s t h = elim h [ ]
 
@@ -162,7 +164,7 @@ module _ (behaviour : Behaviour) (l : Line) (n : ℕ) (us : List ℕ) (xs : List
           let X = enveloped behaviour (roster_of l) in
           let was = leads.cores_are i c here in
           let asks_core : of_scripts a ≡ true = asks_of_scripts X c.left in
-          let suits : Suits a r = suits_now (roster_of l) s.queue (held s.table) more a r
+          let suits : Suits a r = suits_now (roster_of l) s.queue (held s.table) more a r asks_core
           (subst (λ z. AnswersNow z s.queue (held s.table) more a r) leads.plan_is step.answers) in
           let asks : a ≡ ask X (left_after X taking (scripts_of (by p xs))) = ap asked env_left in
           let back : ReadsBack X (left_after X taking (scripts_of (by p xs))) = subst (ReadsBack X) env_left step.reads_back in

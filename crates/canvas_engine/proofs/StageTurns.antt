@@ -5,10 +5,10 @@ use Rattle.std.proofs.lemmas.Option.{slice_get_read}
 use Rattle.std.specs.List.{list_any}
 use Rattle.canvas_task.specs.Apply.{Behaviour, AnswersInRange}
 use Rattle.canvas_semantics.specs.Line.{Line}
-use Rattle.canvas_backend.specs.Backend.{Results}
+use Rattle.canvas_backend.specs.Backend.{Results, store, part, read}
 use Rattle.canvas_backend.specs.Plain.{held}
 use Rattle.canvas_backend.specs.Roster.{Roster, roster_of}
-use Rattle.canvas_runs.specs.Core.{take, publish, store, part, read, rest, end, ReadsBack, is_inside, ack, redeliver}
+use Rattle.canvas_runs.specs.Core.{to_table, rest, end, ReadsBack, is_inside}
 use Rattle.canvas_turns.specs.Spending.{Entry}
 use Rattle.canvas_turns.specs.TurnLaws.{Answerable}
 use Rattle.canvas_turns.specs.Turns.{Step, IsWorker, HasEnded, results_after, results_next, is_queued}
@@ -49,15 +49,10 @@ put_length (c ∷ cs) (suc i) d = ap suc (put_length cs i d)
 
 -- what can be answered may be asked
 may_of : (plan : Roster) (xs : List Step) (a : Asked) → Answerable plan xs a → MayAsk plan (results_after xs) a
-may_of plan xs take h = tt
-may_of plan xs (publish e) h = tt
-may_of plan xs (store t o) h = h.0
-may_of plan xs (part g t) h = (h.0, h.1, (h.2, h.3))
-may_of plan xs (read g i) h = (h.0, h.2, h.3)
-may_of plan xs rest h = tt
-may_of plan xs end h = tt
-may_of plan xs ack h = tt
-may_of plan xs (redeliver e) h = tt
+may_of plan xs (to_table (store t o)) h = h.0
+may_of plan xs (to_table (part g t)) h = (h.0, h.1, (h.2, h.3))
+may_of plan xs (to_table (read t)) h = h.0
+may_of plan xs a h = tt
 
 same_core : (cores : List Standing) (i : ℕ) (c d : Standing) → slice_get cores i ≡ Some c → slice_get cores i ≡ Some d → c ≡ d
 same_core cores i c d e f = let both : Some c ≡ Some d = sym e ∙ f in cc

@@ -19,16 +19,15 @@ use Rattle.canvas_backend.specs.Backend.{Log}
 use Rattle.canvas_backend.specs.Seats.{Desk}
 use Rattle.canvas_backend.specs.Roster.{Roster, roster_of}
 use Rattle.canvas_broker.specs.Broker.{QueueEntry as Entries}
-use Rattle.canvas_runs.specs.Calls.{scripts_all}
-use Rattle.canvas_runs.specs.Following.{Pass, Seat, Makes, Serves, Working, begins, IsDone, IsOver, Followed}
+use Rattle.canvas_runs.specs.Following.{Pass, Seat, Makes, Serves, starting, IsDone, IsOver}
 use Rattle.canvas_runs.specs.Lists.{Each}
 use Rattle.canvas_callers.specs.CallerLaws.{broker_calls_seen}
-use Rattle.canvas_callers.specs.Crew.{Mate, Ran, EndedWell, OwnTally, first_pass, first_seat}
+use Rattle.canvas_callers.specs.Crew.{PlanWorker, HasFollowed, Mate, Ran, EndedWell, OwnTally, first_pass, first_seat}
 use Rattle.canvas_callers.specs.Rows.{reads_from, RanTo, RanWell}
 use Rattle.canvas_semantics.specs.States.{EachMay}
 use Rattle.canvas_runs.specs.Run.{IsRead, published_all}
 use Rattle.canvas_runs.specs.Tally.{Tally as Counts, EachCounts, greatest_count}
-use Rattle.canvas_runs.specs.Worker.{sealed}
+use Rattle.canvas_runs.specs.Worker.{worker_of, sealed}
 use Rattle.canvas_runs.proofs.Causes.{by_cause, completed_once, by_its_cause}
 use Rattle.canvas_runs.proofs.FirstLaw.{first_part}
 use Rattle.canvas_runs.proofs.Words.{each_weaker}
@@ -37,6 +36,7 @@ use Rattle.canvas_callers.proofs.FromCrew.{passes, seats, the_run, the_closed}
 use Rattle.canvas_callers.proofs.Rows.{rows_of_well, rows_of_any}
 use Rattle.canvas_callers.proofs.Tallies.{tallies_count}
 use Rattle.canvas_worker.specs.Finished.{Finished}
+use Rattle.canvas_worker.proofs.Stepping.{nothing_done}
 use Rattle.canvas_worker.specs.declared.record.Record.{Record}
 use Rattle.canvas_worker.specs.declared.cause.Cause.{Cause}
 use Rattle.canvas_worker.specs.declared.cause.Cause.TheVariants.{Memory, Stopped}
@@ -56,13 +56,13 @@ reads_are_reads k [] = tt
 reads_are_reads k (s ∷ ss) = (tt, reads_are_reads (suc k) ss)
 
 -- what is over isn't inside a script
-over_done : (w : Working) → IsOver w → IsDone w
+over_done : (w : PlanWorker) → IsOver w → IsDone w
 over_done w h = (subst (λ s. Between s) (sym h.0) tt, h.1)
 
 module _ (behaviour : Behaviour) (l : Line) (n : ℕ) (queue : SegId Global) (table : TableId) (pass : Pass) (seat : Seat)
     (c : Crew behaviour l n queue table pass seat) where
   -- worker 0 works on, and reads
-  abbrev pub ran_with : (own : Working) → Followed behaviour (roster_of l) (begins pass seat) own → (last : Pass) → last ≡ own.pass → (at : Seat)
+  abbrev pub ran_with : (own : PlanWorker) → HasFollowed behaviour (roster_of l) (starting pass seat) own → (last : Pass) → last ≡ own.pass → (at : Seat)
       → own.seat ≡ at → (after : Seat) (rows : List State)
       → Serves (roster_of l) at (reads_from 1 rows) after → Ran behaviour l last after
   ran_with own follows last e at f after rows reads = record {
@@ -91,13 +91,13 @@ module _ (behaviour : Behaviour) (l : Line) (n : ℕ) (queue : SegId Global) (ta
     ends = subst (λ (x : Seat). Serves (roster_of l) x (reads_from 1 rows) after) (sym f) reads;
   }
 
-  abbrev pub ran_to : (own : Working) → Followed behaviour (roster_of l) (begins pass seat) own → (last : Pass) → last ≡ own.pass → (at : Seat) → own.seat ≡ at
-      → (after : Seat) (rows : List State)
+  abbrev pub ran_to : (own : PlanWorker) → HasFollowed behaviour (roster_of l) (starting pass seat) own → (last : Pass) → last ≡ own.pass → (at : Seat)
+      → own.seat ≡ at → (after : Seat) (rows : List State)
       → Serves (roster_of l) at (reads_from 1 rows) after → length rows ≡ count_line l → RanTo behaviour l last after rows
   ran_to own follows last e at f after rows reads many = record { ran = ran_with own follows last e at f after rows reads; read = refl; each = many }
 
   -- a run that ended early: each row is pending or its task's state
-  pub rows_may : IsPlan l → (own : Working) → Followed behaviour (roster_of l) (begins pass seat) own → (at : Seat) → own.seat ≡ at
+  pub rows_may : IsPlan l → (own : PlanWorker) → HasFollowed behaviour (roster_of l) (starting pass seat) own → (at : Seat) → own.seat ≡ at
       → (after : Seat) (rows : List State)
       → Serves (roster_of l) at (reads_from 1 rows) after → length rows ≡ count_line l → EachMay rows (states behaviour (tree_of l))
   rows_may planned own follows at f after rows reads many =
@@ -236,27 +236,14 @@ pending_may [] (s ∷ ss) e p = absurd (omega (arith, e))
 pending_may (r ∷ rs) [] e p = absurd (omega (arith, e))
 pending_may (r ∷ rs) (s ∷ ss) e p = (inl (All-head (λ s. s ≡ None) r rs p), pending_may rs ss (omega (arith, e)) (All-tail (λ s. s ≡ None) r rs p))
 
--- with nothing done
-still : (behaviour : Behaviour) → (plan : Roster) (p : Pass) (s : Seat) → Followed behaviour plan (begins p s) (begins p s)
-still behaviour plan p s = record {
-  run = [];
-  is_core = tt;
-  reads = tt;
-  counts = record { taken = refl; published = refl; first = refl; parts = refl; dropped = refl };
-  leaves = refl;
-  made = [];
-  follows = scripts_all;
-  used = refl;
-  makes = refl;
-  serves = refl;
-}
-
 -- the rows that worker 0 reads where it has done nothing else
 pub unworked_may : (behaviour : Behaviour) → (l : Line) (n : ℕ) (queue : SegId Global) (table : TableId) (pass : Pass) (seat : Seat)
     → Crew behaviour l n queue table pass seat → IsPlan l → (after : Seat) (rows : List State)
     → Serves (roster_of l) seat (reads_from 1 rows) after → length rows ≡ count_line l → EachMay rows (states behaviour (tree_of l))
 unworked_may behaviour l n queue table pass seat c planned after rows reads many =
-    rows_may behaviour l n queue table pass seat c planned (begins pass seat) (still behaviour (roster_of l) pass seat) seat refl after rows reads many
+    rows_may behaviour l n queue table pass seat c planned (starting pass seat)
+    (nothing_done (worker_of behaviour (roster_of l)) (roster_of l) (starting pass seat)
+    (omega arith, omega arith, omega arith, omega arith, omega arith)) seat refl after rows reads many
 
 -- and those that it reads where it has worked, however that ended
 pub worked_may : (behaviour : Behaviour) → (l : Line) (n : ℕ) (queue : SegId Global) (table : TableId) (pass : Pass) (seat : Seat)
@@ -268,25 +255,25 @@ worked_may behaviour l n queue table pass seat c planned r f after rows reads ma
 -- ---- what worker 0 has taken in
 
 pub gathered : (behaviour : Behaviour) → (l : Line) (n : ℕ) (s : Start) (start : IsStart l n s) (sent : Pass) (after : List Slot) (p : Pass) (t : Seat)
-    → Makes s.pass (published_all s.envelopes.items) sent → AllRan behaviour s.backend.plan s.slots.items after → length after ≡ length s.slots.items
-    → TakesIn s.backend.plan sent s.seat after p t
-    → (c : Crew behaviour l n s.broker s.backend.id p t) × (map tally_in after ≡ tallies_from behaviour 1 c.mates)
+    → Makes s.hands.pass (published_all s.envelopes.items) sent → AllRan behaviour s.site.backend.plan s.slots.items after → length after ≡ length s.slots.items
+    → TakesIn s.site.backend.plan sent s.hands.seat after p t
+    → (c : Crew behaviour l n s.site.broker s.site.backend.id p t) × (map tally_in after ≡ tallies_from behaviour 1 c.mates)
     × (All (λ x. IsWell x.post) after → Each (λ (m : Mate behaviour (roster_of l)). IsOver m.ended) c.mates)
 gathered behaviour l n s start sent after p t made ran many taken =
     let each = each_ran behaviour (roster_of l) s.slots.items after many (subst (λ plan. AllRan behaviour plan s.slots.items after) start.plan ran) in
-    let all = crew_of behaviour (roster_of l) 1 s.slots.items after (first_pass s.broker) s.pass
-    (first_seat s.backend.id) s.seat sent p s.seat t start.parts each (subst (λ plan. TakesIn plan sent s.seat after p t) start.plan taken) in
+    let all = crew_of behaviour (roster_of l) 1 s.slots.items after (first_pass s.site.broker) s.hands.pass
+    (first_seat s.site.backend.id) s.hands.seat sent p s.hands.seat t start.parts each (subst (λ plan. TakesIn plan sent s.hands.seat after p t) start.plan taken) in
     let c = all.1 in (
       record {
         mates = all.0;
         count = c.count ∙ (many ∙ start.count);
-        pass_parted = s.pass;
+        pass_parted = s.hands.pass;
         pass_sent = sent;
         splits = c.splits;
-        sends = subst (λ es. Makes s.pass (published_all es) sent) start.envelopes made;
+        sends = subst (λ es. Makes s.hands.pass (published_all es) sent) start.envelopes made;
         back = start.back;
         joins = c.joins;
-        seat_parted = s.seat;
+        seat_parted = s.hands.seat;
         seat_splits = c.seat_splits;
         seat_joins = c.seat_joins;
       },

@@ -1,7 +1,7 @@
 //! The passes and the seats of a run's workers.
 ghost use Rattle.std.specs.Prelude.{◌≡◌, ◌≤◌, ◌+◌, ◌++◌, All, Any, length, map, IfOk, MatchBool};
 ghost use Rattle.std.specs.Vec.{vec_len, vec_capacity};
-ghost use Rattle.canvas_engine.specs.steps.Slots.{IsReadySlot, IsSplitOff, SplitsOff, LeftARecord, IsWell, LacksMemory, IsWhy, AreOf, TakesIn, tally_in};
+ghost use Rattle.canvas_engine.specs.steps.Slots.{AreOfSite, IsReadySlot, IsSplitOff, SplitsOff, LeftARecord, IsWell, LacksMemory, IsWhy, AreOf, TakesIn, tally_in};
 ghost use Rattle.canvas_broker.specs.Passes as passes;
 ghost use Rattle.canvas_history.specs.Callers.{Owes};
 ghost use Rattle.canvas_backend.specs.Seats as seats;
@@ -15,22 +15,29 @@ use canvas_worker::Record;
 use std::alloc::Global;
 use std::sync::Wait;
 
-fn split_one<R: Wait>(
-    rt: &R,
-    broker: &Broker,
-    pass: &mut BrokerPass,
-    backend: &Backend,
-    seat: &mut BackendSeat,
-    number: u32,
-) -> Result<Slot, Memory>
-    requires own { (pass.old.of ≡ broker.now) × (seat.old.of ≡ backend.now.id) }
-    ensures own { (pass.new.of ≡ broker.now) × (seat.new.of ≡ backend.now.id) }
-    ensures ready { IfOk result (IsReadySlot broker.now backend.now.id) }
-    ensures part { IfOk result
-        (λ slot. IsSplitOff backend.now.plan number pass.old seat.old slot pass.new seat.new) }
+/// The queue and the table of a run.
+#[derive(Drop)]
+pub(crate) struct Site {
+    pub broker: Broker,
+    pub backend: Backend,
+}
+
+/// A worker's pass and seat.
+#[derive(Drop)]
+pub(crate) struct Hands {
+    pub pass: BrokerPass,
+    pub seat: BackendSeat,
+}
+
+fn split_one<R: Wait>(rt: &R, site: &Site, hands: &mut Hands, number: u32) -> Result<Slot, Memory>
+    requires own { AreOfSite site.now hands.old }
+    ensures own { AreOfSite site.now hands.new }
+    ensures ready { IfOk result (IsReadySlot site.now.broker site.now.backend.id) }
+    ensures part { IfOk result (λ slot. IsSplitOff site.now.backend.plan number hands.old.pass
+        hands.old.seat slot hands.new.pass hands.new.seat) }
 {
-    match broker.split(rt, pass) {
-        Ok(new_pass) => match backend.split(seat) {
+    match site.broker.split(rt, &mut hands.pass) {
+        Ok(new_pass) => match site.backend.split(&mut hands.seat) {
             Ok(new_seat) => Ok(Slot {
                 number,
                 post: Post::Ready(new_pass, new_seat),
@@ -45,22 +52,21 @@ fn split_one<R: Wait>(
 pub(crate) fn split_all<R: Wait>(
     rt: &R,
     alloc: Global,
-    broker: &Broker,
-    pass: &mut BrokerPass,
-    backend: &Backend,
-    seat: &mut BackendSeat,
+    site: &Site,
+    hands: &mut Hands,
     workers: u32,
 ) -> Result<Vec<Slot>, Memory>
-    requires own { (pass.old.of ≡ broker.now) × (seat.old.of ≡ backend.now.id) }
-    ensures own { (pass.new.of ≡ broker.now) × (seat.new.of ≡ backend.now.id) }
+    requires own { AreOfSite site.now hands.old }
+    ensures own { AreOfSite site.now hands.new }
     ensures count { IfOk result (λ slots. length slots.items ≡ workers) }
-    ensures ready { IfOk result (λ slots. All (IsReadySlot broker.now backend.now.id) slots.items) }
-    ensures parts { IfOk result
-        (λ slots. SplitsOff backend.now.plan 1 pass.old seat.old slots.items pass.new seat.new) }
+    ensures ready { IfOk result
+        (λ slots. All (IsReadySlot site.now.broker site.now.backend.id) slots.items) }
+    ensures parts { IfOk result (λ slots. SplitsOff site.now.backend.plan 1 hands.old.pass
+        hands.old.seat slots.items hands.new.pass hands.new.seat) }
 {
     let mut slots = Vec::new(alloc);
     for index in 0..workers {
-        let slot = split_one(rt, broker, pass, backend, seat, index + 1)?;
+        let slot = split_one(rt, site, hands, index + 1)?;
         slots.push(slot)?;
     }
     Ok(slots)
@@ -115,41 +121,29 @@ pub(crate) fn tally_all(slots: &[Slot], tallies: &mut Vec<Tally>)
     }
 }
 
-fn join_one<R: Wait>(
-    rt: &R,
-    broker: &Broker,
-    pass: &mut BrokerPass,
-    backend: &Backend,
-    seat: &mut BackendSeat,
-    left: Record,
-)
-    requires own { (pass.old.of ≡ broker.now) × (seat.old.of ≡ backend.now.id) }
-    requires other { (left.pass.of ≡ broker.now) × (left.seat.of ≡ backend.now.id) }
-    ensures own { (pass.new.of ≡ broker.now) × (seat.new.of ≡ backend.now.id) }
-    ensures passes { Owes pass.old left.pass pass.new × passes.IsHistory pass.new }
-    ensures seats { seats.Joined backend.now.plan seat.old left.seat seat.new }
+fn join_one<R: Wait>(rt: &R, site: &Site, hands: &mut Hands, left: Record)
+    requires own { AreOfSite site.now hands.old }
+    requires other { (left.pass.of ≡ site.now.broker) × (left.seat.of ≡ site.now.backend.id) }
+    ensures own { AreOfSite site.now hands.new }
+    ensures passes { Owes hands.old.pass left.pass hands.new.pass
+        × passes.IsHistory hands.new.pass }
+    ensures seats { seats.Joined site.now.backend.plan hands.old.seat left.seat hands.new.seat }
 {
-    broker.join(rt, pass, left.pass);
-    backend.join(seat, left.seat);
+    site.broker.join(rt, &mut hands.pass, left.pass);
+    site.backend.join(&mut hands.seat, left.seat);
 }
 
 /// Takes in what the workers left, in the order of their numbers.
-pub(crate) fn join_all<R: Wait>(
-    rt: &R,
-    broker: &Broker,
-    pass: &mut BrokerPass,
-    backend: &Backend,
-    seat: &mut BackendSeat,
-    slots: Vec<Slot>,
-)
-    requires own { (pass.old.of ≡ broker.now) × (seat.old.of ≡ backend.now.id) }
-    requires others { AreOf broker.now backend.now.id slots.items }
-    ensures own { (pass.new.of ≡ broker.now) × (seat.new.of ≡ backend.now.id) }
-    ensures taken { TakesIn backend.now.plan pass.old seat.old slots.items pass.new seat.new }
+pub(crate) fn join_all<R: Wait>(rt: &R, site: &Site, hands: &mut Hands, slots: Vec<Slot>)
+    requires own { AreOfSite site.now hands.old }
+    requires others { AreOf site.now.broker site.now.backend.id slots.items }
+    ensures own { AreOfSite site.now hands.new }
+    ensures taken { TakesIn site.now.backend.plan hands.old.pass hands.old.seat slots.items
+        hands.new.pass hands.new.seat }
 {
     for slot in slots {
         match slot.post {
-            Post::Done(left) => join_one(rt, broker, pass, backend, seat, left),
+            Post::Done(left) => join_one(rt, site, hands, left),
             Post::Ready(..) => unreachable!(),
             Post::Lost => unreachable!(),
         }

@@ -15,10 +15,10 @@ ghost use Rattle.canvas_engine.specs.Correct.{AreWorkers, IsThreadFault};
 ghost use Rattle.canvas_engine.specs.Evidence.{IsRun};
 ghost use Rattle.canvas_engine.specs.steps.Crews.{AreGathered};
 
+use crate::crew::{Hands, Site};
 use crate::in_rounds::InRounds;
 use crate::{Cause, Records, Report, RunFault, Tally};
 use canvas_backend::{Backend, BackendSeat};
-use canvas_broker::{Broker, BrokerPass};
 use canvas_rewrite::Plan;
 use canvas_task::{Fault, ListOf, Outcome, TaskNo, Tasks};
 use canvas_worker::{InFlight, OpenGate, Record, Shared, Stop, Worker};
@@ -30,10 +30,8 @@ use std::sync::Wait;
 /// What a run has once its workers have ended and worker 0 has taken in what they left.
 #[derive(Drop)]
 pub(crate) struct Gathered {
-    pub broker: Broker,
-    pub pass: BrokerPass,
-    pub backend: Backend,
-    pub seat: BackendSeat,
+    pub site: Site,
+    pub hands: Hands,
     /// How many messages were published before the workers began.
     pub first: usize,
     pub rows: Vec<Option<Outcome>>,
@@ -74,14 +72,15 @@ fn work_alone<R: Wait + RandomSource + AllocGlobal, T: Tasks>(
     rt: &R,
     alloc: Global,
     shared: &Shared<'_, T, OpenGate>,
-    pass: BrokerPass,
-    seat: BackendSeat,
+    hands: Hands,
 ) -> Option<Record>
     requires plan { (l : Line) × IsPlan l × (shared.now.backend.now.plan ≡ roster_of l) }
-    requires own { (pass.of ≡ shared.now.broker.now) × (seat.of ≡ shared.now.backend.now.id) }
-    ensures { IfSome result
-        (Finished (T.behaviour shared.now.tasks.now) shared.now.backend.now.plan 0 pass seat) }
+    requires own { (hands.pass.of ≡ shared.now.broker.now)
+        × (hands.seat.of ≡ shared.now.backend.now.id) }
+    ensures { IfSome result (Finished (T.behaviour shared.now.tasks.now)
+        shared.now.backend.now.plan 0 hands.pass hands.seat) }
 {
+    let Hands { pass, seat } = hands;
     let worker = Worker::new(rt, alloc, shared, 0, pass, seat);
     match block_on(rt, InRounds { future: worker }) {
         Ok(left) => Some(left),
@@ -106,12 +105,12 @@ impl Gathered {
         // For the clauses alone.
         let _tasks = tasks;
         let Gathered {
-            backend,
-            mut seat,
+            site,
+            mut hands,
             mut rows,
             ..
         } = self;
-        read_rows(&backend, &mut seat, plan, &mut rows);
+        read_rows(&site.backend, &mut hands.seat, plan, &mut rows);
         RunFault::halted_with(cause, rows)
     }
 
@@ -133,23 +132,21 @@ impl Gathered {
             (IsThreadFault workers (states (T.behaviour tasks.now) (tree_of plan.now))) }
     {
         let Gathered {
-            broker,
-            pass,
-            backend,
-            seat,
+            site,
+            hands,
             first,
             mut rows,
             mut tallies,
         } = self;
         let shared = Shared {
-            broker: &broker,
-            backend: &backend,
+            broker: &site.broker,
+            backend: &site.backend,
             tasks,
             gate: &OpenGate,
             stop,
             flight: &InFlight::new(0),
         };
-        let Some(left) = work_alone(rt, alloc, &shared, pass, seat) else {
+        let Some(left) = work_alone(rt, alloc, &shared, hands) else {
             stop.ask();
             return Err(RunFault::halted(Cause::Memory));
         };
@@ -160,6 +157,7 @@ impl Gathered {
             fault,
             ..
         } = left;
+        let Site { broker, backend } = site;
         read_rows(&backend, &mut seat, plan, &mut rows);
         match fault {
             Some(cause) => Err(RunFault::halted_with(cause, rows)),

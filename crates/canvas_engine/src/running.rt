@@ -8,7 +8,7 @@ ghost use Rattle.canvas_engine.specs.Evidence.{IsRun};
 ghost use Rattle.canvas_engine.specs.Headline.{Headline};
 ghost use Rattle.canvas_engine.specs.steps.Crews.{AreGathered, IsStart};
 
-use crate::crew::{are_done, fault_of, join_all, split_all, tally_all};
+use crate::crew::{Hands, Site, are_done, fault_of, join_all, split_all, tally_all};
 use crate::fault::MOST_WORKERS;
 use crate::firsts::{first_envelopes, publish_all};
 use crate::gathered::Gathered;
@@ -17,8 +17,8 @@ use crate::threads::work_on_threads;
 use crate::turns::new_rows;
 use crate::worth::one_thread_serves;
 use crate::{Cause, Records, Report, RunFault, Tally};
-use canvas_backend::{Backend, BackendSeat};
-use canvas_broker::{Broker, BrokerPass};
+use canvas_backend::Backend;
+use canvas_broker::Broker;
 use canvas_message::Letter;
 use canvas_rewrite::Plan;
 use canvas_task::{Fault, Memory, Outcome, Tasks};
@@ -31,10 +31,8 @@ use std::thread::Threads;
 /// What a run has before its first publish.
 #[derive(Drop)]
 pub(crate) struct Start {
-    broker: Broker,
-    pass: BrokerPass,
-    backend: Backend,
-    seat: BackendSeat,
+    site: Site,
+    hands: Hands,
     slots: Vec<Slot>,
     envelopes: Vec<Letter>,
     rows: Vec<Option<Outcome>>,
@@ -52,14 +50,14 @@ fn reserve<R: Wait>(rt: &R, alloc: Global, plan: &Plan, workers: u32) -> Result<
     let mut tallies = Vec::with_capacity(alloc, workers as usize + 1)?;
     tallies.push(Tally::none(0))?;
     let envelopes = first_envelopes(alloc, plan)?;
-    let (broker, mut pass) = Broker::new(alloc)?;
-    let (backend, mut seat) = Backend::new(alloc, plan)?;
-    let slots = split_all(rt, alloc, &broker, &mut pass, &backend, &mut seat, workers)?;
+    let (broker, pass) = Broker::new(alloc)?;
+    let (backend, seat) = Backend::new(alloc, plan)?;
+    let site = Site { broker, backend };
+    let mut hands = Hands { pass, seat };
+    let slots = split_all(rt, alloc, &site, &mut hands, workers)?;
     Ok(Start {
-        broker,
-        pass,
-        backend,
-        seat,
+        site,
+        hands,
         slots,
         envelopes,
         rows,
@@ -90,10 +88,8 @@ where
         (IsThreadFault workers (states (T.behaviour tasks.now) (tree_of plan.now))) }
 {
     let Start {
-        broker,
-        mut pass,
-        backend,
-        mut seat,
+        site,
+        mut hands,
         mut slots,
         envelopes,
         rows,
@@ -101,14 +97,14 @@ where
     } = start;
     let first = envelopes.len();
     let flight = InFlight::new(first as u64);
-    match publish_all(rt, &broker, &mut pass, envelopes) {
+    match publish_all(rt, &site.broker, &mut hands.pass, envelopes) {
         Ok(()) => (),
         Err(Memory) => return Err(RunFault::halted_with(Cause::Memory, rows)),
     }
     let one_serves = one_thread_serves(plan, tasks, gate);
     let shared = Shared {
-        broker: &broker,
-        backend: &backend,
+        broker: &site.broker,
+        backend: &site.backend,
         tasks,
         gate,
         stop,
@@ -120,12 +116,10 @@ where
     }
     tally_all(&slots, &mut tallies);
     let fault = fault_of(&slots);
-    join_all(rt, &broker, &mut pass, &backend, &mut seat, slots);
+    join_all(rt, &site, &mut hands, slots);
     let gathered = Gathered {
-        broker,
-        pass,
-        backend,
-        seat,
+        site,
+        hands,
         first,
         rows,
         tallies,

@@ -8,7 +8,6 @@ ghost use Rattle.canvas_backend.specs.Backend.{no_results};
 ghost use Rattle.canvas_backend.specs.Plain.{held};
 ghost use Rattle.canvas_backend.specs.Roster.{roster_of};
 ghost use Rattle.canvas_runs.specs.Core.{end, rest, ReadsBack, is_inside};
-ghost use Rattle.canvas_message.specs.declared.envelope.Envelope.{Envelope};
 ghost use Rattle.canvas_runs.specs.Tally.{greatest_count};
 ghost use Rattle.canvas_runs.specs.Worker.{sealed};
 ghost use Rattle.canvas_turns.specs.Spending.{Entry};
@@ -28,7 +27,7 @@ use canvas_backend::{PlainBackend, Stored};
 use canvas_broker::PlainBroker;
 use canvas_message::Letter;
 use canvas_rewrite::Plan;
-use canvas_task::{GroupNo, Memory, Outcome, TaskNo, Tasks};
+use canvas_task::{Memory, Outcome, TaskNo, Tasks};
 use canvas_worker::{Ask, Core, Reply, When};
 use std::alloc::Global;
 
@@ -52,30 +51,6 @@ fn publish<T: Tasks>(
             Ok(()) => core.answer(alloc, table, tasks, Reply::Published),
             Err(_refused) => Err(Memory),
         },
-        None => unreachable!(),
-    }
-}
-
-/// Reads the outcome of a chord's member.
-fn read<T: Tasks>(
-    alloc: Global,
-    core: &mut Core,
-    table: &PlainBackend,
-    tasks: &T,
-    group: GroupNo,
-    place: u32,
-) -> Result<(), Memory>
-    requires inside { core.old.is_out ≡ false }
-    requires reads_back { ReadsBack (enveloped_by no_tasks no_book) core.old.left }
-    requires asks { shown core.old.task (asked core.old.left) ≡ ask.Read group place }
-    requires may { MayAsk table.now.plan (held table.now) (asked core.old.left) }
-    requires in_range { AreInRange (held table.now) }
-    ensures { OnOk result ((more : Bool) (queue : List Envelope)
-        → Stepped (T.behaviour tasks.now) more core.old queue table.now core.new queue
-        table.now) }
-{
-    match table.member(group, place) {
-        Some(task) => core.answer(alloc, table, tasks, Reply::Found(task, table.read(task))),
         None => unreachable!(),
     }
 }
@@ -124,7 +99,7 @@ fn step<T: Tasks>(
             let count = table.part(group, task);
             core.answer(alloc, table, tasks, Reply::Counted(count))
         }
-        Ask::Read(group, place) => read(alloc, core, table, tasks, group, place),
+        Ask::Read(task) => core.answer(alloc, table, tasks, Reply::Found(table.read(task))),
         Ask::Ack(_) => core.answer(alloc, table, tasks, Reply::Acked),
         Ask::Rest => core.answer(alloc, table, tasks, Reply::Rested { more }),
         Ask::End => Ok(()),

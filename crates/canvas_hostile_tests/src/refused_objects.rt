@@ -191,21 +191,6 @@ fn goes_on(
     }
 }
 
-/// What a core finds of a header's members, in their order.
-fn found(index: u32) -> Option<Reply>
-    ensures { IfSome result (λ r. FoundInRange r) }
-{
-    let task = TaskNo::new(index.saturating_add(1))?;
-    Some(match index {
-        0 => Reply::Found(task, Some(Outcome::Success(8))),
-        1 => Reply::Found(
-            task,
-            Some(Outcome::Failure(Fault::Plain(Kind::ZeroDivision))),
-        ),
-        _ => Reply::Found(task, Some(Outcome::Success(16))),
-    })
-}
-
 /// The replies to a core whose part completes a header of three, behind the take of its message.
 fn reply_of(step: u32) -> Option<Reply>
     ensures { IfSome result (λ r. FoundInRange r) }
@@ -213,9 +198,9 @@ fn reply_of(step: u32) -> Option<Reply>
     match step {
         0 | 5 => Some(Reply::Stored(Stored::First)),
         1 => Some(Reply::Counted(2)),
-        2 => found(0),
-        3 => found(1),
-        4 => found(2),
+        2 => Some(Reply::Found(Some(Outcome::Success(8)))),
+        3 => Some(Reply::Found(Some(Outcome::Failure(Fault::Plain(Kind::ZeroDivision))))),
+        4 => Some(Reply::Found(Some(Outcome::Success(16)))),
         6 => Some(Reply::Published),
         _ => Some(Reply::Acked),
     }

@@ -1,5 +1,5 @@
 -- What the ends of tasks and the completions of headers do, in the order of the file and each once: the facts that a history needs, on messages with the rest of their line.
-use Rattle.std.proofs.Common.{◌≡◌, ℕ, suc, ◌+◌, ◌<◌, ◌≤◌, Bool, true, false, cond, eqb, List, [], ◌∷◌, ◌++◌, length, Some, None, refl, sym, ap, subst, ◌∙◌, ⊎_elim, arith, le_refl}
+use Rattle.std.proofs.Common.{◌≡◌, ℕ, suc, ◌+◌, ◌<◌, ◌≤◌, Bool, true, false, cond, eqb, List, [], ◌∷◌, ◌++◌, length, slice_get, Some, None, refl, sym, ap, subst, ◌∙◌, ⊎_elim, arith, le_refl}
 use Rattle.canvas_task.specs.Apply.{Behaviour}
 use Rattle.canvas_message.specs.Among.{In}
 use Rattle.canvas_runs.specs.Lists.{Each, total, firsts}
@@ -59,9 +59,8 @@ messages_of (part g t c ∷ js) = messages_of js
 
 module _ (behaviour : Behaviour) where
   -- a worker that publishes the messages themselves
-  abbrev pub canvas : Plan → Protocol
+  abbrev pub canvas : Plan → Protocol Message
   canvas p = record {
-    Envelope = Message;
     Message = Message;
     Carried = Carried;
     no = λ m. m.no;
@@ -69,6 +68,7 @@ module _ (behaviour : Behaviour) where
     ended = after;
     completed = body_after;
     size = carried_size;
+    member = λ g i. slice_get (p.members g) i;
     sealed = λ m. m;
     Back = λ m. Unit;
     opened = λ m. Some m;
@@ -85,7 +85,7 @@ module _ (members : ℕ → List ℕ) where
       (callbacks_rise members d m.errbacks (id_input m.no) (Some m.no) a b j)
 
 module _ (behaviour : Behaviour) (p : Plan) where
-  abbrev pub X : Protocol
+  abbrev pub X : Protocol Message
   X = canvas behaviour p
 
   abbrev pub form : Form X
@@ -164,6 +164,7 @@ module _ (behaviour : Behaviour) (p : Plan) where
     completed = λ g t c fs f e. completed_beyond g t c fs f;
     member = λ g t c f. f.0;
     size = λ g t c f. size_of g t c f;
+    place = λ g i. refl;
   }
     where
       outcome_in : {k : ℕ} (o : Outcome) → 1 ≤ k → k < p.limit → FlowIn p.members p.limit (Some k) (after_outcome o)

@@ -10,6 +10,7 @@ use Rattle.canvas_semantics.specs.Line.{Line, stop, step, group_end, chord_end, 
 use Rattle.canvas_rewrite.specs.FrozenView.{PCarried}
 use Rattle.canvas_rewrite.specs.Planned.{IsPlan}
 use Rattle.canvas_message.specs.Content.{Content, number_of}
+use Rattle.canvas_message.specs.declared.envelope.Envelope.{Envelope}
 use Rattle.canvas_effects.specs.Effects as effects
 use Rattle.canvas_effects.specs.Effects.{first_messages, effect_of, script, stores_in, messages_in, part_in, part_jobs}
 use Rattle.canvas_effects.specs.Events as events
@@ -144,7 +145,7 @@ module _ (P : Job Content PCarried Outcome → Type 0) where
       (part_each js a))
 
 module _ (behaviour : Behaviour) (l : Line) (plan : IsPlan l) where
-  abbrev pub X : Protocol
+  abbrev pub X : Protocol Envelope
   X = worker behaviour l
 
   abbrev pub p : Plan
@@ -282,6 +283,7 @@ module _ (behaviour : Behaviour) (l : Line) (plan : IsPlan l) where
     completed = completed_beyond;
     member = λ g t d f. (plan_facts.order behaviour p).member g t f.0 f.2.0;
     size = λ g t d f. ap (λ d. d.size) f.1 ∙ (p_carried_size f.0 ∙ (plan_facts.order behaviour p).size g t f.0 f.2.0);
+    place = λ g i. refl;
   }
 
   -- ---- value

@@ -33,12 +33,12 @@ use Rattle.canvas_runs.proofs.Facts.{X, form, Does, order, value, once, keeping,
 use Rattle.canvas_runs.proofs.Messages.{nowhere}
 use Rattle.canvas_runs.proofs.Histories.{GoodPublish, GoodAgain, each_seconds}
 use Rattle.canvas_runs.proofs.Meaning.{Has}
-use Rattle.canvas_runs.proofs.OnceEach.{published_once, publishes_task, of_opened, first_of, one_first}
+use Rattle.canvas_runs.proofs.OnceEach.{published_once, publishes_task, of_opened, one_first}
 use Rattle.canvas_runs.proofs.Right.{publishes_right, agains_right, IsRunSealed, CallRight, calls_right}
 use Rattle.canvas_runs.proofs.Run as inner
 use Rattle.canvas_runs.proofs.StateRows as rows
 use Rattle.canvas_runs.proofs.Accords.{accords_behind}
-use Rattle.canvas_runs.proofs.StoredOnce.{agains_task, again_of, agains_few}
+use Rattle.canvas_runs.proofs.StoredOnce.{agains_task, agains_few}
 use Rattle.canvas_runs.proofs.Words.{each_weaker, in_each}
 
 module _ (behaviour : Behaviour) (l : Line) (plan : IsPlan l) where
@@ -79,7 +79,6 @@ module _ (behaviour : Behaviour) (l : Line) (plan : IsPlan l) where
       queue = queue_is [] r.queue [] [] refl (λ c e i. i) r.queue_legal;
       table = table_is l (plan_apart l plan) [] r.table results.no_results [] [] refl (table_starts l (plan_apart l plan)) r.table_legal;
       is_core = r.is_core;
-      reads = r.reads;
       follows = λ p. accords_behind (cond (eqb p 0) (published_all (map sealed r.opening)) []) (r.core p) (r.follows p);
       keeps = r.keeps;
     }
@@ -130,14 +129,6 @@ module _ (behaviour : Behaviour) (l : Line) (plan : IsPlan l) where
     again_weight k (broker.redeliver e, r) = opened_weight k (opened (book_of l) e)
     again_weight k c = refl
 
-    pub first_weight : (k : ℕ) (c : TableAnswered) → first_of k c ≡ firsts_one k c
-    first_weight k c = refl
-
-    pub repeat_weight : (k : ℕ) (c : TableAnswered)
-        → again_of (X behaviour l plan) (form behaviour l plan) (Does behaviour l plan) (order behaviour l plan) (value behaviour l plan)
-        (once behaviour l plan) (keeping behaviour l plan) inner_run k c ≡ agains_one k c
-    repeat_weight k c = refl
-
     pub run_again : (e : Envelope) (a : Option Envelope) → In (broker.redeliver e, a) (seconds (queue_calls r.queue)) → (c : Content) × (e ≡ sealed c)
         × (opened (book_of l) e ≡ Some c)
         × IsRunMessage behaviour l c
@@ -151,15 +142,12 @@ module _ (behaviour : Behaviour) (l : Line) (plan : IsPlan l) where
 
     -- how often each store answers
     firsts_few : (k : ℕ) → total (firsts_one k) (seconds (answered_calls r.table)) ≤ 1
-    firsts_few k = subst (λ n. n ≤ 1) (total-same (first_of k) (firsts_one k) (first_weight k) (seconds (answered_calls r.table)))
-        (one_first k [] [] (seconds (answered_calls r.table)) inner_run.table)
+    firsts_few k = one_first k [] [] (seconds (answered_calls r.table)) inner_run.table
 
     again_few : (k : ℕ) → total (agains_one k) (seconds (answered_calls r.table)) ≤ total (agains_one_of l k) (seconds (queue_calls r.queue))
     again_few k =
         let few = agains_few (X behaviour l plan) (form behaviour l plan) (Does behaviour l plan) (order behaviour l plan) (value behaviour l plan)
         (once behaviour l plan) (keeping behaviour l plan) inner_run k in
-        let a = total-same (again_of (X behaviour l plan) (form behaviour l plan) (Does behaviour l plan) (order behaviour l plan) (value behaviour l plan)
-        (once behaviour l plan) (keeping behaviour l plan) inner_run k) (agains_one k) (repeat_weight k) (seconds (answered_calls r.table)) in
         let b = total-same (agains_task (X behaviour l plan) k) (agains_one_of l k) (again_weight k) (seconds (queue_calls r.queue)) in
         omega arith
 

@@ -25,13 +25,13 @@ module _ {A : Type 0} where
 
 -- ---- one more answered ask of a core run
 
-module _ (X : Protocol) where
-  pub left_more : (s : CoreState X.Message X.Carried) (xs : List (AskedAndAnswered X.Envelope)) (x : AskedAndAnswered X.Envelope)
+module _ {E : Type 0} (X : Protocol E) where
+  pub left_more : (s : CoreState X.Message X.Carried) (xs : List (AskedAndAnswered E)) (x : AskedAndAnswered E)
       → left_after X s (xs ++ x ∷ []) ≡ answered X (left_after X s xs) x.1
   left_more s [] x = refl
   left_more s (y ∷ xs) x = left_more (answered X s y.1) xs x
 
-  pub core_more : (s : CoreState X.Message X.Carried) (xs : List (AskedAndAnswered X.Envelope)) (x : AskedAndAnswered X.Envelope)
+  pub core_more : (s : CoreState X.Message X.Carried) (xs : List (AskedAndAnswered E)) (x : AskedAndAnswered E)
       → IsCoreRun X s xs → x.0 ≡ ask X (left_after X s xs) → Suits x.0 x.1 → ReadsBack X (left_after X s xs)
       → IsCoreRun X s (xs ++ x ∷ [])
   core_more s [] x run asks suits back = (asks, (suits, back), tt)
@@ -57,12 +57,12 @@ module _ {E : Type 0} where
   held_append h [] ys = refl
   held_append h (x ∷ xs) ys = held_append (held_by h x.0 x.1) xs ys
 
-  pub delivers_append : (h : Option E) (xs : List (AskedAndAnswered E)) (x : AskedAndAnswered E) → DeliversHeld h xs → delivers (held_after h xs) x.0
+  pub delivers_append : (h : Option E) (xs : List (AskedAndAnswered E)) (x : AskedAndAnswered E) → DeliversHeld h xs → delivers (held_after h xs) x.0 x.1
       → DeliversHeld h (xs ++ x ∷ [])
   delivers_append h [] x d k = (k, tt)
   delivers_append h (y ∷ xs) x d k = (d.0, delivers_append (held_by h y.0 y.1) xs x d.1 k)
 
-module _ (X : Protocol) where
+module _ {E : Type 0} (X : Protocol E) where
   pub asks_of_scripts : (s : CoreState X.Message X.Carried) → of_scripts (ask X s) ≡ true
   asks_of_scripts taking = refl
   asks_of_scripts resting = refl
@@ -73,18 +73,18 @@ module _ (X : Protocol) where
   asks_of_scripts (doing (job.store t o ∷ js) b) = refl
   asks_of_scripts (doing (job.publish m ∷ js) b) = refl
   asks_of_scripts (doing (job.part g t c ∷ js) b) = refl
-  asks_of_scripts (reading g c fs) = refl
+  asks_of_scripts (reading g c t fs) = refl
   asks_of_scripts acking = refl
 
-  pub plain_ask : (s : CoreState X.Message X.Carried) (h : Option X.Envelope) → delivers h (ask X s)
-  plain_ask taking h = tt
-  plain_ask resting h = tt
-  plain_ask over h = tt
-  plain_ask failed h = tt
-  plain_ask (owning m) h = tt
-  plain_ask (doing [] b) h = tt
-  plain_ask (doing (job.store t o ∷ js) b) h = tt
-  plain_ask (doing (job.publish m ∷ js) b) h = tt
-  plain_ask (doing (job.part g t c ∷ js) b) h = tt
-  plain_ask (reading g c fs) h = tt
-  plain_ask acking h = tt
+  pub plain_ask : (s : CoreState X.Message X.Carried) (h : Option E) (r : Reply E) → delivers h (ask X s) r
+  plain_ask taking h r = tt
+  plain_ask resting h r = tt
+  plain_ask over h r = tt
+  plain_ask failed h r = tt
+  plain_ask (owning m) h r = tt
+  plain_ask (doing [] b) h r = tt
+  plain_ask (doing (job.store t o ∷ js) b) h r = tt
+  plain_ask (doing (job.publish m ∷ js) b) h r = tt
+  plain_ask (doing (job.part g t c ∷ js) b) h r = tt
+  plain_ask (reading g c t fs) h r = tt
+  plain_ask acking h r = tt

@@ -38,18 +38,18 @@ use Rattle.canvas_runs.proofs.Effects.{Jobs, enter, after, body_after, outcome_o
 use Rattle.canvas_runs.proofs.Evaluation as evaluation
 use Rattle.canvas_runs.proofs.Facts as facts
 use Rattle.canvas_runs.proofs.Facts.{X, form, Does, order, value, once, keeping, its_backs, p, Formed', FormedPart'}
-use Rattle.canvas_runs.proofs.FirstLaw.{has_state, state_has, inner_run, stored_right, first_part, first_weight, repeat_weight, run_again}
+use Rattle.canvas_runs.proofs.FirstLaw.{has_state, state_has, inner_run, stored_right, first_part, run_again}
 use Rattle.canvas_runs.proofs.Messages.{nowhere, Carried, Message}
 use Rattle.canvas_runs.proofs.Meaning.{After, Beyond}
 use Rattle.canvas_runs.proofs.Parts.{Kept}
 use Rattle.canvas_runs.proofs.Scripts.{ended_script, completed_script, first_sent}
 use Rattle.canvas_runs.proofs.Sized.{SizedJob, after_sized, body_sized, enter_sized, plan_sized}
 use Rattle.canvas_runs.proofs.Started.{run_stores, messages_publish}
-use Rattle.canvas_runs.proofs.StoredOnce.{takes_task, again_of, both_answers}
+use Rattle.canvas_runs.proofs.StoredOnce.{takes_task, both_answers}
 use Rattle.canvas_runs.proofs.Delivered.{taken_stored}
-use Rattle.canvas_runs.proofs.OnceEach.{first_of, of_opened}
+use Rattle.canvas_runs.proofs.OnceEach.{of_opened}
 use Rattle.canvas_runs.proofs.Sums.{total-append, find_heavy}
-use Rattle.canvas_runs.proofs.Tables.{Distinct, part_of, part_once}
+use Rattle.canvas_runs.proofs.Tables.{Distinct, part_once}
 use Rattle.canvas_runs.proofs.Trees.{AJob}
 use Rattle.canvas_runs.proofs.Whole.{from_kinds, items_done}
 use Rattle.canvas_runs.proofs.Words.{each_weaker, each_both, in_each}
@@ -286,19 +286,12 @@ module _ (behaviour : Behaviour) (l : Line) (plan : IsPlan l) (r : Run behaviour
       let stores = taken_stored (X behaviour l plan) t (form behaviour l plan) (inner_run behaviour l plan r) c.all_used c.all_ended in
       let both = both_answers (X behaviour l plan) (form behaviour l plan) (Does behaviour l plan) (order behaviour l plan) (value behaviour l plan)
       (once behaviour l plan) (keeping behaviour l plan) (inner_run behaviour l plan r) t calls in
-      let f = total-same (first_of t) (firsts_one t) (first_weight behaviour l plan r t) calls in
-      let a = total-same (again_of (X behaviour l plan) (form behaviour l plan) (Does behaviour l plan) (order behaviour l plan) (value behaviour l plan)
-      (once behaviour l plan) (keeping behaviour l plan) (inner_run behaviour l plan r) t) (agains_one t) (repeat_weight behaviour l plan r t) calls in
       ⊎_elim (λ z. omega arith) (λ p. omega arith) (again_published t)
-
-  part_weight : (g m : ℕ) (x : TableAnswered) → returns_one g m x ≡ part_of g m x
-  part_weight g m c = refl
 
   returned_once : (g t : ℕ) → IsPart behaviour l g t → returns g t r.table ≡ 1
   returned_once g t (d, v, i) =
       let done = finished v (part g t d) i in
       let few = (part_once g t [] [] (seconds (answered_calls r.table)) (inner_run behaviour l plan r).table).0 in
-      let same = total-same (returns_one g t) (part_of g t) (part_weight g t) (seconds (answered_calls r.table)) in
       let here = in_total (returns_one g t) (seconds (answered_calls r.table)) (results.part g t, results.count done.0) done.1 in
       let mine : returns_one g t (results.part g t, results.count done.0) ≡ 1 = ap (λ b. cond b (cond (eqb t t) 1 0) 0) (eq-eqb g g refl)
       ∙ ap (λ b. cond b 1 0) (eq-eqb t t refl) in

@@ -3,22 +3,19 @@
 --     Makes p cs q           the pass p has made these broker calls and is q then: each stands in
 --                            the one legal history of its queue, after all that p had seen
 --     Serves plan s cs t     the same of a seat and its backend calls
---     Followed behaviour plan w v   from w on the worker's pass and seat have followed a core run,
---                                   and it is v then
+--     Followed X plan w v    from w on the worker's pass and seat have followed a core run of the
+--                            protocol X, and it is v then
 use Rattle.std.specs.Prelude.{◌+◌, ◌≡◌, List, [], ◌∷◌, length, Option, None}
-use Rattle.canvas_task.specs.Apply.{Behaviour}
 use Rattle.canvas_history.specs.History.{calls}
-use Rattle.canvas_rewrite.specs.FrozenView.{PCarried}
-use Rattle.canvas_message.specs.Content.{Content}
 use Rattle.canvas_message.specs.declared.envelope.Envelope.{Envelope}
 use Rattle.canvas_backend.specs.Seats as seats
-use Rattle.canvas_backend.specs.Roster.{Roster, members}
+use Rattle.canvas_backend.specs.Roster.{Roster}
 use Rattle.canvas_broker.specs.Passes as passes
 use Rattle.canvas_runs.specs.Core.{CoreState, taking, over, IsCoreRun, left_after, Between}
-use Rattle.canvas_runs.specs.Calls.{QueueAnswered, TableAnswered, FollowsScripts, AskedAndAnswered, broker_calls, core_calls, backend_calls, ReadsMembers, takes_one}
+use Rattle.canvas_runs.specs.Calls.{QueueAnswered, TableAnswered, FollowsScripts, AskedAndAnswered, broker_calls, core_calls, backend_calls, takes_one}
 use Rattle.canvas_runs.specs.Lists.{total}
 use Rattle.canvas_runs.specs.Tally.{Tally, none_yet, Counted}
-use Rattle.canvas_runs.specs.Worker.{worker_of}
+use Rattle.canvas_runs.specs.Protocol.{Protocol}
 
 abbrev pub Pass : Type 0
 Pass = passes.Pass Envelope
@@ -38,36 +35,37 @@ Serves plan s (c ∷ cs) t =
     (between : Seat) × seats.Stands plan s (calls s.name c.0 c.1) between
     × Serves plan between cs t
 
--- a worker: its pass and its seat, what its core has left to do, the envelope of the open script,
--- the envelopes that it took and has not given to its core, and its counts
-pub record Working : Type 0 where
+-- A worker of messages M and what the members of a chord carry, C: its pass and its seat, what its
+-- core has left to do, the envelope of the open script, the envelopes that it took and has not
+-- given to its core, and its counts.
+pub record Working (M C : Type 0) : Type 0 where
   pub pass : Pass
   pub seat : Seat
-  pub left : CoreState Content PCarried
+  pub left : CoreState M C
   pub current : Option Envelope
   pub held : List Envelope
   pub tally : Tally
 
--- with this pass and this seat, before its first call
-abbrev pub begins : Pass → Seat → Working
-begins p s =
-    record { pass = p; seat = s; left = taking; current = None; held = []; tally = none_yet }
+module _ {M C : Type 0} where
+  -- with this pass and this seat, before its first call
+  abbrev pub starting : Pass → Seat → Working M C
+  starting p s =
+      record { pass = p; seat = s; left = taking; current = None; held = []; tally = none_yet }
 
--- not inside a script, with no envelope left over
-abbrev pub IsDone : Working → Type 0
-IsDone w = Between w.left × (w.held ≡ [])
+  -- not inside a script, with no envelope left over
+  abbrev pub IsDone : Working M C → Type 0
+  IsDone w = Between w.left × (w.held ≡ [])
 
--- its last ask was a rest, which was answered with no more, and no envelope is left over
-abbrev pub IsOver : Working → Type 0
-IsOver w = (w.left ≡ over) × (w.held ≡ [])
+  -- its last ask was a rest, which was answered with no more, and no envelope is left over
+  abbrev pub IsOver : Working M C → Type 0
+  IsOver w = (w.left ≡ over) × (w.held ≡ [])
 
-pub record Followed (behaviour : Behaviour) (plan : Roster) (w v : Working) : Type 0 where
+pub record Followed (X : Protocol Envelope) (plan : Roster) (w v : Working X.Message X.Carried) :
+    Type 0 where
   pub run : List (AskedAndAnswered Envelope)
-  pub is_core : IsCoreRun (worker_of behaviour plan) w.left run
-  -- a read is of the member that it names
-  pub reads : ReadsMembers (members plan) run
+  pub is_core : IsCoreRun X w.left run
   pub counts : Counted plan run w.tally v.tally
-  pub leaves : left_after (worker_of behaviour plan) w.left run ≡ v.left
+  pub leaves : left_after X w.left run ≡ v.left
   -- the calls of its pass. A take may stand before the core's, and an envelope may be delivered
   -- again while its script is open
   pub made : List (QueueAnswered Envelope)

@@ -8,10 +8,10 @@ use Rattle.canvas_message.specs.Content.{Content}
 use Rattle.canvas_effects.specs.Effects.{first_messages}
 use Rattle.canvas_message.specs.declared.envelope.Envelope.{Envelope}
 use Rattle.canvas_backend.specs.Backend as results
-use Rattle.canvas_backend.specs.Roster.{roster_of, members}
+use Rattle.canvas_backend.specs.Roster.{roster_of}
 use Rattle.canvas_broker.specs.Broker as broker
 use Rattle.canvas_runs.specs.Core.{IsCoreRun, taking, left_after, Between}
-use Rattle.canvas_runs.specs.Calls.{QueueAnswered, TableAnswered, makes, FollowsScripts, AskedAndAnswered, broker_calls, core_calls, backend_calls, ReadsMembers, takes_one}
+use Rattle.canvas_runs.specs.Calls.{QueueAnswered, TableAnswered, makes, FollowsScripts, AskedAndAnswered, broker_calls, core_calls, backend_calls, takes_one}
 use Rattle.canvas_runs.specs.Lists.{Each, by, total}
 use Rattle.canvas_runs.specs.Logs.{queue_calls}
 use Rattle.canvas_runs.specs.Worker.{IsReadBack, worker, sealed}
@@ -31,8 +31,6 @@ pub record Run (behaviour : Behaviour) (l : Line) : Type 0 where
   pub table_legal : results.IsLegal (roster_of l) table
   pub core : ℕ → List (AskedAndAnswered Envelope)
   pub is_core : (p : ℕ) → IsCoreRun (worker behaviour l) taking (core p)
-  -- a read is of the member that it names
-  pub reads : (p : ℕ) → ReadsMembers (members (roster_of l)) (core p)
   -- What worker 0 publishes before all else, what is left of the first messages, and what it reads
   -- at the end.
   pub opening : List Content

@@ -78,21 +78,15 @@ fn count(counts: &mut [u64], chord: GroupNo) -> Option<u64> {
     Some(before)
 }
 
-fn found(
-    backend: &PlainBackend,
-    rows: &[Option<Outcome>],
-    chord: GroupNo,
-    index: u32,
-) -> Option<Reply>
+fn found(rows: &[Option<Outcome>], task: TaskNo) -> Option<Reply>
     ensures { IfSome result (λ r. FoundInRange r) }
 {
-    let task = backend.member(chord, index)?;
     let row = rows.get(task.get() as usize - 1)?;
-    Some(Reply::Found(task, small(*row)))
+    Some(Reply::Found(small(*row)))
 }
 
 /// The answer to what a core asks, which hands out its envelope just once.
-fn reply_of(backend: &PlainBackend, desk: &mut Desk, core: &mut Core) -> Option<Reply>
+fn reply_of(desk: &mut Desk, core: &mut Core) -> Option<Reply>
     ensures { IfSome result (λ r. FoundInRange r) }
 {
     match core.next() {
@@ -112,7 +106,7 @@ fn reply_of(backend: &PlainBackend, desk: &mut Desk, core: &mut Core) -> Option<
             Some(count) => Some(Reply::Counted(count)),
             None => None,
         },
-        Ask::Read(chord, index) => found(backend, &desk.rows, chord, index),
+        Ask::Read(task) => found(&desk.rows, task),
         Ask::Ack(_) => Some(Reply::Acked),
         Ask::Rest => Some(Reply::Rested { more: false }),
         Ask::End => None,
@@ -121,7 +115,7 @@ fn reply_of(backend: &PlainBackend, desk: &mut Desk, core: &mut Core) -> Option<
 
 /// Whether one more ask is answered. Inside a script the core holds its envelope, and outside none.
 fn goes_on(alloc: Global, backend: &PlainBackend, desk: &mut Desk, core: &mut Core) -> bool {
-    match reply_of(backend, desk, core) {
+    match reply_of(desk, core) {
         Some(reply) => {
             answers(alloc, backend, core, reply) && core.held().is_some() == core.is_inside()
         }
@@ -271,9 +265,9 @@ fn failed_header(rt: HostRuntime) {
         Ask::Take,
         Ask::Store(task(3), Outcome::Success(16)),
         Ask::Part(group(1), task(3)),
-        Ask::Read(group(1), 0),
-        Ask::Read(group(1), 1),
-        Ask::Read(group(1), 2),
+        Ask::Read(task(1)),
+        Ask::Read(task(2)),
+        Ask::Read(task(3)),
         Ask::Store(task(4), raised_by_2()),
         Ask::Publish,
         Ask::Ack(Some(task(3))),

@@ -41,18 +41,18 @@ fn is_in_range(outcome: &Outcome) -> bool
     }
 }
 
-/// What a read of a member's outcome is answered.
-fn found(task: TaskNo, row: Option<Outcome>) -> Reply
+/// What a read of a task's outcome is answered.
+fn found(row: Option<Outcome>) -> Reply
     ensures { FoundInRange result }
 {
     match row {
         Some(outcome) => {
             if is_in_range(&outcome) {
-                return Reply::Found(task, Some(outcome));
+                return Reply::Found(Some(outcome));
             }
-            Reply::Found(task, None)
+            Reply::Found(None)
         }
-        None => Reply::Found(task, None),
+        None => Reply::Found(None),
     }
 }
 
@@ -120,17 +120,12 @@ impl Stage {
         }
     }
 
-    /// The member of a header whose outcome a core asks for.
-    fn member(&self, plan: &Plan, group: GroupNo, place: u32) -> Option<TaskNo> {
-        plan.members(group).get(place as usize).copied()
-    }
-
     fn holds_more(&self) -> bool {
         !self.queue.is_empty() || self.cores.iter().any(|core| core.is_inside())
     }
 
     /// The answer to an ask; none to the end, and where nothing is handed out.
-    fn reply_to(&mut self, plan: &Plan, index: usize, ask: Ask) -> Result<Option<Reply>, Memory>
+    fn reply_to(&mut self, index: usize, ask: Ask) -> Result<Option<Reply>, Memory>
         ensures { IfOk result (λ reply. IfSome reply FoundInRange) }
     {
         let reply = match ask {
@@ -138,10 +133,7 @@ impl Stage {
             Ask::Publish => return self.reply_to_publish(index),
             Ask::Store(task, outcome) => Reply::Stored(self.store(task, outcome)),
             Ask::Part(group, _task) => Reply::Counted(self.count(group)),
-            Ask::Read(group, place) => match self.member(plan, group, place) {
-                Some(task) => found(task, self.row(task)),
-                None => return Ok(None),
-            },
+            Ask::Read(task) => found(self.row(task)),
             Ask::Ack(_) => Reply::Acked,
             Ask::Rest => Reply::Rested {
                 more: self.holds_more(),
@@ -170,7 +162,6 @@ impl Stage {
     pub(crate) fn turn<T: Tasks>(
         &mut self,
         alloc: Global,
-        plan: &Plan,
         tasks: &T,
         worker: u32,
     ) -> Result<bool, Memory> {
@@ -182,7 +173,7 @@ impl Stage {
             return Ok(false);
         };
         let ask = core.next();
-        match self.reply_to(plan, index, ask)? {
+        match self.reply_to(index, ask)? {
             Some(reply) => self.answer(alloc, tasks, index, reply),
             None => Ok(false),
         }
@@ -209,16 +200,10 @@ impl Stage {
         }
     }
 
-    fn round<T: Tasks>(
-        &mut self,
-        alloc: Global,
-        plan: &Plan,
-        tasks: &T,
-        workers: u32,
-    ) -> Result<bool, Memory> {
+    fn round<T: Tasks>(&mut self, alloc: Global, tasks: &T, workers: u32) -> Result<bool, Memory> {
         let mut answered = false;
         for index in 0..workers {
-            answered |= self.turn(alloc, plan, tasks, index.saturating_add(1))?;
+            answered |= self.turn(alloc, tasks, index.saturating_add(1))?;
         }
         Ok(answered)
     }
@@ -227,12 +212,11 @@ impl Stage {
     pub(crate) fn run_rounds<T: Tasks>(
         &mut self,
         alloc: Global,
-        plan: &Plan,
         tasks: &T,
         workers: u32,
     ) -> Result<(), Memory> {
         for _ in 0..MOST_ROUNDS {
-            if !self.round(alloc, plan, tasks, workers)? {
+            if !self.round(alloc, tasks, workers)? {
                 return Ok(());
             }
         }

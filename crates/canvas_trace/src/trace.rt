@@ -29,9 +29,9 @@ pub fn trace_of<T: Tasks>(
     let mut stage = Stage::new(alloc, plan, workers)?;
     stage.open(alloc, plan)?;
     for worker in turns {
-        stage.turn(alloc, plan, tasks, *worker)?;
+        stage.turn(alloc, tasks, *worker)?;
     }
-    stage.run_rounds(alloc, plan, tasks, workers)?;
+    stage.run_rounds(alloc, tasks, workers)?;
     Ok(stage.into_trace())
 }
 

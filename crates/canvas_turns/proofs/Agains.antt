@@ -8,11 +8,12 @@ use Rattle.canvas_rewrite.specs.Planned.{IsPlan}
 use Rattle.canvas_message.specs.Content.{Content, number_of}
 use Rattle.canvas_message.specs.Among.{In}
 use Rattle.canvas_message.specs.declared.envelope.Envelope.{Envelope}
-use Rattle.canvas_backend.specs.declared.stored.Stored.TheVariants.{First, Again}
+use Rattle.canvas_backend.specs.declared.stored.Stored.TheVariants.{Again}
+use Rattle.canvas_backend.specs.Backend as results
 use Rattle.canvas_broker.specs.Broker as broker
 use Rattle.canvas_runs.specs.Book.{book_of}
 use Rattle.canvas_runs.specs.Calls.{QueueAnswered}
-use Rattle.canvas_runs.specs.Core.{Ask, Reply, store, part, read, stored, counted, found, taking, resting, over, Doing, Between}
+use Rattle.canvas_runs.specs.Core.{Ask, Reply, to_table, from_table, taking, resting, over, Doing, Between}
 use Rattle.canvas_runs.specs.Law.{of_task, takes_one_of, agains_one_of, agains_one, IsRunMessage, publishes, publishes_one, takes_of_task, redeliveries, again_stores, FirstPart, SecondPart}
 use Rattle.canvas_runs.specs.Lists.{Each, total, seconds}
 use Rattle.canvas_runs.specs.Logs.{queue_calls}
@@ -35,6 +36,7 @@ use Rattle.canvas_turns.proofs.Spends.{spends_length, takes_in, agains_of, few_l
 use Rattle.canvas_turns.proofs.TurnEnds.{few}
 use Rattle.canvas_turns.proofs.TurnLaw.{the_run, the_closed, all_between, rounds_workers}
 use Rattle.canvas_turns.proofs.TurnRuns.{firsts}
+use Rattle.canvas_turns.proofs.TurnWalk.{holds_first}
 use Rattle.canvas_turns.proofs.TurnSums.{again_sum, redelivers_few, in_table, queue_split, table_total}
 
 -- ---- sums by key
@@ -77,7 +79,7 @@ total_as v w e (x ∷ xs) = ap₂ (λ a b. a + b) (e x) (total_as v w e xs)
 
 -- the task whose store answers
 abbrev stores_of : Ask Envelope → ℕ
-stores_of (store t o) = t
+stores_of (to_table (results.store t o)) = t
 stores_of a = 0
 
 module _ (behaviour : Behaviour) (l : Line) where
@@ -86,10 +88,9 @@ module _ (behaviour : Behaviour) (l : Line) where
     where
       go : (a : Ask Envelope) (r : Reply Envelope)
           → cond (eqb (stores_of a) k) (answers_again a r) 0 ≡ in_table behaviour l (agains_one k) (a, r)
-      go (store t o) (stored First) = zero_either (eqb t k)
-      go (store t o) (stored Again) = omega arith
-      go (part g t) (counted n) = zero_either (eqb 0 k)
-      go (read g i) (found t x) = zero_either (eqb 0 k)
+      go (to_table (results.store t o)) (from_table (results.was Again)) = omega arith
+      go (to_table (results.store t o)) (from_table r) = zero_either (eqb t k)
+      go (to_table c) (from_table r) = zero_either (eqb 0 k)
       go a r = zero_either (eqb (stores_of a) k)
 
 -- ---- entries
@@ -277,11 +278,11 @@ module _ (behaviour : Behaviour) (l : Line) (n : ℕ) (es : List Entry) (us : Li
         let e_none : entries_for k Early rest ≡ 0 =
         ⊎_elim (λ z. z) (λ (m : T + waiting behaviour l n k Early [] + entries_for k Early rest ≡ entries_for k Early es
         + waiting behaviour l n k Early xs). omega (arith, m, none_at_first k Early, none_at_last k Early, taken, sum, fl))
-        (spends_all behaviour l n k Early [] es us xs rest t.workers t.turned) in
+        (spends_all behaviour l n k t.plan t.opens_back Early [] es us xs rest (holds_first behaviour l t.plan t.opens_back n) t.workers t.turned) in
         let l_none : entries_for k Late rest ≡ 0 =
         ⊎_elim (λ z. z) (λ (m : T + waiting behaviour l n k Late [] + entries_for k Late rest ≡ entries_for k Late es + waiting behaviour l n k Late xs). omega
         (arith, m, none_at_first k Late, none_at_last k Late, taken, sum, fe))
-        (spends_all behaviour l n k Late [] es us xs rest t.workers t.turned) in
+        (spends_all behaviour l n k t.plan t.opens_back Late [] es us xs rest (holds_first behaviour l t.plan t.opens_back n) t.workers t.turned) in
         let stores : again_stores k R.table ≡ A = second.stored_again k ∙ its_agains k in
         (omega (arith, stores, sum, e_none, l_none), e_none, l_none)
 

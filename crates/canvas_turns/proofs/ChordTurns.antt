@@ -7,15 +7,16 @@ use Rattle.canvas_message.specs.declared.envelope.Envelope.{Envelope}
 use Rattle.canvas_backend.specs.declared.stored.Stored.TheVariants.{First}
 use Rattle.canvas_runs.specs.Book.{book_of}
 use Rattle.canvas_runs.specs.Calls.{AskedAndAnswered, of_scripts}
-use Rattle.canvas_runs.specs.Core.{Ask, Reply, take, publish, store, part, read, rest, ack, taken, sent, stored, counted, found, rested, acked, taking, ask, opens, left_after, ReadsBack, Doing, is_inside}
+use Rattle.canvas_runs.specs.Core.{Ask, Reply, rest, ack, rested, acked, taking, ask, opens, left_after, ReadsBack, Doing, is_inside}
 use Rattle.canvas_runs.specs.Protocol.{Protocol}
 use Rattle.canvas_runs.specs.Witness.{small, first_sum, second_sum, whole_sum, two, four, six}
 use Rattle.canvas_runs.specs.Worker.{worker, sealed, opened}
 use Rattle.canvas_runs.proofs.ChordRuns.{first_back, second_back, whole_back, first_opens, second_opens, whole_opens}
 use Rattle.canvas_turns.specs.Turns.{Step, left, Answers, HasEnded, Turned, all_taken, skips_turn, takes_turn, delivers_again, AllEnded, RanWhole, rounds}
+use Rattle.canvas_turns.proofs.Shorts.{take, publish, store, part, read, taken, sent, stored, counted, found}
 use Rattle.canvas_turns.specs.TurnWitness.{listed_turns, witness_steps as steps, hasty}
 
-abbrev X : Protocol
+abbrev X : Protocol Envelope
 X = worker six_tasks small
 
 -- ---- what a worker asks, by the message that its envelope reads as
@@ -35,7 +36,7 @@ abbrev first_own : List (AskedAndAnswered Envelope)
 first_own = (store 1 two, stored First) ∷ (part 1 1, counted 0) ∷ (ack, acked) ∷ []
 
 abbrev second_own : List (AskedAndAnswered Envelope)
-second_own = (store 2 four, stored First) ∷ (part 1 2, counted 1) ∷ (read 1 0, found 1 (Some two)) ∷ (read 1 1, found 2 (Some four))
+second_own = (store 2 four, stored First) ∷ (part 1 2, counted 1) ∷ (read 1, found (Some two)) ∷ (read 2, found (Some four))
     ∷ (publish (sealed whole_sum), sent) ∷ (ack, acked) ∷ []
 
 abbrev whole_own : List (AskedAndAnswered Envelope)
@@ -103,10 +104,10 @@ abbrev b7 : List Step
 b7 = b6 ++ (2, (part 1 2, counted 1)) ∷ []
 
 abbrev b8 : List Step
-b8 = b7 ++ (2, (read 1 0, found 1 (Some two))) ∷ []
+b8 = b7 ++ (2, (read 1, found (Some two))) ∷ []
 
 abbrev b9 : List Step
-b9 = b8 ++ (2, (read 1 1, found 2 (Some four))) ∷ []
+b9 = b8 ++ (2, (read 2, found (Some four))) ∷ []
 
 abbrev b10 : List Step
 b10 = b9 ++ (2, (publish (sealed whole_sum), sent)) ∷ []
@@ -187,7 +188,7 @@ from_10 : Turned six_tasks small 2 b10 (2 ∷ 1 ∷ 1 ∷ 1 ∷ 1 ∷ 2 ∷ 1 �
 from_10 = turn b10 2 (ack) (acked) (1 ∷ 1 ∷ 1 ∷ 1 ∷ 2 ∷ 1 ∷ 2 ∷ [])
     ((1, (take, taken (Some (sealed whole_sum)))) ∷ (1, (store 3 six, stored First)) ∷ (1, (ack, acked)) ∷ (1, (take, taken None)) ∷ (2, (take, taken None))
     ∷ (1, (rest, rested false)) ∷ (2, (rest, rested false)) ∷ [])
-    (by_second ((store 2 four, stored First) ∷ (part 1 2, counted 1) ∷ (read 1 0, found 1 (Some two)) ∷ (read 1 1, found 2 (Some four))
+    (by_second ((store 2 four, stored First) ∷ (part 1 2, counted 1) ∷ (read 1, found (Some two)) ∷ (read 2, found (Some four))
     ∷ (publish (sealed whole_sum), sent) ∷ []) ack (plainly _ ack tt refl)) tt from_11
 
 from_9 : Turned six_tasks small 2 b9 (2 ∷ 2 ∷ 1 ∷ 1 ∷ 1 ∷ 1 ∷ 2 ∷ 1 ∷ 2 ∷ [])
@@ -197,72 +198,72 @@ from_9 : Turned six_tasks small 2 b9 (2 ∷ 2 ∷ 1 ∷ 1 ∷ 1 ∷ 1 ∷ 2 ∷ 
 from_9 = turn b9 2 (publish (sealed whole_sum)) (sent) (2 ∷ 1 ∷ 1 ∷ 1 ∷ 1 ∷ 2 ∷ 1 ∷ 2 ∷ [])
     ((2, (ack, acked)) ∷ (1, (take, taken (Some (sealed whole_sum)))) ∷ (1, (store 3 six, stored First)) ∷ (1, (ack, acked)) ∷ (1, (take, taken None))
     ∷ (2, (take, taken None)) ∷ (1, (rest, rested false)) ∷ (2, (rest, rested false)) ∷ [])
-    (by_second ((store 2 four, stored First) ∷ (part 1 2, counted 1) ∷ (read 1 0, found 1 (Some two)) ∷ (read 1 1, found 2 (Some four)) ∷ [])
-    (publish (sealed whole_sum)) (plainly _ (publish (sealed whole_sum)) whole_back refl)) tt from_10
+    (by_second ((store 2 four, stored First) ∷ (part 1 2, counted 1) ∷ (read 1, found (Some two)) ∷ (read 2, found (Some four)) ∷ [])
+    (publish (sealed whole_sum)) (plainly _ (publish (sealed whole_sum)) whole_back refl)) refl from_10
 
 from_8 : Turned six_tasks small 2 b8 (2 ∷ 2 ∷ 2 ∷ 1 ∷ 1 ∷ 1 ∷ 1 ∷ 2 ∷ 1 ∷ 2 ∷ [])
-    ((2, (read 1 1, found 2 (Some four))) ∷ (2, (publish (sealed whole_sum), sent)) ∷ (2, (ack, acked)) ∷ (1, (take, taken (Some (sealed whole_sum))))
+    ((2, (read 2, found (Some four))) ∷ (2, (publish (sealed whole_sum), sent)) ∷ (2, (ack, acked)) ∷ (1, (take, taken (Some (sealed whole_sum))))
     ∷ (1, (store 3 six, stored First)) ∷ (1, (ack, acked)) ∷ (1, (take, taken None)) ∷ (2, (take, taken None)) ∷ (1, (rest, rested false))
     ∷ (2, (rest, rested false)) ∷ [])
-from_8 = turn b8 2 (read 1 1) (found 2 (Some four)) (2 ∷ 2 ∷ 1 ∷ 1 ∷ 1 ∷ 1 ∷ 2 ∷ 1 ∷ 2 ∷ [])
+from_8 = turn b8 2 (read 2) (found (Some four)) (2 ∷ 2 ∷ 1 ∷ 1 ∷ 1 ∷ 1 ∷ 2 ∷ 1 ∷ 2 ∷ [])
     ((2, (publish (sealed whole_sum), sent)) ∷ (2, (ack, acked)) ∷ (1, (take, taken (Some (sealed whole_sum)))) ∷ (1, (store 3 six, stored First))
     ∷ (1, (ack, acked))
     ∷ (1, (take, taken None)) ∷ (2, (take, taken None)) ∷ (1, (rest, rested false)) ∷ (2, (rest, rested false)) ∷ [])
-    (by_second ((store 2 four, stored First) ∷ (part 1 2, counted 1) ∷ (read 1 0, found 1 (Some two)) ∷ []) (read 1 1) (plainly _ (read 1 1) tt refl))
-    (refl, refl) from_9
+    (by_second ((store 2 four, stored First) ∷ (part 1 2, counted 1) ∷ (read 1, found (Some two)) ∷ []) (read 2) (plainly _ (read 2) tt refl))
+    refl from_9
 
 from_7 : Turned six_tasks small 2 b7 (2 ∷ 2 ∷ 2 ∷ 2 ∷ 1 ∷ 1 ∷ 1 ∷ 1 ∷ 2 ∷ 1 ∷ 2 ∷ [])
-    ((2, (read 1 0, found 1 (Some two))) ∷ (2, (read 1 1, found 2 (Some four))) ∷ (2, (publish (sealed whole_sum), sent)) ∷ (2, (ack, acked))
+    ((2, (read 1, found (Some two))) ∷ (2, (read 2, found (Some four))) ∷ (2, (publish (sealed whole_sum), sent)) ∷ (2, (ack, acked))
     ∷ (1, (take, taken (Some (sealed whole_sum)))) ∷ (1, (store 3 six, stored First)) ∷ (1, (ack, acked)) ∷ (1, (take, taken None)) ∷ (2, (take, taken None))
     ∷ (1, (rest, rested false)) ∷ (2, (rest, rested false)) ∷ [])
-from_7 = turn b7 2 (read 1 0) (found 1 (Some two)) (2 ∷ 2 ∷ 2 ∷ 1 ∷ 1 ∷ 1 ∷ 1 ∷ 2 ∷ 1 ∷ 2 ∷ [])
-    ((2, (read 1 1, found 2 (Some four))) ∷ (2, (publish (sealed whole_sum), sent)) ∷ (2, (ack, acked)) ∷ (1, (take, taken (Some (sealed whole_sum))))
+from_7 = turn b7 2 (read 1) (found (Some two)) (2 ∷ 2 ∷ 2 ∷ 1 ∷ 1 ∷ 1 ∷ 1 ∷ 2 ∷ 1 ∷ 2 ∷ [])
+    ((2, (read 2, found (Some four))) ∷ (2, (publish (sealed whole_sum), sent)) ∷ (2, (ack, acked)) ∷ (1, (take, taken (Some (sealed whole_sum))))
     ∷ (1, (store 3 six, stored First)) ∷ (1, (ack, acked)) ∷ (1, (take, taken None)) ∷ (2, (take, taken None)) ∷ (1, (rest, rested false))
-    ∷ (2, (rest, rested false)) ∷ []) (by_second ((store 2 four, stored First) ∷ (part 1 2, counted 1) ∷ []) (read 1 0) (plainly _ (read 1 0) tt refl))
-    (refl, refl) from_8
+    ∷ (2, (rest, rested false)) ∷ []) (by_second ((store 2 four, stored First) ∷ (part 1 2, counted 1) ∷ []) (read 1) (plainly _ (read 1) tt refl))
+    refl from_8
 
 from_6 : Turned six_tasks small 2 b6 (2 ∷ 2 ∷ 2 ∷ 2 ∷ 2 ∷ 1 ∷ 1 ∷ 1 ∷ 1 ∷ 2 ∷ 1 ∷ 2 ∷ [])
-    ((2, (part 1 2, counted 1)) ∷ (2, (read 1 0, found 1 (Some two))) ∷ (2, (read 1 1, found 2 (Some four))) ∷ (2, (publish (sealed whole_sum), sent))
+    ((2, (part 1 2, counted 1)) ∷ (2, (read 1, found (Some two))) ∷ (2, (read 2, found (Some four))) ∷ (2, (publish (sealed whole_sum), sent))
     ∷ (2, (ack, acked)) ∷ (1, (take, taken (Some (sealed whole_sum)))) ∷ (1, (store 3 six, stored First)) ∷ (1, (ack, acked)) ∷ (1, (take, taken None))
     ∷ (2, (take, taken None)) ∷ (1, (rest, rested false)) ∷ (2, (rest, rested false)) ∷ [])
 from_6 = turn b6 2 (part 1 2) (counted 1) (2 ∷ 2 ∷ 2 ∷ 2 ∷ 1 ∷ 1 ∷ 1 ∷ 1 ∷ 2 ∷ 1 ∷ 2 ∷ [])
-    ((2, (read 1 0, found 1 (Some two))) ∷ (2, (read 1 1, found 2 (Some four))) ∷ (2, (publish (sealed whole_sum), sent)) ∷ (2, (ack, acked))
+    ((2, (read 1, found (Some two))) ∷ (2, (read 2, found (Some four))) ∷ (2, (publish (sealed whole_sum), sent)) ∷ (2, (ack, acked))
     ∷ (1, (take, taken (Some (sealed whole_sum)))) ∷ (1, (store 3 six, stored First)) ∷ (1, (ack, acked)) ∷ (1, (take, taken None)) ∷ (2, (take, taken None))
     ∷ (1, (rest, rested false)) ∷ (2, (rest, rested false)) ∷ [])
     (by_second ((store 2 four, stored First) ∷ []) (part 1 2) (plainly _ (part 1 2) tt refl)) refl from_7
 
 from_5 : Turned six_tasks small 2 b5 (2 ∷ 2 ∷ 2 ∷ 2 ∷ 2 ∷ 2 ∷ 1 ∷ 1 ∷ 1 ∷ 1 ∷ 2 ∷ 1 ∷ 2 ∷ [])
-    ((2, (store 2 four, stored First)) ∷ (2, (part 1 2, counted 1)) ∷ (2, (read 1 0, found 1 (Some two))) ∷ (2, (read 1 1, found 2 (Some four)))
+    ((2, (store 2 four, stored First)) ∷ (2, (part 1 2, counted 1)) ∷ (2, (read 1, found (Some two))) ∷ (2, (read 2, found (Some four)))
     ∷ (2, (publish (sealed whole_sum), sent)) ∷ (2, (ack, acked)) ∷ (1, (take, taken (Some (sealed whole_sum)))) ∷ (1, (store 3 six, stored First))
     ∷ (1, (ack, acked))
     ∷ (1, (take, taken None)) ∷ (2, (take, taken None)) ∷ (1, (rest, rested false)) ∷ (2, (rest, rested false)) ∷ [])
 from_5 = turn b5 2 (store 2 four) (stored First) (2 ∷ 2 ∷ 2 ∷ 2 ∷ 2 ∷ 1 ∷ 1 ∷ 1 ∷ 1 ∷ 2 ∷ 1 ∷ 2 ∷ [])
-    ((2, (part 1 2, counted 1)) ∷ (2, (read 1 0, found 1 (Some two))) ∷ (2, (read 1 1, found 2 (Some four))) ∷ (2, (publish (sealed whole_sum), sent))
+    ((2, (part 1 2, counted 1)) ∷ (2, (read 1, found (Some two))) ∷ (2, (read 2, found (Some four))) ∷ (2, (publish (sealed whole_sum), sent))
     ∷ (2, (ack, acked)) ∷ (1, (take, taken (Some (sealed whole_sum)))) ∷ (1, (store 3 six, stored First)) ∷ (1, (ack, acked)) ∷ (1, (take, taken None))
     ∷ (2, (take, taken None)) ∷ (1, (rest, rested false)) ∷ (2, (rest, rested false)) ∷ [])
     (by_second [] (store 2 four) (plainly _ (store 2 four) tt refl)) refl from_6
 
 from_4 : Turned six_tasks small 2 b4 (1 ∷ 2 ∷ 2 ∷ 2 ∷ 2 ∷ 2 ∷ 2 ∷ 1 ∷ 1 ∷ 1 ∷ 1 ∷ 2 ∷ 1 ∷ 2 ∷ [])
-    ((1, (ack, acked)) ∷ (2, (store 2 four, stored First)) ∷ (2, (part 1 2, counted 1)) ∷ (2, (read 1 0, found 1 (Some two)))
-    ∷ (2, (read 1 1, found 2 (Some four)))
+    ((1, (ack, acked)) ∷ (2, (store 2 four, stored First)) ∷ (2, (part 1 2, counted 1)) ∷ (2, (read 1, found (Some two)))
+    ∷ (2, (read 2, found (Some four)))
     ∷ (2, (publish (sealed whole_sum), sent)) ∷ (2, (ack, acked)) ∷ (1, (take, taken (Some (sealed whole_sum)))) ∷ (1, (store 3 six, stored First))
     ∷ (1, (ack, acked))
     ∷ (1, (take, taken None)) ∷ (2, (take, taken None)) ∷ (1, (rest, rested false)) ∷ (2, (rest, rested false)) ∷ [])
 from_4 = turn b4 1 (ack) (acked) (2 ∷ 2 ∷ 2 ∷ 2 ∷ 2 ∷ 2 ∷ 1 ∷ 1 ∷ 1 ∷ 1 ∷ 2 ∷ 1 ∷ 2 ∷ [])
-    ((2, (store 2 four, stored First)) ∷ (2, (part 1 2, counted 1)) ∷ (2, (read 1 0, found 1 (Some two))) ∷ (2, (read 1 1, found 2 (Some four)))
+    ((2, (store 2 four, stored First)) ∷ (2, (part 1 2, counted 1)) ∷ (2, (read 1, found (Some two))) ∷ (2, (read 2, found (Some four)))
     ∷ (2, (publish (sealed whole_sum), sent)) ∷ (2, (ack, acked)) ∷ (1, (take, taken (Some (sealed whole_sum)))) ∷ (1, (store 3 six, stored First))
     ∷ (1, (ack, acked))
     ∷ (1, (take, taken None)) ∷ (2, (take, taken None)) ∷ (1, (rest, rested false)) ∷ (2, (rest, rested false)) ∷ [])
     (by_first ((store 1 two, stored First) ∷ (part 1 1, counted 0) ∷ []) ack (plainly _ ack tt refl)) tt from_5
 
 from_3 : Turned six_tasks small 2 b3 (1 ∷ 1 ∷ 2 ∷ 2 ∷ 2 ∷ 2 ∷ 2 ∷ 2 ∷ 1 ∷ 1 ∷ 1 ∷ 1 ∷ 2 ∷ 1 ∷ 2 ∷ [])
-    ((1, (part 1 1, counted 0)) ∷ (1, (ack, acked)) ∷ (2, (store 2 four, stored First)) ∷ (2, (part 1 2, counted 1)) ∷ (2, (read 1 0, found 1 (Some two)))
-    ∷ (2, (read 1 1, found 2 (Some four))) ∷ (2, (publish (sealed whole_sum), sent)) ∷ (2, (ack, acked)) ∷ (1, (take, taken (Some (sealed whole_sum))))
+    ((1, (part 1 1, counted 0)) ∷ (1, (ack, acked)) ∷ (2, (store 2 four, stored First)) ∷ (2, (part 1 2, counted 1)) ∷ (2, (read 1, found (Some two)))
+    ∷ (2, (read 2, found (Some four))) ∷ (2, (publish (sealed whole_sum), sent)) ∷ (2, (ack, acked)) ∷ (1, (take, taken (Some (sealed whole_sum))))
     ∷ (1, (store 3 six, stored First)) ∷ (1, (ack, acked)) ∷ (1, (take, taken None)) ∷ (2, (take, taken None)) ∷ (1, (rest, rested false))
     ∷ (2, (rest, rested false)) ∷ [])
 from_3 = turn b3 1 (part 1 1) (counted 0) (1 ∷ 2 ∷ 2 ∷ 2 ∷ 2 ∷ 2 ∷ 2 ∷ 1 ∷ 1 ∷ 1 ∷ 1 ∷ 2 ∷ 1 ∷ 2 ∷ [])
-    ((1, (ack, acked)) ∷ (2, (store 2 four, stored First)) ∷ (2, (part 1 2, counted 1)) ∷ (2, (read 1 0, found 1 (Some two)))
-    ∷ (2, (read 1 1, found 2 (Some four)))
+    ((1, (ack, acked)) ∷ (2, (store 2 four, stored First)) ∷ (2, (part 1 2, counted 1)) ∷ (2, (read 1, found (Some two)))
+    ∷ (2, (read 2, found (Some four)))
     ∷ (2, (publish (sealed whole_sum), sent)) ∷ (2, (ack, acked)) ∷ (1, (take, taken (Some (sealed whole_sum)))) ∷ (1, (store 3 six, stored First))
     ∷ (1, (ack, acked))
     ∷ (1, (take, taken None)) ∷ (2, (take, taken None)) ∷ (1, (rest, rested false)) ∷ (2, (rest, rested false)) ∷ [])
@@ -270,37 +271,37 @@ from_3 = turn b3 1 (part 1 1) (counted 0) (1 ∷ 2 ∷ 2 ∷ 2 ∷ 2 ∷ 2 ∷ 2
 
 from_2 : Turned six_tasks small 2 b2 (1 ∷ 1 ∷ 1 ∷ 2 ∷ 2 ∷ 2 ∷ 2 ∷ 2 ∷ 2 ∷ 1 ∷ 1 ∷ 1 ∷ 1 ∷ 2 ∷ 1 ∷ 2 ∷ [])
     ((1, (store 1 two, stored First)) ∷ (1, (part 1 1, counted 0)) ∷ (1, (ack, acked)) ∷ (2, (store 2 four, stored First)) ∷ (2, (part 1 2, counted 1))
-    ∷ (2, (read 1 0, found 1 (Some two))) ∷ (2, (read 1 1, found 2 (Some four))) ∷ (2, (publish (sealed whole_sum), sent)) ∷ (2, (ack, acked))
+    ∷ (2, (read 1, found (Some two))) ∷ (2, (read 2, found (Some four))) ∷ (2, (publish (sealed whole_sum), sent)) ∷ (2, (ack, acked))
     ∷ (1, (take, taken (Some (sealed whole_sum)))) ∷ (1, (store 3 six, stored First)) ∷ (1, (ack, acked)) ∷ (1, (take, taken None)) ∷ (2, (take, taken None))
     ∷ (1, (rest, rested false)) ∷ (2, (rest, rested false)) ∷ [])
 from_2 = turn b2 1 (store 1 two) (stored First) (1 ∷ 1 ∷ 2 ∷ 2 ∷ 2 ∷ 2 ∷ 2 ∷ 2 ∷ 1 ∷ 1 ∷ 1 ∷ 1 ∷ 2 ∷ 1 ∷ 2 ∷ [])
-    ((1, (part 1 1, counted 0)) ∷ (1, (ack, acked)) ∷ (2, (store 2 four, stored First)) ∷ (2, (part 1 2, counted 1)) ∷ (2, (read 1 0, found 1 (Some two)))
-    ∷ (2, (read 1 1, found 2 (Some four))) ∷ (2, (publish (sealed whole_sum), sent)) ∷ (2, (ack, acked)) ∷ (1, (take, taken (Some (sealed whole_sum))))
+    ((1, (part 1 1, counted 0)) ∷ (1, (ack, acked)) ∷ (2, (store 2 four, stored First)) ∷ (2, (part 1 2, counted 1)) ∷ (2, (read 1, found (Some two)))
+    ∷ (2, (read 2, found (Some four))) ∷ (2, (publish (sealed whole_sum), sent)) ∷ (2, (ack, acked)) ∷ (1, (take, taken (Some (sealed whole_sum))))
     ∷ (1, (store 3 six, stored First)) ∷ (1, (ack, acked)) ∷ (1, (take, taken None)) ∷ (2, (take, taken None)) ∷ (1, (rest, rested false))
     ∷ (2, (rest, rested false)) ∷ []) (by_first [] (store 1 two) (plainly _ (store 1 two) tt refl)) refl from_3
 
 from_1 : Turned six_tasks small 2 b1 (2 ∷ 1 ∷ 1 ∷ 1 ∷ 2 ∷ 2 ∷ 2 ∷ 2 ∷ 2 ∷ 2 ∷ 1 ∷ 1 ∷ 1 ∷ 1 ∷ 2 ∷ 1 ∷ 2 ∷ [])
     ((2, (take, taken (Some (sealed second_sum)))) ∷ (1, (store 1 two, stored First)) ∷ (1, (part 1 1, counted 0)) ∷ (1, (ack, acked))
-    ∷ (2, (store 2 four, stored First)) ∷ (2, (part 1 2, counted 1)) ∷ (2, (read 1 0, found 1 (Some two))) ∷ (2, (read 1 1, found 2 (Some four)))
+    ∷ (2, (store 2 four, stored First)) ∷ (2, (part 1 2, counted 1)) ∷ (2, (read 1, found (Some two))) ∷ (2, (read 2, found (Some four)))
     ∷ (2, (publish (sealed whole_sum), sent)) ∷ (2, (ack, acked)) ∷ (1, (take, taken (Some (sealed whole_sum)))) ∷ (1, (store 3 six, stored First))
     ∷ (1, (ack, acked))
     ∷ (1, (take, taken None)) ∷ (2, (take, taken None)) ∷ (1, (rest, rested false)) ∷ (2, (rest, rested false)) ∷ [])
 from_1 = turn b1 2 (take) (taken (Some (sealed second_sum))) (1 ∷ 1 ∷ 1 ∷ 2 ∷ 2 ∷ 2 ∷ 2 ∷ 2 ∷ 2 ∷ 1 ∷ 1 ∷ 1 ∷ 1 ∷ 2 ∷ 1 ∷ 2 ∷ [])
     ((1, (store 1 two, stored First)) ∷ (1, (part 1 1, counted 0)) ∷ (1, (ack, acked)) ∷ (2, (store 2 four, stored First)) ∷ (2, (part 1 2, counted 1))
-    ∷ (2, (read 1 0, found 1 (Some two))) ∷ (2, (read 1 1, found 2 (Some four))) ∷ (2, (publish (sealed whole_sum), sent)) ∷ (2, (ack, acked))
+    ∷ (2, (read 1, found (Some two))) ∷ (2, (read 2, found (Some four))) ∷ (2, (publish (sealed whole_sum), sent)) ∷ (2, (ack, acked))
     ∷ (1, (take, taken (Some (sealed whole_sum)))) ∷ (1, (store 3 six, stored First)) ∷ (1, (ack, acked)) ∷ (1, (take, taken None)) ∷ (2, (take, taken None))
     ∷ (1, (rest, rested false)) ∷ (2, (rest, rested false)) ∷ []) (plainly taking take tt refl) refl from_2
 
 from_0 : Turned six_tasks small 2 b0 (1 ∷ 2 ∷ 1 ∷ 1 ∷ 1 ∷ 2 ∷ 2 ∷ 2 ∷ 2 ∷ 2 ∷ 2 ∷ 1 ∷ 1 ∷ 1 ∷ 1 ∷ 2 ∷ 1 ∷ 2 ∷ [])
     ((1, (take, taken (Some (sealed first_sum)))) ∷ (2, (take, taken (Some (sealed second_sum)))) ∷ (1, (store 1 two, stored First))
     ∷ (1, (part 1 1, counted 0))
-    ∷ (1, (ack, acked)) ∷ (2, (store 2 four, stored First)) ∷ (2, (part 1 2, counted 1)) ∷ (2, (read 1 0, found 1 (Some two)))
-    ∷ (2, (read 1 1, found 2 (Some four))) ∷ (2, (publish (sealed whole_sum), sent)) ∷ (2, (ack, acked)) ∷ (1, (take, taken (Some (sealed whole_sum))))
+    ∷ (1, (ack, acked)) ∷ (2, (store 2 four, stored First)) ∷ (2, (part 1 2, counted 1)) ∷ (2, (read 1, found (Some two)))
+    ∷ (2, (read 2, found (Some four))) ∷ (2, (publish (sealed whole_sum), sent)) ∷ (2, (ack, acked)) ∷ (1, (take, taken (Some (sealed whole_sum))))
     ∷ (1, (store 3 six, stored First)) ∷ (1, (ack, acked)) ∷ (1, (take, taken None)) ∷ (2, (take, taken None)) ∷ (1, (rest, rested false))
     ∷ (2, (rest, rested false)) ∷ [])
 from_0 = turn b0 1 (take) (taken (Some (sealed first_sum))) (2 ∷ 1 ∷ 1 ∷ 1 ∷ 2 ∷ 2 ∷ 2 ∷ 2 ∷ 2 ∷ 2 ∷ 1 ∷ 1 ∷ 1 ∷ 1 ∷ 2 ∷ 1 ∷ 2 ∷ [])
     ((2, (take, taken (Some (sealed second_sum)))) ∷ (1, (store 1 two, stored First)) ∷ (1, (part 1 1, counted 0)) ∷ (1, (ack, acked))
-    ∷ (2, (store 2 four, stored First)) ∷ (2, (part 1 2, counted 1)) ∷ (2, (read 1 0, found 1 (Some two))) ∷ (2, (read 1 1, found 2 (Some four)))
+    ∷ (2, (store 2 four, stored First)) ∷ (2, (part 1 2, counted 1)) ∷ (2, (read 1, found (Some two))) ∷ (2, (read 2, found (Some four)))
     ∷ (2, (publish (sealed whole_sum), sent)) ∷ (2, (ack, acked)) ∷ (1, (take, taken (Some (sealed whole_sum)))) ∷ (1, (store 3 six, stored First))
     ∷ (1, (ack, acked))
     ∷ (1, (take, taken None)) ∷ (2, (take, taken None)) ∷ (1, (rest, rested false)) ∷ (2, (rest, rested false)) ∷ [])

@@ -15,12 +15,13 @@ use Rattle.canvas_backend.specs.declared.stored.Stored.TheVariants.{First, Again
 use Rattle.canvas_runs.specs.Core as core
 use Rattle.canvas_runs.specs.Book.{book_of}
 use Rattle.canvas_runs.specs.Calls.{AskedAndAnswered}
-use Rattle.canvas_runs.specs.Core.{Ask, Reply, take, publish, store, ack, redeliver, taken, sent, stored, rested, acked, ask, opens, left_after, ReadsBack, Doing, is_inside}
+use Rattle.canvas_runs.specs.Core.{Ask, Reply, ack, rested, acked, ask, opens, left_after, ReadsBack, Doing, is_inside}
 use Rattle.canvas_runs.specs.declared.when.When.TheVariants.{Early, Late}
 use Rattle.canvas_runs.specs.Worker.{worker, sealed, read_envelope, opened, known_one}
 use Rattle.canvas_turns.specs.EntryWitness.{product, product_sum, product_whole, eight, sixty_four, both_points, product_steps, quotient, quotient_linked, no_quotient, link_entry, quotient_steps, unspent}
 use Rattle.canvas_turns.specs.Spending.{Entry, wanted, spent, point, point_of, comes_to, TurnedAgain, no_turn, skips, takes, spends, RanAgain, agains_in}
-use Rattle.canvas_turns.specs.Turns.{Step, left, holds, Answers, HasEnded, AllEnded, rounds}
+use Rattle.canvas_turns.specs.Turns.{Step, redelivery, left, holds, Answers, HasEnded, AllEnded, rounds}
+use Rattle.canvas_turns.proofs.Shorts.{take, publish, store, taken, sent, stored}
 use Rattle.canvas_turns.proofs.Turning.{left_delivers}
 use Rattle.std.proofs.lemmas.Bool.{false≢true}
 
@@ -38,14 +39,14 @@ module _ (l : Line) where
   one_spent : (before : List Step) (es rest : List Entry) (d : Envelope) (a : Ask Envelope) (r : Reply Envelope) (us : List ℕ) (xs : List Step)
       (s : Doing (worker six_tasks l)) (x : Option Entry) → left six_tasks l before 1 ≡ s → comes_to six_tasks l before 1 ≡ x → wanted x es ≡ true
       → holds before 1 ≡ Some d → ReadsBack (worker six_tasks l) s → a ≡ ask (worker six_tasks l) s
-      → Answers six_tasks l 1 (before ++ (1, (redeliver d, sent)) ∷ []) a r
-      → TurnedAgain six_tasks l 1 ((before ++ (1, (redeliver d, sent)) ∷ []) ++ (1, (a, r)) ∷ []) (spent x es) us xs rest
-      → TurnedAgain six_tasks l 1 before es (1 ∷ us) ((1, (redeliver d, sent)) ∷ (1, (a, r)) ∷ xs) rest
+      → Answers six_tasks l 1 (before ++ redelivery 1 d ∷ []) a r
+      → TurnedAgain six_tasks l 1 ((before ++ redelivery 1 d ∷ []) ++ (1, (a, r)) ∷ []) (spent x es) us xs rest
+      → TurnedAgain six_tasks l 1 before es (1 ∷ us) (redelivery 1 d ∷ (1, (a, r)) ∷ xs) rest
   one_spent before es rest d a r us xs s x st co w g b e h t =
-      let now : left six_tasks l (before ++ (1, (redeliver d, sent)) ∷ []) 1 ≡ s = left_delivers six_tasks l before 1 1 d sent ∙ st in
+      let now : left six_tasks l (before ++ redelivery 1 d ∷ []) 1 ≡ s = left_delivers six_tasks l before 1 1 d ∙ st in
       spends (subst (λ y. wanted y es ≡ true) (sym co) w) (omega arith, omega arith) g (subst (ReadsBack (worker six_tasks l)) (sym now) b)
       (subst (λ z. a ≡ ask (worker six_tasks l) z) (sym now) e) h
-      (subst (λ y. TurnedAgain six_tasks l 1 ((before ++ (1, (redeliver d, sent)) ∷ []) ++ (1, (a, r)) ∷ []) (spent y es) us xs rest) (sym co) t)
+      (subst (λ y. TurnedAgain six_tasks l 1 ((before ++ redelivery 1 d ∷ []) ++ (1, (a, r)) ∷ []) (spent y es) us xs rest) (sym co) t)
 
 -- ---- the envelopes read back
 
@@ -146,13 +147,13 @@ abbrev product_1 : List Step
 product_1 = product_0 ++ (1, (take, taken (Some (sealed product_sum)))) ∷ []
 
 abbrev product_2 : List Step
-product_2 = (product_1 ++ (1, (redeliver (sealed product_sum), sent)) ∷ []) ++ (1, (store 1 eight, stored First)) ∷ []
+product_2 = (product_1 ++ redelivery 1 (sealed product_sum) ∷ []) ++ (1, (store 1 eight, stored First)) ∷ []
 
 abbrev product_3 : List Step
 product_3 = product_2 ++ (1, (publish (sealed product_whole), sent)) ∷ []
 
 abbrev product_4 : List Step
-product_4 = (product_3 ++ (1, (redeliver (sealed product_sum), sent)) ∷ []) ++ (1, (ack, acked)) ∷ []
+product_4 = (product_3 ++ redelivery 1 (sealed product_sum) ∷ []) ++ (1, (ack, acked)) ∷ []
 
 abbrev product_5 : List Step
 product_5 = product_4 ++ (1, (take, taken (Some (sealed product_sum)))) ∷ []
@@ -286,7 +287,7 @@ product_from_4 = one_taken product product_4 ([]) ([]) take (taken (Some (sealed
     (product_state_1 ((store 1 eight, stored First) ∷ (publish (sealed product_whole), sent) ∷ (ack, acked) ∷ []))) refl tt refl refl product_from_5
 
 product_from_3 : TurnedAgain six_tasks product 1 product_3 ((1, Late) ∷ []) (1 ∷ 1 ∷ 1 ∷ 1 ∷ 1 ∷ 1 ∷ 1 ∷ 1 ∷ 1 ∷ 1 ∷ 1 ∷ 1 ∷ [])
-    ((1, (redeliver (sealed product_sum), sent)) ∷ (1, (ack, acked)) ∷ (1, (take, taken (Some (sealed product_sum)))) ∷ (1, (store 1 eight, stored Again))
+    (redelivery 1 (sealed product_sum) ∷ (1, (ack, acked)) ∷ (1, (take, taken (Some (sealed product_sum)))) ∷ (1, (store 1 eight, stored Again))
     ∷ (1, (ack, acked)) ∷ (1, (take, taken (Some (sealed product_whole)))) ∷ (1, (store 2 sixty_four, stored First)) ∷ (1, (ack, acked))
     ∷ (1, (take, taken (Some (sealed product_sum)))) ∷ (1, (store 1 eight, stored Again)) ∷ (1, (ack, acked)) ∷ (1, (take, taken None))
     ∷ (1, (core.rest, rested false)) ∷ []) ([])
@@ -299,26 +300,26 @@ product_from_3 = one_spent product product_3 ((1, Late) ∷ []) ([]) (sealed pro
     ∙ ap (point_of product Late) first_opens) refl refl tt refl tt product_from_4
 
 product_from_2 : TurnedAgain six_tasks product 1 product_2 ((1, Late) ∷ []) (1 ∷ 1 ∷ 1 ∷ 1 ∷ 1 ∷ 1 ∷ 1 ∷ 1 ∷ 1 ∷ 1 ∷ 1 ∷ 1 ∷ 1 ∷ [])
-    ((1, (publish (sealed product_whole), sent)) ∷ (1, (redeliver (sealed product_sum), sent)) ∷ (1, (ack, acked))
+    ((1, (publish (sealed product_whole), sent)) ∷ redelivery 1 (sealed product_sum) ∷ (1, (ack, acked))
     ∷ (1, (take, taken (Some (sealed product_sum))))
     ∷ (1, (store 1 eight, stored Again)) ∷ (1, (ack, acked)) ∷ (1, (take, taken (Some (sealed product_whole)))) ∷ (1, (store 2 sixty_four, stored First))
     ∷ (1, (ack, acked)) ∷ (1, (take, taken (Some (sealed product_sum)))) ∷ (1, (store 1 eight, stored Again)) ∷ (1, (ack, acked)) ∷ (1, (take, taken None))
     ∷ (1, (core.rest, rested false)) ∷ []) ([])
 product_from_2 = one_taken product product_2 ((1, Late) ∷ []) ([]) (publish (sealed product_whole)) sent (1 ∷ 1 ∷ 1 ∷ 1 ∷ 1 ∷ 1 ∷ 1 ∷ 1 ∷ 1 ∷ 1 ∷ 1 ∷ 1 ∷ [])
-    ((1, (redeliver (sealed product_sum), sent)) ∷ (1, (ack, acked)) ∷ (1, (take, taken (Some (sealed product_sum)))) ∷ (1, (store 1 eight, stored Again))
+    (redelivery 1 (sealed product_sum) ∷ (1, (ack, acked)) ∷ (1, (take, taken (Some (sealed product_sum)))) ∷ (1, (store 1 eight, stored Again))
     ∷ (1, (ack, acked)) ∷ (1, (take, taken (Some (sealed product_whole)))) ∷ (1, (store 2 sixty_four, stored First)) ∷ (1, (ack, acked))
     ∷ (1, (take, taken (Some (sealed product_sum)))) ∷ (1, (store 1 eight, stored Again)) ∷ (1, (ack, acked)) ∷ (1, (take, taken None))
     ∷ (1, (core.rest, rested false)) ∷ []) _ None (product_state_1 ((store 1 eight, stored First) ∷ []))
-    (ap (λ s. point product s (holds product_2 1)) (product_state_1 ((store 1 eight, stored First) ∷ []))) refl second_back refl tt product_from_3
+    (ap (λ s. point product s (holds product_2 1)) (product_state_1 ((store 1 eight, stored First) ∷ []))) refl second_back refl refl product_from_3
 
 product_from_1 : TurnedAgain six_tasks product 1 product_1 ((1, Early) ∷ (1, Late) ∷ []) (1 ∷ 1 ∷ 1 ∷ 1 ∷ 1 ∷ 1 ∷ 1 ∷ 1 ∷ 1 ∷ 1 ∷ 1 ∷ 1 ∷ 1 ∷ 1 ∷ [])
-    ((1, (redeliver (sealed product_sum), sent)) ∷ (1, (store 1 eight, stored First)) ∷ (1, (publish (sealed product_whole), sent))
-    ∷ (1, (redeliver (sealed product_sum), sent)) ∷ (1, (ack, acked)) ∷ (1, (take, taken (Some (sealed product_sum)))) ∷ (1, (store 1 eight, stored Again))
+    (redelivery 1 (sealed product_sum) ∷ (1, (store 1 eight, stored First)) ∷ (1, (publish (sealed product_whole), sent))
+    ∷ redelivery 1 (sealed product_sum) ∷ (1, (ack, acked)) ∷ (1, (take, taken (Some (sealed product_sum)))) ∷ (1, (store 1 eight, stored Again))
     ∷ (1, (ack, acked)) ∷ (1, (take, taken (Some (sealed product_whole)))) ∷ (1, (store 2 sixty_four, stored First)) ∷ (1, (ack, acked))
     ∷ (1, (take, taken (Some (sealed product_sum)))) ∷ (1, (store 1 eight, stored Again)) ∷ (1, (ack, acked)) ∷ (1, (take, taken None))
     ∷ (1, (core.rest, rested false)) ∷ []) ([])
 product_from_1 = one_spent product product_1 ((1, Early) ∷ (1, Late) ∷ []) ([]) (sealed product_sum) (store 1 eight) (stored First)
-    (1 ∷ 1 ∷ 1 ∷ 1 ∷ 1 ∷ 1 ∷ 1 ∷ 1 ∷ 1 ∷ 1 ∷ 1 ∷ 1 ∷ 1 ∷ []) ((1, (publish (sealed product_whole), sent)) ∷ (1, (redeliver (sealed product_sum), sent))
+    (1 ∷ 1 ∷ 1 ∷ 1 ∷ 1 ∷ 1 ∷ 1 ∷ 1 ∷ 1 ∷ 1 ∷ 1 ∷ 1 ∷ 1 ∷ []) ((1, (publish (sealed product_whole), sent)) ∷ redelivery 1 (sealed product_sum)
     ∷ (1, (ack, acked)) ∷ (1, (take, taken (Some (sealed product_sum)))) ∷ (1, (store 1 eight, stored Again)) ∷ (1, (ack, acked))
     ∷ (1, (take, taken (Some (sealed product_whole)))) ∷ (1, (store 2 sixty_four, stored First)) ∷ (1, (ack, acked))
     ∷ (1, (take, taken (Some (sealed product_sum)))) ∷ (1, (store 1 eight, stored Again)) ∷ (1, (ack, acked)) ∷ (1, (take, taken None))
@@ -326,16 +327,16 @@ product_from_1 = one_spent product product_1 ((1, Early) ∷ (1, Late) ∷ []) (
     ∙ ap (point_of product Early) first_opens) refl refl tt refl refl product_from_2
 
 product_from_0 : TurnedAgain six_tasks product 1 product_0 ((1, Early) ∷ (1, Late) ∷ []) (1 ∷ 1 ∷ 1 ∷ 1 ∷ 1 ∷ 1 ∷ 1 ∷ 1 ∷ 1 ∷ 1 ∷ 1 ∷ 1 ∷ 1 ∷ 1 ∷ 1 ∷ [])
-    ((1, (take, taken (Some (sealed product_sum)))) ∷ (1, (redeliver (sealed product_sum), sent)) ∷ (1, (store 1 eight, stored First))
-    ∷ (1, (publish (sealed product_whole), sent)) ∷ (1, (redeliver (sealed product_sum), sent)) ∷ (1, (ack, acked))
+    ((1, (take, taken (Some (sealed product_sum)))) ∷ redelivery 1 (sealed product_sum) ∷ (1, (store 1 eight, stored First))
+    ∷ (1, (publish (sealed product_whole), sent)) ∷ redelivery 1 (sealed product_sum) ∷ (1, (ack, acked))
     ∷ (1, (take, taken (Some (sealed product_sum))))
     ∷ (1, (store 1 eight, stored Again)) ∷ (1, (ack, acked)) ∷ (1, (take, taken (Some (sealed product_whole)))) ∷ (1, (store 2 sixty_four, stored First))
     ∷ (1, (ack, acked)) ∷ (1, (take, taken (Some (sealed product_sum)))) ∷ (1, (store 1 eight, stored Again)) ∷ (1, (ack, acked)) ∷ (1, (take, taken None))
     ∷ (1, (core.rest, rested false)) ∷ []) ([])
 product_from_0 = one_taken product product_0 ((1, Early) ∷ (1, Late) ∷ []) ([]) take (taken (Some (sealed product_sum)))
     (1 ∷ 1 ∷ 1 ∷ 1 ∷ 1 ∷ 1 ∷ 1 ∷ 1 ∷ 1 ∷ 1 ∷ 1 ∷ 1 ∷ 1 ∷ 1 ∷ [])
-    ((1, (redeliver (sealed product_sum), sent)) ∷ (1, (store 1 eight, stored First)) ∷ (1, (publish (sealed product_whole), sent))
-    ∷ (1, (redeliver (sealed product_sum), sent)) ∷ (1, (ack, acked)) ∷ (1, (take, taken (Some (sealed product_sum)))) ∷ (1, (store 1 eight, stored Again))
+    (redelivery 1 (sealed product_sum) ∷ (1, (store 1 eight, stored First)) ∷ (1, (publish (sealed product_whole), sent))
+    ∷ redelivery 1 (sealed product_sum) ∷ (1, (ack, acked)) ∷ (1, (take, taken (Some (sealed product_sum)))) ∷ (1, (store 1 eight, stored Again))
     ∷ (1, (ack, acked)) ∷ (1, (take, taken (Some (sealed product_whole)))) ∷ (1, (store 2 sixty_four, stored First)) ∷ (1, (ack, acked))
     ∷ (1, (take, taken (Some (sealed product_sum)))) ∷ (1, (store 1 eight, stored Again)) ∷ (1, (ack, acked)) ∷ (1, (take, taken None))
     ∷ (1, (core.rest, rested false)) ∷ []) _ None refl refl refl tt refl refl product_from_1

@@ -14,3 +14,4 @@ pub mod Spends
 pub mod Agains
 pub mod EntryRuns
 pub mod Points
+pub mod Shorts

@@ -10,15 +10,16 @@ use Rattle.canvas_effects.specs.Job.{store, publish, part}
 use Rattle.canvas_message.specs.declared.envelope.Envelope.{Envelope}
 use Rattle.canvas_backend.specs.declared.stored.Stored.{Stored}
 use Rattle.canvas_backend.specs.declared.stored.Stored.TheVariants.{First, Again}
+use Rattle.canvas_backend.specs.Backend as results
 use Rattle.canvas_runs.specs.Book.{book_of}
 use Rattle.canvas_runs.specs.Calls.{held_by}
-use Rattle.canvas_runs.specs.Core.{Reply, taken, sent, refused, stored, counted, found, rested, acked, taking, resting, over, failed, owning, doing, reading, acking, ask, answered, Doing, Jobs, settled, opens, owned, part_counted, all_read, is_inside, is_due, Suits, Ask, ReadsBack, redeliver}
+use Rattle.canvas_runs.specs.Core.{Reply, from_queue, from_table, refused, rested, acked, taking, resting, over, failed, owning, doing, reading, acking, ask, answered, Doing, Jobs, settled, opens, owned, part_counted, all_read, is_inside, is_due, Suits, Ask, ReadsBack, reading_of, reads_next}
 use Rattle.canvas_runs.specs.Law.{of_task, takes_one_of}
 use Rattle.canvas_runs.specs.declared.when.When.{When}
 use Rattle.canvas_runs.specs.declared.when.When.TheVariants.{Early, Late}
 use Rattle.canvas_runs.specs.Worker.{worker, opened}
 use Rattle.canvas_turns.specs.Spending.{Entry, same_when, is_for, has, without, entries_for, wanted, spent, message_in, point_of, point, comes_to, TurnedAgain, no_turn, skips, takes, spends}
-use Rattle.canvas_turns.specs.Turns.{Step, Turned, all_taken, skips_turn, takes_turn, delivers_again, HasEnded, redeliveries_in, Answers, IsWorker, left, holds}
+use Rattle.canvas_turns.specs.Turns.{Step, redelivery, Turned, all_taken, skips_turn, takes_turn, delivers_again, HasEnded, redeliveries_in, Answers, IsWorker, left, holds}
 use Rattle.canvas_turns.proofs.TurnSums.{in_queue}
 
 -- ---- lists of entries
@@ -140,12 +141,12 @@ module _ (behaviour : Behaviour) (l : Line) (n : ℕ) (es : List Entry) (us : Li
   -- with a redelivery and its step
   pub again_spend : (d : Envelope) (a : Ask Envelope) (r : Reply Envelope) → wanted (comes_to behaviour l xs p) rest ≡ true → IsWorker n p
       → holds xs p ≡ Some d
-      → ReadsBack (worker behaviour l) (left behaviour l (xs ++ (p, (redeliver d, sent)) ∷ []) p)
-      → a ≡ ask (worker behaviour l) (left behaviour l (xs ++ (p, (redeliver d, sent)) ∷ []) p)
-      → Answers behaviour l n (xs ++ (p, (redeliver d, sent)) ∷ []) a r
-      → TurnedAgain behaviour l n [] es (us ++ p ∷ []) (xs ++ (p, (redeliver d, sent)) ∷ (p, (a, r)) ∷ []) (spent (comes_to behaviour l xs p) rest)
+      → ReadsBack (worker behaviour l) (left behaviour l (xs ++ redelivery p d ∷ []) p)
+      → a ≡ ask (worker behaviour l) (left behaviour l (xs ++ redelivery p d ∷ []) p)
+      → Answers behaviour l n (xs ++ redelivery p d ∷ []) a r
+      → TurnedAgain behaviour l n [] es (us ++ p ∷ []) (xs ++ redelivery p d ∷ (p, (a, r)) ∷ []) (spent (comes_to behaviour l xs p) rest)
   again_spend d a r f w g b e h =
-      again_append behaviour l n [] es us (p ∷ []) xs ((p, (redeliver d, sent)) ∷ (p, (a, r)) ∷ []) rest (spent (comes_to behaviour l xs p) rest) t
+      again_append behaviour l n [] es us (p ∷ []) xs (redelivery p d ∷ (p, (a, r)) ∷ []) rest (spent (comes_to behaviour l xs p) rest) t
       (spends f w g b e h no_turn)
 
 -- ---- without entries
@@ -173,7 +174,7 @@ module _ (behaviour : Behaviour) (l : Line) (k : ℕ) where
   is_owning failed = false
   is_owning (owning m) = true
   is_owning (doing js b) = false
-  is_owning (reading g c fs) = false
+  is_owning (reading g c t fs) = false
   is_owning acking = false
 
   -- a script that has yet to come to the point
@@ -200,25 +201,61 @@ module _ (behaviour : Behaviour) (l : Line) (k : ℕ) where
   past_owned m First = past_settled _ First
   past_owned m Again = (refl, refl)
 
-  pub past_handed : (g : ℕ) (c : PCarried) (i : ℕ) → Past (part_counted (worker behaviour l) g c i)
-  past_handed g c i = go (eqb (suc i) c.size)
-    where
-      go : (b : Bool) → Past (cond b (reading g c []) acking)
-      go true = (refl, refl)
-      go false = (refl, refl)
+  abbrev pub fails : Doing (worker behaviour l) → Bool
+  fails failed = true
+  fails s = false
 
-  pub past_read : (g : ℕ) (c : PCarried) (fs : List (ℕ × Outcome)) → Past (all_read (worker behaviour l) g c fs)
-  past_read g c fs = go (eqb (length fs) c.size)
+  -- where a header is read on the core may fail, for want of a member
+  next_owning : (g : ℕ) (c : PCarried) (fs : List (ℕ × Outcome)) → is_owning (reads_next (worker behaviour l) g c fs) ≡ false
+  next_owning g c fs = go ((worker behaviour l).member g (length fs))
     where
-      go : (b : Bool) → Past (cond b (settled (worker behaviour l) ((worker behaviour l).completed c fs) Again) (reading g c fs))
-      go true = past_settled _ Again
-      go false = (refl, refl)
+      go : (x : Option ℕ) → is_owning (reading_of (worker behaviour l) g c fs x) ≡ false
+      go None = refl
+      go (Some t) = refl
+
+  next_inside : (g : ℕ) (c : PCarried) (fs : List (ℕ × Outcome)) → fails (reads_next (worker behaviour l) g c fs) ≡ false
+      → is_inside (reads_next (worker behaviour l) g c fs) ≡ true
+  next_inside g c fs = go ((worker behaviour l).member g (length fs))
+    where
+      go : (x : Option ℕ) → fails (reading_of (worker behaviour l) g c fs x) ≡ false → is_inside (reading_of (worker behaviour l) g c fs x) ≡ true
+      go None f = absurd (false≢true (sym f))
+      go (Some t) f = refl
+
+  pub handed_owning : (g : ℕ) (c : PCarried) (i : ℕ) → is_owning (part_counted (worker behaviour l) g c i) ≡ false
+  handed_owning g c i = go (eqb (suc i) c.size)
+    where
+      go : (b : Bool) → is_owning (cond b (reads_next (worker behaviour l) g c []) acking) ≡ false
+      go true = next_owning g c []
+      go false = refl
+
+  handed_inside : (g : ℕ) (c : PCarried) (i : ℕ) → fails (part_counted (worker behaviour l) g c i) ≡ false
+      → is_inside (part_counted (worker behaviour l) g c i) ≡ true
+  handed_inside g c i = go (eqb (suc i) c.size)
+    where
+      go : (b : Bool) → fails (cond b (reads_next (worker behaviour l) g c []) acking) ≡ false
+          → is_inside (cond b (reads_next (worker behaviour l) g c []) acking) ≡ true
+      go true f = next_inside g c [] f
+      go false f = refl
+
+  pub read_owning : (g : ℕ) (c : PCarried) (fs : List (ℕ × Outcome)) → is_owning (all_read (worker behaviour l) g c fs) ≡ false
+  read_owning g c fs = go (eqb (length fs) c.size)
+    where
+      go : (b : Bool) → is_owning (cond b (settled (worker behaviour l) ((worker behaviour l).completed c fs) Again) (reads_next (worker behaviour l) g c fs))
+          ≡ false
+      go true = (past_settled _ Again).0
+      go false = next_owning g c fs
+
+  read_inside : (g : ℕ) (c : PCarried) (fs : List (ℕ × Outcome)) → fails (all_read (worker behaviour l) g c fs) ≡ false
+      → is_inside (all_read (worker behaviour l) g c fs) ≡ true
+  read_inside g c fs = go (eqb (length fs) c.size)
+    where
+      go : (b : Bool)
+          → fails (cond b (settled (worker behaviour l) ((worker behaviour l).completed c fs) Again) (reads_next (worker behaviour l) g c fs)) ≡ false
+          → is_inside (cond b (settled (worker behaviour l) ((worker behaviour l).completed c fs) Again) (reads_next (worker behaviour l) g c fs)) ≡ true
+      go true f = (past_settled _ Again).1
+      go false f = next_inside g c fs f
 
   -- ---- a message is ahead of each of its points once
-
-  abbrev pub sure : Reply Envelope → Bool
-  sure refused = false
-  sure r = true
 
   abbrev Steps : When → Doing (worker behaviour l) → Option Envelope → Reply Envelope → Type 0
   Steps w s h r = in_queue behaviour l (takes_one_of l k) (ask (worker behaviour l) s, r) + ahead w s h ≡ here k w (point l s h)
@@ -233,63 +270,66 @@ module _ (behaviour : Behaviour) (l : Line) (k : ℕ) where
   one_here w v d (Some c) = ap (λ b. cond (cond b (eqb (number_of c.own) k) false) 1 0) d
 
   -- where the script goes on past its first store
-  goes_early : (s s' : Doing (worker behaviour l)) (h : Option Envelope) → Past s' → ahead Early s' h ≡ 0
-  goes_early s s' h e = ap (λ b. cond b (of_task l k (message_in l h)) 0) e.0
+  goes_early : (s' : Doing (worker behaviour l)) (h : Option Envelope) → is_owning s' ≡ false → ahead Early s' h ≡ 0
+  goes_early s' h e = ap (λ b. cond b (of_task l k (message_in l h)) 0) e
 
-  goes_late : (s' : Doing (worker behaviour l)) (h : Option Envelope) → Past s' → ahead Late s' h ≡ of_task l k (message_in l h)
-  goes_late s' h e = ap (λ b. cond b (of_task l k (message_in l h)) 0) e.1
+  goes_late : (s' : Doing (worker behaviour l)) (h : Option Envelope) → is_inside s' ≡ true → ahead Late s' h ≡ of_task l k (message_in l h)
+  goes_late s' h e = ap (λ b. cond b (of_task l k (message_in l h)) 0) e
 
-  step_early : (s : Doing (worker behaviour l)) (h : Option Envelope) (r : Reply Envelope) → Suits (ask (worker behaviour l) s) r → sure r ≡ true
-      → Steps Early s h r
-  step_early taking h (taken None) u f = refl
-  step_early taking h (taken (Some e)) u f = go (opened (book_of l) e)
+  step_early : (s : Doing (worker behaviour l)) (h : Option Envelope) (r : Reply Envelope) → Suits (ask (worker behaviour l) s) r → Steps Early s h r
+  step_early taking h (from_queue None) u = refl
+  step_early taking h (from_queue (Some e)) u = go (opened (book_of l) e)
     where
       go : (x : Option Content) → (of_task l k x + 0) + 0 ≡ 0 + cond (is_owning (opens (worker behaviour l) x)) (of_task l k x) 0
       go None = refl
       go (Some m) = omega arith
-  step_early resting h (rested true) u f = refl
-  step_early resting h (rested false) u f = refl
-  step_early (owning m) h (stored b) u f = let a = one_here Early Early refl (message_in l h) in let z =
-      goes_early taking (owned (worker behaviour l) m b) h (past_owned m b) in omega (arith, a, z)
-  step_early (doing (store t o ∷ js) b) h (stored a) u f = let z =
-      goes_early taking (settled (worker behaviour l) js (cond (is_due t js) a b)) h (past_settled js (cond (is_due t js) a b)) in omega (arith, z)
-  step_early (doing (publish m ∷ js) b) h sent u f = let z = goes_early taking (settled (worker behaviour l) js b) h (past_settled js b) in omega (arith, z)
-  step_early (doing (publish m ∷ js) b) h refused u f = absurd (false≢true f)
-  step_early (doing (part g t c ∷ js) b) h (counted i) u f = let z = goes_early taking (part_counted (worker behaviour l) g c i) h (past_handed g c i) in
-      omega (arith, z)
-  step_early (reading g c fs) h (found t (Some o)) u f = let z =
-      goes_early taking (all_read (worker behaviour l) g c (fs ++ (t, o) ∷ [])) h (past_read g c (fs ++ (t, o) ∷ [])) in omega (arith, z)
-  step_early (reading g c fs) h (found t None) u f = refl
-  step_early acking h acked u f = let z = none_here Early Late refl (message_in l h) in omega (arith, z)
-  step_early s h r u f = elim u [ ]
+  step_early resting h (rested true) u = refl
+  step_early resting h (rested false) u = refl
+  step_early (owning m) h (from_table (results.was b)) u =
+      let a = one_here Early Early refl (message_in l h) in
+      let z = goes_early (owned (worker behaviour l) m b) h (past_owned m b).0 in omega (arith, a, z)
+  step_early (doing (store t o ∷ js) b) h (from_table (results.was a)) u =
+      let z = goes_early (settled (worker behaviour l) js (cond (is_due t js) a b)) h (past_settled js (cond (is_due t js) a b)).0 in omega (arith, z)
+  step_early (doing (publish m ∷ js) b) h (from_queue None) u =
+      let z = goes_early (settled (worker behaviour l) js b) h (past_settled js b).0 in omega (arith, z)
+  step_early (doing (publish m ∷ js) b) h refused u = refl
+  step_early (doing (part g t c ∷ js) b) h (from_table (results.count i)) u =
+      let z = goes_early (part_counted (worker behaviour l) g c i) h (handed_owning g c i) in omega (arith, z)
+  step_early (reading g c t fs) h (from_table (results.found (Some o))) u =
+      let z = goes_early (all_read (worker behaviour l) g c (fs ++ (t, o) ∷ [])) h (read_owning g c (fs ++ (t, o) ∷ [])) in omega (arith, z)
+  step_early (reading g c t fs) h (from_table (results.found None)) u = refl
+  step_early acking h acked u = let z = none_here Early Late refl (message_in l h) in omega (arith, z)
+  step_early s h r u = elim u [ ]
 
-  step_late : (s : Doing (worker behaviour l)) (h : Option Envelope) (r : Reply Envelope) → Suits (ask (worker behaviour l) s) r → sure r ≡ true
-      → Steps Late s h r
-  step_late taking h (taken None) u f = refl
-  step_late taking h (taken (Some e)) u f = go (opened (book_of l) e)
+  step_late : (s : Doing (worker behaviour l)) (h : Option Envelope) (r : Reply Envelope) → Suits (ask (worker behaviour l) s) r
+      → fails (answered (worker behaviour l) s r) ≡ false → Steps Late s h r
+  step_late taking h (from_queue None) u f = refl
+  step_late taking h (from_queue (Some e)) u f = go (opened (book_of l) e)
     where
       go : (x : Option Content) → (of_task l k x + 0) + 0 ≡ 0 + cond (is_inside (opens (worker behaviour l) x)) (of_task l k x) 0
       go None = refl
       go (Some m) = omega arith
   step_late resting h (rested true) u f = refl
   step_late resting h (rested false) u f = refl
-  step_late (owning m) h (stored b) u f = let a = none_here Late Early refl (message_in l h) in let z =
-      goes_late (owned (worker behaviour l) m b) h (past_owned m b) in omega (arith, a, z)
-  step_late (doing (store t o ∷ js) b) h (stored a) u f = let z =
-      goes_late (settled (worker behaviour l) js (cond (is_due t js) a b)) h (past_settled js (cond (is_due t js) a b)) in omega (arith, z)
-  step_late (doing (publish m ∷ js) b) h sent u f = let z = goes_late (settled (worker behaviour l) js b) h (past_settled js b) in omega (arith, z)
-  step_late (doing (publish m ∷ js) b) h refused u f = absurd (false≢true f)
-  step_late (doing (part g t c ∷ js) b) h (counted i) u f = let z = goes_late (part_counted (worker behaviour l) g c i) h (past_handed g c i) in
-      omega (arith, z)
-  step_late (reading g c fs) h (found t (Some o)) u f = let z =
-      goes_late (all_read (worker behaviour l) g c (fs ++ (t, o) ∷ [])) h (past_read g c (fs ++ (t, o) ∷ [])) in omega (arith, z)
-  step_late (reading g c fs) h (found t None) u f = omega arith
+  step_late (owning m) h (from_table (results.was b)) u f =
+      let a = none_here Late Early refl (message_in l h) in
+      let z = goes_late (owned (worker behaviour l) m b) h (past_owned m b).1 in omega (arith, a, z)
+  step_late (doing (store t o ∷ js) b) h (from_table (results.was a)) u f =
+      let z = goes_late (settled (worker behaviour l) js (cond (is_due t js) a b)) h (past_settled js (cond (is_due t js) a b)).1 in omega (arith, z)
+  step_late (doing (publish m ∷ js) b) h (from_queue None) u f =
+      let z = goes_late (settled (worker behaviour l) js b) h (past_settled js b).1 in omega (arith, z)
+  step_late (doing (publish m ∷ js) b) h refused u f = absurd (false≢true (sym f))
+  step_late (doing (part g t c ∷ js) b) h (from_table (results.count i)) u f =
+      let z = goes_late (part_counted (worker behaviour l) g c i) h (handed_inside g c i f) in omega (arith, z)
+  step_late (reading g c t fs) h (from_table (results.found (Some o))) u f =
+      let z = goes_late (all_read (worker behaviour l) g c (fs ++ (t, o) ∷ [])) h (read_inside g c (fs ++ (t, o) ∷ []) f) in omega (arith, z)
+  step_late (reading g c t fs) h (from_table (results.found None)) u f = omega arith
   step_late acking h acked u f = let a = one_here Late Late refl (message_in l h) in omega (arith, a)
   step_late s h r u f = elim u [ ]
 
   pub one_step : (w : When) (s : Doing (worker behaviour l)) (h : Option Envelope) (r : Reply Envelope) → Suits (ask (worker behaviour l) s) r
-      → sure r ≡ true → Steps w s h r
-  one_step Early s h r u f = step_early s h r u f
+      → fails (answered (worker behaviour l) s r) ≡ false → Steps w s h r
+  one_step Early s h r u f = step_early s h r u
   one_step Late s h r u f = step_late s h r u f
 
   -- a redelivery of the task's message spends an entry for the task
@@ -304,4 +344,4 @@ module _ (behaviour : Behaviour) (l : Line) (k : ℕ) where
   redelivers over h e es d f = absurd (false≢true f)
   redelivers failed h e es d f = absurd (false≢true f)
   redelivers (doing js b) h e es d f = absurd (false≢true f)
-  redelivers (reading g c fs) h e es d f = absurd (false≢true f)
+  redelivers (reading g c t fs) h e es d f = absurd (false≢true f)

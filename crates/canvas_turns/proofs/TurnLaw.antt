@@ -1,7 +1,6 @@
 -- The laws of runs by turns.
-use Rattle.std.proofs.Common.{◌≡◌, ◌≢◌, ◌⊎◌, ℕ, zero, suc, ◌+◌, ◌≤◌, ◌<◌, true, cond, List, [], ◌∷◌, length, map, Option, Some, None, refl, sym, ap, ap₂, ◌∙◌, subst, inl, inr, ⊎_elim, ne_eqb, arith}
-use Rattle.std.proofs.lemmas.Bool.{cases_eq, cases_Bool, false≢true, eq-eqb, le-leb, leb-true}
-use Rattle.std.proofs.lemmas.List.{length-append}
+use Rattle.std.proofs.Common.{◌≡◌, ◌≢◌, ◌⊎◌, ℕ, zero, suc, ◌≤◌, true, cond, List, [], ◌∷◌, length, map, Option, Some, None, refl, sym, ap, ap₂, ◌∙◌, subst, inl, inr, ⊎_elim, ne_eqb, arith}
+use Rattle.std.proofs.lemmas.Bool.{cases_eq, cases_Bool, false≢true, le-leb, leb-true}
 use Rattle.std.specs.Prelude.{leb}
 use Rattle.canvas_task.specs.Apply.{AnswersInRange, IsInRange, Behaviour}
 use Rattle.canvas_task.specs.declared.outcome.Outcome.{Outcome}
@@ -18,7 +17,7 @@ use Rattle.canvas_backend.specs.Roster.{roster_of, members}
 use Rattle.canvas_runs.specs.Calls.{scripts_of}
 use Rattle.canvas_runs.specs.Core.{taking, resting, over, failed, owning, doing, reading, acking, ask, left_after, Between, Doing}
 use Rattle.canvas_runs.specs.Law.{its_state}
-use Rattle.canvas_runs.specs.Lists.{Each, by, at, firsts}
+use Rattle.canvas_runs.specs.Lists.{Each, by}
 use Rattle.canvas_semantics.specs.States.{EachMay}
 use Rattle.canvas_runs.specs.Run.{Run, Closed}
 use Rattle.canvas_runs.specs.Worker.{worker}
@@ -28,7 +27,7 @@ use Rattle.canvas_runs.proofs.FirstLaw.{first_part, has_state}
 use Rattle.canvas_runs.proofs.Knowing.{found as among_members}
 use Rattle.canvas_runs.proofs.Right.{right_closed}
 use Rattle.canvas_runs.proofs.SecondLaw.{second_part}
-use Rattle.canvas_runs.proofs.Words.{in_each, each_append, each_left, length-firsts}
+use Rattle.canvas_runs.proofs.Words.{in_each, each_append, each_left}
 use Rattle.canvas_turns.specs.TurnLaws.{ByTurns, RunOf, Answerable, held_rows}
 use Rattle.canvas_turns.specs.Turns.{Step, results_after, IsWorker, queue_after, left, HasEnded, AllEnded, RanWhole, RanUntil, round, rounds}
 use Rattle.canvas_turns.proofs.RowRanges.{state_range, state_task}
@@ -54,11 +53,6 @@ by_none : {A : Type 0} (P : ℕ → Type 0) (p : ℕ) (xs : List (ℕ × A)) →
 by_none P p [] a f = refl
 by_none P p (x ∷ xs) a f =
     ap (λ b. cond b (x.1 ∷ by p xs) (by p xs)) (ne_eqb x.0 p (λ e. f (subst P e a.0))) ∙ by_none P p xs a.1 f
-
-at_some : (i : ℕ) (xs : List ℕ) → i < length xs → (t : ℕ) × (at i xs ≡ Some t)
-at_some i [] l = absurd (omega (arith, l))
-at_some zero (x ∷ xs) l = (x, refl)
-at_some (suc i) (x ∷ xs) l = at_some i xs (omega (arith, l))
 
 not_none : {A : Type 0} (x : Option A) (o : A) → x ≡ Some o → x ≢ None
 not_none x o e f = let bad : ◌≡◌ {A = Option _} (Some o) None = sym e ∙ f in cc
@@ -155,15 +149,10 @@ module _ (behaviour : Behaviour) (l : Line) (n : ℕ) (us : List ℕ) (xs : List
         ap (λ s. s.returned u) (sym holds.lawful.table_is) ∙ may.3,
       )
   answerable ranged p acking good k = tt
-  answerable ranged p (reading g c fs) good k =
-      let many : c.size ≡ length (members (roster_of l) g) = (order behaviour l t.plan).size g good.0 c good.1.0 in
-      let split : length (members (roster_of l) g) ≡ length (firsts fs) + length good.2 = ap length good.3 ∙ length-append (firsts fs) good.2 in
-      let apart : length fs ≢ c.size = λ e. false≢true (sym k.1 ∙ eq-eqb (length fs) c.size e) in
-      let within : length fs < length (members (roster_of l) g) = omega (arith, many, split, apart, length-firsts fs) in
-      let there = at_some (length fs) (members (roster_of l) g) within in
-      let member = at_in (length fs) (members (roster_of l) g) there.0 there.1 in
-      let held = in_each (λ u. (o : Outcome) × ((results_after xs).outcomes u ≡ Some o)) (members (roster_of l) g) k.0 there.0 member in
-      (there.0, within, there.1, member_known g there.0 member, (held.0, held.1, (held_range ranged there.0 held.0 held.1).1))
+  answerable ranged p (reading g c u fs) good k =
+      let member = at_in (length fs) (members (roster_of l) g) u good.1 in
+      let held = in_each (λ v. (o : Outcome) × ((results_after xs).outcomes v ≡ Some o)) (members (roster_of l) g) k.0 u member in
+      (member_known g u member, (held.0, held.1, (held_range ranged u held.0 held.1).1))
 
   pub next_answerable : AnswersInRange behaviour → (p : ℕ) → IsWorker n p → Answerable (roster_of l) xs (ask (worker behaviour l) (left behaviour l xs p))
   next_answerable ranged p w = answerable ranged p (left behaviour l xs p) (good_left behaviour l t.plan t.opens_back n xs holds.lawful p) (holds.ready p w)

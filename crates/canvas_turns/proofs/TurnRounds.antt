@@ -6,9 +6,10 @@ use Rattle.canvas_semantics.specs.Line.{Line}
 use Rattle.canvas_rewrite.specs.Planned.{IsPlan}
 use Rattle.canvas_effects.specs.Job.{store, publish, part}
 use Rattle.canvas_message.specs.declared.envelope.Envelope.{Envelope}
+use Rattle.canvas_backend.specs.Backend as results
 use Rattle.canvas_broker.specs.Broker as broker
 use Rattle.canvas_runs.specs.Calls.{of_scripts}
-use Rattle.canvas_runs.specs.Core.{Ask, Reply, end, taken, sent, stored, counted, found, rested, acked, taking, resting, over, failed, owning, doing, reading, acking, ask, answered, Doing, is_inside}
+use Rattle.canvas_runs.specs.Core.{Ask, Reply, end, from_queue, from_table, rested, acked, taking, resting, over, failed, owning, doing, reading, acking, ask, answered, Doing, is_inside}
 use Rattle.canvas_runs.specs.Lists.{Each, total}
 use Rattle.canvas_runs.specs.Worker.{worker, sealed}
 use Rattle.canvas_turns.specs.Turns.{Step, is_queued, queue_next, queue_after, left, IsWorker, Answers, FirstsRead, some_inside, holds_more, HasEnded, Turned, all_taken, skips_turn, takes_turn, delivers_again, AllEnded, round}
@@ -59,33 +60,37 @@ module _ (behaviour : Behaviour) (l : Line) where
 
   -- one step without a call: a worker that takes nothing, or that rests
   pub data Quiet : Doing (worker behaviour l) → Reply Envelope → Type 0 where
-    takes_none : Quiet taking (taken None)
+    takes_none : Quiet taking (from_queue None)
     rests_on : {b : Bool} → Quiet resting (rested b)
 
   pub quiet_step : (n : ℕ) (xs : List Step) (s : Doing (worker behaviour l)) (r : Reply Envelope)
       → Answers behaviour l n xs (ask (worker behaviour l) s) r → calls_of behaviour l (ask (worker behaviour l) s, r) ≡ 0 → Quiet s r
-  quiet_step n xs taking (taken None) h z = takes_none
-  quiet_step n xs taking (taken (Some e)) h z = absurd (omega (arith, z))
+  quiet_step n xs taking (from_queue None) h z = takes_none
+  quiet_step n xs taking (from_queue (Some e)) h z = absurd (omega (arith, z))
   quiet_step n xs resting (rested b) h z = rests_on
-  quiet_step n xs (owning m) (stored b) h z = absurd (omega (arith, z))
-  quiet_step n xs (doing (store t o ∷ js) d) (stored b) h z = absurd (omega (arith, z))
-  quiet_step n xs (doing (publish m ∷ js) d) sent h z = absurd (omega (arith, z))
-  quiet_step n xs (doing (part g t c ∷ js) d) (counted m) h z = absurd (omega (arith, z))
-  quiet_step n xs (reading g c fs) (found t x) h z = absurd (omega (arith, z))
+  quiet_step n xs (owning m) (from_table (results.was b)) h z = absurd (omega (arith, z))
+  quiet_step n xs (doing (store t o ∷ js) d) (from_table (results.was b)) h z = absurd (omega (arith, z))
+  quiet_step n xs (doing (publish m ∷ js) d) (from_queue x) h z = absurd (omega (arith, z))
+  quiet_step n xs (doing (part g t c ∷ js) d) (from_table (results.count m)) h z = absurd (omega (arith, z))
+  quiet_step n xs (reading g c t fs) (from_table (results.found x)) h z = absurd (omega (arith, z))
+  quiet_step n xs (owning m) (from_table r) h z = absurd cc
+  quiet_step n xs (doing (store t o ∷ js) d) (from_table r) h z = absurd cc
+  quiet_step n xs (doing (part g t c ∷ js) d) (from_table r) h z = absurd cc
+  quiet_step n xs (reading g c t fs) (from_table r) h z = absurd cc
   quiet_step n xs acking acked h z = absurd (omega (arith, z))
   quiet_step n xs s r h z = elim h [ ]
 
   quiet_outside : (s : Doing (worker behaviour l)) (r : Reply Envelope) → Quiet s r
       → (is_inside s ≡ false) × (is_inside (answered (worker behaviour l) s r) ≡ false)
-  quiet_outside taking (taken None) takes_none = (refl, refl)
+  quiet_outside taking (from_queue None) takes_none = (refl, refl)
   quiet_outside resting (rested true) rests_on = (refl, refl)
   quiet_outside resting (rested false) rests_on = (refl, refl)
   quiet_outside s r q = elim q [ ]
 
   quiet_queue : (q : List Envelope) (n : ℕ) (xs : List Step) (s : Doing (worker behaviour l)) (r : Reply Envelope) → Quiet s r → queue_after l xs ≡ q
       → Answers behaviour l n xs (ask (worker behaviour l) s) r → queue_next q (ask (worker behaviour l) s) ≡ q
-  quiet_queue [] n xs taking (taken None) takes_none e h = refl
-  quiet_queue (x ∷ q) n xs taking (taken None) takes_none e h = absurd (let wrong : None ≡ Some x = h ∙ ap (λ z. broker.answer z broker.take) e in cc)
+  quiet_queue [] n xs taking (from_queue None) takes_none e h = refl
+  quiet_queue (x ∷ q) n xs taking (from_queue None) takes_none e h = absurd (let wrong : None ≡ Some x = h ∙ ap (λ z. broker.answer z broker.take) e in cc)
   quiet_queue q n xs resting (rested b) rests_on e h = refl
   quiet_queue q n xs s r k e h = elim k [ ]
 
@@ -108,7 +113,7 @@ module _ (behaviour : Behaviour) (l : Line) where
   rank_over failed e = absurd (omega (arith, e))
   rank_over (owning m) e = absurd (omega (arith, e))
   rank_over (doing js b) e = absurd (omega (arith, e))
-  rank_over (reading g c fs) e = absurd (omega (arith, e))
+  rank_over (reading g c t fs) e = absurd (omega (arith, e))
   rank_over acking e = absurd (omega (arith, e))
 
   few_waits : (s : Doing (worker behaviour l)) → waits s ≤ 1
@@ -118,7 +123,7 @@ module _ (behaviour : Behaviour) (l : Line) where
   few_waits failed = omega arith
   few_waits (owning m) = omega arith
   few_waits (doing js b) = omega arith
-  few_waits (reading g c fs) = omega arith
+  few_waits (reading g c t fs) = omega arith
   few_waits acking = omega arith
 
   module _ (plan : IsPlan l) (back : FirstsRead l) (n : ℕ) where
@@ -181,8 +186,8 @@ module _ (behaviour : Behaviour) (l : Line) where
     own_nearer : (xs : List Step) (s : Doing (worker behaviour l)) (r : Reply Envelope) → Idle behaviour l n xs → Quiet s r
         → Answers behaviour l n xs (ask (worker behaviour l) s) r → (k j : ℕ) → (k + j ≤ rank (answered (worker behaviour l) s r)) ⊎ (k ≡ 0)
         → (k + (1 + j) ≤ rank s) ⊎ (k ≡ 0)
-    own_nearer xs taking (taken None) i takes_none h k j (inl e) = inl (omega (arith, e))
-    own_nearer xs taking (taken None) i takes_none h k j (inr e) = inr e
+    own_nearer xs taking (from_queue None) i takes_none h k j (inl e) = inl (omega (arith, e))
+    own_nearer xs taking (from_queue None) i takes_none h k j (inr e) = inr e
     own_nearer xs resting (rested true) i rests_on h k j e = absurd (false≢true (sym (more_false xs true i h)))
     own_nearer xs resting (rested false) i rests_on h k j (inl e) = inr (omega (arith, e))
     own_nearer xs resting (rested false) i rests_on h k j (inr e) = inr e
@@ -235,7 +240,7 @@ module _ (behaviour : Behaviour) (l : Line) where
 
     own_waits : (xs : List Step) (s : Doing (worker behaviour l)) (r : Reply Envelope) → is_queued (queue_after l xs) ≡ true → Quiet s r
         → Answers behaviour l n xs (ask (worker behaviour l) s) r → (j : ℕ) → j ≤ waits (answered (worker behaviour l) s r) → 1 + j ≤ waits s
-    own_waits xs taking (taken None) i takes_none h j e = absurd (none_queued (queue_after l xs) i h)
+    own_waits xs taking (from_queue None) i takes_none h j e = absurd (none_queued (queue_after l xs) i h)
     own_waits xs resting (rested true) i rests_on h j e = omega (arith, e)
     own_waits xs resting (rested false) i rests_on h j e = absurd (false≢true (more_true xs false i h))
     own_waits xs s r i q h j e = elim q [ ]
@@ -284,7 +289,7 @@ module _ (behaviour : Behaviour) (l : Line) where
     low_rank xs p failed k e = absurd k
     low_rank xs p (owning m) k e = absurd cc
     low_rank xs p (doing js b) k e = absurd cc
-    low_rank xs p (reading g c fs) k e = absurd cc
+    low_rank xs p (reading g c t fs) k e = absurd cc
     low_rank xs p acking k e = absurd cc
 
     empty_or : (q : List Envelope) → (q ≡ []) ⊎ (is_queued q ≡ true)

@@ -7,54 +7,65 @@ use Rattle.canvas_semantics.specs.Line.{Line}
 use Rattle.canvas_effects.specs.Effects.{first_messages}
 use Rattle.canvas_message.specs.declared.envelope.Envelope.{Envelope}
 use Rattle.canvas_backend.specs.Backend as results
-use Rattle.canvas_backend.specs.Backend.{Results, no_results, first_or, next_of, reply_of, count_of, was, count, found}
-use Rattle.canvas_backend.specs.Roster.{roster_of, members}
+use Rattle.canvas_backend.specs.Backend.{Results, no_results, next_of, reply_of}
+use Rattle.canvas_backend.specs.Roster.{roster_of}
 use Rattle.canvas_broker.specs.Broker as broker
 use Rattle.canvas_history.specs.Answers.{answered_calls, entries_by, splits_of}
-use Rattle.canvas_runs.specs.Core.{Ask, Reply, take, publish, store, part, read, rest, ack, taken, sent, stored, counted, found as found_it, rested, acked, taking, IsCoreRun, Between, redeliver}
-use Rattle.canvas_runs.specs.Calls.{QueueAnswered, TableAnswered, makes, FollowsScripts, scripts_all, scripts_publish, scripts_list_take, scripts_core_take, scripts_ack, AskedAndAnswered, broker_calls, core_calls, backend_call, backend_calls, ReadsMembers, takes_one, worker_call, worker_calls, scripts_of, scripts_again, held_by, held_after, delivers, DeliversHeld}
+use Rattle.canvas_runs.specs.Core.{Ask, Reply, to_queue, to_table, rest, ack, from_queue, from_table, rested, acked, taking, answered, Suits, IsCoreRun, Between, Doing}
+use Rattle.canvas_runs.specs.Calls.{QueueAnswered, TableAnswered, makes, FollowsScripts, scripts_all, scripts_publish, scripts_list_take, scripts_core_take, scripts_ack, AskedAndAnswered, broker_call, broker_calls, core_calls, backend_call, backend_calls, takes_one, of_scripts, scripts_of, scripts_again, held_by, held_after, delivers, DeliversHeld}
 use Rattle.canvas_runs.specs.Lists.{by, total}
 use Rattle.canvas_runs.specs.Logs.{queue_calls}
 use Rattle.canvas_runs.specs.Run.{Run, Closed, published_all}
 use Rattle.canvas_runs.specs.Worker.{worker, sealed}
-use Rattle.canvas_turns.specs.Turns.{Step, queue_next, results_next, results_after, queue_after, left, round, IsWorker, Answers, FirstsRead, holds}
+use Rattle.canvas_turns.specs.Turns.{Step, queue_next, results_next, results_after, queue_after, left, round, IsWorker, Answers, FirstsRead, holds, redelivery}
 use Rattle.canvas_message.specs.Among.{In as IsIn}
-use Rattle.std.proofs.lemmas.Bool.{eqb-true}
+use Rattle.std.proofs.lemmas.Bool.{eqb-true, false≢true}
 use Rattle.canvas_runs.proofs.Words.{in_right}
 use Rattle.canvas_runs.proofs.Sums.{total-append}
-use Rattle.canvas_runs.proofs.CallsOf.{calls_append, calls_splits, calls_entries, queue_append, queue_splits, queue_entries, worker_found, published_found}
+use Rattle.canvas_runs.proofs.CallsOf.{calls_append, calls_splits, calls_entries, queue_append, queue_splits, queue_entries, broker_found, published_found}
 use Rattle.canvas_runs.proofs.MoreAsks.{by_append}
 use Rattle.canvas_turns.proofs.TurnLogs.{Made, worker_lives, first_lives, only_append, splits_legal, splits_state, by_tag, entries_only}
 
 -- a worker whose redeliveries are of the envelope of its open script follows its core run
-one_same : (h : Option Envelope) (a : Ask Envelope) (r : Reply Envelope) (ys : List (AskedAndAnswered Envelope)) → delivers h a
-    → FollowsScripts (held_by h a r) [] (core_calls (scripts_of ys)) (worker_calls ys)
-    → FollowsScripts h [] (core_calls (scripts_of ((a, r) ∷ ys))) (worker_call a r ++ worker_calls ys)
-one_same h take (taken (Some e)) ys d k = scripts_list_take (scripts_core_take k)
-one_same h take (taken None) ys d k = k
-one_same h (publish e) sent ys d k = scripts_publish k
-one_same h ack acked ys d k = scripts_ack k
-one_same h (redeliver e) sent ys d k =
-    subst (λ g. FollowsScripts g [] (core_calls (scripts_of ys)) ((broker.redeliver e, None) ∷ worker_calls ys)) (sym d)
-    (scripts_again (subst (λ g. FollowsScripts g [] (core_calls (scripts_of ys)) (worker_calls ys)) d k))
-one_same h (redeliver e) r ys d k = k
-one_same h a r ys d k = k
+one_same : (h : Option Envelope) (a : Ask Envelope) (r : Reply Envelope) (ys : List (AskedAndAnswered Envelope)) → delivers h a r
+    → (of_scripts a ≡ true → Suits a r) → FollowsScripts (held_by h a r) [] (core_calls (scripts_of ys)) (broker_calls ys)
+    → FollowsScripts h [] (core_calls (scripts_of ((a, r) ∷ ys))) (broker_call a r ++ broker_calls ys)
+one_same h (to_queue broker.take) (from_queue (Some e)) ys d s k = scripts_list_take (scripts_core_take k)
+one_same h (to_queue broker.take) (from_queue None) ys d s k = k
+one_same h (to_queue (broker.publish e)) (from_queue None) ys d s k = scripts_publish k
+one_same h (to_queue (broker.publish e)) (from_queue (Some x)) ys d s k = elim (s refl) [ ]
+one_same h (to_queue (broker.redeliver e)) (from_queue None) ys d s k =
+    subst (λ g. FollowsScripts g [] (core_calls (scripts_of ys)) ((broker.redeliver e, None) ∷ broker_calls ys)) (sym d)
+    (scripts_again (subst (λ g. FollowsScripts g [] (core_calls (scripts_of ys)) (broker_calls ys)) d k))
+one_same h (to_queue (broker.redeliver e)) r ys d s k = elim d [ ]
+one_same h ack acked ys d s k = scripts_ack k
+one_same h a r ys d s k = k
 
-scripts_same : (h : Option Envelope) (xs : List (AskedAndAnswered Envelope)) → DeliversHeld h xs
-    → FollowsScripts h [] (core_calls (scripts_of xs)) (worker_calls xs)
-scripts_same h [] d = scripts_all
-scripts_same h (x ∷ xs) d = one_same h x.0 x.1 xs d.0 (scripts_same (held_by h x.0 x.1) xs d.1)
+module _ (behaviour : Behaviour) (l : Line) where
+  scripts_same : (s : Doing (worker behaviour l)) (h : Option Envelope) (xs : List (AskedAndAnswered Envelope)) → DeliversHeld h xs
+      → IsCoreRun (worker behaviour l) s (scripts_of xs) → FollowsScripts h [] (core_calls (scripts_of xs)) (broker_calls xs)
+  scripts_same s h [] d c = scripts_all
+  scripts_same s h (x ∷ xs) d c = go x.0 x.1 d.0 (λ z. scripts_same z (held_by h x.0 x.1) xs d.1) c
+    where
+      go : (a : Ask Envelope) (r : Reply Envelope) → delivers h a r
+          → ((z : Doing (worker behaviour l)) → IsCoreRun (worker behaviour l) z (scripts_of xs)
+          → FollowsScripts (held_by h a r) [] (core_calls (scripts_of xs)) (broker_calls xs))
+          → IsCoreRun (worker behaviour l) s (scripts_of ((a, r) ∷ xs))
+          → FollowsScripts h [] (core_calls (scripts_of ((a, r) ∷ xs))) (broker_call a r ++ broker_calls xs)
+      go (to_queue (broker.redeliver e)) r d k c = one_same h (to_queue (broker.redeliver e)) r xs d (λ o. absurd (false≢true o)) (k s c)
+      go a r d k c = one_same h a r xs d (λ o. c.1.0) (k (answered (worker behaviour l) s r) c.2)
 
-pub follows_same : (es : List Envelope) (xs : List (AskedAndAnswered Envelope)) (b : Bool) → DeliversHeld None xs
-    → FollowsScripts None [] (map makes (cond b (published_all es) []) ++ core_calls (scripts_of xs)) (cond b (published_all es) [] ++ worker_calls xs)
-follows_same es xs false d = scripts_same None xs d
-follows_same [] xs true d = scripts_same None xs d
-follows_same (e ∷ es) xs true d = scripts_publish (follows_same es xs true d)
+  pub follows_same : (es : List Envelope) (xs : List (AskedAndAnswered Envelope)) (b : Bool) → DeliversHeld None xs
+      → IsCoreRun (worker behaviour l) taking (scripts_of xs)
+      → FollowsScripts None [] (map makes (cond b (published_all es) []) ++ core_calls (scripts_of xs)) (cond b (published_all es) [] ++ broker_calls xs)
+  follows_same es xs false d c = scripts_same taking None xs d c
+  follows_same [] xs true d c = scripts_same taking None xs d c
+  follows_same (e ∷ es) xs true d c = scripts_publish (follows_same es xs true d c)
 
 -- what a redelivery has no part in
 one_backend : (a : Ask Envelope) (r : Reply Envelope) (ys : List (AskedAndAnswered Envelope)) (l : List TableAnswered)
     → l ≡ backend_calls (scripts_of ys) → backend_call a r ++ l ≡ backend_calls (scripts_of ((a, r) ∷ ys))
-one_backend (redeliver e) r ys l k = k
+one_backend (to_queue (broker.redeliver e)) r ys l k = k
 one_backend a r ys l k = ap (λ g. backend_call a r ++ g) k
 
 pub backend_scripts : (xs : List (AskedAndAnswered Envelope)) → backend_calls xs ≡ backend_calls (scripts_of xs)
@@ -62,30 +73,28 @@ backend_scripts [] = refl
 backend_scripts (x ∷ xs) = one_backend x.0 x.1 xs (backend_calls xs) (backend_scripts xs)
 
 one_takes : (a : Ask Envelope) (r : Reply Envelope) (ys : List (AskedAndAnswered Envelope)) (k : ℕ)
-    → k ≡ total takes_one (broker_calls (scripts_of ys)) → total takes_one (worker_call a r) + k ≡ total takes_one (broker_calls (scripts_of ((a, r) ∷ ys)))
-one_takes (redeliver e) sent ys k h = omega (arith, h)
-one_takes (redeliver e) r ys k h = omega (arith, h)
-one_takes take (taken (Some e)) ys k h = omega (arith, h)
-one_takes (publish e) sent ys k h = omega (arith, h)
-one_takes a r ys k h = omega (arith, h)
+    → k ≡ total takes_one (broker_calls (scripts_of ys)) → total takes_one (broker_call a r) + k ≡ total takes_one (broker_calls (scripts_of ((a, r) ∷ ys)))
+one_takes (to_queue (broker.redeliver e)) (from_queue x) ys k h = omega (arith, h)
+one_takes (to_queue (broker.redeliver e)) r ys k h = omega (arith, h)
+one_takes a r ys k h = let both = total-append takes_one (broker_call a r) (broker_calls (scripts_of ys)) in omega (arith, h, both)
 
-pub takes_scripts : (xs : List (AskedAndAnswered Envelope)) → total takes_one (worker_calls xs) ≡ total takes_one (broker_calls (scripts_of xs))
+pub takes_scripts : (xs : List (AskedAndAnswered Envelope)) → total takes_one (broker_calls xs) ≡ total takes_one (broker_calls (scripts_of xs))
 takes_scripts [] = refl
-takes_scripts (x ∷ xs) = total-append takes_one (worker_call x.0 x.1) (worker_calls xs)
-    ∙ one_takes x.0 x.1 xs (total takes_one (worker_calls xs)) (takes_scripts xs)
+takes_scripts (x ∷ xs) = total-append takes_one (broker_call x.0 x.1) (broker_calls xs)
+    ∙ one_takes x.0 x.1 xs (total takes_one (broker_calls xs)) (takes_scripts xs)
 
 -- what a worker holds it has taken
 held_taken : (h : Option Envelope) (xs : List (AskedAndAnswered Envelope)) (e : Envelope) → held_after h xs ≡ Some e
-    → (h ≡ Some e) ⊎ IsIn (take, taken (Some e)) xs
+    → (h ≡ Some e) ⊎ IsIn (to_queue broker.take, from_queue (Some e)) xs
 held_taken h [] e k = inl k
 held_taken h (x ∷ xs) e k = ⊎_elim (λ a. one x.0 x.1 a) (λ b. inr (inr b)) (held_taken (held_by h x.0 x.1) xs e k)
   where
     some_same : (d : Envelope) → Some d ≡ Some e → d ≡ e
     some_same d q = cc
 
-    one : (a : Ask Envelope) (r : Reply Envelope) → held_by h a r ≡ Some e → (h ≡ Some e) ⊎ IsIn (take, taken (Some e)) ((a, r) ∷ xs)
-    one take (taken (Some d)) q = inr (inl (ap (λ u. (take, taken (Some u))) (sym (some_same d q))))
-    one take (taken None) q = inl q
+    one : (a : Ask Envelope) (r : Reply Envelope) → held_by h a r ≡ Some e → (h ≡ Some e) ⊎ IsIn (to_queue broker.take, from_queue (Some e)) ((a, r) ∷ xs)
+    one (to_queue broker.take) (from_queue (Some d)) q = inr (inl (ap (λ u. (to_queue broker.take, from_queue (Some u))) (sym (some_same d q))))
+    one (to_queue broker.take) (from_queue None) q = inl q
     one ack acked q = absurd (cc)
     one a r q = inl q
 
@@ -102,7 +111,7 @@ module _ (behaviour : Behaviour) (l : Line) where
   -- the steps that are calls, each by its worker
   abbrev pub queue_lines : List Step → List (broker.QueueEntry Envelope)
   queue_lines [] = []
-  queue_lines (x ∷ xs) = entries_by x.0 (worker_call x.1.0 x.1.1) ++ queue_lines xs
+  queue_lines (x ∷ xs) = entries_by x.0 (broker_call x.1.0 x.1.1) ++ queue_lines xs
 
   abbrev pub table_lines : List Step → results.Log
   table_lines [] = []
@@ -119,11 +128,11 @@ module _ (behaviour : Behaviour) (l : Line) where
 
   -- ---- one more step
 
-  queue_lines_more : (xs : List Step) (x : Step) → queue_lines (xs ++ x ∷ []) ≡ queue_lines xs ++ entries_by x.0 (worker_call x.1.0 x.1.1)
-  queue_lines_more [] x = append-nil (entries_by x.0 (worker_call x.1.0 x.1.1))
+  queue_lines_more : (xs : List Step) (x : Step) → queue_lines (xs ++ x ∷ []) ≡ queue_lines xs ++ entries_by x.0 (broker_call x.1.0 x.1.1)
+  queue_lines_more [] x = append-nil (entries_by x.0 (broker_call x.1.0 x.1.1))
   queue_lines_more (y ∷ xs) x =
-      ap (λ g. entries_by y.0 (worker_call y.1.0 y.1.1) ++ g) (queue_lines_more xs x)
-      ∙ sym (append_assoc (entries_by y.0 (worker_call y.1.0 y.1.1)) (queue_lines xs) (entries_by x.0 (worker_call x.1.0 x.1.1)))
+      ap (λ g. entries_by y.0 (broker_call y.1.0 y.1.1) ++ g) (queue_lines_more xs x)
+      ∙ sym (append_assoc (entries_by y.0 (broker_call y.1.0 y.1.1)) (queue_lines xs) (entries_by x.0 (broker_call x.1.0 x.1.1)))
 
   table_lines_more : (xs : List Step) (x : Step) → table_lines (xs ++ x ∷ []) ≡ table_lines xs ++ entries_by x.0 (backend_call x.1.0 x.1.1)
   table_lines_more [] x = append-nil (entries_by x.0 (backend_call x.1.0 x.1.1))
@@ -131,9 +140,9 @@ module _ (behaviour : Behaviour) (l : Line) where
       ap (λ g. entries_by y.0 (backend_call y.1.0 y.1.1) ++ g) (table_lines_more xs x)
       ∙ sym (append_assoc (entries_by y.0 (backend_call y.1.0 y.1.1)) (table_lines xs) (entries_by x.0 (backend_call x.1.0 x.1.1)))
 
-  pub queue_log_more : (n : ℕ) (xs : List Step) (x : Step) → queue_log n (xs ++ x ∷ []) ≡ queue_log n xs ++ entries_by x.0 (worker_call x.1.0 x.1.1)
+  pub queue_log_more : (n : ℕ) (xs : List Step) (x : Step) → queue_log n (xs ++ x ∷ []) ≡ queue_log n xs ++ entries_by x.0 (broker_call x.1.0 x.1.1)
   queue_log_more n xs x =
-      let new : List (broker.QueueEntry Envelope) = entries_by x.0 (worker_call x.1.0 x.1.1) in
+      let new : List (broker.QueueEntry Envelope) = entries_by x.0 (broker_call x.1.0 x.1.1) in
       let opening : List (broker.QueueEntry Envelope) = entries_by 0 (published_all firsts) in
       ap (λ g. splits_of (round n) ++ (opening ++ g)) (queue_lines_more xs x)
       ∙ (ap (λ g. splits_of (round n) ++ g) (sym (append_assoc opening (queue_lines xs) new))
@@ -148,7 +157,7 @@ module _ (behaviour : Behaviour) (l : Line) where
 
   queue_only : (xs : List Step) → OnlyCalls (queue_lines xs)
   queue_only [] = tt
-  queue_only (x ∷ xs) = only_append (entries_by x.0 (worker_call x.1.0 x.1.1)) (queue_lines xs) (entries_only x.0 (worker_call x.1.0 x.1.1)) (queue_only xs)
+  queue_only (x ∷ xs) = only_append (entries_by x.0 (broker_call x.1.0 x.1.1)) (queue_lines xs) (entries_only x.0 (broker_call x.1.0 x.1.1)) (queue_only xs)
 
   table_only : (xs : List Step) → OnlyCalls (table_lines xs)
   table_only [] = tt
@@ -175,17 +184,17 @@ module _ (behaviour : Behaviour) (l : Line) where
   -- what a step adds to a history of the queue
   queue_adds : (n : ℕ) (xs : List Step) (p : ℕ) (a : Ask Envelope) (r : Reply Envelope) (log : List (broker.QueueEntry Envelope))
       → among p (live log) ≡ true → broker.queue_of log ≡ queue_after l xs
-      → Answers behaviour l n xs a r → QueueLegal log (entries_by p (worker_call a r))
-      × (queue_from_log (queue_after l xs) (entries_by p (worker_call a r)) ≡ queue_next (queue_after l xs) a)
-  queue_adds n xs p take (taken None) log alive is h = (tt, sym (none_left (queue_after l xs) h))
-  queue_adds n xs p take (taken (Some e)) log alive is h = (((alive, h ∙ ap (λ q. broker.answer q broker.take) (sym is), tt), tt), refl)
-  queue_adds n xs p (publish e) sent log alive is h = (((alive, refl, tt), tt), refl)
-  queue_adds n xs p (store t o) (stored b) log alive is h = (tt, refl)
-  queue_adds n xs p (part g t) (counted m) log alive is h = (tt, refl)
-  queue_adds n xs p (read g i) (found_it t x) log alive is h = (tt, refl)
-  queue_adds n xs p rest (rested m) log alive is h = (tt, refl)
-  queue_adds n xs p ack acked log alive is h = (tt, refl)
-  queue_adds n xs p a r log alive is h = elim h [ ]
+      → of_scripts a ≡ true → Answers behaviour l n xs a r → QueueLegal log (entries_by p (broker_call a r))
+      × (queue_from_log (queue_after l xs) (entries_by p (broker_call a r)) ≡ queue_next (queue_after l xs) a)
+  queue_adds n xs p (to_queue broker.take) (from_queue None) log alive is o h = (tt, sym (none_left (queue_after l xs) h))
+  queue_adds n xs p (to_queue broker.take) (from_queue (Some e)) log alive is o h =
+      (((alive, h ∙ ap (λ q. broker.answer q broker.take) (sym is), tt), tt), refl)
+  queue_adds n xs p (to_queue (broker.publish e)) (from_queue x) log alive is o h = (((alive, h, tt), tt), refl)
+  queue_adds n xs p (to_queue (broker.redeliver e)) r log alive is o h = absurd (false≢true o)
+  queue_adds n xs p (to_table c) (from_table r) log alive is o h = (tt, refl)
+  queue_adds n xs p rest (rested m) log alive is o h = (tt, refl)
+  queue_adds n xs p ack acked log alive is o h = (tt, refl)
+  queue_adds n xs p a r log alive is o h = elim h [ ]
 
   abbrev TableLegal : results.Log → results.Log → Type 0
   TableLegal before es = LegalFrom no_results (reply_of (roster_of l)) next_of (results.May (roster_of l)) before es
@@ -193,33 +202,27 @@ module _ (behaviour : Behaviour) (l : Line) where
   abbrev table_from_log : Results → results.Log → Results
   table_from_log s es = state_from no_results (reply_of (roster_of l)) next_of (results.May (roster_of l)) s es
 
-  -- the part may be returned
-  abbrev pub MayPart : results.Log → ℕ → Ask Envelope → Type 0
-  MayPart log p (part g t) = results.May (roster_of l) log (results.results (roster_of l) log) p (results.part g t)
-  MayPart log p a = Unit
+  -- the worker may make the call of the table
+  abbrev pub MayCall : results.Log → ℕ → Ask Envelope → Type 0
+  MayCall log p (to_table c) = results.May (roster_of l) log (results.results (roster_of l) log) p c
+  MayCall log p a = Unit {0}
 
   table_adds : (n : ℕ) (xs : List Step) (p : ℕ) (a : Ask Envelope) (r : Reply Envelope) (log : results.Log) → among p (live log) ≡ true
       → results.results (roster_of l) log ≡ results_after xs
-      → Answers behaviour l n xs a r → MayPart log p a → TableLegal log (entries_by p (backend_call a r))
+      → Answers behaviour l n xs a r → MayCall log p a → TableLegal log (entries_by p (backend_call a r))
       × (table_from_log (results_after xs) (entries_by p (backend_call a r)) ≡ results_next (results_after xs) a)
-  table_adds n xs p take (taken x) log alive is h may = (tt, refl)
-  table_adds n xs p (publish e) sent log alive is h may = (tt, refl)
-  table_adds n xs p (store t o) (stored b) log alive is h may =
-      (((alive, ap (λ k. was k) h ∙ ap (λ s. was (first_or (s.outcomes t))) (sym is), tt), tt), refl)
-  table_adds n xs p (part g t) (counted m) log alive is h may =
-      (((alive, ap (λ k. count k) h ∙ ap (λ s. count (count_of (roster_of l) s g)) (sym is), may), tt), refl)
-  table_adds n xs p (read g i) (found_it t x) log alive is h may =
-      (((alive, ap (λ k. found k) h.1 ∙ ap (λ s. found (s.outcomes t)) (sym is), tt), tt), refl)
+  table_adds n xs p (to_queue c) (from_queue x) log alive is h may = (tt, refl)
+  table_adds n xs p (to_table c) (from_table r) log alive is h may = (((alive, h ∙ ap (λ s. reply_of (roster_of l) s c) (sym is), may), tt), refl)
   table_adds n xs p rest (rested m) log alive is h may = (tt, refl)
   table_adds n xs p ack acked log alive is h may = (tt, refl)
   table_adds n xs p a r log alive is h may = elim h [ ]
 
   pub queue_stays : (n : ℕ) (xs : List Step) (p : ℕ) (a : Ask Envelope) (r : Reply Envelope) → IsWorker n p → broker.IsLegal (queue_log n xs)
-      → broker.queue_of (queue_log n xs) ≡ queue_after l xs → Answers behaviour l n xs a r
+      → broker.queue_of (queue_log n xs) ≡ queue_after l xs → of_scripts a ≡ true → Answers behaviour l n xs a r
       → broker.IsLegal (queue_log n (xs ++ (p, (a, r)) ∷ [])) × (broker.queue_of (queue_log n (xs ++ (p, (a, r)) ∷ [])) ≡ queue_next (queue_after l xs) a)
-  queue_stays n xs p a r w legal is h =
-      let new : List (broker.QueueEntry Envelope) = entries_by p (worker_call a r) in
-      let adds = queue_adds n xs p a r (queue_log n xs) (worker_lives n p (queue_log n xs) (queue_made n xs) w) is h in
+  queue_stays n xs p a r w legal is o h =
+      let new : List (broker.QueueEntry Envelope) = entries_by p (broker_call a r) in
+      let adds = queue_adds n xs p a r (queue_log n xs) (worker_lives n p (queue_log n xs) (queue_made n xs) w) is o h in
       let more = queue_log_more n xs (p, (a, r)) in (
         subst broker.IsLegal (sym more) (legal_append [] broker.answer broker.next broker.May [] (queue_log n xs) new legal adds.0),
         ap broker.queue_of more ∙ (state_append [] broker.answer broker.next broker.May [] (queue_log n xs) new ∙ (ap (λ q. queue_from_log q new) is ∙ adds.1)),
@@ -227,7 +230,7 @@ module _ (behaviour : Behaviour) (l : Line) where
 
   pub table_stays : (n : ℕ) (xs : List Step) (p : ℕ) (a : Ask Envelope) (r : Reply Envelope) → IsWorker n p
       → results.IsLegal (roster_of l) (table_log n xs)
-      → results.results (roster_of l) (table_log n xs) ≡ results_after xs → Answers behaviour l n xs a r → MayPart (table_log n xs) p a
+      → results.results (roster_of l) (table_log n xs) ≡ results_after xs → Answers behaviour l n xs a r → MayCall (table_log n xs) p a
       → results.IsLegal (roster_of l) (table_log n (xs ++ (p, (a, r)) ∷ []))
       × (results.results (roster_of l) (table_log n (xs ++ (p, (a, r)) ∷ [])) ≡ results_next (results_after xs) a)
   table_stays n xs p a r w legal is h may =
@@ -243,19 +246,20 @@ module _ (behaviour : Behaviour) (l : Line) where
 
   -- ---- a redelivery
 
-  line_in : (xs : List Step) (p : ℕ) (e : Envelope) → IsIn (take, taken (Some e)) (by p xs) → IsIn (calls p broker.take (Some e)) (queue_lines xs)
+  line_in : (xs : List Step) (p : ℕ) (e : Envelope) → IsIn (to_queue broker.take, from_queue (Some e)) (by p xs)
+      → IsIn (calls p broker.take (Some e)) (queue_lines xs)
   line_in [] p e i = absurd i
   line_in (x ∷ xs) p e i = go (eqb x.0 p) refl (λ k. line_in xs p e k) i
     where
-      go : (b : Bool) → eqb x.0 p ≡ b → (IsIn (take, taken (Some e)) (by p xs) → IsIn (calls p broker.take (Some e)) (queue_lines xs))
-          → IsIn (take, taken (Some e)) (cond b (x.1 ∷ by p xs) (by p xs)) → IsIn (calls p broker.take (Some e)) (queue_lines (x ∷ xs))
+      go : (b : Bool) → eqb x.0 p ≡ b → (IsIn (to_queue broker.take, from_queue (Some e)) (by p xs) → IsIn (calls p broker.take (Some e)) (queue_lines xs))
+          → IsIn (to_queue broker.take, from_queue (Some e)) (cond b (x.1 ∷ by p xs) (by p xs)) → IsIn (calls p broker.take (Some e)) (queue_lines (x ∷ xs))
       go true f m (inl s) =
           let who : x.0 ≡ p = eqb-true _ _ f in
-          let entry : entries_by x.0 (worker_call x.1.0 x.1.1) ≡ calls p broker.take (Some e) ∷ [] =
-          ap₂ (λ n (y : AskedAndAnswered Envelope). entries_by n (worker_call y.0 y.1)) who (sym s) in
+          let entry : entries_by x.0 (broker_call x.1.0 x.1.1) ≡ calls p broker.take (Some e) ∷ [] =
+          ap₂ (λ n (y : AskedAndAnswered Envelope). entries_by n (broker_call y.0 y.1)) who (sym s) in
           subst (λ g. IsIn (calls p broker.take (Some e)) (g ++ queue_lines xs)) (sym entry) (inl refl)
-      go true f m (inr k) = in_right (entries_by x.0 (worker_call x.1.0 x.1.1)) (queue_lines xs) (calls p broker.take (Some e)) (m k)
-      go false f m k = in_right (entries_by x.0 (worker_call x.1.0 x.1.1)) (queue_lines xs) (calls p broker.take (Some e)) (m k)
+      go true f m (inr k) = in_right (entries_by x.0 (broker_call x.1.0 x.1.1)) (queue_lines xs) (calls p broker.take (Some e)) (m k)
+      go false f m k = in_right (entries_by x.0 (broker_call x.1.0 x.1.1)) (queue_lines xs) (calls p broker.take (Some e)) (m k)
 
   no_joins : {C R : Type 0} (p : ℕ) (qs : List ℕ) (es : List (Entry C R)) → OnlyCalls es → heir (splits_of qs ++ es) p ≡ p
   no_joins p [] [] o = refl
@@ -267,7 +271,7 @@ module _ (behaviour : Behaviour) (l : Line) where
   pub has_taken : (n : ℕ) (xs : List Step) (p : ℕ) (e : Envelope) → holds xs p ≡ Some e → broker.HasTaken (queue_log n xs) p e
   has_taken n xs p e h =
       let made = queue_made n xs in
-      let mine : IsIn (take, taken (Some e)) (by p xs) = ⊎_elim (λ a. absurd (none a)) (λ b. b) (held_taken None (by p xs) e h) in (
+      let mine : IsIn (to_queue broker.take, from_queue (Some e)) (by p xs) = ⊎_elim (λ a. absurd (none a)) (λ b. b) (held_taken None (by p xs) e h) in (
         p,
         in_right (splits_of (round n)) (entries_by 0 (published_all firsts) ++ queue_lines xs) (calls p broker.take (Some e))
             (in_right (entries_by 0 (published_all firsts)) (queue_lines xs) (calls p broker.take (Some e)) (line_in xs p e mine)),
@@ -279,19 +283,19 @@ module _ (behaviour : Behaviour) (l : Line) where
 
   pub queue_delivers : (n : ℕ) (xs : List Step) (p : ℕ) (e : Envelope) → IsWorker n p → broker.IsLegal (queue_log n xs)
       → broker.queue_of (queue_log n xs) ≡ queue_after l xs → holds xs p ≡ Some e
-      → broker.IsLegal (queue_log n (xs ++ (p, (redeliver e, sent)) ∷ []))
-      × (broker.queue_of (queue_log n (xs ++ (p, (redeliver e, sent)) ∷ [])) ≡ queue_next (queue_after l xs) (redeliver e))
+      → broker.IsLegal (queue_log n (xs ++ redelivery p e ∷ []))
+      × (broker.queue_of (queue_log n (xs ++ redelivery p e ∷ [])) ≡ queue_next (queue_after l xs) (to_queue (broker.redeliver e)))
   queue_delivers n xs p e w legal is h =
       let new : List (broker.QueueEntry Envelope) = calls p (broker.redeliver e) None ∷ [] in
       let alive = worker_lives n p (queue_log n xs) (queue_made n xs) w in
-      let more = queue_log_more n xs (p, (redeliver e, sent)) in (
+      let more = queue_log_more n xs (redelivery p e) in (
         subst broker.IsLegal (sym more)
             (legal_append [] broker.answer broker.next broker.May [] (queue_log n xs) new legal ((alive, refl, has_taken n xs p e h), tt)),
         ap broker.queue_of more ∙ (state_append [] broker.answer broker.next broker.May [] (queue_log n xs) new ∙ ap (λ q. queue_from_log q new) is),
       )
 
-  pub table_delivers : (n : ℕ) (xs : List Step) (p : ℕ) (e : Envelope) → table_log n (xs ++ (p, (redeliver e, sent)) ∷ []) ≡ table_log n xs
-  table_delivers n xs p e = table_log_more n xs (p, (redeliver e, sent)) ∙ append-nil (table_log n xs)
+  pub table_delivers : (n : ℕ) (xs : List Step) (p : ℕ) (e : Envelope) → table_log n (xs ++ redelivery p e ∷ []) ≡ table_log n xs
+  table_delivers n xs p e = table_log_more n xs (redelivery p e) ∙ append-nil (table_log n xs)
 
   -- ---- before the first step
 
@@ -330,15 +334,15 @@ module _ (behaviour : Behaviour) (l : Line) where
 
   -- ---- each worker's calls are those of its steps
 
-  lines_by : (p : ℕ) (xs : List Step) → by p (queue_calls (queue_lines xs)) ≡ worker_calls (by p xs)
+  lines_by : (p : ℕ) (xs : List Step) → by p (queue_calls (queue_lines xs)) ≡ broker_calls (by p xs)
   lines_by p [] = refl
   lines_by p (x ∷ xs) =
-      let call : List (QueueAnswered Envelope) = worker_call x.1.0 x.1.1 in
+      let call : List (QueueAnswered Envelope) = broker_call x.1.0 x.1.1 in
       ap (by p) (queue_append (entries_by x.0 call) (queue_lines xs))
       ∙ (by_append p (queue_calls (entries_by x.0 call)) (queue_calls (queue_lines xs))
-      ∙ (ap₂ (λ u v. u ++ v) (ap (by p) (queue_entries x.0 call (worker_found x.1.0 x.1.1)) ∙ by_tag x.0 p call) (lines_by p xs) ∙ go (eqb x.0 p)))
+      ∙ (ap₂ (λ u v. u ++ v) (ap (by p) (queue_entries x.0 call (broker_found x.1.0 x.1.1)) ∙ by_tag x.0 p call) (lines_by p xs) ∙ go (eqb x.0 p)))
     where
-      go : (b : Bool) → cond b (worker_call x.1.0 x.1.1) [] ++ worker_calls (by p xs) ≡ worker_calls (cond b (x.1 ∷ by p xs) (by p xs))
+      go : (b : Bool) → cond b (broker_call x.1.0 x.1.1) [] ++ broker_calls (by p xs) ≡ broker_calls (cond b (x.1 ∷ by p xs) (by p xs))
       go true = refl
       go false = refl
 
@@ -361,7 +365,7 @@ module _ (behaviour : Behaviour) (l : Line) where
   abbrev pub opened_by : ℕ → List (QueueAnswered Envelope)
   opened_by p = cond (eqb p 0) (published_all firsts) []
 
-  pub queue_by : (n : ℕ) (xs : List Step) (p : ℕ) → by p (queue_calls (queue_log n xs)) ≡ opened_by p ++ worker_calls (by p xs)
+  pub queue_by : (n : ℕ) (xs : List Step) (p : ℕ) → by p (queue_calls (queue_log n xs)) ≡ opened_by p ++ broker_calls (by p xs)
   queue_by n xs p =
       let opening : List (broker.QueueEntry Envelope) = entries_by 0 (published_all firsts) in
       ap (by p) (queue_append (splits_of (round n)) (opening ++ queue_lines xs)
@@ -385,7 +389,6 @@ module _ (behaviour : Behaviour) (l : Line) where
   -- each worker follows a core run, and both histories are legal and stand for what is queued and stored
   pub record Lawful (n : ℕ) (xs : List Step) : Type 0 where
     pub core : (p : ℕ) → IsCoreRun (worker behaviour l) taking (scripts_of (by p xs))
-    pub reads : (p : ℕ) → ReadsMembers (members (roster_of l)) (scripts_of (by p xs))
     pub held : (p : ℕ) → DeliversHeld None (by p xs)
     pub queue_legal : broker.IsLegal (queue_log n xs)
     pub queue_is : broker.queue_of (queue_log n xs) ≡ queue_after l xs
@@ -401,7 +404,6 @@ module _ (behaviour : Behaviour) (l : Line) where
       table_legal = s.table_legal;
       core = λ p. scripts_of (by p xs);
       is_core = s.core;
-      reads = s.reads;
       opening = first_messages l;
       unsent = [];
       closing = [];
@@ -409,7 +411,7 @@ module _ (behaviour : Behaviour) (l : Line) where
       opens_back = back;
       closes = tt;
       follows = λ p. subst (λ ls. FollowsScripts None [] (map makes (opened_by p) ++ core_calls (scripts_of (by p xs))) ls) (sym (queue_by n xs p))
-          (follows_same firsts (by p xs) (eqb p 0) (s.held p));
+          (follows_same behaviour l firsts (by p xs) (eqb p 0) (s.held p) (s.core p));
       keeps = λ p. table_by n xs p
           ∙ (backend_scripts (by p xs)
           ∙ (sym (append-nil (backend_calls (scripts_of (by p xs)))) ∙ ap (λ g. backend_calls (scripts_of (by p xs)) ++ g) (sym (no_closing (eqb p 0)))));
@@ -424,7 +426,7 @@ module _ (behaviour : Behaviour) (l : Line) where
       all_sent = refl;
       drained = s.queue_is ∙ empty;
       all_used = λ p. ap (total takes_one) (queue_by n xs p)
-          ∙ (total-append takes_one (opened_by p) (worker_calls (by p xs))
+          ∙ (total-append takes_one (opened_by p) (broker_calls (by p xs))
           ∙ (plain (total takes_one (opened_by p)) (none_taken (eqb p 0)) ∙ takes_scripts (by p xs)));
       all_ended = between;
     }

@@ -1,8 +1,9 @@
 -- The steps of a run by turns that are calls are few.
-use Rattle.std.proofs.Common.{◌≡◌, ◌≢◌, ℕ, zero, suc, ◌+◌, ◌*◌, ◌≤◌, ◌<◌, Bool, true, false, cond, eqb, List, [], ◌∷◌, ◌++◌, length, Option, Some, None, refl, sym, ap, ap₂, ◌∙◌, subst, inl, inr, ⊎_elim, eq-eqb, arith, add-mul, mul-add, mul-le-mul_left, ne_eqb, ◌⊎◌}
+use Rattle.std.proofs.Common.{◌≡◌, ◌≢◌, ℕ, zero, suc, ◌+◌, ◌*◌, ◌≤◌, ◌<◌, Bool, true, false, cond, eqb, List, [], ◌∷◌, ◌++◌, length, slice_get, Option, Some, None, refl, sym, ap, ap₂, ◌∙◌, subst, inl, inr, ⊎_elim, eq-eqb, arith, add-mul, mul-add, mul-le-mul_left, ne_eqb, ◌⊎◌}
 use Rattle.std.proofs.lemmas.Bool.{cases_eq, eqb-true, cases_lt}
 use Rattle.std.proofs.lemmas.List.{length-append}
 use Rattle.canvas_task.specs.Apply.{Behaviour}
+use Rattle.canvas_task.specs.declared.outcome.Outcome.{Outcome}
 use Rattle.canvas_semantics.specs.Line.{Line, count_line, members}
 use Rattle.canvas_rewrite.specs.FrozenView.{PCarried}
 use Rattle.canvas_rewrite.specs.Planned.{times}
@@ -21,10 +22,10 @@ use Rattle.canvas_broker.specs.Broker as broker
 use Rattle.canvas_effects.specs.Job as job
 use Rattle.canvas_runs.proofs.OnceEach.{of_opened}
 use Rattle.canvas_runs.specs.Book.{book_of}
-use Rattle.canvas_runs.specs.Calls.{QueueAnswered, TableAnswered, backend_call, backend_calls, takes_one, AskedAndAnswered, reads_member, ReadsMembers, worker_call, scripts_of}
-use Rattle.canvas_runs.specs.Core.{Ask, Reply, store, part, read, taken, sent, stored, counted, found, rested, taking, resting, owning, doing, reading, ask, answered, Doing, Jobs, is_due, settled, opens, IsCoreRun, take, publish, ack, acked, refused, acking, is_inside, Suits, redeliver}
-use Rattle.canvas_runs.specs.Law.{of_task, publishes_one}
-use Rattle.canvas_runs.specs.Lists.{Each, by, at, total, seconds}
+use Rattle.canvas_runs.specs.Calls.{QueueAnswered, TableAnswered, broker_call, backend_call, backend_calls, takes_one, AskedAndAnswered, scripts_of}
+use Rattle.canvas_runs.specs.Core.{Ask, Reply, to_queue, to_table, ack, from_queue, from_table, refused, rested, acked, taking, resting, owning, doing, reading, acking, ask, answered, Doing, Jobs, is_due, settled, opens, reading_of, reads_next, IsCoreRun, is_inside, Suits}
+use Rattle.canvas_runs.specs.Law.{of_task, publishes_one, returns_one}
+use Rattle.canvas_runs.specs.Lists.{Each, by, total, seconds}
 use Rattle.canvas_runs.specs.Logs.{queue_calls}
 use Rattle.canvas_runs.specs.Run.{Run, published_all}
 use Rattle.canvas_runs.specs.Tally.{publishing, returning}
@@ -39,8 +40,8 @@ use Rattle.canvas_runs.proofs.Replay.{IsQueue}
 use Rattle.canvas_runs.proofs.Right.{right_goods, right_closed, answers_right, publishes_right, IsRunSealed}
 use Rattle.canvas_runs.proofs.StoredOnce.{stores_task, kept_few, agains_task}
 use Rattle.canvas_runs.proofs.Sums.{total-append, sum_to, sum_to-le, sum_to-both, total_by, find_heavy}
-use Rattle.canvas_runs.proofs.Tables.{part_of, part_once}
-use Rattle.canvas_runs.proofs.CallsOf.{tag, seconds-append, calls_append, calls_splits, calls_entries, queue_append, queue_splits, queue_entries, worker_found, published_found}
+use Rattle.canvas_runs.proofs.Tables.{part_once}
+use Rattle.canvas_runs.proofs.CallsOf.{tag, seconds-append, calls_append, calls_splits, calls_entries, queue_append, queue_splits, queue_entries, broker_found, published_found}
 use Rattle.canvas_runs.proofs.Words.{each_append, each_weaker, each_from_in, in_each, cond_cases}
 use Rattle.canvas_turns.specs.Going.{most_calls}
 use Rattle.canvas_turns.specs.TurnLaws.{ByTurns}
@@ -48,7 +49,6 @@ use Rattle.canvas_turns.specs.Turns.{Step, round, redelivers_one, redeliveries_i
 use Rattle.canvas_turns.proofs.RowRanges.{state_task}
 use Rattle.canvas_turns.proofs.TurnLaw.{holds, the_run}
 use Rattle.canvas_turns.proofs.TurnRuns.{queue_lines, table_lines, queue_log, table_log, table_by, firsts as first_envelopes, backend_scripts}
-use Rattle.canvas_backend.specs.Roster.{roster_of, members as roster_members}
 
 -- ---- sums
 
@@ -130,7 +130,7 @@ abbrev part_by : ℕ → TableAnswered → ℕ
 part_by k (results.part g t, results.count n) = cond (eqb t k) 1 0
 part_by k c = 0
 
-at_within : (i : ℕ) (xs : List ℕ) (t : ℕ) → at i xs ≡ Some t → i < length xs
+at_within : (i : ℕ) (xs : List ℕ) (t : ℕ) → slice_get xs i ≡ Some t → i < length xs
 at_within i [] t e = absurd cc
 at_within zero (x ∷ xs) t e = omega arith
 at_within (suc i) (x ∷ xs) t e = let r = at_within i xs t e in omega (arith, r)
@@ -138,7 +138,7 @@ at_within (suc i) (x ∷ xs) t e = let r = at_within i xs t e in omega (arith, r
 module _ (behaviour : Behaviour) (l : Line) where
   -- whether a step is a call
   abbrev pub in_queue : (QueueAnswered Envelope → ℕ) → AskedAndAnswered Envelope → ℕ
-  in_queue w y = total w (worker_call y.0 y.1)
+  in_queue w y = total w (broker_call y.0 y.1)
 
   abbrev pub in_table : (TableAnswered → ℕ) → AskedAndAnswered Envelope → ℕ
   in_table w y = total w (backend_call y.0 y.1)
@@ -159,9 +159,9 @@ module _ (behaviour : Behaviour) (l : Line) where
       ≡ total (λ x. in_queue w x.1) xs
   lines_total w [] = refl
   lines_total w (x ∷ xs) =
-      let call : List (QueueAnswered Envelope) = worker_call x.1.0 x.1.1 in
+      let call : List (QueueAnswered Envelope) = broker_call x.1.0 x.1.1 in
       ap (λ g. total w (seconds g)) (queue_append (entries_by x.0 call) (queue_lines behaviour l xs)
-      ∙ ap (λ g. g ++ queue_calls (queue_lines behaviour l xs)) (queue_entries x.0 call (worker_found x.1.0 x.1.1)))
+      ∙ ap (λ g. g ++ queue_calls (queue_lines behaviour l xs)) (queue_entries x.0 call (broker_found x.1.0 x.1.1)))
       ∙ (ap (total w) (seconds-append (tag x.0 call) (queue_calls (queue_lines behaviour l xs)))
       ∙ (total-append w (seconds (tag x.0 call)) (seconds (queue_calls (queue_lines behaviour l xs)))
       ∙ ap₂ (λ a b. a + b) (total-tag w x.0 call) (lines_total w xs)))
@@ -194,18 +194,18 @@ module _ (behaviour : Behaviour) (l : Line) where
   queue_total w n xs = let same = queue_split w n xs in omega (arith, same)
 
   -- what redeliveries have no part in
-  scripts_total : (w : AskedAndAnswered Envelope → ℕ) → ((e : Envelope) (r : Reply Envelope) → w (redeliver e, r) ≡ 0)
+  scripts_total : (w : AskedAndAnswered Envelope → ℕ) → ((e : Envelope) (r : Reply Envelope) → w (to_queue (broker.redeliver e), r) ≡ 0)
       → (ys : List (AskedAndAnswered Envelope)) → total w (scripts_of ys) ≡ total w ys
   scripts_total w none [] = refl
   scripts_total w none (y ∷ ys) = go y.0 y.1 (scripts_total w none ys)
     where
       go : (a : Ask Envelope) (r : Reply Envelope) → total w (scripts_of ys) ≡ total w ys
           → total w (scripts_of ((a, r) ∷ ys)) ≡ w (a, r) + total w ys
-      go (redeliver e) r k = let z = none e r in omega (arith, k, z)
+      go (to_queue (broker.redeliver e)) r k = let z = none e r in omega (arith, k, z)
       go a r k = ap (λ m. w (a, r) + m) k
 
-  no_take : (e : Envelope) (r : Reply Envelope) → in_queue takes_one (redeliver e, r) ≡ 0
-  no_take e sent = refl
+  no_take : (e : Envelope) (r : Reply Envelope) → in_queue takes_one (to_queue (broker.redeliver e), r) ≡ 0
+  no_take e (from_queue x) = refl
   no_take e r = refl
 
   pub table_total : (w : TableAnswered → ℕ) (n : ℕ) (xs : List Step)
@@ -259,11 +259,11 @@ module _ (behaviour : Behaviour) (l : Line) (n : ℕ) (us : List ℕ) (xs : List
       none_opened [] = refl
       none_opened (e ∷ es) = let r = none_opened es in omega (arith, r)
 
-      one : (a : Ask Envelope) (r : Reply Envelope) → total redelivering (worker_call a r) ≤ redelivers_one a
-      one (redeliver e) sent = omega arith
-      one (redeliver e) r = omega arith
-      one take (taken (Some e)) = omega arith
-      one (publish e) sent = omega arith
+      one : (a : Ask Envelope) (r : Reply Envelope) → total redelivering (broker_call a r) ≤ redelivers_one a
+      one (to_queue (broker.redeliver e)) (from_queue x) = omega arith
+      one (to_queue (broker.redeliver e)) r = omega arith
+      one (to_queue broker.take) (from_queue None) = omega arith
+      one (to_queue c) (from_queue x) = omega arith
       one a r = omega arith
 
       fewer : (ys : List Step) → total (λ x. in_queue behaviour l redelivering x.1) ys ≤ redeliveries_in ys
@@ -325,20 +325,21 @@ module _ (behaviour : Behaviour) (l : Line) (n : ℕ) (us : List ℕ) (xs : List
   at_most_open false = omega arith
 
   acks_step : (s : Doing (worker behaviour l)) (r : Reply Envelope) → Suits (ask (worker behaviour l) s) r → Acks s r
-  acks_step taking (taken None) u = omega arith
-  acks_step taking (taken (Some e)) u = let h = at_most_open (is_inside (opens (worker behaviour l) ((worker behaviour l).opened e))) in omega (arith, h)
+  acks_step taking (from_queue None) u = omega arith
+  acks_step taking (from_queue (Some e)) u = let h = at_most_open (is_inside (opens (worker behaviour l) ((worker behaviour l).opened e))) in omega (arith, h)
   acks_step resting (rested true) u = omega arith
   acks_step resting (rested false) u = omega arith
-  acks_step (owning m) (stored b) u = let h = at_most_open (is_inside (answered (worker behaviour l) (owning m) (stored b))) in omega (arith, h)
-  acks_step (doing (job.store v o ∷ js) d) (stored b) u = let h =
-      at_most_open (is_inside (answered (worker behaviour l) (doing (job.store v o ∷ js) d) (stored b))) in
-      omega (arith, h)
-  acks_step (doing (job.publish m ∷ js) d) sent u = let h = at_most_open (is_inside (answered (worker behaviour l) (doing (job.publish m ∷ js) d) sent)) in
-      omega (arith, h)
+  acks_step (owning m) (from_table (results.was b)) u =
+      let h = at_most_open (is_inside (answered (worker behaviour l) (owning m) (from_table (results.was b)))) in omega (arith, h)
+  acks_step (doing (job.store v o ∷ js) d) (from_table (results.was b)) u =
+      let h = at_most_open (is_inside (answered (worker behaviour l) (doing (job.store v o ∷ js) d) (from_table (results.was b)))) in omega (arith, h)
+  acks_step (doing (job.publish m ∷ js) d) (from_queue None) u =
+      let h = at_most_open (is_inside (answered (worker behaviour l) (doing (job.publish m ∷ js) d) (from_queue None))) in omega (arith, h)
   acks_step (doing (job.publish m ∷ js) d) refused u = omega arith
-  acks_step (doing (job.part g v c ∷ js) d) (counted i) u = let h =
-      at_most_open (is_inside (answered (worker behaviour l) (doing (job.part g v c ∷ js) d) (counted i))) in omega (arith, h)
-  acks_step (reading g c fs) (found v x) u = let h = at_most_open (is_inside (answered (worker behaviour l) (reading g c fs) (found v x))) in omega (arith, h)
+  acks_step (doing (job.part g v c ∷ js) d) (from_table (results.count i)) u =
+      let h = at_most_open (is_inside (answered (worker behaviour l) (doing (job.part g v c ∷ js) d) (from_table (results.count i)))) in omega (arith, h)
+  acks_step (reading g c v fs) (from_table (results.found x)) u =
+      let h = at_most_open (is_inside (answered (worker behaviour l) (reading g c v fs) (from_table (results.found x)))) in omega (arith, h)
   acks_step acking acked u = omega arith
   acks_step s r u = elim u [ ]
 
@@ -413,16 +414,15 @@ module _ (behaviour : Behaviour) (l : Line) (n : ℕ) (us : List ℕ) (xs : List
   OfMember c = Unit {0}
 
   member_step : (a : Ask Envelope) (r : Reply Envelope) → GoodAsk (worker behaviour l) G a → Each OfMember (backend_call a r)
-  member_step (store u o) (stored b) g = (tt, tt)
-  member_step (part h u) (counted m) g = ((order behaviour l t.plan).member h u g.0 g.1.0, tt)
-  member_step (read h i) (found u x) g = (tt, tt)
+  member_step (to_table (results.part h u)) (from_table (results.count m)) g = ((order behaviour l t.plan).member h u g.0 g.1.0, tt)
+  member_step (to_table c) (from_table r) g = (tt, tt)
   member_step a r g = tt
 
   member_steps : (ys : List (AskedAndAnswered Envelope)) → Each (λ y. GoodAsk (worker behaviour l) G y.0) ys → Each OfMember (backend_calls ys)
   member_steps [] g = tt
   member_steps (y ∷ ys) g = each_append OfMember _ _ (member_step y.0 y.1 g.0) (member_steps ys g.1)
 
-  its_answers : (p : ℕ) → Each (λ (y : AskedAndAnswered Envelope). GoodAnswer (worker behaviour l) G y.1) (scripts_of (by p xs))
+  its_answers : (p : ℕ) → Each (λ (y : AskedAndAnswered Envelope). GoodAnswer (worker behaviour l) G y.0 y.1) (scripts_of (by p xs))
   its_answers p = answers_right (X behaviour l t.plan) (form behaviour l t.plan) (Does behaviour l t.plan) (order behaviour l t.plan) (value behaviour l t.plan)
       (inner_run behaviour l t.plan R) p
 
@@ -431,7 +431,7 @@ module _ (behaviour : Behaviour) (l : Line) (n : ℕ) (us : List ℕ) (xs : List
 
   its_asks : (p : ℕ) → Each (λ (y : AskedAndAnswered Envelope). GoodAsk (worker behaviour l) G y.0) (scripts_of (by p xs))
   its_asks p = goods_from_careful (worker behaviour l) G (scripts_of (by p xs))
-      (keeps (worker behaviour l) G its_closed taking (scripts_of (by p xs)) tt (R.is_core p) (R.reads p)) (its_answers p)
+      (keeps (worker behaviour l) G its_closed taking (scripts_of (by p xs)) tt (R.is_core p)) (its_answers p)
 
   all_members : Each OfMember B
   all_members = each_from_by OfMember (answered_calls R.table)
@@ -457,7 +457,7 @@ module _ (behaviour : Behaviour) (l : Line) (n : ℕ) (us : List ℕ) (xs : List
           subst (λ b. 1 ≤ cond b 1 0) (sym (eq-eqb h g groups)) (omega arith)
       same_group g h u i j false e = omega arith
 
-      few : (g : ℕ) → In k (members l g) → (c : TableAnswered) → OfMember c → part_by k c ≤ part_of g k c
+      few : (g : ℕ) → In k (members l g) → (c : TableAnswered) → OfMember c → part_by k c ≤ returns_one g k c
       few g i (results.part h u, results.count j) m = same_group g h u i m (eqb u k) refl
       few g i c m = omega arith
 
@@ -465,7 +465,7 @@ module _ (behaviour : Behaviour) (l : Line) (n : ℕ) (us : List ℕ) (xs : List
       heavy (results.part g u, results.count m) i d =
           let here : In k (members l g) = subst (λ v. In v (members l g)) (named u (eqb u k) refl d)
           (in_each OfMember B all_members (results.part g u, results.count m) i) in
-          let a = total-le-each (part_by k) (part_of g k) B (each_weaker (few g here) B all_members) in
+          let a = total-le-each (part_by k) (returns_one g k) B (each_weaker (few g here) B all_members) in
           let b = (part_once g k [] [] B (inner_run behaviour l t.plan R).table).0 in
           omega (arith, a, b)
       heavy c i d = absurd (d refl)
@@ -480,7 +480,7 @@ module _ (behaviour : Behaviour) (l : Line) (n : ℕ) (us : List ℕ) (xs : List
   -- ---- reads: those of the header that is read are still to come
 
   abbrev Still : Doing (worker behaviour l) → ℕ → Type 0
-  Still (reading g c fs) k = length fs + k ≡ c.size
+  Still (reading g c u fs) k = length fs + k ≡ c.size
   Still s k = k ≡ 0
 
   abbrev Y : Type 0
@@ -511,47 +511,57 @@ module _ (behaviour : Behaviour) (l : Line) (n : ℕ) (us : List ℕ) (xs : List
   header_few : (g u : ℕ) (c : PCarried) → F.FormedPart g u c → c.size ≤ T
   header_few g u c f = let a = (order behaviour l t.plan).size g u c f in let b = few_members g in omega (arith, a, b)
 
-  covers : (s : Doing (worker behaviour l)) (r : Reply Envelope) → GoodState (worker behaviour l) G s
-      → reads_member (roster_members (roster_of l)) (ask (worker behaviour l) s) r → Covers s r
-  covers taking (taken None) p m k e = (0, refl, omega arith)
-  covers taking (taken (Some e)) p m k h = (0, opens_still ((worker behaviour l).opened e), omega arith)
-  covers resting (rested true) p m k e = (0, refl, omega arith)
-  covers (owning c) (stored First) p m k e = (0, settled_still ((worker behaviour l).ended c ((worker behaviour l).outcome c)) First, omega arith)
-  covers (owning c) (stored Again) p m k e = (0, refl, omega arith)
-  covers (doing (job.store u o ∷ js) b) (stored a) p m k e = (0, settled_still js (cond (is_due u js) a b), omega arith)
-  covers (doing (job.publish c ∷ js) b) sent p m k e = (0, settled_still js b, omega arith)
-  covers (doing (job.part g u c ∷ js) b) (counted i) p m k e =
+  next_still : (g : ℕ) (c : PCarried) (fs : List (ℕ × Outcome)) (k : ℕ) → length fs + k ≡ c.size
+      → (j : ℕ) × Still (reads_next (worker behaviour l) g c fs) j × (j ≤ k)
+  next_still g c fs k e = go ((worker behaviour l).member g (length fs))
+    where
+      go : (x : Option ℕ) → (j : ℕ) × Still (reading_of (worker behaviour l) g c fs x) j × (j ≤ k)
+      go None = (0, refl, omega arith)
+      go (Some u) = (k, e, omega arith)
+
+  covers : (s : Doing (worker behaviour l)) (r : Reply Envelope) → GoodState (worker behaviour l) G s → Covers s r
+  covers taking (from_queue None) p k e = (0, refl, omega arith)
+  covers taking (from_queue (Some e)) p k h = (0, opens_still ((worker behaviour l).opened e), omega arith)
+  covers resting (rested true) p k e = (0, refl, omega arith)
+  covers (owning c) (from_table (results.was First)) p k e =
+      (0, settled_still ((worker behaviour l).ended c ((worker behaviour l).outcome c)) First, omega arith)
+  covers (owning c) (from_table (results.was Again)) p k e = (0, refl, omega arith)
+  covers (doing (job.store u o ∷ js) b) (from_table (results.was a)) p k e = (0, settled_still js (cond (is_due u js) a b), omega arith)
+  covers (doing (job.publish c ∷ js) b) (from_queue None) p k e = (0, settled_still js b, omega arith)
+  covers (doing (job.part g u c ∷ js) b) (from_table (results.count i)) p k e =
       let few = header_few g u c p.0.0 in
-      cond_cases (λ s. (j : ℕ) × Still s j × (0 + j ≤ k + T * (1 + 0))) (eqb (suc i) c.size) (reading g c []) acking
-      (λ full. (c.size, omega arith, omega (arith, few)))
+      cond_cases (λ s. (j : ℕ) × Still s j × (0 + j ≤ k + T * (1 + 0))) (eqb (suc i) c.size) (reads_next (worker behaviour l) g c []) acking
+      (λ full. let next = next_still g c [] c.size (omega arith) in (next.0, next.1, omega (arith, few, next.2)))
       (λ less. (0, refl, omega arith))
-  covers (reading g c fs) (found u (Some o)) p m k e =
-      let many = (order behaviour l t.plan).size g p.0 c p.1.0 in
-      let within = at_within (length fs) (members l g) u m in
+  covers (reading g c u fs) (from_table (results.found (Some o))) p k e =
+      let many = (order behaviour l t.plan).size g p.0.0 c p.0.1.0 in
+      let within = at_within (length fs) (members l g) u p.1 in
       let more : length (fs ++ (u, o) ∷ []) ≡ length fs + 1 = length-append fs ((u, o) ∷ []) in
       cond_cases (λ s. (j : ℕ) × Still s j × ((1 + 0) + j ≤ k + T * 0)) (eqb (length (fs ++ (u, o) ∷ [])) c.size)
-      (settled (worker behaviour l) ((worker behaviour l).completed c (fs ++ (u, o) ∷ [])) Again) (reading g c (fs ++ (u, o) ∷ []))
+      (settled (worker behaviour l) ((worker behaviour l).completed c (fs ++ (u, o) ∷ [])) Again) (reads_next (worker behaviour l) g c (fs ++ (u, o) ∷ []))
       (λ full. (0, settled_still ((worker behaviour l).completed c (fs ++ (u, o) ∷ [])) Again, omega (arith, many, within, e)))
-      (λ less. one_less k (length fs) c.size (length (fs ++ (u, o) ∷ [])) e more (omega (arith, many, within)))
+      (λ less. let one = one_less k (length fs) c.size (length (fs ++ (u, o) ∷ [])) e more (omega (arith, many, within)) in
+      let next = next_still g c (fs ++ (u, o) ∷ []) one.0 one.1 in
+      (next.0, next.1, omega (arith, next.2, one.2)))
     where
       one_less : (k a size b : ℕ) → a + k ≡ size → b ≡ a + 1 → a < size → (j : ℕ) × (b + j ≡ size) × ((1 + 0) + j ≤ k + T * 0)
       one_less zero a size b e f h = absurd (omega (arith, e, h))
       one_less (suc k) a size b e f h = (k, omega (arith, e, f), omega arith)
-  covers (reading g c fs) (found u None) p m k e =
-      let many = (order behaviour l t.plan).size g p.0 c p.1.0 in
-      let within = at_within (length fs) (members l g) u m in
+  covers (reading g c u fs) (from_table (results.found None)) p k e =
+      let many = (order behaviour l t.plan).size g p.0.0 c p.0.1.0 in
+      let within = at_within (length fs) (members l g) u p.1 in
       (0, refl, omega (arith, many, within, e))
-  covers acking acked p m k e = (0, refl, omega arith)
-  covers s r p m k e = (0, refl, omega arith)
+  covers acking acked p k e = (0, refl, omega arith)
+  covers s r p k e = (0, refl, omega arith)
 
   reads_of : (s : Doing (worker behaviour l)) (ys : List Y) → GoodState (worker behaviour l) G s → IsCoreRun (worker behaviour l) s ys
-      → ReadsMembers (roster_members (roster_of l)) ys → Each (λ (y : Y). GoodAnswer (worker behaviour l) G y.1) ys → (k : ℕ) → Still s k
+      → Each (λ (y : Y). GoodAnswer (worker behaviour l) G y.0 y.1) ys → (k : ℕ) → Still s k
       → total (in_table behaviour l reading_one) ys ≤ k + T * total (in_table behaviour l returning) ys
-  reads_of s [] p c m a k e = omega arith
-  reads_of s (y ∷ ys) p c m a k e =
-      let mine = subst (λ z. reads_member (roster_members (roster_of l)) z y.1) c.0 m.0 in
-      let step = covers s y.1 p mine k e in
-      let rest = reads_of (answered (worker behaviour l) s y.1) ys (next_good (worker behaviour l) G its_closed s y.1 p mine a.0) c.2 m.1 a.1 step.0 step.1 in
+  reads_of s [] p c a k e = omega arith
+  reads_of s (y ∷ ys) p c a k e =
+      let step = covers s y.1 p k e in
+      let good = next_good (worker behaviour l) G its_closed s y.1 p (subst (λ z. GoodAnswer (worker behaviour l) G z y.1) c.0 a.0) in
+      let rest = reads_of (answered (worker behaviour l) s y.1) ys good c.2 a.1 step.0 step.1 in
       let step' : in_table behaviour l reading_one y + step.0 ≤ k + T * in_table behaviour l returning y =
       subst (λ z. in_table behaviour l reading_one (z, y.1) + step.0 ≤ k + T * in_table behaviour l returning (z, y.1)) (sym c.0) step.2 in
       omega (arith, rest, step', mul-add T (in_table behaviour l returning y) (total (in_table behaviour l returning) ys))
@@ -562,7 +572,7 @@ module _ (behaviour : Behaviour) (l : Line) (n : ℕ) (us : List ℕ) (xs : List
       let a = total-seconds (in_table behaviour l reading_one) xs ∙ total_by (in_table behaviour l reading_one) n xs below in
       let b = total-seconds (in_table behaviour l returning) xs ∙ total_by (in_table behaviour l returning) n xs below in
       let c = sum_to-le n (λ p. total (in_table behaviour l reading_one) (by p xs)) (λ p. T * total (in_table behaviour l returning) (by p xs))
-      (λ p. let h = reads_of taking (scripts_of (by p xs)) tt (R.is_core p) (R.reads p) (its_answers p) 0 refl in
+      (λ p. let h = reads_of taking (scripts_of (by p xs)) tt (R.is_core p) (its_answers p) 0 refl in
       let i = scripts_total behaviour l (in_table behaviour l reading_one) (λ e r. refl) (by p xs) in let j =
       scripts_total behaviour l (in_table behaviour l returning) (λ e r. refl) (by p xs) in
       let q : T * total (in_table behaviour l returning) (scripts_of (by p xs)) ≡ T * total (in_table behaviour l returning) (by p xs) =

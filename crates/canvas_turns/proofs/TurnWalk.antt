@@ -16,17 +16,17 @@ use Rattle.canvas_backend.specs.Backend as results
 use Rattle.canvas_backend.specs.Backend.{no_results}
 use Rattle.canvas_runs.specs.Protocol.{Protocol}
 use Rattle.canvas_broker.specs.Broker as broker
-use Rattle.canvas_runs.specs.Calls.{ReadsMembers, AskedAndAnswered, reads_member, scripts_of, of_scripts, held_by, held_after, DeliversHeld}
-use Rattle.canvas_runs.specs.Core.{Ask, Reply, end, taken, sent, stored, counted, found, rested, acked, taking, resting, over, failed, owning, doing, reading, acking, is_due, settled, ask, opens, answered, IsCoreRun, ReadsBack, Doing, Jobs, is_inside, redeliver, refused, Suits, Between, left_after}
+use Rattle.canvas_runs.specs.Calls.{AskedAndAnswered, scripts_of, of_scripts, held_by, held_after, DeliversHeld}
+use Rattle.canvas_runs.specs.Core.{Ask, Reply, end, to_queue, from_queue, from_table, rested, acked, taking, resting, over, failed, owning, doing, reading, acking, is_due, settled, ask, opens, reading_of, reads_next, answered, IsCoreRun, ReadsBack, Doing, Jobs, is_inside, refused, Suits, Between, left_after}
 use Rattle.canvas_runs.specs.Lists.{Each, by}
 use Rattle.canvas_runs.specs.Worker.{worker, sealed}
 use Rattle.canvas_runs.proofs.MoreAsks.{by_append, scripts_append, scripts_more, asks_of_scripts, plain_ask, delivers_append, by_more, by_other, core_more}
 use Rattle.canvas_runs.proofs.Words.{each_append}
-use Rattle.canvas_turns.specs.Turns.{Step, is_queued, queue_next, queue_after, left, IsWorker, Answers, FirstsRead, some_inside, holds_more, Turned, all_taken, skips_turn, takes_turn, delivers_again, holds}
+use Rattle.canvas_turns.specs.Turns.{Step, is_queued, queue_next, queue_after, left, IsWorker, Answers, FirstsRead, some_inside, holds_more, Turned, all_taken, skips_turn, takes_turn, delivers_again, holds, redelivery}
 use Rattle.canvas_turns.proofs.TurnRuns.{Lawful, queue_starts, table_starts, queue_stays, table_stays, queue_delivers, table_delivers}
 use Rattle.canvas_turns.proofs.TurnStates.{good_left, Ready, part_may, other_ready, own_ready, delivers_ready}
 use Rattle.canvas_turns.proofs.Turning.{left_delivers, queue_more, results_more, left_here, left_other, answers_suit}
-use Rattle.canvas_backend.specs.Roster.{members, roster_of}
+use Rattle.canvas_backend.specs.Roster.{roster_of}
 
 or_false : (a b : Bool) → (a || b) ≡ false → (a ≡ false) × (b ≡ false)
 or_false true b h = absurd cc
@@ -37,7 +37,7 @@ none_queued [] e = refl
 none_queued (x ∷ q) e = absurd cc
 
 -- who is between scripts holds no envelope
-module _ (X : Protocol) where
+module _ {E : Type 0} (X : Protocol E) where
   settled_inside : (js : Jobs X) (b : Stored) → Between (settled X js b) → ⊥
   settled_inside [] b k = k
   settled_inside (store t o ∷ js) First k = k
@@ -51,40 +51,47 @@ module _ (X : Protocol) where
   opens_inside None k = k
   opens_inside (Some m) k = k
 
-  handed_inside : (b : Bool) (g : ℕ) (c : X.Carried) → Between (cond {A = Doing X} b (reading g c []) acking) → ⊥
-  handed_inside true g c k = k
+  next_inside : (g : ℕ) (c : X.Carried) (fs : List (ℕ × Outcome)) → Between (reads_next X g c fs) → ⊥
+  next_inside g c fs = go (X.member g (length fs))
+    where
+      go : (x : Option ℕ) → Between (reading_of X g c fs x) → ⊥
+      go None k = k
+      go (Some t) k = k
+
+  handed_inside : (b : Bool) (g : ℕ) (c : X.Carried) → Between (cond {A = Doing X} b (reads_next X g c []) acking) → ⊥
+  handed_inside true g c k = next_inside g c [] k
   handed_inside false g c k = k
 
-  read_inside : (b : Bool) (js : Jobs X) (g : ℕ) (c : X.Carried) (fs : List (ℕ × Outcome)) → Between (cond b (settled X js Again) (reading g c fs)) → ⊥
+  read_inside : (b : Bool) (js : Jobs X) (g : ℕ) (c : X.Carried) (fs : List (ℕ × Outcome)) → Between (cond b (settled X js Again) (reads_next X g c fs)) → ⊥
   read_inside true js g c fs k = settled_inside js Again k
-  read_inside false js g c fs k = k
+  read_inside false js g c fs k = next_inside g c fs k
 
-  step_outside : (s : Doing X) (r : Reply X.Envelope) (h : Option X.Envelope) → Suits (ask X s) r → (Between s → h ≡ None) → Between (answered X s r)
+  step_outside : (s : Doing X) (r : Reply E) (h : Option E) → Suits (ask X s) r → (Between s → h ≡ None) → Between (answered X s r)
       → held_by h (ask X s) r ≡ None
-  step_outside taking (taken None) h u f k = f tt
-  step_outside taking (taken (Some e)) h u f k = absurd (opens_inside (X.opened e) k)
+  step_outside taking (from_queue None) h u f k = f tt
+  step_outside taking (from_queue (Some e)) h u f k = absurd (opens_inside (X.opened e) k)
   step_outside resting (rested b) h u f k = f tt
-  step_outside (owning m) (stored First) h u f k = absurd (settled_inside (X.ended m (X.outcome m)) First k)
-  step_outside (owning m) (stored Again) h u f k = absurd k
-  step_outside (doing (store t o ∷ js) b) (stored a) h u f k = absurd (settled_inside js (cond (is_due t js) a b) k)
-  step_outside (doing (publish m ∷ js) b) sent h u f k = absurd (settled_inside js b k)
+  step_outside (owning m) (from_table (results.was First)) h u f k = absurd (settled_inside (X.ended m (X.outcome m)) First k)
+  step_outside (owning m) (from_table (results.was Again)) h u f k = absurd k
+  step_outside (doing (store t o ∷ js) b) (from_table (results.was a)) h u f k = absurd (settled_inside js (cond (is_due t js) a b) k)
+  step_outside (doing (publish m ∷ js) b) (from_queue None) h u f k = absurd (settled_inside js b k)
   step_outside (doing (publish m ∷ js) b) refused h u f k = absurd k
-  step_outside (doing (part g t c ∷ js) b) (counted i) h u f k = absurd (handed_inside (eqb (suc i) (X.size c)) g c k)
-  step_outside (reading g c fs) (found t (Some o)) h u f k =
+  step_outside (doing (part g t c ∷ js) b) (from_table (results.count i)) h u f k = absurd (handed_inside (eqb (suc i) (X.size c)) g c k)
+  step_outside (reading g c t fs) (from_table (results.found (Some o))) h u f k =
       absurd (read_inside (eqb (length (fs ++ (t, o) ∷ [])) (X.size c)) (X.completed c (fs ++ (t, o) ∷ [])) g c (fs ++ (t, o) ∷ []) k)
-  step_outside (reading g c fs) (found t None) h u f k = absurd k
+  step_outside (reading g c t fs) (from_table (results.found None)) h u f k = absurd k
   step_outside acking acked h u f k = refl
   step_outside s r h u f k = elim u [ ]
 
-  pub held_outside : (s : Doing X) (h : Option X.Envelope) (ys : List (AskedAndAnswered X.Envelope)) → IsCoreRun X s (scripts_of ys)
+  pub held_outside : (s : Doing X) (h : Option E) (ys : List (AskedAndAnswered E)) → IsCoreRun X s (scripts_of ys)
       → (Between s → h ≡ None) → Between (left_after X s (scripts_of ys)) → held_after h ys ≡ None
   held_outside s h [] c f k = f k
   held_outside s h (y ∷ ys) c f k = go (λ t g d i j. held_outside t g ys d i j) y.0 y.1 c k
     where
-      go : ((t : Doing X) (g : Option X.Envelope) → IsCoreRun X t (scripts_of ys) → (Between t → g ≡ None) → Between (left_after X t (scripts_of ys))
-          → held_after g ys ≡ None) → (a : Ask X.Envelope) (r : Reply X.Envelope) → IsCoreRun X s (scripts_of ((a, r) ∷ ys))
+      go : ((t : Doing X) (g : Option E) → IsCoreRun X t (scripts_of ys) → (Between t → g ≡ None) → Between (left_after X t (scripts_of ys))
+          → held_after g ys ≡ None) → (a : Ask E) (r : Reply E) → IsCoreRun X s (scripts_of ((a, r) ∷ ys))
           → Between (left_after X s (scripts_of ((a, r) ∷ ys))) → held_after h ((a, r) ∷ ys) ≡ None
-      go later (redeliver e) r c k = later s h c f k
+      go later (to_queue (broker.redeliver e)) r c k = later s h c f k
       go later a r c k = later (answered X s r) (held_by h a r) c.2
           (λ b. subst (λ z. held_by h z r ≡ None) (sym c.0) (step_outside s r h (subst (λ z. Suits z r) c.0 c.1.0) f b)) k
 
@@ -125,13 +132,13 @@ module _ (behaviour : Behaviour) (l : Line) where
   stays_outside : (n : ℕ) (xs : List Step) (s : Doing (worker behaviour l)) (r : Reply Envelope) → queue_after l xs ≡ [] → is_inside s ≡ false
       → Answers behaviour l n xs (ask (worker behaviour l) s) r
       → (is_inside (answered (worker behaviour l) s r) ≡ false) × (queue_next (queue_after l xs) (ask (worker behaviour l) s) ≡ [])
-  stays_outside n xs taking (taken None) e i h = (refl, ap (λ q. broker.next q broker.take) e)
-  stays_outside n xs taking (taken (Some x)) e i h = absurd (none_taken (queue_after l xs) x e h)
+  stays_outside n xs taking (from_queue None) e i h = (refl, ap (λ q. broker.next q broker.take) e)
+  stays_outside n xs taking (from_queue (Some x)) e i h = absurd (none_taken (queue_after l xs) x e h)
   stays_outside n xs resting (rested true) e i h = (refl, e)
   stays_outside n xs resting (rested false) e i h = (refl, e)
   stays_outside n xs (owning m) r e i h = absurd cc
   stays_outside n xs (doing js b) r e i h = absurd cc
-  stays_outside n xs (reading g c fs) r e i h = absurd cc
+  stays_outside n xs (reading g c t fs) r e i h = absurd cc
   stays_outside n xs acking r e i h = absurd cc
   stays_outside n xs s r e i h = elim h [ ]
 
@@ -150,29 +157,41 @@ module _ (behaviour : Behaviour) (l : Line) where
   opens_on None e = cc
   opens_on (Some m) e = cc
 
-  handed_on : (b : Bool) (g : ℕ) (c : PCarried) → ◌≡◌ {A = Doing (worker behaviour l)} (cond b (reading g c []) acking) over → ⊥
-  handed_on true g c e = cc
+  next_on : (g : ℕ) (c : PCarried) (fs : List (ℕ × Outcome)) → reads_next (worker behaviour l) g c fs ≡ over → ⊥
+  next_on g c fs = go ((worker behaviour l).member g (length fs))
+    where
+      go : (x : Option ℕ) → reading_of (worker behaviour l) g c fs x ≡ over → ⊥
+      go None e = cc
+      go (Some t) e = cc
+
+  handed_on : (b : Bool) (g : ℕ) (c : PCarried) → ◌≡◌ {A = Doing (worker behaviour l)} (cond b (reads_next (worker behaviour l) g c []) acking) over → ⊥
+  handed_on true g c e = next_on g c [] e
   handed_on false g c e = cc
 
   read_on : (b : Bool) (js : Jobs (worker behaviour l)) (g : ℕ) (c : PCarried) (fs : List (ℕ × Outcome))
-      → cond b (settled (worker behaviour l) js Again) (reading g c fs) ≡ over → ⊥
+      → cond b (settled (worker behaviour l) js Again) (reads_next (worker behaviour l) g c fs) ≡ over → ⊥
   read_on true js g c fs e = settled_on js Again e
-  read_on false js g c fs e = cc
+  read_on false js g c fs e = next_on g c fs e
 
   ends_idle : (n : ℕ) (xs : List Step) (s : Doing (worker behaviour l)) (r : Reply Envelope) → Answers behaviour l n xs (ask (worker behaviour l) s) r
       → answered (worker behaviour l) s r ≡ over → holds_more behaviour l n xs ≡ false
-  ends_idle n xs taking (taken None) h e = absurd cc
-  ends_idle n xs taking (taken (Some x)) h e = absurd (opens_on ((worker behaviour l).opened x) e)
+  ends_idle n xs taking (from_queue None) h e = absurd cc
+  ends_idle n xs taking (from_queue (Some x)) h e = absurd (opens_on ((worker behaviour l).opened x) e)
   ends_idle n xs resting (rested true) h e = absurd cc
   ends_idle n xs resting (rested false) h e = sym h
-  ends_idle n xs (owning m) (stored First) h e = absurd (settled_on ((worker behaviour l).ended m ((worker behaviour l).outcome m)) First e)
-  ends_idle n xs (owning m) (stored Again) h e = absurd cc
-  ends_idle n xs (doing (store t o ∷ js) b) (stored a) h e = absurd (settled_on js (cond (is_due t js) a b) e)
-  ends_idle n xs (doing (publish m ∷ js) b) sent h e = absurd (settled_on js b e)
-  ends_idle n xs (doing (part g t c ∷ js) b) (counted i) h e = absurd (handed_on (eqb (suc i) c.size) g c e)
-  ends_idle n xs (reading g c fs) (found t (Some o)) h e =
+  ends_idle n xs (owning m) (from_table (results.was First)) h e = absurd (settled_on ((worker behaviour l).ended m ((worker behaviour l).outcome m)) First e)
+  ends_idle n xs (owning m) (from_table (results.was Again)) h e = absurd cc
+  ends_idle n xs (doing (store t o ∷ js) b) (from_table (results.was a)) h e = absurd (settled_on js (cond (is_due t js) a b) e)
+  ends_idle n xs (doing (publish m ∷ js) b) (from_queue None) h e = absurd (settled_on js b e)
+  ends_idle n xs (doing (part g t c ∷ js) b) (from_table (results.count i)) h e = absurd (handed_on (eqb (suc i) c.size) g c e)
+  ends_idle n xs (reading g c t fs) (from_table (results.found (Some o))) h e =
       absurd (read_on (eqb (length (fs ++ (t, o) ∷ [])) c.size) ((worker behaviour l).completed c (fs ++ (t, o) ∷ [])) g c (fs ++ (t, o) ∷ []) e)
-  ends_idle n xs (reading g c fs) (found t None) h e = absurd cc
+  ends_idle n xs (reading g c t fs) (from_table (results.found None)) h e = absurd cc
+  ends_idle n xs (owning m) (from_table r) h e = absurd cc
+  ends_idle n xs (doing (store t o ∷ js) b) (from_table r) h e = absurd cc
+  ends_idle n xs (doing (publish m ∷ js) b) (from_queue x) h e = absurd cc
+  ends_idle n xs (doing (part g t c ∷ js) b) (from_table r) h e = absurd cc
+  ends_idle n xs (reading g c t fs) (from_table r) h e = absurd cc
   ends_idle n xs acking acked h e = absurd cc
   ends_idle n xs s r h e = elim h [ ]
 
@@ -189,7 +208,7 @@ module _ (behaviour : Behaviour) (l : Line) where
     ended_over n xs p (doing (store u o ∷ js) b) k e = absurd cc
     ended_over n xs p (doing (publish m ∷ js) b) k e = absurd cc
     ended_over n xs p (doing (part g u c ∷ js) b) k e = absurd cc
-    ended_over n xs p (reading g c fs) k e = absurd cc
+    ended_over n xs p (reading g c t fs) k e = absurd cc
     ended_over n xs p acking k e = absurd cc
 
     -- what holds after these steps
@@ -204,7 +223,6 @@ module _ (behaviour : Behaviour) (l : Line) where
     holds_first n = record {
       lawful = record {
         core = λ p. tt;
-        reads = λ p. tt;
         held = λ p. tt;
         queue_legal = (queue_starts behaviour l n).0;
         queue_is = (queue_starts behaviour l n).1;
@@ -224,34 +242,23 @@ module _ (behaviour : Behaviour) (l : Line) where
       abbrev x : Step
       x = (p, (a, r))
 
-      more_reads : (zs : List (AskedAndAnswered Envelope)) → ReadsMembers (members (roster_of l)) zs
-          → ReadsMembers (members (roster_of l)) (zs ++ (a, r) ∷ [])
-      more_reads zs m = each_append (λ (z : AskedAndAnswered Envelope). reads_member (members (roster_of l)) z.0 z.1) zs ((a, r) ∷ []) m
-          ((answers_suit behaviour l n xs a r h).1, tt)
-
       plain : of_scripts a ≡ true
       plain = asks_of_scripts (worker behaviour l) (left behaviour l xs p)
 
       core_next : (q : ℕ) → IsCoreRun (worker behaviour l) taking (scripts_of (by q (xs ++ x ∷ [])))
-          × ReadsMembers (members (roster_of l)) (scripts_of (by q (xs ++ x ∷ [])))
       core_next q = elim (cases_eq p q) [
         | inl same ↦
-            subst (λ u. IsCoreRun (worker behaviour l) taking (scripts_of (by u (xs ++ x ∷ [])))
-            × ReadsMembers (members (roster_of l)) (scripts_of (by u (xs ++ x ∷ [])))) same
-            (subst (λ ys. IsCoreRun (worker behaviour l) taking ys × ReadsMembers (members (roster_of l)) ys)
-            (sym (ap scripts_of (by_more p xs (a, r)) ∙ scripts_more (by p xs) a r plain)) (
-              core_more (worker behaviour l) taking (scripts_of (by p xs)) (a, r) (k.lawful.core p) refl (answers_suit behaviour l n xs a r h).0 b,
-              more_reads (scripts_of (by p xs)) (k.lawful.reads p),
-            ))
-        | inr apart ↦ subst (λ ys. IsCoreRun (worker behaviour l) taking ys × ReadsMembers (members (roster_of l)) ys)
-            (sym (ap scripts_of (by_other q p xs (a, r) apart))) (k.lawful.core q, k.lawful.reads q)
+            subst (λ u. IsCoreRun (worker behaviour l) taking (scripts_of (by u (xs ++ x ∷ [])))) same
+            (subst (IsCoreRun (worker behaviour l) taking) (sym (ap scripts_of (by_more p xs (a, r)) ∙ scripts_more (by p xs) a r plain))
+            (core_more (worker behaviour l) taking (scripts_of (by p xs)) (a, r) (k.lawful.core p) refl (answers_suit behaviour l n xs a r plain h) b))
+        | inr apart ↦ subst (IsCoreRun (worker behaviour l) taking) (sym (ap scripts_of (by_other q p xs (a, r) apart))) (k.lawful.core q)
       ]
 
       held_next : (q : ℕ) → DeliversHeld None (by q (xs ++ x ∷ []))
       held_next q = elim (cases_eq p q) [
         | inl same ↦ subst (λ u. DeliversHeld None (by u (xs ++ x ∷ []))) same
             (subst (DeliversHeld None) (sym (by_more p xs (a, r)))
-            (delivers_append None (by p xs) (a, r) (k.lawful.held p) (plain_ask (worker behaviour l) (left behaviour l xs p) (held_after None (by p xs)))))
+            (delivers_append None (by p xs) (a, r) (k.lawful.held p) (plain_ask (worker behaviour l) (left behaviour l xs p) (held_after None (by p xs)) r)))
         | inr apart ↦ subst (DeliversHeld None) (sym (by_other q p xs (a, r) apart)) (k.lawful.held q)
       ]
 
@@ -259,11 +266,10 @@ module _ (behaviour : Behaviour) (l : Line) where
       lawful_next =
           let may = part_may behaviour l plan n xs p (left behaviour l xs p) k.lawful.table_is (good_left behaviour l plan back n xs k.lawful p)
           (k.ready p w) in
-          let queue = queue_stays behaviour l n xs p a r w k.lawful.queue_legal k.lawful.queue_is h in
+          let queue = queue_stays behaviour l n xs p a r w k.lawful.queue_legal k.lawful.queue_is plain h in
           let table = table_stays behaviour l n xs p a r w k.lawful.table_legal k.lawful.table_is h may in
           record {
-            core = λ q. (core_next q).0;
-            reads = λ q. (core_next q).1;
+            core = core_next;
             held = held_next;
             queue_legal = queue.0;
             queue_is = queue.1 ∙ sym (queue_more (map sealed (first_messages l)) xs x);
@@ -314,7 +320,7 @@ module _ (behaviour : Behaviour) (l : Line) where
 
     module _ (n : ℕ) (xs : List Step) (k : Holds n xs) (p : ℕ) (w : IsWorker n p) (e : Envelope) (h : holds xs p ≡ Some e) where
       abbrev y : Step
-      y = (p, (redeliver e, sent))
+      y = redelivery p e
 
       -- who holds an envelope is inside its script
       pub inside : is_inside (left behaviour l xs p) ≡ false → ⊥
@@ -331,22 +337,22 @@ module _ (behaviour : Behaviour) (l : Line) where
           between failed r o = absurd r
           between (owning m) r o = absurd cc
           between (doing js b) r o = absurd cc
-          between (reading g c fs) r o = absurd cc
+          between (reading g c t fs) r o = absurd cc
           between acking r o = absurd cc
 
       by_delivers : (q : ℕ) → scripts_of (by q (xs ++ y ∷ [])) ≡ scripts_of (by q xs)
       by_delivers q = ap scripts_of (by_append q xs (y ∷ []))
           ∙ (scripts_append (by q xs) (by q (y ∷ [])) ∙ (ap (λ ys. scripts_of (by q xs) ++ ys) (none (eqb p q)) ∙ append-nil (scripts_of (by q xs))))
         where
-          none : (b : Bool) → ◌≡◌ {A = List (AskedAndAnswered Envelope)} (scripts_of (cond b ((redeliver e, sent) ∷ []) [])) []
+          none : (b : Bool) → ◌≡◌ {A = List (AskedAndAnswered Envelope)} (scripts_of (cond b (y.1 ∷ []) [])) []
           none true = refl
           none false = refl
 
       held_delivers : (q : ℕ) → DeliversHeld None (by q (xs ++ y ∷ []))
       held_delivers q = elim (cases_eq p q) [
         | inl same ↦ subst (λ u. DeliversHeld None (by u (xs ++ y ∷ []))) same
-            (subst (DeliversHeld None) (sym (by_more p xs (redeliver e, sent))) (delivers_append None (by p xs) (redeliver e, sent) (k.lawful.held p) h))
-        | inr apart ↦ subst (DeliversHeld None) (sym (by_other q p xs (redeliver e, sent) apart)) (k.lawful.held q)
+            (subst (DeliversHeld None) (sym (by_more p xs y.1)) (delivers_append None (by p xs) y.1 (k.lawful.held p) h))
+        | inr apart ↦ subst (DeliversHeld None) (sym (by_other q p xs y.1 apart)) (k.lawful.held q)
       ]
 
       lawful_delivers : Lawful behaviour l n (xs ++ y ∷ [])
@@ -355,7 +361,6 @@ module _ (behaviour : Behaviour) (l : Line) where
           let table = table_delivers behaviour l n xs p e in
           record {
             core = λ q. subst (IsCoreRun (worker behaviour l) taking) (sym (by_delivers q)) (k.lawful.core q);
-            reads = λ q. subst (ReadsMembers (members (roster_of l))) (sym (by_delivers q)) (k.lawful.reads q);
             held = held_delivers;
             queue_legal = queue.0;
             queue_is = queue.1 ∙ sym (queue_more (map sealed (first_messages l)) xs y);
@@ -367,9 +372,9 @@ module _ (behaviour : Behaviour) (l : Line) where
       holds_delivers = record {
         lawful = lawful_delivers;
         workers = each_append (λ (z : Step). IsWorker n z.0) xs (y ∷ []) k.workers (w, tt);
-        ready = λ q u. subst (Ready behaviour l plan n (xs ++ y ∷ []) q) (sym (left_delivers behaviour l xs q p e sent))
+        ready = λ q u. subst (Ready behaviour l plan n (xs ++ y ∷ []) q) (sym (left_delivers behaviour l xs q p e))
             (delivers_ready behaviour l plan n xs q p e lawful_delivers.table_legal (left behaviour l xs q) (k.ready q u));
-        idle = λ q u o. absurd (inside ((k.idle q u (sym (left_delivers behaviour l xs q p e sent) ∙ o)).outside p w));
+        idle = λ q u o. absurd (inside ((k.idle q u (sym (left_delivers behaviour l xs q p e) ∙ o)).outside p w));
       }
 
     -- one more step, of a worker's ask

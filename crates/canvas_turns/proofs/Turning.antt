@@ -1,15 +1,17 @@
 -- Turns, one after the other: what one more step changes, and turns put together and taken apart.
-use Rattle.std.proofs.Common.{◌≡◌, ◌≢◌, ℕ, ◌+◌, ◌≤◌, Bool, true, false, cond, eqb, List, [], ◌∷◌, ◌++◌, length, refl, sym, ap, ◌∙◌, subst, append_assoc, append-nil, arith}
+use Rattle.std.proofs.Common.{◌≡◌, ◌≢◌, ℕ, ◌+◌, ◌≤◌, Bool, true, false, cond, eqb, List, [], ◌∷◌, ◌++◌, length, Some, None, refl, sym, ap, ◌∙◌, subst, append_assoc, append-nil, arith}
+use Rattle.std.proofs.lemmas.Bool.{false≢true}
 use Rattle.canvas_task.specs.Apply.{Behaviour}
 use Rattle.canvas_semantics.specs.Line.{Line}
 use Rattle.canvas_message.specs.declared.envelope.Envelope.{Envelope}
+use Rattle.canvas_backend.specs.Backend as results
 use Rattle.canvas_backend.specs.Backend.{Results}
-use Rattle.canvas_runs.specs.Core.{Ask, Reply, take, publish, store, part, read, rest, ack, taken, sent, stored, counted, found, rested, acked, taking, ask, answered, left_after, Suits, ReadsBack, redeliver}
-use Rattle.canvas_runs.specs.Calls.{reads_member, of_scripts, scripts_of}
+use Rattle.canvas_broker.specs.Broker as broker
+use Rattle.canvas_runs.specs.Core.{Ask, Reply, to_queue, to_table, rest, ack, from_queue, from_table, rested, acked, taking, ask, answered, left_after, Suits, ReadsBack}
+use Rattle.canvas_runs.specs.Calls.{of_scripts, scripts_of}
 use Rattle.canvas_runs.specs.Lists.{by}
 use Rattle.canvas_runs.specs.Worker.{worker}
-use Rattle.canvas_turns.specs.Turns.{Step, queue_next, results_next, queue_from, results_from, left, Answers, HasEnded, Turned, all_taken, skips_turn, takes_turn, delivers_again, redeliveries_in}
-use Rattle.canvas_backend.specs.Roster.{members, roster_of}
+use Rattle.canvas_turns.specs.Turns.{Step, redelivery, queue_next, results_next, queue_from, results_from, left, Answers, HasEnded, Turned, all_taken, skips_turn, takes_turn, delivers_again, redeliveries_in}
 use Rattle.canvas_runs.proofs.MoreAsks.{by_append, by_more, by_other, left_more, scripts_append, scripts_more}
 
 head_same : (p q : ℕ) (us vs : List ℕ) → ◌≡◌ {A = List ℕ} (p ∷ us) (q ∷ vs) → p ≡ q
@@ -35,14 +37,13 @@ module _ (behaviour : Behaviour) (l : Line) where
       ∙ (ap (left_after (worker behaviour l) taking) (scripts_more (by p xs) a r e) ∙ left_more (worker behaviour l) taking (scripts_of (by p xs)) (a, r))
 
   -- a redelivery leaves all workers what they had to do
-  pub left_delivers : (xs : List Step) (p q : ℕ) (d : Envelope) (r : Reply Envelope)
-      → left behaviour l (xs ++ (q, (redeliver d, r)) ∷ []) p ≡ left behaviour l xs p
-  left_delivers xs p q d r =
-      ap (left_after (worker behaviour l) taking) (ap scripts_of (by_append p xs ((q, (redeliver d, r)) ∷ []))
-      ∙ (scripts_append (by p xs) (by p ((q, (redeliver d, r)) ∷ []))
+  pub left_delivers : (xs : List Step) (p q : ℕ) (d : Envelope) → left behaviour l (xs ++ redelivery q d ∷ []) p ≡ left behaviour l xs p
+  left_delivers xs p q d =
+      ap (left_after (worker behaviour l) taking) (ap scripts_of (by_append p xs (redelivery q d ∷ []))
+      ∙ (scripts_append (by p xs) (by p (redelivery q d ∷ []))
       ∙ (ap (λ ys. scripts_of (by p xs) ++ ys) (none (eqb q p)) ∙ append-nil (scripts_of (by p xs)))))
     where
-      none : (b : Bool) → scripts_of (cond b ((redeliver d, r) ∷ []) []) ≡ []
+      none : (b : Bool) → scripts_of (cond b ((redelivery q d).1 ∷ []) []) ≡ []
       none true = refl
       none false = refl
 
@@ -50,17 +51,19 @@ module _ (behaviour : Behaviour) (l : Line) where
       → left behaviour l (xs ++ (q, (a, r)) ∷ []) p ≡ left behaviour l xs p
   left_other xs p q a r apart = ap (λ ys. left_after (worker behaviour l) taking (scripts_of ys)) (by_other p q xs (a, r) apart)
 
-  -- the answer is one to the ask, and a read's is of the member that it names
-  pub answers_suit : (n : ℕ) (xs : List Step) (a : Ask Envelope) (r : Reply Envelope) → Answers behaviour l n xs a r
-      → Suits a r × reads_member (members (roster_of l)) a r
-  answers_suit n xs take (taken x) h = (tt, tt)
-  answers_suit n xs (publish e) sent h = (tt, tt)
-  answers_suit n xs (store t o) (stored b) h = (tt, tt)
-  answers_suit n xs (part g t) (counted m) h = (tt, tt)
-  answers_suit n xs (read g i) (found t x) h = (tt, h.0)
-  answers_suit n xs rest (rested m) h = (tt, tt)
-  answers_suit n xs ack acked h = (tt, tt)
-  answers_suit n xs a r h = elim h [ ]
+  -- the answer is one to the ask
+  pub answers_suit : (n : ℕ) (xs : List Step) (a : Ask Envelope) (r : Reply Envelope) → of_scripts a ≡ true → Answers behaviour l n xs a r → Suits a r
+  answers_suit n xs (to_queue broker.take) (from_queue x) o h = tt
+  answers_suit n xs (to_queue (broker.publish e)) (from_queue None) o h = tt
+  answers_suit n xs (to_queue (broker.publish e)) (from_queue (Some x)) o h = absurd cc
+  answers_suit n xs (to_queue (broker.redeliver e)) r o h = absurd (false≢true o)
+  answers_suit n xs (to_table (results.store t o)) (from_table (results.was b)) g h = tt
+  answers_suit n xs (to_table (results.part g t)) (from_table (results.count m)) o h = tt
+  answers_suit n xs (to_table (results.read t)) (from_table (results.found x)) o h = tt
+  answers_suit n xs (to_table c) (from_table r) o h = absurd cc
+  answers_suit n xs rest (rested m) o h = tt
+  answers_suit n xs ack acked o h = tt
+  answers_suit n xs a r o h = elim h [ ]
 
   -- ---- turns put together
 

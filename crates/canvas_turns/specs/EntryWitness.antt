@@ -12,12 +12,14 @@ use Rattle.canvas_semantics.specs.Line.{Line, stop, step}
 use Rattle.canvas_semantics.specs.PlacedLine.{p_task, no_p_tasks, and_p_task, p_nowhere, p_stop, p_step}
 use Rattle.canvas_message.specs.Content.{Content}
 use Rattle.canvas_backend.specs.declared.stored.Stored.TheVariants.{First, Again}
-use Rattle.canvas_runs.specs.Core.{take, publish, store, rest, ack, redeliver, taken, sent, stored, rested, acked}
+use Rattle.canvas_backend.specs.Backend.{store, was}
+use Rattle.canvas_broker.specs.Broker.{publish, take}
+use Rattle.canvas_runs.specs.Core.{rest, ack, rested, acked}
 use Rattle.canvas_runs.specs.declared.when.When.TheVariants.{Early, Late}
-use Rattle.canvas_runs.specs.Witness.{call}
+use Rattle.canvas_runs.specs.Witness.{call, asks_queue, asks_table}
 use Rattle.canvas_runs.specs.Worker.{sealed}
 use Rattle.canvas_turns.specs.Spending.{Entry}
-use Rattle.canvas_turns.specs.Turns.{Step}
+use Rattle.canvas_turns.specs.Turns.{Step, redelivery}
 
 -- ---- 4 + 4, then 8 times that
 
@@ -59,14 +61,15 @@ both_points = (1, Early) ∷ (1, Late) ∷ []
 
 abbrev pub product_steps : List Step
 product_steps =
-    (1, (take, taken (Some (sealed product_sum)))) ∷ (1, (redeliver (sealed product_sum), sent))
-    ∷ (1, (store 1 eight, stored First)) ∷ (1, (publish (sealed product_whole), sent))
-    ∷ (1, (redeliver (sealed product_sum), sent)) ∷ (1, (ack, acked))
-    ∷ (1, (take, taken (Some (sealed product_sum)))) ∷ (1, (store 1 eight, stored Again))
-    ∷ (1, (ack, acked)) ∷ (1, (take, taken (Some (sealed product_whole))))
-    ∷ (1, (store 2 sixty_four, stored First)) ∷ (1, (ack, acked))
-    ∷ (1, (take, taken (Some (sealed product_sum)))) ∷ (1, (store 1 eight, stored Again))
-    ∷ (1, (ack, acked)) ∷ (1, (take, taken None)) ∷ (1, (rest, rested false)) ∷ []
+    (1, asks_queue take (Some (sealed product_sum))) ∷ redelivery 1 (sealed product_sum)
+    ∷ (1, asks_table (store 1 eight) (was First))
+    ∷ (1, asks_queue (publish (sealed product_whole)) None)
+    ∷ redelivery 1 (sealed product_sum) ∷ (1, (ack, acked))
+    ∷ (1, asks_queue take (Some (sealed product_sum))) ∷ (1, asks_table (store 1 eight) (was Again))
+    ∷ (1, (ack, acked)) ∷ (1, asks_queue take (Some (sealed product_whole)))
+    ∷ (1, asks_table (store 2 sixty_four) (was First)) ∷ (1, (ack, acked))
+    ∷ (1, asks_queue take (Some (sealed product_sum))) ∷ (1, asks_table (store 1 eight) (was Again))
+    ∷ (1, (ack, acked)) ∷ (1, asks_queue take None) ∷ (1, (rest, rested false)) ∷ []
 
 -- ---- 1 by 0, with a link
 
@@ -94,11 +97,14 @@ link_entry = (2, Early) ∷ []
 
 abbrev pub quotient_steps : List Step
 quotient_steps =
-    (1, (take, taken (Some (sealed quotient_linked)))) ∷ (1, (store 1 no_quotient, stored First))
-    ∷ (1, (ack, acked)) ∷ (1, (take, taken None)) ∷ (1, (rest, rested false)) ∷ []
+    (1, asks_queue take (Some (sealed quotient_linked)))
+    ∷ (1, asks_table (store 1 no_quotient) (was First))
+    ∷ (1, (ack, acked)) ∷ (1, asks_queue take None) ∷ (1, (rest, rested false)) ∷ []
 
 -- ---- a near miss: the worker has the store of its message answered, though an entry for the point
 -- before it is unspent
 
 abbrev pub unspent : List Step
-unspent = (1, (take, taken (Some (sealed product_sum)))) ∷ (1, (store 1 eight, stored First)) ∷ []
+unspent =
+    (1, asks_queue take (Some (sealed product_sum)))
+    ∷ (1, asks_table (store 1 eight) (was First)) ∷ []

@@ -16,16 +16,17 @@ use Rattle.canvas_rewrite.specs.Planned.{IsPlan}
 use Rattle.canvas_message.specs.Content.{Content, number_of}
 use Rattle.canvas_message.specs.declared.envelope.Envelope.{Envelope}
 use Rattle.canvas_backend.specs.declared.stored.Stored.TheVariants.{Again}
+use Rattle.canvas_backend.specs.Backend.{store, was}
 use Rattle.canvas_runs.specs.declared.when.When.{When}
 use Rattle.canvas_runs.specs.declared.when.When.TheVariants.{Early, Late}
 use Rattle.canvas_runs.specs.Book.{book_of}
-use Rattle.canvas_runs.specs.Core.{Ask, Reply, store, redeliver, sent, stored, CoreState, owning, acking, ask, ReadsBack}
+use Rattle.canvas_runs.specs.Core.{Ask, Reply, to_table, from_table, CoreState, owning, acking, ask, ReadsBack}
 use Rattle.canvas_runs.specs.Law.{IsRunMessage}
 use Rattle.canvas_runs.specs.Lists.{Each, total}
 use Rattle.canvas_runs.specs.Worker.{worker, opened}
 use Rattle.canvas_turns.specs.Going.{most_steps}
 use Rattle.canvas_turns.specs.TurnLaws.{ByTurns}
-use Rattle.canvas_turns.specs.Turns.{Step, IsWorker, FirstsRead, left, holds, Answers, HasEnded, AllEnded, Begins, redeliveries_in, rounds}
+use Rattle.canvas_turns.specs.Turns.{Step, IsWorker, FirstsRead, left, holds, redelivery, Answers, HasEnded, AllEnded, Begins, redeliveries_in, rounds}
 
 -- a task and a point
 abbrev pub Entry : Type 0
@@ -103,14 +104,12 @@ module _ (behaviour : Behaviour) (l : Line) where
     spends : {before : List Step} {es rest : List Entry} {p : ℕ} {e : Envelope}
         {a : Ask Envelope} {r : Reply Envelope} {us : List ℕ} {xs : List Step}
         → wanted (comes_to before p) es ≡ true → IsWorker n p → holds before p ≡ Some e
-        → ReadsBack (worker behaviour l)
-        (left behaviour l (before ++ (p, (redeliver e, sent)) ∷ []) p)
-        → a
-        ≡ ask (worker behaviour l) (left behaviour l (before ++ (p, (redeliver e, sent)) ∷ []) p)
-        → Answers behaviour l n (before ++ (p, (redeliver e, sent)) ∷ []) a r
-        → TurnedAgain n ((before ++ (p, (redeliver e, sent)) ∷ []) ++ (p, (a, r)) ∷ [])
+        → ReadsBack (worker behaviour l) (left behaviour l (before ++ redelivery p e ∷ []) p)
+        → a ≡ ask (worker behaviour l) (left behaviour l (before ++ redelivery p e ∷ []) p)
+        → Answers behaviour l n (before ++ redelivery p e ∷ []) a r
+        → TurnedAgain n ((before ++ redelivery p e ∷ []) ++ (p, (a, r)) ∷ [])
         (spent (comes_to before p) es) us xs rest
-        → TurnedAgain n before es (p ∷ us) ((p, (redeliver e, sent)) ∷ (p, (a, r)) ∷ xs) rest
+        → TurnedAgain n before es (p ∷ us) (redelivery p e ∷ (p, (a, r)) ∷ xs) rest
 
 -- a plan's run by these turns of workers 1 to n, with these entries, steps, and entries that stay
 -- unspent
@@ -136,7 +135,7 @@ pub record RanAgain (behaviour : Behaviour) (l : Line) (n : ℕ) (ts : List ℕ)
 -- ---- how many stores answer Again
 
 abbrev pub answers_again : Ask Envelope → Reply Envelope → ℕ
-answers_again (store t o) (stored Again) = 1
+answers_again (to_table (store t o)) (from_table (was Again)) = 1
 answers_again a r = 0
 
 abbrev pub agains_in : List Step → ℕ

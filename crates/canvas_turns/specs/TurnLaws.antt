@@ -1,5 +1,5 @@
 -- What follows from taking turns: a run by turns is a run, so the law of runs speaks of it.
-use Rattle.std.specs.Prelude.{ℕ, ◌≡◌, ◌≢◌, ◌≤◌, ◌<◌, ◌⊎◌, false, IsTrue, List, [], length, map, Some, None}
+use Rattle.std.specs.Prelude.{ℕ, ◌≡◌, ◌≢◌, ◌≤◌, ◌⊎◌, false, IsTrue, List, [], map, Some, None}
 use Rattle.canvas_task.specs.Apply.{AnswersInRange, IsInRange, Behaviour}
 use Rattle.canvas_task.specs.declared.outcome.Outcome.{Outcome}
 use Rattle.canvas_semantics.specs.Evaluation.{State}
@@ -8,13 +8,13 @@ use Rattle.canvas_rewrite.specs.Planned.{IsPlan}
 use Rattle.canvas_semantics.specs.States.{states, numbers_from}
 use Rattle.canvas_effects.specs.Effects.{first_messages}
 use Rattle.canvas_message.specs.declared.envelope.Envelope.{Envelope}
-use Rattle.canvas_backend.specs.Backend.{results}
-use Rattle.canvas_backend.specs.Roster.{Roster, roster_of, members, is_chord, is_member}
+use Rattle.canvas_backend.specs.Backend.{store, part, read, results}
+use Rattle.canvas_backend.specs.Roster.{Roster, roster_of, is_chord, is_member}
 use Rattle.canvas_broker.specs.Broker.{queue_of}
 use Rattle.canvas_runs.specs.Calls.{scripts_of}
-use Rattle.canvas_runs.specs.Core.{Ask, store, part, read, ask}
+use Rattle.canvas_runs.specs.Core.{Ask, to_table, ask}
 use Rattle.canvas_runs.specs.Law.{its_state}
-use Rattle.canvas_runs.specs.Lists.{Each, by, at}
+use Rattle.canvas_runs.specs.Lists.{Each, by}
 use Rattle.canvas_semantics.specs.States.{EachMay}
 use Rattle.canvas_runs.specs.Run.{Run, Closed}
 use Rattle.canvas_runs.specs.Worker.{worker}
@@ -94,15 +94,14 @@ UntilTurns =
 -- ---- what a worker asks next can be answered
 
 -- a store is of a task of the plan; a part is of a chord's member that is stored and not returned;
--- a read is of a place of the chord whose member is stored
+-- a read is of a task of the plan that is stored
 abbrev pub Answerable : Roster → List Step → Ask Envelope → Type 0
-Answerable plan xs (store t o) = (t ≤ plan.tasks) × IsInRange o
-Answerable plan xs (part g t) =
+Answerable plan xs (to_table (store t o)) = (t ≤ plan.tasks) × IsInRange o
+Answerable plan xs (to_table (part g t)) =
     IsTrue (is_chord plan g) × IsTrue (is_member plan g t) × ((results_after xs).outcomes t ≢ None)
     × ((results_after xs).returned t ≡ false)
-Answerable plan xs (read g i) =
-    (t : ℕ) × (i < length (members plan g)) × (at i (members plan g) ≡ Some t) × (t ≤ plan.tasks)
-    × ((o : Outcome) × ((results_after xs).outcomes t ≡ Some o) × IsInRange o)
+Answerable plan xs (to_table (read t)) =
+    (t ≤ plan.tasks) × ((o : Outcome) × ((results_after xs).outcomes t ≡ Some o) × IsInRange o)
 Answerable plan xs a = Unit {0}
 
 abbrev pub NextAnswerable : Type 0

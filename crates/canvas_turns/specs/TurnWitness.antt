@@ -2,8 +2,10 @@
 -- fourteen turns from a list and two rounds behind it.
 use Rattle.std.specs.Prelude.{ℕ, false, List, [], ◌∷◌, Some, None}
 use Rattle.canvas_backend.specs.declared.stored.Stored.TheVariants.{First}
-use Rattle.canvas_runs.specs.Core.{take, publish, store, part, read, rest, ack, taken, sent, stored, counted, found, rested, acked}
-use Rattle.canvas_runs.specs.Witness.{first_sum, second_sum, whole_sum, two, four, six}
+use Rattle.canvas_backend.specs.Backend.{store, part, read, was, count, found}
+use Rattle.canvas_broker.specs.Broker.{publish, take}
+use Rattle.canvas_runs.specs.Core.{rest, ack, rested, acked}
+use Rattle.canvas_runs.specs.Witness.{asks_queue, asks_table, first_sum, second_sum, whole_sum, two, four, six}
 use Rattle.canvas_runs.specs.Worker.{sealed}
 use Rattle.canvas_turns.specs.Turns.{Step}
 
@@ -14,13 +16,14 @@ listed_turns = 1 ∷ 2 ∷ 1 ∷ 1 ∷ 1 ∷ 2 ∷ 2 ∷ 2 ∷ 2 ∷ 2 ∷ 2 ∷
 -- first worker takes.
 abbrev pub witness_steps : List Step
 witness_steps =
-    (1, (take, taken (Some (sealed first_sum)))) ∷ (2, (take, taken (Some (sealed second_sum))))
-    ∷ (1, (store 1 two, stored First)) ∷ (1, (part 1 1, counted 0)) ∷ (1, (ack, acked))
-    ∷ (2, (store 2 four, stored First)) ∷ (2, (part 1 2, counted 1))
-    ∷ (2, (read 1 0, found 1 (Some two))) ∷ (2, (read 1 1, found 2 (Some four)))
-    ∷ (2, (publish (sealed whole_sum), sent)) ∷ (2, (ack, acked))
-    ∷ (1, (take, taken (Some (sealed whole_sum)))) ∷ (1, (store 3 six, stored First))
-    ∷ (1, (ack, acked)) ∷ (1, (take, taken None)) ∷ (2, (take, taken None))
+    (1, asks_queue take (Some (sealed first_sum))) ∷ (2, asks_queue take (Some (sealed second_sum)))
+    ∷ (1, asks_table (store 1 two) (was First)) ∷ (1, asks_table (part 1 1) (count 0))
+    ∷ (1, (ack, acked))
+    ∷ (2, asks_table (store 2 four) (was First)) ∷ (2, asks_table (part 1 2) (count 1))
+    ∷ (2, asks_table (read 1) (found (Some two))) ∷ (2, asks_table (read 2) (found (Some four)))
+    ∷ (2, asks_queue (publish (sealed whole_sum)) None) ∷ (2, (ack, acked))
+    ∷ (1, asks_queue take (Some (sealed whole_sum))) ∷ (1, asks_table (store 3 six) (was First))
+    ∷ (1, (ack, acked)) ∷ (1, asks_queue take None) ∷ (2, asks_queue take None)
     ∷ (1, (rest, rested false)) ∷ (2, (rest, rested false)) ∷ []
 
 -- ---- a near miss: the second worker is told that nothing more will come, while the first is
@@ -28,7 +31,7 @@ witness_steps =
 
 abbrev pub hasty : List Step
 hasty =
-    (1, (take, taken (Some (sealed first_sum)))) ∷ (1, (store 1 two, stored First))
-    ∷ (1, (part 1 1, counted 0)) ∷ (1, (ack, acked))
-    ∷ (1, (take, taken (Some (sealed second_sum))))
-    ∷ (2, (take, taken None)) ∷ (2, (rest, rested false)) ∷ []
+    (1, asks_queue take (Some (sealed first_sum))) ∷ (1, asks_table (store 1 two) (was First))
+    ∷ (1, asks_table (part 1 1) (count 0)) ∷ (1, (ack, acked))
+    ∷ (1, asks_queue take (Some (sealed second_sum)))
+    ∷ (2, asks_queue take None) ∷ (2, (rest, rested false)) ∷ []

@@ -25,13 +25,12 @@ use Rattle.canvas_rewrite.specs.FrozenView.{PCarried}
 use Rattle.canvas_message.specs.Content.{Content}
 use Rattle.canvas_effects.specs.Effects.{first_messages}
 use Rattle.canvas_message.specs.declared.envelope.Envelope.{Envelope}
-use Rattle.canvas_backend.specs.Backend as results
-use Rattle.canvas_backend.specs.Backend.{Results, no_results, first_or, next_of, count_of}
-use Rattle.canvas_backend.specs.Roster.{roster_of, members}
+use Rattle.canvas_backend.specs.Backend.{Results, no_results, reply_of, next_of}
+use Rattle.canvas_backend.specs.Roster.{roster_of}
 use Rattle.canvas_broker.specs.Broker as broker
-use Rattle.canvas_runs.specs.Core.{Ask, Reply, take, publish, store, part, read, rest, end, ack, redeliver, taken, sent, stored, counted, found, rested, acked, CoreState, taking, ask, left_after, ReadsBack, is_inside}
+use Rattle.canvas_runs.specs.Core.{Ask, Reply, to_queue, to_table, rest, end, ack, from_queue, from_table, rested, acked, CoreState, taking, ask, left_after, ReadsBack, is_inside}
 use Rattle.canvas_runs.specs.Calls.{scripts_of, held_after}
-use Rattle.canvas_runs.specs.Lists.{Each, by, at, total}
+use Rattle.canvas_runs.specs.Lists.{Each, by, total}
 use Rattle.canvas_runs.specs.Worker.{IsReadBack, worker, sealed}
 
 -- an answered ask of a worker
@@ -40,14 +39,11 @@ Step = ℕ × (Ask Envelope × Reply Envelope)
 
 -- what an ask leaves of the queue, and of the results
 abbrev pub queue_next : List Envelope → Ask Envelope → List Envelope
-queue_next q take = broker.next q broker.take
-queue_next q (publish e) = broker.next q (broker.publish e)
-queue_next q (redeliver e) = broker.next q (broker.redeliver e)
+queue_next q (to_queue c) = broker.next q c
 queue_next q a = q
 
 abbrev pub results_next : Results → Ask Envelope → Results
-results_next s (store t o) = next_of s (results.store t o)
-results_next s (part g t) = next_of s (results.part g t)
+results_next s (to_table c) = next_of s c
 results_next s a = s
 
 abbrev pub queue_from : List Envelope → List Step → List Envelope
@@ -70,9 +66,13 @@ is_queued (e ∷ es) = true
 abbrev pub holds : List Step → ℕ → Option Envelope
 holds before p = held_after None (by p before)
 
+-- the worker's envelope is delivered again
+abbrev pub redelivery : ℕ → Envelope → Step
+redelivery p e = (p, (to_queue (broker.redeliver e), from_queue None))
+
 -- how many of the steps are redeliveries
 abbrev pub redelivers_one : Ask Envelope → ℕ
-redelivers_one (redeliver e) = 1
+redelivers_one (to_queue (broker.redeliver e)) = 1
 redelivers_one a = 0
 
 abbrev pub redeliveries_in : List Step → ℕ
@@ -104,13 +104,9 @@ module _ (behaviour : Behaviour) (l : Line) where
   holds_more n before = is_queued (queue_after l before) || some_inside n before
 
   abbrev pub Answers : ℕ → List Step → Ask Envelope → Reply Envelope → Type 0
-  Answers n before take (taken x) = x ≡ broker.answer (queue_after l before) broker.take
-  Answers n before (publish e) sent = Unit {0}
-  Answers n before (store t o) (stored b) =
-      b ≡ first_or ((results_after before).outcomes t)
-  Answers n before (part g t) (counted m) = m ≡ count_of (roster_of l) (results_after before) g
-  Answers n before (read g i) (found t x) =
-      (at i (members (roster_of l) g) ≡ Some t) × (x ≡ (results_after before).outcomes t)
+  Answers n before (to_queue c) (from_queue x) = x ≡ broker.answer (queue_after l before) c
+  Answers n before (to_table c) (from_table r) =
+      r ≡ reply_of (roster_of l) (results_after before) c
   Answers n before rest (rested m) = m ≡ holds_more n before
   Answers n before ack acked = Unit {0}
   Answers n before a r = ⊥
@@ -133,8 +129,8 @@ module _ (behaviour : Behaviour) (l : Line) where
         → Turned n (before ++ (p, (a, r)) ∷ []) us xs → Turned n before (p ∷ us) ((p, (a, r)) ∷ xs)
     delivers_again : {before : List Step} {p : ℕ} {e : Envelope} {us : List ℕ} {xs : List Step}
         → IsWorker n p → holds before p ≡ Some e
-        → Turned n (before ++ (p, (redeliver e, sent)) ∷ []) us xs
-        → Turned n before us ((p, (redeliver e, sent)) ∷ xs)
+        → Turned n (before ++ redelivery p e ∷ []) us xs
+        → Turned n before us (redelivery p e ∷ xs)
 
   abbrev pub AllEnded : ℕ → List Step → Type 0
   AllEnded n before = (p : ℕ) → IsWorker n p → HasEnded before p

@@ -18,7 +18,7 @@ ghost use Rattle.canvas_turns.specs.EntryWitness.{product, both_points, product_
 /// all have ended, so the law of runs speaks of it: each task is pending or has the state that
 /// evaluating the plan gives, and has that state where all have ended. What a worker asks next can
 /// be answered: a task that it names is one of the plan's, its part is of a chord's member that is
-/// stored and was not returned, and a member that it reads is stored.
+/// stored and was not returned, and a task that it reads is stored.
 pub fn laws_of_turns()
     ensures runs { TurnsAreRuns }
     ensures rows_may { TurnRowsMay }

@@ -1,6 +1,6 @@
 -- What a backend knows of its plan is what the plan says.
 use Rattle.std.proofs.Common.{◌≡◌, ◌<◌, ◌+◌, ◌∙◌, ℕ, zero, suc, Bool, true, false, cond, List, [], ◌∷◌, refl, sym, ap, arith}
-use Rattle.std.specs.Prelude.{◌&&◌, ◌||◌, ◌==◌, not, nat_le, count_by}
+use Rattle.std.specs.Prelude.{◌&&◌, ◌||◌, ◌==◌, not, nat_le, slice_get, count_by}
 use Rattle.std.specs.List.{list_any}
 use Rattle.std.proofs.lemmas.Bool.Decides.{nat_tests}
 use Rattle.std.proofs.lemmas.List.Sums.{sum_by-cons}
@@ -50,4 +50,5 @@ member_alike l plan g (suc k) = ap (λ b. not b && list_any (λ x. x == suc k) (
 
 pub books_alike : (l : Line) → IsPlan l → book_in (roster_of l) ≡ book_of l
 books_alike l plan =
-    ap (λ f. record { knows = λ k. nat_le k (count_line l); size = size l; is_member = f }) (fun_ext (λ g. fun_ext (λ k. member_alike l plan g k)))
+    ap (λ f. record { knows = λ k. nat_le k (count_line l); size = size l; is_member = f; member = λ g i. slice_get (members l g) i })
+    (fun_ext (λ g. fun_ext (λ k. member_alike l plan g k)))

@@ -13,7 +13,9 @@ use Rattle.canvas_backend.specs.declared.stored.Stored.TheVariants.{First, Again
 use Rattle.canvas_backend.specs.Roster.{roster_of}
 use Rattle.canvas_effects.specs.Job as job
 use Rattle.canvas_runs.specs.Book.{Book, book_on}
-use Rattle.canvas_runs.specs.Core.{publish, store, read, taken, sent, refused, stored, counted, found, rested, CoreState, taking, resting, over, failed, owning, doing, reading as state_reading, is_due, settled, opens, owned, job_done, ask, answered, ReadsBack, Between, left_after, IsCoreRun, acking, acked}
+use Rattle.canvas_backend.specs.Backend as results
+use Rattle.canvas_broker.specs.Broker as broker
+use Rattle.canvas_runs.specs.Core.{to_queue, to_table, from_queue, from_table, rested, CoreState, taking, resting, over, failed, owning, doing, reading as state_reading, is_due, settled, opens, owned, reading_of, reads_next, job_done, ask, answered, ReadsBack, Between, left_after, IsCoreRun, acking, acked}
 use Rattle.canvas_runs.specs.Protocol.{Protocol}
 use Rattle.canvas_runs.specs.Worker.{worker, opened}
 use Rattle.canvas_worker.specs.Asks.{Asked, Answer}
@@ -24,10 +26,10 @@ use Rattle.canvas_worker.proofs.Opening.{opened_as}
 use Rattle.canvas_worker.proofs.Sendable.{envelope_so, said_of}
 
 module _ (behaviour : Behaviour) (l : Line) where
-  abbrev X : Protocol
+  abbrev X : Protocol Envelope
   X = enveloped behaviour (roster_of l)
 
-  abbrev Y : Protocol
+  abbrev Y : Protocol Envelope
   Y = worker behaviour l
 
   abbrev Doing : Type 0
@@ -56,16 +58,27 @@ module _ (behaviour : Behaviour) (l : Line) where
   due_alike t (job.publish c ∷ ks) = due_alike t ks
   due_alike t (job.part g u c ∷ ks) = refl
 
+  -- ---- the next member
+
+  next_alike : (g : ℕ) (c : PCarried) (fs : List (ℕ × Outcome)) → IsAlike behaviour (reads_next X g c fs) (reads_next Y g c fs)
+  next_alike g c fs = go (book.member g (length fs))
+    where
+      go : (o : Option ℕ) → IsAlike behaviour (reading_of X g c fs o) (reading_of Y g c fs o)
+      go None = tt
+      go (Some t) = (refl, (refl, (refl, refl)))
+
+  -- ---- jobs
+
   job_alike : (k : Job Content PCarried Outcome) (ks : Jobs) (b : Stored) (r : Answer)
       → IsAlike behaviour (job_done X (enclosed k) (map enclosed ks) b r) (job_done Y k ks b r)
-  job_alike (job.store t o) ks b (stored a) =
+  job_alike (job.store t o) ks b (from_table (results.was a)) =
       subst (λ z. IsAlike behaviour (settled X (map enclosed ks) (cond z a b)) (settled Y ks (cond (is_due t ks) a b))) (sym (due_alike t ks))
       (settled_alike ks (cond (is_due t ks) a b))
-  job_alike (job.publish c) ks b sent = settled_alike ks b
-  job_alike (job.part g t c) ks b (counted n) = part_alike (eqb (suc n) c.size)
+  job_alike (job.publish c) ks b (from_queue None) = settled_alike ks b
+  job_alike (job.part g t c) ks b (from_table (results.count n)) = part_alike (eqb (suc n) c.size)
     where
-      part_alike : (z : Bool) → IsAlike behaviour (cond z (state_reading g c []) acking) (cond z (state_reading g c []) acking)
-      part_alike true = (refl, (refl, refl))
+      part_alike : (z : Bool) → IsAlike behaviour (cond z (reads_next X g c []) acking) (cond z (reads_next Y g c []) acking)
+      part_alike true = next_alike g c []
       part_alike false = tt
   job_alike (job.store t o) ks b r = tt
   job_alike (job.publish c) ks b r = tt
@@ -82,10 +95,10 @@ module _ (behaviour : Behaviour) (l : Line) where
   -- ---- members
 
   read_alike : (g : ℕ) (c : PCarried) (fs : List (ℕ × Outcome)) (z : Bool)
-      → IsAlike behaviour (cond z (settled X (map enclosed (script (body_after c fs))) Again) (state_reading g c fs))
-      (cond z (settled Y (script (body_after c fs)) Again) (state_reading g c fs))
+      → IsAlike behaviour (cond z (settled X (map enclosed (script (body_after c fs))) Again) (reads_next X g c fs))
+      (cond z (settled Y (script (body_after c fs)) Again) (reads_next Y g c fs))
   read_alike g c fs true = settled_alike (script (body_after c fs)) Again
-  read_alike g c fs false = (refl, (refl, refl))
+  read_alike g c fs false = next_alike g c fs
 
   -- ---- answers
 
@@ -104,60 +117,30 @@ module _ (behaviour : Behaviour) (l : Line) where
       subst (λ x. IsAlike behaviour (answered X (doing x b) r) (job_done Y k ks d r)) (sym is)
       (subst (λ x. IsAlike behaviour (job_done X (enclosed k) (map enclosed ks) b r) (job_done Y k ks x r)) same (job_alike k ks b r))
 
-  step_reading : (g : ℕ) (c : PCarried) (fs : List (ℕ × Outcome)) (r : Answer)
-      → IsAlike behaviour (answered X (state_reading g c fs) r) (answered Y (state_reading g c fs) r)
-  step_reading g c fs (found t (Some o)) = read_alike g c (fs ++ (t, o) ∷ []) (eqb (length (fs ++ (t, o) ∷ [])) c.size)
-  step_reading g c fs (found t None) = tt
-  step_reading g c fs (taken x) = tt
-  step_reading g c fs sent = tt
-  step_reading g c fs refused = tt
-  step_reading g c fs (stored a) = tt
-  step_reading g c fs (counted n) = tt
-  step_reading g c fs (rested a) = tt
-  step_reading g c fs acked = tt
+  step_reading : (g : ℕ) (c : PCarried) (t : ℕ) (fs : List (ℕ × Outcome)) (r : Answer)
+      → IsAlike behaviour (answered X (state_reading g c t fs) r) (answered Y (state_reading g c t fs) r)
+  step_reading g c t fs (from_table (results.found (Some o))) = read_alike g c (fs ++ (t, o) ∷ []) (eqb (length (fs ++ (t, o) ∷ [])) c.size)
+  step_reading g c t fs (from_table (results.found None)) = tt
+  step_reading g c t fs r = tt
 
   step_taking : (r : Answer) → IsAlike behaviour (answered X taking r) (answered Y taking r)
-  step_taking (taken None) = tt
-  step_taking (taken (Some e)) = opens_alike e (opened book e) refl
-  step_taking sent = tt
-  step_taking refused = tt
-  step_taking (stored a) = tt
-  step_taking (counted n) = tt
-  step_taking (found t o) = tt
-  step_taking (rested a) = tt
-  step_taking acked = tt
+  step_taking (from_queue None) = tt
+  step_taking (from_queue (Some e)) = opens_alike e (opened book e) refl
+  step_taking r = tt
 
   step_resting : (r : Answer) → IsAlike behaviour (answered X resting r) (answered Y resting r)
   step_resting (rested true) = tt
   step_resting (rested false) = tt
-  step_resting (taken x) = tt
-  step_resting sent = tt
-  step_resting refused = tt
-  step_resting (stored a) = tt
-  step_resting (counted n) = tt
-  step_resting (found t o) = tt
-  step_resting acked = tt
+  step_resting r = tt
 
   step_acking : (r : Answer) → IsAlike behaviour (answered X acking r) (answered Y acking r)
   step_acking acked = tt
-  step_acking (taken x) = tt
-  step_acking sent = tt
-  step_acking refused = tt
-  step_acking (stored a) = tt
-  step_acking (counted n) = tt
-  step_acking (found t o) = tt
-  step_acking (rested a) = tt
+  step_acking r = tt
 
   step_own : (m : Applied) (c : Content) (r : Answer) → said m.envelope ≡ c → m.outcome ≡ outcome_of behaviour c
       → IsAlike behaviour (answered X (owning m) r) (answered Y (owning c) r)
-  step_own m c (stored a) is value = step_owning m c is value a
-  step_own m c (taken x) is value = tt
-  step_own m c sent is value = tt
-  step_own m c refused is value = tt
-  step_own m c (counted n) is value = tt
-  step_own m c (found t o) is value = tt
-  step_own m c (rested a) is value = tt
-  step_own m c acked is value = tt
+  step_own m c (from_table (results.was a)) is value = step_owning m c is value a
+  step_own m c r is value = tt
 
   step : (s : Left) (t : Doing) (r : Answer) → IsAlike behaviour s t → IsAlike behaviour (answered X s r) (answered Y t r)
   step taking taking r a = step_taking r
@@ -167,10 +150,11 @@ module _ (behaviour : Behaviour) (l : Line) where
   step acking acking r a = step_acking r
   step (owning m) (owning c) r a = step_own m c r a.0 a.1
   step (doing js b) (doing ks d) r a = step_doing js b ks d r a.0 a.1
-  step (state_reading g c fs) (state_reading h d gs) r a =
-      subst (λ x. IsAlike behaviour (answered X (state_reading g c fs) r) (answered Y (state_reading x d gs) r)) a.0
-      (subst (λ x. IsAlike behaviour (answered X (state_reading g c fs) r) (answered Y (state_reading g x gs) r)) a.1.0
-      (subst (λ x. IsAlike behaviour (answered X (state_reading g c fs) r) (answered Y (state_reading g c x) r)) a.1.1 (step_reading g c fs r)))
+  step (state_reading g c t fs) (state_reading h d u gs) r a =
+      subst (λ x. IsAlike behaviour (answered X (state_reading g c t fs) r) (answered Y (state_reading x d u gs) r)) a.0
+      (subst (λ x. IsAlike behaviour (answered X (state_reading g c t fs) r) (answered Y (state_reading g x u gs) r)) a.1.0
+      (subst (λ x. IsAlike behaviour (answered X (state_reading g c t fs) r) (answered Y (state_reading g c x gs) r)) a.1.1.0
+      (subst (λ x. IsAlike behaviour (answered X (state_reading g c t fs) r) (answered Y (state_reading g c t x) r)) a.1.1.1 (step_reading g c t fs r))))
   step s t r a = absurd a
 
   -- ---- asks
@@ -178,7 +162,7 @@ module _ (behaviour : Behaviour) (l : Line) where
   job_asks : (k : Job Content PCarried Outcome) (ks : Jobs) (b d : Stored) → ReadsBack X (doing (enclosed k ∷ map enclosed ks) b)
       → (ask Y (doing (k ∷ ks) d) ≡ ask X (doing (enclosed k ∷ map enclosed ks) b)) × ReadsBack Y (doing (k ∷ ks) d)
   job_asks (job.store t o) ks b d back = (refl, tt)
-  job_asks (job.publish c) ks b d back = let so = envelope_so c back in (ap (λ e. publish e) (sym so.0), so.1)
+  job_asks (job.publish c) ks b d back = let so = envelope_so c back in (ap (λ e. to_queue (broker.publish e)) (sym so.0), so.1)
   job_asks (job.part g t c) ks b d back = (refl, tt)
 
   jobs_ask : (js : List (Job Applied PCarried Outcome)) (b : Stored) (ks : Jobs) (d : Stored) → js ≡ map enclosed ks → ReadsBack X (doing js b)
@@ -194,9 +178,9 @@ module _ (behaviour : Behaviour) (l : Line) where
   asks over over a back = (refl, tt)
   asks failed failed a back = (refl, tt)
   asks acking acking a back = (refl, tt)
-  asks (owning m) (owning c) a back = (ap₂ (λ (d : Content) (o : Outcome). store (number_of d.own) o) (sym a.0) (sym a.1), tt)
+  asks (owning m) (owning c) a back = (ap₂ (λ (d : Content) (o : Outcome). to_table (results.store (number_of d.own) o)) (sym a.0) (sym a.1), tt)
   asks (doing js b) (doing ks d) a back = jobs_ask js b ks d a.0 back
-  asks (state_reading g c fs) (state_reading h d gs) a back = (ap₂ (λ x y. read x (length y)) (sym a.0) (sym a.1.1), tt)
+  asks (state_reading g c t fs) (state_reading h d u gs) a back = (ap (λ k. to_table (results.read k)) (sym a.1.1.0), tt)
   asks s t a back = absurd a
 
   -- ---- between scripts
@@ -209,7 +193,7 @@ module _ (behaviour : Behaviour) (l : Line) where
   closed_alike acking acking a h = h
   closed_alike (owning e) (owning c) a h = h
   closed_alike (doing js b) (doing ks d) a h = h
-  closed_alike (state_reading g c fs) (state_reading k d gs) a h = h
+  closed_alike (state_reading g c t fs) (state_reading k d u gs) a h = h
   closed_alike s t a h = absurd a
 
   closes_alike : (s : Left) (t : Doing) → IsAlike behaviour s t → Between t → Between s
@@ -220,7 +204,7 @@ module _ (behaviour : Behaviour) (l : Line) where
   closes_alike acking acking a h = h
   closes_alike (owning e) (owning c) a h = h
   closes_alike (doing js b) (doing ks d) a h = h
-  closes_alike (state_reading g c fs) (state_reading k d gs) a h = h
+  closes_alike (state_reading g c t fs) (state_reading k d u gs) a h = h
   closes_alike s t a h = absurd a
 
   -- ---- whole runs

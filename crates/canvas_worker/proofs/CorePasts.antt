@@ -3,6 +3,8 @@ use Rattle.std.proofs.Common.{◌≡◌, ◌∙◌, ℕ, ◌+◌, min, Bool, tru
 use Rattle.std.specs.Prelude.{if◌then◌else◌, is_some}
 use Rattle.std.proofs.lemmas.Bool.{false≢true}
 use Rattle.canvas_task.specs.Apply.{Behaviour}
+use Rattle.canvas_task.specs.declared.outcome.Outcome.{Outcome}
+use Rattle.canvas_rewrite.specs.FrozenView.{PCarried}
 use Rattle.canvas_message.specs.declared.envelope.Envelope.{Envelope}
 use Rattle.canvas_message.specs.Content.{Content}
 use Rattle.canvas_backend.specs.declared.stored.Stored.{Stored}
@@ -13,7 +15,9 @@ use Rattle.canvas_runs.specs.Calls.{held_by, held_after}
 use Rattle.canvas_effects.specs.Job.{store, publish, part}
 use Rattle.canvas_runs.specs.Book.{Book}
 use Rattle.canvas_runs.specs.Core as C
-use Rattle.canvas_runs.specs.Core.{taking, resting, over, failed, owning, doing, reading, taken, sent, refused, stored, counted, found, rested, answered, left_after, Suits, ReadsBack, IsCoreRun, acking, acked, settled, opens, Jobs, is_due, is_inside}
+use Rattle.canvas_backend.specs.Backend as results
+use Rattle.canvas_broker.specs.Broker as broker
+use Rattle.canvas_runs.specs.Core.{taking, resting, over, failed, owning, doing, reading, from_queue, refused, from_table, rested, answered, left_after, Suits, ReadsBack, IsCoreRun, acking, acked, settled, opens, reading_of, reads_next, Jobs, is_due, is_inside}
 use Rattle.canvas_worker.specs.Asks.{Asked, Answer, suits, shown, replied}
 use Rattle.canvas_worker.specs.Asks as asks
 use Rattle.canvas_worker.specs.EnvelopeWorker.{enveloped_by, applied_if}
@@ -25,12 +29,12 @@ use Rattle.canvas_worker.specs.declared.ask.Reply.TheVariants as R
 
 -- a reply that suits by kind is one that the machine's ask admits
 pub suited : (book : Book) (x : Option ℕ) (a : Asked) (r : Reply) → suits (shown x a) r ≡ true → Suits a (replied r)
-suited book n C.take (R.Taken x) h = tt
-suited book n (C.publish e) R.Published h = tt
-suited book n (C.publish e) (R.NotPublished f) h = tt
-suited book n (C.store t o) (R.Stored s) h = tt
-suited book n (C.part g t) (R.Counted m) h = tt
-suited book n (C.read g i) (R.Found t x) h = tt
+suited book n (C.to_queue broker.take) (R.Taken x) h = tt
+suited book n (C.to_queue (broker.publish e)) R.Published h = tt
+suited book n (C.to_queue (broker.publish e)) (R.NotPublished f) h = tt
+suited book n (C.to_table (results.store t o)) (R.Stored s) h = tt
+suited book n (C.to_table (results.part g t)) (R.Counted m) h = tt
+suited book n (C.to_table (results.read t)) (R.Found x) h = tt
 suited book n C.rest (R.Rested more) h = tt
 suited book n C.ack R.Acked h = tt
 suited book n a r h = absurd cc
@@ -47,19 +51,13 @@ unsent_shown n (doing [] b) = refl
 unsent_shown n (doing (store t o ∷ js) b) = refl
 unsent_shown n (doing (publish e ∷ js) b) = refl
 unsent_shown n (doing (part g t c ∷ js) b) = refl
-unsent_shown n (reading g c fs) = refl
+unsent_shown n (reading g c t fs) = refl
 unsent_shown n acking = refl
 
 pub unsent_answered : (behaviour : Behaviour) (book : Book) (s : Left) (r : Answer)
     → answered (enveloped_by behaviour book) (unsent s) r ≡ answered (enveloped_by behaviour book) s r
-unsent_answered behaviour book (doing (publish e ∷ js) b) sent = refl
-unsent_answered behaviour book (doing (publish e ∷ js) b) refused = refl
-unsent_answered behaviour book (doing (publish e ∷ js) b) (taken x) = refl
-unsent_answered behaviour book (doing (publish e ∷ js) b) (stored a) = refl
-unsent_answered behaviour book (doing (publish e ∷ js) b) (counted n) = refl
-unsent_answered behaviour book (doing (publish e ∷ js) b) (found t x) = refl
-unsent_answered behaviour book (doing (publish e ∷ js) b) (rested a) = refl
-unsent_answered behaviour book (doing (publish e ∷ js) b) acked = refl
+unsent_answered behaviour book (doing (publish e ∷ js) b) (from_queue None) = refl
+unsent_answered behaviour book (doing (publish e ∷ js) b) r = refl
 unsent_answered behaviour book s r = refl
 
 pub unsent_drops : (book : Book) (s : Left) (r : Answer) → drops book (unsent s) r ≡ drops book s r
@@ -139,6 +137,14 @@ open_settled behaviour book (publish e ∷ js) Again h = refl
 open_settled behaviour book (part g t c ∷ js) First h = refl
 open_settled behaviour book (part g t c ∷ js) Again h = refl
 
+open_next : (behaviour : Behaviour) (book : Book) (g : ℕ) (c : PCarried) (fs : List (ℕ × Outcome)) (h : Option Envelope)
+    → open_of (reads_next (enveloped_by behaviour book) g c fs) h ≡ h
+open_next behaviour book g c fs h = go (book.member g (length fs))
+  where
+    go : (o : Option ℕ) → open_of (reading_of (enveloped_by behaviour book) g c fs o) h ≡ h
+    go None = refl
+    go (Some t) = refl
+
 open_either : (b : Bool) (s t : Left) (h : Option Envelope) → open_of s h ≡ h → open_of t h ≡ h → open_of (cond b s t) h ≡ h
 open_either true s t h i j = i
 open_either false s t h i j = j
@@ -146,26 +152,28 @@ open_either false s t h i j = j
 -- the envelope that it holds is the one that its asks and answers show
 pub book_step : (behaviour : Behaviour) (book : Book) (s : Left) (h : Option Envelope) (r : Answer) → Suits (asked s) r
     → open_of (answered (enveloped_by behaviour book) s r) (kept_next book s h r) ≡ held_by (open_of s h) (asked s) r
-book_step behaviour book taking h (taken None) u = refl
-book_step behaviour book taking h (taken (Some e)) u = go (opened book e)
+book_step behaviour book taking h (from_queue None) u = refl
+book_step behaviour book taking h (from_queue (Some e)) u = go (opened book e)
   where
     go : (x : Option Content) → open_of (opens (enveloped_by behaviour book) (applied_if behaviour x e)) (kept_taken x e h) ≡ Some e
     go None = refl
     go (Some c) = refl
 book_step behaviour book resting h (rested true) u = refl
 book_step behaviour book resting h (rested false) u = refl
-book_step behaviour book (owning m) h (stored First) u =
+book_step behaviour book (owning m) h (from_table (results.was First)) u =
     open_settled behaviour book ((enveloped_by behaviour book).ended m ((enveloped_by behaviour book).outcome m)) First (Some m.envelope)
-book_step behaviour book (owning m) h (stored Again) u = refl
-book_step behaviour book (doing (store t o ∷ js) b) h (stored a) u = open_settled behaviour book js (cond (is_due t js) a b) h
-book_step behaviour book (doing (publish e ∷ js) b) h sent u = open_settled behaviour book js b h
+book_step behaviour book (owning m) h (from_table (results.was Again)) u = refl
+book_step behaviour book (doing (store t o ∷ js) b) h (from_table (results.was a)) u = open_settled behaviour book js (cond (is_due t js) a b) h
+book_step behaviour book (doing (publish e ∷ js) b) h (from_queue None) u = open_settled behaviour book js b h
 book_step behaviour book (doing (publish e ∷ js) b) h refused u = refl
-book_step behaviour book (doing (part g t c ∷ js) b) h (counted n) u = open_either (eqb (suc n) c.size) (reading g c []) acking h refl refl
-book_step behaviour book (reading g c fs) h (found t (Some o)) u =
+book_step behaviour book (doing (part g t c ∷ js) b) h (from_table (results.count n)) u =
+    open_either (eqb (suc n) c.size) (reads_next (enveloped_by behaviour book) g c []) acking h (open_next behaviour book g c [] h) refl
+book_step behaviour book (reading g c t fs) h (from_table (results.found (Some o))) u =
     open_either (eqb (length (fs ++ (t, o) ∷ [])) c.size)
-    (settled (enveloped_by behaviour book) ((enveloped_by behaviour book).completed c (fs ++ (t, o) ∷ [])) Again) (reading g c (fs ++ (t, o) ∷ [])) h
-    (open_settled behaviour book ((enveloped_by behaviour book).completed c (fs ++ (t, o) ∷ [])) Again h) refl
-book_step behaviour book (reading g c fs) h (found t None) u = refl
+    (settled (enveloped_by behaviour book) ((enveloped_by behaviour book).completed c (fs ++ (t, o) ∷ [])) Again)
+    (reads_next (enveloped_by behaviour book) g c (fs ++ (t, o) ∷ [])) h
+    (open_settled behaviour book ((enveloped_by behaviour book).completed c (fs ++ (t, o) ∷ [])) Again h) (open_next behaviour book g c (fs ++ (t, o) ∷ []) h)
+book_step behaviour book (reading g c t fs) h (from_table (results.found None)) u = refl
 book_step behaviour book acking h acked u = refl
 book_step behaviour book s h r u = elim u [ ]
 
@@ -173,16 +181,16 @@ book_step behaviour book s h r u = elim u [ ]
 pub task_step : (behaviour : Behaviour) (book : Book) (s : Left) (h : Option Envelope) (x : Option ℕ) (r : Answer) → Suits (asked s) r
     → (is_inside s ≡ true → x ≡ task_in book (open_of s h))
     → is_inside (answered (enveloped_by behaviour book) s r) ≡ true → task_next book s x r ≡ task_in book (held_by (open_of s h) (asked s) r)
-task_step behaviour book taking h x (taken None) u was i = absurd (false≢true i)
-task_step behaviour book taking h x (taken (Some e)) u was i = refl
+task_step behaviour book taking h x (from_queue None) u was i = absurd (false≢true i)
+task_step behaviour book taking h x (from_queue (Some e)) u was i = refl
 task_step behaviour book resting h x (rested true) u was i = absurd (false≢true i)
 task_step behaviour book resting h x (rested false) u was i = absurd (false≢true i)
-task_step behaviour book (owning m) h x (stored b) u was i = was refl
-task_step behaviour book (doing (store t o ∷ js) b) h x (stored a) u was i = was refl
-task_step behaviour book (doing (publish e ∷ js) b) h x sent u was i = was refl
+task_step behaviour book (owning m) h x (from_table (results.was b)) u was i = was refl
+task_step behaviour book (doing (store t o ∷ js) b) h x (from_table (results.was a)) u was i = was refl
+task_step behaviour book (doing (publish e ∷ js) b) h x (from_queue None) u was i = was refl
 task_step behaviour book (doing (publish e ∷ js) b) h x refused u was i = was refl
-task_step behaviour book (doing (part g t c ∷ js) b) h x (counted n) u was i = was refl
-task_step behaviour book (reading g c fs) h x (found t o) u was i = was refl
+task_step behaviour book (doing (part g t c ∷ js) b) h x (from_table (results.count n)) u was i = was refl
+task_step behaviour book (reading g c t fs) h x (from_table (results.found o)) u was i = was refl
 task_step behaviour book acking h x acked u was i = absurd (false≢true i)
 task_step behaviour book s h x r u was i = elim u [ ]
 

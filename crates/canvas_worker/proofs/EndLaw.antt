@@ -1,29 +1,40 @@
 -- What ends a core, and that it stays at its end.
-use Rattle.std.proofs.Common.{◌≡◌, ◌∙◌, ℕ, Bool, true, false, cond, List, [], ◌∷◌, ◌++◌, Option, Some, None, refl, sym, ap, subst, true≢false}
-use Rattle.std.specs.Prelude.{if◌then◌else◌, eqb, length, map}
+use Rattle.std.proofs.Common.{◌≡◌, ◌∙◌, ◌⊎◌, ◌<◌, ◌+◌, ℕ, suc, Bool, true, false, cond, List, [], ◌∷◌, ◌++◌, length-append, Option, Some, None, inl, inr, refl, sym, ap, subst, true≢false, arith}
+use Rattle.std.specs.Prelude.{if◌then◌else◌, eqb, length, map, IsSome}
+use Rattle.std.proofs.lemmas.Bool.{eqb-true, eqb-false}
 use Rattle.canvas_task.specs.Apply.{Behaviour}
 use Rattle.canvas_task.specs.declared.outcome.Outcome.{Outcome}
 use Rattle.canvas_rewrite.specs.FrozenView.{PCarried}
-use Rattle.canvas_effects.specs.Effects.{body_after, script}
+use Rattle.canvas_message.specs.Content.{Content, number_of}
+use Rattle.canvas_effects.specs.Effects.{after, body_after, script}
 use Rattle.canvas_effects.specs.Job.{store, publish, part}
 use Rattle.canvas_message.specs.declared.envelope.Envelope.{Envelope}
 use Rattle.canvas_backend.specs.declared.stored.Stored.{Stored}
 use Rattle.canvas_backend.specs.declared.stored.Stored.TheVariants.{First, Again}
-use Rattle.canvas_runs.specs.Book.{Book}
+use Rattle.canvas_backend.specs.Backend as results
+use Rattle.canvas_broker.specs.Broker as broker
+use Rattle.canvas_runs.specs.Book.{Book, has_size, line_known, message_known}
+use Rattle.canvas_runs.specs.Protocol.{Protocol}
 use Rattle.canvas_runs.specs.Worker.{opened}
 use Rattle.canvas_runs.specs.Core as C
-use Rattle.canvas_runs.specs.Core.{taking, resting, over, failed, owning, doing, reading, taken, sent, refused, stored, counted, found, rested, answered, left_after, settled, opens, Suits, IsCoreRun, acking, acked}
+use Rattle.canvas_runs.specs.Core.{taking, resting, over, failed, owning, doing, reading, from_queue, refused, from_table, rested, answered, left_after, settled, opens, Suits, IsCoreRun, acking, acked}
 use Rattle.canvas_worker.specs.Asks.{Asked, Answer, suits, shown}
 use Rattle.canvas_worker.specs.Asks as asks
 use Rattle.canvas_worker.specs.AtEnd.{EndStays, FailingEnds, EndsACore, EndsBehind, FailsBehind}
-use Rattle.canvas_worker.proofs.CorePasts.{left_one_more}
+use Rattle.canvas_worker.specs.Books.{HasMembers, IsFromOne}
 use Rattle.canvas_worker.specs.EnvelopeWorker as enveloping
 use Rattle.canvas_worker.specs.EnvelopeWorker.{Applied, enveloped_by}
 use Rattle.canvas_worker.specs.CorePast.{left_by}
 use Rattle.canvas_worker.specs.CoreState.{Left, asked, unsent}
+use Rattle.canvas_worker.specs.SeatRights.{Carries, InBook}
 use Rattle.canvas_worker.specs.declared.ask.Reply.{Reply}
 use Rattle.canvas_worker.specs.declared.ask.Ask.TheVariants.{End}
 use Rattle.canvas_worker.specs.declared.ask.Reply.TheVariants as R
+use Rattle.canvas_worker.proofs.CorePasts.{left_one_more}
+use Rattle.canvas_worker.proofs.KnownJobs.{StoredIn, Behind as BehindTask, ended_jobs, body_jobs, ended_known, body_known}
+use Rattle.canvas_worker.proofs.KnownScripts.{script_known}
+use Rattle.canvas_worker.proofs.Opening.{opened_as}
+use Rattle.canvas_worker.proofs.Sendable.{said_of}
 
 abbrev is_end : Asked → Bool
 is_end C.end = true
@@ -37,7 +48,7 @@ none_suits R.Published = refl
 none_suits (R.NotPublished e) = refl
 none_suits (R.Stored s) = refl
 none_suits (R.Counted n) = refl
-none_suits (R.Found t x) = refl
+none_suits (R.Found x) = refl
 none_suits (R.Rested more) = refl
 none_suits R.Acked = refl
 
@@ -57,89 +68,159 @@ end_stays s h =
 pub failing_ends : FailingEnds
 failing_ends s = refl
 
--- ---- what ends
+-- ---- what a core has left names only what its book knows
+
+abbrev Sound : Book → Left → Type 0
+Sound book (owning m) = opened book m.envelope ≡ Some (enveloping.said m.envelope)
+Sound book (doing js b) = InBook book js
+Sound book (reading g c t fs) = Carries book g c × (length fs < c.size)
+Sound book s = Unit {0}
 
 -- the state isn't at its end
 abbrev GoesOn : Left → Type 0
 GoesOn s = is_end (asked s) ≡ false
 
-settled_on : (behaviour : Behaviour) (book : Book) (js : C.Jobs (enveloped_by behaviour book)) (b : Stored)
-    → GoesOn (settled (enveloped_by behaviour book) js b)
-settled_on behaviour book [] b = refl
-settled_on behaviour book (store t o ∷ js) First = refl
-settled_on behaviour book (store t o ∷ js) Again = refl
-settled_on behaviour book (publish e ∷ js) First = refl
-settled_on behaviour book (publish e ∷ js) Again = refl
-settled_on behaviour book (part g t c ∷ js) First = refl
-settled_on behaviour book (part g t c ∷ js) Again = refl
-
-opens_on : (behaviour : Behaviour) (book : Book) (x : Option Applied) → GoesOn (opens (enveloped_by behaviour book) x)
-opens_on behaviour book None = refl
-opens_on behaviour book (Some e) = refl
-
-either_on : (b : Bool) (s t : Left) → GoesOn s → GoesOn t → GoesOn (cond b s t)
-either_on true s t hs ht = hs
-either_on false s t hs ht = ht
-
 no_end : {A : Type 0} (s : Left) → GoesOn s → is_end (asked s) ≡ true → A
 no_end s on h = absurd (true≢false (sym h ∙ on))
-
-all_read_on : {A : Type 0} (behaviour : Behaviour) (book : Book) (g : ℕ) (c : PCarried) (fs : List (ℕ × Outcome))
-    → is_end (asked (C.all_read (enveloped_by behaviour book) g c fs)) ≡ true → A
-all_read_on behaviour book g c fs h =
-    no_end (C.all_read (enveloped_by behaviour book) g c fs)
-    (either_on (eqb (length fs) c.size) (settled (enveloped_by behaviour book) (map enveloping.enclosed (script (body_after c fs))) Again) (reading g c fs)
-    (settled_on behaviour book (map enveloping.enclosed (script (body_after c fs))) Again) refl)
-    h
-
-ends_by : (behaviour : Behaviour) (book : Book) (s : Left) (r : Answer) → GoesOn s → Suits (asked s) r
-    → is_end (asked (answered (enveloped_by behaviour book) s r)) ≡ true → EndsACore (asked s) r
-ends_by behaviour book taking (taken None) on suit h = no_end resting refl h
-ends_by behaviour book taking (taken (Some e)) on suit h = no_end _ (opens_on behaviour book (enveloping.applied_if behaviour (opened book e) e)) h
-ends_by behaviour book resting (rested true) on suit h = no_end taking refl h
-ends_by behaviour book resting (rested false) on suit h = tt
-ends_by behaviour book over r on suit h = absurd (true≢false on)
-ends_by behaviour book failed r on suit h = absurd (true≢false on)
-ends_by behaviour book (owning e) (stored First) on suit h = no_end _ (settled_on behaviour book _ First) h
-ends_by behaviour book (owning e) (stored Again) on suit h = no_end acking refl h
-ends_by behaviour book (doing [] b) r on suit h = absurd (true≢false on)
-ends_by behaviour book (doing (store t o ∷ js) b) (stored a) on suit h = no_end _ (settled_on behaviour book js _) h
-ends_by behaviour book (doing (publish e ∷ js) b) sent on suit h = no_end _ (settled_on behaviour book js b) h
-ends_by behaviour book (doing (publish e ∷ js) b) refused on suit h = tt
-ends_by behaviour book (doing (part g t c ∷ js) b) (counted n) on suit h = no_end _ (either_on _ (reading g c []) acking refl refl) h
-ends_by behaviour book (reading g c fs) (found t (Some o)) on suit h = all_read_on behaviour book g c (fs ++ (t, o) ∷ []) h
-ends_by behaviour book (reading g c fs) (found t None) on suit h = no_end acking refl h
-ends_by behaviour book acking acked on suit h = no_end taking refl h
-ends_by behaviour book s r on suit h = absurd suit
-
--- nothing is answered at the end
-none_after : (behaviour : Behaviour) (book : Book) (s : Left) (xs : List (Asked × Answer)) → is_end (asked s) ≡ true
-    → IsCoreRun (enveloped_by behaviour book) s xs → xs ≡ []
-none_after behaviour book s [] h run = refl
-none_after behaviour book s (x ∷ xs) h run = absurd (unsuited book x.0 x.1 (ap is_end run.0 ∙ h) run.1.0)
-  where
-    unsuited : (book : Book) (a : Asked) (r : Answer) → is_end a ≡ true → Suits a r → ⊥
-    unsuited book C.end r is suit = suit
-    unsuited book a r is suit = true≢false (sym is)
 
 abbrev Behind : List (Asked × Answer) → Type 0
 Behind xs = (ys : List (Asked × Answer)) × (x : Asked × Answer) × (xs ≡ ys ++ x ∷ []) × EndsACore x.0 x.1
 
--- behind this step, or behind one of those after it
-next : (behaviour : Behaviour) (book : Book) (s : Left) (x : Asked × Answer) (xs : List (Asked × Answer)) (b : Bool)
-    → is_end (asked (answered (enveloped_by behaviour book) s x.1)) ≡ b
-    → GoesOn s → IsCoreRun (enveloped_by behaviour book) s (x ∷ xs) → (GoesOn (answered (enveloped_by behaviour book) s x.1) → Behind xs) → Behind (x ∷ xs)
-next behaviour book s x xs true is on run later =
-    let last : EndsACore x.0 x.1 = subst (λ a. EndsACore a x.1) (sym run.0) (ends_by behaviour book s x.1 on (subst (λ a. Suits a x.1) run.0 run.1.0) is) in
-    ([], x, ap (λ zs. x ∷ zs) (none_after behaviour book (answered (enveloped_by behaviour book) s x.1) xs is run.2), last)
-next behaviour book s x xs false is on run later = let rest = later is in (x ∷ rest.0, rest.1, ap (λ zs. x ∷ zs) rest.2, rest.3)
+module _ (behaviour : Behaviour) (book : Book) where
+  abbrev X : Protocol Envelope
+  X = enveloped_by behaviour book
 
-ends_behind_from : (behaviour : Behaviour) (book : Book) (s : Left) (xs : List (Asked × Answer)) → GoesOn s → IsCoreRun (enveloped_by behaviour book) s xs
-    → is_end (asked (left_after (enveloped_by behaviour book) s xs)) ≡ true → Behind xs
-ends_behind_from behaviour book s [] on run h = no_end s on h
-ends_behind_from behaviour book s (x ∷ xs) on run h =
-    next behaviour book s x xs (is_end (asked (answered (enveloped_by behaviour book) s x.1))) refl on run
-    (λ on'. ends_behind_from behaviour book (answered (enveloped_by behaviour book) s x.1) xs on' run.2 h)
+  settled_sound : (js : C.Jobs X) (b : Stored) → InBook book js → Sound book (settled X js b)
+  settled_sound [] b h = tt
+  settled_sound (store t o ∷ js) First h = h
+  settled_sound (store t o ∷ js) Again h = h
+  settled_sound (publish e ∷ js) First h = h
+  settled_sound (publish e ∷ js) Again h = h
+  settled_sound (part g t c ∷ js) First h = h
+  settled_sound (part g t c ∷ js) Again h = tt
+
+  opens_sound : (e : Envelope) (o : Option Content) → opened book e ≡ o → Sound book (opens X (enveloping.applied_if behaviour o e))
+  opens_sound e None is = tt
+  opens_sound e (Some c) is = is ∙ ap Some (sym (said_of e c (opened_as book e c is).0))
+
+  next_sound : (g : ℕ) (c : PCarried) (fs : List (ℕ × Outcome)) → Carries book g c → length fs < c.size → Sound book (C.reads_next X g c fs)
+  next_sound g c fs h low = go (book.member g (length fs))
+    where
+      go : (o : Option ℕ) → Sound book (C.reading_of X g c fs o)
+      go None = tt
+      go (Some t) = (h, low)
+
+  -- ---- what ends
+
+  settled_on : (js : C.Jobs X) (b : Stored) → GoesOn (settled X js b)
+  settled_on [] b = refl
+  settled_on (store t o ∷ js) First = refl
+  settled_on (store t o ∷ js) Again = refl
+  settled_on (publish e ∷ js) First = refl
+  settled_on (publish e ∷ js) Again = refl
+  settled_on (part g t c ∷ js) First = refl
+  settled_on (part g t c ∷ js) Again = refl
+
+  opens_on : (x : Option Applied) → GoesOn (opens X x)
+  opens_on None = refl
+  opens_on (Some e) = refl
+
+  -- what ends a core leaves it at its end
+  ended_by : (s : Left) (r : Answer) → EndsACore (asked s) r → is_end (asked (answered X s r)) ≡ true
+  ended_by resting (rested false) h = refl
+  ended_by (doing (publish e ∷ js) b) refused h = refl
+  ended_by s r h = absurd h
+
+  module _ (members : HasMembers book) (from_one : IsFromOne book) where
+    sized : (o : Option ℕ) (n : ℕ) → has_size n o ≡ true → o ≡ Some n
+    sized None n h = absurd (true≢false (sym h))
+    sized (Some m) n h = ap Some (eqb-true m n h)
+
+    -- a chord that has the size which its message says has the next member
+    next_on : (g : ℕ) (c : PCarried) (fs : List (ℕ × Outcome)) → Carries book g c → length fs < c.size → GoesOn (C.reads_next X g c fs)
+    next_on g c fs h low = go (book.member g (length fs)) (members g c.size (length fs) (sized (book.size g) c.size h.0) low)
+      where
+        go : (o : Option ℕ) → IsSome o → GoesOn (C.reading_of X g c fs o)
+        go None there = absurd (true≢false (sym there))
+        go (Some t) there = refl
+
+    -- the state is sound, and not at its end
+    abbrev Well : Left → Type 0
+    Well s = Sound book s × GoesOn s
+
+    well_settled : (js : C.Jobs X) (b : Stored) → InBook book js → Well (settled X js b)
+    well_settled js b h = (settled_sound js b h, settled_on js b)
+
+    ended_in : (c : Content) (o : Outcome) → message_known book c ≡ true → InBook book (map enveloping.enclosed (script (after c o)))
+    ended_in c o h = script_known book (BehindTask (number_of c.own) (ended_jobs c o)) (ended_jobs c o) (ended_known book from_one c o h)
+
+    body_in : (c : PCarried) (es : List (ℕ × Outcome)) → line_known book c.body ≡ true → InBook book (map enveloping.enclosed (script (body_after c es)))
+    body_in c es h = script_known book (StoredIn (body_jobs c es)) (body_jobs c es) (body_known book from_one c es h)
+
+    well_next : (g : ℕ) (c : PCarried) (fs : List (ℕ × Outcome)) → Carries book g c → length fs < c.size → Well (C.reads_next X g c fs)
+    well_next g c fs h low = (next_sound g c fs h low, next_on g c fs h low)
+
+    well_counted : (g : ℕ) (c : PCarried) (n : ℕ) (z : Bool) → Carries book g c → eqb (suc n) c.size ≡ z → Well (cond z (C.reads_next X g c []) acking)
+    well_counted g c n true h e = well_next g c [] h (let full : suc n ≡ c.size = eqb-true (suc n) c.size e in omega (arith, full))
+    well_counted g c n false h e = (tt, refl)
+
+    well_read : (g : ℕ) (c : PCarried) (fs : List (ℕ × Outcome)) (t : ℕ) (o : Outcome) (z : Bool) → Carries book g c → length fs < c.size
+        → eqb (length (fs ++ (t, o) ∷ [])) c.size ≡ z
+        → Well (cond z (settled X (X.completed c (fs ++ (t, o) ∷ [])) Again) (C.reads_next X g c (fs ++ (t, o) ∷ [])))
+    well_read g c fs t o true h low e = well_settled (X.completed c (fs ++ (t, o) ∷ [])) Again (body_in c (fs ++ (t, o) ∷ []) h.1)
+    well_read g c fs t o false h low e =
+        well_next g c (fs ++ (t, o) ∷ []) h
+        (let more : length (fs ++ (t, o) ∷ []) ≡ length fs + 1 = length-append fs ((t, o) ∷ []) in
+        let apart = eqb-false (length (fs ++ (t, o) ∷ [])) c.size e in omega (arith, more, apart, low))
+
+    -- an ask and an answer that end a core, or they leave one that goes on
+    abbrev EndsOr : Left → Answer → Type 0
+    EndsOr s r = EndsACore (asked s) r ⊎ Well (answered X s r)
+
+    step : (s : Left) (r : Answer) → Well s → Suits (asked s) r → EndsOr s r
+    step taking (from_queue None) w suit = inr (tt, refl)
+    step taking (from_queue (Some e)) w suit = inr (opens_sound e (opened book e) refl, opens_on (enveloping.applied_if behaviour (opened book e) e))
+    step resting (rested true) w suit = inr (tt, refl)
+    step resting (rested false) w suit = inl tt
+    step over r w suit = absurd (true≢false w.1)
+    step failed r w suit = absurd (true≢false w.1)
+    step (owning m) (from_table (results.was First)) w suit =
+        inr (well_settled (X.ended m (X.outcome m)) First
+        (ended_in (enveloping.said m.envelope) m.outcome (opened_as book m.envelope (enveloping.said m.envelope) w.0).1))
+    step (owning m) (from_table (results.was Again)) w suit = inr (tt, refl)
+    step (doing [] b) r w suit = absurd (true≢false w.1)
+    step (doing (store t o ∷ js) b) (from_table (results.was a)) w suit = inr (well_settled js (cond (C.is_due t js) a b) w.0.1)
+    step (doing (publish e ∷ js) b) (from_queue None) w suit = inr (well_settled js b w.0)
+    step (doing (publish e ∷ js) b) refused w suit = inl tt
+    step (doing (part g t c ∷ js) b) (from_table (results.count n)) w suit = inr (well_counted g c n (eqb (suc n) c.size) w.0.1 refl)
+    step (reading g c t fs) (from_table (results.found (Some o))) w suit =
+        inr (well_read g c fs t o (eqb (length (fs ++ (t, o) ∷ [])) c.size) w.0.0 w.0.1 refl)
+    step (reading g c t fs) (from_table (results.found None)) w suit = inr (tt, refl)
+    step acking acked w suit = inr (tt, refl)
+    step s r w suit = absurd suit
+
+    -- nothing is answered at the end
+    none_after : (s : Left) (xs : List (Asked × Answer)) → is_end (asked s) ≡ true → IsCoreRun X s xs → xs ≡ []
+    none_after s [] h run = refl
+    none_after s (x ∷ xs) h run = absurd (unsuited x.0 x.1 (ap is_end run.0 ∙ h) run.1.0)
+      where
+        unsuited : (a : Asked) (r : Answer) → is_end a ≡ true → Suits a r → ⊥
+        unsuited C.end r is suit = suit
+        unsuited a r is suit = true≢false (sym is)
+
+    -- behind this step, or behind one of those after it
+    next : (s : Left) (x : Asked × Answer) (xs : List (Asked × Answer)) (b : Bool) → is_end (asked (answered X s x.1)) ≡ b → EndsOr s x.1
+        → IsCoreRun X s (x ∷ xs) → (Well (answered X s x.1) → Behind xs) → Behind (x ∷ xs)
+    next s x xs b is (inr w) run later = let rest = later w in (x ∷ rest.0, rest.1, ap (λ zs. x ∷ zs) rest.2, rest.3)
+    next s x xs true is (inl ends) run later =
+        ([], x, ap (λ zs. x ∷ zs) (none_after (answered X s x.1) xs is run.2), subst (λ a. EndsACore a x.1) (sym run.0) ends)
+    next s x xs false is (inl ends) run later = absurd (true≢false (sym (ended_by s x.1 ends) ∙ is))
+
+    ends_behind_from : (s : Left) (xs : List (Asked × Answer)) → Well s → IsCoreRun X s xs → is_end (asked (left_after X s xs)) ≡ true → Behind xs
+    ends_behind_from s [] w run h = no_end s w.1 h
+    ends_behind_from s (x ∷ xs) w run h =
+        next s x xs (is_end (asked (answered X s x.1))) refl (step s x.1 w (subst (λ a. Suits a x.1) run.0 run.1.0)) run
+        (λ goes. ends_behind_from (answered X s x.1) xs goes run.2 h)
 
 -- what a core has left ends where what the asks and answers leave does
 unsent_end : (s : Left) → is_end (asked (unsent s)) ≡ is_end (asked s)
@@ -151,9 +232,9 @@ end_so s true = unsent_end s
 end_so s false = refl
 
 pub ends_behind : EndsBehind
-ends_behind behaviour book xs s leads h =
-    ends_behind_from behaviour book taking xs refl leads.run (sym (end_so (left_by behaviour book xs) s.is_out) ∙ ap (λ u. is_end (asked u)) (sym leads.left)
-    ∙ ap is_end h)
+ends_behind behaviour book members from_one xs s leads h =
+    ends_behind_from behaviour book members from_one taking xs (tt, refl) leads.run
+    (sym (end_so (left_by behaviour book xs) s.is_out) ∙ ap (λ u. is_end (asked u)) (sym leads.left) ∙ ap is_end h)
 
 -- ---- what fails
 
@@ -176,7 +257,7 @@ pausing (doing [] b) h = absurd (true≢false (sym (ap is_pause h)))
 pausing (doing (store t o ∷ js) b) h = absurd (true≢false (sym (ap is_pause h)))
 pausing (doing (publish e ∷ js) b) h = absurd (true≢false (sym (ap is_pause h)))
 pausing (doing (part g t c ∷ js) b) h = absurd (true≢false (sym (ap is_pause h)))
-pausing (reading g c fs) h = absurd (true≢false (sym (ap is_pause h)))
+pausing (reading g c t fs) h = absurd (true≢false (sym (ap is_pause h)))
 pausing acking h = absurd (true≢false (sym (ap is_pause h)))
 
 -- the last ask of a core run is what was asked then
@@ -204,15 +285,15 @@ over_then behaviour book ys run =
 
 which : (behaviour : Behaviour) (book : Book) (xs ys : List (Asked × Answer)) (a : Asked) (r : Answer) → IsCoreRun (enveloped_by behaviour book) taking xs
     → is_failed (left_by behaviour book xs) ≡ true → xs ≡ ys ++ (a, r) ∷ [] → EndsACore a r
-    → (zs : List (Asked × Answer)) × (e : Envelope) × (xs ≡ zs ++ (C.publish e, refused) ∷ [])
+    → (zs : List (Asked × Answer)) × (e : Envelope) × (xs ≡ zs ++ (C.to_queue (broker.publish e), refused) ∷ [])
 which behaviour book xs ys C.rest (rested false) run fails same by =
     absurd (true≢false (sym fails ∙ ap (λ zs. is_failed (left_by behaviour book zs)) same
     ∙ over_then behaviour book ys (subst (λ zs. IsCoreRun (enveloped_by behaviour book) taking zs) same run)))
-which behaviour book xs ys (C.publish e) refused run fails same by = (ys, e, same)
+which behaviour book xs ys (C.to_queue (broker.publish e)) refused run fails same by = (ys, e, same)
 which behaviour book xs ys a r run fails same by = absurd by
 
 pub fails_behind : FailsBehind
-fails_behind behaviour book xs s leads h =
-    let last = ends_behind behaviour book xs s leads (ap asked h) in
+fails_behind behaviour book members from_one xs s leads h =
+    let last = ends_behind behaviour book members from_one xs s leads (ap asked h) in
     which behaviour book xs last.0 last.1.0 last.1.1 leads.run (sym (failed_so (left_by behaviour book xs) s.is_out) ∙ ap is_failed (sym leads.left)
     ∙ ap is_failed h) last.2 last.3

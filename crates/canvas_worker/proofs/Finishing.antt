@@ -1,5 +1,5 @@
 -- What a new worker's record says in words of the worker that the law of runs speaks of.
-use Rattle.std.proofs.Common.{◌≡◌, ◌∙◌, List, [], ◌∷◌, refl, sym, subst, arith}
+use Rattle.std.proofs.Common.{◌≡◌, ◌∙◌, List, [], refl, sym, subst, arith}
 use Rattle.std.proofs.lemmas.Bool.{false≢true}
 use Rattle.canvas_task.specs.Apply.{Behaviour}
 use Rattle.canvas_semantics.specs.Line.{Line}
@@ -7,15 +7,14 @@ use Rattle.canvas_rewrite.specs.FrozenView.{PCarried}
 use Rattle.canvas_message.specs.Content.{Content}
 use Rattle.canvas_backend.specs.Roster.{Roster, roster_of}
 use Rattle.canvas_broker.specs.Passes.{Empties}
-use Rattle.canvas_runs.specs.Core.{CoreState, taking, resting, over, answered, left_after, IsCoreRun}
-use Rattle.canvas_runs.specs.Following.{Pass, Seat, Working, Followed, begins, IsOver}
+use Rattle.canvas_runs.specs.Core.{CoreState, taking, resting, over, left_after}
+use Rattle.canvas_runs.specs.Following.{Pass, Seat, Working, Followed, starting, IsOver}
 use Rattle.canvas_runs.specs.Worker.{worker, worker_of}
 use Rattle.canvas_worker.specs.Asks.{Asked, Answer}
 use Rattle.canvas_worker.specs.Cores.{IsAlike, GoTogether}
 use Rattle.canvas_worker.specs.EnvelopeWorker.{enveloped}
 use Rattle.canvas_worker.specs.Finished.{WorkersStart, WorkersFinish}
-use Rattle.canvas_worker.specs.Progress.{Progress, Worked, starting}
-use Rattle.canvas_worker.specs.CoreState.{Left}
+use Rattle.canvas_worker.specs.CoreState.{Left, Progress, HasFollowed}
 use Rattle.canvas_worker.proofs.CoreLaw.{cores_are_workers}
 
 -- over together
@@ -23,20 +22,9 @@ over_alike : (behaviour : Behaviour) (t : CoreState Content PCarried) → IsAlik
 over_alike behaviour over a = refl
 over_alike behaviour t a = absurd a
 
--- a worker needs no first messages
 module _ (behaviour : Behaviour) (l : Line) where
-  run_same : (s : CoreState Content PCarried) (xs : List (Asked × Answer)) → IsCoreRun (worker behaviour l) s xs
-      → IsCoreRun (worker_of behaviour (roster_of l)) s xs
-  run_same s [] r = tt
-  run_same s (x ∷ xs) r = (r.0, r.1, run_same (answered (worker_of behaviour (roster_of l)) s x.1) xs r.2)
-
-  left_same : (s : CoreState Content PCarried) (xs : List (Asked × Answer))
-      → left_after (worker behaviour l) s xs ≡ left_after (worker_of behaviour (roster_of l)) s xs
-  left_same s [] = refl
-  left_same s (x ∷ xs) = left_same (answered (worker_of behaviour (roster_of l)) s x.1) xs
-
   -- the same point of the same worker
-  abbrev carried : Progress → List (Asked × Answer) → Working
+  abbrev carried : Progress → List (Asked × Answer) → Working Content PCarried
   carried p xs = record {
     pass = p.pass;
     seat = p.seat;
@@ -47,12 +35,11 @@ module _ (behaviour : Behaviour) (l : Line) where
     tally = p.tally;
   }
 
-  followed : (pass : Pass) (seat : Seat) (p : Progress) (w : Worked behaviour (roster_of l) (starting pass seat) p)
-      → Followed behaviour (roster_of l) (begins pass seat) (carried p w.run)
+  followed : (pass : Pass) (seat : Seat) (p : Progress) (w : HasFollowed behaviour (roster_of l) (starting pass seat) p)
+      → Followed (worker_of behaviour (roster_of l)) (roster_of l) (starting pass seat) (carried p w.run)
   followed pass seat p w = record {
     run = w.run;
-    is_core = run_same taking w.run (cores_are_workers behaviour l w.run w.is_core).0;
-    reads = w.reads;
+    is_core = (cores_are_workers behaviour l w.run w.is_core).0;
     counts = w.counts;
     leaves = refl;
     made = w.made;
@@ -62,13 +49,12 @@ module _ (behaviour : Behaviour) (l : Line) where
     serves = w.serves;
   }
 
-  closed : (pass : Pass) (seat : Seat) (p : Progress) (w : Worked behaviour (roster_of l) (starting pass seat) p)
+  closed : (pass : Pass) (seat : Seat) (p : Progress) (w : HasFollowed behaviour (roster_of l) (starting pass seat) p)
       → (p.left ≡ over) × (p.held ≡ []) × Empties p.pass → IsOver (carried p w.run)
   closed pass seat p w whole =
       let together : GoTogether behaviour l (left_after (enveloped behaviour (roster_of l)) taking w.run) (left_after (worker behaviour l) taking w.run) =
       (cores_are_workers behaviour l w.run w.is_core).1 in (
-        sym (left_same taking w.run)
-            ∙ over_alike behaviour (left_after (worker behaviour l) taking w.run)
+        over_alike behaviour (left_after (worker behaviour l) taking w.run)
             (subst (λ s. IsAlike behaviour s (left_after (worker behaviour l) taking w.run)) (w.leaves ∙ whole.0) together.alike),
         whole.1,
       )
@@ -91,8 +77,8 @@ workers_start l plan broker desk number pass seat is of home = record {
 
 pub workers_finish : WorkersFinish
 workers_finish behaviour l plan broker desk number pass seat is r f =
-    let worked : Worked behaviour (roster_of l) (starting pass seat) f.ended =
-    subst (λ (p : Roster). Worked behaviour p (starting pass seat) f.ended) is f.worked in
+    let worked : HasFollowed behaviour (roster_of l) (starting pass seat) f.ended =
+    subst (λ (p : Roster). HasFollowed behaviour p (starting pass seat) f.ended) is f.worked in
     record {
       same_number = f.is_of.same_number;
       ended = carried behaviour l f.ended worked.run;

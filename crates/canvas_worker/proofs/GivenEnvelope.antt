@@ -1,10 +1,11 @@
 -- An ask of a core that is answered with an envelope.
-use Rattle.std.proofs.Common.{◌≡◌, ◌∙◌, ℕ, ◌+◌, min, false, List, [], ◌∷◌, ◌++◌, Some, Result, Ok, Err, refl, sym, ap, subst, arith}
+use Rattle.std.proofs.Common.{◌≡◌, ◌∙◌, ℕ, ◌+◌, min, false, List, [], ◌∷◌, ◌++◌, Some, Result, Ok, Err, refl, sym, ap, subst}
 use Rattle.std.specs.Prelude.{MatchResult, IsSome}
 use Rattle.canvas_task.specs.Apply.{Behaviour}
 use Rattle.canvas_message.specs.declared.envelope.Envelope.{Envelope}
 use Rattle.canvas_backend.specs.Seats.{Desk}
 use Rattle.canvas_backend.specs.Roster.{Roster}
+use Rattle.canvas_broker.specs.Broker as broker
 use Rattle.canvas_broker.specs.Passes.{Took}
 use Rattle.canvas_runs.specs.Book.{book_on}
 use Rattle.canvas_runs.specs.Calls.{backend_call, held_by}
@@ -12,22 +13,22 @@ use Rattle.canvas_runs.specs.Core as C
 use Rattle.canvas_runs.specs.Core.{answered, Suits, ReadsBack}
 use Rattle.canvas_runs.specs.Following.{Seat, Serves}
 use Rattle.canvas_runs.specs.Lists.{Each}
-use Rattle.canvas_runs.specs.Tally.{Tally, Counted, CountsMore, is_dropped, greatest_count}
+use Rattle.canvas_runs.specs.Tally.{Tally, Counted, dropping, greatest_count}
 use Rattle.canvas_worker.specs.Books.{book_in}
 use Rattle.canvas_worker.specs.EnvelopeWorker.{enveloped}
-use Rattle.canvas_worker.specs.Progress.{Progress}
 use Rattle.canvas_worker.specs.SeatRights.{Can}
-use Rattle.canvas_worker.specs.CoreState.{Standing, asked, drops, after_reply, held, kept_next, task_next}
+use Rattle.canvas_worker.specs.CoreState.{Standing, Progress, asked, drops, after_reply, held, kept_next, task_next}
 use Rattle.canvas_worker.specs.WorkerSteps.{Batched, FromHeld}
 use Rattle.canvas_worker.specs.Polls.{Work, progress, with_core, with_answer, lost, one_taken, CanDeliver, in_hand, Ready, takes_batch, gives_held, Acts, Acted, Leaves, EndsBy, ActedLast}
 use Rattle.canvas_worker.specs.declared.cause.Cause.TheVariants.{Memory}
 use Rattle.canvas_worker.specs.declared.record.Record.{Record}
 use Rattle.canvas_worker.specs.declared.working.End.{End}
 use Rattle.canvas_worker.proofs.Asking.{same_book, may_go_on}
-use Rattle.canvas_worker.proofs.ShownAsks.{drops_so, takes_taking, held_step}
+use Rattle.canvas_worker.proofs.CorePasts.{book_step}
+use Rattle.canvas_worker.proofs.ShownAsks.{drops_so, takes_taking}
 use Rattle.canvas_worker.proofs.InHand.{batch_can, but_open}
 use Rattle.canvas_worker.proofs.Resting.{given_never}
-use Rattle.canvas_worker.proofs.Turns.{unchanged, one_more, tallied, some_none}
+use Rattle.canvas_worker.proofs.Turns.{of_queue, unchanged, one_more, tallied, some_none}
 
 -- ---- an envelope given to the core
 
@@ -38,7 +39,7 @@ same_tallies e f g h i = cc
 
 -- Where from w on es were taken, and e is the first of all that is held then; u is the worker before its core is given it.
 pub record Takes (w u : Work) (es : List Envelope) (e : Envelope) : Type 0 where
-  pub asked_is : asked w.core.left ≡ C.take
+  pub asked_is : asked w.core.left ≡ C.to_queue broker.take
   pub broker : u.broker ≡ w.broker
   pub desk : u.desk ≡ w.desk
   pub number : u.number ≡ w.number
@@ -65,45 +66,42 @@ module _ (behaviour : Behaviour) (w u : Work) (es : List Envelope) (e : Envelope
 
   abbrev core : Standing
   core = record {
-    left = answered (enveloped behaviour plan) w.core.left (C.taken (Some e));
+    left = answered (enveloped behaviour plan) w.core.left (C.from_queue (Some e));
     is_out = false;
     dropped = min greatest_count
-        (w.core.dropped + is_dropped plan C.take (C.taken (Some e)));
-    kept = kept_next (book_on plan) w.core.left w.core.kept (C.taken (Some e));
+        (w.core.dropped + of_queue (dropping plan) (C.to_queue broker.take) (C.from_queue (Some e)));
+    kept = kept_next (book_on plan) w.core.left w.core.kept (C.from_queue (Some e));
     task =
-        task_next (book_on plan) w.core.left w.core.task (C.taken (Some e));
+        task_next (book_on plan) w.core.left w.core.task (C.from_queue (Some e));
   }
 
-  core_is : after_reply behaviour (book_in u.desk.plan) u.core (C.taken (Some e)) ≡ core
+  core_is : after_reply behaviour (book_in u.desk.plan) u.core (C.from_queue (Some e)) ≡ core
   core_is =
-      let so : drops (book_on plan) w.core.left (C.taken (Some e)) ≡ is_dropped plan C.take (C.taken (Some e)) = drops_so plan w.core.left (C.taken (Some e))
-      ∙ ap (λ b. is_dropped plan b (C.taken (Some e))) x.asked_is in
-      ap (λ (d : Desk). after_reply behaviour (book_in d.plan) u.core (C.taken (Some e))) x.desk
-      ∙ ap (λ c. after_reply behaviour (book_in plan) c (C.taken (Some e))) x.core
-      ∙ ap (λ b. after_reply behaviour b w.core (C.taken (Some e))) (same_book plan ready.plan)
+      let so : drops (book_on plan) w.core.left (C.from_queue (Some e)) ≡ of_queue (dropping plan) (C.to_queue broker.take) (C.from_queue (Some e)) =
+      drops_so plan w.core.left (C.from_queue (Some e)) ∙ ap (λ b. of_queue (dropping plan) b (C.from_queue (Some e))) x.asked_is in
+      ap (λ (d : Desk). after_reply behaviour (book_in d.plan) u.core (C.from_queue (Some e))) x.desk
+      ∙ ap (λ c. after_reply behaviour (book_in plan) c (C.from_queue (Some e))) x.core
+      ∙ ap (λ b. after_reply behaviour b w.core (C.from_queue (Some e))) (same_book plan ready.plan)
       ∙ ap (λ (n : ℕ). record {
-        left = answered (enveloped behaviour plan) w.core.left (C.taken (Some e));
+        left = answered (enveloped behaviour plan) w.core.left (C.from_queue (Some e));
         is_out = false;
         dropped = min greatest_count
             (w.core.dropped + n);
-        kept = kept_next (book_on plan) w.core.left w.core.kept (C.taken (Some e));
+        kept = kept_next (book_on plan) w.core.left w.core.kept (C.from_queue (Some e));
         task =
-            task_next (book_on plan) w.core.left w.core.task (C.taken (Some e));
+            task_next (book_on plan) w.core.left w.core.task (C.from_queue (Some e));
       }) so
 
   abbrev given : Work
   given = one_taken (with_core u core)
 
-  added : (n m k : ℕ) → m ≡ min greatest_count (n + k) → CountsMore n (k + 0) m
-  added n m k h = omega (arith, h)
-
-  counted : Counted plan ((C.take, C.taken (Some e)) ∷ []) (progress w).tally (progress given).tally
+  counted : Counted plan ((C.to_queue broker.take, C.from_queue (Some e)) ∷ []) (progress w).tally (progress given).tally
   counted = record {
     taken = one_more w.taken (min greatest_count (u.taken + 1)) (ap (λ n. min greatest_count (n + 1)) x.taken);
     published = unchanged w.published u.published ready.counts.1 x.published;
     first = unchanged w.first u.first ready.counts.2 x.first;
     parts = unchanged w.parts u.parts ready.counts.3 x.parts;
-    dropped = added w.core.dropped core.dropped (is_dropped plan C.take (C.taken (Some e))) refl;
+    dropped = refl;
   }
 
   back : ReadsBack (enveloped behaviour plan) w.core.left
@@ -111,11 +109,11 @@ module _ (behaviour : Behaviour) (w u : Work) (es : List Envelope) (e : Envelope
 
   current : held core ≡ Some e
   current =
-      held_step behaviour plan w.core.left w.core.kept (C.taken (Some e)) (subst (λ b. Suits b (C.taken (Some e))) (sym x.asked_is) tt)
-      ∙ ap (λ b. held_by (held w.core) b (C.taken (Some e))) x.asked_is
+      book_step behaviour (book_on plan) w.core.left w.core.kept (C.from_queue (Some e)) (subst (λ b. Suits b (C.from_queue (Some e))) (sym x.asked_is) tt)
+      ∙ ap (λ b. held_by (held w.core) b (C.from_queue (Some e))) x.asked_is
 
   from_held : FromHeld behaviour plan between (progress given) e
-  from_held = (record { asked = sym x.asked_is; suits = tt; back = back; member = tt; counts = counted; left = refl; current = current }, x.held, refl, x.seat)
+  from_held = (record { asked = sym x.asked_is; suits = tt; back = back; counts = counted; left = refl; current = current }, x.held, refl, x.seat)
 
   again : Each (CanDeliver u.pass) (in_hand (held core) u.held)
   again =
@@ -124,8 +122,9 @@ module _ (behaviour : Behaviour) (w u : Work) (es : List Envelope) (e : Envelope
 
   can : Can plan u.seat core.left
   can =
-      may_go_on behaviour plan ready.plan w.seat u.seat w.core.left (C.taken (Some e)) ready.can (subst (λ b. Suits b (C.taken (Some e))) (sym x.asked_is) tt)
-      (subst (λ b. Serves plan w.seat (backend_call b (C.taken (Some e))) u.seat) (sym x.asked_is) x.seat)
+      may_go_on behaviour plan ready.plan w.seat u.seat w.core.left (C.from_queue (Some e)) ready.can
+      (subst (λ b. Suits b (C.from_queue (Some e))) (sym x.asked_is) tt)
+      (subst (λ b. Serves plan w.seat (backend_call b (C.from_queue (Some e))) u.seat) (sym x.asked_is) x.seat)
 
   goes : Acted behaviour w given
   goes = record {
@@ -139,15 +138,15 @@ module _ (behaviour : Behaviour) (w u : Work) (es : List Envelope) (e : Envelope
       inside = refl;
       can = subst (λ (d : Desk). Can d.plan u.seat core.left) (sym x.desk) can;
       rested = λ rests. absurd (given_never behaviour plan e
-          (subst (λ s. answered (enveloped behaviour plan) s (C.taken (Some e)) ≡ C.resting) (takes_taking w.core.left x.asked_is) rests));
+          (subst (λ s. answered (enveloped behaviour plan) s (C.from_queue (Some e)) ≡ C.resting) (takes_taking w.core.left x.asked_is) rests));
       current = λ _. subst (λ h. IsSome h) (sym current) refl;
       again = again;
-      counts = tallied plan C.take (C.taken (Some e)) (progress w).tally (progress given).tally counted;
+      counts = tallied plan (C.to_queue broker.take) (C.from_queue (Some e)) (progress w).tally (progress given).tally counted;
     };
     moved = gives_held es e between batched from_held;
   }
 
-  told_is : (v : Work) → v ≡ one_taken (with_answer behaviour u (C.taken (Some e))) → Acted behaviour w v
+  told_is : (v : Work) → v ≡ one_taken (with_answer behaviour u (C.from_queue (Some e))) → Acted behaviour w v
   told_is v is = subst (λ z. Acted behaviour w z) (sym (is ∙ ap (λ c. one_taken (with_core u c)) core_is)) goes
 
   same_tally : (progress (lost u)).tally ≡ (progress w).tally
@@ -172,13 +171,13 @@ module _ (behaviour : Behaviour) (w u : Work) (es : List Envelope) (e : Envelope
   lost_is v is s leaves = fails s (subst (λ z. Leaves z (Some Memory) s) is leaves)
 
   well : {A : Type 0} (result : Result A End) (v : Work)
-      → MatchResult result (λ _. v ≡ one_taken (with_answer behaviour u (C.taken (Some e)))) (λ end. (v ≡ lost u) × (end.fault ≡ Some Memory))
+      → MatchResult result (λ _. v ≡ one_taken (with_answer behaviour u (C.from_queue (Some e)))) (λ end. (v ≡ lost u) × (end.fault ≡ Some Memory))
       → MatchResult result (λ _. Acted behaviour w v) (λ end. ActedLast behaviour w end.fault v)
   well (Ok _) v is = told_is v is
   well (Err end) v is = subst (λ f. ActedLast behaviour w f v) (sym is.1) (lost_is v is.0)
 
 pub given_well : {A : Type 0} (behaviour : Behaviour) (w u v : Work) (es : List Envelope) (e : Envelope) (result : Result A End)
-    → MatchResult result (λ _. v ≡ one_taken (with_answer behaviour u (C.taken (Some e)))) (λ end. (v ≡ lost u) × (end.fault ≡ Some Memory)) → Ready w
+    → MatchResult result (λ _. v ≡ one_taken (with_answer behaviour u (C.from_queue (Some e)))) (λ end. (v ≡ lost u) × (end.fault ≡ Some Memory)) → Ready w
     → Takes w u es e
     → MatchResult result (λ _. Acted behaviour w v) (λ end. ActedLast behaviour w end.fault v)
 given_well behaviour w u v es e result is ready x = well behaviour w u es e ready x result v is

@@ -6,6 +6,7 @@ use Rattle.canvas_task.specs.Apply.{Behaviour}
 use Rattle.canvas_history.specs.History.{calls}
 use Rattle.canvas_effects.specs.Job.{store, publish, part}
 use Rattle.canvas_message.specs.declared.envelope.Envelope.{Envelope}
+use Rattle.canvas_backend.specs.Backend as results
 use Rattle.canvas_backend.specs.Roster.{Roster}
 use Rattle.canvas_broker.specs.Broker as broker
 use Rattle.canvas_broker.specs.Broker.{QueueCall, HasTaken}
@@ -54,30 +55,34 @@ pub batch_can : (es xs : List Envelope) (p q : Pass) → Took p es q → Each (C
 batch_can es xs p q t c = makes_can es xs p q (took_makes p q es t) c
 
 -- an ask of the core is answered
-pub call_can : (a : Asked) (r : Answer) (h : Option Envelope) (es : List Envelope) (p q : Pass) → Makes p (broker_call a r) q
+pub call_can : (a : Asked) (r : Answer) (h : Option Envelope) (es : List Envelope) (p q : Pass) → C.Suits a r → Makes p (broker_call a r) q
     → Each (CanDeliver p) (in_hand h es) → Each (CanDeliver q) (in_hand (held_by h a r) es)
-call_can C.take (C.taken (Some e)) h es p q m c =
+call_can (C.to_queue broker.take) (C.from_queue (Some e)) h es p q suit m c =
     subst (λ z. Each (CanDeliver z) (e ∷ es)) (sym m.2) (taken_can p m.0 e m.1, all_still p m.0 broker.take (Some e) m.1 es (but_open p h es c))
-call_can (C.publish e) C.sent h es p q m c =
+call_can (C.to_queue (broker.publish e)) (C.from_queue None) h es p q suit m c =
     subst (λ z. Each (CanDeliver z) (in_hand h es)) (sym m.2) (all_still p m.0 (broker.publish e) None m.1 (in_hand h es) c)
-call_can C.ack C.acked h es p q m c = subst (λ z. Each (CanDeliver z) es) (sym m) (but_open p h es c)
-call_can a r h es p q m c = subst (λ z. Each (CanDeliver z) (in_hand h es)) (sym m) c
+call_can C.ack C.acked h es p q suit m c = subst (λ z. Each (CanDeliver z) es) (sym m) (but_open p h es c)
+call_can (C.to_table d) r h es p q suit m c = subst (λ z. Each (CanDeliver z) (in_hand h es)) (sym m) c
+call_can (C.to_queue broker.take) (C.from_queue None) h es p q suit m c = subst (λ z. Each (CanDeliver z) (in_hand h es)) (sym m) c
+call_can (C.to_queue (broker.publish e)) C.refused h es p q suit m c = subst (λ z. Each (CanDeliver z) (in_hand h es)) (sym m) c
+call_can C.rest r h es p q suit m c = subst (λ z. Each (CanDeliver z) (in_hand h es)) (sym m) c
+call_can a r h es p q suit m c = elim suit [ ]
 
 -- ---- an open script has an envelope
 
 module _ (behaviour : Behaviour) (plan : Roster) where
   pub has_open : (s : Left) (h : Option Envelope) (r : Answer) → C.Suits (asked s) r → (is_inside s ≡ true → IsSome (open_of s h))
       → is_inside (answered (enveloped behaviour plan) s r) ≡ true → IsSome (held_by (open_of s h) (asked s) r)
-  has_open C.taking h (C.taken None) u has i = absurd (false≢true i)
-  has_open C.taking h (C.taken (Some e)) u has i = refl
+  has_open C.taking h (C.from_queue None) u has i = absurd (false≢true i)
+  has_open C.taking h (C.from_queue (Some e)) u has i = refl
   has_open C.resting h (C.rested true) u has i = absurd (false≢true i)
   has_open C.resting h (C.rested false) u has i = absurd (false≢true i)
-  has_open (C.owning m) h (C.stored b) u has i = refl
-  has_open (C.doing (store t o ∷ js) b) h (C.stored a) u has i = has refl
-  has_open (C.doing (publish e ∷ js) b) h C.sent u has i = has refl
+  has_open (C.owning m) h (C.from_table (results.was b)) u has i = refl
+  has_open (C.doing (store t o ∷ js) b) h (C.from_table (results.was a)) u has i = has refl
+  has_open (C.doing (publish e ∷ js) b) h (C.from_queue None) u has i = has refl
   has_open (C.doing (publish e ∷ js) b) h C.refused u has i = has refl
-  has_open (C.doing (part g t c ∷ js) b) h (C.counted n) u has i = has refl
-  has_open (C.reading g c fs) h (C.found t x) u has i = has refl
+  has_open (C.doing (part g t c ∷ js) b) h (C.from_table (results.count n)) u has i = has refl
+  has_open (C.reading g c t fs) h (C.from_table (results.found x)) u has i = has refl
   has_open C.acking h C.acked u has i = absurd (false≢true i)
   has_open s h r u has i = elim u [ ]
 

@@ -1,8 +1,8 @@
--- What a worker does of a message or a header that a plan knows: each store is of the plan's tasks, and the part is that of a chord's member, whose
+-- What a worker does of a message or a header that a book knows: each store is of a task that it knows, and the part is that of a chord's member, whose
 -- task is the one that ended or is stored before.
-use Rattle.std.proofs.Common.{⊎_elim, ◌≡◌, ◌⊎◌, ◌≤◌, ◌∙◌, ℕ, Bool, true, false, true≢false, List, [], ◌∷◌, ◌++◌, Option, Some, None, refl, sym, ap, inl, inr}
-use Rattle.std.proofs.lemmas.Bool.{and_parts, leb-true}
-use Rattle.std.specs.Prelude.{◌&&◌, IsTrue, nat_le}
+use Rattle.std.proofs.Common.{⊎_elim, ◌≡◌, ◌⊎◌, ◌∙◌, ℕ, Bool, true, false, true≢false, List, [], ◌∷◌, ◌++◌, Option, Some, None, refl, sym, ap, inl, inr}
+use Rattle.std.proofs.lemmas.Bool.{and_parts}
+use Rattle.std.specs.Prelude.{◌&&◌, IsTrue}
 use Rattle.canvas_task.specs.declared.outcome.Outcome.{Outcome}
 use Rattle.canvas_task.specs.declared.outcome.Outcome.TheVariants.{Success, Failure}
 use Rattle.canvas_rewrite.specs.FrozenView.{PCarried}
@@ -15,8 +15,7 @@ use Rattle.canvas_effects.specs.Flowing.{Input, number_input, list_input, id_inp
 use Rattle.canvas_effects.specs.Job.{Job, store, publish, part}
 use Rattle.canvas_effects.specs.Placing.{last_at, placed, end_place, last_task}
 use Rattle.canvas_effects.proofs.FitsOn.{all_true}
-use Rattle.canvas_backend.specs.Roster.{Roster, size, is_member}
-use Rattle.canvas_runs.specs.Book.{Book, book_on, has_size, task_known, tasks_known, place_known, line_known, members_known, parent_known, message_known}
+use Rattle.canvas_runs.specs.Book.{Book, has_size, task_known, tasks_known, place_known, line_known, members_known, parent_known, message_known}
 use Rattle.canvas_runs.specs.Lists.{Each}
 use Rattle.canvas_runs.proofs.Words.{each_append, in_left, in_right}
 use Rattle.canvas_worker.specs.SeatRights.{Carries}
@@ -48,10 +47,7 @@ ended_jobs c o =
 abbrev pub body_jobs : PCarried → List (ℕ × Outcome) → Jobs
 body_jobs c es = enter c.body (header_flow es) (end_place c.body) 0 None
 
-module _ (plan : Roster) where
-  abbrev book : Book
-  book = book_on plan
-
+module _ (book : Book) where
   -- ---- where lines end
 
   -- the last task of a line is a member of its place
@@ -59,18 +55,18 @@ module _ (plan : Roster) where
   end_known p_stop k h = refl
   end_known (p_step (p_task n call ls es p) p_stop) k h =
       let own = (and_parts (task_known book (p_task n call ls es p)) true h).0 in
-      (and_parts (nat_le n plan.tasks && tasks_known book ls && tasks_known book es) (place_known book n p) own).1
+      (and_parts (book.knows n && tasks_known book ls && tasks_known book es) (place_known book n p) own).1
   end_known (p_step t (p_step u l)) k h = end_known (p_step u l) (number_of t) (and_parts (task_known book t) (line_known book (p_step u l)) h).1
   end_known (p_step t (p_group_end g ms)) k h = refl
   end_known (p_step t (p_chord_end g ms b)) k h =
       end_known (p_chord_end g ms b) (number_of t) (and_parts (task_known book t) (line_known book (p_chord_end g ms b)) h).1
   end_known (p_group_end g ms) k h = refl
-  end_known (p_chord_end g ms b) k h = end_known b 0 (and_parts (has_size (how_many ms) (size plan g) && members_known book g ms) (line_known book b) h).1
+  end_known (p_chord_end g ms b) k h = end_known b 0 (and_parts (has_size (how_many ms) (book.size g) && members_known book g ms) (line_known book b) h).1
 
   last_known : (t : PTask) (rest : PLine) (p : PPlace) → task_known book t ≡ true → place_known book (last_task (number_of t) rest) p ≡ true
       → task_known book (last_at p t rest) ≡ true
   last_known (p_task n call ls es own) p_stop p h q =
-      let before : Bool = nat_le n plan.tasks && tasks_known book ls && tasks_known book es in
+      let before : Bool = book.knows n && tasks_known book ls && tasks_known book es in
       all_true before (place_known book n p) (and_parts before (place_known book n own) h).0 q
   last_known (p_task n call ls es own) (p_step u l) p h q = h
   last_known (p_task n call ls es own) (p_group_end g ms) p h q = h
@@ -84,17 +80,17 @@ module _ (plan : Roster) where
       (placed_known rest p (number_of t) parts.1 q)
   placed_known (p_group_end g ms) p k h q = h
   placed_known (p_chord_end g ms b) p k h q =
-      let before : Bool = has_size (how_many ms) (size plan g) && members_known book g ms in
+      let before : Bool = has_size (how_many ms) (book.size g) && members_known book g ms in
       let parts = and_parts before (line_known book b) h in
       all_true before (line_known book (placed p b)) parts.0 (placed_known b p 0 parts.1 q)
 
-  number_known : (t : PTask) → task_known book t ≡ true → number_of t ≤ plan.tasks
+  number_known : (t : PTask) → task_known book t ≡ true → IsTrue (book.knows (number_of t))
   number_known (p_task n call ls es p) h =
-      let ends = (and_parts (nat_le n plan.tasks && tasks_known book ls && tasks_known book es) (place_known book n p) h).0 in
-      let links = (and_parts (nat_le n plan.tasks && tasks_known book ls) (tasks_known book es) ends).0 in
-      leb-true n plan.tasks (and_parts (nat_le n plan.tasks) (tasks_known book ls) links).0
+      let ends = (and_parts (book.knows n && tasks_known book ls && tasks_known book es) (place_known book n p) h).0 in
+      let links = (and_parts (book.knows n && tasks_known book ls) (tasks_known book es) ends).0 in
+      (and_parts (book.knows n) (tasks_known book ls) links).0
 
-  pub own_known : (c : Content) → message_known book c ≡ true → number_of c.own ≤ plan.tasks
+  pub own_known : (c : Content) → message_known book c ≡ true → IsTrue (book.knows (number_of c.own))
   own_known c h = number_known c.own
       (and_parts (task_known book c.own) (line_known book c.rest) (and_parts (parent_known book c.parent) (line_known book (line c)) h).1).0
 
@@ -102,9 +98,9 @@ module _ (plan : Roster) where
 
   -- Q says of which tasks a part may be
   abbrev pub Known : (ℕ → Type 0) → Job Content PCarried Outcome → Type 0
-  Known Q (store t o) = t ≤ plan.tasks
+  Known Q (store t o) = IsTrue (book.knows t)
   Known Q (publish m) = Unit {0}
-  Known Q (part g t c) = IsTrue (is_member plan g t) × Carries plan g c × Q t
+  Known Q (part g t c) = IsTrue (book.is_member g t) × Carries book g c × Q t
 
   callbacks_known : (Q : ℕ → Type 0) (ts : PTasks) (x : Input) (u : Option ℕ) → Each (Known Q) (callbacks ts x u)
   callbacks_known Q no_p_tasks x u = tt
@@ -118,22 +114,22 @@ module _ (plan : Roster) where
   part_known p_nowhere k q = tt
   part_known (p_group g) k q = tt
   part_known (p_chord g n body) k q =
-      let parts = and_parts (is_member plan g k && has_size n (size plan g)) (line_known book body) q in
-      let first = and_parts (is_member plan g k) (has_size n (size plan g)) parts.0 in
+      let parts = and_parts (book.is_member g k && has_size n (book.size g)) (line_known book body) q in
+      let first = and_parts (book.is_member g k) (has_size n (book.size g)) parts.0 in
       ((first.0, (first.1, parts.1), inl refl), tt)
 
   empty_known : (ms : PLines) (js : Jobs) → Each (Known (StoredIn js)) js → Each (Known (StoredIn (when_empty ms js))) (when_empty ms js)
   empty_known no_p_lines js h = h
   empty_known (and_p_line m ms) js h = tt
 
-  module _ (none : (g : ℕ) → is_member plan g 0 ≡ false) where
+  module _ (none : (g : ℕ) → book.is_member g 0 ≡ false) where
     -- a part may be of other tasks, too; none is of task 0
     known_more : (Q R : ℕ → Type 0) (js : Jobs) → ((d : ℕ) → (d ≡ 0 → ⊥) → Q d → R d) → Each (Known Q) js → Each (Known R) js
     known_more Q R [] f h = tt
     known_more Q R (store t o ∷ js) f h = (h.0, known_more Q R js f h.1)
     known_more Q R (publish m ∷ js) f h = (tt, known_more Q R js f h.1)
     known_more Q R (part g t c ∷ js) f h =
-        ((h.0.0, h.0.1, f t (λ e. true≢false (sym h.0.0 ∙ (ap (is_member plan g) e ∙ none g))) h.0.2), known_more Q R js f h.1)
+        ((h.0.0, h.0.1, f t (λ e. true≢false (sym h.0.0 ∙ (ap (book.is_member g) e ∙ none g))) h.0.2), known_more Q R js f h.1)
 
     both_known : (js ks : Jobs) → Each (Known (StoredIn js)) js → Each (Known (StoredIn ks)) ks → Each (Known (StoredIn (js ++ ks))) (js ++ ks)
     both_known js ks a b =
@@ -174,37 +170,37 @@ module _ (plan : Roster) where
           )
       enter_known (p_group_end g ms) x p k u h q = any_known k (enter_all ms x (p_group g) u) (all_known g ms x (p_group g) u h (λ n i. i))
       enter_known (p_chord_end g ms body) (run x) p k u h q =
-          let parts = and_parts (has_size (how_many ms) (size plan g) && members_known book g ms) (line_known book body) h in
-          let first = and_parts (has_size (how_many ms) (size plan g)) (members_known book g ms) parts.0 in
+          let parts = and_parts (has_size (how_many ms) (book.size g) && members_known book g ms) (line_known book body) h in
+          let first = and_parts (has_size (how_many ms) (book.size g)) (members_known book g ms) parts.0 in
           let js : Jobs = enter_all ms (run x) (p_chord g (how_many ms) (placed p body)) u in
           let ks : Jobs = enter body (run (list_input [])) p 0 u in
           any_known k (js ++ when_empty ms ks) (both_known js (when_empty ms ks)
           (all_known g ms (run x) (p_chord g (how_many ms) (placed p body)) u first.1 (λ n i.
-          all_true (is_member plan g n && has_size (how_many ms) (size plan g)) (line_known book (placed p body))
-          (all_true (is_member plan g n) (has_size (how_many ms) (size plan g)) i first.0) (placed_known body p 0 parts.1 q)))
+          all_true (book.is_member g n && has_size (how_many ms) (book.size g)) (line_known book (placed p body))
+          (all_true (book.is_member g n) (has_size (how_many ms) (book.size g)) i first.0) (placed_known body p 0 parts.1 q)))
           (empty_known ms ks (alone_known ks (enter_known body (run (list_input [])) p 0 u parts.1 q))))
       enter_known (p_chord_end g ms body) (skips f) p k u h q =
-          let parts = and_parts (has_size (how_many ms) (size plan g) && members_known book g ms) (line_known book body) h in
-          let first = and_parts (has_size (how_many ms) (size plan g)) (members_known book g ms) parts.0 in
+          let parts = and_parts (has_size (how_many ms) (book.size g) && members_known book g ms) (line_known book body) h in
+          let first = and_parts (has_size (how_many ms) (book.size g)) (members_known book g ms) parts.0 in
           let js : Jobs = enter_all ms (skips f) p_nowhere u in
           let ks : Jobs = enter body (skips f) p 0 u in
           any_known k (js ++ ks) (both_known js ks (all_known g ms (skips f) p_nowhere u first.1 (λ n i. refl))
           (alone_known ks (enter_known body (skips f) p 0 u parts.1 q)))
       enter_known (p_chord_end g ms body) (raise f) p k u h q =
-          let parts = and_parts (has_size (how_many ms) (size plan g) && members_known book g ms) (line_known book body) h in
-          let first = and_parts (has_size (how_many ms) (size plan g)) (members_known book g ms) parts.0 in
+          let parts = and_parts (has_size (how_many ms) (book.size g) && members_known book g ms) (line_known book body) h in
+          let first = and_parts (has_size (how_many ms) (book.size g)) (members_known book g ms) parts.0 in
           let js : Jobs = enter_all ms (raise f) p_nowhere u in
           let ks : Jobs = enter body (raise (fault_behind ms f)) p 0 u in
           any_known k (js ++ ks) (both_known js ks (all_known g ms (raise f) p_nowhere u first.1 (λ n i. refl))
           (alone_known ks (enter_known body (raise (fault_behind ms f)) p 0 u parts.1 q)))
 
       all_known : (g : ℕ) (ms : PLines) (x : LineFlow) (p : PPlace) (u : Option ℕ) → members_known book g ms ≡ true
-          → ((n : ℕ) → is_member plan g n ≡ true → place_known book n p ≡ true)
+          → ((n : ℕ) → book.is_member g n ≡ true → place_known book n p ≡ true)
           → Each (Known (StoredIn (enter_all ms x p u))) (enter_all ms x p u)
       all_known g no_p_lines x p u h f = tt
       all_known g (and_p_line m ms) x p u h f =
-          let parts = and_parts (is_member plan g (last_task 0 m) && line_known book m) (members_known book g ms) h in
-          let first = and_parts (is_member plan g (last_task 0 m)) (line_known book m) parts.0 in
+          let parts = and_parts (book.is_member g (last_task 0 m) && line_known book m) (members_known book g ms) h in
+          let first = and_parts (book.is_member g (last_task 0 m)) (line_known book m) parts.0 in
           both_known (enter m x p 0 u) (enter_all ms x p u) (alone_known (enter m x p 0 u) (enter_known m x p 0 u first.1 (f (last_task 0 m) first.0)))
           (all_known g ms x p u parts.1 f)
 

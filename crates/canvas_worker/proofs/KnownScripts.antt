@@ -1,5 +1,5 @@
--- The script of what a plan knows: its stores and its part are those of the jobs, and its part is due by the store of its task.
-use Rattle.std.proofs.Common.{⊎_elim, ◌≡◌, ◌⊎◌, ◌≤◌, ◌∙◌, ℕ, Bool, true, false, true≢false, eqb, List, [], ◌∷◌, ◌++◌, map, Option, Some, None, refl, sym, inl, inr}
+-- The script of what a book knows: its stores and its part are those of the jobs, and its part is due by the store of its task.
+use Rattle.std.proofs.Common.{⊎_elim, ◌≡◌, ◌⊎◌, ◌∙◌, ℕ, Bool, true, false, true≢false, eqb, List, [], ◌∷◌, ◌++◌, map, Option, Some, None, refl, sym, inl, inr}
 use Rattle.std.proofs.lemmas.Bool.{eq-eqb}
 use Rattle.std.specs.Prelude.{IsTrue, if◌then◌else◌, nat_lt}
 use Rattle.canvas_task.specs.declared.outcome.Outcome.{Outcome}
@@ -11,13 +11,14 @@ use Rattle.canvas_effects.specs.Ordered.{put, in_order}
 use Rattle.canvas_backend.specs.declared.stored.Stored.{Stored}
 use Rattle.canvas_backend.specs.declared.stored.Stored.TheVariants.{First}
 use Rattle.canvas_backend.specs.Backend.{MayReturn}
-use Rattle.canvas_backend.specs.Roster.{Roster, is_member}
+use Rattle.canvas_backend.specs.Roster.{Roster}
+use Rattle.canvas_runs.specs.Book.{Book, book_on}
 use Rattle.canvas_runs.specs.Core.{is_due}
 use Rattle.canvas_runs.specs.Following.{Seat}
 use Rattle.canvas_runs.specs.Lists.{Each, firsts}
 use Rattle.canvas_worker.specs.EnvelopeWorker.{enclosed}
 use Rattle.canvas_worker.specs.Scripts as scripts
-use Rattle.canvas_worker.specs.SeatRights.{Carries, InPlan, MayReturnDue}
+use Rattle.canvas_worker.specs.SeatRights.{Carries, InBook, MayReturnDue}
 use Rattle.canvas_worker.proofs.KnownJobs.{Known, StoredIn}
 
 abbrev Stores : Type 0
@@ -70,42 +71,47 @@ stored_in d (publish m ∷ js) (o, inr i) = stored_in d js (o, i)
 stored_in d (part g t c ∷ js) (o, inl e) = absurd cc
 stored_in d (part g t c ∷ js) (o, inr i) = stored_in d js (o, i)
 
-module _ (plan : Roster) where
+-- ---- scripts
+
+abbrev sent : Stores → List Content → Option Part → scripts.EnvelopeJobs
+sent es ms o = map enclosed (map (λ s. store s.0 s.1) es ++ (map (λ m. publish m) ms ++ part_jobs o))
+
+sent_due : (t : ℕ) (es : Stores) (ms : List Content) (p : Part) → is_due t (sent es ms (Some p)) ≡ eqb t p.task
+sent_due t [] [] p = refl
+sent_due t [] (m ∷ ms) p = sent_due t [] ms p
+sent_due t (e ∷ es) ms p = sent_due t es ms p
+
+module _ (book : Book) where
   abbrev IsTask : ℕ × Outcome → Type 0
-  IsTask e = e.0 ≤ plan.tasks
+  IsTask e = IsTrue (book.knows e.0)
 
   abbrev PartKnown : (ℕ → Type 0) → Option Part → Type 0
   PartKnown Q None = Unit {0}
-  PartKnown Q (Some p) = IsTrue (is_member plan p.chord p.task) × Carries plan p.chord p.carried × Q p.task
+  PartKnown Q (Some p) = IsTrue (book.is_member p.chord p.task) × Carries book p.chord p.carried × Q p.task
 
-  tasks_in : (Q : ℕ → Type 0) (js : Jobs) → Each (Known plan Q) js → Each IsTask (stores_in js)
+  tasks_in : (Q : ℕ → Type 0) (js : Jobs) → Each (Known book Q) js → Each IsTask (stores_in js)
   tasks_in Q [] h = tt
   tasks_in Q (store t o ∷ js) h = (h.0, tasks_in Q js h.1)
   tasks_in Q (publish m ∷ js) h = tasks_in Q js h.1
   tasks_in Q (part g t c ∷ js) h = tasks_in Q js h.1
 
-  part_in_known : (Q : ℕ → Type 0) (js : Jobs) → Each (Known plan Q) js → PartKnown Q (part_in js)
+  part_in_known : (Q : ℕ → Type 0) (js : Jobs) → Each (Known book Q) js → PartKnown Q (part_in js)
   part_in_known Q [] h = tt
   part_in_known Q (store t o ∷ js) h = part_in_known Q js h.1
   part_in_known Q (publish m ∷ js) h = part_in_known Q js h.1
   part_in_known Q (part g t c ∷ js) h = h.0
 
-  -- ---- scripts
-
-  abbrev sent : Stores → List Content → Option Part → scripts.EnvelopeJobs
-  sent es ms o = map enclosed (map (λ s. store s.0 s.1) es ++ (map (λ m. publish m) ms ++ part_jobs o))
-
-  sent_known : (Q : ℕ → Type 0) (es : Stores) (ms : List Content) (o : Option Part) → Each IsTask es → PartKnown Q o → InPlan plan (sent es ms o)
+  sent_known : (Q : ℕ → Type 0) (es : Stores) (ms : List Content) (o : Option Part) → Each IsTask es → PartKnown Q o → InBook book (sent es ms o)
   sent_known Q [] [] None a h = tt
   sent_known Q [] [] (Some p) a h = (h.0, h.1, tt)
   sent_known Q [] (m ∷ ms) o a h = sent_known Q [] ms o tt h
   sent_known Q (e ∷ es) ms o a h = (a.0, sent_known Q es ms o a.1 h)
 
-  sent_due : (t : ℕ) (es : Stores) (ms : List Content) (p : Part) → is_due t (sent es ms (Some p)) ≡ eqb t p.task
-  sent_due t [] [] p = refl
-  sent_due t [] (m ∷ ms) p = sent_due t [] ms p
-  sent_due t (e ∷ es) ms p = sent_due t es ms p
+  pub script_known : (Q : ℕ → Type 0) (js : Jobs) → Each (Known book Q) js → InBook book (map enclosed (script (effect_of js)))
+  script_known Q js h =
+      sent_known Q (sorted (stores_in js)) (effect_of js).messages (part_in js) (each_sorted IsTask (stores_in js) (tasks_in Q js h)) (part_in_known Q js h)
 
+module _ (plan : Roster) where
   -- the part's task is stored before, or its part may be returned
   abbrev PartMay : Seat → Stored → Stores → Option Part → Type 0
   PartMay s b es None = Unit {0}
@@ -129,18 +135,14 @@ module _ (plan : Roster) where
   sent_may s b (e ∷ es) ms o h = λ n. sent_may s b es ms o (fewer s b e es ms o h n)
 
   part_may : (s : Seat) (b : Stored) (Q : ℕ → Type 0) (es : Stores) (o : Option Part)
-      → ((d : ℕ) → Q d → In d (firsts es) ⊎ (b ≡ First → MayReturn plan s.seen s.name d)) → PartKnown Q o → PartMay s b es o
+      → ((d : ℕ) → Q d → In d (firsts es) ⊎ (b ≡ First → MayReturn plan s.seen s.name d)) → PartKnown (book_on plan) Q o → PartMay s b es o
   part_may s b Q es None f h = tt
   part_may s b Q es (Some p) f h = f p.task h.2
 
-  pub script_known : (Q : ℕ → Type 0) (js : Jobs) → Each (Known plan Q) js → InPlan plan (map enclosed (script (effect_of js)))
-  script_known Q js h =
-      sent_known Q (sorted (stores_in js)) (effect_of js).messages (part_in js) (each_sorted IsTask (stores_in js) (tasks_in Q js h)) (part_in_known Q js h)
-
   pub script_may : (s : Seat) (b : Stored) (Q : ℕ → Type 0) (js : Jobs) → ((d : ℕ) → Q d → StoredIn js d ⊎ (b ≡ First → MayReturn plan s.seen s.name d))
-      → Each (Known plan Q) js
+      → Each (Known (book_on plan) Q) js
       → MayReturnDue plan s b (map enclosed (script (effect_of js)))
   script_may s b Q js f h =
       sent_may s b (sorted (stores_in js)) (effect_of js).messages (part_in js)
       (part_may s b Q (sorted (stores_in js)) (part_in js) (λ d q. ⊎_elim (λ y. inl (in_sorted d (stores_in js) (stored_in d js y))) (λ g. inr g) (f d q))
-      (part_in_known Q js h))
+      (part_in_known (book_on plan) Q js h))

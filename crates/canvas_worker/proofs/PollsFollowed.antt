@@ -7,25 +7,28 @@ use Rattle.futures.specs.declared.task.Poll.TheVariants.{Ready, Pending}
 use Rattle.canvas_task.specs.Apply.{Behaviour}
 use Rattle.canvas_backend.specs.Seats.{Desk}
 use Rattle.canvas_backend.specs.Roster.{Roster}
-use Rattle.canvas_worker.specs.Progress.{Progress, Worked}
+use Rattle.canvas_worker.specs.CoreState.{Progress, HasFollowed}
 use Rattle.canvas_worker.specs.Polls.{Work, progress, Acts, stays, makes_call, takes_batch, gives_held, Moves, acts, delivers, Pends, IsRecordOf, Ends, TellsOf}
 use Rattle.canvas_worker.specs.declared.record.Record.{Record}
 use Rattle.canvas_worker.proofs.Stepping.{rests, call_first, held_first, batch_first, again_first}
 
-acted_first : (behaviour : Behaviour) (plan : Roster) (p q x : Progress) → Acts behaviour plan p q → Worked behaviour plan q x → Worked behaviour plan p x
-acted_first behaviour plan p q x (stays e) f = subst (λ z. Worked behaviour plan z x) e f
+acted_first : (behaviour : Behaviour) (plan : Roster) (p q x : Progress) → Acts behaviour plan p q → HasFollowed behaviour plan q x
+    → HasFollowed behaviour plan p x
+acted_first behaviour plan p q x (stays e) f = subst (λ z. HasFollowed behaviour plan z x) e f
 acted_first behaviour plan p q x (makes_call a r step) f = call_first behaviour plan p q x a r step f
 acted_first behaviour plan p q x (takes_batch es step) f = batch_first behaviour plan p q x es step f
 acted_first behaviour plan p q x (gives_held es e between taken step) f =
     batch_first behaviour plan p between x es taken (held_first behaviour plan between q x e step f)
 
-moved_first : (behaviour : Behaviour) (plan : Roster) (p q x : Progress) → Moves behaviour plan p q → Worked behaviour plan q x → Worked behaviour plan p x
+moved_first : (behaviour : Behaviour) (plan : Roster) (p q x : Progress) → Moves behaviour plan p q → HasFollowed behaviour plan q x
+    → HasFollowed behaviour plan p x
 moved_first behaviour plan p q x (acts m) f = acted_first behaviour plan p q x m f
 moved_first behaviour plan p q x (delivers e step) f = again_first behaviour plan p q x e step f
 
 pub goes_first : (behaviour : Behaviour) (w v : Work) → Pends behaviour w v → (r : Record) → TellsOf behaviour v r → TellsOf behaviour w r
 goes_first behaviour w v g r f =
-    let worked : Worked behaviour w.desk.plan (progress v) f.ended = subst (λ (d : Desk). Worked behaviour d.plan (progress v) f.ended) g.desk f.worked in
+    let worked : HasFollowed behaviour w.desk.plan (progress v) f.ended =
+    subst (λ (d : Desk). HasFollowed behaviour d.plan (progress v) f.ended) g.desk f.worked in
     record {
       ended = f.ended;
       worked = moved_first behaviour w.desk.plan (progress w) (progress v) f.ended g.moved worked;

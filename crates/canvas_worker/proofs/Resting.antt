@@ -9,7 +9,9 @@ use Rattle.canvas_backend.specs.declared.stored.Stored.{Stored}
 use Rattle.canvas_backend.specs.declared.stored.Stored.TheVariants.{First, Again}
 use Rattle.canvas_backend.specs.Roster.{Roster}
 use Rattle.canvas_runs.specs.Core as C
-use Rattle.canvas_runs.specs.Core.{taken, sent, stored, counted, found, rested, taking, resting, over, failed, owning, doing, reading, settled, opens, owned, job_done, answered, acking, acked}
+use Rattle.canvas_backend.specs.Backend as results
+use Rattle.canvas_broker.specs.Broker as broker
+use Rattle.canvas_runs.specs.Core.{from_queue, from_table, rested, taking, resting, over, failed, owning, doing, reading, settled, opens, owned, reading_of, reads_next, job_done, answered, acking, acked}
 use Rattle.canvas_runs.specs.Protocol.{Protocol}
 use Rattle.canvas_worker.specs.Asks.{Asked, Answer}
 use Rattle.canvas_worker.specs.EnvelopeWorker.{Applied, enveloped}
@@ -17,11 +19,11 @@ use Rattle.canvas_worker.specs.CoreState.{Left, asked}
 
 -- an ask other than a take
 abbrev pub Busy : Asked → Type 0
-Busy C.take = ⊥
+Busy (C.to_queue broker.take) = ⊥
 Busy a = Unit {0}
 
 module _ (behaviour : Behaviour) (plan : Roster) where
-  abbrev X : Protocol
+  abbrev X : Protocol Envelope
   X = enveloped behaviour plan
 
   abbrev Jobs : Type 0
@@ -44,37 +46,42 @@ module _ (behaviour : Behaviour) (plan : Roster) where
   owned_never m First e = settled_never (X.ended m (X.outcome m)) First e
   owned_never m Again e = cc
 
-  counted_never : (g : ℕ) (c : PCarried) (z : Bool) → ◌≡◌ {A = Left} (cond z (reading g c []) acking) resting → ⊥
-  counted_never g c true e = cc
+  next_never : (g : ℕ) (c : PCarried) (fs : List (ℕ × Outcome)) (o : Option ℕ) → reading_of X g c fs o ≡ resting → ⊥
+  next_never g c fs None e = cc
+  next_never g c fs (Some t) e = cc
+
+  counted_never : (g : ℕ) (c : PCarried) (z : Bool) → ◌≡◌ {A = Left} (cond z (reads_next X g c []) acking) resting → ⊥
+  counted_never g c true e = next_never g c [] (X.member g 0) e
   counted_never g c false e = cc
 
-  read_never : (g : ℕ) (c : PCarried) (fs : List (ℕ × Outcome)) (z : Bool) → cond z (settled X (X.completed c fs) Again) (reading g c fs) ≡ resting → ⊥
+  read_never : (g : ℕ) (c : PCarried) (fs : List (ℕ × Outcome)) (z : Bool) → cond z (settled X (X.completed c fs) Again) (reads_next X g c fs) ≡ resting → ⊥
   read_never g c fs true e = settled_never (X.completed c fs) Again e
-  read_never g c fs false e = cc
+  read_never g c fs false e = next_never g c fs (X.member g (length fs)) e
 
   job_never : (j : Job Applied PCarried Outcome) (js : Jobs) (b : Stored) (r : Answer) → job_done X j js b r ≡ resting → ⊥
-  job_never (store t o) js b (stored a) e = settled_never js (cond (C.is_due t js) a b) e
-  job_never (publish m) js b sent e = settled_never js b e
-  job_never (part g t c) js b (counted n) e = counted_never g c (eqb (suc n) (X.size c)) e
+  job_never (store t o) js b (from_table (results.was a)) e = settled_never js (cond (C.is_due t js) a b) e
+  job_never (publish m) js b (from_queue None) e = settled_never js b e
+  job_never (part g t c) js b (from_table (results.count n)) e = counted_never g c (eqb (suc n) (X.size c)) e
   job_never j js b r e = cc
 
-  pub given_never : (x : Envelope) → answered X taking (taken (Some x)) ≡ resting → ⊥
+  pub given_never : (x : Envelope) → answered X taking (from_queue (Some x)) ≡ resting → ⊥
   given_never x e = opens_never (X.opened x) e
 
-  never_rests : (s : Left) (r : Answer) → (asked s ≡ C.take → ⊥) → answered X s r ≡ resting → ⊥
+  never_rests : (s : Left) (r : Answer) → (asked s ≡ C.to_queue broker.take → ⊥) → answered X s r ≡ resting → ⊥
   never_rests taking r not e = not refl
   never_rests resting (rested true) not e = cc
   never_rests resting (rested false) not e = cc
   never_rests resting r not e = cc
   never_rests over r not e = cc
   never_rests failed r not e = cc
-  never_rests (owning m) (stored a) not e = owned_never m a e
+  never_rests (owning m) (from_table (results.was a)) not e = owned_never m a e
   never_rests (owning m) r not e = cc
   never_rests (doing [] b) r not e = cc
   never_rests (doing (j ∷ js) b) r not e = job_never j js b r e
-  never_rests (reading g c fs) (found t (Some o)) not e = read_never g c (fs ++ (t, o) ∷ []) (eqb (length (fs ++ (t, o) ∷ [])) (X.size c)) e
-  never_rests (reading g c fs) (found t None) not e = cc
-  never_rests (reading g c fs) r not e = cc
+  never_rests (reading g c t fs) (from_table (results.found (Some o))) not e =
+      read_never g c (fs ++ (t, o) ∷ []) (eqb (length (fs ++ (t, o) ∷ [])) (X.size c)) e
+  never_rests (reading g c t fs) (from_table (results.found None)) not e = cc
+  never_rests (reading g c t fs) r not e = cc
   never_rests acking acked not e = cc
   never_rests acking r not e = cc
 

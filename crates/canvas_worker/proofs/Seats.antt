@@ -1,8 +1,8 @@
 -- A backend lets a worker's seat do all that the worker has left to do.
-use Rattle.std.proofs.Common.{⊎_elim, ◌≡◌, ◌≤◌, ◌<◌, ◌+◌, ◌∙◌, ℕ, suc, Bool, true, false, cond, eqb, List, [], ◌∷◌, ◌++◌, map, length, length-append, slice_get, get_or, Option, Some, None, is_some, refl, sym, ap, subst, inl, inr, arith}
+use Rattle.std.proofs.Common.{⊎_elim, ◌≡◌, ◌≤◌, ◌<◌, ◌+◌, ◌∙◌, ℕ, suc, Bool, true, false, cond, eqb, List, [], ◌∷◌, ◌++◌, map, length, length-append, slice_get, Option, Some, None, is_some, refl, sym, ap, subst, inl, inr, arith}
 use Rattle.std.specs.Prelude.{IsTrue, if◌then◌else◌}
-use Rattle.std.proofs.lemmas.Bool.{eqb-true, eqb-false}
-use Rattle.std.proofs.lemmas.Option.{slice_get_cases}
+use Rattle.std.proofs.lemmas.Bool.{eqb-true, eqb-false, leb-true}
+use Rattle.std.proofs.lemmas.Option.{slice_get_within, get_or_from_slice_get}
 use Rattle.canvas_task.specs.Apply.{Behaviour}
 use Rattle.canvas_task.specs.declared.outcome.Outcome.{Outcome}
 use Rattle.canvas_history.specs.History.{calls}
@@ -22,13 +22,13 @@ use Rattle.canvas_backend.specs.Roster.{Roster, roster_of, members, is_chord, is
 use Rattle.canvas_backend.proofs.HistoryLaws.{first_may, still_may}
 use Rattle.canvas_runs.specs.Book.{book_on, has_size, line_known, message_known}
 use Rattle.canvas_runs.specs.Calls.{backend_call}
-use Rattle.canvas_runs.specs.Core.{taken, sent, stored, counted, found, rested, taking, resting, over, failed, owning, doing, reading, is_due, settled, opens, answered, acking, acked}
+use Rattle.canvas_runs.specs.Core.{from_queue, from_table, rested, taking, resting, over, failed, owning, doing, reading, is_due, settled, opens, reading_of, reads_next, answered, acking, acked}
 use Rattle.canvas_runs.specs.Following.{Seat, Serves}
 use Rattle.canvas_runs.specs.Worker.{opened}
 use Rattle.canvas_worker.specs.Asks.{Answer}
 use Rattle.canvas_worker.specs.EnvelopeWorker.{said, enclosed, enveloped, applied_if as kept_envelope, no_tasks}
 use Rattle.canvas_worker.specs.Scripts.{EnvelopeJobs}
-use Rattle.canvas_worker.specs.SeatRights.{Carries, InPlan, MayReturnDue, Can, LetsAsk, CanAsk, CanGoOn}
+use Rattle.canvas_worker.specs.SeatRights.{Carries, InBook, MayReturnDue, Can, LetsAsk, CanAsk, CanGoOn}
 use Rattle.canvas_worker.specs.CoreState.{Left, asked}
 use Rattle.canvas_worker.proofs.Books.{no_member_zero}
 use Rattle.canvas_worker.proofs.KnownJobs.{StoredIn, Behind, own_known, ended_jobs, body_jobs, ended_known, body_known}
@@ -64,7 +64,7 @@ module _ (plan : Roster) where
       go true e = due_in t d a js e m
       go false e = still_in s t b js k (h e)
 
-  settled_can : (behaviour : Behaviour) (s : Seat) (b : Stored) (js : EnvelopeJobs) → InPlan plan js → MayReturnDue plan s b js
+  settled_can : (behaviour : Behaviour) (s : Seat) (b : Stored) (js : EnvelopeJobs) → InBook (book_on plan) js → MayReturnDue plan s b js
       → Can plan s (settled (enveloped behaviour plan) js b)
   settled_can behaviour s b [] i m = tt
   settled_can behaviour s First (store t o ∷ js) i m = (i, m, tt)
@@ -102,15 +102,25 @@ module _ (plan : Roster) where
       go true e = (refl, eqb-true (length t.members) n e)
       go false e = absurd cc
 
-  carried_size : (g : ℕ) (c : PCarried) → Carries plan g c → IsTrue (is_chord plan g) × (length (members plan g) ≡ c.size)
+  carried_size : (g : ℕ) (c : PCarried) → Carries (book_on plan) g c → IsTrue (is_chord plan g) × (length (members plan g) ≡ c.size)
   carried_size g c h = chord_size (entry_at plan.groups g) c.size h.0
 
-  -- where a part may be the last of its header
-  handed_can : (s : Seat) (g : ℕ) (c : PCarried) (n : ℕ) → Carries plan g c → Can plan s (cond (eqb (suc n) c.size) (reading g c []) acking)
-  handed_can s g c n h = go (eqb (suc n) c.size) refl
+  -- the next member is read
+  next_can : (behaviour : Behaviour) (s : Seat) (g : ℕ) (c : PCarried) (fs : List (ℕ × Outcome)) → Carries (book_on plan) g c → length fs < c.size
+      → Can plan s (reads_next (enveloped behaviour plan) g c fs)
+  next_can behaviour s g c fs h low = go (slice_get (members plan g) (length fs)) refl
     where
-      go : (z : Bool) → eqb (suc n) c.size ≡ z → Can plan s (cond z (reading g c []) acking)
-      go true e = (h, let full : suc n ≡ c.size = eqb-true (suc n) c.size e in omega (arith, full))
+      go : (o : Option ℕ) → slice_get (members plan g) (length fs) ≡ o → Can plan s (reading_of (enveloped behaviour plan) g c fs o)
+      go None e = tt
+      go (Some t) e = (h, low, e)
+
+  -- where a part may be the last of its header
+  handed_can : (behaviour : Behaviour) (s : Seat) (g : ℕ) (c : PCarried) (n : ℕ) → Carries (book_on plan) g c
+      → Can plan s (cond (eqb (suc n) c.size) (reads_next (enveloped behaviour plan) g c []) acking)
+  handed_can behaviour s g c n h = go (eqb (suc n) c.size) refl
+    where
+      go : (z : Bool) → eqb (suc n) c.size ≡ z → Can plan s (cond z (reads_next (enveloped behaviour plan) g c []) acking)
+      go true e = next_can behaviour s g c [] h (let full : suc n ≡ c.size = eqb-true (suc n) c.size e in omega (arith, full))
       go false e = tt
 
 module _ (behaviour : Behaviour) (l : Line) (is_plan : IsPlan l) where
@@ -125,26 +135,26 @@ module _ (behaviour : Behaviour) (l : Line) (is_plan : IsPlan l) where
   ended_can s c o h m =
       let k : ℕ = number_of c.own in
       let js = ended_jobs c o in
-      let known = ended_known plan none c o h in
-      settled_can plan behaviour s First (map enclosed (script (after c o))) (script_known plan (Behind k js) js known)
+      let known = ended_known (book_on plan) none c o h in
+      settled_can plan behaviour s First (map enclosed (script (after c o))) (script_known (book_on plan) (Behind k js) js known)
       (script_may plan s First (Behind k js) js (λ d q. ⊎_elim (λ e. inr (λ t. subst (λ z. MayReturn plan s.seen s.name z) (sym e) m)) (λ y. inl y) q) known)
 
   completed_can : (s : Seat) (c : PCarried) (es : List (ℕ × Outcome)) → line_known (book_on plan) c.body ≡ true
       → Can plan s (settled (enveloped behaviour plan) (map enclosed (script (body_after c es))) Again)
   completed_can s c es h =
       let js = body_jobs c es in
-      let known = body_known plan none c es h in
-      settled_can plan behaviour s Again (map enclosed (script (body_after c es))) (script_known plan (StoredIn js) js known)
+      let known = body_known (book_on plan) none c es h in
+      settled_can plan behaviour s Again (map enclosed (script (body_after c es))) (script_known (book_on plan) (StoredIn js) js known)
       (script_may plan s Again (StoredIn js) js (λ d q. inl q) known)
 
-  member_there : (g i : ℕ) → i < length (members plan g) → (t : ℕ) × (slice_get (members plan g) i ≡ Some t) × (t ≤ plan.tasks)
-  member_there g i h =
-      ⊎_elim (λ (x : (t : ℕ) × (i < length (members plan g)) × (slice_get (members plan g) i ≡ Some t) × (get_or (members plan g) i t ≡ t)).
-      (x.0, x.2, subst (λ t. t ≤ plan.tasks) x.3 (all_known l is_plan g i x.0 h)))
-      (λ (y : (length (members plan g) ≤ i) × (slice_get (members plan g) i ≡ None)). absurd (let past = y.0 in omega (arith, h)))
-      (slice_get_cases (members plan g) i).1
+  member_there : (g i t : ℕ) → slice_get (members plan g) i ≡ Some t → t ≤ plan.tasks
+  member_there g i t e =
+      subst (λ k. k ≤ plan.tasks) (get_or_from_slice_get (members plan g) i t t e) (all_known l is_plan g i t (slice_get_within (members plan g) i t e))
 
   -- ---- asks
+
+  in_plan : (t : ℕ) → IsTrue ((book_on plan).knows t) → t ≤ plan.tasks
+  in_plan t h = leb-true t plan.tasks h
 
   asks : (s : Seat) (left : Left) → Can plan s left → LetsAsk plan s (asked left)
   asks s taking c = tt
@@ -152,46 +162,47 @@ module _ (behaviour : Behaviour) (l : Line) (is_plan : IsPlan l) where
   asks s over c = tt
   asks s failed c = tt
   asks s acking c = tt
-  asks s (owning m) c = own_known plan (said m.envelope) (opened_as (book_on plan) m.envelope (said m.envelope) c).1
+  asks s (owning m) c =
+      in_plan (number_of (said m.envelope).own)
+      (own_known (book_on plan) (said m.envelope) (opened_as (book_on plan) m.envelope (said m.envelope) c).1)
   asks s (doing [] b) c = tt
-  asks s (doing (store t o ∷ js) b) c = c.0.0
+  asks s (doing (store t o ∷ js) b) c = in_plan t c.0.0
   asks s (doing (publish e ∷ js) b) c = tt
   asks s (doing (part g t h ∷ js) b) c = ((carried_size plan g h c.0.1).0, c.0.0, c.1 c.2)
-  asks s (reading g h fs) c = member_there g (length fs) (subst (λ n. length fs < n) (sym (carried_size plan g h c.0).1) c.1)
+  asks s (reading g h t fs) c = member_there g (length fs) t c.2
 
   -- ---- answers
 
   goes_on : (s t : Seat) (left : Left) (r : Answer) → Can plan s left → Serves plan s (backend_call (asked left) r) t
       → Can plan t (answered (enveloped behaviour plan) left r)
-  goes_on s t taking (taken None) c call = tt
-  goes_on s t taking (taken (Some e)) c call = opened_can plan behaviour t e (opened (book_on plan) e) refl
+  goes_on s t taking (from_queue None) c call = tt
+  goes_on s t taking (from_queue (Some e)) c call = opened_can plan behaviour t e (opened (book_on plan) e) refl
   goes_on s t resting (rested true) c call = tt
   goes_on s t resting (rested false) c call = tt
-  goes_on s t (owning m) (stored First) c (u, stands, same) =
+  goes_on s t (owning m) (from_table (results.was First)) c (u, stands, same) =
       ended_can t (said m.envelope) m.outcome (opened_as (book_on plan) m.envelope (said m.envelope) c).1
       (subst (λ v. MayReturn plan v.seen v.name (number_of (said m.envelope).own)) (sym same)
       (first_of plan s u (number_of (said m.envelope).own) m.outcome First stands.4 stands.1 refl))
-  goes_on s t (owning m) (stored Again) c call = tt
-  goes_on s t (doing (store d o ∷ js) b) (stored a) c (u, stands, same) =
+  goes_on s t (owning m) (from_table (results.was Again)) c call = tt
+  goes_on s t (doing (store d o ∷ js) b) (from_table (results.was a)) c (u, stands, same) =
       subst (λ v. Can plan v (settled (enveloped behaviour plan) js (cond (is_due d js) a b))) (sym same)
       (settled_can plan behaviour u (cond (is_due d js) a b) js c.0.1
       (store_in plan s u d a b js (served plan s u (results.store d o) (results.was a) stands.4 stands.1 (λ g k e. absurd cc))
       (first_of plan s u d o a stands.4 stands.1) c.1))
-  goes_on s t (doing (publish e ∷ js) b) sent c same =
+  goes_on s t (doing (publish e ∷ js) b) (from_queue None) c same =
       subst (λ v. Can plan v (settled (enveloped behaviour plan) js b)) (sym same) (settled_can plan behaviour s b js c.0 c.1)
-  goes_on s t (doing (part g d h ∷ js) b) (counted n) c call = handed_can plan t g h n c.0.1
-  goes_on s t (reading g h fs) (found d (Some o)) c call = go (eqb (length (fs ++ (d, o) ∷ [])) h.size) refl
+  goes_on s t (doing (part g d h ∷ js) b) (from_table (results.count n)) c call = handed_can plan behaviour t g h n c.0.1
+  goes_on s t (reading g h d fs) (from_table (results.found (Some o))) c call = go (eqb (length (fs ++ (d, o) ∷ [])) h.size) refl
     where
       go : (z : Bool) → eqb (length (fs ++ (d, o) ∷ [])) h.size ≡ z
           → Can plan t (cond z (settled (enveloped behaviour plan) (map enclosed (script (body_after h (fs ++ (d, o) ∷ [])))) Again)
-          (reading g h (fs ++ (d, o) ∷ [])))
+          (reads_next (enveloped behaviour plan) g h (fs ++ (d, o) ∷ [])))
       go true e = completed_can t h (fs ++ (d, o) ∷ []) c.0.1
-      go false e = (
-        c.0,
-        let more : length (fs ++ (d, o) ∷ []) ≡ length fs + 1 = length-append fs ((d, o) ∷ []) in
-            let apart = eqb-false (length (fs ++ (d, o) ∷ [])) h.size e in let before = c.1 in omega (arith, more, apart, before),
-      )
-  goes_on s t (reading g h fs) (found d None) c call = tt
+      go false e =
+          next_can plan behaviour t g h (fs ++ (d, o) ∷ []) c.0
+          (let more : length (fs ++ (d, o) ∷ []) ≡ length fs + 1 = length-append fs ((d, o) ∷ []) in
+          let apart = eqb-false (length (fs ++ (d, o) ∷ [])) h.size e in let before = c.1 in omega (arith, more, apart, before))
+  goes_on s t (reading g h d fs) (from_table (results.found None)) c call = tt
   goes_on s t acking acked c call = tt
   goes_on s t left r c call = tt
 

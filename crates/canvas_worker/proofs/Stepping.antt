@@ -1,5 +1,5 @@
 -- A step in front of what is followed from then on.
-use Rattle.std.proofs.Common.{◌≡◌, ℕ, zero, suc, ◌+◌, ◌≤◌, List, [], ◌∷◌, ◌++◌, length, Option, Some, None, refl, sym, ap, ◌∙◌, subst, append_assoc, append-nil, arith}
+use Rattle.std.proofs.Common.{◌≡◌, ℕ, ◌+◌, ◌≤◌, List, [], ◌∷◌, ◌++◌, length, Option, Some, None, refl, sym, ap, ◌∙◌, subst, append_assoc, append-nil, arith}
 use Rattle.canvas_task.specs.Apply.{Behaviour}
 use Rattle.canvas_history.specs.History.{calls, live_from}
 use Rattle.canvas_history.proofs.Histories.{legal_left}
@@ -8,15 +8,15 @@ use Rattle.canvas_backend.specs.Roster.{Roster}
 use Rattle.canvas_broker.specs.Broker as broker
 use Rattle.canvas_broker.specs.Broker.{QueueEntry as Entries, answer, next, May, IsLegal, takes_of}
 use Rattle.canvas_broker.specs.Passes.{Took}
-use Rattle.canvas_runs.specs.Core.{Ask, Reply, take, publish, taken, sent, IsCoreRun, left_after, ack, acked}
-use Rattle.canvas_runs.specs.Following.{Pass, Seat, Makes, Serves}
-use Rattle.canvas_worker.specs.Progress.{Progress, Worked}
+use Rattle.canvas_runs.specs.Core.{Ask, Reply, to_queue, to_table, from_queue, refused, Suits, IsCoreRun, left_after, rest, ack, acked}
+use Rattle.canvas_runs.specs.Following.{Pass, Seat, Makes, Serves, Working, Followed}
 use Rattle.canvas_runs.specs.Calls.{QueueAnswered, TableAnswered, CoreCall, makes, FollowsScripts, scripts_all, scripts_publish, scripts_list_take, scripts_core_take, scripts_ack, held_by, broker_call, broker_calls, core_call, core_calls, backend_call, backend_calls, takes_one, scripts_again}
-use Rattle.std.specs.Prelude.{slice_get}
-use Rattle.canvas_runs.specs.Lists.{total, at}
+use Rattle.canvas_runs.specs.Lists.{total}
+use Rattle.canvas_runs.specs.Protocol.{Protocol}
 use Rattle.canvas_worker.specs.WorkerSteps.{OnlyBare, Called, FromHeld, Batched, Delivered}
-use Rattle.canvas_runs.specs.Tally.{Tally, CountsMore, IsTally, Counted, greatest_count, often, is_taken, is_published, is_first, is_part, is_dropped}
+use Rattle.canvas_runs.specs.Tally.{Tally, CountsMore, IsTally, Counted, greatest_count, publishing, storing, returning, dropping}
 use Rattle.canvas_worker.specs.EnvelopeWorker.{enveloped}
+use Rattle.canvas_worker.specs.CoreState.{Progress, HasFollowed}
 use Rattle.canvas_runs.proofs.Sums.{total-append}
 
 makes_append : (cs ds : List (QueueAnswered Envelope)) (p q r : Pass) → Makes p cs q → Makes q ds r → Makes p (cs ++ ds) r
@@ -61,67 +61,74 @@ longer : (xs ys : List Envelope) → length (xs ++ ys) ≡ length xs + length ys
 longer [] ys = omega arith
 longer (x ∷ xs) ys = let k = longer xs ys in omega (arith, k)
 
-more_added : (x y a b n : ℕ) → CountsMore x (a + 0) y → CountsMore y b n → CountsMore x (a + b) n
-more_added x y a b n e f = omega (arith, e, f)
+-- a call more of those that a count is of
+more_added : {C : Type 0} (w : C → ℕ) (cs ds : List C) (x y n : ℕ) → CountsMore x (total w (cs ++ [])) y → CountsMore y (total w ds) n
+    → CountsMore x (total w (cs ++ ds)) n
+more_added w cs ds x y n e f = omega (arith, e, f, total-append w cs [], total-append w cs ds)
 
 module _ (plan : Roster) where
   counted_more : (a : Ask Envelope) (r : Reply Envelope) (run : List (Ask Envelope × Reply Envelope)) (t u v : Tally)
       → Counted plan ((a, r) ∷ []) t u → Counted plan run u v → Counted plan ((a, r) ∷ run) t v
   counted_more a r run t u v c d = record {
-    taken = more_added t.taken u.taken (is_taken a r) (often is_taken run) v.taken c.taken d.taken;
-    published = more_added t.published u.published (is_published a r) (often is_published run) v.published c.published d.published;
-    first = more_added t.first u.first (is_first a r) (often is_first run) v.first c.first d.first;
-    parts = more_added t.parts u.parts (is_part a r) (often is_part run) v.parts c.parts d.parts;
-    dropped = more_added t.dropped u.dropped (is_dropped plan a r) (often (is_dropped plan) run) v.dropped c.dropped d.dropped;
+    taken = more_added takes_one (broker_call a r) (broker_calls run) t.taken u.taken v.taken c.taken d.taken;
+    published = more_added publishing (broker_call a r) (broker_calls run) t.published u.published v.published c.published d.published;
+    first = more_added storing (backend_call a r) (backend_calls run) t.first u.first v.first c.first d.first;
+    parts = more_added returning (backend_call a r) (backend_calls run) t.parts u.parts v.parts c.parts d.parts;
+    dropped = more_added (dropping plan) (broker_call a r) (broker_calls run) t.dropped u.dropped v.dropped c.dropped d.dropped;
   }
 
   call_follows : (a : Ask Envelope) (r : Reply Envelope) (h g : Option Envelope) (held : List Envelope) (cs : List (CoreCall Envelope))
-      (ls : List (QueueAnswered Envelope)) → OnlyBare a r held → g ≡ held_by h a r → FollowsScripts g held cs ls
+      (ls : List (QueueAnswered Envelope)) → Suits a r → OnlyBare a r held → g ≡ held_by h a r → FollowsScripts g held cs ls
       → FollowsScripts h held (core_call a r ++ cs) (broker_call a r ++ ls)
-  call_follows take (taken (Some e)) h g held cs ls b q f =
+  call_follows (to_queue broker.take) (from_queue (Some e)) h g held cs ls suit b q f =
       subst (λ hs. FollowsScripts h hs (makes (broker.take, Some e) ∷ cs) ((broker.take, Some e) ∷ ls)) (sym b)
       (scripts_list_take (scripts_core_take (subst (λ hs. FollowsScripts (Some e) hs cs ls) b (subst (λ k. FollowsScripts k held cs ls) q f))))
-  call_follows (publish e) sent h g held cs ls b q f = scripts_publish (subst (λ k. FollowsScripts k held cs ls) q f)
-  call_follows ack acked h g held cs ls b q f = scripts_ack (subst (λ k. FollowsScripts k held cs ls) q f)
-  call_follows a r h g held cs ls b q f = subst (λ k. FollowsScripts k held cs ls) q f
+  call_follows (to_queue (broker.publish e)) (from_queue None) h g held cs ls suit b q f = scripts_publish (subst (λ k. FollowsScripts k held cs ls) q f)
+  call_follows ack acked h g held cs ls suit b q f = scripts_ack (subst (λ k. FollowsScripts k held cs ls) q f)
+  call_follows (to_queue broker.take) (from_queue None) h g held cs ls suit b q f = subst (λ k. FollowsScripts k held cs ls) q f
+  call_follows (to_queue (broker.publish e)) refused h g held cs ls suit b q f = subst (λ k. FollowsScripts k held cs ls) q f
+  call_follows (to_table d) r h g held cs ls suit b q f = subst (λ k. FollowsScripts k held cs ls) q f
+  call_follows rest r h g held cs ls suit b q f = subst (λ k. FollowsScripts k held cs ls) q f
+  call_follows a r h g held cs ls suit b q f = elim suit [ ]
 
   none_added : (n : ℕ) → n ≤ greatest_count → CountsMore n 0 n
   none_added n h = omega (arith, h)
 
-module _ (behaviour : Behaviour) (plan : Roster) where
-  pub rests : (w : Progress) → IsTally w.tally → Worked behaviour plan w w
-  rests w t = record {
-    counts = record {
-      taken = none_added plan w.tally.taken t.0;
-      published = none_added plan w.tally.published t.1;
-      first =
-          none_added plan w.tally.first t.2;
-      parts = none_added plan w.tally.parts t.3;
-      dropped = none_added plan w.tally.dropped t.4;
-    };
-    run = [];
-    is_core = tt;
-    reads = tt;
-    leaves = refl;
-    made = [];
-    follows = scripts_all;
-    used = omega arith;
-    makes = refl;
-    serves = refl;
-  }
+-- with nothing done, whatever the worker's messages are
+pub nothing_done : (X : Protocol Envelope) (plan : Roster) (w : Working X.Message X.Carried) → IsTally w.tally → Followed X plan w w
+nothing_done X plan w t = record {
+  counts = record {
+    taken = none_added plan w.tally.taken t.0;
+    published = none_added plan w.tally.published t.1;
+    first = none_added plan w.tally.first t.2;
+    parts = none_added plan w.tally.parts t.3;
+    dropped = none_added plan w.tally.dropped t.4;
+  };
+  run = [];
+  is_core = tt;
+  leaves = refl;
+  made = [];
+  follows = scripts_all;
+  used = omega arith;
+  makes = refl;
+  serves = refl;
+}
 
-  pub call_first : (w v x : Progress) (a : Ask Envelope) (r : Reply Envelope) → Called behaviour plan w v a r → Worked behaviour plan v x
-      → Worked behaviour plan w x
+module _ (behaviour : Behaviour) (plan : Roster) where
+  pub rests : (w : Progress) → IsTally w.tally → HasFollowed behaviour plan w w
+  rests w t = nothing_done (enveloped behaviour plan) plan w t
+
+  pub call_first : (w v x : Progress) (a : Ask Envelope) (r : Reply Envelope) → Called behaviour plan w v a r → HasFollowed behaviour plan v x
+      → HasFollowed behaviour plan w x
   call_first w v x a r s f =
       let call : List (QueueAnswered Envelope) = broker_call a r in
       record {
         run = (a, r) ∷ f.run;
         is_core = (s.0.asked, (s.0.suits, s.0.back), subst (λ u. IsCoreRun (enveloped behaviour plan) u f.run) s.0.left f.is_core);
-        reads = (s.0.member, f.reads);
         counts = counted_more plan a r f.run w.tally v.tally x.tally s.0.counts f.counts;
         leaves = subst (λ u. left_after (enveloped behaviour plan) u f.run ≡ x.left) s.0.left f.leaves;
         made = call ++ f.made;
-        follows = call_follows plan a r w.current v.current w.held (core_calls f.run) f.made s.2 s.0.current
+        follows = call_follows plan a r w.current v.current w.held (core_calls f.run) f.made s.0.suits s.2 s.0.current
             (subst (λ hs. FollowsScripts v.current hs (core_calls f.run) f.made) s.1 f.follows);
         used = (let same : length v.held ≡ length w.held = ap length s.1 in
             omega (arith, same, f.used, total-append takes_one call f.made, total-append takes_one call (broker_calls f.run)));
@@ -129,12 +136,11 @@ module _ (behaviour : Behaviour) (plan : Roster) where
         serves = serves_append plan (backend_call a r) (backend_calls f.run) w.seat v.seat x.seat s.4 f.serves;
       }
 
-  pub held_first : (w v x : Progress) (e : Envelope) → FromHeld behaviour plan w v e → Worked behaviour plan v x → Worked behaviour plan w x
+  pub held_first : (w v x : Progress) (e : Envelope) → FromHeld behaviour plan w v e → HasFollowed behaviour plan v x → HasFollowed behaviour plan w x
   held_first w v x e s f = record {
-    run = (take, taken (Some e)) ∷ f.run;
+    run = (to_queue broker.take, from_queue (Some e)) ∷ f.run;
     is_core = (s.0.asked, (s.0.suits, s.0.back), subst (λ u. IsCoreRun (enveloped behaviour plan) u f.run) s.0.left f.is_core);
-    reads = (s.0.member, f.reads);
-    counts = counted_more plan take (taken (Some e)) f.run w.tally v.tally x.tally s.0.counts f.counts;
+    counts = counted_more plan (to_queue broker.take) (from_queue (Some e)) f.run w.tally v.tally x.tally s.0.counts f.counts;
     leaves = subst (λ u. left_after (enveloped behaviour plan) u f.run ≡ x.left) s.0.left f.leaves;
     made = f.made;
     follows = subst (λ hs. FollowsScripts w.current hs (makes (broker.take, Some e) ∷ core_calls f.run) f.made) (sym s.1)
@@ -144,11 +150,10 @@ module _ (behaviour : Behaviour) (plan : Roster) where
     serves = subst (λ p. Serves plan p (backend_calls f.run) x.seat) s.3 f.serves;
   }
 
-  pub batch_first : (w v x : Progress) (es : List Envelope) → Batched w v es → Worked behaviour plan v x → Worked behaviour plan w x
+  pub batch_first : (w v x : Progress) (es : List Envelope) → Batched w v es → HasFollowed behaviour plan v x → HasFollowed behaviour plan w x
   batch_first w v x es s f = record {
     run = f.run;
     is_core = subst (λ u. IsCoreRun (enveloped behaviour plan) u f.run) s.3 f.is_core;
-    reads = f.reads;
     counts = subst (λ t. Counted plan f.run t x.tally) s.4 f.counts;
     leaves = subst (λ u. left_after (enveloped behaviour plan) u f.run ≡ x.left) s.3 f.leaves;
     made = taking_all es ++ f.made;
@@ -161,11 +166,10 @@ module _ (behaviour : Behaviour) (plan : Roster) where
     serves = subst (λ p. Serves plan p (backend_calls f.run) x.seat) s.2 f.serves;
   }
 
-  pub again_first : (w v x : Progress) (e : Envelope) → Delivered w v e → Worked behaviour plan v x → Worked behaviour plan w x
+  pub again_first : (w v x : Progress) (e : Envelope) → Delivered w v e → HasFollowed behaviour plan v x → HasFollowed behaviour plan w x
   again_first w v x e s f = record {
     run = f.run;
     is_core = subst (λ u. IsCoreRun (enveloped behaviour plan) u f.run) s.5 f.is_core;
-    reads = f.reads;
     counts = subst (λ t. Counted plan f.run t x.tally) s.6 f.counts;
     leaves = subst (λ u. left_after (enveloped behaviour plan) u f.run ≡ x.left) s.5 f.leaves;
     made = (broker.redeliver e, None) ∷ f.made;
@@ -176,9 +180,3 @@ module _ (behaviour : Behaviour) (plan : Roster) where
     makes = makes_append ((broker.redeliver e, None) ∷ []) f.made w.pass v.pass x.pass s.1 f.makes;
     serves = subst (λ p. Serves plan p (backend_calls f.run) x.seat) s.4 f.serves;
   }
-
--- the member of a place, as a backend answers it
-pub at_get : (i : ℕ) (xs : List ℕ) → at i xs ≡ slice_get xs i
-at_get i [] = refl
-at_get zero (x ∷ xs) = refl
-at_get (suc i) (x ∷ xs) = at_get i xs

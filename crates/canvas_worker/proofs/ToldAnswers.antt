@@ -3,21 +3,20 @@ use Rattle.std.proofs.Common.{◌≡◌, ◌∙◌, ℕ, zero, suc, ◌+◌, ◌
 use Rattle.std.specs.Prelude.{MatchResult, true, IsSome}
 use Rattle.canvas_task.specs.Apply.{Behaviour}
 use Rattle.canvas_backend.specs.Seats.{Desk}
-use Rattle.canvas_backend.specs.Roster.{Roster, members}
+use Rattle.canvas_backend.specs.Roster.{Roster}
 use Rattle.canvas_broker.specs.Passes.{Empties}
 use Rattle.canvas_runs.specs.Book.{book_on}
-use Rattle.canvas_runs.specs.Calls.{broker_call, backend_call, reads_member, held_by}
+use Rattle.canvas_runs.specs.Calls.{broker_call, backend_call, held_by, takes_one}
 use Rattle.canvas_runs.specs.Core as C
 use Rattle.canvas_runs.specs.Core.{answered, is_inside, Suits, ReadsBack}
 use Rattle.canvas_runs.specs.Following.{Makes, Serves}
 use Rattle.canvas_runs.specs.Lists.{Each}
-use Rattle.canvas_runs.specs.Tally.{Counted, CountsMore, is_taken, is_published, is_first, is_part, is_dropped, greatest_count}
+use Rattle.canvas_runs.specs.Tally.{Counted, CountsMore, publishing, storing, returning, dropping, greatest_count}
 use Rattle.canvas_worker.specs.Asks.{Asked, Answer}
 use Rattle.canvas_worker.specs.Books.{book_in, no_book}
 use Rattle.canvas_worker.specs.EnvelopeWorker.{enveloped, enveloped_by, no_tasks}
-use Rattle.canvas_worker.specs.Progress.{Progress}
 use Rattle.canvas_worker.specs.SeatRights.{Can}
-use Rattle.canvas_worker.specs.CoreState.{Standing, asked, drops, after_reply, open_of, kept_next, task_next}
+use Rattle.canvas_worker.specs.CoreState.{Standing, Progress, asked, drops, after_reply, open_of, kept_next, task_next}
 use Rattle.canvas_worker.specs.WorkerSteps.{OnlyBare, Called}
 use Rattle.canvas_worker.specs.Polls.{Work, progress, with_core, with_answer, lost, CanDeliver, in_hand, Ready, makes_call, Acts, Acted, Leaves, EndsBy, ActedLast}
 use Rattle.canvas_worker.specs.declared.cause.Cause.TheVariants.{Memory}
@@ -26,8 +25,9 @@ use Rattle.canvas_worker.specs.declared.working.End.{End}
 use Rattle.canvas_worker.proofs.Asking.{same_book, may_go_on}
 use Rattle.canvas_worker.proofs.InHand.{call_can, has_open}
 use Rattle.canvas_worker.proofs.Resting.{busy_never}
-use Rattle.canvas_worker.proofs.ShownAsks.{drops_so, rests_over, held_step}
-use Rattle.canvas_worker.proofs.Turns.{tallied, some_none}
+use Rattle.canvas_worker.proofs.CorePasts.{book_step}
+use Rattle.canvas_worker.proofs.ShownAsks.{drops_so, rests_over}
+use Rattle.canvas_worker.proofs.Turns.{of_queue, of_table, tallied, some_none}
 
 -- ---- one ask answered by the broker or the backend
 
@@ -44,25 +44,24 @@ risen n (suc k) = min greatest_count (n + suc k)
 
 abbrev pub Counts : Work → Work → Asked → Answer → Type 0
 Counts w u a r =
-    (u.taken ≡ risen w.taken (is_taken a r)) × (u.published ≡ risen w.published (is_published a r)) × (u.first ≡ risen w.first (is_first a r))
-    × (u.parts ≡ risen w.parts (is_part a r))
+    (u.taken ≡ risen w.taken (of_queue takes_one a r)) × (u.published ≡ risen w.published (of_queue publishing a r))
+    × (u.first ≡ risen w.first (of_table storing a r)) × (u.parts ≡ risen w.parts (of_table returning a r))
 
 -- Where from w on its broker or its backend was asked a, and answered r; u is the worker before its core is told.
 pub record Asks (behaviour : Behaviour) (w u : Work) (a : Asked) (r : Answer) : Type 0 where
   pub asked_is : asked w.core.left ≡ a
   pub suits : Suits a r
   pub back : ReadsBack (enveloped_by no_tasks no_book) w.core.left
-  pub member : reads_member (members w.desk.plan) a r
   pub beside : Beside w u
   pub bare : OnlyBare a r w.held
   pub makes : Makes w.pass (broker_call a r) u.pass
   pub serves : Serves w.desk.plan w.seat (backend_call a r) u.seat
   pub counts : Counts w u a r
   pub still : answered (enveloped behaviour w.desk.plan) w.core.left r ≡ C.resting → (u.held ≡ []) × Empties u.pass
-  pub none_dropped : is_dropped w.desk.plan a r ≡ 0
+  pub none_dropped : of_queue (dropping w.desk.plan) a r ≡ 0
   pub core : after_reply behaviour (book_in w.desk.plan) u.core r ≡ after_reply behaviour (book_in w.desk.plan) w.core r
 
-counts_more : (n k m : ℕ) → n ≤ greatest_count → m ≡ risen n k → CountsMore n (k + 0) m
+counts_more : (n k m : ℕ) → n ≤ greatest_count → m ≡ risen n k → CountsMore n k m
 counts_more n zero m h e = omega (arith, h, e)
 counts_more n (suc k) m h e = omega (arith, e)
 
@@ -73,7 +72,6 @@ ack_asks behaviour w ready asks back = record {
   asked_is = asks;
   suits = tt;
   back = back;
-  member = tt;
   beside = (refl, refl, refl, ready.of, ready.home, refl, refl);
   bare = tt;
   makes = refl;
@@ -91,7 +89,6 @@ rest_asks behaviour w more ready asks back = record {
   asked_is = asks;
   suits = tt;
   back = back;
-  member = tt;
   beside = (refl, refl, refl, ready.of, ready.home, refl, refl);
   bare = tt;
   makes = refl;
@@ -135,27 +132,27 @@ module _ (behaviour : Behaviour) (w u : Work) (a : Asked) (r : Answer) (ready : 
   no_more : (n m k : ℕ) → n ≤ greatest_count → m ≡ n → k ≡ 0 → min greatest_count (n + k) ≡ m
   no_more n m k h e z = omega (arith, h, e, z)
 
-  none_lost : (n m k : ℕ) → n ≤ greatest_count → m ≡ n → k ≡ 0 → CountsMore n (k + 0) m
+  none_lost : (n m k : ℕ) → n ≤ greatest_count → m ≡ n → k ≡ 0 → CountsMore n k m
   none_lost n m k h e z = omega (arith, h, e, z)
 
   counted : Counted plan ((a, r) ∷ []) (progress w).tally after.tally
   counted = record {
-    taken = counts_more w.taken (is_taken a r) u.taken ready.counts.0 x.counts.0;
-    published = counts_more w.published (is_published a r) u.published ready.counts.1 x.counts.1;
-    first = counts_more w.first (is_first a r) u.first ready.counts.2 x.counts.2;
-    parts = counts_more w.parts (is_part a r) u.parts ready.counts.3 x.counts.3;
-    dropped = none_lost w.core.dropped u.core.dropped (is_dropped plan a r) ready.counts.4 same_drops x.none_dropped;
+    taken = counts_more w.taken (of_queue takes_one a r) u.taken ready.counts.0 x.counts.0;
+    published = counts_more w.published (of_queue publishing a r) u.published ready.counts.1 x.counts.1;
+    first = counts_more w.first (of_table storing a r) u.first ready.counts.2 x.counts.2;
+    parts = counts_more w.parts (of_table returning a r) u.parts ready.counts.3 x.counts.3;
+    dropped = none_lost w.core.dropped u.core.dropped (of_queue (dropping plan) a r) ready.counts.4 same_drops x.none_dropped;
   }
 
   suits_left : Suits (asked w.core.left) r
   suits_left = subst (λ b. Suits b r) (sym x.asked_is) x.suits
 
   current : after.current ≡ held_by (open_of w.core.left w.core.kept) a r
-  current = held_step behaviour plan w.core.left w.core.kept r suits_left ∙ ap (λ b. held_by (open_of w.core.left w.core.kept) b r) x.asked_is
+  current = book_step behaviour (book_on plan) w.core.left w.core.kept r suits_left ∙ ap (λ b. held_by (open_of w.core.left w.core.kept) b r) x.asked_is
 
   pub called : Called behaviour plan (progress w) after a r
   called = (
-    record { asked = sym x.asked_is; suits = x.suits; back = x.back; member = x.member; counts = counted; left = refl; current = current },
+    record { asked = sym x.asked_is; suits = x.suits; back = x.back; counts = counted; left = refl; current = current },
     held,
     x.bare,
     x.makes,
@@ -166,13 +163,13 @@ module _ (behaviour : Behaviour) (w u : Work) (a : Asked) (r : Answer) (ready : 
   again : Each (CanDeliver u.pass) (in_hand after.current u.held)
   again =
       let all : Each (CanDeliver u.pass) (in_hand (held_by (open_of w.core.left w.core.kept) a r) w.held) =
-      call_can a r (open_of w.core.left w.core.kept) w.held w.pass u.pass x.makes ready.again in
+      call_can a r (open_of w.core.left w.core.kept) w.held w.pass u.pass x.suits x.makes ready.again in
       subst (λ h. Each (CanDeliver u.pass) (in_hand h u.held)) (sym current)
       (subst (λ es. Each (CanDeliver u.pass) (in_hand (held_by (open_of w.core.left w.core.kept) a r) es)) (sym held) all)
 
   has_current : is_inside after.left ≡ true → IsSome after.current
   has_current i =
-      subst (λ h. IsSome h) (sym (held_step behaviour plan w.core.left w.core.kept r suits_left))
+      subst (λ h. IsSome h) (sym (book_step behaviour (book_on plan) w.core.left w.core.kept r suits_left))
       (has_open behaviour plan w.core.left w.core.kept r suits_left ready.current i)
 
   can : Can plan u.seat (answered (enveloped behaviour plan) w.core.left r)
@@ -193,7 +190,8 @@ module _ (behaviour : Behaviour) (w u : Work) (a : Asked) (r : Answer) (ready : 
 
   core_is : after_reply behaviour (book_in u.desk.plan) u.core r ≡ core
   core_is =
-      let so : drops (book_on plan) w.core.left r ≡ is_dropped plan a r = drops_so plan w.core.left r ∙ ap (λ b. is_dropped plan b r) x.asked_is in
+      let so : drops (book_on plan) w.core.left r ≡ of_queue (dropping plan) a r =
+      drops_so plan w.core.left r ∙ ap (λ b. of_queue (dropping plan) b r) x.asked_is in
       let dropped : min greatest_count (w.core.dropped + drops (book_on plan) w.core.left r) ≡ u.core.dropped =
       no_more w.core.dropped u.core.dropped (drops (book_on plan) w.core.left r) ready.counts.4 same_drops (so ∙ x.none_dropped) in
       ap (λ (d : Desk). after_reply behaviour (book_in d.plan) u.core r) desk ∙ x.core ∙ ap (λ b. after_reply behaviour b w.core r) (same_book plan ready.plan)

@@ -2,8 +2,11 @@
 use Rattle.std.proofs.Common.{◌≡◌, ◌∙◌, ℕ, ◌+◌, ◌≤◌, min, [], ◌∷◌, Option, Some, None, Result, Ok, Err, refl, sym, arith}
 use Rattle.std.specs.Prelude.{MatchResult}
 use Rattle.canvas_task.specs.Apply.{Behaviour}
+use Rattle.canvas_message.specs.declared.envelope.Envelope.{Envelope}
 use Rattle.canvas_backend.specs.Roster.{Roster}
-use Rattle.canvas_runs.specs.Tally.{Tally, IsTally, Counted, CountsMore, is_taken, is_published, is_first, is_part, is_dropped, greatest_count}
+use Rattle.canvas_runs.specs.Calls.{QueueAnswered, TableAnswered, takes_one, broker_calls, backend_calls}
+use Rattle.canvas_runs.specs.Lists.{total}
+use Rattle.canvas_runs.specs.Tally.{Tally, IsTally, Counted, CountsMore, publishing, storing, returning, dropping, greatest_count}
 use Rattle.canvas_worker.specs.Asks.{Asked, Answer}
 use Rattle.canvas_worker.specs.Polls.{Work, progress, Ready, Acts, stays, acts, Pends, Acted, EndsBy, EndsWith, ActedLast}
 use Rattle.canvas_worker.specs.declared.cause.Cause.{Cause}
@@ -11,7 +14,14 @@ use Rattle.canvas_worker.specs.declared.working.End.{End}
 
 -- ---- counts
 
-pub unchanged : (n m : ℕ) → n ≤ greatest_count → m ≡ n → CountsMore n (0 + 0) m
+-- what one answered ask adds to a count of calls of the queue, and of the table
+abbrev pub of_queue : (QueueAnswered Envelope → ℕ) → Asked → Answer → ℕ
+of_queue w a r = total w (broker_calls ((a, r) ∷ []))
+
+abbrev pub of_table : (TableAnswered → ℕ) → Asked → Answer → ℕ
+of_table w a r = total w (backend_calls ((a, r) ∷ []))
+
+pub unchanged : (n m : ℕ) → n ≤ greatest_count → m ≡ n → CountsMore n 0 m
 unchanged n m h e = omega (arith, h, e)
 
 pub one_more : (n m : ℕ) → m ≡ min greatest_count (n + 1) → CountsMore n (1 + 0) m
@@ -22,11 +32,11 @@ within n k m e = omega (arith, e)
 
 pub tallied : (plan : Roster) (a : Asked) (r : Answer) (t u : Tally) → Counted plan ((a, r) ∷ []) t u → IsTally u
 tallied plan a r t u c = (
-  within t.taken (is_taken a r + 0) u.taken c.taken,
-  within t.published (is_published a r + 0) u.published c.published,
-  within t.first (is_first a r + 0) u.first c.first,
-  within t.parts (is_part a r + 0) u.parts c.parts,
-  within t.dropped (is_dropped plan a r + 0) u.dropped c.dropped,
+  within t.taken (of_queue takes_one a r) u.taken c.taken,
+  within t.published (of_queue publishing a r) u.published c.published,
+  within t.first (of_table storing a r) u.first c.first,
+  within t.parts (of_table returning a r) u.parts c.parts,
+  within t.dropped (of_queue (dropping plan) a r) u.dropped c.dropped,
 )
 
 -- ---- a worker that ends at once

@@ -3,8 +3,10 @@ use Rattle.std.specs.Prelude.{◌≡◌, false, List, [], ◌∷◌, ◌++◌, N
 use Rattle.canvas_task.specs.Apply.{Behaviour}
 use Rattle.canvas_message.specs.declared.envelope.Envelope.{Envelope}
 use Rattle.canvas_runs.specs.Book.{Book}
-use Rattle.canvas_runs.specs.Core.{failed, end, rest, publish, rested, refused}
+use Rattle.canvas_broker.specs.Broker.{publish}
+use Rattle.canvas_runs.specs.Core.{failed, end, rest, to_queue, rested, refused}
 use Rattle.canvas_worker.specs.Asks.{Asked, Answer, suits, shown}
+use Rattle.canvas_worker.specs.Books.{HasMembers, IsFromOne}
 use Rattle.canvas_worker.specs.CorePast.{Leads}
 use Rattle.canvas_worker.specs.CoreState.{Standing, asked, failing, held_out, handed}
 use Rattle.canvas_worker.specs.declared.ask.Reply.{Reply}
@@ -24,20 +26,23 @@ FailingEnds = (s : Standing) → asked (failing s).left ≡ end
 -- refused
 abbrev pub EndsACore : Asked → Answer → Type 0
 EndsACore rest (rested false) = Unit {0}
-EndsACore (publish e) refused = Unit {0}
+EndsACore (to_queue (publish e)) refused = Unit {0}
 EndsACore a r = ⊥
 
--- But for memory, a core is at its end only behind a rest that was answered with no more, or behind
--- a publish that was refused.
+-- But for memory, a core whose book has all members is at its end only behind a rest that was
+-- answered with no more, or behind a publish that was refused.
 abbrev pub EndsBehind : Type 0
 EndsBehind =
-    (behaviour : Behaviour) (book : Book) (xs : List (Asked × Answer)) (s : Standing)
+    (behaviour : Behaviour) (book : Book) → HasMembers book → IsFromOne book
+    → (xs : List (Asked × Answer)) (s : Standing)
     → Leads behaviour book xs s → asked s.left ≡ end
     → (ys : List (Asked × Answer)) × (x : Asked × Answer) × (xs ≡ ys ++ x ∷ []) × EndsACore x.0 x.1
 
 -- and it has failed only behind a publish that was refused
 abbrev pub FailsBehind : Type 0
 FailsBehind =
-    (behaviour : Behaviour) (book : Book) (xs : List (Asked × Answer)) (s : Standing)
+    (behaviour : Behaviour) (book : Book) → HasMembers book → IsFromOne book
+    → (xs : List (Asked × Answer)) (s : Standing)
     → Leads behaviour book xs s → s.left ≡ failed
-    → (ys : List (Asked × Answer)) × (e : Envelope) × (xs ≡ ys ++ (publish e, refused) ∷ [])
+    → (ys : List (Asked × Answer)) × (e : Envelope)
+    × (xs ≡ ys ++ (to_queue (publish e), refused) ∷ [])

@@ -6,18 +6,28 @@ use Rattle.canvas_rewrite.specs.FrozenView.{PCarried}
 use Rattle.canvas_message.specs.Content.{Content, number_of}
 use Rattle.canvas_effects.specs.Job.{publish}
 use Rattle.canvas_message.specs.declared.envelope.Envelope.{Envelope}
+use Rattle.canvas_backend.specs.Roster.{Roster}
 use Rattle.canvas_runs.specs.Book.{Book}
+use Rattle.canvas_runs.specs.Following.{Working, Followed}
 use Rattle.canvas_runs.specs.Tally.{greatest_count}
-use Rattle.canvas_runs.specs.Core.{CoreState, taking, failed, owning, doing, acking, taken, ask, answered}
+use Rattle.canvas_runs.specs.Core.{CoreState, taking, failed, owning, doing, acking, from_queue, ask, answered}
 use Rattle.canvas_runs.specs.Worker.{opened}
 use Rattle.canvas_runs.specs.declared.when.When.{When}
 use Rattle.canvas_runs.specs.declared.when.When.TheVariants.{Early, Late}
 use Rattle.canvas_worker.specs.Asks.{Asked, Answer, to_send}
 use Rattle.canvas_worker.specs.Books.{no_book}
-use Rattle.canvas_worker.specs.EnvelopeWorker.{Applied, unapplied, no_tasks, enveloped_by, blank}
+use Rattle.canvas_worker.specs.EnvelopeWorker.{Applied, unapplied, no_tasks, enveloped, enveloped_by, blank}
 
 abbrev pub Left : Type 0
 Left = CoreState Applied PCarried
+
+-- how far a worker is whose core keeps messages as their envelopes; and that from w on it followed
+-- a core run of its plan, and was v then
+abbrev pub Progress : Type 0
+Progress = Working Applied PCarried
+
+abbrev pub HasFollowed : Behaviour → Roster → Progress → Progress → Type 0
+HasFollowed behaviour plan w v = Followed (enveloped behaviour plan) plan w v
 
 -- what is left to do, whether the envelope that is to be published was handed out, how many
 -- envelopes were dropped, the envelope of the open script once its message's outcome is stored, and
@@ -38,7 +48,7 @@ unread None = 1
 unread (Some c) = 0
 
 abbrev pub drops_taken : Book → Answer → ℕ
-drops_taken book (taken (Some e)) = unread (opened book e)
+drops_taken book (from_queue (Some e)) = unread (opened book e)
 drops_taken book r = 0
 
 -- how many envelopes are dropped by a reply
@@ -54,7 +64,7 @@ kept_taken None e h = Some e
 kept_taken (Some c) e h = h
 
 abbrev pub kept_next : Book → Left → Option Envelope → Answer → Option Envelope
-kept_next book taking h (taken (Some e)) = kept_taken (opened book e) e h
+kept_next book taking h (from_queue (Some e)) = kept_taken (opened book e) e h
 kept_next book (owning m) h r = Some m.envelope
 kept_next book acking h r = None
 kept_next book s h r = h
@@ -64,7 +74,7 @@ task_of None = None
 task_of (Some c) = Some (number_of c.own)
 
 abbrev pub task_next : Book → Left → Option ℕ → Answer → Option ℕ
-task_next book taking x (taken (Some e)) = task_of (opened book e)
+task_next book taking x (from_queue (Some e)) = task_of (opened book e)
 task_next book s x r = x
 
 -- the envelope of the open script

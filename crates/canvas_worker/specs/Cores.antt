@@ -24,7 +24,7 @@ module _ (behaviour : Behaviour) where
   IsAlike acking acking = Unit {0}
   IsAlike (owning m) (owning c) = (said m.envelope ≡ c) × (m.outcome ≡ outcome_of behaviour c)
   IsAlike (doing js b) (doing ks d) = (js ≡ map enclosed ks) × (b ≡ d)
-  IsAlike (reading g c fs) (reading h d gs) = (g ≡ h) × ((c ≡ d) × (fs ≡ gs))
+  IsAlike (reading g c t fs) (reading h d u gs) = (g ≡ h) × ((c ≡ d) × ((t ≡ u) × (fs ≡ gs)))
   IsAlike s t = ⊥
 
   -- that of a core and that of the worker of a plan

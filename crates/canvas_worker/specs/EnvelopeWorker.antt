@@ -62,9 +62,8 @@ module _ (behaviour : Behaviour) where
   applied_if (Some c) e = Some (record { envelope = e; outcome = outcome_of behaviour (said e) })
 
   -- of what a book knows
-  abbrev pub enveloped_by : Book → Protocol
+  abbrev pub enveloped_by : Book → Protocol Envelope
   enveloped_by book = record {
-    Envelope = Envelope;
     Message = Applied;
     Carried = PCarried;
     no = λ m. number_of (said m.envelope).own;
@@ -72,10 +71,11 @@ module _ (behaviour : Behaviour) where
     ended = λ m o. map enclosed (script (after (said m.envelope) o));
     completed = λ c es. map enclosed (script (body_after c es));
     size = λ c. c.size;
+    member = book.member;
     sealed = λ m. m.envelope;
     Back = λ m. read_envelope m.envelope ≡ Ok (said m.envelope);
     opened = λ e. applied_if (opened book e) e;
   }
 
-  abbrev pub enveloped : Roster → Protocol
+  abbrev pub enveloped : Roster → Protocol Envelope
   enveloped plan = enveloped_by (book_on plan)

@@ -5,11 +5,14 @@ use Rattle.std.specs.Global.{Global}
 use Rattle.canvas_task.specs.Apply.{Behaviour}
 use Rattle.crossbeam_queue.specs.SegTies.{SegId}
 use Rattle.canvas_semantics.specs.Line.{Line}
+use Rattle.canvas_rewrite.specs.FrozenView.{PCarried}
 use Rattle.canvas_rewrite.specs.Planned.{IsPlan}
+use Rattle.canvas_message.specs.Content.{Content}
 use Rattle.canvas_backend.specs.Seats.{Desk}
 use Rattle.canvas_backend.specs.Roster.{Roster, roster_of}
 use Rattle.canvas_broker.specs.Passes.{Empties}
-use Rattle.canvas_runs.specs.Following.{Pass, Seat, Working, Followed, begins, IsOver}
+use Rattle.canvas_runs.specs.Following.{Pass, Seat, Working, Followed, starting, IsOver}
+use Rattle.canvas_runs.specs.Worker.{worker_of}
 use Rattle.canvas_worker.specs.Polls.{Ready, TellsOf, working_begun, tally_of}
 use Rattle.canvas_worker.specs.declared.record.Record.{Record}
 
@@ -19,8 +22,8 @@ use Rattle.canvas_worker.specs.declared.record.Record.{Record}
 pub record Finished (behaviour : Behaviour) (plan : Roster) (number : ℕ) (pass : Pass) (seat : Seat)
     (r : Record) : Type 0 where
   pub same_number : r.number ≡ number
-  pub ended : Working
-  pub followed : Followed behaviour plan (begins pass seat) ended
+  pub ended : Working Content PCarried
+  pub followed : Followed (worker_of behaviour plan) plan (starting pass seat) ended
   pub pass_is : r.pass ≡ ended.pass
   pub seat_is : r.seat ≡ ended.seat
   pub counts : tally_of r ≡ ended.tally

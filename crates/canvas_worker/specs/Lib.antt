@@ -7,7 +7,6 @@ pub mod Phases
 pub mod Cores
 pub mod CorePast
 pub mod AtEnd
-pub mod Progress
 pub mod StepLaws
 pub mod SeatRights
 pub mod Polls

@@ -18,10 +18,9 @@ use Rattle.canvas_runs.specs.Lists.{Each}
 use Rattle.canvas_runs.specs.Tally.{Tally, IsTally}
 use Rattle.canvas_worker.specs.Asks.{Asked, Answer}
 use Rattle.canvas_worker.specs.Books.{book_in}
-use Rattle.canvas_worker.specs.Progress.{Progress, Worked}
 use Rattle.canvas_worker.specs.SeatRights.{Can}
 use Rattle.canvas_runs.specs.Tally.{greatest_count}
-use Rattle.canvas_worker.specs.CoreState.{Standing, begun as new_core, after_reply, failing, held}
+use Rattle.canvas_worker.specs.CoreState.{Standing, Progress, HasFollowed, begun as new_core, after_reply, failing, held}
 use Rattle.canvas_worker.specs.WorkerSteps.{Called, FromHeld, Batched, Delivered}
 use Rattle.canvas_worker.specs.declared.ask.Ask.{Ask}
 use Rattle.canvas_worker.specs.declared.ask.Ask.TheVariants.{Store, Part, Ack, Rest}
@@ -257,5 +256,5 @@ ActedLast behaviour w fault v =
 -- record has.
 pub record TellsOf (behaviour : Behaviour) (w : Work) (r : Record) : Type 0 where
   pub ended : Progress
-  pub worked : Worked behaviour w.desk.plan (progress w) ended
+  pub worked : HasFollowed behaviour w.desk.plan (progress w) ended
   pub is_of : IsRecordOf w.number ended r

@@ -9,12 +9,13 @@ use Rattle.canvas_rewrite.specs.Planned.{IsPlan}
 use Rattle.canvas_effects.specs.Job.{publish}
 use Rattle.canvas_backend.specs.declared.stored.Stored.{Stored}
 use Rattle.canvas_backend.specs.declared.stored.Stored.TheVariants.{First}
+use Rattle.canvas_backend.specs.Backend as results
 use Rattle.canvas_backend.specs.Backend.{MayReturn}
-use Rattle.canvas_backend.specs.Roster.{Roster, roster_of, members, size, is_chord, is_member}
+use Rattle.canvas_backend.specs.Roster.{Roster, roster_of, members, is_chord, is_member}
 use Rattle.canvas_effects.specs.Job as job
-use Rattle.canvas_runs.specs.Book.{book_on, has_size, line_known}
+use Rattle.canvas_runs.specs.Book.{Book, book_on, has_size, line_known}
 use Rattle.canvas_runs.specs.Calls.{backend_call}
-use Rattle.canvas_runs.specs.Core.{store, part, read, taking, owning, doing, reading, answered, is_due, Suits}
+use Rattle.canvas_runs.specs.Core.{to_table, taking, owning, doing, reading, answered, is_due, Suits}
 use Rattle.canvas_runs.specs.Following.{Seat, Serves}
 use Rattle.canvas_runs.specs.Worker.{opened}
 use Rattle.canvas_worker.specs.Asks.{Asked, Answer}
@@ -22,18 +23,19 @@ use Rattle.canvas_worker.specs.EnvelopeWorker.{said, enveloped}
 use Rattle.canvas_worker.specs.Scripts.{EnvelopeJobs}
 use Rattle.canvas_worker.specs.CoreState.{Left, asked}
 
-module _ (plan : Roster) where
-  -- what a member of this chord carries names only what the plan has
+module _ (book : Book) where
+  -- what a member of this chord carries names only what the book knows
   abbrev pub Carries : ℕ → PCarried → Type 0
-  Carries g c = (has_size c.size (size plan g) ≡ true) × (line_known (book_on plan) c.body ≡ true)
+  Carries g c = (has_size c.size (book.size g) ≡ true) × (line_known book c.body ≡ true)
 
-  -- each task that is stored is the plan's, and each part is that of a chord's member
-  abbrev pub InPlan : EnvelopeJobs → Type 0
-  InPlan [] = Unit {0}
-  InPlan (job.store t o ∷ js) = (t ≤ plan.tasks) × InPlan js
-  InPlan (publish e ∷ js) = InPlan js
-  InPlan (job.part g t c ∷ js) = IsTrue (is_member plan g t) × Carries g c × InPlan js
+  -- each task that is stored is known, and each part is that of a chord's member
+  abbrev pub InBook : EnvelopeJobs → Type 0
+  InBook [] = Unit {0}
+  InBook (job.store t o ∷ js) = IsTrue (book.knows t) × InBook js
+  InBook (publish e ∷ js) = InBook js
+  InBook (job.part g t c ∷ js) = IsTrue (book.is_member g t) × Carries g c × InBook js
 
+module _ (plan : Roster) where
   -- The seat may return the part that is due if its task's latest store was the first, unless that
   -- task is still to be stored.
   abbrev pub MayReturnDue : Seat → Stored → EnvelopeJobs → Type 0
@@ -50,16 +52,18 @@ module _ (plan : Roster) where
   -- the backend lets the seat do what is left to do
   abbrev pub Can : Seat → Left → Type 0
   Can s (owning m) = opened (book_on plan) m.envelope ≡ Some (said m.envelope)
-  Can s (doing js b) = InPlan js × MayReturnDue s b js × IsNext b js
-  Can s (reading g c fs) = Carries g c × (length fs < c.size)
+  Can s (doing js b) = InBook (book_on plan) js × MayReturnDue s b js × IsNext b js
+  Can s (reading g c t fs) =
+      Carries (book_on plan) g c × (length fs < c.size)
+      × (slice_get (members plan g) (length fs) ≡ Some t)
   Can s left = Unit {0}
 
-  -- the backend lets the seat ask this, and a read is of a member that there is
+  -- the backend lets the seat ask this
   abbrev pub LetsAsk : Seat → Asked → Type 0
-  LetsAsk s (store t o) = t ≤ plan.tasks
-  LetsAsk s (part g t) =
+  LetsAsk s (to_table (results.store t o)) = t ≤ plan.tasks
+  LetsAsk s (to_table (results.part g t)) =
       IsTrue (is_chord plan g) × IsTrue (is_member plan g t) × MayReturn plan s.seen s.name t
-  LetsAsk s (read g i) = (t : ℕ) × (slice_get (members plan g) i ≡ Some t) × (t ≤ plan.tasks)
+  LetsAsk s (to_table (results.read t)) = t ≤ plan.tasks
   LetsAsk s a = Unit {0}
 
 -- a worker that waits for an envelope can go on

@@ -10,35 +10,36 @@ use Rattle.canvas_broker.specs.Broker.{QueueCall, take, HasTaken}
 use Rattle.canvas_broker.specs.Passes.{Stands}
 use Rattle.canvas_runs.specs.Following.{Pass}
 use Rattle.canvas_runs.specs.Core.{Ask, Reply}
-use Rattle.canvas_worker.specs.Progress.{Progress, Worked}
+use Rattle.canvas_worker.specs.CoreState.{Progress, HasFollowed}
 use Rattle.canvas_runs.specs.Tally.{IsTally}
 use Rattle.canvas_worker.specs.WorkerSteps.{Called, FromHeld, Batched, Delivered}
 
 abbrev pub Rests : Type 0
 Rests =
     (behaviour : Behaviour) (plan : Roster) (w : Progress) → IsTally w.tally
-    → Worked behaviour plan w w
+    → HasFollowed behaviour plan w w
 
 abbrev pub CallFirst : Type 0
 CallFirst =
     (behaviour : Behaviour) (plan : Roster) (w v x : Progress) (a : Ask Envelope)
-    (r : Reply Envelope) → Called behaviour plan w v a r → Worked behaviour plan v x
-    → Worked behaviour plan w x
+    (r : Reply Envelope) → Called behaviour plan w v a r → HasFollowed behaviour plan v x
+    → HasFollowed behaviour plan w x
 
 abbrev pub HeldFirst : Type 0
 HeldFirst =
     (behaviour : Behaviour) (plan : Roster) (w v x : Progress) (e : Envelope)
-    → FromHeld behaviour plan w v e → Worked behaviour plan v x → Worked behaviour plan w x
+    → FromHeld behaviour plan w v e → HasFollowed behaviour plan v x
+    → HasFollowed behaviour plan w x
 
 abbrev pub BatchFirst : Type 0
 BatchFirst =
     (behaviour : Behaviour) (plan : Roster) (w v x : Progress) (es : List Envelope) → Batched w v es
-    → Worked behaviour plan v x → Worked behaviour plan w x
+    → HasFollowed behaviour plan v x → HasFollowed behaviour plan w x
 
 abbrev pub AgainFirst : Type 0
 AgainFirst =
     (behaviour : Behaviour) (plan : Roster) (w v x : Progress) (e : Envelope) → Delivered w v e
-    → Worked behaviour plan v x → Worked behaviour plan w x
+    → HasFollowed behaviour plan v x → HasFollowed behaviour plan w x
 
 -- What a pass has just taken it may deliver again, and what it might before it still may after a
 -- call of its own.

@@ -3,19 +3,19 @@
 use Rattle.std.specs.Prelude.{◌≡◌, List, [], ◌∷◌, ◌++◌, Some, None}
 use Rattle.canvas_task.specs.Apply.{Behaviour}
 use Rattle.canvas_message.specs.declared.envelope.Envelope.{Envelope}
-use Rattle.canvas_backend.specs.Roster.{Roster, members}
-use Rattle.canvas_broker.specs.Broker.{redeliver}
+use Rattle.canvas_backend.specs.Roster.{Roster}
+use Rattle.canvas_broker.specs.Broker.{take, redeliver}
 use Rattle.canvas_broker.specs.Passes as passes
-use Rattle.canvas_runs.specs.Core.{Ask, Reply, take, taken, ask, answered, Suits, ReadsBack}
+use Rattle.canvas_runs.specs.Core.{Ask, Reply, to_queue, from_queue, ask, answered, Suits, ReadsBack}
 use Rattle.canvas_runs.specs.Following.{Makes, Serves}
-use Rattle.canvas_worker.specs.Progress.{Progress}
-use Rattle.canvas_runs.specs.Calls.{broker_call, backend_call, reads_member, held_by}
+use Rattle.canvas_runs.specs.Calls.{broker_call, backend_call, held_by}
 use Rattle.canvas_runs.specs.Tally.{Counted}
 use Rattle.canvas_worker.specs.EnvelopeWorker.{enveloped}
+use Rattle.canvas_worker.specs.CoreState.{Progress}
 
 -- an envelope is taken from the broker only where none is held
 abbrev pub OnlyBare : Ask Envelope → Reply Envelope → List Envelope → Type 0
-OnlyBare take (taken (Some e)) held = held ≡ []
+OnlyBare (to_queue take) (from_queue (Some e)) held = held ≡ []
 OnlyBare a r held = Unit
 
 module _ (behaviour : Behaviour) (plan : Roster) where
@@ -25,7 +25,6 @@ module _ (behaviour : Behaviour) (plan : Roster) where
     pub asked : a ≡ ask (enveloped behaviour plan) w.left
     pub suits : Suits a r
     pub back : ReadsBack (enveloped behaviour plan) w.left
-    pub member : reads_member (members plan) a r
     pub counts : Counted plan ((a, r) ∷ []) w.tally v.tally
     pub left : v.left ≡ answered (enveloped behaviour plan) w.left r
     pub current : v.current ≡ held_by w.current a r
@@ -37,7 +36,7 @@ module _ (behaviour : Behaviour) (plan : Roster) where
 
   abbrev pub FromHeld : Progress → Progress → Envelope → Type 0
   FromHeld w v e =
-      Answered w v take (taken (Some e)) × (w.held ≡ e ∷ v.held) × (v.pass ≡ w.pass)
+      Answered w v (to_queue take) (from_queue (Some e)) × (w.held ≡ e ∷ v.held) × (v.pass ≡ w.pass)
       × (v.seat ≡ w.seat)
 
 -- a batch is taken, and none of it is given to the core yet

@@ -2,6 +2,7 @@
 
 ghost use Rattle.std.specs.Prelude.{refl};
 ghost use Rattle.canvas_worker.specs.Books.{book_in};
+ghost use Rattle.canvas_worker.specs.steps.Members.{members_in};
 
 use crate::Book;
 use canvas_backend::{Backend, PlainBackend};
@@ -12,6 +13,8 @@ impl Book for PlainBackend {
 
     ghost from_one = { λ b g. refl };
 
+    ghost has_members = { λ b. members_in b.plan };
+
     fn knows(&self, task: TaskNo) -> bool {
         self.knows(task)
     }
@@ -24,6 +27,10 @@ impl Book for PlainBackend {
         // The first test is always true: it is here for `from_one`, by which no book has task 0 for
         // a member.
         task.get() != 0 && self.is_member(group, task)
+    }
+
+    fn member(&self, group: GroupNo, place: u32) -> Option<TaskNo> {
+        self.member(group, place)
     }
 }
 
@@ -32,6 +39,8 @@ impl Book for Backend {
 
     ghost from_one = { λ b g. refl };
 
+    ghost has_members = { λ b. members_in b.plan };
+
     fn knows(&self, task: TaskNo) -> bool {
         self.knows(task)
     }
@@ -44,5 +53,9 @@ impl Book for Backend {
         // The first test is always true: it is here for `from_one`, by which no book has task 0 for
         // a member.
         task.get() != 0 && self.is_member(group, task)
+    }
+
+    fn member(&self, group: GroupNo, place: u32) -> Option<TaskNo> {
+        self.member(group, place)
     }
 }

@@ -5,9 +5,10 @@ ghost use Rattle.std.specs.Option.{option_map};
 ghost use Rattle.canvas_task.specs.Apply.{Behaviour};
 ghost use Rattle.canvas_worker.specs.Asks.{suits, shown, replied, StoresInRange, FoundInRange, Grows};
 ghost use Rattle.canvas_worker.specs.Books.{no_book};
-ghost use Rattle.canvas_runs.specs.Core.{ReadsBack, taking, acking, take, taken, is_inside};
-ghost use Rattle.canvas_runs.specs.Book.{Book as AnyBook};
+ghost use Rattle.canvas_broker.specs.Broker.{take};
+ghost use Rattle.canvas_runs.specs.Core.{ReadsBack, taking, acking, to_queue, from_queue, is_inside};
 ghost use Rattle.canvas_worker.specs.Phases.{left_of, is_out};
+ghost use Rattle.canvas_worker.specs.declared.ask.Ask.TheVariants as ask;
 ghost use Rattle.canvas_runs.specs.Tally.{greatest_count};
 ghost use Rattle.canvas_worker.specs.CoreState.{asked, begun, after_reply, failing, held, held_out, handed, point_at, waiting};
 ghost use Rattle.canvas_worker.specs.EnvelopeWorker.{enveloped_by, said, no_tasks};
@@ -107,7 +108,7 @@ impl Core {
             Phase::Storing(storing) => Ask::Store(storing.task, storing.outcome),
             Phase::Publishing(_) => Ask::Publish,
             Phase::Returning(part) => Ask::Part(part.group, part.task),
-            Phase::Reading(reading) => Ask::Read(reading.group, reading.found.len() as u32),
+            Phase::Reading(reading) => Ask::Read(reading.task),
             Phase::Acking => Ask::Ack(self.task),
         }
     }
@@ -188,16 +189,17 @@ impl Core {
                 self.phase = Phase::Failed;
                 self.take_in(alloc, book, tasks, reply)
             }
-            _ => self.go_on(alloc, &reply),
+            _ => self.go_on(alloc, book, &reply),
         }
     }
 
-    /// The answer to what isn't a take, for which neither the book nor the tasks are asked.
-    fn go_on(&mut self, alloc: Global, reply: &Reply) -> Result<(), Memory>
-        requires asks { asked self.old.left ≢ take }
+    /// The answer to what isn't a take, for which no task is called.
+    fn go_on<B: Book>(&mut self, alloc: Global, book: &B, reply: &Reply) -> Result<(), Memory>
+        requires asks { asked self.old.left ≢ to_queue take }
+        requires suits { suits (shown self.old.task (asked self.old.left)) reply.now ≡ true }
         requires in_range { FoundInRange reply.now }
-        ensures ok { OnOk result ((behaviour : Behaviour) (book : AnyBook)
-            → self.new ≡ after_reply behaviour book self.old (replied reply.now)) }
+        ensures ok { OnOk result ((behaviour : Behaviour)
+            → self.new ≡ after_reply behaviour (B.book book.now) self.old (replied reply.now)) }
         ensures err { OnErr result (self.new ≡ failing self.old) }
         ensures memory { OnErr result (Grows reply.now) }
     {
@@ -213,9 +215,9 @@ impl Core {
             }
             Phase::Storing(storing) => self.set(storing.answered(reply)),
             Phase::Publishing(publishing) => self.set(publishing.answered(reply)),
-            Phase::Returning(part) => self.set(returned(alloc, part, reply)),
+            Phase::Returning(part) => self.set(returned(alloc, book, part, reply)),
             Phase::Reading(reading) => {
-                let phase = reading.answered(alloc, reply)?;
+                let phase = reading.answered(alloc, book, reply)?;
                 self.set(phase);
             }
         }
@@ -264,6 +266,7 @@ impl Core {
         tasks: &T,
         reply: Reply,
     ) -> Result<(), Memory>
+        requires { suits ask.Take reply ≡ true }
         ensures ok { OnOk result (self.new
             ≡ after_reply (T.behaviour tasks.now) (B.book book.now)
             (waiting self.old.dropped self.old.kept self.old.task) (replied reply)) }
@@ -276,10 +279,7 @@ impl Core {
                 self.set(Phase::Resting);
                 Ok(())
             }
-            _ => {
-                self.set(Phase::Failed);
-                Ok(())
-            }
+            _ => unreachable!(),
         }
     }
 
@@ -292,7 +292,7 @@ impl Core {
     ) -> Result<(), Memory>
         ensures ok { OnOk result (self.new
             ≡ after_reply (T.behaviour tasks.now) (B.book book.now)
-            (waiting self.old.dropped self.old.kept self.old.task) (taken (Some letter))) }
+            (waiting self.old.dropped self.old.kept self.old.task) (from_queue (Some letter))) }
         ensures err { OnErr result (self.new ≡ self.old) }
     {
         match open(alloc, book, &mut letter)? {

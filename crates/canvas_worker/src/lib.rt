@@ -60,7 +60,8 @@ pub fn law_of_answers()
 
 /// A core that is at its end stays there: it takes no answer and hands out no envelope. It is there
 /// where memory was refused; else its last ask was a rest that was answered with no more, or a
-/// publish that was refused, and only that made it fail.
+/// publish that was refused, and only that made it fail. So it is with every `Book`, since that has
+/// all members of its chords.
 pub fn law_of_ends()
     ensures stays { EndStays }
     ensures fails { FailingEnds }

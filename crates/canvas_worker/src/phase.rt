@@ -10,24 +10,25 @@ ghost use Rattle.canvas_effects.specs.Job as job;
 ghost use Rattle.canvas_effects.specs.Job.{store, publish};
 ghost use Rattle.canvas_effects.specs.Todos.{part_view};
 ghost use Rattle.canvas_backend.specs.declared.stored.Stored.TheVariants.{First};
-ghost use Rattle.canvas_worker.specs.Asks.{replied, FoundInRange, Grows};
+ghost use Rattle.canvas_worker.specs.Asks.{replied, suits, FoundInRange, Grows};
 ghost use Rattle.canvas_worker.specs.Books.{no_book};
-ghost use Rattle.canvas_runs.specs.Core.{is_due, settled, part_counted, all_read, answered, owning, doing, resting, acking, reading as state_reading};
+ghost use Rattle.canvas_worker.specs.declared.ask.Ask.TheVariants as ask;
+ghost use Rattle.canvas_runs.specs.Core.{is_due, settled, reads_next, part_counted, all_read, answered, owning, doing, resting, acking, reading as state_reading};
 ghost use Rattle.canvas_worker.specs.Phases.{IsAt};
 ghost use Rattle.canvas_worker.specs.Scripts.{jobs_of};
 ghost use Rattle.canvas_worker.specs.EnvelopeWorker.{enveloped_by, no_tasks, said, enclosed, unapplied, blank};
 
-use crate::Reply;
 use crate::due::latest;
 use crate::script::Script;
 use crate::sealed::Sealed;
 use crate::sealing::script_of;
 use crate::stages::{Owned, Publishing, Reading, Storing};
+use crate::{Book, Reply};
 use canvas_backend::Stored;
 use canvas_effects::{PartCall, body_after, into_todo};
 use canvas_message::{Letter, Message};
 use canvas_rewrite::Carried;
-use canvas_task::{Memory, Outcome, TaskNo, Tasks};
+use canvas_task::{GroupNo, Memory, Outcome, TaskNo, Tasks};
 use std::alloc::Global;
 
 #[derive(Drop)]
@@ -190,6 +191,7 @@ impl Storing {
 
 impl Publishing {
     pub(crate) fn answered(self, reply: &Reply) -> Phase
+        requires { suits ask.Publish reply.now ≡ true }
         ensures { IsAt result (answered (enveloped_by no_tasks no_book) (doing
             (publish (unapplied (unwrap_or self.envelope blank)) ∷ jobs_of self.script)
             self.script.latest) (replied reply.now)) }
@@ -201,30 +203,52 @@ impl Publishing {
     }
 }
 
+/// The next member of a completed header is read, where the book has it.
+fn read_next<B: Book>(
+    book: &B,
+    group: GroupNo,
+    chord: Carried,
+    found: Vec<(TaskNo, Outcome)>,
+) -> Phase
+    requires fits { carried_ok (carried_view chord) ≡ true }
+    requires few { length found.items < (carried_view chord).size }
+    requires in_range { All (λ e. IsInRange e.1) found.items }
+    ensures { IsAt result (reads_next (enveloped_by no_tasks (B.book book.now)) group
+        (carried_view chord) found.items) }
+{
+    // For the proof alone: a size that is read is known to fit its type.
+    let _size = size_of(&chord);
+    match book.member(group, found.len() as u32) {
+        Some(task) => Phase::Reading(Reading {
+            group,
+            chord,
+            task,
+            found,
+        }),
+        None => Phase::Failed,
+    }
+}
+
 /// Where the part was the last of its header, the members are read.
-fn counted(alloc: Global, part: PartCall, count: u64) -> Phase
-    ensures { IsAt result
-        (part_counted (enveloped_by no_tasks no_book) part.group (carried_view part.chord) count) }
+fn counted<B: Book>(alloc: Global, book: &B, part: PartCall, count: u64) -> Phase
+    ensures { IsAt result (part_counted (enveloped_by no_tasks (B.book book.now)) part.group
+        (carried_view part.chord) count) }
 {
     let size = u64::from(size_of(&part.chord));
     if count < size && count + 1 == size {
-        Phase::Reading(Reading {
-            group: part.group,
-            chord: part.chord,
-            found: Vec::new(alloc),
-        })
+        read_next(book, part.group, part.chord, Vec::new(alloc))
     } else {
         Phase::Acking
     }
 }
 
-pub(crate) fn returned(alloc: Global, part: PartCall, reply: &Reply) -> Phase
-    ensures { IsAt result (answered (enveloped_by no_tasks no_book)
+pub(crate) fn returned<B: Book>(alloc: Global, book: &B, part: PartCall, reply: &Reply) -> Phase
+    ensures { IsAt result (answered (enveloped_by no_tasks (B.book book.now))
         (doing (job.part part.group part.task (carried_view part.chord) ∷ []) First)
         (replied reply.now)) }
 {
     match reply {
-        Reply::Counted(count) => counted(alloc, part, *count),
+        Reply::Counted(count) => counted(alloc, book, part, *count),
         _ => Phase::Failed,
     }
 }
@@ -250,14 +274,15 @@ pub(crate) fn rested(reply: &Reply) -> Phase
 
 impl Reading {
     /// The outcome of one more member. After the last, all that the body needs is built.
-    fn add(self, alloc: Global, task: TaskNo, outcome: Outcome) -> Result<Phase, Memory>
+    fn add<B: Book>(self, alloc: Global, book: &B, outcome: Outcome) -> Result<Phase, Memory>
         requires { IsInRange outcome }
-        ensures { IfOk result (λ p. IsAt p (all_read (enveloped_by no_tasks no_book) self.group
-            (carried_view self.chord) (self.found.items ++ (task, outcome) ∷ []))) }
+        ensures { IfOk result (λ p. IsAt p (all_read (enveloped_by no_tasks (B.book book.now))
+            self.group (carried_view self.chord) (self.found.items ++ (self.task, outcome) ∷ []))) }
     {
         let Reading {
             group,
             chord,
+            task,
             mut found,
         } = self;
         found.push((task, outcome))?;
@@ -265,24 +290,25 @@ impl Reading {
             let todo = body_after(alloc, &chord, &found)?;
             Ok(settle(script_of(alloc, todo, Stored::Again)?))
         } else {
-            Ok(Phase::Reading(Reading {
-                group,
-                chord,
-                found,
-            }))
+            Ok(read_next(book, group, chord, found))
         }
     }
 
-    pub(crate) fn answered(self, alloc: Global, reply: &Reply) -> Result<Phase, Memory>
+    pub(crate) fn answered<B: Book>(
+        self,
+        alloc: Global,
+        book: &B,
+        reply: &Reply,
+    ) -> Result<Phase, Memory>
         requires { FoundInRange reply.now }
-        ensures at { IfOk result (λ p. IsAt p (answered (enveloped_by no_tasks no_book)
-            (state_reading self.group (carried_view self.chord) self.found.items)
+        ensures at { IfOk result (λ p. IsAt p (answered (enveloped_by no_tasks (B.book book.now))
+            (state_reading self.group (carried_view self.chord) self.task self.found.items)
             (replied reply.now))) }
         ensures memory { OnErr result (Grows reply.now) }
     {
         match reply {
-            Reply::Found(task, Some(outcome)) => self.add(alloc, *task, *outcome),
-            Reply::Found(_, None) => Ok(Phase::Acking),
+            Reply::Found(Some(outcome)) => self.add(alloc, book, *outcome),
+            Reply::Found(None) => Ok(Phase::Acking),
             _ => Ok(Phase::Failed),
         }
     }

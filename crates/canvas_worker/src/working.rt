@@ -2,7 +2,7 @@
 
 ghost use Rattle.std.specs.Prelude.{◌≡◌, [], Some, Ok, None, IsSome, IsOk, IfOk, IfErr, OnErr, MatchResult, true};
 ghost use Rattle.canvas_task.specs.Apply.{IsInRange};
-ghost use Rattle.canvas_runs.specs.Core.{ReadsBack, taken, is_inside};
+ghost use Rattle.canvas_runs.specs.Core.{ReadsBack, from_queue, is_inside};
 ghost use Rattle.canvas_worker.specs.Asks.{suits, shown, replied, FoundInRange, Grows};
 ghost use Rattle.canvas_worker.specs.Books.{no_book};
 ghost use Rattle.canvas_worker.specs.EnvelopeWorker.{enveloped_by, no_tasks};
@@ -191,7 +191,7 @@ impl<'a, R: Wait> Working<'a, R> {
     fn gives<T: Tasks>(&mut self, tasks: &T, envelope: Letter) -> Result<(), End>
         requires { shown self.old.core.task (asked self.old.core.left) ≡ ask.Take }
         ensures { MatchResult result (λ _. self.new
-            ≡ one_taken (with_answer (T.behaviour tasks.now) self.old (taken (Some envelope))))
+            ≡ one_taken (with_answer (T.behaviour tasks.now) self.old (from_queue (Some envelope))))
             (λ e. (self.new ≡ lost self.old) × (e.fault ≡ Some cause.Memory)) }
     {
         self.idle = 0;
@@ -323,22 +323,17 @@ impl<'a, R: Wait> Working<'a, R> {
         self.replies(tasks, Reply::Counted(count))
     }
 
-    fn reads<T: Tasks>(&mut self, tasks: &T, group: GroupNo, place: u32) -> Result<(), End>
+    fn reads<T: Tasks>(&mut self, tasks: &T, task: TaskNo) -> Result<(), End>
         requires ready { Ready self.old }
-        requires asks { shown self.old.core.task (asked self.old.core.left) ≡ ask.Read group place }
+        requires asks { shown self.old.core.task (asked self.old.core.left) ≡ ask.Read task }
         requires reads_back { ReadsBack (enveloped_by no_tasks no_book) self.old.core.left }
         ensures acted { MatchResult result (λ _. Acted (T.behaviour tasks.now) self.old self.new)
             (λ e. ActedLast (T.behaviour tasks.now) self.old e.fault self.new) }
         ensures memory { IfErr result (λ e. e.fault ≡ Some cause.Memory) }
     {
         let backend = self.backend;
-        match backend.member(group, place) {
-            Some(task) => {
-                let found = backend.read(&mut self.seat, task);
-                self.replies(tasks, Reply::Found(task, found))
-            }
-            None => unreachable!(),
-        }
+        let found = backend.read(&mut self.seat, task);
+        self.replies(tasks, Reply::Found(found))
     }
 
     fn acknowledges<T: Tasks>(&mut self, tasks: &T) -> Result<(), End>
@@ -452,7 +447,7 @@ impl<'a, R: Wait> Working<'a, R> {
             Ask::Publish => self.publishes(tasks),
             Ask::Store(task, outcome) => self.stores(tasks, task, outcome),
             Ask::Part(group, task) => self.returns(tasks, group, task),
-            Ask::Read(group, place) => self.reads(tasks, group, place),
+            Ask::Read(task) => self.reads(tasks, task),
             Ask::Ack(_) => self.acknowledges(tasks),
             Ask::Rest => self.rests(tasks),
             Ask::End => Err(self.fails()),

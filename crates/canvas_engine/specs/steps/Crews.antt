@@ -18,19 +18,19 @@ use Rattle.canvas_runs.specs.Worker.{sealed}
 use Rattle.canvas_callers.specs.Crew.{Mate, SplitPasses, JoinPasses, SplitSeats, JoinSeats, first_pass, first_seat}
 use Rattle.canvas_turns.specs.Turns.{FirstsRead}
 use Rattle.canvas_worker.specs.declared.cause.Cause.{Cause}
-use Rattle.canvas_engine.specs.steps.Slots.{IsReadySlot, SplitsOff, nothing_counted}
+use Rattle.canvas_engine.specs.steps.Slots.{AreOfSite, IsReadySlot, SplitsOff, nothing_counted}
 use Rattle.canvas_engine.specs.declared.records.Tally.{Tally}
 use Rattle.canvas_engine.specs.declared.gathered.Gathered.{Gathered}
 use Rattle.canvas_engine.specs.declared.running.Start.{Start}
 
 pub record IsStart (l : Line) (n : ℕ) (s : Start) : Type 0 where
   pub planned : IsPlan l
-  pub plan : s.backend.plan ≡ roster_of l
-  pub own : (s.pass.of ≡ s.broker) × (s.seat.of ≡ s.backend.id)
+  pub plan : s.site.backend.plan ≡ roster_of l
+  pub own : AreOfSite s.site s.hands
   pub count : length s.slots.items ≡ n
-  pub ready : All (IsReadySlot s.broker s.backend.id) s.slots.items
-  pub parts : SplitsOff (roster_of l) 1 (first_pass s.broker) (first_seat s.backend.id)
-      s.slots.items s.pass s.seat
+  pub ready : All (IsReadySlot s.site.broker s.site.backend.id) s.slots.items
+  pub parts : SplitsOff (roster_of l) 1 (first_pass s.site.broker) (first_seat s.site.backend.id)
+      s.slots.items s.hands.pass s.hands.seat
   pub envelopes : s.envelopes.items ≡ map sealed (first_messages l)
   pub back : FirstsRead l
   pub rows : length s.rows.items ≡ count_line l
@@ -86,9 +86,9 @@ pub record IsWellGathered (behaviour : Behaviour) (l : Line)
 pub record AreGathered (behaviour : Behaviour) (l : Line) (n : ℕ) (fault : Option Cause)
     (g : Gathered) : Type 0 where
   pub planned : IsPlan l
-  pub plan : g.backend.plan ≡ roster_of l
-  pub own : (g.pass.of ≡ g.broker) × (g.seat.of ≡ g.backend.id)
-  pub crew : Crew behaviour l n g.broker g.backend.id g.pass g.seat
+  pub plan : g.site.backend.plan ≡ roster_of l
+  pub own : AreOfSite g.site g.hands
+  pub crew : Crew behaviour l n g.site.broker g.site.backend.id g.hands.pass g.hands.seat
   pub first : g.first ≡ length (first_messages l)
   pub rows : length g.rows.items ≡ count_line l
   pub well : IfNone fault (IsWellGathered behaviour l crew.mates g.tallies.items)

@@ -17,10 +17,16 @@ use Rattle.canvas_worker.specs.Finished.{Finished}
 use Rattle.canvas_worker.specs.declared.cause.Cause.{Cause}
 use Rattle.canvas_worker.specs.declared.cause.Cause.TheVariants.{Memory, Stopped}
 use Rattle.canvas_worker.specs.declared.record.Record.{Record}
+use Rattle.canvas_engine.specs.declared.crew.Hands.{Hands}
+use Rattle.canvas_engine.specs.declared.crew.Site.{Site}
 use Rattle.canvas_engine.specs.declared.records.Tally.{Tally}
 use Rattle.canvas_engine.specs.declared.slot.Post.{Post}
 use Rattle.canvas_engine.specs.declared.slot.Post.TheVariants.{Ready, Done, Lost}
 use Rattle.canvas_engine.specs.declared.slot.Slot.{Slot}
+
+-- a pass of this queue and a seat of this table
+abbrev pub AreOfSite : Site → Hands → Type 0
+AreOfSite site hands = (hands.pass.of ≡ site.broker) × (hands.seat.of ≡ site.backend.id)
 
 -- a pass of this broker and a seat of this backend, with which nothing was done
 abbrev pub HasHands : SegId Global → TableId → Post → Type 0

@@ -9,13 +9,13 @@ use Rattle.canvas_semantics.specs.States.{numbers_from}
 use Rattle.canvas_message.specs.declared.envelope.Envelope.{Envelope}
 use Rattle.canvas_backend.specs.declared.stored.Stored.{Stored}
 use Rattle.canvas_backend.specs.declared.stored.Stored.TheVariants.{First, Again}
-use Rattle.canvas_backend.specs.Backend.{Results, no_results, first_or, count_of}
+use Rattle.canvas_backend.specs.Backend.{Results, store, part, read, no_results, first_or, reply_of}
 use Rattle.canvas_backend.specs.Plain.{Shelf, held}
-use Rattle.canvas_backend.specs.Roster.{Roster, roster_of, members, is_chord, is_member}
+use Rattle.canvas_backend.specs.Roster.{Roster, roster_of, is_chord, is_member}
 use Rattle.canvas_broker.specs.Broker as broker
 use Rattle.canvas_runs.specs.Book.{book_of}
-use Rattle.canvas_runs.specs.Core.{take, publish, store, part, read, rest, taken, sent, stored, counted, found, rested, taking, left_after, ReadsBack, IsCoreRun, is_inside, ack, acked}
-use Rattle.canvas_runs.specs.Lists.{by, at}
+use Rattle.canvas_runs.specs.Core.{to_queue, to_table, rest, from_queue, from_table, rested, taking, left_after, ReadsBack, IsCoreRun, is_inside, ack, acked}
+use Rattle.canvas_runs.specs.Lists.{by}
 use Rattle.canvas_runs.specs.Tally.{greatest_count}
 use Rattle.canvas_runs.specs.Worker.{read_envelope, sealed}
 use Rattle.canvas_turns.specs.Spending.{Entry, TurnedAgain, wanted, spent, agains_in}
@@ -41,24 +41,19 @@ rows_of tasks results = map results.outcomes (numbers_from 1 tasks)
 -- what the queue and the table answer where they hold this; a worker that rests is told whether
 -- there is more
 abbrev pub AnswersNow : Roster → List Envelope → Results → Bool → Asked → Answer → Type 0
-AnswersNow plan queue results more take (taken x) = x ≡ broker.answer queue broker.take
-AnswersNow plan queue results more (publish e) sent = Unit {0}
-AnswersNow plan queue results more (store t o) (stored b) =
-    b ≡ first_or (results.outcomes t)
-AnswersNow plan queue results more (part g t) (counted m) = m ≡ count_of plan results g
-AnswersNow plan queue results more (read g i) (found t x) =
-    (at i (members plan g) ≡ Some t) × (x ≡ results.outcomes t)
+AnswersNow plan queue results more (to_queue c) (from_queue x) = x ≡ broker.answer queue c
+AnswersNow plan queue results more (to_table c) (from_table r) = r ≡ reply_of plan results c
 AnswersNow plan queue results more rest (rested m) = m ≡ more
 AnswersNow plan queue results more ack acked = Unit {0}
 AnswersNow plan queue results more a r = ⊥
 
 -- the ask is one that the queue and the table take
 abbrev pub MayAsk : Roster → Results → Asked → Type 0
-MayAsk plan results (store t o) = t ≤ plan.tasks
-MayAsk plan results (part g t) =
+MayAsk plan results (to_table (store t o)) = t ≤ plan.tasks
+MayAsk plan results (to_table (part g t)) =
     IsTrue (is_chord plan g) × IsTrue (is_member plan g t)
     × ((results.outcomes t ≡ None → ⊥) × (results.returned t ≡ false))
-MayAsk plan results (read g i) = (t : ℕ) × (at i (members plan g) ≡ Some t) × (t ≤ plan.tasks)
+MayAsk plan results (to_table (read t)) = t ≤ plan.tasks
 MayAsk plan results a = Unit {0}
 
 -- each outcome that is stored has its number in range
@@ -92,7 +87,7 @@ IsTried behaviour more c queue table table' =
 
 -- what the ask is answered where it is a store, First where it is none
 abbrev pub store_answer : Results → Asked → Stored
-store_answer results (store t o) = first_or (results.outcomes t)
+store_answer results (to_table (store t o)) = first_or (results.outcomes t)
 store_answer results a = First
 
 -- a count with one more where a store answered Again, up to the greatest number that it holds

@@ -9,7 +9,7 @@ abbrev pub invariant-loop-slot : goal.invariant-loop-slot
 invariant-loop-slot g l =
     (goal.iterator-loop-slot g).can_next l.slot-iterator ×
     (goal.iterator-loop-slot g).is_finite l.slot-iterator ×
-    ((l.pass.of ≡ l.broker) × (l.seat.of ≡ l.backend.id)) ×
-    AreOf l.broker l.backend.id (into_iter_items l.slot-iterator) ×
-    ((p : Pass) (s : Seat) → TakesIn l.backend.plan l.pass l.seat (into_iter_items l.slot-iterator) p s
-    → TakesIn l.backend.plan l.initial.pass l.initial.seat (into_iter_items l.initial.slot-iterator) p s)
+    ((l.hands.pass.of ≡ l.site.broker) × (l.hands.seat.of ≡ l.site.backend.id)) ×
+    AreOf l.site.broker l.site.backend.id (into_iter_items l.slot-iterator) ×
+    ((p : Pass) (s : Seat) → TakesIn l.site.backend.plan l.hands.pass l.hands.seat (into_iter_items l.slot-iterator) p s
+    → TakesIn l.site.backend.plan l.initial.hands.pass l.initial.hands.seat (into_iter_items l.initial.slot-iterator) p s)

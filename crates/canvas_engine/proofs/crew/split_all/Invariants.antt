@@ -4,7 +4,7 @@ use Rattle.canvas_engine.proofs.crew.split_all.Given as goal
 
 abbrev pub invariant-loop-index : goal.invariant-loop-index
 invariant-loop-index g l =
-    ((l.pass.of ≡ l.broker) × (l.seat.of ≡ l.backend.id)) ×
+    ((l.hands.pass.of ≡ l.site.broker) × (l.hands.seat.of ≡ l.site.backend.id)) ×
     (length l.slots.items ≡ l.index) ×
-    All (IsReadySlot l.broker l.backend.id) l.slots.items ×
-    SplitsOff l.backend.plan 1 l.initial.pass l.initial.seat l.slots.items l.pass l.seat
+    All (IsReadySlot l.site.broker l.site.backend.id) l.slots.items ×
+    SplitsOff l.site.backend.plan 1 l.initial.hands.pass l.initial.hands.seat l.slots.items l.hands.pass l.hands.seat

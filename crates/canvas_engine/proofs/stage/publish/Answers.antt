@@ -1,4 +1,5 @@
-use Rattle.std.proofs.Common.{◌≡◌, OnOk, refl, sym, ap, ◌∙◌, subst}
+use Rattle.std.proofs.Common.{◌≡◌, OnOk, None, refl, sym, ap, ◌∙◌, subst}
+use Rattle.canvas_broker.specs.Broker as broker
 use Rattle.canvas_runs.specs.Core as C
 use Rattle.canvas_worker.specs.Books.{book_in}
 use Rattle.canvas_worker.specs.CoreState.{after_reply}
@@ -12,12 +13,12 @@ returns-in-Ok g c =
     let old = c.args.core.now in
     let table = c.args.table.now in
     let asks = handed_out c.in-Some.envelope old c.requires.inside (sym c.in-Some.ensures.value) in
-    let same : after_reply (g.T.Tasks.behaviour c.args.tasks.now) (book_in table.plan) c.envelope.new.self C.sent
-    ≡ after_reply (g.T.Tasks.behaviour c.args.tasks.now) (book_in table.plan) old C.sent =
-    ap (λ s. after_reply (g.T.Tasks.behaviour c.args.tasks.now) (book_in table.plan) s C.sent) c.in-Some.ensures.core
-    ∙ handed_same (g.T.Tasks.behaviour c.args.tasks.now) (book_in table.plan) old C.sent in
+    let same : after_reply (g.T.Tasks.behaviour c.args.tasks.now) (book_in table.plan) c.envelope.new.self (C.from_queue None)
+    ≡ after_reply (g.T.Tasks.behaviour c.args.tasks.now) (book_in table.plan) old (C.from_queue None) =
+    ap (λ s. after_reply (g.T.Tasks.behaviour c.args.tasks.now) (book_in table.plan) s (C.from_queue None)) c.in-Some.ensures.core
+    ∙ handed_same (g.T.Tasks.behaviour c.args.tasks.now) (book_in table.plan) old (C.from_queue None) in
     of_each c.answer.result (λ more. Stepped (g.T.Tasks.behaviour c.args.tasks.now) more old c.args.queue.now table c.answer.new.self c.publish.new.self table)
     (λ more.
     answered_ok (g.T.Tasks.behaviour c.args.tasks.now) c.answer.result more old c.answer.new.self c.args.queue.now c.publish.new.self table table
-    (C.publish c.in-Some.envelope) C.sent asks tt c.requires.reads_back c.in-Ok.ensures.call refl refl
+    (C.to_queue (broker.publish c.in-Some.envelope)) (C.from_queue None) asks refl c.requires.reads_back c.in-Ok.ensures.call refl refl
     (subst (λ s. OnOk c.answer.result (c.answer.new.self ≡ s)) same c.answer.ensures.ok))

@@ -1,28 +1,30 @@
-use Rattle.std.proofs.Common.{refl, sym}
+use Rattle.std.proofs.Common.{refl, sym, subst}
 use Rattle.canvas_backend.specs.Plain.{held}
+use Rattle.canvas_backend.specs.Backend as results
 use Rattle.canvas_runs.specs.Core as C
 use Rattle.canvas_worker.specs.CoreState.{asked}
 use Rattle.canvas_worker.specs.declared.ask.Ask.TheVariants as A
-use Rattle.canvas_worker.proofs.ShownAsks.{is_store, is_part}
-use Rattle.canvas_engine.proofs.StageAsks.{answered_err, stored_says, counted_says, none_counted}
+use Rattle.canvas_engine.specs.steps.Stages.{MayAsk}
+use Rattle.canvas_worker.proofs.ShownAsks.{is_store, is_part, is_read}
+use Rattle.canvas_engine.proofs.StageAsks.{answered_err, found_says, found_in_range, none_counted}
 use Rattle.canvas_engine.proofs.stage.step.Goals as goal
 
 pub returns-in-Store-clause-err : goal.returns-in-Store-clause-err
 returns-in-Store-clause-err g c =
     let old = c.args.core.now in
     answered_err (g.T.Tasks.behaviour c.args.tasks.now) c.answer-in-Store.result c.args.more old old c.args.queue.now c.args.queue.now c.args.table.now c.store-stored.new.self
-    (C.store c.in-Store.task c.in-Store.outcome) (C.stored c.store-stored.result)
+    (C.to_table (results.store c.in-Store.task c.in-Store.outcome)) (C.from_table (results.was c.store-stored.result))
     (is_store _ c.in-Store.task c.in-Store.outcome (asked old.left) (sym c.in-Store.ensures.ask))
-    (stored_says c.store-stored.result _ c.store-stored.ensures.reply)
+    c.store-stored.ensures.reply
     (c.in-Store.ensures.reads_back c.requires.inside) c.store-stored.ensures.after c.store-stored.ensures.plan
 
 pub returns-in-Part-clause-err : goal.returns-in-Part-clause-err
 returns-in-Part-clause-err g c =
     let old = c.args.core.now in
     answered_err (g.T.Tasks.behaviour c.args.tasks.now) c.answer-in-Part.result c.args.more old old c.args.queue.now c.args.queue.now c.args.table.now c.part-count.new.self
-    (C.part c.in-Part.group c.in-Part.task) (C.counted c.part-count.result)
+    (C.to_table (results.part c.in-Part.group c.in-Part.task)) (C.from_table (results.count c.part-count.result))
     (is_part _ c.in-Part.group c.in-Part.task (asked old.left) (sym c.in-Part.ensures.ask))
-    (counted_says c.part-count.result _ c.part-count.ensures.reply)
+    c.part-count.ensures.reply
     (c.in-Part.ensures.reads_back c.requires.inside) c.part-count.ensures.after c.part-count.ensures.plan
 
 pub returns-in-Take-clause-again : goal.returns-in-Take-clause-again
@@ -41,7 +43,7 @@ returns-in-Part-clause-again g c =
 pub returns-in-Read-clause-again : goal.returns-in-Read-clause-again
 returns-in-Read-clause-again g c =
     none_counted (held c.args.table.now) c.args.core.now.task (asked c.args.core.now.left)
-    (A.Read c.in-Read.group c.in-Read.place) c.args.repeats.now c.in-Read.ensures.ask refl
+    (A.Read c.in-Read.task) c.args.repeats.now c.in-Read.ensures.ask refl
 
 pub returns-in-Ack-clause-again : goal.returns-in-Ack-clause-again
 returns-in-Ack-clause-again g c =
@@ -50,3 +52,11 @@ returns-in-Ack-clause-again g c =
 pub returns-in-Rest-clause-again : goal.returns-in-Rest-clause-again
 returns-in-Rest-clause-again g c =
     none_counted (held c.args.table.now) c.args.core.now.task (asked c.args.core.now.left) A.Rest c.args.repeats.now c.in-Rest.ensures.ask refl
+
+pub read-requires : goal.read-requires
+read-requires g c =
+    subst (MayAsk c.args.table.now.plan (held c.args.table.now)) (is_read _ c.in-Read.task (asked c.args.core.now.left) (sym c.in-Read.ensures.ask)) c.requires.may
+
+pub answer-in-Read-requires-clause-in_range : goal.answer-in-Read-requires-clause-in_range
+answer-in-Read-requires-clause-in_range g c =
+    found_in_range c.in-Read.task c.read.result (held c.args.table.now) c.requires.in_range (found_says c.read.result _ c.read.ensures.reply)

@@ -12,13 +12,14 @@ use Rattle.canvas_engine.proofs.gathered.Gathered.halt.Goals as goal
 
 pub returns : goal.returns
 returns g c =
+    let self = c.args.self in
     let h = c.requires.gathered.1 in
     let many : length c.read_rows.new.rows ≡ count_line c.args.plan.now = search rules in
-    let reads : Serves (roster_of c.args.plan.now) c.args.self.seat (reads_from 1 c.read_rows.new.rows) c.read_rows.new.seat =
-    subst (λ plan. Serves plan c.args.self.seat (reads_from 1 c.read_rows.new.rows) c.read_rows.new.seat) h.plan c.read_rows.ensures.read in
-    let whole : take c.args.self.rows.len (c.read_rows.new.rows ++ drop (length c.read_rows.new.rows) c.args.self.rows.items) ≡ c.read_rows.new.rows =
-    take_at c.read_rows.new.rows _ c.args.self.rows.len (search rules) in
+    let reads : Serves (roster_of c.args.plan.now) self.hands.seat (reads_from 1 c.read_rows.new.rows) c.read_rows.new.seat =
+    subst (λ plan. Serves plan self.hands.seat (reads_from 1 c.read_rows.new.rows) c.read_rows.new.seat) h.plan c.read_rows.ensures.read in
+    let whole : take self.rows.len (c.read_rows.new.rows ++ drop (length c.read_rows.new.rows) self.rows.items) ≡ c.read_rows.new.rows =
+    take_at c.read_rows.new.rows _ self.rows.len (search rules) in
     subst (IsThreadFault c.args.workers (states (g.T.Tasks.behaviour c.args.tasks.now) (tree_of c.args.plan.now))) (sym c.halted_with.ensures)
     (halted_may c.args.workers (states (g.T.Tasks.behaviour c.args.tasks.now) (tree_of c.args.plan.now)) c.args.cause _ c.requires.workers
     (subst (λ rows. EachMay rows (states (g.T.Tasks.behaviour c.args.tasks.now) (tree_of c.args.plan.now))) (sym whole)
-    (unworked_may (g.T.Tasks.behaviour c.args.tasks.now) c.args.plan.now c.args.workers c.args.self.broker c.args.self.backend.id c.args.self.pass c.args.self.seat h.crew h.planned c.read_rows.new.seat c.read_rows.new.rows reads many)))
+    (unworked_may (g.T.Tasks.behaviour c.args.tasks.now) c.args.plan.now c.args.workers self.site.broker self.site.backend.id self.hands.pass self.hands.seat h.crew h.planned c.read_rows.new.seat c.read_rows.new.rows reads many)))

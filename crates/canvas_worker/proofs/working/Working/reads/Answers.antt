@@ -1,14 +1,13 @@
-use Rattle.std.proofs.Common.{rules, ◌≡◌, refl, subst, ◌∙◌, ◌≤◌}
+use Rattle.std.proofs.Common.{rules, ◌≡◌, refl, subst, ◌≤◌}
+use Rattle.canvas_backend.specs.Backend as results
 use Rattle.canvas_runs.specs.Core as C
 use Rattle.canvas_worker.specs.steps.Held.{held_in}
 use Rattle.canvas_worker.specs.CoreState.{asked}
 use Rattle.canvas_worker.specs.Polls.{Work}
 use Rattle.canvas_worker.proofs.Resting.{busy_never}
-use Rattle.canvas_backend.specs.Roster.{members}
 use Rattle.canvas_worker.specs.SeatRights.{LetsAsk}
 use Rattle.canvas_worker.proofs.Asking.{may_ask}
-use Rattle.canvas_worker.proofs.ShownAsks.{is_read, same_place, no_place}
-use Rattle.canvas_worker.proofs.Stepping.{at_get}
+use Rattle.canvas_worker.proofs.ShownAsks.{is_read}
 use Rattle.canvas_worker.proofs.ToldAnswers.{asked_well}
 use Rattle.canvas_worker.proofs.working.Working.reads.Goals as goal
 
@@ -16,38 +15,39 @@ pub read-found-requires-clause-task : goal.read-found-requires-clause-task
 read-found-requires-clause-task g c =
     let w : Work = c.args.self.now in
     let same : w.desk ≡ c.self.inside.backend.now = search rules in
-    let may : LetsAsk w.desk.plan w.seat (C.read c.args.group c.args.place) =
-    subst (LetsAsk w.desk.plan w.seat) (is_read w.core.task c.args.group c.args.place (asked w.core.left) c.requires.asks)
-    (may_ask w.desk.plan c.requires.ready.plan w.seat w.core.left c.requires.ready.can) in
-    subst (λ d. c.in-Some.task ≤ d.plan.tasks) same
-    (subst (λ t. t ≤ w.desk.plan.tasks) (same_place (members w.desk.plan c.args.group) c.args.place may.0 c.in-Some.task may.1 (search rules)) may.2)
-
-pub unreachable-requires : goal.unreachable-requires
-unreachable-requires g c =
-    let w : Work = c.args.self.now in
-    let may : LetsAsk w.desk.plan w.seat (C.read c.args.group c.args.place) =
-    subst (LetsAsk w.desk.plan w.seat) (is_read w.core.task c.args.group c.args.place (asked w.core.left) c.requires.asks)
-    (may_ask w.desk.plan c.requires.ready.plan w.seat w.core.left c.requires.ready.can) in
-    no_place (members w.desk.plan c.args.group) c.args.place may.0 may.1 (search rules)
+    subst (λ d. c.args.task ≤ d.plan.tasks) same
+    (subst (LetsAsk w.desk.plan w.seat) (is_read w.core.task c.args.task (asked w.core.left) c.requires.asks)
+    (may_ask w.desk.plan c.requires.ready.plan w.seat w.core.left c.requires.ready.can))
 
 pub returns-clause-acted : goal.returns-clause-acted
 returns-clause-acted g c =
     let w : Work = c.args.self.now in
-    let u : Work = record { broker = c.self.inside.broker.now; desk = c.self.inside.backend.now; number = c.self.inside.number; pass = c.self.inside.pass; seat = c.read-found.new.seat; core = c.self.inside.core; held = held_in c.self.inside.source; taken = c.self.inside.taken; published = c.self.inside.published; first = c.self.inside.first; parts = c.self.inside.parts } in
-    let asks : asked w.core.left ≡ C.read c.args.group c.args.place = is_read w.core.task c.args.group c.args.place (asked w.core.left) c.requires.asks in
-    asked_well (g.T.Tasks.behaviour c.args.tasks.now) w u c.replies.new.self (C.read c.args.group c.args.place)
-    (C.found c.in-Some.task c.read-found.result) c.replies.result c.replies.ensures.value c.requires.ready (record {
+    let u : Work = record {
+      broker = c.self.inside.broker.now;
+      desk = c.self.inside.backend.now;
+      number = c.self.inside.number;
+      pass = c.self.inside.pass;
+      seat = c.read-found.new.seat;
+      core = c.self.inside.core;
+      held = held_in c.self.inside.source;
+      taken = c.self.inside.taken;
+      published = c.self.inside.published;
+      first = c.self.inside.first;
+      parts = c.self.inside.parts;
+    } in
+    let asks : asked w.core.left ≡ C.to_table (results.read c.args.task) = is_read w.core.task c.args.task (asked w.core.left) c.requires.asks in
+    asked_well (g.T.Tasks.behaviour c.args.tasks.now) w u c.replies.new.self (C.to_table (results.read c.args.task))
+    (C.from_table (results.found c.read-found.result)) c.replies.result c.replies.ensures.value c.requires.ready (record {
       asked_is = asks;
       suits = tt;
       back = c.requires.reads_back;
-      member = at_get c.args.place (members w.desk.plan c.args.group) ∙ search rules;
       beside = search rules;
       bare = tt;
       makes = search rules;
       serves = search rules;
       counts = search rules;
-      still = λ rests. absurd (busy_never (g.T.Tasks.behaviour c.args.tasks.now) w.desk.plan w.core.left (C.found c.in-Some.task c.read-found.result)
-          (C.read c.args.group c.args.place) asks tt rests);
+      still = λ rests. absurd (busy_never (g.T.Tasks.behaviour c.args.tasks.now) w.desk.plan w.core.left (C.from_table (results.found c.read-found.result))
+          (C.to_table (results.read c.args.task)) asks tt rests);
       none_dropped = refl;
       core = search rules;
     })

@@ -38,15 +38,15 @@ pub returns-in-None-clause-acted : goal.returns-in-None-clause-acted
 returns-in-None-clause-acted g c =
     let w : Work = c.args.self.now in
     let u : Work = record { broker = c.self.inside.broker.now; desk = c.self.inside.backend.now; number = c.self.inside.number; pass = c.take.new.pass; seat = c.self.inside.seat; core = c.self.inside.core; held = held_in c.after_none.result; taken = c.self.inside.taken; published = c.self.inside.published; first = c.self.inside.first; parts = c.self.inside.parts } in
-    let asks : asked w.core.left ≡ C.take = is_take w.core.task (asked w.core.left) c.requires.asks in
+    let asks : asked w.core.left ≡ C.to_queue broker.take = is_take w.core.task (asked w.core.left) c.requires.asks in
     let bare : u.held ≡ [] = search rules in
     let empty : Empties u.pass = search rules in
-    asked_well (g.T.Tasks.behaviour c.args.tasks.now) w u c.answers.new.self C.take (C.taken None) c.answers.result c.answers.ensures.value c.requires.ready
+    asked_well (g.T.Tasks.behaviour c.args.tasks.now) w u c.answers.new.self (C.to_queue broker.take) (C.from_queue None)
+    c.answers.result c.answers.ensures.value c.requires.ready
     (record {
       asked_is = asks;
       suits = tt;
       back = reads_back w.core.left asks;
-      member = tt;
       beside = (search rules, search rules, search rules, search rules, search rules, bare ∙ sym c.requires.bare, search rules);
       bare = tt;
       makes = search rules;
