@@ -7,7 +7,7 @@ use Rattle.canvas_collect.proofs.collecting.push_rows.Goals as goal
 pub loop-index-preserved : goal.loop-index-preserved
 loop-index-preserved c =
     let G : ℕ → Type 0 = λ k. Gains c.args.run.now.digits (count_line c.args.plan.now) k c.split_line.result.0.now c.loop-index.rows.items
-    c.in_ok-push_row.new.rows.items in
+    c.push_row.new.rows.items in
     read_more c.args.run.now.digits
     (count_line c.args.plan.now) c.args.text.now c.loop-index.rest.now _ c.split_line.result.1.now c.loop-index.index c.loop-index.rows.items _
     c.split_line.ensures.line c.loop-index.invariant (subst G c.task_at.ensures c.in_ok-push_row.ensures.gains)
