@@ -9,7 +9,7 @@ use Rattle.canvas_message.specs.Content.{Content}
 use Rattle.canvas_message.specs.Fits.{tasks_ok, tasks_reach, place_reach, fits}
 use Rattle.canvas_codec.specs.Wire.{parent_id, tasks_wire, carried_wire, elements_wire, onto_reversed, list_or_null, embed_wire, body_wire, headers_wire, properties_wire}
 use Rattle.canvas_codec.proofs.CleanLines.{place_id_clean, tasks_clean, elements_clean, place_id_depth, tasks_depth, carried_depth, elements_depth}
-use Rattle.canvas_codec.proofs.Wholes.{RestFits, Whole, as_content, whole}
+use Rattle.canvas_codec.proofs.Wholes.{RestFits, Whole, as_content, whole_of}
 
 -- ---- the three texts
 
@@ -68,7 +68,7 @@ embed_clean links errbacks place rest l e c r = (
   ),
 )
 
-embed_depth : (links errbacks : PTasks) (place : PPlace) (rest : PLine) → max (max (tasks_reach links) (tasks_reach errbacks)) (place_reach place) ≤ 32
+embed_depth : (links errbacks : PTasks) (place : PPlace) (rest : PLine) → max (max (tasks_reach links) (tasks_reach errbacks)) (place_reach place) ≤ 31
     → RestFits rest
     → depth (embed_of links errbacks place rest) ≤ 101
 embed_depth links errbacks place rest low r =
@@ -126,7 +126,8 @@ texts_by parent k call links errbacks place rest w =
 
 texts_at : (parent : Option ℕ) (own : PTask) (rest : PLine) → fits (record { parent = parent; own = own; rest = rest }) ≡ true
     → Texts (record { parent = parent; own = own; rest = rest })
-texts_at parent (p_task k call links errbacks place) rest h = texts_by parent k call links errbacks place rest (whole parent k call links errbacks place rest h)
+texts_at parent (p_task k call links errbacks place) rest h =
+    texts_by parent k call links errbacks place rest (whole_of parent k call links errbacks place rest h)
 
 pub texts : (c : Content) → fits c ≡ true → Texts c
 texts c h = texts_at c.parent c.own c.rest h

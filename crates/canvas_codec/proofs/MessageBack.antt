@@ -20,7 +20,7 @@ use Rattle.canvas_codec.specs.steps.Reading.{must, id_reading, given_reading, ch
 use Rattle.canvas_message.specs.declared.fault.MessageFault.TheVariants.{BadEmbed}
 use Rattle.canvas_codec.specs.Wire.{parent_id, place_id, task_wire, tasks_wire, group_wire, chord_wire, line_wire, elements_wire, members_wire, onto_reversed, list_or_null, embed_wire, body_wire, headers_wire, properties_wire}
 use Rattle.canvas_codec.proofs.RoundTrip.{task_id_back, listed_tasks, tasks_listed, tasks_back, step_back, elements_back}
-use Rattle.canvas_codec.proofs.Wholes.{RestFits, Whole, as_content, whole}
+use Rattle.canvas_codec.proofs.Wholes.{RestFits, Whole, as_content, whole_of}
 
 -- ---- what follows on the line
 
@@ -201,7 +201,7 @@ message_of : (parent : Option ℕ) (k : ℕ) (call : Call) (links errbacks : PTa
     (body_wire (as_content parent k call links errbacks place rest))
     ≡ Ok (as_content parent k call links errbacks place rest)
 message_of parent k call links errbacks place rest h =
-    let w = whole parent k call links errbacks place rest h in
+    let w = whole_of parent k call links errbacks place rest h in
     rw (
       w.called.name,
       ids_back parent k call links errbacks place rest w,

@@ -19,9 +19,9 @@ use Rattle.canvas_codec.proofs.RoundTrip.{group_id_back, task_parts, place_back}
 -- what follows fits on a line that begins with another task
 abbrev pub RestFits : PLine → Type 0
 RestFits p_stop = Unit {0}
-RestFits l = (line_ok true l ≡ true) × (greatest_reach 0 l ≤ 32)
+RestFits l = (line_ok true l ≡ true) × (greatest_reach 0 l ≤ 31)
 
-some_fits : (l : PLine) → line_ok true l ≡ true → greatest_reach 0 l ≤ 32 → RestFits l
+some_fits : (l : PLine) → line_ok true l ≡ true → greatest_reach 0 l ≤ 31 → RestFits l
 some_fits p_stop ok low = tt
 some_fits (p_step t l) ok low = (ok, low)
 some_fits (p_group_end g ms) ok low = (ok, low)
@@ -35,6 +35,12 @@ place_named last (p_chord g size body) ok =
     let q = both (last && is_task_number g) (size_ok size) p.0 in
     rw (group_id_back g (both last (is_task_number g) q.0).1) refl
 
+place_there : (last : Bool) (p : PPlace) → place_ok last p ≡ true → place_ok true p ≡ true
+place_there true p ok = ok
+place_there false p_nowhere ok = refl
+place_there false (p_group g) ok = absurd cc
+place_there false (p_chord g size body) ok = absurd cc
+
 -- a message by its parts
 pub record Whole (parent : Option ℕ) (k : ℕ) (call : Call) (links errbacks : PTasks) (place : PPlace) (rest : PLine) : Type 0 where
   pub known : parent_ok parent ≡ true
@@ -43,11 +49,12 @@ pub record Whole (parent : Option ℕ) (k : ℕ) (call : Call) (links errbacks :
   pub called : CallFits call
   pub linked : tasks_ok links ≡ true
   pub failing : tasks_ok errbacks ≡ true
+  pub there : place_ok true place ≡ true
   pub named : is_group_or_null (place_id place) ≡ true
   pub placed : place_with (line_reading levels) (place_id place) (carried_wire place) ≡ Ok place
   pub following : RestFits rest
   pub carried : IsClean (carried_wire place)
-  pub low : max (max (tasks_reach links) (tasks_reach errbacks)) (place_reach place) ≤ 32
+  pub low : max (max (tasks_reach links) (tasks_reach errbacks)) (place_reach place) ≤ 31
 
 abbrev pub as_content : Option ℕ → ℕ → Call → PTasks → PTasks → PPlace → PLine → Content
 as_content parent k call links errbacks place rest = record { parent = parent; own = p_task k call links errbacks place; rest = rest }
@@ -65,6 +72,7 @@ whole_by last parent k call links errbacks place rest known mutable ok low follo
       called = p.called;
       linked = p.linked;
       failing = p.failing;
+      there = place_there last place p.placed;
       named = place_named last place p.placed;
       placed = place_back levels last place p.placed (omega (arith, low));
       following = following;
@@ -93,9 +101,9 @@ by_line parent k call links errbacks place (p_chord_end g ms b) known mutable ok
     whole_by false parent k call links errbacks place (p_chord_end g ms b) known mutable p.0 (omega (arith, low))
     (some_fits (p_chord_end g ms b) p.1 (omega (arith, low)))
 
-pub whole : (parent : Option ℕ) (k : ℕ) (call : Call) (links errbacks : PTasks) (place : PPlace) (rest : PLine)
+pub whole_of : (parent : Option ℕ) (k : ℕ) (call : Call) (links errbacks : PTasks) (place : PPlace) (rest : PLine)
     → fits (as_content parent k call links errbacks place rest) ≡ true → Whole parent k call links errbacks place rest
-whole parent k call links errbacks place rest h =
+whole_of parent k call links errbacks place rest h =
     let l = p_step (p_task k call links errbacks place) rest in
     let p = both (parent_ok parent && not call.immutable && line_ok true l) (nat_le (line_reach 0 l) 32) h in
     let q = both (parent_ok parent && not call.immutable) (line_ok true l) p.0 in

@@ -1,11 +1,11 @@
 -- Messages of tasks, and what lines begin with, as the code has them.
-use Rattle.std.proofs.Common.{◌≡◌, ◌∙◌, ℕ, suc, ◌≤◌, ◌<◌, ◌+◌, arith, true, false, List, [], ◌∷◌, ◌++◌, map, drop, get_or, length, Option, Some, None, Box, Global, refl, sym, ap, ap₂, subst, append_assoc, add-one, drop-cons, rules}
+use Rattle.std.proofs.Common.{◌≡◌, ◌∙◌, ℕ, suc, ◌≤◌, ◌<◌, ◌+◌, arith, true, false, List, [], ◌∷◌, ◌++◌, map, drop, get_or, length, Option, Some, None, Box, Global, refl, sym, ap, ap₂, subst, append_assoc, add-one, ne_eqb, drop-cons, rules}
 use Rattle.std.specs.declared.sync.Arc.{Arc}
-use Rattle.std.specs.Prelude.{ℤ, ◌&&◌, nat_le}
+use Rattle.std.specs.Prelude.{ℤ, ◌==◌, ◌&&◌, nat_le}
 use Rattle.canvas_task.specs.declared.arg.Arg.{Arg}
 use Rattle.canvas_sig.proofs.ComposedLemmas.{both}
 use Rattle.canvas_semantics.specs.Evaluation.{arguments}
-use Rattle.canvas_semantics.specs.PlacedLine.{PTask, p_task, PTasks, and_p_task, PPlace, p_nowhere, p_group, p_chord, PLine, p_stop, p_step, p_chord_end, no_p_lines}
+use Rattle.canvas_semantics.specs.PlacedLine.{PTask, p_task, PTasks, and_p_task, PPlace, p_nowhere, p_group, p_chord, PLine, p_stop, p_step, p_group_end, p_chord_end, no_p_lines}
 use Rattle.canvas_rewrite.specs.FrozenView.{p_tasks_of, p_steps, p_lines_of, p_task_view, p_line_view, p_end_view}
 use Rattle.canvas_rewrite.specs.declared.frozen.Carried as block
 use Rattle.canvas_rewrite.specs.declared.frozen.Carried.{roll-Carried}
@@ -21,7 +21,7 @@ use Rattle.canvas_effects.specs.Flowing.{Input, list_input, input_flow, given, p
 use Rattle.canvas_message.specs.steps.Parts.{is_stop}
 use Rattle.canvas_effects.specs.Placing.{last_at, placed}
 use Rattle.canvas_message.specs.MessageView.{content, place_view, place_seen, rest_seen}
-use Rattle.canvas_effects.specs.steps.Walks.{at_place, tail_seen, member_place, started, all_started}
+use Rattle.canvas_effects.specs.steps.Walks.{at_place, tail_seen, first_message, member_place, started, all_started}
 use Rattle.canvas_effects.proofs.Copied.{own_place, place_there, line_parts}
 use Rattle.canvas_effects.proofs.Entered.{started_group, started_chord}
 use Rattle.canvas_message.proofs.FitLemmas.{counted, end_stands, never_stops}
@@ -110,20 +110,20 @@ at_nowhere : (t : PTask) → place_of t ≡ p_nowhere → at_place p_nowhere t �
 at_nowhere t h = ap (λ q. at_place q t) (sym h) ∙ own_place t
 
 -- where others follow it has no place
-pub followed_same : (u : Option ℕ) (t : PTask) (x : Input) (p : PPlace) (l : PLine) → is_stop l ≡ false → fits (message u (last_at p t l) x (placed p l)) ≡ true
+pub followed_same : (u : Option ℕ) (t : PTask) (x : Input) (p : PPlace) (l : PLine) → is_stop l ≡ false → fits (first_message u t x p l) ≡ true
     → at_place p_nowhere t ≡ last_at p t l
 followed_same u t x p l h ok =
     at_nowhere t (nowhere_by u t x (placed p l) (keeps_on p l h) (sym (ap (λ y. fits (message u y x (placed p l))) (same_at p t l h)) ∙ ok))
     ∙ sym (same_at p t l h)
 
 pub followed_fits : (u : Option ℕ) (t : PTask) (x : Input) (p : PPlace) (l rest : PLine) → is_stop l ≡ false → rest ≡ placed p l
-    → fits (message u (last_at p t l) x (placed p l)) ≡ true
+    → fits (first_message u t x p l) ≡ true
     → fits (message u (at_place p_nowhere t) x rest) ≡ true
 followed_fits u t x p l rest h made ok = ap₂ (λ y r. fits (message u y x r)) (followed_same u t x p l h ok) made ∙ ok
 
 pub followed_is : (u : Option ℕ) (t : PTask) (x : Input) (p : PPlace) (l rest : PLine) → is_stop l ≡ false → rest ≡ placed p l
-    → fits (message u (last_at p t l) x (placed p l)) ≡ true
-    → message u (at_place p_nowhere t) x rest ≡ message u (last_at p t l) x (placed p l)
+    → fits (first_message u t x p l) ≡ true
+    → message u (at_place p_nowhere t) x rest ≡ first_message u t x p l
 followed_is u t x p l rest h made ok = ap₂ (λ y r. message u y x r) (followed_same u t x p l h ok) made
 
 pub tail_follows : (ts : List FrozenTask) (o : Option (Box FrozenEnd Global)) (b : Box FrozenEnd Global) → o ≡ Some b
@@ -131,9 +131,16 @@ pub tail_follows : (ts : List FrozenTask) (o : Option (Box FrozenEnd Global)) (b
 tail_follows ts o b some = ap (λ x. is_stop (p_steps (map p_task_view ts) (tail_seen x))) some
     ∙ never_stops (map p_task_view ts) (p_end_view b.value) (end_stands b.value)
 
-none_behind : (ts : List FrozenTask) (o : Option (Box FrozenEnd Global)) → o ≡ None → length ts ≡ 0 → p_steps (map p_task_view ts) (tail_seen o) ≡ p_stop
-none_behind [] o none few = ap tail_seen none
-none_behind (t ∷ ts) o none few = absurd cc
+pub no_tail_follows : (ts : List FrozenTask) (o : Option (Box FrozenEnd Global)) → o ≡ None
+    → (length ts == 0) ≡ is_stop (p_steps (map p_task_view ts) (tail_seen o))
+no_tail_follows [] o none = sym (ap (λ x. is_stop (tail_seen x)) none)
+no_tail_follows (t ∷ ts) o none = ne_eqb (suc (length ts)) 0 (λ e. absurd cc)
+
+pub stops_there : (l : PLine) → is_stop l ≡ true → l ≡ p_stop
+stops_there p_stop h = refl
+stops_there (p_step t l) h = absurd cc
+stops_there (p_group_end g ms) h = absurd cc
+stops_there (p_chord_end g ms b) h = absurd cc
 
 -- ---- places of members
 

@@ -4,7 +4,7 @@ use Rattle.std.specs.List.{list_all}
 use Rattle.std.proofs.lemmas.List.Elements.{All-head, All-tail}
 use Rattle.canvas_task.specs.Numbers.{in_range}
 use Rattle.canvas_task.specs.Apply.{IsInRange}
-use Rattle.canvas_effects.proofs.FitsOn.{all_true, next, next_fits}
+use Rattle.canvas_effects.proofs.FitsOn.{all_true}
 use Rattle.std.specs.Prelude.{ℤ, ◌&&◌, not, nat_le}
 use Rattle.canvas_task.specs.declared.outcome.Fault.{Fault}
 use Rattle.canvas_task.specs.declared.outcome.Fault.TheVariants as fault
@@ -12,24 +12,24 @@ use Rattle.canvas_task.specs.declared.outcome.Outcome.{Outcome}
 use Rattle.canvas_task.specs.declared.outcome.Outcome.TheVariants.{Success, Failure}
 use Rattle.canvas_sig.proofs.ComposedLemmas.{both}
 use Rattle.canvas_semantics.specs.Evaluation as eval
-use Rattle.canvas_semantics.specs.PlacedLine.{PTask, p_task, PPlace, p_nowhere, p_group, p_chord, PLine, p_stop, p_step, p_group_end, p_chord_end, PLines, no_p_lines, and_p_line}
+use Rattle.canvas_semantics.specs.PlacedLine.{PTask, PPlace, p_nowhere, p_group, p_chord, PLine, p_stop, p_step, p_group_end, p_chord_end, PLines, no_p_lines, and_p_line}
 use Rattle.canvas_rewrite.specs.FrozenView.{p_task_view, p_line_view}
 use Rattle.canvas_rewrite.specs.declared.frozen.Carried as block
 use Rattle.canvas_rewrite.specs.declared.frozen.Carried.{Carried, out-Carried}
 use Rattle.canvas_rewrite.specs.declared.frozen.FrozenTask.{FrozenTask, out-FrozenTask}
 use Rattle.canvas_effects.specs.Carrying.{is_whole, carried_ok}
 use Rattle.canvas_message.specs.Content.{Content, line, number_of, links_of, errbacks_of, place_of, call_of}
-use Rattle.canvas_effects.specs.Effects.{Jobs, Effect, Part, message, callbacks, part_of, enter, enter_all, effect_of, stores_in, messages_in, part_in, after, body_after, into_body}
+use Rattle.canvas_effects.specs.Effects.{Jobs, Effect, Part, message, callbacks, called, part_of, enter, enter_all, effect_of, stores_in, messages_in, part_in, after, body_after, into_body}
 use Rattle.canvas_message.specs.MessageView.{carried_view, place_seen}
-use Rattle.canvas_message.specs.Fits.{parent_ok, line_ok, members_ok, line_reach, how_many, fits}
-use Rattle.canvas_effects.specs.Flowing.{Input, number_input, list_input, id_input, run, skips, raise}
+use Rattle.canvas_message.specs.Fits.{is_task_number, parent_ok, line_ok, members_ok, line_reach, how_many, fits}
+use Rattle.canvas_effects.specs.Flowing.{Input, number_input, list_input, id_input, run, skips, raise, after_outcome}
 use Rattle.canvas_effects.specs.Ordered.{in_order}
 use Rattle.canvas_message.specs.steps.Parts.{is_stop}
 use Rattle.canvas_effects.specs.Placing.{last_at, placed, end_place, last_task}
 use Rattle.canvas_effects.specs.steps.Walks.{last_of, started, skipped, raised_stores, raised_messages, part_at_end, first_failure, successes}
 use Rattle.canvas_effects.proofs.Copied.{place_there}
-use Rattle.canvas_effects.proofs.Entered.{stores_on, messages_on, part_on, called_stores, called_part, called_messages, place_stores, place_messages, no_part_on, no_store_on, skipped_so, skip_quiet, raised_stores_so, raised_messages_so}
-use Rattle.canvas_effects.proofs.Standing.{as_it_stands, Stepped, first_stepped, rest_whole, place_last, place_never, whole_ok, member_first, member_others}
+use Rattle.canvas_effects.proofs.Entered.{stores_on, messages_on, part_on, called_part, back_stores, back_part, place_stores, place_messages, no_part_on, no_store_on, skipped_so, skip_quiet, raised_stores_so, raised_messages_so}
+use Rattle.canvas_effects.proofs.Standing.{message_fits, as_it_stands, Stepped, first_stepped, rest_whole, place_last, place_never, whole_ok, member_first, member_others}
 use Rattle.canvas_effects.proofs.Walked.{number_seen, last_number}
 
 -- ---- lines that are started store nothing, and return nothing where they have an element
@@ -186,26 +186,37 @@ last_behind k (p_chord_end g ms b) ok h = refl
 abbrev Done : Content → List (ℕ × Outcome) → List Content → Option Part → Outcome → Type 0
 Done c ss ms p o = record { stores = in_order (λ e. e.0) ss; messages = in_order (λ m. number_of m.own) ms; part = p } ≡ after c o
 
--- on a success, where something follows
-pub succeeded : (c : Content) (l : PLine) (n : ℤ) (ss : List (ℕ × Outcome)) (old one ms : List Content) (p : Option Part) → fits c ≡ true → c.rest ≡ l
-    → is_stop l ≡ false
-    → ss ≡ [] → old ≡ [] → one ≡ old ++ messages_in (callbacks (links_of c.own) (number_input n) (Some (number_of c.own)))
-    → ms ≡ one ++ started l (number_input n) (end_place l) (Some (number_of c.own)) → p ≡ None → Done c ss ms p (Success n)
-succeeded c l n ss old one ms p ok same h hs ho h1 hm hp =
+abbrev back : Content → Outcome → Jobs
+back c o = called (links_of c.own) (errbacks_of c.own) (number_of c.own) o
+
+-- what is done behind the callbacks
+ended : (c : Content) (o : Outcome) (more : Jobs) (ss : List (ℕ × Outcome)) (ms : List Content) (p : Option Part) → after c o ≡ effect_of (back c o ++ more)
+    → ss ≡ stores_in more → ms ≡ messages_in (back c o) ++ messages_in more → p ≡ part_in more → Done c ss ms p o
+ended c o more ss ms p is hs hm hp =
+    effect_is (back c o ++ more) ss ms p
+    (hs ∙ sym (stores_on (back c o) more ∙ ap (λ xs. xs ++ stores_in more) (back_stores (links_of c.own) (errbacks_of c.own) (number_of c.own) o)))
+    (hm ∙ sym (messages_on (back c o) more))
+    (hp ∙ sym (part_on (back c o) more (back_part (links_of c.own) (errbacks_of c.own) (number_of c.own) o)))
+    ∙ sym is
+
+followed : (c : Content) (l : PLine) (o : Outcome) → c.rest ≡ l → is_stop l ≡ false
+    → after c o ≡ effect_of (back c o ++ enter l (after_outcome o) (end_place l) (number_of c.own) (Some (number_of c.own)))
+followed c l o same h =
     let k : ℕ = number_of c.own in
-    let first : Jobs = callbacks (links_of c.own) (number_input n) (Some k) in
-    let more : Jobs = enter l (run (number_input n)) (end_place l) k (Some k) in
-    let whole = rest_stands c l ok same h in
-    let js : after c (Success n) ≡ effect_of (first ++ more) =
-    ap (λ r. effect_of (first ++ enter r (run (number_input n)) (end_place (p_step c.own r)) k (Some k))) same
-    ∙ ap (λ q. effect_of (first ++ enter l (run (number_input n)) q k (Some k))) (end_behind c.own l h) in
-    effect_is (first ++ more) ss ms p
-    (hs ∙ sym (no_store_on first more (called_stores (links_of c.own) (number_input n) (Some k)) (run_stores l (number_input n) (end_place l) k (Some k))))
-    (hm ∙ ap₂ (λ a b. a ++ b) (h1 ∙ ap (λ xs. xs ++ messages_in first) ho) (sym (run_any l (number_input n) (end_place l) k (Some k)))
-    ∙ sym (messages_on first more))
-    (hp ∙ sym (no_part_on first more (called_part (links_of c.own) (number_input n) (Some k))
-    (run_part true l (number_input n) (end_place l) k (Some k) (whole_ok l whole))))
-    ∙ sym js
+    ap (λ r. effect_of (back c o ++ enter r (after_outcome o) (end_place (p_step c.own r)) k (Some k))) same
+    ∙ ap (λ q. effect_of (back c o ++ enter l (after_outcome o) q k (Some k))) (end_behind c.own l h)
+
+-- on a success, where something follows
+pub succeeded : (c : Content) (l : PLine) (n : ℤ) (ss : List (ℕ × Outcome)) (one ms : List Content) (p : Option Part) → fits c ≡ true → c.rest ≡ l
+    → is_stop l ≡ false
+    → ss ≡ [] → one ≡ messages_in (called (links_of c.own) (errbacks_of c.own) (number_of c.own) (Success n))
+    → ms ≡ one ++ started l (number_input n) (end_place l) (Some (number_of c.own)) → p ≡ None → Done c ss ms p (Success n)
+succeeded c l n ss one ms p ok same h hs h1 hm hp =
+    let k : ℕ = number_of c.own in
+    ended c (Success n) (enter l (run (number_input n)) (end_place l) k (Some k)) ss ms p (followed c l (Success n) same h)
+    (hs ∙ sym (run_stores l (number_input n) (end_place l) k (Some k)))
+    (hm ∙ ap₂ (λ a b. a ++ b) h1 (sym (run_any l (number_input n) (end_place l) k (Some k))))
+    (hp ∙ sym (run_part true l (number_input n) (end_place l) k (Some k) (whole_ok l (rest_stands c l ok same h))))
 
 -- where that is a task, it takes over what it carries
 next_begun : (u : ℕ) (t : PTask) (l : PLine) (n : ℤ)
@@ -216,72 +227,41 @@ next_begun u t l n =
     let rest : placed (end_place (p_step t l)) l ≡ l = cc in
     sym (ap₂ (λ v r. message (Some u) v (number_input n) r ∷ []) own rest)
 
-pub succeeded_next : (c : Content) (t : PTask) (l : PLine) (n : ℤ) (ss : List (ℕ × Outcome)) (old one ms : List Content) (p : Option Part) → fits c ≡ true
+pub succeeded_next : (c : Content) (t : PTask) (l : PLine) (n : ℤ) (ss : List (ℕ × Outcome)) (one ms : List Content) (p : Option Part) → fits c ≡ true
     → c.rest ≡ p_step t l
-    → ss ≡ [] → old ≡ [] → one ≡ old ++ messages_in (callbacks (links_of c.own) (number_input n) (Some (number_of c.own)))
+    → ss ≡ [] → one ≡ messages_in (called (links_of c.own) (errbacks_of c.own) (number_of c.own) (Success n))
     → ms ≡ one ++ message (Some (number_of c.own)) t (number_input n) l ∷ [] → p ≡ None → Done c ss ms p (Success n)
-succeeded_next c t l n ss old one ms p ok same hs ho h1 hm hp =
-    succeeded c (p_step t l) n ss old one ms p ok same refl hs ho h1 (hm ∙ ap (λ xs. one ++ xs) (next_begun (number_of c.own) t l n)) hp
-
-its_call : (k : ℕ) (t : PTask) (l : PLine) (n : ℤ) (c : Content) → k ≡ number_of c.own → message (Some k) t (number_input n) l ≡ next c t l n
-its_call k (p_task j call links errbacks place) l n c same = ap (λ u. message (Some u) (p_task j call links errbacks place) (number_input n) l) same
+succeeded_next c t l n ss one ms p ok same hs h1 hm hp =
+    succeeded c (p_step t l) n ss one ms p ok same refl hs h1 (hm ∙ ap (λ xs. one ++ xs) (next_begun (number_of c.own) t l n)) hp
 
 pub next_stands : (c : Content) (k : ℕ) (t : PTask) (l : PLine) (n : ℤ) → fits c ≡ true → c.rest ≡ p_step t l → k ≡ number_of c.own → in_range n ≡ true
     → fits (message (Some k) t (number_input n) l) ≡ true
-next_stands c k t l n ok same its h = ap fits (its_call k t l n c its) ∙ next_fits c t l n h same ok
+next_stands c k t l n ok same its h =
+    message_fits (Some k) t (number_input n) l (ap is_task_number its ∙ (own_stepped c ok).numbered) h (rest_stands c (p_step t l) ok same refl)
+
+-- on a failure, where something follows
+pub failed : (c : Content) (l : PLine) (f : Fault) (olds ss : List (ℕ × Outcome)) (ms : List Content) (p : Option Part) → fits c ≡ true → c.rest ≡ l
+    → is_stop l ≡ false
+    → olds ≡ [] → ss ≡ olds ++ skipped f l → ms ≡ messages_in (called (links_of c.own) (errbacks_of c.own) (number_of c.own) (Failure f))
+    → p ≡ part_at_end l → Done c ss ms p (Failure f)
+failed c l f olds ss ms p ok same h hos hs hm hp =
+    let k : ℕ = number_of c.own in
+    ended c (Failure f) (enter l (skips f) (end_place l) k (Some k)) ss ms p (followed c l (Failure f) same h)
+    (hs ∙ ap (λ xs. xs ++ skipped f l) hos ∙ sym (skipped_so l f (end_place l) k (Some k)))
+    (hm ∙ sym (ap (λ xs. messages_in (back c (Failure f)) ++ xs) (skip_quiet l f (end_place l) k (Some k)) ∙ append-nil (messages_in (back c (Failure f)))))
+    (hp ∙ sym (skip_part l f k (Some k) ∙ last_behind k l (rest_stands c l ok same h) refl))
 
 -- and where nothing does
-pub succeeded_last : (c : Content) (n : ℤ) (ss : List (ℕ × Outcome)) (old ms : List Content) (p : Option Part) → c.rest ≡ p_stop
-    → ss ≡ [] → old ≡ [] → ms ≡ old ++ messages_in (callbacks (links_of c.own) (number_input n) (Some (number_of c.own)))
-    → p ≡ part_in (part_of (place_of c.own) (number_of c.own)) → Done c ss ms p (Success n)
-succeeded_last c n ss old ms p same hs ho hm hp =
+pub ended_last : (c : Content) (o : Outcome) (ss : List (ℕ × Outcome)) (ms : List Content) (p : Option Part) → c.rest ≡ p_stop
+    → ss ≡ [] → ms ≡ messages_in (called (links_of c.own) (errbacks_of c.own) (number_of c.own) o)
+    → p ≡ part_in (part_of (place_of c.own) (number_of c.own)) → Done c ss ms p o
+ended_last c o ss ms p same hs hm hp =
     let k : ℕ = number_of c.own in
-    let first : Jobs = callbacks (links_of c.own) (number_input n) (Some k) in
-    let more : Jobs = part_of (place_of c.own) k in
-    let js : after c (Success n) ≡ effect_of (first ++ more) =
-    ap (λ r. effect_of (first ++ enter r (run (number_input n)) (end_place (p_step c.own r)) k (Some k))) same in
-    effect_is (first ++ more) ss ms p
-    (hs ∙ sym (no_store_on first more (called_stores (links_of c.own) (number_input n) (Some k)) (place_stores (place_of c.own) k)))
-    (hm ∙ ap (λ xs. xs ++ messages_in first) ho
-    ∙ sym (messages_on first more ∙ ap (λ xs. messages_in first ++ xs) (place_messages (place_of c.own) k) ∙ append-nil (messages_in first)))
-    (hp ∙ sym (part_on first more (called_part (links_of c.own) (number_input n) (Some k))))
-    ∙ sym js
-
--- on a failure
-pub failed : (c : Content) (l : PLine) (f : Fault) (olds ss : List (ℕ × Outcome)) (old ms : List Content) (p : Option Part) → fits c ≡ true → c.rest ≡ l
-    → is_stop l ≡ false
-    → olds ≡ [] → ss ≡ olds ++ skipped f l → old ≡ [] → ms ≡ old ++ messages_in (callbacks (errbacks_of c.own) (id_input (number_of c.own)) None)
-    → p ≡ part_at_end l → Done c ss ms p (Failure f)
-failed c l f olds ss old ms p ok same h hos hs ho hm hp =
-    let k : ℕ = number_of c.own in
-    let first : Jobs = callbacks (errbacks_of c.own) (id_input k) (Some k) in
-    let more : Jobs = enter l (skips f) (end_place l) k (Some k) in
-    let js : after c (Failure f) ≡ effect_of (first ++ more) =
-    ap (λ r. effect_of (first ++ enter r (skips f) (end_place (p_step c.own r)) k (Some k))) same
-    ∙ ap (λ q. effect_of (first ++ enter l (skips f) q k (Some k))) (end_behind c.own l h) in
-    effect_is (first ++ more) ss ms p
-    (hs ∙ ap (λ xs. xs ++ skipped f l) hos
-    ∙ sym (stores_on first more ∙ ap₂ (λ a b. a ++ b) (called_stores (errbacks_of c.own) (id_input k) (Some k)) (skipped_so l f (end_place l) k (Some k))))
-    (hm ∙ ap (λ xs. xs ++ messages_in (callbacks (errbacks_of c.own) (id_input k) None)) ho ∙ called_messages (errbacks_of c.own) k None (Some k)
-    ∙ sym (messages_on first more ∙ ap (λ xs. messages_in first ++ xs) (skip_quiet l f (end_place l) k (Some k)) ∙ append-nil (messages_in first)))
-    (hp ∙ sym (part_on first more (called_part (errbacks_of c.own) (id_input k) (Some k)) ∙ skip_part l f k (Some k)
-    ∙ last_behind k l (rest_stands c l ok same h) refl))
-    ∙ sym js
-
-pub failed_last : (c : Content) (f : Fault) (ss : List (ℕ × Outcome)) (old ms : List Content) (p : Option Part) → c.rest ≡ p_stop
-    → ss ≡ [] → old ≡ [] → ms ≡ old ++ messages_in (callbacks (errbacks_of c.own) (id_input (number_of c.own)) None)
-    → p ≡ part_in (part_of (place_of c.own) (number_of c.own)) → Done c ss ms p (Failure f)
-failed_last c f ss old ms p same hs ho hm hp =
-    let k : ℕ = number_of c.own in
-    let first : Jobs = callbacks (errbacks_of c.own) (id_input k) (Some k) in
-    let more : Jobs = part_of (place_of c.own) k in
-    let js : after c (Failure f) ≡ effect_of (first ++ more) = ap (λ r. effect_of (first ++ enter r (skips f) (end_place (p_step c.own r)) k (Some k))) same in
-    effect_is (first ++ more) ss ms p
-    (hs ∙ sym (no_store_on first more (called_stores (errbacks_of c.own) (id_input k) (Some k)) (place_stores (place_of c.own) k)))
-    (hm ∙ ap (λ xs. xs ++ messages_in (callbacks (errbacks_of c.own) (id_input k) None)) ho ∙ called_messages (errbacks_of c.own) k None (Some k)
-    ∙ sym (messages_on first more ∙ ap (λ xs. messages_in first ++ xs) (place_messages (place_of c.own) k) ∙ append-nil (messages_in first)))
-    (hp ∙ sym (part_on first more (called_part (errbacks_of c.own) (id_input k) (Some k))))
-    ∙ sym js
+    ended c o (part_of (place_of c.own) k) ss ms p
+    (ap (λ r. effect_of (back c o ++ enter r (after_outcome o) (end_place (p_step c.own r)) k (Some k))) same)
+    (hs ∙ sym (place_stores (place_of c.own) k))
+    (hm ∙ sym (ap (λ xs. messages_in (back c o) ++ xs) (place_messages (place_of c.own) k) ∙ append-nil (messages_in (back c o))))
+    hp
 
 -- ---- the end of a line
 

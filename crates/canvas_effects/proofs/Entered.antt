@@ -1,13 +1,14 @@
 -- What flows into a line gives, walk by walk.
-use Rattle.std.proofs.Common.{◌≡◌, ◌∙◌, ℕ, List, [], ◌∷◌, ◌++◌, Option, None, refl, sym, ap, ap₂, append-nil}
+use Rattle.std.proofs.Common.{◌≡◌, ◌∙◌, ℕ, List, [], ◌∷◌, ◌++◌, Option, Some, None, refl, sym, ap, ap₂, append-nil}
 use Rattle.canvas_task.specs.declared.outcome.Fault.{Fault}
-use Rattle.canvas_task.specs.declared.outcome.Outcome.TheVariants.{Failure}
+use Rattle.canvas_task.specs.declared.outcome.Outcome.{Outcome}
+use Rattle.canvas_task.specs.declared.outcome.Outcome.TheVariants.{Success, Failure}
 use Rattle.canvas_semantics.specs.PlacedLine.{PTask, PTasks, no_p_tasks, and_p_task, PPlace, p_nowhere, p_group, p_chord, PLine, p_stop, p_step, p_group_end, p_chord_end, PLines, no_p_lines, and_p_line}
 use Rattle.canvas_rewrite.specs.FrozenView.{p_steps, p_lines_of}
 use Rattle.canvas_message.specs.Content.{number_of, errbacks_of}
-use Rattle.canvas_effects.specs.Effects.{Jobs, message, callbacks, part_of, enter, enter_all, fault_behind, stores_in, messages_in, part_in}
+use Rattle.canvas_effects.specs.Effects.{Jobs, message, callbacks, called, part_of, enter, enter_all, fault_behind, stores_in, messages_in, part_in}
 use Rattle.canvas_message.specs.Fits.{how_many}
-use Rattle.canvas_effects.specs.Flowing.{Input, id_input, run, skips, raise}
+use Rattle.canvas_effects.specs.Flowing.{Input, number_input, id_input, run, skips, raise}
 use Rattle.canvas_effects.specs.Job.{store, publish, part}
 use Rattle.canvas_effects.specs.Placing.{placed}
 use Rattle.canvas_effects.specs.steps.Walks.{started, all_started, skipped, all_skipped, skipped_tasks, raised_stores, all_raised_stores, raised_messages, all_raised_messages, member_place}
@@ -43,7 +44,7 @@ no_message_on js ks h i = messages_on js ks ∙ ap₂ (λ a b. a ++ b) h i
 
 -- ---- callbacks
 
-pub called_stores : (ts : PTasks) (x : Input) (u : Option ℕ) → stores_in (callbacks ts x u) ≡ []
+called_stores : (ts : PTasks) (x : Input) (u : Option ℕ) → stores_in (callbacks ts x u) ≡ []
 called_stores no_p_tasks x u = refl
 called_stores (and_p_task t ts) x u = called_stores ts x u
 
@@ -51,12 +52,20 @@ pub called_part : (ts : PTasks) (x : Input) (u : Option ℕ) → part_in (callba
 called_part no_p_tasks x u = refl
 called_part (and_p_task t ts) x u = called_part ts x u
 
+pub back_stores : (ls es : PTasks) (k : ℕ) (o : Outcome) → stores_in (called ls es k o) ≡ []
+back_stores ls es k (Success n) = called_stores ls (number_input n) (Some k)
+back_stores ls es k (Failure f) = called_stores es (id_input k) (Some k)
+
+pub back_part : (ls es : PTasks) (k : ℕ) (o : Outcome) → part_in (called ls es k o) ≡ None
+back_part ls es k (Success n) = called_part ls (number_input n) (Some k)
+back_part ls es k (Failure f) = called_part es (id_input k) (Some k)
+
 -- the failed task is the input, so the parent is known
 called_same : (ts : PTasks) (k : ℕ) (u v : Option ℕ) → callbacks ts (id_input k) u ≡ callbacks ts (id_input k) v
 called_same no_p_tasks k u v = refl
 called_same (and_p_task t ts) k u v = ap (λ js. publish (message u t (id_input k) p_stop) ∷ js) (called_same ts k u v)
 
-pub called_messages : (ts : PTasks) (k : ℕ) (u v : Option ℕ) → messages_in (callbacks ts (id_input k) u) ≡ messages_in (callbacks ts (id_input k) v)
+called_messages : (ts : PTasks) (k : ℕ) (u v : Option ℕ) → messages_in (callbacks ts (id_input k) u) ≡ messages_in (callbacks ts (id_input k) v)
 called_messages ts k u v = ap messages_in (called_same ts k u v)
 
 -- ---- parts

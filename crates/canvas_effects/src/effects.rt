@@ -4,11 +4,10 @@ ghost use Rattle.std.specs.Prelude.{◌≡◌, ◌++◌, true, None, IfOk, OnOk,
 ghost use Rattle.std.specs.Option.{option_map};
 ghost use Rattle.canvas_task.specs.Numbers.{in_range};
 ghost use Rattle.canvas_task.specs.Apply.{IsInRange};
-ghost use Rattle.canvas_task.specs.declared.outcome.Outcome.TheVariants.{Success, Failure};
 ghost use Rattle.canvas_rewrite.specs.FrozenView.{p_line_view};
 ghost use Rattle.canvas_effects.specs.Carrying.{is_whole, place_stands, carried_ok, input_ok};
-ghost use Rattle.canvas_message.specs.Content.{number_of};
-ghost use Rattle.canvas_effects.specs.Effects.{first_messages, after, body_after, enter, effect_of, stores_in, messages_in, part_in, part_of};
+ghost use Rattle.canvas_message.specs.Content.{number_of, links_of, errbacks_of};
+ghost use Rattle.canvas_effects.specs.Effects.{first_messages, after, called, body_after, enter, effect_of, stores_in, messages_in, part_in, part_of};
 ghost use Rattle.canvas_message.specs.MessageView.{carried_view, place_seen};
 ghost use Rattle.canvas_message.specs.Fits.{parent_ok};
 ghost use Rattle.canvas_effects.specs.Flowing.{run, raise, list_input};
@@ -25,6 +24,7 @@ mod raised;
 mod skipped;
 mod started;
 
+use crate::copies::share_if_some;
 use crate::input::Input;
 use crate::{PartCall, Todo};
 use canvas_message::{Message, following, share_carried};
@@ -54,9 +54,54 @@ pub fn after(alloc: Global, message: &Message, outcome: &Outcome) -> Result<Todo
     requires { IsInRange outcome.now }
     ensures { IfOk result (λ todo. todo_view todo ≡ after message.now outcome.now) }
 {
+    let mut messages = called_back(alloc, message, outcome)?;
+    let mut stores = Vec::new(alloc);
+    match following(&message.rest) {
+        Some(rest) => match outcome {
+            Outcome::Success(number) => {
+                let input = Input::Number(*number);
+                start_whole(alloc, rest, &input, &Some(message.task), &mut messages)?;
+                Ok(todo_of(stores, messages, None)?)
+            }
+            Outcome::Failure(fault) => {
+                skip_line(rest, fault, &mut stores)?;
+                let part = last_part(rest)?;
+                Ok(todo_of(stores, messages, part)?)
+            }
+        },
+        None => {
+            let part = part_of(&message.place, message.task)?;
+            Ok(todo_of(stores, messages, part)?)
+        }
+    }
+}
+
+/// The messages that the end of a message's task calls back: of its links, or of its error
+/// callbacks.
+fn called_back(
+    alloc: Global,
+    message: &Message,
+    outcome: &Outcome,
+) -> Result<Vec<Message>, AllocError>
+    requires { IsInRange outcome.now }
+    ensures { IfOk result (λ messages. messages.items
+        ≡ messages_in (called (links_of message.now.own) (errbacks_of message.now.own)
+        (number_of message.now.own) outcome.now)) }
+{
+    let parent = Some(message.task);
+    let mut messages = Vec::new(alloc);
     match outcome {
-        Outcome::Success(number) => Ok(after_success(alloc, message, *number)?),
-        Outcome::Failure(fault) => Ok(after_failure(alloc, message, fault)?),
+        Outcome::Success(number) => {
+            let input = Input::Number(*number);
+            call_back(alloc, message.links.get(), &input, &parent, &mut messages)?;
+            Ok(messages)
+        }
+        Outcome::Failure(_fault) => {
+            let errbacks = message.errbacks.get();
+            let input = Input::Ident(message.task);
+            call_back(alloc, errbacks, &input, &parent, &mut messages)?;
+            Ok(messages)
+        }
     }
 }
 
@@ -77,46 +122,6 @@ pub fn body_after(
         None => {
             let input = Input::Numbers(numbers_of(alloc, outcomes)?);
             Ok(start_body(alloc, &carried.body, &input)?)
-        }
-    }
-}
-
-fn after_success(alloc: Global, message: &Message, number: i64) -> Result<Todo, AllocError>
-    requires { in_range number ≡ true }
-    ensures { IfOk result (λ todo. todo_view todo ≡ after message.now (Success number)) }
-{
-    let input = Input::Number(number);
-    let parent = Some(message.task);
-    let mut messages = Vec::new(alloc);
-    call_back(alloc, message.links.get(), &input, &parent, &mut messages)?;
-    match following(&message.rest) {
-        Some(rest) => {
-            start_whole(alloc, rest, &input, &parent, &mut messages)?;
-            todo_of(Vec::new(alloc), messages, None)
-        }
-        None => {
-            let part = part_of(&message.place, message.task)?;
-            todo_of(Vec::new(alloc), messages, part)
-        }
-    }
-}
-
-fn after_failure(alloc: Global, message: &Message, fault: &Fault) -> Result<Todo, AllocError>
-    ensures { IfOk result (λ todo. todo_view todo ≡ after message.now (Failure fault.now)) }
-{
-    let input = Input::Ident(message.task);
-    let mut stores = Vec::new(alloc);
-    let mut messages = Vec::new(alloc);
-    call_back(alloc, message.errbacks.get(), &input, &None, &mut messages)?;
-    match following(&message.rest) {
-        Some(rest) => {
-            skip_line(rest, fault, &mut stores)?;
-            let part = last_part(rest)?;
-            todo_of(stores, messages, part)
-        }
-        None => {
-            let part = part_of(&message.place, message.task)?;
-            todo_of(stores, messages, part)
         }
     }
 }
@@ -164,8 +169,11 @@ fn start_whole(
         (end_place (p_line_view line.now)) parent.now) }
 {
     match last_task(line) {
-        Some(last) => start_line(alloc, line, &last.place, input, parent, messages),
-        None => start_line(alloc, line, &None, input, parent, messages),
+        Some(last) => {
+            let place = share_if_some(&last.place)?;
+            start_line(alloc, line, place, input, parent, messages)
+        }
+        None => start_line(alloc, line, None, input, parent, messages),
     }
 }
 

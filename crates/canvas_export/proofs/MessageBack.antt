@@ -1,7 +1,6 @@
 -- A message that fits is read back from its text, but for the sizes of chords.
-use Rattle.std.proofs.Common.{◌≡◌, ◌∙◌, ℕ, ◌≤◌, ◌+◌, max, map, reverse, length, Bool, true, false, Option, Some, None, Ok, refl, sym, ap, ap₂, subst, arith}
-use Rattle.std.specs.Prelude.{codes, ◌&&◌, not, nat_le, option_and_then}
-use Rattle.std.proofs.lemmas.Bool.{leb-true}
+use Rattle.std.proofs.Common.{◌≡◌, ◌∙◌, ℕ, ◌≤◌, ◌+◌, map, reverse, length, true, Option, Some, None, Ok, refl, sym, ap, ap₂, subst, arith}
+use Rattle.std.specs.Prelude.{codes, option_and_then}
 use Rattle.base64.specs.GeneralPurpose.{IsBytes, encode_of, decode_of, decoded_of}
 use Rattle.base64.specs.Engines.{standard}
 use Rattle.base64.proofs.EngineFacts.{decode_of-encode_of}
@@ -13,17 +12,14 @@ use Rattle.canvas_task.specs.Text.{Text}
 use Rattle.canvas_sig.specs.Fields.{field, items, listed}
 use Rattle.canvas_sig.specs.steps.Clean.{IsClean, AreClean}
 use Rattle.canvas_sig.proofs.CleanWire.{args_clean, kwargs_clean, all_above, args_depth, kwargs_depth}
-use Rattle.canvas_sig.proofs.ComposedLemmas.{both}
-use Rattle.canvas_sig.proofs.FittingCalls.{CallFits}
 use Rattle.canvas_sig.proofs.ReadsAgain.{text_read}
 use Rattle.canvas_semantics.specs.Tree.{Call}
 use Rattle.canvas_semantics.specs.PlacedLine.{PTask, p_task, PTasks, PPlace, p_nowhere, p_group, p_chord, PLine, p_stop, p_step, p_group_end, p_chord_end}
 use Rattle.canvas_message.specs.Content.{Content}
-use Rattle.canvas_message.specs.Fits.{is_task_number, parent_ok, task_ok, tasks_ok, place_ok, line_ok, task_reach, tasks_reach, place_reach, line_reach, greatest_reach, fits}
+use Rattle.canvas_message.specs.Fits.{parent_ok, fits}
 use Rattle.canvas_message.specs.FrozenGrammar.{levels}
 use Rattle.canvas_codec.specs.Wire.{list_or_null}
-use Rattle.canvas_codec.proofs.RoundTrip.{task_parts}
-use Rattle.canvas_codec.proofs.Wholes.{as_content}
+use Rattle.canvas_codec.proofs.Wholes.{RestFits, Whole, as_content, whole_of}
 use Rattle.canvas_export.specs.Signatures.{Naming, task_id, group_id, index_wire, sig_wire, each_wire, tasks_wire, elements}
 use Rattle.canvas_export.specs.Envelope.{body_wire, parent_id, headers_wire, properties_wire, envelope_wire, message_text}
 use Rattle.canvas_export.specs.MessageReading.{task_of, line_within, own_in, content_in, envelope_content, read_message}
@@ -32,74 +28,6 @@ use Rattle.canvas_export.proofs.Named.{task_back, task_number_back, arguments_ba
 use Rattle.canvas_export.proofs.SignaturesBack as signatures
 use Rattle.canvas_export.proofs.Depths.{deep_reversed, carried_low, line_low, callbacks_low}
 use Rattle.canvas_export.proofs.CleanSignatures as clean
-
--- ---- what a message that fits says of its parts
-
-abbrev RestLow : PLine → Type 0
-RestLow p_stop = Unit {0}
-RestLow l = (line_ok true l ≡ true) × (greatest_reach 0 l ≤ 31)
-
-record Parts (parent : Option ℕ) (k : ℕ) (call : Call) (links errbacks : PTasks) (place : PPlace) (rest : PLine) : Type 0 where
-  known : parent_ok parent ≡ true
-  mutable : call.immutable ≡ false
-  here : is_task_number k ≡ true
-  called : CallFits call
-  linked : tasks_ok links ≡ true
-  failing : tasks_ok errbacks ≡ true
-  placed : place_ok true place ≡ true
-  low : max (max (tasks_reach links) (tasks_reach errbacks)) (place_reach place) ≤ 31
-  following : RestLow rest
-
-at_end : (last : Bool) (p : PPlace) → place_ok last p ≡ true → place_ok true p ≡ true
-at_end true p h = h
-at_end false p_nowhere h = refl
-at_end false (p_group g) h = absurd cc
-at_end false (p_chord g size body) h = absurd cc
-
-parts_by : (last : Bool) (parent : Option ℕ) (k : ℕ) (call : Call) (links errbacks : PTasks) (place : PPlace) (rest : PLine)
-    → parent_ok parent ≡ true → call.immutable ≡ false → task_ok last (p_task k call links errbacks place) ≡ true
-    → task_reach 0 (p_task k call links errbacks place) ≤ 32 → RestLow rest
-    → Parts parent k call links errbacks place rest
-parts_by last parent k call links errbacks place rest known mutable ok low following =
-    let p = task_parts last k call links errbacks place ok in
-    record {
-      known = known;
-      mutable = mutable;
-      here = p.here;
-      called = p.called;
-      linked = p.linked;
-      failing = p.failing;
-      placed = at_end last place p.placed;
-      low = omega (arith, low);
-      following = following;
-    }
-
-by_line : (parent : Option ℕ) (k : ℕ) (call : Call) (links errbacks : PTasks) (place : PPlace) (rest : PLine)
-    → parent_ok parent ≡ true → call.immutable ≡ false → line_ok true (p_step (p_task k call links errbacks place) rest) ≡ true
-    → line_reach 0 (p_step (p_task k call links errbacks place) rest) ≤ 32 → Parts parent k call links errbacks place rest
-by_line parent k call links errbacks place p_stop known mutable ok low = parts_by true parent k call links errbacks place p_stop known mutable ok low tt
-by_line parent k call links errbacks place (p_step t l) known mutable ok low =
-    let p = both (task_ok false (p_task k call links errbacks place)) (line_ok true (p_step t l)) ok in
-    parts_by false parent k call links errbacks place (p_step t l) known mutable p.0 (omega (arith, low)) (p.1, omega (arith, low))
-by_line parent k call links errbacks place (p_group_end g ms) known mutable ok low =
-    let p = both (task_ok false (p_task k call links errbacks place)) (line_ok true (p_group_end g ms)) ok in
-    parts_by false parent k call links errbacks place (p_group_end g ms) known mutable p.0 (omega (arith, low)) (p.1, omega (arith, low))
-by_line parent k call links errbacks place (p_chord_end g ms b) known mutable ok low =
-    let p = both (task_ok false (p_task k call links errbacks place)) (line_ok true (p_chord_end g ms b)) ok in
-    parts_by false parent k call links errbacks place (p_chord_end g ms b) known mutable p.0 (omega (arith, low)) (p.1, omega (arith, low))
-
-not_true : (b : Bool) → not b ≡ true → b ≡ false
-not_true true h = absurd cc
-not_true false h = refl
-
-parts : (parent : Option ℕ) (k : ℕ) (call : Call) (links errbacks : PTasks) (place : PPlace) (rest : PLine)
-    → fits (as_content parent k call links errbacks place rest) ≡ true → Parts parent k call links errbacks place rest
-parts parent k call links errbacks place rest h =
-    let l = p_step (p_task k call links errbacks place) rest in
-    let p = both (parent_ok parent && not call.immutable && line_ok true l) (nat_le (line_reach 0 l) 32) h in
-    let q = both (parent_ok parent && not call.immutable) (line_ok true l) p.0 in
-    let r = both (parent_ok parent) (not call.immutable) q.0 in
-    by_line parent k call links errbacks place rest r.0 (not_true call.immutable r.1) q.1 (leb-true (line_reach 0 l) 32 p.1)
 
 -- ---- what the headers say
 
@@ -126,17 +54,17 @@ module _ (n : Naming) (whole : length n.run ≡ 22) where
   parent_back None h = refl
   parent_back (Some k) h = task_back n.run k whole h
 
-  following_back : (l : PLine) → RestLow l → line_within levels (map (sig_wire no_items) (elements n l)) ≡ sizeless_line l
+  following_back : (l : PLine) → RestFits l → line_within levels (map (sig_wire no_items) (elements n l)) ≡ sizeless_line l
   following_back p_stop h = refl
   following_back (p_step t l) h = signatures.line_back n whole levels 0 true (p_step t l) no_items h.0 (omega (arith, h.1))
   following_back (p_group_end g ms) h = signatures.line_back n whole levels 0 true (p_group_end g ms) no_items h.0 (omega (arith, h.1))
   following_back (p_chord_end g ms b) h = signatures.line_back n whole levels 0 true (p_chord_end g ms b) no_items h.0 (omega (arith, h.1))
 
-  rest_back : (l : PLine) → RestLow l → line_within levels (reverse (listed (list_or_null (each_wire (reverse (elements n l)))))) ≡ sizeless_line l
+  rest_back : (l : PLine) → RestFits l → line_within levels (reverse (listed (list_or_null (each_wire (reverse (elements n l)))))) ≡ sizeless_line l
   rest_back l h =
       ap (line_within levels) (ap (λ ds. reverse ds) (listed_of (each_wire (reverse (elements n l)))) ∙ signatures.turned (elements n l)) ∙ following_back l h
 
-  own_back : (parent : Option ℕ) (k : ℕ) (call : Call) (links errbacks : PTasks) (place : PPlace) (rest : PLine) → Parts parent k call links errbacks place rest
+  own_back : (parent : Option ℕ) (k : ℕ) (call : Call) (links errbacks : PTasks) (place : PPlace) (rest : PLine) → Whole parent k call links errbacks place rest
       → own_in (headers_wire n (as_content parent k call links errbacks place rest)) (body_wire n (as_content parent k call links errbacks place rest))
       ≡ sizeless_task (p_task k call links errbacks place)
   own_back parent k call links errbacks place rest p =
@@ -152,12 +80,12 @@ module _ (n : Naming) (whole : length n.run ≡ 22) where
         listed_of (tasks_wire n errbacks),
         signatures.tasks_back n whole levels errbacks p.failing (omega (arith, p.low)),
         h.group,
-        signatures.place_back n whole levels true place p.placed (omega (arith, p.low)),
+        signatures.place_back n whole levels true place p.there (omega (arith, p.low)),
       ) (ap (λ b. sizeless_task (p_task k (record { name = call.name; args = call.args; kwargs = call.kwargs; immutable = b }) links errbacks place))
       (sym p.mutable))
 
   content_back : (parent : Option ℕ) (k : ℕ) (call : Call) (links errbacks : PTasks) (place : PPlace) (rest : PLine)
-      → Parts parent k call links errbacks place rest
+      → Whole parent k call links errbacks place rest
       → content_in (headers_wire n (as_content parent k call links errbacks place rest)) (body_wire n (as_content parent k call links errbacks place rest))
       ≡ sizeless (as_content parent k call links errbacks place rest)
   content_back parent k call links errbacks place rest p =
@@ -178,14 +106,14 @@ module _ (n : Naming) (whole : length n.run ≡ 22) where
       → content_in (headers_wire n (record { parent = parent; own = own; rest = rest })) (body_wire n (record { parent = parent; own = own; rest = rest }))
       ≡ sizeless (record { parent = parent; own = own; rest = rest })
   content_at parent (p_task k call links errbacks place) rest h =
-      content_back parent k call links errbacks place rest (parts parent k call links errbacks place rest h)
+      content_back parent k call links errbacks place rest (whole_of parent k call links errbacks place rest h)
 
   pub content_of : (c : Content) → fits c ≡ true → content_in (headers_wire n c) (body_wire n c) ≡ sizeless c
   content_of c h = content_at c.parent c.own c.rest h
 
 -- ---- the two texts of JSON
 
-reversed_deep : (n : Naming) (l : PLine) → RestLow l → items_depth (each_wire (reverse (elements n l))) ≤ 124
+reversed_deep : (n : Naming) (l : PLine) → RestFits l → items_depth (each_wire (reverse (elements n l))) ≤ 124
 reversed_deep n p_stop h = omega arith
 reversed_deep n (p_step t l) h = omega (arith, h.1, deep_reversed (elements n (p_step t l)), (line_low n (p_step t l) h.0).some)
 reversed_deep n (p_group_end g ms) h = omega (arith, h.1, deep_reversed (elements n (p_group_end g ms)), (line_low n (p_group_end g ms) h.0).some)
@@ -200,7 +128,7 @@ list_clean no_items h = tt
 list_clean (item d ds) h = h
 
 body_low : (n : Naming) (parent : Option ℕ) (k : ℕ) (call : Call) (links errbacks : PTasks) (place : PPlace) (rest : PLine)
-    → Parts parent k call links errbacks place rest
+    → Whole parent k call links errbacks place rest
     → depth (body_wire n (as_content parent k call links errbacks place rest)) ≤ 127
 body_low n parent k call links errbacks place rest p =
     omega (
@@ -213,11 +141,11 @@ body_low n parent k call links errbacks place rest p =
       list_depth (each_wire (reverse (elements n rest))),
       callbacks_low n links p.linked,
       callbacks_low n errbacks p.failing,
-      carried_low n true place p.placed,
+      carried_low n true place p.there,
       reversed_deep n rest p.following,
     )
 
-rest_clean : (n : Naming) → clean.IsBounded n → (l : PLine) → RestLow l → AreClean (each_wire (reverse (elements n l)))
+rest_clean : (n : Naming) → clean.IsBounded n → (l : PLine) → RestFits l → AreClean (each_wire (reverse (elements n l)))
 rest_clean n b p_stop h = tt
 rest_clean n b (p_step t l) h =
     clean.each_clean (reverse (elements n (p_step t l))) (clean.reversed_clean (elements n (p_step t l)) (clean.line_clean n b true (p_step t l) h.0))
@@ -229,7 +157,7 @@ rest_clean n b (p_chord_end g ms l) h =
     (clean.reversed_clean (elements n (p_chord_end g ms l)) (clean.line_clean n b true (p_chord_end g ms l) h.0))
 
 body_clean : (n : Naming) → clean.IsBounded n → (parent : Option ℕ) (k : ℕ) (call : Call) (links errbacks : PTasks) (place : PPlace) (rest : PLine)
-    → Parts parent k call links errbacks place rest
+    → Whole parent k call links errbacks place rest
     → IsClean (body_wire n (as_content parent k call links errbacks place rest))
 body_clean n b parent k call links errbacks place rest p = (
   args_clean call.args p.called.args,
@@ -244,7 +172,7 @@ body_clean n b parent k call links errbacks place rest p = (
           list_clean (each_wire (reverse (elements n rest))) (rest_clean n b rest p.following),
           (
             (refl, (refl, tt)),
-            clean.place_clean n b true place p.placed,
+            clean.place_clean n b true place p.there,
             ((refl, (refl, (refl, tt))), list_clean (tasks_wire n errbacks) (clean.tasks_clean n b errbacks p.failing), tt),
           ),
         ),
@@ -358,7 +286,7 @@ kept_by e t text is back same = subst (λ x. IsKept x) same (decoded_of-ok stand
 
 message_by : (n : Naming) → length n.run ≡ 22 → clean.IsBounded n
     → (queue : Text) (parent : Option ℕ) (k : ℕ) (call : Call) (links errbacks : PTasks) (place : PPlace) (rest : PLine)
-    → IsKept (compact_text (body_wire n (as_content parent k call links errbacks place rest))) → Parts parent k call links errbacks place rest
+    → IsKept (compact_text (body_wire n (as_content parent k call links errbacks place rest))) → Whole parent k call links errbacks place rest
     → read_message (message_text n queue (as_content parent k call links errbacks place rest))
     ≡ Some (sizeless (as_content parent k call links errbacks place rest))
 message_by n whole b queue parent k call links errbacks place rest bytes p =
@@ -376,7 +304,7 @@ message_at : (n : Naming) → length n.run ≡ 22 → clean.IsBounded n → (que
     → read_message (message_text n queue (record { parent = parent; own = own; rest = rest }))
     ≡ Some (sizeless (record { parent = parent; own = own; rest = rest }))
 message_at n whole b queue parent (p_task k call links errbacks place) rest bytes h =
-    message_by n whole b queue parent k call links errbacks place rest bytes (parts parent k call links errbacks place rest h)
+    message_by n whole b queue parent k call links errbacks place rest bytes (whole_of parent k call links errbacks place rest h)
 
 pub message_back : (n : Naming) → length n.run ≡ 22 → clean.IsBounded n → (queue : Text) (c : Content) → IsKept (compact_text (body_wire n c)) → fits c ≡ true
     → read_message (message_text n queue c) ≡ Some (sizeless c)

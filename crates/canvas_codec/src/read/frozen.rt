@@ -1,6 +1,6 @@
 //! Reading frozen signatures, with the signatures in them, out of JSON values.
 
-ghost use Rattle.std.specs.Prelude.{◌≡◌, false, map};
+ghost use Rattle.std.specs.Prelude.{◌≡◌, false, map, OnOk, IfErr, Some, None};
 ghost use Rattle.canvas_sig.specs.Datum.{view};
 ghost use Rattle.canvas_sig.specs.Fields.{value_at, as_list, listed, tasks, subtype};
 ghost use Rattle.canvas_sig.specs.Answers.{Gives, ◌or_else◌, unless, each};
@@ -9,7 +9,7 @@ ghost use Rattle.canvas_rewrite.specs.FrozenView.{p_task_view, p_line_view, p_en
 ghost use Rattle.canvas_message.specs.MessageView.{place_seen, carried_view};
 ghost use Rattle.canvas_codec.specs.steps.Elements.{element_view, line_with};
 ghost use Rattle.canvas_message.specs.FrozenGrammar.{but_a_place};
-ghost use Rattle.canvas_codec.specs.steps.FrozenReading.{place_with, carried_with, task_with, task_as, group_with, chord_with, header_fault, step_as, last_as, elements_with, link_reading, step_reading, last_reading, line_reading};
+ghost use Rattle.canvas_codec.specs.steps.FrozenReading.{place_with, carried_with, task_as, group_with, chord_with, header_fault, last_as, elements_with, link_reading, step_reading, last_reading, line_reading};
 
 use super::identifiers::{known_group, known_task, read_size};
 use super::made::{Element, line_of};
@@ -33,6 +33,17 @@ fn but_a_place(fault: Option<SigFault>) -> Option<SigFault>
     }
 }
 
+/// The refusal for a fault that was found.
+fn refuse(fault: Option<SigFault>) -> Result<(), SigFault>
+    ensures ok { OnOk result (fault ≡ None) }
+    ensures err { IfErr result (λ e. fault ≡ Some e) }
+{
+    match fault {
+        Some(fault) => Err(fault),
+        None => Ok(()),
+    }
+}
+
 fn header_fault(value: &Datum<'_>) -> Option<SigFault>
     ensures { result ≡ header_fault (view value.now) }
 {
@@ -52,12 +63,13 @@ pub(crate) fn read_link(alloc: Global, value: &Datum<'_>, left: u32) -> Result<F
     if left == 0 {
         return Err(SigFault::TooDeep);
     }
-    read_task_as(alloc, value, true, left - 1)
+    read_task(alloc, value, true, left - 1)
 }
 
+/// The task that a value stands for; `linked` says that it is a link or an error callback.
 #[cycle(read)]
 #[tactic(auto, using(crate::proofs::Levels::fails_with))]
-fn read_task_as(
+fn read_task(
     alloc: Global,
     value: &Datum<'_>,
     linked: bool,
@@ -66,18 +78,7 @@ fn read_task_as(
     ensures { Gives p_task_view result
         (task_as linked (link_reading left) (line_reading left) (view value.now)) }
 {
-    match but_a_place(own_fault(value, linked)) {
-        Some(fault) => Err(fault),
-        None => read_task(alloc, value, left),
-    }
-}
-
-/// The task that a value without a fault of its own stands for.
-#[cycle(read)]
-fn read_task(alloc: Global, value: &Datum<'_>, left: u32) -> Result<FrozenTask, SigFault>
-    ensures { Gives p_task_view result
-        (task_with (link_reading left) (line_reading left) (view value.now)) }
-{
+    refuse(but_a_place(own_fault(value, linked)))?;
     let no = known_task(option_of(value, "task_id"))?;
     let args = read_args(alloc, listed(value.get("args")))?;
     let kwargs = read_kwargs(alloc, value.get("kwargs"))?;
@@ -222,10 +223,8 @@ fn read_chain(alloc: Global, value: &Datum<'_>, left: u32) -> Result<FrozenLine,
     ensures { Gives p_line_view result (unless (own_fault false (view value.now)) (elements_with
         (step_reading left) (last_reading left) (listed (tasks (view value.now))))) }
 {
-    match own_fault(value, false) {
-        Some(fault) => Err(fault),
-        None => read_elements(alloc, listed(kwarg_of(value, "tasks")), left),
-    }
+    refuse(own_fault(value, false))?;
+    read_elements(alloc, listed(kwarg_of(value, "tasks")), left)
 }
 
 #[cycle(read)]
@@ -292,26 +291,8 @@ fn read_step(alloc: Global, value: &Datum<'_>, left: u32) -> Result<FrozenTask, 
     if left == 0 {
         return Err(SigFault::TooDeep);
     }
-    read_step_as(
-        alloc,
-        value,
-        primitive_of(value.get("subtask_type")),
-        left - 1,
-    )
-}
-
-#[cycle(read)]
-fn read_step_as(
-    alloc: Global,
-    value: &Datum<'_>,
-    primitive: Option<Primitive>,
-    left: u32,
-) -> Result<FrozenTask, SigFault>
-    ensures { Gives p_task_view result
-        (step_as (link_reading left) (line_reading left) primitive (view value.now)) }
-{
-    match primitive {
-        Some(Primitive::Task) => read_task_as(alloc, value, false, left),
+    match primitive_of(value.get("subtask_type")) {
+        Some(Primitive::Task) => read_task(alloc, value, false, left - 1),
         _ => Err(SigFault::OnCanvas),
     }
 }
@@ -344,29 +325,20 @@ fn read_last_as(
         (last_as (link_reading left) (line_reading left) primitive (view value.now)) }
 {
     match primitive {
-        Some(Primitive::Task) => Ok(Element::Task(read_task_as(alloc, value, false, left)?)),
-        Some(Primitive::Group) => Ok(Element::End(read_group_as(alloc, value, left)?)),
-        Some(Primitive::Chord) => Ok(Element::End(read_chord_as(alloc, value, left)?)),
+        Some(Primitive::Task) => Ok(Element::Task(read_task(alloc, value, false, left)?)),
+        Some(Primitive::Group) => Ok(Element::End(read_group(alloc, value, left)?)),
+        Some(Primitive::Chord) => Ok(Element::End(read_chord(alloc, value, left)?)),
         _ => Err(SigFault::OnCanvas),
     }
 }
 
 #[cycle(read)]
 #[tactic(auto, using(crate::proofs::Levels::fails_with))]
-fn read_group_as(alloc: Global, value: &Datum<'_>, left: u32) -> Result<FrozenEnd, SigFault>
+fn read_group(alloc: Global, value: &Datum<'_>, left: u32) -> Result<FrozenEnd, SigFault>
     ensures { Gives p_end_view result (unless (own_fault false (view value.now))
         (group_with (line_reading left) (view value.now))) }
 {
-    match own_fault(value, false) {
-        Some(fault) => Err(fault),
-        None => read_group(alloc, value, left),
-    }
-}
-
-#[cycle(read)]
-fn read_group(alloc: Global, value: &Datum<'_>, left: u32) -> Result<FrozenEnd, SigFault>
-    ensures { Gives p_end_view result (group_with (line_reading left) (view value.now)) }
-{
+    refuse(own_fault(value, false))?;
     let group = known_group(option_of(value, "group_id"))?;
     let members = read_lines(alloc, listed(kwarg_of(value, "tasks")), left)?;
     Ok(FrozenEnd {
@@ -376,33 +348,15 @@ fn read_group(alloc: Global, value: &Datum<'_>, left: u32) -> Result<FrozenEnd, 
     })
 }
 
-/// A fault of a chord's own.
-fn chord_fault(value: &Datum<'_>) -> Option<SigFault>
-    ensures { result ≡ (own_fault false (view value.now) or_else header_fault (view value.now)) }
-{
-    match own_fault(value, false) {
-        None => header_fault(value),
-        fault => fault,
-    }
-}
-
 #[cycle(read)]
 #[tactic(auto, using(crate::proofs::Levels::fails_with))]
-fn read_chord_as(alloc: Global, value: &Datum<'_>, left: u32) -> Result<FrozenEnd, SigFault>
+fn read_chord(alloc: Global, value: &Datum<'_>, left: u32) -> Result<FrozenEnd, SigFault>
     ensures { Gives p_end_view result (unless
         (own_fault false (view value.now) or_else header_fault (view value.now))
         (chord_with (line_reading left) (view value.now))) }
 {
-    match chord_fault(value) {
-        Some(fault) => Err(fault),
-        None => read_chord(alloc, value, left),
-    }
-}
-
-#[cycle(read)]
-fn read_chord(alloc: Global, value: &Datum<'_>, left: u32) -> Result<FrozenEnd, SigFault>
-    ensures { Gives p_end_view result (chord_with (line_reading left) (view value.now)) }
-{
+    refuse(own_fault(value, false))?;
+    refuse(header_fault(value))?;
     let group = known_group(option_of(value, "group_id"))?;
     let members = read_lines(alloc, listed(kwarg_of(value, "header")), left)?;
     let body = read_member(alloc, kwarg_of(value, "body"), left)?;

@@ -44,6 +44,10 @@ begins_with_task (p_chord_end g ms body) = false
 abbrev pub at_place : PPlace → PTask → PTask
 at_place p t = last_at p t p_stop
 
+-- the message of a line's first task, where the line's end goes to p
+abbrev pub first_message : Option ℕ → PTask → Input → PPlace → PLine → Content
+first_message u t x p rest = message u (last_at p t rest) x (placed p rest)
+
 -- where the members of a group or chord end, where the end of the whole goes to p
 abbrev pub member_place : PLine → PPlace → PPlace
 member_place (p_group_end g ms) p = p_group g

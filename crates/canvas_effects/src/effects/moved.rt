@@ -5,7 +5,7 @@ ghost use Rattle.std.specs.Prelude.{◌≡◌, true, false, IfOk, MatchBool, Mat
 ghost use Rattle.std.specs.Option.{option_map};
 ghost use Rattle.canvas_task.specs.Numbers.{in_range};
 ghost use Rattle.canvas_task.specs.Apply.{IsInRange};
-ghost use Rattle.canvas_task.specs.declared.outcome.Outcome.TheVariants.{Success, Failure};
+ghost use Rattle.canvas_task.specs.declared.outcome.Outcome.TheVariants.{Success};
 ghost use Rattle.canvas_rewrite.specs.FrozenView.{p_line_view, p_task_view};
 ghost use Rattle.canvas_semantics.specs.PlacedLine.{p_step, p_stop};
 ghost use Rattle.canvas_effects.specs.Carrying.{place_stands};
@@ -15,13 +15,13 @@ ghost use Rattle.canvas_effects.specs.Todos.{part_view, todo_view};
 ghost use Rattle.canvas_message.specs.MessageView.{place_seen, rest_seen};
 ghost use Rattle.canvas_effects.specs.steps.Walks.{input_seen, begins_with_task};
 
-use super::started::{call_back, parent_of, put_input};
-use super::{after, todo_of};
+use super::started::{parent_of, put_input};
+use super::{after, called_back, todo_of};
 use crate::input::Input;
 use crate::{PartCall, Todo};
 use canvas_message::{Message, following};
 use canvas_rewrite::{FrozenLine, FrozenTask, Place};
-use canvas_task::{Fault, ListOf, Memory, Outcome, TaskNo};
+use canvas_task::{ListOf, Memory, Outcome, TaskNo};
 use std::alloc::{AllocError, Global};
 
 /// What follows the end of a message's task, as `after` says, where the message isn't needed
@@ -33,22 +33,11 @@ pub fn into_todo(alloc: Global, message: Message, outcome: &Outcome) -> Result<T
     ensures { IfOk result (λ todo. todo_view todo ≡ after message outcome.now) }
 {
     match outcome {
-        Outcome::Success(number) => {
-            if has_next(&message.rest) {
-                Ok(hand_on(alloc, message, *number)?)
-            } else if is_last(&message.rest) {
-                Ok(end_succeeded(alloc, message, *number)?)
-            } else {
-                after(alloc, &message, outcome)
-            }
+        Outcome::Success(number) if has_next(&message.rest) => {
+            Ok(hand_on(alloc, message, *number)?)
         }
-        Outcome::Failure(fault) => {
-            if is_last(&message.rest) {
-                Ok(end_failed(alloc, message, fault)?)
-            } else {
-                after(alloc, &message, outcome)
-            }
-        }
+        _ if is_last(&message.rest) => Ok(end_last(alloc, message, outcome)?),
+        _ => after(alloc, &message, outcome),
     }
 }
 
@@ -143,16 +132,10 @@ fn hand_on(alloc: Global, message: Message, number: i64) -> Result<Todo, AllocEr
     requires next { begins_with_task message.rest ≡ true }
     ensures { IfOk result (λ todo. todo_view todo ≡ after message (Success number)) }
 {
-    let Message {
-        task,
-        links,
-        rest,
-        ..
-    } = message;
+    let mut messages = called_back(alloc, &message, &Outcome::Success(number))?;
+    let Message { task, rest, .. } = message;
     let input = Input::Number(number);
     let parent = Some(task);
-    let mut messages = Vec::new(alloc);
-    call_back(alloc, links.get(), &input, &parent, &mut messages)?;
     match take_rest(rest) {
         Some((next, rest)) => {
             messages.push(message_from(alloc, next, &input, &parent, rest)?)?;
@@ -176,47 +159,13 @@ fn take_part(place: Option<Place>, task: TaskNo) -> Option<PartCall>
     }
 }
 
-/// The end of a task that succeeded and is the last of its line.
-fn end_succeeded(alloc: Global, message: Message, number: i64) -> Result<Todo, AllocError>
-    requires number { in_range number ≡ true }
+/// The end of a task that is the last of its line.
+fn end_last(alloc: Global, message: Message, outcome: &Outcome) -> Result<Todo, AllocError>
+    requires outcome { IsInRange outcome.now }
     requires last { message.rest ≡ p_stop }
-    ensures { IfOk result (λ todo. todo_view todo ≡ after message (Success number)) }
+    ensures { IfOk result (λ todo. todo_view todo ≡ after message outcome.now) }
 {
-    let Message {
-        task,
-        links,
-        place,
-        ..
-    } = message;
-    let mut messages = Vec::new(alloc);
-    call_back(
-        alloc,
-        links.get(),
-        &Input::Number(number),
-        &Some(task),
-        &mut messages,
-    )?;
-    todo_of(Vec::new(alloc), messages, take_part(place, task))
-}
-
-/// The end of a task that failed and is the last of its line.
-fn end_failed(alloc: Global, message: Message, fault: &Fault) -> Result<Todo, AllocError>
-    requires last { message.rest ≡ p_stop }
-    ensures { IfOk result (λ todo. todo_view todo ≡ after message (Failure fault.now)) }
-{
-    let Message {
-        task,
-        errbacks,
-        place,
-        ..
-    } = message;
-    let mut messages = Vec::new(alloc);
-    call_back(
-        alloc,
-        errbacks.get(),
-        &Input::Ident(task),
-        &None,
-        &mut messages,
-    )?;
+    let messages = called_back(alloc, &message, outcome)?;
+    let Message { task, place, .. } = message;
     todo_of(Vec::new(alloc), messages, take_part(place, task))
 }

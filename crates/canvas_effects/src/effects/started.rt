@@ -10,9 +10,8 @@ ghost use Rattle.canvas_effects.specs.Effects.{message, callbacks, messages_in};
 ghost use Rattle.canvas_message.specs.Fits.{fits, parent_ok};
 ghost use Rattle.canvas_effects.specs.Flowing.{input_flow, parent_for};
 ghost use Rattle.canvas_message.specs.steps.Parts.{is_stop};
-ghost use Rattle.canvas_effects.specs.Placing.{last_at, placed};
 ghost use Rattle.canvas_message.specs.MessageView.{place_seen, place_view, rest_seen};
-ghost use Rattle.canvas_effects.specs.steps.Walks.{input_seen, tail_seen, at_place, member_place, started, all_started};
+ghost use Rattle.canvas_effects.specs.steps.Walks.{input_seen, tail_seen, at_place, first_message, member_place, started, all_started};
 
 use crate::copies::{copy_tasks, share_if_some, share_place};
 use crate::input::Input;
@@ -115,28 +114,14 @@ pub(super) fn call_back(
     Ok(())
 }
 
-/// The message of a line's first task, where others follow and the line's end goes to the place.
-fn followed_message(
-    alloc: Global,
-    first: &FrozenTask,
-    others: &[FrozenTask],
-    tail: &Option<Box<FrozenEnd>>,
-    place: Option<Place>,
-    input: &Input,
-    parent: &Option<TaskNo>,
-) -> Result<Message, AllocError>
-    requires fits { fits (message parent.now (last_at (place_seen place) (p_task_view first.now)
-        (p_steps (map p_task_view others.now) (tail_seen tail.now))) (input_seen input.now)
-        (placed (place_seen place) (p_steps (map p_task_view others.now) (tail_seen tail.now))))
-        ≡ true }
-    requires follows { is_stop (p_steps (map p_task_view others.now) (tail_seen tail.now)) ≡ false }
-    ensures { IfOk result (λ m. m
-        ≡ message parent.now (last_at (place_seen place) (p_task_view first.now)
-        (p_steps (map p_task_view others.now) (tail_seen tail.now))) (input_seen input.now) (placed
-        (place_seen place) (p_steps (map p_task_view others.now) (tail_seen tail.now)))) }
+/// Whether no task and no end is left of a line.
+fn is_at_end(tasks: &[FrozenTask], tail: &Option<Box<FrozenEnd>>) -> bool
+    ensures { result ≡ is_stop (p_steps (map p_task_view tasks.now) (tail_seen tail.now)) }
 {
-    let rest = place_rest(alloc, tail, others, place)?;
-    message_of(alloc, first, input, parent, None, Some(rest))
+    match tail {
+        Some(_end) => false,
+        None => tasks.is_empty(),
+    }
 }
 
 /// The message of a line's first task, where the line's end goes to the place.
@@ -149,24 +134,17 @@ fn first_message(
     input: &Input,
     parent: &Option<TaskNo>,
 ) -> Result<Message, AllocError>
-    requires { fits (message parent.now (last_at (place_seen place) (p_task_view first.now)
-        (p_steps (map p_task_view others.now) (tail_seen tail.now))) (input_seen input.now)
-        (placed (place_seen place) (p_steps (map p_task_view others.now) (tail_seen tail.now))))
-        ≡ true }
+    requires { fits (first_message parent.now (p_task_view first.now) (input_seen input.now)
+        (place_seen place) (p_steps (map p_task_view others.now) (tail_seen tail.now))) ≡ true }
     ensures { IfOk result (λ m. m
-        ≡ message parent.now (last_at (place_seen place) (p_task_view first.now)
-        (p_steps (map p_task_view others.now) (tail_seen tail.now))) (input_seen input.now) (placed
-        (place_seen place) (p_steps (map p_task_view others.now) (tail_seen tail.now)))) }
+        ≡ first_message parent.now (p_task_view first.now) (input_seen input.now) (place_seen place)
+        (p_steps (map p_task_view others.now) (tail_seen tail.now))) }
 {
-    match tail {
-        Some(_end) => followed_message(alloc, first, others, tail, place, input, parent),
-        None => match others.split_first() {
-            Some((_second, _others)) => {
-                followed_message(alloc, first, others, tail, place, input, parent)
-            }
-            None => message_of(alloc, first, input, parent, place, None),
-        },
+    if is_at_end(others, tail) {
+        return message_of(alloc, first, input, parent, place, None);
     }
+    let rest = place_rest(alloc, tail, others, place)?;
+    message_of(alloc, first, input, parent, None, Some(rest))
 }
 
 /// The place of a member, where the end of the whole goes to another.
@@ -210,27 +188,26 @@ fn standing_members<'a>(end: &'a FrozenEnd, place: &Option<Place>) -> &'a [Froze
 pub(super) fn start_line(
     alloc: Global,
     line: &FrozenLine,
-    place: &Option<Place>,
+    place: Option<Place>,
     input: &Input,
     parent: &Option<TaskNo>,
     messages: &mut Vec<Message>,
 ) -> Result<(), AllocError>
-    requires line { can_stand (p_line_view line.now) (place_seen place.now) ≡ true }
+    requires line { can_stand (p_line_view line.now) (place_seen place) ≡ true }
     requires input { input_ok (input_seen input.now) ≡ true }
     requires parent { parent_ok parent.now ≡ true }
     ensures { OnOk result (messages.new.items
         ≡ messages.old.items
-        ++ started (p_line_view line.now) (input_seen input.now) (place_seen place.now)
+        ++ started (p_line_view line.now) (input_seen input.now) (place_seen place)
         parent.now) }
 {
     match line.tasks.get().split_first() {
         Some((first, others)) => {
-            let place = share_if_some(place)?;
             messages.push(first_message(alloc, first, others, &line.tail, place, input, parent)?)?;
             Ok(())
         }
         None => match &line.tail {
-            Some(end) => start_end(alloc, end, place, input, parent, messages),
+            Some(end) => start_end(alloc, end, &place, input, parent, messages),
             None => Ok(()),
         },
     }
@@ -261,6 +238,7 @@ fn start_end(
                 start_members(alloc, members, end, place, input, parent, messages)
             }
             None => {
+                let place = share_if_some(place)?;
                 let input = Input::Numbers(ListOf::of(Vec::new(alloc)));
                 start_line(alloc, body, place, &input, parent, messages)
             }
@@ -292,45 +270,7 @@ fn start_members(
     let shared = member_place(alloc, end, place)?;
     for member in members {
         let place = share_place(&shared)?;
-        start_member(alloc, member, place, input, parent, messages)?;
+        start_line(alloc, member, Some(place), input, parent, messages)?;
     }
     Ok(())
-}
-
-/// The same of a member, whose message takes its place.
-#[cycle(start)]
-fn start_member(
-    alloc: Global,
-    member: &FrozenLine,
-    place: Place,
-    input: &Input,
-    parent: &Option<TaskNo>,
-    messages: &mut Vec<Message>,
-) -> Result<(), AllocError>
-    requires line { can_stand (p_line_view member.now) (place_view place) ≡ true }
-    requires input { input_ok (input_seen input.now) ≡ true }
-    requires parent { parent_ok parent.now ≡ true }
-    ensures { OnOk result (messages.new.items
-        ≡ messages.old.items
-        ++ started (p_line_view member.now) (input_seen input.now) (place_view place)
-        parent.now) }
-{
-    match member.tasks.get().split_first() {
-        Some((first, others)) => {
-            messages.push(first_message(
-                alloc,
-                first,
-                others,
-                &member.tail,
-                Some(place),
-                input,
-                parent,
-            )?)?;
-            Ok(())
-        }
-        None => match &member.tail {
-            Some(end) => start_end(alloc, end, &Some(place), input, parent, messages),
-            None => Ok(()),
-        },
-    }
 }

@@ -9,7 +9,8 @@ use Rattle.canvas_effects.proofs.effects.start_whole.Goals as goal
 
 pub start_line-requires-clause-line : goal.start_line-requires-clause-line
 start_line-requires-clause-line c =
-    ap (can_stand (p_line_view c.args.line.now)) (last_there_place (p_line_view c.args.line.now) c.in-Some.last.now c.in-Some.ensures)
+    ap (can_stand (p_line_view c.args.line.now))
+    (c.in_ok-place-in-Some.ensures ∙ last_there_place (p_line_view c.args.line.now) c.in-Some.last.now c.in-Some.ensures)
     ∙ stands_there (p_line_view c.args.line.now) c.requires.line
 
 pub start_line-requires-in-None-clause-line : goal.start_line-requires-in-None-clause-line
@@ -17,10 +18,10 @@ start_line-requires-in-None-clause-line c =
     ap (can_stand (p_line_view c.args.line.now)) (sym (place_never (p_line_view c.args.line.now) (sym c.in-None.ensures)))
     ∙ stands_there (p_line_view c.args.line.now) c.requires.line
 
-pub returns-in-Some : goal.returns-in-Some
-returns-in-Some c =
+pub returns-in_ok-place-in-Some : goal.returns-in_ok-place-in-Some
+returns-in_ok-place-in-Some c =
     ok_same _ _ _ _ (ap (λ q. c.args.messages.now.items ++ started (p_line_view c.args.line.now) (input_seen c.args.input.now) q c.args.parent.now)
-    (last_there_place (p_line_view c.args.line.now) c.in-Some.last.now c.in-Some.ensures)) c.start_line.ensures
+    (c.in_ok-place-in-Some.ensures ∙ last_there_place (p_line_view c.args.line.now) c.in-Some.last.now c.in-Some.ensures)) c.start_line.ensures
 
 pub returns-in-None : goal.returns-in-None
 returns-in-None c =

@@ -1,9 +1,11 @@
-use Rattle.std.proofs.Common.{◌∙◌, sym, ap, map, subst, rules}
+use Rattle.std.proofs.Common.{◌≡◌, ◌∙◌, false, None, sym, ap, map, subst, rules}
 use Rattle.canvas_sig.specs.Datum.{view}
-use Rattle.canvas_sig.specs.Answers.{Gives, each}
+use Rattle.canvas_sig.specs.Answers.{Gives, ◌or_else◌, unless, each}
+use Rattle.canvas_sig.specs.Grammar.{own_fault}
 use Rattle.canvas_sig.proofs.Datums.{array_list}
 use Rattle.canvas_rewrite.specs.FrozenView.{p_task_view, p_line_view}
-use Rattle.canvas_codec.specs.steps.FrozenReading.{elements_with, link_reading, step_reading, last_reading, line_reading}
+use Rattle.canvas_message.specs.FrozenGrammar.{but_a_place}
+use Rattle.canvas_codec.specs.steps.FrozenReading.{task_with, group_with, chord_with, header_fault, elements_with, link_reading, step_reading, last_reading, line_reading}
 use Rattle.canvas_codec.proofs.Made.{task_read, group_read, chord_read, last_apart, no_line, last_item, no_items}
 use Rattle.canvas_codec.proofs.read.frozen.+read.Goals as goal
 
@@ -14,15 +16,23 @@ read_one_or_more-returns-in-List t c =
 
 pub read_task-returns : goal.read_task-returns
 read_task-returns t c =
-    task_read (link_reading c.args.left) (line_reading c.args.left)
+    let none : but_a_place (own_fault c.args.linked (view c.args.value.now)) ≡ None = search rules in
+    ap (λ o. unless o (task_with (link_reading c.args.left) (line_reading c.args.left) (view c.args.value.now))) none
+    ∙ task_read (link_reading c.args.left) (line_reading c.args.left)
     (view c.args.value.now) c.in_ok-no.no c.of.result c.of-2.result c.of-3.result c.is_true.result c.of-4.result c.of-5.result c.in_ok-place.place
     (search rules) (search rules) (search rules) (search rules) (search rules) (search rules) (search rules) (search rules)
 
 pub read_group-returns : goal.read_group-returns
-read_group-returns t c = group_read (line_reading c.args.left) (view c.args.value.now) c.in_ok-group.group c.of.result (search rules) (search rules)
+read_group-returns t c =
+    let none : own_fault false (view c.args.value.now) ≡ None = search rules in
+    ap (λ o. unless o (group_with (line_reading c.args.left) (view c.args.value.now))) none
+    ∙ group_read (line_reading c.args.left) (view c.args.value.now) c.in_ok-group.group c.of.result (search rules) (search rules)
 
 pub read_chord-returns : goal.read_chord-returns
-read_chord-returns t c = chord_read (line_reading c.args.left) (view c.args.value.now) c.in_ok-group.group c.of.result c.in_ok-body.body (search rules)
+read_chord-returns t c =
+    let none : (own_fault false (view c.args.value.now) or_else header_fault (view c.args.value.now)) ≡ None = search rules in
+    ap (λ o. unless o (chord_with (line_reading c.args.left) (view c.args.value.now))) none
+    ∙ chord_read (line_reading c.args.left) (view c.args.value.now) c.in_ok-group.group c.of.result c.in_ok-body.body (search rules)
     (search rules) (search rules)
 
 pub read_elements-returns-in-empty : goal.read_elements-returns-in-empty

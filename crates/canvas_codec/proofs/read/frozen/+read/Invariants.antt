@@ -69,20 +69,8 @@ decreases-read_group l = 30 * l.left + 15
 abbrev pub decreases-read_chord : goal.decreases-read_chord
 decreases-read_chord l = 30 * l.left + 16
 
-abbrev pub decreases-read_task_as : goal.decreases-read_task_as
-decreases-read_task_as l = 30 * l.left + 17
-
-abbrev pub decreases-read_group_as : goal.decreases-read_group_as
-decreases-read_group_as l = 30 * l.left + 18
-
-abbrev pub decreases-read_chord_as : goal.decreases-read_chord_as
-decreases-read_chord_as l = 30 * l.left + 19
-
 abbrev pub decreases-read_chain : goal.decreases-read_chain
 decreases-read_chain l = 30 * l.left + 20
-
-abbrev pub decreases-read_step_as : goal.decreases-read_step_as
-decreases-read_step_as l = 30 * l.left + 21
 
 abbrev pub decreases-read_last_as : goal.decreases-read_last_as
 decreases-read_last_as l = 30 * l.left + 22

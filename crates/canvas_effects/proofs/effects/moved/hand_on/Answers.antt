@@ -1,9 +1,10 @@
-use Rattle.std.proofs.Common.{rules, ◌≡◌, ◌∙◌, ◌∷◌, [], ◌++◌, true, map, Some, ap, ap₂, refl, w64}
+use Rattle.std.proofs.Common.{rules, ◌≡◌, ◌∙◌, ◌∷◌, [], ◌++◌, true, Some, ap, refl, w64}
 use Rattle.std.proofs.lemmas.Int.{to_z-of_z}
 use Rattle.std.proofs.lemmas.Result.{IfOk-weaker}
-use Rattle.canvas_rewrite.specs.FrozenView.{p_tasks_of, p_task_view}
-use Rattle.canvas_message.specs.Content.{number_of, links_of}
-use Rattle.canvas_effects.specs.Effects.{message, callbacks, messages_in}
+use Rattle.canvas_task.specs.declared.outcome.Outcome.TheVariants.{Success}
+use Rattle.canvas_rewrite.specs.FrozenView.{p_task_view}
+use Rattle.canvas_message.specs.Content.{number_of, links_of, errbacks_of}
+use Rattle.canvas_effects.specs.Effects.{message, called, messages_in}
 use Rattle.canvas_message.specs.Fits.{fits}
 use Rattle.canvas_effects.specs.Flowing.{number_input}
 use Rattle.canvas_message.specs.MessageView.{rest_seen}
@@ -25,17 +26,14 @@ returns-in-Some c =
     let whole : fits c.args.message ≡ true = search rules in
     let same : c.args.message.rest ≡ rest_seen c.message.inside.rest = search rules in
     let task : c.message.inside.task ≡ number_of c.args.message.own = search rules in
-    let links : p_tasks_of (map p_task_view c.deref.result.now) ≡ links_of c.args.message.own = search rules in
     let back = to_z-of_z w64 c.args.number (search rules) in
     IfOk-weaker c.todo_of.result _ _
-    (λ todo is. is ∙ succeeded_next c.args.message (p_task_view c.in-Some.next) (rest_seen c.in-Some.rest) c.args.number _ _ _ _ _ whole
-    (same ∙ c.in-Some.ensures) c.new.ensures.items c.new-messages.ensures.items
-    (c.in_ok-call_back.ensures
-    ∙ ap (λ z. c.new-messages.result.items
-    ++ messages_in (callbacks (p_tasks_of (map p_task_view c.deref.result.now)) (number_input z) (Some c.message.inside.task))) back
-    ∙ ap₂ (λ l k. c.new-messages.result.items ++ messages_in (callbacks l (number_input c.args.number) (Some k))) links task)
+    (λ todo is. is ∙ succeeded_next c.args.message (p_task_view c.in-Some.next) (rest_seen c.in-Some.rest) c.args.number _ _ _ _ whole
+    (same ∙ c.in-Some.ensures) c.new.ensures.items
+    (c.in_ok-messages.ensures
+    ∙ ap (λ z. messages_in (called (links_of c.args.message.own) (errbacks_of c.args.message.own) (number_of c.args.message.own) (Success z))) back)
     (c.in_ok-push-in-Some.ensures.items
-    ∙ ap (λ m. c.call_back.new.messages.items ++ m ∷ [])
+    ∙ ap (λ m. c.in_ok-messages.messages.items ++ m ∷ [])
     (c.in_ok-message_from-in-Some.ensures
     ∙ ap (λ z. message (Some c.message.inside.task) (p_task_view c.in-Some.next) (number_input z) (rest_seen c.in-Some.rest)) back
     ∙ ap (λ k. message (Some k) (p_task_view c.in-Some.next) (number_input c.args.number) (rest_seen c.in-Some.rest)) task)) refl) c.todo_of.ensures

@@ -1,7 +1,9 @@
 use Rattle.std.proofs.Common.{rules, ◌≡◌, ◌∙◌, ◌∷◌, ◌++◌, ap}
 use Rattle.canvas_rewrite.proofs.PlanLines.{ok_same}
+use Rattle.canvas_rewrite.specs.FrozenView.{p_line_view}
 use Rattle.canvas_message.specs.MessageView.{place_seen}
-use Rattle.canvas_effects.specs.steps.Walks.{input_seen}
+use Rattle.canvas_effects.specs.Flowing.{list_input}
+use Rattle.canvas_effects.specs.steps.Walks.{input_seen, started}
 use Rattle.canvas_effects.proofs.Begun.{group_started, header_started, empty_started}
 use Rattle.canvas_effects.proofs.effects.started.+start.Goals as goal
 
@@ -12,10 +14,11 @@ start_end-returns-in-Some-split_first t c =
     (header_started c.args.end.now c.in-Some.body (input_seen c.args.input.now) (place_seen c.args.place.now) c.args.parent.now _ _ _ c.in-Some.is
     c.standing_members-members.ensures.value split)) c.start_members.ensures
 
-pub start_end-returns-in-None-split_first : goal.start_end-returns-in-None-split_first
-start_end-returns-in-None-split_first t c =
+pub start_end-returns-in_ok-place-in-None-split_first : goal.start_end-returns-in_ok-place-in-None-split_first
+start_end-returns-in_ok-place-in-None-split_first t c =
     ok_same _ _ _ _ (ap (λ ms. c.args.messages.now.items ++ ms)
-    (empty_started c.args.end.now c.in-Some.body _ _ (input_seen c.args.input.now) (place_seen c.args.place.now) c.args.parent.now c.in-Some.is
+    (ap (λ q. started (p_line_view c.in-Some.body) (list_input c.of.result) q c.args.parent.now) c.in_ok-place-in-None-split_first.ensures
+    ∙ empty_started c.args.end.now c.in-Some.body _ _ (input_seen c.args.input.now) (place_seen c.args.place.now) c.args.parent.now c.in-Some.is
     c.standing_members-members.ensures.value c.in-None-split_first.ensures.cases (c.of.ensures ∙ c.new.ensures.items))) c.start_line.ensures
 
 pub start_end-returns-in-None : goal.start_end-returns-in-None

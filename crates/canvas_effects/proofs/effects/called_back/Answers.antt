@@ -1,0 +1,19 @@
+use Rattle.std.proofs.Common.{rules, ◌≡◌, ◌∙◌, true, map, ap}
+use Rattle.canvas_rewrite.specs.FrozenView.{p_tasks_of, p_task_view}
+use Rattle.canvas_effects.specs.Carrying.{callbacks_ok}
+use Rattle.canvas_message.specs.Content.{links_of, errbacks_of}
+use Rattle.canvas_message.specs.Fits.{fits}
+use Rattle.canvas_effects.proofs.Ended.{own_stepped}
+use Rattle.canvas_effects.proofs.effects.called_back.Goals as goal
+
+pub call_back-requires-clause-callbacks : goal.call_back-requires-clause-callbacks
+call_back-requires-clause-callbacks c =
+    let whole : fits c.args.message.now ≡ true = search rules in
+    let links : p_tasks_of (map p_task_view c.deref.result.now) ≡ links_of c.args.message.now.own = search rules in
+    ap callbacks_ok links ∙ (own_stepped c.args.message.now whole).linked
+
+pub call_back-requires-in-Failure-clause-callbacks : goal.call_back-requires-in-Failure-clause-callbacks
+call_back-requires-in-Failure-clause-callbacks c =
+    let whole : fits c.args.message.now ≡ true = search rules in
+    let errbacks : p_tasks_of (map p_task_view c.deref-in-Failure.result.now) ≡ errbacks_of c.args.message.now.own = search rules in
+    ap callbacks_ok errbacks ∙ (own_stepped c.args.message.now whole).called_back
