@@ -21,14 +21,14 @@ use Rattle.canvas_semantics.specs.Line.{Line, tree_of}
 use Rattle.canvas_semantics.specs.States.{states, EachMay}
 use Rattle.canvas_turns.specs.TurnLaws.{held_rows}
 use Rattle.canvas_turns.specs.Spending.{Entry, RanAgain, RunEntries, agains_in}
-use Rattle.canvas_turns.specs.Turns.{IsWorker, RanWhole, RanUntil, redeliveries_in}
+use Rattle.canvas_turns.specs.Turns.{most_workers, IsWorker, RanWhole, RanUntil, redeliveries_in}
 use Rattle.canvas_engine.specs.declared.report.Report.{Report}
 use Rattle.canvas_worker.specs.declared.cause.Cause.TheVariants.{Memory, Stopped}
 use Rattle.canvas_engine.specs.declared.fault.RunFault.{RunFault}
 use Rattle.canvas_engine.specs.declared.fault.RunFault.TheVariants.{BadWorkers, BadTurn, Halted}
 
 abbrev pub AreWorkers : ℕ → Type 0
-AreWorkers n = IsWorker 16 n
+AreWorkers n = IsWorker most_workers n
 
 abbrev pub AreTurns : ℕ → List ℕ → Type 0
 AreTurns n turns = All (IsWorker n) turns

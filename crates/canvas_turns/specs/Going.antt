@@ -4,7 +4,7 @@ use Rattle.canvas_task.specs.Apply.{Behaviour}
 use Rattle.canvas_semantics.specs.Line.{Line, count_line}
 use Rattle.canvas_rewrite.specs.Planned.{IsPlan}
 use Rattle.canvas_runs.specs.Lists.{Each}
-use Rattle.canvas_turns.specs.Turns.{Step, Begins, Turned, AllEnded, round, IsWorker, RanUntil, redeliveries_in}
+use Rattle.canvas_turns.specs.Turns.{Step, Begins, Turned, AllEnded, round, most_workers, IsWorker, RanUntil, redeliveries_in}
 use Rattle.canvas_turns.specs.TurnLaws.{ByTurns}
 
 -- The steps that are calls or acknowledgements: each task is published, taken, stored and
@@ -34,8 +34,8 @@ StopsSoon =
 -- fewer than a count of 128 bits holds
 abbrev pub StepsFit : Type 0
 StepsFit =
-    (l : Line) (n k again : ℕ) → count_line l < 2 ^ 32 → n ≤ 16 → k < 2 ^ 64 → again < 2 ^ 64
-    → most_steps l n k again < 2 ^ 127
+    (l : Line) (n k again : ℕ) → count_line l < 2 ^ 32 → n ≤ most_workers → k < 2 ^ 64
+    → again < 2 ^ 64 → most_steps l n k again < 2 ^ 127
 
 -- a round without a step is one in which all have ended
 abbrev pub RoundsGo : Type 0

@@ -78,6 +78,10 @@ redelivers_one a = 0
 abbrev pub redeliveries_in : List Step → ℕ
 redeliveries_in xs = total (λ x. redelivers_one x.1.0) xs
 
+-- how many workers a run may have
+abbrev pub most_workers : ℕ
+most_workers = 16
+
 -- one of the workers 1 to n
 abbrev pub IsWorker : ℕ → ℕ → Type 0
 IsWorker n p = (1 ≤ p) × (p ≤ n)
