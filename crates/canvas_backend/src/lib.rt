@@ -14,4 +14,5 @@ mod stored;
 pub use backend::{Backend, BackendSeat};
 pub use laws::{all_first, first_may, no_more, reads_first, still_may};
 pub use plain::PlainBackend;
+pub use roster::Roster;
 pub use stored::Stored;

@@ -1,45 +1,19 @@
-//! Backends know their plan.
+//! What a backend keeps of a plan is a book.
 
 ghost use Rattle.std.specs.Prelude.{refl};
 ghost use Rattle.canvas_worker.specs.Books.{book_in};
 ghost use Rattle.canvas_worker.specs.steps.Members.{members_in};
 
 use crate::Book;
-use canvas_backend::{Backend, PlainBackend};
+use canvas_backend::Roster;
 use canvas_task::{GroupNo, TaskNo};
 
-impl Book for PlainBackend {
-    ghost book = { λ b. book_in b.plan };
+impl Book for Roster {
+    ghost book = { book_in };
 
-    ghost from_one = { λ b g. refl };
+    ghost from_one = { λ r g. refl };
 
-    ghost has_members = { λ b. members_in b.plan };
-
-    fn knows(&self, task: TaskNo) -> bool {
-        self.knows(task)
-    }
-
-    fn size(&self, group: GroupNo) -> Option<u32> {
-        self.size(group)
-    }
-
-    fn is_member(&self, group: GroupNo, task: TaskNo) -> bool {
-        // The first test is always true: it is here for `from_one`, by which no book has task 0 for
-        // a member.
-        task.get() != 0 && self.is_member(group, task)
-    }
-
-    fn member(&self, group: GroupNo, place: u32) -> Option<TaskNo> {
-        self.member(group, place)
-    }
-}
-
-impl Book for Backend {
-    ghost book = { λ b. book_in b.plan };
-
-    ghost from_one = { λ b g. refl };
-
-    ghost has_members = { λ b. members_in b.plan };
+    ghost has_members = { members_in };
 
     fn knows(&self, task: TaskNo) -> bool {
         self.knows(task)
