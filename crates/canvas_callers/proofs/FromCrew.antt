@@ -20,7 +20,7 @@ use Rattle.canvas_runs.specs.Lists.{by, total}
 use Rattle.canvas_runs.specs.Logs.{queue_calls}
 use Rattle.canvas_runs.specs.Run.{Run, Closed, published_all}
 use Rattle.canvas_runs.specs.Worker.{worker_of, sealed}
-use Rattle.canvas_runs.proofs.CallsOf.{calls_append, calls_splits, calls_joins, own_calls, own_both, queue_own}
+use Rattle.canvas_runs.proofs.CallsOf.{calls_append, calls_splits, calls_joins, own_calls, own_both, queue_own, published_takes}
 use Rattle.canvas_runs.proofs.Sums.{total-append}
 use Rattle.canvas_runs.proofs.Words.{in_each, cond_cases}
 use Rattle.canvas_callers.specs.Accounts.{HasQueueCalls, HasTableCalls, QueueAccounts, TableAccounts}
@@ -31,10 +31,6 @@ use Rattle.canvas_callers.proofs.Seats.{ledger}
 serves_append : (plan : Roster) (cs ds : List TableAnswered) (s t u : Seat) → Serves plan s cs t → Serves plan t ds u → Serves plan s (cs ++ ds) u
 serves_append plan [] ds s t u f g = subst (λ x. Serves plan x ds u) f g
 serves_append plan (c ∷ cs) ds s t u f g = (f.0, f.1, serves_append plan cs ds f.0 t u f.2 g)
-
-no_takes : (es : List Envelope) → total takes_one (published_all es) ≡ 0
-no_takes [] = refl
-no_takes (e ∷ es) = let k = no_takes es in omega (arith, k)
 
 follows_front : (es : List Envelope) (cs : List (CoreCall Envelope)) (ls : List (QueueAnswered Envelope)) → FollowsScripts None [] cs ls
     → FollowsScripts None [] (map makes (published_all es) ++ cs) (published_all es ++ ls)
@@ -214,7 +210,7 @@ module _ (behaviour : Behaviour) (l : Line) where
       the_used : (p : ℕ) → UsesAll p (core p)
       the_used = for_all UsesAll
           (ap (λ x. total takes_one x) queue_zero ∙ (total-append takes_one sent r.works.made ∙ (
-          let none = no_takes (map sealed r.opening) in
+          let none = published_takes (map sealed r.opening) in
           let used = all_used (total takes_one r.works.made) (total takes_one (broker_calls r.works.run)) r.own.held w.own.1 r.works.used in
           omega (arith, none, used))))
           (λ p e f. ap (λ x. total takes_one x) (queue_mate p f)

@@ -19,7 +19,7 @@ use Rattle.canvas_runs.specs.Run.{Run, IsRead, published_all}
 use Rattle.canvas_runs.specs.Tally.{Tally, CountsMore, CountsOf, EachCounts, is_lost, publishing, storing, returning, dropping}
 use Rattle.canvas_runs.specs.Worker.{opened, sealed}
 use Rattle.canvas_runs.proofs.Accords.{FollowsCore, follows_all, follows_publish, follows_list_take, follows_core_take, follows_again, accords_run}
-use Rattle.canvas_runs.proofs.CallsOf.{own_calls, queue_own}
+use Rattle.canvas_runs.proofs.CallsOf.{own_calls, queue_own, published_takes}
 use Rattle.canvas_runs.proofs.Facts.{X, form, Does, order, value}
 use Rattle.canvas_runs.proofs.FirstLaw.{inner_run}
 use Rattle.canvas_runs.proofs.Histories.{GoodPublish, GoodTake, follows_takes, queue_takes, each_by, each_seconds}
@@ -59,10 +59,6 @@ no_count n k a e = omega (arith, a, e)
 publishing_all : (es : List Envelope) → total publishing (published_all es) ≡ length es
 publishing_all [] = refl
 publishing_all (e ∷ es) = let k = publishing_all es in omega (arith, k)
-
-taking_none : (es : List Envelope) → total takes_one (published_all es) ≡ 0
-taking_none [] = refl
-taking_none (e ∷ es) = let k = taking_none es in omega (arith, k)
 
 mapped : (cs : List Content) → length (map sealed cs) ≡ length cs
 mapped [] = refl
@@ -151,7 +147,7 @@ module _ (behaviour : Behaviour) (l : Line) (plan : IsPlan l) (pass : Pass) (sea
       let before : List (QueueAnswered Envelope) = opening_calls behaviour l pass seat r in
       let calls = queue_zero behaviour l pass seat r in
       let replies = table_zero behaviour l pass seat r in
-      let none = taking_none (map sealed r.opening) in
+      let none = published_takes (map sealed r.opening) in
       let sends = publishing_all (map sealed r.opening) ∙ mapped r.opening in
       let reads = only_reads r.closing r.closes in
       let all_taken : total takes_one (by 0 (queue_calls queue)) ≡ total takes_one (broker_calls f.run) =

@@ -29,7 +29,7 @@ use Rattle.canvas_runs.proofs.FirstLaw.{inner_run}
 use Rattle.canvas_runs.proofs.Histories.{GoodPublish, each_seconds}
 use Rattle.canvas_runs.proofs.OnceEach.{shows, shows_once, publishes_task, of_opened, is_event, one_caller}
 use Rattle.canvas_runs.proofs.Right.{IsRunSealed, publishes_right}
-use Rattle.canvas_runs.proofs.Sums.{total-le, find_heavy}
+use Rattle.canvas_runs.proofs.Sums.{total-le, find_heavy, in_total}
 use Rattle.canvas_runs.proofs.Words.{in_each}
 
 -- ---- entries and calls
@@ -56,11 +56,6 @@ in_by p c (e ∷ es) (inr i) = go (eqb e.0 p) (in_by p c es i)
 -- the entry of a call
 abbrev row : ℕ × TableAnswered → Entry TableCall TableReply
 row x = calls x.0 x.1.0 x.1.1
-
-heavy_total : {A : Type 0} (w : A → ℕ) (xs : List A) (x : A) → In x xs → w x ≤ total w xs
-heavy_total w [] x i = elim i [ ]
-heavy_total w (y ∷ xs) x (inl e) = let h = ap w e in omega arith
-heavy_total w (y ∷ xs) x (inr i) = let h = heavy_total w xs x i in omega arith
 
 module _ (behaviour : Behaviour) (l : Line) (plan : IsPlan l) (r : Run behaviour l) where
   -- what shows an event
@@ -128,7 +123,7 @@ module _ (behaviour : Behaviour) (l : Line) (plan : IsPlan l) (r : Run behaviour
       ∙ ap (λ b. cond b 1 0) (eq-eqb k k refl) in
       let calls_of : ℕ = total (publishes_task (X behaviour l plan) k) (by p (queue_calls r.queue)) in
       let some : publishes_task (X behaviour l plan) k (publish e, a) ≤ calls_of =
-      heavy_total (publishes_task (X behaviour l plan) k) (by p (queue_calls r.queue)) (publish e, a) (in_by p (publish e, a) (queue_calls r.queue) there) in
+      in_total (publishes_task (X behaviour l plan) k) (by p (queue_calls r.queue)) (publish e, a) (in_by p (publish e, a) (queue_calls r.queue) there) in
       let bound = one_caller (X behaviour l plan) (form behaviour l plan) (Does behaviour l plan) (order behaviour l plan) (value behaviour l plan)
       (once behaviour l plan) (inner_run behaviour l plan r) k v
       (λ w n other q. (once behaviour l plan).event w v n c other does q) p in

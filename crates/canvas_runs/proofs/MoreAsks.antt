@@ -1,8 +1,10 @@
 -- One more answered ask: of a key, of a core run, of a worker's scripts.
-use Rattle.std.proofs.Common.{◌≡◌, ◌≢◌, ℕ, Option, Bool, true, false, cond, eqb, List, [], ◌∷◌, ◌++◌, refl, ap, ◌∙◌, append-nil, eq-eqb, ne_eqb}
+use Rattle.std.proofs.Common.{◌≡◌, ◌≢◌, ℕ, Option, Bool, true, false, cond, eqb, List, [], ◌∷◌, ◌++◌, length, Some, None, refl, ap, ◌∙◌, append-nil, eq-eqb, ne_eqb}
+use Rattle.canvas_task.specs.declared.outcome.Outcome.{Outcome}
 use Rattle.canvas_effects.specs.Job as job
-use Rattle.canvas_runs.specs.Core.{Ask, Reply, CoreState, taking, ask, answered, left_after, Suits, ReadsBack, IsCoreRun, acking, over, failed, resting, owning, doing, reading}
-use Rattle.canvas_runs.specs.Calls.{AskedAndAnswered, of_scripts, scripts_of, held_by, held_after, delivers, DeliversHeld}
+use Rattle.canvas_broker.specs.Broker as broker
+use Rattle.canvas_runs.specs.Core.{Ask, Reply, to_queue, from_queue, CoreState, taking, ask, reading_of, reads_next, answered, left_after, Suits, ReadsBack, IsCoreRun, acking, over, failed, resting, owning, doing, reading}
+use Rattle.canvas_runs.specs.Calls.{AskedAndAnswered, of_scripts, scripts_of, held_by, held_after}
 use Rattle.canvas_runs.specs.Lists.{by}
 use Rattle.canvas_runs.specs.Protocol.{Protocol}
 
@@ -37,6 +39,18 @@ module _ {E : Type 0} (X : Protocol E) where
   core_more s [] x run asks suits back = (asks, (suits, back), tt)
   core_more s (y ∷ xs) x run asks suits back = (run.0, run.1, core_more (answered X s y.1) xs x run.2 asks suits back)
 
+-- ---- what follows where a header is read on
+
+module _ {E : Type 0} (X : Protocol E) where
+  -- the core fails where the chord has no member of the place, or else reads it
+  pub reads_cases : (P : CoreState X.Message X.Carried → Type 0) (g : ℕ) (c : X.Carried) (fs : List (ℕ × Outcome))
+      → (X.member g (length fs) ≡ None → P failed) → ((t : ℕ) → X.member g (length fs) ≡ Some t → P (reading g c t fs)) → P (reads_next X g c fs)
+  reads_cases P g c fs none some = go (X.member g (length fs)) refl
+    where
+      go : (x : Option ℕ) → X.member g (length fs) ≡ x → P (reading_of X g c fs x)
+      go None e = none e
+      go (Some t) e = some t e
+
 -- ---- a worker's steps and its core run
 
 module _ {E : Type 0} where
@@ -56,6 +70,16 @@ module _ {E : Type 0} where
   pub held_append : (h : Option E) (xs ys : List (AskedAndAnswered E)) → held_after h (xs ++ ys) ≡ held_after (held_after h xs) ys
   held_append h [] ys = refl
   held_append h (x ∷ xs) ys = held_append (held_by h x.0 x.1) xs ys
+
+  -- each redelivery is of the envelope of the open script, and the queue took it
+  abbrev pub delivers : Option E → Ask E → Reply E → Type 0
+  delivers h (to_queue (broker.redeliver e)) (from_queue None) = h ≡ Some e
+  delivers h (to_queue (broker.redeliver e)) r = ⊥
+  delivers h a r = Unit
+
+  abbrev pub DeliversHeld : Option E → List (AskedAndAnswered E) → Type 0
+  DeliversHeld h [] = Unit
+  DeliversHeld h (x ∷ xs) = delivers h x.0 x.1 × DeliversHeld (held_by h x.0 x.1) xs
 
   pub delivers_append : (h : Option E) (xs : List (AskedAndAnswered E)) (x : AskedAndAnswered E) → DeliversHeld h xs → delivers (held_after h xs) x.0 x.1
       → DeliversHeld h (xs ++ x ∷ [])

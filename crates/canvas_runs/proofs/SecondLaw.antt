@@ -1,5 +1,5 @@
 -- The second part of the law, over the product's histories: a closed run does all that evaluation does, each thing once.
-use Rattle.std.proofs.Common.{⊎_elim, ◌≡◌, ◌⊎◌, ℕ, suc, ◌+◌, ◌≤◌, Bool, true, false, cond, eqb, List, [], ◌∷◌, ◌++◌, map, length, Some, None, refl, sym, ap, subst, ◌∙◌, inl, inr, arith}
+use Rattle.std.proofs.Common.{⊎_elim, ◌≡◌, ◌⊎◌, ℕ, suc, ◌+◌, Bool, true, false, cond, eqb, List, [], ◌∷◌, ◌++◌, map, length, Some, None, refl, sym, ap, subst, ◌∙◌, inl, inr, arith}
 use Rattle.std.proofs.lemmas.Bool.{eqb-true, eq-eqb}
 use Rattle.canvas_task.specs.Apply.{Behaviour}
 use Rattle.canvas_task.specs.declared.outcome.Outcome.{Outcome}
@@ -48,16 +48,11 @@ use Rattle.canvas_runs.proofs.Started.{run_stores, messages_publish}
 use Rattle.canvas_runs.proofs.StoredOnce.{takes_task, both_answers}
 use Rattle.canvas_runs.proofs.Delivered.{taken_stored}
 use Rattle.canvas_runs.proofs.OnceEach.{of_opened}
-use Rattle.canvas_runs.proofs.Sums.{total-append, find_heavy}
+use Rattle.canvas_runs.proofs.Sums.{total-append, find_heavy, in_total}
 use Rattle.canvas_runs.proofs.Tables.{Distinct, part_once}
 use Rattle.canvas_runs.proofs.Trees.{AJob}
 use Rattle.canvas_runs.proofs.Whole.{from_kinds, items_done}
 use Rattle.canvas_runs.proofs.Words.{each_weaker, each_both, in_each}
-
-pub in_total : {A : Type 0} (w : A → ℕ) (xs : List A) (x : A) → In x xs → w x ≤ total w xs
-in_total w [] x i = elim i [ ]
-in_total w (y ∷ xs) x (inl e) = let h = ap w e in omega arith
-in_total w (y ∷ xs) x (inr i) = let h = in_total w xs x i in omega arith
 
 each_unsent : (P : Job Content PCarried Outcome → Type 0) (js : Jobs) → Each P (all_sent js) → Each (λ x. P (sent x)) js
 each_unsent P [] a = tt

@@ -13,16 +13,22 @@ use Rattle.canvas_backend.specs.declared.stored.Stored.TheVariants.{First, Again
 use Rattle.canvas_backend.specs.Backend as results
 use Rattle.canvas_runs.specs.Book.{book_of}
 use Rattle.canvas_runs.specs.Calls.{held_by}
-use Rattle.canvas_runs.specs.Core.{Reply, from_queue, from_table, refused, rested, acked, taking, resting, over, failed, owning, doing, reading, acking, ask, answered, Doing, Jobs, settled, opens, owned, part_counted, all_read, is_inside, is_due, Suits, Ask, ReadsBack, reading_of, reads_next}
+use Rattle.canvas_runs.specs.Core.{Reply, from_queue, from_table, refused, rested, acked, taking, resting, over, failed, owning, doing, reading, acking, ask, answered, Doing, Jobs, settled, opens, owned, part_counted, all_read, is_inside, is_due, Suits, Ask, ReadsBack, reads_next}
 use Rattle.canvas_runs.specs.Law.{of_task, takes_one_of}
+use Rattle.canvas_runs.specs.Lists.{total}
 use Rattle.canvas_runs.specs.declared.when.When.{When}
 use Rattle.canvas_runs.specs.declared.when.When.TheVariants.{Early, Late}
 use Rattle.canvas_runs.specs.Worker.{worker, opened}
-use Rattle.canvas_turns.specs.Spending.{Entry, same_when, is_for, has, without, entries_for, wanted, spent, message_in, point_of, point, comes_to, TurnedAgain, no_turn, skips, takes, spends}
+use Rattle.canvas_runs.proofs.MoreAsks.{reads_cases}
+use Rattle.canvas_turns.specs.Spending.{Entry, same_when, is_for, has, without, wanted, spent, message_in, point_of, point, comes_to, TurnedAgain, no_turn, skips, takes, spends}
 use Rattle.canvas_turns.specs.Turns.{Step, redelivery, Turned, all_taken, skips_turn, takes_turn, delivers_again, HasEnded, redeliveries_in, Answers, IsWorker, left, holds}
 use Rattle.canvas_turns.proofs.TurnSums.{in_queue}
 
 -- ---- lists of entries
+
+-- how many are for the task and the point
+abbrev pub entries_for : ℕ → When → List Entry → ℕ
+entries_for k w es = total (λ e. cond (is_for k w e) 1 0) es
 
 -- 1 at a point for this task
 abbrev pub here : ℕ → When → Option Entry → ℕ
@@ -207,19 +213,12 @@ module _ (behaviour : Behaviour) (l : Line) (k : ℕ) where
 
   -- where a header is read on the core may fail, for want of a member
   next_owning : (g : ℕ) (c : PCarried) (fs : List (ℕ × Outcome)) → is_owning (reads_next (worker behaviour l) g c fs) ≡ false
-  next_owning g c fs = go ((worker behaviour l).member g (length fs))
-    where
-      go : (x : Option ℕ) → is_owning (reading_of (worker behaviour l) g c fs x) ≡ false
-      go None = refl
-      go (Some t) = refl
+  next_owning g c fs = reads_cases (worker behaviour l) (λ s. is_owning s ≡ false) g c fs (λ e. refl) (λ t e. refl)
 
   next_inside : (g : ℕ) (c : PCarried) (fs : List (ℕ × Outcome)) → fails (reads_next (worker behaviour l) g c fs) ≡ false
       → is_inside (reads_next (worker behaviour l) g c fs) ≡ true
-  next_inside g c fs = go ((worker behaviour l).member g (length fs))
-    where
-      go : (x : Option ℕ) → fails (reading_of (worker behaviour l) g c fs x) ≡ false → is_inside (reading_of (worker behaviour l) g c fs x) ≡ true
-      go None f = absurd (false≢true (sym f))
-      go (Some t) f = refl
+  next_inside g c fs = reads_cases (worker behaviour l) (λ s. fails s ≡ false → is_inside s ≡ true) g c fs (λ e f. absurd (false≢true (sym f)))
+      (λ t e f. refl)
 
   pub handed_owning : (g : ℕ) (c : PCarried) (i : ℕ) → is_owning (part_counted (worker behaviour l) g c i) ≡ false
   handed_owning g c i = go (eqb (suc i) c.size)

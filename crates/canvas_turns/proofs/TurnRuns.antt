@@ -12,7 +12,7 @@ use Rattle.canvas_backend.specs.Roster.{roster_of}
 use Rattle.canvas_broker.specs.Broker as broker
 use Rattle.canvas_history.specs.Answers.{answered_calls, entries_by, splits_of}
 use Rattle.canvas_runs.specs.Core.{Ask, Reply, to_queue, to_table, rest, ack, from_queue, from_table, rested, acked, taking, answered, Suits, IsCoreRun, Between, Doing}
-use Rattle.canvas_runs.specs.Calls.{QueueAnswered, TableAnswered, makes, FollowsScripts, scripts_all, scripts_publish, scripts_list_take, scripts_core_take, scripts_ack, AskedAndAnswered, broker_call, broker_calls, core_calls, backend_call, backend_calls, takes_one, of_scripts, scripts_of, scripts_again, held_by, held_after, delivers, DeliversHeld}
+use Rattle.canvas_runs.specs.Calls.{QueueAnswered, TableAnswered, makes, FollowsScripts, scripts_all, scripts_publish, scripts_list_take, scripts_core_take, scripts_ack, AskedAndAnswered, broker_call, broker_calls, core_calls, backend_call, backend_calls, takes_one, of_scripts, scripts_of, scripts_again, held_by, held_after}
 use Rattle.canvas_runs.specs.Lists.{by, total}
 use Rattle.canvas_runs.specs.Logs.{queue_calls}
 use Rattle.canvas_runs.specs.Run.{Run, Closed, published_all}
@@ -22,8 +22,8 @@ use Rattle.canvas_message.specs.Among.{In as IsIn}
 use Rattle.std.proofs.lemmas.Bool.{eqb-true, false≢true}
 use Rattle.canvas_runs.proofs.Words.{in_right}
 use Rattle.canvas_runs.proofs.Sums.{total-append}
-use Rattle.canvas_runs.proofs.CallsOf.{calls_append, calls_splits, calls_entries, queue_append, queue_splits, queue_entries, broker_found, published_found}
-use Rattle.canvas_runs.proofs.MoreAsks.{by_append}
+use Rattle.canvas_runs.proofs.CallsOf.{calls_append, calls_splits, calls_entries, queue_append, queue_splits, queue_entries, broker_found, published_found, published_takes}
+use Rattle.canvas_runs.proofs.MoreAsks.{by_append, delivers, DeliversHeld}
 use Rattle.canvas_turns.proofs.TurnLogs.{Made, worker_lives, first_lives, only_append, splits_legal, splits_state, by_tag, entries_only}
 
 -- a worker whose redeliveries are of the envelope of its open script follows its core run
@@ -97,10 +97,6 @@ held_taken h (x ∷ xs) e k = ⊎_elim (λ a. one x.0 x.1 a) (λ b. inr (inr b))
     one (to_queue broker.take) (from_queue None) q = inl q
     one ack acked q = absurd (cc)
     one a r q = inl q
-
-no_takes : (es : List Envelope) → total takes_one (published_all es) ≡ 0
-no_takes [] = refl
-no_takes (e ∷ es) = let k = no_takes es in omega (arith, k)
 
 -- the queue's answer to a take
 none_left : (q : List Envelope) → None ≡ broker.answer q broker.take → broker.next q broker.take ≡ q
@@ -418,7 +414,7 @@ module _ (behaviour : Behaviour) (l : Line) where
     }
 
     none_taken : (b : Bool) → total takes_one (cond b (published_all firsts) []) ≡ 0
-    none_taken true = no_takes firsts
+    none_taken true = published_takes firsts
     none_taken false = refl
 
     pub closed : queue_after l xs ≡ [] → ((p : ℕ) → Between (left behaviour l xs p)) → Closed behaviour l run

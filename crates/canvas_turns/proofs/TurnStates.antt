@@ -1,6 +1,7 @@
 -- What a worker has left to do, after the steps of a run by turns: the parts still to come may be returned, and the members of a header that is read are stored.
-use Rattle.std.proofs.Common.{◌≡◌, ◌≢◌, ℕ, zero, suc, ◌+◌, ◌<◌, Bool, true, false, cond, eqb, ◌==◌, List, [], ◌∷◌, ◌++◌, length, slice_get, Option, Some, None, is_some, refl, sym, ap, ◌∙◌, subst, append-nil, inl, ne_eqb, arith}
+use Rattle.std.proofs.Common.{◌≡◌, ◌≢◌, ℕ, suc, ◌+◌, Bool, true, false, cond, eqb, ◌==◌, List, [], ◌∷◌, ◌++◌, length, Option, Some, None, is_some, refl, sym, ap, ◌∙◌, subst, append-nil, inl, ne_eqb, arith}
 use Rattle.std.proofs.lemmas.Bool.{eqb-true, eqb-false}
+use Rattle.std.proofs.lemmas.Option.{slice_get-get_or}
 use Rattle.std.proofs.lemmas.List.{length-append}
 use Rattle.std.specs.Prelude.{if◌then◌else◌}
 use Rattle.canvas_task.specs.Apply.{Behaviour}
@@ -24,7 +25,7 @@ use Rattle.canvas_broker.specs.Broker as broker
 use Rattle.canvas_history.specs.Answers.{answered_calls, entries_by}
 use Rattle.canvas_effects.specs.Job as job
 use Rattle.canvas_runs.specs.Calls.{TableAnswered, backend_call, AskedAndAnswered, of_scripts, scripts_of}
-use Rattle.canvas_runs.specs.Core.{Ask, Reply, to_queue, to_table, from_queue, from_table, rested, acked, taking, resting, over, failed, owning, doing, reading, acking, is_due, settled, ask, opens, reading_of, reads_next, answered, left_after, IsCoreRun, Doing, Jobs}
+use Rattle.canvas_runs.specs.Core.{Ask, Reply, to_queue, to_table, from_queue, from_table, rested, acked, taking, resting, over, failed, owning, doing, reading, acking, is_due, settled, ask, opens, reads_next, answered, left_after, IsCoreRun, Doing, Jobs}
 use Rattle.canvas_runs.specs.Lists.{Each, by, seconds, firsts}
 use Rattle.canvas_runs.specs.Protocol.{Protocol}
 use Rattle.canvas_runs.specs.Witness.{asks_table}
@@ -39,7 +40,7 @@ use Rattle.canvas_runs.proofs.FirstLaw.{inner_run}
 use Rattle.canvas_runs.proofs.GoodRuns.{GoodSoFar, GoodState, GoodAnswer, Goods, Closed, next_good, more_found, all_found}
 use Rattle.canvas_runs.proofs.Knowing.{found as among_members}
 use Rattle.canvas_runs.proofs.Right.{right_goods, right_closed, answers_right}
-use Rattle.canvas_runs.proofs.MoreAsks.{by_more, scripts_more}
+use Rattle.canvas_runs.proofs.MoreAsks.{reads_cases, by_more, scripts_more}
 use Rattle.canvas_runs.proofs.Words.{in_right, in_each, each_right, each_weaker, each_from_in, cond_cases, length-firsts}
 use Rattle.canvas_turns.specs.Turns.{Step, redelivery, results_next, results_after, left, IsWorker, Answers, FirstsRead}
 use Rattle.canvas_turns.proofs.TurnLogs.{worker_lives}
@@ -53,12 +54,6 @@ module _ {E : Type 0} (Y : Protocol E) (G : Goods Y) (k : Closed Y G) where
   left_good s [] good c a = good
   left_good s (x ∷ xs) good c a =
       left_good (answered Y s x.1) xs (next_good Y G k s x.1 good (subst (λ z. GoodAnswer Y G z x.1) c.0 a.0)) c.2 a.1
-
--- an element at each place within a list
-some_at : (i : ℕ) (xs : List ℕ) → i < length xs → (t : ℕ) × (slice_get xs i ≡ Some t)
-some_at i [] l = absurd (omega (arith, l))
-some_at zero (x ∷ xs) l = (x, refl)
-some_at (suc i) (x ∷ xs) l = some_at i xs (omega (arith, l))
 
 rows_others : (p q : ℕ) (cs : List TableAnswered) → q ≢ p → AllOthers p (entries_by q cs)
 rows_others p q [] apart = tt
@@ -276,12 +271,8 @@ module _ (behaviour : Behaviour) (l : Line) (plan : IsPlan l) where
       let many : c.size ≡ length members = (order behaviour l plan).size g state.0 c state.1.0 in
       let split : length members ≡ length (firsts fs) + length state.2 = ap length state.3 ∙ length-append (firsts fs) state.2 in
       let apart : length fs ≢ c.size = eqb-false (length fs) c.size less in
-      let there = some_at (length fs) members (omega (arith, many, split, apart, length-firsts fs)) in
-      go ((worker behaviour l).member g (length fs)) there.0 there.1
-    where
-      go : (x : Option ℕ) (t : ℕ) → x ≡ Some t → Ready n xs p (reading_of (worker behaviour l) g c fs x)
-      go None t e = absurd cc
-      go (Some u) t e = (all, less)
+      let there = slice_get-get_or members (length fs) 0 (omega (arith, many, split, apart, length-firsts fs)) in
+      reads_cases (worker behaviour l) (Ready n xs p) g c fs (λ e. absurd (let wrong = sym e ∙ there in cc)) (λ t e. (all, less))
 
   pub own_ready : (back : FirstsRead l) (n : ℕ) (xs : List Step) (p : ℕ) (s : Doing (worker behaviour l)) (r : Reply Envelope)
       → results.results P (table_log behaviour l n xs) ≡ results_after xs → Good s → Ready n xs p s → Answers behaviour l n xs (ask (worker behaviour l) s) r

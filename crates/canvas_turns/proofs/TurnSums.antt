@@ -1,6 +1,7 @@
 -- The steps of a run by turns that are calls are few.
-use Rattle.std.proofs.Common.{◌≡◌, ◌≢◌, ℕ, zero, suc, ◌+◌, ◌*◌, ◌≤◌, ◌<◌, Bool, true, false, cond, eqb, List, [], ◌∷◌, ◌++◌, length, slice_get, Option, Some, None, refl, sym, ap, ap₂, ◌∙◌, subst, inl, inr, ⊎_elim, eq-eqb, arith, add-mul, mul-add, mul-le-mul_left, ne_eqb, ◌⊎◌}
+use Rattle.std.proofs.Common.{◌≡◌, ◌≢◌, ℕ, zero, suc, ◌+◌, ◌*◌, ◌≤◌, ◌<◌, Bool, true, false, cond, eqb, List, [], ◌∷◌, ◌++◌, length, Option, Some, None, refl, sym, ap, ap₂, ◌∙◌, subst, inl, inr, ⊎_elim, eq-eqb, arith, add-mul, mul-add, mul-le-mul_left, ne_eqb, ◌⊎◌}
 use Rattle.std.proofs.lemmas.Bool.{cases_eq, eqb-true, cases_lt}
+use Rattle.std.proofs.lemmas.Option.{slice_get_within}
 use Rattle.std.proofs.lemmas.List.{length-append}
 use Rattle.canvas_task.specs.Apply.{Behaviour}
 use Rattle.canvas_task.specs.declared.outcome.Outcome.{Outcome}
@@ -20,10 +21,11 @@ use Rattle.canvas_history.specs.Answers.{answered_calls, entries_by, splits_of}
 use Rattle.canvas_backend.specs.Backend as results
 use Rattle.canvas_broker.specs.Broker as broker
 use Rattle.canvas_effects.specs.Job as job
+use Rattle.canvas_runs.proofs.MoreAsks.{reads_cases}
 use Rattle.canvas_runs.proofs.OnceEach.{of_opened}
 use Rattle.canvas_runs.specs.Book.{book_of}
 use Rattle.canvas_runs.specs.Calls.{QueueAnswered, TableAnswered, broker_call, backend_call, backend_calls, takes_one, AskedAndAnswered, scripts_of}
-use Rattle.canvas_runs.specs.Core.{Ask, Reply, to_queue, to_table, ack, from_queue, from_table, refused, rested, acked, taking, resting, owning, doing, reading, acking, ask, answered, Doing, Jobs, is_due, settled, opens, reading_of, reads_next, IsCoreRun, is_inside, Suits}
+use Rattle.canvas_runs.specs.Core.{Ask, Reply, to_queue, to_table, ack, from_queue, from_table, refused, rested, acked, taking, resting, owning, doing, reading, acking, ask, answered, Doing, Jobs, is_due, settled, opens, reads_next, IsCoreRun, is_inside, Suits}
 use Rattle.canvas_runs.specs.Law.{of_task, publishes_one, returns_one}
 use Rattle.canvas_runs.specs.Lists.{Each, by, total, seconds}
 use Rattle.canvas_runs.specs.Logs.{queue_calls}
@@ -129,11 +131,6 @@ reading_one c = 0
 abbrev part_by : ℕ → TableAnswered → ℕ
 part_by k (results.part g t, results.count n) = cond (eqb t k) 1 0
 part_by k c = 0
-
-at_within : (i : ℕ) (xs : List ℕ) (t : ℕ) → slice_get xs i ≡ Some t → i < length xs
-at_within i [] t e = absurd cc
-at_within zero (x ∷ xs) t e = omega arith
-at_within (suc i) (x ∷ xs) t e = let r = at_within i xs t e in omega (arith, r)
 
 module _ (behaviour : Behaviour) (l : Line) where
   -- whether a step is a call
@@ -513,11 +510,8 @@ module _ (behaviour : Behaviour) (l : Line) (n : ℕ) (us : List ℕ) (xs : List
 
   next_still : (g : ℕ) (c : PCarried) (fs : List (ℕ × Outcome)) (k : ℕ) → length fs + k ≡ c.size
       → (j : ℕ) × Still (reads_next (worker behaviour l) g c fs) j × (j ≤ k)
-  next_still g c fs k e = go ((worker behaviour l).member g (length fs))
-    where
-      go : (x : Option ℕ) → (j : ℕ) × Still (reading_of (worker behaviour l) g c fs x) j × (j ≤ k)
-      go None = (0, refl, omega arith)
-      go (Some u) = (k, e, omega arith)
+  next_still g c fs k e = reads_cases (worker behaviour l) (λ s. (j : ℕ) × Still s j × (j ≤ k)) g c fs (λ m. (0, refl, omega arith))
+      (λ u m. (k, e, omega arith))
 
   covers : (s : Doing (worker behaviour l)) (r : Reply Envelope) → GoodState (worker behaviour l) G s → Covers s r
   covers taking (from_queue None) p k e = (0, refl, omega arith)
@@ -535,7 +529,7 @@ module _ (behaviour : Behaviour) (l : Line) (n : ℕ) (us : List ℕ) (xs : List
       (λ less. (0, refl, omega arith))
   covers (reading g c u fs) (from_table (results.found (Some o))) p k e =
       let many = (order behaviour l t.plan).size g p.0.0 c p.0.1.0 in
-      let within = at_within (length fs) (members l g) u p.1 in
+      let within = slice_get_within (members l g) (length fs) u p.1 in
       let more : length (fs ++ (u, o) ∷ []) ≡ length fs + 1 = length-append fs ((u, o) ∷ []) in
       cond_cases (λ s. (j : ℕ) × Still s j × ((1 + 0) + j ≤ k + T * 0)) (eqb (length (fs ++ (u, o) ∷ [])) c.size)
       (settled (worker behaviour l) ((worker behaviour l).completed c (fs ++ (u, o) ∷ [])) Again) (reads_next (worker behaviour l) g c (fs ++ (u, o) ∷ []))
@@ -549,7 +543,7 @@ module _ (behaviour : Behaviour) (l : Line) (n : ℕ) (us : List ℕ) (xs : List
       one_less (suc k) a size b e f h = (k, omega (arith, e, f), omega arith)
   covers (reading g c u fs) (from_table (results.found None)) p k e =
       let many = (order behaviour l t.plan).size g p.0.0 c p.0.1.0 in
-      let within = at_within (length fs) (members l g) u p.1 in
+      let within = slice_get_within (members l g) (length fs) u p.1 in
       (0, refl, omega (arith, many, within, e))
   covers acking acked p k e = (0, refl, omega arith)
   covers s r p k e = (0, refl, omega arith)

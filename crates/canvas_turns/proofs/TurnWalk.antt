@@ -16,11 +16,11 @@ use Rattle.canvas_backend.specs.Backend as results
 use Rattle.canvas_backend.specs.Backend.{no_results}
 use Rattle.canvas_runs.specs.Protocol.{Protocol}
 use Rattle.canvas_broker.specs.Broker as broker
-use Rattle.canvas_runs.specs.Calls.{AskedAndAnswered, scripts_of, of_scripts, held_by, held_after, DeliversHeld}
-use Rattle.canvas_runs.specs.Core.{Ask, Reply, end, to_queue, from_queue, from_table, rested, acked, taking, resting, over, failed, owning, doing, reading, acking, is_due, settled, ask, opens, reading_of, reads_next, answered, IsCoreRun, ReadsBack, Doing, Jobs, is_inside, refused, Suits, Between, left_after}
+use Rattle.canvas_runs.specs.Calls.{AskedAndAnswered, scripts_of, of_scripts, held_by, held_after}
+use Rattle.canvas_runs.specs.Core.{Ask, Reply, end, to_queue, from_queue, from_table, rested, acked, taking, resting, over, failed, owning, doing, reading, acking, is_due, settled, ask, opens, reads_next, answered, IsCoreRun, ReadsBack, Doing, Jobs, is_inside, refused, Suits, Between, left_after}
 use Rattle.canvas_runs.specs.Lists.{Each, by}
 use Rattle.canvas_runs.specs.Worker.{worker, sealed}
-use Rattle.canvas_runs.proofs.MoreAsks.{by_append, scripts_append, scripts_more, asks_of_scripts, plain_ask, delivers_append, by_more, by_other, core_more}
+use Rattle.canvas_runs.proofs.MoreAsks.{reads_cases, by_append, scripts_append, scripts_more, asks_of_scripts, plain_ask, delivers_append, by_more, by_other, core_more, DeliversHeld}
 use Rattle.canvas_runs.proofs.Words.{each_append}
 use Rattle.canvas_turns.specs.Turns.{Step, is_queued, queue_next, queue_after, left, IsWorker, Answers, FirstsRead, some_inside, holds_more, Turned, all_taken, skips_turn, takes_turn, delivers_again, holds, redelivery}
 use Rattle.canvas_turns.proofs.TurnRuns.{Lawful, queue_starts, table_starts, queue_stays, table_stays, queue_delivers, table_delivers}
@@ -52,11 +52,7 @@ module _ {E : Type 0} (X : Protocol E) where
   opens_inside (Some m) k = k
 
   next_inside : (g : ℕ) (c : X.Carried) (fs : List (ℕ × Outcome)) → Between (reads_next X g c fs) → ⊥
-  next_inside g c fs = go (X.member g (length fs))
-    where
-      go : (x : Option ℕ) → Between (reading_of X g c fs x) → ⊥
-      go None k = k
-      go (Some t) k = k
+  next_inside g c fs = reads_cases X (λ s. Between s → ⊥) g c fs (λ e k. k) (λ t e k. k)
 
   handed_inside : (b : Bool) (g : ℕ) (c : X.Carried) → Between (cond {A = Doing X} b (reads_next X g c []) acking) → ⊥
   handed_inside true g c k = next_inside g c [] k
@@ -158,11 +154,7 @@ module _ (behaviour : Behaviour) (l : Line) where
   opens_on (Some m) e = cc
 
   next_on : (g : ℕ) (c : PCarried) (fs : List (ℕ × Outcome)) → reads_next (worker behaviour l) g c fs ≡ over → ⊥
-  next_on g c fs = go ((worker behaviour l).member g (length fs))
-    where
-      go : (x : Option ℕ) → reading_of (worker behaviour l) g c fs x ≡ over → ⊥
-      go None e = cc
-      go (Some t) e = cc
+  next_on g c fs = reads_cases (worker behaviour l) (λ s. s ≡ over → ⊥) g c fs (λ m e. cc) (λ t m e. cc)
 
   handed_on : (b : Bool) (g : ℕ) (c : PCarried) → ◌≡◌ {A = Doing (worker behaviour l)} (cond b (reads_next (worker behaviour l) g c []) acking) over → ⊥
   handed_on true g c e = next_on g c [] e

@@ -51,10 +51,6 @@ abbrev pub without : ℕ → When → List Entry → List Entry
 without k w [] = []
 without k w (e ∷ es) = cond (is_for k w e) es (e ∷ without k w es)
 
--- how many are
-abbrev pub entries_for : ℕ → When → List Entry → ℕ
-entries_for k w es = total (λ e. cond (is_for k w e) 1 0) es
-
 -- at a point, or at none: whether an entry is wanted there, and what is left of the entries
 abbrev pub wanted : Option Entry → List Entry → Bool
 wanted None es = false
