@@ -9,6 +9,7 @@ use Rattle.canvas_backend.specs.declared.stored.Stored.TheVariants.{First, Again
 use Rattle.canvas_backend.specs.Backend as results
 use Rattle.canvas_backend.specs.Backend.{Results}
 use Rattle.canvas_backend.specs.Plain.{Shelf, held}
+use Rattle.canvas_broker.specs.Broker as broker
 use Rattle.canvas_runs.specs.Core as C
 use Rattle.canvas_runs.specs.Core.{ReadsBack}
 use Rattle.canvas_turns.specs.Turns.{queue_next, results_next}
@@ -70,13 +71,6 @@ of_each (Err x) P h = tt
 pub stored_says : (x y : Stored) → results.was x ≡ results.was y → x ≡ y
 stored_says x y e = cc
 
-pub found_says : (x y : Option Outcome) → results.found x ≡ results.found y → x ≡ y
-found_says x y e = cc
-
-pub found_in_range : (t : ℕ) (x : Option Outcome) (s : Results) → AreInRange s → x ≡ s.outcomes t → FoundInRange (R.Found x)
-found_in_range t None s h e = tt
-found_in_range t (Some o) s h e = h t o (sym e)
-
 -- ---- stores that answer Again
 
 -- the same of an ask as it is shown
@@ -88,7 +82,12 @@ again_shown : (s : Results) (x : Option ℕ) (a : Asked) (v : Ask) → v ≡ sho
 again_shown s x a v e = same a ∙ ap (shown_again s) (sym e)
   where
     same : (b : Asked) → store_answer s b ≡ shown_again s (shown x b)
+    same (C.to_queue broker.take) = refl
+    same (C.to_queue (broker.publish e)) = refl
+    same (C.to_queue (broker.redeliver e)) = refl
     same (C.to_table (results.store t o)) = refl
+    same (C.to_table (results.part g t)) = refl
+    same (C.to_table (results.read t)) = refl
     same b = refl
 
 -- an ask that is no store isn't counted

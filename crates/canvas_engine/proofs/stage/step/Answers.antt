@@ -6,7 +6,7 @@ use Rattle.canvas_worker.specs.CoreState.{asked}
 use Rattle.canvas_worker.specs.declared.ask.Ask.TheVariants as A
 use Rattle.canvas_engine.specs.steps.Stages.{MayAsk}
 use Rattle.canvas_worker.proofs.ShownAsks.{is_store, is_part, is_read}
-use Rattle.canvas_engine.proofs.StageAsks.{answered_err, found_says, found_in_range, none_counted}
+use Rattle.canvas_engine.proofs.StageAsks.{answered_err, none_counted}
 use Rattle.canvas_engine.proofs.stage.step.Goals as goal
 
 pub returns-in-Store-clause-err : goal.returns-in-Store-clause-err
@@ -56,7 +56,3 @@ returns-in-Rest-clause-again g c =
 pub read-requires : goal.read-requires
 read-requires g c =
     subst (MayAsk c.args.table.now.plan (held c.args.table.now)) (is_read _ c.in-Read.task (asked c.args.core.now.left) (sym c.in-Read.ensures.ask)) c.requires.may
-
-pub answer-in-Read-requires-clause-in_range : goal.answer-in-Read-requires-clause-in_range
-answer-in-Read-requires-clause-in_range g c =
-    found_in_range c.in-Read.task c.read.result (held c.args.table.now) c.requires.in_range (found_says c.read.result _ c.read.ensures.reply)
