@@ -1,14 +1,11 @@
 //! The end of a run on threads: worker 0 works on by itself, and reads the rows.
-ghost use Rattle.std.specs.Prelude.{◌≡◌, ◌≤◌, List, length, Option, Some, None, IfSome, IfOk, IfErr};
+ghost use Rattle.std.specs.Prelude.{◌≡◌, List, length, Option, Some, None, IfSome, IfOk, IfErr};
 ghost use Rattle.canvas_worker.specs.declared.cause.Cause.{Cause};
-ghost use Rattle.canvas_history.specs.History.{calls};
 ghost use Rattle.canvas_semantics.specs.Line.{Line, count_line, tree_of};
 ghost use Rattle.canvas_rewrite.specs.Planned.{IsPlan};
 ghost use Rattle.canvas_semantics.specs.States.{states};
 ghost use Rattle.canvas_backend.specs.Roster.{roster_of};
 ghost use Rattle.canvas_worker.specs.Finished.{Finished};
-ghost use Rattle.canvas_backend.specs.Backend.{read, found};
-ghost use Rattle.canvas_backend.specs.Seats.{Stands};
 ghost use Rattle.canvas_runs.specs.Following.{Serves};
 ghost use Rattle.canvas_callers.specs.Rows.{reads_from};
 ghost use Rattle.canvas_engine.specs.Correct.{AreWorkers, IsThreadFault};
@@ -20,7 +17,7 @@ use crate::in_rounds::InRounds;
 use crate::{Cause, Records, Report, RunFault, Tally};
 use canvas_backend::{Backend, BackendSeat};
 use canvas_rewrite::Plan;
-use canvas_task::{Fault, ListOf, Outcome, TaskNo, Tasks};
+use canvas_task::{Fault, ListOf, Outcome, Tasks};
 use canvas_worker::{InFlight, OpenGate, Record, Shared, Stop, Worker};
 use futures::executor::block_on;
 use std::alloc::{AllocGlobal, Global};
@@ -39,20 +36,6 @@ pub(crate) struct Gathered {
     pub tallies: Vec<Tally>,
 }
 
-/// The outcome that the table has of a task.
-fn read_row(backend: &Backend, seat: &mut BackendSeat, number: u32) -> Option<Outcome>
-    requires own { seat.old.of ≡ backend.now.id }
-    requires task { (1 ≤ number) × (number ≤ backend.now.plan.tasks) }
-    ensures own { seat.new.of ≡ backend.now.id }
-    ensures read { Stands backend.now.plan seat.old
-        (calls seat.old.name (read number) (found result)) seat.new }
-{
-    match TaskNo::new(number) {
-        Some(task) => backend.read(seat, task),
-        None => unreachable!(),
-    }
-}
-
 /// Reads each task once, from task 1 on.
 fn read_rows(backend: &Backend, seat: &mut BackendSeat, plan: &Plan, rows: &mut [Option<Outcome>])
     requires own { seat.old.of ≡ backend.now.id }
@@ -62,7 +45,7 @@ fn read_rows(backend: &Backend, seat: &mut BackendSeat, plan: &Plan, rows: &mut 
     ensures read { Serves backend.now.plan seat.old (reads_from 1 rows.new) seat.new }
 {
     for index in 0..plan.tasks() {
-        rows[index as usize] = read_row(backend, seat, index + 1);
+        rows[index as usize] = backend.read(seat, plan.task_at(index));
     }
 }
 

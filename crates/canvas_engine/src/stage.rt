@@ -48,7 +48,7 @@ fn publish<T: Tasks>(
 {
     match core.envelope() {
         Some(envelope) => match queue.publish(envelope) {
-            Ok(()) => core.answer(alloc, table, tasks, Reply::Published),
+            Ok(()) => core.answer(alloc, table.roster(), tasks, Reply::Published),
             Err(_refused) => Err(Memory),
         },
         None => unreachable!(),
@@ -88,20 +88,20 @@ fn step<T: Tasks>(
         (IsTried (T.behaviour tasks.now) more core.old queue.old table.old table.new) }
 {
     match core.next() {
-        Ask::Take => core.answer(alloc, table, tasks, Reply::Taken(queue.take())),
+        Ask::Take => core.answer(alloc, table.roster(), tasks, Reply::Taken(queue.take())),
         Ask::Publish => publish(alloc, core, queue, table, tasks),
         Ask::Store(task, outcome) => {
             let stored = table.store(task, &outcome);
             *repeats = count_again(*repeats, stored);
-            core.answer(alloc, table, tasks, Reply::Stored(stored))
+            core.answer(alloc, table.roster(), tasks, Reply::Stored(stored))
         }
         Ask::Part(group, task) => {
             let count = table.part(group, task);
-            core.answer(alloc, table, tasks, Reply::Counted(count))
+            core.answer(alloc, table.roster(), tasks, Reply::Counted(count))
         }
-        Ask::Read(task) => core.answer(alloc, table, tasks, Reply::Found(table.read(task))),
-        Ask::Ack(_) => core.answer(alloc, table, tasks, Reply::Acked),
-        Ask::Rest => core.answer(alloc, table, tasks, Reply::Rested { more }),
+        Ask::Read(task) => core.answer(alloc, table.roster(), tasks, Reply::Found(table.read(task))),
+        Ask::Ack(_) => core.answer(alloc, table.roster(), tasks, Reply::Acked),
+        Ask::Rest => core.answer(alloc, table.roster(), tasks, Reply::Rested { more }),
         Ask::End => Ok(()),
     }
 }
@@ -325,16 +325,6 @@ impl Stage {
         }
     }
 
-    fn row(&self, number: u32) -> Option<Outcome>
-        requires { number ≤ self.now.table.plan.tasks }
-        ensures { 1 ≤ number → result ≡ (held self.now.table).outcomes number }
-    {
-        match TaskNo::new(number) {
-            Some(task) => self.table.read(task),
-            None => None,
-        }
-    }
-
     /// Fills the rows, one for each task, with the outcomes that are stored.
     pub(crate) fn read_rows(&self, plan: &Plan, rows: &mut [Option<Outcome>])
         requires plan { self.now.table.plan ≡ roster_of plan.now }
@@ -342,7 +332,7 @@ impl Stage {
         ensures { rows.new ≡ rows_of (count_line plan.now) (held self.now.table) }
     {
         for index in 0..plan.tasks() {
-            rows[index as usize] = self.row(index + 1);
+            rows[index as usize] = self.table.read(plan.task_at(index));
         }
     }
 }

@@ -6,7 +6,7 @@ ghost use Rattle.canvas_task.specs.Apply.{IsInRange};
 ghost use Rattle.canvas_worker.specs.Asks.{FoundInRange};
 
 use crate::trace::Trace;
-use canvas_backend::{PlainBackend, Stored};
+use canvas_backend::{Roster, Stored};
 use canvas_broker::PlainBroker;
 use canvas_codec::seal;
 use canvas_effects::first_messages;
@@ -24,7 +24,7 @@ const MOST_ROUNDS: u64 = 1_000_000_000;
 #[derive(Drop)]
 pub(crate) struct Stage {
     queue: PlainBroker,
-    book: PlainBackend,
+    book: Roster,
     cores: Vec<Core>,
     rows: Vec<Option<Outcome>>,
     /// How many members of each group or chord were returned.
@@ -65,7 +65,7 @@ impl Stage {
         }
         Ok(Stage {
             queue: PlainBroker::new(alloc),
-            book: PlainBackend::new(alloc, plan)?,
+            book: Roster::of(alloc, plan)?,
             cores,
             rows: Vec::from_elem(alloc, None, plan.tasks() as usize)?,
             returned: Vec::from_elem(alloc, 0, plan.groups() as usize)?,

@@ -163,7 +163,7 @@ impl<'a, R: Wait> Working<'a, R> {
         ensures memory { OnErr result (Grows reply) }
     {
         let (alloc, backend) = (self.alloc, self.backend);
-        match self.core.answer(alloc, backend, tasks, reply) {
+        match self.core.answer(alloc, backend.roster(), tasks, reply) {
             Ok(()) => Ok(()),
             Err(_) => Err(self.fails()),
         }
