@@ -99,7 +99,12 @@ fn step<T: Tasks>(
             let count = table.part(group, task);
             core.answer(alloc, table.roster(), tasks, Reply::Counted(count))
         }
-        Ask::Read(task) => core.answer(alloc, table.roster(), tasks, Reply::Found(table.read(task))),
+        Ask::Read(task) => core.answer(
+            alloc,
+            table.roster(),
+            tasks,
+            Reply::Found(table.read(task)),
+        ),
         Ask::Ack(_) => core.answer(alloc, table.roster(), tasks, Reply::Acked),
         Ask::Rest => core.answer(alloc, table.roster(), tasks, Reply::Rested { more }),
         Ask::End => Ok(()),
