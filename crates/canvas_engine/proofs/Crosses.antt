@@ -10,10 +10,10 @@ use denote.Struct.Field.{shr_ref_field}
 use denote.Struct.Tuple.{type_at, field_at, TupleAt}
 use mir.Syntax.{named}
 use Rattle.atomic_blocks.proofs.web.Seat.TheSendSync.{the_send as web_seat_send}
-use Rattle.atomic_blocks.proofs.web.Web.TheSendSync.{the_send as web_send, the_sync as web_sync}
+use Rattle.atomic_blocks.proofs.web.Web.TheSendSync.{the_sync as web_sync}
 use Rattle.atomic_table.proofs.send_lease.SendLease.TheSendSync.{the_sync as lease_sync}
 use Rattle.atomic_table.proofs.shared.Seat.TheSendSync.{the_send as table_seat_send}
-use Rattle.atomic_table.proofs.shared.Shared.TheSendSync.{the_send as table_send, the_sync as table_sync}
+use Rattle.atomic_table.proofs.shared.Shared.TheSendSync.{the_sync as table_sync}
 use Rattle.canvas_task.proofs.list_of.ListOf.TheSendSync.{the_send as list_send, the_sync as list_sync}
 use Rattle.canvas_task.proofs.number.GroupNo.TheSendSync.{the_send as group_send, the_sync as group_sync}
 use Rattle.canvas_task.proofs.number.TaskNo.TheSendSync.{the_send as task_send, the_sync as task_sync}

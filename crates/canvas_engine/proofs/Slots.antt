@@ -6,7 +6,6 @@ use Rattle.std.specs.Global.{Global}
 use Rattle.canvas_task.specs.Apply.{Behaviour}
 use Rattle.crossbeam_queue.specs.SegTies.{SegId}
 use Rattle.atomic_table.specs.Seated.{TableId}
-use Rattle.canvas_task.specs.declared.outcome.Outcome.{Outcome}
 use Rattle.canvas_message.specs.declared.envelope.Envelope.{Envelope}
 use Rattle.canvas_backend.specs.Seats as seats
 use Rattle.canvas_backend.specs.Roster.{Roster}

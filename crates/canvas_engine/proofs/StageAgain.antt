@@ -1,10 +1,9 @@
 -- A turn with its redelivery: the envelope that the core holds is delivered again where an entry for the core's point is unspent, and then its ask is answered.
 use Rattle.std.proofs.Common.{◌≡◌, ◌⊎◌, ◌+◌, inl, inr, ℕ, suc, Bool, true, false, cond, List, [], ◌∷◌, ◌++◌, length, length-append, Option, Some, None, refl, sym, ap, ◌∙◌, subst, eqb, min, append_assoc, append-nil, arith}
-use Rattle.std.specs.Prelude.{◌||◌, not, slice_get}
+use Rattle.std.specs.Prelude.{◌||◌, slice_get}
 use Rattle.std.specs.List.{list_any}
 use Rattle.std.specs.Option.{option_map}
 use Rattle.canvas_task.specs.Apply.{Behaviour}
-use Rattle.canvas_task.specs.declared.outcome.Outcome.{Outcome}
 use Rattle.canvas_semantics.specs.Line.{Line}
 use Rattle.canvas_rewrite.specs.FrozenView.{PCarried}
 use Rattle.canvas_message.specs.Content.{Content}
@@ -15,7 +14,7 @@ use Rattle.canvas_backend.specs.Backend.{Results}
 use Rattle.canvas_backend.specs.Plain.{held}
 use Rattle.canvas_backend.specs.Roster.{Roster, roster_of}
 use Rattle.canvas_runs.specs.Book.{book_of}
-use Rattle.canvas_runs.specs.Calls.{AskedAndAnswered, scripts_of, of_scripts, held_by, held_after}
+use Rattle.canvas_runs.specs.Calls.{scripts_of, of_scripts, held_after}
 use Rattle.canvas_backend.specs.Backend as results
 use Rattle.canvas_broker.specs.Broker.{redeliver}
 use Rattle.canvas_runs.specs.Core.{to_queue, to_table, rest, ack, from_queue, from_table, rested, acked, CoreState, taking, resting, over, failed, owning, doing, reading, acking, left_after, IsCoreRun, is_inside}
@@ -27,7 +26,7 @@ use Rattle.canvas_runs.specs.declared.when.When.TheVariants.{Early, Late}
 use Rattle.canvas_runs.proofs.Sums.{total-append}
 use Rattle.canvas_runs.proofs.MoreAsks.{by_append, scripts_append, held_append, asks_of_scripts}
 use Rattle.canvas_turns.specs.Spending.{Entry, TurnedAgain, wanted, spent, comes_to, message_in, point_of, point, answers_again, agains_in}
-use Rattle.canvas_turns.specs.Turns.{Step, IsWorker, redelivery, Turned, all_taken, delivers_again, left, holds, holds_more, is_queued, redelivers_one, redeliveries_in}
+use Rattle.canvas_turns.specs.Turns.{Step, IsWorker, redelivery, Turned, all_taken, delivers_again, left, holds, holds_more, is_queued, redelivers_one}
 use Rattle.canvas_turns.proofs.Spending.{again_step, again_spend}
 use Rattle.canvas_turns.proofs.Turning.{queue_more, results_more, turned_append}
 use Rattle.canvas_worker.specs.Asks.{Asked, Answer}
@@ -40,7 +39,7 @@ use Rattle.canvas_worker.specs.CoreState.{Standing, Left, asked, task_of, point_
 use Rattle.canvas_engine.specs.steps.Stages.{AnswersNow, Stepped, store_answer, counted_on, Redelivers, IsCoreAt, LeadsTo, Reached, IsTurn}
 use Rattle.canvas_engine.specs.declared.stage.Stage.{Stage}
 use Rattle.canvas_engine.proofs.StageAsks.{stored_says}
-use Rattle.canvas_engine.proofs.StageSteps.{together, more_is, same_ask, worker_back, answered_so, IsPut, stepped}
+use Rattle.canvas_engine.proofs.StageSteps.{together, more_is, same_ask, worker_back, answered_so, stepped}
 
 -- ---- the point to which a core has come
 

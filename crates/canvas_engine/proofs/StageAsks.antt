@@ -1,11 +1,9 @@
 -- What the answer to an ask of a core leaves, where the queue and the table have changed as they should.
-use Rattle.std.proofs.Common.{◌≡◌, inr, ℕ, Bool, true, false, List, [], ◌∷◌, Option, Some, None, Result, Ok, Err, OnOk, OnErr, refl, sym, ap, ◌∙◌, subst}
-use Rattle.std.specs.Prelude.{not}
+use Rattle.std.proofs.Common.{◌≡◌, inr, ℕ, Bool, List, Option, Result, Ok, Err, OnOk, OnErr, refl, sym, ap, ◌∙◌, subst}
 use Rattle.canvas_task.specs.Apply.{Behaviour}
-use Rattle.canvas_task.specs.declared.outcome.Outcome.{Outcome}
 use Rattle.canvas_message.specs.declared.envelope.Envelope.{Envelope}
 use Rattle.canvas_backend.specs.declared.stored.Stored.{Stored}
-use Rattle.canvas_backend.specs.declared.stored.Stored.TheVariants.{First, Again}
+use Rattle.canvas_backend.specs.declared.stored.Stored.TheVariants.{First}
 use Rattle.canvas_backend.specs.Backend as results
 use Rattle.canvas_backend.specs.Backend.{Results}
 use Rattle.canvas_backend.specs.Plain.{Shelf, held}
@@ -13,14 +11,13 @@ use Rattle.canvas_broker.specs.Broker as broker
 use Rattle.canvas_runs.specs.Core as C
 use Rattle.canvas_runs.specs.Core.{ReadsBack}
 use Rattle.canvas_turns.specs.Turns.{queue_next, results_next}
-use Rattle.canvas_worker.specs.Asks.{Asked, Answer, FoundInRange, shown}
+use Rattle.canvas_worker.specs.Asks.{Asked, Answer, shown}
 use Rattle.canvas_worker.specs.Books.{no_book, book_in}
 use Rattle.canvas_worker.specs.EnvelopeWorker.{enveloped_by, no_tasks}
 use Rattle.canvas_worker.specs.CoreState.{Standing, asked, after_reply}
 use Rattle.canvas_worker.specs.declared.ask.Ask.{Ask}
 use Rattle.canvas_worker.specs.declared.ask.Ask.TheVariants as A
-use Rattle.canvas_worker.specs.declared.ask.Reply.TheVariants as R
-use Rattle.canvas_engine.specs.steps.Stages.{AnswersNow, AreInRange, Stepped, IsTried, store_answer, counted_on}
+use Rattle.canvas_engine.specs.steps.Stages.{AnswersNow, Stepped, IsTried, store_answer, counted_on}
 
 -- ---- an answered ask
 

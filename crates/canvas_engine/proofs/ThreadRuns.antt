@@ -17,7 +17,7 @@ use Rattle.canvas_effects.specs.Effects.{first_messages}
 use Rattle.canvas_message.specs.declared.envelope.Envelope.{Envelope}
 use Rattle.canvas_backend.specs.Backend.{Log}
 use Rattle.canvas_backend.specs.Seats.{Desk}
-use Rattle.canvas_backend.specs.Roster.{Roster, roster_of}
+use Rattle.canvas_backend.specs.Roster.{roster_of}
 use Rattle.canvas_broker.specs.Broker.{QueueEntry as Entries}
 use Rattle.canvas_runs.specs.Following.{Pass, Seat, Makes, Serves, starting, IsDone, IsOver}
 use Rattle.canvas_runs.specs.Lists.{Each}

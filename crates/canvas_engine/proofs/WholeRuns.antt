@@ -1,5 +1,5 @@
 -- A run from its first publish to its end, and the rows that it leaves.
-use Rattle.std.proofs.Common.{◌≡◌, ◌≤◌, ◌+◌, ◌⊎◌, inl, inr, ℕ, zero, suc, All, List, [], ◌∷◌, ◌++◌, map, length, get_or, Some, None, Result, Ok, Err, OnOk, IfOk, IfErr, refl, sym, ap, ◌∙◌, subst, arith}
+use Rattle.std.proofs.Common.{◌≡◌, ◌≤◌, ◌⊎◌, inl, inr, ℕ, zero, suc, All, List, [], ◌∷◌, ◌++◌, map, length, get_or, Some, None, Result, Ok, Err, OnOk, IfOk, IfErr, refl, sym, ap, ◌∙◌, subst, arith}
 use Rattle.std.specs.Prelude.{slice_get}
 use Rattle.std.proofs.lemmas.Bool.{false≢true}
 use Rattle.std.proofs.lemmas.Option.{slice_get_within}
@@ -19,7 +19,7 @@ use Rattle.canvas_turns.specs.Spending.{Entry, TurnedAgain, no_turn, ByEntries, 
 use Rattle.canvas_semantics.specs.States.{EachMay}
 use Rattle.canvas_runs.specs.Worker.{sealed}
 use Rattle.canvas_turns.specs.TurnLaws.{held_rows}
-use Rattle.canvas_turns.specs.Turns.{Step, IsWorker, FirstsRead, all_taken, rounds, redeliveries_in}
+use Rattle.canvas_turns.specs.Turns.{Step, FirstsRead, all_taken, rounds, redeliveries_in}
 use Rattle.canvas_turns.proofs.Agains.{few_again, agains_few, agains_are}
 use Rattle.canvas_turns.proofs.Spending.{are_turns}
 use Rattle.canvas_turns.proofs.Spends.{spends_length}

@@ -10,14 +10,14 @@ use Rattle.canvas_message.specs.Content.{Content}
 use Rattle.canvas_backend.specs.declared.stored.Stored.{Stored}
 use Rattle.canvas_backend.specs.declared.stored.Stored.TheVariants.{First, Again}
 use Rattle.canvas_runs.specs.Worker.{opened}
-use Rattle.canvas_runs.proofs.MoreAsks.{held_append}
+use Rattle.canvas_runs.proofs.MoreAsks.{held_append, reads_cases}
 use Rattle.canvas_runs.specs.Calls.{held_by, held_after}
 use Rattle.canvas_effects.specs.Job.{store, publish, part}
 use Rattle.canvas_runs.specs.Book.{Book}
 use Rattle.canvas_runs.specs.Core as C
 use Rattle.canvas_backend.specs.Backend as results
 use Rattle.canvas_broker.specs.Broker as broker
-use Rattle.canvas_runs.specs.Core.{taking, resting, over, failed, owning, doing, reading, from_queue, refused, from_table, rested, answered, left_after, Suits, ReadsBack, IsCoreRun, acking, acked, settled, opens, reading_of, reads_next, Jobs, is_due, is_inside}
+use Rattle.canvas_runs.specs.Core.{taking, resting, over, failed, owning, doing, reading, from_queue, refused, from_table, rested, answered, left_after, Suits, ReadsBack, IsCoreRun, acking, acked, settled, opens, reads_next, Jobs, is_due, is_inside}
 use Rattle.canvas_worker.specs.Asks.{Asked, Answer, suits, shown, replied}
 use Rattle.canvas_worker.specs.Asks as asks
 use Rattle.canvas_worker.specs.EnvelopeWorker.{enveloped_by, applied_if}
@@ -139,11 +139,7 @@ open_settled behaviour book (part g t c ∷ js) Again h = refl
 
 open_next : (behaviour : Behaviour) (book : Book) (g : ℕ) (c : PCarried) (fs : List (ℕ × Outcome)) (h : Option Envelope)
     → open_of (reads_next (enveloped_by behaviour book) g c fs) h ≡ h
-open_next behaviour book g c fs h = go (book.member g (length fs))
-  where
-    go : (o : Option ℕ) → open_of (reading_of (enveloped_by behaviour book) g c fs o) h ≡ h
-    go None = refl
-    go (Some t) = refl
+open_next behaviour book g c fs h = reads_cases (enveloped_by behaviour book) (λ s. open_of s h ≡ h) g c fs (λ e. refl) (λ t e. refl)
 
 open_either : (b : Bool) (s t : Left) (h : Option Envelope) → open_of s h ≡ h → open_of t h ≡ h → open_of (cond b s t) h ≡ h
 open_either true s t h i j = i

@@ -1,6 +1,6 @@
 -- What ends a core, and that it stays at its end.
 use Rattle.std.proofs.Common.{◌≡◌, ◌∙◌, ◌⊎◌, ◌<◌, ◌+◌, ℕ, suc, Bool, true, false, cond, List, [], ◌∷◌, ◌++◌, length-append, Option, Some, None, inl, inr, refl, sym, ap, subst, true≢false, arith}
-use Rattle.std.specs.Prelude.{if◌then◌else◌, eqb, length, map, IsSome}
+use Rattle.std.specs.Prelude.{if◌then◌else◌, eqb, length, map, IsSome, is_some}
 use Rattle.std.proofs.lemmas.Bool.{eqb-true, eqb-false}
 use Rattle.canvas_task.specs.Apply.{Behaviour}
 use Rattle.canvas_task.specs.declared.outcome.Outcome.{Outcome}
@@ -16,6 +16,7 @@ use Rattle.canvas_broker.specs.Broker as broker
 use Rattle.canvas_runs.specs.Book.{Book, has_size, line_known, message_known}
 use Rattle.canvas_runs.specs.Protocol.{Protocol}
 use Rattle.canvas_runs.specs.Worker.{opened}
+use Rattle.canvas_runs.proofs.MoreAsks.{reads_cases}
 use Rattle.canvas_runs.specs.Core as C
 use Rattle.canvas_runs.specs.Core.{taking, resting, over, failed, owning, doing, reading, from_queue, refused, from_table, rested, answered, left_after, settled, opens, Suits, IsCoreRun, acking, acked}
 use Rattle.canvas_worker.specs.Asks.{Asked, Answer, suits, shown}
@@ -104,11 +105,7 @@ module _ (behaviour : Behaviour) (book : Book) where
   opens_sound e (Some c) is = is ∙ ap Some (sym (said_of e c (opened_as book e c is).0))
 
   next_sound : (g : ℕ) (c : PCarried) (fs : List (ℕ × Outcome)) → Carries book g c → length fs < c.size → Sound book (C.reads_next X g c fs)
-  next_sound g c fs h low = go (book.member g (length fs))
-    where
-      go : (o : Option ℕ) → Sound book (C.reading_of X g c fs o)
-      go None = tt
-      go (Some t) = (h, low)
+  next_sound g c fs h low = reads_cases X (Sound book) g c fs (λ e. tt) (λ t e. (h, low))
 
   -- ---- what ends
 
@@ -138,11 +135,9 @@ module _ (behaviour : Behaviour) (book : Book) where
 
     -- a chord that has the size which its message says has the next member
     next_on : (g : ℕ) (c : PCarried) (fs : List (ℕ × Outcome)) → Carries book g c → length fs < c.size → GoesOn (C.reads_next X g c fs)
-    next_on g c fs h low = go (book.member g (length fs)) (members g c.size (length fs) (sized (book.size g) c.size h.0) low)
-      where
-        go : (o : Option ℕ) → IsSome o → GoesOn (C.reading_of X g c fs o)
-        go None there = absurd (true≢false (sym there))
-        go (Some t) there = refl
+    next_on g c fs h low =
+        let there : IsSome (book.member g (length fs)) = members g c.size (length fs) (sized (book.size g) c.size h.0) low in
+        reads_cases X GoesOn g c fs (λ e. absurd (true≢false (sym there ∙ ap is_some e))) (λ t e. refl)
 
     -- the state is sound, and not at its end
     abbrev Well : Left → Type 0

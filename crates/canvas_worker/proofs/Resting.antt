@@ -11,8 +11,9 @@ use Rattle.canvas_backend.specs.Roster.{Roster}
 use Rattle.canvas_runs.specs.Core as C
 use Rattle.canvas_backend.specs.Backend as results
 use Rattle.canvas_broker.specs.Broker as broker
-use Rattle.canvas_runs.specs.Core.{from_queue, from_table, rested, taking, resting, over, failed, owning, doing, reading, settled, opens, owned, reading_of, reads_next, job_done, answered, acking, acked}
+use Rattle.canvas_runs.specs.Core.{from_queue, from_table, rested, taking, resting, over, failed, owning, doing, reading, settled, opens, owned, reads_next, job_done, answered, acking, acked}
 use Rattle.canvas_runs.specs.Protocol.{Protocol}
+use Rattle.canvas_runs.proofs.MoreAsks.{reads_cases}
 use Rattle.canvas_worker.specs.Asks.{Asked, Answer}
 use Rattle.canvas_worker.specs.EnvelopeWorker.{Applied, enveloped}
 use Rattle.canvas_worker.specs.CoreState.{Left, asked}
@@ -46,17 +47,16 @@ module _ (behaviour : Behaviour) (plan : Roster) where
   owned_never m First e = settled_never (X.ended m (X.outcome m)) First e
   owned_never m Again e = cc
 
-  next_never : (g : ℕ) (c : PCarried) (fs : List (ℕ × Outcome)) (o : Option ℕ) → reading_of X g c fs o ≡ resting → ⊥
-  next_never g c fs None e = cc
-  next_never g c fs (Some t) e = cc
+  next_never : (g : ℕ) (c : PCarried) (fs : List (ℕ × Outcome)) → reads_next X g c fs ≡ resting → ⊥
+  next_never g c fs = reads_cases X (λ s. s ≡ resting → ⊥) g c fs (λ n e. cc) (λ t n e. cc)
 
   counted_never : (g : ℕ) (c : PCarried) (z : Bool) → ◌≡◌ {A = Left} (cond z (reads_next X g c []) acking) resting → ⊥
-  counted_never g c true e = next_never g c [] (X.member g 0) e
+  counted_never g c true e = next_never g c [] e
   counted_never g c false e = cc
 
   read_never : (g : ℕ) (c : PCarried) (fs : List (ℕ × Outcome)) (z : Bool) → cond z (settled X (X.completed c fs) Again) (reads_next X g c fs) ≡ resting → ⊥
   read_never g c fs true e = settled_never (X.completed c fs) Again e
-  read_never g c fs false e = next_never g c fs (X.member g (length fs)) e
+  read_never g c fs false e = next_never g c fs e
 
   job_never : (j : Job Applied PCarried Outcome) (js : Jobs) (b : Stored) (r : Answer) → job_done X j js b r ≡ resting → ⊥
   job_never (store t o) js b (from_table (results.was a)) e = settled_never js (cond (C.is_due t js) a b) e

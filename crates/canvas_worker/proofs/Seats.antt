@@ -22,9 +22,10 @@ use Rattle.canvas_backend.specs.Roster.{Roster, roster_of, members, is_chord, is
 use Rattle.canvas_backend.proofs.HistoryLaws.{first_may, still_may}
 use Rattle.canvas_runs.specs.Book.{book_on, has_size, line_known, message_known}
 use Rattle.canvas_runs.specs.Calls.{backend_call}
-use Rattle.canvas_runs.specs.Core.{from_queue, from_table, rested, taking, resting, over, failed, owning, doing, reading, is_due, settled, opens, reading_of, reads_next, answered, acking, acked}
+use Rattle.canvas_runs.specs.Core.{from_queue, from_table, rested, taking, resting, over, failed, owning, doing, reading, is_due, settled, opens, reads_next, answered, acking, acked}
 use Rattle.canvas_runs.specs.Following.{Seat, Serves}
 use Rattle.canvas_runs.specs.Worker.{opened}
+use Rattle.canvas_runs.proofs.MoreAsks.{reads_cases}
 use Rattle.canvas_worker.specs.Asks.{Answer}
 use Rattle.canvas_worker.specs.EnvelopeWorker.{said, enclosed, enveloped, applied_if as kept_envelope, no_tasks}
 use Rattle.canvas_worker.specs.Scripts.{EnvelopeJobs}
@@ -108,11 +109,7 @@ module _ (plan : Roster) where
   -- the next member is read
   next_can : (behaviour : Behaviour) (s : Seat) (g : ℕ) (c : PCarried) (fs : List (ℕ × Outcome)) → Carries (book_on plan) g c → length fs < c.size
       → Can plan s (reads_next (enveloped behaviour plan) g c fs)
-  next_can behaviour s g c fs h low = go (slice_get (members plan g) (length fs)) refl
-    where
-      go : (o : Option ℕ) → slice_get (members plan g) (length fs) ≡ o → Can plan s (reading_of (enveloped behaviour plan) g c fs o)
-      go None e = tt
-      go (Some t) e = (h, low, e)
+  next_can behaviour s g c fs h low = reads_cases (enveloped behaviour plan) (Can plan s) g c fs (λ e. tt) (λ t e. (h, low, e))
 
   -- where a part may be the last of its header
   handed_can : (behaviour : Behaviour) (s : Seat) (g : ℕ) (c : PCarried) (n : ℕ) → Carries (book_on plan) g c

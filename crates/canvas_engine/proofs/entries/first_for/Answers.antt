@@ -1,4 +1,4 @@
-use Rattle.std.proofs.Common.{◌≡◌, false, Some, refl, sym, ap, ◌∙◌, subst, take, suc, ◌+◌, arith}
+use Rattle.std.proofs.Common.{◌≡◌, false, Some, refl, sym, ◌∙◌, subst, take, suc, ◌+◌, arith}
 use Rattle.std.specs.Prelude.{slice_get}
 use Rattle.std.proofs.lemmas.Option.{slice_get_read}
 use Rattle.canvas_turns.specs.Spending.{has}
