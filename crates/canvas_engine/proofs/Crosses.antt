@@ -18,8 +18,11 @@ use Rattle.canvas_task.proofs.list_of.ListOf.TheSendSync.{the_send as list_send,
 use Rattle.canvas_task.proofs.number.GroupNo.TheSendSync.{the_send as group_send, the_sync as group_sync}
 use Rattle.canvas_task.proofs.number.TaskNo.TheSendSync.{the_send as task_send, the_sync as task_sync}
 use Rattle.canvas_message.proofs.Crosses.{letter}
+use Rattle.canvas_rewrite.specs.contracts.group_list.GroupEntry as GroupEntry
+use Rattle.canvas_rewrite.specs.contracts.group_list.Groups as Groups
 use Rattle.canvas_backend.specs.contracts.backend.Backend as Backend
 use Rattle.canvas_backend.specs.contracts.backend.BackendSeat as BackendSeat
+use Rattle.canvas_backend.specs.contracts.roster.Roster as Roster
 use Rattle.canvas_broker.specs.contracts.broker.Broker as Broker
 use Rattle.canvas_broker.specs.contracts.pass.BrokerPass as BrokerPass
 use Rattle.canvas_worker.specs.contracts.in_flight.InFlight as InFlight
@@ -48,8 +51,21 @@ slot = search (post, plain) depth 20
 pub broker : IsSync Broker.the_row
 broker = search (letter, web_sync, plain) depth 20
 
+-- what shares groups needs that each may be sent and looked at
+entry_send : IsSend GroupEntry.the_row
+entry_send = search plain depth 20
+
+entry_sync : IsSync GroupEntry.the_row
+entry_sync = search plain depth 20
+
+groups : IsSync Groups.the_row
+groups = search (entry_send, entry_sync, plain) depth 20
+
+roster : IsSync Roster.the_row
+roster = search (groups, plain) depth 20
+
 pub backend : IsSync Backend.the_row
-backend = search (table_sync, lease_sync, plain) depth 20
+backend = search (roster, table_sync, lease_sync, plain) depth 20
 
 pub stop : IsSync Stop.the_row
 stop = search plain depth 20

@@ -13,9 +13,10 @@ returns-in-Ok g c =
     let old = c.args.core.now in
     let table = c.args.table.now in
     let asks = handed_out c.in-Some.envelope old c.requires.inside (sym c.in-Some.ensures.value) in
-    let same : after_reply (g.T.Tasks.behaviour c.args.tasks.now) (book_in table.plan) c.envelope.new.self (C.from_queue None)
+    let same : after_reply (g.T.Tasks.behaviour c.args.tasks.now) (book_in c.roster.result.now) c.envelope.new.self (C.from_queue None)
     ≡ after_reply (g.T.Tasks.behaviour c.args.tasks.now) (book_in table.plan) old (C.from_queue None) =
-    ap (λ s. after_reply (g.T.Tasks.behaviour c.args.tasks.now) (book_in table.plan) s (C.from_queue None)) c.in-Some.ensures.core
+    ap (λ p. after_reply (g.T.Tasks.behaviour c.args.tasks.now) (book_in p) c.envelope.new.self (C.from_queue None)) c.roster.ensures
+    ∙ ap (λ s. after_reply (g.T.Tasks.behaviour c.args.tasks.now) (book_in table.plan) s (C.from_queue None)) c.in-Some.ensures.core
     ∙ handed_same (g.T.Tasks.behaviour c.args.tasks.now) (book_in table.plan) old (C.from_queue None) in
     of_each c.answer.result (λ more. Stepped (g.T.Tasks.behaviour c.args.tasks.now) more old c.args.queue.now table c.answer.new.self c.publish.new.self table)
     (λ more.
