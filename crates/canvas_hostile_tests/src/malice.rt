@@ -88,7 +88,10 @@ fn genuine(alloc: Global, texts: &Texts) -> Option<Letter> {
 fn answers(alloc: Global, backend: &PlainBackend, core: &mut Core, reply: Reply) -> bool
     requires { FoundInRange reply }
 {
-    core.next().suits(&reply) && core.answer(alloc, backend, &SixTasks, reply).is_ok()
+    core.next().suits(&reply)
+        && core
+            .answer(alloc, backend.roster(), &SixTasks, reply)
+            .is_ok()
 }
 
 /// Whether a core that is given an envelope counts it as dropped, acknowledges it as one of no

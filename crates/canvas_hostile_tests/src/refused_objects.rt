@@ -114,7 +114,7 @@ pub(crate) fn queue<R: Wait>(rt: &R, alloc: Global) -> Result<bool, Memory> {
 
 /// Whether a table keeps the first outcome of a task.
 fn keeps_plain(backend: &mut PlainBackend, task: TaskNo) -> bool {
-    backend.knows(task)
+    backend.roster().knows(task)
         && backend.store(task, &Outcome::Success(8)) == Stored::First
         && backend.store(task, &Outcome::Success(9)) == Stored::Again
         && backend.read(task) == Some(Outcome::Success(8))
@@ -141,7 +141,7 @@ fn keeps(backend: &Backend, seat: &mut BackendSeat, other: &mut BackendSeat, tas
     requires seat { seat.old.of ≡ backend.now.id }
     requires other { other.old.of ≡ backend.now.id }
 {
-    backend.knows(task)
+    backend.roster().knows(task)
         && backend.store(seat, task, &Outcome::Success(8)) == Stored::First
         && backend.store(other, task, &Outcome::Success(9)) == Stored::Again
         && backend.read(other, task) == Some(Outcome::Success(8))
@@ -179,7 +179,7 @@ fn goes_on(
     if !core.next().suits(&reply) {
         return Ok(false);
     }
-    match core.answer(alloc, backend, &SixTasks, reply) {
+    match core.answer(alloc, backend.roster(), &SixTasks, reply) {
         Ok(()) => Ok(true),
         Err(Memory) => {
             if has_failed(core) {

@@ -7,7 +7,7 @@ ghost use Rattle.canvas_backend.specs.Backend.{no_results};
 ghost use Rattle.canvas_backend.specs.Plain.{held};
 
 use crate::cores::{group, task};
-use canvas_backend::{Backend, BackendSeat, PlainBackend, Stored};
+use canvas_backend::{Backend, BackendSeat, PlainBackend, Roster, Stored};
 use canvas_rewrite::Plan;
 use canvas_samples::sample::plan_of;
 use canvas_task::{Fault, GroupNo, Kind, Outcome, TaskNo, Why};
@@ -37,42 +37,24 @@ fn hundred(alloc: Global) -> Result<String, AllocError> {
     Ok(text)
 }
 
-/// What the plan of three members says, by its own calls.
-fn plain_says(backend: &PlainBackend, group: GroupNo, none: GroupNo, task: TaskNo) -> bool {
-    backend.size(group) == Some(3)
-        && backend.size(none).is_none()
-        && backend
+/// Whether this is what a backend keeps of the plan of three members.
+fn says(roster: &Roster, group: GroupNo, none: GroupNo, task: TaskNo) -> bool {
+    roster.size(group) == Some(3)
+        && roster.size(none).is_none()
+        && roster
             .member(group, 0)
             .is_some_and(|first| first.get() == 1)
-        && backend.member(group, 3).is_none()
-        && !backend.is_member(none, task)
-}
-
-fn says(backend: &Backend, group: GroupNo, none: GroupNo, task: TaskNo) -> bool {
-    backend.size(group) == Some(3)
-        && backend.size(none).is_none()
-        && backend
-            .member(group, 0)
-            .is_some_and(|first| first.get() == 1)
-        && backend.member(group, 3).is_none()
-        && !backend.is_member(none, task)
+        && roster.member(group, 3).is_none()
+        && !roster.is_member(none, task)
 }
 
 /// Whether a task is one that a chord waits for.
-fn plain_waits(backend: &PlainBackend, group: GroupNo, task: TaskNo) -> bool
+fn waits(roster: &Roster, group: GroupNo, task: TaskNo) -> bool
     ensures { IsTrue result
-        → (task ≤ backend.now.plan.tasks) × IsTrue (is_chord backend.now.plan group)
-        × IsTrue (is_member backend.now.plan group task) }
+        → (task ≤ roster.now.tasks) × IsTrue (is_chord roster.now group)
+        × IsTrue (is_member roster.now group task) }
 {
-    backend.knows(task) && backend.size(group).is_some() && backend.is_member(group, task)
-}
-
-fn waits(backend: &Backend, group: GroupNo, task: TaskNo) -> bool
-    ensures { IsTrue result
-        → (task ≤ backend.now.plan.tasks) × IsTrue (is_chord backend.now.plan group)
-        × IsTrue (is_member backend.now.plan group task) }
-{
-    backend.knows(task) && backend.size(group).is_some() && backend.is_member(group, task)
+    roster.knows(task) && roster.size(group).is_some() && roster.is_member(group, task)
 }
 
 /// What three members' parts answer on one thread, the second member's first.
@@ -87,10 +69,10 @@ fn plain_parts(
     requires empty { held backend.old ≡ no_results }
     requires apart { (one ≢ two) × (three ≢ two) × (three ≢ one) }
 {
-    if !plain_waits(backend, group, one) || !plain_waits(backend, group, two) {
+    if !waits(backend.roster(), group, one) || !waits(backend.roster(), group, two) {
         return None;
     }
-    if !plain_waits(backend, group, three) || !backend.knows(body) {
+    if !waits(backend.roster(), group, three) || !backend.roster().knows(body) {
         return None;
     }
     let stored = backend.store(two, &ZERO_DIVISION);
@@ -115,7 +97,7 @@ fn by_hand(alloc: Global) -> Option<(u64, u64, u64)> {
     let plan = plan_of(alloc, CHORD)?;
     let mut backend = PlainBackend::new(alloc, &plan).ok()?;
     let (chord, two) = (group(1), task(2));
-    if !plain_says(&backend, chord, group(2), two) || backend.knows(task(6)) {
+    if !says(backend.roster(), chord, group(2), two) || backend.roster().knows(task(6)) {
         return None;
     }
     plain_parts(&mut backend, chord, task(1), two, task(3), task(4))
@@ -140,7 +122,7 @@ fn parts(
     requires { seat.old.of ≡ backend.now.id }
     ensures { seat.new.of ≡ backend.now.id }
 {
-    if !waits(backend, group, two) || !backend.knows(body) {
+    if !waits(backend.roster(), group, two) || !backend.roster().knows(body) {
         return None;
     }
     match backend.store(seat, two, &ZERO_DIVISION) {
@@ -173,7 +155,7 @@ fn stores_and_returns(
     requires outcome { IsInRange outcome.now }
     ensures { seat.new.of ≡ backend.now.id }
 {
-    if !waits(backend, group, task) {
+    if !waits(backend.roster(), group, task) {
         return None;
     }
     match backend.store(seat, task, outcome) {
@@ -187,12 +169,12 @@ fn by_seats(alloc: Global) -> Option<((u64, u64, u64), Option<Outcome>)> {
     let plan = plan_of(alloc, CHORD)?;
     let (backend, mut seat) = Backend::new(alloc, &plan).ok()?;
     let (chord, two) = (group(1), task(2));
-    if !says(&backend, chord, group(2), two) || backend.knows(task(6)) {
+    if !says(backend.roster(), chord, group(2), two) || backend.roster().knows(task(6)) {
         return None;
     }
     let counts = parts(&backend, &mut seat, chord, task(1), two, task(3), task(4))?;
     let mut other = backend.split(&mut seat).ok()?;
-    let read = if backend.knows(two) {
+    let read = if backend.roster().knows(two) {
         backend.read(&mut other, two)
     } else {
         None
@@ -216,7 +198,7 @@ fn comes_back(backend: &Backend, seat: &mut BackendSeat, task: TaskNo, outcome: 
     requires outcome { IsInRange outcome.now }
     ensures { seat.new.of ≡ backend.now.id }
 {
-    if !backend.knows(task) {
+    if !backend.roster().knows(task) {
         return false;
     }
     backend.store(seat, task, outcome) == Stored::First
@@ -276,8 +258,10 @@ fn outcomes_found(backend: &Backend, seat: &mut BackendSeat, group: GroupNo) -> 
 {
     let mut found = 0u32;
     for index in 0..100u32 {
-        if let Some(task) = backend.member(group, index) {
-            if backend.knows(task) && backend.read(seat, task) == Some(outcome_of_member(task)) {
+        if let Some(task) = backend.roster().member(group, index) {
+            if backend.roster().knows(task)
+                && backend.read(seat, task) == Some(outcome_of_member(task))
+            {
                 found = found.wrapping_add(1);
             }
         }
@@ -300,7 +284,7 @@ fn stores_share(
     let mut found = 0u32;
     for index in 0..100u32 {
         if index % 16 == number {
-            if let Some(task) = backend.member(group, index) {
+            if let Some(task) = backend.roster().member(group, index) {
                 let outcome = outcome_of_member(task);
                 if stores_and_returns(backend, seat, group, task, &outcome) == Some(99) {
                     completed = completed.wrapping_add(1);
@@ -382,7 +366,7 @@ fn splits_and_joins(alloc: Global) -> Option<bool> {
     let (backend, mut seat) = Backend::new(alloc, &plan).ok()?;
     let other = backend.split(&mut seat).ok()?;
     backend.join(&mut seat, other);
-    Some(!backend.knows(task(1)))
+    Some(!backend.roster().knows(task(1)))
 }
 
 #[test]

@@ -304,7 +304,10 @@ fn header_in_a_header(rt: HostRuntime) {
 pub(crate) fn answers(alloc: Global, backend: &PlainBackend, core: &mut Core, reply: Reply) -> bool
     requires { FoundInRange reply }
 {
-    core.next().suits(&reply) && core.answer(alloc, backend, &SixTasks, reply).is_ok()
+    core.next().suits(&reply)
+        && core
+            .answer(alloc, backend.roster(), &SixTasks, reply)
+            .is_ok()
 }
 
 /// Whether a core holds just this envelope.
