@@ -9,7 +9,7 @@ use Rattle.canvas_history.specs.History.{calls, live_from, split_off, Allowed}
 use Rattle.canvas_history.proofs.Histories.{In}
 use Rattle.canvas_broker.specs.declared.item.Item.{Item}
 use Rattle.canvas_broker.specs.declared.item.Item.TheVariants.{Queued, Mark}
-use Rattle.canvas_broker.specs.Broker.{take, QueueEntry, answer, next, May, IsLegal, queue_of, takes_of}
+use Rattle.canvas_broker.specs.Broker.{take, QueueEntry, answer_of, next, May, IsLegal, queue_of, takes_of}
 use Rattle.canvas_broker.specs.steps.Rule.{envelopes, IsReady, IsKept, Kept, knowledge, view_of, TakesAll}
 use Rattle.canvas_broker.specs.declared.view.View.{View}
 use Rattle.canvas_broker.proofs.Joins.{orderly_left}
@@ -51,8 +51,8 @@ module _ {E : Type 0} where
       let o = orderly (Queued x ∷ items) views log owner kept pass v at ready in
       let e : QueueEntry E = calls v.knows.name take (Some x) in
       let front : queue_of (log ++ v.knows.owed) ≡ x ∷ envelopes items = queue_after v log o ∙ kept.replays in
-      let may : Allowed [] answer next May (log ++ v.knows.owed) e =
-      (caller_lives (Queued x ∷ items) views log owner kept pass v at ready, sym (ap (λ s. answer s take) front), tt) in
+      let may : Allowed [] answer_of next May (log ++ v.knows.owed) e =
+      (caller_lives (Queued x ∷ items) views log owner kept pass v at ready, sym (ap (λ s. answer_of s take) front), tt) in
       let names : split_off (log ++ tail_of v e) ≡ split_off log = named_after v log e o ∙ append-nil (split_off log) in
       adds (Queued x ∷ items) views log owner kept pass v at ready items e owner [] refl may
       (ap (λ s. next s take) kept.replays)

@@ -8,7 +8,7 @@ use Rattle.crossbeam_queue.specs.Fifo.{Forks, Admits}
 use Rattle.crossbeam_queue.proofs.Lists.{at_set}
 use Rattle.canvas_history.specs.History.{live, NoneBy}
 use Rattle.canvas_history.proofs.Histories.{In, in_cases}
-use Rattle.canvas_broker.specs.steps.Rule.{callers, Fits, Kept, root, newcomer}
+use Rattle.canvas_broker.specs.steps.Rule.{callers, Agrees, Kept, root, newcomer}
 use Rattle.canvas_broker.specs.declared.view.View.{View}
 use Rattle.canvas_broker.proofs.RuleSteps.{All, none_of_none, old_caller, all_set, at_push}
 
@@ -24,7 +24,7 @@ module _ {E : Type 0} where
           legal = tt;
           replays = refl;
           numbered = λ c i. absurd (false≢true i);
-          fits = λ j u e. subst (λ (x : View E). Fits [] (λ c. 0) j x) (only j u e) (
+          fits = λ j u e. subst (λ (x : View E). Agrees [] (λ c. 0) j x) (only j u e) (
             ([], refl, tt),
             (λ c i. absurd (false≢true i)),
             (λ i. absurd (false≢true i)),
@@ -58,7 +58,7 @@ module _ {E : Type 0} where
                     (at_push views newcomer u j e'),
               );
           fits = λ j u e. ⊎_elim (λ (t : (j < length views) × (get_elem? views j ≡ some u)). kept.fits j u t.1)
-              (λ (t : (j ≡ length views) × (newcomer ≡ u)). subst (λ (x : View E). Fits log owner j x) t.1
+              (λ (t : (j ≡ length views) × (newcomer ≡ u)). subst (λ (x : View E). Agrees log owner j x) t.1
               ((log, refl, none_of_none log), (λ c i. absurd (false≢true i)), (λ i. absurd (false≢true i)), tt, (λ c i. absurd (false≢true i))))
               (at_push views newcomer u j e);
         },
@@ -70,7 +70,7 @@ module _ {E : Type 0} where
       let log = h.0 in let owner = h.1 in let kept = h.2 in let b = kept.begun at in
       let owner' : ℕ → ℕ = λ c. 0 in
       let vs : List (View E) = set views 0 root in
-      let F : ℕ → View E → Type 0 = λ j u. Fits log owner' j u in
+      let F : ℕ → View E → Type 0 = λ j u. Agrees log owner' j u in
       let old : All F vs = all_set F views 0 root (
         (log, refl, subst (λ l. NoneBy (0 ∷ []) l) (sym b.0) tt),
         (λ c i. (refl, subst (λ l. In c (live l)) (sym b.0) i)),
@@ -93,7 +93,7 @@ module _ {E : Type 0} where
               (λ (t : (0 ≡ length vs) × (newcomer ≡ newcomer)). let y = kept.opened in let x : 0 ≡ length vs = t.0 in omega (arith, y, x, size))
               (at_push vs newcomer newcomer 0 e));
           fits = λ j u e. ⊎_elim (λ (t : (j < length vs) × (get_elem? vs j ≡ some u)). old j u t.1)
-              (λ (t : (j ≡ length vs) × (newcomer ≡ u)). subst (λ (x : View E). Fits log owner' j x) t.1
+              (λ (t : (j ≡ length vs) × (newcomer ≡ u)). subst (λ (x : View E). Agrees log owner' j x) t.1
               ((log, refl, none_of_none log), (λ c i. absurd (false≢true i)), (λ i. absurd (false≢true i)), tt, (λ c i. absurd (false≢true i))))
               (at_push vs newcomer u j e);
         },

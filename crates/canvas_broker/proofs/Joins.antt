@@ -3,12 +3,12 @@ use Rattle.std.proofs.Common.{◌≡◌, ℕ, false, List, [], ◌∷◌, ◌++�
 use Rattle.std.proofs.lemmas.Bool.{ne_eqb}
 use Rattle.canvas_history.specs.History.{split, join, calls, among, without, live_after, live_from, live, split_off, made_by, NoneBy, state_from, LegalFrom}
 use Rattle.canvas_history.proofs.Histories.{In, other_of, made_others, in_left, in_right, in_without, in_within, live_append}
-use Rattle.canvas_broker.specs.Broker.{QueueEntry, answer, next, May}
+use Rattle.canvas_broker.specs.Broker.{QueueEntry, answer_of, next, May}
 use Rattle.canvas_broker.specs.steps.Rule.{Orderly}
 
 module _ {E : Type 0} where
   abbrev pub Legals : List (QueueEntry E) → List (QueueEntry E) → Type 0
-  Legals log js = LegalFrom [] answer next May log js
+  Legals log js = LegalFrom [] answer_of next May log js
 
   pub live_snoc : (log : List (QueueEntry E)) (e : QueueEntry E) → live (log ++ e ∷ []) ≡ live_after (live log) e
   live_snoc log e = live_append (0 ∷ []) log (e ∷ [])
@@ -74,7 +74,7 @@ module _ {E : Type 0} where
   )
   orderly_legal p cs (calls r c a ∷ js) log o alive = absurd o
 
-  pub orderly_state : (p : ℕ) (cs : List ℕ) (js : List (QueueEntry E)) (s : List E) → Orderly p cs js → state_from [] answer next May s js ≡ s
+  pub orderly_state : (p : ℕ) (cs : List ℕ) (js : List (QueueEntry E)) (s : List E) → Orderly p cs js → state_from [] answer_of next May s js ≡ s
   orderly_state p cs [] s o = refl
   orderly_state p cs (split r q ∷ js) s o = absurd o
   orderly_state p cs (join r q ∷ js) s o = orderly_state p (without q cs) js s o.3

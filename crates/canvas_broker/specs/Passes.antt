@@ -11,7 +11,7 @@ use Rattle.crossbeam_queue.specs.SegTies.{SegId}
 use Rattle.canvas_history.specs.Callers as callers
 use Rattle.canvas_history.specs.Callers.{Caller, told}
 use Rattle.canvas_history.specs.History.{Sole}
-use Rattle.canvas_broker.specs.Broker.{QueueCall, QueueEntry, answer, next, May, queue_of, takes_of}
+use Rattle.canvas_broker.specs.Broker.{QueueCall, QueueEntry, answer_of, next, May, queue_of, takes_of}
 
 abbrev pub CallerAt : Type 0 → Type 0 → Type 0
 CallerAt I E = Caller I (QueueCall E) (Option E)
@@ -28,21 +28,21 @@ pass_of b k = record { of = b; name = k.name; mine = k.mine; seen = k.seen; owed
 
 module _ {I E : Type 0} where
   abbrev pub Stands : CallerAt I E → QueueEntry E → CallerAt I E → Type 0
-  Stands p e p' = callers.Stands [] answer next May p e p'
+  Stands p e p' = callers.Stands [] answer_of next May p e p'
 
   abbrev pub CouldStand : CallerAt I E → QueueEntry E → Type 0
-  CouldStand p e = callers.CouldStand [] answer next May p e
+  CouldStand p e = callers.CouldStand [] answer_of next May p e
 
   abbrev pub Parted : CallerAt I E → CallerAt I E → CallerAt I E → Type 0
-  Parted p p' q = callers.Parted [] answer next May p p' q
+  Parted p p' q = callers.Parted [] answer_of next May p p' q
 
   abbrev pub IsHistory : CallerAt I E → Type 0
-  IsHistory p = callers.IsHistory [] answer next May p
+  IsHistory p = callers.IsHistory [] answer_of next May p
 
   -- with no takes there is no entry
   abbrev pub Took : CallerAt I E → List E → CallerAt I E → Type 0
   Took p [] p' = p' ≡ p
-  Took p (e ∷ es) p' = callers.StandTogether [] answer next May p (takes_of p.name (e ∷ es)) p'
+  Took p (e ∷ es) p' = callers.StandTogether [] answer_of next May p (takes_of p.name (e ∷ es)) p'
 
   -- where no other caller is live, what the pass has seen, with the joins that it owes, replays to
   -- the empty queue

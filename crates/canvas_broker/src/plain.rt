@@ -1,6 +1,6 @@
 //! The queue of envelopes, for one thread: what the shared broker's histories replay on.
 ghost use Rattle.std.specs.Prelude.{◌≡◌, [], ◌∷◌, ◌++◌, true, ◌↔◌, OnOk, MatchOption, MatchResult};
-ghost use Rattle.canvas_broker.specs.Broker.{publish, take, answer, next};
+ghost use Rattle.canvas_broker.specs.Broker.{publish, take, answer_of, next};
 
 use crate::Refused;
 use canvas_message::Letter;
@@ -53,7 +53,7 @@ impl PlainBroker {
     pub fn take(&mut self) -> Option<Letter>
         ensures call { MatchOption result ((self.old ≡ []) × (self.new ≡ []))
             (λ e. self.old ≡ e ∷ self.new) }
-        ensures machine { (result ≡ answer self.old take) × (self.new ≡ next self.old take) }
+        ensures machine { (result ≡ answer_of self.old take) × (self.new ≡ next self.old take) }
     {
         self.queue.pop_front()
     }

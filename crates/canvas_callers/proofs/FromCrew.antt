@@ -117,7 +117,7 @@ module _ (behaviour : Behaviour) (l : Line) where
     who p z =
         ⊎_elim (λ f. inl f) (λ (f : (core_at 1 r.mates p ≡ []) × (among p (numbers 1 r.mates) ≡ false)). inr (record {
           is = f.0;
-          calls = fresh_from [] broker.answer broker.next broker.May p [] the_queue passes.1.legal z (ap (λ ns. among p ns) passes.1.names ∙ f.1);
+          calls = fresh_from [] broker.answer_of broker.next broker.May p [] the_queue passes.1.legal z (ap (λ ns. among p ns) passes.1.names ∙ f.1);
           replies = fresh_from no_results (reply_of (roster_of l)) next_of (May (roster_of l)) p [] seat.seen seats.legal z
               (ap (λ ns. among p ns) seats.names ∙ f.1);
         })) (which 1 r.mates the_queue seat.seen passes.1.each seats.each p)

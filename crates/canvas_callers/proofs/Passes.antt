@@ -7,7 +7,7 @@ use Rattle.canvas_history.proofs.Histories.{StartsWith, In, in_cases, in_here, i
 use Rattle.canvas_history.proofs.Histories.{made_append, made_here, made_off, OnlyCalls, OthersCall, named_first, live_first, fresh_at, others_call}
 use Rattle.canvas_backend.specs.Roster.{Roster}
 use Rattle.canvas_message.specs.declared.envelope.Envelope.{Envelope}
-use Rattle.canvas_broker.specs.Broker.{QueueEntry as Entries, answer, next, May, IsLegal}
+use Rattle.canvas_broker.specs.Broker.{QueueEntry as Entries, answer_of, next, May, IsLegal}
 use Rattle.canvas_broker.specs.Passes.{Stands, Parted, IsHistory}
 use Rattle.canvas_history.specs.Callers.{Owes}
 use Rattle.canvas_history.specs.Answers.{entries_by, splits_of, joins_of}
@@ -87,9 +87,9 @@ module _ (behaviour : Behaviour) (plan : Roster) where
       let x = s.0.4 in
       let shape : p'.seen ≡ (p.seen ++ x.0) ++ e ∷ [] = x.1 ∙ (ap (λ l. p.seen ++ (x.0 ++ (l ++ e ∷ []))) a.owed ∙ sym (append_assoc p.seen x.0 (e ∷ []))) in
       let legal : IsLegal ((p.seen ++ x.0) ++ e ∷ []) = subst (λ l. IsLegal l) shape x.3 in
-      let ok = (legal_right [] answer next May [] (p.seen ++ x.0) (e ∷ []) legal).0 in
+      let ok = (legal_right [] answer_of next May [] (p.seen ++ x.0) (e ∷ []) legal).0 in
       let apart : (p.name == q) ≡ false = ne_eqb p.name q (λ z. false≢true (sym ok.1 ∙ eq-eqb q 0 (sym z ∙ a.name))) in
-      let own : made_by q p'.seen ≡ [] = ap (λ l. made_by q l) shape ∙ fresh_at [] answer next May p.name q (p.seen ++ x.0) legal apart in
+      let own : made_by q p'.seen ≡ [] = ap (λ l. made_by q l) shape ∙ fresh_at [] answer_of next May p.name q (p.seen ++ x.0) legal apart in
       let name : q ≡ length (split_off p'.seen) = ap (λ (c : Pass). c.name) s.1 in (
         subst (λ k. At 0 p' (es ++ split k q ∷ [])) a.name (stands 0 p p' es e a a.name s.0),
         (
@@ -269,7 +269,7 @@ module _ (behaviour : Behaviour) (plan : Roster) where
         history = subst (λ l. IsLegal l) (sym (append-nil p2.seen) ∙ ap (λ l. p2.seen ++ l) (sym sent.owed)) sent.legal;
       } in
       let all : Held p3 (splits_of qs ++ entries_by 0 first) hs = joins p2 p3 (splits_of qs ++ entries_by 0 first) [] hs held made.1 jn in
-      let others : OthersCall p3.seen = others_call [] answer next May [] p3.seen all.legal tt
+      let others : OthersCall p3.seen = others_call [] answer_of next May [] p3.seen all.legal tt
       (λ c z i. quiet p3 hs all.keeps c (subst (λ l. In c l) (ap (λ l. split_off l) all.own ∙ named_both qs first) i)) in
       record {
         name = all.name;

@@ -15,7 +15,7 @@ use Rattle.canvas_history.specs.Callers.{told}
 use Rattle.canvas_runs.specs.Causes.{ByCause, ByItsCause, completions}
 use Rattle.canvas_runs.specs.Following.{Pass, Seat}
 use Rattle.canvas_runs.specs.Calls.{backend_calls}
-use Rattle.canvas_runs.specs.Law.{its_state, publishes}
+use Rattle.canvas_runs.specs.Law.{its_state, publications}
 use Rattle.canvas_runs.specs.Lists.{Each}
 use Rattle.canvas_runs.specs.Run.{Run, Closed, published_all}
 use Rattle.canvas_runs.specs.Worker.{sealed}
@@ -31,8 +31,8 @@ abbrev pub held_state : Line → Seat → ℕ → State
 held_state l seat t = (results (roster_of l) seat.seen).outcomes t
 
 -- there is one legal list of all broker calls, and one of all backend calls
-abbrev pub OneList : Type 0
-OneList =
+abbrev pub OneQueue : Type 0
+OneQueue =
     (behaviour : Behaviour) (l : Line) (pass : Pass) (seat : Seat) (r : Ran behaviour l pass seat)
     → QueueAccounts behaviour (roster_of l) r.mates (published_all (map sealed r.opening))
     r.works.made (broker_calls_seen pass)
@@ -108,7 +108,7 @@ abbrev pub PublishesOnce : Type 0
 PublishesOnce =
     (behaviour : Behaviour) (l : Line) → IsPlan l → (pass : Pass) (seat : Seat)
     → Ran behaviour l pass seat
-    → (k : ℕ) → publishes l k (broker_calls_seen pass) ≤ 1
+    → (k : ℕ) → publications l k (broker_calls_seen pass) ≤ 1
 
 abbrev pub CompletesOnce : Type 0
 CompletesOnce =

@@ -4,7 +4,7 @@
 //! is a law.
 #![tactic(auto)]
 
-ghost use Rattle.canvas_callers.specs.CallerLaws.{OneList, OneTable, IsARun, ReadsHeld, RowsMay, RowsAre, CanvasRowsMay, CanvasRowsAre, PublishesByCause, PublishesByItsCause, PublishesOnce, CompletesOnce};
+ghost use Rattle.canvas_callers.specs.CallerLaws.{OneQueue, OneTable, IsARun, ReadsHeld, RowsMay, RowsAre, CanvasRowsMay, CanvasRowsAre, PublishesByCause, PublishesByItsCause, PublishesOnce, CompletesOnce};
 ghost use Rattle.canvas_callers.specs.Rows.{RowsOfWell, RowsOfAny, TalliesCount, ARunStands};
 ghost use Rattle.canvas_callers.specs.Crew.{AreMates, AreRan};
 
@@ -13,7 +13,7 @@ ghost use Rattle.canvas_callers.specs.Crew.{AreMates, AreRan};
 /// calls and that of backend calls have of each worker just its calls, in order. They are those of
 /// a run, and where all ended well the run is closed.
 pub fn runs_of_callers()
-    ensures passes { OneList }
+    ensures passes { OneQueue }
     ensures seats { OneTable }
     ensures run { IsARun }
     ensures reads { ReadsHeld }

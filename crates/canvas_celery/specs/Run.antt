@@ -13,8 +13,8 @@ abbrev pub all_digits : Text → Bool
 all_digits text = list_all is_digit text
 
 -- a run's number
-abbrev pub is_run : Text → Bool
-is_run text = (length text == 22) && all_digits text
+abbrev pub is_run_number : Text → Bool
+is_run_number text = (length text == 22) && all_digits text
 
 -- so many bytes of a text, from a place on
 abbrev pub piece : (from count : ℕ) → Text → Text

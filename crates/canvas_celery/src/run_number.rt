@@ -2,7 +2,7 @@
 
 ghost use Rattle.std.specs.Prelude.{◌≡◌, true, false, None, IfSome};
 ghost use Rattle.canvas_task.specs.Identifiers.{task_text, group_text};
-ghost use Rattle.canvas_celery.specs.Run.{is_digit, all_digits, is_run, in_run, run_task, run_group, run_in};
+ghost use Rattle.canvas_celery.specs.Run.{is_digit, all_digits, is_run_number, in_run, run_task, run_group, run_in};
 
 use canvas_task::{GroupNo, TaskNo, group_text, task_text};
 
@@ -30,7 +30,7 @@ impl Run {
     /// The run that a text names; none where it isn't 22 digits.
     pub fn of_text(text: &str) -> Option<Run>
         ensures digits { IfSome result (λ run. run.digits ≡ text.now) }
-        ensures none { result ≡ None → is_run text.now ≡ false }
+        ensures none { result ≡ None → is_run_number text.now ≡ false }
     {
         let bytes = text.as_bytes();
         if bytes.len() != 22 || !are_digits(bytes) {

@@ -12,7 +12,7 @@ use Rattle.canvas_sig.specs.CanvasText.{json_of}
 use Rattle.canvas_sig.specs.Refusals.{named_of}
 use Rattle.canvas_task.specs.Text.{Text}
 use Rattle.canvas_sig.specs.Fields.{field, listed, object_members, contents, is_null, is_list, is_object, is_object_or_null, is_list_or_null}
-use Rattle.canvas_sig.specs.Answers.{fault_if, each, judged}
+use Rattle.canvas_sig.specs.Answers.{fault_if, in_turn, judged}
 use Rattle.canvas_sig.specs.Grammar.{argument_of, arg_reading, named_reading, is_name, is_text}
 use Rattle.canvas_sig.specs.declared.fault.SigFault.{SigFault}
 use Rattle.canvas_sig.specs.declared.fault.SigFault.TheVariants.{BadArgs}
@@ -24,7 +24,7 @@ use Rattle.canvas_message.specs.EnvelopeFaults.{bad_place, bad_elements, bad_tas
 use Rattle.canvas_message.specs.Fits.{fits}
 use Rattle.canvas_message.specs.FrozenGrammar.{task_of, group_of, levels}
 use Rattle.canvas_codec.specs.steps.FrozenReading.{link_reading, step_reading, last_reading, line_reading, place_with}
-use Rattle.canvas_codec.specs.steps.Reading.{Fails, Gives, ◌so◌, must, some_or, refused_as, is_version_2, is_same, correlates, is_group_or_null, ids_ok, id_reading, is_json, parts_of, Given, given_reading, chain_reading, Embed, embed_ok, embed_reading, if_fits, content_of, message_reading, envelope_reading}
+use Rattle.canvas_codec.specs.steps.Reading.{Fails, Gives, ◌so◌, must, some_or, refused_as, is_version_2, is_that_task, correlates, is_group_or_null, ids_ok, id_reading, is_json, parts_of, GivenParts, given_reading, chain_reading, Embed, embed_ok, embed_reading, if_fits, content_of, message_reading, envelope_reading}
 use Rattle.canvas_message.specs.declared.fault.MessageFault.{MessageFault}
 use Rattle.canvas_message.specs.declared.fault.MessageFault.TheVariants.{NotJson, NotVersion2, BadId, BadContentType, BadBody, BadEmbed, Memory, BadArgs as bad_arguments}
 use Rattle.canvas_codec.proofs.FrozenLaw.{seen, but_for, then_seen, made_seen, each_seen, unless_seen, argument_seen, named_seen, any_content, place_seen, level}
@@ -40,13 +40,13 @@ given_seen : (a k : Data) → seen (given_reading a k)
     (record { args = map argument_of (listed a); kwargs = map named_of (object_members k) })
 given_seen a k =
     let wrong = not (is_list a) || not (is_object_or_null k) in
-    let said : Given = record { args = map argument_of (listed a); kwargs = map named_of (object_members k) } in
+    let said : GivenParts = record { args = map argument_of (listed a); kwargs = map named_of (object_members k) } in
     let first = list_any bad_argument (listed a) in
     let second = list_any bad_argument (contents k) in
     unless_seen (fault_if wrong BadArgs) _ (first || second) said
-    (λ none. then_seen (each arg_reading (listed a)) _ first second (map argument_of (listed a)) said
+    (λ none. then_seen (in_turn arg_reading (listed a)) _ first second (map argument_of (listed a)) said
     (each_seen arg_reading bad_argument argument_of argument_seen (listed a))
-    (made_seen (each named_reading (object_members k)) (λ kwargs. record { args = map argument_of (listed a); kwargs = kwargs }) second
+    (made_seen (in_turn named_reading (object_members k)) (λ kwargs. record { args = map argument_of (listed a); kwargs = kwargs }) second
     (map named_of (object_members k))
     (each_seen named_reading (λ e. bad_argument e.1) named_of named_seen (object_members k)
     ∙ ap (λ b. but_for b (map named_of (object_members k))) (any_content (object_members k)))))
@@ -104,7 +104,7 @@ chain_is (d ∷ ds) =
     let others = list_any bad_task ds in
     let said = p_steps (reverse (map task_in ds)) (last_in d) in
     then_seen (last_reading levels d) _ (bad_last d) others (last_in d) said (last_is d)
-    (made_seen (each (step_reading levels) ds) (λ ts. p_steps (reverse ts) (last_in d)) others (map task_in ds)
+    (made_seen (in_turn (step_reading levels) ds) (λ ts. p_steps (reverse ts) (last_in d)) others (map task_in ds)
     (each_seen (step_reading levels) bad_task task_in step_is ds))
     ∙ ap₂ but_for (or_comm (bad_last d) others ∙ ap (λ b. b || bad_last d) (sym (any_reversed bad_task ds))
     ∙ sym (elements_apart bad_task bad_last (reverse ds) d)
@@ -145,9 +145,9 @@ embed_seen group e =
     let following = bad_elements bad_task bad_last (reverse chain) in
     let place = place_from line_in group (field (codes "chord") e) in
     unless_seen (fault_if (not (embed_ok e)) BadArgs) _ (linked || (failing || (placed || following))) (embed_said group e)
-    (λ none. then_seen (each (link_reading levels) callbacks) _ linked (failing || (placed || following)) (map task_in callbacks) (embed_said group e)
+    (λ none. then_seen (in_turn (link_reading levels) callbacks) _ linked (failing || (placed || following)) (map task_in callbacks) (embed_said group e)
     (each_seen (link_reading levels) bad_task task_in task_is callbacks)
-    (then_seen (each (link_reading levels) errbacks) _ failing (placed || following) (map task_in errbacks) (embed_said group e)
+    (then_seen (in_turn (link_reading levels) errbacks) _ failing (placed || following) (map task_in errbacks) (embed_said group e)
     (each_seen (link_reading levels) bad_task task_in task_is errbacks)
     (then_seen (place_with (line_reading levels) group (field (codes "chord") e)) _ placed following place (embed_said group e)
     (place_seen (line_reading levels) bad_line line_in line_is group (field (codes "chord") e))
@@ -160,7 +160,7 @@ embed_seen group e =
 
 -- ---- identifiers, and the parts of a body
 
-same_is : (k : ℕ) (o : Option ℕ) → is_same k o ≡ same_task o (Some k)
+same_is : (k : ℕ) (o : Option ℕ) → is_that_task k o ≡ same_task o (Some k)
 same_is k None = refl
 same_is k (Some j) = refl
 
@@ -229,7 +229,7 @@ last_row false w r f x c h same off =
 message_judged : (p h b : Data) → message_reading p h b ≡ judged (first_of (refusals p h b)) (content_in h b)
 message_judged p h b =
     let k = task_number (field (codes "id") h) in
-    let given : Given = record { args = map argument_of (listed (args_in b)); kwargs = map named_of (object_members (kwargs_in b)) } in
+    let given : GivenParts = record { args = map argument_of (listed (args_in b)); kwargs = map named_of (object_members (kwargs_in b)) } in
     let group = field (codes "group") h in
     let after_args = (bad_embed h b, BadEmbed) ∷ [] in
     let after_body = (bad_args b, bad_arguments) ∷ after_args in

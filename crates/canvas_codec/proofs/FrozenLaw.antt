@@ -9,7 +9,7 @@ use Rattle.canvas_task.specs.declared.arg.Arg.{Arg}
 use Rattle.canvas_sig.specs.Refusals.{named_of, spelled_call}
 use Rattle.canvas_task.specs.Text.{Text}
 use Rattle.canvas_sig.specs.Fields.{field, subtype, option, args, kwargs, tasks, header, body, link, link_error, listed, as_list, object_members, contents, is_null, is_list}
-use Rattle.canvas_sig.specs.Answers.{◌>>=◌, ◌or_else◌, fault_if, unless, judged, each}
+use Rattle.canvas_sig.specs.Answers.{◌>>=◌, ◌or_else◌, fault_if, unless, judged, in_turn}
 use Rattle.canvas_sig.specs.Grammar.{some_or_zero, whole_number, argument_of, arg_reading, named_reading, kind_ok, numbers_ok, args_ok, not_signature, bad_args, fault_as, own_fault, primitive_of}
 use Rattle.canvas_sig.specs.declared.fault.SigFault.{SigFault}
 use Rattle.canvas_sig.specs.declared.fault.SigFault.TheVariants.{NotSignature, UnknownPrimitive, BadArgs, BadNumber, OnCanvas, Frozen, TooMany}
@@ -47,11 +47,11 @@ made_seen (Err e) g true x h = refl
 made_seen (Err e) g false x h = absurd cc
 
 pub each_seen : {A B : Type 0} (f : A → Result B SigFault) (g : A → Bool) (v : A → B) → ((a : A) → seen (f a) ≡ but_for (g a) (v a))
-    → (as' : List A) → seen (each f as') ≡ but_for (list_any g as') (map v as')
+    → (as' : List A) → seen (in_turn f as') ≡ but_for (list_any g as') (map v as')
 each_seen f g v is [] = refl
 each_seen f g v is (a ∷ as') =
-    then_seen (f a) (λ y. each f as' >>= λ ys. Ok (y ∷ ys)) (g a) (list_any g as') (v a) (v a ∷ map v as') (is a)
-    (made_seen (each f as') (λ ys. v a ∷ ys) (list_any g as') (map v as') (each_seen f g v is as'))
+    then_seen (f a) (λ y. in_turn f as' >>= λ ys. Ok (y ∷ ys)) (g a) (list_any g as') (v a) (v a ∷ map v as') (is a)
+    (made_seen (in_turn f as') (λ ys. v a ∷ ys) (list_any g as') (map v as') (each_seen f g v is as'))
 
 pub unless_seen : {A : Type 0} (o : Option SigFault) (r : Result A SigFault) (c : Bool) (y : A) → (o ≡ None → seen r ≡ but_for c y)
     → seen (unless o r) ≡ but_for (is_some o || c) y
@@ -113,10 +113,10 @@ call_seen : (d : Data) → args_ok kind_ok d ≡ true → args_ok numbers_ok d �
 call_seen d k h =
     let p = both_of (list_all kind_ok (listed (args d))) (list_all kind_ok (contents (kwargs d))) k in
     let q = both_of (list_all numbers_ok (listed (args d))) (list_all numbers_ok (contents (kwargs d))) h in
-    then_seen (each arg_reading (listed (args d))) _ false false (map argument_of (listed (args d))) (spelled_call d)
+    then_seen (in_turn arg_reading (listed (args d))) _ false false (map argument_of (listed (args d))) (spelled_call d)
     (each_seen arg_reading bad_argument argument_of argument_seen (listed (args d))
     ∙ ap (λ b. but_for b (map argument_of (listed (args d)))) (none_bad (listed (args d)) p.0 q.0))
-    (made_seen (each named_reading (object_members (kwargs d))) _ false (map named_of (object_members (kwargs d)))
+    (made_seen (in_turn named_reading (object_members (kwargs d))) _ false (map named_of (object_members (kwargs d)))
     (each_seen named_reading (λ e. bad_argument e.1) named_of named_seen (object_members (kwargs d))
     ∙ ap (λ b. but_for b (map named_of (object_members (kwargs d)))) (any_content (object_members (kwargs d)) ∙ none_bad (contents (kwargs d)) p.1 q.1)))
 
@@ -171,7 +171,7 @@ module _ (f : Data → Result PLine SigFault) (bad : Data → Bool) (v : Data �
       let said = p_group_end (group_number (option (codes "group_id") d)) (p_lines_of (map v (listed (tasks d)))) in
       unless_seen (own_fault false d) (group_with f d) (is_none id || inner) said
       (λ none. then_seen (if_numbered id) _ (is_none id) inner (unwrap_or id 0) said (numbered_seen id)
-      (made_seen (each f (listed (tasks d))) (λ ms. p_group_end (unwrap_or id 0) (p_lines_of ms)) inner (map v (listed (tasks d)))
+      (made_seen (in_turn f (listed (tasks d))) (λ ms. p_group_end (unwrap_or id 0) (p_lines_of ms)) inner (map v (listed (tasks d)))
       (each_seen f bad v is (listed (tasks d)))))
       ∙ ap (λ b. but_for b said) (sym (or_assoc (is_some (own_fault false d)) (is_none id) inner))
 
@@ -194,7 +194,7 @@ module _ (f : Data → Result PLine SigFault) (bad : Data → Bool) (v : Data �
       let said = p_chord_end (group_number (option (codes "group_id") d)) (p_lines_of (map v (listed (header d)))) (v (body d)) in
       unless_seen (own_fault false d or_else header_fault d) (chord_with f d) (is_none id || (inner || bad (body d))) said
       (λ none. then_seen (if_numbered id) _ (is_none id) (inner || bad (body d)) (unwrap_or id 0) said (numbered_seen id)
-      (then_seen (each f (listed (header d))) _ inner (bad (body d)) (map v (listed (header d))) said (each_seen f bad v is (listed (header d)))
+      (then_seen (in_turn f (listed (header d))) _ inner (bad (body d)) (map v (listed (header d))) said (each_seen f bad v is (listed (header d)))
       (made_seen (f (body d)) (λ b. p_chord_end (unwrap_or id 0) (p_lines_of (map v (listed (header d)))) b) (bad (body d)) (v (body d)) (is (body d)))))
       ∙ ap (λ b. but_for b said)
       (ap (λ b. b || (is_none id || (inner || bad (body d)))) (own_or_header (own_fault false d) (not (is_list (header d))))
@@ -221,8 +221,8 @@ module _ (f : Data → Result PLine SigFault) (bad : Data → Bool) (v : Data �
         let placed = bad_place bad (option (codes "group_id") d) (option (codes "chord") d) in
         then_seen (if_numbered id) _ (is_none id) (linked || (failing || placed)) k (task_from w v d) (numbered_seen id)
         (then_seen (call_reading d) _ false (linked || (failing || placed)) (spelled_call d) (task_from w v d) called
-        (then_seen (each t (as_list (link d))) _ linked (failing || placed) links (task_from w v d) (each_seen t faulty w has (as_list (link d)))
-        (then_seen (each t (as_list (link_error d))) _ failing placed errbacks (task_from w v d) (each_seen t faulty w has (as_list (link_error d)))
+        (then_seen (in_turn t (as_list (link d))) _ linked (failing || placed) links (task_from w v d) (each_seen t faulty w has (as_list (link d)))
+        (then_seen (in_turn t (as_list (link_error d))) _ failing placed errbacks (task_from w v d) (each_seen t faulty w has (as_list (link_error d)))
         (made_seen (place_with f (option (codes "group_id") d) (option (codes "chord") d)) (λ place. p_task k (spelled_call d) (p_tasks_of links) (p_tasks_of errbacks) place) placed place
         (place_seen (option (codes "group_id") d) (option (codes "chord") d))))))
 

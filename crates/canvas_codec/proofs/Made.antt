@@ -9,7 +9,7 @@ use Rattle.canvas_sig.specs.Datum.{view}
 use Rattle.canvas_sig.specs.declared.datum.Datum.{Datum}
 use Rattle.canvas_task.specs.declared.arg.Arg.{Arg}
 use Rattle.canvas_sig.specs.Fields.{field, option, args, kwargs, tasks, header, body, link, link_error, listed, object_members as members, as_list, text_of, is_true}
-use Rattle.canvas_sig.specs.Answers.{◌>>=◌, each}
+use Rattle.canvas_sig.specs.Answers.{◌>>=◌, in_turn}
 use Rattle.canvas_sig.specs.Grammar.{arg_reading, named_reading}
 use Rattle.canvas_sig.specs.declared.fault.SigFault.{SigFault}
 use Rattle.canvas_semantics.specs.PlacedLine.{PTask, PLine, p_stop, p_step}
@@ -33,10 +33,10 @@ use Rattle.canvas_codec.specs.steps.FrozenReading.{if_numbered, place_with, task
 pub task_read : (t : Data → Result PTask SigFault) (f : Data → Result PLine SigFault) (d : Data)
     (k : ℕ) (n : List ℕ) (a : List Arg) (w : List (List ℕ × Arg)) (i : Bool) (ls es : List FrozenTask) (p : Option Place)
     → if_numbered (task_of (option (codes "task_id") d)) ≡ Ok k
-    → each arg_reading (listed (args d)) ≡ Ok a
-    → each named_reading (members (kwargs d)) ≡ Ok w
-    → each t (as_list (link d)) ≡ Ok (map p_task_view ls)
-    → each t (as_list (link_error d)) ≡ Ok (map p_task_view es)
+    → in_turn arg_reading (listed (args d)) ≡ Ok a
+    → in_turn named_reading (members (kwargs d)) ≡ Ok w
+    → in_turn t (as_list (link d)) ≡ Ok (map p_task_view ls)
+    → in_turn t (as_list (link_error d)) ≡ Ok (map p_task_view es)
     → place_with f (option (codes "group_id") d) (option (codes "chord") d) ≡ Ok (place_seen p)
     → text_of (field (codes "task") d) ≡ n
     → is_true (field (codes "immutable") d) ≡ i
@@ -47,12 +47,12 @@ task_read t f d k n a w i ls es p hk ha hw hl he hp hn hi = rw (hk, ha, hw, hl, 
 -- ---- groups and chords
 
 pub group_read : (f : Data → Result PLine SigFault) (d : Data) (g : ℕ) (ms : List FrozenLine)
-    → if_numbered (group_of (option (codes "group_id") d)) ≡ Ok g → each f (listed (tasks d)) ≡ Ok (map p_line_view ms)
+    → if_numbered (group_of (option (codes "group_id") d)) ≡ Ok g → in_turn f (listed (tasks d)) ≡ Ok (map p_line_view ms)
     → group_with f d ≡ Ok (p_end_view (roll-FrozenEnd (record { group = g; members = ms; body = None })))
 group_read f d g ms hg hm = rw (hg, hm) (ap Ok (sym (made_group g ms)))
 
 pub chord_read : (f : Data → Result PLine SigFault) (d : Data) (g : ℕ) (ms : List FrozenLine) (b : FrozenLine)
-    → if_numbered (group_of (option (codes "group_id") d)) ≡ Ok g → each f (listed (header d)) ≡ Ok (map p_line_view ms) → f (body d) ≡ Ok (p_line_view b)
+    → if_numbered (group_of (option (codes "group_id") d)) ≡ Ok g → in_turn f (listed (header d)) ≡ Ok (map p_line_view ms) → f (body d) ≡ Ok (p_line_view b)
     → chord_with f d ≡ Ok (p_end_view (roll-FrozenEnd (record { group = g; members = ms; body = Some b })))
 chord_read f d g ms b hg hm hb = rw (hg, hm, hb) (ap Ok (sym (made_chord g ms b)))
 
@@ -90,7 +90,7 @@ module _ (s : Data → Result PTask SigFault) (e : Data → Result PLine SigFaul
 
   pub last_apart : (ds : List Data) (d : Data) → elements_with s e (ds ++ d ∷ []) ≡ line_with s e ds d
   last_apart [] d = alone (e d)
-  last_apart (x ∷ ds) d = one_more x ds d ∙ ap (λ r. s x >>= λ t. r >>= λ l. Ok (p_step t l)) (last_apart ds d) ∙ regroup (s x) (each s ds) (e d)
+  last_apart (x ∷ ds) d = one_more x ds d ∙ ap (λ r. s x >>= λ t. r >>= λ l. Ok (p_step t l)) (last_apart ds d) ∙ regroup (s x) (in_turn s ds) (e d)
 
 pub no_line : (ds : List Data) (s : Data → Result PTask SigFault) (e : Data → Result PLine SigFault) (ts : List FrozenTask) → ds ≡ [] → ts ≡ []
     → elements_with s e ds ≡ Ok (p_line_view (roll-FrozenLine (record { tasks = ts; tail = None })))
@@ -119,7 +119,7 @@ map_reverse (t ∷ ts) =
 -- the line whose last element is given first
 pub reversed_read : (s : Data → Result PTask SigFault) (e : Data → Result PLine SigFault) (d : Data) (ds : List Data) (x : Element) (ts new : List FrozenTask)
     (l : FrozenLine)
-    → e d ≡ Ok (element_view x) → each s ds ≡ Ok (map p_task_view ts) → new ≡ reverse ts
+    → e d ≡ Ok (element_view x) → in_turn s ds ≡ Ok (map p_task_view ts) → new ≡ reverse ts
     → p_line_view l ≡ p_steps (map p_task_view new) (element_view x) → reversed_with s e d ds ≡ Ok (p_line_view l)
 reversed_read s e d ds x ts new l hd hs turned made =
     rw (hd, hs) (ap Ok (ap (λ xs. p_steps xs (element_view x)) (sym (ap (map p_task_view) turned ∙ map_reverse ts)) ∙ sym made))

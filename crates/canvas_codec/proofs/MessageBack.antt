@@ -3,7 +3,7 @@ use Rattle.std.proofs.Common.{◌≡◌, ℕ, ◌≤◌, List, [], ◌∷◌, �
 use Rattle.std.proofs.lemmas.List.{reverse-append, reverse-reverse, append_assoc, append-nil}
 use Rattle.serde_json.specs.Data.{Data, array, object, Items, no_items, item}
 use Rattle.canvas_sig.specs.Fields.{items, listed, is_list_or_null}
-use Rattle.canvas_sig.specs.Answers.{each}
+use Rattle.canvas_sig.specs.Answers.{in_turn}
 use Rattle.canvas_semantics.specs.Tree.{Call}
 use Rattle.canvas_sig.proofs.FittingCalls.{CallFits}
 use Rattle.canvas_sig.specs.Writing.{args_wire, kwargs_wire}
@@ -55,7 +55,7 @@ steps_reversed : (n : ℕ) (ts : List PTask) → Steps n ts → Steps n (reverse
 steps_reversed n [] h = tt
 steps_reversed n (t ∷ ts) h = rw (last_first t ts) (steps_end n (reverse ts) t (steps_reversed n ts h.1) h.0)
 
-steps_read : (n : ℕ) (ts : List PTask) → Steps n ts → each (step_reading n) (map (task_wire None) ts) ≡ Ok ts
+steps_read : (n : ℕ) (ts : List PTask) → Steps n ts → in_turn (step_reading n) (map (task_wire None) ts) ≡ Ok ts
 steps_read n [] h = refl
 steps_read n (t ∷ ts) h = rw (h.0, steps_read n ts h.1) refl
 

@@ -10,7 +10,7 @@ use Rattle.canvas_task.specs.declared.arg.Arg.{Arg}
 use Rattle.canvas_task.proofs.IdentifierLemmas as identifiers
 use Rattle.canvas_sig.specs.Fields.{field, subtype, option, items, is_null}
 use Rattle.canvas_sig.specs.ComposedRefusals.{call_numbers_ok}
-use Rattle.canvas_sig.specs.Answers.{◌or_else◌, fault_if, each}
+use Rattle.canvas_sig.specs.Answers.{◌or_else◌, fault_if, in_turn}
 use Rattle.canvas_sig.specs.Grammar.{primitive_of, own_fault}
 use Rattle.canvas_semantics.specs.Tree.{Call}
 use Rattle.canvas_task.specs.Entries.{IsBelow, Ascends}
@@ -218,7 +218,7 @@ found (Some n) call k l e g c =
 read_with : (size : Option ℕ) (call : Call) (k : ℕ) (links errbacks : PTasks) (place : PPlace) (t : Data → Result PTask SigFault) (f : Data
     → Result PLine SigFault)
     → is_task_number k ≡ true → CallFits call
-    → each t (items (tasks_wire links)) ≡ Ok (listed_tasks links) → each t (items (tasks_wire errbacks)) ≡ Ok (listed_tasks errbacks)
+    → in_turn t (items (tasks_wire links)) ≡ Ok (listed_tasks links) → in_turn t (items (tasks_wire errbacks)) ≡ Ok (listed_tasks errbacks)
     → place_with f (place_id place) (carried_wire place) ≡ Ok place
     → task_with t f (task_wire size (p_task k call links errbacks place)) ≡ Ok (p_task k call links errbacks place)
 read_with size call k links errbacks place t f here fits ls es at =
@@ -243,7 +243,7 @@ read_with size call k links errbacks place t f here fits ls es at =
 task_read : (linked : Bool) (size : Option ℕ) (call : Call) (k : ℕ) (links errbacks : PTasks) (place : PPlace) (t : Data → Result PTask SigFault) (f : Data
     → Result PLine SigFault)
     → is_task_number k ≡ true → CallFits call
-    → each t (items (tasks_wire links)) ≡ Ok (listed_tasks links) → each t (items (tasks_wire errbacks)) ≡ Ok (listed_tasks errbacks)
+    → in_turn t (items (tasks_wire links)) ≡ Ok (listed_tasks links) → in_turn t (items (tasks_wire errbacks)) ≡ Ok (listed_tasks errbacks)
     → place_with f (place_id place) (carried_wire place) ≡ Ok place
     → task_as linked t f (task_wire size (p_task k call links errbacks place)) ≡ Ok (p_task k call links errbacks place)
 task_read linked size call k links errbacks place t f here fits ls es at =
@@ -307,19 +307,21 @@ alone : (size : Option ℕ) (t : PTask) (n : ℕ) → task_as false (link_readin
 alone size (p_task k call links errbacks place) n read =
     rw (kind_found size call (task_options k (tasks_wire links) (tasks_wire errbacks) (place_id place) (carried_wire place)), read) refl
 
-last_group : (size : Option ℕ) (g : ℕ) (ms : PLines) (n : ℕ) → is_task_number g ≡ true → each (line_reading n) (items (members_wire ms)) ≡ Ok (listed_lines ms)
+last_group : (size : Option ℕ) (g : ℕ) (ms : PLines) (n : ℕ) → is_task_number g ≡ true
+    → in_turn (line_reading n) (items (members_wire ms)) ≡ Ok (listed_lines ms)
     → last_as (link_reading n) (line_reading n) (primitive_of (subtype (group_wire size g (members_wire ms)))) (group_wire size g (members_wire ms))
     ≡ Ok (p_group_end g ms)
 last_group None g ms n here read = rw (group_id_back g here, read, lines_listed ms) refl
 last_group (Some s) g ms n here read = rw (group_id_back g here, read, lines_listed ms) refl
 
-alone_group : (size : Option ℕ) (g : ℕ) (ms : PLines) (n : ℕ) → is_task_number g ≡ true → each (line_reading n) (items (members_wire ms)) ≡ Ok (listed_lines ms)
+alone_group : (size : Option ℕ) (g : ℕ) (ms : PLines) (n : ℕ) → is_task_number g ≡ true
+    → in_turn (line_reading n) (items (members_wire ms)) ≡ Ok (listed_lines ms)
     → line_reading (suc n) (group_wire size g (members_wire ms)) ≡ Ok (p_group_end g ms)
 alone_group None g ms n here read = rw (group_id_back g here, read, lines_listed ms) refl
 alone_group (Some s) g ms n here read = rw (group_id_back g here, read, lines_listed ms) refl
 
 last_chord : (size : Option ℕ) (g : ℕ) (ms : PLines) (b : PLine) (n : ℕ) → is_task_number g ≡ true
-    → each (line_reading n) (items (members_wire ms)) ≡ Ok (listed_lines ms)
+    → in_turn (line_reading n) (items (members_wire ms)) ≡ Ok (listed_lines ms)
     → line_reading n (line_wire None b) ≡ Ok b
     → last_as (link_reading n) (line_reading n) (primitive_of (subtype (chord_wire size g (members_wire ms) (line_wire None b))))
     (chord_wire size g (members_wire ms) (line_wire None b))
@@ -328,7 +330,7 @@ last_chord None g ms b n here read body = rw (line_is_some None b, group_id_back
 last_chord (Some s) g ms b n here read body = rw (line_is_some None b, group_id_back g here, read, body, lines_listed ms) refl
 
 alone_chord : (size : Option ℕ) (g : ℕ) (ms : PLines) (b : PLine) (n : ℕ) → is_task_number g ≡ true
-    → each (line_reading n) (items (members_wire ms)) ≡ Ok (listed_lines ms)
+    → in_turn (line_reading n) (items (members_wire ms)) ≡ Ok (listed_lines ms)
     → line_reading n (line_wire None b) ≡ Ok b
     → line_reading (suc n) (chord_wire size g (members_wire ms) (line_wire None b)) ≡ Ok (p_chord_end g ms b)
 alone_chord None g ms b n here read body = rw (line_is_some None b, group_id_back g here, read, body, lines_listed ms) refl
@@ -382,7 +384,7 @@ mutual
       task_read linked size call k links errbacks place (link_reading n) (line_reading n) p.here p.called
       (tasks_back n links p.linked (omega arith)) (tasks_back n errbacks p.failing (omega arith)) (place_back n last place p.placed (omega arith))
 
-  pub tasks_back : (n : ℕ) (ts : PTasks) → tasks_ok ts ≡ true → tasks_reach ts ≤ n → each (link_reading n) (items (tasks_wire ts)) ≡ Ok (listed_tasks ts)
+  pub tasks_back : (n : ℕ) (ts : PTasks) → tasks_ok ts ≡ true → tasks_reach ts ≤ n → in_turn (link_reading n) (items (tasks_wire ts)) ≡ Ok (listed_tasks ts)
   tasks_back n no_p_tasks ok low = refl
   tasks_back zero (and_p_task (p_task k call links errbacks place) ts) ok low = absurd (omega arith)
   tasks_back (suc n) (and_p_task t ts) ok low =
@@ -462,7 +464,7 @@ mutual
       last_chord None g ms b n p.here (members_back n (line_reach c b) ms p.members (omega arith)) (line_back n c last None b p.body (omega arith))
 
   members_back : (n c : ℕ) (ms : PLines) → members_ok ms ≡ true → members_reach c ms ≤ n
-      → each (line_reading n) (items (members_wire ms)) ≡ Ok (listed_lines ms)
+      → in_turn (line_reading n) (items (members_wire ms)) ≡ Ok (listed_lines ms)
   members_back n c no_p_lines ok low = refl
   members_back n c (and_p_line m ms) ok low =
       let p = both (line_ok false m && not (in_group (strip m))) (members_ok ms) ok in

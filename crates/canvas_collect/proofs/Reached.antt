@@ -12,9 +12,9 @@ use Rattle.canvas_rewrite.specs.declared.frozen.FrozenTask.{FrozenTask, out-Froz
 use Rattle.canvas_semantics.specs.PlacedLine.{strip_task, strip_tasks}
 use Rattle.canvas_message.proofs.Seen.{task_seen}
 use Rattle.canvas_collect.specs.steps.Flows.{listed}
-use Rattle.canvas_collect.specs.Completed.{Has, state_at}
+use Rattle.canvas_collect.specs.Completed.{HasRows, state_at}
 
-pub has_split : (s : List State) (a b : Rows) → Has s (a ++ b) → Has s a × Has s b
+pub has_split : (s : List State) (a b : Rows) → HasRows s (a ++ b) → HasRows s a × HasRows s b
 has_split s [] b h = (tt, h)
 has_split s (r ∷ a) b h = ((h.0, (has_split s a b h.1).0), (has_split s a b h.1).1)
 
@@ -34,41 +34,41 @@ parts t = record { call = _; is = ap strip_task (task_seen t) }
 pub meaning_rows : (b : Behaviour) (t : Task) (x : Flow) → (task_meaning b t x).rows ≡ task_rows b t (Some x)
 meaning_rows b (task k call ls es) x = refl
 
-out_task : (b : Behaviour) (s : List State) (k : ℕ) (call : Call) (ls es : Tasks) (x : Flow) → Has s (task_rows b (task k call ls es) (Some x))
+out_task : (b : Behaviour) (s : List State) (k : ℕ) (call : Call) (ls es : Tasks) (x : Flow) → HasRows s (task_rows b (task k call ls es) (Some x))
     → passed_on (state_at s k) ≡ (task_meaning b (task k call ls es) x).out
 out_task b s k call ls es x has = ap passed_on has.0
 
 -- what flows out of a task, by the table
-pub out_is : (b : Behaviour) (s : List State) (t : FrozenTask) (x : Flow) → Has s (task_rows b (task_in t) (Some x))
+pub out_is : (b : Behaviour) (s : List State) (t : FrozenTask) (x : Flow) → HasRows s (task_rows b (task_in t) (Some x))
     → passed_on (state_at s (out-FrozenTask t).no) ≡ (task_meaning b (task_in t) x).out
 out_is b s t x =
     let p = parts t in
-    let P : Task → Type 0 = λ u. Has s (task_rows b u (Some x)) → passed_on (state_at s (out-FrozenTask t).no) ≡ (task_meaning b u x).out in
+    let P : Task → Type 0 = λ u. HasRows s (task_rows b u (Some x)) → passed_on (state_at s (out-FrozenTask t).no) ≡ (task_meaning b u x).out in
     subst P (sym p.is) (out_task b s (out-FrozenTask t).no p.call _ _ x)
 
 -- the state of a task that an exception skips, or is raised in
-skipped_task : (b : Behaviour) (s : List State) (k : ℕ) (call : Call) (ls es : Tasks) (f : Fault) → Has s (task_rows b (task k call ls es) (Some (skip f)))
+skipped_task : (b : Behaviour) (s : List State) (k : ℕ) (call : Call) (ls es : Tasks) (f : Fault) → HasRows s (task_rows b (task k call ls es) (Some (skip f)))
     → state_at s k ≡ Some (Failure f)
 skipped_task b s k call ls es f has = has.0
 
-raised_task : (b : Behaviour) (s : List State) (k : ℕ) (call : Call) (ls es : Tasks) (f : Fault) → Has s (task_rows b (task k call ls es) (Some (raised f)))
+raised_task : (b : Behaviour) (s : List State) (k : ℕ) (call : Call) (ls es : Tasks) (f : Fault) → HasRows s (task_rows b (task k call ls es) (Some (raised f)))
     → state_at s k ≡ Some (Failure f)
 raised_task b s k call ls es f has = has.0
 
-pub skipped_at : (b : Behaviour) (s : List State) (t : FrozenTask) (x : Flow) (f : Fault) → x ≡ skip f → Has s (task_rows b (task_in t) (Some x))
+pub skipped_at : (b : Behaviour) (s : List State) (t : FrozenTask) (x : Flow) (f : Fault) → x ≡ skip f → HasRows s (task_rows b (task_in t) (Some x))
     → state_at s (out-FrozenTask t).no ≡ Some (Failure f)
 skipped_at b s t x f e =
     let p = parts t in
-    let P : Task → Type 0 = λ u. Has s (task_rows b u (Some (skip f))) → state_at s (out-FrozenTask t).no ≡ Some (Failure f) in
-    let Q : Flow → Type 0 = λ y. Has s (task_rows b (task_in t) (Some y)) → state_at s (out-FrozenTask t).no ≡ Some (Failure f) in
+    let P : Task → Type 0 = λ u. HasRows s (task_rows b u (Some (skip f))) → state_at s (out-FrozenTask t).no ≡ Some (Failure f) in
+    let Q : Flow → Type 0 = λ y. HasRows s (task_rows b (task_in t) (Some y)) → state_at s (out-FrozenTask t).no ≡ Some (Failure f) in
     subst Q (sym e) (subst P (sym p.is) (skipped_task b s (out-FrozenTask t).no p.call _ _ f))
 
-pub raised_at : (b : Behaviour) (s : List State) (t : FrozenTask) (x : Flow) (f : Fault) → x ≡ raised f → Has s (task_rows b (task_in t) (Some x))
+pub raised_at : (b : Behaviour) (s : List State) (t : FrozenTask) (x : Flow) (f : Fault) → x ≡ raised f → HasRows s (task_rows b (task_in t) (Some x))
     → state_at s (out-FrozenTask t).no ≡ Some (Failure f)
 raised_at b s t x f e =
     let p = parts t in
-    let P : Task → Type 0 = λ u. Has s (task_rows b u (Some (raised f))) → state_at s (out-FrozenTask t).no ≡ Some (Failure f) in
-    let Q : Flow → Type 0 = λ y. Has s (task_rows b (task_in t) (Some y)) → state_at s (out-FrozenTask t).no ≡ Some (Failure f) in
+    let P : Task → Type 0 = λ u. HasRows s (task_rows b u (Some (raised f))) → state_at s (out-FrozenTask t).no ≡ Some (Failure f) in
+    let Q : Flow → Type 0 = λ y. HasRows s (task_rows b (task_in t) (Some y)) → state_at s (out-FrozenTask t).no ≡ Some (Failure f) in
     subst Q (sym e) (subst P (sym p.is) (raised_task b s (out-FrozenTask t).no p.call _ _ f))
 
 -- ---- ends
@@ -121,23 +121,23 @@ module _ (b : Behaviour) where
         all_both (ends t) (all_ends ts) _ (all_left (ends t) (eval b t x).rows (member_rows b ts x) (ends_occur t x))
         (all_right (all_ends ts) (eval b t x).rows (member_rows b ts x) (all_occur ts x))
 
-found_by : (s : List State) (row : ℕ × State) (rows : Rows) (k : ℕ) (e : Bool) → (row.0 == k) ≡ e → Has s (row ∷ rows)
+found_by : (s : List State) (row : ℕ × State) (rows : Rows) (k : ℕ) (e : Bool) → (row.0 == k) ≡ e → HasRows s (row ∷ rows)
     → (Occurs k rows → state_of k rows ≡ state_at s k)
     → Occurs k (row ∷ rows) → (if e then row.1 else state_of k rows) ≡ state_at s k
 found_by s row rows k true e has rest there = sym has.0 ∙ ap (λ j. state_at s j) (eqb-true row.0 k e)
 found_by s row rows k false e has rest (inl same) = absurd (let bad : false ≡ true = sym e ∙ eq-eqb row.0 k same in cc)
 found_by s row rows k false e has rest (inr there) = rest there
 
-found : (s : List State) (rows : Rows) (k : ℕ) → Has s rows → Occurs k rows → state_of k rows ≡ state_at s k
+found : (s : List State) (rows : Rows) (k : ℕ) → HasRows s rows → Occurs k rows → state_of k rows ≡ state_at s k
 found s [] k has there = absurd there
 found s (row ∷ rows) k has there = found_by s row rows k (row.0 == k) refl has (found s rows k has.1) there
 
-all_found : (s : List State) (rows : Rows) (ks : List ℕ) → Has s rows → AllOccur ks rows → with_states rows ks ≡ listed s ks
+all_found : (s : List State) (rows : Rows) (ks : List ℕ) → HasRows s rows → AllOccur ks rows → with_states rows ks ≡ listed s ks
 all_found s rows [] has there = refl
 all_found s rows (k ∷ ks) has there = ap (λ st. (k, st) ∷ with_states rows ks) (found s rows k has there.0) ∙ ap (λ es. (k, state_at s k) ∷ es)
     (all_found s rows ks has there.1)
 
 -- the states of a header's ends are those of the table
-pub ends_listed : (b : Behaviour) (s : List State) (h : Trees) (x : Flow) → Has s (member_rows b h x)
+pub ends_listed : (b : Behaviour) (s : List State) (h : Trees) (x : Flow) → HasRows s (member_rows b h x)
     → with_states (member_rows b h x) (all_ends h) ≡ listed s (all_ends h)
 ends_listed b s h x has = all_found s (member_rows b h x) (all_ends h) has (all_occur b h x)

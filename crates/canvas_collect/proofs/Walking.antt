@@ -14,7 +14,7 @@ use Rattle.canvas_rewrite.specs.FrozenView.{line_in, lines_of}
 use Rattle.canvas_rewrite.specs.declared.frozen.FrozenLine.{FrozenLine}
 use Rattle.canvas_collect.specs.declared.completing.Flow as known
 use Rattle.canvas_collect.specs.steps.Flows.{IsKnown, Within, Reaches, ReachesAll}
-use Rattle.canvas_collect.specs.Completed.{Has}
+use Rattle.canvas_collect.specs.Completed.{HasRows}
 use Rattle.canvas_collect.proofs.Reached.{has_split, meaning_rows}
 
 pub dropped : {A : Type 0} (xs : List A) (i : ℕ) (x : A) → i < length xs → x ≡ get_or xs i x → drop i xs ≡ x ∷ drop (i + 1) xs
@@ -30,11 +30,11 @@ nothing_left (x ∷ xs) (suc i) h = nothing_left xs i (omega (arith, h))
 
 module _ (table : ℕ → List ℕ) where
   pub stepped : (flow : known.Flow) (u : Task) (l : Line) (s : List State) → Reaches table flow (step u l) s
-      → (b : Behaviour) × (x : Flow) × IsKnown flow x × Has s (task_rows b u (Some x))
+      → (b : Behaviour) × (x : Flow) × IsKnown flow x × HasRows s (task_rows b u (Some x))
       × ((next : known.Flow) → IsKnown next (task_meaning b u x).out → Reaches table next l s)
   stepped flow u l s (b, x, low, high, told, (middle, first, rest), has) =
       let both = has_split s (task_meaning b u x).rows (eval_chain b (elements_of l) (task_meaning b u x).out).rows has in
-      let P : Rows → Type 0 = λ rows. Has s rows in
+      let P : Rows → Type 0 = λ rows. HasRows s rows in
       (b, x, told, subst P (meaning_rows b u x) both.0, λ next out. (b, (task_meaning b u x).out, middle, high, out, rest, both.1))
 
   pub members_next : (flow : known.Flow) (l : FrozenLine) (ls : List FrozenLine) (s : List State) → ReachesAll table flow (lines_of (map line_in (l ∷ ls))) s
@@ -49,7 +49,7 @@ module _ (table : ℕ → List ℕ) where
 
   pub of_chord : (flow : known.Flow) (g : ℕ) (ms : Lines) (body : Line) (s : List State) → Reaches table flow (chord_end g ms body) s
       → ReachesAll table flow ms s
-      × ((b : Behaviour) × (x : Flow) × (table g ≡ all_ends (members_of ms)) × IsKnown flow x × Has s (member_rows b (members_of ms) x)
+      × ((b : Behaviour) × (x : Flow) × (table g ≡ all_ends (members_of ms)) × IsKnown flow x × HasRows s (member_rows b (members_of ms) x)
       × ((next : known.Flow) → IsKnown next (as_group x (members_of ms) (member_rows b (members_of ms) x)).out → Reaches table next body s))
   of_chord flow g ms body s (b, x, low, high, told, (middle, inside, behind, named), has) =
       let rows = member_rows b (members_of ms) x in
@@ -62,15 +62,15 @@ module _ (table : ℕ → List ℕ) where
 
 -- ---- the table of a plan
 
-own_rows : (front ss : List State) → Has (front ++ ss) (rows_from (suc (length front)) ss)
+own_rows : (front ss : List State) → HasRows (front ++ ss) (rows_from (suc (length front)) ss)
 own_rows front [] = tt
 own_rows front (s ∷ ss) =
     let place : suc (length front) - 1 ≡ length front = omega arith in
     let here : get_or (front ++ s ∷ ss) (suc (length front) - 1) None ≡ s =
     ap (λ i. get_or (front ++ s ∷ ss) i None) place ∙ get_or_at front s ss None (length front) refl in
     let longer : length (front ++ s ∷ []) ≡ suc (length front) = length-append front (s ∷ []) ∙ (omega arith) in
-    let P : List State → Type 0 = λ all. Has all (rows_from (suc (length (front ++ s ∷ []))) ss) in
-    let Q : ℕ → Type 0 = λ k. Has (front ++ s ∷ ss) (rows_from (suc k) ss) in
+    let P : List State → Type 0 = λ all. HasRows all (rows_from (suc (length (front ++ s ∷ []))) ss) in
+    let Q : ℕ → Type 0 = λ k. HasRows (front ++ s ∷ ss) (rows_from (suc k) ss) in
     (here, subst Q longer (subst P (append_assoc front (s ∷ []) ss) (own_rows (front ++ s ∷ []) ss)))
 
 pub table_rows : (b : Behaviour) (l : Line) → number_line 1 1 l ≡ l → rows_from 1 (states b (tree_of l)) ≡ (eval_chain b (elements_of l) nothing).rows
@@ -79,8 +79,8 @@ table_rows b l planned =
     let P : Tree → Type 0 = λ c. rows_from 1 (states b c) ≡ (eval b c nothing).rows in
     subst P same (states_whole b (tree_of l))
 
-pub table_has : (b : Behaviour) (l : Line) → number_line 1 1 l ≡ l → Has (states b (tree_of l)) (eval_chain b (elements_of l) nothing).rows
-table_has b l planned = let Q : Rows → Type 0 = λ rs. Has (states b (tree_of l)) rs in subst Q (table_rows b l planned) (own_rows [] (states b (tree_of l)))
+pub table_has : (b : Behaviour) (l : Line) → number_line 1 1 l ≡ l → HasRows (states b (tree_of l)) (eval_chain b (elements_of l) nothing).rows
+table_has b l planned = let Q : Rows → Type 0 = λ rs. HasRows (states b (tree_of l)) rs in subst Q (table_rows b l planned) (own_rows [] (states b (tree_of l)))
 
 -- ---- two lists of rows
 

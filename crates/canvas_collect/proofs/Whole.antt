@@ -14,13 +14,13 @@ use Rattle.canvas_rewrite.specs.FrozenView.{task_in, line_in, lines_of, steps_on
 use Rattle.canvas_rewrite.specs.declared.frozen.FrozenTask.{FrozenTask, out-FrozenTask}
 use Rattle.canvas_rewrite.specs.declared.frozen.FrozenLine.{FrozenLine}
 use Rattle.canvas_collect.specs.Called.{if_called, task_called, tasks_called, called, chain_called, members_called}
-use Rattle.canvas_collect.specs.Completed.{Has, Keeps, state_at}
+use Rattle.canvas_collect.specs.Completed.{HasRows, Keeps, state_at}
 use Rattle.canvas_collect.specs.declared.completing.Flow as known
 use Rattle.canvas_collect.specs.steps.Flows.{IsValue, IsKnown, IsTold, Within, AllThere, Leaves, LeavesAll}
 use Rattle.canvas_collect.proofs.KeptRows.{kept_trans}
 use Rattle.canvas_collect.proofs.Reached.{has_split, meaning_rows, parts}
 
-pub has_join : (s : List State) (a b : Rows) → Has s a → Has s b → Has s (a ++ b)
+pub has_join : (s : List State) (a b : Rows) → HasRows s a → HasRows s b → HasRows s (a ++ b)
 has_join s [] b h i = i
 has_join s (r ∷ a) b h i = (h.0, has_join s a b h.1 i)
 
@@ -33,7 +33,7 @@ kept_row old new s k None keeps w table had = none_in (state_at new k) (state_at
 kept_row old new s k (Some o) keeps w table had = keeps.stays (k - 1) o had
 
 -- rows of the table stay where outcomes are kept
-pub has_kept : (old new s : List State) (rows : Rows) → Keeps old new → Within new s → Has s rows → Has old rows → Has new rows
+pub has_kept : (old new s : List State) (rows : Rows) → Keeps old new → Within new s → HasRows s rows → HasRows old rows → HasRows new rows
 has_kept old new s [] keeps w table had = tt
 has_kept old new s (r ∷ rows) keeps w table had = (kept_row old new s r.0 r.1 keeps w table.0 had.0, has_kept old new s rows keeps w table.1 had.1)
 
@@ -71,7 +71,8 @@ can_call_back k (Some (raised g)) (Some (Success n)) = tt
 can_call_back k (Some (raised g)) (Some (Failure f)) = tt
 
 module _ (b : Behaviour) (r s : List State) (w : Within r s) where
-  own_there : (k : ℕ) (call : Call) (x : Option Flow) (rest : Rows) → CanCall x → state_at s k ≡ state b call x → Has r (if_called x k (state b call x) ++ rest)
+  own_there : (k : ℕ) (call : Call) (x : Option Flow) (rest : Rows) → CanCall x → state_at s k ≡ state b call x
+      → HasRows r (if_called x k (state b call x) ++ rest)
       → state_at r k ≡ state b call x
   own_there k call None rest can table has = none_in (state_at r k) (state_at s k) None (w (k - 1)) table refl
   own_there k call (Some nothing) rest can table has = has.0
@@ -82,10 +83,10 @@ module _ (b : Behaviour) (r s : List State) (w : Within r s) where
   own_there k call (Some (raised f)) rest can table has = absurd can
 
   -- links and error callbacks: their rows in the table, and those of the ones that are called
-  split_behind : (k : ℕ) (call : Call) (ls es : Tasks) (x : Option Flow) → Has s (task_rows b (task k call ls es) x)
-      → Has r (task_called b (task k call ls es) x)
-      → (Has s (tasks_rows b ls (to_links (state b call x))) × Has r (tasks_called b ls (to_links (state b call x))))
-      × (Has s (tasks_rows b es (to_errbacks k x (state b call x))) × Has r (tasks_called b es (to_errbacks k x (state b call x))))
+  split_behind : (k : ℕ) (call : Call) (ls es : Tasks) (x : Option Flow) → HasRows s (task_rows b (task k call ls es) x)
+      → HasRows r (task_called b (task k call ls es) x)
+      → (HasRows s (tasks_rows b ls (to_links (state b call x))) × HasRows r (tasks_called b ls (to_links (state b call x))))
+      × (HasRows s (tasks_rows b es (to_errbacks k x (state b call x))) × HasRows r (tasks_called b es (to_errbacks k x (state b call x))))
   split_behind k call ls es x table calls =
       let st = state b call x in
       let l = to_links st in
@@ -96,7 +97,7 @@ module _ (b : Behaviour) (r s : List State) (w : Within r s) where
       ((both.0, had.0), (both.1, had.1))
 
   mutual
-    task_there : (t : Task) (x : Option Flow) → CanCall x → Has s (task_rows b t x) → Has r (task_called b t x) → Has r (task_rows b t x)
+    task_there : (t : Task) (x : Option Flow) → CanCall x → HasRows s (task_rows b t x) → HasRows r (task_called b t x) → HasRows r (task_rows b t x)
     task_there (task k call ls es) x can table calls =
         let l = to_links (state b call x) in
         let e = to_errbacks k x (state b call x) in
@@ -105,15 +106,15 @@ module _ (b : Behaviour) (r s : List State) (w : Within r s) where
         let errbacks = tasks_there es e (can_call_back k x (state b call x)) q.1.0 q.1.1 in
         (own_there k call x _ can table.0 calls, has_join r (tasks_rows b ls l) (tasks_rows b es e) links errbacks)
 
-    tasks_there : (ts : Tasks) (x : Option Flow) → CanCall x → Has s (tasks_rows b ts x) → Has r (tasks_called b ts x) → Has r (tasks_rows b ts x)
+    tasks_there : (ts : Tasks) (x : Option Flow) → CanCall x → HasRows s (tasks_rows b ts x) → HasRows r (tasks_called b ts x) → HasRows r (tasks_rows b ts x)
     tasks_there no_tasks x can table calls = tt
     tasks_there (and_task t ts) x can table calls =
         let both = has_split s (task_rows b t x) (tasks_rows b ts x) table in
         let had = has_split r (task_called b t x) (tasks_called b ts x) calls in
         has_join r (task_rows b t x) (tasks_rows b ts x) (task_there t x can both.0 had.0) (tasks_there ts x can both.1 had.1)
 
-  own_row : (k : ℕ) (call : Call) (ls es : Tasks) (x : Flow) → state_at r k ≡ state_at s k → Has s (task_rows b (task k call ls es) (Some x))
-      → Has r (task_called b (task k call ls es) (Some x)) → Has r (task_rows b (task k call ls es) (Some x))
+  own_row : (k : ℕ) (call : Call) (ls es : Tasks) (x : Flow) → state_at r k ≡ state_at s k → HasRows s (task_rows b (task k call ls es) (Some x))
+      → HasRows r (task_called b (task k call ls es) (Some x)) → HasRows r (task_rows b (task k call ls es) (Some x))
   own_row k call ls es x same table calls =
       let st = state b call (Some x) in
       let l = to_links st in
@@ -123,29 +124,30 @@ module _ (b : Behaviour) (r s : List State) (w : Within r s) where
       let errbacks = tasks_there es e (can_call_back k (Some x) st) q.1.0 q.1.1 in
       (same ∙ table.0, has_join r (tasks_rows b ls l) (tasks_rows b es e) links errbacks)
 
-  own_value : (k : ℕ) (call : Call) (ls es : Tasks) (x : Flow) → IsValue x → Has s (task_rows b (task k call ls es) (Some x))
-      → Has r (task_called b (task k call ls es) (Some x))
+  own_value : (k : ℕ) (call : Call) (ls es : Tasks) (x : Flow) → IsValue x → HasRows s (task_rows b (task k call ls es) (Some x))
+      → HasRows r (task_called b (task k call ls es) (Some x))
       → state_at r k ≡ state_at s k
   own_value k call ls es x value table calls = own_there k call (Some x) _ value table.0 calls ∙ sym table.0
 
   -- of a task of the code whose own row is that of the table
-  pub task_whole : (t : FrozenTask) (x : Flow) → state_at r (out-FrozenTask t).no ≡ state_at s (out-FrozenTask t).no → Has s (task_rows b (task_in t) (Some x))
-      → Has r (task_called b (task_in t) (Some x)) → Has r (task_rows b (task_in t) (Some x))
+  pub task_whole : (t : FrozenTask) (x : Flow) → state_at r (out-FrozenTask t).no ≡ state_at s (out-FrozenTask t).no
+      → HasRows s (task_rows b (task_in t) (Some x))
+      → HasRows r (task_called b (task_in t) (Some x)) → HasRows r (task_rows b (task_in t) (Some x))
   task_whole t x same =
-      let P : Task → Type 0 = λ u. Has s (task_rows b u (Some x)) → Has r (task_called b u (Some x)) → Has r (task_rows b u (Some x)) in
+      let P : Task → Type 0 = λ u. HasRows s (task_rows b u (Some x)) → HasRows r (task_called b u (Some x)) → HasRows r (task_rows b u (Some x)) in
       subst P (sym (parts t).is) (own_row (out-FrozenTask t).no (parts t).call _ _ x same)
 
-  pub called_row : (t : FrozenTask) (x : Flow) → IsValue x → Has s (task_rows b (task_in t) (Some x)) → Has r (task_called b (task_in t) (Some x))
+  pub called_row : (t : FrozenTask) (x : Flow) → IsValue x → HasRows s (task_rows b (task_in t) (Some x)) → HasRows r (task_called b (task_in t) (Some x))
       → state_at r (out-FrozenTask t).no ≡ state_at s (out-FrozenTask t).no
   called_row t x value =
       let P : Task → Type 0 =
-      λ u. Has s (task_rows b u (Some x)) → Has r (task_called b u (Some x)) → state_at r (out-FrozenTask t).no ≡ state_at s (out-FrozenTask t).no in
+      λ u. HasRows s (task_rows b u (Some x)) → HasRows r (task_called b u (Some x)) → state_at r (out-FrozenTask t).no ≡ state_at s (out-FrozenTask t).no in
       subst P (sym (parts t).is) (own_value (out-FrozenTask t).no (parts t).call _ _ x value)
 
 -- ---- what is called is among the rows
 
 module _ (b : Behaviour) (s : List State) where
-  own_called : (x : Option Flow) (k : ℕ) (st : State) → state_at s k ≡ st → Has s (if_called x k st)
+  own_called : (x : Option Flow) (k : ℕ) (st : State) → state_at s k ≡ st → HasRows s (if_called x k st)
   own_called None k st h = tt
   own_called (Some nothing) k st h = (h, tt)
   own_called (Some (num n)) k st h = (h, tt)
@@ -155,7 +157,7 @@ module _ (b : Behaviour) (s : List State) where
   own_called (Some (raised f)) k st h = tt
 
   mutual
-    task_among : (t : Task) (x : Option Flow) → Has s (task_rows b t x) → Has s (task_called b t x)
+    task_among : (t : Task) (x : Option Flow) → HasRows s (task_rows b t x) → HasRows s (task_called b t x)
     task_among (task k call ls es) x has =
         let l = to_links (state b call x) in
         let e = to_errbacks k x (state b call x) in
@@ -163,14 +165,14 @@ module _ (b : Behaviour) (s : List State) where
         has_join s (if_called x k (state b call x)) (tasks_called b ls l ++ tasks_called b es e) (own_called x k (state b call x) has.0)
         (has_join s (tasks_called b ls l) (tasks_called b es e) (tasks_among ls l both.0) (tasks_among es e both.1))
 
-    pub tasks_among : (ts : Tasks) (x : Option Flow) → Has s (tasks_rows b ts x) → Has s (tasks_called b ts x)
+    pub tasks_among : (ts : Tasks) (x : Option Flow) → HasRows s (tasks_rows b ts x) → HasRows s (tasks_called b ts x)
     tasks_among no_tasks x has = tt
     tasks_among (and_task t ts) x has =
         let both = has_split s (task_rows b t x) (tasks_rows b ts x) has in
         has_join s (task_called b t x) (tasks_called b ts x) (task_among t x both.0) (tasks_among ts x both.1)
 
   mutual
-    tree_among : (t : Tree) (x : Flow) → Has s (eval b t x).rows → Has s (called b t x)
+    tree_among : (t : Tree) (x : Flow) → HasRows s (eval b t x).rows → HasRows s (called b t x)
     tree_among (one (task k call ls es)) x has = task_among (task k call ls es) (Some x) has
     tree_among (chain ts) x has = chain_among ts x has
     tree_among (group g ms) x has = members_among ms x has
@@ -179,21 +181,22 @@ module _ (b : Behaviour) (s : List State) where
         let both = has_split s (member_rows b h x) (eval b t out).rows has in
         has_join s (members_called b h x) (called b t out) (members_among h x both.0) (tree_among t out both.1)
 
-    pub chain_among : (ts : Trees) (x : Flow) → Has s (eval_chain b ts x).rows → Has s (chain_called b ts x)
+    pub chain_among : (ts : Trees) (x : Flow) → HasRows s (eval_chain b ts x).rows → HasRows s (chain_called b ts x)
     chain_among no_trees x has = tt
     chain_among (and_tree t ts) x has =
         let out = (eval b t x).out in
         let both = has_split s (eval b t x).rows (eval_chain b ts out).rows has in
         has_join s (called b t x) (chain_called b ts out) (tree_among t x both.0) (chain_among ts out both.1)
 
-    pub members_among : (ms : Trees) (x : Flow) → Has s (member_rows b ms x) → Has s (members_called b ms x)
+    pub members_among : (ms : Trees) (x : Flow) → HasRows s (member_rows b ms x) → HasRows s (members_called b ms x)
     members_among no_trees x has = tt
     members_among (and_tree t ts) x has =
         let both = has_split s (eval b t x).rows (member_rows b ts x) has in
         has_join s (called b t x) (members_called b ts x) (tree_among t x both.0) (members_among ts x both.1)
 
-pub calls_kept : (b : Behaviour) (t : FrozenTask) (old new s : List State) (x : Flow) → Keeps old new → Within new s → Has s (task_rows b (task_in t) (Some x))
-    → Has old (task_called b (task_in t) (Some x)) → Has new (task_called b (task_in t) (Some x))
+pub calls_kept : (b : Behaviour) (t : FrozenTask) (old new s : List State) (x : Flow) → Keeps old new → Within new s
+    → HasRows s (task_rows b (task_in t) (Some x))
+    → HasRows old (task_called b (task_in t) (Some x)) → HasRows new (task_called b (task_in t) (Some x))
 calls_kept b t old new s x keeps w table calls = has_kept old new s (task_called b (task_in t) (Some x)) keeps w
     (task_among b s (task_in t) (Some x) table) calls
 
@@ -207,15 +210,15 @@ some_state b call (id j) = refl
 some_state b call (skip f) = refl
 some_state b call (raised f) = refl
 
-outcome_task : (b : Behaviour) (s : List State) (k : ℕ) (call : Call) (ls es : Tasks) (x : Flow) → Has s (task_rows b (task k call ls es) (Some x))
+outcome_task : (b : Behaviour) (s : List State) (k : ℕ) (call : Call) (ls es : Tasks) (x : Flow) → HasRows s (task_rows b (task k call ls es) (Some x))
     → IsSome (state_at s k)
 outcome_task b s k call ls es x has = let P : State → Type 0 = λ st. IsSome st in subst P (sym has.0) (some_state b call x)
 
 -- a task into which something flows has an outcome
-pub outcome_of : (b : Behaviour) (s : List State) (t : FrozenTask) (x : Flow) → Has s (task_rows b (task_in t) (Some x))
+pub outcome_of : (b : Behaviour) (s : List State) (t : FrozenTask) (x : Flow) → HasRows s (task_rows b (task_in t) (Some x))
     → IsSome (state_at s (out-FrozenTask t).no)
 outcome_of b s t x =
-    let P : Task → Type 0 = λ u. Has s (task_rows b u (Some x)) → IsSome (state_at s (out-FrozenTask t).no) in
+    let P : Task → Type 0 = λ u. HasRows s (task_rows b u (Some x)) → IsSome (state_at s (out-FrozenTask t).no) in
     subst P (sym (parts t).is) (outcome_task b s (out-FrozenTask t).no (parts t).call _ _ x)
 
 all_join : (r : List State) (ks js : List ℕ) → AllThere r ks → AllThere r js → AllThere r (ks ++ js)
@@ -224,20 +227,20 @@ all_join r (k ∷ ks) js h i = (h.0, all_join r ks js h.1 i)
 
 module _ (b : Behaviour) (r : List State) where
   mutual
-    ends_there : (t : Tree) (x : Flow) → Has r (eval b t x).rows → AllThere r (ends t)
+    ends_there : (t : Tree) (x : Flow) → HasRows r (eval b t x).rows → AllThere r (ends t)
     ends_there (one (task k call ls es)) x has = (let P : State → Type 0 = λ st. IsSome st in subst P (sym has.0) (some_state b call x), tt)
     ends_there (chain ts) x has = last_there ts x has
     ends_there (group g ms) x has = all_there ms x has
     ends_there (chord g h t) x has =
         let out = (as_group x h (member_rows b h x)).out in ends_there t out (has_split r (member_rows b h x) (eval b t out).rows has).1
 
-    last_there : (ts : Trees) (x : Flow) → Has r (eval_chain b ts x).rows → AllThere r (last_ends ts)
+    last_there : (ts : Trees) (x : Flow) → HasRows r (eval_chain b ts x).rows → AllThere r (last_ends ts)
     last_there no_trees x has = tt
     last_there (and_tree t no_trees) x has = ends_there t x (has_split r (eval b t x).rows [] has).0
     last_there (and_tree t (and_tree u ts)) x has =
         let out = (eval b t x).out in last_there (and_tree u ts) out (has_split r (eval b t x).rows (eval_chain b (and_tree u ts) out).rows has).1
 
-    pub all_there : (ms : Trees) (x : Flow) → Has r (member_rows b ms x) → AllThere r (all_ends ms)
+    pub all_there : (ms : Trees) (x : Flow) → HasRows r (member_rows b ms x) → AllThere r (all_ends ms)
     all_there no_trees x has = tt
     all_there (and_tree t ts) x has =
         let both = has_split r (eval b t x).rows (member_rows b ts x) has in
@@ -254,29 +257,29 @@ module _ (b : Behaviour) where
   -- behind a task whose rows are all there
   pub goes_on : (u : Task) (l : Line) (all : Rows) (flow next : known.Flow) (old new s : List State) (before : Leaves b (step u l) all flow old s)
       → Keeps old new → Within new s
-      → Has new (task_rows b u (Some before.0)) → IsKnown next (task_meaning b u before.0).out → IsTold next → Leaves b l all next new s
+      → HasRows new (task_rows b u (Some before.0)) → IsKnown next (task_meaning b u before.0).out → IsTold next → Leaves b l all next new s
   goes_on u l all flow next old new s (x, known, told, table, called, rest) keeps w done out on =
       let y = (task_meaning b u x).out in
-      let P : Rows → Type 0 = λ rows. Has s rows in
+      let P : Rows → Type 0 = λ rows. HasRows s rows in
       let both = has_split s (task_meaning b u x).rows (eval_chain b (elements_of l) y).rows table in
       let calls = has_split old (task_called b u (Some x)) (chain_called b (elements_of l) y) called in
-      let own : Has s (task_rows b u (Some x)) = subst P (meaning_rows b u x) both.0 in (
+      let own : HasRows s (task_rows b u (Some x)) = subst P (meaning_rows b u x) both.0 in (
         y,
         out,
         on,
         both.1,
         has_kept old new s (chain_called b (elements_of l) y) keeps w (chain_among b s (elements_of l) y both.1) calls.1,
         λ later stay inside had.
-            let Q : Rows → Type 0 = λ rows. Has later rows in
+            let Q : Rows → Type 0 = λ rows. HasRows later rows in
             let first = subst Q (sym (meaning_rows b u x)) (has_kept new later s (task_rows b u (Some x)) stay inside own done) in
             rest later (kept_trans old new later keeps stay) inside (has_join later (task_meaning b u x).rows (eval_chain b (elements_of l) y).rows first had),
       )
 
   pub task_left : (u : Task) (l : Line) (all : Rows) (flow : known.Flow) (rows s : List State) (before : Leaves b (step u l) all flow rows s)
-      → Has s (task_rows b u (Some before.0)) × Has rows (task_called b u (Some before.0))
+      → HasRows s (task_rows b u (Some before.0)) × HasRows rows (task_called b u (Some before.0))
   task_left u l all flow rows s (x, told, on, table, calls, rest) =
       let y = (task_meaning b u x).out in
-      let P : Rows → Type 0 = λ es. Has s es in (
+      let P : Rows → Type 0 = λ es. HasRows s es in (
         subst P (meaning_rows b u x) (has_split s (task_meaning b u x).rows (eval_chain b (elements_of l) y).rows table).0,
         (has_split rows (task_called b u (Some x)) (chain_called b (elements_of l) y) calls).0,
       )
@@ -299,7 +302,7 @@ module _ (b : Behaviour) where
 
   pub others_left : (l : FrozenLine) (ls : List FrozenLine) (all : Rows) (flow : known.Flow) (old new s : List State)
       → (before : LeavesAll b (lines_of (map line_in (l ∷ ls))) all flow old s) → Keeps old new → Within new s
-      → Has new (eval_chain b (elements_of (line_in l)) before.0).rows → LeavesAll b (lines_of (map line_in ls)) all flow new s
+      → HasRows new (eval_chain b (elements_of (line_in l)) before.0).rows → LeavesAll b (lines_of (map line_in ls)) all flow new s
   others_left l ls all flow old new s (x, told, on, table, calls, rest) keeps w done =
       let ms = members_of (lines_of (map line_in ls)) in
       let own = elements_of (line_in l) in
@@ -330,7 +333,7 @@ module _ (b : Behaviour) where
 
   pub group_whole : (g : ℕ) (ms : Lines) (all : Rows) (flow : known.Flow) (old new s : List State) (before : Leaves b (group_end g ms) all flow old s)
       → Keeps old new → Within new s
-      → Has new (member_rows b (members_of ms) before.0) → Has new all
+      → HasRows new (member_rows b (members_of ms) before.0) → HasRows new all
   group_whole g ms all flow old new s (x, told, on, table, calls, rest) keeps w done = rest new keeps w
       (has_join new (member_rows b (members_of ms) x) [] done tt)
 
@@ -352,7 +355,7 @@ module _ (b : Behaviour) where
 
   pub header_table : (g : ℕ) (ms : Lines) (body : Line) (all : Rows) (flow : known.Flow) (rows s : List State)
       (before : Leaves b (chord_end g ms body) all flow rows s)
-      → Has s (member_rows b (members_of ms) before.0)
+      → HasRows s (member_rows b (members_of ms) before.0)
   header_table g ms body all flow rows s (x, told, on, table, calls, rest) =
       let es = member_rows b (members_of ms) x in
       let tail = eval_chain b (elements_of body) (as_group x (members_of ms) es).out in
@@ -360,7 +363,7 @@ module _ (b : Behaviour) where
 
   pub body_left : (g : ℕ) (ms : Lines) (body : Line) (all : Rows) (flow into : known.Flow) (old new s : List State)
       (before : Leaves b (chord_end g ms body) all flow old s)
-      → Keeps old new → Within new s → Has new (member_rows b (members_of ms) before.0)
+      → Keeps old new → Within new s → HasRows new (member_rows b (members_of ms) before.0)
       → IsKnown into (as_group before.0 (members_of ms) (member_rows b (members_of ms) before.0)).out → IsTold into → Leaves b body all into new s
   body_left g ms body all flow into old new s (x, told, on, table, calls, rest) keeps w done known going =
       let h = members_of ms in
@@ -386,7 +389,7 @@ tail_in table (t ∷ ts) l low high (middle, first, rest) = tail_in table ts l m
 
 -- ---- a list that has the rows of another is that
 
-same_list : (front rs ss : List State) → Has (front ++ rs) (rows_from (suc (length front)) ss) → length rs ≡ length ss → rs ≡ ss
+same_list : (front rs ss : List State) → HasRows (front ++ rs) (rows_from (suc (length front)) ss) → length rs ≡ length ss → rs ≡ ss
 same_list front [] [] has e = refl
 same_list front [] (s ∷ ss) has e = absurd (omega (arith, e))
 same_list front (r ∷ rs) [] has e = absurd (omega (arith, e))
@@ -394,10 +397,10 @@ same_list front (r ∷ rs) (s ∷ ss) has e =
     let place : suc (length front) - 1 ≡ length front = omega arith in
     let here : r ≡ s = sym (get_or_at front r rs None (length front) refl) ∙ (ap (λ i. get_or (front ++ r ∷ rs) i None) (sym place) ∙ has.0) in
     let longer : length (front ++ r ∷ []) ≡ suc (length front) = length-append front (r ∷ []) ∙ (omega arith) in
-    let P : List State → Type 0 = λ all. Has all (rows_from (suc (suc (length front))) ss) in
-    let Q : ℕ → Type 0 = λ k. Has ((front ++ r ∷ []) ++ rs) (rows_from (suc k) ss) in
+    let P : List State → Type 0 = λ all. HasRows all (rows_from (suc (suc (length front))) ss) in
+    let Q : ℕ → Type 0 = λ k. HasRows ((front ++ r ∷ []) ++ rs) (rows_from (suc k) ss) in
     let rest = same_list (front ++ r ∷ []) rs ss (subst Q (sym longer) (subst P (sym (append_assoc front (r ∷ []) rs)) has.1)) (omega (arith, e)) in
     ap (λ x. x ∷ rs) here ∙ ap (λ xs. s ∷ xs) rest
 
-pub is_table : (rs ss : List State) → Has rs (rows_from 1 ss) → length rs ≡ length ss → rs ≡ ss
+pub is_table : (rs ss : List State) → HasRows rs (rows_from 1 ss) → length rs ≡ length ss → rs ≡ ss
 is_table rs ss has e = same_list [] rs ss has e

@@ -49,8 +49,8 @@ Refuses run count k line fault =
     (d : Data) × IsResult run k line d × RefusesResult run count d fault
 
 -- the lines before that of the task say rows, and that is refused
-abbrev pub FirstRefused : (run : Text) → (count : ℕ) → List Text → ℕ → StoredFault → Type 0
-FirstRefused run count lines task fault =
+abbrev pub RefusesFirst : (run : Text) → (count : ℕ) → List Text → ℕ → StoredFault → Type 0
+RefusesFirst run count lines task fault =
     (before : List Text) × (rows : List (Option Outcome)) × (line : Text) × (after : List Text)
     × (lines ≡ before ++ line ∷ after) × (task ≡ length before + 1)
     × AllSaid run count 1 before rows × Refuses run count task line fault
@@ -59,5 +59,5 @@ FirstRefused run count lines task fault =
 abbrev pub IsCollectFault : (run : Text) → (count : ℕ) → List Text → CollectFault → Type 0
 IsCollectFault run count lines fault.BadCount = length lines ≢ count
 IsCollectFault run count lines (fault.Stored task fault) =
-    (length lines ≡ count) × FirstRefused run count lines task fault
+    (length lines ≡ count) × RefusesFirst run count lines task fault
 IsCollectFault run count lines fault.Memory = Unit {0}

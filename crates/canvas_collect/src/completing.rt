@@ -14,7 +14,7 @@ ghost use Rattle.canvas_semantics.specs.States.{states, EachMay};
 ghost use Rattle.canvas_semantics.specs.Tree.{Trees};
 ghost use Rattle.canvas_rewrite.specs.FrozenView.{task_in, line_in, end_in, lines_of, steps_onto};
 ghost use Rattle.canvas_collect.specs.Called.{called};
-ghost use Rattle.canvas_collect.specs.Completed.{Has, Keeps, state_at};
+ghost use Rattle.canvas_collect.specs.Completed.{HasRows, Keeps, state_at};
 ghost use Rattle.canvas_collect.specs.steps.Flows.{IsKnown, IsTold, Within, AllThere, listed};
 ghost use Rattle.canvas_collect.specs.steps.Flows.{Reaches, ReachesAll, Leaves, LeavesAll};
 
@@ -168,10 +168,10 @@ fn gathered(rows: &[Option<Outcome>], lasts: &[TaskNo]) -> Flow
 fn header_flow(plan: &Plan, rows: &[Option<Outcome>], group: GroupNo, flow: &Flow) -> Flow
     ensures told { (b : Behaviour) (x : flow_of) (h : Trees)
         → members plan.now group ≡ all_ends h → IsTold flow.now
-        → Has rows.now (member_rows b h x) → IsTold result }
+        → HasRows rows.now (member_rows b h x) → IsTold result }
     ensures known { (s : List State) (b : Behaviour) (x : flow_of) (h : Trees)
         → members plan.now group ≡ all_ends h → IsKnown flow.now x
-        → Has s (member_rows b h x) → Within rows.now s
+        → HasRows s (member_rows b h x) → Within rows.now s
         → IsKnown result (as_group x h (member_rows b h x)).out }
 {
     let members = plan.members(group);
@@ -216,7 +216,7 @@ fn complete_all(plan: &Plan, rows: &mut [Option<Outcome>], lines: &[FrozenLine],
         → LeavesAll b (lines_of (map line_in lines.now)) all flow.now rows.old s
         → LinesIn (λ g. members plan.now g) (lines_of (map line_in lines.now)) low high
         → Within rows.old s → length rows.old ≡ length s
-        → Within rows.new s × Has rows.new all }
+        → Within rows.new s × HasRows rows.new all }
 {
     for line in lines {
         complete_line(plan, rows, line, flow);
@@ -234,7 +234,7 @@ fn complete_end(plan: &Plan, rows: &mut [Option<Outcome>], end: &FrozenEnd, flow
         → Leaves b (end_in end.now) all flow.now rows.old s
         → LineIn (λ g. members plan.now g) (end_in end.now) low high
         → Within rows.old s → length rows.old ≡ length s
-        → Within rows.new s × Has rows.new all }
+        → Within rows.new s × HasRows rows.new all }
 {
     complete_all(plan, rows, end.members.get(), flow);
     match &end.body {
@@ -257,7 +257,7 @@ fn complete_line(plan: &Plan, rows: &mut [Option<Outcome>], line: &FrozenLine, f
         → Leaves b (line_in line.now) all flow.now rows.old s
         → LineIn (λ g. members plan.now g) (line_in line.now) low high
         → Within rows.old s → length rows.old ≡ length s
-        → Within rows.new s × Has rows.new all }
+        → Within rows.new s × HasRows rows.new all }
 {
     let last = complete_tasks(rows, line.tasks.get(), *flow);
     match &line.tail {
@@ -274,7 +274,7 @@ pub fn complete(plan: &Plan, rows: ListOf<Option<Outcome>>) -> ListOf<Option<Out
     ensures within { (behaviour : Behaviour) → EachMay rows (states behaviour (tree_of plan.now))
         → EachMay result (states behaviour (tree_of plan.now)) }
     ensures whole { (behaviour : Behaviour) → EachMay rows (states behaviour (tree_of plan.now))
-        → Has rows (called behaviour (tree_of plan.now) nothing)
+        → HasRows rows (called behaviour (tree_of plan.now) nothing)
         → result ≡ states behaviour (tree_of plan.now) }
 {
     let mut rows = rows.into_plain();

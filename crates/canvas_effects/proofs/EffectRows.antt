@@ -19,7 +19,7 @@ use Rattle.canvas_rewrite.specs.FrozenView.{PCarried}
 use Rattle.canvas_semantics.specs.PlacedLine.{PTask, p_task, PTasks, no_p_tasks, and_p_task, p_nowhere, p_chord, p_stop, bare, bare_task, bare_tasks}
 use Rattle.canvas_message.specs.Content.{Content, number_of}
 use Rattle.canvas_effects.specs.Effects.{after, body_after, first_messages}
-use Rattle.canvas_effects.specs.Events.{Items, evaluated}
+use Rattle.canvas_effects.specs.Events.{EventJobs, evaluated}
 use Rattle.canvas_effects.specs.Job as job
 use Rattle.canvas_effects.specs.Job.{store, publish}
 
@@ -65,7 +65,7 @@ abbrev raised_by : ℕ → Why → Outcome
 raised_by k w = Failure (fault.Chord k w)
 
 -- the states of the tasks that are run or stored, in file order; the others are pending
-abbrev states : Items → List (ℕ × Outcome)
+abbrev states : EventJobs → List (ℕ × Outcome)
 states [] = []
 states ((v, store t o) ∷ is) = (t, o) ∷ states is
 states ((v, publish m) ∷ is) = states is

@@ -25,8 +25,8 @@ pub data Event : Type 0 where
   -- the last part of a chord's header is returned
   completion : (chord : ℕ) → Event
 
-abbrev pub Items : Type 0
-Items = List (Event × Job Content PCarried Outcome)
+abbrev pub EventJobs : Type 0
+EventJobs = List (Event × Job Content PCarried Outcome)
 
 -- the task whose end an event is
 abbrev pub parent_of : Event → Option ℕ
@@ -35,7 +35,7 @@ parent_of (running k) = None
 parent_of (end_of_line k) = Some k
 parent_of (completion g) = None
 
-abbrev pub labelled : Event → Jobs → Items
+abbrev pub labelled : Event → Jobs → EventJobs
 labelled v [] = []
 labelled v (j ∷ js) = (v, j) ∷ labelled v js
 
@@ -104,7 +104,7 @@ module _ (behaviour : Behaviour) where
 
   -- a task that runs, with its links or its error callbacks
   abbrev mutual
-    pub ran : Task → Input → Event → Line → PPlace → Items
+    pub ran : Task → Input → Event → Line → PPlace → EventJobs
     ran (task k call links errbacks) x v rest p =
         let m : Content = message_of (task k call links errbacks) x v rest p in
         let o : Outcome = outcome_of behaviour m in
@@ -112,14 +112,14 @@ module _ (behaviour : Behaviour) where
         (ran_all links (input_of_success o) (end_of_line k))
         (ran_all errbacks (id_input k) (end_of_line k))
 
-    pub ran_all : Tasks → Input → Event → Items
+    pub ran_all : Tasks → Input → Event → EventJobs
     ran_all no_tasks x v = []
     ran_all (and_task t ts) x v = ran t x v stop p_nowhere ++ ran_all ts x v
 
   -- all that comes of x flowing, by an event, into a line that stands behind task k and whose end
   -- goes to p
   abbrev mutual
-    pub events_in_file : Line → LineFlow → PPlace → ℕ → Event → Items
+    pub events_in_file : Line → LineFlow → PPlace → ℕ → Event → EventJobs
     events_in_file stop x p k v = labelled v (part_of p k)
     events_in_file (step t rest) (run x) p k v =
         ran t x v rest p
@@ -136,12 +136,12 @@ module _ (behaviour : Behaviour) where
         items_all ms x (header_place x g ms body p) v
         ++ events_in_file body (group_flow x (outs ms x)) p 0 (body_event x ms g v)
 
-    pub items_all : Lines → LineFlow → PPlace → Event → Items
+    pub items_all : Lines → LineFlow → PPlace → Event → EventJobs
     items_all no_lines x p v = []
     items_all (and_line m ms) x p v = events_in_file m x p 0 v ++ items_all ms x p v
 
   -- a whole plan
-  abbrev pub evaluated : Line → Items
+  abbrev pub evaluated : Line → EventJobs
   evaluated l = events_in_file l (run no_input) p_nowhere 0 start
 
 -- evaluating the plan, the event does the job

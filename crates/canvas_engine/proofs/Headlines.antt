@@ -10,7 +10,7 @@ use Rattle.canvas_message.specs.declared.envelope.Envelope.{Envelope}
 use Rattle.canvas_backend.specs.Backend.{Log}
 use Rattle.canvas_broker.specs.Broker.{QueueEntry, publish, take, redeliver}
 use Rattle.canvas_runs.specs.Causes.{ByCause}
-use Rattle.canvas_runs.specs.Law.{publishes, of_task as of_content}
+use Rattle.canvas_runs.specs.Law.{publications, of_task as of_content}
 use Rattle.canvas_runs.specs.Lists.{Each, total}
 use Rattle.canvas_callers.specs.Crew.{numbers_along}
 use Rattle.canvas_engine.specs.Evidence.{IsRun}
@@ -29,7 +29,7 @@ none_more n = omega arith
 record Sent (behaviour : Behaviour) (l : Line) (table : Log) (es : List (QueueEntry Envelope)) : Type 0 where
   pub sent : List Publish
   pub all : published_in es ≡ map envelope_of sent
-  pub many : (k : ℕ) → total (of_task k) sent ≡ publishes l k es
+  pub many : (k : ℕ) → total (of_task k) sent ≡ publications l k es
   pub caused : Each (IsCaused behaviour l table) sent
 
 module _ (behaviour : Behaviour) (l : Line) (table : Log) where
@@ -41,10 +41,10 @@ module _ (behaviour : Behaviour) (l : Line) (table : Log) where
       record { sent = s.sent; all = s.all; many = s.many; caused = s.caused }
   sent_in (calls p take (Some x) ∷ es) f =
       let s = sent_in es (λ c e a i. f c e a (inr i)) in
-      record { sent = s.sent; all = s.all; many = λ k. s.many k ∙ none_more (publishes l k es); caused = s.caused }
+      record { sent = s.sent; all = s.all; many = λ k. s.many k ∙ none_more (publications l k es); caused = s.caused }
   sent_in (calls p (redeliver x) r ∷ es) f =
       let s = sent_in es (λ c e a i. f c e a (inr i)) in
-      record { sent = s.sent; all = s.all; many = λ k. s.many k ∙ none_more (publishes l k es); caused = s.caused }
+      record { sent = s.sent; all = s.all; many = λ k. s.many k ∙ none_more (publications l k es); caused = s.caused }
   sent_in (calls p (publish e) a ∷ es) f =
       let s = sent_in es (λ c e a i. f c e a (inr i)) in
       let h = f p e a (inl refl) in
@@ -52,7 +52,7 @@ module _ (behaviour : Behaviour) (l : Line) (table : Log) where
       record {
         sent = this ∷ s.sent;
         all = ap (λ x. (p, x) ∷ published_in es) h.2 ∙ ap (λ xs. envelope_of this ∷ xs) s.all;
-        many = λ k. ap (λ m. of_task k this + m) (s.many k) ∙ ap (λ o. of_content l k o + publishes l k es) (sym h.3);
+        many = λ k. ap (λ m. of_task k this + m) (s.many k) ∙ ap (λ o. of_content l k o + publications l k es) (sym h.3);
         caused = ((h.1, h.4, h.5), s.caused);
       }
 

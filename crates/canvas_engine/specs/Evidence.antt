@@ -13,7 +13,7 @@ use Rattle.canvas_backend.specs.Roster.{roster_of}
 use Rattle.canvas_broker.specs.Broker.{QueueEntry as Entries}
 use Rattle.canvas_runs.specs.Calls.{backend_calls}
 use Rattle.canvas_runs.specs.Causes.{ByCause, ByItsCause, completions}
-use Rattle.canvas_runs.specs.Law.{publishes}
+use Rattle.canvas_runs.specs.Law.{publications}
 use Rattle.canvas_runs.specs.Run.{Run, Closed, published_all}
 use Rattle.canvas_runs.specs.Tally.{Tally as Counts, CountsOf}
 use Rattle.canvas_runs.specs.Worker.{sealed}
@@ -23,8 +23,8 @@ use Rattle.canvas_callers.specs.Rows.{RanWell}
 use Rattle.canvas_engine.specs.declared.records.Records.{Records}
 use Rattle.canvas_engine.specs.declared.records.Tally.{Tally}
 
-abbrev pub counts_of : Tally → Counts
-counts_of t =
+abbrev pub as_counts : Tally → Counts
+as_counts t =
     record {
       taken = t.taken;
       published = t.published;
@@ -38,7 +38,7 @@ counts_of t =
 abbrev pub AreTallies : List (Entries Envelope) → Log → ℕ → List Tally → Type 0
 AreTallies queue table k [] = Unit {0}
 AreTallies queue table k (t ∷ ts) =
-    (t.number ≡ k) × CountsOf queue table k (counts_of t) × AreTallies queue table (suc k) ts
+    (t.number ≡ k) × CountsOf queue table k (as_counts t) × AreTallies queue table (suc k) ts
 
 pub record IsRun (behaviour : Behaviour) (l : Line) (n : ℕ) (rows : List State) (r : Records) :
     Type 0 where
@@ -66,7 +66,7 @@ pub record IsRun (behaviour : Behaviour) (l : Line) (n : ℕ) (rows : List State
   -- each envelope that is published reads as the message of a task, each message is published at
   -- most once, and by the worker that brought about the event which runs its task: a body's by the
   -- one whose part completed its header
-  pub once : (k : ℕ) → publishes l k (broker_calls_seen r.pass) ≤ 1
+  pub once : (k : ℕ) → publications l k (broker_calls_seen r.pass) ≤ 1
   pub by_cause : ByCause behaviour l (broker_calls_seen r.pass) r.seat.seen
   pub by_its_cause : ByItsCause behaviour l (broker_calls_seen r.pass) r.seat.seen
   pub completed_once : (g : ℕ) → completions l g r.seat.seen ≤ 1

@@ -3,7 +3,7 @@ ghost use Rattle.std.specs.Prelude.{◌≡◌, ◌++◌, ◌+◌, IfOk, OnOk, st
 ghost use Rattle.canvas_rewrite.specs.Ends.{gives_a_list, end_tasks};
 ghost use Rattle.canvas_semantics.specs.Evaluation.{with_states};
 ghost use Rattle.canvas_semantics.specs.Line.{name_of, tree_of};
-ghost use Rattle.canvas_semantics.specs.Report.{names_by_number as named, lines, listed_values, report_of, result_text};
+ghost use Rattle.canvas_semantics.specs.Report.{names_by_number as named, report_lines, listed_values, report_of, result_text};
 ghost use Rattle.canvas_semantics.specs.States.{rows_from};
 ghost use Rattle.canvas_engine.specs.steps.ReportRows.{line_if, listed_behind};
 
@@ -39,7 +39,7 @@ fn push_task(
 /// The lines of all tasks, in the order of their numbers.
 fn push_rows(text: &mut String, plan: &Plan, rows: &[Option<Outcome>]) -> Result<(), Memory>
     ensures { OnOk result (string_bytes text.new
-        ≡ string_bytes text.old ++ lines (named (tree_of plan.now)) (rows_from 1 rows.now)) }
+        ≡ string_bytes text.old ++ report_lines (named (tree_of plan.now)) (rows_from 1 rows.now)) }
 {
     for index in 0..plan.tasks() {
         push_task(text, plan, plan.task_at(index), rows)?;

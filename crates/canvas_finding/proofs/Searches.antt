@@ -2,8 +2,8 @@
 use Rattle.std.proofs.Common.{◌≡◌, ◌≢◌, ℕ, zero, suc, ◌-◌, Bool, List, [], ◌∷◌, map, length, Option, Some, None, option_map, refl, sym, ap, ◌∙◌, arith}
 use Rattle.std.specs.Prelude.{slice_get}
 use Rattle.serde_json.specs.Data.{Data}
-use Rattle.canvas_finding.specs.Limits.{kind_of, ends_by, ends_in_group, last_of}
+use Rattle.canvas_finding.specs.Limits.{kind_of, ends_where, ends_in_group, last_of}
 
-pub ends_below : (n : ℕ) (d : Data) → n ≢ 0 → ends_in_group n d ≡ ends_by (ends_in_group (n - 1)) (kind_of d) d
+pub ends_below : (n : ℕ) (d : Data) → n ≢ 0 → ends_in_group n d ≡ ends_where (ends_in_group (n - 1)) (kind_of d) d
 ends_below zero d h = absurd (h refl)
-ends_below (suc n) d h = let e : suc n - 1 ≡ n = omega arith in ap (λ m. ends_by (ends_in_group m) (kind_of d) d) (sym e)
+ends_below (suc n) d h = let e : suc n - 1 ≡ n = omega arith in ap (λ m. ends_where (ends_in_group m) (kind_of d) d) (sym e)

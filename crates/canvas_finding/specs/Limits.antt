@@ -55,15 +55,15 @@ abbrev pub in_some : (Data → Bool) → Option Data → Bool
 in_some f None = false
 in_some f (Some d) = f d
 
-abbrev pub ends_by : (Data → Bool) → Option Primitive → Data → Bool
-ends_by f (Some kind.Group) d = true
-ends_by f (Some kind.Chain) d = in_some f (last_of (listed (tasks d)))
-ends_by f (Some kind.Chord) d = f (body d)
-ends_by f p d = false
+abbrev pub ends_where : (Data → Bool) → Option Primitive → Data → Bool
+ends_where f (Some kind.Group) d = true
+ends_where f (Some kind.Chain) d = in_some f (last_of (listed (tasks d)))
+ends_where f (Some kind.Chord) d = f (body d)
+ends_where f p d = false
 
 abbrev pub ends_in_group : ℕ → Data → Bool
 ends_in_group zero d = false
-ends_in_group (suc n) d = ends_by (ends_in_group n) (kind_of d) d
+ends_in_group (suc n) d = ends_where (ends_in_group n) (kind_of d) d
 
 abbrev pub most_levels : ℕ
 most_levels = 128

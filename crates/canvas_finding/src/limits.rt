@@ -7,7 +7,7 @@ ghost use Rattle.canvas_sig.specs.Fields.{value_at};
 ghost use Rattle.canvas_finding.specs.Places.{shown};
 ghost use Rattle.canvas_finding.specs.Refused.{is_refused};
 ghost use Rattle.canvas_finding.specs.Wanted.{is_wanted};
-ghost use Rattle.canvas_finding.specs.Limits.{kind_of, is_too_deep, steps_to_member, last_of, ends_by, in_some, ends_in_group, is_nested, is_header_group, is_task, is_counted_group, past};
+ghost use Rattle.canvas_finding.specs.Limits.{kind_of, is_too_deep, steps_to_member, last_of, ends_where, in_some, ends_in_group, is_nested, is_header_group, is_task, is_counted_group, past};
 
 use crate::listing::Place;
 use crate::step::{Field, Step};
@@ -63,7 +63,7 @@ fn ends_in_group(value: &Datum<'_>, left: u32) -> bool
 
 #[cycle(ends)]
 fn ends_as(value: &Datum<'_>, kind: Option<Primitive>, left: u32) -> bool
-    ensures { result ≡ ends_by (ends_in_group left) kind (view value.now) }
+    ensures { result ≡ ends_where (ends_in_group left) kind (view value.now) }
 {
     match kind {
         Some(Primitive::Group) => true,

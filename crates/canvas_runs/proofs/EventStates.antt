@@ -12,7 +12,7 @@ use Rattle.canvas_rewrite.specs.FrozenView.{PCarried}
 use Rattle.canvas_rewrite.specs.Planned.{IsPlan}
 use Rattle.canvas_message.specs.Content.{Content, number_of}
 use Rattle.canvas_effects.specs.Effects.{outcome_of, part_of}
-use Rattle.canvas_effects.specs.Events.{Event, start, running, end_of_line, completion, Items, labelled, DoesIn, evaluated, chosen, input_of_success, body_event, header_place, group_flow, outs, outcome_with, message_of, errbacks_in, ran, ran_all, events_in_file, items_all}
+use Rattle.canvas_effects.specs.Events.{Event, start, running, end_of_line, completion, EventJobs, labelled, DoesIn, evaluated, chosen, input_of_success, body_event, header_place, group_flow, outs, outcome_with, message_of, errbacks_in, ran, ran_all, events_in_file, items_all}
 use Rattle.canvas_message.specs.Among.{In}
 use Rattle.canvas_effects.specs.Flowing.{Input, no_input, id_input, LineFlow, run, skips, raise, after_outcome}
 use Rattle.canvas_effects.specs.Job.{Job, store, publish, part}
@@ -44,29 +44,29 @@ apart e = cc
 
 module _ (behaviour : Behaviour) where
   -- where a store comes from
-  abbrev Comes : Items → Event → ℕ → Outcome → Type 0
+  abbrev Comes : EventJobs → Event → ℕ → Outcome → Type 0
   Comes all v t o =
       ((w : Event) × (c : Content) × In (w, publish c) all × (number_of c.own ≡ t) × (outcome_of behaviour c ≡ o))
       ⊎ (Other v × (f : Fault) × (o ≡ Failure f))
 
-  abbrev Sourced : Items → Items → Type 0
+  abbrev Sourced : EventJobs → EventJobs → Type 0
   Sourced is all = (v : Event) (t : ℕ) (o : Outcome) → In (v, store t o) is → Comes all v t o
 
-  comes_more : (is all : Items) → ((x : Event × AJob) → In x is → In x all) → (v : Event) (t : ℕ) (o : Outcome) → Comes is v t o → Comes all v t o
+  comes_more : (is all : EventJobs) → ((x : Event × AJob) → In x is → In x all) → (v : Event) (t : ℕ) (o : Outcome) → Comes is v t o → Comes all v t o
   comes_more is all f v t o (inl (w, c, i, e, h)) = inl (w, c, f (w, publish c) i, e, h)
   comes_more is all f v t o (inr h) = inr h
 
-  sourced_more : (is js all : Items) → ((x : Event × AJob) → In x js → In x all) → Sourced is js → Sourced is all
+  sourced_more : (is js all : EventJobs) → ((x : Event × AJob) → In x js → In x all) → Sourced is js → Sourced is all
   sourced_more is js all f s v t o i = comes_more js all f v t o (s v t o i)
 
-  sourced_both : (xs ys all : Items) → Sourced xs all → Sourced ys all → Sourced (xs ++ ys) all
+  sourced_both : (xs ys all : EventJobs) → Sourced xs all → Sourced ys all → Sourced (xs ++ ys) all
   sourced_both xs ys all f g v t o i = ⊎_elim (λ a. f v t o a) (λ b. g v t o b) (in_append_cases xs ys (v, store t o) i)
 
-  sourced_append : (xs ys : Items) → Sourced xs xs → Sourced ys ys → Sourced (xs ++ ys) (xs ++ ys)
+  sourced_append : (xs ys : EventJobs) → Sourced xs xs → Sourced ys ys → Sourced (xs ++ ys) (xs ++ ys)
   sourced_append xs ys f g =
       sourced_both xs ys (xs ++ ys) (sourced_more xs xs (xs ++ ys) (λ x i. in_left xs ys x i) f) (sourced_more ys ys (xs ++ ys) (λ x i. in_right xs ys x i) g)
 
-  sourced_fails : (v : Event) (k : ℕ) (f : Fault) (is : Items) → Other v → Sourced is is
+  sourced_fails : (v : Event) (k : ℕ) (f : Fault) (is : EventJobs) → Other v → Sourced is is
       → Sourced ((v, store k (Failure f)) ∷ is) ((v, store k (Failure f)) ∷ is)
   sourced_fails v k f is h s w t o (inl e) =
       let jobs : ◌≡◌ {A = AJob} (store t o) (store k (Failure f)) = ap (λ p. p.1) e in
@@ -74,11 +74,11 @@ module _ (behaviour : Behaviour) where
       inr (subst Other (sym (ap (λ p. p.0) e)) h, f, out)
   sourced_fails v k f is h s w t o (inr i) = comes_more is ((v, store k (Failure f)) ∷ is) (λ x j. inr j) w t o (s w t o i)
 
-  sourced_chosen : (o : Outcome) (xs ys : Items) → Sourced xs xs → Sourced ys ys → Sourced (chosen o xs ys) (chosen o xs ys)
+  sourced_chosen : (o : Outcome) (xs ys : EventJobs) → Sourced xs xs → Sourced ys ys → Sourced (chosen o xs ys) (chosen o xs ys)
   sourced_chosen (Success n) xs ys f g = f
   sourced_chosen (Failure e) xs ys f g = g
 
-  sourced_run : (k : ℕ) (v : Event) (c : Content) (o : Outcome) (is : Items) → number_of c.own ≡ k → outcome_of behaviour c ≡ o → Sourced is is
+  sourced_run : (k : ℕ) (v : Event) (c : Content) (o : Outcome) (is : EventJobs) → number_of c.own ≡ k → outcome_of behaviour c ≡ o → Sourced is is
       → Sourced ((v, publish c) ∷ (running k, store k o) ∷ is) ((v, publish c) ∷ (running k, store k o) ∷ is)
   sourced_run k v c o is its_no out s w t q (inl e) = absurd (apart (ap (λ p. p.1) e))
   sourced_run k v c o is its_no out s w t q (inr (inl e)) =
@@ -101,7 +101,7 @@ module _ (behaviour : Behaviour) where
     ran_all_sourced (and_task t ts) x v =
         sourced_append (ran behaviour t x v stop p_nowhere) (ran_all behaviour ts x v) (ran_sourced t x v stop p_nowhere) (ran_all_sourced ts x v)
 
-  stop_sourced : (p : PPlace) (k : ℕ) (v : Event) (all : Items) → Sourced (labelled v (part_of p k)) all
+  stop_sourced : (p : PPlace) (k : ℕ) (v : Event) (all : EventJobs) → Sourced (labelled v (part_of p k)) all
   stop_sourced p_nowhere k v all w t o i = elim i [ ]
   stop_sourced (p_group g) k v all w t o i = elim i [ ]
   stop_sourced (p_chord g n b) k v all w t o (inl e) =

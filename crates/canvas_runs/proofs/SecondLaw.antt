@@ -23,7 +23,7 @@ use Rattle.canvas_broker.specs.Broker as broker
 use Rattle.canvas_runs.specs.Book.{book_of}
 use Rattle.canvas_runs.specs.Calls.{QueueAnswered, TableAnswered}
 use Rattle.canvas_runs.proofs.Replay.{IsDrained}
-use Rattle.canvas_runs.specs.Law.{its_state, IsRunMessage, IsPart, of_task, publishes_one, takes_one_of, agains_one_of, publishes, takes_of_task, redeliveries, firsts_one, first_stores, agains_one, again_stores, returns_one, returns, SecondPart}
+use Rattle.canvas_runs.specs.Law.{its_state, IsRunMessage, IsPart, of_task, publishes_one, takes_one_of, agains_one_of, publications, takes_of_task, redeliveries, firsts_one, first_stores, agains_one, again_stores, returns_one, returns, SecondPart}
 use Rattle.canvas_runs.specs.Lists.{Each, total, seconds, firsts}
 use Rattle.canvas_runs.specs.Logs.{queue_calls}
 use Rattle.canvas_runs.specs.Run.{Run, Closed}
@@ -182,7 +182,7 @@ module _ (behaviour : Behaviour) (l : Line) (plan : IsPlan l) (r : Run behaviour
 
   -- ---- how often
 
-  published_one : (d : Content) → IsRunMessage behaviour l d → publishes l (number_of d.own) r.queue ≡ 1
+  published_one : (d : Content) → IsRunMessage behaviour l d → publications l (number_of d.own) r.queue ≡ 1
   published_one d i =
       let done = finished i.0 (publish d) i.1 in
       let few = (first_part behaviour l plan r).published_once (number_of d.own) in
@@ -209,7 +209,7 @@ module _ (behaviour : Behaviour) (l : Line) (plan : IsPlan l) (r : Run behaviour
       omega arith
   drained_total k q (c ∷ cs) d = elim d [ ]
 
-  taken_once : (k : ℕ) → takes_of_task l k r.queue ≡ publishes l k r.queue + redeliveries l k r.queue
+  taken_once : (k : ℕ) → takes_of_task l k r.queue ≡ publications l k r.queue + redeliveries l k r.queue
   taken_once k = let t = drained_total k [] (seconds (queue_calls r.queue)) drained in omega arith
 
   stored_once : (t : ℕ) (o : Outcome) → its_state behaviour l t ≡ Some o → first_stores t r.table ≡ 1
@@ -251,16 +251,16 @@ module _ (behaviour : Behaviour) (l : Line) (plan : IsPlan l) (r : Run behaviour
       again_heavy c i d = d refl
 
   -- what is delivered again was published once
-  again_published : (k : ℕ) → (redeliveries l k r.queue ≡ 0) ⊎ (publishes l k r.queue ≡ 1)
+  again_published : (k : ℕ) → (redeliveries l k r.queue ≡ 0) ⊎ (publications l k r.queue ≡ 1)
   again_published k = ⊎_elim (λ z. inl z) (λ h. heavy h.0 h.1 h.2) (find_heavy (agains_one_of l k) (seconds (queue_calls r.queue)))
     where
       heavy : (x : QueueAnswered Envelope) → In x (seconds (queue_calls r.queue)) → (agains_one_of l k x ≡ 0 → ⊥)
-          → (redeliveries l k r.queue ≡ 0) ⊎ (publishes l k r.queue ≡ 1)
+          → (redeliveries l k r.queue ≡ 0) ⊎ (publications l k r.queue ≡ 1)
       heavy (broker.redeliver e, y) i d =
           let a = run_again behaviour l plan r e y i in
           let one = published_one a.0 a.3 in
           let no : number_of a.0.own ≡ k = named k (number_of a.0.own) (eqb (number_of a.0.own) k) refl (subst (λ x. of_task l k x ≡ 0 → ⊥) a.2 d) in
-          inr (subst (λ n. publishes l n r.queue ≡ 1) no one)
+          inr (subst (λ n. publications l n r.queue ≡ 1) no one)
       heavy c i d = absurd (d refl)
 
   take_weight : (k : ℕ) (c : QueueAnswered Envelope) → takes_task (X behaviour l plan) k c ≡ takes_one_of l k c

@@ -73,8 +73,8 @@ module _ (l : Line) where
   agains_one_of k c = 0
 
   -- how often a message of task k is published, and taken, and delivered again
-  abbrev pub publishes : ℕ → List (broker.QueueEntry Envelope) → ℕ
-  publishes k queue = total (publishes_one k) (seconds (queue_calls queue))
+  abbrev pub publications : ℕ → List (broker.QueueEntry Envelope) → ℕ
+  publications k queue = total (publishes_one k) (seconds (queue_calls queue))
 
   abbrev pub takes_of_task : ℕ → List (broker.QueueEntry Envelope) → ℕ
   takes_of_task k queue = total (takes_one_of k) (seconds (queue_calls queue))
@@ -114,7 +114,7 @@ module _ (behaviour : Behaviour) (l : Line) where
     pub published : (p : ℕ) (e : Envelope) (a : Option Envelope)
         → In (calls p (broker.publish e) a) r.queue
         → (c : Content) × (e ≡ sealed c) × (opened (book_of l) e ≡ Some c) × IsRunMessage c
-    pub published_once : (k : ℕ) → publishes l k r.queue ≤ 1
+    pub published_once : (k : ℕ) → publications l k r.queue ≤ 1
     -- and so is each that is delivered again
     pub redelivered : (p : ℕ) (e : Envelope) (a : Option Envelope)
         → In (calls p (broker.redeliver e) a) r.queue
@@ -129,9 +129,9 @@ module _ (behaviour : Behaviour) (l : Line) where
     pub rows : (t : ℕ) → (results.results (roster_of l) r.table).outcomes t ≡ its_state t
     -- each message of the evaluation is published once, and what is published or delivered again is
     -- taken
-    pub published : (c : Content) → IsRunMessage c → publishes l (number_of c.own) r.queue ≡ 1
+    pub published : (c : Content) → IsRunMessage c → publications l (number_of c.own) r.queue ≡ 1
     pub taken : (k : ℕ)
-        → takes_of_task l k r.queue ≡ publishes l k r.queue + redeliveries l k r.queue
+        → takes_of_task l k r.queue ≡ publications l k r.queue + redeliveries l k r.queue
     -- each outcome is stored once first, and answered again as often as its message was delivered
     -- again
     pub stored : (t : ℕ) (o : Outcome) → its_state t ≡ Some o → first_stores t r.table ≡ 1

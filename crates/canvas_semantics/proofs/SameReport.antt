@@ -4,7 +4,7 @@ use Rattle.canvas_semantics.specs.Tree.{Tree, one, chain, group, chord, Trees, n
 use Rattle.canvas_semantics.specs.NormalLine.{onto, all_onto, normal_all, normal}
 use Rattle.canvas_semantics.specs.Evaluation.{Rows, nothing, meaning, ends, with_states}
 use Rattle.canvas_task.specs.Text.{Text}
-use Rattle.canvas_semantics.specs.Report.{names_by_number, all_names_by_number, report, report_of, lines, result_text}
+use Rattle.canvas_semantics.specs.Report.{names_by_number, all_names_by_number, report, report_of, report_lines, result_text}
 use Rattle.canvas_semantics.specs.SameMeaning.{IsSame}
 use Rattle.canvas_semantics.specs.States.{rows_from, states}
 use Rattle.canvas_semantics.proofs.NumberLemmas.{numbered_normal}
@@ -43,7 +43,7 @@ names_same c = ap names_by_number (numbered_normal c) ∙ names_onto (numbered c
 
 -- a report, by its parts
 abbrev written : List (ℕ × Text) → Rows → Bool → List ℕ → Text
-written ns rows many es = lines ns rows ++ codes "result " ++ result_text many (with_states rows es) ++ codes "\n"
+written ns rows many es = report_lines ns rows ++ codes "result " ++ result_text many (with_states rows es) ++ codes "\n"
 
 -- whatever the rows, where the normal line means what the canvas means
 pub same_report_of : (c : Tree) (rows : Rows) → IsSame (normal c) c → report_of (numbered (normal c)) rows ≡ report_of (numbered c) rows

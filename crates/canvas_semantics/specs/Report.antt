@@ -55,9 +55,9 @@ report_line t s =
     ++ codes "\n"
 
 -- one for each task
-abbrev pub lines : List (ℕ × Text) → Rows → Text
-lines [] rows = []
-lines (t ∷ ts) rows = report_line t (state_of t.0 rows) ++ lines ts rows
+abbrev pub report_lines : List (ℕ × Text) → Rows → Text
+report_lines [] rows = []
+report_lines (t ∷ ts) rows = report_line t (state_of t.0 rows) ++ report_lines ts rows
 
 -- the values, with a comma and a space between two
 abbrev pub listed_values : Rows → Text
@@ -73,7 +73,7 @@ result_text false es = listed_values es
 -- the report of a numbered canvas and of states; a state that is missing is pending
 abbrev pub report_of : Tree → Rows → Text
 report_of c rows =
-    lines (names_by_number c) rows ++ codes "result "
+    report_lines (names_by_number c) rows ++ codes "result "
     ++ result_text (ends_in_group c) (with_states rows (ends c)) ++ codes "\n"
 
 -- the report of a canvas

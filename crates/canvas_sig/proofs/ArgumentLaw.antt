@@ -10,7 +10,7 @@ use Rattle.canvas_task.specs.declared.arg.Arg.TheVariants as arg
 use Rattle.canvas_sig.specs.declared.fault.SigFault.{SigFault}
 use Rattle.canvas_sig.specs.declared.fault.SigFault.TheVariants.{BadArgs, BadNumber}
 use Rattle.canvas_sig.specs.Fields.{items, is_number}
-use Rattle.canvas_sig.specs.Answers.{◌>>=◌, ◌or_else◌, Gives, fault_if, judged, each}
+use Rattle.canvas_sig.specs.Answers.{◌>>=◌, ◌or_else◌, Gives, fault_if, judged, in_turn}
 use Rattle.canvas_sig.specs.Grammar.{some_in_range, number_ok, some_or_zero, whole_number, arg_reading}
 use Rattle.canvas_sig.specs.steps.Reading.{in_range_or_refused, number_reading, arg_steps}
 
@@ -43,14 +43,14 @@ number_judged (number n) h = whole_judged (as_i64 n)
 number_judged d h = absurd cc
 
 numbers_judged : (ds : List Data) → list_all is_number ds ≡ true
-    → each number_reading ds ≡ judged (fault_if (not (list_all number_ok ds)) BadNumber) (map whole_number ds)
+    → in_turn number_reading ds ≡ judged (fault_if (not (list_all number_ok ds)) BadNumber) (map whole_number ds)
 numbers_judged [] h = refl
 numbers_judged (d ∷ ds) h =
     let p = all_numbers (is_number d) (list_all is_number ds) h in
     rw (number_judged d p.0, numbers_judged ds p.1) (then_others (number_ok d) (list_all number_ok ds) (whole_number d) (map whole_number ds))
 
 list_by : (ds : List Data) (b : Bool) → list_all is_number ds ≡ b
-    → (if b then (each number_reading ds >>= λ ns. Ok (arg.List ns)) else Err BadArgs)
+    → (if b then (in_turn number_reading ds >>= λ ns. Ok (arg.List ns)) else Err BadArgs)
     ≡ judged (fault_if (not b) BadArgs or_else fault_if (not (list_all number_ok ds)) BadNumber) (arg.List (map whole_number ds))
 list_by ds true h = ap (λ r. r >>= λ ns. Ok (arg.List ns)) (numbers_judged ds h)
     ∙ judged_map (fault_if (not (list_all number_ok ds)) BadNumber) (map whole_number ds) arg.List

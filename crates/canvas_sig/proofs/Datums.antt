@@ -13,7 +13,7 @@ use Rattle.canvas_sig.specs.declared.datum.Datum as datum
 use Rattle.canvas_sig.proofs.Parsed.{Named, view-List, view-Object}
 use Rattle.canvas_sig.specs.steps.Reading.{list_reading, arg_steps}
 use Rattle.canvas_sig.specs.Grammar.{named_reading, kind_ok, numbers_ok, number_ok}
-use Rattle.canvas_sig.specs.Answers.{each}
+use Rattle.canvas_sig.specs.Answers.{in_turn}
 use Rattle.canvas_sig.specs.Fields.{items, entries, listed, as_list, object_members as members, seen, is_number, is_empty, contents}
 
 pub items-items_of : (ds : List Data) → items (items_of ds) ≡ ds
@@ -36,8 +36,8 @@ object_members v m is = ap (λ x. members (view x)) is ∙ ap members (view-Obje
 pub array_arg : (v : Datum) (vs : Bor (List Datum)) → v ≡ datum.List vs → arg_steps (view v) ≡ list_reading (map view vs.now)
 array_arg v vs is = ap (λ x. arg_steps (view x)) is ∙ ap arg_steps (view-List vs) ∙ ap list_reading (items-items_of (map view vs.now))
 
-pub object_kwargs : (v : Datum) (m : Bor (List Named)) → v ≡ datum.Object m → each named_reading (members (view v)) ≡ each named_reading (seen m.now)
-object_kwargs v m is = ap (each named_reading) (object_members v m is)
+pub object_kwargs : (v : Datum) (m : Bor (List Named)) → v ≡ datum.Object m → in_turn named_reading (members (view v)) ≡ in_turn named_reading (seen m.now)
+object_kwargs v m is = ap (in_turn named_reading) (object_members v m is)
 
 pub array_kind_ok : (v : Datum) (vs : Bor (List Datum)) → v ≡ datum.List vs → kind_ok (view v) ≡ list_all is_number (map view vs.now)
 array_kind_ok v vs is = ap (λ x. kind_ok (view x)) is ∙ ap kind_ok (view-List vs) ∙ ap (list_all is_number) (items-items_of (map view vs.now))

@@ -1,7 +1,7 @@
 -- Reading one value after the other, as a loop does.
 use Rattle.std.proofs.Common.{◌≡◌, List, [], ◌∷◌, ◌++◌, Result, Ok, Err, refl, sym, ap, append_assoc}
 use Rattle.canvas_sig.specs.declared.fault.SigFault.{SigFault}
-use Rattle.canvas_sig.specs.Answers.{◌>>=◌, each}
+use Rattle.canvas_sig.specs.Answers.{◌>>=◌, in_turn}
 
 -- what was read before, and what is still read
 abbrev pub onto : {B : Type 0} → List B → Result (List B) SigFault → Result (List B) SigFault
@@ -13,5 +13,5 @@ regroup front y (Err f) = refl
 
 -- one more was read
 pub one_more : {A B : Type 0} (f : A → Result B SigFault) (front : List B) (x : A) (xs : List A) (y : B) → f x ≡ Ok y
-    → onto front (each f (x ∷ xs)) ≡ onto (front ++ y ∷ []) (each f xs)
-one_more f front x xs y is = rw is (regroup front y (each f xs))
+    → onto front (in_turn f (x ∷ xs)) ≡ onto (front ++ y ∷ []) (in_turn f xs)
+one_more f front x xs y is = rw is (regroup front y (in_turn f xs))

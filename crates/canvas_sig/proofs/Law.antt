@@ -11,7 +11,7 @@ use Rattle.canvas_task.specs.Text.{Text}
 use Rattle.canvas_sig.specs.Fields.{field, subtype, args, kwargs, tasks, header, body, link, link_error, items, listed, as_list, object_members, is_null, is_list, is_true, is_empty, is_list_or_null, is_object_or_null, is_link}
 use Rattle.canvas_semantics.specs.Tree.{Task, task, Tree, one, chain, group, chord, Trees}
 use Rattle.canvas_sig.specs.SignatureView.{tasks_of, trees_of}
-use Rattle.canvas_sig.specs.Answers.{◌>>=◌, ◌or_else◌, unless, fault_if, judged, each}
+use Rattle.canvas_sig.specs.Answers.{◌>>=◌, ◌or_else◌, unless, fault_if, judged, in_turn}
 use Rattle.canvas_sig.specs.Grammar.{argument_of, arg_reading, named_reading, kind_ok, numbers_ok, args_ok, is_group, not_signature, bad_members, bad_args, bad_number, on_canvas, primitive_of, fault_as, own_fault, members_in}
 use Rattle.canvas_sig.specs.steps.Reading.{task_with, task_reading, header_reading, tree_as, tree_reading}
 use Rattle.canvas_sig.specs.Refusals.{first_fault, in_kwargs, named_of, spelled_call, task_within, header_of, tree_from, tree_within}
@@ -25,14 +25,14 @@ both false b h = absurd cc
 arg_is : (d : Data) → kind_ok d ≡ true → numbers_ok d ≡ true → arg_reading d ≡ Ok (argument_of d)
 arg_is d k h = rw (k, h) refl
 
-args_are : (ds : List Data) → list_all kind_ok ds ≡ true → list_all numbers_ok ds ≡ true → each arg_reading ds ≡ Ok (map argument_of ds)
+args_are : (ds : List Data) → list_all kind_ok ds ≡ true → list_all numbers_ok ds ≡ true → in_turn arg_reading ds ≡ Ok (map argument_of ds)
 args_are [] k h = refl
 args_are (d ∷ ds) k h =
     let p = both _ _ k in let q = both _ _ h in
     rw (arg_is d p.0 q.0, args_are ds p.1 q.1) refl
 
 named_are : (es : List (Text × Data)) → list_all kind_ok (map (λ e. e.1) es) ≡ true → list_all numbers_ok (map (λ e. e.1) es) ≡ true
-    → each named_reading es ≡ Ok (map named_of es)
+    → in_turn named_reading es ≡ Ok (map named_of es)
 named_are [] k h = refl
 named_are (e ∷ es) k h =
     let p = both _ _ k in let q = both _ _ h in
@@ -81,7 +81,7 @@ joined None (Some e) x xs = refl
 joined None None x xs = refl
 
 judged_each : {B : Type 0} (f : Data → Result B SigFault) (g : Data → Option SigFault) (h : Data → B) → ((d : Data) → f d ≡ judged (g d) (h d))
-    → (ds : List Data) → each f ds ≡ judged (first_fault g ds) (map h ds)
+    → (ds : List Data) → in_turn f ds ≡ judged (first_fault g ds) (map h ds)
 judged_each f g h is [] = refl
 judged_each f g h is (d ∷ ds) = rw (is d, judged_each f g h is ds) (joined (g d) (first_fault g ds) (h d) (map h ds))
 
@@ -173,7 +173,7 @@ header_judged f k c is (string s) h = absurd cc
 
 listed_level : (f : Data → Result Tree SigFault) (k : Data → Option SigFault) (c : Data → Tree) → ((d : Data) → f d ≡ judged (k d) (c d))
     → (make : Trees → Tree) (ds : List Data) (rest : Option SigFault) → rest ≡ None
-    → (each f ds >>= λ ts. Ok (make (trees_of ts))) ≡ judged (first_fault k ds or_else rest) (make (trees_of (map c ds)))
+    → (in_turn f ds >>= λ ts. Ok (make (trees_of ts))) ≡ judged (first_fault k ds or_else rest) (make (trees_of (map c ds)))
 listed_level f k c is make ds rest h =
     rw (judged_each f k c is ds) (judged_map (first_fault k ds) (map c ds) (λ ts. make (trees_of ts))
     ∙ ap (λ o. judged o (make (trees_of (map c ds)))) (sym (ap (λ r. first_fault k ds or_else r) h ∙ or_nothing (first_fault k ds))))

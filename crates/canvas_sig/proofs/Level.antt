@@ -6,7 +6,7 @@ use Rattle.serde_json.specs.Data.{Data}
 use Rattle.canvas_sig.specs.declared.fault.SigFault.{SigFault}
 use Rattle.canvas_sig.specs.declared.fault.SigFault.TheVariants.{Memory}
 use Rattle.canvas_sig.specs.Fields.{field, args, kwargs, link, link_error, listed, object_members, as_list, text_of, is_true}
-use Rattle.canvas_sig.specs.Answers.{Fails, each}
+use Rattle.canvas_sig.specs.Answers.{Fails, in_turn}
 use Rattle.canvas_sig.specs.Grammar.{arg_reading, named_reading}
 use Rattle.canvas_sig.specs.steps.Reading.{task_with, linked_with, task_reading, tree_with, tree_reading}
 use Rattle.canvas_semantics.specs.Tree.{Task}
@@ -31,10 +31,10 @@ fails_with e r h = h
 
 -- a task whose parts were read
 pub made : (f : Data → Result Task SigFault) (d : Data) (r : TaskSig-F TaskSig)
-    → each arg_reading (listed (args d)) ≡ Ok r.args
-    → each named_reading (object_members (kwargs d)) ≡ Ok r.kwargs
-    → each f (as_list (link d)) ≡ Ok (map task_view r.links)
-    → each f (as_list (link_error d)) ≡ Ok (map task_view r.errbacks)
+    → in_turn arg_reading (listed (args d)) ≡ Ok r.args
+    → in_turn named_reading (object_members (kwargs d)) ≡ Ok r.kwargs
+    → in_turn f (as_list (link d)) ≡ Ok (map task_view r.links)
+    → in_turn f (as_list (link_error d)) ≡ Ok (map task_view r.errbacks)
     → text_of (field (codes "task") d) ≡ r.name
     → is_true (field (codes "immutable") d) ≡ r.immutable
     → task_with f d ≡ Ok (task_view (roll-TaskSig r))
@@ -42,7 +42,7 @@ made f d r a k l e n i = rw (a, k, l, e, n, i) (ap Ok (sym (seen.made r.name r.a
 
 -- one more was read, and seen by a view
 pub next_seen : {X Y : Type 0} (view : X → Y) (f : Data → Result Y SigFault) (xs new : List X) (x : X) (d : Data) (left now : List Data)
-    → new ≡ xs ++ x ∷ [] → f d ≡ Ok (view x) → left ≡ d ∷ now → onto (map view xs) (each f left) ≡ onto (map view new) (each f now)
+    → new ≡ xs ++ x ∷ [] → f d ≡ Ok (view x) → left ≡ d ∷ now → onto (map view xs) (in_turn f left) ≡ onto (map view new) (in_turn f now)
 next_seen {X} {Y} view f xs new x d left now pushed read next =
-    ap (λ ds. onto (map view xs) (each f ds)) next ∙ one_more f (map view xs) d now (view x) read
-    ∙ ap (λ (ys : List Y). onto ys (each f now)) (sym (ap (map view) pushed ∙ map_push view xs x))
+    ap (λ ds. onto (map view xs) (in_turn f ds)) next ∙ one_more f (map view xs) d now (view x) read
+    ∙ ap (λ (ys : List Y). onto ys (in_turn f now)) (sym (ap (map view) pushed ∙ map_push view xs x))

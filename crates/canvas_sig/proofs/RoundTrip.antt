@@ -12,7 +12,7 @@ use Rattle.canvas_sig.specs.Fields.{field, items, entries, as_list, is_number, i
 use Rattle.canvas_semantics.specs.Tree.{Call, Task, task, Tasks, no_tasks, and_task, Tree, one, chain, group, chord, Trees, no_trees, and_tree}
 use Rattle.canvas_semantics.specs.Nesting.{task_nesting, tasks_nesting, nesting, all_nesting}
 use Rattle.canvas_sig.specs.SignatureView.{tasks_of, trees_of}
-use Rattle.canvas_sig.specs.Answers.{each}
+use Rattle.canvas_sig.specs.Answers.{in_turn}
 use Rattle.canvas_sig.specs.Grammar.{whole_number, arg_reading, named_reading, kind_ok, numbers_ok, number_ok, own_fault}
 use Rattle.canvas_sig.specs.steps.Reading.{task_with, task_reading, tree_reading}
 use Rattle.canvas_sig.specs.Writing.{numbers_wire, arg_wire, args_wire, kwargs_wire, options_wire, call_wire, task_wire, tasks_wire, primitive_wire, chord_members, tree_wire, trees_wire}
@@ -56,7 +56,7 @@ arg_numbers (arg.Num n) h = rw (number_back n h) h
 arg_numbers (arg.List ns) h = numbers_fit ns h
 arg_numbers (arg.Text s) h = refl
 
-pub args_back : (args : List Arg) → ArgsFit args → each arg_reading (items (args_wire args)) ≡ Ok args
+pub args_back : (args : List Arg) → ArgsFit args → in_turn arg_reading (items (args_wire args)) ≡ Ok args
 args_back [] h = refl
 args_back (a ∷ args) h = rw (arg_back a h.0, args_back args h.1) refl
 
@@ -68,7 +68,7 @@ pub args_numbers : (args : List Arg) → ArgsFit args → list_all numbers_ok (i
 args_numbers [] h = refl
 args_numbers (a ∷ args) h = rw (arg_numbers a h.0, args_numbers args h.1) refl
 
-pub kwargs_back : (es : List (List ℕ × Arg)) → KwargsFit es → each named_reading (entries (kwargs_wire es)) ≡ Ok es
+pub kwargs_back : (es : List (List ℕ × Arg)) → KwargsFit es → in_turn named_reading (entries (kwargs_wire es)) ≡ Ok es
 kwargs_back [] h = refl
 kwargs_back (e ∷ es) h = rw (arg_back e.1 h.0, kwargs_back es h.1) refl
 
@@ -139,8 +139,8 @@ no_fault linked call links errbacks fits =
     ) refl
 
 call_back : (n : ℕ) (call : Call) (links errbacks : Tasks) → CallFits call
-    → each (task_reading n) (items (tasks_wire links)) ≡ Ok (listed_tasks links)
-    → each (task_reading n) (items (tasks_wire errbacks)) ≡ Ok (listed_tasks errbacks)
+    → in_turn (task_reading n) (items (tasks_wire links)) ≡ Ok (listed_tasks links)
+    → in_turn (task_reading n) (items (tasks_wire errbacks)) ≡ Ok (listed_tasks errbacks)
     → task_with (task_reading n) (call_wire call (options_wire (tasks_wire links) (tasks_wire errbacks))) ≡ Ok (task 0 call links errbacks)
 call_back n call links errbacks fits l e =
     rw (
@@ -166,7 +166,7 @@ mutual
         fits.0,
       ) refl
 
-  pub tasks_back : (n : ℕ) (ts : Tasks) → TasksFit ts → tasks_nesting ts ≤ n → each (task_reading n) (items (tasks_wire ts)) ≡ Ok (listed_tasks ts)
+  pub tasks_back : (n : ℕ) (ts : Tasks) → TasksFit ts → tasks_nesting ts ≤ n → in_turn (task_reading n) (items (tasks_wire ts)) ≡ Ok (listed_tasks ts)
   tasks_back n no_tasks fits low = refl
   tasks_back n (and_task t ts) fits low = rw (task_back n t fits.0 (omega arith), tasks_back n ts fits.1 (omega arith)) refl
 
@@ -202,16 +202,17 @@ chain_fits : (ts : Trees) → TreeFits (chain ts) → TreesFit ts
 chain_fits no_trees fits = absurd fits
 chain_fits (and_tree t ts) fits = fits
 
-chain_back : (n : ℕ) (ts : Trees) → TreeFits (chain ts) → each (tree_reading n) (items (trees_wire ts)) ≡ Ok (listed_trees ts)
+chain_back : (n : ℕ) (ts : Trees) → TreeFits (chain ts) → in_turn (tree_reading n) (items (trees_wire ts)) ≡ Ok (listed_trees ts)
     → tree_reading (suc n) (tree_wire (chain ts)) ≡ Ok (chain ts)
 chain_back n no_trees fits read = absurd fits
 chain_back n (and_tree t ts) fits read = rw (read, trees_listed ts) refl
 
-group_back : (n g : ℕ) (ms : Trees) → g ≡ 0 → each (tree_reading n) (items (trees_wire ms)) ≡ Ok (listed_trees ms)
+group_back : (n g : ℕ) (ms : Trees) → g ≡ 0 → in_turn (tree_reading n) (items (trees_wire ms)) ≡ Ok (listed_trees ms)
     → tree_reading (suc n) (tree_wire (group g ms)) ≡ Ok (group g ms)
 group_back n g ms unnumbered read = rw (read, trees_listed ms, unnumbered) refl
 
-chord_back : (n g : ℕ) (h : Trees) (b : Tree) → g ≡ 0 → each (tree_reading n) (items (trees_wire h)) ≡ Ok (listed_trees h) → tree_reading n (tree_wire b) ≡ Ok b
+chord_back : (n g : ℕ) (h : Trees) (b : Tree) → g ≡ 0 → in_turn (tree_reading n) (items (trees_wire h)) ≡ Ok (listed_trees h)
+    → tree_reading n (tree_wire b) ≡ Ok b
     → tree_reading (suc n) (tree_wire (chord g h b)) ≡ Ok (chord g h b)
 chord_back n g h b unnumbered header body =
     rw (no_chord_fault (tree_wire b) (trees_wire h) (some_value b), header, body, trees_listed h, unnumbered) refl
@@ -227,6 +228,6 @@ mutual
   tree_back (suc n) (group g ms) fits low = group_back n g ms fits.0 (trees_back n ms fits.1 (omega arith))
   tree_back (suc n) (chord g h b) fits low = chord_back n g h b fits.0 (trees_back n h fits.1 (omega arith)) (tree_back n b fits.2 (omega arith))
 
-  pub trees_back : (n : ℕ) (ts : Trees) → TreesFit ts → all_nesting ts ≤ n → each (tree_reading n) (items (trees_wire ts)) ≡ Ok (listed_trees ts)
+  pub trees_back : (n : ℕ) (ts : Trees) → TreesFit ts → all_nesting ts ≤ n → in_turn (tree_reading n) (items (trees_wire ts)) ≡ Ok (listed_trees ts)
   trees_back n no_trees fits low = refl
   trees_back n (and_tree t ts) fits low = rw (tree_back n t fits.0 (omega arith), trees_back n ts fits.1 (omega arith)) refl

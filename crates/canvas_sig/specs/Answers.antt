@@ -36,6 +36,6 @@ judged None x = Ok x
 judged (Some e) x = Err e
 
 -- each in turn
-abbrev pub each : {A B : Type 0} → (A → Result B SigFault) → List A → Result (List B) SigFault
-each f [] = Ok []
-each f (x ∷ xs) = f x >>= λ y. each f xs >>= λ ys. Ok (y ∷ ys)
+abbrev pub in_turn : {A B : Type 0} → (A → Result B SigFault) → List A → Result (List B) SigFault
+in_turn f [] = Ok []
+in_turn f (x ∷ xs) = f x >>= λ y. in_turn f xs >>= λ ys. Ok (y ∷ ys)

@@ -9,7 +9,7 @@ ghost use Rattle.canvas_task.specs.Entries.{named};
 ghost use Rattle.canvas_task.specs.Numbers.{in_range};
 ghost use Rattle.canvas_sig.specs.declared.fault.SigFault.TheVariants.{Memory};
 ghost use Rattle.canvas_sig.specs.Fields.{value_at, seen, object_members, is_number};
-ghost use Rattle.canvas_sig.specs.Answers.{Gives, each};
+ghost use Rattle.canvas_sig.specs.Answers.{Gives, in_turn};
 ghost use Rattle.canvas_sig.specs.Grammar.{some_in_range, arg_reading, named_reading};
 ghost use Rattle.canvas_sig.specs.steps.Reading.{in_range_or_refused, number_reading, list_reading};
 
@@ -70,7 +70,7 @@ pub(crate) fn all_numbers(values: &[Datum<'_>]) -> bool
 }
 
 fn read_numbers(alloc: Global, values: &[Datum<'_>]) -> Result<Vec<i64>, SigFault>
-    ensures { Gives (λ v. v.items) result (each number_reading (map view values.now)) }
+    ensures { Gives (λ v. v.items) result (in_turn number_reading (map view values.now)) }
 {
     let mut numbers = Vec::with_capacity(alloc, values.len())?;
     for value in values {
@@ -103,7 +103,7 @@ fn read_argument(alloc: Global, value: &Datum<'_>) -> Result<Arg, SigFault>
 
 /// The arguments of a list, in order, or the first fault among them.
 pub fn read_args(alloc: Global, values: &[Datum<'_>]) -> Result<Vec<Arg>, SigFault>
-    ensures { Gives (λ v. v.items) result (each arg_reading (map view values.now)) }
+    ensures { Gives (λ v. v.items) result (in_turn arg_reading (map view values.now)) }
 {
     let mut args = Vec::new(alloc);
     for value in values {
@@ -115,7 +115,7 @@ pub fn read_args(alloc: Global, values: &[Datum<'_>]) -> Result<Vec<Arg>, SigFau
 /// The arguments that an object names. Where its names didn't ascend, no map would hold them in
 /// their order; no text is read so.
 fn read_named(alloc: Global, members: &[(&str, Datum<'_>)]) -> Result<Map<String, Arg>, SigFault>
-    ensures { Gives (λ m. named m.entries) result (each named_reading (seen members.now)) }
+    ensures { Gives (λ m. named m.entries) result (in_turn named_reading (seen members.now)) }
 {
     let mut args = Map::new(alloc);
     let mut last = None;
@@ -132,7 +132,7 @@ fn read_named(alloc: Global, members: &[(&str, Datum<'_>)]) -> Result<Map<String
 
 fn read_members(alloc: Global, value: &Datum<'_>) -> Result<Map<String, Arg>, SigFault>
     ensures { Gives (λ m. named m.entries) result
-        (each named_reading (object_members (view value.now))) }
+        (in_turn named_reading (object_members (view value.now))) }
 {
     match value {
         Datum::Object(members) => read_named(alloc, members),
@@ -144,7 +144,7 @@ fn read_members(alloc: Global, value: &Datum<'_>) -> Result<Map<String, Arg>, Si
 /// is no object, has none.
 pub fn read_kwargs(alloc: Global, field: Option<&Datum<'_>>) -> Result<Map<String, Arg>, SigFault>
     ensures { Gives (λ m. named m.entries) result
-        (each named_reading (object_members (value_at field.entry))) }
+        (in_turn named_reading (object_members (value_at field.entry))) }
 {
     match field {
         Some(value) => read_members(alloc, value),

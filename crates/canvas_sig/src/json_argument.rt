@@ -5,7 +5,7 @@ ghost use Rattle.std.specs.List.{list_all};
 ghost use Rattle.serde_json.specs.View.{view};
 ghost use Rattle.canvas_sig.specs.declared.fault.SigFault.TheVariants.{Memory};
 ghost use Rattle.canvas_sig.specs.Fields.{is_number};
-ghost use Rattle.canvas_sig.specs.Answers.{Gives, each};
+ghost use Rattle.canvas_sig.specs.Answers.{Gives, in_turn};
 ghost use Rattle.canvas_sig.specs.Grammar.{arg_reading, takes_memory};
 ghost use Rattle.canvas_sig.specs.steps.Reading.{number_reading, list_reading};
 
@@ -38,7 +38,7 @@ fn all_numbers(values: &[Value]) -> bool
 }
 
 fn read_numbers(alloc: Global, values: &[Value]) -> Result<Vec<i64>, SigFault>
-    ensures reading { Gives (λ v. v.items) result (each number_reading (map view values.now)) }
+    ensures reading { Gives (λ v. v.items) result (in_turn number_reading (map view values.now)) }
     ensures memory { IfErr result (λ e. e ≡ Memory → 0 < length values.now) }
 {
     let mut numbers = Vec::new(alloc);

@@ -4,7 +4,7 @@ ghost use Rattle.std.specs.Prelude.{◌≡◌, map, string_bytes, IfOk, Some};
 ghost use Rattle.canvas_sig.specs.Datum.{view};
 ghost use Rattle.canvas_sig.specs.declared.primitive.Primitive.TheVariants.{Chain, Group, Chord};
 ghost use Rattle.canvas_sig.specs.Fields.{value_at, as_list, text_of};
-ghost use Rattle.canvas_sig.specs.Answers.{Gives, each};
+ghost use Rattle.canvas_sig.specs.Answers.{Gives, in_turn};
 ghost use Rattle.canvas_sig.specs.steps.Reading.{task_with, linked_with, task_reading, header_reading, tree_as, tree_with, tree_reading};
 ghost use Rattle.canvas_sig.specs.Grammar.{members_in};
 ghost use Rattle.canvas_sig.specs.SignatureView.{task_view, trees_of, view as tree_view};
@@ -77,7 +77,7 @@ fn read_task(alloc: Global, value: &Datum<'_>, left: u32) -> Result<TaskSig, Sig
 #[cycle(read_task)]
 fn read_link(alloc: Global, field: Option<&Datum<'_>>, left: u32) -> Result<Vec<TaskSig>, SigFault>
     ensures { Gives (λ v. map task_view v.items) result
-        (each (task_reading left) (as_list (value_at field.entry))) }
+        (in_turn (task_reading left) (as_list (value_at field.entry))) }
 {
     match field {
         None => Ok(Vec::new(alloc)),
@@ -88,7 +88,7 @@ fn read_link(alloc: Global, field: Option<&Datum<'_>>, left: u32) -> Result<Vec<
 #[cycle(read_task)]
 fn read_one_or_more(alloc: Global, value: &Datum<'_>, left: u32) -> Result<Vec<TaskSig>, SigFault>
     ensures { Gives (λ v. map task_view v.items) result
-        (each (task_reading left) (as_list (view value.now))) }
+        (in_turn (task_reading left) (as_list (view value.now))) }
 {
     match value {
         Datum::Null => Ok(Vec::new(alloc)),
@@ -104,7 +104,7 @@ fn read_one_or_more(alloc: Global, value: &Datum<'_>, left: u32) -> Result<Vec<T
 #[cycle(read_task)]
 fn read_all_linked(alloc: Global, values: &[Datum<'_>], left: u32) -> Result<Vec<TaskSig>, SigFault>
     ensures { Gives (λ v. map task_view v.items) result
-        (each (task_reading left) (map view values.now)) }
+        (in_turn (task_reading left) (map view values.now)) }
 {
     let mut tasks = Vec::new(alloc);
     for value in values {
@@ -224,7 +224,7 @@ fn read_header(alloc: Global, field: Option<&Datum<'_>>, left: u32) -> Result<Ve
 #[cycle(read_node)]
 fn read_all(alloc: Global, values: &[Datum<'_>], left: u32) -> Result<Vec<Node>, SigFault>
     ensures { Gives (λ v. map tree_view v.items) result
-        (each (tree_reading left) (map view values.now)) }
+        (in_turn (tree_reading left) (map view values.now)) }
 {
     let mut nodes = Vec::new(alloc);
     for value in values {

@@ -14,7 +14,7 @@ use Rattle.canvas_broker.specs.Broker as broker
 use Rattle.canvas_runs.specs.Book.{book_of}
 use Rattle.canvas_runs.specs.Calls.{QueueAnswered}
 use Rattle.canvas_runs.specs.Core.{Ask, Reply, to_table, from_table, taking, resting, over, Doing, Between}
-use Rattle.canvas_runs.specs.Law.{of_task, takes_one_of, agains_one_of, agains_one, IsRunMessage, publishes, publishes_one, takes_of_task, redeliveries, again_stores, FirstPart, SecondPart}
+use Rattle.canvas_runs.specs.Law.{of_task, takes_one_of, agains_one_of, agains_one, IsRunMessage, publications, publishes_one, takes_of_task, redeliveries, again_stores, FirstPart, SecondPart}
 use Rattle.canvas_runs.specs.Lists.{Each, total, seconds}
 use Rattle.canvas_runs.specs.Logs.{queue_calls}
 use Rattle.canvas_runs.specs.Run.{Run, published_all}
@@ -198,7 +198,7 @@ module _ (behaviour : Behaviour) (l : Line) (n : ℕ) (es : List Entry) (us : Li
 
     -- how often the message of the task is published
     abbrev D : ℕ → ℕ
-    D k = publishes l k R.queue
+    D k = publications l k R.queue
 
     its_takes : (k : ℕ) → takes_of_task l k R.queue ≡ takes_in behaviour l n k xs
     its_takes k = let s = queue_split behaviour l (takes_one_of l k) n xs in let z = no_takes l k (firsts behaviour l) in omega (arith, s, z)

@@ -90,7 +90,7 @@ module _ (behaviour : Behaviour) (l : Line) where
   quiet_queue : (q : List Envelope) (n : ℕ) (xs : List Step) (s : Doing (worker behaviour l)) (r : Reply Envelope) → Quiet s r → queue_after l xs ≡ q
       → Answers behaviour l n xs (ask (worker behaviour l) s) r → queue_next q (ask (worker behaviour l) s) ≡ q
   quiet_queue [] n xs taking (from_queue None) takes_none e h = refl
-  quiet_queue (x ∷ q) n xs taking (from_queue None) takes_none e h = absurd (let wrong : None ≡ Some x = h ∙ ap (λ z. broker.answer z broker.take) e in cc)
+  quiet_queue (x ∷ q) n xs taking (from_queue None) takes_none e h = absurd (let wrong : None ≡ Some x = h ∙ ap (λ z. broker.answer_of z broker.take) e in cc)
   quiet_queue q n xs resting (rested b) rests_on e h = refl
   quiet_queue q n xs s r k e h = elim k [ ]
 
@@ -234,7 +234,7 @@ module _ (behaviour : Behaviour) (l : Line) where
     more_true : (xs : List Step) (b : Bool) → is_queued (queue_after l xs) ≡ true → b ≡ holds_more behaviour l n xs → b ≡ true
     more_true xs b q e = e ∙ ap (λ c. c || some_inside behaviour l n xs) q
 
-    none_queued : (q : List Envelope) → is_queued q ≡ true → None ≡ broker.answer q broker.take → ⊥
+    none_queued : (q : List Envelope) → is_queued q ≡ true → None ≡ broker.answer_of q broker.take → ⊥
     none_queued [] e h = cc
     none_queued (x ∷ q) e h = cc
 

@@ -99,7 +99,7 @@ held_taken h (x ∷ xs) e k = ⊎_elim (λ a. one x.0 x.1 a) (λ b. inr (inr b))
     one a r q = inl q
 
 -- the queue's answer to a take
-none_left : (q : List Envelope) → None ≡ broker.answer q broker.take → broker.next q broker.take ≡ q
+none_left : (q : List Envelope) → None ≡ broker.answer_of q broker.take → broker.next q broker.take ≡ q
 none_left [] e = refl
 none_left (x ∷ q) e = absurd cc
 
@@ -172,10 +172,10 @@ module _ (behaviour : Behaviour) (l : Line) where
   -- ---- the histories stay legal
 
   abbrev QueueLegal : List (broker.QueueEntry Envelope) → List (broker.QueueEntry Envelope) → Type 0
-  QueueLegal before es = LegalFrom [] broker.answer broker.next broker.May before es
+  QueueLegal before es = LegalFrom [] broker.answer_of broker.next broker.May before es
 
   abbrev queue_from_log : List Envelope → List (broker.QueueEntry Envelope) → List Envelope
-  queue_from_log q es = state_from [] broker.answer broker.next broker.May q es
+  queue_from_log q es = state_from [] broker.answer_of broker.next broker.May q es
 
   -- what a step adds to a history of the queue
   queue_adds : (n : ℕ) (xs : List Step) (p : ℕ) (a : Ask Envelope) (r : Reply Envelope) (log : List (broker.QueueEntry Envelope))
@@ -184,7 +184,7 @@ module _ (behaviour : Behaviour) (l : Line) where
       × (queue_from_log (queue_after l xs) (entries_by p (broker_call a r)) ≡ queue_next (queue_after l xs) a)
   queue_adds n xs p (to_queue broker.take) (from_queue None) log alive is o h = (tt, sym (none_left (queue_after l xs) h))
   queue_adds n xs p (to_queue broker.take) (from_queue (Some e)) log alive is o h =
-      (((alive, h ∙ ap (λ q. broker.answer q broker.take) (sym is), tt), tt), refl)
+      (((alive, h ∙ ap (λ q. broker.answer_of q broker.take) (sym is), tt), tt), refl)
   queue_adds n xs p (to_queue (broker.publish e)) (from_queue x) log alive is o h = (((alive, h, tt), tt), refl)
   queue_adds n xs p (to_queue (broker.redeliver e)) r log alive is o h = absurd (false≢true o)
   queue_adds n xs p (to_table c) (from_table r) log alive is o h = (tt, refl)
@@ -220,8 +220,9 @@ module _ (behaviour : Behaviour) (l : Line) where
       let new : List (broker.QueueEntry Envelope) = entries_by p (broker_call a r) in
       let adds = queue_adds n xs p a r (queue_log n xs) (worker_lives n p (queue_log n xs) (queue_made n xs) w) is o h in
       let more = queue_log_more n xs (p, (a, r)) in (
-        subst broker.IsLegal (sym more) (legal_append [] broker.answer broker.next broker.May [] (queue_log n xs) new legal adds.0),
-        ap broker.queue_of more ∙ (state_append [] broker.answer broker.next broker.May [] (queue_log n xs) new ∙ (ap (λ q. queue_from_log q new) is ∙ adds.1)),
+        subst broker.IsLegal (sym more) (legal_append [] broker.answer_of broker.next broker.May [] (queue_log n xs) new legal adds.0),
+        ap broker.queue_of more ∙ (state_append [] broker.answer_of broker.next broker.May [] (queue_log n xs) new
+            ∙ (ap (λ q. queue_from_log q new) is ∙ adds.1)),
       )
 
   pub table_stays : (n : ℕ) (xs : List Step) (p : ℕ) (a : Ask Envelope) (r : Reply Envelope) → IsWorker n p
@@ -286,8 +287,8 @@ module _ (behaviour : Behaviour) (l : Line) where
       let alive = worker_lives n p (queue_log n xs) (queue_made n xs) w in
       let more = queue_log_more n xs (redelivery p e) in (
         subst broker.IsLegal (sym more)
-            (legal_append [] broker.answer broker.next broker.May [] (queue_log n xs) new legal ((alive, refl, has_taken n xs p e h), tt)),
-        ap broker.queue_of more ∙ (state_append [] broker.answer broker.next broker.May [] (queue_log n xs) new ∙ ap (λ q. queue_from_log q new) is),
+            (legal_append [] broker.answer_of broker.next broker.May [] (queue_log n xs) new legal ((alive, refl, has_taken n xs p e h), tt)),
+        ap broker.queue_of more ∙ (state_append [] broker.answer_of broker.next broker.May [] (queue_log n xs) new ∙ ap (λ q. queue_from_log q new) is),
       )
 
   pub table_delivers : (n : ℕ) (xs : List Step) (p : ℕ) (e : Envelope) → table_log n (xs ++ redelivery p e ∷ []) ≡ table_log n xs
@@ -314,11 +315,12 @@ module _ (behaviour : Behaviour) (l : Line) where
       let made : Made n (splits_of (round n)) = record { rest = []; is = sym (append-nil (splits_of (round n))); only = tt } in
       let shape : queue_log n [] ≡ splits_of (round n) ++ opening = ap (λ g. splits_of (round n) ++ g) (append-nil opening) in (
         subst broker.IsLegal (sym shape)
-            (legal_append [] broker.answer broker.next broker.May [] (splits_of (round n)) opening (splits_legal [] broker.answer broker.next broker.May n)
+            (legal_append [] broker.answer_of broker.next broker.May [] (splits_of (round n)) opening
+            (splits_legal [] broker.answer_of broker.next broker.May n)
             (published_legal (splits_of (round n)) firsts (first_lives n (splits_of (round n)) made))),
         ap broker.queue_of shape
-            ∙ (state_append [] broker.answer broker.next broker.May [] (splits_of (round n)) opening
-            ∙ (ap (λ q. queue_from_log q opening) (splits_state [] broker.answer broker.next broker.May [] (round n)) ∙ published_state [] firsts)),
+            ∙ (state_append [] broker.answer_of broker.next broker.May [] (splits_of (round n)) opening
+            ∙ (ap (λ q. queue_from_log q opening) (splits_state [] broker.answer_of broker.next broker.May [] (round n)) ∙ published_state [] firsts)),
       )
 
   pub table_starts : (n : ℕ) → results.IsLegal (roster_of l) (table_log n []) × (results.results (roster_of l) (table_log n []) ≡ results_after [])

@@ -121,7 +121,7 @@ module _ (behaviour : Behaviour) (l : Line) where
 
   -- ---- a worker's own step, where all is idle
 
-  none_taken : (q : List Envelope) (e : Envelope) → q ≡ [] → Some e ≡ broker.answer q broker.take → ⊥
+  none_taken : (q : List Envelope) (e : Envelope) → q ≡ [] → Some e ≡ broker.answer_of q broker.take → ⊥
   none_taken [] e i h = cc
   none_taken (x ∷ q) e i h = cc
 

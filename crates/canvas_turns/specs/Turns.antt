@@ -108,7 +108,7 @@ module _ (behaviour : Behaviour) (l : Line) where
   holds_more n before = is_queued (queue_after l before) || some_inside n before
 
   abbrev pub Answers : ℕ → List Step → Ask Envelope → Reply Envelope → Type 0
-  Answers n before (to_queue c) (from_queue x) = x ≡ broker.answer (queue_after l before) c
+  Answers n before (to_queue c) (from_queue x) = x ≡ broker.answer_of (queue_after l before) c
   Answers n before (to_table c) (from_table r) =
       r ≡ reply_of (roster_of l) (results_after before) c
   Answers n before rest (rested m) = m ≡ holds_more n before

@@ -6,14 +6,14 @@ use Rattle.canvas_history.proofs.Histories.{legal_left}
 use Rattle.canvas_message.specs.declared.envelope.Envelope.{Envelope}
 use Rattle.canvas_backend.specs.Roster.{Roster}
 use Rattle.canvas_broker.specs.Broker as broker
-use Rattle.canvas_broker.specs.Broker.{QueueEntry as Entries, answer, next, May, IsLegal, takes_of}
+use Rattle.canvas_broker.specs.Broker.{QueueEntry as Entries, answer_of, next, May, IsLegal, takes_of}
 use Rattle.canvas_broker.specs.Passes.{Took}
 use Rattle.canvas_runs.specs.Core.{Ask, Reply, to_queue, to_table, from_queue, refused, Suits, IsCoreRun, left_after, rest, ack, acked}
 use Rattle.canvas_runs.specs.Following.{Pass, Seat, Makes, Serves, Working, Followed}
 use Rattle.canvas_runs.specs.Calls.{QueueAnswered, TableAnswered, CoreCall, makes, FollowsScripts, scripts_all, scripts_publish, scripts_list_take, scripts_core_take, scripts_ack, held_by, broker_call, broker_calls, core_call, core_calls, backend_call, backend_calls, takes_one, scripts_again}
 use Rattle.canvas_runs.specs.Lists.{total}
 use Rattle.canvas_runs.specs.Protocol.{Protocol}
-use Rattle.canvas_worker.specs.WorkerSteps.{OnlyBare, Called, FromHeld, Batched, Delivered}
+use Rattle.canvas_worker.specs.WorkerSteps.{OnlyBare, AnsweredByCall, FromHeld, Batched, Delivered}
 use Rattle.canvas_runs.specs.Tally.{Tally, CountsMore, IsTally, Counted, greatest_count, publishing, storing, returning, dropping}
 use Rattle.canvas_worker.specs.EnvelopeWorker.{enveloped}
 use Rattle.canvas_worker.specs.CoreState.{Progress, HasFollowed}
@@ -44,7 +44,7 @@ took_makes p q (e ∷ d ∷ es) t =
     let shape : q.seen ≡ mid.seen ++ rest =
     x.1 ∙ (ap (λ l. p.seen ++ (x.0 ++ l)) (sym (append_assoc p.owed (call ∷ []) rest))
     ∙ (ap (λ l. p.seen ++ l) (sym (append_assoc x.0 (p.owed ++ call ∷ []) rest)) ∙ sym (append_assoc p.seen (x.0 ++ (p.owed ++ call ∷ [])) rest))) in
-    let legal : IsLegal mid.seen = legal_left [] answer next May [] mid.seen rest (subst (λ l. IsLegal l) shape x.3) in
+    let legal : IsLegal mid.seen = legal_left [] answer_of next May [] mid.seen rest (subst (λ l. IsLegal l) shape x.3) in
     (mid, (refl, refl, refl, refl, (x.0, refl, x.2, legal, x.4)), took_makes mid q (d ∷ es) (t.0, t.1, t.2, t.3, ([], shape, tt, x.3, λ _. refl)))
 
 batch_follows : (h : Option Envelope) (es : List Envelope) (ts : List Envelope) (cs : List (CoreCall Envelope)) (ls : List (QueueAnswered Envelope))
@@ -118,7 +118,7 @@ module _ (behaviour : Behaviour) (plan : Roster) where
   pub rests : (w : Progress) → IsTally w.tally → HasFollowed behaviour plan w w
   rests w t = nothing_done (enveloped behaviour plan) plan w t
 
-  pub call_first : (w v x : Progress) (a : Ask Envelope) (r : Reply Envelope) → Called behaviour plan w v a r → HasFollowed behaviour plan v x
+  pub call_first : (w v x : Progress) (a : Ask Envelope) (r : Reply Envelope) → AnsweredByCall behaviour plan w v a r → HasFollowed behaviour plan v x
       → HasFollowed behaviour plan w x
   call_first w v x a r s f =
       let call : List (QueueAnswered Envelope) = broker_call a r in

@@ -17,7 +17,7 @@ use Rattle.canvas_worker.specs.Books.{book_in, no_book}
 use Rattle.canvas_worker.specs.EnvelopeWorker.{enveloped, enveloped_by, no_tasks}
 use Rattle.canvas_worker.specs.SeatRights.{Can}
 use Rattle.canvas_worker.specs.CoreState.{Standing, Progress, asked, drops, after_reply, open_of, kept_next, task_next}
-use Rattle.canvas_worker.specs.WorkerSteps.{OnlyBare, Called}
+use Rattle.canvas_worker.specs.WorkerSteps.{OnlyBare, AnsweredByCall}
 use Rattle.canvas_worker.specs.Polls.{Work, progress, with_core, with_answer, lost, CanDeliver, in_hand, Ready, makes_call, Acts, Acted, Leaves, EndsBy, ActedLast}
 use Rattle.canvas_worker.specs.declared.cause.Cause.TheVariants.{Memory}
 use Rattle.canvas_worker.specs.declared.record.Record.{Record}
@@ -150,7 +150,7 @@ module _ (behaviour : Behaviour) (w u : Work) (a : Asked) (r : Answer) (ready : 
   current : after.current ≡ held_by (open_of w.core.left w.core.kept) a r
   current = book_step behaviour (book_on plan) w.core.left w.core.kept r suits_left ∙ ap (λ b. held_by (open_of w.core.left w.core.kept) b r) x.asked_is
 
-  pub called : Called behaviour plan (progress w) after a r
+  pub called : AnsweredByCall behaviour plan (progress w) after a r
   called = (
     record { asked = sym x.asked_is; suits = x.suits; back = x.back; counts = counted; left = refl; current = current },
     held,

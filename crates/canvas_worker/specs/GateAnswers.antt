@@ -39,14 +39,14 @@ passed_after s p said = passed_at s p
 
 module _ (go : ℕ → Bool → Type 0) (again : ℕ → Type 0) where
   -- the gate lets the worker go on from here: before a first store it has said so
-  abbrev pub Opens : Option (ℕ × When) → Type 0
-  Opens (Some (k, Early)) = go k true
-  Opens x = Unit {0}
+  abbrev pub LetsOn : Option (ℕ × When) → Type 0
+  LetsOn (Some (k, Early)) = go k true
+  LetsOn x = Unit {0}
 
   -- it holds the worker back, which it does before a first store alone
-  abbrev pub Shuts : Option (ℕ × When) → Type 0
-  Shuts (Some (k, Early)) = go k false
-  Shuts x = ⊥
+  abbrev pub HoldsBack : Option (ℕ × When) → Type 0
+  HoldsBack (Some (k, Early)) = go k false
+  HoldsBack x = ⊥
 
   -- it wants the envelope again, which it does where it is asked alone
   abbrev pub Wants : Option (ℕ × When) → Type 0
@@ -54,26 +54,26 @@ module _ (go : ℕ → Bool → Type 0) (again : ℕ → Type 0) where
   Wants None = ⊥
 
   abbrev pub Heard : Option (ℕ × When) → Said → Type 0
-  Heard x Wait = Shuts x
-  Heard x Again = Opens x × Wants x
-  Heard x On = Opens x
+  Heard x Wait = HoldsBack x
+  Heard x Again = LetsOn x × Wants x
+  Heard x On = LetsOn x
 
   module _ (behaviour : Behaviour) (w : Work) (p : Option When) where
     -- what a poll leaves that is pending, of a worker and of the latest point that it has passed:
     -- where the gate holds it back it is as it was
     pub data Heeds (v : Work) (q : Option When) : Type 0 where
-      waits : Shuts (asks_at w.core p) → v ≡ w → q ≡ p → Heeds v q
-      delivers : Opens (asks_at w.core p) → Wants (asks_at w.core p) → Redelivered w v
+      waits : HoldsBack (asks_at w.core p) → v ≡ w → q ≡ p → Heeds v q
+      delivers : LetsOn (asks_at w.core p) → Wants (asks_at w.core p) → Redelivered w v
           → q ≡ passed_at w.core p → Heeds v q
-      goes_on : Opens (asks_at w.core p) → Acted behaviour w v → q ≡ passed_at w.core p
+      goes_on : LetsOn (asks_at w.core p) → Acted behaviour w v → q ≡ passed_at w.core p
           → Heeds v q
 
     -- and what one leaves that is ready: where the gate holds the worker back it has only stopped
     pub data LeavesHeeding (r : Record) : Type 0 where
       stops : Leaves w (Some Stopped) r → LeavesHeeding r
-      fails_again : Opens (asks_at w.core p) → Wants (asks_at w.core p)
+      fails_again : LetsOn (asks_at w.core p) → Wants (asks_at w.core p)
           → Leaves w (Some Memory) r → LeavesHeeding r
-      ends : Opens (asks_at w.core p) → EndsBy (Acts behaviour w.desk.plan) w r
+      ends : LetsOn (asks_at w.core p) → EndsBy (Acts behaviour w.desk.plan) w r
           → EndsFor (shown w.core.task (asked w.core.left)) r.fault → LeavesHeeding r
 
     -- where the gate can only hold the worker back, nothing was done

@@ -21,7 +21,7 @@ use Rattle.canvas_worker.specs.Books.{book_in}
 use Rattle.canvas_worker.specs.SeatRights.{Can}
 use Rattle.canvas_runs.specs.Tally.{greatest_count}
 use Rattle.canvas_worker.specs.CoreState.{Standing, Progress, HasFollowed, begun as new_core, after_reply, failing, held}
-use Rattle.canvas_worker.specs.WorkerSteps.{Called, FromHeld, Batched, Delivered}
+use Rattle.canvas_worker.specs.WorkerSteps.{AnsweredByCall, FromHeld, Batched, Delivered}
 use Rattle.canvas_worker.specs.declared.ask.Ask.{Ask}
 use Rattle.canvas_worker.specs.declared.ask.Ask.TheVariants.{Store, Part, Ack, Rest}
 use Rattle.canvas_worker.specs.declared.cause.Cause.{Cause}
@@ -165,7 +165,8 @@ pub record Ready (w : Work) : Type 0 where
 -- envelope is a batch of one.
 pub data Acts (behaviour : Behaviour) (plan : Roster) (p q : Progress) : Type 0 where
   stays : q ≡ p → Acts behaviour plan p q
-  makes_call : (a : Asked) (r : Answer) → Called behaviour plan p q a r → Acts behaviour plan p q
+  makes_call : (a : Asked) (r : Answer) → AnsweredByCall behaviour plan p q a r
+      → Acts behaviour plan p q
   takes_batch : (es : List Envelope) → Batched p q es → Acts behaviour plan p q
   gives_held : (es : List Envelope) (e : Envelope) (between : Progress) → Batched p between es
       → FromHeld behaviour plan between q e → Acts behaviour plan p q

@@ -12,7 +12,7 @@ use Rattle.canvas_runs.specs.Following.{Pass}
 use Rattle.canvas_runs.specs.Core.{Ask, Reply}
 use Rattle.canvas_worker.specs.CoreState.{Progress, HasFollowed}
 use Rattle.canvas_runs.specs.Tally.{IsTally}
-use Rattle.canvas_worker.specs.WorkerSteps.{Called, FromHeld, Batched, Delivered}
+use Rattle.canvas_worker.specs.WorkerSteps.{AnsweredByCall, FromHeld, Batched, Delivered}
 
 abbrev pub Rests : Type 0
 Rests =
@@ -22,7 +22,7 @@ Rests =
 abbrev pub CallFirst : Type 0
 CallFirst =
     (behaviour : Behaviour) (plan : Roster) (w v x : Progress) (a : Ask Envelope)
-    (r : Reply Envelope) → Called behaviour plan w v a r → HasFollowed behaviour plan v x
+    (r : Reply Envelope) → AnsweredByCall behaviour plan w v a r → HasFollowed behaviour plan v x
     → HasFollowed behaviour plan w x
 
 abbrev pub HeldFirst : Type 0

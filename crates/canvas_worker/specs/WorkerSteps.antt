@@ -29,8 +29,8 @@ module _ (behaviour : Behaviour) (plan : Roster) where
     pub left : v.left ≡ answered (enveloped behaviour plan) w.left r
     pub current : v.current ≡ held_by w.current a r
 
-  abbrev pub Called : Progress → Progress → Ask Envelope → Reply Envelope → Type 0
-  Called w v a r =
+  abbrev pub AnsweredByCall : Progress → Progress → Ask Envelope → Reply Envelope → Type 0
+  AnsweredByCall w v a r =
       Answered w v a r × (v.held ≡ w.held) × OnlyBare a r w.held
       × Makes w.pass (broker_call a r) v.pass × Serves plan w.seat (backend_call a r) v.seat
 

@@ -8,7 +8,7 @@ use Rattle.canvas_task.specs.declared.arg.Arg.{Arg}
 use Rattle.canvas_sig.specs.CanvasText.{json_of}
 use Rattle.canvas_task.specs.Text.{Text}
 use Rattle.canvas_sig.specs.Fields.{field, listed, object_members, text_of, is_null, is_list, is_object, is_list_or_null, is_object_or_null}
-use Rattle.canvas_sig.specs.Answers.{◌>>=◌, fault_if, unless, each}
+use Rattle.canvas_sig.specs.Answers.{◌>>=◌, fault_if, unless, in_turn}
 use Rattle.canvas_sig.specs.Grammar.{arg_reading, named_reading, is_name, is_text}
 use Rattle.canvas_sig.specs.declared.fault.SigFault.{SigFault}
 use Rattle.canvas_sig.specs.declared.fault.SigFault.TheVariants.{BadArgs}
@@ -55,15 +55,15 @@ refused_as e (Err f) = Err e
 abbrev pub is_version_2 : (headers : Data) → Bool
 is_version_2 h = is_object h && is_name (field (codes "task") h)
 
-abbrev pub is_same : ℕ → Option ℕ → Bool
-is_same k None = false
-is_same k (Some j) = j == k
+abbrev pub is_that_task : ℕ → Option ℕ → Bool
+is_that_task k None = false
+is_that_task k (Some j) = j == k
 
 -- what a look-up of the correlation's identifier found names the same task, where it found
 -- something
 abbrev pub correlates : ℕ → Option Data → Bool
 correlates k None = true
-correlates k (Some d) = is_same k (task_of d)
+correlates k (Some d) = is_that_task k (task_of d)
 
 -- null, or a group's or chord's identifier
 abbrev pub is_group_or_null : Data → Bool
@@ -96,22 +96,22 @@ parts_of (array (item a (item k (item e no_items)))) =
     Some (record { args = a; kwargs = k; embed = e })
 parts_of d = None
 
-pub record Given : Type 0 where
+pub record GivenParts : Type 0 where
   pub args : List Arg
   pub kwargs : List (Text × Arg)
 
-abbrev pub given_reading : (args kwargs : Data) → Result Given SigFault
+abbrev pub given_reading : (args kwargs : Data) → Result GivenParts SigFault
 given_reading a k =
     unless (fault_if (not (is_list a) || not (is_object_or_null k)) BadArgs)
-    (each arg_reading (listed a) >>=
-    λ args. each named_reading (object_members k) >>=
+    (in_turn arg_reading (listed a) >>=
+    λ args. in_turn named_reading (object_members k) >>=
     λ kwargs. Ok (record { args = args; kwargs = kwargs }))
 
 -- what follows on the line: the last element first
 abbrev pub chain_reading : List Data → Result PLine SigFault
 chain_reading [] = Ok p_stop
 chain_reading (d ∷ ds) =
-    last_reading levels d >>= λ l. each (step_reading levels) ds
+    last_reading levels d >>= λ l. in_turn (step_reading levels) ds
     >>= λ ts. Ok (p_steps (reverse ts) l)
 
 pub record Embed : Type 0 where
@@ -129,8 +129,8 @@ embed_ok e =
 abbrev pub embed_reading : (group : Data) → Data → Result Embed SigFault
 embed_reading group e =
     unless (fault_if (not (embed_ok e)) BadArgs)
-    (each (link_reading levels) (listed (field (codes "callbacks") e)) >>= λ links.
-    each (link_reading levels) (listed (field (codes "errbacks") e)) >>= λ errbacks.
+    (in_turn (link_reading levels) (listed (field (codes "callbacks") e)) >>= λ links.
+    in_turn (link_reading levels) (listed (field (codes "errbacks") e)) >>= λ errbacks.
     place_with (line_reading levels) group (field (codes "chord") e) >>= λ place.
     chain_reading (listed (field (codes "chain") e)) >>= λ rest.
     Ok (record { links = links; errbacks = errbacks; place = place; rest = rest }))
@@ -141,7 +141,7 @@ embed_reading group e =
 abbrev pub if_fits : Content → Result Content MessageFault
 if_fits c = if fits c then Ok c else Err BadEmbed
 
-abbrev pub content_of : (headers : Data) → ℕ → Given → Embed → Content
+abbrev pub content_of : (headers : Data) → ℕ → GivenParts → Embed → Content
 content_of h k given embed =
     record {
       parent = task_of (field (codes "parent_id") h);

@@ -3,7 +3,7 @@
 ghost use Rattle.std.specs.Prelude.{◌≡◌, false, map, OnOk, IfErr, Some, None};
 ghost use Rattle.canvas_sig.specs.Datum.{view};
 ghost use Rattle.canvas_sig.specs.Fields.{value_at, as_list, listed, tasks, subtype};
-ghost use Rattle.canvas_sig.specs.Answers.{Gives, ◌or_else◌, unless, each};
+ghost use Rattle.canvas_sig.specs.Answers.{Gives, ◌or_else◌, unless, in_turn};
 ghost use Rattle.canvas_sig.specs.Grammar.{own_fault, primitive_of};
 ghost use Rattle.canvas_rewrite.specs.FrozenView.{p_task_view, p_line_view, p_end_view};
 ghost use Rattle.canvas_message.specs.MessageView.{place_seen, carried_view};
@@ -107,7 +107,7 @@ fn read_links(
     left: u32,
 ) -> Result<Vec<FrozenTask>, SigFault>
     ensures { Gives (λ v. map p_task_view v.items) result
-        (each (link_reading left) (as_list (value_at field.entry))) }
+        (in_turn (link_reading left) (as_list (value_at field.entry))) }
 {
     match field {
         None => Ok(Vec::new(alloc)),
@@ -122,7 +122,7 @@ fn read_one_or_more(
     left: u32,
 ) -> Result<Vec<FrozenTask>, SigFault>
     ensures { Gives (λ v. map p_task_view v.items) result
-        (each (link_reading left) (as_list (view value.now))) }
+        (in_turn (link_reading left) (as_list (view value.now))) }
 {
     match value {
         Datum::Null => Ok(Vec::new(alloc)),
@@ -142,7 +142,7 @@ pub(crate) fn read_all_links(
     left: u32,
 ) -> Result<Vec<FrozenTask>, SigFault>
     ensures { Gives (λ v. map p_task_view v.items) result
-        (each (link_reading left) (map view values.now)) }
+        (in_turn (link_reading left) (map view values.now)) }
 {
     let mut tasks = Vec::new(alloc);
     for value in values {
@@ -274,7 +274,7 @@ pub(crate) fn read_steps(
     left: u32,
 ) -> Result<Vec<FrozenTask>, SigFault>
     ensures { Gives (λ v. map p_task_view v.items) result
-        (each (step_reading left) (map view values.now)) }
+        (in_turn (step_reading left) (map view values.now)) }
 {
     let mut tasks = Vec::new(alloc);
     for value in values {
@@ -381,7 +381,7 @@ fn read_member(alloc: Global, field: Option<&Datum<'_>>, left: u32) -> Result<Fr
 #[cycle(read)]
 fn read_lines(alloc: Global, values: &[Datum<'_>], left: u32) -> Result<Vec<FrozenLine>, SigFault>
     ensures { Gives (λ v. map p_line_view v.items) result
-        (each (line_reading left) (map view values.now)) }
+        (in_turn (line_reading left) (map view values.now)) }
 {
     let mut lines = Vec::new(alloc);
     for value in values {

@@ -5,7 +5,7 @@ ghost use Rattle.std.specs.Option.{option_map};
 ghost use Rattle.canvas_sig.specs.Datum.{view};
 ghost use Rattle.serde_json.specs.Find.{get};
 ghost use Rattle.canvas_sig.specs.Fields.{value_at, is_object};
-ghost use Rattle.canvas_codec.specs.steps.Reading.{is_version_2, is_same, correlates, is_group_or_null, ids_ok, id_reading, is_json};
+ghost use Rattle.canvas_codec.specs.steps.Reading.{is_version_2, is_that_task, correlates, is_group_or_null, ids_ok, id_reading, is_json};
 
 use super::identifiers::{group_of, task_of};
 use canvas_sig::parts::{Datum, is_name, is_null, is_text};
@@ -18,8 +18,8 @@ pub(crate) fn is_version_2(headers: &Datum<'_>) -> bool
     headers.is_object() && is_name(headers.get("task"))
 }
 
-fn is_same(task: TaskNo, other: Option<TaskNo>) -> bool
-    ensures { result ≡ is_same task other }
+fn is_that_task(task: TaskNo, other: Option<TaskNo>) -> bool
+    ensures { result ≡ is_that_task task other }
 {
     match other {
         Some(other) => other.get() == task.get(),
@@ -32,7 +32,7 @@ fn correlates(task: TaskNo, field: Option<&Datum<'_>>) -> bool
     ensures { result ≡ correlates task (option_map (λ v. view v.now) field.entry) }
 {
     match field {
-        Some(_) => is_same(task, task_of(field)),
+        Some(_) => is_that_task(task, task_of(field)),
         None => true,
     }
 }

@@ -6,7 +6,7 @@ use Rattle.canvas_semantics.specs.Evaluation.{eval_chain, member_rows}
 use Rattle.canvas_semantics.specs.FileOrder.{LineIn, LinesIn}
 use Rattle.canvas_semantics.specs.Line.{Line, Lines, elements_of, members_of}
 use Rattle.canvas_collect.specs.Called.{chain_called, members_called}
-use Rattle.canvas_collect.specs.Completed.{state_at, Has, Keeps}
+use Rattle.canvas_collect.specs.Completed.{state_at, HasRows, Keeps}
 use Rattle.canvas_collect.specs.declared.completing.Flow as known
 use Rattle.canvas_collect.specs.declared.completing.Flow.TheVariants.{Value, Skip, Raise, Pending}
 
@@ -43,13 +43,13 @@ module _ (table : ℕ → List ℕ) where
   abbrev pub Reaches : known.Flow → Line → List State → Type 0
   Reaches flow l states =
       (behaviour : Behaviour) × (x : Flow) × (low : ℕ) × (high : ℕ) × IsKnown flow x
-      × LineIn table l low high × Has states (eval_chain behaviour (elements_of l) x).rows
+      × LineIn table l low high × HasRows states (eval_chain behaviour (elements_of l) x).rows
 
   -- of the members of a group or chord
   abbrev pub ReachesAll : known.Flow → Lines → List State → Type 0
   ReachesAll flow ls states =
       (behaviour : Behaviour) × (x : Flow) × (low : ℕ) × (high : ℕ) × IsKnown flow x
-      × LinesIn table ls low high × Has states (member_rows behaviour (members_of ls) x)
+      × LinesIn table ls low high × HasRows states (member_rows behaviour (members_of ls) x)
 
 -- each of these tasks has an outcome
 abbrev pub AllThere : List State → List ℕ → Type 0
@@ -62,17 +62,17 @@ abbrev pub Leaves : Behaviour → Line → (whole : Rows) → known.Flow → (ro
     → Type 0
 Leaves b l whole flow rows states =
     (x : Flow) × IsKnown flow x × IsTold flow
-    × Has states (eval_chain b (elements_of l) x).rows
-    × Has rows (chain_called b (elements_of l) x)
+    × HasRows states (eval_chain b (elements_of l) x).rows
+    × HasRows rows (chain_called b (elements_of l) x)
     × ((later : List State) → Keeps rows later → Within later states
-    → Has later (eval_chain b (elements_of l) x).rows → Has later whole)
+    → HasRows later (eval_chain b (elements_of l) x).rows → HasRows later whole)
 
 -- of the members of a group or chord
 abbrev pub LeavesAll : Behaviour → Lines → (whole : Rows) → known.Flow → (rows states : List State)
     → Type 0
 LeavesAll b ls whole flow rows states =
     (x : Flow) × IsKnown flow x × IsTold flow
-    × Has states (member_rows b (members_of ls) x)
-    × Has rows (members_called b (members_of ls) x)
+    × HasRows states (member_rows b (members_of ls) x)
+    × HasRows rows (members_called b (members_of ls) x)
     × ((later : List State) → Keeps rows later → Within later states
-    → Has later (member_rows b (members_of ls) x) → Has later whole)
+    → HasRows later (member_rows b (members_of ls) x) → HasRows later whole)

@@ -41,7 +41,7 @@ rows_of tasks results = map results.outcomes (numbers_from 1 tasks)
 -- what the queue and the table answer where they hold this; a worker that rests is told whether
 -- there is more
 abbrev pub AnswersNow : Roster → List Envelope → Results → Bool → Asked → Answer → Type 0
-AnswersNow plan queue results more (to_queue c) (from_queue x) = x ≡ broker.answer queue c
+AnswersNow plan queue results more (to_queue c) (from_queue x) = x ≡ broker.answer_of queue c
 AnswersNow plan queue results more (to_table c) (from_table r) = r ≡ reply_of plan results c
 AnswersNow plan queue results more rest (rested m) = m ≡ more
 AnswersNow plan queue results more ack acked = Unit {0}

@@ -12,7 +12,7 @@ Hat C R = ℕ × List (Entry C R)
 module _ {C R : Type 0} where
   -- this caller has seen a beginning of the history, and the rest has no entry of it. `at` says in
   -- which view it stands, and where there
-  pub record Fits (log : List (Entry C R)) (at : ℕ → ℕ × ℕ) (seat place : ℕ) (h : Hat C R) :
+  pub record Agrees (log : List (Entry C R)) (at : ℕ → ℕ × ℕ) (seat place : ℕ) (h : Hat C R) :
       Type 0 where
     pub rest : List (Entry C R)
     pub is : log ≡ h.1 ++ rest
@@ -21,11 +21,11 @@ module _ {C R : Type 0} where
     pub was_alive : among h.0 (live h.1) ≡ true
     pub here : at h.0 ≡ (seat, place)
 
-  abbrev pub AllFit : List (Entry C R) → (ℕ → ℕ × ℕ) → List (List (Hat C R)) → Type 0
-  AllFit log at views =
+  abbrev pub AllAgree : List (Entry C R) → (ℕ → ℕ × ℕ) → List (List (Hat C R)) → Type 0
+  AllAgree log at views =
       (seat : ℕ) (hats : List (Hat C R)) (place : ℕ) (h : Hat C R)
       → get_elem? views seat ≡ some hats
-      → get_elem? hats place ≡ some h → Fits log at seat place h
+      → get_elem? hats place ≡ some h → Agrees log at seat place h
 
 module _ {C R S : Type 0} (first : S) (answer : S → C → R) (next : S → C → S)
     (May : List (Entry C R) → S → ℕ → C → Type 0) where
@@ -36,4 +36,4 @@ module _ {C R S : Type 0} (first : S) (answer : S → C → R) (next : S → C �
     pub shown : shows (replay first answer next May log)
     -- callers are numbered by their splits
     pub numbered : (q : ℕ) → among q (split_off log) ≡ true → q ≤ length (split_off log)
-    pub fits : AllFit log at views
+    pub fits : AllAgree log at views

@@ -15,15 +15,15 @@ module _ {L : Type 0} where
   spelled (branch l a b) more = spelled a (spelled b (Some l ∷ more))
 
   -- a branch takes the last two parts
-  abbrev joined : L → List (Nest L) → List (Nest L)
-  joined l [] = []
-  joined l (b ∷ []) = []
-  joined l (b ∷ a ∷ parts) = branch l a b ∷ parts
+  abbrev branched : L → List (Nest L) → List (Nest L)
+  branched l [] = []
+  branched l (b ∷ []) = []
+  branched l (b ∷ a ∷ parts) = branch l a b ∷ parts
 
   abbrev built : List (Option L) → List (Nest L) → List (Nest L)
   built [] parts = parts
   built (None ∷ more) parts = built more (leaf ∷ parts)
-  built (Some l ∷ more) parts = built more (joined l parts)
+  built (Some l ∷ more) parts = built more (branched l parts)
 
   abbrev first_of : List (Nest L) → Nest L
   first_of [] = leaf

@@ -16,7 +16,7 @@ use Rattle.canvas_sig.specs.Fields.{field, subtype, args, kwargs, tasks, header,
 use Rattle.canvas_semantics.specs.Tree.{Task, task, Tree, one, chain, group, chord, Trees}
 use Rattle.canvas_sig.specs.SignatureView.{tasks_of, trees_of}
 use Rattle.serde_json.specs.Read.{max_depth}
-use Rattle.canvas_sig.specs.Answers.{◌>>=◌, fault_if, unless, each}
+use Rattle.canvas_sig.specs.Answers.{◌>>=◌, fault_if, unless, in_turn}
 use Rattle.canvas_sig.specs.Grammar.{arg_reading, named_reading, primitive_of, own_fault, members_in}
 use Rattle.canvas_sig.specs.CanvasText.{most_bytes, json_of}
 
@@ -30,7 +30,7 @@ number_reading d = Err BadNumber
 
 abbrev pub list_reading : List Data → Result Arg SigFault
 list_reading ds =
-    if list_all is_number ds then (each number_reading ds >>= λ ns. Ok (arg.List ns))
+    if list_all is_number ds then (in_turn number_reading ds >>= λ ns. Ok (arg.List ns))
     else Err BadArgs
 
 abbrev pub arg_steps : Data → Result Arg SigFault
@@ -42,10 +42,10 @@ arg_steps d = Err BadArgs
 -- a task, by what reads its links and error callbacks
 abbrev pub task_with : (Data → Result Task SigFault) → Data → Result Task SigFault
 task_with f d =
-    each arg_reading (listed (args d)) >>= λ args.
-    each named_reading (object_members (kwargs d)) >>= λ kwargs.
-    each f (as_list (link d)) >>= λ links.
-    each f (as_list (link_error d)) >>= λ errbacks.
+    in_turn arg_reading (listed (args d)) >>= λ args.
+    in_turn named_reading (object_members (kwargs d)) >>= λ kwargs.
+    in_turn f (as_list (link d)) >>= λ links.
+    in_turn f (as_list (link_error d)) >>= λ errbacks.
     Ok (task 0 (record {
       name = text_of (field (codes "task") d);
       args = args;
@@ -65,15 +65,15 @@ task_reading (suc n) d = linked_with (task_reading n) d
 
 -- the members of a header, which is a list, or one group signature
 abbrev pub header_reading : (Data → Result Tree SigFault) → Data → Result Trees SigFault
-header_reading f (array ds) = each f (items ds) >>= λ ts. Ok (trees_of ts)
+header_reading f (array ds) = in_turn f (items ds) >>= λ ts. Ok (trees_of ts)
 header_reading f d = f d >>= λ t. Ok (members_in t)
 
 -- a signature that stands for a primitive, by what reads links and by what reads the signatures in
 -- it
 abbrev pub tree_as : (Data → Result Task SigFault) → (Data → Result Tree SigFault)
     → Option Primitive → Data → Result Tree SigFault
-tree_as g f (Some kind.Chain) d = each f (listed (tasks d)) >>= λ ts. Ok (chain (trees_of ts))
-tree_as g f (Some kind.Group) d = each f (listed (tasks d)) >>= λ ts. Ok (group 0 (trees_of ts))
+tree_as g f (Some kind.Chain) d = in_turn f (listed (tasks d)) >>= λ ts. Ok (chain (trees_of ts))
+tree_as g f (Some kind.Group) d = in_turn f (listed (tasks d)) >>= λ ts. Ok (group 0 (trees_of ts))
 tree_as g f (Some kind.Chord) d =
     header_reading f (header d) >>= λ ts. f (body d) >>= λ t. Ok (chord 0 ts t)
 tree_as g f p d = task_with g d >>= λ t. Ok (one t)

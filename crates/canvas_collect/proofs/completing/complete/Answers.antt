@@ -11,7 +11,7 @@ use Rattle.canvas_collect.specs.declared.completing.Flow.TheVariants.{Value}
 use Rattle.canvas_collect.specs.steps.Flows.{Reaches, Within, Leaves}
 use Rattle.canvas_collect.proofs.Walking.{table_has, table_rows, within_by_each, each_long, each_by_within}
 use Rattle.canvas_collect.specs.Called.{chain_called}
-use Rattle.canvas_collect.specs.Completed.{Has}
+use Rattle.canvas_collect.specs.Completed.{HasRows}
 use Rattle.canvas_collect.proofs.Whole.{is_table}
 use Rattle.canvas_collect.proofs.completing.complete.Goals as goal
 
@@ -44,14 +44,14 @@ returns-clause-whole c b each calls =
     let P : Line → Type 0 = λ l. Leaves b l all Value c.as_mut_slice.result.now s in
     let Q : Line → Type 0 = λ l. LineIn table l 1 (1 + count_line plan) in
     let W : List State → Type 0 = λ rows. Within rows s in
-    let H : List State → Type 0 = λ rows. Has rows (chain_called b (elements_of plan) nothing) in
+    let H : List State → Type 0 = λ rows. HasRows rows (chain_called b (elements_of plan) nothing) in
     let left : Leaves b plan all Value c.as_mut_slice.result.now s =
     (nothing, tt, tt, table_has b plan planned, subst H (sym given) calls, λ later stay inside had. had) in
     let long = ap (λ rows. length rows) given ∙ each_long c.args.rows s each in
     let done =
     c.complete_line.ensures.whole s b all 1 (1 + count_line plan) (subst P (sym line) left) (subst Q (sym line) c.line.ensures.in_order)
     (subst W (sym given) (within_by_each c.args.rows s each)) long in
-    let R : Rows → Type 0 = λ es. Has c.complete_line.new.rows es in
+    let R : Rows → Type 0 = λ es. HasRows c.complete_line.new.rows es in
     let made : c.of.result ≡ c.complete_line.new.rows =
     c.of.ensures ∙ take_at c.complete_line.new.rows _ c.into_plain-rows.result.len (c.complete_line.ensures.keeps.count ∙ c.as_mut_slice.ensures.len) in
     made ∙ is_table c.complete_line.new.rows s (subst R (sym (table_rows b plan planned)) done.1) (c.complete_line.ensures.keeps.count ∙ long)

@@ -1,6 +1,6 @@
 use Rattle.std.proofs.Common.{◌++◌, ◌∙◌, ap, sym, arith, string_bytes}
 use Rattle.canvas_semantics.specs.Line.{names, name_of}
-use Rattle.canvas_semantics.specs.Report.{lines}
+use Rattle.canvas_semantics.specs.Report.{report_lines}
 use Rattle.canvas_semantics.specs.States.{rows_from}
 use Rattle.canvas_rewrite.proofs.NamesInOrder.{plan_names}
 use Rattle.canvas_engine.specs.steps.ReportRows.{line_if}
@@ -17,4 +17,5 @@ pub returns : goal.returns
 returns c =
     all_written (names c.args.plan.now) c.loop-index.index (rows_from 1 c.args.rows.now) _ _
     (omega (arith, names_long c.args.plan.now, c.tasks-index-end.ensures.value, c.loop-index-test.false, c.loop-index.auto.index-end)) c.loop-index.invariant
-    ∙ ap (λ ns. string_bytes c.args.text.now ++ lines ns (rows_from 1 c.args.rows.now)) (sym (plan_names c.args.plan.now c.tasks-index-end.ensures.planned))
+    ∙ ap (λ ns. string_bytes c.args.text.now ++ report_lines ns (rows_from 1 c.args.rows.now))
+    (sym (plan_names c.args.plan.now c.tasks-index-end.ensures.planned))

@@ -3,7 +3,7 @@ use Rattle.canvas_task.specs.Entries.{named}
 use Rattle.canvas_task.specs.Text.{Text}
 use Rattle.canvas_sig.specs.Datum.{view}
 use Rattle.canvas_sig.specs.Fields.{seen}
-use Rattle.canvas_sig.specs.Answers.{◌>>=◌, each}
+use Rattle.canvas_sig.specs.Answers.{◌>>=◌, in_turn}
 use Rattle.canvas_sig.specs.Grammar.{named_reading}
 use Rattle.canvas_sig.proofs.Each.{onto, one_more}
 use Rattle.canvas_sig.proofs.Named.{names, AllBelow, goes_last, still_below}
@@ -23,9 +23,9 @@ loop-member-preserved c =
     ap named c.in_ok-insert.ensures.entries ∙ goes_last l.args.entries c.in_ok-name.name arg (subst P (sym key) below) in
     let read : named_reading (e.0.now, view e.1) ≡ Ok (string_bytes c.in_ok-name.name, arg) =
     ap (λ r. r >>= λ a. Ok (e.0.now, a)) c.in_ok-read_argument.ensures ∙ ap (λ k. Ok (k, arg)) (sym key) in (
-      l.invariant.0 ∙ ap (λ es. onto (named l.args.entries) (each named_reading (seen es)))
+      l.invariant.0 ∙ ap (λ es. onto (named l.args.entries) (in_turn named_reading (seen es)))
           (next_member c.args.members.now l.member-index e _ (omega (arith, c.loop-member-test.true)) (sym c.member-item.is))
           ∙ one_more named_reading (named l.args.entries) (e.0.now, view e.1) (seen left) _ read
-          ∙ ap (λ es. onto es (each named_reading (seen left))) (sym last),
+          ∙ ap (λ es. onto es (in_turn named_reading (seen left))) (sym last),
       λ k low. still_below l.args.entries c.insert.new.self.entries (string_bytes c.in_ok-name.name) arg k last (subst P (sym key) below) (rw key low),
     )

@@ -1,6 +1,6 @@
 use Rattle.std.proofs.Common.{◌≡◌, ◌+◌, ◌*◌, map, drop}
 use Rattle.canvas_sig.specs.Datum.{view}
-use Rattle.canvas_sig.specs.Answers.{each}
+use Rattle.canvas_sig.specs.Answers.{in_turn}
 use Rattle.canvas_sig.specs.steps.Reading.{tree_reading}
 use Rattle.canvas_sig.specs.SignatureView.{view as tree_view}
 use Rattle.canvas_sig.proofs.Each.{onto}
@@ -8,7 +8,8 @@ use Rattle.canvas_sig.proofs.reader.+read_node.Given as goal
 
 abbrev pub invariant-read_all-loop-value : goal.invariant-read_all-loop-value
 invariant-read_all-loop-value l =
-    each (tree_reading l.left) (map view l.values) ≡ onto (map tree_view l.nodes.items) (each (tree_reading l.left) (map view (drop l.value-index l.values)))
+    in_turn (tree_reading l.left) (map view l.values)
+    ≡ onto (map tree_view l.nodes.items) (in_turn (tree_reading l.left) (map view (drop l.value-index l.values)))
 
 abbrev pub decreases-read_node : goal.decreases-read_node
 decreases-read_node l = 9 * l.left

@@ -1,6 +1,6 @@
 use Rattle.std.proofs.Common.{◌≡◌, ◌+◌, ◌*◌, map, drop}
 use Rattle.canvas_sig.specs.Datum.{view}
-use Rattle.canvas_sig.specs.Answers.{each}
+use Rattle.canvas_sig.specs.Answers.{in_turn}
 use Rattle.canvas_sig.specs.steps.Reading.{task_reading}
 use Rattle.canvas_sig.specs.SignatureView.{task_view}
 use Rattle.canvas_sig.proofs.Each.{onto}
@@ -8,7 +8,8 @@ use Rattle.canvas_sig.proofs.reader.+read_task.Given as goal
 
 abbrev pub invariant-read_all_linked-loop-value : goal.invariant-read_all_linked-loop-value
 invariant-read_all_linked-loop-value l =
-    each (task_reading l.left) (map view l.values) ≡ onto (map task_view l.tasks.items) (each (task_reading l.left) (map view (drop l.value-index l.values)))
+    in_turn (task_reading l.left) (map view l.values)
+    ≡ onto (map task_view l.tasks.items) (in_turn (task_reading l.left) (map view (drop l.value-index l.values)))
 
 abbrev pub decreases-read_linked : goal.decreases-read_linked
 decreases-read_linked l = 6 * l.left

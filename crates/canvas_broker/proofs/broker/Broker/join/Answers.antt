@@ -1,7 +1,7 @@
 use Rattle.std.proofs.Common.{◌≡◌, [], refl, sym, ◌∙◌, subst}
 use Rattle.canvas_history.proofs.CallerLaws.{leaves_one}
 use Rattle.canvas_history.proofs.Histories.{in_left}
-use Rattle.canvas_broker.specs.Broker.{answer, next, May}
+use Rattle.canvas_broker.specs.Broker.{answer_of, next, May}
 use Rattle.canvas_broker.specs.Passes.{IsHistory}
 use Rattle.canvas_broker.specs.steps.Rule.{IsReady, united}
 use Rattle.canvas_broker.specs.declared.view.View.{View}
@@ -27,5 +27,5 @@ invariant_of-pass g c =
 
 pub returns-clause-alone : goal.returns-clause-alone
 returns-clause-alone g c =
-    leaves_one [] answer next May c.len_as.new.pass.me.view.client.knows
+    leaves_one [] answer_of next May c.len_as.new.pass.me.view.client.knows
     (subst (λ (x : View Envelope). IsHistory x.knows) (sym c.len_as.ensures.queue.2) c.len_as.ensures.rule.2.1)

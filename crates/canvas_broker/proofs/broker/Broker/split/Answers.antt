@@ -3,7 +3,7 @@ use Rattle.canvas_history.specs.Callers.{Adds}
 use Rattle.canvas_history.specs.History.{split, made_by}
 use Rattle.canvas_history.proofs.CallerLaws.{made_fresh}
 use Rattle.canvas_message.specs.declared.envelope.Envelope.{Envelope}
-use Rattle.canvas_broker.specs.Broker.{answer, next, May}
+use Rattle.canvas_broker.specs.Broker.{answer_of, next, May}
 use Rattle.canvas_broker.specs.Passes.{Knowledge, Pass}
 use Rattle.canvas_broker.specs.declared.view.View.{View}
 use Rattle.canvas_broker.proofs.RuleSteps.{splits, forks}
@@ -46,6 +46,6 @@ returns-clause-fresh g c =
           let made = w.in-Ok.ensures.rule.0 in
           rw w.result-is (subst (λ (v : View Envelope). made_by v.knows.name v.knows.seen ≡ [])
           (sym (w.another.ensures.rule.1 ∙ child_is c.pass.inside.pass.me.view.client c.push_as.new.pass.me.view.client made))
-          (made_fresh [] answer next May old made.0 new.seen made.2.4))
+          (made_fresh [] answer_of next May old made.0 new.seen made.2.4))
       | in-Err w ↦ rw w.result-is tt
     ]

@@ -1,6 +1,6 @@
 use Rattle.std.proofs.Common.{◌≡◌, ◌∙◌, false, None, sym, ap, map, subst, rules}
 use Rattle.canvas_sig.specs.Datum.{view}
-use Rattle.canvas_sig.specs.Answers.{Gives, ◌or_else◌, unless, each}
+use Rattle.canvas_sig.specs.Answers.{Gives, ◌or_else◌, unless, in_turn}
 use Rattle.canvas_sig.specs.Grammar.{own_fault}
 use Rattle.canvas_sig.proofs.Datums.{array_list}
 use Rattle.canvas_rewrite.specs.FrozenView.{p_task_view, p_line_view}
@@ -12,7 +12,7 @@ use Rattle.canvas_codec.proofs.read.frozen.+read.Goals as goal
 pub read_one_or_more-returns-in-List : goal.read_one_or_more-returns-in-List
 read_one_or_more-returns-in-List t c =
     subst (Gives (λ v. map p_task_view v.items) c.read_all_links.result)
-    (sym (ap (each (link_reading c.args.left)) (array_list _ _ c.in-List.is))) c.read_all_links.ensures
+    (sym (ap (in_turn (link_reading c.args.left)) (array_list _ _ c.in-List.is))) c.read_all_links.ensures
 
 pub read_task-returns : goal.read_task-returns
 read_task-returns t c =

@@ -1,6 +1,6 @@
 use Rattle.std.proofs.Common.{◌≡◌, ◌+◌, ◌*◌, map, drop}
 use Rattle.canvas_sig.specs.Datum.{view}
-use Rattle.canvas_sig.specs.Answers.{each}
+use Rattle.canvas_sig.specs.Answers.{in_turn}
 use Rattle.canvas_sig.proofs.Each.{onto}
 use Rattle.canvas_rewrite.specs.FrozenView.{p_task_view, p_line_view}
 use Rattle.canvas_codec.specs.steps.FrozenReading.{link_reading, step_reading, line_reading}
@@ -8,15 +8,18 @@ use Rattle.canvas_codec.proofs.read.frozen.+read.Given as goal
 
 abbrev pub invariant-read_all_links-loop-value : goal.invariant-read_all_links-loop-value
 invariant-read_all_links-loop-value l =
-    each (link_reading l.left) (map view l.values) ≡ onto (map p_task_view l.tasks.items) (each (link_reading l.left) (map view (drop l.value-index l.values)))
+    in_turn (link_reading l.left) (map view l.values)
+    ≡ onto (map p_task_view l.tasks.items) (in_turn (link_reading l.left) (map view (drop l.value-index l.values)))
 
 abbrev pub invariant-read_steps-loop-value : goal.invariant-read_steps-loop-value
 invariant-read_steps-loop-value l =
-    each (step_reading l.left) (map view l.values) ≡ onto (map p_task_view l.tasks.items) (each (step_reading l.left) (map view (drop l.value-index l.values)))
+    in_turn (step_reading l.left) (map view l.values)
+    ≡ onto (map p_task_view l.tasks.items) (in_turn (step_reading l.left) (map view (drop l.value-index l.values)))
 
 abbrev pub invariant-read_lines-loop-value : goal.invariant-read_lines-loop-value
 invariant-read_lines-loop-value l =
-    each (line_reading l.left) (map view l.values) ≡ onto (map p_line_view l.lines.items) (each (line_reading l.left) (map view (drop l.value-index l.values)))
+    in_turn (line_reading l.left) (map view l.values)
+    ≡ onto (map p_line_view l.lines.items) (in_turn (line_reading l.left) (map view (drop l.value-index l.values)))
 
 abbrev pub decreases-read_link : goal.decreases-read_link
 decreases-read_link l = 30 * l.left + 0
