@@ -1,23 +1,19 @@
 -- The runs with entries of the witness.
-use Rattle.std.proofs.Common.{◌≡◌, ◌∙◌, ◌||◌, ℕ, true, false, List, [], ◌∷◌, ◌++◌, Option, Some, None, Ok, refl, sym, ap, subst, arith}
+use Rattle.std.proofs.Common.{◌≡◌, ◌∙◌, ◌||◌, ℕ, true, false, List, [], ◌∷◌, ◌++◌, Option, Some, None, refl, sym, ap, subst, arith}
 use Rattle.std.specs.Fmt.{digits}
-use Rattle.serde_json.specs.Written.{compact_text}
 use Rattle.serde_json.proofs.OnLiterals.{serde_json_on_literals}
 use Rattle.uuid.specs.Text.{by_index}
-use Rattle.json.proofs.Printed.Utf8.{are_ascii, IsUtf8-are_ascii}
 use Rattle.canvas_task.specs.Apply.{six_tasks}
 use Rattle.canvas_semantics.specs.Line.{Line}
-use Rattle.canvas_codec.specs.Wire.{properties_wire, headers_wire, body_wire}
 use Rattle.canvas_message.specs.declared.envelope.Envelope.{Envelope}
-use Rattle.canvas_codec.proofs.EnvelopeBack.{envelope_back}
-use Rattle.canvas_codec.proofs.EnvelopeLaw.{envelope_judged}
 use Rattle.canvas_backend.specs.declared.stored.Stored.TheVariants.{First, Again}
 use Rattle.canvas_runs.specs.Core as core
 use Rattle.canvas_runs.specs.Book.{book_of}
 use Rattle.canvas_runs.specs.Calls.{AskedAndAnswered}
 use Rattle.canvas_runs.specs.Core.{Ask, Reply, ack, rested, acked, ask, opens, left_after, ReadsBack, Doing, is_inside}
 use Rattle.canvas_runs.specs.declared.when.When.TheVariants.{Early, Late}
-use Rattle.canvas_runs.specs.Worker.{worker, sealed, read_envelope, opened, known_one}
+use Rattle.canvas_runs.specs.Worker.{worker, sealed, IsReadBack, opened, known_one}
+use Rattle.canvas_runs.proofs.AsciiBack.{AreAscii, ascii_back}
 use Rattle.canvas_turns.specs.EntryWitness.{product, product_sum, product_whole, eight, sixty_four, both_points, product_steps, quotient, quotient_linked, no_quotient, link_entry, quotient_steps, unspent}
 use Rattle.canvas_turns.specs.Spending.{Entry, wanted, spent, point, point_of, comes_to, TurnedAgain, no_turn, skips, takes, spends, RanAgain, agains_in}
 use Rattle.canvas_turns.specs.Turns.{Step, redelivery, left, holds, Answers, HasEnded, AllEnded, rounds}
@@ -50,59 +46,32 @@ module _ (l : Line) where
 
 -- ---- the envelopes read back
 
-first_ascii_1 : are_ascii (compact_text (properties_wire product_sum)) ≡ true
+first_ascii : AreAscii product_sum
 unfolding serde_json_on_literals digits by_index
-first_ascii_1 = refl
+first_ascii = (refl, refl, refl)
 
-first_ascii_2 : are_ascii (compact_text (headers_wire product_sum)) ≡ true
-unfolding serde_json_on_literals digits by_index
-first_ascii_2 = refl
-
-first_ascii_3 : are_ascii (compact_text (body_wire product_sum)) ≡ true
-unfolding serde_json_on_literals digits by_index
-first_ascii_3 = refl
-
-first_back : read_envelope (sealed product_sum) ≡ Ok product_sum
-first_back = sym (envelope_judged _ _ _) ∙ envelope_back product_sum _ _ _ refl refl refl refl (IsUtf8-are_ascii _ first_ascii_1)
-    (IsUtf8-are_ascii _ first_ascii_2) (IsUtf8-are_ascii _ first_ascii_3)
+first_back : IsReadBack product_sum
+first_back = ascii_back product_sum refl first_ascii
 
 first_opens : opened (book_of product) (sealed product_sum) ≡ Some product_sum
 first_opens = ap (known_one (book_of product)) first_back
 
-second_ascii_1 : are_ascii (compact_text (properties_wire product_whole)) ≡ true
+second_ascii : AreAscii product_whole
 unfolding serde_json_on_literals digits by_index
-second_ascii_1 = refl
+second_ascii = (refl, refl, refl)
 
-second_ascii_2 : are_ascii (compact_text (headers_wire product_whole)) ≡ true
-unfolding serde_json_on_literals digits by_index
-second_ascii_2 = refl
-
-second_ascii_3 : are_ascii (compact_text (body_wire product_whole)) ≡ true
-unfolding serde_json_on_literals digits by_index
-second_ascii_3 = refl
-
-second_back : read_envelope (sealed product_whole) ≡ Ok product_whole
-second_back = sym (envelope_judged _ _ _) ∙ envelope_back product_whole _ _ _ refl refl refl refl (IsUtf8-are_ascii _ second_ascii_1)
-    (IsUtf8-are_ascii _ second_ascii_2) (IsUtf8-are_ascii _ second_ascii_3)
+second_back : IsReadBack product_whole
+second_back = ascii_back product_whole refl second_ascii
 
 second_opens : opened (book_of product) (sealed product_whole) ≡ Some product_whole
 second_opens = ap (known_one (book_of product)) second_back
 
-linked_ascii_1 : are_ascii (compact_text (properties_wire quotient_linked)) ≡ true
+linked_ascii : AreAscii quotient_linked
 unfolding serde_json_on_literals digits by_index
-linked_ascii_1 = refl
+linked_ascii = (refl, refl, refl)
 
-linked_ascii_2 : are_ascii (compact_text (headers_wire quotient_linked)) ≡ true
-unfolding serde_json_on_literals digits by_index
-linked_ascii_2 = refl
-
-linked_ascii_3 : are_ascii (compact_text (body_wire quotient_linked)) ≡ true
-unfolding serde_json_on_literals digits by_index
-linked_ascii_3 = refl
-
-linked_back : read_envelope (sealed quotient_linked) ≡ Ok quotient_linked
-linked_back = sym (envelope_judged _ _ _) ∙ envelope_back quotient_linked _ _ _ refl refl refl refl (IsUtf8-are_ascii _ linked_ascii_1)
-    (IsUtf8-are_ascii _ linked_ascii_2) (IsUtf8-are_ascii _ linked_ascii_3)
+linked_back : IsReadBack quotient_linked
+linked_back = ascii_back quotient_linked refl linked_ascii
 
 linked_opens : opened (book_of quotient) (sealed quotient_linked) ≡ Some quotient_linked
 linked_opens = ap (known_one (book_of quotient)) linked_back
