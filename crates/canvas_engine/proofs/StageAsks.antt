@@ -12,7 +12,8 @@ use Rattle.canvas_runs.specs.Core as C
 use Rattle.canvas_runs.specs.Core.{ReadsBack}
 use Rattle.canvas_turns.specs.Turns.{queue_next, results_next}
 use Rattle.canvas_worker.specs.Asks.{Asked, Answer, shown}
-use Rattle.canvas_worker.specs.Books.{no_book, book_in}
+use Rattle.canvas_runs.specs.Book.{book_on}
+use Rattle.canvas_worker.specs.Books.{no_book}
 use Rattle.canvas_worker.specs.EnvelopeWorker.{enveloped_by, no_tasks}
 use Rattle.canvas_worker.specs.CoreState.{Standing, asked, after_reply}
 use Rattle.canvas_worker.specs.declared.ask.Ask.{Ask}
@@ -26,16 +27,16 @@ module _ (behaviour : Behaviour) {E : Type 0} (result : Result (Unit {0}) E) (mo
   -- the core's own answer, where the queue and the table have changed as they should
   pub answered_ok : AnswersNow table.plan queue (held table) more a r → ReadsBack (enveloped_by no_tasks no_book) c.left → queue' ≡ queue_next queue a
       → held table' ≡ results_next (held table) a → table'.plan ≡ table.plan
-      → OnOk result (c' ≡ after_reply behaviour (book_in table'.plan) c r) → OnOk result (Stepped behaviour more c queue table c' queue' table')
+      → OnOk result (c' ≡ after_reply behaviour (book_on table'.plan) c r) → OnOk result (Stepped behaviour more c queue table c' queue' table')
   answered_ok answers back q t plan ok = go result ok
     where
-      go : (x : Result (Unit {0}) E) → OnOk x (c' ≡ after_reply behaviour (book_in table'.plan) c r)
+      go : (x : Result (Unit {0}) E) → OnOk x (c' ≡ after_reply behaviour (book_on table'.plan) c r)
           → OnOk x (Stepped behaviour more c queue table c' queue' table')
       go (Ok u) e = record {
         reply = r;
         answers = subst (λ z. AnswersNow table.plan queue (held table) more z r) (sym is) answers;
         reads_back = back;
-        core = e ∙ ap (λ p. after_reply behaviour (book_in p) c r) plan;
+        core = e ∙ ap (λ p. after_reply behaviour (book_on p) c r) plan;
         queue_is = q ∙ ap (queue_next queue) (sym is);
         table_is = t ∙ ap (results_next (held table)) (sym is);
         plan_is = plan;

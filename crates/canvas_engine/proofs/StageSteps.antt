@@ -12,7 +12,7 @@ use Rattle.canvas_message.specs.declared.envelope.Envelope.{Envelope}
 use Rattle.canvas_backend.specs.Backend.{Results}
 use Rattle.canvas_backend.specs.Plain.{held}
 use Rattle.canvas_backend.specs.Roster.{Roster, roster_of}
-use Rattle.canvas_runs.specs.Book.{book_of}
+use Rattle.canvas_runs.specs.Book.{book_of, book_on}
 use Rattle.canvas_backend.specs.Backend as results
 use Rattle.canvas_broker.specs.Broker as broker
 use Rattle.canvas_runs.specs.Core.{to_queue, to_table, rest, end, from_queue, from_table, rested, CoreState, taking, resting, over, failed, owning, doing, reading, ask, answered, left_after, Suits, ReadsBack, IsCoreRun, is_inside, ack, acked, acking}
@@ -22,13 +22,12 @@ use Rattle.canvas_runs.proofs.MoreAsks.{by_more, by_other, left_more, core_more,
 use Rattle.canvas_turns.specs.Turns.{Step, IsWorker, Turned, Answers, HasEnded, left, queue_after, queue_next, results_after, results_next, holds_more, some_inside, is_queued}
 use Rattle.canvas_turns.proofs.Turning.{queue_more, results_more, turned_step}
 use Rattle.canvas_worker.specs.Asks.{Asked, Answer}
-use Rattle.canvas_worker.specs.Books.{no_book, book_in}
+use Rattle.canvas_worker.specs.Books.{no_book}
 use Rattle.canvas_worker.specs.Cores.{GoTogether, IsAlike}
 use Rattle.canvas_worker.specs.EnvelopeWorker.{enveloped, enveloped_by, no_tasks}
 use Rattle.canvas_worker.specs.CorePast.{task_in}
 use Rattle.canvas_worker.specs.CoreState as standing
 use Rattle.canvas_worker.specs.CoreState.{Standing, Left, asked, after_reply}
-use Rattle.canvas_worker.proofs.Books.{books_alike}
 use Rattle.canvas_worker.proofs.CoreLaw.{cores_are_workers}
 use Rattle.canvas_worker.proofs.InHand.{has_open}
 use Rattle.canvas_worker.proofs.CorePasts.{book_step, task_step}
@@ -171,7 +170,7 @@ module _ (behaviour : Behaviour) (l : Line) (n : ℕ) (us : List ℕ) (xs : List
           subst (IsCoreRun X taking) (sym (ap scripts_of (by_more p xs (a, r)) ∙ scripts_more (by p xs) a r asks_core))
           (core_more X taking (scripts_of (by p xs)) (a, r) (leads.runs p) asks suits back) in
           let core_is : c' ≡ after_reply behaviour (book_of l) c r =
-          step.core ∙ ap (λ z. after_reply behaviour (book_in z) c r) leads.plan_is ∙ ap (λ b. after_reply behaviour b c r) (books_alike l plan) in
+          step.core ∙ ap (λ z. after_reply behaviour (book_on z) c r) leads.plan_is in
           let left_new : c'.left ≡ left_after X taking (scripts_of (by p ys)) =
           ap (λ d. d.left) core_is
           ∙ same_answer c.left r

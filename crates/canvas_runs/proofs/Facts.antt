@@ -33,7 +33,7 @@ use Rattle.canvas_runs.proofs.Evaluation as evaluation
 use Rattle.canvas_runs.proofs.FileOrder.{LineIn, LinesIn, Formed, FormedPart}
 use Rattle.canvas_runs.proofs.Finish.{Backed, Backs}
 use Rattle.canvas_runs.proofs.Messages.{nowhere, Carried, carried, Message, last_from, lasts, header}
-use Rattle.canvas_runs.proofs.Knowing.{message_is}
+use Rattle.canvas_runs.proofs.Knowing.{no_member_zero, message_is}
 use Rattle.canvas_runs.proofs.Meaning.{Form, After, Beyond, Ordered, Evaluates, Once, KeptOnce, publishes, keeps, names, Has}
 use Rattle.canvas_runs.proofs.Scripts.{ended_script, completed_script, first_sent}
 use Rattle.canvas_runs.proofs.Sized.{SizedMessage, SizedJob, after_sized, body_sized, enter_sized, plan_sized}
@@ -251,7 +251,7 @@ module _ (behaviour : Behaviour) (l : Line) (plan : IsPlan l) where
   opened_back c (m, e, f) back = ap (known_one (book_of l)) back ∙ ap (λ b. if b then Some c else None) known
     where
       known : message_known (book_of l) c ≡ true
-      known = subst (λ d. message_known (book_of l) d ≡ true) (sym e) (message_is (count_line l) (size l) (members l) m f.0 f.1)
+      known = subst (λ d. message_known (book_of l) d ≡ true) (sym e) (message_is (count_line l) (size l) (members l) (no_member_zero l plan) m f.0 f.1)
 
   ended_later : (c : Content) (o : Outcome) → form.Formed c → Each (After X form (number_of c.own)) (X.ended c o)
   ended_later c o (m, e, f) =

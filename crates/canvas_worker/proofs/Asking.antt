@@ -4,24 +4,18 @@ use Rattle.canvas_task.specs.Apply.{Behaviour}
 use Rattle.canvas_semantics.specs.Line.{Line}
 use Rattle.canvas_rewrite.specs.Planned.{IsPlan}
 use Rattle.canvas_backend.specs.Roster.{Roster, roster_of}
-use Rattle.canvas_runs.specs.Book.{book_on}
 use Rattle.canvas_runs.specs.Calls.{backend_call}
 use Rattle.canvas_runs.specs.Core.{answered, Suits}
 use Rattle.canvas_runs.specs.Following.{Seat, Serves}
 use Rattle.canvas_worker.specs.Asks.{Answer}
-use Rattle.canvas_worker.specs.Books.{book_in}
 use Rattle.canvas_worker.specs.EnvelopeWorker.{enveloped}
 use Rattle.canvas_worker.specs.SeatRights.{Can, LetsAsk}
 use Rattle.canvas_worker.specs.CoreState.{Left, asked}
-use Rattle.canvas_worker.proofs.Books.{books_alike}
 use Rattle.canvas_worker.proofs.Seats.{can_ask, can_go_on}
 
 -- what is known of a plan
 abbrev IsOf : Roster → Type 0
 IsOf plan = (l : Line) × IsPlan l × (plan ≡ roster_of l)
-
-pub same_book : (plan : Roster) → IsOf plan → book_in plan ≡ book_on plan
-same_book plan h = subst (λ p. book_in p ≡ book_on p) (sym h.2) (books_alike h.0 h.1)
 
 pub may_ask : (plan : Roster) → IsOf plan → (s : Seat) (left : Left) → Can plan s left → LetsAsk plan s (asked left)
 may_ask plan h s left = subst (λ p. Can p s left → LetsAsk p s (asked left)) (sym h.2) (can_ask h.0 h.1 s left)

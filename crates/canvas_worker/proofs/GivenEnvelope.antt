@@ -14,7 +14,6 @@ use Rattle.canvas_runs.specs.Core.{answered, Suits, ReadsBack}
 use Rattle.canvas_runs.specs.Following.{Seat, Serves}
 use Rattle.canvas_runs.specs.Lists.{Each}
 use Rattle.canvas_runs.specs.Tally.{Tally, Counted, dropping, greatest_count}
-use Rattle.canvas_worker.specs.Books.{book_in}
 use Rattle.canvas_worker.specs.EnvelopeWorker.{enveloped}
 use Rattle.canvas_worker.specs.SeatRights.{Can}
 use Rattle.canvas_worker.specs.CoreState.{Standing, Progress, asked, drops, after_reply, held, kept_next, task_next}
@@ -23,7 +22,7 @@ use Rattle.canvas_worker.specs.Polls.{Work, progress, with_core, with_answer, lo
 use Rattle.canvas_worker.specs.declared.cause.Cause.TheVariants.{Memory}
 use Rattle.canvas_worker.specs.declared.record.Record.{Record}
 use Rattle.canvas_worker.specs.declared.working.End.{End}
-use Rattle.canvas_worker.proofs.Asking.{same_book, may_go_on}
+use Rattle.canvas_worker.proofs.Asking.{may_go_on}
 use Rattle.canvas_worker.proofs.CorePasts.{book_step}
 use Rattle.canvas_worker.proofs.ShownAsks.{drops_so, takes_taking}
 use Rattle.canvas_worker.proofs.InHand.{batch_can, but_open}
@@ -75,13 +74,12 @@ module _ (behaviour : Behaviour) (w u : Work) (es : List Envelope) (e : Envelope
         task_next (book_on plan) w.core.left w.core.task (C.from_queue (Some e));
   }
 
-  core_is : after_reply behaviour (book_in u.desk.plan) u.core (C.from_queue (Some e)) ≡ core
+  core_is : after_reply behaviour (book_on u.desk.plan) u.core (C.from_queue (Some e)) ≡ core
   core_is =
       let so : drops (book_on plan) w.core.left (C.from_queue (Some e)) ≡ of_queue (dropping plan) (C.to_queue broker.take) (C.from_queue (Some e)) =
       drops_so plan w.core.left (C.from_queue (Some e)) ∙ ap (λ b. of_queue (dropping plan) b (C.from_queue (Some e))) x.asked_is in
-      ap (λ (d : Desk). after_reply behaviour (book_in d.plan) u.core (C.from_queue (Some e))) x.desk
-      ∙ ap (λ c. after_reply behaviour (book_in plan) c (C.from_queue (Some e))) x.core
-      ∙ ap (λ b. after_reply behaviour b w.core (C.from_queue (Some e))) (same_book plan ready.plan)
+      ap (λ (d : Desk). after_reply behaviour (book_on d.plan) u.core (C.from_queue (Some e))) x.desk
+      ∙ ap (λ c. after_reply behaviour (book_on plan) c (C.from_queue (Some e))) x.core
       ∙ ap (λ (n : ℕ). record {
         left = answered (enveloped behaviour plan) w.core.left (C.from_queue (Some e));
         is_out = false;

@@ -1,7 +1,7 @@
 -- A backend lets a worker's seat do all that the worker has left to do.
 use Rattle.std.proofs.Common.{⊎_elim, ◌≡◌, ◌≤◌, ◌<◌, ◌+◌, ◌∙◌, ℕ, suc, Bool, true, false, cond, eqb, List, [], ◌∷◌, ◌++◌, map, length, length-append, slice_get, Option, Some, None, is_some, refl, sym, ap, subst, inl, inr, arith}
-use Rattle.std.specs.Prelude.{IsTrue, if◌then◌else◌}
-use Rattle.std.proofs.lemmas.Bool.{eqb-true, eqb-false, leb-true}
+use Rattle.std.specs.Prelude.{IsTrue, ◌==◌, not, if◌then◌else◌}
+use Rattle.std.proofs.lemmas.Bool.{eqb-true, eqb-false, leb-true, and_parts}
 use Rattle.std.proofs.lemmas.Option.{slice_get_within, get_or_from_slice_get}
 use Rattle.canvas_task.specs.Apply.{Behaviour}
 use Rattle.canvas_task.specs.declared.outcome.Outcome.{Outcome}
@@ -31,7 +31,6 @@ use Rattle.canvas_worker.specs.EnvelopeWorker.{said, enclosed, enveloped, applie
 use Rattle.canvas_worker.specs.Scripts.{EnvelopeJobs}
 use Rattle.canvas_worker.specs.SeatRights.{Carries, InBook, MayReturnDue, Can, LetsAsk, CanAsk, CanGoOn}
 use Rattle.canvas_worker.specs.CoreState.{Left, asked}
-use Rattle.canvas_worker.proofs.Books.{no_member_zero}
 use Rattle.canvas_worker.proofs.KnownJobs.{StoredIn, Behind, own_known, ended_jobs, body_jobs, ended_known, body_known}
 use Rattle.canvas_worker.proofs.KnownScripts.{script_known, script_may}
 use Rattle.canvas_worker.proofs.Opening.{opened_as}
@@ -124,8 +123,8 @@ module _ (behaviour : Behaviour) (l : Line) (is_plan : IsPlan l) where
   abbrev plan : Roster
   plan = roster_of l
 
-  none : (g : ℕ) → is_member plan g 0 ≡ false
-  none g = no_member_zero l is_plan g
+  none : (g : ℕ) → (book_on plan).is_member g 0 ≡ false
+  none g = refl
 
   ended_can : (s : Seat) (c : Content) (o : Outcome) → message_known (book_on plan) c ≡ true → MayReturn plan s.seen s.name (number_of c.own)
       → Can plan s (settled (enveloped behaviour plan) (map enclosed (script (after c o))) First)
@@ -165,7 +164,7 @@ module _ (behaviour : Behaviour) (l : Line) (is_plan : IsPlan l) where
   asks s (doing [] b) c = tt
   asks s (doing (store t o ∷ js) b) c = in_plan t c.0.0
   asks s (doing (publish e ∷ js) b) c = tt
-  asks s (doing (part g t h ∷ js) b) c = ((carried_size plan g h c.0.1).0, c.0.0, c.1 c.2)
+  asks s (doing (part g t h ∷ js) b) c = ((carried_size plan g h c.0.1).0, (and_parts (not (t == 0)) (is_member plan g t) c.0.0).1, c.1 c.2)
   asks s (reading g h t fs) c = member_there g (length fs) t c.2
 
   -- ---- answers

@@ -13,7 +13,7 @@ use Rattle.canvas_runs.specs.Following.{Makes, Serves}
 use Rattle.canvas_runs.specs.Lists.{Each}
 use Rattle.canvas_runs.specs.Tally.{Counted, CountsMore, publishing, storing, returning, dropping, greatest_count}
 use Rattle.canvas_worker.specs.Asks.{Asked, Answer}
-use Rattle.canvas_worker.specs.Books.{book_in, no_book}
+use Rattle.canvas_worker.specs.Books.{no_book}
 use Rattle.canvas_worker.specs.EnvelopeWorker.{enveloped, enveloped_by, no_tasks}
 use Rattle.canvas_worker.specs.SeatRights.{Can}
 use Rattle.canvas_worker.specs.CoreState.{Standing, Progress, asked, drops, after_reply, open_of, kept_next, task_next}
@@ -22,7 +22,7 @@ use Rattle.canvas_worker.specs.Polls.{Work, progress, with_core, with_answer, lo
 use Rattle.canvas_worker.specs.declared.cause.Cause.TheVariants.{Memory}
 use Rattle.canvas_worker.specs.declared.record.Record.{Record}
 use Rattle.canvas_worker.specs.declared.working.End.{End}
-use Rattle.canvas_worker.proofs.Asking.{same_book, may_go_on}
+use Rattle.canvas_worker.proofs.Asking.{may_go_on}
 use Rattle.canvas_worker.proofs.InHand.{call_can, has_open}
 use Rattle.canvas_worker.proofs.Resting.{busy_never}
 use Rattle.canvas_worker.proofs.CorePasts.{book_step}
@@ -59,7 +59,7 @@ pub record Asks (behaviour : Behaviour) (w u : Work) (a : Asked) (r : Answer) : 
   pub counts : Counts w u a r
   pub still : answered (enveloped behaviour w.desk.plan) w.core.left r ≡ C.resting → (u.held ≡ []) × Empties u.pass
   pub none_dropped : of_queue (dropping w.desk.plan) a r ≡ 0
-  pub core : after_reply behaviour (book_in w.desk.plan) u.core r ≡ after_reply behaviour (book_in w.desk.plan) w.core r
+  pub core : after_reply behaviour (book_on w.desk.plan) u.core r ≡ after_reply behaviour (book_on w.desk.plan) w.core r
 
 counts_more : (n k m : ℕ) → n ≤ greatest_count → m ≡ risen n k → CountsMore n k m
 counts_more n zero m h e = omega (arith, h, e)
@@ -188,13 +188,13 @@ module _ (behaviour : Behaviour) (w u : Work) (a : Asked) (r : Answer) (ready : 
     task = task_next (book_on plan) w.core.left w.core.task r;
   }
 
-  core_is : after_reply behaviour (book_in u.desk.plan) u.core r ≡ core
+  core_is : after_reply behaviour (book_on u.desk.plan) u.core r ≡ core
   core_is =
       let so : drops (book_on plan) w.core.left r ≡ of_queue (dropping plan) a r =
       drops_so plan w.core.left r ∙ ap (λ b. of_queue (dropping plan) b r) x.asked_is in
       let dropped : min greatest_count (w.core.dropped + drops (book_on plan) w.core.left r) ≡ u.core.dropped =
       no_more w.core.dropped u.core.dropped (drops (book_on plan) w.core.left r) ready.counts.4 same_drops (so ∙ x.none_dropped) in
-      ap (λ (d : Desk). after_reply behaviour (book_in d.plan) u.core r) desk ∙ x.core ∙ ap (λ b. after_reply behaviour b w.core r) (same_book plan ready.plan)
+      ap (λ (d : Desk). after_reply behaviour (book_on d.plan) u.core r) desk ∙ x.core
       ∙ ap (λ (n : ℕ). record {
         left = answered (enveloped behaviour plan) w.core.left r;
         is_out = false;

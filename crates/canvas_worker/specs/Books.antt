@@ -1,18 +1,6 @@
--- What a worker knows of its plan where it asks a backend.
-use Rattle.std.specs.Prelude.{◌≡◌, ◌<◌, ℕ, false, not, ◌&&◌, ◌==◌, Some, None, IsSome, slice_get, nat_le}
-use Rattle.canvas_backend.specs.Roster.{Roster, size, members, is_member}
+-- What holds of each book that a worker may have, and the book of nothing.
+use Rattle.std.specs.Prelude.{◌≡◌, ◌<◌, ℕ, false, Some, None, IsSome}
 use Rattle.canvas_runs.specs.Book.{Book}
-
--- what a backend keeps of its plan; there is no task of number 0
-abbrev pub book_in : Roster → Book
-book_in r =
-    record {
-      knows =
-          λ k. nat_le k r.tasks;
-      size = size r;
-      is_member = λ g k. not (k == 0) && is_member r g k;
-      member = λ g i. slice_get (members r g) i;
-    }
 
 -- that of nothing
 abbrev pub no_book : Book

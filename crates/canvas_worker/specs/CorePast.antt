@@ -2,17 +2,13 @@
 -- leave, and it counts the envelopes that they dropped.
 use Rattle.std.specs.Prelude.{◌≡◌, ℕ, ◌+◌, min, if◌then◌else◌, true, false, List, [], ◌∷◌, ◌++◌, Option, Some, None}
 use Rattle.canvas_task.specs.Apply.{Behaviour}
-use Rattle.canvas_semantics.specs.Line.{Line}
-use Rattle.canvas_rewrite.specs.Planned.{IsPlan}
-use Rattle.canvas_backend.specs.Roster.{roster_of}
 use Rattle.canvas_runs.specs.Book.{Book}
 use Rattle.canvas_runs.specs.Calls.{held_after}
 use Rattle.canvas_message.specs.declared.envelope.Envelope.{Envelope}
 use Rattle.canvas_runs.specs.Core.{taking, answered, left_after, ReadsBack, IsCoreRun, is_inside}
 use Rattle.canvas_runs.specs.Worker.{opened}
 use Rattle.canvas_worker.specs.Asks.{Asked, Answer, suits, shown, to_send, replied}
-use Rattle.canvas_worker.specs.Books.{book_in}
-use Rattle.canvas_worker.specs.EnvelopeWorker.{enveloped, enveloped_by}
+use Rattle.canvas_worker.specs.EnvelopeWorker.{enveloped_by}
 use Rattle.canvas_runs.specs.Tally.{greatest_count}
 use Rattle.canvas_worker.specs.CoreState.{Left, Standing, held, asked, drops, unsent, begun, after_reply, held_out, handed, task_of}
 use Rattle.canvas_worker.specs.declared.ask.Reply.{Reply}
@@ -69,13 +65,3 @@ HandsOut =
     (behaviour : Behaviour) (book : Book) (xs : List (Asked × Answer)) (s : Standing)
     → Leads behaviour book xs s → s.is_out ≡ false
     → held_out s ≡ to_send (asked (left_by behaviour book xs))
-
--- What leads to a core whose book is a backend of a plan is a core run of that plan's worker, with
--- the same left to do.
-abbrev pub PlanLeads : Type 0
-PlanLeads =
-    (behaviour : Behaviour) (l : Line) → IsPlan l → (xs : List (Asked × Answer)) (s : Standing)
-    → Leads behaviour (book_in (roster_of l)) xs s
-    → IsCoreRun (enveloped behaviour (roster_of l)) taking xs
-    × (left_by behaviour (book_in (roster_of l)) xs
-    ≡ left_after (enveloped behaviour (roster_of l)) taking xs)

@@ -17,7 +17,7 @@ use Rattle.canvas_runs.specs.Following.{Pass, Seat}
 use Rattle.canvas_runs.specs.Lists.{Each}
 use Rattle.canvas_runs.specs.Tally.{Tally, IsTally}
 use Rattle.canvas_worker.specs.Asks.{Asked, Answer}
-use Rattle.canvas_worker.specs.Books.{book_in}
+use Rattle.canvas_runs.specs.Book.{book_on}
 use Rattle.canvas_worker.specs.SeatRights.{Can}
 use Rattle.canvas_runs.specs.Tally.{greatest_count}
 use Rattle.canvas_worker.specs.CoreState.{Standing, Progress, HasFollowed, begun as new_core, after_reply, failing, held}
@@ -97,7 +97,7 @@ with_core w c =
 
 -- its core was answered; and where memory was refused for that
 abbrev pub with_answer : Behaviour → Work → Answer → Work
-with_answer behaviour w r = with_core w (after_reply behaviour (book_in w.desk.plan) w.core r)
+with_answer behaviour w r = with_core w (after_reply behaviour (book_on w.desk.plan) w.core r)
 
 abbrev pub lost : Work → Work
 lost w = with_core w (failing w.core)

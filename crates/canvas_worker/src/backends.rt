@@ -1,7 +1,7 @@
 //! What a backend keeps of a plan is a book.
 
 ghost use Rattle.std.specs.Prelude.{refl};
-ghost use Rattle.canvas_worker.specs.Books.{book_in};
+ghost use Rattle.canvas_runs.specs.Book.{book_on};
 ghost use Rattle.canvas_worker.specs.steps.Members.{members_in};
 
 use crate::Book;
@@ -9,7 +9,7 @@ use canvas_backend::Roster;
 use canvas_task::{GroupNo, TaskNo};
 
 impl Book for Roster {
-    ghost book = { book_in };
+    ghost book = { book_on };
 
     ghost from_one = { λ r g. refl };
 

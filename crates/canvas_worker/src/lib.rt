@@ -26,7 +26,7 @@ mod working;
 ghost use Rattle.canvas_worker.specs.AtEnd.{EndStays, EndsBehind, FailingEnds, FailsBehind};
 ghost use Rattle.canvas_worker.specs.Cores.{CoresAreWorkers};
 ghost use Rattle.canvas_worker.specs.Finished.{WorkersStart, WorkersFinish};
-ghost use Rattle.canvas_worker.specs.CorePast.{NoneLead, OneMoreLeads, HandedLeads, HandsOut, PlanLeads};
+ghost use Rattle.canvas_worker.specs.CorePast.{NoneLead, OneMoreLeads, HandedLeads, HandsOut};
 ghost use Rattle.canvas_worker.specs.SeatRights.{WaitingCan, CanAsk, CanGoOn};
 ghost use Rattle.canvas_worker.specs.StepLaws.{Rests, CallFirst, HeldFirst, BatchFirst, AgainFirst, TakenCan, StillCan};
 
@@ -55,7 +55,6 @@ pub fn law_of_answers()
     ensures one_more { OneMoreLeads }
     ensures handed { HandedLeads }
     ensures hands_out { HandsOut }
-    ensures plan { PlanLeads }
 {}
 
 /// A core that is at its end stays there: it takes no answer and hands out no envelope. It is there

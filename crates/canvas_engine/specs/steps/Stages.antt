@@ -13,7 +13,7 @@ use Rattle.canvas_backend.specs.Backend.{Results, store, part, read, no_results,
 use Rattle.canvas_backend.specs.Plain.{Shelf, held}
 use Rattle.canvas_backend.specs.Roster.{Roster, roster_of, is_chord, is_member}
 use Rattle.canvas_broker.specs.Broker as broker
-use Rattle.canvas_runs.specs.Book.{book_of}
+use Rattle.canvas_runs.specs.Book.{book_of, book_on}
 use Rattle.canvas_runs.specs.Core.{to_queue, to_table, rest, from_queue, from_table, rested, taking, left_after, ReadsBack, IsCoreRun, is_inside, ack, acked}
 use Rattle.canvas_runs.specs.Lists.{by}
 use Rattle.canvas_runs.specs.Tally.{greatest_count}
@@ -23,7 +23,7 @@ use Rattle.canvas_turns.specs.Turns.{Step, HasEnded, IsWorker, AllEnded, Begins,
 use Rattle.canvas_turns.specs.TurnLaws.{ByTurns}
 use Rattle.canvas_message.specs.Content.{Content}
 use Rattle.canvas_worker.specs.Asks.{Asked, Answer}
-use Rattle.canvas_worker.specs.Books.{no_book, book_in}
+use Rattle.canvas_worker.specs.Books.{no_book}
 use Rattle.canvas_worker.specs.EnvelopeWorker.{enveloped, enveloped_by, no_tasks}
 use Rattle.canvas_worker.specs.CorePast.{task_in}
 use Rattle.canvas_worker.specs.CoreState as standing
@@ -66,7 +66,7 @@ pub record Stepped (behaviour : Behaviour) (more : Bool) (c : Standing) (queue :
   pub reply : Answer
   pub answers : AnswersNow table.plan queue (held table) more (asked c.left) reply
   pub reads_back : ReadsBack (enveloped_by no_tasks no_book) c.left
-  pub core : c' ≡ after_reply behaviour (book_in table.plan) c reply
+  pub core : c' ≡ after_reply behaviour (book_on table.plan) c reply
   pub queue_is : queue' ≡ queue_next queue (asked c.left)
   pub table_is : held table' ≡ results_next (held table) (asked c.left)
   pub plan_is : table'.plan ≡ table.plan

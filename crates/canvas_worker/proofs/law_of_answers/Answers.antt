@@ -1,4 +1,3 @@
-use Rattle.canvas_worker.proofs.PlanBooks.{plan_leads}
 use Rattle.canvas_worker.proofs.CorePasts.{none_lead, one_more_leads, handed_leads, hands_out}
 use Rattle.canvas_worker.proofs.law_of_answers.Goals as goal
 
@@ -13,6 +12,3 @@ returns-clause-handed c = handed_leads
 
 pub returns-clause-hands_out : goal.returns-clause-hands_out
 returns-clause-hands_out c = hands_out
-
-pub returns-clause-plan : goal.returns-clause-plan
-returns-clause-plan c = plan_leads

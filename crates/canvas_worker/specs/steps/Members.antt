@@ -4,7 +4,8 @@ use Rattle.std.proofs.Common.{sym, ap, subst, true≢false}
 use Rattle.std.proofs.lemmas.Option.{slice_get-get_or}
 use Rattle.canvas_semantics.specs.Line.{GroupEntry, entry_at, entry_members, entry_size}
 use Rattle.canvas_backend.specs.Roster.{Roster}
-use Rattle.canvas_worker.specs.Books.{book_in, HasMembers}
+use Rattle.canvas_runs.specs.Book.{book_on}
+use Rattle.canvas_worker.specs.Books.{HasMembers}
 
 in_entry : (t : GroupEntry) (b : Bool) (n i : ℕ)
     → (if b then Some (length t.members) else None) ≡ Some n → i < n
@@ -21,5 +22,5 @@ in_any : (t : Option GroupEntry) (n i : ℕ) → entry_size t ≡ Some n → i <
 in_any None n i size low = absurd (true≢false (sym (ap is_some size)))
 in_any (Some t) n i size low = in_entry t t.chord n i size low
 
-pub members_in : (r : Roster) → HasMembers (book_in r)
+pub members_in : (r : Roster) → HasMembers (book_on r)
 members_in r g n i size low = in_any (entry_at r.groups g) n i size low

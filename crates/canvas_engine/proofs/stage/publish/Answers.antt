@@ -1,7 +1,7 @@
 use Rattle.std.proofs.Common.{◌≡◌, OnOk, None, refl, sym, ap, ◌∙◌, subst}
 use Rattle.canvas_broker.specs.Broker as broker
 use Rattle.canvas_runs.specs.Core as C
-use Rattle.canvas_worker.specs.Books.{book_in}
+use Rattle.canvas_runs.specs.Book.{book_on}
 use Rattle.canvas_worker.specs.CoreState.{after_reply}
 use Rattle.canvas_worker.proofs.ShownAsks.{handed_out, handed_same}
 use Rattle.canvas_engine.specs.steps.Stages.{Stepped}
@@ -13,11 +13,11 @@ returns-in-Ok g c =
     let old = c.args.core.now in
     let table = c.args.table.now in
     let asks = handed_out c.in-Some.envelope old c.requires.inside (sym c.in-Some.ensures.value) in
-    let same : after_reply (g.T.Tasks.behaviour c.args.tasks.now) (book_in c.roster.result.now) c.envelope.new.self (C.from_queue None)
-    ≡ after_reply (g.T.Tasks.behaviour c.args.tasks.now) (book_in table.plan) old (C.from_queue None) =
-    ap (λ p. after_reply (g.T.Tasks.behaviour c.args.tasks.now) (book_in p) c.envelope.new.self (C.from_queue None)) c.roster.ensures
-    ∙ ap (λ s. after_reply (g.T.Tasks.behaviour c.args.tasks.now) (book_in table.plan) s (C.from_queue None)) c.in-Some.ensures.core
-    ∙ handed_same (g.T.Tasks.behaviour c.args.tasks.now) (book_in table.plan) old (C.from_queue None) in
+    let same : after_reply (g.T.Tasks.behaviour c.args.tasks.now) (book_on c.roster.result.now) c.envelope.new.self (C.from_queue None)
+    ≡ after_reply (g.T.Tasks.behaviour c.args.tasks.now) (book_on table.plan) old (C.from_queue None) =
+    ap (λ p. after_reply (g.T.Tasks.behaviour c.args.tasks.now) (book_on p) c.envelope.new.self (C.from_queue None)) c.roster.ensures
+    ∙ ap (λ s. after_reply (g.T.Tasks.behaviour c.args.tasks.now) (book_on table.plan) s (C.from_queue None)) c.in-Some.ensures.core
+    ∙ handed_same (g.T.Tasks.behaviour c.args.tasks.now) (book_on table.plan) old (C.from_queue None) in
     of_each c.answer.result (λ more. Stepped (g.T.Tasks.behaviour c.args.tasks.now) more old c.args.queue.now table c.answer.new.self c.publish.new.self table)
     (λ more.
     answered_ok (g.T.Tasks.behaviour c.args.tasks.now) c.answer.result more old c.answer.new.self c.args.queue.now c.publish.new.self table table

@@ -4,7 +4,7 @@ use Rattle.canvas_runs.specs.Core as C
 use Rattle.canvas_worker.specs.steps.Held.{held_in}
 use Rattle.canvas_worker.specs.Polls.{Work}
 use Rattle.canvas_worker.proofs.Resting.{busy_never}
-use Rattle.canvas_worker.specs.Books.{book_in}
+use Rattle.canvas_runs.specs.Book.{book_on}
 use Rattle.canvas_worker.specs.Asks.{suits, shown}
 use Rattle.canvas_worker.specs.CoreState.{Standing, asked, handed, after_reply}
 use Rattle.canvas_worker.specs.declared.ask.Reply.TheVariants as R
@@ -52,8 +52,8 @@ returns-in-Ok-clause-acted g c =
       still = λ rests. absurd (busy_never (g.T.Tasks.behaviour c.args.tasks.now) w.desk.plan w.core.left (C.from_queue None)
           (C.to_queue (broker.publish c.in-Some.envelope)) asks tt rests);
       none_dropped = refl;
-      core = ap (λ z. after_reply (g.T.Tasks.behaviour c.args.tasks.now) (book_in w.desk.plan) z (C.from_queue None)) core
-          ∙ handed_same (g.T.Tasks.behaviour c.args.tasks.now) (book_in w.desk.plan) w.core (C.from_queue None);
+      core = ap (λ z. after_reply (g.T.Tasks.behaviour c.args.tasks.now) (book_on w.desk.plan) z (C.from_queue None)) core
+          ∙ handed_same (g.T.Tasks.behaviour c.args.tasks.now) (book_on w.desk.plan) w.core (C.from_queue None);
     })
 
 pub returns-in-Err-clause-acted : goal.returns-in-Err-clause-acted
@@ -90,6 +90,6 @@ returns-in-Err-clause-acted g c =
       still = λ rests. absurd (busy_never (g.T.Tasks.behaviour c.args.tasks.now) w.desk.plan w.core.left C.refused
           (C.to_queue (broker.publish c.in-Some.envelope)) asks tt rests);
       none_dropped = refl;
-      core = ap (λ z. after_reply (g.T.Tasks.behaviour c.args.tasks.now) (book_in w.desk.plan) z C.refused) core
-          ∙ handed_same (g.T.Tasks.behaviour c.args.tasks.now) (book_in w.desk.plan) w.core C.refused;
+      core = ap (λ z. after_reply (g.T.Tasks.behaviour c.args.tasks.now) (book_on w.desk.plan) z C.refused) core
+          ∙ handed_same (g.T.Tasks.behaviour c.args.tasks.now) (book_on w.desk.plan) w.core C.refused;
     })
