@@ -14,7 +14,7 @@ use Rattle.canvas_sig.specs.steps.Reading.{json_reading}
 use Rattle.canvas_finding.specs.Places.{shown}
 use Rattle.canvas_finding.specs.Limits.{place_of}
 use Rattle.canvas_finding.specs.Pointer.{AreIndices}
-use Rattle.canvas_finding.specs.Finding.{IsPlace, IsSpot, IsNotJson, StandsAt}
+use Rattle.canvas_finding.specs.Finding.{IsPlace, IsSpot, IsJsonSpot, StandsAt}
 use Rattle.canvas_finding.specs.declared.listing.Place.{Place}
 use Rattle.canvas_finding.specs.declared.finding.Spot.{Spot}
 use Rattle.canvas_finding.specs.declared.finding.Spot.TheVariants as spot
@@ -56,7 +56,7 @@ not_parsed : (bytes : Text) (e : SigFault) → e ≢ Memory → Fails e (json_re
 not_parsed bytes Memory other h = absurd (other refl)
 not_parsed bytes e other h = was_none (json_of bytes) e h
 
-pub no_json_at : (bytes : Text) (e f : SigFault) (at : Spot) → e ≢ Memory → Fails e (json_reading (json_of bytes)) → IsNotJson at → StandsAt bytes f at
+pub no_json_at : (bytes : Text) (e f : SigFault) (at : Spot) → e ≢ Memory → Fails e (json_reading (json_of bytes)) → IsJsonSpot at → StandsAt bytes f at
 no_json_at bytes e f (spot.Json line column) other h is = not_parsed bytes e other h
 no_json_at bytes e f spot.Text other h is = absurd is
 no_json_at bytes e f (spot.Signature steps) other h is = absurd is

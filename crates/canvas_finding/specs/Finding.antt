@@ -28,9 +28,9 @@ IsSpot d fault spot.Text = place_of fault d ≡ None
 IsSpot d fault (spot.Json line column) = ⊥
 IsSpot d fault (spot.Signature steps) = IsPlace d fault steps.items
 
-abbrev pub IsNotJson : Spot → Type 0
-IsNotJson (spot.Json line column) = Unit {0}
-IsNotJson at = ⊥
+abbrev pub IsJsonSpot : Spot → Type 0
+IsJsonSpot (spot.Json line column) = Unit {0}
+IsJsonSpot at = ⊥
 
 abbrev pub StandsAt : Text → SigFault → Spot → Type 0
 StandsAt bytes fault (spot.Json line column) = json_of bytes ≡ None

@@ -8,7 +8,7 @@ ghost use Rattle.canvas_sig.specs.declared.fault.SigFault.TheVariants.{TooDeep};
 ghost use Rattle.canvas_finding.specs.Places.{shown};
 ghost use Rattle.canvas_finding.specs.Limits.{place_of};
 ghost use Rattle.canvas_finding.specs.declared.finding.Spot.TheVariants.{Text};
-ghost use Rattle.canvas_finding.specs.Finding.{IsFound, IsSpot, IsNotJson, StandsAt};
+ghost use Rattle.canvas_finding.specs.Finding.{IsFound, IsSpot, IsJsonSpot, StandsAt};
 
 use crate::limits::{Wanted, first_past, first_wanted};
 use crate::listing::{Place, places_of};
@@ -152,7 +152,7 @@ fn json_note(alloc: Global, error: &serde_json::Error) -> Result<String, AllocEr
 /// Where a text is no JSON, as serde_json says it.
 fn find_no_json(alloc: Global, bytes: &[u8], fault: SigFault) -> Result<Finding, AllocError>
     ensures fault { IfOk result (λ f. f.fault ≡ fault) }
-    ensures spot { IfOk result (λ f. IsNotJson f.spot) }
+    ensures spot { IfOk result (λ f. IsJsonSpot f.spot) }
 {
     let (line, column, note) = match Value::from_slice(alloc, bytes) {
         Ok(_value) => (0, 0, String::new(alloc)),
