@@ -11,7 +11,7 @@ use Rattle.canvas_sig.specs.declared.fault.SigFault.TheVariants.{NotSignature}
 use Rattle.canvas_sig.specs.declared.primitive.Primitive.{Primitive}
 use Rattle.canvas_sig.specs.declared.primitive.Primitive.TheVariants as kind
 use Rattle.canvas_sig.proofs.Law.{quiet, neither, fine}
-use Rattle.canvas_finding.specs.FileOrder.{Sighted, behind, itself, inside, in_each, in_kwargs, from_index, one_in, some_in, sighted_within, signatures}
+use Rattle.canvas_finding.specs.FileOrder.{Sighted, behind, inside, in_each, in_kwargs, from_index, one_in, some_in, sighted_within, signatures}
 use Rattle.canvas_finding.specs.Refused.{refusal_of, is_refused, first_refused}
 use Rattle.canvas_finding.specs.declared.step.Field.{Field}
 use Rattle.canvas_finding.specs.declared.step.Field.TheVariants as field

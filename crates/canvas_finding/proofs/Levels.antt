@@ -7,7 +7,7 @@ use Rattle.canvas_sig.specs.Grammar.{primitive_of}
 use Rattle.canvas_sig.specs.declared.primitive.Primitive.{Primitive}
 use Rattle.canvas_sig.specs.declared.primitive.Primitive.TheVariants as kind
 use Rattle.canvas_sig.proofs.Depth.{AllLow, inner_low, listed_low, link_low}
-use Rattle.canvas_finding.specs.FileOrder.{Sighted, behind, itself, inside, in_each, in_kwargs, from_index, one_in, some_in, sighted_within, signatures}
+use Rattle.canvas_finding.specs.FileOrder.{Sighted, behind, itself, in_each, in_kwargs, one_in, some_in, sighted_within, signatures}
 use Rattle.canvas_finding.specs.declared.step.Field.{Field}
 use Rattle.canvas_finding.specs.declared.step.Field.TheVariants as field
 use Rattle.canvas_finding.specs.declared.step.Step.{Step}

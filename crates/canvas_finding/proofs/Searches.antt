@@ -1,8 +1,7 @@
 -- Steps and lines, as the searches for limits go over them.
-use Rattle.std.proofs.Common.{◌≡◌, ◌≢◌, ℕ, zero, suc, ◌-◌, Bool, List, [], ◌∷◌, map, length, Option, Some, None, option_map, refl, sym, ap, ◌∙◌, arith}
-use Rattle.std.specs.Prelude.{slice_get}
+use Rattle.std.proofs.Common.{◌≡◌, ◌≢◌, ℕ, zero, suc, ◌-◌, ◌∷◌, refl, sym, ap, ◌∙◌, arith}
 use Rattle.serde_json.specs.Data.{Data}
-use Rattle.canvas_finding.specs.Limits.{kind_of, ends_where, ends_in_group, last_of}
+use Rattle.canvas_finding.specs.Limits.{kind_of, ends_where, ends_in_group}
 
 pub ends_below : (n : ℕ) (d : Data) → n ≢ 0 → ends_in_group n d ≡ ends_where (ends_in_group (n - 1)) (kind_of d) d
 ends_below zero d h = absurd (h refl)

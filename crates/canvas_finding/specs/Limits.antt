@@ -1,6 +1,6 @@
 -- Which signature of a text, in file order, is the first that goes past a limit of whole canvases.
 -- The limits are this project's own.
-use Rattle.std.specs.Prelude.{ℕ, zero, suc, ◌+◌, ◌-◌, Bool, true, false, not, ◌&&◌, List, [], ◌∷◌, length, map, Option, Some, None, nat_lt, ◌==◌, find, count_by, slice_get, is_some, if◌then◌else◌}
+use Rattle.std.specs.Prelude.{ℕ, zero, suc, ◌+◌, ◌-◌, Bool, true, false, not, ◌&&◌, List, [], ◌∷◌, length, Option, Some, None, nat_lt, ◌==◌, find, count_by, slice_get, is_some, if◌then◌else◌}
 use Rattle.serde_json.specs.Data.{Data}
 use Rattle.canvas_semantics.specs.Bounds.{most_nesting, most_tasks, most_groups}
 use Rattle.canvas_sig.specs.Fields.{subtype, tasks, body, listed}

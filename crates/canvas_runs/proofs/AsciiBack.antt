@@ -1,5 +1,5 @@
 -- A message whose three texts are ASCII reads back from its envelope.
-use Rattle.std.proofs.Common.{◌≡◌, ◌∙◌, true, Ok, refl, sym}
+use Rattle.std.proofs.Common.{◌≡◌, ◌∙◌, true, refl, sym}
 use Rattle.serde_json.specs.Written.{compact_text}
 use Rattle.json.proofs.Printed.Utf8.{are_ascii, IsUtf8-are_ascii}
 use Rattle.canvas_message.specs.Content.{Content}
@@ -7,7 +7,7 @@ use Rattle.canvas_message.specs.Fits.{fits}
 use Rattle.canvas_codec.specs.Wire.{properties_wire, headers_wire, body_wire}
 use Rattle.canvas_codec.proofs.EnvelopeBack.{envelope_back}
 use Rattle.canvas_codec.proofs.EnvelopeLaw.{envelope_judged}
-use Rattle.canvas_runs.specs.Worker.{sealed, IsReadBack}
+use Rattle.canvas_runs.specs.Worker.{IsReadBack}
 
 abbrev pub AreAscii : Content → Type 0
 AreAscii c =

@@ -9,7 +9,7 @@ use Rattle.canvas_message.specs.declared.envelope.Envelope.{Envelope}
 use Rattle.canvas_backend.specs.Backend as results
 use Rattle.canvas_backend.specs.Roster.{Roster}
 use Rattle.canvas_broker.specs.Broker as broker
-use Rattle.canvas_broker.specs.Broker.{QueueCall, HasTaken}
+use Rattle.canvas_broker.specs.Broker.{QueueCall}
 use Rattle.canvas_broker.specs.Passes.{Stands, Took}
 use Rattle.canvas_runs.specs.Calls.{broker_call, held_by}
 use Rattle.canvas_runs.specs.Core as C

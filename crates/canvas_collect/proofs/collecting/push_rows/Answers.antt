@@ -1,4 +1,4 @@
-use Rattle.std.proofs.Common.{ℕ, OnOk, subst}
+use Rattle.std.proofs.Common.{ℕ, subst}
 use Rattle.canvas_semantics.specs.Line.{count_line}
 use Rattle.canvas_collect.specs.steps.Rows.{Gains}
 use Rattle.canvas_collect.proofs.Said.{read_more}

@@ -1,5 +1,5 @@
 use Rattle.canvas_sig.specs.Datum.{view}
-use Rattle.canvas_finding.proofs.Found.{stands, low_enough, parsed_as, no_json_at}
+use Rattle.canvas_finding.proofs.Found.{stands, low_enough, parsed_as}
 use Rattle.canvas_finding.proofs.finding.find_parsed.Goals as goal
 
 pub find_in-requires : goal.find_in-requires

@@ -1,4 +1,4 @@
-use Rattle.std.proofs.Common.{rules, arith, ◌≡◌, ◌≤◌, suc, ◌+◌, ◌<◌, length, List, [], ◌∷◌, ◌++◌, Option, sym, ap, ◌∙◌, subst, append_assoc, append-nil}
+use Rattle.std.proofs.Common.{rules, arith, ◌≡◌, ◌≤◌, suc, ◌+◌, ◌<◌, length, List, [], ◌∷◌, ◌++◌, sym, ap, ◌∙◌, subst, append_assoc, append-nil}
 use Rattle.std.specs.Global.{Global}
 use Rattle.crossbeam_queue.specs.Fifo.{Admits}
 use Rattle.crossbeam_queue.specs.SegTies.{SegId, IsSegPassOf}
@@ -7,7 +7,6 @@ use Rattle.crossbeam_queue.specs.SegBatches.{Holds}
 use Rattle.canvas_message.specs.declared.envelope.Envelope.{Envelope}
 use Rattle.canvas_history.proofs.Histories.{In}
 use Rattle.canvas_broker.specs.declared.item.Item.{Item}
-use Rattle.canvas_broker.specs.declared.item.Item.TheVariants.{Queued, Mark}
 use Rattle.canvas_broker.specs.Passes.{Pass, pass_of, Took}
 use Rattle.canvas_broker.specs.declared.view.View.{View}
 use Rattle.canvas_broker.specs.steps.Rule.{envelopes, IsReady, Kept, newcomer}

@@ -1,10 +1,9 @@
-use Rattle.std.proofs.Common.{◌+◌, ◌≤◌, List, ◌++◌, Option}
+use Rattle.std.proofs.Common.{◌+◌, ◌≤◌, List, ◌++◌}
 use Rattle.arrayvec.specs.ArrayVec.{array_vec_len}
 use Rattle.crossbeam_queue.specs.SegTies.{IsSegPassOf}
 use Rattle.crossbeam_queue.specs.SegBatches.{Holds}
 use Rattle.canvas_message.specs.declared.envelope.Envelope.{Envelope}
 use Rattle.canvas_broker.specs.declared.item.Item.{Item}
-use Rattle.canvas_broker.specs.declared.item.Item.TheVariants.{Queued, Mark}
 use Rattle.canvas_broker.specs.Passes.{Took, pass_of}
 use Rattle.canvas_broker.specs.steps.Rule.{envelopes, IsReady}
 use Rattle.canvas_broker.proofs.broker.Broker.take_batch.Given as goal

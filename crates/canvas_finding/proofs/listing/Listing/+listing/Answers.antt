@@ -1,7 +1,7 @@
-use Rattle.std.proofs.Common.{map, drop, false, sym, ap, refl, subst, arith, rules, ◌∙◌, OnOk, ◌<◌, ◌∷◌, [], length, vec_len, length-append}
+use Rattle.std.proofs.Common.{false, sym, ap, refl, subst, arith, ◌∙◌, OnOk, ◌<◌, ◌∷◌, [], length, vec_len, length-append}
 use Rattle.canvas_sig.specs.Datum.{view}
 use Rattle.canvas_sig.proofs.Datums.{next_item}
-use Rattle.canvas_finding.specs.FileOrder.{sighted_within, in_each, from_index, some_in}
+use Rattle.canvas_finding.specs.FileOrder.{sighted_within, in_each}
 use Rattle.canvas_finding.specs.Places.{Lists}
 use Rattle.canvas_finding.proofs.Adding.{and_inside, in_and_back, popped, chord_listed, one_more, list_some_in}
 use Rattle.canvas_finding.proofs.listing.Listing.+listing.Goals as goal
