@@ -9,7 +9,7 @@ ghost use Rattle.canvas_rewrite.specs.FrozenView.{p_task_view, p_line_view, p_en
 ghost use Rattle.canvas_message.specs.MessageView.{place_seen, carried_view};
 ghost use Rattle.canvas_codec.specs.steps.Elements.{element_view, line_with};
 ghost use Rattle.canvas_message.specs.FrozenGrammar.{but_a_place};
-ghost use Rattle.canvas_codec.specs.steps.FrozenReading.{place_with, carried_with, task_as, group_with, chord_with, header_fault, last_as, elements_with, link_reading, step_reading, last_reading, line_reading};
+ghost use Rattle.canvas_codec.specs.steps.FrozenReading.{place_with, carried_with, task_with, task_as, group_with, chord_with, header_fault, last_as, elements_with, link_reading, step_reading, last_reading, line_reading};
 
 use super::identifiers::{known_group, known_task, read_size};
 use super::made::{Element, line_of};
@@ -79,6 +79,15 @@ fn read_task(
         (task_as linked (link_reading left) (line_reading left) (view value.now)) }
 {
     refuse(but_a_place(own_fault(value, linked)))?;
+    read_parts_of(alloc, value, left)
+}
+
+/// The same of a value that has no fault of its own.
+#[cycle(read)]
+fn read_parts_of(alloc: Global, value: &Datum<'_>, left: u32) -> Result<FrozenTask, SigFault>
+    ensures { Gives p_task_view result
+        (task_with (link_reading left) (line_reading left) (view value.now)) }
+{
     let no = known_task(option_of(value, "task_id"))?;
     let args = read_args(alloc, listed(value.get("args")))?;
     let kwargs = read_kwargs(alloc, value.get("kwargs"))?;

@@ -63,14 +63,17 @@ decreases-read_place l = 30 * l.left + 12
 abbrev pub decreases-read_elements : goal.decreases-read_elements
 decreases-read_elements l = 30 * l.left + 13
 
-abbrev pub decreases-read_task : goal.decreases-read_task
-decreases-read_task l = 30 * l.left + 14
+abbrev pub decreases-read_parts_of : goal.decreases-read_parts_of
+decreases-read_parts_of l = 30 * l.left + 14
 
 abbrev pub decreases-read_group : goal.decreases-read_group
 decreases-read_group l = 30 * l.left + 15
 
 abbrev pub decreases-read_chord : goal.decreases-read_chord
 decreases-read_chord l = 30 * l.left + 16
+
+abbrev pub decreases-read_task : goal.decreases-read_task
+decreases-read_task l = 30 * l.left + 17
 
 abbrev pub decreases-read_chain : goal.decreases-read_chain
 decreases-read_chain l = 30 * l.left + 20
