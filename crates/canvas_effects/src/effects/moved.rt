@@ -10,6 +10,7 @@ ghost use Rattle.canvas_rewrite.specs.FrozenView.{p_line_view, p_task_view};
 ghost use Rattle.canvas_semantics.specs.PlacedLine.{p_step, p_stop};
 ghost use Rattle.canvas_effects.specs.Carrying.{place_stands};
 ghost use Rattle.canvas_effects.specs.Effects.{after, message, part_in, part_of};
+ghost use Rattle.canvas_message.specs.Content.{number_of};
 ghost use Rattle.canvas_message.specs.Fits.{fits};
 ghost use Rattle.canvas_effects.specs.Todos.{part_view, todo_view};
 ghost use Rattle.canvas_message.specs.MessageView.{place_seen, rest_seen};
@@ -126,6 +127,15 @@ fn message_from(
     })
 }
 
+/// The task of a message and what follows it on its line.
+fn task_and_rest(message: Message) -> (TaskNo, Option<FrozenLine>)
+    ensures task { result.0 ≡ number_of message.own }
+    ensures rest { rest_seen result.1 ≡ message.rest }
+{
+    let Message { task, rest, .. } = message;
+    (task, rest)
+}
+
 /// The end of a task that succeeded and that another follows.
 fn hand_on(alloc: Global, message: Message, number: i64) -> Result<Todo, AllocError>
     requires number { in_range number ≡ true }
@@ -133,7 +143,7 @@ fn hand_on(alloc: Global, message: Message, number: i64) -> Result<Todo, AllocEr
     ensures { IfOk result (λ todo. todo_view todo ≡ after message (Success number)) }
 {
     let mut messages = called_back(alloc, &message, &Outcome::Success(number))?;
-    let Message { task, rest, .. } = message;
+    let (task, rest) = task_and_rest(message);
     let input = Input::Number(number);
     let parent = Some(task);
     match take_rest(rest) {

@@ -14,18 +14,18 @@ use Rattle.canvas_effects.proofs.effects.moved.hand_on.Goals as goal
 pub message_from-requires : goal.message_from-requires
 message_from-requires c =
     let whole : fits c.args.message ≡ true = search rules in
-    let same : c.args.message.rest ≡ rest_seen c.message.inside.rest = search rules in
-    let task : c.message.inside.task ≡ number_of c.args.message.own = search rules in
+    let same : c.args.message.rest ≡ rest_seen c.task_and_rest-task.result.1 = search rules in
+    let task : c.task_and_rest-task.result.0 ≡ number_of c.args.message.own = search rules in
     let back = to_z-of_z w64 c.args.number (search rules) in
-    ap (λ z. fits (message (Some c.message.inside.task) (p_task_view c.in-Some.next) (number_input z) (rest_seen c.in-Some.rest))) back
-    ∙ next_stands c.args.message c.message.inside.task (p_task_view c.in-Some.next) (rest_seen c.in-Some.rest) c.args.number whole
+    ap (λ z. fits (message (Some c.task_and_rest-task.result.0) (p_task_view c.in-Some.next) (number_input z) (rest_seen c.in-Some.rest))) back
+    ∙ next_stands c.args.message c.task_and_rest-task.result.0 (p_task_view c.in-Some.next) (rest_seen c.in-Some.rest) c.args.number whole
     (same ∙ c.in-Some.ensures) task c.requires.number
 
 pub returns-in-Some : goal.returns-in-Some
 returns-in-Some c =
     let whole : fits c.args.message ≡ true = search rules in
-    let same : c.args.message.rest ≡ rest_seen c.message.inside.rest = search rules in
-    let task : c.message.inside.task ≡ number_of c.args.message.own = search rules in
+    let same : c.args.message.rest ≡ rest_seen c.task_and_rest-task.result.1 = search rules in
+    let task : c.task_and_rest-task.result.0 ≡ number_of c.args.message.own = search rules in
     let back = to_z-of_z w64 c.args.number (search rules) in
     IfOk-weaker c.todo_of.result _ _
     (λ todo is. is ∙ succeeded_next c.args.message (p_task_view c.in-Some.next) (rest_seen c.in-Some.rest) c.args.number _ _ _ _ whole
@@ -35,5 +35,5 @@ returns-in-Some c =
     (c.in_ok-push-in-Some.ensures.items
     ∙ ap (λ m. c.in_ok-messages.messages.items ++ m ∷ [])
     (c.in_ok-message_from-in-Some.ensures
-    ∙ ap (λ z. message (Some c.message.inside.task) (p_task_view c.in-Some.next) (number_input z) (rest_seen c.in-Some.rest)) back
+    ∙ ap (λ z. message (Some c.task_and_rest-task.result.0) (p_task_view c.in-Some.next) (number_input z) (rest_seen c.in-Some.rest)) back
     ∙ ap (λ k. message (Some k) (p_task_view c.in-Some.next) (number_input c.args.number) (rest_seen c.in-Some.rest)) task)) refl) c.todo_of.ensures
