@@ -8,7 +8,6 @@ ghost use Rattle.canvas_backend.specs.Plain.{held};
 
 use crate::cores::{group, task};
 use canvas_backend::{Backend, BackendSeat, PlainBackend, Roster, Stored};
-use canvas_rewrite::Plan;
 use canvas_samples::sample::plan_of;
 use canvas_task::{Fault, GroupNo, Kind, Outcome, TaskNo, Why};
 use std::alloc::{AllocError, Global};
@@ -109,6 +108,14 @@ fn one_thread_counts_parts(rt: HostRuntime) -> Result<(), Fail> {
     Ok(())
 }
 
+/// The backend of a canvas's plan, with its first seat.
+fn backend_of(alloc: Global, canvas: &str) -> Option<(Backend, BackendSeat)>
+    ensures { IfSome result (λ p. p.1.of ≡ p.0.id) }
+{
+    let plan = plan_of(alloc, canvas)?;
+    Backend::new(alloc, &plan).ok()
+}
+
 /// The same through one seat.
 fn parts(
     backend: &Backend,
@@ -164,23 +171,42 @@ fn stores_and_returns(
     }
 }
 
+/// What a seat that is split off reads of a task.
+fn read_by_another(
+    backend: &Backend,
+    seat: &mut BackendSeat,
+    task: TaskNo,
+) -> Option<Option<Outcome>>
+    requires { seat.old.of ≡ backend.now.id }
+{
+    if !backend.roster().knows(task) {
+        return None;
+    }
+    let mut other = backend.split(seat).ok()?;
+    let read = backend.read(&mut other, task);
+    backend.join(seat, other);
+    Some(read)
+}
+
 /// What a seat's parts answer, and what a seat that is split off reads.
-fn by_seats(alloc: Global) -> Option<((u64, u64, u64), Option<Outcome>)> {
-    let plan = plan_of(alloc, CHORD)?;
-    let (backend, mut seat) = Backend::new(alloc, &plan).ok()?;
+fn counts_and_read(
+    backend: &Backend,
+    seat: &mut BackendSeat,
+) -> Option<((u64, u64, u64), Option<Outcome>)>
+    requires { seat.old.of ≡ backend.now.id }
+{
     let (chord, two) = (group(1), task(2));
     if !says(backend.roster(), chord, group(2), two) || backend.roster().knows(task(6)) {
         return None;
     }
-    let counts = parts(&backend, &mut seat, chord, task(1), two, task(3), task(4))?;
-    let mut other = backend.split(&mut seat).ok()?;
-    let read = if backend.roster().knows(two) {
-        backend.read(&mut other, two)
-    } else {
-        None
-    };
-    backend.join(&mut seat, other);
+    let counts = parts(backend, seat, chord, task(1), two, task(3), task(4))?;
+    let read = read_by_another(backend, seat, two)?;
     Some((counts, read))
+}
+
+fn by_seats(alloc: Global) -> Option<((u64, u64, u64), Option<Outcome>)> {
+    let (backend, mut seat) = backend_of(alloc, CHORD)?;
+    counts_and_read(&backend, &mut seat)
 }
 
 #[test]
@@ -206,9 +232,9 @@ fn comes_back(backend: &Backend, seat: &mut BackendSeat, task: TaskNo, outcome: 
 }
 
 /// Whether outcomes come back: the least and the greatest number, 0, and a failure of either kind.
-fn all_come_back(alloc: Global) -> Option<bool> {
-    let plan = plan_of(alloc, CHORD)?;
-    let (backend, mut seat) = Backend::new(alloc, &plan).ok()?;
+fn come_back(backend: &Backend, seat: &mut BackendSeat) -> bool
+    requires { seat.old.of ≡ backend.now.id }
+{
     let two = task(2);
     let fault = Fault::Chord {
         dep: two,
@@ -217,13 +243,16 @@ fn all_come_back(alloc: Global) -> Option<bool> {
     let least = Outcome::Success(-1152921504606846976);
     let greatest = Outcome::Success(1152921504606846976);
     let bad_call = Outcome::Failure(Fault::Plain(Kind::BadCall));
-    Some(
-        comes_back(&backend, &mut seat, task(1), &least)
-            && comes_back(&backend, &mut seat, two, &greatest)
-            && comes_back(&backend, &mut seat, task(3), &Outcome::Success(0))
-            && comes_back(&backend, &mut seat, task(4), &bad_call)
-            && comes_back(&backend, &mut seat, task(5), &Outcome::Failure(fault)),
-    )
+    comes_back(backend, seat, task(1), &least)
+        && comes_back(backend, seat, two, &greatest)
+        && comes_back(backend, seat, task(3), &Outcome::Success(0))
+        && comes_back(backend, seat, task(4), &bad_call)
+        && comes_back(backend, seat, task(5), &Outcome::Failure(fault))
+}
+
+fn all_come_back(alloc: Global) -> Option<bool> {
+    let (backend, mut seat) = backend_of(alloc, CHORD)?;
+    Some(come_back(&backend, &mut seat))
 }
 
 #[test]
@@ -339,8 +368,7 @@ fn do_shares<R: Threads + Sync>(rt: &R, backend: &Backend, group: GroupNo, share
 /// these read, over sixteen seats in threads.
 fn in_threads<R: Threads + Sync>(rt: &R, alloc: Global) -> Option<(u32, u32)> {
     let text = hundred(alloc).ok()?;
-    let plan = plan_of(alloc, text.as_str())?;
-    let (backend, seat) = Backend::new(alloc, &plan).ok()?;
+    let (backend, seat) = backend_of(alloc, &text)?;
     let mut shares = dealt(alloc, &backend, seat)?;
     do_shares(rt, &backend, group(1), shares.as_mut_slice());
     let mut completed = 0u32;
@@ -360,17 +388,27 @@ fn one_part_completes(rt: HostRuntime) -> Result<(), Fail> {
     Ok(())
 }
 
-/// Whether the backend of a plan with no tasks splits a seat and takes it in.
-fn splits_and_joins(alloc: Global) -> Option<bool> {
-    let plan = plan_of(alloc, EMPTY_GROUP)?;
-    let (backend, mut seat) = Backend::new(alloc, &plan).ok()?;
-    let other = backend.split(&mut seat).ok()?;
-    backend.join(&mut seat, other);
-    Some(!backend.roster().knows(task(1)))
+/// Whether a backend splits a seat and takes it in.
+fn splits_and_joins(backend: &Backend, seat: &mut BackendSeat) -> bool
+    requires { seat.old.of ≡ backend.now.id }
+{
+    match backend.split(seat) {
+        Ok(other) => {
+            backend.join(seat, other);
+            true
+        }
+        Err(_) => false,
+    }
+}
+
+/// The same of the backend of a plan with no tasks.
+fn has_seats(alloc: Global) -> Option<bool> {
+    let (backend, mut seat) = backend_of(alloc, EMPTY_GROUP)?;
+    Some(splits_and_joins(&backend, &mut seat) && !backend.roster().knows(task(1)))
 }
 
 #[test]
 fn no_tasks_have_seats(rt: HostRuntime) -> Result<(), Fail> {
-    assert_eq!(rt; splits_and_joins(rt.alloc()), Some(true));
+    assert_eq!(rt; has_seats(rt.alloc()), Some(true));
     Ok(())
 }

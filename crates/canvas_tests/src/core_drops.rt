@@ -78,7 +78,10 @@ fn drops_all(alloc: Global, backend: &PlainBackend, core: &mut Core, rows: &[[&s
 
 fn is_undisturbed(alloc: Global, rows: &[[&str; 4]]) -> bool {
     match backend_of(alloc, CHORD) {
-        Some(backend) => drops_all(alloc, &backend, &mut Core::new(alloc), rows),
+        Some(backend) => {
+            let mut core = Core::new(alloc);
+            drops_all(alloc, &backend, &mut core, rows)
+        }
         None => false,
     }
 }
@@ -100,9 +103,9 @@ fn forged_messages(rt: HostRuntime) {
 }
 
 /// Whether headers without a name are dropped.
-fn drops_nameless(alloc: Global, backend: &PlainBackend) -> bool {
+fn drops_nameless(alloc: Global, backend: &PlainBackend, core: &mut Core) -> bool {
     match envelope(alloc, PLAIN, r#"{"id":"%1"}"#, "[[2,2],{},null]") {
-        Ok(nameless) => is_dropped(alloc, backend, &mut Core::new(alloc), nameless),
+        Ok(nameless) => is_dropped(alloc, backend, core, nameless),
         Err(_) => false,
     }
 }
@@ -110,7 +113,10 @@ fn drops_nameless(alloc: Global, backend: &PlainBackend) -> bool {
 #[test]
 fn headers_without_a_name(rt: HostRuntime) {
     let drops = match backend_of(rt.alloc(), ONE) {
-        Some(backend) => drops_nameless(rt.alloc(), &backend),
+        Some(backend) => {
+            let mut core = Core::new(rt.alloc());
+            drops_nameless(rt.alloc(), &backend, &mut core)
+        }
         None => false,
     };
     assert!(rt; drops);
