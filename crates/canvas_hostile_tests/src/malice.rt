@@ -134,20 +134,20 @@ fn takes_up(alloc: Global, backend: &PlainBackend, core: &mut Core) -> bool {
     }
 }
 
-/// The index of the first change whose message isn't dropped, if there is one.
-fn first_kept(
+/// The index of the first change whose message isn't dropped, or how many there are.
+fn dropped(
     alloc: Global,
     backend: &PlainBackend,
     core: &mut Core,
     texts: &Texts,
     changes: &[Change],
-) -> Option<usize> {
+) -> usize {
     for (index, change) in changes.iter().enumerate() {
         if !drops(alloc, backend, core, texts, change) {
-            return Some(index);
+            return index;
         }
     }
-    None
+    changes.len()
 }
 
 fn backend_of(alloc: Global) -> Option<PlainBackend> {
@@ -157,31 +157,41 @@ fn backend_of(alloc: Global) -> Option<PlainBackend> {
     }
 }
 
-/// The tables of changes, with the message that each changes.
-const FORGED: [(&Texts, &[Change]); 3] = [
-    (&MEMBER, &NAMES),
-    (&MEMBER, &FORMS),
-    (&CALLBACK, &RESTS),
-];
+fn names_dropped(alloc: Global, backend: &PlainBackend, core: &mut Core) -> usize {
+    dropped(alloc, backend, core, &MEMBER, &NAMES)
+}
 
-/// The first change whose message isn't dropped, by the indices of its table and of itself.
-fn kept(alloc: Global, backend: &PlainBackend, core: &mut Core) -> Option<(usize, usize)> {
-    for (table, (texts, changes)) in FORGED.iter().enumerate() {
-        if let Some(index) = first_kept(alloc, backend, core, texts, changes) {
-            return Some((table, index));
-        }
-    }
-    None
+fn forms_dropped(alloc: Global, backend: &PlainBackend, core: &mut Core) -> usize {
+    dropped(alloc, backend, core, &MEMBER, &FORMS)
+}
+
+fn rests_dropped(alloc: Global, backend: &PlainBackend, core: &mut Core) -> usize {
+    dropped(alloc, backend, core, &CALLBACK, &RESTS)
+}
+
+/// How many messages of each table are dropped, and how many a core counted that then takes up
+/// what is in order.
+fn core_drops(alloc: Global, backend: &PlainBackend) -> ([usize; 3], Option<u64>) {
+    let mut core = Core::new(alloc);
+    let names = names_dropped(alloc, backend, &mut core);
+    let forms = forms_dropped(alloc, backend, &mut core);
+    let rests = rests_dropped(alloc, backend, &mut core);
+    let dropped = core.dropped();
+    let counted = if takes_up(alloc, backend, &mut core) {
+        Some(dropped)
+    } else {
+        None
+    };
+    ([names, forms, rests], counted)
 }
 
 /// Each is dropped and counted, and what is in order is taken up behind them.
 #[test]
 fn dropped_by_a_core(rt: HostRuntime) -> Result<(), Fail> {
     let backend = backend_of(rt.alloc()).ok_or("no backend")?;
-    let mut core = Core::new(rt.alloc());
-    assert_eq!(rt; kept(rt.alloc(), &backend, &mut core), None);
-    assert!(rt; core.dropped() == 90);
-    assert!(rt; takes_up(rt.alloc(), &backend, &mut core));
+    let (dropped, counted) = core_drops(rt.alloc(), &backend);
+    assert_eq!(rt; dropped, [34, 34, 22]);
+    assert_eq!(rt; counted, Some(90));
     Ok(())
 }
 

@@ -3,19 +3,23 @@
 
 use crate::envelopes::{BODY, HEADERS, PLAIN, PROPERTIES, envelope};
 use canvas_codec::{decode, encode};
-use canvas_message::Envelope;
+use canvas_message::{Envelope, Message};
 use std::alloc::Global;
 use std::test::Fail;
 
 const NOTHING: &str = r#"{"callbacks":null,"chain":null,"chord":null,"errbacks":null}"#;
 
+fn is_written_so(alloc: Global, message: &Message, written: &Envelope) -> bool {
+    match encode(alloc, message) {
+        Ok(found) => found == *written,
+        Err(_) => false,
+    }
+}
+
 /// Whether an envelope is read as the message that is written so.
 fn is_alike(alloc: Global, envelope: &Envelope, written: &Envelope) -> bool {
     match decode(alloc, envelope) {
-        Ok(message) => match encode(alloc, &message) {
-            Ok(again) => again == *written,
-            Err(_) => false,
-        },
+        Ok(message) => is_written_so(alloc, &message, written),
         Err(_) => false,
     }
 }

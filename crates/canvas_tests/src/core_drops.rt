@@ -1,12 +1,13 @@
 //! What cores drop, and that what was dropped changes nothing.
 
-use crate::cores::{CHORD, ONE, ZERO_DIVISION, acknowledges, answers, backend_of, task};
+use crate::cores::{CHORD, ONE, ZERO_DIVISION, acknowledges, answers, start, task};
 use crate::envelopes::{PLAIN, envelope};
 use canvas_backend::PlainBackend;
 use canvas_message::{Envelope, Letter};
 use canvas_task::Memory;
 use canvas_worker::{Ask, Core, Reply};
 use std::alloc::{AllocError, Global};
+use std::test::Fail;
 
 /// The message of the second member of the chord, changed: its task, its group, its parent, and how
 /// many members it says there are.
@@ -77,11 +78,8 @@ fn drops_all(alloc: Global, backend: &PlainBackend, core: &mut Core, rows: &[[&s
 }
 
 fn is_undisturbed(alloc: Global, rows: &[[&str; 4]]) -> bool {
-    match backend_of(alloc, CHORD) {
-        Some(backend) => {
-            let mut core = Core::new(alloc);
-            drops_all(alloc, &backend, &mut core, rows)
-        }
+    match start(alloc, CHORD) {
+        Some(mut alone) => drops_all(alloc, &alone.backend, &mut alone.core, rows),
         None => false,
     }
 }
@@ -111,13 +109,8 @@ fn drops_nameless(alloc: Global, backend: &PlainBackend, core: &mut Core) -> boo
 }
 
 #[test]
-fn headers_without_a_name(rt: HostRuntime) {
-    let drops = match backend_of(rt.alloc(), ONE) {
-        Some(backend) => {
-            let mut core = Core::new(rt.alloc());
-            drops_nameless(rt.alloc(), &backend, &mut core)
-        }
-        None => false,
-    };
-    assert!(rt; drops);
+fn headers_without_a_name(rt: HostRuntime) -> Result<(), Fail> {
+    let mut alone = start(rt.alloc(), ONE).ok_or("no core")?;
+    assert!(rt; drops_nameless(rt.alloc(), &alone.backend, &mut alone.core));
+    Ok(())
 }

@@ -14,6 +14,7 @@ use canvas_samples::sample::plan_of;
 use canvas_task::{Fault, GroupNo, Kind, Memory, Outcome, SixTasks, TaskNo, Why};
 use canvas_worker::{Ask, Core, Reply};
 use std::alloc::Global;
+use std::test::Fail;
 
 pub(crate) const ONE: &str = r#"{"task":"tasks.add","args":[2,2]}"#;
 
@@ -113,11 +114,20 @@ fn reply_of(desk: &mut Desk, core: &mut Core) -> Option<Reply>
     }
 }
 
+/// A core, its plan's backend, and what answers it.
+#[derive(Drop)]
+pub(crate) struct Alone {
+    pub(crate) backend: PlainBackend,
+    pub(crate) core: Core,
+    desk: Desk,
+}
+
 /// Whether one more ask is answered. Inside a script the core holds its envelope, and outside none.
-fn goes_on(alloc: Global, backend: &PlainBackend, desk: &mut Desk, core: &mut Core) -> bool {
-    match reply_of(desk, core) {
+fn goes_on(alloc: Global, alone: &mut Alone) -> bool {
+    match reply_of(&mut alone.desk, &mut alone.core) {
         Some(reply) => {
-            answers(alloc, backend, core, reply) && core.held().is_some() == core.is_inside()
+            answers(alloc, &alone.backend, &mut alone.core, reply)
+                && alone.core.held().is_some() == alone.core.is_inside()
         }
         None => false,
     }
@@ -148,34 +158,22 @@ fn desk_of(alloc: Global, plan: &Plan) -> Option<Desk> {
     })
 }
 
-fn has_asked(
-    alloc: Global,
-    backend: &PlainBackend,
-    desk: &mut Desk,
-    core: &mut Core,
-    asks: &[Ask],
-) -> bool {
+fn has_asked(alloc: Global, alone: &mut Alone, asks: &[Ask]) -> bool {
     for ask in asks {
-        if core.next() != *ask || !goes_on(alloc, backend, desk, core) {
+        if alone.core.next() != *ask || !goes_on(alloc, alone) {
             return false;
         }
     }
-    core.next() == Ask::End && core.dropped() == 0 && !core.is_inside()
+    alone.core.next() == Ask::End && alone.core.dropped() == 0 && !alone.core.is_inside()
 }
 
 /// Whether a core on its own comes to its end within this many asks.
-fn has_ended(
-    alloc: Global,
-    backend: &PlainBackend,
-    desk: &mut Desk,
-    core: &mut Core,
-    most: u32,
-) -> bool {
+fn has_ended(alloc: Global, alone: &mut Alone, most: u32) -> bool {
     for _ in 0..most {
-        if core.next() == Ask::End {
-            return core.dropped() == 0;
+        if alone.core.next() == Ask::End {
+            return alone.core.dropped() == 0;
         }
-        if !goes_on(alloc, backend, desk, core) {
+        if !goes_on(alloc, alone) {
             return false;
         }
     }
@@ -188,20 +186,24 @@ pub(crate) fn backend_of(alloc: Global, text: &str) -> Option<PlainBackend> {
     PlainBackend::new(alloc, &plan).ok()
 }
 
-/// The same, and what answers a core about it.
-fn start(alloc: Global, text: &str) -> Option<(PlainBackend, Desk)> {
-    let backend = backend_of(alloc, text)?;
+/// A core that has asked nothing yet, for a canvas.
+pub(crate) fn start(alloc: Global, text: &str) -> Option<Alone> {
     let plan = plan_of(alloc, text)?;
     let desk = desk_of(alloc, &plan)?;
-    Some((backend, desk))
+    let backend = PlainBackend::new(alloc, &plan).ok()?;
+    let core = Core::new(alloc);
+    Some(Alone {
+        backend,
+        core,
+        desk,
+    })
 }
 
 /// Whether a core on its own asks this for a canvas, and leaves these outcomes.
 fn asks_so(alloc: Global, text: &str, asks: &[Ask], rows: &[Option<Outcome>]) -> bool {
     match start(alloc, text) {
-        Some((backend, desk)) => {
-            let (mut desk, mut core) = (desk, Core::new(alloc));
-            has_asked(alloc, &backend, &mut desk, &mut core, asks) && desk.rows.as_slice() == rows
+        Some(mut alone) => {
+            has_asked(alloc, &mut alone, asks) && alone.desk.rows.as_slice() == rows
         }
         None => false,
     }
@@ -209,9 +211,8 @@ fn asks_so(alloc: Global, text: &str, asks: &[Ask], rows: &[Option<Outcome>]) ->
 
 fn ends_so(alloc: Global, text: &str, rows: &[Option<Outcome>]) -> bool {
     match start(alloc, text) {
-        Some((backend, desk)) => {
-            let (mut desk, mut core) = (desk, Core::new(alloc));
-            has_ended(alloc, &backend, &mut desk, &mut core, 100) && desk.rows.as_slice() == rows
+        Some(mut alone) => {
+            has_ended(alloc, &mut alone, 100) && alone.desk.rows.as_slice() == rows
         }
         None => false,
     }
@@ -338,13 +339,11 @@ pub(crate) fn acknowledges(
 
 // ---- what ends a script
 
-/// A plan's backend, and the first envelope of its queue with a copy.
-fn first_taken(alloc: Global, text: &str) -> Option<(PlainBackend, Letter, Envelope)> {
-    let (backend, desk) = start(alloc, text)?;
-    let mut queue = desk.queue;
-    let envelope = queue.take()?;
-    let same = envelope.envelope().copy().ok()?;
-    Some((backend, envelope, same))
+/// The first envelope of the queue with a copy.
+fn first_taken(alone: &mut Alone) -> Option<(Letter, Envelope)> {
+    let letter = alone.desk.queue.take()?;
+    let same = letter.envelope().copy().ok()?;
+    Some((letter, same))
 }
 
 /// Whether a message that is stored again has no effect, and its envelope is acknowledged.
@@ -355,20 +354,22 @@ fn ends_again(alloc: Global, backend: &PlainBackend, core: &mut Core, same: &Env
         && core.dropped() == 0
 }
 
-fn first_ends_again(alloc: Global) -> bool {
-    match first_taken(alloc, NESTED) {
-        Some((backend, envelope, same)) => {
-            let mut core = Core::new(alloc);
-            answers(alloc, &backend, &mut core, Reply::Taken(Some(envelope)))
-                && ends_again(alloc, &backend, &mut core, &same)
+fn first_ends_again(alloc: Global, alone: &mut Alone) -> bool {
+    match first_taken(alone) {
+        Some((letter, same)) => {
+            let taken = Reply::Taken(Some(letter));
+            answers(alloc, &alone.backend, &mut alone.core, taken)
+                && ends_again(alloc, &alone.backend, &mut alone.core, &same)
         }
         None => false,
     }
 }
 
 #[test]
-fn stored_again(rt: HostRuntime) {
-    assert!(rt; first_ends_again(rt.alloc()));
+fn stored_again(rt: HostRuntime) -> Result<(), Fail> {
+    let mut alone = start(rt.alloc(), NESTED).ok_or("no core")?;
+    assert!(rt; first_ends_again(rt.alloc(), &mut alone));
+    Ok(())
 }
 
 /// Whether a core whose envelope is refused is at its end.
@@ -385,19 +386,21 @@ fn ends_refused(alloc: Global, backend: &PlainBackend, core: &mut Core) -> bool 
     }
 }
 
-fn fails(alloc: Global) -> bool {
-    match start(alloc, NESTED) {
-        Some((backend, desk)) => {
-            let (mut queue, mut core) = (desk.queue, Core::new(alloc));
-            answers(alloc, &backend, &mut core, Reply::Taken(queue.take()))
-                && answers(alloc, &backend, &mut core, Reply::Stored(Stored::First))
-                && ends_refused(alloc, &backend, &mut core)
-        }
-        None => false,
-    }
+fn fails(alloc: Global, alone: &mut Alone) -> bool {
+    let taken = Reply::Taken(alone.desk.queue.take());
+    answers(alloc, &alone.backend, &mut alone.core, taken)
+        && answers(
+            alloc,
+            &alone.backend,
+            &mut alone.core,
+            Reply::Stored(Stored::First),
+        )
+        && ends_refused(alloc, &alone.backend, &mut alone.core)
 }
 
 #[test]
-fn publish_refused(rt: HostRuntime) {
-    assert!(rt; fails(rt.alloc()));
+fn publish_refused(rt: HostRuntime) -> Result<(), Fail> {
+    let mut alone = start(rt.alloc(), NESTED).ok_or("no core")?;
+    assert!(rt; fails(rt.alloc(), &mut alone));
+    Ok(())
 }

@@ -240,8 +240,9 @@ fn tasks(alloc: Global, count: u32) -> Result<String, AllocError> {
     Ok(all)
 }
 
-/// The number of a refusal of a line of one element, which has these members.
-fn line_code(alloc: Global, before: &str, count: u32, after: &str) -> u8 {
+/// The number of a refusal of a line of one element, which has so many members between these texts.
+fn line_code(alloc: Global, texts: &[&str; 2], count: u32) -> u8 {
+    let [before, after] = *texts;
     match tasks(alloc, count) {
         Ok(members) => match format!(in alloc; "{before}{members}{after}") {
             Ok(embed) => embed_code(alloc, HEADERS, &embed),
@@ -251,21 +252,23 @@ fn line_code(alloc: Global, before: &str, count: u32, after: &str) -> u8 {
     }
 }
 
+/// Around the members of a chord, and of a group.
+const CHORD: [&str; 2] = [
+    r#"{"chain":[^1"},"kwargs":{"header":["#,
+    r#"],"body":$3"}}}}]}"#,
+];
+
+const GROUP: [&str; 2] = [r#"{"chain":[&1"},"kwargs":{"tasks":["#, "]}}]}"];
+
 #[test]
 fn many_members(rt: HostRuntime) {
-    let (chord, body) = (
-        r#"{"chain":[^1"},"kwargs":{"header":["#,
-        r#"],"body":$3"}}}}]}"#,
-    );
-    let (group, end) = (r#"{"chain":[&1"},"kwargs":{"tasks":["#, "]}}]}");
-    for &(code, before, count, after) in &[
-        (0, chord, 1024, body),
-        (7, chord, 1025, body),
-        (0, group, 1024, end),
-        (0, group, 1025, end),
+    for &(code, texts, count) in &[
+        (0, &CHORD, 1024),
+        (7, &CHORD, 1025),
+        (0, &GROUP, 1024),
+        (0, &GROUP, 1025),
     ] {
-        let found = line_code(rt.alloc(), before, count, after);
-        assert_eq!(rt; found, code, "{before} {count}");
+        assert_eq!(rt; line_code(rt.alloc(), texts, count), code, "{count}");
     }
 }
 
@@ -278,8 +281,10 @@ fn carried(alloc: Global, bodies: u32) -> Result<String, AllocError> {
     Ok(text)
 }
 
-/// The number of a refusal of so many bodies between these texts.
-fn reach_code(alloc: Global, headers: &str, before: &str, bodies: u32, after: &str) -> u8 {
+/// The number of a refusal of so many bodies between the last two of these texts, where the first
+/// is the headers.
+fn reach_code(alloc: Global, texts: &[&str; 3], bodies: u32) -> u8 {
+    let [headers, before, after] = *texts;
     match carried(alloc, bodies) {
         Ok(text) => match format!(in alloc; "{before}{text}{after}") {
             Ok(embed) => embed_code(alloc, headers, &embed),
@@ -289,16 +294,18 @@ fn reach_code(alloc: Global, headers: &str, before: &str, bodies: u32, after: &s
     }
 }
 
+/// Around the body of a message's own place, and of that of its line's last task.
+const OWN: [&str; 3] = [GROUP_HEADERS, r#"{"chord":"#, "}"];
+
+const LAST: [&str; 3] = [HEADERS, r#"{"chain":[$2","group_id":"@1","chord":"#, "}}]}"];
+
 #[test]
 fn reach(rt: HostRuntime) {
-    let (own, last) = (r#"{"chord":"#, r#"{"chain":[$2","group_id":"@1","chord":"#);
-    for &(headers, before, bodies, after, code) in &[
-        (GROUP_HEADERS, own, 31, "}", 0),
-        (GROUP_HEADERS, own, 32, "}", 7),
-        (HEADERS, last, 30, "}}]}", 0),
-        (HEADERS, last, 31, "}}]}", 7),
-    ] {
-        let found = reach_code(rt.alloc(), headers, before, bodies, after);
-        assert_eq!(rt; found, code, "{before} {bodies} bodies");
+    for &(texts, bodies, code) in &[(&OWN, 31, 0), (&OWN, 32, 7), (&LAST, 30, 0), (&LAST, 31, 7)] {
+        assert_eq!(rt;
+            reach_code(rt.alloc(), texts, bodies),
+            code,
+            "{bodies} bodies"
+        );
     }
 }
