@@ -51,20 +51,20 @@ fn chord_text(alloc: Global, member: &str, count: u32) -> Result<String, AllocEr
     Ok(text)
 }
 
-pub(crate) fn chain(alloc: Global) -> Result<String, AllocError> {
+fn chain(alloc: Global) -> Result<String, AllocError> {
     list_text(alloc, "chain", FIRST, ADD, 200)
 }
 
-pub(crate) fn group(alloc: Global) -> Result<String, AllocError> {
+fn group(alloc: Global) -> Result<String, AllocError> {
     list_text(alloc, "group", FIRST, FIRST, 1_000)
 }
 
-pub(crate) fn chord(alloc: Global) -> Result<String, AllocError> {
+fn chord(alloc: Global) -> Result<String, AllocError> {
     chord_text(alloc, FIRST, 1_000)
 }
 
 /// A chord of ten chords of ten chords of eight tasks, each into a sum.
-pub(crate) fn nested_chords(alloc: Global) -> Result<String, AllocError> {
+fn nested_chords(alloc: Global) -> Result<String, AllocError> {
     let inner = chord_text(alloc, FIRST, 8)?;
     let middle = chord_text(alloc, &inner, 10)?;
     chord_text(alloc, &middle, 10)
@@ -72,9 +72,49 @@ pub(crate) fn nested_chords(alloc: Global) -> Result<String, AllocError> {
 
 /// A group of sixteen chains of sixty tasks: sixteen messages at a time, most of which carry long
 /// chains.
-pub(crate) fn wide_chains(alloc: Global) -> Result<String, AllocError> {
+fn wide_chains(alloc: Global) -> Result<String, AllocError> {
     let member = list_text(alloc, "chain", FIRST, ADD, 60)?;
     list_text(alloc, "group", &member, &member, 16)
+}
+
+/// A canvas that is timed.
+#[derive(Clone, Copy)]
+pub(crate) enum Large {
+    Chain,
+    Group,
+    Chord,
+    NestedChords,
+    WideChains,
+}
+
+pub(crate) const LARGE: [Large; 5] = [
+    Large::Chain,
+    Large::Group,
+    Large::Chord,
+    Large::NestedChords,
+    Large::WideChains,
+];
+
+impl Large {
+    pub(crate) fn name(self) -> &'static str {
+        match self {
+            Large::Chain => "chain",
+            Large::Group => "group",
+            Large::Chord => "chord",
+            Large::NestedChords => "nested chords",
+            Large::WideChains => "group of chains",
+        }
+    }
+
+    pub(crate) fn text(self, alloc: Global) -> Result<String, AllocError> {
+        match self {
+            Large::Chain => chain(alloc),
+            Large::Group => group(alloc),
+            Large::Chord => chord(alloc),
+            Large::NestedChords => nested_chords(alloc),
+            Large::WideChains => wide_chains(alloc),
+        }
+    }
 }
 
 /// A call of a sum over 400 numbers, which takes no input.

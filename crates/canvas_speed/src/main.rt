@@ -9,7 +9,7 @@ mod hostile;
 mod runs;
 mod threads;
 
-use crate::canvases::{chain, chord, group, heavy_chains, nested_chords, wide_chains};
+use crate::canvases::{LARGE, heavy_chains};
 use crate::hostile::{Cost, PARTS, cost_of_members, cost_of_parts};
 use crate::runs::speed_of;
 use crate::threads::thread_speed_of;
@@ -107,11 +107,24 @@ fn reading_ratio(clock: &impl Clock, alloc: Global, body: &str) -> Result<u128> 
     Ok(hundredths(time, parsing(clock, alloc, body)?))
 }
 
-fn writing_ratio(clock: &impl Clock, alloc: Global, body: &str) -> Result<u128> {
-    let message = decode(alloc, &envelope_of(alloc, body)?)?;
+fn message_of(alloc: Global, body: &str) -> Result<Message> {
+    let envelope = envelope_of(alloc, body)?;
+    Ok(decode(alloc, &envelope)?)
+}
+
+fn writing(clock: &impl Clock, alloc: Global, body: &str) -> Result<u128> {
+    let message = message_of(alloc, body)?;
+    encoding(clock, alloc, &message)
+}
+
+fn printing_of(clock: &impl Clock, alloc: Global, body: &str) -> Result<u128> {
     let value = Value::from_str(alloc, body)?;
-    let time = encoding(clock, alloc, &message)?;
-    Ok(hundredths(time, printing(clock, alloc, &value)?))
+    printing(clock, alloc, &value)
+}
+
+fn writing_ratio(clock: &impl Clock, alloc: Global, body: &str) -> Result<u128> {
+    let time = writing(clock, alloc, body)?;
+    Ok(hundredths(time, printing_of(clock, alloc, body)?))
 }
 
 fn print_speed(rt: &HostRuntime, name: &str, text: &str) -> Result<()> {
@@ -124,11 +137,10 @@ fn print_speed(rt: &HostRuntime, name: &str, text: &str) -> Result<()> {
 }
 
 fn print_speeds(rt: &HostRuntime) -> Result<()> {
-    print_speed(rt, "chain", &chain(rt.alloc())?)?;
-    print_speed(rt, "group", &group(rt.alloc())?)?;
-    print_speed(rt, "chord", &chord(rt.alloc())?)?;
-    print_speed(rt, "nested chords", &nested_chords(rt.alloc())?)?;
-    print_speed(rt, "group of chains", &wide_chains(rt.alloc())?)
+    for large in &LARGE {
+        print_speed(rt, large.name(), &large.text(rt.alloc())?)?;
+    }
+    Ok(())
 }
 
 fn print_thread_speed<R>(rt: &R, name: &str, text: &str) -> Result<()>
@@ -147,11 +159,10 @@ fn print_thread_speeds<R>(rt: &R) -> Result<()>
 where
     R: Print + Clock + Threads + Wait + RandomSource + AllocGlobal + Sync,
 {
-    print_thread_speed(rt, "chain", &chain(rt.alloc())?)?;
-    print_thread_speed(rt, "group", &group(rt.alloc())?)?;
-    print_thread_speed(rt, "chord", &chord(rt.alloc())?)?;
-    print_thread_speed(rt, "nested chords", &nested_chords(rt.alloc())?)?;
-    print_thread_speed(rt, "group of chains", &wide_chains(rt.alloc())?)
+    for large in &LARGE {
+        print_thread_speed(rt, large.name(), &large.text(rt.alloc())?)?;
+    }
+    Ok(())
 }
 
 /// Groups of chains of heavy tasks, with how many chains there are and how long they are.
