@@ -6,12 +6,6 @@ mod alike;
 #[cfg(test)]
 mod backends;
 #[cfg(test)]
-mod core_drops;
-#[cfg(test)]
-mod core_parts;
-#[cfg(test)]
-mod cores;
-#[cfg(test)]
 mod embeds;
 #[cfg(test)]
 mod envelopes;

@@ -1,13 +1,10 @@
-//! Queues: of one thread, of passes, and what threads share.
+//! Queues that threads share, and how many envelopes a batch has.
 
 ghost use Rattle.std.specs.Prelude.{◌≡◌};
-ghost use Rattle.canvas_history.specs.Callers.{told};
-ghost use Rattle.canvas_broker.specs.Broker.{HasTaken};
 
-use canvas_broker::{Broker, BrokerPass, PlainBroker};
+use canvas_broker::{Broker, BrokerPass};
 use canvas_message::{Envelope, Letter};
 use canvas_task::ListOf;
-use canvas_worker::steps_of_workers;
 use std::alloc::Global;
 use std::sync::Wait;
 use std::test::*;
@@ -33,28 +30,6 @@ fn number_of(letter: &Letter) -> u64 {
     }
 }
 
-fn gives(taken: Option<Letter>, number: u64) -> bool {
-    taken.is_some_and(|envelope| number_of(&envelope) == number)
-}
-
-/// Two envelopes through the queue of one thread.
-fn by_hand(alloc: Global) -> Option<bool> {
-    let mut broker = PlainBroker::new(alloc);
-    let empty = broker.is_empty();
-    broker.publish(numbered(alloc, 1)?).ok()?;
-    broker.publish(numbered(alloc, 2)?).ok()?;
-    let filled = !broker.is_empty();
-    let first = gives(broker.take(), 1);
-    let second = gives(broker.take(), 2);
-    Some(empty && filled && first && second && broker.take().is_none())
-}
-
-#[test]
-fn one_thread_has_a_queue(rt: HostRuntime) -> Result<(), Fail> {
-    assert_eq!(rt; by_hand(rt.alloc()), Some(true));
-    Ok(())
-}
-
 /// Whether an envelope of this number is published.
 fn publishes<R: Wait>(
     rt: &R,
@@ -70,74 +45,6 @@ fn publishes<R: Wait>(
         Some(envelope) => broker.publish(rt, pass, envelope).is_ok(),
         None => false,
     }
-}
-
-/// Two envelopes through one pass.
-fn by_one<R: Wait>(rt: &R, alloc: Global) -> Option<bool> {
-    let (broker, mut pass) = Broker::new(alloc).ok()?;
-    if !publishes(rt, alloc, &broker, &mut pass, 1)
-        || !publishes(rt, alloc, &broker, &mut pass, 2)
-    {
-        return None;
-    }
-    let first = gives(broker.take(rt, &mut pass), 1);
-    let second = gives(broker.take(rt, &mut pass), 2);
-    Some(first && second && broker.take(rt, &mut pass).is_none())
-}
-
-/// What one pass publishes another takes, and the rest goes to the pass that took that one in.
-fn by_two<R: Wait>(rt: &R, alloc: Global) -> Option<bool> {
-    let (broker, mut pass) = Broker::new(alloc).ok()?;
-    let mut other = broker.split(rt, &mut pass).ok()?;
-    if !publishes(rt, alloc, &broker, &mut pass, 1)
-        || !publishes(rt, alloc, &broker, &mut pass, 2)
-    {
-        return None;
-    }
-    let first = gives(broker.take(rt, &mut other), 1);
-    broker.join(rt, &mut pass, other);
-    let second = gives(broker.take(rt, &mut pass), 2);
-    Some(first && second && broker.take(rt, &mut pass).is_none())
-}
-
-/// Whether an envelope that was taken comes once more where a copy of it is delivered again.
-fn comes_again<R: Wait>(
-    rt: &R,
-    broker: &Broker,
-    pass: &mut BrokerPass,
-    taken: &Letter,
-) -> Option<bool>
-    requires same { pass.old.of ≡ broker.now }
-    requires taken { HasTaken (told pass.old) pass.old.name taken.now }
-{
-    let copy = taken.copy().ok()?;
-    broker.redeliver(rt, pass, copy).ok()?;
-    let again = broker.take(rt, pass)?;
-    Some(again.envelope() == taken.envelope() && broker.take(rt, pass).is_none())
-}
-
-/// One envelope, which its pass takes and delivers again.
-fn by_one_again<R: Wait>(rt: &R, alloc: Global) -> Option<bool> {
-    let (broker, mut pass) = Broker::new(alloc).ok()?;
-    if !publishes(rt, alloc, &broker, &mut pass, 1) {
-        return None;
-    }
-    let taken = broker.take(rt, &mut pass)?;
-    steps_of_workers();
-    comes_again(rt, &broker, &mut pass, &taken)
-}
-
-#[test]
-fn a_pass_delivers_again(rt: HostRuntime) -> Result<(), Fail> {
-    assert_eq!(rt; by_one_again(&rt, rt.alloc()), Some(true));
-    Ok(())
-}
-
-#[test]
-fn passes_share_a_queue(rt: HostRuntime) -> Result<(), Fail> {
-    assert_eq!(rt; by_one(&rt, rt.alloc()), Some(true));
-    assert_eq!(rt; by_two(&rt, rt.alloc()), Some(true));
-    Ok(())
 }
 
 /// Publishes 1,000 numbers from this one on.
@@ -298,90 +205,4 @@ fn rounds<R: Wait>(rt: &R, alloc: Global) -> Option<u64> {
 fn batches_keep_the_order(rt: HostRuntime) -> Result<(), Fail> {
     assert!(rt; rounds(&rt, rt.alloc()).is_some_and(|filled| 0 < filled));
     Ok(())
-}
-
-/// What was accepted of the envelopes numbered from 1 up to `end`, as the sum of their numbers.
-/// None where a refused one came back as another.
-fn accepted<R: Wait>(
-    rt: &R,
-    alloc: Global,
-    broker: &Broker,
-    mut pass: BrokerPass,
-    end: u64,
-) -> (BrokerPass, Option<u64>)
-    requires { pass.of ≡ broker.now }
-    ensures { result.0.of ≡ broker.now }
-{
-    let mut sum = 0u64;
-    for number in 1..end {
-        if let Some(envelope) = numbered(alloc, number) {
-            match broker.publish(rt, &mut pass, envelope) {
-                Ok(()) => sum = sum.wrapping_add(number),
-                Err(refused) if number_of(&refused.envelope) == number => {}
-                Err(_) => return (pass, None),
-            }
-        }
-    }
-    (pass, Some(sum))
-}
-
-/// The sum of the numbers that are left. None where they don't rise.
-fn left<R: Wait>(rt: &R, broker: &Broker, mut pass: BrokerPass) -> Option<u64>
-    requires { pass.of ≡ broker.now }
-{
-    let mut sum = 0u64;
-    let mut last = 0u64;
-    for _ in rt.forever() {
-        match broker.take(rt, &mut pass) {
-            Some(envelope) if last < number_of(&envelope) => {
-                last = number_of(&envelope);
-                sum = sum.wrapping_add(last);
-            }
-            Some(_) => return None,
-            None => break,
-        }
-    }
-    Some(sum)
-}
-
-/// Whether a broker holds what was accepted, with a split in between that may be refused. The
-/// split's mark takes memory where it begins a block of the queue.
-fn holds_accepted<R: Wait>(rt: &R, alloc: Global, end: u64) -> bool {
-    let Ok((broker, pass)) = Broker::new(alloc) else {
-        return true;
-    };
-    let (mut pass, sum) = accepted(rt, alloc, &broker, pass, end);
-    if let Ok(other) = broker.split(rt, &mut pass) {
-        broker.join(rt, &mut pass, other);
-    }
-    sum.is_some() && left(rt, &broker, pass) == sum
-}
-
-/// The same of the queue of one thread.
-fn plain_holds_accepted(alloc: Global) -> bool {
-    let mut broker = PlainBroker::new(alloc);
-    let mut sum = 0u64;
-    for number in 1..41u64 {
-        if let Some(envelope) = numbered(alloc, number) {
-            match broker.publish(envelope) {
-                Ok(()) => sum = sum.wrapping_add(number),
-                Err(refused) if number_of(&refused.envelope) == number => {}
-                Err(_) => return false,
-            }
-        }
-    }
-    for _ in 1..41u64 {
-        if let Some(envelope) = broker.take() {
-            sum = sum.wrapping_sub(number_of(&envelope));
-        }
-    }
-    sum == 0 && broker.is_empty()
-}
-
-/// It has to pass whichever of its allocations is refused.
-#[test]
-fn refusals_change_nothing(rt: HostRuntime) {
-    assert!(rt; holds_accepted(&rt, rt.alloc(), 31));
-    assert!(rt; holds_accepted(&rt, rt.alloc(), 41));
-    assert!(rt; plain_holds_accepted(rt.alloc()));
 }

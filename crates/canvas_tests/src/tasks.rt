@@ -1,14 +1,30 @@
 //! Numbers, names, texts and the six tasks.
 
-use crate::cores::{group, task};
+ghost use Rattle.std.specs.Prelude.{◌≡◌, ◌≤◌};
+
 use canvas_task::{
-    Arg, Fault, Kind, ListOf, MapOf, Memory, Outcome, TextOf, Why, apply, copy_args, copy_kwargs,
-    group_of_text, group_text, name_ok, outcome_of, task_of_text, task_text, word_of,
+    Arg, Fault, GroupNo, Kind, ListOf, MapOf, Memory, Outcome, TaskNo, TextOf, Why, apply,
+    copy_args, copy_kwargs, group_of_text, group_text, name_ok, outcome_of, task_of_text,
+    task_text, word_of,
 };
 use std::alloc::{AllocError, Global};
 use std::collections::BTreeMap;
 use std::fmt::Display;
 use std::test::Fail;
+
+pub(crate) fn task(number: u32) -> TaskNo
+    requires { 1 ≤ number }
+    ensures { result ≡ number }
+{
+    TaskNo::new(number).unwrap()
+}
+
+pub(crate) fn group(number: u32) -> GroupNo
+    requires { 1 ≤ number }
+    ensures { result ≡ number }
+{
+    GroupNo::new(number).unwrap()
+}
 
 pub(crate) const BOUND: i64 = 1 << 60;
 
