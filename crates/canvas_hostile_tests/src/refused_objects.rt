@@ -90,24 +90,35 @@ fn passes<R: Wait>(
     publish(rt, broker, other, sent, same) && gives(broker.take(rt, pass), same)
 }
 
-pub(crate) fn queue<R: Wait>(rt: &R, alloc: Global) -> Result<bool, Memory> {
-    let (sent, same) = (Letter::new(envelope(alloc)?), envelope(alloc)?);
-    let (broker, mut pass) = Broker::new(alloc)?;
-    match broker.split(rt, &mut pass) {
+/// The same by a pass that is split off. Where the split is refused the first pass does both.
+fn trades<R: Wait>(
+    rt: &R,
+    broker: &Broker,
+    pass: &mut BrokerPass,
+    sent: Letter,
+    same: &Envelope,
+) -> Result<bool, Memory>
+    requires { pass.old.of ≡ broker.now }
+{
+    match broker.split(rt, pass) {
         Ok(other) => {
             let mut other = other;
-            Ok(passes(rt, &broker, &mut pass, &mut other, sent, &same))
+            Ok(passes(rt, broker, pass, &mut other, sent, same))
         }
         Err(Memory) => {
-            if publish(rt, &broker, &mut pass, sent, &same)
-                && gives(broker.take(rt, &mut pass), &same)
-            {
+            if publish(rt, broker, pass, sent, same) && gives(broker.take(rt, pass), same) {
                 Err(Memory)
             } else {
                 Ok(false)
             }
         }
     }
+}
+
+pub(crate) fn queue<R: Wait>(rt: &R, alloc: Global) -> Result<bool, Memory> {
+    let (sent, same) = (Letter::new(envelope(alloc)?), envelope(alloc)?);
+    let (broker, mut pass) = Broker::new(alloc)?;
+    trades(rt, &broker, &mut pass, sent, &same)
 }
 
 // ---- the tables
@@ -147,14 +158,24 @@ fn keeps(backend: &Backend, seat: &mut BackendSeat, other: &mut BackendSeat, tas
         && backend.read(other, task) == Some(Outcome::Success(8))
 }
 
-pub(crate) fn table(alloc: Global) -> Result<bool, Memory> {
-    let plan = plan_of(alloc)?;
-    let (backend, mut seat) = Backend::new(alloc, &plan)?;
-    let mut other = backend.split(&mut seat)?;
+fn shares(backend: &Backend, seat: &mut BackendSeat) -> Result<bool, Memory>
+    requires { seat.old.of ≡ backend.now.id }
+{
+    let mut other = backend.split(seat)?;
     match TaskNo::new(1) {
-        Some(task) => Ok(keeps(&backend, &mut seat, &mut other, task)),
+        Some(task) => Ok(keeps(backend, seat, &mut other, task)),
         None => Ok(false),
     }
+}
+
+fn table_of(alloc: Global, plan: &Plan) -> Result<bool, Memory> {
+    let (backend, mut seat) = Backend::new(alloc, plan)?;
+    shares(&backend, &mut seat)
+}
+
+pub(crate) fn table(alloc: Global) -> Result<bool, Memory> {
+    let plan = plan_of(alloc)?;
+    table_of(alloc, &plan)
 }
 
 // ---- a core

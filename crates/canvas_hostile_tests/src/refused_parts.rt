@@ -59,15 +59,21 @@ fn normal_node(alloc: Global, canvas: &Canvas) -> Result<Node, Memory> {
     node_of(alloc, &line)
 }
 
+/// Whether a signature is that of a canvas with the normal text.
+fn is_canvas(alloc: Global, node: Node) -> Result<bool, Memory> {
+    match checked(alloc, node)? {
+        Some(canvas) => is_written(alloc, &canvas),
+        None => Ok(false),
+    }
+}
+
 /// Whether a canvas has the normal text, and its normal signature is a canvas.
 fn is_rewritten(alloc: Global, canvas: &Canvas) -> Result<bool, Memory> {
     let node = normal_node(alloc, canvas)?;
-    if !is_normal(alloc, &node)? {
-        return Ok(false);
-    }
-    match checked(alloc, node)? {
-        Some(checked) => is_written(alloc, &checked),
-        None => Ok(false),
+    if is_normal(alloc, &node)? {
+        is_canvas(alloc, node)
+    } else {
+        Ok(false)
     }
 }
 
@@ -84,12 +90,14 @@ fn frozen(alloc: Global, canvas: &Canvas) -> Result<Plan, Memory> {
     freeze(alloc, &line)
 }
 
+fn is_frozen(alloc: Global, canvas: &Canvas) -> Result<bool, Memory> {
+    let plan = frozen(alloc, canvas)?;
+    Ok(plan.tasks() == 4 && plan.groups() == 1)
+}
+
 pub(crate) fn plans(alloc: Global) -> Result<bool, Memory> {
     match read(alloc, NORMAL)? {
-        Some(canvas) => {
-            let plan = frozen(alloc, &canvas)?;
-            Ok(plan.tasks() == 4 && plan.groups() == 1)
-        }
+        Some(canvas) => is_frozen(alloc, &canvas),
         None => Ok(false),
     }
 }
@@ -131,14 +139,16 @@ fn opened(alloc: Global, envelope: &Envelope) -> Result<Option<Message>, Memory>
     }
 }
 
+fn has_envelope(alloc: Global, message: &Message, envelope: &Envelope) -> Result<bool, Memory> {
+    let found = encode(alloc, message)?;
+    Ok(found == *envelope)
+}
+
 /// Whether a message's envelope reads back as one with that envelope.
 fn is_carried(alloc: Global, message: &Message) -> Result<bool, Memory> {
     let envelope = encode(alloc, message)?;
     match opened(alloc, &envelope)? {
-        Some(message) => {
-            let again = encode(alloc, &message)?;
-            Ok(again == envelope)
-        }
+        Some(message) => has_envelope(alloc, &message, &envelope),
         None => Ok(false),
     }
 }
@@ -200,17 +210,21 @@ fn raises(alloc: Global, part: &PartCall) -> Result<bool, Memory> {
     }
 }
 
-/// Whether the end of a message's task says the same by reference and by value, and what follows
-/// its chord is right.
-fn ends(alloc: Global, message: Message) -> Result<bool, Memory> {
-    match part_after(alloc, &message)? {
-        Some(part) => {
-            let is_right = raises(alloc, &part)?;
-            let todo = into_todo(alloc, message, &FAILS)?;
-            Ok(is_right && todo.part.is_some())
-        }
+/// Whether a message's end returns a part, and what follows its chord is right.
+fn returns(alloc: Global, message: &Message) -> Result<bool, Memory> {
+    match part_after(alloc, message)? {
+        Some(part) => raises(alloc, &part),
         None => Ok(false),
     }
+}
+
+/// The same, where the message is given up for it too.
+fn ends(alloc: Global, message: Message) -> Result<bool, Memory> {
+    if !returns(alloc, &message)? {
+        return Ok(false);
+    }
+    let todo = into_todo(alloc, message, &FAILS)?;
+    Ok(todo.part.is_some())
 }
 
 /// The last of the messages that a plan begins with.
