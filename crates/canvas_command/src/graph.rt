@@ -15,16 +15,22 @@ use std::random::RandomSource;
 use std::sync::Wait;
 use std::thread::Threads;
 
-pub(crate) fn graph_command<'a>(alloc: Global) -> Result<Command<'a>, AllocError> {
-    let run = Arg::new(alloc, "run")
+fn run_argument<'a>(alloc: Global) -> Arg<'a> {
+    Arg::new(alloc, "run")
         .long("run")
         .action(ArgAction::SetTrue)
-        .help("Runs the canvas, and shows the state and value of each task");
+        .help("Runs the canvas, and shows the state and value of each task")
+}
+
+pub(crate) fn graph_command<'a>(alloc: Global) -> Result<Command<'a>, AllocError> {
+    let arguments = vec![in alloc;
+        file_argument(alloc),
+        run_argument(alloc),
+        workers_argument(alloc),
+    ]?;
     Command::new(alloc, "graph")
         .about("Prints a canvas as a picture, in the language of Graphviz's `dot`")
-        .arg(file_argument(alloc))?
-        .arg(run)?
-        .arg(workers_argument(alloc))
+        .args(arguments)
 }
 
 /// The picture of a plan, and of its run where there is one.

@@ -11,11 +11,14 @@ use clap::Command;
 use std::alloc::{AllocError, Global};
 
 pub(crate) fn messages_command<'a>(alloc: Global) -> Result<Command<'a>, AllocError> {
+    let arguments = vec![in alloc;
+        file_argument(alloc),
+        workers_argument(alloc),
+        turns_argument(alloc),
+    ]?;
     Command::new(alloc, "messages")
         .about("Prints each message that a run by turns publishes, as JSON with its three texts")
-        .arg(file_argument(alloc))?
-        .arg(workers_argument(alloc))?
-        .arg(turns_argument(alloc))
+        .args(arguments)
 }
 
 /// Each message, a line each.

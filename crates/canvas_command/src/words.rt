@@ -60,23 +60,29 @@ fn fail_argument<'a>(alloc: Global) -> Arg<'a> {
 }
 
 fn run_command<'a>(alloc: Global) -> Result<Command<'a>, AllocError> {
+    let arguments = vec![in alloc;
+        file_argument(alloc),
+        workers_argument(alloc),
+        json_argument(alloc),
+        fail_argument(alloc),
+    ]?;
     Command::new(alloc, "run")
         .about("Runs a canvas and prints the state and result of each task")
-        .arg(file_argument(alloc))?
-        .arg(workers_argument(alloc))?
-        .arg(json_argument(alloc))?
-        .arg(fail_argument(alloc))
+        .args(arguments)
 }
 
 fn turns_command<'a>(alloc: Global) -> Result<Command<'a>, AllocError> {
+    let arguments = vec![in alloc;
+        file_argument(alloc),
+        workers_argument(alloc),
+        turns_argument(alloc),
+        again_argument(alloc),
+        json_argument(alloc),
+        fail_argument(alloc),
+    ]?;
     Command::new(alloc, "turns")
         .about("Runs a canvas with its workers taking turns by a list, and prints the same")
-        .arg(file_argument(alloc))?
-        .arg(workers_argument(alloc))?
-        .arg(turns_argument(alloc))?
-        .arg(again_argument(alloc))?
-        .arg(json_argument(alloc))?
-        .arg(fail_argument(alloc))
+        .args(arguments)
 }
 
 fn normal_command<'a>(alloc: Global) -> Result<Command<'a>, AllocError> {
@@ -90,17 +96,25 @@ const COMMANDS: [&str; 9] = [
     "run", "turns", "normal", "check", "graph", "messages", "export", "keys", "collect",
 ];
 
-/// The command of a name.
-fn command_of<'a>(alloc: Global, name: &str) -> Option<Result<Command<'a>, AllocError>> {
+/// The command of a name, which is one of `COMMANDS`.
+fn command_of<'a>(alloc: Global, name: &str) -> Result<Command<'a>, AllocError> {
     match name {
-        "run" => Some(run_command(alloc)),
-        "turns" => Some(turns_command(alloc)),
-        "normal" => Some(normal_command(alloc)),
-        "check" => Some(check_command(alloc)),
-        "graph" => Some(graph_command(alloc)),
-        "messages" => Some(messages_command(alloc)),
+        "run" => run_command(alloc),
+        "turns" => turns_command(alloc),
+        "normal" => normal_command(alloc),
+        "check" => check_command(alloc),
+        "graph" => graph_command(alloc),
+        "messages" => messages_command(alloc),
         _ => celery_command(alloc, name),
     }
+}
+
+fn commands_of<'a>(alloc: Global, names: &[&str]) -> Result<Vec<Command<'a>>, AllocError> {
+    let mut commands = Vec::new(alloc);
+    for name in names {
+        commands.push(command_of(alloc, name)?)?;
+    }
+    Ok(commands)
 }
 
 /// The program without its commands.
@@ -114,41 +128,20 @@ fn plain_program<'a>(alloc: Global) -> Result<Command<'a>, AllocError> {
         .bin_name("canvas")
 }
 
-/// The program with one command.
-fn program_of<'a>(
-    alloc: Global,
-    command: Result<Command<'a>, AllocError>,
-) -> Result<Command<'a>, Error> {
-    let program = plain_program(alloc)?.subcommand_required(true);
-    Ok(program.subcommand(command?)?)
-}
-
-fn with_command<'a>(alloc: Global, program: Command<'a>, name: &str) -> Result<Command<'a>, Error> {
-    match command_of(alloc, name) {
-        Some(command) => Ok(program.subcommand(command?)?),
-        None => Ok(program),
-    }
-}
-
-/// The program with all its commands.
-fn program<'a>(alloc: Global) -> Result<Command<'a>, Error> {
-    let mut program = plain_program(alloc)?.subcommand_required(true);
-    for name in COMMANDS {
-        program = with_command(alloc, program, name)?;
-    }
-    Ok(program)
+/// The program with some of its commands.
+fn program_of<'a>(alloc: Global, names: &[&str]) -> Result<Command<'a>, AllocError> {
+    let commands = commands_of(alloc, names)?;
+    plain_program(alloc)?
+        .subcommand_required(true)
+        .subcommands(commands)
 }
 
 /// Parses the words behind the program's name. Where they begin with a command, the others aren't
 /// made, since none of them is asked.
 pub(crate) fn matches_of<'w>(alloc: Global, words: &'w [String]) -> Result<ArgMatches<'w>, Error> {
-    let named = match words.first() {
-        Some(word) => command_of(alloc, word),
-        None => None,
-    };
-    let program = match named {
-        Some(command) => program_of(alloc, command)?,
-        None => program(alloc)?,
+    let program = match words.first() {
+        Some(word) if COMMANDS.contains(&word.as_str()) => program_of(alloc, &[word.as_str()])?,
+        _ => program_of(alloc, &COMMANDS)?,
     };
     program.try_get_matches_from(words)
 }
@@ -170,5 +163,5 @@ fn refused(alloc: Global, kind: ErrorKind, message: &str) -> Error {
 }
 
 fn refusal_with_usage(alloc: Global, kind: ErrorKind, message: &str) -> Result<Error, Error> {
-    Ok(program(alloc)?.error(kind, message)?)
+    Ok(program_of(alloc, &COMMANDS)?.error(kind, message)?)
 }

@@ -1,15 +1,19 @@
 -- Tokens that were written, said otherwise.
-use Rattle.std.proofs.Common.{◌≡◌, ◌∙◌, ℕ, List, ◌++◌, Option, Some, None, refl, sym, ap, codes}
+use Rattle.std.proofs.Common.{◌≡◌, ◌∙◌, ℕ, List, [], ◌∷◌, ◌++◌, Option, Some, None, refl, sym, ap, codes}
 use Rattle.std.specs.Prelude.{Result, Ok, Err}
 use Rattle.json.specs.Written.{Written}
-use Rattle.json.specs.Token.{Token}
+use Rattle.json.specs.Token.{Token, begin_object, end_object, key, string}
+use Rattle.serde_json.specs.Data.{Data, object, member, no_members}
+use Rattle.serde_json.specs.Data as json
+use Rattle.canvas_semantics.specs.PlacedLine.{PPlace, p_nowhere, p_group, p_chord}
 use Rattle.canvas_rewrite.specs.declared.frozen.Carried.{Carried}
 use Rattle.canvas_rewrite.specs.declared.frozen.Place.{Place, out-Place}
-use Rattle.canvas_sig.specs.steps.Tokens.{Appends}
+use Rattle.canvas_sig.specs.steps.Tokens.{Appends, data_tokens}
 use Rattle.canvas_message.specs.MessageView.{place_view}
 use Rattle.canvas_codec.specs.steps.Tokens.{named_tokens}
 use Rattle.canvas_message.proofs.Seen.{group_place, chord_place}
-use Rattle.canvas_export.specs.Signatures.{Naming, group_id, index_wire}
+use Rattle.canvas_export.specs.Signatures.{Naming, task_id, group_id, index_wire}
+use Rattle.canvas_export.specs.Envelope.{place_headers, parent_id}
 use Rattle.canvas_export.specs.steps.Tokens.{header_place}
 use Rattle.canvas_export.specs.steps.Elements.{group_options}
 
@@ -38,3 +42,29 @@ pub options_of_place : (n : Naming) (k : ℕ) (p : Place)
     → named_tokens (codes "group_id") (group_id n (out-Place p).group) ++ named_tokens (codes "group_index") (index_wire n (out-Place p).group k)
     ≡ group_options n k (place_view p)
 options_of_place n k p = options_by n k p (out-Place p).chord refl
+
+-- ---- headers
+
+abbrev headers_tokens : Naming → ℕ → PPlace → Option ℕ → List ℕ → List Token
+headers_tokens n k p parent name =
+    ((begin_object ∷ (header_place n k p ++ named_tokens (codes "id") (task_id n k)))
+    ++ (named_tokens (codes "lang") (json.string (codes "rs")) ++ (named_tokens (codes "parent_id") (parent_id n parent) ++ named_tokens (codes "root_id") (task_id n 1))))
+    ++ (key (codes "task") ∷ string name ∷ []) ++ (end_object ∷ [])
+
+abbrev pub headers_of_parts : Naming → ℕ → PPlace → Option ℕ → List ℕ → Data
+headers_of_parts n k p parent name =
+    object (place_headers n k p
+    (member (codes "id") (task_id n k)
+    (member (codes "lang") (json.string (codes "rs"))
+    (member (codes "parent_id") (parent_id n parent)
+    (member (codes "root_id") (task_id n 1)
+    (member (codes "task") (json.string name) no_members))))))
+
+pub headers_written : (n : Naming) (k : ℕ) (p : PPlace) (parent : Option ℕ) (name : List ℕ)
+    → headers_tokens n k p parent name ≡ data_tokens (headers_of_parts n k p parent name)
+headers_written n k p_nowhere None name = refl
+headers_written n k p_nowhere (Some m) name = refl
+headers_written n k (p_group g) None name = refl
+headers_written n k (p_group g) (Some m) name = refl
+headers_written n k (p_chord g size body) None name = refl
+headers_written n k (p_chord g size body) (Some m) name = refl

@@ -24,18 +24,31 @@ fn is_named(plan: &Plan, task: u32, name: Option<&str>) -> bool {
     }
 }
 
-/// The size of a chord, and how many members there are.
-fn size_of(plan: &Plan, group: u32) -> (Option<u32>, usize) {
+/// Whether a group or chord has this size, which a group has not, and so many members.
+fn is_sized(plan: &Plan, group: u32, size: Option<u32>, members: usize) -> bool {
     match GroupNo::new(group) {
-        Some(group) => (plan.size_of(group), plan.members(group).len()),
-        None => (None, 0),
+        Some(group) => plan.size_of(group) == size && plan.members(group).len() == members,
+        None => false,
     }
+}
+
+/// Whether the members of a group or chord are the first tasks in their order.
+fn are_first(plan: &Plan, group: u32) -> bool {
+    let Some(group) = GroupNo::new(group) else {
+        return false;
+    };
+    for (index, member) in plan.members(group).iter().enumerate() {
+        if member.get() as usize != index + 1 {
+            return false;
+        }
+    }
+    true
 }
 
 #[test]
 fn plan_of_a_chord_and_a_task(rt: HostRuntime) -> Result<(), Fail> {
     let plan = plan_of(rt.alloc(), CHORD_AND_TASK).ok_or("no plan")?;
-    assert_eq!(rt; plan.tasks(), 4);
+    assert!(rt; plan.tasks() == 4);
     assert!(rt; is_named(&plan, 4, Some("tasks.mul")));
     assert!(rt; is_named(&plan, 5, None));
     assert!(rt; matches!(plan.ends(), Ends::One(task) if task.get() == 4));
@@ -45,20 +58,17 @@ fn plan_of_a_chord_and_a_task(rt: HostRuntime) -> Result<(), Fail> {
 #[test]
 fn plan_of_a_chord(rt: HostRuntime) -> Result<(), Fail> {
     let plan = plan_of(rt.alloc(), CHORD).ok_or("no plan")?;
-    assert_eq!(rt; plan.groups(), 1);
-    assert_eq!(rt; size_of(&plan, 1), (Some(3), 3));
-    assert_eq!(rt; size_of(&plan, 2), (None, 0));
-    let first = GroupNo::new(1).ok_or("one")?;
-    for (i, member) in plan.members(first).iter().enumerate() {
-        assert_eq!(rt; member.get() as usize, i + 1);
-    }
+    assert!(rt; plan.groups() == 1);
+    assert!(rt; is_sized(&plan, 1, Some(3), 3));
+    assert!(rt; is_sized(&plan, 2, None, 0));
+    assert!(rt; are_first(&plan, 1));
     Ok(())
 }
 
 #[test]
 fn ends_of_a_group(rt: HostRuntime) -> Result<(), Fail> {
     let plan = plan_of(rt.alloc(), GROUP_OF_TEN).ok_or("no plan")?;
-    assert_eq!(rt; size_of(&plan, 1), (None, 10));
+    assert!(rt; is_sized(&plan, 1, None, 10));
     assert!(rt; matches!(plan.ends(), Ends::Many(tasks) if tasks.len() == 10));
     Ok(())
 }

@@ -55,32 +55,38 @@ fn script_argument<'a>(alloc: Global) -> Arg<'a> {
 }
 
 fn export_command<'a>(alloc: Global) -> Result<Command<'a>, AllocError> {
-    Command::new(alloc, "export")
-        .about("Prints the commands for Redis that start a canvas on Celery's workers")
-        .arg(file_argument(alloc))?
-        .arg(run_argument(alloc))?
-        .arg(queue_argument(alloc))?
-        .arg(prefix_argument(alloc))?
-        .arg(expires_argument(alloc))?
-        .arg(database_argument(
+    let arguments = vec![in alloc;
+        file_argument(alloc),
+        run_argument(alloc),
+        queue_argument(alloc),
+        prefix_argument(alloc),
+        expires_argument(alloc),
+        database_argument(
             alloc,
             "broker-db",
             "The database of the queue, where commands are to choose it",
-        ))?
-        .arg(database_argument(
+        ),
+        database_argument(
             alloc,
             "backend-db",
             "The database of the results, where commands are to choose it",
-        ))?
-        .arg(script_argument(alloc))
+        ),
+        script_argument(alloc),
+    ]?;
+    Command::new(alloc, "export")
+        .about("Prints the commands for Redis that start a canvas on Celery's workers")
+        .args(arguments)
 }
 
 fn keys_command<'a>(alloc: Global) -> Result<Command<'a>, AllocError> {
+    let arguments = vec![in alloc;
+        file_argument(alloc),
+        run_argument(alloc),
+        prefix_argument(alloc),
+    ]?;
     Command::new(alloc, "keys")
         .about("Prints the keys of a canvas's results on Redis, one a line")
-        .arg(file_argument(alloc))?
-        .arg(run_argument(alloc))?
-        .arg(prefix_argument(alloc))
+        .args(arguments)
 }
 
 /// The file where standard input has something else.
@@ -90,28 +96,30 @@ fn canvas_argument<'a>(alloc: Global) -> Arg<'a> {
         .help("The canvas as JSON, in a file")
 }
 
-fn collect_command<'a>(alloc: Global) -> Result<Command<'a>, AllocError> {
-    let complete = Arg::new(alloc, "complete")
+fn complete_argument<'a>(alloc: Global) -> Arg<'a> {
+    Arg::new(alloc, "complete")
         .long("complete")
         .action(ArgAction::SetTrue)
-        .help("Gives tasks that a failure reaches their state, where Celery leaves them pending");
-    Command::new(alloc, "collect")
-        .about("Prints the report of a canvas from its results on standard input, one a line")
-        .arg(canvas_argument(alloc))?
-        .arg(run_argument(alloc))?
-        .arg(complete)?
-        .arg(json_argument(alloc))
+        .help("Gives tasks that a failure reaches their state, where Celery leaves them pending")
 }
 
-/// The command of a name, where it is one of these.
-pub(crate) fn celery_command<'a>(
-    alloc: Global,
-    name: &str,
-) -> Option<Result<Command<'a>, AllocError>> {
+fn collect_command<'a>(alloc: Global) -> Result<Command<'a>, AllocError> {
+    let arguments = vec![in alloc;
+        canvas_argument(alloc),
+        run_argument(alloc),
+        complete_argument(alloc),
+        json_argument(alloc),
+    ]?;
+    Command::new(alloc, "collect")
+        .about("Prints the report of a canvas from its results on standard input, one a line")
+        .args(arguments)
+}
+
+/// The command of a name, which is one of these three.
+pub(crate) fn celery_command<'a>(alloc: Global, name: &str) -> Result<Command<'a>, AllocError> {
     match name {
-        "export" => Some(export_command(alloc)),
-        "keys" => Some(keys_command(alloc)),
-        "collect" => Some(collect_command(alloc)),
-        _ => None,
+        "export" => export_command(alloc),
+        "keys" => keys_command(alloc),
+        _ => collect_command(alloc),
     }
 }

@@ -1,4 +1,4 @@
-//! Canvases with the states that their tasks come to.
+//! Canvases with the states that their tasks come to, and what stored rows are beside them.
 
 use canvas_codec::seal;
 use canvas_effects::first_messages;
@@ -6,9 +6,17 @@ use canvas_engine::{RunFault, report_text, run_turns};
 use canvas_message::Letter;
 use canvas_rewrite::Plan;
 use canvas_samples::sample::plan_of;
-use canvas_samples::worked;
+use canvas_samples::{spelled, worked};
 use canvas_task::{ListOf, Memory, Outcome, SixTasks};
 use std::alloc::Global;
+
+/// The plan of a canvas in short words.
+pub(crate) fn spelled_plan(alloc: Global, frame: &str, calls: &str) -> Option<Plan> {
+    match spelled::canvas(alloc, frame, calls) {
+        Ok(text) => plan_of(alloc, &text),
+        Err(_) => None,
+    }
+}
 
 /// A canvas's plan, with the states of its tasks.
 #[derive(Drop)]

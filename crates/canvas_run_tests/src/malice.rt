@@ -4,7 +4,7 @@ ghost use Rattle.canvas_worker.specs.Asks.{FoundInRange};
 
 use crate::by_hand::{Left, work};
 use crate::forgeries::{CALLBACK, Change, FORMS, MEMBER, NAMES, RESTS, Texts};
-use crate::rows::{Sample, a_failed_member, first_envelopes};
+use crate::states::{Sample, a_failed_member, first_envelopes};
 use canvas_backend::PlainBackend;
 use canvas_message::{Envelope, Letter};
 use canvas_samples::frozen_texts::filled;

@@ -1,7 +1,7 @@
 //! Runs on threads whose gate has envelopes delivered again: the reports stay, and each copy is
 //! taken.
 
-use crate::rows::{Sums, sums_by};
+use crate::tallies::{Sums, sums_by};
 use canvas_samples::spelled;
 use canvas_samples::worked::{Worked, a_failed_member, a_hundred_and_their_sum};
 use canvas_task::{Memory, TaskNo};

@@ -1,5 +1,5 @@
-//! Tasks that the caller hands in: three of the six and one more, or the six alone, on threads and
-//! by turns.
+//! Tasks that the caller hands in: one of the six and one more, two of the six, or all six, on
+//! threads and by turns.
 
 ghost use Rattle.std.specs.Prelude.{◌-ℤ◌, Ok};
 
@@ -7,8 +7,8 @@ use canvas_engine::{run, run_turns};
 use canvas_rewrite::Plan;
 use canvas_samples::sample::plan_of;
 use canvas_task::{
-    Add, AddFault, Div, Fault, Ident, Kind, LogError, Mul, OfTwo, Outcome, Registry, SixTasks,
-    TaskOfTwo, Tasks, Xsum, registry_of,
+    Add, AddFault, Fault, Kind, Mul, OfTwo, Outcome, Registry, SixTasks, TaskOfTwo, Tasks,
+    registry_of,
 };
 use canvas_worker::{OpenGate, Stop};
 use std::alloc::{AllocGlobal, Global};
@@ -94,18 +94,19 @@ where
     None
 }
 
-fn six_tasks(alloc: Global) -> Result<Registry, AddFault> {
-    registry_of!(alloc; Add, Mul, Div, Xsum, Ident, LogError)
+/// Two of the six.
+fn without_difference(alloc: Global) -> Result<Registry, AddFault> {
+    registry_of!(alloc; Add, Mul)
 }
 
-/// Three of the six, and the difference.
+/// One of the six, and the difference.
 fn with_difference(alloc: Global) -> Result<Registry, AddFault> {
     let sub = TaskOfTwo {
         name: "tests.sub",
         parameters: ("x", "y"),
         answers: Difference,
     };
-    registry_of!(alloc; Add, Mul, LogError, sub)
+    registry_of!(alloc; Mul, sub)
 }
 
 /// Whether all runs of the canvas with these tasks give these states.
@@ -130,7 +131,7 @@ fn a_task_that_was_added(rt: HostRuntime) -> Result<(), Fail> {
 
 #[test]
 fn a_task_that_was_not(rt: HostRuntime) -> Result<(), Fail> {
-    let registry = six_tasks(rt.alloc())?;
+    let registry = without_difference(rt.alloc())?;
     let states = [NOT_REGISTERED, NOT_REGISTERED];
     assert!(rt; always(&rt, &registry, &states));
     assert!(rt; always(&rt, &SixTasks, &states));

@@ -1,8 +1,9 @@
 //! Runs that may be refused memory.
 
 use crate::by_hand::{Left, work};
-use crate::rows::{Sample, are_partial, first_envelopes, is_stored, sample_of_text};
-use crate::stops::{FirstTimes, OnThreads};
+use crate::states::{Sample, are_partial, first_envelopes, is_stored, sample_of_text};
+use crate::stops::FirstTimes;
+use crate::tallies::OnThreads;
 use canvas_engine::{
     Report, RunFault, TextFault, When, read_turns, report_text, run, run_text, run_text_threads,
     run_turns, run_turns_again, run_turns_within,

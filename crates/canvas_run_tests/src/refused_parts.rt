@@ -4,7 +4,7 @@
 ghost use Rattle.std.specs.Prelude.{IfSome, All};
 ghost use Rattle.canvas_task.specs.Apply.{IsInRange};
 
-use crate::rows::a_failed_member;
+use crate::states::a_failed_member;
 use canvas_codec::{decode, encode};
 use canvas_effects::{PartCall, after, body_after, first_messages, into_todo};
 use canvas_message::{Envelope, Message, MessageFault};
@@ -69,9 +69,8 @@ fn is_canvas(alloc: Global, node: Node) -> Result<bool, Memory> {
 
 /// Whether a canvas has the normal text, and its normal signature is a canvas.
 fn is_rewritten(alloc: Global, canvas: &Canvas) -> Result<bool, Memory> {
-    let node = normal_node(alloc, canvas)?;
-    if is_normal(alloc, &node)? {
-        is_canvas(alloc, node)
+    if is_normal(alloc, &normal_node(alloc, canvas)?)? {
+        is_canvas(alloc, normal_node(alloc, canvas)?)
     } else {
         Ok(false)
     }
@@ -144,13 +143,17 @@ fn has_envelope(alloc: Global, message: &Message, envelope: &Envelope) -> Result
     Ok(found == *envelope)
 }
 
-/// Whether a message's envelope reads back as one with that envelope.
-fn is_carried(alloc: Global, message: &Message) -> Result<bool, Memory> {
-    let envelope = encode(alloc, message)?;
-    match opened(alloc, &envelope)? {
-        Some(message) => has_envelope(alloc, &message, &envelope),
+/// Whether an envelope reads as a message with that envelope.
+fn reads_back(alloc: Global, envelope: &Envelope) -> Result<bool, Memory> {
+    match opened(alloc, envelope)? {
+        Some(message) => has_envelope(alloc, &message, envelope),
         None => Ok(false),
     }
+}
+
+/// Whether a message's envelope does.
+fn is_carried(alloc: Global, message: &Message) -> Result<bool, Memory> {
+    reads_back(alloc, &encode(alloc, message)?)
 }
 
 fn are_carried(alloc: Global, plan: &Plan) -> Result<bool, Memory> {

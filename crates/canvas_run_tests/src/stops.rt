@@ -1,31 +1,17 @@
-//! Stops: of one worker before each of its polls, and of runs of texts on threads.
+//! One worker that is stopped before each of its polls.
 
 use crate::by_hand::{Left, work};
-use crate::rows::{
-    Sample, a_failed_member, are_partial, first_envelopes, is_stored, sample_of_text,
-};
-use canvas_engine::{RunFault, TextFault, run_text_threads};
-use canvas_samples::worked;
-use canvas_task::{Outcome, SixTasks, TaskNo};
-use canvas_worker::{Cause, Gate, Stop};
+use crate::states::{Sample, a_failed_member, are_partial, first_envelopes};
+use canvas_task::TaskNo;
+use canvas_worker::{Cause, Gate};
 use std::alloc::{AllocGlobal, Global};
 use std::random::RandomSource;
 use std::sync::Wait;
 use std::sync::atomic::{AtomicU32, Ordering};
 use std::test::Fail;
-use std::thread::Threads;
 
 /// More polls than the worker takes.
 const MOST: u32 = 100;
-
-/// Lets every worker go on, each on a thread of its own: it doesn't say that it never holds one.
-pub(crate) struct OnThreads;
-
-impl Gate for OnThreads {
-    fn go(&self, _worker: u32, _task: TaskNo) -> bool {
-        true
-    }
-}
 
 /// Has an envelope delivered again each of the first times that it is asked.
 #[derive(Drop)]
@@ -119,101 +105,5 @@ fn stopped_within_redeliveries(rt: HostRuntime) -> Result<(), Fail> {
     let once = polls_to_stop(&rt, rt.alloc(), &canvas, 0).ok_or("no polls")?;
     let polls = polls_to_stop(&rt, rt.alloc(), &canvas, 8);
     assert_eq!(rt; polls, once.checked_add(32));
-    Ok(())
-}
-
-// ---- texts
-
-/// Asks the stop at its first call, and lets every worker go on.
-#[derive(Drop)]
-struct Stopping<'a> {
-    stop: &'a Stop,
-}
-
-impl Gate for Stopping<'_> {
-    fn go(&self, _worker: u32, _task: TaskNo) -> bool {
-        self.stop.ask();
-        true
-    }
-}
-
-/// How many rows a stopped run has, where each is the state of its task. None of a run that ended
-/// otherwise.
-fn rows_of_stopped(fault: &RunFault, states: &[Option<Outcome>]) -> Option<usize> {
-    match fault {
-        RunFault::Halted {
-            cause: Cause::Stopped,
-            rows: Some(report),
-        } => {
-            if are_partial(report.rows.get(), states) {
-                Some(stored(report.rows.get()))
-            } else {
-                None
-            }
-        }
-        _ => None,
-    }
-}
-
-/// The same of a text's run, which has the report of its rows too.
-fn rows_of_text<R, G>(
-    rt: &R,
-    alloc: Global,
-    text: &str,
-    workers: u32,
-    gate: &G,
-    stop: &Stop,
-) -> Option<usize>
-where
-    R: Threads + Wait + RandomSource + AllocGlobal + Sync,
-    G: Gate + Sync,
-{
-    let canvas = sample_of_text(alloc, text)?;
-    match run_text_threads(rt, alloc, text.as_bytes(), &SixTasks, workers, gate, stop) {
-        Err(TextFault::Run { fault, stored }) => {
-            match is_stored(alloc, &canvas.plan, &fault, &stored) {
-                Ok(true) => rows_of_stopped(&fault, canvas.states.get()),
-                _ => None,
-            }
-        }
-        _ => None,
-    }
-}
-
-/// How many rows aren't pending.
-fn stored(rows: &[Option<Outcome>]) -> usize {
-    rows.iter().filter(|row| row.is_some()).count()
-}
-
-fn rows_stopped_before<R>(rt: &R, alloc: Global, text: &str, workers: u32) -> Option<usize>
-where
-    R: Threads + Wait + RandomSource + AllocGlobal + Sync,
-{
-    let stop = Stop::new();
-    stop.ask();
-    rows_of_text(rt, alloc, text, workers, &OnThreads, &stop)
-}
-
-fn rows_stopped_by_gate<R>(rt: &R, alloc: Global, text: &str, workers: u32) -> Option<usize>
-where
-    R: Threads + Wait + RandomSource + AllocGlobal + Sync,
-{
-    let stop = Stop::new();
-    rows_of_text(rt, alloc, text, workers, &Stopping { stop: &stop }, &stop)
-}
-
-/// A worker that has asked the gate stores its outcome, and sees the stop then.
-#[test]
-fn texts_that_are_stopped(rt: HostRuntime) -> Result<(), Fail> {
-    let hundred = worked::a_hundred_and_their_sum(rt.alloc())?;
-    for workers in [1, 2, 16] {
-        let rows = rows_stopped_before(&rt, rt.alloc(), &hundred.text, workers);
-        assert_eq!(rt; rows, Some(0), "{workers} workers");
-        let rows = rows_stopped_by_gate(&rt, rt.alloc(), &hundred.text, workers);
-        assert!(rt;
-            rows.is_some_and(|rows| rows >= 1 && rows <= workers as usize),
-            "{workers} workers: {rows:?}"
-        );
-    }
     Ok(())
 }

@@ -4,7 +4,7 @@
 ghost use Rattle.std.specs.Prelude.{◌≡◌, IfSome};
 ghost use Rattle.canvas_worker.specs.Asks.{FoundInRange};
 
-use crate::rows::{a_failed_member, first_envelopes};
+use crate::states::{a_failed_member, first_envelopes};
 use canvas_backend::{Backend, BackendSeat, PlainBackend, Stored};
 use canvas_broker::{Broker, BrokerPass, PlainBroker};
 use canvas_message::{Envelope, Letter};

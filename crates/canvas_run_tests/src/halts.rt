@@ -1,0 +1,278 @@
+//! Runs on threads that are stopped: of plans, and of texts.
+
+use crate::states::{Sample, a_failed_member, are_partial, is_stored, sample_of_text};
+use canvas_engine::{RunFault, TextFault, run, run_text_threads};
+use canvas_samples::worked;
+use canvas_task::{Outcome, SixTasks, TaskNo};
+use canvas_worker::{Cause, Gate, OpenGate, Stop};
+use std::alloc::{AllocGlobal, Global};
+use std::random::RandomSource;
+use std::sync::Wait;
+use std::sync::atomic::{AtomicU32, Ordering};
+use std::test::Fail;
+use std::thread::Threads;
+
+/// A hundred tasks and their sum, as a text and as a canvas.
+fn a_hundred(alloc: Global) -> Option<(String, Sample)> {
+    let hundred = worked::a_hundred_and_their_sum(alloc).ok()?;
+    let canvas = sample_of_text(alloc, &hundred.text)?;
+    Some((hundred.text, canvas))
+}
+
+/// How many rows aren't pending.
+fn stored(rows: &[Option<Outcome>]) -> usize {
+    rows.iter().filter(|row| row.is_some()).count()
+}
+
+/// How many rows a stopped run has, where each is the state of its task. None of a run that ended
+/// otherwise.
+fn rows_of_stopped(fault: &RunFault, states: &[Option<Outcome>]) -> Option<usize> {
+    match fault {
+        RunFault::Halted {
+            cause: Cause::Stopped,
+            rows: Some(report),
+        } => {
+            if are_partial(report.rows.get(), states) {
+                Some(stored(report.rows.get()))
+            } else {
+                None
+            }
+        }
+        _ => None,
+    }
+}
+
+/// How many rows a plan's run has that was asked to stop.
+fn rows_of_plan<R, G>(
+    rt: &R,
+    alloc: Global,
+    canvas: &Sample,
+    workers: u32,
+    gate: &G,
+    stop: &Stop,
+) -> Option<usize>
+where
+    R: Threads + Wait + RandomSource + AllocGlobal + Sync,
+    G: Gate + Sync,
+{
+    match run(rt, alloc, &canvas.plan, &SixTasks, workers, gate, stop) {
+        Err(fault) if stop.asked() => rows_of_stopped(&fault, canvas.states.get()),
+        _ => None,
+    }
+}
+
+/// The same of a text's run, which has the report of its rows too.
+fn rows_of_text<R, G>(
+    rt: &R,
+    alloc: Global,
+    text: &str,
+    canvas: &Sample,
+    workers: u32,
+    gate: &G,
+    stop: &Stop,
+) -> Option<usize>
+where
+    R: Threads + Wait + RandomSource + AllocGlobal + Sync,
+    G: Gate + Sync,
+{
+    match run_text_threads(rt, alloc, text.as_bytes(), &SixTasks, workers, gate, stop) {
+        Err(TextFault::Run { fault, stored }) => {
+            match is_stored(alloc, &canvas.plan, &fault, &stored) {
+                Ok(true) => rows_of_stopped(&fault, canvas.states.get()),
+                _ => None,
+            }
+        }
+        _ => None,
+    }
+}
+
+// ---- stopped before they begin
+
+fn stopped_before<R>(rt: &R, alloc: Global, canvas: &Sample, workers: u32) -> Option<usize>
+where
+    R: Threads + Wait + RandomSource + AllocGlobal + Sync,
+{
+    let stop = Stop::new();
+    stop.ask();
+    rows_of_plan(rt, alloc, canvas, workers, &OpenGate, &stop)
+}
+
+#[test]
+fn plans_before_they_begin(rt: HostRuntime) -> Result<(), Fail> {
+    let failing = a_failed_member(rt.alloc()).ok_or("no canvas")?;
+    for workers in [1, 2, 16] {
+        let rows = stopped_before(&rt, rt.alloc(), &failing, workers);
+        assert_eq!(rt; rows, Some(0), "{workers} workers");
+    }
+    Ok(())
+}
+
+fn text_stopped_before<R>(
+    rt: &R,
+    alloc: Global,
+    text: &str,
+    canvas: &Sample,
+    workers: u32,
+) -> Option<usize>
+where
+    R: Threads + Wait + RandomSource + AllocGlobal + Sync,
+{
+    let stop = Stop::new();
+    stop.ask();
+    rows_of_text(rt, alloc, text, canvas, workers, &OpenGate, &stop)
+}
+
+// ---- stopped by their gate
+
+/// Asks the stop once it has been asked so often itself, and lets every worker go on.
+#[derive(Drop)]
+struct Stopping<'a> {
+    stop: &'a Stop,
+    most: u32,
+    asked: AtomicU32,
+}
+
+impl Gate for Stopping<'_> {
+    fn go(&self, _worker: u32, _task: TaskNo) -> bool {
+        if self.asked.fetch_add(1, Ordering::SeqCst) >= self.most {
+            self.stop.ask();
+        }
+        true
+    }
+}
+
+/// The rows of a run whose gate stops it after so many messages.
+fn stopped_after<R>(
+    rt: &R,
+    alloc: Global,
+    canvas: &Sample,
+    workers: u32,
+    most: u32,
+) -> Option<usize>
+where
+    R: Threads + Wait + RandomSource + AllocGlobal + Sync,
+{
+    let stop = Stop::new();
+    let gate = Stopping {
+        stop: &stop,
+        most,
+        asked: AtomicU32::new(0),
+    };
+    rows_of_plan(rt, alloc, canvas, workers, &gate, &stop)
+}
+
+/// A worker stores the outcome for which it has asked the gate, and then sees the stop.
+#[test]
+fn plans_by_a_gate(rt: HostRuntime) -> Result<(), Fail> {
+    let (_, hundred) = a_hundred(rt.alloc()).ok_or("no canvas")?;
+    for most in [0, 1, 7, 50] {
+        let rows = stopped_after(&rt, rt.alloc(), &hundred, 1, most);
+        assert_eq!(rt; rows, Some(most as usize + 1), "after {most}");
+        for workers in [2, 16] {
+            let rows = stopped_after(&rt, rt.alloc(), &hundred, workers, most);
+            assert!(rt;
+                rows.is_some_and(|rows| rows > most as usize && rows <= 100),
+                "{workers} workers, after {most}"
+            );
+        }
+    }
+    Ok(())
+}
+
+/// The rows of a text's run whose gate stops it at the first message.
+fn text_stopped_at_once<R>(
+    rt: &R,
+    alloc: Global,
+    text: &str,
+    canvas: &Sample,
+    workers: u32,
+) -> Option<usize>
+where
+    R: Threads + Wait + RandomSource + AllocGlobal + Sync,
+{
+    let stop = Stop::new();
+    let gate = Stopping {
+        stop: &stop,
+        most: 0,
+        asked: AtomicU32::new(0),
+    };
+    rows_of_text(rt, alloc, text, canvas, workers, &gate, &stop)
+}
+
+#[test]
+fn texts_before_they_begin_and_by_a_gate(rt: HostRuntime) -> Result<(), Fail> {
+    let (text, hundred) = a_hundred(rt.alloc()).ok_or("no canvas")?;
+    for workers in [1, 2, 16] {
+        let rows = text_stopped_before(&rt, rt.alloc(), &text, &hundred, workers);
+        assert_eq!(rt; rows, Some(0), "{workers} workers");
+        let rows = text_stopped_at_once(&rt, rt.alloc(), &text, &hundred, workers);
+        assert!(rt;
+            rows.is_some_and(|rows| rows >= 1 && rows <= workers as usize),
+            "{workers} workers: {rows:?}"
+        );
+    }
+    Ok(())
+}
+
+// ---- stopped while an envelope is delivered again
+
+/// Has each envelope delivered again whenever it is asked, and asks the stop once it has been asked
+/// so often.
+#[derive(Drop)]
+struct StoppingAgain<'a> {
+    stop: &'a Stop,
+    most: u32,
+    asked: AtomicU32,
+}
+
+impl Gate for StoppingAgain<'_> {
+    fn go(&self, _worker: u32, _task: TaskNo) -> bool {
+        true
+    }
+
+    fn again(&self, _worker: u32, _task: TaskNo) -> bool {
+        if self.asked.fetch_add(1, Ordering::SeqCst) >= self.most {
+            self.stop.ask();
+        }
+        true
+    }
+}
+
+/// The rows of a run that is stopped while an envelope is delivered again.
+fn stopped_within<R>(
+    rt: &R,
+    alloc: Global,
+    canvas: &Sample,
+    workers: u32,
+    most: u32,
+) -> Option<usize>
+where
+    R: Threads + Wait + RandomSource + AllocGlobal + Sync,
+{
+    let stop = Stop::new();
+    let gate = StoppingAgain {
+        stop: &stop,
+        most,
+        asked: AtomicU32::new(0),
+    };
+    rows_of_plan(rt, alloc, canvas, workers, &gate, &stop)
+}
+
+/// A run whose messages are always delivered again ends by its stop alone. One worker is asked
+/// before the store of each task and behind it.
+#[test]
+fn plans_within_redeliveries(rt: HostRuntime) -> Result<(), Fail> {
+    let (_, hundred) = a_hundred(rt.alloc()).ok_or("no canvas")?;
+    for &(most, wanted) in &[(0, 0), (1, 1), (2, 1), (3, 2), (50, 25)] {
+        let rows = stopped_within(&rt, rt.alloc(), &hundred, 1, most);
+        assert_eq!(rt; rows, Some(wanted), "after {most}");
+        for workers in [2, 16] {
+            let rows = stopped_within(&rt, rt.alloc(), &hundred, workers, most);
+            assert!(rt;
+                rows.is_some_and(|rows| rows <= 100),
+                "{workers} workers, after {most}"
+            );
+        }
+    }
+    Ok(())
+}
