@@ -74,7 +74,7 @@ impl Stage {
     }
 
     /// Publishes the messages of the tasks that start at once.
-    pub(crate) fn open(&mut self, alloc: Global, plan: &Plan) -> Result<(), Memory> {
+    fn open(&mut self, alloc: Global, plan: &Plan) -> Result<(), Memory> {
         for message in first_messages(alloc, plan)? {
             self.publish(seal(alloc, message)?)?;
         }
@@ -159,12 +159,7 @@ impl Stage {
     }
 
     /// A worker's turn: one ask of it is answered, unless it is at its end. Whether one was.
-    pub(crate) fn turn<T: Tasks>(
-        &mut self,
-        alloc: Global,
-        tasks: &T,
-        worker: u32,
-    ) -> Result<bool, Memory> {
+    fn turn<T: Tasks>(&mut self, alloc: Global, tasks: &T, worker: u32) -> Result<bool, Memory> {
         if worker == 0 {
             return Ok(false);
         }
@@ -189,14 +184,11 @@ impl Stage {
         requires { FoundInRange reply }
     {
         match self.cores.get_mut(index) {
-            Some(core) => {
-                if !core.next().suits(&reply) {
-                    return Ok(false);
-                }
+            Some(core) if core.next().suits(&reply) => {
                 core.answer(alloc, &self.book, tasks, reply)?;
                 Ok(true)
             }
-            None => Ok(false),
+            _ => Ok(false),
         }
     }
 
@@ -209,7 +201,7 @@ impl Stage {
     }
 
     /// Turns in rotation, until all workers are at their ends.
-    pub(crate) fn run_rounds<T: Tasks>(
+    fn run_rounds<T: Tasks>(
         &mut self,
         alloc: Global,
         tasks: &T,
@@ -221,6 +213,22 @@ impl Stage {
             }
         }
         Ok(())
+    }
+
+    /// All of a run: the first messages, the turns of a list, and turns in rotation.
+    pub(crate) fn run<T: Tasks>(
+        &mut self,
+        alloc: Global,
+        plan: &Plan,
+        tasks: &T,
+        workers: u32,
+        turns: &[u32],
+    ) -> Result<(), Memory> {
+        self.open(alloc, plan)?;
+        for worker in turns {
+            self.turn(alloc, tasks, *worker)?;
+        }
+        self.run_rounds(alloc, tasks, workers)
     }
 
     pub(crate) fn into_trace(self) -> Trace {

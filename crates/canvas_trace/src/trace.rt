@@ -27,11 +27,7 @@ pub fn trace_of<T: Tasks>(
     turns: &[u32],
 ) -> Result<Trace, Memory> {
     let mut stage = Stage::new(alloc, plan, workers)?;
-    stage.open(alloc, plan)?;
-    for worker in turns {
-        stage.turn(alloc, tasks, *worker)?;
-    }
-    stage.run_rounds(alloc, tasks, workers)?;
+    stage.run(alloc, plan, tasks, workers, turns)?;
     Ok(stage.into_trace())
 }
 
