@@ -1,6 +1,7 @@
 //! Runs on threads that are stopped: of plans, and of texts.
 
 use crate::states::{Sample, a_failed_member, are_partial, is_stored, sample_of_text};
+use crate::tallies::OnThreads;
 use canvas_engine::{RunFault, TextFault, run, run_text_threads};
 use canvas_samples::worked;
 use canvas_task::{Outcome, SixTasks, TaskNo};
@@ -119,7 +120,7 @@ where
 {
     let stop = Stop::new();
     stop.ask();
-    rows_of_text(rt, alloc, text, canvas, workers, &OpenGate, &stop)
+    rows_of_text(rt, alloc, text, canvas, workers, &OnThreads, &stop)
 }
 
 // ---- stopped by their gate
