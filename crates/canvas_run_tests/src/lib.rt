@@ -1,11 +1,9 @@
 //! Tests of runs: on threads, by a worker that is polled by hand, stopped, with messages that are
-//! delivered again, cut short or forged, and with refused memory.
+//! delivered again, forged or nested deeply, and with refused memory.
 #![tactic(auto)]
 
 #[cfg(test)]
 mod by_hand;
-#[cfg(test)]
-mod cuts;
 #[cfg(test)]
 mod forgeries;
 #[cfg(test)]

@@ -45,30 +45,49 @@ fn are_first(plan: &Plan, group: u32) -> bool {
     true
 }
 
+fn ends_in(plan: &Plan, number: u32) -> bool {
+    matches!(plan.ends(), Ends::One(task) if task.get() == number)
+}
+
+fn ends_in_many(plan: &Plan, number: usize) -> bool {
+    matches!(plan.ends(), Ends::Many(tasks) if tasks.len() == number)
+}
+
+fn is_chord_and_task(plan: &Plan) -> bool {
+    plan.tasks() == 4
+        && is_named(plan, 4, Some("tasks.mul"))
+        && is_named(plan, 5, None)
+        && ends_in(plan, 4)
+}
+
+fn is_chord(plan: &Plan) -> bool {
+    plan.groups() == 1
+        && is_sized(plan, 1, Some(3), 3)
+        && is_sized(plan, 2, None, 0)
+        && are_first(plan, 1)
+}
+
+fn is_group_of_ten(plan: &Plan) -> bool {
+    is_sized(plan, 1, None, 10) && ends_in_many(plan, 10)
+}
+
 #[test]
 fn plan_of_a_chord_and_a_task(rt: HostRuntime) -> Result<(), Fail> {
     let plan = plan_of(rt.alloc(), CHORD_AND_TASK).ok_or("no plan")?;
-    assert!(rt; plan.tasks() == 4);
-    assert!(rt; is_named(&plan, 4, Some("tasks.mul")));
-    assert!(rt; is_named(&plan, 5, None));
-    assert!(rt; matches!(plan.ends(), Ends::One(task) if task.get() == 4));
+    assert!(rt; is_chord_and_task(&plan));
     Ok(())
 }
 
 #[test]
 fn plan_of_a_chord(rt: HostRuntime) -> Result<(), Fail> {
     let plan = plan_of(rt.alloc(), CHORD).ok_or("no plan")?;
-    assert!(rt; plan.groups() == 1);
-    assert!(rt; is_sized(&plan, 1, Some(3), 3));
-    assert!(rt; is_sized(&plan, 2, None, 0));
-    assert!(rt; are_first(&plan, 1));
+    assert!(rt; is_chord(&plan));
     Ok(())
 }
 
 #[test]
-fn ends_of_a_group(rt: HostRuntime) -> Result<(), Fail> {
+fn plan_of_a_group(rt: HostRuntime) -> Result<(), Fail> {
     let plan = plan_of(rt.alloc(), GROUP_OF_TEN).ok_or("no plan")?;
-    assert!(rt; is_sized(&plan, 1, None, 10));
-    assert!(rt; matches!(plan.ends(), Ends::Many(tasks) if tasks.len() == 10));
+    assert!(rt; is_group_of_ten(&plan));
     Ok(())
 }

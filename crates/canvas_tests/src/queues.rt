@@ -2,7 +2,7 @@
 
 ghost use Rattle.std.specs.Prelude.{◌≡◌};
 
-use canvas_broker::{Broker, BrokerPass};
+use canvas_broker::{Batch, Broker, BrokerPass};
 use canvas_message::{Envelope, Letter};
 use canvas_task::ListOf;
 use std::alloc::Global;
@@ -166,25 +166,43 @@ fn add(order: u64, taken: Option<Letter>) -> u64 {
     }
 }
 
-/// Three envelopes, as a batch and then takes give them: the digits of all, and those of the batch.
+fn publishes_three<R: Wait>(rt: &R, alloc: Global, broker: &Broker, pass: &mut BrokerPass) -> bool
+    requires { pass.old.of ≡ broker.now }
+    ensures { pass.new.of ≡ broker.now }
+{
+    publishes(rt, alloc, broker, pass, 1)
+        && publishes(rt, alloc, broker, pass, 2)
+        && publishes(rt, alloc, broker, pass, 3)
+}
+
+/// The digits of a batch, of three at most.
+fn digits_of(mut batch: Batch) -> u64 {
+    add(add(add(0, batch.next()), batch.next()), batch.next())
+}
+
+/// The digits of three envelopes, as a batch and then takes give them, and those of the batch.
+fn digits<R: Wait>(rt: &R, broker: &Broker, pass: &mut BrokerPass) -> Option<(u64, u64)>
+    requires { pass.old.of ≡ broker.now }
+{
+    let begun = digits_of(broker.take_batch(rt, pass));
+    let mut all = begun;
+    for _ in 0..3 {
+        all = add(all, broker.take(rt, pass));
+    }
+    if broker.take(rt, pass).is_none() {
+        Some((all, begun))
+    } else {
+        None
+    }
+}
+
+/// The same of a queue of its own.
 fn by_batch<R: Wait>(rt: &R, alloc: Global) -> Option<(u64, u64)> {
     let (broker, mut pass) = Broker::new(alloc).ok()?;
-    if !publishes(rt, alloc, &broker, &mut pass, 1)
-        || !publishes(rt, alloc, &broker, &mut pass, 2)
-        || !publishes(rt, alloc, &broker, &mut pass, 3)
-    {
-        return None;
-    }
-    let mut batch = broker.take_batch(rt, &mut pass);
-    let begun = add(add(add(0, batch.next()), batch.next()), batch.next());
-    let more = add(begun, broker.take(rt, &mut pass));
-    let all = add(
-        add(more, broker.take(rt, &mut pass)),
-        broker.take(rt, &mut pass),
-    );
-    match broker.take(rt, &mut pass) {
-        None => Some((all, begun)),
-        Some(_) => None,
+    if publishes_three(rt, alloc, &broker, &mut pass) {
+        digits(rt, &broker, &mut pass)
+    } else {
+        None
     }
 }
 
