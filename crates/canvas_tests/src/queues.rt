@@ -185,10 +185,9 @@ fn digits<R: Wait>(rt: &R, broker: &Broker, pass: &mut BrokerPass) -> Option<(u6
     requires { pass.old.of ≡ broker.now }
 {
     let begun = digits_of(broker.take_batch(rt, pass));
-    let mut all = begun;
-    for _ in 0..3 {
-        all = add(all, broker.take(rt, pass));
-    }
+    let one = add(begun, broker.take(rt, pass));
+    let two = add(one, broker.take(rt, pass));
+    let all = add(two, broker.take(rt, pass));
     if broker.take(rt, pass).is_none() {
         Some((all, begun))
     } else {
