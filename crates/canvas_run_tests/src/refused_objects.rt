@@ -253,16 +253,37 @@ fn last_member(alloc: Global, plan: &Plan) -> Result<Option<Letter>, Memory> {
     Ok(envelopes.pop())
 }
 
-pub(crate) fn core(alloc: Global) -> Result<bool, Memory> {
-    let plan = plan_of(alloc)?;
-    let backend = PlainBackend::new(alloc, &plan)?;
-    let mut core = Core::new(alloc);
-    let taken = Reply::Taken(last_member(alloc, &plan)?);
-    if goes_on(alloc, &backend, &mut core, taken)? {
-        completes(alloc, &backend, &mut core)
+/// Whether a core that takes this envelope comes to the end of its message.
+fn works(
+    alloc: Global,
+    backend: &PlainBackend,
+    core: &mut Core,
+    taken: Option<Letter>,
+) -> Result<bool, Memory> {
+    if goes_on(alloc, backend, core, Reply::Taken(taken))? {
+        completes(alloc, backend, core)
     } else {
         Ok(false)
     }
+}
+
+fn new_core_works(
+    alloc: Global,
+    backend: &PlainBackend,
+    taken: Option<Letter>,
+) -> Result<bool, Memory> {
+    let mut core = Core::new(alloc);
+    works(alloc, backend, &mut core, taken)
+}
+
+fn core_of(alloc: Global, plan: &Plan) -> Result<bool, Memory> {
+    let backend = PlainBackend::new(alloc, plan)?;
+    new_core_works(alloc, &backend, last_member(alloc, plan)?)
+}
+
+pub(crate) fn core(alloc: Global) -> Result<bool, Memory> {
+    let plan = plan_of(alloc)?;
+    core_of(alloc, &plan)
 }
 
 // ---- a registry

@@ -221,13 +221,19 @@ fn returns(alloc: Global, message: &Message) -> Result<bool, Memory> {
     }
 }
 
-/// The same, where the message is given up for it too.
-fn ends(alloc: Global, message: Message) -> Result<bool, Memory> {
-    if !returns(alloc, &message)? {
-        return Ok(false);
-    }
+/// Whether a part is returned where the message is given up for it.
+fn gives_part(alloc: Global, message: Message) -> Result<bool, Memory> {
     let todo = into_todo(alloc, message, &FAILS)?;
     Ok(todo.part.is_some())
+}
+
+/// Both.
+fn ends(alloc: Global, message: Message) -> Result<bool, Memory> {
+    if returns(alloc, &message)? {
+        gives_part(alloc, message)
+    } else {
+        Ok(false)
+    }
 }
 
 /// The last of the messages that a plan begins with.
