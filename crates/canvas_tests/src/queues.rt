@@ -1,8 +1,8 @@
-//! Queues that threads share, and how many envelopes a batch has.
+//! Queues that threads share, how many envelopes a batch has, and allocations that may be refused.
 
 ghost use Rattle.std.specs.Prelude.{◌≡◌};
 
-use canvas_broker::{Batch, Broker, BrokerPass};
+use canvas_broker::{Batch, Broker, BrokerPass, PlainBroker};
 use canvas_message::{Envelope, Letter};
 use canvas_task::ListOf;
 use std::alloc::Global;
@@ -222,4 +222,92 @@ fn rounds<R: Wait>(rt: &R, alloc: Global) -> Option<u64> {
 fn batches_keep_the_order(rt: HostRuntime) -> Result<(), Fail> {
     assert!(rt; rounds(&rt, rt.alloc()).is_some_and(|filled| 0 < filled));
     Ok(())
+}
+
+// ---- refused allocations
+
+/// What was accepted of the envelopes numbered from 1 up to `end`, as the sum of their numbers.
+/// None where a refused one came back as another.
+fn accepted<R: Wait>(
+    rt: &R,
+    alloc: Global,
+    broker: &Broker,
+    mut pass: BrokerPass,
+    end: u64,
+) -> (BrokerPass, Option<u64>)
+    requires { pass.of ≡ broker.now }
+    ensures { result.0.of ≡ broker.now }
+{
+    let mut sum = 0u64;
+    for number in 1..end {
+        if let Some(envelope) = numbered(alloc, number) {
+            match broker.publish(rt, &mut pass, envelope) {
+                Ok(()) => sum = sum.wrapping_add(number),
+                Err(refused) if number_of(&refused.envelope) == number => {}
+                Err(_) => return (pass, None),
+            }
+        }
+    }
+    (pass, Some(sum))
+}
+
+/// The sum of the numbers that are left. None where they don't rise.
+fn left<R: Wait>(rt: &R, broker: &Broker, mut pass: BrokerPass) -> Option<u64>
+    requires { pass.of ≡ broker.now }
+{
+    let mut sum = 0u64;
+    let mut last = 0u64;
+    for _ in rt.forever() {
+        match broker.take(rt, &mut pass) {
+            Some(envelope) if last < number_of(&envelope) => {
+                last = number_of(&envelope);
+                sum = sum.wrapping_add(last);
+            }
+            Some(_) => return None,
+            None => break,
+        }
+    }
+    Some(sum)
+}
+
+/// Whether a broker holds what was accepted, with a split in between that may be refused. The
+/// split's mark takes memory where it begins a block of the queue.
+fn holds_accepted<R: Wait>(rt: &R, alloc: Global, end: u64) -> bool {
+    let Ok((broker, pass)) = Broker::new(alloc) else {
+        return true;
+    };
+    let (mut pass, sum) = accepted(rt, alloc, &broker, pass, end);
+    if let Ok(other) = broker.split(rt, &mut pass) {
+        broker.join(rt, &mut pass, other);
+    }
+    sum.is_some() && left(rt, &broker, pass) == sum
+}
+
+/// The same of the queue of one thread.
+fn plain_holds_accepted(alloc: Global) -> bool {
+    let mut broker = PlainBroker::new(alloc);
+    let mut sum = 0u64;
+    for number in 1..41u64 {
+        if let Some(envelope) = numbered(alloc, number) {
+            match broker.publish(envelope) {
+                Ok(()) => sum = sum.wrapping_add(number),
+                Err(refused) if number_of(&refused.envelope) == number => {}
+                Err(_) => return false,
+            }
+        }
+    }
+    for _ in 1..41u64 {
+        if let Some(envelope) = broker.take() {
+            sum = sum.wrapping_sub(number_of(&envelope));
+        }
+    }
+    sum == 0 && broker.is_empty()
+}
+
+/// It has to pass whichever of its allocations is refused.
+#[test]
+fn refusals_change_nothing(rt: HostRuntime) {
+    assert!(rt; holds_accepted(&rt, rt.alloc(), 31));
+    assert!(rt; holds_accepted(&rt, rt.alloc(), 41));
+    assert!(rt; plain_holds_accepted(rt.alloc()));
 }
