@@ -3,7 +3,7 @@
 use Rattle.std.specs.Prelude.{◌≡◌, ℕ, List, Some, Ok, Err, IfSome, String, string_bytes}
 use Rattle.std.specs.Global.{Global}
 use Rattle.canvas_task.specs.Apply.{Behaviour}
-use Rattle.canvas_sig.specs.CanvasText.{text_reading}
+use Rattle.canvas_values.specs.CanvasText.{text_reading}
 use Rattle.canvas_task.specs.Text.{Text}
 use Rattle.canvas_semantics.specs.NormalLine.{normal}
 use Rattle.canvas_semantics.specs.Tree.{Tree, numbered}

@@ -1,6 +1,6 @@
 //! From the text of a canvas to the text of its report.
 ghost use Rattle.std.specs.Prelude.{◌≡◌, List, Ok, IfOk, IfErr, IfSome, OnOk, string_bytes};
-ghost use Rattle.canvas_sig.specs.CanvasText.{text_reading};
+ghost use Rattle.canvas_values.specs.CanvasText.{text_reading};
 ghost use Rattle.canvas_semantics.specs.NormalLine.{normal};
 ghost use Rattle.canvas_semantics.specs.Tree.{Tree, numbered};
 ghost use Rattle.canvas_semantics.specs.Evaluation.{State};

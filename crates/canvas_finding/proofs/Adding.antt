@@ -8,8 +8,8 @@ use Rattle.std.specs.Borrow.{Bor}
 use Rattle.canvas_sig.specs.declared.datum.Datum.{Datum}
 use Rattle.canvas_sig.specs.declared.datum.Datum as datum
 use Rattle.canvas_sig.proofs.Parsed.{view-List}
-use Rattle.canvas_sig.specs.declared.primitive.Primitive.TheVariants as kind
-use Rattle.canvas_sig.specs.Fields.{header, body}
+use Rattle.canvas_values.specs.declared.primitive.Primitive.TheVariants as kind
+use Rattle.canvas_values.specs.Fields.{header, body}
 use Rattle.canvas_sig.proofs.Json.{items-items_of}
 use Rattle.canvas_finding.specs.FileOrder.{Sighted, behind, itself, inside, in_each, in_kwargs, from_index, one_in, some_in, sighted_within}
 use Rattle.canvas_finding.specs.Places.{shown, Lists}

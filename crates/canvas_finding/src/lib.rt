@@ -3,7 +3,7 @@
 
 ghost use Rattle.std.specs.Prelude.{◌≡◌, option_and_then};
 ghost use Rattle.serde_json.specs.Data.{Data};
-ghost use Rattle.canvas_sig.specs.Refusals.{signature_fault};
+ghost use Rattle.canvas_values.specs.Refusals.{signature_fault};
 ghost use Rattle.canvas_finding.specs.Refused.{refusal_of, first_refused};
 
 mod arguments;

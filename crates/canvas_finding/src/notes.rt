@@ -5,9 +5,10 @@ use crate::listing::Place;
 use crate::shown::{shown, shown_value};
 use canvas_sig::SigFault;
 use canvas_sig::parts::{
-    Datum, Primitive, is_list, is_list_or_null, is_name, is_null, is_object_or_null, is_true,
-    kwarg_of, option_of, primitive_of,
+    Datum, is_list, is_list_or_null, is_name, is_null, is_object_or_null, is_true, kwarg_of,
+    option_of, primitive_of,
 };
+use canvas_values::Primitive;
 use std::alloc::{AllocError, Global};
 
 /// What is wanted in place of an argument.

@@ -1,7 +1,7 @@
 use Rattle.std.proofs.Common.{◌≡◌, ◌∙◌, false, None, sym, ap, map, subst, rules}
 use Rattle.canvas_sig.specs.Datum.{view}
-use Rattle.canvas_sig.specs.Answers.{Gives, ◌or_else◌, unless, in_turn}
-use Rattle.canvas_sig.specs.Grammar.{own_fault}
+use Rattle.canvas_values.specs.Answers.{Gives, ◌or_else◌, unless, in_turn}
+use Rattle.canvas_values.specs.Grammar.{own_fault}
 use Rattle.canvas_sig.proofs.Datums.{array_list}
 use Rattle.canvas_rewrite.specs.FrozenView.{p_task_view, p_line_view}
 use Rattle.canvas_codec.specs.steps.FrozenReading.{group_with, chord_with, header_fault, elements_with, link_reading, step_reading, last_reading, line_reading}
