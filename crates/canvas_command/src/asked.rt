@@ -3,13 +3,16 @@
 use crate::celery::run_of;
 use crate::refusal::Refusal;
 use crate::reporting::Manner;
-use crate::words::matches_of;
 use canvas_celery::Run;
-use canvas_engine::{When, read_again, read_turns};
+use canvas_engine::{MOST_WORKERS, When, read_again, read_turns};
 use canvas_export::Target;
 use canvas_task::TaskNo;
+use canvas_words::matches_of;
 use clap::ArgMatches;
 use std::alloc::Global;
+
+// The words let through the numbers of workers that a run takes.
+const _: () = prove!(canvas_words::MOST_WORKERS == MOST_WORKERS);
 
 /// What is done with a canvas.
 #[derive(Drop)]

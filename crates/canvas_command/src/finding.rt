@@ -3,22 +3,14 @@
 use crate::answer::Answer;
 use crate::plan::plan_of_canvas;
 use crate::refusal::Refusal;
-use crate::words::file_argument;
 use canvas_finding::{Depths, Finding, Spot, depths_of, find, pointer_text};
 use canvas_rewrite::Plan;
 use canvas_sig::read_canvas;
 use canvas_task::{Memory, Tasks};
 use canvas_trace::trace_of;
 use canvas_views::quoted_json;
-use clap::Command;
 use std::alloc::{AllocError, Global};
 use std::fmt;
-
-pub(crate) fn check_command<'a>(alloc: Global) -> Result<Command<'a>, AllocError> {
-    Command::new(alloc, "check")
-        .about("Prints the figures of a canvas, or where it is refused and what is wanted there")
-        .arg(file_argument(alloc))
-}
 
 /// Where a text is refused, as a person reads it.
 fn spot_text(alloc: Global, finding: &Finding) -> Result<String, AllocError> {

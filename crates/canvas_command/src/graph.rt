@@ -4,34 +4,13 @@ use crate::answer::Answer;
 use crate::plan::plan_of;
 use crate::refusal::Refusal;
 use crate::runs::report_of;
-use crate::words::{file_argument, workers_argument};
 use canvas_engine::Report;
 use canvas_rewrite::Plan;
 use canvas_task::Tasks;
 use canvas_views::graph_text;
-use clap::{Arg, ArgAction, Command};
-use std::alloc::{AllocError, Global};
 use std::random::RandomSource;
 use std::sync::Wait;
 use std::thread::Threads;
-
-fn run_argument<'a>(alloc: Global) -> Arg<'a> {
-    Arg::new(alloc, "run")
-        .long("run")
-        .action(ArgAction::SetTrue)
-        .help("Runs the canvas, and shows the state and value of each task")
-}
-
-pub(crate) fn graph_command<'a>(alloc: Global) -> Result<Command<'a>, AllocError> {
-    let arguments = vec![in alloc;
-        file_argument(alloc),
-        run_argument(alloc),
-        workers_argument(alloc),
-    ]?;
-    Command::new(alloc, "graph")
-        .about("Prints a canvas as a picture, in the language of Graphviz's `dot`")
-        .args(arguments)
-}
 
 /// The picture of a plan, and of its run where there is one.
 fn picture<'w>(

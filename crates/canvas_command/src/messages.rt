@@ -3,23 +3,10 @@
 use crate::answer::Answer;
 use crate::plan::plan_of;
 use crate::refusal::Refusal;
-use crate::words::{file_argument, turns_argument, workers_argument};
 use canvas_task::Tasks;
 use canvas_trace::{Trace, trace_of};
 use canvas_views::message_line;
-use clap::Command;
 use std::alloc::{AllocError, Global};
-
-pub(crate) fn messages_command<'a>(alloc: Global) -> Result<Command<'a>, AllocError> {
-    let arguments = vec![in alloc;
-        file_argument(alloc),
-        workers_argument(alloc),
-        turns_argument(alloc),
-    ]?;
-    Command::new(alloc, "messages")
-        .about("Prints each message that a run by turns publishes, as JSON with its three texts")
-        .args(arguments)
-}
 
 /// Each message, a line each.
 pub(crate) fn answer_messages<'w, T: Tasks>(

@@ -1,6 +1,6 @@
 //! The words of the commands for Celery's own workers.
 
-use crate::words::{file_argument, json_argument};
+use crate::arguments::{file_argument, json_argument};
 use clap::builder::ValueParser;
 use clap::{Arg, ArgAction, Command};
 use std::alloc::{AllocError, Global};
