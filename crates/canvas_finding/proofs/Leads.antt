@@ -1,8 +1,8 @@
 -- The pointer to each signature of a listing leads to it (RFC 6901).
-use Rattle.std.proofs.Common.{◌≡◌, ◌⊎◌, inl, inr, ℕ, zero, suc, ◌+◌, ◌^◌, ◌<◌, Bool, true, false, List, [], ◌∷◌, ◌++◌, map, find, Option, Some, None, option_and_then, decimal, refl, sym, ap, subst, ◌∙◌, arith, append-nil, append_assoc}
+use Rattle.std.proofs.Common.{◌≡◌, ◌⊎◌, inl, inr, ℕ, zero, suc, ◌+◌, Bool, true, false, List, [], ◌∷◌, ◌++◌, map, find, Option, Some, None, option_and_then, decimal, refl, sym, ap, subst, ◌∙◌, arith, append-nil, append_assoc}
 use Rattle.std.specs.Prelude.{codes, unwrap_or, ◌==◌, ◌-◌, if◌then◌else◌}
 use Rattle.serde_json.specs.Data.{Data, null, boolean, number, string, array, object, Items, no_items, item, depth}
-use Rattle.serde_json.specs.Find.{get, get_item, get_member, index_of, step, walk, pointer}
+use Rattle.serde_json.specs.Find.{get, get_item, get_member, step, walk, pointer}
 use Rattle.serde_json.proofs.Paths.{Lacks, walk_part, walk_last, unescape_plain}
 use Rattle.canvas_task.specs.Text.{Text}
 use Rattle.canvas_values.specs.Fields.{field, subtype, tasks, header, body, link, link_error, items, listed, is_null}

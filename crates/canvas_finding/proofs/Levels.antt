@@ -1,5 +1,5 @@
 -- As deep as a value is, a listing leaves no signature out: more levels change nothing.
-use Rattle.std.proofs.Common.{◌≡◌, ℕ, zero, suc, ◌≤◌, Bool, true, false, List, [], ◌∷◌, ◌++◌, map, Option, Some, None, refl, sym, ap, ap₂, subst, ◌∙◌, arith}
+use Rattle.std.proofs.Common.{◌≡◌, ℕ, zero, suc, ◌≤◌, Bool, true, false, List, [], ◌∷◌, ◌++◌, map, Option, Some, None, refl, sym, ap, ap₂, subst, arith}
 use Rattle.std.specs.Prelude.{codes}
 use Rattle.serde_json.specs.Data.{Data, null, boolean, number, string, array, object, no_items, item, Items, depth, items_depth}
 use Rattle.canvas_values.specs.Fields.{subtype, tasks, header, body, link, link_error, items, listed, as_list}
