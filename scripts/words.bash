@@ -235,7 +235,7 @@ refuse_missing() {
 
 # Refuses a list of turns or of what is delivered again, or a run's number, that is none.
 refuse_lists() {
-  local number turns=",${given[--turns]:-}," workers="${given[--workers]:-1}"
+  local number turns=",${given[--turns]:-}," workers="${given[--workers]:-1}" again="${given[--again]:-}"
   if [ "$turns" != ,, ]; then
     if ! [[ "$turns" =~ ^,([1-9][0-9]{0,9},)+$ ]]; then
       fault="canvas: refused BadTurn"
@@ -246,11 +246,25 @@ refuse_lists() {
     done
   fi
   if [ -n "$fault" ]; then return 0; fi
-  if [ -n "${given[--again]:-}" ] && ! [[ ",${given[--again]}" =~ ^(,[1-9][0-9]*:(early|late))+$ ]]; then
+  if [ -n "$again" ] && ! [[ ",$again" =~ ^(,[1-9][0-9]{0,9}:(early|late))+$ ]]; then
     fault="canvas: refused BadAgain"
-  elif [ -n "${takes[--run]:-}" ] && ! [[ "${given[--run]}" =~ ^[0-9a-f]{22}$ ]]; then
+    return 0
+  fi
+  for number in ${again//,/ }; do
+    if ((${number%:*} > 4294967295)); then fault="canvas: refused BadAgain"; fi
+  done
+  if [ -n "$fault" ]; then return 0; fi
+  if [ -n "${takes[--run]:-}" ] && ! [[ "${given[--run]}" =~ ^[0-9a-f]{22}$ ]]; then
     fault="canvas: refused BadRun"
   fi
+}
+
+# Whether words are texts in UTF-8, where there is a locale to tell.
+are_texts() {
+  local LC_ALL=C.UTF-8 word
+  for word in "$@"; do
+    [[ "$word" =~ ^.*$ ]] || return 1
+  done
 }
 
 # Reads the words of a call. Sets `command`, `options` with their values, and `files`; `asks` where they ask for help or the version; and `fault` to
@@ -264,6 +278,10 @@ read_words() {
   fault=''
   asks=''
   name_commands
+  if ! are_texts "$@"; then
+    refuse_words "invalid UTF-8 was detected in one or more arguments" "canvas <COMMAND>"
+    return 0
+  fi
   case "$command" in
     '')
       if (($#)); then refuse_command ''; else refuse_words "'canvas' requires a subcommand but one was not provided$newline  [subcommands: $(
