@@ -49,7 +49,7 @@ find_options() {
   done
 }
 
-show_option() { echo "$1${takes[$1]:+ <${takes[$1]}>}"; }
+show_option() { echo "$1${takes[$1]:+ <${takes[$1]:-}>}"; }
 
 # The line of usage, which names the options that were used, where there are some.
 usage_line() {
@@ -103,7 +103,8 @@ find_alike() {
   shift
   for name in "$@"; do
     compare "$word" "$name"
-    if ((score <= 700000000)); then continue; fi
+    # seven tenths, which the program's rounding is a little above, count
+    if ((score < 699999990)); then continue; fi
     for ((at = 0; at < ${#alike[@]} && scores[at] <= score; at++)); do :; done
     alike=("${alike[@]:0:at}" "$name" "${alike[@]:at}")
     scores=("${scores[@]:0:at}" "$score" "${scores[@]:at}")
@@ -119,6 +120,24 @@ refuse_command() {
     if [ -n "$many" ]; then names="some similar subcommands exist: $names"; else names="a similar subcommand exists: $names"; fi
   fi
   refuse_words "unrecognized subcommand '$1'${names:+$newline$newline  tip: $names}" "canvas <COMMAND>"
+}
+
+# Refuses a call without a command.
+refuse_none() {
+  local IFS=,
+  local names="${commands[*]}"
+  refuse_words "'canvas' requires a subcommand but one was not provided$newline  [subcommands: ${names//,/, }]" "canvas <COMMAND>"
+}
+
+# Refuses an option in the place of a command.
+refuse_first() {
+  alike=()
+  if [[ "$1" == --* ]]; then find_alike "${1#--}" help version; fi
+  if ((${#alike[@]})); then
+    refuse_words "unexpected argument '$1' found$newline$newline  tip: a similar argument exists: '--${alike[-1]}'" "canvas --${alike[-1]} <COMMAND>"
+  else
+    refuse_words "unexpected argument '$1' found" "canvas <COMMAND>"
+  fi
 }
 
 # Refuses an option that the command doesn't have.
@@ -148,10 +167,13 @@ refuse_number() {
     *) return 0 ;;
   esac
   case "$value" in
-    '' | +*) ;;
+    '') refuse_words "invalid value '' for '$(show_option "$name")': cannot parse integer from empty string" ;;
+    +*) ;;
     *[!0-9]*) refuse_words "invalid value '$value' for '$(show_option "$name")': invalid digit found in string" ;;
     *)
-      if ((${#value} < 16 && (10#$value < least || 10#$value > most))); then
+      if ((${#value} > 20)) || [[ ${#value} = 20 && "$value" > 18446744073709551615 ]]; then
+        refuse_words "invalid value '$value' for '$(show_option "$name")': number too large to fit in target type"
+      elif ((${#value} < 16 && (10#$value < least || 10#$value > most))); then
         refuse_words "invalid value '$value' for '$(show_option "$name")': $((10#$value)) is not in $least..=$most"
       fi
       ;;
@@ -163,8 +185,17 @@ read_option() {
   local word="$1" name="${1%%=*}" value
   step=1
   case "$word" in
-    --help | -h)
+    --help | -h*)
       asks=help
+      return 0
+      ;;
+    --help=*)
+      refuse_words "unexpected value '${word#*=}' for '--help' found; no more were expected" "$(usage_line "${used[@]}" --help)"
+      return 0
+      ;;
+    --*) ;;
+    *)
+      refuse_option "$word"
       return 0
       ;;
   esac
@@ -188,7 +219,13 @@ read_option() {
   if [ "$word" = "$name" ]; then
     value="${2-}"
     step=2
-    if [ $# -lt 2 ] || [[ "$value" == -?* ]]; then
+    if [[ "$value" == -[!-]* ]]; then
+      refuse_option "$value"
+      return 0
+    elif [[ "$value" == --?* ]] && [ -z "${takes[${value%%=*}]+is an option}" ] && [ "$value" != --help ]; then
+      refuse_option "$value" "${used[@]:0:${#used[@]}-1}"
+      return 0
+    elif [ $# -lt 2 ] || [[ "$value" == --?* ]]; then
       refuse_words "a value is required for '$(show_option "$name")' but none was supplied"
       return 0
     fi
@@ -283,16 +320,23 @@ read_words() {
     return 0
   fi
   case "$command" in
-    '')
-      if (($#)); then refuse_command ''; else refuse_words "'canvas' requires a subcommand but one was not provided$newline  [subcommands: $(
-        IFS=,
-        names="${commands[*]}"
-        echo "${names//,/, }"
-      )]" "canvas <COMMAND>"; fi
+    '') if (($#)); then refuse_command ''; else refuse_none; fi ;;
+    help)
+      asks=help
+      if [ -n "${2:-}" ] && [[ " ${commands[*]} " != *" $2 "* ]]; then refuse_words "unrecognized subcommand '$2'" "canvas <COMMAND>"; fi
       ;;
-    help | --help | -h) asks=help ;;
-    --version | -V) asks=version ;;
-    -?*) refuse_words "unexpected argument '${command%%=*}' found" "canvas <COMMAND>" ;;
+    --help | -h*) asks=help ;;
+    --version | -V*) asks=version ;;
+    --)
+      if (($# == 1)); then
+        refuse_none
+      elif [[ " ${commands[*]} " == *" $2 "* ]]; then
+        refuse_words "unexpected argument '$2' found$newline$newline  tip: subcommand '$2' exists; to use it, remove the '--' before it" "canvas <COMMAND>"
+      else
+        refuse_command "$2"
+      fi
+      ;;
+    -?*) refuse_first "${command%%=*}" ;;
     *)
       if [[ " ${commands[*]} " != *" $command "* ]]; then
         refuse_command "$command"
@@ -338,7 +382,7 @@ read_file() {
     esac
   elif [ ! -e "$file" ] || [ -d "$file" ] || [ ! -r "$file" ]; then
     fault="canvas: cannot read $file"
-  elif [ -f "$file" ] && [ "$command" != collect ] && [ "$(head -c 1 -- "$file" | wc -c)" = 0 ]; then
+  elif [ -f "$file" ] && [ "$(head -c 1 -- "$file" | wc -c)" = 0 ]; then
     is_empty=1
   fi
   if [ -n "$is_empty" ]; then refuse_empty; fi
