@@ -42,7 +42,8 @@ module _ {X Y : Type 0} where
       ap (λ ys. ys ++ rest) pushed ∙ append_assoc before here rest
       ∙ ap (λ ys. before ++ ys) (sym (at_drop_more F xs i x lt ∙ ap (λ y. F (y ∷ drop (i + 1) xs)) (sym is) ∙ turn)) ∙ so_far
 
-  pub put_all : (F : List X → List Y) (xs : List X) (i : ℕ) (now all : List Y) → length xs ≤ i → F [] ≡ [] → now ++ F (drop i xs) ≡ all → now ≡ all
+  pub put_all : (F : List X → List Y) (xs : List X) (i : ℕ) (now all : List Y)
+      → length xs ≤ i → F [] ≡ [] → now ++ F (drop i xs) ≡ all → now ≡ all
   put_all F xs i now all past none so_far = sym (ap (λ ys. now ++ ys) (at_drop_all F xs i past ∙ none) ∙ append-nil now) ∙ so_far
 
 -- ---- the outcomes of members

@@ -42,4 +42,5 @@ skip_lines-loop-line-preserved t c =
 
 pub skip_lines-returns : goal.skip_lines-returns
 skip_lines-returns t c =
-    put_all (λ ls. all_skipped c.args.fault.now (map p_line_view ls)) c.args.lines.now c.loop-line.line-index _ _ c.loop-line-test.false refl c.loop-line.invariant
+    put_all (λ ls. all_skipped c.args.fault.now (map p_line_view ls)) c.args.lines.now c.loop-line.line-index _ _
+    c.loop-line-test.false refl c.loop-line.invariant
