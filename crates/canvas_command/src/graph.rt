@@ -8,6 +8,7 @@ use canvas_engine::Report;
 use canvas_rewrite::Plan;
 use canvas_task::Tasks;
 use canvas_views::graph_text;
+use std::alloc::Global;
 use std::random::RandomSource;
 use std::sync::Wait;
 use std::thread::Threads;

@@ -9,9 +9,17 @@ use Rattle.canvas_runs.proofs.Readings.{says_reading, refused_reading}
 use Rattle.canvas_runs.specs.Book.{Book, message_known}
 use Rattle.canvas_runs.specs.Worker.{read_envelope, known_one, opened}
 
-pub read_so : (book : Book) (e : Envelope) (c : Content) (k : Bool) → Says e.properties e.headers e.body c → message_known book c ≡ k
+read_so : (book : Book) (e : Envelope) (c : Content) (k : Bool) → Says e.properties e.headers e.body c → message_known book c ≡ k
     → opened book e ≡ (if k then Some c else None)
 read_so book e c k says known = ap (known_one book) (says_reading e.properties e.headers e.body c says) ∙ ap (λ b. if b then Some c else None) known
+
+pub opens_known : (book : Book) (e : Envelope) (c : Content) (k : Bool) → Says e.properties e.headers e.body c → k ≡ message_known book c → k ≡ true
+    → Some c ≡ opened book e
+opens_known book e c k says known is = sym (read_so book e c true says (sym known ∙ is))
+
+pub opens_unknown : (book : Book) (e : Envelope) (c : Content) (k : Bool) → Says e.properties e.headers e.body c → k ≡ message_known book c → k ≡ false
+    → None ≡ opened book e
+opens_unknown book e c k says known is = sym (read_so book e c false says (sym known ∙ is))
 
 pub opens_refused : (book : Book) (e : Envelope) (f : MessageFault) → envelope_fault e.properties e.headers e.body ≡ Some f → None ≡ opened book e
 opens_refused book e f fault = sym (ap (known_one book) (refused_reading e.properties e.headers e.body f fault))

@@ -1,6 +1,6 @@
 //! What a worker has left to do.
 
-ghost use Rattle.std.specs.Prelude.{◌≡◌, ◌≢◌, ◌≤◌, ◌+◌, min, true, false, Some, None, Ok, OnOk, OnErr, IfOk, IfSome, if◌then◌else◌};
+ghost use Rattle.std.specs.Prelude.{◌≡◌, ◌≢◌, ◌≤◌, ◌+◌, min, true, false, Some, None, Ok, OnOk, OnErr, IfOk, IfSome};
 ghost use Rattle.std.specs.Option.{option_map};
 ghost use Rattle.canvas_task.specs.Apply.{Behaviour};
 ghost use Rattle.canvas_worker.specs.Asks.{suits, shown, replied, StoresInRange, FoundInRange, Grows};
@@ -12,7 +12,6 @@ ghost use Rattle.canvas_worker.specs.declared.ask.Ask.TheVariants as ask;
 ghost use Rattle.canvas_runs.specs.Tally.{greatest_count};
 ghost use Rattle.canvas_worker.specs.CoreState.{asked, begun, after_reply, failing, held, held_out, handed, point_at, waiting};
 ghost use Rattle.canvas_worker.specs.EnvelopeWorker.{enveloped_by, said, no_tasks};
-ghost use Rattle.canvas_runs.specs.Book.{message_known};
 ghost use Rattle.canvas_runs.specs.Worker.{opened, read_envelope};
 
 use crate::known::message_known;
@@ -59,18 +58,6 @@ impl Model for Core {
     } };
 }
 
-/// A message, where all that it names is known.
-fn if_known<B: Book>(book: &B, message: Message) -> Option<Message>
-    ensures value { result
-        ≡ (if message_known (B.book book.now) message then Some message else None) }
-    ensures message { IfSome result (λ m. m ≡ message) }
-{
-    if message_known(book, &message) {
-        return Some(message);
-    }
-    None
-}
-
 /// The message of an envelope, unless it is one to drop.
 fn open<B: Book>(alloc: Global, book: &B, letter: &mut Letter) -> Result<Option<Message>, Memory>
     ensures value { IfOk result (λ m. m ≡ opened (B.book book.now) letter.old) }
@@ -78,7 +65,13 @@ fn open<B: Book>(alloc: Global, book: &B, letter: &mut Letter) -> Result<Option<
     ensures letter { letter.new ≡ letter.old }
 {
     match canvas_codec::open(alloc, letter) {
-        Ok(message) => Ok(if_known(book, message)),
+        Ok(message) => {
+            if message_known(book, &message) {
+                Ok(Some(message))
+            } else {
+                Ok(None)
+            }
+        }
         Err(fault) => match fault {
             MessageFault::Memory => Err(Memory),
             _ => Ok(None),

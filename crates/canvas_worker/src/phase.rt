@@ -130,16 +130,6 @@ fn size_of(carried: &Carried) -> u32
     carried.size
 }
 
-/// The script of what follows the end of a message's task, where its store is the first.
-fn script_after(alloc: Global, message: Message, outcome: &Outcome) -> Result<Script, Memory>
-    requires { IsInRange outcome.now }
-    ensures jobs { IfOk result
-        (λ s. jobs_of s ≡ map enclosed (whole (after message outcome.now))) }
-    ensures latest { IfOk result (λ s. s.latest ≡ First) }
-{
-    script_of(alloc, into_todo(alloc, message, outcome)?, Stored::First)
-}
-
 impl Owned {
     /// An envelope that was taken, with all that its message needs built.
     pub(crate) fn of<T: Tasks>(
@@ -155,7 +145,7 @@ impl Owned {
     {
         let task = message.task;
         let outcome = outcome_of(tasks, &message);
-        let script = script_after(alloc, message, &outcome)?;
+        let script = script_of(alloc, into_todo(alloc, message, &outcome)?, Stored::First)?;
         Ok(Owned {
             envelope,
             task,
