@@ -49,12 +49,14 @@ raise_line-returns-in-None-tail-clause-messages t c =
 pub raise_end-returns-in-Some-clause-stores : goal.raise_end-returns-in-Some-clause-stores
 raise_end-returns-in-Some-clause-stores t c =
     ok_same _ _ _ _ (joined _ _ _ _ _ c.in_ok-raise_lines.ensures.stores
-    (stores_chord c.args.fault.now _ c.args.end.now c.in-Some.body _ c.in-Some.is c.whole_members-members.ensures.value c.fault_behind-behind.ensures)) c.raise_line.ensures.stores
+    (stores_chord c.args.fault.now _ c.args.end.now c.in-Some.body _ c.in-Some.is
+    c.whole_members-members.ensures.value c.fault_behind-behind.ensures)) c.raise_line.ensures.stores
 
 pub raise_end-returns-in-Some-clause-messages : goal.raise_end-returns-in-Some-clause-messages
 raise_end-returns-in-Some-clause-messages t c =
     ok_same _ _ _ _ (joined _ _ _ _ _ c.in_ok-raise_lines.ensures.messages
-    (messages_chord c.args.fault.now _ c.args.end.now c.in-Some.body _ c.in-Some.is c.whole_members-members.ensures.value c.fault_behind-behind.ensures)) c.raise_line.ensures.messages
+    (messages_chord c.args.fault.now _ c.args.end.now c.in-Some.body _ c.in-Some.is
+    c.whole_members-members.ensures.value c.fault_behind-behind.ensures)) c.raise_line.ensures.messages
 
 pub raise_end-returns-in-None-clause-stores : goal.raise_end-returns-in-None-clause-stores
 raise_end-returns-in-None-clause-stores t c =
