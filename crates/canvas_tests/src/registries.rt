@@ -9,7 +9,6 @@ use canvas_task::{
 };
 use std::alloc::Global;
 use std::collections::BTreeMap;
-use std::test::Fail;
 
 /// The difference.
 #[derive(Clone, Copy)]
@@ -170,82 +169,101 @@ fn answer_whole(registry: &Registry, none: &BTreeMap<String, Arg>) -> bool {
         && registry.apply("tasks.add", &numbers, none) == Outcome::Success(13)
 }
 
-#[test]
-fn a_task_written_whole(rt: HostRuntime) -> Result<(), Fail> {
-    let alloc = rt.alloc();
-    let none = BTreeMap::new(alloc);
-    let registry = registry_of!(alloc; Add, Given)?;
-    let answers = answer_whole(&registry, &none);
-    assert!(rt; answers);
-    Ok(())
-}
-
-/// What is wanted of a task that is given back.
-#[derive(Drop)]
-struct Wanted {
-    cause: AddFault,
-    name: &'static str,
-    answer: i64,
-    none: BTreeMap<String, Arg>,
-}
-
-/// Whether a task isn't added, and is given back as wanted.
-fn refuses(registry: &mut Registry, task: BoxedTask, wanted: &Wanted) -> bool {
-    let numbers = [Arg::Num(1), Arg::Num(2)];
-    match registry.add(task) {
-        Ok(()) => false,
-        Err(refused) => {
-            refused.cause == wanted.cause
-                && refused.task.name() == wanted.name
-                && refused.task.call(&numbers, &wanted.none) == Ok(wanted.answer)
-        }
+fn whole_answers(alloc: Global) -> bool {
+    match registry_of!(alloc; Add, Given) {
+        Ok(registry) => answer_whole(&registry, &BTreeMap::new(alloc)),
+        Err(_) => false,
     }
 }
 
 #[test]
-fn tasks_of_a_name_that_is_there(rt: HostRuntime) -> Result<(), Fail> {
-    let alloc = rt.alloc();
-    let other = Always {
-        number: 5,
-        name: "tasks.add",
-    };
-    let (other, same) = (Box::new(alloc, other)?, Box::new(alloc, Add)?);
-    let mut wanted = Wanted {
-        cause: AddFault::Doubled,
-        name: "tasks.add",
-        answer: 5,
-        none: BTreeMap::new(alloc),
-    };
-    let mut registry = registry_of!(alloc; Add)?;
-    let refused = refuses(&mut registry, other, &wanted);
-    wanted.answer = 3;
-    let twice = refuses(&mut registry, same, &wanted);
-    let stays = registry.apply("tasks.add", &[Arg::Num(1), Arg::Num(1)], &wanted.none);
-    assert_eq!(rt; (refused, twice, stays), (true, true, Outcome::Success(2)));
-    Ok(())
+fn a_task_written_whole(rt: HostRuntime) {
+    assert!(rt; whole_answers(rt.alloc()));
+}
+
+/// Whether a task has a name, and answers so to 1 and 2.
+fn is_task(task: &BoxedTask, name: &str, answer: i64, none: &BTreeMap<String, Arg>) -> bool {
+    task.name() == name && task.call(&[Arg::Num(1), Arg::Num(2)], none) == Ok(answer)
+}
+
+/// Whether a task isn't added, for a cause, and what comes back answers to 1 and 2 as wanted.
+fn refuses(
+    registry: &mut Registry,
+    task: BoxedTask,
+    cause: AddFault,
+    wanted: (&str, i64),
+    none: &BTreeMap<String, Arg>,
+) -> bool {
+    let (name, answer) = wanted;
+    match registry.add(task) {
+        Ok(()) => false,
+        Err(refused) => refused.cause == cause && is_task(&refused.task, name, answer, none),
+    }
+}
+
+/// Whether a task that always answers the number is refused by a registry for its name.
+fn refuses_always(
+    registry: &mut Registry,
+    alloc: Global,
+    cause: AddFault,
+    name: &'static str,
+    number: i64,
+) -> bool {
+    match Box::new(alloc, Always { number, name }) {
+        Ok(task) => refuses(registry, task, cause, (name, number), &BTreeMap::new(alloc)),
+        Err(_) => false,
+    }
+}
+
+/// Whether a sum is refused by a registry that has one.
+fn refuses_sum(registry: &mut Registry, alloc: Global) -> bool {
+    match Box::new(alloc, Add) {
+        Ok(task) => refuses(
+            registry,
+            task,
+            AddFault::Doubled,
+            ("tasks.add", 3),
+            &BTreeMap::new(alloc),
+        ),
+        Err(_) => false,
+    }
+}
+
+fn sum_stays(registry: &Registry, alloc: Global) -> bool {
+    let ones = [Arg::Num(1), Arg::Num(1)];
+    registry.apply("tasks.add", &ones, &BTreeMap::new(alloc)) == Outcome::Success(2)
+}
+
+/// Whether a registry with a sum refuses two of its name, and keeps it.
+fn doubles_are_refused(alloc: Global) -> bool {
+    match registry_of!(alloc; Add) {
+        Ok(registry) => {
+            let mut registry = registry;
+            refuses_always(&mut registry, alloc, AddFault::Doubled, "tasks.add", 5)
+                && refuses_sum(&mut registry, alloc)
+                && sum_stays(&registry, alloc)
+        }
+        Err(_) => false,
+    }
 }
 
 #[test]
-fn tasks_of_bad_names(rt: HostRuntime) -> Result<(), Fail> {
+fn tasks_of_a_name_that_is_there(rt: HostRuntime) {
+    assert!(rt; doubles_are_refused(rt.alloc()));
+}
+
+#[test]
+fn tasks_of_bad_names(rt: HostRuntime) {
     let alloc = rt.alloc();
     let mut registry = Registry::new(alloc);
     for &name in &["", "a b", "tasks.\u{e9}"] {
-        let wanted = Wanted {
-            cause: AddFault::BadName,
-            name,
-            answer: 6,
-            none: BTreeMap::new(alloc),
-        };
-        let bad = Box::new(alloc, Always { number: 6, name })?;
-        let refused = refuses(&mut registry, bad, &wanted);
+        let refused = refuses_always(&mut registry, alloc, AddFault::BadName, name, 6);
         assert!(rt; refused, "{name}");
     }
-    Ok(())
 }
 
-#[test]
-fn answers_out_of_range(rt: HostRuntime) -> Result<(), Fail> {
-    let alloc = rt.alloc();
+/// What tasks answer of which one answers past the bound, and one at it.
+fn around_the_bound(alloc: Global) -> Option<[Outcome; 2]> {
     let past = Always {
         number: BOUND + 1,
         name: "past",
@@ -254,14 +272,23 @@ fn answers_out_of_range(rt: HostRuntime) -> Result<(), Fail> {
         number: -BOUND,
         name: "at",
     };
-    let registry = registry_of!(alloc; past, at)?;
-    let none = BTreeMap::new(alloc);
-    let answers = [
-        registry.apply("past", &[], &none),
-        registry.apply("at", &[], &none),
-    ];
-    assert_eq!(rt; answers, [OVERFLOW, Outcome::Success(-BOUND)]);
-    Ok(())
+    match registry_of!(alloc; past, at) {
+        Ok(registry) => Some(past_and_at(&registry, &BTreeMap::new(alloc))),
+        Err(_) => None,
+    }
+}
+
+fn past_and_at(registry: &Registry, none: &BTreeMap<String, Arg>) -> [Outcome; 2] {
+    [
+        registry.apply("past", &[], none),
+        registry.apply("at", &[], none),
+    ]
+}
+
+#[test]
+fn answers_out_of_range(rt: HostRuntime) {
+    let wanted = [OVERFLOW, Outcome::Success(-BOUND)];
+    assert_eq!(rt; around_the_bound(rt.alloc()), Some(wanted));
 }
 
 /// Whether a registry answers to a call by each name what the six do.
