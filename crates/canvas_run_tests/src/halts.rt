@@ -10,14 +10,14 @@ use std::alloc::{AllocGlobal, Global};
 use std::random::RandomSource;
 use std::sync::Wait;
 use std::sync::atomic::{AtomicU32, Ordering};
-use std::test::Fail;
 use std::thread::Threads;
 
-/// A hundred tasks and their sum, as a text and as a canvas.
-fn a_hundred(alloc: Global) -> Option<(String, Sample)> {
-    let hundred = worked::a_hundred_and_their_sum(alloc).ok()?;
-    let canvas = sample_of_text(alloc, &hundred.text)?;
-    Some((hundred.text, canvas))
+/// A hundred tasks and their sum.
+fn a_hundred(alloc: Global) -> Option<Sample> {
+    match worked::a_hundred_and_their_sum(alloc) {
+        Ok(hundred) => sample_of_text(alloc, &hundred.text),
+        Err(_) => None,
+    }
 }
 
 /// How many rows aren't pending.
@@ -98,14 +98,23 @@ where
     rows_of_plan(rt, alloc, canvas, workers, &OpenGate, &stop)
 }
 
+/// The same of a chord with a member that fails.
+fn chord_stopped_before<R>(rt: &R, workers: u32) -> Option<usize>
+where
+    R: Threads + Wait + RandomSource + AllocGlobal + Sync,
+{
+    match a_failed_member(rt.alloc()) {
+        Some(failing) => stopped_before(rt, rt.alloc(), &failing, workers),
+        None => None,
+    }
+}
+
 #[test]
-fn plans_before_they_begin(rt: HostRuntime) -> Result<(), Fail> {
-    let failing = a_failed_member(rt.alloc()).ok_or("no canvas")?;
+fn plans_before_they_begin(rt: HostRuntime) {
     for workers in [1, 2, 16] {
-        let rows = stopped_before(&rt, rt.alloc(), &failing, workers);
+        let rows = chord_stopped_before(&rt, workers);
         assert_eq!(rt; rows, Some(0), "{workers} workers");
     }
-    Ok(())
 }
 
 fn text_stopped_before<R>(
@@ -162,22 +171,31 @@ where
     rows_of_plan(rt, alloc, canvas, workers, &gate, &stop)
 }
 
+/// The same of a hundred tasks and their sum.
+fn hundred_stopped_after<R>(rt: &R, workers: u32, most: u32) -> Option<usize>
+where
+    R: Threads + Wait + RandomSource + AllocGlobal + Sync,
+{
+    match a_hundred(rt.alloc()) {
+        Some(hundred) => stopped_after(rt, rt.alloc(), &hundred, workers, most),
+        None => None,
+    }
+}
+
 /// A worker stores the outcome for which it has asked the gate, and then sees the stop.
 #[test]
-fn plans_by_a_gate(rt: HostRuntime) -> Result<(), Fail> {
-    let (_, hundred) = a_hundred(rt.alloc()).ok_or("no canvas")?;
+fn plans_by_a_gate(rt: HostRuntime) {
     for most in [0, 1, 7, 50] {
-        let rows = stopped_after(&rt, rt.alloc(), &hundred, 1, most);
+        let rows = hundred_stopped_after(&rt, 1, most);
         assert_eq!(rt; rows, Some(most as usize + 1), "after {most}");
         for workers in [2, 16] {
-            let rows = stopped_after(&rt, rt.alloc(), &hundred, workers, most);
+            let rows = hundred_stopped_after(&rt, workers, most);
             assert!(rt;
                 rows.is_some_and(|rows| rows > most as usize && rows <= 100),
                 "{workers} workers, after {most}"
             );
         }
     }
-    Ok(())
 }
 
 /// The rows of a text's run whose gate stops it at the first message.
@@ -200,19 +218,46 @@ where
     rows_of_text(rt, alloc, text, canvas, workers, &gate, &stop)
 }
 
+/// The rows of a text's runs that are stopped before they begin, and at the first message.
+fn text_stopped<R>(
+    rt: &R,
+    alloc: Global,
+    text: &str,
+    workers: u32,
+) -> (Option<usize>, Option<usize>)
+where
+    R: Threads + Wait + RandomSource + AllocGlobal + Sync,
+{
+    match sample_of_text(alloc, text) {
+        Some(canvas) => (
+            text_stopped_before(rt, alloc, text, &canvas, workers),
+            text_stopped_at_once(rt, alloc, text, &canvas, workers),
+        ),
+        None => (None, None),
+    }
+}
+
+/// The same of a hundred tasks and their sum.
+fn hundred_stopped<R>(rt: &R, workers: u32) -> (Option<usize>, Option<usize>)
+where
+    R: Threads + Wait + RandomSource + AllocGlobal + Sync,
+{
+    match worked::a_hundred_and_their_sum(rt.alloc()) {
+        Ok(hundred) => text_stopped(rt, rt.alloc(), &hundred.text, workers),
+        Err(_) => (None, None),
+    }
+}
+
 #[test]
-fn texts_before_they_begin_and_by_a_gate(rt: HostRuntime) -> Result<(), Fail> {
-    let (text, hundred) = a_hundred(rt.alloc()).ok_or("no canvas")?;
+fn texts_before_they_begin_and_by_a_gate(rt: HostRuntime) {
     for workers in [1, 2, 16] {
-        let rows = text_stopped_before(&rt, rt.alloc(), &text, &hundred, workers);
-        assert_eq!(rt; rows, Some(0), "{workers} workers");
-        let rows = text_stopped_at_once(&rt, rt.alloc(), &text, &hundred, workers);
+        let (before, at_once) = hundred_stopped(&rt, workers);
+        assert_eq!(rt; before, Some(0), "{workers} workers");
         assert!(rt;
-            rows.is_some_and(|rows| rows >= 1 && rows <= workers as usize),
-            "{workers} workers: {rows:?}"
+            at_once.is_some_and(|rows| rows >= 1 && rows <= workers as usize),
+            "{workers} workers: {at_once:?}"
         );
     }
-    Ok(())
 }
 
 // ---- stopped while an envelope is delivered again
@@ -259,21 +304,30 @@ where
     rows_of_plan(rt, alloc, canvas, workers, &gate, &stop)
 }
 
+/// The same of a hundred tasks and their sum.
+fn hundred_stopped_within<R>(rt: &R, workers: u32, most: u32) -> Option<usize>
+where
+    R: Threads + Wait + RandomSource + AllocGlobal + Sync,
+{
+    match a_hundred(rt.alloc()) {
+        Some(hundred) => stopped_within(rt, rt.alloc(), &hundred, workers, most),
+        None => None,
+    }
+}
+
 /// A run whose messages are always delivered again ends by its stop alone. One worker is asked
 /// before the store of each task and behind it.
 #[test]
-fn plans_within_redeliveries(rt: HostRuntime) -> Result<(), Fail> {
-    let (_, hundred) = a_hundred(rt.alloc()).ok_or("no canvas")?;
+fn plans_within_redeliveries(rt: HostRuntime) {
     for &(most, wanted) in &[(0, 0), (1, 1), (2, 1), (3, 2), (50, 25)] {
-        let rows = stopped_within(&rt, rt.alloc(), &hundred, 1, most);
+        let rows = hundred_stopped_within(&rt, 1, most);
         assert_eq!(rt; rows, Some(wanted), "after {most}");
         for workers in [2, 16] {
-            let rows = stopped_within(&rt, rt.alloc(), &hundred, workers, most);
+            let rows = hundred_stopped_within(&rt, workers, most);
             assert!(rt;
                 rows.is_some_and(|rows| rows <= 100),
                 "{workers} workers, after {most}"
             );
         }
     }
-    Ok(())
 }

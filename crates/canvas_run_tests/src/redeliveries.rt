@@ -1,14 +1,16 @@
 //! Runs on threads whose gate has envelopes delivered again: the reports stay, and each copy is
 //! taken.
 
+use crate::refused_runs::Canvas;
 use crate::tallies::{Sums, sums_by};
-use canvas_samples::spelled;
-use canvas_samples::worked::{Worked, a_failed_member, a_hundred_and_their_sum};
-use canvas_task::{Memory, TaskNo};
+use canvas_samples::worked::{A_FAILED_MEMBER, a_hundred_and_their_sum, of_frame};
+use canvas_task::TaskNo;
 use canvas_worker::Gate;
-use std::alloc::Global;
+use std::alloc::AllocGlobal;
+use std::random::RandomSource;
+use std::sync::Wait;
 use std::sync::atomic::{AtomicBool, AtomicU64, Ordering};
-use std::test::Fail;
+use std::thread::Threads;
 
 /// Has an envelope of task 1 delivered again, once.
 #[derive(Drop)]
@@ -26,10 +28,23 @@ impl Gate for OnceForTheFirst {
     }
 }
 
+/// What the workers counted that ran a hundred tasks and their sum.
+fn sums_of_a_hundred<R>(rt: &R, workers: u32) -> Option<Sums>
+where
+    R: Threads + Wait + RandomSource + AllocGlobal + Sync,
+{
+    let gate = OnceForTheFirst {
+        was_asked: AtomicBool::new(false),
+    };
+    match a_hundred_and_their_sum(rt.alloc()) {
+        Ok(hundred) => sums_by(rt, rt.alloc(), &hundred, workers, &gate),
+        Err(_) => None,
+    }
+}
+
 /// The message of task 1 is taken twice, and published once.
 #[test]
-fn one_of_a_hundred_again(rt: HostRuntime) -> Result<(), Fail> {
-    let hundred = a_hundred_and_their_sum(rt.alloc())?;
+fn one_of_a_hundred_again(rt: HostRuntime) {
     let wanted = Sums {
         taken: 102,
         published: 101,
@@ -38,13 +53,9 @@ fn one_of_a_hundred_again(rt: HostRuntime) -> Result<(), Fail> {
         dropped: 0,
     };
     for workers in [1, 2, 4, 16] {
-        let gate = OnceForTheFirst {
-            was_asked: AtomicBool::new(false),
-        };
-        let found = sums_by(&rt, rt.alloc(), &hundred, workers, &gate);
+        let found = sums_of_a_hundred(&rt, workers);
         assert_eq!(rt; found, Some(wanted), "{workers} workers");
     }
-    Ok(())
 }
 
 /// Has the envelopes of each task delivered again the first two times that it is asked: by one
@@ -82,84 +93,72 @@ impl Gate for TwiceForEach {
 }
 
 /// A task with two links, of which the second fails.
-fn links(alloc: Global) -> Result<Worked, Memory> {
-    let report = concat!(
+const LINKS: Canvas = [
+    "+.,.>",
+    "add:1,1 mul:3 div:0",
+    concat!(
         "#1 tasks.add SUCCESS 2\n",
         "#2 tasks.mul SUCCESS 6\n",
         "#3 tasks.div FAILURE ZeroDivisionError\n",
         "result 2\n"
-    );
-    Ok(Worked {
-        text: spelled::canvas(alloc, "+.,.>", "add:1,1 mul:3 div:0")?,
-        report: spelled::report(alloc, report)?,
-    })
-}
+    ),
+];
 
-/// Each of the three messages is taken three times.
-#[test]
-fn links_again(rt: HostRuntime) -> Result<(), Fail> {
-    let links = links(rt.alloc())?;
-    let wanted = Sums {
-        taken: 9,
-        published: 3,
-        first: 3,
-        parts: 0,
-        dropped: 0,
-    };
-    for workers in [1, 2, 4, 16] {
-        let found = sums_by(&rt, rt.alloc(), &links, workers, &TwiceForEach::new());
-        assert_eq!(rt; found, Some(wanted), "{workers} workers");
-    }
-    Ok(())
-}
-
-/// Each of the four messages is taken three times; the body has none.
-#[test]
-fn a_failed_member_again(rt: HostRuntime) -> Result<(), Fail> {
-    let failing = a_failed_member(rt.alloc())?;
-    let wanted = Sums {
-        taken: 12,
-        published: 4,
-        first: 5,
-        parts: 3,
-        dropped: 0,
-    };
-    for workers in [1, 2, 4, 16] {
-        let found = sums_by(&rt, rt.alloc(), &failing, workers, &TwiceForEach::new());
-        assert_eq!(rt; found, Some(wanted), "{workers} workers");
-    }
-    Ok(())
-}
+/// A chord with a member that fails, and whose body has an error callback.
+const FAILING: Canvas = [
+    "H[.,.,.|?.>]",
+    "add:4,4 div:1,0 add:8,8 xsum: log_error:",
+    A_FAILED_MEMBER,
+];
 
 /// A chord in a header, whose only member fails: its body is failed, and so is that of the whole.
-fn nested_chords(alloc: Global) -> Result<Worked, Memory> {
-    let report = concat!(
+const NESTED: Canvas = [
+    "H[H[.|.],.|.]",
+    "div:1,0 xsum: add:1,1 xsum:",
+    concat!(
         "#1 tasks.div FAILURE ZeroDivisionError\n",
         "#2 tasks.xsum FAILURE ChordError: Dependency #1 raised ZeroDivisionError\n",
         "#3 tasks.add SUCCESS 2\n",
         "#4 tasks.xsum FAILURE ChordError: Dependency #2 raised ChordError\n",
         "result ChordError: Dependency #2 raised ChordError\n"
-    );
-    Ok(Worked {
-        text: spelled::canvas(alloc, "H[H[.|.],.|.]", "div:1,0 xsum: add:1,1 xsum:")?,
-        report: spelled::report(alloc, report)?,
-    })
+    ),
+];
+
+/// What the workers of a run with redeliveries counted.
+fn sums_again<R>(rt: &R, canvas: &Canvas, workers: u32) -> Option<Sums>
+where
+    R: Threads + Wait + RandomSource + AllocGlobal + Sync,
+{
+    let [frame, calls, report] = *canvas;
+    match of_frame(rt.alloc(), frame, calls, report) {
+        Ok(canvas) => sums_by(rt, rt.alloc(), &canvas, workers, &TwiceForEach::new()),
+        Err(_) => None,
+    }
 }
 
-/// Both messages are taken three times; the bodies have none. Each member returns its part once.
+/// Each message is taken three times; bodies that fail have none. Each member returns its part
+/// once.
 #[test]
-fn nested_chords_again(rt: HostRuntime) -> Result<(), Fail> {
-    let nested = nested_chords(rt.alloc())?;
-    let wanted = Sums {
-        taken: 6,
-        published: 2,
-        first: 4,
-        parts: 3,
-        dropped: 0,
-    };
-    for workers in [1, 2, 4, 16] {
-        let found = sums_by(&rt, rt.alloc(), &nested, workers, &TwiceForEach::new());
-        assert_eq!(rt; found, Some(wanted), "{workers} workers");
+fn each_three_times(rt: HostRuntime) {
+    for &(canvas, taken, published, first, parts) in &[
+        (&LINKS, 9, 3, 3, 0),
+        (&FAILING, 12, 4, 5, 3),
+        (&NESTED, 6, 2, 4, 3),
+    ] {
+        let wanted = Sums {
+            taken,
+            published,
+            first,
+            parts,
+            dropped: 0,
+        };
+        for workers in [1, 2, 4, 16] {
+            assert_eq!(rt;
+                sums_again(&rt, canvas, workers),
+                Some(wanted),
+                "{} by {workers} workers",
+                canvas[0]
+            );
+        }
     }
-    Ok(())
 }

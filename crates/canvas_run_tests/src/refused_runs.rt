@@ -8,7 +8,7 @@ use canvas_engine::{
     Report, RunFault, TextFault, When, read_turns, report_text, run, run_text, run_text_threads,
     run_turns, run_turns_again, run_turns_within,
 };
-use canvas_samples::spelled;
+use canvas_samples::worked::of_frame;
 use canvas_task::{Memory, Outcome, SixTasks, TaskNo};
 use canvas_worker::{Cause, Stop};
 use std::alloc::{AllocGlobal, Global};
@@ -166,9 +166,8 @@ fn reported(
     }
 }
 
-/// Whether a canvas comes to its states where the envelopes of its first two tasks are delivered
-/// again, and four stores answer Again.
-fn again(alloc: Global, canvas: &Sample, workers: u32) -> Result<bool, Memory> {
+/// The entries of a list by which the envelopes of the first two tasks are delivered again.
+fn entries(alloc: Global) -> Result<Vec<(TaskNo, When)>, Memory> {
     let mut entries = Vec::new(alloc);
     for number in [1, 2] {
         if let Some(task) = TaskNo::new(number) {
@@ -176,10 +175,29 @@ fn again(alloc: Global, canvas: &Sample, workers: u32) -> Result<bool, Memory> {
             entries.push((task, When::Late))?;
         }
     }
-    match run_turns_again(alloc, &canvas.plan, &SixTasks, workers, &[], &entries) {
-        Ok((report, number)) => Ok(ended(canvas.states.get(), Ok(report))? && number == 4),
-        Err(fault) => ended_early(canvas.states.get(), &fault),
+    Ok(entries)
+}
+
+/// Whether a canvas comes to its states where its envelopes are delivered again by these four
+/// entries, and four stores answer Again.
+fn is_again(
+    alloc: Global,
+    canvas: &Sample,
+    workers: u32,
+    entries: &[(TaskNo, When)],
+) -> Result<bool, Memory> {
+    let states = canvas.states.get();
+    match run_turns_again(alloc, &canvas.plan, &SixTasks, workers, &[], entries) {
+        Ok((report, number)) => {
+            Ok(report.rows.get().as_slice() == states.as_slice() && number == 4)
+        }
+        Err(fault) => ended_early(states, &fault),
     }
+}
+
+fn again(alloc: Global, canvas: &Sample, workers: u32) -> Result<bool, Memory> {
+    let entries = entries(alloc)?;
+    is_again(alloc, canvas, workers, &entries)
 }
 
 /// Whether a canvas's states are written as a report.
@@ -193,50 +211,61 @@ fn is_reported(alloc: Global, canvas: &Sample, report: &str) -> Result<bool, Mem
     }
 }
 
-/// Whether a canvas comes to its states, and its text to its report.
-fn comes_to<R>(
+fn by_text_threads<R>(
     rt: &R,
     alloc: Global,
     canvas: &Sample,
     text: &str,
     report: &str,
-    how: How,
 ) -> Result<bool, Memory>
 where
     R: Threads + Wait + RandomSource + AllocGlobal + Sync,
 {
-    let states = canvas.states.get();
+    let bytes = text.as_bytes();
+    let ran = run_text_threads(rt, alloc, bytes, &SixTasks, 2, &OnThreads, &Stop::new());
+    reported(alloc, canvas, ran, report)
+}
+
+fn by_text(alloc: Global, canvas: &Sample, text: &str, report: &str) -> Result<bool, Memory> {
+    let ran = run_text(alloc, text.as_bytes(), &SixTasks, 1, &[]);
+    reported(alloc, canvas, ran, report)
+}
+
+fn by_turns(alloc: Global, canvas: &Sample, workers: u32) -> Result<bool, Memory> {
+    let ran = run_turns(alloc, &canvas.plan, &SixTasks, workers, &[]);
+    ended(canvas.states.get(), ran)
+}
+
+fn within(alloc: Global, canvas: &Sample) -> Result<bool, Memory> {
+    let ran = run_turns_within(alloc, &canvas.plan, &SixTasks, 1, &[], 1_000);
+    ended(canvas.states.get(), ran)
+}
+
+/// Whether a canvas comes to its states, and its text to its report.
+fn comes_to<R>(rt: &R, canvas: &Sample, text: &str, report: &str, how: How) -> Result<bool, Memory>
+where
+    R: Threads + Wait + RandomSource + AllocGlobal + Sync,
+{
+    let alloc = rt.alloc();
     match how {
-        How::Turns(workers) => ended(
-            states,
-            run_turns(alloc, &canvas.plan, &SixTasks, workers, &[]),
-        ),
-        How::Within => ended(
-            states,
-            run_turns_within(alloc, &canvas.plan, &SixTasks, 1, &[], 1_000),
-        ),
+        How::Turns(workers) => by_turns(alloc, canvas, workers),
+        How::Within => within(alloc, canvas),
         How::Again(workers) => again(alloc, canvas, workers),
         How::Threads(workers) => by_threads(rt, alloc, canvas, workers),
         How::ByHand => by_hand(rt, alloc, canvas),
         How::Report => is_reported(alloc, canvas, report),
-        How::Text => reported(
-            alloc,
-            canvas,
-            run_text(alloc, text.as_bytes(), &SixTasks, 1, &[]),
-            report,
-        ),
-        How::TextThreads => {
-            let ran = run_text_threads(
-                rt,
-                alloc,
-                text.as_bytes(),
-                &SixTasks,
-                2,
-                &OnThreads,
-                &Stop::new(),
-            );
-            reported(alloc, canvas, ran, report)
-        }
+        How::Text => by_text(alloc, canvas, text, report),
+        How::TextThreads => by_text_threads(rt, alloc, canvas, text, report),
+    }
+}
+
+fn runs_text<R>(rt: &R, text: &str, report: &str, how: How) -> Result<bool, Memory>
+where
+    R: Threads + Wait + RandomSource + AllocGlobal + Sync,
+{
+    match sample_of_text(rt.alloc(), text) {
+        Some(canvas) => comes_to(rt, &canvas, text, report, how),
+        None => Err(Memory),
     }
 }
 
@@ -245,12 +274,8 @@ where
     R: Threads + Wait + RandomSource + AllocGlobal + Sync,
 {
     let [frame, calls, short] = *canvas;
-    let text = spelled::canvas(alloc, frame, calls)?;
-    let report = spelled::report(alloc, short)?;
-    match sample_of_text(alloc, &text) {
-        Some(canvas) => comes_to(rt, alloc, &canvas, &text, &report, how),
-        None => Err(Memory),
-    }
+    let canvas = of_frame(alloc, frame, calls, short)?;
+    runs_text(rt, &canvas.text, &canvas.report, how)
 }
 
 /// A list of turns.

@@ -8,7 +8,6 @@ use std::alloc::{AllocGlobal, Global};
 use std::random::RandomSource;
 use std::sync::Wait;
 use std::sync::atomic::{AtomicU32, Ordering};
-use std::test::Fail;
 
 /// More polls than the worker takes.
 const MOST: u32 = 100;
@@ -86,24 +85,26 @@ fn polls_to_stop<R: Wait + RandomSource + AllocGlobal>(
     None
 }
 
-/// A take, a store, a part and an acknowledgement for each of the three members, three reads, the
-/// body's store and its callback's publish, a take, a store and an acknowledgement for the
-/// callback, a take that finds nothing and the rest: twenty-two, each a poll of its own.
-#[test]
-fn stopped_before_each_poll(rt: HostRuntime) -> Result<(), Fail> {
-    let canvas = a_failed_member(rt.alloc()).ok_or("no canvas")?;
-    let polls = polls_to_stop(&rt, rt.alloc(), &canvas, 0);
-    assert!(rt; polls.is_some_and(|polls| polls >= 22), "{polls:?}");
-    Ok(())
+/// The same of a chord with a member that fails.
+fn polls_of_a_chord<R: Wait + RandomSource + AllocGlobal>(rt: &R, times: u32) -> Option<u32> {
+    match a_failed_member(rt.alloc()) {
+        Some(canvas) => polls_to_stop(rt, rt.alloc(), &canvas, times),
+        None => None,
+    }
 }
 
-/// Each of the eight deliveries is a poll more, and of each copy there is a take, a store that
-/// answers Again, and an acknowledgement.
+/// A take, a store, a part and an acknowledgement for each of the three members, three reads, the
+/// body's store and its callback's publish, a take, a store and an acknowledgement for the
+/// callback, a take that finds nothing and the rest: twenty-two, each a poll of its own. Each of
+/// eight deliveries is a poll more, and of each copy there is a take, a store that answers Again,
+/// and an acknowledgement.
 #[test]
-fn stopped_within_redeliveries(rt: HostRuntime) -> Result<(), Fail> {
-    let canvas = a_failed_member(rt.alloc()).ok_or("no canvas")?;
-    let once = polls_to_stop(&rt, rt.alloc(), &canvas, 0).ok_or("no polls")?;
-    let polls = polls_to_stop(&rt, rt.alloc(), &canvas, 8);
-    assert_eq!(rt; polls, once.checked_add(32));
-    Ok(())
+fn stopped_before_each_poll(rt: HostRuntime) {
+    match (polls_of_a_chord(&rt, 0), polls_of_a_chord(&rt, 8)) {
+        (Some(once), Some(again)) => {
+            assert!(rt; once >= 22, "{once}");
+            assert_eq!(rt; again, once.saturating_add(32));
+        }
+        other => assert!(rt; false, "{other:?}"),
+    }
 }
