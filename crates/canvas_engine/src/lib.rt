@@ -19,7 +19,6 @@ mod text;
 mod threads;
 mod turn_list;
 mod turns;
-mod worth;
 
 pub use canvas_worker::{Cause, Gate, OpenGate, Stop, When};
 pub use entry_list::{EntryFault, read_again};
