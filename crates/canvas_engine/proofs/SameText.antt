@@ -3,7 +3,6 @@ use Rattle.std.proofs.Common.{◌≡◌, ℕ, List, Option, Some, None, Result, 
 use Rattle.std.specs.Result.{result_ok}
 use Rattle.canvas_task.specs.Apply.{Behaviour}
 use Rattle.canvas_task.specs.Text.{Text}
-use Rattle.canvas_values.specs.CanvasText.{text_reading}
 use Rattle.canvas_semantics.specs.NormalLine.{normal}
 use Rattle.canvas_semantics.specs.Tree.{Tree, numbered}
 use Rattle.canvas_semantics.specs.Evaluation.{State, nothing}
