@@ -49,12 +49,7 @@ fn is_bad(value: &Datum<'_>, bad: Bad) -> bool {
 }
 
 /// What is bad in an argument, which may be an item of it, where it stands, and what is wanted.
-fn of_argument(
-    alloc: Global,
-    at: &str,
-    value: &Datum<'_>,
-    bad: Bad,
-) -> Result<String, AllocError> {
+fn of_argument(alloc: Global, at: &str, value: &Datum<'_>, bad: Bad) -> Result<String, AllocError> {
     if let Datum::List(values) = value {
         for (index, value) in values.iter().enumerate() {
             let (is_item_bad, wanted) = match bad {
