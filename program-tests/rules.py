@@ -416,14 +416,14 @@ def checks():
         yield refusal(json.loads(drawn(notation))), wanted
 
 
-def main():
-    rows = list(checks())
+def told(name, rows):
+    """Says which rows are wrong. The status."""
     wrong = [row for row in rows if row[0] != row[1]]
     for found, wanted in wrong:
-        print("rules: found %r, wanted %r" % (found, wanted), file=sys.stderr)
-    print("rules: %d rows right, %d wrong" % (len(rows) - len(wrong), len(wrong)))
+        print("%s: found %r, wanted %r" % (name, found, wanted), file=sys.stderr)
+    print("%s: %d rows right, %d wrong" % (name, len(rows) - len(wrong), len(wrong)))
     return 1 if wrong else 0
 
 
 if __name__ == "__main__":
-    sys.exit(main())
+    sys.exit(told("rules", list(checks())))

@@ -13,7 +13,7 @@ import sys
 sys.dont_write_bytecode = True
 
 import rules
-from cases import drawn, spelled
+from cases import drawn, identified
 from rules import STATES, Walk, callbacks, ends_in_group, identifier, kind_of, parts
 
 
@@ -295,3 +295,73 @@ def in_order_of_tasks(text):
     """Messages as `read_messages` has them, by tasks, as several workers publish them."""
     lines = sorted(text.splitlines(), key=lambda it: json.loads(it)["headers"]["id"])
     return "".join(it + "\n" for it in lines)
+
+
+# ---- rows that are worked out by hand
+
+FAILED_JSON = """\
+{"name":"tasks.add","result":8,"status":"SUCCESS","task_id":"#1"}
+{"name":"tasks.div","result":{"exc_message":[],"exc_type":"ZeroDivisionError"},"status":"FAILURE","task_id":"#2"}
+{"name":"tasks.add","result":16,"status":"SUCCESS","task_id":"#3"}
+{"name":"tasks.xsum","result":{"exc_message":["Dependency #2 raised ZeroDivisionError"],"exc_type":"ChordError"},"status":"FAILURE","task_id":"#4"}
+{"name":"tasks.log_error","result":4,"status":"SUCCESS","task_id":"#5"}
+{"result":{"exc_message":["Dependency #2 raised ZeroDivisionError"],"exc_type":"ChordError"},"status":"FAILURE"}
+"""
+
+FAILED_PICTURE = HEAD + r"""
+  subgraph cluster_1 {
+  label="chord 1";
+  t1 [S, label="1 tasks.add(4, 4)\nSUCCESS 8"];
+  t2 [F, label="2 tasks.div(1, 0)\nFAILURE ZeroDivisionError"];
+  t3 [S, label="3 tasks.add(8, 8)\nSUCCESS 16"];
+  }
+  t4 [F, label="4 tasks.xsum()\nFAILURE ChordError:\n2 raised ZeroDivisionError"];
+  t5 [S, label="5 tasks.log_error()\nSUCCESS 4"];
+  t1 -> t4;
+  t2 -> t4;
+  t3 -> t4;
+  t4 -> t5 [style=dashed, label="on failure"];
+}
+"""[1:].replace("[S", "[" + LOOKS[int]).replace("[F", "[" + LOOKS[str])
+
+# A canvas, and the tasks whose messages one worker publishes, in this order.
+ORDERS = [
+    (*rules.FAILED_HEADER, [1, 2, 3, 5]),
+    ("G(C(+.,.>,.),C(.,.))", "add:1,1 mul:2 mul:3 mul:4 add:2,2 mul:5", [1, 5, 2, 3, 4, 6]),
+    ("C(?.>,.)", "div:1,0 log_error: mul:2", [1, 2]),
+    ("C(.,H[|.],G(.,.))", "add:1,1 xsum: mul:1 mul:2", [1, 2, 3, 4]),
+    ("H[H[.|.],.|?.>]", "div:1,0 xsum: add:1,1 xsum: log_error:", [1, 3, 5]),
+]
+
+A_MESSAGE = """\
+{"body":[[2,3],{}],"headers":{"group":"00000000-0000-8000-9000-000000000001","id":"#3",\
+"lang":"rs","parent_id":"#1","root_id":"#1","task":"tasks.mul"},"properties":\
+{"content_encoding":"utf-8","content_type":"application/json","correlation_id":"#3"}}"""
+
+PLACES = [
+    ("G(a,G(b))", "10 NestedGroup", "/kwargs/tasks/1"),
+    ("H[H[a|G(b)],c|d]", "10 NestedGroup", "/kwargs/header/0"),
+    ("C(a,C(C(C(C(C(C(C(b,c))))))))", "11 TooDeep", "/kwargs/tasks/1" + 7 * "/kwargs/tasks/0"),
+    ("C(%s,G(a),a)" % rules.PAIRS, "11 TooDeep", ""),
+]
+
+
+def checks():
+    """What is found and what is wanted, of each row."""
+    failed = rules.canvas_of(*rules.FAILED_HEADER)
+    yield json_report(failed), (identified(FAILED_JSON), 3)
+    yield json_report(rules.canvas_of("+.>", "add:1,1 div:0"))[1], 0
+    yield in_any_order(picture(failed, True)), in_any_order(FAILED_PICTURE)
+    yield figures(failed), ("tasks 5\ngroups and chords 1\nnesting 3\nreach 4\nmessages 4\n"
+                            "bytes of messages ")
+    for frame, calls, wanted in ORDERS:
+        yield published(Walk(rules.canvas_of(frame, calls))), wanted
+    walk = Walk(rules.canvas_of("C(.,G(.,.))", "add:1,1 ident: mul:3"))
+    yield written(message(walk, 3)), identified(A_MESSAGE)
+    for notation, refused, wanted in PLACES:
+        canvas = json.loads(drawn(notation))
+        yield (rules.refusal(canvas), place_of(canvas, refused)[0]), (refused, wanted)
+
+
+if __name__ == "__main__":
+    sys.exit(rules.told("views", list(checks())))
