@@ -49,6 +49,22 @@ def json_report(canvas):
     return "".join(written(it) + "\n" for it in lines), 3 if status == "FAILURE" else 0
 
 
+# A run on Celery's workers, and an identifier of it.
+RUN = "0123456789abcdef012345"
+
+IN_RUN = "01234567-89ab-8cde-8f01-2345%08x"
+
+
+def stored(canvas):
+    """The results that Celery's workers store of the tasks that run, a line each."""
+    lines = []
+    for task, row in enumerate(Walk(canvas).rows, 1):
+        found = {"result": result_of(row.state), "status": STATES[type(row.state)],
+                 "task_id": IN_RUN % task}
+        lines.append(written(found) + "\n" if row.ran else "\n")
+    return "".join(lines)
+
+
 # ---- pictures
 
 LOOKS = {
@@ -208,7 +224,8 @@ def steps(sig):
 
 
 def places(sig, at="", depth=1, is_member=False):
-    """All signatures in file order, each with its pointer, its depth, and whether it is a member."""
+    """All signatures in file order, each with its pointer, its depth, and whether it is a
+    member."""
     yield at, sig, depth, is_member
     for more, part, deeper, is_member in steps(sig):
         yield from places(part, at + more, depth + deeper, is_member)
@@ -251,7 +268,8 @@ def published(walk):
 
     def happens(event):
         happened.add(event)
-        queue.extend(task for task, row in enumerate(walk.rows, 1) if row.ran and row.event == event)
+        queue.extend(task for task, row in enumerate(walk.rows, 1)
+                     if row.ran and row.event == event)
         for group, ends in walk.headers.items():
             ended = {walk.rows[end - 1].end(end) for end in ends}
             if ended <= happened and ("header", group) not in happened:
