@@ -218,8 +218,8 @@ def steps(sig):
             yield from ((at, it, 1, True) for at, it in in_list("/kwargs/header", header))
         yield "/kwargs/body", kwargs["body"], 1, False
     for name in ("link", "link_error"):
-        found, at = options.get(name) or [], "/options/" + name
-        for at, callback in [(at, found)] if isinstance(found, dict) else in_list(at, found):
+        found, at = options.get(name), "/options/" + name
+        for at, callback in [(at, found)] if isinstance(found, dict) else in_list(at, found or []):
             yield at, callback, 1, False
 
 
