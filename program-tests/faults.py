@@ -185,15 +185,6 @@ def first_fault(sig, at="", is_linked=False):
     return None
 
 
-def said(refusal, note, at, name):
-    """What `canvas check` says of a fault, and `canvas run --json`."""
-    code, kind = refusal.split(" ")
-    as_json = {"code": int(code), "name": kind, "note": note, "pointer": at}
-    behind = " (%s)" % name if name else ""
-    return ("at %s%s\n%s\ncanvas: refused %s\n" % (at or "the top", behind, note, refusal),
-            views.written(as_json) + "\n")
-
-
 # ---- rows that are worked out by hand
 
 ROWS = [

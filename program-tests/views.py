@@ -246,17 +246,19 @@ def place_of(canvas, refusal):
     return at, sig["task"], note
 
 
-def refused_check(canvas, refusal):
-    """What `canvas check` says of a canvas that is nested or too deep."""
+def said(refusal, note, at, name):
+    """What `canvas check` says of a refusal at a signature, and `canvas run --json`."""
+    code, kind = refusal.split(" ")
+    as_json = {"code": int(code), "name": kind, "note": note, "pointer": at}
+    behind = " (%s)" % name if name else ""
+    return ("at %s%s\n%s\ncanvas: refused %s\n" % (at or "the top", behind, note, refusal),
+            written(as_json) + "\n")
+
+
+def refused(canvas, refusal):
+    """The same of a canvas that is nested or too deep."""
     at, name, note = place_of(canvas, refusal)
-    return "at %s (%s)\n%s\ncanvas: refused %s\n" % (at or "the top", name, note, refusal)
-
-
-def refused_json(canvas, refusal):
-    """The same as JSON."""
-    at, _, note = place_of(canvas, refusal)
-    code, name = refusal.split(" ")
-    return written({"code": int(code), "name": name, "note": note, "pointer": at}) + "\n"
+    return said(refusal, note, at, name)
 
 
 # ---- messages
