@@ -131,33 +131,52 @@ class Flow(NamedTuple):
     failed   the identifier of the task that failed, for its error callbacks
     skip     an exception of a task before it in its line, with which it is skipped
     raise    the exception of a failed header, which it fails with as if by itself
+
+    It has the event that it comes of, and the task whose end that is, if there is one.
     """
     kind: str
     value: Any = None
+    event: tuple = ("start",)
+    parent: Any = None
 
 
 class Row(NamedTuple):
-    """A task: its state is a number, an exception as text, or None while it is pending."""
+    """A task: its state is a number, an exception as text, or None while it is pending. `call` has
+    its arguments where it runs. The event is that which starts it; where it doesn't run, that which
+    it fails with."""
     name: str
     state: Any
-    ran: bool
+    call: Any
+    event: tuple
+    parent: Any
+
+    @property
+    def ran(self):
+        return self.call is not None
+
+    def end(self, task):
+        """The event of its end, where this is its number."""
+        return ("end", task) if self.ran else self.event
 
 
 def row_of(sig, flow):
     """What becomes of a task."""
     if flow.kind in ("never", "skip", "raise"):
-        return Row(sig["task"], flow.value, False)
-    args = sig.get("args") or []
+        return Row(sig["task"], flow.value, None, flow.event, None)
+    args, kwargs = sig.get("args") or [], sig.get("kwargs") or {}
     if flow.kind != "start" and not sig.get("immutable"):
         args = [flow.value] + args
-    return Row(sig["task"], answer(sig["task"], args, sig.get("kwargs") or {}), True)
+    state = answer(sig["task"], args, kwargs)
+    return Row(sig["task"], state, (args, kwargs), flow.event, flow.parent)
 
 
 class Walk:
-    """One walk over a canvas in file order, which numbers the tasks and gives each its row."""
+    """One walk over a canvas in file order, which numbers the tasks and the groups and chords, and
+    gives each task its row, and the group or chord of which it ends a member. The headers are those
+    of which each member runs to its end."""
 
     def __init__(self, canvas):
-        self.rows = []
+        self.rows, self.groups, self.group_of, self.headers = [], 0, {}, {}
         self.ends = self.element(canvas, Flow("start"))[1]
 
     def element(self, sig, flow):
@@ -168,45 +187,57 @@ class Walk:
             for part in parts(sig):
                 flow, ends = self.element(part, flow)
             return flow, ends
+        self.groups += 1
+        group = self.groups
         ends = [end for member in parts(sig) for end in self.element(member, flow)[1]]
-        out = self.joined(flow, ends)
+        self.group_of.update(dict.fromkeys(ends, group))
+        out = self.joined(flow, ends, group)
         return (out, ends) if kind_of(sig) == "group" else self.element(sig["kwargs"]["body"], out)
 
     def task(self, sig, flow):
         row = row_of(sig, flow)
         self.rows.append(row)
         task = len(self.rows)
+        event = row.end(task)
         to_links = to_errbacks = Flow("never")
         if isinstance(row.state, int):
-            to_links = Flow("number", row.state)
+            to_links = Flow("number", row.state, event, task)
         elif flow.kind not in ("never", "skip"):
-            to_errbacks = Flow("failed", identifier(task))
+            to_errbacks = Flow("failed", identifier(task), event, task)
         self.callbacks(sig, "link", to_links)
         self.callbacks(sig, "link_error", to_errbacks)
-        return Flow("skip" if isinstance(row.state, str) else "number", row.state), [task]
+        kind = "skip" if isinstance(row.state, str) else "number"
+        return Flow(kind, row.state, event, task), [task]
 
     def callbacks(self, sig, name, flow):
         for callback in callbacks(sig, name):
             self.task(callback, flow)
 
-    def joined(self, flow, ends):
+    def joined(self, flow, ends, group):
         """What comes out of the members of a group or header, where `flow` came into each."""
         if flow.kind == "skip" or flow.kind == "raise" and not ends:
             return flow
+        event, parent = flow.event, flow.parent
+        if ends and flow.kind != "raise":
+            event, parent = ("header", group), None
+            self.headers[group] = ends
         states = [self.rows[end - 1].state for end in ends]
         for end, state in zip(ends, states):
             if isinstance(state, str):
                 error = "ChordError: Dependency %s raised %s"
-                return Flow("raise", error % (identifier(end), state.partition(":")[0]))
-        return Flow("numbers", states)
+                error %= (identifier(end), state.partition(":")[0])
+                return Flow("raise", error, event, parent)
+        return Flow("numbers", states, event, parent)
+
+
+STATES = {type(None): "PENDING", int: "SUCCESS", str: "FAILURE"}
 
 
 def report(canvas):
     """The text that `canvas run` prints."""
     walk = Walk(canvas)
-    names = {type(None): "PENDING", int: "SUCCESS", str: "FAILURE"}
     values = ["-" if row.state is None else str(row.state) for row in walk.rows]
-    lines = ["%s %s %s %s\n" % (identifier(task), row.name, names[type(row.state)], value)
+    lines = ["%s %s %s %s\n" % (identifier(task), row.name, STATES[type(row.state)], value)
              for task, (row, value) in enumerate(zip(walk.rows, values), 1)]
     result = ", ".join(values[end - 1] for end in walk.ends)
     return "".join(lines) + "result %s\n" % ("[%s]" % result if ends_in_group(canvas) else result)
@@ -385,14 +416,14 @@ def checks():
         yield refusal(json.loads(drawn(notation))), wanted
 
 
-def main():
-    rows = list(checks())
+def told(name, rows):
+    """Says which rows are wrong. The status."""
     wrong = [row for row in rows if row[0] != row[1]]
     for found, wanted in wrong:
-        print("rules: found %r, wanted %r" % (found, wanted), file=sys.stderr)
-    print("rules: %d rows right, %d wrong" % (len(rows) - len(wrong), len(wrong)))
+        print("%s: found %r, wanted %r" % (name, found, wanted), file=sys.stderr)
+    print("%s: %d rows right, %d wrong" % (name, len(rows) - len(wrong), len(wrong)))
     return 1 if wrong else 0
 
 
 if __name__ == "__main__":
-    sys.exit(main())
+    sys.exit(told("rules", list(checks())))
