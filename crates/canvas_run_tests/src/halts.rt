@@ -32,8 +32,8 @@ fn stored_rows(ran: &Result<String, TextFault>) -> Option<usize> {
 
 // ---- by a gate
 
-/// How many rows a text's run has stored whose gate asks its stop once it was asked so often; with
-/// none, the stop is asked before the run begins.
+/// How many rows a text's run has stored whose gate asks its stop once it was asked so often, and
+/// isn't asked for long behind that; with none, the stop is asked before the run begins.
 fn stopped_text<R>(
     rt: &R,
     alloc: Global,
@@ -51,7 +51,8 @@ where
     }
     let gate = Stopping::of(&stop, way, most.unwrap_or(u32::MAX));
     let bytes = text.as_bytes();
-    stored_rows(&run_text_threads(rt, alloc, bytes, &SixTasks, workers, &gate, &stop))
+    let rows = stored_rows(&run_text_threads(rt, alloc, bytes, &SixTasks, workers, &gate, &stop));
+    if gate.is_heeded() { rows } else { None }
 }
 
 /// The same of a hundred tasks and their sum.
