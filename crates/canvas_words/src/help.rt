@@ -10,7 +10,7 @@ pub const NOTES: &str = "\
 A report has a line for each task, `ID NAME STATE VALUE`, in the order of the file: a task, its links,
 its error callbacks, then what follows; a header before its body. Its last line is the result.
 
-`run` has its workers work on threads, each on its own where that gains time and one can be made;
+`run` has two workers and more work on threads, each on its own where one can be made;
 under `turns` they take turns on one. At a turn a worker makes one step, such as to take a message
 or to store an outcome. Whatever the workers and their turns, the report of a canvas is the same. A
 list of turns is decimal numbers from 1, separated by single commas, with no sign, space or leading

@@ -1,7 +1,7 @@
 //! What texts of 1 MiB that nobody of ours wrote cost, beside parsing them: as a canvas's file, and
 //! as a message's body.
 
-use crate::{envelope_of, hundredths};
+use crate::speed::{envelope_of, hundredths};
 use anyhow::Result;
 use canvas_codec::decode;
 use canvas_message::Envelope;

@@ -1,13 +1,6 @@
 //! What a message of about 100 KB costs, as ratios to the JSON library's own reading and writing of
-//! its body, and how fast large canvases run, by turns and on threads. Given the word `hostile` it
-//! says instead what texts that nobody of ours wrote cost. It measures where it is given a word,
-//! and else does nothing. Where something fails it says what, and gives no ratio.
-#![tactic(auto)]
-
-mod canvases;
-mod hostile;
-mod runs;
-mod threads;
+//! its body, and how fast large canvases run, by turns and on threads. Where something fails it
+//! says what, and gives no ratio.
 
 use crate::canvases::{LARGE, heavy_chains};
 use crate::hostile::{Cost, PARTS, cost_of_members, cost_of_parts};
@@ -18,8 +11,7 @@ use canvas_codec::{decode, encode};
 use canvas_message::{Envelope, Message};
 use canvas_task::ListOf;
 use serde_json::Value;
-use std::alloc::{AllocError, Global};
-use std::env;
+use std::alloc::{AllocError, AllocGlobal, Global};
 use std::random::RandomSource;
 use std::rt::Clock;
 use std::sync::Wait;
@@ -55,7 +47,7 @@ fn bytes_of(alloc: Global, text: &str) -> Result<ListOf<u8>, AllocError> {
     Ok(ListOf::of(text.as_bytes().to_vec(alloc)?))
 }
 
-fn envelope_of(alloc: Global, body: &str) -> Result<Envelope, AllocError> {
+pub(crate) fn envelope_of(alloc: Global, body: &str) -> Result<Envelope, AllocError> {
     Ok(Envelope {
         properties: bytes_of(alloc, PROPERTIES)?,
         headers: bytes_of(alloc, HEADERS)?,
@@ -97,7 +89,7 @@ fn encoding(clock: &impl Clock, alloc: Global, message: &Message) -> Result<u128
 }
 
 /// The first time in hundredths of the second.
-fn hundredths(time: u128, unit: u128) -> u128 {
+pub(crate) fn hundredths(time: u128, unit: u128) -> u128 {
     time.saturating_mul(100) / unit.max(1)
 }
 
@@ -127,7 +119,7 @@ fn writing_ratio(clock: &impl Clock, alloc: Global, body: &str) -> Result<u128> 
     Ok(hundredths(time, printing_of(clock, alloc, body)?))
 }
 
-fn print_speed(rt: &HostRuntime, name: &str, text: &str) -> Result<()> {
+fn print_speed<R: Print + Clock + AllocGlobal>(rt: &R, name: &str, text: &str) -> Result<()> {
     let speed = speed_of(rt, rt.alloc(), text)?;
     let (tasks, rate, ratio) = (speed.tasks, speed.tasks_a_second, speed.ratio);
     println!(rt;
@@ -136,7 +128,7 @@ fn print_speed(rt: &HostRuntime, name: &str, text: &str) -> Result<()> {
     Ok(())
 }
 
-fn print_speeds(rt: &HostRuntime) -> Result<()> {
+fn print_speeds<R: Print + Clock + AllocGlobal>(rt: &R) -> Result<()> {
     for large in &LARGE {
         print_speed(rt, large.name(), &large.text(rt.alloc())?)?;
     }
@@ -182,7 +174,7 @@ where
     Ok(())
 }
 
-fn print_cost(rt: &HostRuntime, name: &str, costs: &[Cost; 2]) -> Result<()> {
+fn print_cost<R: Print + Clock + AllocGlobal>(rt: &R, name: &str, costs: &[Cost; 2]) -> Result<()> {
     let [file, body] = *costs;
     let (parse, read, decode) = (file.parse, file.ratio, body.ratio);
     println!(rt;
@@ -191,14 +183,15 @@ fn print_cost(rt: &HostRuntime, name: &str, costs: &[Cost; 2]) -> Result<()> {
     Ok(())
 }
 
-fn print_costs(rt: &HostRuntime) -> Result<()> {
+/// What texts that nobody of ours wrote cost.
+pub(crate) fn print_costs<R: Print + Clock + AllocGlobal>(rt: &R) -> Result<()> {
     for part in &PARTS {
         print_cost(rt, part.0, &cost_of_parts(rt, rt.alloc(), part)?)?;
     }
     print_cost(rt, "members", &cost_of_members(rt, rt.alloc())?)
 }
 
-fn print_ratios(rt: &HostRuntime) -> Result<()> {
+fn print_ratios<R: Print + Clock + AllocGlobal>(rt: &R) -> Result<()> {
     let body = body_text(rt.alloc())?;
     let reading = reading_ratio(rt, rt.alloc(), &body)?;
     let writing = writing_ratio(rt, rt.alloc(), &body)?;
@@ -207,16 +200,13 @@ fn print_ratios(rt: &HostRuntime) -> Result<()> {
     Ok(())
 }
 
-fn main(rt: HostRuntime) -> Result<()> {
-    let words = env::args(&rt)?.skip(1).collect::<Vec<String>>(rt.alloc())?;
-    match words.first() {
-        Some(word) if word.as_str() == "hostile" => print_costs(&rt),
-        Some(_) => {
-            print_ratios(&rt)?;
-            print_speeds(&rt)?;
-            print_thread_speeds(&rt)?;
-            print_heavy_speeds(&rt)
-        }
-        None => Ok(()),
-    }
+/// What messages and large canvases cost.
+pub(crate) fn print_all<R>(rt: &R) -> Result<()>
+where
+    R: Print + Clock + Threads + Wait + RandomSource + AllocGlobal + Sync,
+{
+    print_ratios(rt)?;
+    print_speeds(rt)?;
+    print_thread_speeds(rt)?;
+    print_heavy_speeds(rt)
 }
