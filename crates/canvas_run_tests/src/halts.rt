@@ -143,18 +143,19 @@ impl<R: RandomSource> RandomSource for Drawing<'_, R> {
     }
 }
 
+fn has_no_rows(fault: &RunFault) -> bool {
+    match fault {
+        RunFault::Halted { cause, rows } => *cause == Cause::Memory && rows.is_none(),
+        _ => false,
+    }
+}
+
 /// Whether a run has no rows, since memory was refused to its executor.
 fn is_lost(ran: &Result<String, TextFault>) -> bool {
-    matches!(
-        ran,
-        Err(TextFault::Run {
-            fault: RunFault::Halted {
-                cause: Cause::Memory,
-                rows: None,
-            },
-            stored: None,
-        },)
-    )
+    match ran {
+        Err(TextFault::Run { fault, stored }) => stored.is_none() && has_no_rows(fault),
+        _ => false,
+    }
 }
 
 /// How many rows a text's run has stored whose stop is asked at a draw; and whether one that fails
