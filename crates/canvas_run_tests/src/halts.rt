@@ -84,7 +84,7 @@ fn by_a_gate(rt: HostRuntime) {
     ] {
         let alone = stopped(&rt, way, most, 1);
         assert_eq!(rt; alone, Some(one), "{way:?} after {most:?}");
-        for workers in [2, 16] {
+        for &workers in &[2, 16] {
             let rows = stopped(&rt, way, most, workers);
             assert!(rt;
                 rows.is_some_and(|rows| least <= rows && rows <= greatest),

@@ -165,8 +165,8 @@ where
 /// found nothing at first takes again as long as a message is in flight.
 #[test]
 fn calls_of_all_workers_meet(rt: HostRuntime) {
-    for group in [Group::Light, Group::Behind, Group::Heavy] {
-        for workers in [2, 4, 16] {
+    for &group in &[Group::Light, Group::Behind, Group::Heavy] {
+        for &workers in &[2, 4, 16] {
             assert!(rt;
                 meets(&rt, group, workers),
                 "{group:?} by {workers} workers"

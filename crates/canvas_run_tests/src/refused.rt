@@ -57,21 +57,21 @@ fn answer<R: Wait>(rt: &R, alloc: Global, calls: Calls) -> bool {
 
 #[test]
 fn signatures_of_canvases(rt: HostRuntime) {
-    for calls in [Calls::Signatures, Calls::Plans, Calls::Arguments] {
+    for &calls in &[Calls::Signatures, Calls::Plans, Calls::Arguments] {
         assert!(rt; answer(&rt, rt.alloc(), calls), "{calls:?}");
     }
 }
 
 #[test]
 fn messages_of_plans(rt: HostRuntime) {
-    for calls in [Calls::Messages, Calls::Effects] {
+    for &calls in &[Calls::Messages, Calls::Effects] {
         assert!(rt; answer(&rt, rt.alloc(), calls), "{calls:?}");
     }
 }
 
 #[test]
 fn objects_of_runs(rt: HostRuntime) {
-    for calls in [
+    for &calls in &[
         Calls::PlainQueue,
         Calls::Queue,
         Calls::PlainTable,
@@ -105,21 +105,21 @@ where
 
 #[test]
 fn runs_by_turns(rt: HostRuntime) {
-    for how in [How::Turns(1), How::Turns(2), How::Again(1), How::Again(2)] {
+    for &how in &[How::Turns(1), How::Turns(2), How::Again(1), How::Again(2)] {
         assert_eq!(rt; first_wrong(&rt, how), None, "{how:?}");
     }
 }
 
 #[test]
 fn runs_on_threads(rt: HostRuntime) {
-    for how in [How::Threads(2), How::ByHand] {
+    for &how in &[How::Threads(2), How::ByHand] {
         assert_eq!(rt; first_wrong(&rt, how), None, "{how:?}");
     }
 }
 
 #[test]
 fn runs_of_texts(rt: HostRuntime) {
-    for how in [How::Text, How::TextThreads] {
+    for &how in &[How::Text, How::TextThreads] {
         assert_eq!(rt; first_wrong(&rt, how), None, "{how:?}");
     }
 }
