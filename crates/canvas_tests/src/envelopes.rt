@@ -177,7 +177,7 @@ fn sum_refused(alloc: Global, part: Part) -> Option<(usize, usize)> {
 /// A text that was cut anywhere isn't JSON.
 #[test]
 fn cut_texts(rt: HostRuntime) {
-    for &part in &[Part::Properties, Part::Headers, Part::Body] {
+    for part in [Part::Properties, Part::Headers, Part::Body] {
         let found = sum_refused(rt.alloc(), part);
         assert!(rt;
             found.is_some_and(|(refused, length)| refused == length && length > 0),
