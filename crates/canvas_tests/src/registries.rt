@@ -4,8 +4,8 @@ ghost use Rattle.std.specs.Prelude.{◌≡◌, codes, ◌-ℤ◌, neg_ℤ, pos, 
 
 use crate::tasks::{BAD_CALL, BOUND, OVERFLOW, list, named};
 use canvas_task::{
-    Add, AddFault, Arg, BoxedTask, Div, Fault, Ident, Kind, LogError, Mul, OfList, OfOne, OfTwo,
-    Outcome, Registry, Task, TaskOfList, TaskOfOne, TaskOfTwo, Xsum, apply, registry_of,
+    Add, AddFault, Arg, Fault, Kind, Mul, OfList, OfOne, OfTwo, Outcome, Registry, Task,
+    TaskOfList, TaskOfOne, TaskOfTwo, registry_of,
 };
 use std::alloc::Global;
 use std::collections::BTreeMap;
@@ -181,84 +181,23 @@ fn a_task_written_whole(rt: HostRuntime) {
     assert!(rt; whole_answers(rt.alloc()));
 }
 
-/// Whether a task has a name, and answers so to 1 and 2.
-fn is_task(task: &BoxedTask, name: &str, answer: i64, none: &BTreeMap<String, Arg>) -> bool {
-    task.name() == name && task.call(&[Arg::Num(1), Arg::Num(2)], none) == Ok(answer)
-}
-
-/// Whether a task isn't added, for a cause, and what comes back answers to 1 and 2 as wanted.
-fn refuses(
-    registry: &mut Registry,
-    task: BoxedTask,
-    cause: AddFault,
-    wanted: (&str, i64),
-    none: &BTreeMap<String, Arg>,
-) -> bool {
-    let (name, answer) = wanted;
-    match registry.add(task) {
-        Ok(()) => false,
-        Err(refused) => refused.cause == cause && is_task(&refused.task, name, answer, none),
-    }
-}
-
-/// Whether a task that always answers the number is refused by a registry for its name.
-fn refuses_always(
-    registry: &mut Registry,
-    alloc: Global,
-    cause: AddFault,
-    name: &'static str,
-    number: i64,
-) -> bool {
-    match Box::new(alloc, Always { number, name }) {
-        Ok(task) => refuses(registry, task, cause, (name, number), &BTreeMap::new(alloc)),
-        Err(_) => false,
-    }
-}
-
-/// Whether a sum is refused by a registry that has one.
-fn refuses_sum(registry: &mut Registry, alloc: Global) -> bool {
-    match Box::new(alloc, Add) {
-        Ok(task) => refuses(
-            registry,
-            task,
-            AddFault::Doubled,
-            ("tasks.add", 3),
-            &BTreeMap::new(alloc),
-        ),
-        Err(_) => false,
-    }
-}
-
-fn sum_stays(registry: &Registry, alloc: Global) -> bool {
-    let ones = [Arg::Num(1), Arg::Num(1)];
-    registry.apply("tasks.add", &ones, &BTreeMap::new(alloc)) == Outcome::Success(2)
-}
-
-/// Whether a registry with a sum refuses two of its name, and keeps it.
-fn doubles_are_refused(alloc: Global) -> bool {
-    match registry_of!(alloc; Add) {
-        Ok(registry) => {
-            let mut registry = registry;
-            refuses_always(&mut registry, alloc, AddFault::Doubled, "tasks.add", 5)
-                && refuses_sum(&mut registry, alloc)
-                && sum_stays(&registry, alloc)
-        }
-        Err(_) => false,
+/// Why no registry is made of a sum and a task that always answers 5, if it isn't.
+fn refused_for(alloc: Global, name: &'static str) -> Option<AddFault> {
+    match registry_of!(alloc; Add, Always { number: 5, name }) {
+        Ok(_) => None,
+        Err(cause) => Some(cause),
     }
 }
 
 #[test]
-fn tasks_of_a_name_that_is_there(rt: HostRuntime) {
-    assert!(rt; doubles_are_refused(rt.alloc()));
-}
-
-#[test]
-fn tasks_of_bad_names(rt: HostRuntime) {
-    let alloc = rt.alloc();
-    let mut registry = Registry::new(alloc);
-    for &name in &["", "a b", "tasks.\u{e9}"] {
-        let refused = refuses_always(&mut registry, alloc, AddFault::BadName, name, 6);
-        assert!(rt; refused, "{name}");
+fn tasks_that_are_refused(rt: HostRuntime) {
+    for &(name, cause) in &[
+        ("tests.five", None),
+        ("tasks.add", Some(AddFault::Doubled)),
+        ("a b", Some(AddFault::BadName)),
+        ("", Some(AddFault::BadName)),
+    ] {
+        assert_eq!(rt; refused_for(rt.alloc(), name), cause, "{name}");
     }
 }
 
@@ -289,45 +228,4 @@ fn past_and_at(registry: &Registry, none: &BTreeMap<String, Arg>) -> [Outcome; 2
 fn answers_out_of_range(rt: HostRuntime) {
     let wanted = [OVERFLOW, Outcome::Success(-BOUND)];
     assert_eq!(rt; around_the_bound(rt.alloc()), Some(wanted));
-}
-
-/// Whether a registry answers to a call by each name what the six do.
-fn answer_as_six(registry: &Registry, args: &[Arg], none: &BTreeMap<String, Arg>) -> bool {
-    [
-        "tasks.add",
-        "tasks.mul",
-        "tasks.div",
-        "tasks.xsum",
-        "tasks.ident",
-        "tasks.log_error",
-        "nope",
-    ]
-    .iter()
-    .all(|name| registry.apply(name, args, none) == apply(name, args, none))
-}
-
-/// Whether it does so to two numbers and to one.
-fn numbers_as_six(alloc: Global, registry: &Registry) -> bool {
-    let none = BTreeMap::new(alloc);
-    let numbers = [Arg::Num(-7), Arg::Num(2)];
-    answer_as_six(registry, &numbers, &none) && answer_as_six(registry, &numbers[..1], &none)
-}
-
-fn list_as_six(alloc: Global, registry: &Registry) -> bool {
-    match list(alloc, &[1, 2]) {
-        Ok(list) => answer_as_six(registry, &[list], &BTreeMap::new(alloc)),
-        Err(_) => false,
-    }
-}
-
-fn six_answer(alloc: Global) -> bool {
-    match registry_of!(alloc; LogError, Ident, Xsum, Div, Mul, Add) {
-        Ok(registry) => numbers_as_six(alloc, &registry) && list_as_six(alloc, &registry),
-        Err(_) => false,
-    }
-}
-
-#[test]
-fn six_as_objects(rt: HostRuntime) {
-    assert!(rt; six_answer(rt.alloc()));
 }

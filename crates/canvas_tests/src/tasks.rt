@@ -3,9 +3,8 @@
 ghost use Rattle.std.specs.Prelude.{◌≡◌, ◌≤◌};
 
 use canvas_task::{
-    Arg, Fault, GroupNo, Kind, ListOf, MapOf, Memory, Outcome, TaskNo, TextOf, Why, apply,
-    copy_args, copy_kwargs, group_of_text, group_text, name_ok, outcome_of, task_of_text,
-    task_text, word_of,
+    AddFault, Arg, Fault, GroupNo, Kind, ListOf, Memory, Outcome, TaskNo, Why, apply,
+    group_of_text, group_text, name_ok, outcome_of, task_of_text, task_text, word_of,
 };
 use std::alloc::{AllocError, Global};
 use std::collections::BTreeMap;
@@ -289,6 +288,16 @@ fn texts(rt: HostRuntime) {
     );
     assert!(rt; prints(alloc, &Kind::NotRegistered, "NotRegistered"));
     assert!(rt; prints(alloc, &Memory, "memory refused"));
+    for (fault, text) in &[
+        (
+            AddFault::BadName,
+            "a task with a name that no task may have",
+        ),
+        (AddFault::Doubled, "a second task of a name"),
+        (AddFault::Memory, "memory refused"),
+    ] {
+        assert!(rt; prints(alloc, fault, text), "{text}");
+    }
 }
 
 #[test]
@@ -299,52 +308,4 @@ fn names(rt: HostRuntime) {
     for &name in &["", " ", "a b", "tasks.\u{e9}", "\u{7f}"] {
         assert!(rt; !name_ok(name), "{name}");
     }
-}
-
-/// A number, a list and a text.
-fn some_args(alloc: Global) -> Result<ListOf<Arg>, AllocError> {
-    let text = Arg::Text(TextOf::of(String::from_str(alloc, "x")?));
-    Ok(ListOf::of(vec![in alloc; Arg::Num(1), list(alloc, &[2, 3])?, text]?))
-}
-
-fn copies_args(alloc: Global) -> bool {
-    match some_args(alloc) {
-        Ok(args) => match copy_args(&args) {
-            Ok(copy) => copy == args,
-            Err(_) => false,
-        },
-        Err(_) => false,
-    }
-}
-
-/// A named number and a named list.
-fn some_kwargs(alloc: Global) -> Result<MapOf<Arg>, AllocError> {
-    let mut kwargs = named(alloc, "y", 2)?;
-    drop(kwargs.insert(String::from_str(alloc, "a")?, list(alloc, &[4])?)?);
-    Ok(MapOf::of(kwargs))
-}
-
-/// Whether the copy is these, of which two are a number `y` and another.
-fn copies_kwargs(alloc: Global, kwargs: &MapOf<Arg>) -> bool {
-    match copy_kwargs(alloc, kwargs) {
-        Ok(copy) => {
-            copy.get() == kwargs.get()
-                && copy.get().len() == 2
-                && copy.get().get("y") == Some(&Arg::Num(2))
-        }
-        Err(_) => false,
-    }
-}
-
-/// Whether some are copied as they are.
-fn copies_some_kwargs(alloc: Global) -> bool {
-    match some_kwargs(alloc) {
-        Ok(kwargs) => copies_kwargs(alloc, &kwargs),
-        Err(_) => false,
-    }
-}
-
-#[test]
-fn copies(rt: HostRuntime) {
-    assert!(rt; copies_args(rt.alloc()) && copies_some_kwargs(rt.alloc()));
 }
