@@ -1,7 +1,8 @@
 //! Large canvases.
 
+use crate::shop;
 use anyhow::Result;
-use canvas_rewrite::{Plan, freeze, normalise};
+use canvas_rewrite::Plan;
 use canvas_sig::read_canvas;
 use std::alloc::{AllocError, Global};
 
@@ -135,7 +136,5 @@ pub(crate) fn heavy_chains(alloc: Global, members: u32, length: u32) -> Result<S
 
 /// The plan of a canvas's text.
 pub(crate) fn plan_of(alloc: Global, text: &str) -> Result<Plan> {
-    let canvas = read_canvas(alloc, text.as_bytes())?;
-    let line = normalise(alloc, &canvas)?;
-    Ok(freeze(alloc, &line)?)
+    shop::plan_of(alloc, &read_canvas(alloc, text.as_bytes())?)
 }

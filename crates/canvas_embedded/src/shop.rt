@@ -4,7 +4,7 @@
 ghost use Rattle.std.specs.Prelude.{◌-ℤ◌, Ok};
 
 use anyhow::Result;
-use canvas_engine::{OpenGate, Stop, report_text, run};
+use canvas_engine::{OpenGate, Report, Stop, report_text, run};
 use canvas_rewrite::{Plan, freeze, normalise};
 use canvas_sig::{Canvas, Node};
 use canvas_task::{Add, Kind, OfTwo, TaskOfTwo, Xsum, registry_of};
@@ -33,10 +33,24 @@ fn sums(alloc: Global) -> Result<Node, AllocError> {
     Node::chord(alloc, header, Node::call(alloc, "tasks.xsum", &[])?)
 }
 
-fn plan_of(alloc: Global, node: Node) -> Result<Plan> {
-    let canvas = Canvas::of(alloc, node)?;
-    let line = normalise(alloc, &canvas)?;
+pub(crate) fn plan_of(alloc: Global, canvas: &Canvas) -> Result<Plan> {
+    let line = normalise(alloc, canvas)?;
     Ok(freeze(alloc, &line)?)
+}
+
+/// The report of a plan, by four workers.
+fn report_of<R>(rt: &R, alloc: Global, plan: &Plan) -> Result<Report>
+where
+    R: Threads + Wait + RandomSource + AllocGlobal + Sync,
+{
+    let change = TaskOfTwo {
+        name: "shop.change",
+        parameters: ("paid", "price"),
+        answers: Change,
+    };
+    let registry = registry_of!(alloc; Add, Xsum, change)?;
+    let (report, _records) = run(rt, alloc, plan, &registry, 4, &OpenGate, &Stop::new())?;
+    Ok(report)
 }
 
 pub(crate) fn print_report<R>(rt: &R) -> Result<()>
@@ -44,15 +58,8 @@ where
     R: Print + Threads + Wait + RandomSource + AllocGlobal + Sync,
 {
     let alloc = rt.alloc();
-    let change = TaskOfTwo {
-        name: "shop.change",
-        parameters: ("paid", "price"),
-        answers: Change,
-    };
-    let registry = registry_of!(alloc; Add, Xsum, change)?;
-    let plan = plan_of(alloc, sums(alloc)?)?;
-    let (report, _records) = run(rt, alloc, &plan, &registry, 4, &OpenGate, &Stop::new())?;
-    let text = report_text(alloc, &plan, &report)?;
-    print!(rt; "{text}")?;
+    let plan = plan_of(alloc, &Canvas::of(alloc, sums(alloc)?)?)?;
+    let report = report_of(rt, alloc, &plan)?;
+    print!(rt; "{}", report_text(alloc, &plan, &report)?)?;
     Ok(())
 }
