@@ -66,8 +66,8 @@ where
     }
 }
 
-/// A worker stores the outcome for which it has asked the gate, and then sees the stop. One that the
-/// gate holds back sees it at its next poll. Where envelopes are delivered again, one worker is
+/// A worker stores the outcome for which it has asked the gate, and then sees the stop. One that
+/// the gate holds back sees it at its next poll. Where envelopes are delivered again, one worker is
 /// asked before the store of each task and behind it.
 #[test]
 fn by_a_gate(rt: HostRuntime) {
