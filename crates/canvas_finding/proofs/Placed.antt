@@ -1,12 +1,13 @@
 -- Where a text of JSON is refused, a signature has the refusal.
-use Rattle.std.proofs.Common.{◌≡◌, ◌≢◌, ℕ, suc, ◌<◌, ◌≤◌, Bool, true, false, Option, Some, None, IsSome, Err, find, option_and_then, length, refl, sym, ap, ap₂, subst, ◌∙◌, arith}
+use Rattle.std.proofs.Common.{◌≡◌, ◌≢◌, ℕ, suc, ◌<◌, ◌≤◌, Bool, true, false, Option, Some, None, IsSome, is_some, Err, find, option_and_then, length, refl, sym, ap, ap₂, subst, ◌∙◌, arith}
 use Rattle.std.specs.Prelude.{if◌then◌else◌, nat_lt, ◌||◌}
 use Rattle.std.proofs.lemmas.Bool.{le-ltb}
 use Rattle.serde_json.specs.Data.{Data, depth}
 use Rattle.canvas_semantics.specs.Bounds.{most_tasks, most_groups, nests_group, is_too_deep as is_tree_too_deep, is_too_many}
 use Rattle.canvas_semantics.specs.Tree.{Tree, count, count_groups}
+use Rattle.canvas_task.specs.Text.{Text}
 use Rattle.canvas_values.specs.Answers.{◌or_else◌, fault_if, judged}
-use Rattle.canvas_values.specs.CanvasText.{most_bytes, json_of, canvas_reading, json_canvas}
+use Rattle.canvas_values.specs.CanvasText.{most_bytes, json_of, canvas_reading, json_canvas, text_reading}
 use Rattle.canvas_values.specs.Fields.{subtype}
 use Rattle.canvas_values.specs.Grammar.{not_signature, bad_args, bad_number, on_canvas, frozen, empty_chain, fault_as, own_fault, primitive_of}
 use Rattle.canvas_values.specs.LimitRefusals.{tree_fault}
@@ -16,9 +17,12 @@ use Rattle.canvas_values.specs.declared.fault.SigFault.TheVariants as fault
 use Rattle.canvas_values.specs.declared.primitive.Primitive.{Primitive}
 use Rattle.canvas_values.proofs.Depth.{fault_enough, tree_enough}
 use Rattle.canvas_values.proofs.Law.{fault_left}
+use Rattle.canvas_finding.specs.declared.finding.Spot.{Spot}
+use Rattle.canvas_finding.specs.declared.finding.Spot.TheVariants as spot
+use Rattle.canvas_finding.specs.Finding.{StandsAt, IsFoundAs}
 use Rattle.canvas_finding.specs.FileOrder.{Sighted, sighted_within, signatures}
 use Rattle.canvas_finding.specs.Limits.{most_levels, is_nested, is_task, is_counted_group, past, too_deep, is_too_deep, place_of}
-use Rattle.canvas_finding.specs.Placed.{EachHasPlace}
+use Rattle.canvas_finding.specs.Placed.{EachHasPlace, WholeIsTooLarge}
 use Rattle.canvas_finding.specs.Refused.{refusal_of, first_refused}
 use Rattle.canvas_finding.proofs.Counting.{number, is_found, none_past}
 use Rattle.canvas_finding.proofs.FirstFault.{first_refusal}
@@ -182,3 +186,29 @@ each_placed e other bytes d json h =
     let refused = canvas_refused (nat_lt most_bytes (length bytes)) (json_of bytes) d e other json h in
     either_placed d e (signature_fault d) (low_enough bytes d json) refl
     (refused_by (signature_fault d or_else tree_fault (tree_said d)) (tree_said d) e refused)
+
+-- no text of JSON is named as a whole
+never_whole : (bytes : Text) (e : SigFault) (at : Spot) → e ≢ fault.TooLarge → text_reading bytes ≡ Err e → StandsAt bytes e at → at ≡ spot.Text → ⊥
+never_whole bytes e spot.Text other h (d, json, nowhere) is =
+    let there = each_placed e other bytes d json h in
+    let clash : true ≡ false = sym there ∙ ap is_some nowhere in cc
+never_whole bytes e (spot.Json line column) other h stands is = cc
+never_whole bytes e (spot.Signature steps) other h stands is = cc
+
+found_whole : (bytes : Text) (e : SigFault) (at : Spot) → text_reading bytes ≡ Err e → IsFoundAs bytes e at → at ≡ spot.Text → e ≡ fault.TooLarge
+found_whole bytes fault.TooLarge at h found is = refl
+found_whole bytes fault.NotJson at h found is = absurd (never_whole bytes fault.NotJson at (λ same. cc) h found is)
+found_whole bytes fault.Memory at h found is = absurd (never_whole bytes fault.Memory at (λ same. cc) h found is)
+found_whole bytes fault.NestedGroup at h found is = absurd (never_whole bytes fault.NestedGroup at (λ same. cc) h found is)
+found_whole bytes fault.TooDeep at h found is = absurd (never_whole bytes fault.TooDeep at (λ same. cc) h found is)
+found_whole bytes fault.TooMany at h found is = absurd (never_whole bytes fault.TooMany at (λ same. cc) h found is)
+found_whole bytes fault.NotSignature at h found is = absurd (never_whole bytes fault.NotSignature at (λ same. cc) h found is)
+found_whole bytes fault.UnknownPrimitive at h found is = absurd (never_whole bytes fault.UnknownPrimitive at (λ same. cc) h found is)
+found_whole bytes fault.BadArgs at h found is = absurd (never_whole bytes fault.BadArgs at (λ same. cc) h found is)
+found_whole bytes fault.BadNumber at h found is = absurd (never_whole bytes fault.BadNumber at (λ same. cc) h found is)
+found_whole bytes fault.OnCanvas at h found is = absurd (never_whole bytes fault.OnCanvas at (λ same. cc) h found is)
+found_whole bytes fault.Frozen at h found is = absurd (never_whole bytes fault.Frozen at (λ same. cc) h found is)
+found_whole bytes fault.EmptyChain at h found is = absurd (never_whole bytes fault.EmptyChain at (λ same. cc) h found is)
+
+pub whole_text : WholeIsTooLarge
+whole_text bytes f found is = found_whole bytes f.fault f.spot found.0 found.1 is

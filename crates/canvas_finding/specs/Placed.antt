@@ -5,7 +5,10 @@ use Rattle.canvas_task.specs.Text.{Text}
 use Rattle.canvas_values.specs.CanvasText.{json_of, text_reading}
 use Rattle.canvas_values.specs.declared.fault.SigFault.{SigFault}
 use Rattle.canvas_values.specs.declared.fault.SigFault.TheVariants.{TooLarge}
+use Rattle.canvas_finding.specs.Finding.{IsFound}
 use Rattle.canvas_finding.specs.Limits.{place_of}
+use Rattle.canvas_finding.specs.declared.finding.Finding.{Finding}
+use Rattle.canvas_finding.specs.declared.finding.Spot.TheVariants as spot
 
 -- a text with this refusal has a signature where it stands
 abbrev pub HasPlace : SigFault → Type 0
@@ -15,3 +18,9 @@ HasPlace fault =
 
 abbrev pub EachHasPlace : Type 0
 EachHasPlace = (fault : SigFault) → fault ≢ TooLarge → HasPlace fault
+
+-- what is found names a text as a whole only where that is too large
+abbrev pub WholeIsTooLarge : Type 0
+WholeIsTooLarge =
+    (bytes : Text) (f : Finding) → IsFound bytes (Some f) → f.spot ≡ spot.Text
+    → f.fault ≡ TooLarge

@@ -4,7 +4,7 @@
 ghost use Rattle.std.specs.Prelude.{◌≡◌, option_and_then};
 ghost use Rattle.serde_json.specs.Data.{Data};
 ghost use Rattle.canvas_values.specs.Refusals.{signature_fault};
-ghost use Rattle.canvas_finding.specs.Placed.{EachHasPlace};
+ghost use Rattle.canvas_finding.specs.Placed.{EachHasPlace, WholeIsTooLarge};
 ghost use Rattle.canvas_finding.specs.Refused.{refusal_of, first_refused};
 
 mod arguments;
@@ -27,9 +27,10 @@ pub fn law_of_first_refusals()
     ensures { (d : Data) → option_and_then refusal_of (first_refused d) ≡ signature_fault d }
 {}
 
-/// A text of JSON that is refused, and not for its size, is refused at a signature: `find` never
-/// names it as a whole.
-#[tactic(auto, using(crate::proofs::Placed::each_placed))]
+/// A text of JSON that is refused, and not for its size, is refused at a signature. So what is
+/// found names a text as a whole only where that is too large.
+#[tactic(auto, using(crate::proofs::Placed::each_placed, crate::proofs::Placed::whole_text))]
 pub fn law_of_places()
-    ensures { EachHasPlace }
+    ensures each { EachHasPlace }
+    ensures whole { WholeIsTooLarge }
 {}
