@@ -51,7 +51,8 @@ tasks_behind : (s : Step) (xs : List Sighted) → number is_task (map (behind (s
 tasks_behind s [] = refl
 tasks_behind s (x ∷ xs) = ap (λ n. one_if (is_task x) + n) (tasks_behind s xs)
 
-module _ (f : Data → Task) (q : Data → Option SigFault) (g : Data → List Sighted) (seen : (d : Data) → q d ≡ None → count_task (f d) ≤ number is_task (g d)) where
+module _ (f : Data → Task) (q : Data → Option SigFault) (g : Data → List Sighted) (seen : (d : Data) → q d
+    ≡ None → count_task (f d) ≤ number is_task (g d)) where
   each_task : (es : List (Step × Data)) → first_fault q (data_of es) ≡ None → count_tasks (tasks_of (map f (data_of es))) ≤ number is_task (in_each g es)
   each_task [] h = omega arith
   each_task (e ∷ es) h =
@@ -69,11 +70,18 @@ module _ (f : Data → Task) (q : Data → Option SigFault) (g : Data → List S
 links_seen : (n : ℕ) → ((d : Data) → fault_left n true d ≡ None → count_task (task_within n d) ≤ number is_task (sighted_within n true d))
     → (linked : Bool) (d : Data) → Quiet n linked d
     → count_task (task_within (suc n) d)
-    ≤ 1 + number is_task (in_each (sighted_within n true) (some_in field.Links (link d)) ++ in_each (sighted_within n true) (some_in field.Errbacks (link_error d)))
+    ≤ 1 + number is_task (in_each (sighted_within n true) (some_in field.Links (link d)) ++ in_each (sighted_within n true) (some_in field.Errbacks
+    (link_error d)))
 links_seen n seen linked d q =
     let links = some_tasks (task_within n) (fault_left n true) (sighted_within n true) seen field.Links (link d) q.links in
     let errbacks = some_tasks (task_within n) (fault_left n true) (sighted_within n true) seen field.Errbacks (link_error d) q.errbacks in
-    omega (arith, links, errbacks, number_both is_task (in_each (sighted_within n true) (some_in field.Links (link d))) (in_each (sighted_within n true) (some_in field.Errbacks (link_error d))))
+    omega (
+      arith,
+      links,
+      errbacks,
+      number_both is_task (in_each (sighted_within n true) (some_in field.Links (link d))) (in_each
+          (sighted_within n true) (some_in field.Errbacks (link_error d))),
+    )
 
 linked_seen : (n : ℕ) (d : Data) → fault_left n true d ≡ None → count_task (task_within n d) ≤ number is_task (sighted_within n true d)
 linked_seen zero d h = absurd cc
@@ -81,9 +89,16 @@ linked_seen (suc n) d h =
     let q = all_quiet n true d h in
     let here : one_if (is_task_kind (primitive_of (subtype d))) ≡ 1 = ap (λ p. one_if (is_task_kind p)) (only_task d (primitive_of (subtype d)) q.its_own) in
     let more = in_each (sighted_within n true) (some_in field.Links (link d)) ++ in_each (sighted_within n true) (some_in field.Errbacks (link_error d)) in
-    omega (arith, here, links_seen n (linked_seen n) true d q, number_both is_task (in_each (sighted_within n false) (in_kwargs (primitive_of (subtype d)) d)) more)
+    omega (
+      arith,
+      here,
+      links_seen n (linked_seen n) true d q,
+      number_both is_task (in_each (sighted_within n false) (in_kwargs (primitive_of
+          (subtype d)) d)) more,
+    )
 
-tasks_level : (n : ℕ) → Inner tasks_measure n → (d : Data) → fault_left (suc n) false d ≡ None → count (tree_within (suc n) d) ≤ number is_task (sighted_within (suc n) false d)
+tasks_level : (n : ℕ) → Inner tasks_measure n → (d : Data) → fault_left (suc n) false d ≡ None
+    → count (tree_within (suc n) d) ≤ number is_task (sighted_within (suc n) false d)
 tasks_level n inner d h =
     let q = all_quiet n false d h in
     of_level tasks_measure n inner d q (λ is. task_alone (primitive_of (subtype d)) _ _ is (links_seen n (linked_seen n) false d q))
@@ -163,7 +178,8 @@ groups_inner (suc n) =
     let counted : Step → Data → ℕ = λ s d. number is_counted_group (map (behind (s ∷ [])) (sighted_within (suc n) false d)) in
     let inner_of : Data → ℕ = λ d. number is_counted_group (inside (sighted_within n) d) in
     let own : Data → Bool = λ d. is_group_kind (primitive_of (subtype d)) in
-    let known : (s : Step) (d : Data) → one_if (is_counted_group (behind (s ∷ []) (itself false d))) ≡ one_if (own d) → fault_left (suc n) false d ≡ None → count_groups (tree_within (suc n) d) ≤ counted s d =
+    let known : (s : Step) (d : Data) → one_if (is_counted_group (behind (s ∷ []) (itself false d))) ≡ one_if (own d) → fault_left (suc n) false d
+    ≡ None → count_groups (tree_within (suc n) d) ≤ counted s d =
     λ s d is h. subst (λ k. count_groups (tree_within (suc n) d) ≤ k)
     (sym (behind_level is_counted_group groups_measure.looks s n false d ∙ ap (λ k. k + inner_of d) is)) (groups_level n (groups_inner n) d h) in
     record {
@@ -171,12 +187,16 @@ groups_inner (suc n) =
       member = λ i d. known (at field.Members (Some i)) d (and_true (own d));
       in_header = λ i d. known (at field.Header (Some i)) d (and_true (own d));
       header_group = λ d h. subst (λ k. count_all_groups (members_in (tree_within (suc n) d)) ≤ k)
-          (sym (behind_level is_counted_group groups_measure.looks (at field.Header None) n false d ∙ ap (λ k. k + inner_of d) (and_none (own d)) ∙ zero_more (inner_of d)))
-          (less_own _ _ (one_if (own d)) _ (header_counts (task_within (suc n) d) (tree_within n) (primitive_of (subtype d)) d) (groups_level n (groups_inner n) d h));
+          (sym (behind_level is_counted_group groups_measure.looks (at field.Header None) n false d ∙ ap (λ k. k + inner_of d) (and_none (own d))
+          ∙ zero_more (inner_of d)))
+          (less_own _ _ (one_if (own d)) _ (header_counts (task_within (suc n) d) (tree_within n) (primitive_of (subtype d)) d) (groups_level n
+          (groups_inner n) d h));
       body = λ d. known (at field.Body None) d (and_true (own d));
     }
 
-pub groups_seen : (n : ℕ) (d : Data) → fault_left (suc n) false d ≡ None → count_groups (tree_within (suc n) d) ≤ number is_counted_group (sighted_within (suc n) false d)
+pub groups_seen : (n : ℕ) (d : Data) → fault_left (suc n) false d ≡ None
+    → count_groups (tree_within (suc n) d) ≤ number is_counted_group (sighted_within (suc n) false d)
 groups_seen n d h =
-    subst (λ k. count_groups (tree_within (suc n) d) ≤ k + number is_counted_group (inside (sighted_within n) d)) (sym (and_true (is_group_kind (primitive_of (subtype d)))))
+    subst (λ k. count_groups (tree_within (suc n) d) ≤ k + number is_counted_group (inside (sighted_within n) d)) (sym (and_true (is_group_kind
+    (primitive_of (subtype d)))))
     (groups_level n (groups_inner n) d h)

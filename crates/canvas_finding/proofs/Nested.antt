@@ -127,11 +127,14 @@ module _ (levels : ℕ) where
       → one_if (nested_by levels (behind (s ∷ []) (itself false d))) + nests (tree_within (suc n) d) ≤ counted s d =
       λ s d h. more_than (one_if (nested_by levels (behind (s ∷ []) (itself false d)))) _ _ _
       (behind_level (nested_by levels) (nested_measure levels).looks s n false d) (nested_level n (nested_inner n (omega arith)) d h) in
-      let ends : (d : Data) → fault_left (suc n) false d ≡ None → ends_in_group levels d ≡ ends_so (tree_within (suc n) d) = λ d h. same_end (suc n) levels low d h in
+      let ends : (d : Data) → fault_left (suc n) false d ≡ None → ends_in_group levels d
+      ≡ ends_so (tree_within (suc n) d) = λ d h. same_end (suc n) levels low d h in
       record {
         element = λ i d h. without _ _ _ (known (at field.Elements (Some i)) d h);
-        member = λ i d h. subst (λ b. one_if b + nests (tree_within (suc n) d) ≤ counted (at field.Members (Some i)) d) (ends d h) (known (at field.Members (Some i)) d h);
-        in_header = λ i d h. subst (λ b. one_if b + nests (tree_within (suc n) d) ≤ counted (at field.Header (Some i)) d) (ends d h) (known (at field.Header (Some i)) d h);
+        member = λ i d h. subst (λ b. one_if b + nests (tree_within (suc n) d) ≤ counted (at field.Members (Some i)) d) (ends d h) (known
+            (at field.Members (Some i)) d h);
+        in_header = λ i d h. subst (λ b. one_if b + nests (tree_within (suc n) d) ≤ counted (at field.Header (Some i)) d) (ends d h) (known
+            (at field.Header (Some i)) d h);
         header_group = λ d h. less_than _ _ _ (header_nests (tree_within (suc n) d)) (without _ _ _ (known (at field.Header None) d h));
         body = λ d h. without _ _ _ (known (at field.Body None) d h);
       }

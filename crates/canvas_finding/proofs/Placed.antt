@@ -42,7 +42,8 @@ IsOwn fault.TooDeep = ⊥
 IsOwn fault.TooMany = ⊥
 IsOwn e = Unit {0}
 
-own_or : (b : Bool) (here : SigFault) (rest : Option SigFault) (e : SigFault) → IsOwn here → (rest ≡ Some e → IsOwn e) → (fault_if b here or_else rest) ≡ Some e → IsOwn e
+own_or : (b : Bool) (here : SigFault) (rest : Option SigFault) (e : SigFault) → IsOwn here → (rest ≡ Some e → IsOwn e)
+    → (fault_if b here or_else rest) ≡ Some e → IsOwn e
 own_or true here rest e own more h = let same : here ≡ e = cc in subst IsOwn same own
 own_or false here rest e own more h = more h
 
@@ -92,7 +93,8 @@ Says nests many fault.TooMany = many ≡ true
 Says nests many e = ⊥
 
 says : (nests deep many : Bool) (e : SigFault)
-    → (if nests then Some fault.NestedGroup else (if deep then Some fault.TooDeep else (if many then Some fault.TooMany else None))) ≡ Some e → Says nests many e
+    → (if nests then Some fault.NestedGroup else (if deep then Some fault.TooDeep else (if many then Some fault.TooMany else None))) ≡ Some e
+    → Says nests many e
 says true deep many e h = let same : fault.NestedGroup ≡ e = cc in subst (Says true many) same refl
 says false true many e h = let same : fault.TooDeep ≡ e = cc in subst (Says false many) same tt
 says false false true e h = let same : fault.TooMany ≡ e = cc in subst (Says false true) same refl

@@ -52,7 +52,8 @@ all_quiet n linked d h =
       errbacks = last.1;
     }
 
-pub fine_header : (linked : Bool) (d : Data) → fault_as linked d (Some kind.Chord) ≡ None → ((is_list (header d) || is_group (header d)) ≡ true) × (is_null (body d) ≡ false)
+pub fine_header : (linked : Bool) (d : Data) → fault_as linked d (Some kind.Chord) ≡ None
+    → ((is_list (header d) || is_group (header d)) ≡ true) × (is_null (body d) ≡ false)
 fine_header linked d h =
     let parts = neither (not (is_list (header d) || is_group (header d))) (is_null (body d)) (fine linked kind.Chord d h).its_members in
     (back (is_list (header d) || is_group (header d)) parts.0, parts.1)
@@ -106,7 +107,8 @@ module _ (m : Measure) (n : ℕ) where
       let other : seen (e ∷ es) ≡ count_of m.test here + seen es = number_both m.test here (in_each (sighted_within n false) es) in
       omega arith
 
-  module _ (k : Field) (weight : Tree → ℕ) (all : Trees → ℕ) (none : all no_trees ≡ 0) (more : (t : Tree) (ts : Trees) → all (and_tree t ts) ≡ weight t + all ts)
+  module _ (k : Field) (weight : Tree → ℕ) (all : Trees → ℕ) (none : all no_trees ≡ 0) (more : (t : Tree) (ts : Trees) → all (and_tree t ts)
+      ≡ weight t + all ts)
       (known : (i : ℕ) → Known m n (at k (Some i)) weight) where
     each : (i : ℕ) (ds : List Data) → first_fault (fault_left n false) ds ≡ None → all (trees_of (map (tree_within n) ds)) ≤ seen (from_index k i ds)
     each i [] h = omega (arith, none)
@@ -115,8 +117,10 @@ module _ (m : Measure) (n : ℕ) where
         let here = map (behind (at k (Some i) ∷ [])) (sighted_within n false d) in
         let first : weight (tree_within n d) ≤ count_of m.test here = known i d q.0 in
         let others : all (trees_of (map (tree_within n) ds)) ≤ seen (from_index k (suc i) ds) = each (suc i) ds q.1 in
-        let sum : all (trees_of (map (tree_within n) (d ∷ ds))) ≡ weight (tree_within n d) + all (trees_of (map (tree_within n) ds)) = more (tree_within n d) (trees_of (map (tree_within n) ds)) in
-        let both : seen (from_index k i (d ∷ ds)) ≡ count_of m.test here + seen (from_index k (suc i) ds) = number_both m.test here (in_each (sighted_within n false) (from_index k (suc i) ds)) in
+        let sum : all (trees_of (map (tree_within n) (d ∷ ds))) ≡ weight (tree_within n d) + all (trees_of (map (tree_within n) ds)) =
+        more (tree_within n d) (trees_of (map (tree_within n) ds)) in
+        let both : seen (from_index k i (d ∷ ds)) ≡ count_of m.test here + seen (from_index k (suc i) ds) =
+        number_both m.test here (in_each (sighted_within n false) (from_index k (suc i) ds)) in
         omega arith
 
   module _ (inner : Inner m n) where
@@ -162,12 +166,20 @@ module _ (m : Measure) (n : ℕ) where
         let parts = first_then (fault_left n false) (as_list (header d)) (body d) h in
         let its_header = of_header (header d) fit.0 parts.0 in
         let its_body = of_body (body d) fit.1 parts.1 in
-        omega (arith, its_header, its_body, m.of_chord (header_of (tree_within n) (header d)) (tree_within n (body d)), seen_both (some_in field.Header (header d)) (one_in field.Body (body d)))
+        omega (
+          arith,
+          its_header,
+          its_body,
+          m.of_chord (header_of (tree_within n) (header d)) (tree_within n (body d)),
+          seen_both
+              (some_in field.Header (header d)) (one_in field.Body (body d)),
+        )
 
     -- and with what it counts itself
     pub of_level : (d : Data) → Quiet n false d → (primitive_of (subtype d) ≡ Some kind.Task
         → m.of (one (task_within (suc n) d)) ≤ m.own (primitive_of (subtype d))
-        + count_of m.test (in_each (sighted_within n true) (some_in field.Links (link d)) ++ in_each (sighted_within n true) (some_in field.Errbacks (link_error d))))
+        + count_of m.test (in_each (sighted_within n true) (some_in field.Links (link d)) ++ in_each (sighted_within n true) (some_in field.Errbacks
+        (link_error d))))
         → m.of (tree_within (suc n) d) ≤ m.own (primitive_of (subtype d)) + count_of m.test (inside (sighted_within n) d)
     of_level d q alone =
         let rest = in_each (sighted_within n true) (some_in field.Links (link d)) ++ in_each (sighted_within n true) (some_in field.Errbacks (link_error d)) in
