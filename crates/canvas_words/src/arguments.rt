@@ -1,53 +1,187 @@
-//! The arguments that several commands take.
+//! The arguments of the commands.
 
 use clap::builder::ValueParser;
 use clap::{Arg, ArgAction};
-use std::alloc::Global;
+use std::alloc::{AllocError, Global};
 
 /// How many workers a run has at most.
 pub const MOST_WORKERS: u32 = 16;
 
-pub(crate) fn file_argument<'a>(alloc: Global) -> Arg<'a> {
-    Arg::new(alloc, "FILE")
-        .required(true)
-        .help("The canvas as JSON; `-` is standard input")
+/// What stands behind an argument's name.
+#[derive(Clone, Copy)]
+pub(crate) enum Takes {
+    /// Nothing, and no name is written either: the word is the argument.
+    Word,
+    /// Nothing: it is there or not.
+    Nothing,
+    Text(&'static str),
+    /// A whole number between two.
+    Number(&'static str, u64, u64),
 }
 
-pub(crate) fn workers_argument<'a>(alloc: Global) -> Arg<'a> {
-    Arg::new(alloc, "workers")
-        .long("workers")
-        .value_name("N")
-        .value_parser(ValueParser::unsigned(1, MOST_WORKERS.into()))
-        .default_value("1")
-        .help("How many workers run it, from 1 to 16")
+/// Whether an argument has to be given.
+#[derive(Clone, Copy)]
+pub(crate) enum Given {
+    Always,
+    Maybe,
+    /// It is this where it isn't.
+    Else(&'static str),
 }
 
-pub(crate) fn turns_argument<'a>(alloc: Global) -> Arg<'a> {
-    Arg::new(alloc, "turns")
-        .long("turns")
-        .value_name("LIST")
-        .help("Which worker goes on at each turn, as 1,2,2; behind the list they take turns from 1")
+/// An argument as the commands' lists have it.
+#[derive(Clone, Copy)]
+pub(crate) struct Argument {
+    name: &'static str,
+    takes: Takes,
+    given: Given,
+    help: &'static str,
 }
 
-pub(crate) fn again_argument<'a>(alloc: Global) -> Arg<'a> {
-    Arg::new(alloc, "again")
-        .long("again")
-        .value_name("LIST")
-        .help(
-            "What is delivered again, as 1:early,3:late; standard error counts stores that answer Again",
-        )
+pub(crate) const FILE: Argument = Argument {
+    name: "FILE",
+    takes: Takes::Word,
+    given: Given::Always,
+    help: "The canvas as JSON; `-` is standard input",
+};
+
+/// The file where standard input has something else.
+pub(crate) const FILE_ALONE: Argument = Argument {
+    name: "FILE",
+    takes: Takes::Word,
+    given: Given::Always,
+    help: "The canvas as JSON, in a file",
+};
+
+pub(crate) const WORKERS: Argument = Argument {
+    name: "workers",
+    takes: Takes::Number("N", 1, MOST_WORKERS as u64),
+    given: Given::Else("1"),
+    help: "How many workers run it, from 1 to 16",
+};
+
+pub(crate) const TURNS: Argument = Argument {
+    name: "turns",
+    takes: Takes::Text("LIST"),
+    given: Given::Maybe,
+    help: "Which worker goes on at each turn, as 1,2,2; behind the list they take turns from 1",
+};
+
+pub(crate) const AGAIN: Argument = Argument {
+    name: "again",
+    takes: Takes::Text("LIST"),
+    given: Given::Maybe,
+    help: "What is delivered again, as 1:early,3:late; standard error counts stores that answer Again",
+};
+
+pub(crate) const JSON: Argument = Argument {
+    name: "json",
+    takes: Takes::Nothing,
+    given: Given::Maybe,
+    help: "Prints each task, and then the result, as a JSON object in a line; refusals too",
+};
+
+pub(crate) const FAIL: Argument = Argument {
+    name: "fail",
+    takes: Takes::Nothing,
+    given: Given::Maybe,
+    help: "Ends with status 3 where the canvas's result is a failure",
+};
+
+pub(crate) const STATES: Argument = Argument {
+    name: "run",
+    takes: Takes::Nothing,
+    given: Given::Maybe,
+    help: "Runs the canvas, and shows the state and value of each task",
+};
+
+pub(crate) const RUN: Argument = Argument {
+    name: "run",
+    takes: Takes::Text("HEX22"),
+    given: Given::Always,
+    help: "The run: 22 lower-case hexadecimal digits that no other run on this Redis has",
+};
+
+pub(crate) const QUEUE: Argument = Argument {
+    name: "queue",
+    takes: Takes::Text("NAME"),
+    given: Given::Else("celery"),
+    help: "The queue that the workers read",
+};
+
+pub(crate) const PREFIX: Argument = Argument {
+    name: "prefix",
+    takes: Takes::Text("TEXT"),
+    given: Given::Maybe,
+    help: "What the result backend puts before its keys (global_keyprefix)",
+};
+
+pub(crate) const EXPIRES: Argument = Argument {
+    name: "expires",
+    takes: Takes::Number("SECONDS", 1, 1_000_000_000),
+    given: Given::Else("86400"),
+    help: "How long a chord's size is kept (result_expires)",
+};
+
+pub(crate) const BROKER_DATABASE: Argument = Argument {
+    name: "broker-db",
+    takes: Takes::Number("N", 0, 1_000_000),
+    given: Given::Maybe,
+    help: "The database of the queue, where commands are to choose it",
+};
+
+pub(crate) const BACKEND_DATABASE: Argument = Argument {
+    name: "backend-db",
+    takes: Takes::Number("N", 0, 1_000_000),
+    given: Given::Maybe,
+    help: "The database of the results, where commands are to choose it",
+};
+
+pub(crate) const WITHOUT_SCRIPT: Argument = Argument {
+    name: "without-script",
+    takes: Takes::Nothing,
+    given: Given::Maybe,
+    help: "Starts it by a transaction, where Redis takes no EVAL; a run given twice then runs twice",
+};
+
+pub(crate) const COMPLETE: Argument = Argument {
+    name: "complete",
+    takes: Takes::Nothing,
+    given: Given::Maybe,
+    help: "Gives tasks that a failure reaches their state, where Celery leaves them pending",
+};
+
+impl Argument {
+    fn named<'a>(&self, alloc: Global) -> Arg<'a> {
+        let argument = Arg::new(alloc, self.name).help(self.help);
+        match self.takes {
+            Takes::Word => argument,
+            Takes::Nothing => argument.long(self.name).action(ArgAction::SetTrue),
+            Takes::Text(value) => argument.long(self.name).value_name(value),
+            Takes::Number(value, least, most) => argument
+                .long(self.name)
+                .value_name(value)
+                .value_parser(ValueParser::unsigned(least, most)),
+        }
+    }
+
+    fn as_clap<'a>(&self, alloc: Global) -> Arg<'a> {
+        let argument = self.named(alloc);
+        match self.given {
+            Given::Always => argument.required(true),
+            Given::Maybe => argument,
+            Given::Else(value) => argument.default_value(value),
+        }
+    }
 }
 
-pub(crate) fn json_argument<'a>(alloc: Global) -> Arg<'a> {
-    Arg::new(alloc, "json")
-        .long("json")
-        .action(ArgAction::SetTrue)
-        .help("Prints each task, and then the result, as a JSON object in a line; refusals too")
-}
-
-pub(crate) fn fail_argument<'a>(alloc: Global) -> Arg<'a> {
-    Arg::new(alloc, "fail")
-        .long("fail")
-        .action(ArgAction::SetTrue)
-        .help("Ends with status 3 where the canvas's result is a failure")
+/// The arguments of a list, in its order.
+pub(crate) fn arguments_of<'a>(
+    alloc: Global,
+    list: &[Argument],
+) -> Result<Vec<Arg<'a>>, AllocError> {
+    let mut arguments = Vec::with_capacity(alloc, list.len())?;
+    for argument in list {
+        arguments.push(argument.as_clap(alloc))?;
+    }
+    Ok(arguments)
 }

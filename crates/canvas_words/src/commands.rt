@@ -1,74 +1,94 @@
-//! The words of the commands that are answered here.
+//! The commands, each with its arguments.
 
 use crate::arguments::{
-    again_argument, fail_argument, file_argument, json_argument, turns_argument, workers_argument,
+    AGAIN, Argument, BACKEND_DATABASE, BROKER_DATABASE, COMPLETE, EXPIRES, FAIL, FILE, FILE_ALONE,
+    JSON, PREFIX, QUEUE, RUN, STATES, TURNS, WITHOUT_SCRIPT, WORKERS, arguments_of,
 };
-use clap::{Arg, ArgAction, Command};
+use clap::Command;
 use std::alloc::{AllocError, Global};
 
-pub(crate) fn run_command<'a>(alloc: Global) -> Result<Command<'a>, AllocError> {
-    let arguments = vec![in alloc;
-        file_argument(alloc),
-        workers_argument(alloc),
-        json_argument(alloc),
-        fail_argument(alloc),
-    ]?;
-    Command::new(alloc, "run")
-        .about("Runs a canvas and prints the state and result of each task")
-        .args(arguments)
+/// A command as the program's list has it.
+pub(crate) struct Form {
+    pub(crate) name: &'static str,
+    about: &'static str,
+    arguments: &'static [Argument],
 }
 
-pub(crate) fn turns_command<'a>(alloc: Global) -> Result<Command<'a>, AllocError> {
-    let arguments = vec![in alloc;
-        file_argument(alloc),
-        workers_argument(alloc),
-        turns_argument(alloc),
-        again_argument(alloc),
-        json_argument(alloc),
-        fail_argument(alloc),
-    ]?;
-    Command::new(alloc, "turns")
-        .about("Runs a canvas with its workers taking turns by a list, and prints the same")
-        .args(arguments)
+/// The commands, in the order in which help names them.
+pub(crate) const COMMANDS: [Form; 9] = [
+    Form {
+        name: "run",
+        about: "Runs a canvas and prints the state and result of each task",
+        arguments: &[FILE, WORKERS, JSON, FAIL],
+    },
+    Form {
+        name: "turns",
+        about: "Runs a canvas with its workers taking turns by a list, and prints the same",
+        arguments: &[FILE, WORKERS, TURNS, AGAIN, JSON, FAIL],
+    },
+    Form {
+        name: "normal",
+        about: "Prints a canvas's normal line as JSON",
+        arguments: &[FILE],
+    },
+    Form {
+        name: "check",
+        about: "Prints the figures of a canvas, or where it is refused and what is wanted there",
+        arguments: &[FILE],
+    },
+    Form {
+        name: "graph",
+        about: "Prints a canvas as a picture, in the language of Graphviz's `dot`",
+        arguments: &[FILE, STATES, WORKERS],
+    },
+    Form {
+        name: "messages",
+        about: "Prints each message that a run by turns publishes, as JSON with its three texts",
+        arguments: &[FILE, WORKERS, TURNS],
+    },
+    Form {
+        name: "export",
+        about: "Prints the commands for Redis that start a canvas on Celery's workers",
+        arguments: &[
+            FILE,
+            RUN,
+            QUEUE,
+            PREFIX,
+            EXPIRES,
+            BROKER_DATABASE,
+            BACKEND_DATABASE,
+            WITHOUT_SCRIPT,
+        ],
+    },
+    Form {
+        name: "keys",
+        about: "Prints the keys of a canvas's results on Redis, one a line",
+        arguments: &[FILE, RUN, PREFIX],
+    },
+    Form {
+        name: "collect",
+        about: "Prints the report of a canvas from its results on standard input, one a line",
+        arguments: &[FILE_ALONE, RUN, COMPLETE, JSON],
+    },
+];
+
+impl Form {
+    fn as_clap<'a>(&self, alloc: Global) -> Result<Command<'a>, AllocError> {
+        let arguments = arguments_of(alloc, self.arguments)?;
+        Command::new(alloc, self.name)
+            .about(self.about)
+            .args(arguments)
+    }
 }
 
-pub(crate) fn normal_command<'a>(alloc: Global) -> Result<Command<'a>, AllocError> {
-    Command::new(alloc, "normal")
-        .about("Prints a canvas's normal line as JSON")
-        .arg(file_argument(alloc))
-}
-
-pub(crate) fn check_command<'a>(alloc: Global) -> Result<Command<'a>, AllocError> {
-    Command::new(alloc, "check")
-        .about("Prints the figures of a canvas, or where it is refused and what is wanted there")
-        .arg(file_argument(alloc))
-}
-
-fn states_argument<'a>(alloc: Global) -> Arg<'a> {
-    Arg::new(alloc, "run")
-        .long("run")
-        .action(ArgAction::SetTrue)
-        .help("Runs the canvas, and shows the state and value of each task")
-}
-
-pub(crate) fn graph_command<'a>(alloc: Global) -> Result<Command<'a>, AllocError> {
-    let arguments = vec![in alloc;
-        file_argument(alloc),
-        states_argument(alloc),
-        workers_argument(alloc),
-    ]?;
-    Command::new(alloc, "graph")
-        .about("Prints a canvas as a picture, in the language of Graphviz's `dot`")
-        .args(arguments)
-}
-
-pub(crate) fn messages_command<'a>(alloc: Global) -> Result<Command<'a>, AllocError> {
-    let arguments = vec![in alloc;
-        file_argument(alloc),
-        workers_argument(alloc),
-        turns_argument(alloc),
-    ]?;
-    Command::new(alloc, "messages")
-        .about("Prints each message that a run by turns publishes, as JSON with its three texts")
-        .args(arguments)
+/// The command of a name, or all where none has it.
+pub(crate) fn commands_of<'a>(alloc: Global, name: &str) -> Result<Vec<Command<'a>>, AllocError> {
+    let is_one = COMMANDS.iter().any(|form| form.name == name);
+    let mut commands = Vec::new(alloc);
+    for form in &COMMANDS {
+        if !is_one || form.name == name {
+            commands.push(form.as_clap(alloc)?)?;
+        }
+    }
+    Ok(commands)
 }

@@ -2,7 +2,6 @@
 #![tactic(auto)]
 
 mod arguments;
-mod celery;
 mod commands;
 mod help;
 mod program;
