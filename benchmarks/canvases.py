@@ -1,0 +1,160 @@
+"""The canvases that are timed, as texts of JSON, each with its name. They are the same each time."""
+import json
+
+LENGTH = 1 << 20  # the most bytes that a canvas may have
+
+
+def call(name, *args, **options):
+    """A call of a task: `link` and `link_error` are lists of signatures, `immutable` a bool."""
+    immutable = options.pop("immutable", False)
+    callbacks = {name: signatures for name, signatures in options.items() if signatures}
+    return {
+        "task": f"tasks.{name}",
+        "args": list(args),
+        "kwargs": {},
+        "options": callbacks,
+        "subtask_type": None,
+        "immutable": immutable,
+    }
+
+
+def primitive(kind, **kwargs):
+    return {
+        "task": f"celery.{kind}",
+        "args": [],
+        "kwargs": kwargs,
+        "options": {},
+        "subtask_type": kind,
+        "immutable": False,
+    }
+
+
+def chain(tasks):
+    return primitive("chain", tasks=list(tasks))
+
+
+def group(tasks):
+    return primitive("group", tasks=list(tasks))
+
+
+def chord(header, body):
+    return primitive("chord", header=list(header), body=body)
+
+
+def sums(count):
+    return [call("add", number, number) for number in range(count)]
+
+
+def line(count):
+    return chain([call("add", 1, 1), *(call("add", 1) for _ in range(count - 1))])
+
+
+def towers(depth):
+    """A chord whose first member is such a chord, and so on."""
+    if depth == 0:
+        return call("add", 1, 1)
+    return chord([towers(depth - 1), *sums(2)], call("xsum"))
+
+
+def numbers(first, count):
+    return list(range(first, first + count))
+
+
+def heavy_line(length, count):
+    """A chain of sums over so many numbers each. What follows a task travels in its message."""
+    return chain([call("xsum", numbers(1_000 + i, count), immutable=True) for i in range(length)])
+
+
+def failing(count):
+    """Members of which every second fails, all with callbacks, and a body that is skipped."""
+    header = [
+        call("div", i, i % 2, link=[call("ident")], link_error=[call("log_error")])
+        for i in range(count)
+    ]
+    return chord(header, chain([call("xsum", link_error=[call("log_error")]), *sums(200)]))
+
+
+def stages(count, width):
+    """Groups and sums in turn, each task with callbacks."""
+    tasks = []
+    for stage in range(count):
+        first = [1] if stage == 0 else []
+        tasks.append(
+            group(
+                call("add", *first, i, link=[call("ident")], link_error=[call("log_error")])
+                for i in range(width)
+            )
+        )
+        tasks.append(call("xsum"))
+    return chain(tasks)
+
+
+# What a user's canvases are of, at the sizes where a run's cost shows.
+KINDS = {
+    "one task": lambda: call("add", 2, 2),
+    "a chain of 200 tasks": lambda: line(200),
+    "a chain of 1,000": lambda: line(1_000),
+    "a group of 1,000": lambda: group(sums(1_000)),
+    "a task, then a group of 1,000": lambda: chain(
+        [call("add", 1, 1), group(call("add", i) for i in range(1_000))]
+    ),
+    "a chord of 1,000 into a sum": lambda: chord(sums(1_000), call("xsum")),
+    "300 chains of three into a sum": lambda: chord(
+        [line(3) for _ in range(300)], call("xsum")
+    ),
+    "a chord whose body is a chain": lambda: chord(
+        sums(300),
+        chain([call("xsum"), *(call("add", 1, link_error=[call("log_error")]) for _ in range(300))]),
+    ),
+    "40 towers of six chords": lambda: chord([towers(6) for _ in range(40)], call("xsum")),
+    "a chain of 20, 50 links each": lambda: chain(
+        call("add", *([1, 1] if i == 0 else [1]), link=[call("add", k) for k in range(50)])
+        for i in range(20)
+    ),
+    "ten groups of one, each summed": lambda: stages(10, 1),
+    "250 members, half of them failing": lambda: failing(250),
+    "ten stages of 33 with callbacks": lambda: stages(10, 33),
+    "16 chains of 60 tasks": lambda: group(line(60) for _ in range(16)),
+    "16 chains of 60 heavy tasks": lambda: group(heavy_line(60, 190) for _ in range(16)),
+    "a chain of 400 heavy tasks": lambda: heavy_line(400, 450),
+    "200 members that carry 600 KB": lambda: chord(
+        sums(200), call("xsum", numbers(0, 99_000), immutable=True)
+    ),
+}
+
+# Canvases of one kind with ever more tasks.
+GROWING = {
+    "a chain": line,
+    "a group": lambda count: group(sums(count)),
+    "a chord": lambda count: chord(sums(count), call("xsum")),
+}
+
+
+def text_of(canvas):
+    return json.dumps(canvas, separators=(",", ":"))
+
+
+def filled(part, depth=0, opening="", closing=""):
+    """A canvas of nearly the greatest length, a member of which holds equal parts."""
+    one = opening * depth + part + closing * depth
+    before, behind = '{"task":"tasks.add","args":[1,1],"x":[', "]}"
+    room = LENGTH - len(before) - len(behind) + 1
+    return before + ",".join([one] * (room // (len(one) + 1))) + behind
+
+
+def many_members():
+    members = ",".join(f'"{number:x}":0' for number in range(100_000))
+    return '{"task":"tasks.add","args":[1,1],"x":{' + members + "}}"
+
+
+# Texts of 1 MiB that nobody of ours wrote.
+HOSTILE = {
+    "objects of one member, 118 deep": lambda: filled("0", 118, '{"a":', "}"),
+    "lists of one item, 118 deep": lambda: filled("0", 118, "[", "]"),
+    "empty lists": lambda: filled("[]"),
+    "empty objects": lambda: filled("{}"),
+    "numbers of one digit": lambda: filled("7"),
+    "numbers of 18 digits": lambda: filled("123456789012345678"),
+    "texts of escapes": lambda: filled('"' + "".join(f"\\u00{c:x}" for c in range(65, 73)) + '"'),
+    "100,000 members": many_members,
+}
