@@ -4,6 +4,7 @@ A case begins with a line `== NAME`. The first sign of each other line says what
 
     $ WORDS     the words behind `canvas`, by the rules of a shell; several such lines are several runs
     $- WORDS    the same, with escapes
+    $~ WORDS    the same, in which `{3:x}` stands for `x,x,x`
     < LINE      a line of the input (the last one has no line feed)
     <+ TEXT     goes on with the line before
     <- TEXT     the same, with escapes
@@ -137,6 +138,7 @@ class Case:
         {
             "$": lambda: self.runs.append(shlex.split(text)),
             "$-": lambda: self.runs.append([unescaped(word) for word in shlex.split(text)]),
+            "$~": lambda: self.runs.append(shlex.split(repeated(text))),
             "<": lambda: self.add_line(text),
             "<+": lambda: self.add(text),
             "<-": lambda: self.add(unescaped(text)),

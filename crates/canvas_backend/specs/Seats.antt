@@ -1,12 +1,14 @@
 -- What contracts see of a backend and of a seat, and what its calls tell: the clauses of
 -- canvas_history's Callers, at the backend (Lamport's sequential consistency).
 --     Desk, Seat          a backend, and a seat
+--     Knowledge, Mine     what a seat keeps of its callers; caller_of, seen_of what it shows
 --     as_caller s         the seat as a caller
 --     Stands, Parted, Joined, Adds, LeavesOne    as they are said of callers
-use Rattle.std.specs.Prelude.{ℕ}
+use Rattle.std.specs.Prelude.{ℕ, List, [], ◌∷◌}
 use Rattle.atomic_table.specs.Seated.{TableId}
+use Rattle.atomic_table.specs.Table.{Me}
 use Rattle.canvas_history.specs.Callers as callers
-use Rattle.canvas_history.specs.Callers.{Caller, owing_none}
+use Rattle.canvas_history.specs.Callers.{Caller, Hat, owing_none}
 use Rattle.canvas_history.specs.History.{Entry}
 use Rattle.canvas_backend.specs.Roster.{Roster}
 use Rattle.canvas_backend.specs.Backend.{TableCall, TableReply, Log, no_results, reply_of, next_of, May}
@@ -22,6 +24,28 @@ pub record Seat : Type 0 where
   pub of : TableId
   pub name : ℕ
   pub seen : Log
+
+-- What a seat knows: the callers that it stands for, each with what it has seen. It is one, but two
+-- in the middle of a split or a join.
+abbrev pub Knowledge : Type 0
+Knowledge = List (Hat TableCall TableReply)
+
+abbrev pub Mine : Type 0
+Mine = Me Unit Knowledge
+
+abbrev pub first_caller : Knowledge → ℕ
+first_caller [] = 0
+first_caller (h ∷ hs) = h.0
+
+abbrev pub first_seen : Knowledge → Log
+first_seen [] = []
+first_seen (h ∷ hs) = h.1
+
+abbrev pub caller_of : Mine → ℕ
+caller_of me = first_caller me.0
+
+abbrev pub seen_of : Mine → Log
+seen_of me = first_seen me.0
 
 -- its joins stand at once: it answers for itself alone, and owes none
 abbrev pub as_caller : Seat → Caller TableId TableCall TableReply

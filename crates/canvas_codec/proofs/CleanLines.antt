@@ -7,7 +7,7 @@ use Rattle.canvas_sig.specs.steps.Clean.{IsAbove, behind_members, IsClean, AreCl
 use Rattle.canvas_semantics.specs.Tree.{Call}
 use Rattle.canvas_sig.specs.Writing.{args_wire, kwargs_wire, member_unless_empty, tasks_member, chord_members}
 use Rattle.canvas_sig.proofs.CleanWire.{args_clean, above_behind, kwargs_clean, all_above, args_depth, kwargs_depth}
-use Rattle.canvas_sig.proofs.ComposedLemmas.{both}
+use Rattle.canvas_values.proofs.ComposedLemmas.{both}
 use Rattle.canvas_semantics.specs.Line.{in_group}
 use Rattle.canvas_semantics.specs.PlacedLine.{PTask, p_task, PTasks, no_p_tasks, and_p_task, PPlace, p_nowhere, p_group, p_chord, PLine, p_stop, p_step, p_group_end, p_chord_end, PLines, no_p_lines, and_p_line, strip}
 use Rattle.canvas_message.specs.Fits.{is_task_number, size_ok, task_ok, tasks_ok, place_ok, line_ok, members_ok, task_reach, tasks_reach, place_reach, line_reach, greatest_reach, members_reach}

@@ -6,7 +6,7 @@ use Rattle.std.proofs.lemmas.Str.{is_utf8-from_IsUtf8}
 use Rattle.serde_json.specs.Data.{Data, depth}
 use Rattle.serde_json.specs.Read.{read, max_depth}
 use Rattle.serde_json.specs.Written.{compact_text}
-use Rattle.canvas_sig.specs.CanvasText.{json_of}
+use Rattle.canvas_values.specs.CanvasText.{json_of}
 use Rattle.canvas_sig.specs.steps.Clean.{IsClean}
 use Rattle.canvas_task.specs.Text.{Text}
 use Rattle.canvas_sig.proofs.ReadsAgain.{text_read}

@@ -8,14 +8,14 @@ use Rattle.std.specs.List.{list_any}
 use Rattle.std.specs.Option.{option_and_then}
 use Rattle.serde_json.specs.Data.{Data, null, array, item, no_items}
 use Rattle.serde_json.specs.Find.{get}
-use Rattle.canvas_sig.specs.CanvasText.{json_of}
-use Rattle.canvas_sig.specs.Refusals.{named_of}
+use Rattle.canvas_values.specs.CanvasText.{json_of}
+use Rattle.canvas_values.specs.Refusals.{named_of}
 use Rattle.canvas_task.specs.Text.{Text}
-use Rattle.canvas_sig.specs.Fields.{field, listed, object_members, contents, is_null, is_list, is_object, is_object_or_null, is_list_or_null}
-use Rattle.canvas_sig.specs.Answers.{fault_if, in_turn, judged}
-use Rattle.canvas_sig.specs.Grammar.{argument_of, arg_reading, named_reading, is_name, is_text}
-use Rattle.canvas_sig.specs.declared.fault.SigFault.{SigFault}
-use Rattle.canvas_sig.specs.declared.fault.SigFault.TheVariants.{BadArgs}
+use Rattle.canvas_values.specs.Fields.{field, listed, object_members, contents, is_null, is_list, is_object, is_object_or_null, is_list_or_null}
+use Rattle.canvas_values.specs.Answers.{fault_if, in_turn, judged}
+use Rattle.canvas_values.specs.Grammar.{argument_of, arg_reading, named_reading, is_name, is_text}
+use Rattle.canvas_values.specs.declared.fault.SigFault.{SigFault}
+use Rattle.canvas_values.specs.declared.fault.SigFault.TheVariants.{BadArgs}
 use Rattle.canvas_semantics.specs.PlacedLine.{PTask, PLine, p_step}
 use Rattle.canvas_rewrite.specs.FrozenView.{p_steps}
 use Rattle.canvas_message.specs.Content.{Content}

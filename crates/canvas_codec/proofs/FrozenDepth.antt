@@ -9,13 +9,13 @@ use Rattle.serde_json.specs.Data.{Data, null, boolean, number, string, array, ob
 use Rattle.serde_json.specs.Read.{max_depth, read}
 use Rattle.serde_json.proofs.Nesting.{depth-read}
 use Rattle.canvas_task.specs.Text.{Text}
-use Rattle.canvas_sig.specs.CanvasText.{json_of}
-use Rattle.canvas_sig.specs.Fields.{object_members, text_of, is_list_or_null, is_object_or_null, field, subtype, option, tasks, header, body, link, link_error, listed, as_list, is_null}
-use Rattle.canvas_sig.specs.Grammar.{argument_of, own_fault, primitive_of}
-use Rattle.canvas_sig.specs.Refusals.{named_of}
-use Rattle.canvas_sig.specs.declared.primitive.Primitive.{Primitive}
-use Rattle.canvas_sig.specs.declared.primitive.Primitive.TheVariants as kind
-use Rattle.canvas_sig.proofs.Depth.{AllLow, field_low, listed_low, inner_low, link_low, same_map}
+use Rattle.canvas_values.specs.CanvasText.{json_of}
+use Rattle.canvas_values.specs.Fields.{object_members, text_of, is_list_or_null, is_object_or_null, field, subtype, option, tasks, header, body, link, link_error, listed, as_list, is_null}
+use Rattle.canvas_values.specs.Grammar.{argument_of, own_fault, primitive_of}
+use Rattle.canvas_values.specs.Refusals.{named_of}
+use Rattle.canvas_values.specs.declared.primitive.Primitive.{Primitive}
+use Rattle.canvas_values.specs.declared.primitive.Primitive.TheVariants as kind
+use Rattle.canvas_values.proofs.Depth.{AllLow, field_low, listed_low, inner_low, link_low, same_map}
 use Rattle.canvas_rewrite.specs.FrozenView.{p_tasks_of, p_lines_of}
 use Rattle.canvas_semantics.specs.PlacedLine.{PTask, p_task, PPlace, p_nowhere, p_group, p_chord, PLine, p_step, p_stop, p_group_end, p_chord_end}
 use Rattle.canvas_message.specs.FrozenGrammar.{task_of, group_of, is_chain, levels}

@@ -6,15 +6,15 @@ use Rattle.std.specs.List.{list_all, list_any}
 use Rattle.serde_json.specs.Data.{Data, number}
 use Rattle.serde_json.specs.Find.{as_i64}
 use Rattle.canvas_task.specs.declared.arg.Arg.{Arg}
-use Rattle.canvas_sig.specs.Refusals.{named_of, spelled_call}
+use Rattle.canvas_values.specs.Refusals.{named_of, spelled_call}
 use Rattle.canvas_task.specs.Text.{Text}
-use Rattle.canvas_sig.specs.Fields.{field, subtype, option, args, kwargs, tasks, header, body, link, link_error, listed, as_list, object_members, contents, is_null, is_list}
-use Rattle.canvas_sig.specs.Answers.{◌>>=◌, ◌or_else◌, fault_if, unless, judged, in_turn}
-use Rattle.canvas_sig.specs.Grammar.{some_or_zero, whole_number, argument_of, arg_reading, named_reading, kind_ok, numbers_ok, args_ok, not_signature, bad_args, fault_as, own_fault, primitive_of}
-use Rattle.canvas_sig.specs.declared.fault.SigFault.{SigFault}
-use Rattle.canvas_sig.specs.declared.fault.SigFault.TheVariants.{NotSignature, UnknownPrimitive, BadArgs, BadNumber, OnCanvas, Frozen, TooMany}
-use Rattle.canvas_sig.specs.declared.primitive.Primitive.{Primitive}
-use Rattle.canvas_sig.specs.declared.primitive.Primitive.TheVariants as kind
+use Rattle.canvas_values.specs.Fields.{field, subtype, option, args, kwargs, tasks, header, body, link, link_error, listed, as_list, object_members, contents, is_null, is_list}
+use Rattle.canvas_values.specs.Answers.{◌>>=◌, ◌or_else◌, fault_if, unless, judged, in_turn}
+use Rattle.canvas_values.specs.Grammar.{some_or_zero, whole_number, argument_of, arg_reading, named_reading, kind_ok, numbers_ok, args_ok, not_signature, bad_args, fault_as, own_fault, primitive_of}
+use Rattle.canvas_values.specs.declared.fault.SigFault.{SigFault}
+use Rattle.canvas_values.specs.declared.fault.SigFault.TheVariants.{NotSignature, UnknownPrimitive, BadArgs, BadNumber, OnCanvas, Frozen, TooMany}
+use Rattle.canvas_values.specs.declared.primitive.Primitive.{Primitive}
+use Rattle.canvas_values.specs.declared.primitive.Primitive.TheVariants as kind
 use Rattle.canvas_rewrite.specs.FrozenView.{PCarried, p_tasks_of, p_lines_of}
 use Rattle.canvas_semantics.specs.PlacedLine.{PTask, p_task, p_nowhere, p_group, p_chord, PLine, p_stop, p_step, p_group_end, p_chord_end}
 use Rattle.canvas_message.specs.EnvelopeContent.{group_number, natural, size_in, place_from, task_from, element_from, line_from, task_within, last_within, line_within}

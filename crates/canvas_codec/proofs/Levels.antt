@@ -2,11 +2,11 @@
 use Rattle.std.proofs.Common.{◌≡◌, ◌≢◌, ℕ, zero, suc, ◌-◌, Result, Err, refl, sym, ap, arith}
 use Rattle.std.specs.Prelude.{if◌then◌else◌, true, false}
 use Rattle.serde_json.specs.Data.{Data}
-use Rattle.canvas_sig.specs.Fields.{listed, tasks, subtype}
-use Rattle.canvas_sig.specs.Answers.{Fails, unless}
-use Rattle.canvas_sig.specs.Grammar.{own_fault, primitive_of}
-use Rattle.canvas_sig.specs.declared.fault.SigFault.{SigFault}
-use Rattle.canvas_sig.specs.declared.fault.SigFault.TheVariants.{Memory}
+use Rattle.canvas_values.specs.Fields.{listed, tasks, subtype}
+use Rattle.canvas_values.specs.Answers.{Fails, unless}
+use Rattle.canvas_values.specs.Grammar.{own_fault, primitive_of}
+use Rattle.canvas_values.specs.declared.fault.SigFault.{SigFault}
+use Rattle.canvas_values.specs.declared.fault.SigFault.TheVariants.{Memory}
 use Rattle.canvas_codec.specs.steps.FrozenReading.{task_as, step_as, last_as, elements_with, link_reading, step_reading, last_reading, line_reading}
 use Rattle.canvas_message.specs.FrozenGrammar.{is_chain}
 

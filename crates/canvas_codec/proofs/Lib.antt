@@ -16,3 +16,4 @@ pub mod Identifiers
 pub mod KnownTexts
 pub mod TaskTokens
 pub mod LineTokens
+pub mod Turns

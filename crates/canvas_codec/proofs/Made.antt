@@ -8,10 +8,10 @@ use Rattle.serde_json.specs.View.{items_of}
 use Rattle.canvas_sig.specs.Datum.{view}
 use Rattle.canvas_sig.specs.declared.datum.Datum.{Datum}
 use Rattle.canvas_task.specs.declared.arg.Arg.{Arg}
-use Rattle.canvas_sig.specs.Fields.{field, option, args, kwargs, tasks, header, body, link, link_error, listed, object_members as members, as_list, text_of, is_true}
-use Rattle.canvas_sig.specs.Answers.{◌>>=◌, in_turn}
-use Rattle.canvas_sig.specs.Grammar.{arg_reading, named_reading}
-use Rattle.canvas_sig.specs.declared.fault.SigFault.{SigFault}
+use Rattle.canvas_values.specs.Fields.{field, option, args, kwargs, tasks, header, body, link, link_error, listed, object_members as members, as_list, text_of, is_true}
+use Rattle.canvas_values.specs.Answers.{◌>>=◌, in_turn}
+use Rattle.canvas_values.specs.Grammar.{arg_reading, named_reading}
+use Rattle.canvas_values.specs.declared.fault.SigFault.{SigFault}
 use Rattle.canvas_semantics.specs.PlacedLine.{PTask, PLine, p_stop, p_step}
 use Rattle.canvas_rewrite.specs.FrozenView.{p_steps, p_task_view, p_line_view, p_end_view}
 use Rattle.canvas_rewrite.specs.declared.frozen.FrozenTask.{FrozenTask, roll-FrozenTask}

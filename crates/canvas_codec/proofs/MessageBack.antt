@@ -2,12 +2,12 @@
 use Rattle.std.proofs.Common.{◌≡◌, ℕ, ◌≤◌, List, [], ◌∷◌, ◌++◌, map, reverse, Bool, true, false, Some, None, Option, Ok, refl, sym, ap, ◌∙◌, arith}
 use Rattle.std.proofs.lemmas.List.{reverse-append, reverse-reverse, append_assoc, append-nil}
 use Rattle.serde_json.specs.Data.{Data, array, object, Items, no_items, item}
-use Rattle.canvas_sig.specs.Fields.{items, listed, is_list_or_null}
-use Rattle.canvas_sig.specs.Answers.{in_turn}
+use Rattle.canvas_values.specs.Fields.{items, listed, is_list_or_null}
+use Rattle.canvas_values.specs.Answers.{in_turn}
 use Rattle.canvas_semantics.specs.Tree.{Call}
-use Rattle.canvas_sig.proofs.FittingCalls.{CallFits}
+use Rattle.canvas_values.proofs.FittingCalls.{CallFits}
 use Rattle.canvas_sig.specs.Writing.{args_wire, kwargs_wire}
-use Rattle.canvas_sig.proofs.ComposedLemmas.{both}
+use Rattle.canvas_values.proofs.ComposedLemmas.{both}
 use Rattle.canvas_sig.proofs.RoundTrip.{args_back, kwargs_back}
 use Rattle.canvas_semantics.proofs.RowNumbers.{same_number}
 use Rattle.canvas_rewrite.specs.FrozenView.{p_steps}

@@ -8,17 +8,17 @@ use Rattle.serde_json.specs.Data.{Data, null, boolean, number, string, array, ob
 use Rattle.canvas_task.specs.Name.{name_ok}
 use Rattle.canvas_task.specs.declared.arg.Arg.{Arg}
 use Rattle.canvas_task.proofs.IdentifierLemmas as identifiers
-use Rattle.canvas_sig.specs.Fields.{field, subtype, option, items, is_null}
-use Rattle.canvas_sig.specs.ComposedRefusals.{call_numbers_ok}
-use Rattle.canvas_sig.specs.Answers.{◌or_else◌, fault_if, in_turn}
-use Rattle.canvas_sig.specs.Grammar.{primitive_of, own_fault}
+use Rattle.canvas_values.specs.Fields.{field, subtype, option, items, is_null}
+use Rattle.canvas_values.specs.ComposedRefusals.{call_numbers_ok}
+use Rattle.canvas_values.specs.Answers.{◌or_else◌, fault_if, in_turn}
+use Rattle.canvas_values.specs.Grammar.{primitive_of, own_fault}
 use Rattle.canvas_semantics.specs.Tree.{Call}
 use Rattle.canvas_task.specs.Entries.{IsBelow, Ascends}
-use Rattle.canvas_sig.proofs.FittingCalls.{CallFits}
+use Rattle.canvas_values.proofs.FittingCalls.{CallFits}
 use Rattle.canvas_sig.specs.Writing.{number_wire, member_unless_empty}
-use Rattle.canvas_sig.specs.declared.fault.SigFault.{SigFault}
-use Rattle.canvas_sig.specs.declared.fault.SigFault.TheVariants.{Frozen}
-use Rattle.canvas_sig.proofs.ComposedLemmas.{both, args_fit, kwargs_fit}
+use Rattle.canvas_values.specs.declared.fault.SigFault.{SigFault}
+use Rattle.canvas_values.specs.declared.fault.SigFault.TheVariants.{Frozen}
+use Rattle.canvas_values.proofs.ComposedLemmas.{both, args_fit, kwargs_fit}
 use Rattle.canvas_sig.proofs.RoundTrip.{args_back, args_kinds, args_numbers, kwargs_back, kwargs_kinds, kwargs_numbers, list_or_null, link_ok, as_items}
 use Rattle.canvas_semantics.specs.Line.{in_group}
 use Rattle.canvas_rewrite.specs.FrozenView.{p_tasks_of, p_lines_of}

@@ -1,10 +1,10 @@
 -- What is said of a text that was parsed.
 use Rattle.std.proofs.Common.{◌≡◌, ◌≢◌, Option, Some, None, Ok, Err, refl, ap}
 use Rattle.serde_json.specs.Data.{Data}
-use Rattle.canvas_sig.specs.declared.fault.SigFault.{SigFault}
-use Rattle.canvas_sig.specs.declared.fault.SigFault.TheVariants.{Memory}
-use Rattle.canvas_sig.specs.Answers.{Fails}
-use Rattle.canvas_sig.specs.steps.Reading as sig
+use Rattle.canvas_values.specs.declared.fault.SigFault.{SigFault}
+use Rattle.canvas_values.specs.declared.fault.SigFault.TheVariants.{Memory}
+use Rattle.canvas_values.specs.Answers.{Fails}
+use Rattle.canvas_values.specs.steps.Reading as sig
 use Rattle.canvas_message.specs.declared.fault.MessageFault.TheVariants.{NotJson}
 use Rattle.canvas_codec.specs.steps.Reading.{some_or}
 

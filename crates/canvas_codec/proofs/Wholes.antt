@@ -3,8 +3,8 @@ use Rattle.std.proofs.Common.{◌≡◌, ℕ, ◌≤◌, max, Bool, true, false,
 use Rattle.std.specs.Prelude.{◌&&◌, not, nat_le}
 use Rattle.std.proofs.lemmas.Bool.{leb-true}
 use Rattle.canvas_semantics.specs.Tree.{Call}
-use Rattle.canvas_sig.proofs.FittingCalls.{CallFits}
-use Rattle.canvas_sig.proofs.ComposedLemmas.{both}
+use Rattle.canvas_values.proofs.FittingCalls.{CallFits}
+use Rattle.canvas_values.proofs.ComposedLemmas.{both}
 use Rattle.canvas_sig.specs.steps.Clean.{IsClean}
 use Rattle.canvas_semantics.specs.PlacedLine.{p_task, PTasks, PPlace, p_nowhere, p_group, p_chord, PLine, p_stop, p_step, p_group_end, p_chord_end}
 use Rattle.canvas_message.specs.Content.{Content}

@@ -10,10 +10,10 @@ use Rattle.std.specs.List.{list_any}
 use Rattle.serde_json.specs.Data.{Data, depth}
 use Rattle.serde_json.specs.Read.{max_depth}
 use Rattle.canvas_task.specs.Text.{Text}
-use Rattle.canvas_sig.specs.CanvasText.{json_of}
-use Rattle.canvas_sig.specs.Fields.{field, subtype, tasks, listed, object_members, text_of, is_list_or_null, is_object_or_null}
-use Rattle.canvas_sig.specs.Refusals.{named_of}
-use Rattle.canvas_sig.specs.Grammar.{argument_of, own_fault, primitive_of}
+use Rattle.canvas_values.specs.CanvasText.{json_of}
+use Rattle.canvas_values.specs.Fields.{field, subtype, tasks, listed, object_members, text_of, is_list_or_null, is_object_or_null}
+use Rattle.canvas_values.specs.Refusals.{named_of}
+use Rattle.canvas_values.specs.Grammar.{argument_of, own_fault, primitive_of}
 use Rattle.canvas_rewrite.specs.FrozenView.{p_tasks_of}
 use Rattle.canvas_semantics.specs.PlacedLine.{PTask, p_task, PLine}
 use Rattle.canvas_message.specs.Content.{Content}

@@ -1,8 +1,7 @@
 //! Reading messages out of envelopes.
 
 ghost use Rattle.std.specs.Prelude.{◌≡◌, ◌≢◌, IfOk, IfErr};
-ghost use Rattle.canvas_sig.specs.Datum.{view};
-ghost use Rattle.canvas_sig.specs.Fields.{value_at};
+ghost use Rattle.canvas_sig.specs.Datum.{view, value_at};
 ghost use Rattle.canvas_message.specs.declared.fault.MessageFault.TheVariants.{BadArgs, BadEmbed, Memory};
 ghost use Rattle.canvas_codec.specs.steps.Elements.{given_view, embed_view};
 ghost use Rattle.canvas_message.specs.EnvelopeFaults.{Says, envelope_fault};

@@ -1,15 +1,16 @@
 //! Letters of messages that this process writes, and messages of letters.
 
-ghost use Rattle.std.specs.Prelude.{◌≡◌, ◌≢◌, IfOk, IfErr, Some};
+ghost use Rattle.std.specs.Prelude.{◌≡◌, ◌≢◌, IfOk, IfErr, IfSome, Some, string_bytes};
 ghost use Rattle.serde_json.specs.Written.{compact_text};
 ghost use Rattle.canvas_message.specs.EnvelopeFaults.{Says, envelope_fault};
 ghost use Rattle.canvas_message.specs.declared.fault.MessageFault.TheVariants as fault;
-ghost use Rattle.canvas_codec.specs.Wire.{properties_wire, headers_wire, body_wire};
+ghost use Rattle.canvas_message.specs.Content.{place_of};
+ghost use Rattle.canvas_codec.specs.Wire.{carried_wire, properties_wire, headers_wire, body_wire};
 
 use crate::encoding::encode_knowing;
 use crate::write::known::{KnownBody, known_of};
 use crate::{decode, encode};
-use canvas_message::{Letter, Message, MessageFault};
+use canvas_message::{Envelope, Letter, Message, MessageFault};
 use canvas_task::Memory;
 use std::alloc::Global;
 
@@ -40,6 +41,26 @@ pub fn open(alloc: Global, letter: &mut Letter) -> Result<Message, MessageFault>
     }
 }
 
+/// The envelope that `encode` writes of a message, by the text of the body that it carries where
+/// that is known.
+fn envelope_of(
+    alloc: Global,
+    message: &Message,
+    known: &Option<KnownBody>,
+) -> Result<Envelope, Memory>
+    requires { IfSome known.now (λ known. string_bytes known.text
+        ≡ compact_text (carried_wire (place_of message.now.own))) }
+    ensures texts { IfOk result (λ e. (e.properties ≡ compact_text (properties_wire message.now))
+        × (e.headers ≡ compact_text (headers_wire message.now))
+        × (e.body ≡ compact_text (body_wire message.now))) }
+    ensures reads_back { IfOk result (λ e. Says e.properties e.headers e.body message.now) }
+{
+    match known {
+        Some(known) => encode_knowing(alloc, message, Some(&known.text)),
+        None => encode(alloc, message),
+    }
+}
+
 /// Seals one message after the other, and writes a body that several of them carry once.
 #[derive(Drop)]
 pub struct Sealer {
@@ -62,10 +83,7 @@ impl Sealer {
         ensures reads_back { IfOk result (λ e. Says e.properties e.headers e.body message) }
     {
         let known = known_of(self.alloc, self.known.take(), &message.place);
-        let envelope = match &known {
-            Some(known) => encode_knowing(self.alloc, &message, Some(&known.text))?,
-            None => encode(self.alloc, &message)?,
-        };
+        let envelope = envelope_of(self.alloc, &message, &known)?;
         self.known = known;
         Ok(Letter::sealed(self.alloc, envelope, message))
     }

@@ -9,7 +9,7 @@ use Rattle.canvas_task.specs.Printed.{kind_name}
 use Rattle.canvas_task.specs.declared.outcome.Kind.{Kind}
 use Rattle.canvas_task.specs.declared.outcome.Outcome.{Outcome}
 use Rattle.canvas_task.specs.declared.outcome.Why.{Why}
-use Rattle.canvas_sig.specs.CanvasText.{json_of}
+use Rattle.canvas_values.specs.CanvasText.{json_of}
 use Rattle.canvas_celery.specs.Run.{run_task}
 use Rattle.canvas_collect.specs.declared.collecting.CollectFault.{CollectFault}
 use Rattle.canvas_collect.specs.declared.collecting.CollectFault.TheVariants as fault

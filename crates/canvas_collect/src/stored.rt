@@ -3,8 +3,8 @@
 ghost use Rattle.std.specs.Prelude.{◌≡◌, ◌≢◌, ◌++◌, ◌↔◌, ℕ, ℤ, true, Some};
 ghost use Rattle.std.specs.Prelude.{IsTrue, MatchBool, MatchOption, MatchResult, codes};
 ghost use Rattle.serde_json.specs.View.{view};
-ghost use Rattle.canvas_sig.specs.CanvasText.{json_of};
-ghost use Rattle.canvas_sig.specs.Fields.{text_of};
+ghost use Rattle.canvas_values.specs.CanvasText.{json_of};
+ghost use Rattle.canvas_values.specs.Fields.{text_of};
 ghost use Rattle.canvas_collect.specs.steps.Found.{value_at};
 ghost use Rattle.canvas_task.specs.Text.{Text};
 ghost use Rattle.canvas_task.specs.Numbers.{in_range};

@@ -2,7 +2,6 @@
 //! report of what these workers stored.
 
 mod refusal;
-mod words;
 
 use crate::answer::Answer;
 use crate::input::{MOST_RESULTS, read_results, unread};
@@ -17,7 +16,6 @@ use canvas_rewrite::Plan;
 pub use refusal::CeleryRefusal;
 use std::alloc::Global;
 use std::io::Read;
-pub(crate) use words::celery_command;
 
 /// The commands for Redis that start a canvas.
 pub(crate) fn answer_export<'w>(

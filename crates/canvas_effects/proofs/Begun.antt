@@ -2,9 +2,7 @@
 use Rattle.std.proofs.Common.{◌≡◌, ◌∙◌, ℕ, suc, ◌≤◌, ◌<◌, ◌+◌, arith, true, false, List, [], ◌∷◌, ◌++◌, map, drop, get_or, length, Option, Some, None, Box, Global, refl, sym, ap, ap₂, subst, append_assoc, add-one, ne_eqb, drop-cons, rules}
 use Rattle.std.specs.declared.sync.Arc.{Arc}
 use Rattle.std.specs.Prelude.{ℤ, ◌==◌, ◌&&◌, nat_le}
-use Rattle.canvas_task.specs.declared.arg.Arg.{Arg}
-use Rattle.canvas_sig.proofs.ComposedLemmas.{both}
-use Rattle.canvas_semantics.specs.Evaluation.{arguments}
+use Rattle.canvas_values.proofs.ComposedLemmas.{both}
 use Rattle.canvas_semantics.specs.PlacedLine.{PTask, p_task, PTasks, and_p_task, PPlace, p_nowhere, p_group, p_chord, PLine, p_stop, p_step, p_group_end, p_chord_end, no_p_lines}
 use Rattle.canvas_rewrite.specs.FrozenView.{p_tasks_of, p_steps, p_lines_of, p_task_view, p_line_view, p_end_view}
 use Rattle.canvas_rewrite.specs.declared.frozen.Carried as block
@@ -14,46 +12,19 @@ use Rattle.canvas_rewrite.specs.declared.frozen.FrozenTask.{FrozenTask, out-Froz
 use Rattle.canvas_rewrite.specs.declared.frozen.FrozenLine.{FrozenLine, out-FrozenLine}
 use Rattle.canvas_rewrite.specs.declared.frozen.FrozenEnd.{FrozenEnd, out-FrozenEnd}
 use Rattle.canvas_effects.specs.Carrying.{can_stand, AllStand, callbacks_ok, input_ok}
-use Rattle.canvas_message.specs.Content.{Content, call_of, place_of}
+use Rattle.canvas_message.specs.Content.{Content, place_of}
 use Rattle.canvas_effects.specs.Effects.{message, callbacks, messages_in}
 use Rattle.canvas_message.specs.Fits.{parent_ok, task_ok, line_ok, line_reach, fits}
-use Rattle.canvas_effects.specs.Flowing.{Input, list_input, input_flow, given, parent_for}
+use Rattle.canvas_effects.specs.Flowing.{Input, list_input, given, parent_for}
 use Rattle.canvas_message.specs.steps.Parts.{is_stop}
 use Rattle.canvas_effects.specs.Placing.{last_at, placed}
-use Rattle.canvas_message.specs.MessageView.{content, place_view, place_seen, rest_seen}
+use Rattle.canvas_message.specs.MessageView.{place_view, place_seen}
 use Rattle.canvas_effects.specs.steps.Walks.{at_place, tail_seen, first_message, member_place, started, all_started}
 use Rattle.canvas_effects.proofs.Copied.{own_place, place_there, line_parts}
 use Rattle.canvas_effects.proofs.Entered.{started_group, started_chord}
 use Rattle.canvas_message.proofs.FitLemmas.{counted, end_stands, never_stops}
-use Rattle.canvas_message.proofs.Seen.{called, task_seen, line_some, end_none, end_some}
+use Rattle.canvas_message.proofs.Seen.{line_some, end_none, end_some}
 use Rattle.canvas_effects.proofs.Standing.{task_parts, begun, message_fits, called_parts, step_is, same_at, keeps_on, no_place, group_stands, header_stands, few_members}
-
--- ---- the message of a task
-
-pub message_made : (t : FrozenTask) (u : Option ℕ) (x : Input) (p : Option Place) (rest : Option FrozenLine)
-    (parent : Option ℕ) (n : List ℕ) (a : List Arg) (w : List (List ℕ × Arg)) (ls es new_links new_errbacks links errbacks : List FrozenTask)
-    → parent ≡ parent_for u x → n ≡ (out-FrozenTask t).name → a ≡ arguments (call_of (p_task_view t)) (input_flow x) → w ≡ (out-FrozenTask t).kwargs
-    → ls ≡ new_links → map p_task_view new_links ≡ map p_task_view links → links ≡ (out-FrozenTask t).links
-    → es ≡ new_errbacks → map p_task_view new_errbacks ≡ map p_task_view errbacks → errbacks ≡ (out-FrozenTask t).errbacks
-    → content parent (out-FrozenTask t).no n a w ls es p rest ≡ message u (at_place (place_seen p) (p_task_view t)) x (rest_seen rest)
-message_made t u x p rest parent n a w ls es new_links new_errbacks links errbacks hp hn ha hw hl hl' hl'' he he' he'' =
-    let k : ℕ = (out-FrozenTask t).no in
-    let its : List ℕ = (out-FrozenTask t).name in
-    let all : List Arg = arguments (called t) (input_flow x) in
-    let named = (out-FrozenTask t).kwargs in
-    let Goal : Option ℕ → List ℕ → List Arg → List (List ℕ × Arg) → List PTask → List PTask → Content =
-    λ parent' n' a' w' ls' es'. record {
-      parent = parent';
-      own = p_task k (record { name = n'; args = a'; kwargs = w'; immutable = false }) (p_tasks_of ls') (p_tasks_of es') (place_seen p);
-      rest = rest_seen rest;
-    } in
-    ap (λ z. Goal z n a w (map p_task_view ls) (map p_task_view es)) hp
-    ∙ ap (λ z. Goal (parent_for u x) z a w (map p_task_view ls) (map p_task_view es)) hn
-    ∙ ap (λ z. Goal (parent_for u x) its z w (map p_task_view ls) (map p_task_view es)) (ha ∙ ap (λ y. arguments (call_of y) (input_flow x)) (task_seen t))
-    ∙ ap (λ z. Goal (parent_for u x) its all z (map p_task_view ls) (map p_task_view es)) hw
-    ∙ ap (λ z. Goal (parent_for u x) its all named z (map p_task_view es)) (ap (map p_task_view) hl ∙ hl' ∙ ap (map p_task_view) hl'')
-    ∙ ap (λ z. Goal (parent_for u x) its all named (map p_task_view (out-FrozenTask t).links) z) (ap (map p_task_view) he ∙ he' ∙ ap (map p_task_view) he'')
-    ∙ sym (ap (λ y. message u (at_place (place_seen p) y) x (rest_seen rest)) (task_seen t))
 
 -- ---- callbacks
 

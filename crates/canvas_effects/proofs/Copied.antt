@@ -1,6 +1,6 @@
 -- Copies of tasks, lines and ends say what these say.
-use Rattle.std.proofs.Common.{◌≡◌, ◌∙◌, ℕ, Bool, List, [], ◌∷◌, ◌++◌, map, Option, Some, None, Box, Global, false, refl, sym, ap, ap₂}
-use Rattle.std.proofs.lemmas.List.{map-append}
+use Rattle.std.proofs.Common.{◌≡◌, ◌∙◌, ◌<◌, ◌+◌, ℕ, Bool, List, [], ◌∷◌, ◌++◌, map, length, get_or, take, Option, Some, None, Box, Global, false, refl, sym, ap, ap₂}
+use Rattle.std.proofs.lemmas.List.{map-append, map_push, take_more}
 use Rattle.canvas_task.specs.declared.arg.Arg.{Arg}
 use Rattle.canvas_semantics.specs.PlacedLine.{PTask, p_task, PPlace, PLine, p_stop, p_step, p_group_end, p_chord_end}
 use Rattle.canvas_rewrite.specs.FrozenView.{p_tasks_of, p_steps, p_lines_of, p_task_view, p_line_view, p_end_view}
@@ -52,6 +52,14 @@ pub task_kept : (t c : FrozenTask) (p : Option Place) → place_seen p ≡ place
     → p_task_view c ≡ p_task_view t
 task_kept t c p same copied =
     copied ∙ ap (λ q. at_place q (p_task_view t)) (same ∙ sym (place_there t)) ∙ own_place (p_task_view t)
+
+-- one more turn of a loop that copies
+module _ {X Y : Type 0} where
+  pub copied_on : (seen : X → Y) (xs : List X) (i : ℕ) (x copy : X) (before after : List X) → i < length xs → x ≡ get_or xs i x → seen copy ≡ seen x
+      → map seen before ≡ map seen (take i xs) → after ≡ before ++ copy ∷ [] → map seen after ≡ map seen (take (i + 1) xs)
+  copied_on seen xs i x copy before after lt is same so_far pushed =
+      ap (map seen) pushed ∙ map_push seen before copy ∙ ap₂ (λ ys y. ys ++ y ∷ []) so_far same
+      ∙ sym (ap (map seen) (take_more xs i x lt ∙ ap (λ z. take i xs ++ z ∷ []) (sym is)) ∙ map_push seen (take i xs) x)
 
 -- ---- lines
 

@@ -4,7 +4,7 @@ use Rattle.std.specs.Prelude.{◌&&◌, not, nat_lt, nat_le}
 use Rattle.std.proofs.lemmas.Bool.{lt-ltb, le-leb}
 use Rattle.canvas_semantics.specs.Reach as tree
 use Rattle.canvas_semantics.specs.Tree.{Task, task, Tasks, no_tasks, and_task, chain, IsFull, AreFull, count_task}
-use Rattle.canvas_sig.proofs.Fits.{call_fits}
+use Rattle.canvas_values.proofs.Fits.{call_fits}
 use Rattle.canvas_semantics.specs.FileOrder.{TaskIn, TasksIn, EndsInTask, LineIn, LinesIn}
 use Rattle.canvas_semantics.specs.Line.{Line, stop, step, group_end, chord_end, Lines, no_lines, and_line, elements_of, members_of, count_line, count_lines, line_groups, lines_groups, number_line, number_lines, in_group}
 use Rattle.canvas_semantics.specs.PlacedLine.{PTask, p_nowhere, PLine, p_stop, p_step, p_group_end, p_chord_end, bare, all_bare, bare_task, bare_tasks, strip}

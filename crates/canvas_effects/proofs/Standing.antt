@@ -6,9 +6,9 @@ use Rattle.std.proofs.lemmas.Bool.{lt-ltb, leb-true, le-leb}
 use Rattle.canvas_task.specs.Name.{name_ok}
 use Rattle.canvas_task.specs.declared.arg.Arg.{Arg}
 use Rattle.canvas_task.specs.declared.arg.Arg.TheVariants as arg
-use Rattle.canvas_sig.specs.ComposedRefusals.{arg_ok, call_numbers_ok}
+use Rattle.canvas_values.specs.ComposedRefusals.{arg_ok, call_numbers_ok}
 use Rattle.canvas_semantics.specs.Tree.{Call}
-use Rattle.canvas_sig.proofs.ComposedLemmas.{both}
+use Rattle.canvas_values.proofs.ComposedLemmas.{both}
 use Rattle.canvas_semantics.specs.Evaluation.{arguments}
 use Rattle.canvas_semantics.specs.Line.{in_group}
 use Rattle.canvas_semantics.specs.PlacedLine.{PTask, p_task, PTasks, and_p_task, PPlace, p_nowhere, p_group, p_chord, PLine, p_stop, p_step, p_group_end, p_chord_end, PLines, no_p_lines, and_p_line, strip}

@@ -1,10 +1,13 @@
 -- What the walks give of lines, ends and tasks as the code has them.
-use Rattle.std.proofs.Common.{◌≡◌, ◌∙◌, ℕ, suc, Bool, true, false, List, [], ◌∷◌, ◌++◌, map, length, Option, Some, None, Box, Global, refl, sym, ap, append_assoc, append-nil, ne_eqb}
-use Rattle.std.specs.Prelude.{◌==◌, not}
+use Rattle.std.proofs.Common.{◌≡◌, ◌∙◌, ◌<◌, ◌≤◌, ◌+◌, ℕ, suc, Bool, true, false, List, [], ◌∷◌, ◌++◌, map, length, get_or, drop, Option, Some, None, Box, Global, refl, sym, ap, subst, append_assoc, append-nil, ne_eqb}
+use Rattle.std.proofs.lemmas.List.{drop_more, at_drop_more, at_drop_all}
+use Rattle.std.specs.Prelude.{ℤ, ◌==◌, not}
 use Rattle.canvas_task.specs.declared.outcome.Fault.{Fault}
-use Rattle.canvas_sig.proofs.ComposedLemmas.{both}
+use Rattle.canvas_task.specs.declared.outcome.Outcome.{Outcome}
+use Rattle.canvas_task.specs.declared.outcome.Outcome.TheVariants.{Success, Failure}
+use Rattle.canvas_values.proofs.ComposedLemmas.{both}
 use Rattle.canvas_semantics.specs.Line.{in_group}
-use Rattle.canvas_semantics.specs.PlacedLine.{PTask, PLine, p_stop, p_step, p_group_end, p_chord_end, strip}
+use Rattle.canvas_semantics.specs.PlacedLine.{PTask, PPlace, PLine, p_stop, p_step, p_group_end, p_chord_end, strip}
 use Rattle.canvas_rewrite.specs.FrozenView.{p_steps, p_task_view, p_line_view, p_end_view}
 use Rattle.canvas_rewrite.specs.declared.frozen.FrozenTask.{FrozenTask, out-FrozenTask}
 use Rattle.canvas_rewrite.specs.declared.frozen.FrozenLine.{FrozenLine, out-FrozenLine}
@@ -12,8 +15,9 @@ use Rattle.canvas_rewrite.specs.declared.frozen.FrozenEnd.{FrozenEnd, out-Frozen
 use Rattle.canvas_message.specs.Content.{number_of}
 use Rattle.canvas_message.specs.Fits.{line_ok, task_ok}
 use Rattle.canvas_message.specs.steps.Parts.{is_stop}
+use Rattle.canvas_effects.specs.Carrying.{is_whole, can_stand, AllWhole, AllStand}
 use Rattle.canvas_effects.specs.Placing.{last_task}
-use Rattle.canvas_effects.specs.steps.Walks.{last_of, skipped, all_skipped, skipped_tasks, tail_seen, begins_with_task}
+use Rattle.canvas_effects.specs.steps.Walks.{last_of, successes, skipped, all_skipped, skipped_tasks, tail_seen, begins_with_task}
 use Rattle.canvas_effects.proofs.Copied.{line_parts}
 use Rattle.canvas_effects.proofs.Entered.{skipped_steps, skipped_group, skipped_chord}
 use Rattle.canvas_message.proofs.FitLemmas.{end_stands, never_stops}
@@ -27,6 +31,46 @@ number_seen t = ap number_of (task_seen t)
 module _ {X : Type 0} where
   pub joined : (x old a b w : List X) → x ≡ old ++ a → w ≡ a ++ b → x ++ b ≡ old ++ w
   joined x old a b w h i = ap (λ y. y ++ b) h ∙ append_assoc old a b ∙ ap (λ y. old ++ y) (sym i)
+
+-- one more turn of a loop that puts what each item gives behind the others, and the loop's end
+module _ {X Y : Type 0} where
+  pub put_on : (F : List X → List Y) (xs : List X) (i : ℕ) (x : X) (here before after all : List Y) → i < length xs → x ≡ get_or xs i x
+      → F (x ∷ drop (i + 1) xs) ≡ here ++ F (drop (i + 1) xs) → before ++ F (drop i xs) ≡ all → after ≡ before ++ here
+      → after ++ F (drop (i + 1) xs) ≡ all
+  put_on F xs i x here before after all lt is turn so_far pushed =
+      let rest : List Y = F (drop (i + 1) xs) in
+      ap (λ ys. ys ++ rest) pushed ∙ append_assoc before here rest
+      ∙ ap (λ ys. before ++ ys) (sym (at_drop_more F xs i x lt ∙ ap (λ y. F (y ∷ drop (i + 1) xs)) (sym is) ∙ turn)) ∙ so_far
+
+  pub put_all : (F : List X → List Y) (xs : List X) (i : ℕ) (now all : List Y)
+      → length xs ≤ i → F [] ≡ [] → now ++ F (drop i xs) ≡ all → now ≡ all
+  put_all F xs i now all past none so_far = sym (ap (λ ys. now ++ ys) (at_drop_all F xs i past ∙ none) ∙ append-nil now) ∙ so_far
+
+-- ---- the outcomes of members
+
+pub success_there : (e : ℕ × Outcome) (n : ℤ) → e.1 ≡ Success n → successes (e ∷ []) ≡ n ∷ []
+success_there (k, Success m) n is = let same : m ≡ n = cc in ap (λ z. z ∷ []) same
+success_there (k, Failure f) n is = absurd cc
+
+pub failure_there : (e : ℕ × Outcome) (f : Fault) → e.1 ≡ Failure f → successes (e ∷ []) ≡ []
+failure_there (k, Success m) f is = absurd cc
+failure_there (k, Failure g) f is = refl
+
+pub one_success : (e : ℕ × Outcome) (es : List (ℕ × Outcome)) → successes (e ∷ es) ≡ successes (e ∷ []) ++ successes es
+one_success (k, Success n) es = refl
+one_success (k, Failure f) es = refl
+
+-- ---- lines in turn
+
+pub stand_on : (p : PPlace) (ls : List FrozenLine) (i : ℕ) (l : FrozenLine) → i < length ls → l ≡ get_or ls i l
+    → AllStand p (map p_line_view (drop i ls)) → (can_stand (p_line_view l) p ≡ true) × AllStand p (map p_line_view (drop (i + 1) ls))
+stand_on p ls i l lt is h =
+    subst (λ xs. AllStand p (map p_line_view xs)) (drop_more ls i l lt ∙ ap (λ y. y ∷ drop (i + 1) ls) (sym is)) h
+
+pub whole_on : (ls : List FrozenLine) (i : ℕ) (l : FrozenLine) → i < length ls → l ≡ get_or ls i l
+    → AllWhole (map p_line_view (drop i ls)) → (is_whole (p_line_view l) ≡ true) × AllWhole (map p_line_view (drop (i + 1) ls))
+whole_on ls i l lt is h =
+    subst (λ xs. AllWhole (map p_line_view xs)) (drop_more ls i l lt ∙ ap (λ y. y ∷ drop (i + 1) ls) (sym is)) h
 
 -- ---- skipped
 

@@ -2,12 +2,13 @@
 
 ghost use Rattle.std.specs.Prelude.{◌≡◌, IfOk, map};
 ghost use Rattle.canvas_rewrite.specs.FrozenView.{p_task_view, p_line_view, p_end_view};
+ghost use Rattle.canvas_rewrite.specs.declared.frozen.FrozenTask.{out-FrozenTask};
 ghost use Rattle.canvas_message.specs.MessageView.{place_seen, place_view};
 ghost use Rattle.canvas_effects.specs.steps.Walks.{at_place};
 
 use canvas_message::share_carried;
 use canvas_rewrite::{FrozenEnd, FrozenLine, FrozenTask, Place};
-use canvas_task::{ListOf, copy_args, copy_kwargs};
+use canvas_task::{Arg, ListOf, MapOf, TextOf, copy_args, copy_kwargs};
 use std::alloc::{AllocError, Global};
 
 /// The same place once more.
@@ -38,6 +39,47 @@ pub(crate) fn share_if_some(place: &Option<Place>) -> Result<Option<Place>, Allo
     }
 }
 
+/// What a task is called with.
+#[derive(Drop)]
+struct Call {
+    name: TextOf,
+    args: ListOf<Arg>,
+    kwargs: MapOf<Arg>,
+}
+
+fn copy_call(alloc: Global, task: &FrozenTask) -> Result<Call, AllocError>
+    ensures name { IfOk result (λ call. call.name ≡ (out-FrozenTask task.now).name) }
+    ensures args { IfOk result (λ call. call.args ≡ (out-FrozenTask task.now).args) }
+    ensures kwargs { IfOk result (λ call. call.kwargs ≡ (out-FrozenTask task.now).kwargs) }
+{
+    let name = task.name.clone()?;
+    let args = copy_args(&task.args)?;
+    let kwargs = copy_kwargs(alloc, &task.kwargs)?;
+    Ok(Call { name, args, kwargs })
+}
+
+/// What a task's end calls back.
+#[derive(Drop)]
+struct Callbacks {
+    links: ListOf<FrozenTask>,
+    errbacks: ListOf<FrozenTask>,
+}
+
+#[cycle(copy)]
+fn copy_callbacks(alloc: Global, task: &FrozenTask) -> Result<Callbacks, AllocError>
+    ensures links { IfOk result (λ back. map p_task_view back.links
+        ≡ map p_task_view (out-FrozenTask task.now).links) }
+    ensures errbacks { IfOk result (λ back. map p_task_view back.errbacks
+        ≡ map p_task_view (out-FrozenTask task.now).errbacks) }
+{
+    let links = copy_tasks(alloc, task.links.get())?;
+    let errbacks = copy_tasks(alloc, task.errbacks.get())?;
+    Ok(Callbacks {
+        links: ListOf::of(links),
+        errbacks: ListOf::of(errbacks),
+    })
+}
+
 /// A copy of a task, with another place.
 #[cycle(copy)]
 pub(crate) fn copy_task(
@@ -48,25 +90,21 @@ pub(crate) fn copy_task(
     ensures { IfOk result
         (λ copy. p_task_view copy ≡ at_place (place_seen place) (p_task_view task.now)) }
 {
-    let name = task.name.clone()?;
-    let args = copy_args(&task.args)?;
-    let kwargs = copy_kwargs(alloc, &task.kwargs)?;
-    let links = copy_tasks(alloc, task.links.get())?;
-    let errbacks = copy_tasks(alloc, task.errbacks.get())?;
+    let call = copy_call(alloc, task)?;
+    let back = copy_callbacks(alloc, task)?;
     Ok(FrozenTask {
         no: task.no,
-        name,
-        args,
-        kwargs,
+        name: call.name,
+        args: call.args,
+        kwargs: call.kwargs,
         immutable: task.immutable,
-        links: ListOf::of(links),
-        errbacks: ListOf::of(errbacks),
+        links: back.links,
+        errbacks: back.errbacks,
         place,
     })
 }
 
 #[cycle(copy)]
-#[tactic(auto, using(crate::proofs::Copied::task_kept))]
 pub(crate) fn copy_tasks(alloc: Global, tasks: &[FrozenTask]) -> Result<Vec<FrozenTask>, AllocError>
     ensures { IfOk result (λ copies. map p_task_view copies.items ≡ map p_task_view tasks.now) }
 {

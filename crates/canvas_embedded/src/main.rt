@@ -1,53 +1,23 @@
-//! What another program needs of these crates: it composes a canvas, adds a task of its own to a
-//! registry, runs the canvas with four workers and prints the report.
+//! Two programs that use the crates. Given no word it runs a canvas with a task of its own
+//! (`shop`); given the word `hostile` it says what texts that nobody of ours wrote cost, and given
+//! another what messages and large canvases cost (`speed`).
 #![tactic(auto)]
 
-ghost use Rattle.std.specs.Prelude.{◌-ℤ◌, Ok};
+mod canvases;
+mod hostile;
+mod runs;
+mod shop;
+mod speed;
+mod threads;
 
 use anyhow::Result;
-use canvas_engine::{OpenGate, Stop, report_text, run};
-use canvas_rewrite::{Plan, freeze, normalise};
-use canvas_sig::{Canvas, Node};
-use canvas_task::{Add, Kind, OfTwo, TaskOfTwo, Xsum, registry_of};
-use std::alloc::{AllocError, Global};
-
-/// A task of this program: `shop.change(paid, price)`.
-#[derive(Clone, Copy)]
-struct Change;
-
-impl OfTwo for Change {
-    ghost answer = { λ _ paid price. Ok (paid -ℤ price) };
-
-    fn answer(&self, paid: i64, price: i64) -> Result<i128, Kind> {
-        Ok(i128::from(paid) - i128::from(price))
-    }
-}
-
-/// `chord([shop.change(10, 3), tasks.add(2, 2)], tasks.xsum)`.
-fn sums(alloc: Global) -> Result<Node, AllocError> {
-    let mut header = Vec::new(alloc);
-    header.push(Node::call(alloc, "shop.change", &[10, 3])?)?;
-    header.push(Node::call(alloc, "tasks.add", &[2, 2])?)?;
-    Node::chord(alloc, header, Node::call(alloc, "tasks.xsum", &[])?)
-}
-
-fn plan_of(alloc: Global, node: Node) -> Result<Plan> {
-    let canvas = Canvas::of(alloc, node)?;
-    let line = normalise(alloc, &canvas)?;
-    Ok(freeze(alloc, &line)?)
-}
+use std::env;
 
 fn main(rt: HostRuntime) -> Result<()> {
-    let alloc = rt.alloc();
-    let change = TaskOfTwo {
-        name: "shop.change",
-        parameters: ("paid", "price"),
-        answers: Change,
-    };
-    let registry = registry_of!(alloc; Add, Xsum, change)?;
-    let plan = plan_of(alloc, sums(alloc)?)?;
-    let (report, _records) = run(&rt, alloc, &plan, &registry, 4, &OpenGate, &Stop::new())?;
-    let text = report_text(alloc, &plan, &report)?;
-    print!(rt; "{text}")?;
-    Ok(())
+    let words = env::args(&rt)?.skip(1).collect::<Vec<String>>(rt.alloc())?;
+    match words.first() {
+        None => shop::print_report(&rt),
+        Some(word) if word.as_str() == "hostile" => speed::print_costs(&rt),
+        Some(_) => speed::print_all(&rt),
+    }
 }

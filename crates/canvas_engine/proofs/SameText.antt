@@ -3,7 +3,6 @@ use Rattle.std.proofs.Common.{◌≡◌, ℕ, List, Option, Some, None, Result, 
 use Rattle.std.specs.Result.{result_ok}
 use Rattle.canvas_task.specs.Apply.{Behaviour}
 use Rattle.canvas_task.specs.Text.{Text}
-use Rattle.canvas_sig.specs.CanvasText.{text_reading}
 use Rattle.canvas_semantics.specs.NormalLine.{normal}
 use Rattle.canvas_semantics.specs.Tree.{Tree, numbered}
 use Rattle.canvas_semantics.specs.Evaluation.{State, nothing}
@@ -14,11 +13,13 @@ use Rattle.canvas_semantics.specs.States.{states, rows_from}
 use Rattle.canvas_semantics.proofs.RowNumbers.{states_in, states_listed}
 use Rattle.canvas_semantics.proofs.SameReport.{same_report, same_report_of}
 use Rattle.canvas_turns.specs.Spending.{Entry}
-use Rattle.canvas_engine.specs.Correct.{IsAsked, IsWholeAgain}
-use Rattle.canvas_engine.specs.Texts.{IsPlanOfText, IsStored, IsTextAgain, IsTextFault}
+use Rattle.canvas_engine.specs.Correct.{AreWorkers, IsAsked, IsWholeAgain}
+use Rattle.canvas_engine.specs.Headline.{Headline}
+use Rattle.canvas_engine.specs.Texts.{IsPlanOfText, IsStored, IsTextAgain, IsTextFault, IsTextRun}
 use Rattle.canvas_engine.specs.steps.PlanTexts.{IsPlanFault}
 use Rattle.canvas_engine.specs.declared.fault.RunFault.{RunFault}
 use Rattle.canvas_engine.specs.declared.fault.RunFault.TheVariants.{Halted}
+use Rattle.canvas_engine.specs.declared.records.Records.{Records}
 use Rattle.canvas_engine.specs.declared.report.Report.{Report}
 use Rattle.canvas_worker.specs.declared.cause.Cause.{Cause}
 use Rattle.canvas_engine.specs.declared.text.TextFault.{TextFault}
@@ -46,11 +47,19 @@ stored_report t f cause rows (Err e) o is made k = rw made tt
 -- ---- what a text answers, by what its plan answers
 
 module _ (behaviour : Behaviour) (bytes : Text) (c : Tree) (all : Line) (plan : IsPlanOfText bytes c all) where
-  pub ran_text : (Asked : Type 0) (r : Result (String Global) TextFault)
-      → IfOk r (λ text. Asked × (string_bytes text ≡ report_of (tree_of all) (rows_from 1 (states behaviour (tree_of all)))))
-      → IfOk r (λ text. (x : Tree) × (text_reading bytes ≡ Ok x) × Asked × (string_bytes text ≡ report behaviour x))
-  ran_text Asked (Ok text) k = (c, plan.text, k.0, k.1 ∙ same_text behaviour c all plan.same plan.tree)
-  ran_text Asked (Err f) k = tt
+  pub ran_recorded : (n : ℕ) (r : Result (String Global × Records) TextFault)
+      → IfOk r (λ x. AreWorkers n × (string_bytes x.0 ≡ report_of (tree_of all) (rows_from 1 (states behaviour (tree_of all))))
+      × Headline behaviour all n (states behaviour (tree_of all)) x.1)
+      → IfOk r (λ x. IsTextRun behaviour bytes n (string_bytes x.0) x.1)
+  ran_recorded n (Ok x) k = record {
+    canvas = c;
+    line = all;
+    planned = plan;
+    workers = k.0;
+    reported = k.1 ∙ same_text behaviour c all plan.same plan.tree;
+    ran = k.2;
+  }
+  ran_recorded n (Err f) k = tt
 
   pub ran_again : (n : ℕ) (turns : List ℕ) (es : List Entry) (r : Result (String Global × ℕ) TextFault)
       → IfOk r (λ x. IsAsked n turns × (rows : List State) × (string_bytes x.0 ≡ report_of (tree_of all) (rows_from 1 rows))

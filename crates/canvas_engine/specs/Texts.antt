@@ -3,7 +3,7 @@
 use Rattle.std.specs.Prelude.{◌≡◌, ℕ, List, Some, Ok, Err, IfSome, String, string_bytes}
 use Rattle.std.specs.Global.{Global}
 use Rattle.canvas_task.specs.Apply.{Behaviour}
-use Rattle.canvas_sig.specs.CanvasText.{text_reading}
+use Rattle.canvas_values.specs.CanvasText.{text_reading}
 use Rattle.canvas_task.specs.Text.{Text}
 use Rattle.canvas_semantics.specs.NormalLine.{normal}
 use Rattle.canvas_semantics.specs.Tree.{Tree, numbered}
@@ -13,9 +13,11 @@ use Rattle.canvas_semantics.specs.Report.{report, report_of}
 use Rattle.canvas_semantics.specs.SameMeaning.{IsSame}
 use Rattle.canvas_semantics.specs.States.{rows_from, states}
 use Rattle.canvas_turns.specs.Spending.{Entry}
-use Rattle.canvas_engine.specs.Correct.{IsAsked, IsWholeAgain}
+use Rattle.canvas_engine.specs.Correct.{AreWorkers, IsAsked, IsWholeAgain}
+use Rattle.canvas_engine.specs.Headline.{Headline}
 use Rattle.canvas_engine.specs.declared.fault.RunFault.{RunFault}
 use Rattle.canvas_engine.specs.declared.fault.RunFault.TheVariants.{Halted}
+use Rattle.canvas_engine.specs.declared.records.Records.{Records}
 use Rattle.canvas_engine.specs.declared.report.Report.{Report}
 use Rattle.canvas_engine.specs.declared.text.TextFault.{TextFault}
 use Rattle.canvas_engine.specs.declared.text.TextFault.TheVariants.{Sig, Run, Memory}
@@ -40,6 +42,17 @@ IsTextFault behaviour bytes Says (Sig e) = text_reading bytes ≡ Err e
 IsTextFault behaviour bytes Says (Run f stored) = (c : Tree) × (text_reading bytes ≡ Ok c)
     × Says (states behaviour (numbered c)) f × IfSome stored (IsStored (numbered c) f)
 IsTextFault behaviour bytes Says Memory = Unit {0}
+
+-- The text is the report of the canvas that the bytes read as, and the records are those of a run
+-- of its plan's line by so many workers, with all that such a run promises.
+pub record IsTextRun (behaviour : Behaviour) (bytes : Text) (n : ℕ) (text : Text) (r : Records) :
+    Type 0 where
+  pub canvas : Tree
+  pub line : Line
+  pub planned : IsPlanOfText bytes canvas line
+  pub workers : AreWorkers n
+  pub reported : text ≡ report behaviour canvas
+  pub ran : Headline behaviour line n (states behaviour (tree_of line)) r
 
 -- The text is the report of the canvas that the bytes read as, and m of the stores of a run of its
 -- plan's line by these turns, with these entries, answered Again: as many as there are entries for

@@ -10,7 +10,7 @@ ghost use Rattle.canvas_runs.specs.Following.{Serves};
 ghost use Rattle.canvas_callers.specs.Rows.{reads_from};
 ghost use Rattle.canvas_engine.specs.Correct.{AreWorkers, IsThreadFault};
 ghost use Rattle.canvas_engine.specs.Evidence.{IsRun};
-ghost use Rattle.canvas_engine.specs.steps.Crews.{AreGathered};
+ghost use Rattle.canvas_engine.specs.steps.Crews.{AreGathered, IsHaltedFor};
 
 use crate::crew::{Hands, Site};
 use crate::in_rounds::InRounds;
@@ -83,7 +83,9 @@ impl Gathered {
         requires workers { AreWorkers workers }
         requires gathered { (cause : Option Cause)
             × AreGathered (T.behaviour tasks.now) plan.now workers cause self }
-        ensures { IsThreadFault workers (states (T.behaviour tasks.now) (tree_of plan.now)) result }
+        ensures err { IsThreadFault workers (states (T.behaviour tasks.now) (tree_of plan.now))
+            result }
+        ensures why { IsHaltedFor cause result }
     {
         // For the clauses alone.
         let _tasks = tasks;

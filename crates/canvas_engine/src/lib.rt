@@ -19,7 +19,6 @@ mod text;
 mod threads;
 mod turn_list;
 mod turns;
-mod worth;
 
 pub use canvas_worker::{Cause, Gate, OpenGate, Stop, When};
 pub use entry_list::{EntryFault, read_again};
@@ -27,6 +26,6 @@ pub use fault::{MOST_WORKERS, RunFault};
 pub use records::{Records, Tally};
 pub use report::{Report, report_text};
 pub use running::run;
-pub use text::{TextFault, run_text, run_text_again, run_text_threads};
+pub use text::{TextFault, run_text, run_text_again, run_text_recorded, run_text_threads};
 pub use turn_list::read_turns;
 pub use turns::{run_turns, run_turns_again, run_turns_within};

@@ -15,7 +15,6 @@ use crate::gathered::Gathered;
 use crate::slot::Slot;
 use crate::threads::work_on_threads;
 use crate::turns::new_rows;
-use crate::worth::one_thread_serves;
 use crate::{Cause, Records, Report, RunFault, Tally};
 use canvas_backend::Backend;
 use canvas_broker::Broker;
@@ -101,7 +100,6 @@ where
         Ok(()) => (),
         Err(Memory) => return Err(RunFault::halted_with(Cause::Memory, rows)),
     }
-    let one_serves = one_thread_serves(plan, tasks, gate);
     let shared = Shared {
         broker: &site.broker,
         backend: &site.backend,
@@ -110,7 +108,7 @@ where
         stop,
         flight: &flight,
     };
-    work_on_threads(rt, alloc, &shared, &mut slots, one_serves);
+    work_on_threads(rt, alloc, &shared, &mut slots);
     if !are_done(&slots) {
         return Err(RunFault::halted(Cause::Memory));
     }
@@ -159,10 +157,6 @@ where
 /// Runs a plan with 1 to 16 workers, each on a thread of its own where one can be made and else on
 /// this one. The workers, numbered from 1, work until no message is in flight; then this thread, as
 /// worker 0, joins what they have seen, works until it finds nothing and reads each task once.
-///
-/// All work on this thread, one after the other, where more threads gain nothing: where no task
-/// runs beside another, and where `tasks` are light and have little to do. A gate that may hold a
-/// worker back has a thread for each.
 ///
 /// `gate` is asked between a worker's take and its first store. One that never opens keeps the run
 /// from ending, unless `stop` is asked; a worker that it holds back doesn't sleep.

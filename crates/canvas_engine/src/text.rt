@@ -1,6 +1,6 @@
 //! From the text of a canvas to the text of its report.
 ghost use Rattle.std.specs.Prelude.{◌≡◌, List, Ok, IfOk, IfErr, IfSome, OnOk, string_bytes};
-ghost use Rattle.canvas_sig.specs.CanvasText.{text_reading};
+ghost use Rattle.canvas_values.specs.CanvasText.{text_reading};
 ghost use Rattle.canvas_semantics.specs.NormalLine.{normal};
 ghost use Rattle.canvas_semantics.specs.Tree.{Tree, numbered};
 ghost use Rattle.canvas_semantics.specs.Evaluation.{State};
@@ -9,10 +9,12 @@ ghost use Rattle.canvas_semantics.specs.Report.{report, report_of};
 ghost use Rattle.canvas_semantics.specs.SameMeaning.{IsSame};
 ghost use Rattle.canvas_semantics.specs.States.{rows_from, states};
 ghost use Rattle.canvas_engine.specs.Correct.{AreWorkers, IsAsked, IsWholeAgain, IsRunFault, IsThreadFault};
-ghost use Rattle.canvas_engine.specs.Texts.{IsPlanOfText, IsStored, IsTextAgain, IsTextFault};
+ghost use Rattle.canvas_engine.specs.Headline.{Headline};
+ghost use Rattle.canvas_engine.specs.Texts.{IsPlanOfText, IsStored, IsTextAgain, IsTextFault, IsTextRun};
+ghost use Rattle.canvas_engine.specs.declared.records.Records.{Records};
 ghost use Rattle.canvas_engine.specs.steps.PlanTexts.{IsPlanFault, IsReadFault};
 
-use crate::{RunFault, When, report_text, run, run_turns_again};
+use crate::{Records, RunFault, When, report_text, run, run_turns_again};
 use canvas_rewrite::{Plan, freeze, into_normal};
 use canvas_sig::{Canvas, SigFault, read_canvas};
 use canvas_task::{Memory, TaskNo, Tasks};
@@ -153,7 +155,7 @@ pub fn run_text_again<T: Tasks>(
     plan_text(alloc, &plan, tasks, workers, turns, again)
 }
 
-/// Runs a plan on threads, and writes its report.
+/// Runs a plan on threads, and writes its report. With it come the records of the run.
 fn plan_text_threads<R, T, G>(
     rt: &R,
     alloc: Global,
@@ -162,20 +164,22 @@ fn plan_text_threads<R, T, G>(
     workers: u32,
     gate: &G,
     stop: &Stop,
-) -> Result<String, TextFault>
+) -> Result<(String, Records), TextFault>
 where
     R: Threads + Wait + RandomSource + AllocGlobal + Sync,
     T: Tasks + Sync,
     G: Gate + Sync,
-    ensures ok { IfOk result (λ text. AreWorkers workers
-        × (string_bytes text
+    ensures ok { IfOk result (λ r. AreWorkers workers
+        × (string_bytes r.0
         ≡ report_of (tree_of plan.now)
-        (rows_from 1 (states (T.behaviour tasks.now) (tree_of plan.now))))) }
+        (rows_from 1 (states (T.behaviour tasks.now) (tree_of plan.now))))
+        × Headline (T.behaviour tasks.now) plan.now workers
+        (states (T.behaviour tasks.now) (tree_of plan.now)) r.1) }
     ensures err { IfErr result (IsPlanFault (tree_of plan.now)
         (IsThreadFault workers (states (T.behaviour tasks.now) (tree_of plan.now)))) }
 {
     match run(rt, alloc, plan, tasks, workers, gate, stop) {
-        Ok((report, _records)) => Ok(report_text(alloc, plan, &report)?),
+        Ok((report, records)) => Ok((report_text(alloc, plan, &report)?, records)),
         Err(fault) => Err(TextFault::Run {
             stored: stored_text(alloc, plan, &fault),
             fault,
@@ -183,9 +187,33 @@ where
     }
 }
 
-/// Reads a canvas, runs it with 1 to 16 workers on threads, and writes its report. The faults of
-/// the text come first, then those of the run. `gate` and `stop` are those of `run`: a gate must
-/// open in the end, and a stop that was asked, by a worker too, isn't to be used again.
+/// Reads a canvas, runs it with 1 to 16 workers on threads, and writes its report, beside which
+/// come the records of the run. The faults of the text come first, then those of the run. `gate`
+/// and `stop` are those of `run`: a gate must open in the end, and a stop that was asked, by a
+/// worker too, isn't to be used again.
+pub fn run_text_recorded<R, T, G>(
+    rt: &R,
+    alloc: Global,
+    bytes: &[u8],
+    tasks: &T,
+    workers: u32,
+    gate: &G,
+    stop: &Stop,
+) -> Result<(String, Records), TextFault>
+where
+    R: Threads + Wait + RandomSource + AllocGlobal + Sync,
+    T: Tasks + Sync,
+    G: Gate + Sync,
+    ensures ok { IfOk result (λ r.
+        IsTextRun (T.behaviour tasks.now) bytes.now workers (string_bytes r.0) r.1) }
+    ensures err { IfErr result
+        (IsTextFault (T.behaviour tasks.now) bytes.now (IsThreadFault workers)) }
+{
+    let plan = read_plan(alloc, bytes)?;
+    plan_text_threads(rt, alloc, &plan, tasks, workers, gate, stop)
+}
+
+/// As `run_text_recorded`, without the records.
 pub fn run_text_threads<R, T, G>(
     rt: &R,
     alloc: Global,
@@ -199,11 +227,13 @@ where
     R: Threads + Wait + RandomSource + AllocGlobal + Sync,
     T: Tasks + Sync,
     G: Gate + Sync,
-    ensures ok { IfOk result (λ text. (c : Tree) × (text_reading bytes.now ≡ Ok c)
-        × AreWorkers workers × (string_bytes text ≡ report (T.behaviour tasks.now) c)) }
+    ensures ok { IfOk result (λ text. (records : Records)
+        × IsTextRun (T.behaviour tasks.now) bytes.now workers (string_bytes text) records) }
     ensures err { IfErr result
         (IsTextFault (T.behaviour tasks.now) bytes.now (IsThreadFault workers)) }
 {
-    let plan = read_plan(alloc, bytes)?;
-    plan_text_threads(rt, alloc, &plan, tasks, workers, gate, stop)
+    match run_text_recorded(rt, alloc, bytes, tasks, workers, gate, stop) {
+        Ok((text, _records)) => Ok(text),
+        Err(fault) => Err(fault),
+    }
 }

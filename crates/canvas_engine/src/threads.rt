@@ -41,14 +41,13 @@ where
     }
 }
 
-/// Runs each worker on a thread of its own, or on this one where none can be made or where this one
-/// serves. There they work one after the other, each until no message is in flight.
+/// Runs each worker on a thread of its own, or on this one where none can be made: there they work
+/// one after the other, each until no message is in flight.
 pub(crate) fn work_on_threads<R, T, G>(
     rt: &R,
     alloc: Global,
     shared: &Shared<'_, T, G>,
     slots: &mut [Slot],
-    one_serves: bool,
 )
 where
     R: Threads + Wait + RandomSource + AllocGlobal + Sync,
@@ -84,6 +83,6 @@ where
             slot,
         )
     };
-    let threads = if one_serves { 1 } else { slots.len() };
+    let threads = slots.len();
     for_each_mut(rt, slots, threads, &each);
 }

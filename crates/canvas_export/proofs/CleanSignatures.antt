@@ -6,7 +6,7 @@ use Rattle.serde_json.specs.Data.{Data, string, array, Items, no_items, item, Me
 use Rattle.canvas_sig.specs.steps.Clean.{IsAbove, behind_members, IsClean, AreClean, MembersClean}
 use Rattle.canvas_sig.specs.Writing.{member_unless_empty, tasks_member, chord_members}
 use Rattle.canvas_sig.proofs.CleanWire.{args_clean, above_behind, kwargs_clean, all_above}
-use Rattle.canvas_sig.proofs.ComposedLemmas.{both}
+use Rattle.canvas_values.proofs.ComposedLemmas.{both}
 use Rattle.canvas_semantics.specs.Line.{in_group}
 use Rattle.canvas_semantics.specs.PlacedLine.{PTask, p_task, PTasks, no_p_tasks, and_p_task, PPlace, p_nowhere, p_group, p_chord, PLine, p_stop, p_step, p_group_end, p_chord_end, PLines, no_p_lines, and_p_line, strip}
 use Rattle.canvas_message.specs.Fits.{is_task_number, size_ok, task_ok, tasks_ok, place_ok, line_ok, members_ok}

@@ -9,7 +9,7 @@ use Rattle.serde_json.specs.Data.{Data, null, string, object, Items, no_items, i
 use Rattle.serde_json.specs.Read.{read}
 use Rattle.serde_json.specs.Written.{compact_text}
 use Rattle.canvas_task.specs.Text.{Text}
-use Rattle.canvas_sig.specs.Fields.{field, items, listed}
+use Rattle.canvas_values.specs.Fields.{field, items, listed}
 use Rattle.canvas_sig.specs.steps.Clean.{IsClean, AreClean}
 use Rattle.canvas_sig.proofs.CleanWire.{args_clean, kwargs_clean, all_above, args_depth, kwargs_depth}
 use Rattle.canvas_sig.proofs.ReadsAgain.{text_read}

@@ -7,13 +7,13 @@ use Rattle.canvas_task.specs.Text.{Text}
 use Rattle.canvas_task.specs.Identifiers.{task_text, group_text, task_named, group_named}
 use Rattle.canvas_task.specs.declared.arg.Arg.{Arg}
 use Rattle.canvas_task.proofs.IdentifierLemmas as identifiers
-use Rattle.canvas_sig.specs.Answers.{judged}
-use Rattle.canvas_sig.specs.Fields.{items, entries}
-use Rattle.canvas_sig.specs.Grammar.{argument_of, arg_fault}
-use Rattle.canvas_sig.specs.Refusals.{named_of, spelled_call}
+use Rattle.canvas_values.specs.Answers.{judged}
+use Rattle.canvas_values.specs.Fields.{items, entries}
+use Rattle.canvas_values.specs.Grammar.{argument_of, arg_fault}
+use Rattle.canvas_values.specs.Refusals.{named_of, spelled_call}
 use Rattle.canvas_sig.specs.Writing.{arg_wire, args_wire, kwargs_wire}
-use Rattle.canvas_sig.specs.declared.fault.SigFault.{SigFault}
-use Rattle.canvas_sig.proofs.FittingCalls.{ArgFits, ArgsFit, KwargsFit, CallFits}
+use Rattle.canvas_values.specs.declared.fault.SigFault.{SigFault}
+use Rattle.canvas_values.proofs.FittingCalls.{ArgFits, ArgsFit, KwargsFit, CallFits}
 use Rattle.canvas_sig.proofs.RoundTrip.{arg_back}
 use Rattle.canvas_semantics.specs.Tree.{Call}
 use Rattle.canvas_message.specs.Fits.{is_task_number}

@@ -9,11 +9,11 @@ use Rattle.serde_json.specs.Data.{Data, string}
 use Rattle.serde_json.specs.Read.{read}
 use Rattle.canvas_task.specs.Text.{Text}
 use Rattle.canvas_task.specs.Identifiers.{task_named, group_named}
-use Rattle.canvas_sig.specs.Fields.{field, subtype, option, tasks, header, body, link, link_error, listed, object_members, text_of, is_null}
-use Rattle.canvas_sig.specs.Grammar.{argument_of, primitive_of}
-use Rattle.canvas_sig.specs.Refusals.{named_of, spelled_call}
-use Rattle.canvas_sig.specs.declared.primitive.Primitive.{Primitive}
-use Rattle.canvas_sig.specs.declared.primitive.Primitive.TheVariants as kind
+use Rattle.canvas_values.specs.Fields.{field, subtype, option, tasks, header, body, link, link_error, listed, object_members, text_of, is_null}
+use Rattle.canvas_values.specs.Grammar.{argument_of, primitive_of}
+use Rattle.canvas_values.specs.Refusals.{named_of, spelled_call}
+use Rattle.canvas_values.specs.declared.primitive.Primitive.{Primitive}
+use Rattle.canvas_values.specs.declared.primitive.Primitive.TheVariants as kind
 use Rattle.canvas_rewrite.specs.FrozenView.{p_tasks_of, p_lines_of}
 use Rattle.canvas_semantics.specs.PlacedLine.{PTask, p_task, no_p_tasks, PPlace, p_nowhere, p_group, p_chord, PLine, p_stop, p_step, p_group_end, p_chord_end}
 use Rattle.canvas_message.specs.Content.{Content}

@@ -1,5 +1,5 @@
 -- What several steps of a listing add.
-use Rattle.std.proofs.Common.{◌≡◌, ◌≢◌, ℕ, zero, suc, ◌-◌, ◌+◌, Bool, List, [], ◌∷◌, ◌++◌, map, refl, sym, ap, ap₂, ◌∙◌, append_assoc, append-nil, arith, subst, Option, Some, None, IsSome, Result, Ok, Err, OnOk}
+use Rattle.std.proofs.Common.{◌≡◌, ◌≢◌, ℕ, zero, suc, ◌-◌, Bool, List, [], ◌∷◌, ◌++◌, map, refl, sym, ap, ap₂, ◌∙◌, append_assoc, append-nil, arith, subst, Option, Some, None, IsSome, Result, Ok, Err, OnOk}
 use Rattle.std.specs.Option.{option_to_list}
 use Rattle.std.proofs.lemmas.List.{map-append}
 use Rattle.serde_json.specs.Data.{Data}
@@ -8,8 +8,8 @@ use Rattle.std.specs.Borrow.{Bor}
 use Rattle.canvas_sig.specs.declared.datum.Datum.{Datum}
 use Rattle.canvas_sig.specs.declared.datum.Datum as datum
 use Rattle.canvas_sig.proofs.Parsed.{view-List}
-use Rattle.canvas_sig.specs.declared.primitive.Primitive.TheVariants as kind
-use Rattle.canvas_sig.specs.Fields.{header, body}
+use Rattle.canvas_values.specs.declared.primitive.Primitive.TheVariants as kind
+use Rattle.canvas_values.specs.Fields.{header, body}
 use Rattle.canvas_sig.proofs.Json.{items-items_of}
 use Rattle.canvas_finding.specs.FileOrder.{Sighted, behind, itself, inside, in_each, in_kwargs, from_index, one_in, some_in, sighted_within}
 use Rattle.canvas_finding.specs.Places.{shown, Lists}

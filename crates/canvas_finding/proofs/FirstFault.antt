@@ -2,15 +2,15 @@
 use Rattle.std.proofs.Common.{◌≡◌, ℕ, zero, suc, Bool, true, false, List, [], ◌∷◌, ◌++◌, map, Option, Some, None, option_and_then, find, refl, sym, ap, ap₂, ◌∙◌}
 use Rattle.std.specs.Prelude.{not, ◌||◌}
 use Rattle.serde_json.specs.Data.{Data, null, boolean, number, string, array, object, depth}
-use Rattle.canvas_sig.specs.Answers.{◌or_else◌}
-use Rattle.canvas_sig.specs.Fields.{subtype, tasks, header, body, link, link_error, items, listed, as_list, is_null, is_list}
-use Rattle.canvas_sig.specs.Grammar.{own_fault, fault_as, primitive_of, not_signature, is_group}
-use Rattle.canvas_sig.specs.Refusals.{first_fault, fault_within, signature_fault, in_kwargs as data_in_kwargs}
-use Rattle.canvas_sig.specs.declared.fault.SigFault.{SigFault}
-use Rattle.canvas_sig.specs.declared.fault.SigFault.TheVariants.{NotSignature}
-use Rattle.canvas_sig.specs.declared.primitive.Primitive.{Primitive}
-use Rattle.canvas_sig.specs.declared.primitive.Primitive.TheVariants as kind
-use Rattle.canvas_sig.proofs.Law.{quiet, neither, fine}
+use Rattle.canvas_values.specs.Answers.{◌or_else◌}
+use Rattle.canvas_values.specs.Fields.{subtype, tasks, header, body, link, link_error, items, listed, as_list, is_null, is_list}
+use Rattle.canvas_values.specs.Grammar.{own_fault, fault_as, primitive_of, not_signature, is_group}
+use Rattle.canvas_values.specs.Refusals.{first_fault, fault_within, signature_fault, in_kwargs as data_in_kwargs}
+use Rattle.canvas_values.specs.declared.fault.SigFault.{SigFault}
+use Rattle.canvas_values.specs.declared.fault.SigFault.TheVariants.{NotSignature}
+use Rattle.canvas_values.specs.declared.primitive.Primitive.{Primitive}
+use Rattle.canvas_values.specs.declared.primitive.Primitive.TheVariants as kind
+use Rattle.canvas_values.proofs.Law.{quiet, neither, fine}
 use Rattle.canvas_finding.specs.FileOrder.{Sighted, behind, inside, in_each, in_kwargs, from_index, one_in, some_in, sighted_within, signatures}
 use Rattle.canvas_finding.specs.Refused.{refusal_of, is_refused, first_refused}
 use Rattle.canvas_finding.specs.declared.step.Field.{Field}

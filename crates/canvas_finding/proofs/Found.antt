@@ -6,11 +6,11 @@ use Rattle.serde_json.specs.Data.{Data, depth}
 use Rattle.serde_json.specs.Read.{read}
 use Rattle.serde_json.proofs.Nesting.{depth-read}
 use Rattle.canvas_task.specs.Text.{Text}
-use Rattle.canvas_sig.specs.CanvasText.{json_of}
-use Rattle.canvas_sig.specs.declared.fault.SigFault.{SigFault}
-use Rattle.canvas_sig.specs.declared.fault.SigFault.TheVariants.{Memory}
-use Rattle.canvas_sig.specs.Answers.{Fails}
-use Rattle.canvas_sig.specs.steps.Reading.{json_reading}
+use Rattle.canvas_values.specs.CanvasText.{json_of}
+use Rattle.canvas_values.specs.declared.fault.SigFault.{SigFault}
+use Rattle.canvas_values.specs.declared.fault.SigFault.TheVariants.{Memory}
+use Rattle.canvas_values.specs.Answers.{Fails}
+use Rattle.canvas_values.specs.steps.Reading.{json_reading}
 use Rattle.canvas_finding.specs.Places.{shown}
 use Rattle.canvas_finding.specs.Limits.{place_of}
 use Rattle.canvas_finding.specs.Pointer.{AreIndices}

@@ -1,11 +1,11 @@
 -- The parts of a pointer: names that need no escape, and indices.
-use Rattle.std.proofs.Common.{◌≡◌, ◌≢◌, ℕ, zero, suc, ◌+◌, ◌^◌, ◌<◌, ◌≤◌, List, [], ◌∷◌, ◌++◌, length, get_or, Bool, true, false, Some, decimal, refl, sym, ap, ◌∙◌, arith, append-nil, lt-ltb, ne_eqb, eqb, eq-eqb}
-use Rattle.std.specs.Prelude.{not, ◌&&◌, ◌||◌, ◌==◌}
+use Rattle.std.proofs.Common.{◌≡◌, ◌≢◌, ℕ, zero, suc, ◌^◌, ◌<◌, List, [], ◌∷◌, ◌++◌, length, get_or, Bool, true, false, Some, decimal, refl, sym, ap, ◌∙◌, arith, append-nil, lt-ltb, ne_eqb, eqb, eq-eqb}
+use Rattle.std.specs.Prelude.{not, ◌&&◌, ◌||◌}
 use Rattle.std.specs.List.{list_all}
 use Rattle.std.specs.Char.{digit_value}
 use Rattle.std.specs.Str.Parse.{AllDigits}
 use Rattle.std.proofs.lemmas.Fmt.{decimal_is_IsNumeral, decimal_nonempty, first_decimal, decimal_digit}
-use Rattle.fast_float.specs.Text.{Parts, text_of, scan, IsWellFormed}
+use Rattle.fast_float.specs.Text.{Parts, scan, IsWellFormed}
 use Rattle.fast_float.proofs.Writing.{scan-text_of}
 use Rattle.serde_json.specs.Find.{index_of}
 use Rattle.serde_json.proofs.Paths.{Lacks}

@@ -1,18 +1,18 @@
 -- The pointer to each signature of a listing leads to it (RFC 6901).
-use Rattle.std.proofs.Common.{◌≡◌, ◌⊎◌, inl, inr, ℕ, zero, suc, ◌+◌, ◌^◌, ◌<◌, Bool, true, false, List, [], ◌∷◌, ◌++◌, map, find, Option, Some, None, option_and_then, decimal, refl, sym, ap, subst, ◌∙◌, arith, append-nil, append_assoc}
+use Rattle.std.proofs.Common.{◌≡◌, ◌⊎◌, inl, inr, ℕ, zero, suc, ◌+◌, Bool, true, false, List, [], ◌∷◌, ◌++◌, map, find, Option, Some, None, option_and_then, decimal, refl, sym, ap, subst, ◌∙◌, arith, append-nil, append_assoc}
 use Rattle.std.specs.Prelude.{codes, unwrap_or, ◌==◌, ◌-◌, if◌then◌else◌}
 use Rattle.serde_json.specs.Data.{Data, null, boolean, number, string, array, object, Items, no_items, item, depth}
-use Rattle.serde_json.specs.Find.{get, get_item, get_member, index_of, step, walk, pointer}
+use Rattle.serde_json.specs.Find.{get, get_item, get_member, step, walk, pointer}
 use Rattle.serde_json.proofs.Paths.{Lacks, walk_part, walk_last, unescape_plain}
 use Rattle.canvas_task.specs.Text.{Text}
-use Rattle.canvas_sig.specs.Fields.{field, subtype, tasks, header, body, link, link_error, items, listed, is_null}
-use Rattle.canvas_sig.specs.Grammar.{primitive_of}
-use Rattle.canvas_sig.specs.declared.primitive.Primitive.{Primitive}
-use Rattle.canvas_sig.specs.declared.primitive.Primitive.TheVariants as kind
+use Rattle.canvas_values.specs.Fields.{field, subtype, tasks, header, body, link, link_error, items, listed, is_null}
+use Rattle.canvas_values.specs.Grammar.{primitive_of}
+use Rattle.canvas_values.specs.declared.primitive.Primitive.{Primitive}
+use Rattle.canvas_values.specs.declared.primitive.Primitive.TheVariants as kind
 use Rattle.canvas_finding.specs.FileOrder.{Sighted, behind, itself, in_each, in_kwargs, from_index, one_in, some_in, sighted_within, signatures}
 use Rattle.canvas_semantics.specs.Bounds.{most_tasks, most_groups}
-use Rattle.canvas_sig.specs.declared.fault.SigFault.{SigFault}
-use Rattle.canvas_sig.specs.declared.fault.SigFault.TheVariants as fault
+use Rattle.canvas_values.specs.declared.fault.SigFault.{SigFault}
+use Rattle.canvas_values.specs.declared.fault.SigFault.TheVariants as fault
 use Rattle.canvas_finding.specs.Refused.{is_refused, first_refused}
 use Rattle.canvas_finding.specs.Limits.{is_nested, is_too_deep, too_deep, is_task, is_counted_group, past, place_of}
 use Rattle.canvas_finding.specs.Pointer.{field_text, index_text, step_text, pointer_text, IsIndex, AreIndices}

@@ -1,12 +1,12 @@
 -- As deep as a value is, a listing leaves no signature out: more levels change nothing.
-use Rattle.std.proofs.Common.{◌≡◌, ℕ, zero, suc, ◌≤◌, Bool, true, false, List, [], ◌∷◌, ◌++◌, map, Option, Some, None, refl, sym, ap, ap₂, subst, ◌∙◌, arith}
+use Rattle.std.proofs.Common.{◌≡◌, ℕ, zero, suc, ◌≤◌, Bool, true, false, List, [], ◌∷◌, ◌++◌, map, Option, Some, None, refl, sym, ap, ap₂, subst, arith}
 use Rattle.std.specs.Prelude.{codes}
 use Rattle.serde_json.specs.Data.{Data, null, boolean, number, string, array, object, no_items, item, Items, depth, items_depth}
-use Rattle.canvas_sig.specs.Fields.{subtype, tasks, header, body, link, link_error, items, listed, as_list}
-use Rattle.canvas_sig.specs.Grammar.{primitive_of}
-use Rattle.canvas_sig.specs.declared.primitive.Primitive.{Primitive}
-use Rattle.canvas_sig.specs.declared.primitive.Primitive.TheVariants as kind
-use Rattle.canvas_sig.proofs.Depth.{AllLow, inner_low, listed_low, link_low}
+use Rattle.canvas_values.specs.Fields.{subtype, tasks, header, body, link, link_error, items, listed, as_list}
+use Rattle.canvas_values.specs.Grammar.{primitive_of}
+use Rattle.canvas_values.specs.declared.primitive.Primitive.{Primitive}
+use Rattle.canvas_values.specs.declared.primitive.Primitive.TheVariants as kind
+use Rattle.canvas_values.proofs.Depth.{AllLow, inner_low, listed_low, link_low}
 use Rattle.canvas_finding.specs.FileOrder.{Sighted, behind, itself, in_each, in_kwargs, one_in, some_in, sighted_within, signatures}
 use Rattle.canvas_finding.specs.declared.step.Field.{Field}
 use Rattle.canvas_finding.specs.declared.step.Field.TheVariants as field

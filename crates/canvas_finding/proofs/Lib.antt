@@ -5,3 +5,8 @@ pub mod Indices
 pub mod Leads
 pub mod Searches
 pub mod Found
+pub mod Counting
+pub mod Reckoning
+pub mod Measures
+pub mod Nested
+pub mod Placed

@@ -1,5 +1,5 @@
 -- Steps and lines, as the searches for limits go over them.
-use Rattle.std.proofs.Common.{◌≡◌, ◌≢◌, ℕ, zero, suc, ◌-◌, ◌∷◌, refl, sym, ap, ◌∙◌, arith}
+use Rattle.std.proofs.Common.{◌≡◌, ◌≢◌, ℕ, zero, suc, ◌-◌, refl, sym, ap, arith}
 use Rattle.serde_json.specs.Data.{Data}
 use Rattle.canvas_finding.specs.Limits.{kind_of, ends_where, ends_in_group}
 

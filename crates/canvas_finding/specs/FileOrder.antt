@@ -3,10 +3,10 @@
 -- Canvas). A header that is written as a group signature is a signature of its own.
 use Rattle.std.specs.Prelude.{ℕ, zero, suc, Bool, true, false, List, [], ◌∷◌, ◌++◌, map, Option, Some, None}
 use Rattle.serde_json.specs.Data.{Data, null, array, depth}
-use Rattle.canvas_sig.specs.Fields.{subtype, tasks, header, body, link, link_error, items, listed}
-use Rattle.canvas_sig.specs.Grammar.{primitive_of}
-use Rattle.canvas_sig.specs.declared.primitive.Primitive.{Primitive}
-use Rattle.canvas_sig.specs.declared.primitive.Primitive.TheVariants as kind
+use Rattle.canvas_values.specs.Fields.{subtype, tasks, header, body, link, link_error, items, listed}
+use Rattle.canvas_values.specs.Grammar.{primitive_of}
+use Rattle.canvas_values.specs.declared.primitive.Primitive.{Primitive}
+use Rattle.canvas_values.specs.declared.primitive.Primitive.TheVariants as kind
 use Rattle.canvas_finding.specs.declared.step.Field.{Field}
 use Rattle.canvas_finding.specs.declared.step.Field.TheVariants as field
 use Rattle.canvas_finding.specs.declared.step.Step.{Step}

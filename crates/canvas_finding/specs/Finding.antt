@@ -4,9 +4,9 @@ use Rattle.serde_json.specs.Data.{Data}
 use Rattle.serde_json.specs.Find.{pointer}
 use Rattle.canvas_task.specs.Text.{Text}
 use Rattle.canvas_semantics.specs.Tree.{Tree}
-use Rattle.canvas_sig.specs.CanvasText.{json_of, text_reading}
-use Rattle.canvas_sig.specs.declared.fault.SigFault.{SigFault}
-use Rattle.canvas_sig.specs.declared.fault.SigFault.TheVariants.{TooLarge}
+use Rattle.canvas_values.specs.CanvasText.{json_of, text_reading}
+use Rattle.canvas_values.specs.declared.fault.SigFault.{SigFault}
+use Rattle.canvas_values.specs.declared.fault.SigFault.TheVariants.{TooLarge}
 use Rattle.canvas_finding.specs.FileOrder.{Sighted}
 use Rattle.canvas_finding.specs.Limits.{place_of}
 use Rattle.canvas_finding.specs.Pointer.{pointer_text}

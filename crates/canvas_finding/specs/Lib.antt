@@ -5,3 +5,4 @@ pub mod Refused
 pub mod Limits
 pub mod Wanted
 pub mod Finding
+pub mod Placed

@@ -3,12 +3,12 @@
 use Rattle.std.specs.Prelude.{ℕ, zero, suc, ◌+◌, ◌-◌, Bool, true, false, not, ◌&&◌, List, [], ◌∷◌, length, Option, Some, None, nat_lt, ◌==◌, find, count_by, slice_get, is_some, if◌then◌else◌}
 use Rattle.serde_json.specs.Data.{Data}
 use Rattle.canvas_semantics.specs.Bounds.{most_nesting, most_tasks, most_groups}
-use Rattle.canvas_sig.specs.Fields.{subtype, tasks, body, listed}
-use Rattle.canvas_sig.specs.Grammar.{primitive_of}
-use Rattle.canvas_sig.specs.declared.primitive.Primitive.{Primitive}
-use Rattle.canvas_sig.specs.declared.primitive.Primitive.TheVariants as kind
-use Rattle.canvas_sig.specs.declared.fault.SigFault.{SigFault}
-use Rattle.canvas_sig.specs.declared.fault.SigFault.TheVariants as fault
+use Rattle.canvas_values.specs.Fields.{subtype, tasks, body, listed}
+use Rattle.canvas_values.specs.Grammar.{primitive_of}
+use Rattle.canvas_values.specs.declared.primitive.Primitive.{Primitive}
+use Rattle.canvas_values.specs.declared.primitive.Primitive.TheVariants as kind
+use Rattle.canvas_values.specs.declared.fault.SigFault.{SigFault}
+use Rattle.canvas_values.specs.declared.fault.SigFault.TheVariants as fault
 use Rattle.canvas_finding.specs.FileOrder.{Sighted, itself, signatures}
 use Rattle.canvas_finding.specs.Refused.{first_refused}
 use Rattle.canvas_finding.specs.declared.step.Field.{Field}

@@ -1,8 +1,8 @@
 -- The first signature of a text that is refused for itself, in file order.
-use Rattle.std.specs.Prelude.{◌≡◌, Bool, Option, is_some, find}
+use Rattle.std.specs.Prelude.{Bool, Option, is_some, find}
 use Rattle.serde_json.specs.Data.{Data}
-use Rattle.canvas_sig.specs.Grammar.{own_fault}
-use Rattle.canvas_sig.specs.declared.fault.SigFault.{SigFault}
+use Rattle.canvas_values.specs.Grammar.{own_fault}
+use Rattle.canvas_values.specs.declared.fault.SigFault.{SigFault}
 use Rattle.canvas_finding.specs.FileOrder.{Sighted, signatures}
 
 abbrev pub refusal_of : Sighted → Option SigFault

@@ -1,9 +1,16 @@
-//! The first argument of a task that is of no allowed kind, or holds a bad number.
+//! The note on a task's first argument that is of no allowed kind, or holds a bad number.
 
 use crate::shown::{quoted, shown_value};
 use canvas_sig::parts::{Datum, listed};
 use canvas_task::in_range;
 use std::alloc::{AllocError, Global};
+
+/// What is wanted in place of an argument, and in place of an item of one that is a list.
+const ARGUMENT: &str = "a whole number, a text or a list of whole numbers";
+
+const ITEM: &str = "a whole number, as all of a list are";
+
+const NUMBER: &str = "a whole number from -2^60 to 2^60";
 
 /// Which fault of an argument is looked for.
 #[derive(Clone, Copy)]
@@ -41,34 +48,38 @@ fn is_bad(value: &Datum<'_>, bad: Bad) -> bool {
     }
 }
 
-/// What is bad in a value, and where in it.
-fn shown_bad(alloc: Global, at: &str, value: &Datum<'_>, bad: Bad) -> Result<String, AllocError> {
+/// What is bad in an argument, which may be an item of it, where it stands, and what is wanted.
+fn of_argument(alloc: Global, at: &str, value: &Datum<'_>, bad: Bad) -> Result<String, AllocError> {
     if let Datum::List(values) = value {
         for (index, value) in values.iter().enumerate() {
-            let is_item_bad = match bad {
-                Bad::Kind => !is_number(value),
-                Bad::Number => !is_whole(value),
+            let (is_item_bad, wanted) = match bad {
+                Bad::Kind => (!is_number(value), ITEM),
+                Bad::Number => (!is_whole(value), NUMBER),
             };
             if is_item_bad {
                 let shown = shown_value(alloc, value)?;
-                return format!(in alloc; "{at}[{index}] {shown}");
+                return format!(in alloc; "found {at}[{index}] {shown}, wanted {wanted}");
             }
         }
     }
+    let wanted = match bad {
+        Bad::Kind => ARGUMENT,
+        Bad::Number => NUMBER,
+    };
     let shown = shown_value(alloc, value)?;
-    format!(in alloc; "{at} {shown}")
+    format!(in alloc; "found {at} {shown}, wanted {wanted}")
 }
 
-/// The first argument that is bad, with where it stands.
-pub(crate) fn first_bad(
+/// The note on the first argument that is bad.
+pub(crate) fn of_bad_argument(
     alloc: Global,
     signature: &Datum<'_>,
     bad: Bad,
-) -> Result<Option<String>, AllocError> {
+) -> Result<String, AllocError> {
     for (index, value) in listed(signature.get("args")).iter().enumerate() {
         if is_bad(value, bad) {
             let at = format!(in alloc; "args[{index}]")?;
-            return Ok(Some(shown_bad(alloc, &at, value, bad)?));
+            return of_argument(alloc, &at, value, bad);
         }
     }
     if let Some(Datum::Object(members)) = signature.get("kwargs") {
@@ -76,9 +87,9 @@ pub(crate) fn first_bad(
             if is_bad(value, bad) {
                 let name = quoted(alloc, name)?;
                 let at = format!(in alloc; "kwargs[{name}]")?;
-                return Ok(Some(shown_bad(alloc, &at, value, bad)?));
+                return of_argument(alloc, &at, value, bad);
             }
         }
     }
-    Ok(None)
+    Ok(String::new(alloc))
 }

@@ -1,6 +1,6 @@
 //! How deep a canvas is: as it was written, and in a message of its run.
 
-use canvas_sig::{Canvas, Node, TaskSig};
+use canvas_values::{Canvas, Node, TaskSig};
 
 /// How deeply signatures of a canvas stand in each other.
 #[derive(Clone, Copy, Debug, PartialEq, Eq)]

@@ -3,7 +3,8 @@
 
 ghost use Rattle.std.specs.Prelude.{◌≡◌, option_and_then};
 ghost use Rattle.serde_json.specs.Data.{Data};
-ghost use Rattle.canvas_sig.specs.Refusals.{signature_fault};
+ghost use Rattle.canvas_values.specs.Refusals.{signature_fault};
+ghost use Rattle.canvas_finding.specs.Placed.{EachHasPlace, WholeIsTooLarge};
 ghost use Rattle.canvas_finding.specs.Refused.{refusal_of, first_refused};
 
 mod arguments;
@@ -24,4 +25,12 @@ pub use step::{Field, Step, pointer_text};
 #[tactic(auto, using(crate::proofs::FirstFault::first_refusal))]
 pub fn law_of_first_refusals()
     ensures { (d : Data) → option_and_then refusal_of (first_refused d) ≡ signature_fault d }
+{}
+
+/// A text of JSON that is refused, and not for its size, is refused at a signature. So what is
+/// found names a text as a whole only where that is too large.
+#[tactic(auto, using(crate::proofs::Placed::each_placed, crate::proofs::Placed::whole_text))]
+pub fn law_of_places()
+    ensures each { EachHasPlace }
+    ensures whole { WholeIsTooLarge }
 {}

@@ -2,8 +2,7 @@
 
 ghost use Rattle.std.specs.Prelude.{◌≡◌, ◌≤◌, map, find, false};
 ghost use Rattle.std.specs.Option.{option_map, option_copied};
-ghost use Rattle.canvas_sig.specs.Datum.{view};
-ghost use Rattle.canvas_sig.specs.Fields.{value_at};
+ghost use Rattle.canvas_sig.specs.Datum.{view, value_at};
 ghost use Rattle.canvas_finding.specs.Places.{shown};
 ghost use Rattle.canvas_finding.specs.Refused.{is_refused};
 ghost use Rattle.canvas_finding.specs.Wanted.{is_wanted};
@@ -11,7 +10,8 @@ ghost use Rattle.canvas_finding.specs.Limits.{kind_of, is_too_deep, steps_to_mem
 
 use crate::listing::Place;
 use crate::step::{Field, Step};
-use canvas_sig::parts::{Datum, MOST_LEVELS, Primitive, kwarg_of, listed, own_fault, primitive_of};
+use canvas_sig::parts::{Datum, MOST_LEVELS, kwarg_of, listed, own_fault, primitive_of};
+use canvas_values::Primitive;
 
 const MOST_NESTING: usize = 8;
 

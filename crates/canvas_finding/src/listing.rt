@@ -2,14 +2,14 @@
 
 ghost use Rattle.std.specs.Prelude.{◌≡◌, ◌≤◌, ◌∷◌, [], false, map, OnOk, IfOk, Some};
 ghost use Rattle.serde_json.specs.Data.{depth};
-ghost use Rattle.canvas_sig.specs.Datum.{view};
-ghost use Rattle.canvas_sig.specs.Fields.{value_at};
-ghost use Rattle.canvas_sig.specs.declared.primitive.Primitive.TheVariants.{Chord};
+ghost use Rattle.canvas_sig.specs.Datum.{view, value_at};
+ghost use Rattle.canvas_values.specs.declared.primitive.Primitive.TheVariants.{Chord};
 ghost use Rattle.canvas_finding.specs.FileOrder.{behind, itself, in_each, inside, in_kwargs, from_index, one_in, some_in, sighted_within, signatures};
 ghost use Rattle.canvas_finding.specs.Places.{shown, Lists};
 
 use crate::step::{Field, Step};
-use canvas_sig::parts::{Datum, Primitive, kwarg_of, listed, option_of, primitive_of};
+use canvas_sig::parts::{Datum, kwarg_of, listed, option_of, primitive_of};
+use canvas_values::Primitive;
 use std::alloc::{AllocError, Global};
 
 /// A signature of a text, and the steps that lead to it.

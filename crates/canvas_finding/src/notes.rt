@@ -1,21 +1,20 @@
 //! What was found where a text is refused, and what is wanted there, in a line.
 
-use crate::arguments::{Bad, first_bad};
+use crate::arguments::{Bad, of_bad_argument};
 use crate::listing::Place;
 use crate::shown::{shown, shown_value};
 use canvas_sig::SigFault;
 use canvas_sig::parts::{
-    Datum, Primitive, is_list, is_list_or_null, is_name, is_null, is_object_or_null, is_true,
-    kwarg_of, option_of, primitive_of,
+    Datum, is_list, is_list_or_null, is_name, is_object_or_null, is_text, is_true, kwarg_of,
+    option_of, primitive_of,
 };
+use canvas_values::Primitive;
 use std::alloc::{AllocError, Global};
 
-/// What is wanted in place of an argument.
-const ARGUMENT: &str = "a whole number, a text or a list of whole numbers";
-
-const NUMBER: &str = "a whole number from -2^60 to 2^60";
-
 const SIGNATURES: &str = "a list of signatures";
+
+/// What Celery calls signatures that apply another one to each of a list.
+const MAPS: [&str; 3] = ["celery.map", "celery.starmap", "celery.chunks"];
 
 fn found(
     alloc: Global,
@@ -79,33 +78,53 @@ fn of_bad_members(alloc: Global, value: &Datum<'_>) -> Result<String, AllocError
         Some(Primitive::Chain | Primitive::Group) => {
             found(alloc, "kwargs.tasks", kwarg_of(value, "tasks"), SIGNATURES)
         }
-        Some(Primitive::Chord) => {
-            let body = kwarg_of(value, "body");
-            let header = kwarg_of(value, "header");
-            if is_list(header) && is_null(body) {
-                found(alloc, "kwargs.body", body, "a signature")
-            } else {
-                found(
-                    alloc,
-                    "kwargs.header",
-                    header,
-                    "a list of signatures, or a group",
-                )
-            }
-        }
-        _ => of_bad_argument(alloc, value, Bad::Kind, ARGUMENT),
+        Some(Primitive::Chord) => of_bad_chord(alloc, value),
+        _ => of_bad_kind(alloc, value),
     }
 }
 
-fn of_bad_argument(
-    alloc: Global,
-    value: &Datum<'_>,
-    bad: Bad,
-    wanted: &str,
-) -> Result<String, AllocError> {
-    match first_bad(alloc, value, bad)? {
-        Some(found) => format!(in alloc; "found {found}, wanted {wanted}"),
-        None => format!(in alloc; "wanted {wanted}"),
+fn is_group(field: Option<&Datum<'_>>) -> bool {
+    match field {
+        Some(value) => is_text(value.get("subtask_type"), "group"),
+        None => false,
+    }
+}
+
+/// The header is looked at before the body.
+fn of_bad_chord(alloc: Global, value: &Datum<'_>) -> Result<String, AllocError> {
+    let header = kwarg_of(value, "header");
+    if is_list(header) || is_group(header) {
+        let body = kwarg_of(value, "body");
+        return found(alloc, "kwargs.body", body, "a signature");
+    }
+    found(
+        alloc,
+        "kwargs.header",
+        header,
+        "a list of signatures, or a group",
+    )
+}
+
+/// Which of these signatures one is that holds the one to apply.
+fn map_name(value: &Datum<'_>) -> Option<&'static str> {
+    if !matches!(kwarg_of(value, "task"), Some(Datum::Object(_))) {
+        return None;
+    }
+    for name in MAPS {
+        if is_text(value.get("task"), name) {
+            return Some(name);
+        }
+    }
+    None
+}
+
+/// A task with an argument of no allowed kind.
+fn of_bad_kind(alloc: Global, value: &Datum<'_>) -> Result<String, AllocError> {
+    match map_name(value) {
+        Some(name) => format!(in alloc;
+            "found {name}, which applies kwargs[\"task\"] to a list, wanted a task, chain, group or chord"
+        ),
+        None => of_bad_argument(alloc, value, Bad::Kind),
     }
 }
 
@@ -118,6 +137,15 @@ fn kind_name(value: &Datum<'_>) -> &'static str {
     }
 }
 
+/// Whether something stands in a member: more than null, or a list of nothing.
+fn is_given(field: Option<&Datum<'_>>) -> bool {
+    match field {
+        None | Some(Datum::Null) => false,
+        Some(Datum::List(values)) => !values.is_empty(),
+        Some(_) => true,
+    }
+}
+
 /// What only a task has, or where only a task may stand.
 fn of_canvas(alloc: Global, place: &Place<'_>) -> Result<String, AllocError> {
     let value = place.value;
@@ -125,14 +153,14 @@ fn of_canvas(alloc: Global, place: &Place<'_>) -> Result<String, AllocError> {
     if place.is_linked {
         return format!(in alloc; "found {kind} as a link or error callback, wanted a task");
     }
-    let what = if is_true(value.get("immutable")) {
-        "immutable"
-    } else if !is_null(option_of(value, "link")) {
-        "options.link"
-    } else if !is_null(option_of(value, "link_error")) {
-        "options.link_error"
-    } else {
+    let what = if is_given(value.get("args")) {
         "args"
+    } else if is_true(value.get("immutable")) {
+        "immutable"
+    } else if is_given(option_of(value, "link")) {
+        "options.link"
+    } else {
+        "options.link_error"
     };
     format!(in alloc; "found {what} on {kind}, wanted it on tasks alone")
 }
@@ -181,7 +209,7 @@ pub(crate) fn note_of(
             "null, \"chain\", \"group\" or \"chord\"",
         ),
         SigFault::BadArgs => of_bad_args(alloc, value),
-        SigFault::BadNumber => of_bad_argument(alloc, value, Bad::Number, NUMBER),
+        SigFault::BadNumber => of_bad_argument(alloc, value, Bad::Number),
         SigFault::OnCanvas => of_canvas(alloc, place),
         SigFault::Frozen => found(alloc, "options.chord", option_of(value, "chord"), "null"),
         SigFault::EmptyChain => {

@@ -6,7 +6,8 @@ use Rattle.std.proofs.lemmas.List.{length-append}
 use Rattle.atomic_table.proofs.Lists.{at_set, set_else}
 use Rattle.canvas_history.specs.Callers.{the_object, owing_none, Follows}
 use Rattle.canvas_history.specs.History.{Entry, split, join, calls, among, by_of, live_after, live, split_off, Sole, replay, Allowed, Legal}
-use Rattle.canvas_history.specs.steps.Sharing.{Hat, Agrees, AllAgree, IsKept}
+use Rattle.canvas_history.specs.Callers.{Hat}
+use Rattle.canvas_history.specs.steps.Sharing.{Agrees, AllAgree, IsKept}
 use Rattle.canvas_history.proofs.Histories.{named_append, other_of}
 use Rattle.canvas_history.proofs.Calls.{not_true, among_without, among_last, among_here, among_more, live_push, live_known, others_push, state_push, legal_push, alone}
 

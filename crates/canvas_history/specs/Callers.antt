@@ -2,6 +2,7 @@
 -- (Lamport's sequential consistency). It is the same for each object: I names one, C are its calls,
 -- and R their replies.
 --     Caller I C R              a caller
+--     Hat C R                   its number and what it has seen
 --     told p                    what it has seen, with the joins that it owes
 --     Follows p es log          the history log is what p has seen, entries by others, the joins
 --                               that p owes, and then the entries es
@@ -27,6 +28,10 @@ pub record Caller (I C R : Type 0) : Type 0 where
   pub mine : List ℕ
   pub seen : List (Entry C R)
   pub owed : List (Entry C R)
+
+-- a caller by its number and what it has seen, where it is of one object and owes nothing
+abbrev pub Hat : Type 0 → Type 0 → Type 0
+Hat C R = ℕ × List (Entry C R)
 
 -- the name of an object where only one is spoken of
 abbrev pub the_object : Unit {0}

@@ -1,7 +1,7 @@
 -- What a line and its end count and number, by their parts.
 use Rattle.std.proofs.Common.{◌≡◌, ◌∙◌, ◌≤◌, ℕ, ◌+◌, List, map, Option, Some, None, Box, Global, refl, sym, ap, arith}
 use Rattle.canvas_semantics.specs.Tree.{Task}
-use Rattle.canvas_sig.specs.SignatureView.{task_view}
+use Rattle.canvas_values.specs.SignatureView.{task_view}
 use Rattle.canvas_semantics.specs.Line.{Line, stop, count_line, count_lines, line_groups, lines_groups, number_line}
 use Rattle.canvas_semantics.specs.PlacedLine.{p_stop, p_group_end, p_chord_end, bare}
 use Rattle.canvas_rewrite.specs.FrozenView.{lines_of, line_of, end_of, p_steps, p_lines_of}

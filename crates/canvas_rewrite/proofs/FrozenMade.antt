@@ -1,7 +1,7 @@
 -- A frozen line, made of frozen parts.
 use Rattle.std.proofs.Common.{◌≡◌, ◌∙◌, ℕ, ◌+◌, List, map, Some, None, Box, Global, sym, ap}
-use Rattle.canvas_sig.specs.SignatureView.{task_view}
-use Rattle.canvas_sig.specs.declared.task_sig.TaskSig.{TaskSig}
+use Rattle.canvas_values.specs.SignatureView.{task_view}
+use Rattle.canvas_values.specs.declared.task_sig.TaskSig.{TaskSig}
 use Rattle.canvas_semantics.specs.Line.{number_line}
 use Rattle.canvas_semantics.specs.PlacedLine.{p_stop, p_group_end, p_chord_end, bare}
 use Rattle.canvas_rewrite.specs.FrozenView.{line_of, end_of, p_steps, p_lines_of, p_task_view, p_line_view, p_end_view}

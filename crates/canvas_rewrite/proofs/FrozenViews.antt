@@ -2,9 +2,9 @@
 use Rattle.std.proofs.Common.{◌≡◌, ◌∙◌, ℕ, ◌+◌, Bool, List, [], ◌∷◌, map, Some, None, Box, Global, refl, sym, ap, rules, arith}
 use Rattle.canvas_task.specs.declared.arg.Arg.{Arg}
 use Rattle.canvas_semantics.specs.Tree.{Call, Task, count_task, count_tasks, number_task, number_tasks}
-use Rattle.canvas_sig.specs.SignatureView.{task_view, tasks_of}
-use Rattle.canvas_sig.proofs.Views.{task_seen}
-use Rattle.canvas_sig.specs.declared.task_sig.TaskSig.{TaskSig, out-TaskSig}
+use Rattle.canvas_values.specs.SignatureView.{task_view, tasks_of}
+use Rattle.canvas_values.proofs.Views.{task_seen}
+use Rattle.canvas_values.specs.declared.task_sig.TaskSig.{TaskSig, out-TaskSig}
 use Rattle.canvas_semantics.specs.Line.{Line, stop, group_end, chord_end, count_line, count_lines, line_groups, lines_groups, number_line, number_lines}
 use Rattle.canvas_semantics.specs.PlacedLine.{PTask, p_task, p_stop, p_group_end, p_chord_end, and_p_task, and_p_line, p_step, bare_task, bare_tasks, bare, all_bare, p_nowhere}
 use Rattle.canvas_rewrite.specs.FrozenView.{steps_onto, lines_of, line_of, end_of, p_tasks_of, p_steps, p_lines_of, p_task_view, p_line_view, p_end_view}

@@ -4,8 +4,8 @@ use Rattle.std.proofs.lemmas.Bool.Decides.{nat_tests}
 use Rattle.std.proofs.lemmas.List.{reverse-append}
 use Rattle.std.specs.Option.{option_map}
 use Rattle.canvas_semantics.specs.Tree.{Tree, one, Trees, no_trees, and_tree}
-use Rattle.canvas_sig.specs.SignatureView.{task_view}
-use Rattle.canvas_sig.specs.declared.task_sig.TaskSig.{TaskSig}
+use Rattle.canvas_values.specs.SignatureView.{task_view}
+use Rattle.canvas_values.specs.declared.task_sig.TaskSig.{TaskSig}
 use Rattle.canvas_semantics.specs.Line as Frozen
 use Rattle.canvas_semantics.specs.Line.{stop, elements_of}
 use Rattle.canvas_rewrite.specs.FrozenView.{steps_onto, end_of, line_of}

@@ -2,9 +2,9 @@
 use Rattle.std.proofs.Common.{◌≡◌, List, [], ◌∷◌, map, Option, Some, None, Box, Global, rules, Result, IfOk, refl, ap, sym, subst, ◌∙◌}
 use Rattle.std.specs.Option.{option_map}
 use Rattle.canvas_semantics.specs.Tree.{Tree, chain, group, chord, Trees, no_trees, and_tree}
-use Rattle.canvas_sig.specs.SignatureView.{view, trees_of}
-use Rattle.canvas_sig.specs.declared.node.Node.{Node, Group, Chord}
-use Rattle.canvas_sig.proofs.Views.{view-Group, view-Chord}
+use Rattle.canvas_values.specs.SignatureView.{view, trees_of}
+use Rattle.canvas_values.specs.declared.node.Node.{Node, Group, Chord}
+use Rattle.canvas_values.proofs.Views.{view-Group, view-Chord}
 use Rattle.canvas_semantics.specs.NormalLine.{onto, group_onto, normal_all}
 use Rattle.canvas_rewrite.specs.LineView.{elements, chains, group_or_chord}
 use Rattle.canvas_rewrite.specs.declared.line.Line as line

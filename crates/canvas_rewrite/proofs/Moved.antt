@@ -4,9 +4,9 @@ use Rattle.std.specs.Prelude.{Box}
 use Rattle.std.specs.declared.alloc.Global.{Global}
 use Rattle.canvas_semantics.specs.Tree.{Trees}
 use Rattle.canvas_semantics.specs.NormalLine.{onto, all_onto}
-use Rattle.canvas_sig.specs.SignatureView.{view, trees_of}
-use Rattle.canvas_sig.specs.declared.node.Node.{Node, Chain, Group, Chord}
-use Rattle.canvas_sig.proofs.Views.{view-Chain, view-Group, view-Chord}
+use Rattle.canvas_values.specs.SignatureView.{view, trees_of}
+use Rattle.canvas_values.specs.declared.node.Node.{Node, Chain, Group, Chord}
+use Rattle.canvas_values.proofs.Views.{view-Chain, view-Group, view-Chord}
 use Rattle.canvas_rewrite.specs.steps.Weight.{weight, weights, weight_of}
 
 weight_is : (ns : List Node) → weight_of ns ≡ weights (trees_of (map view ns))

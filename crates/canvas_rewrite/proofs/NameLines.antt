@@ -1,7 +1,7 @@
 -- The names of a line's tasks, and whether it ends in a group, by its parts.
 use Rattle.std.proofs.Common.{◌≡◌, ◌∙◌, List, [], ◌∷◌, ◌++◌, map, Some, None, Box, Global, true, false, refl, sym, ap, append_assoc, append-nil}
 use Rattle.canvas_semantics.specs.Tree.{Task, and_task}
-use Rattle.canvas_sig.specs.SignatureView.{tasks_of}
+use Rattle.canvas_values.specs.SignatureView.{tasks_of}
 use Rattle.canvas_semantics.specs.Line.{Line, stop, task_names, tasks_names, names, all_names, in_group}
 use Rattle.canvas_semantics.specs.PlacedLine.{PTask, PPlace, PLine, strip_task, strip_tasks}
 use Rattle.canvas_rewrite.specs.FrozenView.{steps_onto, lines_of, p_tasks_of, p_task_view, task_in, line_in, end_in, PCarried, carried_step, p_end_step, p_line_step, p_task_step, place_step}

@@ -2,10 +2,10 @@
 use Rattle.std.proofs.Common.{◌≡◌, ◌≢◌, ◌∙◌, ◌++◌, List, [], ◌∷◌, map, length, Some, None, Box, Global, refl, sym, ap, append-nil}
 use Rattle.std.proofs.lemmas.List.{map-append}
 use Rattle.canvas_semantics.specs.Tree.{Tree, one, chain, group, chord, no_trees, and_tree}
-use Rattle.canvas_sig.specs.SignatureView.{view, task_view, trees_of}
-use Rattle.canvas_sig.specs.declared.node.Node.{Node, Chain, Group, Chord}
-use Rattle.canvas_sig.specs.declared.task_sig.TaskSig.{TaskSig}
-use Rattle.canvas_sig.proofs.Views.{view-Chain, view-Group, view-Chord}
+use Rattle.canvas_values.specs.SignatureView.{view, task_view, trees_of}
+use Rattle.canvas_values.specs.declared.node.Node.{Node, Chain, Group, Chord}
+use Rattle.canvas_values.specs.declared.task_sig.TaskSig.{TaskSig}
+use Rattle.canvas_values.proofs.Views.{view-Chain, view-Group, view-Chord}
 use Rattle.canvas_semantics.specs.Compact.{element_or_chain, compact, compact_elements, compact_members}
 use Rattle.canvas_semantics.specs.Line as Frozen
 use Rattle.canvas_semantics.specs.Line.{stop}

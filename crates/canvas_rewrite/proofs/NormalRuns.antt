@@ -1,15 +1,15 @@
 -- The normal line of a canvas that passed every check is runnable, and numbering a tree changes nothing of it.
 use Rattle.std.proofs.Common.{◌≡◌, ◌≤◌, ◌∙◌, ◌+◌, ◌||◌, ℕ, Bool, true, false, if◌then◌else◌, max, nat_lt, Option, Some, None, refl, sym, ap, subst, arith}
 use Rattle.std.proofs.lemmas.Bool.{or_parts, or_from, ltb-false}
-use Rattle.canvas_sig.specs.declared.fault.SigFault.{SigFault}
-use Rattle.canvas_sig.specs.declared.fault.SigFault.TheVariants.{NestedGroup, TooDeep, TooMany}
+use Rattle.canvas_values.specs.declared.fault.SigFault.{SigFault}
+use Rattle.canvas_values.specs.declared.fault.SigFault.TheVariants.{NestedGroup, TooDeep, TooMany}
 use Rattle.canvas_semantics.specs.Tree.{Task, task, Tasks, no_tasks, and_task, Tree, one, chain, group, chord, Trees, no_trees, and_tree, IsFull, AreFull, ends_in_group, last_in_group, count, count_all, count_task, count_tasks, count_groups, count_all_groups, number, number_all, number_task, number_tasks, numbered}
 use Rattle.canvas_semantics.specs.Bounds.{nests_group, some_nests_group, some_ends_in_group, is_too_deep, is_too_many, most_tasks, most_groups, most_nesting, most_reach}
 use Rattle.canvas_semantics.specs.Nesting.{nesting}
 use Rattle.canvas_semantics.specs.NormalLine.{onto, all_onto, normal_all, normal}
 use Rattle.canvas_semantics.specs.Reach.{reach, line_reach, members_reach, task_reach, tasks_reach}
-use Rattle.canvas_sig.specs.Writable.{IsCanvas}
-use Rattle.canvas_sig.proofs.Fits.{call_fine, TaskFits, TasksFit, TreeFits, TreesFit, canvas_fits, canvas_within}
+use Rattle.canvas_values.specs.Writable.{IsCanvas}
+use Rattle.canvas_values.proofs.Fits.{call_fine, TaskFits, TasksFit, TreeFits, TreesFit, canvas_fits, canvas_within}
 use Rattle.canvas_semantics.specs.SameMeaning.{IsSame}
 use Rattle.canvas_rewrite.specs.Runnable.{TaskSound, TasksSound, IsSound, AreSound, IsRunnable}
 use Rattle.canvas_semantics.proofs.NormalEnds.{in_group_onto}

@@ -1,6 +1,5 @@
 -- A frozen line without its places, by its parts; its ends and its groups.
 use Rattle.std.proofs.Common.{◌≡◌, ◌∙◌, ℕ, List, [], ◌∷◌, ◌++◌, map, Option, Some, None, Box, Global, refl, sym, ap, rules, append_assoc, true, false, Result, OnOk, subst, slice_get, length, ◌-◌, Bool, arith}
-use Rattle.std.proofs.lemmas.List.{map-append}
 use Rattle.canvas_semantics.specs.Tree.{Task}
 use Rattle.canvas_semantics.specs.Line.{Line, stop, step, group_end, chord_end, Lines, and_line, no_of, ends_of, all_ends_of, group_entries, all_group_entries, GroupEntry}
 use Rattle.canvas_semantics.specs.PlacedLine.{PTask, PPlace, PLine, p_stop, p_group_end, p_chord_end, strip, strip_all, strip_task}

@@ -3,7 +3,7 @@
 use Rattle.std.specs.Prelude.{ℕ, List, [], ◌∷◌, map, Option, Some, None, Box}
 use Rattle.std.specs.declared.alloc.Global.{Global}
 use Rattle.canvas_semantics.specs.Tree.{Task}
-use Rattle.canvas_sig.specs.SignatureView.{task_view}
+use Rattle.canvas_values.specs.SignatureView.{task_view}
 use Rattle.canvas_semantics.specs.Line.{Line, stop, step, group_end, chord_end, Lines, no_lines, and_line}
 use Rattle.canvas_semantics.specs.PlacedLine.{PTask, p_task, PTasks, no_p_tasks, and_p_task, PPlace, p_nowhere, p_group, p_chord, PLine, p_stop, p_step, p_group_end, p_chord_end, PLines, no_p_lines, and_p_line, strip_task, strip}
 use Rattle.canvas_rewrite.specs.declared.line.Line as the_line

@@ -3,7 +3,7 @@ use Rattle.std.specs.Prelude.{◌≡◌, ◌≤◌, false, None}
 use Rattle.canvas_task.specs.Entries.{Ascends}
 use Rattle.canvas_semantics.specs.Tree.{Task, task, Tasks, no_tasks, and_task, Tree, one, chain, group, chord, Trees, no_trees, and_tree, IsFull, count, count_groups}
 use Rattle.canvas_semantics.specs.Reach.{reach}
-use Rattle.canvas_sig.specs.ComposedRefusals.{call_fault}
+use Rattle.canvas_values.specs.ComposedRefusals.{call_fault}
 use Rattle.canvas_semantics.specs.Bounds.{nests_group, most_tasks, most_groups, most_reach}
 
 -- nothing refuses a task's call, and the names of its keyword arguments ascend

@@ -1,15 +1,15 @@
 //! A line as a signature.
 ghost use Rattle.std.specs.Prelude.{◌≡◌, ◌++◌, IfOk, map};
 ghost use Rattle.canvas_semantics.specs.Tree.{one, no_trees, and_tree};
-ghost use Rattle.canvas_sig.specs.SignatureView.{view, task_view, trees_of};
+ghost use Rattle.canvas_values.specs.SignatureView.{view, task_view, trees_of};
 ghost use Rattle.canvas_semantics.specs.Compact.{element_or_chain, compact, compact_elements};
 ghost use Rattle.canvas_rewrite.specs.FrozenView.{line_of, end_of};
 ghost use Rattle.canvas_semantics.specs.SameMeaning.{IsSame};
 ghost use Rattle.canvas_rewrite.specs.LineView.{line_view};
 
 use crate::{Line, LineEnd};
-use canvas_sig::{Node, TaskSig, copy_sig};
 use canvas_task::{ListOf, Memory};
+use canvas_values::{Node, TaskSig, copy_sig};
 use std::alloc::{AllocError, Global};
 
 /// One element as it is, and more as a chain.

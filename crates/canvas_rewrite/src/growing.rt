@@ -2,13 +2,13 @@
 ghost use Rattle.std.specs.Prelude.{◌≡◌, IfOk, OnOk, map, ◌↔◌, IsTrue};
 ghost use Rattle.std.specs.Option.{option_map};
 ghost use Rattle.canvas_semantics.specs.Tree.{no_trees, and_tree, one};
-ghost use Rattle.canvas_sig.specs.SignatureView.{task_view};
+ghost use Rattle.canvas_values.specs.SignatureView.{task_view};
 ghost use Rattle.canvas_rewrite.specs.LineView.{elements, group_or_chord};
 ghost use Rattle.canvas_rewrite.specs.steps.Growing.{growing};
 
 use crate::{Line, LineEnd};
-use canvas_sig::TaskSig;
 use canvas_task::ListOf;
+use canvas_values::TaskSig;
 use std::alloc::{AllocError, Global};
 
 /// The line's tasks from the last to the first, so that one more goes behind them.

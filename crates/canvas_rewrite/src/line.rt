@@ -1,7 +1,7 @@
 //! Normal lines, without numbers.
 
-use canvas_sig::TaskSig;
 use canvas_task::ListOf;
+use canvas_values::TaskSig;
 
 /// Some tasks, then at most one group or chord.
 #[derive(Drop)]

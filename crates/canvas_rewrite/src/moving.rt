@@ -1,7 +1,7 @@
 //! The normal line of a canvas that is given up: its parts are moved, and none is copied.
 ghost use Rattle.std.specs.Prelude.{◌≡◌, IfOk, map};
 ghost use Rattle.canvas_semantics.specs.Tree.{no_trees};
-ghost use Rattle.canvas_sig.specs.SignatureView.{view, trees_of};
+ghost use Rattle.canvas_values.specs.SignatureView.{view, trees_of};
 ghost use Rattle.canvas_rewrite.specs.LineView.{elements, line_view};
 ghost use Rattle.canvas_rewrite.specs.steps.Growing.{growing};
 ghost use Rattle.canvas_rewrite.specs.Runnable.{IsRunnable};
@@ -11,8 +11,8 @@ ghost use Rattle.canvas_semantics.specs.NormalLine.{onto, all_onto, normal};
 use crate::Line;
 use crate::growing::Growing;
 use crate::rewriting::group_onto;
-use canvas_sig::{Canvas, Node};
 use canvas_task::Memory;
+use canvas_values::{Canvas, Node};
 use std::alloc::{AllocError, Global};
 
 /// The line of a node that a line follows.

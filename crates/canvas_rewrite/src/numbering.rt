@@ -1,15 +1,15 @@
 //! Numbers in file order.
 ghost use Rattle.std.specs.Prelude.{◌≡◌, ◌≤◌, ◌+◌, IfOk, map};
 ghost use Rattle.canvas_semantics.specs.Tree.{count_task, number_task};
-ghost use Rattle.canvas_sig.specs.SignatureView.{task_view};
+ghost use Rattle.canvas_values.specs.SignatureView.{task_view};
 ghost use Rattle.canvas_semantics.specs.Line.{count_line, line_groups, number_line};
 ghost use Rattle.canvas_semantics.specs.PlacedLine.{bare, bare_task};
 ghost use Rattle.canvas_rewrite.specs.FrozenView.{line_of, end_of, p_task_view, p_line_view, p_end_view};
 ghost use Rattle.canvas_semantics.specs.steps.Numbering.{greatest_number, tasks_from, tasks_in, lines_from, lines_count, lines_group_count, HasRoom};
 
 use crate::{FrozenEnd, FrozenLine, FrozenTask, Line, LineEnd};
-use canvas_sig::TaskSig;
 use canvas_task::{GroupNo, ListOf, TaskNo, copy_args, copy_kwargs};
+use canvas_values::TaskSig;
 use std::alloc::{AllocError, Global};
 
 pub(crate) fn task_no(number: u32) -> TaskNo

@@ -2,7 +2,7 @@
 ghost use Rattle.std.specs.Prelude.{◌≡◌, IfOk, map};
 ghost use Rattle.std.specs.Option.{option_map};
 ghost use Rattle.canvas_semantics.specs.Tree.{no_trees, and_tree, one};
-ghost use Rattle.canvas_sig.specs.SignatureView.{view, trees_of};
+ghost use Rattle.canvas_values.specs.SignatureView.{view, trees_of};
 ghost use Rattle.canvas_rewrite.specs.LineView.{elements, line_view, chains};
 ghost use Rattle.canvas_rewrite.specs.steps.Growing.{growing};
 ghost use Rattle.canvas_rewrite.specs.Runnable.{IsRunnable};
@@ -11,8 +11,8 @@ ghost use Rattle.canvas_semantics.specs.NormalLine.{onto, group_onto, all_onto, 
 
 use crate::Line;
 use crate::growing::Growing;
-use canvas_sig::{Canvas, Node, copy_sig};
 use canvas_task::Memory;
+use canvas_values::{Canvas, Node, copy_sig};
 use std::alloc::{AllocError, Global};
 
 /// A group that a line follows, which makes it a chord where it has an element.

@@ -1,279 +1,197 @@
-//! Runs on threads that are stopped: of plans, and of texts.
+//! Runs of texts that are stopped: before they begin, by their gate, and between the end of their
+//! workers and worker 0's own work; and runs whose executor fails.
 
-use crate::states::{Sample, a_failed_member, are_partial, is_stored, sample_of_text};
-use crate::tallies::OnThreads;
-use canvas_engine::{RunFault, TextFault, run, run_text_threads};
-use canvas_samples::worked;
-use canvas_task::{Outcome, SixTasks, TaskNo};
-use canvas_worker::{Cause, Gate, OpenGate, Stop};
-use std::alloc::{AllocGlobal, Global};
+use crate::gates::{Stopping, Way};
+use canvas_engine::{RunFault, TextFault, run_text_threads};
+use canvas_samples::worked::{a_failed_member, a_hundred_and_their_sum};
+use canvas_task::SixTasks;
+use canvas_worker::{Cause, OpenGate, Stop};
+use std::alloc::{Alloc, AllocGlobal, Global};
+use std::io;
 use std::random::RandomSource;
 use std::sync::Wait;
 use std::sync::atomic::{AtomicU32, Ordering};
-use std::test::Fail;
 use std::thread::Threads;
 
-/// A hundred tasks and their sum, as a text and as a canvas.
-fn a_hundred(alloc: Global) -> Option<(String, Sample)> {
-    let hundred = worked::a_hundred_and_their_sum(alloc).ok()?;
-    let canvas = sample_of_text(alloc, &hundred.text)?;
-    Some((hundred.text, canvas))
+/// How many rows of a stopped run aren't pending, where their report is there too. None of a run
+/// that ended otherwise. That each is the state of its task is in the contract.
+fn stored_rows(ran: &Result<String, TextFault>) -> Option<usize> {
+    match ran {
+        Err(
+            TextFault::Run {
+                fault: RunFault::Halted {
+                    cause: Cause::Stopped,
+                    rows: Some(report),
+                },
+                stored: Some(_),
+            },
+        ) => Some(report.rows.get().iter().filter(|row| row.is_some()).count()),
+        _ => None,
+    }
 }
 
-/// How many rows aren't pending.
-fn stored(rows: &[Option<Outcome>]) -> usize {
-    rows.iter().filter(|row| row.is_some()).count()
+// ---- by a gate
+
+/// How many rows a text's run has stored whose gate asks its stop once it was asked so often, and
+/// isn't asked for long behind that; with none, the stop is asked before the run begins.
+fn stopped_text<R>(
+    rt: &R,
+    alloc: Global,
+    text: &str,
+    way: Way,
+    most: Option<u32>,
+    workers: u32,
+) -> Option<usize>
+where
+    R: Threads + Wait + RandomSource + AllocGlobal + Sync,
+{
+    let stop = Stop::new();
+    if most.is_none() {
+        stop.ask();
+    }
+    let gate = Stopping::of(&stop, way, most.unwrap_or(u32::MAX));
+    let bytes = text.as_bytes();
+    let rows = stored_rows(&run_text_threads(rt, alloc, bytes, &SixTasks, workers, &gate, &stop));
+    if gate.is_heeded() { rows } else { None }
 }
 
-/// How many rows a stopped run has, where each is the state of its task. None of a run that ended
-/// otherwise.
-fn rows_of_stopped(fault: &RunFault, states: &[Option<Outcome>]) -> Option<usize> {
+/// The same of a hundred tasks and their sum.
+fn stopped<R>(rt: &R, way: Way, most: Option<u32>, workers: u32) -> Option<usize>
+where
+    R: Threads + Wait + RandomSource + AllocGlobal + Sync,
+{
+    match a_hundred_and_their_sum(rt.alloc()) {
+        Ok(hundred) => stopped_text(rt, rt.alloc(), &hundred.text, way, most, workers),
+        Err(_) => None,
+    }
+}
+
+/// A worker stores the outcome for which it has asked the gate, and then sees the stop. One that
+/// the gate holds back sees it at its next poll. Where envelopes are delivered again, one worker is
+/// asked before the store of each task and behind it.
+#[test]
+fn by_a_gate(rt: HostRuntime) {
+    for &(way, most, one, least, greatest) in &[
+        (Way::Open, None, 0, 0, 0),
+        (Way::Open, Some(0), 1, 1, 16),
+        (Way::Open, Some(1), 2, 2, 17),
+        (Way::Open, Some(50), 51, 51, 66),
+        (Way::Shut, Some(10), 0, 0, 0),
+        (Way::Again, Some(0), 0, 0, 16),
+        (Way::Again, Some(1), 1, 0, 16),
+        (Way::Again, Some(3), 2, 0, 16),
+        (Way::Again, Some(50), 25, 0, 66),
+    ] {
+        let alone = stopped(&rt, way, most, 1);
+        assert_eq!(rt; alone, Some(one), "{way:?} after {most:?}");
+        for &workers in &[2, 16] {
+            let rows = stopped(&rt, way, most, workers);
+            assert!(rt;
+                rows.is_some_and(|rows| least <= rows && rows <= greatest),
+                "{way:?} after {most:?}, {workers} workers: {rows:?}"
+            );
+        }
+    }
+}
+
+// ---- where an executor begins
+
+/// A runtime of which each executor draws its number once, when it begins. At the draw of this
+/// number (from 1) the stop is asked, or the draw fails.
+#[derive(Drop)]
+struct Drawing<'a, R> {
+    rt: &'a R,
+    stop: &'a Stop,
+    at: u32,
+    fails: bool,
+    drawn: AtomicU32,
+}
+
+impl<'a, R> Drawing<'a, R> {
+    fn of(rt: &'a R, stop: &'a Stop, at: u32, fails: bool) -> Drawing<'a, R> {
+        Drawing {
+            rt,
+            stop,
+            at,
+            fails,
+            drawn: AtomicU32::new(0),
+        }
+    }
+}
+
+impl<R: Wait> Wait for Drawing<'_, R> {}
+
+impl<R: Threads> Threads for Drawing<'_, R> {}
+
+impl<R: AllocGlobal> Alloc for Drawing<'_, R> {
+    type A = Global;
+
+    fn alloc(&self) -> Global {
+        self.rt.alloc()
+    }
+}
+
+impl<R: RandomSource> RandomSource for Drawing<'_, R> {
+    fn fill_bytes(&self, bytes: &mut [u8]) -> io::Result<()> {
+        if self.drawn.fetch_add(1, Ordering::SeqCst).wrapping_add(1) == self.at {
+            if self.fails {
+                return Err(io::Error::from(io::ErrorKind::Other));
+            }
+            self.stop.ask();
+        }
+        self.rt.fill_bytes(bytes)
+    }
+}
+
+fn has_no_rows(fault: &RunFault) -> bool {
     match fault {
-        RunFault::Halted {
-            cause: Cause::Stopped,
-            rows: Some(report),
-        } => {
-            if are_partial(report.rows.get(), states) {
-                Some(stored(report.rows.get()))
-            } else {
-                None
-            }
-        }
-        _ => None,
+        RunFault::Halted { cause, rows } => *cause == Cause::Memory && rows.is_none(),
+        _ => false,
     }
 }
 
-/// How many rows a plan's run has that was asked to stop.
-fn rows_of_plan<R, G>(
-    rt: &R,
-    alloc: Global,
-    canvas: &Sample,
-    workers: u32,
-    gate: &G,
-    stop: &Stop,
-) -> Option<usize>
-where
-    R: Threads + Wait + RandomSource + AllocGlobal + Sync,
-    G: Gate + Sync,
-{
-    match run(rt, alloc, &canvas.plan, &SixTasks, workers, gate, stop) {
-        Err(fault) if stop.asked() => rows_of_stopped(&fault, canvas.states.get()),
-        _ => None,
+/// Whether a run has no rows, since memory was refused to its executor.
+fn is_lost(ran: &Result<String, TextFault>) -> bool {
+    match ran {
+        Err(TextFault::Run { fault, stored }) => stored.is_none() && has_no_rows(fault),
+        _ => false,
     }
 }
 
-/// The same of a text's run, which has the report of its rows too.
-fn rows_of_text<R, G>(
-    rt: &R,
-    alloc: Global,
-    text: &str,
-    canvas: &Sample,
-    workers: u32,
-    gate: &G,
-    stop: &Stop,
-) -> Option<usize>
+/// How many rows a text's run has stored whose stop is asked at a draw; and whether one that fails
+/// at this draw is lost, and asks its stop.
+fn drawn_text<R>(rt: &R, text: &str, at: u32, workers: u32) -> (Option<usize>, bool)
 where
     R: Threads + Wait + RandomSource + AllocGlobal + Sync,
-    G: Gate + Sync,
 {
-    match run_text_threads(rt, alloc, text.as_bytes(), &SixTasks, workers, gate, stop) {
-        Err(TextFault::Run { fault, stored }) => {
-            match is_stored(alloc, &canvas.plan, &fault, &stored) {
-                Ok(true) => rows_of_stopped(&fault, canvas.states.get()),
-                _ => None,
-            }
-        }
-        _ => None,
+    let (stop, other) = (Stop::new(), Stop::new());
+    let asks = Drawing::of(rt, &stop, at, false);
+    let fails = Drawing::of(rt, &other, at, true);
+    let (bytes, alloc) = (text.as_bytes(), rt.alloc());
+    let stopped = run_text_threads(&asks, alloc, bytes, &SixTasks, workers, &OpenGate, &stop);
+    let lost = run_text_threads(&fails, alloc, bytes, &SixTasks, workers, &OpenGate, &other);
+    (stored_rows(&stopped), is_lost(&lost) && other.asked())
+}
+
+/// The same of a chord of five tasks.
+fn drawn<R>(rt: &R, at: u32, workers: u32) -> (Option<usize>, bool)
+where
+    R: Threads + Wait + RandomSource + AllocGlobal + Sync,
+{
+    match a_failed_member(rt.alloc()) {
+        Ok(chord) => drawn_text(rt, &chord.text, at, workers),
+        Err(_) => (None, false),
     }
 }
 
-// ---- stopped before they begin
-
-fn stopped_before<R>(rt: &R, alloc: Global, canvas: &Sample, workers: u32) -> Option<usize>
-where
-    R: Threads + Wait + RandomSource + AllocGlobal + Sync,
-{
-    let stop = Stop::new();
-    stop.ask();
-    rows_of_plan(rt, alloc, canvas, workers, &OpenGate, &stop)
-}
-
+/// Worker 0's executor is the last. A stop that is asked there finds all rows stored, and one that
+/// is asked where the first worker begins may find any number.
 #[test]
-fn plans_before_they_begin(rt: HostRuntime) -> Result<(), Fail> {
-    let failing = a_failed_member(rt.alloc()).ok_or("no canvas")?;
-    for workers in [1, 2, 16] {
-        let rows = stopped_before(&rt, rt.alloc(), &failing, workers);
-        assert_eq!(rt; rows, Some(0), "{workers} workers");
+fn where_an_executor_begins(rt: HostRuntime) {
+    for &(workers, at) in &[(1, 2), (2, 3), (4, 5)] {
+        let last = drawn(&rt, at, workers);
+        assert_eq!(rt; last, (Some(5), true), "{workers} workers");
+        let (rows, is_lost) = drawn(&rt, workers, workers);
+        assert!(rt; is_lost && rows.is_some(), "{workers} workers");
     }
-    Ok(())
-}
-
-fn text_stopped_before<R>(
-    rt: &R,
-    alloc: Global,
-    text: &str,
-    canvas: &Sample,
-    workers: u32,
-) -> Option<usize>
-where
-    R: Threads + Wait + RandomSource + AllocGlobal + Sync,
-{
-    let stop = Stop::new();
-    stop.ask();
-    rows_of_text(rt, alloc, text, canvas, workers, &OnThreads, &stop)
-}
-
-// ---- stopped by their gate
-
-/// Asks the stop once it has been asked so often itself, and lets every worker go on.
-#[derive(Drop)]
-struct Stopping<'a> {
-    stop: &'a Stop,
-    most: u32,
-    asked: AtomicU32,
-}
-
-impl Gate for Stopping<'_> {
-    fn go(&self, _worker: u32, _task: TaskNo) -> bool {
-        if self.asked.fetch_add(1, Ordering::SeqCst) >= self.most {
-            self.stop.ask();
-        }
-        true
-    }
-}
-
-/// The rows of a run whose gate stops it after so many messages.
-fn stopped_after<R>(
-    rt: &R,
-    alloc: Global,
-    canvas: &Sample,
-    workers: u32,
-    most: u32,
-) -> Option<usize>
-where
-    R: Threads + Wait + RandomSource + AllocGlobal + Sync,
-{
-    let stop = Stop::new();
-    let gate = Stopping {
-        stop: &stop,
-        most,
-        asked: AtomicU32::new(0),
-    };
-    rows_of_plan(rt, alloc, canvas, workers, &gate, &stop)
-}
-
-/// A worker stores the outcome for which it has asked the gate, and then sees the stop.
-#[test]
-fn plans_by_a_gate(rt: HostRuntime) -> Result<(), Fail> {
-    let (_, hundred) = a_hundred(rt.alloc()).ok_or("no canvas")?;
-    for most in [0, 1, 7, 50] {
-        let rows = stopped_after(&rt, rt.alloc(), &hundred, 1, most);
-        assert_eq!(rt; rows, Some(most as usize + 1), "after {most}");
-        for workers in [2, 16] {
-            let rows = stopped_after(&rt, rt.alloc(), &hundred, workers, most);
-            assert!(rt;
-                rows.is_some_and(|rows| rows > most as usize && rows <= 100),
-                "{workers} workers, after {most}"
-            );
-        }
-    }
-    Ok(())
-}
-
-/// The rows of a text's run whose gate stops it at the first message.
-fn text_stopped_at_once<R>(
-    rt: &R,
-    alloc: Global,
-    text: &str,
-    canvas: &Sample,
-    workers: u32,
-) -> Option<usize>
-where
-    R: Threads + Wait + RandomSource + AllocGlobal + Sync,
-{
-    let stop = Stop::new();
-    let gate = Stopping {
-        stop: &stop,
-        most: 0,
-        asked: AtomicU32::new(0),
-    };
-    rows_of_text(rt, alloc, text, canvas, workers, &gate, &stop)
-}
-
-#[test]
-fn texts_before_they_begin_and_by_a_gate(rt: HostRuntime) -> Result<(), Fail> {
-    let (text, hundred) = a_hundred(rt.alloc()).ok_or("no canvas")?;
-    for workers in [1, 2, 16] {
-        let rows = text_stopped_before(&rt, rt.alloc(), &text, &hundred, workers);
-        assert_eq!(rt; rows, Some(0), "{workers} workers");
-        let rows = text_stopped_at_once(&rt, rt.alloc(), &text, &hundred, workers);
-        assert!(rt;
-            rows.is_some_and(|rows| rows >= 1 && rows <= workers as usize),
-            "{workers} workers: {rows:?}"
-        );
-    }
-    Ok(())
-}
-
-// ---- stopped while an envelope is delivered again
-
-/// Has each envelope delivered again whenever it is asked, and asks the stop once it has been asked
-/// so often.
-#[derive(Drop)]
-struct StoppingAgain<'a> {
-    stop: &'a Stop,
-    most: u32,
-    asked: AtomicU32,
-}
-
-impl Gate for StoppingAgain<'_> {
-    fn go(&self, _worker: u32, _task: TaskNo) -> bool {
-        true
-    }
-
-    fn again(&self, _worker: u32, _task: TaskNo) -> bool {
-        if self.asked.fetch_add(1, Ordering::SeqCst) >= self.most {
-            self.stop.ask();
-        }
-        true
-    }
-}
-
-/// The rows of a run that is stopped while an envelope is delivered again.
-fn stopped_within<R>(
-    rt: &R,
-    alloc: Global,
-    canvas: &Sample,
-    workers: u32,
-    most: u32,
-) -> Option<usize>
-where
-    R: Threads + Wait + RandomSource + AllocGlobal + Sync,
-{
-    let stop = Stop::new();
-    let gate = StoppingAgain {
-        stop: &stop,
-        most,
-        asked: AtomicU32::new(0),
-    };
-    rows_of_plan(rt, alloc, canvas, workers, &gate, &stop)
-}
-
-/// A run whose messages are always delivered again ends by its stop alone. One worker is asked
-/// before the store of each task and behind it.
-#[test]
-fn plans_within_redeliveries(rt: HostRuntime) -> Result<(), Fail> {
-    let (_, hundred) = a_hundred(rt.alloc()).ok_or("no canvas")?;
-    for &(most, wanted) in &[(0, 0), (1, 1), (2, 1), (3, 2), (50, 25)] {
-        let rows = stopped_within(&rt, rt.alloc(), &hundred, 1, most);
-        assert_eq!(rt; rows, Some(wanted), "after {most}");
-        for workers in [2, 16] {
-            let rows = stopped_within(&rt, rt.alloc(), &hundred, workers, most);
-            assert!(rt;
-                rows.is_some_and(|rows| rows <= 100),
-                "{workers} workers, after {most}"
-            );
-        }
-    }
-    Ok(())
 }

@@ -19,8 +19,6 @@ mod own_tasks;
 #[cfg(test)]
 mod polls;
 #[cfg(test)]
-mod redeliveries;
-#[cfg(test)]
 mod refused;
 #[cfg(test)]
 mod refused_objects;

@@ -1,19 +1,16 @@
-//! Messages that nobody of ours wrote, given to a core and put in a worker's queue.
-
-ghost use Rattle.canvas_worker.specs.Asks.{FoundInRange};
+//! Messages that nobody of ours wrote, put in a worker's queue.
 
 use crate::by_hand::{Left, work};
 use crate::forgeries::{CALLBACK, Change, FORMS, MEMBER, NAMES, RESTS, Texts};
-use crate::states::{Sample, a_failed_member, first_envelopes};
-use canvas_backend::PlainBackend;
+use crate::states::{FAILING, first_envelopes, spelled_plan};
 use canvas_message::{Envelope, Letter};
+use canvas_rewrite::Plan;
 use canvas_samples::frozen_texts::filled;
-use canvas_task::{Fault, Kind, ListOf, Memory, Outcome, SixTasks, TaskNo};
-use canvas_worker::{Ask, Core, OpenGate, Record, Reply};
+use canvas_task::{ListOf, Memory};
+use canvas_worker::OpenGate;
 use std::alloc::{AllocError, AllocGlobal, Global};
 use std::random::RandomSource;
 use std::sync::Wait;
-use std::test::Fail;
 
 // ---- envelopes
 
@@ -76,125 +73,6 @@ fn forged(alloc: Global, texts: &Texts, change: &Change) -> Option<Letter> {
     }
 }
 
-/// A message's envelope as it is.
-fn genuine(alloc: Global, texts: &Texts) -> Option<Letter> {
-    envelope_of(alloc, texts, &["&", "&"], &mut false)
-        .ok()
-        .map(Letter::new)
-}
-
-// ---- a core
-
-fn answers(alloc: Global, backend: &PlainBackend, core: &mut Core, reply: Reply) -> bool
-    requires { FoundInRange reply }
-{
-    core.next().suits(&reply)
-        && core
-            .answer(alloc, backend.roster(), &SixTasks, reply)
-            .is_ok()
-}
-
-/// Whether a core that is given an envelope counts it as dropped, acknowledges it as one of no
-/// task, and asks for the next one.
-fn is_dropped(alloc: Global, backend: &PlainBackend, core: &mut Core, envelope: Letter) -> bool {
-    let before = core.dropped();
-    answers(alloc, backend, core, Reply::Taken(Some(envelope)))
-        && core.next() == Ask::Ack(None)
-        && core.held().is_some()
-        && core.dropped() == before.saturating_add(1)
-        && answers(alloc, backend, core, Reply::Acked)
-        && core.next() == Ask::Take
-        && core.held().is_none()
-        && !core.is_inside()
-        && core.dropped() == before.saturating_add(1)
-}
-
-fn drops(
-    alloc: Global,
-    backend: &PlainBackend,
-    core: &mut Core,
-    texts: &Texts,
-    change: &Change,
-) -> bool {
-    match forged(alloc, texts, change) {
-        Some(envelope) => is_dropped(alloc, backend, core, envelope),
-        None => false,
-    }
-}
-
-/// Whether a core takes up the member's message, and stores its outcome first.
-fn takes_up(alloc: Global, backend: &PlainBackend, core: &mut Core) -> bool {
-    let outcome = Outcome::Failure(Fault::Plain(Kind::ZeroDivision));
-    match (genuine(alloc, &MEMBER), TaskNo::new(2)) {
-        (Some(envelope), Some(task)) => {
-            answers(alloc, backend, core, Reply::Taken(Some(envelope)))
-                && core.next() == Ask::Store(task, outcome)
-        }
-        _ => false,
-    }
-}
-
-/// The index of the first change whose message isn't dropped, or how many there are.
-fn dropped(
-    alloc: Global,
-    backend: &PlainBackend,
-    core: &mut Core,
-    texts: &Texts,
-    changes: &[Change],
-) -> usize {
-    for (index, change) in changes.iter().enumerate() {
-        if !drops(alloc, backend, core, texts, change) {
-            return index;
-        }
-    }
-    changes.len()
-}
-
-fn backend_of(alloc: Global) -> Option<PlainBackend> {
-    match a_failed_member(alloc) {
-        Some(canvas) => PlainBackend::new(alloc, &canvas.plan).ok(),
-        None => None,
-    }
-}
-
-fn names_dropped(alloc: Global, backend: &PlainBackend, core: &mut Core) -> usize {
-    dropped(alloc, backend, core, &MEMBER, &NAMES)
-}
-
-fn forms_dropped(alloc: Global, backend: &PlainBackend, core: &mut Core) -> usize {
-    dropped(alloc, backend, core, &MEMBER, &FORMS)
-}
-
-fn rests_dropped(alloc: Global, backend: &PlainBackend, core: &mut Core) -> usize {
-    dropped(alloc, backend, core, &CALLBACK, &RESTS)
-}
-
-/// How many messages of each table are dropped, and how many a core counted that then takes up
-/// what is in order.
-fn core_drops(alloc: Global, backend: &PlainBackend) -> ([usize; 3], Option<u64>) {
-    let mut core = Core::new(alloc);
-    let names = names_dropped(alloc, backend, &mut core);
-    let forms = forms_dropped(alloc, backend, &mut core);
-    let rests = rests_dropped(alloc, backend, &mut core);
-    let dropped = core.dropped();
-    let counted = if takes_up(alloc, backend, &mut core) {
-        Some(dropped)
-    } else {
-        None
-    };
-    ([names, forms, rests], counted)
-}
-
-/// Each is dropped and counted, and what is in order is taken up behind them.
-#[test]
-fn dropped_by_a_core(rt: HostRuntime) -> Result<(), Fail> {
-    let backend = backend_of(rt.alloc()).ok_or("no backend")?;
-    let (dropped, counted) = core_drops(rt.alloc(), &backend);
-    assert_eq!(rt; dropped, [34, 34, 22]);
-    assert_eq!(rt; counted, Some(90));
-    Ok(())
-}
-
 // ---- a worker
 
 /// Puts the forged messages of a table in a queue.
@@ -213,48 +91,48 @@ fn push_forged(
 }
 
 /// All forged messages, in front of those that a plan begins with and behind them.
-fn queue_of(alloc: Global, canvas: &Sample) -> Result<Vec<Letter>, Memory> {
+fn queue_of(alloc: Global, plan: &Plan) -> Result<Vec<Letter>, Memory> {
     let mut queue = Vec::new(alloc);
     push_forged(alloc, &mut queue, &MEMBER, &NAMES)?;
     push_forged(alloc, &mut queue, &CALLBACK, &RESTS)?;
-    for envelope in first_envelopes(alloc, &canvas.plan)? {
+    for envelope in first_envelopes(alloc, plan)? {
         queue.push(envelope)?;
     }
     push_forged(alloc, &mut queue, &MEMBER, &FORMS)?;
     Ok(queue)
 }
 
-/// What a worker leaves of them.
-fn worked<R: Wait + RandomSource + AllocGlobal>(
-    rt: &R,
-    alloc: Global,
-    canvas: &Sample,
-) -> Option<Left> {
-    match queue_of(alloc, canvas) {
-        Ok(queue) => work(rt, alloc, &canvas.plan, queue, &OpenGate, u32::MAX),
+/// How a worker ends that takes from it.
+fn left_of<R: Wait + RandomSource + AllocGlobal>(rt: &R, plan: &Plan) -> Option<Left> {
+    match queue_of(rt.alloc(), plan) {
+        Ok(queue) => work(rt, plan, queue, &OpenGate, 0, MOST),
         Err(_) => None,
     }
 }
 
-/// How many messages a worker dropped, took and published, and how many stores and parts were its.
-fn counts(record: &Record) -> [u64; 5] {
-    [
-        record.dropped,
-        record.taken,
-        record.published,
-        record.first,
-        record.parts,
-    ]
+/// More polls than it takes.
+const MOST: u32 = 1_000;
+
+/// The same of a chord with a member that fails, its number of polls aside.
+fn left_of_chord<R: Wait + RandomSource + AllocGlobal>(rt: &R) -> Option<Left> {
+    match spelled_plan(rt.alloc(), &FAILING) {
+        Some(plan) => left_of(rt, &plan).map(|left| Left { polls: 0, ..left }),
+        None => None,
+    }
 }
 
-/// The worker drops the ninety, runs the four messages, stores five outcomes and publishes the
-/// error callback alone.
+/// The worker drops the ninety and counts each, runs the four messages to their end, stores five
+/// outcomes and publishes the error callback alone.
 #[test]
-fn dropped_by_a_worker(rt: HostRuntime) -> Result<(), Fail> {
-    let canvas = a_failed_member(rt.alloc()).ok_or("no canvas")?;
-    let left = worked(&rt, rt.alloc(), &canvas).ok_or("no worker")?;
-    assert_eq!(rt; counts(&left.record), [90, 94, 1, 5, 3]);
-    assert!(rt; left.record.fault.is_none());
-    assert!(rt; left.rows.as_slice() == canvas.states.get().as_slice());
-    Ok(())
+fn dropped_by_a_worker(rt: HostRuntime) {
+    let wanted = Left {
+        polls: 0,
+        fault: None,
+        taken: 94,
+        published: 1,
+        first: 5,
+        parts: 3,
+        dropped: 90,
+    };
+    assert_eq!(rt; left_of_chord(&rt), Some(wanted));
 }

@@ -1,139 +1,248 @@
-//! Tasks that the caller hands in: one of the six and one more, two of the six, or all six, on
-//! threads and by turns.
+//! Tasks that the caller hands in, behind the gate that lets every worker go on: they are called
+//! side by side, also those of a registry.
 
-ghost use Rattle.std.specs.Prelude.{◌-ℤ◌, Ok};
+ghost use Rattle.std.specs.Prelude.{◌+ℤ◌, Ok};
 
-use canvas_engine::{run, run_turns};
+use crate::states::spelled_plan;
+use canvas_engine::{run, run_text_threads};
 use canvas_rewrite::Plan;
-use canvas_samples::sample::plan_of;
+use canvas_samples::spelled;
 use canvas_task::{
-    Add, AddFault, Fault, Kind, Mul, OfTwo, Outcome, Registry, SixTasks, TaskOfTwo, Tasks,
-    registry_of,
+    Add, Arg, Kind, Memory, OfTwo, Outcome, SixTasks, TaskOfTwo, Tasks, registry_of,
 };
 use canvas_worker::{OpenGate, Stop};
 use std::alloc::{AllocGlobal, Global};
+use std::collections::BTreeMap;
 use std::random::RandomSource;
 use std::sync::Wait;
-use std::test::Fail;
-use std::thread::Threads;
+use std::sync::atomic::{AtomicBool, AtomicU32, Ordering};
+use std::thread::{Threads, yield_now};
 
-/// `tests.sub(10, 3) | tasks.mul(2)`.
-const SUB_THEN_MUL: &str =
-    r#"{"task":"x","subtask_type":"chain","kwargs":{"tasks":[{"task":"tests.sub","args":[10,3]},{"task":"tasks.mul","args":[2]}]}}"#;
-
-const NOT_REGISTERED: Option<Outcome> = Some(Outcome::Failure(Fault::Plain(Kind::NotRegistered)));
-
-/// Workers, and turns for them.
-const TURNS: [(u32, &[u32]); 4] = [
-    (1, &[]),
-    (2, &[2, 1, 2, 2, 1]),
-    (4, &[4, 4, 3, 1]),
-    (16, &[16, 7, 7, 1]),
-];
-
-/// What `tests.sub(x, y)` answers.
-#[derive(Clone, Copy)]
-struct Difference;
-
-impl OfTwo for Difference {
-    ghost answer = { λ _ x y. Ok (x -ℤ y) };
-
-    fn answer(&self, x: i64, y: i64) -> Result<i128, Kind> {
-        Ok(i128::from(x) - i128::from(y))
-    }
+/// The six tasks, and how often any of them was called.
+#[derive(Drop)]
+pub(crate) struct Called {
+    times: AtomicU32,
 }
 
-/// Whether a run on threads gives the tasks these states.
-fn stores<R, T>(rt: &R, plan: &Plan, tasks: &T, workers: u32, states: &[Option<Outcome>]) -> bool
-where
-    R: Threads + Wait + RandomSource + AllocGlobal + Sync,
-    T: Tasks + Sync,
-{
-    match run(
-        rt,
-        rt.alloc(),
-        plan,
-        tasks,
-        workers,
-        &OpenGate,
-        &Stop::new(),
-    ) {
-        Ok((report, _)) => report.rows.get().as_slice() == states,
-        Err(_) => false,
-    }
-}
-
-/// The same by turns.
-fn stores_by_turns<T: Tasks>(
-    alloc: Global,
-    plan: &Plan,
-    tasks: &T,
-    workers: u32,
-    turns: &[u32],
-    states: &[Option<Outcome>],
-) -> bool {
-    match run_turns(alloc, plan, tasks, workers, turns) {
-        Ok(report) => report.rows.get().as_slice() == states,
-        Err(_) => false,
-    }
-}
-
-/// The number of workers whose run gives other states, on threads or by turns, if there is one.
-fn first_other<R, T>(rt: &R, plan: &Plan, tasks: &T, states: &[Option<Outcome>]) -> Option<u32>
-where
-    R: Threads + Wait + RandomSource + AllocGlobal + Sync,
-    T: Tasks + Sync,
-{
-    for &(workers, turns) in &TURNS {
-        if !stores(rt, plan, tasks, workers, states)
-            || !stores_by_turns(rt.alloc(), plan, tasks, workers, turns, states)
-        {
-            return Some(workers);
+impl Called {
+    pub(crate) fn new() -> Called {
+        Called {
+            times: AtomicU32::new(0),
         }
     }
-    None
+
+    pub(crate) fn times(&self) -> u32 {
+        self.times.load(Ordering::SeqCst)
+    }
 }
 
-/// Two of the six.
-fn without_difference(alloc: Global) -> Result<Registry, AddFault> {
-    registry_of!(alloc; Add, Mul)
+impl Tasks for Called {
+    ghost use Rattle.canvas_task.specs.Apply.{six_tasks};
+    ghost use Rattle.canvas_task.specs.BehaviourInRange.{six_in_range};
+
+    ghost behaviour = { λ _. six_tasks };
+
+    fn apply(&self, name: &str, args: &[Arg], kwargs: &BTreeMap<String, Arg>) -> Outcome {
+        self.times.fetch_add(1, Ordering::SeqCst);
+        SixTasks.apply(name, args, kwargs)
+    }
+
+    ghost in_range = { λ _. six_in_range };
 }
 
-/// One of the six, and the difference.
-fn with_difference(alloc: Global) -> Result<Registry, AddFault> {
-    let sub = TaskOfTwo {
-        name: "tests.sub",
-        parameters: ("x", "y"),
-        answers: Difference,
-    };
-    registry_of!(alloc; Mul, sub)
+// ---- calls that wait for each other
+
+/// How often a call looks, and lets other threads run, before it gives up: some seconds.
+const MOST: u32 = 3_000_000;
+
+/// A place where calls wait for each other, behind some that don't.
+#[derive(Drop)]
+struct Meeting {
+    /// How many calls don't wait.
+    before: u32,
+    /// How many have to be there.
+    all: u32,
+    begun: AtomicU32,
+    gave_up: AtomicBool,
 }
 
-/// Whether all runs of the canvas with these tasks give these states.
-fn always<R, T>(rt: &R, tasks: &T, states: &[Option<Outcome>]) -> bool
+impl Meeting {
+    fn of(before: u32, all: u32) -> Meeting {
+        Meeting {
+            before,
+            all,
+            begun: AtomicU32::new(0),
+            gave_up: AtomicBool::new(false),
+        }
+    }
+
+    fn gave_up(&self) -> bool {
+        self.gave_up.load(Ordering::SeqCst)
+    }
+
+    /// Waits until so many calls have begun. One that gives up lets all others go.
+    fn wait(&self) {
+        let all = self.before.saturating_add(self.all);
+        if self.begun.fetch_add(1, Ordering::SeqCst) < self.before {
+            return;
+        }
+        for _ in 0..MOST {
+            if self.begun.load(Ordering::SeqCst) >= all || self.gave_up() {
+                return;
+            }
+            yield_now();
+        }
+        self.gave_up.store(true, Ordering::SeqCst);
+    }
+}
+
+impl Tasks for Meeting {
+    ghost use Rattle.canvas_task.specs.Apply.{six_tasks};
+    ghost use Rattle.canvas_task.specs.BehaviourInRange.{six_in_range};
+
+    ghost behaviour = { λ _. six_tasks };
+
+    fn apply(&self, name: &str, args: &[Arg], kwargs: &BTreeMap<String, Arg>) -> Outcome {
+        self.wait();
+        SixTasks.apply(name, args, kwargs)
+    }
+
+    ghost in_range = { λ _. six_in_range };
+}
+
+/// Twenty calls side by side, and the same behind a call: whose worker takes four of them at once.
+const TWENTY: &str = "G(.,.,.,.,.,.,.,.,.,.,.,.,.,.,.,.,.,.,.,.)";
+
+const BEHIND_ONE: &str = "C(.,G(.,.,.,.,.,.,.,.,.,.,.,.,.,.,.,.,.,.,.,.))";
+
+/// What waits: short sums, the same behind a first task, or sums of thousands of numbers.
+#[derive(Clone, Copy, Debug)]
+enum Group {
+    Light,
+    Behind,
+    Heavy,
+}
+
+fn heavy(alloc: Global) -> Result<String, Memory> {
+    let call = format!(in alloc; "xsum:[{}1] ", "1,".repeat(alloc, 4_000)?)?;
+    spelled::canvas(alloc, TWENTY, &call.repeat(alloc, 20)?)
+}
+
+fn text_of(alloc: Global, group: Group) -> Result<String, Memory> {
+    match group {
+        Group::Light => spelled::canvas(alloc, TWENTY, &"add:1,1 ".repeat(alloc, 20)?),
+        Group::Behind => spelled::canvas(alloc, BEHIND_ONE, &"ident:1 ".repeat(alloc, 21)?),
+        Group::Heavy => heavy(alloc),
+    }
+}
+
+/// Whether so many calls of a text's run meet.
+fn text_meets<R>(rt: &R, text: &str, before: u32, workers: u32) -> bool
+where
+    R: Threads + Wait + RandomSource + AllocGlobal + Sync,
+{
+    let tasks = Meeting::of(before, workers);
+    let (bytes, alloc) = (text.as_bytes(), rt.alloc());
+    match run_text_threads(rt, alloc, bytes, &tasks, workers, &OpenGate, &Stop::new()) {
+        Ok(_) => !tasks.gave_up(),
+        Err(_) => false,
+    }
+}
+
+/// The same of a group. A first task in front of it doesn't wait.
+fn meets<R>(rt: &R, group: Group, workers: u32) -> bool
+where
+    R: Threads + Wait + RandomSource + AllocGlobal + Sync,
+{
+    let before = if matches!(group, Group::Behind) { 1 } else { 0 };
+    match text_of(rt.alloc(), group) {
+        Ok(text) => text_meets(rt, &text, before, workers),
+        Err(_) => false,
+    }
+}
+
+/// Each worker is inside a call while all others are: each has a thread of its own, and one that
+/// found nothing at first takes again as long as a message is in flight.
+#[test]
+fn calls_of_all_workers_meet(rt: HostRuntime) {
+    for &group in &[Group::Light, Group::Behind, Group::Heavy] {
+        for &workers in &[2, 4, 16] {
+            assert!(rt;
+                meets(&rt, group, workers),
+                "{group:?} by {workers} workers"
+            );
+        }
+    }
+}
+
+// ---- a registry
+
+/// How often a slow task lets other threads run.
+const LONG: u32 = 200_000;
+
+/// The sum, slowly. A task of a registry can't hold what calls would meet by.
+#[derive(Clone, Copy)]
+struct Slow;
+
+impl OfTwo for Slow {
+    ghost answer = { λ _ x y. Ok (x +ℤ y) };
+
+    fn answer(&self, x: i64, y: i64) -> Result<i128, Kind> {
+        for _ in 0..LONG {
+            yield_now();
+        }
+        Ok(i128::from(x) + i128::from(y))
+    }
+}
+
+/// How many of four workers take a message.
+fn taking<R, T>(rt: &R, alloc: Global, plan: &Plan, tasks: &T) -> Option<usize>
 where
     R: Threads + Wait + RandomSource + AllocGlobal + Sync,
     T: Tasks + Sync,
 {
-    match plan_of(rt.alloc(), SUB_THEN_MUL) {
-        Some(plan) => first_other(rt, &plan, tasks, states).is_none(),
-        None => false,
+    match run(rt, alloc, plan, tasks, 4, &OpenGate, &Stop::new()) {
+        Ok((_, records)) => {
+            let tallies = records.workers.get().iter();
+            Some(tallies.filter(|tally| tally.taken > 0).count())
+        }
+        Err(_) => None,
     }
 }
 
-#[test]
-fn a_task_that_was_added(rt: HostRuntime) -> Result<(), Fail> {
-    let registry = with_difference(rt.alloc())?;
-    let states = [Some(Outcome::Success(7)), Some(Outcome::Success(14))];
-    assert!(rt; always(&rt, &registry, &states));
-    Ok(())
+/// The same where the task of all is a slow one of a registry.
+fn taking_slow<R>(rt: &R, alloc: Global, plan: &Plan) -> Option<usize>
+where
+    R: Threads + Wait + RandomSource + AllocGlobal + Sync,
+{
+    let slow = TaskOfTwo {
+        name: "tasks.slow",
+        parameters: ("x", "y"),
+        answers: Slow,
+    };
+    match registry_of!(alloc; Add, slow) {
+        Ok(registry) => taking(rt, alloc, plan, &registry),
+        Err(_) => None,
+    }
 }
 
+/// The same of a group of four.
+fn taking_four<R>(rt: &R) -> Option<usize>
+where
+    R: Threads + Wait + RandomSource + AllocGlobal + Sync,
+{
+    match spelled_plan(
+        rt.alloc(),
+        &["G(.,.,.,.)", "slow:1,1 slow:2,2 slow:3,3 slow:4,4"],
+    ) {
+        Some(plan) => taking_slow(rt, rt.alloc(), &plan),
+        None => None,
+    }
+}
+
+/// One worker doesn't do all, since others are there before it is through with its first.
 #[test]
-fn a_task_that_was_not(rt: HostRuntime) -> Result<(), Fail> {
-    let registry = without_difference(rt.alloc())?;
-    let states = [NOT_REGISTERED, NOT_REGISTERED];
-    assert!(rt; always(&rt, &registry, &states));
-    assert!(rt; always(&rt, &SixTasks, &states));
-    Ok(())
+fn slow_tasks_of_a_registry(rt: HostRuntime) {
+    let taking = taking_four(&rt);
+    assert!(rt; matches!(taking, Some(2..=4)), "{taking:?}");
 }

@@ -1,124 +1,87 @@
-//! How many polls a worker takes, and what it asks its gate.
+//! How many polls a worker takes, what it asks its gate, and for whom it stays.
 
-use crate::by_hand::work;
+use crate::by_hand::{Left, work};
+use crate::gates::Counting;
 use crate::states::{first_envelopes, spelled_plan};
 use canvas_rewrite::Plan;
-use canvas_task::TaskNo;
-use canvas_worker::{Gate, OpenGate, Record};
-use std::alloc::{AllocGlobal, Global};
+use canvas_worker::Cause;
+use std::alloc::AllocGlobal;
 use std::random::RandomSource;
 use std::sync::Wait;
-use std::sync::atomic::{AtomicU32, Ordering};
 
-/// Whether a record counts so many takes, and that two tasks were run, of which the worker
-/// published the second.
-fn is_of_two(record: &Record, taken: u64) -> bool {
-    record.number == 1
-        && record.taken == taken
-        && record.published == 1
-        && record.first == 2
-        && record.parts == 0
-        && record.dropped == 0
-        && record.fault.is_none()
-}
+/// More polls than the worker takes that ends by itself.
+const MOST: u32 = 60;
 
-/// The polls of a worker that runs a plan of two tasks, one after the other, if it takes so many
-/// envelopes and counts the tasks so.
-fn polls_of<R, G>(rt: &R, alloc: Global, plan: &Plan, gate: &G, taken: u64) -> Option<u32>
+/// How a worker ends that runs a plan of two tasks, one after the other.
+fn left_of<R>(rt: &R, plan: &Plan, gate: &Counting, others: u64) -> Option<Left>
 where
     R: Wait + RandomSource + AllocGlobal,
-    G: Gate,
 {
-    let envelopes = first_envelopes(alloc, plan).ok()?;
-    let left = work(rt, alloc, plan, envelopes, gate, u32::MAX)?;
-    if is_of_two(&left.record, taken) {
-        Some(left.polls)
-    } else {
-        None
+    match first_envelopes(rt.alloc(), plan) {
+        Ok(envelopes) => work(rt, plan, envelopes, gate, others, MOST),
+        Err(_) => None,
     }
 }
 
 /// The same of a sum and a product.
-fn polls_of_two<R, G>(rt: &R, alloc: Global, gate: &G, taken: u64) -> Option<u32>
+fn left_of_two<R>(rt: &R, gate: &Counting, others: u64) -> Option<Left>
 where
     R: Wait + RandomSource + AllocGlobal,
-    G: Gate,
 {
-    match spelled_plan(alloc, "C(.,.)", "add:4,4 mul:8") {
-        Some(plan) => polls_of(rt, alloc, &plan, gate, taken),
+    match spelled_plan(rt.alloc(), &["C(.,.)", "add:4,4 mul:8"]) {
+        Some(plan) => left_of(rt, &plan, gate, others),
         None => None,
+    }
+}
+
+/// How a worker ends that takes so many envelopes and counts two tasks, of which it published the
+/// second.
+fn of_two(polls: u32, fault: Option<Cause>, taken: u64) -> Left {
+    Left {
+        polls,
+        fault,
+        taken,
+        published: 1,
+        first: 2,
+        parts: 0,
+        dropped: 0,
     }
 }
 
 /// To take, to store, to publish and to acknowledge are four for the first task, and to take, to
 /// store and to acknowledge three for the second; then a batch that is empty, a take that finds
 /// nothing, and the rest. The first batch may be empty, too.
+///
+/// Where the gate is shut once there is one more: it is asked once more whether to go on, and at
+/// each of the four points once whether to deliver again. A redelivery is a poll of its own. Its
+/// copy is taken, its store is not the first, and it is acknowledged: three more, with two points.
 #[test]
 fn polls_of_two_tasks(rt: HostRuntime) {
-    let polls = polls_of_two(&rt, rt.alloc(), &OpenGate, 2);
-    assert!(rt; matches!(polls, Some(10 | 11)), "{polls:?}");
-}
-
-/// Counts how often it is asked each of its two questions. It is shut so often, and then has an
-/// envelope delivered again at the ask of this number, from 1 on.
-#[derive(Drop)]
-struct Counting {
-    shut: u32,
-    again_at: u32,
-    asked_go: AtomicU32,
-    asked_again: AtomicU32,
-}
-
-impl Counting {
-    fn of(shut: u32, again_at: u32) -> Counting {
-        Counting {
-            shut,
-            again_at,
-            asked_go: AtomicU32::new(0),
-            asked_again: AtomicU32::new(0),
-        }
-    }
-
-    /// How often it was asked each.
-    fn asked(&self) -> (u32, u32) {
-        (
-            self.asked_go.load(Ordering::SeqCst),
-            self.asked_again.load(Ordering::SeqCst),
-        )
+    for &(shut, at, taken, least, asked) in &[
+        (0, 0, 2, 10, (2, 4)),
+        (1, 0, 2, 11, (3, 4)),
+        (0, 1, 3, 14, (3, 6)),
+        (0, 2, 3, 14, (3, 6)),
+        (0, 3, 3, 14, (3, 6)),
+        (0, 4, 3, 14, (3, 6)),
+    ] {
+        let gate = Counting::of(shut, at, 1);
+        let left = left_of_two(&rt, &gate, 0);
+        assert!(rt;
+            (least..=least + 2).any(|polls| left == Some(of_two(polls, None, taken))),
+            "{left:?}, asked {at}"
+        );
+        assert_eq!(rt; gate.asked(), asked, "asked {at}");
     }
 }
 
-impl Gate for Counting {
-    fn go(&self, _worker: u32, _task: TaskNo) -> bool {
-        self.asked_go.fetch_add(1, Ordering::SeqCst) >= self.shut
-    }
-
-    fn again(&self, _worker: u32, _task: TaskNo) -> bool {
-        self.asked_again
-            .fetch_add(1, Ordering::SeqCst)
-            .wrapping_add(1)
-            == self.again_at
-    }
-}
-
-/// It is asked once more whether to go on, and at each of the four points once whether to deliver
-/// again.
+/// A worker that has nothing left to take stays as long as one envelope is in flight, also where it
+/// has delivered one again: it has counted its copy, and its own messages.
 #[test]
-fn one_more_where_the_gate_is_shut_once(rt: HostRuntime) {
-    let gate = Counting::of(1, 0);
-    let polls = polls_of_two(&rt, rt.alloc(), &gate, 2);
-    assert!(rt; matches!(polls, Some(11 | 12)), "{polls:?}");
-    assert_eq!(rt; gate.asked(), (3, 4));
-}
-
-/// A redelivery is a poll of its own. Its copy is taken, its store is not the first, and it is
-/// acknowledged: three more, with two points.
-#[test]
-fn four_more_where_one_is_delivered_again(rt: HostRuntime) {
-    for at in 1..5 {
-        let gate = Counting::of(0, at);
-        let polls = polls_of_two(&rt, rt.alloc(), &gate, 3);
-        assert!(rt; matches!(polls, Some(14..=16)), "{polls:?}, asked {at}");
-        assert_eq!(rt; gate.asked(), (3, 6), "asked {at}");
+fn a_worker_stays_for_others(rt: HostRuntime) {
+    for &(at, taken) in &[(0, 2), (1, 3), (2, 3), (3, 3), (4, 3)] {
+        let gate = Counting::of(0, at, 1);
+        let stopped = of_two(MOST + 1, Some(Cause::Stopped), taken);
+        assert_eq!(rt; left_of_two(&rt, &gate, 1), Some(stopped), "asked {at}");
     }
 }

@@ -4,7 +4,8 @@
 
 use crate::refused_objects::{core, plain_queue, plain_table, queue, registry, table};
 use crate::refused_parts::{arguments, effects, messages, plans, signatures};
-use crate::refused_runs::{CANVASES, Canvas, How, runs, turns};
+use crate::refused_runs::{CANVASES, How, runs, turns};
+use crate::states::Canvas;
 use canvas_task::Memory;
 use std::alloc::{AllocGlobal, Global};
 use std::random::RandomSource;
@@ -56,21 +57,21 @@ fn answer<R: Wait>(rt: &R, alloc: Global, calls: Calls) -> bool {
 
 #[test]
 fn signatures_of_canvases(rt: HostRuntime) {
-    for calls in [Calls::Signatures, Calls::Plans, Calls::Arguments] {
+    for &calls in &[Calls::Signatures, Calls::Plans, Calls::Arguments] {
         assert!(rt; answer(&rt, rt.alloc(), calls), "{calls:?}");
     }
 }
 
 #[test]
 fn messages_of_plans(rt: HostRuntime) {
-    for calls in [Calls::Messages, Calls::Effects] {
+    for &calls in &[Calls::Messages, Calls::Effects] {
         assert!(rt; answer(&rt, rt.alloc(), calls), "{calls:?}");
     }
 }
 
 #[test]
 fn objects_of_runs(rt: HostRuntime) {
-    for calls in [
+    for &calls in &[
         Calls::PlainQueue,
         Calls::Queue,
         Calls::PlainTable,
@@ -83,50 +84,42 @@ fn objects_of_runs(rt: HostRuntime) {
     }
 }
 
-/// Whether a run comes to its states, at once or the second time.
-fn is_run<R>(rt: &R, alloc: Global, canvas: &Canvas, how: How) -> bool
+/// Whether a run comes to its end, at once or the second time.
+fn is_run<R>(rt: &R, canvas: &Canvas, how: How) -> bool
 where
     R: Threads + Wait + RandomSource + AllocGlobal + Sync,
 {
-    match runs(rt, alloc, canvas, how) {
+    match runs(rt, canvas, how) {
         Ok(is_right) => is_right,
-        Err(Memory) => runs(rt, alloc, canvas, how) == Ok(true),
+        Err(Memory) => runs(rt, canvas, how) == Ok(true),
     }
 }
 
 /// The first canvas whose run is wrong, if there is one.
-fn first_wrong<R>(rt: &R, alloc: Global, how: How) -> Option<usize>
+fn first_wrong<R>(rt: &R, how: How) -> Option<usize>
 where
     R: Threads + Wait + RandomSource + AllocGlobal + Sync,
 {
-    CANVASES
-        .iter()
-        .position(|canvas| !is_run(rt, alloc, canvas, how))
+    CANVASES.iter().position(|canvas| !is_run(rt, canvas, how))
 }
 
 #[test]
 fn runs_by_turns(rt: HostRuntime) {
-    for how in [
-        How::Turns(1),
-        How::Turns(2),
-        How::Within,
-        How::Again(1),
-        How::Again(2),
-    ] {
-        assert_eq!(rt; first_wrong(&rt, rt.alloc(), how), None, "{how:?}");
+    for &how in &[How::Turns(1), How::Turns(2), How::Again(1), How::Again(2)] {
+        assert_eq!(rt; first_wrong(&rt, how), None, "{how:?}");
     }
 }
 
 #[test]
 fn runs_on_threads(rt: HostRuntime) {
-    for how in [How::Threads(2), How::ByHand] {
-        assert_eq!(rt; first_wrong(&rt, rt.alloc(), how), None, "{how:?}");
+    for &how in &[How::Threads(2), How::ByHand] {
+        assert_eq!(rt; first_wrong(&rt, how), None, "{how:?}");
     }
 }
 
 #[test]
 fn runs_of_texts(rt: HostRuntime) {
-    for how in [How::Report, How::Text, How::TextThreads] {
-        assert_eq!(rt; first_wrong(&rt, rt.alloc(), how), None, "{how:?}");
+    for &how in &[How::Text, How::TextThreads] {
+        assert_eq!(rt; first_wrong(&rt, how), None, "{how:?}");
     }
 }

@@ -4,7 +4,7 @@
 ghost use Rattle.std.specs.Prelude.{◌≡◌, IfSome};
 ghost use Rattle.canvas_worker.specs.Asks.{FoundInRange};
 
-use crate::states::{a_failed_member, first_envelopes};
+use crate::states::{FAILING, first_envelopes, spelled_plan};
 use canvas_backend::{Backend, BackendSeat, PlainBackend, Stored};
 use canvas_broker::{Broker, BrokerPass, PlainBroker};
 use canvas_message::{Envelope, Letter};
@@ -132,10 +132,7 @@ fn keeps_plain(backend: &mut PlainBackend, task: TaskNo) -> bool {
 }
 
 fn plan_of(alloc: Global) -> Result<Plan, Memory> {
-    match a_failed_member(alloc) {
-        Some(canvas) => Ok(canvas.plan),
-        None => Err(Memory),
-    }
+    spelled_plan(alloc, &FAILING).ok_or(Memory)
 }
 
 pub(crate) fn plain_table(alloc: Global) -> Result<bool, Memory> {

@@ -4,7 +4,7 @@
 ghost use Rattle.std.specs.Prelude.{IfSome, All};
 ghost use Rattle.canvas_task.specs.Apply.{IsInRange};
 
-use crate::states::a_failed_member;
+use crate::states::{FAILING, spelled_plan};
 use canvas_codec::{decode, encode};
 use canvas_effects::{PartCall, after, body_after, first_messages, into_todo};
 use canvas_message::{Envelope, Message, MessageFault};
@@ -168,8 +168,8 @@ fn are_carried(alloc: Global, plan: &Plan) -> Result<bool, Memory> {
 
 /// A plan whose messages carry a chord's body with an error callback.
 pub(crate) fn messages(alloc: Global) -> Result<bool, Memory> {
-    match a_failed_member(alloc) {
-        Some(canvas) => are_carried(alloc, &canvas.plan),
+    match spelled_plan(alloc, &FAILING) {
+        Some(plan) => are_carried(alloc, &plan),
         None => Err(Memory),
     }
 }
@@ -243,8 +243,8 @@ fn last_message(alloc: Global, plan: &Plan) -> Result<Option<Message>, Memory> {
 }
 
 pub(crate) fn effects(alloc: Global) -> Result<bool, Memory> {
-    match a_failed_member(alloc) {
-        Some(canvas) => match last_message(alloc, &canvas.plan)? {
+    match spelled_plan(alloc, &FAILING) {
+        Some(plan) => match last_message(alloc, &plan)? {
             Some(message) => ends(alloc, message),
             None => Ok(false),
         },

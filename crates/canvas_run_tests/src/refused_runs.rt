@@ -1,42 +1,28 @@
-//! Runs that may be refused memory.
+//! Runs that may be refused memory. What rows a run has is in its contract: here it comes to an
+//! end, and has rows where it may not be without.
 
-use crate::by_hand::{Left, work};
-use crate::states::{Sample, are_partial, first_envelopes, is_stored, sample_of_text};
-use crate::stops::FirstTimes;
-use crate::tallies::OnThreads;
+use crate::by_hand::work;
+use crate::gates::Counting;
+use crate::own_tasks::Called;
+use crate::states::{Canvas, FAILING, first_envelopes, spelled_plan};
 use canvas_engine::{
-    Report, RunFault, TextFault, When, read_turns, report_text, run, run_text, run_text_threads,
-    run_turns, run_turns_again, run_turns_within,
+    RunFault, TextFault, When, read_turns, run, run_text, run_text_threads, run_turns,
+    run_turns_again,
 };
+use canvas_rewrite::Plan;
 use canvas_samples::spelled;
-use canvas_task::{Memory, Outcome, SixTasks, TaskNo};
-use canvas_worker::{Cause, Stop};
+use canvas_task::{Memory, TaskNo};
+use canvas_worker::{Cause, OpenGate, Stop};
 use std::alloc::{AllocGlobal, Global};
 use std::random::RandomSource;
 use std::sync::Wait;
-use std::sync::atomic::AtomicU32;
 use std::thread::Threads;
-
-/// A canvas, by its frame and its calls, and its report, all spelled shortly.
-pub(crate) type Canvas = [&'static str; 3];
 
 /// A sum and a product; a chord with a member that fails; and a chord with a task behind it.
 pub(crate) const CANVASES: [Canvas; 3] = [
-    [
-        "C(.,.)",
-        "add:4,4 mul:8",
-        "#1 tasks.add SUCCESS 8\n#2 tasks.mul SUCCESS 64\nresult 64\n",
-    ],
-    [
-        "H[.,.,.|?.>]",
-        "add:4,4 div:1,0 add:8,8 xsum: log_error:",
-        canvas_samples::worked::A_FAILED_MEMBER,
-    ],
-    [
-        "C(H[.,.|.],.)",
-        "add:1,1 add:2,2 xsum: mul:2",
-        "#1 tasks.add SUCCESS 2\n#2 tasks.add SUCCESS 4\n#3 tasks.xsum SUCCESS 6\n#4 tasks.mul SUCCESS 12\nresult 12\n",
-    ],
+    ["C(.,.)", "add:4,4 mul:8"],
+    FAILING,
+    ["C(H[.,.|.],.)", "add:1,1 add:2,2 xsum: mul:2"],
 ];
 
 /// How a canvas is run.
@@ -44,8 +30,6 @@ pub(crate) const CANVASES: [Canvas; 3] = [
 pub(crate) enum How {
     /// By turns, with so many workers.
     Turns(u32),
-    /// By turns, with steps that suffice.
-    Within,
     /// By turns, with so many workers, where the envelopes of the first two tasks are delivered
     /// again at both points.
     Again(u32),
@@ -53,203 +37,180 @@ pub(crate) enum How {
     Threads(u32),
     /// By one worker that is polled by hand, and delivers two envelopes again.
     ByHand,
-    /// By turns, with its report written.
-    Report,
     /// As a text, by turns.
     Text,
     /// As a text, on threads.
     TextThreads,
 }
 
-/// A run that ended early ends as refused where each row that it has is pending or the state of its
-/// task.
-fn refused(states: &[Option<Outcome>], rows: &Option<Report>) -> Result<bool, Memory> {
-    match rows {
-        Some(report) => {
-            if are_partial(report.rows.get(), states) {
-                Err(Memory)
-            } else {
-                Ok(false)
-            }
-        }
-        None => Err(Memory),
-    }
-}
-
-fn ended_early(states: &[Option<Outcome>], fault: &RunFault) -> Result<bool, Memory> {
+/// Whether a run's rows are as they have to be, where so many calls of tasks have begun. Once there
+/// are more than workers, a worker has gone on from a message whose first store stands.
+fn are_kept(fault: &RunFault, called: u32, workers: u32) -> Option<bool> {
     match fault {
         RunFault::Halted {
             cause: Cause::Memory,
-            rows,
-        } => refused(states, rows),
-        _ => Ok(false),
+            rows: Some(report),
+        } => Some(called <= workers || report.rows.get().iter().any(|row| row.is_some())),
+        RunFault::Halted {
+            cause: Cause::Memory,
+            rows: None,
+        } => None,
+        _ => Some(false),
     }
 }
 
-/// Whether a run has the states of its canvas.
-fn ended(states: &[Option<Outcome>], ran: Result<Report, RunFault>) -> Result<bool, Memory> {
-    match ran {
-        Ok(report) => Ok(report.rows.get().as_slice() == states),
-        Err(fault) => ended_early(states, &fault),
+/// A run by turns that was refused memory has rows from its first call on.
+fn refused(fault: &RunFault, called: u32, workers: u32) -> Result<bool, Memory> {
+    if are_kept(fault, called, workers).unwrap_or(called == 0) {
+        Err(Memory)
+    } else {
+        Ok(false)
     }
 }
 
-fn by_threads<R>(rt: &R, alloc: Global, canvas: &Sample, workers: u32) -> Result<bool, Memory>
+/// One on threads may have none, where an executor failed; but whoever was refused has asked the
+/// stop of all others.
+fn refused_on_threads(
+    fault: &RunFault,
+    called: u32,
+    workers: u32,
+    stop: &Stop,
+) -> Result<bool, Memory> {
+    let is_told = called == 0 || stop.asked();
+    if is_told && are_kept(fault, called, workers).unwrap_or(true) {
+        Err(Memory)
+    } else {
+        Ok(false)
+    }
+}
+
+fn by_turns(alloc: Global, plan: &Plan, workers: u32) -> Result<bool, Memory> {
+    let tasks = Called::new();
+    match run_turns(alloc, plan, &tasks, workers, &[]) {
+        Ok(_) => Ok(true),
+        Err(fault) => refused(&fault, tasks.times(), workers),
+    }
+}
+
+/// The entries of a list by which the envelopes of the first two tasks are delivered again.
+fn entries() -> Option<[(TaskNo, When); 4]> {
+    let (one, two) = (TaskNo::new(1)?, TaskNo::new(2)?);
+    Some([
+        (one, When::Early),
+        (one, When::Late),
+        (two, When::Early),
+        (two, When::Late),
+    ])
+}
+
+fn by_turns_again(
+    alloc: Global,
+    plan: &Plan,
+    workers: u32,
+    entries: &[(TaskNo, When)],
+) -> Result<bool, Memory> {
+    let tasks = Called::new();
+    match run_turns_again(alloc, plan, &tasks, workers, &[], entries) {
+        Ok(_) => Ok(true),
+        Err(fault) => refused(&fault, tasks.times(), workers),
+    }
+}
+
+fn again(alloc: Global, plan: &Plan, workers: u32) -> Result<bool, Memory> {
+    match entries() {
+        Some(entries) => by_turns_again(alloc, plan, workers, &entries),
+        None => Ok(false),
+    }
+}
+
+fn by_threads<R>(rt: &R, plan: &Plan, workers: u32) -> Result<bool, Memory>
 where
     R: Threads + Wait + RandomSource + AllocGlobal + Sync,
 {
-    let states = canvas.states.get();
-    match run(
-        rt,
-        alloc,
-        &canvas.plan,
-        &SixTasks,
-        workers,
-        &OnThreads,
-        &Stop::new(),
-    ) {
-        Ok((report, _records)) => Ok(report.rows.get().as_slice() == states.as_slice()),
-        Err(fault) => ended_early(states, &fault),
+    let (tasks, stop) = (Called::new(), Stop::new());
+    match run(rt, rt.alloc(), plan, &tasks, workers, &OpenGate, &stop) {
+        Ok(_) => Ok(true),
+        Err(fault) => refused_on_threads(&fault, tasks.times(), workers, &stop),
     }
 }
 
-/// Whether a worker's rows are right, and all there unless it was refused memory.
-fn is_left(canvas: &Sample, left: &Left) -> Result<bool, Memory> {
-    let states = canvas.states.get();
-    match left.record.fault {
-        None => Ok(left.rows.as_slice() == states.as_slice()),
-        Some(Cause::Memory) => {
-            if are_partial(&left.rows, states) {
+fn by_hand<R: Wait + RandomSource + AllocGlobal>(rt: &R, plan: &Plan) -> Result<bool, Memory> {
+    let envelopes = first_envelopes(rt.alloc(), plan)?;
+    match work(rt, plan, envelopes, &Counting::of(0, 1, 2), 0, u32::MAX) {
+        Some(left) => match left.fault {
+            None => Ok(true),
+            Some(Cause::Memory) => Err(Memory),
+            Some(Cause::Stopped) => Ok(false),
+        },
+        None => Err(Memory),
+    }
+}
+
+/// Whether a text has a report. Where its run was refused memory, so that the text of its rows
+/// was not, that is there if it has rows.
+fn reported(ran: &Result<String, TextFault>) -> Result<bool, Memory> {
+    match ran {
+        Ok(_) => Ok(true),
+        Err(TextFault::Memory) => Err(Memory),
+        Err(
+            TextFault::Run {
+                fault: RunFault::Halted {
+                    cause: Cause::Memory,
+                    rows,
+                },
+                stored,
+            },
+        ) => {
+            if rows.is_some() == stored.is_some() {
                 Err(Memory)
             } else {
                 Ok(false)
             }
         }
-        Some(Cause::Stopped) => Ok(false),
+        Err(_) => Ok(false),
     }
 }
 
-fn by_hand<R: Wait + RandomSource + AllocGlobal>(
-    rt: &R,
-    alloc: Global,
-    canvas: &Sample,
-) -> Result<bool, Memory> {
-    let envelopes = first_envelopes(alloc, &canvas.plan)?;
-    let gate = FirstTimes {
-        times: 2,
-        asked: AtomicU32::new(0),
-    };
-    match work(rt, alloc, &canvas.plan, envelopes, &gate, u32::MAX) {
-        Some(left) => is_left(canvas, &left),
-        None => Err(Memory),
-    }
+fn by_text(alloc: Global, text: &str) -> Result<bool, Memory> {
+    reported(&run_text(alloc, text.as_bytes(), &Called::new(), 1, &[]))
 }
 
-/// Whether a text has a report, or that of its rows where its run ended early.
-fn reported(
-    alloc: Global,
-    canvas: &Sample,
-    ran: Result<String, TextFault>,
-    report: &str,
-) -> Result<bool, Memory> {
-    match ran {
-        Ok(text) => Ok(text.as_str() == report),
-        Err(TextFault::Memory) => Err(Memory),
-        Err(TextFault::Run { fault, stored }) => {
-            if is_stored(alloc, &canvas.plan, &fault, &stored)? {
-                ended_early(canvas.states.get(), &fault)
-            } else {
-                Ok(false)
-            }
-        }
-        Err(TextFault::Sig(_)) => Ok(false),
-    }
-}
-
-/// Whether a canvas comes to its states where the envelopes of its first two tasks are delivered
-/// again, and four stores answer Again.
-fn again(alloc: Global, canvas: &Sample, workers: u32) -> Result<bool, Memory> {
-    let mut entries = Vec::new(alloc);
-    for number in [1, 2] {
-        if let Some(task) = TaskNo::new(number) {
-            entries.push((task, When::Early))?;
-            entries.push((task, When::Late))?;
-        }
-    }
-    match run_turns_again(alloc, &canvas.plan, &SixTasks, workers, &[], &entries) {
-        Ok((report, number)) => Ok(ended(canvas.states.get(), Ok(report))? && number == 4),
-        Err(fault) => ended_early(canvas.states.get(), &fault),
-    }
-}
-
-/// Whether a canvas's states are written as a report.
-fn is_reported(alloc: Global, canvas: &Sample, report: &str) -> Result<bool, Memory> {
-    match run_turns(alloc, &canvas.plan, &SixTasks, 1, &[]) {
-        Ok(found) => {
-            let text = report_text(alloc, &canvas.plan, &found)?;
-            Ok(text.as_str() == report)
-        }
-        Err(fault) => ended_early(canvas.states.get(), &fault),
-    }
-}
-
-/// Whether a canvas comes to its states, and its text to its report.
-fn comes_to<R>(
-    rt: &R,
-    alloc: Global,
-    canvas: &Sample,
-    text: &str,
-    report: &str,
-    how: How,
-) -> Result<bool, Memory>
+fn by_text_threads<R>(rt: &R, text: &str) -> Result<bool, Memory>
 where
     R: Threads + Wait + RandomSource + AllocGlobal + Sync,
 {
-    let states = canvas.states.get();
+    let (tasks, stop) = (Called::new(), Stop::new());
+    let (bytes, alloc) = (text.as_bytes(), rt.alloc());
+    reported(&run_text_threads(rt, alloc, bytes, &tasks, 2, &OpenGate, &stop))
+}
+
+/// Whether a plan's run comes to its end.
+fn runs_plan<R>(rt: &R, plan: &Plan, how: How) -> Result<bool, Memory>
+where
+    R: Threads + Wait + RandomSource + AllocGlobal + Sync,
+{
     match how {
-        How::Turns(workers) => ended(
-            states,
-            run_turns(alloc, &canvas.plan, &SixTasks, workers, &[]),
-        ),
-        How::Within => ended(
-            states,
-            run_turns_within(alloc, &canvas.plan, &SixTasks, 1, &[], 1_000),
-        ),
-        How::Again(workers) => again(alloc, canvas, workers),
-        How::Threads(workers) => by_threads(rt, alloc, canvas, workers),
-        How::ByHand => by_hand(rt, alloc, canvas),
-        How::Report => is_reported(alloc, canvas, report),
-        How::Text => reported(
-            alloc,
-            canvas,
-            run_text(alloc, text.as_bytes(), &SixTasks, 1, &[]),
-            report,
-        ),
-        How::TextThreads => {
-            let ran = run_text_threads(
-                rt,
-                alloc,
-                text.as_bytes(),
-                &SixTasks,
-                2,
-                &OnThreads,
-                &Stop::new(),
-            );
-            reported(alloc, canvas, ran, report)
-        }
+        How::Turns(workers) => by_turns(rt.alloc(), plan, workers),
+        How::Again(workers) => again(rt.alloc(), plan, workers),
+        How::Threads(workers) => by_threads(rt, plan, workers),
+        How::ByHand => by_hand(rt, plan),
+        How::Text | How::TextThreads => Ok(false),
     }
 }
 
-pub(crate) fn runs<R>(rt: &R, alloc: Global, canvas: &Canvas, how: How) -> Result<bool, Memory>
+/// The same of a canvas, as a plan or as a text.
+pub(crate) fn runs<R>(rt: &R, canvas: &Canvas, how: How) -> Result<bool, Memory>
 where
     R: Threads + Wait + RandomSource + AllocGlobal + Sync,
 {
-    let [frame, calls, short] = *canvas;
-    let text = spelled::canvas(alloc, frame, calls)?;
-    let report = spelled::report(alloc, short)?;
-    match sample_of_text(alloc, &text) {
-        Some(canvas) => comes_to(rt, alloc, &canvas, &text, &report, how),
-        None => Err(Memory),
+    let [frame, calls] = *canvas;
+    match how {
+        How::Text => by_text(rt.alloc(), &spelled::canvas(rt.alloc(), frame, calls)?),
+        How::TextThreads => by_text_threads(rt, &spelled::canvas(rt.alloc(), frame, calls)?),
+        _ => match spelled_plan(rt.alloc(), canvas) {
+            Some(plan) => runs_plan(rt, &plan, how),
+            None => Err(Memory),
+        },
     }
 }
 

@@ -34,7 +34,7 @@ use Rattle.canvas_runs.proofs.Words.{in_each}
 
 -- ---- entries and calls
 
-by_in : {A : Type 0} (p : ℕ) (c : A) (es : List (ℕ × A)) → In c (by p es) → In (p, c) es
+pub by_in : {A : Type 0} (p : ℕ) (c : A) (es : List (ℕ × A)) → In c (by p es) → In (p, c) es
 by_in p c [] i = elim i [ ]
 by_in {A} p c (e ∷ es) i = go (eqb e.0 p) refl (λ k. by_in p c es k) i
   where

@@ -17,6 +17,7 @@ ghost use Rattle.canvas_semantics.specs.Tree.{Tree, IsFull, numbered};
 ghost use Rattle.canvas_runs.specs.Causes.{completions};
 ghost use Rattle.canvas_runs.specs.EventLaws.{EventStates};
 ghost use Rattle.canvas_runs.specs.Law.{FirstPart, SecondPart, its_state};
+ghost use Rattle.canvas_runs.specs.Progress.{AllReadBack, FewCalls, FewSteps, NoneWaits, NeverStuck, AllEnd, Starts};
 ghost use Rattle.canvas_runs.specs.Run.{Run, Closed};
 ghost use Rattle.canvas_runs.specs.Witness.{small, queue, table, lost_part, not_taken, goes_on, acks_first};
 ghost use Rattle.canvas_runs.specs.Core.{IsCoreRun, taking};
@@ -40,6 +41,29 @@ pub fn law_of_runs()
     ensures of_canvas { (behaviour : Behaviour) (c : Tree) → IsFull c → (l : Line) → IsPlan l
         → tree_of l ≡ numbered (normal c) → (r : Run behaviour l) → Closed behaviour l r → (t : ℕ)
         → (results (roster_of l) r.table).outcomes t ≡ state_of t (meaning behaviour c) }
+{}
+
+/// A run makes few calls, whatever the number of workers and the order of their calls: six for each
+/// task, a publish, a take, a store, a part, a read and an acknowledgement, and four for each
+/// redelivery. So it goes on for no longer than that.
+pub fn law_of_bound()
+    ensures few { FewCalls }
+    ensures steps { FewSteps }
+{}
+
+/// No worker waits for another one, if the messages read back from their envelopes. In a run that
+/// is under way each worker that can go on makes a call next, in the middle of a script or by a
+/// take that finds a message, unless it has nothing left to do and the queue is empty. So a run
+/// that is under way is closed or goes on, and leads to a closed one: only a refusal of memory, or
+/// that its workers aren't let go on, can keep it from that. Each plan has a run that is under way,
+/// with its first messages published, for any number of workers. The messages of the chord below
+/// read back.
+pub fn law_of_progress()
+    ensures none_waits { NoneWaits }
+    ensures never_stuck { NeverStuck }
+    ensures ends { AllEnd }
+    ensures starts { Starts }
+    ensures chord { AllReadBack six_tasks small }
 {}
 
 /// The law of events. Whatever the tasks do, evaluating a plan with events gives each task the

@@ -12,18 +12,31 @@ const GROUP: &str =
 const CHORD: &str =
     r#"{"task":"x","subtask_type":"chord","options":{"group_id":"00000000-0000-8000-9000-00000000000"#;
 
+/// What a sign stands for, if not for itself.
+fn piece(sign: char) -> Option<&'static str> {
+    match sign {
+        '%' => Some("00000000-0000-8000-8000-00000000000"),
+        '@' => Some("00000000-0000-8000-9000-00000000000"),
+        '$' => Some(TASK),
+        '&' => Some(GROUP),
+        '^' => Some(CHORD),
+        _ => None,
+    }
+}
+
+/// Puts what a sign stands for behind a text.
+fn push_sign(text: &mut String, sign: char) -> Result<(), AllocError> {
+    match piece(sign) {
+        Some(piece) => text.push_str(piece),
+        None => text.push(sign),
+    }
+}
+
 /// The text of the notation.
 pub fn filled(alloc: Global, text: &str) -> Result<String, AllocError> {
     let mut all = String::new(alloc);
-    for c in text.chars() {
-        match c {
-            '%' => all.push_str("00000000-0000-8000-8000-00000000000")?,
-            '@' => all.push_str("00000000-0000-8000-9000-00000000000")?,
-            '$' => all.push_str(TASK)?,
-            '&' => all.push_str(GROUP)?,
-            '^' => all.push_str(CHORD)?,
-            c => all.push(c)?,
-        }
+    for sign in text.chars() {
+        push_sign(&mut all, sign)?;
     }
     Ok(all)
 }

@@ -27,13 +27,10 @@ pub fn repeated(
     count: u32,
 ) -> Result<String, AllocError> {
     let mut notation = String::new(alloc);
-    notation.push(primitive)?;
-    notation.push('(')?;
+    write!(notation, "{primitive}(")?;
     for i in 0..count {
-        if i > 0 {
-            notation.push(',')?;
-        }
-        notation.push_str(part)?;
+        let comma = if i > 0 { "," } else { "" };
+        write!(notation, "{comma}{part}")?;
     }
     notation.push(')')?;
     Ok(notation)
@@ -41,15 +38,10 @@ pub fn repeated(
 
 /// A notation with a part in the place of its `_`.
 pub fn filled(alloc: Global, frame: &str, part: &str) -> Result<String, AllocError> {
-    let mut notation = String::new(alloc);
-    for sign in frame.chars() {
-        if sign == '_' {
-            notation.push_str(part)?;
-        } else {
-            notation.push(sign)?;
-        }
+    match frame.split_once('_') {
+        Some((before, behind)) => format!(in alloc; "{before}{part}{behind}"),
+        None => String::from_str(alloc, frame),
     }
-    Ok(notation)
 }
 
 /// Whether a signature is written as this text.

@@ -11,11 +11,7 @@ use std::alloc::Global;
 
 fn push_call(text: &mut String, call: &str) -> Result<(), Memory> {
     if let Some((name, args)) = call.split_once(':') {
-        text.push_str(r#"{"task":"tasks."#)?;
-        text.push_str(name)?;
-        text.push_str(r#"","args":["#)?;
-        text.push_str(args)?;
-        text.push_str("]")?;
+        write!(text, "{{\"task\":\"tasks.{name}\",\"args\":[{args}]")?;
     }
     Ok(())
 }
@@ -45,29 +41,29 @@ pub fn canvas(alloc: Global, frame: &str, calls: &str) -> Result<String, Memory>
     Ok(text)
 }
 
-fn push_identifier(alloc: Global, text: &mut String, number: &str) -> Result<(), Memory> {
-    let task = number.parse::<u32>().unwrap_or(0);
-    text.push_str(&format!(in alloc; "00000000-0000-8000-8000-0000{task:08x}")?)?;
+/// Puts a sign behind a text, and in front of it the identifier of a task that was named there.
+fn push_behind(text: &mut String, named: Option<u32>, sign: char) -> Result<(), Memory> {
+    match named {
+        Some(task) => write!(text, "00000000-0000-8000-8000-0000{task:08x}{sign}")?,
+        None => text.push(sign)?,
+    }
     Ok(())
 }
 
 /// The text of a report.
 pub fn report(alloc: Global, short: &str) -> Result<String, Memory> {
     let mut text = String::new(alloc);
-    let mut number = String::new(alloc);
-    let mut is_number = false;
+    let mut named: Option<u32> = None;
     for sign in short.chars() {
-        if sign == '#' {
-            is_number = true;
-        } else if is_number && sign.is_ascii_digit() {
-            number.push(sign)?;
-        } else {
-            if is_number {
-                push_identifier(alloc, &mut text, &number)?;
-                number.clear();
-                is_number = false;
+        match (named, sign.to_digit(10)) {
+            (Some(task), Some(digit)) => {
+                named = Some(task.saturating_mul(10).saturating_add(digit));
             }
-            text.push(sign)?;
+            _ if sign == '#' => named = Some(0),
+            _ => {
+                push_behind(&mut text, named, sign)?;
+                named = None;
+            }
         }
     }
     Ok(text)

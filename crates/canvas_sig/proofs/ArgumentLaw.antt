@@ -7,12 +7,12 @@ use Rattle.serde_json.specs.Find.{as_i64}
 use Rattle.canvas_task.specs.Numbers.{in_range}
 use Rattle.canvas_task.specs.declared.arg.Arg.{Arg}
 use Rattle.canvas_task.specs.declared.arg.Arg.TheVariants as arg
-use Rattle.canvas_sig.specs.declared.fault.SigFault.{SigFault}
-use Rattle.canvas_sig.specs.declared.fault.SigFault.TheVariants.{BadArgs, BadNumber}
-use Rattle.canvas_sig.specs.Fields.{items, is_number}
-use Rattle.canvas_sig.specs.Answers.{◌>>=◌, ◌or_else◌, Gives, fault_if, judged, in_turn}
-use Rattle.canvas_sig.specs.Grammar.{some_in_range, number_ok, some_or_zero, whole_number, arg_reading}
-use Rattle.canvas_sig.specs.steps.Reading.{in_range_or_refused, number_reading, arg_steps}
+use Rattle.canvas_values.specs.declared.fault.SigFault.{SigFault}
+use Rattle.canvas_values.specs.declared.fault.SigFault.TheVariants.{BadArgs, BadNumber}
+use Rattle.canvas_values.specs.Fields.{items, is_number}
+use Rattle.canvas_values.specs.Answers.{◌>>=◌, ◌or_else◌, Gives, fault_if, judged, in_turn}
+use Rattle.canvas_values.specs.Grammar.{some_in_range, number_ok, some_or_zero, whole_number, arg_reading}
+use Rattle.canvas_values.specs.steps.Reading.{in_range_or_refused, number_reading, arg_steps}
 
 judged_map : {A B : Type 0} (p : Option SigFault) (x : A) (f : A → B) → (judged p x >>= λ y. Ok (f y)) ≡ judged p (f x)
 judged_map (Some e) x f = refl

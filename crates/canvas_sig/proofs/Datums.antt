@@ -7,14 +7,14 @@ use Rattle.std.specs.Prelude.{◌==◌}
 use Rattle.serde_json.specs.Data.{array}
 use Rattle.serde_json.specs.Data.{Data}
 use Rattle.serde_json.specs.View.{items_of}
-use Rattle.canvas_sig.specs.Datum.{view, members_view}
+use Rattle.canvas_sig.specs.Datum.{view, members_view, seen}
 use Rattle.canvas_sig.specs.declared.datum.Datum.{Datum}
 use Rattle.canvas_sig.specs.declared.datum.Datum as datum
 use Rattle.canvas_sig.proofs.Parsed.{Named, view-List, view-Object}
-use Rattle.canvas_sig.specs.steps.Reading.{list_reading, arg_steps}
-use Rattle.canvas_sig.specs.Grammar.{named_reading, kind_ok, numbers_ok, number_ok}
-use Rattle.canvas_sig.specs.Answers.{in_turn}
-use Rattle.canvas_sig.specs.Fields.{items, entries, listed, as_list, object_members as members, seen, is_number, is_empty, contents}
+use Rattle.canvas_values.specs.steps.Reading.{list_reading, arg_steps}
+use Rattle.canvas_values.specs.Grammar.{named_reading, kind_ok, numbers_ok, number_ok}
+use Rattle.canvas_values.specs.Answers.{in_turn}
+use Rattle.canvas_values.specs.Fields.{items, entries, listed, as_list, object_members as members, is_number, is_empty, contents}
 
 pub items-items_of : (ds : List Data) → items (items_of ds) ≡ ds
 items-items_of [] = refl

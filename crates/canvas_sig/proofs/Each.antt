@@ -1,7 +1,7 @@
 -- Reading one value after the other, as a loop does.
 use Rattle.std.proofs.Common.{◌≡◌, List, [], ◌∷◌, ◌++◌, Result, Ok, Err, refl, sym, ap, append_assoc}
-use Rattle.canvas_sig.specs.declared.fault.SigFault.{SigFault}
-use Rattle.canvas_sig.specs.Answers.{◌>>=◌, in_turn}
+use Rattle.canvas_values.specs.declared.fault.SigFault.{SigFault}
+use Rattle.canvas_values.specs.Answers.{◌>>=◌, in_turn}
 
 -- what was read before, and what is still read
 abbrev pub onto : {B : Type 0} → List B → Result (List B) SigFault → Result (List B) SigFault

@@ -9,22 +9,22 @@ use Rattle.serde_json.specs.Read.{read}
 use Rattle.canvas_task.specs.Entries.{IsBelow, Ascends}
 use Rattle.canvas_task.specs.Name.{name_ok}
 use Rattle.canvas_task.specs.Numbers.{in_range}
-use Rattle.canvas_sig.specs.declared.fault.SigFault.{SigFault}
-use Rattle.canvas_sig.specs.declared.fault.SigFault.TheVariants.{NotSignature, BadArgs, BadNumber, OnCanvas, Frozen, EmptyChain}
-use Rattle.canvas_sig.specs.declared.primitive.Primitive.{Primitive}
-use Rattle.canvas_sig.specs.declared.primitive.Primitive.TheVariants as kind
+use Rattle.canvas_values.specs.declared.fault.SigFault.{SigFault}
+use Rattle.canvas_values.specs.declared.fault.SigFault.TheVariants.{NotSignature, BadArgs, BadNumber, OnCanvas, Frozen, EmptyChain}
+use Rattle.canvas_values.specs.declared.primitive.Primitive.{Primitive}
+use Rattle.canvas_values.specs.declared.primitive.Primitive.TheVariants as kind
 use Rattle.canvas_task.specs.Text.{Text}
-use Rattle.canvas_sig.specs.Fields.{field, subtype, args, kwargs, tasks, header, body, link, link_error, items, entries, listed, as_list, object_members, text_of, is_number, is_null, is_list, is_empty, is_object}
-use Rattle.canvas_sig.specs.Answers.{◌or_else◌, fault_if, judged}
-use Rattle.canvas_sig.specs.Grammar.{some_or_zero, whole_number, argument_of, is_name, primitive_of, some_in_range, number_ok, kind_ok, numbers_ok, args_ok, is_group, not_signature, bad_args, bad_number, on_canvas, frozen, empty_chain, fault_as, own_fault, members_in}
-use Rattle.canvas_sig.specs.steps.Reading.{tree_reading}
-use Rattle.canvas_sig.specs.Refusals.{first_fault, in_kwargs, named_of, spelled_call, task_within, header_of, tree_from, tree_within}
+use Rattle.canvas_values.specs.Fields.{field, subtype, args, kwargs, tasks, header, body, link, link_error, items, entries, listed, as_list, object_members, text_of, is_number, is_null, is_list, is_empty, is_object}
+use Rattle.canvas_values.specs.Answers.{◌or_else◌, fault_if, judged}
+use Rattle.canvas_values.specs.Grammar.{some_or_zero, whole_number, argument_of, is_name, primitive_of, some_in_range, number_ok, kind_ok, numbers_ok, args_ok, is_group, not_signature, bad_args, bad_number, on_canvas, frozen, empty_chain, fault_as, own_fault, members_in}
+use Rattle.canvas_values.specs.steps.Reading.{tree_reading}
+use Rattle.canvas_values.specs.Refusals.{first_fault, in_kwargs, named_of, spelled_call, task_within, header_of, tree_from, tree_within}
 use Rattle.canvas_semantics.specs.Tree.{Task, Tree, one, chain, group, chord}
-use Rattle.canvas_sig.specs.SignatureView.{tasks_of, trees_of}
-use Rattle.canvas_sig.proofs.FittingCalls.{NumbersFit, ArgFits, ArgsFit, KwargsFit, CallFits}
-use Rattle.canvas_sig.proofs.Fits.{TaskFits, TasksFit, TreeFits, TreesFit}
+use Rattle.canvas_values.specs.SignatureView.{tasks_of, trees_of}
+use Rattle.canvas_values.proofs.FittingCalls.{NumbersFit, ArgFits, ArgsFit, KwargsFit, CallFits}
+use Rattle.canvas_values.proofs.Fits.{TaskFits, TasksFit, TreeFits, TreesFit}
 use Rattle.canvas_sig.proofs.InOrder.{IsBefore, IsSorted, MembersSorted, AllSorted, all_items, all_in_list, all_listed, field_sorted, read_sorted}
-use Rattle.canvas_sig.proofs.Law.{fault_left, quiet, neither, back, Fine, fine, only_task, tree_judged}
+use Rattle.canvas_values.proofs.Law.{fault_left, quiet, neither, back, Fine, fine, only_task, tree_judged}
 
 -- ---- arguments
 

@@ -9,7 +9,7 @@ use Rattle.json.specs.Lex.{tokens}
 use Rattle.serde_json.specs.Data.{Data, null, boolean, number, string, array, object, Items, no_items, item, Members, no_members, member, put}
 use Rattle.serde_json.specs.Find.{get_member}
 use Rattle.serde_json.specs.Read.{number_of, of_json, of_items, of_members, read, max_depth}
-use Rattle.canvas_sig.specs.Fields.{field, items, as_list, listed}
+use Rattle.canvas_values.specs.Fields.{field, items, as_list, listed}
 
 -- k is below each name
 abbrev pub IsBefore : List ℕ → Members → Type 0

@@ -8,11 +8,11 @@ use Rattle.serde_json.specs.View.{view, items_of}
 use Rattle.serde_json.specs.declared.value.Value.{Value, Array}
 use Rattle.serde_json.proofs.Views.{view-Array}
 use Rattle.canvas_task.specs.declared.arg.Arg.{Arg}
-use Rattle.canvas_sig.specs.declared.fault.SigFault.{SigFault}
-use Rattle.canvas_sig.specs.declared.fault.SigFault.TheVariants.{Memory}
-use Rattle.canvas_sig.specs.steps.Reading.{list_reading, arg_steps}
-use Rattle.canvas_sig.specs.Grammar.{takes_memory}
-use Rattle.canvas_sig.specs.Fields.{items, is_number}
+use Rattle.canvas_values.specs.declared.fault.SigFault.{SigFault}
+use Rattle.canvas_values.specs.declared.fault.SigFault.TheVariants.{Memory}
+use Rattle.canvas_values.specs.steps.Reading.{list_reading, arg_steps}
+use Rattle.canvas_values.specs.Grammar.{takes_memory}
+use Rattle.canvas_values.specs.Fields.{items, is_number}
 
 pub items-items_of : (ds : List Data) → items (items_of ds) ≡ ds
 items-items_of [] = refl

@@ -5,9 +5,9 @@ use Rattle.std.specs.Str.{IsUtf8, is_utf8}
 use Rattle.std.proofs.lemmas.Str.{is_utf8-from_IsUtf8, IsUtf8-from_is_utf8}
 use Rattle.serde_json.specs.Data.{Data}
 use Rattle.serde_json.specs.Read.{read}
-use Rattle.canvas_sig.specs.declared.fault.SigFault.TheVariants.{NotJson}
-use Rattle.canvas_sig.specs.CanvasText.{json_of}
-use Rattle.canvas_sig.specs.steps.Reading.{json_reading}
+use Rattle.canvas_values.specs.declared.fault.SigFault.TheVariants.{NotJson}
+use Rattle.canvas_values.specs.CanvasText.{json_of}
+use Rattle.canvas_values.specs.steps.Reading.{json_reading}
 
 -- the value of a text that is UTF-8 and reads
 pub text_reads : (bytes : List ℕ) (d : Data) → IsUtf8 bytes → read bytes ≡ Some d → json_reading (json_of bytes) ≡ Ok d

@@ -3,19 +3,19 @@ use Rattle.std.proofs.Common.{◌≡◌, ◌≢◌, ℕ, zero, suc, ◌-◌, Lis
 use Rattle.std.specs.Prelude.{codes}
 use Rattle.std.proofs.lemmas.List.{map_push}
 use Rattle.serde_json.specs.Data.{Data}
-use Rattle.canvas_sig.specs.declared.fault.SigFault.{SigFault}
-use Rattle.canvas_sig.specs.declared.fault.SigFault.TheVariants.{Memory}
-use Rattle.canvas_sig.specs.Fields.{field, args, kwargs, link, link_error, listed, object_members, as_list, text_of, is_true}
-use Rattle.canvas_sig.specs.Answers.{Fails, in_turn}
-use Rattle.canvas_sig.specs.Grammar.{arg_reading, named_reading}
-use Rattle.canvas_sig.specs.steps.Reading.{task_with, linked_with, task_reading, tree_with, tree_reading}
+use Rattle.canvas_values.specs.declared.fault.SigFault.{SigFault}
+use Rattle.canvas_values.specs.declared.fault.SigFault.TheVariants.{Memory}
+use Rattle.canvas_values.specs.Fields.{field, args, kwargs, link, link_error, listed, object_members, as_list, text_of, is_true}
+use Rattle.canvas_values.specs.Answers.{Fails, in_turn}
+use Rattle.canvas_values.specs.Grammar.{arg_reading, named_reading}
+use Rattle.canvas_values.specs.steps.Reading.{task_with, linked_with, task_reading, tree_with, tree_reading}
 use Rattle.canvas_semantics.specs.Tree.{Task}
-use Rattle.canvas_sig.specs.SignatureView.{task_view}
-use Rattle.canvas_sig.specs.declared.task_sig.TaskSig.{TaskSig}
-use Rattle.canvas_sig.specs.declared.task_sig.TaskSig.TheViews.{roll-TaskSig}
-use Rattle.canvas_sig.specs.declared.task_sig.TaskSig.TheOpen.{TaskSig-F}
+use Rattle.canvas_values.specs.SignatureView.{task_view}
+use Rattle.canvas_values.specs.declared.task_sig.TaskSig.{TaskSig}
+use Rattle.canvas_values.specs.declared.task_sig.TaskSig.TheViews.{roll-TaskSig}
+use Rattle.canvas_values.specs.declared.task_sig.TaskSig.TheOpen.{TaskSig-F}
 use Rattle.canvas_sig.proofs.Each.{onto, one_more}
-use Rattle.canvas_sig.proofs.Views as seen
+use Rattle.canvas_values.proofs.Views as seen
 
 pub task_level_below : (n : ℕ) (d : Data) → n ≢ 0 → task_reading n d ≡ linked_with (task_reading (n - 1)) d
 task_level_below zero d h = absurd (h refl)

@@ -14,22 +14,22 @@ use Rattle.serde_json.specs.Data.{Num, unsigned, negative, float, Data, null, bo
 use Rattle.serde_json.specs.Read.{read, max_depth}
 use Rattle.serde_json.specs.Written.{number_text, outline, items_outline, members_outline, compact_text}
 use Rattle.serde_json.proofs.Texts.{print-outline}
-use Rattle.canvas_sig.specs.declared.fault.SigFault.{SigFault}
-use Rattle.canvas_sig.specs.CanvasText.{most_bytes, json_of, text_reading}
+use Rattle.canvas_values.specs.declared.fault.SigFault.{SigFault}
+use Rattle.canvas_values.specs.CanvasText.{most_bytes, json_of, text_reading}
 use Rattle.canvas_sig.specs.steps.Clean.{IsWholeNumber, IsClean, AreClean, MembersClean, behind_members}
-use Rattle.canvas_sig.specs.Refusals.{signature_fault, tree_said}
+use Rattle.canvas_values.specs.Refusals.{signature_fault, tree_said}
 use Rattle.canvas_semantics.specs.Bounds.{most_nesting, nests_group, is_too_deep}
-use Rattle.canvas_sig.specs.LimitRefusals.{tree_fault}
+use Rattle.canvas_values.specs.LimitRefusals.{tree_fault}
 use Rattle.canvas_semantics.specs.Nesting.{nesting}
-use Rattle.canvas_sig.specs.Answers.{judged}
-use Rattle.canvas_sig.specs.steps.Reading.{tree_reading}
+use Rattle.canvas_values.specs.Answers.{judged}
+use Rattle.canvas_values.specs.steps.Reading.{tree_reading}
 use Rattle.canvas_semantics.specs.Tree.{Tree}
-use Rattle.canvas_sig.specs.Writable.{IsCanvas}
+use Rattle.canvas_values.specs.Writable.{IsCanvas}
 use Rattle.canvas_sig.specs.Writing.{tree_wire}
 use Rattle.canvas_sig.proofs.CleanWire.{tree_clean, tree_depth}
-use Rattle.canvas_sig.proofs.Depth.{fault_enough, tree_enough}
-use Rattle.canvas_sig.proofs.Law.{tree_judged}
-use Rattle.canvas_sig.proofs.Fits.{canvas_fits, canvas_within}
+use Rattle.canvas_values.proofs.Depth.{fault_enough, tree_enough}
+use Rattle.canvas_values.proofs.Law.{tree_judged}
+use Rattle.canvas_values.proofs.Fits.{canvas_fits, canvas_within}
 use Rattle.canvas_sig.proofs.RoundTrip.{tree_back}
 use Rattle.canvas_sig.proofs.WholeText.{text_again}
 

@@ -8,16 +8,16 @@ use Rattle.serde_json.specs.Find.{of_integer, as_i64}
 use Rattle.canvas_task.specs.Numbers.{in_range}
 use Rattle.canvas_task.specs.declared.arg.Arg.{Arg}
 use Rattle.canvas_task.specs.declared.arg.Arg.TheVariants as arg
-use Rattle.canvas_sig.specs.Fields.{field, items, entries, as_list, is_number, is_null, is_link}
+use Rattle.canvas_values.specs.Fields.{field, items, entries, as_list, is_number, is_null, is_link}
 use Rattle.canvas_semantics.specs.Tree.{Call, Task, task, Tasks, no_tasks, and_task, Tree, one, chain, group, chord, Trees, no_trees, and_tree}
 use Rattle.canvas_semantics.specs.Nesting.{task_nesting, tasks_nesting, nesting, all_nesting}
-use Rattle.canvas_sig.specs.SignatureView.{tasks_of, trees_of}
-use Rattle.canvas_sig.specs.Answers.{in_turn}
-use Rattle.canvas_sig.specs.Grammar.{whole_number, arg_reading, named_reading, kind_ok, numbers_ok, number_ok, own_fault}
-use Rattle.canvas_sig.specs.steps.Reading.{task_with, task_reading, tree_reading}
+use Rattle.canvas_values.specs.SignatureView.{tasks_of, trees_of}
+use Rattle.canvas_values.specs.Answers.{in_turn}
+use Rattle.canvas_values.specs.Grammar.{whole_number, arg_reading, named_reading, kind_ok, numbers_ok, number_ok, own_fault}
+use Rattle.canvas_values.specs.steps.Reading.{task_with, task_reading, tree_reading}
 use Rattle.canvas_sig.specs.Writing.{numbers_wire, arg_wire, args_wire, kwargs_wire, options_wire, call_wire, task_wire, tasks_wire, primitive_wire, chord_members, tree_wire, trees_wire}
-use Rattle.canvas_sig.proofs.FittingCalls.{NumbersFit, ArgFits, ArgsFit, KwargsFit, CallFits}
-use Rattle.canvas_sig.proofs.Fits.{TaskFits, TasksFit, TreeFits, TreesFit}
+use Rattle.canvas_values.proofs.FittingCalls.{NumbersFit, ArgFits, ArgsFit, KwargsFit, CallFits}
+use Rattle.canvas_values.proofs.Fits.{TaskFits, TasksFit, TreeFits, TreesFit}
 
 -- ---- arguments
 

@@ -1,24 +1,24 @@
 -- The first refusal of a text, from what reading gave.
 use Rattle.std.proofs.Common.{◌≡◌, ◌≢◌, suc, Bool, true, false, Option, Some, None, Result, Ok, Err, refl, sym, ap, ap₂, ◌∙◌, arith}
-use Rattle.std.specs.Prelude.{if◌then◌else◌, length, nat_lt}
+use Rattle.std.specs.Prelude.{if◌then◌else◌, length, nat_lt, IfOk, IfErr, MatchResult}
 use Rattle.serde_json.specs.Data.{Data}
 use Rattle.serde_json.specs.Read.{max_depth, read as read_json}
 use Rattle.std.specs.Str.{is_utf8}
-use Rattle.canvas_sig.specs.declared.fault.SigFault.{SigFault}
-use Rattle.canvas_sig.specs.declared.fault.SigFault.TheVariants.{TooLarge, NotJson, Memory}
-use Rattle.canvas_sig.specs.CanvasText.{most_bytes, json_of, canvas_reading, json_canvas, text_reading}
-use Rattle.canvas_sig.specs.steps.Reading.{json_reading, signature_reading}
-use Rattle.canvas_sig.specs.Refusals.{signature_fault, tree_said}
+use Rattle.canvas_values.specs.declared.fault.SigFault.{SigFault}
+use Rattle.canvas_values.specs.declared.fault.SigFault.TheVariants.{TooLarge, NotJson, Memory}
+use Rattle.canvas_values.specs.CanvasText.{most_bytes, json_of, canvas_reading, json_canvas, text_reading}
+use Rattle.canvas_values.specs.steps.Reading.{json_reading, signature_reading}
+use Rattle.canvas_values.specs.Refusals.{signature_fault, tree_said}
 use Rattle.canvas_task.specs.Text.{Text}
-use Rattle.canvas_sig.specs.LimitRefusals.{tree_fault}
-use Rattle.canvas_sig.specs.Answers.{◌>>=◌, ◌or_else◌, fault_if, judged, unless, Fails}
-use Rattle.canvas_sig.specs.steps.Reading.{tree_reading}
+use Rattle.canvas_values.specs.LimitRefusals.{tree_fault}
+use Rattle.canvas_values.specs.Answers.{◌>>=◌, ◌or_else◌, fault_if, judged, unless, Fails}
+use Rattle.canvas_values.specs.steps.Reading.{tree_reading}
 use Rattle.canvas_semantics.specs.Tree.{Tree}
-use Rattle.canvas_sig.specs.Writable.{IsCanvas}
+use Rattle.canvas_values.specs.Writable.{IsCanvas}
 use Rattle.serde_json.proofs.Nesting.{depth-read}
-use Rattle.canvas_sig.proofs.Depth.{fault_enough, tree_enough}
-use Rattle.canvas_sig.proofs.Law.{tree_judged}
-use Rattle.canvas_sig.proofs.Fits.{is_canvas as of_fits}
+use Rattle.canvas_values.proofs.Depth.{fault_enough, tree_enough}
+use Rattle.canvas_values.proofs.Law.{tree_judged}
+use Rattle.canvas_values.proofs.Fits.{is_canvas as of_fits}
 use Rattle.canvas_sig.proofs.Fitting.{fits_read}
 
 judged_ok : {A : Type 0} (o : Option SigFault) (x t : A) → judged o x ≡ Ok t → (o ≡ None) × (x ≡ t)
@@ -74,10 +74,10 @@ limits_decide : (bytes : Text) (t : Tree) → WasRead bytes t → text_reading b
 limits_decide bytes t r =
     rw (r.short, r.json, r.fine, r.tree) refl
 
-pub read_whole : (bytes : Text) (t : Tree) → signature_reading bytes ≡ Ok t → tree_fault t ≡ None → text_reading bytes ≡ Ok t
+read_whole : (bytes : Text) (t : Tree) → signature_reading bytes ≡ Ok t → tree_fault t ≡ None → text_reading bytes ≡ Ok t
 read_whole bytes t h limits = limits_decide bytes t (what_was_read bytes t h) ∙ ap (λ f. judged f t) limits
 
-pub refused_whole : (bytes : Text) (t : Tree) (e : SigFault) → signature_reading bytes ≡ Ok t → tree_fault t ≡ Some e → text_reading bytes ≡ Err e
+refused_whole : (bytes : Text) (t : Tree) (e : SigFault) → signature_reading bytes ≡ Ok t → tree_fault t ≡ Some e → text_reading bytes ≡ Err e
 refused_whole bytes t e h limits = limits_decide bytes t (what_was_read bytes t h) ∙ ap (λ f. judged f t) limits
 
 pub is_canvas : (bytes : Text) (t : Tree) → signature_reading bytes ≡ Ok t → tree_fault t ≡ None → IsCanvas t
@@ -86,6 +86,13 @@ is_canvas bytes t h limits =
     of_fits t
     (fits_read bytes (suc max_depth) r.its_json t (read_json_of (is_utf8 bytes) (read_json bytes) r.its_json r.json)
     (signature_judged bytes r.its_json r.json ∙ ap (λ o. judged o (tree_said r.its_json)) r.fine ∙ ap Ok r.tree)) limits
+
+-- what the limits gave of what was read is what the text spells
+pub limits_read : (bytes : Text) (t : Tree) (r : Result Tree SigFault) → signature_reading bytes ≡ Ok t
+    → IfOk r (λ c. (tree_fault t ≡ None) × (c ≡ t)) → IfErr r (λ e. tree_fault t ≡ Some e)
+    → MatchResult r (λ c. text_reading bytes ≡ Ok c) (λ e. e ≢ Memory → text_reading bytes ≡ Err e)
+limits_read bytes t (Ok c) h ok err = read_whole bytes t h ok.0 ∙ ap Ok (sym ok.1)
+limits_read bytes t (Err e) h ok err = λ other. refused_whole bytes t e h err
 
 canvas_later : (d : Data) (e : SigFault) → signature_fault d ≡ Some e → canvas_reading d ≡ Err e
 canvas_later d e h = ap (λ f. judged (f or_else tree_fault (tree_said d)) (tree_said d)) h

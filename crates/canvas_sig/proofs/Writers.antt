@@ -14,12 +14,12 @@ use Rattle.serde_json.specs.Find.{of_integer}
 use Rattle.serde_json.specs.Written.{number_text, compact_text}
 use Rattle.canvas_task.specs.declared.arg.Arg.{Arg}
 use Rattle.canvas_semantics.specs.Tree.{Call, Task, task, Tasks}
-use Rattle.canvas_sig.specs.SignatureView.{task_view, tasks_of}
+use Rattle.canvas_values.specs.SignatureView.{task_view, tasks_of}
 use Rattle.canvas_task.specs.declared.arg.Arg.TheVariants as arg
 use Rattle.canvas_sig.specs.Writing.{number_wire, numbers_wire, arg_wire, args_wire, kwargs_wire, task_wire, tasks_wire, options_wire, signature, tasks_member, chord_members}
 use Rattle.canvas_sig.specs.steps.Tokens.{Appends, data_tokens, rest_tokens, rest_members, call_tokens, links_wire, errbacks_wire, link_tokens, links_tokens, options_tokens, kind_tokens, name_tokens, opening_tokens, last_tokens, body_tokens}
-use Rattle.canvas_sig.specs.declared.task_sig.TaskSig.{TaskSig, out-TaskSig}
-use Rattle.canvas_sig.proofs.Views.{task_seen}
+use Rattle.canvas_values.specs.declared.task_sig.TaskSig.{TaskSig, out-TaskSig}
+use Rattle.canvas_values.proofs.Views.{task_seen}
 
 pub after_ok : {E : Type 0} (r : Result (Unit {0}) E) (old mid new : Written) (ts us all : List Token)
     → (mid.tokens ≡ old.tokens ++ ts) × (mid.before ≡ old.before)

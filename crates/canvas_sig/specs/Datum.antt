@@ -1,8 +1,9 @@
 -- The data that a borrowed value stands for.
-use Rattle.std.specs.Prelude.{ℕ, List, [], ◌∷◌, map}
+use Rattle.std.specs.Prelude.{ℕ, List, [], ◌∷◌, Option, option_map, unwrap_or, map}
 use Rattle.std.specs.Borrow.{Bor}
 use Rattle.serde_json.specs.Data.{Data, null, boolean, number, string, array, object, Items, Members, no_members, member}
 use Rattle.serde_json.specs.View.{number_view, items_of}
+use Rattle.canvas_task.specs.Text.{Text}
 use Rattle.canvas_sig.specs.declared.datum.Datum.{Datum, fold-Datum}
 use Rattle.canvas_sig.specs.declared.datum.Datum.TheOpen.{Datum-F}
 
@@ -26,3 +27,11 @@ items_view ds = items_of (map view ds)
 
 abbrev pub members_view : List (Bor (List ℕ) × Datum) → Members
 members_view ms = members_of (map (λ m. (m.0, view m.1)) ms)
+
+-- what a look-up found
+abbrev pub value_at : Option (Bor Datum) → Data
+value_at o = unwrap_or (option_map (λ v. view v.now) o) null
+
+-- an object's entries, as data
+abbrev pub seen : List (Bor (List ℕ) × Datum) → List (Text × Data)
+seen es = map (λ e. (e.0.now, view e.1)) es

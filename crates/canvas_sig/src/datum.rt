@@ -1,7 +1,7 @@
 //! JSON values whose texts, lists and objects are borrowed.
 
 ghost use Rattle.std.specs.Prelude.{◌≡◌, true, option_map};
-ghost use Rattle.canvas_sig.specs.Fields.{is_object};
+ghost use Rattle.canvas_values.specs.Fields.{is_object};
 ghost use Rattle.canvas_sig.specs.steps.Names.{IsBelow};
 ghost use Rattle.serde_json.specs.Find.{get, get_member};
 ghost use Rattle.canvas_sig.specs.Datum.{view, members_view};

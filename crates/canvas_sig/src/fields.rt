@@ -1,8 +1,8 @@
 //! Look-ups in a signature, and tests of what they found.
 
 ghost use Rattle.std.specs.Prelude.{◌≡◌, map};
-ghost use Rattle.canvas_sig.specs.Datum.{view};
-ghost use Rattle.canvas_sig.specs.Fields.{value_at, kwarg, option, is_null, is_list, is_true, is_flag, is_list_or_null, is_object_or_null, is_link, is_empty, listed};
+ghost use Rattle.canvas_sig.specs.Datum.{view, value_at};
+ghost use Rattle.canvas_values.specs.Fields.{kwarg, option, is_null, is_list, is_true, is_flag, is_list_or_null, is_object_or_null, is_link, is_empty, listed};
 
 use crate::datum::Datum;
 

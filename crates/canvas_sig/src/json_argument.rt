@@ -3,15 +3,15 @@
 ghost use Rattle.std.specs.Prelude.{◌≡◌, ◌≢◌, ◌<◌, map, length, IsTrue, IfErr};
 ghost use Rattle.std.specs.List.{list_all};
 ghost use Rattle.serde_json.specs.View.{view};
-ghost use Rattle.canvas_sig.specs.declared.fault.SigFault.TheVariants.{Memory};
-ghost use Rattle.canvas_sig.specs.Fields.{is_number};
-ghost use Rattle.canvas_sig.specs.Answers.{Gives, in_turn};
-ghost use Rattle.canvas_sig.specs.Grammar.{arg_reading, takes_memory};
-ghost use Rattle.canvas_sig.specs.steps.Reading.{number_reading, list_reading};
+ghost use Rattle.canvas_values.specs.declared.fault.SigFault.TheVariants.{Memory};
+ghost use Rattle.canvas_values.specs.Fields.{is_number};
+ghost use Rattle.canvas_values.specs.Answers.{Gives, in_turn};
+ghost use Rattle.canvas_values.specs.Grammar.{arg_reading, takes_memory};
+ghost use Rattle.canvas_values.specs.steps.Reading.{number_reading, list_reading};
 
 use crate::arguments::whole;
-use crate::fault::SigFault;
 use canvas_task::{Arg, ListOf, TextOf};
+use canvas_values::SigFault;
 use serde_json::Value;
 use std::alloc::Global;
 

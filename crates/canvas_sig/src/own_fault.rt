@@ -2,20 +2,20 @@
 
 ghost use Rattle.std.specs.Prelude.{◌≡◌, map, Some, false};
 ghost use Rattle.std.specs.List.{list_all};
-ghost use Rattle.canvas_sig.specs.Datum.{view};
-ghost use Rattle.canvas_sig.specs.declared.primitive.Primitive.TheVariants.{Chain, Chord};
-ghost use Rattle.canvas_sig.specs.Fields.{value_at, seen, contents};
-ghost use Rattle.canvas_sig.specs.Grammar.{is_name, is_text, is_group, kind_ok, numbers_ok, number_ok, args_ok, not_signature, bad_members, bad_args, bad_number, on_canvas, empty_chain, fault_as, own_fault};
+ghost use Rattle.canvas_sig.specs.Datum.{view, value_at, seen};
+ghost use Rattle.canvas_values.specs.declared.primitive.Primitive.TheVariants.{Chain, Chord};
+ghost use Rattle.canvas_values.specs.Fields.{contents};
+ghost use Rattle.canvas_values.specs.Grammar.{is_name, is_text, is_group, kind_ok, numbers_ok, number_ok, args_ok, not_signature, bad_members, bad_args, bad_number, on_canvas, empty_chain, fault_as, own_fault};
 
 use crate::arguments::{all_numbers, is_in_range};
 use crate::datum::Datum;
-use crate::fault::SigFault;
 use crate::fields::{
     is_empty, is_flag, is_link, is_list, is_list_or_null, is_null, is_object_or_null, is_true,
     kwarg_of, listed, option_of,
 };
-use crate::primitive::{Primitive, primitive_of};
+use crate::primitive::primitive_of;
 use canvas_task::name_ok;
+use canvas_values::{Primitive, SigFault};
 
 /// Whether a member is the name of a task.
 pub fn is_name(field: Option<&Datum<'_>>) -> bool

@@ -4,18 +4,18 @@ ghost use Rattle.std.specs.Prelude.{◌≡◌, true, ◌<◌, ◌++◌, length, 
 ghost use Rattle.json.specs.Json.{value, items, members};
 ghost use Rattle.serde_json.specs.Data.{no_members};
 ghost use Rattle.serde_json.specs.Read.{of_json, of_items, of_members, converted, read as read_text};
-ghost use Rattle.canvas_sig.specs.Answers.{Gives};
-ghost use Rattle.canvas_sig.specs.CanvasText.{json_of};
+ghost use Rattle.canvas_values.specs.Answers.{Gives};
+ghost use Rattle.canvas_values.specs.CanvasText.{json_of};
 ghost use Rattle.canvas_sig.specs.Datum.{view, items_view, members_view};
 ghost use Rattle.canvas_sig.specs.steps.Names.{put_all};
-ghost use Rattle.canvas_sig.specs.steps.Reading.{json_reading};
-ghost use Rattle.canvas_sig.specs.declared.fault.SigFault.TheVariants.{Memory};
+ghost use Rattle.canvas_values.specs.steps.Reading.{json_reading};
+ghost use Rattle.canvas_values.specs.declared.fault.SigFault.TheVariants.{Memory};
 
 use crate::datum::{Datum, follows};
-use crate::fault::SigFault;
 use crate::number::number_of;
 use bumpalo::Bump;
 use bumpalo::collections::into_bump_slice;
+use canvas_values::SigFault;
 use json::{Invalid, Reader, Scratch, Token};
 use serde_json::value::Map;
 use std::alloc::{AllocError, AllocFailed, Global};

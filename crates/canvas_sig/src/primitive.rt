@@ -1,23 +1,11 @@
-//! What a signature stands for.
+//! What a `subtask_type` says.
 
 ghost use Rattle.std.specs.Prelude.{◌≡◌};
-ghost use Rattle.canvas_sig.specs.Fields.{value_at};
-ghost use Rattle.canvas_sig.specs.Grammar.{primitive_of, primitive_named};
+ghost use Rattle.canvas_sig.specs.Datum.{value_at};
+ghost use Rattle.canvas_values.specs.Grammar.{primitive_of, primitive_named};
 
 use crate::datum::Datum;
-
-/// The kinds of signature, which `subtask_type` tells apart.
-#[derive(Clone, Copy, Drop)]
-pub enum Primitive {
-    /// Null, or missing.
-    Task,
-    /// `chain`.
-    Chain,
-    /// `group`.
-    Group,
-    /// `chord`.
-    Chord,
-}
+use canvas_values::Primitive;
 
 fn primitive_named(name: &str) -> Option<Primitive>
     ensures { result ≡ primitive_named name.now }

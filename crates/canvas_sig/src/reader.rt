@@ -1,23 +1,21 @@
 //! Reading signatures, with the signatures in them, out of JSON values.
 
 ghost use Rattle.std.specs.Prelude.{◌≡◌, map, string_bytes, IfOk, Some};
-ghost use Rattle.canvas_sig.specs.Datum.{view};
-ghost use Rattle.canvas_sig.specs.declared.primitive.Primitive.TheVariants.{Chain, Group, Chord};
-ghost use Rattle.canvas_sig.specs.Fields.{value_at, as_list, text_of};
-ghost use Rattle.canvas_sig.specs.Answers.{Gives, in_turn};
-ghost use Rattle.canvas_sig.specs.steps.Reading.{task_with, linked_with, task_reading, header_reading, tree_as, tree_with, tree_reading};
-ghost use Rattle.canvas_sig.specs.Grammar.{members_in};
-ghost use Rattle.canvas_sig.specs.SignatureView.{task_view, trees_of, view as tree_view};
+ghost use Rattle.canvas_sig.specs.Datum.{view, value_at};
+ghost use Rattle.canvas_values.specs.declared.primitive.Primitive.TheVariants.{Chain, Group, Chord};
+ghost use Rattle.canvas_values.specs.Fields.{as_list, text_of};
+ghost use Rattle.canvas_values.specs.Answers.{Gives, in_turn};
+ghost use Rattle.canvas_values.specs.steps.Reading.{task_with, linked_with, task_reading, header_reading, tree_as, tree_with, tree_reading};
+ghost use Rattle.canvas_values.specs.Grammar.{members_in};
+ghost use Rattle.canvas_values.specs.SignatureView.{task_view, trees_of, view as tree_view};
 
 use crate::arguments::{read_args, read_kwargs};
 use crate::datum::Datum;
-use crate::fault::SigFault;
 use crate::fields::{is_list, is_true, kwarg_of, listed, option_of};
-use crate::node::Node;
 use crate::own_fault::own_fault;
-use crate::primitive::{Primitive, primitive_of};
-use crate::task_sig::TaskSig;
+use crate::primitive::primitive_of;
 use canvas_task::{ListOf, MapOf, TextOf};
+use canvas_values::{Node, Primitive, SigFault, TaskSig};
 use std::alloc::{AllocError, Global};
 
 /// The text of a name, empty where there is none.

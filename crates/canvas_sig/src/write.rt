@@ -2,17 +2,17 @@
 
 ghost use Rattle.std.specs.Prelude.{◌≡◌, ◌≤◌, Ok, IfOk, length, string_bytes};
 ghost use Rattle.serde_json.specs.Written.{compact_text};
-ghost use Rattle.canvas_sig.specs.CanvasText.{most_bytes, text_reading};
+ghost use Rattle.canvas_values.specs.CanvasText.{most_bytes, text_reading};
 ghost use Rattle.canvas_sig.specs.Writing.{tree_wire};
-ghost use Rattle.canvas_sig.specs.SignatureView.{view};
+ghost use Rattle.canvas_values.specs.SignatureView.{view};
 
 mod arguments;
 mod node;
 mod task;
 mod value;
 
-use crate::{Canvas, Node};
 use canvas_task::Memory;
+use canvas_values::{Canvas, Node};
 use json::Writer;
 use node::write_tree;
 use std::alloc::Global;

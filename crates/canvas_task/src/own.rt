@@ -131,7 +131,8 @@ pub trait OfTwo: Drop {
 #[derive(Drop)]
 pub struct TaskOfTwo<T> {
     pub name: &'static str,
-    /// The names of its parameters, in their order.
+    /// The names of its parameters, in their order, and two of them: of one name twice nothing is
+    /// refused, and a keyword argument of that name is then given to both.
     pub parameters: (&'static str, &'static str),
     pub answers: T,
 }

@@ -127,9 +127,5 @@ impl Tasks for SixTasks {
         table::apply(name, args, kwargs)
     }
 
-    fn are_light(&self) -> bool {
-        true
-    }
-
     ghost in_range = { λ _. six_in_range };
 }

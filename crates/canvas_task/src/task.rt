@@ -60,12 +60,5 @@ pub trait Tasks {
     fn apply(&self, name: &str, args: &[Arg], kwargs: &BTreeMap<String, Arg>) -> Outcome
         ensures { result ≡ behaviour self.now name.now args.now (named kwargs.now.entries) };
 
-    /// Whether a call takes no longer than a message is written, so that one thread has done a
-    /// small canvas before others have begun. False, where an implementation says nothing: a task
-    /// that waits or computes for long needs a thread. No contract depends on it.
-    fn are_light(&self) -> bool {
-        false
-    }
-
     ghost in_range: { (tasks : Self) → AnswersInRange (behaviour tasks) };
 }

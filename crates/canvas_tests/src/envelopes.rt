@@ -5,7 +5,6 @@ use canvas_message::{Envelope, Message, MessageFault};
 use canvas_samples::frozen_texts::bytes_of;
 use canvas_task::{ListOf, TaskNo};
 use std::alloc::{AllocError, Global};
-use std::test::Fail;
 
 pub(crate) const PROPERTIES: &str =
     r#"{"content_encoding":"utf-8","content_type":"application/json","correlation_id":"%1"}"#;
@@ -86,69 +85,105 @@ fn sizes(message: &Message) -> [usize; 4] {
     ]
 }
 
-/// Whether an envelope's message is a sum, task 1 with task 7 as its parent, of these sizes, in a
-/// place, and with no rest of a line.
-fn is_sum(alloc: Global, envelope: &Envelope, wanted: &[usize; 4]) -> bool {
+/// Whether a message is a sum, task 1 with task 7 as its parent, of these sizes, in a place, and
+/// with no rest of a line.
+fn is_sum(message: &Message, wanted: &[usize; 4]) -> bool {
+    message.task.get() == 1
+        && message.name.get().as_str() == "tasks.add"
+        && message.parent == TaskNo::new(7)
+        && sizes(message) == *wanted
+        && message.place.is_some()
+        && message.rest.is_none()
+}
+
+/// Whether an envelope's message is such.
+fn has_sum(alloc: Global, envelope: &Envelope, wanted: &[usize; 4]) -> bool {
     match decode(alloc, envelope) {
-        Ok(message) => {
-            message.task.get() == 1
-                && message.name.get().as_str() == "tasks.add"
-                && message.parent == TaskNo::new(7)
-                && sizes(&message) == *wanted
-                && message.place.is_some()
-                && message.rest.is_none()
-        }
+        Ok(message) => is_sum(&message, wanted),
+        Err(_) => false,
+    }
+}
+
+/// The same of texts in the short notation.
+fn are_sum(alloc: Global, headers: &str, body: &str, wanted: &[usize; 4]) -> bool {
+    match envelope(alloc, PLAIN, headers, body) {
+        Ok(envelope) => has_sum(alloc, &envelope, wanted),
         Err(_) => false,
     }
 }
 
 #[test]
-fn fields_of_a_message(rt: HostRuntime) -> Result<(), Fail> {
-    let envelope = envelope(
-        rt.alloc(),
-        PLAIN,
-        r#"{"group":"@3","id":"%1","parent_id":"%7","task":"tasks.add"}"#,
-        r#"[["a",5],{"k":[]},{"callbacks":[$2"}}],"errbacks":[$3"}},$4"}}]}]"#,
-    )?;
-    assert!(rt; is_sum(rt.alloc(), &envelope, &[2, 1, 1, 2]));
-    Ok(())
+fn fields_of_a_message(rt: HostRuntime) {
+    let headers = r#"{"group":"@3","id":"%1","parent_id":"%7","task":"tasks.add"}"#;
+    let body = r#"[["a",5],{"k":[]},{"callbacks":[$2"}}],"errbacks":[$3"}},$4"}}]}]"#;
+    assert!(rt; are_sum(rt.alloc(), headers, body, &[2, 1, 1, 2]));
+}
+
+/// One of an envelope's three texts.
+#[derive(Clone, Copy, Debug)]
+enum Part {
+    Properties,
+    Headers,
+    Body,
+}
+
+fn length_of(envelope: &Envelope, part: Part) -> usize {
+    match part {
+        Part::Properties => envelope.properties.get().len(),
+        Part::Headers => envelope.headers.get().len(),
+        Part::Body => envelope.body.get().len(),
+    }
+}
+
+/// The number of an envelope's refusal of which one text is cut to a length. None where the text
+/// isn't longer.
+fn cut_code(alloc: Global, whole: &Envelope, part: Part, length: usize) -> Option<u8> {
+    let (properties, headers) = (whole.properties.get(), whole.headers.get());
+    let body = whole.body.get();
+    let read = match part {
+        Part::Properties if length < properties.len() => {
+            read(alloc, &properties[..length], headers, body)
+        }
+        Part::Headers if length < headers.len() => {
+            read(alloc, properties, &headers[..length], body)
+        }
+        Part::Body if length < body.len() => read(alloc, properties, headers, &body[..length]),
+        _ => return None,
+    };
+    Some(number_of(read))
+}
+
+/// At how many lengths a text is no JSON, up to the first at which it is, or to its own.
+fn lengths_refused(alloc: Global, whole: &Envelope, part: Part) -> usize {
+    for length in 0..1_000 {
+        if cut_code(alloc, whole, part, length) != Some(1) {
+            return length;
+        }
+    }
+    0
+}
+
+/// The same of a sum's envelope, with the texts' lengths.
+fn sum_refused(alloc: Global, part: Part) -> Option<(usize, usize)> {
+    match envelope(alloc, PROPERTIES, HEADERS, BODY) {
+        Ok(whole) => Some((
+            lengths_refused(alloc, &whole, part),
+            length_of(&whole, part),
+        )),
+        Err(_) => None,
+    }
 }
 
 /// A text that was cut anywhere isn't JSON.
 #[test]
-fn cut_properties(rt: HostRuntime) -> Result<(), Fail> {
-    let whole = envelope(rt.alloc(), PROPERTIES, HEADERS, BODY)?;
-    let (headers, body) = (whole.headers.get(), whole.body.get());
-    for length in 0..whole.properties.get().len() {
-        let cut = &whole.properties.get()[..length];
-        let code = number_of(read(rt.alloc(), cut, headers, body));
-        assert!(rt; code == 1, "{code} after {length} bytes");
+fn cut_texts(rt: HostRuntime) {
+    for part in [Part::Properties, Part::Headers, Part::Body] {
+        let found = sum_refused(rt.alloc(), part);
+        assert!(rt;
+            found.is_some_and(|(refused, length)| refused == length && length > 0),
+            "{part:?}: {found:?}"
+        );
     }
-    Ok(())
-}
-
-#[test]
-fn cut_headers(rt: HostRuntime) -> Result<(), Fail> {
-    let whole = envelope(rt.alloc(), PROPERTIES, HEADERS, BODY)?;
-    let (properties, body) = (whole.properties.get(), whole.body.get());
-    for length in 0..whole.headers.get().len() {
-        let cut = &whole.headers.get()[..length];
-        let code = number_of(read(rt.alloc(), properties, cut, body));
-        assert!(rt; code == 1, "{code} after {length} bytes");
-    }
-    Ok(())
-}
-
-#[test]
-fn cut_bodies(rt: HostRuntime) -> Result<(), Fail> {
-    let whole = envelope(rt.alloc(), PROPERTIES, HEADERS, BODY)?;
-    let (properties, headers) = (whole.properties.get(), whole.headers.get());
-    for length in 0..whole.body.get().len() {
-        let cut = &whole.body.get()[..length];
-        let code = number_of(read(rt.alloc(), properties, headers, cut));
-        assert!(rt; code == 1, "{code} after {length} bytes");
-    }
-    Ok(())
 }
 
 #[test]
@@ -219,7 +254,7 @@ fn properties(rt: HostRuntime) {
         ),
     ] {
         let found = code_of(rt.alloc(), properties, HEADERS, BODY);
-        assert_eq!(rt; found, code, "{properties}");
+        assert!(rt; found == code, "{found}: {properties}");
     }
 }
 
@@ -279,7 +314,7 @@ fn headers(rt: HostRuntime) {
         (3, r#"{"id":"%1","task":"x","group":7}"#),
     ] {
         let found = code_of(rt.alloc(), PLAIN, headers, "[[],{},null]");
-        assert_eq!(rt; found, code, "{headers}");
+        assert!(rt; found == code, "{found}: {headers}");
     }
 }
 
@@ -291,15 +326,29 @@ fn name_code(alloc: Global, name: &str) -> u8 {
     }
 }
 
-#[test]
-fn lengths_of_names(rt: HostRuntime) -> Result<(), Fail> {
-    let mut name = String::new(rt.alloc());
-    for length in 0..130 {
-        let code = if 1 <= length && length <= 128 { 0 } else { 2 };
-        assert_eq!(rt; name_code(rt.alloc(), &name), code, "{length}");
+fn name_of(alloc: Global, length: u32) -> Result<String, AllocError> {
+    let mut name = String::new(alloc);
+    for _ in 0..length {
         name.push('x')?;
     }
-    Ok(())
+    Ok(name)
+}
+
+/// The same of a name of so many characters.
+fn length_code(alloc: Global, length: u32) -> u8 {
+    match name_of(alloc, length) {
+        Ok(name) => name_code(alloc, &name),
+        Err(_) => u8::MAX,
+    }
+}
+
+#[test]
+fn lengths_of_names(rt: HostRuntime) {
+    for length in 0..130 {
+        let code = if 1 <= length && length <= 128 { 0 } else { 2 };
+        let found = length_code(rt.alloc(), length);
+        assert!(rt; found == code, "{found}: {length}");
+    }
 }
 
 #[test]
@@ -336,7 +385,7 @@ fn bodies(rt: HostRuntime) {
         (7, r#"[[],{},"x"]"#),
     ] {
         let found = code_of(rt.alloc(), PROPERTIES, HEADERS, body);
-        assert_eq!(rt; found, code, "{body}");
+        assert!(rt; found == code, "{found}: {body}");
     }
 }
 
@@ -357,6 +406,6 @@ fn several_faults(rt: HostRuntime) {
         (6, PROPERTIES, HEADERS, r#"[7,{},{"chain":7}]"#),
     ] {
         let found = code_of(rt.alloc(), properties, headers, body);
-        assert_eq!(rt; found, code, "{properties} {headers} {body}");
+        assert!(rt; found == code, "{found}: {properties} {headers} {body}");
     }
 }

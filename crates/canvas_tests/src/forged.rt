@@ -91,6 +91,28 @@ fn headers_of(alloc: Global, task: &str, group: &str) -> Result<String, AllocErr
     filled(alloc, &text)
 }
 
+fn push_body(
+    text: &mut String,
+    links: &str,
+    errbacks: &str,
+    chain: &str,
+    chord: &str,
+) -> Result<(), AllocError> {
+    text.push_str(r#"[[],{},{"callbacks":["#)?;
+    push_json(text, links)?;
+    text.push_str(r#"],"errbacks":["#)?;
+    push_json(text, errbacks)?;
+    text.push_str(r#"],"chain":["#)?;
+    push_json(text, chain)?;
+    text.push_str(r#"],"chord":"#)?;
+    if chord.is_empty() {
+        text.push_str("null")?;
+    } else {
+        push_json(text, chord)?;
+    }
+    text.push_str("}]")
+}
+
 fn body_of(
     alloc: Global,
     links: &str,
@@ -98,19 +120,8 @@ fn body_of(
     chain: &str,
     chord: &str,
 ) -> Result<String, AllocError> {
-    let mut text = String::from_str(alloc, r#"[[],{},{"callbacks":["#)?;
-    push_json(&mut text, links)?;
-    text.push_str(r#"],"errbacks":["#)?;
-    push_json(&mut text, errbacks)?;
-    text.push_str(r#"],"chain":["#)?;
-    push_json(&mut text, chain)?;
-    text.push_str(r#"],"chord":"#)?;
-    if chord.is_empty() {
-        text.push_str("null")?;
-    } else {
-        push_json(&mut text, chord)?;
-    }
-    text.push_str("}]")?;
+    let mut text = String::new(alloc);
+    push_body(&mut text, links, errbacks, chain, chord)?;
     Ok(text)
 }
 
@@ -229,21 +240,31 @@ fn push_part(text: &mut String, part: &PartCall) -> Result<(), AllocError> {
     write!(text, "/{size}")
 }
 
+fn push_stores(text: &mut String, todo: &Todo) -> Result<(), AllocError> {
+    for store in todo.stores.get() {
+        push_number(text, store.0.get())?;
+        text.push('=')?;
+        push_outcome(text, &store.1)?;
+        text.push(' ')?;
+    }
+    Ok(())
+}
+
+fn push_todo(text: &mut String, todo: &Todo) -> Result<(), AllocError> {
+    push_stores(text, todo)?;
+    for message in todo.messages.get() {
+        push_message(text, message)?;
+        text.push(' ')?;
+    }
+    match &todo.part {
+        Some(part) => push_part(text, part),
+        None => Ok(()),
+    }
+}
+
 fn shown(alloc: Global, todo: &Todo) -> Result<String, AllocError> {
     let mut text = String::new(alloc);
-    for store in todo.stores.get() {
-        push_number(&mut text, store.0.get())?;
-        text.push('=')?;
-        push_outcome(&mut text, &store.1)?;
-        text.push(' ')?;
-    }
-    for message in todo.messages.get() {
-        push_message(&mut text, message)?;
-        text.push(' ')?;
-    }
-    if let Some(part) = &todo.part {
-        push_part(&mut text, part)?;
-    }
+    push_todo(&mut text, todo)?;
     Ok(text)
 }
 
@@ -258,19 +279,31 @@ fn is_shown(alloc: Global, todo: &Todo, text: &str) -> bool {
 
 const FAILS: Outcome = Outcome::Failure(Fault::Plain(Kind::ZeroDivision));
 
-/// Whether this follows the end of a message's task, by reference and where the message is given
-/// up.
-fn follows(alloc: Global, message: Message, outcome: &Outcome, text: &str) -> bool
+/// Whether this follows the end of a message's task, where the message is lent.
+fn follows_lent(alloc: Global, message: &Message, outcome: &Outcome, text: &str) -> bool
     requires { IsInRange outcome.now }
 {
-    let lent = match after(alloc, &message, outcome) {
-        Ok(todo) => is_shown(alloc, &todo, text),
-        Err(_) => false,
-    };
-    lent && match into_todo(alloc, message, outcome) {
+    match after(alloc, message, outcome) {
         Ok(todo) => is_shown(alloc, &todo, text),
         Err(_) => false,
     }
+}
+
+/// The same where it is given up.
+fn follows_given(alloc: Global, message: Message, outcome: &Outcome, text: &str) -> bool
+    requires { IsInRange outcome.now }
+{
+    match into_todo(alloc, message, outcome) {
+        Ok(todo) => is_shown(alloc, &todo, text),
+        Err(_) => false,
+    }
+}
+
+/// Both.
+fn follows(alloc: Global, message: Message, outcome: &Outcome, text: &str) -> bool
+    requires { IsInRange outcome.now }
+{
+    follows_lent(alloc, &message, outcome, text) && follows_given(alloc, message, outcome, text)
 }
 
 fn ends_so(alloc: Global, row: &[&str; 8], outcome: &Outcome, text: &str) -> bool

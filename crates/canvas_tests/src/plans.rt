@@ -3,7 +3,7 @@
 use canvas_rewrite::{Ends, Plan};
 use canvas_samples::sample::plan_of;
 use canvas_task::{GroupNo, TaskNo};
-use std::test::Fail;
+use std::alloc::Global;
 
 /// A chord of two sums and their sum, followed by a product.
 const CHORD_AND_TASK: &str =
@@ -71,23 +71,33 @@ fn is_group_of_ten(plan: &Plan) -> bool {
     is_sized(plan, 1, None, 10) && ends_in_many(plan, 10)
 }
 
-#[test]
-fn plan_of_a_chord_and_a_task(rt: HostRuntime) -> Result<(), Fail> {
-    let plan = plan_of(rt.alloc(), CHORD_AND_TASK).ok_or("no plan")?;
-    assert!(rt; is_chord_and_task(&plan));
-    Ok(())
+/// Canvases whose plans are known.
+#[derive(Clone, Copy, Debug)]
+enum Which {
+    ChordAndTask,
+    Chord,
+    GroupOfTen,
+}
+
+/// Whether a canvas's plan is as known.
+fn is_known(alloc: Global, text: &str, which: Which) -> bool {
+    match plan_of(alloc, text) {
+        Some(plan) => match which {
+            Which::ChordAndTask => is_chord_and_task(&plan),
+            Which::Chord => is_chord(&plan),
+            Which::GroupOfTen => is_group_of_ten(&plan),
+        },
+        None => false,
+    }
 }
 
 #[test]
-fn plan_of_a_chord(rt: HostRuntime) -> Result<(), Fail> {
-    let plan = plan_of(rt.alloc(), CHORD).ok_or("no plan")?;
-    assert!(rt; is_chord(&plan));
-    Ok(())
-}
-
-#[test]
-fn plan_of_a_group(rt: HostRuntime) -> Result<(), Fail> {
-    let plan = plan_of(rt.alloc(), GROUP_OF_TEN).ok_or("no plan")?;
-    assert!(rt; is_group_of_ten(&plan));
-    Ok(())
+fn plans_of_canvases(rt: HostRuntime) {
+    for &(text, which) in &[
+        (CHORD_AND_TASK, Which::ChordAndTask),
+        (CHORD, Which::Chord),
+        (GROUP_OF_TEN, Which::GroupOfTen),
+    ] {
+        assert!(rt; is_known(rt.alloc(), text, which), "{which:?}");
+    }
 }

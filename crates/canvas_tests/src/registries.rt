@@ -4,12 +4,11 @@ ghost use Rattle.std.specs.Prelude.{◌≡◌, codes, ◌-ℤ◌, neg_ℤ, pos, 
 
 use crate::tasks::{BAD_CALL, BOUND, OVERFLOW, list, named};
 use canvas_task::{
-    Add, AddFault, Arg, BoxedTask, Div, Fault, Ident, Kind, LogError, Mul, OfList, OfOne, OfTwo,
-    Outcome, Registry, Task, TaskOfList, TaskOfOne, TaskOfTwo, Xsum, apply, registry_of,
+    Add, AddFault, Arg, Fault, Kind, Mul, OfList, OfOne, OfTwo, Outcome, Registry, Task,
+    TaskOfList, TaskOfOne, TaskOfTwo, registry_of,
 };
 use std::alloc::Global;
 use std::collections::BTreeMap;
-use std::test::Fail;
 
 /// The difference.
 #[derive(Clone, Copy)]
@@ -170,82 +169,40 @@ fn answer_whole(registry: &Registry, none: &BTreeMap<String, Arg>) -> bool {
         && registry.apply("tasks.add", &numbers, none) == Outcome::Success(13)
 }
 
-#[test]
-fn a_task_written_whole(rt: HostRuntime) -> Result<(), Fail> {
-    let alloc = rt.alloc();
-    let none = BTreeMap::new(alloc);
-    let registry = registry_of!(alloc; Add, Given)?;
-    let answers = answer_whole(&registry, &none);
-    assert!(rt; answers);
-    Ok(())
-}
-
-/// What is wanted of a task that is given back.
-#[derive(Drop)]
-struct Wanted {
-    cause: AddFault,
-    name: &'static str,
-    answer: i64,
-    none: BTreeMap<String, Arg>,
-}
-
-/// Whether a task isn't added, and is given back as wanted.
-fn refuses(registry: &mut Registry, task: BoxedTask, wanted: &Wanted) -> bool {
-    let numbers = [Arg::Num(1), Arg::Num(2)];
-    match registry.add(task) {
-        Ok(()) => false,
-        Err(refused) => {
-            refused.cause == wanted.cause
-                && refused.task.name() == wanted.name
-                && refused.task.call(&numbers, &wanted.none) == Ok(wanted.answer)
-        }
+fn whole_answers(alloc: Global) -> bool {
+    match registry_of!(alloc; Add, Given) {
+        Ok(registry) => answer_whole(&registry, &BTreeMap::new(alloc)),
+        Err(_) => false,
     }
 }
 
 #[test]
-fn tasks_of_a_name_that_is_there(rt: HostRuntime) -> Result<(), Fail> {
-    let alloc = rt.alloc();
-    let other = Always {
-        number: 5,
-        name: "tasks.add",
-    };
-    let (other, same) = (Box::new(alloc, other)?, Box::new(alloc, Add)?);
-    let mut wanted = Wanted {
-        cause: AddFault::Doubled,
-        name: "tasks.add",
-        answer: 5,
-        none: BTreeMap::new(alloc),
-    };
-    let mut registry = registry_of!(alloc; Add)?;
-    let refused = refuses(&mut registry, other, &wanted);
-    wanted.answer = 3;
-    let twice = refuses(&mut registry, same, &wanted);
-    let stays = registry.apply("tasks.add", &[Arg::Num(1), Arg::Num(1)], &wanted.none);
-    assert_eq!(rt; (refused, twice, stays), (true, true, Outcome::Success(2)));
-    Ok(())
+fn a_task_written_whole(rt: HostRuntime) {
+    assert!(rt; whole_answers(rt.alloc()));
 }
 
-#[test]
-fn tasks_of_bad_names(rt: HostRuntime) -> Result<(), Fail> {
-    let alloc = rt.alloc();
-    let mut registry = Registry::new(alloc);
-    for &name in &["", "a b", "tasks.\u{e9}"] {
-        let wanted = Wanted {
-            cause: AddFault::BadName,
-            name,
-            answer: 6,
-            none: BTreeMap::new(alloc),
-        };
-        let bad = Box::new(alloc, Always { number: 6, name })?;
-        let refused = refuses(&mut registry, bad, &wanted);
-        assert!(rt; refused, "{name}");
+/// Why no registry is made of a sum and a task that always answers 5, if it isn't.
+fn refused_for(alloc: Global, name: &'static str) -> Option<AddFault> {
+    match registry_of!(alloc; Add, Always { number: 5, name }) {
+        Ok(_) => None,
+        Err(cause) => Some(cause),
     }
-    Ok(())
 }
 
 #[test]
-fn answers_out_of_range(rt: HostRuntime) -> Result<(), Fail> {
-    let alloc = rt.alloc();
+fn tasks_that_are_refused(rt: HostRuntime) {
+    for &(name, cause) in &[
+        ("tests.five", None),
+        ("tasks.add", Some(AddFault::Doubled)),
+        ("a b", Some(AddFault::BadName)),
+        ("", Some(AddFault::BadName)),
+    ] {
+        assert_eq!(rt; refused_for(rt.alloc(), name), cause, "{name}");
+    }
+}
+
+/// What tasks answer of which one answers past the bound, and one at it.
+fn around_the_bound(alloc: Global) -> Option<[Outcome; 2]> {
     let past = Always {
         number: BOUND + 1,
         name: "past",
@@ -254,53 +211,21 @@ fn answers_out_of_range(rt: HostRuntime) -> Result<(), Fail> {
         number: -BOUND,
         name: "at",
     };
-    let registry = registry_of!(alloc; past, at)?;
-    let none = BTreeMap::new(alloc);
-    let answers = [
-        registry.apply("past", &[], &none),
-        registry.apply("at", &[], &none),
-    ];
-    assert_eq!(rt; answers, [OVERFLOW, Outcome::Success(-BOUND)]);
-    Ok(())
+    match registry_of!(alloc; past, at) {
+        Ok(registry) => Some(past_and_at(&registry, &BTreeMap::new(alloc))),
+        Err(_) => None,
+    }
 }
 
-/// Whether a registry answers to a call by each name what the six do.
-fn answer_as_six(registry: &Registry, args: &[Arg], none: &BTreeMap<String, Arg>) -> bool {
+fn past_and_at(registry: &Registry, none: &BTreeMap<String, Arg>) -> [Outcome; 2] {
     [
-        "tasks.add",
-        "tasks.mul",
-        "tasks.div",
-        "tasks.xsum",
-        "tasks.ident",
-        "tasks.log_error",
-        "nope",
+        registry.apply("past", &[], none),
+        registry.apply("at", &[], none),
     ]
-    .iter()
-    .all(|name| registry.apply(name, args, none) == apply(name, args, none))
-}
-
-/// Whether it does so to two numbers and to one.
-fn numbers_as_six(alloc: Global, registry: &Registry) -> bool {
-    let none = BTreeMap::new(alloc);
-    let numbers = [Arg::Num(-7), Arg::Num(2)];
-    answer_as_six(registry, &numbers, &none) && answer_as_six(registry, &numbers[..1], &none)
-}
-
-fn list_as_six(alloc: Global, registry: &Registry) -> bool {
-    match list(alloc, &[1, 2]) {
-        Ok(list) => answer_as_six(registry, &[list], &BTreeMap::new(alloc)),
-        Err(_) => false,
-    }
-}
-
-fn six_answer(alloc: Global) -> bool {
-    match registry_of!(alloc; LogError, Ident, Xsum, Div, Mul, Add) {
-        Ok(registry) => numbers_as_six(alloc, &registry) && list_as_six(alloc, &registry),
-        Err(_) => false,
-    }
 }
 
 #[test]
-fn six_as_objects(rt: HostRuntime) {
-    assert!(rt; six_answer(rt.alloc()));
+fn answers_out_of_range(rt: HostRuntime) {
+    let wanted = [OVERFLOW, Outcome::Success(-BOUND)];
+    assert_eq!(rt; around_the_bound(rt.alloc()), Some(wanted));
 }

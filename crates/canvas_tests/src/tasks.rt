@@ -3,14 +3,12 @@
 ghost use Rattle.std.specs.Prelude.{◌≡◌, ◌≤◌};
 
 use canvas_task::{
-    Arg, Fault, GroupNo, Kind, ListOf, MapOf, Memory, Outcome, TaskNo, TextOf, Why, apply,
-    copy_args, copy_kwargs, group_of_text, group_text, name_ok, outcome_of, task_of_text,
-    task_text, word_of,
+    AddFault, Arg, Fault, GroupNo, Kind, ListOf, Memory, Outcome, TaskNo, Why, apply,
+    group_of_text, group_text, name_ok, outcome_of, task_of_text, task_text, word_of,
 };
 use std::alloc::{AllocError, Global};
 use std::collections::BTreeMap;
 use std::fmt::Display;
-use std::test::Fail;
 
 pub(crate) fn task(number: u32) -> TaskNo
     requires { 1 ≤ number }
@@ -54,29 +52,50 @@ fn of_one(name: &str, number: i64, kwargs: &BTreeMap<String, Arg>) -> Outcome {
 }
 
 /// What a task answers to two numbers.
-fn of_two(name: &str, first: i64, second: i64, none: &BTreeMap<String, Arg>) -> Outcome {
-    apply(name, &[Arg::Num(first), Arg::Num(second)], none)
+fn of_two(alloc: Global, name: &str, first: i64, second: i64) -> Outcome {
+    apply(
+        name,
+        &[Arg::Num(first), Arg::Num(second)],
+        &BTreeMap::new(alloc),
+    )
+}
+
+/// Whether it answers so.
+fn answers_two(alloc: Global, name: &str, first: i64, second: i64, outcome: &Outcome) -> bool {
+    of_two(alloc, name, first, second) == *outcome
+}
+
+/// Whether a task answers so to nothing.
+fn answers_nothing(alloc: Global, name: &str, outcome: &Outcome) -> bool {
+    apply(name, &[], &BTreeMap::new(alloc)) == *outcome
+}
+
+/// The same of a number.
+fn answers_one(alloc: Global, name: &str, number: i64, outcome: &Outcome) -> bool {
+    of_one(name, number, &BTreeMap::new(alloc)) == *outcome
 }
 
 #[test]
 fn calls_of_tasks(rt: HostRuntime) {
-    let none = BTreeMap::new(rt.alloc());
-    for &(name, first, second, outcome) in &[
+    for (name, first, second, outcome) in &[
         ("tasks.add", 4, 4, Outcome::Success(8)),
         ("tasks.mul", BOUND, 2, OVERFLOW),
         ("tasks.mul", BOUND, 1, Outcome::Success(BOUND)),
         ("tasks.ident", 1, 1, BAD_CALL),
     ] {
-        assert_eq!(rt; of_two(name, first, second, &none), outcome, "{name}");
+        assert!(rt;
+            answers_two(rt.alloc(), name, *first, *second, outcome),
+            "{name}"
+        );
     }
-    for &(name, number, outcome) in &[
+    for (name, number, outcome) in &[
         ("tasks.add", 1, BAD_CALL),
         ("tasks.ident", BOUND, Outcome::Success(BOUND)),
         ("tasks.ident", BOUND + 1, OVERFLOW),
     ] {
-        assert_eq!(rt; of_one(name, number, &none), outcome, "{name}");
+        assert!(rt; answers_one(rt.alloc(), name, *number, outcome), "{name}");
     }
-    assert_eq!(rt; apply("tasks.nope", &[], &none), NOT_REGISTERED);
+    assert!(rt; answers_nothing(rt.alloc(), "tasks.nope", &NOT_REGISTERED));
 }
 
 /// What the sum of 1 and a named 2 is.
@@ -87,17 +106,25 @@ fn of_named(alloc: Global, name: &str) -> Option<Outcome> {
     }
 }
 
+fn answers_named(alloc: Global, name: &str, outcome: &Outcome) -> bool {
+    of_named(alloc, name) == Some(*outcome)
+}
+
 #[test]
 fn named_arguments(rt: HostRuntime) {
-    for &(name, outcome) in &[("x", BAD_CALL), ("y", Outcome::Success(3)), ("z", BAD_CALL)] {
-        assert_eq!(rt; of_named(rt.alloc(), name), Some(outcome), "{name}");
+    for (name, outcome) in &[("x", BAD_CALL), ("y", Outcome::Success(3)), ("z", BAD_CALL)] {
+        assert!(rt; answers_named(rt.alloc(), name, outcome), "{name}");
     }
+}
+
+/// Whether this is the quotient.
+fn divides(alloc: Global, x: i64, y: i64, quotient: i64) -> bool {
+    of_two(alloc, "tasks.div", x, y) == Outcome::Success(quotient)
 }
 
 #[test]
 fn quotients_are_rounded_down(rt: HostRuntime) {
-    let none = BTreeMap::new(rt.alloc());
-    let rows = [
+    for &(x, y, quotient) in &[
         (7, 2, 3),
         (-7, 2, -4),
         (7, -2, -4),
@@ -111,16 +138,11 @@ fn quotients_are_rounded_down(rt: HostRuntime) {
         (-1, 3, -1),
         (1, -3, -1),
         (-1, -3, 0),
-    ];
-    for (x, y, quotient) in rows {
-        assert_eq!(rt;
-            of_two("tasks.div", x, y, &none),
-            Outcome::Success(quotient),
-            "{x} / {y}"
-        );
+    ] {
+        assert!(rt; divides(rt.alloc(), x, y, quotient), "{x} / {y}");
     }
-    let by_zero = of_two("tasks.div", 1, 0, &none);
-    assert_eq!(rt; by_zero, Outcome::Failure(Fault::Plain(Kind::ZeroDivision)));
+    let by_zero = of_two(rt.alloc(), "tasks.div", 1, 0);
+    assert!(rt; by_zero == Outcome::Failure(Fault::Plain(Kind::ZeroDivision)));
 }
 
 /// What the sum of a list is, alone or in front of a number.
@@ -136,51 +158,71 @@ fn sum_of(alloc: Global, numbers: &[i64], beside: bool) -> Option<Outcome> {
     }
 }
 
+const SUMS: [(&[i64], Outcome); 4] = [
+    (&[], Outcome::Success(0)),
+    (&[BOUND, BOUND, 1, -BOUND], OVERFLOW),
+    (&[BOUND, BOUND, -1, -BOUND], Outcome::Success(BOUND - 1)),
+    (
+        &[i64::MAX, i64::MAX, i64::MIN, i64::MIN, 5],
+        Outcome::Success(3),
+    ),
+];
+
 #[test]
 fn only_the_last_sum_counts(rt: HostRuntime) {
-    let rows: [(&[i64], Outcome); 4] = [
-        (&[], Outcome::Success(0)),
-        (&[BOUND, BOUND, 1, -BOUND], OVERFLOW),
-        (&[BOUND, BOUND, -1, -BOUND], Outcome::Success(BOUND - 1)),
-        (
-            &[i64::MAX, i64::MAX, i64::MIN, i64::MIN, 5],
-            Outcome::Success(3),
-        ),
-    ];
-    for (numbers, outcome) in rows {
-        assert_eq!(rt; sum_of(rt.alloc(), numbers, false), Some(outcome));
+    for (numbers, outcome) in &SUMS {
+        let found = sum_of(rt.alloc(), numbers, false);
+        assert!(rt; found == Some(*outcome), "{numbers:?}");
     }
-    assert_eq!(rt; sum_of(rt.alloc(), &[1, 2], true), Some(BAD_CALL));
+    assert!(rt; sum_of(rt.alloc(), &[1, 2], true) == Some(BAD_CALL));
 }
 
 const TEN: &str = "00000000-0000-8000-8000-00000000000a";
 
 const GREATEST_GROUP: &str = "00000000-0000-8000-9000-0000ffffffff";
 
+/// Whether a text is this task's identifier, or none's, and no group's.
+fn is_task(text: &str, task: Option<TaskNo>) -> bool {
+    task_of_text(text) == task && group_of_text(text).is_none()
+}
+
+fn has_texts(task: TaskNo, group: GroupNo) -> bool {
+    task_text(task).as_slice() == TEN.as_bytes()
+        && group_text(group).as_slice() == GREATEST_GROUP.as_bytes()
+}
+
 #[test]
 fn identifiers(rt: HostRuntime) {
     let (ten, greatest) = (task(10), group(4294967295));
-    assert!(rt; task_text(ten).as_slice() == TEN.as_bytes());
-    assert!(rt; group_text(greatest).as_slice() == GREATEST_GROUP.as_bytes());
-    for &(text, named) in &[
-        (TEN, Some(ten)),
-        ("00000000-0000-8000-8000-00000000000A", Some(ten)),
-        ("0000000000008000800000000000000a", Some(ten)),
-        ("{00000000-0000-8000-8000-00000000000a}", Some(ten)),
-        ("urn:uuid:00000000-0000-8000-8000-00000000000a", Some(ten)),
-        ("00000000-0000-8000-8000-000000000000", None),
-        ("00000000-0000-4000-8000-00000000000a", None),
-        ("a", None),
-        ("", None),
+    assert!(rt; has_texts(ten, greatest));
+    for &text in &[
+        TEN,
+        "00000000-0000-8000-8000-00000000000A",
+        "0000000000008000800000000000000a",
+        "{00000000-0000-8000-8000-00000000000a}",
+        "urn:uuid:00000000-0000-8000-8000-00000000000a",
     ] {
-        assert_eq!(rt;
-            (task_of_text(text), group_of_text(text)),
-            (named, None),
-            "{text}"
-        );
+        assert!(rt; is_task(text, Some(ten)), "{text}");
     }
-    assert_eq!(rt; group_of_text(GREATEST_GROUP), Some(greatest));
-    assert_eq!(rt; task_of_text(GREATEST_GROUP), None);
+    for &text in &[
+        "00000000-0000-8000-8000-000000000000",
+        "00000000-0000-4000-8000-00000000000a",
+        "a",
+        "",
+    ] {
+        assert!(rt; is_task(text, None), "{text}");
+    }
+    assert!(rt; group_of_text(GREATEST_GROUP) == Some(greatest));
+    assert!(rt; task_of_text(GREATEST_GROUP).is_none());
+}
+
+/// Whether an outcome is stored as this word, and read from it.
+fn is_word(outcome: &Outcome, word: u64) -> bool {
+    outcome_of(word) == Some(*outcome) && word_of(outcome) == word
+}
+
+fn is_no_word(word: u64) -> bool {
+    outcome_of(word).is_none()
 }
 
 #[test]
@@ -189,18 +231,14 @@ fn words(rt: HostRuntime) {
         dep: task(2),
         why: Why::Plain(Kind::ZeroDivision),
     });
-    for &(outcome, word) in &[
+    assert!(rt; is_word(&raised, 9223372036854775841));
+    for (outcome, word) in &[
         (Outcome::Success(-BOUND), 1),
         (Outcome::Success(0), 1152921504606846977),
         (Outcome::Success(BOUND), 2305843009213693953),
         (BAD_CALL, 9223372036854775808),
-        (raised, 9223372036854775841),
     ] {
-        assert_eq!(rt;
-            (outcome_of(word), word_of(&outcome)),
-            (Some(outcome), word),
-            "{word}"
-        );
+        assert!(rt; is_word(outcome, *word), "{word}");
     }
     for &word in &[
         0,
@@ -210,7 +248,7 @@ fn words(rt: HostRuntime) {
         9223372036854775829,
         u64::MAX,
     ] {
-        assert_eq!(rt; outcome_of(word), None, "{word}");
+        assert!(rt; is_no_word(word), "{word}");
     }
 }
 
@@ -250,6 +288,16 @@ fn texts(rt: HostRuntime) {
     );
     assert!(rt; prints(alloc, &Kind::NotRegistered, "NotRegistered"));
     assert!(rt; prints(alloc, &Memory, "memory refused"));
+    for (fault, text) in &[
+        (
+            AddFault::BadName,
+            "a task with a name that no task may have",
+        ),
+        (AddFault::Doubled, "a second task of a name"),
+        (AddFault::Memory, "memory refused"),
+    ] {
+        assert!(rt; prints(alloc, fault, text), "{text}");
+    }
 }
 
 #[test]
@@ -260,47 +308,4 @@ fn names(rt: HostRuntime) {
     for &name in &["", " ", "a b", "tasks.\u{e9}", "\u{7f}"] {
         assert!(rt; !name_ok(name), "{name}");
     }
-}
-
-/// A number, a list and a text.
-fn some_args(alloc: Global) -> Result<ListOf<Arg>, AllocError> {
-    let text = Arg::Text(TextOf::of(String::from_str(alloc, "x")?));
-    Ok(ListOf::of(vec![in alloc; Arg::Num(1), list(alloc, &[2, 3])?, text]?))
-}
-
-fn copies_args(alloc: Global) -> bool {
-    match some_args(alloc) {
-        Ok(args) => match copy_args(&args) {
-            Ok(copy) => copy == args,
-            Err(_) => false,
-        },
-        Err(_) => false,
-    }
-}
-
-/// A named number and a named list.
-fn some_kwargs(alloc: Global) -> Result<MapOf<Arg>, AllocError> {
-    let mut kwargs = named(alloc, "y", 2)?;
-    drop(kwargs.insert(String::from_str(alloc, "a")?, list(alloc, &[4])?)?);
-    Ok(MapOf::of(kwargs))
-}
-
-/// Whether the copy is these, of which two are a number `y` and another.
-fn copies_kwargs(alloc: Global, kwargs: &MapOf<Arg>) -> bool {
-    match copy_kwargs(alloc, kwargs) {
-        Ok(copy) => {
-            copy.get() == kwargs.get()
-                && copy.get().len() == 2
-                && copy.get().get("y") == Some(&Arg::Num(2))
-        }
-        Err(_) => false,
-    }
-}
-
-#[test]
-fn copies(rt: HostRuntime) -> Result<(), Fail> {
-    assert!(rt; copies_args(rt.alloc()));
-    let kwargs = some_kwargs(rt.alloc())?;
-    assert!(rt; copies_kwargs(rt.alloc(), &kwargs));
-    Ok(())
 }

@@ -1,13 +1,13 @@
 //! Canvases and arguments that were composed, with their texts.
 
+use crate::reading::text_of;
+use crate::tasks::{list, named};
 use canvas_samples::composed::calls;
 use canvas_samples::notation::{is_text, is_written};
 use canvas_sig::{Canvas, Node, SigFault, TaskSig, write_arg, write_canvas};
-use canvas_task::{Arg, ListOf, MapOf, TextOf};
+use canvas_task::{Arg, ListOf, MapOf};
 use serde_json::Value;
 use std::alloc::{AllocError, Global};
-use std::collections::BTreeMap;
-use std::test::Fail;
 
 const CHAIN: &str =
     r#"{"args":[],"immutable":false,"kwargs":{"tasks":[{"args":[1,1],"immutable":false,"kwargs":{},"options":{},"subtask_type":null,"task":"tasks.add"},{"args":[2],"immutable":false,"kwargs":{},"options":{},"subtask_type":null,"task":"tasks.mul"}]},"options":{},"subtask_type":"chain","task":"celery.chain"}"#;
@@ -22,13 +22,6 @@ fn chain(alloc: Global) -> Result<Node, AllocError> {
     Ok(Node::Chain(calls(alloc, &[("tasks.add", &[1, 1]), ("tasks.mul", &[2])])?))
 }
 
-#[test]
-fn chains(rt: HostRuntime) -> Result<(), Fail> {
-    let node = chain(rt.alloc())?;
-    assert!(rt; is_text(rt.alloc(), &node, CHAIN));
-    Ok(())
-}
-
 fn chord(alloc: Global) -> Result<Node, AllocError> {
     let body = calls(alloc, &[("tasks.xsum", &[]), ("tasks.mul", &[2])])?;
     let body = Box::new(alloc, Node::Chain(body))?;
@@ -36,35 +29,27 @@ fn chord(alloc: Global) -> Result<Node, AllocError> {
     Ok(Node::Chord { header, body })
 }
 
-#[test]
-fn chords(rt: HostRuntime) -> Result<(), Fail> {
-    let node = chord(rt.alloc())?;
-    assert!(rt; is_text(rt.alloc(), &node, CHORD));
-    Ok(())
-}
-
 /// A call with a list, a text, a named number and both kinds of callbacks.
 fn full_call(alloc: Global) -> Result<TaskSig, AllocError> {
     let mut sig = TaskSig::new(alloc, "tasks.ident", &[])?;
+    fill(alloc, &mut sig)?;
+    Ok(sig)
+}
+
+fn fill(alloc: Global, sig: &mut TaskSig) -> Result<(), AllocError> {
     sig.immutable = true;
     sig.args = arguments(alloc)?;
-    sig.kwargs = named(alloc)?;
+    sig.kwargs = MapOf::of(named(alloc, "by", 7)?);
     sig.links = callback(alloc, "tasks.mul", &[3])?;
     sig.errbacks = callback(alloc, "tasks.log_error", &[])?;
-    Ok(sig)
+    Ok(())
 }
 
 fn arguments(alloc: Global) -> Result<ListOf<Arg>, AllocError> {
     let mut args = Vec::new(alloc);
-    args.push(Arg::List(ListOf::of([1, -2].to_vec(alloc)?)))?;
-    args.push(Arg::Text(TextOf::of(String::from_str(alloc, "say \"hi\"")?)))?;
+    args.push(list(alloc, &[1, -2])?)?;
+    args.push(text_of(alloc, "say \"hi\"")?)?;
     Ok(ListOf::of(args))
-}
-
-fn named(alloc: Global) -> Result<MapOf<Arg>, AllocError> {
-    let mut kwargs = BTreeMap::new(alloc);
-    drop(kwargs.insert(String::from_str(alloc, "by")?, Arg::Num(7))?);
-    Ok(MapOf::of(kwargs))
 }
 
 fn callback(alloc: Global, name: &str, numbers: &[i64]) -> Result<ListOf<TaskSig>, AllocError> {
@@ -79,11 +64,20 @@ fn group(alloc: Global) -> Result<Node, AllocError> {
     Ok(Node::Group(ListOf::of(nodes)))
 }
 
+/// Whether a signature, where it could be composed, is written as this text.
+fn writes(alloc: Global, composed: Result<Node, AllocError>, text: &str) -> bool {
+    match composed {
+        Ok(node) => is_text(alloc, &node, text),
+        Err(_) => false,
+    }
+}
+
 #[test]
-fn groups(rt: HostRuntime) -> Result<(), Fail> {
-    let node = group(rt.alloc())?;
-    assert!(rt; is_text(rt.alloc(), &node, GROUP));
-    Ok(())
+fn signatures(rt: HostRuntime) {
+    let alloc = rt.alloc();
+    assert!(rt; writes(alloc, chain(alloc), CHAIN));
+    assert!(rt; writes(alloc, chord(alloc), CHORD));
+    assert!(rt; writes(alloc, group(alloc), GROUP));
 }
 
 /// Whether a canvas is written as this text, and is written so again once it was read.
@@ -94,11 +88,24 @@ fn reads_back(alloc: Global, canvas: &Canvas, text: &str) -> bool {
     }
 }
 
+/// Whether a signature is that of a canvas of this text.
+fn is_canvas(alloc: Global, node: Node, text: &str) -> bool {
+    match Canvas::of(alloc, node) {
+        Ok(canvas) => reads_back(alloc, &canvas, text),
+        Err(_) => false,
+    }
+}
+
+fn chain_is_canvas(alloc: Global) -> bool {
+    match chain(alloc) {
+        Ok(node) => is_canvas(alloc, node, CHAIN),
+        Err(_) => false,
+    }
+}
+
 #[test]
-fn canvases(rt: HostRuntime) -> Result<(), Fail> {
-    let canvas = Canvas::of(rt.alloc(), chain(rt.alloc())?)?;
-    assert!(rt; reads_back(rt.alloc(), &canvas, CHAIN));
-    Ok(())
+fn canvases(rt: HostRuntime) {
+    assert!(rt; chain_is_canvas(rt.alloc()));
 }
 
 /// Whether an argument is this value.
@@ -116,14 +123,20 @@ fn is_json(alloc: Global, value: &Value, text: &str) -> bool {
     }
 }
 
+/// Whether an argument, where it could be made, is this value.
+fn is_made(alloc: Global, made: Result<Arg, AllocError>, text: &str) -> bool {
+    match made {
+        Ok(arg) => is_value(alloc, &arg, text),
+        Err(_) => false,
+    }
+}
+
 #[test]
-fn argument_values(rt: HostRuntime) -> Result<(), Fail> {
-    let list = Arg::List(ListOf::of([1, 2].to_vec(rt.alloc())?));
-    assert!(rt; is_value(rt.alloc(), &list, "[1,2]"));
-    assert!(rt; is_value(rt.alloc(), &Arg::Num(-5), "-5"));
-    let text = Arg::Text(TextOf::of(String::from_str(rt.alloc(), "a")?));
-    assert!(rt; is_value(rt.alloc(), &text, r#""a""#));
-    Ok(())
+fn argument_values(rt: HostRuntime) {
+    let alloc = rt.alloc();
+    assert!(rt; is_made(alloc, list(alloc, &[1, 2]), "[1,2]"));
+    assert!(rt; is_made(alloc, Ok(Arg::Num(-5)), "-5"));
+    assert!(rt; is_made(alloc, text_of(alloc, "a"), r#""a""#));
 }
 
 /// The fault of a call that is composed with a number.
@@ -132,6 +145,11 @@ fn fault_of(alloc: Global, name: &str, number: i64) -> Option<SigFault> {
         Ok(sig) => Canvas::of(alloc, Node::Task(sig)).err(),
         Err(_) => Some(SigFault::Memory),
     }
+}
+
+/// The fault of a chain of nothing.
+fn fault_of_nothing(alloc: Global) -> Option<SigFault> {
+    Canvas::of(alloc, Node::Chain(ListOf::of(Vec::new(alloc)))).err()
 }
 
 #[test]
@@ -145,12 +163,8 @@ fn composed_faults(rt: HostRuntime) {
         ),
         ("tasks.add", 1_152_921_504_606_846_976, None),
     ] {
-        assert_eq!(rt;
-            fault_of(rt.alloc(), name, number),
-            fault,
-            "{name}({number})"
-        );
+        let found = fault_of(rt.alloc(), name, number);
+        assert!(rt; found == fault, "{found:?}: {name}({number})");
     }
-    let nothing = Canvas::of(rt.alloc(), Node::Chain(ListOf::of(Vec::new(rt.alloc()))));
-    assert_eq!(rt; nothing.err(), Some(SigFault::EmptyChain));
+    assert!(rt; fault_of_nothing(rt.alloc()) == Some(SigFault::EmptyChain));
 }

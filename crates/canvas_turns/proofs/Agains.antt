@@ -37,7 +37,8 @@ use Rattle.canvas_turns.proofs.TurnEnds.{few}
 use Rattle.canvas_turns.proofs.TurnLaw.{the_run, the_closed, all_between, rounds_workers}
 use Rattle.canvas_turns.proofs.TurnRuns.{firsts}
 use Rattle.canvas_turns.proofs.TurnWalk.{holds_first}
-use Rattle.canvas_turns.proofs.TurnSums.{again_sum, redelivers_few, in_table, queue_split, table_total}
+use Rattle.canvas_turns.proofs.TurnSums.{redelivers_few, in_table, queue_split, table_total}
+use Rattle.canvas_runs.proofs.FewCalls.{again_sum}
 
 -- ---- sums by key
 
@@ -182,7 +183,7 @@ module _ (behaviour : Behaviour) (l : Line) (n : ℕ) (es : List Entry) (us : Li
       let a = by_key (λ (x : Step). stores_of x.1.0) (λ (x : Step). answers_again x.1.0 x.1.1) N xs (omega arith) in
       let b = sum_to-le N (λ k. total (λ (x : Step). cond (eqb (stores_of x.1.0) k) (answers_again x.1.0 x.1.1) 0) xs)
       (λ k. total (agains_task (X behaviour l t.plan) k) (seconds (queue_calls the_run_so_far.queue))) task_agains in
-      let c = again_sum behaviour l n us xs its_turns N in
+      let c = again_sum behaviour l t.plan the_run_so_far N in
       let d = redelivers_few behaviour l n us xs its_turns in
       omega (arith, a, b, c, d, its_entries)
 

@@ -30,10 +30,11 @@ use Rattle.canvas_runs.proofs.SecondLaw.{second_part}
 use Rattle.canvas_runs.proofs.Words.{in_each, each_append, each_left}
 use Rattle.canvas_turns.specs.TurnLaws.{ByTurns, RunOf, Answerable, held_rows}
 use Rattle.canvas_turns.specs.Turns.{Step, results_after, IsWorker, queue_after, left, HasEnded, AllEnded, RanWhole, RanUntil, round, rounds}
-use Rattle.canvas_turns.proofs.RowRanges.{state_range, state_task}
+use Rattle.canvas_turns.proofs.RowRanges.{state_range}
 use Rattle.canvas_turns.proofs.TurnRuns.{run, closed, table_log}
 use Rattle.canvas_turns.proofs.TurnStates.{Good, good_left, Ready, part_may, was_in}
 use Rattle.canvas_turns.proofs.TurnWalk.{Holds, ended_over, holds_first, holds_turned}
+use Rattle.canvas_runs.proofs.TaskSums.{state_task}
 
 -- ---- the numbers 1 to n, again and again, are workers'
 

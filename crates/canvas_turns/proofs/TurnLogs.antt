@@ -1,12 +1,11 @@
 -- The histories of a run by turns: worker 0 makes the workers and publishes the first messages, and then each step that is a call stands with its worker.
-use Rattle.std.proofs.Common.{◌≡◌, ◌≢◌, ℕ, zero, suc, ◌≤◌, Bool, true, false, cond, eqb, ◌==◌, List, [], ◌∷◌, ◌++◌, refl, sym, ap, ◌∙◌, subst, append_assoc, append-nil, ne_eqb, ⊎_elim, arith}
+use Rattle.std.proofs.Common.{◌≡◌, ◌≢◌, ℕ, zero, suc, ◌≤◌, true, false, ◌==◌, List, [], ◌∷◌, ◌++◌, refl, sym, ap, ◌∙◌, subst, ⊎_elim, arith}
 use Rattle.std.proofs.lemmas.Bool.{false≢true, eqb-true, eqb-false, cases_Bool}
-use Rattle.canvas_history.specs.History.{Entry, split, join, calls, among, live, live_from, split_off, state_from, Legal}
-use Rattle.canvas_history.proofs.Histories.{In, in_left, in_right, in_append, in_here, in_later, in_cases, live_append, legal_append, OnlyCalls}
+use Rattle.canvas_history.specs.History.{Entry, split, join, calls, among, live, live_from, state_from, Legal}
+use Rattle.canvas_history.proofs.Histories.{In, in_left, in_right, in_append, in_here, in_later, in_cases, live_append, OnlyCalls}
 use Rattle.canvas_history.specs.Answers.{entries_by, splits_of}
-use Rattle.canvas_runs.specs.Lists.{by}
-use Rattle.canvas_runs.proofs.CallsOf.{tag}
 use Rattle.canvas_turns.specs.Turns.{round, IsWorker}
+use Rattle.canvas_runs.proofs.Splits.{live_splits, split_more}
 
 -- ---- the numbers 1 to n
 
@@ -29,19 +28,7 @@ round_has (suc n) p h =
 
 -- ---- splits, and calls after them
 
-named_splits : (C R : Type 0) (qs : List ℕ) → split_off (splits_of {C = C} {R = R} qs) ≡ qs
-named_splits C R [] = refl
-named_splits C R (q ∷ qs) = ap (λ l. q ∷ l) (named_splits C R qs)
-
-live_splits : (C R : Type 0) (cs qs : List ℕ) → live_from cs (splits_of {C = C} {R = R} qs) ≡ cs ++ qs
-live_splits C R cs [] = sym (append-nil cs)
-live_splits C R cs (q ∷ qs) = live_splits C R (cs ++ q ∷ []) qs ∙ append_assoc cs (q ∷ []) qs
-
 module _ {C R : Type 0} where
-  splits_more : (qs rs : List ℕ) → splits_of {C = C} {R = R} (qs ++ rs) ≡ splits_of qs ++ splits_of rs
-  splits_more [] rs = refl
-  splits_more (q ∷ qs) rs = ap (λ l. split 0 q ∷ l) (splits_more qs rs)
-
   pub only_live : (cs : List ℕ) (es : List (Entry C R)) → OnlyCalls es → live_from cs es ≡ cs
   only_live cs [] o = refl
   only_live cs (split p q ∷ es) o = absurd o
@@ -71,42 +58,19 @@ module _ {C R : Type 0} where
   pub first_lives : (n : ℕ) (log : List (Entry C R)) → Made n log → among 0 (live log) ≡ true
   first_lives n log m = subst (λ ls. In 0 ls) (sym (made_live n log m)) (in_here 0 (round n))
 
+-- no number past n is among them
+not_past : (n : ℕ) → among (suc n) (round n) ≡ false
+not_past n = ⊎_elim (λ (h : among (suc n) (round n) ≡ true). let k = in_round n (suc n) h in absurd (omega (arith, k.1)))
+    (λ (h : among (suc n) (round n) ≡ false). h) (cases_Bool (among (suc n) (round n)))
+
 module _ {C R S : Type 0} (first : S) (answer : S → C → R) (next : S → C → S) (May : List (Entry C R) → S → ℕ → C → Type 0) where
   pub splits_legal : (n : ℕ) → Legal first answer next May (splits_of (round n))
   splits_legal zero = tt
-  splits_legal (suc n) =
-      subst (Legal first answer next May) (sym (splits_more (round n) (suc n ∷ [])))
-      (legal_append first answer next May [] (splits_of (round n)) (split 0 (suc n) ∷ []) (splits_legal n)
-      ((alive, ne_eqb (suc n) 0 (λ e. omega (arith, e)), fresh), tt))
-    where
-      alive : among 0 (live (splits_of {C = C} {R = R} (round n))) ≡ true
-      alive = subst (λ ls. In 0 ls) (sym (live_splits C R (0 ∷ []) (round n))) (in_here 0 (round n))
-
-      fresh : among (suc n) (split_off (splits_of {C = C} {R = R} (round n))) ≡ false
-      fresh = subst (λ ls. among (suc n) ls ≡ false) (sym (named_splits C R (round n)))
-          (⊎_elim (λ (h : among (suc n) (round n) ≡ true). let k = in_round n (suc n) h in absurd (omega (arith, k.1)))
-          (λ (h : among (suc n) (round n) ≡ false). h) (cases_Bool (among (suc n) (round n))))
+  splits_legal (suc n) = split_more first answer next May (round n) (suc n) (splits_legal n) (λ e. omega (arith, e)) (not_past n)
 
   pub splits_state : (s : S) (qs : List ℕ) → state_from first answer next May s (splits_of qs) ≡ s
   splits_state s [] = refl
   splits_state s (q ∷ qs) = splits_state s qs
-
--- ---- calls by one caller
-
-pub by_tag : {A : Type 0} (p q : ℕ) (cs : List A) → by q (tag p cs) ≡ cond (eqb p q) cs []
-by_tag {A} p q cs = go (eqb p q) refl
-  where
-    here : (ds : List A) → eqb p q ≡ true → by q (tag p ds) ≡ ds
-    here [] e = refl
-    here (d ∷ ds) e = ap (λ b. cond b (d ∷ by q (tag p ds)) (by q (tag p ds))) e ∙ ap (λ l. d ∷ l) (here ds e)
-
-    off : (ds : List A) → eqb p q ≡ false → by q (tag p ds) ≡ []
-    off [] e = refl
-    off (d ∷ ds) e = ap (λ b. cond b (d ∷ by q (tag p ds)) (by q (tag p ds))) e ∙ off ds e
-
-    go : (b : Bool) → eqb p q ≡ b → by q (tag p cs) ≡ cond b cs []
-    go true e = here cs e
-    go false e = off cs e
 
 pub entries_only : {C R : Type 0} (p : ℕ) (cs : List (C × R)) → OnlyCalls (entries_by p cs)
 entries_only p [] = tt

@@ -22,9 +22,9 @@ use Rattle.canvas_message.specs.Among.{In as IsIn}
 use Rattle.std.proofs.lemmas.Bool.{eqb-true, false≢true}
 use Rattle.canvas_runs.proofs.Words.{in_right}
 use Rattle.canvas_runs.proofs.Sums.{total-append}
-use Rattle.canvas_runs.proofs.CallsOf.{calls_append, calls_splits, calls_entries, queue_append, queue_splits, queue_entries, broker_found, published_found, published_takes}
+use Rattle.canvas_runs.proofs.CallsOf.{calls_append, calls_splits, calls_entries, queue_append, queue_splits, queue_entries, broker_found, published_found, published_takes, by_tag}
 use Rattle.canvas_runs.proofs.MoreAsks.{by_append, delivers, DeliversHeld}
-use Rattle.canvas_turns.proofs.TurnLogs.{Made, worker_lives, first_lives, only_append, splits_legal, splits_state, by_tag, entries_only}
+use Rattle.canvas_turns.proofs.TurnLogs.{Made, worker_lives, first_lives, only_append, splits_legal, splits_state, entries_only}
 
 -- a worker whose redeliveries are of the envelope of its open script follows its core run
 one_same : (h : Option Envelope) (a : Ask Envelope) (r : Reply Envelope) (ys : List (AskedAndAnswered Envelope)) → delivers h a r

@@ -25,9 +25,8 @@ use Rattle.canvas_broker.specs.Broker as broker
 use Rattle.canvas_history.specs.Answers.{answered_calls, entries_by}
 use Rattle.canvas_effects.specs.Job as job
 use Rattle.canvas_runs.specs.Calls.{TableAnswered, backend_call, AskedAndAnswered, of_scripts, scripts_of}
-use Rattle.canvas_runs.specs.Core.{Ask, Reply, to_queue, to_table, from_queue, from_table, rested, acked, taking, resting, over, failed, owning, doing, reading, acking, is_due, settled, ask, opens, reads_next, answered, left_after, IsCoreRun, Doing, Jobs}
+use Rattle.canvas_runs.specs.Core.{Ask, Reply, to_queue, to_table, from_queue, from_table, rested, acked, taking, resting, over, failed, owning, doing, reading, acking, is_due, settled, ask, opens, reads_next, answered, Doing, Jobs}
 use Rattle.canvas_runs.specs.Lists.{Each, by, seconds, firsts}
-use Rattle.canvas_runs.specs.Protocol.{Protocol}
 use Rattle.canvas_runs.specs.Witness.{asks_table}
 use Rattle.canvas_runs.specs.Worker.{worker}
 use Rattle.canvas_runs.proofs.Bridges.{stored_stays}
@@ -37,7 +36,7 @@ use Rattle.canvas_runs.proofs.Meaning.{IsSkipped}
 use Rattle.canvas_runs.proofs.StoredOnce.{FirstWhereSkipped, all_skipped_first}
 use Rattle.canvas_runs.proofs.Finish.{Backed}
 use Rattle.canvas_runs.proofs.FirstLaw.{inner_run}
-use Rattle.canvas_runs.proofs.GoodRuns.{GoodSoFar, GoodState, GoodAnswer, Goods, Closed, next_good, more_found, all_found}
+use Rattle.canvas_runs.proofs.GoodRuns.{GoodSoFar, GoodState, GoodAnswer, more_found, all_found}
 use Rattle.canvas_runs.proofs.Knowing.{found as among_members}
 use Rattle.canvas_runs.proofs.Right.{right_goods, right_closed, answers_right}
 use Rattle.canvas_runs.proofs.MoreAsks.{reads_cases, by_more, scripts_more}
@@ -46,14 +45,7 @@ use Rattle.canvas_turns.specs.Turns.{Step, redelivery, results_next, results_aft
 use Rattle.canvas_turns.proofs.TurnLogs.{worker_lives}
 use Rattle.canvas_turns.proofs.TurnRuns.{table_delivers, Lawful, run, table_log, table_log_more, table_made, MayCall}
 use Rattle.canvas_turns.proofs.Turning.{results_more}
-
--- what is left after a core run is good, where the answers are
-module _ {E : Type 0} (Y : Protocol E) (G : Goods Y) (k : Closed Y G) where
-  pub left_good : (s : Doing Y) (xs : List (AskedAndAnswered E)) → GoodState Y G s → IsCoreRun Y s xs → Each (λ x. GoodAnswer Y G x.0 x.1) xs
-      → GoodState Y G (left_after Y s xs)
-  left_good s [] good c a = good
-  left_good s (x ∷ xs) good c a =
-      left_good (answered Y s x.1) xs (next_good Y G k s x.1 good (subst (λ z. GoodAnswer Y G z x.1) c.0 a.0)) c.2 a.1
+use Rattle.canvas_runs.proofs.PartsDue.{left_good}
 
 rows_others : (p q : ℕ) (cs : List TableAnswered) → q ≢ p → AllOthers p (entries_by q cs)
 rows_others p q [] apart = tt

@@ -8,6 +8,7 @@ ghost use Rattle.canvas_task.specs.Apply.{six_tasks};
 ghost use Rattle.canvas_runs.specs.Witness.{small};
 ghost use Rattle.canvas_turns.specs.TurnLaws.{TurnsAreRuns, TurnRowsMay, TurnRowsAre, TurnsEmpty, TurnStatesMay, TurnStatesAre, WholeTurns, UntilTurns, NextAnswerable, HeldInRange};
 ghost use Rattle.canvas_turns.specs.Going.{FewSteps, StopsSoon, StepsFit, RoundsGo};
+ghost use Rattle.canvas_turns.specs.TurnWays.{TurnsUnderWay};
 ghost use Rattle.canvas_turns.specs.Turns.{Turned, RanWhole};
 ghost use Rattle.canvas_turns.specs.Spending.{EntriesAreTurns, EntriesFew, OwnPoints, AgainsAreEntries, AgainsFew, NoEntries, AgainTurns, TurnedAgain, RanAgain, Entry, agains_in};
 ghost use Rattle.canvas_turns.specs.TurnWitness.{listed_turns, witness_steps, hasty};
@@ -41,6 +42,12 @@ pub fn ends_of_turns()
     ensures stops { StopsSoon }
     ensures fit { StepsFit }
     ensures rounds { RoundsGo }
+{}
+
+/// Runs by turns are under way at any time, so what the law of progress says of a run is so of
+/// each.
+pub fn turns_go_on()
+    ensures { TurnsUnderWay }
 {}
 
 /// Runs by turns in which envelopes are delivered again by a list of entries, each a task with one

@@ -95,9 +95,12 @@ impl Graph<'_> {
         let row = self.row(task);
         let looks = looks_of(row);
         let label = label_of(self.alloc, task, row)?;
-        let node = node_of(task);
+        self.push_labelled(node_of(task), looks, &label)
+    }
+
+    fn push_labelled(&mut self, node: Node, looks: &str, label: &str) -> Result<(), AllocError> {
         write!(self.nodes, "  {node} [{looks}, label=")?;
-        push_quoted(&mut self.nodes, &label)?;
+        push_quoted(&mut self.nodes, label)?;
         self.nodes.push_str("];\n")?;
         Ok(())
     }
@@ -146,6 +149,29 @@ impl Graph<'_> {
         Ok(before)
     }
 
+    /// The edges from a task to where the members of a group or chord begin.
+    fn push_to_members(&mut self, from: Node, end: &FrozenEnd) -> Result<(), AllocError> {
+        let mut entries = Vec::new(self.alloc);
+        push_end_entries(&mut entries, end)?;
+        self.push_edges(from, &entries)
+    }
+
+    /// The edges from where the members of a chord end to where its body begins.
+    fn push_from_members(&mut self, end: &FrozenEnd, body: &FrozenLine) -> Result<(), AllocError> {
+        let mut exits = Vec::new(self.alloc);
+        push_member_exits(&mut exits, end)?;
+        self.push_to_body(&exits, body)
+    }
+
+    fn push_to_body(&mut self, exits: &[Node], body: &FrozenLine) -> Result<(), AllocError> {
+        let mut entries = Vec::new(self.alloc);
+        push_entries(&mut entries, body)?;
+        for exit in exits {
+            self.push_edges(*exit, &entries)?;
+        }
+        Ok(())
+    }
+
     #[cycle(frames)]
     fn push_line(&mut self, line: &FrozenLine) -> Result<(), AllocError> {
         let before = self.push_tasks(line.tasks.get())?;
@@ -158,18 +184,15 @@ impl Graph<'_> {
     #[cycle(frames)]
     fn push_end(&mut self, end: &FrozenEnd, before: Option<Node>) -> Result<(), AllocError> {
         if let Some(from) = before {
-            let mut entries = Vec::new(self.alloc);
-            push_end_entries(&mut entries, end)?;
-            self.push_edges(from, &entries)?;
+            self.push_to_members(from, end)?;
         }
         self.push_frame(end.group, end.body.is_some(), end.members.get().is_empty())?;
         self.push_members(end.members.get())?;
         self.nodes.push_str("  }\n")?;
         match &end.body {
             Some(body) => {
-                let mut exits = Vec::new(self.alloc);
-                push_member_exits(&mut exits, end)?;
-                self.push_body(body, &exits)
+                self.push_from_members(end, body)?;
+                self.push_line(body)
             }
             None => Ok(()),
         }
@@ -199,16 +222,17 @@ impl Graph<'_> {
         }
         Ok(())
     }
+}
 
-    #[cycle(frames)]
-    fn push_body(&mut self, body: &FrozenLine, exits: &[Node]) -> Result<(), AllocError> {
-        let mut entries = Vec::new(self.alloc);
-        push_entries(&mut entries, body)?;
-        for exit in exits {
-            self.push_edges(*exit, &entries)?;
-        }
-        self.push_line(body)
-    }
+fn whole_text(alloc: Global, nodes: &str, edges: &str) -> Result<String, AllocError> {
+    let mut text = String::from_str(
+        alloc,
+        "digraph canvas {\n  rankdir=LR;\n  node [fontname=\"Helvetica\"];\n  edge [fontname=\"Helvetica\"];\n  fontname=\"Helvetica\";\n",
+    )?;
+    text.push_str(nodes)?;
+    text.push_str(edges)?;
+    text.push_str("}\n")?;
+    Ok(text)
 }
 
 /// A plan in the language of Graphviz, for `dot`; with the states and values of a run where a
@@ -224,12 +248,5 @@ pub fn graph_text(alloc: Global, plan: &Plan, report: Option<&Report>) -> Result
         edges: String::new(alloc),
     };
     graph.push_line(plan.line())?;
-    let mut text = String::from_str(
-        alloc,
-        "digraph canvas {\n  rankdir=LR;\n  node [fontname=\"Helvetica\"];\n  edge [fontname=\"Helvetica\"];\n  fontname=\"Helvetica\";\n",
-    )?;
-    text.push_str(&graph.nodes)?;
-    text.push_str(&graph.edges)?;
-    text.push_str("}\n")?;
-    Ok(text)
+    Ok(whole_text(alloc, &graph.nodes, &graph.edges)?)
 }

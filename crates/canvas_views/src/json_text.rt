@@ -23,10 +23,5 @@ pub fn message_line(alloc: Global, envelope: &Envelope) -> Result<String, AllocE
     let body = text_json(alloc, envelope.body.get())?;
     let headers = text_json(alloc, envelope.headers.get())?;
     let properties = text_json(alloc, envelope.properties.get())?;
-    let mut line = String::from_str(alloc, "{\"body\":")?;
-    writeln!(
-        line,
-        "{body},\"headers\":{headers},\"properties\":{properties}}}"
-    )?;
-    Ok(line)
+    format!(in alloc; "{{\"body\":{body},\"headers\":{headers},\"properties\":{properties}}}\n")
 }

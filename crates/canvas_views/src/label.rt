@@ -73,25 +73,37 @@ fn push_fault(label: &mut String, fault: &Fault) -> Result<(), AllocError> {
     Ok(())
 }
 
+fn push_call(label: &mut String, task: &FrozenTask) -> Result<(), AllocError> {
+    let number = task.no.get();
+    let name = task.name.get().as_str();
+    write!(label, "{number} {name}(")?;
+    push_arguments(label, task)?;
+    label.push_str(if task.immutable {
+        ")\ntakes no input"
+    } else {
+        ")"
+    })?;
+    Ok(())
+}
+
+/// What came of a task, where it was run.
+fn push_row(label: &mut String, row: Option<&Option<Outcome>>) -> Result<(), AllocError> {
+    match row {
+        None => Ok(()),
+        Some(None) => label.push_str("\nPENDING"),
+        Some(Some(Outcome::Success(value))) => write!(label, "\nSUCCESS {value}"),
+        Some(Some(Outcome::Failure(fault))) => push_fault(label, fault),
+    }
+}
+
 /// A task's number, its call, whether it takes no input, and what came of it where it was run.
 pub(crate) fn label_of(
     alloc: Global,
     task: &FrozenTask,
     row: Option<&Option<Outcome>>,
 ) -> Result<String, AllocError> {
-    let number = task.no.get();
-    let name = task.name.get().as_str();
-    let mut label = format!(in alloc; "{number} {name}(")?;
-    push_arguments(&mut label, task)?;
-    label.push(')')?;
-    if task.immutable {
-        label.push_str("\ntakes no input")?;
-    }
-    match row {
-        None => (),
-        Some(None) => label.push_str("\nPENDING")?,
-        Some(Some(Outcome::Success(value))) => write!(label, "\nSUCCESS {value}")?,
-        Some(Some(Outcome::Failure(fault))) => push_fault(&mut label, fault)?,
-    }
+    let mut label = String::new(alloc);
+    push_call(&mut label, task)?;
+    push_row(&mut label, row)?;
     Ok(label)
 }

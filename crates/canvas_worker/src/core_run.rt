@@ -186,7 +186,7 @@ impl Core {
     {
         match self.phase {
             Phase::Taking => {
-                self.phase = Phase::Failed;
+                self.set(Phase::Failed);
                 self.take_in(alloc, book, tasks, reply)
             }
             _ => self.go_on(alloc, book, &reply),

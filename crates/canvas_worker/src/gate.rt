@@ -35,12 +35,6 @@ pub trait Gate {
         let (_worker, _task) = (worker, task);
         false
     }
-
-    /// Whether a worker may be held back until another has gone on, so that each needs a thread of
-    /// its own. True, where an implementation says nothing. No contract depends on it.
-    fn may_hold(&self) -> bool {
-        true
-    }
 }
 
 /// Lets every worker go on.
@@ -53,9 +47,5 @@ impl Gate for OpenGate {
 
     fn go(&self, _worker: u32, _task: TaskNo) -> bool {
         true
-    }
-
-    fn may_hold(&self) -> bool {
-        false
     }
 }

@@ -2,8 +2,8 @@
 use Rattle.std.specs.Prelude.{List, map, reverse, Result, Ok}
 use Rattle.serde_json.specs.Data.{Data}
 use Rattle.canvas_sig.specs.Datum.{view}
-use Rattle.canvas_sig.specs.Answers.{◌>>=◌, in_turn}
-use Rattle.canvas_sig.specs.declared.fault.SigFault.{SigFault}
+use Rattle.canvas_values.specs.Answers.{◌>>=◌, in_turn}
+use Rattle.canvas_values.specs.declared.fault.SigFault.{SigFault}
 use Rattle.canvas_semantics.specs.PlacedLine.{PTask, PLine, p_stop, p_step}
 use Rattle.canvas_rewrite.specs.FrozenView.{p_steps, p_task_view, p_end_view}
 use Rattle.canvas_codec.specs.declared.read.made.Element.{Element}

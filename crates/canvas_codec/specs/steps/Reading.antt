@@ -5,13 +5,13 @@ use Rattle.std.specs.Option.{option_and_then}
 use Rattle.serde_json.specs.Data.{Data, array, no_items, item}
 use Rattle.serde_json.specs.Find.{get}
 use Rattle.canvas_task.specs.declared.arg.Arg.{Arg}
-use Rattle.canvas_sig.specs.CanvasText.{json_of}
+use Rattle.canvas_values.specs.CanvasText.{json_of}
 use Rattle.canvas_task.specs.Text.{Text}
-use Rattle.canvas_sig.specs.Fields.{field, listed, object_members, text_of, is_null, is_list, is_object, is_list_or_null, is_object_or_null}
-use Rattle.canvas_sig.specs.Answers.{◌>>=◌, fault_if, unless, in_turn}
-use Rattle.canvas_sig.specs.Grammar.{arg_reading, named_reading, is_name, is_text}
-use Rattle.canvas_sig.specs.declared.fault.SigFault.{SigFault}
-use Rattle.canvas_sig.specs.declared.fault.SigFault.TheVariants.{BadArgs}
+use Rattle.canvas_values.specs.Fields.{field, listed, object_members, text_of, is_null, is_list, is_object, is_list_or_null, is_object_or_null}
+use Rattle.canvas_values.specs.Answers.{◌>>=◌, fault_if, unless, in_turn}
+use Rattle.canvas_values.specs.Grammar.{arg_reading, named_reading, is_name, is_text}
+use Rattle.canvas_values.specs.declared.fault.SigFault.{SigFault}
+use Rattle.canvas_values.specs.declared.fault.SigFault.TheVariants.{BadArgs}
 use Rattle.canvas_rewrite.specs.FrozenView.{p_tasks_of, p_steps}
 use Rattle.canvas_semantics.specs.PlacedLine.{PTask, p_task, PPlace, PLine, p_stop}
 use Rattle.canvas_message.specs.Content.{Content}

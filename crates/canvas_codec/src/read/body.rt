@@ -5,7 +5,7 @@ ghost use Rattle.std.specs.Option.{option_map};
 ghost use Rattle.serde_json.specs.Data.{array};
 ghost use Rattle.serde_json.specs.View.{items_of};
 ghost use Rattle.canvas_sig.specs.Datum.{view};
-ghost use Rattle.canvas_sig.specs.Answers.{Gives};
+ghost use Rattle.canvas_values.specs.Answers.{Gives};
 ghost use Rattle.canvas_codec.specs.steps.Elements.{parts_view, given_view};
 ghost use Rattle.canvas_codec.specs.steps.Reading.{parts_of, given_reading};
 

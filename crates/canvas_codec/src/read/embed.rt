@@ -1,9 +1,8 @@
 //! What goes with a call in a message's body.
 
 ghost use Rattle.std.specs.Prelude.{◌≡◌, map, reverse};
-ghost use Rattle.canvas_sig.specs.Datum.{view};
-ghost use Rattle.canvas_sig.specs.Fields.{value_at};
-ghost use Rattle.canvas_sig.specs.Answers.{Gives};
+ghost use Rattle.canvas_sig.specs.Datum.{view, value_at};
+ghost use Rattle.canvas_values.specs.Answers.{Gives};
 ghost use Rattle.canvas_codec.specs.steps.Elements.{embed_view, reversed_with};
 ghost use Rattle.canvas_codec.specs.steps.FrozenReading.{step_reading, last_reading};
 ghost use Rattle.canvas_codec.specs.steps.Reading.{embed_ok, embed_reading, chain_reading};

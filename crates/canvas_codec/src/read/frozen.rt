@@ -1,10 +1,10 @@
 //! Reading frozen signatures, with the signatures in them, out of JSON values.
 
 ghost use Rattle.std.specs.Prelude.{◌≡◌, false, map, OnOk, IfErr, Some, None};
-ghost use Rattle.canvas_sig.specs.Datum.{view};
-ghost use Rattle.canvas_sig.specs.Fields.{value_at, as_list, listed, tasks, subtype};
-ghost use Rattle.canvas_sig.specs.Answers.{Gives, ◌or_else◌, unless, in_turn};
-ghost use Rattle.canvas_sig.specs.Grammar.{own_fault, primitive_of};
+ghost use Rattle.canvas_sig.specs.Datum.{view, value_at};
+ghost use Rattle.canvas_values.specs.Fields.{as_list, listed, tasks, subtype};
+ghost use Rattle.canvas_values.specs.Answers.{Gives, ◌or_else◌, unless, in_turn};
+ghost use Rattle.canvas_values.specs.Grammar.{own_fault, primitive_of};
 ghost use Rattle.canvas_rewrite.specs.FrozenView.{p_task_view, p_line_view, p_end_view};
 ghost use Rattle.canvas_message.specs.MessageView.{place_seen, carried_view};
 ghost use Rattle.canvas_codec.specs.steps.Elements.{element_view, line_with};
@@ -16,10 +16,11 @@ use super::made::{Element, line_of};
 use canvas_rewrite::{Carried, FrozenEnd, FrozenLine, FrozenTask, Place};
 use canvas_sig::SigFault;
 use canvas_sig::parts::{
-    Datum, Primitive, is_list, is_null, is_text, is_true, kwarg_of, listed, option_of, own_fault,
+    Datum, is_list, is_null, is_text, is_true, kwarg_of, listed, option_of, own_fault,
     primitive_of, read_args, read_kwargs, text_of,
 };
 use canvas_task::{ListOf, MapOf, TextOf};
+use canvas_values::Primitive;
 use std::alloc::Global;
 use std::sync::Arc;
 

@@ -2,9 +2,9 @@
 
 ghost use Rattle.std.specs.Prelude.{◌≡◌, ◌&&◌, codes};
 ghost use Rattle.std.specs.Option.{option_map};
-ghost use Rattle.canvas_sig.specs.Datum.{view};
+ghost use Rattle.canvas_sig.specs.Datum.{view, value_at};
 ghost use Rattle.serde_json.specs.Find.{get};
-ghost use Rattle.canvas_sig.specs.Fields.{value_at, is_object};
+ghost use Rattle.canvas_values.specs.Fields.{is_object};
 ghost use Rattle.canvas_codec.specs.steps.Reading.{is_version_2, is_that_task, correlates, is_group_or_null, ids_ok, id_reading, is_json};
 
 use super::identifiers::{group_of, task_of};

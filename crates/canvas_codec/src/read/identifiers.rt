@@ -3,8 +3,8 @@
 ghost use Rattle.std.specs.Prelude.{◌≡◌, Some};
 ghost use Rattle.serde_json.specs.Find.{as_i64};
 ghost use Rattle.serde_json.specs.View.{number_view};
-ghost use Rattle.canvas_sig.specs.Fields.{value_at};
-ghost use Rattle.canvas_sig.specs.Answers.{Gives};
+ghost use Rattle.canvas_sig.specs.Datum.{value_at};
+ghost use Rattle.canvas_values.specs.Answers.{Gives};
 ghost use Rattle.canvas_message.specs.FrozenGrammar.{task_of, group_of};
 ghost use Rattle.canvas_codec.specs.steps.FrozenReading.{if_numbered, sized, size_reading};
 

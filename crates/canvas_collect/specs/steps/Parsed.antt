@@ -1,7 +1,7 @@
 -- A text that isn't read as JSON.
 use Rattle.std.specs.Prelude.{◌≡◌, None}
 use Rattle.canvas_task.specs.Text.{Text}
-use Rattle.canvas_sig.specs.CanvasText.{json_of}
+use Rattle.canvas_values.specs.CanvasText.{json_of}
 use Rattle.canvas_collect.specs.declared.stored.StoredFault.{StoredFault}
 use Rattle.canvas_collect.specs.declared.stored.StoredFault.TheVariants.{NotJson, Memory}
 

@@ -1,6 +1,6 @@
 //! What the outcomes of a header's members give to the body.
 
-ghost use Rattle.std.specs.Prelude.{◌≡◌, IfOk};
+ghost use Rattle.std.specs.Prelude.{◌≡◌, ◌∷◌, [], ◌++◌, IfOk, OnOk};
 ghost use Rattle.canvas_effects.specs.steps.Walks.{first_failure, successes};
 
 use super::raised::why_of;
@@ -22,6 +22,20 @@ pub(super) fn failure_of(outcomes: &[(TaskNo, Outcome)]) -> Option<Fault>
     None
 }
 
+/// The number of a member that succeeded, put behind the others.
+fn put_number(numbers: &mut Vec<i64>, ended: &(TaskNo, Outcome)) -> Result<(), AllocError>
+    ensures { OnOk result
+        (numbers.new.items ≡ numbers.old.items ++ successes (ended.now ∷ [])) }
+{
+    match &ended.1 {
+        Outcome::Success(number) => {
+            numbers.push(*number)?;
+            Ok(())
+        }
+        Outcome::Failure(_fault) => Ok(()),
+    }
+}
+
 /// The numbers of the members that succeeded, in order.
 pub(super) fn numbers_of(
     alloc: Global,
@@ -31,9 +45,7 @@ pub(super) fn numbers_of(
 {
     let mut numbers = Vec::new(alloc);
     for ended in outcomes {
-        if let Outcome::Success(number) = &ended.1 {
-            numbers.push(*number)?;
-        }
+        put_number(&mut numbers, ended)?;
     }
     Ok(ListOf::of(numbers))
 }

@@ -16,7 +16,7 @@ ghost use Rattle.canvas_effects.specs.Todos.{part_view, todo_view};
 ghost use Rattle.canvas_message.specs.MessageView.{place_seen, rest_seen};
 ghost use Rattle.canvas_effects.specs.steps.Walks.{input_seen, begins_with_task};
 
-use super::started::{parent_of, put_input};
+use super::started::message_from;
 use super::{after, called_back, todo_of};
 use crate::input::Input;
 use crate::{PartCall, Todo};
@@ -88,43 +88,6 @@ fn take_rest(rest: Option<FrozenLine>) -> Option<(FrozenTask, Option<FrozenLine>
         Some(line) => take_next(line),
         None => None,
     }
-}
-
-/// The message of a task that is run, which takes over what the task carries.
-fn message_from(
-    alloc: Global,
-    task: FrozenTask,
-    input: &Input,
-    parent: &Option<TaskNo>,
-    rest: Option<FrozenLine>,
-) -> Result<Message, AllocError>
-    requires { fits (message parent.now (p_task_view task) (input_seen input.now) (rest_seen rest))
-        ≡ true }
-    ensures { IfOk result
-        (λ m. m ≡ message parent.now (p_task_view task) (input_seen input.now) (rest_seen rest)) }
-{
-    let FrozenTask {
-        no,
-        name,
-        args,
-        kwargs,
-        immutable,
-        links,
-        errbacks,
-        place,
-    } = task;
-    let args = put_input(alloc, args, immutable, input)?;
-    Ok(Message {
-        task: no,
-        name,
-        parent: parent_of(input, parent),
-        place,
-        args,
-        kwargs,
-        links,
-        errbacks,
-        rest,
-    })
 }
 
 /// The task of a message and what follows it on its line.

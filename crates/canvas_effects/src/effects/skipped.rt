@@ -8,7 +8,6 @@ use canvas_rewrite::{FrozenEnd, FrozenLine, FrozenTask};
 use canvas_task::{Fault, Outcome, TaskNo};
 use std::alloc::AllocError;
 
-#[tactic(auto, using(crate::proofs::Walked::number_seen))]
 fn skip_tasks(
     tasks: &[FrozenTask],
     fault: &Fault,

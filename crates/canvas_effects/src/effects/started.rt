@@ -13,17 +13,17 @@ ghost use Rattle.canvas_message.specs.steps.Parts.{is_stop};
 ghost use Rattle.canvas_message.specs.MessageView.{place_seen, place_view, rest_seen};
 ghost use Rattle.canvas_effects.specs.steps.Walks.{input_seen, tail_seen, at_place, first_message, member_place, started, all_started};
 
-use crate::copies::{copy_tasks, share_if_some, share_place};
+use crate::copies::{copy_task, share_if_some, share_place};
 use crate::input::Input;
 use crate::placing::{place_line, place_rest};
 use canvas_message::Message;
 use canvas_rewrite::{Carried, FrozenEnd, FrozenLine, FrozenTask, Place};
-use canvas_task::{Arg, ListOf, TaskNo, copy_args, copy_kwargs};
+use canvas_task::{Arg, ListOf, TaskNo};
 use std::alloc::{AllocError, Global};
 use std::sync::Arc;
 
 /// Arguments with an input in front, unless their task is immutable.
-pub(super) fn put_input(
+fn put_input(
     alloc: Global,
     args: ListOf<Arg>,
     immutable: bool,
@@ -40,22 +40,51 @@ pub(super) fn put_input(
     Ok(ListOf::of(args))
 }
 
-/// A task's arguments with its input in front, unless it is immutable.
-fn args_with(alloc: Global, task: &FrozenTask, input: &Input) -> Result<ListOf<Arg>, AllocError>
-    ensures { IfOk result (λ all. all
-        ≡ arguments (call_of (p_task_view task.now)) (input_flow (input_seen input.now))) }
-{
-    put_input(alloc, copy_args(&task.args)?, task.immutable, input)
-}
-
 /// The task whose end publishes a message: the failed task that is the input, or another.
-pub(super) fn parent_of(input: &Input, parent: &Option<TaskNo>) -> Option<TaskNo>
+fn parent_of(input: &Input, parent: &Option<TaskNo>) -> Option<TaskNo>
     ensures { result ≡ parent_for parent.now (input_seen input.now) }
 {
     match input {
         Input::Ident(task) => Some(*task),
         _ => *parent,
     }
+}
+
+/// The message of a task that is run, which takes over what the task carries.
+pub(super) fn message_from(
+    alloc: Global,
+    task: FrozenTask,
+    input: &Input,
+    parent: &Option<TaskNo>,
+    rest: Option<FrozenLine>,
+) -> Result<Message, AllocError>
+    requires { fits (message parent.now (p_task_view task) (input_seen input.now) (rest_seen rest))
+        ≡ true }
+    ensures { IfOk result
+        (λ m. m ≡ message parent.now (p_task_view task) (input_seen input.now) (rest_seen rest)) }
+{
+    let FrozenTask {
+        no,
+        name,
+        args,
+        kwargs,
+        immutable,
+        links,
+        errbacks,
+        place,
+    } = task;
+    let args = put_input(alloc, args, immutable, input)?;
+    Ok(Message {
+        task: no,
+        name,
+        parent: parent_of(input, parent),
+        place,
+        args,
+        kwargs,
+        links,
+        errbacks,
+        rest,
+    })
 }
 
 /// The message of a task that is run, with its place and what follows it.
@@ -73,22 +102,8 @@ fn message_of(
         ≡ message parent.now (at_place (place_seen place) (p_task_view task.now))
         (input_seen input.now) (rest_seen rest)) }
 {
-    let name = task.name.clone()?;
-    let args = args_with(alloc, task, input)?;
-    let kwargs = copy_kwargs(alloc, &task.kwargs)?;
-    let links = copy_tasks(alloc, task.links.get())?;
-    let errbacks = copy_tasks(alloc, task.errbacks.get())?;
-    Ok(Message {
-        task: task.no,
-        name,
-        parent: parent_of(input, parent),
-        place,
-        args,
-        kwargs,
-        links: ListOf::of(links),
-        errbacks: ListOf::of(errbacks),
-        rest,
-    })
+    let task = copy_task(alloc, task, place)?;
+    message_from(alloc, task, input, parent, rest)
 }
 
 /// The messages of links or error callbacks, put behind the others.
@@ -268,9 +283,30 @@ fn start_members(
         (member_place (p_end_view end.now) (place_seen place.now)) parent.now) }
 {
     let shared = member_place(alloc, end, place)?;
-    for member in members {
-        let place = share_place(&shared)?;
-        start_line(alloc, member, Some(place), input, parent, messages)?;
+    start_each(alloc, members, &shared, input, parent, messages)
+}
+
+/// The same of lines whose ends go to one place.
+#[cycle(start)]
+fn start_each(
+    alloc: Global,
+    lines: &[FrozenLine],
+    place: &Place,
+    input: &Input,
+    parent: &Option<TaskNo>,
+    messages: &mut Vec<Message>,
+) -> Result<(), AllocError>
+    requires lines { AllStand (place_view place.now) (map p_line_view lines.now) }
+    requires input { input_ok (input_seen input.now) ≡ true }
+    requires parent { parent_ok parent.now ≡ true }
+    ensures { OnOk result (messages.new.items
+        ≡ messages.old.items
+        ++ all_started (map p_line_view lines.now) (input_seen input.now) (place_view place.now)
+        parent.now) }
+{
+    for line in lines {
+        let place = share_place(place)?;
+        start_line(alloc, line, Some(place), input, parent, messages)?;
     }
     Ok(())
 }

@@ -1,6 +1,6 @@
 -- A run on threads before its first publish, and once its workers have ended and worker 0 has taken
 -- in what they left.
-use Rattle.std.specs.Prelude.{ℕ, suc, ◌≡◌, ◌≤◌, List, [], ◌∷◌, length, map, All, Option, None, IfNone}
+use Rattle.std.specs.Prelude.{ℕ, suc, ◌≡◌, ◌≤◌, List, [], ◌∷◌, length, map, All, Option, Some, None, IfNone}
 use Rattle.std.specs.Vec.{vec_capacity}
 use Rattle.std.specs.Global.{Global}
 use Rattle.canvas_task.specs.Apply.{Behaviour}
@@ -20,6 +20,8 @@ use Rattle.canvas_turns.specs.Turns.{FirstsRead}
 use Rattle.canvas_worker.specs.declared.cause.Cause.{Cause}
 use Rattle.canvas_engine.specs.steps.Slots.{AreOfSite, IsReadySlot, SplitsOff, nothing_counted}
 use Rattle.canvas_engine.specs.declared.records.Tally.{Tally}
+use Rattle.canvas_engine.specs.declared.fault.RunFault.{RunFault}
+use Rattle.canvas_engine.specs.declared.fault.RunFault.TheVariants.{BadWorkers, BadTurn, Halted}
 use Rattle.canvas_engine.specs.declared.gathered.Gathered.{Gathered}
 use Rattle.canvas_engine.specs.declared.running.Start.{Start}
 
@@ -92,3 +94,10 @@ pub record AreGathered (behaviour : Behaviour) (l : Line) (n : ℕ) (fault : Opt
   pub first : g.first ≡ length (first_messages l)
   pub rows : length g.rows.items ≡ count_line l
   pub well : IfNone fault (IsWellGathered behaviour l crew.mates g.tallies.items)
+
+-- the fault of a run that ended early for this cause, with rows
+abbrev pub IsHaltedFor : Cause → RunFault → Type 0
+IsHaltedFor cause (Halted c (Some rows)) = c ≡ cause
+IsHaltedFor cause (Halted c None) = ⊥
+IsHaltedFor cause BadWorkers = ⊥
+IsHaltedFor cause BadTurn = ⊥

@@ -1,7 +1,7 @@
 -- Why a text has no plan, and why the run of a plan has no report.
 use Rattle.std.specs.Prelude.{◌≡◌, Err, IfSome}
 use Rattle.canvas_task.specs.Text.{Text}
-use Rattle.canvas_sig.specs.CanvasText.{text_reading}
+use Rattle.canvas_values.specs.CanvasText.{text_reading}
 use Rattle.canvas_semantics.specs.Tree.{Tree}
 use Rattle.canvas_engine.specs.Texts.{IsStored}
 use Rattle.canvas_engine.specs.declared.fault.RunFault.{RunFault}

@@ -1,13 +1,11 @@
 -- The rule that each step on a shared object keeps: there is one legal history, and what the
--- callers share is what it leaves. A caller stands in a view as a hat: its number, and what it has
--- seen. In the middle of a split or a join a view has two hats, and a spent one has none.
+-- callers share is what it leaves. A caller stands in a view as a hat. In the middle of a split or
+-- a join a view has two hats, and a spent one has none.
 use Rattle.std.specs.Prelude.{◌≡◌, ◌≤◌, ℕ, length, true, List, ◌++◌}
 use mathlib.Core.Option.{some}
 use lib.ListN.{get_elem?}
+use Rattle.canvas_history.specs.Callers.{Hat}
 use Rattle.canvas_history.specs.History.{Entry, among, live, split_off, AllOthers, Legal, replay}
-
-abbrev pub Hat : Type 0 → Type 0 → Type 0
-Hat C R = ℕ × List (Entry C R)
 
 module _ {C R : Type 0} where
   -- this caller has seen a beginning of the history, and the rest has no entry of it. `at` says in

@@ -2,8 +2,8 @@
 use Rattle.std.specs.Prelude.{List, [], ◌∷◌, Option, Some, None, Box}
 use Rattle.std.specs.declared.alloc.Global.{Global}
 use Rattle.canvas_semantics.specs.Tree.{one, Trees, no_trees, and_tree}
-use Rattle.canvas_sig.specs.declared.task_sig.TaskSig.{TaskSig}
-use Rattle.canvas_sig.specs.SignatureView.{task_view}
+use Rattle.canvas_values.specs.declared.task_sig.TaskSig.{TaskSig}
+use Rattle.canvas_values.specs.SignatureView.{task_view}
 use Rattle.canvas_semantics.specs.Line.{elements_of}
 use Rattle.canvas_rewrite.specs.FrozenView.{end_of}
 use Rattle.canvas_rewrite.specs.declared.line.LineEnd.{LineEnd}

@@ -1,8 +1,8 @@
 -- How many signatures stand in a tree: what a walk that takes it apart has left to do.
 use Rattle.std.specs.Prelude.{ℕ, ◌+◌, List, [], ◌∷◌}
 use Rattle.canvas_semantics.specs.Tree.{Tree, one, chain, group, chord, Trees, no_trees, and_tree}
-use Rattle.canvas_sig.specs.declared.node.Node.{Node}
-use Rattle.canvas_sig.specs.SignatureView.{view}
+use Rattle.canvas_values.specs.declared.node.Node.{Node}
+use Rattle.canvas_values.specs.SignatureView.{view}
 
 abbrev mutual
   pub weight : Tree → ℕ

@@ -4,10 +4,10 @@ ghost use Rattle.std.specs.Prelude.{◌∷◌, ◌++◌, [], false, map};
 ghost use Rattle.serde_json.specs.Data.{string, no_items, no_members};
 ghost use Rattle.canvas_sig.specs.steps.Tokens.{Appends, data_tokens, rest_tokens, rest_members, opening_tokens, kind_tokens, name_tokens, closing_tokens, member_tokens, last_tokens, body_tokens};
 ghost use Rattle.canvas_sig.specs.Writing.{signature, tasks_member, tree_wire, trees_wire};
-ghost use Rattle.canvas_sig.specs.SignatureView.{view, trees_of};
+ghost use Rattle.canvas_values.specs.SignatureView.{view, trees_of};
 
 use super::task::{write_flag, write_front, write_task};
-use crate::Node;
+use canvas_values::Node;
 use json::Writer;
 use std::alloc::AllocError;
 

@@ -5,12 +5,12 @@ ghost use Rattle.json.specs.Token.{begin_array, key};
 ghost use Rattle.serde_json.specs.Data.{null};
 ghost use Rattle.canvas_sig.specs.steps.Tokens.{Appends, data_tokens, rest_tokens, front_tokens, flag_tokens, kwargs_tokens, call_tokens, links_wire, errbacks_wire, member_tokens, link_tokens, links_tokens, options_tokens, kind_tokens, name_tokens};
 ghost use Rattle.canvas_sig.specs.Writing.{args_wire, kwargs_wire, task_wire, tasks_wire, options_wire};
-ghost use Rattle.canvas_sig.specs.SignatureView.{task_view, tasks_of};
+ghost use Rattle.canvas_values.specs.SignatureView.{task_view, tasks_of};
 ghost use Rattle.canvas_task.specs.Entries.{named};
 
 use super::arguments::{write_args, write_named};
-use crate::TaskSig;
 use canvas_task::Arg;
+use canvas_values::TaskSig;
 use json::Writer;
 use std::alloc::AllocError;
 use std::collections::BTreeMap;

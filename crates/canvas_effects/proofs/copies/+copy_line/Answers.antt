@@ -1,6 +1,6 @@
 use Rattle.std.proofs.Common.{◌∙◌, map, ap}
 use Rattle.canvas_rewrite.specs.FrozenView.{p_task_view, p_line_view}
-use Rattle.canvas_effects.proofs.Copied.{line_copied, longer_copied, group_copied, chord_copied}
+use Rattle.canvas_effects.proofs.Copied.{line_copied, longer_copied, group_copied, chord_copied, copied_on}
 use Rattle.canvas_effects.proofs.copies.+copy_line.Goals as goal
 
 pub copy_line-returns-in-None : goal.copy_line-returns-in-None
@@ -23,3 +23,8 @@ copy_end-returns-in_ok-body-in-Some t c =
     chord_copied c.args.end.now c.in-Some.body c.in-Some.is _ _ _ (ap (map p_line_view) c.of-members.ensures ∙ c.in_ok-copy_lines.ensures)
     (c.deref.ensures.value ∙ c.get.ensures)
     c.in_ok-body-in-Some.ensures
+
+pub copy_lines-loop-line-preserved : goal.copy_lines-loop-line-preserved
+copy_lines-loop-line-preserved t c =
+    copied_on p_line_view c.args.lines.now c.loop-line.line-index c.line-item.result c.in_ok-copy_line.field-0 _ _ c.loop-line-test.true c.line-item.is
+    c.in_ok-copy_line.ensures c.loop-line.invariant c.in_ok-push.ensures.items

@@ -1,4 +1,4 @@
-use Rattle.std.proofs.Common.{rules, ◌+◌, ◌<◌, ◌≤◌, length, ap, arith}
+use Rattle.std.proofs.Common.{rules, ◌<◌, ◌≤◌, length, ap, arith}
 use Rattle.std.proofs.lemmas.List.{length-take-le}
 use Rattle.canvas_history.specs.History.{calls}
 use Rattle.canvas_backend.specs.Backend.{read, found}

@@ -1,5 +1,5 @@
 use Rattle.std.proofs.Common.{◌≡◌, map, take}
-use Rattle.canvas_sig.specs.SignatureView.{view}
+use Rattle.canvas_values.specs.SignatureView.{view}
 use Rattle.canvas_semantics.specs.Compact.{compact}
 use Rattle.canvas_rewrite.specs.FrozenView.{line_of}
 use Rattle.canvas_rewrite.proofs.as_node.+as_node.Given as goal

@@ -1,5 +1,5 @@
 use Rattle.std.proofs.Common.{◌∙◌, map, arith, ap, sym}
-use Rattle.canvas_sig.specs.SignatureView.{view, trees_of}
+use Rattle.canvas_values.specs.SignatureView.{view, trees_of}
 use Rattle.canvas_semantics.specs.NormalLine.{all_onto}
 use Rattle.canvas_rewrite.specs.steps.Growing.{growing}
 use Rattle.canvas_rewrite.specs.steps.Weight.{weight_of}

@@ -1,6 +1,6 @@
 use Rattle.std.proofs.Common.{◌≡◌, ◌≤◌, ◌++◌, map, length}
 use Rattle.canvas_semantics.specs.Tree.{no_trees}
-use Rattle.canvas_sig.specs.SignatureView.{view, trees_of}
+use Rattle.canvas_values.specs.SignatureView.{view, trees_of}
 use Rattle.canvas_rewrite.specs.LineView.{elements}
 use Rattle.canvas_rewrite.specs.steps.Growing.{growing}
 use Rattle.canvas_rewrite.specs.steps.Weight.{weight, weight_of}

@@ -1,5 +1,5 @@
 use Rattle.std.proofs.Common.{◌≡◌, ◌∙◌, ◌+◌, arith, map, ap, sym}
-use Rattle.canvas_sig.specs.SignatureView.{task_view}
+use Rattle.canvas_values.specs.SignatureView.{task_view}
 use Rattle.canvas_semantics.specs.Line.{count_line, line_groups}
 use Rattle.canvas_rewrite.specs.FrozenView.{line_of, end_of, p_task_view, p_line_view}
 use Rattle.canvas_semantics.specs.steps.Numbering.{tasks_in, lines_count, lines_group_count}

@@ -1,6 +1,6 @@
 use Rattle.std.proofs.Common.{◌≡◌, ◌∙◌, arith, map, ap}
-use Rattle.canvas_sig.specs.SignatureView.{task_view}
-use Rattle.canvas_sig.specs.declared.task_sig.TaskSig.{TaskSig, out-TaskSig}
+use Rattle.canvas_values.specs.SignatureView.{task_view}
+use Rattle.canvas_values.specs.declared.task_sig.TaskSig.{TaskSig, out-TaskSig}
 use Rattle.canvas_semantics.specs.steps.Numbering.{tasks_in}
 use Rattle.canvas_rewrite.proofs.FrozenViews.{task_counted, made_as}
 use Rattle.canvas_rewrite.proofs.numbering.+tasks.Goals as goal

@@ -1,6 +1,6 @@
 use Rattle.std.proofs.Common.{◌≡◌, ◌≤◌, ◌+◌, ◌*◌, ◌++◌, map, drop}
 use Rattle.canvas_semantics.specs.Tree.{count_task}
-use Rattle.canvas_sig.specs.SignatureView.{task_view}
+use Rattle.canvas_values.specs.SignatureView.{task_view}
 use Rattle.canvas_rewrite.specs.FrozenView.{p_task_view}
 use Rattle.canvas_semantics.specs.steps.Numbering.{tasks_from, tasks_in}
 use Rattle.canvas_rewrite.proofs.numbering.+tasks.Given as goal

@@ -1,7 +1,7 @@
 use Rattle.std.proofs.Common.{◌≡◌, ◌∙◌, ap}
 use Rattle.canvas_semantics.specs.NormalLine.{onto, normal}
 use Rattle.canvas_semantics.specs.Tree.{chain, no_trees}
-use Rattle.canvas_sig.specs.SignatureView.{view}
+use Rattle.canvas_values.specs.SignatureView.{view}
 use Rattle.canvas_rewrite.specs.LineView.{line_view}
 use Rattle.canvas_rewrite.proofs.NormalRuns.{same_line}
 use Rattle.canvas_rewrite.proofs.rewriting.normalise.Goals as goal

@@ -1,7 +1,7 @@
 use Rattle.std.proofs.Common.{◌≡◌, map, drop}
 use Rattle.canvas_sig.specs.Datum.{view}
-use Rattle.canvas_sig.specs.Answers.{in_turn}
-use Rattle.canvas_sig.specs.Grammar.{arg_reading}
+use Rattle.canvas_values.specs.Answers.{in_turn}
+use Rattle.canvas_values.specs.Grammar.{arg_reading}
 use Rattle.canvas_sig.proofs.Each.{onto}
 use Rattle.canvas_sig.proofs.arguments.read_args.Given as goal
 

@@ -1,6 +1,6 @@
 use Rattle.std.proofs.Common.{sym, subst}
 use Rattle.canvas_sig.specs.Datum.{view}
-use Rattle.canvas_sig.specs.Answers.{Gives}
+use Rattle.canvas_values.specs.Answers.{Gives}
 use Rattle.canvas_sig.proofs.ArgumentLaw.{reads_so}
 use Rattle.canvas_sig.proofs.Datums.{array_arg}
 use Rattle.canvas_sig.proofs.arguments.read_argument.Goals as goal

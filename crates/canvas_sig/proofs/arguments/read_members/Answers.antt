@@ -1,6 +1,6 @@
 use Rattle.std.proofs.Common.{sym, subst}
 use Rattle.canvas_task.specs.Entries.{named}
-use Rattle.canvas_sig.specs.Answers.{Gives}
+use Rattle.canvas_values.specs.Answers.{Gives}
 use Rattle.canvas_sig.proofs.Datums.{object_kwargs}
 use Rattle.canvas_sig.proofs.arguments.read_members.Goals as goal
 

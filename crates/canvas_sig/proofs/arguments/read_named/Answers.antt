@@ -1,10 +1,9 @@
 use Rattle.std.proofs.Common.{◌≡◌, ◌+◌, drop, string_bytes, sym, ap, ◌∙◌, subst, Ok, arith, rules}
 use Rattle.canvas_task.specs.Entries.{named}
 use Rattle.canvas_task.specs.Text.{Text}
-use Rattle.canvas_sig.specs.Datum.{view}
-use Rattle.canvas_sig.specs.Fields.{seen}
-use Rattle.canvas_sig.specs.Answers.{◌>>=◌, in_turn}
-use Rattle.canvas_sig.specs.Grammar.{named_reading}
+use Rattle.canvas_sig.specs.Datum.{view, seen}
+use Rattle.canvas_values.specs.Answers.{◌>>=◌, in_turn}
+use Rattle.canvas_values.specs.Grammar.{named_reading}
 use Rattle.canvas_sig.proofs.Each.{onto, one_more}
 use Rattle.canvas_sig.proofs.Named.{names, AllBelow, goes_last, still_below}
 use Rattle.canvas_sig.proofs.Parsed.{Named, next_member}

@@ -1,9 +1,9 @@
 use Rattle.std.proofs.Common.{◌≡◌, drop, option_map}
 use Rattle.canvas_task.specs.Entries.{named}
 use Rattle.canvas_task.specs.Text.{Text}
-use Rattle.canvas_sig.specs.Fields.{seen}
-use Rattle.canvas_sig.specs.Answers.{in_turn}
-use Rattle.canvas_sig.specs.Grammar.{named_reading}
+use Rattle.canvas_sig.specs.Datum.{seen}
+use Rattle.canvas_values.specs.Answers.{in_turn}
+use Rattle.canvas_values.specs.Grammar.{named_reading}
 use Rattle.canvas_sig.specs.steps.Names.{IsBelow}
 use Rattle.canvas_sig.proofs.Each.{onto}
 use Rattle.canvas_sig.proofs.Named.{names, AllBelow}

@@ -1,7 +1,7 @@
 use Rattle.std.proofs.Common.{◌∙◌, sym, ap, map, subst}
 use Rattle.serde_json.specs.View.{view}
-use Rattle.canvas_sig.specs.Answers.{Gives}
-use Rattle.canvas_sig.specs.steps.Reading.{list_reading}
+use Rattle.canvas_values.specs.Answers.{Gives}
+use Rattle.canvas_values.specs.steps.Reading.{list_reading}
 use Rattle.canvas_sig.proofs.ArgumentLaw.{reads_so}
 use Rattle.canvas_sig.proofs.Json.{array_arg, array_takes}
 use Rattle.canvas_sig.proofs.json_argument.read_arg.Goals as goal

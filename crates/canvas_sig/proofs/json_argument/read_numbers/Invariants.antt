@@ -1,7 +1,7 @@
 use Rattle.std.proofs.Common.{◌≡◌, map, drop}
 use Rattle.serde_json.specs.View.{view}
-use Rattle.canvas_sig.specs.Answers.{in_turn}
-use Rattle.canvas_sig.specs.steps.Reading.{number_reading}
+use Rattle.canvas_values.specs.Answers.{in_turn}
+use Rattle.canvas_values.specs.steps.Reading.{number_reading}
 use Rattle.canvas_sig.proofs.Each.{onto}
 use Rattle.canvas_sig.proofs.json_argument.read_numbers.Given as goal
 

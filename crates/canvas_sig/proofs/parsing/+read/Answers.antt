@@ -7,7 +7,7 @@ use Rattle.serde_json.specs.Data.{null, boolean, number, string, array, object, 
 use Rattle.serde_json.specs.Read.{of_json, of_items, of_members, converted}
 use Rattle.serde_json.specs.View.{number_view}
 use Rattle.canvas_sig.proofs.Conversion.{of_array, of_object, item_read, item_refused, items_over, member_read, member_refused, key_refused, members_over, nothing_before}
-use Rattle.canvas_sig.specs.Datum.{view, items_view, members_view}
+use Rattle.canvas_sig.specs.Datum.{view, items_view}
 use Rattle.canvas_sig.specs.steps.Names.{put_all}
 use Rattle.canvas_sig.specs.declared.datum.Datum.{Text, Number, Bool, Null, the_lemmas}
 use Rattle.canvas_sig.proofs.Parsed.{view-List, view-Object, put_pushed, items_before, all_before, one_more_item}

@@ -1,4 +1,4 @@
-use Rattle.std.proofs.Common.{◌≡◌, ℕ, ◌≤◌, List, length, take, option_map}
+use Rattle.std.proofs.Common.{◌≡◌, ℕ, List, take, option_map}
 use Rattle.serde_json.specs.Data.{no_members}
 use Rattle.canvas_sig.specs.Datum.{members_view}
 use Rattle.canvas_sig.specs.steps.Names.{IsBelow, put_all}

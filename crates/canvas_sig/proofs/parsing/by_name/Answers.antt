@@ -1,4 +1,4 @@
-use Rattle.std.proofs.Common.{◌≡◌, ◌+◌, take, sym, ap, ◌∙◌, arith}
+use Rattle.std.proofs.Common.{take, sym, ap, ◌∙◌, arith}
 use Rattle.serde_json.specs.Data.{no_members, put}
 use Rattle.canvas_sig.specs.Datum.{view, members_view}
 use Rattle.canvas_sig.specs.steps.Names.{put_all}

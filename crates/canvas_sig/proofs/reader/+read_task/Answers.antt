@@ -1,8 +1,8 @@
 use Rattle.std.proofs.Common.{◌∙◌, sym, ap, map, subst, arith, rules}
 use Rattle.canvas_sig.specs.Datum.{view}
-use Rattle.canvas_sig.specs.Answers.{Gives, in_turn}
-use Rattle.canvas_sig.specs.steps.Reading.{task_reading}
-use Rattle.canvas_sig.specs.SignatureView.{task_view}
+use Rattle.canvas_values.specs.Answers.{Gives, in_turn}
+use Rattle.canvas_values.specs.steps.Reading.{task_reading}
+use Rattle.canvas_values.specs.SignatureView.{task_view}
 use Rattle.canvas_sig.proofs.Level.{made, next_seen}
 use Rattle.canvas_sig.proofs.Datums.{array_list, next_item}
 use Rattle.canvas_sig.proofs.reader.+read_task.Goals as goal

@@ -1,8 +1,8 @@
 use Rattle.std.proofs.Common.{◌≡◌, ◌+◌, ◌*◌, map, drop}
 use Rattle.canvas_sig.specs.Datum.{view}
-use Rattle.canvas_sig.specs.Answers.{in_turn}
-use Rattle.canvas_sig.specs.steps.Reading.{task_reading}
-use Rattle.canvas_sig.specs.SignatureView.{task_view}
+use Rattle.canvas_values.specs.Answers.{in_turn}
+use Rattle.canvas_values.specs.steps.Reading.{task_reading}
+use Rattle.canvas_values.specs.SignatureView.{task_view}
 use Rattle.canvas_sig.proofs.Each.{onto}
 use Rattle.canvas_sig.proofs.reader.+read_task.Given as goal
 

@@ -1,4 +1,4 @@
-use Rattle.canvas_sig.specs.SignatureView.{view}
+use Rattle.canvas_values.specs.SignatureView.{view}
 use Rattle.canvas_sig.proofs.ReadsAgain.{written_again}
 use Rattle.canvas_sig.proofs.write.write_canvas.Goals as goal
 

@@ -1,11 +1,12 @@
 use Rattle.std.proofs.Common.{◌≡◌, ◌∙◌, false, None, sym, ap, map, subst, rules}
 use Rattle.canvas_sig.specs.Datum.{view}
-use Rattle.canvas_sig.specs.Answers.{Gives, ◌or_else◌, unless, in_turn}
-use Rattle.canvas_sig.specs.Grammar.{own_fault}
+use Rattle.canvas_values.specs.Answers.{Gives, ◌or_else◌, unless, in_turn}
+use Rattle.canvas_values.specs.Grammar.{own_fault}
 use Rattle.canvas_sig.proofs.Datums.{array_list}
 use Rattle.canvas_rewrite.specs.FrozenView.{p_task_view, p_line_view}
 use Rattle.canvas_codec.specs.steps.FrozenReading.{group_with, chord_with, header_fault, elements_with, link_reading, step_reading, last_reading, line_reading}
 use Rattle.canvas_codec.proofs.Made.{task_read, group_read, chord_read, last_apart, no_line, last_item, no_items}
+use Rattle.canvas_codec.proofs.Turns.{read_on, read_all}
 use Rattle.canvas_codec.proofs.read.frozen.+read.Goals as goal
 
 pub read_one_or_more-returns-in-List : goal.read_one_or_more-returns-in-List
@@ -44,3 +45,30 @@ read_elements-returns-in-len1-up t c =
     (sym (ap elements (last_item c.args.values.now c.last-item.result c.in-len1-up.len_at_least c.last-item.is)
     ∙ last_apart (step_reading c.args.left) (last_reading c.args.left) _ _))
     c.read_parts.ensures
+
+pub read_all_links-loop-value-preserved : goal.read_all_links-loop-value-preserved
+read_all_links-loop-value-preserved t c =
+    read_on p_task_view (link_reading c.args.left) c.args.values.now c.loop-value.value-index c.value-item.result c.in_ok-read_link.field-0 _ _ c.loop-value-test.true
+    c.value-item.is c.in_ok-read_link.ensures c.loop-value.invariant c.in_ok-push.ensures.items
+
+pub read_all_links-returns : goal.read_all_links-returns
+read_all_links-returns t c =
+    read_all p_task_view (link_reading c.args.left) c.args.values.now c.loop-value.value-index _ c.loop-value-test.false c.loop-value.invariant
+
+pub read_steps-loop-value-preserved : goal.read_steps-loop-value-preserved
+read_steps-loop-value-preserved t c =
+    read_on p_task_view (step_reading c.args.left) c.args.values.now c.loop-value.value-index c.value-item.result c.in_ok-read_step.field-0 _ _ c.loop-value-test.true
+    c.value-item.is c.in_ok-read_step.ensures c.loop-value.invariant c.in_ok-push.ensures.items
+
+pub read_steps-returns : goal.read_steps-returns
+read_steps-returns t c =
+    read_all p_task_view (step_reading c.args.left) c.args.values.now c.loop-value.value-index _ c.loop-value-test.false c.loop-value.invariant
+
+pub read_lines-loop-value-preserved : goal.read_lines-loop-value-preserved
+read_lines-loop-value-preserved t c =
+    read_on p_line_view (line_reading c.args.left) c.args.values.now c.loop-value.value-index c.value-item.result c.in_ok-read_line.field-0 _ _ c.loop-value-test.true
+    c.value-item.is c.in_ok-read_line.ensures c.loop-value.invariant c.in_ok-push.ensures.items
+
+pub read_lines-returns : goal.read_lines-returns
+read_lines-returns t c =
+    read_all p_line_view (line_reading c.args.left) c.args.values.now c.loop-value.value-index _ c.loop-value-test.false c.loop-value.invariant

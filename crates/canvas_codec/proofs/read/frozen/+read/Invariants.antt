@@ -1,6 +1,6 @@
 use Rattle.std.proofs.Common.{◌≡◌, ◌+◌, ◌*◌, map, drop}
 use Rattle.canvas_sig.specs.Datum.{view}
-use Rattle.canvas_sig.specs.Answers.{in_turn}
+use Rattle.canvas_values.specs.Answers.{in_turn}
 use Rattle.canvas_sig.proofs.Each.{onto}
 use Rattle.canvas_rewrite.specs.FrozenView.{p_task_view, p_line_view}
 use Rattle.canvas_codec.specs.steps.FrozenReading.{link_reading, step_reading, line_reading}

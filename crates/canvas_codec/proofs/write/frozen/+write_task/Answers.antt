@@ -1,13 +1,14 @@
 use Rattle.std.proofs.Common.{rules, [], ◌∷◌, ◌++◌, map, codes, Some, None, sym, ap, ap₂, ◌∙◌, append-nil, refl}
 use Rattle.json.specs.Token.{key, end_array}
-use Rattle.canvas_sig.specs.steps.Tokens.{data_tokens, link_tokens}
-use Rattle.canvas_rewrite.specs.FrozenView.{p_tasks_of, p_task_view, p_line_view, p_end_view}
-use Rattle.canvas_codec.specs.steps.Tokens.{named_tokens}
-use Rattle.canvas_codec.specs.Wire.{tasks_wire, line_wire, elements_wire}
+use Rattle.canvas_sig.specs.steps.Tokens.{data_tokens, rest_tokens, link_tokens}
+use Rattle.canvas_rewrite.specs.FrozenView.{p_tasks_of, p_lines_of, p_task_view, p_line_view, p_end_view}
+use Rattle.canvas_codec.specs.steps.Tokens.{named_tokens, each_tokens}
+use Rattle.canvas_codec.specs.Wire.{task_wire, tasks_wire, line_wire, elements_wire, members_wire}
 use Rattle.canvas_rewrite.specs.declared.frozen.Carried.{out-Carried}
 use Rattle.canvas_sig.proofs.Writers.{after_ok, then_tokens}
 use Rattle.canvas_codec.proofs.TaskTokens.{a_chord, chain_written, task_written, chord_written, group_written, some_link, links_are, alike}
 use Rattle.canvas_codec.proofs.LineTokens.{elements_written, no_tail, a_tail, is_chain_to_end, is_task, is_chain}
+use Rattle.canvas_codec.proofs.Turns.{put_on}
 use Rattle.canvas_codec.proofs.write.frozen.+write_task.Goals as goal
 
 pub write_chain-returns : goal.write_chain-returns
@@ -84,3 +85,36 @@ write_task-returns t c =
     let front = then_tokens c.args.out.now c.write_call.new.out c.write_options.new.out _ _ c.in_ok-write_call.ensures c.in_ok-write_options.ensures in
     after_ok c.write_end.result c.args.out.now c.write_options.new.out c.write_end.new.out _ _ _ front c.write_end.ensures
     (task_written c.args.size c.args.task.now _ _ _ (c.deref.ensures.value ∙ c.get.ensures) c.get-2.ensures.entries (c.deref-2.ensures ∙ c.get-3.ensures))
+
+pub write_tasks-loop-task-init : goal.write_tasks-loop-task-init
+write_tasks-loop-task-init t c = (refl, refl)
+
+pub write_tasks-loop-task-preserved : goal.write_tasks-loop-task-preserved
+write_tasks-loop-task-preserved t c = (
+  put_on (λ xs. rest_tokens (tasks_wire (p_tasks_of (map p_task_view xs)))) c.args.tasks.now c.loop-task.task-index c.task-item.result
+      (data_tokens (task_wire None (p_task_view c.task-item.result))) _ _ _ c.loop-task-test.true c.task-item.is refl c.loop-task.invariant.0
+      c.in_ok-write_task.ensures.0,
+  c.in_ok-write_task.ensures.1 ∙ c.loop-task.invariant.1,
+)
+
+pub write_each-loop-task-init : goal.write_each-loop-task-init
+write_each-loop-task-init t c = (refl, refl)
+
+pub write_each-loop-task-preserved : goal.write_each-loop-task-preserved
+write_each-loop-task-preserved t c = (
+  put_on (λ xs. each_tokens (map p_task_view xs)) c.args.tasks.now c.loop-task.task-index c.task-item.result
+      (data_tokens (task_wire None (p_task_view c.task-item.result))) _ _ _ c.loop-task-test.true c.task-item.is refl c.loop-task.invariant.0
+      c.in_ok-write_task.ensures.0,
+  c.in_ok-write_task.ensures.1 ∙ c.loop-task.invariant.1,
+)
+
+pub write_lines-loop-line-init : goal.write_lines-loop-line-init
+write_lines-loop-line-init t c = (refl, refl)
+
+pub write_lines-loop-line-preserved : goal.write_lines-loop-line-preserved
+write_lines-loop-line-preserved t c = (
+  put_on (λ xs. rest_tokens (members_wire (p_lines_of (map p_line_view xs)))) c.args.lines.now c.loop-line.line-index c.line-item.result
+      (data_tokens (line_wire None (p_line_view c.line-item.result))) _ _ _ c.loop-line-test.true c.line-item.is refl c.loop-line.invariant.0
+      c.in_ok-write_line.ensures.0,
+  c.in_ok-write_line.ensures.1 ∙ c.loop-line.invariant.1,
+)

@@ -1,7 +1,9 @@
-use Rattle.std.proofs.Common.{rules, ◌≡◌, ◌∙◌, ◌∷◌, ◌++◌, ap}
+use Rattle.std.proofs.Common.{rules, ◌≡◌, ◌∙◌, ◌∷◌, ◌++◌, map, refl, ap}
+use Rattle.canvas_rewrite.specs.FrozenView.{p_line_view}
+use Rattle.canvas_effects.specs.steps.Walks.{raised_stores, all_raised_stores, raised_messages, all_raised_messages}
 use Rattle.canvas_rewrite.proofs.PlanLines.{ok_same}
 use Rattle.canvas_effects.proofs.Raised.{first_there, raised_on, first_messages, raised_tail, raised_tail_messages, never_whole, stores_group, messages_group, stores_chord, messages_chord, ok_there}
-use Rattle.canvas_effects.proofs.Walked.{joined}
+use Rattle.canvas_effects.proofs.Walked.{joined, put_on, put_all, whole_on}
 use Rattle.canvas_effects.proofs.effects.raised.+raise.Goals as goal
 
 pub raise_line-raise_task-requires-clause-callbacks : goal.raise_line-raise_task-requires-clause-callbacks
@@ -47,12 +49,14 @@ raise_line-returns-in-None-tail-clause-messages t c =
 pub raise_end-returns-in-Some-clause-stores : goal.raise_end-returns-in-Some-clause-stores
 raise_end-returns-in-Some-clause-stores t c =
     ok_same _ _ _ _ (joined _ _ _ _ _ c.in_ok-raise_lines.ensures.stores
-    (stores_chord c.args.fault.now _ c.args.end.now c.in-Some.body _ c.in-Some.is c.whole_members-members.ensures.value c.fault_behind-behind.ensures)) c.raise_line.ensures.stores
+    (stores_chord c.args.fault.now _ c.args.end.now c.in-Some.body _ c.in-Some.is
+    c.whole_members-members.ensures.value c.fault_behind-behind.ensures)) c.raise_line.ensures.stores
 
 pub raise_end-returns-in-Some-clause-messages : goal.raise_end-returns-in-Some-clause-messages
 raise_end-returns-in-Some-clause-messages t c =
     ok_same _ _ _ _ (joined _ _ _ _ _ c.in_ok-raise_lines.ensures.messages
-    (messages_chord c.args.fault.now _ c.args.end.now c.in-Some.body _ c.in-Some.is c.whole_members-members.ensures.value c.fault_behind-behind.ensures)) c.raise_line.ensures.messages
+    (messages_chord c.args.fault.now _ c.args.end.now c.in-Some.body _ c.in-Some.is
+    c.whole_members-members.ensures.value c.fault_behind-behind.ensures)) c.raise_line.ensures.messages
 
 pub raise_end-returns-in-None-clause-stores : goal.raise_end-returns-in-None-clause-stores
 raise_end-returns-in-None-clause-stores t c =
@@ -63,3 +67,27 @@ pub raise_end-returns-in-None-clause-messages : goal.raise_end-returns-in-None-c
 raise_end-returns-in-None-clause-messages t c =
     c.in_ok-raise_lines.ensures.messages
     ∙ ap (λ xs. c.args.messages.now.items ++ xs) (messages_group c.args.fault.now c.args.end.now _ c.in-None.is c.whole_members-members.ensures.value)
+
+pub raise_lines-loop-line-init : goal.raise_lines-loop-line-init
+raise_lines-loop-line-init t c = (c.requires, refl, refl)
+
+pub raise_lines-loop-line-preserved : goal.raise_lines-loop-line-preserved
+raise_lines-loop-line-preserved t c = (
+  (whole_on c.args.lines.now c.loop-line.line-index c.line-item.result c.loop-line-test.true c.line-item.is c.loop-line.invariant.0).1,
+  put_on (λ ls. all_raised_stores c.args.fault.now (map p_line_view ls)) c.args.lines.now c.loop-line.line-index c.line-item.result
+      (raised_stores c.args.fault.now (p_line_view c.line-item.result)) _ _ _ c.loop-line-test.true c.line-item.is refl c.loop-line.invariant.1
+      c.in_ok-raise_line.ensures.stores,
+  put_on (λ ls. all_raised_messages c.args.fault.now (map p_line_view ls)) c.args.lines.now c.loop-line.line-index c.line-item.result
+      (raised_messages c.args.fault.now (p_line_view c.line-item.result)) _ _ _ c.loop-line-test.true c.line-item.is refl c.loop-line.invariant.2
+      c.in_ok-raise_line.ensures.messages,
+)
+
+pub raise_lines-returns-clause-stores : goal.raise_lines-returns-clause-stores
+raise_lines-returns-clause-stores t c =
+    put_all (λ ls. all_raised_stores c.args.fault.now (map p_line_view ls)) c.args.lines.now c.loop-line.line-index _ _ c.loop-line-test.false refl
+    c.loop-line.invariant.1
+
+pub raise_lines-returns-clause-messages : goal.raise_lines-returns-clause-messages
+raise_lines-returns-clause-messages t c =
+    put_all (λ ls. all_raised_messages c.args.fault.now (map p_line_view ls)) c.args.lines.now c.loop-line.line-index _ _ c.loop-line-test.false refl
+    c.loop-line.invariant.2

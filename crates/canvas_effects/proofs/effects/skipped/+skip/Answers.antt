@@ -1,6 +1,8 @@
-use Rattle.std.proofs.Common.{◌∙◌, ◌++◌, ap, sym}
+use Rattle.std.proofs.Common.{◌∙◌, ◌++◌, map, refl, ap, sym}
+use Rattle.canvas_rewrite.specs.FrozenView.{p_line_view}
 use Rattle.canvas_rewrite.proofs.PlanLines.{ok_same}
-use Rattle.canvas_effects.proofs.Walked.{joined, skipped_line, skipped_rest_none, skipped_rest_some, skipped_end_none, skipped_end_some}
+use Rattle.canvas_effects.specs.steps.Walks.{skipped, all_skipped}
+use Rattle.canvas_effects.proofs.Walked.{joined, put_on, put_all, skipped_line, skipped_rest_none, skipped_rest_some, skipped_end_none, skipped_end_some}
 use Rattle.canvas_effects.proofs.effects.skipped.+skip.Goals as goal
 
 pub skip_line-returns : goal.skip_line-returns
@@ -29,3 +31,16 @@ skip_end-returns-in-None t c =
     c.in_ok-skip_lines.ensures
     ∙ ap (λ xs. c.args.stores.now.items ++ xs)
     (sym (skipped_end_none c.args.fault.now c.args.end.now c.in-None.is c.deref.result.now (c.deref.ensures.value ∙ c.get.ensures)))
+
+pub skip_lines-loop-line-init : goal.skip_lines-loop-line-init
+skip_lines-loop-line-init t c = refl
+
+pub skip_lines-loop-line-preserved : goal.skip_lines-loop-line-preserved
+skip_lines-loop-line-preserved t c =
+    put_on (λ ls. all_skipped c.args.fault.now (map p_line_view ls)) c.args.lines.now c.loop-line.line-index c.line-item.result
+    (skipped c.args.fault.now (p_line_view c.line-item.result)) _ _ _ c.loop-line-test.true c.line-item.is refl c.loop-line.invariant c.in_ok-skip_line.ensures
+
+pub skip_lines-returns : goal.skip_lines-returns
+skip_lines-returns t c =
+    put_all (λ ls. all_skipped c.args.fault.now (map p_line_view ls)) c.args.lines.now c.loop-line.line-index _ _
+    c.loop-line-test.false refl c.loop-line.invariant

@@ -1,5 +1,5 @@
-use Rattle.std.proofs.Common.{◌≡◌, ◌∙◌, ◌≤◌, All, rules, subst}
-use Rattle.canvas_semantics.specs.Line.{count_line, members, entry_members, entry_at, group_entries}
+use Rattle.std.proofs.Common.{◌≡◌, ◌≤◌, All, rules, subst}
+use Rattle.canvas_semantics.specs.Line.{count_line, members}
 use Rattle.canvas_rewrite.specs.Planned.{IsPlan, Apart}
 use Rattle.canvas_rewrite.proofs.Members.{plan_apart, all_known}
 use Rattle.canvas_rewrite.proofs.plan.Plan.members.Goals as goal

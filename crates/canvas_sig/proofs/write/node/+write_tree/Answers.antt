@@ -3,9 +3,9 @@ use Rattle.json.specs.Token.{key}
 use Rattle.serde_json.specs.Data.{string}
 use Rattle.canvas_semantics.specs.Tree.{Tree, chain, group, chord}
 use Rattle.canvas_sig.specs.steps.Tokens.{Appends, data_tokens}
-use Rattle.canvas_sig.specs.SignatureView.{view, trees_of}
+use Rattle.canvas_values.specs.SignatureView.{view, trees_of}
 use Rattle.canvas_sig.specs.Writing.{tree_wire, trees_wire}
-use Rattle.canvas_sig.proofs.Views.{view-Chain, view-Group, view-Chord}
+use Rattle.canvas_values.proofs.Views.{view-Chain, view-Group, view-Chord}
 use Rattle.canvas_sig.proofs.Writers.{after_ok, then_tokens, sequence_tokens, chord_tokens}
 use Rattle.canvas_sig.proofs.write.node.+write_tree.Goals as goal
 

@@ -1,6 +1,6 @@
 use Rattle.std.proofs.Common.{◌≡◌, ◌++◌, map, drop}
 use Rattle.canvas_sig.specs.steps.Tokens.{rest_tokens}
-use Rattle.canvas_sig.specs.SignatureView.{view, trees_of}
+use Rattle.canvas_values.specs.SignatureView.{view, trees_of}
 use Rattle.canvas_sig.specs.Writing.{trees_wire}
 use Rattle.canvas_sig.proofs.write.node.+write_tree.Given as goal
 

@@ -1,6 +1,6 @@
 use Rattle.std.proofs.Common.{◌++◌, map, codes, sym, ap₂, ◌∙◌}
 use Rattle.canvas_sig.specs.steps.Tokens.{link_tokens}
-use Rattle.canvas_sig.specs.SignatureView.{task_view, tasks_of}
+use Rattle.canvas_values.specs.SignatureView.{task_view, tasks_of}
 use Rattle.canvas_sig.specs.Writing.{tasks_wire}
 use Rattle.canvas_sig.proofs.Writers.{after_ok, some_link, links_are}
 use Rattle.canvas_sig.proofs.write.task.+write_task.Goals as goal

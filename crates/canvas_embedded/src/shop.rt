@@ -1,0 +1,65 @@
+//! What another program needs of these crates: it composes a canvas, adds a task of its own to a
+//! registry, runs the canvas with four workers and prints the report.
+
+ghost use Rattle.std.specs.Prelude.{◌-ℤ◌, Ok};
+
+use anyhow::Result;
+use canvas_engine::{OpenGate, Report, Stop, report_text, run};
+use canvas_rewrite::{Plan, freeze, normalise};
+use canvas_sig::{Canvas, Node};
+use canvas_task::{Add, Kind, OfTwo, TaskOfTwo, Xsum, registry_of};
+use std::alloc::{AllocError, AllocGlobal, Global};
+use std::random::RandomSource;
+use std::sync::Wait;
+use std::thread::Threads;
+
+/// A task of this program: `shop.change(paid, price)`.
+#[derive(Clone, Copy)]
+struct Change;
+
+impl OfTwo for Change {
+    ghost answer = { λ _ paid price. Ok (paid -ℤ price) };
+
+    fn answer(&self, paid: i64, price: i64) -> Result<i128, Kind> {
+        Ok(i128::from(paid) - i128::from(price))
+    }
+}
+
+/// `chord([shop.change(10, 3), tasks.add(2, 2)], tasks.xsum)`.
+fn sums(alloc: Global) -> Result<Node, AllocError> {
+    let mut header = Vec::new(alloc);
+    header.push(Node::call(alloc, "shop.change", &[10, 3])?)?;
+    header.push(Node::call(alloc, "tasks.add", &[2, 2])?)?;
+    Node::chord(alloc, header, Node::call(alloc, "tasks.xsum", &[])?)
+}
+
+pub(crate) fn plan_of(alloc: Global, canvas: &Canvas) -> Result<Plan> {
+    let line = normalise(alloc, canvas)?;
+    Ok(freeze(alloc, &line)?)
+}
+
+/// The report of a plan, by four workers.
+fn report_of<R>(rt: &R, alloc: Global, plan: &Plan) -> Result<Report>
+where
+    R: Threads + Wait + RandomSource + AllocGlobal + Sync,
+{
+    let change = TaskOfTwo {
+        name: "shop.change",
+        parameters: ("paid", "price"),
+        answers: Change,
+    };
+    let registry = registry_of!(alloc; Add, Xsum, change)?;
+    let (report, _records) = run(rt, alloc, plan, &registry, 4, &OpenGate, &Stop::new())?;
+    Ok(report)
+}
+
+pub(crate) fn print_report<R>(rt: &R) -> Result<()>
+where
+    R: Print + Threads + Wait + RandomSource + AllocGlobal + Sync,
+{
+    let alloc = rt.alloc();
+    let plan = plan_of(alloc, &Canvas::of(alloc, sums(alloc)?)?)?;
+    let report = report_of(rt, alloc, &plan)?;
+    print!(rt; "{}", report_text(alloc, &plan, &report)?)?;
+    Ok(())
+}

@@ -1,0 +1,15 @@
+use Rattle.canvas_engine.specs.Correct.{IsThreadFault}
+use Rattle.canvas_engine.proofs.SameText.{ran_recorded, ran_fault}
+use Rattle.canvas_engine.proofs.text.run_text_recorded.Goals as goal
+
+pub returns-clause-ok : goal.returns-clause-ok
+returns-clause-ok g c =
+    let plan = c.in_ok-plan.ensures.ok in
+    ran_recorded (g.T.Tasks.behaviour c.args.tasks.now) c.args.bytes.now plan.0 c.in_ok-plan.plan plan.1
+    c.args.workers c.plan_text_threads.result c.plan_text_threads.ensures.ok
+
+pub returns-clause-err : goal.returns-clause-err
+returns-clause-err g c =
+    let plan = c.in_ok-plan.ensures.ok in
+    ran_fault (g.T.Tasks.behaviour c.args.tasks.now) c.args.bytes.now plan.0 c.in_ok-plan.plan plan.1
+    (IsThreadFault c.args.workers) c.plan_text_threads.result c.plan_text_threads.ensures.err

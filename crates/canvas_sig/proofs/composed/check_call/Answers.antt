@@ -1,6 +1,0 @@
-use Rattle.std.proofs.Common.{rules}
-use Rattle.canvas_sig.proofs.ComposedLemmas.{call_ordered}
-use Rattle.canvas_sig.proofs.composed.check_call.Goals as goal
-
-pub returns-clause-ordered : goal.returns-clause-ordered
-returns-clause-ordered c = call_ordered c.args.sig.now (search rules)

@@ -1,0 +1,59 @@
+//! The canvas of a text.
+
+ghost use Rattle.std.specs.Prelude.{◌≡◌, ◌≢◌, ◌≤◌, Ok, Err, length, IfErr, OnOk, MatchResult};
+ghost use Rattle.canvas_values.specs.declared.fault.SigFault.TheVariants.{Memory};
+ghost use Rattle.canvas_values.specs.CanvasText.{most_bytes, text_reading};
+ghost use Rattle.canvas_values.specs.steps.Reading.{signature_reading};
+ghost use Rattle.canvas_values.specs.Answers.{Gives};
+ghost use Rattle.canvas_values.specs.SignatureView.{view};
+
+use crate::parsing::parse;
+use crate::reader::read_node;
+use bumpalo::Bump;
+use canvas_values::{Canvas, Node, SigFault};
+use json::Scratch;
+use std::alloc::Global;
+
+/// The longest text that is read, in bytes.
+pub const MOST_BYTES: usize = 1_048_576;
+
+/// One more than the levels that JSON is read to, so that no signature is cut off.
+pub const MOST_LEVELS: u32 = 128;
+
+/// How many bytes the lists of a text take at most for each byte of it: an item has 24, and two
+/// bytes spell one, and a list that grows has twice the room that it needs.
+const LISTS_ROOM: usize = 24;
+
+/// An arena for the lists of a text, in one piece where there is memory for it, since a list grows
+/// in its place there and else leaves behind what it was. What isn't used of it stays untouched.
+fn new_arena(alloc: Global, length: usize) -> Bump {
+    match Bump::try_with_capacity(alloc, length.saturating_mul(LISTS_ROOM)) {
+        Ok(arena) => arena,
+        Err(_) => Bump::new(alloc),
+    }
+}
+
+fn read_signature(alloc: Global, bytes: &[u8]) -> Result<Node, SigFault>
+    ensures reading { Gives view result (signature_reading bytes.now) }
+    ensures memory { IfErr result (λ e. e ≡ Memory → length bytes.now ≤ most_bytes) }
+    ensures short { OnOk result (length bytes.now ≤ most_bytes) }
+{
+    if bytes.len() > MOST_BYTES {
+        return Err(SigFault::TooLarge);
+    }
+    let arena = new_arena(alloc, bytes.len());
+    let mut scratch = Scratch::new(alloc);
+    let value = parse(alloc, &arena, &mut scratch, bytes)?;
+    read_node(alloc, &value, MOST_LEVELS)
+}
+
+/// The canvas that a text spells, or its first refusal. A text that is too large takes no memory.
+#[tactic(auto, using(crate::proofs::TextLemmas::fails_refused))]
+pub fn read_canvas(alloc: Global, bytes: &[u8]) -> Result<Canvas, SigFault>
+    ensures reading { MatchResult result (λ canvas. text_reading bytes.now ≡ Ok canvas)
+        (λ e. e ≢ Memory → text_reading bytes.now ≡ Err e) }
+    ensures memory { IfErr result (λ e. e ≡ Memory → length bytes.now ≤ most_bytes) }
+{
+    let node = read_signature(alloc, bytes)?;
+    Canvas::within_limits(node)
+}

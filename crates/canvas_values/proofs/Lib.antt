@@ -1,0 +1,11 @@
+pub mod Views
+pub mod Refusals
+pub mod Law
+pub mod NestingLemmas
+pub mod Endings
+pub mod ReachLemmas
+pub mod ComposedLemmas
+pub mod Depth
+pub mod Fits
+pub mod FittingCalls
+pub mod LimitRows

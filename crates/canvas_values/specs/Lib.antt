@@ -1,0 +1,12 @@
+pub mod SignatureView
+pub mod Fields
+pub mod Answers
+pub mod Grammar
+pub mod CanvasText
+pub mod Writable
+pub mod steps
+pub mod Refusals
+pub mod ByParts
+pub mod ComposedRefusals
+pub mod LimitRefusals
+pub mod RefusalNames

@@ -1,0 +1,4 @@
+pub mod Budget
+pub mod Ending
+pub mod LineReach
+pub mod Reading

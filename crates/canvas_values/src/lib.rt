@@ -1,0 +1,26 @@
+//! Signatures of canvases as values, the limits of a canvas, and what a text that spells one says.
+#![tactic(auto)]
+
+mod by_parts;
+mod canvas;
+mod composed;
+mod copy;
+mod counting;
+mod fault;
+mod group_nesting;
+mod limits;
+mod nesting;
+mod node;
+mod primitive;
+mod reach;
+mod task_sig;
+
+pub use by_parts::law_of_parts;
+pub use canvas::Canvas;
+pub use composed::{args_fit, kwargs_fit};
+pub use copy::{copy_sig, copy_sigs};
+pub use fault::SigFault;
+pub use limits::{MOST_REACH, MOST_TASKS};
+pub use node::Node;
+pub use primitive::Primitive;
+pub use task_sig::TaskSig;

@@ -1,0 +1,78 @@
+//! What help says beside the commands.
+
+/// What stands below the commands where help is asked for in short.
+pub const SHORT_NOTES: &str = "\
+`canvas --help` says what is printed, what turns are, and what each status and refusal means.";
+
+/// What is printed, what turns and a normal line are, and what the statuses and the codes of
+/// refusals mean.
+pub const NOTES: &str = "\
+A report has a line for each task, `ID NAME STATE VALUE`, in the order of the file: a task, its links,
+its error callbacks, then what follows; a header before its body. Its last line is the result.
+
+`run` has two workers and more work on threads, each on its own where one can be made;
+under `turns` they take turns on one. At a turn a worker makes one step, such as to take a message
+or to store an outcome. Whatever the workers and their turns, the report of a canvas is the same. A
+list of turns is decimal numbers from 1, separated by single commas, with no sign, space or leading
+zero: another is refused (BadTurn).
+
+Under `turns --again` a worker has the envelope that it holds delivered again at the points of a list, as
+1:early,1:late: a task's number, a colon, and `early`, before the first store of the task's message, or
+`late`, before its envelope is acknowledged. The first worker that comes to a point spends the entry.
+The report stays as it is: a store of a message that was run before answers Again and changes nothing,
+and standard error says how many did. A list is written as one of turns is, and another is refused
+(BadAgain).
+
+`--task NAME=WORD` says what a task of that name answers to any call: a whole number, or
+`raise:KIND`, where KIND is TypeError, ZeroDivisionError, OverflowError or NotRegistered. With the
+word add, div, ident, log_error, mul or xsum it answers as tasks.add and so on. It may be given
+again, for another name; the name * stands for each name that no task has. `--tasks FILE` has more,
+one a line; an empty line, and one that begins with #, says nothing, and what `--task` says of a
+name comes first. Another word or name, or a name that is there twice, is refused (BadTask).
+
+The normal line of a canvas means the same as the canvas: some tasks, then at most one group or chord.
+A chain in a chain is flattened, and a group or chord that something follows is a chord whose body is
+all that follows.
+
+`check` prints what a run of a canvas takes; of one that is refused, the JSON pointer (RFC 6901) to the
+first signature that has the refusal, what was found there, and what is wanted.
+
+`run --json` and `turns --json` print a JSON object in a line for each task (name, result, status,
+task_id), and one for the result (result, status). A failure's result has exc_type and exc_message, as
+Celery stores it. A canvas that is refused gives an object with code, name, note and pointer on standard
+error.
+
+`graph` prints a picture for Graphviz, as in `canvas graph FILE --run | dot -Tsvg -o canvas.svg`: from left to
+right in time, groups and chords as frames, links and error callbacks dashed. `messages` prints what a
+worker would get: the body, the headers and the properties of each message, as texts.
+
+`export` prints the commands that start a canvas on Celery's own workers, with Redis as broker and result
+backend, `keys` the keys under which these store its results, and `collect` its report, from these results
+on standard input, one a line:
+    canvas export FILE --run HEX22 | redis-cli --pipe
+    canvas keys FILE --run HEX22 | xargs -r redis-cli --raw MGET | canvas collect FILE --run HEX22
+A run's number is used once. `collect --complete` gives tasks that a failure reaches their state, where Celery
+leaves them pending. They are refused by a name: BadRun (the number), BadCount (fewer or more results than
+tasks), TooLarge (more than 67,108,864 bytes of results), and of a task's result NotJson, OtherTask,
+UnknownState, NotNumber, UnknownException, UnknownDependency.
+
+Status:
+  0  the answer is on standard output
+  1  refused: the command line, the file, the canvas or the output; standard error says why
+  2  ended early for want of memory; standard output has what was stored, where memory was left for it
+  3  with --fail: the report is on standard output, and the canvas's result is a failure
+
+A canvas is refused by one line, `canvas: refused CODE NAME`:
+   1 TooLarge          more than 1,048,576 bytes
+   2 NotJson           no JSON text in UTF-8
+   3 NotSignature      no object, or a task's name or `immutable` is none
+   4 UnknownPrimitive  another subtask_type than null, chain, group and chord
+   5 BadArgs           a member of the wrong form, or an argument of the wrong kind
+   6 BadNumber         a number that isn't whole, or is past 2^60 on either side
+   7 OnCanvas          arguments, links or callbacks on a chain, group or chord, or one of these as a callback
+   8 Frozen            options.chord is there
+   9 EmptyChain        a chain with no tasks
+  10 NestedGroup       a member of a group or header ends in a group
+  11 TooDeep           more than 8 signatures in each other, or more than 32 in a message of the run
+  12 TooMany           more than 1,024 tasks, or more than 1,024 groups and chords
+  13 Memory            printed as `canvas: memory refused`, with status 2";

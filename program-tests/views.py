@@ -1,0 +1,387 @@
+#!/usr/bin/env python3
+"""What the program shows of a canvas besides its report, by the rules of rules.py: pictures, JSON
+lines, figures, the places of refusals, and which messages a run publishes.
+
+docs/FORMATS.md says how each is written.
+
+    python3 views.py    checks the rows at the end of this file; the status is 1 if one is wrong
+"""
+import json
+import sys
+
+# No compiled modules are left in the tree.
+sys.dont_write_bytecode = True
+
+import rules
+from cases import drawn, identified
+from rules import STATES, Walk, callbacks, ends_in_group, identifier, kind_of, parts
+
+
+def written(value):
+    return json.dumps(value, sort_keys=True, ensure_ascii=False, separators=(",", ":"))
+
+
+# ---- JSON lines
+
+
+def result_of(state):
+    """A state as Celery's result backends store it."""
+    if not isinstance(state, str):
+        return state
+    kind, _, said = state.partition(": ")
+    return {"exc_message": [said] if said else [], "exc_type": kind}
+
+
+def status_of(states):
+    """The status of a canvas's result: a failure before what is pending."""
+    return next((STATES[it] for it in (str, type(None)) if it in map(type, states)), "SUCCESS")
+
+
+def json_report(canvas):
+    """The text that `canvas run --json` prints, and the status with `--fail`."""
+    walk = Walk(canvas)
+    lines = [{"name": row.name, "result": result_of(row.state), "status": STATES[type(row.state)],
+              "task_id": identifier(task)} for task, row in enumerate(walk.rows, 1)]
+    states = [walk.rows[end - 1].state for end in walk.ends]
+    results = [result_of(it) for it in states]
+    status = status_of(states)
+    lines.append({"result": results if ends_in_group(canvas) else results[0], "status": status})
+    return "".join(written(it) + "\n" for it in lines), 3 if status == "FAILURE" else 0
+
+
+# A run on Celery's workers, and an identifier of it.
+RUN = "0123456789abcdef012345"
+
+IN_RUN = "01234567-89ab-8cde-8f01-2345%08x"
+
+
+def stored(canvas):
+    """The results that Celery's workers store of the tasks that run, a line each."""
+    lines = []
+    for task, row in enumerate(Walk(canvas).rows, 1):
+        found = {"result": result_of(row.state), "status": STATES[type(row.state)],
+                 "task_id": IN_RUN % task}
+        lines.append(written(found) + "\n" if row.ran else "\n")
+    return "".join(lines)
+
+
+# ---- pictures
+
+LOOKS = {
+    type(None): 'shape=box, style="dashed,filled", fillcolor="#eeeeee"',
+    int: 'shape=box, style="rounded,filled", fillcolor="#d8f0d8"',
+    str: 'shape=octagon, style=filled, fillcolor="#f7d4d4", penwidth=2',
+}
+
+HEAD = """\
+digraph canvas {
+  rankdir=LR;
+  node [fontname="Helvetica"];
+  edge [fontname="Helvetica"];
+  fontname="Helvetica";
+"""
+
+
+def in_quotes(text):
+    known = {'"': '\\"', "\\": "\\\\", "\n": "\\n"}
+    return '"%s"' % "".join(
+        known.get(it, it if " " <= it <= "~" else "\\\\u{%x}" % ord(it)) for it in text)
+
+
+def shown_argument(value):
+    """An argument, with no more than 24 characters or numbers of it."""
+    if isinstance(value, str):
+        return "'%s'" % (value[:24] + ".." * (len(value) > 24))
+    if isinstance(value, list):
+        return "[%s]" % ", ".join([str(it) for it in value[:24]] + [".."] * (len(value) > 24))
+    return str(value)
+
+
+def shown_call(task, sig):
+    shown = [shown_argument(it) for it in sig.get("args") or []]
+    kwargs = sorted((sig.get("kwargs") or {}).items(), key=lambda it: it[0].encode())
+    shown += ["%s=%s" % (name, shown_argument(it)) for name, it in kwargs]
+    behind = "\ntakes no input" if sig.get("immutable") else ""
+    return "%d %s(%s)%s" % (task, sig["task"], ", ".join(shown), behind)
+
+
+def shown_state(state):
+    if isinstance(state, str):
+        kind, _, said = state.partition(": ")
+        if said:
+            _, named, _, why = said.split(" ")
+            kind = "ChordError:\n%d raised %s" % (rules.task_named(named), why)
+        return "\nFAILURE " + kind
+    return "\nPENDING" if state is None else "\nSUCCESS %d" % state
+
+
+class Picture:
+    """A canvas in the language of Graphviz, with the rows of a run, if there was one. Its line is
+    drawn, in which a group that something follows is a chord."""
+
+    def __init__(self, canvas, rows=None):
+        self.rows, self.tasks, self.groups = rows, 0, 0
+        self.nodes, self.edges = [], []
+        self.element(rules.line([canvas]))
+
+    def text(self):
+        return HEAD + "".join("  %s\n" % it for it in self.nodes + self.edges) + "}\n"
+
+    def join(self, before, behind, looks=""):
+        self.edges += ["%s -> %s%s;" % (one, other, looks) for one in before for other in behind]
+
+    def element(self, sig):
+        """Draws a signature. The nodes at which it begins, and those at which it ends."""
+        kind = kind_of(sig)
+        if kind is None:
+            return self.task(sig)
+        if kind == "chain":
+            return self.in_a_row([self.element(it) for it in parts(sig)])
+        frame = self.frame(sig, kind)
+        return frame if kind == "group" else self.in_a_row([frame, self.element(body_of(sig))])
+
+    def in_a_row(self, drawn):
+        for (_, ends), (starts, _) in zip(drawn, drawn[1:]):
+            self.join(ends, starts)
+        return drawn[0][0], drawn[-1][1]
+
+    def task(self, sig):
+        self.tasks += 1
+        task, node = self.tasks, "t%d" % self.tasks
+        label, looks = shown_call(task, sig), "shape=box, style=rounded"
+        if self.rows is not None:
+            state = self.rows[task - 1].state
+            label, looks = label + shown_state(state), LOOKS[type(state)]
+        self.nodes.append("%s [%s, label=%s];" % (node, looks, in_quotes(label)))
+        for name, said in [("link", "success"), ("link_error", "failure")]:
+            for callback in callbacks(sig, name):
+                self.join([node], self.task(callback)[0], ' [style=dashed, label="on %s"]' % said)
+        return [node], [node]
+
+    def frame(self, sig, kind):
+        """The members of a group or header, in a frame."""
+        self.groups += 1
+        group, point = self.groups, "g%d" % self.groups
+        self.nodes += ["subgraph cluster_%d {" % group, 'label="%s %d";' % (kind, group)]
+        members = [self.element(it) for it in parts(sig)]
+        if not members:
+            self.nodes.append("%s [shape=point];" % point)
+            members = [([point], [point])]
+        self.nodes.append("}")
+        return tuple([node for member in members for node in member[side]] for side in (0, 1))
+
+
+def body_of(sig):
+    return sig["kwargs"]["body"]
+
+
+def picture(canvas, ran=False):
+    """The text that `canvas graph` prints, with `--run` where the canvas ran."""
+    return Picture(canvas, Walk(canvas).rows if ran else None).text()
+
+
+def in_any_order(text):
+    """A picture with its edges sorted, whose order says nothing."""
+    lines = text.split("\n")
+    return "\n".join([it for it in lines if " -> " not in it]
+                     + sorted(it for it in lines if " -> " in it))
+
+
+# ---- figures, and where a canvas is refused
+
+
+def figures(canvas):
+    """What `canvas check` prints of a canvas, up to the bytes of its messages."""
+    kinds = [kind_of(it) for it in rules.signatures(canvas)]
+    groups = kinds.count("group") + kinds.count("chord")
+    return ("tasks %d\ngroups and chords %d\nnesting %d\nreach %d\nmessages %d\n"
+            "bytes of messages " % (kinds.count(None), groups, rules.nesting(canvas),
+                                    rules.reach(rules.line([canvas])), len(rules.ran(canvas))))
+
+
+def in_list(at, found):
+    return [("%s/%d" % (at, index), it) for index, it in enumerate(found)]
+
+
+def steps(sig):
+    """The signatures in one, each with the pointer to it from there, whether it stands deeper, and
+    whether it is a member. A header that is a group is a signature of its own."""
+    kwargs, kind, options = sig.get("kwargs") or {}, kind_of(sig), sig.get("options") or {}
+    if kind in ("chain", "group"):
+        for at, part in in_list("/kwargs/tasks", kwargs["tasks"]):
+            yield at, part, 1, kind == "group"
+    elif kind == "chord":
+        header = kwargs["header"]
+        if isinstance(header, dict):
+            yield "/kwargs/header", header, 0, False
+        else:
+            yield from ((at, it, 1, True) for at, it in in_list("/kwargs/header", header))
+        yield "/kwargs/body", kwargs["body"], 1, False
+    for name in ("link", "link_error"):
+        found, at = options.get(name), "/options/" + name
+        for at, callback in [(at, found)] if isinstance(found, dict) else in_list(at, found or []):
+            yield at, callback, 1, False
+
+
+def places(sig, at="", depth=1, is_member=False):
+    """All signatures in file order, each with its pointer, its depth, and whether it is a
+    member."""
+    yield at, sig, depth, is_member
+    for more, part, deeper, is_member in steps(sig):
+        yield from places(part, at + more, depth + deeper, is_member)
+
+
+def place_of(canvas, refusal):
+    """The pointer to the signature that is refused, its name, and the note on it."""
+    if refusal == "10 NestedGroup":
+        note = "found a member that ends in a group, wanted one that ends in a task"
+        found = (it for it in places(canvas) if it[3] and ends_in_group(it[1]))
+    else:
+        note = "found a signature more than 8 deep in others, wanted at most 8"
+        found = (it for it in places(canvas) if it[2] > 8)
+    at, sig, *_ = next(found, ("", canvas))
+    if not at:
+        note = ("found signatures more than 32 deep in each other in a message of the run, "
+                "wanted at most 32")
+    return at, sig["task"], note
+
+
+def said(refusal, note, at, name):
+    """What `canvas check` says of a refusal at a signature, and `canvas run --json`."""
+    code, kind = refusal.split(" ")
+    as_json = {"code": int(code), "name": kind, "note": note, "pointer": at}
+    behind = " (%s)" % name if name else ""
+    return ("at %s%s\n%s\ncanvas: refused %s\n" % (at or "the top", behind, note, refusal),
+            written(as_json) + "\n")
+
+
+def refused(canvas, refusal):
+    """The same of a canvas that is nested or too deep."""
+    at, name, note = place_of(canvas, refusal)
+    return said(refusal, note, at, name)
+
+
+# ---- messages
+
+
+def published(walk):
+    """The tasks that run, in the order in which one worker publishes their messages."""
+    queue, happened = [], set()
+
+    def happens(event):
+        happened.add(event)
+        queue.extend(task for task, row in enumerate(walk.rows, 1)
+                     if row.ran and row.event == event)
+        for group, ends in walk.headers.items():
+            ended = {walk.rows[end - 1].end(end) for end in ends}
+            if ended <= happened and ("header", group) not in happened:
+                happens(("header", group))
+
+    happens(("start",))
+    for task in queue:
+        happens(("end", task))
+    return queue
+
+
+def group_identifier(group):
+    return group and identifier(group).replace("-8000-0000", "-9000-0000")
+
+
+def message(walk, task):
+    """What a message says of its task, without what goes with the call."""
+    row = walk.rows[task - 1]
+    headers = {"group": group_identifier(walk.group_of.get(task)), "id": identifier(task),
+               "lang": "rs", "parent_id": row.parent and identifier(row.parent),
+               "root_id": identifier(1), "task": row.name}
+    properties = {"content_encoding": "utf-8", "content_type": "application/json",
+                  "correlation_id": identifier(task)}
+    return {"body": list(row.call), "headers": headers, "properties": properties}
+
+
+def messages(canvas):
+    """The messages that one worker publishes, a line each."""
+    walk = Walk(canvas)
+    return "".join(written(message(walk, task)) + "\n" for task in published(walk))
+
+
+def read_messages(text):
+    """What `canvas messages` prints, without what goes with the calls."""
+    found = [{name: json.loads(it) for name, it in json.loads(line).items()}
+             for line in text.splitlines()]
+    return "".join(written(dict(it, body=it["body"][:2])) + "\n" for it in found)
+
+
+def in_order_of_tasks(text):
+    """Messages as `read_messages` has them, by tasks, as several workers publish them."""
+    lines = sorted(text.splitlines(), key=lambda it: json.loads(it)["headers"]["id"])
+    return "".join(it + "\n" for it in lines)
+
+
+# ---- rows that are worked out by hand
+
+FAILED_JSON = """\
+{"name":"tasks.add","result":8,"status":"SUCCESS","task_id":"#1"}
+{"name":"tasks.div","result":{"exc_message":[],"exc_type":"ZeroDivisionError"},"status":"FAILURE","task_id":"#2"}
+{"name":"tasks.add","result":16,"status":"SUCCESS","task_id":"#3"}
+{"name":"tasks.xsum","result":{"exc_message":["Dependency #2 raised ZeroDivisionError"],"exc_type":"ChordError"},"status":"FAILURE","task_id":"#4"}
+{"name":"tasks.log_error","result":4,"status":"SUCCESS","task_id":"#5"}
+{"result":{"exc_message":["Dependency #2 raised ZeroDivisionError"],"exc_type":"ChordError"},"status":"FAILURE"}
+"""
+
+FAILED_PICTURE = HEAD + r"""
+  subgraph cluster_1 {
+  label="chord 1";
+  t1 [S, label="1 tasks.add(4, 4)\nSUCCESS 8"];
+  t2 [F, label="2 tasks.div(1, 0)\nFAILURE ZeroDivisionError"];
+  t3 [S, label="3 tasks.add(8, 8)\nSUCCESS 16"];
+  }
+  t4 [F, label="4 tasks.xsum()\nFAILURE ChordError:\n2 raised ZeroDivisionError"];
+  t5 [S, label="5 tasks.log_error()\nSUCCESS 4"];
+  t1 -> t4;
+  t2 -> t4;
+  t3 -> t4;
+  t4 -> t5 [style=dashed, label="on failure"];
+}
+"""[1:].replace("[S", "[" + LOOKS[int]).replace("[F", "[" + LOOKS[str])
+
+# A canvas, and the tasks whose messages one worker publishes, in this order.
+ORDERS = [
+    (*rules.FAILED_HEADER, [1, 2, 3, 5]),
+    ("G(C(+.,.>,.),C(.,.))", "add:1,1 mul:2 mul:3 mul:4 add:2,2 mul:5", [1, 5, 2, 3, 4, 6]),
+    ("C(?.>,.)", "div:1,0 log_error: mul:2", [1, 2]),
+    ("C(.,H[|.],G(.,.))", "add:1,1 xsum: mul:1 mul:2", [1, 2, 3, 4]),
+    ("H[H[.|.],.|?.>]", "div:1,0 xsum: add:1,1 xsum: log_error:", [1, 3, 5]),
+]
+
+A_MESSAGE = """\
+{"body":[[2,3],{}],"headers":{"group":"00000000-0000-8000-9000-000000000001","id":"#3",\
+"lang":"rs","parent_id":"#1","root_id":"#1","task":"tasks.mul"},"properties":\
+{"content_encoding":"utf-8","content_type":"application/json","correlation_id":"#3"}}"""
+
+PLACES = [
+    ("G(a,G(b))", "10 NestedGroup", "/kwargs/tasks/1"),
+    ("H[H[a|G(b)],c|d]", "10 NestedGroup", "/kwargs/header/0"),
+    ("C(a,C(C(C(C(C(C(C(b,c))))))))", "11 TooDeep", "/kwargs/tasks/1" + 7 * "/kwargs/tasks/0"),
+    ("C(%s,G(a),a)" % rules.PAIRS, "11 TooDeep", ""),
+]
+
+
+def checks():
+    """What is found and what is wanted, of each row."""
+    failed = rules.canvas_of(*rules.FAILED_HEADER)
+    yield json_report(failed), (identified(FAILED_JSON), 3)
+    yield json_report(rules.canvas_of("+.>", "add:1,1 div:0"))[1], 0
+    yield in_any_order(picture(failed, True)), in_any_order(FAILED_PICTURE)
+    yield figures(failed), ("tasks 5\ngroups and chords 1\nnesting 3\nreach 4\nmessages 4\n"
+                            "bytes of messages ")
+    for frame, calls, wanted in ORDERS:
+        yield published(Walk(rules.canvas_of(frame, calls))), wanted
+    walk = Walk(rules.canvas_of("C(.,G(.,.))", "add:1,1 ident: mul:3"))
+    yield written(message(walk, 3)), identified(A_MESSAGE)
+    for notation, refused, wanted in PLACES:
+        canvas = json.loads(drawn(notation))
+        yield (rules.refusal(canvas), place_of(canvas, refused)[0]), (refused, wanted)
+
+
+if __name__ == "__main__":
+    sys.exit(rules.told("views", list(checks())))

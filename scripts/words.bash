@@ -1,0 +1,480 @@
+# What ./canvas and ./try know of the program's words: its commands, and what it says of a mistake, so that nothing is built for one. What is refused here
+# the program refuses too, in these words. Where that isn't sure, the program is asked.
+
+newline=$'\n'
+
+# Each command with what it takes, in the order in which the program's help has them.
+forms="run FILE [--workers N] [--task NAME=WORD] [--tasks FILE] [--json] [--fail]
+turns FILE [--workers N] [--turns LIST] [--again LIST] [--task NAME=WORD] [--tasks FILE] [--json] [--fail]
+normal FILE
+check FILE [--task NAME=WORD] [--tasks FILE]
+graph FILE [--run] [--workers N] [--task NAME=WORD] [--tasks FILE]
+messages FILE [--workers N] [--turns LIST] [--task NAME=WORD] [--tasks FILE]
+export FILE --run HEX22 [--queue NAME] [--prefix TEXT] [--expires SECONDS] [--broker-db N] [--backend-db N] [--without-script]
+keys FILE --run HEX22 [--prefix TEXT]
+collect FILE --run HEX22 [--complete] [--json]"
+
+declare -A takes=() given=() named=()
+
+# Sets `commands` to their names.
+name_commands() {
+  local name
+  commands=()
+  while read -r name _; do commands+=("$name"); done <<<"$forms"
+  commands+=(help)
+}
+
+# Sets `takes` to the options of a command, each with the name of its value, `shown` to how each is named, and `required` to those that it can't do without.
+find_options() {
+  local name form word plain last=''
+  takes=()
+  shown=()
+  required=()
+  while read -r name form; do
+    if [ "$name" = "$1" ]; then break; fi
+  done <<<"$forms"
+  for word in $form; do
+    plain="${word#\[}"
+    plain="${plain%\]}"
+    case "$plain" in
+      --*)
+        last="$plain"
+        takes[$last]=''
+        shown+=("$last")
+        if [ "$plain" = "$word" ]; then required+=("$last"); fi
+        ;;
+      *) if [ "$word" != FILE ]; then takes[$last]="$plain"; fi ;;
+    esac
+  done
+}
+
+show_option() { echo "$1${takes[$1]:+ <${takes[$1]:-}>}"; }
+
+# The line of usage, which names the options that were used, where there are some.
+usage_line() {
+  local word line="canvas $command" names=" ${required[*]} "
+  if (($# == 0 && ${#shown[@]} > ${#required[@]})); then line+=" [OPTIONS]"; fi
+  for word in "${required[@]}"; do line+=" $(show_option "$word")"; done
+  for word in "$@"; do
+    if [ "$word" = FILE ] || [[ "$names" == *" $word "* ]]; then continue; fi
+    line+=" $(show_option "$word")"
+    names+="$word "
+  done
+  echo "$line <FILE>"
+}
+
+# Sets `fault` to what the program says of its words, with a line of usage where one is given.
+refuse_words() { fault="error: $1$newline$newline${2:+Usage: $2$newline$newline}For more information, try '--help'."; }
+
+# How alike two words are, by Jaro: sets `score`, of a thousand million.
+compare() {
+  local a="$1" b="$2" i j at=0 found=0 moved=0 reach taken=''
+  local -a ours=() theirs=()
+  reach=$(((${#a} > ${#b} ? ${#a} : ${#b}) / 2 - 1))
+  if ((reach < 0)); then reach=0; fi
+  for ((i = 0; i < ${#a}; i++)); do
+    for ((j = i > reach ? i - reach : 0; j < ${#b} && j <= i + reach; j++)); do
+      if [ "${a:i:1}" = "${b:j:1}" ] && [[ "$taken " != *" $j "* ]]; then
+        taken+=" $j"
+        ours+=("${a:i:1}")
+        break
+      fi
+    done
+  done
+  found="${#ours[@]}"
+  score=0
+  if ((found == 0)); then return 0; fi
+  for ((j = 0; j < ${#b}; j++)); do
+    if [[ "$taken " == *" $j "* ]]; then theirs+=("${b:j:1}"); fi
+  done
+  for ((at = 0; at < found; at++)); do
+    if [ "${ours[at]}" != "${theirs[at]}" ]; then moved=$((moved + 1)); fi
+  done
+  moved=$((moved / 2))
+  score=$((1000000000 * found / ${#a} / 3 + 1000000000 * found / ${#b} / 3 + 1000000000 * (found - moved) / found / 3))
+}
+
+# Sets `alike` to those of the names behind a word that are like it, the best last.
+find_alike() {
+  local word="$1" name at
+  local -a scores=()
+  alike=()
+  shift
+  for name in "$@"; do
+    compare "$word" "$name"
+    # seven tenths, which the program's rounding is a little above, count
+    if ((score < 699999990)); then continue; fi
+    for ((at = 0; at < ${#alike[@]} && scores[at] <= score; at++)); do :; done
+    alike=("${alike[@]:0:at}" "$name" "${alike[@]:at}")
+    scores=("${scores[@]:0:at}" "$score" "${scores[@]:at}")
+  done
+}
+
+refuse_command() {
+  local name names='' many=''
+  find_alike "$1" "${commands[@]}"
+  for name in "${alike[@]}"; do names+="${names:+, }'$name'"; done
+  if ((${#alike[@]} > 1)); then many=1; fi
+  if [ -n "$names" ]; then
+    if [ -n "$many" ]; then names="some similar subcommands exist: $names"; else names="a similar subcommand exists: $names"; fi
+  fi
+  refuse_words "unrecognized subcommand '$1'${names:+$newline$newline  tip: $names}" "canvas <COMMAND>"
+}
+
+# Refuses a call without a command.
+refuse_none() {
+  local IFS=,
+  local names="${commands[*]}"
+  refuse_words "'canvas' requires a subcommand but one was not provided$newline  [subcommands: ${names//,/, }]" "canvas <COMMAND>"
+}
+
+# Refuses an option in the place of a command.
+refuse_first() {
+  alike=()
+  if [[ "$1" == --* ]]; then find_alike "${1#--}" help version; fi
+  if ((${#alike[@]})); then
+    refuse_words "unexpected argument '$1' found$newline$newline  tip: a similar argument exists: '--${alike[-1]}'" "canvas --${alike[-1]} <COMMAND>"
+  else
+    refuse_words "unexpected argument '$1' found" "canvas <COMMAND>"
+  fi
+}
+
+# Refuses an option that the command doesn't have.
+refuse_option() {
+  local word="${1%%=*}" tip
+  shift
+  alike=()
+  case "$word" in
+    --*) find_alike "${word#--}" "${shown[@]#--}" help ;;
+  esac
+  if ((${#alike[@]})); then
+    tip="a similar argument exists: '--${alike[-1]}'"
+    if [ "${alike[-1]}" != help ]; then set -- "$@" "--${alike[-1]}"; fi
+  else
+    tip="to pass '$word' as a value, use '-- $word'"
+  fi
+  refuse_words "unexpected argument '$word' found$newline$newline  tip: $tip" "$(usage_line "$@")"
+}
+
+# Refuses the value of an option that takes a number, where it is none or out of bounds.
+refuse_number() {
+  local name="$1" value="$2" least=0 most=1000000
+  case "$name" in
+    --workers) least=1 most=16 ;;
+    --expires) least=1 most=1000000000 ;;
+    --broker-db | --backend-db) ;;
+    *) return 0 ;;
+  esac
+  case "$value" in
+    '') refuse_words "invalid value '' for '$(show_option "$name")': cannot parse integer from empty string" ;;
+    +*) ;;
+    *[!0-9]*) refuse_words "invalid value '$value' for '$(show_option "$name")': invalid digit found in string" ;;
+    *)
+      if ((${#value} > 20)) || [[ ${#value} = 20 && "$value" > 18446744073709551615 ]]; then
+        refuse_words "invalid value '$value' for '$(show_option "$name")': number too large to fit in target type"
+      elif ((${#value} < 16 && (10#$value < least || 10#$value > most))); then
+        refuse_words "invalid value '$value' for '$(show_option "$name")': $((10#$value)) is not in $least..=$most"
+      fi
+      ;;
+  esac
+}
+
+# Reads one word of a command's, with the value behind it where it takes one: sets `step` to how many words these are.
+read_option() {
+  local word="$1" name="${1%%=*}" value
+  step=1
+  case "$word" in
+    --help | -h*)
+      asks=help
+      return 0
+      ;;
+    --help=*)
+      refuse_words "unexpected value '${word#*=}' for '--help' found; no more were expected" "$(usage_line "${used[@]}" --help)"
+      return 0
+      ;;
+    --*) ;;
+    *)
+      refuse_option "$word"
+      return 0
+      ;;
+  esac
+  if [ -z "${takes[$name]+is an option}" ]; then
+    refuse_option "$word" "${used[@]}"
+    return 0
+  fi
+  if [ -n "${given[$name]+was given}" ] && [ "$name" != --task ]; then
+    refuse_words "the argument '$(show_option "$name")' cannot be used multiple times" "$(usage_line)"
+    return 0
+  fi
+  given[$name]=''
+  used+=("$name")
+  if [ -z "${takes[$name]}" ]; then
+    options+=("$word")
+    if [ "$word" != "$name" ]; then
+      refuse_words "unexpected value '${word#*=}' for '$name' found; no more were expected" "$(usage_line "${used[@]}")"
+    fi
+    return 0
+  fi
+  if [ "$word" = "$name" ]; then
+    value="${2-}"
+    step=2
+    if [[ "$value" == -[!-]* ]]; then
+      refuse_option "$value"
+      return 0
+    elif [[ "$value" == --?* ]] && [ -z "${takes[${value%%=*}]+is an option}" ] && [ "$value" != --help ]; then
+      refuse_option "$value" "${used[@]:0:${#used[@]}-1}"
+      return 0
+    elif [ $# -lt 2 ] || [[ "$value" == --?* ]]; then
+      refuse_words "a value is required for '$(show_option "$name")' but none was supplied"
+      return 0
+    fi
+    options+=("$word" "$value")
+  else
+    value="${word#*=}"
+    options+=("$word")
+  fi
+  given[$name]="$value"
+  if [ "$name" = --task ]; then tasks+=("$value"); fi
+  refuse_number "$name" "$value"
+}
+
+# Reads the words of a command up to the first that is a mistake.
+read_command() {
+  local word step ends=''
+  while (($#)) && [ -z "$fault$asks" ]; do
+    step=1
+    word="$1"
+    if [ "$word" = -- ] && [ -z "$ends" ]; then
+      ends=1
+    elif [ -z "$ends" ] && [[ "$word" == -?* ]]; then
+      read_option "$@"
+    elif ((${#files[@]})) && [ -z "$takes_many" ]; then
+      refuse_words "unexpected argument '$word' found" "$(usage_line)"
+    else
+      files+=("$word")
+      used+=(FILE)
+    fi
+    shift "$((step > $# ? $# : step))"
+  done
+}
+
+# Refuses a command that lacks an option, or its file.
+refuse_missing() {
+  local word lacks=''
+  for word in "${required[@]}"; do
+    if [ -z "${given[$word]+was given}" ]; then lacks+="$newline  $(show_option "$word")"; fi
+  done
+  if ((${#files[@]} == 0)); then lacks+="$newline  <FILE>"; fi
+  if [ -n "$lacks" ]; then
+    refuse_words "the following required arguments were not provided:$lacks" "$(usage_line "${used[@]}" FILE)"
+  fi
+}
+
+# Refuses a list of turns or of what is delivered again, or a run's number, that is none.
+refuse_lists() {
+  local number turns=",${given[--turns]:-}," workers="${given[--workers]:-1}" again="${given[--again]:-}"
+  if [ "$turns" != ,, ]; then
+    if ! [[ "$turns" =~ ^,([1-9][0-9]{0,9},)+$ ]]; then
+      fault="canvas: refused BadTurn"
+      return 0
+    fi
+    for number in ${turns//,/ }; do
+      if [[ "$workers" =~ ^[0-9]+$ ]] && ((number > 10#$workers)); then fault="canvas: refused BadTurn"; fi
+    done
+  fi
+  if [ -n "$fault" ]; then return 0; fi
+  if [ -n "$again" ] && ! [[ ",$again" =~ ^(,[1-9][0-9]{0,9}:(early|late))+$ ]]; then
+    fault="canvas: refused BadAgain"
+    return 0
+  fi
+  for number in ${again//,/ }; do
+    if ((${number%:*} > 4294967295)); then fault="canvas: refused BadAgain"; fi
+  done
+  if [ -n "$fault" ]; then return 0; fi
+  if [ -n "${takes[--run]:-}" ] && ! [[ "${given[--run]}" =~ ^[0-9a-f]{22}$ ]]; then
+    fault="canvas: refused BadRun"
+  fi
+}
+
+# Sets `why` to what is wrong with a text that says what a task answers, behind those of the names in `named`.
+judge_task() {
+  local text="$1" name="${1%%=*}" word="${1#*=}" digits LC_ALL=C
+  why=''
+  case "$text" in
+    '' | '#'*) return 0 ;;
+    *=*) ;;
+    *) why="NAME=WORD is wanted" && return 0 ;;
+  esac
+  if ! [[ "$name" =~ ^[!-~]{1,128}$ ]]; then why="a name is 1 to 128 bytes from ! to ~" && return 0; fi
+  case "$word" in
+    add | div | ident | log_error | mul | xsum | raise:TypeError | raise:ZeroDivisionError | raise:OverflowError | raise:NotRegistered) ;;
+    raise:*) why="an exception is TypeError, ZeroDivisionError, OverflowError or NotRegistered" && return 0 ;;
+    *)
+      digits="${word#[+-]}"
+      if ! [[ "$digits" =~ ^[0-9]+$ ]]; then why="a word is a whole number, raise:KIND, add, div, ident, log_error, mul or xsum" && return 0; fi
+      digits="${digits#"${digits%%[!0]*}"}"
+      if ((${#digits} > 19)) || [[ ${#digits} = 19 && "$digits" > 1152921504606846976 ]]; then why="a number past 2^60 on either side" && return 0; fi
+      ;;
+  esac
+  if [ -n "${named["=$name"]+is named}" ]; then
+    why="the name is there twice"
+  elif ((${#named[@]} >= 1024)); then
+    why="more than 1,024 names"
+  fi
+  named["=$name"]=''
+}
+
+# Refuses the first word that is to say what a task answers, and doesn't.
+refuse_tasks() {
+  local text
+  named=()
+  for text in "${tasks[@]}"; do
+    judge_task "$text"
+    if [ -n "$why" ]; then
+      fault="canvas: refused BadTask $text: $why"
+      return 0
+    fi
+  done
+}
+
+# Whether words are texts in UTF-8, where there is a locale to tell.
+are_texts() {
+  local LC_ALL=C.UTF-8 word
+  for word in "$@"; do
+    [[ "$word" =~ ^.*$ ]] || return 1
+  done
+}
+
+# Reads the words of a call. Sets `command`, `options` with their values, and `files`; `asks` where they ask for help or the version; and `fault` to
+# what the program says where they are a mistake. Where `takes_many` is set, a call may have several files.
+read_words() {
+  command="${1:-}"
+  files=()
+  options=()
+  used=()
+  tasks=()
+  given=()
+  fault=''
+  asks=''
+  name_commands
+  if ! are_texts "$@"; then
+    refuse_words "invalid UTF-8 was detected in one or more arguments" "canvas <COMMAND>"
+    return 0
+  fi
+  case "$command" in
+    '') if (($#)); then refuse_command ''; else refuse_none; fi ;;
+    help)
+      asks=help
+      if [ -n "${2:-}" ] && [[ " ${commands[*]} " != *" $2 "* ]]; then refuse_words "unrecognized subcommand '$2'" "canvas <COMMAND>"; fi
+      ;;
+    --help | -h*) asks=help ;;
+    --version | -V*) asks=version ;;
+    --)
+      if (($# == 1)); then
+        refuse_none
+      elif [[ " ${commands[*]} " == *" $2 "* ]]; then
+        refuse_words "unexpected argument '$2' found$newline$newline  tip: subcommand '$2' exists; to use it, remove the '--' before it" "canvas <COMMAND>"
+      else
+        refuse_command "$2"
+      fi
+      ;;
+    -?*) refuse_first "${command%%=*}" ;;
+    *)
+      if [[ " ${commands[*]} " != *" $command "* ]]; then
+        refuse_command "$command"
+        return 0
+      fi
+      find_options "$command"
+      read_command "${@:2}"
+      if [ -z "$fault$asks" ]; then refuse_missing; fi
+      if [ -z "$fault$asks" ]; then refuse_lists; fi
+      if [ -z "$fault$asks" ]; then refuse_tasks; fi
+      ;;
+  esac
+}
+
+# Keeps what standard input gives, in a file that no longer has a name: so it shows whether it is empty, and the program gets it all the same.
+# As much is read as the program reads.
+take_input() {
+  local file
+  if [ -n "$has_input" ]; then return 0; fi
+  file="$(mktemp)" || stop "there is no place for a temporary file"
+  has_input=unread
+  if head -c 1048577 >"$file" 2>/dev/null; then
+    has_input=empty
+    if [ -s "$file" ]; then has_input=text; fi
+  fi
+  exec <"$file"
+  rm -f -- "$file"
+}
+
+has_input=
+
+# Whether a file can't be read, as its name shows.
+is_unread() { [ ! -e "$1" ] || [ -d "$1" ] || [ ! -r "$1" ]; }
+
+# Sets `fault` to what the program says of a file with what tasks answer, and `is_unsure` where only the program tells: of standard input and the like, of long files,
+# and of a byte 0.
+read_tasks() {
+  local file="$1" line end=' ' at=0 bytes=0 LC_ALL=C
+  local -a lines=()
+  is_unsure=''
+  if [ "$file" != - ] && is_unread "$file"; then
+    fault="canvas: cannot read $file"
+  elif [ "$file" = - ] || [ ! -f "$file" ] || (($(wc -c <"$file") > 65536)); then
+    is_unsure=1
+  else
+    while IFS= read -r line || { end='' && [ -n "$line" ]; }; do
+      bytes=$((bytes + ${#line} + ${#end}))
+      if [ -n "$end" ]; then line="${line%$'\r'}"; fi
+      lines+=("$line")
+    done <"$file"
+    if ((bytes != $(wc -c <"$file"))); then
+      is_unsure=1
+    elif ! are_texts "${lines[@]}"; then
+      fault="canvas: cannot read $file"
+    fi
+  fi
+  named=()
+  for line in "${lines[@]}"; do
+    if [ -n "$fault$is_unsure" ]; then return 0; fi
+    at=$((at + 1))
+    judge_task "$line"
+    if [ -n "$why" ]; then fault="canvas: refused BadTask in line $at of $file: $why"; fi
+  done
+}
+
+# Sets `fault` to what the program says of a file that can't be read, or is empty, and of what tasks answer in another.
+read_file() {
+  local file="$1" is_empty='' is_unsure=''
+  fault=''
+  if [ "$file" = - ] && { [ "$command" = collect ] || [ "${given[--tasks]-}" = - ]; }; then
+    fault="canvas: cannot read -"
+    return 0
+  fi
+  if [ -n "${given[--tasks]+was given}" ]; then read_tasks "${given[--tasks]}"; fi
+  if [ -n "$fault$is_unsure" ]; then return 0; fi
+  if [ "$file" = - ]; then
+    take_input
+    case "$has_input" in
+      unread) fault="canvas: cannot read -" ;;
+      empty) is_empty=1 ;;
+    esac
+  elif is_unread "$file"; then
+    fault="canvas: cannot read $file"
+  elif [ -f "$file" ] && [ "$(head -c 1 -- "$file" | wc -c)" = 0 ]; then
+    is_empty=1
+  fi
+  if [ -n "$is_empty" ]; then refuse_empty; fi
+}
+
+# Sets `fault` to what the program says of an empty text.
+refuse_empty() {
+  local what="found no JSON (EOF while parsing), wanted one JSON text in UTF-8"
+  fault="canvas: refused 2 NotJson"
+  if [ "$command" = check ]; then
+    fault="invalid JSON at line 1 column 0$newline$what$newline$fault"
+  elif [ -n "${given[--json]+was given}" ]; then
+    fault="{\"code\":2,\"column\":0,\"line\":1,\"name\":\"NotJson\",\"note\":\"$what\",\"pointer\":null}"
+  fi
+}
