@@ -4,17 +4,17 @@
 newline=$'\n'
 
 # Each command with what it takes, in the order in which the program's help has them.
-forms="run FILE [--workers N] [--json] [--fail]
-turns FILE [--workers N] [--turns LIST] [--again LIST] [--json] [--fail]
+forms="run FILE [--workers N] [--task NAME=WORD] [--tasks FILE] [--json] [--fail]
+turns FILE [--workers N] [--turns LIST] [--again LIST] [--task NAME=WORD] [--tasks FILE] [--json] [--fail]
 normal FILE
-check FILE
-graph FILE [--run] [--workers N]
-messages FILE [--workers N] [--turns LIST]
+check FILE [--task NAME=WORD] [--tasks FILE]
+graph FILE [--run] [--workers N] [--task NAME=WORD] [--tasks FILE]
+messages FILE [--workers N] [--turns LIST] [--task NAME=WORD] [--tasks FILE]
 export FILE --run HEX22 [--queue NAME] [--prefix TEXT] [--expires SECONDS] [--broker-db N] [--backend-db N] [--without-script]
 keys FILE --run HEX22 [--prefix TEXT]
 collect FILE --run HEX22 [--complete] [--json]"
 
-declare -A takes=() given=()
+declare -A takes=() given=() named=()
 
 # Sets `commands` to their names.
 name_commands() {
@@ -37,14 +37,13 @@ find_options() {
     plain="${word#\[}"
     plain="${plain%\]}"
     case "$plain" in
-      FILE) ;;
       --*)
         last="$plain"
         takes[$last]=''
         shown+=("$last")
         if [ "$plain" = "$word" ]; then required+=("$last"); fi
         ;;
-      *) takes[$last]="$plain" ;;
+      *) if [ "$word" != FILE ]; then takes[$last]="$plain"; fi ;;
     esac
   done
 }
@@ -203,7 +202,7 @@ read_option() {
     refuse_option "$word" "${used[@]}"
     return 0
   fi
-  if [ -n "${given[$name]+was given}" ]; then
+  if [ -n "${given[$name]+was given}" ] && [ "$name" != --task ]; then
     refuse_words "the argument '$(show_option "$name")' cannot be used multiple times" "$(usage_line)"
     return 0
   fi
@@ -235,6 +234,7 @@ read_option() {
     options+=("$word")
   fi
   given[$name]="$value"
+  if [ "$name" = --task ]; then tasks+=("$value"); fi
   refuse_number "$name" "$value"
 }
 
@@ -296,6 +296,47 @@ refuse_lists() {
   fi
 }
 
+# Sets `why` to what is wrong with a text that says what a task answers, behind those of the names in `named`.
+judge_task() {
+  local text="$1" name="${1%%=*}" word="${1#*=}" digits LC_ALL=C
+  why=''
+  case "$text" in
+    '' | '#'*) return 0 ;;
+    *=*) ;;
+    *) why="NAME=WORD is wanted" && return 0 ;;
+  esac
+  if ! [[ "$name" =~ ^[!-~]{1,128}$ ]]; then why="a name is 1 to 128 bytes from ! to ~" && return 0; fi
+  case "$word" in
+    add | div | ident | log_error | mul | xsum | raise:TypeError | raise:ZeroDivisionError | raise:OverflowError | raise:NotRegistered) ;;
+    raise:*) why="an exception is TypeError, ZeroDivisionError, OverflowError or NotRegistered" && return 0 ;;
+    *)
+      digits="${word#[+-]}"
+      if ! [[ "$digits" =~ ^[0-9]+$ ]]; then why="a word is a whole number, raise:KIND, add, div, ident, log_error, mul or xsum" && return 0; fi
+      digits="${digits#"${digits%%[!0]*}"}"
+      if ((${#digits} > 19)) || [[ ${#digits} = 19 && "$digits" > 1152921504606846976 ]]; then why="a number past 2^60 on either side" && return 0; fi
+      ;;
+  esac
+  if [ -n "${named["=$name"]+is named}" ]; then
+    why="the name is there twice"
+  elif ((${#named[@]} >= 1024)); then
+    why="more than 1,024 names"
+  fi
+  named["=$name"]=''
+}
+
+# Refuses the first word that is to say what a task answers, and doesn't.
+refuse_tasks() {
+  local text
+  named=()
+  for text in "${tasks[@]}"; do
+    judge_task "$text"
+    if [ -n "$why" ]; then
+      fault="canvas: refused BadTask $text: $why"
+      return 0
+    fi
+  done
+}
+
 # Whether words are texts in UTF-8, where there is a locale to tell.
 are_texts() {
   local LC_ALL=C.UTF-8 word
@@ -311,6 +352,7 @@ read_words() {
   files=()
   options=()
   used=()
+  tasks=()
   given=()
   fault=''
   asks=''
@@ -346,6 +388,7 @@ read_words() {
       read_command "${@:2}"
       if [ -z "$fault$asks" ]; then refuse_missing; fi
       if [ -z "$fault$asks" ]; then refuse_lists; fi
+      if [ -z "$fault$asks" ]; then refuse_tasks; fi
       ;;
   esac
 }
@@ -367,20 +410,57 @@ take_input() {
 
 has_input=
 
-# Sets `fault` to what the program says of a file that can't be read, or is empty.
+# Whether a file can't be read, as its name shows.
+is_unread() { [ ! -e "$1" ] || [ -d "$1" ] || [ ! -r "$1" ]; }
+
+# Sets `fault` to what the program says of a file with what tasks answer, and `is_unsure` where only the program tells: of standard input and the like, of long files,
+# and of a byte 0.
+read_tasks() {
+  local file="$1" line end=' ' at=0 bytes=0 LC_ALL=C
+  local -a lines=()
+  is_unsure=''
+  if [ "$file" != - ] && is_unread "$file"; then
+    fault="canvas: cannot read $file"
+  elif [ "$file" = - ] || [ ! -f "$file" ] || (($(wc -c <"$file") > 65536)); then
+    is_unsure=1
+  else
+    while IFS= read -r line || { end='' && [ -n "$line" ]; }; do
+      bytes=$((bytes + ${#line} + ${#end}))
+      if [ -n "$end" ]; then line="${line%$'\r'}"; fi
+      lines+=("$line")
+    done <"$file"
+    if ((bytes != $(wc -c <"$file"))); then
+      is_unsure=1
+    elif ! are_texts "${lines[@]}"; then
+      fault="canvas: cannot read $file"
+    fi
+  fi
+  named=()
+  for line in "${lines[@]}"; do
+    if [ -n "$fault$is_unsure" ]; then return 0; fi
+    at=$((at + 1))
+    judge_task "$line"
+    if [ -n "$why" ]; then fault="canvas: refused BadTask in line $at of $file: $why"; fi
+  done
+}
+
+# Sets `fault` to what the program says of a file that can't be read, or is empty, and of what tasks answer in another.
 read_file() {
-  local file="$1" is_empty=''
+  local file="$1" is_empty='' is_unsure=''
   fault=''
-  if [ "$file" = - ] && [ "$command" = collect ]; then
+  if [ "$file" = - ] && { [ "$command" = collect ] || [ "${given[--tasks]-}" = - ]; }; then
     fault="canvas: cannot read -"
     return 0
-  elif [ "$file" = - ]; then
+  fi
+  if [ -n "${given[--tasks]+was given}" ]; then read_tasks "${given[--tasks]}"; fi
+  if [ -n "$fault$is_unsure" ]; then return 0; fi
+  if [ "$file" = - ]; then
     take_input
     case "$has_input" in
       unread) fault="canvas: cannot read -" ;;
       empty) is_empty=1 ;;
     esac
-  elif [ ! -e "$file" ] || [ -d "$file" ] || [ ! -r "$file" ]; then
+  elif is_unread "$file"; then
     fault="canvas: cannot read $file"
   elif [ -f "$file" ] && [ "$(head -c 1 -- "$file" | wc -c)" = 0 ]; then
     is_empty=1

@@ -15,6 +15,8 @@ pub(crate) enum Takes {
     /// Nothing: it is there or not.
     Nothing,
     Text(&'static str),
+    /// A text, as often as the argument is given.
+    Texts(&'static str),
     /// A whole number between two.
     Number(&'static str, u64, u64),
 }
@@ -71,6 +73,20 @@ pub(crate) const AGAIN: Argument = Argument {
     takes: Takes::Text("LIST"),
     given: Given::Maybe,
     help: "What is delivered again, as 1:early,3:late; standard error counts stores that answer Again",
+};
+
+pub(crate) const TASK: Argument = Argument {
+    name: "task",
+    takes: Takes::Texts("NAME=WORD"),
+    given: Given::Maybe,
+    help: "What a task answers: a number, raise:KIND, or as add, div, ident, log_error, mul or xsum does",
+};
+
+pub(crate) const TASKS: Argument = Argument {
+    name: "tasks",
+    takes: Takes::Text("FILE"),
+    given: Given::Maybe,
+    help: "The same for more tasks, one NAME=WORD a line; what --task says comes before it",
 };
 
 pub(crate) const JSON: Argument = Argument {
@@ -157,6 +173,10 @@ impl Argument {
             Takes::Word => argument,
             Takes::Nothing => argument.long(self.name).action(ArgAction::SetTrue),
             Takes::Text(value) => argument.long(self.name).value_name(value),
+            Takes::Texts(value) => argument
+                .long(self.name)
+                .value_name(value)
+                .action(ArgAction::Append),
             Takes::Number(value, least, most) => argument
                 .long(self.name)
                 .value_name(value)

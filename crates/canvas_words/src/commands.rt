@@ -2,7 +2,7 @@
 
 use crate::arguments::{
     AGAIN, Argument, BACKEND_DATABASE, BROKER_DATABASE, COMPLETE, EXPIRES, FAIL, FILE, FILE_ALONE,
-    JSON, PREFIX, QUEUE, RUN, STATES, TURNS, WITHOUT_SCRIPT, WORKERS, arguments_of,
+    JSON, PREFIX, QUEUE, RUN, STATES, TASK, TASKS, TURNS, WITHOUT_SCRIPT, WORKERS, arguments_of,
 };
 use clap::Command;
 use std::alloc::{AllocError, Global};
@@ -19,12 +19,12 @@ pub(crate) const COMMANDS: [Form; 9] = [
     Form {
         name: "run",
         about: "Runs a canvas and prints the state and result of each task",
-        arguments: &[FILE, WORKERS, JSON, FAIL],
+        arguments: &[FILE, WORKERS, TASK, TASKS, JSON, FAIL],
     },
     Form {
         name: "turns",
         about: "Runs a canvas with its workers taking turns by a list, and prints the same",
-        arguments: &[FILE, WORKERS, TURNS, AGAIN, JSON, FAIL],
+        arguments: &[FILE, WORKERS, TURNS, AGAIN, TASK, TASKS, JSON, FAIL],
     },
     Form {
         name: "normal",
@@ -34,17 +34,17 @@ pub(crate) const COMMANDS: [Form; 9] = [
     Form {
         name: "check",
         about: "Prints the figures of a canvas, or where it is refused and what is wanted there",
-        arguments: &[FILE],
+        arguments: &[FILE, TASK, TASKS],
     },
     Form {
         name: "graph",
         about: "Prints a canvas as a picture, in the language of Graphviz's `dot`",
-        arguments: &[FILE, STATES, WORKERS],
+        arguments: &[FILE, STATES, WORKERS, TASK, TASKS],
     },
     Form {
         name: "messages",
         about: "Prints each message that a run by turns publishes, as JSON with its three texts",
-        arguments: &[FILE, WORKERS, TURNS],
+        arguments: &[FILE, WORKERS, TURNS, TASK, TASKS],
     },
     Form {
         name: "export",

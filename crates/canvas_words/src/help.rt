@@ -23,6 +23,13 @@ The report stays as it is: a store of a message that was run before answers Agai
 and standard error says how many did. A list is written as one of turns is, and another is refused
 (BadAgain).
 
+`--task NAME=WORD` says what a task of that name answers to any call: a whole number, or
+`raise:KIND`, where KIND is TypeError, ZeroDivisionError, OverflowError or NotRegistered. With the
+word add, div, ident, log_error, mul or xsum it answers as tasks.add and so on. It may be given
+again, for another name; the name * stands for each name that no task has. `--tasks FILE` has more,
+one a line; an empty line, and one that begins with #, says nothing, and what `--task` says of a
+name comes first. Another word or name, or a name that is there twice, is refused (BadTask).
+
 The normal line of a canvas means the same as the canvas: some tasks, then at most one group or chord.
 A chain in a chain is flattened, and a group or chord that something follows is a chord whose body is
 all that follows.
