@@ -22,8 +22,8 @@ returns-in-Ok-run_stage-clause-ok g c =
     (subst (λ v. IsKeptWithin behaviour c.args.plan.now c.args.workers c.args.turns.now c.args.again.now c.args.steps c.args.keeps c.report_of.result.rows
     ended.repeats v.items) (sym c.into_sent.ensures) whole)
 
-pub returns-clause-err : goal.returns-clause-err
-returns-clause-err g c =
+pub returns-in-Err-clause-err : goal.returns-in-Err-clause-err
+returns-in-Err-clause-err g c =
     let behaviour = g.T.Tasks.behaviour c.args.tasks.now in
     let begun = c.in-Ok-new.stage in
     let ended = c.run_stage.new.stage in
