@@ -1,5 +1,5 @@
-//! Tests of the program by calls: readers and refusals that no run of it meets, tasks handed in,
-//! and traces. What it prints is tested in `program-tests`.
+//! Tests of the program by calls: readers and refusals that no run of it meets, and tasks handed
+//! in. What it prints is tested in `program-tests`.
 #![tactic(auto)]
 
 #[cfg(test)]
@@ -10,5 +10,3 @@ mod own_tasks;
 mod program;
 #[cfg(test)]
 mod refusals;
-#[cfg(test)]
-mod traces;

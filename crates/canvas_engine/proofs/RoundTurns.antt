@@ -7,18 +7,17 @@ use Rattle.std.proofs.lemmas.List.{take_all}
 use Rattle.canvas_task.specs.Apply.{Behaviour}
 use Rattle.canvas_semantics.specs.Line.{Line}
 use Rattle.canvas_runs.proofs.Sums.{total-append}
-use Rattle.canvas_turns.specs.Spending.{Entry}
 use Rattle.canvas_turns.specs.Turns.{Step, IsWorker, HasEnded, round, rounds, redelivers_one, redeliveries_in}
 use Rattle.canvas_turns.proofs.TurnEnds.{begins_list, begins_rotation, rounds_next}
 use Rattle.canvas_worker.specs.declared.cause.Cause.{Cause}
 use Rattle.canvas_worker.specs.declared.cause.Cause.TheVariants.{Memory, Stopped}
-use Rattle.canvas_engine.specs.steps.Stages.{Reached, HasReached, IsTurn, IsHalt, IsPartOfRound, IsHaltInRound, IsEarlyEnd, IsRunThrough}
+use Rattle.canvas_engine.specs.steps.Stages.{Given, Reached, HasReached, IsTurn, IsHalt, IsPartOfRound, IsHaltInRound, IsEarlyEnd, IsRunThrough}
 use Rattle.canvas_engine.specs.declared.stage.Stage.{Stage}
 
-module _ (behaviour : Behaviour) (l : Line) (n most : ℕ) (es : List Entry) (us : List ℕ) (xs : List Step) where
+module _ (behaviour : Behaviour) (l : Line) (n most : ℕ) (es : Given) (us : List ℕ) (xs : List Step) where
   -- one more turn of the round, which answered an ask or not
   abbrev OneTurn : Bool → ℕ → Stage → Stage → Type 0
-  OneTurn b p s s' = (n most : ℕ) (es : List Entry) (us : List ℕ) (xs : List Step) → Reached behaviour l n most es us xs s
+  OneTurn b p s s' = (n most : ℕ) (es : Given) (us : List ℕ) (xs : List Step) → Reached behaviour l n most es us xs s
       → IsTurn behaviour b l n most es us xs p s'
 
   turns_so : (i p : ℕ) → p ≡ suc i → (us ++ round i) ++ p ∷ [] ≡ us ++ round (suc i)
@@ -82,7 +81,7 @@ module _ (behaviour : Behaviour) (l : Line) (n most : ℕ) (es : List Entry) (us
 
 -- ---- a list of turns
 
-module _ (behaviour : Behaviour) (l : Line) (n most : ℕ) (es : List Entry) (ts : List ℕ) where
+module _ (behaviour : Behaviour) (l : Line) (n most : ℕ) (es : Given) (ts : List ℕ) where
   pub halt_in_list : (cause : Cause) (us rest : List ℕ) (s : Stage) → us ++ rest ≡ ts → IsHalt behaviour cause l n most es us s
       → IsEarlyEnd behaviour cause l n most es ts s
   halt_in_list Memory us rest s e halt = (halt.plan_is, inr halt)
@@ -110,9 +109,9 @@ module _ (behaviour : Behaviour) (l : Line) (n most : ℕ) (es : List Entry) (ts
   }
 
 -- a turn of the round
-pub one_more_turn : (behaviour : Behaviour) → (l : Line) (n most : ℕ) (es : List Entry) (us : List ℕ) (xs : List Step) (b t : Bool) (i steps : ℕ) (s s' : Stage)
+pub one_more_turn : (behaviour : Behaviour) → (l : Line) (n most : ℕ) (es : Given) (us : List ℕ) (xs : List Step) (b t : Bool) (i steps : ℕ) (s s' : Stage)
     → length xs + steps ≡ most + redeliveries_in xs → IsPartOfRound behaviour b l n most es us xs i steps s
-    → ((n most : ℕ) (es : List Entry) (us : List ℕ) (xs : List Step) → Reached behaviour l n most es us xs s → IsTurn behaviour t l n most es us xs (i + 1) s')
+    → ((n most : ℕ) (es : Given) (us : List ℕ) (xs : List Step) → Reached behaviour l n most es us xs s → IsTurn behaviour t l n most es us xs (i + 1) s')
     → IsPartOfRound behaviour (b || t) l n most es us xs (i + 1) steps s'
 one_more_turn behaviour l n most es us xs true true i steps s s' start part turn =
     step_of_round behaviour l n most es us xs true i (i + 1) (i + 1) steps s s' (omega arith) (omega arith) start part turn
@@ -125,20 +124,20 @@ one_more_turn behaviour l n most es us xs false false i steps s s' start part tu
 
 -- ---- what there is after a turn, whether it answered an ask or not
 
-pub turn_reached : (behaviour : Behaviour) → (b : Bool) (l : Line) (n most : ℕ) (es : List Entry) (us : List ℕ) (xs : List Step) (p : ℕ) (s : Stage)
+pub turn_reached : (behaviour : Behaviour) → (b : Bool) (l : Line) (n most : ℕ) (es : Given) (us : List ℕ) (xs : List Step) (p : ℕ) (s : Stage)
     → IsTurn behaviour b l n most es us xs p s → HasReached behaviour l n most es (us ++ p ∷ []) s
 turn_reached behaviour true l n most es us xs p s h = (xs ++ h.0, h.1)
 turn_reached behaviour false l n most es us xs p s h = (xs, h.1)
 
-pub list_more : (behaviour : Behaviour) → (b : Bool) (l : Line) (n most : ℕ) (es : List Entry) (ts : List ℕ) (i : ℕ) (s s' : Stage) → i < length ts
+pub list_more : (behaviour : Behaviour) → (b : Bool) (l : Line) (n most : ℕ) (es : Given) (ts : List ℕ) (i : ℕ) (s s' : Stage) → i < length ts
     → HasReached behaviour l n most es (take i ts) s
-    → ((n most : ℕ) (es : List Entry) (us : List ℕ) (xs : List Step) → Reached behaviour l n most es us xs s
+    → ((n most : ℕ) (es : Given) (us : List ℕ) (xs : List Step) → Reached behaviour l n most es us xs s
     → IsTurn behaviour b l n most es us xs (get_or ts i 0) s') → HasReached behaviour l n most es (take (i + 1) ts) s'
 list_more behaviour b l n most es ts i s s' h r turn =
     let next = turn_reached behaviour b l n most es (take i ts) r.0 (get_or ts i 0) s' (turn n most es (take i ts) r.0 r.1) in
     let up : suc i ≡ i + 1 = omega arith in
     subst (λ us. HasReached behaviour l n most es us s') (sym (take-suc ts i 0 h) ∙ ap (λ j. take j ts) up) next
 
-pub all_taken : (behaviour : Behaviour) → (l : Line) (n most : ℕ) (es : List Entry) (ts : List ℕ) (i : ℕ) (s : Stage) → length ts ≤ i
+pub all_taken : (behaviour : Behaviour) → (l : Line) (n most : ℕ) (es : Given) (ts : List ℕ) (i : ℕ) (s : Stage) → length ts ≤ i
     → HasReached behaviour l n most es (take i ts) s → HasReached behaviour l n most es ts s
 all_taken behaviour l n most es ts i s h r = subst (λ us. HasReached behaviour l n most es us s) (take_all i ts h) r

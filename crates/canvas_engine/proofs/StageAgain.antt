@@ -25,7 +25,7 @@ use Rattle.canvas_runs.specs.declared.when.When.{When}
 use Rattle.canvas_runs.specs.declared.when.When.TheVariants.{Early, Late}
 use Rattle.canvas_runs.proofs.Sums.{total-append}
 use Rattle.canvas_runs.proofs.MoreAsks.{by_append, scripts_append, held_append, asks_of_scripts}
-use Rattle.canvas_turns.specs.Spending.{Entry, TurnedAgain, wanted, spent, comes_to, message_in, point_of, point, answers_again, agains_in}
+use Rattle.canvas_turns.specs.Spending.{TurnedAgain, wanted, spent, comes_to, message_in, point_of, point, answers_again, agains_in}
 use Rattle.canvas_turns.specs.Turns.{Step, IsWorker, redelivery, Turned, all_taken, delivers_again, left, holds, holds_more, is_queued, redelivers_one}
 use Rattle.canvas_turns.proofs.Spending.{again_step, again_spend}
 use Rattle.canvas_turns.proofs.Turning.{queue_more, results_more, turned_append}
@@ -36,8 +36,11 @@ use Rattle.canvas_worker.specs.EnvelopeWorker.{enveloped, enveloped_by, no_tasks
 use Rattle.canvas_worker.specs.CorePast.{task_in}
 use Rattle.canvas_worker.specs.CoreState as standing
 use Rattle.canvas_worker.specs.CoreState.{Standing, Left, asked, task_of, point_in, point_at}
-use Rattle.canvas_engine.specs.steps.Stages.{AnswersNow, Stepped, store_answer, counted_on, Redelivers, IsCoreAt, LeadsTo, Reached, IsTurn}
+use Rattle.canvas_engine.specs.Traced.{sent_by, sent_after}
+use Rattle.canvas_engine.specs.steps.Noting.{Noted, kept}
+use Rattle.canvas_engine.specs.steps.Stages.{AnswersNow, Stepped, store_answer, counted_on, Redelivers, IsCoreAt, LeadsTo, Given, Reached, IsTurn}
 use Rattle.canvas_engine.specs.declared.stage.Stage.{Stage}
+use Rattle.canvas_engine.proofs.Sending.{sent_then, sent_too}
 use Rattle.canvas_engine.proofs.StageAsks.{stored_says}
 use Rattle.canvas_engine.proofs.StageSteps.{together, more_is, same_ask, worker_back, answered_so, stepped}
 
@@ -183,7 +186,7 @@ stood behaviour l n us xs s leads i c here own t gone = go gone.envelope
 
 -- ---- a turn
 
-module _ (behaviour : Behaviour) (l : Line) (n most : ℕ) (es : List Entry) (us : List ℕ) (xs : List Step) (s : Stage)
+module _ (behaviour : Behaviour) (l : Line) (n most : ℕ) (es : Given) (us : List ℕ) (xs : List Step) (s : Stage)
     (reached : Reached behaviour l n most es us xs s) (i : ℕ) (c : Standing) (here : slice_get s.cores.items i ≡ Some c) (own : IsWorker n (suc i)) where
   module _ (t : Stage) (gone : Redelivers c s t) (more : Bool) (told : asked c.left ≡ rest
       → more ≡ (is_queued t.queue || list_any (λ d. is_inside d.left) t.cores.items)) where
@@ -194,7 +197,7 @@ module _ (behaviour : Behaviour) (l : Line) (n most : ℕ) (es : List Entry) (us
         (put : (length s'.cores.items ≡ length t.cores.items)
         × ((j : ℕ) (e : Standing) → slice_get s'.cores.items j ≡ Some e → ((j ≡ i) × (e ≡ c')) ⊎ ((j ≡ i → ⊥) × (slice_get t.cores.items j ≡ Some e))))
         (fewer : t.steps ≡ suc s'.steps) (said : s'.repeats ≡ counted_on t.repeats (store_answer (held t.table) (asked c.left)))
-        (kept_so : s'.again.items ≡ t.again.items) where
+        (kept_so : s'.again.items ≡ t.again.items) (noted : Noted t.sent (sent_by (asked c.left)) s'.sent) where
       abbrev answer : Step
       answer = (suc i, (asked c.left, step.reply))
 
@@ -209,6 +212,16 @@ module _ (behaviour : Behaviour) (l : Line) (n most : ℕ) (es : List Entry) (us
           let whole = total-append (λ (y : Step). answers_again y.1.0 y.1.1) ys (answer ∷ []) in
           more_agains (agains_in ys) t.repeats s'.repeats (store_answer (held t.table) (asked c.left)) so_far said
           ∙ ap (min greatest_count) (omega (arith, whole, said_so))
+
+      keeps_so : s'.sent.keeps ≡ es.1
+      keeps_so = noted.0 ∙ ap (λ z. z.keeps) gone.sent ∙ reached.keeps
+
+      -- what is noted so far, where the steps so far sent what there was
+      sent_so : (ys : List Step) → sent_after l ys ≡ sent_after l xs → s'.sent.envelopes.items ≡ kept es.1 (sent_after l (ys ++ answer ∷ []))
+      sent_so ys same =
+          sent_then l ys answer es.1 t.sent s'.sent
+          (ap (λ z. z.keeps) gone.sent ∙ reached.keeps)
+          (ap (λ z. z.envelopes.items) gone.sent ∙ reached.sent ∙ ap (kept es.1) (sym same)) noted
 
       module _ (ys : List Step) (leads : LeadsTo behaviour l n us ys t) where
         told_so : asked c.left ≡ rest → more ≡ holds_more behaviour l n ys
@@ -230,8 +243,8 @@ module _ (behaviour : Behaviour) (l : Line) (n most : ℕ) (es : List Entry) (us
                 answer ∷ [],
                 record {
                   leads = leads_then xs leads;
-                  turned = subst (TurnedAgain behaviour l n [] es (us ++ suc i ∷ []) (xs ++ answer ∷ [])) (sym (kept_so ∙ a))
-                      (again_step behaviour l n es us xs s.again.items reached.turned (suc i) (asked c.left) step.reply
+                  turned = subst (TurnedAgain behaviour l n [] es.0 (us ++ suc i ∷ []) (xs ++ answer ∷ [])) (sym (kept_so ∙ a))
+                      (again_step behaviour l n es.0 us xs s.again.items reached.turned (suc i) (asked c.left) step.reply
                       (ap (λ z. wanted z s.again.items) (sym here_point) ∙ w)
                       (worker_back behaviour l n us xs t leads i c here_too step.reads_back) (same_ask behaviour l n us xs t leads i c here_too step.reads_back)
                       (answered_so behaviour l n us xs t leads i c here_too more (told_so xs leads) step.reply step.answers));
@@ -240,6 +253,8 @@ module _ (behaviour : Behaviour) (l : Line) (n most : ℕ) (es : List Entry) (us
                       let long = length-append xs (answer ∷ []) in
                       let few = total-append (λ (y : Step). redelivers_one y.1.0) xs (answer ∷ []) in
                       omega (arith, long, few, is_answer, reached.count, fewer, gone.others.2);
+                  keeps = keeps_so;
+                  sent = sent_so xs refl;
                 },
                 omega (arith, is_answer),
               )
@@ -255,9 +270,9 @@ module _ (behaviour : Behaviour) (l : Line) (n most : ℕ) (es : List Entry) (us
                 d ∷ answer ∷ [],
                 record {
                   leads = subst (λ zs. LeadsTo behaviour l n (us ++ suc i ∷ []) zs s') all (leads_then ys leads);
-                  turned = subst (TurnedAgain behaviour l n [] es (us ++ suc i ∷ []) (xs ++ d ∷ answer ∷ []))
+                  turned = subst (TurnedAgain behaviour l n [] es.0 (us ++ suc i ∷ []) (xs ++ d ∷ answer ∷ []))
                       (sym (kept_so ∙ a ∙ ap (λ z. spent z s.again.items) here_point))
-                      (again_spend behaviour l n es us xs s.again.items reached.turned (suc i) e (asked c.left) step.reply
+                      (again_spend behaviour l n es.0 us xs s.again.items reached.turned (suc i) e (asked c.left) step.reply
                       (ap (λ z. wanted z s.again.items) (sym here_point) ∙ w) own (sym (there.cores_are i c here).holds ∙ has)
                       (worker_back behaviour l n us ys t leads i c here_too step.reads_back) (same_ask behaviour l n us ys t leads i c here_too step.reads_back)
                       (answered_so behaviour l n us ys t leads i c here_too more (told_so ys leads) step.reply step.answers));
@@ -267,6 +282,8 @@ module _ (behaviour : Behaviour) (l : Line) (n most : ℕ) (es : List Entry) (us
                       let long = length-append xs (d ∷ answer ∷ []) in
                       let few = total-append (λ (y : Step). redelivers_one y.1.0) xs (d ∷ answer ∷ []) in
                       omega (arith, long, few, is_answer, reached.count, fewer, gone.others.2);
+                  keeps = keeps_so;
+                  sent = sent_so ys (sent_too l xs (suc i) e) ∙ ap (λ zs. kept es.1 (sent_after l zs)) all;
                 },
                 omega (arith, is_answer),
               )

@@ -9,7 +9,6 @@ use Rattle.canvas_backend.specs.Backend.{Results, store, part, read}
 use Rattle.canvas_backend.specs.Plain.{held}
 use Rattle.canvas_backend.specs.Roster.{Roster, roster_of}
 use Rattle.canvas_runs.specs.Core.{to_table, rest, end, ReadsBack, is_inside}
-use Rattle.canvas_turns.specs.Spending.{Entry}
 use Rattle.canvas_turns.specs.TurnLaws.{Answerable}
 use Rattle.canvas_turns.specs.Turns.{Step, IsWorker, HasEnded, results_after, results_next, is_queued}
 use Rattle.canvas_turns.proofs.TurnLaw.{next_answerable, held_range}
@@ -20,7 +19,9 @@ use Rattle.canvas_worker.specs.Books.{no_book}
 use Rattle.canvas_worker.specs.EnvelopeWorker.{enveloped_by, no_tasks}
 use Rattle.canvas_worker.specs.CoreState as standing
 use Rattle.canvas_worker.specs.CoreState.{Standing, asked}
-use Rattle.canvas_engine.specs.steps.Stages.{MayAsk, AreInRange, Stepped, IsTried, Tried, store_answer, counted_on, Redelivers, LeadsTo, Reached, HasReached, IsTurn, IsHalfway, IsStopped}
+use Rattle.canvas_engine.specs.Traced.{sent_by}
+use Rattle.canvas_engine.specs.steps.Noting.{Noted}
+use Rattle.canvas_engine.specs.steps.Stages.{MayAsk, AreInRange, Stepped, IsTried, Tried, store_answer, counted_on, Redelivers, LeadsTo, Given, Reached, HasReached, IsTurn, IsHalfway, IsStopped}
 use Rattle.canvas_engine.specs.declared.stage.Stage.{Stage}
 use Rattle.canvas_engine.proofs.StageAgain.{one_turn, stood}
 use Rattle.canvas_engine.proofs.StageSteps.{each_more, has_ended, not_ended, same_ask, more_is, turned_so}
@@ -58,7 +59,7 @@ same_core : (cores : List Standing) (i : ℕ) (c d : Standing) → slice_get cor
 same_core cores i c d e f = let both : Some c ≡ Some d = sym e ∙ f in cc
 
 abbrev pub HasTurn : (behaviour : Behaviour) → Line → ℕ → Stage → Type 0
-HasTurn behaviour l p s = (n : ℕ) × (most : ℕ) × (es : List Entry) × (us : List ℕ) × IsWorker n p × HasReached behaviour l n most es us s
+HasTurn behaviour l p s = (n : ℕ) × (most : ℕ) × (es : Given) × (us : List ℕ) × IsWorker n p × HasReached behaviour l n most es us s
 
 module _ (behaviour : Behaviour) (fits : AnswersInRange behaviour) (l : Line) (p : ℕ) (s : Stage) (turn : HasTurn behaviour l p s) where
   pub is_place : p - 1 < length s.cores.items
@@ -96,7 +97,7 @@ module _ (behaviour : Behaviour) (fits : AnswersInRange behaviour) (l : Line) (p
     pub has_open : is_inside core.left ≡ true → IsSome (standing.held core)
     has_open = (turn.5.1.leads.cores_are (p - 1) core here).has_one
 
-    module _ (n most : ℕ) (es : List Entry) (us : List ℕ) (xs : List Step) (reached : Reached behaviour l n most es us xs s) where
+    module _ (n most : ℕ) (es : Given) (us : List ℕ) (xs : List Step) (reached : Reached behaviour l n most es us xs s) where
       own : IsWorker n p
       own = (turn.4.0, omega (arith, turn.4.1, turn.5.1.leads.many, reached.leads.many))
 
@@ -125,9 +126,11 @@ module _ (behaviour : Behaviour) (fits : AnswersInRange behaviour) (l : Line) (p
                 many = leads.many;
                 cores_are = leads.cores_are;
               };
-              turned = again_skip behaviour l n es us xs s.again.items reached.turned p ended;
+              turned = again_skip behaviour l n es.0 us xs s.again.items reached.turned p ended;
               agains = reached.agains;
               count = reached.count;
+              keeps = reached.keeps;
+              sent = reached.sent;
             },
           )
 
@@ -164,13 +167,13 @@ module _ (behaviour : Behaviour) (fits : AnswersInRange behaviour) (l : Line) (p
         pub went : (s' : Stage) (core' : Standing) → Stepped behaviour more core t.queue t.table core' s'.queue s'.table
             → s'.cores.items ≡ slice_set t.cores.items (p - 1) core' → t.steps ≡ suc s'.steps
             → s'.repeats ≡ counted_on t.repeats (store_answer (held t.table) (asked core.left)) → s'.again.items ≡ t.again.items
-            → IsTurn behaviour true l n most es us xs p s'
-        went s' core' step put fewer said kept =
+            → Noted t.sent (sent_by (asked core.left)) s'.sent → IsTurn behaviour true l n most es us xs p s'
+        went s' core' step put fewer said kept noted =
             subst (λ q. IsTurn behaviour true l n most es us xs q s') same_number
             (one_turn behaviour l n most es us xs s reached (p - 1) core here own_place t gone more told s' core' step (
               ap length put ∙ put_length t.cores.items (p - 1) core',
               λ j e h. put_at t.cores.items (p - 1) core' j e (ap (λ cs. slice_get cs j) (sym put) ∙ h),
-            ) fewer said kept)
+            ) fewer said kept noted)
 
         pub halfway : (s' : Stage) → IsTried behaviour more core t.queue t.table s'.table → IsHalfway behaviour l n s'
         halfway s' tried = go (stood behaviour l n us xs s reached.leads (p - 1) core here own_place t gone) tried.1

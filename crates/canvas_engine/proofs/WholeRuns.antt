@@ -1,5 +1,5 @@
 -- A run from its first publish to its end, and the rows that it leaves.
-use Rattle.std.proofs.Common.{◌≡◌, ◌≤◌, ◌⊎◌, inl, inr, ℕ, zero, suc, All, List, [], ◌∷◌, ◌++◌, map, length, get_or, Some, None, Result, Ok, Err, OnOk, IfOk, IfErr, refl, sym, ap, ◌∙◌, subst, arith}
+use Rattle.std.proofs.Common.{◌≡◌, ◌≤◌, ◌⊎◌, inl, inr, ℕ, zero, suc, Bool, true, All, List, [], ◌∷◌, ◌++◌, map, length, get_or, Some, None, Result, Ok, Err, OnOk, IfOk, IfErr, refl, sym, ap, ◌∙◌, subst, append-nil, arith}
 use Rattle.std.specs.Prelude.{slice_get}
 use Rattle.std.proofs.lemmas.Bool.{false≢true}
 use Rattle.std.proofs.lemmas.Option.{slice_get_within}
@@ -28,8 +28,11 @@ use Rattle.canvas_worker.specs.CoreState.{Standing, begun}
 use Rattle.canvas_worker.specs.declared.cause.Cause.{Cause}
 use Rattle.canvas_worker.specs.declared.cause.Cause.TheVariants.{Memory, Stopped}
 use Rattle.canvas_engine.specs.Correct.{IsAsked, IsWholeRun, IsWholeWithin, IsWholeAgain, IsRunFault, IsFaultWithin}
-use Rattle.canvas_engine.specs.steps.AgainRuns.{IsAgainWithin, IsCutAgain, IsAgainFault}
-use Rattle.canvas_engine.specs.steps.Stages.{rows_of, IsNew, AreNew, IsCoreAt, Reached, IsHalfway, IsEarlyEnd, IsRunThrough}
+use Rattle.canvas_message.specs.declared.envelope.Envelope.{Envelope}
+use Rattle.canvas_engine.specs.Traced.{IsTraced, sent_after}
+use Rattle.canvas_engine.specs.steps.Noting.{Noted, kept}
+use Rattle.canvas_engine.specs.steps.AgainRuns.{IsAgainWithin, IsKeptWithin, IsCutAgain, IsAgainFault}
+use Rattle.canvas_engine.specs.steps.Stages.{rows_of, IsNew, AreNew, IsCoreAt, Given, Reached, IsHalfway, IsEarlyEnd, IsRunThrough}
 use Rattle.canvas_engine.specs.declared.report.Report.{Report}
 use Rattle.canvas_engine.specs.declared.fault.RunFault.{RunFault}
 use Rattle.canvas_engine.specs.declared.fault.RunFault.TheVariants.{BadWorkers, BadTurn, Halted}
@@ -55,8 +58,9 @@ new_core behaviour l cores new i c here =
 
 pub starts : (behaviour : Behaviour) → (l : Line) (n : ℕ) (old s : Stage) → IsPlan l → IsNew l n old → s.queue ≡ map sealed (first_messages l) → FirstsRead l
     → s.table ≡ old.table → s.cores ≡ old.cores → s.steps ≡ old.steps
-    → s.again ≡ old.again → s.repeats ≡ old.repeats → Reached behaviour l n old.steps old.again.items [] [] s
-starts behaviour l n old s plan new queue back table cores steps again repeats = record {
+    → s.again ≡ old.again → s.repeats ≡ old.repeats → Noted old.sent (map sealed (first_messages l)) s.sent
+    → Reached behaviour l n old.steps (old.again.items, old.sent.keeps) [] [] s
+starts behaviour l n old s plan new queue back table cores steps again repeats noted = record {
   leads = record {
     by_turns = record { plan = plan; opens_back = back; workers = tt; turned = all_taken };
     runs = λ p. tt;
@@ -69,23 +73,27 @@ starts behaviour l n old s plan new queue back table cores steps again repeats =
   turned = subst (λ es. TurnedAgain behaviour l n [] old.again.items [] [] es) (ap (λ v. v.items) (sym again)) no_turn;
   agains = repeats ∙ new.repeats_is;
   count = omega (arith, steps);
+  keeps = noted.0;
+  sent =
+      noted.1 ∙ ap (λ es. es ++ kept old.sent.keeps (map sealed (first_messages l))) new.sent_is
+      ∙ ap (kept old.sent.keeps) (sym (append-nil (map sealed (first_messages l))));
 }
 
 -- ---- how it ends
 
-pub ok_at : {E : Type 0} (r : Result (Unit {0}) E) (Q P : ℕ → List Entry → Type 0) (m : ℕ) (es : List Entry) → Q m es
-    → OnOk r ((k : ℕ) (ds : List Entry) → Q k ds → P k ds) → OnOk r (P m es)
+pub ok_at : {E : Type 0} (r : Result (Unit {0}) E) (Q P : ℕ → Given → Type 0) (m : ℕ) (es : Given) → Q m es
+    → OnOk r ((k : ℕ) (ds : Given) → Q k ds → P k ds) → OnOk r (P m es)
 ok_at (Ok u) Q P m es q h = h m es q
 ok_at (Err e) Q P m es q h = tt
 
-pub err_at : {T : Type 0} (r : Result T Cause) (Q : ℕ → List Entry → Type 0) (P : Cause → ℕ → List Entry → Type 0) (m : ℕ) (es : List Entry) → Q m es
-    → IfErr r (λ cause. (k : ℕ) (ds : List Entry) → Q k ds → P cause k ds) → IfErr r (λ cause. P cause m es)
+pub err_at : {T : Type 0} (r : Result T Cause) (Q : ℕ → Given → Type 0) (P : Cause → ℕ → Given → Type 0) (m : ℕ) (es : Given) → Q m es
+    → IfErr r (λ cause. (k : ℕ) (ds : Given) → Q k ds → P cause k ds) → IfErr r (λ cause. P cause m es)
 err_at (Ok u) Q P m es q h = tt
 err_at (Err e) Q P m es q h = h m es q
 
-module _ (behaviour : Behaviour) (l : Line) (n most : ℕ) (ts : List ℕ) (es : List Entry) (rows : List State) (s : Stage)
+module _ (behaviour : Behaviour) (l : Line) (n most : ℕ) (ts : List ℕ) (es : List Entry) (keeps : Bool) (rows : List State) (s : Stage)
     (are : rows ≡ rows_of (count_line l) (held s.table)) where
-  pub whole_rows : 1 ≤ n → length es ≤ greatest_count → IsRunThrough behaviour l n most es ts s → IsAgainWithin behaviour l n ts es most rows s.repeats
+  pub whole_rows : 1 ≤ n → length es ≤ greatest_count → IsRunThrough behaviour l n most (es, keeps) ts s → IsAgainWithin behaviour l n ts es most rows s.repeats
   whole_rows some fits done =
       let reached = done.reached in
       let by_turns = reached.leads.by_turns in
@@ -114,11 +122,16 @@ module _ (behaviour : Behaviour) (l : Line) (n most : ℕ) (ts : List ℕ) (es :
         omega (arith, reached.count),
       )
 
+  pub kept_rows : 1 ≤ n → length es ≤ greatest_count → IsRunThrough behaviour l n most (es, keeps) ts s
+      → IsKeptWithin behaviour l n ts es most keeps rows s.repeats s.sent.envelopes.items
+  unfolding whole_rows
+  kept_rows some fits done = (whole_rows some fits done, done.reached.sent)
+
   none_yet : (f : ℕ → State) (ks : List ℕ) → EachMay (map (λ k. None) ks) (map f ks)
   none_yet f [] = tt
   none_yet f (k ∷ ks) = (inl refl, none_yet f ks)
 
-  pub halted_rows : IsPlan l → IsEarlyEnd behaviour Memory l n most es ts s → EachMay rows (states behaviour (tree_of l))
+  pub halted_rows : IsPlan l → IsEarlyEnd behaviour Memory l n most (es, keeps) ts s → EachMay rows (states behaviour (tree_of l))
   halted_rows plan ended = go ended.1
     where
       go : (held s.table ≡ no_results) ⊎ IsHalfway behaviour l n s → EachMay rows (states behaviour (tree_of l))
@@ -128,7 +141,7 @@ module _ (behaviour : Behaviour) (l : Line) (n most : ℕ) (ts : List ℕ) (es :
       go (inr half) = subst (λ rs. EachMay rs (states behaviour (tree_of l))) (ap (rows_of (count_line l)) (sym half.table_is) ∙ sym are)
           (states_may behaviour l n half.turns half.steps half.by_turns)
 
-  pub cut_rows : IsEarlyEnd behaviour Stopped l n most es ts s → IsCutAgain behaviour l n ts es most rows
+  pub cut_rows : IsEarlyEnd behaviour Stopped l n most (es, keeps) ts s → IsCutAgain behaviour l n ts es most rows
   cut_rows ended =
       let stopped = ended.2 in
       let reached = stopped.reached in
@@ -148,7 +161,7 @@ module _ (behaviour : Behaviour) (l : Line) (n most : ℕ) (ts : List ℕ) (es :
         may = subst (λ rs. EachMay rs (states behaviour (tree_of l))) (sym same) (states_may behaviour l n ended.0 stopped.steps by_turns);
       }
 
-  pub early_fault : (cause : Cause) (report : Report) → report.rows ≡ rows → IsPlan l → IsAsked n ts → IsEarlyEnd behaviour cause l n most es ts s
+  pub early_fault : (cause : Cause) (report : Report) → report.rows ≡ rows → IsPlan l → IsAsked n ts → IsEarlyEnd behaviour cause l n most (es, keeps) ts s
       → IsAgainFault behaviour l n ts es most (Halted cause (Some report))
   early_fault Memory report is plan asked ended = (asked, subst (λ rs. EachMay rs (states behaviour (tree_of l))) (sym is) (halted_rows plan ended))
   early_fault Stopped report is plan asked ended = (asked, subst (IsCutAgain behaviour l n ts es most) (sym is) (cut_rows ended))
@@ -169,12 +182,6 @@ pub never_stopped_in : (behaviour : Behaviour) → {T : Type 0} (l : Line) (n mo
     → IfErr r (IsRunFault n ts (states behaviour (tree_of l)))
 never_stopped_in behaviour l n most ts es (Ok x) e h = tt
 never_stopped_in behaviour l n most ts es (Err f) e h = never_stopped behaviour l n most ts es f e h
-
-pub again_ok : (behaviour : Behaviour) (l : Line) (n most : ℕ) (ts : List ℕ) (es : List Entry) (r : Result (Report × ℕ) RunFault)
-    → IfOk r (λ x. IsAsked n ts × IsAgainWithin behaviour l n ts es most x.0.rows x.1)
-    → IfOk r (λ x. IsAsked n ts × IsWholeAgain behaviour l n ts es x.0.rows x.1)
-again_ok behaviour l n most ts es (Ok x) h = (h.0, h.1.0)
-again_ok behaviour l n most ts es (Err f) h = tt
 
 -- ---- without entries
 
@@ -198,6 +205,11 @@ plain_run behaviour l n ts rows m whole = record {
   rows_held = whole.rows_held;
   are = whole.are;
 }
+
+pub traced_run : (behaviour : Behaviour) (l : Line) (n most : ℕ) (ts : List ℕ) (rows : List State) (m : ℕ) (sent : List Envelope)
+    → IsKeptWithin behaviour l n ts [] most true rows m sent → IsTraced behaviour l n ts rows sent
+unfolding plain_run
+traced_run behaviour l n most ts rows m sent (within, are) = record { whole = plain_run behaviour l n ts rows m within.0; sent_are = are }
 
 pub plain_within : (behaviour : Behaviour) (l : Line) (n most : ℕ) (ts : List ℕ) (rows : List State) (m : ℕ) → IsAgainWithin behaviour l n ts [] most rows m
     → IsWholeWithin behaviour l n ts most rows

@@ -1,4 +1,5 @@
 pub mod Correct
+pub mod Traced
 pub mod Evidence
 pub mod Headline
 pub mod CommaList

@@ -1,3 +1,4 @@
+pub mod Noting
 pub mod Stages
 pub mod AgainRuns
 pub mod ReportRows

@@ -10,7 +10,6 @@ ghost use Rattle.canvas_backend.specs.Roster.{roster_of};
 ghost use Rattle.canvas_runs.specs.Core.{end, rest, ReadsBack, is_inside};
 ghost use Rattle.canvas_runs.specs.Tally.{greatest_count};
 ghost use Rattle.canvas_runs.specs.Worker.{sealed};
-ghost use Rattle.canvas_turns.specs.Spending.{Entry};
 ghost use Rattle.canvas_turns.specs.Turns.{Step, IsWorker, FirstsRead, is_queued};
 ghost use Rattle.canvas_worker.specs.Asks.{shown};
 ghost use Rattle.canvas_worker.specs.Books.{no_book};
@@ -18,14 +17,17 @@ ghost use Rattle.canvas_worker.specs.EnvelopeWorker.{enveloped_by, no_tasks};
 ghost use Rattle.canvas_worker.specs.CoreState as standing;
 ghost use Rattle.canvas_worker.specs.CoreState.{Standing, asked};
 ghost use Rattle.canvas_worker.specs.declared.ask.Ask.TheVariants as ask;
-ghost use Rattle.canvas_engine.specs.steps.Stages.{rows_of, MayAsk, AreInRange, Stepped, IsTried, store_answer, counted_on, Redelivers, AreNew, Reached, HasReached, IsTurn, IsHalt, IsNew};
+ghost use Rattle.canvas_engine.specs.Traced.{sent_by};
+ghost use Rattle.canvas_engine.specs.steps.Noting.{Noted};
+ghost use Rattle.canvas_engine.specs.steps.Stages.{rows_of, MayAsk, AreInRange, Stepped, IsTried, store_answer, counted_on, Redelivers, AreNew, Given, Reached, HasReached, IsTurn, IsHalt, IsNew};
 
 use crate::Cause;
 use crate::entries::first_for;
 use crate::firsts::first_envelopes;
+use crate::sent::Sent;
 use canvas_backend::{PlainBackend, Stored};
 use canvas_broker::PlainBroker;
-use canvas_message::Letter;
+use canvas_message::{Envelope, Letter};
 use canvas_rewrite::Plan;
 use canvas_task::{Memory, Outcome, TaskNo, Tasks};
 use canvas_worker::{Ask, Core, Reply, When};
@@ -37,20 +39,25 @@ fn publish<T: Tasks>(
     core: &mut Core,
     queue: &mut PlainBroker,
     table: &PlainBackend,
+    sent: &mut Sent,
     tasks: &T,
 ) -> Result<(), Memory>
     requires inside { core.old.is_out ≡ false }
     requires reads_back { ReadsBack (enveloped_by no_tasks no_book) core.old.left }
     requires asks { shown core.old.task (asked core.old.left) ≡ ask.Publish }
-    ensures { OnOk result ((more : Bool)
+    ensures ok { OnOk result ((more : Bool)
         → Stepped (T.behaviour tasks.now) more core.old queue.old table.now core.new queue.new
         table.now) }
+    ensures sent { OnOk result (Noted sent.old (sent_by (asked core.old.left)) sent.new) }
 {
     match core.envelope() {
-        Some(envelope) => match queue.publish(envelope) {
-            Ok(()) => core.answer(alloc, table.roster(), tasks, Reply::Published),
-            Err(_refused) => Err(Memory),
-        },
+        Some(envelope) => {
+            sent.note(&envelope)?;
+            match queue.publish(envelope) {
+                Ok(()) => core.answer(alloc, table.roster(), tasks, Reply::Published),
+                Err(_refused) => Err(Memory),
+            }
+        }
         None => unreachable!(),
     }
 }
@@ -66,13 +73,14 @@ fn count_again(repeats: u64, stored: Stored) -> u64
 }
 
 /// One ask of a worker, answered by the queue and the table. A worker that rests is told whether
-/// there is more. A store that answers Again is counted.
+/// there is more. A store that answers Again is counted, and a publish noted.
 fn step<T: Tasks>(
     alloc: Global,
     core: &mut Core,
     queue: &mut PlainBroker,
     table: &mut PlainBackend,
     repeats: &mut u64,
+    sent: &mut Sent,
     tasks: &T,
     more: bool,
 ) -> Result<(), Memory>
@@ -82,6 +90,7 @@ fn step<T: Tasks>(
     requires going { asked core.old.left ≡ end → ⊥ }
     ensures ok { OnOk result (Stepped (T.behaviour tasks.now) more core.old queue.old table.old
         core.new queue.new table.new) }
+    ensures sent { OnOk result (Noted sent.old (sent_by (asked core.old.left)) sent.new) }
     ensures again { repeats.new
         ≡ counted_on repeats.old (store_answer (held table.old) (asked core.old.left)) }
     ensures err { OnErr result
@@ -89,7 +98,7 @@ fn step<T: Tasks>(
 {
     match core.next() {
         Ask::Take => core.answer(alloc, table.roster(), tasks, Reply::Taken(queue.take())),
-        Ask::Publish => publish(alloc, core, queue, table, tasks),
+        Ask::Publish => publish(alloc, core, queue, table, sent, tasks),
         Ask::Store(task, outcome) => {
             let stored = table.store(task, &outcome);
             *repeats = count_again(*repeats, stored);
@@ -160,6 +169,7 @@ pub(crate) struct Stage {
     again: Vec<(TaskNo, When)>,
     /// How many stores have answered Again.
     repeats: u64,
+    sent: Sent,
 }
 
 /// Workers that have asked for nothing yet.
@@ -187,10 +197,12 @@ impl Stage {
         workers: u32,
         again: &[(TaskNo, When)],
         steps: u128,
+        keeps: bool,
     ) -> Result<Stage, Memory>
         ensures new { IfOk result (λ s. IsNew plan.now workers s) }
         ensures steps { IfOk result (λ s. s.steps ≡ steps) }
         ensures again { IfOk result (λ s. s.again.items ≡ again.now) }
+        ensures keeps { IfOk result (λ s. s.sent.keeps ≡ keeps) }
         ensures few { OnOk result (length again.now ≤ greatest_count) }
     {
         let cores = new_cores(alloc, workers)?;
@@ -203,6 +215,7 @@ impl Stage {
             steps,
             again,
             repeats: 0,
+            sent: Sent::new(alloc, keeps),
         })
     }
 
@@ -215,9 +228,14 @@ impl Stage {
             × (self.new.steps ≡ self.old.steps) }
         ensures entries { (self.new.again ≡ self.old.again)
             × (self.new.repeats ≡ self.old.repeats) }
+        ensures sent { OnOk result
+            (Noted self.old.sent (map sealed (first_messages plan.now)) self.new.sent) }
     {
         match first_envelopes(alloc, plan) {
-            Ok(envelopes) => publish_all(&mut self.queue, envelopes),
+            Ok(envelopes) => {
+                self.sent.note_all(&envelopes)?;
+                publish_all(&mut self.queue, envelopes)
+            }
             Err(Memory) => Err(Memory),
         }
     }
@@ -283,6 +301,13 @@ impl Stage {
         self.repeats
     }
 
+    /// What was published, where it was to be kept.
+    pub(crate) fn into_sent(self) -> Vec<Envelope>
+        ensures { result ≡ self.sent.envelopes }
+    {
+        self.sent.into_envelopes()
+    }
+
     /// A worker's turn: one ask of it is answered, unless it is at its end. Whether one was. An
     /// entry for the point to which it has come is spent before.
     pub(crate) fn turn<T: Tasks>(
@@ -292,14 +317,14 @@ impl Stage {
         tasks: &T,
         worker: u32,
     ) -> Result<bool, Cause>
-        requires { (n : ℕ) × (most : ℕ) × (es : List Entry) × (us : List ℕ) × IsWorker n worker
-            × HasReached (T.behaviour tasks.now) plan.now n most es us self.old }
-        ensures ok { IfOk result (λ b. (n : ℕ) (most : ℕ) (es : List Entry) (us : List ℕ)
-            (xs : List Step) → Reached (T.behaviour tasks.now) plan.now n most es us xs self.old
-            → IsTurn (T.behaviour tasks.now) b plan.now n most es us xs worker self.new) }
-        ensures err { IfErr result (λ cause. (n : ℕ) (most : ℕ) (es : List Entry) (us : List ℕ)
-            (xs : List Step) → Reached (T.behaviour tasks.now) plan.now n most es us xs self.old
-            → IsHalt (T.behaviour tasks.now) cause plan.now n most es us self.new) }
+        requires { (n : ℕ) × (most : ℕ) × (given : Given) × (us : List ℕ) × IsWorker n worker
+            × HasReached (T.behaviour tasks.now) plan.now n most given us self.old }
+        ensures ok { IfOk result (λ b. (n : ℕ) (most : ℕ) (given : Given) (us : List ℕ)
+            (xs : List Step) → Reached (T.behaviour tasks.now) plan.now n most given us xs self.old
+            → IsTurn (T.behaviour tasks.now) b plan.now n most given us xs worker self.new) }
+        ensures err { IfErr result (λ cause. (n : ℕ) (most : ℕ) (given : Given) (us : List ℕ)
+            (xs : List Step) → Reached (T.behaviour tasks.now) plan.now n most given us xs self.old
+            → IsHalt (T.behaviour tasks.now) cause plan.now n most given us self.new) }
     {
         let index = worker as usize - 1;
         if has_ended(&self.cores[index]) {
@@ -319,6 +344,7 @@ impl Stage {
             &mut self.queue,
             &mut self.table,
             &mut self.repeats,
+            &mut self.sent,
             tasks,
             more,
         ) {

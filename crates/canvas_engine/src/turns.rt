@@ -7,15 +7,16 @@ ghost use Rattle.canvas_backend.specs.Backend.{no_results};
 ghost use Rattle.canvas_backend.specs.Plain.{held};
 ghost use Rattle.canvas_backend.specs.Roster.{roster_of};
 ghost use Rattle.canvas_turns.specs.Going.{most_steps};
-ghost use Rattle.canvas_turns.specs.Spending.{Entry};
 ghost use Rattle.canvas_turns.specs.Turns.{Step, IsWorker};
 ghost use Rattle.canvas_engine.specs.Correct.{AreWorkers, AreTurns, IsAsked, IsWholeRun, IsWholeWithin, IsWholeAgain, IsRunFault, IsFaultWithin};
-ghost use Rattle.canvas_engine.specs.steps.AgainRuns.{IsAgainWithin, IsAgainFault};
-ghost use Rattle.canvas_engine.specs.steps.Stages.{rows_of, Reached, HasReached, IsNew, IsPartOfRound, IsHaltInRound, IsRunThrough, IsEarlyEnd};
+ghost use Rattle.canvas_engine.specs.Traced.{IsTraced};
+ghost use Rattle.canvas_engine.specs.steps.AgainRuns.{IsKeptWithin, IsAgainFault};
+ghost use Rattle.canvas_engine.specs.steps.Stages.{rows_of, Given, Reached, HasReached, IsNew, IsPartOfRound, IsHaltInRound, IsRunThrough, IsEarlyEnd};
 
 use crate::fault::MOST_WORKERS;
 use crate::stage::Stage;
 use crate::{Cause, Report, RunFault};
+use canvas_message::Envelope;
 use canvas_rewrite::Plan;
 use canvas_task::{Fault, ListOf, Memory, Outcome, TaskNo, Tasks};
 use canvas_worker::When;
@@ -29,15 +30,15 @@ fn run_round<T: Tasks>(
     tasks: &T,
     workers: u32,
 ) -> Result<bool, Cause>
-    requires { (most : ℕ) × (es : List Entry) × (us : List ℕ)
-        × HasReached (T.behaviour tasks.now) plan.now workers most es us stage.old }
-    ensures ok { IfOk result (λ b. (most : ℕ) (es : List Entry) (us : List ℕ) (xs : List Step)
-        → Reached (T.behaviour tasks.now) plan.now workers most es us xs stage.old
-        → IsPartOfRound (T.behaviour tasks.now) b plan.now workers most es us xs workers
+    requires { (most : ℕ) × (given : Given) × (us : List ℕ)
+        × HasReached (T.behaviour tasks.now) plan.now workers most given us stage.old }
+    ensures ok { IfOk result (λ b. (most : ℕ) (given : Given) (us : List ℕ) (xs : List Step)
+        → Reached (T.behaviour tasks.now) plan.now workers most given us xs stage.old
+        → IsPartOfRound (T.behaviour tasks.now) b plan.now workers most given us xs workers
         stage.old.steps stage.new) }
-    ensures err { IfErr result (λ cause. (most : ℕ) (es : List Entry) (us : List ℕ) (xs : List Step)
-        → Reached (T.behaviour tasks.now) plan.now workers most es us xs stage.old
-        → IsHaltInRound (T.behaviour tasks.now) cause plan.now workers most es us stage.new) }
+    ensures err { IfErr result (λ cause. (most : ℕ) (given : Given) (us : List ℕ) (xs : List Step)
+        → Reached (T.behaviour tasks.now) plan.now workers most given us xs stage.old
+        → IsHaltInRound (T.behaviour tasks.now) cause plan.now workers most given us stage.new) }
 {
     let mut answered = false;
     for index in 0..workers {
@@ -58,15 +59,15 @@ fn run_list<T: Tasks>(
     workers: u32,
     turns: &[u32],
 ) -> Result<(), Cause>
-    requires reached { (most : ℕ) × (es : List Entry)
-        × Reached (T.behaviour tasks.now) plan.now workers most es [] [] stage.old }
+    requires reached { (most : ℕ) × (given : Given)
+        × Reached (T.behaviour tasks.now) plan.now workers most given [] [] stage.old }
     requires turns { AreTurns workers turns.now }
-    ensures ok { OnOk result ((most : ℕ) (es : List Entry)
-        → Reached (T.behaviour tasks.now) plan.now workers most es [] [] stage.old
-        → HasReached (T.behaviour tasks.now) plan.now workers most es turns.now stage.new) }
-    ensures err { IfErr result (λ cause. (most : ℕ) (es : List Entry)
-        → Reached (T.behaviour tasks.now) plan.now workers most es [] [] stage.old
-        → IsEarlyEnd (T.behaviour tasks.now) cause plan.now workers most es turns.now stage.new) }
+    ensures ok { OnOk result ((most : ℕ) (given : Given)
+        → Reached (T.behaviour tasks.now) plan.now workers most given [] [] stage.old
+        → HasReached (T.behaviour tasks.now) plan.now workers most given turns.now stage.new) }
+    ensures err { IfErr result (λ cause. (most : ℕ) (given : Given)
+        → Reached (T.behaviour tasks.now) plan.now workers most given [] [] stage.old
+        → IsEarlyEnd (T.behaviour tasks.now) cause plan.now workers most given turns.now stage.new) }
 {
     for worker in turns {
         match stage.turn(alloc, plan, tasks, *worker) {
@@ -86,14 +87,14 @@ fn run_rounds<T: Tasks>(
     workers: u32,
     turns: &[u32],
 ) -> Result<(), Cause>
-    requires { (most : ℕ) × (es : List Entry)
-        × HasReached (T.behaviour tasks.now) plan.now workers most es turns.now stage.old }
-    ensures ok { OnOk result ((most : ℕ) (es : List Entry)
-        → HasReached (T.behaviour tasks.now) plan.now workers most es turns.now stage.old
-        → IsRunThrough (T.behaviour tasks.now) plan.now workers most es turns.now stage.new) }
-    ensures err { IfErr result (λ cause. (most : ℕ) (es : List Entry)
-        → HasReached (T.behaviour tasks.now) plan.now workers most es turns.now stage.old
-        → IsEarlyEnd (T.behaviour tasks.now) cause plan.now workers most es turns.now stage.new) }
+    requires { (most : ℕ) × (given : Given)
+        × HasReached (T.behaviour tasks.now) plan.now workers most given turns.now stage.old }
+    ensures ok { OnOk result ((most : ℕ) (given : Given)
+        → HasReached (T.behaviour tasks.now) plan.now workers most given turns.now stage.old
+        → IsRunThrough (T.behaviour tasks.now) plan.now workers most given turns.now stage.new) }
+    ensures err { IfErr result (λ cause. (most : ℕ) (given : Given)
+        → HasReached (T.behaviour tasks.now) plan.now workers most given turns.now stage.old
+        → IsEarlyEnd (T.behaviour tasks.now) cause plan.now workers most given turns.now stage.new) }
 {
     loop {
         match run_round(alloc, stage, plan, tasks, workers) {
@@ -117,9 +118,9 @@ fn run_stage<T: Tasks>(
     requires new { IsNew plan.now workers stage.old }
     requires turns { AreTurns workers turns.now }
     ensures ok { OnOk result (IsRunThrough (T.behaviour tasks.now) plan.now workers stage.old.steps
-        stage.old.again.items turns.now stage.new) }
+        (stage.old.again.items, stage.old.sent.keeps) turns.now stage.new) }
     ensures err { IfErr result (λ cause. IsEarlyEnd (T.behaviour tasks.now) cause plan.now workers
-        stage.old.steps stage.old.again.items turns.now stage.new) }
+        stage.old.steps (stage.old.again.items, stage.old.sent.keeps) turns.now stage.new) }
 {
     match stage.open(alloc, plan) {
         Ok(()) => match run_list(alloc, stage, plan, tasks, workers, turns) {
@@ -154,8 +155,16 @@ fn report_of(stage: &Stage, plan: &Plan, rows: Vec<Option<Outcome>>) -> Report
     }
 }
 
-/// Runs a plan, at most so many asks being answered. With the report it tells how many stores
-/// answered Again.
+/// What a run by turns leaves: its report, how many stores answered Again, and copies of what it
+/// published, where it was to keep them.
+#[derive(Drop)]
+struct Ran {
+    report: Report,
+    repeats: u64,
+    sent: Vec<Envelope>,
+}
+
+/// Runs a plan, at most so many asks being answered.
 fn run_steps<T: Tasks>(
     alloc: Global,
     plan: &Plan,
@@ -163,22 +172,27 @@ fn run_steps<T: Tasks>(
     workers: u32,
     turns: &[u32],
     again: &[(TaskNo, When)],
+    keeps: bool,
     steps: u128,
-) -> Result<(Report, u64), RunFault>
+) -> Result<Ran, RunFault>
     requires { IsAsked workers turns.now }
-    ensures ok { IfOk result (λ r. IsAgainWithin (T.behaviour tasks.now) plan.now workers turns.now
-        again.now steps r.0.rows r.1) }
+    ensures ok { IfOk result (λ r. IsKeptWithin (T.behaviour tasks.now) plan.now workers turns.now
+        again.now steps keeps r.report.rows r.repeats r.sent.items) }
     ensures err { IfErr result
         (IsAgainFault (T.behaviour tasks.now) plan.now workers turns.now again.now steps) }
 {
     let Ok(rows) = new_rows(alloc, plan) else {
         return Err(RunFault::halted(Cause::Memory));
     };
-    let Ok(mut stage) = Stage::new(alloc, plan, workers, again, steps) else {
+    let Ok(mut stage) = Stage::new(alloc, plan, workers, again, steps, keeps) else {
         return Err(RunFault::halted(Cause::Memory));
     };
     match run_stage(alloc, &mut stage, plan, tasks, workers, turns) {
-        Ok(()) => Ok((report_of(&stage, plan, rows), stage.repeats())),
+        Ok(()) => Ok(Ran {
+            report: report_of(&stage, plan, rows),
+            repeats: stage.repeats(),
+            sent: stage.into_sent(),
+        }),
         Err(cause) => Err(RunFault::Halted {
             cause,
             rows: Some(report_of(&stage, plan, rows)),
@@ -200,11 +214,12 @@ fn run_checked<T: Tasks>(
     workers: u32,
     turns: &[u32],
     again: &[(TaskNo, When)],
+    keeps: bool,
     steps: u128,
-) -> Result<(Report, u64), RunFault>
+) -> Result<Ran, RunFault>
     ensures ok { IfOk result (λ r. IsAsked workers turns.now
-        × IsAgainWithin (T.behaviour tasks.now) plan.now workers turns.now again.now steps
-        r.0.rows r.1) }
+        × IsKeptWithin (T.behaviour tasks.now) plan.now workers turns.now again.now steps keeps
+        r.report.rows r.repeats r.sent.items) }
     ensures err { IfErr result
         (IsAgainFault (T.behaviour tasks.now) plan.now workers turns.now again.now steps) }
 {
@@ -212,7 +227,7 @@ fn run_checked<T: Tasks>(
         return Err(RunFault::BadWorkers);
     }
     if are_turns(turns, workers) {
-        run_steps(alloc, plan, tasks, workers, turns, again, steps)
+        run_steps(alloc, plan, tasks, workers, turns, again, keeps, steps)
     } else {
         Err(RunFault::BadTurn)
     }
@@ -281,7 +296,31 @@ pub fn run_turns_again<T: Tasks>(
         (IsRunFault workers turns.now (states (T.behaviour tasks.now) (tree_of plan.now))) }
 {
     let steps = more_than_all(plan, workers, turns, again);
-    run_checked(alloc, plan, tasks, workers, turns, again, steps)
+    match run_checked(alloc, plan, tasks, workers, turns, again, false, steps) {
+        Ok(ran) => Ok((ran.report, ran.repeats)),
+        Err(fault) => Err(fault),
+    }
+}
+
+/// As `run_turns`. With the report it gives a copy of each envelope that was published, in the
+/// order in which they were: those of the tasks that start at once, and what each turn published.
+pub fn run_turns_traced<T: Tasks>(
+    alloc: Global,
+    plan: &Plan,
+    tasks: &T,
+    workers: u32,
+    turns: &[u32],
+) -> Result<(Report, Vec<Envelope>), RunFault>
+    ensures ok { IfOk result (λ r. IsAsked workers turns.now
+        × IsTraced (T.behaviour tasks.now) plan.now workers turns.now r.0.rows r.1.items) }
+    ensures err { IfErr result
+        (IsRunFault workers turns.now (states (T.behaviour tasks.now) (tree_of plan.now))) }
+{
+    let steps = more_than_all(plan, workers, turns, &[]);
+    match run_checked(alloc, plan, tasks, workers, turns, &[], true, steps) {
+        Ok(ran) => Ok((ran.report, ran.sent)),
+        Err(fault) => Err(fault),
+    }
 }
 
 /// As `run_turns`, but halted, as stopped, once `steps` asks have been answered and some worker
@@ -299,8 +338,17 @@ pub fn run_turns_within<T: Tasks>(
     ensures err { IfErr result
         (IsFaultWithin (T.behaviour tasks.now) plan.now workers turns.now steps) }
 {
-    match run_checked(alloc, plan, tasks, workers, turns, &[], steps as u128) {
-        Ok((report, _again)) => Ok(report),
+    match run_checked(
+        alloc,
+        plan,
+        tasks,
+        workers,
+        turns,
+        &[],
+        false,
+        steps as u128,
+    ) {
+        Ok(ran) => Ok(ran.report),
         Err(fault) => Err(fault),
     }
 }

@@ -1,10 +1,11 @@
 -- What a run by turns with entries leaves, of at most so many answered asks.
 --     IsAgainWithin l n turns es most rows m    the rows of one that went on until all workers had
 --                                               ended, and how many of its stores answered Again
+--     IsKeptWithin .. keeps .. sent             the same, with what it kept of what it published
 --     IsCutAgain l n turns es most rows         the rows of one that was cut off, with some worker
 --                                               that had not ended
 --     IsAgainFault                              why there is no whole report
-use Rattle.std.specs.Prelude.{◌≡◌, ◌≤◌, ◌+◌, ℕ, List, length, Some, None, IfSome}
+use Rattle.std.specs.Prelude.{◌≡◌, ◌≤◌, ◌+◌, ℕ, Bool, List, length, Some, None, IfSome}
 use Rattle.canvas_task.specs.Apply.{Behaviour}
 use Rattle.canvas_semantics.specs.Evaluation.{State}
 use Rattle.canvas_semantics.specs.Line.{Line, tree_of}
@@ -14,6 +15,9 @@ use Rattle.canvas_turns.specs.TurnLaws.{held_rows}
 use Rattle.canvas_turns.specs.Turns.{Step, IsWorker, HasEnded, Begins, redeliveries_in}
 use Rattle.canvas_worker.specs.declared.cause.Cause.TheVariants.{Memory, Stopped}
 use Rattle.canvas_engine.specs.Correct.{AreWorkers, AreTurns, IsAsked, IsWholeAgain}
+use Rattle.canvas_message.specs.declared.envelope.Envelope.{Envelope}
+use Rattle.canvas_engine.specs.Traced.{sent_after}
+use Rattle.canvas_engine.specs.steps.Noting.{kept}
 use Rattle.canvas_engine.specs.declared.fault.RunFault.{RunFault}
 use Rattle.canvas_engine.specs.declared.fault.RunFault.TheVariants.{BadWorkers, BadTurn, Halted}
 
@@ -22,6 +26,12 @@ abbrev pub IsAgainWithin : (behaviour : Behaviour) → Line → ℕ → List ℕ
 IsAgainWithin behaviour l n turns es most rows m =
     (whole : IsWholeAgain behaviour l n turns es rows m)
     × (length whole.run.steps ≤ most + redeliveries_in whole.run.steps)
+
+abbrev pub IsKeptWithin : (behaviour : Behaviour) → Line → ℕ → List ℕ → List Entry → ℕ → Bool
+    → List State → ℕ → List Envelope → Type 0
+IsKeptWithin behaviour l n turns es most keeps rows m sent =
+    (within : IsAgainWithin behaviour l n turns es most rows m)
+    × (sent ≡ kept keeps (sent_after l within.0.run.steps))
 
 pub record IsCutAgain (behaviour : Behaviour) (l : Line) (n : ℕ) (turns : List ℕ) (es : List Entry)
     (most : ℕ) (rows : List State) : Type 0 where

@@ -30,6 +30,8 @@ use Rattle.canvas_worker.specs.CoreState as standing
 use Rattle.canvas_worker.specs.CoreState.{Standing, asked, after_reply, begun, point_at}
 use Rattle.canvas_worker.specs.declared.cause.Cause.{Cause}
 use Rattle.canvas_worker.specs.declared.cause.Cause.TheVariants.{Memory, Stopped}
+use Rattle.canvas_engine.specs.Traced.{sent_after}
+use Rattle.canvas_engine.specs.steps.Noting.{kept}
 use Rattle.canvas_engine.specs.declared.stage.Stage.{Stage}
 
 -- the outcome of each of so many tasks, by number
@@ -108,6 +110,7 @@ pub record Redelivers (core : Standing) (s s' : Stage) : Type 0 where
       × (s'.again.items ≡ spent (point_at core) s.again.items))
   pub others : (s'.table ≡ s.table) × (s'.cores ≡ s.cores) × (s'.steps ≡ s.steps)
       × (s'.repeats ≡ s.repeats)
+  pub sent : s'.sent ≡ s.sent
 
 -- ---- a run
 
@@ -133,31 +136,38 @@ pub record LeadsTo (behaviour : Behaviour) (l : Line) (n : ℕ) (us : List ℕ) 
   pub cores_are : (i : ℕ) (c : Standing) → slice_get s.cores.items i ≡ Some c
       → IsCoreAt behaviour l (by (suc i) xs) c
 
+-- what a run is given: the entries that say what is delivered again, and whether it is to keep
+-- copies of what it publishes
+abbrev pub Given : Type 0
+Given = List Entry × Bool
+
 -- the same between two turns, where these were the entries: of the answered asks there are at most
--- so many
-pub record Reached (behaviour : Behaviour) (l : Line) (n most : ℕ) (es : List Entry) (us : List ℕ)
+-- so many. What was published is noted
+pub record Reached (behaviour : Behaviour) (l : Line) (n most : ℕ) (given : Given) (us : List ℕ)
     (xs : List Step) (s : Stage) : Type 0 where
   pub leads : LeadsTo behaviour l n us xs s
-  pub turned : TurnedAgain behaviour l n [] es us xs s.again.items
+  pub turned : TurnedAgain behaviour l n [] given.0 us xs s.again.items
   pub agains : s.repeats ≡ min greatest_count (agains_in xs)
   pub count : length xs + s.steps ≡ most + redeliveries_in xs
+  pub keeps : s.sent.keeps ≡ given.1
+  pub sent : s.sent.envelopes.items ≡ kept given.1 (sent_after l xs)
 
 -- after some steps that these turns make
-abbrev pub HasReached : (behaviour : Behaviour) → Line → ℕ → ℕ → List Entry → List ℕ → Stage
+abbrev pub HasReached : (behaviour : Behaviour) → Line → ℕ → ℕ → Given → List ℕ → Stage
     → Type 0
-HasReached behaviour l n most es us s = (xs : List Step) × Reached behaviour l n most es us xs s
+HasReached behaviour l n most given us s = (xs : List Step) × Reached behaviour l n most given us xs s
 
 -- ---- a turn
 
 -- A turn of worker p that answered an ask, before which it may have had an envelope delivered
 -- again; or one that skipped.
-abbrev pub IsTurn : (behaviour : Behaviour) → Bool → Line → ℕ → ℕ → List Entry → List ℕ → List Step
+abbrev pub IsTurn : (behaviour : Behaviour) → Bool → Line → ℕ → ℕ → Given → List ℕ → List Step
     → ℕ → Stage → Type 0
-IsTurn behaviour true l n most es us xs p s =
-    (ys : List Step) × Reached behaviour l n most es (us ++ p ∷ []) (xs ++ ys) s
+IsTurn behaviour true l n most given us xs p s =
+    (ys : List Step) × Reached behaviour l n most given (us ++ p ∷ []) (xs ++ ys) s
     × (length ys ≡ suc (redeliveries_in ys))
-IsTurn behaviour false l n most es us xs p s =
-    HasEnded behaviour l xs p × Reached behaviour l n most es (us ++ p ∷ []) xs s
+IsTurn behaviour false l n most given us xs p s =
+    HasEnded behaviour l xs p × Reached behaviour l n most given (us ++ p ∷ []) xs s
 
 -- the table is that of some run
 pub record IsHalfway (behaviour : Behaviour) (l : Line) (n : ℕ) (s : Stage) : Type 0 where
@@ -168,51 +178,51 @@ pub record IsHalfway (behaviour : Behaviour) (l : Line) (n : ℕ) (s : Stage) : 
   pub table_is : held s.table ≡ results_after steps
 
 -- no further ask may be answered, and a worker has one
-pub record IsStopped (behaviour : Behaviour) (l : Line) (n most : ℕ) (es : List Entry) (us : List ℕ)
+pub record IsStopped (behaviour : Behaviour) (l : Line) (n most : ℕ) (given : Given) (us : List ℕ)
     (s : Stage) : Type 0 where
   pub steps : List Step
-  pub reached : Reached behaviour l n most es us steps s
+  pub reached : Reached behaviour l n most given us steps s
   pub none_left : s.steps ≡ 0
   pub going : ℕ
   pub is_worker : IsWorker n going
   pub has_more : HasEnded behaviour l steps going → ⊥
 
 -- why a turn was not taken, after the turns us
-abbrev pub IsHalt : (behaviour : Behaviour) → Cause → Line → ℕ → ℕ → List Entry → List ℕ → Stage
+abbrev pub IsHalt : (behaviour : Behaviour) → Cause → Line → ℕ → ℕ → Given → List ℕ → Stage
     → Type 0
-IsHalt behaviour Memory l n most es us s = IsHalfway behaviour l n s
-IsHalt behaviour Stopped l n most es us s = IsStopped behaviour l n most es us s
+IsHalt behaviour Memory l n most given us s = IsHalfway behaviour l n s
+IsHalt behaviour Stopped l n most given us s = IsStopped behaviour l n most given us s
 
 -- The first i turns of a round have been taken, after the turns us and the steps xs with so many
 -- left: whether one answered an ask.
-abbrev pub IsPartOfRound : (behaviour : Behaviour) → Bool → Line → ℕ → ℕ → List Entry → List ℕ
+abbrev pub IsPartOfRound : (behaviour : Behaviour) → Bool → Line → ℕ → ℕ → Given → List ℕ
     → List Step → ℕ → ℕ → Stage → Type 0
-IsPartOfRound behaviour true l n most es us xs i steps s =
-    HasReached behaviour l n most es (us ++ round i) s × (s.steps < steps)
-IsPartOfRound behaviour false l n most es us xs i steps s =
-    Reached behaviour l n most es (us ++ round i) xs s
+IsPartOfRound behaviour true l n most given us xs i steps s =
+    HasReached behaviour l n most given (us ++ round i) s × (s.steps < steps)
+IsPartOfRound behaviour false l n most given us xs i steps s =
+    Reached behaviour l n most given (us ++ round i) xs s
     × ((p : ℕ) → IsWorker i p → HasEnded behaviour l xs p)
 
-abbrev pub IsHaltInRound : (behaviour : Behaviour) → Cause → Line → ℕ → ℕ → List Entry → List ℕ
+abbrev pub IsHaltInRound : (behaviour : Behaviour) → Cause → Line → ℕ → ℕ → Given → List ℕ
     → Stage → Type 0
-IsHaltInRound behaviour Memory l n most es us s = IsHalfway behaviour l n s
-IsHaltInRound behaviour Stopped l n most es us s =
-    (i : ℕ) × (i ≤ n) × IsStopped behaviour l n most es (us ++ round i) s
+IsHaltInRound behaviour Memory l n most given us s = IsHalfway behaviour l n s
+IsHaltInRound behaviour Stopped l n most given us s =
+    (i : ℕ) × (i ≤ n) × IsStopped behaviour l n most given (us ++ round i) s
 
 -- why a run by these turns and then in rotation ended early
-abbrev pub IsEarlyEnd : (behaviour : Behaviour) → Cause → Line → ℕ → ℕ → List Entry → List ℕ → Stage
+abbrev pub IsEarlyEnd : (behaviour : Behaviour) → Cause → Line → ℕ → ℕ → Given → List ℕ → Stage
     → Type 0
-IsEarlyEnd behaviour Memory l n most es turns s =
+IsEarlyEnd behaviour Memory l n most given turns s =
     (s.table.plan ≡ roster_of l) × ((held s.table ≡ no_results) ⊎ IsHalfway behaviour l n s)
-IsEarlyEnd behaviour Stopped l n most es turns s =
-    (us : List ℕ) × Begins us turns n × IsStopped behaviour l n most es us s
+IsEarlyEnd behaviour Stopped l n most given turns s =
+    (us : List ℕ) × Begins us turns n × IsStopped behaviour l n most given us s
 
 -- the turns of a list, and rounds, after which all workers have ended
-pub record IsRunThrough (behaviour : Behaviour) (l : Line) (n most : ℕ) (es : List Entry)
+pub record IsRunThrough (behaviour : Behaviour) (l : Line) (n most : ℕ) (given : Given)
     (turns : List ℕ) (s : Stage) : Type 0 where
   pub further : ℕ
   pub steps : List Step
-  pub reached : Reached behaviour l n most es (turns ++ rounds n further) steps s
+  pub reached : Reached behaviour l n most given (turns ++ rounds n further) steps s
   pub ended : AllEnded behaviour l n steps
 
 -- the envelope of a message reads back as the message
@@ -226,6 +236,7 @@ AreNew cores = All (λ c. c ≡ begun) cores
 -- a stage before its first publish
 pub record IsNew (l : Line) (n : ℕ) (s : Stage) : Type 0 where
   pub repeats_is : s.repeats ≡ 0
+  pub sent_is : s.sent.envelopes.items ≡ []
   pub plan_is : s.table.plan ≡ roster_of l
   pub table_is : held s.table ≡ no_results
   pub queue_is : s.queue ≡ []

@@ -4,12 +4,15 @@ use Rattle.canvas_runs.specs.Core as C
 use Rattle.canvas_runs.specs.Book.{book_on}
 use Rattle.canvas_worker.specs.CoreState.{after_reply}
 use Rattle.canvas_worker.proofs.ShownAsks.{handed_out, handed_same}
+use Rattle.canvas_engine.specs.Traced.{sent_by}
+use Rattle.canvas_engine.specs.steps.Noting.{Noted}
 use Rattle.canvas_engine.specs.steps.Stages.{Stepped}
+use Rattle.canvas_engine.proofs.Sending.{on_ok}
 use Rattle.canvas_engine.proofs.StageAsks.{answered_ok, of_each}
 use Rattle.canvas_engine.proofs.stage.publish.Goals as goal
 
-pub returns-in-Ok : goal.returns-in-Ok
-returns-in-Ok g c =
+pub returns-in-Ok-clause-ok : goal.returns-in-Ok-clause-ok
+returns-in-Ok-clause-ok g c =
     let old = c.args.core.now in
     let table = c.args.table.now in
     let asks = handed_out c.in-Some.envelope old c.requires.inside (sym c.in-Some.ensures.value) in
@@ -23,3 +26,8 @@ returns-in-Ok g c =
     answered_ok (g.T.Tasks.behaviour c.args.tasks.now) c.answer.result more old c.answer.new.self c.args.queue.now c.publish.new.self table table
     (C.to_queue (broker.publish c.in-Some.envelope)) (C.from_queue None) asks refl c.requires.reads_back c.in-Ok.ensures.call refl refl
     (subst (λ s. OnOk c.answer.result (c.answer.new.self ≡ s)) same c.answer.ensures.ok))
+
+pub returns-in-Ok-clause-sent : goal.returns-in-Ok-clause-sent
+returns-in-Ok-clause-sent g c =
+    let asks = handed_out c.in-Some.envelope c.args.core.now c.requires.inside (sym c.in-Some.ensures.value) in
+    on_ok _ (subst (λ a. Noted c.args.sent.now (sent_by a) c.note.new.self) (sym asks) c.in_ok-note-in-Some.ensures)

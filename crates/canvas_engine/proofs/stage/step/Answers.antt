@@ -6,6 +6,7 @@ use Rattle.canvas_worker.specs.CoreState.{asked}
 use Rattle.canvas_worker.specs.declared.ask.Ask.TheVariants as A
 use Rattle.canvas_engine.specs.steps.Stages.{MayAsk}
 use Rattle.canvas_worker.proofs.ShownAsks.{is_store, is_part, is_read}
+use Rattle.canvas_engine.proofs.Sending.{silent, on_ok}
 use Rattle.canvas_engine.proofs.StageAsks.{answered_err, none_counted}
 use Rattle.canvas_engine.proofs.stage.step.Goals as goal
 
@@ -56,3 +57,21 @@ returns-in-Rest-clause-again g c =
 pub read-requires : goal.read-requires
 read-requires g c =
     subst (MayAsk c.args.table.now.plan (held c.args.table.now)) (is_read _ c.in-Read.task (asked c.args.core.now.left) (sym c.in-Read.ensures.ask)) c.requires.may
+
+pub returns-in-Take-clause-sent : goal.returns-in-Take-clause-sent
+returns-in-Take-clause-sent g c = on_ok _ (silent c.args.sent.now c.args.core.now.task (asked c.args.core.now.left) A.Take c.in-Take.ensures.ask refl)
+
+pub returns-in-Store-clause-sent : goal.returns-in-Store-clause-sent
+returns-in-Store-clause-sent g c = on_ok _ (silent c.args.sent.now c.args.core.now.task (asked c.args.core.now.left) (A.Store c.in-Store.task c.in-Store.outcome) c.in-Store.ensures.ask refl)
+
+pub returns-in-Part-clause-sent : goal.returns-in-Part-clause-sent
+returns-in-Part-clause-sent g c = on_ok _ (silent c.args.sent.now c.args.core.now.task (asked c.args.core.now.left) (A.Part c.in-Part.group c.in-Part.task) c.in-Part.ensures.ask refl)
+
+pub returns-in-Read-clause-sent : goal.returns-in-Read-clause-sent
+returns-in-Read-clause-sent g c = on_ok _ (silent c.args.sent.now c.args.core.now.task (asked c.args.core.now.left) (A.Read c.in-Read.task) c.in-Read.ensures.ask refl)
+
+pub returns-in-Ack-clause-sent : goal.returns-in-Ack-clause-sent
+returns-in-Ack-clause-sent g c = on_ok _ (silent c.args.sent.now c.args.core.now.task (asked c.args.core.now.left) (A.Ack c.in-Ack.field-0) c.in-Ack.ensures.ask refl)
+
+pub returns-in-Rest-clause-sent : goal.returns-in-Rest-clause-sent
+returns-in-Rest-clause-sent g c = on_ok _ (silent c.args.sent.now c.args.core.now.task (asked c.args.core.now.left) A.Rest c.in-Rest.ensures.ask refl)
