@@ -27,13 +27,16 @@ name_commands() {
 # Sets `takes` to the options of a command, each with the name of its value, `shown` to how each is named, and `required` to those that it can't do without.
 find_options() {
   local name form word plain last=''
+  local -a words=()
   takes=()
   shown=()
   required=()
   while read -r name form; do
     if [ "$name" = "$1" ]; then break; fi
   done <<<"$forms"
-  for word in $form; do
+  # in an array, since `[--json]` is a pattern that a file's name may fit
+  read -r -a words <<<"$form"
+  for word in "${words[@]}"; do
     plain="${word#\[}"
     plain="${plain%\]}"
     case "$plain" in

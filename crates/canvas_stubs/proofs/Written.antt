@@ -23,12 +23,16 @@ not_true : (b : Bool) → not b ≡ true → b ≡ false
 not_true true h = absurd cc
 not_true false h = refl
 
-none_in : (name : Text) → list_all (λ b. not (is_equals b)) name ≡ true → (k : ℕ) → k < length name → is_equals (get_or name k 0) ≡ false
+none_in : (name : Text) → list_all (λ b. not (is_equals b)) name ≡ true → (k : ℕ) → k < length name
+    → is_equals (get_or name k 0) ≡ false
 none_in [] h k lt = absurd (omega arith)
-none_in (b ∷ bs) h zero lt = not_true (is_equals b) (both_left (not (is_equals b)) (list_all (λ b. not (is_equals b)) bs) h)
-none_in (b ∷ bs) h (suc k) lt = none_in bs (both_right (not (is_equals b)) (list_all (λ b. not (is_equals b)) bs) h) k (omega arith)
+none_in (b ∷ bs) h zero lt = not_true (is_equals b) (both_left (not (is_equals b))
+    (list_all (λ b. not (is_equals b)) bs) h)
+none_in (b ∷ bs) h (suc k) lt = none_in bs (both_right (not (is_equals b)) (list_all (λ b. not (is_equals b)) bs) h) k
+    (omega arith)
 
-equals_behind : (name word : Text) → list_all (λ b. not (is_equals b)) name ≡ true → position_or_len is_equals (name ++ 61 ∷ word) ≡ length name
+equals_behind : (name word : Text) → list_all (λ b. not (is_equals b)) name ≡ true
+    → position_or_len is_equals (name ++ 61 ∷ word) ≡ length name
 equals_behind name word h = position_or_len_is is_equals (name ++ 61 ∷ word) (length name) 0
     (omega (arith, length-append name (61 ∷ word)))
     (λ k lt. ap is_equals (get_or_append_left name (61 ∷ word) 0 k lt) ∙ none_in name h k lt)
@@ -47,13 +51,17 @@ cut i text = if nat_lt i (length text) then Some (take i text, drop (i + 1) text
 parts_at : (name word text : Text) (i : ℕ) → text ≡ name ++ 61 ∷ word → i ≡ length name → cut i text ≡ Some (name, word)
 parts_at name word text i is at =
     let within : i < length text = omega (arith, ap length is, length-append name (61 ∷ word)) in
-    let before : take i text ≡ name = ap (λ j. take j text) at ∙ ap (take (length name)) is ∙ take-append_seam name (61 ∷ word) in
-    let behind : drop (i + 1) text ≡ word = ap (λ j. drop (j + 1) text) at ∙ ap (drop (length name + 1)) is ∙ drop_past name word in
+    let before : take i text ≡ name = ap (λ j. take j text) at ∙ ap (take (length name)) is
+        ∙ take-append_seam name (61 ∷ word) in
+    let behind : drop (i + 1) text ≡ word = ap (λ j. drop (j + 1) text) at ∙ ap (drop (length name + 1)) is
+        ∙ drop_past name word in
     rw (lt-ltb i (length text) within) (λ j. Some (before j, behind j))
 
-split_back : (name word : Text) → list_all (λ b. not (is_equals b)) name ≡ true → split_text (name ++ 61 ∷ word) ≡ Some (name, word)
+split_back : (name word : Text) → list_all (λ b. not (is_equals b)) name ≡ true
+    → split_text (name ++ 61 ∷ word) ≡ Some (name, word)
 split_back name word h =
-    parts_at name word (name ++ 61 ∷ word) (position_or_len is_equals (name ++ 61 ∷ word)) refl (equals_behind name word h)
+    parts_at name word (name ++ 61 ∷ word) (position_or_len is_equals (name ++ 61 ∷ word)) refl
+        (equals_behind name word h)
 
 -- ---- the word
 
@@ -81,4 +89,5 @@ parts_back name word does h k = rw h (ap (with_name name) k)
 
 pub reads_back : (s : Stub) → IsWritable s → stub_reading (stub_text s) ≡ Ok s
 reads_back s h =
-    ap parts_reading (split_back s.name (word_text s.does) h.ends) ∙ parts_back s.name (word_text s.does) s.does h.named (word_back s.does h.bounded)
+    ap parts_reading (split_back s.name (word_text s.does) h.ends)
+        ∙ parts_back s.name (word_text s.does) s.does h.named (word_back s.does h.bounded)

@@ -36,10 +36,14 @@ unknown w h =
     let xsum : bytes_eq w (codes "xsum") ≡ false = other w 120 (codes "sum") (omega arith) in
     let ident : bytes_eq w (codes "ident") ≡ false = other w 105 (codes "dent") (omega arith) in
     let log : bytes_eq w (codes "log_error") ≡ false = other w 108 (codes "og_error") (omega arith) in
-    let type : bytes_eq w (codes "raise:TypeError") ≡ false = other w 114 (codes "aise:TypeError") (omega arith) in
-    let division : bytes_eq w (codes "raise:ZeroDivisionError") ≡ false = other w 114 (codes "aise:ZeroDivisionError") (omega arith) in
-    let over : bytes_eq w (codes "raise:OverflowError") ≡ false = other w 114 (codes "aise:OverflowError") (omega arith) in
-    let task : bytes_eq w (codes "raise:NotRegistered") ≡ false = other w 114 (codes "aise:NotRegistered") (omega arith) in
+    let type : bytes_eq w (codes "raise:TypeError") ≡ false =
+        other w 114 (codes "aise:TypeError") (omega arith) in
+    let division : bytes_eq w (codes "raise:ZeroDivisionError") ≡ false =
+        other w 114 (codes "aise:ZeroDivisionError") (omega arith) in
+    let over : bytes_eq w (codes "raise:OverflowError") ≡ false =
+        other w 114 (codes "aise:OverflowError") (omega arith) in
+    let task : bytes_eq w (codes "raise:NotRegistered") ≡ false =
+        other w 114 (codes "aise:NotRegistered") (omega arith) in
     rw (add, mul, div, xsum, ident, log, type, division, over, task) refl
 
 -- ---- digits, with a sign or none
@@ -52,7 +56,8 @@ both true b h k = k
 both false b h k = absurd cc
 
 digits : (ds : Text) → IsNumeral 10 ds → are_digits ds ≡ true
-digits ds h = both (not (length ds == 0)) (list_all is_ascii_digit ds) (some (length ds) h.0) (sym (all_digits ds) ∙ model.from ds h.1)
+digits ds h = both (not (length ds == 0)) (list_all is_ascii_digit ds) (some (length ds) h.0)
+    (sym (all_digits ds) ∙ model.from ds h.1)
 
 -- a text that is written as a number, and whose number this is
 pub record Spells (w : Text) (n : ℤ) : Type 0 where
