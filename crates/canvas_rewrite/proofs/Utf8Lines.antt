@@ -21,13 +21,17 @@ use Rattle.canvas_rewrite.proofs.FrozenViews.{line_none, line_some, end_none, en
 pub text_read : (text : List ℕ) (s : String Global) → string_bytes s ≡ text → IsUtf8 text
 text_read text s is = subst IsUtf8 is (IsUtf8-string_bytes s)
 
-pub call_read : (s : TaskSig) → IsUtf8 (out-TaskSig s).name → AreUtf8Args (out-TaskSig s).args → AreUtf8Entries (out-TaskSig s).kwargs
+pub call_read : (s : TaskSig) → IsUtf8 (out-TaskSig s).name → AreUtf8Args (out-TaskSig s).args
+    → AreUtf8Entries (out-TaskSig s).kwargs
     → IsUtf8Call (its_call (task_view s))
-call_read s name args kwargs = subst IsUtf8Call (sym (ap its_call (task_seen s))) (record { name = name; args = args; kwargs = kwargs })
+call_read s name args kwargs =
+    subst IsUtf8Call (sym (ap its_call (task_seen s))) (record { name = name; args = args; kwargs = kwargs })
 
-pub task_read : (s : TaskSig) → IsUtf8Call (its_call (task_view s)) → AreUtf8Tasks (tasks_of (map task_view (out-TaskSig s).links))
+pub task_read : (s : TaskSig) → IsUtf8Call (its_call (task_view s))
+    → AreUtf8Tasks (tasks_of (map task_view (out-TaskSig s).links))
     → AreUtf8Tasks (tasks_of (map task_view (out-TaskSig s).errbacks)) → IsUtf8Task (task_view s)
-task_read s call ls es = subst IsUtf8Task (sym (task_seen s)) (subst IsUtf8Call (ap its_call (task_seen s)) call, ls, es)
+task_read s call ls es =
+    subst IsUtf8Task (sym (task_seen s)) (subst IsUtf8Call (ap its_call (task_seen s)) call, ls, es)
 
 -- ---- lines
 
@@ -35,17 +39,22 @@ steps_read : (ts : List Task) (l : Line) → AreUtf8Tasks (tasks_of ts) → IsUt
 steps_read [] l h k = k
 steps_read (t ∷ ts) l h k = (h.0, steps_read ts l h.1 k)
 
-pub line_read : (l : line.Line) → (out-Line l).tail ≡ None → AreUtf8Tasks (tasks_of (map task_view (out-Line l).tasks)) → IsUtf8Line (line_of l)
+pub line_read : (l : line.Line) → (out-Line l).tail ≡ None → AreUtf8Tasks (tasks_of (map task_view (out-Line l).tasks))
+    → IsUtf8Line (line_of l)
 line_read l none h = subst IsUtf8Line (sym (line_none l none)) (steps_read (map task_view (out-Line l).tasks) stop h tt)
 
-pub longer_read : (l : line.Line) (b : Box LineEnd Global) → (out-Line l).tail ≡ Some b → AreUtf8Tasks (tasks_of (map task_view (out-Line l).tasks))
+pub longer_read : (l : line.Line) (b : Box LineEnd Global) → (out-Line l).tail ≡ Some b
+    → AreUtf8Tasks (tasks_of (map task_view (out-Line l).tasks))
     → IsUtf8Line (end_of b.value) → IsUtf8Line (line_of l)
-longer_read l b some h k = subst IsUtf8Line (sym (line_some l b some)) (steps_read (map task_view (out-Line l).tasks) (end_of b.value) h k)
+longer_read l b some h k =
+    subst IsUtf8Line (sym (line_some l b some)) (steps_read (map task_view (out-Line l).tasks) (end_of b.value) h k)
 
-pub group_read : (e : LineEnd) → (out-LineEnd e).body ≡ None → AreUtf8Lines (lines_of (map line_of (out-LineEnd e).members)) → IsUtf8Line (end_of e)
+pub group_read : (e : LineEnd) → (out-LineEnd e).body ≡ None
+    → AreUtf8Lines (lines_of (map line_of (out-LineEnd e).members)) → IsUtf8Line (end_of e)
 group_read e none h = subst IsUtf8Line (sym (end_none e none)) h
 
-pub chord_read : (e : LineEnd) (b : line.Line) → (out-LineEnd e).body ≡ Some b → AreUtf8Lines (lines_of (map line_of (out-LineEnd e).members))
+pub chord_read : (e : LineEnd) (b : line.Line) → (out-LineEnd e).body ≡ Some b
+    → AreUtf8Lines (lines_of (map line_of (out-LineEnd e).members))
     → IsUtf8Line (line_of b) → IsUtf8Line (end_of e)
 chord_read e b some h k = subst IsUtf8Line (sym (end_some e b some)) (h, k)
 

@@ -39,6 +39,7 @@ fn freeze_task(alloc: Global, sig: &TaskSig, next: &mut u32) -> Result<FrozenTas
     ensures next { IfOk result (λ _. next.new ≡ next.old + count_task (task_view sig.now)) }
     ensures utf8 { OnOk result (IsUtf8Task (task_view sig.now)) }
 {
+    // For the proof alone: a text that is read is known to be UTF-8.
     read_call(sig);
     let no = task_no(*next);
     *next += 1;

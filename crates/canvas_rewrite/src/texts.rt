@@ -1,5 +1,5 @@
-//! The texts of a signature are UTF-8, since each is a `String`. A text that is read is known to be
-//! so; what is here reads them, for the proof alone.
+//! The texts of a signature are UTF-8, since each is a `String`. What is here reads them, so that
+//! contracts can say it, and does nothing else.
 ghost use Rattle.canvas_task.specs.Entries.{named};
 ghost use Rattle.canvas_values.specs.ComposedRefusals.{its_call};
 ghost use Rattle.canvas_values.specs.SignatureView.{task_view};

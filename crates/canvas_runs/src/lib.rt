@@ -17,7 +17,7 @@ ghost use Rattle.canvas_semantics.specs.Tree.{Tree, IsFull, numbered};
 ghost use Rattle.canvas_runs.specs.Causes.{completions};
 ghost use Rattle.canvas_runs.specs.EventLaws.{EventStates};
 ghost use Rattle.canvas_runs.specs.Law.{FirstPart, SecondPart, its_state};
-ghost use Rattle.canvas_runs.specs.Progress.{AllReadBack, FewCalls, FewSteps, NoneWaits, NeverStuck, AllEnd, Starts};
+ghost use Rattle.canvas_runs.specs.Progress.{AllReadBack, PlansReadBack, FewCalls, FewSteps, NoneWaits, NeverStuck, AllEnd, Starts};
 ghost use Rattle.canvas_runs.specs.Run.{Run, Closed};
 ghost use Rattle.canvas_runs.specs.Witness.{small, queue, table, lost_part, not_taken, goes_on, acks_first};
 ghost use Rattle.canvas_runs.specs.Core.{IsCoreRun, taking};
@@ -51,18 +51,20 @@ pub fn law_of_bound()
     ensures steps { FewSteps }
 {}
 
-/// No worker waits for another one, if the messages read back from their envelopes. In a run that
-/// is under way each worker that can go on makes a call next, in the middle of a script or by a
-/// take that finds a message, unless it has nothing left to do and the queue is empty. So a run
-/// that is under way is closed or goes on, and leads to a closed one: only a refusal of memory, or
-/// that its workers aren't let go on, can keep it from that. Each plan has a run that is under way,
-/// with its first messages published, for any number of workers. The messages of the chord below
-/// read back.
+/// No worker waits for another one, if the messages read back from their envelopes, as those of
+/// every plan that `freeze` gives do. In a run that is under way each worker that can go on makes a
+/// call next, in the middle of a script or by a take that finds a message, unless it has nothing
+/// left to do and the queue is empty. So a run that is under way is closed or goes on, and leads to
+/// a closed one: only a refusal of memory, or that its workers aren't let go on, can keep it from
+/// that. Each plan has a run that is under way, with its first messages published, for any number
+/// of workers. A plan's messages read back since its texts are UTF-8, and the numbers that tasks
+/// answer are in range; so do those of the chord below.
 pub fn law_of_progress()
     ensures none_waits { NoneWaits }
     ensures never_stuck { NeverStuck }
     ensures ends { AllEnd }
     ensures starts { Starts }
+    ensures read_back { PlansReadBack }
     ensures chord { AllReadBack six_tasks small }
 {}
 

@@ -149,21 +149,25 @@ freeze_line-returns-in_ok-tail-in-Some-clause-group t c =
 pub freeze_end-returns-in-None-clause-utf8 : goal.freeze_end-returns-in-None-clause-utf8
 freeze_end-returns-in-None-clause-utf8 t c =
     group_read c.args.end.now c.in-None.is
-    (subst (λ ls. AreUtf8Lines (lines_of (map line_of ls))) (c.deref.ensures.value ∙ c.get.ensures) c.in_ok-freeze_lines.ensures.utf8)
+    (subst (λ ls. AreUtf8Lines (lines_of (map line_of ls))) (c.deref.ensures.value ∙ c.get.ensures)
+    c.in_ok-freeze_lines.ensures.utf8)
 
 pub freeze_end-returns-in_ok-body-in-Some-clause-utf8 : goal.freeze_end-returns-in_ok-body-in-Some-clause-utf8
 freeze_end-returns-in_ok-body-in-Some-clause-utf8 t c =
     chord_read c.args.end.now c.in-Some.body c.in-Some.is
-    (subst (λ ls. AreUtf8Lines (lines_of (map line_of ls))) (c.deref.ensures.value ∙ c.get.ensures) c.in_ok-freeze_lines.ensures.utf8)
+    (subst (λ ls. AreUtf8Lines (lines_of (map line_of ls))) (c.deref.ensures.value ∙ c.get.ensures)
+    c.in_ok-freeze_lines.ensures.utf8)
     c.in_ok-body-in-Some.ensures.utf8
 
 pub freeze_line-returns-in-None-clause-utf8 : goal.freeze_line-returns-in-None-clause-utf8
 freeze_line-returns-in-None-clause-utf8 t c =
     line_read c.args.line.now c.in-None.is
-    (subst (λ ss. AreUtf8Tasks (tasks_of (map task_view ss))) (c.deref.ensures.value ∙ c.get.ensures) c.in_ok-freeze_tasks.ensures.utf8)
+    (subst (λ ss. AreUtf8Tasks (tasks_of (map task_view ss))) (c.deref.ensures.value ∙ c.get.ensures)
+    c.in_ok-freeze_tasks.ensures.utf8)
 
 pub freeze_line-returns-in_ok-tail-in-Some-clause-utf8 : goal.freeze_line-returns-in_ok-tail-in-Some-clause-utf8
 freeze_line-returns-in_ok-tail-in-Some-clause-utf8 t c =
     longer_read c.args.line.now c.in-Some.end c.in-Some.is
-    (subst (λ ss. AreUtf8Tasks (tasks_of (map task_view ss))) (c.deref.ensures.value ∙ c.get.ensures) c.in_ok-freeze_tasks.ensures.utf8)
+    (subst (λ ss. AreUtf8Tasks (tasks_of (map task_view ss))) (c.deref.ensures.value ∙ c.get.ensures)
+    c.in_ok-freeze_tasks.ensures.utf8)
     (subst (λ e. IsUtf8Line (end_of e)) c.deref-in-Some.ensures c.in_ok-end-in-Some.ensures.utf8)

@@ -21,4 +21,5 @@ invariant-freeze_lines-loop-line l =
     × (l.group + lines_group_count (map line_of (drop l.line-index l.lines)) ≡ l.fn.group + lines_group_count (map line_of l.lines))
     × (map p_line_view l.frozen.items ++ lines_from l.task l.group (map line_of (drop l.line-index l.lines))
     ≡ lines_from l.fn.task l.fn.group (map line_of l.lines))
-    × (AreUtf8Lines (lines_of (map line_of (drop l.line-index l.lines))) → AreUtf8Lines (lines_of (map line_of l.lines)))
+    × (AreUtf8Lines (lines_of (map line_of (drop l.line-index l.lines)))
+    → AreUtf8Lines (lines_of (map line_of l.lines)))

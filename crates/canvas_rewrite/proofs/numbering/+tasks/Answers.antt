@@ -34,5 +34,7 @@ freeze_task-returns-clause-value t c =
 pub freeze_task-returns-clause-utf8 : goal.freeze_task-returns-clause-utf8
 freeze_task-returns-clause-utf8 t c =
     task_read c.args.sig.now c.read_call.ensures
-    (subst (λ ss. AreUtf8Tasks (tasks_of (map task_view ss))) (c.deref.ensures.value ∙ c.get.ensures) c.in_ok-links.ensures.utf8)
-    (subst (λ ss. AreUtf8Tasks (tasks_of (map task_view ss))) (c.deref-2.ensures.value ∙ c.get-2.ensures) c.in_ok-errbacks.ensures.utf8)
+    (subst (λ ss. AreUtf8Tasks (tasks_of (map task_view ss))) (c.deref.ensures.value ∙ c.get.ensures)
+    c.in_ok-links.ensures.utf8)
+    (subst (λ ss. AreUtf8Tasks (tasks_of (map task_view ss))) (c.deref-2.ensures.value ∙ c.get-2.ensures)
+    c.in_ok-errbacks.ensures.utf8)

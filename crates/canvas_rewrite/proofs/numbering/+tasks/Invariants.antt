@@ -17,4 +17,5 @@ invariant-freeze_tasks-loop-sig l =
     (1 ≤ l.next) × (l.fn.next ≤ l.next)
     × (l.next + tasks_in (map task_view (drop l.sig-index l.sigs)) ≡ l.fn.next + tasks_in (map task_view l.sigs))
     × (map p_task_view l.frozen.items ++ tasks_from l.next (map task_view (drop l.sig-index l.sigs)) ≡ tasks_from l.fn.next (map task_view l.sigs))
-    × (AreUtf8Tasks (tasks_of (map task_view (drop l.sig-index l.sigs))) → AreUtf8Tasks (tasks_of (map task_view l.sigs)))
+    × (AreUtf8Tasks (tasks_of (map task_view (drop l.sig-index l.sigs)))
+    → AreUtf8Tasks (tasks_of (map task_view l.sigs)))

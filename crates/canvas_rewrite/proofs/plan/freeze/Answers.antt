@@ -62,5 +62,6 @@ returns-clause-tree c = ap tree_of (ap strip c.in_ok-frozen.ensures.value ∙ st
 pub returns-clause-utf8 : goal.returns-clause-utf8
 returns-clause-utf8 c =
     let l = line_of c.args.line.now in
-    let same : line_in c.in_ok-frozen.frozen ≡ number_line 1 1 l = ap strip c.in_ok-frozen.ensures.value ∙ strip_bare (number_line 1 1 l) in
+    let same : line_in c.in_ok-frozen.frozen ≡ number_line 1 1 l =
+    ap strip c.in_ok-frozen.ensures.value ∙ strip_bare (number_line 1 1 l) in
     subst IsUtf8Line (sym same) (line_numbered l 1 1 c.in_ok-frozen.ensures.utf8)
