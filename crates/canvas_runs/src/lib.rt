@@ -12,6 +12,7 @@ ghost use Rattle.canvas_backend.specs.Roster.{roster_of};
 ghost use Rattle.canvas_semantics.specs.Evaluation.{state_of, meaning};
 ghost use Rattle.canvas_semantics.specs.Line.{Line, tree_of};
 ghost use Rattle.canvas_rewrite.specs.Planned.{IsPlan};
+ghost use Rattle.canvas_rewrite.specs.Utf8.{IsUtf8Line};
 ghost use Rattle.canvas_semantics.specs.NormalLine.{normal};
 ghost use Rattle.canvas_semantics.specs.Tree.{Tree, IsFull, numbered};
 ghost use Rattle.canvas_runs.specs.Causes.{completions};
@@ -79,12 +80,13 @@ pub fn law_of_events()
         → (t : ℕ) → its_state behaviour l t ≡ state_of t (meaning behaviour c) }
 {}
 
-/// There is something of which the law speaks: a chord of two sums and the sum of both has a closed
-/// run by two workers, with these histories, where the first sum's envelope is delivered again. A
-/// history in which both parts find that none was returned before is none of the table, and one in
-/// which a caller delivers again what another took is none of the queue. A script that goes on
-/// after Again, or that acknowledges its envelope before its work, is no core run.
+/// There is something of which the laws speak: a chord of two sums and the sum of both is a plan,
+/// and has a closed run by two workers, with these histories, where the first sum's envelope is
+/// delivered again. A history in which both parts find that none was returned before is none of the
+/// table, and one in which a caller delivers again what another took is none of the queue. A script
+/// that goes on after Again, or that acknowledges its envelope before its work, is no core run.
 pub fn runs_of_a_chord()
+    ensures planned { IsPlan small × IsUtf8Line small }
     ensures stands { (r : Run six_tasks small) × (r.queue ≡ queue) × (r.table ≡ table)
         × Closed six_tasks small r }
     ensures none_lost { IsLegal (roster_of small) lost_part → ⊥ }
