@@ -17,3 +17,5 @@ pub mod KnownTexts
 pub mod TaskTokens
 pub mod LineTokens
 pub mod Turns
+pub mod Utf8Data
+pub mod Utf8Messages

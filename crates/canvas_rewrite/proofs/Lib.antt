@@ -11,3 +11,4 @@ pub mod NodeLines
 pub mod Moved
 pub mod InOrder
 pub mod NamesInOrder
+pub mod Utf8Lines

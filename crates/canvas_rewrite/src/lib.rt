@@ -13,6 +13,7 @@ mod names;
 mod numbering;
 mod plan;
 mod rewriting;
+mod texts;
 
 /// What messages, which carry lines, look at them with.
 pub mod parts {

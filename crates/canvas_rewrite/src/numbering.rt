@@ -1,12 +1,14 @@
 //! Numbers in file order.
-ghost use Rattle.std.specs.Prelude.{◌≡◌, ◌≤◌, ◌+◌, IfOk, map};
+ghost use Rattle.std.specs.Prelude.{◌≡◌, ◌≤◌, ◌+◌, IfOk, OnOk, map};
 ghost use Rattle.canvas_semantics.specs.Tree.{count_task, number_task};
-ghost use Rattle.canvas_values.specs.SignatureView.{task_view};
+ghost use Rattle.canvas_values.specs.SignatureView.{task_view, tasks_of};
 ghost use Rattle.canvas_semantics.specs.Line.{count_line, line_groups, number_line};
 ghost use Rattle.canvas_semantics.specs.PlacedLine.{bare, bare_task};
-ghost use Rattle.canvas_rewrite.specs.FrozenView.{line_of, end_of, p_task_view, p_line_view, p_end_view};
+ghost use Rattle.canvas_rewrite.specs.FrozenView.{line_of, end_of, lines_of, p_task_view, p_line_view, p_end_view};
+ghost use Rattle.canvas_rewrite.specs.Utf8.{IsUtf8Task, AreUtf8Tasks, IsUtf8Line, AreUtf8Lines};
 ghost use Rattle.canvas_semantics.specs.steps.Numbering.{greatest_number, tasks_from, tasks_in, lines_from, lines_count, lines_group_count, HasRoom};
 
+use crate::texts::read_call;
 use crate::{FrozenEnd, FrozenLine, FrozenTask, Line, LineEnd};
 use canvas_task::{GroupNo, ListOf, TaskNo, copy_args, copy_kwargs};
 use canvas_values::TaskSig;
@@ -35,7 +37,10 @@ fn freeze_task(alloc: Global, sig: &TaskSig, next: &mut u32) -> Result<FrozenTas
     ensures value { IfOk result
         (λ t. p_task_view t ≡ bare_task (number_task next.old (task_view sig.now))) }
     ensures next { IfOk result (λ _. next.new ≡ next.old + count_task (task_view sig.now)) }
+    ensures utf8 { OnOk result (IsUtf8Task (task_view sig.now)) }
 {
+    // For the proof alone: a text that is read is known to be UTF-8.
+    read_call(sig);
     let no = task_no(*next);
     *next += 1;
     let name = sig.name.clone()?;
@@ -66,6 +71,7 @@ fn freeze_tasks(
     ensures value { IfOk result
         (λ ts. map p_task_view ts.items ≡ tasks_from next.old (map task_view sigs.now)) }
     ensures next { IfOk result (λ _. next.new ≡ next.old + tasks_in (map task_view sigs.now)) }
+    ensures utf8 { OnOk result (AreUtf8Tasks (tasks_of (map task_view sigs.now))) }
 {
     let mut frozen = Vec::new(alloc);
     for sig in sigs {
@@ -89,6 +95,7 @@ pub(crate) fn freeze_line(
         (λ l. p_line_view l ≡ bare (number_line task.old group.old (line_of line.now))) }
     ensures task { IfOk result (λ _. task.new ≡ task.old + count_line (line_of line.now)) }
     ensures group { IfOk result (λ _. group.new ≡ group.old + line_groups (line_of line.now)) }
+    ensures utf8 { OnOk result (IsUtf8Line (line_of line.now)) }
 {
     let tasks = ListOf::of(freeze_tasks(alloc, line.tasks.get(), task)?);
     match &line.tail {
@@ -117,6 +124,7 @@ fn freeze_end(
         (λ e. p_end_view e ≡ bare (number_line task.old group.old (end_of end.now))) }
     ensures task { IfOk result (λ _. task.new ≡ task.old + count_line (end_of end.now)) }
     ensures group { IfOk result (λ _. group.new ≡ group.old + line_groups (end_of end.now)) }
+    ensures utf8 { OnOk result (IsUtf8Line (end_of end.now)) }
 {
     let number = group_no(*group);
     *group += 1;
@@ -152,6 +160,7 @@ fn freeze_lines(
     ensures task { IfOk result (λ _. task.new ≡ task.old + lines_count (map line_of lines.now)) }
     ensures group { IfOk result
         (λ _. group.new ≡ group.old + lines_group_count (map line_of lines.now)) }
+    ensures utf8 { OnOk result (AreUtf8Lines (lines_of (map line_of lines.now))) }
 {
     let mut frozen = Vec::new(alloc);
     for line in lines {

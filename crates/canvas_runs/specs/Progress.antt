@@ -5,6 +5,7 @@
 --     calls_made xs      how many calls a core run makes; a take that found nothing is none
 --     FewCalls           a run has few of them, by the plan's tasks and its redeliveries
 --     CanGoOn, AtRest    a worker that may make another call; one that has nothing left to do
+--     PlansReadBack      the messages of every plan that is made read back from their envelopes
 --     UnderWay           the first messages are published, and each worker can go on or is at rest
 --     GoesOn r p s       the worker p makes one call in the run r, which is s then
 --     Next r p           the worker p can make a call next, and the run is under way then
@@ -14,12 +15,13 @@
 --     Start n, Ending r  a run under way in which workers 0 to n can go on; a closed run to which r
 --                        leads
 use Rattle.std.specs.Prelude.{◌≡◌, ◌≢◌, ◌≤◌, ◌⊎◌, ◌+◌, ◌*◌, ℕ, zero, suc, true, List, [], ◌++◌, length}
-use Rattle.canvas_task.specs.Apply.{Behaviour}
+use Rattle.canvas_task.specs.Apply.{Behaviour, AnswersInRange}
 use Rattle.canvas_history.specs.Answers.{entries_by}
 use Rattle.canvas_history.specs.History.{among, live}
 use Rattle.canvas_semantics.specs.Line.{Line, count_line}
 use Rattle.canvas_rewrite.specs.FrozenView.{PCarried}
 use Rattle.canvas_rewrite.specs.Planned.{IsPlan}
+use Rattle.canvas_rewrite.specs.Utf8.{IsUtf8Line}
 use Rattle.canvas_message.specs.Content.{Content}
 use Rattle.canvas_message.specs.declared.envelope.Envelope.{Envelope}
 use Rattle.canvas_broker.specs.Broker as broker
@@ -129,6 +131,13 @@ module _ (behaviour : Behaviour) (l : Line) where
     pub steps : ℕ
     pub leads : Leads r run steps
     pub closed : Closed behaviour l run
+
+-- The messages of a plan whose texts are UTF-8 read back, where no task answers a number out of
+-- range: so do those of every plan that `freeze` gives, whatever the registry of tasks.
+abbrev pub PlansReadBack : Type 0
+PlansReadBack =
+    (behaviour : Behaviour) → AnswersInRange behaviour
+    → (l : Line) → IsPlan l → IsUtf8Line l → AllReadBack behaviour l
 
 -- No worker waits for another one: each that can go on makes a call next, unless it has nothing
 -- left to do and the queue is empty.

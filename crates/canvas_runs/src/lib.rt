@@ -12,12 +12,13 @@ ghost use Rattle.canvas_backend.specs.Roster.{roster_of};
 ghost use Rattle.canvas_semantics.specs.Evaluation.{state_of, meaning};
 ghost use Rattle.canvas_semantics.specs.Line.{Line, tree_of};
 ghost use Rattle.canvas_rewrite.specs.Planned.{IsPlan};
+ghost use Rattle.canvas_rewrite.specs.Utf8.{IsUtf8Line};
 ghost use Rattle.canvas_semantics.specs.NormalLine.{normal};
 ghost use Rattle.canvas_semantics.specs.Tree.{Tree, IsFull, numbered};
 ghost use Rattle.canvas_runs.specs.Causes.{completions};
 ghost use Rattle.canvas_runs.specs.EventLaws.{EventStates};
 ghost use Rattle.canvas_runs.specs.Law.{FirstPart, SecondPart, its_state};
-ghost use Rattle.canvas_runs.specs.Progress.{AllReadBack, FewCalls, FewSteps, NoneWaits, NeverStuck, AllEnd, Starts};
+ghost use Rattle.canvas_runs.specs.Progress.{AllReadBack, PlansReadBack, FewCalls, FewSteps, NoneWaits, NeverStuck, AllEnd, Starts};
 ghost use Rattle.canvas_runs.specs.Run.{Run, Closed};
 ghost use Rattle.canvas_runs.specs.Witness.{small, queue, table, lost_part, not_taken, goes_on, acks_first};
 ghost use Rattle.canvas_runs.specs.Core.{IsCoreRun, taking};
@@ -51,18 +52,20 @@ pub fn law_of_bound()
     ensures steps { FewSteps }
 {}
 
-/// No worker waits for another one, if the messages read back from their envelopes. In a run that
-/// is under way each worker that can go on makes a call next, in the middle of a script or by a
-/// take that finds a message, unless it has nothing left to do and the queue is empty. So a run
-/// that is under way is closed or goes on, and leads to a closed one: only a refusal of memory, or
-/// that its workers aren't let go on, can keep it from that. Each plan has a run that is under way,
-/// with its first messages published, for any number of workers. The messages of the chord below
-/// read back.
+/// No worker waits for another one, if the messages read back from their envelopes, as those of
+/// every plan that `freeze` gives do. In a run that is under way each worker that can go on makes a
+/// call next, in the middle of a script or by a take that finds a message, unless it has nothing
+/// left to do and the queue is empty. So a run that is under way is closed or goes on, and leads to
+/// a closed one: only a refusal of memory, or that its workers aren't let go on, can keep it from
+/// that. Each plan has a run that is under way, with its first messages published, for any number
+/// of workers. A plan's messages read back since its texts are UTF-8, and the numbers that tasks
+/// answer are in range; so do those of the chord below.
 pub fn law_of_progress()
     ensures none_waits { NoneWaits }
     ensures never_stuck { NeverStuck }
     ensures ends { AllEnd }
     ensures starts { Starts }
+    ensures read_back { PlansReadBack }
     ensures chord { AllReadBack six_tasks small }
 {}
 
@@ -77,12 +80,13 @@ pub fn law_of_events()
         → (t : ℕ) → its_state behaviour l t ≡ state_of t (meaning behaviour c) }
 {}
 
-/// There is something of which the law speaks: a chord of two sums and the sum of both has a closed
-/// run by two workers, with these histories, where the first sum's envelope is delivered again. A
-/// history in which both parts find that none was returned before is none of the table, and one in
-/// which a caller delivers again what another took is none of the queue. A script that goes on
-/// after Again, or that acknowledges its envelope before its work, is no core run.
+/// There is something of which the laws speak: a chord of two sums and the sum of both is a plan,
+/// and has a closed run by two workers, with these histories, where the first sum's envelope is
+/// delivered again. A history in which both parts find that none was returned before is none of the
+/// table, and one in which a caller delivers again what another took is none of the queue. A script
+/// that goes on after Again, or that acknowledges its envelope before its work, is no core run.
 pub fn runs_of_a_chord()
+    ensures planned { IsPlan small × IsUtf8Line small }
     ensures stands { (r : Run six_tasks small) × (r.queue ≡ queue) × (r.table ≡ table)
         × Closed six_tasks small r }
     ensures none_lost { IsLegal (roster_of small) lost_part → ⊥ }

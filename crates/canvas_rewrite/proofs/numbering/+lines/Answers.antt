@@ -1,13 +1,15 @@
-use Rattle.std.proofs.Common.{◌≡◌, ◌∙◌, ◌+◌, arith, map, ap, sym}
-use Rattle.canvas_values.specs.SignatureView.{task_view}
+use Rattle.std.proofs.Common.{◌≡◌, ◌∙◌, ◌+◌, arith, map, ap, sym, subst}
+use Rattle.canvas_values.specs.SignatureView.{task_view, tasks_of}
 use Rattle.canvas_semantics.specs.Line.{count_line, line_groups}
-use Rattle.canvas_rewrite.specs.FrozenView.{line_of, end_of, p_task_view, p_line_view}
+use Rattle.canvas_rewrite.specs.FrozenView.{line_of, end_of, lines_of, p_task_view, p_line_view}
+use Rattle.canvas_rewrite.specs.Utf8.{AreUtf8Tasks, IsUtf8Line, AreUtf8Lines}
 use Rattle.canvas_semantics.specs.steps.Numbering.{tasks_in, lines_count, lines_group_count}
 use Rattle.canvas_rewrite.specs.declared.line.Line as line
 use Rattle.canvas_rewrite.specs.declared.line.Line.{out-Line}
 use Rattle.canvas_rewrite.specs.declared.line.LineEnd.{LineEnd, out-LineEnd}
 use Rattle.canvas_rewrite.proofs.FrozenLines.{count_none, groups_none, count_some, groups_some, tasks_fit, end_count_none, end_groups_none, end_count_some, end_groups_some, members_fit, groups_fit}
 use Rattle.canvas_rewrite.proofs.FrozenMade.{line_made, longer_made, group_made, chord_made}
+use Rattle.canvas_rewrite.proofs.Utf8Lines.{line_read, longer_read, group_read, chord_read}
 use Rattle.canvas_rewrite.proofs.numbering.+lines.Goals as goal
 
 -- ---- an end
@@ -141,3 +143,31 @@ freeze_line-returns-in_ok-tail-in-Some-clause-group t c =
     let groups : line_groups (end_of c.deref-in-Some.result.now) ≡ line_groups (end_of c.in-Some.end.value) =
     ap (λ e. line_groups (end_of e)) c.deref-in-Some.ensures in
     omega (arith, groups, groups_some l c.in-Some.end c.in-Some.is, c.in_ok-end-in-Some.ensures.group)
+
+-- ---- texts
+
+pub freeze_end-returns-in-None-clause-utf8 : goal.freeze_end-returns-in-None-clause-utf8
+freeze_end-returns-in-None-clause-utf8 t c =
+    group_read c.args.end.now c.in-None.is
+    (subst (λ ls. AreUtf8Lines (lines_of (map line_of ls))) (c.deref.ensures.value ∙ c.get.ensures)
+    c.in_ok-freeze_lines.ensures.utf8)
+
+pub freeze_end-returns-in_ok-body-in-Some-clause-utf8 : goal.freeze_end-returns-in_ok-body-in-Some-clause-utf8
+freeze_end-returns-in_ok-body-in-Some-clause-utf8 t c =
+    chord_read c.args.end.now c.in-Some.body c.in-Some.is
+    (subst (λ ls. AreUtf8Lines (lines_of (map line_of ls))) (c.deref.ensures.value ∙ c.get.ensures)
+    c.in_ok-freeze_lines.ensures.utf8)
+    c.in_ok-body-in-Some.ensures.utf8
+
+pub freeze_line-returns-in-None-clause-utf8 : goal.freeze_line-returns-in-None-clause-utf8
+freeze_line-returns-in-None-clause-utf8 t c =
+    line_read c.args.line.now c.in-None.is
+    (subst (λ ss. AreUtf8Tasks (tasks_of (map task_view ss))) (c.deref.ensures.value ∙ c.get.ensures)
+    c.in_ok-freeze_tasks.ensures.utf8)
+
+pub freeze_line-returns-in_ok-tail-in-Some-clause-utf8 : goal.freeze_line-returns-in_ok-tail-in-Some-clause-utf8
+freeze_line-returns-in_ok-tail-in-Some-clause-utf8 t c =
+    longer_read c.args.line.now c.in-Some.end c.in-Some.is
+    (subst (λ ss. AreUtf8Tasks (tasks_of (map task_view ss))) (c.deref.ensures.value ∙ c.get.ensures)
+    c.in_ok-freeze_tasks.ensures.utf8)
+    (subst (λ e. IsUtf8Line (end_of e)) c.deref-in-Some.ensures c.in_ok-end-in-Some.ensures.utf8)

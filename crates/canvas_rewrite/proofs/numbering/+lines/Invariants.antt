@@ -1,6 +1,7 @@
 use Rattle.std.proofs.Common.{◌≡◌, ◌≤◌, ◌+◌, ◌*◌, ◌++◌, map, drop}
 use Rattle.canvas_semantics.specs.Line.{line_groups}
-use Rattle.canvas_rewrite.specs.FrozenView.{line_of, end_of, p_line_view}
+use Rattle.canvas_rewrite.specs.FrozenView.{line_of, end_of, lines_of, p_line_view}
+use Rattle.canvas_rewrite.specs.Utf8.{AreUtf8Lines}
 use Rattle.canvas_semantics.specs.steps.Numbering.{lines_from, lines_count, lines_group_count}
 use Rattle.canvas_rewrite.proofs.numbering.+lines.Given as goal
 
@@ -20,3 +21,5 @@ invariant-freeze_lines-loop-line l =
     × (l.group + lines_group_count (map line_of (drop l.line-index l.lines)) ≡ l.fn.group + lines_group_count (map line_of l.lines))
     × (map p_line_view l.frozen.items ++ lines_from l.task l.group (map line_of (drop l.line-index l.lines))
     ≡ lines_from l.fn.task l.fn.group (map line_of l.lines))
+    × (AreUtf8Lines (lines_of (map line_of (drop l.line-index l.lines)))
+    → AreUtf8Lines (lines_of (map line_of l.lines)))

@@ -1,8 +1,10 @@
-use Rattle.std.proofs.Common.{◌≡◌, ◌∙◌, arith, map, ap}
-use Rattle.canvas_values.specs.SignatureView.{task_view}
+use Rattle.std.proofs.Common.{◌≡◌, ◌∙◌, arith, map, ap, subst}
+use Rattle.canvas_values.specs.SignatureView.{task_view, tasks_of}
 use Rattle.canvas_values.specs.declared.task_sig.TaskSig.{TaskSig, out-TaskSig}
 use Rattle.canvas_semantics.specs.steps.Numbering.{tasks_in}
+use Rattle.canvas_rewrite.specs.Utf8.{AreUtf8Tasks}
 use Rattle.canvas_rewrite.proofs.FrozenViews.{task_counted, made_as}
+use Rattle.canvas_rewrite.proofs.Utf8Lines.{task_read}
 use Rattle.canvas_rewrite.proofs.numbering.+tasks.Goals as goal
 
 pub freeze_task-freeze_tasks-requires : goal.freeze_task-freeze_tasks-requires
@@ -28,3 +30,11 @@ freeze_task-returns-clause-value t c =
     made_as c.args.sig.now _ _ _ _ _ _ _ _ _ _ c.task_no-no.ensures c.in_ok-name.ensures.cases c.in_ok-args.ensures c.in_ok-kwargs.ensures
     (ap (map _) c.of.ensures ∙ c.in_ok-links.ensures.value) (c.deref.ensures.value ∙ c.get.ensures) c.in_ok-links.ensures.next
     (ap (map _) c.of-2.ensures ∙ c.in_ok-errbacks.ensures.value) (c.deref-2.ensures.value ∙ c.get-2.ensures)
+
+pub freeze_task-returns-clause-utf8 : goal.freeze_task-returns-clause-utf8
+freeze_task-returns-clause-utf8 t c =
+    task_read c.args.sig.now c.read_call.ensures
+    (subst (λ ss. AreUtf8Tasks (tasks_of (map task_view ss))) (c.deref.ensures.value ∙ c.get.ensures)
+    c.in_ok-links.ensures.utf8)
+    (subst (λ ss. AreUtf8Tasks (tasks_of (map task_view ss))) (c.deref-2.ensures.value ∙ c.get-2.ensures)
+    c.in_ok-errbacks.ensures.utf8)

@@ -1,7 +1,8 @@
 use Rattle.std.proofs.Common.{◌≡◌, ◌≤◌, ◌+◌, ◌*◌, ◌++◌, map, drop}
 use Rattle.canvas_semantics.specs.Tree.{count_task}
-use Rattle.canvas_values.specs.SignatureView.{task_view}
+use Rattle.canvas_values.specs.SignatureView.{task_view, tasks_of}
 use Rattle.canvas_rewrite.specs.FrozenView.{p_task_view}
+use Rattle.canvas_rewrite.specs.Utf8.{AreUtf8Tasks}
 use Rattle.canvas_semantics.specs.steps.Numbering.{tasks_from, tasks_in}
 use Rattle.canvas_rewrite.proofs.numbering.+tasks.Given as goal
 
@@ -16,3 +17,5 @@ invariant-freeze_tasks-loop-sig l =
     (1 ≤ l.next) × (l.fn.next ≤ l.next)
     × (l.next + tasks_in (map task_view (drop l.sig-index l.sigs)) ≡ l.fn.next + tasks_in (map task_view l.sigs))
     × (map p_task_view l.frozen.items ++ tasks_from l.next (map task_view (drop l.sig-index l.sigs)) ≡ tasks_from l.fn.next (map task_view l.sigs))
+    × (AreUtf8Tasks (tasks_of (map task_view (drop l.sig-index l.sigs)))
+    → AreUtf8Tasks (tasks_of (map task_view l.sigs)))

@@ -4,8 +4,10 @@ use Rattle.canvas_semantics.specs.PlacedLine.{bare, strip}
 use Rattle.canvas_rewrite.specs.FrozenView.{line_of, line_in}
 use Rattle.canvas_rewrite.specs.Planned.{IsPlan}
 use Rattle.canvas_rewrite.specs.Runnable.{IsRunnable}
+use Rattle.canvas_rewrite.specs.Utf8.{IsUtf8Line}
 use Rattle.canvas_rewrite.proofs.Members.{entries_few}
 use Rattle.canvas_rewrite.proofs.NormalRuns.{runs_numbered}
+use Rattle.canvas_rewrite.proofs.Utf8Lines.{line_numbered}
 use Rattle.canvas_semantics.proofs.Numbered.{strip_bare, count_numbered, groups_numbered, tree_numbered, count_elements, groups_elements}
 use Rattle.canvas_semantics.proofs.Renumbered.{again}
 use Rattle.canvas_rewrite.proofs.plan.freeze.Goals as goal
@@ -41,6 +43,7 @@ invariant_of-result c =
     record {
       placeless = c.in_ok-frozen.ensures.value ∙ ap bare (sym same);
       planned = kept_plan l (line_in frozen) same c.requires;
+      utf8 = subst IsUtf8Line (sym same) (line_numbered l 1 1 c.in_ok-frozen.ensures.utf8);
       counted = omega (arith, counted, c.in_ok-frozen.ensures.task);
       groups_counted = omega (arith, groups_counted, c.in_ok-frozen.ensures.group);
       named = c.in_ok-push_names.ensures ∙ ap (λ ns. ns ++ names (line_in frozen)) c.new-names.ensures.items;
@@ -55,3 +58,10 @@ returns-clause-line c = ap strip c.in_ok-frozen.ensures.value ∙ strip_bare (nu
 pub returns-clause-tree : goal.returns-clause-tree
 returns-clause-tree c = ap tree_of (ap strip c.in_ok-frozen.ensures.value ∙ strip_bare (number_line 1 1 (line_of c.args.line.now)))
     ∙ tree_numbered (line_of c.args.line.now)
+
+pub returns-clause-utf8 : goal.returns-clause-utf8
+returns-clause-utf8 c =
+    let l = line_of c.args.line.now in
+    let same : line_in c.in_ok-frozen.frozen ≡ number_line 1 1 l =
+    ap strip c.in_ok-frozen.ensures.value ∙ strip_bare (number_line 1 1 l) in
+    subst IsUtf8Line (sym same) (line_numbered l 1 1 c.in_ok-frozen.ensures.utf8)
