@@ -1,6 +1,7 @@
 pub mod Correct
 pub mod Evidence
 pub mod Headline
+pub mod RecordLaws
 pub mod CommaList
 pub mod EntryList
 pub mod Texts
