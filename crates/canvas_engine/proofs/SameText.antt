@@ -14,7 +14,8 @@ use Rattle.canvas_semantics.proofs.RowNumbers.{states_in, states_listed}
 use Rattle.canvas_semantics.proofs.SameReport.{same_report, same_report_of}
 use Rattle.canvas_turns.specs.Spending.{Entry}
 use Rattle.canvas_engine.specs.Correct.{AreWorkers, IsAsked, IsWholeAgain}
-use Rattle.canvas_engine.specs.Headline.{Headline}
+use Rattle.canvas_history.specs.Callers.{told}
+use Rattle.canvas_engine.specs.Headline.{Headline, OnlyWanted}
 use Rattle.canvas_engine.specs.Texts.{IsPlanOfText, IsStored, IsTextAgain, IsTextFault, IsTextRun}
 use Rattle.canvas_engine.specs.steps.PlanTexts.{IsPlanFault}
 use Rattle.canvas_engine.specs.declared.fault.RunFault.{RunFault}
@@ -47,19 +48,20 @@ stored_report t f cause rows (Err e) o is made k = rw made tt
 -- ---- what a text answers, by what its plan answers
 
 module _ (behaviour : Behaviour) (bytes : Text) (c : Tree) (all : Line) (plan : IsPlanOfText bytes c all) where
-  pub ran_recorded : (n : ℕ) (r : Result (String Global × Records) TextFault)
+  pub ran_recorded : (may_want : ℕ → ℕ → Type 0) (n : ℕ) (r : Result (String Global × Records) TextFault)
       → IfOk r (λ x. AreWorkers n × (string_bytes x.0 ≡ report_of (tree_of all) (rows_from 1 (states behaviour (tree_of all))))
-      × Headline behaviour all n (states behaviour (tree_of all)) x.1)
-      → IfOk r (λ x. IsTextRun behaviour bytes n (string_bytes x.0) x.1)
-  ran_recorded n (Ok x) k = record {
+      × Headline behaviour all n (states behaviour (tree_of all)) x.1 × OnlyWanted may_want (told x.1.pass))
+      → IfOk r (λ x. IsTextRun behaviour may_want bytes n (string_bytes x.0) x.1)
+  ran_recorded may_want n (Ok x) k = record {
     canvas = c;
     line = all;
     planned = plan;
     workers = k.0;
     reported = k.1 ∙ same_text behaviour c all plan.same plan.tree;
     ran = k.2;
+    wanted = k.3;
   }
-  ran_recorded n (Err f) k = tt
+  ran_recorded may_want n (Err f) k = tt
 
   pub ran_again : (n : ℕ) (turns : List ℕ) (es : List Entry) (r : Result (String Global × ℕ) TextFault)
       → IfOk r (λ x. IsAsked n turns × (rows : List State) × (string_bytes x.0 ≡ report_of (tree_of all) (rows_from 1 rows))

@@ -16,7 +16,7 @@ use Rattle.canvas_runs.specs.Lists.{Each}
 use Rattle.canvas_callers.specs.Crew.{Mate, SplitPasses, JoinPasses, SplitSeats, JoinSeats}
 use Rattle.canvas_worker.specs.Finished.{Finished}
 use Rattle.canvas_worker.specs.declared.record.Record.{Record}
-use Rattle.canvas_engine.specs.steps.Crews.{numbered_counts, tallies_from}
+use Rattle.canvas_engine.specs.steps.Crews.{numbered_counts, tallies_from, AreWanted}
 use Rattle.canvas_engine.specs.steps.Slots.{HasHands, IsReadySlot, IsSplitOff, SplitsOff, LeavesPost, RanSlot, AllRan, LeftARecord, IsWell, IsPostOf, AreOf, TakesIn, tally_in}
 use Rattle.canvas_engine.specs.declared.slot.Post.{Post}
 use Rattle.canvas_engine.specs.declared.slot.Post.TheVariants.{Ready, Done, Lost}
@@ -54,34 +54,35 @@ serves_of plan s t (c ∷ cs) m = serves_of plan m.0 t cs m.2 ∙ m.1.0
 
 -- ---- by index, one after the other
 
-abbrev pub EachRan : (behaviour : Behaviour) → Roster → List Slot → List Slot → Type 0
-EachRan behaviour plan [] [] = Unit {0}
-EachRan behaviour plan (x ∷ xs) (y ∷ ys) = RanSlot behaviour plan x y × EachRan behaviour plan xs ys
-EachRan behaviour plan xs ys = ⊥
+abbrev pub EachRan : (behaviour : Behaviour) → (ℕ → ℕ → Type 0) → Roster → List Slot → List Slot → Type 0
+EachRan behaviour may_want plan [] [] = Unit {0}
+EachRan behaviour may_want plan (x ∷ xs) (y ∷ ys) = RanSlot behaviour may_want plan x y × EachRan behaviour may_want plan xs ys
+EachRan behaviour may_want plan xs ys = ⊥
 
-pub each_ran : (behaviour : Behaviour) → (plan : Roster) (xs ys : List Slot) → length ys ≡ length xs → AllRan behaviour plan xs ys
-    → EachRan behaviour plan xs ys
-each_ran behaviour plan [] [] n f = tt
-each_ran behaviour plan [] (y ∷ ys) n f = absurd (omega (arith, n))
-each_ran behaviour plan (x ∷ xs) [] n f = absurd (omega (arith, n))
-each_ran behaviour plan (x ∷ xs) (y ∷ ys) n f =
-    (f 0 x (omega arith), each_ran behaviour plan xs ys (omega (arith, n)) (λ i d b. f (suc i) d (omega (arith, b))))
+pub each_ran : (behaviour : Behaviour) (may_want : ℕ → ℕ → Type 0) (plan : Roster) (xs ys : List Slot) → length ys ≡ length xs
+    → AllRan behaviour may_want plan xs ys → EachRan behaviour may_want plan xs ys
+each_ran behaviour may_want plan [] [] n f = tt
+each_ran behaviour may_want plan [] (y ∷ ys) n f = absurd (omega (arith, n))
+each_ran behaviour may_want plan (x ∷ xs) [] n f = absurd (omega (arith, n))
+each_ran behaviour may_want plan (x ∷ xs) (y ∷ ys) n f =
+    (f 0 x (omega arith), each_ran behaviour may_want plan xs ys (omega (arith, n)) (λ i d b. f (suc i) d (omega (arith, b))))
 
 -- ---- the workers of a run
 
 -- what a worker left is of the broker and of the backend of which its pass and its seat were
-pub finished_of : (behaviour : Behaviour) → (plan : Roster) (k : ℕ) (q : Pass) (t : Seat) (r : Record) → Finished behaviour plan k q t r
-    → (r.pass.of ≡ q.of) × (r.seat.of ≡ t.of)
-finished_of behaviour plan k q t r f = (
+pub finished_of : (behaviour : Behaviour) (may_want : ℕ → ℕ → Type 0) (plan : Roster) (k : ℕ) (q : Pass) (t : Seat) (r : Record)
+    → Finished behaviour may_want plan k q t r → (r.pass.of ≡ q.of) × (r.seat.of ≡ t.of)
+finished_of behaviour may_want plan k q t r f = (
   ap (λ (x : Pass). x.of) f.pass_is ∙ makes_of q f.ended.pass f.followed.made f.followed.makes,
   ap (λ (x : Seat). x.of) f.seat_is
       ∙ serves_of plan t f.ended.seat _ f.followed.serves,
 )
 
 -- a worker that was ready and is done has finished
-finished : (behaviour : Behaviour) → (plan : Roster) (k : ℕ) (x y : Post) (q : Pass) (t : Seat) (r : Record) → x ≡ Ready q t → y ≡ Done r
-    → LeavesPost behaviour plan k x y → Finished behaviour plan k q t r
-finished behaviour plan k x y q t r e f l = subst (λ p. LeavesPost behaviour plan k (Ready q t) p) f (subst (λ p. LeavesPost behaviour plan k p y) e l)
+finished : (behaviour : Behaviour) (may_want : ℕ → ℕ → Type 0) (plan : Roster) (k : ℕ) (x y : Post) (q : Pass) (t : Seat) (r : Record) → x ≡ Ready q t
+    → y ≡ Done r → LeavesPost behaviour may_want plan k x y → Finished behaviour may_want plan k q t r
+finished behaviour may_want plan k x y q t r e f l =
+    subst (λ p. LeavesPost behaviour may_want plan k (Ready q t) p) f (subst (λ p. LeavesPost behaviour may_want plan k p y) e l)
 
 left_of : (x : Post) → LeftARecord x → (r : Record) × (x ≡ Done r)
 left_of (Done r) d = (r, refl)
@@ -93,60 +94,64 @@ ready_of b d (Ready q t) h = (q, t, refl, h.0, h.1)
 ready_of b d (Done r) h = absurd h
 ready_of b d Lost h = absurd h
 
-is_of : (behaviour : Behaviour) → (b : SegId Global) (d : TableId) (plan : Roster) (before after : Slot) → IsReadySlot b d before
-    → RanSlot behaviour plan before after → LeftARecord after.post → IsPostOf b d after.post
-is_of behaviour b d plan before after hands ran is =
+is_of : (behaviour : Behaviour) (may_want : ℕ → ℕ → Type 0) (b : SegId Global) (d : TableId) (plan : Roster) (before after : Slot) → IsReadySlot b d before
+    → RanSlot behaviour may_want plan before after → LeftARecord after.post → IsPostOf b d after.post
+is_of behaviour may_want b d plan before after hands ran is =
     let ready = ready_of b d before.post hands in
     let done = left_of after.post is in
-    let f : Finished behaviour plan before.number ready.0 ready.1 done.0 =
-    finished behaviour plan before.number before.post after.post ready.0 ready.1 done.0 ready.2 done.1 ran.1 in
-    let of = finished_of behaviour plan before.number ready.0 ready.1 done.0 f in
+    let f : Finished behaviour may_want plan before.number ready.0 ready.1 done.0 =
+    finished behaviour may_want plan before.number before.post after.post ready.0 ready.1 done.0 ready.2 done.1 ran.1 in
+    let of = finished_of behaviour may_want plan before.number ready.0 ready.1 done.0 f in
     subst (λ p. IsPostOf b d p) (sym done.1) (of.0 ∙ ready.3, of.1 ∙ ready.4)
 
-pub are_of : (behaviour : Behaviour) → (b : SegId Global) (d : TableId) (plan : Roster) (before after : List Slot) → All (IsReadySlot b d) before
-    → EachRan behaviour plan before after → All (λ s. LeftARecord s.post) after → AreOf b d after
-are_of behaviour b d plan [] [] a r f = tt
-are_of behaviour b d plan [] (y ∷ ys) a r f = absurd r
-are_of behaviour b d plan (x ∷ xs) [] a r f = absurd r
-are_of behaviour b d plan (x ∷ xs) (y ∷ ys) a r f = (
-  is_of behaviour b d plan x y (All-head (IsReadySlot b d) x xs a) r.0 (All-head (λ s. LeftARecord s.post) y ys f),
-  are_of behaviour b d plan xs ys (All-tail (IsReadySlot b d) x xs a) r.1 (All-tail (λ s. LeftARecord s.post) y ys f),
+pub are_of : (behaviour : Behaviour) (may_want : ℕ → ℕ → Type 0) (b : SegId Global) (d : TableId) (plan : Roster) (before after : List Slot)
+    → All (IsReadySlot b d) before → EachRan behaviour may_want plan before after → All (λ s. LeftARecord s.post) after → AreOf b d after
+are_of behaviour may_want b d plan [] [] a r f = tt
+are_of behaviour may_want b d plan [] (y ∷ ys) a r f = absurd r
+are_of behaviour may_want b d plan (x ∷ xs) [] a r f = absurd r
+are_of behaviour may_want b d plan (x ∷ xs) (y ∷ ys) a r f = (
+  is_of behaviour may_want b d plan x y (All-head (IsReadySlot b d) x xs a) r.0 (All-head (λ s. LeftARecord s.post) y ys f),
+  are_of behaviour may_want b d plan xs ys (All-tail (IsReadySlot b d) x xs a) r.1 (All-tail (λ s. LeftARecord s.post) y ys f),
 )
 
-tally_of_done : (behaviour : Behaviour) → (k : ℕ) (plan : Roster) (q : Pass) (t : Seat) (slot : Slot) (r : Record) → slot.number ≡ k → slot.post ≡ Done r
-    → (f : Finished behaviour plan k q t r) → tally_in slot ≡ numbered_counts k f.ended.tally
-tally_of_done behaviour k plan q t slot r n e f = ap (λ p. tally_in (record { number = slot.number; post = p })) e
+tally_of_done : (behaviour : Behaviour) (may_want : ℕ → ℕ → Type 0) (k : ℕ) (plan : Roster) (q : Pass) (t : Seat) (slot : Slot) (r : Record) → slot.number ≡ k
+    → slot.post ≡ Done r
+    → (f : Finished behaviour may_want plan k q t r) → tally_in slot ≡ numbered_counts k f.ended.tally
+tally_of_done behaviour may_want k plan q t slot r n e f = ap (λ p. tally_in (record { number = slot.number; post = p })) e
     ∙ (ap (λ m. tally_in (record { number = m; post = Done r })) n ∙ ap (λ c. numbered_counts k c) f.counts)
 
-pub record IsCrewOf (behaviour : Behaviour) (plan : Roster) (k : ℕ) (p : Pass) (s : Seat) (p' : Pass) (s' : Seat) (q : Pass) (t : Seat) (q' : Pass) (t' : Seat)
-    (after : List Slot) (ms : List (Mate behaviour plan)) : Type 0 where
+pub record IsCrewOf (behaviour : Behaviour) (may_want : ℕ → ℕ → Type 0) (plan : Roster) (k : ℕ) (p : Pass) (s : Seat) (p' : Pass) (s' : Seat) (q : Pass)
+    (t : Seat) (q' : Pass) (t' : Seat) (after : List Slot) (ms : List (Mate behaviour plan)) : Type 0 where
   pub count : length ms ≡ length after
   pub splits : SplitPasses p (map (λ (m : Mate behaviour plan). m.pass) ms) p'
   pub joins : JoinPasses q (map (λ (m : Mate behaviour plan). m.ended.pass) ms) q'
   pub seat_splits : SplitSeats plan s (map (λ (m : Mate behaviour plan). m.seat) ms) s'
   pub seat_joins : JoinSeats plan t (map (λ (m : Mate behaviour plan). m.ended.seat) ms) t'
   pub tallies : map tally_in after ≡ tallies_from behaviour k ms
+  pub wanted : AreWanted behaviour plan may_want k ms
   pub done : All (λ x. IsWell x.post) after → Each (λ (m : Mate behaviour plan). IsEnded m.ended) ms
 
 well_done : (x : Post) (r : Record) → x ≡ Done r → IsWell x → r.fault ≡ None
 well_done x r e w = subst IsWell e w
 
-pub crew_of : (behaviour : Behaviour) → (plan : Roster) (k : ℕ) (before after : List Slot) (p p' : Pass) (s s' : Seat) (q q' : Pass) (t t' : Seat)
-    → SplitsOff plan k p s before p' s' → EachRan behaviour plan before after → TakesIn plan q t after q' t'
-    → (ms : List (Mate behaviour plan)) × IsCrewOf behaviour plan k p s p' s' q t q' t' after ms
-crew_of behaviour plan k [] [] p p' s s' q q' t t' m r j =
-    ([], record { count = refl; splits = m.0; joins = j.0; seat_splits = m.1; seat_joins = j.1; tallies = refl; done = λ w. tt })
-crew_of behaviour plan k [] (y ∷ ys) p p' s s' q q' t t' m r j = absurd r
-crew_of behaviour plan k (x ∷ xs) [] p p' s s' q q' t t' m r j = absurd r
-crew_of behaviour plan k (x ∷ xs) (y ∷ ys) p p' s s' q q' t t' m r j =
+pub crew_of : (behaviour : Behaviour) (may_want : ℕ → ℕ → Type 0) (plan : Roster) (k : ℕ) (before after : List Slot) (p p' : Pass) (s s' : Seat)
+    (q q' : Pass) (t t' : Seat)
+    → SplitsOff plan k p s before p' s' → EachRan behaviour may_want plan before after → TakesIn plan q t after q' t'
+    → (ms : List (Mate behaviour plan)) × IsCrewOf behaviour may_want plan k p s p' s' q t q' t' after ms
+crew_of behaviour may_want plan k [] [] p p' s s' q q' t t' m r j =
+    ([], record { count = refl; splits = m.0; joins = j.0; seat_splits = m.1; seat_joins = j.1; tallies = refl; wanted = tt; done = λ w. tt })
+crew_of behaviour may_want plan k [] (y ∷ ys) p p' s s' q q' t t' m r j = absurd r
+crew_of behaviour may_want plan k (x ∷ xs) [] p p' s s' q q' t t' m r j = absurd r
+crew_of behaviour may_want plan k (x ∷ xs) (y ∷ ys) p p' s s' q q' t t' m r j =
     let part = m.2 in
     let own : Pass = part.1.0 in
     let own_seat : Seat = part.1.1 in
     let left : Record = j.0 in
-    let f : Finished behaviour plan k own own_seat left =
-    subst (λ n. Finished behaviour plan n own own_seat left) part.0 (finished behaviour plan x.number x.post y.post own own_seat left part.1.2 j.1 r.0.1) in
+    let f : Finished behaviour may_want plan k own own_seat left =
+    subst (λ n. Finished behaviour may_want plan n own own_seat left) part.0
+    (finished behaviour may_want plan x.number x.post y.post own own_seat left part.1.2 j.1 r.0.1) in
     let mate : Mate behaviour plan = record { pass = own; seat = own_seat; ended = f.ended; followed = f.followed } in
-    let rest = crew_of behaviour plan (suc k) xs ys m.0 p' m.1 s' j.2 q' j.3 t' m.3 r.1 j.7 in
+    let rest = crew_of behaviour may_want plan (suc k) xs ys m.0 p' m.1 s' j.2 q' j.3 t' m.3 r.1 j.7 in
     let c = rest.1 in (
       mate ∷ rest.0,
       record {
@@ -155,8 +160,9 @@ crew_of behaviour plan k (x ∷ xs) (y ∷ ys) p p' s s' q q' t t' m r j =
         joins = (j.2, subst (λ (o : Pass). Owes q o j.2) f.pass_is j.4, j.5, c.joins);
         seat_splits = (m.1, part.1.4, c.seat_splits);
         seat_joins = (j.3, subst (λ (o : Seat). seats.Joined plan t o j.3) f.seat_is j.6, c.seat_joins);
-        tallies = ap (λ a. a ∷ map tally_in ys) (tally_of_done behaviour k plan own own_seat y left (r.0.0 ∙ part.0) j.1 f)
+        tallies = ap (λ a. a ∷ map tally_in ys) (tally_of_done behaviour may_want k plan own own_seat y left (r.0.0 ∙ part.0) j.1 f)
             ∙ ap (λ l. numbered_counts k f.ended.tally ∷ l) c.tallies;
+        wanted = (f.wanted, c.wanted);
         done = λ w. (f.done (well_done y.post left j.1 (All-head (λ x. IsWell x.post) y ys w)), c.done (All-tail (λ x. IsWell x.post) y ys w));
       },
     )

@@ -42,7 +42,7 @@ use Rattle.canvas_worker.specs.declared.cause.Cause.{Cause}
 use Rattle.canvas_worker.specs.declared.cause.Cause.TheVariants.{Memory, Stopped}
 use Rattle.canvas_engine.specs.Correct.{AreWorkers, IsThreadFault}
 use Rattle.canvas_engine.specs.Evidence.{IsRun, AreTallies}
-use Rattle.canvas_engine.specs.steps.Crews.{Crew, IsStart, IsWellGathered, tallies_from}
+use Rattle.canvas_engine.specs.steps.Crews.{Crew, IsStart, IsWellGathered, AreWanted, tallies_from}
 use Rattle.canvas_engine.specs.steps.Slots.{AllRan, IsWell, IsWhy, TakesIn, nothing_counted, tally_in}
 use Rattle.canvas_engine.specs.declared.running.Start.{Start}
 use Rattle.canvas_engine.specs.declared.slot.Slot.{Slot}
@@ -104,7 +104,7 @@ module _ (behaviour : Behaviour) (l : Line) (n : ℕ) (queue : SegId Global) (ta
       rows_of_any behaviour l planned own.pass after rows (ran_to own follows own.pass refl at f after rows reads many)
 
   -- a run that ended well
-  module _ (r : Record) (f : Finished behaviour (roster_of l) 0 pass seat r) (fine : r.fault ≡ None)
+  module _ (r : Record) (may_want : ℕ → ℕ → Type 0) (f : Finished behaviour may_want (roster_of l) 0 pass seat r) (fine : r.fault ≡ None)
       (done : Each (λ (m : Mate behaviour (roster_of l)). IsOver m.ended) c.mates) where
     pub ended_well : (after : Seat) (rows : List State) (reads : Serves (roster_of l) r.seat (reads_from 1 rows) after)
         → EndedWell behaviour l r.pass after (ran_with f.ended f.followed r.pass f.pass_is r.seat (sym f.seat_is) after rows reads)
@@ -139,11 +139,11 @@ swapped a b = let same : a + b ≡ b + a = omega arith in ap (λ n. min greatest
 
 module _ (behaviour : Behaviour) (l : Line) (n : ℕ) (b : SegId Global) (d : Desk) (pass : Pass) (seat : Seat) (c : Crew behaviour l n b d.id pass seat)
     (planned : IsPlan l) where
-  module _ (r : Record) (f : Finished behaviour (roster_of l) 0 pass seat r) (fine : r.fault ≡ None)
+  module _ (r : Record) (may_want : ℕ → ℕ → Type 0) (f : Finished behaviour may_want (roster_of l) 0 pass seat r) (fine : r.fault ≡ None)
       (done : Each (λ (m : Mate behaviour (roster_of l)). IsOver m.ended) c.mates) (after : Seat) (rows : List State)
       (reads : Serves (roster_of l) r.seat (reads_from 1 rows) after) (many : length rows ≡ count_line l) where
     abbrev whole : RanWell behaviour l r.pass after rows
-    whole = ran_well behaviour l n b d.id pass seat c r f fine done after rows reads many
+    whole = ran_well behaviour l n b d.id pass seat c r may_want f fine done after rows reads many
 
     abbrev this : Ran behaviour l r.pass after
     this = whole.to.ran
@@ -247,21 +247,25 @@ unworked_may behaviour l n queue table pass seat c planned after rows reads many
 
 -- and those that it reads where it has worked, however that ended
 pub worked_may : (behaviour : Behaviour) → (l : Line) (n : ℕ) (queue : SegId Global) (table : TableId) (pass : Pass) (seat : Seat)
-    → Crew behaviour l n queue table pass seat → IsPlan l → (r : Record) → Finished behaviour (roster_of l) 0 pass seat r → (after : Seat) (rows : List State)
+    → Crew behaviour l n queue table pass seat → IsPlan l → (r : Record) (may_want : ℕ → ℕ → Type 0) → Finished behaviour may_want (roster_of l) 0 pass seat r
+    → (after : Seat) (rows : List State)
     → Serves (roster_of l) r.seat (reads_from 1 rows) after → length rows ≡ count_line l → EachMay rows (states behaviour (tree_of l))
-worked_may behaviour l n queue table pass seat c planned r f after rows reads many =
+worked_may behaviour l n queue table pass seat c planned r may_want f after rows reads many =
     rows_may behaviour l n queue table pass seat c planned f.ended f.followed r.seat (sym f.seat_is) after rows reads many
 
 -- ---- what worker 0 has taken in
 
-pub gathered : (behaviour : Behaviour) → (l : Line) (n : ℕ) (s : Start) (start : IsStart l n s) (sent : Pass) (after : List Slot) (p : Pass) (t : Seat)
-    → Makes s.hands.pass (published_all s.envelopes.items) sent → AllRan behaviour s.site.backend.plan s.slots.items after → length after ≡ length s.slots.items
-    → TakesIn s.site.backend.plan sent s.hands.seat after p t
-    → (c : Crew behaviour l n s.site.broker s.site.backend.id p t) × (map tally_in after ≡ tallies_from behaviour 1 c.mates)
+pub gathered : (behaviour : Behaviour) (may_want : ℕ → ℕ → Type 0) (l : Line) (n : ℕ) (s : Start) (start : IsStart l n s) (sent : Pass) (after : List Slot)
+    (p : Pass) (t : Seat)
+    → Makes s.hands.pass (published_all s.envelopes.items) sent → AllRan behaviour may_want s.site.backend.plan s.slots.items after
+    → length after ≡ length s.slots.items → TakesIn s.site.backend.plan sent s.hands.seat after p t
+    → (c : Crew behaviour l n s.site.broker s.site.backend.id p t) × AreWanted behaviour (roster_of l) may_want 1 c.mates
+    × (map tally_in after ≡ tallies_from behaviour 1 c.mates)
     × (All (λ x. IsWell x.post) after → Each (λ (m : Mate behaviour (roster_of l)). IsOver m.ended) c.mates)
-gathered behaviour l n s start sent after p t made ran many taken =
-    let each = each_ran behaviour (roster_of l) s.slots.items after many (subst (λ plan. AllRan behaviour plan s.slots.items after) start.plan ran) in
-    let all = crew_of behaviour (roster_of l) 1 s.slots.items after (first_pass s.site.broker) s.hands.pass
+gathered behaviour may_want l n s start sent after p t made ran many taken =
+    let each = each_ran behaviour may_want (roster_of l) s.slots.items after many
+    (subst (λ plan. AllRan behaviour may_want plan s.slots.items after) start.plan ran) in
+    let all = crew_of behaviour may_want (roster_of l) 1 s.slots.items after (first_pass s.site.broker) s.hands.pass
     (first_seat s.site.backend.id) s.hands.seat sent p s.hands.seat t start.parts each (subst (λ plan. TakesIn plan sent s.hands.seat after p t) start.plan taken) in
     let c = all.1 in (
       record {
@@ -277,6 +281,7 @@ gathered behaviour l n s start sent after p t made ran many taken =
         seat_splits = c.seat_splits;
         seat_joins = c.seat_joins;
       },
+      c.wanted,
       c.tallies,
       c.done,
     )

@@ -6,7 +6,7 @@ use mathlib.Core.Logic.{inl, inr}
 use Rattle.std.specs.Prelude.{◌≡◌, ◌≤◌, ℕ, eqb, cond, true, is_some, List, [], ◌∷◌, ◌++◌, map, Option, Some, None, codes}
 use Rattle.std.specs.Option.{option_and_then}
 use Rattle.canvas_task.specs.Apply.{Behaviour}
-use Rattle.canvas_history.specs.History.{Entry, split_off, Sole}
+use Rattle.canvas_history.specs.History.{Entry, calls, split_off, Sole}
 use Rattle.canvas_history.specs.Answers.{answered_calls}
 use Rattle.canvas_history.specs.Callers.{told}
 use Rattle.canvas_semantics.specs.Bodies.{starts, bodies}
@@ -42,6 +42,13 @@ of_task k (Some j) = cond (eqb j k) 1 0
 -- of the messages that a history publishes, how many are those of task k
 abbrev pub publications : ℕ → List (queue.QueueEntry Envelope) → ℕ
 publications k log = total (λ x. of_task k (task_in x.1)) (published_in log)
+
+-- Each envelope that is delivered again is that of a task's message, and whoever delivers it again
+-- had a gate that may want that of this worker and this task.
+abbrev pub OnlyWanted : (ℕ → ℕ → Type 0) → List (queue.QueueEntry Envelope) → Type 0
+OnlyWanted may_want log =
+    (p : ℕ) (e : Envelope) (a : Option Envelope) → In (calls p (queue.redeliver e) a) log
+    → (k : ℕ) × (task_in e ≡ Some k) × may_want p k
 
 -- the part that completes the chord's header was returned
 abbrev pub Completed : Line → ℕ → Course → Type 0

@@ -2,6 +2,7 @@ pub mod Correct
 pub mod Traced
 pub mod Evidence
 pub mod Headline
+pub mod RecordLaws
 pub mod CommaList
 pub mod EntryList
 pub mod Texts

@@ -3,6 +3,7 @@
 use Rattle.std.specs.Prelude.{◌≡◌, ℕ, List, Some, Ok, Err, IfSome, String, string_bytes}
 use Rattle.std.specs.Global.{Global}
 use Rattle.canvas_task.specs.Apply.{Behaviour}
+use Rattle.canvas_history.specs.Callers.{told}
 use Rattle.canvas_values.specs.CanvasText.{text_reading}
 use Rattle.canvas_task.specs.Text.{Text}
 use Rattle.canvas_semantics.specs.NormalLine.{normal}
@@ -14,7 +15,7 @@ use Rattle.canvas_semantics.specs.SameMeaning.{IsSame}
 use Rattle.canvas_semantics.specs.States.{rows_from, states}
 use Rattle.canvas_turns.specs.Spending.{Entry}
 use Rattle.canvas_engine.specs.Correct.{AreWorkers, IsAsked, IsWholeAgain}
-use Rattle.canvas_engine.specs.Headline.{Headline}
+use Rattle.canvas_engine.specs.Headline.{Headline, OnlyWanted}
 use Rattle.canvas_engine.specs.declared.fault.RunFault.{RunFault}
 use Rattle.canvas_engine.specs.declared.fault.RunFault.TheVariants.{Halted}
 use Rattle.canvas_engine.specs.declared.records.Records.{Records}
@@ -44,15 +45,17 @@ IsTextFault behaviour bytes Says (Run f stored) = (c : Tree) × (text_reading by
 IsTextFault behaviour bytes Says Memory = Unit {0}
 
 -- The text is the report of the canvas that the bytes read as, and the records are those of a run
--- of its plan's line by so many workers, with all that such a run promises.
-pub record IsTextRun (behaviour : Behaviour) (bytes : Text) (n : ℕ) (text : Text) (r : Records) :
-    Type 0 where
+-- of its plan's line by so many workers, with all that such a run promises. What was delivered
+-- again, a gate may have wanted.
+pub record IsTextRun (behaviour : Behaviour) (may_want : ℕ → ℕ → Type 0) (bytes : Text) (n : ℕ)
+    (text : Text) (r : Records) : Type 0 where
   pub canvas : Tree
   pub line : Line
   pub planned : IsPlanOfText bytes canvas line
   pub workers : AreWorkers n
   pub reported : text ≡ report behaviour canvas
   pub ran : Headline behaviour line n (states behaviour (tree_of line)) r
+  pub wanted : OnlyWanted may_want (told r.pass)
 
 -- The text is the report of the canvas that the bytes read as, and m of the stores of a run of its
 -- plan's line by these turns, with these entries, answered Again: as many as there are entries for

@@ -5,12 +5,14 @@ ghost use Rattle.canvas_semantics.specs.Line.{Line, count_line, tree_of};
 ghost use Rattle.canvas_rewrite.specs.Planned.{IsPlan};
 ghost use Rattle.canvas_semantics.specs.States.{states};
 ghost use Rattle.canvas_backend.specs.Roster.{roster_of};
+ghost use Rattle.canvas_history.specs.Callers.{told};
 ghost use Rattle.canvas_worker.specs.Finished.{Finished};
 ghost use Rattle.canvas_runs.specs.Following.{Serves};
 ghost use Rattle.canvas_callers.specs.Rows.{reads_from};
 ghost use Rattle.canvas_engine.specs.Correct.{AreWorkers, IsThreadFault};
 ghost use Rattle.canvas_engine.specs.Evidence.{IsRun};
-ghost use Rattle.canvas_engine.specs.steps.Crews.{AreGathered, IsHaltedFor};
+ghost use Rattle.canvas_engine.specs.Headline.{OnlyWanted};
+ghost use Rattle.canvas_engine.specs.steps.Crews.{AreGathered, HaveWorked, IsHaltedFor};
 
 use crate::crew::{Hands, Site};
 use crate::in_rounds::InRounds;
@@ -18,7 +20,7 @@ use crate::{Cause, Records, Report, RunFault, Tally};
 use canvas_backend::{Backend, BackendSeat};
 use canvas_rewrite::Plan;
 use canvas_task::{Fault, ListOf, Outcome, Tasks};
-use canvas_worker::{InFlight, OpenGate, Record, Shared, Stop, Worker};
+use canvas_worker::{Gate, InFlight, OpenGate, Record, Shared, Stop, Worker};
 use futures::executor::block_on;
 use std::alloc::{AllocGlobal, Global};
 use std::random::RandomSource;
@@ -60,7 +62,7 @@ fn work_alone<R: Wait + RandomSource + AllocGlobal, T: Tasks>(
     requires plan { (l : Line) × IsPlan l × (shared.now.backend.now.plan ≡ roster_of l) }
     requires own { (hands.pass.of ≡ shared.now.broker.now)
         × (hands.seat.of ≡ shared.now.backend.now.id) }
-    ensures { IfSome result (Finished (T.behaviour shared.now.tasks.now)
+    ensures { IfSome result (Finished (T.behaviour shared.now.tasks.now) (λ _ _. ⊥)
         shared.now.backend.now.plan 0 hands.pass hands.seat) }
 {
     let Hands { pass, seat } = hands;
@@ -100,22 +102,27 @@ impl Gathered {
     }
 
     /// Worker 0 works until it finds nothing, and reads each task once.
-    pub(crate) fn conclude<R: Wait + RandomSource + AllocGlobal, T: Tasks>(
+    pub(crate) fn conclude<R: Wait + RandomSource + AllocGlobal, T: Tasks, G: Gate>(
         self,
         rt: &R,
         alloc: Global,
         plan: &Plan,
         tasks: &T,
         workers: u32,
+        gate: &G,
         stop: &Stop,
     ) -> Result<(Report, Records), RunFault>
         requires workers { AreWorkers workers }
-        requires gathered { AreGathered (T.behaviour tasks.now) plan.now workers None self }
+        requires gathered { HaveWorked (T.behaviour tasks.now) (G.may_want gate.now) plan.now
+            workers None self }
         ensures ok { IfOk result
             (λ r. IsRun (T.behaviour tasks.now) plan.now workers r.0.rows r.1) }
+        ensures wanted { IfOk result (λ r. OnlyWanted (G.may_want gate.now) (told r.1.pass)) }
         ensures err { IfErr result
             (IsThreadFault workers (states (T.behaviour tasks.now) (tree_of plan.now))) }
     {
+        // For the clauses alone.
+        let _gate = gate;
         let Gathered {
             site,
             hands,

@@ -21,6 +21,8 @@ mod threads;
 mod turn_list;
 mod turns;
 
+ghost use Rattle.canvas_engine.specs.RecordLaws.{FewEntries, AllArePlain};
+
 pub use canvas_worker::{Cause, Gate, OpenGate, Stop, When};
 pub use entry_list::{EntryFault, read_again};
 pub use fault::{MOST_WORKERS, RunFault};
@@ -30,3 +32,13 @@ pub use running::run;
 pub use text::{TextFault, run_text, run_text_again, run_text_recorded, run_text_threads};
 pub use turn_list::read_turns;
 pub use turns::{run_turns, run_turns_again, run_turns_traced, run_turns_within};
+
+/// What follows from what `run` leaves. Whatever the number of workers and their interleaving, its
+/// histories have few calls: six for each task of the plan and four for each redelivery, with the
+/// acknowledgements, and the reads at the end. Behind a gate that wants nothing, as `OpenGate`,
+/// nothing is delivered again: each message that is published is taken once, and each store is the
+/// first of its task.
+pub fn law_of_records()
+    ensures few { FewEntries }
+    ensures plain { AllArePlain }
+{}

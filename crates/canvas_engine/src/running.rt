@@ -2,11 +2,12 @@
 ghost use Rattle.std.specs.Prelude.{◌≡◌, IfOk, IfErr};
 ghost use Rattle.canvas_semantics.specs.Line.{tree_of};
 ghost use Rattle.canvas_rewrite.specs.Planned.{IsPlan};
+ghost use Rattle.canvas_history.specs.Callers.{told};
 ghost use Rattle.canvas_semantics.specs.States.{states};
 ghost use Rattle.canvas_engine.specs.Correct.{AreWorkers, IsThreadFault};
 ghost use Rattle.canvas_engine.specs.Evidence.{IsRun};
-ghost use Rattle.canvas_engine.specs.Headline.{Headline};
-ghost use Rattle.canvas_engine.specs.steps.Crews.{AreGathered, IsStart};
+ghost use Rattle.canvas_engine.specs.Headline.{Headline, OnlyWanted};
+ghost use Rattle.canvas_engine.specs.steps.Crews.{HaveWorked, IsStart};
 
 use crate::crew::{Hands, Site, are_done, fault_of, join_all, split_all, tally_all};
 use crate::fault::MOST_WORKERS;
@@ -82,7 +83,8 @@ where
     G: Gate + Sync,
     requires workers { AreWorkers workers }
     requires start { IsStart plan.now workers start }
-    ensures ok { IfOk result (λ r. AreGathered (T.behaviour tasks.now) plan.now workers r.1 r.0) }
+    ensures ok { IfOk result
+        (λ r. HaveWorked (T.behaviour tasks.now) (G.may_want gate.now) plan.now workers r.1 r.0) }
     ensures err { IfErr result
         (IsThreadFault workers (states (T.behaviour tasks.now) (tree_of plan.now))) }
 {
@@ -142,12 +144,13 @@ where
     requires workers { AreWorkers workers }
     requires start { IsStart plan.now workers start }
     ensures ok { IfOk result (λ r. IsRun (T.behaviour tasks.now) plan.now workers r.0.rows r.1) }
+    ensures wanted { IfOk result (λ r. OnlyWanted (G.may_want gate.now) (told r.1.pass)) }
     ensures err { IfErr result
         (IsThreadFault workers (states (T.behaviour tasks.now) (tree_of plan.now))) }
 {
     match gather(rt, alloc, plan, tasks, workers, gate, stop, start) {
         Ok((gathered, early)) => match early {
-            None => gathered.conclude(rt, alloc, plan, tasks, workers, stop),
+            None => gathered.conclude(rt, alloc, plan, tasks, workers, gate, stop),
             Some(cause) => Err(gathered.halt(plan, tasks, workers, cause)),
         },
         Err(fault) => Err(fault),
@@ -183,6 +186,8 @@ where
     // what it follows from, and more of each worker
     ensures ok { IfOk result
         (λ r. AreWorkers workers × IsRun (T.behaviour tasks.now) plan.now workers r.0.rows r.1) }
+    // what is delivered again, the gate may have wanted
+    ensures wanted { IfOk result (λ r. OnlyWanted (G.may_want gate.now) (told r.1.pass)) }
     ensures err { IfErr result
         (IsThreadFault workers (states (T.behaviour tasks.now) (tree_of plan.now))) }
 {

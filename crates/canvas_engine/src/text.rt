@@ -1,5 +1,6 @@
 //! From the text of a canvas to the text of its report.
 ghost use Rattle.std.specs.Prelude.{◌≡◌, List, Ok, IfOk, IfErr, IfSome, OnOk, string_bytes};
+ghost use Rattle.canvas_history.specs.Callers.{told};
 ghost use Rattle.canvas_values.specs.CanvasText.{text_reading};
 ghost use Rattle.canvas_semantics.specs.NormalLine.{normal};
 ghost use Rattle.canvas_semantics.specs.Tree.{Tree, numbered};
@@ -9,7 +10,7 @@ ghost use Rattle.canvas_semantics.specs.Report.{report, report_of};
 ghost use Rattle.canvas_semantics.specs.SameMeaning.{IsSame};
 ghost use Rattle.canvas_semantics.specs.States.{rows_from, states};
 ghost use Rattle.canvas_engine.specs.Correct.{AreWorkers, IsAsked, IsWholeAgain, IsRunFault, IsThreadFault};
-ghost use Rattle.canvas_engine.specs.Headline.{Headline};
+ghost use Rattle.canvas_engine.specs.Headline.{Headline, OnlyWanted};
 ghost use Rattle.canvas_engine.specs.Texts.{IsPlanOfText, IsStored, IsTextAgain, IsTextFault, IsTextRun};
 ghost use Rattle.canvas_engine.specs.declared.records.Records.{Records};
 ghost use Rattle.canvas_engine.specs.steps.PlanTexts.{IsPlanFault, IsReadFault};
@@ -174,7 +175,8 @@ where
         ≡ report_of (tree_of plan.now)
         (rows_from 1 (states (T.behaviour tasks.now) (tree_of plan.now))))
         × Headline (T.behaviour tasks.now) plan.now workers
-        (states (T.behaviour tasks.now) (tree_of plan.now)) r.1) }
+        (states (T.behaviour tasks.now) (tree_of plan.now)) r.1
+        × OnlyWanted (G.may_want gate.now) (told r.1.pass)) }
     ensures err { IfErr result (IsPlanFault (tree_of plan.now)
         (IsThreadFault workers (states (T.behaviour tasks.now) (tree_of plan.now)))) }
 {
@@ -205,7 +207,8 @@ where
     T: Tasks + Sync,
     G: Gate + Sync,
     ensures ok { IfOk result (λ r.
-        IsTextRun (T.behaviour tasks.now) bytes.now workers (string_bytes r.0) r.1) }
+        IsTextRun (T.behaviour tasks.now) (G.may_want gate.now) bytes.now workers (string_bytes r.0)
+        r.1) }
     ensures err { IfErr result
         (IsTextFault (T.behaviour tasks.now) bytes.now (IsThreadFault workers)) }
 {
@@ -228,7 +231,8 @@ where
     T: Tasks + Sync,
     G: Gate + Sync,
     ensures ok { IfOk result (λ text. (records : Records)
-        × IsTextRun (T.behaviour tasks.now) bytes.now workers (string_bytes text) records) }
+        × IsTextRun (T.behaviour tasks.now) (G.may_want gate.now) bytes.now workers
+        (string_bytes text) records) }
     ensures err { IfErr result
         (IsTextFault (T.behaviour tasks.now) bytes.now (IsThreadFault workers)) }
 {

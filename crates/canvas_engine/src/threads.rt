@@ -25,8 +25,8 @@ where
     G: Gate,
     requires plan { (l : Line) × IsPlan l × (shared.now.backend.now.plan ≡ roster_of l) }
     requires ready { IsReadySlot shared.now.broker.now shared.now.backend.now.id slot.old }
-    ensures { RanSlot (T.behaviour shared.now.tasks.now) shared.now.backend.now.plan slot.old
-        slot.new }
+    ensures { RanSlot (T.behaviour shared.now.tasks.now) (G.may_want shared.now.gate.now)
+        shared.now.backend.now.plan slot.old slot.new }
 {
     match mem::replace(&mut slot.post, Post::Lost) {
         Post::Ready(pass, seat) => {
@@ -55,8 +55,8 @@ where
     G: Gate + Sync,
     requires plan { (l : Line) × IsPlan l × (shared.now.backend.now.plan ≡ roster_of l) }
     requires ready { All (IsReadySlot shared.now.broker.now shared.now.backend.now.id) slots.old }
-    ensures { AllRan (T.behaviour shared.now.tasks.now) shared.now.backend.now.plan slots.old
-        slots.new }
+    ensures { AllRan (T.behaviour shared.now.tasks.now) (G.may_want shared.now.gate.now)
+        shared.now.backend.now.plan slots.old slots.new }
 {
     if slots.is_empty() {
         return;
@@ -66,8 +66,8 @@ where
     let each = |_: usize, slot: &mut Slot|
         requires { ((l : Line) × IsPlan l × (backend.now.plan ≡ roster_of l))
             × IsReadySlot broker.now backend.now.id slot.now }
-        ensures { RanSlot (T.behaviour tasks.entry.now) backend.entry.now.plan slot.entry.now
-            slot.exit.now }
+        ensures { RanSlot (T.behaviour tasks.entry.now) (G.may_want gate.entry.now)
+            backend.entry.now.plan slot.entry.now slot.exit.now }
     {
         work(
             rt,

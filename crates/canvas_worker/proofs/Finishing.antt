@@ -1,20 +1,27 @@
 -- What a new worker's record says in words of the worker that the law of runs speaks of.
-use Rattle.std.proofs.Common.{◌≡◌, ◌∙◌, List, [], refl, sym, subst, arith}
+use Rattle.std.proofs.Common.{◌≡◌, ◌∙◌, ℕ, List, [], refl, sym, subst, arith}
 use Rattle.std.proofs.lemmas.Bool.{false≢true}
+use Rattle.std.specs.Global.{Global}
 use Rattle.canvas_task.specs.Apply.{Behaviour}
+use Rattle.crossbeam_queue.specs.SegTies.{SegId}
 use Rattle.canvas_semantics.specs.Line.{Line}
 use Rattle.canvas_rewrite.specs.FrozenView.{PCarried}
+use Rattle.canvas_rewrite.specs.Planned.{IsPlan}
+use Rattle.canvas_backend.specs.Seats.{Desk}
 use Rattle.canvas_message.specs.Content.{Content}
 use Rattle.canvas_backend.specs.Roster.{Roster, roster_of}
 use Rattle.canvas_broker.specs.Passes.{Empties}
 use Rattle.canvas_runs.specs.Core.{CoreState, taking, resting, over, left_after}
 use Rattle.canvas_runs.specs.Following.{Pass, Seat, Working, Followed, starting, IsOver}
+use Rattle.canvas_runs.specs.Lists.{Each}
 use Rattle.canvas_runs.specs.Worker.{worker, worker_of}
 use Rattle.canvas_worker.specs.Asks.{Asked, Answer}
 use Rattle.canvas_worker.specs.Cores.{IsAlike, GoTogether}
 use Rattle.canvas_worker.specs.EnvelopeWorker.{enveloped}
-use Rattle.canvas_worker.specs.Finished.{WorkersStart, WorkersFinish}
+use Rattle.canvas_worker.specs.Finished.{Finished, WorkersStart}
 use Rattle.canvas_worker.specs.CoreState.{Left, Progress, HasFollowed}
+use Rattle.canvas_worker.specs.Polls.{IsWanted, TellsOf, working_begun}
+use Rattle.canvas_worker.specs.declared.record.Record.{Record}
 use Rattle.canvas_worker.proofs.CoreLaw.{cores_are_workers}
 
 -- over together
@@ -68,6 +75,7 @@ workers_start l plan broker desk number pass seat is of home = record {
   can = tt;
   rested = λ rests. absurd (never rests);
   current = λ inside. absurd (false≢true inside);
+  task = λ inside. absurd (false≢true inside);
   again = tt;
   counts = (omega arith, omega arith, omega arith, omega arith, omega arith);
 }
@@ -75,14 +83,19 @@ workers_start l plan broker desk number pass seat is of home = record {
     never : ◌≡◌ {A = Left} taking resting → ⊥
     never e = cc
 
-pub workers_finish : WorkersFinish
-workers_finish behaviour l plan broker desk number pass seat is r f =
-    let worked : HasFollowed behaviour (roster_of l) (starting pass seat) f.ended =
-    subst (λ (p : Roster). HasFollowed behaviour p (starting pass seat) f.ended) is f.worked in
+pub workers_finish : (behaviour : Behaviour) (may_want : ℕ → ℕ → Type 0) (l : Line) → IsPlan l → (broker : SegId Global) (desk : Desk) (number : ℕ)
+    (pass : Pass) (seat : Seat) → desk.plan ≡ roster_of l → (r : Record) → TellsOf behaviour may_want (working_begun broker desk number pass seat) r
+    → Finished behaviour may_want (roster_of l) number pass seat r
+unfolding followed
+workers_finish behaviour may_want l plan broker desk number pass seat is r f =
+    let both : (w : HasFollowed behaviour (roster_of l) (starting pass seat) f.ended) × Each (IsWanted (may_want number) (roster_of l)) w.made =
+    subst (λ (p : Roster). (w : HasFollowed behaviour p (starting pass seat) f.ended) × Each (IsWanted (may_want number) p) w.made) is (f.worked, f.wanted) in
+    let worked : HasFollowed behaviour (roster_of l) (starting pass seat) f.ended = both.0 in
     record {
       same_number = f.is_of.same_number;
       ended = carried behaviour l f.ended worked.run;
       followed = followed behaviour l pass seat f.ended worked;
+      wanted = both.1;
       pass_is = f.is_of.pass;
       seat_is = f.is_of.seat;
       counts = f.is_of.counts;

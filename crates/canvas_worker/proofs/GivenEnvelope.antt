@@ -1,6 +1,6 @@
 -- An ask of a core that is answered with an envelope.
 use Rattle.std.proofs.Common.{◌≡◌, ◌∙◌, ℕ, ◌+◌, min, false, List, [], ◌∷◌, ◌++◌, Some, Result, Ok, Err, refl, sym, ap, subst}
-use Rattle.std.specs.Prelude.{MatchResult, IsSome}
+use Rattle.std.specs.Prelude.{MatchResult, true, IsSome}
 use Rattle.canvas_task.specs.Apply.{Behaviour}
 use Rattle.canvas_message.specs.declared.envelope.Envelope.{Envelope}
 use Rattle.canvas_backend.specs.Seats.{Desk}
@@ -10,11 +10,12 @@ use Rattle.canvas_broker.specs.Passes.{Took}
 use Rattle.canvas_runs.specs.Book.{book_on}
 use Rattle.canvas_runs.specs.Calls.{backend_call, held_by}
 use Rattle.canvas_runs.specs.Core as C
-use Rattle.canvas_runs.specs.Core.{answered, Suits, ReadsBack}
+use Rattle.canvas_runs.specs.Core.{answered, is_inside, Suits, ReadsBack}
 use Rattle.canvas_runs.specs.Following.{Seat, Serves}
 use Rattle.canvas_runs.specs.Lists.{Each}
 use Rattle.canvas_runs.specs.Tally.{Tally, Counted, dropping, greatest_count}
 use Rattle.canvas_worker.specs.EnvelopeWorker.{enveloped}
+use Rattle.canvas_worker.specs.CorePast.{task_in}
 use Rattle.canvas_worker.specs.SeatRights.{Can}
 use Rattle.canvas_worker.specs.CoreState.{Standing, Progress, asked, drops, after_reply, held, kept_next, task_next}
 use Rattle.canvas_worker.specs.WorkerSteps.{Batched, FromHeld}
@@ -23,7 +24,7 @@ use Rattle.canvas_worker.specs.declared.cause.Cause.TheVariants.{Memory}
 use Rattle.canvas_worker.specs.declared.record.Record.{Record}
 use Rattle.canvas_worker.specs.declared.working.End.{End}
 use Rattle.canvas_worker.proofs.Asking.{may_go_on}
-use Rattle.canvas_worker.proofs.CorePasts.{book_step}
+use Rattle.canvas_worker.proofs.CorePasts.{book_step, task_step}
 use Rattle.canvas_worker.proofs.ShownAsks.{drops_so, takes_taking}
 use Rattle.canvas_worker.proofs.InHand.{batch_can, but_open}
 use Rattle.canvas_worker.proofs.Resting.{given_never}
@@ -110,6 +111,14 @@ module _ (behaviour : Behaviour) (w u : Work) (es : List Envelope) (e : Envelope
       book_step behaviour (book_on plan) w.core.left w.core.kept (C.from_queue (Some e)) (subst (λ b. Suits b (C.from_queue (Some e))) (sym x.asked_is) tt)
       ∙ ap (λ b. held_by (held w.core) b (C.from_queue (Some e))) x.asked_is
 
+  suits_left : Suits (asked w.core.left) (C.from_queue (Some e))
+  suits_left = subst (λ b. Suits b (C.from_queue (Some e))) (sym x.asked_is) tt
+
+  names_task : is_inside core.left ≡ true → core.task ≡ task_in (book_on plan) (held core)
+  names_task i =
+      task_step behaviour (book_on plan) w.core.left w.core.kept w.core.task (C.from_queue (Some e)) suits_left ready.task i
+      ∙ ap (task_in (book_on plan)) (sym (book_step behaviour (book_on plan) w.core.left w.core.kept (C.from_queue (Some e)) suits_left))
+
   from_held : FromHeld behaviour plan between (progress given) e
   from_held = (record { asked = sym x.asked_is; suits = tt; back = back; counts = counted; left = refl; current = current }, x.held, refl, x.seat)
 
@@ -138,6 +147,7 @@ module _ (behaviour : Behaviour) (w u : Work) (es : List Envelope) (e : Envelope
       rested = λ rests. absurd (given_never behaviour plan e
           (subst (λ s. answered (enveloped behaviour plan) s (C.from_queue (Some e)) ≡ C.resting) (takes_taking w.core.left x.asked_is) rests));
       current = λ _. subst (λ h. IsSome h) (sym current) refl;
+      task = λ i. subst (λ (d : Desk). core.task ≡ task_in (book_on d.plan) (held core)) (sym x.desk) (names_task i);
       again = again;
       counts = tallied plan (C.to_queue broker.take) (C.from_queue (Some e)) (progress w).tally (progress given).tally counted;
     };

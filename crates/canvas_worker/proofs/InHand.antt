@@ -106,6 +106,7 @@ redelivered behaviour w v ready inside d =
         can = ready.can;
         rested = λ rests. absurd (not_resting w.core.left inside rests);
         current = ready.current;
+        task = ready.task;
         again = all_still w.pass v.pass (broker.redeliver d.0) None d.2 (in_hand (held w.core) w.held) ready.again;
         counts = ready.counts;
       };

@@ -11,13 +11,15 @@ use Rattle.canvas_broker.specs.Passes.{Took}
 use Rattle.canvas_runs.specs.Core.{Ask, Reply, to_queue, to_table, from_queue, refused, Suits, IsCoreRun, left_after, rest, ack, acked}
 use Rattle.canvas_runs.specs.Following.{Pass, Seat, Makes, Serves, Working, Followed}
 use Rattle.canvas_runs.specs.Calls.{QueueAnswered, TableAnswered, CoreCall, makes, FollowsScripts, scripts_all, scripts_publish, scripts_list_take, scripts_core_take, scripts_ack, held_by, broker_call, broker_calls, core_call, core_calls, backend_call, backend_calls, takes_one, scripts_again}
-use Rattle.canvas_runs.specs.Lists.{total}
+use Rattle.canvas_runs.specs.Lists.{Each, total}
 use Rattle.canvas_runs.specs.Protocol.{Protocol}
 use Rattle.canvas_worker.specs.WorkerSteps.{OnlyBare, AnsweredByCall, FromHeld, Batched, Delivered}
 use Rattle.canvas_runs.specs.Tally.{Tally, CountsMore, IsTally, Counted, greatest_count, publishing, storing, returning, dropping}
 use Rattle.canvas_worker.specs.EnvelopeWorker.{enveloped}
 use Rattle.canvas_worker.specs.CoreState.{Progress, HasFollowed}
+use Rattle.canvas_worker.specs.Polls.{IsWanted}
 use Rattle.canvas_runs.proofs.Sums.{total-append}
+use Rattle.canvas_runs.proofs.Words.{each_append}
 
 makes_append : (cs ds : List (QueueAnswered Envelope)) (p q r : Pass) → Makes p cs q → Makes q ds r → Makes p (cs ++ ds) r
 makes_append [] ds p q r f g = subst (λ x. Makes x ds r) f g
@@ -180,3 +182,46 @@ module _ (behaviour : Behaviour) (plan : Roster) where
     makes = makes_append ((broker.redeliver e, None) ∷ []) f.made w.pass v.pass x.pass s.1 f.makes;
     serves = subst (λ p. Serves plan p (backend_calls f.run) x.seat) s.4 f.serves;
   }
+
+  -- what is delivered again was wanted
+  module _ (again : ℕ → Type 0) where
+    abbrev Wanted : List (QueueAnswered Envelope) → Type 0
+    Wanted cs = Each (IsWanted again plan) cs
+
+    asks_wanted : (a : Ask Envelope) (r : Reply Envelope) → Suits a r → Wanted (broker_call a r)
+    asks_wanted (to_queue broker.take) (from_queue (Some e)) suit = (tt, tt)
+    asks_wanted (to_queue broker.take) (from_queue None) suit = tt
+    asks_wanted (to_queue (broker.publish e)) (from_queue None) suit = (tt, tt)
+    asks_wanted (to_queue (broker.publish e)) refused suit = tt
+    asks_wanted ack acked suit = tt
+    asks_wanted (to_table d) r suit = tt
+    asks_wanted rest r suit = tt
+    asks_wanted a r suit = elim suit [ ]
+
+    takes_wanted : (es : List Envelope) → Wanted (taking_all es)
+    takes_wanted [] = tt
+    takes_wanted (e ∷ es) = (tt, takes_wanted es)
+
+    pub rests_wanted : (w : Progress) (t : IsTally w.tally) → Wanted (rests w t).made
+    unfolding rests nothing_done
+    rests_wanted w t = tt
+
+    pub call_wanted : (w v x : Progress) (a : Ask Envelope) (r : Reply Envelope) (s : AnsweredByCall behaviour plan w v a r) (f : HasFollowed behaviour plan v x)
+        → Wanted f.made → Wanted (call_first w v x a r s f).made
+    unfolding call_first
+    call_wanted w v x a r s f h = each_append (IsWanted again plan) (broker_call a r) f.made (asks_wanted a r s.0.suits) h
+
+    pub held_wanted : (w v x : Progress) (e : Envelope) (s : FromHeld behaviour plan w v e) (f : HasFollowed behaviour plan v x) → Wanted f.made
+        → Wanted (held_first w v x e s f).made
+    unfolding held_first
+    held_wanted w v x e s f h = h
+
+    pub batch_wanted : (w v x : Progress) (es : List Envelope) (s : Batched w v es) (f : HasFollowed behaviour plan v x) → Wanted f.made
+        → Wanted (batch_first w v x es s f).made
+    unfolding batch_first
+    batch_wanted w v x es s f h = each_append (IsWanted again plan) (taking_all es) f.made (takes_wanted es) h
+
+    pub again_wanted : (w v x : Progress) (e : Envelope) (s : Delivered w v e) (f : HasFollowed behaviour plan v x)
+        → IsWanted again plan (broker.redeliver e, None) → Wanted f.made → Wanted (again_first w v x e s f).made
+    unfolding again_first
+    again_wanted w v x e s f i h = (i, h)

@@ -15,6 +15,7 @@ use Rattle.canvas_runs.specs.Tally.{Counted, CountsMore, publishing, storing, re
 use Rattle.canvas_worker.specs.Asks.{Asked, Answer}
 use Rattle.canvas_worker.specs.Books.{no_book}
 use Rattle.canvas_worker.specs.EnvelopeWorker.{enveloped, enveloped_by, no_tasks}
+use Rattle.canvas_worker.specs.CorePast.{task_in}
 use Rattle.canvas_worker.specs.SeatRights.{Can}
 use Rattle.canvas_worker.specs.CoreState.{Standing, Progress, asked, drops, after_reply, open_of, kept_next, task_next}
 use Rattle.canvas_worker.specs.WorkerSteps.{OnlyBare, AnsweredByCall}
@@ -25,7 +26,7 @@ use Rattle.canvas_worker.specs.declared.working.End.{End}
 use Rattle.canvas_worker.proofs.Asking.{may_go_on}
 use Rattle.canvas_worker.proofs.InHand.{call_can, has_open}
 use Rattle.canvas_worker.proofs.Resting.{busy_never}
-use Rattle.canvas_worker.proofs.CorePasts.{book_step}
+use Rattle.canvas_worker.proofs.CorePasts.{book_step, task_step}
 use Rattle.canvas_worker.proofs.ShownAsks.{drops_so, rests_over}
 use Rattle.canvas_worker.proofs.Turns.{of_queue, of_table, tallied, some_none}
 
@@ -172,6 +173,11 @@ module _ (behaviour : Behaviour) (w u : Work) (a : Asked) (r : Answer) (ready : 
       subst (λ h. IsSome h) (sym (book_step behaviour (book_on plan) w.core.left w.core.kept r suits_left))
       (has_open behaviour plan w.core.left w.core.kept r suits_left ready.current i)
 
+  names_task : is_inside after.left ≡ true → task_next (book_on plan) w.core.left w.core.task r ≡ task_in (book_on plan) after.current
+  names_task i =
+      task_step behaviour (book_on plan) w.core.left w.core.kept w.core.task r suits_left ready.task i
+      ∙ ap (task_in (book_on plan)) (sym (book_step behaviour (book_on plan) w.core.left w.core.kept r suits_left))
+
   can : Can plan u.seat (answered (enveloped behaviour plan) w.core.left r)
   can =
       may_go_on behaviour plan ready.plan w.seat u.seat w.core.left r ready.can (subst (λ b. Suits b r) (sym x.asked_is) x.suits)
@@ -213,6 +219,7 @@ module _ (behaviour : Behaviour) (w u : Work) (a : Asked) (r : Answer) (ready : 
     can = subst (λ (d : Desk). Can d.plan u.seat core.left) (sym desk) can;
     rested = x.still;
     current = has_current;
+    task = λ i. subst (λ (d : Desk). core.task ≡ task_in (book_on d.plan) after.current) (sym desk) (names_task i);
     again = again;
     counts = tallied plan a r (progress w).tally after.tally counted;
   }

@@ -1,6 +1,6 @@
 -- What a new worker's record says, where its backend is one of a plan: in words of the worker that
 -- the law of runs speaks of.
-use Rattle.std.specs.Prelude.{◌≡◌, ℕ, None}
+use Rattle.std.specs.Prelude.{◌≡◌, ℕ, Bool, true, None}
 use Rattle.std.specs.Global.{Global}
 use Rattle.canvas_task.specs.Apply.{Behaviour}
 use Rattle.crossbeam_queue.specs.SegTies.{SegId}
@@ -12,18 +12,20 @@ use Rattle.canvas_backend.specs.Seats.{Desk}
 use Rattle.canvas_backend.specs.Roster.{Roster, roster_of}
 use Rattle.canvas_broker.specs.Passes.{Empties}
 use Rattle.canvas_runs.specs.Following.{Pass, Seat, Working, Followed, starting, IsOver}
+use Rattle.canvas_runs.specs.Lists.{Each}
 use Rattle.canvas_runs.specs.Worker.{worker_of}
-use Rattle.canvas_worker.specs.Polls.{Ready, TellsOf, working_begun, tally_of}
+use Rattle.canvas_worker.specs.Polls.{Ready, IsWanted, TellsOf, working_begun, tally_of}
 use Rattle.canvas_worker.specs.declared.record.Record.{Record}
 
--- The record's pass and seat have followed a core run from where they were given to the worker;
--- without a fault it ended with a rest that was answered with no more, and the last take found
--- nothing.
-pub record Finished (behaviour : Behaviour) (plan : Roster) (number : ℕ) (pass : Pass) (seat : Seat)
-    (r : Record) : Type 0 where
+-- The record's pass and seat have followed a core run from where they were given to the worker, and
+-- each envelope that it delivered again was wanted of it; without a fault it ended with a rest that
+-- was answered with no more, and the last take found nothing.
+pub record Finished (behaviour : Behaviour) (may_want : ℕ → ℕ → Type 0) (plan : Roster) (number : ℕ)
+    (pass : Pass) (seat : Seat) (r : Record) : Type 0 where
   pub same_number : r.number ≡ number
   pub ended : Working Content PCarried
   pub followed : Followed (worker_of behaviour plan) plan (starting pass seat) ended
+  pub wanted : Each (IsWanted (may_want number) plan) followed.made
   pub pass_is : r.pass ≡ ended.pass
   pub seat_is : r.seat ≡ ended.seat
   pub counts : tally_of r ≡ ended.tally
@@ -38,10 +40,11 @@ WorkersStart =
     → desk.plan ≡ roster_of l → pass.of ≡ broker → seat.of ≡ desk.id
     → Ready (working_begun broker desk number pass seat)
 
+-- and its record says so, whatever was wanted of which worker for which task
 abbrev pub WorkersFinish : Type 0
 WorkersFinish =
-    (behaviour : Behaviour) (l : Line) → IsPlan l
+    (behaviour : Behaviour) (wanted : ℕ → ℕ → Bool) (l : Line) → IsPlan l
     → (broker : SegId Global) (desk : Desk) (number : ℕ) (pass : Pass) (seat : Seat)
     → desk.plan ≡ roster_of l → (r : Record)
-    → TellsOf behaviour (working_begun broker desk number pass seat) r
-    → Finished behaviour (roster_of l) number pass seat r
+    → TellsOf behaviour (λ p k. wanted p k ≡ true) (working_begun broker desk number pass seat) r
+    → Finished behaviour (λ p k. wanted p k ≡ true) (roster_of l) number pass seat r

@@ -13,11 +13,13 @@ use Rattle.canvas_broker.specs.Passes.{Stands, Empties}
 use Rattle.canvas_history.specs.Callers.{told}
 use Rattle.canvas_history.specs.History.{calls}
 use Rattle.canvas_runs.specs.Core.{resting, over, is_inside}
+use Rattle.canvas_runs.specs.Calls.{QueueAnswered}
 use Rattle.canvas_runs.specs.Following.{Pass, Seat}
 use Rattle.canvas_runs.specs.Lists.{Each}
 use Rattle.canvas_runs.specs.Tally.{Tally, IsTally}
 use Rattle.canvas_worker.specs.Asks.{Asked, Answer}
 use Rattle.canvas_runs.specs.Book.{book_on}
+use Rattle.canvas_worker.specs.CorePast.{task_in}
 use Rattle.canvas_worker.specs.SeatRights.{Can}
 use Rattle.canvas_runs.specs.Tally.{greatest_count}
 use Rattle.canvas_worker.specs.CoreState.{Standing, Progress, HasFollowed, begun as new_core, after_reply, failing, held}
@@ -155,8 +157,10 @@ pub record Ready (w : Work) : Type 0 where
   pub inside : w.core.is_out ≡ false
   pub can : Can w.desk.plan w.seat w.core.left
   pub rested : w.core.left ≡ resting → (w.held ≡ []) × Empties w.pass
-  -- a script that is open has an envelope, and each envelope in hand may be delivered again
+  -- a script that is open has an envelope, of whose message the core knows the task, and each
+  -- envelope in hand may be delivered again
   pub current : is_inside w.core.left ≡ true → IsSome (held w.core)
+  pub task : is_inside w.core.left ≡ true → w.core.task ≡ task_in (book_on w.desk.plan) (held w.core)
   pub again : Each (CanDeliver w.pass) (in_hand (held w.core) w.held)
   pub counts : IsTally (progress w).tally
 
@@ -253,9 +257,17 @@ abbrev pub ActedLast : Behaviour → Work → Option Cause → Work → Type 0
 ActedLast behaviour w fault v =
     (r : Record) → Leaves v fault r → EndsBy (Acts behaviour w.desk.plan) w r
 
+-- where an envelope is delivered again, it is that of a task of which this was wanted
+abbrev pub IsWanted : (ℕ → Type 0) → Roster → QueueAnswered Envelope → Type 0
+IsWanted again plan (redeliver e, r) =
+    (k : ℕ) × (task_in (book_on plan) (Some e) ≡ Some k) × again k
+IsWanted again plan c = Unit {0}
+
 -- From here on the pass and the seat of the record have followed a core run, whose counts the
--- record has.
-pub record TellsOf (behaviour : Behaviour) (w : Work) (r : Record) : Type 0 where
+-- record has. What the worker delivered again was wanted: `may_want` says of which worker and task.
+pub record TellsOf (behaviour : Behaviour) (may_want : ℕ → ℕ → Type 0) (w : Work) (r : Record) :
+    Type 0 where
   pub ended : Progress
   pub worked : HasFollowed behaviour w.desk.plan (progress w) ended
+  pub wanted : Each (IsWanted (may_want w.number) w.desk.plan) worked.made
   pub is_of : IsRecordOf w.number ended r

@@ -77,16 +77,20 @@ impl<R: Wait, T: Tasks, G: Gate> Future for Worker<'_, R, T, G> {
 
     ghost can_poll = { λ w. IsSomeAnd w.working Ready };
 
-    ghost gives = { λ w r. IfSome w.working (λ v. TellsOf (T.behaviour w.tasks.now) v r) };
+    ghost gives = { λ w r. IfSome w.working
+        (λ v. TellsOf (T.behaviour w.tasks.now) (G.may_want w.gate.now) v r) };
 
     fn poll(&mut self, cx: &mut Context<'_>) -> Poll<Record>
         requires { IsSomeAnd self.old.working Ready }
         ensures value { IfReady result
-            (λ r. IfSome self.old.working (λ w. TellsOf (T.behaviour self.old.tasks.now) w r)) }
+            (λ r. IfSome self.old.working (λ w. TellsOf (T.behaviour self.old.tasks.now)
+            (G.may_want self.old.gate.now) w r)) }
         ensures again { OnPending result (IsSomeAnd self.new.working Ready) }
         ensures same { OnPending result ((x : _)
-            → IfSome self.new.working (λ v. TellsOf (T.behaviour self.new.tasks.now) v x)
-            → IfSome self.old.working (λ w. TellsOf (T.behaviour self.old.tasks.now) w x)) }
+            → IfSome self.new.working
+            (λ v. TellsOf (T.behaviour self.new.tasks.now) (G.may_want self.new.gate.now) v x)
+            → IfSome self.old.working
+            (λ w. TellsOf (T.behaviour self.old.tasks.now) (G.may_want self.old.gate.now) w x)) }
         ensures registered { OnPending result (Covers cx.new (λ _. ⊥)) }
         ensures kept { Keeps cx.old cx.new }
         ensures once { OnPending result (IfSome self.old.working

@@ -17,6 +17,7 @@ use Rattle.canvas_runs.specs.Tally.{Tally as Counts}
 use Rattle.canvas_runs.specs.Worker.{sealed}
 use Rattle.canvas_callers.specs.Crew.{Mate, SplitPasses, JoinPasses, SplitSeats, JoinSeats, first_pass, first_seat}
 use Rattle.canvas_turns.specs.Turns.{FirstsRead}
+use Rattle.canvas_worker.specs.Polls.{IsWanted}
 use Rattle.canvas_worker.specs.declared.cause.Cause.{Cause}
 use Rattle.canvas_engine.specs.steps.Slots.{AreOfSite, IsReadySlot, SplitsOff, nothing_counted}
 use Rattle.canvas_engine.specs.declared.records.Tally.{Tally}
@@ -94,6 +95,20 @@ pub record AreGathered (behaviour : Behaviour) (l : Line) (n : ℕ) (fault : Opt
   pub first : g.first ≡ length (first_messages l)
   pub rows : length g.rows.items ≡ count_line l
   pub well : IfNone fault (IsWellGathered behaviour l crew.mates g.tallies.items)
+
+-- what each of the workers, numbered from k on, delivered again was wanted of it
+abbrev pub AreWanted : (behaviour : Behaviour) (plan : Roster) → (ℕ → ℕ → Type 0) → ℕ
+    → List (Mate behaviour plan) → Type 0
+AreWanted behaviour plan may_want k [] = Unit {0}
+AreWanted behaviour plan may_want k (m ∷ ms) =
+    Each (IsWanted (may_want k) plan) m.followed.made
+    × AreWanted behaviour plan may_want (suc k) ms
+
+abbrev pub HaveWorked : (behaviour : Behaviour) → (ℕ → ℕ → Type 0) → Line → ℕ → Option Cause
+    → Gathered → Type 0
+HaveWorked behaviour may_want l n fault g =
+    (h : AreGathered behaviour l n fault g)
+    × AreWanted behaviour (roster_of l) may_want 1 h.crew.mates
 
 -- the fault of a run that ended early for this cause, with rows
 abbrev pub IsHaltedFor : Cause → RunFault → Type 0

@@ -1,7 +1,8 @@
 -- Workers' places in a run on threads: what each begins with, and what it leaves.
 --     IsSplitOff plan k p s slot p' s'     a place of number k, whose pass and seat were split off
 --     SplitsOff plan k p s slots p' s'     places made one after the other, numbered from k on
---     RanSlot plan before after            the worker of this place has run to its end, or was lost
+--     RanSlot may_want plan before after    the worker of this place has run to its end, or was lost;
+--                                           what it delivered again may have been wanted of it
 --     TakesIn plan p s slots p' s'       what the workers left, taken in one after the other
 use Rattle.std.specs.Prelude.{ℕ, suc, ◌≡◌, ◌<◌, List, [], ◌∷◌, length, slice_index_or, All, Any, Option, Some, None}
 use Rattle.std.specs.Global.{Global}
@@ -49,19 +50,22 @@ SplitsOff plan k p s (slot ∷ slots) p' s' =
     × SplitsOff plan (suc k) q t slots p' s'
 
 -- a worker's pass and seat are lost only with its record
-abbrev pub LeavesPost : (behaviour : Behaviour) → Roster → ℕ → Post → Post → Type 0
-LeavesPost behaviour plan n (Ready q t) (Done r) = Finished behaviour plan n q t r
-LeavesPost behaviour plan n (Ready q t) Lost = Unit {0}
-LeavesPost behaviour plan n x y = ⊥
+abbrev pub LeavesPost : (behaviour : Behaviour) → (ℕ → ℕ → Type 0) → Roster → ℕ → Post → Post
+    → Type 0
+LeavesPost behaviour may_want plan n (Ready q t) (Done r) = Finished behaviour may_want plan n q t r
+LeavesPost behaviour may_want plan n (Ready q t) Lost = Unit {0}
+LeavesPost behaviour may_want plan n x y = ⊥
 
-abbrev pub RanSlot : (behaviour : Behaviour) → Roster → Slot → Slot → Type 0
-RanSlot behaviour plan before after =
-    (after.number ≡ before.number) × LeavesPost behaviour plan before.number before.post after.post
+abbrev pub RanSlot : (behaviour : Behaviour) → (ℕ → ℕ → Type 0) → Roster → Slot → Slot → Type 0
+RanSlot behaviour may_want plan before after =
+    (after.number ≡ before.number)
+    × LeavesPost behaviour may_want plan before.number before.post after.post
 
-abbrev pub AllRan : (behaviour : Behaviour) → Roster → List Slot → List Slot → Type 0
-AllRan behaviour plan before after =
+abbrev pub AllRan : (behaviour : Behaviour) → (ℕ → ℕ → Type 0) → Roster → List Slot → List Slot
+    → Type 0
+AllRan behaviour may_want plan before after =
     (i : ℕ) (d : Slot) → i < length before
-    → RanSlot behaviour plan (slice_index_or before i d) (slice_index_or after i d)
+    → RanSlot behaviour may_want plan (slice_index_or before i d) (slice_index_or after i d)
 
 -- the worker has left a record
 abbrev pub LeftARecord : Post → Type 0

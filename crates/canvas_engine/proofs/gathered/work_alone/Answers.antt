@@ -9,7 +9,7 @@ returns-in-Ok g c =
     let plan = c.requires.plan in
     let shared = c.args.shared.now in
     let behaviour = g.T.Tasks.behaviour shared.tasks.now in
-    let gives : TellsOf behaviour (working_begun shared.broker.now shared.backend.now 0 c.args.hands.pass c.args.hands.seat) c.in-Ok.left =
+    let gives : TellsOf behaviour (λ _ _. ⊥) (working_begun shared.broker.now shared.backend.now 0 c.args.hands.pass c.args.hands.seat) c.in-Ok.left =
     search rules in
-    subst (λ p. Finished behaviour p 0 c.args.hands.pass c.args.hands.seat c.in-Ok.left) (sym plan.2)
-    (workers_finish behaviour plan.0 plan.1 shared.broker.now shared.backend.now 0 c.args.hands.pass c.args.hands.seat plan.2 c.in-Ok.left gives)
+    subst (λ p. Finished behaviour (λ _ _. ⊥) p 0 c.args.hands.pass c.args.hands.seat c.in-Ok.left) (sym plan.2)
+    (workers_finish behaviour (λ _ _. ⊥) plan.0 plan.1 shared.broker.now shared.backend.now 0 c.args.hands.pass c.args.hands.seat plan.2 c.in-Ok.left gives)

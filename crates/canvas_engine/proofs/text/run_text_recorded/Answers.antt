@@ -6,7 +6,7 @@ pub returns-clause-ok : goal.returns-clause-ok
 returns-clause-ok g c =
     let plan = c.in_ok-plan.ensures.ok in
     ran_recorded (g.T.Tasks.behaviour c.args.tasks.now) c.args.bytes.now plan.0 c.in_ok-plan.plan plan.1
-    c.args.workers c.plan_text_threads.result c.plan_text_threads.ensures.ok
+    (g.G.Gate.may_want c.args.gate.now) c.args.workers c.plan_text_threads.result c.plan_text_threads.ensures.ok
 
 pub returns-clause-err : goal.returns-clause-err
 returns-clause-err g c =

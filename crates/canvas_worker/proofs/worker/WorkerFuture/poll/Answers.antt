@@ -1,16 +1,20 @@
 use Rattle.std.proofs.Common.{rules, ◌≡◌, ℕ, Bool, Some}
-use Rattle.canvas_worker.specs.Polls.{Work, TellsOf}
+use Rattle.canvas_task.specs.Apply.{Behaviour}
+use Rattle.canvas_worker.specs.Polls.{Work, Ready, TellsOf}
 use Rattle.canvas_worker.proofs.Held.{held_back}
-use Rattle.canvas_worker.proofs.PollsFollowed.{goes_first, ends_give, of_one, pending}
+use Rattle.canvas_worker.proofs.PollsFollowed.{goes_first, ends_give, ready_one, of_one, pending}
 use Rattle.canvas_worker.proofs.worker.WorkerFuture.poll.Goals as goal
 
 pub returns-in-Ok-clause-same : goal.returns-in-Ok-clause-same
 returns-in-Ok-clause-same g c =
     let w : Work = c.in-Some.working in
     let was : c.args.self.now.working ≡ Some w = search rules in
+    let behaviour : Behaviour = g.T.Tasks.behaviour c.args.self.now.tasks.now in
+    let may_want : ℕ → ℕ → Type 0 = g.G.Gate.may_want c.args.self.now.gate.now in
     pending c.yield_now-in-Ok.result _
-    (λ r given. of_one c.args.self.now.working w (λ v. TellsOf (g.T.Tasks.behaviour c.args.self.now.tasks.now) v r) was
-    (goes_first (g.T.Tasks.behaviour c.args.self.now.tasks.now) w c.turn.new.self c.in-Ok.ensures.turned r given))
+    (λ r given. of_one c.args.self.now.working w (λ v. TellsOf behaviour may_want v r) was
+    (goes_first behaviour (g.G.Gate.may_answer c.args.self.now.gate.now w.number) may_want w c.args.self.now.passed
+    (ready_one c.args.self.now.working w was c.requires) c.turn.new.self c.turn.new.passed c.in-Ok.ensures.turned c.in-Ok.ensures.heeds r given))
 
 pub returns-in-Ok-clause-held_back : goal.returns-in-Ok-clause-held_back
 returns-in-Ok-clause-held_back g c =
@@ -26,5 +30,8 @@ pub returns-in-Err-clause-value : goal.returns-in-Err-clause-value
 returns-in-Err-clause-value g c =
     let w : Work = c.in-Some.working in
     let was : c.args.self.now.working ≡ Some w = search rules in
-    of_one c.args.self.now.working w (λ v. TellsOf (g.T.Tasks.behaviour c.args.self.now.tasks.now) v c.leave.result) was
-    (ends_give (g.T.Tasks.behaviour c.args.self.now.tasks.now) w c.leave.result (c.in-Err.ensures.turned c.leave.result c.leave.ensures))
+    let behaviour : Behaviour = g.T.Tasks.behaviour c.args.self.now.tasks.now in
+    let may_want : ℕ → ℕ → Type 0 = g.G.Gate.may_want c.args.self.now.gate.now in
+    of_one c.args.self.now.working w (λ v. TellsOf behaviour may_want v c.leave.result) was
+    (ends_give behaviour (g.G.Gate.may_answer c.args.self.now.gate.now w.number) may_want w c.args.self.now.passed
+    (ready_one c.args.self.now.working w was c.requires) c.leave.result (c.in-Err.ensures.heeds c.leave.result c.leave.ensures))
