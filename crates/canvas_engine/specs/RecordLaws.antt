@@ -1,7 +1,7 @@
 -- What follows from what a run leaves.
 --     FewEntries       its histories have few calls, by its plan's tasks and its redeliveries
---     IsPlain l r      nothing was delivered again, so each message is taken once, and each store is
---                      the first of its task
+--     IsPlain l r      nothing was delivered again, so each message is taken once, and each store
+--                      is the first of its task
 --     AllArePlain      so it is behind a gate that wants nothing
 use Rattle.std.specs.Prelude.{◌≡◌, ◌≤◌, ◌+◌, ℕ, List, length}
 use Rattle.canvas_task.specs.Apply.{Behaviour}

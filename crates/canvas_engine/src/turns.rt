@@ -67,7 +67,8 @@ fn run_list<T: Tasks>(
         → HasReached (T.behaviour tasks.now) plan.now workers most given turns.now stage.new) }
     ensures err { IfErr result (λ cause. (most : ℕ) (given : Given)
         → Reached (T.behaviour tasks.now) plan.now workers most given [] [] stage.old
-        → IsEarlyEnd (T.behaviour tasks.now) cause plan.now workers most given turns.now stage.new) }
+        → IsEarlyEnd (T.behaviour tasks.now) cause plan.now workers most given turns.now
+        stage.new) }
 {
     for worker in turns {
         match stage.turn(alloc, plan, tasks, *worker) {
@@ -94,7 +95,8 @@ fn run_rounds<T: Tasks>(
         → IsRunThrough (T.behaviour tasks.now) plan.now workers most given turns.now stage.new) }
     ensures err { IfErr result (λ cause. (most : ℕ) (given : Given)
         → HasReached (T.behaviour tasks.now) plan.now workers most given turns.now stage.old
-        → IsEarlyEnd (T.behaviour tasks.now) cause plan.now workers most given turns.now stage.new) }
+        → IsEarlyEnd (T.behaviour tasks.now) cause plan.now workers most given turns.now
+        stage.new) }
 {
     loop {
         match run_round(alloc, stage, plan, tasks, workers) {

@@ -160,7 +160,8 @@ pub record Ready (w : Work) : Type 0 where
   -- a script that is open has an envelope, of whose message the core knows the task, and each
   -- envelope in hand may be delivered again
   pub current : is_inside w.core.left ≡ true → IsSome (held w.core)
-  pub task : is_inside w.core.left ≡ true → w.core.task ≡ task_in (book_on w.desk.plan) (held w.core)
+  pub task : is_inside w.core.left ≡ true
+      → w.core.task ≡ task_in (book_on w.desk.plan) (held w.core)
   pub again : Each (CanDeliver w.pass) (in_hand (held w.core) w.held)
   pub counts : IsTally (progress w).tally
 

@@ -1,8 +1,8 @@
 -- Workers' places in a run on threads: what each begins with, and what it leaves.
 --     IsSplitOff plan k p s slot p' s'     a place of number k, whose pass and seat were split off
 --     SplitsOff plan k p s slots p' s'     places made one after the other, numbered from k on
---     RanSlot may_want plan before after    the worker of this place has run to its end, or was lost;
---                                           what it delivered again may have been wanted of it
+--     RanSlot may_want plan before after   the worker of this place has run to its end, or was
+--                                          lost; what it delivered again was wanted of it
 --     TakesIn plan p s slots p' s'       what the workers left, taken in one after the other
 use Rattle.std.specs.Prelude.{ℕ, suc, ◌≡◌, ◌<◌, List, [], ◌∷◌, length, slice_index_or, All, Any, Option, Some, None}
 use Rattle.std.specs.Global.{Global}

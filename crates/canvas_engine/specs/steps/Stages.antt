@@ -155,7 +155,8 @@ pub record Reached (behaviour : Behaviour) (l : Line) (n most : ℕ) (given : Gi
 -- after some steps that these turns make
 abbrev pub HasReached : (behaviour : Behaviour) → Line → ℕ → ℕ → Given → List ℕ → Stage
     → Type 0
-HasReached behaviour l n most given us s = (xs : List Step) × Reached behaviour l n most given us xs s
+HasReached behaviour l n most given us s =
+    (xs : List Step) × Reached behaviour l n most given us xs s
 
 -- ---- a turn
 
