@@ -62,6 +62,13 @@ pub(crate) fn json_argument<'a>(alloc: Global) -> Arg<'a> {
         .help("Prints each task, and then the result, as a JSON object in a line; refusals too")
 }
 
+pub(crate) fn explain_argument<'a>(alloc: Global) -> Arg<'a> {
+    Arg::new(alloc, "explain")
+        .long("explain")
+        .action(ArgAction::SetTrue)
+        .help("Names tasks by their numbers, and says why some were not called or won't run")
+}
+
 pub(crate) fn fail_argument<'a>(alloc: Global) -> Arg<'a> {
     Arg::new(alloc, "fail")
         .long("fail")

@@ -1,8 +1,8 @@
 //! The words of the commands that are answered here.
 
 use crate::arguments::{
-    again_argument, fail_argument, file_argument, json_argument, task_argument, tasks_argument,
-    turns_argument, workers_argument,
+    again_argument, explain_argument, fail_argument, file_argument, json_argument, task_argument,
+    tasks_argument, turns_argument, workers_argument,
 };
 use clap::{Arg, ArgAction, Command};
 use std::alloc::{AllocError, Global};
@@ -14,6 +14,7 @@ pub(crate) fn run_command<'a>(alloc: Global) -> Result<Command<'a>, AllocError> 
         task_argument(alloc),
         tasks_argument(alloc),
         json_argument(alloc),
+        explain_argument(alloc),
         fail_argument(alloc),
     ]?;
     Command::new(alloc, "run")
