@@ -65,7 +65,7 @@ module _ (table : ℕ → List ℕ) where
     all_lt (and_line m ms) low high (middle, i, e, j) =
         let more : middle ≤ high = lines_le ms middle high j in
         each_append (λ k. k < high) (ends_of m) (all_ends_of ms)
-            (each_weaker (λ k a. omega (arith, a, more)) (ends_of m) (ends_lt m low middle i))
+        (each_weaker (λ k a. omega (arith, a, more)) (ends_of m) (ends_lt m low middle i))
         (all_lt ms middle high j)
 
 -- ---- flows
@@ -156,14 +156,14 @@ module _ (behaviour : Behaviour) where
           idle_late k d x i,
           late_both (tasks_fates behaviour ls (to_links s) d) (tasks_fates behaviour es (to_errbacks k x s) d)
               (callbacks_late ls (to_links s) d (links_get s))
-                  (callbacks_late es (to_errbacks k x s) d (errbacks_get k x s)),
+              (callbacks_late es (to_errbacks k x s) d (errbacks_get k x s)),
         )
 
     callbacks_late : (ts : Tasks) (x : Option Flow) (d : ℕ) → IsNoFault x → EachLate (tasks_fates behaviour ts x d)
     callbacks_late no_tasks x d i = tt
     callbacks_late (and_task t ts) x d i =
         late_both (task_fates behaviour t x d) (tasks_fates behaviour ts x d) (callback_late t x d i)
-            (callbacks_late ts x d i)
+        (callbacks_late ts x d i)
 
   task_late : (k : ℕ) (call : Call) (ls es : Tasks) (x : Flow) (d low : ℕ) → low ≤ k → Below x d low
       → EachLate (task_fates behaviour (task k call ls es) (Some x) d)
@@ -172,7 +172,7 @@ module _ (behaviour : Behaviour) where
         own_late k d low x a b,
         late_both (tasks_fates behaviour ls (to_links s) d) (tasks_fates behaviour es (to_errbacks k (Some x) s) d)
             (callbacks_late ls (to_links s) d (links_get s))
-                (callbacks_late es (to_errbacks k (Some x) s) d (errbacks_get k (Some x) s)),
+            (callbacks_late es (to_errbacks k (Some x) s) d (errbacks_get k (Some x) s)),
       )
 
   below_more : (x : Flow) (d low m : ℕ) → low ≤ m → Below x d low → Below x d m
@@ -204,10 +204,10 @@ module _ (behaviour : Behaviour) where
           subst (λ ks. Each (λ k. k < middle) ks) (ends_of_tree (group_end g ms)) (all_lt table ms low middle i)
           in
           late_both (lines_fates behaviour ms x d) (line_fates behaviour body out (blamed_for d out))
-              (members_late ms x d low middle i f b)
+          (members_late ms x d low middle i f b)
           (line_late body out (blamed_for d out) middle high j (fine_out d out)
           (grouped (all_rows behaviour ms x) x d low middle (all_ends (members_of ms)) ends
-              (lines_le table ms low middle i) b f))
+          (lines_le table ms low middle i) b f))
 
       members_late : (ms : Lines) (x : Flow) (d low high : ℕ) → LinesIn table ms low high → blamed_for d x ≡ d
           → Below x d low

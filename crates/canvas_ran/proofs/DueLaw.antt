@@ -85,14 +85,14 @@ module _ (behaviour : Behaviour) (w : Rows) where
           idle_due w k d x i,
           due_both w (tasks_fates behaviour ls (to_links s) d) (tasks_fates behaviour es (to_errbacks k x s) d)
               (callbacks_due ls (to_links s) d (links_get s))
-                  (callbacks_due es (to_errbacks k x s) d (errbacks_get k x s)),
+              (callbacks_due es (to_errbacks k x s) d (errbacks_get k x s)),
         )
 
     callbacks_due : (ts : Tasks) (x : Option Flow) (d : ℕ) → IsNoFault x → EachDue w (tasks_fates behaviour ts x d)
     callbacks_due no_tasks x d i = tt
     callbacks_due (and_task t ts) x d i =
         due_both w (task_fates behaviour t x d) (tasks_fates behaviour ts x d) (callback_due t x d i)
-            (callbacks_due ts x d i)
+        (callbacks_due ts x d i)
 
   own_due : (k : ℕ) (call : Call) (x : Flow) (d : ℕ) → state_of k w ≡ state behaviour call (Some x) → Blames w x d
       → Due w k (fate d (Some x))
@@ -120,7 +120,7 @@ module _ (behaviour : Behaviour) (w : Rows) where
         own_due k call x d e b,
         due_both w (tasks_fates behaviour ls (to_links s) d) (tasks_fates behaviour es (to_errbacks k (Some x) s) d)
             (callbacks_due ls (to_links s) d (links_get s))
-                (callbacks_due es (to_errbacks k (Some x) s) d (errbacks_get k (Some x) s)),
+            (callbacks_due es (to_errbacks k (Some x) s) d (errbacks_get k (Some x) s)),
       )
 
   mutual
@@ -135,7 +135,7 @@ module _ (behaviour : Behaviour) (w : Rows) where
         due_both w (task_fates behaviour t (Some x) d) (line_fates behaviour rest out blamed)
         (task_due k call ls es x d h.0 b)
         (line_due rest out blamed (holds_right w (task_rows behaviour t (Some x)) (line_rows behaviour rest out) h)
-            (fine_passed blamed s)
+        (fine_passed blamed s)
         (next_blames k call x d h.0 b))
     line_due (group_end g ms) x d h f b = members_due ms x d (holds_left w (all_rows behaviour ms x) [] h) f b
     line_due (chord_end g ms body) x d h f b =
@@ -144,19 +144,19 @@ module _ (behaviour : Behaviour) (w : Rows) where
         holds_left w (all_rows behaviour ms x ++ line_rows behaviour body out) [] h
         in
         let of_header : Holds w (all_rows behaviour ms x) =
-            holds_left w (all_rows behaviour ms x) (line_rows behaviour body out) all in
+        holds_left w (all_rows behaviour ms x) (line_rows behaviour body out) all in
         let ends : with_states w (all_ends_of ms) ≡ with_states (all_rows behaviour ms x) (all_ends (members_of ms)) =
         same_states w (all_rows behaviour ms x) (all_ends_of ms) of_header (members_there behaviour ms x)
         ∙ ap (with_states (all_rows behaviour ms x)) (ends_of_tree (group_end g ms))
         in
         let blames : Blames w out (blamed_for d out) =
         subst (λ es. Blames w (group_value x es) (blamed_for d (group_value x es))) ends
-            (grouped w x d (all_ends_of ms) b f)
+        (grouped w x d (all_ends_of ms) b f)
         in
         due_both w (lines_fates behaviour ms x d) (line_fates behaviour body out (blamed_for d out))
         (members_due ms x d of_header f b)
         (line_due body out (blamed_for d out) (holds_right w (all_rows behaviour ms x)
-            (line_rows behaviour body out) all) (fine_out d out) blames)
+        (line_rows behaviour body out) all) (fine_out d out) blames)
 
     members_due : (ms : Lines) (x : Flow) (d : ℕ) → Holds w (all_rows behaviour ms x) → blamed_for d x ≡ d
         → Blames w x d

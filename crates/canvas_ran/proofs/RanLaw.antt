@@ -219,7 +219,7 @@ module _ (behaviour : Behaviour) where
   task_right w (task k call ls es) x d h =
       let s : State = state behaviour call (Some x) in
       let own : fate_by (came x d) (state_of k w) ≡ fate d (Some x) = ap (fate_by (came x d)) h.0
-          ∙ fate_came call x d in
+      ∙ fate_came call x d in
       let links : seen_callbacks w ls ≡ tasks_fates behaviour ls (to_links s) d =
       callbacks_right w ls (to_links s) d (links_get s)
       (holds_left w (tasks_rows behaviour ls (to_links s)) (tasks_rows behaviour es (to_errbacks k (Some x) s)) h.1)
@@ -232,7 +232,7 @@ module _ (behaviour : Behaviour) where
 
   after_came : (k : ℕ) (call : Call) (x : Flow) (d : ℕ)
       → after (came x d) k (state behaviour call (Some x)) ≡ came (passed_on (state behaviour call (Some x)))
-          (blamed_behind k d x)
+      (blamed_behind k d x)
   after_came k call nothing d = by_outcome k _
   after_came k call (num n) d = by_outcome k _
   after_came k call (list ns) d = by_outcome k _
@@ -254,18 +254,18 @@ module _ (behaviour : Behaviour) where
     ends_there (step (task k call ls es) stop) x = (inl refl, tt)
     ends_there (step t (step u l)) x =
         each_right (ends_of (step u l)) (task_meaning behaviour t x).rows _
-            (ends_there (step u l) (task_meaning behaviour t x).out)
+        (ends_there (step u l) (task_meaning behaviour t x).out)
     ends_there (step t (group_end g ms)) x =
         each_right (all_ends_of ms) (task_meaning behaviour t x).rows _
-            (ends_there (group_end g ms) (task_meaning behaviour t x).out)
+        (ends_there (group_end g ms) (task_meaning behaviour t x).out)
     ends_there (step t (chord_end g ms b)) x =
         each_right (ends_of b) (task_meaning behaviour t x).rows _
-            (ends_there (chord_end g ms b) (task_meaning behaviour t x).out)
+        (ends_there (chord_end g ms b) (task_meaning behaviour t x).out)
     ends_there (group_end g ms) x = each_left (all_ends_of ms) (all_rows ms x) [] (members_there ms x)
     ends_there (chord_end g ms b) x =
         each_left (ends_of b) (all_rows ms x ++ line_rows b (header_out behaviour ms x)) []
         (each_right (ends_of b) (all_rows ms x) (line_rows b (header_out behaviour ms x))
-            (ends_there b (header_out behaviour ms x)))
+        (ends_there b (header_out behaviour ms x)))
 
     pub members_there : (ms : Lines) (x : Flow) → EachHas (all_ends_of ms) (all_rows ms x)
     members_there no_lines x = tt
@@ -288,13 +288,13 @@ module _ (behaviour : Behaviour) where
           let out : Flow = passed_on s in
           let blamed : ℕ = blamed_behind k d x in
           let next : after (came x d) k (state_of k w) ≡ came out blamed = ap (after (came x d) k) h.0
-              ∙ after_came k call x d in
+          ∙ after_came k call x d in
           let first : seen_task w t (came x d) ≡ task_fates behaviour t (Some x) d =
           task_right w t x d (holds_left w (task_rows behaviour t (Some x)) (line_rows rest out) h)
           in
           let later : seen w table rest (came out blamed) ≡ line_fates behaviour rest out blamed =
           line_right w rest out blamed middle high j (holds_right w (task_rows behaviour t (Some x))
-              (line_rows rest out) h) (fine_passed blamed s)
+          (line_rows rest out) h) (fine_passed blamed s)
           in
           ap (λ c. seen_task w t (came x d) ++ seen w table rest c) next ∙ (λ n. first n ++ later n)
       line_right w (group_end g ms) x d low high i h f =
@@ -311,10 +311,10 @@ module _ (behaviour : Behaviour) where
           ap (into_body (came x d)) ends ∙ came_out x d (with_states (all_rows ms x) (all_ends (members_of ms))) f
           in
           let first : seen_all w table ms (came x d) ≡ lines_fates behaviour ms x d =
-              members_right w ms x d low middle i of_header f in
+          members_right w ms x d low middle i of_header f in
           let later : seen w table b (came out (blamed_for d out)) ≡ line_fates behaviour b out (blamed_for d out) =
           line_right w b out (blamed_for d out) middle high j (holds_right w (all_rows ms x) (line_rows b out) all)
-              (fine_out d out)
+          (fine_out d out)
           in
           ap (λ c. seen_all w table ms (came x d) ++ seen w table b c) next ∙ (λ n. first n ++ later n)
 
@@ -336,7 +336,7 @@ module _ (behaviour : Behaviour) where
   plan_rows l p =
       let tree : tree_of l ≡ numbered (tree_of l) = ap tree_of (sym p.numbered) ∙ tree_numbered l in
       ap (λ t. rows_from 1 (states behaviour t)) tree ∙
-          (states_whole behaviour (tree_of l) ∙ ap (λ t. (eval behaviour t nothing).rows) (sym tree))
+      (states_whole behaviour (tree_of l) ∙ ap (λ t. (eval behaviour t nothing).rows) (sym tree))
 
   pub plan_holds : (l : Line) → IsPlan l → Holds (line_rows l nothing) (line_rows l nothing)
   plan_holds l p = subst (λ rs. Holds rs rs) (plan_rows l p) (whole 1 (states behaviour (tree_of l)))

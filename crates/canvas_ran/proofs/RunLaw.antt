@@ -145,35 +145,35 @@ module _ (behaviour : Behaviour) where
     idle_task : (t : Task) (d : ℕ) → ran_in (task_fates behaviour t None d) ≡ []
     idle_task (task k call ls es) d =
         ran_more (tasks_fates behaviour ls None d) (tasks_fates behaviour es None d)
-            ∙ ap₂ (λ a b. a ++ b) (idle_tasks ls d) (idle_tasks es d)
+        ∙ ap₂ (λ a b. a ++ b) (idle_tasks ls d) (idle_tasks es d)
 
     idle_tasks : (ts : Tasks) (d : ℕ) → ran_in (tasks_fates behaviour ts None d) ≡ []
     idle_tasks no_tasks d = refl
     idle_tasks (and_task t ts) d =
         ran_more (task_fates behaviour t None d) (tasks_fates behaviour ts None d)
-            ∙ ap₂ (λ a b. a ++ b) (idle_task t d) (idle_tasks ts d)
+        ∙ ap₂ (λ a b. a ++ b) (idle_task t d) (idle_tasks ts d)
 
   -- links, or error callbacks
   chosen_fates : (k : ℕ) (ls es : Tasks) (x : Input) (d : ℕ) (o : Outcome)
       → ((n : ℤ) → published (ran_all behaviour ls (number_input n) (end_of_line k)) ≡ ran_in
-          (tasks_fates behaviour ls (Some (eval.num n)) d))
+      (tasks_fates behaviour ls (Some (eval.num n)) d))
       → published (ran_all behaviour es (id_input k) (end_of_line k)) ≡ ran_in
-          (tasks_fates behaviour es (Some (eval.id k)) d)
+      (tasks_fates behaviour es (Some (eval.id k)) d)
       → published (chosen o (ran_all behaviour ls (input_of_success o) (end_of_line k))
-          (ran_all behaviour es (id_input k) (end_of_line k)))
+      (ran_all behaviour es (id_input k) (end_of_line k)))
       ≡ ran_in (tasks_fates behaviour ls (to_links (Some o)) d ++ tasks_fates behaviour es
-          (to_errbacks k (Some (input_flow x)) (Some o)) d)
+      (to_errbacks k (Some (input_flow x)) (Some o)) d)
   chosen_fates k ls es x d (Success n) f g =
       sym (ran_more (tasks_fates behaviour ls (Some (eval.num n)) d)
-          (tasks_fates behaviour es (to_errbacks k (Some (input_flow x)) (Some (Success n))) d)
+      (tasks_fates behaviour es (to_errbacks k (Some (input_flow x)) (Some (Success n))) d)
       ∙ (ap₂ (λ a b. a ++ b) (sym (f n)) (ap (λ y. ran_in (tasks_fates behaviour es y d)) (input_passes k x n)
-          ∙ idle_tasks es d)
+      ∙ idle_tasks es d)
       ∙ append-nil (published (ran_all behaviour ls (number_input n) (end_of_line k)))))
   chosen_fates k ls es x d (Failure e) f g =
       sym (ran_more (tasks_fates behaviour ls None d) (tasks_fates behaviour es
-          (to_errbacks k (Some (input_flow x)) (Some (Failure e))) d)
+      (to_errbacks k (Some (input_flow x)) (Some (Failure e))) d)
       ∙ ap₂ (λ a b. a ++ b) (idle_tasks ls d) (ap (λ y. ran_in (tasks_fates behaviour es y d)) (input_fails k x e)
-          ∙ sym g))
+      ∙ sym g))
 
   mutual
     task_same : (t : Task) (x : Input) (v : Event) (rest : Line) (p : PPlace) (d : ℕ)
@@ -183,14 +183,14 @@ module _ (behaviour : Behaviour) where
         let own : Fate = fate d (Some (input_flow x)) in
         ap (λ ks. k ∷ ks)
         (chosen_fates k ls es x d o (λ n. tasks_same ls (number_input n) (end_of_line k) d)
-            (tasks_same es (id_input k) (end_of_line k) d)
+        (tasks_same es (id_input k) (end_of_line k) d)
         ∙ ap (λ s. ran_in (tasks_fates behaviour ls (to_links s) d ++ tasks_fates behaviour es
-            (to_errbacks k (Some (input_flow x)) s) d))
+        (to_errbacks k (Some (input_flow x)) s) d))
         (sym (input_state k call ls es x)))
         ∙ ap (λ f. if_ran k f (ran_in (tasks_fates behaviour ls
-            (to_links (state behaviour call (Some (input_flow x)))) d
+        (to_links (state behaviour call (Some (input_flow x)))) d
         ++ tasks_fates behaviour es (to_errbacks k (Some (input_flow x))
-            (state behaviour call (Some (input_flow x)))) d)))
+        (state behaviour call (Some (input_flow x)))) d)))
         (sym (input_ran x d))
 
     tasks_same : (ts : Tasks) (x : Input) (v : Event) (d : ℕ)
@@ -198,7 +198,7 @@ module _ (behaviour : Behaviour) where
     tasks_same no_tasks x v d = refl
     tasks_same (and_task t ts) x v d =
         both (ran behaviour t x v stop p_nowhere) (ran_all behaviour ts x v)
-            (task_fates behaviour t (Some (input_flow x)) d)
+        (task_fates behaviour t (Some (input_flow x)) d)
         (tasks_fates behaviour ts (Some (input_flow x)) d) (task_same t x v stop p_nowhere d) (tasks_same ts x v d)
 
 -- ---- the last tasks of lines
@@ -233,7 +233,7 @@ module _ (behaviour : Behaviour) (w : Rows) where
       let o : Outcome = outcome_with behaviour t x in
       end_state true rest (after_outcome o) p j (end_of_line j) e (λ _. i.0 ∙ ap (λ q. Some q) (outcome_back o))
       (kept_right w (ran behaviour t x v rest p) (events_in_file behaviour rest (after_outcome o) p j
-          (end_of_line j)) i)
+      (end_of_line j)) i)
   end_state b (step (task j call ls es) rest) (skips f) p k v e h i =
       end_state true rest (skips f) p j v e (λ _. i.0) i.1
   end_state b (step (task j call ls es) rest) (raise f) p k v e h i =
@@ -253,12 +253,12 @@ module _ (behaviour : Behaviour) (w : Rows) where
       let k : ℕ = last_task 0 (bare m) in
       let own : state_of k w ≡ Some (flow_outcome (out behaviour m x)) =
       end_state false m x p 0 v e (λ f. absurd (cc)) (kept_left w (events_in_file behaviour m x p 0 v)
-          (items_all behaviour ms x p v) i)
+      (items_all behaviour ms x p v) i)
       in
       ap (λ ks. with_states w (ks ++ all_ends_of ms)) (one_line m e)
       ∙ ap₂ (λ s rs. (k, s) ∷ rs) own
       (members_end table ms x p v middle high n (kept_right w (events_in_file behaviour m x p 0 v)
-          (items_all behaviour ms x p v) i))
+      (items_all behaviour ms x p v) i))
 
 -- ---- what goes out of a header
 
@@ -310,7 +310,7 @@ module _ (behaviour : Behaviour) (w : Rows) (table : ℕ → List ℕ) where
       let ends : with_states rows (all_ends (members_of ms)) ≡ as_rows (outs behaviour ms x) =
       sym (ap (with_states rows) (ends_of_tree (group_end g ms)))
       ∙ (sym (same_states w rows (all_ends_of ms) h (members_there behaviour ms (flow_of x)))
-          ∙ members_end behaviour w table ms x p v low high n i)
+      ∙ members_end behaviour w table ms x p v low high n i)
       in
       ap (group_value (flow_of x)) ends ∙ joined_flow x (outs behaviour ms x)
 
@@ -345,7 +345,7 @@ module _ (behaviour : Behaviour) (w : Rows) (table : ℕ → List ℕ) where
         line_same rest (skips f) p j v d middle high n
         (holds_right w (task_rows behaviour t (Some (eval.skip f))) (line_rows behaviour rest (eval.skip f)) h) i.1
         ∙ sym (ran_more (tasks_fates behaviour ls None d ++ tasks_fates behaviour es None d)
-            (line_fates behaviour rest (eval.skip f) d)
+        (line_fates behaviour rest (eval.skip f) d)
         ∙ ap (λ ks. ks ++ ran_in (line_fates behaviour rest (eval.skip f) d)) idle)
     line_same (step (task j call ls es) rest) (raise f) p k v d low high (middle, m, n) h i =
         let t : Task = task j call ls es in
@@ -357,7 +357,7 @@ module _ (behaviour : Behaviour) (w : Rows) (table : ℕ → List ℕ) where
         in
         both (ran_all behaviour es (id_input j) v) (events_in_file behaviour rest (skips f) p j v)
         (tasks_fates behaviour ls None d ++ tasks_fates behaviour es (Some (eval.id j)) d)
-            (line_fates behaviour rest (eval.skip f) d)
+        (line_fates behaviour rest (eval.skip f) d)
         errbacks
         (line_same rest (skips f) p j v d middle high n
         (holds_right w (task_rows behaviour t (Some (eval.raised f))) (line_rows behaviour rest (eval.skip f)) h)
@@ -373,13 +373,13 @@ module _ (behaviour : Behaviour) (w : Rows) (table : ℕ → List ℕ) where
         holds_left w (all_rows behaviour ms (flow_of x) ++ line_rows behaviour b out) [] h
         in
         let of_members : Holds w (all_rows behaviour ms (flow_of x)) =
-            holds_left w (all_rows behaviour ms (flow_of x)) (line_rows behaviour b out) all in
+        holds_left w (all_rows behaviour ms (flow_of x)) (line_rows behaviour b out) all in
         let kept : Kept w (items_all behaviour ms x place v) =
-            kept_left w (items_all behaviour ms x place v) (events_in_file behaviour b y p 0 next) i in
+        kept_left w (items_all behaviour ms x place v) (events_in_file behaviour b y p 0 next) i in
         let same : out ≡ flow_of y = header_same g ms x place v low middle m of_members kept in
         let of_body : Holds w (line_rows behaviour b (flow_of y)) =
         subst (λ z. Holds w (line_rows behaviour b z)) same
-            (holds_right w (all_rows behaviour ms (flow_of x)) (line_rows behaviour b out) all)
+        (holds_right w (all_rows behaviour ms (flow_of x)) (line_rows behaviour b out) all)
         in
         both (items_all behaviour ms x place v) (events_in_file behaviour b y p 0 next)
         (lines_fates behaviour ms (flow_of x) d) (line_fates behaviour b out (blamed_for d out))
@@ -394,12 +394,12 @@ module _ (behaviour : Behaviour) (w : Rows) (table : ℕ → List ℕ) where
     members_same no_lines x p v d low high n h i = refl
     members_same (and_line m ms) x p v d low high (middle, j, e, n) h i =
         both (events_in_file behaviour m x p 0 v) (items_all behaviour ms x p v) (line_fates behaviour m (flow_of x) d)
-            (lines_fates behaviour ms (flow_of x) d)
+        (lines_fates behaviour ms (flow_of x) d)
         (line_same m x p 0 v d low middle j (holds_left w (line_rows behaviour m (flow_of x))
-            (all_rows behaviour ms (flow_of x)) h)
+        (all_rows behaviour ms (flow_of x)) h)
         (kept_left w (events_in_file behaviour m x p 0 v) (items_all behaviour ms x p v) i))
         (members_same ms x p v d middle high n (holds_right w (line_rows behaviour m (flow_of x))
-            (all_rows behaviour ms (flow_of x)) h)
+        (all_rows behaviour ms (flow_of x)) h)
         (kept_right w (events_in_file behaviour m x p 0 v) (items_all behaviour ms x p v) i))
 
 -- ---- whole plans
@@ -445,7 +445,7 @@ all_same : (behaviour : Behaviour) (l : Line) → IsPlan l
 all_same behaviour l plan =
     let w : Rows = line_rows behaviour l eval.nothing in
     line_same behaviour w (λ g. members l g) l (run no_input) p_nowhere 0 start 0 1 (1 + count_line l)
-        (plan_in_order l plan) (plan_holds behaviour l plan)
+    (plan_in_order l plan) (plan_holds behaviour l plan)
     (kept_all w (evaluated behaviour l) (λ v t o i. (event_states behaviour l plan).of_stored t o (v, i)))
 
 pub ran_is_run : (behaviour : Behaviour) (l : Line) → IsPlan l → RanIsRun behaviour l
@@ -454,5 +454,5 @@ ran_is_run behaviour l plan = record {
       (subst (λ ks. In k ks) (sym (all_same behaviour l plan)) (of_ran k (fates behaviour l) i));
   called = λ k r. in_ran k (fates behaviour l) (subst (λ ks. In k ks) (all_same behaviour l plan)
       (subst (λ n. In n (published (evaluated behaviour l))) r.1
-          (of_published r.0 r.2.0 (evaluated behaviour l) r.2.1)));
+      (of_published r.0 r.2.0 (evaluated behaviour l) r.2.1)));
 }

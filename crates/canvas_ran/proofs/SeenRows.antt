@@ -35,13 +35,13 @@ module _ (w : Rows) where
     task_told : (t : Task) (c : Came) → told (seen_task w t c) ≡ named (names_of_task t)
     task_told (task k call ls es) c =
         ap (λ ks. k ∷ ks) (both (seen_callbacks w ls) (seen_callbacks w es) (names_of_tasks ls) (names_of_tasks es)
-            (callbacks_told ls) (callbacks_told es))
+        (callbacks_told ls) (callbacks_told es))
 
     callbacks_told : (ts : Tasks) → told (seen_callbacks w ts) ≡ named (names_of_tasks ts)
     callbacks_told no_tasks = refl
     callbacks_told (and_task t ts) =
         both (seen_task w t Value) (seen_callbacks w ts) (names_of_task t) (names_of_tasks ts) (task_told t Value)
-            (callbacks_told ts)
+        (callbacks_told ts)
 
   module _ (table : ℕ → List ℕ) where
     mutual
@@ -49,15 +49,15 @@ module _ (w : Rows) where
       line_told stop c = refl
       line_told (step t rest) c =
           both (seen_task w t c) (seen w table rest (after c (no_of t) (state_of (no_of t) w))) (names_of_task t)
-              (all_names_by_number (elements_of rest))
+          (all_names_by_number (elements_of rest))
           (task_told t c) (line_told rest (after c (no_of t) (state_of (no_of t) w)))
       line_told (group_end g ms) c = members_told ms c ∙ sym
           (ap named (append-nil (all_names_by_number (members_of ms))))
       line_told (chord_end g ms b) c =
           both (seen_all w table ms c) (seen w table b (into_body c (with_states w (table g))))
-              (all_names_by_number (members_of ms))
+          (all_names_by_number (members_of ms))
           (all_names_by_number (elements_of b)) (members_told ms c)
-              (line_told b (into_body c (with_states w (table g))))
+          (line_told b (into_body c (with_states w (table g))))
           ∙ sym (ap named (append-nil (all_names_by_number (members_of ms) ++ all_names_by_number (elements_of b))))
 
       members_told : (ms : Lines) (c : Came) → told (seen_all w table ms c) ≡ named
@@ -65,7 +65,7 @@ module _ (w : Rows) where
       members_told no_lines c = refl
       members_told (and_line m ms) c =
           both (seen w table m c) (seen_all w table ms c) (all_names_by_number (elements_of m))
-              (all_names_by_number (members_of ms)) (line_told m c)
+          (all_names_by_number (members_of ms)) (line_told m c)
           (members_told ms c)
 
 counted : (k : ℕ) (ns : List Text) → named (counted_from k ns) ≡ numbers_from k (length ns)
@@ -89,9 +89,11 @@ idle_by (Raise d) (Some o) = (λ e. absurd (cc), λ e. absurd (cc))
 module _ (w : Rows) where
   mutual
     task_idle : (t : Task) (c : Came) → Each (IsIdleIfPending w) (seen_task w t c)
-    task_idle (task k call ls es) c =
-        (idle_by c (state_of k w), each_append (IsIdleIfPending w) (seen_callbacks w ls) (seen_callbacks w es)
-            (callbacks_idle ls) (callbacks_idle es))
+    task_idle (task k call ls es) c = (
+      idle_by c (state_of k w),
+      each_append (IsIdleIfPending w) (seen_callbacks w ls) (seen_callbacks w es)
+          (callbacks_idle ls) (callbacks_idle es),
+    )
 
     callbacks_idle : (ts : Tasks) → Each (IsIdleIfPending w) (seen_callbacks w ts)
     callbacks_idle no_tasks = tt
@@ -104,12 +106,12 @@ module _ (w : Rows) where
       line_idle stop c = tt
       line_idle (step t rest) c =
           each_append (IsIdleIfPending w) (seen_task w t c)
-              (seen w table rest (after c (no_of t) (state_of (no_of t) w)))
+          (seen w table rest (after c (no_of t) (state_of (no_of t) w)))
           (task_idle t c) (line_idle rest (after c (no_of t) (state_of (no_of t) w)))
       line_idle (group_end g ms) c = members_idle ms c
       line_idle (chord_end g ms b) c =
           each_append (IsIdleIfPending w) (seen_all w table ms c)
-              (seen w table b (into_body c (with_states w (table g))))
+          (seen w table b (into_body c (with_states w (table g))))
           (members_idle ms c) (line_idle b (into_body c (with_states w (table g))))
 
       members_idle : (ms : Lines) (c : Came) → Each (IsIdleIfPending w) (seen_all w table ms c)

@@ -34,11 +34,11 @@ module _ (rows : Rows) where
   pub task_seen : (t : FrozenTask) (c : Came) → seen_task rows (task_in t) c
       ≡ ((out-FrozenTask t).no, fate_by c (state_of (out-FrozenTask t).no rows))
       ∷ callbacks_seen rows (map task_in (out-FrozenTask t).links) ++ callbacks_seen rows
-          (map task_in (out-FrozenTask t).errbacks)
+      (map task_in (out-FrozenTask t).errbacks)
   task_seen t c =
       ap (λ p. seen_task rows (strip_task p) c)
       (ftask.fold_out-FrozenTask PCarried PLine PLine PTask PPlace
-          carried_step p_end_step p_line_step p_task_step place_step t)
+      carried_step p_end_step p_line_step p_task_step place_step t)
       ∙ (λ i. ((out-FrozenTask t).no, fate_by c (state_of (out-FrozenTask t).no rows))
       ∷ of_list (out-FrozenTask t).links i ++ of_list (out-FrozenTask t).errbacks i)
 
@@ -50,7 +50,7 @@ module _ (rows : Rows) where
         let next : Came = after c (no_of t) (state_of (no_of t) rows) in
         ap (λ ns. seen_task rows t c ++ ns) (steps_seen ts l next)
         ∙ sym (append_assoc (seen_task rows t c) (tasks_seen rows ts next)
-            (seen rows table l (came_behind rows ts next)))
+        (seen rows table l (came_behind rows ts next)))
 
     all_lines : (ls : List Line) (c : Came) → seen_all rows table (lines_of ls) c ≡ lines_seen rows table ls c
     all_lines [] c = refl

@@ -8,4 +8,4 @@ use Rattle.canvas_ran.proofs.came.first_failed.Given as goal
 abbrev pub invariant-loop-task : goal.invariant-loop-task
 invariant-loop-task l =
     first_failed (with_states (rows_from 1 l.rows) (drop l.task-index l.tasks)) ≡ first_failed
-        (with_states (rows_from 1 l.rows) l.tasks)
+    (with_states (rows_from 1 l.rows) l.tasks)

@@ -15,19 +15,19 @@ use Rattle.canvas_ran.proofs.reading.fates.Goals as goal
 pub returns-clause-from_rows : goal.returns-clause-from_rows
 returns-clause-from_rows c =
     at_plan c.args.plan.now
-        (line_in c.line.result.now) _ _ _ _ Value c.new-found.ensures.items c.in_ok-push_line.ensures
+    (line_in c.line.result.now) _ _ _ _ Value c.new-found.ensures.items c.in_ok-push_line.ensures
     (c.deref.ensures.value ∙ c.get.ensures) (ap strip c.line.ensures.value ∙ strip_bare c.args.plan.now)
 
 pub returns-clause-evaluated : goal.returns-clause-evaluated
 returns-clause-evaluated c behaviour e =
     returns-clause-from_rows c
-        ∙ plan_right behaviour c.args.plan.now c.args.report.now.rows c.line.ensures.planned c.line.ensures.in_order e
+    ∙ plan_right behaviour c.args.plan.now c.args.report.now.rows c.line.ensures.planned c.line.ensures.in_order e
 
 pub returns-clause-numbered : goal.returns-clause-numbered
 returns-clause-numbered c =
     ap (λ fs. map (λ f. f.0) fs) (returns-clause-from_rows c)
     ∙ plan_told (rows_from 1 c.args.report.now.rows)
-        (members c.args.plan.now) c.args.plan.now Value c.line.ensures.planned
+    (members c.args.plan.now) c.args.plan.now Value c.line.ensures.planned
 
 pub returns-clause-pending : goal.returns-clause-pending
 returns-clause-pending c =

@@ -23,6 +23,6 @@ push_task-returns t c =
     (two before (task.no, fate_by came (state_of task.no rows)) _ _ (callbacks_seen rows (map task_in task.links))
     (callbacks_seen rows (map task_in task.errbacks)) c.push.new.self.items c.push_callbacks.new.found.items
     (c.in_ok-push.ensures.items ∙ ap (λ f. before ++ (task.no, f) ∷
-        []) fate) c.in_ok-push_callbacks.ensures links errbacks
+    []) fate) c.in_ok-push_callbacks.ensures links errbacks
     ∙ ap (λ ns. before ++ ns) (sym (task_seen rows c.args.task.now came)))
     c.push_callbacks-2.ensures
