@@ -37,16 +37,47 @@ def status_of(states):
     return next((STATES[it] for it in (str, type(None)) if it in map(type, states)), "SUCCESS")
 
 
-def json_report(canvas):
-    """The text that `canvas run --json` prints, and the status with `--fail`."""
+def json_report(canvas, tells=True):
+    """The text that `canvas run --json` prints, and the status with `--fail`. That of `collect`
+    doesn't tell which tasks were called."""
     walk = Walk(canvas)
     lines = [{"name": row.name, "result": result_of(row.state), "status": STATES[type(row.state)],
               "task_id": identifier(task)} for task, row in enumerate(walk.rows, 1)]
+    for line, row in zip(lines, walk.rows if tells else []):
+        line.update(ran=row.ran, due_to=row.due and identifier(row.due))
     states = [walk.rows[end - 1].state for end in walk.ends]
     results = [result_of(it) for it in states]
     status = status_of(states)
     lines.append({"result": results if ends_in_group(canvas) else results[0], "status": status})
     return "".join(written(it) + "\n" for it in lines), 3 if status == "FAILURE" else 0
+
+
+def numbered(state):
+    """A state, in which tasks go by their numbers."""
+    if state is None:
+        return "-"
+    head, named, behind = str(state).partition("Dependency ")
+    if not named:
+        return head
+    task, _, why = behind.partition(" ")
+    return "%s%s#%d %s" % (head, named, rules.task_named(task), why)
+
+
+def reason(row):
+    """Why a task wasn't called."""
+    if row.due:
+        return " (not called, due to #%d)" % row.due
+    return "" if row.ran else " (will not run)"
+
+
+def explained(canvas):
+    """The text that `canvas run --explain` prints."""
+    walk = Walk(canvas)
+    values = [numbered(row.state) for row in walk.rows]
+    lines = ["#%d %s %s %s%s\n" % (task, row.name, STATES[type(row.state)], value, reason(row))
+             for task, (row, value) in enumerate(zip(walk.rows, values), 1)]
+    result = ", ".join(values[end - 1] for end in walk.ends)
+    return "".join(lines) + "result %s\n" % ("[%s]" % result if ends_in_group(canvas) else result)
 
 
 # A run on Celery's workers, and an identifier of it.
@@ -72,6 +103,8 @@ LOOKS = {
     int: 'shape=box, style="rounded,filled", fillcolor="#d8f0d8"',
     str: 'shape=octagon, style=filled, fillcolor="#f7d4d4", penwidth=2',
 }
+
+SKIPPED = 'shape=hexagon, style="dashed,filled", fillcolor="#fbeeee"'
 
 HEAD = """\
 digraph canvas {
@@ -150,8 +183,10 @@ class Picture:
         task, node = self.tasks, "t%d" % self.tasks
         label, looks = shown_call(task, sig), "shape=box, style=rounded"
         if self.rows is not None:
-            state = self.rows[task - 1].state
+            state, due = self.rows[task - 1].state, self.rows[task - 1].due
             label, looks = label + shown_state(state), LOOKS[type(state)]
+            if due:
+                label, looks = label + "\nnot called, due to %d" % due, SKIPPED
         self.nodes.append("%s [%s, label=%s];" % (node, looks, in_quotes(label)))
         for name, said in [("link", "success"), ("link_error", "failure")]:
             for callback in callbacks(sig, name):
@@ -320,11 +355,11 @@ def in_order_of_tasks(text):
 # ---- rows that are worked out by hand
 
 FAILED_JSON = """\
-{"name":"tasks.add","result":8,"status":"SUCCESS","task_id":"#1"}
-{"name":"tasks.div","result":{"exc_message":[],"exc_type":"ZeroDivisionError"},"status":"FAILURE","task_id":"#2"}
-{"name":"tasks.add","result":16,"status":"SUCCESS","task_id":"#3"}
-{"name":"tasks.xsum","result":{"exc_message":["Dependency #2 raised ZeroDivisionError"],"exc_type":"ChordError"},"status":"FAILURE","task_id":"#4"}
-{"name":"tasks.log_error","result":4,"status":"SUCCESS","task_id":"#5"}
+{"due_to":null,"name":"tasks.add","ran":true,"result":8,"status":"SUCCESS","task_id":"#1"}
+{"due_to":null,"name":"tasks.div","ran":true,"result":{"exc_message":[],"exc_type":"ZeroDivisionError"},"status":"FAILURE","task_id":"#2"}
+{"due_to":null,"name":"tasks.add","ran":true,"result":16,"status":"SUCCESS","task_id":"#3"}
+{"due_to":"#2","name":"tasks.xsum","ran":false,"result":{"exc_message":["Dependency #2 raised ZeroDivisionError"],"exc_type":"ChordError"},"status":"FAILURE","task_id":"#4"}
+{"due_to":null,"name":"tasks.log_error","ran":true,"result":4,"status":"SUCCESS","task_id":"#5"}
 {"result":{"exc_message":["Dependency #2 raised ZeroDivisionError"],"exc_type":"ChordError"},"status":"FAILURE"}
 """
 
@@ -335,14 +370,28 @@ FAILED_PICTURE = HEAD + r"""
   t2 [F, label="2 tasks.div(1, 0)\nFAILURE ZeroDivisionError"];
   t3 [S, label="3 tasks.add(8, 8)\nSUCCESS 16"];
   }
-  t4 [F, label="4 tasks.xsum()\nFAILURE ChordError:\n2 raised ZeroDivisionError"];
+  t4 [K, label="4 tasks.xsum()\nFAILURE ChordError:\n2 raised ZeroDivisionError\nnot called, due to 2"];
   t5 [S, label="5 tasks.log_error()\nSUCCESS 4"];
   t1 -> t4;
   t2 -> t4;
   t3 -> t4;
   t4 -> t5 [style=dashed, label="on failure"];
 }
-"""[1:].replace("[S", "[" + LOOKS[int]).replace("[F", "[" + LOOKS[str])
+"""[1:].replace("[S", "[" + LOOKS[int]).replace("[F", "[" + LOOKS[str]).replace("[K", "[" + SKIPPED)
+
+# Worked by hand: canvases, and of each task that it ran, +, that it won't, -, or to whom it is due.
+FATES = [
+    ("C(.,.,.)", "add:1,1 div:0 div:0", "+ + 2"),
+    ("+.>", "div:1,0 mul:3", "+ -"),
+    ("C(.,?.>)", "div:1,0 add:1 log_error:", "+ 1 -"),
+    ("H[.,.,.|?.>]", "add:1,1 div:1,0 div:2,0 xsum: log_error:", "+ + + 2 +"),
+    ("C(H[C(.,.),.|.],.)", "div:1,0 add:1 add:1,1 xsum: mul:2", "+ 1 + 2 2"),
+    ("C(.,H[|.])", "div:1,0 xsum:", "+ 1"),
+    ("H[H[.|.],.|.]", "div:1,0 xsum: add:1,1 xsum:", "+ 1 + 2"),
+    ("C(H[.|H[?.>,.|.]])", "div:1,0 add:1 log_error: add:2 xsum:", "+ 1 + 1 2"),
+    ("H[.|H[|?.>]]", "div:1,0 xsum: log_error:", "+ 1 +"),
+    ("C(G(.,.),G(.,.))", "add:1,1 div:1,0 add:1 add:2", "+ + 2 2"),
+]
 
 # A canvas, and the tasks whose messages one worker publishes, in this order.
 ORDERS = [
@@ -370,6 +419,9 @@ def checks():
     """What is found and what is wanted, of each row."""
     failed = rules.canvas_of(*rules.FAILED_HEADER)
     yield json_report(failed), (identified(FAILED_JSON), 3)
+    for frame, calls, wanted in FATES:
+        rows = Walk(rules.canvas_of(frame, calls)).rows
+        yield " ".join("+" if row.ran else str(row.due or "-") for row in rows), wanted
     yield json_report(rules.canvas_of("+.>", "add:1,1 div:0"))[1], 0
     yield in_any_order(picture(failed, True)), in_any_order(FAILED_PICTURE)
     yield figures(failed), ("tasks 5\ngroups and chords 1\nnesting 3\nreach 4\nmessages 4\n"

@@ -4,7 +4,7 @@
 newline=$'\n'
 
 # Each command with what it takes, in the order in which the program's help has them.
-forms="run FILE [--workers N] [--task NAME=WORD] [--tasks FILE] [--json] [--fail]
+forms="run FILE [--workers N] [--task NAME=WORD] [--tasks FILE] [--json] [--explain] [--fail]
 turns FILE [--workers N] [--turns LIST] [--again LIST] [--task NAME=WORD] [--tasks FILE] [--json] [--fail]
 normal FILE
 check FILE [--task NAME=WORD] [--tasks FILE]

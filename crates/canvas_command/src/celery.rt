@@ -51,7 +51,7 @@ pub(crate) fn answer_collect<'w, R: Read>(
     let plan = manner.plan_of(alloc, text)?;
     let results = results_of(alloc, input)?;
     let report = collected(alloc, &plan, run, &results, completes)?;
-    manner.whole(alloc, &plan, &report)
+    manner.untold(alloc, &plan, &report)
 }
 
 /// The run that the words name.

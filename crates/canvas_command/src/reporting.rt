@@ -5,16 +5,26 @@ use crate::finding::refusal_json;
 use crate::plan::plan_of;
 use crate::refusal::Refusal;
 use canvas_engine::{Report, RunFault, report_text};
+use canvas_ran::{Fate, fates};
 use canvas_rewrite::Plan;
-use canvas_task::Memory;
-use canvas_views::{is_failure, rows_text};
+use canvas_task::{Memory, TaskNo};
+use canvas_views::{explained_text, is_failure, rows_text};
 use std::alloc::Global;
+
+/// How a report is printed.
+#[derive(Clone, Copy, PartialEq, Eq)]
+pub(crate) enum Form {
+    Plain,
+    /// Each task is a JSON object in a line.
+    Json,
+    /// Tasks go by their numbers, and what wasn't called has its reason.
+    Explained,
+}
 
 /// How a report is printed, and what its result does.
 #[derive(Clone, Copy)]
 pub(crate) struct Manner {
-    /// Whether each task is a JSON object in a line.
-    pub(crate) as_json: bool,
+    pub(crate) form: Form,
     /// Whether a failure of the canvas has a status of its own.
     pub(crate) fails: bool,
 }
@@ -25,25 +35,66 @@ const FAILED: u8 = 3;
 impl Manner {
     /// Whether a report is printed as ever, and its result doesn't count.
     pub(crate) fn is_plain(&self) -> bool {
-        !self.as_json && !self.fails
+        self.form == Form::Plain && !self.fails
     }
 
-    fn text(&self, alloc: Global, plan: &Plan, report: &Report) -> Result<String, Memory> {
-        if self.as_json {
-            rows_text(alloc, plan, report)
-        } else {
-            report_text(alloc, plan, report)
+    /// A report, with what became of each task where that is told.
+    fn text(
+        &self,
+        alloc: Global,
+        plan: &Plan,
+        report: &Report,
+        told: &[(TaskNo, Fate)],
+    ) -> Result<String, Memory> {
+        match self.form {
+            Form::Plain => report_text(alloc, plan, report),
+            Form::Json => rows_text(alloc, plan, report, told),
+            Form::Explained => explained_text(alloc, plan, report, told),
         }
     }
 
-    /// A report, and the status that its result has.
+    /// What became of each task of a whole run, where it is printed.
+    fn told(
+        &self,
+        alloc: Global,
+        plan: &Plan,
+        report: &Report,
+    ) -> Result<Vec<(TaskNo, Fate)>, Memory> {
+        match self.form {
+            Form::Plain => Ok(Vec::new(alloc)),
+            Form::Json | Form::Explained => fates(alloc, plan, report),
+        }
+    }
+
+    /// The report of a whole run, and the status that its result has.
     pub(crate) fn whole<'w>(
         &self,
         alloc: Global,
         plan: &Plan,
         report: &Report,
     ) -> Result<Answer<'w>, Refusal<'w>> {
-        let out = self.text(alloc, plan, report)?.into_bytes();
+        let told = self.told(alloc, plan, report)?;
+        self.answer(alloc, plan, report, &told)
+    }
+
+    /// A report that doesn't tell which tasks were called, and the status that its result has.
+    pub(crate) fn untold<'w>(
+        &self,
+        alloc: Global,
+        plan: &Plan,
+        report: &Report,
+    ) -> Result<Answer<'w>, Refusal<'w>> {
+        self.answer(alloc, plan, report, &[])
+    }
+
+    fn answer<'w>(
+        &self,
+        alloc: Global,
+        plan: &Plan,
+        report: &Report,
+        told: &[(TaskNo, Fate)],
+    ) -> Result<Answer<'w>, Refusal<'w>> {
+        let out = self.text(alloc, plan, report, told)?.into_bytes();
         let status = if self.fails && is_failure(plan, report) {
             FAILED
         } else {
@@ -58,7 +109,7 @@ impl Manner {
             RunFault::Halted {
                 rows: Some(report),
                 ..
-            } => self.text(alloc, plan, report).ok(),
+            } => self.text(alloc, plan, report, &[]).ok(),
             _ => None,
         };
         Answer::in_part(alloc, stored, Refusal::from(fault))
@@ -67,7 +118,7 @@ impl Manner {
     /// The plan of a text. Where it is refused and JSON is asked for, the refusal is printed so.
     pub(crate) fn plan_of<'w>(&self, alloc: Global, text: &[u8]) -> Result<Plan, Refusal<'w>> {
         match plan_of(alloc, text) {
-            Err(Refusal::Canvas(_)) if self.as_json => {
+            Err(Refusal::Canvas(_)) if self.form == Form::Json => {
                 Err(Refusal::Found(refusal_json(alloc, text)?))
             }
             other => other,

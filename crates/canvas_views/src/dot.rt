@@ -1,5 +1,6 @@
 //! The language of Graphviz: nodes, edges and texts.
 
+use canvas_ran::Fate;
 use canvas_rewrite::FrozenTask;
 use canvas_task::Outcome;
 use std::alloc::AllocError;
@@ -41,8 +42,12 @@ pub(crate) fn push_quoted(dot: &mut String, text: &str) -> Result<(), AllocError
     Ok(())
 }
 
-/// How a task is drawn: states differ by their shapes and borders too, and not by colour alone.
-pub(crate) fn looks_of(row: Option<&Option<Outcome>>) -> &'static str {
+/// How a task is drawn: states differ by their shapes and borders too, and not by colour alone, and
+/// so do failures by a call and without one.
+pub(crate) fn looks_of(row: Option<&Option<Outcome>>, fate: Option<Fate>) -> &'static str {
+    if let Some(Fate::Skipped(_)) = fate {
+        return "shape=hexagon, style=\"dashed,filled\", fillcolor=\"#fbeeee\"";
+    }
     match row {
         None => "shape=box, style=rounded",
         Some(None) => "shape=box, style=\"dashed,filled\", fillcolor=\"#eeeeee\"",

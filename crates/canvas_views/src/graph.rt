@@ -3,9 +3,11 @@
 
 use crate::dot::{Node, looks_of, node_of, push_quoted};
 use crate::label::label_of;
+use crate::rows::fate_in;
 use canvas_engine::Report;
+use canvas_ran::{Fate, fates};
 use canvas_rewrite::{FrozenEnd, FrozenLine, FrozenTask, Plan};
-use canvas_task::{GroupNo, Memory, Outcome};
+use canvas_task::{GroupNo, Memory, Outcome, TaskNo};
 use std::alloc::{AllocError, Global};
 
 /// The parts of a picture. Edges stand behind all frames, since what is named in a frame is drawn
@@ -14,6 +16,8 @@ use std::alloc::{AllocError, Global};
 struct Graph<'r> {
     alloc: Global,
     rows: Option<&'r [Option<Outcome>]>,
+    /// What became of each task, where there was a run.
+    fates: Vec<(TaskNo, Fate)>,
     nodes: String,
     edges: String,
 }
@@ -93,8 +97,9 @@ impl Graph<'_> {
     /// A task, without its callbacks.
     fn push_node(&mut self, task: &FrozenTask) -> Result<(), AllocError> {
         let row = self.row(task);
-        let looks = looks_of(row);
-        let label = label_of(self.alloc, task, row)?;
+        let fate = fate_in(&self.fates, task.no);
+        let looks = looks_of(row, fate);
+        let label = label_of(self.alloc, task, row, fate)?;
         self.push_labelled(node_of(task), looks, &label)
     }
 
@@ -235,15 +240,20 @@ fn whole_text(alloc: Global, nodes: &str, edges: &str) -> Result<String, AllocEr
     Ok(text)
 }
 
-/// A plan in the language of Graphviz, for `dot`; with the states and values of a run where a
-/// report is given.
+/// A plan in the language of Graphviz, for `dot`; with the states and values of a run where its
+/// whole report is given.
 pub fn graph_text(alloc: Global, plan: &Plan, report: Option<&Report>) -> Result<String, Memory> {
+    let (rows, fates) = match report {
+        Some(report) => (
+            Some(report.rows.get().as_slice()),
+            fates(alloc, plan, report)?,
+        ),
+        None => (None, Vec::new(alloc)),
+    };
     let mut graph = Graph {
         alloc,
-        rows: match report {
-            Some(report) => Some(report.rows.get().as_slice()),
-            None => None,
-        },
+        rows,
+        fates,
         nodes: String::new(alloc),
         edges: String::new(alloc),
     };

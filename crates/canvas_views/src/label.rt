@@ -1,5 +1,6 @@
 //! Labels of a picture.
 
+use canvas_ran::Fate;
 use canvas_rewrite::FrozenTask;
 use canvas_task::{Arg, Fault, Outcome};
 use std::alloc::{AllocError, Global};
@@ -96,14 +97,20 @@ fn push_row(label: &mut String, row: Option<&Option<Outcome>>) -> Result<(), All
     }
 }
 
-/// A task's number, its call, whether it takes no input, and what came of it where it was run.
+/// A task's number, its call, whether it takes no input, and what came of it where it was run; of a
+/// task that failed without a call, also the number of the task to blame.
 pub(crate) fn label_of(
     alloc: Global,
     task: &FrozenTask,
     row: Option<&Option<Outcome>>,
+    fate: Option<Fate>,
 ) -> Result<String, AllocError> {
     let mut label = String::new(alloc);
     push_call(&mut label, task)?;
     push_row(&mut label, row)?;
+    if let Some(Fate::Skipped(blamed)) = fate {
+        let number = blamed.get();
+        write!(label, "\nnot called, due to {number}")?;
+    }
     Ok(label)
 }

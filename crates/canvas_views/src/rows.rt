@@ -2,18 +2,19 @@
 
 use crate::json_text::quoted_json;
 use canvas_engine::Report;
+use canvas_ran::Fate;
 use canvas_rewrite::{Ends, Plan};
 use canvas_task::{Fault, Memory, Outcome, TaskNo};
 use std::alloc::{AllocError, Global};
 
-fn row_of(report: &Report, task: TaskNo) -> Option<Outcome> {
+pub(crate) fn row_of(report: &Report, task: TaskNo) -> Option<Outcome> {
     match report.rows.get().get(task.get() as usize - 1) {
         Some(row) => *row,
         None => None,
     }
 }
 
-fn status_of(row: &Option<Outcome>) -> &'static str {
+pub(crate) fn status_of(row: &Option<Outcome>) -> &'static str {
     match row {
         None => "PENDING",
         Some(Outcome::Success(_)) => "SUCCESS",
@@ -44,20 +45,52 @@ fn result_json(alloc: Global, row: &Option<Outcome>) -> Result<String, AllocErro
     }
 }
 
+/// What became of a task, where that is told.
+pub(crate) fn fate_in(fates: &[(TaskNo, Fate)], task: TaskNo) -> Option<Fate> {
+    match fates.get(task.get() as usize - 1) {
+        Some((_, fate)) => Some(*fate),
+        None => None,
+    }
+}
+
+/// The members of a row in front of its name, and behind it: the task to blame where the task was
+/// skipped, else null; and whether it was called.
+fn members_of(alloc: Global, fate: Option<Fate>) -> Result<(String, &'static str), AllocError> {
+    match fate {
+        None => Ok((String::new(alloc), "")),
+        Some(Fate::Ran) => Ok((
+            String::from_str(alloc, "\"due_to\":null,")?,
+            "\"ran\":true,",
+        )),
+        Some(Fate::Idle) => Ok((
+            String::from_str(alloc, "\"due_to\":null,")?,
+            "\"ran\":false,",
+        )),
+        Some(Fate::Skipped(blamed)) => {
+            Ok((
+                format!(in alloc; "\"due_to\":\"{blamed}\",")?,
+                "\"ran\":false,",
+            ))
+        }
+    }
+}
+
 fn push_row(
     text: &mut String,
     alloc: Global,
     plan: &Plan,
     report: &Report,
     task: TaskNo,
+    fate: Option<Fate>,
 ) -> Result<(), AllocError> {
+    let (due, ran) = members_of(alloc, fate)?;
     let row = row_of(report, task);
     let name = quoted_json(alloc, plan.name(task).unwrap_or(""))?;
     let result = result_json(alloc, &row)?;
     let status = status_of(&row);
     writeln!(
         text,
-        "{{\"name\":{name},\"result\":{result},\"status\":\"{status}\",\"task_id\":\"{task}\"}}"
+        "{{{due}\"name\":{name},{ran}\"result\":{result},\"status\":\"{status}\",\"task_id\":\"{task}\"}}"
     )?;
     Ok(())
 }
@@ -115,11 +148,18 @@ fn push_end(
 }
 
 /// A JSON object in a line for each task, in the order of their numbers, and one for the result of
-/// the canvas.
-pub fn rows_text(alloc: Global, plan: &Plan, report: &Report) -> Result<String, Memory> {
+/// the canvas. With the fates of a whole run's tasks it says of each whether it was called; without
+/// any, as of a run that was halted, it says nothing of that.
+pub fn rows_text(
+    alloc: Global,
+    plan: &Plan,
+    report: &Report,
+    fates: &[(TaskNo, Fate)],
+) -> Result<String, Memory> {
     let mut text = String::new(alloc);
     for index in 0..plan.tasks() {
-        push_row(&mut text, alloc, plan, report, plan.task_at(index))?;
+        let task = plan.task_at(index);
+        push_row(&mut text, alloc, plan, report, task, fate_in(fates, task))?;
     }
     push_end(&mut text, alloc, plan, report)?;
     Ok(text)

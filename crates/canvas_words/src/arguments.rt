@@ -96,6 +96,13 @@ pub(crate) const JSON: Argument = Argument {
     help: "Prints each task, and then the result, as a JSON object in a line; refusals too",
 };
 
+pub(crate) const EXPLAIN: Argument = Argument {
+    name: "explain",
+    takes: Takes::Nothing,
+    given: Given::Maybe,
+    help: "Names tasks by their numbers, and says why some were not called or won't run",
+};
+
 pub(crate) const FAIL: Argument = Argument {
     name: "fail",
     takes: Takes::Nothing,

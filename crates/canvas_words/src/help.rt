@@ -37,10 +37,13 @@ all that follows.
 `check` prints what a run of a canvas takes; of one that is refused, the JSON pointer (RFC 6901) to the
 first signature that has the refusal, what was found there, and what is wanted.
 
-`run --json` and `turns --json` print a JSON object in a line for each task (name, result, status,
-task_id), and one for the result (result, status). A failure's result has exc_type and exc_message, as
-Celery stores it. A canvas that is refused gives an object with code, name, note and pointer on standard
-error.
+`run --json` and `turns --json` print a JSON object in a line for each task (due_to, name, ran,
+result, status, task_id), and one for the result (result, status). A failure's result has exc_type
+and exc_message, as Celery stores it. A task that wasn't called has ran false; where it failed all
+the same, due_to is the task whose exception it shows, or that its ChordError names. A canvas that
+is refused gives an object with code, name, note and pointer on standard error. `run --explain` says
+the same in words, with #2 for the identifier of task 2. A run that ends early doesn't say which
+tasks were called.
 
 `graph` prints a picture for Graphviz, as in `canvas graph FILE --run | dot -Tsvg -o canvas.svg`: from left to
 right in time, groups and chords as frames, links and error callbacks dashed. `messages` prints what a

@@ -1,0 +1,86 @@
+//! A report as a person reads it: tasks by their numbers, and why some were not called.
+
+use crate::rows::{fate_in, row_of, status_of};
+use canvas_engine::Report;
+use canvas_ran::Fate;
+use canvas_rewrite::{Ends, Plan};
+use canvas_task::{Fault, Memory, Outcome, TaskNo};
+use std::alloc::{AllocError, Global};
+
+/// A value, an exception, or `-` while there is neither.
+fn push_value(text: &mut String, row: &Option<Outcome>) -> Result<(), AllocError> {
+    match row {
+        None => text.push('-')?,
+        Some(Outcome::Success(number)) => write!(text, "{number}")?,
+        Some(Outcome::Failure(Fault::Plain(kind))) => write!(text, "{kind}")?,
+        Some(Outcome::Failure(Fault::Chord { dep, why })) => {
+            let number = dep.get();
+            write!(text, "ChordError: Dependency #{number} raised {why}")?;
+        }
+    }
+    Ok(())
+}
+
+/// Why a task was not called, where it wasn't.
+fn push_reason(text: &mut String, fate: Option<Fate>) -> Result<(), AllocError> {
+    match fate {
+        None | Some(Fate::Ran) => Ok(()),
+        Some(Fate::Skipped(blamed)) => {
+            let number = blamed.get();
+            write!(text, " (not called, due to #{number})")
+        }
+        Some(Fate::Idle) => text.push_str(" (will not run)"),
+    }
+}
+
+fn push_row(
+    text: &mut String,
+    plan: &Plan,
+    report: &Report,
+    task: TaskNo,
+    fate: Option<Fate>,
+) -> Result<(), AllocError> {
+    let row = row_of(report, task);
+    let number = task.get();
+    let name = plan.name(task).unwrap_or("");
+    let status = status_of(&row);
+    write!(text, "#{number} {name} {status} ")?;
+    push_value(text, &row)?;
+    push_reason(text, fate)?;
+    text.push('\n')
+}
+
+/// The result of the canvas.
+fn push_end(text: &mut String, plan: &Plan, report: &Report) -> Result<(), AllocError> {
+    text.push_str("result ")?;
+    match plan.ends() {
+        Ends::One(task) => push_value(text, &row_of(report, task))?,
+        Ends::Many(tasks) => {
+            let mut mark = "[";
+            for task in tasks {
+                text.push_str(mark)?;
+                push_value(text, &row_of(report, *task))?;
+                mark = ", ";
+            }
+            text.push_str(if tasks.is_empty() { "[]" } else { "]" })?;
+        }
+    }
+    text.push('\n')
+}
+
+/// The report with `#2` in place of the identifier of task 2. With the fates of a whole run's tasks
+/// it says of each that was not called why; without any, as of a run that was halted, it doesn't.
+pub fn explained_text(
+    alloc: Global,
+    plan: &Plan,
+    report: &Report,
+    fates: &[(TaskNo, Fate)],
+) -> Result<String, Memory> {
+    let mut text = String::new(alloc);
+    for index in 0..plan.tasks() {
+        let task = plan.task_at(index);
+        push_row(&mut text, plan, report, task, fate_in(fates, task))?;
+    }
+    push_end(&mut text, plan, report)?;
+    Ok(text)
+}
