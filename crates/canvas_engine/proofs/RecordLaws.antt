@@ -1,5 +1,5 @@
 -- The histories of a run have few calls, and behind a gate that wants nothing no call is made again.
-use Rattle.std.proofs.Common.{◌≡◌, ◌∙◌, ◌≤◌, ℕ, zero, suc, ◌+◌, Bool, true, false, cond, eqb, List, [], ◌∷◌, ◌++◌, map, length, Option, Some, None, inl, inr, refl, sym, ap, subst, arith}
+use Rattle.std.proofs.Common.{◌≡◌, ◌∙◌, ◌≤◌, ℕ, suc, ◌+◌, Bool, true, false, cond, eqb, List, [], ◌∷◌, ◌++◌, map, length, Option, Some, None, inl, inr, refl, ap, subst, arith}
 use Rattle.std.proofs.lemmas.List.{length-append}
 use Rattle.canvas_task.specs.Apply.{Behaviour}
 use Rattle.canvas_history.specs.Answers.{answered_calls}
@@ -17,7 +17,7 @@ use Rattle.canvas_runs.specs.Calls.{QueueAnswered, TableAnswered, CoreCall, make
 use Rattle.canvas_runs.specs.Core.{Ask, Reply, to_queue, to_table, from_queue, from_table, refused, rest, rested, end, ack, acked}
 use Rattle.canvas_runs.specs.Following.{Pass, Seat}
 use Rattle.canvas_runs.specs.Law.{SecondPart, agains_one_of, redeliveries, publications, takes_of_task, again_stores}
-use Rattle.canvas_runs.specs.Lists.{Each, by, total, seconds}
+use Rattle.canvas_runs.specs.Lists.{by, total, seconds}
 use Rattle.canvas_runs.specs.Logs.{queue_calls}
 use Rattle.canvas_runs.specs.Progress.{calls_made, redelivers_one, delivered_again, most_calls}
 use Rattle.canvas_runs.specs.Run.{Run, Closed, published_all}
@@ -25,14 +25,11 @@ use Rattle.canvas_runs.specs.Worker.{sealed}
 use Rattle.canvas_runs.proofs.FewCalls.{same_sum, few_calls}
 use Rattle.canvas_runs.proofs.FirstLaw.{inner_run, callers}
 use Rattle.canvas_runs.proofs.SecondLaw.{second_part}
-use Rattle.canvas_runs.proofs.Sums.{total-append, sum_to, sum_to-le, sum_to-both, total_by, at_zero}
+use Rattle.canvas_runs.proofs.Sums.{total-append, sum_to-le, sum_to-both, total_by, at_zero}
 use Rattle.canvas_callers.specs.Crew.{Ran, EndedWell}
 use Rattle.canvas_callers.specs.Rows.{reads_from}
 use Rattle.canvas_callers.proofs.FromCrew.{the_run, the_closed}
-use Rattle.canvas_engine.specs.Headline.{OnlyWanted}
-use Rattle.canvas_engine.specs.Evidence.{IsRun}
-use Rattle.canvas_engine.specs.RecordLaws.{FewEntries, IsPlain, AllArePlain}
-use Rattle.canvas_engine.specs.declared.records.Records.{Records}
+use Rattle.canvas_engine.specs.RecordLaws.{FewEntries, AllArePlain}
 
 -- ---- how long a list is
 

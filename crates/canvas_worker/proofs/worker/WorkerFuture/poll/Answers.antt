@@ -1,6 +1,6 @@
 use Rattle.std.proofs.Common.{rules, ◌≡◌, ℕ, Bool, Some}
 use Rattle.canvas_task.specs.Apply.{Behaviour}
-use Rattle.canvas_worker.specs.Polls.{Work, Ready, TellsOf}
+use Rattle.canvas_worker.specs.Polls.{Work, TellsOf}
 use Rattle.canvas_worker.proofs.Held.{held_back}
 use Rattle.canvas_worker.proofs.PollsFollowed.{goes_first, ends_give, ready_one, of_one, pending}
 use Rattle.canvas_worker.proofs.worker.WorkerFuture.poll.Goals as goal
