@@ -52,16 +52,16 @@ parts_at : (name word text : Text) (i : ℕ) → text ≡ name ++ 61 ∷ word �
 parts_at name word text i is at =
     let within : i < length text = omega (arith, ap length is, length-append name (61 ∷ word)) in
     let before : take i text ≡ name = ap (λ j. take j text) at ∙ ap (take (length name)) is
-        ∙ take-append_seam name (61 ∷ word) in
+    ∙ take-append_seam name (61 ∷ word) in
     let behind : drop (i + 1) text ≡ word = ap (λ j. drop (j + 1) text) at ∙ ap (drop (length name + 1)) is
-        ∙ drop_past name word in
+    ∙ drop_past name word in
     rw (lt-ltb i (length text) within) (λ j. Some (before j, behind j))
 
 split_back : (name word : Text) → list_all (λ b. not (is_equals b)) name ≡ true
     → split_text (name ++ 61 ∷ word) ≡ Some (name, word)
 split_back name word h =
     parts_at name word (name ++ 61 ∷ word) (position_or_len is_equals (name ++ 61 ∷ word)) refl
-        (equals_behind name word h)
+    (equals_behind name word h)
 
 -- ---- the word
 
@@ -90,4 +90,4 @@ parts_back name word does h k = rw h (ap (with_name name) k)
 pub reads_back : (s : Stub) → IsWritable s → stub_reading (stub_text s) ≡ Ok s
 reads_back s h =
     ap parts_reading (split_back s.name (word_text s.does) h.ends)
-        ∙ parts_back s.name (word_text s.does) s.does h.named (word_back s.does h.bounded)
+    ∙ parts_back s.name (word_text s.does) s.does h.named (word_back s.does h.bounded)

@@ -37,13 +37,13 @@ unknown w h =
     let ident : bytes_eq w (codes "ident") ≡ false = other w 105 (codes "dent") (omega arith) in
     let log : bytes_eq w (codes "log_error") ≡ false = other w 108 (codes "og_error") (omega arith) in
     let type : bytes_eq w (codes "raise:TypeError") ≡ false =
-        other w 114 (codes "aise:TypeError") (omega arith) in
+    other w 114 (codes "aise:TypeError") (omega arith) in
     let division : bytes_eq w (codes "raise:ZeroDivisionError") ≡ false =
-        other w 114 (codes "aise:ZeroDivisionError") (omega arith) in
+    other w 114 (codes "aise:ZeroDivisionError") (omega arith) in
     let over : bytes_eq w (codes "raise:OverflowError") ≡ false =
-        other w 114 (codes "aise:OverflowError") (omega arith) in
+    other w 114 (codes "aise:OverflowError") (omega arith) in
     let task : bytes_eq w (codes "raise:NotRegistered") ≡ false =
-        other w 114 (codes "aise:NotRegistered") (omega arith) in
+    other w 114 (codes "aise:NotRegistered") (omega arith) in
     rw (add, mul, div, xsum, ident, log, type, division, over, task) refl
 
 -- ---- digits, with a sign or none

@@ -44,7 +44,7 @@ pub(crate) fn push_quoted(dot: &mut String, text: &str) -> Result<(), AllocError
 
 /// How a task is drawn: states differ by their shapes and borders too, and not by colour alone, and
 /// so do failures by a call and without one.
-pub(crate) fn looks_of(row: Option<&Option<Outcome>>, fate: Option<Fate>) -> &'static str {
+pub(crate) fn looks_of(row: Option<&Option<Outcome>>, fate: &Option<Fate>) -> &'static str {
     if let Some(Fate::Skipped(_)) = fate {
         return "shape=hexagon, style=\"dashed,filled\", fillcolor=\"#fbeeee\"";
     }

@@ -22,14 +22,23 @@ fn push_value(text: &mut String, row: &Option<Outcome>) -> Result<(), AllocError
 }
 
 /// Why a task was not called, where it wasn't.
-fn push_reason(text: &mut String, fate: Option<Fate>) -> Result<(), AllocError> {
+fn push_reason(text: &mut String, fate: &Fate) -> Result<(), AllocError> {
     match fate {
-        None | Some(Fate::Ran) => Ok(()),
-        Some(Fate::Skipped(blamed)) => {
+        Fate::Ran => Ok(()),
+        Fate::Skipped(blamed) => {
             let number = blamed.get();
-            write!(text, " (not called, due to #{number})")
+            write!(text, " (not called, due to #{number})")?;
+            Ok(())
         }
-        Some(Fate::Idle) => text.push_str(" (will not run)"),
+        Fate::Idle => text.push_str(" (will not run)"),
+    }
+}
+
+/// The same, where it is told what became of the task.
+fn push_told(text: &mut String, fate: &Option<Fate>) -> Result<(), AllocError> {
+    match fate {
+        None => Ok(()),
+        Some(fate) => push_reason(text, fate),
     }
 }
 
@@ -46,7 +55,7 @@ fn push_row(
     let status = status_of(&row);
     write!(text, "#{number} {name} {status} ")?;
     push_value(text, &row)?;
-    push_reason(text, fate)?;
+    push_told(text, &fate)?;
     text.push('\n')
 }
 

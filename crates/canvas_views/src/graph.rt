@@ -96,10 +96,11 @@ impl Graph<'_> {
 
     /// A task, without its callbacks.
     fn push_node(&mut self, task: &FrozenTask) -> Result<(), AllocError> {
-        let row = self.row(task);
+        let alloc = self.alloc;
         let fate = fate_in(&self.fates, task.no);
-        let looks = looks_of(row, fate);
-        let label = label_of(self.alloc, task, row, fate)?;
+        let row = self.row(task);
+        let looks = looks_of(row, &fate);
+        let label = label_of(alloc, task, row, &fate)?;
         self.push_labelled(node_of(task), looks, &label)
     }
 

@@ -97,20 +97,37 @@ fn push_row(label: &mut String, row: Option<&Option<Outcome>>) -> Result<(), All
     }
 }
 
+/// To which task it is due that one failed without a call.
+fn push_due(label: &mut String, fate: &Fate) -> Result<(), AllocError> {
+    match fate {
+        Fate::Ran | Fate::Idle => Ok(()),
+        Fate::Skipped(blamed) => {
+            let number = blamed.get();
+            write!(label, "\nnot called, due to {number}")?;
+            Ok(())
+        }
+    }
+}
+
+/// The same, where there was a run.
+fn push_told(label: &mut String, fate: &Option<Fate>) -> Result<(), AllocError> {
+    match fate {
+        None => Ok(()),
+        Some(fate) => push_due(label, fate),
+    }
+}
+
 /// A task's number, its call, whether it takes no input, and what came of it where it was run; of a
 /// task that failed without a call, also the number of the task to blame.
 pub(crate) fn label_of(
     alloc: Global,
     task: &FrozenTask,
     row: Option<&Option<Outcome>>,
-    fate: Option<Fate>,
+    fate: &Option<Fate>,
 ) -> Result<String, AllocError> {
     let mut label = String::new(alloc);
     push_call(&mut label, task)?;
     push_row(&mut label, row)?;
-    if let Some(Fate::Skipped(blamed)) = fate {
-        let number = blamed.get();
-        write!(label, "\nnot called, due to {number}")?;
-    }
+    push_told(&mut label, fate)?;
     Ok(label)
 }

@@ -53,25 +53,28 @@ pub(crate) fn fate_in(fates: &[(TaskNo, Fate)], task: TaskNo) -> Option<Fate> {
     }
 }
 
-/// The members of a row in front of its name, and behind it: the task to blame where the task was
-/// skipped, else null; and whether it was called.
-fn members_of(alloc: Global, fate: Option<Fate>) -> Result<(String, &'static str), AllocError> {
+/// The task to blame where one was skipped, else null, as a member of its row.
+fn due_json(alloc: Global, fate: &Fate) -> Result<String, AllocError> {
     match fate {
-        None => Ok((String::new(alloc), "")),
-        Some(Fate::Ran) => Ok((
-            String::from_str(alloc, "\"due_to\":null,")?,
-            "\"ran\":true,",
-        )),
-        Some(Fate::Idle) => Ok((
-            String::from_str(alloc, "\"due_to\":null,")?,
-            "\"ran\":false,",
-        )),
-        Some(Fate::Skipped(blamed)) => {
-            Ok((
-                format!(in alloc; "\"due_to\":\"{blamed}\",")?,
-                "\"ran\":false,",
-            ))
-        }
+        Fate::Skipped(blamed) => format!(in alloc; "\"due_to\":\"{blamed}\","),
+        Fate::Ran | Fate::Idle => String::from_str(alloc, "\"due_to\":null,"),
+    }
+}
+
+/// The same where that is told, and else nothing.
+fn due_member(alloc: Global, fate: &Option<Fate>) -> Result<String, AllocError> {
+    match fate {
+        Some(fate) => due_json(alloc, fate),
+        None => Ok(String::new(alloc)),
+    }
+}
+
+/// Whether a task was called, as a member of its row, where that is told.
+fn ran_member(fate: &Option<Fate>) -> &'static str {
+    match fate {
+        None => "",
+        Some(Fate::Ran) => "\"ran\":true,",
+        Some(Fate::Skipped(_) | Fate::Idle) => "\"ran\":false,",
     }
 }
 
@@ -83,7 +86,8 @@ fn push_row(
     task: TaskNo,
     fate: Option<Fate>,
 ) -> Result<(), AllocError> {
-    let (due, ran) = members_of(alloc, fate)?;
+    let due = due_member(alloc, &fate)?;
+    let ran = ran_member(&fate);
     let row = row_of(report, task);
     let name = quoted_json(alloc, plan.name(task).unwrap_or(""))?;
     let result = result_json(alloc, &row)?;
