@@ -8,6 +8,7 @@ forms="run FILE [--workers N] [--task NAME=WORD] [--tasks FILE] [--json] [--expl
 turns FILE [--workers N] [--turns LIST] [--again LIST] [--task NAME=WORD] [--tasks FILE] [--json] [--fail]
 normal FILE
 check FILE [--task NAME=WORD] [--tasks FILE]
+adapt FILE
 graph FILE [--run] [--workers N] [--task NAME=WORD] [--tasks FILE]
 messages FILE [--workers N] [--turns LIST] [--task NAME=WORD] [--tasks FILE]
 export FILE --run HEX22 [--queue NAME] [--prefix TEXT] [--expires SECONDS] [--broker-db N] [--backend-db N] [--without-script]

@@ -1,19 +1,26 @@
 //! What the program prints, and its status.
 
 use crate::refusal::Refusal;
+use canvas_adapt::Changes;
 use std::alloc::Global;
 use std::fmt::{self, Display};
 use std::io::{self, Write};
 
-/// How many stores of a run answered Again.
+/// What standard error says beside an answer.
 #[derive(Clone, Copy)]
-pub(crate) struct Repeats(pub(crate) u64);
+pub(crate) enum Remark {
+    /// How many stores of a run answered Again.
+    Repeats(u64),
+    /// What was changed of a canvas.
+    Changes(Changes),
+}
 
-impl Display for Repeats {
+impl Display for Remark {
     fn fmt<W: fmt::Write>(&self, f: &mut fmt::Formatter<W>) -> fmt::Result {
-        match self.0 {
-            1 => writeln!(f, "canvas: 1 store answered Again"),
-            count => writeln!(f, "canvas: {count} stores answered Again"),
+        match self {
+            Remark::Repeats(1) => writeln!(f, "canvas: 1 store answered Again"),
+            Remark::Repeats(count) => writeln!(f, "canvas: {count} stores answered Again"),
+            Remark::Changes(changes) => write!(f, "{changes}"),
         }
     }
 }
@@ -23,8 +30,8 @@ impl Display for Repeats {
 pub struct Answer<'w> {
     /// What goes to standard output.
     out: Vec<u8>,
-    /// What standard error says of a run with messages that were delivered again.
-    repeats: Option<Repeats>,
+    /// What standard error says beside it.
+    remark: Option<Remark>,
     /// Why that isn't all that was asked for.
     refusal: Option<Refusal<'w>>,
     /// The status where it is.
@@ -36,7 +43,7 @@ impl<'w> Answer<'w> {
     pub(crate) fn whole(out: Vec<u8>) -> Answer<'w> {
         Answer {
             out,
-            repeats: None,
+            remark: None,
             refusal: None,
             status: 0,
         }
@@ -55,7 +62,7 @@ impl<'w> Answer<'w> {
         };
         Answer {
             out,
-            repeats: None,
+            remark: None,
             refusal: Some(refusal),
             status: 0,
         }
@@ -65,8 +72,12 @@ impl<'w> Answer<'w> {
         Answer { status, ..self }
     }
 
-    pub(crate) fn with_repeats(self, repeats: Option<Repeats>) -> Answer<'w> {
-        Answer { repeats, ..self }
+    pub(crate) fn with_remark(self, remark: Option<Remark>) -> Answer<'w> {
+        Answer { remark, ..self }
+    }
+
+    pub(crate) fn with_changes(self, changes: Changes) -> Answer<'w> {
+        self.with_remark(Some(Remark::Changes(changes)))
     }
 
     /// Prints the answer to both outputs, and gives the status: 0 where all went well, 1 where the
@@ -77,16 +88,16 @@ impl<'w> Answer<'w> {
         match &self.refusal {
             Some(refusal) => refusal.print(err),
             None => match written {
-                Ok(()) => self.print_repeats(err),
+                Ok(()) => self.print_remark(err),
                 Err(_) => Refusal::CannotWrite.print(err),
             },
         }
     }
 
-    fn print_repeats<E: Write>(&self, err: &mut E) -> u8 {
-        match self.repeats {
+    fn print_remark<E: Write>(&self, err: &mut E) -> u8 {
+        match self.remark {
             None => self.status,
-            Some(repeats) => match write_and_flush(err, &repeats) {
+            Some(remark) => match write_and_flush(err, &remark) {
                 Ok(()) => self.status,
                 Err(_) => Refusal::CannotWrite.print(err),
             },

@@ -1,6 +1,6 @@
 //! `canvas run`, `canvas turns` and `canvas normal`.
 
-use crate::answer::{Answer, Repeats};
+use crate::answer::{Answer, Remark};
 use crate::refusal::Refusal;
 use crate::reporting::Manner;
 use canvas_engine::{
@@ -73,8 +73,8 @@ pub(crate) fn answer_turns<'w, T: Tasks>(
     let counts = again.is_some();
     if manner.is_plain() {
         return match run_text_again(alloc, text, tasks, workers, turns, entries) {
-            Ok((report, repeats)) => Ok(Answer::whole(report.into_bytes()).with_repeats(
-                counts.then_some(Repeats(repeats)),
+            Ok((report, repeats)) => Ok(Answer::whole(report.into_bytes()).with_remark(
+                counts.then_some(Remark::Repeats(repeats)),
             )),
             Err(fault) => early(alloc, fault),
         };
@@ -84,7 +84,7 @@ pub(crate) fn answer_turns<'w, T: Tasks>(
         Ok((report, repeats)) => Ok(
             manner
                 .whole(alloc, &plan, &report)?
-                .with_repeats(counts.then_some(Repeats(repeats))),
+                .with_remark(counts.then_some(Remark::Repeats(repeats))),
         ),
         Err(fault) => Ok(manner.early(alloc, &plan, fault)),
     }

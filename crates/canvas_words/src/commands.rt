@@ -16,7 +16,7 @@ pub(crate) struct Form {
 }
 
 /// The commands, in the order in which help names them.
-pub(crate) const COMMANDS: [Form; 9] = [
+pub(crate) const COMMANDS: [Form; 10] = [
     Form {
         name: "run",
         about: "Runs a canvas and prints the state and result of each task",
@@ -36,6 +36,11 @@ pub(crate) const COMMANDS: [Form; 9] = [
         name: "check",
         about: "Prints the figures of a canvas, or where it is refused and what is wanted there",
         arguments: &[FILE, TASK, TASKS],
+    },
+    Form {
+        name: "adapt",
+        about: "Prints a canvas that runs here, from any that Celery writes, and says what was changed",
+        arguments: &[FILE],
     },
     Form {
         name: "graph",

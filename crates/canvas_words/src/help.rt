@@ -37,6 +37,13 @@ all that follows.
 `check` prints what a run of a canvas takes; of one that is refused, the JSON pointer (RFC 6901) to the
 first signature that has the refusal, what was found there, and what is wanted.
 
+`adapt` prints the canvas as it is where that can be run. Else it makes short texts of arguments
+that are no whole numbers, texts or lists of whole numbers; gives the links and error callbacks of
+chains, groups and chords to the tasks that Celery gives them; puts the members of a group in a
+group into the outer one; and makes groups of calls of celery.map, celery.starmap and celery.chunks.
+Standard error counts each kind:
+    canvas adapt order.json | canvas run - --task '*=0'
+
 `run --json` and `turns --json` print a JSON object in a line for each task (due_to, name, ran,
 result, status, task_id), and one for the result (result, status). A failure's result has exc_type
 and exc_message, as Celery stores it. A task that wasn't called has ran false; where it failed all

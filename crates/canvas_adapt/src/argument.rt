@@ -1,0 +1,86 @@
+//! Arguments of tasks.
+
+use crate::changes::Change;
+use crate::member::Members;
+use crate::text::text_of;
+use crate::work::Work;
+use bumpalo::Bump;
+use bumpalo::collections::into_bump_slice;
+use canvas_sig::SigFault;
+use canvas_sig::parts::Datum;
+use canvas_task::in_range;
+use std::alloc::{AllocError, Global};
+
+/// How many bytes of an argument's JSON are shown.
+const MOST_SHOWN: usize = 32;
+
+/// How many are left of a longer one, before `..`.
+const CUT: usize = 30;
+
+fn is_whole(value: &Datum<'_>) -> bool {
+    match value {
+        Datum::Number(number) => match number.as_i64() {
+            Some(number) => in_range(number),
+            None => false,
+        },
+        _ => false,
+    }
+}
+
+/// Whether the profile has such an argument.
+fn is_fit(value: &Datum<'_>) -> bool {
+    match value {
+        Datum::Text(_) => true,
+        Datum::List(values) => values.iter().all(|value| is_whole(value)),
+        _ => is_whole(value),
+    }
+}
+
+/// The JSON of a value, cut where it is long.
+fn shown<'a>(alloc: Global, arena: &'a Bump, value: &Datum<'_>) -> Result<&'a str, AllocError> {
+    let mut text = text_of(alloc, value)?;
+    if text.len() > MOST_SHOWN {
+        let end = text.floor_char_boundary(CUT);
+        text.truncate(end);
+        text.push_str("..")?;
+    }
+    arena.try_alloc_str(&text)
+}
+
+impl<'a> Work<'a> {
+    fn adapt_argument(&mut self, value: &Datum<'a>) -> Result<Datum<'a>, SigFault> {
+        if is_fit(value) {
+            return Ok(*value);
+        }
+        self.count(Change::Argument, 1);
+        Ok(Datum::Text(shown(self.alloc, self.arena, value)?))
+    }
+
+    /// Arguments in their order.
+    fn adapt_list(&mut self, values: &'a [Datum<'a>]) -> Result<&'a [Datum<'a>], SigFault> {
+        let arena = self.arena;
+        let mut made = Vec::new(arena);
+        for value in values {
+            made.push(self.adapt_argument(value)?)?;
+        }
+        Ok(into_bump_slice(made))
+    }
+
+    fn adapt_named(&mut self, members: Members<'a>) -> Result<Members<'a>, SigFault> {
+        let arena = self.arena;
+        let mut made = Vec::new(arena);
+        for member in members {
+            made.push((member.0, self.adapt_argument(&member.1)?))?;
+        }
+        Ok(into_bump_slice(made))
+    }
+
+    /// Arguments, in a list or by name. What is neither stays as it is.
+    pub(crate) fn adapt_arguments(&mut self, value: &Datum<'a>) -> Result<Datum<'a>, SigFault> {
+        match value {
+            Datum::List(values) => Ok(Datum::List(self.adapt_list(values)?)),
+            Datum::Object(members) => Ok(Datum::Object(self.adapt_named(members)?)),
+            _ => Ok(*value),
+        }
+    }
+}

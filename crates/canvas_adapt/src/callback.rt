@@ -1,0 +1,81 @@
+//! Links and error callbacks.
+
+use crate::changes::Change;
+use crate::form::{Form, form_of};
+use crate::given::{Callback, Given, values_in};
+use crate::work::Work;
+use bumpalo::collections::into_bump_slice;
+use canvas_sig::SigFault;
+use canvas_sig::parts::{Datum, option_of};
+
+impl<'a> Work<'a> {
+    /// A callback. One that is no task stays as it is, and is refused.
+    #[cycle(task)]
+    pub(crate) fn adapt_callback(
+        &mut self,
+        value: &Datum<'a>,
+        left: u32,
+    ) -> Result<Datum<'a>, SigFault> {
+        if left == 0 {
+            return Ok(*value);
+        }
+        match form_of(value) {
+            Form::Task => self.adapt_task(value, &Given::none(), left - 1),
+            _ => Ok(*value),
+        }
+    }
+
+    /// A task's own callbacks, and behind them those that it is given.
+    #[cycle(task)]
+    pub(crate) fn adapt_callbacks(
+        &mut self,
+        own: &'a [Datum<'a>],
+        given: &'a [Callback<'a>],
+        left: u32,
+    ) -> Result<Datum<'a>, SigFault> {
+        self.step(given.len())?;
+        let mut made = Vec::new(self.arena);
+        for value in own {
+            made.push(self.adapt_callback(value, left)?)?;
+        }
+        for callback in given {
+            made.push(callback.adapted)?;
+        }
+        Ok(Datum::List(into_bump_slice(made)))
+    }
+
+    /// The callbacks of a chain, group or chord.
+    fn taken(
+        &mut self,
+        written: &'a [Datum<'a>],
+        left: u32,
+    ) -> Result<&'a [Callback<'a>], SigFault> {
+        self.count(Change::Callback, written.len());
+        let mut made = Vec::new(self.arena);
+        for value in written {
+            let adapted = self.adapt_callback(value, left)?;
+            made.push(Callback::new(value, &adapted))?;
+        }
+        Ok(into_bump_slice(made))
+    }
+
+    /// What is given with a signature's own callbacks before it.
+    pub(crate) fn with_own(
+        &mut self,
+        value: &Datum<'a>,
+        given: &Given<'a>,
+        left: u32,
+    ) -> Result<Given<'a>, SigFault> {
+        let links = values_in(self.arena, option_of(value, "link"))?;
+        let links = self.taken(links, left)?;
+        let written = values_in(self.arena, option_of(value, "link_error"))?;
+        let written = self.once(written)?;
+        let errbacks = self.taken(written, left)?;
+        let others = self.not_among(given.errbacks, written)?;
+        Ok(Given {
+            links: self.joined(links, given.links)?,
+            errbacks: self.joined(errbacks, others)?,
+            ..*given
+        })
+    }
+}

@@ -1,0 +1,135 @@
+//! What a signature is, as far as adapting it goes.
+
+use canvas_sig::parts::{
+    Datum, is_list, is_name, is_null, is_object_or_null, is_text, kwarg_of, listed, option_of,
+    primitive_of,
+};
+use canvas_values::Primitive;
+
+/// What is done with a signature.
+#[derive(Clone, Copy)]
+pub(crate) enum Form {
+    Task,
+    Chain,
+    Group,
+    Chord,
+    /// A task of Celery's own that calls another with each of some items.
+    Calls,
+    /// It stays as it is, and is refused where it can't be read.
+    Other,
+}
+
+/// Nothing, one callback, or a list of them.
+fn is_link(field: Option<&Datum<'_>>) -> bool {
+    matches!(
+        field,
+        None | Some(Datum::Null | Datum::List(_) | Datum::Object(_))
+    )
+}
+
+fn has_options(value: &Datum<'_>) -> bool {
+    is_object_or_null(value.get("options"))
+        && is_link(option_of(value, "link"))
+        && is_link(option_of(value, "link_error"))
+}
+
+fn is_map(value: &Datum<'_>) -> bool {
+    is_text(value.get("task"), "celery.map")
+}
+
+fn is_starmap(value: &Datum<'_>) -> bool {
+    is_text(value.get("task"), "celery.starmap")
+}
+
+fn is_chunks(value: &Datum<'_>) -> bool {
+    is_text(value.get("task"), "celery.chunks")
+}
+
+/// Whether a chunk may have so many items.
+fn is_size(field: Option<&Datum<'_>>) -> bool {
+    match field {
+        Some(Datum::Number(number)) => match number.as_i64() {
+            Some(number) => number >= 1,
+            None => false,
+        },
+        _ => false,
+    }
+}
+
+/// The task that is called with each item.
+pub(crate) fn called_task<'a>(value: &Datum<'a>) -> Option<&'a Datum<'a>> {
+    match kwarg_of(value, "task") {
+        Some(task) => task.get("task"),
+        None => None,
+    }
+}
+
+/// Whether it is a task of Celery's own that is given a signature to call.
+fn calls_another(value: &Datum<'_>) -> bool {
+    match kwarg_of(value, "task") {
+        Some(Datum::Object(_)) => is_map(value) || is_starmap(value) || is_chunks(value),
+        _ => false,
+    }
+}
+
+/// Whether each item is the argument itself.
+pub(crate) fn takes_items(value: &Datum<'_>) -> bool {
+    is_map(value)
+}
+
+fn are_lists(values: &[Datum<'_>]) -> bool {
+    for value in values {
+        if !matches!(value, Datum::List(_)) {
+            return false;
+        }
+    }
+    true
+}
+
+/// Whether a task that calls another says with what, and has no link, which would get the list of
+/// all that the calls answer.
+fn has_calls(value: &Datum<'_>) -> bool {
+    is_name(called_task(value))
+        && is_list(kwarg_of(value, "it"))
+        && listed(option_of(value, "link")).is_empty()
+        && !matches!(option_of(value, "link"), Some(Datum::Object(_)))
+        && is_null(option_of(value, "chord"))
+        && (is_map(value) || are_lists(listed(kwarg_of(value, "it"))))
+        && (!is_chunks(value) || is_size(kwarg_of(value, "n")))
+}
+
+fn task_form(value: &Datum<'_>) -> Form {
+    if !calls_another(value) {
+        return Form::Task;
+    }
+    if has_calls(value) {
+        return Form::Calls;
+    }
+    Form::Other
+}
+
+fn if_list(field: Option<&Datum<'_>>, form: Form) -> Form {
+    if is_list(field) { form } else { Form::Other }
+}
+
+/// A chord has a header, which is a list or a signature, and a body.
+fn chord_form(value: &Datum<'_>) -> Form {
+    let header = kwarg_of(value, "header");
+    if is_null(header) || is_null(kwarg_of(value, "body")) {
+        return Form::Other;
+    }
+    Form::Chord
+}
+
+pub(crate) fn form_of(value: &Datum<'_>) -> Form {
+    if !value.is_object() || !has_options(value) {
+        return Form::Other;
+    }
+    match primitive_of(value.get("subtask_type")) {
+        Some(Primitive::Task) => task_form(value),
+        Some(Primitive::Chain) => if_list(kwarg_of(value, "tasks"), Form::Chain),
+        Some(Primitive::Group) => if_list(kwarg_of(value, "tasks"), Form::Group),
+        Some(Primitive::Chord) => chord_form(value),
+        None => Form::Other,
+    }
+}

@@ -1,0 +1,211 @@
+//! Callbacks that tasks are given by what they stand in.
+
+use crate::text::{MOST_WRITTEN, room_behind};
+use crate::work::Work;
+use bumpalo::Bump;
+use bumpalo::collections::into_bump_slice;
+use canvas_sig::parts::Datum;
+use canvas_sig::{MOST_BYTES, SigFault};
+use std::alloc::AllocError;
+
+/// A callback of a chain, group or chord.
+#[derive(Clone, Copy, Drop)]
+pub(crate) struct Callback<'a> {
+    /// As it was written, by which callbacks are told apart.
+    written: Datum<'a>,
+    pub(crate) adapted: Datum<'a>,
+    /// How many steps comparing it takes at most.
+    weight: usize,
+}
+
+impl<'a> Callback<'a> {
+    pub(crate) fn new(written: &Datum<'a>, adapted: &Datum<'a>) -> Callback<'a> {
+        Callback {
+            written: *written,
+            adapted: *adapted,
+            weight: weight_of(written, MOST_BYTES),
+        }
+    }
+}
+
+/// What a signature is given by what it stands in, and how it stands there.
+#[derive(Clone, Copy, Drop)]
+pub(crate) struct Given<'a> {
+    pub(crate) links: &'a [Callback<'a>],
+    pub(crate) errbacks: &'a [Callback<'a>],
+    /// Something follows it, so that a group is the header of a chord.
+    pub(crate) is_followed: bool,
+    /// Celery freezes it before it starts, so that a group turns groups in it round.
+    pub(crate) is_frozen: bool,
+}
+
+impl<'a> Given<'a> {
+    /// Nothing, at the top.
+    pub(crate) fn none() -> Given<'a> {
+        Given {
+            links: &[],
+            errbacks: &[],
+            is_followed: false,
+            is_frozen: false,
+        }
+    }
+
+    /// What the elements of a chain are given; the last one has what the chain has.
+    pub(crate) fn of_element(&self, is_last: bool) -> Given<'a> {
+        Given {
+            links: if is_last { self.links } else { &[] },
+            errbacks: self.errbacks,
+            is_followed: self.is_followed || !is_last,
+            is_frozen: true,
+        }
+    }
+
+    /// What a group is given: where something follows it, its members are given nothing.
+    pub(crate) fn of_group(&self) -> Given<'a> {
+        if self.is_followed {
+            return Given {
+                is_frozen: self.is_frozen,
+                ..Given::none()
+            };
+        }
+        *self
+    }
+
+    /// What a member of a group or a body is given.
+    pub(crate) fn of_part(&self, is_frozen: bool) -> Given<'a> {
+        Given { is_frozen, ..*self }
+    }
+}
+
+/// The callbacks that a member of the options has: a list, one, or none.
+pub(crate) fn values_in<'a>(
+    arena: &'a Bump,
+    field: Option<&Datum<'a>>,
+) -> Result<&'a [Datum<'a>], AllocError> {
+    match field {
+        Some(Datum::List(values)) => Ok(values),
+        Some(Datum::Object(members)) => {
+            let mut one = Vec::new(arena);
+            one.push(Datum::Object(members))?;
+            Ok(into_bump_slice(one))
+        }
+        _ => Ok(&[]),
+    }
+}
+
+#[cycle(same)]
+fn is_same(one: &Datum<'_>, other: &Datum<'_>, left: u32) -> bool {
+    if left == 0 {
+        return false;
+    }
+    match (one, other) {
+        (Datum::Null, Datum::Null) => true,
+        (Datum::Bool(one), Datum::Bool(other)) => one == other,
+        (Datum::Number(one), Datum::Number(other)) => one == other,
+        (Datum::Text(one), Datum::Text(other)) => one == other,
+        (Datum::List(one), Datum::List(other)) => are_same_items(one, other, left - 1),
+        (Datum::Object(one), Datum::Object(other)) => are_same_members(one, other, left - 1),
+        _ => false,
+    }
+}
+
+#[cycle(same)]
+fn are_same_items(one: &[Datum<'_>], other: &[Datum<'_>], left: u32) -> bool {
+    if one.len() != other.len() {
+        return false;
+    }
+    for (one, other) in one.iter().zip(other) {
+        if !is_same(one, other, left) {
+            return false;
+        }
+    }
+    true
+}
+
+#[cycle(same)]
+fn are_same_members(one: &[(&str, Datum<'_>)], other: &[(&str, Datum<'_>)], left: u32) -> bool {
+    if one.len() != other.len() {
+        return false;
+    }
+    for (one, other) in one.iter().zip(other) {
+        if one.0 != other.0 || !is_same(&one.1, &other.1, left) {
+            return false;
+        }
+    }
+    true
+}
+
+/// How many steps comparing a value takes with one that takes at most so many.
+fn weight_of(value: &Datum<'_>, most: usize) -> usize {
+    match room_behind(value, most, MOST_WRITTEN) {
+        Some(room) => most.saturating_sub(room),
+        None => most,
+    }
+}
+
+impl<'a> Work<'a> {
+    /// Whether some values have this one, whose weight is known.
+    fn has(
+        &mut self,
+        values: &[Datum<'a>],
+        wanted: &Datum<'a>,
+        weight: usize,
+    ) -> Result<bool, SigFault> {
+        for value in values {
+            self.step(weight_of(value, weight))?;
+            if is_same(value, wanted, MOST_WRITTEN) {
+                return Ok(true);
+            }
+        }
+        Ok(false)
+    }
+
+    /// Of values that are alike the first.
+    pub(crate) fn once(&mut self, values: &'a [Datum<'a>]) -> Result<&'a [Datum<'a>], SigFault> {
+        let mut made = Vec::new(self.arena);
+        for value in values {
+            if !self.has(&made, value, weight_of(value, MOST_BYTES))? {
+                made.push(*value)?;
+            }
+        }
+        Ok(into_bump_slice(made))
+    }
+
+    /// Those callbacks that aren't among some values: none is given twice.
+    pub(crate) fn not_among(
+        &mut self,
+        given: &'a [Callback<'a>],
+        values: &[Datum<'a>],
+    ) -> Result<&'a [Callback<'a>], SigFault> {
+        if values.is_empty() {
+            return Ok(given);
+        }
+        let mut made = Vec::new(self.arena);
+        for callback in given {
+            if !self.has(values, &callback.written, callback.weight)? {
+                made.push(*callback)?;
+            }
+        }
+        Ok(into_bump_slice(made))
+    }
+
+    /// Callbacks, and behind them others.
+    pub(crate) fn joined(
+        &mut self,
+        own: &'a [Callback<'a>],
+        given: &'a [Callback<'a>],
+    ) -> Result<&'a [Callback<'a>], SigFault> {
+        if own.is_empty() {
+            return Ok(given);
+        }
+        self.step(own.len().saturating_add(given.len()))?;
+        let mut made = Vec::new(self.arena);
+        for callback in own {
+            made.push(*callback)?;
+        }
+        for callback in given {
+            made.push(*callback)?;
+        }
+        Ok(into_bump_slice(made))
+    }
+}
