@@ -1,17 +1,22 @@
 //! The tasks of a run as JSON lines, which tools such as `jq` read.
 
+ghost use Rattle.std.specs.Prelude.{◌≡◌};
+ghost use Rattle.canvas_semantics.specs.Evaluation.{state_of, with_states};
+ghost use Rattle.canvas_semantics.specs.Line.{ends_of};
+ghost use Rattle.canvas_semantics.specs.States.{rows_from};
+ghost use Rattle.canvas_views.specs.Failing.{has_failed, any_failed};
+
 use crate::json_text::quoted_json;
 use canvas_engine::Report;
-use canvas_ran::Fate;
+use canvas_ran::{Fate, state_in};
 use canvas_rewrite::{Ends, Plan};
 use canvas_task::{Fault, Memory, Outcome, TaskNo};
 use std::alloc::{AllocError, Global};
 
-pub(crate) fn row_of(report: &Report, task: TaskNo) -> Option<Outcome> {
-    match report.rows.get().get(task.get() as usize - 1) {
-        Some(row) => *row,
-        None => None,
-    }
+pub(crate) fn row_of(report: &Report, task: TaskNo) -> Option<Outcome>
+    ensures { result ≡ state_of task (rows_from 1 report.now.rows) }
+{
+    state_in(report.rows.get(), task)
 }
 
 pub(crate) fn status_of(row: &Option<Outcome>) -> &'static str {
@@ -99,17 +104,36 @@ fn push_row(
     Ok(())
 }
 
-/// The status of a group: a failure where a member failed, else pending where one is.
-fn status_of_all(report: &Report, tasks: &[TaskNo]) -> &'static str {
-    let mut status = "SUCCESS";
+fn has_failed(row: Option<Outcome>) -> bool
+    ensures { result ≡ has_failed row }
+{
+    match row {
+        Some(Outcome::Failure(_)) => true,
+        Some(Outcome::Success(_)) => false,
+        None => false,
+    }
+}
+
+fn any_failed(report: &Report, tasks: &[TaskNo]) -> bool
+    ensures { result ≡ any_failed (with_states (rows_from 1 report.now.rows) tasks.now) }
+{
     for task in tasks {
-        match row_of(report, *task) {
-            Some(Outcome::Failure(_)) => return "FAILURE",
-            Some(Outcome::Success(_)) => (),
-            None => status = "PENDING",
+        if has_failed(row_of(report, *task)) {
+            return true;
         }
     }
-    status
+    false
+}
+
+/// The status of a group: a failure where a member failed, else pending where one is.
+fn status_of_all(report: &Report, tasks: &[TaskNo]) -> &'static str {
+    if any_failed(report, tasks) {
+        return "FAILURE";
+    }
+    if tasks.iter().any(|task| row_of(report, *task).is_none()) {
+        return "PENDING";
+    }
+    "SUCCESS"
 }
 
 fn push_results(
@@ -170,9 +194,11 @@ pub fn rows_text(
 }
 
 /// Whether the result of the canvas is a failure, or that of a member where it is a group.
-pub fn is_failure(plan: &Plan, report: &Report) -> bool {
+pub fn is_failure(plan: &Plan, report: &Report) -> bool
+    ensures { result ≡ any_failed (with_states (rows_from 1 report.now.rows) (ends_of plan.now)) }
+{
     match plan.ends() {
-        Ends::One(task) => matches!(row_of(report, task), Some(Outcome::Failure(_))),
-        Ends::Many(tasks) => status_of_all(report, tasks) == "FAILURE",
+        Ends::One(task) => has_failed(row_of(report, task)),
+        Ends::Many(tasks) => any_failed(report, tasks),
     }
 }
