@@ -8,7 +8,7 @@ forms="run FILE [--workers N] [--task NAME=WORD] [--tasks FILE] [--json] [--expl
 turns FILE [--workers N] [--turns LIST] [--again LIST] [--task NAME=WORD] [--tasks FILE] [--json] [--fail]
 normal FILE
 check FILE [--task NAME=WORD] [--tasks FILE]
-adapt FILE
+adapt FILE [--rename #NUMBER=NAME]
 graph FILE [--run] [--workers N] [--task NAME=WORD] [--tasks FILE]
 messages FILE [--workers N] [--turns LIST] [--task NAME=WORD] [--tasks FILE]
 export FILE --run HEX22 [--queue NAME] [--prefix TEXT] [--expires SECONDS] [--broker-db N] [--backend-db N] [--without-script]
@@ -206,7 +206,7 @@ read_option() {
     refuse_option "$word" "${used[@]}"
     return 0
   fi
-  if [ -n "${given[$name]+was given}" ] && [ "$name" != --task ]; then
+  if [ -n "${given[$name]+was given}" ] && [ "$name" != --task ] && [ "$name" != --rename ]; then
     refuse_words "the argument '$(show_option "$name")' cannot be used multiple times" "$(usage_line)"
     return 0
   fi
@@ -238,7 +238,10 @@ read_option() {
     options+=("$word")
   fi
   given[$name]="$value"
-  if [ "$name" = --task ]; then tasks+=("$value"); fi
+  case "$name" in
+    --task) tasks+=("$value") ;;
+    --rename) renames+=("$value") ;;
+  esac
   refuse_number "$name" "$value"
 }
 
@@ -341,6 +344,36 @@ refuse_tasks() {
   done
 }
 
+# Sets `why` to what is wrong with a text that gives a task another name, behind those of the numbers in `named`.
+judge_rename() {
+  local text="$1" number="${1%%=*}" name="${1#*=}" LC_ALL=C
+  why='#NUMBER=NAME is wanted'
+  if ! [[ "$text" == *=* && "$number" =~ ^#[0-9]+$ ]]; then return 0; fi
+  number="${number#\#}"
+  number="${number#"${number%%[!0]*}"}"
+  if [ -z "$number" ] || ((${#number} > 10)) || ((number > 4294967295)); then return 0; fi
+  why=''
+  if ! [[ "$name" =~ ^[!-~]{1,128}$ ]]; then
+    why="a name is 1 to 128 bytes from ! to ~"
+  elif [ -n "${named["$number"]+is named}" ]; then
+    why="the number is there twice"
+  fi
+  named["$number"]=''
+}
+
+# Refuses the first word that is to give a task another name, and doesn't.
+refuse_renames() {
+  local text
+  named=()
+  for text in "${renames[@]}"; do
+    judge_rename "$text"
+    if [ -n "$why" ]; then
+      fault="canvas: refused BadRename $text: $why"
+      return 0
+    fi
+  done
+}
+
 # Whether words are texts in UTF-8, where there is a locale to tell.
 are_texts() {
   local LC_ALL=C.UTF-8 word
@@ -357,6 +390,7 @@ read_words() {
   options=()
   used=()
   tasks=()
+  renames=()
   given=()
   fault=''
   asks=''
@@ -392,6 +426,7 @@ read_words() {
       read_command "${@:2}"
       if [ -z "$fault$asks" ]; then refuse_missing; fi
       if [ -z "$fault$asks" ]; then refuse_lists; fi
+      if [ -z "$fault$asks" ]; then refuse_renames; fi
       if [ -z "$fault$asks" ]; then refuse_tasks; fi
       ;;
   esac

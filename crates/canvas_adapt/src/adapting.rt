@@ -24,7 +24,7 @@ pub struct Adapted {
 }
 
 /// A value as compact JSON in a line. One that is too large to be read isn't written.
-fn line_of(alloc: Global, value: &Datum<'_>) -> Result<Vec<u8>, SigFault> {
+pub(crate) fn line_of(alloc: Global, value: &Datum<'_>) -> Result<Vec<u8>, SigFault> {
     if room_behind(value, MOST_BYTES, MOST_WRITTEN).is_none() {
         return Err(SigFault::TooLarge);
     }

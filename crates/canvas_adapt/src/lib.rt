@@ -10,9 +10,15 @@ mod form;
 mod given;
 mod member;
 mod node;
+mod rename;
+mod rename_fault;
+mod renaming;
 mod task;
 mod text;
 mod work;
 
 pub use adapting::{Adapted, adapt};
 pub use changes::{Change, Changes};
+pub use rename::{Rename, read_renames};
+pub use rename_fault::{BadRename, RenameFault};
+pub use renaming::{Renamed, rename};

@@ -2,10 +2,66 @@
 
 use crate::answer::Answer;
 use crate::refusal::Refusal;
-use canvas_adapt::{Adapted, adapt};
+use canvas_adapt::{Adapted, BadRename, Rename, RenameFault, Renamed, adapt, read_renames, rename};
+use clap::ArgMatches;
 use std::alloc::Global;
 
-pub(crate) fn answer_adapt<'w>(alloc: Global, text: &[u8]) -> Result<Answer<'w>, Refusal<'w>> {
+/// The other names that the words ask for.
+pub(crate) fn asked_renames<'w>(
+    alloc: Global,
+    given: &ArgMatches<'w>,
+) -> Result<Vec<Rename<'w>>, Refusal<'w>> {
+    let texts = given.get_strs("rename").unwrap_or(&[]);
+    match read_renames(alloc, texts) {
+        Ok(renames) => Ok(renames),
+        Err(bad) => Err(bad_word(texts, &bad)),
+    }
+}
+
+/// The refusal of one of the words.
+fn bad_word<'w>(texts: &[&'w str], bad: &BadRename) -> Refusal<'w> {
+    match bad.fault {
+        RenameFault::Memory => Refusal::Memory,
+        fault => Refusal::BadRename {
+            text: texts.get(bad.before).copied().unwrap_or(""),
+            fault,
+        },
+    }
+}
+
+/// The first name for a task that a canvas of so many doesn't have.
+fn check_numbers<'w>(renames: &[Rename<'w>], tasks: u32) -> Result<(), Refusal<'w>> {
+    for rename in renames {
+        if rename.task.get() > tasks {
+            return Err(Refusal::BadRename {
+                text: rename.text,
+                fault: RenameFault::NoTask,
+            });
+        }
+    }
+    Ok(())
+}
+
+fn renamed<'w>(
+    alloc: Global,
+    text: &[u8],
+    renames: &[Rename<'w>],
+) -> Result<Vec<u8>, Refusal<'w>> {
+    let Renamed { text, tasks } = rename(alloc, text, renames)?;
+    check_numbers(renames, tasks)?;
+    Ok(text)
+}
+
+pub(crate) fn answer_adapt<'w>(
+    alloc: Global,
+    renames: &[Rename<'w>],
+    text: &[u8],
+) -> Result<Answer<'w>, Refusal<'w>> {
     let Adapted { text, changes } = adapt(alloc, text)?;
+    let text = if renames.is_empty() {
+        text
+    } else {
+        renamed(alloc, &text, renames)?
+    };
     Ok(Answer::whole(text).with_changes(changes))
 }

@@ -89,6 +89,13 @@ pub(crate) const TASKS: Argument = Argument {
     help: "The same for more tasks, one NAME=WORD a line; what --task says comes before it",
 };
 
+pub(crate) const RENAME: Argument = Argument {
+    name: "rename",
+    takes: Takes::Texts("#NUMBER=NAME"),
+    given: Given::Maybe,
+    help: "Another name for the task of a number, as reports have them",
+};
+
 pub(crate) const JSON: Argument = Argument {
     name: "json",
     takes: Takes::Nothing,

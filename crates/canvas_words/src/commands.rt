@@ -2,7 +2,7 @@
 
 use crate::arguments::{
     AGAIN, Argument, BACKEND_DATABASE, BROKER_DATABASE, COMPLETE, EXPIRES, EXPLAIN, FAIL, FILE,
-    FILE_ALONE, JSON, PREFIX, QUEUE, RUN, STATES, TASK, TASKS, TURNS, WITHOUT_SCRIPT, WORKERS,
+    FILE_ALONE, JSON, PREFIX, QUEUE, RENAME, RUN, STATES, TASK, TASKS, TURNS, WITHOUT_SCRIPT, WORKERS,
     arguments_of,
 };
 use clap::Command;
@@ -40,7 +40,7 @@ pub(crate) const COMMANDS: [Form; 10] = [
     Form {
         name: "adapt",
         about: "Prints a canvas that runs here, from any that Celery writes, and says what was changed",
-        arguments: &[FILE],
+        arguments: &[FILE, RENAME],
     },
     Form {
         name: "graph",
