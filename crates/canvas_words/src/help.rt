@@ -41,10 +41,10 @@ first signature that has the refusal, what was found there, and what is wanted.
 that are no whole numbers, texts or lists of whole numbers; gives the links and error callbacks of
 chains, groups and chords to the tasks that Celery gives them; puts the members of a group in a
 group into the outer one; and makes groups of calls of celery.map, celery.starmap and celery.chunks.
-Standard error counts each kind. With `--rename '#3=NAME'` the third task of what is printed has
+Standard error counts each kind. `--rename '#3=NAME'` gives the third task of what is printed
 another name, by which a stub tells it from those that have the same. It may be given again, for
 another number; a text of another kind, or a number that no task has, is refused (BadRename):
-    canvas adapt order.json --rename '#3=late' | canvas run - --task '*=0' --task late=raise:TypeError
+    canvas adapt order.json --rename '#3=late' | canvas run - --task '*=0' --task late=5
 
 `run --json` and `turns --json` print a JSON object in a line for each task (due_to, name, ran,
 result, status, task_id), and one for the result (result, status). A failure's result has exc_type
