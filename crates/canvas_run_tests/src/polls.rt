@@ -49,28 +49,24 @@ fn of_two(polls: u32, fault: Option<Cause>, taken: u64) -> Left {
 }
 
 /// To take, to store, to publish and to acknowledge are four for the first task, and to take, to
-/// store and to acknowledge three for the second; then a batch that is empty, a take that finds
-/// nothing, and the rest. The first batch may be empty, too.
+/// store and to acknowledge three for the second; then a take that finds nothing, and the rest.
 ///
 /// Where the gate is shut once there is one more: it is asked once more whether to go on, and at
 /// each of the four points once whether to deliver again. A redelivery is a poll of its own. Its
 /// copy is taken, its store is not the first, and it is acknowledged: three more, with two points.
 #[test]
 fn polls_of_two_tasks(rt: HostRuntime) {
-    for &(shut, at, taken, least, asked) in &[
-        (0, 0, 2, 10, (2, 4)),
-        (1, 0, 2, 11, (3, 4)),
-        (0, 1, 3, 14, (3, 6)),
-        (0, 2, 3, 14, (3, 6)),
-        (0, 3, 3, 14, (3, 6)),
-        (0, 4, 3, 14, (3, 6)),
+    for &(shut, at, taken, polls, asked) in &[
+        (0, 0, 2, 9, (2, 4)),
+        (1, 0, 2, 10, (3, 4)),
+        (0, 1, 3, 13, (3, 6)),
+        (0, 2, 3, 13, (3, 6)),
+        (0, 3, 3, 13, (3, 6)),
+        (0, 4, 3, 13, (3, 6)),
     ] {
         let gate = Counting::of(shut, at, 1);
         let left = left_of_two(&rt, &gate, 0);
-        assert!(rt;
-            (least..=least + 2).any(|polls| left == Some(of_two(polls, None, taken))),
-            "{left:?}, asked {at}"
-        );
+        assert_eq!(rt; left, Some(of_two(polls, None, taken)), "asked {at}");
         assert_eq!(rt; gate.asked(), asked, "asked {at}");
     }
 }

@@ -9,12 +9,13 @@ use Rattle.canvas_rewrite.specs.Planned.{IsPlan}
 use Rattle.canvas_runs.specs.Lists.{Each}
 use Rattle.canvas_runs.proofs.Sums.{total-append}
 use Rattle.canvas_runs.proofs.Words.{each_left, each_right}
-use Rattle.canvas_turns.specs.Going.{most_calls, most_steps}
+use Rattle.canvas_runs.specs.Progress.{most_calls as of_a_run}
+use Rattle.canvas_turns.specs.Going.{most_calls, most_steps, IsFair, one_after_another}
 use Rattle.canvas_turns.specs.TurnLaws.{ByTurns}
 use Rattle.canvas_turns.specs.Turns.{Step, IsWorker, HasEnded, Turned, skips_turn, AllEnded, round, rounds, Begins, RanUntil, redeliveries_in, redelivers_one}
 use Rattle.canvas_turns.proofs.TurnLaw.{until_turns}
-use Rattle.canvas_turns.proofs.TurnRounds.{pairs, pairs_go, none_further, each_round}
-use Rattle.canvas_turns.proofs.TurnSums.{calls_of, calls_in, few_calls}
+use Rattle.canvas_turns.proofs.TurnRounds.{fair_round, lists_go, none_further, each_round}
+use Rattle.canvas_turns.proofs.TurnSums.{calls_of, calls_in, few_calls, fewer_calls}
 use Rattle.canvas_turns.proofs.TurnWalk.{holds_first, holds_turned}
 use Rattle.canvas_turns.proofs.Turning.{turned_part, few_steps}
 
@@ -48,22 +49,24 @@ pub rounds_next : (n k : ℕ) → rounds n (suc k) ≡ rounds n k ++ round n
 rounds_next n zero = append-nil (round n)
 rounds_next n (suc k) = ap (λ l. round n ++ l) (rounds_next n k) ∙ sym (append_assoc (round n) (rounds n k) (round n))
 
-abbrev twice : ℕ → ℕ
-twice zero = zero
-twice (suc m) = suc (suc (twice m))
+-- rounds as fair lists of turns
+same_rounds : (n k : ℕ) → List (List ℕ)
+same_rounds n zero = []
+same_rounds n (suc k) = round n ∷ same_rounds n k
 
-twice_is : (m : ℕ) → twice m ≡ 2 * m
-twice_is zero = refl
-twice_is (suc m) = let r = twice_is m in omega (arith, r)
+rounds_are : (n k : ℕ) → rounds n k ≡ one_after_another (same_rounds n k)
+rounds_are n zero = refl
+rounds_are n (suc k) = ap (λ g. round n ++ g) (rounds_are n k)
+
+same_length : (n k : ℕ) → length (same_rounds n k) ≡ k
+same_length n zero = refl
+same_length n (suc k) = let r = same_length n k in omega (arith, r)
+
+same_fair : (n k : ℕ) → Each (IsFair n) (same_rounds n k)
+same_fair n zero = tt
+same_fair n (suc k) = (fair_round n, same_fair n k)
 
 module _ (behaviour : Behaviour) (l : Line) (n : ℕ) (us : List ℕ) (xs : List Step) (t : ByTurns behaviour l n us xs) (some : 1 ≤ n) where
-  abbrev some_pairs : ℕ → List ℕ
-  some_pairs m = pairs behaviour l t.plan t.opens_back n m
-
-  two_rounds : (m : ℕ) → rounds n (twice m) ≡ some_pairs m
-  two_rounds zero = refl
-  two_rounds (suc m) = ap (λ g. round n ++ (round n ++ g)) (two_rounds m) ∙ sym (append_assoc (round n) (round n) (some_pairs m))
-
   abbrev busy : ℕ
   busy = suc (most_calls l (redeliveries_in xs))
 
@@ -83,8 +86,9 @@ module _ (behaviour : Behaviour) (l : Line) (n : ℕ) (us : List ℕ) (xs : List
       let parts = turned_part behaviour l n [] ts (rounds n (2 * busy)) cut.0 cut.3 in
       let before = holds_turned behaviour l t.plan t.opens_back n [] ts parts.0 (each_left (IsWorker n) ts (rounds n (2 * busy)) firsts)
       (holds_first behaviour l t.plan t.opens_back n) parts.3 in
-      let rotation : Turned behaviour l n parts.0 (some_pairs busy) parts.1 =
-      subst (λ z. Turned behaviour l n parts.0 z parts.1) (ap (rounds n) (sym (twice_is busy)) ∙ two_rounds busy) parts.4 in
+      let rotation : Turned behaviour l n parts.0 (one_after_another (same_rounds n (2 * busy))) parts.1 =
+      subst (λ z. Turned behaviour l n parts.0 z parts.1) (rounds_are n (2 * busy)) parts.4 in
+      let enough = same_length n (2 * busy) in
       let sums : calls_in behaviour l xs ≡ calls_in behaviour l cut.0 + calls_in behaviour l cut.1 =
       ap (calls_in behaviour l) cut.2 ∙ total-append (λ x. calls_of behaviour l x.1) cut.0 cut.1 in
       let parted : calls_in behaviour l cut.0 ≡ calls_in behaviour l parts.0 + calls_in behaviour l parts.1 =
@@ -101,7 +105,7 @@ module _ (behaviour : Behaviour) (l : Line) (n : ℕ) (us : List ℕ) (xs : List
       let none : length cut.1 ≡ 0 = ap length stop in
       omega (arith, lengths, none, fewer, copies))
       (λ many. absurd (let few = few_calls behaviour l n us xs t in omega (arith, many, few, sums, parted)))
-      (pairs_go behaviour l t.plan t.opens_back n some busy parts.0 parts.1 before rotation)
+      (lists_go behaviour l t.plan t.opens_back n busy (same_rounds n (2 * busy)) (same_fair n (2 * busy)) (omega (arith, enough)) parts.0 parts.1 before rotation)
 
   -- turns that are more than these begin with them
   more_turns : (ts rest : List ℕ) (k : ℕ) → us ++ rest ≡ ts ++ rounds n k → length (whole ts) ≤ length us → (vs : List ℕ) × (us ≡ whole ts ++ vs)
@@ -150,6 +154,17 @@ module _ (behaviour : Behaviour) where
 
   pub rounds_go : (l : Line) (n : ℕ) (before : List Step) → Turned behaviour l n before (round n) [] → AllEnded behaviour l n before
   rounds_go l n before t p w = each_round n (HasEnded behaviour l before) (none_taken l n before (round n) t) p w
+
+-- ---- fair turns
+
+module _ (behaviour : Behaviour) where
+  pub fair_end : (l : Line) (n : ℕ) (uss : List (List ℕ)) (xs : List Step) → Each (IsFair n) uss
+      → ByTurns behaviour l n (one_after_another uss) xs → 2 * suc (of_a_run l (redeliveries_in xs)) ≤ length uss → AllEnded behaviour l n xs
+  fair_end l n uss xs fair t many =
+      ⊎_elim (λ done. done)
+      (λ k. absurd (let few = fewer_calls behaviour l n (one_after_another uss) xs t in omega (arith, k, few)))
+      (lists_go behaviour l t.plan t.opens_back n (suc (of_a_run l (redeliveries_in xs))) uss fair many [] xs
+      (holds_first behaviour l t.plan t.opens_back n) t.turned)
 
 -- ---- turns of the list so far, and turns in rotation so far
 

@@ -1,4 +1,4 @@
--- Of each two rounds one has a call, until all have ended.
+-- Of each two fair lists of turns one has a call, until all have ended.
 use Rattle.std.proofs.Common.{◌≡◌, ◌≢◌, ◌⊎◌, ℕ, zero, suc, ◌+◌, ◌≤◌, ◌||◌, Bool, true, false, cond, eqb, List, [], ◌∷◌, ◌++◌, Some, None, refl, sym, ap, ◌∙◌, subst, append_assoc, append-nil, inl, inr, ⊎_elim, ne_eqb, eq-eqb, arith}
 use Rattle.std.proofs.lemmas.Bool.{cases_eq, false≢true}
 use Rattle.canvas_history.proofs.Histories.{In, in_cases}
@@ -19,6 +19,7 @@ use Rattle.canvas_task.specs.Apply.{Behaviour}
 use Rattle.canvas_runs.proofs.Sums.{total-append}
 use Rattle.canvas_runs.proofs.MoreAsks.{asks_of_scripts}
 use Rattle.canvas_runs.proofs.Words.{each_append, each_left, each_weaker}
+use Rattle.canvas_turns.specs.Going.{IsFair, one_after_another}
 use Rattle.canvas_turns.proofs.TurnLaw.{round_workers}
 use Rattle.canvas_turns.proofs.TurnLogs.{round_has}
 use Rattle.canvas_turns.proofs.TurnStates.{Ready}
@@ -36,23 +37,27 @@ not_here p q us apart = let z : ◌≡◌ {A = ℕ} (cond (eqb q p) 1 0) 0 = ap 
 here : (p q : ℕ) (us : List ℕ) → q ≡ p → turns_of p (q ∷ us) ≡ 1 + turns_of p us
 here p q us same = let z : ◌≡◌ {A = ℕ} (cond (eqb q p) 1 0) 1 = ap (λ b. cond b 1 0) (eq-eqb q p same) in omega (arith, z)
 
--- each worker has one in each round
-once_round : (n p : ℕ) → IsWorker n p → 1 ≤ turns_of p (round n)
-once_round zero p w = absurd (omega (arith, w.0, w.1))
-once_round (suc n) p w =
-    let split = total-append (λ q. cond (eqb q p) 1 0) (round n) (suc n ∷ []) in
-    elim (cases_eq (suc n) p) [
-      | inl e ↦ let z = here p (suc n) [] e in omega (arith, split, z)
-      | inr f ↦ let r = once_round n p (w.0, omega (arith, w.1, f)) in omega (arith, split, r)
-    ]
+-- who is among the turns has one
+once_there : (p : ℕ) (us : List ℕ) → In p us → 1 ≤ turns_of p us
+once_there p [] i = absurd (false≢true i)
+once_there p (u ∷ us) i =
+    ⊎_elim (λ (same : u ≡ p). let z = here p u us same in omega (arith, z))
+    (λ j. let r = once_there p us j in elim (cases_eq u p) [
+      | inl same ↦ let z = here p u us same in omega (arith, z)
+      | inr apart ↦ let z = not_here p u us apart in omega (arith, z, r)
+    ]) (in_cases p u us i)
+
+-- what holds of each turn holds of who has one
+each_there : (P : ℕ → Type 0) (us : List ℕ) → Each P us → (p : ℕ) → In p us → P p
+each_there P [] a p i = absurd (false≢true i)
+each_there P (u ∷ us) a p i = ⊎_elim (λ (same : u ≡ p). subst P same a.0) (λ j. each_there P us a.1 p j) (in_cases p u us i)
 
 -- what holds of the numbers of a round holds of each worker
 pub each_round : (n : ℕ) (P : ℕ → Type 0) → Each P (round n) → (p : ℕ) → IsWorker n p → P p
-each_round n P a p w = go (round n) a (round_has n p w)
-  where
-    go : (us : List ℕ) → Each P us → In p us → P p
-    go [] a i = absurd (false≢true i)
-    go (u ∷ us) a i = ⊎_elim (λ (same : u ≡ p). subst P same a.0) (λ j. go us a.1 j) (in_cases p u us i)
+each_round n P a p w = each_there P (round n) a p (round_has n p w)
+
+pub fair_round : (n : ℕ) → IsFair n (round n)
+fair_round n = (round_workers n, round_has n)
 
 module _ (behaviour : Behaviour) (l : Line) where
   abbrev Y : Type 0
@@ -271,16 +276,7 @@ module _ (behaviour : Behaviour) (l : Line) where
               omega (arith, rest, k, same)
         ]
 
-    -- ---- two rounds
-
-    abbrev pub pair : List ℕ
-    pair = round n ++ round n
-
-    pair_workers : Each (IsWorker n) pair
-    pair_workers = each_append (IsWorker n) (round n) (round n) (round_workers n) (round_workers n)
-
-    twice_pair : (p : ℕ) → IsWorker n p → 2 ≤ turns_of p pair
-    twice_pair p w = let a = once_round n p w in let b = total-append (λ q. cond (eqb q p) 1 0) (round n) (round n) in omega (arith, a, b)
+    -- ---- two fair lists of turns
 
     low_rank : (xs : List Step) (p : ℕ) (s : Doing (worker behaviour l)) → Ready behaviour l plan n xs p s → is_inside s ≡ false → rank s ≤ 2
     low_rank xs p taking k e = omega arith
@@ -296,27 +292,37 @@ module _ (behaviour : Behaviour) (l : Line) where
     empty_or [] = inl refl
     empty_or (x ∷ q) = inr refl
 
-    -- without a call in two rounds all have ended
-    pub quiet_pair : 1 ≤ n → (before ys : List Step) → Sound before → Turned behaviour l n before pair ys → calls_in behaviour l ys ≡ 0
-        → AllEnded behaviour l n (before ++ ys)
-    quiet_pair some before ys s t z p w =
+    -- without a call in two fair lists of turns all have ended
+    quiet_two : (us vs : List ℕ) → IsFair n us → IsFair n vs → (before ys : List Step) → Sound before → Turned behaviour l n before (us ++ vs) ys
+        → calls_in behaviour l ys ≡ 0 → AllEnded behaviour l n (before ++ ys)
+    quiet_two us vs f g before ys s t z p w =
         ⊎_elim (λ empty. ended (record { empty = empty; outside = out })) (λ queued. absurd (stuck queued)) (empty_or (queue_after l before))
       where
+        workers : Each (IsWorker n) (us ++ vs)
+        workers = each_append (IsWorker n) us vs f.0 g.0
+
+        twice : 2 ≤ turns_of p (us ++ vs)
+        twice =
+            let a = once_there p us (f.1 p w) in
+            let b = once_there p vs (g.1 p w) in
+            let c = total-append (λ q. cond (eqb q p) 1 0) us vs in
+            omega (arith, a, b, c)
+
         out : (q : ℕ) → IsWorker n q → is_inside (left behaviour l before q) ≡ false
-        out q u = each_round n (λ v. is_inside (left behaviour l before v) ≡ false)
-            (each_left (λ v. is_inside (left behaviour l before v) ≡ false) (round n) (round n) (outside before pair ys s pair_workers t z)) q u
+        out q u = each_there (λ v. is_inside (left behaviour l before v) ≡ false) us
+            (each_left (λ v. is_inside (left behaviour l before v) ≡ false) us vs (outside before (us ++ vs) ys s workers t z)) q (f.1 q u)
 
         stuck : is_queued (queue_after l before) ≡ true → ⊥
         stuck queued =
-            let a = waiting before pair ys s queued pair_workers t z p in
-            let b = twice_pair p w in
+            let a = waiting before (us ++ vs) ys s queued workers t z p in
+            let b = twice in
             let c = few_waits (left behaviour l before p) in
             omega (arith, a, b, c)
 
         ended : Idle behaviour l n before → HasEnded behaviour l (before ++ ys) p
         ended i =
-            let a = nearer before pair ys s i pair_workers t z p in
-            let b = twice_pair p w in
+            let a = nearer before (us ++ vs) ys s i workers t z p in
+            let b = twice in
             let c = low_rank before p (left behaviour l before p) (s.ready p w) (i.outside p w) in
             ap (ask (worker behaviour l)) (rank_over (left behaviour l (before ++ ys) p) (⊎_elim (λ d. omega (arith, d, b, c)) (λ d. d) a))
 
@@ -336,29 +342,31 @@ module _ (behaviour : Behaviour) (l : Line) where
             ended_none : (v : Reply Envelope) → Answers behaviour l n before end v → ⊥
             ended_none v k = k
 
-    abbrev pub pairs : ℕ → List ℕ
-    pairs zero = []
-    pairs (suc m) = pair ++ pairs m
+    all_workers : (uss : List (List ℕ)) → Each (IsFair n) uss → Each (IsWorker n) (one_after_another uss)
+    all_workers [] f = tt
+    all_workers (us ∷ uss) f = each_append (IsWorker n) us (one_after_another uss) f.0.0 (all_workers uss f.1)
 
-    pairs_workers : (m : ℕ) → Each (IsWorker n) (pairs m)
-    pairs_workers zero = tt
-    pairs_workers (suc m) = each_append (IsWorker n) pair (pairs m) pair_workers (pairs_workers m)
-
-    -- so many pairs of rounds have as many calls, or all have ended
-    pub pairs_go : 1 ≤ n → (m : ℕ) (before ys : List Step) → Sound before → Turned behaviour l n before (pairs m) ys
-        → AllEnded behaviour l n (before ++ ys) ⊎ (m ≤ calls_in behaviour l ys)
-    pairs_go some zero before ys s t = inr (omega arith)
-    pairs_go some (suc m) before ys s t =
-        let cut = turned_part behaviour l n before pair (pairs m) ys t in
+    -- twice so many fair lists of turns have as many calls, or all have ended
+    pub lists_go : (m : ℕ) (uss : List (List ℕ)) → Each (IsFair n) uss → 2 * m ≤ length uss → (before ys : List Step) → Sound before
+        → Turned behaviour l n before (one_after_another uss) ys → AllEnded behaviour l n (before ++ ys) ⊎ (m ≤ calls_in behaviour l ys)
+    lists_go zero uss f many before ys s t = inr (omega arith)
+    lists_go (suc m) [] f many before ys s t = absurd (omega (arith, many))
+    lists_go (suc m) (us ∷ []) f many before ys s t = absurd (omega (arith, many))
+    lists_go (suc m) (us ∷ (vs ∷ uss)) f many before ys s t =
+        let both : List ℕ = us ++ vs in
+        let rest : List ℕ = one_after_another uss in
+        let two : Each (IsWorker n) both = each_append (IsWorker n) us vs f.0.0 f.1.0.0 in
+        let cut = turned_part behaviour l n before both rest ys (subst (λ z. Turned behaviour l n before z ys) (sym (append_assoc us vs rest)) t) in
         let sum : calls_in behaviour l ys ≡ calls_in behaviour l cut.0 + calls_in behaviour l cut.1 =
         ap (calls_in behaviour l) cut.2 ∙ total-append (λ x. calls_of behaviour l x.1) cut.0 cut.1 in
         let whole : (before ++ cut.0) ++ cut.1 ≡ before ++ ys = append_assoc before cut.0 cut.1 ∙ ap (λ zs. before ++ zs) (sym cut.2) in
-        let rest = pairs_go some m (before ++ cut.0) cut.1 (holds_turned behaviour l plan back n before pair cut.0 pair_workers s cut.3) cut.4 in
+        let sound = holds_turned behaviour l plan back n before both cut.0 two s cut.3 in
         elim (cases_eq (calls_in behaviour l cut.0) 0) [
           | inl none ↦
-              let done = quiet_pair some before cut.0 s cut.3 none in
-              let stop = none_further (before ++ cut.0) (pairs m) cut.1 (holds_turned behaviour l plan back n before pair cut.0 pair_workers s cut.3) done
-              (pairs_workers m) cut.4 in
+              let done = quiet_two us vs f.0 f.1.0 before cut.0 s cut.3 none in
+              let stop = none_further (before ++ cut.0) rest cut.1 sound done (all_workers uss f.1.1) cut.4 in
               inl (subst (AllEnded behaviour l n) (sym (append-nil (before ++ cut.0)) ∙ (ap (λ zs. (before ++ cut.0) ++ zs) (sym stop) ∙ whole)) done)
-          | inr busy ↦ ⊎_elim (λ e. inl (subst (AllEnded behaviour l n) whole e)) (λ k. inr (omega (arith, k, busy, sum))) rest
+          | inr busy ↦
+              ⊎_elim (λ e. inl (subst (AllEnded behaviour l n) whole e)) (λ k. inr (omega (arith, k, busy, sum)))
+              (lists_go m uss f.1.1 (omega (arith, many)) (before ++ cut.0) cut.1 sound cut.4)
         ]

@@ -21,7 +21,7 @@ use Rattle.canvas_turns.specs.TurnLaws.{ByTurns}
 use Rattle.canvas_turns.specs.Turns.{Step, round, redelivers_one, redeliveries_in}
 use Rattle.canvas_turns.proofs.TurnLaw.{holds, the_run}
 use Rattle.canvas_turns.proofs.TurnRuns.{queue_lines, table_lines, queue_log, table_log, firsts as first_envelopes}
-use Rattle.canvas_runs.specs.Progress.{calls_made, redelivers_one as redelivering}
+use Rattle.canvas_runs.specs.Progress.{calls_made, redelivers_one as redelivering, most_calls as of_a_run}
 use Rattle.canvas_runs.proofs.FewCalls.{few_calls as of_runs, same_sum}
 
 total-tag : {A : Type 0} (w : A → ℕ) (p : ℕ) (cs : List A) → total w (seconds (tag p cs)) ≡ total w cs
@@ -172,8 +172,8 @@ module _ (behaviour : Behaviour) (l : Line) (n : ℕ) (us : List ℕ) (xs : List
       fewer [] = omega arith
       fewer (y ∷ ys) = let h = one y.1.0 y.1.1 in let r = fewer ys in omega (arith, h, r)
 
-  pub few_calls : calls_in behaviour l xs ≤ most_calls l (redeliveries_in xs)
-  few_calls =
+  pub fewer_calls : calls_in behaviour l xs ≤ of_a_run l (redeliveries_in xs)
+  fewer_calls =
       let below : Each (λ (x : Step). x.0 ≤ n) xs = each_weaker (λ x w. w.1) xs (holds behaviour l n us xs t).workers in
       let again : AskedAndAnswered Envelope → ℕ = λ y. redelivers_one y.0 in
       let steps = total-seconds (calls_of behaviour l) xs ∙ total_by (calls_of behaviour l) n xs below in
@@ -184,6 +184,11 @@ module _ (behaviour : Behaviour) (l : Line) (n : ℕ) (us : List ℕ) (xs : List
       let same = same_sum n (λ p. calls_made (R.core p)) in
       let few = of_runs behaviour l t.plan R n in
       let some_again = redelivers_few in
+      omega (arith, steps, agains, each, both, same, few, some_again)
+
+  pub few_calls : calls_in behaviour l xs ≤ most_calls l (redeliveries_in xs)
+  few_calls =
+      let few = fewer_calls in
       let wide : (T + 5) * suc T ≡ T * suc T + 5 * suc T = add-mul T 5 (suc T) in
       let long : T * 1 ≤ T * suc T = mul-le-mul_left T (omega arith) in
-      omega (arith, steps, agains, each, both, same, few, some_again, wide, long)
+      omega (arith, few, wide, long)

@@ -1,9 +1,11 @@
--- How many steps a run by turns takes at most.
-use Rattle.std.specs.Prelude.{ℕ, suc, ◌≤◌, ◌<◌, ◌+◌, ◌*◌, ◌^◌, List, [], length}
+-- How many steps a run by turns takes at most, and that it ends however fair turns are dealt out.
+use Rattle.std.specs.Prelude.{◌≡◌, ℕ, suc, true, ◌≤◌, ◌<◌, ◌+◌, ◌*◌, ◌^◌, List, [], ◌∷◌, ◌++◌, length}
 use Rattle.canvas_task.specs.Apply.{Behaviour}
+use Rattle.canvas_history.specs.History.{among}
 use Rattle.canvas_semantics.specs.Line.{Line, count_line}
 use Rattle.canvas_rewrite.specs.Planned.{IsPlan}
 use Rattle.canvas_runs.specs.Lists.{Each}
+use Rattle.canvas_runs.specs.Progress.{most_calls as few_calls}
 use Rattle.canvas_turns.specs.Turns.{Step, Begins, Turned, AllEnded, round, most_workers, IsWorker, RanUntil, redeliveries_in}
 use Rattle.canvas_turns.specs.TurnLaws.{ByTurns}
 
@@ -42,3 +44,19 @@ abbrev pub RoundsGo : Type 0
 RoundsGo =
     (behaviour : Behaviour) (l : Line) (n : ℕ) (before : List Step)
     → Turned behaviour l n before (round n) [] → AllEnded behaviour l n before
+
+-- turns of the workers 1 to n, of which each has one and more, in whatever order
+abbrev pub IsFair : ℕ → List ℕ → Type 0
+IsFair n us = Each (IsWorker n) us × ((p : ℕ) → IsWorker n p → among p us ≡ true)
+
+abbrev pub one_after_another : List (List ℕ) → List ℕ
+one_after_another [] = []
+one_after_another (us ∷ uss) = us ++ one_after_another uss
+
+-- Where each worker has a turn again and again, all end: after twice as many fair lists of turns as
+-- a run has calls, and two more.
+abbrev pub FairTurnsEnd : Type 0
+FairTurnsEnd =
+    (behaviour : Behaviour) (l : Line) (n : ℕ) (uss : List (List ℕ)) (xs : List Step)
+    → Each (IsFair n) uss → ByTurns behaviour l n (one_after_another uss) xs
+    → 2 * suc (few_calls l (redeliveries_in xs)) ≤ length uss → AllEnded behaviour l n xs

@@ -7,7 +7,7 @@ ghost use Rattle.std.specs.Prelude.{◌≡◌, ℕ, List, []};
 ghost use Rattle.canvas_task.specs.Apply.{six_tasks};
 ghost use Rattle.canvas_runs.specs.Witness.{small};
 ghost use Rattle.canvas_turns.specs.TurnLaws.{TurnsAreRuns, TurnRowsMay, TurnRowsAre, TurnsEmpty, TurnStatesMay, TurnStatesAre, WholeTurns, UntilTurns, NextAnswerable, HeldInRange};
-ghost use Rattle.canvas_turns.specs.Going.{FewSteps, StopsSoon, StepsFit, RoundsGo};
+ghost use Rattle.canvas_turns.specs.Going.{FewSteps, StopsSoon, StepsFit, RoundsGo, FairTurnsEnd};
 ghost use Rattle.canvas_turns.specs.TurnWays.{TurnsUnderWay};
 ghost use Rattle.canvas_turns.specs.Turns.{Turned, RanWhole};
 ghost use Rattle.canvas_turns.specs.Spending.{EntriesAreTurns, EntriesFew, OwnPoints, AgainsAreEntries, AgainsFew, NoEntries, AgainTurns, TurnedAgain, RanAgain, Entry, agains_in};
@@ -36,12 +36,14 @@ pub fn laws_of_turns()
 /// A run by turns ends. In rotation a round in which nobody asks for anything is the last, and of
 /// each two rounds one has a call of the queue or of the table, of which there are few: each task
 /// is published, taken, stored and its part returned at most once. So the steps are fewer than a
-/// count of 128 bits holds.
+/// count of 128 bits holds. It ends by any turns of which each worker has one again and again, after
+/// twelve lists of such turns for each task, eight for each redelivery, and two.
 pub fn ends_of_turns()
     ensures few { FewSteps }
     ensures stops { StopsSoon }
     ensures fit { StepsFit }
     ensures rounds { RoundsGo }
+    ensures fair { FairTurnsEnd }
 {}
 
 /// Runs by turns are under way at any time, so what the law of progress says of a run is so of

@@ -19,7 +19,7 @@ use Rattle.canvas_worker.specs.CorePast.{task_in}
 use Rattle.canvas_worker.specs.SeatRights.{Can}
 use Rattle.canvas_worker.specs.CoreState.{Standing, Progress, asked, drops, after_reply, held, kept_next, task_next}
 use Rattle.canvas_worker.specs.WorkerSteps.{Batched, FromHeld}
-use Rattle.canvas_worker.specs.Polls.{Work, progress, with_core, with_answer, lost, one_taken, CanDeliver, in_hand, Ready, takes_batch, gives_held, Acts, Acted, Leaves, EndsBy, ActedLast}
+use Rattle.canvas_worker.specs.Polls.{Work, progress, with_core, with_answer, lost, one_taken, CanDeliver, in_hand, Ready, gives_held, keeps_batch, Acted, Leaves, Ends, EndsWith}
 use Rattle.canvas_worker.specs.declared.cause.Cause.TheVariants.{Memory}
 use Rattle.canvas_worker.specs.declared.record.Record.{Record}
 use Rattle.canvas_worker.specs.declared.working.End.{End}
@@ -160,11 +160,11 @@ module _ (behaviour : Behaviour) (w u : Work) (es : List Envelope) (e : Envelope
   same_tally : (progress (lost u)).tally ≡ (progress w).tally
   same_tally = same_tallies x.taken x.published x.first x.parts (ap (λ (c : Standing). c.dropped) x.core)
 
-  fails : (s : Record) → Leaves (lost u) (Some Memory) s → EndsBy (Acts behaviour w.desk.plan) w s
+  fails : (s : Record) → Leaves (lost u) (Some Memory) s → Ends behaviour w s
   fails s leaves = record {
     ended = between;
     counted = ready.counts;
-    moved = takes_batch es batched;
+    moved = keeps_batch es batched;
     is_of = record {
       same_number = leaves.same_number ∙ x.number;
       pass = leaves.pass;
@@ -175,17 +175,17 @@ module _ (behaviour : Behaviour) (w u : Work) (es : List Envelope) (e : Envelope
     };
   }
 
-  lost_is : (v : Work) → v ≡ lost u → ActedLast behaviour w (Some Memory) v
+  lost_is : (v : Work) → v ≡ lost u → EndsWith behaviour w (Some Memory) v
   lost_is v is s leaves = fails s (subst (λ z. Leaves z (Some Memory) s) is leaves)
 
   well : {A : Type 0} (result : Result A End) (v : Work)
       → MatchResult result (λ _. v ≡ one_taken (with_answer behaviour u (C.from_queue (Some e)))) (λ end. (v ≡ lost u) × (end.fault ≡ Some Memory))
-      → MatchResult result (λ _. Acted behaviour w v) (λ end. ActedLast behaviour w end.fault v)
+      → MatchResult result (λ _. Acted behaviour w v) (λ end. EndsWith behaviour w end.fault v)
   well (Ok _) v is = told_is v is
-  well (Err end) v is = subst (λ f. ActedLast behaviour w f v) (sym is.1) (lost_is v is.0)
+  well (Err end) v is = subst (λ f. EndsWith behaviour w f v) (sym is.1) (lost_is v is.0)
 
 pub given_well : {A : Type 0} (behaviour : Behaviour) (w u v : Work) (es : List Envelope) (e : Envelope) (result : Result A End)
     → MatchResult result (λ _. v ≡ one_taken (with_answer behaviour u (C.from_queue (Some e)))) (λ end. (v ≡ lost u) × (end.fault ≡ Some Memory)) → Ready w
     → Takes w u es e
-    → MatchResult result (λ _. Acted behaviour w v) (λ end. ActedLast behaviour w end.fault v)
+    → MatchResult result (λ _. Acted behaviour w v) (λ end. EndsWith behaviour w end.fault v)
 given_well behaviour w u v es e result is ready x = well behaviour w u es e ready x result v is

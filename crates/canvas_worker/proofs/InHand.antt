@@ -25,7 +25,7 @@ use Rattle.canvas_worker.specs.declared.cause.Cause.TheVariants.{Memory}
 use Rattle.canvas_worker.specs.declared.working.End.{End}
 use Rattle.canvas_worker.proofs.Redelivering.{just_has, still_has}
 use Rattle.canvas_worker.proofs.Stepping.{taking_all, took_makes}
-use Rattle.canvas_worker.proofs.Turns.{ends_here}
+use Rattle.canvas_worker.proofs.Turns.{ends_acting}
 
 -- ---- what a pass may deliver again
 
@@ -118,4 +118,4 @@ pub delivered_well : {A : Type 0} (behaviour : Behaviour) (w v : Work) (result :
     → MatchResult result (λ _. Pends behaviour w v) (λ e. EndsWith behaviour w e.fault v)
 delivered_well behaviour w v (Ok _) ready inside d = redelivered behaviour w v ready inside d
 delivered_well behaviour w v (Err e) ready inside d =
-    subst (λ f. EndsWith behaviour w f v) (sym d.1) (subst (λ z. EndsWith behaviour w (Some Memory) z) (sym d.0) (ends_here behaviour w Memory ready))
+    subst (λ f. EndsWith behaviour w f v) (sym d.1) (subst (λ z. EndsWith behaviour w (Some Memory) z) (sym d.0) (ends_acting behaviour w Memory ready))

@@ -17,7 +17,7 @@ use Rattle.canvas_runs.specs.declared.when.When.TheVariants.{Early, Late}
 use Rattle.canvas_worker.specs.CorePast.{task_in}
 use Rattle.canvas_worker.specs.CoreState.{Left, Progress, HasFollowed, held, point_in}
 use Rattle.canvas_worker.specs.GateAnswers.{unless_passed, asks_at, Wants, Heeds, waits, delivers, goes_on, LeavesHeeding, stops, fails_again, ends}
-use Rattle.canvas_worker.specs.Polls.{Work, progress, Ready, IsWanted, Acts, stays, makes_call, takes_batch, gives_held, Pends, IsRecordOf, EndsBy, TellsOf}
+use Rattle.canvas_worker.specs.Polls.{Work, progress, Ready, IsWanted, Acts, makes_call, gives_held, ActsLast, acts_last, does_nothing, keeps_batch, Pends, IsRecordOf, Ends, TellsOf}
 use Rattle.canvas_worker.specs.WorkerSteps.{Delivered}
 use Rattle.canvas_worker.specs.declared.cause.Cause.TheVariants.{Memory, Stopped}
 use Rattle.canvas_worker.specs.declared.record.Record.{Record}
@@ -30,20 +30,23 @@ module _ (behaviour : Behaviour) (again : ℕ → Type 0) (plan : Roster) where
   Wanting p x = (f : HasFollowed behaviour plan p x) × Each (IsWanted again plan) f.made
 
   acted_first : (p q x : Progress) → Acts behaviour plan p q → Wanting q x → Wanting p x
-  acted_first p q x (stays e) f = subst (λ z. Wanting z x) e f
   acted_first p q x (makes_call a r step) f = (
     call_first behaviour plan p q x a r step f.0,
     call_wanted behaviour plan again p q x a r step f.0 f.1,
-  )
-  acted_first p q x (takes_batch es step) f = (
-    batch_first behaviour plan p q x es step f.0,
-    batch_wanted behaviour plan again p q x es step f.0 f.1,
   )
   acted_first p q x (gives_held es e between taken step) f =
       let held : HasFollowed behaviour plan between x = held_first behaviour plan between q x e step f.0 in (
         batch_first behaviour plan p between x es taken held,
         batch_wanted behaviour plan again p between x es taken held (held_wanted behaviour plan again between q x e step f.0 f.1),
       )
+
+  last_first : (p q x : Progress) → ActsLast behaviour plan p q → Wanting q x → Wanting p x
+  last_first p q x (acts_last a) f = acted_first p q x a f
+  last_first p q x (does_nothing e) f = subst (λ z. Wanting z x) e f
+  last_first p q x (keeps_batch es step) f = (
+    batch_first behaviour plan p q x es step f.0,
+    batch_wanted behaviour plan again p q x es step f.0 f.1,
+  )
 
 -- ---- what the gate wanted
 
@@ -90,10 +93,10 @@ module _ (behaviour : Behaviour) (go : ℕ → Bool → Type 0) (may_want : ℕ 
       let all : Wanting behaviour wants w.desk.plan (progress w) f.ended = heeded v q f.ended h then in
       record { ended = f.ended; worked = all.0; wanted = all.1; is_of = subst (λ n. IsRecordOf n f.ended r) g.number f.is_of }
 
-  ended_gives : (r : Record) → EndsBy (Acts behaviour w.desk.plan) w r → TellsOf behaviour may_want w r
+  ended_gives : (r : Record) → Ends behaviour w r → TellsOf behaviour may_want w r
   ended_gives r e =
       let all : Wanting behaviour wants w.desk.plan (progress w) e.ended =
-      acted_first behaviour wants w.desk.plan (progress w) e.ended e.ended e.moved
+      last_first behaviour wants w.desk.plan (progress w) e.ended e.ended e.moved
       (rests behaviour w.desk.plan e.ended e.counted, rests_wanted behaviour w.desk.plan wants e.ended e.counted) in
       record { ended = e.ended; worked = all.0; wanted = all.1; is_of = e.is_of }
 

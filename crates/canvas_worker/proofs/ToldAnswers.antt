@@ -19,7 +19,7 @@ use Rattle.canvas_worker.specs.CorePast.{task_in}
 use Rattle.canvas_worker.specs.SeatRights.{Can}
 use Rattle.canvas_worker.specs.CoreState.{Standing, Progress, asked, drops, after_reply, open_of, kept_next, task_next}
 use Rattle.canvas_worker.specs.WorkerSteps.{OnlyBare, AnsweredByCall}
-use Rattle.canvas_worker.specs.Polls.{Work, progress, with_core, with_answer, lost, CanDeliver, in_hand, Ready, makes_call, Acts, Acted, Leaves, EndsBy, ActedLast}
+use Rattle.canvas_worker.specs.Polls.{Work, progress, with_core, with_answer, lost, CanDeliver, in_hand, Ready, makes_call, acts_last, Acted, Leaves, Ends, EndsWith}
 use Rattle.canvas_worker.specs.declared.cause.Cause.TheVariants.{Memory}
 use Rattle.canvas_worker.specs.declared.record.Record.{Record}
 use Rattle.canvas_worker.specs.declared.working.End.{End}
@@ -229,11 +229,11 @@ module _ (behaviour : Behaviour) (w u : Work) (a : Asked) (r : Answer) (ready : 
       subst (λ z. Acted behaviour w z) (sym (e ∙ ap (λ c. with_core u c) core_is))
       (record { broker = broker; desk = desk; number = number; ready = ready_then; moved = makes_call a r called })
 
-  fails : (s : Record) → Leaves (lost u) (Some Memory) s → EndsBy (Acts behaviour w.desk.plan) w s
+  fails : (s : Record) → Leaves (lost u) (Some Memory) s → Ends behaviour w s
   fails s leaves = record {
     ended = after;
     counted = tallied plan a r (progress w).tally after.tally counted;
-    moved = makes_call a r called;
+    moved = acts_last (makes_call a r called);
     is_of = record {
       same_number = leaves.same_number ∙ number;
       pass = leaves.pass;
@@ -244,23 +244,23 @@ module _ (behaviour : Behaviour) (w u : Work) (a : Asked) (r : Answer) (ready : 
     };
   }
 
-  lost_is : (v : Work) → v ≡ lost u → ActedLast behaviour w (Some Memory) v
+  lost_is : (v : Work) → v ≡ lost u → EndsWith behaviour w (Some Memory) v
   lost_is v e s leaves = fails s (subst (λ z. Leaves z (Some Memory) s) e leaves)
 
   well : {A : Type 0} (result : Result A End) (v : Work) → MatchResult result (λ _. v ≡ with_answer behaviour u r) (λ e. (v ≡ lost u) × (e.fault ≡ Some Memory))
-      → MatchResult result (λ _. Acted behaviour w v) (λ e. ActedLast behaviour w e.fault v)
+      → MatchResult result (λ _. Acted behaviour w v) (λ e. EndsWith behaviour w e.fault v)
   well (Ok _) v is = told_is v is
-  well (Err e) v is = subst (λ f. ActedLast behaviour w f v) (sym is.1) (lost_is v is.0)
+  well (Err e) v is = subst (λ f. EndsWith behaviour w f v) (sym is.1) (lost_is v is.0)
 
   -- a worker that ends without a fault
   ends_so : (v : Work) → v ≡ with_answer behaviour u r → (s : Record) → Leaves v None s → (after.left ≡ C.over) × (after.held ≡ []) × Empties after.pass
-      → EndsBy (Acts behaviour w.desk.plan) w s
+      → Ends behaviour w s
   ends_so v e s leaves whole =
       let is : v ≡ with_core u core = e ∙ ap (λ c. with_core u c) core_is in
       record {
         ended = after;
         counted = tallied plan a r (progress w).tally after.tally counted;
-        moved = makes_call a r called;
+        moved = acts_last (makes_call a r called);
         is_of = record {
           same_number = leaves.same_number ∙ ap (λ (z : Work). z.number) is ∙ number;
           pass = leaves.pass ∙ ap (λ (z : Work). z.pass) is;
@@ -272,23 +272,23 @@ module _ (behaviour : Behaviour) (w u : Work) (a : Asked) (r : Answer) (ready : 
 
 pub asked_well : {A : Type 0} (behaviour : Behaviour) (w u v : Work) (a : Asked) (r : Answer) (result : Result A End)
     → MatchResult result (λ _. v ≡ with_answer behaviour u r) (λ e. (v ≡ lost u) × (e.fault ≡ Some Memory))
-    → Ready w → Asks behaviour w u a r → MatchResult result (λ _. Acted behaviour w v) (λ e. ActedLast behaviour w e.fault v)
+    → Ready w → Asks behaviour w u a r → MatchResult result (λ _. Acted behaviour w v) (λ e. EndsWith behaviour w e.fault v)
 asked_well behaviour w u v a r result is ready x = well behaviour w u a r ready x result v is
 
 -- where memory was refused, to the queue or to the core
 pub ends_badly : (behaviour : Behaviour) (w u : Work) (a : Asked) (r : Answer) (e : End) → e.fault ≡ Some Memory → Ready w → Asks behaviour w u a r
-    → ActedLast behaviour w e.fault u
+    → EndsWith behaviour w e.fault u
 ends_badly behaviour w u a r e is ready x s leaves =
     let so : Leaves u (Some Memory) s = subst (λ f. Leaves u f s) is leaves in
     fails behaviour w u a r ready x s (record { same_number = so.same_number; pass = so.pass; seat = so.seat; counts = so.counts; fault_is = so.fault_is })
 
 pub asked_badly : (behaviour : Behaviour) (w u v : Work) (a : Asked) (r : Answer) (e : End) → (v ≡ lost u) × (e.fault ≡ Some Memory) → Ready w
-    → Asks behaviour w u a r → ActedLast behaviour w e.fault v
-asked_badly behaviour w u v a r e is ready x = subst (λ f. ActedLast behaviour w f v) (sym is.1) (lost_is behaviour w u a r ready x v is.0)
+    → Asks behaviour w u a r → EndsWith behaviour w e.fault v
+asked_badly behaviour w u v a r e is ready x = subst (λ f. EndsWith behaviour w f v) (sym is.1) (lost_is behaviour w u a r ready x v is.0)
 
 -- a worker that is told that no more will come
 pub rests_well : (behaviour : Behaviour) (w u v : Work) → v ≡ with_answer behaviour u (C.rested false) → Ready w → Asks behaviour w u C.rest (C.rested false)
-    → ActedLast behaviour w None v
+    → EndsWith behaviour w None v
 rests_well behaviour w u v is ready x s leaves =
     let rests : w.core.left ≡ C.resting = rests_over w.core.left x.asked_is in
     ends_so behaviour w u C.rest (C.rested false) ready x v is s leaves (

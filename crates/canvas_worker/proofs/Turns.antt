@@ -8,7 +8,7 @@ use Rattle.canvas_runs.specs.Calls.{QueueAnswered, TableAnswered, takes_one, bro
 use Rattle.canvas_runs.specs.Lists.{total}
 use Rattle.canvas_runs.specs.Tally.{Tally, IsTally, Counted, CountsMore, publishing, storing, returning, dropping, greatest_count}
 use Rattle.canvas_worker.specs.Asks.{Asked, Answer}
-use Rattle.canvas_worker.specs.Polls.{Work, progress, Ready, Acts, stays, acts, Pends, Acted, EndsBy, EndsWith, ActedLast}
+use Rattle.canvas_worker.specs.Polls.{Work, progress, Ready, acts, does_nothing, Pends, Acted, EndsWith}
 use Rattle.canvas_worker.specs.declared.cause.Cause.{Cause}
 use Rattle.canvas_worker.specs.declared.working.End.{End}
 
@@ -44,11 +44,11 @@ tallied plan a r t u c = (
 pub some_none : (c : Cause) → ◌≡◌ {A = Option Cause} (Some c) None → ⊥
 some_none c e = cc
 
-pub ends_acting : (behaviour : Behaviour) (w : Work) (c : Cause) → Ready w → ActedLast behaviour w (Some c) w
+pub ends_acting : (behaviour : Behaviour) (w : Work) (c : Cause) → Ready w → EndsWith behaviour w (Some c) w
 ends_acting behaviour w c ready r leaves = record {
   ended = progress w;
   counted = ready.counts;
-  moved = stays refl;
+  moved = does_nothing refl;
   is_of = record {
     same_number = leaves.same_number;
     pass = leaves.pass;
@@ -64,16 +64,8 @@ ends_acting behaviour w c ready r leaves = record {
 acts_pending : (behaviour : Behaviour) (w v : Work) → Acted behaviour w v → Pends behaviour w v
 acts_pending behaviour w v a = record { broker = a.broker; desk = a.desk; number = a.number; ready = a.ready; moved = acts a.moved }
 
-acts_last : (behaviour : Behaviour) (w v : Work) (f : Option Cause) → ActedLast behaviour w f v → EndsWith behaviour w f v
-acts_last behaviour w v f a r leaves =
-    let e : EndsBy (Acts behaviour w.desk.plan) w r = a r leaves in
-    record { ended = e.ended; counted = e.counted; moved = acts e.moved; is_of = e.is_of }
-
 pub acted_well : {A : Type 0} (behaviour : Behaviour) (w v : Work) (result : Result A End)
-    → MatchResult result (λ _. Acted behaviour w v) (λ e. ActedLast behaviour w e.fault v)
+    → MatchResult result (λ _. Acted behaviour w v) (λ e. EndsWith behaviour w e.fault v)
     → MatchResult result (λ _. Pends behaviour w v) (λ e. EndsWith behaviour w e.fault v)
 acted_well behaviour w v (Ok _) a = acts_pending behaviour w v a
-acted_well behaviour w v (Err e) a = acts_last behaviour w v e.fault a
-
-pub ends_here : (behaviour : Behaviour) (w : Work) (c : Cause) → Ready w → EndsWith behaviour w (Some c) w
-ends_here behaviour w c ready = acts_last behaviour w w (Some c) (ends_acting behaviour w c ready)
+acted_well behaviour w v (Err e) a = a

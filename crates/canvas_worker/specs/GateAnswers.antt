@@ -7,7 +7,7 @@ use Rattle.canvas_runs.specs.declared.when.When.{When}
 use Rattle.canvas_runs.specs.declared.when.When.TheVariants.{Early, Late}
 use Rattle.canvas_worker.specs.Asks.{shown}
 use Rattle.canvas_worker.specs.CoreState.{Standing, asked, point_at}
-use Rattle.canvas_worker.specs.Polls.{Work, Acts, Acted, EndsBy, EndsFor, Leaves, Redelivered}
+use Rattle.canvas_worker.specs.Polls.{Work, Acted, Ends, EndsFor, Leaves, Redelivered}
 use Rattle.canvas_worker.specs.declared.cause.Cause.{Cause}
 use Rattle.canvas_worker.specs.declared.cause.Cause.TheVariants.{Memory, Stopped}
 use Rattle.canvas_worker.specs.declared.record.Record.{Record}
@@ -73,7 +73,7 @@ module _ (go : ℕ → Bool → Type 0) (again : ℕ → Type 0) where
       stops : Leaves w (Some Stopped) r → LeavesHeeding r
       fails_again : LetsOn (asks_at w.core p) → Wants (asks_at w.core p)
           → Leaves w (Some Memory) r → LeavesHeeding r
-      ends : LetsOn (asks_at w.core p) → EndsBy (Acts behaviour w.desk.plan) w r
+      ends : LetsOn (asks_at w.core p) → Ends behaviour w r
           → EndsFor (shown w.core.task (asked w.core.left)) r.fault → LeavesHeeding r
 
     -- where the gate can only hold the worker back, nothing was done

@@ -165,21 +165,28 @@ pub record Ready (w : Work) : Type 0 where
   pub again : Each (CanDeliver w.pass) (in_hand (held w.core) w.held)
   pub counts : IsTally (progress w).tally
 
--- What one poll does at most for the core: one ask of it is answered, or a batch is taken, or an
--- ask is answered by an envelope that is held or of a batch that was taken for it. A take of one
--- envelope is a batch of one.
+-- What one poll does for the core, where the gate lets the worker go on: one ask of it is answered,
+-- by a call, or by an envelope that is held or of a batch that was taken for it. A take of one
+-- envelope is a batch of one, and one that finds nothing is answered too.
 pub data Acts (behaviour : Behaviour) (plan : Roster) (p q : Progress) : Type 0 where
-  stays : q ≡ p → Acts behaviour plan p q
   makes_call : (a : Asked) (r : Answer) → AnsweredByCall behaviour plan p q a r
       → Acts behaviour plan p q
-  takes_batch : (es : List Envelope) → Batched p q es → Acts behaviour plan p q
   gives_held : (es : List Envelope) (e : Envelope) (between : Progress) → Batched p between es
       → FromHeld behaviour plan between q e → Acts behaviour plan p q
 
--- What one poll does at most: that, or the envelope of the open script is delivered again.
+-- What a poll that is pending does: that, or the envelope of the open script is delivered again, or
+-- nothing, since the gate holds the worker back.
 pub data Moves (behaviour : Behaviour) (plan : Roster) (p q : Progress) : Type 0 where
+  waits : q ≡ p → Moves behaviour plan p q
   acts : Acts behaviour plan p q → Moves behaviour plan p q
   delivers : (e : Envelope) → Delivered p q e → Moves behaviour plan p q
+
+-- What the last poll does: one ask is answered, or none, since the worker is stopped or memory was
+-- refused, to which a batch may have been taken.
+pub data ActsLast (behaviour : Behaviour) (plan : Roster) (p q : Progress) : Type 0 where
+  acts_last : Acts behaviour plan p q → ActsLast behaviour plan p q
+  does_nothing : q ≡ p → ActsLast behaviour plan p q
+  keeps_batch : (es : List Envelope) → Batched p q es → ActsLast behaviour plan p q
 
 -- the envelope of the open script was delivered again, and nothing else was done
 abbrev pub Redelivered : Work → Work → Type 0
@@ -230,15 +237,12 @@ pub record IsRecordOf (number : ℕ) (p : Progress) (r : Record) : Type 0 where
   pub counts : tally_of r ≡ p.tally
   pub whole : r.fault ≡ None → (p.left ≡ over) × (p.held ≡ []) × Empties p.pass
 
--- what a poll leaves that is ready, where it did this
-pub record EndsBy (Does : Progress → Progress → Type 0) (w : Work) (r : Record) : Type 0 where
+-- what a poll leaves that is ready
+pub record Ends (behaviour : Behaviour) (w : Work) (r : Record) : Type 0 where
   pub ended : Progress
   pub counted : IsTally ended.tally
-  pub moved : Does (progress w) ended
+  pub moved : ActsLast behaviour w.desk.plan (progress w) ended
   pub is_of : IsRecordOf w.number ended r
-
-abbrev pub Ends : Behaviour → Work → Record → Type 0
-Ends behaviour w r = EndsBy (Moves behaviour w.desk.plan) w r
 
 -- what a poll leaves of a worker that has ended: its record is that of its end
 abbrev pub EndsWith : Behaviour → Work → Option Cause → Work → Type 0
@@ -252,11 +256,6 @@ EndsFor (Store t o) fault = ⊥
 EndsFor (Part g t) fault = ⊥
 EndsFor (Ack x) fault = ⊥
 EndsFor a fault = fault ≡ Some Memory
-
--- the same, where nothing was delivered again
-abbrev pub ActedLast : Behaviour → Work → Option Cause → Work → Type 0
-ActedLast behaviour w fault v =
-    (r : Record) → Leaves v fault r → EndsBy (Acts behaviour w.desk.plan) w r
 
 -- where an envelope is delivered again, it is that of a task of which this was wanted
 abbrev pub IsWanted : (ℕ → Type 0) → Roster → QueueAnswered Envelope → Type 0

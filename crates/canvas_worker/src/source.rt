@@ -7,8 +7,8 @@ use canvas_broker::Batch;
 use canvas_message::Letter;
 
 /// A worker takes one by one until it is given its first envelope, so that no worker holds back
-/// what another could begin with. From then on it takes batches, and one alone after a batch of
-/// none.
+/// what another could begin with. From then on it takes batches, and one alone behind a batch of
+/// none, in the same poll.
 #[derive(Drop)]
 pub(crate) enum Source {
     /// Nothing was given yet.
@@ -17,8 +17,6 @@ pub(crate) enum Source {
     Batched(Batch),
     /// A batch is due.
     Next,
-    /// The latest batch had none.
-    Alone,
 }
 
 impl Source {
@@ -34,8 +32,8 @@ impl Source {
     }
 
     /// Whether one envelope is to be taken, and no batch.
-    pub(crate) fn is_alone(&self) -> bool {
-        matches!(self, Source::First | Source::Alone)
+    pub(crate) fn is_first(&self) -> bool {
+        matches!(self, Source::First)
     }
 
     /// After a take that found nothing.

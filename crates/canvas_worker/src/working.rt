@@ -8,7 +8,7 @@ ghost use Rattle.canvas_worker.specs.Books.{no_book};
 ghost use Rattle.canvas_worker.specs.EnvelopeWorker.{enveloped_by, no_tasks};
 ghost use Rattle.canvas_worker.specs.GateAnswers.{asks_at, passed_after, Heard, Heeds, EndsHeeding};
 ghost use Rattle.canvas_worker.specs.CoreState.{asked, held};
-ghost use Rattle.canvas_worker.specs.Polls.{Ready, EndsFor, Acted, ActedLast, Pends, EndsWith, Leaves, Redelivered, working_begun, with_answer, lost, one_taken};
+ghost use Rattle.canvas_worker.specs.Polls.{Ready, EndsFor, Acted, Pends, EndsWith, Leaves, Redelivered, working_begun, with_answer, lost, one_taken};
 ghost use Rattle.canvas_worker.specs.declared.ask.Ask.TheVariants as ask;
 ghost use Rattle.canvas_worker.specs.declared.cause.Cause.TheVariants as cause;
 ghost use Rattle.canvas_worker.specs.declared.working.Said.TheVariants.{Wait, Again, On};
@@ -209,7 +209,7 @@ impl<'a, R: Wait> Working<'a, R> {
         requires asks { shown self.old.core.task (asked self.old.core.left) ≡ ask.Take }
         requires bare { self.old.held ≡ [] }
         ensures acted { MatchResult result (λ _. Acted (T.behaviour tasks.now) self.old self.new)
-            (λ e. ActedLast (T.behaviour tasks.now) self.old e.fault self.new) }
+            (λ e. EndsWith (T.behaviour tasks.now) self.old e.fault self.new) }
         ensures memory { IfErr result (λ e. e.fault ≡ Some cause.Memory) }
     {
         let (rt, broker) = (self.rt, self.broker);
@@ -226,12 +226,14 @@ impl<'a, R: Wait> Working<'a, R> {
         }
     }
 
+    /// Takes a batch, and one alone where that has none: others may have come between, so a batch
+    /// of none doesn't say that there is no envelope.
     fn takes_batch<T: Tasks>(&mut self, tasks: &T) -> Result<(), End>
         requires ready { Ready self.old }
         requires asks { shown self.old.core.task (asked self.old.core.left) ≡ ask.Take }
         requires bare { self.old.held ≡ [] }
         ensures acted { MatchResult result (λ _. Acted (T.behaviour tasks.now) self.old self.new)
-            (λ e. ActedLast (T.behaviour tasks.now) self.old e.fault self.new) }
+            (λ e. EndsWith (T.behaviour tasks.now) self.old e.fault self.new) }
         ensures memory { IfErr result (λ e. e.fault ≡ Some cause.Memory) }
     {
         let (rt, broker) = (self.rt, self.broker);
@@ -241,10 +243,7 @@ impl<'a, R: Wait> Working<'a, R> {
                 self.source = Source::Batched(batch);
                 self.gives(tasks, envelope)
             }
-            None => {
-                self.source = Source::Alone;
-                Ok(())
-            }
+            None => self.takes_one(tasks),
         }
     }
 
@@ -252,13 +251,13 @@ impl<'a, R: Wait> Working<'a, R> {
         requires ready { Ready self.old }
         requires asks { shown self.old.core.task (asked self.old.core.left) ≡ ask.Take }
         ensures acted { MatchResult result (λ _. Acted (T.behaviour tasks.now) self.old self.new)
-            (λ e. ActedLast (T.behaviour tasks.now) self.old e.fault self.new) }
+            (λ e. EndsWith (T.behaviour tasks.now) self.old e.fault self.new) }
         ensures memory { IfErr result (λ e. e.fault ≡ Some cause.Memory) }
     {
         if let Some(envelope) = self.source.next() {
             return self.gives(tasks, envelope);
         }
-        if self.source.is_alone() {
+        if self.source.is_first() {
             self.takes_one(tasks)
         } else {
             self.takes_batch(tasks)
@@ -270,7 +269,7 @@ impl<'a, R: Wait> Working<'a, R> {
         requires asks { shown self.old.core.task (asked self.old.core.left) ≡ ask.Publish }
         requires reads_back { ReadsBack (enveloped_by no_tasks no_book) self.old.core.left }
         ensures acted { MatchResult result (λ _. Acted (T.behaviour tasks.now) self.old self.new)
-            (λ e. ActedLast (T.behaviour tasks.now) self.old e.fault self.new) }
+            (λ e. EndsWith (T.behaviour tasks.now) self.old e.fault self.new) }
         ensures memory { IfErr result (λ e. e.fault ≡ Some cause.Memory) }
     {
         let (rt, broker) = (self.rt, self.broker);
@@ -296,7 +295,7 @@ impl<'a, R: Wait> Working<'a, R> {
         requires reads_back { ReadsBack (enveloped_by no_tasks no_book) self.old.core.left }
         requires in_range { IsInRange outcome }
         ensures acted { MatchResult result (λ _. Acted (T.behaviour tasks.now) self.old self.new)
-            (λ e. ActedLast (T.behaviour tasks.now) self.old e.fault self.new) }
+            (λ e. EndsWith (T.behaviour tasks.now) self.old e.fault self.new) }
         ensures lasts { IsOk result }
     {
         let backend = self.backend;
@@ -314,7 +313,7 @@ impl<'a, R: Wait> Working<'a, R> {
         requires asks { shown self.old.core.task (asked self.old.core.left) ≡ ask.Part group task }
         requires reads_back { ReadsBack (enveloped_by no_tasks no_book) self.old.core.left }
         ensures acted { MatchResult result (λ _. Acted (T.behaviour tasks.now) self.old self.new)
-            (λ e. ActedLast (T.behaviour tasks.now) self.old e.fault self.new) }
+            (λ e. EndsWith (T.behaviour tasks.now) self.old e.fault self.new) }
         ensures lasts { IsOk result }
     {
         let backend = self.backend;
@@ -328,7 +327,7 @@ impl<'a, R: Wait> Working<'a, R> {
         requires asks { shown self.old.core.task (asked self.old.core.left) ≡ ask.Read task }
         requires reads_back { ReadsBack (enveloped_by no_tasks no_book) self.old.core.left }
         ensures acted { MatchResult result (λ _. Acted (T.behaviour tasks.now) self.old self.new)
-            (λ e. ActedLast (T.behaviour tasks.now) self.old e.fault self.new) }
+            (λ e. EndsWith (T.behaviour tasks.now) self.old e.fault self.new) }
         ensures memory { IfErr result (λ e. e.fault ≡ Some cause.Memory) }
     {
         let backend = self.backend;
@@ -342,7 +341,7 @@ impl<'a, R: Wait> Working<'a, R> {
             ≡ ask.Ack self.old.core.task }
         requires reads_back { ReadsBack (enveloped_by no_tasks no_book) self.old.core.left }
         ensures acted { MatchResult result (λ _. Acted (T.behaviour tasks.now) self.old self.new)
-            (λ e. ActedLast (T.behaviour tasks.now) self.old e.fault self.new) }
+            (λ e. EndsWith (T.behaviour tasks.now) self.old e.fault self.new) }
         ensures lasts { IsOk result }
     {
         self.replies(tasks, Reply::Acked)
@@ -353,7 +352,7 @@ impl<'a, R: Wait> Working<'a, R> {
         requires asks { shown self.old.core.task (asked self.old.core.left) ≡ ask.Rest }
         requires reads_back { ReadsBack (enveloped_by no_tasks no_book) self.old.core.left }
         ensures acted { MatchResult result (λ _. Acted (T.behaviour tasks.now) self.old self.new)
-            (λ e. ActedLast (T.behaviour tasks.now) self.old e.fault self.new) }
+            (λ e. EndsWith (T.behaviour tasks.now) self.old e.fault self.new) }
         ensures by_itself { IfErr result (λ e. e.fault ≡ None) }
     {
         if self.has_more() {
@@ -433,12 +432,12 @@ impl<'a, R: Wait> Working<'a, R> {
         }
     }
 
-    /// At most one ask of the core is answered.
+    /// One ask of the core is answered, unless the worker ends for want of memory.
     #[tactic(auto, using(crate::proofs::Turns::ends_acting, crate::proofs::Ending::ends_at))]
     fn goes_on<T: Tasks>(&mut self, tasks: &T) -> Result<(), End>
         requires { Ready self.old }
         ensures acted { MatchResult result (λ _. Acted (T.behaviour tasks.now) self.old self.new)
-            (λ e. ActedLast (T.behaviour tasks.now) self.old e.fault self.new) }
+            (λ e. EndsWith (T.behaviour tasks.now) self.old e.fault self.new) }
         ensures ends { IfErr result
             (λ e. EndsFor (shown self.old.core.task (asked self.old.core.left)) e.fault) }
     {
@@ -468,7 +467,7 @@ impl<'a, R: Wait> Working<'a, R> {
             (λ e. (self.new ≡ self.old) × (e.fault ≡ Some cause.Memory)) }
         ensures goes_on { said ≡ On
             → MatchResult result (λ _. Acted (T.behaviour tasks.now) self.old self.new)
-            (λ e. ActedLast (T.behaviour tasks.now) self.old e.fault self.new) }
+            (λ e. EndsWith (T.behaviour tasks.now) self.old e.fault self.new) }
         ensures ends { said ≡ On → IfErr result
             (λ e. EndsFor (shown self.old.core.task (asked self.old.core.left)) e.fault) }
     {
@@ -479,8 +478,8 @@ impl<'a, R: Wait> Working<'a, R> {
         }
     }
 
-    /// One poll: at most one ask of the core is answered. It says where the worker has ended.
-    #[tactic(auto, using(crate::proofs::Turns::ends_here, crate::proofs::Ending::left_for))]
+    /// One poll. It says where the worker has ended.
+    #[tactic(auto, using(crate::proofs::Turns::ends_acting, crate::proofs::Ending::left_for))]
     pub(crate) fn turn<T: Tasks, G: Gate>(
         &mut self,
         tasks: &T,

@@ -1,4 +1,4 @@
-use Rattle.canvas_turns.proofs.TurnEnds.{few, stops_soon, steps_fit, rounds_go}
+use Rattle.canvas_turns.proofs.TurnEnds.{few, stops_soon, steps_fit, rounds_go, fair_end}
 use Rattle.canvas_turns.proofs.ends_of_turns.Goals as goal
 
 pub returns-clause-few : goal.returns-clause-few
@@ -12,3 +12,6 @@ returns-clause-fit c = λ l n k tasks workers listed. steps_fit l n k tasks work
 
 pub returns-clause-rounds : goal.returns-clause-rounds
 returns-clause-rounds c = λ behaviour l n before t. rounds_go behaviour l n before t
+
+pub returns-clause-fair : goal.returns-clause-fair
+returns-clause-fair c = λ behaviour l n uss xs fair t many. fair_end behaviour l n uss xs fair t many
