@@ -105,7 +105,8 @@ module _ (behaviour : Behaviour) (l : Line) (n : ℕ) (us : List ℕ) (xs : List
       let none : length cut.1 ≡ 0 = ap length stop in
       omega (arith, lengths, none, fewer, copies))
       (λ many. absurd (let few = few_calls behaviour l n us xs t in omega (arith, many, few, sums, parted)))
-      (lists_go behaviour l t.plan t.opens_back n busy (same_rounds n (2 * busy)) (same_fair n (2 * busy)) (omega (arith, enough)) parts.0 parts.1 before rotation)
+      (lists_go behaviour l t.plan t.opens_back n busy (same_rounds n (2 * busy)) (same_fair n (2 * busy)) (omega (arith, enough)) parts.0 parts.1 before
+      rotation)
 
   -- turns that are more than these begin with them
   more_turns : (ts rest : List ℕ) (k : ℕ) → us ++ rest ≡ ts ++ rounds n k → length (whole ts) ≤ length us → (vs : List ℕ) × (us ≡ whole ts ++ vs)
