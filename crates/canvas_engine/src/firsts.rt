@@ -34,7 +34,7 @@ fn seal_all(alloc: Global, messages: Vec<Message>) -> Result<Vec<Letter>, Memory
     ensures back { OnOk result (Each ReadsAs messages.items) }
 {
     let mut sealer = Sealer::new(alloc);
-    let mut envelopes = Vec::new(alloc);
+    let mut envelopes = Vec::with_capacity(alloc, messages.len())?;
     for message in messages {
         let envelope = seal(&mut sealer, message)?;
         envelopes.push(envelope)?;

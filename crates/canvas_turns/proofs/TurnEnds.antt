@@ -50,7 +50,7 @@ rounds_next n zero = append-nil (round n)
 rounds_next n (suc k) = ap (λ l. round n ++ l) (rounds_next n k) ∙ sym (append_assoc (round n) (rounds n k) (round n))
 
 -- rounds as fair lists of turns
-same_rounds : (n k : ℕ) → List (List ℕ)
+abbrev same_rounds : (n k : ℕ) → List (List ℕ)
 same_rounds n zero = []
 same_rounds n (suc k) = round n ∷ same_rounds n k
 
