@@ -132,11 +132,7 @@ fn rename_parsed<'a>(
     })
 }
 
-fn rename_bytes(
-    alloc: Global,
-    bytes: &[u8],
-    renames: &[Rename<'_>],
-) -> Result<Renamed, SigFault> {
+fn rename_bytes(alloc: Global, bytes: &[u8], renames: &[Rename<'_>]) -> Result<Renamed, SigFault> {
     let arena = Bump::new(alloc);
     let mut scratch = Scratch::new(alloc);
     rename_parsed(alloc, &arena, &mut scratch, bytes, renames)

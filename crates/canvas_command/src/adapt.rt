@@ -42,11 +42,7 @@ fn check_numbers<'w>(renames: &[Rename<'w>], tasks: u32) -> Result<(), Refusal<'
     Ok(())
 }
 
-fn renamed<'w>(
-    alloc: Global,
-    text: &[u8],
-    renames: &[Rename<'w>],
-) -> Result<Vec<u8>, Refusal<'w>> {
+fn renamed<'w>(alloc: Global, text: &[u8], renames: &[Rename<'w>]) -> Result<Vec<u8>, Refusal<'w>> {
     let Renamed { text, tasks } = rename(alloc, text, renames)?;
     check_numbers(renames, tasks)?;
     Ok(text)

@@ -2,8 +2,8 @@
 
 use crate::arguments::{
     AGAIN, Argument, BACKEND_DATABASE, BROKER_DATABASE, COMPLETE, EXPIRES, EXPLAIN, FAIL, FILE,
-    FILE_ALONE, JSON, PREFIX, QUEUE, RENAME, RUN, STATES, TASK, TASKS, TURNS, WITHOUT_SCRIPT, WORKERS,
-    arguments_of,
+    FILE_ALONE, JSON, PREFIX, QUEUE, RENAME, RUN, STATES, TASK, TASKS, TURNS, WITHOUT_SCRIPT,
+    WORKERS, arguments_of,
 };
 use clap::Command;
 use std::alloc::{AllocError, Global};
