@@ -25,6 +25,7 @@ pub struct Renamed {
 }
 
 /// A walk over the tasks of a canvas, in the order of their numbers.
+#[derive(Drop)]
 struct Walk<'a, 'r> {
     arena: &'a Bump,
     renames: &'r [Rename<'a>],
