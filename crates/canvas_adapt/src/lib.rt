@@ -10,8 +10,8 @@ mod form;
 mod given;
 mod member;
 mod node;
-mod rename;
 mod rename_fault;
+mod renames;
 mod renaming;
 mod task;
 mod text;
@@ -19,6 +19,6 @@ mod work;
 
 pub use adapting::{Adapted, adapt};
 pub use changes::{Change, Changes};
-pub use rename::{Rename, read_renames};
+pub use renames::{Rename, read_renames};
 pub use rename_fault::{BadRename, RenameFault};
 pub use renaming::{Renamed, rename};

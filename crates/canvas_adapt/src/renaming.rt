@@ -7,7 +7,7 @@ ghost use Rattle.canvas_values.specs.CanvasText.{text_reading};
 use crate::adapting::line_of;
 use crate::given::values_in;
 use crate::member::{with_inner, with_member};
-use crate::rename::{Rename, name_of};
+use crate::renames::{Rename, name_of};
 use bumpalo::Bump;
 use bumpalo::collections::into_bump_slice;
 use canvas_sig::parts::{Datum, MOST_LEVELS, kwarg_of, option_of, parse, primitive_of};
