@@ -19,6 +19,6 @@ mod work;
 
 pub use adapting::{Adapted, adapt};
 pub use changes::{Change, Changes};
-pub use renames::{Rename, read_renames};
 pub use rename_fault::{BadRename, RenameFault};
+pub use renames::{Rename, read_renames};
 pub use renaming::{Renamed, rename};
