@@ -9,7 +9,7 @@ turns FILE [--workers N] [--turns LIST] [--again LIST] [--task NAME=WORD] [--tas
 normal FILE
 check FILE [--task NAME=WORD] [--tasks FILE]
 adapt FILE
-graph FILE [--run] [--workers N] [--task NAME=WORD] [--tasks FILE]
+graph FILE [--run] [--workers N] [--task NAME=WORD] [--tasks FILE] [--results FILE] [--of HEX22] [--complete]
 messages FILE [--workers N] [--turns LIST] [--task NAME=WORD] [--tasks FILE]
 export FILE --run HEX22 [--queue NAME] [--prefix TEXT] [--expires SECONDS] [--broker-db N] [--backend-db N] [--without-script]
 keys FILE --run HEX22 [--prefix TEXT]

@@ -3,10 +3,17 @@
 
 mod collecting;
 mod completing;
+mod filling;
+mod gathering;
 mod named;
 mod pieces;
+mod row;
+mod showing;
 mod stored;
 
 pub use collecting::{CollectFault, collect};
 pub use completing::complete;
+pub use filling::complete_as_stored;
+pub use gathering::collect_as_stored;
+pub use row::Row;
 pub use stored::StoredFault;
