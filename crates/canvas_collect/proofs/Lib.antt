@@ -4,7 +4,7 @@ pub mod ShownRows
 pub mod Lines
 pub mod Dependency
 pub mod Refusals
-pub mod Showing
+pub mod RowLemmas
 pub mod Identifiers
 pub mod KeptRows
 pub mod FilledRows

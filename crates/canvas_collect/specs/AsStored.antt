@@ -58,7 +58,8 @@ IsRow run count d (Blamed dep name) =
 -- a row is what its line says: pending of an empty line
 abbrev pub Shows : (run : Text) → (count : ℕ) → ℕ → Text → Row → Type 0
 Shows run count k line row =
-    ((line ≡ []) × (row ≡ Known None)) ⊎ ((d : Data) × IsResult run k line d × IsRow run count d row)
+    ((line ≡ []) × (row ≡ Known None))
+    ⊎ ((d : Data) × IsResult run k line d × IsRow run count d row)
 
 -- each row, from that of task k on, is what its own line says
 abbrev pub AllShown : (run : Text) → (count : ℕ) → ℕ → List Text → List Row → Type 0

@@ -79,14 +79,22 @@ fn chord_row(dep: TaskNo, row: &Row) -> Result<Row, AllocError> {
     })
 }
 
-/// The row of a task into which the rules put what stands in for a failure.
-fn filled(rows: &[Row], dep: TaskNo, why: Why) -> Result<Row, AllocError> {
+/// The row that these rules make of the row of a task that they name.
+fn row_by(rows: &[Row], dep: TaskNo, why: Why) -> Result<Row, AllocError> {
     match rows.get(dep.get() as usize - 1) {
         None => Ok(Row::Known(None)),
         Some(row) => match why {
             Why::Plain(_) => same_row(row),
             Why::Chord => chord_row(dep, row),
         },
+    }
+}
+
+/// The row of a task that has what stands in for a failure.
+fn filled(rows: &[Row], fault: Fault) -> Result<Row, AllocError> {
+    match fault {
+        Fault::Chord { dep, why } => row_by(rows, dep, why),
+        Fault::Plain(_) => Ok(Row::Known(None)),
     }
 }
 
@@ -108,6 +116,7 @@ fn is_failed(row: &Row) -> bool
 }
 
 /// Gives a task that has no row this one, where it is a failure.
+#[tactic(auto, using(crate::proofs::FilledRows::filled))]
 fn fill(rows: &mut [Row], index: usize, row: Row)
     requires { index < length rows.old }
     ensures { AreFilled rows.old rows.new }
@@ -118,14 +127,14 @@ fn fill(rows: &mut [Row], index: usize, row: Row)
 }
 
 /// Gives a task that has no row what the rules put into it.
+#[tactic(auto, using(crate::proofs::FilledRows::filled))]
 fn fill_from(rows: &mut [Row], index: usize, state: Option<Outcome>) -> Result<(), AllocError>
     requires { index < length rows.old }
     ensures { AreFilled rows.old rows.new }
 {
-    if let Some(Outcome::Failure(Fault::Chord { dep, why })) = state {
+    if let Some(Outcome::Failure(fault)) = state {
         if is_pending(&rows[index]) {
-            let row = filled(rows, dep, why)?;
-            fill(rows, index, row);
+            fill(rows, index, filled(rows, fault)?);
         }
     }
     Ok(())
@@ -134,6 +143,7 @@ fn fill_from(rows: &mut [Row], index: usize, state: Option<Outcome>) -> Result<(
 /// As `complete`, over rows of any kind: a task that an exception reaches shows it as the task does
 /// that raised it, and a body whose header failed a ChordError with its class. Where memory is
 /// refused, some rows may be filled.
+#[tactic(auto, using(crate::proofs::FilledRows::filled))]
 pub fn complete_as_stored(alloc: Global, plan: &Plan, rows: &mut [Row]) -> Result<(), Memory>
     ensures { AreFilled rows.old rows.new }
 {

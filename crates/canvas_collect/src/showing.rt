@@ -1,6 +1,6 @@
 //! One result as Celery stores it, whatever the task returned or raised.
 
-ghost use Rattle.std.specs.Prelude.{◌≡◌, ◌≤◌, IfOk, MatchResult, string_bytes};
+ghost use Rattle.std.specs.Prelude.{◌≡◌, ◌≤◌, IfOk, IsUtf8, MatchResult, string_bytes};
 ghost use Rattle.serde_json.specs.Data.{depth};
 ghost use Rattle.serde_json.specs.Read.{max_depth};
 ghost use Rattle.serde_json.specs.View.{view};
@@ -9,11 +9,11 @@ ghost use Rattle.canvas_collect.specs.Stored.{class_of, message_of};
 ghost use Rattle.canvas_collect.specs.Refused.{RefusesException, RefusesResult};
 ghost use Rattle.canvas_collect.specs.AsStored.{IsJsonOf, IsRow, Shows};
 ghost use Rattle.canvas_collect.specs.steps.Found.{value_at};
-ghost use Rattle.canvas_collect.specs.steps.ShownRows.{IsRefused, HasJson, HasClass, LacksClass};
+ghost use Rattle.canvas_collect.specs.steps.ShownRows.{IsRefused, HasJson, HasClass, HasBlame, LacksClass};
 ghost use Rattle.canvas_collect.specs.steps.ShownRows.{IsChordRow, ResultFault, ShowFault};
 
 use crate::row::Row;
-use crate::stored::{StoredFault, is_of, message_in, named_in, outcome_of, parsed, text_in};
+use crate::stored::{StoredFault, blame_in, is_of, message_in, outcome_of, parsed, text_in};
 use canvas_celery::Run;
 use canvas_rewrite::Plan;
 use canvas_task::TaskNo;
@@ -23,7 +23,7 @@ use std::str;
 
 /// A value as JSON; one that is missing is null.
 fn json_text(alloc: Global, found: Option<&Value>) -> Result<String, AllocError>
-    requires { depth (value_at found.entry) ≤ max_depth }
+    requires { depth (value_at found) ≤ max_depth }
     ensures { IfOk result (λ text. IsJsonOf (string_bytes text) (value_at found.entry)) }
 {
     match found {
@@ -34,7 +34,7 @@ fn json_text(alloc: Global, found: Option<&Value>) -> Result<String, AllocError>
 
 /// A row with a value.
 fn value_row(alloc: Global, found: Option<&Value>) -> Result<Row, StoredFault>
-    requires { depth (value_at found.entry) ≤ max_depth }
+    requires { depth (value_at found) ≤ max_depth }
     ensures { MatchResult result (HasJson (value_at found.entry)) IsRefused }
 {
     match json_text(alloc, found) {
@@ -76,28 +76,37 @@ fn raised_row(alloc: Global, class: &str) -> Result<Row, StoredFault>
     }
 }
 
-/// A row with the task that a ChordError names, or with its class alone where it names none.
+/// A row with the task that a ChordError names, and the class that this raised.
+fn blamed_row(alloc: Global, dep: TaskNo, class: &[u8]) -> Result<Row, StoredFault>
+    requires { IsUtf8 class.now }
+    ensures { MatchResult result (HasBlame dep class.now) IsRefused }
+{
+    match str::from_utf8(class) {
+        Ok(class) => match String::from_str(alloc, class) {
+            Ok(name) => Ok(Row::Blamed { dep, name }),
+            Err(_) => Err(StoredFault::Memory),
+        },
+        Err(_) => unreachable!(),
+    }
+}
+
+/// The row of a ChordError, which has its class alone where it names no task of the run.
 fn chord_row(
     alloc: Global,
     plan: &Plan,
     run: &Run,
     found: Option<&Value>,
 ) -> Result<Row, StoredFault>
-    requires { RefusesException run.now.digits (count_line plan.now) (value_at found.entry)
+    requires { RefusesException run.now.digits (count_line plan.now) (value_at found)
         StoredFault.UnknownDependency }
     ensures { MatchResult result
         (IsChordRow run.now.digits (count_line plan.now) (value_at found.entry)) IsRefused }
 {
-    let Some((dep, name)) = named_in(plan, run, said_in(found).as_bytes()) else {
-        return raised_row(alloc, "ChordError");
-    };
-    // A message is text, and so is what stands in it before a parenthesis.
-    match str::from_utf8(name) {
-        Ok(name) => match String::from_str(alloc, name) {
-            Ok(name) => Ok(Row::Blamed { dep, name }),
-            Err(_) => Err(StoredFault::Memory),
-        },
-        Err(_) => unreachable!(),
+    // The length of the run's number is known by its type.
+    let _digits = run.digits();
+    match blame_in(plan, run, said_in(found).as_bytes()) {
+        Some(blame) => blamed_row(alloc, blame.dep, blame.class),
+        None => raised_row(alloc, "ChordError"),
     }
 }
 

@@ -113,16 +113,19 @@ fn behind<'a>(text: &'a [u8], start: &[u8]) -> Option<&'a [u8]>
     text.strip_prefix(start)
 }
 
-/// The task and the class that a ChordError's message names: `Dependency ID raised NAME(..)`.
-pub(crate) fn named_in<'m>(
-    plan: &Plan,
-    run: &Run,
-    message: &'m [u8],
-) -> Option<(TaskNo, &'m [u8])>
+/// What a ChordError's message says: `Dependency ID raised CLASS(..)`.
+#[derive(Drop)]
+pub(crate) struct Blame<'m> {
+    pub(crate) dep: TaskNo,
+    pub(crate) class: &'m [u8],
+}
+
+/// The task of the run that a message names, with the class that it raised.
+pub(crate) fn blame_in<'m>(plan: &Plan, run: &Run, message: &'m [u8]) -> Option<Blame<'m>>
     ensures { MatchOption result
         ((dep : ℕ) (name : Text)
         → ¬ Names run.now.digits (count_line plan.now) message.now dep name)
-        (λ p. Names run.now.digits (count_line plan.now) message.now p.0 p.1.now) }
+        (λ b. Names run.now.digits (count_line plan.now) message.now b.dep b.class.now) }
 {
     // The length of the run's number is known by its type.
     let _digits = run.digits();
@@ -133,11 +136,11 @@ pub(crate) fn named_in<'m>(
     let (id, said) = text.split_at(36);
     let dep = task_named(plan, run, id)?;
     let raised = behind(said, b" raised ")?;
-    let (name, _) = split_at_byte(raised, b'(');
-    Some((dep, name))
+    let (class, _) = split_at_byte(raised, b'(');
+    Some(Blame { dep, class })
 }
 
-/// The same, where the class is one of the six tasks' exceptions.
+/// The same, where the class is one of the six tasks' exceptions, or a ChordError.
 fn dependency_of(plan: &Plan, run: &Run, message: &[u8]) -> Option<(TaskNo, Why)>
     ensures { MatchOption result
         ((dep : ℕ) (why : Why)
@@ -146,9 +149,13 @@ fn dependency_of(plan: &Plan, run: &Run, message: &[u8]) -> Option<(TaskNo, Why)
 {
     // The length of the run's number is known by its type.
     let _digits = run.digits();
-    let (dep, name) = named_in(plan, run, message)?;
-    let why = why_of(name)?;
-    Some((dep, why))
+    match blame_in(plan, run, message) {
+        Some(blame) => match why_of(blame.class) {
+            Some(why) => Some((blame.dep, why)),
+            None => None,
+        },
+        None => None,
+    }
 }
 
 fn chord_failure(plan: &Plan, run: &Run, exception: &Value) -> Result<Fault, StoredFault>
@@ -216,7 +223,11 @@ fn is_waiting(status: &str) -> bool
     matches!(status, "PENDING" | "RECEIVED" | "STARTED" | "RETRY")
 }
 
-pub(crate) fn outcome_of(plan: &Plan, run: &Run, meta: &Value) -> Result<Option<Outcome>, StoredFault>
+pub(crate) fn outcome_of(
+    plan: &Plan,
+    run: &Run,
+    meta: &Value,
+) -> Result<Option<Outcome>, StoredFault>
     ensures { MatchResult result
         (λ row. SaysRow run.now.digits (count_line plan.now) (view meta.now) row)
         (λ e. RefusesResult run.now.digits (count_line plan.now) (view meta.now) e) }

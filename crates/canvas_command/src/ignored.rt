@@ -14,7 +14,11 @@ fn push_line(
     count: usize,
 ) -> Result<(), AllocError> {
     let name = escaped_json(alloc, name)?;
-    let signatures = if count == 1 { "signature" } else { "signatures" };
+    let signatures = if count == 1 {
+        "signature"
+    } else {
+        "signatures"
+    };
     writeln!(lines, "canvas: ignored {name} of {count} {signatures}")?;
     Ok(())
 }

@@ -48,7 +48,8 @@ fn push_name(
     name: &str,
     value: &Datum<'_>,
 ) -> Result<(), AllocError>
-    ensures { OnOk result (Adds (if_ignored name.now (view value.now)) names.old.items names.new.items) }
+    ensures { OnOk result
+        (Adds (if_ignored name.now (view value.now)) names.old.items names.new.items) }
 {
     if is_ignored(name, value) {
         names.push(String::from_str(alloc, name)?)?;

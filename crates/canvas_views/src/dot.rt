@@ -51,9 +51,7 @@ pub(crate) fn looks_of(row: Option<Shown<'_>>, fate: &Option<Fate>) -> &'static 
     }
     match row {
         None => "shape=box, style=rounded",
-        Some(Shown::Known(None)) => {
-            "shape=box, style=\"dashed,filled\", fillcolor=\"#eeeeee\""
-        }
+        Some(Shown::Known(None)) => { "shape=box, style=\"dashed,filled\", fillcolor=\"#eeeeee\"" }
         Some(Shown::Known(Some(Outcome::Success(_))) | Shown::Value(_)) => {
             "shape=box, style=\"rounded,filled\", fillcolor=\"#d8f0d8\""
         }

@@ -1,5 +1,5 @@
-//! What tools read of a canvas: its tasks as JSON lines, its messages, and a picture of it; its report
-//! with the reasons why tasks were not called; and reports of what Celery stored.
+//! What tools read of a canvas: its tasks as JSON lines, its messages, and a picture of it; its
+//! report with the reasons why tasks were not called; and reports of what Celery stored.
 #![tactic(auto)]
 
 mod dot;

@@ -72,8 +72,8 @@ fn push_end(
     text.push('\n')
 }
 
-/// The report of rows of any kind, in the form of the engine's own. Of an exception's class it shows
-/// what JSON's texts show, so that each task has one line.
+/// The report of rows of any kind, in the form of the engine's own. An exception's class is written
+/// as in a JSON text, so that each task has one line.
 pub fn stored_text(alloc: Global, plan: &Plan, rows: &[Row]) -> Result<String, Memory> {
     let rows = Rows::Stored(rows);
     let mut text = String::new(alloc);

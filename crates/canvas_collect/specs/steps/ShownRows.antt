@@ -25,6 +25,10 @@ abbrev pub HasClass : Text → Row → Type 0
 HasClass class (Raised name) = (string_bytes name ≡ class) × (class ≢ [])
 HasClass class row = ⊥
 
+abbrev pub HasBlame : ℕ → Text → Row → Type 0
+HasBlame dep class (Blamed k name) = (k ≡ dep) × (string_bytes name ≡ class)
+HasBlame dep class row = ⊥
+
 -- there is no class, or memory is refused
 abbrev pub LacksClass : Text → StoredFault → Type 0
 LacksClass class stored.UnknownException = class ≡ []

@@ -2,7 +2,7 @@ use Rattle.std.proofs.Common.{ℕ, subst}
 use Rattle.canvas_semantics.specs.Line.{count_line}
 use Rattle.canvas_collect.specs.steps.ShownRows.{GainsRow}
 use Rattle.canvas_collect.proofs.ShownRows.{read_more}
-use Rattle.canvas_collect.proofs.gathering.push_rows.Goals as goal
+use Rattle.canvas_collect.proofs.as_stored.push_rows.Goals as goal
 
 pub loop-index-preserved : goal.loop-index-preserved
 loop-index-preserved c =

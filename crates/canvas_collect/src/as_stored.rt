@@ -69,8 +69,7 @@ fn push_rows(
 /// As `collect`, for tasks that return and raise anything: a result that is no whole number, or
 /// past 2^60, is shown as it is stored, and another exception by its class. Where there are as many
 /// lines as tasks, only a line that can't be read is refused: no JSON, another task's, an unknown
-/// state, or a failure that names no exception. JSON's numbers past 64 bits, and those with a point,
-/// are read as floats.
+/// state, or a failure that names no exception. JSON's numbers past 64 bits are read as floats.
 pub fn collect_as_stored(
     alloc: Global,
     plan: &Plan,

@@ -1,15 +1,22 @@
 -- Rows of any kind, and what they follow from.
-use Rattle.std.proofs.Common.{◌≡◌, ◌∙◌, ◌==◌, ◌<◌, ◌≤◌, ◌-◌, ◌+◌, ℕ, suc, List, [], ◌∷◌, ◌++◌, Some, None, true, false, if◌then◌else◌, ◌⊎◌, codes, length, length-append, append_assoc, get_or, take, drop, arith, sym, ap, subst, refl}
+use Rattle.std.proofs.Common.{◌≡◌, ◌∙◌, ◌==◌, ◌<◌, ◌≤◌, ◌-◌, ◌+◌, ℕ, suc, List, [], ◌∷◌, ◌++◌, Some, None, true, false, if◌then◌else◌, ◌⊎◌, codes, length, length-append, append_assoc, get_or, take, drop, arith, sym, ap, subst, refl, ⊎_elim, not, eqb-true}
+use Rattle.std.specs.Prelude.{Result, Ok, Err, IfOk, MatchResult, String, string_bytes}
+use Rattle.std.specs.declared.alloc.AllocError.{AllocError}
+use Rattle.std.specs.Global.{Global}
 use Rattle.std.specs.List.{before_first, position_or_len}
-use Rattle.std.specs.Str.{IsUtf8, is_utf8}
+use Rattle.json.specs.Lex.{tokens}
+use Rattle.json.specs.Print.{print}
+use Rattle.std.specs.Str.{IsUtf8, is_utf8, IsCharBoundary}
+use Rattle.std.proofs.lemmas.Bool.{cases_lt}
 use Rattle.std.proofs.lemmas.List.{drop_at, get_or-append_right}
-use Rattle.std.proofs.lemmas.List.Sums.{passes_at_first}
-use Rattle.std.proofs.lemmas.Str.{IsUtf8-drop, IsUtf8-take, IsCharBoundary-after_ascii, IsCharBoundary-before_ascii, IsCharBoundary-end}
+use Rattle.std.proofs.lemmas.List.Sums.{passes_at_first, prefix_len-le-length}
+use Rattle.std.proofs.lemmas.Str.{IsUtf8-drop, IsUtf8-take, IsCharBoundary-after_ascii, IsCharBoundary-before_ascii, IsCharBoundary-end, IsUtf8-string_bytes}
 use Rattle.serde_json.specs.Data.{Data, depth}
 use Rattle.serde_json.specs.Read.{read, max_depth}
 use Rattle.serde_json.proofs.Nesting.{depth-read}
 use Rattle.canvas_task.specs.Text.{Text}
-use Rattle.canvas_task.specs.Printed.{kind_name}
+use Rattle.canvas_task.specs.Printed.{kind_name, why_name}
+use Rattle.canvas_task.specs.declared.outcome.Why.{Why}
 use Rattle.canvas_task.specs.declared.outcome.Kind.{Kind}
 use Rattle.canvas_task.specs.declared.outcome.Kind.TheVariants as kind
 use Rattle.canvas_values.specs.CanvasText.{json_of}
@@ -20,11 +27,25 @@ use Rattle.canvas_collect.specs.declared.row.Row.TheVariants.{Known, Value, Rais
 use Rattle.canvas_collect.specs.declared.stored.StoredFault.{StoredFault}
 use Rattle.canvas_collect.specs.declared.stored.StoredFault.TheVariants.{NotJson, OtherTask, UnknownState, NotNumber, UnknownException, UnknownDependency}
 use Rattle.canvas_collect.specs.declared.stored.StoredFault.TheVariants.{Memory}
-use Rattle.canvas_collect.specs.Stored.{result_of, class_of, message_of, IsResult}
+use Rattle.canvas_collect.specs.Stored.{result_of, class_of, message_of, Blames, IsResult}
 use Rattle.canvas_collect.specs.Refused.{RefusesException, RefusesResult}
-use Rattle.canvas_collect.specs.AsStored.{Names, IsRow}
-use Rattle.canvas_collect.specs.steps.ShownRows.{IsRefused, HasJson, HasClass, LacksClass, IsChordRow, ResultFault, ShowFault}
+use Rattle.canvas_collect.specs.AsStored.{IsJsonOf, Names, IsRow}
+use Rattle.canvas_collect.specs.steps.ShownRows.{IsRefused, HasJson, HasClass, HasBlame, LacksClass, IsChordRow, ResultFault, ShowFault}
+use Rattle.canvas_collect.proofs.Dependency.{blames_one}
 use Rattle.canvas_collect.proofs.Identifiers.{length-run_task}
+use Rattle.canvas_collect.proofs.Json.{json_is}
+
+-- both outcomes of a call
+pub both : {A B : Type 0} (r : Result A B) (P Q : A → Type 0) (R S : B → Type 0) → ((a : A) → P a → Q a) → ((b : B) → R b → S b) → MatchResult r P R → MatchResult r Q S
+both (Ok a) P Q R S f g h = f a h
+both (Err b) P Q R S f g h = g b h
+
+-- ---- what is written
+
+pub written : (r : Result (String Global) AllocError) (d : Data) → depth d ≤ max_depth → IfOk r (λ s. string_bytes s ≡ print (tokens (string_bytes s)))
+    → IfOk r (λ s. depth d ≤ max_depth → read (string_bytes s) ≡ Some d) → IfOk r (λ s. IsJsonOf (string_bytes s) d)
+written (Ok s) d low compact back = (json_is (string_bytes s) d (IsUtf8-string_bytes s) (back low), compact)
+written (Err e) d low compact back = tt
 
 -- ---- how deep a result is
 
@@ -41,13 +62,13 @@ parsed_low text d e =
 -- ---- a ChordError is none of the tasks' exceptions
 
 pub no_kind : (kind : Kind) → codes "ChordError" ≡ kind_name kind → ⊥
-no_kind kind.BadCall e = let long : 10 ≡ 9 = ap (λ t. length t) e in absurd (omega arith)
-no_kind kind.ZeroDivision e = let long : 10 ≡ 17 = ap (λ t. length t) e in absurd (omega arith)
-no_kind kind.Overflow e = let long : 10 ≡ 13 = ap (λ t. length t) e in absurd (omega arith)
-no_kind kind.NotRegistered e = let long : 10 ≡ 13 = ap (λ t. length t) e in absurd (omega arith)
+no_kind kind.BadCall e = let long : 10 ≡ 9 = ap (λ t. length t) e in absurd (omega (arith, long))
+no_kind kind.ZeroDivision e = let long : 10 ≡ 17 = ap (λ t. length t) e in absurd (omega (arith, long))
+no_kind kind.Overflow e = let long : 10 ≡ 13 = ap (λ t. length t) e in absurd (omega (arith, long))
+no_kind kind.NotRegistered e = let long : 10 ≡ 13 = ap (λ t. length t) e in absurd (omega (arith, long))
 
 some_class : codes "ChordError" ≡ [] → ⊥
-some_class e = let long : 10 ≡ 0 = ap (λ t. length t) e in absurd (omega arith)
+some_class e = let long : 10 ≡ 0 = ap (λ t. length t) e in absurd (omega (arith, long))
 
 pub class_there : (fault : StoredFault) → LacksClass (codes "ChordError") fault → IsRefused fault
 class_there NotJson h = absurd h
@@ -66,6 +87,19 @@ of_chord run count d (Known outcome) class none h = absurd h
 of_chord run count d (Value text) class none h = absurd h
 of_chord run count d (Raised name) class none h = (class ∙ sym h.0, λ e. h.1 (sym h.0 ∙ e), λ kind e. no_kind kind (sym h.0 ∙ e), λ e. none)
 of_chord run count d (Blamed dep name) class none h = absurd h
+
+pub of_blame : (run : Text) (count : ℕ) (d : Data) (dep : ℕ) (name : Text) (row : Row) → class_of d ≡ codes "ChordError" → Names run count (message_of d) dep name
+    → ((k : ℕ) (why : Why) → ¬ Blames run count (message_of d) k why) → HasBlame dep name row → IsChordRow run count d row
+of_blame run count d dep name (Known outcome) class names none h = absurd h
+of_blame run count d dep name (Value text) class names none h = absurd h
+of_blame run count d dep name (Raised text) class names none h = absurd h
+of_blame run count d dep name (Blamed k text) class names none h =
+    let N : ℕ → Type 0 = λ j. Names run count (message_of d) j (string_bytes text) in
+    let M : Text → Type 0 = λ t. Names run count (message_of d) dep t in (
+      class,
+      subst N (sym h.0) (subst M (sym h.1) names),
+      λ why e. none dep why (blames_one run (message_of d) count dep name why names (sym h.1 ∙ e)),
+    )
 
 pub value_row : (run : Text) (count : ℕ) (d : Data) (row : Row) → RefusesResult run count d NotNumber → HasJson (result_of d) row → IsRow run count d row
 value_row run count d (Known outcome) refused h = absurd h
@@ -117,14 +151,18 @@ of_result run count k line d Memory said h = tt
 
 -- ---- the class that a message names is text
 
+as_long : (text : Text) (place : ℕ) → length text ≤ place → place ≤ length text → length text ≡ place
+as_long text place ge le = omega (arith, ge, le)
+
 front_utf8 : (text : Text) → IsUtf8 text → IsUtf8 (before_first (λ b. b == 40) text)
 front_utf8 text utf8 =
     let p = λ (b : ℕ). b == 40 in
     let place = position_or_len p text in
-    elim (nat_lt place (length text)) as (λ b. nat_lt place (length text) ≡ b → IsUtf8 (take place text)) [
-      | true ↦ (λ e. IsUtf8-take text place utf8 (IsCharBoundary-before_ascii text place (search rules) (omega (arith, eqb-true _ _ (passes_at_first p text 0 (search rules))))))
-      | false ↦ (λ e. IsUtf8-take text place utf8 (search rules))
-    ] refl
+    IsUtf8-take text place utf8
+    (⊎_elim
+    (λ lt. IsCharBoundary-before_ascii text place lt (omega (arith, eqb-true (get_or text place 0) 40 (passes_at_first p text 0 lt))))
+    (λ ge. subst (IsCharBoundary text) (as_long text place ge (prefix_len-le-length (λ b. not (p b)) text)) (IsCharBoundary-end text))
+    (cases_lt place (length text)))
 
 pub named_utf8 : (run message : Text) (count dep : ℕ) (name : Text) → length run ≡ 22 → IsUtf8 message → Names run count message dep name → IsUtf8 name
 named_utf8 run message count dep name full utf8 (least, within, (raised, said, is)) =

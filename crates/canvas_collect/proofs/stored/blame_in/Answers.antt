@@ -3,7 +3,7 @@ use Rattle.canvas_semantics.specs.Line.{count_line}
 use Rattle.canvas_celery.specs.Run.{run_task}
 use Rattle.canvas_collect.proofs.Dependency.{in_parts, parts_of}
 use Rattle.canvas_collect.proofs.Identifiers.{full}
-use Rattle.canvas_collect.proofs.stored.named_in.Goals as goal
+use Rattle.canvas_collect.proofs.stored.blame_in.Goals as goal
 
 pub returns : goal.returns
 returns c =
