@@ -45,7 +45,8 @@ pub same_name : (raised other name : Text) → codes " raised " ++ other ≡ cod
 same_name raised other name e is = ap (λ t. before_first (λ b. b == 40) t) (sym (append_cancel_left (codes " raised ") other raised e)) ∙ is
 
 -- a message names one class
-pub one_name : (run message : Text) (count dep other : ℕ) (a b : Text) → length run ≡ 22 → Names run count message dep a → Names run count message other b → a ≡ b
+pub one_name : (run message : Text) (count dep other : ℕ) (a b : Text) → length run ≡ 22
+    → Names run count message dep a → Names run count message other b → a ≡ b
 one_name run message count dep other a b full first second =
     let text = run_task run dep ++ (codes " raised " ++ first.2.0) in
     let f = parts_of run text message count dep a full first.2.1 first in
@@ -53,5 +54,6 @@ one_name run message count dep other a b full first second =
     sym (same_name s.raised.0 f.raised.0 a (sym f.raised.1 ∙ s.raised.1) f.raised.2) ∙ s.raised.2
 
 -- blaming is naming one of the six tasks' exceptions, or a ChordError
-pub blames_one : (run message : Text) (count dep : ℕ) (name : Text) (why : Why) → Names run count message dep name → name ≡ why_name why → Blames run count message dep why
+pub blames_one : (run message : Text) (count dep : ℕ) (name : Text) (why : Why)
+    → Names run count message dep name → name ≡ why_name why → Blames run count message dep why
 blames_one run message count dep name why n e = (n.0, n.1, (n.2.0, n.2.1, n.2.2 ∙ e))

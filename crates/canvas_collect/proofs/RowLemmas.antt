@@ -36,7 +36,8 @@ use Rattle.canvas_collect.proofs.Identifiers.{length-run_task}
 use Rattle.canvas_collect.proofs.Json.{json_is}
 
 -- both outcomes of a call
-pub both : {A B : Type 0} (r : Result A B) (P Q : A → Type 0) (R S : B → Type 0) → ((a : A) → P a → Q a) → ((b : B) → R b → S b) → MatchResult r P R → MatchResult r Q S
+pub both : {A B : Type 0} (r : Result A B) (P Q : A → Type 0) (R S : B → Type 0)
+    → ((a : A) → P a → Q a) → ((b : B) → R b → S b) → MatchResult r P R → MatchResult r Q S
 both (Ok a) P Q R S f g h = f a h
 both (Err b) P Q R S f g h = g b h
 
@@ -81,14 +82,16 @@ class_there Memory h = tt
 
 -- ---- rows of results
 
-pub of_chord : (run : Text) (count : ℕ) (d : Data) (row : Row) → class_of d ≡ codes "ChordError" → ((dep : ℕ) (name : Text) → ¬ Names run count (message_of d) dep name)
+pub of_chord : (run : Text) (count : ℕ) (d : Data) (row : Row) → class_of d ≡ codes "ChordError"
+    → ((dep : ℕ) (name : Text) → ¬ Names run count (message_of d) dep name)
     → HasClass (codes "ChordError") row → IsChordRow run count d row
 of_chord run count d (Known outcome) class none h = absurd h
 of_chord run count d (Value text) class none h = absurd h
 of_chord run count d (Raised name) class none h = (class ∙ sym h.0, λ e. h.1 (sym h.0 ∙ e), λ kind e. no_kind kind (sym h.0 ∙ e), λ e. none)
 of_chord run count d (Blamed dep name) class none h = absurd h
 
-pub of_blame : (run : Text) (count : ℕ) (d : Data) (dep : ℕ) (name : Text) (row : Row) → class_of d ≡ codes "ChordError" → Names run count (message_of d) dep name
+pub of_blame : (run : Text) (count : ℕ) (d : Data) (dep : ℕ) (name : Text) (row : Row) → class_of d ≡ codes "ChordError"
+    → Names run count (message_of d) dep name
     → ((k : ℕ) (why : Why) → ¬ Blames run count (message_of d) k why) → HasBlame dep name row → IsChordRow run count d row
 of_blame run count d dep name (Known outcome) class names none h = absurd h
 of_blame run count d dep name (Value text) class names none h = absurd h
@@ -107,14 +110,16 @@ value_row run count d (Value text) refused h = (refused.0, h, refused.1)
 value_row run count d (Raised name) refused h = absurd h
 value_row run count d (Blamed dep name) refused h = absurd h
 
-pub raised_row : (run : Text) (count : ℕ) (d : Data) (row : Row) → RefusesResult run count d UnknownException → HasClass (class_of (result_of d)) row → IsRow run count d row
+pub raised_row : (run : Text) (count : ℕ) (d : Data) (row : Row) → RefusesResult run count d UnknownException
+    → HasClass (class_of (result_of d)) row → IsRow run count d row
 raised_row run count d (Known outcome) refused h = absurd h
 raised_row run count d (Value text) refused h = absurd h
 raised_row run count d (Raised name) refused h =
     (refused.0, (sym h.0, λ e. h.1 (sym h.0 ∙ e), λ kind e. refused.1.1 kind (sym h.0 ∙ e), λ e. absurd (refused.1.0 (sym h.0 ∙ e))))
 raised_row run count d (Blamed dep name) refused h = absurd h
 
-pub chord_row : (run : Text) (count : ℕ) (d : Data) (row : Row) → RefusesResult run count d UnknownDependency → IsChordRow run count (result_of d) row → IsRow run count d row
+pub chord_row : (run : Text) (count : ℕ) (d : Data) (row : Row) → RefusesResult run count d UnknownDependency
+    → IsChordRow run count (result_of d) row → IsRow run count d row
 chord_row run count d (Known outcome) refused h = absurd h
 chord_row run count d (Value text) refused h = absurd h
 chord_row run count d (Raised name) refused h = (refused.0, h)
@@ -131,7 +136,8 @@ no_json d UnknownException h = absurd h
 no_json d UnknownDependency h = absurd h
 no_json d Memory h = tt
 
-pub no_class : (run : Text) (count : ℕ) (d : Data) (fault : StoredFault) → RefusesResult run count d UnknownException → LacksClass (class_of (result_of d)) fault → ResultFault d fault
+pub no_class : (run : Text) (count : ℕ) (d : Data) (fault : StoredFault) → RefusesResult run count d UnknownException
+    → LacksClass (class_of (result_of d)) fault → ResultFault d fault
 no_class run count d NotJson refused h = absurd h
 no_class run count d OtherTask refused h = absurd h
 no_class run count d UnknownState refused h = absurd h
@@ -140,7 +146,8 @@ no_class run count d UnknownException refused h = (refused.0, h)
 no_class run count d UnknownDependency refused h = absurd h
 no_class run count d Memory refused h = tt
 
-pub of_result : (run : Text) (count k : ℕ) (line : Text) (d : Data) (fault : StoredFault) → IsResult run k line d → ResultFault d fault → ShowFault run count k line fault
+pub of_result : (run : Text) (count k : ℕ) (line : Text) (d : Data) (fault : StoredFault) → IsResult run k line d
+    → ResultFault d fault → ShowFault run count k line fault
 of_result run count k line d NotJson said h = absurd h
 of_result run count k line d OtherTask said h = absurd h
 of_result run count k line d UnknownState said h = (d, said, h)

@@ -20,7 +20,8 @@ shown_more run count k j (l ∷ ls) (r ∷ rs) line row e all shows =
     (all.0, shown_more run count (suc k) j ls rs line row next all.1 shows)
 
 pub read_more : (run : Text) (count : ℕ) (text rest line after : Text) (n : ℕ) (old new : List Row)
-    → lines_in rest ≡ line ∷ lines_in after → AreRead run count text rest n old → GainsRow run count (n + 1) line old new → AreRead run count text after (n + 1) new
+    → lines_in rest ≡ line ∷ lines_in after → AreRead run count text rest n old
+    → GainsRow run count (n + 1) line old new → AreRead run count text after (n + 1) new
 read_more run count text rest line after n old new next (before, whole, as_many, rows, all) (row, one, shows) =
     let moved : lines_in text ≡ (before ++ line ∷ []) ++ lines_in after =
     whole ∙ (ap (λ ls. before ++ ls) next ∙ sym (append_assoc before (line ∷ []) (lines_in after))) in

@@ -4,6 +4,7 @@ ghost use Rattle.std.specs.Prelude.{◌≡◌, ◌≤◌, map, IfOk, OnOk, strin
 ghost use Rattle.std.specs.List.{flat_map};
 ghost use Rattle.serde_json.specs.Data.{depth};
 ghost use Rattle.canvas_values.specs.CanvasText.{json_of};
+ghost use Rattle.canvas_values.specs.Fields.{object_members};
 ghost use Rattle.canvas_sig.specs.Datum.{view, seen};
 ghost use Rattle.canvas_finding.specs.Ignored.{is_callback, is_book, is_ignored, if_ignored};
 ghost use Rattle.canvas_finding.specs.Ignored.{ignored_in, ignored_of, ignored_at};
@@ -71,17 +72,34 @@ fn push_members(
     Ok(())
 }
 
+/// The options that an object has.
+fn push_object(
+    alloc: Global,
+    names: &mut Vec<String>,
+    options: &Datum<'_>,
+) -> Result<(), AllocError>
+    ensures { OnOk result
+        (Adds (flat_map (λ e. if_ignored e.0 e.1) (object_members (view options.now)))
+        names.old.items names.new.items) }
+{
+    match options {
+        Datum::Object(members) => push_members(alloc, names, members),
+        _ => Ok(()),
+    }
+}
+
 /// The options of a signature.
 fn push_options(
     alloc: Global,
     names: &mut Vec<String>,
     signature: &Datum<'_>,
 ) -> Result<(), AllocError>
-    ensures { OnOk result (Adds (ignored_in (view signature.now)) names.old.items names.new.items) }
+    ensures { OnOk result
+        (Adds (ignored_in (view signature.now)) names.old.items names.new.items) }
 {
     match signature.get("options") {
-        Some(Datum::Object(members)) => push_members(alloc, names, members),
-        _ => Ok(()),
+        Some(options) => push_object(alloc, names, options),
+        None => Ok(()),
     }
 }
 

@@ -18,7 +18,8 @@ returns-in-Some c =
     let said : c.as_bytes.result.now ≡ message_of (value_at c.args.found) = search rules in
     let N : Text → Type 0 = λ m. Names c.args.run.now.digits (count_line c.args.plan.now) m c.in-Some.blame.dep c.in-Some.blame.class.now in
     both c.blamed_row.result _ _ _ _
-    (λ row h. of_blame c.args.run.now.digits (count_line c.args.plan.now) (value_at c.args.found) _ _ row c.requires.0 (subst N said c.in-Some.ensures) c.requires.1 h)
+    (λ row h. of_blame c.args.run.now.digits (count_line c.args.plan.now) (value_at c.args.found) _ _ row
+    c.requires.0 (subst N said c.in-Some.ensures) c.requires.1 h)
     (λ e h. h) c.blamed_row.ensures
 
 pub returns-in-None : goal.returns-in-None
