@@ -1,5 +1,5 @@
 -- Rows of any kind, and what they follow from.
-use Rattle.std.proofs.Common.{◌≡◌, ◌∙◌, ◌==◌, ◌<◌, ◌≤◌, ◌-◌, ◌+◌, ℕ, suc, List, [], ◌∷◌, ◌++◌, Some, None, true, false, if◌then◌else◌, ◌⊎◌, codes, length, length-append, append_assoc, get_or, take, drop, arith, sym, ap, subst, refl, ⊎_elim, not, eqb-true}
+use Rattle.std.proofs.Common.{◌≡◌, ◌∙◌, ◌==◌, ◌<◌, ◌≤◌, ◌+◌, ℕ, [], ◌++◌, Some, None, true, false, if◌then◌else◌, codes, length, length-append, append_assoc, get_or, drop, arith, sym, ap, subst, ⊎_elim, not, eqb-true}
 use Rattle.std.specs.Prelude.{Result, Ok, Err, IfOk, MatchResult, String, string_bytes}
 use Rattle.std.specs.declared.alloc.AllocError.{AllocError}
 use Rattle.std.specs.Global.{Global}
@@ -15,7 +15,7 @@ use Rattle.serde_json.specs.Data.{Data, depth}
 use Rattle.serde_json.specs.Read.{read, max_depth}
 use Rattle.serde_json.proofs.Nesting.{depth-read}
 use Rattle.canvas_task.specs.Text.{Text}
-use Rattle.canvas_task.specs.Printed.{kind_name, why_name}
+use Rattle.canvas_task.specs.Printed.{kind_name}
 use Rattle.canvas_task.specs.declared.outcome.Why.{Why}
 use Rattle.canvas_task.specs.declared.outcome.Kind.{Kind}
 use Rattle.canvas_task.specs.declared.outcome.Kind.TheVariants as kind
@@ -28,7 +28,7 @@ use Rattle.canvas_collect.specs.declared.stored.StoredFault.{StoredFault}
 use Rattle.canvas_collect.specs.declared.stored.StoredFault.TheVariants.{NotJson, OtherTask, UnknownState, NotNumber, UnknownException, UnknownDependency}
 use Rattle.canvas_collect.specs.declared.stored.StoredFault.TheVariants.{Memory}
 use Rattle.canvas_collect.specs.Stored.{result_of, class_of, message_of, Blames, IsResult}
-use Rattle.canvas_collect.specs.Refused.{RefusesException, RefusesResult}
+use Rattle.canvas_collect.specs.Refused.{RefusesResult}
 use Rattle.canvas_collect.specs.AsStored.{IsJsonOf, Names, IsRow}
 use Rattle.canvas_collect.specs.steps.ShownRows.{IsRefused, HasJson, HasClass, HasBlame, LacksClass, IsChordRow, ResultFault, ShowFault}
 use Rattle.canvas_collect.proofs.Dependency.{blames_one}

@@ -1,5 +1,5 @@
 -- Rows of any kind that are shown, one after the other.
-use Rattle.std.proofs.Common.{◌≡◌, ℕ, suc, ◌+◌, arith, List, [], ◌∷◌, ◌++◌, length, length-append, append_assoc, sym, ap, ◌∙◌, subst}
+use Rattle.std.proofs.Common.{◌≡◌, ℕ, suc, ◌+◌, arith, List, [], ◌∷◌, ◌++◌, length, append_assoc, sym, ap, ◌∙◌, subst}
 use Rattle.canvas_task.specs.Text.{Text}
 use Rattle.canvas_collect.specs.declared.row.Row.{Row}
 use Rattle.canvas_collect.specs.Pieces.{lines_in}

@@ -34,7 +34,7 @@ pub(crate) enum Rows<'r> {
     Stored(&'r [Row]),
 }
 
-fn shown(row: &Row) -> Shown<'_> {
+fn shown_of(row: &Row) -> Shown<'_> {
     match row {
         Row::Known(outcome) => Shown::Known(*outcome),
         Row::Value(text) => Shown::Value(text),
@@ -49,7 +49,7 @@ impl<'r> Rows<'r> {
         match self {
             Rows::Run(rows) => Shown::Known(state_in(rows, task)),
             Rows::Stored(rows) => match rows.get(task.get() as usize - 1) {
-                Some(row) => shown(row),
+                Some(row) => shown_of(row),
                 None => Shown::Known(None),
             },
         }

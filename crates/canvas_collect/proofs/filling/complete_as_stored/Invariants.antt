@@ -1,4 +1,3 @@
-use Rattle.std.proofs.Common.{◌≡◌, length}
 use Rattle.canvas_collect.specs.Filled.{AreFilled}
 use Rattle.canvas_collect.proofs.filling.complete_as_stored.Given as goal
 

@@ -6,7 +6,6 @@ use Rattle.serde_json.specs.declared.value.Value.TheFolds.{the_lemmas}
 use Rattle.canvas_collect.specs.AsStored.{IsJsonOf}
 use Rattle.serde_json.specs.Read.{max_depth}
 use Rattle.serde_json.specs.View.{view}
-use Rattle.canvas_collect.specs.steps.Found.{value_at}
 use Rattle.canvas_collect.proofs.RowLemmas.{written}
 use Rattle.canvas_collect.proofs.showing.json_text.Goals as goal
 
