@@ -7,6 +7,7 @@ docs/FORMATS.md says how each is written.
     python3 views.py    checks the rows at the end of this file; the status is 1 if one is wrong
 """
 import json
+import re
 import sys
 
 # No compiled modules are left in the tree.
@@ -32,21 +33,36 @@ def result_of(state):
     return {"exc_message": [said] if said else [], "exc_type": kind}
 
 
+OTHER = re.compile("ZeroDivisionError|NotRegistered")
+
+
+def other(state):
+    """A state of tasks some of which return objects and raise exceptions of other names."""
+    if isinstance(state, str):
+        return OTHER.sub(r"Own\g<0>", state)
+    return {"of": [state, 0.5]} if state and state % 2 else state
+
+
+def same(state):
+    return state
+
+
 def status_of(states):
     """The status of a canvas's result: a failure before what is pending."""
     return next((STATES[it] for it in (str, type(None)) if it in map(type, states)), "SUCCESS")
 
 
-def json_report(canvas, tells=True):
+def json_report(canvas, tells=True, made=same):
     """The text that `canvas run --json` prints, and the status with `--fail`. That of `collect`
-    doesn't tell which tasks were called."""
+    doesn't tell which tasks were called, and may be of tasks of any kind."""
     walk = Walk(canvas)
-    lines = [{"name": row.name, "result": result_of(row.state), "status": STATES[type(row.state)],
-              "task_id": identifier(task)} for task, row in enumerate(walk.rows, 1)]
+    lines = [{"name": row.name, "result": result_of(made(row.state)),
+              "status": STATES[type(row.state)], "task_id": identifier(task)}
+             for task, row in enumerate(walk.rows, 1)]
     for line, row in zip(lines, walk.rows if tells else []):
         line.update(ran=row.ran, due_to=row.due and identifier(row.due))
     states = [walk.rows[end - 1].state for end in walk.ends]
-    results = [result_of(it) for it in states]
+    results = [result_of(made(it)) for it in states]
     status = status_of(states)
     lines.append({"result": results if ends_in_group(canvas) else results[0], "status": status})
     return "".join(written(it) + "\n" for it in lines), 3 if status == "FAILURE" else 0
@@ -86,11 +102,11 @@ RUN = "0123456789abcdef012345"
 IN_RUN = "01234567-89ab-8cde-8f01-2345%08x"
 
 
-def stored(canvas):
+def stored(canvas, made=same):
     """The results that Celery's workers store of the tasks that run, a line each."""
     lines = []
     for task, row in enumerate(Walk(canvas).rows, 1):
-        found = {"result": result_of(row.state), "status": STATES[type(row.state)],
+        found = {"result": result_of(made(row.state)), "status": STATES[type(row.state)],
                  "task_id": IN_RUN % task}
         lines.append(written(found) + "\n" if row.ran else "\n")
     return "".join(lines)

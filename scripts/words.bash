@@ -9,7 +9,7 @@ turns FILE [--workers N] [--turns LIST] [--again LIST] [--task NAME=WORD] [--tas
 normal FILE
 check FILE [--task NAME=WORD] [--tasks FILE]
 adapt FILE [--rename #NUMBER=NAME]
-graph FILE [--run] [--workers N] [--task NAME=WORD] [--tasks FILE]
+graph FILE [--run] [--workers N] [--task NAME=WORD] [--tasks FILE] [--results FILE] [--of HEX22] [--complete]
 messages FILE [--workers N] [--turns LIST] [--task NAME=WORD] [--tasks FILE]
 export FILE --run HEX22 [--queue NAME] [--prefix TEXT] [--expires SECONDS] [--broker-db N] [--backend-db N] [--without-script]
 keys FILE --run HEX22 [--prefix TEXT]
@@ -279,7 +279,7 @@ refuse_missing() {
 
 # Refuses a list of turns or of what is delivered again, or a run's number, that is none.
 refuse_lists() {
-  local number turns=",${given[--turns]:-}," workers="${given[--workers]:-1}" again="${given[--again]:-}"
+  local number word turns=",${given[--turns]:-}," workers="${given[--workers]:-1}" again="${given[--again]:-}"
   if [ "$turns" != ,, ]; then
     if ! [[ "$turns" =~ ^,([1-9][0-9]{0,9},)+$ ]]; then
       fault="canvas: refused BadTurn"
@@ -298,9 +298,21 @@ refuse_lists() {
     if ((${number%:*} > 4294967295)); then fault="canvas: refused BadAgain"; fi
   done
   if [ -n "$fault" ]; then return 0; fi
-  if [ -n "${takes[--run]:-}" ] && ! [[ "${given[--run]}" =~ ^[0-9a-f]{22}$ ]]; then
-    fault="canvas: refused BadRun"
-  fi
+  for word in --run --of; do
+    if [ -n "${takes[$word]:-}" ] && [ -n "${given[$word]+was given}" ] && ! [[ "${given[$word]}" =~ ^[0-9a-f]{22}$ ]]; then
+      fault="canvas: refused BadRun"
+    fi
+  done
+}
+
+# Leaves to the program what it says of options that lack another, or clash.
+leave_results() {
+  local has="${given[--results]+results}${given[--of]+of}${given[--run]+run}${given[--complete]+complete}"
+  if [ "$command" != graph ]; then return 0; fi
+  case "$has" in
+    '' | run | resultsof | resultsofcomplete) ;;
+    *) asks=program ;;
+  esac
 }
 
 # Sets `why` to what is wrong with a text that says what a task answers, behind those of the names in `named`.
@@ -382,7 +394,7 @@ are_texts() {
   done
 }
 
-# Reads the words of a call. Sets `command`, `options` with their values, and `files`; `asks` where they ask for help or the version; and `fault` to
+# Reads the words of a call. Sets `command`, `options` with their values, and `files`; `asks` where they ask for help, the version or what only the program says; and `fault` to
 # what the program says where they are a mistake. Where `takes_many` is set, a call may have several files.
 read_words() {
   command="${1:-}"
@@ -424,6 +436,7 @@ read_words() {
       fi
       find_options "$command"
       read_command "${@:2}"
+      if [ -z "$fault$asks" ]; then leave_results; fi
       if [ -z "$fault$asks" ]; then refuse_missing; fi
       if [ -z "$fault$asks" ]; then refuse_lists; fi
       if [ -z "$fault$asks" ]; then refuse_renames; fi
@@ -487,7 +500,7 @@ read_tasks() {
 read_file() {
   local file="$1" is_empty='' is_unsure=''
   fault=''
-  if [ "$file" = - ] && { [ "$command" = collect ] || [ "${given[--tasks]-}" = - ]; }; then
+  if [ "$file" = - ] && { [ "$command" = collect ] || [ "${given[--tasks]-}" = - ] || [ "${given[--results]-}" = - ]; }; then
     fault="canvas: cannot read -"
     return 0
   fi

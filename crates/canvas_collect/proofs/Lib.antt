@@ -1,10 +1,13 @@
 pub mod Json
 pub mod Said
+pub mod ShownRows
 pub mod Lines
 pub mod Dependency
 pub mod Refusals
+pub mod RowLemmas
 pub mod Identifiers
 pub mod KeptRows
+pub mod FilledRows
 pub mod Gathering
 pub mod Reached
 pub mod Walking

@@ -18,7 +18,7 @@ said_more run count k j (l ∷ ls) (r ∷ rs) line row e all says =
     let next : j ≡ suc k + length rs = omega (arith, e) in
     (all.0, said_more run count (suc k) j ls rs line row next all.1 says)
 
-longer : {A : Type 0} (xs : List A) (x : A) (n : ℕ) → length xs ≡ n → length (xs ++ x ∷ []) ≡ n + 1
+pub longer : {A : Type 0} (xs : List A) (x : A) (n : ℕ) → length xs ≡ n → length (xs ++ x ∷ []) ≡ n + 1
 longer xs x n e = length-append xs (x ∷ []) ∙ ap (λ k. k + 1) e
 
 pub read_more : (run : Text) (count : ℕ) (text rest line after : Text) (n : ℕ) (old new : List (Option Outcome))

@@ -1,6 +1,9 @@
 pub mod Pieces
 pub mod Stored
 pub mod Refused
+pub mod AsStored
+pub mod Unshown
 pub mod Called
 pub mod Completed
+pub mod Filled
 pub mod steps

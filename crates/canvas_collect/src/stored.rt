@@ -16,6 +16,7 @@ ghost use Rattle.canvas_task.specs.declared.outcome.Why.{Why};
 ghost use Rattle.canvas_collect.specs.Stored.{integer_in, message_in, named_in, class_of, Blames};
 ghost use Rattle.canvas_collect.specs.Stored.{SaysFault, SaysRow, Says, Waits};
 ghost use Rattle.canvas_collect.specs.Refused.{RefusesException, RefusesResult};
+ghost use Rattle.canvas_collect.specs.AsStored.{Names};
 ghost use Rattle.canvas_collect.specs.steps.Parsed.{IsUnread};
 ghost use Rattle.canvas_collect.specs.steps.Rows.{LineFault};
 
@@ -55,7 +56,7 @@ pub enum StoredFault {
 }
 
 /// The text of a value, empty where it is none.
-fn text_in(found: Option<&Value>) -> &str
+pub(crate) fn text_in(found: Option<&Value>) -> &str
     ensures { result.now ≡ text_of (value_at found.entry) }
 {
     match found {
@@ -65,7 +66,7 @@ fn text_in(found: Option<&Value>) -> &str
 }
 
 /// An exception's message: a text, or the first of a list.
-fn message_in(found: Option<&Value>) -> &str
+pub(crate) fn message_in(found: Option<&Value>) -> &str
     ensures { result.now ≡ message_in (value_at found.entry) }
 {
     match found {
@@ -112,12 +113,19 @@ fn behind<'a>(text: &'a [u8], start: &[u8]) -> Option<&'a [u8]>
     text.strip_prefix(start)
 }
 
-/// What a ChordError's message says: `Dependency ID raised NAME(..)`.
-fn dependency_of(plan: &Plan, run: &Run, message: &[u8]) -> Option<(TaskNo, Why)>
+/// What a ChordError's message says: `Dependency ID raised CLASS(..)`.
+#[derive(Drop)]
+pub(crate) struct Blame<'m> {
+    pub(crate) dep: TaskNo,
+    pub(crate) class: &'m [u8],
+}
+
+/// The task of the run that a message names, with the class that it raised.
+pub(crate) fn blame_in<'m>(plan: &Plan, run: &Run, message: &'m [u8]) -> Option<Blame<'m>>
     ensures { MatchOption result
-        ((dep : ℕ) (why : Why)
-        → ¬ Blames run.now.digits (count_line plan.now) message.now dep why)
-        (λ p. Blames run.now.digits (count_line plan.now) message.now p.0 p.1) }
+        ((dep : ℕ) (name : Text)
+        → ¬ Names run.now.digits (count_line plan.now) message.now dep name)
+        (λ b. Names run.now.digits (count_line plan.now) message.now b.dep b.class.now) }
 {
     // The length of the run's number is known by its type.
     let _digits = run.digits();
@@ -128,9 +136,26 @@ fn dependency_of(plan: &Plan, run: &Run, message: &[u8]) -> Option<(TaskNo, Why)
     let (id, said) = text.split_at(36);
     let dep = task_named(plan, run, id)?;
     let raised = behind(said, b" raised ")?;
-    let (name, _) = split_at_byte(raised, b'(');
-    let why = why_of(name)?;
-    Some((dep, why))
+    let (class, _) = split_at_byte(raised, b'(');
+    Some(Blame { dep, class })
+}
+
+/// The same, where the class is one of the six tasks' exceptions, or a ChordError.
+fn dependency_of(plan: &Plan, run: &Run, message: &[u8]) -> Option<(TaskNo, Why)>
+    ensures { MatchOption result
+        ((dep : ℕ) (why : Why)
+        → ¬ Blames run.now.digits (count_line plan.now) message.now dep why)
+        (λ p. Blames run.now.digits (count_line plan.now) message.now p.0 p.1) }
+{
+    // The length of the run's number is known by its type.
+    let _digits = run.digits();
+    match blame_in(plan, run, message) {
+        Some(blame) => match why_of(blame.class) {
+            Some(why) => Some((blame.dep, why)),
+            None => None,
+        },
+        None => None,
+    }
 }
 
 fn chord_failure(plan: &Plan, run: &Run, exception: &Value) -> Result<Fault, StoredFault>
@@ -198,7 +223,11 @@ fn is_waiting(status: &str) -> bool
     matches!(status, "PENDING" | "RECEIVED" | "STARTED" | "RETRY")
 }
 
-fn outcome_of(plan: &Plan, run: &Run, meta: &Value) -> Result<Option<Outcome>, StoredFault>
+pub(crate) fn outcome_of(
+    plan: &Plan,
+    run: &Run,
+    meta: &Value,
+) -> Result<Option<Outcome>, StoredFault>
     ensures { MatchResult result
         (λ row. SaysRow run.now.digits (count_line plan.now) (view meta.now) row)
         (λ e. RefusesResult run.now.digits (count_line plan.now) (view meta.now) e) }
@@ -224,7 +253,7 @@ fn outcome_of(plan: &Plan, run: &Run, meta: &Value) -> Result<Option<Outcome>, S
 }
 
 /// The JSON value of a text.
-fn parsed(alloc: Global, text: &[u8]) -> Result<Value, StoredFault>
+pub(crate) fn parsed(alloc: Global, text: &[u8]) -> Result<Value, StoredFault>
     ensures { MatchResult result (λ meta. json_of text.now ≡ Some (view meta))
         (λ e. IsUnread text.now e) }
 {
@@ -239,7 +268,7 @@ fn parsed(alloc: Global, text: &[u8]) -> Result<Value, StoredFault>
 }
 
 /// Whether the value names the task in this run.
-fn is_of(run: &Run, task: TaskNo, meta: &Value) -> bool
+pub(crate) fn is_of(run: &Run, task: TaskNo, meta: &Value) -> bool
     ensures { IsTrue result ↔ (named_in (view meta.now) ≡ run_task run.now.digits task) }
 {
     let id = run.task_text(task);

@@ -7,12 +7,14 @@ use std::fmt::{self, Display};
 use std::io::{self, Write};
 
 /// What standard error says beside an answer.
-#[derive(Clone, Copy)]
+#[derive(Drop)]
 pub(crate) enum Remark {
     /// How many stores of a run answered Again.
     Repeats(u64),
     /// What was changed of a canvas.
     Changes(Changes),
+    /// Lines on what of a canvas is ignored.
+    Ignored(String),
 }
 
 impl Display for Remark {
@@ -21,6 +23,7 @@ impl Display for Remark {
             Remark::Repeats(1) => writeln!(f, "canvas: 1 store answered Again"),
             Remark::Repeats(count) => writeln!(f, "canvas: {count} stores answered Again"),
             Remark::Changes(changes) => write!(f, "{changes}"),
+            Remark::Ignored(lines) => write!(f, "{lines}"),
         }
     }
 }
@@ -95,9 +98,9 @@ impl<'w> Answer<'w> {
     }
 
     fn print_remark<E: Write>(&self, err: &mut E) -> u8 {
-        match self.remark {
+        match &self.remark {
             None => self.status,
-            Some(remark) => match write_and_flush(err, &remark) {
+            Some(remark) => match write_and_flush(err, remark) {
                 Ok(()) => self.status,
                 Err(_) => Refusal::CannotWrite.print(err),
             },

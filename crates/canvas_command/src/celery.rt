@@ -4,20 +4,26 @@
 mod refusal;
 
 use crate::answer::Answer;
-use crate::input::{MOST_RESULTS, read_results, unread};
+use crate::ignored::ignored_remark;
+use crate::input::results_of;
 use crate::plan::plan_of;
 use crate::refusal::Refusal;
-use crate::reporting::Manner;
+use crate::reporting::{Form, Manner};
 use canvas_celery::{Run, keys};
-use canvas_collect::{CollectFault, collect, complete};
+use canvas_collect::{
+    CollectFault, Row, StoredFault, collect, collect_as_stored, complete, complete_as_stored,
+};
 use canvas_engine::Report;
 use canvas_export::{Target, export};
 use canvas_rewrite::Plan;
+use canvas_task::Memory;
+use canvas_views::{stored_rows_text, stored_text};
 pub use refusal::CeleryRefusal;
 use std::alloc::Global;
 use std::io::Read;
+use std::rt::Files;
 
-/// The commands for Redis that start a canvas.
+/// The commands for Redis that start a canvas, and what of it they ignore.
 pub(crate) fn answer_export<'w>(
     alloc: Global,
     run: &Run,
@@ -25,7 +31,8 @@ pub(crate) fn answer_export<'w>(
     text: &[u8],
 ) -> Result<Answer<'w>, Refusal<'w>> {
     let plan = plan_of(alloc, text)?;
-    Ok(Answer::whole(export(alloc, &plan, run, target)?))
+    let remark = ignored_remark(alloc, text)?;
+    Ok(Answer::whole(export(alloc, &plan, run, target)?).with_remark(remark))
 }
 
 /// The keys of a canvas's results, a line each.
@@ -40,18 +47,28 @@ pub(crate) fn answer_keys<'w>(
 }
 
 /// The report of a canvas from the results that the input gives.
-pub(crate) fn answer_collect<'w, R: Read>(
-    alloc: Global,
+pub(crate) fn answer_collect<'w, S, R: Read>(
+    rt: &S,
     run: &Run,
     completes: bool,
     manner: Manner,
     text: &[u8],
     input: &mut R,
-) -> Result<Answer<'w>, Refusal<'w>> {
+) -> Result<Answer<'w>, Refusal<'w>>
+where
+    S: Files + AllocGlobal,
+{
+    let alloc = rt.alloc();
     let plan = manner.plan_of(alloc, text)?;
-    let results = results_of(alloc, input)?;
-    let report = collected(alloc, &plan, run, &results, completes)?;
-    manner.untold(alloc, &plan, &report)
+    let results = results_of(rt, "-", input)?;
+    match collected(alloc, &plan, run, &results, completes)? {
+        Some(report) => manner.untold(alloc, &plan, &report),
+        None => {
+            let rows = stored_rows(alloc, &plan, run, &results, completes)?;
+            let text = stored_report(alloc, &plan, &rows, manner.form)?;
+            Ok(Answer::whole(text.into_bytes()))
+        }
+    }
 }
 
 /// The run that the words name.
@@ -62,31 +79,56 @@ pub(crate) fn run_of<'w>(text: &str) -> Result<Run, Refusal<'w>> {
     }
 }
 
-/// The results that standard input gives.
-fn results_of<'w, R: Read>(alloc: Global, input: &mut R) -> Result<Vec<u8>, Refusal<'w>> {
-    match read_results(alloc, input) {
-        Ok(results) if results.len() > MOST_RESULTS => {
-            Err(Refusal::Celery(CeleryRefusal::TooLarge))
-        }
-        Ok(results) => Ok(results),
-        Err(error) => Err(unread(&error, "-")),
+/// Whether a result is one of a task that returns or raises what the engine's own tasks don't.
+fn is_of_another_kind(fault: &CollectFault) -> bool {
+    match fault {
+        CollectFault::Stored { fault, .. } => matches!(
+            fault,
+            StoredFault::NotNumber | StoredFault::UnknownException | StoredFault::UnknownDependency
+        ),
+        _ => false,
     }
 }
 
-/// The report that stored results give.
+/// The report that stored results give, where all are outcomes that the engine's own tasks have.
 fn collected(
     alloc: Global,
     plan: &Plan,
     run: &Run,
     results: &[u8],
     completes: bool,
-) -> Result<Report, CollectFault> {
-    let rows = collect(alloc, plan, run, results)?;
-    Ok(Report {
-        rows: if completes {
-            complete(plan, rows)
-        } else {
-            rows
-        },
-    })
+) -> Result<Option<Report>, CollectFault> {
+    match collect(alloc, plan, run, results) {
+        Ok(rows) => Ok(Some(Report {
+            rows: if completes {
+                complete(plan, rows)
+            } else {
+                rows
+            },
+        })),
+        Err(fault) if is_of_another_kind(&fault) => Ok(None),
+        Err(fault) => Err(fault),
+    }
+}
+
+/// The rows that stored results give, whatever the tasks returned or raised.
+pub(crate) fn stored_rows<'w>(
+    alloc: Global,
+    plan: &Plan,
+    run: &Run,
+    results: &[u8],
+    completes: bool,
+) -> Result<Vec<Row>, Refusal<'w>> {
+    let mut rows = collect_as_stored(alloc, plan, run, results)?;
+    if completes {
+        complete_as_stored(alloc, plan, &mut rows)?;
+    }
+    Ok(rows)
+}
+
+fn stored_report(alloc: Global, plan: &Plan, rows: &[Row], form: Form) -> Result<String, Memory> {
+    match form {
+        Form::Json => stored_rows_text(alloc, plan, rows),
+        Form::Plain | Form::Explained => stored_text(alloc, plan, rows),
+    }
 }

@@ -1,5 +1,6 @@
 //! Reading a canvas's text, and the results of its tasks, as far as they can be long.
 
+use crate::celery::CeleryRefusal;
 use crate::refusal::Refusal;
 use canvas_sig::MOST_BYTES;
 use std::alloc::Global;
@@ -8,7 +9,7 @@ use std::io::{self, ErrorKind, Read};
 use std::rt::Files;
 
 /// The most bytes of results that are taken: 64 KiB for each of 1,024 tasks.
-pub(crate) const MOST_RESULTS: usize = 67_108_864;
+const MOST_RESULTS: usize = 67_108_864;
 
 const CHUNK: usize = 8192;
 
@@ -32,17 +33,32 @@ fn read_at_most<R: Read>(alloc: Global, reader: &mut R, most: usize) -> io::Resu
     Err(io::Error::from(ErrorKind::Other))
 }
 
+/// At most so many bytes of a file, or of the input where it is named `-`.
+fn bytes_of<'w, S, R: Read>(
+    rt: &S,
+    file: &'w str,
+    input: &mut R,
+    most: usize,
+) -> Result<Vec<u8>, Refusal<'w>>
+where
+    S: Files + AllocGlobal,
+{
+    let bytes = if file == "-" {
+        read_at_most(rt.alloc(), input, most)
+    } else {
+        read_file(rt, file, most)
+    };
+    match bytes {
+        Ok(bytes) => Ok(bytes),
+        Err(error) => Err(unread(&error, file)),
+    }
+}
+
+fn read_file<S: Files + AllocGlobal>(rt: &S, file: &str, most: usize) -> io::Result<Vec<u8>> {
+    read_at_most(rt.alloc(), &mut fs::open(rt, file)?, most)
+}
+
 /// The text of a canvas, with one byte more than the longest has, so that a longer one shows.
-fn read_text<R: Read>(alloc: Global, reader: &mut R) -> io::Result<Vec<u8>> {
-    read_at_most(alloc, reader, MOST_BYTES + 1)
-}
-
-/// The results, with one byte more than are taken, so that more of them show.
-pub(crate) fn read_results<R: Read>(alloc: Global, reader: &mut R) -> io::Result<Vec<u8>> {
-    read_at_most(alloc, reader, MOST_RESULTS + 1)
-}
-
-/// The text of a file, or of the input where it is named `-`.
 pub(crate) fn text_of<'w, S, R: Read>(
     rt: &S,
     file: &'w str,
@@ -51,22 +67,26 @@ pub(crate) fn text_of<'w, S, R: Read>(
 where
     S: Files + AllocGlobal,
 {
-    let text = if file == "-" {
-        read_text(rt.alloc(), input)
-    } else {
-        read_file(rt, file)
-    };
-    match text {
-        Ok(text) => Ok(text),
-        Err(error) => Err(unread(&error, file)),
+    bytes_of(rt, file, input, MOST_BYTES + 1)
+}
+
+/// The results that Celery's workers stored, a line each.
+pub(crate) fn results_of<'w, S, R: Read>(
+    rt: &S,
+    file: &'w str,
+    input: &mut R,
+) -> Result<Vec<u8>, Refusal<'w>>
+where
+    S: Files + AllocGlobal,
+{
+    let results = bytes_of(rt, file, input, MOST_RESULTS + 1)?;
+    if results.len() > MOST_RESULTS {
+        return Err(Refusal::Celery(CeleryRefusal::TooLarge));
     }
+    Ok(results)
 }
 
-fn read_file<S: Files + AllocGlobal>(rt: &S, file: &str) -> io::Result<Vec<u8>> {
-    read_text(rt.alloc(), &mut fs::open(rt, file)?)
-}
-
-pub(crate) fn unread<'w>(error: &io::Error, file: &'w str) -> Refusal<'w> {
+fn unread<'w>(error: &io::Error, file: &'w str) -> Refusal<'w> {
     match error.kind() {
         ErrorKind::OutOfMemory => Refusal::Memory,
         _ => Refusal::CannotRead(file),

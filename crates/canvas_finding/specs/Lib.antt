@@ -6,3 +6,5 @@ pub mod Limits
 pub mod Wanted
 pub mod Finding
 pub mod Placed
+pub mod Ignored
+pub mod Naming

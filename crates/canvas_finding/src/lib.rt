@@ -10,6 +10,7 @@ ghost use Rattle.canvas_finding.specs.Refused.{refusal_of, first_refused};
 mod arguments;
 mod depths;
 mod finding;
+mod ignored;
 mod limits;
 mod listing;
 mod notes;
@@ -18,6 +19,7 @@ mod step;
 
 pub use depths::{Depths, depths_of};
 pub use finding::{Finding, Spot, find};
+pub use ignored::ignored_options;
 pub use step::{Field, Step, pointer_text};
 
 /// The refusal of the first signature that is refused for itself, in file order, is the one that

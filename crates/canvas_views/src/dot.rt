@@ -1,5 +1,6 @@
 //! The language of Graphviz: nodes, edges and texts.
 
+use crate::shown::Shown;
 use canvas_ran::Fate;
 use canvas_rewrite::FrozenTask;
 use canvas_task::Outcome;
@@ -44,19 +45,17 @@ pub(crate) fn push_quoted(dot: &mut String, text: &str) -> Result<(), AllocError
 
 /// How a task is drawn: states differ by their shapes and borders too, and not by colour alone, and
 /// so do failures by a call and without one.
-pub(crate) fn looks_of(row: Option<&Option<Outcome>>, fate: &Option<Fate>) -> &'static str {
+pub(crate) fn looks_of(row: Option<Shown<'_>>, fate: &Option<Fate>) -> &'static str {
     if let Some(Fate::Skipped(_)) = fate {
         return "shape=hexagon, style=\"dashed,filled\", fillcolor=\"#fbeeee\"";
     }
     match row {
         None => "shape=box, style=rounded",
-        Some(None) => "shape=box, style=\"dashed,filled\", fillcolor=\"#eeeeee\"",
-        Some(Some(Outcome::Success(_))) => {
+        Some(Shown::Known(None)) => { "shape=box, style=\"dashed,filled\", fillcolor=\"#eeeeee\"" }
+        Some(Shown::Known(Some(Outcome::Success(_))) | Shown::Value(_)) => {
             "shape=box, style=\"rounded,filled\", fillcolor=\"#d8f0d8\""
         }
-        Some(Some(Outcome::Failure(_))) => {
-            "shape=octagon, style=filled, fillcolor=\"#f7d4d4\", penwidth=2"
-        }
+        Some(_) => "shape=octagon, style=filled, fillcolor=\"#f7d4d4\", penwidth=2",
     }
 }
 

@@ -4,10 +4,12 @@
 use crate::dot::{Node, looks_of, node_of, push_quoted};
 use crate::label::label_of;
 use crate::rows::fate_in;
+use crate::shown::{Rows, Shown};
+use canvas_collect::Row;
 use canvas_engine::Report;
 use canvas_ran::{Fate, fates};
 use canvas_rewrite::{FrozenEnd, FrozenLine, FrozenTask, Plan};
-use canvas_task::{GroupNo, Memory, Outcome, TaskNo};
+use canvas_task::{GroupNo, Memory, TaskNo};
 use std::alloc::{AllocError, Global};
 
 /// The parts of a picture. Edges stand behind all frames, since what is named in a frame is drawn
@@ -15,7 +17,7 @@ use std::alloc::{AllocError, Global};
 #[derive(Drop)]
 struct Graph<'r> {
     alloc: Global,
-    rows: Option<&'r [Option<Outcome>]>,
+    rows: Option<Rows<'r>>,
     /// What became of each task, where there was a run.
     fates: Vec<(TaskNo, Fate)>,
     nodes: String,
@@ -90,8 +92,8 @@ impl Graph<'_> {
         Ok(())
     }
 
-    fn row(&self, task: &FrozenTask) -> Option<&Option<Outcome>> {
-        self.rows?.get(task.no.get() as usize - 1)
+    fn row(&self, task: &FrozenTask) -> Option<Shown<'_>> {
+        Some(self.rows?.row(task.no))
     }
 
     /// A task, without its callbacks.
@@ -244,13 +246,26 @@ fn whole_text(alloc: Global, nodes: &str, edges: &str) -> Result<String, AllocEr
 /// A plan in the language of Graphviz, for `dot`; with the states and values of a run where its
 /// whole report is given.
 pub fn graph_text(alloc: Global, plan: &Plan, report: Option<&Report>) -> Result<String, Memory> {
-    let (rows, fates) = match report {
-        Some(report) => (
-            Some(report.rows.get().as_slice()),
-            fates(alloc, plan, report)?,
-        ),
-        None => (None, Vec::new(alloc)),
-    };
+    match report {
+        Some(report) => {
+            let fates = fates(alloc, plan, report)?;
+            picture(alloc, plan, Some(Rows::Run(report.rows.get())), fates)
+        }
+        None => picture(alloc, plan, None, Vec::new(alloc)),
+    }
+}
+
+/// The same with rows of any kind, as Celery's workers stored them.
+pub fn stored_graph_text(alloc: Global, plan: &Plan, rows: &[Row]) -> Result<String, Memory> {
+    picture(alloc, plan, Some(Rows::Stored(rows)), Vec::new(alloc))
+}
+
+fn picture(
+    alloc: Global,
+    plan: &Plan,
+    rows: Option<Rows<'_>>,
+    fates: Vec<(TaskNo, Fate)>,
+) -> Result<String, Memory> {
     let mut graph = Graph {
         alloc,
         rows,

@@ -10,6 +10,17 @@ pub fn quoted_json(alloc: Global, text: &str) -> Result<String, AllocError> {
     Value::String(String::from_str(alloc, text)?).to_string(alloc)
 }
 
+fn within_quotes(text: &str) -> &str {
+    let text = text.strip_prefix('"').unwrap_or(text);
+    text.strip_suffix('"').unwrap_or(text)
+}
+
+/// A text as a JSON string has it between its quotes.
+pub fn escaped_json(alloc: Global, text: &str) -> Result<String, AllocError> {
+    let quoted = quoted_json(alloc, text)?;
+    String::from_str(alloc, within_quotes(&quoted))
+}
+
 /// One of a message's three texts. What `encode` writes is UTF-8.
 fn text_json(alloc: Global, bytes: &[u8]) -> Result<String, AllocError> {
     match str::from_utf8(bytes) {

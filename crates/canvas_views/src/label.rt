@@ -1,5 +1,6 @@
 //! Labels of a picture.
 
+use crate::shown::Shown;
 use canvas_ran::Fate;
 use canvas_rewrite::FrozenTask;
 use canvas_task::{Arg, Fault, Outcome};
@@ -8,14 +9,20 @@ use std::alloc::{AllocError, Global};
 /// How many characters of a text, and how many items of a list, are shown.
 const MOST_SHOWN: usize = 24;
 
-fn push_text(label: &mut String, text: &str) -> Result<(), AllocError> {
-    label.push('\'')?;
+/// The beginning of a text.
+fn push_cut(label: &mut String, text: &str) -> Result<(), AllocError> {
     for c in text.chars().take(MOST_SHOWN) {
         label.push(c)?;
     }
     if text.chars().count() > MOST_SHOWN {
         label.push_str("..")?;
     }
+    Ok(())
+}
+
+fn push_text(label: &mut String, text: &str) -> Result<(), AllocError> {
+    label.push('\'')?;
+    push_cut(label, text)?;
     label.push('\'')?;
     Ok(())
 }
@@ -87,13 +94,25 @@ fn push_call(label: &mut String, task: &FrozenTask) -> Result<(), AllocError> {
     Ok(())
 }
 
-/// What came of a task, where it was run.
-fn push_row(label: &mut String, row: Option<&Option<Outcome>>) -> Result<(), AllocError> {
+/// What came of a task.
+fn push_row(label: &mut String, row: Shown<'_>) -> Result<(), AllocError> {
     match row {
-        None => Ok(()),
-        Some(None) => label.push_str("\nPENDING"),
-        Some(Some(Outcome::Success(value))) => write!(label, "\nSUCCESS {value}"),
-        Some(Some(Outcome::Failure(fault))) => push_fault(label, fault),
+        Shown::Known(None) => label.push_str("\nPENDING"),
+        Shown::Known(Some(Outcome::Success(value))) => write!(label, "\nSUCCESS {value}"),
+        Shown::Known(Some(Outcome::Failure(fault))) => push_fault(label, &fault),
+        Shown::Value(json) => {
+            label.push_str("\nSUCCESS ")?;
+            push_cut(label, json)
+        }
+        Shown::Raised(name) => {
+            label.push_str("\nFAILURE ")?;
+            push_cut(label, name)
+        }
+        Shown::Blamed(dep, name) => {
+            let number = dep.get();
+            write!(label, "\nFAILURE ChordError:\n{number} raised ")?;
+            push_cut(label, name)
+        }
     }
 }
 
@@ -122,12 +141,14 @@ fn push_told(label: &mut String, fate: &Option<Fate>) -> Result<(), AllocError> 
 pub(crate) fn label_of(
     alloc: Global,
     task: &FrozenTask,
-    row: Option<&Option<Outcome>>,
+    row: Option<Shown<'_>>,
     fate: &Option<Fate>,
 ) -> Result<String, AllocError> {
     let mut label = String::new(alloc);
     push_call(&mut label, task)?;
-    push_row(&mut label, row)?;
+    if let Some(row) = row {
+        push_row(&mut label, row)?;
+    }
     push_told(&mut label, fate)?;
     Ok(label)
 }

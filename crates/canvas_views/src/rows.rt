@@ -7,6 +7,8 @@ ghost use Rattle.canvas_semantics.specs.States.{rows_from};
 ghost use Rattle.canvas_views.specs.Failing.{has_failed, any_failed};
 
 use crate::json_text::quoted_json;
+use crate::shown::{Rows, Shown};
+use canvas_collect::Row;
 use canvas_engine::Report;
 use canvas_ran::{Fate, state_in};
 use canvas_rewrite::{Ends, Plan};
@@ -19,34 +21,38 @@ pub(crate) fn row_of(report: &Report, task: TaskNo) -> Option<Outcome>
     state_in(report.rows.get(), task)
 }
 
-pub(crate) fn status_of(row: &Option<Outcome>) -> &'static str {
-    match row {
-        None => "PENDING",
-        Some(Outcome::Success(_)) => "SUCCESS",
-        Some(Outcome::Failure(_)) => "FAILURE",
-    }
+/// A ChordError as Celery's result backends store it: its type, and the list of its arguments.
+fn chord_json(alloc: Global, said: &str) -> Result<String, AllocError> {
+    let said = quoted_json(alloc, said)?;
+    format!(in alloc; "{{\"exc_message\":[{said}],\"exc_type\":\"ChordError\"}}")
 }
 
-/// An exception as Celery's result backends store it: its type, and the list of its arguments.
+/// The same of another exception.
+fn raised_json(alloc: Global, name: &str) -> Result<String, AllocError> {
+    let name = quoted_json(alloc, name)?;
+    format!(in alloc; "{{\"exc_message\":[],\"exc_type\":{name}}}")
+}
+
 fn fault_json(alloc: Global, fault: &Fault) -> Result<String, AllocError> {
     match fault {
-        Fault::Plain(kind) => {
-            format!(in alloc; "{{\"exc_message\":[],\"exc_type\":\"{kind}\"}}")
-        }
+        Fault::Plain(kind) => raised_json(alloc, &kind.to_string(alloc)?),
         Fault::Chord { dep, why } => {
-            let said = format!(in alloc; "Dependency {dep} raised {why}")?;
-            let said = quoted_json(alloc, &said)?;
-            format!(in alloc; "{{\"exc_message\":[{said}],\"exc_type\":\"ChordError\"}}")
+            chord_json(alloc, &format!(in alloc; "Dependency {dep} raised {why}")?)
         }
     }
 }
 
-/// A result: a number, an exception, or null where there is none yet.
-fn result_json(alloc: Global, row: &Option<Outcome>) -> Result<String, AllocError> {
+/// A result: a value, an exception, or null where there is none yet.
+fn result_json(alloc: Global, row: Shown<'_>) -> Result<String, AllocError> {
     match row {
-        None => String::from_str(alloc, "null"),
-        Some(Outcome::Success(number)) => number.to_string(alloc),
-        Some(Outcome::Failure(fault)) => fault_json(alloc, fault),
+        Shown::Known(None) => String::from_str(alloc, "null"),
+        Shown::Known(Some(Outcome::Success(number))) => number.to_string(alloc),
+        Shown::Known(Some(Outcome::Failure(fault))) => fault_json(alloc, &fault),
+        Shown::Value(json) => String::from_str(alloc, json),
+        Shown::Raised(name) => raised_json(alloc, name),
+        Shown::Blamed(dep, name) => {
+            chord_json(alloc, &format!(in alloc; "Dependency {dep} raised {name}")?)
+        }
     }
 }
 
@@ -87,16 +93,16 @@ fn push_row(
     text: &mut String,
     alloc: Global,
     plan: &Plan,
-    report: &Report,
+    rows: Rows<'_>,
     task: TaskNo,
     fate: Option<Fate>,
 ) -> Result<(), AllocError> {
     let due = due_member(alloc, &fate)?;
     let ran = ran_member(&fate);
-    let row = row_of(report, task);
+    let row = rows.row(task);
     let name = quoted_json(alloc, plan.name(task).unwrap_or(""))?;
-    let result = result_json(alloc, &row)?;
-    let status = status_of(&row);
+    let result = result_json(alloc, row)?;
+    let status = row.status();
     writeln!(
         text,
         "{{{due}\"name\":{name},{ran}\"result\":{result},\"status\":\"{status}\",\"task_id\":\"{task}\"}}"
@@ -125,12 +131,17 @@ fn any_failed(report: &Report, tasks: &[TaskNo]) -> bool
     false
 }
 
+/// Whether a task has this status.
+fn any_is(rows: Rows<'_>, tasks: &[TaskNo], status: &str) -> bool {
+    tasks.iter().any(|task| rows.row(*task).status() == status)
+}
+
 /// The status of a group: a failure where a member failed, else pending where one is.
-fn status_of_all(report: &Report, tasks: &[TaskNo]) -> &'static str {
-    if any_failed(report, tasks) {
+fn status_of_all(rows: Rows<'_>, tasks: &[TaskNo]) -> &'static str {
+    if any_is(rows, tasks, "FAILURE") {
         return "FAILURE";
     }
-    if tasks.iter().any(|task| row_of(report, *task).is_none()) {
+    if any_is(rows, tasks, "PENDING") {
         return "PENDING";
     }
     "SUCCESS"
@@ -139,12 +150,12 @@ fn status_of_all(report: &Report, tasks: &[TaskNo]) -> &'static str {
 fn push_results(
     text: &mut String,
     alloc: Global,
-    report: &Report,
+    rows: Rows<'_>,
     tasks: &[TaskNo],
 ) -> Result<(), AllocError> {
     let mut mark = "";
     for task in tasks {
-        let result = result_json(alloc, &row_of(report, *task))?;
+        let result = result_json(alloc, rows.row(*task))?;
         write!(text, "{mark}{result}")?;
         mark = ",";
     }
@@ -156,23 +167,38 @@ fn push_end(
     text: &mut String,
     alloc: Global,
     plan: &Plan,
-    report: &Report,
+    rows: Rows<'_>,
 ) -> Result<(), AllocError> {
     match plan.ends() {
         Ends::One(task) => {
-            let row = row_of(report, task);
-            let result = result_json(alloc, &row)?;
-            let status = status_of(&row);
+            let row = rows.row(task);
+            let result = result_json(alloc, row)?;
+            let status = row.status();
             writeln!(text, "{{\"result\":{result},\"status\":\"{status}\"}}")?;
         }
         Ends::Many(tasks) => {
-            let status = status_of_all(report, tasks);
+            let status = status_of_all(rows, tasks);
             text.push_str("{\"result\":[")?;
-            push_results(text, alloc, report, tasks)?;
+            push_results(text, alloc, rows, tasks)?;
             writeln!(text, "],\"status\":\"{status}\"}}")?;
         }
     }
     Ok(())
+}
+
+fn lines_of(
+    alloc: Global,
+    plan: &Plan,
+    rows: Rows<'_>,
+    fates: &[(TaskNo, Fate)],
+) -> Result<String, Memory> {
+    let mut text = String::new(alloc);
+    for index in 0..plan.tasks() {
+        let task = plan.task_at(index);
+        push_row(&mut text, alloc, plan, rows, task, fate_in(fates, task))?;
+    }
+    push_end(&mut text, alloc, plan, rows)?;
+    Ok(text)
 }
 
 /// A JSON object in a line for each task, in the order of their numbers, and one for the result of
@@ -184,13 +210,12 @@ pub fn rows_text(
     report: &Report,
     fates: &[(TaskNo, Fate)],
 ) -> Result<String, Memory> {
-    let mut text = String::new(alloc);
-    for index in 0..plan.tasks() {
-        let task = plan.task_at(index);
-        push_row(&mut text, alloc, plan, report, task, fate_in(fates, task))?;
-    }
-    push_end(&mut text, alloc, plan, report)?;
-    Ok(text)
+    lines_of(alloc, plan, Rows::Run(report.rows.get()), fates)
+}
+
+/// The same of rows of any kind, which don't say whether a task was called.
+pub fn stored_rows_text(alloc: Global, plan: &Plan, rows: &[Row]) -> Result<String, Memory> {
+    lines_of(alloc, plan, Rows::Stored(rows), &[])
 }
 
 /// Whether the result of the canvas is a failure, or that of a member where it is a group.

@@ -28,6 +28,10 @@ pub(crate) enum Given {
     Maybe,
     /// It is this where it isn't.
     Else(&'static str),
+    /// Only where another is, too.
+    With(&'static str),
+    /// Not where another is, and only where a third one is, too.
+    Against(&'static str, &'static str),
 }
 
 /// An argument as the commands' lists have it.
@@ -180,6 +184,25 @@ pub(crate) const COMPLETE: Argument = Argument {
     help: "Gives tasks that a failure reaches their state, where Celery leaves them pending",
 };
 
+pub(crate) const RESULTS: Argument = Argument {
+    name: "results",
+    takes: Takes::Text("FILE"),
+    given: Given::Against("run", "of"),
+    help: "Shows the states of these results of Celery's workers, one a line; `-` is standard input",
+};
+
+pub(crate) const OF: Argument = Argument {
+    name: "of",
+    takes: Takes::Text("HEX22"),
+    given: Given::With("results"),
+    help: "The run whose results they are",
+};
+
+pub(crate) const COMPLETE_RESULTS: Argument = Argument {
+    given: Given::With("results"),
+    ..COMPLETE
+};
+
 impl Argument {
     fn named<'a>(&self, alloc: Global) -> Arg<'a> {
         let argument = Arg::new(alloc, self.name).help(self.help);
@@ -198,12 +221,14 @@ impl Argument {
         }
     }
 
-    fn as_clap<'a>(&self, alloc: Global) -> Arg<'a> {
+    fn as_clap<'a>(&self, alloc: Global) -> Result<Arg<'a>, AllocError> {
         let argument = self.named(alloc);
         match self.given {
-            Given::Always => argument.required(true),
-            Given::Maybe => argument,
-            Given::Else(value) => argument.default_value(value),
+            Given::Always => Ok(argument.required(true)),
+            Given::Maybe => Ok(argument),
+            Given::Else(value) => Ok(argument.default_value(value)),
+            Given::With(other) => argument.requires_arg(other),
+            Given::Against(other, third) => argument.conflicts_with(other)?.requires_arg(third),
         }
     }
 }
@@ -215,7 +240,7 @@ pub(crate) fn arguments_of<'a>(
 ) -> Result<Vec<Arg<'a>>, AllocError> {
     let mut arguments = Vec::with_capacity(alloc, list.len())?;
     for argument in list {
-        arguments.push(argument.as_clap(alloc))?;
+        arguments.push(argument.as_clap(alloc)?)?;
     }
     Ok(arguments)
 }

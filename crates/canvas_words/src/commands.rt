@@ -1,9 +1,9 @@
 //! The commands, each with its arguments.
 
 use crate::arguments::{
-    AGAIN, Argument, BACKEND_DATABASE, BROKER_DATABASE, COMPLETE, EXPIRES, EXPLAIN, FAIL, FILE,
-    FILE_ALONE, JSON, PREFIX, QUEUE, RENAME, RUN, STATES, TASK, TASKS, TURNS, WITHOUT_SCRIPT,
-    WORKERS, arguments_of,
+    AGAIN, Argument, BACKEND_DATABASE, BROKER_DATABASE, COMPLETE, COMPLETE_RESULTS, EXPIRES,
+    EXPLAIN, FAIL, FILE, FILE_ALONE, JSON, OF, PREFIX, QUEUE, RENAME, RESULTS, RUN, STATES, TASK,
+    TASKS, TURNS, WITHOUT_SCRIPT, WORKERS, arguments_of,
 };
 use clap::Command;
 use std::alloc::{AllocError, Global};
@@ -45,7 +45,16 @@ pub(crate) const COMMANDS: [Form; 10] = [
     Form {
         name: "graph",
         about: "Prints a canvas as a picture, in the language of Graphviz's `dot`",
-        arguments: &[FILE, STATES, WORKERS, TASK, TASKS],
+        arguments: &[
+            FILE,
+            STATES,
+            WORKERS,
+            TASK,
+            TASKS,
+            RESULTS,
+            OF,
+            COMPLETE_RESULTS,
+        ],
     },
     Form {
         name: "messages",

@@ -63,10 +63,13 @@ backend, `keys` the keys under which these store its results, and `collect` its 
 on standard input, one a line:
     canvas export FILE --run HEX22 | redis-cli --pipe
     canvas keys FILE --run HEX22 | xargs -r redis-cli --raw MGET | canvas collect FILE --run HEX22
-A run's number is used once. `collect --complete` gives tasks that a failure reaches their state, where Celery
-leaves them pending. They are refused by a name: BadRun (the number), BadCount (fewer or more results than
-tasks), TooLarge (more than 67,108,864 bytes of results), and of a task's result NotJson, OtherTask,
-UnknownState, NotNumber, UnknownException, UnknownDependency.
+A run's number is used once (another is refused as BadRun). `collect --complete` gives tasks that a
+failure reaches their state, where Celery leaves them pending. A result that is no whole number is
+shown as JSON, and an exception of another name by that. `graph FILE --results FILE --of HEX22`
+draws results from a file. Of a canvas with options that are ignored, as queue and countdown,
+`export` says on standard error how many signatures have each. Results are refused by a name:
+BadCount (fewer or more than tasks), TooLarge (more than 67,108,864 bytes), and of a task's result
+NotJson, OtherTask, UnknownState, UnknownException (a failure that names none).
 
 Status:
   0  the answer is on standard output

@@ -1,50 +1,15 @@
-use Rattle.std.proofs.Common.{rules, ◌≡◌, arith, codes, length, sym, ◌∙◌}
+use Rattle.std.proofs.Common.{rules, ◌≡◌, length}
 use Rattle.canvas_semantics.specs.Line.{count_line}
-use Rattle.canvas_celery.specs.Run.{run_task}
-use Rattle.canvas_collect.proofs.Dependency.{in_parts, blamed, same_name}
+use Rattle.canvas_task.specs.Printed.{why_name}
+use Rattle.canvas_collect.proofs.Dependency.{blames_one, one_name}
 use Rattle.canvas_collect.proofs.Identifiers.{full}
 use Rattle.canvas_collect.proofs.stored.dependency_of.Goals as goal
 
-pub returns : goal.returns
-returns c =
-    let dep = c.in_ok-dep.ensures in
-    let raised = c.in_ok-raised.raised.now in
-    let said =
-    in_parts (codes "Dependency ") c.in_ok-text.text.now (run_task c.args.run.now.digits c.in_ok-dep.dep)
-    (codes " raised ") raised c.args.message.now 36 c.in_ok-text.ensures
-    (sym c.split_at.ensures.front ∙ dep.0) (sym c.split_at.ensures.back ∙ c.in_ok-raised.ensures) in
-    (dep.1, dep.2, (raised, said, sym c.split_at_byte.ensures.before ∙ c.in_ok-why.ensures))
+pub returns-in-Some-why_of : goal.returns-in-Some-why_of
+returns-in-Some-why_of c = blames_one c.args.run.now.digits c.args.message.now (count_line c.args.plan.now) _ _ _ c.in-Some.ensures c.in-Some-why_of.ensures
 
-pub returns-in_err-text : goal.returns-in_err-text
-returns-in_err-text c = rw c.from_residual.ensures (λ dep why b. c.in_err-text.ensures _ b.2.1)
-
-pub returns-then-text-lt36 : goal.returns-then-text-lt36
-returns-then-text-lt36 c dep why b =
+pub returns-in-None-why_of : goal.returns-in-None-why_of
+returns-in-None-why_of c dep why b =
     let as_long : length c.args.run.now.digits ≡ 22 = full c.digits-digits.result c.args.run.now.digits c.digits-digits.ensures (search rules) in
-    let parts = blamed c.args.run.now.digits c.in_ok-text.text.now c.args.message.now (count_line c.args.plan.now) dep why as_long c.in_ok-text.ensures b in
-    absurd (omega (arith, parts.long))
-
-pub returns-in_err-dep : goal.returns-in_err-dep
-returns-in_err-dep c =
-    let as_long : length c.args.run.now.digits ≡ 22 = full c.digits-digits.result c.args.run.now.digits c.digits-digits.ensures (search rules) in
-    rw c.from_residual-in_err-dep.ensures
-    (λ dep why b.
-    let parts = blamed c.args.run.now.digits c.in_ok-text.text.now c.args.message.now (count_line c.args.plan.now) dep why as_long c.in_ok-text.ensures b in
-    c.in_err-dep.ensures dep parts.least parts.within (c.split_at.ensures.front ∙ parts.named))
-
-pub returns-in_err-raised : goal.returns-in_err-raised
-returns-in_err-raised c =
-    let as_long : length c.args.run.now.digits ≡ 22 = full c.digits-digits.result c.args.run.now.digits c.digits-digits.ensures (search rules) in
-    rw c.from_residual-in_err-raised.ensures
-    (λ dep why b.
-    let parts = blamed c.args.run.now.digits c.in_ok-text.text.now c.args.message.now (count_line c.args.plan.now) dep why as_long c.in_ok-text.ensures b in
-    c.in_err-raised.ensures parts.raised.0 (c.split_at.ensures.back ∙ parts.raised.1))
-
-pub returns-in_err-why : goal.returns-in_err-why
-returns-in_err-why c =
-    let as_long : length c.args.run.now.digits ≡ 22 = full c.digits-digits.result c.args.run.now.digits c.digits-digits.ensures (search rules) in
-    rw c.from_residual-in_err-why.ensures
-    (λ dep why b.
-    let parts = blamed c.args.run.now.digits c.in_ok-text.text.now c.args.message.now (count_line c.args.plan.now) dep why as_long c.in_ok-text.ensures b in
-    let one = sym parts.raised.1 ∙ (sym c.split_at.ensures.back ∙ c.in_ok-raised.ensures) in
-    c.in_err-why.ensures why (c.split_at_byte.ensures.before ∙ same_name c.in_ok-raised.raised.now parts.raised.0 why one parts.raised.2))
+    c.in-None-why_of.ensures why
+    (one_name c.args.run.now.digits c.args.message.now (count_line c.args.plan.now) _ dep _ (why_name why) as_long c.in-Some.ensures b)

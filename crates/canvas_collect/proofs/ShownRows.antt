@@ -1,0 +1,35 @@
+-- Rows of any kind that are shown, one after the other.
+use Rattle.std.proofs.Common.{◌≡◌, ℕ, suc, ◌+◌, arith, List, [], ◌∷◌, ◌++◌, length, append_assoc, sym, ap, ◌∙◌, subst}
+use Rattle.canvas_task.specs.Text.{Text}
+use Rattle.canvas_collect.specs.declared.row.Row.{Row}
+use Rattle.canvas_collect.specs.Pieces.{lines_in}
+use Rattle.canvas_collect.specs.AsStored.{Shows, AllShown}
+use Rattle.canvas_collect.specs.steps.ShownRows.{GainsRow, AreRead}
+use Rattle.canvas_collect.proofs.Said.{longer}
+
+shown_more : (run : Text) (count k j : ℕ) (lines : List Text) (rows : List Row) (line : Text) (row : Row)
+    → j ≡ k + length rows → AllShown run count k lines rows → Shows run count j line row → AllShown run count k (lines ++ line ∷ []) (rows ++ row ∷ [])
+shown_more run count k j [] [] line row e all shows =
+    let here : j ≡ k = omega (arith, e) in
+    let P : ℕ → Type 0 = λ i. Shows run count i line row in
+    (subst P here shows, tt)
+shown_more run count k j [] (r ∷ rs) line row e all shows = absurd all
+shown_more run count k j (l ∷ ls) [] line row e all shows = absurd all
+shown_more run count k j (l ∷ ls) (r ∷ rs) line row e all shows =
+    let next : j ≡ suc k + length rs = omega (arith, e) in
+    (all.0, shown_more run count (suc k) j ls rs line row next all.1 shows)
+
+pub read_more : (run : Text) (count : ℕ) (text rest line after : Text) (n : ℕ) (old new : List Row)
+    → lines_in rest ≡ line ∷ lines_in after → AreRead run count text rest n old
+    → GainsRow run count (n + 1) line old new → AreRead run count text after (n + 1) new
+read_more run count text rest line after n old new next (before, whole, as_many, rows, all) (row, one, shows) =
+    let moved : lines_in text ≡ (before ++ line ∷ []) ++ lines_in after =
+    whole ∙ (ap (λ ls. before ++ ls) next ∙ sym (append_assoc before (line ∷ []) (lines_in after))) in
+    let here : n + 1 ≡ 1 + length old = omega (arith, rows) in
+    let P : List Row → Type 0 = λ rs. AllShown run count 1 (before ++ line ∷ []) rs in (
+      before ++ line ∷ [],
+      moved,
+      longer before line n as_many,
+      ap (λ rs. length rs) one ∙ longer old row n rows,
+      subst P (sym one) (shown_more run count 1 (n + 1) before old line row here all shows),
+    )

@@ -1,0 +1,91 @@
+//! The rows of a report on tasks of any kind, from the results that Celery stored.
+
+ghost use Rattle.std.specs.Prelude.{◌≡◌, [], length, IfOk, IfErr, OnOk};
+ghost use Rattle.canvas_semantics.specs.Line.{count_line};
+ghost use Rattle.canvas_collect.specs.Pieces.{lines_in};
+ghost use Rattle.canvas_collect.specs.AsStored.{AllShown};
+ghost use Rattle.canvas_collect.specs.Unshown.{IsShowFault};
+ghost use Rattle.canvas_collect.specs.steps.ShownRows.{GainsRow, TaskFault};
+
+use crate::collecting::CollectFault;
+use crate::pieces::{count_lines, split_line};
+use crate::row::Row;
+use crate::showing::read_row;
+use crate::stored::StoredFault;
+use canvas_celery::Run;
+use canvas_rewrite::Plan;
+use canvas_task::TaskNo;
+use std::alloc::Global;
+
+/// The row of a task's line, put behind the others.
+fn push_row(
+    alloc: Global,
+    plan: &Plan,
+    run: &Run,
+    task: TaskNo,
+    line: &[u8],
+    rows: &mut Vec<Row>,
+) -> Result<(), CollectFault>
+    ensures gains { OnOk result (GainsRow run.now.digits (count_line plan.now) task line.now
+        rows.old.items rows.new.items) }
+    ensures refused { IfErr result
+        (TaskFault run.now.digits (count_line plan.now) task line.now) }
+{
+    match read_row(alloc, plan, run, task, line) {
+        Ok(row) => match rows.push(row) {
+            Ok(()) => Ok(()),
+            Err(_) => Err(CollectFault::Memory),
+        },
+        Err(StoredFault::Memory) => Err(CollectFault::Memory),
+        Err(fault) => Err(CollectFault::Stored { task, fault }),
+    }
+}
+
+/// The rows of all tasks, put into an empty list, from a text with a line for each.
+fn push_rows(
+    alloc: Global,
+    plan: &Plan,
+    run: &Run,
+    text: &[u8],
+    rows: &mut Vec<Row>,
+) -> Result<(), CollectFault>
+    requires empty { rows.old.items ≡ [] }
+    requires lines { length (lines_in text.now) ≡ count_line plan.now }
+    ensures count { OnOk result (length rows.new.items ≡ count_line plan.now) }
+    ensures shown { OnOk result (AllShown run.now.digits (count_line plan.now) 1
+        (lines_in text.now) rows.new.items) }
+    ensures refused { IfErr result
+        (IsShowFault run.now.digits (count_line plan.now) (lines_in text.now)) }
+{
+    let mut rest = text;
+    for index in 0..plan.tasks() {
+        let (line, after) = split_line(rest);
+        push_row(alloc, plan, run, plan.task_at(index), line, rows)?;
+        rest = after;
+    }
+    Ok(())
+}
+
+/// As `collect`, for tasks that return and raise anything: a result that is no whole number, or
+/// past 2^60, is shown as it is stored, and another exception by its class. Where there are as many
+/// lines as tasks, only a line that can't be read is refused: no JSON, another task's, an unknown
+/// state, or a failure that names no exception. JSON's numbers past 64 bits are read as floats.
+pub fn collect_as_stored(
+    alloc: Global,
+    plan: &Plan,
+    run: &Run,
+    text: &[u8],
+) -> Result<Vec<Row>, CollectFault>
+    ensures count { IfOk result (λ rows. length rows.items ≡ count_line plan.now) }
+    ensures shown { IfOk result
+        (λ rows. AllShown run.now.digits (count_line plan.now) 1 (lines_in text.now) rows.items) }
+    ensures refused { IfErr result
+        (IsShowFault run.now.digits (count_line plan.now) (lines_in text.now)) }
+{
+    if count_lines(text) != plan.tasks() as usize {
+        return Err(CollectFault::BadCount);
+    }
+    let mut rows = Vec::new(alloc);
+    push_rows(alloc, plan, run, text, &mut rows)?;
+    Ok(rows)
+}
