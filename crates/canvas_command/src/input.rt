@@ -1,6 +1,7 @@
 //! Reading a canvas's text, and the results of its tasks, as far as they can be long.
 
 use crate::refusal::Refusal;
+use crate::unread::Unread;
 use canvas_sig::MOST_BYTES;
 use std::alloc::Global;
 use std::fs;
@@ -69,6 +70,9 @@ fn read_file<S: Files + AllocGlobal>(rt: &S, file: &str) -> io::Result<Vec<u8>> 
 pub(crate) fn unread<'w>(error: &io::Error, file: &'w str) -> Refusal<'w> {
     match error.kind() {
         ErrorKind::OutOfMemory => Refusal::Memory,
-        _ => Refusal::CannotRead(file),
+        _ => Refusal::CannotRead {
+            file,
+            why: Unread::of(error),
+        },
     }
 }

@@ -6,3 +6,4 @@ pub mod Limits
 pub mod Wanted
 pub mod Finding
 pub mod Placed
+pub mod Signed
