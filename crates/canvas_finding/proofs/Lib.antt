@@ -10,3 +10,4 @@ pub mod Reckoning
 pub mod Measures
 pub mod Nested
 pub mod Placed
+pub mod Signatures

@@ -87,7 +87,7 @@ fn signatures_parsed<'a>(
     scratch: &'a mut Scratch,
     bytes: &'a [u8],
 ) -> Result<Vec<Signature>, Memory>
-    ensures { IfOk result (AreSignatures bytes.entry.now) }
+    ensures { IfOk result (λ found. AreSignatures bytes.entry.now found.items) }
 {
     match parse(alloc, arena, scratch, bytes) {
         Ok(value) => Ok(signatures_in(alloc, &value, MOST_LEVELS)?),
@@ -99,7 +99,7 @@ fn signatures_parsed<'a>(
 /// The signatures of a text in file order: a signature before those in it, a header before its
 /// body, and links before error callbacks. Of a text that is no JSON there are none.
 pub fn signatures_of(alloc: Global, bytes: &[u8]) -> Result<Vec<Signature>, Memory>
-    ensures { IfOk result (AreSignatures bytes.now) }
+    ensures { IfOk result (λ found. AreSignatures bytes.now found.items) }
 {
     let arena = Bump::new(alloc);
     let mut scratch = Scratch::new(alloc);

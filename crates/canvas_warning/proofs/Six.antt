@@ -1,5 +1,5 @@
 -- What is foreseen of calls of the six tasks is so of each value that comes in.
-use Rattle.std.proofs.Common.{◌≡◌, zero, suc, Bool, true, false, List, [], ◌∷◌, ◌++◌, Option, Some, None, Ok, Err, ℤ, pos, negsuc, ◌+ℤ◌, ◌*ℤ◌, codes, refl, ap, ◌∙◌, subst}
+use Rattle.std.proofs.Common.{◌≡◌, zero, suc, Bool, true, false, List, [], ◌∷◌, ◌++◌, Option, Some, None, Ok, Err, ℤ, pos, negsuc, ◌+ℤ◌, ◌*ℤ◌, codes, refl, ap, ◌∙◌, subst, arith}
 use Rattle.std.specs.Prelude.{◌&&◌, if◌then◌else◌}
 use Rattle.std.specs.List.{list_all, list_any}
 use Rattle.std.specs.Str.{bytes_eq}
@@ -12,6 +12,7 @@ use Rattle.canvas_task.specs.declared.arg.Arg.TheVariants as arg
 use Rattle.canvas_task.specs.declared.outcome.Kind.TheVariants.{Overflow}
 use Rattle.canvas_task.specs.declared.outcome.Fault.TheVariants.{Plain}
 use Rattle.canvas_task.specs.declared.outcome.Outcome.TheVariants.{Success, Failure}
+use Rattle.canvas_task.proofs.IdentifierLemmas.{task_back}
 use Rattle.canvas_semantics.specs.Tree.{Call}
 use Rattle.canvas_semantics.specs.Evaluation.{Flow, nothing, num, list, id, skip, raised, value, arguments}
 use Rattle.canvas_warning.specs.Calls.{is_type_error, is_unknown_outcome, is_unknown, some_task, fails, fails_behind, taken}
@@ -54,8 +55,7 @@ quotient_fine x (negsuc k) = number_fine (floor_div x (negsuc k))
 
 -- what is no TypeError and one
 never : {b : Bool} → b ≡ false → b ≡ true → ⊥
-never {true} h k = cc
-never {false} h k = cc
+never h k = cc
 
 -- ---- one task, whose first parameter gets this argument, and the others the rest
 
@@ -92,7 +92,7 @@ list_first ident rest ns h = refl
 list_first log_error rest ns h = refl
 
 some_task_named : task_named some_task ≡ Some 1
-some_task_named = refl
+some_task_named = task_back 1 (omega arith) (omega arith)
 
 text_first : (t : KnownTask) (rest : List Arg) (s : Text) → is_type_error (outcome (task_answer t (arg.Text some_task ∷ rest))) ≡ true
     → is_type_error (outcome (task_answer t (arg.Text s ∷ rest))) ≡ true

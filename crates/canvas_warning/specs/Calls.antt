@@ -1,8 +1,9 @@
 -- What a call is expected to become before its canvas runs, by what its task answers to some
 -- arguments (Celery user guide, Canvas: partials, immutability).
-use Rattle.std.specs.Prelude.{Bool, true, false, not, ◌&&◌, ◌||◌, if◌then◌else◌, List, [], ◌∷◌, ◌++◌, codes, pos}
+use Rattle.std.specs.Prelude.{Bool, true, false, not, ◌&&◌, ◌||◌, if◌then◌else◌, List, [], ◌∷◌, ◌++◌, pos}
 use Rattle.canvas_task.specs.Text.{Text}
 use Rattle.canvas_task.specs.Apply.{Behaviour}
+use Rattle.canvas_task.specs.Identifiers.{task_text}
 use Rattle.canvas_task.specs.declared.arg.Arg.{Arg}
 use Rattle.canvas_task.specs.declared.arg.Arg.TheVariants as arg
 use Rattle.canvas_task.specs.declared.outcome.Fault.TheVariants.{Plain}
@@ -32,9 +33,9 @@ is_unknown behaviour name = is_unknown_outcome (behaviour name [] [])
 abbrev pub takes : Behaviour → Text → List Arg → Bool
 takes behaviour name args = not (is_type_error (behaviour name args []))
 
--- the identifier of a task
+-- the identifier of the first task
 abbrev pub some_task : Text
-some_task = codes "00000000-0000-8000-8000-000000000001"
+some_task = task_text 1
 
 abbrev pub one : Arg
 one = arg.Num (pos 1)

@@ -8,13 +8,10 @@ ghost use Rattle.canvas_warning.specs.Calls.{is_type_error, is_unknown_outcome, 
 ghost use Rattle.canvas_values.specs.ComposedRefusals.{its_call};
 
 use crate::{Expected, Input};
-use canvas_task::{Arg, Fault, Kind, ListOf, Outcome, Tasks, TextOf, copy_args};
+use canvas_task::{Arg, Fault, Kind, ListOf, Outcome, TaskNo, Tasks, TextOf, copy_args};
 use canvas_values::TaskSig;
 use std::alloc::{AllocError, Global};
 use std::collections::BTreeMap;
-
-/// The identifier of a task.
-const SOME_TASK: &str = "00000000-0000-8000-8000-000000000001";
 
 fn is_type_error(outcome: &Outcome) -> bool
     ensures { result ≡ is_type_error outcome.now }
@@ -78,10 +75,14 @@ fn list_of_one(alloc: Global) -> Result<Arg, AllocError>
     Ok(Arg::List(ListOf::of(numbers)))
 }
 
+/// The identifier of a task.
 fn some_task(alloc: Global) -> Result<Arg, AllocError>
     ensures { IfOk result (λ arg. arg ≡ Text some_task) }
 {
-    Ok(Arg::Text(TextOf::of(String::from_str(alloc, SOME_TASK)?)))
+    match TaskNo::new(1) {
+        Some(task) => Ok(Arg::Text(TextOf::of(task.to_string(alloc)?))),
+        None => unreachable!(),
+    }
 }
 
 /// Whether some arguments of a few aren't a TypeError: none, one or two numbers, a list of numbers,
@@ -133,11 +134,7 @@ fn fails_behind_numbers<T: Tasks>(tasks: &T, sig: &TaskSig) -> Result<bool, Allo
 }
 
 /// The same of two lists.
-fn fails_behind_lists<T: Tasks>(
-    alloc: Global,
-    tasks: &T,
-    sig: &TaskSig,
-) -> Result<bool, AllocError>
+fn fails_behind_lists<T: Tasks>(alloc: Global, tasks: &T, sig: &TaskSig) -> Result<bool, AllocError>
     ensures { IfOk result (λ b.
         b ≡ fails_behind (T.behaviour tasks.now) (its_call (task_view sig.now)) Numbers) }
 {

@@ -2,7 +2,7 @@
 
 ghost use Rattle.std.specs.Prelude.{◌≡◌, ◌++◌, OnOk, IfOk, map};
 ghost use Rattle.canvas_values.specs.SignatureView.{view, task_view, tasks_of, trees_of};
-ghost use Rattle.canvas_warning.specs.Foreseen.{of_call, task_told, tasks_told, told, elements_told, members_told, out_of, out_of_each};
+ghost use Rattle.canvas_warning.specs.Foreseen.{of_call, task_told, tasks_told, told, elements_told, members_told, out_of, out_of_each, trees_count};
 
 use crate::call::expected;
 use crate::stand::Stand;
@@ -58,6 +58,14 @@ fn push_tasks<T: Tasks>(
     Ok(())
 }
 
+/// How many members there are.
+#[tactic(auto, using(crate::proofs::Views::counted))]
+fn count(nodes: &[Node]) -> usize
+    ensures { result ≡ trees_count (trees_of (map view nodes.now)) }
+{
+    nodes.len()
+}
+
 /// A signature and those in it. It answers what comes out.
 #[cycle(nodes)]
 pub(crate) fn push_node<T: Tasks>(
@@ -81,7 +89,7 @@ pub(crate) fn push_node<T: Tasks>(
             push_elements(alloc, tasks, nodes.get(), stand, found)
         }
         Node::Group(nodes) => {
-            found.push(stand.of_group(nodes.get().len()))?;
+            found.push(stand.of_group(count(nodes.get())))?;
             push_members(
                 alloc,
                 tasks,
@@ -92,7 +100,7 @@ pub(crate) fn push_node<T: Tasks>(
             Ok(Input::Numbers)
         }
         Node::Chord { header, body } => {
-            found.push(stand.of_chord(header.get().len()))?;
+            found.push(stand.of_chord(count(header.get())))?;
             push_members(alloc, tasks, header.get(), stand.of_member(true), found)?;
             push_node(alloc, tasks, body, stand.of_body(), found)
         }
