@@ -6,7 +6,8 @@ use crate::unread::Unread;
 use canvas_views::quoted_json;
 use std::alloc::{AllocError, Global};
 
-const TURNS: &str = "wanted numbers of workers from 1 on, with single commas between them, as 1,2,2";
+const TURNS: &str =
+    "wanted numbers of workers from 1 on, with single commas between them, as 1,2,2";
 
 const AGAIN: &str =
     "wanted numbers of tasks with early or late, and single commas between them, as 1:early,3:late";
