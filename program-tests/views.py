@@ -241,13 +241,13 @@ def in_any_order(text):
 # ---- figures, and where a canvas is refused
 
 
-def figures(canvas):
-    """What `canvas check` prints of a canvas, up to the bytes of its messages."""
+def figures(canvas, stubs=None):
+    """What `canvas check` prints of a canvas first, up to the bytes of its messages."""
     kinds = [kind_of(it) for it in rules.signatures(canvas)]
     groups = kinds.count("group") + kinds.count("chord")
     return ("tasks %d\ngroups and chords %d\nnesting %d\nreach %d\nmessages %d\n"
             "bytes of messages " % (kinds.count(None), groups, rules.nesting(canvas),
-                                    rules.reach(rules.line([canvas])), len(rules.ran(canvas))))
+                                    rules.reach(rules.line([canvas])), len(rules.ran(canvas, stubs))))
 
 
 def in_list(at, found):

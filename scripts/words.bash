@@ -7,7 +7,7 @@ newline=$'\n'
 forms="run FILE [--workers N] [--task NAME=WORD] [--tasks FILE] [--json] [--explain] [--fail]
 turns FILE [--workers N] [--turns LIST] [--again LIST] [--task NAME=WORD] [--tasks FILE] [--json] [--fail]
 normal FILE
-check FILE [--task NAME=WORD] [--tasks FILE]
+check FILE [--task NAME=WORD] [--tasks FILE] [--json] [--strict]
 adapt FILE [--rename #NUMBER=NAME]
 graph FILE [--run] [--workers N] [--task NAME=WORD] [--tasks FILE] [--results FILE] [--of HEX22] [--complete]
 messages FILE [--workers N] [--turns LIST] [--task NAME=WORD] [--tasks FILE]
@@ -277,30 +277,40 @@ refuse_missing() {
   fi
 }
 
+# Sets `fault` to what the program says of a list or a number that is none: a name, and as JSON what is wanted too.
+refuse_named() {
+  fault="canvas: refused $1"
+  if [ -n "${given[--json]+was given}" ]; then fault="{\"name\":\"$1\",\"note\":\"wanted $2\"}"; fi
+}
+
+refuse_turns() { refuse_named BadTurn "numbers of workers from 1 on, with single commas between them, as 1,2,2"; }
+
+refuse_again() { refuse_named BadAgain "numbers of tasks with early or late, and single commas between them, as 1:early,3:late"; }
+
 # Refuses a list of turns or of what is delivered again, or a run's number, that is none.
 refuse_lists() {
   local number word turns=",${given[--turns]:-}," workers="${given[--workers]:-1}" again="${given[--again]:-}"
   if [ "$turns" != ,, ]; then
     if ! [[ "$turns" =~ ^,([1-9][0-9]{0,9},)+$ ]]; then
-      fault="canvas: refused BadTurn"
+      refuse_turns
       return 0
     fi
     for number in ${turns//,/ }; do
-      if [[ "$workers" =~ ^[0-9]+$ ]] && ((number > 10#$workers)); then fault="canvas: refused BadTurn"; fi
+      if [[ "$workers" =~ ^[0-9]+$ ]] && ((number > 10#$workers)); then refuse_turns; fi
     done
   fi
   if [ -n "$fault" ]; then return 0; fi
   if [ -n "$again" ] && ! [[ ",$again" =~ ^(,[1-9][0-9]{0,9}:(early|late))+$ ]]; then
-    fault="canvas: refused BadAgain"
+    refuse_again
     return 0
   fi
   for number in ${again//,/ }; do
-    if ((${number%:*} > 4294967295)); then fault="canvas: refused BadAgain"; fi
+    if ((${number%:*} > 4294967295)); then refuse_again; fi
   done
   if [ -n "$fault" ]; then return 0; fi
   for word in --run --of; do
     if [ -n "${takes[$word]:-}" ] && [ -n "${given[$word]+was given}" ] && ! [[ "${given[$word]}" =~ ^[0-9a-f]{22}$ ]]; then
-      fault="canvas: refused BadRun"
+      refuse_named BadRun "22 lower-case hexadecimal digits"
     fi
   done
 }
@@ -465,6 +475,11 @@ has_input=
 # Whether a file can't be read, as its name shows.
 is_unread() { [ ! -e "$1" ] || [ -d "$1" ] || [ ! -r "$1" ]; }
 
+# Sets `fault` to what the program says of a file that can't be read. As JSON it says why, too, which only the program tells.
+refuse_unread() {
+  if [ -n "${given[--json]+was given}" ]; then is_unsure=1; else fault="canvas: cannot read $1"; fi
+}
+
 # Sets `fault` to what the program says of a file with what tasks answer, and `is_unsure` where only the program tells: of standard input and the like, of long files,
 # and of a byte 0.
 read_tasks() {
@@ -472,7 +487,7 @@ read_tasks() {
   local -a lines=()
   is_unsure=''
   if [ "$file" != - ] && is_unread "$file"; then
-    fault="canvas: cannot read $file"
+    refuse_unread "$file"
   elif [ "$file" = - ] || [ ! -f "$file" ] || (($(wc -c <"$file") > 65536)); then
     is_unsure=1
   else
@@ -484,7 +499,7 @@ read_tasks() {
     if ((bytes != $(wc -c <"$file"))); then
       is_unsure=1
     elif ! are_texts "${lines[@]}"; then
-      fault="canvas: cannot read $file"
+      refuse_unread "$file"
     fi
   fi
   named=()
@@ -501,7 +516,7 @@ read_file() {
   local file="$1" is_empty='' is_unsure=''
   fault=''
   if [ "$file" = - ] && { [ "$command" = collect ] || [ "${given[--tasks]-}" = - ] || [ "${given[--results]-}" = - ]; }; then
-    fault="canvas: cannot read -"
+    refuse_unread -
     return 0
   fi
   if [ -n "${given[--tasks]+was given}" ]; then read_tasks "${given[--tasks]}"; fi
@@ -509,11 +524,11 @@ read_file() {
   if [ "$file" = - ]; then
     take_input
     case "$has_input" in
-      unread) fault="canvas: cannot read -" ;;
+      unread) refuse_unread - ;;
       empty) is_empty=1 ;;
     esac
   elif is_unread "$file"; then
-    fault="canvas: cannot read $file"
+    refuse_unread "$file"
   elif [ -f "$file" ] && [ "$(head -c 1 -- "$file" | wc -c)" = 0 ]; then
     is_empty=1
   fi
@@ -524,9 +539,9 @@ read_file() {
 refuse_empty() {
   local what="found no JSON (EOF while parsing), wanted one JSON text in UTF-8"
   fault="canvas: refused 2 NotJson"
-  if [ "$command" = check ]; then
-    fault="invalid JSON at line 1 column 0$newline$what$newline$fault"
-  elif [ -n "${given[--json]+was given}" ]; then
+  if [ -n "${given[--json]+was given}" ]; then
     fault="{\"code\":2,\"column\":0,\"line\":1,\"name\":\"NotJson\",\"note\":\"$what\",\"pointer\":null}"
+  elif [ "$command" = check ]; then
+    fault="invalid JSON at line 1 column 0$newline$what$newline$fault"
   fi
 }

@@ -2,6 +2,7 @@
 
 use crate::celery::CeleryRefusal;
 use crate::refusal::Refusal;
+use crate::unread::Unread;
 use canvas_sig::MOST_BYTES;
 use std::alloc::Global;
 use std::fs;
@@ -89,6 +90,9 @@ where
 fn unread<'w>(error: &io::Error, file: &'w str) -> Refusal<'w> {
     match error.kind() {
         ErrorKind::OutOfMemory => Refusal::Memory,
-        _ => Refusal::CannotRead(file),
+        _ => Refusal::CannotRead {
+            file,
+            why: Unread::of(error),
+        },
     }
 }

@@ -25,12 +25,13 @@ pub(crate) enum Form {
 #[derive(Clone, Copy)]
 pub(crate) struct Manner {
     pub(crate) form: Form,
-    /// Whether a failure of the canvas has a status of its own.
+    /// Whether a failure of the canvas, or a warning, has a status of its own.
     pub(crate) fails: bool,
 }
 
-/// The status of a canvas whose result is a failure, where that is asked for.
-const FAILED: u8 = 3;
+/// The status of a canvas whose result is a failure, or of which something is warned, where that is
+/// asked for.
+pub(crate) const FAILED: u8 = 3;
 
 impl Manner {
     /// Whether a report is printed as ever, and its result doesn't count.

@@ -8,3 +8,4 @@ pub mod Finding
 pub mod Placed
 pub mod Ignored
 pub mod Naming
+pub mod Signed

@@ -119,7 +119,8 @@ fn find_in(
     }
 }
 
-fn name_in(alloc: Global, value: &Datum<'_>) -> Result<Option<String>, AllocError> {
+/// The task that a signature names, where that is a name.
+pub(crate) fn name_in(alloc: Global, value: &Datum<'_>) -> Result<Option<String>, AllocError> {
     let task = value.get("task");
     if is_name(task) {
         Ok(Some(text_of(alloc, task)?))

@@ -15,11 +15,13 @@ mod limits;
 mod listing;
 mod notes;
 mod shown;
+mod signature;
 mod step;
 
 pub use depths::{Depths, depths_of};
 pub use finding::{Finding, Spot, find};
 pub use ignored::ignored_options;
+pub use signature::{Signature, signatures_of};
 pub use step::{Field, Step, pointer_text};
 
 /// The refusal of the first signature that is refused for itself, in file order, is the one that

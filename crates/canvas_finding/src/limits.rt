@@ -40,7 +40,7 @@ fn leads_to_member(steps: &[Step]) -> bool
     }
 }
 
-fn leads_to_header_group(steps: &[Step]) -> bool
+pub(crate) fn leads_to_header_group(steps: &[Step]) -> bool
     ensures { result ≡ is_header_group (last_of steps.now) }
 {
     match steps.last() {

@@ -107,6 +107,20 @@ pub(crate) const JSON: Argument = Argument {
     help: "Prints each task, and then the result, as a JSON object in a line; refusals too",
 };
 
+pub(crate) const FIGURES_JSON: Argument = Argument {
+    name: "json",
+    takes: Takes::Nothing,
+    given: Given::Maybe,
+    help: "Prints the figures, and each warning, as a JSON object in a line; refusals too",
+};
+
+pub(crate) const STRICT: Argument = Argument {
+    name: "strict",
+    takes: Takes::Nothing,
+    given: Given::Maybe,
+    help: "Ends with status 3 where there is a warning",
+};
+
 pub(crate) const EXPLAIN: Argument = Argument {
     name: "explain",
     takes: Takes::Nothing,

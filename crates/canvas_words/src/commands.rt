@@ -2,8 +2,8 @@
 
 use crate::arguments::{
     AGAIN, Argument, BACKEND_DATABASE, BROKER_DATABASE, COMPLETE, COMPLETE_RESULTS, EXPIRES,
-    EXPLAIN, FAIL, FILE, FILE_ALONE, JSON, OF, PREFIX, QUEUE, RENAME, RESULTS, RUN, STATES, TASK,
-    TASKS, TURNS, WITHOUT_SCRIPT, WORKERS, arguments_of,
+    EXPLAIN, FAIL, FIGURES_JSON, FILE, FILE_ALONE, JSON, OF, PREFIX, QUEUE, RENAME, RESULTS, RUN,
+    STATES, STRICT, TASK, TASKS, TURNS, WITHOUT_SCRIPT, WORKERS, arguments_of,
 };
 use clap::Command;
 use std::alloc::{AllocError, Global};
@@ -34,8 +34,8 @@ pub(crate) const COMMANDS: [Form; 10] = [
     },
     Form {
         name: "check",
-        about: "Prints the figures of a canvas, or where it is refused and what is wanted there",
-        arguments: &[FILE, TASK, TASKS],
+        about: "Prints the figures of a canvas and what may surprise, or where it is refused and why",
+        arguments: &[FILE, TASK, TASKS, FIGURES_JSON, STRICT],
     },
     Form {
         name: "adapt",

@@ -23,6 +23,12 @@ The report stays as it is: a store of a message that was run before answers Agai
 and standard error says how many did. A list is written as one of turns is, and another is refused
 (BadAgain).
 
+The six tasks are tasks.add(x, y), tasks.mul(x, y), tasks.div(x, y), which rounds down,
+tasks.ident(x), tasks.xsum(numbers), which adds up a list, and tasks.log_error(uuid), which gives
+the number of the task with that identifier. An argument is a whole number from -2^60 to 2^60, a
+list of such (numbers), or a text (uuid). What comes in is the first, unless the signature is
+immutable. An argument of another kind, or one too many or too few, is a TypeError.
+
 `--task NAME=WORD` says what a task of that name answers to any call: a whole number, or
 `raise:KIND`, where KIND is TypeError, ZeroDivisionError, OverflowError or NotRegistered. With the
 word add, div, ident, log_error, mul or xsum it answers as tasks.add and so on. It may be given
@@ -34,8 +40,14 @@ The normal line of a canvas means the same as the canvas: some tasks, then at mo
 A chain in a chain is flattened, and a group or chord that something follows is a chord whose body is
 all that follows.
 
-`check` prints what a run of a canvas takes; of one that is refused, the JSON pointer (RFC 6901) to the
-first signature that has the refusal, what was found there, and what is wanted.
+`check` prints what a run of a canvas takes, and behind that a warning for each thing that may
+surprise, with the JSON pointer (RFC 6901) to the first signature that has it, and its kind:
+NotRegistered, a name that no task has; TypeError, a call that is one whatever comes in;
+ignored-options; and where Celery 5 does otherwise, failure-before-group, failed-nested-chord and
+group-of-one (docs/CELERY.md). Of a canvas that is refused it prints the pointer to the first
+signature that has the refusal, what was found there, and what is wanted. With --json these are
+objects: one for the figures, one for each warning (count, name, note, pointer, task), and a refusal
+as `run --json` prints it.
 
 `adapt` prints the canvas as it is where that can be run. Else it makes short texts of arguments
 that are no whole numbers, texts or lists of whole numbers; gives the links and error callbacks of
@@ -50,9 +62,10 @@ another number; a text of another kind, or a number that no task has, is refused
 result, status, task_id), and one for the result (result, status). A failure's result has exc_type
 and exc_message, as Celery stores it. A task that wasn't called has ran false; where it failed all
 the same, due_to is the task whose exception it shows, or that its ChordError names. A canvas that
-is refused gives an object with code, name, note and pointer on standard error. `run --explain` says
-the same in words, with #2 for the identifier of task 2. A run that ends early doesn't say which
-tasks were called.
+is refused gives an object with code, name, note and pointer on standard error; a file that can't be
+read, and a bad list or run's number, one with name and note. `run --explain` says the same in
+words, with #2 for the identifier of task 2. A run that ends early doesn't say which tasks were
+called.
 
 `graph` prints a picture for Graphviz, as in `canvas graph FILE --run | dot -Tsvg -o canvas.svg`: from left to
 right in time, groups and chords as frames, links and error callbacks dashed. `messages` prints what a
@@ -75,7 +88,8 @@ Status:
   0  the answer is on standard output
   1  refused: the command line, the file, the canvas or the output; standard error says why
   2  ended early for want of memory; standard output has what was stored, where memory was left for it
-  3  with --fail: the report is on standard output, and the canvas's result is a failure
+  3  with --fail: the report is on standard output, and the canvas's result is a failure; with --strict:
+     there is a warning
 
 A canvas is refused by one line, `canvas: refused CODE NAME`:
    1 TooLarge          more than 1,048,576 bytes

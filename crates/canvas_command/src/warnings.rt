@@ -1,0 +1,267 @@
+//! What `canvas check` warns of: what may surprise of a canvas that is accepted.
+
+use canvas_finding::{Signature, pointer_text, signatures_of};
+use canvas_sig::Canvas;
+use canvas_task::{Memory, Tasks};
+use canvas_views::quoted_json;
+use canvas_warning::{Expected, Forecast, Input, forecasts};
+use std::alloc::{AllocError, Global};
+use std::collections::BTreeMap;
+
+/// What is warned of, once a signature at most.
+#[derive(Clone, Copy)]
+enum Concern {
+    NotRegistered,
+    TypeError(Input),
+    LeftPending,
+    NestedChord,
+    Unrolled,
+}
+
+impl Concern {
+    /// The name of the exception, or that of the row in docs/CELERY.md.
+    fn name(self) -> &'static str {
+        match self {
+            Concern::NotRegistered => "NotRegistered",
+            Concern::TypeError(_) => "TypeError",
+            Concern::LeftPending => "failure-before-group",
+            Concern::NestedChord => "failed-nested-chord",
+            Concern::Unrolled => "group-of-one",
+        }
+    }
+
+    fn note(self) -> &'static str {
+        match self {
+            Concern::NotRegistered => "no task has this name",
+            Concern::TypeError(Input::Nothing) => "its call is a TypeError",
+            Concern::TypeError(Input::Number) => {
+                "its call is a TypeError behind the number that comes in"
+            }
+            Concern::TypeError(Input::Numbers) => {
+                "its call is a TypeError behind the list that comes in"
+            }
+            Concern::TypeError(Input::Identifier) => {
+                "its call is a TypeError behind the identifier that comes in"
+            }
+            Concern::LeftPending => "Celery leaves it pending where the task before it fails",
+            Concern::NestedChord => {
+                "Celery leaves the outer chord's body pending where a member of it fails"
+            }
+            Concern::Unrolled => "Celery puts its one member in its place",
+        }
+    }
+}
+
+/// A warning.
+#[derive(Drop)]
+struct Warning {
+    name: &'static str,
+    note: String,
+    /// The pointer to the first signature that has it.
+    pointer: String,
+    /// The task that this names.
+    task: String,
+    /// How many have it.
+    count: usize,
+}
+
+/// What is warned of, in file order.
+#[derive(Drop)]
+pub(crate) struct Warnings {
+    alloc: Global,
+    found: Vec<Warning>,
+    /// Which warning is that of a name, or of an option.
+    counted: BTreeMap<String, usize>,
+}
+
+impl Warnings {
+    fn push(
+        &mut self,
+        signature: &Signature,
+        name: &'static str,
+        note: String,
+    ) -> Result<(), AllocError> {
+        let pointer = pointer_text(self.alloc, &signature.steps)?;
+        let task = match &signature.name {
+            Some(name) => name.clone()?,
+            None => String::new(self.alloc),
+        };
+        self.found.push(Warning {
+            name,
+            note,
+            pointer,
+            task,
+            count: 1,
+        })?;
+        Ok(())
+    }
+
+    /// The same once for all that have a key. The others are counted.
+    fn push_once(
+        &mut self,
+        signature: &Signature,
+        key: String,
+        name: &'static str,
+        note: String,
+    ) -> Result<(), AllocError> {
+        if let Some(index) = self.counted.get(key.as_str()).copied() {
+            self.count_one(index);
+            return Ok(());
+        }
+        let next = self.found.len();
+        drop(self.counted.insert(key, next)?);
+        self.push(signature, name, note)
+    }
+
+    fn count_one(&mut self, index: usize) {
+        if let Some(warning) = self.found.get_mut(index) {
+            warning.count = warning.count.saturating_add(1);
+        }
+    }
+
+    fn push_concern(&mut self, signature: &Signature, concern: Concern) -> Result<(), AllocError> {
+        let note = String::from_str(self.alloc, concern.note())?;
+        self.push(signature, concern.name(), note)
+    }
+
+    /// A name that no task answers to, once for all that have it.
+    fn push_unknown(&mut self, signature: &Signature) -> Result<(), AllocError> {
+        let task = signature.name.as_deref().unwrap_or("");
+        let key = format!(in self.alloc; "task {task}")?;
+        let concern = Concern::NotRegistered;
+        let note = String::from_str(self.alloc, concern.note())?;
+        self.push_once(signature, key, concern.name(), note)
+    }
+
+    fn push_expected(
+        &mut self,
+        signature: &Signature,
+        expected: Expected,
+    ) -> Result<(), AllocError> {
+        match expected {
+            Expected::Answer => Ok(()),
+            Expected::Unknown => self.push_unknown(signature),
+            Expected::TypeError(input) => {
+                self.push_concern(signature, Concern::TypeError(input))
+            }
+        }
+    }
+
+    fn push_forecast(
+        &mut self,
+        signature: &Signature,
+        forecast: &Forecast,
+    ) -> Result<(), AllocError> {
+        self.push_expected(signature, forecast.expected)?;
+        if forecast.is_left_pending {
+            self.push_concern(signature, Concern::LeftPending)?;
+        }
+        if forecast.is_nested_chord {
+            self.push_concern(signature, Concern::NestedChord)?;
+        }
+        if forecast.is_unrolled {
+            self.push_concern(signature, Concern::Unrolled)?;
+        }
+        Ok(())
+    }
+
+    /// The options that are ignored, each once for all that have it.
+    fn push_ignored(&mut self, signature: &Signature) -> Result<(), AllocError> {
+        for option in &signature.ignored {
+            let note = format!(in self.alloc; "options.{option} is ignored")?;
+            let key = format!(in self.alloc; "option {option}")?;
+            self.push_once(signature, key, "ignored-options", note)?;
+        }
+        Ok(())
+    }
+
+    /// What is warned of signatures, of which all but the groups of headers have forecasts.
+    fn push_all(
+        &mut self,
+        signatures: &[Signature],
+        forecasts: &[Forecast],
+    ) -> Result<(), AllocError> {
+        let mut left = forecasts.iter();
+        for signature in signatures {
+            if !signature.is_header_group
+                && let Some(forecast) = left.next()
+            {
+                self.push_forecast(signature, forecast)?;
+            }
+            self.push_ignored(signature)?;
+        }
+        Ok(())
+    }
+
+    pub(crate) fn is_empty(&self) -> bool {
+        self.found.is_empty()
+    }
+
+    /// Writes each as a line, for a person.
+    pub(crate) fn push_lines(&self, text: &mut String) -> Result<(), AllocError> {
+        for warning in &self.found {
+            push_line(text, warning)?;
+        }
+        Ok(())
+    }
+
+    /// Writes each as a JSON object in a line.
+    pub(crate) fn push_objects(&self, text: &mut String) -> Result<(), AllocError> {
+        for warning in &self.found {
+            push_object(self.alloc, text, warning)?;
+        }
+        Ok(())
+    }
+}
+
+fn push_line(text: &mut String, warning: &Warning) -> Result<(), AllocError> {
+    let Warning {
+        name,
+        note,
+        pointer,
+        task,
+        count,
+    } = warning;
+    let at = if pointer.is_empty() {
+        "the top"
+    } else {
+        pointer.as_str()
+    };
+    write!(text, "warning at {at} ({task})")?;
+    if *count > 1 {
+        write!(text, ", the first of {count}")?;
+    }
+    writeln!(text, ": {note} ({name})")?;
+    Ok(())
+}
+
+fn push_object(alloc: Global, text: &mut String, warning: &Warning) -> Result<(), AllocError> {
+    let note = quoted_json(alloc, &warning.note)?;
+    let pointer = quoted_json(alloc, &warning.pointer)?;
+    let task = quoted_json(alloc, &warning.task)?;
+    let count = warning.count;
+    let name = warning.name;
+    writeln!(
+        text,
+        "{{\"count\":{count},\"name\":\"{name}\",\"note\":{note},\"pointer\":{pointer},\"task\":{task}}}"
+    )?;
+    Ok(())
+}
+
+/// What is warned of a canvas that a text spells.
+pub(crate) fn warnings_of<T: Tasks>(
+    alloc: Global,
+    tasks: &T,
+    canvas: &Canvas,
+    text: &[u8],
+) -> Result<Warnings, Memory> {
+    let forecasts = forecasts(alloc, canvas, tasks)?;
+    let signatures = signatures_of(alloc, text)?;
+    let mut warnings = Warnings {
+        alloc,
+        found: Vec::new(alloc),
+        counted: BTreeMap::new(alloc),
+    };
+    warnings.push_all(&signatures, &forecasts)?;
+    Ok(warnings)
+}

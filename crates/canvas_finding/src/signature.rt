@@ -1,0 +1,107 @@
+//! The signatures of a text that is accepted, with what they have that is ignored.
+
+ghost use Rattle.std.specs.Prelude.{◌≡◌, ◌≤◌, IfOk, map};
+ghost use Rattle.serde_json.specs.Data.{depth};
+ghost use Rattle.canvas_sig.specs.Datum.{view};
+ghost use Rattle.canvas_finding.specs.FileOrder.{signatures};
+ghost use Rattle.canvas_finding.specs.Places.{shown};
+ghost use Rattle.canvas_finding.specs.Signed.{listed_steps, sighted_steps, AreSignatures};
+
+use crate::finding::name_in;
+use crate::limits::leads_to_header_group;
+use crate::listing::{Place, places_of};
+use crate::step::Step;
+use bumpalo::Bump;
+use canvas_sig::SigFault;
+use canvas_sig::parts::{Datum, MOST_LEVELS, parse};
+use canvas_task::Memory;
+use json::Scratch;
+use std::alloc::{AllocError, Global};
+
+/// A signature of a text.
+#[derive(Drop)]
+pub struct Signature {
+    /// What leads to it.
+    pub steps: Vec<Step>,
+    /// The task that it names, where that is a name.
+    pub name: Option<String>,
+    /// Whether it is the group that a header is written as, of which a canvas has only the members.
+    pub is_header_group: bool,
+    /// The names of the options that are ignored: all that are there but its callbacks.
+    pub ignored: Vec<String>,
+}
+
+/// Whether an option is there and is ignored. `chord` is refused where it is there.
+fn is_ignored(name: &str, value: &Datum<'_>) -> bool {
+    !matches!(value, Datum::Null) && !matches!(name, "link" | "link_error" | "chord")
+}
+
+fn ignored_in(alloc: Global, value: &Datum<'_>) -> Result<Vec<String>, AllocError> {
+    let mut found = Vec::new(alloc);
+    if let Some(Datum::Object(members)) = value.get("options") {
+        for (name, value) in members.iter() {
+            if is_ignored(name, value) {
+                found.push(String::from_str(alloc, name)?)?;
+            }
+        }
+    }
+    Ok(found)
+}
+
+fn signature_at(alloc: Global, place: Place<'_>) -> Result<Signature, AllocError>
+    ensures { IfOk result (λ s. listed_steps s ≡ sighted_steps (shown place.entry)) }
+{
+    let name = name_in(alloc, place.value)?;
+    let ignored = ignored_in(alloc, place.value)?;
+    let is_header_group = leads_to_header_group(&place.steps);
+    Ok(Signature {
+        steps: place.steps,
+        name,
+        is_header_group,
+        ignored,
+    })
+}
+
+fn signatures_at(alloc: Global, places: Vec<Place<'_>>) -> Result<Vec<Signature>, AllocError>
+    ensures { IfOk result (λ found.
+        map listed_steps found.items ≡ map sighted_steps (map shown places.entry.items)) }
+{
+    let mut found = Vec::new(alloc);
+    for place in places {
+        found.push(signature_at(alloc, place)?)?;
+    }
+    Ok(found)
+}
+
+fn signatures_in(alloc: Global, value: &Datum<'_>, left: u32) -> Result<Vec<Signature>, AllocError>
+    requires { depth (view value.now) ≤ left }
+    ensures { IfOk result (λ found.
+        map listed_steps found.items ≡ map sighted_steps (signatures (view value.now))) }
+{
+    signatures_at(alloc, places_of(alloc, value, left)?)
+}
+
+fn signatures_parsed<'a>(
+    alloc: Global,
+    arena: &'a Bump,
+    scratch: &'a mut Scratch,
+    bytes: &'a [u8],
+) -> Result<Vec<Signature>, Memory>
+    ensures { IfOk result (λ found. AreSignatures bytes.entry.now found.items) }
+{
+    match parse(alloc, arena, scratch, bytes) {
+        Ok(value) => Ok(signatures_in(alloc, &value, MOST_LEVELS)?),
+        Err(SigFault::Memory) => Err(Memory),
+        Err(_) => Ok(Vec::new(alloc)),
+    }
+}
+
+/// The signatures of a text in file order: a signature before those in it, a header before its
+/// body, and links before error callbacks. Of a text that is no JSON there are none.
+pub fn signatures_of(alloc: Global, bytes: &[u8]) -> Result<Vec<Signature>, Memory>
+    ensures { IfOk result (λ found. AreSignatures bytes.now found.items) }
+{
+    let arena = Bump::new(alloc);
+    let mut scratch = Scratch::new(alloc);
+    signatures_parsed(alloc, &arena, &mut scratch, bytes)
+}

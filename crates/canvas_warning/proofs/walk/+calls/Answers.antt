@@ -1,0 +1,25 @@
+use Rattle.std.proofs.Common.{◌∙◌, ◌++◌, ◌∷◌, [], map, ap, sym}
+use Rattle.canvas_values.specs.SignatureView.{task_view, tasks_of}
+use Rattle.canvas_values.specs.ComposedRefusals.{its_call}
+use Rattle.canvas_values.specs.declared.task_sig.TaskSig.{out-TaskSig}
+use Rattle.canvas_warning.specs.Calls.{expected}
+use Rattle.canvas_warning.specs.Foreseen.{of_call, tasks_told}
+use Rattle.canvas_warning.specs.declared.stand.Input.TheVariants.{Number, Identifier}
+use Rattle.canvas_warning.proofs.Views.{ok_same, task_is, two}
+use Rattle.canvas_warning.proofs.walk.+calls.Goals as goal
+
+pub push_task-returns : goal.push_task-returns
+push_task-returns g t c =
+    let sig = out-TaskSig c.args.sig.now in
+    let before = c.args.found.now.items in
+    let tasks = g.T.Tasks.behaviour c.args.tasks.now in
+    let call = of_call (expected tasks (its_call (task_view c.args.sig.now)) c.args.input) in
+    let links = ap (λ ts. tasks_told tasks (tasks_of (map task_view ts)) Number) (c.deref.ensures.value ∙ c.get.ensures) in
+    let errbacks = ap (λ ts. tasks_told tasks (tasks_of (map task_view ts)) Identifier) (c.deref-2.ensures.value ∙ c.get-2.ensures) in
+    let told = c.forecast_of.ensures ∙ ap of_call c.in_ok-expected.ensures in
+    ok_same _ _ (c.push_tasks.new.found.items ++ tasks_told tasks (tasks_of (map task_view c.deref-2.result.now)) Identifier) _
+    (two before call _ _ (tasks_told tasks (tasks_of (map task_view sig.links)) Number)
+    (tasks_told tasks (tasks_of (map task_view sig.errbacks)) Identifier) c.push.new.self.items c.push_tasks.new.found.items
+    (c.in_ok-push.ensures.items ∙ ap (λ f. before ++ f ∷ []) told) c.in_ok-push_tasks.ensures links errbacks
+    ∙ ap (λ fs. before ++ fs) (sym (task_is tasks c.args.sig.now c.args.input)))
+    c.push_tasks-2.ensures

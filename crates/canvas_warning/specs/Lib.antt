@@ -1,0 +1,4 @@
+pub mod Calls
+pub mod Standing
+pub mod Foreseen
+pub mod SixLaws

@@ -1,0 +1,148 @@
+//! The walk over a canvas in file order.
+
+ghost use Rattle.std.specs.Prelude.{◌≡◌, ◌++◌, OnOk, IfOk, map};
+ghost use Rattle.canvas_values.specs.SignatureView.{view, task_view, tasks_of, trees_of};
+ghost use Rattle.canvas_warning.specs.Foreseen.{of_call, task_told, tasks_told, told, elements_told, members_told, out_of, out_of_each, trees_count};
+
+use crate::call::expected;
+use crate::stand::Stand;
+use crate::{Expected, Forecast, Input};
+use canvas_task::Tasks;
+use canvas_values::{Node, TaskSig};
+use std::alloc::{AllocError, Global};
+
+/// What is foreseen of a signature that is no group and no chord.
+fn forecast_of(call: Expected) -> Forecast
+    ensures { result ≡ of_call call }
+{
+    Forecast {
+        expected: call,
+        is_left_pending: false,
+        is_nested_chord: false,
+        is_unrolled: false,
+    }
+}
+
+/// A task, its links and its error callbacks.
+#[cycle(calls)]
+#[tactic(auto, using(crate::proofs::Views::task_is))]
+fn push_task<T: Tasks>(
+    alloc: Global,
+    tasks: &T,
+    sig: &TaskSig,
+    input: Input,
+    found: &mut Vec<Forecast>,
+) -> Result<(), AllocError>
+    ensures { OnOk result (found.new.items
+        ≡ found.old.items ++ task_told (T.behaviour tasks.now) (task_view sig.now) input) }
+{
+    found.push(forecast_of(expected(alloc, tasks, sig, input)?))?;
+    push_tasks(alloc, tasks, sig.links.get(), Input::Number, found)?;
+    push_tasks(alloc, tasks, sig.errbacks.get(), Input::Identifier, found)
+}
+
+#[cycle(calls)]
+fn push_tasks<T: Tasks>(
+    alloc: Global,
+    tasks: &T,
+    sigs: &[TaskSig],
+    input: Input,
+    found: &mut Vec<Forecast>,
+) -> Result<(), AllocError>
+    ensures { OnOk result (found.new.items ≡ found.old.items
+        ++ tasks_told (T.behaviour tasks.now) (tasks_of (map task_view sigs.now)) input) }
+{
+    for sig in sigs {
+        push_task(alloc, tasks, sig, input, found)?;
+    }
+    Ok(())
+}
+
+/// How many members there are.
+#[tactic(auto, using(crate::proofs::Views::counted))]
+fn count(nodes: &[Node]) -> usize
+    ensures { result ≡ trees_count (trees_of (map view nodes.now)) }
+{
+    nodes.len()
+}
+
+/// A signature and those in it. It answers what comes out.
+#[cycle(nodes)]
+pub(crate) fn push_node<T: Tasks>(
+    alloc: Global,
+    tasks: &T,
+    node: &Node,
+    stand: Stand,
+    found: &mut Vec<Forecast>,
+) -> Result<Input, AllocError>
+    ensures told { OnOk result (found.new.items
+        ≡ found.old.items ++ told (T.behaviour tasks.now) (view node.now) stand) }
+    ensures out { IfOk result (λ i. i ≡ out_of (view node.now) stand.input) }
+{
+    match node {
+        Node::Task(sig) => {
+            push_task(alloc, tasks, sig, stand.input, found)?;
+            Ok(Input::Number)
+        }
+        Node::Chain(nodes) => {
+            found.push(forecast_of(Expected::Answer))?;
+            push_elements(alloc, tasks, nodes.get(), stand, found)
+        }
+        Node::Group(nodes) => {
+            found.push(stand.of_group(count(nodes.get())))?;
+            push_members(
+                alloc,
+                tasks,
+                nodes.get(),
+                stand.of_member(stand.is_followed),
+                found,
+            )?;
+            Ok(Input::Numbers)
+        }
+        Node::Chord { header, body } => {
+            found.push(stand.of_chord(count(header.get())))?;
+            push_members(alloc, tasks, header.get(), stand.of_member(true), found)?;
+            push_node(alloc, tasks, body, stand.of_body(), found)
+        }
+    }
+}
+
+/// The elements of a chain. They answer what comes out of the last.
+#[cycle(nodes)]
+fn push_elements<T: Tasks>(
+    alloc: Global,
+    tasks: &T,
+    nodes: &[Node],
+    stand: Stand,
+    found: &mut Vec<Forecast>,
+) -> Result<Input, AllocError>
+    ensures told { OnOk result (found.new.items ≡ found.old.items
+        ++ elements_told (T.behaviour tasks.now) (trees_of (map view nodes.now)) stand) }
+    ensures out { IfOk result (λ i. i ≡ out_of_each (trees_of (map view nodes.now)) stand.input) }
+{
+    let mut here = stand;
+    let mut left = nodes.len();
+    for node in nodes {
+        left -= 1;
+        let out = push_node(alloc, tasks, node, here.before(left), found)?;
+        here = here.behind(out);
+    }
+    Ok(here.input)
+}
+
+#[cycle(nodes)]
+fn push_members<T: Tasks>(
+    alloc: Global,
+    tasks: &T,
+    nodes: &[Node],
+    stand: Stand,
+    found: &mut Vec<Forecast>,
+) -> Result<(), AllocError>
+    ensures { OnOk result (found.new.items ≡ found.old.items
+        ++ members_told (T.behaviour tasks.now) (trees_of (map view nodes.now)) stand) }
+{
+    for node in nodes {
+        push_node(alloc, tasks, node, stand, found)?;
+    }
+    Ok(())
+}
