@@ -1,7 +1,8 @@
-//! Reading a canvas's text, and the results of its tasks, as far as they can be long.
+//! Reading a canvas's text, lines with a canvas each, and the results of tasks, as far as they can
+//! be long.
 
 use crate::refusal::Refusal;
-use canvas_sig::MOST_BYTES;
+use canvas_sig::{MOST_BYTES, SigFault};
 use std::alloc::Global;
 use std::fs;
 use std::io::{self, ErrorKind, Read};
@@ -9,6 +10,9 @@ use std::rt::Files;
 
 /// The most bytes of results that are taken: 64 KiB for each of 1,024 tasks.
 pub(crate) const MOST_RESULTS: usize = 67_108_864;
+
+/// The most bytes of lines with a canvas each: 64 of the longest.
+const MOST_LINES: usize = 67_108_864;
 
 const CHUNK: usize = 8192;
 
@@ -32,17 +36,13 @@ fn read_at_most<R: Read>(alloc: Global, reader: &mut R, most: usize) -> io::Resu
     Err(io::Error::from(ErrorKind::Other))
 }
 
-/// The text of a canvas, with one byte more than the longest has, so that a longer one shows.
-fn read_text<R: Read>(alloc: Global, reader: &mut R) -> io::Result<Vec<u8>> {
-    read_at_most(alloc, reader, MOST_BYTES + 1)
-}
-
 /// The results, with one byte more than are taken, so that more of them show.
 pub(crate) fn read_results<R: Read>(alloc: Global, reader: &mut R) -> io::Result<Vec<u8>> {
     read_at_most(alloc, reader, MOST_RESULTS + 1)
 }
 
-/// The text of a file, or of the input where it is named `-`.
+/// The text of a canvas from a file, or from the input where it is named `-`, with one byte more
+/// than the longest has, so that a longer one shows.
 pub(crate) fn text_of<'w, S, R: Read>(
     rt: &S,
     file: &'w str,
@@ -51,10 +51,38 @@ pub(crate) fn text_of<'w, S, R: Read>(
 where
     S: Files + AllocGlobal,
 {
+    read_from(rt, file, input, MOST_BYTES + 1)
+}
+
+/// Lines with a canvas each, likewise. More bytes than are taken are refused.
+pub(crate) fn lines_of<'w, S, R: Read>(
+    rt: &S,
+    file: &'w str,
+    input: &mut R,
+) -> Result<Vec<u8>, Refusal<'w>>
+where
+    S: Files + AllocGlobal,
+{
+    let lines = read_from(rt, file, input, MOST_LINES + 1)?;
+    if lines.len() > MOST_LINES {
+        return Err(Refusal::Canvas(SigFault::TooLarge));
+    }
+    Ok(lines)
+}
+
+fn read_from<'w, S, R: Read>(
+    rt: &S,
+    file: &'w str,
+    input: &mut R,
+    most: usize,
+) -> Result<Vec<u8>, Refusal<'w>>
+where
+    S: Files + AllocGlobal,
+{
     let text = if file == "-" {
-        read_text(rt.alloc(), input)
+        read_at_most(rt.alloc(), input, most)
     } else {
-        read_file(rt, file)
+        read_file(rt, file, most)
     };
     match text {
         Ok(text) => Ok(text),
@@ -62,8 +90,8 @@ where
     }
 }
 
-fn read_file<S: Files + AllocGlobal>(rt: &S, file: &str) -> io::Result<Vec<u8>> {
-    read_text(rt.alloc(), &mut fs::open(rt, file)?)
+fn read_file<S: Files + AllocGlobal>(rt: &S, file: &str, most: usize) -> io::Result<Vec<u8>> {
+    read_at_most(rt.alloc(), &mut fs::open(rt, file)?, most)
 }
 
 pub(crate) fn unread<'w>(error: &io::Error, file: &'w str) -> Refusal<'w> {

@@ -30,7 +30,7 @@ pub(crate) struct Manner {
 }
 
 /// The status of a canvas whose result is a failure, where that is asked for.
-const FAILED: u8 = 3;
+pub(crate) const FAILED: u8 = 3;
 
 impl Manner {
     /// Whether a report is printed as ever, and its result doesn't count.

@@ -96,6 +96,13 @@ pub(crate) const JSON: Argument = Argument {
     help: "Prints each task, and then the result, as a JSON object in a line; refusals too",
 };
 
+pub(crate) const EACH: Argument = Argument {
+    name: "each",
+    takes: Takes::Nothing,
+    given: Given::Maybe,
+    help: "Runs many canvases, one a line, and prints a JSON object a line for each",
+};
+
 pub(crate) const EXPLAIN: Argument = Argument {
     name: "explain",
     takes: Takes::Nothing,

@@ -1,9 +1,9 @@
 //! The commands, each with its arguments.
 
 use crate::arguments::{
-    AGAIN, Argument, BACKEND_DATABASE, BROKER_DATABASE, COMPLETE, EXPIRES, EXPLAIN, FAIL, FILE,
-    FILE_ALONE, JSON, PREFIX, QUEUE, RUN, STATES, TASK, TASKS, TURNS, WITHOUT_SCRIPT, WORKERS,
-    arguments_of,
+    AGAIN, Argument, BACKEND_DATABASE, BROKER_DATABASE, COMPLETE, EACH, EXPIRES, EXPLAIN, FAIL,
+    FILE, FILE_ALONE, JSON, PREFIX, QUEUE, RUN, STATES, TASK, TASKS, TURNS, WITHOUT_SCRIPT,
+    WORKERS, arguments_of,
 };
 use clap::Command;
 use std::alloc::{AllocError, Global};
@@ -20,7 +20,7 @@ pub(crate) const COMMANDS: [Form; 10] = [
     Form {
         name: "run",
         about: "Runs a canvas and prints the state and result of each task",
-        arguments: &[FILE, WORKERS, TASK, TASKS, JSON, EXPLAIN, FAIL],
+        arguments: &[FILE, WORKERS, TASK, TASKS, JSON, EXPLAIN, EACH, FAIL],
     },
     Form {
         name: "turns",
