@@ -4,7 +4,7 @@
 newline=$'\n'
 
 # Each command with what it takes, in the order in which the program's help has them.
-forms="run FILE [--workers N] [--task NAME=WORD] [--tasks FILE] [--json] [--explain] [--fail]
+forms="run FILE [--workers N] [--task NAME=WORD] [--tasks FILE] [--json] [--explain] [--each] [--fail]
 turns FILE [--workers N] [--turns LIST] [--again LIST] [--task NAME=WORD] [--tasks FILE] [--json] [--fail]
 normal FILE
 check FILE [--task NAME=WORD] [--tasks FILE] [--json] [--strict]
@@ -458,11 +458,12 @@ read_words() {
 # Keeps what standard input gives, in a file that no longer has a name: so it shows whether it is empty, and the program gets it all the same.
 # As much is read as the program reads.
 take_input() {
-  local file
+  local file most=1048577
   if [ -n "$has_input" ]; then return 0; fi
+  if [ -n "${given[--each]+was given}" ]; then most=67108865; fi
   file="$(mktemp)" || stop "there is no place for a temporary file"
   has_input=unread
-  if head -c 1048577 >"$file" 2>/dev/null; then
+  if head -c "$most" >"$file" 2>/dev/null; then
     has_input=empty
     if [ -s "$file" ]; then has_input=text; fi
   fi
@@ -532,7 +533,7 @@ read_file() {
   elif [ -f "$file" ] && [ "$(head -c 1 -- "$file" | wc -c)" = 0 ]; then
     is_empty=1
   fi
-  if [ -n "$is_empty" ]; then refuse_empty; fi
+  if [ -n "$is_empty" ] && [ -z "${given[--each]+was given}" ]; then refuse_empty; fi
 }
 
 # Sets `fault` to what the program says of an empty text.

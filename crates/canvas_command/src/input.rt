@@ -1,9 +1,10 @@
-//! Reading a canvas's text, and the results of its tasks, as far as they can be long.
+//! Reading a canvas's text, lines with a canvas each, and the results of tasks, as far as they can
+//! be long.
 
 use crate::celery::CeleryRefusal;
 use crate::refusal::Refusal;
 use crate::unread::Unread;
-use canvas_sig::MOST_BYTES;
+use canvas_sig::{MOST_BYTES, SigFault};
 use std::alloc::Global;
 use std::fs;
 use std::io::{self, ErrorKind, Read};
@@ -11,6 +12,9 @@ use std::rt::Files;
 
 /// The most bytes of results that are taken: 64 KiB for each of 1,024 tasks.
 const MOST_RESULTS: usize = 67_108_864;
+
+/// The most bytes of lines with a canvas each: 64 of the longest.
+const MOST_LINES: usize = 67_108_864;
 
 const CHUNK: usize = 8192;
 
@@ -69,6 +73,22 @@ where
     S: Files + AllocGlobal,
 {
     bytes_of(rt, file, input, MOST_BYTES + 1)
+}
+
+/// Lines with a canvas each, likewise. More bytes than are taken are refused.
+pub(crate) fn lines_of<'w, S, R: Read>(
+    rt: &S,
+    file: &'w str,
+    input: &mut R,
+) -> Result<Vec<u8>, Refusal<'w>>
+where
+    S: Files + AllocGlobal,
+{
+    let lines = bytes_of(rt, file, input, MOST_LINES + 1)?;
+    if lines.len() > MOST_LINES {
+        return Err(Refusal::Canvas(SigFault::TooLarge));
+    }
+    Ok(lines)
 }
 
 /// The results that Celery's workers stored, a line each.

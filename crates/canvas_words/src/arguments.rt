@@ -121,6 +121,13 @@ pub(crate) const STRICT: Argument = Argument {
     help: "Ends with status 3 where there is a warning",
 };
 
+pub(crate) const EACH: Argument = Argument {
+    name: "each",
+    takes: Takes::Nothing,
+    given: Given::Maybe,
+    help: "Runs many canvases, one a line, and prints a JSON object a line for each",
+};
+
 pub(crate) const EXPLAIN: Argument = Argument {
     name: "explain",
     takes: Takes::Nothing,

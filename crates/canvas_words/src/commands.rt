@@ -1,7 +1,7 @@
 //! The commands, each with its arguments.
 
 use crate::arguments::{
-    AGAIN, Argument, BACKEND_DATABASE, BROKER_DATABASE, COMPLETE, COMPLETE_RESULTS, EXPIRES,
+    AGAIN, Argument, BACKEND_DATABASE, BROKER_DATABASE, COMPLETE, COMPLETE_RESULTS, EACH, EXPIRES,
     EXPLAIN, FAIL, FIGURES_JSON, FILE, FILE_ALONE, JSON, OF, PREFIX, QUEUE, RENAME, RESULTS, RUN,
     STATES, STRICT, TASK, TASKS, TURNS, WITHOUT_SCRIPT, WORKERS, arguments_of,
 };
@@ -20,7 +20,7 @@ pub(crate) const COMMANDS: [Form; 10] = [
     Form {
         name: "run",
         about: "Runs a canvas and prints the state and result of each task",
-        arguments: &[FILE, WORKERS, TASK, TASKS, JSON, EXPLAIN, FAIL],
+        arguments: &[FILE, WORKERS, TASK, TASKS, JSON, EXPLAIN, EACH, FAIL],
     },
     Form {
         name: "turns",
