@@ -11,4 +11,3 @@ pub mod Measures
 pub mod Nested
 pub mod Placed
 pub mod Named
-pub mod Signatures
