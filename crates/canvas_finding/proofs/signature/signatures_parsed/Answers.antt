@@ -1,6 +1,5 @@
 use Rattle.canvas_sig.specs.Datum.{view}
 use Rattle.canvas_finding.proofs.Found.{low_enough, parsed_as}
-use Rattle.canvas_finding.proofs.Signatures.{of_value, of_no_value}
 use Rattle.canvas_finding.proofs.signature.signatures_parsed.Goals as goal
 
 pub signatures_in-requires : goal.signatures_in-requires
