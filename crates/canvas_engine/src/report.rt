@@ -12,9 +12,6 @@ use canvas_rewrite::{Ends, Plan};
 use canvas_task::{ListOf, Memory, Outcome, TaskNo};
 use std::alloc::Global;
 
-/// How many bytes of room a row is given at first, which most don't fill.
-const ROW: usize = 64;
-
 /// What a run has stored: row k - 1 is of task k. A row of None, and one that is missing, is of a
 /// task that is pending.
 #[derive(Debug, Drop)]
@@ -105,7 +102,7 @@ pub fn report_text(alloc: Global, plan: &Plan, report: &Report) -> Result<String
         (λ text. string_bytes text ≡ report_of (tree_of plan.now) (rows_from 1 report.now.rows)) }
 {
     let rows = report.rows.get();
-    let mut text = String::with_capacity(alloc, plan.tasks() as usize * ROW)?;
+    let mut text = String::new(alloc);
     push_rows(&mut text, plan, rows)?;
     text.push_str("result ")?;
     push_result(&mut text, &plan.ends(), rows)?;
