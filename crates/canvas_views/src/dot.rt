@@ -1,11 +1,17 @@
 //! The language of Graphviz: nodes, edges and texts.
 
-use crate::shown::Shown;
+use canvas_collect::Row;
 use canvas_ran::Fate;
 use canvas_rewrite::FrozenTask;
 use canvas_task::Outcome;
 use std::alloc::AllocError;
 use std::fmt;
+
+const PENDING: &str = "shape=box, style=\"dashed,filled\", fillcolor=\"#eeeeee\"";
+
+const SUCCESS: &str = "shape=box, style=\"rounded,filled\", fillcolor=\"#d8f0d8\"";
+
+const FAILURE: &str = "shape=octagon, style=filled, fillcolor=\"#f7d4d4\", penwidth=2";
 
 /// What edges join: a task, or a group or chord of no members; each by its number.
 #[derive(Clone, Copy, Drop)]
@@ -43,19 +49,32 @@ pub(crate) fn push_quoted(dot: &mut String, text: &str) -> Result<(), AllocError
     Ok(())
 }
 
+fn looks_of_outcome(outcome: &Option<Outcome>) -> &'static str {
+    match outcome {
+        None => PENDING,
+        Some(Outcome::Success(_)) => SUCCESS,
+        Some(Outcome::Failure(_)) => FAILURE,
+    }
+}
+
+fn looks_of_row(row: &Row) -> &'static str {
+    match row {
+        Row::Known(outcome) => looks_of_outcome(outcome),
+        Row::Value(_) => SUCCESS,
+        Row::Raised(_) => FAILURE,
+        Row::Blamed { .. } => FAILURE,
+    }
+}
+
 /// How a task is drawn: states differ by their shapes and borders too, and not by colour alone, and
 /// so do failures by a call and without one.
-pub(crate) fn looks_of(row: Option<Shown<'_>>, fate: &Option<Fate>) -> &'static str {
+pub(crate) fn looks_of(row: Option<&Row>, fate: &Option<Fate>) -> &'static str {
     if let Some(Fate::Skipped(_)) = fate {
         return "shape=hexagon, style=\"dashed,filled\", fillcolor=\"#fbeeee\"";
     }
     match row {
         None => "shape=box, style=rounded",
-        Some(Shown::Known(None)) => { "shape=box, style=\"dashed,filled\", fillcolor=\"#eeeeee\"" }
-        Some(Shown::Known(Some(Outcome::Success(_))) | Shown::Value(_)) => {
-            "shape=box, style=\"rounded,filled\", fillcolor=\"#d8f0d8\""
-        }
-        Some(_) => "shape=octagon, style=filled, fillcolor=\"#f7d4d4\", penwidth=2",
+        Some(row) => looks_of_row(row),
     }
 }
 

@@ -4,7 +4,7 @@
 use crate::dot::{Node, looks_of, node_of, push_quoted};
 use crate::label::label_of;
 use crate::rows::fate_in;
-use crate::shown::{Rows, Shown};
+use crate::shown::run_rows;
 use canvas_collect::Row;
 use canvas_engine::Report;
 use canvas_ran::{Fate, fates};
@@ -17,7 +17,7 @@ use std::alloc::{AllocError, Global};
 #[derive(Drop)]
 struct Graph<'r> {
     alloc: Global,
-    rows: Option<Rows<'r>>,
+    rows: Option<&'r [Row]>,
     /// What became of each task, where there was a run.
     fates: Vec<(TaskNo, Fate)>,
     nodes: String,
@@ -92,8 +92,8 @@ impl Graph<'_> {
         Ok(())
     }
 
-    fn row(&self, task: &FrozenTask) -> Option<Shown<'_>> {
-        Some(self.rows?.row(task.no))
+    fn row(&self, task: &FrozenTask) -> Option<&Row> {
+        self.rows?.get(task.no.get() as usize - 1)
     }
 
     /// A task, without its callbacks.
@@ -248,8 +248,9 @@ fn whole_text(alloc: Global, nodes: &str, edges: &str) -> Result<String, AllocEr
 pub fn graph_text(alloc: Global, plan: &Plan, report: Option<&Report>) -> Result<String, Memory> {
     match report {
         Some(report) => {
+            let rows = run_rows(alloc, report)?;
             let fates = fates(alloc, plan, report)?;
-            picture(alloc, plan, Some(Rows::Run(report.rows.get())), fates)
+            picture(alloc, plan, Some(&rows), fates)
         }
         None => picture(alloc, plan, None, Vec::new(alloc)),
     }
@@ -257,13 +258,13 @@ pub fn graph_text(alloc: Global, plan: &Plan, report: Option<&Report>) -> Result
 
 /// The same with rows of any kind, as Celery's workers stored them.
 pub fn stored_graph_text(alloc: Global, plan: &Plan, rows: &[Row]) -> Result<String, Memory> {
-    picture(alloc, plan, Some(Rows::Stored(rows)), Vec::new(alloc))
+    picture(alloc, plan, Some(rows), Vec::new(alloc))
 }
 
 fn picture(
     alloc: Global,
     plan: &Plan,
-    rows: Option<Rows<'_>>,
+    rows: Option<&[Row]>,
     fates: Vec<(TaskNo, Fate)>,
 ) -> Result<String, Memory> {
     let mut graph = Graph {

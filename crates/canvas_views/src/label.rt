@@ -1,6 +1,6 @@
 //! Labels of a picture.
 
-use crate::shown::Shown;
+use canvas_collect::Row;
 use canvas_ran::Fate;
 use canvas_rewrite::FrozenTask;
 use canvas_task::{Arg, Fault, Outcome};
@@ -94,25 +94,39 @@ fn push_call(label: &mut String, task: &FrozenTask) -> Result<(), AllocError> {
     Ok(())
 }
 
+fn push_outcome(label: &mut String, outcome: &Option<Outcome>) -> Result<(), AllocError> {
+    match outcome {
+        None => label.push_str("\nPENDING"),
+        Some(Outcome::Success(value)) => write!(label, "\nSUCCESS {value}"),
+        Some(Outcome::Failure(fault)) => push_fault(label, fault),
+    }
+}
+
 /// What came of a task.
-fn push_row(label: &mut String, row: Shown<'_>) -> Result<(), AllocError> {
+fn push_row(label: &mut String, row: &Row) -> Result<(), AllocError> {
     match row {
-        Shown::Known(None) => label.push_str("\nPENDING"),
-        Shown::Known(Some(Outcome::Success(value))) => write!(label, "\nSUCCESS {value}"),
-        Shown::Known(Some(Outcome::Failure(fault))) => push_fault(label, &fault),
-        Shown::Value(json) => {
+        Row::Known(outcome) => push_outcome(label, outcome),
+        Row::Value(json) => {
             label.push_str("\nSUCCESS ")?;
             push_cut(label, json)
         }
-        Shown::Raised(name) => {
+        Row::Raised(name) => {
             label.push_str("\nFAILURE ")?;
             push_cut(label, name)
         }
-        Shown::Blamed(dep, name) => {
+        Row::Blamed { dep, name } => {
             let number = dep.get();
             write!(label, "\nFAILURE ChordError:\n{number} raised ")?;
             push_cut(label, name)
         }
+    }
+}
+
+/// The same, where it was run.
+fn push_state(label: &mut String, row: Option<&Row>) -> Result<(), AllocError> {
+    match row {
+        None => Ok(()),
+        Some(row) => push_row(label, row),
     }
 }
 
@@ -141,14 +155,12 @@ fn push_told(label: &mut String, fate: &Option<Fate>) -> Result<(), AllocError> 
 pub(crate) fn label_of(
     alloc: Global,
     task: &FrozenTask,
-    row: Option<Shown<'_>>,
+    row: Option<&Row>,
     fate: &Option<Fate>,
 ) -> Result<String, AllocError> {
     let mut label = String::new(alloc);
     push_call(&mut label, task)?;
-    if let Some(row) = row {
-        push_row(&mut label, row)?;
-    }
+    push_state(&mut label, row)?;
     push_told(&mut label, fate)?;
     Ok(label)
 }

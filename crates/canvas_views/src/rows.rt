@@ -7,7 +7,7 @@ ghost use Rattle.canvas_semantics.specs.States.{rows_from};
 ghost use Rattle.canvas_views.specs.Failing.{has_failed, any_failed};
 
 use crate::json_text::quoted_json;
-use crate::shown::{Rows, Shown};
+use crate::shown::{row_at, run_rows, status_at};
 use canvas_collect::Row;
 use canvas_engine::Report;
 use canvas_ran::{Fate, state_in};
@@ -42,17 +42,30 @@ fn fault_json(alloc: Global, fault: &Fault) -> Result<String, AllocError> {
     }
 }
 
-/// A result: a value, an exception, or null where there is none yet.
-fn result_json(alloc: Global, row: Shown<'_>) -> Result<String, AllocError> {
+fn outcome_json(alloc: Global, outcome: &Option<Outcome>) -> Result<String, AllocError> {
+    match outcome {
+        None => String::from_str(alloc, "null"),
+        Some(Outcome::Success(number)) => number.to_string(alloc),
+        Some(Outcome::Failure(fault)) => fault_json(alloc, fault),
+    }
+}
+
+fn row_json(alloc: Global, row: &Row) -> Result<String, AllocError> {
     match row {
-        Shown::Known(None) => String::from_str(alloc, "null"),
-        Shown::Known(Some(Outcome::Success(number))) => number.to_string(alloc),
-        Shown::Known(Some(Outcome::Failure(fault))) => fault_json(alloc, &fault),
-        Shown::Value(json) => String::from_str(alloc, json),
-        Shown::Raised(name) => raised_json(alloc, name),
-        Shown::Blamed(dep, name) => {
+        Row::Known(outcome) => outcome_json(alloc, outcome),
+        Row::Value(json) => String::from_str(alloc, json),
+        Row::Raised(name) => raised_json(alloc, name),
+        Row::Blamed { dep, name } => {
             chord_json(alloc, &format!(in alloc; "Dependency {dep} raised {name}")?)
         }
+    }
+}
+
+/// A result: a value, an exception, or null where there is none yet.
+fn result_json(alloc: Global, rows: &[Row], task: TaskNo) -> Result<String, AllocError> {
+    match row_at(rows, task) {
+        Some(row) => row_json(alloc, row),
+        None => String::from_str(alloc, "null"),
     }
 }
 
@@ -93,16 +106,15 @@ fn push_row(
     text: &mut String,
     alloc: Global,
     plan: &Plan,
-    rows: Rows<'_>,
+    rows: &[Row],
     task: TaskNo,
     fate: Option<Fate>,
 ) -> Result<(), AllocError> {
     let due = due_member(alloc, &fate)?;
     let ran = ran_member(&fate);
-    let row = rows.row(task);
     let name = quoted_json(alloc, plan.name(task).unwrap_or(""))?;
-    let result = result_json(alloc, row)?;
-    let status = row.status();
+    let result = result_json(alloc, rows, task)?;
+    let status = status_at(rows, task);
     writeln!(
         text,
         "{{{due}\"name\":{name},{ran}\"result\":{result},\"status\":\"{status}\",\"task_id\":\"{task}\"}}"
@@ -132,12 +144,12 @@ fn any_failed(report: &Report, tasks: &[TaskNo]) -> bool
 }
 
 /// Whether a task has this status.
-fn any_is(rows: Rows<'_>, tasks: &[TaskNo], status: &str) -> bool {
-    tasks.iter().any(|task| rows.row(*task).status() == status)
+fn any_is(rows: &[Row], tasks: &[TaskNo], status: &str) -> bool {
+    tasks.iter().any(|task| status_at(rows, *task) == status)
 }
 
 /// The status of a group: a failure where a member failed, else pending where one is.
-fn status_of_all(rows: Rows<'_>, tasks: &[TaskNo]) -> &'static str {
+fn status_of_all(rows: &[Row], tasks: &[TaskNo]) -> &'static str {
     if any_is(rows, tasks, "FAILURE") {
         return "FAILURE";
     }
@@ -150,12 +162,12 @@ fn status_of_all(rows: Rows<'_>, tasks: &[TaskNo]) -> &'static str {
 fn push_results(
     text: &mut String,
     alloc: Global,
-    rows: Rows<'_>,
+    rows: &[Row],
     tasks: &[TaskNo],
 ) -> Result<(), AllocError> {
     let mut mark = "";
     for task in tasks {
-        let result = result_json(alloc, rows.row(*task))?;
+        let result = result_json(alloc, rows, *task)?;
         write!(text, "{mark}{result}")?;
         mark = ",";
     }
@@ -163,17 +175,11 @@ fn push_results(
 }
 
 /// The result of the canvas.
-fn push_end(
-    text: &mut String,
-    alloc: Global,
-    plan: &Plan,
-    rows: Rows<'_>,
-) -> Result<(), AllocError> {
+fn push_end(text: &mut String, alloc: Global, plan: &Plan, rows: &[Row]) -> Result<(), AllocError> {
     match plan.ends() {
         Ends::One(task) => {
-            let row = rows.row(task);
-            let result = result_json(alloc, row)?;
-            let status = row.status();
+            let result = result_json(alloc, rows, task)?;
+            let status = status_at(rows, task);
             writeln!(text, "{{\"result\":{result},\"status\":\"{status}\"}}")?;
         }
         Ends::Many(tasks) => {
@@ -189,7 +195,7 @@ fn push_end(
 fn lines_of(
     alloc: Global,
     plan: &Plan,
-    rows: Rows<'_>,
+    rows: &[Row],
     fates: &[(TaskNo, Fate)],
 ) -> Result<String, Memory> {
     let mut text = String::new(alloc);
@@ -210,12 +216,13 @@ pub fn rows_text(
     report: &Report,
     fates: &[(TaskNo, Fate)],
 ) -> Result<String, Memory> {
-    lines_of(alloc, plan, Rows::Run(report.rows.get()), fates)
+    let rows = run_rows(alloc, report)?;
+    lines_of(alloc, plan, &rows, fates)
 }
 
 /// The same of rows of any kind, which don't say whether a task was called.
 pub fn stored_rows_text(alloc: Global, plan: &Plan, rows: &[Row]) -> Result<String, Memory> {
-    lines_of(alloc, plan, Rows::Stored(rows), &[])
+    lines_of(alloc, plan, rows, &[])
 }
 
 /// Whether the result of the canvas is a failure, or that of a member where it is a group.

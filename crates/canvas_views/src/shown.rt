@@ -1,57 +1,44 @@
 //! Rows as views show them: of a run, or as Celery stored them.
 
 use canvas_collect::Row;
-use canvas_ran::state_in;
+use canvas_engine::Report;
 use canvas_task::{Outcome, TaskNo};
+use std::alloc::{AllocError, Global};
 
-/// What a task's row shows.
-#[derive(Clone, Copy)]
-pub(crate) enum Shown<'r> {
-    Known(Option<Outcome>),
-    /// A value as JSON.
-    Value(&'r str),
-    /// The class of an exception.
-    Raised(&'r str),
-    /// A ChordError: the task that it names, and the class that this raised.
-    Blamed(TaskNo, &'r str),
+/// The rows of a run.
+pub(crate) fn run_rows(alloc: Global, report: &Report) -> Result<Vec<Row>, AllocError> {
+    let mut rows = Vec::new(alloc);
+    for row in report.rows.get() {
+        rows.push(Row::Known(*row))?;
+    }
+    Ok(rows)
 }
 
-impl Shown<'_> {
-    pub(crate) fn status(&self) -> &'static str {
-        match self {
-            Shown::Known(None) => "PENDING",
-            Shown::Known(Some(Outcome::Success(_))) => "SUCCESS",
-            Shown::Value(_) => "SUCCESS",
-            _ => "FAILURE",
-        }
+/// A task's row. It is pending where there is none.
+pub(crate) fn row_at(rows: &[Row], task: TaskNo) -> Option<&Row> {
+    rows.get(task.get() as usize - 1)
+}
+
+pub(crate) fn status_of(outcome: &Option<Outcome>) -> &'static str {
+    match outcome {
+        None => "PENDING",
+        Some(Outcome::Success(_)) => "SUCCESS",
+        Some(Outcome::Failure(_)) => "FAILURE",
     }
 }
 
-/// The rows that a view shows.
-#[derive(Clone, Copy)]
-pub(crate) enum Rows<'r> {
-    Run(&'r [Option<Outcome>]),
-    Stored(&'r [Row]),
-}
-
-fn shown_of(row: &Row) -> Shown<'_> {
+fn status_in(row: &Row) -> &'static str {
     match row {
-        Row::Known(outcome) => Shown::Known(*outcome),
-        Row::Value(text) => Shown::Value(text),
-        Row::Raised(name) => Shown::Raised(name),
-        Row::Blamed { dep, name } => Shown::Blamed(*dep, name),
+        Row::Known(outcome) => status_of(outcome),
+        Row::Value(_) => "SUCCESS",
+        Row::Raised(_) => "FAILURE",
+        Row::Blamed { .. } => "FAILURE",
     }
 }
 
-impl<'r> Rows<'r> {
-    /// A task's row. It is pending where there is none.
-    pub(crate) fn row(&self, task: TaskNo) -> Shown<'r> {
-        match self {
-            Rows::Run(rows) => Shown::Known(state_in(rows, task)),
-            Rows::Stored(rows) => match rows.get(task.get() as usize - 1) {
-                Some(row) => shown_of(row),
-                None => Shown::Known(None),
-            },
-        }
+pub(crate) fn status_at(rows: &[Row], task: TaskNo) -> &'static str {
+    match row_at(rows, task) {
+        Some(row) => status_in(row),
+        None => "PENDING",
     }
 }
