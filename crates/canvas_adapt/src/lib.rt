@@ -20,5 +20,5 @@ mod work;
 pub use adapting::{Adapted, adapt};
 pub use changes::{Change, Changes};
 pub use rename_fault::{BadRename, RenameFault};
-pub use renames::{Rename, read_renames};
+pub use renames::{Rename, read_rename, read_renames};
 pub use renaming::{Renamed, rename};

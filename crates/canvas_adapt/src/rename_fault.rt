@@ -1,5 +1,6 @@
 //! Why a task gets no other name.
 
+use std::alloc::{AllocError, AllocFailed};
 use thiserror::Error;
 
 /// Why a canvas's tasks don't get the names that are asked for.
@@ -14,9 +15,6 @@ pub enum RenameFault {
     /// The number is there twice.
     #[error("the number is there twice")]
     Doubled,
-    /// The canvas has fewer tasks.
-    #[error("no task has this number")]
-    NoTask,
     /// A growth was refused.
     #[error("memory refused")]
     Memory,
@@ -28,4 +26,16 @@ pub struct BadRename {
     /// How many stand before it.
     pub before: usize,
     pub fault: RenameFault,
+}
+
+impl From<AllocError> for RenameFault {
+    fn from(_refused: AllocError) -> RenameFault {
+        RenameFault::Memory
+    }
+}
+
+impl<T: Drop> From<AllocFailed<T>> for RenameFault {
+    fn from(_refused: AllocFailed<T>) -> RenameFault {
+        RenameFault::Memory
+    }
 }

@@ -5,12 +5,10 @@ use canvas_task::{TaskNo, name_ok};
 use std::alloc::Global;
 
 /// Another name for a task.
-#[derive(Clone, Copy, Debug, Drop, PartialEq, Eq)]
-pub struct Rename<'a> {
-    /// As it is written.
-    pub text: &'a str,
+#[derive(Debug, Drop)]
+pub struct Rename {
     pub task: TaskNo,
-    pub name: &'a str,
+    pub name: String,
 }
 
 /// The number that a text says, as `#3`.
@@ -22,48 +20,45 @@ fn number_of(text: &str) -> Option<TaskNo> {
     TaskNo::new(digits.parse().ok()?)
 }
 
-impl<'a> Rename<'a> {
-    /// Reads a name for a task, as `#3=shop.ship`. The number ends before the first `=`.
-    pub fn of_text(text: &'a str) -> Result<Rename<'a>, RenameFault> {
-        let Some((number, name)) = text.split_once('=') else {
-            return Err(RenameFault::NoNumber);
-        };
-        let Some(task) = number_of(number) else {
-            return Err(RenameFault::NoNumber);
-        };
-        if !name_ok(name) {
-            return Err(RenameFault::BadName);
-        }
-        Ok(Rename { text, task, name })
+/// Reads a name for a task, as `#3=shop.ship`. The number ends before the first `=`.
+pub fn read_rename(alloc: Global, text: &str) -> Result<Rename, RenameFault> {
+    let Some((number, name)) = text.split_once('=') else {
+        return Err(RenameFault::NoNumber);
+    };
+    let Some(task) = number_of(number) else {
+        return Err(RenameFault::NoNumber);
+    };
+    if !name_ok(name) {
+        return Err(RenameFault::BadName);
     }
+    let name = String::from_str(alloc, name)?;
+    Ok(Rename { task, name })
 }
 
 /// The name that a task gets.
-pub(crate) fn name_of<'a>(renames: &[Rename<'a>], task: u32) -> Option<&'a str> {
+pub(crate) fn name_of(renames: &[Rename], task: u32) -> Option<&str> {
     for rename in renames {
         if rename.task.get() == task {
-            return Some(rename.name);
+            return Some(rename.name.as_str());
         }
     }
     None
 }
 
-fn add_text<'a>(renames: &mut Vec<Rename<'a>>, text: &'a str) -> Result<(), RenameFault> {
-    let rename = Rename::of_text(text)?;
+fn add_text(alloc: Global, renames: &mut Vec<Rename>, text: &str) -> Result<(), RenameFault> {
+    let rename = read_rename(alloc, text)?;
     if name_of(renames, rename.task.get()).is_some() {
         return Err(RenameFault::Doubled);
     }
-    match renames.push(rename) {
-        Ok(()) => Ok(()),
-        Err(_) => Err(RenameFault::Memory),
-    }
+    renames.push(rename)?;
+    Ok(())
 }
 
-/// Reads names for tasks, one a text, as `Rename::of_text` does. A number is there once.
-pub fn read_renames<'a>(alloc: Global, texts: &[&'a str]) -> Result<Vec<Rename<'a>>, BadRename> {
+/// Reads names for tasks, one a text, as `read_rename` does. A number is there once.
+pub fn read_renames(alloc: Global, texts: &[&str]) -> Result<Vec<Rename>, BadRename> {
     let mut renames = Vec::new(alloc);
     for (before, text) in texts.iter().enumerate() {
-        match add_text(&mut renames, text) {
+        match add_text(alloc, &mut renames, text) {
             Ok(()) => {}
             Err(fault) => return Err(BadRename { before, fault }),
         }

@@ -26,14 +26,14 @@ pub struct Renamed {
 
 /// A walk over the tasks of a canvas, in the order of their numbers.
 #[derive(Drop)]
-struct Walk<'a, 'r> {
+struct Walk<'a> {
     arena: &'a Bump,
-    renames: &'r [Rename<'a>],
+    renames: &'a [Rename],
     /// The number of the latest task.
     task: u32,
 }
 
-impl<'a> Walk<'a, '_> {
+impl<'a> Walk<'a> {
     /// A task, with its links and its error callbacks.
     #[cycle(task)]
     fn rename_task(&mut self, value: &Datum<'a>, left: u32) -> Result<Datum<'a>, AllocError> {
@@ -117,7 +117,7 @@ fn rename_parsed<'a>(
     arena: &'a Bump,
     scratch: &'a mut Scratch,
     bytes: &'a [u8],
-    renames: &[Rename<'a>],
+    renames: &'a [Rename],
 ) -> Result<Renamed, SigFault> {
     let value = parse(alloc, arena, scratch, bytes)?;
     let mut walk = Walk {
@@ -133,7 +133,7 @@ fn rename_parsed<'a>(
     })
 }
 
-fn rename_bytes(alloc: Global, bytes: &[u8], renames: &[Rename<'_>]) -> Result<Renamed, SigFault> {
+fn rename_bytes(alloc: Global, bytes: &[u8], renames: &[Rename]) -> Result<Renamed, SigFault> {
     let arena = Bump::new(alloc);
     let mut scratch = Scratch::new(alloc);
     rename_parsed(alloc, &arena, &mut scratch, bytes, renames)
@@ -142,7 +142,7 @@ fn rename_bytes(alloc: Global, bytes: &[u8], renames: &[Rename<'_>]) -> Result<R
 /// A canvas in which some tasks have other names. They go by their numbers in the order of the
 /// file: a task, its links, its error callbacks, then what follows; a header before its body. What
 /// comes of it reads as a canvas, or is refused as reading refuses it.
-pub fn rename(alloc: Global, bytes: &[u8], renames: &[Rename<'_>]) -> Result<Renamed, SigFault>
+pub fn rename(alloc: Global, bytes: &[u8], renames: &[Rename]) -> Result<Renamed, SigFault>
     ensures reads { IfOk result (λ r. (c : Tree) × (text_reading r.text.items ≡ Ok c)) }
 {
     let renamed = rename_bytes(alloc, bytes, renames)?;

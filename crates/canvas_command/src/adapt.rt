@@ -10,7 +10,7 @@ use std::alloc::Global;
 pub(crate) fn asked_renames<'w>(
     alloc: Global,
     given: &ArgMatches<'w>,
-) -> Result<Vec<Rename<'w>>, Refusal<'w>> {
+) -> Result<Vec<Rename>, Refusal<'w>> {
     let texts = given.get_strs("rename").unwrap_or(&[]);
     match read_renames(alloc, texts) {
         Ok(renames) => Ok(renames),
@@ -30,19 +30,16 @@ fn bad_word<'w>(texts: &[&'w str], bad: &BadRename) -> Refusal<'w> {
 }
 
 /// The first name for a task that a canvas of so many doesn't have.
-fn check_numbers<'w>(renames: &[Rename<'w>], tasks: u32) -> Result<(), Refusal<'w>> {
+fn check_numbers<'w>(renames: &[Rename], tasks: u32) -> Result<(), Refusal<'w>> {
     for rename in renames {
         if rename.task.get() > tasks {
-            return Err(Refusal::BadRename {
-                text: rename.text,
-                fault: RenameFault::NoTask,
-            });
+            return Err(Refusal::NoTask(rename.task));
         }
     }
     Ok(())
 }
 
-fn renamed<'w>(alloc: Global, text: &[u8], renames: &[Rename<'w>]) -> Result<Vec<u8>, Refusal<'w>> {
+fn renamed<'w>(alloc: Global, text: &[u8], renames: &[Rename]) -> Result<Vec<u8>, Refusal<'w>> {
     let Renamed { text, tasks } = rename(alloc, text, renames)?;
     check_numbers(renames, tasks)?;
     Ok(text)
@@ -50,7 +47,7 @@ fn renamed<'w>(alloc: Global, text: &[u8], renames: &[Rename<'w>]) -> Result<Vec
 
 pub(crate) fn answer_adapt<'w>(
     alloc: Global,
-    renames: &[Rename<'w>],
+    renames: &[Rename],
     text: &[u8],
 ) -> Result<Answer<'w>, Refusal<'w>> {
     let Adapted { text, changes } = adapt(alloc, text)?;
