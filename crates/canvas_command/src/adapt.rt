@@ -2,7 +2,7 @@
 
 use crate::answer::Answer;
 use crate::refusal::Refusal;
-use canvas_adapt::{Adapted, BadRename, Rename, RenameFault, Renamed, adapt, read_renames, rename};
+use canvas_adapt::{Adapted, BadRename, Rename, RenameFault, adapt, read_renames, rename};
 use clap::ArgMatches;
 use std::alloc::Global;
 
@@ -39,10 +39,14 @@ fn check_numbers<'w>(renames: &[Rename], tasks: u32) -> Result<(), Refusal<'w>> 
     Ok(())
 }
 
-fn renamed<'w>(alloc: Global, text: &[u8], renames: &[Rename]) -> Result<Vec<u8>, Refusal<'w>> {
-    let Renamed { text, tasks } = rename(alloc, text, renames)?;
-    check_numbers(renames, tasks)?;
-    Ok(text)
+/// The canvas with these other names.
+fn renamed<'w>(alloc: Global, text: Vec<u8>, renames: &[Rename]) -> Result<Vec<u8>, Refusal<'w>> {
+    if renames.is_empty() {
+        return Ok(text);
+    }
+    let renamed = rename(alloc, &text, renames)?;
+    check_numbers(renames, renamed.tasks)?;
+    Ok(renamed.text)
 }
 
 pub(crate) fn answer_adapt<'w>(
@@ -51,10 +55,6 @@ pub(crate) fn answer_adapt<'w>(
     text: &[u8],
 ) -> Result<Answer<'w>, Refusal<'w>> {
     let Adapted { text, changes } = adapt(alloc, text)?;
-    let text = if renames.is_empty() {
-        text
-    } else {
-        renamed(alloc, &text, renames)?
-    };
+    let text = renamed(alloc, text, renames)?;
     Ok(Answer::whole(text).with_changes(changes))
 }
