@@ -16,7 +16,6 @@ use canvas_collect::{
 use canvas_engine::Report;
 use canvas_export::{Target, export};
 use canvas_rewrite::Plan;
-use canvas_task::Memory;
 use canvas_views::{stored_rows_text, stored_text};
 pub use refusal::CeleryRefusal;
 use std::alloc::Global;
@@ -30,9 +29,19 @@ pub(crate) fn answer_export<'w>(
     target: &Target<'_>,
     text: &[u8],
 ) -> Result<Answer<'w>, Refusal<'w>> {
-    let plan = plan_of(alloc, text)?;
+    let start = start_of(alloc, run, target, text)?;
     let remark = ignored_remark(alloc, text)?;
-    Ok(Answer::whole(export(alloc, &plan, run, target)?).with_remark(remark))
+    Ok(Answer::whole(start).with_remark(remark))
+}
+
+fn start_of<'w>(
+    alloc: Global,
+    run: &Run,
+    target: &Target<'_>,
+    text: &[u8],
+) -> Result<Vec<u8>, Refusal<'w>> {
+    let plan = plan_of(alloc, text)?;
+    Ok(export(alloc, &plan, run, target)?)
 }
 
 /// The keys of a canvas's results, a line each.
@@ -61,14 +70,39 @@ where
     let alloc = rt.alloc();
     let plan = manner.plan_of(alloc, text)?;
     let results = results_of(rt, "-", input)?;
-    match collected(alloc, &plan, run, &results, completes)? {
-        Some(report) => manner.untold(alloc, &plan, &report),
+    answer_results(alloc, &plan, run, completes, manner, &results)
+}
+
+/// The report that these results give.
+fn answer_results<'w>(
+    alloc: Global,
+    plan: &Plan,
+    run: &Run,
+    completes: bool,
+    manner: Manner,
+    results: &[u8],
+) -> Result<Answer<'w>, Refusal<'w>> {
+    match collected(alloc, plan, run, results, completes)? {
+        Some(report) => manner.untold(alloc, plan, &report),
         None => {
-            let rows = stored_rows(alloc, &plan, run, &results, completes)?;
-            let text = stored_report(alloc, &plan, &rows, manner.form)?;
-            Ok(Answer::whole(text.into_bytes()))
+            let rows = stored_rows(alloc, plan, run, results, completes)?;
+            answer_rows(alloc, plan, &rows, manner.form)
         }
     }
+}
+
+/// The report of rows of any kind.
+fn answer_rows<'w>(
+    alloc: Global,
+    plan: &Plan,
+    rows: &[Row],
+    form: Form,
+) -> Result<Answer<'w>, Refusal<'w>> {
+    let text = match form {
+        Form::Json => stored_rows_text(alloc, plan, rows)?,
+        Form::Plain | Form::Explained => stored_text(alloc, plan, rows)?,
+    };
+    Ok(Answer::whole(text.into_bytes()))
 }
 
 /// The run that the words name.
@@ -124,11 +158,4 @@ pub(crate) fn stored_rows<'w>(
         complete_as_stored(alloc, plan, &mut rows)?;
     }
     Ok(rows)
-}
-
-fn stored_report(alloc: Global, plan: &Plan, rows: &[Row], form: Form) -> Result<String, Memory> {
-    match form {
-        Form::Json => stored_rows_text(alloc, plan, rows),
-        Form::Plain | Form::Explained => stored_text(alloc, plan, rows),
-    }
 }
