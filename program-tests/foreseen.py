@@ -32,7 +32,9 @@ COMES = {
     "identifier": (" behind the identifier that comes in", [rules.identifier(1)]),
 }
 
-HEEDED = ("link", "link_error", "chord")
+#: Callbacks, and what Celery writes into a signature for its own books.
+HEEDED = ("link", "link_error", "chord", "chord_size", "group_id", "group_index", "parent_id",
+          "root_id", "reply_to")
 
 
 class Stand(NamedTuple):

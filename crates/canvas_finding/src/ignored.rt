@@ -103,6 +103,16 @@ fn push_options(
     }
 }
 
+/// The names of the options of a signature that are ignored.
+pub(crate) fn ignored_in(alloc: Global, signature: &Datum<'_>) -> Result<Vec<String>, AllocError>
+    ensures { IfOk result
+        (λ names. map string_bytes names.items ≡ ignored_in (view signature.now)) }
+{
+    let mut names = Vec::new(alloc);
+    push_options(alloc, &mut names, signature)?;
+    Ok(names)
+}
+
 fn push_places(
     alloc: Global,
     names: &mut Vec<String>,

@@ -5,9 +5,10 @@ ghost use Rattle.serde_json.specs.Data.{depth};
 ghost use Rattle.canvas_sig.specs.Datum.{view};
 ghost use Rattle.canvas_finding.specs.FileOrder.{signatures};
 ghost use Rattle.canvas_finding.specs.Places.{shown};
-ghost use Rattle.canvas_finding.specs.Signed.{listed_steps, sighted_steps, AreSignatures};
+ghost use Rattle.canvas_finding.specs.Signed.{listed, sighted, AreSignatures};
 
 use crate::finding::name_in;
+use crate::ignored::ignored_in;
 use crate::limits::leads_to_header_group;
 use crate::listing::{Place, places_of};
 use crate::step::Step;
@@ -27,29 +28,12 @@ pub struct Signature {
     pub name: Option<String>,
     /// Whether it is the group that a header is written as, of which a canvas has only the members.
     pub is_header_group: bool,
-    /// The names of the options that are ignored: all that are there but its callbacks.
+    /// The names of its options that are read and ignored.
     pub ignored: Vec<String>,
 }
 
-/// Whether an option is there and is ignored. `chord` is refused where it is there.
-fn is_ignored(name: &str, value: &Datum<'_>) -> bool {
-    !matches!(value, Datum::Null) && !matches!(name, "link" | "link_error" | "chord")
-}
-
-fn ignored_in(alloc: Global, value: &Datum<'_>) -> Result<Vec<String>, AllocError> {
-    let mut found = Vec::new(alloc);
-    if let Some(Datum::Object(members)) = value.get("options") {
-        for (name, value) in members.iter() {
-            if is_ignored(name, value) {
-                found.push(String::from_str(alloc, name)?)?;
-            }
-        }
-    }
-    Ok(found)
-}
-
 fn signature_at(alloc: Global, place: Place<'_>) -> Result<Signature, AllocError>
-    ensures { IfOk result (λ s. listed_steps s ≡ sighted_steps (shown place.entry)) }
+    ensures { IfOk result (λ s. listed s ≡ sighted (shown place.entry)) }
 {
     let name = name_in(alloc, place.value)?;
     let ignored = ignored_in(alloc, place.value)?;
@@ -64,7 +48,7 @@ fn signature_at(alloc: Global, place: Place<'_>) -> Result<Signature, AllocError
 
 fn signatures_at(alloc: Global, places: Vec<Place<'_>>) -> Result<Vec<Signature>, AllocError>
     ensures { IfOk result (λ found.
-        map listed_steps found.items ≡ map sighted_steps (map shown places.entry.items)) }
+        map listed found.items ≡ map sighted (map shown places.entry.items)) }
 {
     let mut found = Vec::new(alloc);
     for place in places {
@@ -76,7 +60,7 @@ fn signatures_at(alloc: Global, places: Vec<Place<'_>>) -> Result<Vec<Signature>
 fn signatures_in(alloc: Global, value: &Datum<'_>, left: u32) -> Result<Vec<Signature>, AllocError>
     requires { depth (view value.now) ≤ left }
     ensures { IfOk result (λ found.
-        map listed_steps found.items ≡ map sighted_steps (signatures (view value.now))) }
+        map listed found.items ≡ map sighted (signatures (view value.now))) }
 {
     signatures_at(alloc, places_of(alloc, value, left)?)
 }

@@ -1,10 +1,10 @@
 use Rattle.std.proofs.Common.{◌≡◌, ◌++◌, map}
 use Rattle.std.specs.Vec.Iter.{into_iter_items}
 use Rattle.canvas_finding.specs.Places.{shown}
-use Rattle.canvas_finding.specs.Signed.{listed_steps, sighted_steps}
+use Rattle.canvas_finding.specs.Signed.{listed, sighted}
 use Rattle.canvas_finding.proofs.signature.signatures_at.Given as goal
 
 abbrev pub invariant-loop-place : goal.invariant-loop-place
 invariant-loop-place l =
-    map listed_steps l.found.items ++ map sighted_steps (map shown (into_iter_items l.place-iterator))
-    ≡ map sighted_steps (map shown l.fn.places.items)
+    map listed l.found.items ++ map sighted (map shown (into_iter_items l.place-iterator))
+    ≡ map sighted (map shown l.fn.places.items)
