@@ -14,6 +14,13 @@ pub struct InFlight {
     count: AtomicU64,
 }
 
+/// That one more envelope is counted in flight. Only the count gives it, and what goes onto the
+/// queue takes it, so an envelope is counted before another worker can take and acknowledge it.
+#[derive(Drop)]
+pub(crate) struct Counted {
+    _one: (),
+}
+
 impl InFlight {
     /// With so many envelopes that are published already.
     pub fn new(count: u64) -> InFlight {
@@ -22,8 +29,9 @@ impl InFlight {
         }
     }
 
-    pub(crate) fn add(&self) {
+    pub(crate) fn add(&self) -> Counted {
         self.count.fetch_add(1, Ordering::SeqCst);
+        Counted { _one: () }
     }
 
     /// One envelope is acknowledged, unless the worker is inside its script. A count of none stays

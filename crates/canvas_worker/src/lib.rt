@@ -7,6 +7,7 @@ mod backends;
 mod book;
 mod cause;
 mod core_run;
+mod counted_queue;
 mod due;
 mod gate;
 mod in_flight;

@@ -13,10 +13,11 @@ ghost use Rattle.canvas_worker.specs.declared.ask.Ask.TheVariants as ask;
 ghost use Rattle.canvas_worker.specs.declared.cause.Cause.TheVariants as cause;
 ghost use Rattle.canvas_worker.specs.declared.working.Said.TheVariants.{Wait, Again, On};
 
+use crate::counted_queue::CountedQueue;
 use crate::source::Source;
 use crate::{Ask, Cause, Core, Gate, InFlight, Record, Reply, Shared, Stop};
 use canvas_backend::{Backend, BackendSeat, Stored};
-use canvas_broker::{Broker, BrokerPass};
+use canvas_broker::BrokerPass;
 use canvas_message::Letter;
 use canvas_runs::When;
 use canvas_task::{GroupNo, Memory, Outcome, TaskNo, Tasks};
@@ -50,7 +51,7 @@ pub(crate) struct Working<'a, R: Wait> {
     rt: &'a R,
     alloc: Global,
     number: u32,
-    broker: &'a Broker,
+    queue: CountedQueue<'a>,
     pass: BrokerPass,
     backend: &'a Backend,
     seat: BackendSeat,
@@ -78,7 +79,7 @@ impl<'a, R: Wait> Model for Working<'a, R> {
     ghost coded = { Prim.hlevel (codes, content_code, carried_code) };
 
     ghost view = { λ w. record {
-      broker = w.broker.now;
+      broker = w.queue;
       desk = w.backend.now;
       number = w.number;
       pass = w.pass;
@@ -108,7 +109,7 @@ impl<'a, R: Wait> Working<'a, R> {
             rt,
             alloc,
             number,
-            broker: shared.broker,
+            queue: CountedQueue::of(shared.broker),
             pass,
             backend: shared.backend,
             seat,
@@ -212,8 +213,8 @@ impl<'a, R: Wait> Working<'a, R> {
             (λ e. EndsWith (T.behaviour tasks.now) self.old e.fault self.new) }
         ensures memory { IfErr result (λ e. e.fault ≡ Some cause.Memory) }
     {
-        let (rt, broker) = (self.rt, self.broker);
-        match broker.take(rt, &mut self.pass) {
+        let (rt, queue) = (self.rt, self.queue);
+        match queue.take(rt, &mut self.pass) {
             Some(envelope) => {
                 self.source = Source::Next;
                 self.gives(tasks, envelope)
@@ -236,8 +237,8 @@ impl<'a, R: Wait> Working<'a, R> {
             (λ e. EndsWith (T.behaviour tasks.now) self.old e.fault self.new) }
         ensures memory { IfErr result (λ e. e.fault ≡ Some cause.Memory) }
     {
-        let (rt, broker) = (self.rt, self.broker);
-        let mut batch = broker.take_batch(rt, &mut self.pass);
+        let (rt, queue) = (self.rt, self.queue);
+        let mut batch = queue.take_batch(rt, &mut self.pass);
         match batch.next() {
             Some(envelope) => {
                 self.source = Source::Batched(batch);
@@ -272,11 +273,11 @@ impl<'a, R: Wait> Working<'a, R> {
             (λ e. EndsWith (T.behaviour tasks.now) self.old e.fault self.new) }
         ensures memory { IfErr result (λ e. e.fault ≡ Some cause.Memory) }
     {
-        let (rt, broker) = (self.rt, self.broker);
+        let (rt, queue) = (self.rt, self.queue);
         match self.core.envelope() {
             Some(envelope) => {
-                self.flight.add();
-                match broker.publish(rt, &mut self.pass, envelope) {
+                let counted = self.flight.add();
+                match queue.publish(rt, &mut self.pass, envelope, counted) {
                     Ok(()) => {
                         self.published = self.published.saturating_add(1);
                         self.replies(tasks, Reply::Published)
@@ -391,11 +392,11 @@ impl<'a, R: Wait> Working<'a, R> {
         ensures { MatchResult result (λ _. Redelivered self.old self.new)
             (λ e. (self.new ≡ self.old) × (e.fault ≡ Some cause.Memory)) }
     {
-        let (rt, broker) = (self.rt, self.broker);
+        let (rt, queue) = (self.rt, self.queue);
         match self.copied() {
             Ok(envelope) => {
-                self.flight.add();
-                match broker.redeliver(rt, &mut self.pass, envelope) {
+                let counted = self.flight.add();
+                match queue.redeliver(rt, &mut self.pass, envelope, counted) {
                     Ok(()) => Ok(()),
                     Err(_refused) => Err(self.fails()),
                 }
