@@ -8,7 +8,6 @@ ghost use Rattle.canvas_finding.specs.Placed.{EachHasPlace, WholeIsTooLarge};
 ghost use Rattle.canvas_finding.specs.Refused.{refusal_of, first_refused};
 
 mod arguments;
-mod depths;
 mod finding;
 mod ignored;
 mod limits;
@@ -18,7 +17,6 @@ mod shown;
 mod signature;
 mod step;
 
-pub use depths::{Depths, depths_of};
 pub use finding::{Finding, Spot, find};
 pub use ignored::ignored_options;
 pub use signature::{Signature, signatures_of};

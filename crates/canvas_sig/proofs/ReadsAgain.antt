@@ -1,8 +1,8 @@
 -- The text that a canvas is written as is refused by nothing, and reads as the canvas.
 use Rattle.std.proofs.Common.{◌≡◌, ℕ, suc, ◌≤◌, pos, negsuc, List, length, Bool, true, false, Option, Some, None, Result, Ok, Err, IfOk, String, Global, string_bytes, refl, sym, ap, ap₂, ◌∙◌, arith}
-use Rattle.std.specs.Prelude.{nat_lt, ◌||◌, if◌then◌else◌}
+use Rattle.std.specs.Prelude.{if◌then◌else◌}
 use Rattle.std.specs.Str.{IsUtf8}
-use Rattle.std.proofs.lemmas.Bool.{ltb-false, le-ltb}
+use Rattle.std.proofs.lemmas.Bool.{le-ltb}
 use Rattle.std.proofs.lemmas.Str.{is_utf8-from_IsUtf8, IsUtf8-string_bytes}
 use Rattle.json.specs.Tree.{HasNumbers, ItemsHaveNumbers, MembersHaveNumbers, json_tokens}
 use Rattle.json.specs.Lex.{tokens}
@@ -18,9 +18,7 @@ use Rattle.canvas_values.specs.declared.fault.SigFault.{SigFault}
 use Rattle.canvas_values.specs.CanvasText.{most_bytes, json_of, text_reading}
 use Rattle.canvas_sig.specs.steps.Clean.{IsWholeNumber, IsClean, AreClean, MembersClean, behind_members}
 use Rattle.canvas_values.specs.Refusals.{signature_fault, tree_said}
-use Rattle.canvas_semantics.specs.Bounds.{most_nesting, nests_group, is_too_deep}
 use Rattle.canvas_values.specs.LimitRefusals.{tree_fault}
-use Rattle.canvas_semantics.specs.Nesting.{nesting}
 use Rattle.canvas_values.specs.Answers.{judged}
 use Rattle.canvas_values.specs.steps.Reading.{tree_reading}
 use Rattle.canvas_semantics.specs.Tree.{Tree}
@@ -30,6 +28,7 @@ use Rattle.canvas_sig.proofs.CleanWire.{tree_clean, tree_depth}
 use Rattle.canvas_values.proofs.Depth.{fault_enough, tree_enough}
 use Rattle.canvas_values.proofs.Law.{tree_judged}
 use Rattle.canvas_values.proofs.Fits.{canvas_fits, canvas_within}
+use Rattle.canvas_values.proofs.Shallow.{shallow}
 use Rattle.canvas_sig.proofs.RoundTrip.{tree_back}
 use Rattle.canvas_sig.proofs.WholeText.{text_again}
 
@@ -69,20 +68,6 @@ judged_ok : {A : Type 0} (f : Option SigFault) (x y : A) → judged f x ≡ Ok y
 judged_ok None x y h = (refl, cc)
 judged_ok (Some e) x y h = absurd cc
 
-not_refused : (b : Bool) (e : SigFault) (o : Option SigFault) → (if b then Some e else o) ≡ None → (b ≡ false) × (o ≡ None)
-not_refused true e o h = absurd cc
-not_refused false e o h = (refl, h)
-
-either_false : (a b : Bool) → (a || b) ≡ false → a ≡ false
-either_false true b h = absurd cc
-either_false false b h = refl
-
-not_deep : (t : Tree) → tree_fault t ≡ None → nesting t ≤ most_nesting
-not_deep t h =
-    let rest = (not_refused (nests_group t) _ _ h).1 in
-    let deep = (not_refused (is_too_deep t) _ _ rest).0 in
-    ltb-false most_nesting (nesting t) (either_false (nat_lt most_nesting (nesting t)) _ deep)
-
 reads_as : (t : Tree) (d : Data) → depth d ≤ max_depth → tree_reading (suc max_depth) d ≡ Ok t → (signature_fault d ≡ None) × (tree_said d ≡ t)
 reads_as t d low h =
     judged_ok (signature_fault d) (tree_said d) t
@@ -100,7 +85,7 @@ pub reads_again : (t : Tree) (text : List ℕ) → IsCanvas t → text ≡ compa
 reads_again t text canvas is utf8 short =
     let fits = canvas_fits t canvas in
     let within = canvas_within t canvas in
-    let low = not_deep t within in
+    let low = (shallow t within).0 in
     let d = tree_wire t in
     let near : depth d ≤ max_depth = omega (arith, tree_depth t) in
     let json : json_of text ≡ Some d =

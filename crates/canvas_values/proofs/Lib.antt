@@ -7,5 +7,6 @@ pub mod ReachLemmas
 pub mod ComposedLemmas
 pub mod Depth
 pub mod Fits
+pub mod Shallow
 pub mod FittingCalls
 pub mod LimitRows

@@ -11,7 +11,7 @@ use crate::nesting::nests_within;
 use crate::reach::{LineReach, onto_reach, whole};
 use crate::{Node, SigFault};
 
-const MOST_NESTING: u32 = 8;
+pub(crate) const MOST_NESTING: u32 = 8;
 
 /// How deeply signatures stand in each other in a message, at most.
 pub const MOST_REACH: u32 = 32;

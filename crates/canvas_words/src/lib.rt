@@ -5,7 +5,9 @@ mod arguments;
 mod commands;
 mod help;
 mod program;
+mod subcommand;
 
 pub use arguments::MOST_WORKERS;
 pub use help::{NOTES, SHORT_NOTES};
-pub use program::{bad_text, matches_of};
+pub use program::{bad_text, read_words};
+pub use subcommand::Subcommand;

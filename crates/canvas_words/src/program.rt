@@ -1,5 +1,6 @@
 //! The program's words: its commands, its version and its help.
 
+use crate::Subcommand;
 use crate::commands::commands_of;
 use crate::help::{NOTES, SHORT_NOTES};
 use clap::error::ErrorKind;
@@ -30,12 +31,37 @@ fn program_of<'a>(alloc: Global, name: &str) -> Result<Command<'a>, AllocError> 
 
 /// Parses the words behind the program's name. Where they begin with a command, the others aren't
 /// made, since none of them is asked.
-pub fn matches_of<'w>(alloc: Global, words: &'w [String]) -> Result<ArgMatches<'w>, Error> {
+fn matches_of<'w>(alloc: Global, words: &'w [String]) -> Result<ArgMatches<'w>, Error> {
     let name = match words.first() {
         Some(word) => word.as_str(),
         None => "",
     };
     program_of(alloc, name)?.try_get_matches_from(words)
+}
+
+/// The command that the words behind the program's name ask for, with its arguments. Help, the
+/// version and a mistake are what the parser says.
+pub fn read_words<'w>(
+    alloc: Global,
+    words: &'w [String],
+) -> Result<(Subcommand, ArgMatches<'w>), Error> {
+    let mut matches = matches_of(alloc, words)?;
+    let Some((name, given)) = matches.remove_subcommand() else {
+        return Err(no_command(alloc));
+    };
+    match Subcommand::named(name) {
+        Some(command) => Ok((command, given)),
+        None => Err(no_command(alloc)),
+    }
+}
+
+/// What is said where no command is asked for, which the parser says before.
+fn no_command(alloc: Global) -> Error {
+    refused(
+        alloc,
+        ErrorKind::MissingSubcommand,
+        "'canvas' requires a subcommand but one was not provided",
+    )
 }
 
 /// What is said of words that aren't UTF-8.

@@ -1,0 +1,57 @@
+//! How deep a canvas is: as it was written, and in a message of its run.
+
+ghost use Rattle.std.specs.Prelude.{◌≡◌, ◌≤◌};
+ghost use Rattle.canvas_semantics.specs.Bounds.{most_nesting, most_reach};
+ghost use Rattle.canvas_semantics.specs.Nesting.{nesting};
+ghost use Rattle.canvas_semantics.specs.NormalLine.{normal};
+ghost use Rattle.canvas_semantics.specs.Reach.{reach};
+ghost use Rattle.canvas_values.specs.SignatureView.{view};
+
+use crate::limits::MOST_NESTING;
+use crate::nesting::nests_within;
+use crate::reach::{LineReach, onto_reach, whole};
+use crate::{Canvas, Node};
+
+/// How deeply signatures of a canvas stand in each other.
+#[derive(Clone, Copy, Debug, PartialEq, Eq)]
+pub struct Depths {
+    /// As it was written: from 1 to 8.
+    pub nesting: u32,
+    /// In some message of its run: at most 32.
+    pub reach: u32,
+}
+
+/// The nesting of a node that isn't too deep.
+fn nesting_of(node: &Node) -> u32
+    requires { nesting (view node.now) ≤ most_nesting }
+    ensures { result ≡ nesting (view node.now) }
+{
+    for depth in 0..MOST_NESTING {
+        if nests_within(node, depth) {
+            return depth;
+        }
+    }
+    MOST_NESTING
+}
+
+/// The reach of a node that isn't too deep in any message.
+fn reach_of(node: &Node) -> u32
+    requires { reach 0 (normal (view node.now)) ≤ most_reach }
+    ensures { result ≡ reach 0 (normal (view node.now)) }
+{
+    whole(onto_reach(node, LineReach::Empty, 0))
+}
+
+impl Canvas {
+    /// Its depths, which its refusals bound.
+    pub fn depths(&self) -> Depths
+        ensures nesting { result.nesting ≡ nesting self.now }
+        ensures reach { result.reach ≡ reach 0 (normal self.now) }
+    {
+        let node = self.node();
+        Depths {
+            nesting: nesting_of(node),
+            reach: reach_of(node),
+        }
+    }
+}
