@@ -7,10 +7,10 @@ ghost use Rattle.canvas_semantics.specs.Report.{names_by_number as named, report
 ghost use Rattle.canvas_semantics.specs.States.{rows_from};
 ghost use Rattle.canvas_engine.specs.steps.ReportRows.{line_if, listed_behind};
 
-use crate::report_rows::{State, push_row};
+use crate::report_rows::{State, push_row, push_value};
 use canvas_rewrite::{Ends, Plan};
 use canvas_task::{ListOf, Memory, Outcome, TaskNo};
-use std::alloc::Global;
+use std::alloc::{AllocError, Global};
 
 /// What a run has stored: row k - 1 is of task k. A row of None, and one that is missing, is of a
 /// task that is pending.
@@ -26,7 +26,7 @@ fn push_task(
     plan: &Plan,
     task: TaskNo,
     rows: &[Option<Outcome>],
-) -> Result<(), Memory>
+) -> Result<(), AllocError>
     ensures { OnOk result (string_bytes text.new
         ≡ string_bytes text.old ++ line_if task (name_of plan.now task) (rows_from 1 rows.now)) }
 {
@@ -37,7 +37,7 @@ fn push_task(
 }
 
 /// The lines of all tasks, in the order of their numbers.
-fn push_rows(text: &mut String, plan: &Plan, rows: &[Option<Outcome>]) -> Result<(), Memory>
+fn push_rows(text: &mut String, plan: &Plan, rows: &[Option<Outcome>]) -> Result<(), AllocError>
     ensures { OnOk result (string_bytes text.new
         ≡ string_bytes text.old ++ report_lines (named (tree_of plan.now)) (rows_from 1 rows.now)) }
 {
@@ -48,25 +48,33 @@ fn push_rows(text: &mut String, plan: &Plan, rows: &[Option<Outcome>]) -> Result
 }
 
 /// Values, each behind a comma.
-fn push_further(text: &mut String, tasks: &[TaskNo], rows: &[Option<Outcome>]) -> Result<(), Memory>
+fn push_further(
+    text: &mut String,
+    tasks: &[TaskNo],
+    rows: &[Option<Outcome>],
+) -> Result<(), AllocError>
     ensures { OnOk result (string_bytes text.new
         ≡ string_bytes text.old ++ listed_behind (with_states (rows_from 1 rows.now) tasks.now)) }
 {
     for task in tasks {
         let state = State::of(rows, *task);
-        write!(text, ", {state}")?;
+        text.push_str(", ")?;
+        push_value(text, &state)?;
     }
     Ok(())
 }
 
-fn push_values(text: &mut String, tasks: &[TaskNo], rows: &[Option<Outcome>]) -> Result<(), Memory>
+fn push_values(
+    text: &mut String,
+    tasks: &[TaskNo],
+    rows: &[Option<Outcome>],
+) -> Result<(), AllocError>
     ensures { OnOk result (string_bytes text.new
         ≡ string_bytes text.old ++ listed_values (with_states (rows_from 1 rows.now) tasks.now)) }
 {
     match tasks.split_first() {
         Some((first, further)) => {
-            let state = State::of(rows, *first);
-            write!(text, "{state}")?;
+            push_value(text, &State::of(rows, *first))?;
             push_further(text, further, rows)
         }
         None => Ok(()),
@@ -74,23 +82,22 @@ fn push_values(text: &mut String, tasks: &[TaskNo], rows: &[Option<Outcome>]) ->
 }
 
 /// The result of a canvas: a value, or the list of a group's.
-fn push_result(text: &mut String, ends: &Ends<'_>, rows: &[Option<Outcome>]) -> Result<(), Memory>
+fn push_result(
+    text: &mut String,
+    ends: &Ends<'_>,
+    rows: &[Option<Outcome>],
+) -> Result<(), AllocError>
     ensures { OnOk result (string_bytes text.new
         ≡ string_bytes text.old
         ++ result_text (gives_a_list ends.now)
         (with_states (rows_from 1 rows.now) (end_tasks ends.now))) }
 {
     match ends {
-        Ends::One(task) => {
-            let state = State::of(rows, *task);
-            write!(text, "{state}")?;
-            Ok(())
-        }
+        Ends::One(task) => push_value(text, &State::of(rows, *task)),
         Ends::Many(tasks) => {
             text.push_str("[")?;
             push_values(text, tasks, rows)?;
-            text.push_str("]")?;
-            Ok(())
+            text.push_str("]")
         }
     }
 }

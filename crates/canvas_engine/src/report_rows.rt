@@ -1,30 +1,18 @@
 //! One row of a report: a task's state, and its line.
 ghost use Rattle.std.specs.Prelude.{◌≡◌, ◌++◌, OnOk, slice_get, string_bytes};
-ghost use Rattle.canvas_semantics.specs.Report.{report_line, state_name};
+ghost use Rattle.std.specs.Fmt.{signed_decimal};
+ghost use Rattle.canvas_task.specs.Identifiers.{task_text};
+ghost use Rattle.canvas_task.specs.Printed.{fault_text};
+ghost use Rattle.canvas_semantics.specs.Report.{report_line, state_name, value_text};
 ghost use Rattle.canvas_semantics.specs.Evaluation.{state_of};
 ghost use Rattle.canvas_semantics.specs.States.{rows_from};
 
-use canvas_task::{Memory, Outcome, TaskNo};
-use std::fmt;
+use canvas_task::{Fault, Outcome, TaskNo, task_text};
+use std::alloc::AllocError;
 
-/// A task's outcome, or none while it is pending. It is printed as a report shows its value.
+/// A task's outcome, or none while it is pending.
 #[derive(Clone, Copy)]
 pub(crate) struct State(Option<Outcome>);
-
-impl fmt::Display for State {
-    ghost use Rattle.std.specs.Prelude.{Some};
-    ghost use Rattle.canvas_semantics.specs.Report.{value_text};
-
-    ghost output = { λ state. Some (value_text state.0) };
-
-    fn fmt<W: fmt::Write>(&self, f: &mut fmt::Formatter<W>) -> fmt::Result {
-        match self.0 {
-            None => f.write_str("-"),
-            Some(Outcome::Success(number)) => write!(f, "{number}"),
-            Some(Outcome::Failure(fault)) => write!(f, "{fault}"),
-        }
-    }
-}
 
 /// A function for its contract's sake, which says of rows what `get` and `copied` say one after the
 /// other.
@@ -56,17 +44,60 @@ impl State {
     }
 }
 
-/// The line of one task.
+/// Adds a number.
+fn push_number(text: &mut String, number: i64) -> Result<(), AllocError>
+    ensures { OnOk result
+        (string_bytes text.new ≡ string_bytes text.old ++ signed_decimal number) }
+{
+    let mut buffer = itoa::Buffer::new();
+    text.push_str(buffer.format(number))
+}
+
+/// Adds why a task failed.
+fn push_fault(text: &mut String, fault: &Fault) -> Result<(), AllocError>
+    ensures { OnOk result
+        (string_bytes text.new ≡ string_bytes text.old ++ fault_text fault.now) }
+{
+    write!(text, "{fault}")?;
+    Ok(())
+}
+
+/// Adds the value of a state, as a report shows it.
+pub(crate) fn push_value(text: &mut String, state: &State) -> Result<(), AllocError>
+    ensures { OnOk result
+        (string_bytes text.new ≡ string_bytes text.old ++ value_text state.now.0) }
+{
+    match state.0 {
+        None => text.push_str("-"),
+        Some(Outcome::Success(number)) => push_number(text, number),
+        Some(Outcome::Failure(fault)) => push_fault(text, &fault),
+    }
+}
+
+/// Adds the identifier of a task.
+fn push_identifier(text: &mut String, task: TaskNo) -> Result<(), AllocError>
+    ensures { OnOk result (string_bytes text.new ≡ string_bytes text.old ++ task_text task) }
+{
+    let identifier = task_text(task);
+    text.push_str(str::from_utf8(&identifier).unwrap())
+}
+
+/// The line of one task, by its pieces, which takes fewer steps than by a format.
 pub(crate) fn push_row(
     text: &mut String,
     task: TaskNo,
     name: &str,
     state: &State,
-) -> Result<(), Memory>
+) -> Result<(), AllocError>
     ensures { OnOk result (string_bytes text.new
         ≡ string_bytes text.old ++ report_line (task, name.now) state.now.0) }
 {
-    let word = state.name();
-    writeln!(text, "{task} {name} {word} {state}")?;
-    Ok(())
+    push_identifier(text, task)?;
+    text.push_str(" ")?;
+    text.push_str(name)?;
+    text.push_str(" ")?;
+    text.push_str(state.name())?;
+    text.push_str(" ")?;
+    push_value(text, state)?;
+    text.push_str("\n")
 }
