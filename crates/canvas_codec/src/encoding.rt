@@ -16,12 +16,12 @@ ghost use Rattle.canvas_message.specs.Fits.{fits};
 ghost use Rattle.canvas_message.specs.EnvelopeFaults.{Says};
 ghost use Rattle.canvas_codec.specs.Wire.{carried_wire, embed_wire, properties_wire, headers_wire, body_wire};
 
+use crate::room::body_room;
 use crate::write::Miss;
 use crate::write::embed::{write_callbacks_and_chain, write_chord_and_errbacks};
 use crate::write::light::{put_body, put_headers, put_properties};
 use crate::write::text::ascii;
 use canvas_message::{Envelope, Message};
-use canvas_rewrite::{FrozenLine, FrozenTask, Place};
 use canvas_sig::parts::{write_args, write_named};
 use canvas_task::{Arg, ListOf, Memory, TaskNo, task_text};
 use json::Writer;
@@ -85,77 +85,6 @@ fn new_writer(alloc: Global, room: usize) -> Writer
         Ok(bytes) => Writer::new(bytes),
         Err(_) => Writer::new(Vec::new(alloc)),
     }
-}
-
-/// How many bytes an argument has at least, with its comma.
-fn argument_room(arg: &Arg) -> usize {
-    match arg {
-        Arg::Num(_) => 8,
-        Arg::List(numbers) => numbers.get().len().saturating_mul(2).saturating_add(8),
-        Arg::Text(text) => text.get().len().saturating_add(8),
-    }
-}
-
-fn arguments_room(args: &[Arg]) -> usize {
-    let mut room: usize = 0;
-    for arg in args {
-        room = room.saturating_add(argument_room(arg));
-    }
-    room
-}
-
-/// About how many bytes the text of a task has, with its callbacks.
-fn task_room(task: &FrozenTask) -> usize {
-    let callbacks = task
-        .links
-        .get()
-        .len()
-        .saturating_add(task.errbacks.get().len());
-    callbacks
-        .saturating_mul(160)
-        .saturating_add(arguments_room(task.args.get()))
-        .saturating_add(200)
-}
-
-/// About how many bytes the tasks of a line have.
-fn line_room(tasks: &[FrozenTask]) -> usize {
-    let mut room: usize = 0;
-    for task in tasks {
-        room = room.saturating_add(task_room(task));
-    }
-    room
-}
-
-/// About how many bytes what follows a task has.
-fn rest_room(rest: &Option<FrozenLine>) -> usize {
-    match rest {
-        Some(line) => line_room(line.tasks.get()),
-        None => 0,
-    }
-}
-
-/// About how many bytes a place has, with the body that it carries.
-fn place_room(place: &Option<Place>) -> usize {
-    match place {
-        Some(place) => match &place.chord {
-            Some(carried) => line_room(carried.body.tasks.get()),
-            None => 0,
-        },
-        None => 0,
-    }
-}
-
-/// About how many bytes a body has, so that most bodies stay where they are begun. What the message
-/// carries may be known.
-fn body_room(message: &Message, known: Option<&str>) -> usize {
-    let carried = match known {
-        Some(text) => text.len(),
-        None => place_room(&message.place),
-    };
-    rest_room(&message.rest)
-        .saturating_add(carried)
-        .saturating_add(arguments_room(message.args.get()))
-        .saturating_add(256)
 }
 
 /// The bytes of a text, which are UTF-8.

@@ -5,6 +5,7 @@ mod by_parts;
 mod decoding;
 mod encoding;
 mod read;
+mod room;
 mod sealing;
 mod write;
 
