@@ -16,7 +16,7 @@ ghost use Rattle.canvas_message.specs.Fits.{fits};
 ghost use Rattle.canvas_message.specs.EnvelopeFaults.{Says};
 ghost use Rattle.canvas_codec.specs.Wire.{carried_wire, embed_wire, properties_wire, headers_wire, body_wire};
 
-use crate::room::body_room;
+use crate::room::{body_room, headers_room};
 use crate::write::Miss;
 use crate::write::embed::{write_callbacks_and_chain, write_chord_and_errbacks};
 use crate::write::light::{put_body, put_headers, put_properties};
@@ -30,9 +30,6 @@ use std::collections::BTreeMap;
 
 /// The properties have 137 bytes.
 const PROPERTIES_ROOM: usize = 137;
-
-/// What most headers have at most.
-const HEADERS_ROOM: usize = 320;
 
 fn write_arguments(out: &mut Writer, args: &[Arg]) -> Result<(), AllocError>
     ensures { Appends result out.old out.new
@@ -111,7 +108,7 @@ fn headers_of(alloc: Global, message: &Message, id: &str) -> Result<ListOf<u8>, 
     ensures value { IfOk result (λ text. text ≡ compact_text (headers_wire message.now)) }
     ensures utf8 { IfOk result (λ text. IsUtf8 text) }
 {
-    let mut out = String::with_capacity(alloc, HEADERS_ROOM)?;
+    let mut out = String::with_capacity(alloc, headers_room(message))?;
     put_headers(alloc, &mut out, message, id)?;
     Ok(bytes_of(out))
 }

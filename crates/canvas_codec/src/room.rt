@@ -24,16 +24,12 @@ fn arguments_room(args: &[Arg]) -> usize {
 /// Of a task, with its callbacks and its place.
 #[cycle(rooms)]
 fn task_room(task: &FrozenTask) -> usize {
-    let callbacks = task
-        .links
-        .get()
-        .len()
-        .saturating_add(task.errbacks.get().len());
-    callbacks
-        .saturating_mul(160)
+    tasks_room(task.links.get())
+        .saturating_add(tasks_room(task.errbacks.get()))
         .saturating_add(arguments_room(task.args.get()))
         .saturating_add(place_room(&task.place))
-        .saturating_add(200)
+        .saturating_add(task.name.get().len())
+        .saturating_add(150)
 }
 
 /// Of a place, with the body that it carries.
@@ -50,11 +46,7 @@ fn place_room(place: &Option<Place>) -> usize {
 
 #[cycle(rooms)]
 fn line_room(line: &FrozenLine) -> usize {
-    let mut room = end_room(&line.tail);
-    for task in line.tasks.get() {
-        room = room.saturating_add(task_room(task));
-    }
-    room
+    tasks_room(line.tasks.get()).saturating_add(end_room(&line.tail))
 }
 
 /// Of the group or chord at the end of a line, where there is one.
@@ -84,7 +76,22 @@ fn rest_room(rest: &Option<FrozenLine>) -> usize {
     }
 }
 
-/// Of a body. What the message carries may be known.
+#[cycle(rooms)]
+fn tasks_room(tasks: &[FrozenTask]) -> usize {
+    let mut room: usize = 0;
+    for task in tasks {
+        room = room.saturating_add(task_room(task));
+    }
+    room
+}
+
+/// Of headers that name a group and a parent: all but the task's name is as long in all of them.
+pub(crate) fn headers_room(message: &Message) -> usize {
+    message.name.get().len().saturating_add(216)
+}
+
+/// Of a body. What the message carries may be known. Where nothing goes with the call, what stands
+/// around its arguments has 69 bytes.
 pub(crate) fn body_room(message: &Message, known: Option<&str>) -> usize {
     let carried = match known {
         Some(text) => text.len(),
@@ -92,6 +99,9 @@ pub(crate) fn body_room(message: &Message, known: Option<&str>) -> usize {
     };
     rest_room(&message.rest)
         .saturating_add(carried)
+        .saturating_add(tasks_room(message.links.get()))
+        .saturating_add(tasks_room(message.errbacks.get()))
         .saturating_add(arguments_room(message.args.get()))
-        .saturating_add(256)
+        .saturating_add(message.kwargs.get().len().saturating_mul(24))
+        .saturating_add(72)
 }
