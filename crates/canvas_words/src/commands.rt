@@ -6,7 +6,7 @@ use crate::arguments::{
     EXPLAIN, FAIL, FIGURES_JSON, FILE, FILE_ALONE, JSON, OF, PREFIX, QUEUE, RENAME, RESULTS, RUN,
     STATES, STRICT, TASK, TASKS, TURNS, WITHOUT_SCRIPT, WORKERS, arguments_of,
 };
-use clap::Command;
+use clap::{Arg, Command};
 use std::alloc::{AllocError, Global};
 
 /// The arguments of `graph`.
@@ -34,7 +34,7 @@ const EXPORT: [Argument; 8] = [
 ];
 
 impl Subcommand {
-    fn about(self) -> &'static str {
+    fn about<'a>(self) -> &'a str {
         match self {
             Subcommand::Run => "Runs a canvas and prints the state and result of each task",
             Subcommand::Turns => {
@@ -63,23 +63,29 @@ impl Subcommand {
         }
     }
 
-    fn arguments(self) -> &'static [Argument] {
+    fn arguments<'a>(self, alloc: Global) -> Result<Vec<Arg<'a>>, AllocError> {
         match self {
-            Subcommand::Run => &[FILE, WORKERS, TASK, TASKS, JSON, EXPLAIN, EACH, FAIL],
-            Subcommand::Turns => &[FILE, WORKERS, TURNS, AGAIN, TASK, TASKS, JSON, FAIL],
-            Subcommand::Normal => &[FILE],
-            Subcommand::Check => &[FILE, TASK, TASKS, FIGURES_JSON, STRICT],
-            Subcommand::Adapt => &[FILE, RENAME],
-            Subcommand::Graph => &GRAPH,
-            Subcommand::Messages => &[FILE, WORKERS, TURNS, TASK, TASKS],
-            Subcommand::Export => &EXPORT,
-            Subcommand::Keys => &[FILE, RUN, PREFIX],
-            Subcommand::Collect => &[FILE_ALONE, RUN, COMPLETE, JSON],
+            Subcommand::Run => arguments_of(
+                alloc,
+                &[FILE, WORKERS, TASK, TASKS, JSON, EXPLAIN, EACH, FAIL],
+            ),
+            Subcommand::Turns => arguments_of(
+                alloc,
+                &[FILE, WORKERS, TURNS, AGAIN, TASK, TASKS, JSON, FAIL],
+            ),
+            Subcommand::Normal => arguments_of(alloc, &[FILE]),
+            Subcommand::Check => { arguments_of(alloc, &[FILE, TASK, TASKS, FIGURES_JSON, STRICT]) }
+            Subcommand::Adapt => arguments_of(alloc, &[FILE, RENAME]),
+            Subcommand::Graph => arguments_of(alloc, &GRAPH),
+            Subcommand::Messages => { arguments_of(alloc, &[FILE, WORKERS, TURNS, TASK, TASKS]) }
+            Subcommand::Export => arguments_of(alloc, &EXPORT),
+            Subcommand::Keys => arguments_of(alloc, &[FILE, RUN, PREFIX]),
+            Subcommand::Collect => arguments_of(alloc, &[FILE_ALONE, RUN, COMPLETE, JSON]),
         }
     }
 
     fn as_clap<'a>(self, alloc: Global) -> Result<Command<'a>, AllocError> {
-        let arguments = arguments_of(alloc, self.arguments())?;
+        let arguments = self.arguments(alloc)?;
         Command::new(alloc, self.name())
             .about(self.about())
             .args(arguments)

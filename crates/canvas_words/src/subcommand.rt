@@ -34,7 +34,7 @@ impl Subcommand {
     ];
 
     /// The word that stands for it.
-    pub fn name(self) -> &'static str
+    pub fn name<'a>(self) -> &'a str
         ensures { result.now ≡ command_name self }
     {
         match self {

@@ -1,0 +1,47 @@
+-- No command is missing in the list of all.
+use Rattle.std.proofs.Common.{◌≡◌, ◌≢◌, ◌⊎◌, inl, inr, ℕ, ◌+◌, ◌<◌, Bool, false, List, [], ◌∷◌, get_or, drop, refl, sym, ap, ◌∙◌, subst}
+use Rattle.std.specs.Str.{bytes_eq}
+use Rattle.std.proofs.lemmas.Bool.Decides.{not_from_Decides}
+use Rattle.std.proofs.lemmas.List.{drop_more}
+use Rattle.std.proofs.lemmas.Slice.Eq.{bytes_eq-Decides}
+use Rattle.canvas_words.specs.Names.{command_name}
+use Rattle.canvas_words.specs.declared.subcommand.Subcommand.{Subcommand}
+use Rattle.canvas_words.specs.declared.subcommand.Subcommand.TheVariants.{Run, Turns, Normal, Check, Adapt, Graph, Messages, Export, Keys, Collect}
+
+abbrev pub Has : Subcommand → List Subcommand → Type 0
+Has c [] = ⊥
+Has c (d ∷ ds) = (c ≡ d) ⊎ Has c ds
+
+-- a command of this name is among these
+abbrev pub Left : List ℕ → List Subcommand → Type 0
+Left name ds = (c : Subcommand) → name ≡ command_name c → Has c ds
+
+abbrev pub all : List Subcommand
+all = Run ∷ Turns ∷ Normal ∷ Check ∷ Adapt ∷ Graph ∷ Messages ∷ Export ∷ Keys ∷ Collect ∷ []
+
+all_there : (c : Subcommand) → Has c all
+all_there Run = inl refl
+all_there Turns = inr (inl refl)
+all_there Normal = inr (inr (inl refl))
+all_there Check = inr (inr (inr (inl refl)))
+all_there Adapt = inr (inr (inr (inr (inl refl))))
+all_there Graph = inr (inr (inr (inr (inr (inl refl)))))
+all_there Messages = inr (inr (inr (inr (inr (inr (inl refl))))))
+all_there Export = inr (inr (inr (inr (inr (inr (inr (inl refl)))))))
+all_there Keys = inr (inr (inr (inr (inr (inr (inr (inr (inl refl))))))))
+all_there Collect = inr (inr (inr (inr (inr (inr (inr (inr (inr (inl refl)))))))))
+
+pub all_left : (name : List ℕ) → Left name all
+all_left name c is = all_there c
+
+other : (name : List ℕ) (c d : Subcommand) (ds : List Subcommand) → name ≡ command_name c → command_name d ≢ name → Has c (d ∷ ds) → Has c ds
+other name c d ds is differs (inl same) = absurd (differs (sym (is ∙ ap command_name same)))
+other name c d ds is differs (inr has) = has
+
+-- one that has another name is none of those left
+pub still_left : (name told : List ℕ) (i : ℕ) (same : Bool) → i < 10 → Left name (drop i all) → told ≡ command_name (get_or all i Run)
+    → same ≡ bytes_eq told name → same ≡ false → Left name (drop (i + 1) all)
+still_left name told i same short left is test fails =
+    let differs : told ≢ name = not_from_Decides (bytes_eq told name) (bytes_eq-Decides told name) (sym test ∙ fails) in
+    let now : Left name (get_or all i Run ∷ drop (i + 1) all) = subst (λ ds. Left name ds) (drop_more all i Run short) left in
+    λ c its. other name c (get_or all i Run) (drop (i + 1) all) its (λ e. differs (is ∙ e)) (now c its)
