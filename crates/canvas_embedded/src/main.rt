@@ -6,7 +6,7 @@ ghost use Rattle.std.specs.Prelude.{◌-ℤ◌, Ok};
 
 use anyhow::Result;
 use canvas_engine::{OpenGate, Report, Stop, report_text, run};
-use canvas_rewrite::{Plan, freeze, normalise};
+use canvas_rewrite::Plan;
 use canvas_sig::{Canvas, Node};
 use canvas_task::{Add, Kind, OfTwo, TaskOfTwo, Xsum, registry_of};
 use std::alloc::{AllocError, AllocGlobal, Global};
@@ -34,11 +34,6 @@ fn sums(alloc: Global) -> Result<Node, AllocError> {
     Node::chord(alloc, header, Node::call(alloc, "tasks.xsum", &[])?)
 }
 
-fn plan_of(alloc: Global, canvas: &Canvas) -> Result<Plan> {
-    let line = normalise(alloc, canvas)?;
-    Ok(freeze(alloc, &line)?)
-}
-
 /// The report of a plan, by four workers.
 fn report_of<R>(rt: &R, alloc: Global, plan: &Plan) -> Result<Report>
 where
@@ -58,7 +53,7 @@ fn report_of_sums<R>(rt: &R, alloc: Global) -> Result<String>
 where
     R: Threads + Wait + RandomSource + AllocGlobal + Sync,
 {
-    let plan = plan_of(alloc, &Canvas::of(alloc, sums(alloc)?)?)?;
+    let plan = Plan::of(alloc, Canvas::of(alloc, sums(alloc)?)?)?;
     let report = report_of(rt, alloc, &plan)?;
     Ok(report_text(alloc, &plan, &report)?)
 }

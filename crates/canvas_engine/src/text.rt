@@ -1,13 +1,11 @@
 //! From the text of a canvas to the text of its report.
-ghost use Rattle.std.specs.Prelude.{◌≡◌, List, Ok, IfOk, IfErr, IfSome, OnOk, string_bytes};
+ghost use Rattle.std.specs.Prelude.{◌≡◌, List, Ok, IfOk, IfErr, IfSome, string_bytes};
 ghost use Rattle.canvas_history.specs.Callers.{told};
 ghost use Rattle.canvas_values.specs.CanvasText.{text_reading};
-ghost use Rattle.canvas_semantics.specs.NormalLine.{normal};
-ghost use Rattle.canvas_semantics.specs.Tree.{Tree, numbered};
+ghost use Rattle.canvas_semantics.specs.Tree.{Tree};
 ghost use Rattle.canvas_semantics.specs.Evaluation.{State};
 ghost use Rattle.canvas_semantics.specs.Line.{tree_of};
 ghost use Rattle.canvas_semantics.specs.Report.{report, report_of};
-ghost use Rattle.canvas_semantics.specs.SameMeaning.{IsSame};
 ghost use Rattle.canvas_semantics.specs.States.{rows_from, states};
 ghost use Rattle.canvas_engine.specs.Correct.{AreWorkers, IsAsked, IsWholeAgain, IsRunFault, IsThreadFault};
 ghost use Rattle.canvas_engine.specs.Headline.{Headline, OnlyWanted};
@@ -16,8 +14,8 @@ ghost use Rattle.canvas_engine.specs.declared.records.Records.{Records};
 ghost use Rattle.canvas_engine.specs.steps.PlanTexts.{IsPlanFault, IsReadFault};
 
 use crate::{Records, RunFault, When, report_text, run, run_turns_again};
-use canvas_rewrite::{Plan, freeze, into_normal};
-use canvas_sig::{Canvas, SigFault, read_canvas};
+use canvas_rewrite::Plan;
+use canvas_sig::{SigFault, read_canvas};
 use canvas_task::{Memory, TaskNo, Tasks};
 use canvas_worker::{Gate, Stop};
 use std::alloc::{AllocGlobal, Global};
@@ -55,15 +53,6 @@ impl From<Memory> for TextFault {
     }
 }
 
-/// The plan of a canvas, whose parts become its normal line.
-fn plan_of(alloc: Global, canvas: Canvas) -> Result<Plan, Memory>
-    ensures tree { IfOk result (λ plan. tree_of plan ≡ numbered (normal canvas)) }
-    ensures same { OnOk result (IsSame (normal canvas) canvas) }
-{
-    let line = into_normal(alloc, canvas)?;
-    freeze(alloc, &line)
-}
-
 /// The canvas of a text, with its plan.
 fn read_plan(alloc: Global, bytes: &[u8]) -> Result<Plan, TextFault>
     ensures ok { IfOk result (λ plan. (c : Tree) × IsPlanOfText bytes.now c plan) }
@@ -74,7 +63,7 @@ fn read_plan(alloc: Global, bytes: &[u8]) -> Result<Plan, TextFault>
         Err(SigFault::Memory) => return Err(TextFault::Memory),
         Err(fault) => return Err(TextFault::Sig(fault)),
     };
-    match plan_of(alloc, canvas) {
+    match Plan::of(alloc, canvas) {
         Ok(plan) => Ok(plan),
         Err(Memory) => Err(TextFault::Memory),
     }

@@ -32,10 +32,10 @@ front (t ∷ ts) l =
     one_more [] = refl
     one_more (x ∷ xs) = ap (Frozen.step (task_view x)) (one_more xs)
 
-made_none : (ts : List TaskSig) → line_of (roll-Line (record { tasks = ts; tail = None })) ≡ steps_onto (map task_view ts) stop
+pub made_none : (ts : List TaskSig) → line_of (roll-Line (record { tasks = ts; tail = None })) ≡ steps_onto (map task_view ts) stop
 made_none ts = search (rules, line.the_lemmas)
 
-made_some : (ts : List TaskSig) (b : Box LineEnd Global)
+pub made_some : (ts : List TaskSig) (b : Box LineEnd Global)
     → line_of (roll-Line (record { tasks = ts; tail = Some b })) ≡ steps_onto (map task_view ts) (end_of b.value)
 made_some ts b = search (rules, line.the_lemmas)
 

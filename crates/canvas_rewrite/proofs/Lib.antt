@@ -5,6 +5,7 @@ pub mod FrozenMade
 pub mod PlanLines
 pub mod NormalRuns
 pub mod GrowingLines
+pub mod CopiedLines
 pub mod NameLines
 pub mod Members
 pub mod NodeLines

@@ -54,10 +54,10 @@ module _ (r : Result Growing AllocError) (n : Node) (after : Trees) (nodes xs : 
 
 -- ---- a line of one group or chord
 
-group_ended : (ms : List Line) → end_of (roll-LineEnd (record { members = ms; body = None })) ≡ Frozen.group_end 0 (lines_of (map line_of ms))
+pub group_ended : (ms : List Line) → end_of (roll-LineEnd (record { members = ms; body = None })) ≡ Frozen.group_end 0 (lines_of (map line_of ms))
 group_ended ms = search (rules, line.the_lemmas)
 
-chord_ended : (ms : List Line) (b : Line)
+pub chord_ended : (ms : List Line) (b : Line)
     → end_of (roll-LineEnd (record { members = ms; body = Some b })) ≡ Frozen.chord_end 0 (lines_of (map line_of ms)) (line_of b)
 chord_ended ms b = search (rules, line.the_lemmas)
 

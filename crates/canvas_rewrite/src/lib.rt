@@ -2,6 +2,7 @@
 #![tactic(auto)]
 
 mod as_node;
+mod copying;
 mod ends;
 mod frozen;
 mod group_list;
@@ -26,5 +27,5 @@ pub use frozen::{Carried, FrozenEnd, FrozenLine, FrozenTask, Place};
 pub use group_list::Groups;
 pub use line::{Line, LineEnd};
 pub use moving::into_normal;
-pub use plan::{Plan, freeze};
+pub use plan::{Plan, freeze, into_plan};
 pub use rewriting::normalise;

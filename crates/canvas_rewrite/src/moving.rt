@@ -55,7 +55,7 @@ fn move_lines(alloc: Global, nodes: Vec<Node>) -> Result<Vec<Line>, AllocError>
     ensures { IfOk result
         (λ lines. map elements lines.items ≡ map (λ n. onto (view n) no_trees) nodes.items) }
 {
-    let mut lines = Vec::new(alloc);
+    let mut lines = Vec::with_capacity(alloc, nodes.len())?;
     for node in nodes {
         let line = move_onto(alloc, node, Growing::empty(alloc))?;
         lines.push(line.into_line())?;

@@ -1,4 +1,4 @@
-//! Numbers in file order.
+//! Numbers in file order, given to a line whose parts are moved: none is copied.
 ghost use Rattle.std.specs.Prelude.{◌≡◌, ◌≤◌, ◌+◌, IfOk, OnOk, map};
 ghost use Rattle.canvas_semantics.specs.Tree.{count_task, number_task};
 ghost use Rattle.canvas_values.specs.SignatureView.{task_view, tasks_of};
@@ -10,7 +10,7 @@ ghost use Rattle.canvas_semantics.specs.steps.Numbering.{greatest_number, tasks_
 
 use crate::texts::read_call;
 use crate::{FrozenEnd, FrozenLine, FrozenTask, Line, LineEnd};
-use canvas_task::{GroupNo, ListOf, TaskNo, copy_args, copy_kwargs};
+use canvas_task::{GroupNo, ListOf, TaskNo};
 use canvas_values::TaskSig;
 use std::alloc::{AllocError, Global};
 
@@ -31,29 +31,34 @@ pub(crate) fn group_no(number: u32) -> GroupNo
 /// The task, numbered from `next` on, and the number after its last.
 #[cycle(tasks)]
 #[tactic(auto, using(crate::proofs::FrozenViews::task_counted))]
-fn freeze_task(alloc: Global, sig: &TaskSig, next: &mut u32) -> Result<FrozenTask, AllocError>
+fn freeze_task(alloc: Global, sig: TaskSig, next: &mut u32) -> Result<FrozenTask, AllocError>
     requires first { 1 ≤ next.old }
-    requires few { next.old + count_task (task_view sig.now) ≤ greatest_number }
+    requires few { next.old + count_task (task_view sig) ≤ greatest_number }
     ensures value { IfOk result
-        (λ t. p_task_view t ≡ bare_task (number_task next.old (task_view sig.now))) }
-    ensures next { IfOk result (λ _. next.new ≡ next.old + count_task (task_view sig.now)) }
-    ensures utf8 { OnOk result (IsUtf8Task (task_view sig.now)) }
+        (λ t. p_task_view t ≡ bare_task (number_task next.old (task_view sig))) }
+    ensures next { IfOk result (λ _. next.new ≡ next.old + count_task (task_view sig)) }
+    ensures utf8 { OnOk result (IsUtf8Task (task_view sig)) }
 {
     // For the proof alone: a text that is read is known to be UTF-8.
-    read_call(sig);
+    read_call(&sig);
     let no = task_no(*next);
     *next += 1;
-    let name = sig.name.clone()?;
-    let args = copy_args(&sig.args)?;
-    let kwargs = copy_kwargs(alloc, &sig.kwargs)?;
-    let links = freeze_tasks(alloc, sig.links.get(), next)?;
-    let errbacks = freeze_tasks(alloc, sig.errbacks.get(), next)?;
+    let TaskSig {
+        name,
+        args,
+        kwargs,
+        immutable,
+        links,
+        errbacks,
+    } = sig;
+    let links = freeze_tasks(alloc, links.into_plain(), next)?;
+    let errbacks = freeze_tasks(alloc, errbacks.into_plain(), next)?;
     Ok(FrozenTask {
         no,
         name,
         args,
         kwargs,
-        immutable: sig.immutable,
+        immutable,
         links: ListOf::of(links),
         errbacks: ListOf::of(errbacks),
         place: None,
@@ -63,17 +68,17 @@ fn freeze_task(alloc: Global, sig: &TaskSig, next: &mut u32) -> Result<FrozenTas
 #[cycle(tasks)]
 fn freeze_tasks(
     alloc: Global,
-    sigs: &[TaskSig],
+    sigs: Vec<TaskSig>,
     next: &mut u32,
 ) -> Result<Vec<FrozenTask>, AllocError>
     requires first { 1 ≤ next.old }
-    requires few { next.old + tasks_in (map task_view sigs.now) ≤ greatest_number }
+    requires few { next.old + tasks_in (map task_view sigs.items) ≤ greatest_number }
     ensures value { IfOk result
-        (λ ts. map p_task_view ts.items ≡ tasks_from next.old (map task_view sigs.now)) }
-    ensures next { IfOk result (λ _. next.new ≡ next.old + tasks_in (map task_view sigs.now)) }
-    ensures utf8 { OnOk result (AreUtf8Tasks (tasks_of (map task_view sigs.now))) }
+        (λ ts. map p_task_view ts.items ≡ tasks_from next.old (map task_view sigs.items)) }
+    ensures next { IfOk result (λ _. next.new ≡ next.old + tasks_in (map task_view sigs.items)) }
+    ensures utf8 { OnOk result (AreUtf8Tasks (tasks_of (map task_view sigs.items))) }
 {
-    let mut frozen = Vec::new(alloc);
+    let mut frozen = Vec::with_capacity(alloc, sigs.len())?;
     for sig in sigs {
         frozen.push(freeze_task(alloc, sig, next)?)?;
     }
@@ -85,23 +90,23 @@ fn freeze_tasks(
 #[cycle(lines)]
 pub(crate) fn freeze_line(
     alloc: Global,
-    line: &Line,
+    line: Line,
     task: &mut u32,
     group: &mut u32,
 ) -> Result<FrozenLine, AllocError>
-    requires { HasRoom task.old group.old (count_line (line_of line.now))
-        (line_groups (line_of line.now)) }
+    requires { HasRoom task.old group.old (count_line (line_of line)) (line_groups (line_of line)) }
     ensures value { IfOk result
-        (λ l. p_line_view l ≡ bare (number_line task.old group.old (line_of line.now))) }
-    ensures task { IfOk result (λ _. task.new ≡ task.old + count_line (line_of line.now)) }
-    ensures group { IfOk result (λ _. group.new ≡ group.old + line_groups (line_of line.now)) }
-    ensures utf8 { OnOk result (IsUtf8Line (line_of line.now)) }
+        (λ l. p_line_view l ≡ bare (number_line task.old group.old (line_of line))) }
+    ensures task { IfOk result (λ _. task.new ≡ task.old + count_line (line_of line)) }
+    ensures group { IfOk result (λ _. group.new ≡ group.old + line_groups (line_of line)) }
+    ensures utf8 { OnOk result (IsUtf8Line (line_of line)) }
 {
-    let tasks = ListOf::of(freeze_tasks(alloc, line.tasks.get(), task)?);
-    match &line.tail {
+    let Line { tasks, tail } = line;
+    let tasks = ListOf::of(freeze_tasks(alloc, tasks.into_plain(), task)?);
+    match tail {
         None => Ok(FrozenLine { tasks, tail: None }),
         Some(end) => {
-            let end = freeze_end(alloc, end, task, group)?;
+            let end = freeze_end(alloc, Box::into_inner(end), task, group)?;
             let tail = Box::new(alloc, end)?;
             Ok(FrozenLine {
                 tasks,
@@ -114,22 +119,22 @@ pub(crate) fn freeze_line(
 #[cycle(lines)]
 fn freeze_end(
     alloc: Global,
-    end: &LineEnd,
+    end: LineEnd,
     task: &mut u32,
     group: &mut u32,
 ) -> Result<FrozenEnd, AllocError>
-    requires { HasRoom task.old group.old (count_line (end_of end.now))
-        (line_groups (end_of end.now)) }
+    requires { HasRoom task.old group.old (count_line (end_of end)) (line_groups (end_of end)) }
     ensures value { IfOk result
-        (λ e. p_end_view e ≡ bare (number_line task.old group.old (end_of end.now))) }
-    ensures task { IfOk result (λ _. task.new ≡ task.old + count_line (end_of end.now)) }
-    ensures group { IfOk result (λ _. group.new ≡ group.old + line_groups (end_of end.now)) }
-    ensures utf8 { OnOk result (IsUtf8Line (end_of end.now)) }
+        (λ e. p_end_view e ≡ bare (number_line task.old group.old (end_of end))) }
+    ensures task { IfOk result (λ _. task.new ≡ task.old + count_line (end_of end)) }
+    ensures group { IfOk result (λ _. group.new ≡ group.old + line_groups (end_of end)) }
+    ensures utf8 { OnOk result (IsUtf8Line (end_of end)) }
 {
     let number = group_no(*group);
     *group += 1;
-    let members = ListOf::of(freeze_lines(alloc, end.members.get(), task, group)?);
-    match &end.body {
+    let LineEnd { members, body } = end;
+    let members = ListOf::of(freeze_lines(alloc, members.into_plain(), task, group)?);
+    match body {
         None => Ok(FrozenEnd {
             group: number,
             members,
@@ -149,20 +154,20 @@ fn freeze_end(
 #[cycle(lines)]
 fn freeze_lines(
     alloc: Global,
-    lines: &[Line],
+    lines: Vec<Line>,
     task: &mut u32,
     group: &mut u32,
 ) -> Result<Vec<FrozenLine>, AllocError>
-    requires { HasRoom task.old group.old (lines_count (map line_of lines.now))
-        (lines_group_count (map line_of lines.now)) }
+    requires { HasRoom task.old group.old (lines_count (map line_of lines.items))
+        (lines_group_count (map line_of lines.items)) }
     ensures value { IfOk result
-        (λ ls. map p_line_view ls.items ≡ lines_from task.old group.old (map line_of lines.now)) }
-    ensures task { IfOk result (λ _. task.new ≡ task.old + lines_count (map line_of lines.now)) }
+        (λ ls. map p_line_view ls.items ≡ lines_from task.old group.old (map line_of lines.items)) }
+    ensures task { IfOk result (λ _. task.new ≡ task.old + lines_count (map line_of lines.items)) }
     ensures group { IfOk result
-        (λ _. group.new ≡ group.old + lines_group_count (map line_of lines.now)) }
-    ensures utf8 { OnOk result (AreUtf8Lines (lines_of (map line_of lines.now))) }
+        (λ _. group.new ≡ group.old + lines_group_count (map line_of lines.items)) }
+    ensures utf8 { OnOk result (AreUtf8Lines (lines_of (map line_of lines.items))) }
 {
-    let mut frozen = Vec::new(alloc);
+    let mut frozen = Vec::with_capacity(alloc, lines.len())?;
     for line in lines {
         frozen.push(freeze_line(alloc, line, task, group)?)?;
     }
