@@ -6,6 +6,7 @@ mod canvas_text;
 mod datum;
 mod fields;
 mod json_argument;
+mod members;
 mod number;
 mod own_fault;
 mod parsing;

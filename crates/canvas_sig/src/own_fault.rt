@@ -3,6 +3,7 @@
 ghost use Rattle.std.specs.Prelude.{◌≡◌, map, Some, false};
 ghost use Rattle.std.specs.List.{list_all};
 ghost use Rattle.canvas_sig.specs.Datum.{view, value_at, seen};
+ghost use Rattle.canvas_sig.specs.steps.Members.{AreFound};
 ghost use Rattle.canvas_values.specs.declared.primitive.Primitive.TheVariants.{Chain, Chord};
 ghost use Rattle.canvas_values.specs.Fields.{contents};
 ghost use Rattle.canvas_values.specs.Grammar.{is_name, is_text, is_group, kind_ok, numbers_ok, number_ok, args_ok, not_signature, bad_members, bad_args, bad_number, on_canvas, empty_chain, fault_as, own_fault};
@@ -11,8 +12,9 @@ use crate::arguments::{all_numbers, is_in_range};
 use crate::datum::Datum;
 use crate::fields::{
     is_empty, is_flag, is_link, is_list, is_list_or_null, is_null, is_object_or_null, is_true,
-    kwarg_of, listed, option_of,
+    listed,
 };
+use crate::members::Members;
 use crate::primitive::primitive_of;
 use canvas_task::name_ok;
 use canvas_values::{Primitive, SigFault};
@@ -98,10 +100,11 @@ fn all_numbers_ok(values: &[Datum<'_>]) -> bool
     true
 }
 
-fn not_signature(value: &Datum<'_>) -> bool
-    ensures { result ≡ not_signature (view value.now) }
+fn not_signature(members: &Members<'_>) -> bool
+    requires { AreFound members.now }
+    ensures { result ≡ not_signature (view members.now.value.now) }
 {
-    !value.is_object() || !is_name(value.get("task")) || !is_flag(value.get("immutable"))
+    !members.value.is_object() || !is_name(members.task) || !is_flag(members.immutable)
 }
 
 fn members_kinds_ok(members: &[(&str, Datum<'_>)]) -> bool
@@ -124,16 +127,20 @@ fn object_kinds_ok(value: &Datum<'_>) -> bool
     }
 }
 
-fn args_kinds_ok(value: &Datum<'_>) -> bool
-    ensures { result ≡ args_ok kind_ok (view value.now) }
+fn named_kinds_ok(field: Option<&Datum<'_>>) -> bool
+    ensures { result ≡ list_all kind_ok (contents (value_at field.entry)) }
 {
-    if !kinds_ok(listed(value.get("args"))) {
-        return false;
-    }
-    match value.get("kwargs") {
-        Some(kwargs) => object_kinds_ok(kwargs),
+    match field {
+        Some(value) => object_kinds_ok(value),
         None => true,
     }
+}
+
+fn args_kinds_ok(members: &Members<'_>) -> bool
+    requires { AreFound members.now }
+    ensures { result ≡ args_ok kind_ok (view members.now.value.now) }
+{
+    kinds_ok(listed(members.args)) && named_kinds_ok(members.kwargs)
 }
 
 fn members_numbers_ok(members: &[(&str, Datum<'_>)]) -> bool
@@ -156,25 +163,30 @@ fn object_numbers_ok(value: &Datum<'_>) -> bool
     }
 }
 
-fn args_numbers_ok(value: &Datum<'_>) -> bool
-    ensures { result ≡ args_ok numbers_ok (view value.now) }
+fn named_numbers_ok(field: Option<&Datum<'_>>) -> bool
+    ensures { result ≡ list_all numbers_ok (contents (value_at field.entry)) }
 {
-    if !all_numbers_ok(listed(value.get("args"))) {
-        return false;
-    }
-    match value.get("kwargs") {
-        Some(kwargs) => object_numbers_ok(kwargs),
+    match field {
+        Some(value) => object_numbers_ok(value),
         None => true,
     }
 }
 
-fn bad_members(value: &Datum<'_>, primitive: Primitive) -> bool
-    ensures { result ≡ bad_members primitive (view value.now) }
+fn args_numbers_ok(members: &Members<'_>) -> bool
+    requires { AreFound members.now }
+    ensures { result ≡ args_ok numbers_ok (view members.now.value.now) }
+{
+    all_numbers_ok(listed(members.args)) && named_numbers_ok(members.kwargs)
+}
+
+fn bad_members(members: &Members<'_>, primitive: Primitive) -> bool
+    requires { AreFound members.now }
+    ensures { result ≡ bad_members primitive (view members.now.value.now) }
 {
     match primitive {
-        Primitive::Task => !args_kinds_ok(value),
-        Primitive::Chain | Primitive::Group => !is_list(kwarg_of(value, "tasks")),
-        Primitive::Chord => bad_chord(value),
+        Primitive::Task => !args_kinds_ok(members),
+        Primitive::Chain | Primitive::Group => !is_list(members.kwarg("tasks")),
+        Primitive::Chord => bad_chord(members),
     }
 }
 
@@ -193,91 +205,107 @@ fn is_group(field: Option<&Datum<'_>>) -> bool
     }
 }
 
-fn bad_chord(value: &Datum<'_>) -> bool
-    ensures { result ≡ bad_members Chord (view value.now) }
+fn bad_chord(members: &Members<'_>) -> bool
+    requires { AreFound members.now }
+    ensures { result ≡ bad_members Chord (view members.now.value.now) }
 {
-    let header = kwarg_of(value, "header");
-    !(is_list(header) || is_group(header)) || is_null(kwarg_of(value, "body"))
+    let header = members.kwarg("header");
+    !(is_list(header) || is_group(header)) || is_null(members.kwarg("body"))
 }
 
-fn bad_args(value: &Datum<'_>, primitive: Primitive) -> bool
-    ensures { result ≡ bad_args primitive (view value.now) }
+fn bad_args(members: &Members<'_>, primitive: Primitive) -> bool
+    requires { AreFound members.now }
+    ensures { result ≡ bad_args primitive (view members.now.value.now) }
 {
-    !is_list_or_null(value.get("args"))
-        || !is_object_or_null(value.get("kwargs"))
-        || !is_object_or_null(value.get("options"))
-        || !is_link(option_of(value, "link"))
-        || !is_link(option_of(value, "link_error"))
-        || bad_members(value, primitive)
+    !is_list_or_null(members.args)
+        || !is_object_or_null(members.kwargs)
+        || !is_object_or_null(members.options)
+        || !is_link(members.link)
+        || !is_link(members.link_error)
+        || bad_members(members, primitive)
 }
 
-fn bad_number(value: &Datum<'_>, primitive: Primitive) -> bool
-    ensures { result ≡ bad_number primitive (view value.now) }
+fn bad_number(members: &Members<'_>, primitive: Primitive) -> bool
+    requires { AreFound members.now }
+    ensures { result ≡ bad_number primitive (view members.now.value.now) }
 {
     match primitive {
-        Primitive::Task => !args_numbers_ok(value),
+        Primitive::Task => !args_numbers_ok(members),
         _ => false,
     }
 }
 
 /// What only a task has stands on another primitive, or this stands where only a task may.
-fn on_canvas(value: &Datum<'_>, primitive: Primitive, linked: bool) -> bool
-    ensures { result ≡ on_canvas linked primitive (view value.now) }
+fn on_canvas(members: &Members<'_>, primitive: Primitive, linked: bool) -> bool
+    requires { AreFound members.now }
+    ensures { result ≡ on_canvas linked primitive (view members.now.value.now) }
 {
     match primitive {
         Primitive::Task => false,
-        _ => linked || has_task_members(value),
+        _ => linked || has_task_members(members),
     }
 }
 
-fn has_task_members(value: &Datum<'_>) -> bool
-    ensures { result ≡ on_canvas false Chain (view value.now) }
+fn has_task_members(members: &Members<'_>) -> bool
+    requires { AreFound members.now }
+    ensures { result ≡ on_canvas false Chain (view members.now.value.now) }
 {
-    !is_empty(value.get("args"))
-        || is_true(value.get("immutable"))
-        || !is_empty(option_of(value, "link"))
-        || !is_empty(option_of(value, "link_error"))
+    !is_empty(members.args)
+        || is_true(members.immutable)
+        || !is_empty(members.link)
+        || !is_empty(members.link_error)
 }
 
-fn empty_chain(value: &Datum<'_>, primitive: Primitive) -> bool
-    ensures { result ≡ empty_chain primitive (view value.now) }
+fn empty_chain(members: &Members<'_>, primitive: Primitive) -> bool
+    requires { AreFound members.now }
+    ensures { result ≡ empty_chain primitive (view members.now.value.now) }
 {
     match primitive {
-        Primitive::Chain => is_empty(kwarg_of(value, "tasks")),
+        Primitive::Chain => is_empty(members.kwarg("tasks")),
         _ => false,
     }
 }
 
-fn fault_as(value: &Datum<'_>, primitive: Primitive, linked: bool) -> Option<SigFault>
-    ensures { result ≡ fault_as linked (view value.now) (Some primitive) }
+fn fault_as(members: &Members<'_>, primitive: Primitive, linked: bool) -> Option<SigFault>
+    requires { AreFound members.now }
+    ensures { result ≡ fault_as linked (view members.now.value.now) (Some primitive) }
 {
-    if bad_args(value, primitive) {
+    if bad_args(members, primitive) {
         return Some(SigFault::BadArgs);
     }
-    if bad_number(value, primitive) {
+    if bad_number(members, primitive) {
         return Some(SigFault::BadNumber);
     }
-    if on_canvas(value, primitive, linked) {
+    if on_canvas(members, primitive, linked) {
         return Some(SigFault::OnCanvas);
     }
-    if !is_null(option_of(value, "chord")) {
+    if !is_null(members.chord) {
         return Some(SigFault::Frozen);
     }
-    if empty_chain(value, primitive) {
+    if empty_chain(members, primitive) {
         return Some(SigFault::EmptyChain);
     }
     None
 }
 
 /// The first of a signature's own faults; `linked` says that it is a link or an error callback.
+pub(crate) fn first_fault(members: &Members<'_>, linked: bool) -> Option<SigFault>
+    requires { AreFound members.now }
+    ensures { result ≡ own_fault linked (view members.now.value.now) }
+{
+    if not_signature(members) {
+        return Some(SigFault::NotSignature);
+    }
+    match primitive_of(members.subtask_type) {
+        Some(primitive) => fault_as(members, primitive, linked),
+        None => Some(SigFault::UnknownPrimitive),
+    }
+}
+
+/// The first of the faults of a value itself, read as a signature, as `first_fault` says.
 pub fn own_fault(value: &Datum<'_>, linked: bool) -> Option<SigFault>
     ensures { result ≡ own_fault linked (view value.now) }
 {
-    if not_signature(value) {
-        return Some(SigFault::NotSignature);
-    }
-    match primitive_of(value.get("subtask_type")) {
-        Some(primitive) => fault_as(value, primitive, linked),
-        None => Some(SigFault::UnknownPrimitive),
-    }
+    let members = Members::of(value);
+    first_fault(&members, linked)
 }

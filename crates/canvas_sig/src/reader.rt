@@ -2,6 +2,7 @@
 
 ghost use Rattle.std.specs.Prelude.{◌≡◌, map, string_bytes, IfOk, Some};
 ghost use Rattle.canvas_sig.specs.Datum.{view, value_at};
+ghost use Rattle.canvas_sig.specs.steps.Members.{AreFound};
 ghost use Rattle.canvas_values.specs.declared.primitive.Primitive.TheVariants.{Chain, Group, Chord};
 ghost use Rattle.canvas_values.specs.Fields.{as_list, text_of};
 ghost use Rattle.canvas_values.specs.Answers.{Gives, in_turn};
@@ -11,8 +12,9 @@ ghost use Rattle.canvas_values.specs.SignatureView.{task_view, trees_of, view as
 
 use crate::arguments::{read_args, read_kwargs};
 use crate::datum::Datum;
-use crate::fields::{is_list, is_true, kwarg_of, listed, option_of};
-use crate::own_fault::own_fault;
+use crate::fields::{is_list, is_true, listed};
+use crate::members::Members;
+use crate::own_fault::first_fault;
 use crate::primitive::primitive_of;
 use canvas_task::{ListOf, MapOf, TextOf};
 use canvas_values::{Node, Primitive, SigFault, TaskSig};
@@ -37,35 +39,39 @@ fn read_linked(alloc: Global, value: &Datum<'_>, left: u32) -> Result<TaskSig, S
     if left == 0 {
         return Err(SigFault::TooDeep);
     }
-    read_checked_link(alloc, value, left - 1)
+    let members = Members::of(&*value);
+    read_checked_link(alloc, &members, left - 1)
 }
 
 #[cycle(read_task)]
 #[tactic(auto, using(crate::proofs::Level::fails_with))]
-fn read_checked_link(alloc: Global, value: &Datum<'_>, left: u32) -> Result<TaskSig, SigFault>
-    ensures { Gives task_view result (linked_with (task_reading left) (view value.now)) }
+fn read_checked_link(alloc: Global, members: &Members<'_>, left: u32) -> Result<TaskSig, SigFault>
+    requires { AreFound members.now }
+    ensures { Gives task_view result
+        (linked_with (task_reading left) (view members.now.value.now)) }
 {
-    match own_fault(value, true) {
+    match first_fault(members, true) {
         Some(fault) => Err(fault),
-        None => read_task(alloc, value, left),
+        None => read_task(alloc, members, left),
     }
 }
 
 /// The task that a value without a fault of its own stands for.
 #[cycle(read_task)]
-fn read_task(alloc: Global, value: &Datum<'_>, left: u32) -> Result<TaskSig, SigFault>
-    ensures { Gives task_view result (task_with (task_reading left) (view value.now)) }
+fn read_task(alloc: Global, members: &Members<'_>, left: u32) -> Result<TaskSig, SigFault>
+    requires { AreFound members.now }
+    ensures { Gives task_view result (task_with (task_reading left) (view members.now.value.now)) }
 {
-    let args = read_args(alloc, listed(value.get("args")))?;
-    let kwargs = read_kwargs(alloc, value.get("kwargs"))?;
-    let links = read_link(alloc, option_of(value, "link"), left)?;
-    let errbacks = read_link(alloc, option_of(value, "link_error"), left)?;
-    let name = text_of(alloc, value.get("task"))?;
+    let args = read_args(alloc, listed(members.args))?;
+    let kwargs = read_kwargs(alloc, members.kwargs)?;
+    let links = read_link(alloc, members.link, left)?;
+    let errbacks = read_link(alloc, members.link_error, left)?;
+    let name = text_of(alloc, members.task)?;
     Ok(TaskSig {
         name: TextOf::of(name),
         args: ListOf::of(args),
         kwargs: MapOf::of(kwargs),
-        immutable: is_true(value.get("immutable")),
+        immutable: is_true(members.immutable),
         links: ListOf::of(links),
         errbacks: ListOf::of(errbacks),
     })
@@ -130,18 +136,20 @@ pub(crate) fn read_node(alloc: Global, value: &Datum<'_>, left: u32) -> Result<N
     if left == 0 {
         return Err(SigFault::TooDeep);
     }
-    read_checked(alloc, value, left - 1)
+    let members = Members::of(&*value);
+    read_checked(alloc, &members, left - 1)
 }
 
 #[cycle(read_node)]
 #[tactic(auto, using(crate::proofs::Level::fails_with))]
-fn read_checked(alloc: Global, value: &Datum<'_>, left: u32) -> Result<Node, SigFault>
+fn read_checked(alloc: Global, members: &Members<'_>, left: u32) -> Result<Node, SigFault>
+    requires { AreFound members.now }
     ensures { Gives tree_view result
-        (tree_with (task_reading left) (tree_reading left) (view value.now)) }
+        (tree_with (task_reading left) (tree_reading left) (view members.now.value.now)) }
 {
-    match own_fault(value, false) {
+    match first_fault(members, false) {
         Some(fault) => Err(fault),
-        None => read_as(alloc, value, primitive_of(value.get("subtask_type")), left),
+        None => read_as(alloc, members, primitive_of(members.subtask_type), left),
     }
 }
 
@@ -149,46 +157,50 @@ fn read_checked(alloc: Global, value: &Datum<'_>, left: u32) -> Result<Node, Sig
 #[cycle(read_node)]
 fn read_as(
     alloc: Global,
-    value: &Datum<'_>,
+    members: &Members<'_>,
     primitive: Option<Primitive>,
     left: u32,
 ) -> Result<Node, SigFault>
+    requires { AreFound members.now }
     ensures { Gives tree_view result
-        (tree_as (task_reading left) (tree_reading left) primitive (view value.now)) }
+        (tree_as (task_reading left) (tree_reading left) primitive (view members.now.value.now)) }
 {
     match primitive {
-        Some(Primitive::Chain) => read_chain(alloc, value, left),
-        Some(Primitive::Group) => read_group(alloc, value, left),
-        Some(Primitive::Chord) => read_chord(alloc, value, left),
-        _ => Ok(Node::Task(read_task(alloc, value, left)?)),
+        Some(Primitive::Chain) => read_chain(alloc, members, left),
+        Some(Primitive::Group) => read_group(alloc, members, left),
+        Some(Primitive::Chord) => read_chord(alloc, members, left),
+        _ => Ok(Node::Task(read_task(alloc, members, left)?)),
     }
 }
 
 #[cycle(read_node)]
-fn read_chain(alloc: Global, value: &Datum<'_>, left: u32) -> Result<Node, SigFault>
-    ensures { Gives tree_view result
-        (tree_as (task_reading left) (tree_reading left) (Some Chain) (view value.now)) }
+fn read_chain(alloc: Global, members: &Members<'_>, left: u32) -> Result<Node, SigFault>
+    requires { AreFound members.now }
+    ensures { Gives tree_view result (tree_as (task_reading left) (tree_reading left)
+        (Some Chain) (view members.now.value.now)) }
 {
-    let nodes = read_all(alloc, listed(kwarg_of(value, "tasks")), left)?;
+    let nodes = read_all(alloc, listed(members.kwarg("tasks")), left)?;
     Ok(Node::Chain(ListOf::of(nodes)))
 }
 
 #[cycle(read_node)]
-fn read_group(alloc: Global, value: &Datum<'_>, left: u32) -> Result<Node, SigFault>
-    ensures { Gives tree_view result
-        (tree_as (task_reading left) (tree_reading left) (Some Group) (view value.now)) }
+fn read_group(alloc: Global, members: &Members<'_>, left: u32) -> Result<Node, SigFault>
+    requires { AreFound members.now }
+    ensures { Gives tree_view result (tree_as (task_reading left) (tree_reading left)
+        (Some Group) (view members.now.value.now)) }
 {
-    let nodes = read_all(alloc, listed(kwarg_of(value, "tasks")), left)?;
+    let nodes = read_all(alloc, listed(members.kwarg("tasks")), left)?;
     Ok(Node::Group(ListOf::of(nodes)))
 }
 
 #[cycle(read_node)]
-fn read_chord(alloc: Global, value: &Datum<'_>, left: u32) -> Result<Node, SigFault>
-    ensures { Gives tree_view result
-        (tree_as (task_reading left) (tree_reading left) (Some Chord) (view value.now)) }
+fn read_chord(alloc: Global, members: &Members<'_>, left: u32) -> Result<Node, SigFault>
+    requires { AreFound members.now }
+    ensures { Gives tree_view result (tree_as (task_reading left) (tree_reading left)
+        (Some Chord) (view members.now.value.now)) }
 {
-    let header = read_header(alloc, kwarg_of(value, "header"), left)?;
-    let body = read_member(alloc, kwarg_of(value, "body"), left)?;
+    let header = read_header(alloc, members.kwarg("header"), left)?;
+    let body = read_member(alloc, members.kwarg("body"), left)?;
     Ok(Node::Chord {
         header: ListOf::of(header),
         body: Box::new(alloc, body)?,

@@ -14,7 +14,7 @@ read_one_or_more-returns-in-List t c =
 
 pub read_task-returns : goal.read_task-returns
 read_task-returns t c =
-    made (task_reading c.args.left) (view c.args.value.now)
+    made (task_reading c.args.left) (view c.args.members.now.value.now)
     (record { name = c.of.result; args = c.of-2.result; kwargs = c.of-3.result; immutable = c.is_true.result; links = c.of-4.result; errbacks = c.of-5.result })
     (search rules) (search rules) (search rules) (search rules) (search rules) (search rules)
 
