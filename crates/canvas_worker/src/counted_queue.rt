@@ -9,28 +9,18 @@ ghost use Rattle.canvas_broker.specs.Passes.{Stands, CouldStand, Took, Empties};
 use crate::in_flight::Counted;
 use canvas_broker::{Batch, Broker, BrokerPass, Refused};
 use canvas_message::Letter;
-use std::marker::Model;
 use std::sync::Wait;
 
 /// The queue of a run, for which an envelope has to be counted before it is published or delivered
 /// again: here is no count, so none can come late. Its calls are the broker's.
-#[derive(Clone, Copy, Drop)]
+#[derive(Clone, Copy)]
 pub(crate) struct CountedQueue<'a> {
     broker: &'a Broker,
 }
 
-impl<'a> Model for CountedQueue<'a> {
-    ghost use Rattle.std.specs.Global.{Global};
-    ghost use Rattle.crossbeam_queue.specs.SegTies.{SegId};
-
-    ghost Value = { SegId Global };
-
-    ghost view = { λ q. q.broker.now };
-}
-
 impl<'a> CountedQueue<'a> {
     pub(crate) fn of(broker: &'a Broker) -> CountedQueue<'a>
-        ensures { result ≡ broker.now }
+        ensures { result.broker.now ≡ broker.now }
     {
         CountedQueue { broker }
     }
@@ -42,8 +32,8 @@ impl<'a> CountedQueue<'a> {
         envelope: Letter,
         _counted: Counted,
     ) -> Result<(), Refused>
-        requires { pass.old.of ≡ self.now }
-        ensures broker { pass.new.of ≡ self.now }
+        requires { pass.old.of ≡ self.now.broker.now }
+        ensures broker { pass.new.of ≡ self.now.broker.now }
         ensures call { MatchResult result
             (λ _. Stands pass.old (calls pass.old.name (publish envelope) None) pass.new)
             (λ r. (r.envelope ≡ envelope) × (pass.new ≡ pass.old)) }
@@ -60,9 +50,9 @@ impl<'a> CountedQueue<'a> {
         envelope: Letter,
         _counted: Counted,
     ) -> Result<(), Refused>
-        requires same { pass.old.of ≡ self.now }
+        requires same { pass.old.of ≡ self.now.broker.now }
         requires taken { HasTaken (told pass.old) pass.old.name envelope }
-        ensures broker { pass.new.of ≡ self.now }
+        ensures broker { pass.new.of ≡ self.now.broker.now }
         ensures call { MatchResult result
             (λ _. Stands pass.old (calls pass.old.name (redeliver envelope) None) pass.new)
             (λ r. (r.envelope ≡ envelope) × (pass.new ≡ pass.old)) }
@@ -73,8 +63,8 @@ impl<'a> CountedQueue<'a> {
     }
 
     pub(crate) fn take<R: Wait>(&self, rt: &R, pass: &mut BrokerPass) -> Option<Letter>
-        requires { pass.old.of ≡ self.now }
-        ensures broker { pass.new.of ≡ self.now }
+        requires { pass.old.of ≡ self.now.broker.now }
+        ensures broker { pass.new.of ≡ self.now.broker.now }
         ensures call { MatchOption result
             ((pass.new ≡ pass.old) × CouldStand pass.old (calls pass.old.name take None))
             (λ e. Stands pass.old (calls pass.old.name take (Some e)) pass.new) }
@@ -86,8 +76,8 @@ impl<'a> CountedQueue<'a> {
     }
 
     pub(crate) fn take_batch<R: Wait>(&self, rt: &R, pass: &mut BrokerPass) -> Batch
-        requires { pass.old.of ≡ self.now }
-        ensures broker { pass.new.of ≡ self.now }
+        requires { pass.old.of ≡ self.now.broker.now }
+        ensures broker { pass.new.of ≡ self.now.broker.now }
         ensures call { Took pass.old result pass.new }
         ensures own { Adds pass.old (takes_of pass.old.name result) pass.new }
     {

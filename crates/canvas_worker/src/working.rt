@@ -79,7 +79,7 @@ impl<'a, R: Wait> Model for Working<'a, R> {
     ghost coded = { Prim.hlevel (codes, content_code, carried_code) };
 
     ghost view = { λ w. record {
-      broker = w.queue;
+      broker = w.queue.broker.now;
       desk = w.backend.now;
       number = w.number;
       pass = w.pass;

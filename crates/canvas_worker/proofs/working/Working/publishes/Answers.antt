@@ -22,7 +22,7 @@ pub returns-in-Ok-clause-acted : goal.returns-in-Ok-clause-acted
 returns-in-Ok-clause-acted g c =
     let w : Work = c.args.self.now in
     let u : Work = record {
-      broker = c.self.inside.queue;
+      broker = c.self.inside.queue.broker.now;
       desk = c.self.inside.backend.now;
       number = c.self.inside.number;
       pass =
@@ -60,7 +60,7 @@ pub returns-in-Err-clause-acted : goal.returns-in-Err-clause-acted
 returns-in-Err-clause-acted g c =
     let w : Work = c.args.self.now in
     let u : Work = record {
-      broker = c.self.inside.queue;
+      broker = c.self.inside.queue.broker.now;
       desk = c.self.inside.backend.now;
       number = c.self.inside.number;
       pass =

@@ -23,7 +23,7 @@ pub returns-clause-acted : goal.returns-clause-acted
 returns-clause-acted g c =
     let w : Work = c.args.self.now in
     let u : Work = record {
-      broker = c.self.inside.queue;
+      broker = c.self.inside.queue.broker.now;
       desk = c.self.inside.backend.now;
       number = c.self.inside.number;
       pass = c.self.inside.pass;

@@ -12,7 +12,7 @@ use Rattle.canvas_worker.proofs.working.Working.returns.Goals as goal
 pub returns-clause-acted : goal.returns-clause-acted
 returns-clause-acted g c =
     let w : Work = c.args.self.now in
-    let u : Work = record { broker = c.self.inside.queue; desk = c.self.inside.backend.now; number = c.self.inside.number; pass = c.self.inside.pass; seat = c.part-count.new.seat; core = c.self.inside.core; held = held_in c.self.inside.source; taken = c.self.inside.taken; published = c.self.inside.published; first = c.self.inside.first; parts = c.saturating_add-self-inside.result } in
+    let u : Work = record { broker = c.self.inside.queue.broker.now; desk = c.self.inside.backend.now; number = c.self.inside.number; pass = c.self.inside.pass; seat = c.part-count.new.seat; core = c.self.inside.core; held = held_in c.self.inside.source; taken = c.self.inside.taken; published = c.self.inside.published; first = c.self.inside.first; parts = c.saturating_add-self-inside.result } in
     let asks : asked w.core.left ≡ C.to_table (results.part c.args.group c.args.task) =
     is_part w.core.task c.args.group c.args.task (asked w.core.left) c.requires.asks in
     asked_well (g.T.Tasks.behaviour c.args.tasks.now) w u c.replies.new.self (C.to_table (results.part c.args.group c.args.task))

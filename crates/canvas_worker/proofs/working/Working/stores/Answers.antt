@@ -24,7 +24,7 @@ pub returns-in-First-clause-acted : goal.returns-in-First-clause-acted
 returns-in-First-clause-acted g c =
     let w : Work = c.args.self.now in
     let u : Work = record {
-      broker = c.self.inside.queue;
+      broker = c.self.inside.queue.broker.now;
       desk = c.self.inside.backend.now;
       number = c.self.inside.number;
       pass =
@@ -60,7 +60,7 @@ pub returns-in-Again-clause-acted : goal.returns-in-Again-clause-acted
 returns-in-Again-clause-acted g c =
     let w : Work = c.args.self.now in
     let u : Work = record {
-      broker = c.self.inside.queue;
+      broker = c.self.inside.queue.broker.now;
       desk = c.self.inside.backend.now;
       number = c.self.inside.number;
       pass =

@@ -15,7 +15,7 @@ use Rattle.canvas_worker.proofs.working.Working.takes_one.Goals as goal
 pub returns-in-Some-clause-acted : goal.returns-in-Some-clause-acted
 returns-in-Some-clause-acted g c =
     let w : Work = c.args.self.now in
-    let u : Work = record { broker = c.self.inside.queue; desk = c.self.inside.backend.now; number = c.self.inside.number; pass = c.take.new.pass; seat = c.self.inside.seat; core = c.self.inside.core; held = []; taken = c.self.inside.taken; published = c.self.inside.published; first = c.self.inside.first; parts = c.self.inside.parts } in
+    let u : Work = record { broker = c.self.inside.queue.broker.now; desk = c.self.inside.backend.now; number = c.self.inside.number; pass = c.take.new.pass; seat = c.self.inside.seat; core = c.self.inside.core; held = []; taken = c.self.inside.taken; published = c.self.inside.published; first = c.self.inside.first; parts = c.self.inside.parts } in
     let e : Envelope = c.in-Some.envelope in
     let stands : Stands w.pass (calls w.pass.name broker.take (Some e)) u.pass = search rules in
     given_well (g.T.Tasks.behaviour c.args.tasks.now) w u c.gives.new.self (e ∷ []) e c.gives.result c.gives.ensures c.requires.ready (record {
@@ -37,7 +37,7 @@ returns-in-Some-clause-acted g c =
 pub returns-in-None-clause-acted : goal.returns-in-None-clause-acted
 returns-in-None-clause-acted g c =
     let w : Work = c.args.self.now in
-    let u : Work = record { broker = c.self.inside.queue; desk = c.self.inside.backend.now; number = c.self.inside.number; pass = c.take.new.pass; seat = c.self.inside.seat; core = c.self.inside.core; held = held_in c.after_none.result; taken = c.self.inside.taken; published = c.self.inside.published; first = c.self.inside.first; parts = c.self.inside.parts } in
+    let u : Work = record { broker = c.self.inside.queue.broker.now; desk = c.self.inside.backend.now; number = c.self.inside.number; pass = c.take.new.pass; seat = c.self.inside.seat; core = c.self.inside.core; held = held_in c.after_none.result; taken = c.self.inside.taken; published = c.self.inside.published; first = c.self.inside.first; parts = c.self.inside.parts } in
     let asks : asked w.core.left ≡ C.to_queue broker.take = is_take w.core.task (asked w.core.left) c.requires.asks in
     let bare : u.held ≡ [] = search rules in
     let empty : Empties u.pass = search rules in
