@@ -74,7 +74,8 @@ fn push_values(
 {
     match tasks.split_first() {
         Some((first, further)) => {
-            push_value(text, &State::of(rows, *first))?;
+            let state = State::of(rows, *first);
+            push_value(text, &state)?;
             push_further(text, further, rows)
         }
         None => Ok(()),

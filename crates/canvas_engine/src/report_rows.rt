@@ -75,6 +75,7 @@ pub(crate) fn push_value(text: &mut String, state: &State) -> Result<(), AllocEr
 }
 
 /// Adds the identifier of a task.
+#[tactic(auto, using(crate::proofs::ReportLines::is_text))]
 fn push_identifier(text: &mut String, task: TaskNo) -> Result<(), AllocError>
     ensures { OnOk result (string_bytes text.new ≡ string_bytes text.old ++ task_text task) }
 {

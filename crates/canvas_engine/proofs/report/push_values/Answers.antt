@@ -4,8 +4,8 @@ use Rattle.canvas_semantics.specs.States.{rows_from}
 use Rattle.canvas_engine.proofs.ReportLines.{values}
 use Rattle.canvas_engine.proofs.report.push_values.Goals as goal
 
-pub returns-in_ok-write-in-Some : goal.returns-in_ok-write-in-Some
-returns-in_ok-write-in-Some c =
+pub returns-in_ok-push_value-in-Some : goal.returns-in_ok-push_value-in-Some
+returns-in_ok-push_value-in-Some c =
     subst (λ x. OnOk c.push_further.result (string_bytes c.push_further.new.text ≡ x))
     (values c.in-Some.first.now c.in-Some.further.now c.args.tasks.now (rows_from 1 c.args.rows.now) _ _ (search rules)
-    (c.in_ok-write-in-Some.ensures.bytes ∙ ap (λ s. string_bytes c.args.text.now ++ value_text s) c.of-state.ensures)) c.push_further.ensures
+    (c.in_ok-push_value-in-Some.ensures ∙ ap (λ s. string_bytes c.args.text.now ++ value_text s) c.of-state.ensures)) c.push_further.ensures
