@@ -1,18 +1,15 @@
 -- A text of digits alone is the number that they write.
-use Rattle.std.proofs.Common.{◌≡◌, ℕ, ◌^◌, ◌≤◌, ◌<◌, true, false, List, [], ◌++◌, length, drop, get_or, Option, Some, Result, Ok, Err, IfSome, refl, sym, ap, ◌∙◌, subst, append-nil, arith, lt-ltb, ne_eqb}
-use Rattle.std.specs.Prelude.{◌==◌, cond}
-use Rattle.std.specs.Result.{result_ok}
-use Rattle.std.specs.Str.Parse.{IsNumeral, digits_value, without_leading_plus, ParsesUnsigned}
-use Rattle.std.proofs.lemmas.Bool.Decides.{nat_tests}
+use Rattle.std.proofs.Common.{◌≡◌, ℕ, ◌+◌, ◌-◌, ◌*◌, ◌^◌, ◌≤◌, ◌<◌, true, false, List, [], ◌++◌, length, get_or, take, Option, Some, None, IfSome, refl, sym, ap, ◌∙◌, append-nil, arith, lt-ltb, ne_eqb}
+use Rattle.std.specs.Int.{IsInRange}
+use Rattle.std.specs.Str.Parse.{IsNumeral, AllDigits, digits_value}
+use Rattle.std.proofs.lemmas.Int.Digits.{digits_more, digits_value_more}
+use Rattle.std.proofs.lemmas.List.{length-take-le}
+use Rattle.std.proofs.lemmas.Str.{digit_value_digit}
+use Rattle.std.proofs.lemmas.Str.Parse.{IsNumeralModel, numerals_by_value, tells_digits, digits_value_short, digit_at}
 use Rattle.fast_float.specs.Text.{Parts, scan, digits_of, IsWellFormed}
 use Rattle.fast_float.proofs.Writing.{scan-text_of}
 use Rattle.serde_json.specs.Data.{unsigned}
 use Rattle.serde_json.specs.Read.{number_of, number_from, is_integer}
-
-no_plus : (bs : List ℕ) → 48 ≤ get_or bs 0 0 → without_leading_plus bs ≡ bs
-no_plus bs high =
-    let other : (get_or bs 0 0 == 43) ≡ false = grind (arith, nat_tests, high) in
-    ap (λ b. drop (cond b 1 0) bs) other
 
 abbrev parts : List ℕ → Parts
 parts ds = record { whole = ds; point = false; fraction = []; exponent_negative = false; exponent = []; len = length (ds ++ []) }
@@ -31,16 +28,31 @@ spelled ds high h few =
     let read : number_from false (parts ds) ≡ Some (unsigned (digits_value 10 ds)) = rw (whole, value) (rw (lt-ltb _ _ few)) in
     rw (ne_eqb (get_or ds 0 0) 45 (λ e. omega (arith, high, e))) (ap (number_from false) (scanned ds h) ∙ read)
 
--- what `parse` reads, where no sign stands first
-is_read : (bs : List ℕ) (k : ℕ) → 48 ≤ get_or bs 0 0 → IsNumeral 10 (without_leading_plus bs) × (digits_value 10 (without_leading_plus bs) < 2 ^ 64)
-    × (k ≡ digits_value 10 (without_leading_plus bs)) → number_of bs ≡ Some (unsigned k)
-is_read bs k high q =
-    let same = no_plus bs high in
-    let numeral : IsNumeral 10 bs = subst (IsNumeral 10) same q.0 in
-    let few : digits_value 10 bs < 2 ^ 64 = subst (λ x. digits_value 10 x < 2 ^ 64) same q.1 in
-    spelled bs high numeral few ∙ ap (λ n. Some (unsigned n)) (sym (q.2 ∙ ap (digits_value 10) same))
+-- ---- at most 18 digits
 
-pub parsed : {E : Type 0} (bs : List ℕ) (r : Result ℕ E) (o : Option ℕ) → 48 ≤ get_or bs 0 0 → ParsesUnsigned 64 10 bs r → o ≡ result_ok r
+own : IsNumeralModel (AllDigits 10) (digits_value 10)
+own = numerals_by_value (AllDigits 10) tells_digits
+
+short_spelled : (bs : List ℕ) → 0 < length bs → length bs ≤ 18 → AllDigits 10 bs → number_of bs ≡ Some (unsigned (digits_value 10 bs))
+short_spelled bs some few digits =
+    let first = digit_at bs 0 digits some in
+    spelled bs first.0 (some, digits) (omega (arith, digits_value_short own bs 18 digits few))
+
+pub few_spelled : (bs : List ℕ) (o : Option ℕ) → 0 < length bs → length bs ≤ 18 → IfSome o (λ n. AllDigits 10 bs × (n ≡ digits_value 10 bs))
     → IfSome o (λ n. number_of bs ≡ Some (unsigned n))
-parsed bs (Ok n) o high p is = rw is (is_read bs n high (p.0.0, p.0.1, p.1))
-parsed bs (Err e) o high p is = rw is tt
+few_spelled bs None some few h = tt
+few_spelled bs (Some n) some few h = short_spelled bs some few h.0 ∙ ap (λ k. Some (unsigned k)) (sym h.1)
+
+-- there is room for one digit more
+pub room_for_digit : (bs : List ℕ) (i n : ℕ) → i < length bs → length bs ≤ 18 → AllDigits 10 (take i bs) → n ≡ digits_value 10 (take i bs) → n < 10 ^ 17
+room_for_digit bs i n lt few digits is =
+    let long : length (take i bs) ≡ i = length-take-le i bs (omega arith) in
+    let small = digits_value_short own (take i bs) 17 digits (omega arith) in
+    omega (arith, small, is)
+
+pub one_more_digit : (bs : List ℕ) (i n d : ℕ) → i < length bs → AllDigits 10 (take i bs) → n ≡ digits_value 10 (take i bs) → IsInRange 48 57 (get_or bs i 0)
+    → d ≡ get_or bs i 0 - 48 → AllDigits 10 (take (i + 1) bs) × (n * 10 + d ≡ digits_value 10 (take (i + 1) bs))
+one_more_digit bs i n d lt digits is range written =
+    let weight = digit_value_digit (get_or bs i 0) range in
+    let more = digits_value_more 10 bs i lt in
+    (digits_more 10 bs i lt digits (omega (arith, weight, range.0, range.1)), omega (arith, weight, more, is, written))

@@ -18,3 +18,4 @@ pub mod JsonTexts
 pub mod ArgumentLaw
 pub mod Parsed
 pub mod Conversion
+pub mod Alone

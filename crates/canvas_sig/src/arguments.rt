@@ -105,7 +105,7 @@ fn read_argument(alloc: Global, value: &Datum<'_>) -> Result<Arg, SigFault>
 pub fn read_args(alloc: Global, values: &[Datum<'_>]) -> Result<Vec<Arg>, SigFault>
     ensures { Gives (λ v. v.items) result (in_turn arg_reading (map view values.now)) }
 {
-    let mut args = Vec::new(alloc);
+    let mut args = Vec::with_capacity(alloc, values.len())?;
     for value in values {
         args.push(read_argument(alloc, value)?)?;
     }

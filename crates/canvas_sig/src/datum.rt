@@ -21,6 +21,7 @@ pub enum Datum<'a> {
     Object(&'a [(&'a str, Datum<'a>)]),
 }
 
+#[inline(always)]
 fn member<'a>(members: &'a [(&'a str, Datum<'a>)], name: &str) -> Option<&'a Datum<'a>>
     ensures { option_map (λ v. view v.now) result ≡ get_member name.now (members_view members.now) }
 {
@@ -49,7 +50,8 @@ impl<'a> Datum<'a> {
         matches!(self, Datum::Object(_))
     }
 
-    /// The member of that name.
+    /// The member of that name. It stands where it is called, since the name is known there.
+    #[inline(always)]
     pub fn get(&self, name: &str) -> Option<&'a Datum<'a>>
         ensures { option_map (λ v. view v.now) result ≡ get name.now (view self.now) }
     {

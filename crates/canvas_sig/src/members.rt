@@ -23,6 +23,7 @@ pub(crate) struct Members<'v> {
 }
 
 /// A member of what may be missing.
+#[inline(always)]
 fn within<'v>(outer: Option<&'v Datum<'v>>, name: &str) -> Option<&'v Datum<'v>>
     ensures { value_at result ≡ field name.now (value_at outer.entry) }
 {

@@ -1,6 +1,7 @@
 //! The numbers of JSON texts.
 
-ghost use Rattle.std.specs.Prelude.{◌≡◌, ◌==◌, ◌≤◌, true, false, Some, IfSome, option_map, get_or, slice_index};
+ghost use Rattle.std.specs.Prelude.{◌≡◌, ◌==◌, ◌≤◌, ◌<◌, true, false, length, Some, IfSome, option_map, slice_index};
+ghost use Rattle.std.specs.Str.Parse.{AllDigits, digits_value};
 ghost use Rattle.serde_json.specs.Data.{unsigned};
 ghost use Rattle.serde_json.specs.Read.{number_of, number_from, float_of};
 ghost use Rattle.serde_json.specs.View.{number_view};
@@ -41,27 +42,45 @@ fn is_negative(bytes: &[u8]) -> bool
     }
 }
 
-/// Whether a text begins with no sign.
-fn has_no_sign(text: &str) -> bool
-    ensures { result ≡ true → 48 ≤ get_or text.now 0 0 }
+/// The most digits of which 64 bits hold each number.
+const MOST_DIGITS: usize = 18;
+
+/// The number that so few bytes write, where they are digits.
+fn from_digits(bytes: &[u8]) -> Option<u64>
+    requires { length bytes.now ≤ 18 }
+    ensures { IfSome result (λ n. AllDigits 10 bytes.now × (n ≡ digits_value 10 bytes.now)) }
 {
-    match text.as_bytes().first() {
-        Some(byte) => *byte >= b'0',
-        None => false,
+    let mut n = 0;
+    for byte in bytes {
+        if !byte.is_ascii_digit() {
+            return None;
+        }
+        n = n * 10 + u64::from(*byte - b'0');
     }
+    Some(n)
 }
 
-/// The number that digits alone spell, where 64 bits hold it.
+fn are_few(bytes: &[u8]) -> bool
+    ensures { result ≡ true → (0 < length bytes.now) × (length bytes.now ≤ 18) }
+{
+    let len = bytes.len();
+    0 < len && len <= MOST_DIGITS
+}
+
+/// The number that a few digits alone spell.
+#[inline(always)]
 fn of_digits(text: &str) -> Option<u64>
     ensures { IfSome result (λ n. number_of text.now ≡ Some (unsigned n)) }
 {
-    if has_no_sign(text) {
-        text.parse().ok()
+    let bytes = text.as_bytes();
+    if are_few(bytes) {
+        from_digits(bytes)
     } else {
         None
     }
 }
 
+#[inline(never)]
 fn of_numeral(text: &str) -> Option<Number>
     ensures { option_map number_view result ≡ number_of text.now }
 {
@@ -73,8 +92,9 @@ fn of_numeral(text: &str) -> Option<Number>
     }
 }
 
-/// The number that a token spells; none where it is too large for a float. Most are digits alone,
-/// which are read by themselves in fewer steps.
+/// The number that a token spells; none where it is too large for a float. Most are few digits
+/// alone, which are read by themselves in fewer steps.
+#[inline(always)]
 pub(crate) fn number_of(text: &str) -> Option<Number>
     ensures { option_map number_view result ≡ number_of text.now }
 {

@@ -1,12 +1,14 @@
 //! Parsing JSON (RFC 8259) into borrowed values.
 
-ghost use Rattle.std.specs.Prelude.{◌≡◌, true, ◌<◌, ◌++◌, length, Some, None, Err, IfOk, OnOk};
+ghost use Rattle.std.specs.Prelude.{◌≡◌, true, ◌<◌, ◌++◌, ◌∷◌, length, option_map, Some, None, Err, IfOk, OnOk};
 ghost use Rattle.json.specs.Json.{value, items, members};
+ghost use Rattle.json.specs.Reads.{token_of};
 ghost use Rattle.serde_json.specs.Data.{no_members};
 ghost use Rattle.serde_json.specs.Read.{of_json, of_items, of_members, converted, read as read_text};
 ghost use Rattle.canvas_values.specs.Answers.{Gives};
 ghost use Rattle.canvas_values.specs.CanvasText.{json_of};
 ghost use Rattle.canvas_sig.specs.Datum.{view, items_view, members_view};
+ghost use Rattle.canvas_sig.specs.steps.Alone.{alone};
 ghost use Rattle.canvas_sig.specs.steps.Names.{put_all};
 ghost use Rattle.canvas_values.specs.steps.Reading.{json_reading};
 ghost use Rattle.canvas_values.specs.declared.fault.SigFault.TheVariants.{Memory};
@@ -63,8 +65,27 @@ impl<T: Drop> From<AllocFailed<T>> for Unread {
 /// How deep arrays and objects may nest.
 const MOST_NESTED: usize = 127;
 
-/// The value that comes next; arrays and objects in it nest at most `left` deep.
+/// The value that a token is by itself.
+#[inline(always)]
+fn alone<'a>(token: Token<'a>) -> Option<Datum<'a>>
+    ensures { option_map view result ≡ alone (token_of token.entry) }
+{
+    match token {
+        Token::Null => Some(Datum::Null),
+        Token::Bool(flag) => Some(Datum::Bool(flag)),
+        Token::Number(text) => match number_of(text) {
+            Some(number) => Some(Datum::Number(number)),
+            None => None,
+        },
+        Token::String(text) => Some(Datum::Text(text)),
+        _ => None,
+    }
+}
+
+/// The value that comes next; arrays and objects in it nest at most `left` deep. It stands in the
+/// loops that call it, so that a value of one token is read with no call.
 #[cycle(read)]
+#[inline(always)]
 fn read_value<'a>(
     alloc: Global,
     arena: &'a Bump,
@@ -77,27 +98,36 @@ fn read_value<'a>(
     ensures err { result ≡ Err Unread.NotJson → converted of_json (value left reader.old) ≡ None }
 {
     let token = reader.next().ok_or(Unread::NotJson)?;
+    match alone(token) {
+        Some(value) => Ok(value),
+        None => read_nested(alloc, arena, reader, left, token),
+    }
+}
+
+/// The array or the object that a token opens, which is no value by itself.
+#[cycle(read)]
+#[inline(never)]
+fn read_nested<'a>(
+    alloc: Global,
+    arena: &'a Bump,
+    reader: &mut Reader<'a>,
+    left: usize,
+    token: Token<'a>,
+) -> Result<Datum<'a>, Unread>
+    requires { alone (token_of token) ≡ None }
+    ensures ok { IfOk result (λ v. converted of_json (value left (token_of token.entry ∷ reader.old))
+        ≡ Some (view v, reader.new)) }
+    ensures shorter { OnOk result (length reader.new < length reader.old) }
+    ensures err { result ≡ Err Unread.NotJson
+        → converted of_json (value left (token_of token.entry ∷ reader.old)) ≡ None }
+{
+    if left == 0 {
+        return Err(Unread::NotJson);
+    }
     match token {
-        Token::Null => Ok(Datum::Null),
-        Token::Bool(flag) => Ok(Datum::Bool(flag)),
-        Token::Number(text) => match number_of(text) {
-            Some(number) => Ok(Datum::Number(number)),
-            None => Err(Unread::NotJson),
-        },
-        Token::String(text) => Ok(Datum::Text(text)),
-        Token::BeginArray => {
-            if left == 0 {
-                return Err(Unread::NotJson);
-            }
-            Ok(Datum::List(read_items(alloc, arena, reader, left - 1)?))
-        }
-        Token::BeginObject => {
-            if left == 0 {
-                return Err(Unread::NotJson);
-            }
-            Ok(Datum::Object(read_members(alloc, arena, reader, left - 1)?))
-        }
-        Token::EndObject | Token::EndArray | Token::Key(_) | Token::Bad => Err(Unread::NotJson),
+        Token::BeginArray => Ok(Datum::List(read_items(alloc, arena, reader, left - 1)?)),
+        Token::BeginObject => Ok(Datum::Object(read_members(alloc, arena, reader, left - 1)?)),
+        _ => Err(Unread::NotJson),
     }
 }
 

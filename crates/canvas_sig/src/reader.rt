@@ -20,6 +20,10 @@ use canvas_task::{ListOf, MapOf, TextOf};
 use canvas_values::{Node, Primitive, SigFault, TaskSig};
 use std::alloc::{AllocError, Global};
 
+/// For how many signatures room is made at once: no canvas that is accepted has more in one list,
+/// and a list of half a million that aren't any is refused at its first.
+const MOST_ROOM: usize = 1_024;
+
 /// The text of a name, empty where there is none.
 pub fn text_of(alloc: Global, field: Option<&Datum<'_>>) -> Result<String, AllocError>
     ensures { IfOk result (λ s. string_bytes s ≡ text_of (value_at field.entry)) }
@@ -110,7 +114,7 @@ fn read_all_linked(alloc: Global, values: &[Datum<'_>], left: u32) -> Result<Vec
     ensures { Gives (λ v. map task_view v.items) result
         (in_turn (task_reading left) (map view values.now)) }
 {
-    let mut tasks = Vec::new(alloc);
+    let mut tasks = Vec::with_capacity(alloc, values.len().min(MOST_ROOM))?;
     for value in values {
         tasks.push(read_linked(alloc, value, left)?)?;
     }
@@ -236,7 +240,7 @@ fn read_all(alloc: Global, values: &[Datum<'_>], left: u32) -> Result<Vec<Node>,
     ensures { Gives (λ v. map tree_view v.items) result
         (in_turn (tree_reading left) (map view values.now)) }
 {
-    let mut nodes = Vec::new(alloc);
+    let mut nodes = Vec::with_capacity(alloc, values.len().min(MOST_ROOM))?;
     for value in values {
         nodes.push(read_node(alloc, value, left)?)?;
     }

@@ -1,15 +1,13 @@
-use Rattle.std.proofs.Common.{◌≡◌, ◌-◌, ◌<◌, [], ◌∷◌, length, Some, None, sym, ap, ap₂, ◌∙◌, arith, rules}
-use Rattle.json.specs.Token.{Token}
+use Rattle.std.proofs.Common.{◌≡◌, ◌-◌, ◌<◌, [], ◌∷◌, length, Some, None, IfOk, sym, ap, ◌∙◌, subst, arith}
 use Rattle.json.specs.Json.{parse_map, after_end_array, read_key, items, members, value}
 use Rattle.json.specs.Reads.{token_of}
-use Rattle.json.proofs.Grammar.{value_is, value-begin_array, value-begin_object, read_key-shorter}
-use Rattle.serde_json.specs.Data.{null, boolean, number, string, array, object, no_members, put}
+use Rattle.json.proofs.Grammar.{value_is, read_key-shorter}
+use Rattle.serde_json.specs.Data.{array, object, no_members, put}
 use Rattle.serde_json.specs.Read.{of_json, of_items, of_members, converted}
-use Rattle.serde_json.specs.View.{number_view}
-use Rattle.canvas_sig.proofs.Conversion.{of_array, of_object, item_read, item_refused, items_over, member_read, member_refused, key_refused, members_over, nothing_before}
+use Rattle.canvas_sig.proofs.Alone.{read_alone, refused_alone, refused_deep, list_opened, object_opened}
+use Rattle.canvas_sig.proofs.Conversion.{item_read, item_refused, items_over, member_read, member_refused, key_refused, members_over, nothing_before}
 use Rattle.canvas_sig.specs.Datum.{view, items_view}
 use Rattle.canvas_sig.specs.steps.Names.{put_all}
-use Rattle.canvas_sig.specs.declared.datum.Datum.{Text, Number, Bool, Null, the_lemmas}
 use Rattle.canvas_sig.proofs.Parsed.{view-List, view-Object, put_pushed, items_before, all_before, one_more_item}
 use Rattle.canvas_sig.proofs.parsing.+read.Goals as goal
 
@@ -18,91 +16,54 @@ read_value-returns-in_err-token-clause-err t c refused =
     let empty : c.args.reader.now ≡ [] = grind arith in
     ap (converted of_json) (ap (value c.args.left) empty ∙ value_is c.args.left [])
 
-pub read_value-returns-then-left-eq0-clause-err : goal.read_value-returns-then-left-eq0-clause-err
-unfolding value
-read_value-returns-then-left-eq0-clause-err t c never =
-    let first : c.args.reader.now ≡ token_of c.in_ok-token.token ∷ c.next.new.self = grind arith in
-    let none : c.args.left ≡ 0 = omega arith in
-    ap (converted of_json) (ap₂ value none (first ∙ ap (λ k. token_of k ∷ c.next.new.self) c.in-BeginArray.is))
-
-pub read_value-returns-then-left-eq0-2-clause-err : goal.read_value-returns-then-left-eq0-2-clause-err
-unfolding value
-read_value-returns-then-left-eq0-2-clause-err t c never =
-    let first : c.args.reader.now ≡ token_of c.in_ok-token.token ∷ c.next.new.self = grind arith in
-    let none : c.args.left ≡ 0 = omega arith in
-    ap (converted of_json) (ap₂ value none (first ∙ ap (λ k. token_of k ∷ c.next.new.self) c.in-BeginObject.is))
-
-pub read_value-returns-in_err-read_items-in-BeginArray-clause-err : goal.read_value-returns-in_err-read_items-in-BeginArray-clause-err
-read_value-returns-in_err-read_items-in-BeginArray-clause-err t c refused =
-    let first : c.args.reader.now ≡ token_of c.in_ok-token.token ∷ c.next.new.self = grind arith in
-    let opened = ap (converted of_json) (ap (value c.args.left) (first ∙ ap (λ k. token_of k ∷ c.next.new.self) c.in-BeginArray.is)
-    ∙ value-begin_array c.args.left c.next.new.self (omega arith)) ∙ of_array (items (value (c.args.left - 1)) (length c.next.new.self) c.next.new.self) in
-    opened ∙ ap (parse_map array) (c.read_items.ensures.err (grind arith))
-
-pub read_value-returns-in_err-read_members-in-BeginObject-clause-err : goal.read_value-returns-in_err-read_members-in-BeginObject-clause-err
-read_value-returns-in_err-read_members-in-BeginObject-clause-err t c refused =
-    let first : c.args.reader.now ≡ token_of c.in_ok-token.token ∷ c.next.new.self = grind arith in
-    let opened = ap (converted of_json) (ap (value c.args.left) (first ∙ ap (λ k. token_of k ∷ c.next.new.self) c.in-BeginObject.is)
-    ∙ value-begin_object c.args.left c.next.new.self (omega arith))
-    ∙ of_object (members (value (c.args.left - 1)) (length c.next.new.self) c.next.new.self) in
-    opened ∙ ap (parse_map object) (c.read_members.ensures.err (grind arith))
-
-pub read_value-returns-in-String-clause-ok : goal.read_value-returns-in-String-clause-ok
-read_value-returns-in-String-clause-ok t c =
-    let first : c.args.reader.now ≡ token_of c.in_ok-token.token ∷ c.next.new.self = grind arith in
-    let is : c.args.reader.now ≡ Token.string c.in-String.text.now ∷ c.next.new.self = grind (arith, first) in
-    let seen : view (Text c.in-String.text) ≡ string c.in-String.text.now = search (rules, the_lemmas) in
-    ap (converted of_json) (ap (value c.args.left) is ∙ value_is c.args.left _) ∙ ap (λ d. Some (d, c.next.new.self)) (sym seen)
-
-pub read_value-returns-in-Bool-clause-ok : goal.read_value-returns-in-Bool-clause-ok
-read_value-returns-in-Bool-clause-ok t c =
-    let first : c.args.reader.now ≡ token_of c.in_ok-token.token ∷ c.next.new.self = grind arith in
-    let is : c.args.reader.now ≡ Token.boolean c.in-Bool.flag ∷ c.next.new.self = grind (arith, first) in
-    let seen : view (Bool c.in-Bool.flag) ≡ boolean c.in-Bool.flag = search (rules, the_lemmas) in
-    ap (converted of_json) (ap (value c.args.left) is ∙ value_is c.args.left _) ∙ ap (λ d. Some (d, c.next.new.self)) (sym seen)
-
-pub read_value-returns-in-Null-clause-ok : goal.read_value-returns-in-Null-clause-ok
-read_value-returns-in-Null-clause-ok t c =
-    let first : c.args.reader.now ≡ token_of c.in_ok-token.token ∷ c.next.new.self = grind arith in
-    let is : c.args.reader.now ≡ Token.null ∷ c.next.new.self = grind (arith, first) in
-    let seen : view (Null) ≡ null = search (rules, the_lemmas) in
-    ap (converted of_json) (ap (value c.args.left) is ∙ value_is c.args.left _) ∙ ap (λ d. Some (d, c.next.new.self)) (sym seen)
-
 pub read_value-returns-in-Some-clause-ok : goal.read_value-returns-in-Some-clause-ok
 read_value-returns-in-Some-clause-ok t c =
     let first : c.args.reader.now ≡ token_of c.in_ok-token.token ∷ c.next.new.self = grind arith in
-    let is : c.args.reader.now ≡ Token.number c.in-Number.text.now ∷ c.next.new.self = grind (arith, first) in
-    let seen : view (Number c.in-Some.number) ≡ number (number_view c.in-Some.number) = search (rules, the_lemmas) in
-    ap (converted of_json) (ap (value c.args.left) is ∙ value_is c.args.left _) ∙ rw (← c.in-Some.ensures, seen)
+    ap (λ ts. converted of_json (value c.args.left ts)) first
+    ∙ read_alone c.args.left (token_of c.in_ok-token.token) c.next.new.self (view c.in-Some.value) (sym c.in-Some.ensures)
+
+pub read_value-returns-in-None-clause-ok : goal.read_value-returns-in-None-clause-ok
+read_value-returns-in-None-clause-ok t c =
+    let first : c.args.reader.now ≡ token_of c.in_ok-token.token ∷ c.next.new.self = grind arith in
+    subst (λ ts. IfOk c.read_nested.result (λ v. converted of_json (value c.args.left ts) ≡ Some (view v, c.read_nested.new.reader)))
+    (sym first) c.read_nested.ensures.ok
 
 pub read_value-returns-in-None-clause-err : goal.read_value-returns-in-None-clause-err
 read_value-returns-in-None-clause-err t c refused =
     let first : c.args.reader.now ≡ token_of c.in_ok-token.token ∷ c.next.new.self = grind arith in
-    let is : c.args.reader.now ≡ Token.number c.in-Number.text.now ∷ c.next.new.self = grind (arith, first) in
-    ap (converted of_json) (ap (value c.args.left) is ∙ value_is c.args.left _) ∙ rw (← c.in-None.ensures)
+    ap (λ ts. converted of_json (value c.args.left ts)) first ∙ c.read_nested.ensures.err refused
 
-pub read_value-returns-in-EndObject-clause-err : goal.read_value-returns-in-EndObject-clause-err
-read_value-returns-in-EndObject-clause-err t c refused =
-    let first : c.args.reader.now ≡ token_of c.in_ok-token.token ∷ c.next.new.self = grind arith in
-    let none : value c.args.left c.args.reader.now ≡ None = rw (value_is c.args.left c.args.reader.now, first) (grind arith) in
-    ap (converted of_json) none
+pub read_nested-returns-then-left-eq0-clause-err : goal.read_nested-returns-then-left-eq0-clause-err
+read_nested-returns-then-left-eq0-clause-err t c never =
+    let none : c.args.left ≡ 0 = omega arith in
+    ap (λ n. converted of_json (value n (token_of c.args.token ∷ c.args.reader.now))) none
+    ∙ refused_deep (token_of c.args.token) c.args.reader.now c.requires
 
-pub read_value-returns-in_ok-read_items-in-BeginArray-clause-ok : goal.read_value-returns-in_ok-read_items-in-BeginArray-clause-ok
-read_value-returns-in_ok-read_items-in-BeginArray-clause-ok t c =
-    let first : c.args.reader.now ≡ token_of c.in_ok-token.token ∷ c.next.new.self = grind arith in
-    let opened = ap (converted of_json) (ap (value c.args.left) (first ∙ ap (λ k. token_of k ∷ c.next.new.self) c.in-BeginArray.is)
-    ∙ value-begin_array c.args.left c.next.new.self (omega arith)) ∙ of_array (items (value (c.args.left - 1)) (length c.next.new.self) c.next.new.self) in
+pub read_nested-returns-in_err-read_items-in-BeginArray-clause-err : goal.read_nested-returns-in_err-read_items-in-BeginArray-clause-err
+read_nested-returns-in_err-read_items-in-BeginArray-clause-err t c refused =
+    list_opened c.args.left _ c.args.reader.now (ap token_of c.in-BeginArray.is) (omega arith)
+    ∙ ap (parse_map array) (c.read_items.ensures.err (grind arith))
+
+pub read_nested-returns-in_err-read_members-in-BeginObject-clause-err : goal.read_nested-returns-in_err-read_members-in-BeginObject-clause-err
+read_nested-returns-in_err-read_members-in-BeginObject-clause-err t c refused =
+    object_opened c.args.left _ c.args.reader.now (ap token_of c.in-BeginObject.is) (omega arith)
+    ∙ ap (parse_map object) (c.read_members.ensures.err (grind arith))
+
+pub read_nested-returns-in_ok-read_items-in-BeginArray-clause-ok : goal.read_nested-returns-in_ok-read_items-in-BeginArray-clause-ok
+read_nested-returns-in_ok-read_items-in-BeginArray-clause-ok t c =
     let found = c.in_ok-read_items-in-BeginArray in
-    opened ∙ ap (parse_map array) found.ensures.ok ∙ ap (λ d. Some (d, c.read_items.new.reader)) (sym (view-List found.field-0))
+    list_opened c.args.left _ c.args.reader.now (ap token_of c.in-BeginArray.is) (omega arith)
+    ∙ ap (parse_map array) found.ensures.ok ∙ ap (λ d. Some (d, c.read_items.new.reader)) (sym (view-List found.field-0))
 
-pub read_value-returns-in_ok-read_members-in-BeginObject-clause-ok : goal.read_value-returns-in_ok-read_members-in-BeginObject-clause-ok
-read_value-returns-in_ok-read_members-in-BeginObject-clause-ok t c =
-    let first : c.args.reader.now ≡ token_of c.in_ok-token.token ∷ c.next.new.self = grind arith in
-    let opened = ap (converted of_json) (ap (value c.args.left) (first ∙ ap (λ k. token_of k ∷ c.next.new.self) c.in-BeginObject.is)
-    ∙ value-begin_object c.args.left c.next.new.self (omega arith))
-    ∙ of_object (members (value (c.args.left - 1)) (length c.next.new.self) c.next.new.self) in
+pub read_nested-returns-in_ok-read_members-in-BeginObject-clause-ok : goal.read_nested-returns-in_ok-read_members-in-BeginObject-clause-ok
+read_nested-returns-in_ok-read_members-in-BeginObject-clause-ok t c =
     let found = c.in_ok-read_members-in-BeginObject in
-    opened ∙ ap (parse_map object) found.ensures.ok ∙ ap (λ d. Some (d, c.read_members.new.reader)) (sym (view-Object found.field-0))
+    object_opened c.args.left _ c.args.reader.now (ap token_of c.in-BeginObject.is) (omega arith)
+    ∙ ap (parse_map object) found.ensures.ok ∙ ap (λ d. Some (d, c.read_members.new.reader)) (sym (view-Object found.field-0))
+
+pub read_nested-returns-in_default-clause-err : goal.read_nested-returns-in_default-clause-err
+read_nested-returns-in_default-clause-err t c refused =
+    refused_alone c.args.left c.args.token c.args.reader.now c.requires c.in_default.not-BeginArray c.in_default.not-BeginObject
 
 pub read_items-items-init : goal.read_items-items-init
 read_items-items-init t c =

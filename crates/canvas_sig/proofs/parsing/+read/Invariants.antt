@@ -7,13 +7,16 @@ use Rattle.canvas_sig.proofs.Parsed.{items_before}
 use Rattle.canvas_sig.proofs.parsing.+read.Given as goal
 
 abbrev pub decreases-read_value : goal.decreases-read_value
-decreases-read_value l = 2 * l.left
+decreases-read_value l = 3 * l.left + 1
+
+abbrev pub decreases-read_nested : goal.decreases-read_nested
+decreases-read_nested l = 3 * l.left
 
 abbrev pub decreases-read_items : goal.decreases-read_items
-decreases-read_items l = 2 * l.left + 1
+decreases-read_items l = 3 * l.left + 2
 
 abbrev pub decreases-read_members : goal.decreases-read_members
-decreases-read_members l = 2 * l.left + 1
+decreases-read_members l = 3 * l.left + 2
 
 abbrev pub invariant-read_items-items : goal.invariant-read_items-items
 invariant-read_items-items l =
