@@ -1,6 +1,6 @@
 -- The lines of a report, one task after the other, and the values of its result.
-use Rattle.std.proofs.Common.{◌≡◌, Bool, ℕ, zero, suc, ◌+◌, List, [], ◌∷◌, ◌++◌, length, drop, refl, sym, ap, ◌∙◌, append_assoc, append-nil, arith, length-append, subst}
-use Rattle.std.specs.Str.{IsUtf8}
+use Rattle.std.proofs.Common.{◌≡◌, Bool, ℕ, zero, suc, ◌+◌, List, [], ◌∷◌, ◌++◌, length, drop, refl, sym, ap, ◌∙◌, append_assoc, append-nil, arith, length-append}
+use Rattle.std.specs.Str.{IsUtf8, IsAscii}
 use Rattle.std.proofs.lemmas.Str.{IsUtf8-from_ascii}
 use Rattle.std.proofs.lemmas.List.{drop_all}
 use Rattle.std.specs.Prelude.{slice_get, codes}
@@ -8,8 +8,6 @@ use Rattle.canvas_semantics.specs.Evaluation.{Rows, State, state_of, with_states
 use Rattle.canvas_semantics.specs.Tree.{ends_in_group, Task, task, Tasks, no_tasks, and_task, count_task, count_tasks}
 use Rattle.canvas_semantics.specs.Line.{Line, stop, step, group_end, chord_end, Lines, no_lines, and_line, count_line, count_lines, tree_of, ends_of, in_group, names, all_names, task_names, tasks_names, name_at}
 use Rattle.canvas_task.specs.Text.{Text}
-use Rattle.canvas_task.specs.Identifiers.{task_text}
-use Rattle.canvas_codec.proofs.Identifiers.{task_ascii}
 use Rattle.canvas_semantics.specs.Report.{names_by_number as named, counted_from, report_line, report_lines, value_text, listed_values, result_text, report_of}
 use Rattle.canvas_semantics.proofs.EndLemmas.{ends_of_tree}
 use Rattle.canvas_rewrite.proofs.Members.{in_group_tree}
@@ -69,8 +67,8 @@ values k behind ks rows before after is e =
     ∙ ap (λ x. before ++ listed_values (with_states rows x)) (sym is)
 
 -- an identifier is a text
-pub is_text : (k : ℕ) (bytes : Text) → bytes ≡ task_text k → IsUtf8 bytes
-is_text k bytes is = subst IsUtf8 (sym is) (IsUtf8-from_ascii (task_text k) (task_ascii k))
+pub is_text : (bytes : Text) → IsAscii bytes → IsUtf8 bytes
+is_text bytes ascii = IsUtf8-from_ascii bytes ascii
 
 -- what was written, piece by piece
 pub whole : (l : Line) (rows : Rows) (several : Bool) (ks : List ℕ) (t0 t1 t2 t3 t4 : Text) → t0 ≡ [] → t1 ≡ t0 ++ report_lines (named (tree_of l)) rows → t2 ≡ t1 ++ codes "result "

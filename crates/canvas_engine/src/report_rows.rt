@@ -1,6 +1,7 @@
 //! One row of a report: a task's state, and its line.
 ghost use Rattle.std.specs.Prelude.{◌≡◌, ◌++◌, OnOk, slice_get, string_bytes};
 ghost use Rattle.std.specs.Fmt.{signed_decimal};
+ghost use Rattle.std.specs.Str.{IsAscii};
 ghost use Rattle.canvas_task.specs.Identifiers.{task_text};
 ghost use Rattle.canvas_task.specs.Printed.{fault_text};
 ghost use Rattle.canvas_semantics.specs.Report.{report_line, state_name, value_text};
@@ -74,13 +75,20 @@ pub(crate) fn push_value(text: &mut String, state: &State) -> Result<(), AllocEr
     }
 }
 
-/// Adds the identifier of a task.
+/// Bytes as a text.
 #[tactic(auto, using(crate::proofs::ReportLines::is_text))]
+fn as_text(bytes: &[u8]) -> &str
+    requires { IsAscii bytes.now }
+    ensures { result.now ≡ bytes.now }
+{
+    str::from_utf8(bytes).unwrap()
+}
+
+/// Adds the identifier of a task.
 fn push_identifier(text: &mut String, task: TaskNo) -> Result<(), AllocError>
     ensures { OnOk result (string_bytes text.new ≡ string_bytes text.old ++ task_text task) }
 {
-    let identifier = task_text(task);
-    text.push_str(str::from_utf8(&identifier).unwrap())
+    text.push_str(as_text(&task_text(task)))
 }
 
 /// The line of one task, by its pieces, which takes fewer steps than by a format.
