@@ -3,6 +3,7 @@
 use crate::answer::{Answer, Remark};
 use crate::refusal::Refusal;
 use crate::reporting::Manner;
+use crate::source::Source;
 use canvas_engine::{
     OpenGate, Report, RunFault, Stop, TextFault, When, run, run_text_again, run_text_threads,
     run_turns_again,
@@ -36,16 +37,16 @@ where
 /// The report of a run on threads.
 pub(crate) fn answer_run<'w, S, T>(
     rt: &S,
-    tasks: &T,
     workers: u32,
     manner: Manner,
-    text: &[u8],
+    source: &Source<'_, T>,
 ) -> Result<Answer<'w>, Refusal<'w>>
 where
     S: Threads + Wait + RandomSource + AllocGlobal + Sync,
     T: Tasks + Sync,
 {
     let alloc = rt.alloc();
+    let (text, tasks) = (source.text, source.tasks);
     if manner.is_plain() {
         return match run_text_threads(rt, alloc, text, tasks, workers, &OpenGate, &Stop::new()) {
             Ok(report) => Ok(Answer::whole(report.into_bytes())),
@@ -54,7 +55,7 @@ where
     }
     let plan = manner.plan_of(alloc, text)?;
     match report_of(rt, &plan, tasks, workers) {
-        Ok(report) => manner.whole(alloc, &plan, &report),
+        Ok(report) => manner.whole(alloc, &plan, &report, source),
         Err(fault) => Ok(manner.early(alloc, &plan, fault)),
     }
 }
@@ -62,13 +63,13 @@ where
 /// The report of a run by turns, with what is delivered again, where that is asked for.
 pub(crate) fn answer_turns<'w, T: Tasks>(
     alloc: Global,
-    tasks: &T,
     workers: u32,
     turns: &[u32],
     again: Option<Vec<(TaskNo, When)>>,
     manner: Manner,
-    text: &[u8],
+    source: &Source<'_, T>,
 ) -> Result<Answer<'w>, Refusal<'w>> {
+    let (text, tasks) = (source.text, source.tasks);
     let entries = again.as_deref().unwrap_or(&[]);
     let counts = again.is_some();
     if manner.is_plain() {
@@ -83,7 +84,7 @@ pub(crate) fn answer_turns<'w, T: Tasks>(
     match run_turns_again(alloc, &plan, tasks, workers, turns, entries) {
         Ok((report, repeats)) => Ok(
             manner
-                .whole(alloc, &plan, &report)?
+                .whole(alloc, &plan, &report, source)?
                 .with_remark(counts.then_some(Remark::Repeats(repeats))),
         ),
         Err(fault) => Ok(manner.early(alloc, &plan, fault)),
