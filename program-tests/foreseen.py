@@ -55,7 +55,9 @@ def of_call(sig, comes, stubs):
         said, front = COMES["nothing" if sig.get("immutable") else comes]
         args, kwargs = sig.get("args") or [], sig.get("kwargs") or {}
         if rules.stubbed(stubs, name, front + args, kwargs) == "TypeError":
-            yield "TypeError", "its call is a TypeError" + said
+            wrong = rules.blamed(rules.answers_as(stubs, name), front + args, kwargs)
+            by = ": %s %s" % (views.written(wrong[0])[1:-1], wrong[1]) if wrong else ""
+            yield "TypeError", "its call is a TypeError" + said + by
 
 
 def of_group(sig, stand):

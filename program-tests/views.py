@@ -52,15 +52,25 @@ def status_of(states):
     return next((STATES[it] for it in (str, type(None)) if it in map(type, states)), "SUCCESS")
 
 
-def json_report(canvas, tells=True, made=same):
+def at_fault(row, stubs):
+    """The member of a row that says which parameter makes its call a TypeError, null where none
+    does; nothing of any other task."""
+    task = rules.answers_as(stubs, row.name)
+    if not row.ran or row.state != "TypeError" or task is None:
+        return {}
+    return {"parameter": (rules.blamed(task, *row.call) or [None])[0]}
+
+
+def json_report(canvas, tells=True, made=same, stubs=None):
     """The text that `canvas run --json` prints, and the status with `--fail`. That of `collect`
     doesn't tell which tasks were called, and may be of tasks of any kind."""
-    walk = Walk(canvas)
+    walk = Walk(canvas, stubs)
     lines = [{"name": row.name, "result": result_of(made(row.state)),
               "status": STATES[type(row.state)], "task_id": identifier(task)}
              for task, row in enumerate(walk.rows, 1)]
     for line, row in zip(lines, walk.rows if tells else []):
         line.update(ran=row.ran, due_to=row.due and identifier(row.due))
+        line.update(at_fault(row, walk.stubs))
     states = [walk.rows[end - 1].state for end in walk.ends]
     results = [result_of(made(it)) for it in states]
     status = status_of(states)

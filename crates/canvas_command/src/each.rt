@@ -4,11 +4,11 @@ use crate::answer::Answer;
 use crate::refusal::Refusal;
 use crate::reporting::{FAILED, Form, Manner};
 use crate::runs::report_of;
+use crate::source::Source;
 use canvas_engine::Report;
-use canvas_ran::fates;
 use canvas_rewrite::Plan;
-use canvas_task::{Memory, Tasks};
-use canvas_views::{is_failure, rows_text};
+use canvas_task::Tasks;
+use canvas_views::is_failure;
 use std::alloc::{AllocError, Global};
 use std::random::RandomSource;
 use std::sync::Wait;
@@ -26,9 +26,13 @@ fn push_object(out: &mut String, rows: &[&str], canvas: &str) -> Result<(), Allo
 }
 
 /// The report of a run as an object in a line.
-fn object_text(alloc: Global, plan: &Plan, report: &Report) -> Result<String, Memory> {
-    let told = fates(alloc, plan, report)?;
-    let text = rows_text(alloc, plan, report, &told)?;
+fn object_text<'w, T: Tasks>(
+    alloc: Global,
+    plan: &Plan,
+    report: &Report,
+    source: &Source<'_, T>,
+) -> Result<String, Refusal<'w>> {
+    let text = source.rows_of(alloc, plan, report)?;
     let lines: Vec<&str> = text.lines().collect(alloc)?;
     let mut object = String::new(alloc);
     if let Some((canvas, rows)) = lines.split_last() {
@@ -40,25 +44,24 @@ fn object_text(alloc: Global, plan: &Plan, report: &Report) -> Result<String, Me
 /// The same of a canvas's run, and whether its result is a failure.
 fn ran<'w, S, T>(
     rt: &S,
-    tasks: &T,
     workers: u32,
     plan: &Plan,
+    source: &Source<'_, T>,
 ) -> Result<(String, bool), Refusal<'w>>
 where
     S: Threads + Wait + RandomSource + AllocGlobal + Sync,
     T: Tasks + Sync,
 {
-    let report = report_of(rt, plan, tasks, workers)?;
-    let object = object_text(rt.alloc(), plan, &report)?;
+    let report = report_of(rt, plan, source.tasks, workers)?;
+    let object = object_text(rt.alloc(), plan, &report, source)?;
     Ok((object, is_failure(plan, &report)))
 }
 
 /// The line that a canvas gives: its report or its refusal; and whether its result is a failure.
 fn line_of<'w, S, T>(
     rt: &S,
-    tasks: &T,
     workers: u32,
-    text: &[u8],
+    source: &Source<'_, T>,
 ) -> Result<(String, bool), Refusal<'w>>
 where
     S: Threads + Wait + RandomSource + AllocGlobal + Sync,
@@ -68,8 +71,8 @@ where
         form: Form::Json,
         fails: false,
     };
-    match manner.plan_of(rt.alloc(), text) {
-        Ok(plan) => ran(rt, tasks, workers, &plan),
+    match manner.plan_of(rt.alloc(), source.text) {
+        Ok(plan) => ran(rt, workers, &plan, source),
         Err(Refusal::Found(said)) => Ok((said, false)),
         Err(refusal) => Err(refusal),
     }
@@ -87,10 +90,9 @@ fn without_end(line: &[u8]) -> &[u8] {
 /// where a canvas's result is one. Where memory is refused, what is whole is there.
 pub(crate) fn answer_each<'w, S, T>(
     rt: &S,
-    tasks: &T,
     workers: u32,
     fails: bool,
-    text: &[u8],
+    source: &Source<'_, T>,
 ) -> Result<Answer<'w>, Refusal<'w>>
 where
     S: Threads + Wait + RandomSource + AllocGlobal + Sync,
@@ -98,8 +100,13 @@ where
 {
     let mut out = String::new(rt.alloc());
     let mut status = 0;
-    for line in text.split_inclusive(|byte| *byte == b'\n') {
-        match line_of(rt, tasks, workers, without_end(line)) {
+    for line in source.text.split_inclusive(|byte| *byte == b'\n') {
+        let one = Source {
+            text: without_end(line),
+            tasks: source.tasks,
+            stubs: source.stubs,
+        };
+        match line_of(rt, workers, &one) {
             Ok((said, failed)) => {
                 out.push_str(&said)?;
                 if fails && failed {

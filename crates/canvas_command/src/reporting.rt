@@ -4,11 +4,12 @@ use crate::answer::Answer;
 use crate::finding::refusal_json;
 use crate::plan::plan_of;
 use crate::refusal::Refusal;
+use crate::source::Source;
 use canvas_engine::{Report, RunFault, report_text};
-use canvas_ran::{Fate, fates};
+use canvas_ran::fates;
 use canvas_rewrite::Plan;
-use canvas_task::{Memory, TaskNo};
-use canvas_views::{explained_text, is_failure, rows_text};
+use canvas_task::{Memory, Tasks};
+use canvas_views::{Told, explained_text, is_failure, rows_text};
 use std::alloc::Global;
 
 /// How a report is printed.
@@ -39,43 +40,49 @@ impl Manner {
         self.form == Form::Plain && !self.fails
     }
 
-    /// A report, with what became of each task where that is told.
-    fn text(
+    /// The report of a whole run.
+    fn whole_text<'w, T: Tasks>(
         &self,
         alloc: Global,
         plan: &Plan,
         report: &Report,
-        told: &[(TaskNo, Fate)],
-    ) -> Result<String, Memory> {
+        source: &Source<'_, T>,
+    ) -> Result<String, Refusal<'w>> {
         match self.form {
-            Form::Plain => report_text(alloc, plan, report),
-            Form::Json => rows_text(alloc, plan, report, told),
-            Form::Explained => explained_text(alloc, plan, report, told),
+            Form::Plain => Ok(report_text(alloc, plan, report)?),
+            Form::Json => source.rows_of(alloc, plan, report),
+            Form::Explained => {
+                let told = fates(alloc, plan, report)?;
+                Ok(explained_text(alloc, plan, report, &told)?)
+            }
         }
     }
 
-    /// What became of each task of a whole run, where it is printed.
-    fn told(
-        &self,
-        alloc: Global,
-        plan: &Plan,
-        report: &Report,
-    ) -> Result<Vec<(TaskNo, Fate)>, Memory> {
+    /// A report that doesn't tell which tasks were called.
+    fn text(&self, alloc: Global, plan: &Plan, report: &Report) -> Result<String, Memory> {
         match self.form {
-            Form::Plain => Ok(Vec::new(alloc)),
-            Form::Json | Form::Explained => fates(alloc, plan, report),
+            Form::Plain => report_text(alloc, plan, report),
+            Form::Json => {
+                let told = Told {
+                    fates: &[],
+                    blamed: &[],
+                };
+                rows_text(alloc, plan, report, told)
+            }
+            Form::Explained => explained_text(alloc, plan, report, &[]),
         }
     }
 
     /// The report of a whole run, and the status that its result has.
-    pub(crate) fn whole<'w>(
+    pub(crate) fn whole<'w, T: Tasks>(
         &self,
         alloc: Global,
         plan: &Plan,
         report: &Report,
+        source: &Source<'_, T>,
     ) -> Result<Answer<'w>, Refusal<'w>> {
-        let told = self.told(alloc, plan, report)?;
-        self.answer(alloc, plan, report, &told)
+        let text = self.whole_text(alloc, plan, report, source)?;
+        Ok(self.answer(text, plan, report))
     }
 
     /// A report that doesn't tell which tasks were called, and the status that its result has.
@@ -85,23 +92,17 @@ impl Manner {
         plan: &Plan,
         report: &Report,
     ) -> Result<Answer<'w>, Refusal<'w>> {
-        self.answer(alloc, plan, report, &[])
+        let text = self.text(alloc, plan, report)?;
+        Ok(self.answer(text, plan, report))
     }
 
-    fn answer<'w>(
-        &self,
-        alloc: Global,
-        plan: &Plan,
-        report: &Report,
-        told: &[(TaskNo, Fate)],
-    ) -> Result<Answer<'w>, Refusal<'w>> {
-        let out = self.text(alloc, plan, report, told)?.into_bytes();
+    fn answer<'w>(&self, text: String, plan: &Plan, report: &Report) -> Answer<'w> {
         let status = if self.fails && is_failure(plan, report) {
             FAILED
         } else {
             0
         };
-        Ok(Answer::whole(out).with_status(status))
+        Answer::whole(text.into_bytes()).with_status(status)
     }
 
     /// Why a run has no whole report, and what it stored, where there is memory for it.
@@ -110,7 +111,7 @@ impl Manner {
             RunFault::Halted {
                 rows: Some(report),
                 ..
-            } => self.text(alloc, plan, report, &[]).ok(),
+            } => self.text(alloc, plan, report).ok(),
             _ => None,
         };
         Answer::in_part(alloc, stored, Refusal::from(fault))

@@ -3,6 +3,7 @@
 use crate::answer::{Answer, Remark};
 use crate::refusal::Refusal;
 use crate::reporting::Manner;
+use crate::source::Source;
 use canvas_engine::{
     OpenGate, Report, RunFault, Stop, TextFault, When, run, run_text_again, run_text_threads,
     run_turns_again,
@@ -36,16 +37,16 @@ where
 /// The report of a run on threads.
 pub(crate) fn answer_run<'w, S, T>(
     rt: &S,
-    tasks: &T,
     workers: u32,
     manner: Manner,
-    text: &[u8],
+    source: &Source<'_, T>,
 ) -> Result<Answer<'w>, Refusal<'w>>
 where
     S: Threads + Wait + RandomSource + AllocGlobal + Sync,
     T: Tasks + Sync,
 {
     let alloc = rt.alloc();
+    let (text, tasks) = (source.text, source.tasks);
     if manner.is_plain() {
         return match run_text_threads(rt, alloc, text, tasks, workers, &OpenGate, &Stop::new()) {
             Ok(report) => Ok(Answer::whole(report.into_bytes())),
@@ -54,40 +55,70 @@ where
     }
     let plan = manner.plan_of(alloc, text)?;
     match report_of(rt, &plan, tasks, workers) {
-        Ok(report) => manner.whole(alloc, &plan, &report),
+        Ok(report) => manner.whole(alloc, &plan, &report, source),
         Err(fault) => Ok(manner.early(alloc, &plan, fault)),
+    }
+}
+
+/// An answer that says, where that is asked for, how many stores answered Again.
+fn counted<'w>(answer: Answer<'w>, counts: bool, repeats: u64) -> Answer<'w> {
+    answer.with_remark(counts.then_some(Remark::Repeats(repeats)))
+}
+
+/// The report of a run by turns, as it is printed where nothing else is asked for.
+fn plain_turns<'w, T: Tasks>(
+    alloc: Global,
+    workers: u32,
+    turns: &[u32],
+    again: Option<&[(TaskNo, When)]>,
+    source: &Source<'_, T>,
+) -> Result<Answer<'w>, Refusal<'w>> {
+    let (text, tasks) = (source.text, source.tasks);
+    match run_text_again(alloc, text, tasks, workers, turns, again.unwrap_or(&[])) {
+        Ok((report, repeats)) => Ok(counted(
+            Answer::whole(report.into_bytes()),
+            again.is_some(),
+            repeats,
+        )),
+        Err(fault) => early(alloc, fault),
+    }
+}
+
+/// The report of a plan's run by turns in another manner.
+fn shown_turns<'w, T: Tasks>(
+    alloc: Global,
+    plan: &Plan,
+    workers: u32,
+    turns: &[u32],
+    again: Option<&[(TaskNo, When)]>,
+    manner: Manner,
+    source: &Source<'_, T>,
+) -> Result<Answer<'w>, Refusal<'w>> {
+    let entries = again.unwrap_or(&[]);
+    match run_turns_again(alloc, plan, source.tasks, workers, turns, entries) {
+        Ok((report, repeats)) => Ok(counted(
+            manner.whole(alloc, plan, &report, source)?,
+            again.is_some(),
+            repeats,
+        )),
+        Err(fault) => Ok(manner.early(alloc, plan, fault)),
     }
 }
 
 /// The report of a run by turns, with what is delivered again, where that is asked for.
 pub(crate) fn answer_turns<'w, T: Tasks>(
     alloc: Global,
-    tasks: &T,
     workers: u32,
     turns: &[u32],
-    again: Option<Vec<(TaskNo, When)>>,
+    again: Option<&[(TaskNo, When)]>,
     manner: Manner,
-    text: &[u8],
+    source: &Source<'_, T>,
 ) -> Result<Answer<'w>, Refusal<'w>> {
-    let entries = again.as_deref().unwrap_or(&[]);
-    let counts = again.is_some();
     if manner.is_plain() {
-        return match run_text_again(alloc, text, tasks, workers, turns, entries) {
-            Ok((report, repeats)) => Ok(Answer::whole(report.into_bytes()).with_remark(
-                counts.then_some(Remark::Repeats(repeats)),
-            )),
-            Err(fault) => early(alloc, fault),
-        };
+        return plain_turns(alloc, workers, turns, again, source);
     }
-    let plan = manner.plan_of(alloc, text)?;
-    match run_turns_again(alloc, &plan, tasks, workers, turns, entries) {
-        Ok((report, repeats)) => Ok(
-            manner
-                .whole(alloc, &plan, &report)?
-                .with_remark(counts.then_some(Remark::Repeats(repeats))),
-        ),
-        Err(fault) => Ok(manner.early(alloc, &plan, fault)),
-    }
+    let plan = manner.plan_of(alloc, source.text)?;
+    shown_turns(alloc, &plan, workers, turns, again, manner, source)
 }
 
 /// The normal line of a canvas.

@@ -1,10 +1,11 @@
 //! What `canvas check` warns of: what may surprise of a canvas that is accepted.
 
+use crate::source::{Foreseen, Source};
 use canvas_finding::{Signature, pointer_text, signatures_of};
 use canvas_sig::Canvas;
 use canvas_task::{Memory, Tasks};
-use canvas_views::quoted_json;
-use canvas_warning::{Expected, Forecast, Input, forecasts};
+use canvas_views::{escaped_json, quoted_json};
+use canvas_warning::{Blame, Expected, Input, Wrong};
 use std::alloc::{AllocError, Global};
 use std::collections::BTreeMap;
 
@@ -49,6 +50,16 @@ impl Concern {
             }
             Concern::Unrolled => "Celery puts its one member in its place",
         }
+    }
+}
+
+/// What is wrong with a parameter, behind its name.
+fn said_of(wrong: Wrong) -> &'static str {
+    match wrong {
+        Wrong::NoParameter => "is no parameter",
+        Wrong::Missing => "is missing",
+        Wrong::Twice => "is given twice",
+        Wrong::OtherKind => "is of another kind",
     }
 }
 
@@ -133,26 +144,45 @@ impl Warnings {
         self.push_once(signature, key, concern.name(), note)
     }
 
+    /// A call that is a TypeError, and by which parameter.
+    fn push_type_error(
+        &mut self,
+        signature: &Signature,
+        input: Input,
+        blame: Option<Blame<'_>>,
+    ) -> Result<(), AllocError> {
+        let concern = Concern::TypeError(input);
+        let Some(Blame { parameter, wrong }) = blame else {
+            return self.push_concern(signature, concern);
+        };
+        let what = concern.note();
+        let parameter = escaped_json(self.alloc, parameter)?;
+        let said = said_of(wrong);
+        let note = format!(in self.alloc; "{what}: {parameter} {said}")?;
+        self.push(signature, concern.name(), note)
+    }
+
     fn push_expected(
         &mut self,
         signature: &Signature,
-        expected: Expected,
+        foreseen: Foreseen<'_>,
     ) -> Result<(), AllocError> {
-        match expected {
+        match foreseen.forecast.expected {
             Expected::Answer => Ok(()),
             Expected::Unknown => self.push_unknown(signature),
             Expected::TypeError(input) => {
-                self.push_concern(signature, Concern::TypeError(input))
+                self.push_type_error(signature, input, foreseen.blame())
             }
         }
     }
 
-    fn push_forecast(
+    fn push_foreseen(
         &mut self,
         signature: &Signature,
-        forecast: &Forecast,
+        foreseen: Foreseen<'_>,
     ) -> Result<(), AllocError> {
-        self.push_expected(signature, forecast.expected)?;
+        let forecast = foreseen.forecast;
+        self.push_expected(signature, foreseen)?;
         if forecast.is_left_pending {
             self.push_concern(signature, Concern::LeftPending)?;
         }
@@ -175,18 +205,18 @@ impl Warnings {
         Ok(())
     }
 
-    /// What is warned of signatures, of which all but the groups of headers have forecasts.
+    /// What is warned of signatures, of which for all but the groups of headers it is foreseen.
     fn push_all(
         &mut self,
         signatures: &[Signature],
-        forecasts: &[Forecast],
+        foreseen: &[Foreseen<'_>],
     ) -> Result<(), AllocError> {
-        let mut left = forecasts.iter();
+        let mut left = foreseen.iter();
         for signature in signatures {
             if !signature.is_header_group
-                && let Some(forecast) = left.next()
+                && let Some(foreseen) = left.next()
             {
-                self.push_forecast(signature, forecast)?;
+                self.push_foreseen(signature, *foreseen)?;
             }
             self.push_ignored(signature)?;
         }
@@ -248,20 +278,19 @@ fn push_object(alloc: Global, text: &mut String, warning: &Warning) -> Result<()
     Ok(())
 }
 
-/// What is warned of a canvas that a text spells.
+/// What is warned of a canvas that a source's text spells.
 pub(crate) fn warnings_of<T: Tasks>(
     alloc: Global,
-    tasks: &T,
+    source: &Source<'_, T>,
     canvas: &Canvas,
-    text: &[u8],
 ) -> Result<Warnings, Memory> {
-    let forecasts = forecasts(alloc, canvas, tasks)?;
-    let signatures = signatures_of(alloc, text)?;
+    let foreseen = source.all_foreseen(alloc, canvas)?;
+    let signatures = signatures_of(alloc, source.text)?;
     let mut warnings = Warnings {
         alloc,
         found: Vec::new(alloc),
         counted: BTreeMap::new(alloc),
     };
-    warnings.push_all(&signatures, &forecasts)?;
+    warnings.push_all(&signatures, &foreseen)?;
     Ok(warnings)
 }

@@ -14,5 +14,5 @@ mod stored;
 pub use explained::explained_text;
 pub use graph::{graph_text, stored_graph_text};
 pub use json_text::{escaped_json, message_line, quoted_json};
-pub use rows::{is_failure, rows_text, stored_rows_text};
+pub use rows::{Told, is_failure, rows_text, stored_rows_text};
 pub use stored::stored_text;

@@ -102,22 +102,58 @@ fn ran_member(fate: &Option<Fate>) -> &'static str {
     }
 }
 
+/// A parameter, or null, as a member of a row.
+fn parameter_json(alloc: Global, parameter: &Option<String>) -> Result<String, AllocError> {
+    match parameter {
+        None => String::from_str(alloc, "\"parameter\":null,"),
+        Some(name) => {
+            let name = quoted_json(alloc, name)?;
+            format!(in alloc; "\"parameter\":{name},")
+        }
+    }
+}
+
+/// The parameter that is at fault, as a member of a task's row, where that is told.
+fn parameter_member(
+    alloc: Global,
+    blamed: &[(TaskNo, Option<String>)],
+    task: TaskNo,
+) -> Result<String, AllocError> {
+    for (of, parameter) in blamed {
+        if of.get() == task.get() {
+            return parameter_json(alloc, parameter);
+        }
+    }
+    Ok(String::new(alloc))
+}
+
+/// What is told of a run besides its report.
+#[derive(Clone, Copy)]
+pub struct Told<'a> {
+    /// What became of each task of a whole run. Of one that was halted there is none.
+    pub fates: &'a [(TaskNo, Fate)],
+    /// Tasks whose call was a TypeError, each with the parameter that is at fault, if it is one.
+    pub blamed: &'a [(TaskNo, Option<String>)],
+}
+
 fn push_row(
     text: &mut String,
     alloc: Global,
     plan: &Plan,
     rows: &[Row],
     task: TaskNo,
-    fate: Option<Fate>,
+    told: Told<'_>,
 ) -> Result<(), AllocError> {
+    let fate = fate_in(told.fates, task);
     let due = due_member(alloc, &fate)?;
     let ran = ran_member(&fate);
+    let parameter = parameter_member(alloc, told.blamed, task)?;
     let name = quoted_json(alloc, plan.name(task).unwrap_or(""))?;
     let result = result_json(alloc, rows, task)?;
     let status = status_at(rows, task);
     writeln!(
         text,
-        "{{{due}\"name\":{name},{ran}\"result\":{result},\"status\":\"{status}\",\"task_id\":\"{task}\"}}"
+        "{{{due}\"name\":{name},{parameter}{ran}\"result\":{result},\"status\":\"{status}\",\"task_id\":\"{task}\"}}"
     )?;
     Ok(())
 }
@@ -192,37 +228,35 @@ fn push_end(text: &mut String, alloc: Global, plan: &Plan, rows: &[Row]) -> Resu
     Ok(())
 }
 
-fn lines_of(
-    alloc: Global,
-    plan: &Plan,
-    rows: &[Row],
-    fates: &[(TaskNo, Fate)],
-) -> Result<String, Memory> {
+fn lines_of(alloc: Global, plan: &Plan, rows: &[Row], told: Told<'_>) -> Result<String, Memory> {
     let mut text = String::new(alloc);
     for index in 0..plan.tasks() {
-        let task = plan.task_at(index);
-        push_row(&mut text, alloc, plan, rows, task, fate_in(fates, task))?;
+        push_row(&mut text, alloc, plan, rows, plan.task_at(index), told)?;
     }
     push_end(&mut text, alloc, plan, rows)?;
     Ok(text)
 }
 
 /// A JSON object in a line for each task, in the order of their numbers, and one for the result of
-/// the canvas. With the fates of a whole run's tasks it says of each whether it was called; without
-/// any, as of a run that was halted, it says nothing of that.
+/// the canvas. Where it is told what became of the tasks, each object says whether its task was
+/// called; and where a parameter is blamed, which.
 pub fn rows_text(
     alloc: Global,
     plan: &Plan,
     report: &Report,
-    fates: &[(TaskNo, Fate)],
+    told: Told<'_>,
 ) -> Result<String, Memory> {
     let rows = run_rows(alloc, report)?;
-    lines_of(alloc, plan, &rows, fates)
+    lines_of(alloc, plan, &rows, told)
 }
 
-/// The same of rows of any kind, which don't say whether a task was called.
+/// The same of rows of any kind, of which nothing more is told.
 pub fn stored_rows_text(alloc: Global, plan: &Plan, rows: &[Row]) -> Result<String, Memory> {
-    lines_of(alloc, plan, rows, &[])
+    let told = Told {
+        fates: &[],
+        blamed: &[],
+    };
+    lines_of(alloc, plan, rows, told)
 }
 
 /// Whether the result of the canvas is a failure, or that of a member where it is a group.

@@ -1,2 +1,4 @@
 pub mod Views
 pub mod Six
+pub mod Blames
+pub mod Listed

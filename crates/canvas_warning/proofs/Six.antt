@@ -45,10 +45,10 @@ checked_or_not : (b : Bool) (n : ℤ) → is_type_error (outcome (if b then Ok n
 checked_or_not true n = in_range_or_not (in_range n) n
 checked_or_not false n = refl
 
-number_fine : (n : ℤ) → is_type_error (outcome (checked n)) ≡ false
+pub number_fine : (n : ℤ) → is_type_error (outcome (checked n)) ≡ false
 number_fine n = checked_or_not (in_range n) n
 
-quotient_fine : (x y : ℤ) → is_type_error (outcome (quotient x y)) ≡ false
+pub quotient_fine : (x y : ℤ) → is_type_error (outcome (quotient x y)) ≡ false
 quotient_fine x (pos zero) = refl
 quotient_fine x (pos (suc k)) = number_fine (floor_div x (pos (suc k)))
 quotient_fine x (negsuc k) = number_fine (floor_div x (negsuc k))
@@ -91,7 +91,7 @@ list_first xsum (a ∷ rest) ns h = refl
 list_first ident rest ns h = refl
 list_first log_error rest ns h = refl
 
-some_task_named : task_named some_task ≡ Some 1
+pub some_task_named : task_named some_task ≡ Some 1
 some_task_named = task_back 1 (omega arith) (omega arith)
 
 text_first : (t : KnownTask) (rest : List Arg) (s : Text) → is_type_error (outcome (task_answer t (arg.Text some_task ∷ rest))) ≡ true

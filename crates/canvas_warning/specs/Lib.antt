@@ -2,3 +2,6 @@ pub mod Calls
 pub mod Standing
 pub mod Foreseen
 pub mod SixLaws
+pub mod Parameters
+pub mod ParameterLaws
+pub mod Listed

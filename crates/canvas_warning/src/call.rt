@@ -76,7 +76,7 @@ fn list_of_one(alloc: Global) -> Result<Arg, AllocError>
 }
 
 /// The identifier of a task.
-fn some_task(alloc: Global) -> Result<Arg, AllocError>
+pub(crate) fn some_task(alloc: Global) -> Result<Arg, AllocError>
     ensures { IfOk result (λ arg. arg ≡ Text some_task) }
 {
     match TaskNo::new(1) {

@@ -1,15 +1,21 @@
 //! What may surprise of a canvas that is accepted: names that no task answers to, calls that are a
-//! TypeError, and where Celery does otherwise.
+//! TypeError and by which parameter, and where Celery does otherwise.
 #![tactic(auto)]
 
+mod blaming;
 mod call;
 mod forecast;
 mod foreseeing;
 mod laws;
+mod listing;
+mod parameter;
 mod stand;
 mod walk;
 
+pub use blaming::blamed;
 pub use forecast::{Expected, Forecast};
 pub use foreseeing::forecasts;
-pub use laws::law_of_six_forecasts;
+pub use laws::{law_of_parameters, law_of_six_forecasts};
+pub use listing::tasks_in;
+pub use parameter::{Blame, OneOfSix, Wrong};
 pub use stand::Input;

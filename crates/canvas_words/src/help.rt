@@ -65,9 +65,11 @@ the same, due_to is the task whose exception it shows, or that its ChordError na
 is refused gives an object with code, name, note and pointer on standard error; a file that can't be
 read, and a bad list or run's number, one with name and note. `run --explain` says the same in
 words, with #2 for the identifier of task 2. A run that ends early doesn't say which tasks were
-called. `run --each` reads a canvas a line, and prints a JSON object a line for each, in their
-order: canvas (the last line of `run --json`) and rows (a list of the others), or what --json prints
-of one that is refused. More than 67,108,864 bytes in all are refused (TooLarge).
+called. With --json a call of one of the six tasks that is a TypeError has parameter: the one at
+fault, or null where there are too many arguments. `run --each` reads a canvas a line, and prints a
+JSON object a line for each, in their order: canvas (the last line of `run --json`) and rows (a list
+of the others), or what --json prints of one that is refused. More than 67,108,864 bytes in all are
+refused (TooLarge).
 
 `graph` prints a picture for Graphviz, as in `canvas graph FILE --run | dot -Tsvg -o canvas.svg`: from left to
 right in time, groups and chords as frames, links and error callbacks dashed. `messages` prints what a

@@ -1,0 +1,204 @@
+//! What a run is of: a canvas's text, and what answers its calls. It says which parameter makes a
+//! call a TypeError.
+
+use crate::refusal::Refusal;
+use canvas_engine::Report;
+use canvas_ran::{Fate, fates, state_in};
+use canvas_rewrite::Plan;
+use canvas_sig::{Canvas, read_canvas};
+use canvas_stubs::{Does, Stub};
+use canvas_task::{Fault, Kind, Memory, Outcome, TaskNo, Tasks};
+use canvas_values::TaskSig;
+use canvas_views::{Told, rows_text};
+use canvas_warning::{Blame, Expected, Forecast, Input, OneOfSix, blamed, forecasts, tasks_in};
+use std::alloc::{AllocError, Global};
+
+/// A canvas's text, and the tasks that its calls are answered by, which have these stubs before
+/// them.
+#[derive(Drop)]
+pub(crate) struct Source<'a, T> {
+    pub(crate) text: &'a [u8],
+    pub(crate) tasks: &'a T,
+    pub(crate) stubs: &'a [Stub],
+}
+
+/// What is foreseen of a signature.
+#[derive(Clone, Copy)]
+pub(crate) struct Foreseen<'a> {
+    pub(crate) forecast: Forecast,
+    is_task: bool,
+    /// Of a call that is a TypeError the parameter that is at fault, if it is one; none where no
+    /// task of the six answers it.
+    blame: Option<Option<Blame<'a>>>,
+}
+
+impl<'a> Foreseen<'a> {
+    /// The parameter that makes its call a TypeError, where that is known.
+    pub(crate) fn blame(&self) -> Option<Blame<'a>> {
+        match self.blame {
+            Some(blame) => blame,
+            None => None,
+        }
+    }
+}
+
+/// The task of the six that a stub does as.
+fn six_done(does: Does) -> Option<OneOfSix> {
+    match does {
+        Does::Add => Some(OneOfSix::Add),
+        Does::Mul => Some(OneOfSix::Mul),
+        Does::Div => Some(OneOfSix::Div),
+        Does::Xsum => Some(OneOfSix::Xsum),
+        Does::Ident => Some(OneOfSix::Ident),
+        Does::LogError => Some(OneOfSix::LogError),
+        Does::Gives(_) | Does::Raises(_) => None,
+    }
+}
+
+fn stub_named(stubs: &[Stub], name: &str) -> Option<Does> {
+    for stub in stubs {
+        if stub.name.get().as_str() == name {
+            return Some(stub.does);
+        }
+    }
+    None
+}
+
+/// Whether a task ran and is a TypeError.
+fn is_bad_call(report: &Report, task: TaskNo, fate: Fate) -> bool {
+    matches!(fate, Fate::Ran)
+        && matches!(
+            state_in(report.rows.get(), task),
+            Some(Outcome::Failure(Fault::Plain(Kind::BadCall)))
+        )
+}
+
+fn any_bad_call(report: &Report, fates: &[(TaskNo, Fate)]) -> bool {
+    for (task, fate) in fates {
+        if is_bad_call(report, *task, *fate) {
+            return true;
+        }
+    }
+    false
+}
+
+fn parameter_of(alloc: Global, blame: Option<Blame<'_>>) -> Result<Option<String>, AllocError> {
+    match blame {
+        Some(blame) => Ok(Some(String::from_str(alloc, blame.parameter)?)),
+        None => Ok(None),
+    }
+}
+
+/// The tasks that ran and are a TypeError, where a task of the six answers their calls, each with
+/// the parameter that is at fault, if it is one.
+fn blamed_of(
+    alloc: Global,
+    foreseen: &[Foreseen<'_>],
+    report: &Report,
+    fates: &[(TaskNo, Fate)],
+) -> Result<Vec<(TaskNo, Option<String>)>, AllocError> {
+    let mut found = Vec::new(alloc);
+    let mut left = fates.iter();
+    for it in foreseen {
+        if !it.is_task {
+            continue;
+        }
+        let Some((task, fate)) = left.next() else {
+            break;
+        };
+        if let Some(blame) = it.blame
+            && is_bad_call(report, *task, *fate)
+        {
+            let parameter = parameter_of(alloc, blame)?;
+            found.push((*task, parameter))?;
+        }
+    }
+    Ok(found)
+}
+
+impl<'a, T: Tasks> Source<'a, T> {
+    /// The task of the six that answers the calls of a name: what a stub of the name does, or the
+    /// task of the name, or what the stub of each other name does.
+    fn six_of(&self, name: &str) -> Option<OneOfSix> {
+        if let Some(does) = stub_named(self.stubs, name) {
+            return six_done(does);
+        }
+        match OneOfSix::of(name) {
+            Some(six) => Some(six),
+            None => six_done(stub_named(self.stubs, "*")?),
+        }
+    }
+
+    /// The parameter that makes a call a TypeError with this in front of its own arguments, if it
+    /// is one. None where no task of the six answers the call.
+    fn blamed_in<'s>(
+        &self,
+        alloc: Global,
+        sig: &'s TaskSig,
+        input: Input,
+    ) -> Result<Option<Option<Blame<'s>>>, AllocError> {
+        match self.six_of(sig.name.get()) {
+            Some(six) => Ok(Some(blamed(alloc, six, sig, input)?)),
+            None => Ok(None),
+        }
+    }
+
+    /// What is foreseen of a signature that has this forecast, and is this task if it is one.
+    fn foreseen_of<'s>(
+        &self,
+        alloc: Global,
+        forecast: Forecast,
+        task: Option<&'s TaskSig>,
+    ) -> Result<Foreseen<'s>, AllocError> {
+        let is_task = task.is_some();
+        let blame = match (forecast.expected, task) {
+            (Expected::TypeError(input), Some(sig)) => self.blamed_in(alloc, sig, input)?,
+            _ => None,
+        };
+        Ok(Foreseen {
+            forecast,
+            is_task,
+            blame,
+        })
+    }
+
+    /// What is foreseen of each signature of a canvas, in file order.
+    pub(crate) fn all_foreseen<'c>(
+        &self,
+        alloc: Global,
+        canvas: &'c Canvas,
+    ) -> Result<Vec<Foreseen<'c>>, Memory> {
+        let forecasts = forecasts(alloc, canvas, self.tasks)?;
+        let tasks = tasks_in(alloc, canvas)?;
+        let mut found = Vec::new(alloc);
+        for (forecast, task) in forecasts.iter().zip(tasks.iter()) {
+            found.push(self.foreseen_of(alloc, *forecast, *task)?)?;
+        }
+        Ok(found)
+    }
+
+    /// The report of a whole run as JSON lines.
+    pub(crate) fn rows_of<'w>(
+        &self,
+        alloc: Global,
+        plan: &Plan,
+        report: &Report,
+    ) -> Result<String, Refusal<'w>> {
+        let fates = fates(alloc, plan, report)?;
+        if !any_bad_call(report, &fates) {
+            let told = Told {
+                fates: &fates,
+                blamed: &[],
+            };
+            return Ok(rows_text(alloc, plan, report, told)?);
+        }
+        let canvas = read_canvas(alloc, self.text)?;
+        let foreseen = self.all_foreseen(alloc, &canvas)?;
+        let blamed = blamed_of(alloc, &foreseen, report, &fates)?;
+        let told = Told {
+            fates: &fates,
+            blamed: &blamed,
+        };
+        Ok(rows_text(alloc, plan, report, told)?)
+    }
+}

@@ -1,0 +1,209 @@
+//! The parameter that makes a call of one of the six tasks a TypeError.
+
+ghost use Rattle.std.specs.Prelude.{◌≡◌, ◌∷◌, [], if◌then◌else◌, None, Some, IfOk};
+ghost use Rattle.std.specs.List.{list_any};
+ghost use Rattle.std.specs.Option.{option_map};
+ghost use Rattle.std.specs.Str.{bytes_eq};
+ghost use Rattle.canvas_task.specs.Apply.{by_name, log_error, parameters};
+ghost use Rattle.canvas_task.specs.Entries.{named};
+ghost use Rattle.canvas_values.specs.ComposedRefusals.{its_call};
+ghost use Rattle.canvas_values.specs.SignatureView.{task_view};
+ghost use Rattle.canvas_warning.specs.Parameters.{known, fits, wrong_with, first_wrong, first_unknown, at_fault, blamed};
+ghost use Rattle.canvas_warning.specs.declared.parameter.Wrong.TheVariants.{OtherKind};
+
+use crate::call::some_task;
+use crate::{Blame, Input, OneOfSix, Wrong};
+use canvas_task::{Arg, ListOf, copy_args, task_of_text};
+use canvas_values::TaskSig;
+use std::alloc::{AllocError, Global};
+use std::collections::BTreeMap;
+
+fn names_a_task(arg: &Arg) -> bool
+    ensures { result ≡ fits log_error arg.now }
+{
+    match arg {
+        Arg::Text(text) => task_of_text(text.get()).is_some(),
+        Arg::Num(_) => false,
+        Arg::List(_) => false,
+    }
+}
+
+/// Whether an argument is of the kind that the parameters of a task take.
+fn is_taken(six: OneOfSix, arg: &Arg) -> bool
+    ensures { result ≡ fits (known six) arg.now }
+{
+    match six {
+        OneOfSix::Add | OneOfSix::Mul | OneOfSix::Div | OneOfSix::Ident => matches!(
+            arg,
+            Arg::Num(_)
+        ),
+        OneOfSix::Xsum => matches!(arg, Arg::List(_)),
+        OneOfSix::LogError => names_a_task(arg),
+    }
+}
+
+fn other_kind(six: OneOfSix, arg: &Arg) -> Option<Wrong>
+    ensures { result ≡ (if fits (known six) arg.now then None else Some OtherKind) }
+{
+    if is_taken(six, arg) {
+        None
+    } else {
+        Some(Wrong::OtherKind)
+    }
+}
+
+/// What is wrong with a parameter that is given this by its place, and that by its name.
+fn wrong_with(six: OneOfSix, given: Option<&Arg>, named: Option<&Arg>) -> Option<Wrong>
+    ensures { result ≡ wrong_with (fits (known six)) (option_map (λ a. a.now) given.entry)
+        (option_map (λ a. a.now) named.entry) }
+{
+    match given {
+        Some(arg) => match named {
+            Some(_) => Some(Wrong::Twice),
+            None => other_kind(six, arg),
+        },
+        None => match named {
+            Some(arg) => other_kind(six, arg),
+            None => Some(Wrong::Missing),
+        },
+    }
+}
+
+/// The argument given by a name.
+fn by_name<'a>(parameter: &str, kwargs: &'a BTreeMap<String, Arg>) -> Option<&'a Arg>
+    ensures { option_map (λ a. a.now) result ≡ by_name parameter.now (named kwargs.now.entries) }
+{
+    kwargs.get(parameter)
+}
+
+/// What is wrong with the parameter of a task that has one.
+fn wrong_of_one<'a>(
+    six: OneOfSix,
+    x: &'a str,
+    args: &[Arg],
+    kwargs: &BTreeMap<String, Arg>,
+) -> Option<Blame<'a>>
+    ensures { option_map (λ b. (b.parameter.now, b.wrong)) result
+        ≡ first_wrong (fits (known six)) (x.now ∷ []) args.now (named kwargs.now.entries) }
+{
+    match wrong_with(six, args.first(), by_name(x, kwargs)) {
+        Some(wrong) => Some(Blame {
+            parameter: x,
+            wrong,
+        }),
+        None => None,
+    }
+}
+
+/// The first of two parameters with which something is wrong.
+fn wrong_of_two<'a>(
+    six: OneOfSix,
+    x: &'a str,
+    y: &'a str,
+    args: &[Arg],
+    kwargs: &BTreeMap<String, Arg>,
+) -> Option<Blame<'a>>
+    ensures { option_map (λ b. (b.parameter.now, b.wrong)) result
+        ≡ first_wrong (fits (known six)) (x.now ∷ y.now ∷ []) args.now (named kwargs.now.entries) }
+{
+    if let Some(wrong) = wrong_with(six, args.first(), by_name(x, kwargs)) {
+        return Some(Blame {
+            parameter: x,
+            wrong,
+        });
+    }
+    match wrong_with(six, args.get(1), by_name(y, kwargs)) {
+        Some(wrong) => Some(Blame {
+            parameter: y,
+            wrong,
+        }),
+        None => None,
+    }
+}
+
+/// The first of a task's parameters with which something is wrong.
+fn first_wrong<'a>(six: OneOfSix, args: &[Arg], kwargs: &BTreeMap<String, Arg>) -> Option<Blame<'a>>
+    ensures { option_map (λ b. (b.parameter.now, b.wrong)) result ≡ first_wrong (fits (known six))
+        (parameters (known six)) args.now (named kwargs.now.entries) }
+{
+    match six {
+        OneOfSix::Add | OneOfSix::Mul | OneOfSix::Div => wrong_of_two(six, "x", "y", args, kwargs),
+        OneOfSix::Xsum => wrong_of_one(six, "numbers", args, kwargs),
+        OneOfSix::Ident => wrong_of_one(six, "x", args, kwargs),
+        OneOfSix::LogError => wrong_of_one(six, "uuid", args, kwargs),
+    }
+}
+
+fn is_parameter(six: OneOfSix, name: &str) -> bool
+    ensures { result ≡ list_any (bytes_eq name.now) (parameters (known six)) }
+{
+    match six {
+        OneOfSix::Add | OneOfSix::Mul | OneOfSix::Div => name == "x" || name == "y",
+        OneOfSix::Xsum => name == "numbers",
+        OneOfSix::Ident => name == "x",
+        OneOfSix::LogError => name == "uuid",
+    }
+}
+
+/// The first keyword that is no parameter.
+fn first_unknown<'a>(six: OneOfSix, kwargs: &'a BTreeMap<String, Arg>) -> Option<&'a str>
+    ensures { option_map (λ name. name.now) result
+        ≡ first_unknown (parameters (known six)) (named kwargs.now.entries) }
+{
+    for (name, _arg) in kwargs.iter() {
+        if !is_parameter(six, name) {
+            return Some(name.as_str());
+        }
+    }
+    None
+}
+
+/// What a call with these arguments is to blame for.
+fn at_fault<'a>(six: OneOfSix, args: &[Arg], kwargs: &'a BTreeMap<String, Arg>) -> Option<Blame<'a>>
+    ensures { option_map (λ b. (b.parameter.now, b.wrong)) result
+        ≡ at_fault (known six) args.now (named kwargs.now.entries) }
+{
+    match first_unknown(six, kwargs) {
+        Some(parameter) => Some(Blame {
+            parameter,
+            wrong: Wrong::NoParameter,
+        }),
+        None => first_wrong(six, args, kwargs),
+    }
+}
+
+/// What a call is to blame for with one argument in front of its own.
+fn at_fault_behind<'a>(
+    six: OneOfSix,
+    sig: &'a TaskSig,
+    arg: Arg,
+) -> Result<Option<Blame<'a>>, AllocError>
+    ensures { IfOk result (λ blame. option_map (λ b. (b.parameter.now, b.wrong)) blame
+        ≡ at_fault (known six) (arg ∷ (its_call (task_view sig.now)).args)
+        (its_call (task_view sig.now)).kwargs) }
+{
+    let mut args = copy_args(&sig.args)?.into_plain();
+    args.insert(0, arg)?;
+    Ok(at_fault(six, &args, sig.kwargs.get()))
+}
+
+/// The parameter that makes a call of one of the six tasks a TypeError, where a value of this kind
+/// stands in front of its own arguments: a keyword that is no parameter, or else the first of the
+/// task's parameters that has no argument, two, or one of another kind. None where there are too
+/// many positional arguments, or where the call is no TypeError.
+pub fn blamed<'a>(
+    alloc: Global,
+    six: OneOfSix,
+    sig: &'a TaskSig,
+    input: Input,
+) -> Result<Option<Blame<'a>>, AllocError>
+    ensures { IfOk result (λ blame. option_map (λ b. (b.parameter.now, b.wrong)) blame
+        ≡ blamed (known six) (its_call (task_view sig.now)) input) }
+{
+    match input {
+        Input::Nothing => Ok(at_fault(six, sig.args.get(), sig.kwargs.get())),
+        Input::Number => at_fault_behind(six, sig, Arg::Num(0)),
+        Input::Numbers => at_fault_behind(six, sig, Arg::List(ListOf::of(Vec::new(alloc)))),
+        Input::Identifier => at_fault_behind(six, sig, some_task(alloc)?),
+    }
+}
