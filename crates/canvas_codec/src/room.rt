@@ -1,8 +1,13 @@
-//! About how many bytes texts take, so that most stay where they are begun. No clause reads it.
+//! About how many bytes texts take, so that most stay where they are begun. No clause reads it. The
+//! first of several tasks or members stands for all, so that an estimate costs the same however
+//! many there are.
 
 use canvas_message::Message;
 use canvas_rewrite::{FrozenEnd, FrozenLine, FrozenTask, Place};
 use canvas_task::Arg;
+
+/// The most that is taken at once; a longer text grows.
+const MOST_ROOM: usize = 2_097_152;
 
 /// How many bytes an argument has at least, with its comma.
 fn argument_room(arg: &Arg) -> usize {
@@ -21,15 +26,35 @@ fn arguments_room(args: &[Arg]) -> usize {
     room
 }
 
-/// Of a task, with its callbacks and its place.
-#[cycle(rooms)]
+/// Of a task, with its callbacks.
 fn task_room(task: &FrozenTask) -> usize {
-    tasks_room(task.links.get())
-        .saturating_add(tasks_room(task.errbacks.get()))
+    let callbacks = task
+        .links
+        .get()
+        .len()
+        .saturating_add(task.errbacks.get().len());
+    callbacks
+        .saturating_mul(190)
         .saturating_add(arguments_room(task.args.get()))
-        .saturating_add(place_room(&task.place))
         .saturating_add(task.name.get().len())
         .saturating_add(150)
+}
+
+/// Of tasks that stand beside each other.
+fn tasks_room(tasks: &[FrozenTask]) -> usize {
+    match tasks.first() {
+        Some(task) => task_room(task).saturating_mul(tasks.len()),
+        None => 0,
+    }
+}
+
+/// Of the body that the last of some tasks carries.
+#[cycle(rooms)]
+fn last_place_room(tasks: &[FrozenTask]) -> usize {
+    match tasks.last() {
+        Some(task) => place_room(&task.place),
+        None => 0,
+    }
 }
 
 /// Of a place, with the body that it carries.
@@ -46,25 +71,26 @@ fn place_room(place: &Option<Place>) -> usize {
 
 #[cycle(rooms)]
 fn line_room(line: &FrozenLine) -> usize {
-    tasks_room(line.tasks.get()).saturating_add(end_room(&line.tail))
+    tasks_room(line.tasks.get())
+        .saturating_add(last_place_room(line.tasks.get()))
+        .saturating_add(end_room(&line.tail))
 }
 
 /// Of the group or chord at the end of a line, where there is one.
 #[cycle(rooms)]
 fn end_room(tail: &Option<Box<FrozenEnd>>) -> usize {
     match tail {
-        Some(end) => lines_room(end.members.get()).saturating_add(rest_room(&end.body)),
+        Some(end) => members_room(end.members.get()).saturating_add(rest_room(&end.body)),
         None => 0,
     }
 }
 
 #[cycle(rooms)]
-fn lines_room(lines: &[FrozenLine]) -> usize {
-    let mut room: usize = 0;
-    for line in lines {
-        room = room.saturating_add(line_room(line));
+fn members_room(members: &[FrozenLine]) -> usize {
+    match members.first() {
+        Some(member) => line_room(member).saturating_mul(members.len()),
+        None => 0,
     }
-    room
 }
 
 /// Of what follows, where something does.
@@ -74,15 +100,6 @@ fn rest_room(rest: &Option<FrozenLine>) -> usize {
         Some(line) => line_room(line),
         None => 0,
     }
-}
-
-#[cycle(rooms)]
-fn tasks_room(tasks: &[FrozenTask]) -> usize {
-    let mut room: usize = 0;
-    for task in tasks {
-        room = room.saturating_add(task_room(task));
-    }
-    room
 }
 
 /// Of headers that name a group and a parent: all but the task's name is as long in all of them.
@@ -104,4 +121,5 @@ pub(crate) fn body_room(message: &Message, known: Option<&str>) -> usize {
         .saturating_add(arguments_room(message.args.get()))
         .saturating_add(message.kwargs.get().len().saturating_mul(24))
         .saturating_add(72)
+        .min(MOST_ROOM)
 }
