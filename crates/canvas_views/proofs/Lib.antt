@@ -1,0 +1,5 @@
+pub mod Pieces
+pub mod RowLines
+pub mod RowLaws
+pub mod ReadBack
+mod WorkedRows

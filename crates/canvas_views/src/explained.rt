@@ -1,7 +1,7 @@
 //! A report as a person reads it: tasks by their numbers, and why some were not called.
 
 use crate::rows::{fate_in, row_of};
-use crate::shown::status_of;
+use crate::shown::Status;
 use canvas_engine::Report;
 use canvas_ran::Fate;
 use canvas_rewrite::{Ends, Plan};
@@ -53,7 +53,7 @@ fn push_row(
     let row = row_of(report, task);
     let number = task.get();
     let name = plan.name(task).unwrap_or("");
-    let status = status_of(&row);
+    let status = Status::of(&row).name();
     write!(text, "#{number} {name} {status} ")?;
     push_value(text, &row)?;
     push_told(text, &fate)?;

@@ -1,12 +1,17 @@
 //! Texts and messages as JSON.
 
+ghost use Rattle.std.specs.Prelude.{◌≡◌, IfOk, string_bytes};
+ghost use Rattle.json.specs.Print.{quoted};
+
 use canvas_message::Envelope;
 use serde_json::Value;
 use std::alloc::{AllocError, Global};
 use std::str;
 
 /// A text as a JSON string.
-pub fn quoted_json(alloc: Global, text: &str) -> Result<String, AllocError> {
+pub fn quoted_json(alloc: Global, text: &str) -> Result<String, AllocError>
+    ensures { IfOk result (λ made. string_bytes made ≡ quoted text.now) }
+{
     Value::String(String::from_str(alloc, text)?).to_string(alloc)
 }
 

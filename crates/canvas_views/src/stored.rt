@@ -49,7 +49,7 @@ fn push_row(
     task: TaskNo,
 ) -> Result<(), AllocError> {
     let name = plan.name(task).unwrap_or("");
-    let status = status_at(rows, task);
+    let status = status_at(rows, task).name();
     write!(text, "{task} {name} {status} ")?;
     push_value_at(text, alloc, rows, task)?;
     text.push('\n')
