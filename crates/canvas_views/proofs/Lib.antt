@@ -3,3 +3,6 @@ pub mod RowLines
 pub mod RowLaws
 pub mod ReadBack
 mod WorkedRows
+pub mod EdgeParts
+pub mod NodeParts
+pub mod NodeLaw

@@ -2,4 +2,6 @@ pub mod Failing
 pub mod JsonRows
 pub mod StoredRows
 pub mod ReadLines
+pub mod Nodes
+pub mod Picture
 pub mod steps

@@ -1,1 +1,3 @@
 pub mod RowTexts
+pub mod EdgeLists
+pub mod PieceLists

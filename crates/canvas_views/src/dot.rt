@@ -1,83 +1,86 @@
-//! The language of Graphviz: nodes, edges and texts.
+//! The language of Graphviz: texts, and how tasks are drawn.
 
+ghost use Rattle.std.specs.Prelude.{◌≡◌, ◌++◌, true, false, OnOk, option_map, string_bytes, codes};
+ghost use Rattle.std.specs.Fmt.{digits};
+ghost use Rattle.canvas_task.specs.Text.{Text};
+ghost use Rattle.canvas_views.specs.Nodes.{inside, look, state_look};
+ghost use Rattle.canvas_views.specs.steps.PieceLists.{AddsWhole};
+ghost use Rattle.canvas_views.specs.steps.RowTexts.{row_status};
+
+use crate::rows::put;
+use crate::shown::Status;
 use canvas_collect::Row;
 use canvas_ran::Fate;
-use canvas_rewrite::FrozenTask;
-use canvas_task::Outcome;
 use std::alloc::AllocError;
-use std::fmt;
 
-const PENDING: &str = "shape=box, style=\"dashed,filled\", fillcolor=\"#eeeeee\"";
-
-const SUCCESS: &str = "shape=box, style=\"rounded,filled\", fillcolor=\"#d8f0d8\"";
-
-const FAILURE: &str = "shape=octagon, style=filled, fillcolor=\"#f7d4d4\", penwidth=2";
-
-/// What edges join: a task, or a group or chord of no members; each by its number.
-#[derive(Clone, Copy, Drop)]
-pub(crate) enum Node {
-    Task(u32),
-    Group(u32),
-}
-
-impl fmt::Display for Node {
-    fn fmt<W: fmt::Write>(&self, f: &mut fmt::Formatter<W>) -> fmt::Result {
-        match self {
-            Node::Task(number) => write!(f, "t{number}"),
-            Node::Group(number) => write!(f, "g{number}"),
-        }
-    }
-}
-
-/// A text in quotes. What isn't printable ASCII is escaped, so that no text ends its quotes or
-/// begins an escape of Graphviz.
-pub(crate) fn push_quoted(dot: &mut String, text: &str) -> Result<(), AllocError> {
-    dot.push('"')?;
-    for c in text.chars() {
-        match c {
-            '"' => dot.push_str("\\\"")?,
-            '\\' => dot.push_str("\\\\")?,
-            '\n' => dot.push_str("\\n")?,
-            ' '..='~' => dot.push(c)?,
-            _ => {
-                let code = c as u32;
-                write!(dot, "\\\\u{{{code:x}}}")?;
-            }
-        }
-    }
-    dot.push('"')?;
+fn push_code(dot: &mut String, code: u32) -> Result<(), AllocError>
+    ensures { OnOk result (string_bytes dot.new ≡ string_bytes dot.old
+        ++ (codes "\\\\u{" ++ digits 16 false code ++ codes "}")) }
+{
+    write!(dot, "\\\\u{{{code:x}}}")?;
     Ok(())
 }
 
-fn looks_of_outcome(outcome: &Option<Outcome>) -> &'static str {
-    match outcome {
-        None => PENDING,
-        Some(Outcome::Success(_)) => SUCCESS,
-        Some(Outcome::Failure(_)) => FAILURE,
+/// A character between quotes. What isn't printable ASCII is escaped, so that no text ends its
+/// quotes or begins an escape of Graphviz.
+fn push_escaped(dot: &mut String, c: char) -> Result<(), AllocError>
+    ensures { OnOk result (AddsWhole (string_bytes dot.old) (string_bytes dot.new)) }
+{
+    match c {
+        '"' => dot.push_str("\\\""),
+        '\\' => dot.push_str("\\\\"),
+        '\n' => dot.push_str("\\n"),
+        ' '..='~' => dot.push(c),
+        _ => push_code(dot, c as u32),
     }
 }
 
-fn looks_of_row(row: &Row) -> &'static str {
+fn push_all_escaped(dot: &mut String, text: &str) -> Result<(), AllocError>
+    ensures { OnOk result (AddsWhole (string_bytes dot.old) (string_bytes dot.new)) }
+{
+    for c in text.chars() {
+        push_escaped(dot, c)?;
+    }
+    Ok(())
+}
+
+/// A text in quotes.
+pub(crate) fn push_quoted(dot: &mut String, text: &str) -> Result<(), AllocError>
+    ensures { OnOk result ((inner : Text) × (inside inner ≡ true)
+        × (string_bytes dot.new ≡ string_bytes dot.old ++ (codes "\"" ++ inner ++ codes "\""))) }
+{
+    put(dot, "\"")?;
+    push_all_escaped(dot, text)?;
+    put(dot, "\"")?;
+    Ok(())
+}
+
+fn status_of(row: Option<&Row>) -> Option<Status>
+    ensures { result ≡ option_map (λ r. row_status r.now) row.entry }
+{
     match row {
-        Row::Known(outcome) => looks_of_outcome(outcome),
-        Row::Value(_) => SUCCESS,
-        Row::Raised(_) => FAILURE,
-        Row::Blamed { .. } => FAILURE,
+        Some(row) => Some(Status::of_row(row)),
+        None => None,
     }
 }
 
-/// How a task is drawn: states differ by their shapes and borders too, and not by colour alone, and
-/// so do failures by a call and without one.
-pub(crate) fn looks_of(row: Option<&Row>, fate: &Option<Fate>) -> &'static str {
+fn state_look(status: Option<Status>) -> &'static str
+    ensures { result.now ≡ state_look status }
+{
+    match status {
+        None => "shape=box, style=rounded",
+        Some(Status::Pending) => "shape=box, style=\"dashed,filled\", fillcolor=\"#eeeeee\"",
+        Some(Status::Success) => "shape=box, style=\"rounded,filled\", fillcolor=\"#d8f0d8\"",
+        Some(Status::Failure) => "shape=octagon, style=filled, fillcolor=\"#f7d4d4\", penwidth=2",
+    }
+}
+
+/// How a task is drawn.
+pub(crate) fn looks_of(row: Option<&Row>, fate: &Option<Fate>) -> &'static str
+    ensures { result.now ≡ look fate.now (option_map (λ r. row_status r.now) row.entry) }
+{
     if let Some(Fate::Skipped(_)) = fate {
         return "shape=hexagon, style=\"dashed,filled\", fillcolor=\"#fbeeee\"";
     }
-    match row {
-        None => "shape=box, style=rounded",
-        Some(row) => looks_of_row(row),
-    }
-}
-
-pub(crate) fn node_of(task: &FrozenTask) -> Node {
-    Node::Task(task.no.get())
+    state_look(status_of(row))
 }

@@ -3,10 +3,12 @@
 #![tactic(auto)]
 
 mod dot;
+mod edges;
 mod explained;
 mod graph;
 mod json_text;
 mod label;
+mod nodes;
 mod rows;
 mod shown;
 mod stored;

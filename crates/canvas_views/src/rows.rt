@@ -32,7 +32,7 @@ pub(crate) fn row_of(report: &Report, task: TaskNo) -> Option<Outcome>
     state_in(report.rows.get(), task)
 }
 
-fn put(text: &mut String, piece: &str) -> Result<(), AllocError>
+pub(crate) fn put(text: &mut String, piece: &str) -> Result<(), AllocError>
     ensures { OnOk result (string_bytes text.new ≡ string_bytes text.old ++ piece.now) }
 {
     text.push_str(piece)

@@ -1,0 +1,11 @@
+use Rattle.std.proofs.Common.{string_bytes, map, drop}
+use Rattle.canvas_task.specs.Text.{Text}
+use Rattle.canvas_rewrite.specs.FrozenView.{task_in}
+use Rattle.canvas_views.specs.steps.PieceLists.{Adds, tasks_pieces}
+use Rattle.canvas_views.proofs.nodes.+tasks.Given as goal
+
+-- what the rest adds, all add
+abbrev pub invariant-push_tasks-loop-task : goal.invariant-push_tasks-loop-task
+invariant-push_tasks-loop-task l =
+    (new : Text) → Adds (tasks_pieces (map task_in (drop l.task-index l.tasks))) (string_bytes l.text) new
+    → Adds (tasks_pieces (map task_in l.tasks)) (string_bytes l.fn.text) new
