@@ -6,3 +6,4 @@ mod WorkedRows
 pub mod EdgeParts
 pub mod NodeParts
 pub mod NodeLaw
+pub mod MessageParts

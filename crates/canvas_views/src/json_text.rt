@@ -1,7 +1,9 @@
 //! Texts and messages as JSON.
 
-ghost use Rattle.std.specs.Prelude.{◌≡◌, IfOk, string_bytes};
+ghost use Rattle.std.specs.Prelude.{◌≡◌, ◌++◌, IfOk, OnOk, codes, string_bytes};
 ghost use Rattle.json.specs.Print.{quoted};
+ghost use Rattle.serde_json.specs.Written.{compact_text};
+ghost use Rattle.canvas_views.specs.MessageLines.{text_wire, message_wire};
 
 use canvas_message::Envelope;
 use serde_json::Value;
@@ -26,18 +28,45 @@ pub fn escaped_json(alloc: Global, text: &str) -> Result<String, AllocError> {
     String::from_str(alloc, within_quotes(&quoted))
 }
 
-/// One of a message's three texts. What `encode` writes is UTF-8.
-fn text_json(alloc: Global, bytes: &[u8]) -> Result<String, AllocError> {
+fn put(line: &mut String, piece: &str) -> Result<(), AllocError>
+    ensures { OnOk result (string_bytes line.new ≡ string_bytes line.old ++ piece.now) }
+{
+    line.push_str(piece)
+}
+
+/// Adds one of a message's three texts. What `encode` writes is UTF-8.
+fn push_text(line: &mut String, alloc: Global, bytes: &[u8]) -> Result<(), AllocError>
+    ensures { OnOk result (string_bytes line.new
+        ≡ string_bytes line.old ++ compact_text (text_wire bytes.now)) }
+{
     match str::from_utf8(bytes) {
-        Ok(text) => quoted_json(alloc, text),
-        Err(_) => String::from_str(alloc, "null"),
+        Ok(text) => put(line, &quoted_json(alloc, text)?),
+        Err(_) => put(line, "null"),
     }
 }
 
+fn push_member(line: &mut String, alloc: Global, name: &str, bytes: &[u8]) -> Result<(), AllocError>
+    ensures { OnOk result (string_bytes line.new
+        ≡ string_bytes line.old ++ (name.now ++ compact_text (text_wire bytes.now))) }
+{
+    put(line, name)?;
+    push_text(line, alloc, bytes)
+}
+
 /// A message as a JSON object in a line: its body, its headers and its properties, each a text.
-pub fn message_line(alloc: Global, envelope: &Envelope) -> Result<String, AllocError> {
-    let body = text_json(alloc, envelope.body.get())?;
-    let headers = text_json(alloc, envelope.headers.get())?;
-    let properties = text_json(alloc, envelope.properties.get())?;
-    format!(in alloc; "{{\"body\":{body},\"headers\":{headers},\"properties\":{properties}}}\n")
+pub fn message_line(alloc: Global, envelope: &Envelope) -> Result<String, AllocError>
+    ensures { IfOk result (λ line. string_bytes line ≡ compact_text (message_wire
+        envelope.now.properties envelope.now.headers envelope.now.body) ++ codes "\n") }
+{
+    let mut line = String::new(alloc);
+    push_member(&mut line, alloc, "{\"body\":", envelope.body.get())?;
+    push_member(&mut line, alloc, ",\"headers\":", envelope.headers.get())?;
+    push_member(
+        &mut line,
+        alloc,
+        ",\"properties\":",
+        envelope.properties.get(),
+    )?;
+    put(&mut line, "}\n")?;
+    Ok(line)
 }
