@@ -13,7 +13,7 @@ use Rattle.canvas_sig.proofs.ReadsAgain.{text_read}
 use Rattle.canvas_message.specs.Content.{Content}
 use Rattle.canvas_message.specs.Fits.{fits}
 use Rattle.canvas_codec.specs.steps.Reading.{envelope_reading}
-use Rattle.canvas_codec.specs.Wire.{body_wire, headers_wire, properties_wire}
+use Rattle.canvas_message.specs.Wire.{body_wire, headers_wire, properties_wire}
 use Rattle.canvas_codec.proofs.CleanMessage.{texts}
 use Rattle.canvas_codec.proofs.MessageBack.{message_back}
 

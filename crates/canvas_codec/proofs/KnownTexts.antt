@@ -12,12 +12,12 @@ use Rattle.serde_json.specs.Written.{compact_text, items_text, number_text}
 use Rattle.uuid.specs.Text.{by_index, hex_digit, nibble, digit_place, is_hyphen_place, hyphen, lower, hyphenated_text}
 use Rattle.uuid.proofs.TextLemmas.{nibble_small}
 use Rattle.canvas_task.specs.Identifiers.{identifier, task_mark, group_mark, task_text, group_text}
-use Rattle.canvas_codec.specs.Wire.{frozen_wire, task_id, group_id, place_id}
+use Rattle.canvas_message.specs.Wire.{frozen_wire, task_id, group_id, place_id}
 use Rattle.canvas_message.specs.MessageView.{place_view, place_seen}
 use Rattle.canvas_message.proofs.Seen.{group_place, chord_place}
 use Rattle.canvas_rewrite.specs.declared.frozen.Place.{Place, out-Place}
 use Rattle.canvas_rewrite.specs.declared.frozen.Carried.{Carried}
-use Rattle.canvas_codec.specs.steps.Texts.{Adds, properties_naming, headers_naming, front_text, origin_text, name_text, size_text, flag_text, call_text, own_text, embed_alone, args_text, alone_text}
+use Rattle.canvas_codec.specs.steps.Texts.{Adds, properties_naming, headers_naming, front_text, origin_text, name_text, size_text, flag_text, call_text, own_text, args_text, embed_of, opening_text, behind_text}
 
 -- ---- one piece after the other
 
@@ -164,12 +164,15 @@ unfolding serde_json_on_literals
 task_written size args true kwargs i name plain = call_written size args (flag_text true) kwargs i name plain
 task_written size args false kwargs i name plain = call_written size args (flag_text false) kwargs i name plain
 
-body : (o a s k p c e z : List ℕ) → (o ++ (a ++ (s ++ k))) ++ (p ++ (c ++ (e ++ z))) ≡ o ++ (a ++ (s ++ (k ++ ((p ++ (c ++ e)) ++ z))))
-body o a s k p c e z = simp append_assoc
+body : (o a s k p b h n d c e r y z : List ℕ)
+    → ((o ++ (a ++ (s ++ k))) ++ (p ++ b)) ++ (h ++ (n ++ (d ++ (c ++ (e ++ (r ++ (y ++ z)))))))
+    ≡ o ++ (a ++ (s ++ (k ++ ((p ++ (b ++ (h ++ (n ++ (d ++ (c ++ (e ++ (r ++ y)))))))) ++ z))))
+body o a s k p b h n d c e r y z = simp append_assoc
 
-pub body_written : (args : Items) (kwargs : Members) (chord : Data) → args_text args kwargs ++ alone_text chord
-    ≡ compact_text (array (item (array args) (item (object kwargs) (item (embed_alone chord) no_items))))
+pub body_written : (args : Items) (kwargs : Members) (callbacks chain chord errbacks : Data)
+    → opening_text args kwargs callbacks ++ behind_text chain chord errbacks
+    ≡ compact_text (array (item (array args) (item (object kwargs) (item (embed_of callbacks chain chord errbacks) no_items))))
 unfolding serde_json_on_literals
-body_written args kwargs chord =
-    body (codes "[[") (items_text false args) (codes ",") (compact_text (object kwargs)) (codes ",{\"callbacks\":null,\"chain\":null,\"chord\":") (compact_text chord)
-    (codes ",\"errbacks\":null}") (codes "]")
+body_written args kwargs callbacks chain chord errbacks =
+    body (codes "[[") (items_text false args) (codes ",") (compact_text (object kwargs)) (codes ",{\"callbacks\":") (compact_text callbacks)
+    (codes ",\"chain\":") (compact_text chain) (codes ",\"chord\":") (compact_text chord) (codes ",\"errbacks\":") (compact_text errbacks) (codes "}") (codes "]")

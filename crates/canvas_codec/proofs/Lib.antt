@@ -11,11 +11,12 @@ pub mod FrozenDepth
 pub mod EnvelopeLaw
 pub mod Made
 pub mod Texts
-pub mod SameArgs
 pub mod Identifiers
 pub mod KnownTexts
 pub mod TaskTokens
 pub mod LineTokens
+pub mod Listing
+pub mod Bodies
 pub mod Turns
 pub mod Utf8Data
 pub mod Utf8Messages

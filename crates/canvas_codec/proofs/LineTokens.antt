@@ -1,8 +1,8 @@
 -- The tokens of a line, by its tasks and its end.
 use Rattle.std.proofs.Common.{◌≡◌, ◌∙◌, ℕ, true, false, arith, List, [], ◌∷◌, ◌++◌, map, length, ◌==◌, get_or, Option, Some, None, Box, Global, refl, sym, ap, append_assoc}
 use Rattle.std.proofs.lemmas.Bool.Decides.{nat_tests}
-use Rattle.json.specs.Token.{begin_array, end_array}
-use Rattle.serde_json.specs.Data.{Data, array, Items, no_items, item}
+use Rattle.json.specs.Token.{end_array}
+use Rattle.serde_json.specs.Data.{Data, null, array, Items, no_items, item}
 use Rattle.canvas_sig.specs.steps.Tokens.{data_tokens, rest_tokens}
 use Rattle.canvas_semantics.specs.PlacedLine.{PTask, PLine, p_stop, p_step, p_group_end, p_chord_end}
 use Rattle.canvas_rewrite.specs.FrozenView.{p_tasks_of, p_steps, p_task_view, p_line_view, p_end_view}
@@ -10,8 +10,9 @@ use Rattle.canvas_rewrite.specs.declared.frozen.FrozenTask.{FrozenTask}
 use Rattle.canvas_rewrite.specs.declared.frozen.FrozenLine.{FrozenLine, out-FrozenLine}
 use Rattle.canvas_rewrite.specs.declared.frozen.FrozenEnd.{FrozenEnd, out-FrozenEnd}
 use Rattle.canvas_message.specs.steps.Parts.{is_stop}
-use Rattle.canvas_codec.specs.steps.Tokens.{each_tokens, reversed_tokens, tasks_of_line, tail_tokens, following_wire}
-use Rattle.canvas_codec.specs.Wire.{chain_wire, task_wire, line_wire, elements_wire, onto_reversed, tasks_wire, list_or_null}
+use Rattle.canvas_message.specs.SharedTexts.{backwards}
+use Rattle.canvas_codec.specs.steps.Tokens.{each_tokens, tasks_of_line, tail_tokens}
+use Rattle.canvas_message.specs.Wire.{chain_wire, task_wire, line_wire, elements_wire, onto_reversed, tasks_wire, list_or_null}
 use Rattle.canvas_message.proofs.FitLemmas.{end_stands, never_stops}
 use Rattle.canvas_message.proofs.Seen.{line_none, line_some, end_none, end_some}
 
@@ -24,19 +25,6 @@ elements_tokens (p_step t l) =
     ∙ sym (append_assoc (data_tokens (task_wire None t)) (each_tokens (tasks_of_line l)) (tail_tokens l ++ end_array ∷ []))
 elements_tokens (p_group_end g ms) = refl
 elements_tokens (p_chord_end g ms b) = refl
-
-turned : (l : PLine) (more : Items)
-    → rest_tokens (onto_reversed (elements_wire l) more) ≡ tail_tokens l ++ (reversed_tokens (tasks_of_line l) ++ rest_tokens more)
-turned p_stop more = refl
-turned (p_step t l) more =
-    turned l (item (task_wire None t) more)
-    ∙ ap (λ x. tail_tokens l ++ x) (sym (append_assoc (reversed_tokens (tasks_of_line l)) (data_tokens (task_wire None t)) (rest_tokens more)))
-turned (p_group_end g ms) more = refl
-turned (p_chord_end g ms b) more = refl
-
-pub turned_tokens : (l : PLine)
-    → rest_tokens (onto_reversed (elements_wire l) no_items) ≡ tail_tokens l ++ (reversed_tokens (tasks_of_line l) ++ end_array ∷ [])
-turned_tokens l = turned l no_items
 
 -- ---- views
 
@@ -80,14 +68,6 @@ elements_written l ts same =
     append_assoc (each_tokens (map p_task_view ts)) (tail_tokens (p_line_view l)) (end_array ∷ [])
     ∙ ap (λ xs. each_tokens xs ++ (tail_tokens (p_line_view l) ++ end_array ∷ [])) (ap (map p_task_view) same ∙ sym (tasks_seen l))
     ∙ sym (elements_tokens (p_line_view l))
-
-pub turned_written : (l : FrozenLine) (ts : List FrozenTask) → ts ≡ (out-FrozenLine l).tasks
-    → (tail_tokens (p_line_view l) ++ reversed_tokens (map p_task_view ts)) ++ end_array ∷ []
-    ≡ rest_tokens (onto_reversed (elements_wire (p_line_view l)) no_items)
-turned_written l ts same =
-    append_assoc (tail_tokens (p_line_view l)) (reversed_tokens (map p_task_view ts)) (end_array ∷ [])
-    ∙ ap (λ xs. tail_tokens (p_line_view l) ++ (reversed_tokens xs ++ end_array ∷ [])) (ap (map p_task_view) same ∙ sym (tasks_seen l))
-    ∙ sym (turned_tokens (p_line_view l))
 
 -- ---- one element, or a chain
 
@@ -148,16 +128,20 @@ module _ (size : Option ℕ) (l : FrozenLine) (ts : List FrozenTask) (same : ts 
 -- ---- lists that may be null
 
 pub some_tasks : (ts : List FrozenTask) → (length ts == 0) ≡ false
-    → begin_array ∷ rest_tokens (tasks_wire (p_tasks_of (map p_task_view ts))) ≡ data_tokens (list_or_null (tasks_wire (p_tasks_of (map p_task_view ts))))
+    → array (tasks_wire (p_tasks_of (map p_task_view ts))) ≡ list_or_null (tasks_wire (p_tasks_of (map p_task_view ts)))
 some_tasks [] h = absurd cc
 some_tasks (t ∷ ts) h = refl
+
+pub no_tasks : (ts : List FrozenTask) → (length ts == 0) ≡ true → null ≡ list_or_null (tasks_wire (p_tasks_of (map p_task_view ts)))
+no_tasks [] h = refl
+no_tasks (t ∷ ts) h = absurd (grind (arith, nat_tests))
 
 never_null : (ds : Items) (d : Data) (more : Items) → list_or_null (onto_reversed ds (item d more)) ≡ array (onto_reversed ds (item d more))
 never_null no_items d more = refl
 never_null (item e es) d more = never_null es e (item d more)
 
-pub some_following : (l : PLine) → is_stop l ≡ false → begin_array ∷ rest_tokens (onto_reversed (elements_wire l) no_items) ≡ data_tokens (following_wire l)
+pub some_following : (l : PLine) → is_stop l ≡ false → array (backwards l) ≡ list_or_null (onto_reversed (elements_wire l) no_items)
 some_following p_stop h = absurd cc
-some_following (p_step t l) h = ap data_tokens (sym (never_null (elements_wire l) (task_wire None t) no_items))
+some_following (p_step t l) h = sym (never_null (elements_wire l) (task_wire None t) no_items)
 some_following (p_group_end g ms) h = refl
 some_following (p_chord_end g ms b) h = refl

@@ -26,7 +26,7 @@ use Rattle.canvas_semantics.specs.PlacedLine.{PTask, p_task, PTasks, no_p_tasks,
 use Rattle.canvas_message.specs.Fits.{is_task_number, size_ok, is_less, is_below, ascends, call_ok, task_ok, tasks_ok, place_ok, line_ok, members_ok, how_many, task_reach, tasks_reach, place_reach, line_reach, greatest_reach, members_reach}
 use Rattle.canvas_codec.specs.steps.FrozenReading.{size_reading, call_reading, place_with, task_with, task_as, step_as, last_as, elements_with, link_reading, step_reading, last_reading, line_reading}
 use Rattle.canvas_message.specs.FrozenGrammar.{task_of, group_of, but_a_place}
-use Rattle.canvas_codec.specs.Wire.{task_id, group_id, place_id, member_unless_null, task_options, call_wire, chain_wire, group_wire, chord_wire, task_wire, tasks_wire, carried_wire, line_wire, elements_wire, members_wire}
+use Rattle.canvas_message.specs.Wire.{task_id, group_id, place_id, member_unless_null, task_options, call_wire, chain_wire, group_wire, chord_wire, task_wire, tasks_wire, carried_wire, line_wire, elements_wire, members_wire}
 
 -- ---- what fits
 

@@ -17,7 +17,7 @@ use Rattle.canvas_rewrite.specs.declared.frozen.Place.{Place, out-Place}
 use Rattle.canvas_rewrite.specs.declared.frozen.Carried.{Carried, out-Carried}
 use Rattle.canvas_codec.specs.steps.Tokens.{members_of_end, group_of_end, size_tokens, start_tokens, call_tokens, unless_null, links_wire, errbacks_wire, links_tokens, options_tokens, opening_tokens, group_closing, list_tokens, named_tokens}
 use Rattle.canvas_message.specs.MessageView.{place_view}
-use Rattle.canvas_codec.specs.Wire.{group_options, task_id, group_id, place_id, member_unless_null, frozen_wire, task_options, chain_wire, group_wire, chord_wire, task_wire, tasks_wire, carried_wire, line_wire, members_wire}
+use Rattle.canvas_message.specs.Wire.{group_options, task_id, group_id, place_id, member_unless_null, frozen_wire, task_options, chain_wire, group_wire, chord_wire, task_wire, tasks_wire, carried_wire, line_wire, members_wire}
 use Rattle.canvas_message.proofs.Seen.{called, task_seen, group_place, chord_place, end_none, end_some}
 
 -- ---- options

@@ -3,3 +3,4 @@ pub mod Texts
 pub mod FrozenReading
 pub mod Reading
 pub mod Elements
+pub mod Listing

@@ -12,4 +12,5 @@ mod write;
 pub use by_parts::law_of_frozen_parts;
 pub use decoding::decode;
 pub use encoding::encode;
-pub use sealing::{Sealer, open, seal};
+pub use sealing::{open, seal};
+pub use write::carried_text::carried_text;

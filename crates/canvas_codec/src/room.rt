@@ -41,7 +41,7 @@ fn task_room(task: &FrozenTask) -> usize {
 }
 
 /// Of tasks that stand beside each other.
-fn tasks_room(tasks: &[FrozenTask]) -> usize {
+pub(crate) fn tasks_room(tasks: &[FrozenTask]) -> usize {
     match tasks.first() {
         Some(task) => task_room(task).saturating_mul(tasks.len()),
         None => 0,
@@ -70,7 +70,7 @@ fn place_room(place: &Option<Place>) -> usize {
 }
 
 #[cycle(rooms)]
-fn line_room(line: &FrozenLine) -> usize {
+pub(crate) fn line_room(line: &FrozenLine) -> usize {
     tasks_room(line.tasks.get())
         .saturating_add(last_place_room(line.tasks.get()))
         .saturating_add(end_room(&line.tail))
@@ -107,16 +107,10 @@ pub(crate) fn headers_room(message: &Message) -> usize {
     message.name.get().len().saturating_add(216)
 }
 
-/// Of a body. What the message carries may be known. Where nothing goes with the call, what stands
-/// around its arguments has 69 bytes.
-pub(crate) fn body_room(message: &Message, known: Option<&str>) -> usize {
-    let carried = match known {
-        Some(text) => text.len(),
-        None => place_room(&message.place),
-    };
-    rest_room(&message.rest)
-        .saturating_add(carried)
-        .saturating_add(tasks_room(message.links.get()))
+/// Of a body, but for what it shares and what follows. Where nothing goes with the call, what
+/// stands around its arguments has 69 bytes.
+pub(crate) fn body_room(message: &Message) -> usize {
+    tasks_room(message.links.get())
         .saturating_add(tasks_room(message.errbacks.get()))
         .saturating_add(arguments_room(message.args.get()))
         .saturating_add(message.kwargs.get().len().saturating_mul(24))

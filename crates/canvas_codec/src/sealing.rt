@@ -1,29 +1,61 @@
 //! Letters of messages that this process writes, and messages of letters.
 
-ghost use Rattle.std.specs.Prelude.{◌≡◌, ◌≢◌, IfOk, IfErr, IfSome, Some, string_bytes};
+ghost use Rattle.std.specs.Prelude.{◌≡◌, ◌≢◌, IfOk, IfErr, Some};
 ghost use Rattle.serde_json.specs.Written.{compact_text};
 ghost use Rattle.canvas_message.specs.EnvelopeFaults.{Says, envelope_fault};
 ghost use Rattle.canvas_message.specs.declared.fault.MessageFault.TheVariants as fault;
-ghost use Rattle.canvas_message.specs.Content.{place_of};
-ghost use Rattle.canvas_codec.specs.Wire.{carried_wire, properties_wire, headers_wire, body_wire};
+ghost use Rattle.canvas_message.specs.Wire.{properties_wire, headers_wire, body_wire};
 
-use crate::encoding::encode_knowing;
-use crate::write::known::{KnownBody, known_of};
-use crate::{decode, encode};
-use canvas_message::{Envelope, Letter, Message, MessageFault};
+use crate::decode;
+use crate::encoding::pieces_of;
+use crate::write::line_text::line_text;
+use canvas_message::{Letter, Message, MessageFault, following};
 use canvas_task::Memory;
-use std::alloc::Global;
+use std::alloc::{AllocError, Global};
+
+/// Writes the text of what follows a message, where something does and it isn't written already.
+fn write_rest(alloc: Global, message: &mut Message) -> Result<(), AllocError>
+    ensures { message.new ≡ message.old }
+{
+    if message.texts.line.is_some() {
+        return Ok(());
+    }
+    if let Some(rest) = following(&message.rest) {
+        let text = line_text(alloc, rest)?;
+        message.texts.line = Some(text);
+    }
+    Ok(())
+}
 
 /// The envelope that `encode` writes of a message, with the message where there is memory to keep
-/// it.
+/// it. What several messages carry is written once: a body that a place carries, and what follows
+/// on a line.
 pub fn seal(alloc: Global, message: Message) -> Result<Letter, Memory>
     ensures texts { IfOk result (λ e. (e.properties ≡ compact_text (properties_wire message))
         × (e.headers ≡ compact_text (headers_wire message))
         × (e.body ≡ compact_text (body_wire message))) }
     ensures reads_back { IfOk result (λ e. Says e.properties e.headers e.body message) }
 {
-    let envelope = encode(alloc, &message)?;
-    Ok(Letter::sealed(alloc, envelope, message))
+    let mut message = message;
+    write_rest(alloc, &mut message)?;
+    let pieces = pieces_of(alloc, &message)?;
+    Ok(Letter::sealed(alloc, pieces, message))
+}
+
+/// The message that is read from a letter's envelope.
+fn read(alloc: Global, letter: &Letter) -> Result<Message, MessageFault>
+    ensures ok { IfOk result
+        (λ m. Says letter.now.properties letter.now.headers letter.now.body m) }
+    ensures err { IfErr result (λ e. e ≢ fault.Memory
+        → envelope_fault letter.now.properties letter.now.headers letter.now.body ≡ Some e) }
+{
+    match letter.whole() {
+        Some(envelope) => decode(alloc, envelope),
+        None => match letter.envelope(alloc) {
+            Ok(envelope) => decode(alloc, &envelope),
+            Err(Memory) => Err(MessageFault::Memory),
+        },
+    }
 }
 
 /// The message that a letter's envelope says, or the first refusal of it, as `decode` answers.
@@ -37,54 +69,6 @@ pub fn open(alloc: Global, letter: &mut Letter) -> Result<Message, MessageFault>
 {
     match letter.take_message() {
         Some(message) => Ok(message),
-        None => decode(alloc, letter.envelope()),
-    }
-}
-
-/// The envelope that `encode` writes of a message, by the text of the body that it carries where
-/// that is known.
-fn envelope_of(
-    alloc: Global,
-    message: &Message,
-    known: &Option<KnownBody>,
-) -> Result<Envelope, Memory>
-    requires { IfSome known.now (λ known. string_bytes known.text
-        ≡ compact_text (carried_wire (place_of message.now.own))) }
-    ensures texts { IfOk result (λ e. (e.properties ≡ compact_text (properties_wire message.now))
-        × (e.headers ≡ compact_text (headers_wire message.now))
-        × (e.body ≡ compact_text (body_wire message.now))) }
-    ensures reads_back { IfOk result (λ e. Says e.properties e.headers e.body message.now) }
-{
-    match known {
-        Some(known) => encode_knowing(alloc, message, Some(&known.text)),
-        None => encode(alloc, message),
-    }
-}
-
-/// Seals one message after the other, and writes a body that several of them carry once.
-#[derive(Drop)]
-pub struct Sealer {
-    alloc: Global,
-    // the body that the last message carried
-    known: Option<KnownBody>,
-}
-
-impl Sealer {
-    /// One that has sealed nothing.
-    pub fn new(alloc: Global) -> Sealer {
-        Sealer { alloc, known: None }
-    }
-
-    /// The letter that `seal` makes of a message.
-    pub fn seal(&mut self, message: Message) -> Result<Letter, Memory>
-        ensures texts { IfOk result (λ e. (e.properties ≡ compact_text (properties_wire message))
-            × (e.headers ≡ compact_text (headers_wire message))
-            × (e.body ≡ compact_text (body_wire message))) }
-        ensures reads_back { IfOk result (λ e. Says e.properties e.headers e.body message) }
-    {
-        let known = known_of(self.alloc, self.known.take(), &message.place);
-        let envelope = envelope_of(self.alloc, &message, &known)?;
-        self.known = known;
-        Ok(Letter::sealed(self.alloc, envelope, message))
+        None => read(alloc, letter),
     }
 }

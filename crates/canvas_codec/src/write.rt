@@ -1,12 +1,10 @@
-//! Writing messages: as tokens of JSON, and light ones as text.
+//! Writing messages: signatures as tokens of JSON, and what stands around them as text.
 
-pub(crate) mod embed;
+pub(crate) mod body;
+pub(crate) mod carried_text;
 mod frozen;
 mod identifiers;
-pub(crate) mod known;
 pub(crate) mod light;
-mod miss;
+pub(crate) mod line_text;
 mod pieces;
 pub(crate) mod text;
-
-pub(crate) use miss::Miss;

@@ -6,4 +6,5 @@ pub mod Effects
 pub mod Events
 pub mod Carrying
 pub mod Todos
+pub mod codes
 pub mod steps

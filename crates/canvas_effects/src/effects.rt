@@ -24,7 +24,7 @@ mod raised;
 mod skipped;
 mod started;
 
-use crate::copies::share_if_some;
+use crate::destinations::unwritten;
 use crate::input::Input;
 use crate::{PartCall, Todo};
 use canvas_message::{Message, following, share_carried};
@@ -170,7 +170,7 @@ fn start_whole(
 {
     match last_task(line) {
         Some(last) => {
-            let place = share_if_some(&last.place)?;
+            let place = unwritten(&last.place)?;
             start_line(alloc, line, place, input, parent, messages)
         }
         None => start_line(alloc, line, None, input, parent, messages),

@@ -3,6 +3,8 @@
 #![tactic(auto)]
 
 mod copies;
+mod destination;
+mod destinations;
 mod effects;
 mod input;
 mod placing;

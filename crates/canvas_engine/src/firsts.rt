@@ -9,7 +9,6 @@ ghost use Rattle.canvas_effects.specs.Effects.{first_messages};
 ghost use Rattle.canvas_turns.specs.Turns.{FirstsRead};
 
 use canvas_broker::{Broker, BrokerPass};
-use canvas_codec::Sealer;
 use canvas_effects::first_messages;
 use canvas_message::{Letter, Message};
 use canvas_rewrite::Plan;
@@ -18,11 +17,11 @@ use std::alloc::Global;
 use std::sync::Wait;
 
 /// The envelope of a message, which reads back as it.
-fn seal(sealer: &mut Sealer, message: Message) -> Result<Letter, Memory>
+fn seal(alloc: Global, message: Message) -> Result<Letter, Memory>
     ensures value { IfOk result (λ e. e ≡ sealed message) }
     ensures back { OnOk result (ReadsAs message) }
 {
-    match sealer.seal(message) {
+    match canvas_codec::seal(alloc, message) {
         Ok(letter) => Ok(letter),
         Err(Memory) => Err(Memory),
     }
@@ -33,10 +32,9 @@ fn seal_all(alloc: Global, messages: Vec<Message>) -> Result<Vec<Letter>, Memory
     ensures value { IfOk result (λ es. es.items ≡ map sealed messages.items) }
     ensures back { OnOk result (Each ReadsAs messages.items) }
 {
-    let mut sealer = Sealer::new(alloc);
     let mut envelopes = Vec::with_capacity(alloc, messages.len())?;
     for message in messages {
-        let envelope = seal(&mut sealer, message)?;
+        let envelope = seal(alloc, message)?;
         envelopes.push(envelope)?;
     }
     Ok(envelopes)

@@ -9,6 +9,7 @@ use std::alloc::Global;
 /// Copies of the envelopes that a run has published, in their order, where they are asked for.
 #[derive(Drop)]
 pub(crate) struct Sent {
+    alloc: Global,
     keeps: bool,
     envelopes: Vec<Envelope>,
 }
@@ -20,6 +21,7 @@ impl Sent {
         ensures none { result.envelopes.items ≡ [] }
     {
         Sent {
+            alloc,
             keeps,
             envelopes: Vec::new(alloc),
         }
@@ -30,7 +32,7 @@ impl Sent {
         ensures { OnOk result (Noted self.old (letter.now ∷ []) self.new) }
     {
         if self.keeps {
-            self.envelopes.push(letter.envelope().copy()?)?;
+            self.envelopes.push(letter.envelope(self.alloc)?)?;
         }
         Ok(())
     }

@@ -12,7 +12,7 @@ use Rattle.canvas_rewrite.specs.declared.frozen.FrozenTask.{FrozenTask}
 use Rattle.canvas_rewrite.specs.declared.frozen.FrozenLine.{FrozenLine, out-FrozenLine}
 use Rattle.canvas_rewrite.specs.declared.frozen.FrozenEnd.{FrozenEnd, out-FrozenEnd}
 use Rattle.canvas_message.specs.Content.{call_of}
-use Rattle.canvas_codec.specs.Wire.{list_or_null}
+use Rattle.canvas_message.specs.Wire.{list_or_null}
 use Rattle.canvas_message.specs.steps.Parts.{is_stop}
 use Rattle.canvas_export.specs.Signatures.{Naming, Sig, task_sig, elements, members_wire, each_wire, behind, first_wire, carried_wire, member_wire}
 use Rattle.canvas_export.specs.steps.Elements.{call_front, sig_rest, sig_tokens, first_front, first_rest, each_tokens, task_sigs, tail_sigs}

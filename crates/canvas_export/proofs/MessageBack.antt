@@ -18,7 +18,7 @@ use Rattle.canvas_semantics.specs.PlacedLine.{PTask, p_task, PTasks, PPlace, p_n
 use Rattle.canvas_message.specs.Content.{Content}
 use Rattle.canvas_message.specs.Fits.{parent_ok, fits}
 use Rattle.canvas_message.specs.FrozenGrammar.{levels}
-use Rattle.canvas_codec.specs.Wire.{list_or_null}
+use Rattle.canvas_message.specs.Wire.{list_or_null}
 use Rattle.canvas_codec.proofs.Wholes.{RestFits, Whole, as_content, whole_of}
 use Rattle.canvas_export.specs.Signatures.{Naming, task_id, group_id, index_wire, sig_wire, each_wire, tasks_wire, elements}
 use Rattle.canvas_export.specs.Envelope.{body_wire, parent_id, headers_wire, properties_wire, envelope_wire, message_text}

@@ -13,6 +13,8 @@ use Rattle.canvas_task.proofs.number.TaskNo.TheSendSync.{the_send as task_send, 
 use Rattle.canvas_task.proofs.text_of.TextOf.TheSendSync.{the_send as text_send, the_sync as text_sync}
 use Rattle.canvas_message.specs.contracts.letter.Letter as Letter
 use Rattle.canvas_message.specs.contracts.message.Message as Message
+use Rattle.canvas_message.proofs.pieces.Sheets.TheSendSync.{the_send as sheets_send}
+use Rattle.canvas_message.proofs.texts.Texts.TheSendSync.{the_send as texts_send}
 
 ruleset plain = (
   arg_send,
@@ -41,7 +43,7 @@ place : IsSend Place.the_row
 place = search (both_send-Place, plain) depth 20
 
 message : IsSend Message.the_row
-message = search (task, line, place, plain) depth 20
+message = search (task, line, place, texts_send, plain) depth 40 fits 100000
 
 pub letter : IsSend Letter.the_row
-letter = search (message, plain) depth 20
+letter = search (message, sheets_send, plain) depth 40 fits 100000

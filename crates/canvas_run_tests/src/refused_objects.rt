@@ -26,13 +26,21 @@ fn envelope(alloc: Global) -> Result<Envelope, Memory> {
 
 // ---- the queue of one thread
 
+/// Whether a letter is this envelope, as it came.
+fn is_whole(letter: &Letter, same: &Envelope) -> bool {
+    match letter.whole() {
+        Some(envelope) => *envelope == *same,
+        None => false,
+    }
+}
+
 /// Publishes an envelope, and where that is refused the one that comes back, if it is the same.
 /// Whether it was published in the end.
 fn publish_plain(broker: &mut PlainBroker, sent: Letter, same: &Envelope) -> bool {
     match broker.publish(sent) {
         Ok(()) => true,
         Err(refused) => {
-            *refused.envelope.envelope() == *same
+            is_whole(&refused.envelope, same)
                 && broker.is_empty()
                 && broker.publish(refused.envelope).is_ok()
         }
@@ -41,7 +49,7 @@ fn publish_plain(broker: &mut PlainBroker, sent: Letter, same: &Envelope) -> boo
 
 fn gives(taken: Option<Letter>, same: &Envelope) -> bool {
     match taken {
-        Some(letter) => *letter.envelope() == *same,
+        Some(letter) => is_whole(&letter, same),
         None => false,
     }
 }
@@ -68,7 +76,7 @@ fn publish<R: Wait>(
     match broker.publish(rt, pass, sent) {
         Ok(()) => true,
         Err(refused) => {
-            *refused.envelope.envelope() == *same
+            is_whole(&refused.envelope, same)
                 && broker.take(rt, pass).is_none()
                 && broker.publish(rt, pass, refused.envelope).is_ok()
         }

@@ -24,8 +24,11 @@ fn numbered(alloc: Global, number: u64) -> Option<Letter> {
 }
 
 fn number_of(letter: &Letter) -> u64 {
-    match letter.envelope().body.get().as_slice() {
-        [low, high] => *low as u64 + 256 * *high as u64,
+    match letter
+        .whole()
+        .map(|envelope| envelope.body.get().as_slice())
+    {
+        Some([low, high]) => *low as u64 + 256 * *high as u64,
         _ => 0,
     }
 }

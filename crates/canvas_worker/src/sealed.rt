@@ -6,9 +6,9 @@ ghost use Rattle.canvas_message.specs.codes.ContentCode.{content_code};
 ghost use Rattle.canvas_runs.specs.Worker.{read_envelope};
 ghost use Rattle.canvas_worker.specs.EnvelopeWorker.{said, envelope_of};
 
-use canvas_codec::Sealer;
 use canvas_message::{Letter, Message};
 use canvas_task::Memory;
+use std::alloc::Global;
 
 /// An envelope that a message can be read from.
 #[derive(Drop)]
@@ -18,9 +18,9 @@ pub(crate) struct Sealed {
         ≡ Ok (said envelope) } by { Prim.hlevel (codes, content_code) },
 }
 
-pub(crate) fn seal(sealer: &mut Sealer, message: Message) -> Result<Sealed, Memory>
+pub(crate) fn seal(alloc: Global, message: Message) -> Result<Sealed, Memory>
     ensures { IfOk result (λ s. s.envelope ≡ envelope_of message) }
 {
-    let envelope = sealer.seal(message)?;
+    let envelope = canvas_codec::seal(alloc, message)?;
     Ok(Sealed { envelope })
 }

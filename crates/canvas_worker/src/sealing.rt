@@ -10,7 +10,6 @@ ghost use Rattle.canvas_worker.specs.Scripts.{jobs_of};
 use crate::script::Script;
 use crate::sealed::{Sealed, seal};
 use canvas_backend::Stored;
-use canvas_codec::Sealer;
 use canvas_effects::Todo;
 use canvas_message::Message;
 use canvas_task::Memory;
@@ -22,10 +21,9 @@ fn seal_all(alloc: Global, messages: Vec<Message>) -> Result<VecDeque<Sealed>, M
     ensures { IfOk result
         (λ all. map (λ s. s.envelope) all.items ≡ map envelope_of messages.items) }
 {
-    let mut sealer = Sealer::new(alloc);
     let mut all = VecDeque::new(alloc);
     for message in messages {
-        all.push_back(seal(&mut sealer, message)?)?;
+        all.push_back(seal(alloc, message)?)?;
     }
     Ok(all)
 }

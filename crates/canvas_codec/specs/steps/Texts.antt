@@ -4,7 +4,7 @@ use Rattle.serde_json.specs.Data.{Data, null, string, object, Items, Members, me
 use Rattle.serde_json.specs.Written.{compact_text, items_text}
 use Rattle.canvas_semantics.specs.PlacedLine.{PTask, p_task, no_p_tasks, p_nowhere}
 use Rattle.canvas_rewrite.specs.declared.frozen.FrozenTask.{FrozenTask, out-FrozenTask}
-use Rattle.canvas_codec.specs.Wire.{task_id}
+use Rattle.canvas_message.specs.Wire.{task_id}
 
 -- the text stands behind what stood there
 abbrev pub Adds : {E : Type 0} → Result (Unit {0}) E → (old new : List ℕ) → List ℕ → Type 0
@@ -73,19 +73,29 @@ own_text id =
 
 -- ---- a body
 
--- what goes with a call that has nothing behind it but its place
-abbrev pub embed_alone : (chord : Data) → Data
-embed_alone chord =
-    object (member (codes "callbacks") null
-    (member (codes "chain") null
+-- what goes with a call
+abbrev pub embed_of : (callbacks chain chord errbacks : Data) → Data
+embed_of callbacks chain chord errbacks =
+    object (member (codes "callbacks") callbacks
+    (member (codes "chain") chain
     (member (codes "chord") chord
-    (member (codes "errbacks") null no_members))))
+    (member (codes "errbacks") errbacks no_members))))
 
 abbrev pub args_text : (args : Items) (kwargs : Members) → List ℕ
 args_text args kwargs =
     codes "[[" ++ (items_text false args ++ (codes "," ++ compact_text (object kwargs)))
 
-abbrev pub alone_text : (chord : Data) → List ℕ
-alone_text chord =
-    codes ",{\"callbacks\":null,\"chain\":null,\"chord\":"
-    ++ (compact_text chord ++ codes ",\"errbacks\":null}]")
+-- up to what follows on the line
+abbrev pub opening_text : (args : Items) (kwargs : Members) (callbacks : Data) → List ℕ
+opening_text args kwargs callbacks =
+    args_text args kwargs ++ (codes ",{\"callbacks\":" ++ compact_text callbacks)
+
+-- from the error callbacks on
+abbrev pub closing_text : (errbacks : Data) → List ℕ
+closing_text errbacks = codes ",\"errbacks\":" ++ (compact_text errbacks ++ codes "}]")
+
+-- from what follows on the line on
+abbrev pub behind_text : (chain chord errbacks : Data) → List ℕ
+behind_text chain chord errbacks =
+    codes ",\"chain\":" ++ (compact_text chain
+    ++ (codes ",\"chord\":" ++ (compact_text chord ++ closing_text errbacks)))

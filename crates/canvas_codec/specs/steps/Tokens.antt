@@ -5,7 +5,7 @@ use Rattle.serde_json.specs.Data.{Data, null, Items, no_items, Members}
 use Rattle.canvas_sig.specs.steps.Tokens.{data_tokens, front_tokens, flag_tokens, kwargs_tokens, link_tokens, member_tokens, kind_tokens, name_tokens}
 use Rattle.canvas_semantics.specs.PlacedLine.{PTask, PPlace, PLine, p_stop, p_step, p_group_end, p_chord_end, PLines, no_p_lines}
 use Rattle.canvas_message.specs.Content.{number_of, links_of, errbacks_of, place_of}
-use Rattle.canvas_codec.specs.Wire.{task_id, group_id, place_id, task_wire, tasks_wire, carried_wire, line_wire, elements_wire, onto_reversed, list_or_null}
+use Rattle.canvas_message.specs.Wire.{task_id, group_id, place_id, task_wire, tasks_wire, carried_wire, line_wire}
 
 -- a member
 abbrev pub named_tokens : List ℕ → Data → List Token
@@ -74,11 +74,6 @@ abbrev pub each_tokens : List PTask → List Token
 each_tokens [] = []
 each_tokens (t ∷ ts) = data_tokens (task_wire None t) ++ each_tokens ts
 
--- from the last to the first
-abbrev pub reversed_tokens : List PTask → List Token
-reversed_tokens [] = []
-reversed_tokens (t ∷ ts) = reversed_tokens ts ++ data_tokens (task_wire None t)
-
 abbrev pub tasks_of_line : PLine → List PTask
 tasks_of_line p_stop = []
 tasks_of_line (p_step t l) = t ∷ tasks_of_line l
@@ -102,8 +97,3 @@ tail_tokens p_stop = []
 tail_tokens (p_step t l) = tail_tokens l
 tail_tokens (p_group_end g ms) = data_tokens (line_wire None (p_group_end g ms))
 tail_tokens (p_chord_end g ms b) = data_tokens (line_wire None (p_chord_end g ms b))
-
--- ---- the parts of a body
-
-abbrev pub following_wire : PLine → Data
-following_wire l = list_or_null (onto_reversed (elements_wire l) no_items)

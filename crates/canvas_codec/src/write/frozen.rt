@@ -5,7 +5,7 @@ ghost use Rattle.canvas_sig.specs.steps.Tokens.{Appends, data_tokens, rest_token
 ghost use Rattle.canvas_rewrite.specs.FrozenView.{p_tasks_of, p_lines_of, p_task_view, p_line_view, p_end_view};
 ghost use Rattle.canvas_codec.specs.steps.Tokens.{unless_null, links_wire, errbacks_wire, members_of_end, group_of_end, place_tokens, links_tokens, option_members, options_tokens, list_tokens, each_tokens, tail_tokens, group_closing, named_tokens};
 ghost use Rattle.canvas_message.specs.MessageView.{place_view, place_seen};
-ghost use Rattle.canvas_codec.specs.Wire.{group_id, task_wire, tasks_wire, carried_wire, line_wire, elements_wire, members_wire, chain_wire};
+ghost use Rattle.canvas_message.specs.Wire.{group_id, task_wire, tasks_wire, carried_wire, line_wire, elements_wire, members_wire, chain_wire};
 ghost use Rattle.serde_json.specs.Data.{string};
 
 use super::identifiers::write_group_id;

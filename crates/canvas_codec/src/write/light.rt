@@ -1,7 +1,5 @@
-//! The texts of light messages, by pieces that are known.
-//!
-//! A message is light where nothing goes with its call but a place, and where what its place
-//! carries is one task with nothing of its own behind it.
+//! Properties, headers, arguments, and carried tasks with nothing of their own behind them, by
+//! pieces that are known.
 
 ghost use Rattle.std.specs.Prelude.{◌≡◌, true, Some, IfSome, string_bytes};
 ghost use Rattle.json.specs.Print.{escape};
@@ -12,17 +10,15 @@ ghost use Rattle.canvas_sig.specs.Writing.{args_wire, kwargs_wire};
 ghost use Rattle.canvas_task.specs.Entries.{named};
 ghost use Rattle.canvas_semantics.specs.PlacedLine.{p_step, p_stop};
 ghost use Rattle.canvas_rewrite.specs.declared.frozen.FrozenTask.{out-FrozenTask};
-ghost use Rattle.canvas_rewrite.specs.declared.frozen.Carried.{out-Carried};
 ghost use Rattle.canvas_rewrite.specs.FrozenView.{p_task_view, p_line_view};
-ghost use Rattle.canvas_message.specs.Content.{number_of, place_of};
+ghost use Rattle.canvas_message.specs.Content.{number_of};
 ghost use Rattle.canvas_message.specs.MessageView.{place_seen};
-ghost use Rattle.canvas_codec.specs.Wire.{task_id, place_id, parent_id, carried_wire, task_wire, line_wire, embed_wire, body_wire, headers_wire};
-ghost use Rattle.canvas_codec.specs.steps.Texts.{Adds, properties_naming, front_text, origin_text, name_text, bare, size_text, flag_text, call_text, own_text, embed_alone, args_text, alone_text};
+ghost use Rattle.canvas_message.specs.Wire.{task_id, place_id, parent_id, task_wire, headers_wire};
+ghost use Rattle.canvas_codec.specs.steps.Texts.{Adds, properties_naming, front_text, origin_text, name_text, bare, size_text, flag_text, call_text, own_text, args_text};
 
-use super::Miss;
 use super::text::{put, put_args, put_group_text, put_kwargs, put_size, put_string, put_task_text};
 use canvas_message::Message;
-use canvas_rewrite::{Carried, FrozenLine, FrozenTask, Place};
+use canvas_rewrite::{FrozenLine, FrozenTask, Place};
 use canvas_task::{Arg, TaskNo};
 use std::alloc::{AllocError, Global};
 use std::collections::BTreeMap;
@@ -175,7 +171,12 @@ fn put_options(out: &mut String, task: TaskNo) -> Result<(), AllocError>
 }
 
 /// A task that is carried for a header of this size, with nothing of its own behind it.
-fn put_task(alloc: Global, out: &mut String, size: u32, task: &FrozenTask) -> Result<(), AllocError>
+pub(super) fn put_task(
+    alloc: Global,
+    out: &mut String,
+    size: u32,
+    task: &FrozenTask,
+) -> Result<(), AllocError>
     ensures { Adds result (string_bytes out.old) (string_bytes out.new)
         (compact_text (task_wire (Some size) (bare task.now))) }
 {
@@ -184,58 +185,7 @@ fn put_task(alloc: Global, out: &mut String, size: u32, task: &FrozenTask) -> Re
     put_name(alloc, out, task.name.get())
 }
 
-pub(super) fn put_load(alloc: Global, out: &mut String, carried: &Carried) -> Result<(), Miss>
-    ensures { Adds result (string_bytes out.old) (string_bytes out.new) (compact_text
-        (line_wire (Some (out-Carried carried.now).size)
-        (p_line_view (out-Carried carried.now).body.value))) }
-{
-    match bare_task(&carried.body) {
-        Some(task) => Ok(put_task(alloc, out, carried.size, task)?),
-        None => Err(Miss::Heavy),
-    }
-}
-
-/// The body that a place carries, where it is light.
-fn put_light(alloc: Global, out: &mut String, place: &Option<Place>) -> Result<(), Miss>
-    ensures { Adds result (string_bytes out.old) (string_bytes out.new)
-        (compact_text (carried_wire (place_seen place.now))) }
-{
-    match place {
-        Some(place) => match &place.chord {
-            Some(carried) => put_load(alloc, out, carried),
-            None => Ok(put(out, "null")?),
-        },
-        None => Ok(put(out, "null")?),
-    }
-}
-
-/// The body that a place carries, where its text is known or it is light.
-fn put_carried(
-    alloc: Global,
-    out: &mut String,
-    place: &Option<Place>,
-    known: Option<&str>,
-) -> Result<(), Miss>
-    requires { IfSome known
-        (λ text. text.now ≡ compact_text (carried_wire (place_seen place.now))) }
-    ensures { Adds result (string_bytes out.old) (string_bytes out.new)
-        (compact_text (carried_wire (place_seen place.now))) }
-{
-    match known {
-        Some(text) => Ok(put(out, text)?),
-        None => put_light(alloc, out, place),
-    }
-}
-
-/// Whether nothing goes with a call but its place.
-fn is_alone(message: &Message) -> bool
-    ensures { result ≡ true
-        → embed_wire message.now ≡ embed_alone (carried_wire (place_of message.now.own)) }
-{
-    message.links.get().is_empty() && message.errbacks.get().is_empty() && message.rest.is_none()
-}
-
-fn put_arguments(
+pub(crate) fn put_arguments(
     alloc: Global,
     out: &mut String,
     args: &[Arg],
@@ -248,40 +198,4 @@ fn put_arguments(
     put_args(alloc, out, args)?;
     put(out, ",")?;
     put_kwargs(alloc, out, kwargs)
-}
-
-/// What goes with a call, where that is its place alone.
-fn put_embed(
-    alloc: Global,
-    out: &mut String,
-    place: &Option<Place>,
-    known: Option<&str>,
-) -> Result<(), Miss>
-    requires { IfSome known
-        (λ text. text.now ≡ compact_text (carried_wire (place_seen place.now))) }
-    ensures { Adds result (string_bytes out.old) (string_bytes out.new)
-        (alone_text (carried_wire (place_seen place.now))) }
-{
-    put(out, ",{\"callbacks\":null,\"chain\":null,\"chord\":")?;
-    put_carried(alloc, out, place, known)?;
-    Ok(put(out, ",\"errbacks\":null}]")?)
-}
-
-/// The body, where the message is light, or the text of the body that it carries is known.
-pub(crate) fn put_body(
-    alloc: Global,
-    out: &mut String,
-    message: &Message,
-    known: Option<&str>,
-) -> Result<(), Miss>
-    requires { IfSome known
-        (λ text. text.now ≡ compact_text (carried_wire (place_of message.now.own))) }
-    ensures { Adds result (string_bytes out.old) (string_bytes out.new)
-        (compact_text (body_wire message.now)) }
-{
-    if !is_alone(message) {
-        return Err(Miss::Heavy);
-    }
-    put_arguments(alloc, out, message.args.get(), message.kwargs.get())?;
-    put_embed(alloc, out, &message.place, known)
 }

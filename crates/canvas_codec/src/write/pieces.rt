@@ -7,7 +7,7 @@ ghost use Rattle.canvas_task.specs.Entries.{named};
 ghost use Rattle.canvas_sig.specs.steps.Tokens.{Appends, data_tokens};
 ghost use Rattle.canvas_sig.specs.Writing.{args_wire, kwargs_wire};
 ghost use Rattle.canvas_codec.specs.steps.Tokens.{size_tokens, start_tokens, call_tokens, opening_tokens, group_closing, named_tokens};
-ghost use Rattle.canvas_codec.specs.Wire.{task_id, group_id};
+ghost use Rattle.canvas_message.specs.Wire.{task_id, group_id};
 
 use super::identifiers::{write_group_id, write_task_member};
 use canvas_sig::parts::{write_flag, write_front, write_kind, write_kwargs};

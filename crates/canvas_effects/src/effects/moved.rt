@@ -1,16 +1,17 @@
 //! What follows a message that is given up: the next task of its line, or the part that its end
 //! returns, takes over what it carries.
 
-ghost use Rattle.std.specs.Prelude.{◌≡◌, true, false, IfOk, MatchBool, MatchOption};
+ghost use Rattle.std.specs.Prelude.{◌≡◌, true, false, IfOk, MatchBool, MatchOption, reverse, string_bytes};
 ghost use Rattle.std.specs.Option.{option_map};
 ghost use Rattle.canvas_task.specs.Numbers.{in_range};
 ghost use Rattle.canvas_task.specs.Apply.{IsInRange};
 ghost use Rattle.canvas_task.specs.declared.outcome.Outcome.TheVariants.{Success};
 ghost use Rattle.canvas_rewrite.specs.FrozenView.{p_line_view, p_task_view};
-ghost use Rattle.canvas_semantics.specs.PlacedLine.{p_step, p_stop};
+ghost use Rattle.canvas_semantics.specs.PlacedLine.{PLine, PPlace, PTask, p_step, p_stop};
 ghost use Rattle.canvas_effects.specs.Carrying.{place_stands};
 ghost use Rattle.canvas_effects.specs.Effects.{after, message, part_in, part_of};
-ghost use Rattle.canvas_message.specs.Content.{number_of};
+ghost use Rattle.canvas_message.specs.Content.{number_of, place_of};
+ghost use Rattle.canvas_message.specs.SharedTexts.{AreEnds, AreTexts};
 ghost use Rattle.canvas_message.specs.Fits.{fits};
 ghost use Rattle.canvas_effects.specs.Todos.{part_view, todo_view};
 ghost use Rattle.canvas_message.specs.MessageView.{place_seen, rest_seen};
@@ -20,7 +21,7 @@ use super::started::message_from;
 use super::{after, called_back, todo_of};
 use crate::input::Input;
 use crate::{PartCall, Todo};
-use canvas_message::{Message, following};
+use canvas_message::{LineText, Message, Texts, following};
 use canvas_rewrite::{FrozenLine, FrozenTask, Place};
 use canvas_task::{ListOf, Memory, Outcome, TaskNo};
 use std::alloc::{AllocError, Global};
@@ -90,13 +91,49 @@ fn take_rest(rest: Option<FrozenLine>) -> Option<(FrozenTask, Option<FrozenLine>
     }
 }
 
-/// The task of a message and what follows it on its line.
-fn task_and_rest(message: Message) -> (TaskNo, Option<FrozenLine>)
+/// The task of a message, what follows it on its line, and what is written of that.
+fn task_and_rest(message: Message) -> (TaskNo, Option<FrozenLine>, Texts)
     ensures task { result.0 ≡ number_of message.own }
     ensures rest { rest_seen result.1 ≡ message.rest }
+    ensures texts { AreTexts result.2 (place_of message.own) message.rest }
 {
-    let Message { task, rest, .. } = message;
-    (task, rest)
+    let Message {
+        task,
+        rest,
+        texts,
+        ..
+    } = message;
+    (task, rest, texts)
+}
+
+/// The text of a line, when its next task is taken: its front, up to an earlier end.
+fn text_behind(text: LineText) -> LineText
+    ensures { (t : PTask) (rest : PLine)
+        → AreEnds (string_bytes text.text.value) (reverse text.ends.items) (p_step t rest)
+        → AreEnds (string_bytes result.text.value) (reverse result.ends.items) rest }
+{
+    let LineText { text, ends } = text;
+    let mut ends = ends;
+    ends.pop();
+    LineText { text, ends }
+}
+
+/// What is written of a line, when its next task is taken.
+fn texts_behind(texts: Texts) -> Texts
+    ensures { (own : PPlace) (t : PTask) (rest : PLine) → AreTexts texts own (p_step t rest)
+        → AreTexts result (place_of t) rest }
+{
+    let Texts { line, carried } = texts;
+    match line {
+        Some(text) => Texts {
+            line: Some(text_behind(text)),
+            carried,
+        },
+        None => Texts {
+            line: None,
+            carried,
+        },
+    }
 }
 
 /// The end of a task that succeeded and that another follows.
@@ -106,12 +143,13 @@ fn hand_on(alloc: Global, message: Message, number: i64) -> Result<Todo, AllocEr
     ensures { IfOk result (λ todo. todo_view todo ≡ after message (Success number)) }
 {
     let mut messages = called_back(alloc, &message, &Outcome::Success(number))?;
-    let (task, rest) = task_and_rest(message);
+    let (task, rest, texts) = task_and_rest(message);
     let input = Input::Number(number);
     let parent = Some(task);
     match take_rest(rest) {
         Some((next, rest)) => {
-            messages.push(message_from(alloc, next, &input, &parent, rest)?)?;
+            let texts = texts_behind(texts);
+            messages.push(message_from(alloc, next, &input, &parent, rest, texts)?)?;
             todo_of(Vec::new(alloc), messages, None)
         }
         None => todo_of(Vec::new(alloc), messages, None),

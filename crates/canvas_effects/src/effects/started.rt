@@ -1,22 +1,26 @@
 //! Lines that are started: the messages of their first tasks.
 
-ghost use Rattle.std.specs.Prelude.{◌≡◌, ◌++◌, true, false, IfOk, OnOk, map, if◌then◌else◌};
+ghost use Rattle.std.specs.Prelude.{◌≡◌, ◌++◌, true, false, IfOk, IfSome, OnOk, map, if◌then◌else◌, string_bytes};
 ghost use Rattle.canvas_semantics.specs.Evaluation.{arguments, value};
-ghost use Rattle.canvas_rewrite.specs.FrozenView.{p_tasks_of, p_steps, p_task_view, p_line_view, p_end_view};
+ghost use Rattle.canvas_semantics.specs.PlacedLine.{PLine, PPlace};
+ghost use Rattle.canvas_rewrite.specs.FrozenView.{p_tasks_of, p_steps, place_or, p_task_view, p_line_view, p_end_view};
 ghost use Rattle.canvas_rewrite.specs.declared.frozen.FrozenEnd.{out-FrozenEnd};
 ghost use Rattle.canvas_effects.specs.Carrying.{can_stand, AllStand, callbacks_ok, input_ok};
-ghost use Rattle.canvas_message.specs.Content.{call_of};
+ghost use Rattle.canvas_message.specs.Content.{call_of, place_of};
 ghost use Rattle.canvas_effects.specs.Effects.{message, callbacks, messages_in};
 ghost use Rattle.canvas_message.specs.Fits.{fits, parent_ok};
 ghost use Rattle.canvas_effects.specs.Flowing.{input_flow, parent_for};
 ghost use Rattle.canvas_message.specs.steps.Parts.{is_stop};
 ghost use Rattle.canvas_message.specs.MessageView.{place_seen, place_view, rest_seen};
+ghost use Rattle.canvas_message.specs.SharedTexts.{AreTexts, SaysCarried, place_behind};
 ghost use Rattle.canvas_effects.specs.steps.Walks.{input_seen, tail_seen, at_place, first_message, member_place, started, all_started};
 
-use crate::copies::{copy_task, share_if_some, share_place};
+use crate::copies::{copy_task, share_if_some};
+use crate::destination::Destination;
+use crate::destinations::{parts, place_at, share_destination};
 use crate::input::Input;
 use crate::placing::{place_line, place_rest};
-use canvas_message::Message;
+use canvas_message::{Message, Texts};
 use canvas_rewrite::{Carried, FrozenEnd, FrozenLine, FrozenTask, Place};
 use canvas_task::{Arg, ListOf, TaskNo};
 use std::alloc::{AllocError, Global};
@@ -57,9 +61,11 @@ pub(super) fn message_from(
     input: &Input,
     parent: &Option<TaskNo>,
     rest: Option<FrozenLine>,
+    texts: Texts,
 ) -> Result<Message, AllocError>
-    requires { fits (message parent.now (p_task_view task) (input_seen input.now) (rest_seen rest))
-        ≡ true }
+    requires fits { fits
+        (message parent.now (p_task_view task) (input_seen input.now) (rest_seen rest)) ≡ true }
+    requires texts { AreTexts texts (place_of (p_task_view task)) (rest_seen rest) }
     ensures { IfOk result
         (λ m. m ≡ message parent.now (p_task_view task) (input_seen input.now) (rest_seen rest)) }
 {
@@ -84,6 +90,7 @@ pub(super) fn message_from(
         links,
         errbacks,
         rest,
+        texts,
     })
 }
 
@@ -95,15 +102,17 @@ fn message_of(
     parent: &Option<TaskNo>,
     place: Option<Place>,
     rest: Option<FrozenLine>,
+    texts: Texts,
 ) -> Result<Message, AllocError>
-    requires { fits (message parent.now (at_place (place_seen place) (p_task_view task.now))
+    requires fits { fits (message parent.now (at_place (place_seen place) (p_task_view task.now))
         (input_seen input.now) (rest_seen rest)) ≡ true }
+    requires texts { AreTexts texts (place_seen place) (rest_seen rest) }
     ensures { IfOk result (λ m. m
         ≡ message parent.now (at_place (place_seen place) (p_task_view task.now))
         (input_seen input.now) (rest_seen rest)) }
 {
     let task = copy_task(alloc, task, place)?;
-    message_from(alloc, task, input, parent, rest)
+    message_from(alloc, task, input, parent, rest, texts)
 }
 
 /// The messages of links or error callbacks, put behind the others.
@@ -124,7 +133,8 @@ pub(super) fn call_back(
 {
     for task in tasks {
         let place = share_if_some(&task.place)?;
-        messages.push(message_of(alloc, task, input, parent, place, None)?)?;
+        let message = message_of(alloc, task, input, parent, place, None, Texts::none())?;
+        messages.push(message)?;
     }
     Ok(())
 }
@@ -139,38 +149,57 @@ fn is_at_end(tasks: &[FrozenTask], tail: &Option<Box<FrozenEnd>>) -> bool
     }
 }
 
-/// The message of a line's first task, where the line's end goes to the place.
+/// What is written of what a message carries to the end of its line.
+fn texts_of(carried: Option<Arc<String>>) -> Texts
+    ensures { (place : PPlace) (rest : PLine)
+        → IfSome carried (λ t. SaysCarried (string_bytes t.value) (place_behind place rest))
+        → AreTexts result place rest }
+{
+    Texts {
+        line: None,
+        carried,
+    }
+}
+
+/// The message of a line's first task, where the line's end goes to the destination.
 fn first_message(
     alloc: Global,
     first: &FrozenTask,
     others: &[FrozenTask],
     tail: &Option<Box<FrozenEnd>>,
-    place: Option<Place>,
+    place: Option<Destination>,
     input: &Input,
     parent: &Option<TaskNo>,
 ) -> Result<Message, AllocError>
     requires { fits (first_message parent.now (p_task_view first.now) (input_seen input.now)
-        (place_seen place) (p_steps (map p_task_view others.now) (tail_seen tail.now))) ≡ true }
+        (place_or place) (p_steps (map p_task_view others.now) (tail_seen tail.now)))
+        ≡ true }
     ensures { IfOk result (λ m. m
-        ≡ first_message parent.now (p_task_view first.now) (input_seen input.now) (place_seen place)
-        (p_steps (map p_task_view others.now) (tail_seen tail.now))) }
+        ≡ first_message parent.now (p_task_view first.now) (input_seen input.now)
+        (place_or place) (p_steps (map p_task_view others.now) (tail_seen tail.now))) }
 {
+    let (place, carried) = parts(place);
+    let texts = texts_of(carried);
     if is_at_end(others, tail) {
-        return message_of(alloc, first, input, parent, place, None);
+        return message_of(alloc, first, input, parent, place, None, texts);
     }
     let rest = place_rest(alloc, tail, others, place)?;
-    message_of(alloc, first, input, parent, None, Some(rest))
+    message_of(alloc, first, input, parent, None, Some(rest), texts)
 }
 
 /// The place of a member, where the end of the whole goes to another.
-fn member_place(alloc: Global, end: &FrozenEnd, place: &Option<Place>) -> Result<Place, AllocError>
-    requires { can_stand (p_end_view end.now) (place_seen place.now) ≡ true }
+fn member_place(
+    alloc: Global,
+    end: &FrozenEnd,
+    place: &Option<Destination>,
+) -> Result<Place, AllocError>
+    requires { can_stand (p_end_view end.now) (place_or place.now) ≡ true }
     ensures { IfOk result
-        (λ p. place_view p ≡ member_place (p_end_view end.now) (place_seen place.now)) }
+        (λ p. place_view p ≡ member_place (p_end_view end.now) (place_or place.now)) }
 {
     match &end.body {
         Some(body) => {
-            let outer = share_if_some(place)?;
+            let outer = place_at(place)?;
             let body = place_line(alloc, body, outer)?;
             let size = end.members.get().len() as u32;
             let body = Arc::new(alloc, body)?;
@@ -189,10 +218,10 @@ fn member_place(alloc: Global, end: &FrozenEnd, place: &Option<Place>) -> Result
 
 /// The members of a group or chord. It is a function for its contract's sake: each of them can
 /// stand where its end goes.
-fn standing_members<'a>(end: &'a FrozenEnd, place: &Option<Place>) -> &'a [FrozenLine]
-    requires { can_stand (p_end_view end.now) (place_seen place.now) ≡ true }
+fn standing_members<'a>(end: &'a FrozenEnd, place: &Option<Destination>) -> &'a [FrozenLine]
+    requires { can_stand (p_end_view end.now) (place_or place.now) ≡ true }
     ensures value { result.now ≡ (out-FrozenEnd end.now).members }
-    ensures stand { AllStand (member_place (p_end_view end.now) (place_seen place.now))
+    ensures stand { AllStand (member_place (p_end_view end.now) (place_or place.now))
         (map p_line_view result.now) }
 {
     end.members.get()
@@ -203,17 +232,17 @@ fn standing_members<'a>(end: &'a FrozenEnd, place: &Option<Place>) -> &'a [Froze
 pub(super) fn start_line(
     alloc: Global,
     line: &FrozenLine,
-    place: Option<Place>,
+    place: Option<Destination>,
     input: &Input,
     parent: &Option<TaskNo>,
     messages: &mut Vec<Message>,
 ) -> Result<(), AllocError>
-    requires line { can_stand (p_line_view line.now) (place_seen place) ≡ true }
+    requires line { can_stand (p_line_view line.now) (place_or place) ≡ true }
     requires input { input_ok (input_seen input.now) ≡ true }
     requires parent { parent_ok parent.now ≡ true }
     ensures { OnOk result (messages.new.items
         ≡ messages.old.items
-        ++ started (p_line_view line.now) (input_seen input.now) (place_seen place)
+        ++ started (p_line_view line.now) (input_seen input.now) (place_or place)
         parent.now) }
 {
     match line.tasks.get().split_first() {
@@ -233,17 +262,17 @@ pub(super) fn start_line(
 fn start_end(
     alloc: Global,
     end: &FrozenEnd,
-    place: &Option<Place>,
+    place: &Option<Destination>,
     input: &Input,
     parent: &Option<TaskNo>,
     messages: &mut Vec<Message>,
 ) -> Result<(), AllocError>
-    requires line { can_stand (p_end_view end.now) (place_seen place.now) ≡ true }
+    requires line { can_stand (p_end_view end.now) (place_or place.now) ≡ true }
     requires input { input_ok (input_seen input.now) ≡ true }
     requires parent { parent_ok parent.now ≡ true }
     ensures { OnOk result (messages.new.items
         ≡ messages.old.items
-        ++ started (p_end_view end.now) (input_seen input.now) (place_seen place.now)
+        ++ started (p_end_view end.now) (input_seen input.now) (place_or place.now)
         parent.now) }
 {
     let members = standing_members(end, place);
@@ -253,7 +282,7 @@ fn start_end(
                 start_members(alloc, members, end, place, input, parent, messages)
             }
             None => {
-                let place = share_if_some(place)?;
+                let place = share_destination(place)?;
                 let input = Input::Numbers(ListOf::of(Vec::new(alloc)));
                 start_line(alloc, body, place, &input, parent, messages)
             }
@@ -267,22 +296,23 @@ fn start_members(
     alloc: Global,
     members: &[FrozenLine],
     end: &FrozenEnd,
-    place: &Option<Place>,
+    place: &Option<Destination>,
     input: &Input,
     parent: &Option<TaskNo>,
     messages: &mut Vec<Message>,
 ) -> Result<(), AllocError>
-    requires end { can_stand (p_end_view end.now) (place_seen place.now) ≡ true }
-    requires members { AllStand (member_place (p_end_view end.now) (place_seen place.now))
+    requires end { can_stand (p_end_view end.now) (place_or place.now) ≡ true }
+    requires members { AllStand (member_place (p_end_view end.now) (place_or place.now))
         (map p_line_view members.now) }
     requires input { input_ok (input_seen input.now) ≡ true }
     requires parent { parent_ok parent.now ≡ true }
     ensures { OnOk result (messages.new.items
         ≡ messages.old.items
         ++ all_started (map p_line_view members.now) (input_seen input.now)
-        (member_place (p_end_view end.now) (place_seen place.now)) parent.now) }
+        (member_place (p_end_view end.now) (place_or place.now)) parent.now) }
 {
-    let shared = member_place(alloc, end, place)?;
+    let place = member_place(alloc, end, place)?;
+    let shared = Destination::written(alloc, place)?;
     start_each(alloc, members, &shared, input, parent, messages)
 }
 
@@ -291,21 +321,21 @@ fn start_members(
 fn start_each(
     alloc: Global,
     lines: &[FrozenLine],
-    place: &Place,
+    place: &Destination,
     input: &Input,
     parent: &Option<TaskNo>,
     messages: &mut Vec<Message>,
 ) -> Result<(), AllocError>
-    requires lines { AllStand (place_view place.now) (map p_line_view lines.now) }
+    requires lines { AllStand (place.now) (map p_line_view lines.now) }
     requires input { input_ok (input_seen input.now) ≡ true }
     requires parent { parent_ok parent.now ≡ true }
     ensures { OnOk result (messages.new.items
         ≡ messages.old.items
-        ++ all_started (map p_line_view lines.now) (input_seen input.now) (place_view place.now)
+        ++ all_started (map p_line_view lines.now) (input_seen input.now) (place.now)
         parent.now) }
 {
     for line in lines {
-        let place = share_place(place)?;
+        let place = place.share()?;
         start_line(alloc, line, Some(place), input, parent, messages)?;
     }
     Ok(())

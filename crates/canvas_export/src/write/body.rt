@@ -9,7 +9,7 @@ ghost use Rattle.canvas_sig.specs.Writing.{args_wire, kwargs_wire};
 ghost use Rattle.canvas_sig.specs.steps.Tokens.{Appends, data_tokens, rest_tokens};
 ghost use Rattle.canvas_rewrite.specs.FrozenView.{p_tasks_of, p_task_view, p_line_view};
 ghost use Rattle.canvas_message.specs.MessageView.{place_seen, place_view, rest_seen};
-ghost use Rattle.canvas_codec.specs.Wire.{list_or_null};
+ghost use Rattle.canvas_message.specs.Wire.{list_or_null};
 ghost use Rattle.canvas_message.specs.steps.Parts.{is_stop};
 ghost use Rattle.canvas_codec.specs.steps.Tokens.{named_tokens};
 ghost use Rattle.canvas_export.specs.Signatures.{tasks_wire, each_wire, elements, body_at};

@@ -6,7 +6,7 @@ use Rattle.serde_json.specs.Written.{compact_text}
 use Rattle.canvas_task.specs.Identifiers.{task_text}
 use Rattle.canvas_message.specs.Content.{number_of}
 use Rattle.canvas_message.specs.MessageView.{place_seen}
-use Rattle.canvas_codec.specs.Wire.{place_id, parent_id, headers_wire}
+use Rattle.canvas_message.specs.Wire.{place_id, parent_id, headers_wire}
 use Rattle.canvas_codec.specs.steps.Texts.{front_text, origin_text, name_text, headers_naming}
 use Rattle.canvas_codec.proofs.KnownTexts.{then_ok, then_text, headers_written, task_plain}
 use Rattle.canvas_codec.proofs.write.light.put_headers.Goals as goal

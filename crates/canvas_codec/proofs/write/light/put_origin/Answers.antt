@@ -1,6 +1,6 @@
 use Rattle.std.proofs.Common.{ap, sym}
 use Rattle.std.specs.Prelude.{codes, string_bytes}
-use Rattle.canvas_codec.specs.Wire.{parent_id}
+use Rattle.canvas_message.specs.Wire.{parent_id}
 use Rattle.canvas_codec.specs.steps.Texts.{origin_text}
 use Rattle.canvas_codec.proofs.KnownTexts.{alike_text}
 use Rattle.canvas_codec.proofs.write.light.put_origin.Goals as goal

@@ -1,9 +1,10 @@
-use Rattle.std.proofs.Common.{rules, ◌≡◌, ◌∙◌, ◌∷◌, [], ◌++◌, true, Some, ap, refl, w64}
+use Rattle.std.proofs.Common.{rules, ◌≡◌, ◌∙◌, ◌∷◌, [], ◌++◌, true, Some, ap, refl, subst, w64}
 use Rattle.std.proofs.lemmas.Int.{to_z-of_z}
 use Rattle.std.proofs.lemmas.Result.{IfOk-weaker}
 use Rattle.canvas_task.specs.declared.outcome.Outcome.TheVariants.{Success}
 use Rattle.canvas_rewrite.specs.FrozenView.{p_task_view}
-use Rattle.canvas_message.specs.Content.{number_of, links_of, errbacks_of}
+use Rattle.canvas_message.specs.Content.{number_of, links_of, errbacks_of, place_of}
+use Rattle.canvas_message.specs.SharedTexts.{AreTexts}
 use Rattle.canvas_effects.specs.Effects.{message, called, messages_in}
 use Rattle.canvas_message.specs.Fits.{fits}
 use Rattle.canvas_effects.specs.Flowing.{number_input}
@@ -11,8 +12,8 @@ use Rattle.canvas_message.specs.MessageView.{rest_seen}
 use Rattle.canvas_effects.proofs.Ended.{next_stands, succeeded_next}
 use Rattle.canvas_effects.proofs.effects.moved.hand_on.Goals as goal
 
-pub message_from-requires : goal.message_from-requires
-message_from-requires c =
+pub message_from-requires-clause-fits : goal.message_from-requires-clause-fits
+message_from-requires-clause-fits c =
     let whole : fits c.args.message ≡ true = search rules in
     let same : c.args.message.rest ≡ rest_seen c.task_and_rest-task.result.1 = search rules in
     let task : c.task_and_rest-task.result.0 ≡ number_of c.args.message.own = search rules in
@@ -21,8 +22,14 @@ message_from-requires c =
     ∙ next_stands c.args.message c.task_and_rest-task.result.0 (p_task_view c.in-Some.next) (rest_seen c.in-Some.rest) c.args.number whole
     (same ∙ c.in-Some.ensures) task c.requires.number
 
-pub returns-in-Some : goal.returns-in-Some
-returns-in-Some c =
+pub message_from-requires-clause-texts : goal.message_from-requires-clause-texts
+message_from-requires-clause-texts c =
+    let same : c.args.message.rest ≡ rest_seen c.task_and_rest-task.result.1 = search rules in
+    c.texts_behind-texts.ensures (place_of c.args.message.own) (p_task_view c.in-Some.next) (rest_seen c.in-Some.rest)
+    (subst (λ l. AreTexts c.task_and_rest-task.result.2 (place_of c.args.message.own) l) (same ∙ c.in-Some.ensures) c.task_and_rest-task.ensures.texts)
+
+pub returns-in_ok-push-in-Some : goal.returns-in_ok-push-in-Some
+returns-in_ok-push-in-Some c =
     let whole : fits c.args.message ≡ true = search rules in
     let same : c.args.message.rest ≡ rest_seen c.task_and_rest-task.result.1 = search rules in
     let task : c.task_and_rest-task.result.0 ≡ number_of c.args.message.own = search rules in

@@ -1,0 +1,20 @@
+-- What is written of a line, from its last element on.
+use Rattle.std.specs.Prelude.{◌≡◌, ◌==◌, ℕ, List, length, reverse}
+use Rattle.std.specs.Str.{IsUtf8}
+use Rattle.canvas_semantics.specs.PlacedLine.{PLine, p_stop, p_step, p_group_end, p_chord_end}
+use Rattle.canvas_message.specs.SharedTexts.{AreEnds, IsListed, backwards}
+use Rattle.canvas_message.specs.steps.Parts.{is_stop}
+
+-- the group or chord that a line ends in
+abbrev pub tail_line : PLine → PLine
+tail_line p_stop = p_stop
+tail_line (p_step t l) = tail_line l
+tail_line (p_group_end g ms) = p_group_end g ms
+tail_line (p_chord_end g ms b) = p_chord_end g ms b
+
+-- the text is that of the line, and each of its elements has an end
+pub record Listing (text ends : List ℕ) (l : PLine) : Type 0 where
+  pub listed : IsListed text (backwards l)
+  pub utf8 : IsUtf8 text
+  pub ended : AreEnds text (reverse ends) l
+  pub none : (length ends == 0) ≡ is_stop l

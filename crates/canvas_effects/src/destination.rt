@@ -1,0 +1,55 @@
+//! Where the end of a line goes, with the text of what the place carries.
+
+ghost use Rattle.std.specs.Prelude.{◌≡◌, IfOk};
+ghost use Rattle.canvas_message.specs.MessageView.{place_view};
+
+use crate::copies::share_place;
+use canvas_codec::carried_text;
+use canvas_message::share_text;
+use canvas_rewrite::Place;
+use std::alloc::{AllocError, Global};
+use std::marker::Model;
+use std::sync::Arc;
+
+/// A place that several lines end at, with the text that their messages share.
+#[derive(Drop)]
+pub(crate) struct Destination {
+    pub place: Place,
+    pub text: Option<Arc<String>>,
+}
+
+impl Model for Destination {
+    ghost use Rattle.std.specs.Prelude.{IfSome, string_bytes};
+    ghost use Rattle.canvas_semantics.specs.PlacedLine.{PPlace};
+    ghost use Rattle.canvas_message.specs.MessageView.{place_view};
+    ghost use Rattle.canvas_message.specs.SharedTexts.{SaysCarried};
+    ghost use Rattle.canvas_effects.specs.codes.PlaceCode.{place_code};
+
+    ghost Value = { PPlace };
+
+    ghost coded = { place_code };
+
+    ghost view = { λ d. place_view d.place };
+
+    ghost invariant = { λ d. IfSome d.text
+        (λ t. SaysCarried (string_bytes t.value) (place_view d.place)) };
+}
+
+impl Destination {
+    /// A place of members that start now: what it carries is written once for all of them.
+    pub(crate) fn written(alloc: Global, place: Place) -> Result<Destination, AllocError>
+        ensures { IfOk result (λ d. d ≡ place_view place) }
+    {
+        let text = carried_text(alloc, &place)?;
+        Ok(Destination { place, text })
+    }
+
+    /// The same once more.
+    pub(crate) fn share(&self) -> Result<Destination, AllocError>
+        ensures { IfOk result (λ d. d ≡ self.now) }
+    {
+        let place = share_place(&self.place)?;
+        let text = share_text(&self.text)?;
+        Ok(Destination { place, text })
+    }
+}

@@ -1,0 +1,59 @@
+//! Where the end of a line goes, if it goes anywhere.
+
+ghost use Rattle.std.specs.Prelude.{◌≡◌, IfOk, IfSome, string_bytes};
+ghost use Rattle.canvas_message.specs.MessageView.{place_seen};
+ghost use Rattle.canvas_message.specs.SharedTexts.{SaysCarried};
+ghost use Rattle.canvas_rewrite.specs.FrozenView.{place_or};
+
+use crate::copies::share_place;
+use crate::destination::Destination;
+use canvas_rewrite::Place;
+use std::alloc::AllocError;
+use std::sync::Arc;
+
+/// The place that a task says, of which no text is known.
+pub(crate) fn unwritten(place: &Option<Place>) -> Result<Option<Destination>, AllocError>
+    ensures { IfOk result (λ d. place_or d ≡ place_seen place.now) }
+{
+    match place {
+        Some(place) => {
+            let place = share_place(place)?;
+            Ok(Some(Destination { place, text: None }))
+        }
+        None => Ok(None),
+    }
+}
+
+/// The same once more.
+pub(crate) fn share_destination(
+    destination: &Option<Destination>,
+) -> Result<Option<Destination>, AllocError>
+    ensures { IfOk result (λ d. place_or d ≡ place_or destination.now) }
+{
+    match destination {
+        Some(destination) => Ok(Some(destination.share()?)),
+        None => Ok(None),
+    }
+}
+
+/// The place alone, once more.
+pub(crate) fn place_at(destination: &Option<Destination>) -> Result<Option<Place>, AllocError>
+    ensures { IfOk result (λ p. place_seen p ≡ place_or destination.now) }
+{
+    match destination {
+        Some(destination) => Ok(Some(share_place(&destination.place)?)),
+        None => Ok(None),
+    }
+}
+
+/// The place and the text.
+pub(crate) fn parts(destination: Option<Destination>) -> (Option<Place>, Option<Arc<String>>)
+    ensures place { place_seen result.0 ≡ place_or destination }
+    ensures text { IfSome result.1
+        (λ t. SaysCarried (string_bytes t.value) (place_or destination)) }
+{
+    match destination {
+        Some(Destination { place, text }) => (Some(place), text),
+        None => (None, None),
+    }
+}

@@ -1,0 +1,24 @@
+-- An envelope whose body has a piece that is shared.
+use Rattle.std.specs.Prelude.{ℕ, List, [], ◌++◌, take, Option, Some, None, string_bytes}
+use Rattle.canvas_message.specs.declared.envelope.Envelope.{Envelope}
+use Rattle.canvas_message.specs.declared.texts.Piece.{Piece}
+use Rattle.canvas_message.specs.declared.pieces.Pieces.{Pieces}
+use Rattle.canvas_message.specs.declared.pieces.Sheets.{Sheets}
+use Rattle.canvas_message.specs.declared.pieces.Sheets.TheVariants as sheets
+
+abbrev pub piece_text : Piece → List ℕ
+piece_text p = take p.end (string_bytes p.text.value)
+
+abbrev pub shared_text : Option Piece → List ℕ
+shared_text None = []
+shared_text (Some p) = piece_text p
+
+abbrev pub body_text : Pieces → List ℕ
+body_text p = p.front ++ (shared_text p.shared ++ p.back)
+
+abbrev pub joined : Pieces → Envelope
+joined p = record { properties = p.properties; headers = p.headers; body = body_text p }
+
+abbrev pub envelope_seen : Sheets → Envelope
+envelope_seen (sheets.Whole e) = e
+envelope_seen (sheets.Pieced p) = joined p
