@@ -1,19 +1,19 @@
 -- Borrowed values, as they are read: a list that grows at its end, and members that go into a map.
-use Rattle.std.proofs.Common.{◌≡◌, ℕ, List, [], ◌∷◌, ◌++◌, Option, Some, None, Ordering, Less, Equal, Greater, nat_cmp, is_eq, Bool, true, false, bytes_eq, true≢false, Bor, refl, ap, ◌∙◌, rules, suc, ◌+◌, ◌<◌, length, get_or, drop, take, arith}
+use Rattle.std.proofs.Common.{◌≡◌, ℕ, List, [], ◌∷◌, ◌++◌, Option, Some, None, Ordering, Less, Equal, Greater, nat_cmp, is_eq, Bool, true, false, bytes_eq, true≢false, Bor, refl, ap, sym, ◌∙◌, rules, zero, suc, ◌+◌, ◌<◌, length, get_or, set, drop, take, arith}
 use Rattle.std.proofs.Math.Seq.{drop-cons}
 use Rattle.std.proofs.lemmas.Cmp.{nat_list_cmp_total, tied_itself}
 use Rattle.std.proofs.lemmas.Map.Text.{is_eq-slice_cmp}
 use Rattle.std.proofs.lemmas.Slice.Eq.{bytes_eq-Decides}
 use Rattle.std.specs.Cmp.Lexicographic.{slice_cmp}
 use Rattle.std.specs.Ordering.{match_ordering, ordering_reverse}
-use Rattle.std.proofs.lemmas.List.{take_more}
+use Rattle.std.proofs.lemmas.List.{take_more, take-append-drop}
 use Rattle.std.specs.BTreeMap.{insert_entry}
 use Rattle.json.specs.Token.{Token}
 use Rattle.json.specs.Json.{parse_map}
 use Rattle.serde_json.specs.Data.{Data, array, object, Items, item, no_items, Members, member, put}
 use Rattle.serde_json.specs.Find.{get_member}
 use Rattle.canvas_sig.specs.Datum.{view, items_view, members_view}
-use Rattle.canvas_sig.specs.steps.Names.{put_all}
+use Rattle.canvas_sig.specs.steps.Names.{put_all, AllBelow, BeginsWith, BeginsBehind, StandsAt, BelongsAt}
 use Rattle.canvas_sig.specs.declared.datum.Datum.{Datum, the_lemmas}
 use Rattle.canvas_sig.specs.declared.datum.Datum as datum
 
@@ -98,10 +98,6 @@ put_pushed (x ∷ es) e ms = put_pushed es e (put x.0.now (view x.1) ms)
 pub one_more : (xs : List Named) (i : ℕ) (x d : Named) → i < length xs → get_or xs i d ≡ x → take (i + 1) xs ≡ take i xs ++ x ∷ []
 one_more xs i x d lt is = take_more xs i d lt ∙ ap (λ y. take i xs ++ y ∷ []) is
 
-abbrev pub AllBelow : List Named → List ℕ → Type 0
-AllBelow [] k = Unit {0}
-AllBelow (e ∷ es) k = (slice_cmp nat_cmp e.0.now k ≡ Less) × AllBelow es k
-
 -- one behind all others goes last
 pub put_last : (es : List Named) (e : Named) → AllBelow es e.0.now → put e.0.now (view e.1) (members_view es) ≡ members_view (es ++ e ∷ [])
 put_last [] e h = refl
@@ -112,3 +108,42 @@ put_last (x ∷ es) e h =
 pub below_next : (es : List Named) (e : Named) (k : List ℕ) → AllBelow es e.0.now → slice_cmp nat_cmp e.0.now k ≡ Less → AllBelow (es ++ e ∷ []) k
 below_next [] e k h low = (low, tt)
 below_next (x ∷ es) e k h low = (nat_list_cmp_total.trans x.0.now e.0.now k h.0 low, below_next es e k h.1 low)
+
+-- ---- one that is put among others
+
+behind : (es : List Named) (fs gs : List Named) (k : List ℕ) (d : Data) → AllBelow es k → put k d (members_view fs) ≡ members_view gs
+    → put k d (members_view (es ++ fs)) ≡ members_view (es ++ gs)
+behind [] fs gs k d h is = is
+behind (e ∷ es) fs gs k d h is =
+    let above : slice_cmp nat_cmp k e.0.now ≡ Greater = nat_list_cmp_total.antisymm k e.0.now ∙ ap ordering_reverse h.0 in
+    rw above (ap (member e.0.now (view e.1)) (behind es fs gs k d h.1 is))
+
+put_in_front : (fs : List Named) (k : Bor (List ℕ)) (v : Datum) → BeginsBehind fs k.now → put k.now (view v) (members_view fs) ≡ members_view ((k, v) ∷ fs)
+put_in_front [] k v h = refl
+put_in_front (e ∷ fs) k v h =
+    let below : slice_cmp nat_cmp k.now e.0.now ≡ Less = nat_list_cmp_total.antisymm k.now e.0.now ∙ ap ordering_reverse h in
+    rw below refl
+
+pub put_before : (es : List Named) (i : ℕ) (k : Bor (List ℕ)) (v : Datum) → BelongsAt es k.now i
+    → put k.now (view v) (members_view es) ≡ members_view (take i es ++ (k, v) ∷ drop i es)
+put_before es i k v h =
+    ap (λ xs. put k.now (view v) (members_view xs)) (sym (take-append-drop i es))
+    ∙ behind (take i es) (drop i es) ((k, v) ∷ drop i es) k.now (view v) h.1 (put_in_front (drop i es) k v h.2)
+
+-- the value of one of them is replaced
+pub put_at : (es : List Named) (i : ℕ) (k : List ℕ) (d : Datum) (x : Named) → i < length es → AllBelow (take i es) k → BeginsWith (drop i es) k
+    → x ≡ get_or es i x → put k (view d) (members_view es) ≡ members_view (set es i (x.0, d))
+put_at [] zero k d x lt h same is = absurd same
+put_at [] (suc i) k d x lt h same is = absurd same
+put_at (e ∷ es) zero k d x lt h same is =
+    let here : slice_cmp nat_cmp k e.0.now ≡ Equal = nat_list_cmp_total.antisymm k e.0.now ∙ ap ordering_reverse same in
+    let name : e.0.now ≡ x.0.now = ap (λ y. y.0.now) (sym is) in
+    rw here (ap (λ n. member n (view d) (members_view es)) name)
+put_at (e ∷ es) (suc i) k d x lt h same is =
+    let above : slice_cmp nat_cmp k e.0.now ≡ Greater = nat_list_cmp_total.antisymm k e.0.now ∙ ap ordering_reverse h.0 in
+    rw above (ap (member e.0.now (view e.1)) (put_at es i k d x (omega (arith, lt)) h.1 same is))
+
+-- one more that stands before the name
+pub still_below : (es : List Named) (e : Named) (k : List ℕ) → AllBelow es k → slice_cmp nat_cmp e.0.now k ≡ Less → AllBelow (es ++ e ∷ []) k
+still_below [] e k h low = (low, tt)
+still_below (x ∷ es) e k h low = (h.0, still_below es e k h.1 low)

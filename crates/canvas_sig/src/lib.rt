@@ -8,6 +8,7 @@ mod fields;
 mod json_argument;
 mod members;
 mod number;
+mod ordered;
 mod own_fault;
 mod parsing;
 mod primitive;

@@ -1,6 +1,6 @@
 //! Parsing JSON (RFC 8259) into borrowed values.
 
-ghost use Rattle.std.specs.Prelude.{◌≡◌, true, ◌<◌, ◌++◌, ◌∷◌, length, option_map, Some, None, Err, IfOk, OnOk};
+ghost use Rattle.std.specs.Prelude.{◌≡◌, ◌<◌, ◌∷◌, length, option_map, Some, None, Err, IfOk, OnOk};
 ghost use Rattle.json.specs.Json.{value, items, members};
 ghost use Rattle.json.specs.Reads.{token_of};
 ghost use Rattle.serde_json.specs.Data.{no_members};
@@ -9,17 +9,16 @@ ghost use Rattle.canvas_values.specs.Answers.{Gives};
 ghost use Rattle.canvas_values.specs.CanvasText.{json_of};
 ghost use Rattle.canvas_sig.specs.Datum.{view, items_view, members_view};
 ghost use Rattle.canvas_sig.specs.steps.Alone.{alone};
-ghost use Rattle.canvas_sig.specs.steps.Names.{put_all};
 ghost use Rattle.canvas_values.specs.steps.Reading.{json_reading};
 ghost use Rattle.canvas_values.specs.declared.fault.SigFault.TheVariants.{Memory};
 
-use crate::datum::{Datum, follows};
+use crate::datum::Datum;
 use crate::number::number_of;
+use crate::ordered::in_order;
 use bumpalo::Bump;
 use bumpalo::collections::into_bump_slice;
 use canvas_values::SigFault;
 use json::{Invalid, Reader, Scratch, Token};
-use serde_json::value::Map;
 use std::alloc::{AllocError, AllocFailed, Global};
 
 /// Why nothing was read.
@@ -174,63 +173,6 @@ fn read_members<'a>(
         found.push((name, member))?;
     }
     Ok(in_order(alloc, arena, found)?)
-}
-
-/// Whether the names ascend, so that no name comes twice.
-fn ascends(members: &[(&str, Datum<'_>)]) -> bool
-    ensures { result ≡ true → put_all members.now no_members ≡ members_view members.now }
-{
-    let mut last = None;
-    for member in members {
-        if !follows(last, member.0) {
-            return false;
-        }
-        last = Some(member.0);
-    }
-    true
-}
-
-/// Members in the order of their names, the last of those of one name.
-fn in_order<'a>(
-    alloc: Global,
-    arena: &'a Bump,
-    found: Vec<(&'a str, Datum<'a>), &'a Bump>,
-) -> Result<&'a [(&'a str, Datum<'a>)], AllocError>
-    ensures { IfOk result (λ v. members_view v.now ≡ put_all found.entry.items no_members) }
-{
-    if ascends(&found) {
-        return Ok(into_bump_slice(found));
-    }
-    let ordered = by_name(alloc, &found)?;
-    members_of(arena, &ordered)
-}
-
-/// A map of some members; of those of one name it has the last.
-fn by_name<'a>(
-    alloc: Global,
-    found: &[(&'a str, Datum<'a>)],
-) -> Result<Map<&'a str, Datum<'a>>, AllocError>
-    ensures { IfOk result (λ m. members_view m.entries ≡ put_all found.now no_members) }
-{
-    let mut ordered = Map::new(alloc);
-    for member in found {
-        drop(ordered.insert(member.0, member.1)?);
-    }
-    Ok(ordered)
-}
-
-/// The members of a map.
-fn members_of<'a>(
-    arena: &'a Bump,
-    ordered: &Map<&'a str, Datum<'a>>,
-) -> Result<&'a [(&'a str, Datum<'a>)], AllocError>
-    ensures { IfOk result (λ v. v.now ≡ ordered.now.entries) }
-{
-    let mut members = Vec::new(arena);
-    for (name, value) in ordered.iter() {
-        members.push((*name, *value))?;
-    }
-    Ok(into_bump_slice(members))
 }
 
 /// The one value of a text.

@@ -1,9 +1,9 @@
 -- Names that ascend (Unicode's order of code points, which is that of UTF-8's bytes), and members
 -- that are put in their order.
-use Rattle.std.specs.Prelude.{◌≡◌, List, [], ◌∷◌, Option, Some, None}
+use Rattle.std.specs.Prelude.{◌≡◌, ◌<◌, ◌≤◌, ℕ, List, [], ◌∷◌, Option, Some, None, length, take, drop}
 use Rattle.std.specs.Ordering.{nat_cmp}
 use Rattle.std.specs.Cmp.Lexicographic.{slice_cmp}
-use Rattle.std.specs.declared.cmp.Ordering.TheVariants.{Less}
+use Rattle.std.specs.declared.cmp.Ordering.TheVariants.{Less, Equal, Greater}
 use Rattle.serde_json.specs.Data.{Members, put}
 use Rattle.std.specs.Borrow.{Bor}
 use Rattle.canvas_task.specs.Text.{Text}
@@ -19,3 +19,26 @@ IsBelow (Some l) k = slice_cmp nat_cmp l k ≡ Less
 abbrev pub put_all : List (Bor Text × Datum) → Members → Members
 put_all [] ms = ms
 put_all (e ∷ es) ms = put_all es (put e.0.now (view e.1) ms)
+
+-- each of the names stands before this one
+abbrev pub AllBelow : List (Bor Text × Datum) → Text → Type 0
+AllBelow [] k = Unit {0}
+AllBelow (e ∷ es) k = (slice_cmp nat_cmp e.0.now k ≡ Less) × AllBelow es k
+
+-- the first of them, where there is one, is this name
+abbrev pub BeginsWith : List (Bor Text × Datum) → Text → Type 0
+BeginsWith [] k = ⊥
+BeginsWith (e ∷ es) k = slice_cmp nat_cmp e.0.now k ≡ Equal
+
+-- the first of them, where there is one, stands behind this name
+abbrev pub BeginsBehind : List (Bor Text × Datum) → Text → Type 0
+BeginsBehind [] k = Unit {0}
+BeginsBehind (e ∷ es) k = slice_cmp nat_cmp e.0.now k ≡ Greater
+
+-- the member of this index has the name, and those before it stand before it
+abbrev pub StandsAt : List (Bor Text × Datum) → Text → ℕ → Type 0
+StandsAt es k i = (i < length es) × AllBelow (take i es) k × BeginsWith (drop i es) k
+
+-- none has the name, which belongs in front of this index
+abbrev pub BelongsAt : List (Bor Text × Datum) → Text → ℕ → Type 0
+BelongsAt es k i = (i ≤ length es) × AllBelow (take i es) k × BeginsBehind (drop i es) k

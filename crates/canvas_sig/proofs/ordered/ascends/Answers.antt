@@ -1,9 +1,9 @@
 use Rattle.std.proofs.Common.{List, take, sym, ap, ◌∙◌, subst, arith}
 use Rattle.serde_json.specs.Data.{no_members, put}
 use Rattle.canvas_sig.specs.Datum.{view, members_view}
-use Rattle.canvas_sig.specs.steps.Names.{put_all}
-use Rattle.canvas_sig.proofs.Parsed.{Named, AllBelow, one_more, put_pushed, put_last, below_next}
-use Rattle.canvas_sig.proofs.parsing.ascends.Goals as goal
+use Rattle.canvas_sig.specs.steps.Names.{AllBelow, put_all}
+use Rattle.canvas_sig.proofs.Parsed.{Named, one_more, put_pushed, put_last, below_next}
+use Rattle.canvas_sig.proofs.ordered.ascends.Goals as goal
 
 pub loop-member-preserved : goal.loop-member-preserved
 loop-member-preserved c =

@@ -1,9 +1,8 @@
 use Rattle.std.proofs.Common.{◌≡◌, ℕ, List, take, option_map}
 use Rattle.serde_json.specs.Data.{no_members}
 use Rattle.canvas_sig.specs.Datum.{members_view}
-use Rattle.canvas_sig.specs.steps.Names.{IsBelow, put_all}
-use Rattle.canvas_sig.proofs.Parsed.{AllBelow}
-use Rattle.canvas_sig.proofs.parsing.ascends.Given as goal
+use Rattle.canvas_sig.specs.steps.Names.{AllBelow, IsBelow, put_all}
+use Rattle.canvas_sig.proofs.ordered.ascends.Given as goal
 
 abbrev pub invariant-loop-member : goal.invariant-loop-member
 invariant-loop-member l =

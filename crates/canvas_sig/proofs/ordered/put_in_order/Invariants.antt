@@ -1,0 +1,8 @@
+use Rattle.std.proofs.Common.{◌≡◌, take}
+use Rattle.serde_json.specs.Data.{no_members}
+use Rattle.canvas_sig.specs.Datum.{members_view}
+use Rattle.canvas_sig.specs.steps.Names.{put_all}
+use Rattle.canvas_sig.proofs.ordered.put_in_order.Given as goal
+
+abbrev pub invariant-loop-member : goal.invariant-loop-member
+invariant-loop-member l = members_view l.members.items ≡ put_all (take l.member-index l.found) no_members
