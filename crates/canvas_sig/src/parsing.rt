@@ -81,25 +81,29 @@ fn alone<'a>(token: Token<'a>) -> Option<Datum<'a>>
     }
 }
 
-/// The value that comes next; arrays and objects in it nest at most `left` deep. It stands in the
-/// loops that call it, so that a value of one token is read with no call.
+/// The value that comes next; arrays and objects in it nest at most `left` deep. The members of the
+/// objects around it stand on the stack until their object ends, so that the arena holds each
+/// object once. It stands in the loops that call it, so that a value of one token is read with no
+/// call.
 #[cycle(read)]
 #[inline(always)]
 fn read_value<'a>(
     alloc: Global,
     arena: &'a Bump,
+    stack: &mut Vec<(&'a str, Datum<'a>)>,
     reader: &mut Reader<'a>,
     left: usize,
 ) -> Result<Datum<'a>, Unread>
     ensures ok { IfOk result
         (λ v. converted of_json (value left reader.old) ≡ Some (view v, reader.new)) }
     ensures shorter { OnOk result (length reader.new < length reader.old) }
+    ensures stack { OnOk result (stack.new.items ≡ stack.old.items) }
     ensures err { result ≡ Err Unread.NotJson → converted of_json (value left reader.old) ≡ None }
 {
     let token = reader.next().ok_or(Unread::NotJson)?;
     match alone(token) {
         Some(value) => Ok(value),
-        None => read_nested(alloc, arena, reader, left, token),
+        None => read_nested(alloc, arena, stack, reader, left, token),
     }
 }
 
@@ -109,6 +113,7 @@ fn read_value<'a>(
 fn read_nested<'a>(
     alloc: Global,
     arena: &'a Bump,
+    stack: &mut Vec<(&'a str, Datum<'a>)>,
     reader: &mut Reader<'a>,
     left: usize,
     token: Token<'a>,
@@ -117,6 +122,7 @@ fn read_nested<'a>(
     ensures ok { IfOk result (λ v. converted of_json (value left (token_of token.entry ∷ reader.old))
         ≡ Some (view v, reader.new)) }
     ensures shorter { OnOk result (length reader.new < length reader.old) }
+    ensures stack { OnOk result (stack.new.items ≡ stack.old.items) }
     ensures err { result ≡ Err Unread.NotJson
         → converted of_json (value left (token_of token.entry ∷ reader.old)) ≡ None }
 {
@@ -124,8 +130,14 @@ fn read_nested<'a>(
         return Err(Unread::NotJson);
     }
     match token {
-        Token::BeginArray => Ok(Datum::List(read_items(alloc, arena, reader, left - 1)?)),
-        Token::BeginObject => Ok(Datum::Object(read_members(alloc, arena, reader, left - 1)?)),
+        Token::BeginArray => Ok(Datum::List(read_items(alloc, arena, stack, reader, left - 1)?)),
+        Token::BeginObject => Ok(Datum::Object(read_members(
+            alloc,
+            arena,
+            stack,
+            reader,
+            left - 1,
+        )?)),
         _ => Err(Unread::NotJson),
     }
 }
@@ -134,6 +146,7 @@ fn read_nested<'a>(
 fn read_items<'a>(
     alloc: Global,
     arena: &'a Bump,
+    stack: &mut Vec<(&'a str, Datum<'a>)>,
     reader: &mut Reader<'a>,
     left: usize,
 ) -> Result<&'a [Datum<'a>], Unread>
@@ -141,12 +154,13 @@ fn read_items<'a>(
         (λ v. converted of_items (items (value left) (length reader.old) reader.old)
         ≡ Some (items_view v.now, reader.new)) }
     ensures shorter { OnOk result (length reader.new < length reader.old) }
+    ensures stack { OnOk result (stack.new.items ≡ stack.old.items) }
     ensures err { result ≡ Err Unread.NotJson
         → converted of_items (items (value left) (length reader.old) reader.old) ≡ None }
 {
     let mut found = Vec::new(arena);
     'items: while !reader.take_end_array() {
-        let item = read_value(alloc, arena, reader, left)?;
+        let item = read_value(alloc, arena, stack, reader, left)?;
         found.push(item)?;
     }
     Ok(into_bump_slice(found))
@@ -156,6 +170,7 @@ fn read_items<'a>(
 fn read_members<'a>(
     alloc: Global,
     arena: &'a Bump,
+    stack: &mut Vec<(&'a str, Datum<'a>)>,
     reader: &mut Reader<'a>,
     left: usize,
 ) -> Result<&'a [(&'a str, Datum<'a>)], Unread>
@@ -164,15 +179,18 @@ fn read_members<'a>(
         (members (value left) (length reader.old) reader.old)
         ≡ Some (members_view v.now, reader.new)) }
     ensures shorter { OnOk result (length reader.new < length reader.old) }
+    ensures stack { OnOk result (stack.new.items ≡ stack.old.items) }
     ensures err { result ≡ Err Unread.NotJson → converted (λ ms. of_members ms no_members)
         (members (value left) (length reader.old) reader.old) ≡ None }
 {
-    let mut found = Vec::new(arena);
+    let start = stack.len();
     'members: while let Some(name) = reader.next_key()? {
-        let member = read_value(alloc, arena, reader, left)?;
-        found.push((name, member))?;
+        let member = read_value(alloc, arena, stack, reader, left)?;
+        stack.push((name, member))?;
     }
-    Ok(in_order(alloc, arena, found)?)
+    let found = in_order(alloc, arena, &stack[start..])?;
+    stack.truncate(start);
+    Ok(found)
 }
 
 /// The one value of a text.
@@ -186,7 +204,8 @@ fn read_whole<'a>(
     ensures err { result ≡ Err Unread.NotJson → read_text text.now ≡ None }
 {
     let mut reader = Reader::new(text, scratch)?;
-    let value = read_value(alloc, arena, &mut reader, MOST_NESTED)?;
+    let mut stack = Vec::new(alloc);
+    let value = read_value(alloc, arena, &mut stack, &mut reader, MOST_NESTED)?;
     match reader.next() {
         None => Ok(value),
         Some(_) => Err(Unread::NotJson),

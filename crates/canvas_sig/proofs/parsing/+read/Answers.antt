@@ -1,4 +1,5 @@
-use Rattle.std.proofs.Common.{◌≡◌, ◌-◌, ◌<◌, [], ◌∷◌, length, Some, None, IfOk, sym, ap, ◌∙◌, subst, arith}
+use Rattle.std.proofs.Common.{◌≡◌, ◌-◌, ◌<◌, [], ◌∷◌, ◌++◌, length, refl, Some, None, IfOk, sym, ap, ◌∙◌, subst, arith}
+use Rattle.std.proofs.lemmas.List.{append_assoc, append-nil}
 use Rattle.json.specs.Json.{parse_map, after_end_array, read_key, items, members, value}
 use Rattle.json.specs.Reads.{token_of}
 use Rattle.json.proofs.Grammar.{value_is, read_key-shorter}
@@ -6,9 +7,9 @@ use Rattle.serde_json.specs.Data.{array, object, no_members, put}
 use Rattle.serde_json.specs.Read.{of_json, of_items, of_members, converted}
 use Rattle.canvas_sig.proofs.Alone.{read_alone, refused_alone, refused_deep, list_opened, object_opened}
 use Rattle.canvas_sig.proofs.Conversion.{item_read, item_refused, items_over, member_read, member_refused, key_refused, members_over, nothing_before}
-use Rattle.canvas_sig.specs.Datum.{view, items_view}
+use Rattle.canvas_sig.specs.Datum.{view, items_view, members_view}
 use Rattle.canvas_sig.specs.steps.Names.{put_all}
-use Rattle.canvas_sig.proofs.Parsed.{view-List, view-Object, put_pushed, items_before, all_before, one_more_item}
+use Rattle.canvas_sig.proofs.Parsed.{Named, since_start, view-List, view-Object, put_pushed, items_before, all_before, one_more_item}
 use Rattle.canvas_sig.proofs.parsing.+read.Goals as goal
 
 pub read_value-returns-in_err-token-clause-err : goal.read_value-returns-in_err-token-clause-err
@@ -68,7 +69,7 @@ read_nested-returns-in_default-clause-err t c refused =
 pub read_items-items-init : goal.read_items-items-init
 read_items-items-init t c =
     let all = converted of_items (items (value c.args.left) (length c.args.reader.now) c.args.reader.now) in
-    (length c.args.reader.now, omega arith, nothing_before all ∙ ap (λ vs. parse_map (items_before vs) all) (sym c.new-found.ensures.items), omega arith)
+    (length c.args.reader.now, omega arith, nothing_before all ∙ ap (λ vs. parse_map (items_before vs) all) (sym c.new-found.ensures.items), omega arith, refl)
 
 pub read_items-returns-in_err-item-clause-err : goal.read_items-returns-in_err-item-clause-err
 read_items-returns-in_err-item-clause-err t c refused =
@@ -94,6 +95,7 @@ read_items-items-preserved t c =
       l.invariant.2 ∙ ap (parse_map (items_before l.found.items)) turn ∙ one_more_item l.found.items v _
           ∙ ap (λ vs. parse_map (items_before vs) (converted of_items (items p (n - 1) r))) (sym c.in_ok-push.ensures.items),
       omega (arith, l.invariant.3),
+      done.stack ∙ l.invariant.4,
     )
 
 pub read_items-returns-clause-ok : goal.read_items-returns-clause-ok
@@ -106,35 +108,34 @@ read_items-returns-clause-ok t c =
     ∙ ap (λ ds. Some (ds, r)) (all_before l.found.items ∙ ap (λ vs. items_view vs) (sym c.into_bump_slice.ensures))
 
 pub read_members-members-init : goal.read_members-members-init
-read_members-members-init t c =
-    let all = members (value c.args.left) (length c.args.reader.now) c.args.reader.now in
-    (length c.args.reader.now, omega arith, ap (λ es. converted (λ ms. of_members ms (put_all es no_members)) all) (sym c.new-found.ensures.items), omega arith)
+read_members-members-init t c = (length c.args.reader.now, [], omega arith, refl, omega arith, sym (append-nil c.args.stack.now.items))
 
 pub read_members-returns-in_err-name-clause-err : goal.read_members-returns-in_err-name-clause-err
 read_members-returns-in_err-name-clause-err t c refused =
     let p = value c.args.left in
     let l = c.members in
     let n = l.invariant.0 in
-    let old = put_all l.found.items no_members in
-    l.invariant.2 ∙ key_refused old p n l.reader c.in_err-name.ensures.value
+    let old = put_all l.invariant.1 no_members in
+    l.invariant.3 ∙ key_refused old p n l.reader c.in_err-name.ensures.value
 
 pub read_members-returns-in_err-member-clause-err : goal.read_members-returns-in_err-member-clause-err
 read_members-returns-in_err-member-clause-err t c refused =
     let p = value c.args.left in
     let l = c.members in
     let n = l.invariant.0 in
-    let old = put_all l.found.items no_members in
+    let old = put_all l.invariant.1 no_members in
     let k = c.in-Some.name.now in
     let s = c.next_key.new.self in
     let named : read_key l.reader ≡ Some (Some k, s) = grind arith in
-    l.invariant.2 ∙ member_refused old p n k l.reader s named (c.read_value.ensures.err (grind arith))
+    l.invariant.3 ∙ member_refused old p n k l.reader s named (c.read_value.ensures.err (grind arith))
 
 pub read_members-members-preserved : goal.read_members-members-preserved
 read_members-members-preserved t c =
     let p = value c.args.left in
     let l = c.members in
     let n = l.invariant.0 in
-    let old = put_all l.found.items no_members in
+    let found = l.invariant.1 in
+    let old = put_all found no_members in
     let k = c.in-Some.name.now in
     let s = c.next_key.new.self in
     let named : read_key l.reader ≡ Some (Some k, s) = grind arith in
@@ -143,20 +144,25 @@ read_members-members-preserved t c =
     let r = c.read_value.new.reader in
     let less = read_key-shorter l.reader (Some k) s named in
     let lesser = done.shorter in
-    let placed : put_all c.push.new.self.items no_members ≡ put k (view v) old =
-    ap (λ es. put_all es no_members) c.in_ok-push.ensures.items ∙ put_pushed l.found.items (c.in-Some.name, v) no_members in (
+    let e : Named = (c.in-Some.name, v) in (
       n - 1,
-      omega (arith, l.invariant.1),
-      l.invariant.2 ∙ member_read old p n k l.reader s r (view v) (omega (arith, l.invariant.1)) named done.ok
-          ∙ ap (λ found. converted (λ ms. of_members ms found) (members p (n - 1) r)) (sym placed),
-      omega (arith, l.invariant.3),
+      found ++ e ∷ [],
+      omega (arith, l.invariant.2),
+      l.invariant.3 ∙ member_read old p n k l.reader s r (view v) (omega (arith, l.invariant.2)) named done.ok
+          ∙ ap (λ ms. converted (λ js. of_members js ms) (members p (n - 1) r)) (sym (put_pushed found e no_members)),
+      omega (arith, l.invariant.4),
+      c.in_ok-push.ensures.items ∙ ap (λ es. es ++ e ∷ []) (done.stack ∙ l.invariant.5) ∙ append_assoc c.args.stack.now.items found (e ∷ []),
     )
 
+-- what stands on the stack since the object began
 pub read_members-returns-clause-ok : goal.read_members-returns-clause-ok
 read_members-returns-clause-ok t c =
     let p = value c.args.left in
     let l = c.members in
     let n = l.invariant.0 in
-    let old = put_all l.found.items no_members in
-    l.invariant.2 ∙ members_over old p n l.reader c.next_key.new.self l.invariant.1 (grind arith)
-    ∙ ap (λ ms. Some (ms, c.next_key.new.self)) (sym c.in_ok-in_order.ensures)
+    let found = l.invariant.1 in
+    let old = put_all found no_members in
+    let here = c.in_ok-found.ensures ∙ ap (λ es. put_all es no_members)
+    (since_start c.deref.result.now c.args.stack.now.items found c.len-start.result (grind arith) (c.deref.ensures.value ∙ l.invariant.5)) in
+    l.invariant.3 ∙ members_over old p n l.reader c.next_key.new.self l.invariant.2 (grind arith)
+    ∙ ap (λ ms. Some (ms, c.next_key.new.self)) (sym here)
