@@ -20,6 +20,9 @@ pub struct Report {
     pub rows: ListOf<Option<Outcome>>,
 }
 
+/// About how many bytes the line of a task has.
+const ROW_ROOM: usize = 64;
+
 /// The line of a task, if the plan has it.
 fn push_task(
     text: &mut String,
@@ -110,7 +113,8 @@ pub fn report_text(alloc: Global, plan: &Plan, report: &Report) -> Result<String
         (λ text. string_bytes text ≡ report_of (tree_of plan.now) (rows_from 1 report.now.rows)) }
 {
     let rows = report.rows.get();
-    let mut text = String::new(alloc);
+    let room = (plan.tasks() as usize).saturating_mul(ROW_ROOM);
+    let mut text = String::with_capacity(alloc, room)?;
     push_rows(&mut text, plan, rows)?;
     text.push_str("result ")?;
     push_result(&mut text, &plan.ends(), rows)?;

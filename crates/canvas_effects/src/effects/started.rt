@@ -313,6 +313,7 @@ fn start_members(
 {
     let place = member_place(alloc, end, place)?;
     let shared = Destination::written(alloc, place)?;
+    messages.reserve(members.len())?;
     start_each(alloc, members, &shared, input, parent, messages)
 }
 
