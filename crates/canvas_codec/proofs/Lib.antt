@@ -4,6 +4,7 @@ pub mod CleanLines
 pub mod Wholes
 pub mod MessageBack
 pub mod CleanMessage
+pub mod OwnTexts
 pub mod EnvelopeBack
 pub mod Levels
 pub mod FrozenLaw

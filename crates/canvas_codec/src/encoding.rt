@@ -1,10 +1,7 @@
 //! The envelope of a message.
 
 ghost use Rattle.std.specs.Prelude.{◌≡◌, true, IfOk, IfSome, string_bytes};
-ghost use Rattle.json.specs.Print.{escape};
 ghost use Rattle.canvas_task.specs.Identifiers.{task_text};
-ghost use Rattle.canvas_codec.specs.steps.Texts.{properties_naming};
-ghost use Rattle.serde_json.specs.Data.{string};
 ghost use Rattle.serde_json.specs.Written.{compact_text};
 ghost use Rattle.canvas_message.specs.Content.{number_of};
 ghost use Rattle.std.specs.Str.{IsUtf8};
@@ -13,16 +10,12 @@ ghost use Rattle.canvas_message.specs.EnvelopeFaults.{Says};
 ghost use Rattle.canvas_message.specs.Pieces.{joined, body_text};
 ghost use Rattle.canvas_message.specs.Wire.{properties_wire, headers_wire, body_wire};
 
-use crate::room::headers_room;
 use crate::write::body::{Body, body_of};
 use crate::write::light::{put_headers, put_properties};
 use crate::write::text::ascii;
 use canvas_message::{Envelope, Message, Pieces};
 use canvas_task::{ListOf, Memory, TaskNo, task_text};
 use std::alloc::{AllocError, Global};
-
-/// The properties have 137 bytes.
-const PROPERTIES_ROOM: usize = 137;
 
 /// The bytes of a text, which are UTF-8.
 fn bytes_of(text: String) -> ListOf<u8>
@@ -32,48 +25,31 @@ fn bytes_of(text: String) -> ListOf<u8>
     ListOf::of(text.into_bytes())
 }
 
-fn properties_of(alloc: Global, id: &str) -> Result<ListOf<u8>, AllocError>
-    requires { escape id.now ≡ id.now }
-    ensures value { IfOk result
-        (λ text. text ≡ compact_text (properties_naming (string id.now))) }
-    ensures utf8 { IfOk result (λ text. IsUtf8 text) }
-{
-    let mut out = String::with_capacity(alloc, PROPERTIES_ROOM)?;
-    put_properties(&mut out, id)?;
-    Ok(bytes_of(out))
-}
-
-fn headers_of(alloc: Global, message: &Message, id: &str) -> Result<ListOf<u8>, AllocError>
-    requires { id.now ≡ task_text (number_of message.now.own) }
-    ensures value { IfOk result (λ text. text ≡ compact_text (headers_wire message.now)) }
-    ensures utf8 { IfOk result (λ text. IsUtf8 text) }
-{
-    let mut out = String::with_capacity(alloc, headers_room(message))?;
-    put_headers(alloc, &mut out, message, id)?;
-    Ok(bytes_of(out))
-}
-
 /// The three texts of a message with this identifier.
 fn texts_of(alloc: Global, message: &Message, id: &str) -> Result<Pieces, AllocError>
     requires { id.now ≡ task_text (number_of message.now.own) }
     ensures properties { IfOk result
-        (λ p. p.properties ≡ compact_text (properties_wire message.now)) }
-    ensures headers { IfOk result (λ p. p.headers ≡ compact_text (headers_wire message.now)) }
+        (λ p. (joined p).properties ≡ compact_text (properties_wire message.now)) }
+    ensures headers { IfOk result
+        (λ p. (joined p).headers ≡ compact_text (headers_wire message.now)) }
     ensures body { IfOk result (λ p. body_text p ≡ compact_text (body_wire message.now)) }
     ensures utf8 { IfOk result
-        (λ p. IsUtf8 p.properties × IsUtf8 p.headers × IsUtf8 (body_text p)) }
+        (λ p. IsUtf8 (joined p).properties × IsUtf8 (joined p).headers × IsUtf8 (body_text p)) }
 {
-    let properties = properties_of(alloc, id)?;
-    let headers = headers_of(alloc, message, id)?;
     let Body {
         front,
         shared,
         back,
     } = body_of(alloc, message)?;
+    let front_end = front.len();
+    let mut own = front;
+    put_properties(&mut own, id)?;
+    let properties_end = own.len();
+    put_headers(alloc, &mut own, message, id)?;
     Ok(Pieces {
-        properties,
-        headers,
-        front: bytes_of(front),
+        own: bytes_of(own),
+        front_end,
+        properties_end,
         shared,
         back: bytes_of(back),
     })
@@ -90,11 +66,12 @@ fn number(message: &Message) -> TaskNo
 /// The three texts of a message, of which a piece may be shared.
 pub(crate) fn pieces_of(alloc: Global, message: &Message) -> Result<Pieces, Memory>
     ensures properties { IfOk result
-        (λ p. p.properties ≡ compact_text (properties_wire message.now)) }
-    ensures headers { IfOk result (λ p. p.headers ≡ compact_text (headers_wire message.now)) }
+        (λ p. (joined p).properties ≡ compact_text (properties_wire message.now)) }
+    ensures headers { IfOk result
+        (λ p. (joined p).headers ≡ compact_text (headers_wire message.now)) }
     ensures body { IfOk result (λ p. body_text p ≡ compact_text (body_wire message.now)) }
     ensures reads_back { IfOk result
-        (λ p. Says p.properties p.headers (body_text p) message.now) }
+        (λ p. Says (joined p).properties (joined p).headers (body_text p) message.now) }
 {
     let id = task_text(number(message));
     Ok(texts_of(alloc, message, ascii(&id))?)

@@ -102,18 +102,21 @@ fn rest_room(rest: &Option<FrozenLine>) -> usize {
     }
 }
 
-/// Of headers that name a group and a parent: all but the task's name is as long in all of them.
-pub(crate) fn headers_room(message: &Message) -> usize {
-    message.name.get().len().saturating_add(216)
+/// Of properties, and of headers that name a group and a parent: all but the task's name is as long
+/// in all of them.
+fn head_room(message: &Message) -> usize {
+    message.name.get().len().saturating_add(353)
 }
 
-/// Of a body, but for what it shares and what follows. Where nothing goes with the call, what
-/// stands around its arguments has 69 bytes.
-pub(crate) fn body_room(message: &Message) -> usize {
+/// Of what a letter has for itself: its body, but for what that shares and what follows, and its
+/// properties and headers. Where nothing goes with the call, what stands around its arguments has
+/// 69 bytes.
+pub(crate) fn own_room(message: &Message) -> usize {
     tasks_room(message.links.get())
         .saturating_add(tasks_room(message.errbacks.get()))
         .saturating_add(arguments_room(message.args.get()))
         .saturating_add(message.kwargs.get().len().saturating_mul(24))
         .saturating_add(72)
+        .saturating_add(head_room(message))
         .min(MOST_ROOM)
 }

@@ -1,5 +1,5 @@
 -- An envelope whose body has a piece that is shared.
-use Rattle.std.specs.Prelude.{ℕ, List, [], ◌++◌, take, Option, Some, None, string_bytes}
+use Rattle.std.specs.Prelude.{ℕ, ◌-◌, List, [], ◌++◌, take, drop, Option, Some, None, string_bytes}
 use Rattle.canvas_message.specs.declared.envelope.Envelope.{Envelope}
 use Rattle.canvas_message.specs.declared.texts.Piece.{Piece}
 use Rattle.canvas_message.specs.declared.pieces.Pieces.{Pieces}
@@ -14,10 +14,15 @@ shared_text None = []
 shared_text (Some p) = piece_text p
 
 abbrev pub body_text : Pieces → List ℕ
-body_text p = p.front ++ (shared_text p.shared ++ p.back)
+body_text p = take p.front_end p.own ++ (shared_text p.shared ++ p.back)
 
 abbrev pub joined : Pieces → Envelope
-joined p = record { properties = p.properties; headers = p.headers; body = body_text p }
+joined p =
+    record {
+      properties = take (p.properties_end - p.front_end) (drop p.front_end p.own);
+      headers = drop p.properties_end p.own;
+      body = body_text p;
+    }
 
 abbrev pub envelope_seen : Sheets → Envelope
 envelope_seen (sheets.Whole e) = e

@@ -1,6 +1,6 @@
 //! The three texts of a message, the body of which may share a piece with others.
 
-ghost use Rattle.std.specs.Prelude.{◌≡◌, ◌++◌, IfOk, OnOk};
+ghost use Rattle.std.specs.Prelude.{◌≡◌, ◌++◌, IfOk, OnOk, take, drop};
 ghost use Rattle.canvas_message.specs.Pieces.{body_text, envelope_seen, joined, piece_text, shared_text};
 
 use crate::{Envelope, Piece};
@@ -8,19 +8,43 @@ use canvas_task::{ListOf, Memory};
 use std::alloc::{AllocError, Global};
 use std::sync::Arc;
 
-/// An envelope whose body is the front, then the shared piece, then the back.
+/// An envelope whose body is the front, then the shared piece, then the back. What isn't shared
+/// stands in one text as far as it can, which is one piece of memory.
 #[derive(Debug, Drop)]
 pub struct Pieces {
-    /// As in an envelope.
-    pub properties: ListOf<u8>,
-    /// As in an envelope.
-    pub headers: ListOf<u8>,
-    /// The body up to the piece, or all of it where nothing is shared.
-    pub front: ListOf<u8>,
+    /// The front of the body, then the properties, then the headers. Where nothing is shared the
+    /// front is all of the body.
+    pub own: ListOf<u8>,
+    /// Where the front ends, in bytes.
+    pub front_end: usize,
+    /// Where the properties end.
+    pub properties_end: usize,
     /// A text that several bodies hold.
     pub shared: Option<Piece>,
     /// The body from there on.
     pub back: ListOf<u8>,
+}
+
+/// The bytes before an index.
+fn up_to(bytes: &[u8], end: usize) -> &[u8]
+    ensures { result.now ≡ take end bytes.now }
+{
+    &bytes[..end.min(bytes.len())]
+}
+
+/// The bytes from an index on.
+fn behind(bytes: &[u8], start: usize) -> &[u8]
+    ensures { result.now ≡ drop start bytes.now }
+{
+    &bytes[start.min(bytes.len())..]
+}
+
+fn copy_bytes(alloc: Global, bytes: &[u8]) -> Result<ListOf<u8>, AllocError>
+    ensures { IfOk result (λ copy. copy ≡ bytes.now) }
+{
+    let mut copy = Vec::with_capacity(alloc, bytes.len())?;
+    copy.extend_from_slice(bytes)?;
+    Ok(ListOf::of(copy))
 }
 
 impl Piece {
@@ -28,8 +52,7 @@ impl Piece {
     fn bytes(&self) -> &[u8]
         ensures { result.now ≡ piece_text self.now }
     {
-        let bytes = self.text.as_bytes();
-        &bytes[..self.end.min(bytes.len())]
+        up_to(self.text.as_bytes(), self.end)
     }
 
     fn copy(&self) -> Result<Piece, AllocError>
@@ -73,7 +96,7 @@ impl Pieces {
     fn body(&self, alloc: Global) -> Result<Vec<u8>, AllocError>
         ensures { IfOk result (λ text. text.items ≡ body_text self.now) }
     {
-        let front = self.front.get();
+        let front = up_to(self.own.get(), self.front_end);
         let back = self.back.get();
         let room = front
             .len()
@@ -86,12 +109,20 @@ impl Pieces {
         Ok(body)
     }
 
-    /// The envelope, whose body is written once more.
+    /// The properties.
+    fn properties(&self) -> &[u8]
+        ensures { result.now ≡ (joined self.now).properties }
+    {
+        let length = self.properties_end.saturating_sub(self.front_end);
+        up_to(behind(self.own.get(), self.front_end), length)
+    }
+
+    /// The envelope, written once more.
     pub fn join(&self, alloc: Global) -> Result<Envelope, Memory>
         ensures { IfOk result (λ e. e ≡ joined self.now) }
     {
-        let properties = self.properties.clone()?;
-        let headers = self.headers.clone()?;
+        let properties = copy_bytes(alloc, self.properties())?;
+        let headers = copy_bytes(alloc, behind(self.own.get(), self.properties_end))?;
         let body = ListOf::of(self.body(alloc)?);
         Ok(Envelope {
             properties,
@@ -104,15 +135,13 @@ impl Pieces {
     fn copy(&self) -> Result<Pieces, Memory>
         ensures { IfOk result (λ p. joined p ≡ joined self.now) }
     {
-        let properties = self.properties.clone()?;
-        let headers = self.headers.clone()?;
-        let front = self.front.clone()?;
+        let own = self.own.clone()?;
         let shared = copy_piece(&self.shared)?;
         let back = self.back.clone()?;
         Ok(Pieces {
-            properties,
-            headers,
-            front,
+            own,
+            front_end: self.front_end,
+            properties_end: self.properties_end,
             shared,
             back,
         })

@@ -18,7 +18,7 @@ use super::frozen::write_tasks;
 use super::light::put_arguments;
 use super::line_text::line_text;
 use super::text::put;
-use crate::room::{body_room, tasks_room};
+use crate::room::{own_room, tasks_room};
 use canvas_message::{LineText, Message, Piece, Texts, following};
 use canvas_rewrite::{FrozenLine, FrozenTask, Place};
 use canvas_task::Arg;
@@ -212,7 +212,7 @@ pub(crate) fn body_of(alloc: Global, message: &Message) -> Result<Body, AllocErr
     ensures utf8 { IfOk result (λ b. IfSome b.shared (λ p. IsUtf8 (piece_text p))) }
 {
     let errbacks = message.errbacks.get();
-    let mut front = String::with_capacity(alloc, body_room(message))?;
+    let mut front = String::with_capacity(alloc, own_room(message))?;
     put_opening(
         alloc,
         &mut front,
