@@ -39,7 +39,8 @@ pub fn seal(alloc: Global, message: Message) -> Result<Letter, Memory>
     let mut message = message;
     write_rest(alloc, &mut message)?;
     let pieces = pieces_of(alloc, &message)?;
-    Letter::sealed(alloc, pieces, message)
+    let letter = Letter::sealed(alloc, pieces, message)?;
+    Ok(letter)
 }
 
 /// The message that is read from an envelope.
