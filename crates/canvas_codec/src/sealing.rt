@@ -9,7 +9,7 @@ ghost use Rattle.canvas_message.specs.Wire.{properties_wire, headers_wire, body_
 use crate::decode;
 use crate::encoding::pieces_of;
 use crate::write::line_text::line_text;
-use canvas_message::{Letter, Message, MessageFault, following};
+use canvas_message::{Envelope, Letter, Message, MessageFault, following};
 use canvas_task::Memory;
 use std::alloc::{AllocError, Global};
 
@@ -39,20 +39,36 @@ pub fn seal(alloc: Global, message: Message) -> Result<Letter, Memory>
     let mut message = message;
     write_rest(alloc, &mut message)?;
     let pieces = pieces_of(alloc, &message)?;
-    Ok(Letter::sealed(alloc, pieces, message))
+    let letter = Letter::sealed(alloc, pieces, message)?;
+    Ok(letter)
+}
+
+/// The message that is read from an envelope.
+fn read_whole(alloc: Global, envelope: &Envelope) -> Result<Box<Message>, MessageFault>
+    ensures ok { IfOk result (λ m. Says envelope.now.properties envelope.now.headers
+        envelope.now.body m.value) }
+    ensures err { IfErr result (λ e. e ≢ fault.Memory
+        → envelope_fault envelope.now.properties envelope.now.headers envelope.now.body
+        ≡ Some e) }
+{
+    let message = decode(alloc, envelope)?;
+    match Box::new(alloc, message) {
+        Ok(message) => Ok(message),
+        Err(_) => Err(MessageFault::Memory),
+    }
 }
 
 /// The message that is read from a letter's envelope.
-fn read(alloc: Global, letter: &Letter) -> Result<Message, MessageFault>
+fn read(alloc: Global, letter: &Letter) -> Result<Box<Message>, MessageFault>
     ensures ok { IfOk result
-        (λ m. Says letter.now.properties letter.now.headers letter.now.body m) }
+        (λ m. Says letter.now.properties letter.now.headers letter.now.body m.value) }
     ensures err { IfErr result (λ e. e ≢ fault.Memory
         → envelope_fault letter.now.properties letter.now.headers letter.now.body ≡ Some e) }
 {
     match letter.whole() {
-        Some(envelope) => decode(alloc, envelope),
+        Some(envelope) => read_whole(alloc, envelope),
         None => match letter.envelope(alloc) {
-            Ok(envelope) => decode(alloc, &envelope),
+            Ok(envelope) => read_whole(alloc, &envelope),
             Err(Memory) => Err(MessageFault::Memory),
         },
     }
@@ -60,9 +76,9 @@ fn read(alloc: Global, letter: &Letter) -> Result<Message, MessageFault>
 
 /// The message that a letter's envelope says, or the first refusal of it, as `decode` answers.
 /// Where memory is refused the letter can be opened once more.
-pub fn open(alloc: Global, letter: &mut Letter) -> Result<Message, MessageFault>
+pub fn open(alloc: Global, letter: &mut Letter) -> Result<Box<Message>, MessageFault>
     ensures ok { IfOk result
-        (λ m. Says letter.old.properties letter.old.headers letter.old.body m) }
+        (λ m. Says letter.old.properties letter.old.headers letter.old.body m.value) }
     ensures err { IfErr result (λ e. e ≢ fault.Memory
         → envelope_fault letter.old.properties letter.old.headers letter.old.body ≡ Some e) }
     ensures letter { letter.new ≡ letter.old }

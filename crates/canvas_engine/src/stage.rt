@@ -265,7 +265,7 @@ impl Stage {
 
     /// Has the envelope that a worker holds delivered again, where an entry for the point to which
     /// the worker has come is unspent. That entry is spent.
-    fn deliver_again(&mut self, index: usize) -> Result<(), Memory>
+    fn deliver_again(&mut self, alloc: Global, index: usize) -> Result<(), Memory>
         requires index { index < length self.old.cores.items }
         requires holds { (core : Standing) → slice_get self.old.cores.items index ≡ Some core
             → is_inside core.left ≡ true → IsSome (standing.held core) }
@@ -282,7 +282,7 @@ impl Stage {
             return Ok(());
         };
         let copy = match core.held() {
-            Some(envelope) => envelope.copy()?,
+            Some(envelope) => envelope.copy(alloc)?,
             None => unreachable!(),
         };
         match self.queue.publish(copy) {
@@ -333,7 +333,7 @@ impl Stage {
         if self.steps == 0 {
             return Err(Cause::Stopped);
         }
-        match self.deliver_again(index) {
+        match self.deliver_again(alloc, index) {
             Ok(()) => (),
             Err(Memory) => return Err(Cause::Memory),
         }

@@ -11,17 +11,14 @@ use std::alloc::Global;
 use std::fmt;
 use std::marker::Model;
 
-/// An envelope, whose body may share a piece with others, and that may still hold the message that
-/// it was sealed with, so that who opens it need not read what this process wrote. Contracts see
-/// the envelope alone: how it is held changes nothing but the time and the memory that it takes.
+/// What a letter holds: an envelope, and perhaps the message that it says.
 #[derive(Drop)]
-pub struct Letter {
+struct Held {
     sheets: Sheets,
-    // on the heap, so that a letter is little larger than its envelope
     message: Option<Box<Message>>,
 }
 
-impl Model for Letter {
+impl Model for Held {
     ghost use Rattle.std.specs.Prelude.{IfSome};
     ghost use Rattle.canvas_message.specs.EnvelopeFaults.{Says};
     ghost use Rattle.canvas_message.specs.Pieces.{envelope_seen};
@@ -29,41 +26,64 @@ impl Model for Letter {
 
     ghost Value = { Envelope };
 
-    ghost view = { λ l. envelope_seen l.sheets };
+    ghost view = { λ h. envelope_seen h.sheets };
 
-    ghost invariant = { λ l. IfSome l.message
-        (λ m. Says (envelope_seen l.sheets).properties (envelope_seen l.sheets).headers
-        (envelope_seen l.sheets).body m.value) };
+    ghost invariant = { λ h. IfSome h.message
+        (λ m. Says (envelope_seen h.sheets).properties (envelope_seen h.sheets).headers
+        (envelope_seen h.sheets).body m.value) };
+}
+
+/// An envelope, whose body may share a piece with others, and that may still hold the message that
+/// it was sealed with, so that who opens it need not read what this process wrote. Contracts see
+/// the envelope alone: how it is held changes nothing but the time and the memory that it takes.
+#[derive(Drop)]
+pub struct Letter {
+    // on the heap, since a letter is moved from hand to hand
+    held: Box<Held>,
+}
+
+impl Model for Letter {
+    ghost use Rattle.canvas_message.specs.declared.envelope.Envelope.{Envelope};
+
+    ghost Value = { Envelope };
+
+    ghost view = { λ l. l.held.value };
 }
 
 impl Letter {
     /// An envelope that comes from elsewhere: who opens it reads it.
-    pub fn new(envelope: Envelope) -> Letter
-        ensures { result ≡ envelope }
+    pub fn new(alloc: Global, envelope: Envelope) -> Result<Letter, Memory>
+        ensures { IfOk result (λ l. l ≡ envelope) }
     {
-        Letter {
+        let held = Held {
             sheets: Sheets::Whole(envelope),
             message: None,
-        }
+        };
+        Ok(Letter {
+            held: Box::new(alloc, held)?,
+        })
     }
 
     /// An envelope with the message that it says, where there is memory to keep it.
-    pub fn sealed(alloc: Global, pieces: Pieces, message: Message) -> Letter
+    pub fn sealed(alloc: Global, pieces: Pieces, message: Message) -> Result<Letter, Memory>
         requires says { Says (joined pieces).properties (joined pieces).headers
             (joined pieces).body message }
-        ensures { result ≡ joined pieces }
+        ensures { IfOk result (λ l. l ≡ joined pieces) }
     {
-        Letter {
+        let held = Held {
             sheets: Sheets::Pieced(pieces),
             message: Box::new(alloc, message).ok(),
-        }
+        };
+        Ok(Letter {
+            held: Box::new(alloc, held)?,
+        })
     }
 
     /// The envelope of a letter that came from elsewhere.
     pub fn whole(&self) -> Option<&Envelope>
         ensures { IfSome result (λ e. e.now ≡ self.now) }
     {
-        match &self.sheets {
+        match &self.held.sheets {
             Sheets::Whole(envelope) => Some(envelope),
             Sheets::Pieced(_) => None,
         }
@@ -73,35 +93,35 @@ impl Letter {
     pub fn envelope(&self, alloc: Global) -> Result<Envelope, Memory>
         ensures { IfOk result (λ e. e ≡ self.now) }
     {
-        self.sheets.envelope(alloc)
+        self.held.sheets.envelope(alloc)
     }
 
     /// The message that the letter held, if it held one: it holds none any more.
-    pub fn take_message(&mut self) -> Option<Message>
+    pub fn take_message(&mut self) -> Option<Box<Message>>
         ensures message { IfSome result
-            (λ m. Says self.old.properties self.old.headers self.old.body m) }
+            (λ m. Says self.old.properties self.old.headers self.old.body m.value) }
         ensures letter { self.new ≡ self.old }
     {
-        match self.message.take() {
-            Some(message) => Some(Box::into_inner(message)),
-            None => None,
-        }
+        self.held.message.take()
     }
 
     /// A letter of an equal envelope, as a broker delivers it a second time. It holds no message,
     /// and shares what this one shares.
-    pub fn copy(&self) -> Result<Letter, Memory>
+    pub fn copy(&self, alloc: Global) -> Result<Letter, Memory>
         ensures { IfOk result (λ l. l ≡ self.now) }
     {
-        Ok(Letter {
-            sheets: self.sheets.copy()?,
+        let held = Held {
+            sheets: self.held.sheets.copy()?,
             message: None,
+        };
+        Ok(Letter {
+            held: Box::new(alloc, held)?,
         })
     }
 }
 
 impl fmt::Debug for Letter {
     fn fmt<W: fmt::Write>(&self, f: &mut fmt::Formatter<W>) -> fmt::Result {
-        self.sheets.fmt(f)
+        self.held.sheets.fmt(f)
     }
 }

@@ -64,7 +64,7 @@ fn forged(alloc: Global, texts: &Texts, change: &Change) -> Option<Letter> {
     match envelope_of(alloc, texts, change, &mut is_changed) {
         Ok(envelope) => {
             if is_changed {
-                Some(Letter::new(envelope))
+                Letter::new(alloc, envelope).ok()
             } else {
                 None
             }

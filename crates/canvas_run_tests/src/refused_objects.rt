@@ -55,7 +55,7 @@ fn gives(taken: Option<Letter>, same: &Envelope) -> bool {
 }
 
 pub(crate) fn plain_queue(alloc: Global) -> Result<bool, Memory> {
-    let (sent, same) = (Letter::new(envelope(alloc)?), envelope(alloc)?);
+    let (sent, same) = (Letter::new(alloc, envelope(alloc)?)?, envelope(alloc)?);
     let mut broker = PlainBroker::new(alloc);
     Ok(publish_plain(&mut broker, sent, &same) && gives(broker.take(), &same) && broker.is_empty())
 }
@@ -124,7 +124,7 @@ fn trades<R: Wait>(
 }
 
 pub(crate) fn queue<R: Wait>(rt: &R, alloc: Global) -> Result<bool, Memory> {
-    let (sent, same) = (Letter::new(envelope(alloc)?), envelope(alloc)?);
+    let (sent, same) = (Letter::new(alloc, envelope(alloc)?)?, envelope(alloc)?);
     let (broker, mut pass) = Broker::new(alloc)?;
     trades(rt, &broker, &mut pass, sent, &same)
 }

@@ -16,11 +16,12 @@ fn numbered(alloc: Global, number: u64) -> Option<Letter> {
     let mut body = Vec::new(alloc);
     body.push((number % 256) as u8).ok()?;
     body.push((number / 256 % 256) as u8).ok()?;
-    Some(Letter::new(Envelope {
+    let envelope = Envelope {
         properties: ListOf::of(Vec::new(alloc)),
         headers: ListOf::of(Vec::new(alloc)),
         body: ListOf::of(body),
-    }))
+    };
+    Letter::new(alloc, envelope).ok()
 }
 
 fn number_of(letter: &Letter) -> u64 {

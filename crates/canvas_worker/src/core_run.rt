@@ -59,9 +59,14 @@ impl Model for Core {
 }
 
 /// The message of an envelope, unless it is one to drop.
-fn open<B: Book>(alloc: Global, book: &B, letter: &mut Letter) -> Result<Option<Message>, Memory>
-    ensures value { IfOk result (λ m. m ≡ opened (B.book book.now) letter.old) }
-    ensures message { IfOk result (λ m. IfSome m (λ c. said letter.old ≡ c)) }
+fn open<B: Book>(
+    alloc: Global,
+    book: &B,
+    letter: &mut Letter,
+) -> Result<Option<Box<Message>>, Memory>
+    ensures value { IfOk result
+        (λ m. option_map (λ b. b.value) m ≡ opened (B.book book.now) letter.old) }
+    ensures message { IfOk result (λ m. IfSome m (λ b. said letter.old ≡ b.value)) }
     ensures letter { letter.new ≡ letter.old }
 {
     match canvas_codec::open(alloc, letter) {

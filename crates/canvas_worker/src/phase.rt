@@ -136,16 +136,17 @@ impl Owned {
         alloc: Global,
         tasks: &T,
         envelope: Letter,
-        message: Message,
+        message: Box<Message>,
     ) -> Result<Owned, Memory>
-        requires { said envelope ≡ message }
+        requires { said envelope ≡ message.value }
         ensures envelope { IfOk result (λ o. o.envelope ≡ envelope) }
         ensures value { IfOk result
             (λ o. o.outcome ≡ outcome_of (T.behaviour tasks.now) (said envelope)) }
     {
         let task = message.task;
         let outcome = outcome_of(tasks, &message);
-        let script = script_of(alloc, into_todo(alloc, message, &outcome)?, Stored::First)?;
+        let todo = into_todo(alloc, Box::into_inner(message), &outcome)?;
+        let script = script_of(alloc, todo, Stored::First)?;
         Ok(Owned {
             envelope,
             task,

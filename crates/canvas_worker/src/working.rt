@@ -379,7 +379,7 @@ impl<'a, R: Wait> Working<'a, R> {
         ensures { IfOk result (λ e. held self.now.core ≡ Some e) }
     {
         match self.core.held() {
-            Some(envelope) => envelope.copy(),
+            Some(envelope) => envelope.copy(self.alloc),
             None => unreachable!(),
         }
     }
