@@ -7,6 +7,7 @@ pub mod NormalRuns
 pub mod GrowingLines
 pub mod CopiedLines
 pub mod NameLines
+pub mod NameTexts
 pub mod Members
 pub mod NodeLines
 pub mod Moved

@@ -1,3 +1,4 @@
 pub mod Kept
+pub mod NameTexts
 pub mod Growing
 pub mod Weight

@@ -10,6 +10,7 @@ mod groups;
 mod growing;
 mod line;
 mod moving;
+mod name_list;
 mod names;
 mod numbering;
 mod plan;

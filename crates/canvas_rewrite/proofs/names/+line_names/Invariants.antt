@@ -5,4 +5,4 @@ use Rattle.canvas_rewrite.proofs.names.+line_names.Given as goal
 
 abbrev pub invariant-push_lines-loop-line : goal.invariant-push_lines-loop-line
 invariant-push_lines-loop-line l =
-    l.found.items ++ lines_all_names (map line_in (drop l.line-index l.lines)) ≡ l.fn.found.items ++ lines_all_names (map line_in l.lines)
+    l.found ++ lines_all_names (map line_in (drop l.line-index l.lines)) ≡ l.fn.found ++ lines_all_names (map line_in l.lines)

@@ -5,4 +5,4 @@ use Rattle.canvas_rewrite.proofs.names.+task_names.Given as goal
 
 abbrev pub invariant-push_tasks-loop-task : goal.invariant-push_tasks-loop-task
 invariant-push_tasks-loop-task l =
-    l.found.items ++ tasks_all_names (map task_in (drop l.task-index l.tasks)) ≡ l.fn.found.items ++ tasks_all_names (map task_in l.tasks)
+    l.found ++ tasks_all_names (map task_in (drop l.task-index l.tasks)) ≡ l.fn.found ++ tasks_all_names (map task_in l.tasks)

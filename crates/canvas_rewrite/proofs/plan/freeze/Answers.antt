@@ -1,8 +1,6 @@
 use Rattle.std.proofs.Common.{◌≡◌, ap, sym, subst, IfOk}
 use Rattle.canvas_semantics.specs.Line.{Line, number_line, elements_of, tree_of}
-use Rattle.canvas_semantics.specs.Tree.{Tree, chain, numbered}
-use Rattle.canvas_rewrite.specs.LineView.{line_view}
-use Rattle.canvas_rewrite.specs.FrozenView.{line_of}
+use Rattle.canvas_semantics.specs.Tree.{chain, numbered}
 use Rattle.canvas_rewrite.specs.Runnable.{IsRunnable}
 use Rattle.canvas_rewrite.proofs.plan.freeze.Goals as goal
 

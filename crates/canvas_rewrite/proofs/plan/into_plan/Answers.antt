@@ -1,5 +1,5 @@
 use Rattle.std.proofs.Common.{◌≡◌, ◌∙◌, ◌<◌, ◌^◌, ◌++◌, All, length, ap, sym, subst, arith}
-use Rattle.canvas_semantics.specs.Line.{Line, count_line, line_groups, number_line, group_entries, ends_of, names, tree_of}
+use Rattle.canvas_semantics.specs.Line.{Line, count_line, line_groups, number_line, group_entries, ends_of, tree_of}
 use Rattle.canvas_semantics.specs.PlacedLine.{bare, strip}
 use Rattle.canvas_rewrite.specs.FrozenView.{line_of, line_in}
 use Rattle.canvas_rewrite.specs.Planned.{IsPlan}
@@ -46,7 +46,7 @@ invariant_of-result c =
       utf8 = subst IsUtf8Line (sym same) (line_numbered l 1 1 c.in_ok-frozen.ensures.utf8);
       counted = omega (arith, counted, c.in_ok-frozen.ensures.task);
       groups_counted = omega (arith, groups_counted, c.in_ok-frozen.ensures.group);
-      named = c.in_ok-push_names.ensures ∙ ap (λ ns. ns ++ names (line_in frozen)) c.in_ok-names.ensures.items;
+      named = c.in_ok-names_of.ensures;
       grouped = c.in_ok-of.ensures ∙ c.in_ok-push_groups.ensures ∙ ap (λ gs. gs ++ group_entries (line_in frozen)) c.in_ok-groups.ensures.items;
       ended = c.in_ok-push_ends.ensures ∙ ap (λ es. es ++ ends_of (line_in frozen)) c.new-ends.ensures.items;
       listed = c.is_in_group-list.ensures;

@@ -4,10 +4,6 @@ use Rattle.canvas_semantics.specs.Report.{names_by_number as named_tasks, counte
 use Rattle.canvas_rewrite.proofs.NamesInOrder.{plan_names}
 use Rattle.canvas_rewrite.proofs.plan.Plan.name.Goals as goal
 
-pub returns-in-Some-clause-in_order : goal.returns-in-Some-clause-in_order
-returns-in-Some-clause-in_order c =
-    subst (λ l. named_tasks (tree_of l) ≡ counted_from 1 (names l)) c.self.view_is (plan_names _ c.self.invariant.planned)
-
-pub returns-in-None-clause-in_order : goal.returns-in-None-clause-in_order
-returns-in-None-clause-in_order c =
+pub returns-clause-in_order : goal.returns-clause-in_order
+returns-clause-in_order c =
     subst (λ l. named_tasks (tree_of l) ≡ counted_from 1 (names l)) c.self.view_is (plan_names _ c.self.invariant.planned)
