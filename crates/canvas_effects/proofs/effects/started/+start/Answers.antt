@@ -31,8 +31,10 @@ start_end-returns-in-None t c =
 
 pub start_members-returns : goal.start_members-returns
 start_members-returns t c =
-    ok_same _ _ _ _ (ap (λ q. c.args.messages.now.items ++ all_started (map p_line_view c.args.members.now) (input_seen c.args.input.now) q c.args.parent.now)
-    (c.in_ok-shared.ensures ∙ c.in_ok-place.ensures)) c.start_each.ensures
+    let x = input_seen c.args.input.now in
+    let ls = map p_line_view c.args.members.now in
+    ok_same _ _ _ _ (ap (λ ms. ms ++ all_started ls x c.in_ok-shared.shared c.args.parent.now) c.reserve.ensures.items
+    ∙ ap (λ q. c.args.messages.now.items ++ all_started ls x q c.args.parent.now) (c.in_ok-shared.ensures ∙ c.in_ok-place.ensures)) c.start_each.ensures
 
 pub start_each-loop-line-init : goal.start_each-loop-line-init
 start_each-loop-line-init t c = (c.requires.lines, refl)
