@@ -9,9 +9,9 @@ use Rattle.canvas_engine.proofs.report.report_text.Goals as goal
 
 pub returns : goal.returns
 returns c =
-    whole c.args.plan.now (rows_from 1 c.args.report.now.rows) (gives_a_list c.ends.result) (end_tasks c.ends.result) _ _ _ _ _ c.new-text.ensures.bytes
+    whole c.args.plan.now (rows_from 1 c.args.report.now.rows) (gives_a_list c.ends.result) (end_tasks c.ends.result) _ _ _ _ _ c.in_ok-text.ensures.bytes
     (c.in_ok-push_rows.ensures
-    ∙ ap (λ rs. string_bytes c.new-text.result ++ report_lines (named (tree_of c.args.plan.now)) (rows_from 1 rs)) (c.deref.ensures.value ∙ c.get-rows.ensures))
+    ∙ ap (λ rs. string_bytes c.in_ok-text.text ++ report_lines (named (tree_of c.args.plan.now)) (rows_from 1 rs)) (c.deref.ensures.value ∙ c.get-rows.ensures))
     c.in_ok-push_str.ensures.bytes c.ends.ensures.tasks c.ends.ensures.list
     (c.in_ok-push_result.ensures
     ∙ ap (λ rs. string_bytes c.push_str.new.self ++ result_text (gives_a_list c.ends.result) (with_states (rows_from 1 rs) (end_tasks c.ends.result)))
