@@ -2,8 +2,8 @@
 use Rattle.std.proofs.Common.{◌≡◌, ◌≢◌, ◌==◌, ◌+◌, ℕ, zero, suc, List, [], ◌∷◌, slice_index, replicate, refl, Bool, true, false, IsTrue, cond, count_by, arith}
 use mathlib.Core.Logic.{dite}
 use native.Mathlib.Decide.{ℕ_discrete}
-use Rattle.canvas_backend.specs.Roster.{Roster, members, times, is_member, IsRoster}
-use Rattle.canvas_backend.proofs.HistoryLaws.{counted, stands}
+use Rattle.canvas_history.specs.Roster.{Roster, members, times, is_member, IsRoster}
+use Rattle.canvas_history.proofs.TableLaws.{counted, stands}
 
 module _ (plan : Roster) (ok : IsRoster plan) (f : ℕ → Bool) (g m : ℕ) (member : IsTrue (is_member plan g m)) (free : f m ≡ false) where
   pub count_here : count_by (λ x. cond (x == m) true (f x)) (members plan g) ≡ count_by f (members plan g) + 1

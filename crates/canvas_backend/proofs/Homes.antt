@@ -8,9 +8,9 @@ use Rattle.canvas_semantics.specs.Line.{Line, count_line, line_groups, GroupEntr
 use Rattle.canvas_rewrite.specs.Planned.{IsPlan}
 use Rattle.canvas_rewrite.proofs.InOrder.{entries_length}
 use Rattle.canvas_rewrite.proofs.Members.{plan_apart, member_known}
-use Rattle.canvas_backend.specs.Roster.{Roster, members, is_member, Apart, roster_of}
+use Rattle.canvas_history.specs.Roster.{Roster, members, is_member, Apart, roster_of}
 use Rattle.canvas_backend.specs.steps.Homes.{home_or, home_at, is_home, AreHomes, moved_in}
-use Rattle.canvas_backend.proofs.HistoryLaws.{stands}
+use Rattle.canvas_history.proofs.TableLaws.{stands}
 use Rattle.canvas_backend.proofs.Places.{placed_inside, placed_else}
 
 pub length_moved : (homes : List (Option ℕ)) (g : ℕ) (ts : List ℕ) → length (moved_in homes g ts) ≡ length homes

@@ -4,15 +4,12 @@
 
 mod backend;
 mod knowledge;
-mod laws;
 mod plain;
 mod roster;
 mod row;
 mod rule;
-mod stored;
 
 pub use backend::{Backend, BackendSeat};
-pub use laws::{all_first, first_may, no_more, reads_first, still_may};
+pub use canvas_history::{Stored, all_first, first_may, no_more, reads_first, still_may};
 pub use plain::PlainBackend;
 pub use roster::Roster;
-pub use stored::Stored;

@@ -9,7 +9,7 @@ use Rattle.canvas_history.specs.History.{calls, live_from, split_off, Allowed}
 use Rattle.canvas_history.proofs.Histories.{In}
 use Rattle.canvas_broker.specs.declared.item.Item.{Item}
 use Rattle.canvas_broker.specs.declared.item.Item.TheVariants.{Queued, Mark}
-use Rattle.canvas_broker.specs.Broker.{take, QueueEntry, answer_of, next, May, IsLegal, queue_of, takes_of}
+use Rattle.canvas_history.specs.Queue.{take, QueueEntry, answer_of, next, May, IsLegal, queue_of, takes_of}
 use Rattle.canvas_broker.specs.steps.Rule.{envelopes, IsReady, IsKept, Kept, knowledge, view_of, TakesAll}
 use Rattle.canvas_broker.specs.declared.view.View.{View}
 use Rattle.canvas_broker.proofs.Joins.{orderly_left}

@@ -3,7 +3,7 @@ use Rattle.std.proofs.Common.{◌≡◌, ℕ, false, List, [], ◌∷◌, ◌++�
 use Rattle.std.proofs.lemmas.Bool.{ne_eqb}
 use Rattle.canvas_history.specs.History.{split, join, calls, among, without, live_after, live_from, live, split_off, made_by, NoneBy, state_from, LegalFrom}
 use Rattle.canvas_history.proofs.Histories.{In, other_of, made_others, in_left, in_right, in_without, in_within, live_append}
-use Rattle.canvas_broker.specs.Broker.{QueueEntry, answer_of, next, May}
+use Rattle.canvas_history.specs.Queue.{QueueEntry, answer_of, next, May}
 use Rattle.canvas_broker.specs.steps.Rule.{Orderly}
 
 module _ {E : Type 0} where

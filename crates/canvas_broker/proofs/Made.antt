@@ -6,8 +6,8 @@ use Rattle.canvas_history.specs.History.{calls, made_by}
 use Rattle.canvas_history.proofs.CallerLaws.{AllBy, adds_all}
 use Rattle.canvas_history.proofs.Histories.{In, legal_right}
 use Rattle.canvas_broker.specs.declared.item.Item.TheVariants.{Mark}
-use Rattle.canvas_broker.specs.Broker.{take, QueueEntry, answer_of, next, May, IsLegal, queue_of, takes_of}
-use Rattle.canvas_broker.specs.Passes.{CallerAt, Stands, CouldStand, Took, Empties}
+use Rattle.canvas_history.specs.Queue.{take, QueueEntry, answer_of, next, May, IsLegal, queue_of, takes_of}
+use Rattle.canvas_history.specs.Passes.{CallerAt, Stands, CouldStand, Took, Empties}
 use Rattle.canvas_broker.specs.steps.Rule.{Splits, child, knowledge, view_of}
 use Rattle.canvas_broker.specs.declared.view.View.{View}
 

@@ -1,1 +1,2 @@
+pub mod PassKnowledge
 pub mod Rule

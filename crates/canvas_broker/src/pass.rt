@@ -18,13 +18,18 @@ pub struct BrokerPass {
 impl Model for BrokerPass {
     ghost use Rattle.std.specs.Prelude.{◌≡◌, None};
     ghost use Rattle.canvas_message.specs.declared.envelope.Envelope.{Envelope};
-    ghost use Rattle.canvas_broker.specs.Passes.{Pass, pass_of};
+    ghost use Rattle.canvas_history.specs.Passes.{Pass};
     ghost use Rattle.canvas_broker.specs.steps.Rule.{IsReady};
 
     ghost Value = { Pass Envelope };
 
-    ghost view = { λ p. pass_of (record { web = p.pass.web; heap = p.pass.heap })
-        p.pass.me.view.client.knows };
+    ghost view = { λ p. record {
+      of = p.pass.web;
+      name = p.pass.me.view.client.knows.name;
+      mine = p.pass.me.view.client.knows.mine;
+      seen = p.pass.me.view.client.knows.seen;
+      owed = p.pass.me.view.client.knows.owed;
+    } };
 
     ghost invariant = { λ p. (p.pass.me.hand ≡ None) × (p.pass.me.spare ≡ None)
         × IsReady p.pass.me.view.client };

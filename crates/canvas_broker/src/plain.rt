@@ -1,6 +1,6 @@
 //! The queue of envelopes, for one thread: what the shared broker's histories replay on.
 ghost use Rattle.std.specs.Prelude.{◌≡◌, [], ◌∷◌, ◌++◌, true, ◌↔◌, OnOk, MatchOption, MatchResult};
-ghost use Rattle.canvas_broker.specs.Broker.{publish, take, answer_of, next};
+ghost use Rattle.canvas_history.specs.Queue.{publish, take, answer_of, next};
 
 use crate::Refused;
 use canvas_message::Letter;

@@ -5,11 +5,11 @@ use Rattle.canvas_task.specs.declared.outcome.Outcome.{Outcome}
 use Rattle.canvas_history.specs.History.{Entry, calls, live, Sole}
 use Rattle.canvas_history.proofs.Histories.{live_append, state_append, legal_right}
 use Rattle.canvas_semantics.specs.Line.{Line}
-use Rattle.canvas_backend.specs.Backend.{TableCall, TableReply, no_results, reply_of, next_of, May, IsLegal, read, found, results}
-use Rattle.canvas_backend.specs.Roster.{Roster, roster_of}
+use Rattle.canvas_history.specs.Table.{TableCall, TableReply, no_results, reply_of, next_of, May, IsLegal, read, found, results}
+use Rattle.canvas_history.specs.Roster.{Roster, roster_of}
 use Rattle.canvas_runs.specs.Following.{Pass, Seat, Serves}
 use Rattle.canvas_runs.specs.Calls.{TableAnswered, backend_calls}
-use Rattle.canvas_runs.specs.Lists.{Each}
+use Rattle.canvas_history.specs.Lists.{Each}
 use Rattle.canvas_runs.specs.Run.{IsRead}
 use Rattle.canvas_callers.specs.Crew.{Ran, ReadsWhatIsHeld, first_seat}
 use Rattle.canvas_callers.proofs.Seats.{ledger}

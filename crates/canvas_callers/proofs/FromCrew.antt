@@ -7,22 +7,21 @@ use Rattle.canvas_history.proofs.Histories.{fresh_from}
 use Rattle.canvas_semantics.specs.Line.{Line}
 use Rattle.canvas_message.specs.Content.{Content}
 use Rattle.canvas_effects.specs.Effects.{first_messages}
-use Rattle.canvas_message.specs.Among.{In}
+use Rattle.canvas_history.specs.Lists.{In, by, total}
 use Rattle.canvas_message.specs.declared.envelope.Envelope.{Envelope}
-use Rattle.canvas_backend.specs.Backend.{Log, no_results, reply_of, next_of, May}
-use Rattle.canvas_backend.specs.Roster.{Roster, roster_of}
-use Rattle.canvas_broker.specs.Broker as broker
+use Rattle.canvas_history.specs.Table.{Log, no_results, reply_of, next_of, May}
+use Rattle.canvas_history.specs.Roster.{Roster, roster_of}
+use Rattle.canvas_history.specs.Queue as queue
 use Rattle.canvas_history.specs.Answers.{answered_calls, entries_by, splits_of, joins_of}
 use Rattle.canvas_runs.specs.Core.{IsCoreRun, taking, left_after, Between}
 use Rattle.canvas_runs.specs.Following.{Pass, Seat, Serves, IsDone}
 use Rattle.canvas_runs.specs.Calls.{QueueAnswered, TableAnswered, CoreCall, makes, FollowsScripts, scripts_all, scripts_publish, AskedAndAnswered, broker_calls, core_calls, backend_calls, takes_one}
-use Rattle.canvas_runs.specs.Lists.{by, total}
 use Rattle.canvas_runs.specs.Logs.{queue_calls}
 use Rattle.canvas_runs.specs.Run.{Run, Closed, published_all}
 use Rattle.canvas_runs.specs.Worker.{worker_of, sealed}
-use Rattle.canvas_runs.proofs.CallsOf.{calls_append, calls_splits, calls_joins, own_calls, own_both, queue_own, published_takes}
-use Rattle.canvas_runs.proofs.Sums.{total-append}
-use Rattle.canvas_runs.proofs.Words.{in_each, cond_cases}
+use Rattle.canvas_runs.proofs.Objects.CallsOf.{calls_append, calls_splits, calls_joins, own_calls, own_both, queue_own, published_takes}
+use Rattle.canvas_runs.proofs.Lists.Sums.{total-append}
+use Rattle.canvas_runs.proofs.Lists.Words.{in_each, cond_cases}
 use Rattle.canvas_callers.specs.Accounts.{HasQueueCalls, HasTableCalls, QueueAccounts, TableAccounts}
 use Rattle.canvas_callers.specs.Crew.{Mate, Ran, EndedWell, numbers_along as numbers, first_pass, first_seat}
 use Rattle.canvas_callers.proofs.Passes.{accounts}
@@ -53,18 +52,18 @@ module _ (behaviour : Behaviour) (l : Line) where
   core_at k (m ∷ ms) p = cond (eqb k p) m.followed.run (core_at (suc k) ms p)
 
   -- the number is a worker's
-  pub record Found (p : ℕ) (ms : List (Mate behaviour P)) (core : Course) (queue : List (broker.QueueEntry Envelope)) (table : Log) : Type 0 where
+  pub record Found (p : ℕ) (ms : List (Mate behaviour P)) (core : Course) (queue : List (queue.QueueEntry Envelope)) (table : Log) : Type 0 where
     mate : Mate behaviour P
     there : In mate ms
     is : core ≡ mate.followed.run
     calls : made_by p queue ≡ entries_by p mate.followed.made
     replies : made_by p table ≡ entries_by p (backend_calls mate.followed.run)
 
-  more_found : (p : ℕ) (m : Mate behaviour P) (ms : List (Mate behaviour P)) (core : Course) (queue : List (broker.QueueEntry Envelope)) (table : Log)
+  more_found : (p : ℕ) (m : Mate behaviour P) (ms : List (Mate behaviour P)) (core : Course) (queue : List (queue.QueueEntry Envelope)) (table : Log)
       → Found p ms core queue table → Found p (m ∷ ms) core queue table
   more_found p m ms core queue table f = record { mate = f.mate; there = inr f.there; is = f.is; calls = f.calls; replies = f.replies }
 
-  which : (k : ℕ) (ms : List (Mate behaviour P)) (queue : List (broker.QueueEntry Envelope)) (table : Log) → HasQueueCalls behaviour P k ms queue
+  which : (k : ℕ) (ms : List (Mate behaviour P)) (queue : List (queue.QueueEntry Envelope)) (table : Log) → HasQueueCalls behaviour P k ms queue
       → HasTableCalls behaviour P k ms table → (p : ℕ)
       → Found p ms (core_at k ms p) queue table ⊎ ((core_at k ms p ≡ []) × (among p (numbers k ms) ≡ false))
   which k [] queue table h r p = inr (refl, refl)
@@ -85,7 +84,7 @@ module _ (behaviour : Behaviour) (l : Line) where
       (cases_Bool (k == p))
 
   module _ (pass : Pass) (seat : Seat) (r : Ran behaviour l pass seat) where
-    abbrev pub the_queue : List (broker.QueueEntry Envelope)
+    abbrev pub the_queue : List (queue.QueueEntry Envelope)
     the_queue = pass.seen ++ pass.owed
 
     abbrev pub sent : List (QueueAnswered Envelope)
@@ -117,7 +116,7 @@ module _ (behaviour : Behaviour) (l : Line) where
     who p z =
         ⊎_elim (λ f. inl f) (λ (f : (core_at 1 r.mates p ≡ []) × (among p (numbers 1 r.mates) ≡ false)). inr (record {
           is = f.0;
-          calls = fresh_from [] broker.answer_of broker.next broker.May p [] the_queue passes.1.legal z (ap (λ ns. among p ns) passes.1.names ∙ f.1);
+          calls = fresh_from [] queue.answer_of queue.next queue.May p [] the_queue passes.1.legal z (ap (λ ns. among p ns) passes.1.names ∙ f.1);
           replies = fresh_from no_results (reply_of (roster_of l)) next_of (May (roster_of l)) p [] seat.seen seats.legal z
               (ap (λ ns. among p ns) seats.names ∙ f.1);
         })) (which 1 r.mates the_queue seat.seen passes.1.each seats.each p)

@@ -2,7 +2,7 @@
 use Rattle.std.proofs.Common.{◌≡◌, ◌∙◌, suc, List, [], ◌∷◌, length, map, refl, sym, ap, subst, arith}
 use Rattle.canvas_task.specs.Apply.{Behaviour}
 use Rattle.canvas_semantics.specs.Line.{Line}
-use Rattle.canvas_backend.specs.Roster.{Roster, roster_of}
+use Rattle.canvas_history.specs.Roster.{Roster, roster_of}
 use Rattle.canvas_runs.specs.Following.{Pass, Seat, starting}
 use Rattle.canvas_callers.specs.Crew.{PlanWorker, HasFollowed, Mate, SideBySide, MatesOf, Ran, Sides, SplitPasses, JoinPasses, SplitSeats, JoinSeats, first_pass, first_seat}
 

@@ -5,10 +5,10 @@ use Rattle.canvas_task.specs.Apply.{Behaviour}
 use Rattle.canvas_history.specs.History.{split, join, calls, by_of, live_from, live, split_off, made_by, NoneBy, Since, Sole}
 use Rattle.canvas_history.proofs.Histories.{StartsWith, In, in_cases, in_here, in_left, in_right, live_append, named_append, legal_right}
 use Rattle.canvas_history.proofs.Histories.{made_append, made_here, made_off, OnlyCalls, OthersCall, named_first, live_first, fresh_at, others_call}
-use Rattle.canvas_backend.specs.Roster.{Roster}
+use Rattle.canvas_history.specs.Roster.{Roster}
 use Rattle.canvas_message.specs.declared.envelope.Envelope.{Envelope}
-use Rattle.canvas_broker.specs.Broker.{QueueEntry as Entries, answer_of, next, May, IsLegal}
-use Rattle.canvas_broker.specs.Passes.{Stands, Parted, IsHistory}
+use Rattle.canvas_history.specs.Queue.{QueueEntry as Entries, answer_of, next, May, IsLegal}
+use Rattle.canvas_history.specs.Passes.{Stands, Parted, IsHistory}
 use Rattle.canvas_history.specs.Callers.{Owes}
 use Rattle.canvas_history.specs.Answers.{entries_by, splits_of, joins_of}
 use Rattle.canvas_runs.specs.Following.{Pass, Makes}

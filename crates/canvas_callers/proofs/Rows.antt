@@ -6,15 +6,15 @@ use Rattle.canvas_semantics.specs.Line.{Line, tree_of}
 use Rattle.canvas_rewrite.specs.Planned.{IsPlan}
 use Rattle.canvas_semantics.specs.States.{states, numbers_from}
 use Rattle.canvas_semantics.proofs.Numbered.{count_elements}
-use Rattle.canvas_backend.specs.Backend.{Results, results}
-use Rattle.canvas_backend.specs.Roster.{roster_of}
+use Rattle.canvas_history.specs.Table.{Results, results}
+use Rattle.canvas_history.specs.Roster.{roster_of}
 use Rattle.canvas_runs.specs.Following.{Pass, Seat}
-use Rattle.canvas_runs.specs.Lists.{Each}
+use Rattle.canvas_history.specs.Lists.{Each}
 use Rattle.canvas_callers.specs.Crew.{ReadsWhatIsHeld}
 use Rattle.canvas_callers.specs.Rows.{reads_from, RanTo, RanWell}
 use Rattle.canvas_semantics.specs.States.{EachMay}
-use Rattle.canvas_runs.proofs.FirstLaw.{first_part}
-use Rattle.canvas_runs.proofs.SecondLaw.{second_part}
+use Rattle.canvas_runs.proofs.Laws.FirstLaw.{first_part}
+use Rattle.canvas_runs.proofs.Laws.SecondLaw.{second_part}
 use Rattle.canvas_callers.proofs.Closing.{closing_held}
 use Rattle.canvas_callers.proofs.FromCrew.{the_run, the_closed}
 

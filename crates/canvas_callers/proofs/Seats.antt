@@ -5,11 +5,10 @@ use Rattle.canvas_task.specs.Apply.{Behaviour}
 use Rattle.canvas_history.specs.History.{Entry, split, join, calls, by_of, live_from, live, split_off, taken_in as joined_of, made_by, AllOthers}
 use Rattle.canvas_history.proofs.Histories.{StartsWith, In, in_cases, in_here, in_left, in_right, live_append, named_append, legal_right}
 use Rattle.canvas_history.proofs.Histories.{made_append, made_here, made_off, made_others, OnlyCalls, OthersCall, named_first, live_first, fresh_at, others_call}
-use Rattle.canvas_backend.specs.Backend.{Log, TableCall, TableReply, no_results, reply_of, next_of, May, IsLegal}
-use Rattle.canvas_backend.specs.Seats.{Stands, Parted, Joined}
-use Rattle.canvas_backend.specs.Roster.{Roster}
+use Rattle.canvas_history.specs.Table.{Log, TableCall, TableReply, no_results, reply_of, next_of, May, IsLegal}
+use Rattle.canvas_history.specs.Seats.{Stands, Parted, Joined, TableId}
+use Rattle.canvas_history.specs.Roster.{Roster}
 use Rattle.canvas_history.specs.Callers.{Caller}
-use Rattle.atomic_table.specs.Seated.{TableId}
 use Rattle.canvas_history.specs.Answers.{entries_by, splits_of, joins_of}
 use Rattle.canvas_runs.specs.Following.{Seat, Serves}
 use Rattle.canvas_runs.specs.Calls.{TableAnswered, backend_calls}

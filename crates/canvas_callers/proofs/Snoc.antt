@@ -2,9 +2,9 @@
 use Rattle.std.proofs.Common.{◌≡◌, ℕ, suc, ◌+◌, List, [], ◌∷◌, ◌++◌, length, refl, sym, ap, subst, arith}
 use Rattle.canvas_history.specs.History.{calls}
 use Rattle.canvas_semantics.specs.Evaluation.{State}
-use Rattle.canvas_backend.specs.Backend.{read, found}
-use Rattle.canvas_backend.specs.Seats as seats
-use Rattle.canvas_backend.specs.Roster.{Roster}
+use Rattle.canvas_history.specs.Table.{read, found}
+use Rattle.canvas_history.specs.Seats as seats
+use Rattle.canvas_history.specs.Roster.{Roster}
 use Rattle.canvas_runs.specs.Following.{Seat, Serves}
 use Rattle.canvas_runs.specs.Calls.{TableAnswered}
 use Rattle.canvas_callers.specs.Rows.{reads_from}

@@ -5,27 +5,27 @@ use Rattle.canvas_semantics.specs.Line.{Line}
 use Rattle.canvas_rewrite.specs.Planned.{IsPlan}
 use Rattle.canvas_message.specs.Content.{Content}
 use Rattle.canvas_message.specs.declared.envelope.Envelope.{Envelope}
-use Rattle.canvas_backend.specs.Roster.{Roster, roster_of}
-use Rattle.canvas_broker.specs.Broker.{QueueEntry as Entries}
+use Rattle.canvas_history.specs.Roster.{Roster, roster_of}
+use Rattle.canvas_history.specs.Queue.{QueueEntry as Entries}
 use Rattle.canvas_history.specs.Answers.{answered_calls}
-use Rattle.canvas_backend.specs.Backend as results
-use Rattle.canvas_broker.specs.Broker as broker
+use Rattle.canvas_history.specs.Table as table
+use Rattle.canvas_history.specs.Queue as queue
 use Rattle.canvas_runs.specs.Book.{book_on}
 use Rattle.canvas_runs.specs.Following.{Pass, Seat, IsDone, starting}
 use Rattle.canvas_runs.specs.Calls.{QueueAnswered, TableAnswered, broker_calls, backend_calls, takes_one}
-use Rattle.canvas_runs.specs.Lists.{Each, by, seconds, total}
+use Rattle.canvas_history.specs.Lists.{Each, by, seconds, total}
 use Rattle.canvas_runs.specs.Logs.{queue_calls}
 use Rattle.canvas_runs.specs.Run.{Run, IsRead, published_all}
 use Rattle.canvas_runs.specs.Tally.{Tally, CountsMore, CountsOf, EachCounts, is_lost, publishing, storing, returning, dropping}
 use Rattle.canvas_runs.specs.Worker.{opened, sealed}
-use Rattle.canvas_runs.proofs.Accords.{FollowsCore, follows_all, follows_publish, follows_list_take, follows_core_take, follows_again, accords_run}
-use Rattle.canvas_runs.proofs.CallsOf.{own_calls, queue_own, published_takes}
-use Rattle.canvas_runs.proofs.Facts.{X, form, Does, order, value}
-use Rattle.canvas_runs.proofs.FirstLaw.{inner_run}
-use Rattle.canvas_runs.proofs.Histories.{GoodPublish, GoodTake, follows_takes, queue_takes, each_by, each_seconds}
-use Rattle.canvas_runs.proofs.Right.{IsRunSealed, publishes_right}
-use Rattle.canvas_runs.proofs.Sums.{total-append}
-use Rattle.canvas_runs.proofs.Words.{each_right}
+use Rattle.canvas_runs.proofs.Objects.Accords.{FollowsCore, follows_all, follows_publish, follows_list_take, follows_core_take, follows_again, accords_run}
+use Rattle.canvas_runs.proofs.Objects.CallsOf.{own_calls, queue_own, published_takes}
+use Rattle.canvas_runs.proofs.Laws.Facts.{X, form, Does, order, value}
+use Rattle.canvas_runs.proofs.Laws.FirstLaw.{inner_run}
+use Rattle.canvas_runs.proofs.Objects.Histories.{GoodPublish, GoodTake, follows_takes, queue_takes, each_by, each_seconds}
+use Rattle.canvas_runs.proofs.Runs.Right.{IsRunSealed, publishes_right}
+use Rattle.canvas_runs.proofs.Lists.Sums.{total-append}
+use Rattle.canvas_runs.proofs.Lists.Words.{each_right}
 use Rattle.canvas_callers.specs.Accounts.{HasQueueCalls, HasTableCalls}
 use Rattle.canvas_callers.specs.Crew.{PlanWorker, HasFollowed, Mate, Ran, EndedWell, OwnTally}
 use Rattle.canvas_callers.proofs.FromCrew.{the_run, the_queue, sent as opening_calls, passes, seats, queue_zero, table_zero}
@@ -40,7 +40,7 @@ module _ (behaviour : Behaviour) (plan : Roster) where
   none_dropped : (cs : List (QueueAnswered Envelope)) → Each (GoodTake Opens) cs → total (dropping plan) cs ≡ 0
   unfolding Opens
   none_dropped [] g = refl
-  none_dropped ((broker.take, Some e) ∷ cs) g = let more = none_dropped cs g.1 in let here = g.0 in omega (arith, here, more)
+  none_dropped ((queue.take, Some e) ∷ cs) g = let more = none_dropped cs g.1 in let here = g.0 in omega (arith, here, more)
   none_dropped (c ∷ cs) g = let more = none_dropped cs g.1 in omega (arith, more)
 
 follows_publishing : {ts : List Envelope} {cs ls : List (QueueAnswered Envelope)} → FollowsCore ts cs ls → total publishing ls ≡ total publishing cs
@@ -66,7 +66,7 @@ mapped (c ∷ cs) = ap suc (mapped cs)
 
 only_reads : (cs : List TableAnswered) → Each IsRead cs → (total storing cs ≡ 0) × (total returning cs ≡ 0)
 only_reads [] i = (refl, refl)
-only_reads ((results.read t, results.found x) ∷ cs) i = let k = only_reads cs i.1 in (omega (arith, k.0), omega (arith, k.1))
+only_reads ((table.read t, table.found x) ∷ cs) i = let k = only_reads cs i.1 in (omega (arith, k.0), omega (arith, k.1))
 only_reads (c ∷ cs) i = absurd i.0
 
 -- ---- a worker that was followed from its beginning
@@ -85,7 +85,7 @@ module _ (behaviour : Behaviour) (plan : Roster) (p : Pass) (s : Seat) (w : Plan
     where
       weaker : (cs : List (QueueAnswered Envelope)) → Each (GoodTake P) cs → Each (GoodTake (Opens behaviour plan)) cs
       weaker [] g = tt
-      weaker ((broker.take, Some e) ∷ cs) g = (opens e g.0, weaker cs g.1)
+      weaker ((queue.take, Some e) ∷ cs) g = (opens e g.0, weaker cs g.1)
       weaker (c ∷ cs) g = (tt, weaker cs g.1)
 
 module _ (behaviour : Behaviour) (l : Line) (plan : IsPlan l) (pass : Pass) (seat : Seat) (r : Ran behaviour l pass seat)
@@ -93,8 +93,8 @@ module _ (behaviour : Behaviour) (l : Line) (plan : IsPlan l) (pass : Pass) (sea
   abbrev P : Roster
   P = roster_of l
 
-  abbrev queue : List (Entries Envelope)
-  queue = the_queue behaviour l pass seat r
+  abbrev queued : List (Entries Envelope)
+  queued = the_queue behaviour l pass seat r
 
   abbrev its_run : Run behaviour l
   its_run = the_run behaviour l pass seat r
@@ -107,26 +107,26 @@ module _ (behaviour : Behaviour) (l : Line) (plan : IsPlan l) (pass : Pass) (sea
   unfolding Opens
   good_opens e g = ap is_lost (ap (opened (book_on P)) g.1 ∙ (order behaviour l plan).opened g.0 g.3 g.2)
 
-  good_by : (p : ℕ) → Each (GoodTake Good) (by p (queue_calls queue))
+  good_by : (p : ℕ) → Each (GoodTake Good) (by p (queue_calls queued))
   good_by p =
-      each_by (GoodTake Good) p (queue_calls queue) (queue_takes Good [] [] (seconds (queue_calls queue)) (inner_run behaviour l plan its_run).queue tt tt
-      (each_seconds (GoodPublish Good) (queue_calls queue)
+      each_by (GoodTake Good) p (queue_calls queued) (queue_takes Good [] [] (seconds (queue_calls queued)) (inner_run behaviour l plan its_run).queue tt tt
+      (each_seconds (GoodPublish Good) (queue_calls queued)
       (publishes_right (X behaviour l plan) (form behaviour l plan) (Does behaviour l plan) (order behaviour l plan) (value behaviour l plan)
       (inner_run behaviour l plan its_run))))
 
-  mates_count : (k : ℕ) (ms : List (Mate behaviour P)) → HasQueueCalls behaviour P k ms queue → HasTableCalls behaviour P k ms seat.seen
-      → Each (λ (m : Mate behaviour P). IsDone m.ended) ms → EachCounts queue seat.seen k (map (λ (m : Mate behaviour P). m.ended.tally) ms)
+  mates_count : (k : ℕ) (ms : List (Mate behaviour P)) → HasQueueCalls behaviour P k ms queued → HasTableCalls behaviour P k ms seat.seen
+      → Each (λ (m : Mate behaviour P). IsDone m.ended) ms → EachCounts queued seat.seen k (map (λ (m : Mate behaviour P). m.ended.tally) ms)
   mates_count k [] h t d = tt
   mates_count k (m ∷ ms) h t d =
       let f = m.followed in
-      let calls : by k (queue_calls queue) ≡ f.made = queue_own k queue f.made f.follows (own_calls k queue [] f.made refl h.0) in
+      let calls : by k (queue_calls queued) ≡ f.made = queue_own k queued f.made f.follows (own_calls k queued [] f.made refl h.0) in
       let replies : by k (answered_calls seat.seen) ≡ backend_calls f.run = own_calls k seat.seen [] (backend_calls f.run) refl t.0 in
       let c = f.counts in
       let lost = taken_kept behaviour P m.pass m.seat m.ended f d.0.1 Good good_opens (subst (λ cs. Each (GoodTake Good) cs) calls (good_by k)) in (
         (
-          same_count (total takes_one (broker_calls f.run)) (total takes_one (by k (queue_calls queue))) m.ended.tally.taken c.taken
+          same_count (total takes_one (broker_calls f.run)) (total takes_one (by k (queue_calls queued))) m.ended.tally.taken c.taken
               (sym (ap (λ x. total takes_one x) calls ∙ made_taken behaviour P m.pass m.seat m.ended f d.0.1)),
-          same_count (total publishing (broker_calls f.run)) (total publishing (by k (queue_calls queue))) m.ended.tally.published c.published
+          same_count (total publishing (broker_calls f.run)) (total publishing (by k (queue_calls queued))) m.ended.tally.published c.published
               (sym (ap (λ x. total publishing x) calls ∙ made_published behaviour P m.pass m.seat m.ended f d.0.1)),
           same_count (total storing (backend_calls f.run)) (total storing (by k (answered_calls seat.seen))) m.ended.tally.first c.first
               (sym (ap (λ x. total storing x) replies)),
@@ -140,7 +140,7 @@ module _ (behaviour : Behaviour) (l : Line) (plan : IsPlan l) (pass : Pass) (sea
   more_sent : (n k a t : ℕ) → CountsMore 0 k a → CountsMore n a t → CountsMore 0 (n + k) t
   more_sent n k a t e f = omega (arith, e, f)
 
-  own_counts : (t : Tally) → OwnTally behaviour l pass seat r t → CountsOf queue seat.seen 0 t
+  own_counts : (t : Tally) → OwnTally behaviour l pass seat r t → CountsOf queued seat.seen 0 t
   own_counts t o =
       let f = r.works in
       let c = f.counts in
@@ -150,10 +150,10 @@ module _ (behaviour : Behaviour) (l : Line) (plan : IsPlan l) (pass : Pass) (sea
       let none = published_takes (map sealed r.opening) in
       let sends = publishing_all (map sealed r.opening) ∙ mapped r.opening in
       let reads = only_reads r.closing r.closes in
-      let all_taken : total takes_one (by 0 (queue_calls queue)) ≡ total takes_one (broker_calls f.run) =
+      let all_taken : total takes_one (by 0 (queue_calls queued)) ≡ total takes_one (broker_calls f.run) =
       ap (λ x. total takes_one x) calls
       ∙ (total-append takes_one before f.made ∙ (let k = made_taken behaviour P r.pass_joined r.seat_joined r.own f w.own.1 in omega (arith, k, none))) in
-      let all_sent : total publishing (by 0 (queue_calls queue)) ≡ length r.opening + total publishing (broker_calls f.run) =
+      let all_sent : total publishing (by 0 (queue_calls queued)) ≡ length r.opening + total publishing (broker_calls f.run) =
       ap (λ x. total publishing x) calls
       ∙ (total-append publishing before f.made ∙ (let k = made_published behaviour P r.pass_joined r.seat_joined r.own f w.own.1 in
       omega (arith, k, sends))) in
@@ -165,9 +165,9 @@ module _ (behaviour : Behaviour) (l : Line) (plan : IsPlan l) (pass : Pass) (sea
       ∙ (total-append returning (backend_calls f.run) r.closing ∙ (let z = reads.1 in omega (arith, z))) in
       let lost = taken_kept behaviour P r.pass_joined r.seat_joined r.own f w.own.1 Good good_opens
       (each_right (GoodTake Good) before f.made (subst (λ cs. Each (GoodTake Good) cs) calls (good_by 0))) in (
-        subst (λ n. CountsMore 0 (total takes_one (by 0 (queue_calls queue))) n) (sym o.0)
-            (same_count (total takes_one (broker_calls f.run)) (total takes_one (by 0 (queue_calls queue))) r.own.tally.taken c.taken (sym all_taken)),
-        same_count (length r.opening + total publishing (broker_calls f.run)) (total publishing (by 0 (queue_calls queue))) t.published
+        subst (λ n. CountsMore 0 (total takes_one (by 0 (queue_calls queued))) n) (sym o.0)
+            (same_count (total takes_one (broker_calls f.run)) (total takes_one (by 0 (queue_calls queued))) r.own.tally.taken c.taken (sym all_taken)),
+        same_count (length r.opening + total publishing (broker_calls f.run)) (total publishing (by 0 (queue_calls queued))) t.published
             (more_sent (length r.opening) (total publishing (broker_calls f.run)) r.own.tally.published t.published c.published o.1) (sym all_sent),
         subst (λ n. CountsMore 0 (total storing (by 0 (answered_calls seat.seen))) n) (sym o.2)
             (same_count (total storing (backend_calls f.run)) (total storing (by 0 (answered_calls seat.seen))) r.own.tally.first c.first (sym all_first)),
@@ -177,5 +177,5 @@ module _ (behaviour : Behaviour) (l : Line) (plan : IsPlan l) (pass : Pass) (sea
       )
 
   pub tallies_count : (own : Tally) → OwnTally behaviour l pass seat r own
-      → EachCounts queue seat.seen 0 (own ∷ map (λ (m : Mate behaviour P). m.ended.tally) r.mates)
+      → EachCounts queued seat.seen 0 (own ∷ map (λ (m : Mate behaviour P). m.ended.tally) r.mates)
   tallies_count own o = (own_counts own o, mates_count 1 r.mates (passes behaviour l pass seat r).1.each (seats behaviour l pass seat r).each w.each)

@@ -1,12 +1,11 @@
 -- A run that ended well: an empty group's plan, by one worker.
 use Rattle.std.proofs.Common.{false, [], ◌∷◌, None, refl, inl}
-use Rattle.std.specs.Global.{Global}
 use Rattle.canvas_task.specs.Apply.{Behaviour}
-use Rattle.crossbeam_queue.specs.SegTies.{SegId}
-use Rattle.atomic_table.specs.Seated.{TableId}
+use Rattle.canvas_history.specs.Passes.{QueueId}
+use Rattle.canvas_history.specs.Seats.{TableId}
 use Rattle.canvas_history.specs.History.{split, join}
-use Rattle.canvas_backend.specs.Roster.{Roster, roster_of}
-use Rattle.canvas_broker.specs.Broker.{take}
+use Rattle.canvas_history.specs.Roster.{Roster, roster_of}
+use Rattle.canvas_history.specs.Queue.{take}
 use Rattle.canvas_runs.specs.Core.{to_queue, rest, from_queue, rested, over}
 use Rattle.canvas_runs.specs.Following.{Pass, Seat}
 use Rattle.canvas_runs.specs.Calls.{scripts_all}
@@ -14,7 +13,7 @@ use Rattle.canvas_runs.specs.Tally.{none_yet}
 use Rattle.canvas_callers.specs.Crew.{PlanWorker, Mate, Ran, EndedWell}
 use Rattle.canvas_callers.specs.Rows.{empty_group}
 
-module _ (behaviour : Behaviour) (b : SegId Global) (d : TableId) where
+module _ (behaviour : Behaviour) (b : QueueId) (d : TableId) where
   abbrev P : Roster
   P = roster_of empty_group
 

@@ -6,20 +6,20 @@ use Rattle.canvas_task.specs.Apply.{Behaviour}
 use Rattle.canvas_history.specs.Answers.{entries_by, joins_of, splits_of}
 use Rattle.canvas_history.specs.History.{split_off, made_by, Sole}
 use Rattle.canvas_message.specs.declared.envelope.Envelope.{Envelope}
-use Rattle.canvas_backend.specs.Backend as backend
-use Rattle.canvas_backend.specs.Roster.{Roster}
-use Rattle.canvas_broker.specs.Broker as broker
+use Rattle.canvas_history.specs.Table as table
+use Rattle.canvas_history.specs.Roster.{Roster}
+use Rattle.canvas_history.specs.Queue as queue
 use Rattle.canvas_runs.specs.Calls.{QueueAnswered, TableAnswered, backend_calls}
 use Rattle.canvas_callers.specs.Crew.{Mate, numbers_along}
 
 module _ (behaviour : Behaviour) (plan : Roster) where
-  abbrev pub HasQueueCalls : ℕ → List (Mate behaviour plan) → List (broker.QueueEntry Envelope)
+  abbrev pub HasQueueCalls : ℕ → List (Mate behaviour plan) → List (queue.QueueEntry Envelope)
       → Type 0
   HasQueueCalls k [] log = Unit
   HasQueueCalls k (m ∷ ms) log =
       (made_by k log ≡ entries_by k m.followed.made) × HasQueueCalls (suc k) ms log
 
-  abbrev pub HasTableCalls : ℕ → List (Mate behaviour plan) → backend.Log → Type 0
+  abbrev pub HasTableCalls : ℕ → List (Mate behaviour plan) → table.Log → Type 0
   HasTableCalls k [] log = Unit
   HasTableCalls k (m ∷ ms) log =
       (made_by k log ≡ entries_by k (backend_calls m.followed.run))
@@ -27,9 +27,9 @@ module _ (behaviour : Behaviour) (plan : Roster) where
 
   -- of the broker: what worker 0 called before and after it took in the workers
   pub record QueueAccounts (mates : List (Mate behaviour plan))
-      (first last : List (QueueAnswered Envelope)) (log : List (broker.QueueEntry Envelope)) :
+      (first last : List (QueueAnswered Envelope)) (log : List (queue.QueueEntry Envelope)) :
       Type 0 where
-    pub legal : broker.IsLegal log
+    pub legal : queue.IsLegal log
     pub own : made_by 0 log
         ≡ (splits_of (numbers_along 1 mates) ++ entries_by 0 first)
         ++ (joins_of (numbers_along 1 mates) ++ entries_by 0 last)
@@ -39,8 +39,8 @@ module _ (behaviour : Behaviour) (plan : Roster) where
 
   -- of the backend, where worker 0 calls after it took in the workers
   pub record TableAccounts (mates : List (Mate behaviour plan)) (last : List TableAnswered)
-      (log : backend.Log) : Type 0 where
-    pub legal : backend.IsLegal plan log
+      (log : table.Log) : Type 0 where
+    pub legal : table.IsLegal plan log
     pub own : made_by 0 log
         ≡ (splits_of (numbers_along 1 mates) ++ joins_of (numbers_along 1 mates))
         ++ entries_by 0 last

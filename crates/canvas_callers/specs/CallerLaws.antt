@@ -8,15 +8,15 @@ use Rattle.canvas_rewrite.specs.Planned.{IsPlan}
 use Rattle.canvas_semantics.specs.NormalLine.{normal}
 use Rattle.canvas_semantics.specs.Tree.{Tree, IsFull, numbered}
 use Rattle.canvas_message.specs.declared.envelope.Envelope.{Envelope}
-use Rattle.canvas_backend.specs.Backend.{results}
-use Rattle.canvas_backend.specs.Roster.{roster_of}
-use Rattle.canvas_broker.specs.Broker.{QueueEntry as Entries}
+use Rattle.canvas_history.specs.Table.{results}
+use Rattle.canvas_history.specs.Roster.{roster_of}
+use Rattle.canvas_history.specs.Queue.{QueueEntry as Entries}
 use Rattle.canvas_history.specs.Callers.{told}
 use Rattle.canvas_runs.specs.Causes.{ByCause, ByItsCause, completions}
 use Rattle.canvas_runs.specs.Following.{Pass, Seat}
 use Rattle.canvas_runs.specs.Calls.{backend_calls}
 use Rattle.canvas_runs.specs.Law.{its_state, publications}
-use Rattle.canvas_runs.specs.Lists.{Each}
+use Rattle.canvas_history.specs.Lists.{Each}
 use Rattle.canvas_runs.specs.Run.{Run, Closed, published_all}
 use Rattle.canvas_runs.specs.Worker.{sealed}
 use Rattle.canvas_callers.specs.Accounts.{QueueAccounts, TableAccounts}

@@ -1,15 +1,14 @@
 -- What a run on threads can say of its rows: worker 0 read each task once at the end.
 use Rattle.std.specs.Prelude.{ℕ, suc, ◌≡◌, List, [], ◌∷◌, length, map}
 use Rattle.canvas_semantics.specs.Evaluation.{State}
-use Rattle.std.specs.Global.{Global}
 use Rattle.canvas_task.specs.Apply.{Behaviour}
-use Rattle.crossbeam_queue.specs.SegTies.{SegId}
-use Rattle.atomic_table.specs.Seated.{TableId}
+use Rattle.canvas_history.specs.Passes.{QueueId}
+use Rattle.canvas_history.specs.Seats.{TableId}
 use Rattle.canvas_semantics.specs.Line.{Line, group_end, no_lines, count_line, tree_of}
 use Rattle.canvas_semantics.specs.States.{states, EachMay}
 use Rattle.canvas_rewrite.specs.Planned.{IsPlan}
-use Rattle.canvas_backend.specs.Backend.{read, found}
-use Rattle.canvas_backend.specs.Roster.{roster_of}
+use Rattle.canvas_history.specs.Table.{read, found}
+use Rattle.canvas_history.specs.Roster.{roster_of}
 use Rattle.canvas_runs.specs.Following.{Pass, Seat}
 use Rattle.canvas_runs.specs.Calls.{TableAnswered}
 use Rattle.canvas_runs.specs.Tally.{Tally, EachCounts}
@@ -61,6 +60,6 @@ empty_group = group_end 1 no_lines
 
 abbrev pub ARunStands : Type 0
 ARunStands =
-    (behaviour : Behaviour) (b : SegId Global) (d : TableId)
+    (behaviour : Behaviour) (b : QueueId) (d : TableId)
     → (pass : Pass) × (seat : Seat) × (r : Ran behaviour empty_group pass seat)
     × EndedWell behaviour empty_group pass seat r

@@ -28,8 +28,8 @@ use Rattle.canvas_broker.specs.contracts.pass.BrokerPass as BrokerPass
 use Rattle.canvas_worker.specs.contracts.in_flight.InFlight as InFlight
 use Rattle.canvas_worker.specs.contracts.record.Record as Record
 use Rattle.canvas_worker.specs.contracts.stop.Stop as Stop
-use Rattle.canvas_engine.specs.contracts.slot.Post as Post
-use Rattle.canvas_engine.specs.contracts.slot.Slot as Slot
+use Rattle.canvas_engine.specs.contracts.threads.slot.Post as Post
+use Rattle.canvas_engine.specs.contracts.threads.slot.Slot as Slot
 
 ruleset plain = (list_send, list_sync, group_send, group_sync, task_send, task_sync, sendable, crosses)
 

@@ -16,7 +16,7 @@ use Rattle.canvas_message.specs.declared.fault.MessageFault.TheVariants.{NotJson
 use Rattle.canvas_task.specs.Text.{Text}
 use Rattle.canvas_runs.specs.Book.{Book, message_known}
 use Rattle.canvas_runs.specs.Worker.{known_one, read_envelope, opened}
-use Rattle.canvas_runs.proofs.Readings.{reading_says}
+use Rattle.canvas_runs.proofs.Envelopes.Readings.{reading_says}
 use Rattle.canvas_engine.specs.Headline.{task_in}
 
 -- what the book knows was read

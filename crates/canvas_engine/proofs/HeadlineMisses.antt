@@ -9,17 +9,16 @@ use Rattle.canvas_semantics.specs.Bodies.{starts, bodies}
 use Rattle.canvas_semantics.specs.Evaluation.{State}
 use Rattle.canvas_semantics.specs.Line.{Line, count_line}
 use Rattle.canvas_semantics.specs.States.{numbers_from}
-use Rattle.canvas_message.specs.Among.{In}
+use Rattle.canvas_history.specs.Lists.{In, total}
 use Rattle.canvas_message.specs.declared.envelope.Envelope.{Envelope}
-use Rattle.canvas_backend.specs.Backend.{part, count, results}
-use Rattle.canvas_backend.specs.Roster.{roster_of}
-use Rattle.canvas_broker.specs.Broker.{publish, queue_of}
+use Rattle.canvas_history.specs.Table.{part, count, results}
+use Rattle.canvas_history.specs.Roster.{roster_of}
+use Rattle.canvas_history.specs.Queue.{publish, queue_of}
 use Rattle.canvas_runs.specs.Calls.{TableAnswered}
 use Rattle.canvas_runs.specs.Courses.{Course, published_in}
-use Rattle.canvas_runs.specs.Lists.{total}
-use Rattle.canvas_runs.proofs.Sums.{total-append}
+use Rattle.canvas_runs.proofs.Lists.Sums.{total-append}
 use Rattle.canvas_engine.specs.Headline.{of_task, task_in, Headline}
-use Rattle.canvas_engine.specs.declared.records.Records.{Records}
+use Rattle.canvas_engine.specs.declared.threads.records.Records.{Records}
 
 absent : (f : ℕ → State) → ((k : ℕ) → f k ≡ None) → (ks : List ℕ) (o : Outcome) → In (Some o) (map f ks) → ⊥
 absent f none [] o i = elim i [ ]

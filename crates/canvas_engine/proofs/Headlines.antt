@@ -11,29 +11,28 @@ use Rattle.canvas_semantics.specs.Line.{Line, count_line, tree_of}
 use Rattle.canvas_semantics.specs.States.{numbers_from}
 use Rattle.canvas_semantics.proofs.Numbered.{count_elements}
 use Rattle.canvas_rewrite.specs.Planned.{IsPlan}
-use Rattle.canvas_message.specs.Among.{In}
+use Rattle.canvas_history.specs.Lists.{In, by}
 use Rattle.canvas_message.specs.Content.{Content, number_of}
 use Rattle.canvas_message.specs.declared.envelope.Envelope.{Envelope}
 use Rattle.canvas_effects.specs.Events.{start}
-use Rattle.canvas_backend.specs.Backend.{results}
-use Rattle.canvas_backend.specs.Roster.{roster_of}
-use Rattle.canvas_broker.specs.Broker.{QueueEntry, publish, take, redeliver, queue_of}
+use Rattle.canvas_history.specs.Table.{results}
+use Rattle.canvas_history.specs.Roster.{roster_of}
+use Rattle.canvas_history.specs.Queue.{QueueEntry, publish, take, redeliver, queue_of}
 use Rattle.canvas_runs.specs.Book.{book_of}
 use Rattle.canvas_runs.specs.Courses.{Course, sent_in, published_in}
 use Rattle.canvas_runs.specs.Law as law
 use Rattle.canvas_runs.specs.Law.{SecondPart}
-use Rattle.canvas_runs.specs.Lists.{by}
 use Rattle.canvas_runs.specs.Worker.{opened}
-use Rattle.canvas_runs.proofs.Bodies.{start_sends}
-use Rattle.canvas_runs.proofs.Courses.{course_of, course_sends, course_calls, completed_before}
-use Rattle.canvas_runs.proofs.SecondLaw.{second_part}
+use Rattle.canvas_runs.proofs.Laws.Bodies.{start_sends}
+use Rattle.canvas_runs.proofs.Laws.Courses.{course_of, course_sends, course_calls, completed_before}
+use Rattle.canvas_runs.proofs.Laws.SecondLaw.{second_part}
 use Rattle.canvas_callers.specs.Crew.{numbers_along}
 use Rattle.canvas_engine.specs.Evidence.{IsRun}
 use Rattle.canvas_engine.specs.Headline.{of_task, publications, Headline}
-use Rattle.canvas_engine.specs.declared.records.Records.{Records}
+use Rattle.canvas_engine.specs.declared.threads.records.Records.{Records}
 use Rattle.canvas_engine.specs.declared.report.Report.{Report}
 use Rattle.canvas_engine.proofs.EnvelopeTasks.{opened_names}
-use Rattle.canvas_runs.proofs.Causes.{by_in}
+use Rattle.canvas_runs.proofs.Laws.Causes.{by_in}
 
 along : {X : Type 0} (k : ℕ) (xs : List X) → numbers_along k xs ≡ numbers_from k (length xs)
 along k [] = refl

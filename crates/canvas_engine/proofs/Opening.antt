@@ -6,7 +6,7 @@ use Rattle.canvas_message.specs.Content.{Content}
 use Rattle.canvas_message.specs.EnvelopeFaults.{Says}
 use Rattle.canvas_message.specs.Wire.{properties_wire, headers_wire, body_wire}
 use Rattle.canvas_message.specs.declared.envelope.Envelope.{Envelope}
-use Rattle.canvas_runs.proofs.Readings.{says_reading}
+use Rattle.canvas_runs.proofs.Envelopes.Readings.{says_reading}
 use Rattle.canvas_runs.specs.Worker.{read_envelope, sealed}
 use Rattle.canvas_engine.specs.steps.Stages.{ReadsAs}
 

@@ -4,7 +4,7 @@ use Rattle.std.proofs.Math.ListN.{set}
 use Rattle.std.proofs.Math.Seq.{take-suc-set}
 use Rattle.canvas_semantics.specs.Evaluation.{State}
 use Rattle.canvas_semantics.specs.States.{numbers_from}
-use Rattle.canvas_backend.specs.Backend.{Results}
+use Rattle.canvas_history.specs.Table.{Results}
 use Rattle.canvas_engine.specs.steps.Stages.{rows_of}
 
 outcomes_more : (f : ℕ → State) (k n : ℕ) → map f (numbers_from k (suc n)) ≡ map f (numbers_from k n) ++ f (k + n) ∷ []

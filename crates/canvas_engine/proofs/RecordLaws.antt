@@ -8,24 +8,23 @@ use Rattle.canvas_history.specs.History.{split, join, calls}
 use Rattle.canvas_semantics.specs.Evaluation.{State}
 use Rattle.canvas_semantics.specs.Line.{Line, count_line}
 use Rattle.canvas_rewrite.specs.Planned.{IsPlan}
-use Rattle.canvas_message.specs.Among.{In}
+use Rattle.canvas_history.specs.Lists.{In, by, total, seconds}
 use Rattle.canvas_message.specs.Content.{Content}
 use Rattle.canvas_message.specs.declared.envelope.Envelope.{Envelope}
-use Rattle.canvas_broker.specs.Broker as broker
-use Rattle.canvas_broker.specs.Broker.{QueueEntry}
+use Rattle.canvas_history.specs.Queue as queue
+use Rattle.canvas_history.specs.Queue.{QueueEntry}
 use Rattle.canvas_runs.specs.Calls.{QueueAnswered, TableAnswered, CoreCall, makes, acknowledges, FollowsScripts, scripts_all, scripts_publish, scripts_list_take, scripts_core_take, scripts_again, scripts_ack, AskedAndAnswered, broker_call, core_call, broker_calls, core_calls, backend_calls, takes_one}
 use Rattle.canvas_runs.specs.Core.{Ask, Reply, to_queue, to_table, from_queue, from_table, refused, rest, rested, end, ack, acked}
 use Rattle.canvas_runs.specs.Following.{Pass, Seat}
 use Rattle.canvas_runs.specs.Law.{SecondPart, agains_one_of, redeliveries, publications, takes_of_task, again_stores}
-use Rattle.canvas_runs.specs.Lists.{by, total, seconds}
 use Rattle.canvas_runs.specs.Logs.{queue_calls}
 use Rattle.canvas_runs.specs.Progress.{calls_made, redelivers_one, delivered_again, most_calls}
 use Rattle.canvas_runs.specs.Run.{Run, Closed, published_all}
 use Rattle.canvas_runs.specs.Worker.{sealed}
-use Rattle.canvas_runs.proofs.FewCalls.{same_sum, few_calls}
-use Rattle.canvas_runs.proofs.FirstLaw.{inner_run, callers}
-use Rattle.canvas_runs.proofs.SecondLaw.{second_part}
-use Rattle.canvas_runs.proofs.Sums.{total-append, sum_to-le, sum_to-both, total_by, at_zero}
+use Rattle.canvas_runs.proofs.Ends.FewCalls.{same_sum, few_calls}
+use Rattle.canvas_runs.proofs.Laws.FirstLaw.{inner_run, callers}
+use Rattle.canvas_runs.proofs.Laws.SecondLaw.{second_part}
+use Rattle.canvas_runs.proofs.Lists.Sums.{total-append, sum_to-le, sum_to-both, total_by, at_zero}
 use Rattle.canvas_callers.specs.Crew.{Ran, EndedWell}
 use Rattle.canvas_callers.specs.Rows.{reads_from}
 use Rattle.canvas_callers.proofs.FromCrew.{the_run, the_closed}
@@ -181,21 +180,21 @@ few_entries behaviour l plan n rows r h =
 -- ---- nothing is delivered again
 
 abbrev NoneAgain : List (QueueEntry Envelope) → Type 0
-NoneAgain log = (p : ℕ) (e : Envelope) (a : Option Envelope) → In (calls p (broker.redeliver e) a) log → ⊥
+NoneAgain log = (p : ℕ) (e : Envelope) (a : Option Envelope) → In (calls p (queue.redeliver e) a) log → ⊥
 
 -- a weight that only redeliveries have
-zero_total : (w : QueueAnswered Envelope → ℕ) → ((a : Option Envelope) → w (broker.take, a) ≡ 0)
-    → ((e : Envelope) (a : Option Envelope) → w (broker.publish e, a) ≡ 0) → (log : List (QueueEntry Envelope)) → NoneAgain log
+zero_total : (w : QueueAnswered Envelope → ℕ) → ((a : Option Envelope) → w (queue.take, a) ≡ 0)
+    → ((e : Envelope) (a : Option Envelope) → w (queue.publish e, a) ≡ 0) → (log : List (QueueEntry Envelope)) → NoneAgain log
     → total w (seconds (queue_calls log)) ≡ 0
 zero_total w t u [] n = refl
 zero_total w t u (split p q ∷ log) n = zero_total w t u log (λ c e a i. n c e a (inr i))
 zero_total w t u (join p q ∷ log) n = zero_total w t u log (λ c e a i. n c e a (inr i))
-zero_total w t u (calls p broker.take None ∷ log) n = zero_total w t u log (λ c e a i. n c e a (inr i))
-zero_total w t u (calls p broker.take (Some x) ∷ log) n =
+zero_total w t u (calls p queue.take None ∷ log) n = zero_total w t u log (λ c e a i. n c e a (inr i))
+zero_total w t u (calls p queue.take (Some x) ∷ log) n =
     let later = zero_total w t u log (λ c e a i. n c e a (inr i)) in omega (arith, later, t (Some x))
-zero_total w t u (calls p (broker.publish e) a ∷ log) n =
+zero_total w t u (calls p (queue.publish e) a ∷ log) n =
     let later = zero_total w t u log (λ c e a i. n c e a (inr i)) in omega (arith, later, u e a)
-zero_total w t u (calls p (broker.redeliver e) a ∷ log) n = absurd (n p e a (inl refl))
+zero_total w t u (calls p (queue.redeliver e) a ∷ log) n = absurd (n p e a (inl refl))
 
 pub all_are_plain : AllArePlain
 all_are_plain behaviour l plan n rows r h only =

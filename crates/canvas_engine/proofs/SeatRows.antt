@@ -4,9 +4,9 @@ use Rattle.std.proofs.Math.ListN.{set}
 use Rattle.std.proofs.Math.Seq.{take-suc-set}
 use Rattle.canvas_history.specs.History.{calls}
 use Rattle.canvas_semantics.specs.Evaluation.{State}
-use Rattle.canvas_backend.specs.Backend.{read, found}
-use Rattle.canvas_backend.specs.Seats.{Stands}
-use Rattle.canvas_backend.specs.Roster.{Roster}
+use Rattle.canvas_history.specs.Table.{read, found}
+use Rattle.canvas_history.specs.Seats.{Stands}
+use Rattle.canvas_history.specs.Roster.{Roster}
 use Rattle.canvas_runs.specs.Following.{Seat, Serves}
 use Rattle.canvas_callers.specs.Rows.{reads_from}
 use Rattle.canvas_callers.proofs.Snoc.{read_more}

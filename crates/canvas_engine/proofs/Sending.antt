@@ -3,8 +3,8 @@ use Rattle.std.proofs.Common.{◌≡◌, Bool, true, false, Option, Result, Ok, 
 use Rattle.canvas_effects.specs.Effects.{first_messages}
 use Rattle.canvas_semantics.specs.Line.{Line}
 use Rattle.canvas_message.specs.declared.envelope.Envelope.{Envelope}
-use Rattle.canvas_backend.specs.Backend as results
-use Rattle.canvas_broker.specs.Broker as broker
+use Rattle.canvas_history.specs.Table as table
+use Rattle.canvas_history.specs.Queue as queue
 use Rattle.canvas_runs.specs.Core as C
 use Rattle.canvas_runs.specs.Worker.{sealed}
 use Rattle.canvas_turns.specs.Turns.{Step, redelivery}
@@ -13,7 +13,7 @@ use Rattle.canvas_worker.specs.declared.ask.Ask.{Ask}
 use Rattle.canvas_worker.specs.declared.ask.Ask.TheVariants as A
 use Rattle.canvas_engine.specs.Traced.{sent_by, sent_in, sent_after}
 use Rattle.canvas_engine.specs.steps.Noting.{Noted, kept}
-use Rattle.canvas_engine.specs.declared.sent.Sent.{Sent}
+use Rattle.canvas_engine.specs.declared.turns.sent.Sent.{Sent}
 
 pub kept_nothing : (b : Bool) → kept b [] ≡ []
 kept_nothing true = refl
@@ -64,8 +64,8 @@ pub silent : (s : Sent) (x : Option ℕ) (a : Asked) (v : Ask) → v ≡ shown x
 silent s x a v is none = same a (ap sends_shown (sym is) ∙ none)
   where
     same : (b : Asked) → sends_shown (shown x b) ≡ false → Noted s (sent_by b) s
-    same (C.to_queue broker.take) h = none_noted s
-    same (C.to_queue (broker.publish e)) h = absurd cc
-    same (C.to_queue (broker.redeliver e)) h = none_noted s
+    same (C.to_queue queue.take) h = none_noted s
+    same (C.to_queue (queue.publish e)) h = absurd cc
+    same (C.to_queue (queue.redeliver e)) h = none_noted s
     same (C.to_table c) h = none_noted s
     same b h = none_noted s

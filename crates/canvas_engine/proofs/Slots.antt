@@ -2,25 +2,24 @@
 use Rattle.std.proofs.Common.{◌≡◌, ◌∙◌, ℕ, suc, ◌+◌, List, [], ◌∷◌, ◌++◌, length, map, All, refl, sym, ap, subst, arith}
 use Rattle.std.proofs.lemmas.List.Elements.{All-head, All-tail}
 use Rattle.std.specs.Prelude.{None}
-use Rattle.std.specs.Global.{Global}
 use Rattle.canvas_task.specs.Apply.{Behaviour}
-use Rattle.crossbeam_queue.specs.SegTies.{SegId}
-use Rattle.atomic_table.specs.Seated.{TableId}
+use Rattle.canvas_history.specs.Passes.{QueueId}
+use Rattle.canvas_history.specs.Seats.{TableId}
 use Rattle.canvas_message.specs.declared.envelope.Envelope.{Envelope}
-use Rattle.canvas_backend.specs.Seats as seats
-use Rattle.canvas_backend.specs.Roster.{Roster}
+use Rattle.canvas_history.specs.Seats as seats
+use Rattle.canvas_history.specs.Roster.{Roster}
 use Rattle.canvas_history.specs.Callers.{Owes}
 use Rattle.canvas_runs.specs.Calls.{QueueAnswered, TableAnswered}
 use Rattle.canvas_runs.specs.Following.{Pass, Seat, Makes, Serves, IsOver as IsEnded}
-use Rattle.canvas_runs.specs.Lists.{Each}
+use Rattle.canvas_history.specs.Lists.{Each}
 use Rattle.canvas_callers.specs.Crew.{Mate, SplitPasses, JoinPasses, SplitSeats, JoinSeats}
 use Rattle.canvas_worker.specs.Finished.{Finished}
 use Rattle.canvas_worker.specs.declared.record.Record.{Record}
 use Rattle.canvas_engine.specs.steps.Crews.{numbered_counts, tallies_from, AreWanted}
 use Rattle.canvas_engine.specs.steps.Slots.{HasHands, IsReadySlot, IsSplitOff, SplitsOff, LeavesPost, RanSlot, AllRan, LeftARecord, IsWell, IsPostOf, AreOf, TakesIn, tally_in}
-use Rattle.canvas_engine.specs.declared.slot.Post.{Post}
-use Rattle.canvas_engine.specs.declared.slot.Post.TheVariants.{Ready, Done, Lost}
-use Rattle.canvas_engine.specs.declared.slot.Slot.{Slot}
+use Rattle.canvas_engine.specs.declared.threads.slot.Post.{Post}
+use Rattle.canvas_engine.specs.declared.threads.slot.Post.TheVariants.{Ready, Done, Lost}
+use Rattle.canvas_engine.specs.declared.threads.slot.Slot.{Slot}
 
 -- ---- one more place
 
@@ -89,12 +88,12 @@ left_of (Done r) d = (r, refl)
 left_of (Ready q t) d = absurd d
 left_of Lost d = absurd d
 
-ready_of : (b : SegId Global) (d : TableId) (x : Post) → HasHands b d x → (q : Pass) × (t : Seat) × (x ≡ Ready q t) × (q.of ≡ b) × (t.of ≡ d)
+ready_of : (b : QueueId) (d : TableId) (x : Post) → HasHands b d x → (q : Pass) × (t : Seat) × (x ≡ Ready q t) × (q.of ≡ b) × (t.of ≡ d)
 ready_of b d (Ready q t) h = (q, t, refl, h.0, h.1)
 ready_of b d (Done r) h = absurd h
 ready_of b d Lost h = absurd h
 
-is_of : (behaviour : Behaviour) (may_want : ℕ → ℕ → Type 0) (b : SegId Global) (d : TableId) (plan : Roster) (before after : Slot) → IsReadySlot b d before
+is_of : (behaviour : Behaviour) (may_want : ℕ → ℕ → Type 0) (b : QueueId) (d : TableId) (plan : Roster) (before after : Slot) → IsReadySlot b d before
     → RanSlot behaviour may_want plan before after → LeftARecord after.post → IsPostOf b d after.post
 is_of behaviour may_want b d plan before after hands ran is =
     let ready = ready_of b d before.post hands in
@@ -104,7 +103,7 @@ is_of behaviour may_want b d plan before after hands ran is =
     let of = finished_of behaviour may_want plan before.number ready.0 ready.1 done.0 f in
     subst (λ p. IsPostOf b d p) (sym done.1) (of.0 ∙ ready.3, of.1 ∙ ready.4)
 
-pub are_of : (behaviour : Behaviour) (may_want : ℕ → ℕ → Type 0) (b : SegId Global) (d : TableId) (plan : Roster) (before after : List Slot)
+pub are_of : (behaviour : Behaviour) (may_want : ℕ → ℕ → Type 0) (b : QueueId) (d : TableId) (plan : Roster) (before after : List Slot)
     → All (IsReadySlot b d) before → EachRan behaviour may_want plan before after → All (λ s. LeftARecord s.post) after → AreOf b d after
 are_of behaviour may_want b d plan [] [] a r f = tt
 are_of behaviour may_want b d plan [] (y ∷ ys) a r f = absurd r

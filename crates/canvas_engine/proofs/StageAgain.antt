@@ -8,23 +8,23 @@ use Rattle.canvas_semantics.specs.Line.{Line}
 use Rattle.canvas_rewrite.specs.FrozenView.{PCarried}
 use Rattle.canvas_message.specs.Content.{Content}
 use Rattle.canvas_message.specs.declared.envelope.Envelope.{Envelope}
-use Rattle.canvas_backend.specs.declared.stored.Stored.{Stored}
-use Rattle.canvas_backend.specs.declared.stored.Stored.TheVariants.{First, Again}
-use Rattle.canvas_backend.specs.Backend.{Results}
+use Rattle.canvas_history.specs.declared.stored.Stored.{Stored}
+use Rattle.canvas_history.specs.declared.stored.Stored.TheVariants.{First, Again}
+use Rattle.canvas_history.specs.Table.{Results}
 use Rattle.canvas_backend.specs.Plain.{held}
-use Rattle.canvas_backend.specs.Roster.{Roster, roster_of}
+use Rattle.canvas_history.specs.Roster.{Roster, roster_of}
 use Rattle.canvas_runs.specs.Book.{book_of}
 use Rattle.canvas_runs.specs.Calls.{scripts_of, of_scripts, held_after}
-use Rattle.canvas_backend.specs.Backend as results
-use Rattle.canvas_broker.specs.Broker.{redeliver}
+use Rattle.canvas_history.specs.Table as table
+use Rattle.canvas_history.specs.Queue.{redeliver}
 use Rattle.canvas_runs.specs.Core.{to_queue, to_table, rest, ack, from_queue, from_table, rested, acked, CoreState, taking, resting, over, failed, owning, doing, reading, acking, left_after, IsCoreRun, is_inside}
-use Rattle.canvas_runs.specs.Lists.{by}
+use Rattle.canvas_history.specs.Lists.{by}
 use Rattle.canvas_runs.specs.Tally.{greatest_count}
 use Rattle.canvas_runs.specs.Worker.{opened}
 use Rattle.canvas_runs.specs.declared.when.When.{When}
 use Rattle.canvas_runs.specs.declared.when.When.TheVariants.{Early, Late}
-use Rattle.canvas_runs.proofs.Sums.{total-append}
-use Rattle.canvas_runs.proofs.MoreAsks.{by_append, scripts_append, held_append, asks_of_scripts}
+use Rattle.canvas_runs.proofs.Lists.Sums.{total-append}
+use Rattle.canvas_runs.proofs.Runs.MoreAsks.{by_append, scripts_append, held_append, asks_of_scripts}
 use Rattle.canvas_turns.specs.Spending.{TurnedAgain, wanted, spent, comes_to, message_in, point_of, point, answers_again, agains_in}
 use Rattle.canvas_turns.specs.Turns.{Step, IsWorker, redelivery, Turned, all_taken, delivers_again, left, holds, holds_more, is_queued, redelivers_one}
 use Rattle.canvas_turns.proofs.Spending.{again_step, again_spend}
@@ -39,7 +39,7 @@ use Rattle.canvas_worker.specs.CoreState.{Standing, Left, asked, task_of, point_
 use Rattle.canvas_engine.specs.Traced.{sent_by, sent_after}
 use Rattle.canvas_engine.specs.steps.Noting.{Noted, kept}
 use Rattle.canvas_engine.specs.steps.Stages.{AnswersNow, Stepped, store_answer, counted_on, Redelivers, IsCoreAt, LeadsTo, Given, Reached, IsTurn}
-use Rattle.canvas_engine.specs.declared.stage.Stage.{Stage}
+use Rattle.canvas_engine.specs.declared.turns.stage.Stage.{Stage}
 use Rattle.canvas_engine.proofs.Sending.{sent_then, sent_too}
 use Rattle.canvas_engine.proofs.StageAsks.{stored_says}
 use Rattle.canvas_engine.proofs.StageSteps.{together, more_is, same_ask, worker_back, answered_so, stepped}
@@ -80,15 +80,15 @@ again_one Again = 1
 again_said : (plan : Roster) (queue : List Envelope) (held : Results) (more : Bool) (a : Asked) (r : Answer) → AnswersNow plan queue held more a r
     → answers_again a r ≡ again_one (store_answer held a)
 again_said plan queue held more (to_queue c) (from_queue x) h = refl
-again_said plan queue held more (to_table (results.store t o)) (from_table (results.was b)) h =
-    one b ∙ ap again_one (stored_says b (results.first_or (held.outcomes t)) h)
+again_said plan queue held more (to_table (table.store t o)) (from_table (table.was b)) h =
+    one b ∙ ap again_one (stored_says b (table.first_or (held.outcomes t)) h)
   where
-    one : (b : Stored) → answers_again (to_table (results.store t o)) (from_table (results.was b)) ≡ again_one b
+    one : (b : Stored) → answers_again (to_table (table.store t o)) (from_table (table.was b)) ≡ again_one b
     one First = refl
     one Again = refl
-again_said plan queue held more (to_table (results.store t o)) (from_table r) h = absurd cc
-again_said plan queue held more (to_table (results.part g t)) (from_table r) h = refl
-again_said plan queue held more (to_table (results.read t)) (from_table r) h = refl
+again_said plan queue held more (to_table (table.store t o)) (from_table r) h = absurd cc
+again_said plan queue held more (to_table (table.part g t)) (from_table r) h = refl
+again_said plan queue held more (to_table (table.read t)) (from_table r) h = refl
 again_said plan queue held more rest (rested m) h = refl
 again_said plan queue held more ack acked h = refl
 again_said plan queue held more a r h = elim h [ ]

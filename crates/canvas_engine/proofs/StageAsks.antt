@@ -2,12 +2,12 @@
 use Rattle.std.proofs.Common.{◌≡◌, inr, ℕ, Bool, List, Option, Result, Ok, Err, OnOk, OnErr, refl, sym, ap, ◌∙◌, subst}
 use Rattle.canvas_task.specs.Apply.{Behaviour}
 use Rattle.canvas_message.specs.declared.envelope.Envelope.{Envelope}
-use Rattle.canvas_backend.specs.declared.stored.Stored.{Stored}
-use Rattle.canvas_backend.specs.declared.stored.Stored.TheVariants.{First}
-use Rattle.canvas_backend.specs.Backend as results
-use Rattle.canvas_backend.specs.Backend.{Results}
+use Rattle.canvas_history.specs.declared.stored.Stored.{Stored}
+use Rattle.canvas_history.specs.declared.stored.Stored.TheVariants.{First}
+use Rattle.canvas_history.specs.Table as table
+use Rattle.canvas_history.specs.Table.{Results}
 use Rattle.canvas_backend.specs.Plain.{Shelf, held}
-use Rattle.canvas_broker.specs.Broker as broker
+use Rattle.canvas_history.specs.Queue as queue
 use Rattle.canvas_runs.specs.Core as C
 use Rattle.canvas_runs.specs.Core.{ReadsBack}
 use Rattle.canvas_turns.specs.Turns.{queue_next, results_next}
@@ -66,26 +66,26 @@ of_each (Err x) P h = tt
 
 -- ---- what the table says
 
-pub stored_says : (x y : Stored) → results.was x ≡ results.was y → x ≡ y
+pub stored_says : (x y : Stored) → table.was x ≡ table.was y → x ≡ y
 stored_says x y e = cc
 
 -- ---- stores that answer Again
 
 -- the same of an ask as it is shown
 abbrev pub shown_again : Results → Ask → Stored
-shown_again s (A.Store t o) = results.first_or (s.outcomes t)
+shown_again s (A.Store t o) = table.first_or (s.outcomes t)
 shown_again s v = First
 
 again_shown : (s : Results) (x : Option ℕ) (a : Asked) (v : Ask) → v ≡ shown x a → store_answer s a ≡ shown_again s v
 again_shown s x a v e = same a ∙ ap (shown_again s) (sym e)
   where
     same : (b : Asked) → store_answer s b ≡ shown_again s (shown x b)
-    same (C.to_queue broker.take) = refl
-    same (C.to_queue (broker.publish e)) = refl
-    same (C.to_queue (broker.redeliver e)) = refl
-    same (C.to_table (results.store t o)) = refl
-    same (C.to_table (results.part g t)) = refl
-    same (C.to_table (results.read t)) = refl
+    same (C.to_queue queue.take) = refl
+    same (C.to_queue (queue.publish e)) = refl
+    same (C.to_queue (queue.redeliver e)) = refl
+    same (C.to_table (table.store t o)) = refl
+    same (C.to_table (table.part g t)) = refl
+    same (C.to_table (table.read t)) = refl
     same b = refl
 
 -- an ask that is no store isn't counted

@@ -9,16 +9,16 @@ use Rattle.canvas_semantics.specs.Line.{Line}
 use Rattle.canvas_rewrite.specs.FrozenView.{PCarried}
 use Rattle.canvas_message.specs.Content.{Content}
 use Rattle.canvas_message.specs.declared.envelope.Envelope.{Envelope}
-use Rattle.canvas_backend.specs.Backend.{Results}
+use Rattle.canvas_history.specs.Table.{Results}
 use Rattle.canvas_backend.specs.Plain.{held}
-use Rattle.canvas_backend.specs.Roster.{Roster, roster_of}
+use Rattle.canvas_history.specs.Roster.{Roster, roster_of}
 use Rattle.canvas_runs.specs.Book.{book_of, book_on}
-use Rattle.canvas_backend.specs.Backend as results
-use Rattle.canvas_broker.specs.Broker as broker
+use Rattle.canvas_history.specs.Table as table
+use Rattle.canvas_history.specs.Queue as queue
 use Rattle.canvas_runs.specs.Core.{to_queue, to_table, rest, end, from_queue, from_table, rested, CoreState, taking, resting, over, failed, owning, doing, reading, ask, answered, left_after, Suits, ReadsBack, IsCoreRun, is_inside, ack, acked, acking}
-use Rattle.canvas_runs.specs.Lists.{Each, by}
+use Rattle.canvas_history.specs.Lists.{Each, by}
 use Rattle.canvas_runs.specs.Worker.{worker}
-use Rattle.canvas_runs.proofs.MoreAsks.{by_more, by_other, left_more, core_more, scripts_more, asks_of_scripts, held_append}
+use Rattle.canvas_runs.proofs.Runs.MoreAsks.{by_more, by_other, left_more, core_more, scripts_more, asks_of_scripts, held_append}
 use Rattle.canvas_turns.specs.Turns.{Step, IsWorker, Turned, Answers, HasEnded, left, queue_after, queue_next, results_after, results_next, holds_more, some_inside, is_queued}
 use Rattle.canvas_turns.proofs.Turning.{queue_more, results_more, turned_step}
 use Rattle.canvas_worker.specs.Asks.{Asked, Answer}
@@ -32,7 +32,7 @@ use Rattle.canvas_worker.proofs.CoreLaw.{cores_are_workers}
 use Rattle.canvas_worker.proofs.InHand.{has_open}
 use Rattle.canvas_worker.proofs.CorePasts.{book_step, task_step}
 use Rattle.canvas_engine.specs.steps.Stages.{AnswersNow, Stepped, IsCoreAt, LeadsTo}
-use Rattle.canvas_engine.specs.declared.stage.Stage.{Stage}
+use Rattle.canvas_engine.specs.declared.turns.stage.Stage.{Stage}
 
 -- ---- what was answered
 
@@ -45,19 +45,19 @@ module _ (behaviour : Behaviour) (l : Line) (n : ℕ) (xs : List Step) where
   answers_run more ack acked m h = tt
   answers_run more a r m h = elim h [ ]
 
-suits_now : (plan : Roster) (queue : List Envelope) (held : Results) (more : Bool) (a : Asked) (r : Answer) → of_scripts a ≡ true
-    → AnswersNow plan queue held more a r → Suits a r
-suits_now plan queue held more (to_queue broker.take) (from_queue x) asks h = tt
-suits_now plan queue held more (to_queue (broker.publish e)) (from_queue None) asks h = tt
-suits_now plan queue held more (to_queue (broker.publish e)) (from_queue (Some x)) asks h = absurd cc
-suits_now plan queue held more (to_queue (broker.redeliver e)) (from_queue x) asks h = absurd cc
-suits_now plan queue held more (to_table (results.store t o)) (from_table (results.was b)) asks h = tt
-suits_now plan queue held more (to_table (results.part g t)) (from_table (results.count k)) asks h = tt
-suits_now plan queue held more (to_table (results.read t)) (from_table (results.found x)) asks h = tt
-suits_now plan queue held more (to_table c) (from_table r) asks h = absurd cc
-suits_now plan queue held more rest (rested b) asks h = tt
-suits_now plan queue held more ack acked asks h = tt
-suits_now plan queue held more a r asks h = elim h [ ]
+suits_now : (plan : Roster) (queued : List Envelope) (held : Results) (more : Bool) (a : Asked) (r : Answer) → of_scripts a ≡ true
+    → AnswersNow plan queued held more a r → Suits a r
+suits_now plan queued held more (to_queue queue.take) (from_queue x) asks h = tt
+suits_now plan queued held more (to_queue (queue.publish e)) (from_queue None) asks h = tt
+suits_now plan queued held more (to_queue (queue.publish e)) (from_queue (Some x)) asks h = absurd cc
+suits_now plan queued held more (to_queue (queue.redeliver e)) (from_queue x) asks h = absurd cc
+suits_now plan queued held more (to_table (table.store t o)) (from_table (table.was b)) asks h = tt
+suits_now plan queued held more (to_table (table.part g t)) (from_table (table.count k)) asks h = tt
+suits_now plan queued held more (to_table (table.read t)) (from_table (table.found x)) asks h = tt
+suits_now plan queued held more (to_table c) (from_table r) asks h = absurd cc
+suits_now plan queued held more rest (rested b) asks h = tt
+suits_now plan queued held more ack acked asks h = tt
+suits_now plan queued held more a r asks h = elim h [ ]
 
 -- ---- whether somebody is inside a message
 

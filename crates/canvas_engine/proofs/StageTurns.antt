@@ -5,9 +5,9 @@ use Rattle.std.proofs.lemmas.Option.{slice_get_read}
 use Rattle.std.specs.List.{list_any}
 use Rattle.canvas_task.specs.Apply.{Behaviour, AnswersInRange}
 use Rattle.canvas_semantics.specs.Line.{Line}
-use Rattle.canvas_backend.specs.Backend.{Results, store, part, read}
+use Rattle.canvas_history.specs.Table.{Results, store, part, read}
 use Rattle.canvas_backend.specs.Plain.{held}
-use Rattle.canvas_backend.specs.Roster.{Roster, roster_of}
+use Rattle.canvas_history.specs.Roster.{Roster, roster_of}
 use Rattle.canvas_runs.specs.Core.{to_table, rest, end, ReadsBack, is_inside}
 use Rattle.canvas_turns.specs.TurnLaws.{Answerable}
 use Rattle.canvas_turns.specs.Turns.{Step, IsWorker, HasEnded, results_after, results_next, is_queued}
@@ -22,7 +22,7 @@ use Rattle.canvas_worker.specs.CoreState.{Standing, asked}
 use Rattle.canvas_engine.specs.Traced.{sent_by}
 use Rattle.canvas_engine.specs.steps.Noting.{Noted}
 use Rattle.canvas_engine.specs.steps.Stages.{MayAsk, AreInRange, Stepped, IsTried, Tried, store_answer, counted_on, Redelivers, LeadsTo, Given, Reached, HasReached, IsTurn, IsHalfway, IsStopped}
-use Rattle.canvas_engine.specs.declared.stage.Stage.{Stage}
+use Rattle.canvas_engine.specs.declared.turns.stage.Stage.{Stage}
 use Rattle.canvas_engine.proofs.StageAgain.{one_turn, stood}
 use Rattle.canvas_engine.proofs.StageSteps.{each_more, has_ended, not_ended, same_ask, more_is, turned_so}
 

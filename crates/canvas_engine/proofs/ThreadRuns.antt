@@ -2,10 +2,9 @@
 use Rattle.std.proofs.Common.{◌≡◌, ◌∙◌, ℕ, zero, suc, ◌+◌, List, [], ◌∷◌, ◌++◌, All, length, map, min, Option, Some, None, inl, refl, sym, ap, subst, append-nil, arith}
 use Rattle.std.proofs.lemmas.List.Elements.{All-head, All-tail}
 use Rattle.std.specs.Prelude.{IfNone}
-use Rattle.std.specs.Global.{Global}
 use Rattle.canvas_task.specs.Apply.{Behaviour}
-use Rattle.crossbeam_queue.specs.SegTies.{SegId}
-use Rattle.atomic_table.specs.Seated.{TableId}
+use Rattle.canvas_history.specs.Passes.{QueueId}
+use Rattle.canvas_history.specs.Seats.{TableId, Desk}
 use Rattle.canvas_semantics.specs.Tree.{count}
 use Rattle.canvas_semantics.specs.Evaluation.{State, state_of, eval, nothing}
 use Rattle.canvas_semantics.specs.Line.{Line, count_line, tree_of}
@@ -15,12 +14,11 @@ use Rattle.canvas_semantics.proofs.Numbered.{count_elements}
 use Rattle.canvas_message.specs.Content.{Content}
 use Rattle.canvas_effects.specs.Effects.{first_messages}
 use Rattle.canvas_message.specs.declared.envelope.Envelope.{Envelope}
-use Rattle.canvas_backend.specs.Backend.{Log}
-use Rattle.canvas_backend.specs.Seats.{Desk}
-use Rattle.canvas_backend.specs.Roster.{roster_of}
-use Rattle.canvas_broker.specs.Broker.{QueueEntry as Entries}
+use Rattle.canvas_history.specs.Table.{Log}
+use Rattle.canvas_history.specs.Roster.{roster_of}
+use Rattle.canvas_history.specs.Queue.{QueueEntry as Entries}
 use Rattle.canvas_runs.specs.Following.{Pass, Seat, Makes, Serves, starting, IsDone, IsOver}
-use Rattle.canvas_runs.specs.Lists.{Each}
+use Rattle.canvas_history.specs.Lists.{Each}
 use Rattle.canvas_callers.specs.CallerLaws.{broker_calls_seen}
 use Rattle.canvas_callers.specs.Crew.{PlanWorker, HasFollowed, Mate, Ran, EndedWell, OwnTally, first_pass, first_seat}
 use Rattle.canvas_callers.specs.Rows.{reads_from, RanTo, RanWell}
@@ -28,9 +26,9 @@ use Rattle.canvas_semantics.specs.States.{EachMay}
 use Rattle.canvas_runs.specs.Run.{IsRead, published_all}
 use Rattle.canvas_runs.specs.Tally.{Tally as Counts, EachCounts, greatest_count}
 use Rattle.canvas_runs.specs.Worker.{worker_of, sealed}
-use Rattle.canvas_runs.proofs.Causes.{by_cause, completed_once, by_its_cause}
-use Rattle.canvas_runs.proofs.FirstLaw.{first_part}
-use Rattle.canvas_runs.proofs.Words.{each_weaker}
+use Rattle.canvas_runs.proofs.Laws.Causes.{by_cause, completed_once, by_its_cause}
+use Rattle.canvas_runs.proofs.Laws.FirstLaw.{first_part}
+use Rattle.canvas_runs.proofs.Lists.Words.{each_weaker}
 use Rattle.canvas_runs.specs.Core.{Between}
 use Rattle.canvas_callers.proofs.FromCrew.{passes, seats, the_run, the_closed}
 use Rattle.canvas_callers.proofs.Rows.{rows_of_well, rows_of_any}
@@ -44,12 +42,12 @@ use Rattle.canvas_engine.specs.Correct.{AreWorkers, IsThreadFault}
 use Rattle.canvas_engine.specs.Evidence.{IsRun, AreTallies}
 use Rattle.canvas_engine.specs.steps.Crews.{Crew, IsStart, IsWellGathered, AreWanted, tallies_from}
 use Rattle.canvas_engine.specs.steps.Slots.{AllRan, IsWell, IsWhy, TakesIn, nothing_counted, tally_in}
-use Rattle.canvas_engine.specs.declared.running.Start.{Start}
-use Rattle.canvas_engine.specs.declared.slot.Slot.{Slot}
+use Rattle.canvas_engine.specs.declared.threads.running.Start.{Start}
+use Rattle.canvas_engine.specs.declared.threads.slot.Slot.{Slot}
 use Rattle.canvas_engine.proofs.Slots.{each_ran, crew_of}
 use Rattle.canvas_engine.specs.declared.fault.RunFault.TheVariants.{Halted}
-use Rattle.canvas_engine.specs.declared.records.Records.{Records}
-use Rattle.canvas_engine.specs.declared.records.Tally.{Tally}
+use Rattle.canvas_engine.specs.declared.threads.records.Records.{Records}
+use Rattle.canvas_engine.specs.declared.threads.records.Tally.{Tally}
 
 pub reads_are_reads : (k : ℕ) (rows : List State) → Each IsRead (reads_from k rows)
 reads_are_reads k [] = tt
@@ -59,7 +57,7 @@ reads_are_reads k (s ∷ ss) = (tt, reads_are_reads (suc k) ss)
 over_done : (w : PlanWorker) → IsOver w → IsDone w
 over_done w h = (subst (λ s. Between s) (sym h.0) tt, h.1)
 
-module _ (behaviour : Behaviour) (l : Line) (n : ℕ) (queue : SegId Global) (table : TableId) (pass : Pass) (seat : Seat)
+module _ (behaviour : Behaviour) (l : Line) (n : ℕ) (queue : QueueId) (table : TableId) (pass : Pass) (seat : Seat)
     (c : Crew behaviour l n queue table pass seat) where
   -- worker 0 works on, and reads
   abbrev pub ran_with : (own : PlanWorker) → HasFollowed behaviour (roster_of l) (starting pass seat) own → (last : Pass) → last ≡ own.pass → (at : Seat)
@@ -137,7 +135,7 @@ long_tallies behaviour k (m ∷ ms) = ap suc (long_tallies behaviour (suc k) ms)
 swapped : (a b : ℕ) → min greatest_count (a + b) ≡ min greatest_count (b + a)
 swapped a b = let same : a + b ≡ b + a = omega arith in ap (λ n. min greatest_count n) same
 
-module _ (behaviour : Behaviour) (l : Line) (n : ℕ) (b : SegId Global) (d : Desk) (pass : Pass) (seat : Seat) (c : Crew behaviour l n b d.id pass seat)
+module _ (behaviour : Behaviour) (l : Line) (n : ℕ) (b : QueueId) (d : Desk) (pass : Pass) (seat : Seat) (c : Crew behaviour l n b d.id pass seat)
     (planned : IsPlan l) where
   module _ (r : Record) (may_want : ℕ → ℕ → Type 0) (f : Finished behaviour may_want (roster_of l) 0 pass seat r) (fine : r.fault ≡ None)
       (done : Each (λ (m : Mate behaviour (roster_of l)). IsOver m.ended) c.mates) (after : Seat) (rows : List State)
@@ -237,7 +235,7 @@ pending_may (r ∷ rs) [] e p = absurd (omega (arith, e))
 pending_may (r ∷ rs) (s ∷ ss) e p = (inl (All-head (λ s. s ≡ None) r rs p), pending_may rs ss (omega (arith, e)) (All-tail (λ s. s ≡ None) r rs p))
 
 -- the rows that worker 0 reads where it has done nothing else
-pub unworked_may : (behaviour : Behaviour) → (l : Line) (n : ℕ) (queue : SegId Global) (table : TableId) (pass : Pass) (seat : Seat)
+pub unworked_may : (behaviour : Behaviour) → (l : Line) (n : ℕ) (queue : QueueId) (table : TableId) (pass : Pass) (seat : Seat)
     → Crew behaviour l n queue table pass seat → IsPlan l → (after : Seat) (rows : List State)
     → Serves (roster_of l) seat (reads_from 1 rows) after → length rows ≡ count_line l → EachMay rows (states behaviour (tree_of l))
 unworked_may behaviour l n queue table pass seat c planned after rows reads many =
@@ -246,7 +244,7 @@ unworked_may behaviour l n queue table pass seat c planned after rows reads many
     (omega arith, omega arith, omega arith, omega arith, omega arith)) seat refl after rows reads many
 
 -- and those that it reads where it has worked, however that ended
-pub worked_may : (behaviour : Behaviour) → (l : Line) (n : ℕ) (queue : SegId Global) (table : TableId) (pass : Pass) (seat : Seat)
+pub worked_may : (behaviour : Behaviour) → (l : Line) (n : ℕ) (queue : QueueId) (table : TableId) (pass : Pass) (seat : Seat)
     → Crew behaviour l n queue table pass seat → IsPlan l → (r : Record) (may_want : ℕ → ℕ → Type 0) → Finished behaviour may_want (roster_of l) 0 pass seat r
     → (after : Seat) (rows : List State)
     → Serves (roster_of l) r.seat (reads_from 1 rows) after → length rows ≡ count_line l → EachMay rows (states behaviour (tree_of l))

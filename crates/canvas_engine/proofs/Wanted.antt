@@ -2,28 +2,26 @@
 use Rattle.std.proofs.Common.{◌≡◌, ◌∙◌, ℕ, suc, Bool, true, false, List, [], ◌∷◌, ◌++◌, Option, Some, None, inl, inr, refl, sym, ap, subst, ⊎_elim}
 use Rattle.std.specs.Prelude.{◌==◌, ◌||◌}
 use Rattle.std.proofs.lemmas.Bool.{eqb-true, cases_Bool, false≢true}
-use Rattle.std.specs.Global.{Global}
 use Rattle.canvas_task.specs.Apply.{Behaviour}
-use Rattle.crossbeam_queue.specs.SegTies.{SegId}
-use Rattle.atomic_table.specs.Seated.{TableId}
+use Rattle.canvas_history.specs.Passes.{QueueId}
+use Rattle.canvas_history.specs.Seats.{TableId}
 use Rattle.canvas_history.specs.Answers.{entries_by, splits_of, joins_of}
 use Rattle.canvas_history.specs.Callers.{told}
 use Rattle.canvas_history.specs.History.{split, join, calls, by_of, among, split_off, made_by}
 use Rattle.canvas_history.proofs.Histories.{made_here, made_off, fresh_from}
 use Rattle.canvas_semantics.specs.Evaluation.{State}
 use Rattle.canvas_semantics.specs.Line.{Line}
-use Rattle.canvas_message.specs.Among.{In}
+use Rattle.canvas_history.specs.Lists.{In, Each}
 use Rattle.canvas_message.specs.Content.{Content}
 use Rattle.canvas_message.specs.declared.envelope.Envelope.{Envelope}
-use Rattle.canvas_backend.specs.Roster.{Roster, roster_of}
-use Rattle.canvas_broker.specs.Broker.{QueueEntry, QueueCall, redeliver, answer_of, next, May}
+use Rattle.canvas_history.specs.Roster.{Roster, roster_of}
+use Rattle.canvas_history.specs.Queue.{QueueEntry, QueueCall, redeliver, answer_of, next, May}
 use Rattle.canvas_runs.specs.Book.{book_of}
 use Rattle.canvas_runs.specs.Calls.{QueueAnswered}
 use Rattle.canvas_runs.specs.Following.{Pass, Seat, Serves}
-use Rattle.canvas_runs.specs.Lists.{Each}
 use Rattle.canvas_runs.specs.Run.{published_all}
 use Rattle.canvas_runs.specs.Worker.{opened}
-use Rattle.canvas_runs.proofs.Words.{in_each, in_append_cases}
+use Rattle.canvas_runs.proofs.Lists.Words.{in_each, in_append_cases}
 use Rattle.canvas_callers.specs.Accounts.{HasQueueCalls, QueueAccounts}
 use Rattle.canvas_callers.specs.Crew.{Mate, Ran, numbers_along}
 use Rattle.canvas_callers.specs.Rows.{reads_from}
@@ -154,7 +152,7 @@ module _ (behaviour : Behaviour) (l : Line) (may_want : ℕ → ℕ → Type 0) 
         (λ (d : (p == 0) ≡ false). by_other p d e a i) (cases_Bool (p == 0)) in
         (it.0, named e it.0 (opened (book_of l) e) refl it.1, it.2)
 
-pub only_wanted : (behaviour : Behaviour) (l : Line) (n : ℕ) (queue : SegId Global) (table : TableId) (pass : Pass) (seat : Seat)
+pub only_wanted : (behaviour : Behaviour) (l : Line) (n : ℕ) (queue : QueueId) (table : TableId) (pass : Pass) (seat : Seat)
     (c : Crew behaviour l n queue table pass seat) (may_want : ℕ → ℕ → Type 0) → AreWanted behaviour (roster_of l) may_want 1 c.mates
     → (r : Record) → Finished behaviour (λ _ _. ⊥) (roster_of l) 0 pass seat r → (after : Seat) (rows : List State)
     → Serves (roster_of l) r.seat (reads_from 1 rows) after → OnlyWanted may_want (told r.pass)

@@ -10,7 +10,7 @@ use Rattle.canvas_semantics.proofs.Numbered.{count_elements}
 use Rattle.canvas_rewrite.specs.Planned.{IsPlan}
 use Rattle.canvas_semantics.specs.States.{numbers_from, states}
 use Rattle.canvas_effects.specs.Effects.{first_messages}
-use Rattle.canvas_backend.specs.Backend.{no_results}
+use Rattle.canvas_history.specs.Table.{no_results}
 use Rattle.canvas_backend.specs.Plain.{held}
 use Rattle.canvas_runs.specs.Tally.{greatest_count}
 use Rattle.canvas_runs.specs.Law.{its_state}
@@ -36,7 +36,7 @@ use Rattle.canvas_engine.specs.steps.Stages.{rows_of, IsNew, AreNew, IsCoreAt, G
 use Rattle.canvas_engine.specs.declared.report.Report.{Report}
 use Rattle.canvas_engine.specs.declared.fault.RunFault.{RunFault}
 use Rattle.canvas_engine.specs.declared.fault.RunFault.TheVariants.{BadWorkers, BadTurn, Halted}
-use Rattle.canvas_engine.specs.declared.stage.Stage.{Stage}
+use Rattle.canvas_engine.specs.declared.turns.stage.Stage.{Stage}
 
 -- ---- how it starts
 

@@ -6,8 +6,8 @@ use Rattle.canvas_runs.specs.declared.when.When.{When}
 use Rattle.canvas_runs.specs.declared.when.When.TheVariants.{Early, Late}
 use Rattle.canvas_turns.specs.Spending.{Entry}
 use Rattle.canvas_engine.specs.CommaList.{IsNumberFromOne, Lists}
-use Rattle.canvas_engine.specs.declared.entry_list.EntryFault.{EntryFault}
-use Rattle.canvas_engine.specs.declared.entry_list.EntryFault.TheVariants.{BadAgain, Memory}
+use Rattle.canvas_engine.specs.declared.lists.entry_list.EntryFault.{EntryFault}
+use Rattle.canvas_engine.specs.declared.lists.entry_list.EntryFault.TheVariants.{BadAgain, Memory}
 
 abbrev pub when_text : When → List ℕ
 when_text Early = codes "early"

@@ -8,9 +8,9 @@ use Rattle.canvas_semantics.specs.Evaluation.{State}
 use Rattle.canvas_semantics.specs.Line.{Line, tree_of}
 use Rattle.canvas_semantics.specs.States.{states}
 use Rattle.canvas_message.specs.declared.envelope.Envelope.{Envelope}
-use Rattle.canvas_backend.specs.Backend.{Log}
-use Rattle.canvas_backend.specs.Roster.{roster_of}
-use Rattle.canvas_broker.specs.Broker.{QueueEntry as Entries}
+use Rattle.canvas_history.specs.Table.{Log}
+use Rattle.canvas_history.specs.Roster.{roster_of}
+use Rattle.canvas_history.specs.Queue.{QueueEntry as Entries}
 use Rattle.canvas_runs.specs.Calls.{backend_calls}
 use Rattle.canvas_runs.specs.Causes.{ByCause, ByItsCause, completions}
 use Rattle.canvas_runs.specs.Law.{publications}
@@ -20,8 +20,8 @@ use Rattle.canvas_runs.specs.Worker.{sealed}
 use Rattle.canvas_callers.specs.Accounts.{QueueAccounts, TableAccounts}
 use Rattle.canvas_callers.specs.CallerLaws.{broker_calls_seen}
 use Rattle.canvas_callers.specs.Rows.{RanWell}
-use Rattle.canvas_engine.specs.declared.records.Records.{Records}
-use Rattle.canvas_engine.specs.declared.records.Tally.{Tally}
+use Rattle.canvas_engine.specs.declared.threads.records.Records.{Records}
+use Rattle.canvas_engine.specs.declared.threads.records.Tally.{Tally}
 
 abbrev pub as_counts : Tally → Counts
 as_counts t =

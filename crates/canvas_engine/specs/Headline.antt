@@ -15,16 +15,15 @@ use Rattle.canvas_semantics.specs.Line.{Line, count_line, tree_of}
 use Rattle.canvas_semantics.specs.States.{states, numbers_from}
 use Rattle.canvas_values.specs.CanvasText.{json_of}
 use Rattle.canvas_values.specs.Fields.{field}
-use Rattle.canvas_message.specs.Among.{In}
+use Rattle.canvas_history.specs.Lists.{In, by, total}
 use Rattle.canvas_message.specs.FrozenGrammar.{task_of}
 use Rattle.canvas_message.specs.declared.envelope.Envelope.{Envelope}
-use Rattle.canvas_backend.specs.Backend as table
-use Rattle.canvas_backend.specs.Laws.{IsCompleting}
-use Rattle.canvas_backend.specs.Roster.{roster_of}
-use Rattle.canvas_broker.specs.Broker as queue
+use Rattle.canvas_history.specs.Table as table
+use Rattle.canvas_history.specs.TableLaws.{IsCompleting}
+use Rattle.canvas_history.specs.Roster.{roster_of}
+use Rattle.canvas_history.specs.Queue as queue
 use Rattle.canvas_runs.specs.Courses.{Course, sent_in, called_in, published_in}
-use Rattle.canvas_runs.specs.Lists.{by, total}
-use Rattle.canvas_engine.specs.declared.records.Records.{Records}
+use Rattle.canvas_engine.specs.declared.threads.records.Records.{Records}
 
 -- the callers that were made are 1 to n, and all have been taken in again
 abbrev pub HasCallers : {C R : Type 0} → ℕ → List (Entry C R) → Type 0

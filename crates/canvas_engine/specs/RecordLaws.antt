@@ -15,7 +15,7 @@ use Rattle.canvas_runs.specs.Logs.{queue_calls}
 use Rattle.canvas_runs.specs.Progress.{delivered_again, most_calls}
 use Rattle.canvas_engine.specs.Evidence.{IsRun}
 use Rattle.canvas_engine.specs.Headline.{OnlyWanted}
-use Rattle.canvas_engine.specs.declared.records.Records.{Records}
+use Rattle.canvas_engine.specs.declared.threads.records.Records.{Records}
 
 -- with the reads of worker 0 at the end, one of each task
 abbrev pub FewEntries : Type 0

@@ -8,14 +8,14 @@ use Rattle.canvas_semantics.specs.Evaluation.{State}
 use Rattle.canvas_semantics.specs.Line.{Line}
 use Rattle.canvas_effects.specs.Effects.{first_messages}
 use Rattle.canvas_message.specs.declared.envelope.Envelope.{Envelope}
-use Rattle.canvas_broker.specs.Broker as broker
+use Rattle.canvas_history.specs.Queue as queue
 use Rattle.canvas_runs.specs.Core.{Ask, to_queue}
 use Rattle.canvas_runs.specs.Worker.{sealed}
 use Rattle.canvas_turns.specs.Turns.{Step}
 use Rattle.canvas_engine.specs.Correct.{IsWholeRun}
 
 abbrev pub sent_by : Ask Envelope → List Envelope
-sent_by (to_queue (broker.publish e)) = e ∷ []
+sent_by (to_queue (queue.publish e)) = e ∷ []
 sent_by a = []
 
 abbrev pub sent_in : List Step → List Envelope

@@ -1,7 +1,7 @@
 //! The first messages of a run.
 ghost use Rattle.std.specs.Prelude.{◌≡◌, ◌++◌, map, IfOk, OnOk};
 ghost use Rattle.canvas_runs.specs.Following.{Makes};
-ghost use Rattle.canvas_runs.specs.Lists.{Each};
+ghost use Rattle.canvas_history.specs.Lists.{Each};
 ghost use Rattle.canvas_runs.specs.Run.{published_all};
 ghost use Rattle.canvas_runs.specs.Worker.{sealed};
 ghost use Rattle.canvas_engine.specs.steps.Stages.{ReadsAs};

@@ -1,36 +1,23 @@
 //! Runs of canvases and their reports.
 #![tactic(auto)]
 
-mod comma_list;
-mod crew;
-mod entries;
-mod entry_list;
 mod fault;
 mod firsts;
-mod gathered;
-mod in_rounds;
-mod records;
+mod lists;
 mod report;
 mod report_rows;
-mod running;
-mod sent;
-mod slot;
-mod stage;
 mod text;
 mod threads;
-mod turn_list;
 mod turns;
 
 ghost use Rattle.canvas_engine.specs.RecordLaws.{FewEntries, AllArePlain};
 
 pub use canvas_worker::{Cause, Gate, OpenGate, Stop, When};
-pub use entry_list::{EntryFault, read_again};
 pub use fault::{MOST_WORKERS, RunFault};
-pub use records::{Records, Tally};
+pub use lists::{EntryFault, read_again, read_turns};
 pub use report::{Report, report_text};
-pub use running::run;
 pub use text::{TextFault, run_text, run_text_again, run_text_recorded, run_text_threads};
-pub use turn_list::read_turns;
+pub use threads::{Records, Tally, run};
 pub use turns::{run_turns, run_turns_again, run_turns_traced, run_turns_within};
 
 /// What follows from what `run` leaves. Whatever the number of workers and their interleaving, its

@@ -10,7 +10,7 @@ ghost use Rattle.canvas_semantics.specs.States.{rows_from, states};
 ghost use Rattle.canvas_engine.specs.Correct.{AreWorkers, IsAsked, IsWholeAgain, IsRunFault, IsThreadFault};
 ghost use Rattle.canvas_engine.specs.Headline.{Headline, OnlyWanted};
 ghost use Rattle.canvas_engine.specs.Texts.{IsPlanOfText, IsStored, IsTextAgain, IsTextFault, IsTextRun};
-ghost use Rattle.canvas_engine.specs.declared.records.Records.{Records};
+ghost use Rattle.canvas_engine.specs.declared.threads.records.Records.{Records};
 ghost use Rattle.canvas_engine.specs.steps.PlanTexts.{IsPlanFault, IsReadFault};
 
 use crate::{Records, RunFault, When, report_text, run, run_turns_again};

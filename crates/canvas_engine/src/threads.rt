@@ -1,88 +1,11 @@
-//! Workers on threads.
-ghost use Rattle.std.specs.Prelude.{◌≡◌, All};
-ghost use denote.Param.Send.{IsSync, IsSend};
-ghost use Rattle.canvas_semantics.specs.Line.{Line};
-ghost use Rattle.canvas_rewrite.specs.Planned.{IsPlan};
-ghost use Rattle.canvas_backend.specs.Roster.{roster_of};
-ghost use Rattle.canvas_engine.specs.steps.Slots.{IsReadySlot, RanSlot, AllRan};
+//! Runs on threads.
+mod crew;
+mod gathered;
+mod in_rounds;
+mod records;
+mod running;
+mod slot;
+mod workers;
 
-use crate::in_rounds::InRounds;
-use crate::slot::{Post, Slot};
-use canvas_task::Tasks;
-use canvas_worker::{Gate, Shared, Worker};
-use futures::executor::block_on;
-use std::alloc::{AllocGlobal, Global};
-use std::mem;
-use std::random::RandomSource;
-use std::sync::Wait;
-use std::thread::{Threads, for_each_mut};
-
-/// Runs one worker to its end on this thread.
-fn work<R, T, G>(rt: &R, alloc: Global, shared: &Shared<'_, T, G>, slot: &mut Slot)
-where
-    R: Wait + RandomSource + AllocGlobal,
-    T: Tasks,
-    G: Gate,
-    requires plan { (l : Line) × IsPlan l × (shared.now.backend.now.plan ≡ roster_of l) }
-    requires ready { IsReadySlot shared.now.broker.now shared.now.backend.now.id slot.old }
-    ensures { RanSlot (T.behaviour shared.now.tasks.now) (G.may_want shared.now.gate.now)
-        shared.now.backend.now.plan slot.old slot.new }
-{
-    match mem::replace(&mut slot.post, Post::Lost) {
-        Post::Ready(pass, seat) => {
-            let worker = Worker::new(rt, alloc, shared, slot.number, pass, seat);
-            match block_on(rt, InRounds { future: worker }) {
-                Ok(left) => slot.post = Post::Done(left),
-                Err(_) => shared.stop.ask(),
-            }
-        }
-        Post::Done(_) => unreachable!(),
-        Post::Lost => unreachable!(),
-    }
-}
-
-/// Runs each worker on a thread of its own, or on this one where none can be made: there they work
-/// one after the other, each until no message is in flight.
-pub(crate) fn work_on_threads<R, T, G>(
-    rt: &R,
-    alloc: Global,
-    shared: &Shared<'_, T, G>,
-    slots: &mut [Slot],
-)
-where
-    R: Threads + Wait + RandomSource + AllocGlobal + Sync,
-    T: Tasks + Sync,
-    G: Gate + Sync,
-    requires plan { (l : Line) × IsPlan l × (shared.now.backend.now.plan ≡ roster_of l) }
-    requires ready { All (IsReadySlot shared.now.broker.now shared.now.backend.now.id) slots.old }
-    ensures { AllRan (T.behaviour shared.now.tasks.now) (G.may_want shared.now.gate.now)
-        shared.now.backend.now.plan slots.old slots.new }
-{
-    if slots.is_empty() {
-        return;
-    }
-    let (broker, backend, tasks) = (shared.broker, shared.backend, shared.tasks);
-    let (gate, stop, flight) = (shared.gate, shared.stop, shared.flight);
-    let each = |_: usize, slot: &mut Slot|
-        requires { ((l : Line) × IsPlan l × (backend.now.plan ≡ roster_of l))
-            × IsReadySlot broker.now backend.now.id slot.now }
-        ensures { RanSlot (T.behaviour tasks.entry.now) (G.may_want gate.entry.now)
-            backend.entry.now.plan slot.entry.now slot.exit.now }
-    {
-        work(
-            rt,
-            alloc,
-            &Shared {
-                broker,
-                backend,
-                tasks,
-                gate,
-                stop,
-                flight,
-            },
-            slot,
-        )
-    };
-    let threads = slots.len();
-    for_each_mut(rt, slots, threads, &each);
-}
+pub use records::{Records, Tally};
+pub use running::run;

@@ -1,4 +1,5 @@
 pub mod Histories
 pub mod Calls
-pub mod Shares
 pub mod CallerLaws
+pub mod TableLaws
+pub mod Rosters

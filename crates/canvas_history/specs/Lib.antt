@@ -1,5 +1,11 @@
+pub mod Lists
 pub mod History
 pub mod Callers
 pub mod Answers
+pub mod Queue
+pub mod Passes
+pub mod Roster
+pub mod Table
+pub mod Seats
+pub mod TableLaws
 pub mod codes
-pub mod steps

@@ -1,4 +1,10 @@
 //! Histories of an object that several callers share, whatever the object: who called, what, and
-//! what was answered, in one order. There is no running code here: the queue and the table of
-//! results are stated by it.
+//! what was answered, in one order; and the two objects of a run, the queue and the table of
+//! results, as one thread would have them. The only running code here is an answer of the table.
 #![tactic(auto)]
+
+mod laws;
+mod stored;
+
+pub use laws::{all_first, first_may, no_more, reads_first, still_may};
+pub use stored::Stored;

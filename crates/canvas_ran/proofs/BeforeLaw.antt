@@ -4,7 +4,7 @@ use Rattle.std.specs.Prelude.{ℤ}
 use Rattle.canvas_task.specs.Apply.{Behaviour}
 use Rattle.canvas_task.specs.declared.outcome.Outcome.{Outcome}
 use Rattle.canvas_task.specs.declared.outcome.Outcome.TheVariants.{Success, Failure}
-use Rattle.canvas_message.specs.Among.{In}
+use Rattle.canvas_history.specs.Lists.{In, Each}
 use Rattle.canvas_semantics.specs.Tree.{Call, Task, task, Tasks, no_tasks, and_task}
 use Rattle.canvas_semantics.specs.Evaluation.{Flow, nothing, num, list, id, skip, raised, State, Rows, state_of, with_states, state, to_links, to_errbacks, passed_on, in_front, gathered, group_value, all_ends}
 use Rattle.canvas_semantics.specs.FileOrder.{TaskIn, TasksIn, LineIn, LinesIn}
@@ -12,8 +12,7 @@ use Rattle.canvas_semantics.specs.Line.{Line, stop, step, group_end, chord_end, 
 use Rattle.canvas_semantics.proofs.EndLemmas.{ends_of_tree}
 use Rattle.canvas_rewrite.specs.Planned.{IsPlan}
 use Rattle.canvas_rewrite.proofs.InOrder.{plan_in_order}
-use Rattle.canvas_runs.specs.Lists.{Each}
-use Rattle.canvas_runs.proofs.Words.{each_append, each_weaker}
+use Rattle.canvas_runs.proofs.Lists.Words.{each_append, each_weaker}
 use Rattle.canvas_ran.specs.Ran.{Fates, fate, blamed_behind, blamed_for, task_fates, tasks_fates, header_out, line_fates, lines_fates, fates}
 use Rattle.canvas_ran.specs.RanLaws.{BlamedBefore}
 use Rattle.canvas_ran.specs.declared.fate.Fate.{Fate}

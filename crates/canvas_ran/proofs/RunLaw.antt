@@ -15,7 +15,7 @@ use Rattle.canvas_semantics.proofs.EndLemmas.{ends_of_tree}
 use Rattle.canvas_rewrite.specs.FrozenView.{PCarried}
 use Rattle.canvas_rewrite.specs.Planned.{IsPlan}
 use Rattle.canvas_rewrite.proofs.InOrder.{plan_in_order}
-use Rattle.canvas_message.specs.Among.{In}
+use Rattle.canvas_history.specs.Lists.{In}
 use Rattle.canvas_message.specs.Content.{Content, number_of}
 use Rattle.canvas_effects.specs.Effects as effects
 use Rattle.canvas_effects.specs.Effects.{outcome_of, part_of, header_flow}
@@ -23,7 +23,7 @@ use Rattle.canvas_effects.specs.Events.{Event, start, end_of_line, EventJobs, la
 use Rattle.canvas_effects.specs.Flowing.{Input, no_input, number_input, list_input, id_input, LineFlow, run, skips, raise, input_flow, flow_of, after_outcome}
 use Rattle.canvas_effects.specs.Job.{Job, store, publish, part}
 use Rattle.canvas_effects.specs.Placing.{last_task}
-use Rattle.canvas_runs.proofs.EventStates.{event_states}
+use Rattle.canvas_runs.proofs.Laws.EventStates.{event_states}
 use Rattle.canvas_ran.specs.Ran.{Fates, fate, blamed_behind, blamed_for, task_fates, tasks_fates, header_out, line_fates, lines_fates, fates}
 use Rattle.canvas_ran.specs.RanLaws.{RanIsRun}
 use Rattle.canvas_ran.specs.declared.fate.Fate.{Fate}

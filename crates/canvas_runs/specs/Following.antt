@@ -8,12 +8,12 @@
 use Rattle.std.specs.Prelude.{◌+◌, ◌≡◌, List, [], ◌∷◌, length, Option, None}
 use Rattle.canvas_history.specs.History.{calls}
 use Rattle.canvas_message.specs.declared.envelope.Envelope.{Envelope}
-use Rattle.canvas_backend.specs.Seats as seats
-use Rattle.canvas_backend.specs.Roster.{Roster}
-use Rattle.canvas_broker.specs.Passes as passes
+use Rattle.canvas_history.specs.Seats as seats
+use Rattle.canvas_history.specs.Roster.{Roster}
+use Rattle.canvas_history.specs.Passes as passes
 use Rattle.canvas_runs.specs.Core.{CoreState, taking, over, IsCoreRun, left_after, Between}
 use Rattle.canvas_runs.specs.Calls.{QueueAnswered, TableAnswered, FollowsScripts, AskedAndAnswered, broker_calls, core_calls, backend_calls, takes_one}
-use Rattle.canvas_runs.specs.Lists.{total}
+use Rattle.canvas_history.specs.Lists.{total}
 use Rattle.canvas_runs.specs.Tally.{Tally, none_yet, Counted}
 use Rattle.canvas_runs.specs.Protocol.{Protocol}
 

@@ -24,11 +24,11 @@ use Rattle.canvas_rewrite.specs.Planned.{IsPlan}
 use Rattle.canvas_rewrite.specs.Utf8.{IsUtf8Line}
 use Rattle.canvas_message.specs.Content.{Content}
 use Rattle.canvas_message.specs.declared.envelope.Envelope.{Envelope}
-use Rattle.canvas_broker.specs.Broker as broker
+use Rattle.canvas_history.specs.Queue as queue
 use Rattle.canvas_runs.specs.Calls.{QueueAnswered, AskedAndAnswered, broker_calls, core_calls, backend_calls, takes_one}
 use Rattle.canvas_runs.specs.Core.{CoreState, taking, over, failed, left_after, Between}
 use Rattle.canvas_runs.specs.Law.{IsRunMessage}
-use Rattle.canvas_runs.specs.Lists.{by, total, seconds}
+use Rattle.canvas_history.specs.Lists.{by, total, seconds}
 use Rattle.canvas_runs.specs.Logs.{queue_calls}
 use Rattle.canvas_runs.specs.Run.{Run, Closed}
 use Rattle.canvas_runs.specs.Worker.{IsReadBack, worker}
@@ -46,10 +46,10 @@ of_workers (suc n) f = of_workers n f + f (suc n)
 
 -- 1 where the call delivers an envelope again
 abbrev pub redelivers_one : QueueAnswered Envelope → ℕ
-redelivers_one (broker.redeliver e, r) = 1
+redelivers_one (queue.redeliver e, r) = 1
 redelivers_one c = 0
 
-abbrev pub delivered_again : List (broker.QueueEntry Envelope) → ℕ
+abbrev pub delivered_again : List (queue.QueueEntry Envelope) → ℕ
 delivered_again queue = total redelivers_one (seconds (queue_calls queue))
 
 -- A task's message is published, taken and acknowledged once, its outcome stored and its part
@@ -145,7 +145,7 @@ abbrev pub NoneWaits : Type 0
 NoneWaits =
     (behaviour : Behaviour) (l : Line) → IsPlan l → AllReadBack behaviour l
     → (r : Run behaviour l) → UnderWay behaviour l r → (p : ℕ) → CanGoOn behaviour l r p
-    → Next behaviour l r p ⊎ (AtRest behaviour l r p × (broker.queue_of r.queue ≡ []))
+    → Next behaviour l r p ⊎ (AtRest behaviour l r p × (queue.queue_of r.queue ≡ []))
 
 -- so no run that is under way is stuck before it is closed
 abbrev pub NeverStuck : Type 0

@@ -7,28 +7,28 @@ use Rattle.canvas_semantics.specs.Line.{Line}
 use Rattle.canvas_message.specs.Content.{Content}
 use Rattle.canvas_effects.specs.Effects.{first_messages}
 use Rattle.canvas_message.specs.declared.envelope.Envelope.{Envelope}
-use Rattle.canvas_backend.specs.Backend as results
-use Rattle.canvas_backend.specs.Roster.{roster_of}
-use Rattle.canvas_broker.specs.Broker as broker
+use Rattle.canvas_history.specs.Table.{read, found, Log, IsLegal as IsTableHistory}
+use Rattle.canvas_history.specs.Roster.{roster_of}
+use Rattle.canvas_history.specs.Queue.{publish, QueueEntry, queue_of, IsLegal as IsQueueHistory}
 use Rattle.canvas_runs.specs.Core.{IsCoreRun, taking, left_after, Between}
 use Rattle.canvas_runs.specs.Calls.{QueueAnswered, TableAnswered, makes, FollowsScripts, AskedAndAnswered, broker_calls, core_calls, backend_calls, takes_one}
-use Rattle.canvas_runs.specs.Lists.{Each, by, total}
+use Rattle.canvas_history.specs.Lists.{Each, by, total}
 use Rattle.canvas_runs.specs.Logs.{queue_calls}
 use Rattle.canvas_runs.specs.Worker.{IsReadBack, worker, sealed}
 
 abbrev pub IsRead : TableAnswered → Type 0
-IsRead (results.read t, results.found x) = Unit
+IsRead (read t, found x) = Unit
 IsRead c = ⊥
 
 abbrev pub published_all : {E : Type 0} → List E → List (QueueAnswered E)
 published_all [] = []
-published_all (e ∷ es) = (broker.publish e, None) ∷ published_all es
+published_all (e ∷ es) = (publish e, None) ∷ published_all es
 
 pub record Run (behaviour : Behaviour) (l : Line) : Type 0 where
-  pub queue : List (broker.QueueEntry Envelope)
-  pub table : results.Log
-  pub queue_legal : broker.IsLegal queue
-  pub table_legal : results.IsLegal (roster_of l) table
+  pub queue : List (QueueEntry Envelope)
+  pub table : Log
+  pub queue_legal : IsQueueHistory queue
+  pub table_legal : IsTableHistory (roster_of l) table
   pub core : ℕ → List (AskedAndAnswered Envelope)
   pub is_core : (p : ℕ) → IsCoreRun (worker behaviour l) taking (core p)
   -- What worker 0 publishes before all else, what is left of the first messages, and what it reads
@@ -52,7 +52,7 @@ pub record Run (behaviour : Behaviour) (l : Line) : Type 0 where
 -- script, and no core run stops inside one.
 pub record Closed (behaviour : Behaviour) (l : Line) (r : Run behaviour l) : Type 0 where
   pub all_sent : r.unsent ≡ []
-  pub drained : broker.queue_of r.queue ≡ []
+  pub drained : queue_of r.queue ≡ []
   pub all_used : (p : ℕ)
       → total takes_one (by p (queue_calls r.queue)) ≡ total takes_one (broker_calls (r.core p))
   pub all_ended : (p : ℕ) → Between (left_after (worker behaviour l) taking (r.core p))

@@ -7,8 +7,8 @@ mod when;
 
 ghost use Rattle.std.specs.Prelude.{◌≡◌, ◌≤◌, ℕ};
 ghost use Rattle.canvas_task.specs.Apply.{Behaviour, six_tasks};
-ghost use Rattle.canvas_backend.specs.Backend.{IsLegal, results};
-ghost use Rattle.canvas_backend.specs.Roster.{roster_of};
+ghost use Rattle.canvas_history.specs.Table.{IsLegal, results};
+ghost use Rattle.canvas_history.specs.Roster.{roster_of};
 ghost use Rattle.canvas_semantics.specs.Evaluation.{state_of, meaning};
 ghost use Rattle.canvas_semantics.specs.Line.{Line, tree_of};
 ghost use Rattle.canvas_rewrite.specs.Planned.{IsPlan};
@@ -23,7 +23,7 @@ ghost use Rattle.canvas_runs.specs.Run.{Run, Closed};
 ghost use Rattle.canvas_runs.specs.Witness.{small, queue, table, lost_part, not_taken, goes_on, acks_first};
 ghost use Rattle.canvas_runs.specs.Core.{IsCoreRun, taking};
 ghost use Rattle.canvas_runs.specs.Worker.{worker};
-ghost use Rattle.canvas_broker.specs.Broker.{IsLegal as IsQueueLegal};
+ghost use Rattle.canvas_history.specs.Queue.{IsLegal as IsQueueLegal};
 
 pub use when::When;
 

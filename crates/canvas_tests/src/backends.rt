@@ -1,7 +1,7 @@
 //! The backend, by sixteen seats in threads.
 
 ghost use Rattle.std.specs.Prelude.{◌≡◌, ◌≤◌, IsTrue, IfSome, All};
-ghost use Rattle.canvas_backend.specs.Roster.{is_chord, is_member};
+ghost use Rattle.canvas_history.specs.Roster.{is_chord, is_member};
 ghost use Rattle.canvas_task.specs.Apply.{IsInRange};
 
 use crate::tasks::group;

@@ -6,27 +6,26 @@ use Rattle.canvas_task.specs.Apply.{Behaviour}
 use Rattle.canvas_semantics.specs.Line.{Line}
 use Rattle.canvas_rewrite.specs.Planned.{IsPlan}
 use Rattle.canvas_message.specs.Content.{Content, number_of}
-use Rattle.canvas_message.specs.Among.{In}
+use Rattle.canvas_history.specs.Lists.{In, Each, total, seconds}
 use Rattle.canvas_message.specs.declared.envelope.Envelope.{Envelope}
-use Rattle.canvas_backend.specs.declared.stored.Stored.TheVariants.{Again}
-use Rattle.canvas_backend.specs.Backend as results
-use Rattle.canvas_broker.specs.Broker as broker
+use Rattle.canvas_history.specs.declared.stored.Stored.TheVariants.{Again}
+use Rattle.canvas_history.specs.Table as table
+use Rattle.canvas_history.specs.Queue as queue
 use Rattle.canvas_runs.specs.Book.{book_of}
 use Rattle.canvas_runs.specs.Calls.{QueueAnswered}
 use Rattle.canvas_runs.specs.Core.{Ask, Reply, to_table, from_table, taking, resting, over, Doing, Between}
 use Rattle.canvas_runs.specs.Law.{of_task, takes_one_of, agains_one_of, agains_one, IsRunMessage, publications, publishes_one, takes_of_task, redeliveries, again_stores, FirstPart, SecondPart}
-use Rattle.canvas_runs.specs.Lists.{Each, total, seconds}
 use Rattle.canvas_runs.specs.Logs.{queue_calls}
 use Rattle.canvas_runs.specs.Run.{Run, published_all}
 use Rattle.canvas_runs.specs.declared.when.When.{When}
 use Rattle.canvas_runs.specs.declared.when.When.TheVariants.{Early, Late}
 use Rattle.canvas_runs.specs.Worker.{worker, opened}
-use Rattle.canvas_runs.proofs.Facts.{X}
-use Rattle.canvas_runs.proofs.FirstLaw.{again_weight, first_part, run_again, run_sealed}
-use Rattle.canvas_runs.proofs.SecondLaw.{second_part}
-use Rattle.canvas_runs.proofs.StoredOnce.{agains_task}
-use Rattle.canvas_runs.proofs.Sums.{sum_to-le, sum_to, sum_to-same, sum_to-zero, sum_to-both, total-zero, find_heavy, in_total}
-use Rattle.canvas_runs.proofs.Words.{each_append, each_from_in}
+use Rattle.canvas_runs.proofs.Laws.Facts.{X}
+use Rattle.canvas_runs.proofs.Laws.FirstLaw.{again_weight, first_part, run_again, run_sealed}
+use Rattle.canvas_runs.proofs.Laws.SecondLaw.{second_part}
+use Rattle.canvas_runs.proofs.Runs.StoredOnce.{agains_task}
+use Rattle.canvas_runs.proofs.Lists.Sums.{sum_to-le, sum_to, sum_to-same, sum_to-zero, sum_to-both, total-zero, find_heavy, in_total}
+use Rattle.canvas_runs.proofs.Lists.Words.{each_append, each_from_in}
 use Rattle.canvas_turns.specs.Going.{most_steps}
 use Rattle.canvas_turns.specs.Spending.{Entry, is_for, ByEntries, RanAgain, answers_again, agains_in, IsRunTask, RunEntries, no_entry, one_run, one_idle}
 use Rattle.canvas_turns.specs.TurnLaws.{ByTurns}
@@ -38,7 +37,7 @@ use Rattle.canvas_turns.proofs.TurnLaw.{the_run, the_closed, all_between, rounds
 use Rattle.canvas_turns.proofs.TurnRuns.{firsts}
 use Rattle.canvas_turns.proofs.TurnWalk.{holds_first}
 use Rattle.canvas_turns.proofs.TurnSums.{redelivers_few, in_table, queue_split, table_total}
-use Rattle.canvas_runs.proofs.FewCalls.{again_sum}
+use Rattle.canvas_runs.proofs.Ends.FewCalls.{again_sum}
 
 -- ---- sums by key
 
@@ -80,7 +79,7 @@ total_as v w e (x ∷ xs) = ap₂ (λ a b. a + b) (e x) (total_as v w e xs)
 
 -- the task whose store answers
 abbrev stores_of : Ask Envelope → ℕ
-stores_of (to_table (results.store t o)) = t
+stores_of (to_table (table.store t o)) = t
 stores_of a = 0
 
 module _ (behaviour : Behaviour) (l : Line) where
@@ -89,8 +88,8 @@ module _ (behaviour : Behaviour) (l : Line) where
     where
       go : (a : Ask Envelope) (r : Reply Envelope)
           → cond (eqb (stores_of a) k) (answers_again a r) 0 ≡ in_table behaviour l (agains_one k) (a, r)
-      go (to_table (results.store t o)) (from_table (results.was Again)) = omega arith
-      go (to_table (results.store t o)) (from_table r) = zero_either (eqb t k)
+      go (to_table (table.store t o)) (from_table (table.was Again)) = omega arith
+      go (to_table (table.store t o)) (from_table r) = zero_either (eqb t k)
       go (to_table c) (from_table r) = zero_either (eqb 0 k)
       go a r = zero_either (eqb (stores_of a) k)
 
@@ -237,7 +236,7 @@ module _ (behaviour : Behaviour) (l : Line) (n : ℕ) (es : List Entry) (us : Li
     ]
       where
         of_call : (y : QueueAnswered Envelope) → In y (seconds (queue_calls R.queue)) → (agains_one_of l k y ≡ 0 → ⊥) → IsRunTask behaviour l k
-        of_call (broker.redeliver e, r) i d =
+        of_call (queue.redeliver e, r) i d =
             let m = run_again behaviour l t.plan R e r i in
             run_where k (opened (book_of l) e) (λ c o. subst (IsRunMessage behaviour l) (some_same (opened (book_of l) e) m.0 c m.2 o) m.3) d
         of_call c i d = absurd (d refl)
@@ -249,7 +248,7 @@ module _ (behaviour : Behaviour) (l : Line) (n : ℕ) (es : List Entry) (us : Li
     ]
       where
         of_call : (y : QueueAnswered Envelope) → In y (seconds (queue_calls R.queue)) → (publishes_one l k y ≡ 0 → ⊥) → IsRunTask behaviour l k
-        of_call (broker.publish e, r) i d =
+        of_call (queue.publish e, r) i d =
             let m = run_sealed behaviour l t.plan R e r i in
             run_where k (opened (book_of l) e) (λ c o. subst (IsRunMessage behaviour l) (some_same (opened (book_of l) e) m.0 c m.2 o) m.3) d
         of_call c i d = absurd (d refl)

@@ -4,14 +4,14 @@ use Rattle.std.proofs.lemmas.Bool.{cases_eq}
 use Rattle.canvas_task.specs.Apply.{six_tasks}
 use Rattle.canvas_message.specs.Content.{Content}
 use Rattle.canvas_message.specs.declared.envelope.Envelope.{Envelope}
-use Rattle.canvas_backend.specs.declared.stored.Stored.TheVariants.{First}
+use Rattle.canvas_history.specs.declared.stored.Stored.TheVariants.{First}
 use Rattle.canvas_runs.specs.Book.{book_of}
 use Rattle.canvas_runs.specs.Calls.{AskedAndAnswered, of_scripts}
 use Rattle.canvas_runs.specs.Core.{Ask, Reply, rest, ack, rested, acked, taking, ask, opens, left_after, ReadsBack, Doing, is_inside}
 use Rattle.canvas_runs.specs.Protocol.{Protocol}
 use Rattle.canvas_runs.specs.Witness.{small, first_sum, second_sum, whole_sum, two, four, six}
 use Rattle.canvas_runs.specs.Worker.{worker, sealed, opened}
-use Rattle.canvas_runs.proofs.ChordRuns.{first_back, second_back, whole_back, first_opens, second_opens, whole_opens}
+use Rattle.canvas_runs.proofs.Envelopes.ChordRuns.{first_back, second_back, whole_back, first_opens, second_opens, whole_opens}
 use Rattle.canvas_turns.specs.Turns.{Step, left, Answers, HasEnded, Turned, all_taken, skips_turn, takes_turn, delivers_again, AllEnded, RanWhole, rounds}
 use Rattle.canvas_turns.proofs.Shorts.{take, publish, store, part, read, taken, sent, stored, counted, found}
 use Rattle.canvas_turns.specs.TurnWitness.{listed_turns, witness_steps as steps, hasty}

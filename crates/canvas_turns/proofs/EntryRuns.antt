@@ -6,14 +6,14 @@ use Rattle.uuid.specs.Text.{by_index}
 use Rattle.canvas_task.specs.Apply.{six_tasks}
 use Rattle.canvas_semantics.specs.Line.{Line}
 use Rattle.canvas_message.specs.declared.envelope.Envelope.{Envelope}
-use Rattle.canvas_backend.specs.declared.stored.Stored.TheVariants.{First, Again}
+use Rattle.canvas_history.specs.declared.stored.Stored.TheVariants.{First, Again}
 use Rattle.canvas_runs.specs.Core as core
 use Rattle.canvas_runs.specs.Book.{book_of}
 use Rattle.canvas_runs.specs.Calls.{AskedAndAnswered}
 use Rattle.canvas_runs.specs.Core.{Ask, Reply, ack, rested, acked, ask, opens, left_after, ReadsBack, Doing, is_inside}
 use Rattle.canvas_runs.specs.declared.when.When.TheVariants.{Early, Late}
 use Rattle.canvas_runs.specs.Worker.{worker, sealed, IsReadBack, opened, known_one}
-use Rattle.canvas_runs.proofs.AsciiBack.{AreAscii, ascii_back}
+use Rattle.canvas_runs.proofs.Envelopes.AsciiBack.{AreAscii, ascii_back}
 use Rattle.canvas_turns.specs.EntryWitness.{product, product_sum, product_whole, eight, sixty_four, both_points, product_steps, quotient, quotient_linked, no_quotient, link_entry, quotient_steps, unspent}
 use Rattle.canvas_turns.specs.Spending.{Entry, wanted, spent, point, point_of, comes_to, TurnedAgain, no_turn, skips, takes, spends, RanAgain, agains_in}
 use Rattle.canvas_turns.specs.Turns.{Step, redelivery, left, holds, Answers, HasEnded, AllEnded, rounds}

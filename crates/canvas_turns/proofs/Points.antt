@@ -5,12 +5,12 @@ use Rattle.canvas_semantics.specs.Line.{Line}
 use Rattle.canvas_message.specs.Content.{Content, number_of}
 use Rattle.canvas_effects.specs.Job.{store, publish, part}
 use Rattle.canvas_message.specs.declared.envelope.Envelope.{Envelope}
-use Rattle.canvas_backend.specs.Backend as results
-use Rattle.canvas_broker.specs.Broker as broker
+use Rattle.canvas_history.specs.Table as table
+use Rattle.canvas_history.specs.Queue as queue
 use Rattle.canvas_runs.specs.Book.{book_of}
 use Rattle.canvas_runs.specs.Calls.{AskedAndAnswered, scripts_of, held_by, held_after}
 use Rattle.canvas_runs.specs.Core.{Ask, Reply, to_queue, from_queue, from_table, refused, rested, acked, taking, resting, owning, doing, reading, acking, ask, answered, Doing, settled, opens, owned, part_counted, all_read, is_due, Suits, IsCoreRun, left_after}
-use Rattle.canvas_runs.specs.Lists.{by}
+use Rattle.canvas_history.specs.Lists.{by}
 use Rattle.canvas_runs.specs.declared.when.When.TheVariants.{Early}
 use Rattle.canvas_runs.specs.Worker.{worker, opened}
 use Rattle.canvas_turns.specs.Spending.{message_in, point_of, point, comes_to}
@@ -38,16 +38,16 @@ module _ (behaviour : Behaviour) (l : Line) where
       go (Some m) q = q
   owns_step resting h (rested true) u = tt
   owns_step resting h (rested false) u = tt
-  owns_step (owning m) h (from_table (results.was b)) u = owns_other (owned (worker behaviour l) m b) h (past_owned behaviour l 0 m b).0
-  owns_step (doing (store t o ∷ js) b) h (from_table (results.was a)) u =
+  owns_step (owning m) h (from_table (table.was b)) u = owns_other (owned (worker behaviour l) m b) h (past_owned behaviour l 0 m b).0
+  owns_step (doing (store t o ∷ js) b) h (from_table (table.was a)) u =
       owns_other (settled (worker behaviour l) js (cond (is_due t js) a b)) h (past_settled behaviour l 0 js (cond (is_due t js) a b)).0
   owns_step (doing (publish m ∷ js) b) h (from_queue None) u = owns_other (settled (worker behaviour l) js b) h (past_settled behaviour l 0 js b).0
   owns_step (doing (publish m ∷ js) b) h refused u = tt
-  owns_step (doing (part g t c ∷ js) b) h (from_table (results.count i)) u =
+  owns_step (doing (part g t c ∷ js) b) h (from_table (table.count i)) u =
       owns_other (part_counted (worker behaviour l) g c i) h (handed_owning behaviour l 0 g c i)
-  owns_step (reading g c t fs) h (from_table (results.found (Some o))) u =
+  owns_step (reading g c t fs) h (from_table (table.found (Some o))) u =
       owns_other (all_read (worker behaviour l) g c (fs ++ (t, o) ∷ [])) h (read_owning behaviour l 0 g c (fs ++ (t, o) ∷ []))
-  owns_step (reading g c t fs) h (from_table (results.found None)) u = tt
+  owns_step (reading g c t fs) h (from_table (table.found None)) u = tt
   owns_step acking h acked u = tt
   owns_step s h r u = elim u [ ]
 
@@ -61,7 +61,7 @@ module _ (behaviour : Behaviour) (l : Line) where
           → Owns (left_after (worker behaviour l) z (scripts_of ys)) (held_after k ys))
           → IsCoreRun (worker behaviour l) s (scripts_of ((a, r) ∷ ys))
           → Owns (left_after (worker behaviour l) s (scripts_of ((a, r) ∷ ys))) (held_after (held_by h a r) ys)
-      go (to_queue (broker.redeliver e)) r f c = f s h o c
+      go (to_queue (queue.redeliver e)) r f c = f s h o c
       go a r f c = f (answered (worker behaviour l) s r) (held_by h a r)
           (subst (λ b. Owns (answered (worker behaviour l) s r) (held_by h b r)) (sym c.0) (owns_step s h r (subst (λ b. Suits b r) c.0 c.1.0))) c.2
 

@@ -8,18 +8,18 @@ use Rattle.canvas_rewrite.specs.FrozenView.{PCarried}
 use Rattle.canvas_message.specs.Content.{Content, number_of}
 use Rattle.canvas_effects.specs.Job.{store, publish, part}
 use Rattle.canvas_message.specs.declared.envelope.Envelope.{Envelope}
-use Rattle.canvas_backend.specs.declared.stored.Stored.{Stored}
-use Rattle.canvas_backend.specs.declared.stored.Stored.TheVariants.{First, Again}
-use Rattle.canvas_backend.specs.Backend as results
+use Rattle.canvas_history.specs.declared.stored.Stored.{Stored}
+use Rattle.canvas_history.specs.declared.stored.Stored.TheVariants.{First, Again}
+use Rattle.canvas_history.specs.Table as table
 use Rattle.canvas_runs.specs.Book.{book_of}
 use Rattle.canvas_runs.specs.Calls.{held_by}
 use Rattle.canvas_runs.specs.Core.{Reply, from_queue, from_table, refused, rested, acked, taking, resting, over, failed, owning, doing, reading, acking, ask, answered, Doing, Jobs, settled, opens, owned, part_counted, all_read, is_inside, is_due, Suits, Ask, ReadsBack, reads_next}
 use Rattle.canvas_runs.specs.Law.{of_task, takes_one_of}
-use Rattle.canvas_runs.specs.Lists.{total}
+use Rattle.canvas_history.specs.Lists.{total}
 use Rattle.canvas_runs.specs.declared.when.When.{When}
 use Rattle.canvas_runs.specs.declared.when.When.TheVariants.{Early, Late}
 use Rattle.canvas_runs.specs.Worker.{worker, opened}
-use Rattle.canvas_runs.proofs.MoreAsks.{reads_cases}
+use Rattle.canvas_runs.proofs.Runs.MoreAsks.{reads_cases}
 use Rattle.canvas_turns.specs.Spending.{Entry, same_when, is_for, has, without, wanted, spent, message_in, point_of, point, comes_to, TurnedAgain, no_turn, skips, takes, spends}
 use Rattle.canvas_turns.specs.Turns.{Step, redelivery, Turned, all_taken, skips_turn, takes_turn, delivers_again, HasEnded, redeliveries_in, Answers, IsWorker, left, holds}
 use Rattle.canvas_turns.proofs.TurnSums.{in_queue}
@@ -284,19 +284,19 @@ module _ (behaviour : Behaviour) (l : Line) (k : ℕ) where
       go (Some m) = omega arith
   step_early resting h (rested true) u = refl
   step_early resting h (rested false) u = refl
-  step_early (owning m) h (from_table (results.was b)) u =
+  step_early (owning m) h (from_table (table.was b)) u =
       let a = one_here Early Early refl (message_in l h) in
       let z = goes_early (owned (worker behaviour l) m b) h (past_owned m b).0 in omega (arith, a, z)
-  step_early (doing (store t o ∷ js) b) h (from_table (results.was a)) u =
+  step_early (doing (store t o ∷ js) b) h (from_table (table.was a)) u =
       let z = goes_early (settled (worker behaviour l) js (cond (is_due t js) a b)) h (past_settled js (cond (is_due t js) a b)).0 in omega (arith, z)
   step_early (doing (publish m ∷ js) b) h (from_queue None) u =
       let z = goes_early (settled (worker behaviour l) js b) h (past_settled js b).0 in omega (arith, z)
   step_early (doing (publish m ∷ js) b) h refused u = refl
-  step_early (doing (part g t c ∷ js) b) h (from_table (results.count i)) u =
+  step_early (doing (part g t c ∷ js) b) h (from_table (table.count i)) u =
       let z = goes_early (part_counted (worker behaviour l) g c i) h (handed_owning g c i) in omega (arith, z)
-  step_early (reading g c t fs) h (from_table (results.found (Some o))) u =
+  step_early (reading g c t fs) h (from_table (table.found (Some o))) u =
       let z = goes_early (all_read (worker behaviour l) g c (fs ++ (t, o) ∷ [])) h (read_owning g c (fs ++ (t, o) ∷ [])) in omega (arith, z)
-  step_early (reading g c t fs) h (from_table (results.found None)) u = refl
+  step_early (reading g c t fs) h (from_table (table.found None)) u = refl
   step_early acking h acked u = let z = none_here Early Late refl (message_in l h) in omega (arith, z)
   step_early s h r u = elim u [ ]
 
@@ -310,19 +310,19 @@ module _ (behaviour : Behaviour) (l : Line) (k : ℕ) where
       go (Some m) = omega arith
   step_late resting h (rested true) u f = refl
   step_late resting h (rested false) u f = refl
-  step_late (owning m) h (from_table (results.was b)) u f =
+  step_late (owning m) h (from_table (table.was b)) u f =
       let a = none_here Late Early refl (message_in l h) in
       let z = goes_late (owned (worker behaviour l) m b) h (past_owned m b).1 in omega (arith, a, z)
-  step_late (doing (store t o ∷ js) b) h (from_table (results.was a)) u f =
+  step_late (doing (store t o ∷ js) b) h (from_table (table.was a)) u f =
       let z = goes_late (settled (worker behaviour l) js (cond (is_due t js) a b)) h (past_settled js (cond (is_due t js) a b)).1 in omega (arith, z)
   step_late (doing (publish m ∷ js) b) h (from_queue None) u f =
       let z = goes_late (settled (worker behaviour l) js b) h (past_settled js b).1 in omega (arith, z)
   step_late (doing (publish m ∷ js) b) h refused u f = absurd (false≢true (sym f))
-  step_late (doing (part g t c ∷ js) b) h (from_table (results.count i)) u f =
+  step_late (doing (part g t c ∷ js) b) h (from_table (table.count i)) u f =
       let z = goes_late (part_counted (worker behaviour l) g c i) h (handed_inside g c i f) in omega (arith, z)
-  step_late (reading g c t fs) h (from_table (results.found (Some o))) u f =
+  step_late (reading g c t fs) h (from_table (table.found (Some o))) u f =
       let z = goes_late (all_read (worker behaviour l) g c (fs ++ (t, o) ∷ [])) h (read_inside g c (fs ++ (t, o) ∷ []) f) in omega (arith, z)
-  step_late (reading g c t fs) h (from_table (results.found None)) u f = omega arith
+  step_late (reading g c t fs) h (from_table (table.found None)) u f = omega arith
   step_late acking h acked u f = let a = one_here Late Late refl (message_in l h) in omega (arith, a)
   step_late s h r u f = elim u [ ]
 

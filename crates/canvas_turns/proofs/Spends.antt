@@ -5,16 +5,16 @@ use Rattle.canvas_task.specs.Apply.{Behaviour}
 use Rattle.canvas_semantics.specs.Line.{Line}
 use Rattle.canvas_message.specs.declared.envelope.Envelope.{Envelope}
 use Rattle.canvas_rewrite.specs.Planned.{IsPlan}
-use Rattle.canvas_broker.specs.Broker as broker
+use Rattle.canvas_history.specs.Queue as queue
 use Rattle.canvas_runs.specs.Calls.{of_scripts, held_by, held_after}
 use Rattle.canvas_runs.specs.Core.{Ask, Reply, to_queue, from_queue, ask, answered, failed, Doing, Suits}
 use Rattle.canvas_runs.specs.Law.{takes_one_of, agains_one_of}
-use Rattle.canvas_runs.specs.Lists.{Each, total, by}
+use Rattle.canvas_history.specs.Lists.{Each, total, by}
 use Rattle.canvas_runs.specs.declared.when.When.{When}
 use Rattle.canvas_runs.specs.declared.when.When.TheVariants.{Early, Late}
 use Rattle.canvas_runs.specs.Worker.{worker}
-use Rattle.canvas_runs.proofs.Sums.{sum_to, sum_to-same}
-use Rattle.canvas_runs.proofs.MoreAsks.{by_more, by_other, asks_of_scripts, held_append}
+use Rattle.canvas_runs.proofs.Lists.Sums.{sum_to, sum_to-same}
+use Rattle.canvas_runs.proofs.Runs.MoreAsks.{by_more, by_other, asks_of_scripts, held_append}
 use Rattle.canvas_turns.specs.Spending.{Entry, spent, point, comes_to, TurnedAgain, no_turn, skips, takes, spends}
 use Rattle.canvas_turns.specs.Turns.{Step, IsWorker, FirstsRead, left, holds, redelivery, Answers, redelivers_one, redeliveries_in}
 use Rattle.canvas_turns.proofs.Spending.{here, spent_some, spent_length, not_wanted, ahead, fails, one_step, redelivers, entries_for}
@@ -43,18 +43,18 @@ holds_other xs p q a r apart = ap (held_after None) (by_other p q xs (a, r) apar
 
 holds_delivers : (xs : List Step) (p q : ℕ) (d : Envelope) → holds (xs ++ redelivery q d ∷ []) p ≡ holds xs p
 holds_delivers xs p q d = elim (cases_eq q p) [
-  | inl s ↦ subst (λ i. holds (xs ++ redelivery i d ∷ []) p ≡ holds xs p) (sym s) (holds_here xs p (to_queue (broker.redeliver d)) (from_queue None))
-  | inr apart ↦ holds_other xs p q (to_queue (broker.redeliver d)) (from_queue None) apart
+  | inl s ↦ subst (λ i. holds (xs ++ redelivery i d ∷ []) p ≡ holds xs p) (sym s) (holds_here xs p (to_queue (queue.redeliver d)) (from_queue None))
+  | inr apart ↦ holds_other xs p q (to_queue (queue.redeliver d)) (from_queue None) apart
 ]
 
 module _ (behaviour : Behaviour) (l : Line) (n : ℕ) where
   plain_step : (a : Ask Envelope) → of_scripts a ≡ true → redelivers_one a ≡ 0
-  plain_step (to_queue (broker.redeliver e)) o = absurd (false≢true o)
+  plain_step (to_queue (queue.redeliver e)) o = absurd (false≢true o)
   plain_step a o = refl
 
   plain_call : (k : ℕ) (a : Ask Envelope) (r : Reply Envelope) → of_scripts a ≡ true → in_queue behaviour l (agains_one_of l k) (a, r) ≡ 0
-  plain_call k (to_queue (broker.redeliver e)) r o = absurd (false≢true o)
-  plain_call k (to_queue broker.take) (from_queue None) o = refl
+  plain_call k (to_queue (queue.redeliver e)) r o = absurd (false≢true o)
+  plain_call k (to_queue queue.take) (from_queue None) o = refl
   plain_call k (to_queue c) (from_queue x) o = refl
   plain_call k a r o = refl
 
@@ -108,7 +108,7 @@ module _ (behaviour : Behaviour) (l : Line) (n : ℕ) where
     spends_agains before es (p ∷ us) xs rest (skips e t) = spends_agains before es us xs rest t
     spends_agains before es (p ∷ us) ((q, (a, r)) ∷ xs) rest (takes f b e h t) =
         let i = spends_agains (before ++ (q, (a, r)) ∷ []) es us xs rest t in let z = plain_call k a r (of_script before q a e) in omega (arith, i, z)
-    spends_agains before es (p ∷ us) ((q, (to_queue (broker.redeliver d), from_queue None)) ∷ (q', (a, r)) ∷ xs) rest (spends f w g b e h t) =
+    spends_agains before es (p ∷ us) ((q, (to_queue (queue.redeliver d), from_queue None)) ∷ (q', (a, r)) ∷ xs) rest (spends f w g b e h t) =
         let i = spends_agains ((before ++ redelivery q d ∷ []) ++ (q', (a, r)) ∷ []) (spent (comes_to behaviour l before p) es) us xs rest t in
         let z = plain_call k a r (of_script (before ++ redelivery q d ∷ []) q' a e) in
         let m = spent_some (comes_to behaviour l before p) es f k Early in
@@ -184,7 +184,7 @@ module _ (behaviour : Behaviour) (l : Line) (n : ℕ) where
           ⊎_elim (λ (z : here k w (comes_to behaviour l before q) ≡ 0). inr (omega (arith, s, same, all, z)))
           (λ (z : entries_for k w es ≡ 0). inl (omega (arith, few, z))) (not_wanted (comes_to behaviour l before q) es f k w))
           (spends_all w (before ++ x ∷ []) es us xs rest next ws.1 t)
-      spends_all w before es (p ∷ us) ((q, (to_queue (broker.redeliver d), from_queue None)) ∷ (q', (a, r)) ∷ xs) rest j ws (spends f v g b e h t) =
+      spends_all w before es (p ∷ us) ((q, (to_queue (queue.redeliver d), from_queue None)) ∷ (q', (a, r)) ∷ xs) rest j ws (spends f v g b e h t) =
           let x : Step = redelivery q d in
           let y : Step = (q', (a, r)) in
           let mid : Holds behaviour l plan back n (before ++ x ∷ []) = holds_again behaviour l plan back n before j q v d g in

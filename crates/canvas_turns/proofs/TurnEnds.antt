@@ -6,9 +6,9 @@ use Rattle.std.proofs.lemmas.List.{length-append}
 use Rattle.canvas_task.specs.Apply.{Behaviour}
 use Rattle.canvas_semantics.specs.Line.{Line, count_line}
 use Rattle.canvas_rewrite.specs.Planned.{IsPlan}
-use Rattle.canvas_runs.specs.Lists.{Each}
-use Rattle.canvas_runs.proofs.Sums.{total-append}
-use Rattle.canvas_runs.proofs.Words.{each_left, each_right}
+use Rattle.canvas_history.specs.Lists.{Each}
+use Rattle.canvas_runs.proofs.Lists.Sums.{total-append}
+use Rattle.canvas_runs.proofs.Lists.Words.{each_left, each_right}
 use Rattle.canvas_runs.specs.Progress.{most_calls as of_a_run}
 use Rattle.canvas_turns.specs.Going.{most_calls, most_steps, IsFair, one_after_another}
 use Rattle.canvas_turns.specs.TurnLaws.{ByTurns}

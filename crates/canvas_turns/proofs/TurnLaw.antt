@@ -9,32 +9,31 @@ use Rattle.canvas_semantics.specs.Line.{Line, count_line, tree_of}
 use Rattle.canvas_semantics.specs.States.{states, numbers_from}
 use Rattle.canvas_semantics.proofs.Numbered.{count_elements}
 use Rattle.canvas_rewrite.specs.Planned.{IsPlan}
-use Rattle.canvas_message.specs.Among.{In}
+use Rattle.canvas_history.specs.Lists.{In, Each, by}
 use Rattle.canvas_effects.specs.Job.{store, publish, part}
-use Rattle.canvas_backend.proofs.HistoryLaws.{member_test}
-use Rattle.canvas_backend.proofs.Rosters.{roster_sound}
-use Rattle.canvas_backend.specs.Roster.{roster_of, members}
+use Rattle.canvas_history.proofs.TableLaws.{member_test}
+use Rattle.canvas_history.proofs.Rosters.{roster_sound}
+use Rattle.canvas_history.specs.Roster.{roster_of, members}
 use Rattle.canvas_runs.specs.Calls.{scripts_of}
 use Rattle.canvas_runs.specs.Core.{taking, resting, over, failed, owning, doing, reading, acking, ask, left_after, Between, Doing}
 use Rattle.canvas_runs.specs.Law.{its_state}
-use Rattle.canvas_runs.specs.Lists.{Each, by}
 use Rattle.canvas_semantics.specs.States.{EachMay}
 use Rattle.canvas_runs.specs.Run.{Run, Closed}
 use Rattle.canvas_runs.specs.Worker.{worker}
-use Rattle.canvas_runs.proofs.Facts.{X, form, Does, order, value}
-use Rattle.canvas_runs.proofs.Finish.{at_in}
-use Rattle.canvas_runs.proofs.FirstLaw.{first_part, has_state}
-use Rattle.canvas_runs.proofs.Knowing.{found as among_members}
-use Rattle.canvas_runs.proofs.Right.{right_closed}
-use Rattle.canvas_runs.proofs.SecondLaw.{second_part}
-use Rattle.canvas_runs.proofs.Words.{in_each, each_append, each_left}
+use Rattle.canvas_runs.proofs.Laws.Facts.{X, form, Does, order, value}
+use Rattle.canvas_runs.proofs.Runs.Finish.{at_in}
+use Rattle.canvas_runs.proofs.Laws.FirstLaw.{first_part, has_state}
+use Rattle.canvas_runs.proofs.Plans.Knowing.{found as among_members}
+use Rattle.canvas_runs.proofs.Runs.Right.{right_closed}
+use Rattle.canvas_runs.proofs.Laws.SecondLaw.{second_part}
+use Rattle.canvas_runs.proofs.Lists.Words.{in_each, each_append, each_left}
 use Rattle.canvas_turns.specs.TurnLaws.{ByTurns, RunOf, Answerable, held_rows}
 use Rattle.canvas_turns.specs.Turns.{Step, results_after, IsWorker, queue_after, left, HasEnded, AllEnded, RanWhole, RanUntil, round, rounds}
 use Rattle.canvas_turns.proofs.RowRanges.{state_range}
 use Rattle.canvas_turns.proofs.TurnRuns.{run, closed, table_log}
 use Rattle.canvas_turns.proofs.TurnStates.{Good, good_left, Ready, part_may, was_in}
 use Rattle.canvas_turns.proofs.TurnWalk.{Holds, ended_over, holds_first, holds_turned}
-use Rattle.canvas_runs.proofs.TaskSums.{state_task}
+use Rattle.canvas_runs.proofs.Ends.TaskSums.{state_task}
 
 -- ---- the numbers 1 to n, again and again, are workers'
 

@@ -5,7 +5,7 @@ use Rattle.canvas_history.specs.History.{Entry, split, join, calls, among, live,
 use Rattle.canvas_history.proofs.Histories.{In, in_left, in_right, in_append, in_here, in_later, in_cases, live_append, OnlyCalls}
 use Rattle.canvas_history.specs.Answers.{entries_by, splits_of}
 use Rattle.canvas_turns.specs.Turns.{round, IsWorker}
-use Rattle.canvas_runs.proofs.Splits.{live_splits, split_more}
+use Rattle.canvas_runs.proofs.Objects.Splits.{live_splits, split_more}
 
 -- ---- the numbers 1 to n
 

@@ -6,19 +6,19 @@ use Rattle.canvas_semantics.specs.Line.{Line}
 use Rattle.canvas_rewrite.specs.Planned.{IsPlan}
 use Rattle.canvas_effects.specs.Job.{store, publish, part}
 use Rattle.canvas_message.specs.declared.envelope.Envelope.{Envelope}
-use Rattle.canvas_backend.specs.Backend as results
-use Rattle.canvas_broker.specs.Broker as broker
+use Rattle.canvas_history.specs.Table as table
+use Rattle.canvas_history.specs.Queue as queue
 use Rattle.canvas_runs.specs.Calls.{of_scripts}
 use Rattle.canvas_runs.specs.Core.{Ask, Reply, end, from_queue, from_table, rested, acked, taking, resting, over, failed, owning, doing, reading, acking, ask, answered, Doing, is_inside}
-use Rattle.canvas_runs.specs.Lists.{Each, total}
+use Rattle.canvas_history.specs.Lists.{Each, total}
 use Rattle.canvas_runs.specs.Worker.{worker, sealed}
 use Rattle.canvas_turns.specs.Turns.{Step, is_queued, queue_next, queue_after, left, IsWorker, Answers, FirstsRead, some_inside, holds_more, HasEnded, Turned, all_taken, skips_turn, takes_turn, delivers_again, AllEnded, round}
 use Rattle.canvas_effects.specs.Effects.{first_messages}
 use Rattle.std.specs.Prelude.{map}
 use Rattle.canvas_task.specs.Apply.{Behaviour}
-use Rattle.canvas_runs.proofs.Sums.{total-append}
-use Rattle.canvas_runs.proofs.MoreAsks.{asks_of_scripts}
-use Rattle.canvas_runs.proofs.Words.{each_append, each_left, each_weaker}
+use Rattle.canvas_runs.proofs.Lists.Sums.{total-append}
+use Rattle.canvas_runs.proofs.Runs.MoreAsks.{asks_of_scripts}
+use Rattle.canvas_runs.proofs.Lists.Words.{each_append, each_left, each_weaker}
 use Rattle.canvas_turns.specs.Going.{IsFair, one_after_another}
 use Rattle.canvas_turns.proofs.TurnLaw.{round_workers}
 use Rattle.canvas_turns.proofs.TurnLogs.{round_has}
@@ -73,11 +73,11 @@ module _ (behaviour : Behaviour) (l : Line) where
   quiet_step n xs taking (from_queue None) h z = takes_none
   quiet_step n xs taking (from_queue (Some e)) h z = absurd (omega (arith, z))
   quiet_step n xs resting (rested b) h z = rests_on
-  quiet_step n xs (owning m) (from_table (results.was b)) h z = absurd (omega (arith, z))
-  quiet_step n xs (doing (store t o ∷ js) d) (from_table (results.was b)) h z = absurd (omega (arith, z))
+  quiet_step n xs (owning m) (from_table (table.was b)) h z = absurd (omega (arith, z))
+  quiet_step n xs (doing (store t o ∷ js) d) (from_table (table.was b)) h z = absurd (omega (arith, z))
   quiet_step n xs (doing (publish m ∷ js) d) (from_queue x) h z = absurd (omega (arith, z))
-  quiet_step n xs (doing (part g t c ∷ js) d) (from_table (results.count m)) h z = absurd (omega (arith, z))
-  quiet_step n xs (reading g c t fs) (from_table (results.found x)) h z = absurd (omega (arith, z))
+  quiet_step n xs (doing (part g t c ∷ js) d) (from_table (table.count m)) h z = absurd (omega (arith, z))
+  quiet_step n xs (reading g c t fs) (from_table (table.found x)) h z = absurd (omega (arith, z))
   quiet_step n xs (owning m) (from_table r) h z = absurd cc
   quiet_step n xs (doing (store t o ∷ js) d) (from_table r) h z = absurd cc
   quiet_step n xs (doing (part g t c ∷ js) d) (from_table r) h z = absurd cc
@@ -95,7 +95,7 @@ module _ (behaviour : Behaviour) (l : Line) where
   quiet_queue : (q : List Envelope) (n : ℕ) (xs : List Step) (s : Doing (worker behaviour l)) (r : Reply Envelope) → Quiet s r → queue_after l xs ≡ q
       → Answers behaviour l n xs (ask (worker behaviour l) s) r → queue_next q (ask (worker behaviour l) s) ≡ q
   quiet_queue [] n xs taking (from_queue None) takes_none e h = refl
-  quiet_queue (x ∷ q) n xs taking (from_queue None) takes_none e h = absurd (let wrong : None ≡ Some x = h ∙ ap (λ z. broker.answer_of z broker.take) e in cc)
+  quiet_queue (x ∷ q) n xs taking (from_queue None) takes_none e h = absurd (let wrong : None ≡ Some x = h ∙ ap (λ z. queue.answer_of z queue.take) e in cc)
   quiet_queue q n xs resting (rested b) rests_on e h = refl
   quiet_queue q n xs s r k e h = elim k [ ]
 
@@ -239,7 +239,7 @@ module _ (behaviour : Behaviour) (l : Line) where
     more_true : (xs : List Step) (b : Bool) → is_queued (queue_after l xs) ≡ true → b ≡ holds_more behaviour l n xs → b ≡ true
     more_true xs b q e = e ∙ ap (λ c. c || some_inside behaviour l n xs) q
 
-    none_queued : (q : List Envelope) → is_queued q ≡ true → None ≡ broker.answer_of q broker.take → ⊥
+    none_queued : (q : List Envelope) → is_queued q ≡ true → None ≡ queue.answer_of q queue.take → ⊥
     none_queued [] e h = cc
     none_queued (x ∷ q) e h = cc
 

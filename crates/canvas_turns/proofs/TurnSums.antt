@@ -5,24 +5,24 @@ use Rattle.canvas_task.specs.Apply.{Behaviour}
 use Rattle.canvas_semantics.specs.Line.{Line, count_line}
 use Rattle.canvas_message.specs.declared.envelope.Envelope.{Envelope}
 use Rattle.canvas_history.specs.Answers.{answered_calls, entries_by, splits_of}
-use Rattle.canvas_backend.specs.Backend as results
-use Rattle.canvas_broker.specs.Broker as broker
+use Rattle.canvas_history.specs.Table as table
+use Rattle.canvas_history.specs.Queue as queue
 use Rattle.canvas_runs.specs.Calls.{QueueAnswered, TableAnswered, broker_call, backend_call, backend_calls, takes_one, AskedAndAnswered, scripts_of, core_call, core_calls}
 use Rattle.canvas_runs.specs.Core.{Ask, Reply, to_queue, to_table, ack, from_queue, from_table, acked}
-use Rattle.canvas_runs.specs.Lists.{Each, by, total, seconds}
+use Rattle.canvas_history.specs.Lists.{Each, by, total, seconds}
 use Rattle.canvas_runs.specs.Logs.{queue_calls}
 use Rattle.canvas_runs.specs.Run.{Run, published_all}
 use Rattle.canvas_runs.specs.Tally.{publishing, returning}
-use Rattle.canvas_runs.proofs.Sums.{total-append, sum_to-le, sum_to-both, total_by}
-use Rattle.canvas_runs.proofs.CallsOf.{tag, seconds-append, calls_append, calls_splits, calls_entries, queue_append, queue_splits, queue_entries, broker_found, published_found}
-use Rattle.canvas_runs.proofs.Words.{each_weaker}
+use Rattle.canvas_runs.proofs.Lists.Sums.{total-append, sum_to-le, sum_to-both, total_by}
+use Rattle.canvas_runs.proofs.Objects.CallsOf.{tag, seconds-append, calls_append, calls_splits, calls_entries, queue_append, queue_splits, queue_entries, broker_found, published_found}
+use Rattle.canvas_runs.proofs.Lists.Words.{each_weaker}
 use Rattle.canvas_turns.specs.Going.{most_calls}
 use Rattle.canvas_turns.specs.TurnLaws.{ByTurns}
 use Rattle.canvas_turns.specs.Turns.{Step, round, redelivers_one, redeliveries_in}
 use Rattle.canvas_turns.proofs.TurnLaw.{holds, the_run}
 use Rattle.canvas_turns.proofs.TurnRuns.{queue_lines, table_lines, queue_log, table_log, firsts as first_envelopes}
 use Rattle.canvas_runs.specs.Progress.{calls_made, redelivers_one as redelivering, most_calls as of_a_run}
-use Rattle.canvas_runs.proofs.FewCalls.{few_calls as of_runs, same_sum}
+use Rattle.canvas_runs.proofs.Ends.FewCalls.{few_calls as of_runs, same_sum}
 
 total-tag : {A : Type 0} (w : A → ℕ) (p : ℕ) (cs : List A) → total w (seconds (tag p cs)) ≡ total w cs
 total-tag w p [] = refl
@@ -33,11 +33,11 @@ total-seconds w [] = refl
 total-seconds w (x ∷ xs) = ap (λ k. w x.1 + k) (total-seconds w xs)
 
 abbrev pub keeping_one : TableAnswered → ℕ
-keeping_one (results.store t o, results.was b) = 1
+keeping_one (table.store t o, table.was b) = 1
 keeping_one c = 0
 
 abbrev pub reading_one : TableAnswered → ℕ
-reading_one (results.read t, results.found x) = 1
+reading_one (table.read t, table.found x) = 1
 reading_one c = 0
 
 module _ (behaviour : Behaviour) (l : Line) where
@@ -103,19 +103,19 @@ module _ (behaviour : Behaviour) (l : Line) where
 
   -- a step is a call of the core run, or a redelivery
   one_call : (a : Ask Envelope) (r : Reply Envelope) → calls_of (a, r) ≤ redelivers_one a + (length (core_call a r) + length (backend_call a r))
-  one_call (to_queue broker.take) (from_queue None) = omega arith
-  one_call (to_queue broker.take) (from_queue (Some e)) = omega arith
-  one_call (to_queue (broker.publish e)) (from_queue x) = omega arith
-  one_call (to_queue (broker.redeliver e)) (from_queue x) = omega arith
+  one_call (to_queue queue.take) (from_queue None) = omega arith
+  one_call (to_queue queue.take) (from_queue (Some e)) = omega arith
+  one_call (to_queue (queue.publish e)) (from_queue x) = omega arith
+  one_call (to_queue (queue.redeliver e)) (from_queue x) = omega arith
   one_call (to_queue c) r = omega arith
-  one_call (to_table (results.store u o)) (from_table (results.was b)) = omega arith
-  one_call (to_table (results.part g u)) (from_table (results.count i)) = omega arith
-  one_call (to_table (results.read u)) (from_table (results.found x)) = omega arith
+  one_call (to_table (table.store u o)) (from_table (table.was b)) = omega arith
+  one_call (to_table (table.part g u)) (from_table (table.count i)) = omega arith
+  one_call (to_table (table.read u)) (from_table (table.found x)) = omega arith
   one_call (to_table c) (from_table y) = omega arith
   one_call ack acked = omega arith
   one_call a r = omega arith
 
-  one_again : (e : Envelope) (r : Reply Envelope) → calls_of (to_queue (broker.redeliver e), r) ≤ 1
+  one_again : (e : Envelope) (r : Reply Envelope) → calls_of (to_queue (queue.redeliver e), r) ≤ 1
   one_again e (from_queue x) = omega arith
   one_again e r = omega arith
 
@@ -125,7 +125,7 @@ module _ (behaviour : Behaviour) (l : Line) where
     where
       go : (a : Ask Envelope) (r : Reply Envelope) → total calls_of ys ≤ calls_made (scripts_of ys) + total (λ y. redelivers_one y.0) ys
           → calls_of (a, r) + total calls_of ys ≤ calls_made (scripts_of ((a, r) ∷ ys)) + (redelivers_one a + total (λ y. redelivers_one y.0) ys)
-      go (to_queue (broker.redeliver e)) r k = let h = one_again e r in omega (arith, h, k)
+      go (to_queue (queue.redeliver e)) r k = let h = one_again e r in omega (arith, h, k)
       go a r k =
           let h = one_call a r in
           let c = length-append (core_call a r) (core_calls (scripts_of ys)) in
@@ -162,9 +162,9 @@ module _ (behaviour : Behaviour) (l : Line) (n : ℕ) (us : List ℕ) (xs : List
       none_opened (e ∷ es) = let r = none_opened es in omega (arith, r)
 
       one : (a : Ask Envelope) (r : Reply Envelope) → total redelivering (broker_call a r) ≤ redelivers_one a
-      one (to_queue (broker.redeliver e)) (from_queue x) = omega arith
-      one (to_queue (broker.redeliver e)) r = omega arith
-      one (to_queue broker.take) (from_queue None) = omega arith
+      one (to_queue (queue.redeliver e)) (from_queue x) = omega arith
+      one (to_queue (queue.redeliver e)) r = omega arith
+      one (to_queue queue.take) (from_queue None) = omega arith
       one (to_queue c) (from_queue x) = omega arith
       one a r = omega arith
 

@@ -10,23 +10,23 @@ use Rattle.canvas_message.specs.Content.{Content}
 use Rattle.canvas_effects.specs.Effects.{first_messages}
 use Rattle.canvas_effects.specs.Job.{store, publish, part}
 use Rattle.canvas_message.specs.declared.envelope.Envelope.{Envelope}
-use Rattle.canvas_backend.specs.declared.stored.Stored.{Stored}
-use Rattle.canvas_backend.specs.declared.stored.Stored.TheVariants.{First, Again}
-use Rattle.canvas_backend.specs.Backend as results
-use Rattle.canvas_backend.specs.Backend.{no_results}
+use Rattle.canvas_history.specs.declared.stored.Stored.{Stored}
+use Rattle.canvas_history.specs.declared.stored.Stored.TheVariants.{First, Again}
+use Rattle.canvas_history.specs.Table as table
+use Rattle.canvas_history.specs.Table.{no_results}
 use Rattle.canvas_runs.specs.Protocol.{Protocol}
-use Rattle.canvas_broker.specs.Broker as broker
+use Rattle.canvas_history.specs.Queue as queue
 use Rattle.canvas_runs.specs.Calls.{AskedAndAnswered, scripts_of, of_scripts, held_by, held_after}
 use Rattle.canvas_runs.specs.Core.{Ask, Reply, end, to_queue, from_queue, from_table, rested, acked, taking, resting, over, failed, owning, doing, reading, acking, is_due, settled, ask, opens, reads_next, answered, IsCoreRun, ReadsBack, Doing, Jobs, is_inside, refused, Suits, Between, left_after}
-use Rattle.canvas_runs.specs.Lists.{Each, by}
+use Rattle.canvas_history.specs.Lists.{Each, by}
 use Rattle.canvas_runs.specs.Worker.{worker, sealed}
-use Rattle.canvas_runs.proofs.MoreAsks.{reads_cases, by_append, scripts_append, scripts_more, asks_of_scripts, plain_ask, delivers_append, by_more, by_other, core_more, DeliversHeld}
-use Rattle.canvas_runs.proofs.Words.{each_append}
+use Rattle.canvas_runs.proofs.Runs.MoreAsks.{reads_cases, by_append, scripts_append, scripts_more, asks_of_scripts, plain_ask, delivers_append, by_more, by_other, core_more, DeliversHeld}
+use Rattle.canvas_runs.proofs.Lists.Words.{each_append}
 use Rattle.canvas_turns.specs.Turns.{Step, is_queued, queue_next, queue_after, left, IsWorker, Answers, FirstsRead, some_inside, holds_more, Turned, all_taken, skips_turn, takes_turn, delivers_again, holds, redelivery}
 use Rattle.canvas_turns.proofs.TurnRuns.{Lawful, queue_starts, table_starts, queue_stays, table_stays, queue_delivers, table_delivers}
 use Rattle.canvas_turns.proofs.TurnStates.{good_left, Ready, part_may, other_ready, own_ready, delivers_ready}
 use Rattle.canvas_turns.proofs.Turning.{left_delivers, queue_more, results_more, left_here, left_other, answers_suit}
-use Rattle.canvas_backend.specs.Roster.{roster_of}
+use Rattle.canvas_history.specs.Roster.{roster_of}
 
 or_false : (a b : Bool) → (a || b) ≡ false → (a ≡ false) × (b ≡ false)
 or_false true b h = absurd cc
@@ -67,15 +67,15 @@ module _ {E : Type 0} (X : Protocol E) where
   step_outside taking (from_queue None) h u f k = f tt
   step_outside taking (from_queue (Some e)) h u f k = absurd (opens_inside (X.opened e) k)
   step_outside resting (rested b) h u f k = f tt
-  step_outside (owning m) (from_table (results.was First)) h u f k = absurd (settled_inside (X.ended m (X.outcome m)) First k)
-  step_outside (owning m) (from_table (results.was Again)) h u f k = absurd k
-  step_outside (doing (store t o ∷ js) b) (from_table (results.was a)) h u f k = absurd (settled_inside js (cond (is_due t js) a b) k)
+  step_outside (owning m) (from_table (table.was First)) h u f k = absurd (settled_inside (X.ended m (X.outcome m)) First k)
+  step_outside (owning m) (from_table (table.was Again)) h u f k = absurd k
+  step_outside (doing (store t o ∷ js) b) (from_table (table.was a)) h u f k = absurd (settled_inside js (cond (is_due t js) a b) k)
   step_outside (doing (publish m ∷ js) b) (from_queue None) h u f k = absurd (settled_inside js b k)
   step_outside (doing (publish m ∷ js) b) refused h u f k = absurd k
-  step_outside (doing (part g t c ∷ js) b) (from_table (results.count i)) h u f k = absurd (handed_inside (eqb (suc i) (X.size c)) g c k)
-  step_outside (reading g c t fs) (from_table (results.found (Some o))) h u f k =
+  step_outside (doing (part g t c ∷ js) b) (from_table (table.count i)) h u f k = absurd (handed_inside (eqb (suc i) (X.size c)) g c k)
+  step_outside (reading g c t fs) (from_table (table.found (Some o))) h u f k =
       absurd (read_inside (eqb (length (fs ++ (t, o) ∷ [])) (X.size c)) (X.completed c (fs ++ (t, o) ∷ [])) g c (fs ++ (t, o) ∷ []) k)
-  step_outside (reading g c t fs) (from_table (results.found None)) h u f k = absurd k
+  step_outside (reading g c t fs) (from_table (table.found None)) h u f k = absurd k
   step_outside acking acked h u f k = refl
   step_outside s r h u f k = elim u [ ]
 
@@ -87,7 +87,7 @@ module _ {E : Type 0} (X : Protocol E) where
       go : ((t : Doing X) (g : Option E) → IsCoreRun X t (scripts_of ys) → (Between t → g ≡ None) → Between (left_after X t (scripts_of ys))
           → held_after g ys ≡ None) → (a : Ask E) (r : Reply E) → IsCoreRun X s (scripts_of ((a, r) ∷ ys))
           → Between (left_after X s (scripts_of ((a, r) ∷ ys))) → held_after h ((a, r) ∷ ys) ≡ None
-      go later (to_queue (broker.redeliver e)) r c k = later s h c f k
+      go later (to_queue (queue.redeliver e)) r c k = later s h c f k
       go later a r c k = later (answered X s r) (held_by h a r) c.2
           (λ b. subst (λ z. held_by h z r ≡ None) (sym c.0) (step_outside s r h (subst (λ z. Suits z r) c.0 c.1.0) f b)) k
 
@@ -121,14 +121,14 @@ module _ (behaviour : Behaviour) (l : Line) where
 
   -- ---- a worker's own step, where all is idle
 
-  none_taken : (q : List Envelope) (e : Envelope) → q ≡ [] → Some e ≡ broker.answer_of q broker.take → ⊥
+  none_taken : (q : List Envelope) (e : Envelope) → q ≡ [] → Some e ≡ queue.answer_of q queue.take → ⊥
   none_taken [] e i h = cc
   none_taken (x ∷ q) e i h = cc
 
   stays_outside : (n : ℕ) (xs : List Step) (s : Doing (worker behaviour l)) (r : Reply Envelope) → queue_after l xs ≡ [] → is_inside s ≡ false
       → Answers behaviour l n xs (ask (worker behaviour l) s) r
       → (is_inside (answered (worker behaviour l) s r) ≡ false) × (queue_next (queue_after l xs) (ask (worker behaviour l) s) ≡ [])
-  stays_outside n xs taking (from_queue None) e i h = (refl, ap (λ q. broker.next q broker.take) e)
+  stays_outside n xs taking (from_queue None) e i h = (refl, ap (λ q. queue.next q queue.take) e)
   stays_outside n xs taking (from_queue (Some x)) e i h = absurd (none_taken (queue_after l xs) x e h)
   stays_outside n xs resting (rested true) e i h = (refl, e)
   stays_outside n xs resting (rested false) e i h = (refl, e)
@@ -171,14 +171,14 @@ module _ (behaviour : Behaviour) (l : Line) where
   ends_idle n xs taking (from_queue (Some x)) h e = absurd (opens_on ((worker behaviour l).opened x) e)
   ends_idle n xs resting (rested true) h e = absurd cc
   ends_idle n xs resting (rested false) h e = sym h
-  ends_idle n xs (owning m) (from_table (results.was First)) h e = absurd (settled_on ((worker behaviour l).ended m ((worker behaviour l).outcome m)) First e)
-  ends_idle n xs (owning m) (from_table (results.was Again)) h e = absurd cc
-  ends_idle n xs (doing (store t o ∷ js) b) (from_table (results.was a)) h e = absurd (settled_on js (cond (is_due t js) a b) e)
+  ends_idle n xs (owning m) (from_table (table.was First)) h e = absurd (settled_on ((worker behaviour l).ended m ((worker behaviour l).outcome m)) First e)
+  ends_idle n xs (owning m) (from_table (table.was Again)) h e = absurd cc
+  ends_idle n xs (doing (store t o ∷ js) b) (from_table (table.was a)) h e = absurd (settled_on js (cond (is_due t js) a b) e)
   ends_idle n xs (doing (publish m ∷ js) b) (from_queue None) h e = absurd (settled_on js b e)
-  ends_idle n xs (doing (part g t c ∷ js) b) (from_table (results.count i)) h e = absurd (handed_on (eqb (suc i) c.size) g c e)
-  ends_idle n xs (reading g c t fs) (from_table (results.found (Some o))) h e =
+  ends_idle n xs (doing (part g t c ∷ js) b) (from_table (table.count i)) h e = absurd (handed_on (eqb (suc i) c.size) g c e)
+  ends_idle n xs (reading g c t fs) (from_table (table.found (Some o))) h e =
       absurd (read_on (eqb (length (fs ++ (t, o) ∷ [])) c.size) ((worker behaviour l).completed c (fs ++ (t, o) ∷ [])) g c (fs ++ (t, o) ∷ []) e)
-  ends_idle n xs (reading g c t fs) (from_table (results.found None)) h e = absurd cc
+  ends_idle n xs (reading g c t fs) (from_table (table.found None)) h e = absurd cc
   ends_idle n xs (owning m) (from_table r) h e = absurd cc
   ends_idle n xs (doing (store t o ∷ js) b) (from_table r) h e = absurd cc
   ends_idle n xs (doing (publish m ∷ js) b) (from_queue x) h e = absurd cc
@@ -258,15 +258,15 @@ module _ (behaviour : Behaviour) (l : Line) where
       lawful_next =
           let may = part_may behaviour l plan n xs p (left behaviour l xs p) k.lawful.table_is (good_left behaviour l plan back n xs k.lawful p)
           (k.ready p w) in
-          let queue = queue_stays behaviour l n xs p a r w k.lawful.queue_legal k.lawful.queue_is plain h in
-          let table = table_stays behaviour l n xs p a r w k.lawful.table_legal k.lawful.table_is h may in
+          let in_queue = queue_stays behaviour l n xs p a r w k.lawful.queue_legal k.lawful.queue_is plain h in
+          let in_table = table_stays behaviour l n xs p a r w k.lawful.table_legal k.lawful.table_is h may in
           record {
             core = core_next;
             held = held_next;
-            queue_legal = queue.0;
-            queue_is = queue.1 ∙ sym (queue_more (map sealed (first_messages l)) xs x);
-            table_legal = table.0;
-            table_is = table.1 ∙ sym (results_more no_results xs x);
+            queue_legal = in_queue.0;
+            queue_is = in_queue.1 ∙ sym (queue_more (map sealed (first_messages l)) xs x);
+            table_legal = in_table.0;
+            table_is = in_table.1 ∙ sym (results_more no_results xs x);
           }
 
       ready_next : (q : ℕ) → IsWorker n q → Ready behaviour l plan n (xs ++ x ∷ []) q (left behaviour l (xs ++ x ∷ []) q)
@@ -349,15 +349,15 @@ module _ (behaviour : Behaviour) (l : Line) where
 
       lawful_delivers : Lawful behaviour l n (xs ++ y ∷ [])
       lawful_delivers =
-          let queue = queue_delivers behaviour l n xs p e w k.lawful.queue_legal k.lawful.queue_is h in
-          let table = table_delivers behaviour l n xs p e in
+          let in_queue = queue_delivers behaviour l n xs p e w k.lawful.queue_legal k.lawful.queue_is h in
+          let in_table = table_delivers behaviour l n xs p e in
           record {
             core = λ q. subst (IsCoreRun (worker behaviour l) taking) (sym (by_delivers q)) (k.lawful.core q);
             held = held_delivers;
-            queue_legal = queue.0;
-            queue_is = queue.1 ∙ sym (queue_more (map sealed (first_messages l)) xs y);
-            table_legal = subst (results.IsLegal (roster_of l)) (sym table) k.lawful.table_legal;
-            table_is = ap (results.results (roster_of l)) table ∙ (k.lawful.table_is ∙ sym (results_more no_results xs y));
+            queue_legal = in_queue.0;
+            queue_is = in_queue.1 ∙ sym (queue_more (map sealed (first_messages l)) xs y);
+            table_legal = subst (table.IsLegal (roster_of l)) (sym in_table) k.lawful.table_legal;
+            table_is = ap (table.results (roster_of l)) in_table ∙ (k.lawful.table_is ∙ sym (results_more no_results xs y));
           }
 
       pub holds_delivers : Holds n (xs ++ y ∷ [])

@@ -8,13 +8,13 @@ use Rattle.canvas_message.specs.declared.envelope.Envelope.{Envelope}
 use Rattle.canvas_semantics.specs.Line.{Line}
 use Rattle.canvas_runs.specs.Calls.{broker_calls, takes_one, scripts_of}
 use Rattle.canvas_runs.specs.Core.{CoreState, taking, resting, over, failed, owning, doing, reading, acking, left_after, Between, Doing}
-use Rattle.canvas_runs.specs.Lists.{Each, by, total}
+use Rattle.canvas_history.specs.Lists.{Each, by, total}
 use Rattle.canvas_runs.specs.Logs.{queue_calls}
 use Rattle.canvas_runs.specs.Progress.{CanGoOn, AtRest, UnderWay}
 use Rattle.canvas_runs.specs.Run.{Run, published_all}
 use Rattle.canvas_runs.specs.Worker.{worker}
-use Rattle.canvas_runs.proofs.CallsOf.{published_takes}
-use Rattle.canvas_runs.proofs.Sums.{total-append}
+use Rattle.canvas_runs.proofs.Objects.CallsOf.{published_takes}
+use Rattle.canvas_runs.proofs.Lists.Sums.{total-append}
 use Rattle.canvas_turns.specs.TurnLaws.{ByTurns, RunOf}
 use Rattle.canvas_turns.specs.TurnWays.{TurnsUnderWay}
 use Rattle.canvas_turns.specs.Turns.{Step, IsWorker, left}

@@ -4,15 +4,15 @@ use Rattle.std.proofs.lemmas.Bool.{false≢true}
 use Rattle.canvas_task.specs.Apply.{Behaviour}
 use Rattle.canvas_semantics.specs.Line.{Line}
 use Rattle.canvas_message.specs.declared.envelope.Envelope.{Envelope}
-use Rattle.canvas_backend.specs.Backend as results
-use Rattle.canvas_backend.specs.Backend.{Results}
-use Rattle.canvas_broker.specs.Broker as broker
+use Rattle.canvas_history.specs.Table as table
+use Rattle.canvas_history.specs.Table.{Results}
+use Rattle.canvas_history.specs.Queue as queue
 use Rattle.canvas_runs.specs.Core.{Ask, Reply, to_queue, to_table, rest, ack, from_queue, from_table, rested, acked, taking, ask, answered, left_after, Suits, ReadsBack}
 use Rattle.canvas_runs.specs.Calls.{of_scripts, scripts_of}
-use Rattle.canvas_runs.specs.Lists.{by}
+use Rattle.canvas_history.specs.Lists.{by}
 use Rattle.canvas_runs.specs.Worker.{worker}
 use Rattle.canvas_turns.specs.Turns.{Step, redelivery, queue_next, results_next, queue_from, results_from, left, Answers, HasEnded, Turned, all_taken, skips_turn, takes_turn, delivers_again, redeliveries_in}
-use Rattle.canvas_runs.proofs.MoreAsks.{by_append, by_more, by_other, left_more, scripts_append, scripts_more}
+use Rattle.canvas_runs.proofs.Runs.MoreAsks.{by_append, by_more, by_other, left_more, scripts_append, scripts_more}
 
 head_same : (p q : ℕ) (us vs : List ℕ) → ◌≡◌ {A = List ℕ} (p ∷ us) (q ∷ vs) → p ≡ q
 head_same p q us vs e = cc
@@ -53,13 +53,13 @@ module _ (behaviour : Behaviour) (l : Line) where
 
   -- the answer is one to the ask
   pub answers_suit : (n : ℕ) (xs : List Step) (a : Ask Envelope) (r : Reply Envelope) → of_scripts a ≡ true → Answers behaviour l n xs a r → Suits a r
-  answers_suit n xs (to_queue broker.take) (from_queue x) o h = tt
-  answers_suit n xs (to_queue (broker.publish e)) (from_queue None) o h = tt
-  answers_suit n xs (to_queue (broker.publish e)) (from_queue (Some x)) o h = absurd cc
-  answers_suit n xs (to_queue (broker.redeliver e)) r o h = absurd (false≢true o)
-  answers_suit n xs (to_table (results.store t o)) (from_table (results.was b)) g h = tt
-  answers_suit n xs (to_table (results.part g t)) (from_table (results.count m)) o h = tt
-  answers_suit n xs (to_table (results.read t)) (from_table (results.found x)) o h = tt
+  answers_suit n xs (to_queue queue.take) (from_queue x) o h = tt
+  answers_suit n xs (to_queue (queue.publish e)) (from_queue None) o h = tt
+  answers_suit n xs (to_queue (queue.publish e)) (from_queue (Some x)) o h = absurd cc
+  answers_suit n xs (to_queue (queue.redeliver e)) r o h = absurd (false≢true o)
+  answers_suit n xs (to_table (table.store t o)) (from_table (table.was b)) g h = tt
+  answers_suit n xs (to_table (table.part g t)) (from_table (table.count m)) o h = tt
+  answers_suit n xs (to_table (table.read t)) (from_table (table.found x)) o h = tt
   answers_suit n xs (to_table c) (from_table r) o h = absurd cc
   answers_suit n xs rest (rested m) o h = tt
   answers_suit n xs ack acked o h = tt

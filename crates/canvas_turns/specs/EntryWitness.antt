@@ -11,9 +11,9 @@ use Rattle.canvas_semantics.specs.Tree.{task, no_tasks, and_task}
 use Rattle.canvas_semantics.specs.Line.{Line, stop, step}
 use Rattle.canvas_semantics.specs.PlacedLine.{p_task, no_p_tasks, and_p_task, p_nowhere, p_stop, p_step}
 use Rattle.canvas_message.specs.Content.{Content}
-use Rattle.canvas_backend.specs.declared.stored.Stored.TheVariants.{First, Again}
-use Rattle.canvas_backend.specs.Backend.{store, was}
-use Rattle.canvas_broker.specs.Broker.{publish, take}
+use Rattle.canvas_history.specs.declared.stored.Stored.TheVariants.{First, Again}
+use Rattle.canvas_history.specs.Table.{store, was}
+use Rattle.canvas_history.specs.Queue.{publish, take}
 use Rattle.canvas_runs.specs.Core.{rest, ack, rested, acked}
 use Rattle.canvas_runs.specs.declared.when.When.TheVariants.{Early, Late}
 use Rattle.canvas_runs.specs.Witness.{call, asks_queue, asks_table}

@@ -4,7 +4,7 @@ use Rattle.canvas_task.specs.Apply.{Behaviour}
 use Rattle.canvas_history.specs.History.{among}
 use Rattle.canvas_semantics.specs.Line.{Line, count_line}
 use Rattle.canvas_rewrite.specs.Planned.{IsPlan}
-use Rattle.canvas_runs.specs.Lists.{Each}
+use Rattle.canvas_history.specs.Lists.{Each}
 use Rattle.canvas_runs.specs.Progress.{most_calls as few_calls}
 use Rattle.canvas_turns.specs.Turns.{Step, Begins, Turned, AllEnded, round, most_workers, IsWorker, RanUntil, redeliveries_in}
 use Rattle.canvas_turns.specs.TurnLaws.{ByTurns}

@@ -15,14 +15,14 @@ use Rattle.canvas_rewrite.specs.FrozenView.{PCarried}
 use Rattle.canvas_rewrite.specs.Planned.{IsPlan}
 use Rattle.canvas_message.specs.Content.{Content, number_of}
 use Rattle.canvas_message.specs.declared.envelope.Envelope.{Envelope}
-use Rattle.canvas_backend.specs.declared.stored.Stored.TheVariants.{Again}
-use Rattle.canvas_backend.specs.Backend.{store, was}
+use Rattle.canvas_history.specs.declared.stored.Stored.TheVariants.{Again}
+use Rattle.canvas_history.specs.Table.{store, was}
 use Rattle.canvas_runs.specs.declared.when.When.{When}
 use Rattle.canvas_runs.specs.declared.when.When.TheVariants.{Early, Late}
 use Rattle.canvas_runs.specs.Book.{book_of}
 use Rattle.canvas_runs.specs.Core.{Ask, Reply, to_table, from_table, CoreState, owning, acking, ask, ReadsBack}
 use Rattle.canvas_runs.specs.Law.{IsRunMessage}
-use Rattle.canvas_runs.specs.Lists.{Each, total}
+use Rattle.canvas_history.specs.Lists.{Each, total}
 use Rattle.canvas_runs.specs.Worker.{worker, opened}
 use Rattle.canvas_turns.specs.Going.{most_steps}
 use Rattle.canvas_turns.specs.TurnLaws.{ByTurns}

@@ -8,13 +8,13 @@ use Rattle.canvas_rewrite.specs.Planned.{IsPlan}
 use Rattle.canvas_semantics.specs.States.{states, numbers_from}
 use Rattle.canvas_effects.specs.Effects.{first_messages}
 use Rattle.canvas_message.specs.declared.envelope.Envelope.{Envelope}
-use Rattle.canvas_backend.specs.Backend.{store, part, read, results}
-use Rattle.canvas_backend.specs.Roster.{Roster, roster_of, is_chord, is_member}
-use Rattle.canvas_broker.specs.Broker.{queue_of}
+use Rattle.canvas_history.specs.Table.{store, part, read, results}
+use Rattle.canvas_history.specs.Roster.{Roster, roster_of, is_chord, is_member}
+use Rattle.canvas_history.specs.Queue.{queue_of}
 use Rattle.canvas_runs.specs.Calls.{scripts_of}
 use Rattle.canvas_runs.specs.Core.{Ask, to_table, ask}
 use Rattle.canvas_runs.specs.Law.{its_state}
-use Rattle.canvas_runs.specs.Lists.{Each, by}
+use Rattle.canvas_history.specs.Lists.{Each, by}
 use Rattle.canvas_semantics.specs.States.{EachMay}
 use Rattle.canvas_runs.specs.Run.{Run, Closed}
 use Rattle.canvas_runs.specs.Worker.{worker}

@@ -1,9 +1,9 @@
 -- A run by turns with a chord in it: two sums and the sum of both, by two workers that take
 -- fourteen turns from a list and two rounds behind it.
 use Rattle.std.specs.Prelude.{ℕ, false, List, [], ◌∷◌, Some, None}
-use Rattle.canvas_backend.specs.declared.stored.Stored.TheVariants.{First}
-use Rattle.canvas_backend.specs.Backend.{store, part, read, was, count, found}
-use Rattle.canvas_broker.specs.Broker.{publish, take}
+use Rattle.canvas_history.specs.declared.stored.Stored.TheVariants.{First}
+use Rattle.canvas_history.specs.Table.{store, part, read, was, count, found}
+use Rattle.canvas_history.specs.Queue.{publish, take}
 use Rattle.canvas_runs.specs.Core.{rest, ack, rested, acked}
 use Rattle.canvas_runs.specs.Witness.{asks_queue, asks_table, first_sum, second_sum, whole_sum, two, four, six}
 use Rattle.canvas_runs.specs.Worker.{sealed}

@@ -25,12 +25,12 @@ use Rattle.canvas_rewrite.specs.FrozenView.{PCarried}
 use Rattle.canvas_message.specs.Content.{Content}
 use Rattle.canvas_effects.specs.Effects.{first_messages}
 use Rattle.canvas_message.specs.declared.envelope.Envelope.{Envelope}
-use Rattle.canvas_backend.specs.Backend.{Results, no_results, reply_of, next_of}
-use Rattle.canvas_backend.specs.Roster.{roster_of}
-use Rattle.canvas_broker.specs.Broker as broker
+use Rattle.canvas_history.specs.Table.{Results, no_results, reply_of, next_of}
+use Rattle.canvas_history.specs.Roster.{roster_of}
+use Rattle.canvas_history.specs.Queue as queue
 use Rattle.canvas_runs.specs.Core.{Ask, Reply, to_queue, to_table, rest, end, ack, from_queue, from_table, rested, acked, CoreState, taking, ask, left_after, ReadsBack, is_inside}
 use Rattle.canvas_runs.specs.Calls.{scripts_of, held_after}
-use Rattle.canvas_runs.specs.Lists.{Each, by, total}
+use Rattle.canvas_history.specs.Lists.{Each, by, total}
 use Rattle.canvas_runs.specs.Worker.{IsReadBack, worker, sealed}
 
 -- an answered ask of a worker
@@ -39,7 +39,7 @@ Step = ℕ × (Ask Envelope × Reply Envelope)
 
 -- what an ask leaves of the queue, and of the results
 abbrev pub queue_next : List Envelope → Ask Envelope → List Envelope
-queue_next q (to_queue c) = broker.next q c
+queue_next q (to_queue c) = queue.next q c
 queue_next q a = q
 
 abbrev pub results_next : Results → Ask Envelope → Results
@@ -68,11 +68,11 @@ holds before p = held_after None (by p before)
 
 -- the worker's envelope is delivered again
 abbrev pub redelivery : ℕ → Envelope → Step
-redelivery p e = (p, (to_queue (broker.redeliver e), from_queue None))
+redelivery p e = (p, (to_queue (queue.redeliver e), from_queue None))
 
 -- how many of the steps are redeliveries
 abbrev pub redelivers_one : Ask Envelope → ℕ
-redelivers_one (to_queue (broker.redeliver e)) = 1
+redelivers_one (to_queue (queue.redeliver e)) = 1
 redelivers_one a = 0
 
 abbrev pub redeliveries_in : List Step → ℕ
@@ -108,7 +108,7 @@ module _ (behaviour : Behaviour) (l : Line) where
   holds_more n before = is_queued (queue_after l before) || some_inside n before
 
   abbrev pub Answers : ℕ → List Step → Ask Envelope → Reply Envelope → Type 0
-  Answers n before (to_queue c) (from_queue x) = x ≡ broker.answer_of (queue_after l before) c
+  Answers n before (to_queue c) (from_queue x) = x ≡ queue.answer_of (queue_after l before) c
   Answers n before (to_table c) (from_table r) =
       r ≡ reply_of (roster_of l) (results_after before) c
   Answers n before rest (rested m) = m ≡ holds_more n before

@@ -8,13 +8,13 @@ use Rattle.canvas_message.specs.Content.{Content, number_of}
 use Rattle.canvas_effects.specs.Effects.{outcome_of, after, body_after, script}
 use Rattle.canvas_effects.specs.Job.{Job}
 use Rattle.canvas_message.specs.declared.envelope.Envelope.{Envelope}
-use Rattle.canvas_backend.specs.declared.stored.Stored.{Stored}
-use Rattle.canvas_backend.specs.declared.stored.Stored.TheVariants.{First, Again}
-use Rattle.canvas_backend.specs.Roster.{roster_of}
+use Rattle.canvas_history.specs.declared.stored.Stored.{Stored}
+use Rattle.canvas_history.specs.declared.stored.Stored.TheVariants.{First, Again}
+use Rattle.canvas_history.specs.Roster.{roster_of}
 use Rattle.canvas_effects.specs.Job as job
 use Rattle.canvas_runs.specs.Book.{Book, book_on}
-use Rattle.canvas_backend.specs.Backend as results
-use Rattle.canvas_broker.specs.Broker as broker
+use Rattle.canvas_history.specs.Table as table
+use Rattle.canvas_history.specs.Queue as queue
 use Rattle.canvas_runs.specs.Core.{to_queue, to_table, from_queue, from_table, rested, CoreState, taking, resting, over, failed, owning, doing, reading as state_reading, is_due, settled, opens, owned, reading_of, reads_next, job_done, ask, answered, ReadsBack, Between, left_after, IsCoreRun, acking, acked}
 use Rattle.canvas_runs.specs.Protocol.{Protocol}
 use Rattle.canvas_runs.specs.Worker.{worker, opened}
@@ -71,11 +71,11 @@ module _ (behaviour : Behaviour) (l : Line) where
 
   job_alike : (k : Job Content PCarried Outcome) (ks : Jobs) (b : Stored) (r : Answer)
       → IsAlike behaviour (job_done X (enclosed k) (map enclosed ks) b r) (job_done Y k ks b r)
-  job_alike (job.store t o) ks b (from_table (results.was a)) =
+  job_alike (job.store t o) ks b (from_table (table.was a)) =
       subst (λ z. IsAlike behaviour (settled X (map enclosed ks) (cond z a b)) (settled Y ks (cond (is_due t ks) a b))) (sym (due_alike t ks))
       (settled_alike ks (cond (is_due t ks) a b))
   job_alike (job.publish c) ks b (from_queue None) = settled_alike ks b
-  job_alike (job.part g t c) ks b (from_table (results.count n)) = part_alike (eqb (suc n) c.size)
+  job_alike (job.part g t c) ks b (from_table (table.count n)) = part_alike (eqb (suc n) c.size)
     where
       part_alike : (z : Bool) → IsAlike behaviour (cond z (reads_next X g c []) acking) (cond z (reads_next Y g c []) acking)
       part_alike true = next_alike g c []
@@ -119,8 +119,8 @@ module _ (behaviour : Behaviour) (l : Line) where
 
   step_reading : (g : ℕ) (c : PCarried) (t : ℕ) (fs : List (ℕ × Outcome)) (r : Answer)
       → IsAlike behaviour (answered X (state_reading g c t fs) r) (answered Y (state_reading g c t fs) r)
-  step_reading g c t fs (from_table (results.found (Some o))) = read_alike g c (fs ++ (t, o) ∷ []) (eqb (length (fs ++ (t, o) ∷ [])) c.size)
-  step_reading g c t fs (from_table (results.found None)) = tt
+  step_reading g c t fs (from_table (table.found (Some o))) = read_alike g c (fs ++ (t, o) ∷ []) (eqb (length (fs ++ (t, o) ∷ [])) c.size)
+  step_reading g c t fs (from_table (table.found None)) = tt
   step_reading g c t fs r = tt
 
   step_taking : (r : Answer) → IsAlike behaviour (answered X taking r) (answered Y taking r)
@@ -139,7 +139,7 @@ module _ (behaviour : Behaviour) (l : Line) where
 
   step_own : (m : Applied) (c : Content) (r : Answer) → said m.envelope ≡ c → m.outcome ≡ outcome_of behaviour c
       → IsAlike behaviour (answered X (owning m) r) (answered Y (owning c) r)
-  step_own m c (from_table (results.was a)) is value = step_owning m c is value a
+  step_own m c (from_table (table.was a)) is value = step_owning m c is value a
   step_own m c r is value = tt
 
   step : (s : Left) (t : Doing) (r : Answer) → IsAlike behaviour s t → IsAlike behaviour (answered X s r) (answered Y t r)
@@ -162,7 +162,7 @@ module _ (behaviour : Behaviour) (l : Line) where
   job_asks : (k : Job Content PCarried Outcome) (ks : Jobs) (b d : Stored) → ReadsBack X (doing (enclosed k ∷ map enclosed ks) b)
       → (ask Y (doing (k ∷ ks) d) ≡ ask X (doing (enclosed k ∷ map enclosed ks) b)) × ReadsBack Y (doing (k ∷ ks) d)
   job_asks (job.store t o) ks b d back = (refl, tt)
-  job_asks (job.publish c) ks b d back = let so = envelope_so c back in (ap (λ e. to_queue (broker.publish e)) (sym so.0), so.1)
+  job_asks (job.publish c) ks b d back = let so = envelope_so c back in (ap (λ e. to_queue (queue.publish e)) (sym so.0), so.1)
   job_asks (job.part g t c) ks b d back = (refl, tt)
 
   jobs_ask : (js : List (Job Applied PCarried Outcome)) (b : Stored) (ks : Jobs) (d : Stored) → js ≡ map enclosed ks → ReadsBack X (doing js b)
@@ -178,9 +178,9 @@ module _ (behaviour : Behaviour) (l : Line) where
   asks over over a back = (refl, tt)
   asks failed failed a back = (refl, tt)
   asks acking acking a back = (refl, tt)
-  asks (owning m) (owning c) a back = (ap₂ (λ (d : Content) (o : Outcome). to_table (results.store (number_of d.own) o)) (sym a.0) (sym a.1), tt)
+  asks (owning m) (owning c) a back = (ap₂ (λ (d : Content) (o : Outcome). to_table (table.store (number_of d.own) o)) (sym a.0) (sym a.1), tt)
   asks (doing js b) (doing ks d) a back = jobs_ask js b ks d a.0 back
-  asks (state_reading g c t fs) (state_reading h d u gs) a back = (ap (λ k. to_table (results.read k)) (sym a.1.1.0), tt)
+  asks (state_reading g c t fs) (state_reading h d u gs) a back = (ap (λ k. to_table (table.read k)) (sym a.1.1.0), tt)
   asks s t a back = absurd a
 
   -- ---- between scripts

@@ -7,16 +7,16 @@ use Rattle.canvas_task.specs.declared.outcome.Outcome.{Outcome}
 use Rattle.canvas_rewrite.specs.FrozenView.{PCarried}
 use Rattle.canvas_message.specs.declared.envelope.Envelope.{Envelope}
 use Rattle.canvas_message.specs.Content.{Content}
-use Rattle.canvas_backend.specs.declared.stored.Stored.{Stored}
-use Rattle.canvas_backend.specs.declared.stored.Stored.TheVariants.{First, Again}
+use Rattle.canvas_history.specs.declared.stored.Stored.{Stored}
+use Rattle.canvas_history.specs.declared.stored.Stored.TheVariants.{First, Again}
 use Rattle.canvas_runs.specs.Worker.{opened}
-use Rattle.canvas_runs.proofs.MoreAsks.{held_append, reads_cases}
+use Rattle.canvas_runs.proofs.Runs.MoreAsks.{held_append, reads_cases}
 use Rattle.canvas_runs.specs.Calls.{held_by, held_after}
 use Rattle.canvas_effects.specs.Job.{store, publish, part}
 use Rattle.canvas_runs.specs.Book.{Book}
 use Rattle.canvas_runs.specs.Core as C
-use Rattle.canvas_backend.specs.Backend as results
-use Rattle.canvas_broker.specs.Broker as broker
+use Rattle.canvas_history.specs.Table as table
+use Rattle.canvas_history.specs.Queue as queue
 use Rattle.canvas_runs.specs.Core.{taking, resting, over, failed, owning, doing, reading, from_queue, refused, from_table, rested, answered, left_after, Suits, ReadsBack, IsCoreRun, acking, acked, settled, opens, reads_next, Jobs, is_due, is_inside}
 use Rattle.canvas_worker.specs.Asks.{Asked, Answer, suits, shown, replied}
 use Rattle.canvas_worker.specs.Asks as asks
@@ -29,12 +29,12 @@ use Rattle.canvas_worker.specs.declared.ask.Reply.TheVariants as R
 
 -- a reply that suits by kind is one that the machine's ask admits
 pub suited : (book : Book) (x : Option ℕ) (a : Asked) (r : Reply) → suits (shown x a) r ≡ true → Suits a (replied r)
-suited book n (C.to_queue broker.take) (R.Taken x) h = tt
-suited book n (C.to_queue (broker.publish e)) R.Published h = tt
-suited book n (C.to_queue (broker.publish e)) (R.NotPublished f) h = tt
-suited book n (C.to_table (results.store t o)) (R.Stored s) h = tt
-suited book n (C.to_table (results.part g t)) (R.Counted m) h = tt
-suited book n (C.to_table (results.read t)) (R.Found x) h = tt
+suited book n (C.to_queue queue.take) (R.Taken x) h = tt
+suited book n (C.to_queue (queue.publish e)) R.Published h = tt
+suited book n (C.to_queue (queue.publish e)) (R.NotPublished f) h = tt
+suited book n (C.to_table (table.store t o)) (R.Stored s) h = tt
+suited book n (C.to_table (table.part g t)) (R.Counted m) h = tt
+suited book n (C.to_table (table.read t)) (R.Found x) h = tt
 suited book n C.rest (R.Rested more) h = tt
 suited book n C.ack R.Acked h = tt
 suited book n a r h = absurd cc
@@ -156,20 +156,20 @@ book_step behaviour book taking h (from_queue (Some e)) u = go (opened book e)
     go (Some c) = refl
 book_step behaviour book resting h (rested true) u = refl
 book_step behaviour book resting h (rested false) u = refl
-book_step behaviour book (owning m) h (from_table (results.was First)) u =
+book_step behaviour book (owning m) h (from_table (table.was First)) u =
     open_settled behaviour book ((enveloped_by behaviour book).ended m ((enveloped_by behaviour book).outcome m)) First (Some m.envelope)
-book_step behaviour book (owning m) h (from_table (results.was Again)) u = refl
-book_step behaviour book (doing (store t o ∷ js) b) h (from_table (results.was a)) u = open_settled behaviour book js (cond (is_due t js) a b) h
+book_step behaviour book (owning m) h (from_table (table.was Again)) u = refl
+book_step behaviour book (doing (store t o ∷ js) b) h (from_table (table.was a)) u = open_settled behaviour book js (cond (is_due t js) a b) h
 book_step behaviour book (doing (publish e ∷ js) b) h (from_queue None) u = open_settled behaviour book js b h
 book_step behaviour book (doing (publish e ∷ js) b) h refused u = refl
-book_step behaviour book (doing (part g t c ∷ js) b) h (from_table (results.count n)) u =
+book_step behaviour book (doing (part g t c ∷ js) b) h (from_table (table.count n)) u =
     open_either (eqb (suc n) c.size) (reads_next (enveloped_by behaviour book) g c []) acking h (open_next behaviour book g c [] h) refl
-book_step behaviour book (reading g c t fs) h (from_table (results.found (Some o))) u =
+book_step behaviour book (reading g c t fs) h (from_table (table.found (Some o))) u =
     open_either (eqb (length (fs ++ (t, o) ∷ [])) c.size)
     (settled (enveloped_by behaviour book) ((enveloped_by behaviour book).completed c (fs ++ (t, o) ∷ [])) Again)
     (reads_next (enveloped_by behaviour book) g c (fs ++ (t, o) ∷ [])) h
     (open_settled behaviour book ((enveloped_by behaviour book).completed c (fs ++ (t, o) ∷ [])) Again h) (open_next behaviour book g c (fs ++ (t, o) ∷ []) h)
-book_step behaviour book (reading g c t fs) h (from_table (results.found None)) u = refl
+book_step behaviour book (reading g c t fs) h (from_table (table.found None)) u = refl
 book_step behaviour book acking h acked u = refl
 book_step behaviour book s h r u = elim u [ ]
 
@@ -181,12 +181,12 @@ task_step behaviour book taking h x (from_queue None) u was i = absurd (false≢
 task_step behaviour book taking h x (from_queue (Some e)) u was i = refl
 task_step behaviour book resting h x (rested true) u was i = absurd (false≢true i)
 task_step behaviour book resting h x (rested false) u was i = absurd (false≢true i)
-task_step behaviour book (owning m) h x (from_table (results.was b)) u was i = was refl
-task_step behaviour book (doing (store t o ∷ js) b) h x (from_table (results.was a)) u was i = was refl
+task_step behaviour book (owning m) h x (from_table (table.was b)) u was i = was refl
+task_step behaviour book (doing (store t o ∷ js) b) h x (from_table (table.was a)) u was i = was refl
 task_step behaviour book (doing (publish e ∷ js) b) h x (from_queue None) u was i = was refl
 task_step behaviour book (doing (publish e ∷ js) b) h x refused u was i = was refl
-task_step behaviour book (doing (part g t c ∷ js) b) h x (from_table (results.count n)) u was i = was refl
-task_step behaviour book (reading g c t fs) h x (from_table (results.found o)) u was i = was refl
+task_step behaviour book (doing (part g t c ∷ js) b) h x (from_table (table.count n)) u was i = was refl
+task_step behaviour book (reading g c t fs) h x (from_table (table.found o)) u was i = was refl
 task_step behaviour book acking h x acked u was i = absurd (false≢true i)
 task_step behaviour book s h x r u was i = elim u [ ]
 

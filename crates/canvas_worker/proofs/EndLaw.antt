@@ -9,14 +9,14 @@ use Rattle.canvas_message.specs.Content.{Content, number_of}
 use Rattle.canvas_effects.specs.Effects.{after, body_after, script}
 use Rattle.canvas_effects.specs.Job.{store, publish, part}
 use Rattle.canvas_message.specs.declared.envelope.Envelope.{Envelope}
-use Rattle.canvas_backend.specs.declared.stored.Stored.{Stored}
-use Rattle.canvas_backend.specs.declared.stored.Stored.TheVariants.{First, Again}
-use Rattle.canvas_backend.specs.Backend as results
-use Rattle.canvas_broker.specs.Broker as broker
+use Rattle.canvas_history.specs.declared.stored.Stored.{Stored}
+use Rattle.canvas_history.specs.declared.stored.Stored.TheVariants.{First, Again}
+use Rattle.canvas_history.specs.Table as table
+use Rattle.canvas_history.specs.Queue as queue
 use Rattle.canvas_runs.specs.Book.{Book, has_size, line_known, message_known}
 use Rattle.canvas_runs.specs.Protocol.{Protocol}
 use Rattle.canvas_runs.specs.Worker.{opened}
-use Rattle.canvas_runs.proofs.MoreAsks.{reads_cases}
+use Rattle.canvas_runs.proofs.Runs.MoreAsks.{reads_cases}
 use Rattle.canvas_runs.specs.Core as C
 use Rattle.canvas_runs.specs.Core.{taking, resting, over, failed, owning, doing, reading, from_queue, refused, from_table, rested, answered, left_after, settled, opens, Suits, IsCoreRun, acking, acked}
 use Rattle.canvas_worker.specs.Asks.{Asked, Answer, suits, shown}
@@ -179,18 +179,18 @@ module _ (behaviour : Behaviour) (book : Book) where
     step resting (rested false) w suit = inl tt
     step over r w suit = absurd (true≢false w.1)
     step failed r w suit = absurd (true≢false w.1)
-    step (owning m) (from_table (results.was First)) w suit =
+    step (owning m) (from_table (table.was First)) w suit =
         inr (well_settled (X.ended m (X.outcome m)) First
         (ended_in (enveloping.said m.envelope) m.outcome (opened_as book m.envelope (enveloping.said m.envelope) w.0).1))
-    step (owning m) (from_table (results.was Again)) w suit = inr (tt, refl)
+    step (owning m) (from_table (table.was Again)) w suit = inr (tt, refl)
     step (doing [] b) r w suit = absurd (true≢false w.1)
-    step (doing (store t o ∷ js) b) (from_table (results.was a)) w suit = inr (well_settled js (cond (C.is_due t js) a b) w.0.1)
+    step (doing (store t o ∷ js) b) (from_table (table.was a)) w suit = inr (well_settled js (cond (C.is_due t js) a b) w.0.1)
     step (doing (publish e ∷ js) b) (from_queue None) w suit = inr (well_settled js b w.0)
     step (doing (publish e ∷ js) b) refused w suit = inl tt
-    step (doing (part g t c ∷ js) b) (from_table (results.count n)) w suit = inr (well_counted g c n (eqb (suc n) c.size) w.0.1 refl)
-    step (reading g c t fs) (from_table (results.found (Some o))) w suit =
+    step (doing (part g t c ∷ js) b) (from_table (table.count n)) w suit = inr (well_counted g c n (eqb (suc n) c.size) w.0.1 refl)
+    step (reading g c t fs) (from_table (table.found (Some o))) w suit =
         inr (well_read g c fs t o (eqb (length (fs ++ (t, o) ∷ [])) c.size) w.0.0 w.0.1 refl)
-    step (reading g c t fs) (from_table (results.found None)) w suit = inr (tt, refl)
+    step (reading g c t fs) (from_table (table.found None)) w suit = inr (tt, refl)
     step acking acked w suit = inr (tt, refl)
     step s r w suit = absurd suit
 
@@ -280,11 +280,11 @@ over_then behaviour book ys run =
 
 which : (behaviour : Behaviour) (book : Book) (xs ys : List (Asked × Answer)) (a : Asked) (r : Answer) → IsCoreRun (enveloped_by behaviour book) taking xs
     → is_failed (left_by behaviour book xs) ≡ true → xs ≡ ys ++ (a, r) ∷ [] → EndsACore a r
-    → (zs : List (Asked × Answer)) × (e : Envelope) × (xs ≡ zs ++ (C.to_queue (broker.publish e), refused) ∷ [])
+    → (zs : List (Asked × Answer)) × (e : Envelope) × (xs ≡ zs ++ (C.to_queue (queue.publish e), refused) ∷ [])
 which behaviour book xs ys C.rest (rested false) run fails same by =
     absurd (true≢false (sym fails ∙ ap (λ zs. is_failed (left_by behaviour book zs)) same
     ∙ over_then behaviour book ys (subst (λ zs. IsCoreRun (enveloped_by behaviour book) taking zs) same run)))
-which behaviour book xs ys (C.to_queue (broker.publish e)) refused run fails same by = (ys, e, same)
+which behaviour book xs ys (C.to_queue (queue.publish e)) refused run fails same by = (ys, e, same)
 which behaviour book xs ys a r run fails same by = absurd by
 
 pub fails_behind : FailsBehind

@@ -1,19 +1,17 @@
 -- What a new worker's record says in words of the worker that the law of runs speaks of.
 use Rattle.std.proofs.Common.{◌≡◌, ◌∙◌, ℕ, List, [], refl, sym, subst, arith}
 use Rattle.std.proofs.lemmas.Bool.{false≢true}
-use Rattle.std.specs.Global.{Global}
 use Rattle.canvas_task.specs.Apply.{Behaviour}
-use Rattle.crossbeam_queue.specs.SegTies.{SegId}
+use Rattle.canvas_history.specs.Passes.{QueueId, Empties}
 use Rattle.canvas_semantics.specs.Line.{Line}
 use Rattle.canvas_rewrite.specs.FrozenView.{PCarried}
 use Rattle.canvas_rewrite.specs.Planned.{IsPlan}
-use Rattle.canvas_backend.specs.Seats.{Desk}
+use Rattle.canvas_history.specs.Seats.{Desk}
 use Rattle.canvas_message.specs.Content.{Content}
-use Rattle.canvas_backend.specs.Roster.{Roster, roster_of}
-use Rattle.canvas_broker.specs.Passes.{Empties}
+use Rattle.canvas_history.specs.Roster.{Roster, roster_of}
 use Rattle.canvas_runs.specs.Core.{CoreState, taking, resting, over, left_after}
 use Rattle.canvas_runs.specs.Following.{Pass, Seat, Working, Followed, starting, IsOver}
-use Rattle.canvas_runs.specs.Lists.{Each}
+use Rattle.canvas_history.specs.Lists.{Each}
 use Rattle.canvas_runs.specs.Worker.{worker, worker_of}
 use Rattle.canvas_worker.specs.Asks.{Asked, Answer}
 use Rattle.canvas_worker.specs.Cores.{IsAlike, GoTogether}
@@ -83,7 +81,7 @@ workers_start l plan broker desk number pass seat is of home = record {
     never : ◌≡◌ {A = Left} taking resting → ⊥
     never e = cc
 
-pub workers_finish : (behaviour : Behaviour) (may_want : ℕ → ℕ → Type 0) (l : Line) → IsPlan l → (broker : SegId Global) (desk : Desk) (number : ℕ)
+pub workers_finish : (behaviour : Behaviour) (may_want : ℕ → ℕ → Type 0) (l : Line) → IsPlan l → (broker : QueueId) (desk : Desk) (number : ℕ)
     (pass : Pass) (seat : Seat) → desk.plan ≡ roster_of l → (r : Record) → TellsOf behaviour may_want (working_begun broker desk number pass seat) r
     → Finished behaviour may_want (roster_of l) number pass seat r
 unfolding followed

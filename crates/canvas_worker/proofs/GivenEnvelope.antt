@@ -3,16 +3,16 @@ use Rattle.std.proofs.Common.{◌≡◌, ◌∙◌, ℕ, ◌+◌, min, false, Li
 use Rattle.std.specs.Prelude.{MatchResult, true, IsSome}
 use Rattle.canvas_task.specs.Apply.{Behaviour}
 use Rattle.canvas_message.specs.declared.envelope.Envelope.{Envelope}
-use Rattle.canvas_backend.specs.Seats.{Desk}
-use Rattle.canvas_backend.specs.Roster.{Roster}
-use Rattle.canvas_broker.specs.Broker as broker
-use Rattle.canvas_broker.specs.Passes.{Took}
+use Rattle.canvas_history.specs.Seats.{Desk}
+use Rattle.canvas_history.specs.Roster.{Roster}
+use Rattle.canvas_history.specs.Queue as queue
+use Rattle.canvas_history.specs.Passes.{Took}
 use Rattle.canvas_runs.specs.Book.{book_on}
 use Rattle.canvas_runs.specs.Calls.{backend_call, held_by}
 use Rattle.canvas_runs.specs.Core as C
 use Rattle.canvas_runs.specs.Core.{answered, is_inside, Suits, ReadsBack}
 use Rattle.canvas_runs.specs.Following.{Seat, Serves}
-use Rattle.canvas_runs.specs.Lists.{Each}
+use Rattle.canvas_history.specs.Lists.{Each}
 use Rattle.canvas_runs.specs.Tally.{Tally, Counted, dropping, greatest_count}
 use Rattle.canvas_worker.specs.EnvelopeWorker.{enveloped}
 use Rattle.canvas_worker.specs.CorePast.{task_in}
@@ -39,7 +39,7 @@ same_tallies e f g h i = cc
 
 -- Where from w on es were taken, and e is the first of all that is held then; u is the worker before its core is given it.
 pub record Takes (w u : Work) (es : List Envelope) (e : Envelope) : Type 0 where
-  pub asked_is : asked w.core.left ≡ C.to_queue broker.take
+  pub asked_is : asked w.core.left ≡ C.to_queue queue.take
   pub broker : u.broker ≡ w.broker
   pub desk : u.desk ≡ w.desk
   pub number : u.number ≡ w.number
@@ -69,7 +69,7 @@ module _ (behaviour : Behaviour) (w u : Work) (es : List Envelope) (e : Envelope
     left = answered (enveloped behaviour plan) w.core.left (C.from_queue (Some e));
     is_out = false;
     dropped = min greatest_count
-        (w.core.dropped + of_queue (dropping plan) (C.to_queue broker.take) (C.from_queue (Some e)));
+        (w.core.dropped + of_queue (dropping plan) (C.to_queue queue.take) (C.from_queue (Some e)));
     kept = kept_next (book_on plan) w.core.left w.core.kept (C.from_queue (Some e));
     task =
         task_next (book_on plan) w.core.left w.core.task (C.from_queue (Some e));
@@ -77,7 +77,7 @@ module _ (behaviour : Behaviour) (w u : Work) (es : List Envelope) (e : Envelope
 
   core_is : after_reply behaviour (book_on u.desk.plan) u.core (C.from_queue (Some e)) ≡ core
   core_is =
-      let so : drops (book_on plan) w.core.left (C.from_queue (Some e)) ≡ of_queue (dropping plan) (C.to_queue broker.take) (C.from_queue (Some e)) =
+      let so : drops (book_on plan) w.core.left (C.from_queue (Some e)) ≡ of_queue (dropping plan) (C.to_queue queue.take) (C.from_queue (Some e)) =
       drops_so plan w.core.left (C.from_queue (Some e)) ∙ ap (λ b. of_queue (dropping plan) b (C.from_queue (Some e))) x.asked_is in
       ap (λ (d : Desk). after_reply behaviour (book_on d.plan) u.core (C.from_queue (Some e))) x.desk
       ∙ ap (λ c. after_reply behaviour (book_on plan) c (C.from_queue (Some e))) x.core
@@ -94,7 +94,7 @@ module _ (behaviour : Behaviour) (w u : Work) (es : List Envelope) (e : Envelope
   abbrev given : Work
   given = one_taken (with_core u core)
 
-  counted : Counted plan ((C.to_queue broker.take, C.from_queue (Some e)) ∷ []) (progress w).tally (progress given).tally
+  counted : Counted plan ((C.to_queue queue.take, C.from_queue (Some e)) ∷ []) (progress w).tally (progress given).tally
   counted = record {
     taken = one_more w.taken (min greatest_count (u.taken + 1)) (ap (λ n. min greatest_count (n + 1)) x.taken);
     published = unchanged w.published u.published ready.counts.1 x.published;
@@ -149,7 +149,7 @@ module _ (behaviour : Behaviour) (w u : Work) (es : List Envelope) (e : Envelope
       current = λ _. subst (λ h. IsSome h) (sym current) refl;
       task = λ i. subst (λ (d : Desk). core.task ≡ task_in (book_on d.plan) (held core)) (sym x.desk) (names_task i);
       again = again;
-      counts = tallied plan (C.to_queue broker.take) (C.from_queue (Some e)) (progress w).tally (progress given).tally counted;
+      counts = tallied plan (C.to_queue queue.take) (C.from_queue (Some e)) (progress w).tally (progress given).tally counted;
     };
     moved = gives_held es e between batched from_held;
   }

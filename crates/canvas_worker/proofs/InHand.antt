@@ -6,17 +6,17 @@ use Rattle.canvas_task.specs.Apply.{Behaviour}
 use Rattle.canvas_history.specs.History.{calls}
 use Rattle.canvas_effects.specs.Job.{store, publish, part}
 use Rattle.canvas_message.specs.declared.envelope.Envelope.{Envelope}
-use Rattle.canvas_backend.specs.Backend as results
-use Rattle.canvas_backend.specs.Roster.{Roster}
-use Rattle.canvas_broker.specs.Broker as broker
-use Rattle.canvas_broker.specs.Broker.{QueueCall}
-use Rattle.canvas_broker.specs.Passes.{Stands, Took}
+use Rattle.canvas_history.specs.Table as table
+use Rattle.canvas_history.specs.Roster.{Roster}
+use Rattle.canvas_history.specs.Queue as queue
+use Rattle.canvas_history.specs.Queue.{QueueCall}
+use Rattle.canvas_history.specs.Passes.{Stands, Took}
 use Rattle.canvas_runs.specs.Calls.{broker_call, held_by}
 use Rattle.canvas_runs.specs.Core as C
 use Rattle.canvas_runs.specs.Core.{answered, is_inside}
 use Rattle.canvas_runs.specs.Following.{Pass, Makes}
-use Rattle.canvas_runs.specs.Lists.{Each}
-use Rattle.canvas_runs.proofs.Words.{each_append, each_weaker}
+use Rattle.canvas_history.specs.Lists.{Each}
+use Rattle.canvas_runs.proofs.Lists.Words.{each_append, each_weaker}
 use Rattle.canvas_worker.specs.Asks.{Asked, Answer}
 use Rattle.canvas_worker.specs.EnvelopeWorker.{enveloped}
 use Rattle.canvas_worker.specs.CoreState.{Left, asked, open_of, held}
@@ -29,7 +29,7 @@ use Rattle.canvas_worker.proofs.Turns.{ends_acting}
 
 -- ---- what a pass may deliver again
 
-taken_can : (p q : Pass) (e : Envelope) → Stands p (calls p.name broker.take (Some e)) q → CanDeliver q e
+taken_can : (p q : Pass) (e : Envelope) → Stands p (calls p.name queue.take (Some e)) q → CanDeliver q e
 taken_can p q e s = (s.3, just_has p q e s)
 
 still_can : (p q : Pass) (d : QueueCall Envelope) (a : Option Envelope) → Stands p (calls p.name d a) q → (e : Envelope) → CanDeliver p e → CanDeliver q e
@@ -47,7 +47,7 @@ makes_can : (es xs : List Envelope) (p q : Pass) → Makes p (taking_all es) q �
 makes_can [] xs p q m c = subst (Each (CanDeliver q)) (sym (append-nil xs)) (subst (λ r. Each (CanDeliver r) xs) (sym m) c)
 makes_can (e ∷ es) xs p q m c =
     let all : Each (CanDeliver m.0) (xs ++ e ∷ []) =
-    each_append (CanDeliver m.0) xs (e ∷ []) (all_still p m.0 broker.take (Some e) m.1 xs c) (taken_can p m.0 e m.1, tt) in
+    each_append (CanDeliver m.0) xs (e ∷ []) (all_still p m.0 queue.take (Some e) m.1 xs c) (taken_can p m.0 e m.1, tt) in
     subst (Each (CanDeliver q)) (append_assoc xs (e ∷ []) es) (makes_can es (xs ++ e ∷ []) m.0 q m.2 all)
 
 -- a batch is taken
@@ -57,14 +57,14 @@ batch_can es xs p q t c = makes_can es xs p q (took_makes p q es t) c
 -- an ask of the core is answered
 pub call_can : (a : Asked) (r : Answer) (h : Option Envelope) (es : List Envelope) (p q : Pass) → C.Suits a r → Makes p (broker_call a r) q
     → Each (CanDeliver p) (in_hand h es) → Each (CanDeliver q) (in_hand (held_by h a r) es)
-call_can (C.to_queue broker.take) (C.from_queue (Some e)) h es p q suit m c =
-    subst (λ z. Each (CanDeliver z) (e ∷ es)) (sym m.2) (taken_can p m.0 e m.1, all_still p m.0 broker.take (Some e) m.1 es (but_open p h es c))
-call_can (C.to_queue (broker.publish e)) (C.from_queue None) h es p q suit m c =
-    subst (λ z. Each (CanDeliver z) (in_hand h es)) (sym m.2) (all_still p m.0 (broker.publish e) None m.1 (in_hand h es) c)
+call_can (C.to_queue queue.take) (C.from_queue (Some e)) h es p q suit m c =
+    subst (λ z. Each (CanDeliver z) (e ∷ es)) (sym m.2) (taken_can p m.0 e m.1, all_still p m.0 queue.take (Some e) m.1 es (but_open p h es c))
+call_can (C.to_queue (queue.publish e)) (C.from_queue None) h es p q suit m c =
+    subst (λ z. Each (CanDeliver z) (in_hand h es)) (sym m.2) (all_still p m.0 (queue.publish e) None m.1 (in_hand h es) c)
 call_can C.ack C.acked h es p q suit m c = subst (λ z. Each (CanDeliver z) es) (sym m) (but_open p h es c)
 call_can (C.to_table d) r h es p q suit m c = subst (λ z. Each (CanDeliver z) (in_hand h es)) (sym m) c
-call_can (C.to_queue broker.take) (C.from_queue None) h es p q suit m c = subst (λ z. Each (CanDeliver z) (in_hand h es)) (sym m) c
-call_can (C.to_queue (broker.publish e)) C.refused h es p q suit m c = subst (λ z. Each (CanDeliver z) (in_hand h es)) (sym m) c
+call_can (C.to_queue queue.take) (C.from_queue None) h es p q suit m c = subst (λ z. Each (CanDeliver z) (in_hand h es)) (sym m) c
+call_can (C.to_queue (queue.publish e)) C.refused h es p q suit m c = subst (λ z. Each (CanDeliver z) (in_hand h es)) (sym m) c
 call_can C.rest r h es p q suit m c = subst (λ z. Each (CanDeliver z) (in_hand h es)) (sym m) c
 call_can a r h es p q suit m c = elim suit [ ]
 
@@ -77,12 +77,12 @@ module _ (behaviour : Behaviour) (plan : Roster) where
   has_open C.taking h (C.from_queue (Some e)) u has i = refl
   has_open C.resting h (C.rested true) u has i = absurd (false≢true i)
   has_open C.resting h (C.rested false) u has i = absurd (false≢true i)
-  has_open (C.owning m) h (C.from_table (results.was b)) u has i = refl
-  has_open (C.doing (store t o ∷ js) b) h (C.from_table (results.was a)) u has i = has refl
+  has_open (C.owning m) h (C.from_table (table.was b)) u has i = refl
+  has_open (C.doing (store t o ∷ js) b) h (C.from_table (table.was a)) u has i = has refl
   has_open (C.doing (publish e ∷ js) b) h (C.from_queue None) u has i = has refl
   has_open (C.doing (publish e ∷ js) b) h C.refused u has i = has refl
-  has_open (C.doing (part g t c ∷ js) b) h (C.from_table (results.count n)) u has i = has refl
-  has_open (C.reading g c t fs) h (C.from_table (results.found x)) u has i = has refl
+  has_open (C.doing (part g t c ∷ js) b) h (C.from_table (table.count n)) u has i = has refl
+  has_open (C.reading g c t fs) h (C.from_table (table.found x)) u has i = has refl
   has_open C.acking h C.acked u has i = absurd (false≢true i)
   has_open s h r u has i = elim u [ ]
 
@@ -107,7 +107,7 @@ redelivered behaviour w v ready inside d =
         rested = λ rests. absurd (not_resting w.core.left inside rests);
         current = ready.current;
         task = ready.task;
-        again = all_still w.pass v.pass (broker.redeliver d.0) None d.2 (in_hand (held w.core) w.held) ready.again;
+        again = all_still w.pass v.pass (queue.redeliver d.0) None d.2 (in_hand (held w.core) w.held) ready.again;
         counts = ready.counts;
       };
       moved = delivers d.0 (d.1, (v.pass, d.2, refl), refl, refl, refl, refl, refl);

@@ -9,15 +9,14 @@ use Rattle.canvas_rewrite.specs.FrozenView.{PCarried}
 use Rattle.canvas_semantics.specs.PlacedLine.{PTask, p_task, PTasks, no_p_tasks, and_p_task, PPlace, p_nowhere, p_group, p_chord, PLine, p_stop, p_step, p_group_end, p_chord_end, PLines, no_p_lines, and_p_line}
 use Rattle.canvas_message.specs.Content.{Content, line, number_of, links_of, errbacks_of}
 use Rattle.canvas_effects.specs.Effects.{Jobs, callbacks, part_of, fault_behind, when_empty, enter, enter_all, called, header_flow}
-use Rattle.canvas_message.specs.Among.{In}
+use Rattle.canvas_history.specs.Lists.{In, Each}
 use Rattle.canvas_message.specs.Fits.{how_many}
 use Rattle.canvas_effects.specs.Flowing.{Input, number_input, list_input, id_input, LineFlow, run, skips, raise, after_outcome}
 use Rattle.canvas_effects.specs.Job.{Job, store, publish, part}
 use Rattle.canvas_effects.specs.Placing.{last_at, placed, end_place, last_task}
 use Rattle.canvas_effects.proofs.FitsOn.{all_true}
 use Rattle.canvas_runs.specs.Book.{Book, has_size, task_known, tasks_known, place_known, line_known, members_known, parent_known, message_known}
-use Rattle.canvas_runs.specs.Lists.{Each}
-use Rattle.canvas_runs.proofs.Words.{each_append, in_left, in_right}
+use Rattle.canvas_runs.proofs.Lists.Words.{each_append, in_left, in_right}
 use Rattle.canvas_worker.specs.SeatRights.{Carries}
 
 -- a store of the task is among the jobs

@@ -5,17 +5,16 @@ use Rattle.std.specs.Prelude.{IsTrue, if◌then◌else◌, nat_lt}
 use Rattle.canvas_task.specs.declared.outcome.Outcome.{Outcome}
 use Rattle.canvas_message.specs.Content.{Content}
 use Rattle.canvas_effects.specs.Effects.{Jobs, Part, stores_in, part_in, part_jobs, script, effect_of}
-use Rattle.canvas_message.specs.Among.{In}
+use Rattle.canvas_history.specs.Lists.{In, Each, firsts}
 use Rattle.canvas_effects.specs.Job.{store, publish, part}
 use Rattle.canvas_effects.specs.Ordered.{put, in_order}
-use Rattle.canvas_backend.specs.declared.stored.Stored.{Stored}
-use Rattle.canvas_backend.specs.declared.stored.Stored.TheVariants.{First}
-use Rattle.canvas_backend.specs.Backend.{MayReturn}
-use Rattle.canvas_backend.specs.Roster.{Roster}
+use Rattle.canvas_history.specs.declared.stored.Stored.{Stored}
+use Rattle.canvas_history.specs.declared.stored.Stored.TheVariants.{First}
+use Rattle.canvas_history.specs.Table.{MayReturn}
+use Rattle.canvas_history.specs.Roster.{Roster}
 use Rattle.canvas_runs.specs.Book.{Book, book_on}
 use Rattle.canvas_runs.specs.Core.{is_due}
 use Rattle.canvas_runs.specs.Following.{Seat}
-use Rattle.canvas_runs.specs.Lists.{Each, firsts}
 use Rattle.canvas_worker.specs.EnvelopeWorker.{enclosed}
 use Rattle.canvas_worker.specs.Scripts as scripts
 use Rattle.canvas_worker.specs.SeatRights.{Carries, InBook, MayReturnDue}

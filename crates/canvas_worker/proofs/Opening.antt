@@ -5,7 +5,7 @@ use Rattle.canvas_message.specs.Content.{Content}
 use Rattle.canvas_message.specs.EnvelopeFaults.{envelope_fault, Says}
 use Rattle.canvas_message.specs.declared.envelope.Envelope.{Envelope}
 use Rattle.canvas_message.specs.declared.fault.MessageFault.{MessageFault}
-use Rattle.canvas_runs.proofs.Readings.{says_reading, refused_reading}
+use Rattle.canvas_runs.proofs.Envelopes.Readings.{says_reading, refused_reading}
 use Rattle.canvas_runs.specs.Book.{Book, message_known}
 use Rattle.canvas_runs.specs.Worker.{read_envelope, known_one, opened}
 

@@ -5,13 +5,13 @@ use Rattle.futures.specs.Poll.{OnPending}
 use Rattle.futures.specs.declared.task.Poll.{Poll}
 use Rattle.futures.specs.declared.task.Poll.TheVariants as poll
 use Rattle.canvas_task.specs.Apply.{Behaviour}
-use Rattle.canvas_backend.specs.Seats.{Desk}
-use Rattle.canvas_backend.specs.Roster.{Roster}
-use Rattle.canvas_broker.specs.Broker.{redeliver}
+use Rattle.canvas_history.specs.Seats.{Desk}
+use Rattle.canvas_history.specs.Roster.{Roster}
+use Rattle.canvas_history.specs.Queue.{redeliver}
 use Rattle.canvas_message.specs.declared.envelope.Envelope.{Envelope}
 use Rattle.canvas_runs.specs.Book.{book_on}
 use Rattle.canvas_runs.specs.Core.{owning, acking, is_inside}
-use Rattle.canvas_runs.specs.Lists.{Each}
+use Rattle.canvas_history.specs.Lists.{Each}
 use Rattle.canvas_runs.specs.declared.when.When.{When}
 use Rattle.canvas_runs.specs.declared.when.When.TheVariants.{Early, Late}
 use Rattle.canvas_worker.specs.CorePast.{task_in}

@@ -5,22 +5,22 @@ use Rattle.canvas_task.specs.declared.outcome.Outcome.{Outcome}
 use Rattle.canvas_rewrite.specs.FrozenView.{PCarried}
 use Rattle.canvas_effects.specs.Job.{Job, store, publish, part}
 use Rattle.canvas_message.specs.declared.envelope.Envelope.{Envelope}
-use Rattle.canvas_backend.specs.declared.stored.Stored.{Stored}
-use Rattle.canvas_backend.specs.declared.stored.Stored.TheVariants.{First, Again}
-use Rattle.canvas_backend.specs.Roster.{Roster}
+use Rattle.canvas_history.specs.declared.stored.Stored.{Stored}
+use Rattle.canvas_history.specs.declared.stored.Stored.TheVariants.{First, Again}
+use Rattle.canvas_history.specs.Roster.{Roster}
 use Rattle.canvas_runs.specs.Core as C
-use Rattle.canvas_backend.specs.Backend as results
-use Rattle.canvas_broker.specs.Broker as broker
+use Rattle.canvas_history.specs.Table as table
+use Rattle.canvas_history.specs.Queue as queue
 use Rattle.canvas_runs.specs.Core.{from_queue, from_table, rested, taking, resting, over, failed, owning, doing, reading, settled, opens, owned, reads_next, job_done, answered, acking, acked}
 use Rattle.canvas_runs.specs.Protocol.{Protocol}
-use Rattle.canvas_runs.proofs.MoreAsks.{reads_cases}
+use Rattle.canvas_runs.proofs.Runs.MoreAsks.{reads_cases}
 use Rattle.canvas_worker.specs.Asks.{Asked, Answer}
 use Rattle.canvas_worker.specs.EnvelopeWorker.{Applied, enveloped}
 use Rattle.canvas_worker.specs.CoreState.{Left, asked}
 
 -- an ask other than a take
 abbrev pub Busy : Asked → Type 0
-Busy (C.to_queue broker.take) = ⊥
+Busy (C.to_queue queue.take) = ⊥
 Busy a = Unit {0}
 
 module _ (behaviour : Behaviour) (plan : Roster) where
@@ -59,28 +59,28 @@ module _ (behaviour : Behaviour) (plan : Roster) where
   read_never g c fs false e = next_never g c fs e
 
   job_never : (j : Job Applied PCarried Outcome) (js : Jobs) (b : Stored) (r : Answer) → job_done X j js b r ≡ resting → ⊥
-  job_never (store t o) js b (from_table (results.was a)) e = settled_never js (cond (C.is_due t js) a b) e
+  job_never (store t o) js b (from_table (table.was a)) e = settled_never js (cond (C.is_due t js) a b) e
   job_never (publish m) js b (from_queue None) e = settled_never js b e
-  job_never (part g t c) js b (from_table (results.count n)) e = counted_never g c (eqb (suc n) (X.size c)) e
+  job_never (part g t c) js b (from_table (table.count n)) e = counted_never g c (eqb (suc n) (X.size c)) e
   job_never j js b r e = cc
 
   pub given_never : (x : Envelope) → answered X taking (from_queue (Some x)) ≡ resting → ⊥
   given_never x e = opens_never (X.opened x) e
 
-  never_rests : (s : Left) (r : Answer) → (asked s ≡ C.to_queue broker.take → ⊥) → answered X s r ≡ resting → ⊥
+  never_rests : (s : Left) (r : Answer) → (asked s ≡ C.to_queue queue.take → ⊥) → answered X s r ≡ resting → ⊥
   never_rests taking r not e = not refl
   never_rests resting (rested true) not e = cc
   never_rests resting (rested false) not e = cc
   never_rests resting r not e = cc
   never_rests over r not e = cc
   never_rests failed r not e = cc
-  never_rests (owning m) (from_table (results.was a)) not e = owned_never m a e
+  never_rests (owning m) (from_table (table.was a)) not e = owned_never m a e
   never_rests (owning m) r not e = cc
   never_rests (doing [] b) r not e = cc
   never_rests (doing (j ∷ js) b) r not e = job_never j js b r e
-  never_rests (reading g c t fs) (from_table (results.found (Some o))) not e =
+  never_rests (reading g c t fs) (from_table (table.found (Some o))) not e =
       read_never g c (fs ++ (t, o) ∷ []) (eqb (length (fs ++ (t, o) ∷ [])) (X.size c)) e
-  never_rests (reading g c t fs) (from_table (results.found None)) not e = cc
+  never_rests (reading g c t fs) (from_table (table.found None)) not e = cc
   never_rests (reading g c t fs) r not e = cc
   never_rests acking acked not e = cc
   never_rests acking r not e = cc

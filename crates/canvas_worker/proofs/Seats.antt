@@ -14,18 +14,18 @@ use Rattle.canvas_message.specs.Content.{Content, number_of}
 use Rattle.canvas_effects.specs.Effects.{after, body_after, script}
 use Rattle.canvas_effects.specs.Job.{store, publish, part}
 use Rattle.canvas_message.specs.declared.envelope.Envelope.{Envelope}
-use Rattle.canvas_backend.specs.declared.stored.Stored.{Stored}
-use Rattle.canvas_backend.specs.declared.stored.Stored.TheVariants.{First, Again}
-use Rattle.canvas_backend.specs.Backend as results
-use Rattle.canvas_backend.specs.Backend.{TableCall, TableReply, IsCall, MayReturn}
-use Rattle.canvas_backend.specs.Roster.{Roster, roster_of, members, is_chord, is_member}
-use Rattle.canvas_backend.proofs.HistoryLaws.{first_may, still_may}
+use Rattle.canvas_history.specs.declared.stored.Stored.{Stored}
+use Rattle.canvas_history.specs.declared.stored.Stored.TheVariants.{First, Again}
+use Rattle.canvas_history.specs.Table as table
+use Rattle.canvas_history.specs.Table.{TableCall, TableReply, IsCall, MayReturn}
+use Rattle.canvas_history.specs.Roster.{Roster, roster_of, members, is_chord, is_member}
+use Rattle.canvas_history.proofs.TableLaws.{first_may, still_may}
 use Rattle.canvas_runs.specs.Book.{book_on, has_size, line_known, message_known}
 use Rattle.canvas_runs.specs.Calls.{backend_call}
 use Rattle.canvas_runs.specs.Core.{from_queue, from_table, rested, taking, resting, over, failed, owning, doing, reading, is_due, settled, opens, reads_next, answered, acking, acked}
 use Rattle.canvas_runs.specs.Following.{Seat, Serves}
 use Rattle.canvas_runs.specs.Worker.{opened}
-use Rattle.canvas_runs.proofs.MoreAsks.{reads_cases}
+use Rattle.canvas_runs.proofs.Runs.MoreAsks.{reads_cases}
 use Rattle.canvas_worker.specs.Asks.{Answer}
 use Rattle.canvas_worker.specs.EnvelopeWorker.{said, enclosed, enveloped, applied_if as kept_envelope, no_tasks}
 use Rattle.canvas_worker.specs.Scripts.{EnvelopeJobs}
@@ -75,11 +75,11 @@ module _ (plan : Roster) where
   settled_can behaviour s Again (part g t c ∷ js) i m = tt
 
   -- the one call of a seat
-  served : (s t : Seat) (c : results.TableCall) (r : results.TableReply) → IsCall plan s.name s.seen t.seen (calls s.name c r) → t.name ≡ s.name
-      → ((g d : ℕ) → c ≡ results.part g d → ⊥) → Keeps s t
+  served : (s t : Seat) (c : table.TableCall) (r : table.TableReply) → IsCall plan s.name s.seen t.seen (calls s.name c r) → t.name ≡ s.name
+      → ((g d : ℕ) → c ≡ table.part g d → ⊥) → Keeps s t
   served s t c r call name other d m = subst (λ n. MayReturn plan t.seen n d) (sym name) (still_may plan s.name d c r s.seen t.seen (λ g. other g d) m call)
 
-  first_of : (s t : Seat) (d : ℕ) (o : Outcome) (a : Stored) → IsCall plan s.name s.seen t.seen (calls s.name (results.store d o) (results.was a))
+  first_of : (s t : Seat) (d : ℕ) (o : Outcome) (a : Stored) → IsCall plan s.name s.seen t.seen (calls s.name (table.store d o) (table.was a))
       → t.name ≡ s.name → a ≡ First → MayReturn plan t.seen t.name d
   first_of s t d o First call name e = subst (λ n. MayReturn plan t.seen n d) (sym name) (first_may plan s.name d o s.seen t.seen call)
   first_of s t d o Again call name e = absurd cc
@@ -175,20 +175,20 @@ module _ (behaviour : Behaviour) (l : Line) (is_plan : IsPlan l) where
   goes_on s t taking (from_queue (Some e)) c call = opened_can plan behaviour t e (opened (book_on plan) e) refl
   goes_on s t resting (rested true) c call = tt
   goes_on s t resting (rested false) c call = tt
-  goes_on s t (owning m) (from_table (results.was First)) c (u, stands, same) =
+  goes_on s t (owning m) (from_table (table.was First)) c (u, stands, same) =
       ended_can t (said m.envelope) m.outcome (opened_as (book_on plan) m.envelope (said m.envelope) c).1
       (subst (λ v. MayReturn plan v.seen v.name (number_of (said m.envelope).own)) (sym same)
       (first_of plan s u (number_of (said m.envelope).own) m.outcome First stands.4 stands.1 refl))
-  goes_on s t (owning m) (from_table (results.was Again)) c call = tt
-  goes_on s t (doing (store d o ∷ js) b) (from_table (results.was a)) c (u, stands, same) =
+  goes_on s t (owning m) (from_table (table.was Again)) c call = tt
+  goes_on s t (doing (store d o ∷ js) b) (from_table (table.was a)) c (u, stands, same) =
       subst (λ v. Can plan v (settled (enveloped behaviour plan) js (cond (is_due d js) a b))) (sym same)
       (settled_can plan behaviour u (cond (is_due d js) a b) js c.0.1
-      (store_in plan s u d a b js (served plan s u (results.store d o) (results.was a) stands.4 stands.1 (λ g k e. absurd cc))
+      (store_in plan s u d a b js (served plan s u (table.store d o) (table.was a) stands.4 stands.1 (λ g k e. absurd cc))
       (first_of plan s u d o a stands.4 stands.1) c.1))
   goes_on s t (doing (publish e ∷ js) b) (from_queue None) c same =
       subst (λ v. Can plan v (settled (enveloped behaviour plan) js b)) (sym same) (settled_can plan behaviour s b js c.0 c.1)
-  goes_on s t (doing (part g d h ∷ js) b) (from_table (results.count n)) c call = handed_can plan behaviour t g h n c.0.1
-  goes_on s t (reading g h d fs) (from_table (results.found (Some o))) c call = go (eqb (length (fs ++ (d, o) ∷ [])) h.size) refl
+  goes_on s t (doing (part g d h ∷ js) b) (from_table (table.count n)) c call = handed_can plan behaviour t g h n c.0.1
+  goes_on s t (reading g h d fs) (from_table (table.found (Some o))) c call = go (eqb (length (fs ++ (d, o) ∷ [])) h.size) refl
     where
       go : (z : Bool) → eqb (length (fs ++ (d, o) ∷ [])) h.size ≡ z
           → Can plan t (cond z (settled (enveloped behaviour plan) (map enclosed (script (body_after h (fs ++ (d, o) ∷ [])))) Again)
@@ -198,7 +198,7 @@ module _ (behaviour : Behaviour) (l : Line) (is_plan : IsPlan l) where
           next_can plan behaviour t g h (fs ++ (d, o) ∷ []) c.0
           (let more : length (fs ++ (d, o) ∷ []) ≡ length fs + 1 = length-append fs ((d, o) ∷ []) in
           let apart = eqb-false (length (fs ++ (d, o) ∷ [])) h.size e in let before = c.1 in omega (arith, more, apart, before))
-  goes_on s t (reading g h d fs) (from_table (results.found None)) c call = tt
+  goes_on s t (reading g h d fs) (from_table (table.found None)) c call = tt
   goes_on s t acking acked c call = tt
   goes_on s t left r c call = tt
 

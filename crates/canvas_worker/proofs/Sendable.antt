@@ -15,7 +15,7 @@ use Rattle.canvas_message.specs.declared.fault.MessageFault.{MessageFault}
 use Rattle.canvas_message.specs.declared.fault.MessageFault.TheVariants.{NotJson, NotVersion2, BadId, BadContentType, BadBody, BadArgs, BadEmbed}
 use Rattle.canvas_codec.proofs.EnvelopeBack.{envelope_back}
 use Rattle.canvas_codec.proofs.EnvelopeLaw.{envelope_judged}
-use Rattle.canvas_runs.proofs.Readings.{reading_says, says_reading}
+use Rattle.canvas_runs.proofs.Envelopes.Readings.{reading_says, says_reading}
 use Rattle.canvas_runs.specs.Worker.{sealed, read_envelope}
 use Rattle.canvas_worker.specs.EnvelopeWorker.{said, blank, is_sendable, envelope_of}
 

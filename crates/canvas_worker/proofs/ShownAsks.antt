@@ -6,9 +6,9 @@ use Rattle.canvas_task.specs.declared.outcome.Outcome.{Outcome}
 use Rattle.canvas_message.specs.Content.{Content}
 use Rattle.canvas_effects.specs.Job.{store, publish, part}
 use Rattle.canvas_message.specs.declared.envelope.Envelope.{Envelope}
-use Rattle.canvas_backend.specs.Backend as results
-use Rattle.canvas_backend.specs.Roster.{Roster}
-use Rattle.canvas_broker.specs.Broker as broker
+use Rattle.canvas_history.specs.Table as table
+use Rattle.canvas_history.specs.Roster.{Roster}
+use Rattle.canvas_history.specs.Queue as queue
 use Rattle.canvas_runs.specs.Book.{Book, book_on}
 use Rattle.canvas_runs.specs.Core as C
 use Rattle.canvas_runs.specs.Core.{answered}
@@ -27,21 +27,21 @@ use Rattle.canvas_worker.proofs.Turns.{of_queue}
 
 -- an ask of the machine by the one that is shown, but for its envelope
 abbrev by_shown : Ask → Asked
-by_shown Take = C.to_queue broker.take
-by_shown (Store t o) = C.to_table (results.store t o)
-by_shown (Part g t) = C.to_table (results.part g t)
-by_shown (Read t) = C.to_table (results.read t)
+by_shown Take = C.to_queue queue.take
+by_shown (Store t o) = C.to_table (table.store t o)
+by_shown (Part g t) = C.to_table (table.part g t)
+by_shown (Read t) = C.to_table (table.read t)
 by_shown Rest = C.rest
 by_shown (Ack x) = C.ack
 by_shown v = C.end
 
 back : (x : Option ℕ) (a : Asked) → (shown x a ≡ Publish → ⊥) → (shown x a ≡ End → ⊥) → a ≡ by_shown (shown x a)
-back x (C.to_queue broker.take) p q = refl
-back x (C.to_queue (broker.publish e)) p q = absurd (p refl)
-back x (C.to_queue (broker.redeliver e)) p q = absurd (q refl)
-back x (C.to_table (results.store t o)) p q = refl
-back x (C.to_table (results.part g t)) p q = refl
-back x (C.to_table (results.read t)) p q = refl
+back x (C.to_queue queue.take) p q = refl
+back x (C.to_queue (queue.publish e)) p q = absurd (p refl)
+back x (C.to_queue (queue.redeliver e)) p q = absurd (q refl)
+back x (C.to_table (table.store t o)) p q = refl
+back x (C.to_table (table.part g t)) p q = refl
+back x (C.to_table (table.read t)) p q = refl
 back x C.ack p q = refl
 back x C.rest p q = refl
 back x C.end p q = refl
@@ -49,30 +49,30 @@ back x C.end p q = refl
 shown_is : (x : Option ℕ) (a : Asked) (v : Ask) → shown x a ≡ v → (v ≡ Publish → ⊥) → (v ≡ End → ⊥) → a ≡ by_shown v
 shown_is x a v e p q = back x a (λ h. p (sym e ∙ h)) (λ h. q (sym e ∙ h)) ∙ ap by_shown e
 
-pub is_take : (x : Option ℕ) (a : Asked) → shown x a ≡ Take → a ≡ C.to_queue broker.take
+pub is_take : (x : Option ℕ) (a : Asked) → shown x a ≡ Take → a ≡ C.to_queue queue.take
 is_take x a e = shown_is x a Take e (λ h. cc) (λ h. cc)
 
 pub is_rest : (x : Option ℕ) (a : Asked) → shown x a ≡ Rest → a ≡ C.rest
 is_rest x a e = shown_is x a Rest e (λ h. cc) (λ h. cc)
 
-pub is_store : (x : Option ℕ) (t : ℕ) (o : Outcome) (a : Asked) → shown x a ≡ Store t o → a ≡ C.to_table (results.store t o)
+pub is_store : (x : Option ℕ) (t : ℕ) (o : Outcome) (a : Asked) → shown x a ≡ Store t o → a ≡ C.to_table (table.store t o)
 is_store x t o a e = shown_is x a (Store t o) e (λ h. cc) (λ h. cc)
 
-pub is_part : (x : Option ℕ) (g t : ℕ) (a : Asked) → shown x a ≡ Part g t → a ≡ C.to_table (results.part g t)
+pub is_part : (x : Option ℕ) (g t : ℕ) (a : Asked) → shown x a ≡ Part g t → a ≡ C.to_table (table.part g t)
 is_part x g t a e = shown_is x a (Part g t) e (λ h. cc) (λ h. cc)
 
-pub is_read : (x : Option ℕ) (t : ℕ) (a : Asked) → shown x a ≡ Read t → a ≡ C.to_table (results.read t)
+pub is_read : (x : Option ℕ) (t : ℕ) (a : Asked) → shown x a ≡ Read t → a ≡ C.to_table (table.read t)
 is_read x t a e = shown_is x a (Read t) e (λ h. cc) (λ h. cc)
 
 pub is_ack : (x : Option ℕ) (a : Asked) → shown x a ≡ Ack x → a ≡ C.ack
 is_ack x a e = shown_is x a (Ack x) e (λ h. cc) (λ h. cc)
 
-pub is_send : (x : Envelope) (a : Asked) → to_send a ≡ Some x → a ≡ C.to_queue (broker.publish x)
-is_send x (C.to_queue (broker.publish y)) e = cc
+pub is_send : (x : Envelope) (a : Asked) → to_send a ≡ Some x → a ≡ C.to_queue (queue.publish x)
+is_send x (C.to_queue (queue.publish y)) e = cc
 is_send x a e = absurd cc
 
 -- the envelope that is handed out is the one that the ask publishes
-pub handed_out : (x : Envelope) (c : Standing) → c.is_out ≡ false → held_out c ≡ Some x → asked c.left ≡ C.to_queue (broker.publish x)
+pub handed_out : (x : Envelope) (c : Standing) → c.is_out ≡ false → held_out c ≡ Some x → asked c.left ≡ C.to_queue (queue.publish x)
 handed_out x c out e = is_send x (asked c.left) (sym (ap (λ b. if b then None else to_send (asked c.left)) out) ∙ e)
 
 -- an envelope that was handed out makes no difference to the answer
@@ -128,7 +128,7 @@ rests_over (C.doing (part g t l ∷ js) b) e = absurd cc
 rests_over s e = absurd cc
 
 -- and only one that waits to take
-pub takes_taking : (s : Left) → asked s ≡ C.to_queue broker.take → s ≡ C.taking
+pub takes_taking : (s : Left) → asked s ≡ C.to_queue queue.take → s ≡ C.taking
 takes_taking C.taking e = refl
 takes_taking (C.doing (store t o ∷ js) b) e = absurd cc
 takes_taking (C.doing (publish m ∷ js) b) e = absurd cc
@@ -136,7 +136,7 @@ takes_taking (C.doing (part g t l ∷ js) b) e = absurd cc
 takes_taking s e = absurd cc
 
 -- and has nothing to publish
-pub reads_back : (s : Left) → asked s ≡ C.to_queue broker.take → C.ReadsBack (enveloped_by no_tasks no_book) s
+pub reads_back : (s : Left) → asked s ≡ C.to_queue queue.take → C.ReadsBack (enveloped_by no_tasks no_book) s
 reads_back s e = subst (λ l. C.ReadsBack (enveloped_by no_tasks no_book) l) (sym (takes_taking s e)) tt
 
 unread_lost : (o : Option Content) → unread o ≡ is_lost o + 0

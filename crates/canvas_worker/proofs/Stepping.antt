@@ -4,22 +4,22 @@ use Rattle.canvas_task.specs.Apply.{Behaviour}
 use Rattle.canvas_history.specs.History.{calls, live_from}
 use Rattle.canvas_history.proofs.Histories.{legal_left}
 use Rattle.canvas_message.specs.declared.envelope.Envelope.{Envelope}
-use Rattle.canvas_backend.specs.Roster.{Roster}
-use Rattle.canvas_broker.specs.Broker as broker
-use Rattle.canvas_broker.specs.Broker.{QueueEntry as Entries, answer_of, next, May, IsLegal, takes_of}
-use Rattle.canvas_broker.specs.Passes.{Took}
+use Rattle.canvas_history.specs.Roster.{Roster}
+use Rattle.canvas_history.specs.Queue as queue
+use Rattle.canvas_history.specs.Queue.{QueueEntry as Entries, answer_of, next, May, IsLegal, takes_of}
+use Rattle.canvas_history.specs.Passes.{Took}
 use Rattle.canvas_runs.specs.Core.{Ask, Reply, to_queue, to_table, from_queue, refused, Suits, IsCoreRun, left_after, rest, ack, acked}
 use Rattle.canvas_runs.specs.Following.{Pass, Seat, Makes, Serves, Working, Followed}
 use Rattle.canvas_runs.specs.Calls.{QueueAnswered, TableAnswered, CoreCall, makes, FollowsScripts, scripts_all, scripts_publish, scripts_list_take, scripts_core_take, scripts_ack, held_by, broker_call, broker_calls, core_call, core_calls, backend_call, backend_calls, takes_one, scripts_again}
-use Rattle.canvas_runs.specs.Lists.{Each, total}
+use Rattle.canvas_history.specs.Lists.{Each, total}
 use Rattle.canvas_runs.specs.Protocol.{Protocol}
 use Rattle.canvas_worker.specs.WorkerSteps.{OnlyBare, AnsweredByCall, FromHeld, Batched, Delivered}
 use Rattle.canvas_runs.specs.Tally.{Tally, CountsMore, IsTally, Counted, greatest_count, publishing, storing, returning, dropping}
 use Rattle.canvas_worker.specs.EnvelopeWorker.{enveloped}
 use Rattle.canvas_worker.specs.CoreState.{Progress, HasFollowed}
 use Rattle.canvas_worker.specs.Polls.{IsWanted}
-use Rattle.canvas_runs.proofs.Sums.{total-append}
-use Rattle.canvas_runs.proofs.Words.{each_append}
+use Rattle.canvas_runs.proofs.Lists.Sums.{total-append}
+use Rattle.canvas_runs.proofs.Lists.Words.{each_append}
 
 makes_append : (cs ds : List (QueueAnswered Envelope)) (p q r : Pass) → Makes p cs q → Makes q ds r → Makes p (cs ++ ds) r
 makes_append [] ds p q r f g = subst (λ x. Makes x ds r) f g
@@ -32,7 +32,7 @@ serves_append plan (c ∷ cs) ds s t u f g = (f.0, f.1, serves_append plan cs ds
 -- takes of a batch, as calls
 abbrev pub taking_all : List Envelope → List (QueueAnswered Envelope)
 taking_all [] = []
-taking_all (e ∷ es) = (broker.take, Some e) ∷ taking_all es
+taking_all (e ∷ es) = (queue.take, Some e) ∷ taking_all es
 
 -- takes that stand side by side stand one after the other
 pub took_makes : (p q : Pass) (es : List Envelope) → Took p es q → Makes p (taking_all es) q
@@ -40,7 +40,7 @@ took_makes p q [] t = t
 took_makes p q (e ∷ []) t = (q, t, refl)
 took_makes p q (e ∷ d ∷ es) t =
     let x = t.4 in
-    let call : Entries Envelope = calls p.name broker.take (Some e) in
+    let call : Entries Envelope = calls p.name queue.take (Some e) in
     let rest : List (Entries Envelope) = takes_of p.name (d ∷ es) in
     let mid : Pass = record { of = p.of; name = p.name; mine = live_from p.mine p.owed; seen = p.seen ++ (x.0 ++ (p.owed ++ call ∷ [])); owed = [] } in
     let shape : q.seen ≡ mid.seen ++ rest =
@@ -82,13 +82,13 @@ module _ (plan : Roster) where
   call_follows : (a : Ask Envelope) (r : Reply Envelope) (h g : Option Envelope) (held : List Envelope) (cs : List (CoreCall Envelope))
       (ls : List (QueueAnswered Envelope)) → Suits a r → OnlyBare a r held → g ≡ held_by h a r → FollowsScripts g held cs ls
       → FollowsScripts h held (core_call a r ++ cs) (broker_call a r ++ ls)
-  call_follows (to_queue broker.take) (from_queue (Some e)) h g held cs ls suit b q f =
-      subst (λ hs. FollowsScripts h hs (makes (broker.take, Some e) ∷ cs) ((broker.take, Some e) ∷ ls)) (sym b)
+  call_follows (to_queue queue.take) (from_queue (Some e)) h g held cs ls suit b q f =
+      subst (λ hs. FollowsScripts h hs (makes (queue.take, Some e) ∷ cs) ((queue.take, Some e) ∷ ls)) (sym b)
       (scripts_list_take (scripts_core_take (subst (λ hs. FollowsScripts (Some e) hs cs ls) b (subst (λ k. FollowsScripts k held cs ls) q f))))
-  call_follows (to_queue (broker.publish e)) (from_queue None) h g held cs ls suit b q f = scripts_publish (subst (λ k. FollowsScripts k held cs ls) q f)
+  call_follows (to_queue (queue.publish e)) (from_queue None) h g held cs ls suit b q f = scripts_publish (subst (λ k. FollowsScripts k held cs ls) q f)
   call_follows ack acked h g held cs ls suit b q f = scripts_ack (subst (λ k. FollowsScripts k held cs ls) q f)
-  call_follows (to_queue broker.take) (from_queue None) h g held cs ls suit b q f = subst (λ k. FollowsScripts k held cs ls) q f
-  call_follows (to_queue (broker.publish e)) refused h g held cs ls suit b q f = subst (λ k. FollowsScripts k held cs ls) q f
+  call_follows (to_queue queue.take) (from_queue None) h g held cs ls suit b q f = subst (λ k. FollowsScripts k held cs ls) q f
+  call_follows (to_queue (queue.publish e)) refused h g held cs ls suit b q f = subst (λ k. FollowsScripts k held cs ls) q f
   call_follows (to_table d) r h g held cs ls suit b q f = subst (λ k. FollowsScripts k held cs ls) q f
   call_follows rest r h g held cs ls suit b q f = subst (λ k. FollowsScripts k held cs ls) q f
   call_follows a r h g held cs ls suit b q f = elim suit [ ]
@@ -140,12 +140,12 @@ module _ (behaviour : Behaviour) (plan : Roster) where
 
   pub held_first : (w v x : Progress) (e : Envelope) → FromHeld behaviour plan w v e → HasFollowed behaviour plan v x → HasFollowed behaviour plan w x
   held_first w v x e s f = record {
-    run = (to_queue broker.take, from_queue (Some e)) ∷ f.run;
+    run = (to_queue queue.take, from_queue (Some e)) ∷ f.run;
     is_core = (s.0.asked, (s.0.suits, s.0.back), subst (λ u. IsCoreRun (enveloped behaviour plan) u f.run) s.0.left f.is_core);
-    counts = counted_more plan (to_queue broker.take) (from_queue (Some e)) f.run w.tally v.tally x.tally s.0.counts f.counts;
+    counts = counted_more plan (to_queue queue.take) (from_queue (Some e)) f.run w.tally v.tally x.tally s.0.counts f.counts;
     leaves = subst (λ u. left_after (enveloped behaviour plan) u f.run ≡ x.left) s.0.left f.leaves;
     made = f.made;
-    follows = subst (λ hs. FollowsScripts w.current hs (makes (broker.take, Some e) ∷ core_calls f.run) f.made) (sym s.1)
+    follows = subst (λ hs. FollowsScripts w.current hs (makes (queue.take, Some e) ∷ core_calls f.run) f.made) (sym s.1)
         (scripts_core_take (subst (λ k. FollowsScripts k v.held (core_calls f.run) f.made) s.0.current f.follows));
     used = (let same : length w.held ≡ length (e ∷ v.held) = ap length s.1 in omega (arith, same, f.used));
     makes = subst (λ p. Makes p f.made x.pass) s.2 f.makes;
@@ -174,12 +174,12 @@ module _ (behaviour : Behaviour) (plan : Roster) where
     is_core = subst (λ u. IsCoreRun (enveloped behaviour plan) u f.run) s.5 f.is_core;
     counts = subst (λ t. Counted plan f.run t x.tally) s.6 f.counts;
     leaves = subst (λ u. left_after (enveloped behaviour plan) u f.run ≡ x.left) s.5 f.leaves;
-    made = (broker.redeliver e, None) ∷ f.made;
-    follows = subst (λ h. FollowsScripts h w.held (core_calls f.run) ((broker.redeliver e, None) ∷ f.made)) (sym s.0)
+    made = (queue.redeliver e, None) ∷ f.made;
+    follows = subst (λ h. FollowsScripts h w.held (core_calls f.run) ((queue.redeliver e, None) ∷ f.made)) (sym s.0)
         (scripts_again (subst (λ h. FollowsScripts h w.held (core_calls f.run) f.made) (s.2 ∙ s.0)
         (subst (λ hs. FollowsScripts v.current hs (core_calls f.run) f.made) s.3 f.follows)));
     used = (let same : length v.held ≡ length w.held = ap length s.3 in omega (arith, same, f.used));
-    makes = makes_append ((broker.redeliver e, None) ∷ []) f.made w.pass v.pass x.pass s.1 f.makes;
+    makes = makes_append ((queue.redeliver e, None) ∷ []) f.made w.pass v.pass x.pass s.1 f.makes;
     serves = subst (λ p. Serves plan p (backend_calls f.run) x.seat) s.4 f.serves;
   }
 
@@ -189,10 +189,10 @@ module _ (behaviour : Behaviour) (plan : Roster) where
     Wanted cs = Each (IsWanted again plan) cs
 
     asks_wanted : (a : Ask Envelope) (r : Reply Envelope) → Suits a r → Wanted (broker_call a r)
-    asks_wanted (to_queue broker.take) (from_queue (Some e)) suit = (tt, tt)
-    asks_wanted (to_queue broker.take) (from_queue None) suit = tt
-    asks_wanted (to_queue (broker.publish e)) (from_queue None) suit = (tt, tt)
-    asks_wanted (to_queue (broker.publish e)) refused suit = tt
+    asks_wanted (to_queue queue.take) (from_queue (Some e)) suit = (tt, tt)
+    asks_wanted (to_queue queue.take) (from_queue None) suit = tt
+    asks_wanted (to_queue (queue.publish e)) (from_queue None) suit = (tt, tt)
+    asks_wanted (to_queue (queue.publish e)) refused suit = tt
     asks_wanted ack acked suit = tt
     asks_wanted (to_table d) r suit = tt
     asks_wanted rest r suit = tt
@@ -222,6 +222,6 @@ module _ (behaviour : Behaviour) (plan : Roster) where
     batch_wanted w v x es s f h = each_append (IsWanted again plan) (taking_all es) f.made (takes_wanted es) h
 
     pub again_wanted : (w v x : Progress) (e : Envelope) (s : Delivered w v e) (f : HasFollowed behaviour plan v x)
-        → IsWanted again plan (broker.redeliver e, None) → Wanted f.made → Wanted (again_first w v x e s f).made
+        → IsWanted again plan (queue.redeliver e, None) → Wanted f.made → Wanted (again_first w v x e s f).made
     unfolding again_first
     again_wanted w v x e s f i h = (i, h)

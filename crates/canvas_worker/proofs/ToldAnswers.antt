@@ -2,15 +2,15 @@
 use Rattle.std.proofs.Common.{◌≡◌, ◌∙◌, ℕ, zero, suc, ◌+◌, ◌≤◌, min, Bool, false, [], ◌∷◌, Some, None, Result, Ok, Err, refl, sym, ap, subst, arith}
 use Rattle.std.specs.Prelude.{MatchResult, true, IsSome}
 use Rattle.canvas_task.specs.Apply.{Behaviour}
-use Rattle.canvas_backend.specs.Seats.{Desk}
-use Rattle.canvas_backend.specs.Roster.{Roster}
-use Rattle.canvas_broker.specs.Passes.{Empties}
+use Rattle.canvas_history.specs.Seats.{Desk}
+use Rattle.canvas_history.specs.Roster.{Roster}
+use Rattle.canvas_history.specs.Passes.{Empties}
 use Rattle.canvas_runs.specs.Book.{book_on}
 use Rattle.canvas_runs.specs.Calls.{broker_call, backend_call, held_by, takes_one}
 use Rattle.canvas_runs.specs.Core as C
 use Rattle.canvas_runs.specs.Core.{answered, is_inside, Suits, ReadsBack}
 use Rattle.canvas_runs.specs.Following.{Makes, Serves}
-use Rattle.canvas_runs.specs.Lists.{Each}
+use Rattle.canvas_history.specs.Lists.{Each}
 use Rattle.canvas_runs.specs.Tally.{Counted, CountsMore, publishing, storing, returning, dropping, greatest_count}
 use Rattle.canvas_worker.specs.Asks.{Asked, Answer}
 use Rattle.canvas_worker.specs.Books.{no_book}

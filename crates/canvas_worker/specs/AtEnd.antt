@@ -3,7 +3,7 @@ use Rattle.std.specs.Prelude.{◌≡◌, false, List, [], ◌∷◌, ◌++◌, N
 use Rattle.canvas_task.specs.Apply.{Behaviour}
 use Rattle.canvas_message.specs.declared.envelope.Envelope.{Envelope}
 use Rattle.canvas_runs.specs.Book.{Book}
-use Rattle.canvas_broker.specs.Broker.{publish}
+use Rattle.canvas_history.specs.Queue.{publish}
 use Rattle.canvas_runs.specs.Core.{failed, end, rest, to_queue, rested, refused}
 use Rattle.canvas_worker.specs.Asks.{Asked, Answer, suits, shown}
 use Rattle.canvas_worker.specs.Books.{HasMembers, IsFromOne}

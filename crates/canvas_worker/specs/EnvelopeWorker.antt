@@ -15,7 +15,7 @@ use Rattle.canvas_message.specs.EnvelopeFaults.{envelope_fault}
 use Rattle.canvas_message.specs.Fits.{fits}
 use Rattle.canvas_effects.specs.Job.{Job, store, publish, part}
 use Rattle.canvas_message.specs.declared.envelope.Envelope.{Envelope}
-use Rattle.canvas_backend.specs.Roster.{Roster}
+use Rattle.canvas_history.specs.Roster.{Roster}
 use Rattle.canvas_runs.specs.Book.{Book, book_on}
 use Rattle.canvas_runs.specs.Protocol.{Protocol}
 use Rattle.canvas_runs.specs.Worker.{sealed, read_envelope, opened}

@@ -1,18 +1,16 @@
 -- What a new worker's record says, where its backend is one of a plan: in words of the worker that
 -- the law of runs speaks of.
 use Rattle.std.specs.Prelude.{◌≡◌, ℕ, Bool, true, None}
-use Rattle.std.specs.Global.{Global}
 use Rattle.canvas_task.specs.Apply.{Behaviour}
-use Rattle.crossbeam_queue.specs.SegTies.{SegId}
+use Rattle.canvas_history.specs.Passes.{QueueId, Empties}
 use Rattle.canvas_semantics.specs.Line.{Line}
 use Rattle.canvas_rewrite.specs.FrozenView.{PCarried}
 use Rattle.canvas_rewrite.specs.Planned.{IsPlan}
 use Rattle.canvas_message.specs.Content.{Content}
-use Rattle.canvas_backend.specs.Seats.{Desk}
-use Rattle.canvas_backend.specs.Roster.{Roster, roster_of}
-use Rattle.canvas_broker.specs.Passes.{Empties}
+use Rattle.canvas_history.specs.Seats.{Desk}
+use Rattle.canvas_history.specs.Roster.{Roster, roster_of}
 use Rattle.canvas_runs.specs.Following.{Pass, Seat, Working, Followed, starting, IsOver}
-use Rattle.canvas_runs.specs.Lists.{Each}
+use Rattle.canvas_history.specs.Lists.{Each}
 use Rattle.canvas_runs.specs.Worker.{worker_of}
 use Rattle.canvas_worker.specs.Polls.{Ready, IsWanted, TellsOf, working_begun, tally_of}
 use Rattle.canvas_worker.specs.declared.record.Record.{Record}
@@ -36,7 +34,7 @@ pub record Finished (behaviour : Behaviour) (may_want : ℕ → ℕ → Type 0) 
 abbrev pub WorkersStart : Type 0
 WorkersStart =
     (l : Line) → IsPlan l
-    → (broker : SegId Global) (desk : Desk) (number : ℕ) (pass : Pass) (seat : Seat)
+    → (broker : QueueId) (desk : Desk) (number : ℕ) (pass : Pass) (seat : Seat)
     → desk.plan ≡ roster_of l → pass.of ≡ broker → seat.of ≡ desk.id
     → Ready (working_begun broker desk number pass seat)
 
@@ -44,7 +42,7 @@ WorkersStart =
 abbrev pub WorkersFinish : Type 0
 WorkersFinish =
     (behaviour : Behaviour) (wanted : ℕ → ℕ → Bool) (l : Line) → IsPlan l
-    → (broker : SegId Global) (desk : Desk) (number : ℕ) (pass : Pass) (seat : Seat)
+    → (broker : QueueId) (desk : Desk) (number : ℕ) (pass : Pass) (seat : Seat)
     → desk.plan ≡ roster_of l → (r : Record)
     → TellsOf behaviour (λ p k. wanted p k ≡ true) (working_begun broker desk number pass seat) r
     → Finished behaviour (λ p k. wanted p k ≡ true) (roster_of l) number pass seat r

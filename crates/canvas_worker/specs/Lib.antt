@@ -15,3 +15,9 @@ pub mod Finished
 pub mod codes
 pub mod steps
 pub mod WorkerSteps
+pub use Rattle.canvas_history.specs.Queue
+pub use Rattle.canvas_runs.specs.Book
+pub use Rattle.canvas_runs.specs.Core
+pub use Rattle.canvas_runs.specs.Tally
+pub use Rattle.canvas_runs.specs.Worker
+pub use Rattle.canvas_task.specs.Apply

@@ -1,21 +1,19 @@
 -- What contracts see of a worker, what one of its polls leaves, and what its record says.
 use Rattle.std.specs.Prelude.{◌≡◌, ◌+◌, ℕ, min, true, false, List, [], ◌∷◌, Option, Some, None, IsSome}
-use Rattle.std.specs.Global.{Global}
 use Rattle.canvas_task.specs.Apply.{Behaviour}
-use Rattle.crossbeam_queue.specs.SegTies.{SegId}
+use Rattle.canvas_history.specs.Passes.{QueueId, Stands, Empties}
 use Rattle.canvas_semantics.specs.Line.{Line}
 use Rattle.canvas_rewrite.specs.Planned.{IsPlan}
 use Rattle.canvas_message.specs.declared.envelope.Envelope.{Envelope}
-use Rattle.canvas_backend.specs.Seats.{Desk}
-use Rattle.canvas_backend.specs.Roster.{Roster, roster_of}
-use Rattle.canvas_broker.specs.Broker.{redeliver, HasTaken}
-use Rattle.canvas_broker.specs.Passes.{Stands, Empties}
+use Rattle.canvas_history.specs.Seats.{Desk}
+use Rattle.canvas_history.specs.Roster.{Roster, roster_of}
+use Rattle.canvas_history.specs.Queue.{redeliver, HasTaken}
 use Rattle.canvas_history.specs.Callers.{told}
 use Rattle.canvas_history.specs.History.{calls}
 use Rattle.canvas_runs.specs.Core.{resting, over, is_inside}
 use Rattle.canvas_runs.specs.Calls.{QueueAnswered}
 use Rattle.canvas_runs.specs.Following.{Pass, Seat}
-use Rattle.canvas_runs.specs.Lists.{Each}
+use Rattle.canvas_history.specs.Lists.{Each}
 use Rattle.canvas_runs.specs.Tally.{Tally, IsTally}
 use Rattle.canvas_worker.specs.Asks.{Asked, Answer}
 use Rattle.canvas_runs.specs.Book.{book_on}
@@ -34,7 +32,7 @@ use Rattle.canvas_worker.specs.declared.record.Record.{Record}
 -- pass and its seat, its core, the envelopes that it took and has not given to its core, and its
 -- counts
 pub record Work : Type 0 where
-  pub broker : SegId Global
+  pub broker : QueueId
   pub desk : Desk
   pub number : ℕ
   pub pass : Pass
@@ -47,7 +45,7 @@ pub record Work : Type 0 where
   pub parts : ℕ
 
 -- a worker that has done nothing yet
-abbrev pub working_begun : SegId Global → Desk → ℕ → Pass → Seat → Work
+abbrev pub working_begun : QueueId → Desk → ℕ → Pass → Seat → Work
 working_begun broker desk number pass seat =
     record {
       broker = broker;

@@ -7,11 +7,11 @@ use Rattle.canvas_semantics.specs.Line.{Line}
 use Rattle.canvas_rewrite.specs.FrozenView.{PCarried}
 use Rattle.canvas_rewrite.specs.Planned.{IsPlan}
 use Rattle.canvas_effects.specs.Job.{publish}
-use Rattle.canvas_backend.specs.declared.stored.Stored.{Stored}
-use Rattle.canvas_backend.specs.declared.stored.Stored.TheVariants.{First}
-use Rattle.canvas_backend.specs.Backend as results
-use Rattle.canvas_backend.specs.Backend.{MayReturn}
-use Rattle.canvas_backend.specs.Roster.{Roster, roster_of, members, is_chord, is_member}
+use Rattle.canvas_history.specs.declared.stored.Stored.{Stored}
+use Rattle.canvas_history.specs.declared.stored.Stored.TheVariants.{First}
+use Rattle.canvas_history.specs.Table as table
+use Rattle.canvas_history.specs.Table.{MayReturn}
+use Rattle.canvas_history.specs.Roster.{Roster, roster_of, members, is_chord, is_member}
 use Rattle.canvas_effects.specs.Job as job
 use Rattle.canvas_runs.specs.Book.{Book, book_on, has_size, line_known}
 use Rattle.canvas_runs.specs.Calls.{backend_call}
@@ -60,10 +60,10 @@ module _ (plan : Roster) where
 
   -- the backend lets the seat ask this
   abbrev pub LetsAsk : Seat → Asked → Type 0
-  LetsAsk s (to_table (results.store t o)) = t ≤ plan.tasks
-  LetsAsk s (to_table (results.part g t)) =
+  LetsAsk s (to_table (table.store t o)) = t ≤ plan.tasks
+  LetsAsk s (to_table (table.part g t)) =
       IsTrue (is_chord plan g) × IsTrue (is_member plan g t) × MayReturn plan s.seen s.name t
-  LetsAsk s (to_table (results.read t)) = t ≤ plan.tasks
+  LetsAsk s (to_table (table.read t)) = t ≤ plan.tasks
   LetsAsk s a = Unit {0}
 
 -- a worker that waits for an envelope can go on

@@ -3,11 +3,11 @@
 use Rattle.std.specs.Prelude.{◌≡◌, List, [], Option, Some}
 use Rattle.canvas_task.specs.Apply.{Behaviour}
 use Rattle.canvas_message.specs.declared.envelope.Envelope.{Envelope}
-use Rattle.canvas_backend.specs.Roster.{Roster}
+use Rattle.canvas_history.specs.Roster.{Roster}
 use Rattle.canvas_history.specs.Callers.{told}
 use Rattle.canvas_history.specs.History.{calls}
-use Rattle.canvas_broker.specs.Broker.{QueueCall, take, HasTaken}
-use Rattle.canvas_broker.specs.Passes.{Stands}
+use Rattle.canvas_history.specs.Queue.{QueueCall, take, HasTaken}
+use Rattle.canvas_history.specs.Passes.{Stands}
 use Rattle.canvas_runs.specs.Following.{Pass}
 use Rattle.canvas_runs.specs.Core.{Ask, Reply}
 use Rattle.canvas_worker.specs.CoreState.{Progress, HasFollowed}

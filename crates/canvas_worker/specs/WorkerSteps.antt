@@ -3,9 +3,9 @@
 use Rattle.std.specs.Prelude.{◌≡◌, List, [], ◌∷◌, ◌++◌, Some, None}
 use Rattle.canvas_task.specs.Apply.{Behaviour}
 use Rattle.canvas_message.specs.declared.envelope.Envelope.{Envelope}
-use Rattle.canvas_backend.specs.Roster.{Roster}
-use Rattle.canvas_broker.specs.Broker.{take, redeliver}
-use Rattle.canvas_broker.specs.Passes as passes
+use Rattle.canvas_history.specs.Roster.{Roster}
+use Rattle.canvas_history.specs.Queue.{take, redeliver}
+use Rattle.canvas_history.specs.Passes as passes
 use Rattle.canvas_runs.specs.Core.{Ask, Reply, to_queue, from_queue, ask, answered, Suits, ReadsBack}
 use Rattle.canvas_runs.specs.Following.{Makes, Serves}
 use Rattle.canvas_runs.specs.Calls.{broker_call, backend_call, held_by}

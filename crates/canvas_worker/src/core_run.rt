@@ -5,7 +5,7 @@ ghost use Rattle.std.specs.Option.{option_map};
 ghost use Rattle.canvas_task.specs.Apply.{Behaviour};
 ghost use Rattle.canvas_worker.specs.Asks.{suits, shown, replied, StoresInRange, FoundInRange, Grows};
 ghost use Rattle.canvas_worker.specs.Books.{no_book};
-ghost use Rattle.canvas_broker.specs.Broker.{take};
+ghost use Rattle.canvas_history.specs.Queue.{take};
 ghost use Rattle.canvas_runs.specs.Core.{ReadsBack, taking, acking, to_queue, from_queue, is_inside};
 ghost use Rattle.canvas_worker.specs.Phases.{left_of, is_out};
 ghost use Rattle.canvas_worker.specs.declared.ask.Ask.TheVariants as ask;

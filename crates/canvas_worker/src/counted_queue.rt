@@ -3,8 +3,8 @@
 ghost use Rattle.std.specs.Prelude.{◌≡◌, [], ◌∷◌, Some, None, IfNone, IfSome, OnOk, MatchResult, MatchOption};
 ghost use Rattle.canvas_history.specs.History.{calls};
 ghost use Rattle.canvas_history.specs.Callers.{told, Adds};
-ghost use Rattle.canvas_broker.specs.Broker.{publish, take, redeliver, HasTaken, takes_of};
-ghost use Rattle.canvas_broker.specs.Passes.{Stands, CouldStand, Took, Empties};
+ghost use Rattle.canvas_history.specs.Queue.{publish, take, redeliver, HasTaken, takes_of};
+ghost use Rattle.canvas_history.specs.Passes.{Stands, CouldStand, Took, Empties};
 
 use crate::in_flight::Counted;
 use canvas_broker::{Batch, Broker, BrokerPass, Refused};

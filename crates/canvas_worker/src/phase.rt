@@ -9,7 +9,7 @@ ghost use Rattle.canvas_message.specs.MessageView.{carried_view};
 ghost use Rattle.canvas_effects.specs.Job as job;
 ghost use Rattle.canvas_effects.specs.Job.{store, publish};
 ghost use Rattle.canvas_effects.specs.Todos.{part_view};
-ghost use Rattle.canvas_backend.specs.declared.stored.Stored.TheVariants.{First};
+ghost use Rattle.canvas_history.specs.declared.stored.Stored.TheVariants.{First};
 ghost use Rattle.canvas_worker.specs.Asks.{replied, suits, FoundInRange, Grows};
 ghost use Rattle.canvas_worker.specs.Books.{no_book};
 ghost use Rattle.canvas_worker.specs.declared.ask.Ask.TheVariants as ask;

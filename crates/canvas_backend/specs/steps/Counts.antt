@@ -1,6 +1,6 @@
 -- The counts that the plain backend keeps beside its rows.
 use Rattle.std.specs.Prelude.{◌≡◌, ◌<◌, ℕ, suc, List, length, slice_index}
-use Rattle.canvas_backend.specs.Backend.{count_of}
+use Rattle.canvas_history.specs.Table.{count_of}
 use Rattle.canvas_backend.specs.Plain.{Shelf, held}
 
 -- how many members of each group or chord were returned, in the order of their numbers

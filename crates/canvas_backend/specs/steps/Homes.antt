@@ -1,7 +1,7 @@
 -- What a roster keeps of each task, to answer whether it is a member's last: the group or chord
 -- where it is.
 use Rattle.std.specs.Prelude.{◌≡◌, ◌==◌, ◌-◌, ℕ, zero, suc, Bool, false, List, [], ◌∷◌, set, slice_get, Option, Some, None}
-use Rattle.canvas_backend.specs.Roster.{Roster, is_member}
+use Rattle.canvas_history.specs.Roster.{Roster, is_member}
 
 -- what stands at a task, from 1
 abbrev pub home_or : Option (Option ℕ) → Option ℕ

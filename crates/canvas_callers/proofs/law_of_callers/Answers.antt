@@ -1,9 +1,9 @@
 use Rattle.std.proofs.Common.{ap, ◌∙◌, inl, inr, ⊎_elim}
 use Rattle.canvas_semantics.specs.Evaluation.{state_of, eval, nothing}
 use Rattle.canvas_semantics.proofs.NumberLemmas.{law}
-use Rattle.canvas_runs.proofs.Causes.{by_cause, completed_once, by_its_cause}
-use Rattle.canvas_runs.proofs.FirstLaw.{first_part}
-use Rattle.canvas_runs.proofs.SecondLaw.{second_part}
+use Rattle.canvas_runs.proofs.Laws.Causes.{by_cause, completed_once, by_its_cause}
+use Rattle.canvas_runs.proofs.Laws.FirstLaw.{first_part}
+use Rattle.canvas_runs.proofs.Laws.SecondLaw.{second_part}
 use Rattle.canvas_callers.proofs.FromCrew.{the_run, the_closed}
 use Rattle.canvas_callers.proofs.law_of_callers.Goals as goal
 

@@ -2,16 +2,15 @@
 -- in what they left.
 use Rattle.std.specs.Prelude.{ℕ, suc, ◌≡◌, ◌≤◌, List, [], ◌∷◌, length, map, All, Option, Some, None, IfNone}
 use Rattle.std.specs.Vec.{vec_capacity}
-use Rattle.std.specs.Global.{Global}
 use Rattle.canvas_task.specs.Apply.{Behaviour}
-use Rattle.crossbeam_queue.specs.SegTies.{SegId}
-use Rattle.atomic_table.specs.Seated.{TableId}
+use Rattle.canvas_history.specs.Passes.{QueueId}
+use Rattle.canvas_history.specs.Seats.{TableId}
 use Rattle.canvas_semantics.specs.Line.{Line, count_line}
 use Rattle.canvas_rewrite.specs.Planned.{IsPlan}
 use Rattle.canvas_effects.specs.Effects.{first_messages}
-use Rattle.canvas_backend.specs.Roster.{Roster, roster_of}
+use Rattle.canvas_history.specs.Roster.{Roster, roster_of}
 use Rattle.canvas_runs.specs.Following.{Pass, Seat, Makes, IsOver}
-use Rattle.canvas_runs.specs.Lists.{Each}
+use Rattle.canvas_history.specs.Lists.{Each}
 use Rattle.canvas_runs.specs.Run.{published_all}
 use Rattle.canvas_runs.specs.Tally.{Tally as Counts}
 use Rattle.canvas_runs.specs.Worker.{sealed}
@@ -20,11 +19,11 @@ use Rattle.canvas_turns.specs.Turns.{FirstsRead}
 use Rattle.canvas_worker.specs.Polls.{IsWanted}
 use Rattle.canvas_worker.specs.declared.cause.Cause.{Cause}
 use Rattle.canvas_engine.specs.steps.Slots.{AreOfSite, IsReadySlot, SplitsOff, nothing_counted}
-use Rattle.canvas_engine.specs.declared.records.Tally.{Tally}
+use Rattle.canvas_engine.specs.declared.threads.records.Tally.{Tally}
 use Rattle.canvas_engine.specs.declared.fault.RunFault.{RunFault}
 use Rattle.canvas_engine.specs.declared.fault.RunFault.TheVariants.{BadWorkers, BadTurn, Halted}
-use Rattle.canvas_engine.specs.declared.gathered.Gathered.{Gathered}
-use Rattle.canvas_engine.specs.declared.running.Start.{Start}
+use Rattle.canvas_engine.specs.declared.threads.gathered.Gathered.{Gathered}
+use Rattle.canvas_engine.specs.declared.threads.running.Start.{Start}
 
 pub record IsStart (l : Line) (n : ℕ) (s : Start) : Type 0 where
   pub planned : IsPlan l
@@ -43,7 +42,7 @@ pub record IsStart (l : Line) (n : ℕ) (s : Start) : Type 0 where
 
 -- the workers of this queue and this table, from the splits to the joins, with the first messages
 -- published between
-pub record Crew (behaviour : Behaviour) (l : Line) (n : ℕ) (queue : SegId Global) (table : TableId)
+pub record Crew (behaviour : Behaviour) (l : Line) (n : ℕ) (queue : QueueId) (table : TableId)
     (pass : Pass) (seat : Seat) : Type 0 where
   pub mates : List (Mate behaviour (roster_of l))
   pub count : length mates ≡ n

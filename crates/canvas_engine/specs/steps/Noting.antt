@@ -1,7 +1,7 @@
 -- What a stage has noted of the envelopes that were published.
 use Rattle.std.specs.Prelude.{◌≡◌, Bool, true, false, List, [], ◌++◌}
 use Rattle.canvas_message.specs.declared.envelope.Envelope.{Envelope}
-use Rattle.canvas_engine.specs.declared.sent.Sent.{Sent}
+use Rattle.canvas_engine.specs.declared.turns.sent.Sent.{Sent}
 
 -- of these envelopes it keeps all, or none
 abbrev pub kept : Bool → List Envelope → List Envelope

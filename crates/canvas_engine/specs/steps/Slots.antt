@@ -5,36 +5,35 @@
 --                                          lost; what it delivered again was wanted of it
 --     TakesIn plan p s slots p' s'       what the workers left, taken in one after the other
 use Rattle.std.specs.Prelude.{ℕ, suc, ◌≡◌, ◌<◌, List, [], ◌∷◌, length, slice_index_or, All, Any, Option, Some, None}
-use Rattle.std.specs.Global.{Global}
-use Rattle.crossbeam_queue.specs.SegTies.{SegId}
-use Rattle.atomic_table.specs.Seated.{TableId}
+use Rattle.canvas_history.specs.Passes.{QueueId}
+use Rattle.canvas_history.specs.Seats.{TableId}
 use Rattle.canvas_task.specs.Apply.{Behaviour}
-use Rattle.canvas_backend.specs.Seats as seats
-use Rattle.canvas_backend.specs.Roster.{Roster}
-use Rattle.canvas_broker.specs.Passes as passes
+use Rattle.canvas_history.specs.Seats as seats
+use Rattle.canvas_history.specs.Roster.{Roster}
+use Rattle.canvas_history.specs.Passes as passes
 use Rattle.canvas_history.specs.Callers.{Owes}
 use Rattle.canvas_runs.specs.Following.{Pass, Seat}
 use Rattle.canvas_worker.specs.Finished.{Finished}
 use Rattle.canvas_worker.specs.declared.cause.Cause.{Cause}
 use Rattle.canvas_worker.specs.declared.cause.Cause.TheVariants.{Memory, Stopped}
 use Rattle.canvas_worker.specs.declared.record.Record.{Record}
-use Rattle.canvas_engine.specs.declared.crew.Hands.{Hands}
-use Rattle.canvas_engine.specs.declared.crew.Site.{Site}
-use Rattle.canvas_engine.specs.declared.records.Tally.{Tally}
-use Rattle.canvas_engine.specs.declared.slot.Post.{Post}
-use Rattle.canvas_engine.specs.declared.slot.Post.TheVariants.{Ready, Done, Lost}
-use Rattle.canvas_engine.specs.declared.slot.Slot.{Slot}
+use Rattle.canvas_engine.specs.declared.threads.crew.Hands.{Hands}
+use Rattle.canvas_engine.specs.declared.threads.crew.Site.{Site}
+use Rattle.canvas_engine.specs.declared.threads.records.Tally.{Tally}
+use Rattle.canvas_engine.specs.declared.threads.slot.Post.{Post}
+use Rattle.canvas_engine.specs.declared.threads.slot.Post.TheVariants.{Ready, Done, Lost}
+use Rattle.canvas_engine.specs.declared.threads.slot.Slot.{Slot}
 
 -- a pass of this queue and a seat of this table
 abbrev pub AreOfSite : Site → Hands → Type 0
 AreOfSite site hands = (hands.pass.of ≡ site.broker) × (hands.seat.of ≡ site.backend.id)
 
 -- a pass of this broker and a seat of this backend, with which nothing was done
-abbrev pub HasHands : SegId Global → TableId → Post → Type 0
+abbrev pub HasHands : QueueId → TableId → Post → Type 0
 HasHands b d (Ready q t) = (q.of ≡ b) × (t.of ≡ d)
 HasHands b d p = ⊥
 
-abbrev pub IsReadySlot : SegId Global → TableId → Slot → Type 0
+abbrev pub IsReadySlot : QueueId → TableId → Slot → Type 0
 IsReadySlot b d slot = HasHands b d slot.post
 
 abbrev pub IsSplitOff : Roster → ℕ → Pass → Seat → Slot → Pass → Seat → Type 0
@@ -91,11 +90,11 @@ IsWhy slots (Some Stopped) =
     (All (λ s. IsWell s.post) slots → ⊥) × (Any (λ s. LacksMemory s.post) slots → ⊥)
 
 -- what was left is of this broker and this backend
-abbrev pub IsPostOf : SegId Global → TableId → Post → Type 0
+abbrev pub IsPostOf : QueueId → TableId → Post → Type 0
 IsPostOf b d (Done r) = (r.pass.of ≡ b) × (r.seat.of ≡ d)
 IsPostOf b d p = ⊥
 
-abbrev pub AreOf : SegId Global → TableId → List Slot → Type 0
+abbrev pub AreOf : QueueId → TableId → List Slot → Type 0
 AreOf b d [] = Unit {0}
 AreOf b d (slot ∷ slots) = IsPostOf b d slot.post × AreOf b d slots
 

@@ -7,15 +7,15 @@ use Rattle.canvas_semantics.specs.Evaluation.{State}
 use Rattle.canvas_semantics.specs.Line.{Line}
 use Rattle.canvas_semantics.specs.States.{numbers_from}
 use Rattle.canvas_message.specs.declared.envelope.Envelope.{Envelope}
-use Rattle.canvas_backend.specs.declared.stored.Stored.{Stored}
-use Rattle.canvas_backend.specs.declared.stored.Stored.TheVariants.{First, Again}
-use Rattle.canvas_backend.specs.Backend.{Results, store, part, read, no_results, first_or, reply_of}
+use Rattle.canvas_history.specs.declared.stored.Stored.{Stored}
+use Rattle.canvas_history.specs.declared.stored.Stored.TheVariants.{First, Again}
+use Rattle.canvas_history.specs.Table.{Results, store, part, read, no_results, first_or, reply_of}
 use Rattle.canvas_backend.specs.Plain.{Shelf, held}
-use Rattle.canvas_backend.specs.Roster.{Roster, roster_of, is_chord, is_member}
-use Rattle.canvas_broker.specs.Broker as broker
+use Rattle.canvas_history.specs.Roster.{Roster, roster_of, is_chord, is_member}
+use Rattle.canvas_history.specs.Queue as queue
 use Rattle.canvas_runs.specs.Book.{book_of, book_on}
 use Rattle.canvas_runs.specs.Core.{to_queue, to_table, rest, from_queue, from_table, rested, taking, left_after, ReadsBack, IsCoreRun, is_inside, ack, acked}
-use Rattle.canvas_runs.specs.Lists.{by}
+use Rattle.canvas_history.specs.Lists.{by}
 use Rattle.canvas_runs.specs.Tally.{greatest_count}
 use Rattle.canvas_runs.specs.Worker.{read_envelope, sealed}
 use Rattle.canvas_turns.specs.Spending.{Entry, TurnedAgain, wanted, spent, agains_in}
@@ -32,7 +32,7 @@ use Rattle.canvas_worker.specs.declared.cause.Cause.{Cause}
 use Rattle.canvas_worker.specs.declared.cause.Cause.TheVariants.{Memory, Stopped}
 use Rattle.canvas_engine.specs.Traced.{sent_after}
 use Rattle.canvas_engine.specs.steps.Noting.{kept}
-use Rattle.canvas_engine.specs.declared.stage.Stage.{Stage}
+use Rattle.canvas_engine.specs.declared.turns.stage.Stage.{Stage}
 
 -- the outcome of each of so many tasks, by number
 abbrev pub rows_of : ℕ → Results → List State
@@ -43,11 +43,11 @@ rows_of tasks results = map results.outcomes (numbers_from 1 tasks)
 -- what the queue and the table answer where they hold this; a worker that rests is told whether
 -- there is more
 abbrev pub AnswersNow : Roster → List Envelope → Results → Bool → Asked → Answer → Type 0
-AnswersNow plan queue results more (to_queue c) (from_queue x) = x ≡ broker.answer_of queue c
-AnswersNow plan queue results more (to_table c) (from_table r) = r ≡ reply_of plan results c
-AnswersNow plan queue results more rest (rested m) = m ≡ more
-AnswersNow plan queue results more ack acked = Unit {0}
-AnswersNow plan queue results more a r = ⊥
+AnswersNow plan queued results more (to_queue c) (from_queue x) = x ≡ queue.answer_of queued c
+AnswersNow plan queued results more (to_table c) (from_table r) = r ≡ reply_of plan results c
+AnswersNow plan queued results more rest (rested m) = m ≡ more
+AnswersNow plan queued results more ack acked = Unit {0}
+AnswersNow plan queued results more a r = ⊥
 
 -- the ask is one that the queue and the table take
 abbrev pub MayAsk : Roster → Results → Asked → Type 0

@@ -1,7 +1,7 @@
 use Rattle.std.proofs.Common.{ap, ◌∙◌}
 use Rattle.canvas_semantics.specs.Evaluation.{state_of, eval, nothing}
 use Rattle.canvas_semantics.proofs.NumberLemmas.{law}
-use Rattle.canvas_runs.proofs.EventStates.{event_states}
+use Rattle.canvas_runs.proofs.Laws.EventStates.{event_states}
 use Rattle.canvas_runs.proofs.law_of_events.Goals as goal
 
 pub returns-clause-states : goal.returns-clause-states

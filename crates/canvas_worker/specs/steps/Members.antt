@@ -3,7 +3,7 @@ use Rattle.std.specs.Prelude.{◌≡◌, ◌<◌, ℕ, Bool, true, false, if◌t
 use Rattle.std.proofs.Common.{sym, ap, subst, true≢false}
 use Rattle.std.proofs.lemmas.Option.{slice_get-get_or}
 use Rattle.canvas_semantics.specs.Line.{GroupEntry, entry_at, entry_members, entry_size}
-use Rattle.canvas_backend.specs.Roster.{Roster}
+use Rattle.canvas_history.specs.Roster.{Roster}
 use Rattle.canvas_runs.specs.Book.{book_on}
 use Rattle.canvas_worker.specs.Books.{HasMembers}
 

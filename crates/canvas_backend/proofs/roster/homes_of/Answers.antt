@@ -1,6 +1,6 @@
 use Rattle.std.proofs.Common.{◌≡◌, rules, sym, subst}
 use Rattle.canvas_semantics.specs.Line.{line_groups}
-use Rattle.canvas_backend.specs.Roster.{members, roster_of}
+use Rattle.canvas_history.specs.Roster.{members, roster_of}
 use Rattle.canvas_backend.specs.steps.Homes.{AreHomes, moved_in}
 use Rattle.canvas_backend.proofs.Homes.{HomesTo, line_more, line_all}
 use Rattle.canvas_backend.proofs.roster.homes_of.Goals as goal

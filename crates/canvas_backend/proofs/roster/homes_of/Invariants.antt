@@ -1,4 +1,4 @@
-use Rattle.canvas_backend.specs.Roster.{roster_of}
+use Rattle.canvas_history.specs.Roster.{roster_of}
 use Rattle.canvas_backend.proofs.Homes.{HomesTo}
 use Rattle.canvas_backend.proofs.roster.homes_of.Given as goal
 

@@ -1,8 +1,8 @@
 use Rattle.std.proofs.Common.{rules, ◌≡◌, ◌∷◌, None, sym, subst}
 use Rattle.std.specs.Vec.Iter.{into_iter_items}
 use Rattle.canvas_history.specs.History.{calls}
-use Rattle.canvas_broker.specs.Broker.{publish}
-use Rattle.canvas_broker.specs.Passes.{Stands}
+use Rattle.canvas_history.specs.Queue.{publish}
+use Rattle.canvas_history.specs.Passes.{Stands}
 use Rattle.canvas_runs.specs.Following.{Makes}
 use Rattle.canvas_runs.specs.Run.{published_all}
 use Rattle.canvas_engine.proofs.firsts.publish_all.Goals as goal

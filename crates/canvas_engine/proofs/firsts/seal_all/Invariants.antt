@@ -1,5 +1,5 @@
 use Rattle.std.proofs.Common.{◌≡◌, ◌++◌, map}
-use Rattle.canvas_runs.specs.Lists.{Each}
+use Rattle.canvas_history.specs.Lists.{Each}
 use Rattle.canvas_runs.specs.Worker.{sealed}
 use Rattle.canvas_engine.specs.steps.Stages.{ReadsAs}
 use Rattle.canvas_engine.proofs.firsts.seal_all.Given as goal

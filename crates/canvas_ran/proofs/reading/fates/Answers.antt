@@ -4,7 +4,7 @@ use Rattle.canvas_semantics.specs.Line.{members}
 use Rattle.canvas_semantics.specs.PlacedLine.{strip}
 use Rattle.canvas_semantics.specs.States.{rows_from}
 use Rattle.canvas_semantics.proofs.Numbered.{strip_bare}
-use Rattle.canvas_runs.specs.Lists.{Each}
+use Rattle.canvas_history.specs.Lists.{Each}
 use Rattle.canvas_ran.specs.Seen.{IsIdleIfPending}
 use Rattle.canvas_ran.proofs.SeenRows.{plan_told, line_idle}
 use Rattle.canvas_ran.specs.declared.came.Came.TheVariants.{Value}

@@ -1,5 +1,5 @@
 use Rattle.std.proofs.Common.{ap}
-use Rattle.canvas_backend.specs.Backend.{was}
+use Rattle.canvas_history.specs.Table.{was}
 use Rattle.canvas_backend.proofs.Stands.{first_stood}
 use Rattle.canvas_tests.proofs.backends.stores_and_returns.Goals as goal
 

@@ -2,7 +2,7 @@ use Rattle.std.proofs.Common.{◌≡◌, ◌∙◌, ℕ, List, None, false, leng
 use Rattle.std.proofs.lemmas.List.{length-replicate}
 use Rattle.canvas_rewrite.proofs.InOrder.{entries_length}
 use Rattle.canvas_backend.specs.declared.row.Row.{Row}
-use Rattle.canvas_backend.specs.Roster.{Roster}
+use Rattle.canvas_history.specs.Roster.{Roster}
 use Rattle.canvas_backend.specs.Plain.{held}
 use Rattle.canvas_backend.specs.steps.Counts.{AreCounts}
 use Rattle.canvas_backend.proofs.Shelves.{shelf, none_held, counts_none}

@@ -1,8 +1,8 @@
 use Rattle.std.proofs.Common.{◌≡◌, [], refl, sym, ◌∙◌, subst}
 use Rattle.canvas_history.proofs.CallerLaws.{leaves_one}
 use Rattle.canvas_history.proofs.Histories.{in_left}
-use Rattle.canvas_broker.specs.Broker.{answer_of, next, May}
-use Rattle.canvas_broker.specs.Passes.{IsHistory}
+use Rattle.canvas_history.specs.Queue.{answer_of, next, May}
+use Rattle.canvas_history.specs.Passes.{IsHistory}
 use Rattle.canvas_broker.specs.steps.Rule.{IsReady, united}
 use Rattle.canvas_broker.specs.declared.view.View.{View}
 use Rattle.canvas_message.specs.declared.envelope.Envelope.{Envelope}

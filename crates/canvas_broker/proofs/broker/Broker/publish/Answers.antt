@@ -2,8 +2,9 @@ use Rattle.std.proofs.Common.{None, ◌∷◌, [], refl, subst}
 use Rattle.canvas_history.specs.Callers.{Adds}
 use Rattle.canvas_history.specs.History.{calls}
 use Rattle.canvas_message.specs.declared.envelope.Envelope.{Envelope}
-use Rattle.canvas_broker.specs.Broker.{publish}
-use Rattle.canvas_broker.specs.Passes.{Knowledge, Pass, pass_of}
+use Rattle.canvas_history.specs.Queue.{publish}
+use Rattle.canvas_history.specs.Passes.{Pass}
+use Rattle.canvas_broker.specs.steps.PassKnowledge.{Knowledge, pass_of}
 use Rattle.canvas_broker.proofs.RuleSteps.{publishes}
 use Rattle.canvas_broker.proofs.Made.{stands_own}
 use Rattle.canvas_broker.proofs.broker.Broker.publish.Goals.{in-Ok, in-Err}

@@ -3,8 +3,9 @@ use Rattle.canvas_history.specs.Callers.{Adds}
 use Rattle.canvas_history.specs.History.{split, made_by}
 use Rattle.canvas_history.proofs.CallerLaws.{made_fresh}
 use Rattle.canvas_message.specs.declared.envelope.Envelope.{Envelope}
-use Rattle.canvas_broker.specs.Broker.{answer_of, next, May}
-use Rattle.canvas_broker.specs.Passes.{Knowledge, Pass}
+use Rattle.canvas_history.specs.Queue.{answer_of, next, May}
+use Rattle.canvas_history.specs.Passes.{Pass}
+use Rattle.canvas_broker.specs.steps.PassKnowledge.{Knowledge}
 use Rattle.canvas_broker.specs.declared.view.View.{View}
 use Rattle.canvas_broker.proofs.RuleSteps.{splits, forks}
 use Rattle.canvas_broker.proofs.Made.{stands_own, child_is}

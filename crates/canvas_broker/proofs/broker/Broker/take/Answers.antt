@@ -2,8 +2,9 @@ use Rattle.std.proofs.Common.{rules, Some, ◌∷◌, [], refl, sym, subst}
 use Rattle.canvas_history.specs.Callers.{Adds}
 use Rattle.canvas_history.specs.History.{calls}
 use Rattle.canvas_message.specs.declared.envelope.Envelope.{Envelope}
-use Rattle.canvas_broker.specs.Broker.{take}
-use Rattle.canvas_broker.specs.Passes.{Knowledge, Pass, pass_of, Stands, Empties}
+use Rattle.canvas_history.specs.Queue.{take}
+use Rattle.canvas_history.specs.Passes.{Pass, Stands, Empties}
+use Rattle.canvas_broker.specs.steps.PassKnowledge.{Knowledge, pass_of}
 use Rattle.canvas_broker.specs.steps.Rule.{IsReady}
 use Rattle.canvas_broker.specs.declared.view.View.{View}
 use Rattle.canvas_broker.proofs.RuleSteps.{takes, misses}

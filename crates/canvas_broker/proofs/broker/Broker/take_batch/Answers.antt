@@ -1,13 +1,13 @@
 use Rattle.std.proofs.Common.{rules, arith, ◌≡◌, ◌≤◌, suc, ◌+◌, ◌<◌, length, List, [], ◌∷◌, ◌++◌, sym, ap, ◌∙◌, subst, append_assoc, append-nil}
-use Rattle.std.specs.Global.{Global}
 use Rattle.crossbeam_queue.specs.Fifo.{Admits}
-use Rattle.crossbeam_queue.specs.SegTies.{SegId, IsSegPassOf}
+use Rattle.crossbeam_queue.specs.SegTies.{IsSegPassOf}
 use Rattle.arrayvec.specs.ArrayVec.{array_vec_len}
 use Rattle.crossbeam_queue.specs.SegBatches.{Holds}
 use Rattle.canvas_message.specs.declared.envelope.Envelope.{Envelope}
 use Rattle.canvas_history.proofs.Histories.{In}
 use Rattle.canvas_broker.specs.declared.item.Item.{Item}
-use Rattle.canvas_broker.specs.Passes.{Pass, pass_of, Took}
+use Rattle.canvas_history.specs.Passes.{QueueId, Pass, Took}
+use Rattle.canvas_broker.specs.steps.PassKnowledge.{pass_of, seg_of}
 use Rattle.canvas_broker.specs.declared.view.View.{View}
 use Rattle.canvas_broker.specs.steps.Rule.{envelopes, IsReady, Kept, newcomer}
 use Rattle.canvas_broker.proofs.RuleSteps.{misses}
@@ -26,9 +26,9 @@ next_of-requires g c =
     let i = c.loop-self.invariant in
     let some : 0 < c.loop-self.batch.len = search rules in
     let f = first_rest i.2.0 (subst (λ n. 0 < n) (sym i.2.1.8) some) in
-    let h = subst (λ (l : List (Item Envelope)). Holds c.args.self.now c.loop-self.pass-inside.pass c.loop-self.batch l) f.2 i.2.1 in
-    subst (λ (q : SegId Global). IsSegPassOf q c.loop-self.pass-inside.pass × Admits (Kept {E = Envelope}) newcomer
-    × ((x : Item Envelope) × (xs : List (Item Envelope)) × Holds q c.loop-self.pass-inside.pass c.loop-self.batch (x ∷ xs)))
+    let h = subst (λ (l : List (Item Envelope)). Holds (seg_of c.args.self.now) c.loop-self.pass-inside.pass c.loop-self.batch l) f.2 i.2.1 in
+    subst (λ (q : QueueId). IsSegPassOf (seg_of q) c.loop-self.pass-inside.pass × Admits (Kept {E = Envelope}) newcomer
+    × ((x : Item Envelope) × (xs : List (Item Envelope)) × Holds (seg_of q) c.loop-self.pass-inside.pass c.loop-self.batch (x ∷ xs)))
     (sym c.self.view_is) (i.0, admits, (f.0, f.1, h))
 
 pub loop-self-smaller : goal.loop-self-smaller
@@ -36,7 +36,7 @@ loop-self-smaller g c =
     let i = c.loop-self.invariant in
     let some : 0 < c.loop-self.batch.len = search rules in
     let f = first_rest i.2.0 (subst (λ n. 0 < n) (sym i.2.1.8) some) in
-    let h = subst (λ (x : SegId Global × List (Item Envelope)). Holds x.0 c.loop-self.pass-inside.pass c.loop-self.batch x.1)
+    let h = subst (λ (x : QueueId × List (Item Envelope)). Holds (seg_of x.0) c.loop-self.pass-inside.pass c.loop-self.batch x.1)
     (λ j. (sym c.self.view_is j, f.2 j)) i.2.1 in
     let old : suc (length f.1) ≡ c.loop-self.batch.len = h.8 in
     let new : length f.1 ≡ c.next_of.new.batch.len = (c.next_of.ensures.item f.0 f.1 h).1.8 in
@@ -47,7 +47,7 @@ loop-self-preserved g c =
     let i = c.loop-self.invariant in
     let some : 0 < c.loop-self.batch.len = search rules in
     let f = first_rest i.2.0 (subst (λ n. 0 < n) (sym i.2.1.8) some) in
-    let h = subst (λ (x : SegId Global × List (Item Envelope)). Holds x.0 c.loop-self.pass-inside.pass c.loop-self.batch x.1)
+    let h = subst (λ (x : QueueId × List (Item Envelope)). Holds (seg_of x.0) c.loop-self.pass-inside.pass c.loop-self.batch x.1)
     (λ j. (sym c.self.view_is j, f.2 j)) i.2.1 in
     let next = c.next_of.ensures.item f.0 f.1 h in
     let old : suc (length f.1) ≡ c.loop-self.batch.len = h.8 in
@@ -59,15 +59,14 @@ loop-self-preserved g c =
     ap (λ l. was ++ l) f.2 ∙ (ap (λ (x : Item Envelope). was ++ x ∷ f.1) (sym next.0)
     ∙ (sym (append_assoc was (c.next_of.result ∷ []) f.1) ∙ ap (λ l. l ++ f.1) (sym c.push.ensures.items))) in
     let same = c.next_of.ensures.queue in
-    let web : c.next_of.new.pass.web ≡ c.loop-self.pass-inside.pass.web = same.0.0.0 ∙ (ap (λ (q : SegId Global). q.web) c.self.view_is ∙ sym i.0.0.0) in
-    let heap : c.next_of.new.pass.heap ≡ c.loop-self.pass-inside.pass.heap = same.0.0.1 ∙ (ap (λ (q : SegId Global). q.heap) c.self.view_is ∙ sym i.0.0.1) in (
-      subst (λ (q : SegId Global). IsSegPassOf q c.next_of.new.pass) c.self.view_is same.0,
+    let web : c.next_of.new.pass.web ≡ c.loop-self.pass-inside.pass.web = same.0.0.0 ∙ (c.self.view_is ∙ sym i.0.0.0) in (
+      subst (λ (q : QueueId). IsSegPassOf (seg_of q) c.next_of.new.pass) c.self.view_is same.0,
       omega (arith, old, new, bound, one),
       (
         f.1,
-        subst (λ (q : SegId Global). Holds q c.next_of.new.pass c.next_of.new.batch f.1) c.self.view_is next.1,
+        subst (λ (q : QueueId). Holds (seg_of q) c.next_of.new.pass c.next_of.new.batch f.1) c.self.view_is next.1,
         subst (λ (x : List (Item Envelope) × Pass Envelope). Took c.args.pass.now (envelopes x.0) x.1)
-            (λ j. (all j, pass_of (record { web = sym web j; heap = sym heap j }) (sym same.2 j).knows)) i.2.2,
+            (λ j. (all j, pass_of (sym web j) (sym same.2 j).knows)) i.2.2,
       ),
       subst (λ (v : View Envelope). IsReady v) (sym same.2) i.3,
     )
@@ -78,7 +77,7 @@ returns-clause-own g c =
     let i = c.loop-self.invariant in
     let none : c.loop-self.batch.len ≡ 0 = search rules in
     let new : Pass Envelope =
-    pass_of (record { web = c.loop-self.pass-inside.pass.web; heap = c.loop-self.pass-inside.pass.heap }) c.loop-self.pass-inside.pass.me.view.client.knows in
+    pass_of c.loop-self.pass-inside.pass.web c.loop-self.pass-inside.pass.me.view.client.knows in
     let all : c.loop-self.items.items ++ i.2.0 ≡ c.loop-self.items.items = ap (λ l. c.loop-self.items.items ++ l) (no_rest i.2.0 (i.2.1.8 ∙ none))
     ∙ append-nil c.loop-self.items.items in
     took_own c.args.pass.now (envelopes c.loop-self.items.items) new here

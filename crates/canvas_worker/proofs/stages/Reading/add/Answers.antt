@@ -6,7 +6,7 @@ use Rattle.canvas_message.specs.MessageView.{carried_view}
 use Rattle.canvas_effects.specs.Effects.{body_after, script}
 use Rattle.canvas_effects.specs.Todos.{todo_view}
 use Rattle.canvas_message.specs.declared.envelope.Envelope.{Envelope}
-use Rattle.canvas_backend.specs.declared.stored.Stored.TheVariants.{Again}
+use Rattle.canvas_history.specs.declared.stored.Stored.TheVariants.{Again}
 use Rattle.canvas_runs.specs.Core.{settled, reads_next}
 use Rattle.canvas_runs.specs.Protocol.{Protocol}
 use Rattle.canvas_worker.specs.EnvelopeWorker.{enclosed, enveloped_by, no_tasks}

@@ -1,5 +1,5 @@
 use Rattle.std.proofs.Common.{rules, ◌≡◌, None, refl, ap, ◌∙◌}
-use Rattle.canvas_broker.specs.Broker as broker
+use Rattle.canvas_history.specs.Queue as queue
 use Rattle.canvas_runs.specs.Core as C
 use Rattle.canvas_worker.specs.steps.Held.{held_in}
 use Rattle.canvas_worker.specs.Polls.{Work}
@@ -36,11 +36,11 @@ returns-in-Ok-clause-acted g c =
       first = c.self.inside.first;
       parts = c.self.inside.parts;
     } in
-    let asks : asked w.core.left ≡ C.to_queue (broker.publish c.in-Some.envelope) =
+    let asks : asked w.core.left ≡ C.to_queue (queue.publish c.in-Some.envelope) =
     handed_out c.in-Some.envelope w.core c.requires.ready.inside (search rules) in
     let core : u.core ≡ handed w.core = search rules in
     asked_well (g.T.Tasks.behaviour c.args.tasks.now) w u c.replies.new.self
-    (C.to_queue (broker.publish c.in-Some.envelope)) (C.from_queue None) c.replies.result c.replies.ensures.value c.requires.ready (record {
+    (C.to_queue (queue.publish c.in-Some.envelope)) (C.from_queue None) c.replies.result c.replies.ensures.value c.requires.ready (record {
       asked_is = asks;
       suits = tt;
       back = c.requires.reads_back;
@@ -50,7 +50,7 @@ returns-in-Ok-clause-acted g c =
       serves = search rules;
       counts = search rules;
       still = λ rests. absurd (busy_never (g.T.Tasks.behaviour c.args.tasks.now) w.desk.plan w.core.left (C.from_queue None)
-          (C.to_queue (broker.publish c.in-Some.envelope)) asks tt rests);
+          (C.to_queue (queue.publish c.in-Some.envelope)) asks tt rests);
       none_dropped = refl;
       core = ap (λ z. after_reply (g.T.Tasks.behaviour c.args.tasks.now) (book_on w.desk.plan) z (C.from_queue None)) core
           ∙ handed_same (g.T.Tasks.behaviour c.args.tasks.now) (book_on w.desk.plan) w.core (C.from_queue None);
@@ -74,10 +74,10 @@ returns-in-Err-clause-acted g c =
       first = c.self.inside.first;
       parts = c.self.inside.parts;
     } in
-    let asks : asked w.core.left ≡ C.to_queue (broker.publish c.in-Some.envelope) =
+    let asks : asked w.core.left ≡ C.to_queue (queue.publish c.in-Some.envelope) =
     handed_out c.in-Some.envelope w.core c.requires.ready.inside (search rules) in
     let core : u.core ≡ handed w.core = search rules in
-    ends_badly (g.T.Tasks.behaviour c.args.tasks.now) w u (C.to_queue (broker.publish c.in-Some.envelope)) C.refused c.fails.result
+    ends_badly (g.T.Tasks.behaviour c.args.tasks.now) w u (C.to_queue (queue.publish c.in-Some.envelope)) C.refused c.fails.result
     c.fails.ensures c.requires.ready (record {
       asked_is = asks;
       suits = tt;
@@ -88,7 +88,7 @@ returns-in-Err-clause-acted g c =
       serves = search rules;
       counts = search rules;
       still = λ rests. absurd (busy_never (g.T.Tasks.behaviour c.args.tasks.now) w.desk.plan w.core.left C.refused
-          (C.to_queue (broker.publish c.in-Some.envelope)) asks tt rests);
+          (C.to_queue (queue.publish c.in-Some.envelope)) asks tt rests);
       none_dropped = refl;
       core = ap (λ z. after_reply (g.T.Tasks.behaviour c.args.tasks.now) (book_on w.desk.plan) z C.refused) core
           ∙ handed_same (g.T.Tasks.behaviour c.args.tasks.now) (book_on w.desk.plan) w.core C.refused;

@@ -1,5 +1,5 @@
 use Rattle.std.proofs.Common.{rules, ◌≡◌, refl, subst, ◌≤◌}
-use Rattle.canvas_backend.specs.Backend as results
+use Rattle.canvas_history.specs.Table as table
 use Rattle.canvas_runs.specs.Core as C
 use Rattle.canvas_worker.specs.steps.Held.{held_in}
 use Rattle.canvas_worker.specs.CoreState.{asked}
@@ -35,9 +35,9 @@ returns-clause-acted g c =
       first = c.self.inside.first;
       parts = c.self.inside.parts;
     } in
-    let asks : asked w.core.left ≡ C.to_table (results.read c.args.task) = is_read w.core.task c.args.task (asked w.core.left) c.requires.asks in
-    asked_well (g.T.Tasks.behaviour c.args.tasks.now) w u c.replies.new.self (C.to_table (results.read c.args.task))
-    (C.from_table (results.found c.read-found.result)) c.replies.result c.replies.ensures.value c.requires.ready (record {
+    let asks : asked w.core.left ≡ C.to_table (table.read c.args.task) = is_read w.core.task c.args.task (asked w.core.left) c.requires.asks in
+    asked_well (g.T.Tasks.behaviour c.args.tasks.now) w u c.replies.new.self (C.to_table (table.read c.args.task))
+    (C.from_table (table.found c.read-found.result)) c.replies.result c.replies.ensures.value c.requires.ready (record {
       asked_is = asks;
       suits = tt;
       back = c.requires.reads_back;
@@ -46,8 +46,8 @@ returns-clause-acted g c =
       makes = search rules;
       serves = search rules;
       counts = search rules;
-      still = λ rests. absurd (busy_never (g.T.Tasks.behaviour c.args.tasks.now) w.desk.plan w.core.left (C.from_table (results.found c.read-found.result))
-          (C.to_table (results.read c.args.task)) asks tt rests);
+      still = λ rests. absurd (busy_never (g.T.Tasks.behaviour c.args.tasks.now) w.desk.plan w.core.left (C.from_table (table.found c.read-found.result))
+          (C.to_table (table.read c.args.task)) asks tt rests);
       none_dropped = refl;
       core = search rules;
     })

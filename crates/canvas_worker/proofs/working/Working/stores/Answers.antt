@@ -1,6 +1,6 @@
 use Rattle.std.proofs.Common.{rules, ◌≡◌, refl, subst, ◌≤◌}
-use Rattle.canvas_backend.specs.declared.stored.Stored.TheVariants.{First, Again}
-use Rattle.canvas_backend.specs.Backend as results
+use Rattle.canvas_history.specs.declared.stored.Stored.TheVariants.{First, Again}
+use Rattle.canvas_history.specs.Table as table
 use Rattle.canvas_runs.specs.Core as C
 use Rattle.canvas_worker.specs.steps.Held.{held_in}
 use Rattle.canvas_worker.specs.CoreState.{asked}
@@ -38,10 +38,10 @@ returns-in-First-clause-acted g c =
       first = c.saturating_add-self-inside.result;
       parts = c.self.inside.parts;
     } in
-    let asks : asked w.core.left ≡ C.to_table (results.store c.args.task c.args.outcome) =
+    let asks : asked w.core.left ≡ C.to_table (table.store c.args.task c.args.outcome) =
     is_store w.core.task c.args.task c.args.outcome (asked w.core.left) c.requires.asks in
-    asked_well (g.T.Tasks.behaviour c.args.tasks.now) w u c.replies.new.self (C.to_table (results.store c.args.task c.args.outcome))
-    (C.from_table (results.was First)) c.replies.result c.replies.ensures.value c.requires.ready (record {
+    asked_well (g.T.Tasks.behaviour c.args.tasks.now) w u c.replies.new.self (C.to_table (table.store c.args.task c.args.outcome))
+    (C.from_table (table.was First)) c.replies.result c.replies.ensures.value c.requires.ready (record {
       asked_is = asks;
       suits = tt;
       back = c.requires.reads_back;
@@ -50,8 +50,8 @@ returns-in-First-clause-acted g c =
       makes = search rules;
       serves = search rules;
       counts = search rules;
-      still = λ rests. absurd (busy_never (g.T.Tasks.behaviour c.args.tasks.now) w.desk.plan w.core.left (C.from_table (results.was First))
-          (C.to_table (results.store c.args.task c.args.outcome)) asks tt rests);
+      still = λ rests. absurd (busy_never (g.T.Tasks.behaviour c.args.tasks.now) w.desk.plan w.core.left (C.from_table (table.was First))
+          (C.to_table (table.store c.args.task c.args.outcome)) asks tt rests);
       none_dropped = refl;
       core = search rules;
     })
@@ -74,10 +74,10 @@ returns-in-Again-clause-acted g c =
       first = c.self.inside.first;
       parts = c.self.inside.parts;
     } in
-    let asks : asked w.core.left ≡ C.to_table (results.store c.args.task c.args.outcome) =
+    let asks : asked w.core.left ≡ C.to_table (table.store c.args.task c.args.outcome) =
     is_store w.core.task c.args.task c.args.outcome (asked w.core.left) c.requires.asks in
-    asked_well (g.T.Tasks.behaviour c.args.tasks.now) w u c.replies-in-Again.new.self (C.to_table (results.store c.args.task c.args.outcome))
-    (C.from_table (results.was Again)) c.replies-in-Again.result c.replies-in-Again.ensures.value c.requires.ready (record {
+    asked_well (g.T.Tasks.behaviour c.args.tasks.now) w u c.replies-in-Again.new.self (C.to_table (table.store c.args.task c.args.outcome))
+    (C.from_table (table.was Again)) c.replies-in-Again.result c.replies-in-Again.ensures.value c.requires.ready (record {
       asked_is = asks;
       suits = tt;
       back = c.requires.reads_back;
@@ -86,8 +86,8 @@ returns-in-Again-clause-acted g c =
       makes = search rules;
       serves = search rules;
       counts = search rules;
-      still = λ rests. absurd (busy_never (g.T.Tasks.behaviour c.args.tasks.now) w.desk.plan w.core.left (C.from_table (results.was Again))
-          (C.to_table (results.store c.args.task c.args.outcome)) asks tt rests);
+      still = λ rests. absurd (busy_never (g.T.Tasks.behaviour c.args.tasks.now) w.desk.plan w.core.left (C.from_table (table.was Again))
+          (C.to_table (table.store c.args.task c.args.outcome)) asks tt rests);
       none_dropped = refl;
       core = search rules;
     })

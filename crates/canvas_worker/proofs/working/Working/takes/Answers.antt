@@ -1,6 +1,6 @@
 use Rattle.std.proofs.Common.{rules, ◌≡◌, ◌∙◌, [], ◌∷◌, append-nil}
 use Rattle.canvas_message.specs.declared.envelope.Envelope.{Envelope}
-use Rattle.canvas_broker.specs.Passes.{Took}
+use Rattle.canvas_history.specs.Passes.{Took}
 use Rattle.canvas_worker.specs.steps.Held.{held_in}
 use Rattle.canvas_worker.specs.CoreState.{asked}
 use Rattle.canvas_worker.specs.Polls.{Work}

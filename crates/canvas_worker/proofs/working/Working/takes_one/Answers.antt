@@ -1,8 +1,8 @@
 use Rattle.std.proofs.Common.{rules, ◌≡◌, refl, sym, ap, ◌∙◌, Some, None, [], ◌∷◌, ◌++◌}
 use Rattle.canvas_history.specs.History.{calls}
 use Rattle.canvas_message.specs.declared.envelope.Envelope.{Envelope}
-use Rattle.canvas_broker.specs.Broker as broker
-use Rattle.canvas_broker.specs.Passes.{Stands, Empties}
+use Rattle.canvas_history.specs.Queue as queue
+use Rattle.canvas_history.specs.Passes.{Stands, Empties}
 use Rattle.canvas_runs.specs.Core as C
 use Rattle.canvas_worker.specs.steps.Held.{held_in}
 use Rattle.canvas_worker.specs.CoreState.{asked}
@@ -17,7 +17,7 @@ returns-in-Some-clause-acted g c =
     let w : Work = c.args.self.now in
     let u : Work = record { broker = c.self.inside.queue.broker.now; desk = c.self.inside.backend.now; number = c.self.inside.number; pass = c.take.new.pass; seat = c.self.inside.seat; core = c.self.inside.core; held = []; taken = c.self.inside.taken; published = c.self.inside.published; first = c.self.inside.first; parts = c.self.inside.parts } in
     let e : Envelope = c.in-Some.envelope in
-    let stands : Stands w.pass (calls w.pass.name broker.take (Some e)) u.pass = search rules in
+    let stands : Stands w.pass (calls w.pass.name queue.take (Some e)) u.pass = search rules in
     given_well (g.T.Tasks.behaviour c.args.tasks.now) w u c.gives.new.self (e ∷ []) e c.gives.result c.gives.ensures c.requires.ready (record {
       asked_is = is_take w.core.task (asked w.core.left) c.requires.asks;
       broker = search rules;
@@ -38,10 +38,10 @@ pub returns-in-None-clause-acted : goal.returns-in-None-clause-acted
 returns-in-None-clause-acted g c =
     let w : Work = c.args.self.now in
     let u : Work = record { broker = c.self.inside.queue.broker.now; desk = c.self.inside.backend.now; number = c.self.inside.number; pass = c.take.new.pass; seat = c.self.inside.seat; core = c.self.inside.core; held = held_in c.after_none.result; taken = c.self.inside.taken; published = c.self.inside.published; first = c.self.inside.first; parts = c.self.inside.parts } in
-    let asks : asked w.core.left ≡ C.to_queue broker.take = is_take w.core.task (asked w.core.left) c.requires.asks in
+    let asks : asked w.core.left ≡ C.to_queue queue.take = is_take w.core.task (asked w.core.left) c.requires.asks in
     let bare : u.held ≡ [] = search rules in
     let empty : Empties u.pass = search rules in
-    asked_well (g.T.Tasks.behaviour c.args.tasks.now) w u c.answers.new.self (C.to_queue broker.take) (C.from_queue None)
+    asked_well (g.T.Tasks.behaviour c.args.tasks.now) w u c.answers.new.self (C.to_queue queue.take) (C.from_queue None)
     c.answers.result c.answers.ensures.value c.requires.ready
     (record {
       asked_is = asks;

@@ -1,0 +1,21 @@
+-- The evaluation of a plan by events, and the messages of it as the proofs have them.
+pub mod Messages
+pub mod Effects
+pub mod Evaluation
+pub mod FileOrder
+pub mod Trees
+pub mod Parts
+pub mod Order
+pub mod Rising
+pub mod Canvas
+pub mod Backing
+pub mod Whole
+pub mod Carrying
+pub mod Scripts
+pub mod Sized
+pub mod Knowing
+pub mod Ending
+pub mod Started
+pub mod StateRows
+pub mod PlanLines
+pub mod JobLists
