@@ -24,6 +24,7 @@ A case begins with a line `== NAME`. The first sign of each other line says what
     ! LINE      a line of standard error
     !! full     standard error takes nothing
     ? N         the status, where it isn't 0
+    = N         each run has N MiB of memory
     % LINE      each shorter input has to end in status 1 with this line of standard error
 
 Escapes are those of JSON's texts, and \\xff for a byte. A line that begins with # is a comment, and
@@ -119,6 +120,7 @@ class Case:
     err: str = ""
     status: int = 0
     prefixes: str = None
+    room: int = None
     is_folder: bool = False
     is_full: bool = False
     is_mute: bool = False
@@ -158,6 +160,7 @@ class Case:
             "!": lambda: setattr(self, "err", self.err + text + "\n"),
             "!!": lambda: setattr(self, "is_mute", True),
             "?": lambda: setattr(self, "status", int(text)),
+            "=": lambda: setattr(self, "room", int(text) << 20),
             "%": lambda: setattr(self, "prefixes", text + "\n"),
         }[sign]()
 

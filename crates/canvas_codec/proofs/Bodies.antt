@@ -1,11 +1,9 @@
 -- The text of a body, of which a piece is shared.
-use Rattle.std.proofs.Common.{◌≡◌, ◌∙◌, ℕ, arith, length, take, String, Global, subst, false, List, [], ◌∷◌, ◌++◌, map, Option, Some, None, refl, sym, ap, append_assoc, append-nil}
-use Rattle.std.specs.Prelude.{codes, string_bytes, IfSome}
+use Rattle.std.proofs.Common.{◌≡◌, ◌∙◌, ℕ, false, List, [], ◌∷◌, ◌++◌, map, Option, Some, None, refl, sym, ap, append_assoc, append-nil}
+use Rattle.std.specs.Prelude.{codes, IfSome}
 use Rattle.std.specs.Str.{IsUtf8}
-use Rattle.std.specs.String.{string_len}
-use Rattle.std.proofs.lemmas.List.{take_all}
-use Rattle.std.proofs.lemmas.Str.{IsUtf8-nil, IsUtf8-string_bytes}
-use Rattle.canvas_message.specs.declared.texts.Piece.{Piece}
+use Rattle.std.proofs.lemmas.Str.{IsUtf8-nil}
+use Rattle.canvas_message.specs.declared.pieces.Piece.{Piece}
 use Rattle.canvas_message.specs.Pieces.{piece_text, shared_text}
 use Rattle.serde_json.proofs.OnLiterals.{serde_json_on_literals}
 use Rattle.serde_json.specs.Data.{Data, null, array, object, Items, item, no_items, Members}
@@ -45,9 +43,6 @@ unfolding serde_json_on_literals
 alone_text f errbacks =
     append-nil ((f ++ codes ",\"chain\":null,\"chord\":null") ++ closing_text errbacks)
     ∙ append_assoc f (codes ",\"chain\":null,\"chord\":null") (closing_text errbacks)
-
-pub whole_piece : (t : String Global) (n : ℕ) → n ≡ string_len t → IsUtf8 (take n (string_bytes t))
-whole_piece t n all = subst IsUtf8 (sym (take_all n (string_bytes t) (omega (arith, all, t.bytes.ok.0)))) (IsUtf8-string_bytes t)
 
 pub shared_utf8 : (o : Option Piece) → IfSome o (λ p. IsUtf8 (piece_text p)) → IsUtf8 (shared_text o)
 shared_utf8 None h = IsUtf8-nil

@@ -16,7 +16,12 @@ pub mod Identifiers
 pub mod KnownTexts
 pub mod TaskTokens
 pub mod LineTokens
+pub mod Holes
+pub mod Around
+pub mod AroundLines
+pub mod CarriedTexts
 pub mod Listing
+pub mod PieceTexts
 pub mod Bodies
 pub mod Turns
 pub mod Utf8Data

@@ -17,11 +17,14 @@ use Rattle.canvas_rewrite.specs.FrozenView.{p_steps, p_task_view, p_line_view, p
 use Rattle.canvas_rewrite.specs.declared.frozen.FrozenTask.{FrozenTask}
 use Rattle.canvas_rewrite.specs.declared.frozen.FrozenLine.{FrozenLine, out-FrozenLine}
 use Rattle.canvas_rewrite.specs.declared.frozen.FrozenEnd.{FrozenEnd, out-FrozenEnd}
-use Rattle.canvas_message.specs.SharedTexts.{AreEnds, IsListed, backwards}
+use Rattle.canvas_message.specs.Content.{end_place}
+use Rattle.canvas_message.specs.SharedTexts.{AreEnds, IsLineText, IsListed, SaysRinged, backwards, elements_head, elements_own, ringed}
 use Rattle.canvas_message.specs.Wire.{task_wire, line_wire, elements_wire, onto_reversed}
 use Rattle.canvas_message.specs.steps.Parts.{is_stop}
-use Rattle.canvas_codec.specs.steps.Listing.{Listing, tail_line}
+use Rattle.canvas_codec.specs.steps.Around.{carries, front_tasks, last_wire, last_before, last_behind}
+use Rattle.canvas_codec.specs.steps.Listing.{Listing, tail_line, last_line}
 use Rattle.canvas_codec.specs.steps.Tokens.{tasks_of_line, tail_tokens}
+use Rattle.canvas_codec.proofs.Around.{element_around}
 use Rattle.canvas_codec.proofs.LineTokens.{tasks_seen}
 use Rattle.canvas_message.proofs.Seen.{line_none, line_some, end_none, end_some}
 
@@ -94,14 +97,14 @@ listed_more text t l later is h =
 
 -- ---- ends
 
-ends_grow : (text more ends : List ℕ) (l : PLine) → AreEnds text ends l → AreEnds (text ++ more) ends l
-ends_grow text more [] l h = tt
-ends_grow text more (e ∷ es) l h =
+ends_grow : (head text more ends : List ℕ) (l : PLine) → AreEnds head text ends l → AreEnds head (text ++ more) ends l
+ends_grow head text more [] l h = tt
+ends_grow head text more (e ∷ es) l h =
     let same : take e (text ++ more) ≡ take e text = take-append-le e text more h.0 in (
       omega (arith, h.0, length-append text more),
       subst IsUtf8 (sym same) h.1,
-      subst (λ x. IsListed x (backwards l)) (sym same) h.2,
-      ends_grow text more es _ h.3,
+      subst (λ x. IsListed (head ++ x) (backwards l)) (sym same) h.2,
+      ends_grow head text more es _ h.3,
     )
 
 all_of : (text : List ℕ) (e : ℕ) → e ≡ length text → take e text ≡ text
@@ -111,29 +114,34 @@ comma_utf8 : (later : Bool) → IsUtf8 (comma_if later)
 comma_utf8 true = IsUtf8-from_ascii (44 ∷ []) (search rules)
 comma_utf8 false = IsUtf8-nil
 
-pub grown : (text ends : List ℕ) (t : PTask) (l : PLine) (later : Bool) (with_comma all ends' : List ℕ) (e : ℕ)
-    → Listing text ends l → later ≡ not (length ends == 0) → with_comma ≡ text ++ comma_if later
+behind_head : (head text c d : List ℕ) → ((head ++ text) ++ c) ++ d ≡ head ++ ((text ++ c) ++ d)
+behind_head head text c d = simp append_assoc
+
+pub grown : (head text ends : List ℕ) (t : PTask) (l : PLine) (later : Bool) (with_comma all ends' : List ℕ) (e : ℕ)
+    → Listing head text ends l → later ≡ not (length ends == 0) → with_comma ≡ text ++ comma_if later
     → all ≡ with_comma ++ compact_text (task_wire None t) → IsUtf8 (compact_text (task_wire None t)) → e ≡ length all → ends' ≡ ends ++ e ∷ []
-    → Listing all ends' (p_step t l)
-grown text ends t l later with_comma all ends' e h is commaed written utf8 end pushed =
+    → Listing head all ends' (p_step t l)
+grown head text ends t l later with_comma all ends' e h is commaed written utf8 end pushed =
     let flag : later ≡ not (is_stop l) = is ∙ ap not h.none in
     let its : all ≡ (text ++ comma_if later) ++ compact_text (task_wire None t) =
     written ∙ ap (λ x. x ++ compact_text (task_wire None t)) commaed in
     let long : all ≡ text ++ (comma_if later ++ compact_text (task_wire None t)) =
     its ∙ append_assoc text (comma_if later) (compact_text (task_wire None t)) in
-    let listing : IsListed all (backwards (p_step t l)) =
-    subst (λ x. IsListed x (backwards (p_step t l))) (sym its) (listed_more text t l later flag h.listed) in
+    let listing : IsListed (head ++ all) (backwards (p_step t l)) =
+    subst (λ x. IsListed x (backwards (p_step t l)))
+    (behind_head head text (comma_if later) (compact_text (task_wire None t)) ∙ ap (λ x. head ++ x) (sym its))
+    (listed_more (head ++ text) t l later flag h.listed) in
     let whole : take e all ≡ all = all_of all e end in
     let valid : IsUtf8 all =
     subst IsUtf8 (sym its) (IsUtf8-append _ _ (IsUtf8-append _ _ h.utf8 (comma_utf8 later)) utf8) in
     record {
       listed = listing;
       utf8 = valid;
-      ended = subst (λ es. AreEnds all es (p_step t l)) (sym (ap reverse pushed ∙ reverse-append ends (e ∷ []))) (
+      ended = subst (λ es. AreEnds head all es (p_step t l)) (sym (ap reverse pushed ∙ reverse-append ends (e ∷ []))) (
         omega (arith, end),
         subst IsUtf8 (sym whole) valid,
-        subst (λ x. IsListed x (backwards (p_step t l))) (sym whole) listing,
-        subst (λ x. AreEnds x (reverse ends) l) (sym long) (ends_grow text _ (reverse ends) l h.ended),
+        subst (λ x. IsListed (head ++ x) (backwards (p_step t l))) (sym whole) listing,
+        subst (λ x. AreEnds head x (reverse ends) l) (sym long) (ends_grow head text _ (reverse ends) l h.ended),
       );
       none = ne_eqb (length ends') 0 (λ z. absurd (omega (arith, z, ap length pushed, length-append ends (e ∷ []))));
     }
@@ -147,32 +155,64 @@ tail_listed (p_step t l) = tail_listed l
 tail_listed (p_group_end g ms) = ap (λ x. x ++ 93 ∷ []) (print-outline (line_wire None (p_group_end g ms)))
 tail_listed (p_chord_end g ms b) = ap (λ x. x ++ 93 ∷ []) (print-outline (line_wire None (p_chord_end g ms b)))
 
-ends_of : (text : List ℕ) (l : PLine) → IsUtf8 text → IsListed text (backwards l) → AreEnds text (length text ∷ []) l
-ends_of text l utf8 h =
+ends_of : (head text : List ℕ) (l : PLine) → IsUtf8 text → IsListed (head ++ text) (backwards l) → AreEnds head text (length text ∷ []) l
+ends_of head text l utf8 h =
     let whole : take (length text) text ≡ text = all_of text (length text) refl in
-    (omega arith, subst IsUtf8 (sym whole) utf8, subst (λ x. IsListed x (backwards l)) (sym whole) h, tt)
+    (omega arith, subst IsUtf8 (sym whole) utf8, subst (λ x. IsListed (head ++ x) (backwards l)) (sym whole) h, tt)
+
+-- one element
+only_one : (head text ends : List ℕ) (l : PLine) (e : ℕ) → IsListed (head ++ text) (backwards l) → IsUtf8 text → is_stop l ≡ false
+    → e ≡ length text → ends ≡ e ∷ [] → Listing head text ends l
+only_one head text ends l e listing utf8 more end one =
+    record {
+      listed = listing;
+      utf8 = utf8;
+      ended = subst (λ es. AreEnds head text (reverse es) l) (sym (one ∙ ap (λ k. k ∷ []) end)) (ends_of head text l utf8 listing);
+      none = ap (λ es. length es == 0) one ∙ sym more;
+    }
 
 -- a line that ends in a task, and one that doesn't
 pub begun_none : (l : PLine) (text ends : List ℕ) → text ≡ print (tail_tokens l) → IsUtf8 text → is_stop (tail_line l) ≡ true → ends ≡ []
-    → Listing text ends (tail_line l)
+    → Listing [] text ends (tail_line l)
 begun_none l text ends is utf8 stop empty = record {
   listed = subst (λ x. IsListed x (backwards (tail_line l))) (sym is) (tail_listed l);
   utf8 = utf8;
-  ended = subst (λ es. AreEnds text (reverse es) (tail_line l)) (sym empty) tt;
+  ended = subst (λ es. AreEnds [] text (reverse es) (tail_line l)) (sym empty) tt;
   none = ap (λ es. length es == 0) empty ∙ sym stop;
 }
 
 pub begun_some : (l : PLine) (text ends : List ℕ) (e : ℕ) → text ≡ print (tail_tokens l) → IsUtf8 text → is_stop (tail_line l) ≡ false
     → e ≡ length text → ends ≡ e ∷ []
-    → Listing text ends (tail_line l)
+    → Listing [] text ends (tail_line l)
 begun_some l text ends e is utf8 more end one =
-    let listing : IsListed text (backwards (tail_line l)) = subst (λ x. IsListed x (backwards (tail_line l))) (sym is) (tail_listed l) in
-    record {
-      listed = listing;
-      utf8 = utf8;
-      ended = subst (λ es. AreEnds text (reverse es) (tail_line l)) (sym (one ∙ ap (λ k. k ∷ []) end)) (ends_of text (tail_line l) utf8 listing);
-      none = ap (λ es. length es == 0) one ∙ sym more;
-    }
+    only_one [] text ends (tail_line l) e (subst (λ x. IsListed x (backwards (tail_line l))) (sym is) (tail_listed l)) utf8 more end one
+
+-- the last element, around the text of the body that it carries
+last_stays : (l : PLine) → carries l ≡ true → is_stop (last_line l) ≡ false
+last_stays p_stop h = absurd cc
+last_stays (p_step t p_stop) h = refl
+last_stays (p_step t (p_step u l)) h = last_stays (p_step u l) h
+last_stays (p_step t (p_group_end g ms)) h = absurd cc
+last_stays (p_step t (p_chord_end g ms b)) h = refl
+last_stays (p_group_end g ms) h = absurd cc
+last_stays (p_chord_end g ms b) h = refl
+
+last_backwards : (l : PLine) → carries l ≡ true → backwards (last_line l) ≡ item (last_wire l) no_items
+last_backwards p_stop h = absurd cc
+last_backwards (p_step t p_stop) h = refl
+last_backwards (p_step t (p_step u l)) h = last_backwards (p_step u l) h
+last_backwards (p_step t (p_group_end g ms)) h = absurd cc
+last_backwards (p_step t (p_chord_end g ms b)) h = refl
+last_backwards (p_group_end g ms) h = absurd cc
+last_backwards (p_chord_end g ms b) h = refl
+
+pub begun_around : (l : PLine) (rs : List (List ℕ × List ℕ)) (core before text ends : List ℕ) (e : ℕ) → carries l ≡ true → SaysRinged rs core (end_place l)
+    → before ≡ print (last_before l) → text ≡ 44 ∷ print (last_behind l) → IsUtf8 text → e ≡ length text → ends ≡ e ∷ []
+    → Listing (before ++ ringed rs core) text ends (last_line l)
+begun_around l rs core before text ends e h said is_before is_text utf8 end one =
+    only_one (before ++ ringed rs core) text ends (last_line l) e
+    (ap (λ x. x ++ 93 ∷ []) (element_around l rs core before text h said is_before is_text) ∙ ap (items_text false) (sym (last_backwards l h)))
+    utf8 (last_stays l h) end one
 
 -- ---- a line by its tasks
 
@@ -182,22 +222,32 @@ steps_of_line (p_step t l) = ap (p_step t) (steps_of_line l)
 steps_of_line (p_group_end g ms) = refl
 steps_of_line (p_chord_end g ms b) = refl
 
--- the tasks from one on, and then the end
-abbrev pub from_task : FrozenLine → List FrozenTask → ℕ → PLine
-from_task l ts i = p_steps (map p_task_view (drop i ts)) (tail_line (p_line_view l))
-
-pub from_all : (l : FrozenLine) (ts : List FrozenTask) → ts ≡ (out-FrozenLine l).tasks → from_task l ts 0 ≡ p_line_view l
-from_all l ts same =
+pub all_tasks : (l : FrozenLine) (ts : List FrozenTask) → ts ≡ (out-FrozenLine l).tasks
+    → p_steps (map p_task_view ts) (tail_line (p_line_view l)) ≡ p_line_view l
+all_tasks l ts same =
     ap (λ xs. p_steps xs (tail_line (p_line_view l))) (ap (map p_task_view) same ∙ sym (tasks_seen l)) ∙ steps_of_line (p_line_view l)
 
-pub from_none : (l : FrozenLine) (ts : List FrozenTask) (n : ℕ) → n ≡ length ts → from_task l ts n ≡ tail_line (p_line_view l)
-from_none l ts n is = ap (λ xs. p_steps (map p_task_view xs) (tail_line (p_line_view l))) (drop_all n ts (omega (arith, is)))
+pub front_and_last : (l : PLine) → p_steps (front_tasks l) (last_line l) ≡ l
+front_and_last p_stop = refl
+front_and_last (p_step t p_stop) = refl
+front_and_last (p_step t (p_step u l)) = ap (p_step t) (front_and_last (p_step u l))
+front_and_last (p_step t (p_group_end g ms)) = refl
+front_and_last (p_step t (p_chord_end g ms b)) = refl
+front_and_last (p_group_end g ms) = refl
+front_and_last (p_chord_end g ms b) = refl
 
-pub from_next : (l : FrozenLine) (ts : List FrozenTask) (n i : ℕ) (t : FrozenTask) → n ≡ suc i → i < length ts → t ≡ get_or ts i t
-    → from_task l ts i ≡ p_step (p_task_view t) (from_task l ts n)
-from_next l ts n i t is lt at =
-    ap (λ xs. p_steps (map p_task_view xs) (tail_line (p_line_view l))) (drop-cons ts i t lt)
-    ∙ ap₂ (λ u k. p_step (p_task_view u) (p_steps (map p_task_view (drop k ts)) (tail_line (p_line_view l)))) (sym at) (sym is)
+-- some tasks from one on, and then a line
+abbrev pub from_task : List FrozenTask → ℕ → PLine → PLine
+from_task ts i l = p_steps (map p_task_view (drop i ts)) l
+
+pub from_none : (ts : List FrozenTask) (n : ℕ) (l : PLine) → n ≡ length ts → from_task ts n l ≡ l
+from_none ts n l is = ap (λ xs. p_steps (map p_task_view xs) l) (drop_all n ts (omega (arith, is)))
+
+pub from_next : (ts : List FrozenTask) (n i : ℕ) (t : FrozenTask) (l : PLine) → n ≡ suc i → i < length ts → t ≡ get_or ts i t
+    → from_task ts i l ≡ p_step (p_task_view t) (from_task ts n l)
+from_next ts n i t l is lt at =
+    ap (λ xs. p_steps (map p_task_view xs) l) (drop-cons ts i t lt)
+    ∙ ap₂ (λ u k. p_step (p_task_view u) (p_steps (map p_task_view (drop k ts)) l)) (sym at) (sym is)
 
 tail_stops : (l : FrozenLine) → (out-FrozenLine l).tail ≡ None → is_stop (tail_line (p_line_view l)) ≡ true
 tail_stops l e = ap (λ x. is_stop (tail_line x)) (line_none l e) ∙ stops (map p_task_view (out-FrozenLine l).tasks)
@@ -241,18 +291,11 @@ printed d start end new written = ap print (written.0 ∙ ap (λ ts. ts ++ data_
 
 -- ---- the text, when it is shared
 
-pub shared_ends : {E : Type 0} (r : Result LineText E) (text ends : List ℕ) (l : PLine) → Listing text ends l
-    → IfOk r (λ t. string_bytes t.text.value ≡ text) → IfOk r (λ t. t.ends.items ≡ ends)
-    → IfOk r (λ t. AreEnds (string_bytes t.text.value) (reverse t.ends.items) l)
-shared_ends (Ok t) text ends l h is_text is_ends =
-    subst (λ x. AreEnds x (reverse t.ends.items) l) (sym is_text) (subst (λ es. AreEnds text (reverse es) l) (sym is_ends) h.ended)
-shared_ends (Err e) text ends l h is_text is_ends = tt
-
-pub shared_whole : {E : Type 0} (r : Result LineText E) (text ends : List ℕ) (l : PLine) → Listing text ends l
-    → IfOk r (λ t. string_bytes t.text.value ≡ text) → IfOk r (λ t. IsListed (string_bytes t.text.value) (backwards l))
-shared_whole (Ok t) text ends l h is_text = subst (λ x. IsListed x (backwards l)) (sym is_text) h.listed
-shared_whole (Err e) text ends l h is_text = tt
-
-pub all_listed : (l : FrozenLine) (ts : List FrozenTask) (i : ℕ) (text ends : List ℕ) → ts ≡ (out-FrozenLine l).tasks → i ≡ 0
-    → Listing text ends (from_task l ts i) → Listing text ends (p_line_view l)
-all_listed l ts i text ends same zero h = subst (Listing text ends) (ap (from_task l ts) zero ∙ from_all l ts same) h
+pub shared_line : (t : LineText) (text ends : List ℕ) (l : PLine) → Listing (elements_head t) text ends l
+    → elements_own t ≡ text → t.ends.items ≡ ends
+    → IsLineText t l × IsListed (elements_head t ++ elements_own t) (backwards l)
+shared_line t text ends l h is_text is_ends = (
+  subst (λ x. AreEnds (elements_head t) x (reverse t.ends.items) l) (sym is_text)
+      (subst (λ es. AreEnds (elements_head t) text (reverse es) l) (sym is_ends) h.ended),
+  subst (λ x. IsListed (elements_head t ++ x) (backwards l)) (sym is_text) h.listed,
+)

@@ -64,11 +64,11 @@ frozen_tokens : (size : Option ℕ) (args : Items) (i : Bool) (kwargs options : 
 frozen_tokens None args i kwargs options kind name = joined (front_tokens args) [] (flag_tokens i) (kwargs_tokens kwargs) (key (codes "options") ∷ begin_object ∷ rest_members options) (kind_tokens kind ++ name_tokens name)
 frozen_tokens (Some n) args i kwargs options kind name = joined (front_tokens args) (size_tokens (Some n)) (flag_tokens i) (kwargs_tokens kwargs) (key (codes "options") ∷ begin_object ∷ rest_members options) (kind_tokens kind ++ name_tokens name)
 
-abbrev parts : Option ℕ → Call → PTask → List Token
+abbrev pub parts : Option ℕ → Call → PTask → List Token
 parts size call t = call_tokens size (args_wire call.args) call.immutable (kwargs_wire call.kwargs)
     ++ (options_tokens t ++ (kind_tokens null ++ name_tokens call.name))
 
-task_parts : (size : Option ℕ) (k : ℕ) (call : Call) (links errbacks : PTasks) (p : PPlace)
+pub task_parts : (size : Option ℕ) (k : ℕ) (call : Call) (links errbacks : PTasks) (p : PPlace)
     → data_tokens (task_wire size (p_task k call links errbacks p)) ≡ parts size call (p_task k call links errbacks p)
 task_parts size k call links errbacks p =
     frozen_tokens size (args_wire call.args) call.immutable (kwargs_wire call.kwargs)
@@ -84,7 +84,7 @@ task_tokens size t =
 
 -- ---- places
 
-line_shown : (k : List ℕ) (size : Option ℕ) (l : PLine) → unless_null k (line_wire size l) ≡ named_tokens k (line_wire size l)
+pub line_shown : (k : List ℕ) (size : Option ℕ) (l : PLine) → unless_null k (line_wire size l) ≡ named_tokens k (line_wire size l)
 line_shown k size p_stop = refl
 line_shown k size (p_step (p_task n call links errbacks place) p_stop) = refl
 line_shown k size (p_step t (p_step u l)) = refl
@@ -121,14 +121,14 @@ framed size kwargs options kind name =
     inside (start_tokens size no_items) (flag_tokens false) (key (codes "kwargs") ∷ begin_object ∷ []) (rest_members kwargs) (ending options kind name)
     ∙ sym (frozen_tokens size no_items false kwargs options kind name)
 
-chain_tokens : (size : Option ℕ) (ds : Items) → opening_tokens size ++ (list_tokens (codes "tasks") ds ++ closing_tokens (string (codes "chain")) (codes "celery.chain")) ≡ data_tokens (chain_wire size ds)
+pub chain_tokens : (size : Option ℕ) (ds : Items) → opening_tokens size ++ (list_tokens (codes "tasks") ds ++ closing_tokens (string (codes "chain")) (codes "celery.chain")) ≡ data_tokens (chain_wire size ds)
 chain_tokens size ds = framed size (tasks_member ds) no_members (string (codes "chain")) (codes "celery.chain")
 
 group_tokens : (size : Option ℕ) (g : ℕ) (ms : Items)
     → opening_tokens size ++ (list_tokens (codes "tasks") ms ++ group_closing g (string (codes "group")) (codes "celery.group")) ≡ data_tokens (group_wire size g ms)
 group_tokens size g ms = framed size (tasks_member ms) (group_options g) (string (codes "group")) (codes "celery.group")
 
-chord_tokens : (size : Option ℕ) (g : ℕ) (ms : Items) (b : Data)
+pub chord_tokens : (size : Option ℕ) (g : ℕ) (ms : Items) (b : Data)
     → opening_tokens size ++ (named_tokens (codes "body") b ++ (list_tokens (codes "header") ms ++ group_closing g (string (codes "chord")) (codes "celery.chord"))) ≡ data_tokens (chord_wire size g ms b)
 chord_tokens size g ms b =
     ap (λ x. opening_tokens size ++ x) (sym (append_assoc (named_tokens (codes "body") b) (list_tokens (codes "header") ms) (group_closing g (string (codes "chord")) (codes "celery.chord"))))

@@ -21,7 +21,7 @@ fn write_rest(alloc: Global, message: &mut Message) -> Result<(), AllocError>
         return Ok(());
     }
     if let Some(rest) = following(&message.rest) {
-        let text = line_text(alloc, rest)?;
+        let text = line_text(alloc, rest, &message.texts.carried)?;
         message.texts.line = Some(text);
     }
     Ok(())

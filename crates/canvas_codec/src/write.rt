@@ -1,5 +1,6 @@
 //! Writing messages: signatures as tokens of JSON, and what stands around them as text.
 
+mod around;
 pub(crate) mod body;
 pub(crate) mod carried_text;
 mod frozen;

@@ -6,6 +6,7 @@ pub mod Sorts
 pub mod Entered
 pub mod Walked
 pub mod Standing
+pub mod Sharing
 pub mod Begun
 pub mod Raised
 pub mod Ended

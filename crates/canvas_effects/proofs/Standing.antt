@@ -1,8 +1,7 @@
 -- Lines that can be walked: what stands in them can stand in a message.
-use Rattle.std.proofs.Common.{◌≡◌, ◌∙◌, ℕ, suc, ◌≤◌, ◌+◌, max, arith, Bool, true, false, List, [], ◌∷◌, ◌++◌, Option, Some, None, String, Global, Vec, vec_len, length, refl, sym, ap, subst}
-use Rattle.std.specs.Prelude.{◌&&◌, not, nat_lt, nat_le, if◌then◌else◌, reverse, option_to_list, IfSome, MatchOption, string_bytes}
+use Rattle.std.proofs.Common.{◌≡◌, ◌∙◌, ℕ, suc, ◌≤◌, ◌+◌, max, arith, Bool, true, false, List, [], ◌∷◌, Option, Some, None, refl, sym, ap}
+use Rattle.std.specs.Prelude.{◌&&◌, not, nat_lt, nat_le, if◌then◌else◌}
 use Rattle.std.specs.List.{list_all}
-use Rattle.std.proofs.lemmas.List.{reverse-append}
 use Rattle.std.proofs.lemmas.Bool.{lt-ltb, leb-true, le-leb}
 use Rattle.canvas_task.specs.Name.{name_ok}
 use Rattle.canvas_task.specs.declared.arg.Arg.{Arg}
@@ -21,9 +20,6 @@ use Rattle.canvas_message.specs.Fits.{is_task_number, size_ok, call_ok, ascends,
 use Rattle.canvas_effects.specs.Flowing.{Input, no_input, number_input, list_input, id_input, input_flow, given, parent_for}
 use Rattle.canvas_message.specs.steps.Parts.{is_stop}
 use Rattle.canvas_effects.specs.Placing.{last_at, placed, end_place}
-use Rattle.canvas_message.specs.SharedTexts.{AreEnds, AreTexts, SaysCarried, place_behind}
-use Rattle.canvas_message.specs.declared.texts.LineText.{LineText}
-use Rattle.std.specs.declared.sync.Arc.{Arc}
 use Rattle.canvas_effects.specs.steps.Walks.{at_place, member_place, last_of}
 use Rattle.canvas_effects.proofs.FitsOn.{all_true}
 
@@ -490,63 +486,3 @@ place_never (p_step u (p_group_end g ms)) h = refl
 place_never (p_step u (p_chord_end g ms b)) h = place_never (p_chord_end g ms b) h
 place_never (p_group_end g ms) h = refl
 place_never (p_chord_end g ms b) h = place_never b h
-
--- ---- the text of what a place carries
-
-carries_on : (text : List ℕ) (p : PPlace) (l : PLine) → SaysCarried text p → SaysCarried text (end_place (placed p l))
-carries_on text p p_stop h = tt
-carries_on text p (p_step t p_stop) h = h
-carries_on text p (p_step t (p_step u l)) h = carries_on text p (p_step u l) h
-carries_on text p (p_step t (p_group_end g ms)) h = tt
-carries_on text p (p_step t (p_chord_end g ms b)) h = carries_on text p b h
-carries_on text p (p_group_end g ms) h = tt
-carries_on text p (p_chord_end g ms b) h = carries_on text p b h
-
--- of a task that others follow, where the end of the whole goes to p
-pub carried_behind : (text : List ℕ) (p own : PPlace) (l : PLine) → is_stop l ≡ false → SaysCarried text p
-    → SaysCarried text (place_behind own (placed p l))
-carried_behind text p own p_stop stop h = absurd cc
-carried_behind text p own (p_step t l) stop h = carries_on text p (p_step t l) h
-carried_behind text p own (p_group_end g ms) stop h = tt
-carried_behind text p own (p_chord_end g ms b) stop h = carries_on text p b h
-
--- of a line when its next task is taken
-pub place_after : (own : PPlace) (t : PTask) (l : PLine) → place_behind own (p_step t l) ≡ place_behind (place_of t) l
-place_after own t p_stop = refl
-place_after own t (p_step u l) = refl
-place_after own t (p_group_end g ms) = refl
-place_after own t (p_chord_end g ms b) = refl
-
-pub next_end : (text old new : List ℕ) (r : Option ℕ) (t : PTask) (l : PLine) → old ≡ new ++ option_to_list r → (r ≡ None → new ≡ [])
-    → AreEnds text (reverse old) (p_step t l) → AreEnds text (reverse new) l
-next_end text old new None t l is none h = subst (λ es. AreEnds text (reverse es) l) (sym (none refl)) tt
-next_end text old new (Some e) t l is none h =
-    (subst (λ es. AreEnds text es (p_step t l)) (ap reverse is ∙ reverse-append new (e ∷ [])) h).3
-
--- of what a message may hold
-pub behind_all : (o : Option (Arc (String Global) Global)) (p own : PPlace) (l rest : PLine) → is_stop l ≡ false → rest ≡ placed p l
-    → IfSome o (λ t. SaysCarried (string_bytes t.value) p) → IfSome o (λ t. SaysCarried (string_bytes t.value) (place_behind own rest))
-behind_all None p own l rest stop is h = tt
-behind_all (Some t) p own l rest stop is h =
-    subst (λ r. SaysCarried (string_bytes t.value) (place_behind own r)) (sym is) (carried_behind (string_bytes t.value) p own l stop h)
-
-pub at_the_end : (o : Option (Arc (String Global) Global)) (p q : PPlace) → q ≡ p → IfSome o (λ t. SaysCarried (string_bytes t.value) p)
-    → IfSome o (λ t. SaysCarried (string_bytes t.value) (place_behind q p_stop))
-at_the_end None p q is h = tt
-at_the_end (Some t) p q is h = subst (SaysCarried (string_bytes t.value)) (sym is) h
-
-pub texts_next : (line next : Option LineText) (carried : Option (Arc (String Global) Global)) (own : PPlace) (t : PTask) (l : PLine)
-    → (IfSome line (λ x. AreEnds (string_bytes x.text.value) (reverse x.ends.items) (p_step t l))
-    → IfSome next (λ x. AreEnds (string_bytes x.text.value) (reverse x.ends.items) l))
-    → AreTexts (record { line = line; carried = carried }) own (p_step t l) → AreTexts (record { line = next; carried = carried }) (place_of t) l
-texts_next line next carried own t l ends h =
-    record { line = ends h.line; carried = subst (λ q. IfSome carried (λ x. SaysCarried (string_bytes x.value) q)) (place_after own t l) h.carried }
-
-no_items : (xs : List ℕ) → length xs ≡ 0 → xs ≡ []
-no_items [] e = refl
-no_items (x ∷ xs) e = absurd cc
-
-pub nothing_left : (old new : Vec ℕ Global) (r : Option ℕ) → r ≡ None
-    → MatchOption r ((vec_len old ≡ 0) × (vec_len new ≡ 0)) (λ e. vec_len new + 1 ≡ vec_len old) → new.items ≡ []
-nothing_left old new None none h = no_items new.items (omega (arith, h.1, new.ok.0))
-nothing_left old new (Some e) none h = absurd cc

@@ -1,11 +1,12 @@
 //! Where the end of a line goes, with the text of what the place carries.
 
-ghost use Rattle.std.specs.Prelude.{◌≡◌, IfOk};
+ghost use Rattle.std.specs.Prelude.{◌≡◌, IfOk, IfSome};
 ghost use Rattle.canvas_message.specs.MessageView.{place_view};
+ghost use Rattle.canvas_message.specs.SharedTexts.{SaysCarried, inner_place};
 
 use crate::copies::share_place;
 use canvas_codec::carried_text;
-use canvas_message::share_text;
+use canvas_message::{CarriedText, share_text};
 use canvas_rewrite::Place;
 use std::alloc::{AllocError, Global};
 use std::marker::Model;
@@ -15,11 +16,11 @@ use std::sync::Arc;
 #[derive(Drop)]
 pub(crate) struct Destination {
     pub place: Place,
-    pub text: Option<Arc<String>>,
+    pub text: Option<Arc<CarriedText>>,
 }
 
 impl Model for Destination {
-    ghost use Rattle.std.specs.Prelude.{IfSome, string_bytes};
+    ghost use Rattle.std.specs.Prelude.{IfSome};
     ghost use Rattle.canvas_semantics.specs.PlacedLine.{PPlace};
     ghost use Rattle.canvas_message.specs.MessageView.{place_view};
     ghost use Rattle.canvas_message.specs.SharedTexts.{SaysCarried};
@@ -31,16 +32,22 @@ impl Model for Destination {
 
     ghost view = { λ d. place_view d.place };
 
-    ghost invariant = { λ d. IfSome d.text
-        (λ t. SaysCarried (string_bytes t.value) (place_view d.place)) };
+    ghost invariant = { λ d. IfSome d.text (λ t. SaysCarried t.value (place_view d.place)) };
 }
 
 impl Destination {
-    /// A place of members that start now: what it carries is written once for all of them.
-    pub(crate) fn written(alloc: Global, place: Place) -> Result<Destination, AllocError>
+    /// A place of members that start now: what it carries is written once for all of them. `inner`
+    /// is the text of what the end of the carried body carries, where it is known.
+    pub(crate) fn written(
+        alloc: Global,
+        place: Place,
+        inner: &Option<Arc<CarriedText>>,
+    ) -> Result<Destination, AllocError>
+        requires { IfSome inner.now
+            (λ t. SaysCarried t.value (inner_place (place_view place))) }
         ensures { IfOk result (λ d. d ≡ place_view place) }
     {
-        let text = carried_text(alloc, &place)?;
+        let text = carried_text(alloc, &place, inner)?;
         Ok(Destination { place, text })
     }
 

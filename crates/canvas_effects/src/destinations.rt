@@ -1,24 +1,29 @@
 //! Where the end of a line goes, if it goes anywhere.
 
-ghost use Rattle.std.specs.Prelude.{◌≡◌, IfOk, IfSome, string_bytes};
+ghost use Rattle.std.specs.Prelude.{◌≡◌, IfOk, IfSome};
 ghost use Rattle.canvas_message.specs.MessageView.{place_seen};
 ghost use Rattle.canvas_message.specs.SharedTexts.{SaysCarried};
 ghost use Rattle.canvas_rewrite.specs.FrozenView.{place_or};
 
 use crate::copies::share_place;
 use crate::destination::Destination;
+use canvas_message::{CarriedText, share_text};
 use canvas_rewrite::Place;
 use std::alloc::AllocError;
 use std::sync::Arc;
 
-/// The place that a task says, of which no text is known.
-pub(crate) fn unwritten(place: &Option<Place>) -> Result<Option<Destination>, AllocError>
+/// The place that a task says, with the text of what it carries where this is known.
+pub(crate) fn with_text(
+    place: &Option<Place>,
+    text: Option<Arc<CarriedText>>,
+) -> Result<Option<Destination>, AllocError>
+    requires { IfSome text (λ t. SaysCarried t.value (place_seen place.now)) }
     ensures { IfOk result (λ d. place_or d ≡ place_seen place.now) }
 {
     match place {
         Some(place) => {
             let place = share_place(place)?;
-            Ok(Some(Destination { place, text: None }))
+            Ok(Some(Destination { place, text }))
         }
         None => Ok(None),
     }
@@ -47,13 +52,25 @@ pub(crate) fn place_at(destination: &Option<Destination>) -> Result<Option<Place
 }
 
 /// The place and the text.
-pub(crate) fn parts(destination: Option<Destination>) -> (Option<Place>, Option<Arc<String>>)
+pub(crate) fn parts(destination: Option<Destination>) -> (Option<Place>, Option<Arc<CarriedText>>)
     ensures place { place_seen result.0 ≡ place_or destination }
-    ensures text { IfSome result.1
-        (λ t. SaysCarried (string_bytes t.value) (place_or destination)) }
+    ensures text { IfSome result.1 (λ t. SaysCarried t.value (place_or destination)) }
 {
     match destination {
         Some(Destination { place, text }) => (Some(place), text),
         None => (None, None),
+    }
+}
+
+/// The text of what the place carries, where it is known.
+pub(crate) fn text_at(
+    destination: &Option<Destination>,
+) -> Result<Option<Arc<CarriedText>>, AllocError>
+    ensures { IfOk result
+        (λ text. IfSome text (λ t. SaysCarried t.value (place_or destination.now))) }
+{
+    match destination {
+        Some(destination) => share_text(&destination.text),
+        None => Ok(None),
     }
 }

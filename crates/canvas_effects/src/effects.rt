@@ -1,6 +1,6 @@
 //! What the start of a plan, the end of a task and the end of a header's members make a worker do.
 
-ghost use Rattle.std.specs.Prelude.{◌≡◌, ◌++◌, true, None, IfOk, OnOk, All};
+ghost use Rattle.std.specs.Prelude.{◌≡◌, ◌++◌, true, None, IfOk, IfSome, OnOk, All};
 ghost use Rattle.std.specs.Option.{option_map};
 ghost use Rattle.canvas_task.specs.Numbers.{in_range};
 ghost use Rattle.canvas_task.specs.Apply.{IsInRange};
@@ -9,6 +9,7 @@ ghost use Rattle.canvas_effects.specs.Carrying.{is_whole, place_stands, carried_
 ghost use Rattle.canvas_message.specs.Content.{number_of, links_of, errbacks_of};
 ghost use Rattle.canvas_effects.specs.Effects.{first_messages, after, called, body_after, enter, effect_of, stores_in, messages_in, part_in, part_of};
 ghost use Rattle.canvas_message.specs.MessageView.{carried_view, place_seen};
+ghost use Rattle.canvas_message.specs.SharedTexts.{SaysCarried};
 ghost use Rattle.canvas_message.specs.Fits.{parent_ok};
 ghost use Rattle.canvas_effects.specs.Flowing.{run, raise, list_input};
 ghost use Rattle.canvas_effects.specs.Ordered.{in_order};
@@ -24,10 +25,10 @@ mod raised;
 mod skipped;
 mod started;
 
-use crate::destinations::unwritten;
+use crate::destinations::with_text;
 use crate::input::Input;
 use crate::{PartCall, Todo};
-use canvas_message::{Message, following, share_carried};
+use canvas_message::{CarriedText, Message, following, share_carried, share_text};
 use canvas_rewrite::{Carried, FrozenLine, Place, Plan};
 use canvas_task::{Fault, ListOf, Memory, Outcome, TaskNo};
 use header::{failure_of, numbers_of};
@@ -38,13 +39,21 @@ use raised::raise_line;
 use skipped::skip_line;
 use started::{call_back, start_line};
 use std::alloc::{AllocError, Global};
+use std::sync::Arc;
 
 /// The messages that a run begins with.
 pub fn first_messages(alloc: Global, plan: &Plan) -> Result<Vec<Message>, Memory>
     ensures { IfOk result (λ messages. messages.items ≡ first_messages plan.now) }
 {
     let mut messages = Vec::new(alloc);
-    start_whole(alloc, plan.line(), &Input::Nothing, &None, &mut messages)?;
+    start_whole(
+        alloc,
+        plan.line(),
+        &Input::Nothing,
+        &None,
+        None,
+        &mut messages,
+    )?;
     sort_messages(&mut messages)?;
     Ok(messages)
 }
@@ -60,7 +69,15 @@ pub fn after(alloc: Global, message: &Message, outcome: &Outcome) -> Result<Todo
         Some(rest) => match outcome {
             Outcome::Success(number) => {
                 let input = Input::Number(*number);
-                start_whole(alloc, rest, &input, &Some(message.task), &mut messages)?;
+                let text = share_text(&message.texts.carried)?;
+                start_whole(
+                    alloc,
+                    rest,
+                    &input,
+                    &Some(message.task),
+                    text,
+                    &mut messages,
+                )?;
                 Ok(todo_of(stores, messages, None)?)
             }
             Outcome::Failure(fault) => {
@@ -134,7 +151,7 @@ fn start_body(alloc: Global, body: &FrozenLine, input: &Input) -> Result<Todo, A
         (end_place (p_line_view body.now)) 0 None)) }
 {
     let mut messages = Vec::new(alloc);
-    start_whole(alloc, body, input, &None, &mut messages)?;
+    start_whole(alloc, body, input, &None, None, &mut messages)?;
     todo_of(Vec::new(alloc), messages, None)
 }
 
@@ -152,15 +169,18 @@ fn raise_body(alloc: Global, body: &FrozenLine, fault: &Fault) -> Result<Todo, A
 }
 
 /// The messages that a line begins with whose end goes where its last task says, put behind the
-/// others.
+/// others. `text` is that of what the end carries, where it is known.
 fn start_whole(
     alloc: Global,
     line: &FrozenLine,
     input: &Input,
     parent: &Option<TaskNo>,
+    text: Option<Arc<CarriedText>>,
     messages: &mut Vec<Message>,
 ) -> Result<(), AllocError>
     requires line { is_whole (p_line_view line.now) ≡ true }
+    requires text { IfSome text
+        (λ t. SaysCarried t.value (end_place (p_line_view line.now))) }
     requires input { input_ok (input_seen input.now) ≡ true }
     requires parent { parent_ok parent.now ≡ true }
     ensures { OnOk result (messages.new.items
@@ -170,7 +190,7 @@ fn start_whole(
 {
     match last_task(line) {
         Some(last) => {
-            let place = unwritten(&last.place)?;
+            let place = with_text(&last.place, text)?;
             start_line(alloc, line, place, input, parent, messages)
         }
         None => start_line(alloc, line, None, input, parent, messages),

@@ -13,7 +13,15 @@ use Rattle.canvas_task.proofs.number.TaskNo.TheSendSync.{the_send as task_send, 
 use Rattle.canvas_task.proofs.text_of.TextOf.TheSendSync.{the_send as text_send, the_sync as text_sync}
 use Rattle.canvas_message.specs.contracts.letter.Letter as Letter
 use Rattle.canvas_message.specs.contracts.message.Message as Message
+use Rattle.canvas_message.proofs.carried_text.CarriedText.TheSendSync.{the_send as carried_send, the_sync as carried_sync}
+use Rattle.canvas_message.proofs.carried_text.Ring.TheSendSync.{the_send as ring_send, the_sync as ring_sync}
+use Rattle.canvas_message.proofs.pieces.LinePiece.TheSendSync.{the_send as line_piece_send}
+use Rattle.canvas_message.proofs.pieces.Piece.TheSendSync.{the_send as piece_send}
+use Rattle.canvas_message.proofs.pieces.Pieces.TheSendSync.{the_send as pieces_send}
 use Rattle.canvas_message.proofs.pieces.Sheets.TheSendSync.{the_send as sheets_send}
+use Rattle.canvas_message.proofs.texts.ElementsText.TheSendSync.{the_send as elements_send, the_sync as elements_sync}
+use Rattle.canvas_message.proofs.texts.Head.TheSendSync.{the_send as head_send, the_sync as head_sync}
+use Rattle.canvas_message.proofs.texts.LineText.TheSendSync.{the_send as line_text_send}
 use Rattle.canvas_message.proofs.texts.Texts.TheSendSync.{the_send as texts_send}
 
 ruleset plain = (
@@ -42,8 +50,25 @@ line = search (both_send-FrozenLine, plain) depth 20
 place : IsSend Place.the_row
 place = search (both_send-Place, plain) depth 20
 
+ruleset written = (
+  carried_send,
+  carried_sync,
+  ring_send,
+  ring_sync,
+  head_send,
+  head_sync,
+  elements_send,
+  elements_sync,
+  line_text_send,
+  texts_send,
+  line_piece_send,
+  piece_send,
+  pieces_send,
+  sheets_send,
+)
+
 message : IsSend Message.the_row
-message = search (task, line, place, texts_send, plain) depth 40 fits 100000
+message = search (task, line, place, written, plain) depth 40 fits 100000
 
 pub letter : IsSend Letter.the_row
-letter = search (message, sheets_send, plain) depth 40 fits 100000
+letter = search (message, written, plain) depth 40 fits 100000

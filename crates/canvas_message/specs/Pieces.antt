@@ -1,13 +1,21 @@
 -- An envelope whose body has a piece that is shared.
 use Rattle.std.specs.Prelude.{ℕ, ◌-◌, List, [], ◌++◌, take, drop, Option, Some, None, string_bytes}
+use Rattle.canvas_message.specs.SharedTexts.{carried_bytes, head_text}
 use Rattle.canvas_message.specs.declared.envelope.Envelope.{Envelope}
-use Rattle.canvas_message.specs.declared.texts.Piece.{Piece}
+use Rattle.canvas_message.specs.declared.pieces.LinePiece.{LinePiece}
+use Rattle.canvas_message.specs.declared.pieces.Piece.{Piece}
+use Rattle.canvas_message.specs.declared.pieces.Piece.TheVariants as pieces
 use Rattle.canvas_message.specs.declared.pieces.Pieces.{Pieces}
 use Rattle.canvas_message.specs.declared.pieces.Sheets.{Sheets}
 use Rattle.canvas_message.specs.declared.pieces.Sheets.TheVariants as sheets
 
+-- the head, and so much of what stands behind it
+abbrev pub line_piece_text : LinePiece → List ℕ
+line_piece_text p = head_text p.text.value.head ++ take p.end (string_bytes p.text.value.own)
+
 abbrev pub piece_text : Piece → List ℕ
-piece_text p = take p.end (string_bytes p.text.value)
+piece_text (pieces.Carried t) = carried_bytes t.value
+piece_text (pieces.Line p) = line_piece_text p
 
 abbrev pub shared_text : Option Piece → List ℕ
 shared_text None = []

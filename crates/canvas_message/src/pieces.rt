@@ -1,12 +1,31 @@
 //! The three texts of a message, the body of which may share a piece with others.
 
 ghost use Rattle.std.specs.Prelude.{◌≡◌, ◌++◌, IfOk, OnOk, take, drop};
-ghost use Rattle.canvas_message.specs.Pieces.{body_text, envelope_seen, joined, piece_text, shared_text};
+ghost use Rattle.canvas_message.specs.Pieces.{body_text, envelope_seen, joined, line_piece_text, piece_text, shared_text};
+ghost use Rattle.canvas_message.specs.SharedTexts.{head_text};
 
-use crate::{Envelope, Piece};
+use crate::{CarriedText, ElementsText, Envelope, Head};
 use canvas_task::{ListOf, Memory};
 use std::alloc::{AllocError, Global};
 use std::sync::Arc;
+
+/// The text of a line's elements, up to the end of one of them.
+#[derive(Debug, Drop)]
+pub struct LinePiece {
+    /// The text that the messages of the line share.
+    pub text: Arc<ElementsText>,
+    /// How many of the bytes behind its head belong to the piece.
+    pub end: usize,
+}
+
+/// A text that several bodies hold.
+#[derive(Debug, Drop)]
+pub enum Piece {
+    /// Of the body that a place carries.
+    Carried(Arc<CarriedText>),
+    /// Of what follows on a line.
+    Line(LinePiece),
+}
 
 /// An envelope whose body is the front, then the shared piece, then the back. What isn't shared
 /// stands in one text as far as it can, which is one piece of memory.
@@ -47,21 +66,72 @@ fn copy_bytes(alloc: Global, bytes: &[u8]) -> Result<ListOf<u8>, AllocError>
     Ok(ListOf::of(copy))
 }
 
-impl Piece {
-    /// The bytes of the piece.
-    fn bytes(&self) -> &[u8]
-        ensures { result.now ≡ piece_text self.now }
+fn put_head(body: &mut Vec<u8>, head: &Option<Head>) -> Result<(), AllocError>
+    ensures { OnOk result (body.new.items ≡ body.old.items ++ head_text head.now) }
+{
+    match head {
+        Some(head) => {
+            body.extend_from_slice(head.before.as_bytes())?;
+            head.carried.put(body)
+        }
+        None => Ok(()),
+    }
+}
+
+fn head_room(head: &Option<Head>) -> usize {
+    match head {
+        Some(head) => head.before.len().saturating_add(head.carried.room()),
+        None => 0,
+    }
+}
+
+impl LinePiece {
+    fn put(&self, body: &mut Vec<u8>) -> Result<(), AllocError>
+        ensures { OnOk result (body.new.items ≡ body.old.items ++ line_piece_text self.now) }
     {
-        up_to(self.text.as_bytes(), self.end)
+        put_head(body, &self.text.head)?;
+        body.extend_from_slice(up_to(self.text.own.as_bytes(), self.end))
+    }
+
+    fn room(&self) -> usize {
+        head_room(&self.text.head).saturating_add(self.end)
+    }
+
+    fn copy(&self) -> Result<LinePiece, AllocError>
+        ensures { IfOk result (λ p. line_piece_text p ≡ line_piece_text self.now) }
+    {
+        Ok(LinePiece {
+            text: Arc::try_clone(&self.text)?,
+            end: self.end,
+        })
+    }
+}
+
+impl Piece {
+    fn put(&self, body: &mut Vec<u8>) -> Result<(), AllocError>
+        ensures { OnOk result (body.new.items ≡ body.old.items ++ piece_text self.now) }
+    {
+        match self {
+            Piece::Carried(text) => text.put(body),
+            Piece::Line(piece) => piece.put(body),
+        }
+    }
+
+    /// How many bytes it has.
+    fn room(&self) -> usize {
+        match self {
+            Piece::Carried(text) => text.room(),
+            Piece::Line(piece) => piece.room(),
+        }
     }
 
     fn copy(&self) -> Result<Piece, AllocError>
         ensures { IfOk result (λ p. piece_text p ≡ piece_text self.now) }
     {
-        Ok(Piece {
-            text: Arc::try_clone(&self.text)?,
-            end: self.end,
-        })
+        match self {
+            Piece::Carried(text) => Ok(Piece::Carried(Arc::try_clone(text)?)),
+            Piece::Line(piece) => Ok(Piece::Line(piece.copy()?)),
+        }
     }
 }
 
@@ -77,7 +147,7 @@ fn copy_piece(piece: &Option<Piece>) -> Result<Option<Piece>, AllocError>
 /// How many bytes a piece has.
 fn room(piece: &Option<Piece>) -> usize {
     match piece {
-        Some(piece) => piece.end,
+        Some(piece) => piece.room(),
         None => 0,
     }
 }
@@ -86,7 +156,7 @@ fn put_piece(body: &mut Vec<u8>, piece: &Option<Piece>) -> Result<(), AllocError
     ensures { OnOk result (body.new.items ≡ body.old.items ++ shared_text piece.now) }
 {
     match piece {
-        Some(piece) => body.extend_from_slice(piece.bytes()),
+        Some(piece) => piece.put(body),
         None => Ok(()),
     }
 }

@@ -3,17 +3,38 @@
 ghost use Rattle.std.specs.Prelude.{◌≡◌, IfOk, None};
 ghost use Rattle.std.specs.Option.{option_map};
 
+use crate::CarriedText;
 use std::alloc::AllocError;
 use std::sync::Arc;
+
+/// The front of a text, up to and with another that it shares.
+#[derive(Debug, Drop)]
+pub struct Head {
+    /// What stands before the other.
+    pub before: String,
+    /// The other: the text of the body that the place at the end of the line carries.
+    pub carried: Arc<CarriedText>,
+}
+
+/// The elements of a line, its last element first, with a comma between two. The last element may
+/// hold the text of a carried body.
+#[derive(Debug, Drop)]
+pub struct ElementsText {
+    /// The text up to and with that of the carried body, where it is shared.
+    pub head: Option<Head>,
+    /// What stands behind the head.
+    pub own: String,
+}
 
 /// The text of all that follows on a line, its last element first, without the brackets of the
 /// list. What is left when the line's next task is taken is the text up to an earlier end, so that
 /// the messages of a line share one text.
 #[derive(Drop)]
 pub struct LineText {
-    /// The elements, with a comma between two.
-    pub text: Arc<String>,
-    /// Where each element of what still follows ends, in bytes: that of the next one stands last.
+    /// The elements.
+    pub text: Arc<ElementsText>,
+    /// Where each element of what still follows ends, in bytes behind the head: that of the next
+    /// one stands last.
     pub ends: Vec<usize>,
 }
 
@@ -24,7 +45,7 @@ pub struct Texts {
     /// Of what follows on its line.
     pub line: Option<LineText>,
     /// Of the body that the place at the end of its line carries.
-    pub carried: Option<Arc<String>>,
+    pub carried: Option<Arc<CarriedText>>,
 }
 
 impl Texts {
@@ -40,17 +61,8 @@ impl Texts {
     }
 }
 
-/// A text that is shared, up to a byte.
-#[derive(Debug, Drop)]
-pub struct Piece {
-    /// The text that others share.
-    pub text: Arc<String>,
-    /// How many of its bytes belong to the piece.
-    pub end: usize,
-}
-
 /// The same text once more.
-pub fn share_text(text: &Option<Arc<String>>) -> Result<Option<Arc<String>>, AllocError>
+pub fn share_text(text: &Option<Arc<CarriedText>>) -> Result<Option<Arc<CarriedText>>, AllocError>
     ensures { IfOk result
         (λ same. option_map (λ t. t.value) same ≡ option_map (λ t. t.value) text.now) }
 {

@@ -1,15 +1,16 @@
 //! The body of a message: a text of its own, and a piece that it shares with other messages.
 
-ghost use Rattle.std.specs.Prelude.{◌≡◌, ◌++◌, IfOk, IfSome, MatchOption, None, Some, map, reverse, string_bytes};
+ghost use Rattle.std.specs.Prelude.{◌≡◌, ◌++◌, IfOk, IfSome, MatchOption, None, Some, map, string_bytes};
 ghost use Rattle.std.specs.Str.{IsUtf8};
 ghost use Rattle.serde_json.specs.Data.{Items, Data, array, null};
 ghost use Rattle.serde_json.specs.Written.{compact_text};
 ghost use Rattle.canvas_task.specs.Entries.{named};
 ghost use Rattle.canvas_sig.specs.Writing.{args_wire, kwargs_wire};
 ghost use Rattle.canvas_rewrite.specs.FrozenView.{p_tasks_of, p_task_view, p_line_view};
-ghost use Rattle.canvas_message.specs.MessageView.{place_seen};
+ghost use Rattle.canvas_message.specs.Content.{end_place};
+ghost use Rattle.canvas_message.specs.MessageView.{place_seen, place_view};
 ghost use Rattle.canvas_message.specs.Pieces.{piece_text, shared_text};
-ghost use Rattle.canvas_message.specs.SharedTexts.{AreEnds, IsListed, SaysCarried, backwards};
+ghost use Rattle.canvas_message.specs.SharedTexts.{IsLineText, IsListed, SaysCarried, backwards, carried_bytes};
 ghost use Rattle.canvas_message.specs.Wire.{carried_wire, tasks_wire, list_or_null, body_wire};
 ghost use Rattle.canvas_codec.specs.steps.Texts.{Adds, opening_text, behind_text, closing_text};
 
@@ -19,7 +20,7 @@ use super::light::put_arguments;
 use super::line_text::line_text;
 use super::text::put;
 use crate::room::{own_room, tasks_room};
-use canvas_message::{LineText, Message, Piece, Texts, following};
+use canvas_message::{CarriedText, LinePiece, LineText, Message, Piece, Texts, following};
 use canvas_rewrite::{FrozenLine, FrozenTask, Place};
 use canvas_task::Arg;
 use json::Writer;
@@ -90,50 +91,67 @@ fn put_closing(alloc: Global, out: &mut String, errbacks: &[FrozenTask]) -> Resu
 
 /// The text of what follows, without its brackets.
 fn rest_piece(alloc: Global, texts: &Texts, rest: &FrozenLine) -> Result<Piece, AllocError>
-    requires { IfSome texts.now.line (λ t. AreEnds (string_bytes t.text.value)
-        (reverse t.ends.items) (p_line_view rest.now)) }
+    requires line { IfSome texts.now.line (λ t. IsLineText t (p_line_view rest.now)) }
+    requires carried { IfSome texts.now.carried
+        (λ t. SaysCarried t.value (end_place (p_line_view rest.now))) }
     ensures value { IfOk result
         (λ p. IsListed (piece_text p) (backwards (p_line_view rest.now))) }
     ensures utf8 { IfOk result (λ p. IsUtf8 (piece_text p)) }
 {
     if let Some(known) = &texts.line {
-        if let Some(end) = known.ends.last() {
+        if let Some((end, _before)) = known.ends.split_last() {
             let text = Arc::try_clone(&known.text)?;
-            return Ok(Piece { text, end: *end });
+            return Ok(Piece::Line(LinePiece { text, end: *end }));
         }
     }
-    let LineText { text, .. } = line_text(alloc, rest)?;
-    let end = text.len();
-    Ok(Piece { text, end })
+    let LineText { text, .. } = line_text(alloc, rest, &texts.carried)?;
+    let end = text.own.len();
+    Ok(Piece::Line(LinePiece { text, end }))
 }
 
 /// The text of the body that a place carries, if it carries one.
+fn text_of(
+    alloc: Global,
+    place: &Place,
+    known: &Option<Arc<CarriedText>>,
+) -> Result<Option<Arc<CarriedText>>, AllocError>
+    requires { IfSome known.now (λ t. SaysCarried t.value (place_view place.now)) }
+    ensures { IfOk result (λ o. MatchOption o (carried_wire (place_view place.now) ≡ null)
+        (λ t. carried_bytes t.value ≡ compact_text (carried_wire (place_view place.now)))) }
+{
+    match &place.chord {
+        Some(carried) => match known {
+            Some(text) => {
+                let text = Arc::try_clone(text)?;
+                Ok(Some(text))
+            }
+            None => {
+                let text = body_text(alloc, carried, &None)?;
+                Ok(Some(Arc::new(alloc, text)?))
+            }
+        },
+        None => Ok(None),
+    }
+}
+
+/// The same as a piece of a body.
+#[tactic(auto, using(crate::proofs::PieceTexts::carried_utf8))]
 fn carried_piece(
     alloc: Global,
     place: &Option<Place>,
-    known: &Option<Arc<String>>,
+    known: &Option<Arc<CarriedText>>,
 ) -> Result<Option<Piece>, AllocError>
-    requires { IfSome known.now
-        (λ t. SaysCarried (string_bytes t.value) (place_seen place.now)) }
+    requires { IfSome known.now (λ t. SaysCarried t.value (place_seen place.now)) }
     ensures value { IfOk result (λ o. MatchOption o (carried_wire (place_seen place.now) ≡ null)
         (λ p. piece_text p ≡ compact_text (carried_wire (place_seen place.now)))) }
     ensures utf8 { IfOk result (λ o. IfSome o (λ p. IsUtf8 (piece_text p))) }
 {
     match place {
-        Some(
-            Place {
-                chord: Some(carried),
-                ..
-            },
-        ) => {
-            let text = match known {
-                Some(text) => Arc::try_clone(text)?,
-                None => Arc::new(alloc, body_text(alloc, carried)?)?,
-            };
-            let end = text.len();
-            Ok(Some(Piece { text, end }))
-        }
-        _ => Ok(None),
+        Some(place) => match text_of(alloc, place, known)? {
+            Some(text) => Ok(Some(Piece::Carried(text))),
+            None => Ok(None),
+        },
+        None => Ok(None),
     }
 }
 

@@ -51,7 +51,7 @@ pub(super) fn write_tasks(out: &mut Writer, tasks: &[FrozenTask]) -> Result<(), 
 }
 
 #[cycle(write_task)]
-fn write_links(out: &mut Writer, task: &FrozenTask) -> Result<(), AllocError>
+pub(super) fn write_links(out: &mut Writer, task: &FrozenTask) -> Result<(), AllocError>
     ensures { Appends result out.old out.new
         (links_tokens (links_wire (p_task_view task.now)) (errbacks_wire (p_task_view task.now))) }
 {
@@ -74,7 +74,7 @@ fn write_chord_option(out: &mut Writer, place: &Place) -> Result<(), AllocError>
     }
 }
 
-fn write_group_option(out: &mut Writer, group: GroupNo) -> Result<(), AllocError>
+pub(super) fn write_group_option(out: &mut Writer, group: GroupNo) -> Result<(), AllocError>
     ensures { Appends result out.old out.new (named_tokens (codes "group_id") (group_id group)) }
 {
     out.key("group_id")?;
@@ -134,7 +134,7 @@ pub(super) fn write_task(
 }
 
 #[cycle(write_task)]
-fn write_each(out: &mut Writer, tasks: &[FrozenTask]) -> Result<(), AllocError>
+pub(super) fn write_each(out: &mut Writer, tasks: &[FrozenTask]) -> Result<(), AllocError>
     ensures { Appends result out.old out.new (each_tokens (map p_task_view tasks.now)) }
 {
     for task in tasks {
@@ -238,7 +238,7 @@ fn write_members(out: &mut Writer, name: &str, lines: &[FrozenLine]) -> Result<(
 
 /// The members of a group or chord, and what stands behind them.
 #[cycle(write_task)]
-fn write_rest(
+pub(super) fn write_rest(
     out: &mut Writer,
     end: &FrozenEnd,
     name: &str,

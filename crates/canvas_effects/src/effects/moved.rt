@@ -1,7 +1,7 @@
 //! What follows a message that is given up: the next task of its line, or the part that its end
 //! returns, takes over what it carries.
 
-ghost use Rattle.std.specs.Prelude.{◌≡◌, true, false, IfOk, MatchBool, MatchOption, reverse, string_bytes};
+ghost use Rattle.std.specs.Prelude.{◌≡◌, true, false, IfOk, MatchBool, MatchOption};
 ghost use Rattle.std.specs.Option.{option_map};
 ghost use Rattle.canvas_task.specs.Numbers.{in_range};
 ghost use Rattle.canvas_task.specs.Apply.{IsInRange};
@@ -11,7 +11,7 @@ ghost use Rattle.canvas_semantics.specs.PlacedLine.{PLine, PPlace, PTask, p_step
 ghost use Rattle.canvas_effects.specs.Carrying.{place_stands};
 ghost use Rattle.canvas_effects.specs.Effects.{after, message, part_in, part_of};
 ghost use Rattle.canvas_message.specs.Content.{number_of, place_of};
-ghost use Rattle.canvas_message.specs.SharedTexts.{AreEnds, AreTexts};
+ghost use Rattle.canvas_message.specs.SharedTexts.{AreTexts, IsLineText};
 ghost use Rattle.canvas_message.specs.Fits.{fits};
 ghost use Rattle.canvas_effects.specs.Todos.{part_view, todo_view};
 ghost use Rattle.canvas_message.specs.MessageView.{place_seen, rest_seen};
@@ -109,8 +109,7 @@ fn task_and_rest(message: Message) -> (TaskNo, Option<FrozenLine>, Texts)
 /// The text of a line, when its next task is taken: its front, up to an earlier end.
 fn text_behind(text: LineText) -> LineText
     ensures { (t : PTask) (rest : PLine)
-        → AreEnds (string_bytes text.text.value) (reverse text.ends.items) (p_step t rest)
-        → AreEnds (string_bytes result.text.value) (reverse result.ends.items) rest }
+        → IsLineText text (p_step t rest) → IsLineText result rest }
 {
     let LineText { text, ends } = text;
     let mut ends = ends;

@@ -1,6 +1,6 @@
 //! Lines that are started: the messages of their first tasks.
 
-ghost use Rattle.std.specs.Prelude.{◌≡◌, ◌++◌, true, false, IfOk, IfSome, OnOk, map, if◌then◌else◌, string_bytes};
+ghost use Rattle.std.specs.Prelude.{◌≡◌, ◌++◌, true, false, IfOk, IfSome, OnOk, map, if◌then◌else◌};
 ghost use Rattle.canvas_semantics.specs.Evaluation.{arguments, value};
 ghost use Rattle.canvas_semantics.specs.PlacedLine.{PLine, PPlace};
 ghost use Rattle.canvas_rewrite.specs.FrozenView.{p_tasks_of, p_steps, place_or, p_task_view, p_line_view, p_end_view};
@@ -17,10 +17,10 @@ ghost use Rattle.canvas_effects.specs.steps.Walks.{input_seen, tail_seen, at_pla
 
 use crate::copies::{copy_task, share_if_some};
 use crate::destination::Destination;
-use crate::destinations::{parts, place_at, share_destination};
+use crate::destinations::{parts, place_at, share_destination, text_at};
 use crate::input::Input;
 use crate::placing::{place_line, place_rest};
-use canvas_message::{Message, Texts};
+use canvas_message::{CarriedText, Message, Texts};
 use canvas_rewrite::{Carried, FrozenEnd, FrozenLine, FrozenTask, Place};
 use canvas_task::{Arg, ListOf, TaskNo};
 use std::alloc::{AllocError, Global};
@@ -150,9 +150,9 @@ fn is_at_end(tasks: &[FrozenTask], tail: &Option<Box<FrozenEnd>>) -> bool
 }
 
 /// What is written of what a message carries to the end of its line.
-fn texts_of(carried: Option<Arc<String>>) -> Texts
+fn texts_of(carried: Option<Arc<CarriedText>>) -> Texts
     ensures { (place : PPlace) (rest : PLine)
-        → IfSome carried (λ t. SaysCarried (string_bytes t.value) (place_behind place rest))
+        → IfSome carried (λ t. SaysCarried t.value (place_behind place rest))
         → AreTexts result place rest }
 {
     Texts {
@@ -311,8 +311,9 @@ fn start_members(
         ++ all_started (map p_line_view members.now) (input_seen input.now)
         (member_place (p_end_view end.now) (place_or place.now)) parent.now) }
 {
+    let outer = text_at(place)?;
     let place = member_place(alloc, end, place)?;
-    let shared = Destination::written(alloc, place)?;
+    let shared = Destination::written(alloc, place, &outer)?;
     messages.reserve(members.len())?;
     start_each(alloc, members, &shared, input, parent, messages)
 }

@@ -1,15 +1,17 @@
 use Rattle.std.proofs.Common.{rules, ◌≡◌, ◌∙◌, ◌++◌, true, Some, sym, ap, ap₂, refl, w64}
 use Rattle.std.proofs.lemmas.Int.{to_z-of_z}
 use Rattle.canvas_rewrite.specs.FrozenView.{p_line_view}
-use Rattle.canvas_semantics.specs.PlacedLine.{p_stop}
+use Rattle.canvas_semantics.specs.PlacedLine.{PPlace, p_stop}
 use Rattle.canvas_message.specs.Content.{number_of, links_of, errbacks_of, place_of}
 use Rattle.canvas_message.specs.Fits.{fits}
-use Rattle.canvas_message.specs.MessageView.{place_seen}
+use Rattle.canvas_message.specs.MessageView.{place_seen, rest_seen}
+use Rattle.canvas_message.specs.SharedTexts.{place_behind}
 use Rattle.canvas_effects.specs.Effects.{after, called, messages_in, part_in, part_of}
 use Rattle.canvas_effects.specs.Flowing.{number_input}
 use Rattle.canvas_effects.specs.Placing.{end_place}
 use Rattle.canvas_effects.specs.steps.Walks.{started}
 use Rattle.canvas_effects.proofs.Ended.{rest_stands, succeeded, failed, ended_last}
+use Rattle.canvas_effects.proofs.Sharing.{of_shared, of_same, place_at_end}
 use Rattle.canvas_effects.proofs.effects.after.Goals as goal
 
 pub start_whole-requires-clause-line : goal.start_whole-requires-clause-line
@@ -17,6 +19,15 @@ start_whole-requires-clause-line c =
     let whole : fits c.args.message.now ≡ true = search rules in
     let rest : c.args.message.now.rest ≡ p_line_view c.in-Some.rest.now = search rules in
     rest_stands c.args.message.now (p_line_view c.in-Some.rest.now) whole rest c.in-Some.ensures.1
+
+pub start_whole-requires-clause-text : goal.start_whole-requires-clause-text
+start_whole-requires-clause-text c =
+    let m = c.message.inside in
+    let place : PPlace = place_seen m.place in
+    let rest : rest_seen m.rest ≡ p_line_view c.in-Some.rest.now = search rules in
+    of_shared m.texts.carried c.in_ok-text-in-Success.text (end_place (p_line_view c.in-Some.rest.now)) c.in_ok-text-in-Success.ensures
+    (of_same m.texts.carried _ _ (ap (place_behind place) rest ∙ place_at_end place (p_line_view c.in-Some.rest.now) c.in-Some.ensures.1)
+    c.message.invariant.1.carried)
 
 pub last_part-requires : goal.last_part-requires
 last_part-requires c =

@@ -5,7 +5,12 @@ use Rattle.canvas_effects.specs.Carrying.{can_stand}
 use Rattle.canvas_effects.specs.steps.Walks.{input_seen, started}
 use Rattle.canvas_effects.proofs.Standing.{stands_there, place_never}
 use Rattle.canvas_effects.proofs.Ended.{last_there_place}
+use Rattle.canvas_effects.proofs.Sharing.{of_same}
 use Rattle.canvas_effects.proofs.effects.start_whole.Goals as goal
+
+pub with_text-requires : goal.with_text-requires
+with_text-requires c =
+    of_same c.args.text _ _ (sym (last_there_place (p_line_view c.args.line.now) c.in-Some.last.now c.in-Some.ensures)) c.requires.text
 
 pub start_line-requires-clause-line : goal.start_line-requires-clause-line
 start_line-requires-clause-line c =

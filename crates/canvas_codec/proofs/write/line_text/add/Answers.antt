@@ -7,11 +7,11 @@ use Rattle.canvas_codec.proofs.Listing.{grown, put_behind, printed}
 use Rattle.canvas_codec.proofs.write.line_text.add.Goals as goal
 
 pub returns : goal.returns
-returns c line h =
+returns c head line h =
     let d = task_wire None (p_task_view c.args.task.now) in
     let ends = c.args.listed.ends in
     let many : vec_len ends ≡ length ends.items = omega (arith, ends.ok.0) in
-    grown c.args.listed.text.items ends.items (p_task_view c.args.task.now) line _ c.put_comma.new.text.items c.into_inner-text.result.items
+    grown head c.args.listed.text.items ends.items (p_task_view c.args.task.now) line _ c.put_comma.new.text.items c.into_inner-text.result.items
     c.push.new.self.items c.len.result h
     (ap not (c.is_empty.ensures ∙ ap (λ n. n == 0) many)) c.in_ok-put_comma.ensures
     (put_behind d c.new-out.result c.write_task.new.out c.into_inner-text.result.items c.put_comma.new.text.items c.new-out.ensures.before

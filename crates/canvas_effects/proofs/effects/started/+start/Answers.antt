@@ -6,6 +6,7 @@ use Rattle.canvas_rewrite.specs.FrozenView.{place_or}
 use Rattle.canvas_effects.specs.Flowing.{list_input}
 use Rattle.canvas_effects.specs.steps.Walks.{input_seen, started, all_started}
 use Rattle.canvas_effects.proofs.Begun.{group_started, header_started, empty_started}
+use Rattle.canvas_effects.proofs.Sharing.{of_members}
 use Rattle.canvas_effects.proofs.Walked.{put_on, put_all, stand_on}
 use Rattle.canvas_effects.proofs.effects.started.+start.Goals as goal
 
@@ -28,6 +29,10 @@ start_end-returns-in-None t c =
     ok_same _ _ _ _ (ap (λ ms. c.args.messages.now.items ++ ms)
     (group_started c.args.end.now (input_seen c.args.input.now) (place_or c.args.place.now) c.args.parent.now _ c.in-None.is
     c.standing_members-members.ensures.value)) c.start_members-in-None.ensures
+
+pub start_members-written-requires : goal.start_members-written-requires
+start_members-written-requires t c =
+    of_members c.in_ok-outer.outer c.args.end.now (place_or c.args.place.now) _ c.in_ok-place.ensures c.in_ok-outer.ensures
 
 pub start_members-returns : goal.start_members-returns
 start_members-returns t c =

@@ -8,7 +8,7 @@ use Rattle.canvas_effects.specs.Placing.{placed}
 use Rattle.canvas_rewrite.specs.FrozenView.{place_or}
 use Rattle.canvas_effects.specs.steps.Walks.{input_seen, tail_seen, first_message}
 use Rattle.canvas_effects.proofs.Begun.{stops_there, followed_fits, followed_is}
-use Rattle.canvas_effects.proofs.Standing.{behind_all, at_the_end}
+use Rattle.canvas_effects.proofs.Sharing.{behind_all, at_the_end}
 use Rattle.canvas_effects.proofs.effects.started.first_message.Goals as goal
 
 pub message_of-requires-clause-fits : goal.message_of-requires-clause-fits

@@ -1,0 +1,120 @@
+-- The texts that messages share, when what they carry goes on to other messages.
+use Rattle.std.proofs.Common.{◌≡◌, ◌∙◌, ℕ, ◌+◌, arith, false, List, [], ◌∷◌, ◌++◌, map, Option, Some, None, Global, Vec, vec_len, length, refl, sym, ap, subst}
+use Rattle.std.specs.Prelude.{reverse, option_to_list, IfSome, MatchOption}
+use Rattle.std.specs.Option.{option_map}
+use Rattle.std.specs.declared.sync.Arc.{Arc}
+use Rattle.std.proofs.lemmas.List.{reverse-append}
+use Rattle.canvas_rewrite.specs.FrozenView.{p_line_view, p_end_view}
+use Rattle.canvas_rewrite.specs.declared.frozen.FrozenEnd.{FrozenEnd, out-FrozenEnd}
+use Rattle.canvas_rewrite.specs.declared.frozen.FrozenLine.{FrozenLine}
+use Rattle.canvas_message.proofs.Seen.{end_none, end_some}
+use Rattle.canvas_semantics.specs.PlacedLine.{PTask, PPlace, p_nowhere, p_group, p_chord, PLine, p_stop, p_step, p_group_end, p_chord_end}
+use Rattle.canvas_message.specs.Content.{place_of}
+use Rattle.canvas_message.specs.SharedTexts.{AreEnds, AreTexts, IsLineText, SaysRinged, SaysCarried, core_of, inner_place, place_behind, rings_of}
+use Rattle.canvas_message.specs.declared.carried_text.CarriedText.{CarriedText}
+use Rattle.canvas_message.specs.declared.texts.LineText.{LineText}
+use Rattle.canvas_message.specs.steps.Parts.{is_stop}
+use Rattle.canvas_effects.specs.Placing.{placed, end_place}
+use Rattle.canvas_effects.specs.steps.Walks.{member_place}
+
+-- ---- of what a place carries
+
+abbrev pub Known : Type 0
+Known = Option (Arc CarriedText Global)
+
+abbrev pub IsOf : Known → PPlace → Type 0
+IsOf o p = IfSome o (λ t. SaysCarried t.value p)
+
+pub of_same : (o : Known) (p q : PPlace) → p ≡ q → IsOf o p → IsOf o q
+of_same o p q is h = subst (IsOf o) is h
+
+-- the same text, shared once more
+pub of_shared : (o same : Known) (p : PPlace) → option_map (λ t. t.value) same ≡ option_map (λ t. t.value) o → IsOf o p → IsOf same p
+of_shared None None p is h = tt
+of_shared None (Some s) p is h = absurd cc
+of_shared (Some t) None p is h = tt
+of_shared (Some t) (Some s) p is h =
+    let value : s.value ≡ t.value = cc in
+    subst (λ x. SaysCarried x p) (sym value) h
+
+ringed_nowhere : (rs : List (List ℕ × List ℕ)) (core : List ℕ) → SaysRinged rs core p_nowhere
+ringed_nowhere [] core = tt
+ringed_nowhere (r ∷ rs) core = (tt, ringed_nowhere rs core)
+
+nowhere : (t : CarriedText) → SaysCarried t p_nowhere
+nowhere t = ringed_nowhere (rings_of t) (core_of t)
+
+carries_on : (t : CarriedText) (p : PPlace) (l : PLine) → SaysCarried t p → SaysCarried t (end_place (placed p l))
+carries_on t p p_stop h = nowhere t
+carries_on t p (p_step u p_stop) h = h
+carries_on t p (p_step u (p_step v l)) h = carries_on t p (p_step v l) h
+carries_on t p (p_step u (p_group_end g ms)) h = nowhere t
+carries_on t p (p_step u (p_chord_end g ms b)) h = carries_on t p b h
+carries_on t p (p_group_end g ms) h = nowhere t
+carries_on t p (p_chord_end g ms b) h = carries_on t p b h
+
+-- of a task that others follow, where the end of the whole goes to p
+carried_behind : (t : CarriedText) (p own : PPlace) (l : PLine) → is_stop l ≡ false → SaysCarried t p
+    → SaysCarried t (place_behind own (placed p l))
+carried_behind t p own p_stop stop h = absurd cc
+carried_behind t p own (p_step u l) stop h = carries_on t p (p_step u l) h
+carried_behind t p own (p_group_end g ms) stop h = nowhere t
+carried_behind t p own (p_chord_end g ms b) stop h = carries_on t p b h
+
+-- of the body that members carry whose whole goes to p
+inner_by : (t : CarriedText) (e : FrozenEnd) (o : Option FrozenLine) (p : PPlace) → (out-FrozenEnd e).body ≡ o → SaysCarried t p
+    → SaysCarried t (inner_place (member_place (p_end_view e) p))
+inner_by t e None p is h = subst (λ x. SaysCarried t (inner_place (member_place x p))) (sym (end_none e is)) (nowhere t)
+inner_by t e (Some b) p is h =
+    subst (λ x. SaysCarried t (inner_place (member_place x p))) (sym (end_some e b is)) (carries_on t p (p_line_view b) h)
+
+pub of_members : (o : Known) (e : FrozenEnd) (p q : PPlace) → q ≡ member_place (p_end_view e) p → IsOf o p → IsOf o (inner_place q)
+of_members None e p q is h = tt
+of_members (Some t) e p q is h =
+    subst (λ x. SaysCarried t.value (inner_place x)) (sym is) (inner_by t.value e (out-FrozenEnd e).body p refl h)
+
+-- ---- of what follows on a line
+
+-- of a line when its next task is taken
+place_after : (own : PPlace) (t : PTask) (l : PLine) → place_behind own (p_step t l) ≡ place_behind (place_of t) l
+place_after own t p_stop = refl
+place_after own t (p_step u l) = refl
+place_after own t (p_group_end g ms) = refl
+place_after own t (p_chord_end g ms b) = refl
+
+pub place_at_end : (own : PPlace) (l : PLine) → is_stop l ≡ false → place_behind own l ≡ end_place l
+place_at_end own p_stop h = absurd cc
+place_at_end own (p_step u l) h = refl
+place_at_end own (p_group_end g ms) h = refl
+place_at_end own (p_chord_end g ms b) h = refl
+
+pub next_end : (head text old new : List ℕ) (r : Option ℕ) (t : PTask) (l : PLine) → old ≡ new ++ option_to_list r → (r ≡ None → new ≡ [])
+    → AreEnds head text (reverse old) (p_step t l) → AreEnds head text (reverse new) l
+next_end head text old new None t l is none h = subst (λ es. AreEnds head text (reverse es) l) (sym (none refl)) tt
+next_end head text old new (Some e) t l is none h =
+    (subst (λ es. AreEnds head text es (p_step t l)) (ap reverse is ∙ reverse-append new (e ∷ [])) h).3
+
+-- of what a message may hold
+pub behind_all : (o : Known) (p own : PPlace) (l rest : PLine) → is_stop l ≡ false → rest ≡ placed p l → IsOf o p → IsOf o (place_behind own rest)
+behind_all None p own l rest stop is h = tt
+behind_all (Some t) p own l rest stop is h =
+    subst (λ r. SaysCarried t.value (place_behind own r)) (sym is) (carried_behind t.value p own l stop h)
+
+pub at_the_end : (o : Known) (p q : PPlace) → q ≡ p → IsOf o p → IsOf o (place_behind q p_stop)
+at_the_end None p q is h = tt
+at_the_end (Some t) p q is h = subst (SaysCarried t.value) (sym is) h
+
+pub texts_next : (line next : Option LineText) (carried : Known) (own : PPlace) (t : PTask) (l : PLine)
+    → (IfSome line (λ x. IsLineText x (p_step t l)) → IfSome next (λ x. IsLineText x l))
+    → AreTexts (record { line = line; carried = carried }) own (p_step t l) → AreTexts (record { line = next; carried = carried }) (place_of t) l
+texts_next line next carried own t l ends h =
+    record { line = ends h.line; carried = of_same carried _ _ (place_after own t l) h.carried }
+
+no_items : (xs : List ℕ) → length xs ≡ 0 → xs ≡ []
+no_items [] e = refl
+no_items (x ∷ xs) e = absurd cc
+
+pub nothing_left : (old new : Vec ℕ Global) (r : Option ℕ) → r ≡ None
+    → MatchOption r ((vec_len old ≡ 0) × (vec_len new ≡ 0)) (λ e. vec_len new + 1 ≡ vec_len old) → new.items ≡ []
+nothing_left old new None none h = no_items new.items (omega (arith, h.1, new.ok.0))
+nothing_left old new (Some e) none h = absurd cc
