@@ -33,8 +33,8 @@ after_next (p_step t l) = l
 after_next (p_group_end g ms) = p_stop
 after_next (p_chord_end g ms b) = p_stop
 
--- With the head, the first e bytes of the text are the text of the line, and those up to the next of
--- the ends that of what is left.
+-- With the head, the first e bytes of the text are the text of the line, and those up to the next
+-- of the ends that of what is left.
 abbrev pub AreEnds : (head text ends : List ℕ) → PLine → Type 0
 AreEnds head text [] l = Unit {0}
 AreEnds head text (e ∷ es) l =
