@@ -310,7 +310,7 @@ def place_of(canvas, refusal):
 def said(refusal, note, at, name):
     """What `canvas check` says of a refusal at a signature, and `canvas run --json`."""
     code, kind = refusal.split(" ")
-    as_json = {"code": int(code), "name": kind, "note": note, "pointer": at}
+    as_json = {"code": int(code), "name": kind, "note": note, "pointer": at, "task": name}
     behind = " (%s)" % name if name else ""
     return ("at %s%s\n%s\ncanvas: refused %s\n" % (at or "the top", behind, note, refusal),
             written(as_json) + "\n")

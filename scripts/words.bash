@@ -4,15 +4,15 @@
 newline=$'\n'
 
 # Each command with what it takes, in the order in which the program's help has them.
-forms="run FILE [--workers N] [--task NAME=WORD] [--tasks FILE] [--json] [--explain] [--each] [--fail]
-turns FILE [--workers N] [--turns LIST] [--again LIST] [--task NAME=WORD] [--tasks FILE] [--json] [--fail]
-normal FILE
+forms="run FILE [--workers N] [--adapt] [--task NAME=WORD] [--tasks FILE] [--json] [--explain] [--each] [--null] [--fail]
+turns FILE [--workers N] [--turns LIST] [--again LIST] [--adapt] [--task NAME=WORD] [--tasks FILE] [--json] [--fail]
+normal FILE [--json]
 check FILE [--task NAME=WORD] [--tasks FILE] [--json] [--strict]
-adapt FILE [--rename #NUMBER=NAME]
-graph FILE [--run] [--workers N] [--task NAME=WORD] [--tasks FILE] [--results FILE] [--of HEX22] [--complete]
-messages FILE [--workers N] [--turns LIST] [--task NAME=WORD] [--tasks FILE]
-export FILE --run HEX22 [--queue NAME] [--prefix TEXT] [--expires SECONDS] [--broker-db N] [--backend-db N] [--without-script]
-keys FILE --run HEX22 [--prefix TEXT]
+adapt FILE [--rename #NUMBER=NAME] [--json]
+graph FILE [--run] [--workers N] [--adapt] [--task NAME=WORD] [--tasks FILE] [--results FILE] [--of HEX22] [--complete] [--json]
+messages FILE [--workers N] [--turns LIST] [--task NAME=WORD] [--tasks FILE] [--json]
+export FILE --run HEX22 [--queue NAME] [--prefix TEXT] [--expires SECONDS] [--broker-db N] [--backend-db N] [--without-script] [--json]
+keys FILE --run HEX22 [--prefix TEXT] [--json]
 collect FILE --run HEX22 [--complete] [--json]"
 
 declare -A takes=() given=() named=()
@@ -283,9 +283,38 @@ refuse_named() {
   if [ -n "${given[--json]+was given}" ]; then fault="{\"name\":\"$1\",\"note\":\"wanted $2\"}"; fi
 }
 
+# Has what is said of a mistake be said as JSON, where a word asks for that: a name, and what else stands before the first empty line. Where that would need
+# an escape the program is asked.
+say_as_json() {
+  local word said="${fault%%"$newline$newline"*}" name=BadWords
+  if [ -z "$fault" ] || [[ "$fault" == '{'* ]]; then return 0; fi
+  case "$said" in
+    'canvas: refused '*)
+      said="${said#canvas: refused }"
+      name="${said%% *}"
+      said="${said#"$name"}"
+      said="${said# }"
+      ;;
+    *) said="${said#error: }" ;;
+  esac
+  said="${said//"$newline"/\\n}"
+  for word in "$@"; do
+    if [ "$word" != --json ]; then continue; fi
+    fault="{\"name\":\"$name\",\"note\":\"$said\"}"
+    if [[ "${said//\\n/}" == *[!\ -~]* || "${said//\\n/}" == *[\\\"]* ]]; then asks=program fault=''; fi
+    return 0
+  done
+}
+
 refuse_turns() { refuse_named BadTurn "numbers of workers from 1 on, with single commas between them, as 1,2,2"; }
 
-refuse_again() { refuse_named BadAgain "numbers of tasks with early or late, and single commas between them, as 1:early,3:late"; }
+refuse_again() { refuse_named BadAgain "numbers or names of tasks with early or late, and single commas between them, as 1:early,3:late; or all"; }
+
+# Whether a list of what is delivered again has names of tasks in it, of which only the program knows the canvas's.
+has_names() {
+  local LC_ALL=C
+  [[ ",$1" =~ ^(,([0-9]+|[!-*./:-~][!-+./0-~-]*):(early|late))+$ && ",$1" =~ ,[!-*./:-~] ]]
+}
 
 # Refuses a list of turns or of what is delivered again, or a run's number, that is none.
 refuse_lists() {
@@ -300,13 +329,13 @@ refuse_lists() {
     done
   fi
   if [ -n "$fault" ]; then return 0; fi
-  if [ -n "$again" ] && ! [[ ",$again" =~ ^(,[1-9][0-9]{0,9}:(early|late))+$ ]]; then
+  if [[ ",$again" =~ ^(,[1-9][0-9]{0,9}:(early|late))+$ ]]; then
+    for number in ${again//,/ }; do
+      if ((${number%:*} > 4294967295)); then refuse_again; fi
+    done
+  elif [ -n "$again" ] && [ "$again" != all ] && ! has_names "$again"; then
     refuse_again
-    return 0
   fi
-  for number in ${again//,/ }; do
-    if ((${number%:*} > 4294967295)); then refuse_again; fi
-  done
   if [ -n "$fault" ]; then return 0; fi
   for word in --run --of; do
     if [ -n "${takes[$word]:-}" ] && [ -n "${given[$word]+was given}" ] && ! [[ "${given[$word]}" =~ ^[0-9a-f]{22}$ ]]; then
@@ -318,6 +347,7 @@ refuse_lists() {
 # Leaves to the program what it says of options that lack another, or clash.
 leave_results() {
   local has="${given[--results]+results}${given[--of]+of}${given[--run]+run}${given[--complete]+complete}"
+  if [ -n "${given[--null]+null}" ] && [ -z "${given[--each]+each}" ]; then asks=program; fi
   if [ "$command" != graph ]; then return 0; fi
   case "$has" in
     '' | run | resultsof | resultsofcomplete) ;;
@@ -325,9 +355,27 @@ leave_results() {
   esac
 }
 
+# Sets `why` to what is wrong with a word that a task is to answer.
+judge_word() {
+  local word="$1" digits LC_ALL=C
+  why=''
+  case "$word" in
+    add | div | ident | log_error | mul | xsum) ;;
+    raise:*)
+      if [[ ! "${word#raise:}" =~ ^[A-Za-z_][A-Za-z0-9_]*$ || "$word" =~ ^raise:(Retry|Ignore|Reject)$ ]]; then why="no exception that a task fails with"; fi
+      ;;
+    *)
+      digits="${word#[+-]}"
+      if ! [[ "$digits" =~ ^[0-9]+$ ]]; then why="a word is a whole number, raise:KIND, add, div, ident, log_error, mul or xsum" && return 0; fi
+      digits="${digits#"${digits%%[!0]*}"}"
+      if ((${#digits} > 19)) || [[ ${#digits} = 19 && "$digits" > 1152921504606846976 ]]; then why="a number past 2^60 on either side"; fi
+      ;;
+  esac
+}
+
 # Sets `why` to what is wrong with a text that says what a task answers, behind those of the names in `named`.
 judge_task() {
-  local text="$1" name="${1%%=*}" word="${1#*=}" digits LC_ALL=C
+  local text="$1" name="${1%%=*}" LC_ALL=C
   why=''
   case "$text" in
     '' | '#'*) return 0 ;;
@@ -335,16 +383,8 @@ judge_task() {
     *) why="NAME=WORD is wanted" && return 0 ;;
   esac
   if ! [[ "$name" =~ ^[!-~]{1,128}$ ]]; then why="a name is 1 to 128 bytes from ! to ~" && return 0; fi
-  case "$word" in
-    add | div | ident | log_error | mul | xsum | raise:TypeError | raise:ZeroDivisionError | raise:OverflowError | raise:NotRegistered) ;;
-    raise:*) why="an exception is TypeError, ZeroDivisionError, OverflowError or NotRegistered" && return 0 ;;
-    *)
-      digits="${word#[+-]}"
-      if ! [[ "$digits" =~ ^[0-9]+$ ]]; then why="a word is a whole number, raise:KIND, add, div, ident, log_error, mul or xsum" && return 0; fi
-      digits="${digits#"${digits%%[!0]*}"}"
-      if ((${#digits} > 19)) || [[ ${#digits} = 19 && "$digits" > 1152921504606846976 ]]; then why="a number past 2^60 on either side" && return 0; fi
-      ;;
-  esac
+  judge_word "${text#*=}"
+  if [ -n "$why" ]; then return 0; fi
   if [ -n "${named["=$name"]+is named}" ]; then
     why="the name is there twice"
   elif ((${#named[@]} >= 1024)); then
@@ -353,27 +393,65 @@ judge_task() {
   named["=$name"]=''
 }
 
-# Refuses the first word that is to say what a task answers, and doesn't.
+# Sets `number` to the one that a text names, without zeros before it, or to nothing where it names none that a task may have.
+read_number() {
+  number="${1%%=*}"
+  if ! [[ "$number" =~ ^#[0-9]+$ ]]; then number='' && return 0; fi
+  number="${number#\#}"
+  number="${number#"${number%%[!0]*}"}"
+  if ((${#number} > 10)) || [ -z "$number" ] || ((number > 4294967295)); then number=''; fi
+}
+
+# Sets `why` to what is wrong with a text that says what the task of a number answers, behind those of the numbers in `named`.
+judge_number() {
+  local number
+  read_number "$1"
+  why=''
+  case "$command" in
+    run | turns | graph) ;;
+    *) why="a number is taken by run, turns and graph alone" && return 0 ;;
+  esac
+  if [ -z "$number" ]; then
+    why="#NUMBER=WORD is wanted"
+    return 0
+  fi
+  if [ -n "${named["$number"]+is named}" ]; then
+    why="the number is there twice"
+  elif [[ "$1" != *=* ]]; then
+    why="NAME=WORD is wanted"
+  else
+    judge_word "${1#*=}"
+  fi
+  named["$number"]=''
+}
+
+# Refuses the first word that is to say what a task answers, and doesn't: those of names come first, where numbers are taken.
 refuse_tasks() {
-  local text
-  named=()
-  for text in "${tasks[@]}"; do
-    judge_task "$text"
-    if [ -n "$why" ]; then
-      fault="canvas: refused BadTask $text: $why"
-      return 0
-    fi
+  local text judge
+  local -a judges=(judge_task judge_number)
+  case "$command" in
+    run | turns | graph) ;;
+    *) judges=(judge_number judge_task) ;;
+  esac
+  for judge in "${judges[@]}"; do
+    named=()
+    for text in "${tasks[@]}"; do
+      if [[ "$judge" = judge_number && "$text" != '#'* ]]; then continue; fi
+      "$judge" "$text"
+      if [ -n "$why" ]; then
+        fault="canvas: refused BadTask $text: $why"
+        return 0
+      fi
+    done
   done
 }
 
 # Sets `why` to what is wrong with a text that gives a task another name, behind those of the numbers in `named`.
 judge_rename() {
-  local text="$1" number="${1%%=*}" name="${1#*=}" LC_ALL=C
+  local text="$1" number name="${1#*=}" LC_ALL=C
   why='#NUMBER=NAME is wanted'
-  if ! [[ "$text" == *=* && "$number" =~ ^#[0-9]+$ ]]; then return 0; fi
-  number="${number#\#}"
-  number="${number#"${number%%[!0]*}"}"
-  if [ -z "$number" ] || ((${#number} > 10)) || ((number > 4294967295)); then return 0; fi
+  read_number "$text"
+  if [ -z "$number" ] || [[ "$text" != *=* ]]; then return 0; fi
   why=''
   if ! [[ "$name" =~ ^[!-~]{1,128}$ ]]; then
     why="a name is 1 to 128 bytes from ! to ~"
@@ -421,6 +499,12 @@ read_words() {
     refuse_words "invalid UTF-8 was detected in one or more arguments" "canvas <COMMAND>"
     return 0
   fi
+  judge_words "$@"
+  say_as_json "$@"
+}
+
+# Reads them, but for how a mistake is said.
+judge_words() {
   case "$command" in
     '') if (($#)); then refuse_command ''; else refuse_none; fi ;;
     help)
@@ -508,7 +592,10 @@ read_tasks() {
     if [ -n "$fault$is_unsure" ]; then return 0; fi
     at=$((at + 1))
     judge_task "$line"
-    if [ -n "$why" ]; then fault="canvas: refused BadTask in line $at of $file: $why"; fi
+    if [ -n "$why" ]; then
+      fault="canvas: refused BadTask in line $at of $file: $why"
+      say_as_json "${given[--json]+--json}"
+    fi
   done
 }
 
@@ -541,7 +628,7 @@ refuse_empty() {
   local what="found no JSON (EOF while parsing), wanted one JSON text in UTF-8"
   fault="canvas: refused 2 NotJson"
   if [ -n "${given[--json]+was given}" ]; then
-    fault="{\"code\":2,\"column\":0,\"line\":1,\"name\":\"NotJson\",\"note\":\"$what\",\"pointer\":null}"
+    fault="{\"code\":2,\"column\":0,\"line\":1,\"name\":\"NotJson\",\"note\":\"$what\",\"pointer\":null,\"task\":null}"
   elif [ "$command" = check ]; then
     fault="invalid JSON at line 1 column 0$newline$what$newline$fault"
   fi

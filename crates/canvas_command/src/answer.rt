@@ -1,6 +1,7 @@
 //! What the program prints, and its status.
 
 use crate::refusal::Refusal;
+use crate::told::told_in_json;
 use canvas_adapt::Changes;
 use std::alloc::Global;
 use std::fmt::{self, Display};
@@ -81,6 +82,26 @@ impl<'w> Answer<'w> {
 
     pub(crate) fn with_changes(self, changes: Changes) -> Answer<'w> {
         self.with_remark(Some(Remark::Changes(changes)))
+    }
+
+    /// The same with its refusal, if it has one, as it is printed where JSON is asked for.
+    pub(crate) fn in_json(self, alloc: Global) -> Answer<'w> {
+        let Answer {
+            out,
+            remark,
+            refusal,
+            status,
+        } = self;
+        let refusal = match refusal {
+            Some(refusal) => Some(told_in_json(alloc, refusal)),
+            None => None,
+        };
+        Answer {
+            out,
+            remark,
+            refusal,
+            status,
+        }
     }
 
     /// Prints the answer to both outputs, and gives the status: 0 where all went well, 1 where the

@@ -16,7 +16,7 @@ use canvas_collect::{
 use canvas_engine::Report;
 use canvas_export::{Target, export};
 use canvas_rewrite::Plan;
-use canvas_views::{stored_rows_text, stored_text};
+use canvas_views::{Told, stored_rows_text, stored_text};
 pub use refusal::CeleryRefusal;
 use std::alloc::Global;
 use std::io::Read;
@@ -68,7 +68,7 @@ where
     S: Files + AllocGlobal,
 {
     let alloc = rt.alloc();
-    let plan = manner.plan_of(alloc, text)?;
+    let plan = plan_of(alloc, text)?;
     let results = results_of(rt, "-", input)?;
     answer_results(alloc, &plan, run, completes, manner, &results)
 }
@@ -98,8 +98,13 @@ fn answer_rows<'w>(
     rows: &[Row],
     form: Form,
 ) -> Result<Answer<'w>, Refusal<'w>> {
+    // Celery's workers tell no more.
+    let told = Told {
+        fates: &[],
+        blamed: &[],
+    };
     let text = match form {
-        Form::Json => stored_rows_text(alloc, plan, rows)?,
+        Form::Json => stored_rows_text(alloc, plan, rows, told)?,
         Form::Plain | Form::Explained => stored_text(alloc, plan, rows)?,
     };
     Ok(Answer::whole(text.into_bytes()))

@@ -1,12 +1,13 @@
 //! `canvas run --each`: a canvas a line, and a JSON object a line for each.
 
 use crate::answer::Answer;
+use crate::finding::refusal_json;
+use crate::prepared::{Plans, Prepared, Setting};
 use crate::refusal::Refusal;
-use crate::reporting::{FAILED, Form, Manner};
+use crate::reporting::FAILED;
 use crate::runs::report_of;
 use crate::source::Source;
 use canvas_engine::Report;
-use canvas_rewrite::Plan;
 use canvas_task::Tasks;
 use canvas_views::is_failure;
 use std::alloc::{AllocError, Global};
@@ -25,14 +26,24 @@ fn push_object(out: &mut String, rows: &[&str], canvas: &str) -> Result<(), Allo
     out.push_str("]}\n")
 }
 
+/// How many canvases are run.
+#[derive(Clone, Copy, Drop)]
+pub(crate) struct Each {
+    pub(crate) workers: u32,
+    /// Whether a failure of one has a status of its own.
+    pub(crate) fails: bool,
+    /// The byte that each ends with.
+    pub(crate) end: u8,
+}
+
 /// The report of a run as an object in a line.
 fn object_text<'w, T: Tasks>(
     alloc: Global,
-    plan: &Plan,
+    plans: &Plans,
     report: &Report,
     source: &Source<'_, T>,
 ) -> Result<String, Refusal<'w>> {
-    let text = source.rows_of(alloc, plan, report)?;
+    let text = source.json_of(alloc, plans, report)?;
     let lines: Vec<&str> = text.lines().collect(alloc)?;
     let mut object = String::new(alloc);
     if let Some((canvas, rows)) = lines.split_last() {
@@ -45,68 +56,82 @@ fn object_text<'w, T: Tasks>(
 fn ran<'w, S, T>(
     rt: &S,
     workers: u32,
-    plan: &Plan,
     source: &Source<'_, T>,
 ) -> Result<(String, bool), Refusal<'w>>
 where
     S: Threads + Wait + RandomSource + AllocGlobal + Sync,
     T: Tasks + Sync,
 {
-    let report = report_of(rt, plan, source.tasks, workers)?;
-    let object = object_text(rt.alloc(), plan, &report, source)?;
-    Ok((object, is_failure(plan, &report)))
+    let plans = Plans::of(rt.alloc(), source)?;
+    let report = report_of(rt, plans.run(), source.tasks, workers)?;
+    let object = object_text(rt.alloc(), &plans, &report, source)?;
+    Ok((object, is_failure(&plans.shown, &report)))
+}
+
+/// The same of a canvas that is made ready first.
+fn prepared_and_ran<'w, S, T>(
+    rt: &S,
+    workers: u32,
+    text: &[u8],
+    tasks: &T,
+    setting: Setting<'_>,
+) -> Result<(String, bool), Refusal<'w>>
+where
+    S: Threads + Wait + RandomSource + AllocGlobal + Sync,
+    T: Tasks + Sync,
+{
+    let prepared = Prepared::of(rt.alloc(), text, setting)?;
+    ran(rt, workers, &prepared.source(text, tasks, setting))
 }
 
 /// The line that a canvas gives: its report or its refusal; and whether its result is a failure.
 fn line_of<'w, S, T>(
     rt: &S,
     workers: u32,
-    source: &Source<'_, T>,
+    text: &[u8],
+    tasks: &T,
+    setting: Setting<'_>,
 ) -> Result<(String, bool), Refusal<'w>>
 where
     S: Threads + Wait + RandomSource + AllocGlobal + Sync,
     T: Tasks + Sync,
 {
-    let manner = Manner {
-        form: Form::Json,
-        fails: false,
-    };
-    match manner.plan_of(rt.alloc(), source.text) {
-        Ok(plan) => ran(rt, workers, &plan, source),
-        Err(Refusal::Found(said)) => Ok((said, false)),
-        Err(refusal) => Err(refusal),
+    match prepared_and_ran(rt, workers, text, tasks, setting) {
+        Err(Refusal::Canvas(fault)) => Ok((refusal_json(rt.alloc(), text, fault)?, false)),
+        other => other,
     }
 }
 
-/// A line without the line feed that ends it.
-fn without_end(line: &[u8]) -> &[u8] {
-    match line.split_last() {
-        Some((last, rest)) if *last == b'\n' => rest,
-        _ => line,
+/// A canvas without the byte that ends it.
+fn without_end(text: &[u8], end: u8) -> &[u8] {
+    match text.split_last() {
+        Some((last, rest)) if *last == end => rest,
+        _ => text,
     }
 }
 
-/// A line for each canvas of a text, in its order. With `fails` the status is that of a failure
-/// where a canvas's result is one. Where memory is refused, what is whole is there.
+/// A line for each canvas of a text, in its order. Where it is asked for, the status is that of a
+/// failure where a canvas's result is one. Where memory is refused, what is whole is there.
 pub(crate) fn answer_each<'w, S, T>(
     rt: &S,
-    workers: u32,
-    fails: bool,
-    source: &Source<'_, T>,
+    each: Each,
+    text: &[u8],
+    tasks: &T,
+    setting: Setting<'_>,
 ) -> Result<Answer<'w>, Refusal<'w>>
 where
     S: Threads + Wait + RandomSource + AllocGlobal + Sync,
     T: Tasks + Sync,
 {
+    let Each {
+        workers,
+        fails,
+        end,
+    } = each;
     let mut out = String::new(rt.alloc());
     let mut status = 0;
-    for line in source.text.split_inclusive(|byte| *byte == b'\n') {
-        let one = Source {
-            text: without_end(line),
-            tasks: source.tasks,
-            stubs: source.stubs,
-        };
-        match line_of(rt, workers, &one) {
+    for one in text.split_inclusive(|byte| *byte == end) {
+        match line_of(rt, workers, without_end(one, end), tasks, setting) {
             Ok((said, failed)) => {
                 out.push_str(&said)?;
                 if fails && failed {

@@ -1,15 +1,15 @@
 //! Reports as texts or as JSON, and results that decide the status.
 
 use crate::answer::Answer;
-use crate::finding::refusal_json;
-use crate::plan::plan_of;
+use crate::named_rows::rows_of;
+use crate::prepared::Plans;
 use crate::refusal::Refusal;
 use crate::source::Source;
 use canvas_engine::{Report, RunFault, report_text};
 use canvas_ran::fates;
 use canvas_rewrite::Plan;
 use canvas_task::{Memory, Tasks};
-use canvas_views::{Told, explained_text, is_failure, rows_text};
+use canvas_views::{Told, explained_text, is_failure, rows_text, stored_text};
 use std::alloc::Global;
 
 /// How a report is printed.
@@ -44,17 +44,14 @@ impl Manner {
     fn whole_text<'w, T: Tasks>(
         &self,
         alloc: Global,
-        plan: &Plan,
+        plans: &Plans,
         report: &Report,
         source: &Source<'_, T>,
     ) -> Result<String, Refusal<'w>> {
         match self.form {
-            Form::Plain => Ok(report_text(alloc, plan, report)?),
-            Form::Json => source.rows_of(alloc, plan, report),
-            Form::Explained => {
-                let told = fates(alloc, plan, report)?;
-                Ok(explained_text(alloc, plan, report, &told)?)
-            }
+            Form::Plain => plain_text(alloc, plans, report, source),
+            Form::Json => source.json_of(alloc, plans, report),
+            Form::Explained => explained(alloc, plans, report, source),
         }
     }
 
@@ -69,7 +66,7 @@ impl Manner {
                 };
                 rows_text(alloc, plan, report, told)
             }
-            Form::Explained => explained_text(alloc, plan, report, &[]),
+            Form::Explained => explained_text(alloc, plan, &rows_of(alloc, report, &[])?, &[]),
         }
     }
 
@@ -77,12 +74,12 @@ impl Manner {
     pub(crate) fn whole<'w, T: Tasks>(
         &self,
         alloc: Global,
-        plan: &Plan,
+        plans: &Plans,
         report: &Report,
         source: &Source<'_, T>,
     ) -> Result<Answer<'w>, Refusal<'w>> {
-        let text = self.whole_text(alloc, plan, report, source)?;
-        Ok(self.answer(text, plan, report))
+        let text = self.whole_text(alloc, plans, report, source)?;
+        Ok(self.answer(text, &plans.shown, report))
     }
 
     /// A report that doesn't tell which tasks were called, and the status that its result has.
@@ -105,25 +102,47 @@ impl Manner {
         Answer::whole(text.into_bytes()).with_status(status)
     }
 
-    /// Why a run has no whole report, and what it stored, where there is memory for it.
-    pub(crate) fn early<'w>(&self, alloc: Global, plan: &Plan, fault: RunFault) -> Answer<'w> {
+    /// Why a run has no whole report, and what it stored, where there is memory for it. Where stubs
+    /// raise exceptions of other classes nothing is told of what it stored.
+    pub(crate) fn early<'w, T>(
+        &self,
+        alloc: Global,
+        plans: &Plans,
+        source: &Source<'_, T>,
+        fault: RunFault,
+    ) -> Answer<'w> {
         let stored = match &fault {
             RunFault::Halted {
                 rows: Some(report),
                 ..
-            } => self.text(alloc, plan, report).ok(),
+            } if source.errors.is_empty() => self.text(alloc, &plans.shown, report).ok(),
             _ => None,
         };
         Answer::in_part(alloc, stored, Refusal::from(fault))
     }
+}
 
-    /// The plan of a text. Where it is refused and JSON is asked for, the refusal is printed so.
-    pub(crate) fn plan_of<'w>(&self, alloc: Global, text: &[u8]) -> Result<Plan, Refusal<'w>> {
-        match plan_of(alloc, text) {
-            Err(Refusal::Canvas(_)) if self.form == Form::Json => {
-                Err(Refusal::Found(refusal_json(alloc, text)?))
-            }
-            other => other,
-        }
+fn plain_text<'w, T>(
+    alloc: Global,
+    plans: &Plans,
+    report: &Report,
+    source: &Source<'_, T>,
+) -> Result<String, Refusal<'w>> {
+    if source.errors.is_empty() {
+        return Ok(report_text(alloc, &plans.shown, report)?);
     }
+    let fates = fates(alloc, &plans.shown, report)?;
+    let rows = source.named_rows(alloc, plans, report, &fates)?;
+    Ok(stored_text(alloc, &plans.shown, &rows)?)
+}
+
+fn explained<'w, T>(
+    alloc: Global,
+    plans: &Plans,
+    report: &Report,
+    source: &Source<'_, T>,
+) -> Result<String, Refusal<'w>> {
+    let fates = fates(alloc, &plans.shown, report)?;
+    let rows = source.named_rows(alloc, plans, report, &fates)?;
+    Ok(explained_text(alloc, &plans.shown, &rows, &fates)?)
 }

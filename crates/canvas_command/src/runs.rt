@@ -1,6 +1,8 @@
 //! `canvas run`, `canvas turns` and `canvas normal`.
 
+use crate::again::{Again, named_entries};
 use crate::answer::{Answer, Remark};
+use crate::prepared::Plans;
 use crate::refusal::Refusal;
 use crate::reporting::Manner;
 use crate::source::Source;
@@ -47,16 +49,16 @@ where
 {
     let alloc = rt.alloc();
     let (text, tasks) = (source.text, source.tasks);
-    if manner.is_plain() {
+    if manner.is_plain() && source.is_plain() {
         return match run_text_threads(rt, alloc, text, tasks, workers, &OpenGate, &Stop::new()) {
             Ok(report) => Ok(Answer::whole(report.into_bytes())),
             Err(fault) => early(alloc, fault),
         };
     }
-    let plan = manner.plan_of(alloc, text)?;
-    match report_of(rt, &plan, tasks, workers) {
-        Ok(report) => manner.whole(alloc, &plan, &report, source),
-        Err(fault) => Ok(manner.early(alloc, &plan, fault)),
+    let plans = Plans::of(alloc, source)?;
+    match report_of(rt, plans.run(), tasks, workers) {
+        Ok(report) => manner.whole(alloc, &plans, &report, source),
+        Err(fault) => Ok(manner.early(alloc, &plans, source, fault)),
     }
 }
 
@@ -70,16 +72,14 @@ fn plain_turns<'w, T: Tasks>(
     alloc: Global,
     workers: u32,
     turns: &[u32],
-    again: Option<&[(TaskNo, When)]>,
+    again: &[(TaskNo, When)],
+    counts: bool,
     source: &Source<'_, T>,
 ) -> Result<Answer<'w>, Refusal<'w>> {
-    let (text, tasks) = (source.text, source.tasks);
-    match run_text_again(alloc, text, tasks, workers, turns, again.unwrap_or(&[])) {
-        Ok((report, repeats)) => Ok(counted(
-            Answer::whole(report.into_bytes()),
-            again.is_some(),
-            repeats,
-        )),
+    match run_text_again(alloc, source.text, source.tasks, workers, turns, again) {
+        Ok((report, repeats)) => {
+            Ok(counted(Answer::whole(report.into_bytes()), counts, repeats))
+        }
         Err(fault) => early(alloc, fault),
     }
 }
@@ -87,22 +87,52 @@ fn plain_turns<'w, T: Tasks>(
 /// The report of a plan's run by turns in another manner.
 fn shown_turns<'w, T: Tasks>(
     alloc: Global,
-    plan: &Plan,
+    plans: &Plans,
     workers: u32,
     turns: &[u32],
-    again: Option<&[(TaskNo, When)]>,
+    again: &[(TaskNo, When)],
+    counts: bool,
     manner: Manner,
     source: &Source<'_, T>,
 ) -> Result<Answer<'w>, Refusal<'w>> {
-    let entries = again.unwrap_or(&[]);
-    match run_turns_again(alloc, plan, source.tasks, workers, turns, entries) {
-        Ok((report, repeats)) => Ok(counted(
-            manner.whole(alloc, plan, &report, source)?,
-            again.is_some(),
-            repeats,
-        )),
-        Err(fault) => Ok(manner.early(alloc, plan, fault)),
+    match run_turns_again(alloc, plans.run(), source.tasks, workers, turns, again) {
+        Ok((report, repeats)) => {
+            let answer = manner.whole(alloc, plans, &report, source)?;
+            Ok(counted(answer, counts, repeats))
+        }
+        Err(fault) => Ok(manner.early(alloc, plans, source, fault)),
     }
+}
+
+/// The same, with what is delivered again by numbers.
+fn turns_by_numbers<'w, T: Tasks>(
+    alloc: Global,
+    workers: u32,
+    turns: &[u32],
+    again: &[(TaskNo, When)],
+    counts: bool,
+    manner: Manner,
+    source: &Source<'_, T>,
+) -> Result<Answer<'w>, Refusal<'w>> {
+    if manner.is_plain() && source.is_plain() {
+        return plain_turns(alloc, workers, turns, again, counts, source);
+    }
+    let plans = Plans::of(alloc, source)?;
+    shown_turns(alloc, &plans, workers, turns, again, counts, manner, source)
+}
+
+/// The same, with what is delivered again by names.
+fn turns_by_names<'w, T: Tasks>(
+    alloc: Global,
+    workers: u32,
+    turns: &[u32],
+    list: &str,
+    manner: Manner,
+    source: &Source<'_, T>,
+) -> Result<Answer<'w>, Refusal<'w>> {
+    let plans = Plans::of(alloc, source)?;
+    let again = named_entries(alloc, &plans.shown, list)?;
+    shown_turns(alloc, &plans, workers, turns, &again, true, manner, source)
 }
 
 /// The report of a run by turns, with what is delivered again, where that is asked for.
@@ -110,15 +140,17 @@ pub(crate) fn answer_turns<'w, T: Tasks>(
     alloc: Global,
     workers: u32,
     turns: &[u32],
-    again: Option<&[(TaskNo, When)]>,
+    again: &Again<'_>,
     manner: Manner,
     source: &Source<'_, T>,
 ) -> Result<Answer<'w>, Refusal<'w>> {
-    if manner.is_plain() {
-        return plain_turns(alloc, workers, turns, again, source);
+    match again {
+        Again::Nothing => turns_by_numbers(alloc, workers, turns, &[], false, manner, source),
+        Again::Entries(entries) => {
+            turns_by_numbers(alloc, workers, turns, entries, true, manner, source)
+        }
+        Again::Named(list) => turns_by_names(alloc, workers, turns, list, manner, source),
     }
-    let plan = manner.plan_of(alloc, source.text)?;
-    shown_turns(alloc, &plan, workers, turns, again, manner, source)
 }
 
 /// The normal line of a canvas.

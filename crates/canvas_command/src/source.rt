@@ -1,15 +1,19 @@
 //! What a run is of: a canvas's text, and what answers its calls. It says which parameter makes a
 //! call a TypeError.
 
+use crate::errors::OtherError;
+use crate::named_rows::{classes_of, rows_of};
+use crate::prepared::Plans;
 use crate::refusal::Refusal;
+use crate::stubs::stub_named;
+use canvas_collect::Row;
 use canvas_engine::Report;
 use canvas_ran::{Fate, fates, state_in};
-use canvas_rewrite::Plan;
 use canvas_sig::{Canvas, read_canvas};
 use canvas_stubs::{Does, Stub};
 use canvas_task::{Fault, Kind, Memory, Outcome, TaskNo, Tasks};
 use canvas_values::TaskSig;
-use canvas_views::{Told, rows_text};
+use canvas_views::{Told, rows_text, stored_rows_text};
 use canvas_warning::{Blame, Expected, Forecast, Input, OneOfSix, blamed, forecasts, tasks_in};
 use std::alloc::{AllocError, Global};
 
@@ -18,8 +22,13 @@ use std::alloc::{AllocError, Global};
 #[derive(Drop)]
 pub(crate) struct Source<'a, T> {
     pub(crate) text: &'a [u8],
+    /// The same where no task has another name for the run.
+    pub(crate) shown: &'a [u8],
+    pub(crate) is_renamed: bool,
     pub(crate) tasks: &'a T,
     pub(crate) stubs: &'a [Stub],
+    /// What stubs raise in place of NotRegistered.
+    pub(crate) errors: &'a [OtherError],
 }
 
 /// What is foreseen of a signature.
@@ -53,15 +62,6 @@ fn six_done(does: Does) -> Option<OneOfSix> {
         Does::LogError => Some(OneOfSix::LogError),
         Does::Gives(_) | Does::Raises(_) => None,
     }
-}
-
-fn stub_named(stubs: &[Stub], name: &str) -> Option<Does> {
-    for stub in stubs {
-        if stub.name.get().as_str() == name {
-            return Some(stub.does);
-        }
-    }
-    None
 }
 
 /// Whether a task ran and is a TypeError.
@@ -114,6 +114,28 @@ fn blamed_of(
         }
     }
     Ok(found)
+}
+
+impl<'a, T> Source<'a, T> {
+    /// Whether a run is shown as its report has it.
+    pub(crate) fn is_plain(&self) -> bool {
+        self.errors.is_empty() && !self.is_renamed
+    }
+
+    /// The rows of a whole run, with the exceptions that stubs raise.
+    pub(crate) fn named_rows(
+        &self,
+        alloc: Global,
+        plans: &Plans,
+        report: &Report,
+        fates: &[(TaskNo, Fate)],
+    ) -> Result<Vec<Row>, AllocError> {
+        if self.errors.is_empty() {
+            return rows_of(alloc, report, &[]);
+        }
+        let classes = classes_of(alloc, plans.run(), report, self, fates)?;
+        rows_of(alloc, report, &classes)
+    }
 }
 
 impl<'a, T: Tasks> Source<'a, T> {
@@ -177,28 +199,38 @@ impl<'a, T: Tasks> Source<'a, T> {
         Ok(found)
     }
 
-    /// The report of a whole run as JSON lines.
-    pub(crate) fn rows_of<'w>(
+    /// The tasks whose call is a TypeError, each with the parameter that is at fault, if it is one.
+    fn blamed_in_run(
         &self,
         alloc: Global,
-        plan: &Plan,
         report: &Report,
-    ) -> Result<String, Refusal<'w>> {
-        let fates = fates(alloc, plan, report)?;
-        if !any_bad_call(report, &fates) {
-            let told = Told {
-                fates: &fates,
-                blamed: &[],
-            };
-            return Ok(rows_text(alloc, plan, report, told)?);
+        fates: &[(TaskNo, Fate)],
+    ) -> Result<Vec<(TaskNo, Option<String>)>, Refusal<'static>> {
+        if !any_bad_call(report, fates) {
+            return Ok(Vec::new(alloc));
         }
         let canvas = read_canvas(alloc, self.text)?;
         let foreseen = self.all_foreseen(alloc, &canvas)?;
-        let blamed = blamed_of(alloc, &foreseen, report, &fates)?;
+        Ok(blamed_of(alloc, &foreseen, report, fates)?)
+    }
+
+    /// The report of a whole run as JSON lines.
+    pub(crate) fn json_of<'w>(
+        &self,
+        alloc: Global,
+        plans: &Plans,
+        report: &Report,
+    ) -> Result<String, Refusal<'w>> {
+        let fates = fates(alloc, &plans.shown, report)?;
+        let blamed = self.blamed_in_run(alloc, report, &fates)?;
         let told = Told {
             fates: &fates,
             blamed: &blamed,
         };
-        Ok(rows_text(alloc, plan, report, told)?)
+        if self.errors.is_empty() {
+            return Ok(rows_text(alloc, &plans.shown, report, told)?);
+        }
+        let rows = self.named_rows(alloc, plans, report, &fates)?;
+        Ok(stored_rows_text(alloc, &plans.shown, &rows, told)?)
     }
 }

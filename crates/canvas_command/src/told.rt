@@ -1,8 +1,10 @@
-//! Refusals of words and of files as JSON objects, as those of canvases are.
+//! Refusals as JSON objects.
 
 use crate::celery::CeleryRefusal;
+use crate::finding::{fault_json, refusal_json};
 use crate::refusal::Refusal;
 use crate::unread::Unread;
+use canvas_task::Memory;
 use canvas_views::quoted_json;
 use std::alloc::{AllocError, Global};
 
@@ -10,7 +12,7 @@ const TURNS: &str =
     "wanted numbers of workers from 1 on, with single commas between them, as 1,2,2";
 
 const AGAIN: &str =
-    "wanted numbers of tasks with early or late, and single commas between them, as 1:early,3:late";
+    "wanted numbers or names of tasks with early or late, and single commas between them, as 1:early,3:late; or all";
 
 const RUN: &str = "wanted 22 lower-case hexadecimal digits";
 
@@ -23,14 +25,41 @@ fn unread_object(alloc: Global, file: &str, why: Unread) -> Result<String, Alloc
     object(alloc, "CannotRead", &format!(in alloc; "{file}: {why}")?)
 }
 
+/// What the parser of words says, without usage and hints.
+fn words_object(alloc: Global, said: &str) -> Result<String, AllocError> {
+    let (fault, _hints) = said.split_once("\n\n").unwrap_or((said, ""));
+    object(
+        alloc,
+        "BadWords",
+        fault.strip_prefix("error: ").unwrap_or(fault),
+    )
+}
+
+/// A refusal that is printed behind `canvas: refused`: its name and the rest of its line. Another
+/// is printed as ever.
+fn line_object(alloc: Global, said: &str) -> Result<Option<String>, AllocError> {
+    let Some(refused) = said.strip_prefix("canvas: refused ") else {
+        return Ok(None);
+    };
+    let line = refused.strip_suffix("\n").unwrap_or(refused);
+    let (name, note) = line.split_once(' ').unwrap_or((line, ""));
+    Ok(Some(object(alloc, name, note)?))
+}
+
+fn printed(alloc: Global, refusal: &Refusal<'_>) -> Result<String, AllocError> {
+    format!(in alloc; "{refusal}")
+}
+
 /// What is printed of a refusal where JSON is asked for; nothing of one that is printed as ever.
 fn told_object(alloc: Global, refusal: &Refusal<'_>) -> Result<Option<String>, AllocError> {
     match refusal {
         Refusal::CannotRead { file, why } => Ok(Some(unread_object(alloc, file, *why)?)),
+        Refusal::Canvas(fault) => Ok(Some(fault_json(alloc, *fault)?)),
         Refusal::BadTurn => Ok(Some(object(alloc, "BadTurn", TURNS)?)),
         Refusal::BadAgain => Ok(Some(object(alloc, "BadAgain", AGAIN)?)),
         Refusal::Celery(CeleryRefusal::BadRun) => Ok(Some(object(alloc, "BadRun", RUN)?)),
-        _ => Ok(None),
+        Refusal::Words(_) => Ok(Some(words_object(alloc, &printed(alloc, refusal)?)?)),
+        _ => line_object(alloc, &printed(alloc, refusal)?),
     }
 }
 
@@ -40,5 +69,20 @@ pub(crate) fn told_in_json<'w>(alloc: Global, refusal: Refusal<'w>) -> Refusal<'
         Ok(Some(text)) => Refusal::Found(text),
         Ok(None) => refusal,
         Err(_) => Refusal::Memory,
+    }
+}
+
+fn found<'w>(told: Result<String, Memory>) -> Refusal<'w> {
+    match told {
+        Ok(text) => Refusal::Found(text),
+        Err(_) => Refusal::Memory,
+    }
+}
+
+/// The same where it may be that of a canvas, which has this text.
+pub(crate) fn told_of_text<'w>(alloc: Global, text: &[u8], refusal: Refusal<'w>) -> Refusal<'w> {
+    match refusal {
+        Refusal::Canvas(fault) => found(refusal_json(alloc, text, fault)),
+        other => other,
     }
 }

@@ -265,26 +265,6 @@ report_written fates blamed c ss rows same =
     rows_written fates (parameter_of blamed) c rows (λ k. shown (state_of k (rows_from 1 ss)))
     (λ k. subst (λ r. Shows r (shown (state_of k (rows_from 1 ss)))) (sym (ap (λ rs. row_of rs k) same ∙ row_state ss k)) refl)
 
--- as Celery stored them, of which nothing more is told
-none_told : (k : ℕ) → fate_at [] k ≡ None
-none_told zero = refl
-none_told (suc k) = refl
-
-told_alike : (f g : ℕ → Option Fate) (parameter : ℕ → Option (Option Text)) (at : ℕ → Shown) → ((k : ℕ) → f k ≡ g k) → (ts : List (ℕ × Text))
-    → map (λ t. row_wire (f t.0) (parameter t.0) t (at t.0)) ts ≡ map (λ t. row_wire (g t.0) (parameter t.0) t (at t.0)) ts
-told_alike f g parameter at same [] = refl
-told_alike f g parameter at same (t ∷ ts) =
-    ap (λ x. row_wire x (parameter t.0) t (at t.0) ∷ map (λ t. row_wire (f t.0) (parameter t.0) t (at t.0)) ts) (same t.0)
-    ∙ ap (λ ds. row_wire (g t.0) (parameter t.0) t (at t.0) ∷ ds) (told_alike f g parameter at same ts)
-
-pub stored_written : (c : Tree) (rows : List Row) (at : ℕ → Shown) → AllShow rows at
-    → lines (row_line [] (parameter_of []) rows) (names_by_number c) ++ end_text (ends_in_group c) rows (ends c)
-    ≡ json_lines (rows_wire (λ k. None) (λ k. None) at c)
-stored_written c rows at all =
-    rows_written [] (λ k. None) c rows at all
-    ∙ ap (λ ds. json_lines (ds ++ end_wire (ends_in_group c) (map at (ends c)) ∷ []))
-    (told_alike (fate_at []) (λ k. None) (λ k. None) at none_told (names_by_number c))
-
 -- the lines, and then the result
 pub whole : (l : Line) (rows : List Row) (several : Bool) (ks : List ℕ) (t0 t1 t2 ls : Text) → t0 ≡ [] → t1 ≡ t0 ++ ls → ks ≡ ends_of l → several ≡ in_group l
     → t2 ≡ t1 ++ end_text several rows ks

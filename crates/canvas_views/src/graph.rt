@@ -13,9 +13,9 @@ use crate::rows::put;
 use crate::shown::run_rows;
 use canvas_collect::Row;
 use canvas_engine::Report;
-use canvas_ran::fates;
+use canvas_ran::{Fate, fates};
 use canvas_rewrite::Plan;
-use canvas_task::Memory;
+use canvas_task::{Memory, TaskNo};
 use std::alloc::Global;
 
 fn picture(alloc: Global, plan: &Plan, seen: &Seen<'_>) -> Result<String, Memory>
@@ -67,8 +67,14 @@ pub fn graph_text(alloc: Global, plan: &Plan, report: Option<&Report>) -> Result
     }
 }
 
-/// The same with rows of any kind, as Celery's workers stored them.
-pub fn stored_graph_text(alloc: Global, plan: &Plan, rows: &[Row]) -> Result<String, Memory>
+/// The same with rows of any kind. Of a whole run it is told what became of each task, in the order
+/// of their numbers; of what Celery's workers stored it isn't.
+pub fn stored_graph_text(
+    alloc: Global,
+    plan: &Plan,
+    rows: &[Row],
+    fates: &[(TaskNo, Fate)],
+) -> Result<String, Memory>
     ensures picture { IfOk result (λ text. IsPicture plan.now (string_bytes text)) }
     // Each task is one node.
     ensures nodes { OnOk result
@@ -76,7 +82,7 @@ pub fn stored_graph_text(alloc: Global, plan: &Plan, rows: &[Row]) -> Result<Str
 {
     let seen = Seen {
         rows: Some(rows),
-        fates: &[],
+        fates,
     };
     picture(alloc, plan, &seen)
 }

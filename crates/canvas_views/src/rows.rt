@@ -1,6 +1,6 @@
 //! The tasks of a run as JSON lines, which tools such as `jq` read.
 
-ghost use Rattle.std.specs.Prelude.{◌≡◌, ◌++◌, ◌∷◌, [], true, false, ℕ, None, IfOk, OnOk, option_map, string_bytes, codes};
+ghost use Rattle.std.specs.Prelude.{◌≡◌, ◌++◌, ◌∷◌, [], true, false, ℕ, IfOk, OnOk, option_map, string_bytes, codes};
 ghost use Rattle.std.specs.Fmt.{signed_decimal};
 ghost use Rattle.json.specs.Print.{quoted};
 ghost use Rattle.serde_json.specs.Written.{comma_if};
@@ -459,15 +459,17 @@ pub fn rows_text(
     lines_of(alloc, plan, &rows, told)
 }
 
-/// The same of rows of any kind, of which nothing more is told.
-pub fn stored_rows_text(alloc: Global, plan: &Plan, rows: &[Row]) -> Result<String, Memory>
+/// The same of rows of any kind.
+pub fn stored_rows_text(
+    alloc: Global,
+    plan: &Plan,
+    rows: &[Row],
+    told: Told<'_>,
+) -> Result<String, Memory>
     ensures { (at : ℕ → Shown) → AllShow rows.now at → IfOk result (λ text. string_bytes text
-        ≡ json_lines (rows_wire (λ k. None) (λ k. None) at (tree_of plan.now))) }
+        ≡ json_lines (rows_wire (fate_at told.entry.fates.now)
+        (parameter_of told.entry.blamed.now) at (tree_of plan.now))) }
 {
-    let told = Told {
-        fates: &[],
-        blamed: &[],
-    };
     lines_of(alloc, plan, rows, told)
 }
 

@@ -76,14 +76,14 @@ pub(crate) const AGAIN: Argument = Argument {
     name: "again",
     takes: Takes::Text("LIST"),
     given: Given::Maybe,
-    help: "What is delivered again, as 1:early,3:late; standard error counts stores that answer Again",
+    help: "What is delivered again, as 1:early,NAME:late, or all; standard error counts stores that answer Again",
 };
 
 pub(crate) const TASK: Argument = Argument {
     name: "task",
     takes: Takes::Texts("NAME=WORD"),
     given: Given::Maybe,
-    help: "What a task answers: a number, raise:KIND, or as add, div, ident, log_error, mul or xsum does",
+    help: "What a task answers: a number, raise:CLASS, or as add, div, ident, log_error, mul or xsum does",
 };
 
 pub(crate) const TASKS: Argument = Argument {
@@ -107,6 +107,13 @@ pub(crate) const JSON: Argument = Argument {
     help: "Prints each task, and then the result, as a JSON object in a line; refusals too",
 };
 
+pub(crate) const REFUSAL_JSON: Argument = Argument {
+    name: "json",
+    takes: Takes::Nothing,
+    given: Given::Maybe,
+    help: "Prints a refusal as a JSON object in a line",
+};
+
 pub(crate) const FIGURES_JSON: Argument = Argument {
     name: "json",
     takes: Takes::Nothing,
@@ -126,6 +133,20 @@ pub(crate) const EACH: Argument = Argument {
     takes: Takes::Nothing,
     given: Given::Maybe,
     help: "Runs many canvases, one a line, and prints a JSON object a line for each",
+};
+
+pub(crate) const NULL: Argument = Argument {
+    name: "null",
+    takes: Takes::Nothing,
+    given: Given::With("each"),
+    help: "Each of many canvases ends with a NUL byte, and not with its line",
+};
+
+pub(crate) const ADAPT: Argument = Argument {
+    name: "adapt",
+    takes: Takes::Nothing,
+    given: Given::Maybe,
+    help: "Makes a canvas that runs here first, as `canvas adapt` does",
 };
 
 pub(crate) const EXPLAIN: Argument = Argument {

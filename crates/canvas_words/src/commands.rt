@@ -2,27 +2,43 @@
 
 use crate::Subcommand;
 use crate::arguments::{
-    AGAIN, Argument, BACKEND_DATABASE, BROKER_DATABASE, COMPLETE, COMPLETE_RESULTS, EACH, EXPIRES,
-    EXPLAIN, FAIL, FIGURES_JSON, FILE, FILE_ALONE, JSON, OF, PREFIX, QUEUE, RENAME, RESULTS, RUN,
-    STATES, STRICT, TASK, TASKS, TURNS, WITHOUT_SCRIPT, WORKERS, arguments_of,
+    ADAPT, AGAIN, Argument, BACKEND_DATABASE, BROKER_DATABASE, COMPLETE, COMPLETE_RESULTS, EACH,
+    EXPIRES, EXPLAIN, FAIL, FIGURES_JSON, FILE, FILE_ALONE, JSON, NULL, OF, PREFIX, QUEUE,
+    REFUSAL_JSON, RENAME, RESULTS, RUN, STATES, STRICT, TASK, TASKS, TURNS, WITHOUT_SCRIPT,
+    WORKERS, arguments_of,
 };
 use clap::{Arg, Command};
 use std::alloc::{AllocError, Global};
 
-/// The arguments of `graph`.
-const GRAPH: [Argument; 8] = [
+/// The arguments of `run`.
+const RUN_ARGUMENTS: [Argument; 10] = [
+    FILE, WORKERS, ADAPT, TASK, TASKS, JSON, EXPLAIN, EACH, NULL, FAIL,
+];
+
+/// Those of `turns`.
+const TURNS_ARGUMENTS: [Argument; 9] = [
+    FILE, WORKERS, TURNS, AGAIN, ADAPT, TASK, TASKS, JSON, FAIL,
+];
+
+/// Those of `graph`.
+const GRAPH: [Argument; 10] = [
     FILE,
     STATES,
     WORKERS,
+    ADAPT,
     TASK,
     TASKS,
     RESULTS,
     OF,
     COMPLETE_RESULTS,
+    REFUSAL_JSON,
 ];
 
+/// Those of `messages`.
+const MESSAGES: [Argument; 6] = [FILE, WORKERS, TURNS, TASK, TASKS, REFUSAL_JSON];
+
 /// Those of `export`.
-const EXPORT: [Argument; 8] = [
+const EXPORT: [Argument; 9] = [
     FILE,
     RUN,
     QUEUE,
@@ -31,6 +47,7 @@ const EXPORT: [Argument; 8] = [
     BROKER_DATABASE,
     BACKEND_DATABASE,
     WITHOUT_SCRIPT,
+    REFUSAL_JSON,
 ];
 
 impl Subcommand {
@@ -65,21 +82,15 @@ impl Subcommand {
 
     fn arguments<'a>(self, alloc: Global) -> Result<Vec<Arg<'a>>, AllocError> {
         match self {
-            Subcommand::Run => arguments_of(
-                alloc,
-                &[FILE, WORKERS, TASK, TASKS, JSON, EXPLAIN, EACH, FAIL],
-            ),
-            Subcommand::Turns => arguments_of(
-                alloc,
-                &[FILE, WORKERS, TURNS, AGAIN, TASK, TASKS, JSON, FAIL],
-            ),
-            Subcommand::Normal => arguments_of(alloc, &[FILE]),
+            Subcommand::Run => arguments_of(alloc, &RUN_ARGUMENTS),
+            Subcommand::Turns => arguments_of(alloc, &TURNS_ARGUMENTS),
+            Subcommand::Normal => arguments_of(alloc, &[FILE, REFUSAL_JSON]),
             Subcommand::Check => { arguments_of(alloc, &[FILE, TASK, TASKS, FIGURES_JSON, STRICT]) }
-            Subcommand::Adapt => arguments_of(alloc, &[FILE, RENAME]),
+            Subcommand::Adapt => arguments_of(alloc, &[FILE, RENAME, REFUSAL_JSON]),
             Subcommand::Graph => arguments_of(alloc, &GRAPH),
-            Subcommand::Messages => { arguments_of(alloc, &[FILE, WORKERS, TURNS, TASK, TASKS]) }
+            Subcommand::Messages => arguments_of(alloc, &MESSAGES),
             Subcommand::Export => arguments_of(alloc, &EXPORT),
-            Subcommand::Keys => arguments_of(alloc, &[FILE, RUN, PREFIX]),
+            Subcommand::Keys => arguments_of(alloc, &[FILE, RUN, PREFIX, REFUSAL_JSON]),
             Subcommand::Collect => arguments_of(alloc, &[FILE_ALONE, RUN, COMPLETE, JSON]),
         }
     }

@@ -20,7 +20,8 @@ Under `turns --again` a worker has the envelope that it holds delivered again at
 1:early,1:late: a task's number, a colon, and `early`, before the first store of the task's message, or
 `late`, before its envelope is acknowledged. The first worker that comes to a point spends the entry.
 The report stays as it is: a store of a message that was run before answers Again and changes nothing,
-and standard error says how many did. A list is written as one of turns is, and another is refused
+and standard error says how many did. A list is written as one of turns is. In place of a number it
+may have a name, for all tasks of that name; `all` is each task at both points. Another is refused
 (BadAgain).
 
 The six tasks are tasks.add(x, y), tasks.mul(x, y), tasks.div(x, y), which rounds down,
@@ -30,11 +31,13 @@ list of such (numbers), or a text (uuid). What comes in is the first, unless the
 immutable. An argument of another kind, or one too many or too few, is a TypeError.
 
 `--task NAME=WORD` says what a task of that name answers to any call: a whole number, or
-`raise:KIND`, where KIND is TypeError, ZeroDivisionError, OverflowError or NotRegistered. With the
-word add, div, ident, log_error, mul or xsum it answers as tasks.add and so on. It may be given
-again, for another name; the name * stands for each name that no task has. `--tasks FILE` has more,
-one a line; an empty line, and one that begins with #, says nothing, and what `--task` says of a
-name comes first. Another word or name, or a name that is there twice, is refused (BadTask).
+`raise:CLASS`, an exception by its name in letters, digits and _ (but Retry, Ignore and Reject,
+which are no failures). With the word add, div, ident, log_error, mul or xsum it answers as
+tasks.add and so on. It may be given again, for another name; the name * stands for each name that
+no task has, and on `run`, `turns` and `graph` `#3` for the third task alone, whatever its name.
+`--tasks FILE` has more, one a line; an empty line, and one that begins with #, says nothing, and
+what `--task` says of a name comes first. Another word or name, or a name that is there twice, is
+refused (BadTask). With --adapt these three first do what `adapt` does, and don't say what.
 
 The normal line of a canvas means the same as the canvas: some tasks, then at most one group or chord.
 A chain in a chain is flattened, and a group or chord that something follows is a chord whose body is
@@ -61,15 +64,18 @@ another number; a text of another kind, or a number that no task has, is refused
 `run --json` and `turns --json` print a JSON object in a line for each task (due_to, name, ran,
 result, status, task_id), and one for the result (result, status). A failure's result has exc_type
 and exc_message, as Celery stores it. A task that wasn't called has ran false; where it failed all
-the same, due_to is the task whose exception it shows, or that its ChordError names. A canvas that
-is refused gives an object with code, name, note and pointer on standard error; a file that can't be
-read, and a bad list or run's number, one with name and note. `run --explain` says the same in
-words, with #2 for the identifier of task 2. A run that ends early doesn't say which tasks were
-called. With --json a call of one of the six tasks that is a TypeError has parameter: the one at
-fault, or null where there are too many arguments. `run --each` reads a canvas a line, and prints a
-JSON object a line for each, in their order: canvas (the last line of `run --json`) and rows (a list
-of the others), or what --json prints of one that is refused. More than 67,108,864 bytes in all are
+the same, due_to is the task whose exception it shows, or that its ChordError names. `run
+--explain` says the same in words, with #2 for the identifier of task 2. A run that ends early
+doesn't say which tasks were called. With --json a call of one of the six tasks that is a TypeError
+has parameter: the one at fault, or null where there are too many arguments. `run --each` reads a
+canvas a line, and prints a JSON object a line for each, in their order: canvas (the last line of
+`run --json`) and rows (a list of the others), or what --json prints of one that is refused. With
+--null a canvas ends with a NUL byte in place of its line. More than 67,108,864 bytes in all are
 refused (TooLarge).
+
+With --json each command prints a refusal as an object on standard error: of a canvas with code,
+name, note, pointer and task (those of the first signature that has it, or null), and else, as of a
+file that can't be read or of bad words, with name and note.
 
 `graph` prints a picture for Graphviz, as in `canvas graph FILE --run | dot -Tsvg -o canvas.svg`: from left to
 right in time, groups and chords as frames, links and error callbacks dashed. `messages` prints what a

@@ -1,0 +1,149 @@
+//! `--again`: what is delivered again, by the numbers and names of tasks.
+
+use crate::refusal::Refusal;
+use canvas_engine::{EntryFault, When, read_again};
+use canvas_rewrite::Plan;
+use canvas_task::{TaskNo, name_ok};
+use clap::ArgMatches;
+use std::alloc::{AllocError, Global};
+
+/// What is asked for.
+#[derive(Drop)]
+pub(crate) enum Again<'w> {
+    Nothing,
+    Entries(Vec<(TaskNo, When)>),
+    /// A list in which there are names, or all tasks.
+    Named(&'w str),
+}
+
+/// Whether what stands before a point may be a task's name, and isn't like a number.
+fn is_name(who: &str) -> bool {
+    name_ok(who) && !matches!(who.as_bytes(), [b'0'..=b'9' | b'+' | b'-', ..])
+}
+
+fn is_number(who: &str) -> bool {
+    !who.is_empty() && who.as_bytes().iter().all(|byte| byte.is_ascii_digit())
+}
+
+/// What stands before the point of an entry.
+fn who_of(entry: &str) -> Option<&str> {
+    match entry.rsplit_once(':') {
+        Some((who, "early" | "late")) => Some(who),
+        _ => None,
+    }
+}
+
+fn has_name(entry: &str) -> bool {
+    match who_of(entry) {
+        Some(who) => is_name(who),
+        None => false,
+    }
+}
+
+fn has_number(entry: &str) -> bool {
+    match who_of(entry) {
+        Some(who) => is_number(who),
+        None => false,
+    }
+}
+
+/// Whether there are names of tasks in a list, which otherwise has numbers.
+fn has_names(list: &str) -> bool {
+    let mut found = false;
+    for entry in list.split(',') {
+        if has_name(entry) {
+            found = true;
+        } else if !has_number(entry) {
+            return false;
+        }
+    }
+    found
+}
+
+/// What the words ask for.
+pub(crate) fn asked_again<'w>(
+    alloc: Global,
+    given: &ArgMatches<'w>,
+) -> Result<Again<'w>, Refusal<'w>> {
+    let Some(list) = given.get_str("again") else {
+        return Ok(Again::Nothing);
+    };
+    match read_again(alloc, list) {
+        Ok(entries) => Ok(Again::Entries(entries)),
+        Err(EntryFault::BadAgain) if list == "all" || has_names(list) => { Ok(Again::Named(list)) }
+        Err(fault) => Err(Refusal::from(fault)),
+    }
+}
+
+/// Adds an entry to a list.
+fn push_text(out: &mut String, entry: &str) -> Result<(), AllocError> {
+    if !out.is_empty() {
+        out.push(',')?;
+    }
+    out.push_str(entry)
+}
+
+/// The same of a task's number.
+fn push_entry(out: &mut String, number: u32, when: &str) -> Result<(), AllocError> {
+    let comma = if out.is_empty() { "" } else { "," };
+    write!(out, "{comma}{number}:{when}")?;
+    Ok(())
+}
+
+/// Both entries of each task.
+fn push_all(out: &mut String, plan: &Plan) -> Result<(), AllocError> {
+    for index in 0..plan.tasks() {
+        let number = plan.task_at(index).get();
+        push_entry(out, number, "early")?;
+        push_entry(out, number, "late")?;
+    }
+    Ok(())
+}
+
+/// The same entry of each task of a name.
+fn push_named(out: &mut String, plan: &Plan, name: &str, when: &str) -> Result<(), AllocError> {
+    for index in 0..plan.tasks() {
+        let task = plan.task_at(index);
+        if plan.name(task) == Some(name) {
+            push_entry(out, task.get(), when)?;
+        }
+    }
+    Ok(())
+}
+
+/// The entry of a number as it is, and those of a name. That of a name that no task has is refused.
+fn push_said<'w>(out: &mut String, plan: &Plan, entry: &str) -> Result<(), Refusal<'w>> {
+    let (who, when) = entry.rsplit_once(':').unwrap_or((entry, ""));
+    if !is_name(who) {
+        return Ok(push_text(out, entry)?);
+    }
+    let before = out.len();
+    push_named(out, plan, who, when)?;
+    if out.len() == before {
+        return Err(Refusal::BadAgain);
+    }
+    Ok(())
+}
+
+/// A list with numbers in place of names.
+fn numbered<'w>(alloc: Global, plan: &Plan, list: &str) -> Result<String, Refusal<'w>> {
+    let mut out = String::new(alloc);
+    if list == "all" {
+        push_all(&mut out, plan)?;
+        return Ok(out);
+    }
+    for entry in list.split(',') {
+        push_said(&mut out, plan, entry)?;
+    }
+    Ok(out)
+}
+
+/// The entries of such a list.
+pub(crate) fn named_entries<'w>(
+    alloc: Global,
+    plan: &Plan,
+    list: &str,
+) -> Result<Vec<(TaskNo, When)>, Refusal<'w>> {
+    let numbered = numbered(alloc, plan, list)?;
+    Ok(read_again(alloc, &numbered)?)
+}

@@ -1,0 +1,129 @@
+//! Canvases as they are run: adapted where that is asked for, and with a name of its own for each
+//! task that is named by its number.
+
+use crate::errors::OtherError;
+use crate::plan::plan_of;
+use crate::refusal::Refusal;
+use crate::source::Source;
+use canvas_adapt::{Rename, adapt, rename};
+use canvas_rewrite::Plan;
+use canvas_stubs::Stub;
+use std::alloc::Global;
+
+/// How canvases are run, besides what answers their calls.
+#[derive(Clone, Copy)]
+pub(crate) struct Setting<'a> {
+    /// Whether they are adapted first.
+    pub(crate) adapts: bool,
+    /// The stubs that stand before the tasks.
+    pub(crate) stubs: &'a [Stub],
+    pub(crate) errors: &'a [OtherError],
+    pub(crate) renames: &'a [Rename],
+}
+
+/// The texts that are made of a canvas's.
+#[derive(Drop)]
+pub(crate) struct Prepared {
+    adapted: Option<Vec<u8>>,
+    renamed: Option<Vec<u8>>,
+}
+
+fn adapted<'w>(
+    alloc: Global,
+    text: &[u8],
+    setting: Setting<'_>,
+) -> Result<Option<Vec<u8>>, Refusal<'w>> {
+    if setting.adapts {
+        Ok(Some(adapt(alloc, text)?.text))
+    } else {
+        Ok(None)
+    }
+}
+
+/// The first of these numbers that a canvas of so many tasks doesn't have is refused.
+fn check_numbers<'w>(renames: &[Rename], tasks: u32) -> Result<(), Refusal<'w>> {
+    for rename in renames {
+        if rename.task.get() > tasks {
+            return Err(Refusal::NoTaskToAnswer(rename.task));
+        }
+    }
+    Ok(())
+}
+
+fn renamed<'w>(
+    alloc: Global,
+    text: &[u8],
+    setting: Setting<'_>,
+) -> Result<Option<Vec<u8>>, Refusal<'w>> {
+    if setting.renames.is_empty() {
+        return Ok(None);
+    }
+    let renamed = rename(alloc, text, setting.renames)?;
+    check_numbers(setting.renames, renamed.tasks)?;
+    Ok(Some(renamed.text))
+}
+
+fn text_or<'a>(made: &'a Option<Vec<u8>>, text: &'a [u8]) -> &'a [u8] {
+    match made {
+        Some(made) => made,
+        None => text,
+    }
+}
+
+impl Prepared {
+    pub(crate) fn of<'w>(
+        alloc: Global,
+        text: &[u8],
+        setting: Setting<'_>,
+    ) -> Result<Prepared, Refusal<'w>> {
+        let adapted = adapted(alloc, text, setting)?;
+        let renamed = renamed(alloc, text_or(&adapted, text), setting)?;
+        Ok(Prepared { adapted, renamed })
+    }
+
+    /// What a run of the canvas is of, whose text is this.
+    pub(crate) fn source<'a, T>(
+        &'a self,
+        text: &'a [u8],
+        tasks: &'a T,
+        setting: Setting<'a>,
+    ) -> Source<'a, T> {
+        let shown = text_or(&self.adapted, text);
+        Source {
+            text: text_or(&self.renamed, shown),
+            shown,
+            is_renamed: self.renamed.is_some(),
+            tasks,
+            stubs: setting.stubs,
+            errors: setting.errors,
+        }
+    }
+}
+
+/// The plan of a canvas, as it is shown and as it is run.
+#[derive(Drop)]
+pub(crate) struct Plans {
+    pub(crate) shown: Plan,
+    /// Where some of its tasks have other names.
+    renamed: Option<Plan>,
+}
+
+impl Plans {
+    pub(crate) fn of<'w, T>(alloc: Global, source: &Source<'_, T>) -> Result<Plans, Refusal<'w>> {
+        let shown = plan_of(alloc, source.shown)?;
+        let renamed = if source.is_renamed {
+            Some(plan_of(alloc, source.text)?)
+        } else {
+            None
+        };
+        Ok(Plans { shown, renamed })
+    }
+
+    /// The plan that is run.
+    pub(crate) fn run(&self) -> &Plan {
+        match &self.renamed {
+            Some(plan) => plan,
+            None => &self.shown,
+        }
+    }
+}
