@@ -13,7 +13,7 @@ use Rattle.canvas_task.specs.declared.outcome.Outcome.TheVariants.{Success, Fail
 use Rattle.canvas_values.proofs.ComposedLemmas.{both}
 use Rattle.canvas_semantics.specs.Evaluation as eval
 use Rattle.canvas_semantics.specs.PlacedLine.{PTask, PPlace, p_nowhere, p_group, p_chord, PLine, p_stop, p_step, p_group_end, p_chord_end, PLines, no_p_lines, and_p_line}
-use Rattle.canvas_rewrite.specs.FrozenView.{p_task_view, p_line_view}
+use Rattle.canvas_rewrite.specs.FrozenView.{PCarried, p_task_view, p_line_view}
 use Rattle.canvas_rewrite.specs.declared.frozen.Carried as block
 use Rattle.canvas_rewrite.specs.declared.frozen.Carried.{Carried, out-Carried}
 use Rattle.canvas_rewrite.specs.declared.frozen.FrozenTask.{FrozenTask, out-FrozenTask}
@@ -290,23 +290,18 @@ gathered_all ((k, Failure g) ∷ es) h = absurd cc
 pub carried_seen : (c : Carried) → carried_view c ≡ record { size = (out-Carried c).size; body = p_line_view (out-Carried c).body.value }
 carried_seen c = search (rules, block.the_lemmas)
 
-pub body_stands : (c : Carried) → carried_ok (carried_view c) ≡ true → is_whole (p_line_view (out-Carried c).body.value) ≡ true
-body_stands c ok = grind (rules, carried_seen c)
+pub body_stands : (c : PCarried) → carried_ok c ≡ true → is_whole c.body ≡ true
+body_stands c ok = grind rules
 
-pub after_failed : (c : Carried) (es : List (ℕ × Outcome)) (f : Fault) → Some f ≡ first_failure es
-    → effect_of (enter (p_line_view (out-Carried c).body.value) (raise f) (end_place (p_line_view (out-Carried c).body.value)) 0 None)
-    ≡ body_after (carried_view c) es
-after_failed c es f h =
-    let l : PLine = p_line_view (out-Carried c).body.value in
-    ap (λ x. effect_of (enter l x (end_place l) 0 None)) (sym (ap into_body (gathered_failed es f (sym h)))) ∙ sym (ap (λ z. body_after z es) (carried_seen c))
+pub after_failed : (c : PCarried) (es : List (ℕ × Outcome)) (f : Fault) → Some f ≡ first_failure es
+    → effect_of (enter c.body (raise f) (end_place c.body) 0 None) ≡ body_after c es
+after_failed c es f h = ap (λ x. effect_of (enter c.body x (end_place c.body) 0 None)) (sym (ap into_body (gathered_failed es f (sym h))))
 
-pub after_all : (c : Carried) (es : List (ℕ × Outcome)) (ns : List ℤ) → None ≡ first_failure es → ns ≡ successes es
-    → effect_of (enter (p_line_view (out-Carried c).body.value) (run (list_input ns)) (end_place (p_line_view (out-Carried c).body.value)) 0 None)
-    ≡ body_after (carried_view c) es
+pub after_all : (c : PCarried) (es : List (ℕ × Outcome)) (ns : List ℤ) → None ≡ first_failure es → ns ≡ successes es
+    → effect_of (enter c.body (run (list_input ns)) (end_place c.body) 0 None) ≡ body_after c es
 after_all c es ns h hn =
-    let l : PLine = p_line_view (out-Carried c).body.value in
-    ap (λ x. effect_of (enter l (run (list_input x)) (end_place l) 0 None)) hn
-    ∙ ap (λ x. effect_of (enter l x (end_place l) 0 None)) (sym (ap into_body (gathered_all es (sym h)))) ∙ sym (ap (λ z. body_after z es) (carried_seen c))
+    ap (λ x. effect_of (enter c.body (run (list_input x)) (end_place c.body) 0 None)) hn
+    ∙ ap (λ x. effect_of (enter c.body x (end_place c.body) 0 None)) (sym (ap into_body (gathered_all es (sym h))))
 
 -- the numbers of outcomes in range are in range
 successes_fit : (es : List (ℕ × Outcome)) → All (λ e. IsInRange e.1) es → list_all in_range (successes es) ≡ true

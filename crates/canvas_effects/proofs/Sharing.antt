@@ -4,10 +4,14 @@ use Rattle.std.specs.Prelude.{reverse, option_to_list, IfSome, MatchOption}
 use Rattle.std.specs.Option.{option_map}
 use Rattle.std.specs.declared.sync.Arc.{Arc}
 use Rattle.std.proofs.lemmas.List.{reverse-append}
-use Rattle.canvas_rewrite.specs.FrozenView.{p_line_view, p_end_view}
+use Rattle.canvas_rewrite.specs.FrozenView.{PCarried, p_line_view, p_end_view}
 use Rattle.canvas_rewrite.specs.declared.frozen.FrozenEnd.{FrozenEnd, out-FrozenEnd}
 use Rattle.canvas_rewrite.specs.declared.frozen.FrozenLine.{FrozenLine}
-use Rattle.canvas_message.proofs.Seen.{end_none, end_some}
+use Rattle.canvas_message.proofs.Seen.{chord_place, end_none, end_some}
+use Rattle.canvas_message.specs.MessageView.{carried_view, place_view}
+use Rattle.canvas_rewrite.specs.declared.frozen.Carried.{Carried}
+use Rattle.canvas_rewrite.specs.declared.frozen.Place.{Place, out-Place}
+use Rattle.canvas_effects.proofs.Ended.{carried_seen}
 use Rattle.canvas_semantics.specs.PlacedLine.{PTask, PPlace, p_nowhere, p_group, p_chord, PLine, p_stop, p_step, p_group_end, p_chord_end}
 use Rattle.canvas_message.specs.Content.{place_of}
 use Rattle.canvas_message.specs.SharedTexts.{AreEnds, AreTexts, IsLineText, SaysRinged, SaysCarried, core_of, inner_place, place_behind, rings_of}
@@ -15,6 +19,7 @@ use Rattle.canvas_message.specs.declared.carried_text.CarriedText.{CarriedText}
 use Rattle.canvas_message.specs.declared.texts.LineText.{LineText}
 use Rattle.canvas_message.specs.steps.Parts.{is_stop}
 use Rattle.canvas_effects.specs.Placing.{placed, end_place}
+use Rattle.canvas_effects.specs.Carrying.{carrying_place}
 use Rattle.canvas_effects.specs.steps.Walks.{member_place}
 
 -- ---- of what a place carries
@@ -72,6 +77,21 @@ pub of_members : (o : Known) (e : FrozenEnd) (p q : PPlace) → q ≡ member_pla
 of_members None e p q is h = tt
 of_members (Some t) e p q is h =
     subst (λ x. SaysCarried t.value (inner_place x)) (sym is) (inner_by t.value e (out-FrozenEnd e).body p refl h)
+
+-- which chord a place is of doesn't matter
+any_ringed : (rs : List (List ℕ × List ℕ)) (core : List ℕ) (g h size : ℕ) (b : PLine) → SaysRinged rs core (p_chord g size b)
+    → SaysRinged rs core (p_chord h size b)
+any_ringed [] core g h size b is = is
+any_ringed (r ∷ rs) core g h size b is = is
+
+pub of_chord : (o : Known) (q : PPlace) (g : ℕ) (c : PCarried) → q ≡ p_chord g c.size c.body → IsOf o q → IsOf o (carrying_place c)
+of_chord None q g c is h = tt
+of_chord (Some t) q g c is h = any_ringed (rings_of t.value) (core_of t.value) g 0 c.size c.body (subst (SaysCarried t.value) is h)
+
+pub of_carried : (o : Known) (p : Place) (c : Carried) → (out-Place p).chord ≡ Some c → IsOf o (place_view p) → IsOf o (carrying_place (carried_view c))
+of_carried o p c e h =
+    of_chord o (place_view p) (out-Place p).group (carried_view c)
+    (chord_place p c e ∙ ap (λ z. p_chord (out-Place p).group z.size z.body) (sym (carried_seen c))) h
 
 -- ---- of what follows on a line
 

@@ -5,7 +5,7 @@ use Rattle.std.specs.List.{list_all}
 use Rattle.canvas_task.specs.Numbers.{in_range}
 use Rattle.canvas_semantics.specs.Bounds.{most_reach}
 use Rattle.canvas_rewrite.specs.FrozenView.{PCarried}
-use Rattle.canvas_semantics.specs.PlacedLine.{PLine, PPlace, PTasks}
+use Rattle.canvas_semantics.specs.PlacedLine.{PLine, PPlace, PTasks, p_chord}
 use Rattle.canvas_message.specs.Fits.{is_task_number, size_ok, tasks_ok, place_ok, place_reach, tasks_reach, line_ok, line_reach}
 use Rattle.canvas_effects.specs.Flowing.{Input, no_input, number_input, list_input, id_input}
 use Rattle.canvas_effects.specs.Placing.{placed}
@@ -32,6 +32,10 @@ place_stands p = place_ok true p && nat_le (suc (place_reach p)) most_reach
 abbrev pub carried_ok : PCarried → Bool
 carried_ok c =
     size_ok c.size && line_ok true c.body && nat_le (suc (line_reach 0 c.body)) most_reach
+
+-- a place that carries it, of any chord
+abbrev pub carrying_place : PCarried → PPlace
+carrying_place c = p_chord 0 c.size c.body
 
 abbrev pub input_ok : Input → Bool
 input_ok no_input = true

@@ -8,7 +8,7 @@ ghost use Rattle.canvas_rewrite.specs.FrozenView.{p_line_view};
 ghost use Rattle.canvas_effects.specs.Carrying.{is_whole, place_stands, carried_ok, input_ok};
 ghost use Rattle.canvas_message.specs.Content.{number_of, links_of, errbacks_of};
 ghost use Rattle.canvas_effects.specs.Effects.{first_messages, after, called, body_after, enter, effect_of, stores_in, messages_in, part_in, part_of};
-ghost use Rattle.canvas_message.specs.MessageView.{carried_view, place_seen};
+ghost use Rattle.canvas_message.specs.MessageView.{place_seen};
 ghost use Rattle.canvas_message.specs.SharedTexts.{SaysCarried};
 ghost use Rattle.canvas_message.specs.Fits.{parent_ok};
 ghost use Rattle.canvas_effects.specs.Flowing.{run, raise, list_input};
@@ -27,9 +27,9 @@ mod started;
 
 use crate::destinations::with_text;
 use crate::input::Input;
-use crate::{PartCall, Todo};
-use canvas_message::{CarriedText, Message, following, share_carried, share_text};
-use canvas_rewrite::{Carried, FrozenLine, Place, Plan};
+use crate::{ChordBody, PartCall, Todo};
+use canvas_message::{CarriedText, Message, following, share_text};
+use canvas_rewrite::{FrozenLine, Place, Plan};
 use canvas_task::{Fault, ListOf, Memory, Outcome, TaskNo};
 use header::{failure_of, numbers_of};
 use lasts::last_task;
@@ -126,32 +126,46 @@ fn called_back(
 /// tasks in order.
 pub fn body_after(
     alloc: Global,
-    carried: &Carried,
+    chord: &ChordBody,
     outcomes: &[(TaskNo, Outcome)],
 ) -> Result<Todo, Memory>
-    requires carried { carried_ok (carried_view carried.now) ≡ true }
+    requires carried { carried_ok chord.now ≡ true }
     requires outcomes { All (λ e. IsInRange e.1) outcomes.now }
-    ensures { IfOk result
-        (λ todo. todo_view todo ≡ body_after (carried_view carried.now) outcomes.now) }
+    ensures { IfOk result (λ todo. todo_view todo ≡ body_after chord.now outcomes.now) }
 {
     match failure_of(outcomes) {
-        Some(fault) => Ok(raise_body(alloc, &carried.body, &fault)?),
+        Some(fault) => Ok(raise_body(alloc, body_of(chord), &fault)?),
         None => {
             let input = Input::Numbers(numbers_of(alloc, outcomes)?);
-            Ok(start_body(alloc, &carried.body, &input)?)
+            let text = chord.inner_text(alloc)?;
+            Ok(start_body(alloc, body_of(chord), &input, text)?)
         }
     }
 }
 
-fn start_body(alloc: Global, body: &FrozenLine, input: &Input) -> Result<Todo, AllocError>
+/// The body, as contracts see what is carried.
+fn body_of(chord: &ChordBody) -> &FrozenLine
+    ensures { p_line_view result.now ≡ chord.now.body }
+{
+    &chord.carried.body
+}
+
+fn start_body(
+    alloc: Global,
+    body: &FrozenLine,
+    input: &Input,
+    text: Option<Arc<CarriedText>>,
+) -> Result<Todo, AllocError>
     requires line { is_whole (p_line_view body.now) ≡ true }
     requires input { input_ok (input_seen input.now) ≡ true }
+    requires text { IfSome text
+        (λ t. SaysCarried t.value (end_place (p_line_view body.now))) }
     ensures { IfOk result (λ todo. todo_view todo
         ≡ effect_of (enter (p_line_view body.now) (run (input_seen input.now))
         (end_place (p_line_view body.now)) 0 None)) }
 {
     let mut messages = Vec::new(alloc);
-    start_whole(alloc, body, input, &None, None, &mut messages)?;
+    start_whole(alloc, body, input, &None, text, &mut messages)?;
     todo_of(Vec::new(alloc), messages, None)
 }
 
@@ -217,7 +231,7 @@ fn part_of(place: &Option<Place>, task: TaskNo) -> Result<Option<PartCall>, Allo
     match place {
         Some(place) => match &place.chord {
             Some(carried) => {
-                let chord = share_carried(carried)?;
+                let chord = ChordBody::unwritten(carried)?;
                 Ok(Some(PartCall {
                     group: place.group,
                     task,

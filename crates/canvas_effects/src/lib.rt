@@ -2,6 +2,7 @@
 //! members make a worker do.
 #![tactic(auto)]
 
+mod chord_body;
 mod copies;
 mod destination;
 mod destinations;
@@ -10,5 +11,6 @@ mod input;
 mod placing;
 mod todo;
 
+pub use chord_body::ChordBody;
 pub use effects::{after, body_after, first_messages, into_todo};
 pub use todo::{PartCall, Todo};

@@ -2,10 +2,9 @@
 
 ghost use Rattle.std.specs.Prelude.{◌≡◌, true};
 ghost use Rattle.canvas_effects.specs.Carrying.{carried_ok};
-ghost use Rattle.canvas_message.specs.MessageView.{carried_view};
 
+use crate::ChordBody;
 use canvas_message::Message;
-use canvas_rewrite::Carried;
 use canvas_task::{GroupNo, ListOf, Outcome, TaskNo};
 
 /// The part of a chord that a member's last task returns, with what follows the chord. It is one
@@ -17,8 +16,8 @@ pub struct PartCall {
     /// The member's last task.
     pub task: TaskNo,
     /// How many members the chord has, and its body.
-    pub chord: Carried,
-    ghost fits: { carried_ok (carried_view chord) ≡ true },
+    pub chord: ChordBody,
+    ghost fits: { carried_ok chord ≡ true },
 }
 
 /// What a worker stores, publishes and returns, in this order. Stores and messages are in the order

@@ -5,7 +5,6 @@ ghost use Rattle.std.specs.Option.{option_map};
 ghost use Rattle.canvas_task.specs.Apply.{IsInRange};
 ghost use Rattle.canvas_effects.specs.Carrying.{carried_ok};
 ghost use Rattle.canvas_effects.specs.Effects.{after, outcome_of, script as whole, part_jobs};
-ghost use Rattle.canvas_message.specs.MessageView.{carried_view};
 ghost use Rattle.canvas_effects.specs.Job as job;
 ghost use Rattle.canvas_effects.specs.Job.{store, publish};
 ghost use Rattle.canvas_effects.specs.Todos.{part_view};
@@ -25,9 +24,8 @@ use crate::sealing::script_of;
 use crate::stages::{Owned, Publishing, Reading, Storing};
 use crate::{Book, Reply};
 use canvas_backend::Stored;
-use canvas_effects::{PartCall, body_after, into_todo};
+use canvas_effects::{ChordBody, PartCall, body_after, into_todo};
 use canvas_message::{Letter, Message};
-use canvas_rewrite::Carried;
 use canvas_task::{GroupNo, Memory, Outcome, TaskNo, Tasks};
 use std::alloc::Global;
 
@@ -124,10 +122,10 @@ fn outcome_of<T: Tasks>(tasks: &T, message: &Message) -> Outcome
 }
 
 /// A function for its contract's sake: the size, as contracts see what is carried.
-fn size_of(carried: &Carried) -> u32
-    ensures { result ≡ (carried_view carried.now).size }
+fn size_of(chord: &ChordBody) -> u32
+    ensures { result ≡ chord.now.size }
 {
-    carried.size
+    chord.carried.size
 }
 
 impl Owned {
@@ -208,14 +206,14 @@ impl Publishing {
 fn read_next<B: Book>(
     book: &B,
     group: GroupNo,
-    chord: Carried,
+    chord: ChordBody,
     found: Vec<(TaskNo, Outcome)>,
 ) -> Phase
-    requires fits { carried_ok (carried_view chord) ≡ true }
-    requires few { length found.items < (carried_view chord).size }
+    requires fits { carried_ok chord ≡ true }
+    requires few { length found.items < chord.size }
     requires in_range { All (λ e. IsInRange e.1) found.items }
     ensures { IsAt result (reads_next (enveloped_by no_tasks (B.book book.now)) group
-        (carried_view chord) found.items) }
+        chord found.items) }
 {
     // For the proof alone: a size that is read is known to fit its type.
     let _size = size_of(&chord);
@@ -233,7 +231,7 @@ fn read_next<B: Book>(
 /// Where the part was the last of its header, the members are read.
 fn counted<B: Book>(alloc: Global, book: &B, part: PartCall, count: u64) -> Phase
     ensures { IsAt result (part_counted (enveloped_by no_tasks (B.book book.now)) part.group
-        (carried_view part.chord) count) }
+        part.chord count) }
 {
     let size = u64::from(size_of(&part.chord));
     if count < size && count + 1 == size {
@@ -245,7 +243,7 @@ fn counted<B: Book>(alloc: Global, book: &B, part: PartCall, count: u64) -> Phas
 
 pub(crate) fn returned<B: Book>(alloc: Global, book: &B, part: PartCall, reply: &Reply) -> Phase
     ensures { IsAt result (answered (enveloped_by no_tasks (B.book book.now))
-        (doing (job.part part.group part.task (carried_view part.chord) ∷ []) First)
+        (doing (job.part part.group part.task part.chord ∷ []) First)
         (replied reply.now)) }
 {
     match reply {
@@ -278,7 +276,7 @@ impl Reading {
     fn add<B: Book>(self, alloc: Global, book: &B, outcome: Outcome) -> Result<Phase, Memory>
         requires { IsInRange outcome }
         ensures { IfOk result (λ p. IsAt p (all_read (enveloped_by no_tasks (B.book book.now))
-            self.group (carried_view self.chord) (self.found.items ++ (self.task, outcome) ∷ []))) }
+            self.group self.chord (self.found.items ++ (self.task, outcome) ∷ []))) }
     {
         let Reading {
             group,
@@ -303,7 +301,7 @@ impl Reading {
     ) -> Result<Phase, Memory>
         requires { FoundInRange reply.now }
         ensures at { IfOk result (λ p. IsAt p (answered (enveloped_by no_tasks (B.book book.now))
-            (state_reading self.group (carried_view self.chord) self.task self.found.items)
+            (state_reading self.group self.chord self.task self.found.items)
             (replied reply.now))) }
         ensures memory { OnErr result (Grows reply.now) }
     {

@@ -1,7 +1,9 @@
--- How a place is stored, so that a type may have it as its value: as the message of a task at it.
-use Rattle.std.specs.Prelude.{false, [], None, refl}
+-- How a place is stored, so that a type may have it as its value: as the message of a task at it;
+-- and how what it carries is.
+use Rattle.std.specs.Prelude.{ℕ, zero, false, [], Option, Some, None, refl}
 use Rattle.std.specs.Coded.{Coded, code_by}
-use Rattle.canvas_semantics.specs.PlacedLine.{p_task, no_p_tasks, PPlace, p_stop}
+use Rattle.canvas_rewrite.specs.FrozenView.{PCarried}
+use Rattle.canvas_semantics.specs.PlacedLine.{p_task, no_p_tasks, PPlace, p_nowhere, p_stop}
 use Rattle.canvas_message.specs.Content.{Content, place_of}
 use Rattle.canvas_message.specs.codes.ContentCode.{content_code}
 
@@ -19,3 +21,23 @@ to_place c = place_of c.own
 
 abbrev pub place_code : Coded PPlace
 place_code = code_by Content content_code of_place to_place (λ p. refl)
+
+-- a load as a message of no task
+abbrev of_carried : PCarried → Content
+of_carried c =
+    record {
+      parent = Some c.size;
+      own = p_task 0 (record { name = []; args = []; kwargs = []; immutable = false })
+          no_p_tasks no_p_tasks p_nowhere;
+      rest = c.body;
+    }
+
+abbrev or_none : Option ℕ → ℕ
+or_none None = zero
+or_none (Some n) = n
+
+abbrev to_carried : Content → PCarried
+to_carried m = record { size = or_none m.parent; body = m.rest }
+
+abbrev pub carried_code : Coded PCarried
+carried_code = code_by Content content_code of_carried to_carried (λ c. refl)

@@ -1,7 +1,7 @@
 //! What follows a message that is given up: the next task of its line, or the part that its end
 //! returns, takes over what it carries.
 
-ghost use Rattle.std.specs.Prelude.{◌≡◌, true, false, IfOk, MatchBool, MatchOption};
+ghost use Rattle.std.specs.Prelude.{◌≡◌, true, false, IfOk, IfSome, MatchBool, MatchOption};
 ghost use Rattle.std.specs.Option.{option_map};
 ghost use Rattle.canvas_task.specs.Numbers.{in_range};
 ghost use Rattle.canvas_task.specs.Apply.{IsInRange};
@@ -11,20 +11,21 @@ ghost use Rattle.canvas_semantics.specs.PlacedLine.{PLine, PPlace, PTask, p_step
 ghost use Rattle.canvas_effects.specs.Carrying.{place_stands};
 ghost use Rattle.canvas_effects.specs.Effects.{after, message, part_in, part_of};
 ghost use Rattle.canvas_message.specs.Content.{number_of, place_of};
-ghost use Rattle.canvas_message.specs.SharedTexts.{AreTexts, IsLineText};
+ghost use Rattle.canvas_message.specs.SharedTexts.{AreTexts, IsLineText, SaysCarried};
 ghost use Rattle.canvas_message.specs.Fits.{fits};
 ghost use Rattle.canvas_effects.specs.Todos.{part_view, todo_view};
-ghost use Rattle.canvas_message.specs.MessageView.{place_seen, rest_seen};
+ghost use Rattle.canvas_message.specs.MessageView.{place_seen, place_view, rest_seen};
 ghost use Rattle.canvas_effects.specs.steps.Walks.{input_seen, begins_with_task};
 
 use super::started::message_from;
 use super::{after, called_back, todo_of};
 use crate::input::Input;
-use crate::{PartCall, Todo};
-use canvas_message::{LineText, Message, Texts, following};
+use crate::{ChordBody, PartCall, Todo};
+use canvas_message::{CarriedText, LineText, Message, Texts, following};
 use canvas_rewrite::{FrozenLine, FrozenTask, Place};
 use canvas_task::{ListOf, Memory, Outcome, TaskNo};
 use std::alloc::{AllocError, Global};
+use std::sync::Arc;
 
 /// What follows the end of a message's task, as `after` says, where the message isn't needed
 /// any more: the task that follows it on its line, or the part that its end returns, takes over
@@ -155,16 +156,35 @@ fn hand_on(alloc: Global, message: Message, number: i64) -> Result<Todo, AllocEr
     }
 }
 
-/// The part that the task of a place returns, which takes over what the place carries.
-fn take_part(place: Option<Place>, task: TaskNo) -> Option<PartCall>
-    requires { place_stands (place_seen place) ≡ true }
+/// The part that the task of a place returns, which takes over what the place carries, and the text
+/// of that.
+fn part_at(place: Place, task: TaskNo, text: Option<Arc<CarriedText>>) -> Option<PartCall>
+    requires place { place_stands (place_view place) ≡ true }
+    requires text { IfSome text (λ t. SaysCarried t.value (place_view place)) }
+    ensures { option_map part_view result ≡ part_in (part_of (place_view place) task) }
+{
+    let Place { group, chord } = place;
+    match chord {
+        Some(carried) => {
+            let chord = ChordBody { carried, text };
+            Some(PartCall { group, task, chord })
+        }
+        None => None,
+    }
+}
+
+/// The same where there may be no place.
+fn take_part(
+    place: Option<Place>,
+    task: TaskNo,
+    text: Option<Arc<CarriedText>>,
+) -> Option<PartCall>
+    requires place { place_stands (place_seen place) ≡ true }
+    requires text { IfSome text (λ t. SaysCarried t.value (place_seen place)) }
     ensures { option_map part_view result ≡ part_in (part_of (place_seen place) task) }
 {
     match place {
-        Some(Place { group, chord }) => match chord {
-            Some(chord) => Some(PartCall { group, task, chord }),
-            None => None,
-        },
+        Some(place) => part_at(place, task, text),
         None => None,
     }
 }
@@ -176,6 +196,12 @@ fn end_last(alloc: Global, message: Message, outcome: &Outcome) -> Result<Todo, 
     ensures { IfOk result (λ todo. todo_view todo ≡ after message outcome.now) }
 {
     let messages = called_back(alloc, &message, outcome)?;
-    let Message { task, place, .. } = message;
-    todo_of(Vec::new(alloc), messages, take_part(place, task))
+    let Message {
+        task,
+        place,
+        texts,
+        ..
+    } = message;
+    let text = texts.carried;
+    todo_of(Vec::new(alloc), messages, take_part(place, task, text))
 }

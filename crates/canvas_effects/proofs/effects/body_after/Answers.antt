@@ -1,23 +1,27 @@
-use Rattle.std.proofs.Common.{◌∙◌, ap, None}
+use Rattle.std.proofs.Common.{◌≡◌, ◌∙◌, true, sym, ap, None}
 use Rattle.canvas_rewrite.specs.FrozenView.{p_line_view}
+use Rattle.canvas_effects.specs.Carrying.{is_whole}
 use Rattle.canvas_effects.specs.Effects.{enter, effect_of}
 use Rattle.canvas_effects.specs.Flowing.{run, raise, list_input}
 use Rattle.canvas_effects.specs.Placing.{end_place}
-use Rattle.canvas_effects.proofs.Ended.{numbers_fit, after_failed, after_all}
+use Rattle.canvas_effects.proofs.Ended.{body_stands, numbers_fit, after_failed, after_all}
+use Rattle.canvas_effects.proofs.Sharing.{of_same}
 use Rattle.canvas_effects.proofs.effects.body_after.Goals as goal
 
 pub start_body-requires-clause-input : goal.start_body-requires-clause-input
 start_body-requires-clause-input c = numbers_fit c.args.outcomes.now _ c.in_ok-numbers_of-in-None.ensures c.requires.outcomes
 
+pub start_body-requires-clause-text : goal.start_body-requires-clause-text
+start_body-requires-clause-text c = of_same _ _ _ (ap end_place (sym c.body_of-in-None.ensures)) c.in_ok-text-in-None.ensures
+
 pub returns-in_ok-raise_body-in-Some : goal.returns-in_ok-raise_body-in-Some
 returns-in_ok-raise_body-in-Some c =
     c.in_ok-raise_body-in-Some.ensures
-    ∙ ap (λ l. effect_of (enter (p_line_view l) (raise c.in-Some.fault) (end_place (p_line_view l)) 0 None)) c.deref.ensures
-    ∙ after_failed c.args.carried.now c.args.outcomes.now c.in-Some.fault c.in-Some.ensures
+    ∙ ap (λ l. effect_of (enter l (raise c.in-Some.fault) (end_place l) 0 None)) c.body_of.ensures
+    ∙ after_failed c.args.chord.now c.args.outcomes.now c.in-Some.fault c.in-Some.ensures
 
 pub returns-in_ok-start_body-in-None : goal.returns-in_ok-start_body-in-None
 returns-in_ok-start_body-in-None c =
     c.in_ok-start_body-in-None.ensures
-    ∙ ap (λ l. effect_of (enter (p_line_view l) (run (list_input c.in_ok-numbers_of-in-None.field-0))
-    (end_place (p_line_view l)) 0 None)) c.deref-in-None.ensures
-    ∙ after_all c.args.carried.now c.args.outcomes.now _ c.in-None.ensures c.in_ok-numbers_of-in-None.ensures
+    ∙ ap (λ l. effect_of (enter l (run (list_input c.in_ok-numbers_of-in-None.field-0)) (end_place l) 0 None)) c.body_of-in-None.ensures
+    ∙ after_all c.args.chord.now c.args.outcomes.now _ c.in-None.ensures c.in_ok-numbers_of-in-None.ensures

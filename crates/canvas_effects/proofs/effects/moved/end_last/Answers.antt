@@ -1,10 +1,18 @@
-use Rattle.std.proofs.Common.{rules, ◌≡◌, ◌∙◌, ap₂}
+use Rattle.std.proofs.Common.{rules, ◌≡◌, ◌∙◌, ap₂, subst}
 use Rattle.std.proofs.lemmas.Result.{IfOk-weaker}
 use Rattle.canvas_message.specs.Content.{number_of, place_of}
 use Rattle.canvas_effects.specs.Effects.{part_in, part_of}
-use Rattle.canvas_message.specs.MessageView.{place_seen}
+use Rattle.canvas_semantics.specs.PlacedLine.{p_stop}
+use Rattle.canvas_message.specs.MessageView.{place_seen, rest_seen}
+use Rattle.canvas_message.specs.SharedTexts.{place_behind}
 use Rattle.canvas_effects.proofs.Ended.{ended_last}
+use Rattle.canvas_effects.proofs.Sharing.{IsOf}
 use Rattle.canvas_effects.proofs.effects.moved.end_last.Goals as goal
+
+pub take_part-requires-clause-text : goal.take_part-requires-clause-text
+take_part-requires-clause-text c =
+    let last : rest_seen c.message.inside.rest ≡ p_stop = search rules in
+    subst (λ r. IsOf c.message.inside.texts.carried (place_behind (place_seen c.message.inside.place) r)) last c.message.invariant.1.carried
 
 pub returns : goal.returns
 returns c =

@@ -2,7 +2,6 @@ use Rattle.std.proofs.Common.{rules, ◌≡◌, ◌∙◌, ℕ, cond, List, [], 
 use Rattle.std.proofs.lemmas.Bool.{eq-eqb}
 use Rattle.canvas_task.specs.declared.outcome.Outcome.{Outcome}
 use Rattle.canvas_rewrite.specs.FrozenView.{PCarried}
-use Rattle.canvas_message.specs.MessageView.{carried_view}
 use Rattle.canvas_effects.specs.Effects.{body_after, script}
 use Rattle.canvas_effects.specs.Todos.{todo_view}
 use Rattle.canvas_message.specs.declared.envelope.Envelope.{Envelope}
@@ -15,12 +14,12 @@ use Rattle.canvas_worker.proofs.Stores.{body_todo_stores}
 use Rattle.canvas_worker.proofs.stages.Reading.add.Goals as goal
 
 pub script_of-requires : goal.script_of-requires
-script_of-requires g c = body_todo_stores (carried_view c.args.self.chord) c.deref.result.now (todo_view c.in_ok-todo.todo) c.in_ok-todo.ensures
+script_of-requires g c = body_todo_stores c.args.self.chord c.deref.result.now (todo_view c.in_ok-todo.todo) c.in_ok-todo.ensures
 
 pub returns-in_ok-script_of : goal.returns-in_ok-script_of
 returns-in_ok-script_of g c =
     let X : Protocol Envelope = enveloped_by no_tasks (g.B.Book.book c.args.book.now) in
-    let chord : PCarried = carried_view c.args.self.chord in
+    let chord : PCarried = c.args.self.chord in
     let found : List (ℕ × Outcome) = c.args.self.found.items ++ (c.args.self.task, c.args.outcome) ∷ [] in
     let jobs : jobs_of c.in_ok-script_of.field-0 ≡ map enclosed (script (body_after chord found)) = search rules in
     let latest : c.in_ok-script_of.field-0.latest ≡ Again = search rules in
