@@ -1,11 +1,12 @@
 -- What a worker is told to do, as data: the effects of `Effects` (Celery user guide, Canvas).
 use Rattle.std.specs.Prelude.{option_map}
 use Rattle.canvas_effects.specs.Effects.{Effect, Part}
+use Rattle.canvas_message.specs.MessageView.{carried_view}
 use Rattle.canvas_effects.specs.declared.todo.PartCall.{PartCall}
 use Rattle.canvas_effects.specs.declared.todo.Todo.{Todo}
 
 abbrev pub part_view : PartCall → Part
-part_view p = record { chord = p.group; task = p.task; carried = p.chord }
+part_view p = record { chord = p.group; task = p.task; carried = carried_view p.chord }
 
 abbrev pub todo_view : Todo → Effect
 todo_view t =

@@ -1,1 +1,2 @@
 pub mod PlaceCode
+pub mod KnownText

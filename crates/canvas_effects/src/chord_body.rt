@@ -3,6 +3,7 @@
 ghost use Rattle.std.specs.Prelude.{◌≡◌, IfOk, IfSome};
 ghost use Rattle.canvas_message.specs.MessageView.{carried_view};
 ghost use Rattle.canvas_message.specs.SharedTexts.{SaysCarried};
+ghost use Rattle.canvas_effects.specs.Carrying.{carrying_place};
 ghost use Rattle.canvas_effects.specs.Placing.{end_place};
 
 use canvas_message::{CarriedText, share_carried};
@@ -40,6 +41,15 @@ impl Model for ChordBody {
 }
 
 impl ChordBody {
+    /// A body with its text, where that is known.
+    pub fn of(carried: Carried, text: Option<Arc<CarriedText>>) -> ChordBody
+        requires { IfSome text
+            (λ t. SaysCarried t.value (carrying_place (carried_view carried))) }
+        ensures { result ≡ carried_view carried }
+    {
+        ChordBody { carried, text }
+    }
+
     /// A body of which no text is known.
     pub(crate) fn unwritten(carried: &Carried) -> Result<ChordBody, AllocError>
         ensures { IfOk result (λ b. b ≡ carried_view carried.now) }

@@ -8,7 +8,7 @@ ghost use Rattle.canvas_rewrite.specs.FrozenView.{p_line_view};
 ghost use Rattle.canvas_effects.specs.Carrying.{is_whole, place_stands, carried_ok, input_ok};
 ghost use Rattle.canvas_message.specs.Content.{number_of, links_of, errbacks_of};
 ghost use Rattle.canvas_effects.specs.Effects.{first_messages, after, called, body_after, enter, effect_of, stores_in, messages_in, part_in, part_of};
-ghost use Rattle.canvas_message.specs.MessageView.{place_seen};
+ghost use Rattle.canvas_message.specs.MessageView.{carried_view, place_seen};
 ghost use Rattle.canvas_message.specs.SharedTexts.{SaysCarried};
 ghost use Rattle.canvas_message.specs.Fits.{parent_ok};
 ghost use Rattle.canvas_effects.specs.Flowing.{run, raise, list_input};
@@ -28,8 +28,8 @@ mod started;
 use crate::destinations::with_text;
 use crate::input::Input;
 use crate::{ChordBody, PartCall, Todo};
-use canvas_message::{CarriedText, Message, following, share_text};
-use canvas_rewrite::{FrozenLine, Place, Plan};
+use canvas_message::{CarriedText, Message, following, share_carried, share_text};
+use canvas_rewrite::{Carried, FrozenLine, Place, Plan};
 use canvas_task::{Fault, ListOf, Memory, Outcome, TaskNo};
 use header::{failure_of, numbers_of};
 use lasts::last_task;
@@ -125,6 +125,21 @@ fn called_back(
 /// What follows the end of a header's members on what they carry, by the outcomes of their last
 /// tasks in order.
 pub fn body_after(
+    alloc: Global,
+    carried: &Carried,
+    outcomes: &[(TaskNo, Outcome)],
+) -> Result<Todo, Memory>
+    requires carried { carried_ok (carried_view carried.now) ≡ true }
+    requires outcomes { All (λ e. IsInRange e.1) outcomes.now }
+    ensures { IfOk result
+        (λ todo. todo_view todo ≡ body_after (carried_view carried.now) outcomes.now) }
+{
+    let chord = ChordBody::unwritten(carried)?;
+    after_header(alloc, &chord, outcomes)
+}
+
+/// The same of a body of which the text may be known.
+pub fn after_header(
     alloc: Global,
     chord: &ChordBody,
     outcomes: &[(TaskNo, Outcome)],
@@ -231,11 +246,12 @@ fn part_of(place: &Option<Place>, task: TaskNo) -> Result<Option<PartCall>, Allo
     match place {
         Some(place) => match &place.chord {
             Some(carried) => {
-                let chord = ChordBody::unwritten(carried)?;
+                let chord = share_carried(carried)?;
                 Ok(Some(PartCall {
                     group: place.group,
                     task,
                     chord,
+                    text: None,
                 }))
             }
             None => Ok(None),

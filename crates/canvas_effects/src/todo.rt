@@ -1,11 +1,15 @@
 //! What follows the end of a task, or of the members of a header.
 
-ghost use Rattle.std.specs.Prelude.{◌≡◌, true};
-ghost use Rattle.canvas_effects.specs.Carrying.{carried_ok};
+ghost use Rattle.std.specs.Prelude.{◌≡◌, true, IfSome};
+ghost use Rattle.canvas_effects.specs.Carrying.{carried_ok, carrying_place};
+ghost use Rattle.canvas_effects.specs.codes.KnownText.{known_prop};
+ghost use Rattle.canvas_message.specs.MessageView.{carried_view};
+ghost use Rattle.canvas_message.specs.SharedTexts.{SaysCarried};
 
-use crate::ChordBody;
-use canvas_message::Message;
+use canvas_message::{CarriedText, Message};
+use canvas_rewrite::Carried;
 use canvas_task::{GroupNo, ListOf, Outcome, TaskNo};
+use std::sync::Arc;
 
 /// The part of a chord that a member's last task returns, with what follows the chord. It is one
 /// that can be read from an envelope.
@@ -16,8 +20,12 @@ pub struct PartCall {
     /// The member's last task.
     pub task: TaskNo,
     /// How many members the chord has, and its body.
-    pub chord: ChordBody,
-    ghost fits: { carried_ok chord ≡ true },
+    pub chord: Carried,
+    /// The text of the body, where it is known. It changes no part.
+    pub text: Option<Arc<CarriedText>>,
+    ghost fits: { carried_ok (carried_view chord) ≡ true },
+    ghost says: { IfSome text (λ t. SaysCarried t.value
+        (carrying_place (carried_view chord))) } by { known_prop text (carrying_place (carried_view chord)) },
 }
 
 /// What a worker stores, publishes and returns, in this order. Stores and messages are in the order

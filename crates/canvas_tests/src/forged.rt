@@ -236,7 +236,7 @@ fn push_part(text: &mut String, part: &PartCall) -> Result<(), AllocError> {
     push_number(text, part.group.get())?;
     text.push(':')?;
     push_number(text, part.task.get())?;
-    let size = part.chord.carried.size;
+    let size = part.chord.size;
     write!(text, "/{size}")
 }
 

@@ -5,6 +5,7 @@ ghost use Rattle.std.specs.Option.{option_map};
 ghost use Rattle.canvas_task.specs.Apply.{IsInRange};
 ghost use Rattle.canvas_effects.specs.Carrying.{carried_ok};
 ghost use Rattle.canvas_effects.specs.Effects.{after, outcome_of, script as whole, part_jobs};
+ghost use Rattle.canvas_message.specs.MessageView.{carried_view};
 ghost use Rattle.canvas_effects.specs.Job as job;
 ghost use Rattle.canvas_effects.specs.Job.{store, publish};
 ghost use Rattle.canvas_effects.specs.Todos.{part_view};
@@ -24,7 +25,7 @@ use crate::sealing::script_of;
 use crate::stages::{Owned, Publishing, Reading, Storing};
 use crate::{Book, Reply};
 use canvas_backend::Stored;
-use canvas_effects::{ChordBody, PartCall, body_after, into_todo};
+use canvas_effects::{ChordBody, PartCall, after_header, into_todo};
 use canvas_message::{Letter, Message};
 use canvas_task::{GroupNo, Memory, Outcome, TaskNo, Tasks};
 use std::alloc::Global;
@@ -231,11 +232,12 @@ fn read_next<B: Book>(
 /// Where the part was the last of its header, the members are read.
 fn counted<B: Book>(alloc: Global, book: &B, part: PartCall, count: u64) -> Phase
     ensures { IsAt result (part_counted (enveloped_by no_tasks (B.book book.now)) part.group
-        part.chord count) }
+        (carried_view part.chord) count) }
 {
-    let size = u64::from(size_of(&part.chord));
+    let chord = ChordBody::of(part.chord, part.text);
+    let size = u64::from(size_of(&chord));
     if count < size && count + 1 == size {
-        read_next(book, part.group, part.chord, Vec::new(alloc))
+        read_next(book, part.group, chord, Vec::new(alloc))
     } else {
         Phase::Acking
     }
@@ -243,7 +245,7 @@ fn counted<B: Book>(alloc: Global, book: &B, part: PartCall, count: u64) -> Phas
 
 pub(crate) fn returned<B: Book>(alloc: Global, book: &B, part: PartCall, reply: &Reply) -> Phase
     ensures { IsAt result (answered (enveloped_by no_tasks (B.book book.now))
-        (doing (job.part part.group part.task part.chord ∷ []) First)
+        (doing (job.part part.group part.task (carried_view part.chord) ∷ []) First)
         (replied reply.now)) }
 {
     match reply {
@@ -286,7 +288,7 @@ impl Reading {
         } = self;
         found.push((task, outcome))?;
         if found.len() == size_of(&chord) as usize {
-            let todo = body_after(alloc, &chord, &found)?;
+            let todo = after_header(alloc, &chord, &found)?;
             Ok(settle(script_of(alloc, todo, Stored::Again)?))
         } else {
             Ok(read_next(book, group, chord, found))

@@ -20,7 +20,7 @@ ghost use Rattle.canvas_effects.specs.steps.Walks.{input_seen, begins_with_task}
 use super::started::message_from;
 use super::{after, called_back, todo_of};
 use crate::input::Input;
-use crate::{ChordBody, PartCall, Todo};
+use crate::{PartCall, Todo};
 use canvas_message::{CarriedText, LineText, Message, Texts, following};
 use canvas_rewrite::{FrozenLine, FrozenTask, Place};
 use canvas_task::{ListOf, Memory, Outcome, TaskNo};
@@ -165,20 +165,18 @@ fn part_at(place: Place, task: TaskNo, text: Option<Arc<CarriedText>>) -> Option
 {
     let Place { group, chord } = place;
     match chord {
-        Some(carried) => {
-            let chord = ChordBody { carried, text };
-            Some(PartCall { group, task, chord })
-        }
+        Some(chord) => Some(PartCall {
+            group,
+            task,
+            chord,
+            text,
+        }),
         None => None,
     }
 }
 
 /// The same where there may be no place.
-fn take_part(
-    place: Option<Place>,
-    task: TaskNo,
-    text: Option<Arc<CarriedText>>,
-) -> Option<PartCall>
+fn take_part(place: Option<Place>, task: TaskNo, text: Option<Arc<CarriedText>>) -> Option<PartCall>
     requires place { place_stands (place_seen place) ≡ true }
     requires text { IfSome text (λ t. SaysCarried t.value (place_seen place)) }
     ensures { option_map part_view result ≡ part_in (part_of (place_seen place) task) }

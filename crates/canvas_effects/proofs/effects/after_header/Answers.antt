@@ -6,7 +6,7 @@ use Rattle.canvas_effects.specs.Flowing.{run, raise, list_input}
 use Rattle.canvas_effects.specs.Placing.{end_place}
 use Rattle.canvas_effects.proofs.Ended.{body_stands, numbers_fit, after_failed, after_all}
 use Rattle.canvas_effects.proofs.Sharing.{of_same}
-use Rattle.canvas_effects.proofs.effects.body_after.Goals as goal
+use Rattle.canvas_effects.proofs.effects.after_header.Goals as goal
 
 pub start_body-requires-clause-input : goal.start_body-requires-clause-input
 start_body-requires-clause-input c = numbers_fit c.args.outcomes.now _ c.in_ok-numbers_of-in-None.ensures c.requires.outcomes
