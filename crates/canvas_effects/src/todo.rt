@@ -1,10 +1,9 @@
 //! What follows the end of a task, or of the members of a header.
 
-ghost use Rattle.std.specs.Prelude.{◌≡◌, true, IfSome};
-ghost use Rattle.canvas_effects.specs.Carrying.{carried_ok, carrying_place};
-ghost use Rattle.canvas_effects.specs.codes.KnownText.{known_prop};
+ghost use Rattle.std.specs.Prelude.{◌≡◌, true};
+ghost use Rattle.canvas_effects.specs.Carrying.{carried_ok};
+ghost use Rattle.canvas_effects.specs.codes.KnownText.{SaysBody, known_prop};
 ghost use Rattle.canvas_message.specs.MessageView.{carried_view};
-ghost use Rattle.canvas_message.specs.SharedTexts.{SaysCarried};
 
 use canvas_message::{CarriedText, Message};
 use canvas_rewrite::Carried;
@@ -24,8 +23,7 @@ pub struct PartCall {
     /// The text of the body, where it is known. It changes no part.
     pub text: Option<Arc<CarriedText>>,
     ghost fits: { carried_ok (carried_view chord) ≡ true },
-    ghost says: { IfSome text (λ t. SaysCarried t.value
-        (carrying_place (carried_view chord))) } by { known_prop text (carrying_place (carried_view chord)) },
+    ghost says: { SaysBody text (carried_view chord) } by { known_prop text (carried_view chord) },
 }
 
 /// What a worker stores, publishes and returns, in this order. Stores and messages are in the order
