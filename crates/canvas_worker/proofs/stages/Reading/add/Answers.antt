@@ -10,8 +10,18 @@ use Rattle.canvas_runs.specs.Core.{settled, reads_next}
 use Rattle.canvas_runs.specs.Protocol.{Protocol}
 use Rattle.canvas_worker.specs.EnvelopeWorker.{enclosed, enveloped_by, no_tasks}
 use Rattle.canvas_worker.specs.Scripts.{jobs_of}
+use Rattle.canvas_worker.proofs.FoundMembers.{one_more}
 use Rattle.canvas_worker.proofs.Stores.{body_todo_stores}
 use Rattle.canvas_worker.proofs.stages.Reading.add.Goals as goal
+
+pub after_header-requires-clause-outcomes : goal.after_header-requires-clause-outcomes
+after_header-requires-clause-outcomes g c =
+    one_more c.args.self.found.items c.deref.result.now (c.args.self.task, c.args.outcome) (c.deref.ensures.value ∙ c.in_ok-push.ensures.items)
+    c.args.self.numbers c.requires
+
+pub read_next-requires-clause-in_range : goal.read_next-requires-clause-in_range
+read_next-requires-clause-in_range g c =
+    one_more c.args.self.found.items c.push.new.self.items (c.args.self.task, c.args.outcome) c.in_ok-push.ensures.items c.args.self.numbers c.requires
 
 pub script_of-requires : goal.script_of-requires
 script_of-requires g c = body_todo_stores c.args.self.chord c.deref.result.now (todo_view c.in_ok-todo.todo) c.in_ok-todo.ensures
