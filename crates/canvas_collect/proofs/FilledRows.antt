@@ -3,7 +3,7 @@ use Rattle.std.proofs.Common.{◌≡◌, ◌∙◌, ◌<◌, ℕ, List, length, 
 use Rattle.std.proofs.lemmas.Bool.{cases_eq}
 use Rattle.std.proofs.lemmas.List.{get_or-set_other}
 use Rattle.std.proofs.lemmas.Grind.{get_or-set_at}
-use Rattle.canvas_collect.specs.declared.row.Row.{Row}
+use Rattle.canvas_report.specs.declared.row.Row.{Row}
 use Rattle.canvas_collect.specs.Filled.{pending, IsFailed, IsFilled, AreFilled}
 
 pub filled_refl : (rows : List Row) → AreFilled rows rows

@@ -22,8 +22,8 @@ use Rattle.canvas_task.specs.declared.outcome.Kind.TheVariants as kind
 use Rattle.canvas_values.specs.CanvasText.{json_of}
 use Rattle.canvas_values.proofs.Depth.{field_low}
 use Rattle.canvas_celery.specs.Run.{run_task}
-use Rattle.canvas_collect.specs.declared.row.Row.{Row}
-use Rattle.canvas_collect.specs.declared.row.Row.TheVariants.{Known, Value, Raised, Blamed}
+use Rattle.canvas_report.specs.declared.row.Row.{Row}
+use Rattle.canvas_report.specs.declared.row.Row.TheVariants.{Known, Value, Raised, Blamed}
 use Rattle.canvas_collect.specs.declared.stored.StoredFault.{StoredFault}
 use Rattle.canvas_collect.specs.declared.stored.StoredFault.TheVariants.{NotJson, OtherTask, UnknownState, NotNumber, UnknownException, UnknownDependency}
 use Rattle.canvas_collect.specs.declared.stored.StoredFault.TheVariants.{Memory}

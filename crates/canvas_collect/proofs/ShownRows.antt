@@ -1,7 +1,7 @@
 -- Rows of any kind that are shown, one after the other.
 use Rattle.std.proofs.Common.{◌≡◌, ℕ, suc, ◌+◌, arith, List, [], ◌∷◌, ◌++◌, length, append_assoc, sym, ap, ◌∙◌, subst}
 use Rattle.canvas_task.specs.Text.{Text}
-use Rattle.canvas_collect.specs.declared.row.Row.{Row}
+use Rattle.canvas_report.specs.declared.row.Row.{Row}
 use Rattle.canvas_collect.specs.Pieces.{lines_in}
 use Rattle.canvas_collect.specs.AsStored.{Shows, AllShown}
 use Rattle.canvas_collect.specs.steps.ShownRows.{GainsRow, AreRead}

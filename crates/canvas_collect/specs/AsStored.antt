@@ -14,8 +14,8 @@ use Rattle.canvas_task.specs.declared.outcome.Kind.{Kind}
 use Rattle.canvas_task.specs.declared.outcome.Why.{Why}
 use Rattle.canvas_values.specs.CanvasText.{json_of}
 use Rattle.canvas_celery.specs.Run.{run_task}
-use Rattle.canvas_collect.specs.declared.row.Row.{Row}
-use Rattle.canvas_collect.specs.declared.row.Row.TheVariants.{Known, Value, Raised, Blamed}
+use Rattle.canvas_report.specs.declared.row.Row.{Row}
+use Rattle.canvas_report.specs.declared.row.Row.TheVariants.{Known, Value, Raised, Blamed}
 use Rattle.canvas_collect.specs.Stored.{state_of, result_of, integer_in, class_of, message_of}
 use Rattle.canvas_collect.specs.Stored.{SaysRow, IsResult}
 

@@ -1,8 +1,8 @@
 -- What completing leaves of rows of any kind: each is as it was, or was pending and is a failure.
 use Rattle.std.specs.Prelude.{◌≡◌, ◌⊎◌, ℕ, List, get_or, Some, None}
 use Rattle.canvas_task.specs.declared.outcome.Outcome.TheVariants.{Success, Failure}
-use Rattle.canvas_collect.specs.declared.row.Row.{Row}
-use Rattle.canvas_collect.specs.declared.row.Row.TheVariants.{Known, Value, Raised, Blamed}
+use Rattle.canvas_report.specs.declared.row.Row.{Row}
+use Rattle.canvas_report.specs.declared.row.Row.TheVariants.{Known, Value, Raised, Blamed}
 
 abbrev pub pending : Row
 pending = Known None

@@ -4,7 +4,7 @@ use Rattle.serde_json.specs.Data.{Data}
 use Rattle.canvas_task.specs.Text.{Text}
 use Rattle.canvas_collect.specs.declared.collecting.CollectFault.{CollectFault}
 use Rattle.canvas_collect.specs.declared.collecting.CollectFault.TheVariants as fault
-use Rattle.canvas_collect.specs.declared.row.Row.{Row}
+use Rattle.canvas_report.specs.declared.row.Row.{Row}
 use Rattle.canvas_collect.specs.declared.stored.StoredFault.{StoredFault}
 use Rattle.canvas_collect.specs.declared.stored.StoredFault.TheVariants.{NotJson, OtherTask}
 use Rattle.canvas_collect.specs.declared.stored.StoredFault.TheVariants.{UnknownState}

@@ -9,10 +9,10 @@ ghost use Rattle.canvas_collect.specs.steps.ShownRows.{GainsRow, TaskFault};
 
 use crate::collecting::CollectFault;
 use crate::pieces::{count_lines, split_line};
-use crate::row::Row;
 use crate::showing::read_row;
 use crate::stored::StoredFault;
 use canvas_celery::Run;
+use canvas_report::Row;
 use canvas_rewrite::Plan;
 use canvas_task::TaskNo;
 use std::alloc::Global;

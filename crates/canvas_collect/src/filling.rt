@@ -5,7 +5,7 @@ ghost use Rattle.canvas_semantics.specs.Line.{count_line};
 ghost use Rattle.canvas_collect.specs.Filled.{pending, IsFailed, AreFilled};
 
 use crate::completing::complete;
-use crate::row::Row;
+use canvas_report::Row;
 use canvas_rewrite::Plan;
 use canvas_task::{Fault, Kind, ListOf, Memory, Outcome, TaskNo, Why};
 use std::alloc::{AllocError, Global};

@@ -7,7 +7,6 @@ mod completing;
 mod filling;
 mod named;
 mod pieces;
-mod row;
 mod showing;
 mod stored;
 
@@ -15,5 +14,4 @@ pub use as_stored::collect_as_stored;
 pub use collecting::{CollectFault, collect};
 pub use completing::complete;
 pub use filling::complete_as_stored;
-pub use row::Row;
 pub use stored::StoredFault;

@@ -12,9 +12,9 @@ ghost use Rattle.canvas_collect.specs.steps.Found.{value_at};
 ghost use Rattle.canvas_collect.specs.steps.ShownRows.{IsRefused, HasJson, HasClass, HasBlame, LacksClass};
 ghost use Rattle.canvas_collect.specs.steps.ShownRows.{IsChordRow, ResultFault, ShowFault};
 
-use crate::row::Row;
 use crate::stored::{StoredFault, blame_in, is_of, message_in, outcome_of, parsed, text_in};
 use canvas_celery::Run;
+use canvas_report::Row;
 use canvas_rewrite::Plan;
 use canvas_task::TaskNo;
 use serde_json::Value;

@@ -11,12 +11,11 @@ use crate::refusal::Refusal;
 use crate::reporting::{Form, Manner};
 use canvas_celery::{Run, keys};
 use canvas_collect::{
-    CollectFault, Row, StoredFault, collect, collect_as_stored, complete, complete_as_stored,
+    CollectFault, StoredFault, collect, collect_as_stored, complete, complete_as_stored,
 };
-use canvas_engine::Report;
 use canvas_export::{Target, export};
+use canvas_report::{Report, Row, Told, stored_rows_text, stored_text};
 use canvas_rewrite::Plan;
-use canvas_views::{Told, stored_rows_text, stored_text};
 pub use refusal::CeleryRefusal;
 use std::alloc::Global;
 use std::io::Read;

@@ -2,8 +2,8 @@
 
 use crate::answer::Remark;
 use canvas_finding::ignored_options;
+use canvas_report::escaped_json;
 use canvas_task::Memory;
-use canvas_views::escaped_json;
 use std::alloc::{AllocError, Global};
 
 /// The line on an option.

@@ -4,9 +4,7 @@
 use crate::errors::class_named;
 use crate::source::Source;
 use crate::stubs::stub_named;
-use canvas_collect::Row;
-use canvas_engine::Report;
-use canvas_ran::{Fate, state_in};
+use canvas_report::{Fate, Report, Row, state_in};
 use canvas_rewrite::Plan;
 use canvas_task::{Fault, Kind, Outcome, TaskNo};
 use std::alloc::{AllocError, Global};

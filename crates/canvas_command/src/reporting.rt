@@ -5,11 +5,13 @@ use crate::named_rows::rows_of;
 use crate::prepared::Plans;
 use crate::refusal::Refusal;
 use crate::source::Source;
-use canvas_engine::{Report, RunFault, report_text};
+use canvas_engine::RunFault;
 use canvas_ran::fates;
+use canvas_report::{
+    Report, Told, explained_text, is_failure, report_text, rows_text, stored_text,
+};
 use canvas_rewrite::Plan;
 use canvas_task::{Memory, Tasks};
-use canvas_views::{Told, explained_text, is_failure, rows_text, stored_text};
 use std::alloc::Global;
 
 /// How a report is printed.

@@ -6,14 +6,12 @@ use crate::named_rows::{classes_of, rows_of};
 use crate::prepared::Plans;
 use crate::refusal::Refusal;
 use crate::stubs::stub_named;
-use canvas_collect::Row;
-use canvas_engine::Report;
-use canvas_ran::{Fate, fates, state_in};
+use canvas_ran::fates;
+use canvas_report::{Fate, Report, Row, Told, rows_text, state_in, stored_rows_text};
 use canvas_sig::{Canvas, read_canvas};
 use canvas_stubs::{Does, Stub};
 use canvas_task::{Fault, Kind, Memory, Outcome, TaskNo, Tasks};
 use canvas_values::TaskSig;
-use canvas_views::{Told, rows_text, stored_rows_text};
 use canvas_warning::{Blame, Expected, Forecast, Input, OneOfSix, blamed, forecasts, tasks_in};
 use std::alloc::{AllocError, Global};
 

@@ -4,8 +4,8 @@ use crate::celery::CeleryRefusal;
 use crate::finding::{fault_json, refusal_json};
 use crate::refusal::Refusal;
 use crate::unread::Unread;
+use canvas_report::quoted_json;
 use canvas_task::Memory;
-use canvas_views::quoted_json;
 use std::alloc::{AllocError, Global};
 
 const TURNS: &str =

@@ -2,9 +2,9 @@
 
 use crate::source::{Foreseen, Source};
 use canvas_finding::{Signature, pointer_text, signatures_of};
+use canvas_report::{escaped_json, quoted_json};
 use canvas_sig::Canvas;
 use canvas_task::{Memory, Tasks};
-use canvas_views::{escaped_json, quoted_json};
 use canvas_warning::{Blame, Expected, Input, Wrong};
 use std::alloc::{AllocError, Global};
 use std::collections::BTreeMap;

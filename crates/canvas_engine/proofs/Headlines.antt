@@ -30,7 +30,7 @@ use Rattle.canvas_callers.specs.Crew.{numbers_along}
 use Rattle.canvas_engine.specs.Evidence.{IsRun}
 use Rattle.canvas_engine.specs.Headline.{of_task, publications, Headline}
 use Rattle.canvas_engine.specs.declared.threads.records.Records.{Records}
-use Rattle.canvas_engine.specs.declared.report.Report.{Report}
+use Rattle.canvas_report.specs.declared.report.Report.{Report}
 use Rattle.canvas_engine.proofs.EnvelopeTasks.{opened_names}
 use Rattle.canvas_runs.proofs.Laws.Causes.{by_in}
 

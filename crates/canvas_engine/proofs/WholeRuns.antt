@@ -33,7 +33,7 @@ use Rattle.canvas_engine.specs.Traced.{IsTraced, sent_after}
 use Rattle.canvas_engine.specs.steps.Noting.{Noted, kept}
 use Rattle.canvas_engine.specs.steps.AgainRuns.{IsAgainWithin, IsKeptWithin, IsCutAgain, IsAgainFault}
 use Rattle.canvas_engine.specs.steps.Stages.{rows_of, IsNew, AreNew, IsCoreAt, Given, Reached, IsHalfway, IsEarlyEnd, IsRunThrough}
-use Rattle.canvas_engine.specs.declared.report.Report.{Report}
+use Rattle.canvas_report.specs.declared.report.Report.{Report}
 use Rattle.canvas_engine.specs.declared.fault.RunFault.{RunFault}
 use Rattle.canvas_engine.specs.declared.fault.RunFault.TheVariants.{BadWorkers, BadTurn, Halted}
 use Rattle.canvas_engine.specs.declared.turns.stage.Stage.{Stage}

@@ -13,10 +13,11 @@ use Rattle.canvas_semantics.proofs.EndLemmas.{ends_of_tree}
 use Rattle.canvas_rewrite.specs.Planned.{IsPlan}
 use Rattle.canvas_rewrite.proofs.InOrder.{plan_in_order}
 use Rattle.canvas_runs.proofs.Lists.Words.{each_append, each_weaker}
-use Rattle.canvas_ran.specs.Ran.{Fates, fate, blamed_behind, blamed_for, task_fates, tasks_fates, header_out, line_fates, lines_fates, fates}
+use Rattle.canvas_report.specs.Fates.{Fates}
+use Rattle.canvas_ran.specs.Ran.{fate, blamed_behind, blamed_for, task_fates, tasks_fates, header_out, line_fates, lines_fates, fates}
 use Rattle.canvas_ran.specs.RanLaws.{BlamedBefore}
-use Rattle.canvas_ran.specs.declared.fate.Fate.{Fate}
-use Rattle.canvas_ran.specs.declared.fate.Fate.TheVariants.{Ran, Skipped, Idle}
+use Rattle.canvas_report.specs.declared.fate.Fate.{Fate}
+use Rattle.canvas_report.specs.declared.fate.Fate.TheVariants.{Ran, Skipped, Idle}
 use Rattle.canvas_ran.proofs.RanLaw.{all_rows, IsNoFault, links_get, errbacks_get, fine_passed, fine_out}
 
 -- ---- numbers in file order

@@ -10,10 +10,11 @@ use Rattle.canvas_semantics.specs.Evaluation.{Flow, nothing, num, list, id, skip
 use Rattle.canvas_semantics.specs.Line.{Line, stop, step, group_end, chord_end, Lines, no_lines, and_line, members_of, all_ends_of}
 use Rattle.canvas_semantics.proofs.EndLemmas.{ends_of_tree}
 use Rattle.canvas_rewrite.specs.Planned.{IsPlan}
-use Rattle.canvas_ran.specs.Ran.{Fates, fate, blamed_behind, blamed_for, task_fates, tasks_fates, header_out, line_fates, lines_fates, fates}
+use Rattle.canvas_report.specs.Fates.{Fates}
+use Rattle.canvas_ran.specs.Ran.{fate, blamed_behind, blamed_for, task_fates, tasks_fates, header_out, line_fates, lines_fates, fates}
 use Rattle.canvas_ran.specs.RanLaws.{IsShown, IsDueTo, SkipsAreDue}
-use Rattle.canvas_ran.specs.declared.fate.Fate.{Fate}
-use Rattle.canvas_ran.specs.declared.fate.Fate.TheVariants.{Ran, Skipped, Idle}
+use Rattle.canvas_report.specs.declared.fate.Fate.{Fate}
+use Rattle.canvas_report.specs.declared.fate.Fate.TheVariants.{Ran, Skipped, Idle}
 use Rattle.canvas_ran.proofs.RanLaw.{Holds, holds_left, holds_right, same_states, line_rows, all_rows, members_there, plan_holds, IsNoFault, links_get, errbacks_get, fine_passed, fine_out}
 
 module _ (w : Rows) where

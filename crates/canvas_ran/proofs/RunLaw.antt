@@ -24,10 +24,11 @@ use Rattle.canvas_effects.specs.Flowing.{Input, no_input, number_input, list_inp
 use Rattle.canvas_effects.specs.Job.{Job, store, publish, part}
 use Rattle.canvas_effects.specs.Placing.{last_task}
 use Rattle.canvas_runs.proofs.Laws.EventStates.{event_states}
-use Rattle.canvas_ran.specs.Ran.{Fates, fate, blamed_behind, blamed_for, task_fates, tasks_fates, header_out, line_fates, lines_fates, fates}
+use Rattle.canvas_report.specs.Fates.{Fates}
+use Rattle.canvas_ran.specs.Ran.{fate, blamed_behind, blamed_for, task_fates, tasks_fates, header_out, line_fates, lines_fates, fates}
 use Rattle.canvas_ran.specs.RanLaws.{RanIsRun}
-use Rattle.canvas_ran.specs.declared.fate.Fate.{Fate}
-use Rattle.canvas_ran.specs.declared.fate.Fate.TheVariants.{Ran, Skipped, Idle}
+use Rattle.canvas_report.specs.declared.fate.Fate.{Fate}
+use Rattle.canvas_report.specs.declared.fate.Fate.TheVariants.{Ran, Skipped, Idle}
 use Rattle.canvas_ran.proofs.RanLaw.{Holds, holds_left, holds_right, same_states, line_rows, all_rows, members_there, plan_holds}
 
 abbrev AJob : Type 0

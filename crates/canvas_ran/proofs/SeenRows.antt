@@ -9,14 +9,14 @@ use Rattle.canvas_semantics.specs.Report.{names_of_task, names_of_tasks, all_nam
 use Rattle.canvas_semantics.specs.States.{numbers_from}
 use Rattle.canvas_rewrite.specs.Planned.{IsPlan}
 use Rattle.canvas_rewrite.proofs.NamesInOrder.{plan_names}
-use Rattle.canvas_engine.proofs.ReportLines.{names_long}
+use Rattle.canvas_report.proofs.ReportLines.{names_long}
 use Rattle.canvas_history.specs.Lists.{Each}
 use Rattle.canvas_runs.proofs.Lists.Words.{each_append}
-use Rattle.canvas_ran.specs.Ran.{Fates}
+use Rattle.canvas_report.specs.Fates.{Fates}
 use Rattle.canvas_ran.specs.Seen.{fate_by, after, into_body, seen_task, seen_callbacks, seen, seen_all, IsIdleIfPending}
 use Rattle.canvas_ran.specs.declared.came.Came.{Came}
 use Rattle.canvas_ran.specs.declared.came.Came.TheVariants.{Value, Skip, Raise}
-use Rattle.canvas_ran.specs.declared.fate.Fate.TheVariants.{Idle}
+use Rattle.canvas_report.specs.declared.fate.Fate.TheVariants.{Idle}
 
 -- ---- numbers
 

@@ -12,7 +12,7 @@ use Rattle.canvas_rewrite.specs.declared.frozen.FrozenTask.{FrozenTask, out-Froz
 use Rattle.canvas_rewrite.specs.declared.frozen.FrozenLine.{FrozenLine, out-FrozenLine}
 use Rattle.canvas_rewrite.specs.declared.frozen.FrozenEnd.{FrozenEnd, out-FrozenEnd}
 use Rattle.canvas_rewrite.proofs.PlanLines.{in_none, in_some, in_group, in_chord}
-use Rattle.canvas_ran.specs.Ran.{Fates}
+use Rattle.canvas_report.specs.Fates.{Fates}
 use Rattle.canvas_ran.specs.Seen.{fate_by, into_body, after, seen_callbacks, seen_task, seen, seen_all}
 use Rattle.canvas_ran.specs.steps.SeenLists.{callbacks_seen, came_behind, tasks_seen, lines_seen}
 use Rattle.canvas_ran.specs.declared.came.Came.{Came}

@@ -4,8 +4,8 @@ use Rattle.serde_json.specs.Data.{Data}
 use Rattle.canvas_task.specs.Text.{Text}
 use Rattle.canvas_collect.specs.declared.collecting.CollectFault.{CollectFault}
 use Rattle.canvas_collect.specs.declared.collecting.CollectFault.TheVariants as fault
-use Rattle.canvas_collect.specs.declared.row.Row.{Row}
-use Rattle.canvas_collect.specs.declared.row.Row.TheVariants.{Value, Raised, Blamed}
+use Rattle.canvas_report.specs.declared.row.Row.{Row}
+use Rattle.canvas_report.specs.declared.row.Row.TheVariants.{Value, Raised, Blamed}
 use Rattle.canvas_collect.specs.declared.stored.StoredFault.{StoredFault}
 use Rattle.canvas_collect.specs.declared.stored.StoredFault.TheVariants as stored
 use Rattle.canvas_collect.specs.Pieces.{lines_in}

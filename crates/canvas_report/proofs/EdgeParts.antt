@@ -1,0 +1,156 @@
+-- The nodes and edges of a line, by its parts.
+use Rattle.std.proofs.Common.{◌≡◌, ◌∙◌, ℕ, ◌==◌, false, List, [], ◌∷◌, ◌++◌, map, length, Option, Some, None, Box, Global, refl, sym, ap, subst, append_assoc, append-nil, arith}
+use Rattle.canvas_semantics.specs.Tree.{Task, and_task}
+use Rattle.canvas_semantics.specs.Line.{Line, stop, step, group_end, chord_end, Lines, no_lines, and_line, ends_of}
+use Rattle.canvas_semantics.specs.PlacedLine.{PTask, PPlace, PLine, strip_task, strip_tasks}
+use Rattle.canvas_values.specs.SignatureView.{tasks_of}
+use Rattle.canvas_rewrite.specs.FrozenView.{steps_onto, lines_of, p_tasks_of, p_task_view, task_in, line_in, end_in, PCarried, carried_step, p_end_step, p_line_step, p_task_step, place_step}
+use Rattle.canvas_rewrite.specs.declared.frozen.FrozenTask as ftask
+use Rattle.canvas_rewrite.specs.declared.frozen.FrozenTask.{FrozenTask, out-FrozenTask}
+use Rattle.canvas_rewrite.specs.declared.frozen.FrozenLine.{FrozenLine, out-FrozenLine}
+use Rattle.canvas_rewrite.specs.declared.frozen.FrozenEnd.{FrozenEnd, out-FrozenEnd}
+use Rattle.canvas_rewrite.proofs.PlanLines.{in_none, in_some, in_group, in_chord}
+use Rattle.canvas_report.specs.declared.graph.edges.Node.{Node}
+use Rattle.canvas_report.specs.declared.graph.edges.Node.TheVariants as node
+use Rattle.canvas_report.specs.declared.graph.edges.Leads.{Leads}
+use Rattle.canvas_report.specs.declared.graph.edges.Leads.TheVariants.{Next, Link, Errback}
+use Rattle.canvas_report.specs.Picture.{of_task, point, point_of, firsts, all_firsts, lasts, all_lasts, member_lasts, edge, joined, behind, task_edges, callback_edges, line_edges, all_line_edges}
+use Rattle.canvas_report.specs.steps.EdgeLists.{lines_firsts, lines_lasts, callbacks_edges, tasks_edges, last_node, lines_edges}
+
+-- ---- lists
+
+firsts_list : (ls : List Line) → all_firsts (lines_of ls) ≡ lines_firsts ls
+firsts_list [] = refl
+firsts_list (l ∷ ls) = ap (λ ns. firsts l ++ ns) (firsts_list ls)
+
+lasts_list : (ls : List Line) → all_lasts (lines_of ls) ≡ lines_lasts ls
+lasts_list [] = refl
+lasts_list (l ∷ ls) = ap (λ ns. lasts l ++ ns) (lasts_list ls)
+
+edges_list : (ls : List Line) → all_line_edges (lines_of ls) ≡ lines_edges ls
+edges_list [] = refl
+edges_list (l ∷ ls) = ap (λ es. line_edges None l ++ es) (edges_list ls)
+
+callbacks_list : (leads : Leads) (from : Node) (ts : List FrozenTask)
+    → callback_edges leads from (strip_tasks (p_tasks_of (map p_task_view ts))) ≡ callbacks_edges leads from (map task_in ts)
+callbacks_list leads from [] = refl
+callbacks_list leads from (t ∷ ts) = ap (λ es. edge leads from (of_task (task_in t)) ∷ task_edges (task_in t) ++ es) (callbacks_list leads from ts)
+
+-- ---- a task
+
+pub number_is : (t : FrozenTask) → of_task (task_in t) ≡ node.Task (out-FrozenTask t).no
+number_is t =
+    ap (λ p. of_task (strip_task p)) (ftask.fold_out-FrozenTask PCarried PLine PLine PTask PPlace carried_step p_end_step p_line_step p_task_step place_step t)
+
+pub task_is : (t : FrozenTask) → task_edges (task_in t)
+    ≡ callbacks_edges Link (node.Task (out-FrozenTask t).no) (map task_in (out-FrozenTask t).links)
+    ++ callbacks_edges Errback (node.Task (out-FrozenTask t).no) (map task_in (out-FrozenTask t).errbacks)
+task_is t =
+    ap (λ p. task_edges (strip_task p))
+    (ftask.fold_out-FrozenTask PCarried PLine PLine PTask PPlace carried_step p_end_step p_line_step p_task_step place_step t)
+    ∙ (λ i. callbacks_list Link (node.Task (out-FrozenTask t).no) (out-FrozenTask t).links i
+    ++ callbacks_list Errback (node.Task (out-FrozenTask t).no) (out-FrozenTask t).errbacks i)
+
+-- ---- a group or chord
+
+-- what holds of a group and of a chord holds of an end
+pub by_body : (P : Line → Type 0) (t : FrozenEnd)
+    → ((ls : List Line) → ls ≡ map line_in (out-FrozenEnd t).members → P (group_end (out-FrozenEnd t).group (lines_of ls)))
+    → ((ls : List Line) (b : Line) → ls ≡ map line_in (out-FrozenEnd t).members → P (chord_end (out-FrozenEnd t).group (lines_of ls) b))
+    → P (end_in t)
+by_body P t group chord = of (out-FrozenEnd t).body refl
+  where
+    of : (o : Option FrozenLine) → (out-FrozenEnd t).body ≡ o → P (end_in t)
+    of None e = subst P (sym (in_group t e)) (group _ refl)
+    of (Some b) e = subst P (sym (in_chord t b e)) (chord _ (line_in b) refl)
+
+no_point : (g : ℕ) (ls : List FrozenLine) → (length ls == 0) ≡ false → point g (lines_of (map line_in ls)) ≡ []
+no_point g [] some = absurd (cc)
+no_point g (l ∷ ls) some = refl
+
+pub point_none : (t : FrozenEnd) (found : List FrozenLine) → found ≡ (out-FrozenEnd t).members → (length found == 0) ≡ false → point_of (end_in t) ≡ []
+point_none t found same some =
+    let none = ap (λ ls. point (out-FrozenEnd t).group (lines_of (map line_in ls))) (sym same) ∙ no_point (out-FrozenEnd t).group found some in
+    by_body (λ x. point_of x ≡ []) t (λ ls is. ap (λ ks. point (out-FrozenEnd t).group (lines_of ks)) is ∙ none)
+    (λ ls b is. ap (λ ks. point (out-FrozenEnd t).group (lines_of ks)) is ∙ none)
+
+pub end_firsts : (t : FrozenEnd) → firsts (end_in t) ≡ point_of (end_in t) ++ lines_firsts (map line_in (out-FrozenEnd t).members)
+end_firsts t =
+    by_body (λ x. firsts x ≡ point_of x ++ lines_firsts (map line_in (out-FrozenEnd t).members)) t
+    (λ ls same. ap (λ ns. point (out-FrozenEnd t).group (lines_of ls) ++ ns) (firsts_list ls ∙ ap lines_firsts same))
+    (λ ls b same. ap (λ ns. point (out-FrozenEnd t).group (lines_of ls) ++ ns) (firsts_list ls ∙ ap lines_firsts same))
+
+pub end_lasts : (t : FrozenEnd) → member_lasts (end_in t) ≡ point_of (end_in t) ++ lines_lasts (map line_in (out-FrozenEnd t).members)
+end_lasts t =
+    by_body (λ x. member_lasts x ≡ point_of x ++ lines_lasts (map line_in (out-FrozenEnd t).members)) t
+    (λ ls same. ap (λ ns. point (out-FrozenEnd t).group (lines_of ls) ++ ns) (lasts_list ls ∙ ap lines_lasts same))
+    (λ ls b same. ap (λ ns. point (out-FrozenEnd t).group (lines_of ls) ++ ns) (lasts_list ls ∙ ap lines_lasts same))
+
+-- ---- where a line ends
+
+behind_group : (ts : List Task) (g : ℕ) (ms : Lines) → lasts (steps_onto ts (group_end g ms)) ≡ lasts (group_end g ms)
+behind_group [] g ms = refl
+behind_group (t ∷ []) g ms = refl
+behind_group (t ∷ u ∷ ts) g ms = behind_group (u ∷ ts) g ms
+
+behind_chord : (ts : List Task) (g : ℕ) (ms : Lines) (b : Line) → lasts (steps_onto ts (chord_end g ms b)) ≡ lasts (chord_end g ms b)
+behind_chord [] g ms b = refl
+behind_chord (t ∷ []) g ms b = refl
+behind_chord (t ∷ u ∷ ts) g ms b = behind_chord (u ∷ ts) g ms b
+
+pub lasts_some : (l : FrozenLine) (b : Box FrozenEnd Global) → (out-FrozenLine l).tail ≡ Some b → lasts (line_in l) ≡ lasts (end_in b.value)
+lasts_some l b e =
+    ap lasts (in_some l b e)
+    ∙ by_body (λ x. lasts (steps_onto (map task_in (out-FrozenLine l).tasks) x) ≡ lasts x) b.value
+    (λ ls same. behind_group (map task_in (out-FrozenLine l).tasks) _ (lines_of ls))
+    (λ ls c same. behind_chord (map task_in (out-FrozenLine l).tasks) _ (lines_of ls) c)
+
+lasts_tasks : (ts : List Task) → lasts (steps_onto ts stop) ≡ map (λ k. node.Task k) (ends_of (steps_onto ts stop))
+lasts_tasks [] = refl
+lasts_tasks (t ∷ []) = refl
+lasts_tasks (t ∷ u ∷ ts) = lasts_tasks (u ∷ ts)
+
+pub lasts_none : (l : FrozenLine) (ks : List ℕ) → (out-FrozenLine l).tail ≡ None → ends_of (steps_onto (map task_in (out-FrozenLine l).tasks) stop) ≡ ks
+    → lasts (line_in l) ≡ map (λ k. node.Task k) ks
+lasts_none l ks e are =
+    ap lasts (in_none l e) ∙ lasts_tasks (map task_in (out-FrozenLine l).tasks) ∙ ap (map (λ k. node.Task k)) are
+
+-- ---- the edges of a line
+
+steps_edges : (before : Option Node) (ts : List Task) (l : Line)
+    → line_edges before (steps_onto ts l) ≡ tasks_edges before ts ++ line_edges (last_node before ts) l
+steps_edges before [] l = refl
+steps_edges before (t ∷ ts) l =
+    ap (λ es. task_edges t ++ behind before (of_task t ∷ []) ++ es) (steps_edges (Some (of_task t)) ts l)
+    ∙ sym (append_assoc (task_edges t ++ behind before (of_task t ∷ [])) (tasks_edges (Some (of_task t)) ts) (line_edges (last_node (Some (of_task t)) ts) l))
+
+pub line_none : (l : FrozenLine) → (out-FrozenLine l).tail ≡ None → line_edges None (line_in l) ≡ tasks_edges None (map task_in (out-FrozenLine l).tasks)
+line_none l e =
+    ap (line_edges None) (in_none l e) ∙ steps_edges None (map task_in (out-FrozenLine l).tasks) stop
+    ∙ append-nil (tasks_edges None (map task_in (out-FrozenLine l).tasks))
+
+pub line_some : (l : FrozenLine) (b : Box FrozenEnd Global) → (out-FrozenLine l).tail ≡ Some b
+    → line_edges None (line_in l)
+    ≡ tasks_edges None (map task_in (out-FrozenLine l).tasks) ++ line_edges (last_node None (map task_in (out-FrozenLine l).tasks)) (end_in b.value)
+line_some l b e = ap (line_edges None) (in_some l b e) ∙ steps_edges None (map task_in (out-FrozenLine l).tasks) (end_in b.value)
+
+pub group_edges : (before : Option Node) (t : FrozenEnd) → (out-FrozenEnd t).body ≡ None
+    → line_edges before (end_in t) ≡ behind before (firsts (end_in t)) ++ lines_edges (map line_in (out-FrozenEnd t).members)
+group_edges before t e =
+    subst (λ x. line_edges before x ≡ behind before (firsts x) ++ lines_edges (map line_in (out-FrozenEnd t).members)) (sym (in_group t e))
+    (ap (λ es. behind before (firsts (group_end (out-FrozenEnd t).group (lines_of (map line_in (out-FrozenEnd t).members)))) ++ es)
+    (edges_list (map line_in (out-FrozenEnd t).members)))
+
+pub chord_edges : (before : Option Node) (t : FrozenEnd) (b : FrozenLine) → (out-FrozenEnd t).body ≡ Some b
+    → line_edges before (end_in t)
+    ≡ behind before (firsts (end_in t)) ++ lines_edges (map line_in (out-FrozenEnd t).members)
+    ++ (joined (member_lasts (end_in t)) (firsts (line_in b)) ++ line_edges None (line_in b))
+chord_edges before t b e =
+    subst (λ x. line_edges before x ≡ behind before (firsts x) ++ lines_edges (map line_in (out-FrozenEnd t).members)
+    ++ (joined (member_lasts x) (firsts (line_in b)) ++ line_edges None (line_in b))) (sym (in_chord t b e))
+    (append_assoc _
+    (joined (member_lasts (chord_end (out-FrozenEnd t).group (lines_of (map line_in (out-FrozenEnd t).members)) (line_in b))) (firsts (line_in b)))
+    (line_edges None (line_in b))
+    ∙ ap (λ es. behind before (firsts (chord_end (out-FrozenEnd t).group (lines_of (map line_in (out-FrozenEnd t).members)) (line_in b))) ++ es
+    ++ (joined (member_lasts (chord_end (out-FrozenEnd t).group (lines_of (map line_in (out-FrozenEnd t).members)) (line_in b))) (firsts (line_in b))
+    ++ line_edges None (line_in b))) (edges_list (map line_in (out-FrozenEnd t).members)))

@@ -1,0 +1,9 @@
+pub mod Failing
+pub mod Fates
+pub mod JsonRows
+pub mod StoredRows
+pub mod ReadLines
+pub mod MessageLines
+pub mod Nodes
+pub mod Picture
+pub mod steps

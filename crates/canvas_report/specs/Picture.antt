@@ -1,0 +1,135 @@
+-- A plan as a picture (Graphviz, the DOT language): a node for each task, and edges from a task to
+-- what is behind it. Links and error callbacks are behind their task, a group or chord begins at
+-- its members, and what is behind a chord begins behind the last tasks of its members (Celery user
+-- guide, Canvas).
+use Rattle.std.specs.Prelude.{◌≡◌, ℕ, List, [], ◌∷◌, ◌++◌, map, Option, Some, None, codes, decimal}
+use Rattle.canvas_task.specs.Text.{Text}
+use Rattle.canvas_semantics.specs.Tree.{Task, task, Tasks, no_tasks, and_task}
+use Rattle.canvas_semantics.specs.Line.{Line, stop, step, group_end, chord_end, Lines, no_lines, and_line, no_of}
+use Rattle.canvas_report.specs.declared.graph.edges.Node.{Node}
+use Rattle.canvas_report.specs.declared.graph.edges.Node.TheVariants as node
+use Rattle.canvas_report.specs.declared.graph.edges.Leads.{Leads}
+use Rattle.canvas_report.specs.declared.graph.edges.Leads.TheVariants.{Next, Link, Errback}
+use Rattle.canvas_report.specs.declared.graph.edges.Edge.{Edge}
+use Rattle.canvas_report.specs.Nodes.{AreDrawn, line_pieces}
+
+abbrev pub node_text : Node → Text
+node_text (node.Task k) = codes "t" ++ decimal k
+node_text (node.Group g) = codes "g" ++ decimal g
+
+-- ---- where lines begin and end
+
+abbrev pub of_task : Task → Node
+of_task t = node.Task (no_of t)
+
+-- a point stands for a group or chord of no members
+abbrev pub point : ℕ → Lines → List Node
+point g no_lines = node.Group g ∷ []
+point g (and_line m ms) = []
+
+abbrev pub point_of : Line → List Node
+point_of stop = []
+point_of (step t l) = []
+point_of (group_end g ms) = point g ms
+point_of (chord_end g ms b) = point g ms
+
+abbrev mutual
+  pub firsts : Line → List Node
+  firsts stop = []
+  firsts (step t l) = of_task t ∷ []
+  firsts (group_end g ms) = point g ms ++ all_firsts ms
+  firsts (chord_end g ms b) = point g ms ++ all_firsts ms
+
+  pub all_firsts : Lines → List Node
+  all_firsts no_lines = []
+  all_firsts (and_line m ms) = firsts m ++ all_firsts ms
+
+abbrev mutual
+  pub lasts : Line → List Node
+  lasts stop = []
+  lasts (step t stop) = of_task t ∷ []
+  lasts (step t l) = lasts l
+  lasts (group_end g ms) = point g ms ++ all_lasts ms
+  lasts (chord_end g ms b) = lasts b
+
+  pub all_lasts : Lines → List Node
+  all_lasts no_lines = []
+  all_lasts (and_line m ms) = lasts m ++ all_lasts ms
+
+-- of a group or chord, without its body
+abbrev pub member_lasts : Line → List Node
+member_lasts stop = []
+member_lasts (step t l) = []
+member_lasts (group_end g ms) = point g ms ++ all_lasts ms
+member_lasts (chord_end g ms b) = point g ms ++ all_lasts ms
+
+-- ---- edges
+
+abbrev pub edge : Leads → Node → Node → Edge
+edge leads from to = record { from = from; to = to; leads = leads }
+
+-- from each of these to each of those
+abbrev pub joined : List Node → List Node → List Edge
+joined [] to = []
+joined (from ∷ more) to = map (λ node. edge Next from node) to ++ joined more to
+
+-- from what stands before, if something does
+abbrev pub behind : Option Node → List Node → List Edge
+behind None to = []
+behind (Some from) to = map (λ node. edge Next from node) to
+
+abbrev mutual
+  pub task_edges : Task → List Edge
+  task_edges (task k call links errbacks) =
+      callback_edges Link (node.Task k) links ++ callback_edges Errback (node.Task k) errbacks
+
+  pub callback_edges : Leads → Node → Tasks → List Edge
+  callback_edges leads from no_tasks = []
+  callback_edges leads from (and_task t ts) =
+      edge leads from (of_task t) ∷ task_edges t ++ callback_edges leads from ts
+
+-- of a line, behind a task if there is one
+abbrev mutual
+  pub line_edges : Option Node → Line → List Edge
+  line_edges before stop = []
+  line_edges before (step t l) =
+      task_edges t ++ behind before (of_task t ∷ []) ++ line_edges (Some (of_task t)) l
+  line_edges before (group_end g ms) =
+      behind before (point g ms ++ all_firsts ms) ++ all_line_edges ms
+  line_edges before (chord_end g ms b) =
+      behind before (point g ms ++ all_firsts ms) ++ all_line_edges ms
+      ++ joined (point g ms ++ all_lasts ms) (firsts b) ++ line_edges None b
+
+  pub all_line_edges : Lines → List Edge
+  all_line_edges no_lines = []
+  all_line_edges (and_line m ms) = line_edges None m ++ all_line_edges ms
+
+-- ---- their text
+
+abbrev pub style : Leads → Text
+style Next = []
+style Link = codes " [style=dashed, label=\"on success\"]"
+style Errback = codes " [style=dashed, label=\"on failure\"]"
+
+abbrev pub edge_text : Edge → Text
+edge_text e =
+    codes "  " ++ node_text e.from ++ codes " -> " ++ node_text e.to ++ style e.leads
+    ++ codes ";\n"
+
+abbrev pub edges_text : List Edge → Text
+edges_text [] = []
+edges_text (e ∷ es) = edge_text e ++ edges_text es
+
+-- ---- the whole
+
+abbrev pub opening : Text
+opening =
+    codes "digraph canvas {\n  rankdir=LR;\n  node [fontname=\"Helvetica\"];\n"
+    ++ codes "  edge [fontname=\"Helvetica\"];\n  fontname=\"Helvetica\";\n"
+
+-- nodes, then edges, which stand behind all frames, since what is named in a frame is drawn in it
+-- of a plan whose tasks look as a function of their numbers says
+abbrev pub IsPicture : (ℕ → Text) → Line → Text → Type 0
+IsPicture at l text =
+    (drawn : Text) × AreDrawn at (line_pieces l) drawn
+    × (text ≡ opening ++ drawn ++ edges_text (line_edges None l) ++ codes "}\n")

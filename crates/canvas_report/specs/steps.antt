@@ -1,0 +1,4 @@
+pub mod ReportRows
+pub mod RowTexts
+pub mod EdgeLists
+pub mod PieceLists

@@ -1,0 +1,372 @@
+//! The edges of a picture: what runs behind what.
+
+ghost use Rattle.std.specs.Prelude.{◌≡◌, ◌==◌, ◌++◌, ◌∷◌, [], Some, None, IfOk, OnOk, map, length, string_bytes};
+ghost use Rattle.canvas_rewrite.specs.FrozenView.{task_in, line_in, end_in};
+ghost use Rattle.canvas_semantics.specs.Line.{no_of};
+ghost use Rattle.canvas_report.specs.Picture.{edge, joined, behind, point_of, firsts, lasts, member_lasts, task_edges, line_edges, style, edge_text, edges_text};
+ghost use Rattle.canvas_report.specs.steps.EdgeLists.{lines_firsts, lines_lasts, callbacks_edges, tasks_edges, last_node, lines_edges};
+ghost use Rattle.canvas_report.specs.declared.graph.edges.Node.TheVariants.{Task};
+ghost use Rattle.canvas_report.specs.declared.graph.edges.Leads.TheVariants.{Next};
+
+use canvas_rewrite::{FrozenEnd, FrozenLine, FrozenTask};
+use std::alloc::{AllocError, Global};
+use std::fmt;
+
+/// What edges join: a task, or a group or chord of no members; each by its number.
+#[derive(Clone, Copy, Drop)]
+pub(crate) enum Node {
+    Task(u32),
+    Group(u32),
+}
+
+impl fmt::Display for Node {
+    ghost use Rattle.std.specs.Prelude.{Some};
+    ghost use Rattle.canvas_report.specs.Picture.{node_text};
+
+    ghost output = { λ node. Some (node_text node) };
+
+    fn fmt<W: fmt::Write>(&self, f: &mut fmt::Formatter<W>) -> fmt::Result {
+        match self {
+            Node::Task(number) => write!(f, "t{number}"),
+            Node::Group(number) => write!(f, "g{number}"),
+        }
+    }
+}
+
+/// What an edge leads to: what is next, or what a success or a failure calls back.
+#[derive(Clone, Copy, Drop)]
+pub(crate) enum Leads {
+    Next,
+    Link,
+    Errback,
+}
+
+impl Leads {
+    fn style(self) -> &'static str
+        ensures { result.now ≡ style self }
+    {
+        match self {
+            Leads::Next => "",
+            Leads::Link => " [style=dashed, label=\"on success\"]",
+            Leads::Errback => " [style=dashed, label=\"on failure\"]",
+        }
+    }
+}
+
+#[derive(Clone, Copy, Drop)]
+pub(crate) struct Edge {
+    from: Node,
+    to: Node,
+    leads: Leads,
+}
+
+pub(crate) fn node_of(task: &FrozenTask) -> Node
+    ensures { result ≡ Task (no_of (task_in task.now)) }
+{
+    Node::Task(task.no.get())
+}
+
+pub(crate) fn has_none(members: &[FrozenLine]) -> bool
+    ensures { result ≡ (length members.now == 0) }
+{
+    members.is_empty()
+}
+
+/// The point that stands for a group or chord of no members.
+fn push_point(nodes: &mut Vec<Node>, end: &FrozenEnd) -> Result<(), AllocError>
+    ensures { OnOk result (nodes.new.items ≡ nodes.old.items ++ point_of (end_in end.now)) }
+{
+    if has_none(end.members.get()) {
+        nodes.push(Node::Group(end.group.get()))?;
+    }
+    Ok(())
+}
+
+/// Where a line begins.
+#[cycle(firsts)]
+fn push_firsts(nodes: &mut Vec<Node>, line: &FrozenLine) -> Result<(), AllocError>
+    ensures { OnOk result (nodes.new.items ≡ nodes.old.items ++ firsts (line_in line.now)) }
+{
+    match line.tasks.get().first() {
+        Some(task) => {
+            nodes.push(node_of(task))?;
+            Ok(())
+        }
+        None => match &line.tail {
+            Some(end) => push_end_firsts(nodes, end),
+            None => Ok(()),
+        },
+    }
+}
+
+/// Where a group or chord begins: at its members.
+#[cycle(firsts)]
+fn push_end_firsts(nodes: &mut Vec<Node>, end: &FrozenEnd) -> Result<(), AllocError>
+    ensures { OnOk result (nodes.new.items ≡ nodes.old.items ++ firsts (end_in end.now)) }
+{
+    push_point(nodes, end)?;
+    push_all_firsts(nodes, end.members.get())
+}
+
+#[cycle(firsts)]
+fn push_all_firsts(nodes: &mut Vec<Node>, lines: &[FrozenLine]) -> Result<(), AllocError>
+    ensures { OnOk result
+        (nodes.new.items ≡ nodes.old.items ++ lines_firsts (map line_in lines.now)) }
+{
+    for line in lines {
+        push_firsts(nodes, line)?;
+    }
+    Ok(())
+}
+
+/// Where a line ends.
+#[cycle(lasts)]
+fn push_lasts(nodes: &mut Vec<Node>, line: &FrozenLine) -> Result<(), AllocError>
+    ensures { OnOk result (nodes.new.items ≡ nodes.old.items ++ lasts (line_in line.now)) }
+{
+    match &line.tail {
+        Some(end) => push_end_lasts(nodes, end),
+        None => match line.tasks.get().last() {
+            Some(task) => {
+                nodes.push(node_of(task))?;
+                Ok(())
+            }
+            None => Ok(()),
+        },
+    }
+}
+
+#[cycle(lasts)]
+fn push_end_lasts(nodes: &mut Vec<Node>, end: &FrozenEnd) -> Result<(), AllocError>
+    ensures { OnOk result (nodes.new.items ≡ nodes.old.items ++ lasts (end_in end.now)) }
+{
+    match &end.body {
+        Some(body) => push_lasts(nodes, body),
+        None => push_member_lasts(nodes, end),
+    }
+}
+
+/// Where the members of a group or chord end.
+#[cycle(lasts)]
+fn push_member_lasts(nodes: &mut Vec<Node>, end: &FrozenEnd) -> Result<(), AllocError>
+    ensures { OnOk result (nodes.new.items ≡ nodes.old.items ++ member_lasts (end_in end.now)) }
+{
+    push_point(nodes, end)?;
+    push_all_lasts(nodes, end.members.get())
+}
+
+#[cycle(lasts)]
+fn push_all_lasts(nodes: &mut Vec<Node>, lines: &[FrozenLine]) -> Result<(), AllocError>
+    ensures { OnOk result
+        (nodes.new.items ≡ nodes.old.items ++ lines_lasts (map line_in lines.now)) }
+{
+    for line in lines {
+        push_lasts(nodes, line)?;
+    }
+    Ok(())
+}
+
+fn push_edge(edges: &mut Vec<Edge>, leads: Leads, from: Node, to: Node) -> Result<(), AllocError>
+    ensures { OnOk result (edges.new.items ≡ edges.old.items ++ edge leads from to ∷ []) }
+{
+    edges.push(Edge { from, to, leads })?;
+    Ok(())
+}
+
+fn push_edges(edges: &mut Vec<Edge>, from: Node, to: &[Node]) -> Result<(), AllocError>
+    ensures { OnOk result
+        (edges.new.items ≡ edges.old.items ++ map (λ node. edge Next from node) to.now) }
+{
+    for node in to {
+        push_edge(edges, Leads::Next, from, *node)?;
+    }
+    Ok(())
+}
+
+/// The edges from each of these to each of those.
+fn push_joined(edges: &mut Vec<Edge>, from: &[Node], to: &[Node]) -> Result<(), AllocError>
+    ensures { OnOk result (edges.new.items ≡ edges.old.items ++ joined from.now to.now) }
+{
+    for node in from {
+        push_edges(edges, *node, to)?;
+    }
+    Ok(())
+}
+
+/// The edges from what stands before, if something does.
+fn push_behind(edges: &mut Vec<Edge>, before: &Option<Node>, to: &[Node]) -> Result<(), AllocError>
+    ensures { OnOk result (edges.new.items ≡ edges.old.items ++ behind before.now to.now) }
+{
+    match before {
+        Some(from) => push_edges(edges, *from, to),
+        None => Ok(()),
+    }
+}
+
+#[cycle(callbacks)]
+fn push_task(edges: &mut Vec<Edge>, task: &FrozenTask) -> Result<(), AllocError>
+    ensures { OnOk result (edges.new.items ≡ edges.old.items ++ task_edges (task_in task.now)) }
+{
+    let node = node_of(task);
+    push_callbacks(edges, task.links.get(), node, Leads::Link)?;
+    push_callbacks(edges, task.errbacks.get(), node, Leads::Errback)
+}
+
+#[cycle(callbacks)]
+fn push_callbacks(
+    edges: &mut Vec<Edge>,
+    callbacks: &[FrozenTask],
+    from: Node,
+    leads: Leads,
+) -> Result<(), AllocError>
+    ensures { OnOk result (edges.new.items
+        ≡ edges.old.items ++ callbacks_edges leads from (map task_in callbacks.now)) }
+{
+    for callback in callbacks {
+        push_edge(edges, leads, from, node_of(callback))?;
+        push_task(edges, callback)?;
+    }
+    Ok(())
+}
+
+/// The tasks in front of a line's group or chord. The last of them is told.
+fn push_tasks(edges: &mut Vec<Edge>, tasks: &[FrozenTask]) -> Result<Option<Node>, AllocError>
+    ensures pushed { OnOk result
+        (edges.new.items ≡ edges.old.items ++ tasks_edges None (map task_in tasks.now)) }
+    ensures last { IfOk result (λ node. node ≡ last_node None (map task_in tasks.now)) }
+{
+    let mut before: Option<Node> = None;
+    for task in tasks {
+        let node = node_of(task);
+        push_task(edges, task)?;
+        push_behind(edges, &before, &[node])?;
+        before = Some(node);
+    }
+    Ok(before)
+}
+
+/// The edges from a task to where the members of a group or chord begin.
+fn push_to_members(
+    alloc: Global,
+    edges: &mut Vec<Edge>,
+    from: Node,
+    end: &FrozenEnd,
+) -> Result<(), AllocError>
+    ensures { OnOk result (edges.new.items
+        ≡ edges.old.items ++ behind (Some from) (firsts (end_in end.now))) }
+{
+    let mut nodes = Vec::new(alloc);
+    push_end_firsts(&mut nodes, end)?;
+    push_edges(edges, from, &nodes)
+}
+
+/// The same, where a task stands before.
+fn push_before(
+    alloc: Global,
+    edges: &mut Vec<Edge>,
+    before: &Option<Node>,
+    end: &FrozenEnd,
+) -> Result<(), AllocError>
+    ensures { OnOk result (edges.new.items
+        ≡ edges.old.items ++ behind before.now (firsts (end_in end.now))) }
+{
+    match before {
+        Some(from) => push_to_members(alloc, edges, *from, end),
+        None => Ok(()),
+    }
+}
+
+/// The edges from where the members of a chord end to where its body begins.
+fn push_to_body(
+    alloc: Global,
+    edges: &mut Vec<Edge>,
+    end: &FrozenEnd,
+    body: &FrozenLine,
+) -> Result<(), AllocError>
+    ensures { OnOk result (edges.new.items
+        ≡ edges.old.items ++ joined (member_lasts (end_in end.now)) (firsts (line_in body.now))) }
+{
+    let mut from = Vec::new(alloc);
+    push_member_lasts(&mut from, end)?;
+    let mut to = Vec::new(alloc);
+    push_firsts(&mut to, body)?;
+    push_joined(edges, &from, &to)
+}
+
+#[cycle(lines)]
+fn push_line(alloc: Global, edges: &mut Vec<Edge>, line: &FrozenLine) -> Result<(), AllocError>
+    ensures { OnOk result
+        (edges.new.items ≡ edges.old.items ++ line_edges None (line_in line.now)) }
+{
+    let before = push_tasks(edges, line.tasks.get())?;
+    match &line.tail {
+        Some(end) => push_end(alloc, edges, end, &before),
+        None => Ok(()),
+    }
+}
+
+#[cycle(lines)]
+fn push_end(
+    alloc: Global,
+    edges: &mut Vec<Edge>,
+    end: &FrozenEnd,
+    before: &Option<Node>,
+) -> Result<(), AllocError>
+    ensures { OnOk result
+        (edges.new.items ≡ edges.old.items ++ line_edges before.now (end_in end.now)) }
+{
+    push_before(alloc, edges, before, end)?;
+    push_lines(alloc, edges, end.members.get())?;
+    match &end.body {
+        Some(body) => {
+            push_to_body(alloc, edges, end, body)?;
+            push_line(alloc, edges, body)
+        }
+        None => Ok(()),
+    }
+}
+
+#[cycle(lines)]
+fn push_lines(alloc: Global, edges: &mut Vec<Edge>, lines: &[FrozenLine]) -> Result<(), AllocError>
+    ensures { OnOk result
+        (edges.new.items ≡ edges.old.items ++ lines_edges (map line_in lines.now)) }
+{
+    for line in lines {
+        push_line(alloc, edges, line)?;
+    }
+    Ok(())
+}
+
+/// An edge in the language of Graphviz.
+fn push_text(text: &mut String, edge: &Edge) -> Result<(), AllocError>
+    ensures { OnOk result (string_bytes text.new ≡ string_bytes text.old ++ edge_text edge.now) }
+{
+    let from = edge.from;
+    let to = edge.to;
+    let style = edge.leads.style();
+    writeln!(text, "  {from} -> {to}{style};")?;
+    Ok(())
+}
+
+fn push_texts(text: &mut String, edges: &[Edge]) -> Result<(), AllocError>
+    ensures { OnOk result (string_bytes text.new ≡ string_bytes text.old ++ edges_text edges.now) }
+{
+    for edge in edges {
+        push_text(text, edge)?;
+    }
+    Ok(())
+}
+
+/// The edges of a line in the language of Graphviz, each in a line.
+pub(crate) fn push_line_edges(
+    alloc: Global,
+    text: &mut String,
+    line: &FrozenLine,
+) -> Result<(), AllocError>
+    ensures { OnOk result (string_bytes text.new
+        ≡ string_bytes text.old ++ edges_text (line_edges None (line_in line.now))) }
+{
+    let mut edges = Vec::new(alloc);
+    push_line(alloc, &mut edges, line)?;
+    push_texts(text, &edges)
+}

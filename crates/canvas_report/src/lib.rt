@@ -1,0 +1,29 @@
+//! The report of a run and what else is shown of a canvas, by the states of its tasks: its text,
+//! JSON lines, the reasons why some tasks were not called, and a picture. The same of what Celery's
+//! workers stored; and messages as JSON lines.
+#![tactic(auto)]
+
+mod explained;
+mod failing;
+mod fate;
+mod graph;
+mod json_text;
+mod report;
+mod report_rows;
+mod row;
+mod rows;
+mod shown;
+mod states;
+mod stored;
+mod text;
+
+pub use explained::explained_text;
+pub use failing::is_failure;
+pub use fate::Fate;
+pub use graph::graph_text;
+pub use json_text::{escaped_json, message_line, quoted_json};
+pub use report::{Report, report_text};
+pub use row::Row;
+pub use rows::{Told, rows_text, stored_rows_text};
+pub use states::state_in;
+pub use stored::stored_text;

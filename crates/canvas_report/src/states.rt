@@ -1,0 +1,24 @@
+//! The states of tasks, in the rows of a run.
+ghost use Rattle.std.specs.Prelude.{◌≡◌, slice_get};
+ghost use Rattle.canvas_semantics.specs.Evaluation.{state_of};
+ghost use Rattle.canvas_semantics.specs.States.{rows_from};
+
+use canvas_task::{Outcome, TaskNo};
+
+/// A function for its contract's sake, which says of rows what `get` and `copied` say one after the
+/// other.
+fn row_at(rows: &[Option<Outcome>], index: usize) -> Option<Option<Outcome>>
+    ensures { result ≡ slice_get rows.now index }
+{
+    rows.get(index).copied()
+}
+
+/// The state of a task. It is pending where the row is missing.
+pub fn state_in(rows: &[Option<Outcome>], task: TaskNo) -> Option<Outcome>
+    ensures { result ≡ state_of task (rows_from 1 rows.now) }
+{
+    match row_at(rows, task.get() as usize - 1) {
+        Some(state) => state,
+        None => None,
+    }
+}

@@ -1,6 +1,0 @@
-use Rattle.std.proofs.Common.{string_bytes}
-use Rattle.canvas_views.specs.steps.PieceLists.{AddsWhole}
-use Rattle.canvas_views.proofs.dot.push_all_escaped.Given as goal
-
-abbrev pub invariant-loop-c : goal.invariant-loop-c
-invariant-loop-c l = AddsWhole (string_bytes l.fn.dot) (string_bytes l.dot)

@@ -1,8 +1,0 @@
-use Rattle.std.proofs.Common.{◌≡◌, ◌++◌, map, drop}
-use Rattle.canvas_rewrite.specs.FrozenView.{line_in}
-use Rattle.canvas_views.specs.steps.EdgeLists.{lines_lasts}
-use Rattle.canvas_views.proofs.edges.+lasts.Given as goal
-
-abbrev pub invariant-push_all_lasts-loop-line : goal.invariant-push_all_lasts-loop-line
-invariant-push_all_lasts-loop-line l =
-    l.nodes.items ++ lines_lasts (map line_in (drop l.line-index l.lines)) ≡ l.fn.nodes.items ++ lines_lasts (map line_in l.lines)

@@ -1,8 +1,0 @@
-use Rattle.std.proofs.Common.{◌≡◌, ◌++◌, map, drop}
-use Rattle.canvas_rewrite.specs.FrozenView.{line_in}
-use Rattle.canvas_views.specs.steps.EdgeLists.{lines_edges}
-use Rattle.canvas_views.proofs.edges.+lines.Given as goal
-
-abbrev pub invariant-push_lines-loop-line : goal.invariant-push_lines-loop-line
-invariant-push_lines-loop-line l =
-    l.edges.items ++ lines_edges (map line_in (drop l.line-index l.lines)) ≡ l.fn.edges.items ++ lines_edges (map line_in l.lines)

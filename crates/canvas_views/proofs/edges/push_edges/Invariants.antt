@@ -1,8 +1,0 @@
-use Rattle.std.proofs.Common.{◌≡◌, ◌++◌, map, drop}
-use Rattle.canvas_views.specs.Picture.{edge}
-use Rattle.canvas_views.specs.declared.edges.Leads.TheVariants.{Next}
-use Rattle.canvas_views.proofs.edges.push_edges.Given as goal
-
-abbrev pub invariant-loop-node : goal.invariant-loop-node
-invariant-loop-node l =
-    l.edges.items ++ map (λ node. edge Next l.from node) (drop l.node-index l.to) ≡ l.fn.edges.items ++ map (λ node. edge Next l.from node) l.to

@@ -1,7 +1,0 @@
-use Rattle.std.proofs.Common.{◌≡◌, ◌++◌, drop}
-use Rattle.canvas_views.specs.Picture.{joined}
-use Rattle.canvas_views.proofs.edges.push_joined.Given as goal
-
-abbrev pub invariant-loop-node : goal.invariant-loop-node
-invariant-loop-node l =
-    l.edges.items ++ joined (drop l.node-index l.from) l.to ≡ l.fn.edges.items ++ joined l.from l.to

@@ -1,3 +1,0 @@
-pub mod RowTexts
-pub mod EdgeLists
-pub mod PieceLists
