@@ -1,9 +1,8 @@
 -- The nodes and edges of a line, by its parts.
-use Rattle.std.proofs.Common.{◌≡◌, ◌∙◌, ℕ, ◌==◌, false, List, [], ◌∷◌, ◌++◌, map, length, Option, Some, None, Box, Global, refl, sym, ap, subst, append_assoc, append-nil, arith}
-use Rattle.canvas_semantics.specs.Tree.{Task, and_task}
-use Rattle.canvas_semantics.specs.Line.{Line, stop, step, group_end, chord_end, Lines, no_lines, and_line, ends_of}
+use Rattle.std.proofs.Common.{◌≡◌, ◌∙◌, ℕ, ◌==◌, false, List, [], ◌∷◌, ◌++◌, map, length, Option, Some, None, Box, Global, refl, sym, ap, subst, append_assoc, append-nil}
+use Rattle.canvas_semantics.specs.Tree.{Task}
+use Rattle.canvas_semantics.specs.Line.{Line, stop, group_end, chord_end, Lines, ends_of}
 use Rattle.canvas_semantics.specs.PlacedLine.{PTask, PPlace, PLine, strip_task, strip_tasks}
-use Rattle.canvas_values.specs.SignatureView.{tasks_of}
 use Rattle.canvas_rewrite.specs.FrozenView.{steps_onto, lines_of, p_tasks_of, p_task_view, task_in, line_in, end_in, PCarried, carried_step, p_end_step, p_line_step, p_task_step, place_step}
 use Rattle.canvas_rewrite.specs.declared.frozen.FrozenTask as ftask
 use Rattle.canvas_rewrite.specs.declared.frozen.FrozenTask.{FrozenTask, out-FrozenTask}
@@ -13,7 +12,7 @@ use Rattle.canvas_rewrite.proofs.PlanLines.{in_none, in_some, in_group, in_chord
 use Rattle.canvas_report.specs.declared.graph.edges.Node.{Node}
 use Rattle.canvas_report.specs.declared.graph.edges.Node.TheVariants as node
 use Rattle.canvas_report.specs.declared.graph.edges.Leads.{Leads}
-use Rattle.canvas_report.specs.declared.graph.edges.Leads.TheVariants.{Next, Link, Errback}
+use Rattle.canvas_report.specs.declared.graph.edges.Leads.TheVariants.{Link, Errback}
 use Rattle.canvas_report.specs.Picture.{of_task, point, point_of, firsts, all_firsts, lasts, all_lasts, member_lasts, edge, joined, behind, task_edges, callback_edges, line_edges, all_line_edges}
 use Rattle.canvas_report.specs.steps.EdgeLists.{lines_firsts, lines_lasts, callbacks_edges, tasks_edges, last_node, lines_edges}
 

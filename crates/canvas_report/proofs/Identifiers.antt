@@ -9,7 +9,7 @@ use Rattle.json.proofs.Printed.Strings.{escape_byte_plain}
 use Rattle.serde_json.proofs.OnLiterals.{serde_json_on_literals}
 use Rattle.serde_json.specs.Find.{of_integer}
 use Rattle.serde_json.specs.Written.{number_text}
-use Rattle.uuid.specs.Text.{by_index, hex_digit, nibble, digit_place, is_hyphen_place, hyphen, lower, hyphenated_text}
+use Rattle.uuid.specs.Text.{by_index, hex_digit, nibble, digit_place, is_hyphen_place, hyphen, lower}
 use Rattle.uuid.proofs.TextLemmas.{hyphenated_ascii, nibble_small}
 use Rattle.canvas_task.specs.Identifiers.{identifier, task_mark, task_text}
 

@@ -1,5 +1,5 @@
 -- The rows, as they are written piece by piece, are the JSON that is told.
-use Rattle.std.proofs.Common.{◌≡◌, ◌∙◌, ℕ, zero, suc, Bool, true, false, List, [], ◌∷◌, ◌++◌, map, Option, Some, None, String, Global, string_bytes, refl, sym, ap, subst, append_assoc, append-nil}
+use Rattle.std.proofs.Common.{◌≡◌, ◌∙◌, ℕ, Bool, true, false, List, [], ◌∷◌, ◌++◌, map, Option, Some, None, String, Global, string_bytes, refl, sym, ap, subst, append_assoc, append-nil}
 use Rattle.std.specs.Prelude.{codes, option_map}
 use Rattle.json.specs.Print.{quoted}
 use Rattle.serde_json.proofs.OnLiterals.{serde_json_on_literals}
@@ -26,9 +26,10 @@ use Rattle.canvas_report.specs.declared.fate.Fate.{Fate}
 use Rattle.canvas_report.specs.declared.fate.Fate.TheVariants.{Ran, Skipped, Idle}
 use Rattle.canvas_report.specs.declared.shown.Status.{Status}
 use Rattle.canvas_report.specs.declared.shown.Status.TheVariants.{Pending, Success, Failure}
-use Rattle.canvas_report.specs.JsonRows.{raised_wire, blamed_wire, fault_wire, state_wire, status_of, status_name, status_of_all, Shown, shown, member_if, due_wire, ran_wire, parameter_wire, row_wire, items_wire, end_wire, json_lines, parameter_of, rows_wire, report_wire}
+use Rattle.canvas_report.specs.JsonRows.{raised_wire, blamed_wire, fault_wire, state_wire, status_name, status_of_all, Shown, shown, member_if, due_wire, ran_wire, parameter_wire, row_wire, items_wire, end_wire, json_lines, parameter_of, rows_wire, report_wire}
 use Rattle.canvas_report.specs.StoredRows.{row_of, row_status, Shows, AllShow}
-use Rattle.canvas_report.specs.steps.RowTexts.{statuses, raised_text, blamed_text, fault_json, state_json, result_json, due_text, ran_text, parameter_text, row_text, row_line, lines, listed_json, end_text}
+use Rattle.canvas_report.specs.Listing.{lines}
+use Rattle.canvas_report.specs.steps.RowTexts.{statuses, raised_text, blamed_text, fault_json, state_json, result_json, due_text, ran_text, parameter_text, row_text, row_line, listed_json, end_text}
 use Rattle.canvas_report.proofs.RowLines.{row_state}
 
 -- ---- results

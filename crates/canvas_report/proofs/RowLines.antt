@@ -16,7 +16,8 @@ use Rattle.canvas_report.specs.declared.shown.Status.{Status}
 use Rattle.canvas_report.specs.declared.shown.Status.TheVariants.{Pending, Success, Failure}
 use Rattle.canvas_report.specs.JsonRows.{worse}
 use Rattle.canvas_report.specs.StoredRows.{row_of}
-use Rattle.canvas_report.specs.steps.RowTexts.{line_if, lines}
+use Rattle.canvas_report.specs.steps.ReportRows.{line_if}
+use Rattle.canvas_report.specs.Listing.{lines}
 
 -- ---- a status
 

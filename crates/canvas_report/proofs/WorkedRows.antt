@@ -1,5 +1,5 @@
 -- Worked rows: lines of JSON of some tasks, letter by letter.
-use Rattle.std.proofs.Common.{◌≡◌, List, [], ◌∷◌, Some, None, true, false, refl, pos, negsuc}
+use Rattle.std.proofs.Common.{◌≡◌, [], ◌∷◌, Some, None, true, false, refl, pos, negsuc}
 use Rattle.std.specs.Prelude.{codes}
 use Rattle.std.specs.Fmt.{digits}
 use Rattle.serde_json.specs.Written.{compact_text}
@@ -9,7 +9,7 @@ use Rattle.canvas_task.specs.declared.outcome.Kind.TheVariants.{BadCall, ZeroDiv
 use Rattle.canvas_task.specs.declared.outcome.Why.TheVariants as why
 use Rattle.canvas_task.specs.declared.outcome.Fault.TheVariants as fault
 use Rattle.canvas_task.specs.declared.outcome.Outcome.TheVariants.{Success, Failure}
-use Rattle.canvas_report.specs.declared.fate.Fate.TheVariants.{Ran, Skipped, Idle}
+use Rattle.canvas_report.specs.declared.fate.Fate.TheVariants.{Ran, Skipped}
 use Rattle.canvas_report.specs.JsonRows.{shown, row_wire, end_wire}
 
 called : compact_text (row_wire (Some Ran) None (1, codes "tasks.add") (shown (Some (Success (negsuc 4)))))

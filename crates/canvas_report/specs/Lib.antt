@@ -1,7 +1,9 @@
 pub mod Failing
 pub mod Fates
 pub mod JsonRows
+pub mod Listing
 pub mod StoredRows
+pub mod Wording
 pub mod ReadLines
 pub mod MessageLines
 pub mod Nodes

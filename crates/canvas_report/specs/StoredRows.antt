@@ -1,6 +1,6 @@
 -- What rows of any kind show, as Celery stored them (celery/backends/base.py): a value of any kind
 -- by its JSON, and an exception of any kind by its class.
-use Rattle.std.specs.Prelude.{◌≡◌, ℕ, zero, suc, List, Some, None, slice_get, unwrap_or, string_bytes}
+use Rattle.std.specs.Prelude.{◌≡◌, ℕ, zero, suc, List, None, slice_get, unwrap_or, string_bytes}
 use Rattle.serde_json.specs.Written.{compact_text}
 use Rattle.canvas_report.specs.declared.row.Row.{Row}
 use Rattle.canvas_report.specs.declared.row.Row.TheVariants.{Known, Value, Raised, Blamed}

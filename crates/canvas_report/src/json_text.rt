@@ -1,7 +1,8 @@
 //! Texts and messages as JSON.
 
-ghost use Rattle.std.specs.Prelude.{◌≡◌, ◌++◌, IfOk, OnOk, codes, string_bytes};
-ghost use Rattle.json.specs.Print.{quoted};
+ghost use Rattle.std.specs.Prelude.{◌≡◌, ◌++◌, ◌∷◌, [], IfOk, OnOk, codes, string_bytes};
+ghost use Rattle.canvas_task.specs.Text.{Text};
+ghost use Rattle.json.specs.Print.{escape, quoted};
 ghost use Rattle.serde_json.specs.Written.{compact_text};
 ghost use Rattle.canvas_report.specs.MessageLines.{text_wire, message_wire};
 
@@ -18,15 +19,30 @@ pub fn quoted_json(alloc: Global, text: &str) -> Result<String, AllocError>
     Value::String(String::from_str(alloc, text)?).to_string(alloc)
 }
 
-fn within_quotes(text: &str) -> &str {
-    let text = text.strip_prefix('"').unwrap_or(text);
-    text.strip_suffix('"').unwrap_or(text)
+fn behind_quote(text: &str) -> &str
+    ensures { (rest : Text) → text.now ≡ 34 ∷ rest → result.now ≡ rest }
+{
+    match text.strip_prefix('"') {
+        Some(rest) => rest,
+        None => text,
+    }
+}
+
+fn before_quote(text: &str) -> &str
+    ensures { (front : Text) → text.now ≡ front ++ (34 ∷ []) → result.now ≡ front }
+{
+    match text.strip_suffix('"') {
+        Some(front) => front,
+        None => text,
+    }
 }
 
 /// A text as a JSON string has it between its quotes.
-pub fn escaped_json(alloc: Global, text: &str) -> Result<String, AllocError> {
+pub fn escaped_json(alloc: Global, text: &str) -> Result<String, AllocError>
+    ensures { IfOk result (λ made. string_bytes made ≡ escape text.now) }
+{
     let quoted = quoted_json(alloc, text)?;
-    String::from_str(alloc, within_quotes(&quoted))
+    String::from_str(alloc, before_quote(behind_quote(&quoted)))
 }
 
 /// Adds one of a message's three texts. What `encode` writes is UTF-8.

@@ -3,7 +3,6 @@
 //! workers stored; and messages as JSON lines.
 #![tactic(auto)]
 
-mod explained;
 mod failing;
 mod fate;
 mod graph;
@@ -14,10 +13,9 @@ mod row;
 mod rows;
 mod shown;
 mod states;
-mod stored;
 mod text;
+mod wording;
 
-pub use explained::explained_text;
 pub use failing::is_failure;
 pub use fate::Fate;
 pub use graph::graph_text;
@@ -26,4 +24,4 @@ pub use report::{Report, report_text};
 pub use row::Row;
 pub use rows::{Told, rows_text, stored_rows_text};
 pub use states::state_in;
-pub use stored::stored_text;
+pub use wording::{explained_text, stored_text};

@@ -1,11 +1,11 @@
 //! The report of a run: its rows, and their text.
 ghost use Rattle.std.specs.Prelude.{◌≡◌, ◌++◌, ◌+◌, IfOk, OnOk, string_bytes};
 ghost use Rattle.canvas_rewrite.specs.Ends.{gives_a_list, end_tasks};
-ghost use Rattle.canvas_semantics.specs.Evaluation.{with_states};
 ghost use Rattle.canvas_semantics.specs.Line.{name_of, tree_of};
-ghost use Rattle.canvas_semantics.specs.Report.{names_by_number as named, report_lines, listed_values, report_of, result_text};
+ghost use Rattle.canvas_semantics.specs.Report.{names_by_number, report_of};
 ghost use Rattle.canvas_semantics.specs.States.{rows_from};
-ghost use Rattle.canvas_report.specs.steps.ReportRows.{line_if, listed_behind};
+ghost use Rattle.canvas_report.specs.Listing.{lines, listed, result_by};
+ghost use Rattle.canvas_report.specs.steps.ReportRows.{run_line, run_value, line_if, listed_further};
 
 use crate::report_rows::{push_row, push_value};
 use crate::states::state_in;
@@ -31,8 +31,8 @@ fn push_task(
     task: TaskNo,
     rows: &[Option<Outcome>],
 ) -> Result<(), AllocError>
-    ensures { OnOk result (string_bytes text.new
-        ≡ string_bytes text.old ++ line_if task (name_of plan.now task) (rows_from 1 rows.now)) }
+    ensures { OnOk result (string_bytes text.new ≡ string_bytes text.old
+        ++ line_if (run_line (rows_from 1 rows.now)) task (name_of plan.now task)) }
 {
     match plan.name(task) {
         Some(name) => push_row(text, task, name, &state_in(rows, task)),
@@ -43,7 +43,8 @@ fn push_task(
 /// The lines of all tasks, in the order of their numbers.
 fn push_rows(text: &mut String, plan: &Plan, rows: &[Option<Outcome>]) -> Result<(), AllocError>
     ensures { OnOk result (string_bytes text.new
-        ≡ string_bytes text.old ++ report_lines (named (tree_of plan.now)) (rows_from 1 rows.now)) }
+        ≡ string_bytes text.old
+        ++ lines (run_line (rows_from 1 rows.now)) (names_by_number (tree_of plan.now))) }
 {
     for index in 0..plan.tasks() {
         push_task(text, plan, plan.task_at(index), rows)?;
@@ -58,7 +59,7 @@ fn push_further(
     rows: &[Option<Outcome>],
 ) -> Result<(), AllocError>
     ensures { OnOk result (string_bytes text.new
-        ≡ string_bytes text.old ++ listed_behind (with_states (rows_from 1 rows.now) tasks.now)) }
+        ≡ string_bytes text.old ++ listed_further (run_value (rows_from 1 rows.now)) tasks.now) }
 {
     for task in tasks {
         let state = state_in(rows, *task);
@@ -74,7 +75,7 @@ fn push_values(
     rows: &[Option<Outcome>],
 ) -> Result<(), AllocError>
     ensures { OnOk result (string_bytes text.new
-        ≡ string_bytes text.old ++ listed_values (with_states (rows_from 1 rows.now) tasks.now)) }
+        ≡ string_bytes text.old ++ listed (run_value (rows_from 1 rows.now)) tasks.now) }
 {
     match tasks.split_first() {
         Some((first, further)) => {
@@ -94,8 +95,8 @@ fn push_result(
 ) -> Result<(), AllocError>
     ensures { OnOk result (string_bytes text.new
         ≡ string_bytes text.old
-        ++ result_text (gives_a_list ends.now)
-        (with_states (rows_from 1 rows.now) (end_tasks ends.now))) }
+        ++ result_by (run_value (rows_from 1 rows.now)) (gives_a_list ends.now)
+        (end_tasks ends.now)) }
 {
     match ends {
         Ends::One(task) => push_value(text, &state_in(rows, *task)),

@@ -15,7 +15,9 @@ ghost use Rattle.canvas_report.specs.Fates.{fate_at};
 ghost use Rattle.canvas_report.specs.JsonRows.{Shown, parameter_of, status_of_all, json_lines, rows_wire, report_wire};
 ghost use Rattle.canvas_report.specs.ReadLines.{ReadsAs, AreTyped};
 ghost use Rattle.canvas_report.specs.StoredRows.{row_of, AllShow};
-ghost use Rattle.canvas_report.specs.steps.RowTexts.{statuses, raised_text, blamed_text, fault_json, state_json, result_json, due_text, ran_text, parameter_json, parameter_text, front_text, shown_text, row_line, line_if, lines, listed_json, status_text, end_text};
+ghost use Rattle.canvas_report.specs.steps.ReportRows.{line_if};
+ghost use Rattle.canvas_report.specs.Listing.{lines};
+ghost use Rattle.canvas_report.specs.steps.RowTexts.{statuses, raised_text, blamed_text, fault_json, state_json, result_json, due_text, ran_text, parameter_json, parameter_text, front_text, shown_text, row_line, listed_json, status_text, end_text};
 
 use crate::fate::{Fate, fate_in};
 use crate::json_text::quoted_json;

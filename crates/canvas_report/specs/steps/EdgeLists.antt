@@ -1,5 +1,5 @@
 -- The nodes and edges of lists of tasks and of lines, one after another.
-use Rattle.std.specs.Prelude.{ℕ, List, [], ◌∷◌, ◌++◌, Option, Some, None}
+use Rattle.std.specs.Prelude.{List, [], ◌∷◌, ◌++◌, Option, Some, None}
 use Rattle.canvas_semantics.specs.Tree.{Task}
 use Rattle.canvas_semantics.specs.Line.{Line}
 use Rattle.canvas_report.specs.Picture.{of_task, firsts, lasts, edge, behind, task_edges, line_edges}

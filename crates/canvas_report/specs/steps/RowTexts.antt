@@ -16,7 +16,7 @@ use Rattle.canvas_report.specs.Fates.{Fates, fate_at}
 use Rattle.canvas_report.specs.declared.fate.Fate.{Fate}
 use Rattle.canvas_report.specs.declared.fate.Fate.TheVariants.{Ran, Skipped, Idle}
 use Rattle.canvas_report.specs.StoredRows.{row_of, row_status}
-use Rattle.canvas_report.specs.JsonRows.{status_name, status_of_all, parameter_of}
+use Rattle.canvas_report.specs.JsonRows.{status_name, status_of_all}
 use Rattle.canvas_report.specs.declared.shown.Status.{Status}
 
 -- ---- rows
@@ -91,17 +91,6 @@ row_text fate parameter t r =
 -- by what is told of each task
 abbrev pub row_line : Fates → (ℕ → Option (Option Text)) → List Row → ℕ × Text → Text
 row_line fates parameter rows t = row_text (fate_at fates t.0) (parameter t.0) t (row_of rows t.0)
-
--- ---- lines
-
--- the line of a task that has this name
-abbrev pub line_if : (ℕ × Text → Text) → ℕ → Option Text → Text
-line_if f k None = []
-line_if f k (Some name) = f (k, name)
-
-abbrev pub lines : (ℕ × Text → Text) → List (ℕ × Text) → Text
-lines f [] = []
-lines f (t ∷ ts) = f t ++ lines f ts
 
 -- ---- the result of the canvas
 

@@ -1,4 +1,3 @@
-use Rattle.std.proofs.Common.{[]}
 use Rattle.canvas_rewrite.specs.Ends.{gives_a_list, end_tasks}
 use Rattle.canvas_report.proofs.RowLaws.{whole}
 use Rattle.canvas_report.proofs.rows.lines_of.Goals as goal

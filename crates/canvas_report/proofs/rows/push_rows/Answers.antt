@@ -2,7 +2,9 @@ use Rattle.std.proofs.Common.{◌++◌, ◌∙◌, ap, sym, arith, string_bytes}
 use Rattle.canvas_semantics.specs.Line.{names, name_of}
 use Rattle.canvas_rewrite.proofs.NamesInOrder.{plan_names}
 use Rattle.canvas_report.specs.JsonRows.{parameter_of}
-use Rattle.canvas_report.specs.steps.RowTexts.{row_line, line_if, lines}
+use Rattle.canvas_report.specs.steps.ReportRows.{line_if}
+use Rattle.canvas_report.specs.Listing.{lines}
+use Rattle.canvas_report.specs.steps.RowTexts.{row_line}
 use Rattle.canvas_report.proofs.ReportLines.{names_long}
 use Rattle.canvas_report.proofs.RowLines.{one_more, all_written}
 use Rattle.canvas_report.proofs.rows.push_rows.Goals as goal

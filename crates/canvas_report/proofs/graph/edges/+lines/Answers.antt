@@ -2,7 +2,7 @@ use Rattle.std.proofs.Common.{◌∙◌, ◌++◌, None, map, ap, sym, refl, app
 use Rattle.canvas_rewrite.specs.FrozenView.{task_in, line_in, end_in}
 use Rattle.canvas_rewrite.proofs.PlanLines.{ok_same}
 use Rattle.canvas_rewrite.proofs.NameLines.{one_after}
-use Rattle.canvas_report.specs.Picture.{behind, firsts, joined, member_lasts, line_edges}
+use Rattle.canvas_report.specs.Picture.{firsts, joined, member_lasts, line_edges}
 use Rattle.canvas_report.specs.steps.EdgeLists.{tasks_edges, last_node, lines_edges}
 use Rattle.canvas_report.proofs.EdgeParts.{line_none, line_some, group_edges, chord_edges}
 use Rattle.canvas_report.proofs.graph.edges.+lines.Goals as goal

@@ -1,4 +1,4 @@
-use Rattle.std.proofs.Common.{◌≡◌, ◌∙◌, ◌++◌, ap, sym, append-nil}
+use Rattle.std.proofs.Common.{◌∙◌, ◌++◌, ap, sym, append-nil}
 use Rattle.canvas_report.proofs.EdgeParts.{point_none}
 use Rattle.canvas_report.proofs.graph.edges.push_point.Goals as goal
 

@@ -1,4 +1,4 @@
-use Rattle.std.proofs.Common.{◌∙◌, ◌++◌, ◌∷◌, [], true, false, OnOk, ap, map, refl, sym, subst, string_bytes}
+use Rattle.std.proofs.Common.{◌∙◌, ◌++◌, ◌∷◌, [], true, OnOk, ap, map, subst, string_bytes}
 use Rattle.canvas_rewrite.specs.FrozenView.{task_in, line_in, end_in}
 use Rattle.canvas_rewrite.specs.declared.frozen.FrozenEnd.{out-FrozenEnd}
 use Rattle.canvas_report.specs.Nodes.{Piece, looks, opens, closes, line_pieces}

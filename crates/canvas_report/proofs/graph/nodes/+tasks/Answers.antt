@@ -1,4 +1,4 @@
-use Rattle.std.proofs.Common.{◌∙◌, ◌++◌, ◌∷◌, [], ap, map, refl, sym, string_bytes}
+use Rattle.std.proofs.Common.{◌∙◌, ◌++◌, ◌∷◌, [], ap, map, string_bytes}
 use Rattle.std.specs.Prelude.{option_map}
 use Rattle.canvas_semantics.specs.Line.{no_of}
 use Rattle.canvas_rewrite.specs.FrozenView.{task_in}
